@@ -1,0 +1,4 @@
+pub mod Zeros
+pub mod More
+pub mod Steps
+pub mod Acts

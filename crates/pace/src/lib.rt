@@ -1,0 +1,2 @@
+//! Two runs that agree at a pace.
+#![tactic(auto)]
