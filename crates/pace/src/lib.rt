@@ -1,2 +1,0 @@
-//! Two runs that agree at a pace.
-#![tactic(auto)]
