@@ -2,7 +2,8 @@
 //! the adapters over the real edge, and the kinds of endings that every layer speaks of.
 //!
 //! Each trait has two meanings. A count of faults never falls, and a call answers `Failed` only where the
-//! count rose. What the object holds is told as an option: a form in memory tells it, an adapter can't.
+//! count rose. What the object holds is told as an option: a form in memory tells it, and an adapter what its
+//! reader or writer tells, which is nothing at the standard streams and at files.
 //! All output of the product goes through `write_whole`, and the machine reads through `read_byte`.
 #![tactic(auto)]
 
