@@ -1,4 +1,6 @@
--- What contracts see of the memory forms.
+-- What contracts see of the forms in memory: the bytes that they hold, which of their calls fail, and how far
+-- their counts are. Tests and examples stand on these forms, so each call is pinned exactly; at which calls
+-- they fail is whatever list they were made with.
 use Rattle.std.specs.Prelude.{ℕ, ◌+◌, ◌-◌, ◌^◌, Bool, min, max, List, length, ◌==◌, ◌||◌, nat_lt, if◌then◌else◌}
 use Rattle.std.specs.List.{list_any}
 
@@ -8,7 +10,11 @@ pub record CallPlan : Type 0 where
   pub fails : List ℕ
   pub faults : ℕ
 
--- one more, up to the type's end
+-- before the first call
+abbrev pub planned : List ℕ → CallPlan
+planned numbers = record { number = 0; fails = numbers; faults = 0 }
+
+-- one more, up to 18,446,744,073,709,551,615, where the counts' type ends
 abbrev pub one_more : ℕ → ℕ
 one_more n = max n (min (n + 1) (2 ^ 64 - 1))
 
@@ -28,7 +34,7 @@ pub record SinkView : Type 0 where
   pub single : Bool
   pub calls : CallPlan
 
--- how much of a piece the sink takes
+-- how many bytes of a piece the sink takes
 abbrev pub portion : SinkView → List ℕ → ℕ
 portion s piece = if s.single then min (length piece) 1 else length piece
 

@@ -1,4 +1,4 @@
-// The adapter over the system's files. It tells nothing of content.
+//! The adapter over the system's files. It tells nothing of content, and is trusted.
 ghost use Rattle.std.specs.Prelude.{◌≡◌, ◌≤◌, None, vec_len};
 
 use crate::{LoadFault, SaveFault, Store};
@@ -9,6 +9,7 @@ use std::rt::Files;
 
 const PIECE: usize = 4096;
 
+/// A store over the files of the system. Each error of the system is a fault.
 #[derive(Drop)]
 pub struct FileStore<R> {
     rt: R,
@@ -17,7 +18,10 @@ pub struct FileStore<R> {
 }
 
 impl<R: Files> FileStore<R> {
-    pub fn new(rt: R, alloc: Global) -> FileStore<R> {
+    /// A store over the files that `rt` reaches. It has had no fault yet.
+    pub fn new(rt: R, alloc: Global) -> FileStore<R>
+        ensures { result.faults ≡ 0 }
+    {
         FileStore {
             rt,
             alloc,
@@ -50,8 +54,8 @@ fn read_up_to<R: Read>(file: &mut R, into: &mut Vec<u8>, limit: usize) -> Result
     Err(LoadFault::Failed)
 }
 
-// Writes all of it.
-fn write_whole<W: Write>(file: &mut W, bytes: &[u8]) -> bool {
+// Writes all of it, and says whether that went well.
+fn write_all<W: Write>(file: &mut W, bytes: &[u8]) -> bool {
     let mut rest = bytes;
     while !rest.is_empty() {
         match file.write(rest) {
@@ -80,7 +84,7 @@ fn load_file<R: Files>(
 
 fn save_file<R: Files>(rt: &R, path: &str, bytes: &[u8]) -> bool {
     match File::create(rt, path) {
-        Ok(mut file) => write_whole(&mut file, bytes),
+        Ok(mut file) => write_all(&mut file, bytes),
         Err(_) => false,
     }
 }

@@ -1,4 +1,10 @@
-//! The outside as traits, its forms in memory, and the adapters over the real one.
+//! The outside of the product: a source, a sink and a store of files as traits, their forms in memory,
+//! the adapters over the real edge, and the kinds of endings that every layer speaks of.
+//!
+//! Each trait has two meanings. A count of faults never falls, and a call answers `Failed` only where the
+//! count rose. What the object holds is told as an option: a form in memory tells it, and an adapter what its
+//! reader or writer tells, which is nothing at the standard streams and at files.
+//! All output of the product goes through `write_whole`, and the machine reads through `read_byte`.
 #![tactic(auto)]
 
 mod calls;
@@ -12,9 +18,10 @@ mod sink;
 mod source;
 mod std_streams;
 mod store;
+#[cfg(test)]
+mod tests;
 mod whole;
 
-pub use calls::Calls;
 pub use ending::{Counts, Ending, MachineKind, TrapKind};
 pub use fault::{Failed, LoadFault, SaveFault};
 pub use file_store::FileStore;
