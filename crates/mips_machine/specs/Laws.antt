@@ -1,10 +1,11 @@
 -- What follows from what a call did: two calls are one, on told bytes a call is the definition's run, and an
 -- ending is final.
 use Rattle.std.specs.Prelude.{◌≡◌, ◌≢◌, ℕ, ◌+◌, false, List, [], ◌++◌, Option, Some, None}
-use Rattle.history.specs.Events.{End, outs}
+use Rattle.pace.specs.Claims.{Grows}
+use Rattle.history.specs.Events.{End, Input, outs}
 use Rattle.mips_machine.specs.declared.stop.Stop.{Stop}
 use Rattle.mips_machine.specs.declared.stop.Stop.TheVariants.{Steps, ReadFault}
-use Rattle.mips_machine.specs.Machine.{State, World, run}
+use Rattle.mips_machine.specs.Machine.{State, World, Code, run, runs}
 use Rattle.mips_machine.specs.Ran.{Ran, ending_of, world}
 
 -- two calls, the first of which executed all its instructions, are one
@@ -26,3 +27,7 @@ RunsOnTold =
 -- an ending doesn't depend on how many more instructions are allowed
 abbrev pub EndsOnce : Type 0
 EndsOnce = (m n : ℕ) (w : World) (e : End) → (run m w).ending ≡ Some e → run (m + n) w ≡ run m w
+
+-- what is seen of a run only grows, and stays once it has ended
+abbrev pub RunsGrow : Type 0
+RunsGrow = (code : Code) (input : Input) (choices : List ℕ) → Grows (runs code input choices)

@@ -1,7 +1,8 @@
 -- The machine as it is built so far: registers and the text of an image, in the words of the MIPS R2000
 -- architecture manual, with this project's own services and faults. An instruction is fetched from the text at
 -- the program counter, takes effect, and counts as one step, the one that ends or faults included.
-use Rattle.std.specs.Prelude.{◌≡◌, ℕ, zero, suc, ◌+◌, ◌-◌, ◌*◌, ◌/◌, ◌%◌, ◌&&◌, ◌==◌, nat_le, Bool, true, false, List, [], ◌∷◌, ◌++◌, Option, Some, None, is_some, slice_get, get_or, bit_or, if◌then◌else◌}
+use Rattle.std.specs.Prelude.{◌≡◌, ℕ, zero, suc, ◌+◌, ◌-◌, ◌*◌, ◌/◌, ◌%◌, ◌&&◌, ◌==◌, nat_le, Bool, true, false, List, [], ◌∷◌, ◌++◌, Option, Some, None, is_some, slice_get, get_or, bit_or, if◌then◌else◌, ⊤}
+use Rattle.std.specs.Fn.{iterate}
 use Rattle.host_edge.specs.declared.ending.Ending.TheVariants.{Done}
 use Rattle.host_edge.specs.declared.ending.MachineKind.{MachineKind}
 use Rattle.host_edge.specs.declared.ending.MachineKind.TheVariants as kind
@@ -118,8 +119,7 @@ step w = if is_some w.ending then w else fetched (word_at w.state.text w.state.p
 
 -- so many instructions
 unfoldable pub run : ℕ → World → World
-run zero w = w
-run (suc n) w = run n (step w)
+run n w = iterate step n w
 
 -- a machine as an image is loaded
 abbrev pub first_state : Code → State
@@ -131,13 +131,18 @@ begins code input = record { state = first_state code; input = input; history = 
 abbrev pub see : World → Seen Item End
 see w = record { history = w.history; ending = w.ending }
 
--- what is seen of n instructions of an image on an input
-abbrev pub runs : Code → Input → ℕ → Seen Item End
-runs code input n = see (run n (begins code input))
+-- What is seen of n instructions of an image on an input, for a row of choices of register places. Places are
+-- chosen by the service that finishes a function made during the run; this machine hasn't got it yet, so no
+-- choice is taken and the run is defined for every row.
+abbrev pub runs : Code → Input → List ℕ → ℕ → Seen Item End
+runs code input choices n = see (run n (begins code input))
 
--- each word that is executed within n instructions is one of the image's text
-abbrev pub IsClean : Code → Input → ℕ → Type 0
-IsClean code input n =
+abbrev pub IsDefined : Code → Input → List ℕ → ℕ → Type 0
+IsDefined code input choices n = ⊤
+
+-- a word that is executed as the last of n instructions, while the run had not ended, is one of the image's text
+abbrev pub IsClean : Code → Input → List ℕ → ℕ → Type 0
+IsClean code input choices n =
     (i : ℕ) → suc i ≡ n → (run i (begins code input)).ending ≡ None
     → (word : ℕ) × (word_at code.text (run i (begins code input)).state.pc ≡ Some word)
 

@@ -1,6 +1,6 @@
 //! Laws of runs.
 ghost use Rattle.std.specs.Prelude.{◌≡◌, ◌≤◌, ◌+◌, ◌^◌, None};
-ghost use Rattle.mips_machine.specs.Laws.{TwoAreOne, RunsOnTold, EndsOnce};
+ghost use Rattle.mips_machine.specs.Laws.{TwoAreOne, RunsOnTold, EndsOnce, RunsGrow};
 ghost use Rattle.mips_machine.specs.Machine.{state_of};
 ghost use Rattle.mips_machine.specs.Ran.{Ran};
 
@@ -20,6 +20,11 @@ pub fn runs_on_told()
 /// A run that has ended stays as it is.
 pub fn ends_once()
     ensures { EndsOnce }
+{}
+
+/// What is seen of a run only grows.
+pub fn runs_grow()
+    ensures { RunsGrow }
 {}
 
 /// Runs twice, as once with the sum.

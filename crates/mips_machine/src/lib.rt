@@ -10,7 +10,7 @@ mod stop;
 
 pub use image::Image;
 pub use instruction::{Instruction, decode};
-pub use laws::{ends_once, run_twice, runs_on_told, two_are_one};
+pub use laws::{ends_once, run_twice, runs_grow, runs_on_told, two_are_one};
 pub use machine::Machine;
 pub use service::Service;
 pub use stop::Stop;

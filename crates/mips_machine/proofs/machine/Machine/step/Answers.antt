@@ -1,6 +1,6 @@
 use Rattle.std.proofs.Common.{◌≡◌, ℕ, None, Some, ◌+◌, ◌%◌, bit_or, ap, ◌∙◌}
 use Rattle.mips_machine.specs.declared.instruction.Instruction.TheVariants.{LoadUpper, OrImmediate, AddUnsigned}
-use Rattle.mips_machine.specs.Machine.{state_of, word_at, written}
+use Rattle.mips_machine.specs.Machine.{state_of, word_at, written, read_register}
 use Rattle.mips_machine.specs.Instructions.{instruction_of}
 use Rattle.mips_machine.proofs.Acts.{fetch_ran, reserved_ran, sets_ran, step_word}
 use Rattle.mips_machine.proofs.machine.Machine.step.Goals as goal
@@ -33,7 +33,9 @@ returns-in-Some-AddUnsigned-clause-ran g c =
     let at : word_at s.text s.pc ≡ Some c.in-Some.word = cc in
     let is : instruction_of c.in-Some.word ≡ Some (AddUnsigned c.in-Some-AddUnsigned.rd c.in-Some-AddUnsigned.rs c.in-Some-AddUnsigned.rt) = cc in
     sets_ran _ _ _ _ _ _ _ c.compute-in-Some-AddUnsigned.ensures.stop
-    (c.compute-in-Some-AddUnsigned.ensures.state ∙ ap {A = ℕ × ℕ} (λ p. written c.in-Some-AddUnsigned.rd ((p.0 + p.1) % 4294967296) s) (λ i. (c.register-in-Some-AddUnsigned.ensures i, c.register-in-Some-AddUnsigned-2.ensures i)))
+    (c.compute-in-Some-AddUnsigned.ensures.state
+    ∙ ap (λ (x : ℕ). written c.in-Some-AddUnsigned.rd ((x + c.register-in-Some-AddUnsigned-2.result) % 4294967296) s) c.register-in-Some-AddUnsigned.ensures
+    ∙ ap (λ (y : ℕ). written c.in-Some-AddUnsigned.rd ((read_register c.in-Some-AddUnsigned.rs s.registers + y) % 4294967296) s) c.register-in-Some-AddUnsigned-2.ensures)
     (step_word s c.in-Some.word _ at is)
 
 pub returns-in-None-clause-ran : goal.returns-in-None-clause-ran

@@ -1,0 +1,5 @@
+pub mod Costs
+pub mod Fetches
+pub mod Sums
+pub mod Programs
+pub mod Whole
