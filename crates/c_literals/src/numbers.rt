@@ -1,6 +1,7 @@
 //! Number tokens and digits.
 
 ghost use Rattle.std.specs.Prelude.{◌≡◌, ◌+◌, ◌<◌, ◌≤◌, length, drop, slice_index, true, IfSome, IfNone};
+ghost use Rattle.std.specs.Char.{is_ascii_digit};
 ghost use Rattle.c_literals.specs.Literals as spec;
 
 use crate::byte_at;
@@ -92,7 +93,8 @@ pub(crate) fn number(base: Base, digits: &[u8]) -> Option<u32>
 fn written(base: Base, from: usize, text: &[u8]) -> Numeral
     requires { from ≤ length text.now }
     ensures value { result ≡ spec.written base from text.now }
-    ensures within { result.len ≤ length text.now }
+    ensures within { (from ≤ result.len) × (result.len ≤ length text.now) }
+    ensures some { 0 < length text.now → from ≡ 0 → spec.is_digit base (slice_index text.now 0) ≡ true → 0 < result.len }
 {
     let end = from + digit_count(base, &text[from..]);
     let value = number(base, &text[from..end]);
@@ -118,6 +120,7 @@ fn is_hexadecimal(text: &[u8]) -> bool
 pub fn numeral_at(text: &[u8]) -> Numeral
     ensures value { result ≡ spec.numeral_at text.now }
     ensures within { result.len ≤ length text.now }
+    ensures some { 0 < length text.now → is_ascii_digit (slice_index text.now 0) ≡ true → 0 < result.len }
 {
     if is_hexadecimal(text) {
         written(Base::Hexadecimal, 2, text)
