@@ -29,6 +29,7 @@ one_more cost v x w = ⊎_elim less enough (cases_lt w.units cost)
         let t : nat_lt w.units cost ≡ true = grind (arith, nat_tests) in
         let t2 : nat_lt w.units (cost + 2) ≡ true = grind (arith, nat_tests) in
         rw (t, t2) refl
+
     left : (k : ℕ) → w.units ≡ cost + k → then_do (spend_from k x w.shared) (λ b w'. spend ((v + b) % 4294967296) w') ≡ paid (cost + 2) ((v + x) % 4294967296) w
     left zero e = let t : nat_lt w.units (cost + 2) ≡ true = grind (arith, nat_tests) in rw t refl
     left (suc zero) e = let t : nat_lt w.units (cost + 2) ≡ true = grind (arith, nat_tests) in rw t refl
@@ -36,6 +37,7 @@ one_more cost v x w = ⊎_elim less enough (cases_lt w.units cost)
         let t : nat_lt w.units (cost + 2) ≡ false = grind (arith, nat_tests) in
         let d : w.units - (cost + 2) ≡ k = omega arith in
         rw (t, d) refl
+
     enough : cost ≤ w.units → then_do (paid cost v w) (λ a w. then_do (eval (Const x) w) (λ b w. spend ((a + b) % 4294967296) w)) ≡ paid (cost + 2) ((v + x) % 4294967296) w
     enough le =
         let t : nat_lt w.units cost ≡ false = grind (arith, nat_tests) in

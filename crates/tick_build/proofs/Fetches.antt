@@ -74,9 +74,10 @@ text_stands (w ∷ words) front at is fits =
     let i : (at - 4194304) / 4 ≡ length front = omega arith in
     let long : length (w ∷ words) ≡ length words + 1 = omega arith in
     let next : (at + 4) % 4294967296 ≡ 4194304 + 4 * length (front ++ w ∷ []) = omega (arith, length_one front w, long) in
-    let fits' : length (front ++ w ∷ []) + length words ≤ 15728640 = omega (arith, length_one front w, long) in
-    (rw (m, l, i) (get_behind front w words),
-    subst (λ (text : List ℕ). HasAt text ((at + 4) % 4294967296) words) (append_one front w words) (text_stands words (front ++ w ∷ []) ((at + 4) % 4294967296) next fits'))
+    let fits' : length (front ++ w ∷ []) + length words ≤ 15728640 = omega (arith, length_one front w, long) in (
+      rw (m, l, i) (get_behind front w words),
+      subst (λ (text : List ℕ). HasAt text ((at + 4) % 4294967296) words) (append_one front w words) (text_stands words (front ++ w ∷ []) ((at + 4) % 4294967296) next fits'),
+    )
 
 -- one instruction of a world that goes on
 pub step_is : (w : World) (word : ℕ) (o : Option Instruction) → w.ending ≡ None → word_at w.state.text w.state.pc ≡ Some word → instruction_of word ≡ o → step w ≡ perform o w

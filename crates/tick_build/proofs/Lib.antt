@@ -3,3 +3,5 @@ pub mod Fetches
 pub mod Sums
 pub mod Programs
 pub mod Whole
+pub mod Turns
+pub mod Nodes

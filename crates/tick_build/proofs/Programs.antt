@@ -80,9 +80,9 @@ puts_sum (n ∷ numbers) w rest ok on h =
     record {
       to = put (value 4 q.to % 256) q.to;
       comes = ap (λ k. iterate step k w) (sym e)
-        ∙ iterate_add step (2 + 3 * length numbers + 2) 1 w
-        ∙ ap step (iterate_add step (2 + 3 * length numbers) 2 w ∙ ap (iterate step 2) c.comes ∙ q.comes)
-        ∙ s;
+          ∙ iterate_add step (2 + 3 * length numbers + 2) 1 w
+          ∙ ap step (iterate_add step (2 + 3 * length numbers) 2 w ∙ ap (iterate step 2) c.comes ∙ q.comes)
+          ∙ s;
       at = q.at.1;
       on = q.on;
       history = ap (λ (l : List Item). l ++ Out (value 4 q.to % 256) ∷ []) (q.history ∙ c.history) ∙ ap (λ b. w.history ++ Out b ∷ []) q.argument;
@@ -108,9 +108,9 @@ exits_sum (n ∷ numbers) w ok on h =
     record {
       to = ends (Ended (Done (value 4 q.to % 256))) q.to;
       comes = ap (λ k. iterate step k w) (sym e)
-        ∙ iterate_add step (2 + 3 * length numbers + 2) 1 w
-        ∙ ap step (iterate_add step (2 + 3 * length numbers) 2 w ∙ ap (iterate step 2) c.comes ∙ q.comes)
-        ∙ s;
+          ∙ iterate_add step (2 + 3 * length numbers + 2) 1 w
+          ∙ ap step (iterate_add step (2 + 3 * length numbers) 2 w ∙ ap (iterate step 2) c.comes ∙ q.comes)
+          ∙ s;
       ending = ap (λ b. Some (Ended (Done b))) q.argument;
       history = q.history ∙ c.history;
     }
@@ -160,6 +160,7 @@ by_units P cost v m less enough = ⊎_elim short long (cases_lt m.units cost)
   where
     short : m.units < cost → P (paid cost v m)
     short lt = let t : nat_lt m.units cost ≡ true = grind (arith, nat_tests) in rw t (less lt)
+
     long : cost ≤ m.units → P (paid cost v m)
     long le =
         let t : nat_lt m.units cost ≡ false = grind (arith, nat_tests) in
@@ -179,11 +180,11 @@ keeps_answer : (numbers : List ℕ) (w : World) (m : meaning.World) → IsSum nu
 keeps_answer numbers w m ok on same h =
     subst (λ (r : Result ℕ). Keeps w m.units (then_do (answer (then_do (then_do r (λ v w. Returns v w)) (then_next (exec_items NoItem)))) finish)) (sym (sum_means numbers ok m))
     (by_units (λ (r : Result ℕ). Keeps w m.units (then_do (answer (then_do (then_do r (λ v w. Returns v w)) (then_next (exec_items NoItem)))) finish))
-      (2 * length numbers - 1) (value_of numbers) m
-      (λ lt. stops_in_sum numbers w m (service_words 10) ok on same h lt)
-      (λ left e.
-        let c = exits_sum numbers w ok on h in
-        (3 * length numbers + 2, omega (arith, ok.few), ap (λ z. z.ending) c.comes ∙ c.ending, ap (λ z. z.history) c.comes ∙ c.history ∙ same)))
+    (2 * length numbers - 1) (value_of numbers) m
+    (λ lt. stops_in_sum numbers w m (service_words 10) ok on same h lt)
+    (λ left e.
+    let c = exits_sum numbers w ok on h in
+    (3 * length numbers + 2, omega (arith, ok.few), ap (λ z. z.ending) c.comes ∙ c.ending, ap (λ z. z.history) c.comes ∙ c.history ∙ same)))
 
 -- what is kept from a later world is kept from an earlier one
 keeps_from : (w later : World) (done units left : ℕ) (r : Result ℕ) → iterate step done w ≡ later → units ≤ left + done → 512 * left + done ≤ 512 * units → Keeps later left r → Keeps w units r
@@ -206,7 +207,7 @@ with_byte v shared = record shared { history = shared.history ++ Out (v % 256) �
 module _ (numbers : List ℕ) (items : Items) (w : World) (m : meaning.World) (rest : List ℕ) (ok : IsSum numbers) (on : w.ending ≡ None) (same : w.history ≡ m.shared.history)
     (h : HasAt w.state.text w.state.pc (sum_words numbers ++ (service_words 11 ++ rest)))
     (behind : (later : World) (left : ℕ) → later.ending ≡ None → later.history ≡ m.shared.history ++ Out (value_of numbers % 256) ∷ [] → HasAt later.state.text later.state.pc rest
-      → Keeps later left (runs_items items (record { shared = with_byte (value_of numbers) m.shared; units = left }))) where
+    → Keeps later left (runs_items items (record { shared = with_byte (value_of numbers) m.shared; units = left }))) where
   put_done : Puts w (3 * length numbers + 2) rest (value_of numbers)
   put_done = puts_sum numbers w rest ok on h
 
@@ -224,8 +225,8 @@ module _ (numbers : List ℕ) (items : Items) (w : World) (m : meaning.World) (r
   keeps_output =
       subst (λ (r : Result ℕ). Keeps w m.units (after_sum items r)) (sym (sum_means numbers ok m))
       (by_units (λ (r : Result ℕ). Keeps w m.units (after_sum items r)) (2 * length numbers - 1) (value_of numbers) m
-        (λ lt. stops_in_sum numbers w m (service_words 11 ++ rest) ok on same h lt)
-        spent)
+      (λ lt. stops_in_sum numbers w m (service_words 11 ++ rest) ok on same h lt)
+      spent)
 
 pub keeps_body : (outputs : List (List ℕ)) (last : List ℕ) (w : World) (m : meaning.World) → Each IsSum outputs → IsSum last → w.ending ≡ None → w.history ≡ m.shared.history
     → HasAt w.state.text w.state.pc (words_of outputs last) → Keeps w m.units (runs_items (items_of outputs last) m)

@@ -26,7 +26,7 @@ module _ (s : Straight) (ok : IsStraight s) (fits : length (words_of s.outputs s
 
   follows : (units : ℕ) (r : Result ℕ) → Keeps (machine.begins (code_of s) input) units r
       → ((seen r).ending ≡ None → (n : ℕ) × (units + 1 ≤ n) × (n ≤ 512 * units + 4096) × ((iterate step n (machine.begins (code_of s) input)).ending ≡ None) × ((seen r).history ≡ (iterate step n (machine.begins (code_of s) input)).history))
-        × ((e : End) → (seen r).ending ≡ Some e → (n : ℕ) × (n ≤ 512 * units + 4096) × ((iterate step n (machine.begins (code_of s) input)).ending ≡ Some e) × ((seen r).history ≡ (iterate step n (machine.begins (code_of s) input)).history))
+      × ((e : End) → (seen r).ending ≡ Some e → (n : ℕ) × (n ≤ 512 * units + 4096) × ((iterate step n (machine.begins (code_of s) input)).ending ≡ Some e) × ((seen r).history ≡ (iterate step n (machine.begins (code_of s) input)).history))
   follows units (Gives v m) k = absurd k
   follows units (Returns v m) k = absurd k
   follows units (Ends e shared) k = (λ none. absurd cc, λ f is. (k.0, k.1, k.2 ∙ is, sym k.3))
@@ -39,9 +39,10 @@ module _ (s : Straight) (ok : IsStraight s) (fits : length (words_of s.outputs s
       × ((e : End) → (meant (program_of s) input m).ending ≡ Some e → (n : ℕ) × (n ≤ 512 * m + 4096) × ((iterate step n (machine.begins (code_of s) input)).ending ≡ Some e) × ((meant (program_of s) input m).history ≡ (iterate step n (machine.begins (code_of s) input)).history))
   choose zero = ((λ none. (0, omega arith, omega arith, refl, refl)), λ e is. absurd cc)
   choose (suc units) =
-      let both = follows units (runs_items (items_of s.outputs s.answer) (begins input units)) (body units) in
-      ((λ none. let a = both.0 none in (a.0, omega (arith, a.1), omega (arith, a.2), a.3, a.4)),
-      λ e is. let a = both.1 e is in (a.0, omega (arith, a.1), a.2, a.3))
+      let both = follows units (runs_items (items_of s.outputs s.answer) (begins input units)) (body units) in (
+        (λ none. let a = both.0 none in (a.0, omega (arith, a.1), omega (arith, a.2), a.3, a.4)),
+        λ e is. let a = both.1 e is in (a.0, omega (arith, a.1), a.2, a.3),
+      )
 
   pub follows_at_pace : (choices : List ℕ) → FollowsAtPace 512 4096 (meant (program_of s) input) (runs (code_of s) input choices)
   unfolding run
