@@ -1,9 +1,10 @@
--- The region of an address, from its bounds.
-use Rattle.std.proofs.Common.{◌≡◌, ℕ, ◌+◌, ◌<◌, ◌≤◌, refl, arith}
-use Rattle.std.specs.Prelude.{nat_le, nat_lt, true, false}
+-- The region of an address, from its bounds, and what an access there does.
+use Rattle.std.proofs.Common.{◌≡◌, ℕ, ◌+◌, ◌<◌, ◌≤◌, ap, arith}
 use Rattle.std.proofs.lemmas.Bool.Decides.{nat_tests}
 use Rattle.word32.specs.declared.map.TheConstants.{STACK, STACK_BYTES, OBJECTS, OBJECT_BYTES, CELLS, CELL_BYTES, CLOSURES, CLOSURE_BYTES, SPEC_ROWS, SPEC_ROW_BYTES, EMIT_STACK, EMIT_STACK_BYTES, TEXT, TEXT_BYTES, ARENA, ARENA_BYTES, FUNCTION_TABLE, FUNCTION_TABLE_BYTES}
-use Rattle.flat_memory.specs.Map.{region_of, InStack, InObjects, InCells, InClosures, InSpecRows, InEmitStack, InText, InArena, InFunctionTable}
+use Rattle.word32.specs.declared.width.Width.{Width}
+use Rattle.flat_memory.specs.Spaces.{Spaces, word_in, loaded, load, stored_in, store}
+use Rattle.flat_memory.specs.Map.{Region, region_of, InStack, InObjects, InCells, InClosures, InSpecRows, InEmitStack, InText, InArena, InFunctionTable}
 
 pub in_stack : (at : ℕ) → STACK ≤ at → at < STACK + STACK_BYTES → region_of at ≡ InStack
 in_stack at h k = grind (arith, nat_tests)
@@ -31,3 +32,13 @@ in_arena at h k = grind (arith, nat_tests)
 
 pub in_function_table : (at : ℕ) → FUNCTION_TABLE ≤ at → at < FUNCTION_TABLE + FUNCTION_TABLE_BYTES → region_of at ≡ InFunctionTable
 in_function_table at h k = grind (arith, nat_tests)
+
+pub load_in :
+    (m : Spaces) (at : ℕ) (width : Width) (r : Region) → region_of at ≡ r →
+    load m at width ≡ loaded (word_in r m at) at width
+load_in m at width r e = ap (λ x. loaded (word_in x m at) at width) e
+
+pub store_in :
+    (m : Spaces) (at : ℕ) (width : Width) (w : ℕ) (r : Region) → region_of at ≡ r →
+    store m at width w ≡ stored_in r m at width w
+store_in m at width w r e = ap (λ x. stored_in x m at width w) e

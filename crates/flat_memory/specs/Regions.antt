@@ -27,11 +27,11 @@ pub record Sized (r : Regions) : Type 0 where
 -- the regions as spaces: each list from the number of its region's first word on
 abbrev pub spaces_of : Regions → Spaces
 spaces_of r = record {
-    text = text_of r.text;
-    objects = words_from (OBJECTS / 4) r.objects;
-    closures = words_from (CLOSURES / 4) r.closures;
-    spec_rows = words_from (SPEC_ROWS / 4) r.spec_rows;
-    cells = words_from (CELLS / 4) r.cells;
-    emit_stack = words_from (EMIT_STACK / 4) r.emit_stack;
-    stack = words_from (STACK / 4) r.stack
+  text = text_of r.text;
+  objects = words_from (OBJECTS / 4) r.objects;
+  closures = words_from (CLOSURES / 4) r.closures;
+  spec_rows = words_from (SPEC_ROWS / 4) r.spec_rows;
+  cells = words_from (CELLS / 4) r.cells;
+  emit_stack = words_from (EMIT_STACK / 4) r.emit_stack;
+  stack = words_from (STACK / 4) r.stack;
 }

@@ -82,11 +82,11 @@ text_of words n = if nat_lt n (TEXT / 4) then None else slice_get words (n - TEX
 -- the first memory: a text, the first bytes of the objects, and 0 elsewhere
 abbrev pub first : List ℕ → List ℕ → Spaces
 first text bytes = record {
-    text = text_of text;
-    objects = bytes_from (OBJECTS / 4) bytes;
-    closures = λ n. 0;
-    spec_rows = λ n. 0;
-    cells = λ n. 0;
-    emit_stack = λ n. 0;
-    stack = λ n. 0
+  text = text_of text;
+  objects = bytes_from (OBJECTS / 4) bytes;
+  closures = λ n. 0;
+  spec_rows = λ n. 0;
+  cells = λ n. 0;
+  emit_stack = λ n. 0;
+  stack = λ n. 0;
 }

@@ -32,23 +32,23 @@ impl Model for Memory {
     ghost Value = { Regions };
 
     ghost view = { λ m. record {
-        text = m.text.items;
-        objects = m.objects.items;
-        closures = m.closures.items;
-        spec_rows = m.spec_rows.items;
-        cells = m.cells.items;
-        emit_stack = m.emit_stack.items;
-        stack = m.stack.items
+      text = m.text.items;
+      objects = m.objects.items;
+      closures = m.closures.items;
+      spec_rows = m.spec_rows.items;
+      cells = m.cells.items;
+      emit_stack = m.emit_stack.items;
+      stack = m.stack.items;
     } };
 
     ghost invariant = { λ m. Sized (record {
-        text = m.text.items;
-        objects = m.objects.items;
-        closures = m.closures.items;
-        spec_rows = m.spec_rows.items;
-        cells = m.cells.items;
-        emit_stack = m.emit_stack.items;
-        stack = m.stack.items
+      text = m.text.items;
+      objects = m.objects.items;
+      closures = m.closures.items;
+      spec_rows = m.spec_rows.items;
+      cells = m.cells.items;
+      emit_stack = m.emit_stack.items;
+      stack = m.stack.items;
     }) };
 }
 
@@ -78,12 +78,10 @@ fn put(words: &mut [u32], first: u32, at: u32, width: Width, w: u32) -> Result<(
     requires from { first ≤ at }
     requires to { at < first + 4 * length words.old }
     requires even { first % 4 ≡ 0 }
-    ensures {
-        MatchResult result
-            (λ _. (parts.is_aligned at width ≡ true)
-                × (words_from (first / 4) words.new ≡ space.store at width w (words_from (first / 4) words.old)))
-            (λ e. (parts.is_aligned at width ≡ false) × (e ≡ Access.Misaligned) × (words.new ≡ words.old))
-    }
+    ensures { MatchResult result
+        (λ _. (parts.is_aligned at width ≡ true)
+        × (words_from (first / 4) words.new ≡ space.store at width w (words_from (first / 4) words.old)))
+        (λ e. (parts.is_aligned at width ≡ false) × (e ≡ Access.Misaligned) × (words.new ≡ words.old)) }
 {
     if !is_aligned(at, width) {
         return Err(Access::Misaligned);
@@ -123,7 +121,11 @@ impl Memory {
         ensures { result ≡ (spaces_of self.now).text (at / 4) }
     {
         let i = (at / 4).wrapping_sub(map::TEXT / 4) as usize;
-        if i < self.text.len() { Some(self.text[i]) } else { None }
+        if i < self.text.len() {
+            Some(self.text[i])
+        } else {
+            None
+        }
     }
 
     /// The word that holds the byte at an address, where a region has it.
@@ -183,11 +185,9 @@ impl Memory {
     /// multiple of the width's size, else `ReadOnly` exactly where it lies in the text.
     #[inline(always)]
     pub fn store(&mut self, at: u32, width: Width, w: u32) -> Result<(), Access>
-        ensures {
-            MatchResult result
-                (λ _. spaces.store (spaces_of self.old) at width w ≡ Ok (spaces_of self.new))
-                (λ e. (spaces.store (spaces_of self.old) at width w ≡ Err e) × (self.new ≡ self.old))
-        }
+        ensures { MatchResult result
+            (λ _. spaces.store (spaces_of self.old) at width w ≡ Ok (spaces_of self.new))
+            (λ e. (spaces.store (spaces_of self.old) at width w ≡ Err e) × (self.new ≡ self.old)) }
     {
         if is_within(map::STACK, map::STACK_BYTES, at) {
             return put(&mut self.stack, map::STACK, at, width, w);
@@ -238,6 +238,10 @@ impl Memory {
     {
         let from = at.wrapping_sub(map::TEXT);
         let i = (from / 4 + from % 4 * 0x4000_0000) as usize;
-        if i < self.text.len() { Some(self.text[i]) } else { None }
+        if i < self.text.len() {
+            Some(self.text[i])
+        } else {
+            None
+        }
     }
 }
