@@ -1,0 +1,20 @@
+//! The words of MIPS I instructions: each instruction of the table has one word, and each word at most one instruction.
+#![tactic(auto)]
+
+mod code;
+mod decoder;
+mod encoder;
+mod field;
+mod instruction;
+mod operand;
+
+pub use decoder::decode;
+pub use encoder::encode;
+pub use field::{immediate, rd, rs, rt, shamt};
+pub use instruction::{
+    ArithmeticOp, EqualityOp, HiLo, ImmediateOp, Instr, JumpOp, MemoryOp, MultiplyDivideOp,
+    ShiftOp, ShiftVariableOp, SignTest, ZeroComparisonOp,
+};
+pub use operand::{
+    BreakCode, Immediate, JumpTarget, LinkPair, LinkSource, Register, ShiftAmount,
+};
