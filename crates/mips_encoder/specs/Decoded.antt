@@ -2,12 +2,29 @@
 -- The source is the MIPS R2000 architecture manual: the opcode chooses a row, or a second table by the function field (SPECIAL)
 -- or by the field rt (REGIMM), and each field that the chosen form doesn't name must be 0.
 -- `decode` gives this instruction. By its clauses it is the inverse of `word_of` in Table.antt, so that page alone needs to be believed.
-use Rattle.std.specs.Prelude.{◌≡◌, ◌≢◌, ℕ, ◌+◌, ◌*◌, ◌/◌, ◌%◌, ◌<◌, List, [], ◌∷◌, Bool, true, false, ◌==◌, ◌&&◌, Option, Some, None, cond}
+use Rattle.std.specs.Prelude.{ℕ, ◌/◌, ◌%◌, List, [], ◌∷◌, Bool, ◌==◌, ◌&&◌, Option, Some, None, cond}
 use Rattle.mips_encoder.specs.Fields.{opcode, rs, rt, rd, shamt, funct, immediate}
 use Rattle.mips_encoder.specs.declared.instruction.Instr.{Instr}
 use Rattle.mips_encoder.specs.declared.instruction.Instr.TheVariants.{
-    Arithmetic, Shift, ShiftVariable, JumpRegister, JumpAndLinkRegister, Syscall, Break, MoveFrom, MoveTo, MultiplyDivide,
-    BranchOnSign, BranchOnSignAndLink, Jump, BranchOnEquality, BranchOnZero, ImmediateArithmetic, LoadUpperImmediate, Memory}
+  Arithmetic,
+  Shift,
+  ShiftVariable,
+  JumpRegister,
+  JumpAndLinkRegister,
+  Syscall,
+  Break,
+  MoveFrom,
+  MoveTo,
+  MultiplyDivide,
+  BranchOnSign,
+  BranchOnSignAndLink,
+  Jump,
+  BranchOnEquality,
+  BranchOnZero,
+  ImmediateArithmetic,
+  LoadUpperImmediate,
+  Memory,
+}
 use Rattle.mips_encoder.specs.declared.instruction.ArithmeticOp.TheVariants.{Add, Addu, Sub, Subu, And, Or, Xor, Nor, Slt, Sltu}
 use Rattle.mips_encoder.specs.declared.instruction.ShiftOp.TheVariants.{Sll, Srl, Sra}
 use Rattle.mips_encoder.specs.declared.instruction.ShiftVariableOp.TheVariants.{Sllv, Srlv, Srav}
@@ -60,11 +77,14 @@ move_to source w = only (w / 64 % 32768 == 0) (MoveTo source (rs w))
 
 abbrev pub jump_and_link_register : ℕ → Option Instr
 jump_and_link_register w =
-  cond (rd w == rs w) None
+    cond (rd w == rs w) None
     (only ((rt w == 0) && (shamt w == 0)) (JumpAndLinkRegister (record { rd = rd w; rs = rs w })))
 
 abbrev pub jump_register : ℕ → Option Instr
 jump_register w = only (w / 64 % 32768 == 0) (JumpRegister (rs w))
+
+abbrev pub syscall : ℕ → Option Instr
+syscall w = only (w == 12) Syscall
 
 -- Opcode 0, by the function field.
 abbrev pub of_special : ℕ → Option Instr
@@ -72,7 +92,7 @@ of_special w = row
     ((0, shift Sll w) ∷ (2, shift Srl w) ∷ (3, shift Sra w)
     ∷ (4, shift_variable Sllv w) ∷ (6, shift_variable Srlv w) ∷ (7, shift_variable Srav w)
     ∷ (8, jump_register w) ∷ (9, jump_and_link_register w)
-    ∷ (12, only (w == 12) Syscall) ∷ (13, Some (Break (w / 64 % 1048576)))
+    ∷ (12, syscall w) ∷ (13, Some (Break (w / 64 % 1048576)))
     ∷ (16, move_from Hi w) ∷ (17, move_to Hi w) ∷ (18, move_from Lo w) ∷ (19, move_to Lo w)
     ∷ (24, multiply_divide Mult w) ∷ (25, multiply_divide Multu w)
     ∷ (26, multiply_divide Div w) ∷ (27, multiply_divide Divu w)
@@ -86,7 +106,7 @@ branch_on_sign test w = Some (BranchOnSign test (rs w) (immediate w))
 
 abbrev pub branch_on_sign_and_link : SignTest → ℕ → Option Instr
 branch_on_sign_and_link test w =
-  cond (rs w == 31) None (Some (BranchOnSignAndLink test (rs w) (immediate w)))
+    cond (rs w == 31) None (Some (BranchOnSignAndLink test (rs w) (immediate w)))
 
 -- Opcode 1, by the field rt.
 abbrev pub of_regimm : ℕ → Option Instr

@@ -1,5 +1,6 @@
--- The fields of a word as the MIPS R2000 architecture manual draws them: opcode 6 bits, rs 5, rt 5, rd 5, shamt 5 and funct 6 from
--- the highest bit down; or a 16-bit immediate in place of the last three. A field is a quotient by the weight of its lowest bit, cut to its width.
+-- The fields of a word, as the MIPS R2000 architecture manual draws them. From the highest bit down they are opcode (6 bits),
+-- rs, rt, rd, shamt (5 bits each) and funct (6 bits); the last three may be one immediate of 16 bits.
+-- A field is the word divided by the weight of the field's lowest bit, cut to the field's width.
 use Rattle.std.specs.Prelude.{ℕ, ◌/◌, ◌%◌}
 
 abbrev pub opcode : ℕ → ℕ
@@ -22,4 +23,3 @@ funct w = w % 64
 
 abbrev pub immediate : ℕ → ℕ
 immediate w = w % 65536
-

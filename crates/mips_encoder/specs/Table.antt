@@ -4,11 +4,39 @@
 use Rattle.std.specs.Prelude.{ℕ, ◌+◌, ◌*◌, ◌<◌, ◌≢◌}
 use Rattle.mips_encoder.specs.declared.instruction.Instr.{Instr}
 use Rattle.mips_encoder.specs.declared.instruction.Instr.TheVariants.{
-    Arithmetic, Shift, ShiftVariable, JumpRegister, JumpAndLinkRegister, Syscall, Break, MoveFrom, MoveTo, MultiplyDivide,
-    BranchOnSign, BranchOnSignAndLink, Jump, BranchOnEquality, BranchOnZero, ImmediateArithmetic, LoadUpperImmediate, Memory}
+  Arithmetic,
+  Shift,
+  ShiftVariable,
+  JumpRegister,
+  JumpAndLinkRegister,
+  Syscall,
+  Break,
+  MoveFrom,
+  MoveTo,
+  MultiplyDivide,
+  BranchOnSign,
+  BranchOnSignAndLink,
+  Jump,
+  BranchOnEquality,
+  BranchOnZero,
+  ImmediateArithmetic,
+  LoadUpperImmediate,
+  Memory,
+}
 use Rattle.mips_encoder.specs.Codes.{
-    arithmetic_code, shift_code, shift_variable_code, move_from_code, move_to_code, multiply_divide_code,
-    sign_code, jump_code, equality_code, zero_comparison_code, immediate_code, memory_code}
+  arithmetic_code,
+  shift_code,
+  shift_variable_code,
+  move_from_code,
+  move_to_code,
+  multiply_divide_code,
+  sign_code,
+  jump_code,
+  equality_code,
+  zero_comparison_code,
+  immediate_code,
+  memory_code,
+}
 
 -- Opcode 0, with rs, rt, rd, shamt and funct.
 abbrev pub special : (rs rt rd shamt funct : ℕ) → ℕ

@@ -1,7 +1,20 @@
 //! The numbers of operations: the field of the word that tells an operation from the others.
 
 ghost use Rattle.std.specs.Prelude.{◌≡◌, ◌+◌};
-ghost use Rattle.mips_encoder.specs.Codes.{arithmetic_code, shift_code, shift_variable_code, move_from_code, move_to_code, multiply_divide_code, sign_code, jump_code, equality_code, zero_comparison_code, immediate_code, memory_code};
+ghost use Rattle.mips_encoder.specs.Codes.{
+  arithmetic_code,
+  shift_code,
+  shift_variable_code,
+  move_from_code,
+  move_to_code,
+  multiply_divide_code,
+  sign_code,
+  jump_code,
+  equality_code,
+  zero_comparison_code,
+  immediate_code,
+  memory_code,
+};
 
 use crate::instruction::{
     ArithmeticOp, EqualityOp, HiLo, ImmediateOp, JumpOp, MemoryOp, MultiplyDivideOp, ShiftOp,

@@ -28,7 +28,7 @@ fn instr(w: u32) -> Option<Instr>
     ensures { result ≡ instr_of w }
 {
     match w / 67108864 {
-        0 => { of_special(w) }
+        0 => of_special(w),
         1 => of_regimm(w),
         2 => Some(Instr::Jump(JumpOp::J, JumpTarget::new(w % 67108864))),
         3 => Some(Instr::Jump(JumpOp::Jal, JumpTarget::new(w % 67108864))),
@@ -43,13 +43,7 @@ fn instr(w: u32) -> Option<Instr>
         12 => immediate_arithmetic(ImmediateOp::Andi, w),
         13 => immediate_arithmetic(ImmediateOp::Ori, w),
         14 => immediate_arithmetic(ImmediateOp::Xori, w),
-        15 => {
-            if w / 2097152 % 32 == 0 {
-                Some(Instr::LoadUpperImmediate(rt(w), immediate(w)))
-            } else {
-                None
-            }
-        }
+        15 => load_upper_immediate(w),
         32 => memory(MemoryOp::Lb, w),
         33 => memory(MemoryOp::Lh, w),
         35 => memory(MemoryOp::Lw, w),
@@ -145,6 +139,35 @@ fn jump_and_link_register(w: u32) -> Option<Instr>
 }
 
 #[inline]
+fn jump_register(w: u32) -> Option<Instr>
+    ensures { result ≡ decoded.jump_register w }
+{
+    if w / 64 % 32768 == 0 {
+        Some(Instr::JumpRegister(rs(w)))
+    } else {
+        None
+    }
+}
+
+#[inline]
+fn syscall(w: u32) -> Option<Instr>
+    ensures { result ≡ decoded.syscall w }
+{
+    if w == 12 { Some(Instr::Syscall) } else { None }
+}
+
+#[inline]
+fn load_upper_immediate(w: u32) -> Option<Instr>
+    ensures { result ≡ decoded.load_upper_immediate w }
+{
+    if w / 2097152 % 32 == 0 {
+        Some(Instr::LoadUpperImmediate(rt(w), immediate(w)))
+    } else {
+        None
+    }
+}
+
+#[inline]
 fn of_special(w: u32) -> Option<Instr>
     ensures { result ≡ decoded.of_special w }
 {
@@ -155,15 +178,9 @@ fn of_special(w: u32) -> Option<Instr>
         4 => shift_variable(ShiftVariableOp::Sllv, w),
         6 => shift_variable(ShiftVariableOp::Srlv, w),
         7 => shift_variable(ShiftVariableOp::Srav, w),
-        8 => {
-            if w / 64 % 32768 == 0 {
-                Some(Instr::JumpRegister(rs(w)))
-            } else {
-                None
-            }
-        }
+        8 => jump_register(w),
         9 => jump_and_link_register(w),
-        12 => { if w == 12 { Some(Instr::Syscall) } else { None } }
+        12 => syscall(w),
         13 => Some(Instr::Break(BreakCode::new(w / 64 % 1048576))),
         16 => move_from(HiLo::Hi, w),
         17 => move_to(HiLo::Hi, w),
@@ -243,4 +260,3 @@ fn memory(op: MemoryOp, w: u32) -> Option<Instr>
 {
     Some(Instr::Memory(op, rt(w), immediate(w), rs(w)))
 }
-

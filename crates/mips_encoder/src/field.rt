@@ -3,7 +3,8 @@
 ghost use Rattle.std.specs.Prelude.{◌≡◌, ◌/◌, ◌%◌};
 ghost use Rattle.mips_encoder.specs.Fields as field;
 
-use crate::operand::{Immediate, Register, ShiftAmount};
+use crate::operand::{Immediate, ShiftAmount};
+use crate::register::Register;
 
 /// Bits 25 to 21: the first source register.
 #[inline]

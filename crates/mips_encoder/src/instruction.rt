@@ -1,8 +1,7 @@
 //! Instructions: one variant for each form of the table, with its operation and its operands in the order of assembly text.
 
-use crate::operand::{
-    BreakCode, Immediate, JumpTarget, LinkPair, LinkSource, Register, ShiftAmount,
-};
+use crate::operand::{BreakCode, Immediate, JumpTarget, LinkPair, LinkSource, ShiftAmount};
+use crate::register::Register;
 
 /// Operations on two registers, with a register for the result.
 #[derive(Clone, Copy, PartialEq, Eq, Debug)]

@@ -7,6 +7,7 @@ mod encoder;
 mod field;
 mod instruction;
 mod operand;
+mod register;
 
 pub use decoder::decode;
 pub use encoder::encode;
@@ -15,6 +16,8 @@ pub use instruction::{
     ArithmeticOp, EqualityOp, HiLo, ImmediateOp, Instr, JumpOp, MemoryOp, MultiplyDivideOp,
     ShiftOp, ShiftVariableOp, SignTest, ZeroComparisonOp,
 };
-pub use operand::{
-    BreakCode, Immediate, JumpTarget, LinkPair, LinkSource, Register, ShiftAmount,
-};
+pub use operand::{BreakCode, Immediate, JumpTarget, LinkPair, LinkSource, ShiftAmount};
+pub use register::Register;
+
+#[cfg(test)]
+mod tests;

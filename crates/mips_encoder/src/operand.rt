@@ -1,55 +1,23 @@
 //! The operands of instructions. Each type holds exactly the numbers that its field of the word holds.
 
-ghost use Rattle.std.specs.Prelude.{◌≡◌, ◌≢◌, ◌*◌, ◌%◌, ◌/◌, ℕ, ◌<◌, ◌≤◌, ◌==◌, ◌&&◌, cond, nat_lt, Option, Some, None};
+ghost use Rattle.std.specs.Prelude.{
+  ◌≡◌,
+  ◌≢◌,
+  ◌*◌,
+  ◌%◌,
+  ◌/◌,
+  ℕ,
+  ◌<◌,
+  ◌==◌,
+  ◌&&◌,
+  cond,
+  nat_lt,
+  Some,
+  None,
+};
 
+use crate::register::Register;
 use std::marker::Model;
-
-/// The number of a general register, from 0 to 31.
-#[derive(Clone, Copy, PartialEq, Eq, Debug)]
-pub struct Register {
-    number: u32,
-}
-
-impl Model for Register {
-    ghost Value = { ℕ };
-
-    ghost view = { λ r. r.number };
-
-    ghost invariant = { λ r. r.number < 32 };
-
-    ghost inverse = { λ n. record { number = n } };
-}
-
-impl Register {
-    /// The register with this number.
-    #[inline]
-    pub fn new(number: u32) -> Self
-        requires { number < 32 }
-        ensures { result ≡ number }
-    {
-        Register { number }
-    }
-
-    /// The register with this number, or None where the number is over 31.
-    pub fn checked(number: u32) -> Option<Self>
-        ensures { result ≡ cond (nat_lt number 32) (Some number) None }
-    {
-        if number < 32 {
-            Some(Register::new(number))
-        } else {
-            None
-        }
-    }
-
-    /// The register's number.
-    #[inline]
-    pub fn number(self) -> u32
-        ensures value { result ≡ self }
-        ensures below { result < 32 }
-    {
-        self.number
-    }
-}
 
 /// A count of bits to shift by, from 0 to 31.
 #[derive(Clone, Copy, PartialEq, Eq, Debug)]
@@ -173,9 +141,7 @@ impl JumpTarget {
 
     /// The word at an address in bytes, or None where the address is not a multiple of 4 below 0x10000000.
     pub fn at(address: u32) -> Option<Self>
-        ensures {
-            result ≡ cond (nat_lt address 0x10000000 && (address % 4 == 0)) (Some (address / 4)) None
-        }
+        ensures { result ≡ cond (nat_lt address 0x10000000 && (address % 4 == 0)) (Some (address / 4)) None }
     {
         if address < 0x1000_0000 && address % 4 == 0 {
             Some(JumpTarget::new(address / 4))
@@ -349,9 +315,7 @@ impl LinkPair {
 
     /// These registers, or None where they are the same.
     pub fn checked(rd: Register, rs: Register) -> Option<Self>
-        ensures {
-            result ≡ cond (rd == rs) None (Some (record { rd = rd; rs = rs }))
-        }
+        ensures { result ≡ cond (rd == rs) None (Some (record { rd = rd; rs = rs })) }
     {
         let to = rd.number();
         let from = rs.number();
