@@ -1,0 +1,70 @@
+//! Why bytes are no image.
+
+ghost use Rattle.std.specs.Prelude.{◌≡◌};
+ghost use Rattle.image_file.specs.Format.{fault_number};
+
+use std::alloc::{AllocError, AllocFailed};
+
+/// The rule of the image format that bytes break. The rules are numbered in this order.
+#[derive(Clone, Copy, Debug, PartialEq, Eq)]
+pub enum ImageFault {
+    /// The header's 24 bytes or the parts that it counts are not all there.
+    Short,
+    /// The first word is not the format's magic number.
+    Magic,
+    /// The second word is not 1, the version.
+    Version,
+    /// The header counts too many text words, data bytes or functions.
+    Counts,
+    /// The entry or a function is no word of the text, or a function takes over 8 arguments.
+    Entry,
+    /// Bytes follow the last part.
+    Trailing,
+}
+
+impl ImageFault {
+    /// The rule's number, from 1 to 6.
+    pub fn number(self) -> u8
+        ensures { result ≡ fault_number self }
+    {
+        match self {
+            ImageFault::Short => 1,
+            ImageFault::Magic => 2,
+            ImageFault::Version => 3,
+            ImageFault::Counts => 4,
+            ImageFault::Entry => 5,
+            ImageFault::Trailing => 6,
+        }
+    }
+}
+
+/// Why `read` gives no image.
+#[derive(Clone, Copy, Debug, PartialEq, Eq)]
+pub enum ImageDeny {
+    /// The bytes are no image: the first rule that they break.
+    Bad(ImageFault),
+    /// Memory was not found.
+    NoMemory,
+}
+
+impl From<AllocError> for ImageDeny {
+    ghost use Rattle.std.specs.Prelude.{◌≡◌};
+    ghost use Rattle.image_file.specs.declared.fault.ImageDeny.TheVariants.{NoMemory};
+
+    ghost from_gives = { λ _ e. e ≡ NoMemory };
+
+    fn from(_error: AllocError) -> ImageDeny {
+        ImageDeny::NoMemory
+    }
+}
+
+impl<T: Drop> From<AllocFailed<T>> for ImageDeny {
+    ghost use Rattle.std.specs.Prelude.{◌≡◌};
+    ghost use Rattle.image_file.specs.declared.fault.ImageDeny.TheVariants.{NoMemory};
+
+    ghost from_gives = { λ _ e. e ≡ NoMemory };
+
+    fn from(_error: AllocFailed<T>) -> ImageDeny {
+        ImageDeny::NoMemory
+    }
+}

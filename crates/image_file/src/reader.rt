@@ -1,0 +1,198 @@
+//! The image of bytes.
+
+ghost use Rattle.std.specs.Prelude.{◌≡◌, ◌+◌, ◌*◌, ◌≤◌, ◌&&◌, length, IfOk};
+ghost use Rattle.std.specs.List.{list_all};
+ghost use Rattle.image_file.specs.Image.{ImageParts, IsImage, is_in_text, is_function_in};
+ghost use Rattle.image_file.specs.Format.{
+  word_in,
+  words_in,
+  function_in,
+  functions_in,
+  end_at,
+  parts_in,
+  spelling,
+  parsed,
+  fault_of,
+  Answers,
+};
+ghost use Rattle.image_file.specs.Format as format;
+ghost use Rattle.image_file.specs.Image as image;
+
+use crate::bytes::word;
+use crate::fault::{ImageDeny, ImageFault};
+use crate::format::{
+    HEADER_BYTES, MAGIC, MOST_ARGUMENTS, MOST_BYTES, MOST_FUNCTIONS, MOST_TEXT_WORDS, TEXT, VERSION,
+};
+use crate::image::{FunctionEntry, Image};
+use std::alloc::{AllocError, Global};
+
+/// The image that bytes spell. They are refused exactly where a rule of the format is broken, with the first of these
+/// rules in the order of their numbers, before memory is taken. The other error is want of memory.
+/// *Condition*: at most 83,886,080 bytes.
+pub fn read(alloc: Global, bytes: &[u8]) -> Result<Image, ImageDeny>
+    requires { length bytes.now ≤ 83886080 }
+    ensures parsed { Answers (parsed bytes.now) result }
+    ensures spelling { IfOk result (λ image. spelling image ≡ bytes.now) }
+    ensures accepts { (i : ImageParts) → IsImage i → spelling i ≡ bytes.now → Answers (Ok i) result }
+{
+    parse(alloc, bytes)
+}
+
+fn parse(alloc: Global, bytes: &[u8]) -> Result<Image, ImageDeny>
+    requires { length bytes.now ≤ 83886080 }
+    ensures { Answers (parsed bytes.now) result }
+{
+    match fault(bytes) {
+        Some(fault) => Err(ImageDeny::Bad(fault)),
+        None => Ok(parts(alloc, bytes)?),
+    }
+}
+
+/// The image of the parts that bytes spell.
+fn parts(alloc: Global, bytes: &[u8]) -> Result<Image, AllocError>
+    requires { fault_of bytes.now ≡ None }
+    ensures { IfOk result (λ image. image ≡ parts_in bytes.now) }
+{
+    let data_at = HEADER_BYTES + 4 * word(bytes, 12) as usize;
+    let functions_at = data_at + word(bytes, 16) as usize;
+    let text = words(alloc, bytes, HEADER_BYTES, word(bytes, 12) as usize)?;
+    let data = Vec::from_slice(alloc, &bytes[data_at..functions_at])?;
+    let functions = functions(alloc, bytes, functions_at, word(bytes, 20) as usize)?;
+    Ok(Image::new(word(bytes, 8), text, data, functions))
+}
+
+/// The first rule that bytes break.
+fn fault(bytes: &[u8]) -> Option<ImageFault>
+    requires { length bytes.now ≤ 83886080 }
+    ensures { result ≡ fault_of bytes.now }
+{
+    if bytes.len() < HEADER_BYTES {
+        return Some(ImageFault::Short);
+    }
+    if word(bytes, 0) != MAGIC {
+        return Some(ImageFault::Magic);
+    }
+    if word(bytes, 4) != VERSION {
+        return Some(ImageFault::Version);
+    }
+    if !has_small_counts(bytes) {
+        return Some(ImageFault::Counts);
+    }
+    let end = end(bytes);
+    if bytes.len() < end {
+        return Some(ImageFault::Short);
+    }
+    if !has_good_entries(bytes) {
+        return Some(ImageFault::Entry);
+    }
+    if bytes.len() > end {
+        return Some(ImageFault::Trailing);
+    }
+    None
+}
+
+/// Whether the header's counts are within the limits.
+fn has_small_counts(bytes: &[u8]) -> bool
+    requires { 24 ≤ length bytes.now }
+    ensures { result ≡ format.has_small_counts bytes.now }
+{
+    word(bytes, 12) <= MOST_TEXT_WORDS
+        && word(bytes, 16) <= MOST_BYTES
+        && word(bytes, 20) <= MOST_FUNCTIONS
+}
+
+/// Where the last part ends.
+fn end(bytes: &[u8]) -> usize
+    requires { 24 ≤ length bytes.now }
+    ensures { result ≡ end_at bytes.now }
+{
+    HEADER_BYTES
+        + 4 * word(bytes, 12) as usize
+        + word(bytes, 16) as usize
+        + 8 * word(bytes, 20) as usize
+}
+
+/// Whether an address is that of a word, in a text of so many words.
+fn is_text_address(words: u32, address: u32) -> bool
+    requires { words ≤ 15728640 }
+    ensures { result ≡ is_in_text words address }
+{
+    address >= TEXT && address < TEXT + 4 * words && address % 4 == 0
+}
+
+/// Whether a function stands at a word of a text of so many words, and takes few arguments.
+fn is_function(words: u32, f: FunctionEntry) -> bool
+    requires { words ≤ 15728640 }
+    ensures { result ≡ is_function_in words f }
+{
+    is_text_address(words, f.address) && f.count <= MOST_ARGUMENTS
+}
+
+/// Whether so many functions from a place on stand at words of the text and take few arguments.
+#[tactic(auto, using(crate::proofs::Words::all_functions_more))]
+fn are_functions(bytes: &[u8], at: usize, count: usize, words: u32) -> bool
+    requires reaches { at + 8 * count ≤ length bytes.now }
+    requires words { words ≤ 15728640 }
+    ensures { result ≡ list_all (is_function_in words) (functions_in bytes.now at count) }
+{
+    let mut good = true;
+    for k in 0..count {
+        good = good && is_function(words, function(bytes, at + 8 * k));
+    }
+    good
+}
+
+/// Whether the entry and each function stand at words of the text, and each function takes few arguments.
+#[tactic(auto, using(crate::proofs::Words::length_words_in))]
+fn has_good_entries(bytes: &[u8]) -> bool
+    requires counts { word_in bytes.now 12 ≤ 15728640 }
+    requires reaches { end_at bytes.now ≤ length bytes.now }
+    ensures { result ≡ image.has_good_entries (parts_in bytes.now) }
+{
+    let words = word(bytes, 12);
+    let at = HEADER_BYTES + 4 * words as usize + word(bytes, 16) as usize;
+    let count = word(bytes, 20) as usize;
+    is_text_address(words, word(bytes, 8)) && are_functions(bytes, at, count, words)
+}
+
+/// The function in the eight bytes from a place on.
+fn function(bytes: &[u8], at: usize) -> FunctionEntry
+    requires { at + 8 ≤ length bytes.now }
+    ensures { result ≡ function_in bytes.now at }
+{
+    FunctionEntry {
+        address: word(bytes, at),
+        count: word(bytes, at + 4),
+    }
+}
+
+/// So many words from a place on.
+#[tactic(auto, using(crate::proofs::Words::words_in_more))]
+fn words(alloc: Global, bytes: &[u8], at: usize, count: usize) -> Result<Vec<u32>, AllocError>
+    requires { at + 4 * count ≤ length bytes.now }
+    ensures { IfOk result (λ words. words.items ≡ words_in bytes.now at count) }
+{
+    let mut words = Vec::with_capacity(alloc, count)?;
+    for k in 0..count {
+        words.push(word(bytes, at + 4 * k))?;
+    }
+    Ok(words)
+}
+
+/// So many functions from a place on.
+#[tactic(auto, using(crate::proofs::Words::functions_in_more))]
+fn functions(
+    alloc: Global,
+    bytes: &[u8],
+    at: usize,
+    count: usize,
+) -> Result<Vec<FunctionEntry>, AllocError>
+    requires { at + 8 * count ≤ length bytes.now }
+    ensures { IfOk result (λ functions. functions.items ≡ functions_in bytes.now at count) }
+{
+    let mut functions = Vec::with_capacity(alloc, count)?;
+    for k in 0..count {
+        functions.push(function(bytes, at + 8 * k))?;
+    }
+    Ok(functions)
+}
