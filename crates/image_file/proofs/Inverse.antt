@@ -1,6 +1,7 @@
 -- The format both ways: the spelling of an image is parsed as that image, and bytes that are parsed as an image are its spelling.
 use Rattle.std.proofs.Common.{zero, lit<, IfOk}
 use Rattle.std.proofs.lemmas.List.{length-take}
+use Rattle.word32.specs.Bytes.{word_in}
 use Rattle.image_file.specs.Format.{Answers}
 use Rattle.image_file.specs.declared.fault.ImageDeny.{ImageDeny}
 use Rattle.std.proofs.Common.{
@@ -51,7 +52,6 @@ use Rattle.image_file.specs.Format.{
   function_bytes,
   header,
   spelling,
-  word_in,
   words_in,
   functions_in,
   data_at,
@@ -297,10 +297,10 @@ words_small bytes at (suc n) (suc k) small = words_small bytes (at + 4) n k smal
 
 pub parts_in-image : (bytes : List ℕ) → ((k : ℕ) → slice_index bytes k < 256) → Sound bytes → IsImage (parts_in bytes)
 parts_in-image bytes small s = record {
-    each_word_fits = λ k. words_small bytes 24 (word_in bytes 12) k small;
-    each_byte_fits = λ k. take_small (drop (data_at bytes) bytes) (word_in bytes 16) k 256 (lit< tt) (λ j. drop_small bytes (data_at bytes) j 256 (lit< tt) small);
-    text_is_small = omega (arith, s.text_is_small, length_words_in bytes 24 (word_in bytes 12));
-    bytes_are_few = omega (arith, s.bytes_are_few, length-take (word_in bytes 16) (drop (data_at bytes) bytes));
-    functions_are_few = omega (arith, s.functions_are_few, length-functions_in bytes (functions_at bytes) (word_in bytes 20));
-    entries_are_good = s.entries_are_good
-  }
+  each_word_fits = λ k. words_small bytes 24 (word_in bytes 12) k small;
+  each_byte_fits = λ k. take_small (drop (data_at bytes) bytes) (word_in bytes 16) k 256 (lit< tt) (λ j. drop_small bytes (data_at bytes) j 256 (lit< tt) small);
+  text_is_small = omega (arith, s.text_is_small, length_words_in bytes 24 (word_in bytes 12));
+  bytes_are_few = omega (arith, s.bytes_are_few, length-take (word_in bytes 16) (drop (data_at bytes) bytes));
+  functions_are_few = omega (arith, s.functions_are_few, length-functions_in bytes (functions_at bytes) (word_in bytes 20));
+  entries_are_good = s.entries_are_good;
+}

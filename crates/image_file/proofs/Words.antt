@@ -42,7 +42,8 @@ use Rattle.std.proofs.Math.Seq.{drop-cons, take-add, drop-append_seam, take-appe
 use Rattle.std.proofs.lemmas.List.{get_or-append-add}
 use Rattle.std.proofs.lemmas.List.Folds.{list_all-append}
 use Rattle.image_file.specs.Image.{is_function_in, is_in_text}
-use Rattle.image_file.specs.Format.{word_bytes, function_bytes, word_in, words_in, function_in, functions_in}
+use Rattle.word32.specs.Bytes.{word_in}
+use Rattle.image_file.specs.Format.{word_bytes, function_bytes, words_in, function_in, functions_in}
 use Rattle.image_file.specs.declared.image.FunctionEntry.{FunctionEntry}
 
 -- the four bytes of a word, of bytes that are bytes

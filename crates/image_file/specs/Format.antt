@@ -31,6 +31,7 @@ use Rattle.std.specs.Prelude.{
   Err,
 }
 use Rattle.std.specs.List.{flat_map}
+use Rattle.word32.specs.Bytes.{word_in}
 use Rattle.image_file.specs.Image.{ImageParts, has_good_entries}
 use Rattle.image_file.specs.declared.image.FunctionEntry.{FunctionEntry}
 use Rattle.image_file.specs.declared.fault.ImageFault.{ImageFault}
@@ -55,14 +56,6 @@ header i =
 -- The bytes of an image file.
 abbrev pub spelling : ImageParts → List ℕ
 spelling i = header i ++ (flat_map word_bytes i.text ++ (i.bytes ++ flat_map function_bytes i.functions))
-
--- The word whose first byte stands at this place.
-abbrev pub word_in : List ℕ → ℕ → ℕ
-word_in bytes at =
-    16777216 * slice_index bytes at
-    + 65536 * slice_index bytes (at + 1)
-    + 256 * slice_index bytes (at + 2)
-    + slice_index bytes (at + 3)
 
 -- So many words from this place on.
 abbrev pub words_in : List ℕ → ℕ → ℕ → List ℕ

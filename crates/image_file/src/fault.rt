@@ -4,21 +4,28 @@ ghost use Rattle.std.specs.Prelude.{◌≡◌};
 ghost use Rattle.image_file.specs.Format.{fault_number};
 
 use std::alloc::{AllocError, AllocFailed};
+use thiserror::Error;
 
 /// The rule of the image format that bytes break. The rules are numbered in this order.
-#[derive(Clone, Copy, Debug, PartialEq, Eq)]
+#[derive(Clone, Copy, Debug, PartialEq, Eq, Error)]
 pub enum ImageFault {
     /// The header's 24 bytes or the parts that it counts are not all there.
+    #[error("the image's parts are not all there")]
     Short,
     /// The first word is not the format's magic number.
+    #[error("the file is no image")]
     Magic,
     /// The second word is not 1, the version.
+    #[error("the image is of another version")]
     Version,
     /// The header counts too many text words, data bytes or functions.
+    #[error("the image is too large")]
     Counts,
     /// The entry or a function is no word of the text, or a function takes over 8 arguments.
+    #[error("the entry or a function is outside the text")]
     Entry,
     /// Bytes follow the last part.
+    #[error("bytes follow the image")]
     Trailing,
 }
 
@@ -39,11 +46,13 @@ impl ImageFault {
 }
 
 /// Why `read` gives no image.
-#[derive(Clone, Copy, Debug, PartialEq, Eq)]
+#[derive(Clone, Copy, Debug, PartialEq, Eq, Error)]
 pub enum ImageDeny {
     /// The bytes are no image: the first rule that they break.
+    #[error("{0}")]
     Bad(ImageFault),
     /// Memory was not found.
+    #[error("memory was not found")]
     NoMemory,
 }
 

@@ -4,7 +4,6 @@ ghost use Rattle.std.specs.Prelude.{◌≡◌, ◌+◌, ◌*◌, ◌≤◌, ◌&
 ghost use Rattle.std.specs.List.{list_all};
 ghost use Rattle.image_file.specs.Image.{ImageParts, IsImage, is_in_text, is_function_in};
 ghost use Rattle.image_file.specs.Format.{
-  word_in,
   words_in,
   function_in,
   functions_in,
@@ -16,15 +15,15 @@ ghost use Rattle.image_file.specs.Format.{
   Answers,
 };
 ghost use Rattle.image_file.specs.Format as format;
+ghost use Rattle.word32.specs.Bytes.{word_in};
 ghost use Rattle.image_file.specs.Image as image;
 
-use crate::bytes::word;
 use crate::fault::{ImageDeny, ImageFault};
-use crate::format::{
-    HEADER_BYTES, MAGIC, MOST_ARGUMENTS, MOST_BYTES, MOST_FUNCTIONS, MOST_TEXT_WORDS, TEXT, VERSION,
-};
+use crate::format::{HEADER_BYTES, MAGIC, MOST_ARGUMENTS, MOST_FUNCTIONS, VERSION};
 use crate::image::{FunctionEntry, Image};
 use std::alloc::{AllocError, Global};
+use word32::be_read;
+use word32::map::{GLOBAL_BYTES, TEXT, TEXT_WORDS};
 
 /// The image that bytes spell. They are refused exactly where a rule of the format is broken, with the first of these
 /// rules in the order of their numbers, before memory is taken. The other error is want of memory.
@@ -53,12 +52,12 @@ fn parts(alloc: Global, bytes: &[u8]) -> Result<Image, AllocError>
     requires { fault_of bytes.now ≡ None }
     ensures { IfOk result (λ image. image ≡ parts_in bytes.now) }
 {
-    let data_at = HEADER_BYTES + 4 * word(bytes, 12) as usize;
-    let functions_at = data_at + word(bytes, 16) as usize;
-    let text = words(alloc, bytes, HEADER_BYTES, word(bytes, 12) as usize)?;
+    let data_at = HEADER_BYTES + 4 * be_read(bytes, 12) as usize;
+    let functions_at = data_at + be_read(bytes, 16) as usize;
+    let text = words(alloc, bytes, HEADER_BYTES, be_read(bytes, 12) as usize)?;
     let data = Vec::from_slice(alloc, &bytes[data_at..functions_at])?;
-    let functions = functions(alloc, bytes, functions_at, word(bytes, 20) as usize)?;
-    Ok(Image::new(word(bytes, 8), text, data, functions))
+    let functions = functions(alloc, bytes, functions_at, be_read(bytes, 20) as usize)?;
+    Ok(Image::new(be_read(bytes, 8), text, data, functions))
 }
 
 /// The first rule that bytes break.
@@ -69,10 +68,10 @@ fn fault(bytes: &[u8]) -> Option<ImageFault>
     if bytes.len() < HEADER_BYTES {
         return Some(ImageFault::Short);
     }
-    if word(bytes, 0) != MAGIC {
+    if be_read(bytes, 0) != MAGIC {
         return Some(ImageFault::Magic);
     }
-    if word(bytes, 4) != VERSION {
+    if be_read(bytes, 4) != VERSION {
         return Some(ImageFault::Version);
     }
     if !has_small_counts(bytes) {
@@ -96,9 +95,9 @@ fn has_small_counts(bytes: &[u8]) -> bool
     requires { 24 ≤ length bytes.now }
     ensures { result ≡ format.has_small_counts bytes.now }
 {
-    word(bytes, 12) <= MOST_TEXT_WORDS
-        && word(bytes, 16) <= MOST_BYTES
-        && word(bytes, 20) <= MOST_FUNCTIONS
+    be_read(bytes, 12) <= TEXT_WORDS
+        && be_read(bytes, 16) <= GLOBAL_BYTES
+        && be_read(bytes, 20) <= MOST_FUNCTIONS
 }
 
 /// Where the last part ends.
@@ -107,9 +106,9 @@ fn end(bytes: &[u8]) -> usize
     ensures { result ≡ end_at bytes.now }
 {
     HEADER_BYTES
-        + 4 * word(bytes, 12) as usize
-        + word(bytes, 16) as usize
-        + 8 * word(bytes, 20) as usize
+        + 4 * be_read(bytes, 12) as usize
+        + be_read(bytes, 16) as usize
+        + 8 * be_read(bytes, 20) as usize
 }
 
 /// Whether an address is that of a word, in a text of so many words.
@@ -149,10 +148,10 @@ fn has_good_entries(bytes: &[u8]) -> bool
     requires reaches { end_at bytes.now ≤ length bytes.now }
     ensures { result ≡ image.has_good_entries (parts_in bytes.now) }
 {
-    let words = word(bytes, 12);
-    let at = HEADER_BYTES + 4 * words as usize + word(bytes, 16) as usize;
-    let count = word(bytes, 20) as usize;
-    is_text_address(words, word(bytes, 8)) && are_functions(bytes, at, count, words)
+    let words = be_read(bytes, 12);
+    let at = HEADER_BYTES + 4 * words as usize + be_read(bytes, 16) as usize;
+    let count = be_read(bytes, 20) as usize;
+    is_text_address(words, be_read(bytes, 8)) && are_functions(bytes, at, count, words)
 }
 
 /// The function in the eight bytes from a place on.
@@ -161,8 +160,8 @@ fn function(bytes: &[u8], at: usize) -> FunctionEntry
     ensures { result ≡ function_in bytes.now at }
 {
     FunctionEntry {
-        address: word(bytes, at),
-        count: word(bytes, at + 4),
+        address: be_read(bytes, at),
+        count: be_read(bytes, at + 4),
     }
 }
 
@@ -174,7 +173,7 @@ fn words(alloc: Global, bytes: &[u8], at: usize, count: usize) -> Result<Vec<u32
 {
     let mut words = Vec::with_capacity(alloc, count)?;
     for k in 0..count {
-        words.push(word(bytes, at + 4 * k))?;
+        words.push(be_read(bytes, at + 4 * k))?;
     }
     Ok(words)
 }
