@@ -1,4 +1,5 @@
--- The format both ways: the spelling of an image is parsed as that image, and bytes that are parsed as an image are its spelling.
+-- The format both ways: the spelling of an image is parsed as that image, and bytes that are parsed as an image are
+-- its spelling.
 use Rattle.std.proofs.Common.{zero, lit<, IfOk}
 use Rattle.std.proofs.lemmas.List.{length-take}
 use Rattle.word32.specs.Bytes.{word_in}
@@ -10,8 +11,6 @@ use Rattle.std.proofs.Common.{
   suc,
   ◌+◌,
   ◌*◌,
-  ◌/◌,
-  ◌%◌,
   ◌<◌,
   ◌≤◌,
   List,
@@ -39,14 +38,13 @@ use Rattle.std.proofs.Common.{
   Result,
   Ok,
   Err,
-  cond,
 }
 use Rattle.std.specs.Prelude.{slice_index, ◌&&◌, ◌==◌, nat_le}
 use Rattle.std.specs.List.{list_all, flat_map}
 use Rattle.std.proofs.Math.Seq.{take-length}
 use Rattle.std.proofs.lemmas.List.{length-take, length-take-le, length-drop}
 use Rattle.std.proofs.lemmas.Bool.{eqb-true}
-use Rattle.image_file.specs.Image.{ImageParts, IsImage, is_function_in, is_in_text, has_good_entries}
+use Rattle.image_file.specs.Image.{ImageParts, image_of, IsImage, is_function_in, is_in_text, has_good_entries}
 use Rattle.image_file.specs.Format.{
   word_bytes,
   function_bytes,
@@ -112,8 +110,15 @@ seven a b c d e f g A B C D E F G h =
     let h3 : rule d D (rule e E (rule f F (rule g G None))) ≡ None = rule_later c C _ h2 in
     let h4 : rule e E (rule f F (rule g G None)) ≡ None = rule_later d D _ h3 in
     let h5 : rule f F (rule g G None) ≡ None = rule_later e E _ h4 in
-    let h6 : rule g G None ≡ None = rule_later f F _ h5 in
-    (rule_holds a A _ h, rule_holds b B _ h1, rule_holds c C _ h2, rule_holds d D _ h3, rule_holds e E _ h4, rule_holds f F _ h5, rule_holds g G _ h6)
+    let h6 : rule g G None ≡ None = rule_later f F _ h5 in (
+      rule_holds a A _ h,
+      rule_holds b B _ h1,
+      rule_holds c C _ h2,
+      rule_holds d D _ h3,
+      rule_holds e E _ h4,
+      rule_holds f F _ h5,
+      rule_holds g G _ h6,
+    )
 
 all_seven : (a b c d e f g : Bool) (A B C D E F G : ImageFault) →
     a ≡ true → b ≡ true → c ≡ true → d ≡ true → e ≡ true → f ≡ true → g ≡ true →
@@ -145,7 +150,8 @@ or_fault_ok None p i h = (refl, cc)
 or_fault_ok (Some f) p i h = cc
 
 -- the spelling of what is parsed
-pub spelling-parts_in : (bytes : List ℕ) → ((k : ℕ) → slice_index bytes k < 256) → Sound bytes → spelling (parts_in bytes) ≡ bytes
+pub spelling-parts_in : (bytes : List ℕ) → ((k : ℕ) → slice_index bytes k < 256) → Sound bytes
+    → spelling (parts_in bytes) ≡ bytes
 spelling-parts_in bytes small s =
     let n : ℕ = word_in bytes 12 in
     let d : ℕ = word_in bytes 16 in
@@ -174,22 +180,24 @@ spelling-parts_in bytes small s =
     = words_in-bytes bytes 24 n small (omega arith) in
     let functions : flat_map function_bytes (functions_in bytes (functions_at bytes) f) ≡ take (8 * f) (drop (functions_at bytes) bytes)
     = functions_in-bytes bytes (functions_at bytes) f small (omega arith) in
-    let from_data = joined bytes (data_at bytes) d (8 * f) (functions_at bytes) (d + 8 * f) _ _ refl functions refl refl in
+    let from_data
+    = joined bytes (data_at bytes) d (8 * f) (functions_at bytes) (d + 8 * f) _ _ refl functions refl refl in
     let from24 = joined bytes 24 (4 * n) (d + 8 * f) (data_at bytes) (4 * n + (d + 8 * f)) _ _ text from_data refl refl in
     joined bytes 0 24 (4 * n + (d + 8 * f)) 24 (length bytes) _ _ from0 from24 refl (omega arith) ∙ take-length bytes
 
-pub spelling-parsed : (bytes : List ℕ) (i : ImageParts) → ((k : ℕ) → slice_index bytes k < 256) → parsed bytes ≡ Ok i → spelling i ≡ bytes
+pub spelling-parsed : (bytes : List ℕ) (i : ImageParts) → ((k : ℕ) → slice_index bytes k < 256) → parsed bytes ≡ Ok i
+    → spelling i ≡ bytes
 spelling-parsed bytes i small h =
     let p : (fault_of bytes ≡ None) × (parts_in bytes ≡ i) = or_fault_ok (fault_of bytes) (parts_in bytes) i h in
     ap spelling (sym p.1) ∙ spelling-parts_in bytes small (sound bytes p.0)
 
-abbrev pub parts : ℕ → List ℕ → List ℕ → List FunctionEntry → ImageParts
-parts e t b f = record { entry = e; text = t; bytes = b; functions = f }
-
 pub parts_eq : {e : ℕ} {t b : List ℕ} {f : List FunctionEntry} {i : ImageParts} →
-    e ≡ i.entry → t ≡ i.text → b ≡ i.bytes → f ≡ i.functions → parts e t b f ≡ i
+    e ≡ i.entry → t ≡ i.text → b ≡ i.bytes → f ≡ i.functions → image_of e t b f ≡ i
 parts_eq {e} {t} {b} {f} {i} he ht hb hf =
-    ap (λ x. parts x t b f) he ∙ (ap (λ x. parts i.entry x b f) ht ∙ (ap (λ x. parts i.entry i.text x f) hb ∙ ap (λ x. parts i.entry i.text i.bytes x) hf))
+    ap (λ x. image_of x t b f) he
+    ∙ (ap (λ x. image_of i.entry x b f) ht
+    ∙ (ap (λ x. image_of i.entry i.text x f) hb
+    ∙ ap (λ x. image_of i.entry i.text i.bytes x) hf))
 
 nat_le-true : (a b : ℕ) → a ≤ b → nat_le a b ≡ true
 nat_le-true a b h = grind arith
@@ -202,7 +210,8 @@ small_counts : (bytes : List ℕ) → word_in bytes 12 ≤ 15728640 → word_in 
     has_small_counts bytes ≡ true
 small_counts bytes h12 h16 h20 =
     and_both (nat_le (word_in bytes 12) 15728640 && nat_le (word_in bytes 16) 4194304) (nat_le (word_in bytes 20) 65535)
-    (and_both (nat_le (word_in bytes 12) 15728640) (nat_le (word_in bytes 16) 4194304) (nat_le-true (word_in bytes 12) 15728640 h12) (nat_le-true (word_in bytes 16) 4194304 h16))
+    (and_both (nat_le (word_in bytes 12) 15728640) (nat_le (word_in bytes 16) 4194304)
+    (nat_le-true (word_in bytes 12) 15728640 h12) (nat_le-true (word_in bytes 16) 4194304 h16))
     (nat_le-true (word_in bytes 20) 65535 h20)
 
 -- what is parsed of a spelling
@@ -271,13 +280,15 @@ written-parsed items (Ok v) i image h = ap parsed h ∙ parsed-spelling i image
 written-parsed items (Err e) i image h = tt
 
 -- the parts that bytes spell are an image
-take_small : (xs : List ℕ) (n k bound : ℕ) → 0 < bound → ((k : ℕ) → slice_index xs k < bound) → slice_index (take n xs) k < bound
+take_small : (xs : List ℕ) (n k bound : ℕ) → 0 < bound → ((k : ℕ) → slice_index xs k < bound)
+    → slice_index (take n xs) k < bound
 take_small xs zero k bound h small = h
 take_small [] (suc n) k bound h small = h
 take_small (x ∷ xs) (suc n) zero bound h small = small 0
 take_small (x ∷ xs) (suc n) (suc k) bound h small = take_small xs n k bound h (λ j. small (suc j))
 
-drop_small : (xs : List ℕ) (n k bound : ℕ) → 0 < bound → ((k : ℕ) → slice_index xs k < bound) → slice_index (drop n xs) k < bound
+drop_small : (xs : List ℕ) (n k bound : ℕ) → 0 < bound → ((k : ℕ) → slice_index xs k < bound)
+    → slice_index (drop n xs) k < bound
 drop_small xs zero k bound h small = small k
 drop_small [] (suc n) k bound h small = h
 drop_small (x ∷ xs) (suc n) k bound h small = drop_small xs n k bound h (λ j. small (suc j))
@@ -290,7 +301,8 @@ word_small bytes at small =
     let d : slice_index bytes (at + 3) < 256 = small (at + 3) in
     omega arith
 
-words_small : (bytes : List ℕ) (at n k : ℕ) → ((k : ℕ) → slice_index bytes k < 256) → slice_index (words_in bytes at n) k < 4294967296
+words_small : (bytes : List ℕ) (at n k : ℕ) → ((k : ℕ) → slice_index bytes k < 256)
+    → slice_index (words_in bytes at n) k < 4294967296
 words_small bytes at zero k small = lit< tt
 words_small bytes at (suc n) zero small = word_small bytes at small
 words_small bytes at (suc n) (suc k) small = words_small bytes (at + 4) n k small
@@ -298,7 +310,8 @@ words_small bytes at (suc n) (suc k) small = words_small bytes (at + 4) n k smal
 pub parts_in-image : (bytes : List ℕ) → ((k : ℕ) → slice_index bytes k < 256) → Sound bytes → IsImage (parts_in bytes)
 parts_in-image bytes small s = record {
   each_word_fits = λ k. words_small bytes 24 (word_in bytes 12) k small;
-  each_byte_fits = λ k. take_small (drop (data_at bytes) bytes) (word_in bytes 16) k 256 (lit< tt) (λ j. drop_small bytes (data_at bytes) j 256 (lit< tt) small);
+  each_byte_fits = λ k. take_small (drop (data_at bytes) bytes) (word_in bytes 16) k 256 (lit< tt)
+      (λ j. drop_small bytes (data_at bytes) j 256 (lit< tt) small);
   text_is_small = omega (arith, s.text_is_small, length_words_in bytes 24 (word_in bytes 12));
   bytes_are_few = omega (arith, s.bytes_are_few, length-take (word_in bytes 16) (drop (data_at bytes) bytes));
   functions_are_few = omega (arith, s.functions_are_few, length-functions_in bytes (functions_at bytes) (word_in bytes 20));

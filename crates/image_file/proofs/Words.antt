@@ -1,4 +1,5 @@
--- Words and functions among bytes, both ways: what is read of the bytes of a list of words is that list, and the bytes of the words
+-- Words and functions among bytes, both ways: what is read of the bytes of a list of words is that list, and the
+-- bytes of the words
 -- that are read are the bytes that they were read from.
 use Rattle.std.proofs.Common.{
   ◌≡◌,
@@ -17,7 +18,6 @@ use Rattle.std.proofs.Common.{
   ◌++◌,
   length,
   length-append,
-  get_or,
   take,
   drop,
   arith,
@@ -33,15 +33,13 @@ use Rattle.std.proofs.Common.{
   true,
   false,
   Bool,
-  IsTrue,
-  cond,
 }
-use Rattle.std.specs.Prelude.{slice_index, ◌&&◌, ◌==◌, nat_le, nat_lt}
+use Rattle.std.specs.Prelude.{slice_index, ◌&&◌}
 use Rattle.std.specs.List.{list_all, flat_map}
 use Rattle.std.proofs.Math.Seq.{drop-cons, take-add, drop-append_seam, take-append_seam}
 use Rattle.std.proofs.lemmas.List.{get_or-append-add}
 use Rattle.std.proofs.lemmas.List.Folds.{list_all-append}
-use Rattle.image_file.specs.Image.{is_function_in, is_in_text}
+use Rattle.image_file.specs.Image.{is_function_in}
 use Rattle.word32.specs.Bytes.{word_in}
 use Rattle.image_file.specs.Format.{word_bytes, function_bytes, words_in, function_in, functions_in}
 use Rattle.image_file.specs.declared.image.FunctionEntry.{FunctionEntry}
@@ -100,7 +98,8 @@ word_in-at pre w post at h e =
 
 -- neighbouring parts of a list, joined
 pub joined : (bytes : List ℕ) (at n m next all : ℕ) (x y : List ℕ) →
-    x ≡ take n (drop at bytes) → y ≡ take m (drop next bytes) → next ≡ at + n → all ≡ n + m → x ++ y ≡ take all (drop at bytes)
+    x ≡ take n (drop at bytes) → y ≡ take m (drop next bytes) → next ≡ at + n → all ≡ n + m
+    → x ++ y ≡ take all (drop at bytes)
 joined bytes at n m next all x y hx hy e sum =
     let d : List ℕ = drop at bytes in
     let there : drop next bytes ≡ drop n d = ap (λ k. drop k bytes) e ∙ sym (drop-drop n at bytes) in
@@ -146,7 +145,8 @@ pub words_in-bytes : (bytes : List ℕ) (at n : ℕ) → ((k : ℕ) → slice_in
     flat_map word_bytes (words_in bytes at n) ≡ take (4 * n) (drop at bytes)
 words_in-bytes bytes at zero small h = refl
 words_in-bytes bytes at (suc n) small h =
-    let first : word_bytes (word_in bytes at) ≡ take 4 (drop at bytes) = word_bytes-word_in bytes at small (omega arith) in
+    let first : word_bytes (word_in bytes at) ≡ take 4 (drop at bytes)
+    = word_bytes-word_in bytes at small (omega arith) in
     let rest : flat_map word_bytes (words_in bytes (at + 4) n) ≡ take (4 * n) (drop (at + 4) bytes)
     = words_in-bytes bytes (at + 4) n small (omega arith) in
     joined bytes at 4 (4 * n) (at + 4) (4 * suc n) _ _ first rest refl (omega arith)
@@ -155,8 +155,10 @@ pub functions_in-bytes : (bytes : List ℕ) (at n : ℕ) → ((k : ℕ) → slic
     flat_map function_bytes (functions_in bytes at n) ≡ take (8 * n) (drop at bytes)
 functions_in-bytes bytes at zero small h = refl
 functions_in-bytes bytes at (suc n) small h =
-    let address : word_bytes (word_in bytes at) ≡ take 4 (drop at bytes) = word_bytes-word_in bytes at small (omega arith) in
-    let count : word_bytes (word_in bytes (at + 4)) ≡ take 4 (drop (at + 4) bytes) = word_bytes-word_in bytes (at + 4) small (omega arith) in
+    let address : word_bytes (word_in bytes at) ≡ take 4 (drop at bytes)
+    = word_bytes-word_in bytes at small (omega arith) in
+    let count : word_bytes (word_in bytes (at + 4)) ≡ take 4 (drop (at + 4) bytes)
+    = word_bytes-word_in bytes (at + 4) small (omega arith) in
     let first : function_bytes (function_in bytes at) ≡ take 8 (drop at bytes)
     = joined bytes at 4 4 (at + 4) 8 _ _ address count refl refl in
     let rest : flat_map function_bytes (functions_in bytes (at + 8) n) ≡ take (8 * n) (drop (at + 8) bytes)
@@ -204,7 +206,8 @@ pub words_in-at : (pre ws post : List ℕ) (at : ℕ) → ((k : ℕ) → slice_i
 words_in-at pre [] post at small e = refl
 words_in-at pre (w ∷ ws) post at small e =
     let rest : List ℕ = flat_map word_bytes ws ++ post in
-    let same : word_bytes w ++ rest ≡ flat_map word_bytes (w ∷ ws) ++ post = sym (append_assoc (word_bytes w) (flat_map word_bytes ws) post) in
+    let same : word_bytes w ++ rest ≡ flat_map word_bytes (w ∷ ws) ++ post
+    = sym (append_assoc (word_bytes w) (flat_map word_bytes ws) post) in
     let all : pre ++ (word_bytes w ++ rest) ≡ pre ++ (flat_map word_bytes (w ∷ ws) ++ post) = ap (λ l. pre ++ l) same in
     let long : length (pre ++ word_bytes w) ≡ at + 4 = length-append pre (word_bytes w) ∙ ap (λ n. n + 4) e in
     let first : word_in (pre ++ (word_bytes w ++ rest)) at ≡ w = word_in-at pre w rest at (small 0) e in
@@ -255,7 +258,8 @@ length-functions [] = refl
 length-functions (f ∷ fs) = omega (arith, length-append (function_bytes f) (flat_map function_bytes fs), length-functions fs)
 
 -- a part behind others
-pub part_at : (pre x post : List ℕ) (at n : ℕ) → length pre ≡ at → length x ≡ n → take n (drop at (pre ++ (x ++ post))) ≡ x
+pub part_at : (pre x post : List ℕ) (at n : ℕ) → length pre ≡ at → length x ≡ n
+    → take n (drop at (pre ++ (x ++ post))) ≡ x
 part_at pre x post at n e f =
     let there : drop at (pre ++ (x ++ post)) ≡ x ++ post
     = ap (λ k. drop k (pre ++ (x ++ post))) (sym e) ∙ drop-append_seam pre (x ++ post) in

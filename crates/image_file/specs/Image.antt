@@ -1,7 +1,24 @@
--- What an image holds, and the rules that every image keeps. An image is what this project's compiler and assembler make and its
+-- What an image holds, and the rules that every image keeps. An image is what this project's compiler and assembler
+-- make and its
 -- machine loads; the limits are those of the machine's memory map, whose text begins at 0x00400000.
 -- The rules are this project's own, and the image file format tests them.
-use Rattle.std.specs.Prelude.{ℕ, ◌+◌, ◌*◌, ◌%◌, ◌<◌, ◌≤◌, ◌==◌, ◌&&◌, nat_le, nat_lt, Bool, IsTrue, List, length, slice_index}
+use Rattle.std.specs.Prelude.{
+  ℕ,
+  ◌+◌,
+  ◌*◌,
+  ◌%◌,
+  ◌<◌,
+  ◌≤◌,
+  ◌==◌,
+  ◌&&◌,
+  nat_le,
+  nat_lt,
+  Bool,
+  IsTrue,
+  List,
+  length,
+  slice_index,
+}
 use Rattle.std.specs.List.{list_all}
 use Rattle.image_file.specs.declared.image.FunctionEntry.{FunctionEntry}
 
@@ -10,6 +27,10 @@ pub record ImageParts : Type 0 where
   pub text : List ℕ
   pub bytes : List ℕ
   pub functions : List FunctionEntry
+
+-- The image of these parts.
+abbrev pub image_of : ℕ → List ℕ → List ℕ → List FunctionEntry → ImageParts
+image_of entry text bytes functions = record { entry = entry; text = text; bytes = bytes; functions = functions }
 
 -- Whether an address is that of a word, in a text of so many words.
 abbrev pub is_in_text : ℕ → ℕ → Bool

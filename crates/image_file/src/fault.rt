@@ -6,7 +6,7 @@ ghost use Rattle.image_file.specs.Format.{fault_number};
 use std::alloc::{AllocError, AllocFailed};
 use thiserror::Error;
 
-/// The rule of the image format that bytes break. The rules are numbered in this order.
+/// The rule of the image format that bytes break, numbered from 1 in this order.
 #[derive(Clone, Copy, Debug, PartialEq, Eq, Error)]
 pub enum ImageFault {
     /// The header's 24 bytes or the parts that it counts are not all there.

@@ -1,7 +1,7 @@
 //! Images: a program for the machine, as its loader takes it.
 
 ghost use Rattle.std.specs.Prelude.{◌≡◌};
-ghost use Rattle.image_file.specs.Image.{ImageParts, IsImage};
+ghost use Rattle.image_file.specs.Image.{IsImage, image_of};
 
 use std::marker::Model;
 
@@ -28,20 +28,20 @@ pub struct Image {
 }
 
 impl Model for Image {
-    ghost use Rattle.image_file.specs.Image.{ImageParts, IsImage};
+    ghost use Rattle.image_file.specs.Image.{ImageParts, IsImage, image_of};
 
     ghost Value = { ImageParts };
 
-    ghost view = { λ i. record { entry = i.entry; text = i.text.items; bytes = i.bytes.items; functions = i.functions.items } };
+    ghost view = { λ i. image_of i.entry i.text.items i.bytes.items i.functions.items };
 
-    ghost invariant = { λ i. IsImage (record { entry = i.entry; text = i.text.items; bytes = i.bytes.items; functions = i.functions.items }) };
+    ghost invariant = { λ i. IsImage (image_of i.entry i.text.items i.bytes.items i.functions.items) };
 }
 
 impl Image {
     /// The image of these parts.
     pub fn new(entry: u32, text: Vec<u32>, bytes: Vec<u8>, functions: Vec<FunctionEntry>) -> Self
-        requires { IsImage (record { entry = entry; text = text.items; bytes = bytes.items; functions = functions.items }) }
-        ensures { result ≡ record { entry = entry; text = text.items; bytes = bytes.items; functions = functions.items } }
+        requires { IsImage (image_of entry text.items bytes.items functions.items) }
+        ensures { result ≡ image_of entry text.items bytes.items functions.items }
     {
         Image {
             entry,

@@ -12,3 +12,6 @@ pub use fault::{ImageDeny, ImageFault};
 pub use image::{FunctionEntry, Image};
 pub use reader::read;
 pub use writer::write;
+
+#[cfg(test)]
+mod tests;

@@ -25,9 +25,13 @@ use std::alloc::{AllocError, Global};
 use word32::be_read;
 use word32::map::{GLOBAL_BYTES, TEXT, TEXT_WORDS};
 
-/// The image that bytes spell. They are refused exactly where a rule of the format is broken, with the first of these
-/// rules in the order of their numbers, before memory is taken. The other error is want of memory.
-/// *Condition*: at most 83,886,080 bytes.
+/// The image that bytes spell, by the rules of image files, version 1. The bytes are at most 83,886,080; this is a
+/// condition.
+///
+/// # Errors
+/// `Bad` exactly where the bytes break a rule, with the first one in the order of the tests: Short for the header, Magic,
+/// Version, Counts, Short for the parts, Entry, Trailing. All of them are tested before memory is taken. `NoMemory` where
+/// memory was not found.
 pub fn read(alloc: Global, bytes: &[u8]) -> Result<Image, ImageDeny>
     requires { length bytes.now ≤ 83886080 }
     ensures parsed { Answers (parsed bytes.now) result }

@@ -10,8 +10,11 @@ use crate::format::{HEADER_BYTES, MAGIC, VERSION};
 use crate::image::{FunctionEntry, Image};
 use std::alloc::{AllocError, Global};
 
-/// The bytes of an image file that holds this image: the image's one spelling, which `read` gives back. Memory is taken
-/// once; where it is not found, the answer is the error and the image stays.
+/// The bytes of the image file that holds this image: the image's one spelling, which `read` gives back. Memory is taken
+/// once, for all of it.
+///
+/// # Errors
+/// Memory was not found.
 pub fn write(alloc: Global, image: &Image) -> Result<Vec<u8>, AllocError>
     ensures spelling { IfOk result (λ bytes. bytes.items ≡ spelling image.now) }
     ensures read_back { IfOk result (λ bytes. parsed bytes.items ≡ Ok image.now) }

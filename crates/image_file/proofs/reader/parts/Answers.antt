@@ -1,6 +1,6 @@
 use Rattle.std.proofs.Common.{rules, ◌≡◌, ◌<◌, ◌+◌, ◌-◌, ◌*◌, ℕ, sym, subst, ap, ◌∙◌, arith, Fits, w8}
 use Rattle.std.specs.Prelude.{slice_index, take, drop}
-use Rattle.image_file.specs.Image.{ImageParts, IsImage}
+use Rattle.image_file.specs.Image.{IsImage}
 use Rattle.word32.specs.Bytes.{word_in}
 use Rattle.image_file.specs.Format.{parts_in, words_in, functions_in, data_at, functions_at}
 use Rattle.image_file.proofs.Inverse.{sound, parts_in-image, parts_eq}
