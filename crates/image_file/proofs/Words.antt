@@ -1,6 +1,5 @@
 -- Words and functions among bytes, both ways: what is read of the bytes of a list of words is that list, and the
--- bytes of the words
--- that are read are the bytes that they were read from.
+-- bytes of the words that are read are the bytes that they were read from.
 use Rattle.std.proofs.Common.{
   ◌≡◌,
   ℕ,

@@ -1,6 +1,5 @@
 -- The image file format, version 1, both ways: `spelling` is the one spelling of an image, and `parsed` gives the
--- image that bytes
--- spell, or the first rule that they break. Words stand big-endian, the most significant byte first.
+-- image that bytes spell, or the first rule that they break. Words stand big-endian, the most significant byte first.
 -- The format is this project's own: six words of header, the text, the data, and two words for each function.
 use Rattle.std.specs.Prelude.{
   ◌≡◌,

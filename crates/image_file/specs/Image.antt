@@ -1,7 +1,6 @@
 -- What an image holds, and the rules that every image keeps. An image is what this project's compiler and assembler
--- make and its
--- machine loads; the limits are those of the machine's memory map, whose text begins at 0x00400000.
--- The rules are this project's own, and the image file format tests them.
+-- make and its machine loads; the limits are those of the machine's memory map, whose text begins at 0x00400000. The
+-- rules are this project's own, and the image file format tests them.
 use Rattle.std.specs.Prelude.{
   ℕ,
   ◌+◌,
