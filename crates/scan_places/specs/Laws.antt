@@ -4,9 +4,10 @@
 use Rattle.std.specs.Prelude.{ℕ, ◌≡◌, ◌≢◌, ◌<◌, ◌≤◌, ◌⊎◌, List, [], ◌∷◌, length}
 use Rattle.icode_ops.specs.declared.interval.Interval.{Interval}
 use Rattle.icode_ops.specs.declared.op.Op.{Op}
-use Rattle.icode_ops.specs.Live.{In, Each, Sorted, AreIntervals}
+use Rattle.icode_ops.specs.Live.{In, Each, Before, Sorted, AreIntervals}
 use Rattle.icode_ops.specs.Places.{IsLegal}
-use Rattle.scan_places.specs.Scan.{scan, place, places_of}
+use Rattle.scan_places.specs.Lists.{Pairs}
+use Rattle.scan_places.specs.Scan.{Keeper, scan, place, places_of}
 
 -- no two intervals are of one register
 abbrev pub Apart : List Interval → Type 0
@@ -33,6 +34,17 @@ pub record IsCrowded (xs : List Interval) (v : Interval) : Type 0 where
   pub no_later : Each (λ y. y.end ≤ v.end) others
   pub apart : Apart (v ∷ others)
   pub theirs : Each (λ y. In y xs) others
+
+-- k ends before u, or with it and was visited before it
+abbrev pub EndsBefore : Keeper → Keeper → Type 0
+EndsBefore k u =
+    (k.interval.end < u.interval.end) ⊎
+    ((k.interval.end ≡ u.interval.end) × Before k.interval u.interval)
+
+-- after the visits of any intervals the keepers stand by their ends, and those with equal ends in the order of their
+-- visits: so the last of them is the one with the greatest end, and of equal ends the one visited last
+abbrev pub KeepersAreByEnd : Type 0
+KeepersAreByEnd = (xs : List Interval) → AreScannable xs → Pairs EndsBefore (scan xs).keepers
 
 -- an interval whose register has a slot is crowded out by twelve others
 abbrev pub SpillsAreCrowded : Type 0

@@ -4,11 +4,17 @@
 //! its contract is the statement, so that callers have it by a call.
 #![tactic(auto)]
 
-ghost use Rattle.scan_places.specs.Laws.{IntervalsAreScannable, PlacesAreApart, PlacesAreLegal, SpillsAreCrowded};
+ghost use Rattle.scan_places.specs.Laws.{IntervalsAreScannable, KeepersAreByEnd, PlacesAreApart, PlacesAreLegal, SpillsAreCrowded};
 
 /// The intervals of the registers of a list of ops can be scanned: they are sorted, whole and of different registers.
 pub fn intervals_are_scannable()
     ensures { IntervalsAreScannable }
+{}
+
+/// The keepers stand by their ends, and those with equal ends in the order of their visits, so the last of them is the
+/// one that ends last, and of equal ends the one visited last.
+pub fn keepers_are_by_end()
+    ensures { KeepersAreByEnd }
 {}
 
 /// Two intervals that overlap have different places, unless both have slots.
