@@ -5,3 +5,4 @@ pub mod Reaching
 pub mod Writing
 pub mod Starting
 pub mod Sorting
+pub mod TestRows

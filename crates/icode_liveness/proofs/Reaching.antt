@@ -1,17 +1,17 @@
 -- What the search has found when no place is left to look at.
-use Rattle.std.proofs.Common.{ℕ, ◌+◌, ◌/◌, ◌≡◌, ◌<◌, ◌≤◌, ◌++◌, ◌⊎◌, ◌↔◌, ◌||◌, inl, inr, Bool, true, false, eqb, not, List, [], ◌∷◌, Option, Some, None, length, get_or, refl, sym, ◌∙◌, ap, subst, arith, length-append}
+use Rattle.std.proofs.Common.{ℕ, ◌+◌, ◌/◌, ◌≡◌, ◌<◌, ◌≤◌, ◌⊎◌, ◌↔◌, ◌||◌, inl, inr, Bool, true, false, not, List, [], Option, Some, None, length, get_or, refl, sym, ◌∙◌, ap, subst, arith, length-append}
 use Rattle.std.proofs.lemmas.List.{get_or_append_left, get_or_past}
 use Rattle.std.proofs.lemmas.Bool.{cases_lt}
 use Rattle.std.proofs.lemmas.Bool.Decides.{nat_tests}
 use Rattle.icode_ops.specs.declared.op.Op.{Op}
 use Rattle.icode_ops.specs.declared.op.Op.TheVariants.{ReturnZero}
 use Rattle.icode_ops.specs.Finished.{Below, IsFinished}
-use Rattle.icode_ops.specs.Flow.{op_at, holds, first_use, second_use, defined, uses, defines, falls, goes_to, label_of, Follows}
+use Rattle.icode_ops.specs.Flow.{op_at, holds, first_use, second_use, defined, uses, defines, falls, goes_to, label_of}
 use Rattle.icode_ops.specs.Live.{Live, Used, Passes, IsAt}
 use Rattle.icode_liveness.specs.declared.sought.Sought.TheVariants.{Use, Definition, Passage}
 use Rattle.icode_liveness.specs.Lists.{In, Each, Extends}
 use Rattle.icode_liveness.specs.Search.{is_sought, SoughtIn, HasSought, Passing, AreOps}
-use Rattle.icode_liveness.specs.Tables.{mentions, MentionedAt, GoesFrom, IsTable}
+use Rattle.icode_liveness.specs.Tables.{MentionedAt, GoesFrom, IsTable}
 use Rattle.icode_liveness.proofs.Lists.{Each-weaker, Each-In, Each-append, Each-each, In-get_or, position, extends-In, extends-twice}
 
 -- how far the search has come: each place that was found is right, the uses are found, and what leads to one of

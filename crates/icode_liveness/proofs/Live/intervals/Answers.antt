@@ -1,9 +1,8 @@
-use Rattle.std.proofs.Common.{arith, sym, ◌∙◌, ap, subst, ℕ, ◌≡◌, ◌<◌, ◌≤◌, List, length, take}
+use Rattle.std.proofs.Common.{arith, sym, ◌∙◌, ap, subst, ℕ, ◌≡◌, ◌≤◌, List, length}
 use Rattle.std.proofs.lemmas.List.{with_items_is}
 use Rattle.icode_ops.specs.declared.op.Op.{Op}
-use Rattle.icode_ops.specs.declared.interval.Interval.{Interval}
 use Rattle.icode_ops.specs.Finished.{IsFinished}
-use Rattle.icode_ops.specs.Live.{IsAt, AreIntervals}
+use Rattle.icode_ops.specs.Live.{AreIntervals}
 use Rattle.icode_liveness.specs.Order.{AreStarts, by_start}
 use Rattle.icode_liveness.proofs.Reaching.{at-below}
 use Rattle.icode_liveness.proofs.Sorting.{are-intervals, few-intervals}

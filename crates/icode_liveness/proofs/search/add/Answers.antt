@@ -1,4 +1,4 @@
-use Rattle.std.proofs.Common.{sym, ap, subst, ℕ, ◌≡◌, List}
+use Rattle.std.proofs.Common.{sym, subst}
 use Rattle.sparse_set.specs.Members.{Members}
 use Rattle.icode_liveness.specs.Lists.{In}
 use Rattle.icode_liveness.proofs.Listing.{member-there}

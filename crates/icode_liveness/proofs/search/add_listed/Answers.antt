@@ -1,4 +1,4 @@
-use Rattle.std.proofs.Common.{arith, sym, ◌∙◌, subst, ℕ, ◌≡◌, ◌<◌, ◌≤◌, ◌+◌, ◌/◌, List, [], Option, Some, length, get_or}
+use Rattle.std.proofs.Common.{arith, sym, ◌∙◌, subst, ℕ, ◌≡◌, ◌<◌, ◌≤◌, ◌/◌, List, [], Option, Some, length, get_or}
 use Rattle.std.specs.Prelude.{IfSome}
 use Rattle.icode_ops.specs.declared.op.Op.{Op}
 use Rattle.icode_liveness.specs.declared.sought.Sought.{Sought}

@@ -1,10 +1,9 @@
-use Rattle.std.proofs.Common.{arith, sym, ◌∙◌, ap, subst, ℕ, ◌≡◌, ◌<◌, ◌≤◌, ◌+◌, List, [], length, get_or}
-use Rattle.std.proofs.lemmas.List.{get_or_read}
+use Rattle.std.proofs.Common.{arith, ◌∙◌, ap, subst, ◌<◌, ◌≤◌, [], length, get_or}
 use Rattle.sparse_set.specs.Members.{Members}
 use Rattle.icode_liveness.specs.declared.sought.Sought.TheVariants.{Use}
 use Rattle.icode_liveness.specs.Lists.{Extends}
 use Rattle.icode_liveness.specs.Search.{SoughtIn}
-use Rattle.icode_liveness.proofs.Reaching.{Reaching, reaching-start, reaching-more, live-at, extends-longer, exact}
+use Rattle.icode_liveness.proofs.Reaching.{reaching-start, reaching-more, live-at, extends-longer, exact}
 use Rattle.icode_liveness.proofs.search.find_live.Goals as goal
 
 pub loop-looked_at-init : goal.loop-looked_at-init

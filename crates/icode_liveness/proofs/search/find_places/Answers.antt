@@ -1,4 +1,3 @@
-use Rattle.std.proofs.Common.{ℕ, List}
 use Rattle.icode_liveness.proofs.Reaching.{exact-at}
 use Rattle.icode_liveness.proofs.search.find_places.Goals as goal
 
