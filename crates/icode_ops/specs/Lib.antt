@@ -1,0 +1,5 @@
+pub mod Kinds
+pub mod Flow
+pub mod Live
+pub mod Places
+pub mod Finished
