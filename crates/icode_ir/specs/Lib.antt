@@ -1,0 +1,5 @@
+pub mod Build
+pub mod Rules
+pub mod Sound
+pub mod Tables
+pub mod Draft
