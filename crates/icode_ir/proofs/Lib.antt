@@ -5,3 +5,4 @@ pub mod Tallies
 pub mod Enclosing
 pub mod Leaving
 pub mod Passing
+pub mod Wholes

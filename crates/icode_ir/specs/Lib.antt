@@ -3,3 +3,4 @@ pub mod Rules
 pub mod Sound
 pub mod Tables
 pub mod Draft
+pub mod Building

@@ -2,6 +2,7 @@
 #![tactic(auto)]
 
 mod body;
+mod builder;
 mod build_op;
 mod draft;
 mod emit;
@@ -10,3 +11,4 @@ mod label_table;
 
 pub use body::Body;
 pub use build_op::{BuildFault, BuildOp, NotEmpty};
+pub use builder::{Builder, Phase};
