@@ -2,11 +2,11 @@
 ghost use Rattle.std.specs.Prelude.{◌≡◌};
 ghost use Rattle.host_edge.specs.Endings.{trap_name, machine_name};
 
-/// Why a program is stopped by its own doing. The meaning of a text, the machine's code and the table of
-/// break codes speak of the same thirteen kinds.
+/// Why a program is stopped by its own doing. The meaning of a text and the machine that runs its image know
+/// the same thirteen kinds.
 #[derive(Clone, Copy, Debug, PartialEq, Eq)]
 pub enum TrapKind {
-    /// An address has no memory, or may not be written.
+    /// An address is in no memory of the program, or may not be written.
     Range,
     /// An address isn't a multiple of the width that is read or written there.
     Misaligned,
@@ -14,23 +14,23 @@ pub enum TrapKind {
     DivideByZero,
     /// The smallest number is divided by -1.
     DivideOverflow,
-    /// What is called is no function, or one with another count of parameters.
+    /// What is called by number is no live function, or one with another count of parameters.
     BadCall,
-    /// What is used as a specification is none, or one of another kind.
+    /// What is captured or compiled as a specification is no live one of the kind that is named.
     BadSpec,
-    /// A parameter's specification has an index that is taken or not below 8.
+    /// A parameter of generated code has an index over 7.
     BadParam,
-    /// More calls are active than the limit allows.
+    /// The charges of the active calls are over their limit.
     StackLimit,
-    /// The frames of the active calls are larger than the limit allows.
+    /// The frame objects of the active calls are over their limit in bytes.
     FrameLimit,
-    /// The memory of specifications is used up.
+    /// The closures of all specifications are over their limit in bytes.
     SpecLimit,
-    /// A specification that is compiled is over its limit.
+    /// A new specification is over the limit of its size.
     SizeLimit,
-    /// The code arena is used up.
+    /// The charges of all compiles are over the words of the code arena.
     ArenaLimit,
-    /// The function table is used up.
+    /// A new function has no row left in the function table.
     TableLimit,
 }
 
@@ -60,17 +60,18 @@ impl TrapKind {
 /// Why the machine stops at an instruction that breaks its own rules.
 #[derive(Clone, Copy, Debug, PartialEq, Eq)]
 pub enum MachineKind {
-    /// A register is used in the delay slot of the load that fills it, or a branch stands in a delay slot.
+    /// A register is used right after the load that fills it, HI or LO is written too soon after it was read,
+    /// or a branch or jump is in a delay slot.
     Hazard,
-    /// A word of the arena is executed before it was flushed.
+    /// A word of the code arena would be executed that isn't flushed since it was last written.
     Stale,
-    /// The word is no instruction of the table.
+    /// The word is outside the instruction table, or a break's code outside the codes of traps.
     Reserved,
-    /// A service is called by no number of the table, or with arguments that it refuses.
+    /// A service's number isn't in the table, or the service refuses its arguments.
     BadService,
-    /// No instruction can be fetched from the address.
+    /// The address isn't a multiple of 4, or is in neither text nor arena.
     Fetch,
-    /// A signed sum or difference doesn't fit 32 bits.
+    /// A signed sum or difference doesn't fit 32 bits, at an instruction that doesn't wrap.
     Overflow,
 }
 
@@ -99,17 +100,17 @@ pub enum Ending {
     Trap(TrapKind),
 }
 
-/// What is counted while a machine runs.
+/// What is counted while a machine runs, over the services that it doesn't refuse.
 #[derive(Clone, Copy, Debug, PartialEq, Eq)]
 pub struct Counts {
-    /// Operations that the builder was asked to emit.
+    /// Builder ops that were emitted.
     pub ops: u64,
-    /// Functions that were published.
+    /// Rows of the function table that were published.
     pub functions: u64,
-    /// Words of code that were written by finished compiles.
+    /// Words of code that finished compiles wrote.
     pub words: u64,
     /// Calls of the flush service.
     pub flushes: u64,
-    /// Registers that have an interval and got a stack slot in place of a machine register.
+    /// Virtual registers that have a live interval and were placed in a stack slot.
     pub spills: u64,
 }

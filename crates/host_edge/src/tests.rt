@@ -1,5 +1,6 @@
 use super::*;
-use std::alloc::Global;
+use std::fs::remove_file;
+use std::process::id;
 use std::test::Fail;
 
 #[test]
@@ -51,16 +52,23 @@ fn a_store_loads_up_to_the_limit(rt: HostRuntime) -> Result<(), Fail> {
     Ok(())
 }
 
+fn is_file(store: &MemStore, path: &str, want: &[u8]) -> bool {
+    match store.file(path) {
+        Some(bytes) => bytes == want,
+        None => false,
+    }
+}
+
 #[test]
 fn a_store_saves_at_its_path_alone(rt: HostRuntime) -> Result<(), Fail> {
     let mut store = MemStore::new(rt.alloc(), &[1])?;
     store.put("a", b"text")?;
     assert_eq!(rt; store.save("b", b"image"), Ok(()));
     assert_eq!(rt; store.save("c", b"half"), Err(SaveFault::Failed));
-    assert_eq!(rt; store.file("a"), Some(b"text".as_slice()));
-    assert_eq!(rt; store.file("b"), Some(b"image".as_slice()));
-    assert_eq!(rt; store.file("c"), Some(b"ha".as_slice()));
-    assert_eq!(rt; store.file("d"), None);
+    assert!(rt; is_file(&store, "a", b"text"));
+    assert!(rt; is_file(&store, "b", b"image"));
+    assert!(rt; is_file(&store, "c", b"ha"), "the first half");
+    assert!(rt; store.file("d").is_none());
     Ok(())
 }
 
@@ -82,26 +90,25 @@ fn streams_pass_bytes_on(rt: HostRuntime) -> Result<(), Fail> {
     Ok(())
 }
 
-// The adapter over files, on devices that each system of this kind has.
+// The adapter over files, at a file of its own and on devices that each system of this kind has.
 #[test]
-fn files_are_loaded_up_to_the_limit(rt: HostRuntime) -> Result<(), Fail> {
-    let alloc: Global = rt.alloc();
-    let mut store = FileStore::new(&rt, alloc);
+fn files_are_saved_and_loaded_up_to_the_limit(rt: HostRuntime) -> Result<(), Fail> {
+    let path = format!(in rt.alloc(); "/tmp/tick_host_edge_{}", id(rt.process()))?;
+    let mut store = FileStore::new(&rt, rt.alloc());
     let mut into = Vec::new(rt.alloc());
+    assert_eq!(rt; store.save(&path, b"abcdef"), Ok(()));
+    assert_eq!(rt; store.save(&path, b"text"), Ok(()));
+    assert_eq!(rt; store.load(&path, &mut into, 5000), Ok(()));
+    assert_eq!(rt; into.as_slice(), b"text".as_slice());
+    remove_file(&rt, &path)?;
     assert_eq!(rt; store.load("/dev/zero", &mut into, 5000), Ok(()));
     assert_eq!(rt; into.len(), 5000);
-    assert_eq!(rt; store.load("/dev/null", &mut into, 5000), Ok(()));
-    assert_eq!(rt; into.len(), 0);
+    assert_eq!(rt; store.load(&path, &mut into, 5000), Err(LoadFault::Failed));
     assert_eq!(rt;
         store.load("/", &mut into, 5000),
         Err(LoadFault::Failed),
         "a directory"
     );
-    assert_eq!(rt;
-        store.load("/dev/no such file", &mut into, 5000),
-        Err(LoadFault::Failed)
-    );
-    assert_eq!(rt; store.save("/dev/null", b"abc"), Ok(()));
     assert_eq!(rt;
         store.save("/dev/full", b"abc"),
         Err(SaveFault::Failed),
