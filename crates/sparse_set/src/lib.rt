@@ -76,12 +76,8 @@ impl SparseSet {
 
     /// The members, each once, in the order in which they came.
     pub fn as_slice(&self) -> &[u32]
-<<<<<<< HEAD
         ensures members { result.now ≡ self.now.members }
         ensures few { length self.now.members ≤ self.now.room }
-=======
-        ensures { result.now ≡ self.now.members }
->>>>>>> 9d8deaf1870fdceb1ec6205fa92c740528ce98d6
     {
         &self.members[..self.count as usize]
     }

@@ -1,8 +1,4 @@
-<<<<<<< HEAD
 use Rattle.std.proofs.Common.{arith, sym, ◌∙◌, ap, subst, ℕ, ◌≡◌, ◌<◌, length, get_or}
-=======
-use Rattle.std.proofs.Common.{arith, sym, ◌∙◌, ap, subst, ℕ, ◌≡◌, ◌<◌, ◌≤◌, length, get_or}
->>>>>>> 9d8deaf1870fdceb1ec6205fa92c740528ce98d6
 use Rattle.std.proofs.lemmas.List.{get_or_read}
 use Rattle.sparse_set.specs.declared.SparseSet.TheInside.{Inside}
 use Rattle.sparse_set.specs.contracts.SparseSet.{the_view}
