@@ -5,3 +5,4 @@ pub mod Programs
 pub mod Whole
 pub mod Turns
 pub mod Nodes
+pub mod Built

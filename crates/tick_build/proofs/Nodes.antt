@@ -42,12 +42,18 @@ item_nodes sum sums answer is = let s = sum_nodes sum is in omega (arith, s)
 pub last_nodes : (answer : List ℕ) → is_sum answer ≡ true → size_of_items (items_of [] answer) ≡ 2 * length answer
 last_nodes answer is = let s = sum_nodes answer is in omega (arith, s)
 
-module _ (sums : List (List ℕ)) (j : ℕ) (sum answer : List ℕ) (within : j < length sums) (here : get_or sums j [] ≡ sum) (all : list_all is_sum (drop j sums) ≡ true) where
-  cut : drop j sums ≡ sum ∷ drop (suc j) sums
-  cut = drop-cons sums j [] within ∙ ap (λ (x : List ℕ). x ∷ drop (suc j) sums) here
+module _ (sums : List (List ℕ)) (j : ℕ) (d sum answer : List ℕ) (within : j < length sums) (here : get_or sums j d ≡ sum) (all : list_all is_sum (drop j sums) ≡ true) where
+  cut : drop j sums ≡ sum ∷ drop (j + 1) sums
+  cut =
+      let e : suc j ≡ j + 1 = omega arith in
+      drop-cons sums j d within ∙ ap (λ (x : List ℕ). x ∷ drop (suc j) sums) here ∙ ap (λ k. sum ∷ drop k sums) e
 
-  pub next_sums : (is_sum sum ≡ true) × (list_all is_sum (drop (suc j) sums) ≡ true)
-  next_sums = both (is_sum sum) (list_all is_sum (drop (suc j) sums)) (ap (list_all is_sum) (sym cut) ∙ all)
+  pub next_sums : (is_sum sum ≡ true) × (list_all is_sum (drop (j + 1) sums) ≡ true)
+  next_sums = both (is_sum sum) (list_all is_sum (drop (j + 1) sums)) (ap (list_all is_sum) (sym cut) ∙ all)
 
-  pub next_nodes : size_of_items (items_of (drop j sums) answer) ≡ 2 * length sum + 1 + size_of_items (items_of (drop (suc j) sums) answer)
-  next_nodes = ap (λ (x : List (List ℕ)). size_of_items (items_of x answer)) cut ∙ item_nodes sum (drop (suc j) sums) answer next_sums.0
+  pub next_nodes : size_of_items (items_of (drop j sums) answer) ≡ 2 * length sum + 1 + size_of_items (items_of (drop (j + 1) sums) answer)
+  next_nodes = ap (λ (x : List (List ℕ)). size_of_items (items_of x answer)) cut ∙ item_nodes sum (drop (j + 1) sums) answer next_sums.0
+
+-- what is taken from both sides of a test
+pub le_shift : (a b left : ℕ) → b ≤ left → nat_le a (left - b) ≡ nat_le (b + a) left
+le_shift a b left le = grind (arith, nat_tests)
