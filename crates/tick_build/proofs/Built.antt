@@ -1,10 +1,11 @@
 -- An accepted text's program is within the bounds, and so the headline holds for its image.
-use Rattle.std.proofs.Common.{◌≡◌, ℕ, zero, suc, ◌+◌, ◌-◌, ◌*◌, ◌<◌, ◌≤◌, Bool, true, false, ◌&&◌, nat_lt, nat_le, List, [], ◌∷◌, ◌++◌, length, Option, Some, None, Ok, Err, refl, sym, ap, ◌∙◌, arith, subst, if◌then◌else◌}
+use Rattle.std.proofs.Common.{◌≡◌, ℕ, zero, suc, ◌+◌, ◌-◌, ◌*◌, ◌<◌, ◌≤◌, Bool, true, false, ◌&&◌, nat_lt, nat_le, List, [], ◌∷◌, ◌++◌, length, Option, Some, None, Ok, Err, IfOk, refl, sym, ap, ◌∙◌, arith, subst, if◌then◌else◌}
 use Rattle.std.specs.declared.result.Result.{Result}
 use Rattle.std.proofs.lemmas.Bool.Decides.{nat_tests}
 use Rattle.std.proofs.lemmas.List.{length-append}
 use Rattle.std.specs.List.{list_all}
 use Rattle.tick_tree.specs.declared.fault.Fault.{Fault}
+use Rattle.tick_tree.specs.declared.fault.Deny.{Deny}
 use Rattle.tick_tree.specs.declared.token.Token.{Token}
 use Rattle.c_lexer.specs.Lex.{tokens}
 use Rattle.staged_meaning.specs.Size.{size_of, size_of_items}
@@ -30,7 +31,7 @@ accepted_some None s e = absurd cc
 accepted_some (Some t) s e = cc
 
 pub built_of : (text : List ℕ) (s : Straight) → straight text ≡ Ok s → is_built s ≡ true
-unfolding straight, straight_of
+unfolding straight straight_of
 built_of text s e = by (tokens text) e
   where
     by : (found : Result (List Token) Fault) → from_tokens text found ≡ Ok s → is_built s ≡ true
@@ -77,7 +78,7 @@ sum_length (n ∷ numbers) rest le =
     let w : length (sum_words (n ∷ numbers)) ≡ 2 + length (add_words numbers) = omega arith in
     omega (arith, e, l, a, w)
 
-short : (sums : List (List ℕ)) (answer : List ℕ) → list_all is_sum sums ≡ true → is_sum answer ≡ true → length (words_of sums answer) ≤ 2 * size_of_items (items_of sums answer)
+short : (sums : List (List ℕ)) (answer : List ℕ) → list_all is_sum sums ≡ true → is_sum answer ≡ true → length (words_of sums answer) ≤ 3 * size_of_items (items_of sums answer)
 short [] answer all is =
     let l = sum_length answer (service_words 10) (long_enough answer is).0 in
     let n = last_nodes answer is in
@@ -105,3 +106,7 @@ builds text s code is same =
       accepted = ap typed_by is;
       headline = headline s (record { outputs = each_sum s.outputs sums.0; answer = sum_is s.answer sums.1 }) (omega (arith, nodes, words));
     })
+
+pub image_builds : (text : List ℕ) (s : Straight) (r : Result Code Deny) → straight text ≡ Ok s → IfOk r (λ code. code ≡ code_of s) → IfOk r (λ code. Builds text code)
+image_builds text s (Ok code) is same = builds text s code is same
+image_builds text s (Err deny) is same = tt
