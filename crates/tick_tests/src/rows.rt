@@ -1,0 +1,101 @@
+//! Whole calls, each named by what it shows.
+
+use host_edge::{MemSink, MemSource, MemStore};
+use std::alloc::{AllocError, Global};
+use std::test::Fail;
+use tick_top::{status, tick};
+
+/// The bytes that each stream takes at most.
+const ROOM: usize = 100;
+
+/// The program that writes `H` and a line feed, and ends with 3.
+const HELLO: &str = "int main(){putchar(72);putchar(10);return 3;}";
+
+// What a call left.
+#[derive(Drop)]
+struct Seen {
+    status: u8,
+    out: Vec<u8>,
+    err: Vec<u8>,
+}
+
+fn words_of(alloc: Global, line: &str) -> Result<Vec<String>, AllocError> {
+    let mut all = Vec::new(alloc);
+    for word in line.split_whitespace() {
+        all.push(String::from_str(alloc, word)?)?;
+    }
+    Ok(all)
+}
+
+fn status_of(
+    alloc: Global,
+    words: &[String],
+    store: &mut MemStore,
+    out: &mut MemSink,
+    err: &mut MemSink,
+) -> Result<u8, AllocError> {
+    let mut input = MemSource::new(alloc, b"", &[])?;
+    let ended = tick(alloc, words, store, &mut input, out, err)?;
+    Ok(status(&ended.outcome))
+}
+
+// A call on a store with the file `text`, whose standard output fails at the listed calls.
+fn seen_after(alloc: Global, line: &str, text: &str, fails: &[u64]) -> Result<Seen, AllocError> {
+    let words = words_of(alloc, line)?;
+    let mut store = MemStore::new(alloc, &[])?;
+    store.put("text", text.as_bytes())?;
+    let mut out = MemSink::new(alloc, ROOM, fails)?;
+    let mut err = MemSink::new(alloc, ROOM, &[])?;
+    let status = status_of(alloc, &words, &mut store, &mut out, &mut err)?;
+    Ok(Seen {
+        status,
+        out: out.taken().to_vec(alloc)?,
+        err: err.taken().to_vec(alloc)?,
+    })
+}
+
+#[test]
+fn hello_ends_with_three(rt: HostRuntime) -> Result<(), Fail> {
+    let seen = seen_after(rt.alloc(), "tick run text", HELLO, &[])?;
+    assert_eq!(rt; seen.status, 3);
+    assert_eq!(rt; seen.out.as_slice(), b"H\n".as_slice());
+    assert_eq!(rt; seen.err.as_slice(), b"".as_slice());
+    Ok(())
+}
+
+#[test]
+fn a_sum_wraps(rt: HostRuntime) -> Result<(), Fail> {
+    let text = "int main(){return 2147483647+2147483647+2;}";
+    let seen = seen_after(rt.alloc(), "tick run text", text, &[])?;
+    assert_eq!(rt; seen.status, 0);
+    Ok(())
+}
+
+#[test]
+fn other_texts_are_unbuilt(rt: HostRuntime) -> Result<(), Fail> {
+    let line = b"tick: line 1: 0 Unbuilt\n".as_slice();
+    let seen = seen_after(rt.alloc(), "tick run text", "int main(){return x;}", &[])?;
+    assert_eq!(rt; seen.status, 65);
+    assert_eq!(rt; seen.err.as_slice(), line);
+    let empty = seen_after(rt.alloc(), "tick run text", "", &[])?;
+    assert_eq!(rt; empty.err.as_slice(), line);
+    Ok(())
+}
+
+#[test]
+fn a_failing_sink_keeps_what_it_took(rt: HostRuntime) -> Result<(), Fail> {
+    let seen = seen_after(rt.alloc(), "tick run text", HELLO, &[1])?;
+    assert_eq!(rt; seen.status, 73);
+    assert_eq!(rt; seen.out.as_slice(), b"H".as_slice());
+    assert_eq!(rt; seen.err.as_slice(), b"tick: write fault\n".as_slice());
+    Ok(())
+}
+
+#[test]
+fn a_missing_file_is_not_loaded(rt: HostRuntime) -> Result<(), Fail> {
+    let seen = seen_after(rt.alloc(), "tick run other", HELLO, &[])?;
+    assert_eq!(rt; seen.status, 66);
+    assert_eq!(rt; seen.out.as_slice(), b"".as_slice());
+    assert_eq!(rt; seen.err.as_slice(), b"tick: cannot load\n".as_slice());
+    Ok(())
+}
