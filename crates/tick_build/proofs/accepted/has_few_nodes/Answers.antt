@@ -31,8 +31,8 @@ loop-sum-preserved c =
       below = omega (arith, c.loop-sum.invariant.below);
       sums = (next_sums sums j c.sum-item.result sum answer c.loop-sum-test.true here c.loop-sum.invariant.sums).1;
       few = le_shift (size_of_items (items_of (drop (j + 1) sums) answer)) (2 * length sum + 1) c.loop-sum.left (omega (arith, c.if-nodes-left.false))
-        ∙ ap (λ k. nat_le k c.loop-sum.left) (sym n)
-        ∙ c.loop-sum.invariant.few;
+          ∙ ap (λ k. nat_le k c.loop-sum.left) (sym n)
+          ∙ c.loop-sum.invariant.few;
     }
 
 pub returns : goal.returns
