@@ -8,9 +8,9 @@ mod search;
 mod sought;
 mod tables;
 
-ghost use Rattle.std.specs.Prelude.{◌≡◌, ◌≤◌, IfOk, length, take};
+ghost use Rattle.std.specs.Prelude.{◌≡◌, ◌<◌, ◌≤◌, IfOk, length, take};
 ghost use Rattle.icode_ops.specs.Finished.{IsFinished};
-ghost use Rattle.icode_ops.specs.Live.{AreIntervals};
+ghost use Rattle.icode_ops.specs.Live.{AreIntervals, Each};
 
 use buckets::Buckets;
 use icode_ops::{Interval, Op};
@@ -78,6 +78,7 @@ impl Live {
         requires room { registers ≤ length out.old }
         ensures intervals { AreIntervals ops.now (take result out.new) }
         ensures few { result ≤ registers }
+        ensures registers { Each (λ x. x.reg < registers) (take result out.new) }
     {
         tables::list_mentions(&mut self.mentions, ops, registers);
         tables::list_jumps(&mut self.jumps, ops, registers);

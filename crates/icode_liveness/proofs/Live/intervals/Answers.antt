@@ -1,11 +1,11 @@
-use Rattle.std.proofs.Common.{arith, sym, ◌∙◌, ap, subst, ℕ, ◌≡◌, ◌≤◌, List, length}
+use Rattle.std.proofs.Common.{arith, sym, ◌∙◌, ap, subst, ℕ, ◌≡◌, ◌<◌, ◌≤◌, List, length, take}
 use Rattle.std.proofs.lemmas.List.{with_items_is}
 use Rattle.icode_ops.specs.declared.op.Op.{Op}
 use Rattle.icode_ops.specs.Finished.{IsFinished}
-use Rattle.icode_ops.specs.Live.{AreIntervals}
+use Rattle.icode_ops.specs.Live.{AreIntervals, IsInterval}
 use Rattle.icode_liveness.specs.Order.{AreStarts, by_start}
 use Rattle.icode_liveness.proofs.Reaching.{at-below}
-use Rattle.icode_liveness.proofs.Sorting.{are-intervals, few-intervals}
+use Rattle.icode_liveness.proofs.Sorting.{are-intervals, few-intervals, each-weaker}
 use Rattle.icode_liveness.proofs.Live.intervals.Goals as goal
 
 few : (ops : List Op) (registers : ℕ) (buckets : List (List ℕ)) (ends read : List ℕ)
@@ -68,3 +68,9 @@ returns-clause-few c =
     c.list_by_start.new.ends c.deref.result.now
     c.requires.finished c.list_by_start.ensures.starts e in
     omega (arith, l, c.write_by_start.ensures.count)
+
+pub returns-clause-registers : goal.returns-clause-registers
+returns-clause-registers c =
+    each-weaker (λ x. IsInterval c.args.ops.now x.reg x.start x.end) (λ x. x.reg < c.args.registers)
+    (λ x i. at-below c.args.ops.now c.args.registers x.reg x.start c.requires.finished i.first)
+    (take c.write_by_start.result c.write_by_start.new.out) (returns-clause-intervals c).each
