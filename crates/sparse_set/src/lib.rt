@@ -76,7 +76,8 @@ impl SparseSet {
 
     /// The members, each once, in the order in which they came.
     pub fn as_slice(&self) -> &[u32]
-        ensures { result.now ≡ self.now.members }
+        ensures members { result.now ≡ self.now.members }
+        ensures few { length self.now.members ≤ self.now.room }
     {
         &self.members[..self.count as usize]
     }

@@ -1,4 +1,4 @@
-use Rattle.std.proofs.Common.{arith, sym, ◌∙◌, ap, subst, ℕ, ◌≡◌, ◌<◌, ◌≤◌, length, get_or}
+use Rattle.std.proofs.Common.{arith, sym, ◌∙◌, ap, subst, ℕ, ◌≡◌, ◌<◌, length, get_or}
 use Rattle.std.proofs.lemmas.List.{get_or_read}
 use Rattle.sparse_set.specs.declared.SparseSet.TheInside.{Inside}
 use Rattle.sparse_set.specs.contracts.SparseSet.{the_view}

@@ -1,0 +1,4 @@
+pub mod Pairs
+pub mod Holding
+pub mod Visiting
+pub mod Ascents
