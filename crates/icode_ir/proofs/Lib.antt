@@ -6,3 +6,4 @@ pub mod Enclosing
 pub mod Leaving
 pub mod Passing
 pub mod Wholes
+pub mod Emitting

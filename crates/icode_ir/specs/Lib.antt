@@ -4,3 +4,4 @@ pub mod Sound
 pub mod Tables
 pub mod Draft
 pub mod Building
+pub mod Runs

@@ -84,7 +84,11 @@ impl LabelTable {
     {
         let placed = self.placed.contains(label);
         self.jumped.insert(label);
-        self.unplaced = if placed { self.unplaced } else { self.unplaced + 1 };
+        self.unplaced = if placed {
+            self.unplaced
+        } else {
+            self.unplaced + 1
+        };
     }
 
     /// The label stands from now on.
@@ -95,6 +99,10 @@ impl LabelTable {
     {
         let jumped = self.jumped.contains(label);
         self.placed.insert(label);
-        self.unplaced = if jumped { self.unplaced - 1 } else { self.unplaced };
+        self.unplaced = if jumped {
+            self.unplaced - 1
+        } else {
+            self.unplaced
+        };
     }
 }

@@ -2,12 +2,14 @@
 #![tactic(auto)]
 
 mod body;
-mod builder;
 mod build_op;
+mod builder;
 mod draft;
 mod emit;
 mod key_table;
 mod label_table;
+#[cfg(test)]
+mod tests;
 
 pub use body::Body;
 pub use build_op::{BuildFault, BuildOp, NotEmpty};

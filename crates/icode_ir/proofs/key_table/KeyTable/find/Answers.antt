@@ -1,4 +1,4 @@
-use Rattle.std.proofs.Common.{sym, ◌∙◌, ap, Some, get_or, length, arith, ◌<◌}
+use Rattle.std.proofs.Common.{sym, ◌∙◌, ap, Some, length, arith, ◌<◌}
 use Rattle.std.proofs.lemmas.List.{get_or_read}
 use Rattle.icode_ir.specs.Build.{find}
 use Rattle.icode_ir.proofs.Keying.{find-in, find-out}

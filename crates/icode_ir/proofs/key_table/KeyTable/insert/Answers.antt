@@ -1,4 +1,4 @@
-use Rattle.std.proofs.Common.{sym, ◌∙◌, ap, Some, ◌++◌, ◌∷◌, [], ◌<◌, length, set, arith}
+use Rattle.std.proofs.Common.{◌∙◌, ap, ◌++◌, ◌∷◌, [], ◌<◌, length, set, arith}
 use Rattle.icode_ir.specs.Build.{find}
 use Rattle.icode_ir.specs.Tables.{with_registers}
 use Rattle.icode_ir.proofs.Keying.{inserted, out-find}

@@ -1,4 +1,4 @@
-use Rattle.std.proofs.Common.{sym, ◌∙◌, ap, cond, refl, ◌+◌, ◌≤◌, length, arith, not}
+use Rattle.std.proofs.Common.{sym, ◌∙◌, ap, cond, ◌+◌, ◌≤◌, length, arith, not}
 use Rattle.sparse_set.specs.Members.{is_in}
 use Rattle.icode_ir.proofs.Marking.{first-jump, tally-length}
 use Rattle.icode_ir.proofs.label_table.LabelTable.jump_first.Goals as goal
@@ -15,8 +15,8 @@ invariant_of-self c =
     let i = c.self.inside in
     let f = ap (λ m. is_in c.args.label m.jumped) c.self.view_is ∙ c.requires.first in
     elim c.if-placed.branch [
-      then-placed w ↦ first-jump i.jumped i.placed c.insert.new.self i.unplaced c.if-placed.self c.args.label c.self.invariant f c.insert.ensures
-        (w.self-is ∙ ap (λ b. cond b i.unplaced (i.unplaced + 1)) (sym w.if-placed.true ∙ c.contains-placed.ensures))
+      | then-placed w ↦ first-jump i.jumped i.placed c.insert.new.self i.unplaced c.if-placed.self c.args.label c.self.invariant f c.insert.ensures
+          (w.self-is ∙ ap (λ b. cond b i.unplaced (i.unplaced + 1)) (sym w.if-placed.true ∙ c.contains-placed.ensures))
       | else-placed w ↦ first-jump i.jumped i.placed c.insert.new.self i.unplaced c.if-placed.self c.args.label c.self.invariant f c.insert.ensures
-        (w.self-is ∙ ap (λ b. cond b i.unplaced (i.unplaced + 1)) (sym w.if-placed.false ∙ c.contains-placed.ensures))
+          (w.self-is ∙ ap (λ b. cond b i.unplaced (i.unplaced + 1)) (sym w.if-placed.false ∙ c.contains-placed.ensures))
     ]
