@@ -1,0 +1,45 @@
+use Rattle.std.proofs.Common.{◌≡◌, ◌<◌, ◌≤◌, ◌+◌, ◌∷◌, [], ◌++◌, length, arith, rules, ◌∙◌, sym, ap, refl, drop, Err}
+use Rattle.c_lexer.specs.declared.pieces.Piece.TheVariants.{Gap, Taken, Bad}
+use Rattle.c_lexer.specs.Lex.{Within, piece, max_tokens, token_at}
+use Rattle.c_lexer.proofs.Laws.{to_come, comes_gap, comes_taken, comes_full, comes_bad, comes_nothing}
+use Rattle.c_lexer.proofs.walk.tokens.Goals as goal
+
+pub loop-piece-preserved-in-Gap : goal.loop-piece-preserved-in-Gap
+loop-piece-preserved-in-Gap c =
+    let here : piece (drop c.loop-piece.walk.at c.args.text.now) ≡ Gap c.in-Gap.n = cc (c.in-Some.ensures.here) in
+    let within = rw c.in-Gap.is at c.in-Some.ensures.within in
+    let some : c.loop-piece.walk.at < length c.args.text.now = omega (arith, c.in-Some.ensures.some, ap length c.loop-piece.invariant.text) in
+    let goes = comes_gap c.args.text.now c.loop-piece.found.items c.loop-piece.walk.at c.in-Gap.n some here within.0 in
+    record {
+      text = (cc);
+      same = ap (to_come c.args.text.now c.loop-piece.found.items) c.pass.ensures.at ∙ goes ∙ c.loop-piece.invariant.same;
+    }
+
+pub returns-then-len-ge-MAX_TOKENS : goal.returns-then-len-ge-MAX_TOKENS
+returns-then-len-ge-MAX_TOKENS c =
+    let here : piece (drop c.loop-piece.walk.at c.args.text.now) ≡ Taken c.in-Taken.kind c.in-Taken.n = cc (c.in-Some.ensures.here) in
+    let some : c.loop-piece.walk.at < length c.args.text.now = omega (arith, c.in-Some.ensures.some, ap length c.loop-piece.invariant.text) in
+    let full : max_tokens ≤ length c.loop-piece.found.items = omega (arith, c.loop-piece.found.ok.0) in
+    let goes = comes_full c.args.text.now c.loop-piece.found.items c.loop-piece.walk.at c.in-Taken.kind c.in-Taken.n some here full in
+    sym c.loop-piece.invariant.same ∙ goes ∙ ap Err (cc (c.fault.ensures))
+
+pub loop-piece-preserved : goal.loop-piece-preserved
+loop-piece-preserved c =
+    let here : piece (drop c.loop-piece.walk.at c.args.text.now) ≡ Taken c.in-Taken.kind c.in-Taken.n = cc (c.in-Some.ensures.here) in
+    let within = rw c.in-Taken.is at c.in-Some.ensures.within in
+    let some : c.loop-piece.walk.at < length c.args.text.now = omega (arith, c.in-Some.ensures.some, ap length c.loop-piece.invariant.text) in
+    let few : length c.loop-piece.found.items < max_tokens = omega (arith, c.loop-piece.found.ok.0) in
+    let goes = comes_taken c.args.text.now c.loop-piece.found.items c.loop-piece.walk.at c.in-Taken.kind c.in-Taken.n some here within.0 few in
+    let t : c.token.result ≡ token_at c.args.text.now c.in-Taken.kind c.loop-piece.walk.at c.in-Taken.n = cc (c.token.ensures) in
+    let items : c.push.new.self.items ≡ c.loop-piece.found.items ++ token_at c.args.text.now c.in-Taken.kind c.loop-piece.walk.at c.in-Taken.n ∷ [] = c.in_ok-push-in-Taken.ensures.items ∙ ap (λ t. c.loop-piece.found.items ++ t ∷ []) t in
+    record {
+      text = (cc);
+      same = rw (items, c.pass-in-Taken.ensures.at) (goes ∙ c.loop-piece.invariant.same);
+    }
+
+pub returns-in-Bad : goal.returns-in-Bad
+returns-in-Bad c =
+    let here : piece (drop c.loop-piece.walk.at c.args.text.now) ≡ Bad c.in-Bad.kind = cc (c.in-Some.ensures.here) in
+    let some : c.loop-piece.walk.at < length c.args.text.now = omega (arith, c.in-Some.ensures.some, ap length c.loop-piece.invariant.text) in
+    let goes = comes_bad c.args.text.now c.loop-piece.found.items c.loop-piece.walk.at c.in-Bad.kind some here in
+    sym c.loop-piece.invariant.same ∙ goes ∙ ap Err (cc (c.fault-in-Bad.ensures))

@@ -1,0 +1,138 @@
+//! The walk over a text.
+
+ghost use Rattle.std.specs.Prelude.{◌≡◌, ◌+◌, ◌-◌, ◌<◌, ◌≤◌, length, drop, IfSome, IfNone};
+ghost use Rattle.tick_tree.specs.Faults.{Answers};
+ghost use Rattle.c_lexer.specs.Lex as spec;
+
+use crate::pieces::{Piece, piece_of};
+use std::alloc::Global;
+use tick_tree::{Deny, Fault, FaultKind, Token, TokenKind};
+
+/// A place in a text.
+#[derive(Drop)]
+struct Walk<'a> {
+    text: &'a [u8],
+    at: usize,
+    line: u32,
+    ghost small: { length text.now ≤ 1048576 },
+    ghost within: { at ≤ length text.now },
+    ghost lined: { line ≡ spec.line_at text.now at },
+}
+
+impl<'a> Walk<'a> {
+    fn new(text: &'a [u8]) -> Walk<'a>
+        requires { length text.now ≤ 1048576 }
+        ensures text { result.text.now ≡ text.now }
+        ensures at { result.at ≡ 0 }
+    {
+        Walk {
+            text,
+            at: 0,
+            line: 1,
+        }
+    }
+
+    // What stands here, unless the text ends.
+    fn piece(&self) -> Option<Piece>
+        ensures here { IfSome result (λ p. p ≡ spec.piece (drop self.now.at self.now.text.now)) }
+        ensures within { IfSome result (spec.Within (length self.now.text.now - self.now.at)) }
+        ensures some { IfSome result (λ p. self.now.at < length self.now.text.now) }
+        ensures none { IfNone result (self.now.at ≡ length self.now.text.now) }
+    {
+        if self.at == self.text.len() {
+            return None;
+        }
+        Some(piece_of(&self.text[self.at..]))
+    }
+
+    // The token of this kind and length here.
+    fn token(&self, kind: TokenKind, len: usize) -> Token
+        requires { len ≤ length self.now.text.now }
+        ensures { result ≡ spec.token_at self.now.text.now kind self.now.at len }
+    {
+        Token {
+            kind,
+            at: self.at as u32,
+            len: len as u32,
+            line: self.line,
+        }
+    }
+
+    // The fault of this kind here.
+    fn fault(&self, kind: FaultKind) -> Fault
+        ensures { result ≡ spec.fault_at self.now.text.now kind self.now.at }
+    {
+        Fault {
+            kind,
+            line: self.line,
+            token: 0,
+        }
+    }
+
+    // Goes on by `n` bytes.
+    fn pass(&mut self, n: usize)
+        requires { self.old.at + n ≤ length self.old.text.now }
+        ensures text { self.new.text.now ≡ self.old.text.now }
+        ensures at { self.new.at ≡ self.old.at + n }
+    {
+        for _ in 0..n {
+            if self.text[self.at] == b'\n' {
+                self.line += 1;
+            }
+            self.at += 1;
+        }
+    }
+}
+
+/// The most tokens that a text may have.
+pub const MAX_TOKENS: usize = 262144;
+
+/// The tokens of a text of at most 1,048,576 bytes, in text order, or its first fault: a byte that begins nothing, a comment
+/// or literal that isn't closed, a wrong escape, a number over 4,294,967,295, or one token over [`MAX_TOKENS`]. The fault has
+/// the line on which its piece begins.
+pub fn tokens(alloc: Global, text: &[u8]) -> Result<Vec<Token>, Deny>
+    requires { length text.now ≤ 1048576 }
+    ensures { Answers (λ v. v.items) result (spec.tokens text.now) }
+{
+    let mut found = Vec::new(alloc);
+    let mut walk = Walk::new(text);
+    while let Some(piece) = walk.piece() {
+        match piece {
+            Piece::Gap(n) => walk.pass(n),
+            Piece::Taken(kind, n) => {
+                if found.len() >= MAX_TOKENS {
+                    return Err(Deny::Refused(walk.fault(FaultKind::TooManyTokens)));
+                }
+                found.push(walk.token(kind, n))?;
+                walk.pass(n);
+            }
+            Piece::Bad(kind) => return Err(Deny::Refused(walk.fault(kind))),
+        }
+    }
+    Ok(found)
+}
+
+#[cfg(test)]
+mod tests {
+    use super::*;
+
+    #[test]
+    fn cuts_a_text(rt: HostRuntime) {
+        let found = tokens(rt.alloc(), b"a+++b /*\n*/ 08").unwrap_or_else(|_| Vec::new(rt.alloc()));
+        assert!(rt; found.len() == 6);
+        assert!(rt; found[1].kind == TokenKind::Sign && found[1].at == 1 && found[1].len == 2);
+        assert!(rt; found[3].kind == TokenKind::Name && found[3].at == 4 && found[3].line == 1);
+        assert!(rt; found[5].kind == TokenKind::Number && found[5].len == 1 && found[5].line == 2);
+        let wrong = tokens(rt.alloc(), b"\n '\\400'");
+        assert!(rt;
+            matches!(
+                &wrong,
+                Err(Deny::Refused(Fault {
+                    kind: FaultKind::BadEscape,
+                    line: 2,
+                    token: 0
+                }))
+            )
+        );
+    }
+}

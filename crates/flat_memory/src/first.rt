@@ -1,0 +1,57 @@
+//! What the regions hold at first.
+
+ghost use Rattle.std.specs.Prelude.{◌≡◌, ◌+◌, ◌*◌, ◌/◌, ◌%◌, ◌-◌, ℕ, ◌<◌, ◌≤◌, length, slice_index, IfOk, Ok, Err};
+ghost use Rattle.word32.specs.Bytes.{word_in};
+
+use std::alloc::{AllocError, Global};
+use word32::{be_read, map};
+
+/// So many words that are 0.
+pub fn zero_words(alloc: Global, count: usize) -> Result<Vec<u32>, AllocError>
+    ensures length { IfOk result (λ v. length v.items ≡ count) }
+    ensures zero { IfOk result (λ v. (i : ℕ) → slice_index v.items i ≡ 0) }
+{
+    vec![in alloc; 0; count]
+}
+
+/// A byte, and 0 behind the last.
+fn byte_or_zero(bytes: &[u8], i: usize) -> u32
+    ensures { result ≡ slice_index bytes.now i }
+{
+    if i < bytes.len() { bytes[i] as u32 } else { 0 }
+}
+
+/// The word in the four bytes from a place on, the most significant first; bytes behind the last are 0.
+fn word_at(bytes: &[u8], at: usize) -> u32
+    requires { at < length bytes.now }
+    ensures { result ≡ word_in bytes.now at }
+{
+    if bytes.len() - at >= 4 {
+        return be_read(bytes, at);
+    }
+    let high = bytes[at] as u32 * 16777216;
+    high + byte_or_zero(bytes, at + 1) * 65536 + byte_or_zero(bytes, at + 2) * 256
+}
+
+/// Writes the bytes into words, the most significant byte of each first.
+fn fill(words: &mut [u32], bytes: &[u8])
+    requires room { length bytes.now ≤ 4 * length words.old }
+    requires zero { (i : ℕ) → slice_index words.old i ≡ 0 }
+    ensures { (i : ℕ) → slice_index words.new i ≡ word_in bytes.now (4 * i) }
+{
+    let count = bytes.len().div_ceil(4);
+    for i in 0..count {
+        words[i] = word_at(bytes, 4 * i);
+    }
+}
+
+/// The words of the objects, which begin with these bytes; all else is 0.
+pub fn object_words(alloc: Global, bytes: &[u8]) -> Result<Vec<u32>, AllocError>
+    requires { length bytes.now ≤ 4194304 }
+    ensures length { IfOk result (λ v. length v.items ≡ 4194304) }
+    ensures words { IfOk result (λ v. (i : ℕ) → slice_index v.items i ≡ word_in bytes.now (4 * i)) }
+{
+    let mut words = zero_words(alloc, (map::OBJECT_BYTES / 4) as usize)?;
+    fill(&mut words, bytes);
+    Ok(words)
+}

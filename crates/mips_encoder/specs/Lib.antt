@@ -1,0 +1,5 @@
+pub mod LinkRegisters
+pub mod Codes
+pub mod Fields
+pub mod Table
+pub mod Decoded

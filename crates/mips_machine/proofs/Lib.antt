@@ -1,0 +1,5 @@
+pub mod Zeros
+pub mod More
+pub mod Steps
+pub mod Acts
+pub mod Grows

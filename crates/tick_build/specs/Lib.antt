@@ -1,0 +1,5 @@
+pub mod Straight
+pub mod Grammar
+pub mod Words
+pub mod Headline
+pub mod Texts

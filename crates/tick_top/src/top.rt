@@ -1,0 +1,102 @@
+//! The call that does what the words of a command line say.
+ghost use Rattle.std.specs.Prelude.{◌≡◌, ◌⊎◌, ◌↔◌, ℕ, map, string_bytes, IfOk, OnErr, Err};
+ghost use Rattle.std.specs.Io.KnownBytes.{Keeps};
+ghost use Rattle.host_edge.specs.Causes.{Rose};
+ghost use Rattle.tick_top.specs.Said.{order_of};
+ghost use Rattle.tick_top.specs.Does.{Unwritten, Cause, outside, counts};
+ghost use Rattle.tick_top.specs.Top.{Performs, Reports, Ticked, unsaid};
+
+use crate::commands::{bare, obey};
+use crate::{Ended, Outcome, command_of, line_of};
+use host_edge::{Sink, Source, Store, write_whole};
+use std::alloc::{AllocError, Global};
+
+// Does what the words say.
+fn perform<S: Store, I: Source, O: Sink>(
+    alloc: Global,
+    words: &[String],
+    store: &mut S,
+    input: &mut I,
+    out: &mut O,
+) -> Result<Ended, AllocError>
+    ensures does { IfOk result (Performs (map string_bytes words.now) (outside (S.file store.old) (I.left input.old) (O.taken out.old)) (outside (S.file store.new) (I.left input.new) (O.taken out.new))) }
+    ensures cause { IfOk result (λ e. Cause e.outcome (counts (S.faults store.old) (I.faults input.old) (O.faults out.old)) (counts (S.faults store.new) (I.faults input.new) (O.faults out.new))) }
+    ensures none { OnErr result (Unwritten (outside (S.file store.old) (I.left input.old) (O.taken out.old)) (outside (S.file store.new) (I.left input.new) (O.taken out.new))) }
+{
+    match command_of(words) {
+        Ok(command) => obey(alloc, command, store, input, out),
+        Err(place) => Ok(bare(Outcome::BadWords(place))),
+    }
+}
+
+// What an outcome becomes where standard error fails.
+fn unsaid(outcome: Outcome) -> Outcome
+    ensures { result ≡ unsaid outcome }
+{
+    match outcome {
+        Outcome::Done(_) => Outcome::WriteFault,
+        other => other,
+    }
+}
+
+// Says the outcome on standard error, and what it then is.
+fn report<E: Sink>(err: &mut E, outcome: Outcome) -> Outcome
+    ensures { Reports outcome result (E.taken err.old) (E.taken err.new) (E.faults err.old) (E.faults err.new) }
+{
+    let line = line_of(&outcome);
+    match write_whole(err, line.as_bytes()) {
+        Ok(()) => outcome,
+        Err(_) => unsaid(outcome),
+    }
+}
+
+// The whole of a call.
+fn whole<S: Store, I: Source, O: Sink, E: Sink>(
+    alloc: Global,
+    words: &[String],
+    store: &mut S,
+    input: &mut I,
+    out: &mut O,
+    err: &mut E,
+) -> Result<Ended, AllocError>
+    ensures did { IfOk result (Ticked (map string_bytes words.now)
+        (outside (S.file store.old) (I.left input.old) (O.taken out.old))
+        (outside (S.file store.new) (I.left input.new) (O.taken out.new))
+        (counts (S.faults store.old) (I.faults input.old) (O.faults out.old))
+        (counts (S.faults store.new) (I.faults input.new) (O.faults out.new))
+        (E.taken err.old) (E.taken err.new) (E.faults err.old) (E.faults err.new)) }
+    ensures no_memory { OnErr result (Keeps (E.taken err.old) (E.taken err.new)
+        × Unwritten (outside (S.file store.old) (I.left input.old) (O.taken out.old)) (outside (S.file store.new) (I.left input.new) (O.taken out.new))) }
+{
+    let mut ended = perform(alloc, words, store, input, out)?;
+    ended.outcome = report(err, ended.outcome);
+    Ok(ended)
+}
+
+/// Does what the words of a command line say, word 0 being the name of the program, and reports the outcome on `err`.
+/// After want of memory nothing was written or saved.
+pub fn tick<S: Store, I: Source, O: Sink, E: Sink>(
+    alloc: Global,
+    words: &[String],
+    store: &mut S,
+    input: &mut I,
+    out: &mut O,
+    err: &mut E,
+) -> Result<Ended, AllocError>
+    ensures did { IfOk result (Ticked (map string_bytes words.now)
+        (outside (S.file store.old) (I.left input.old) (O.taken out.old))
+        (outside (S.file store.new) (I.left input.new) (O.taken out.new))
+        (counts (S.faults store.old) (I.faults input.old) (O.faults out.old))
+        (counts (S.faults store.new) (I.faults input.new) (O.faults out.new))
+        (E.taken err.old) (E.taken err.new) (E.faults err.old) (E.faults err.new)) }
+    ensures bad_words { IfOk result (λ e. (place : ℕ) → (e.outcome ≡ Outcome.BadWords place) ↔ (order_of (map string_bytes words.now) ≡ Err place)) }
+    ensures load_fault { IfOk result (λ e. e.outcome ≡ Outcome.LoadFault → Rose (S.faults store.old) (S.faults store.new)) }
+    ensures save_fault { IfOk result (λ e. e.outcome ≡ Outcome.SaveFault → Rose (S.faults store.old) (S.faults store.new)) }
+    ensures read_fault { IfOk result (λ e. e.outcome ≡ Outcome.ReadFault → Rose (I.faults input.old) (I.faults input.new)) }
+    ensures write_fault { IfOk result (λ e. e.outcome ≡ Outcome.WriteFault → Rose (O.faults out.old) (O.faults out.new) ⊎ Rose (E.faults err.old) (E.faults err.new)) }
+    ensures done { IfOk result (λ e. (s : ℕ) → e.outcome ≡ Outcome.Done s → (S.faults store.new ≡ S.faults store.old) × (I.faults input.new ≡ I.faults input.old) × (O.faults out.new ≡ O.faults out.old) × (E.faults err.new ≡ E.faults err.old)) }
+    ensures no_memory { OnErr result (Keeps (E.taken err.old) (E.taken err.new)
+        × Unwritten (outside (S.file store.old) (I.left input.old) (O.taken out.old)) (outside (S.file store.new) (I.left input.new) (O.taken out.new))) }
+{
+    whole(alloc, words, store, input, out, err)
+}
