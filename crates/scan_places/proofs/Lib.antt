@@ -3,6 +3,7 @@ pub mod Keepers
 pub mod Free
 pub mod Places
 pub mod Spill
+pub mod Ranges
 pub mod Ends
 pub mod Crowding
 pub mod Lists

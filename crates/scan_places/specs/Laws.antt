@@ -5,6 +5,7 @@ use Rattle.std.specs.Prelude.{ℕ, ◌≡◌, ◌≢◌, ◌<◌, ◌≤◌, ◌
 use Rattle.icode_ops.specs.declared.interval.Interval.{Interval}
 use Rattle.icode_ops.specs.declared.op.Op.{Op}
 use Rattle.icode_ops.specs.Live.{In, Each, Before, Sorted, AreIntervals}
+use Rattle.icode_ops.specs.Finished.{IsFinished}
 use Rattle.icode_ops.specs.Places.{IsLegal}
 use Rattle.scan_places.specs.Lists.{Pairs}
 use Rattle.scan_places.specs.Scan.{Keeper, scan, place, places_of}
@@ -63,6 +64,12 @@ PlacesAreApart =
 -- the intervals of the registers of a list of ops can be scanned
 abbrev pub IntervalsAreScannable : Type 0
 IntervalsAreScannable = (ops : List Op) (xs : List Interval) → AreIntervals ops xs → AreScannable xs
+
+-- the intervals of a finished list of ops are those of its registers
+abbrev pub IntervalsAreInRange : Type 0
+IntervalsAreInRange =
+    (ops : List Op) (registers : ℕ) (xs : List Interval) → IsFinished ops registers → AreIntervals ops xs →
+    Each (λ x. x.reg < registers) xs
 
 -- the places of the intervals of a list of ops are legal for it
 abbrev pub PlacesAreLegal : Type 0

@@ -4,11 +4,17 @@
 //! its contract is the statement, so that callers have it by a call.
 #![tactic(auto)]
 
-ghost use Rattle.scan_places.specs.Laws.{IntervalsAreScannable, KeepersAreByEnd, PlacesAreApart, PlacesAreLegal, SpillsAreCrowded};
+ghost use Rattle.scan_places.specs.Laws.{IntervalsAreInRange, IntervalsAreScannable, KeepersAreByEnd};
+ghost use Rattle.scan_places.specs.Laws.{PlacesAreApart, PlacesAreLegal, SpillsAreCrowded};
 
 /// The intervals of the registers of a list of ops can be scanned: they are sorted, whole and of different registers.
 pub fn intervals_are_scannable()
     ensures { IntervalsAreScannable }
+{}
+
+/// The intervals of a finished list of ops are those of its registers, so the scan may write a place for each.
+pub fn intervals_are_in_range()
+    ensures { IntervalsAreInRange }
 {}
 
 /// The keepers stand by their ends, and those with equal ends in the order of their visits, so the last of them is the
