@@ -211,33 +211,20 @@ impl Scopes {
 mod tests {
     use super::*;
     use crate::conversions::{common, converts, promoted, same};
+    use crate::copies::copy;
     use crate::ctype::{Base, Integer, Layer};
     use crate::sizes::limited_size;
-    use sqlite_items::Items;
-
-    // The type of these layers over a base.
-    fn of(base: Base, layers: Vec<Layer>) -> CType {
-        CType {
-            base,
-            layers: Items::from_vec(layers),
-        }
-    }
 
     #[test]
     fn rules_on_types(rt: HostRuntime) {
-        let char = Base::Integer(Integer::Char);
-        let short = vec![in rt.alloc(); Layer::Pointer, Layer::Array(3)].expect(&rt, "memory");
-        let row = of(char, short);
-        assert!(rt; limited_size(&row) == Some(12) && same(&row, &row));
-        let pointer = of(
-            char,
-            vec![in rt.alloc(); Layer::Pointer].expect(&rt, "memory"),
-        );
-        let any = of(
-            Base::Void,
-            vec![in rt.alloc(); Layer::Pointer].expect(&rt, "memory"),
-        );
-        let letter = of(char, Vec::new(rt.alloc()));
+        let letter = CType::new(rt.alloc(), Base::Integer(Integer::Char));
+        let pointer = copy(rt.alloc(), &letter).expect(&rt, "memory");
+        let pointer = pointer.with(Layer::Pointer).expect(&rt, "memory");
+        let row = copy(rt.alloc(), &pointer).expect(&rt, "memory");
+        let row = row.with(Layer::Array(3)).expect(&rt, "memory");
+        assert!(rt; limited_size(&row) == Some(12) && same(&row, &row) && !same(&row, &pointer));
+        let any = CType::new(rt.alloc(), Base::Void);
+        let any = any.with(Layer::Pointer).expect(&rt, "memory");
         assert!(rt; converts(&pointer, &any, false) && !converts(&letter, &any, false));
         assert!(rt; converts(&letter, &any, true) && !same(&pointer, &letter));
         assert!(rt; promoted(Integer::UnsignedShort) == Integer::Int);
@@ -250,12 +237,12 @@ mod tests {
         let mut scopes = Scopes::new(rt.alloc()).expect(&rt, "memory");
         let outer = Meaning {
             kind: MeaningKind::Global,
-            ctype: of(int, Vec::new(rt.alloc())),
+            ctype: CType::new(rt.alloc(), int),
             index: 1,
         };
         let inner = Meaning {
             kind: MeaningKind::Variable,
-            ctype: of(int, Vec::new(rt.alloc())),
+            ctype: CType::new(rt.alloc(), int),
             index: 2,
         };
         assert!(rt; scopes.declare(b"x", outer).is_ok());
