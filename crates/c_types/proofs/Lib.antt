@@ -1,0 +1,4 @@
+pub mod Lookups
+pub mod SameLaws
+pub mod SizeLaws
+pub mod Stack
