@@ -9,7 +9,7 @@ ghost use Rattle.c_grammar.specs.Statements.{inner, room_of};
 ghost use Rattle.c_grammar.specs.Nests.{Nests};
 
 use crate::lists::{begins_suffix, opens, prefixes};
-use c_grammar::{Grammar, Kind, Mark, Mode, Part, Stop, Tokens, base, is_void};
+use c_grammar::{Grammar, Kind, Mark, Mode, Part, Stop, Tokens, base, enter, is_void};
 use sqlite_items::{Boxed, Items};
 use std::alloc::Global;
 use tick_tree::{Core, Declarator, Expr, OptionalExpr, Parameter, Prefix, Stmt, Suffix};
@@ -32,10 +32,7 @@ impl<
         requires room { room ≤ self.now.grammar.limit }
         ensures { Reads (spec.inner_declarator mode (room_of room) tokens.old) result tokens.new }
     {
-        if room == 0 {
-            return Err(tokens.too_deep());
-        }
-        tokens.take();
+        enter(tokens, room)?;
         let found = self.grammar.inner_declarator(tokens, room - 1, mode)?;
         tokens.expect(Mark::ParenClose)?;
         Ok(Core::Paren(Boxed::new(self.grammar.alloc, found)?))
@@ -78,10 +75,7 @@ impl<
         requires room { room ≤ self.now.grammar.limit }
         ensures { Reads (spec.array (room_of room) tokens.old) result tokens.new }
     {
-        if room == 0 {
-            return Err(tokens.too_deep());
-        }
-        tokens.take();
+        enter(tokens, room)?;
         Ok(Suffix::Array(self.length(tokens, room - 1)?))
     }
 
@@ -140,10 +134,7 @@ impl<
         requires room { room ≤ self.now.grammar.limit }
         ensures { Reads (spec.list (room_of room) tokens.old) result tokens.new }
     {
-        if room == 0 {
-            return Err(tokens.too_deep());
-        }
-        tokens.take();
+        enter(tokens, room)?;
         self.parameters(tokens, room - 1)
     }
 

@@ -20,8 +20,8 @@ use Rattle.c_grammar.specs.declared.grammar.Part.{Part}
 use Rattle.c_grammar.specs.declared.grammar.Part.TheVariants as part
 use Rattle.c_grammar.specs.declared.grammar.Postfix.{Postfix}
 use Rattle.c_grammar.specs.declared.grammar.Postfix.TheVariants as postfix_of
-use Rattle.c_grammar.specs.Input.{Input, Outcome, Parser, ◌>>=◌, ◌>>◌, ◌<$>◌, pure, refuse, too_deep, peek, peek_second, at_line, take_token, sees, eat, expect, kind, line, value, unsigned, text, next, is_mark}
-use Rattle.c_grammar.specs.Steps.{Inner, Room, deeper, within, from, in_parens, separated, closed, chain}
+use Rattle.c_grammar.specs.Input.{Input, Outcome, Parser, ◌>>=◌, ◌>>◌, ◌<$>◌, pure, refuse, peek, peek_second, at_line, take_token, sees, eat, expect, kind, line, value, unsigned, text, next, is_mark}
+use Rattle.c_grammar.specs.Steps.{Inner, Room, within, from, enter, in_parens, separated, closed, chain}
 use Rattle.c_grammar.specs.Bases.{is_base}
 use Rattle.c_grammar.specs.Declarators.{typename}
 
@@ -106,14 +106,27 @@ block room = from m.BraceOpen (within room (λ r. closed r.stmt))
 unfoldable pub parenthesized : Room → Parser Expr
 parenthesized room = in_parens room (λ r. do x ← r.expr; expect m.ParenClose; pure x)
 
-unfoldable pub compile_rest : ℕ → Room → Parser Expr
-compile_rest n room = in_parens room (λ r. do x ← r.assign; expect m.Comma; t ← typename r; expect m.ParenClose; pure (e.Compile n x t))
+unfoldable pub compile_inner : ℕ → Inner → Parser Expr
+compile_inner n r = do
+  x ← r.assign
+  expect m.Comma
+  t ← typename r
+  expect m.ParenClose
+  pure (e.Compile n x t)
 
-unfoldable pub local_rest : ℕ → Room → Parser Expr
-local_rest n room = in_parens room (λ r. do t ← typename r; expect m.ParenClose; pure (e.Local n t))
+unfoldable pub local_inner : ℕ → Inner → Parser Expr
+local_inner n r = do
+  t ← typename r
+  expect m.ParenClose
+  pure (e.Local n t)
 
-unfoldable pub param_rest : ℕ → Room → Parser Expr
-param_rest n room = in_parens room (λ r. do t ← typename r; expect m.Comma; x ← r.assign; expect m.ParenClose; pure (e.Param n t x))
+unfoldable pub param_inner : ℕ → Inner → Parser Expr
+param_inner n r = do
+  t ← typename r
+  expect m.Comma
+  x ← r.assign
+  expect m.ParenClose
+  pure (e.Param n t x)
 
 -- what follows the word at this place
 abbrev pub behind_word : {A : Type 0} → (ℕ → Parser A) → Parser A
@@ -122,14 +135,18 @@ behind_word f = do
   take_token
   f n
 
+-- a word, and what follows it in parentheses
+unfoldable pub worded : (ℕ → Inner → Parser Expr) → Room → Parser Expr
+worded f room = behind_word (λ n. in_parens room (f n))
+
 abbrev pub primary_by : Room → Kind → Parser Expr
 primary_by room k.Name = name
 primary_by room k.Number = number
 primary_by room k.Character = character
 primary_by room k.String = e.String <$> strings []
-primary_by room k.Compile = behind_word (λ n. compile_rest n room)
-primary_by room k.Local = behind_word (λ n. local_rest n room)
-primary_by room k.Param = behind_word (λ n. param_rest n room)
+primary_by room k.Compile = worded compile_inner room
+primary_by room k.Local = worded local_inner room
+primary_by room k.Param = worded param_inner room
 primary_by room (k.Mark m.ParenOpen) = e.Paren <$> parenthesized room
 primary_by room _ = refuse
 
@@ -153,19 +170,32 @@ postfix room = primary room >>= chain postfix_kind postfix_step room
 -- ---- unary operators
 
 -- behind a backquote, which is a level
-abbrev pub ticked : Inner → Room → ℕ → Parser Expr
-ticked r rs n = λ i. if sees m.BraceOpen i then (e.TickBlock n <$> block rs) i else (e.Tick n <$> r.unary) i
+abbrev pub ticked : ℕ → Inner → Room → Parser Expr
+ticked n r rs = λ i. if sees m.BraceOpen i then (e.TickBlock n <$> block rs) i else (e.Tick n <$> r.unary) i
 
 -- at a backquote
-abbrev pub tick : Room → Parser Expr
-tick [] = too_deep
-tick (r ∷ rs) = behind_word (ticked r rs)
+unfoldable pub tick : Room → Parser Expr
+tick room = do
+  n ← at_line
+  p ← enter room
+  ticked n p.0 p.1
 
-abbrev pub cast : Room → Parser Expr
-cast room = at_line >>= (λ n. within room (λ r. do t ← typename r; expect m.ParenClose; x ← r.unary; pure (e.Cast n t x)))
+-- behind the `(` of a cast
+unfoldable pub cast_inner : ℕ → Inner → Parser Expr
+cast_inner n r = do
+  t ← typename r
+  expect m.ParenClose
+  x ← r.unary
+  pure (e.Cast n t x)
 
-unfoldable pub sizeof_rest : ℕ → Room → Parser Expr
-sizeof_rest n room = in_parens room (λ r. do t ← typename r; expect m.ParenClose; pure (e.Sizeof n t))
+unfoldable pub cast : Room → Parser Expr
+cast room = at_line >>= (λ n. within room (cast_inner n))
+
+unfoldable pub sizeof_inner : ℕ → Inner → Parser Expr
+sizeof_inner n r = do
+  t ← typename r
+  expect m.ParenClose
+  pure (e.Sizeof n t)
 
 abbrev pub prefixed : Room → Option UnaryOp → Parser Expr
 prefixed room (Some o) = at_line >>= (λ n. within room (λ r. e.Unary n o <$> r.unary))
@@ -174,7 +204,7 @@ prefixed room None = postfix room
 -- a `(` begins a cast where a base follows
 abbrev pub unary_by : Room → Kind → Parser Expr
 unary_by room k.Backquote = tick room
-unary_by room k.Sizeof = behind_word (λ n. sizeof_rest n room)
+unary_by room k.Sizeof = worded sizeof_inner room
 unary_by room (k.Mark m.ParenOpen) = peek_second >>= (λ kind. if is_base kind then cast room else postfix room)
 unary_by room kind = prefixed room (unary_of kind)
 

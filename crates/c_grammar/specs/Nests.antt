@@ -1,5 +1,5 @@
 -- Function values that parse what stands deeper.
-use Rattle.std.specs.Prelude.{ℕ, ◌<◌, Result}
+use Rattle.std.specs.Prelude.{◌≡◌, ℕ, ◌<◌, ◌-◌, Result, Ok, Err}
 use Rattle.std.specs.declared.alloc.Global.{Global}
 use denote.Ref.{MutBor}
 use Rattle.tick_tree.specs.declared.syntax.Declarator.{Declarator}
@@ -8,10 +8,11 @@ use Rattle.tick_tree.specs.declared.syntax.Stmt.{Stmt}
 use Rattle.c_grammar.specs.declared.grammar.Mode.{Mode}
 use Rattle.c_grammar.specs.declared.grammar.Part.{Part}
 use Rattle.c_grammar.specs.declared.stop.Stop.{Stop}
-use Rattle.c_grammar.specs.Input.{Input, Reads}
+use Rattle.c_grammar.specs.Input.{Input, Outcome, Reads}
+use Rattle.c_grammar.specs.Steps.{Inner, Room}
 use Rattle.c_grammar.specs.Declarators.{declarator}
 use Rattle.c_grammar.specs.Expressions.{at}
-use Rattle.c_grammar.specs.Statements.{room_of, stmt}
+use Rattle.c_grammar.specs.Statements.{inner, room_of, stmt}
 
 -- They parse with room for fewer than this many levels.
 pub record Nests (limit : ℕ)
@@ -30,3 +31,8 @@ pub record Nests (limit : ℕ)
   pub callable_declarator : (alloc : Global) (old : MutBor Input) (room : ℕ) (mode : Mode) → room < limit → pre_declarator alloc old room mode
   pub reads_declarator : (alloc : Global) (old new : MutBor Input) (room : ℕ) (mode : Mode) (r : Result Declarator Stop) → room < limit
       → post_declarator alloc old room mode r new → Reads (declarator mode (room_of room) old.now) r new.now
+
+-- what a step to the next level ensures: it says exactly whether there is room
+abbrev pub Entered : Outcome (Inner × Room) → ℕ → Result (Unit {0}) Stop → Input → Type 0
+Entered outcome room (Ok _) new = (outcome ≡ Ok ((inner (room_of (room - 1)), room_of (room - 1)), new)) × (0 < room)
+Entered outcome room (Err e) new = outcome ≡ Err e

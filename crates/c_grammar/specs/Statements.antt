@@ -22,7 +22,7 @@ use Rattle.c_grammar.specs.declared.kind.Word.{Word}
 use Rattle.c_grammar.specs.declared.kind.Word.TheVariants as w
 use Rattle.c_grammar.specs.declared.grammar.Mode.TheVariants as mode_of
 use Rattle.c_grammar.specs.Input.{Input, Parser, ◌>>=◌, ◌>>◌, ◌<$>◌, pure, refuse, peek, at_line, take_token, sees, eat, expect, expect_word, kind}
-use Rattle.c_grammar.specs.Steps.{Inner, Room, deeper, within, from, in_parens, optional, following, separated}
+use Rattle.c_grammar.specs.Steps.{Inner, Room, descend, within, enter_paren, optional, following, separated}
 use Rattle.c_grammar.specs.Bases.{base, is_base}
 use Rattle.c_grammar.specs.Declarators.{declarator, declares_function}
 use Rattle.c_grammar.specs.Expressions.{unary_of, behind_word, block, parenthesized, unary, cond, assign, expr}
@@ -99,7 +99,7 @@ begins_first kind = begins_expr kind
 
 -- a statement that is no item of a block: it opens a level at its first token
 abbrev pub part : Room → Parser Stmt
-part room = peek >>= (λ kind. if begins_stmt kind then deeper room (λ r. r.stmt) else refuse)
+part room = peek >>= (λ kind. if begins_stmt kind then descend room >>= (λ p. p.0.stmt) else refuse)
 
 -- an `else` belongs to the nearest `if`
 unfoldable pub if_rest : ℕ → Room → Parser Stmt
@@ -133,8 +133,9 @@ for_parts r = do
 
 unfoldable pub for_rest : ℕ → Room → Parser Stmt
 for_rest n room = do
-  first ← in_parens room for_first
-  parts ← deeper room for_parts
+  p ← enter_paren room
+  first ← for_first p.0
+  parts ← for_parts p.0
   s.For n first parts.0 parts.1 <$> part room
 
 unfoldable pub switch_rest : ℕ → Room → Parser Stmt

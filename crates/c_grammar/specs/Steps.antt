@@ -26,22 +26,29 @@ pub record Inner : Type 0 where
 abbrev pub Room : Type 0
 Room = List Inner
 
--- one level deeper, if there is room
-abbrev pub deeper : {A : Type 0} → Room → (Inner → Parser A) → Parser A
-deeper [] f = too_deep
-deeper (r ∷ rs) f = f r
+-- one level deeper, if there is room: the parsers there, and the room that is left
+unfoldable pub descend : Room → Parser (Inner × Room)
+descend [] = too_deep
+descend (r ∷ rs) = pure (r, rs)
 
 -- takes the token that opens a level
+unfoldable pub enter : Room → Parser (Inner × Room)
+enter room = descend room >>= (λ p. take_token >> pure p)
+
 abbrev pub within : {A : Type 0} → Room → (Inner → Parser A) → Parser A
-within room f = deeper room (λ r. take_token >> f r)
+within room f = enter room >>= (λ p. f p.0)
 
 -- what begins with this mark
 abbrev pub from : {A : Type 0} → Mark → Parser A → Parser A
 from mark p = λ i. if sees mark i then p i else refuse i
 
--- what stands behind an open parenthesis, which is a level
+-- takes an open parenthesis, which opens a level
+unfoldable pub enter_paren : Room → Parser (Inner × Room)
+enter_paren room = from m.ParenOpen (enter room)
+
+-- what stands behind an open parenthesis
 abbrev pub in_parens : {A : Type 0} → Room → (Inner → Parser A) → Parser A
-in_parens room f = from m.ParenOpen (within room f)
+in_parens room f = enter_paren room >>= (λ p. f p.0)
 
 -- an expression up to this mark, or the mark alone
 abbrev pub optional : Mark → Parser Expr → Parser OptionalExpr

@@ -5,6 +5,7 @@ mod bases;
 mod grammar;
 mod item;
 mod kind;
+mod levels;
 mod stop;
 mod tokens;
 
@@ -12,5 +13,6 @@ pub use bases::{base, is_base, is_void};
 pub use grammar::{Grammar, Mode, Part, Postfix};
 pub use item::{Bytes, Item};
 pub use kind::{BaseWord, Kind, Mark, Word};
+pub use levels::{descend, enter, enter_paren};
 pub use stop::Stop;
 pub use tokens::Tokens;
