@@ -235,9 +235,15 @@ cond_more room test = λ i. if sees m.Question i then (at_line >>= (λ n. within
 unfoldable pub cond : Room → Parser Expr
 cond room = level 10 room >>= cond_more room
 
+abbrev pub assigned : Room → Expr → Parser Expr
+assigned room left = at_line >>= (λ n. within room (λ r. e.Assign n left <$> r.assign))
+
+abbrev pub modified : Room → Expr → ModifyOp → Parser Expr
+modified room left o = at_line >>= (λ n. within room (λ r. e.Modify n o left <$> r.assign))
+
 abbrev pub assign_by : Room → Expr → Kind → Parser Expr
-assign_by room left (k.Mark m.Assign) = at_line >>= (λ n. within room (λ r. e.Assign n left <$> r.assign))
-assign_by room left (k.Modify o) = at_line >>= (λ n. within room (λ r. e.Modify n o left <$> r.assign))
+assign_by room left (k.Mark m.Assign) = assigned room left
+assign_by room left (k.Modify o) = modified room left o
 assign_by room left _ = pure left
 
 abbrev pub assign_more : Room → Expr → Parser Expr

@@ -98,16 +98,18 @@ begins_first (k.Base word) = true
 begins_first kind = begins_expr kind
 
 -- a statement that is no item of a block: it opens a level at its first token
-abbrev pub part : Room → Parser Stmt
+unfoldable pub part : Room → Parser Stmt
 part room = peek >>= (λ kind. if begins_stmt kind then descend room >>= (λ p. p.0.stmt) else refuse)
 
 -- an `else` belongs to the nearest `if`
+unfoldable pub else_rest : ℕ → Room → Expr → Stmt → Parser Stmt
+else_rest n room test first = λ i. if sees m.Else i then (take_token >> s.IfElse n test first <$> part room) i else pure (s.If n test first) i
+
 unfoldable pub if_rest : ℕ → Room → Parser Stmt
 if_rest n room = do
   test ← parenthesized room
   first ← part room
-  has_else ← eat m.Else
-  if has_else then s.IfElse n test first <$> part room else pure (s.If n test first)
+  else_rest n room test first
 
 unfoldable pub while_rest : ℕ → Room → Parser Stmt
 while_rest n room = do
@@ -131,12 +133,15 @@ for_parts r = do
   step ← optional m.ParenClose r.expr
   pure (test, step)
 
+unfoldable pub for_body : ℕ → Room → Stmt → OptionalExpr × OptionalExpr → Parser Stmt
+for_body n room first parts = s.For n first parts.0 parts.1 <$> part room
+
 unfoldable pub for_rest : ℕ → Room → Parser Stmt
 for_rest n room = do
   p ← enter_paren room
   first ← for_first p.0
   parts ← for_parts p.0
-  s.For n first parts.0 parts.1 <$> part room
+  for_body n room first parts
 
 unfoldable pub switch_rest : ℕ → Room → Parser Stmt
 switch_rest n room = do
@@ -170,14 +175,14 @@ word_by room w.Break n = expect m.Semicolon >> pure (s.Break n)
 word_by room w.Continue n = expect m.Semicolon >> pure (s.Continue n)
 word_by room w.Return n = return_rest n room
 
-unfoldable pub worded : Word → Room → Parser Stmt
-worded word room = behind_word (word_by room word)
+unfoldable pub word_stmt : Word → Room → Parser Stmt
+word_stmt word room = behind_word (word_by room word)
 
 abbrev pub stmt_by : Room → Kind → Parser Stmt
 stmt_by room (k.Mark m.Semicolon) = take_token >> pure s.Empty
 stmt_by room (k.Mark m.BraceOpen) = s.Block <$> block room
 stmt_by room (k.Base word) = s.Local <$> declaration room
-stmt_by room (k.Word word) = worded word room
+stmt_by room (k.Word word) = word_stmt word room
 stmt_by room _ = plain room
 
 -- an item of a block: a declaration or a statement
@@ -195,7 +200,7 @@ room_of (suc n) = inner (room_of n) ∷ room_of n
 
 -- ---- programs
 
-abbrev pub variables : Room → ℕ → Base → Declarator → Parser External
+unfoldable pub variables : Room → ℕ → Base → Declarator → Parser External
 variables room n words d = do
   v ← initializer room
   found ← following (init room) (roll-Init (record { declarator = d; value = v }) ∷ [])
@@ -206,7 +211,7 @@ variables room n words d = do
 abbrev pub function_or_variables : Room → ℕ → Base → Bool → Declarator → Parser External
 function_or_variables room n words is_function d = λ i. if is_function && sees m.BraceOpen i then (external_of.Function n words d <$> block room) i else variables room n words d i
 
-abbrev pub first_declared : Room → ℕ → Base → Parser External
+unfoldable pub first_declared : Room → ℕ → Base → Parser External
 first_declared room n words = λ i. (declarator mode_of.Named room >>= function_or_variables room n words (declares_function i)) i
 
 unfoldable pub external : Room → Parser External
