@@ -1,0 +1,4 @@
+pub mod Nodes
+pub mod Gives
+pub mod Lists
+pub mod Declared
