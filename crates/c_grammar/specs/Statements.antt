@@ -221,13 +221,13 @@ external room = do
   is_empty ← eat m.Semicolon
   if is_empty then pure (external_of.Declaration (roll-Declaration (record { line = n; base = words; inits = [] }))) else first_declared room n words
 
-unfoldable pub is_end : Kind → Bool
-is_end k.End = true
-is_end _ = false
+unfoldable pub at_end : Input → Bool
+at_end [] = true
+at_end (t ∷ i) = false
 
 unfoldable pub program_from : Parser External → ℕ → List External → Parser (List External)
-program_from item zero found = λ i. if is_end (kind i) then pure found i else refuse i
-program_from item (suc n) found = λ i. if is_end (kind i) then pure found i else (item >>= (λ x. program_from item n (found ++ x ∷ []))) i
+program_from item zero found = λ i. if at_end i then pure found i else refuse i
+program_from item (suc n) found = λ i. if at_end i then pure found i else (item >>= (λ x. program_from item n (found ++ x ∷ []))) i
 
 unfoldable pub program : Room → Parser (List External)
 program room = λ i. program_from (external room) (length i) [] i

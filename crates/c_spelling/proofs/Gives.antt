@@ -12,8 +12,9 @@ use Rattle.c_grammar.specs.declared.kind.Mark.TheVariants as m
 use Rattle.c_grammar.specs.declared.kind.Word.{Word as Keyword}
 use Rattle.c_grammar.specs.declared.stop.Stop.{Stop}
 use Rattle.c_grammar.specs.Input.{Input, Outcome, Parser, and_then, kind, next, text, value, unsigned, sees, is_mark, is_word, same_mark, same_word, expect, expect_word}
+use Rattle.tick_tree.specs.declared.base.UnaryOp.{UnaryOp}
 use Rattle.c_literals.specs.Literals.{string_bytes}
-use Rattle.c_spelling.specs.Words.{Word, Words, Plain, Name, Number, Character, word_by, join, words}
+use Rattle.c_spelling.specs.Words.{Word, Words, sign_kind, Plain, Name, Number, Character, word_by, join, words}
 use Rattle.c_spelling.specs.Spelling.{Spelling, mark, keyword_word}
 
 pub Gives : {A : Type 0} → Outcome A → (A → Input → Type 0) → Type 0
@@ -61,6 +62,7 @@ plain k.Name = false
 plain k.Number = false
 plain k.Character = false
 plain k.String = false
+plain (k.Unary o) = false
 plain _ = true
 
 plain_word : (t : Item) (kd : Kind) (ws : Words) → plain kd ≡ true → join (word_by t kd) ws ≡ Plain kd ∷ ws
@@ -69,6 +71,7 @@ plain_word t k.Name ws h = cc
 plain_word t k.Number ws h = cc
 plain_word t k.Character ws h = cc
 plain_word t k.String ws h = cc
+plain_word t (k.Unary o) ws h = cc
 plain_word t _ ws h = refl
 
 pub taken : (kd : Kind) (i : Input) → plain kd ≡ true → kind i ≡ kd → words i ≡ Plain kd ∷ words (next i)
@@ -90,6 +93,11 @@ pub taken_character : (i : Input) → kind i ≡ k.Character → words i ≡ Cha
 unfolding kind next words value
 taken_character [] h = cc
 taken_character (t ∷ i) h = ap (λ q. join (word_by t q) (words i)) h
+
+pub taken_unary : (o : UnaryOp) (i : Input) → kind i ≡ k.Unary o → words i ≡ Plain (sign_kind o) ∷ words (next i)
+unfolding kind next words
+taken_unary o [] h = cc
+taken_unary o (t ∷ i) h = ap (λ q. join (word_by t q) (words i)) h
 
 -- ---- marks and words
 

@@ -8,8 +8,6 @@ use Rattle.tick_tree.specs.declared.base.Prefix.{Prefix}
 use Rattle.tick_tree.specs.declared.base.Prefix.TheVariants as prefix
 use Rattle.tick_tree.specs.declared.base.BinaryOp.TheVariants as op
 use Rattle.tick_tree.specs.declared.base.UnaryOp.{UnaryOp}
-use Rattle.tick_tree.specs.declared.base.UnaryOp.TheVariants as unary_op
-use Rattle.tick_tree.specs.declared.base.StepOp.TheVariants as step_op
 use Rattle.tick_tree.specs.declared.syntax.Declaration.{Declaration}
 use Rattle.tick_tree.specs.declared.syntax.Declarator.{Declarator}
 use Rattle.tick_tree.specs.declared.syntax.Expr.{Expr}
@@ -31,7 +29,7 @@ use Rattle.c_grammar.specs.declared.kind.Mark.{Mark}
 use Rattle.c_grammar.specs.declared.kind.Mark.TheVariants as m
 use Rattle.c_grammar.specs.declared.kind.Word.{Word as Keyword}
 use Rattle.c_grammar.specs.declared.kind.Word.TheVariants as keyword
-use Rattle.c_spelling.specs.Words.{Word, Words, Plain, Name, Number, Character, String}
+use Rattle.c_spelling.specs.Words.{Word, Words, sign_kind, Plain, Name, Number, Character, String}
 
 -- the words of a part of a tree, before others
 abbrev pub Spelling : Type 0
@@ -74,13 +72,7 @@ prefix_words [] w = w
 prefix_words (p ∷ ps) w = prefix_word p (prefix_words ps w)
 
 abbrev pub unary_word : UnaryOp → Spelling
-unary_word unary_op.Plus w = Plain (k.Operator op.Add) ∷ w
-unary_word unary_op.Minus w = Plain (k.Operator op.Sub) ∷ w
-unary_word unary_op.Star w = Plain (k.Operator op.Mul) ∷ w
-unary_word unary_op.Address w = Plain (k.Operator op.BitAnd) ∷ w
-unary_word unary_op.Increment w = Plain (k.Step step_op.Increment) ∷ w
-unary_word unary_op.Decrement w = Plain (k.Step step_op.Decrement) ∷ w
-unary_word o w = Plain (k.Unary o) ∷ w
+unary_word o w = Plain (sign_kind o) ∷ w
 
 -- ---- lists
 

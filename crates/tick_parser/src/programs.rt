@@ -9,16 +9,16 @@ ghost use Rattle.c_grammar.specs.Statements.{room_of};
 use crate::knot::{read, read_declarator, read_stmt};
 use crate::statements::Statements;
 use c_declarators::declares_function;
-use c_grammar::{Grammar, Kind, Mark, Mode, Part, Stop, Tokens, base};
+use c_grammar::{Grammar, Mark, Mode, Part, Stop, Tokens, base};
 use sqlite_items::Items;
 use std::alloc::Global;
 use tick_tree::{Base, Declaration, Declarator, Expr, External, Init, Stmt};
 
-#[tactic(auto, unfolding(c_grammar::specs::Statements::is_end))]
-fn is_end(kind: Kind) -> bool
-    ensures { result ≡ spec.is_end kind }
+#[tactic(auto, unfolding(c_grammar::specs::Statements::at_end))]
+fn at_end(tokens: &Tokens<'_>) -> bool
+    ensures { result ≡ spec.at_end tokens.now }
 {
-    matches!(kind, Kind::End)
+    tokens.left() == 0
 }
 
 impl<
@@ -100,12 +100,12 @@ pub fn program(alloc: Global, tokens: &mut Tokens<'_>, room: usize) -> Result<It
 {
     let mut found = Items::new(alloc);
     for _turn in 0..tokens.left() {
-        if is_end(tokens.peek()) {
+        if at_end(tokens) {
             return Ok(found);
         }
         found.push(read_external(alloc, tokens, room)?)?;
     }
-    if is_end(tokens.peek()) {
+    if at_end(tokens) {
         Ok(found)
     } else {
         Err(tokens.refuse())

@@ -4,9 +4,9 @@ use Rattle.c_grammar.specs.Statements.{external, program_from, room_of}
 use Rattle.c_grammar.proofs.Rooms.{one_more, no_more}
 use Rattle.tick_parser.proofs.programs.program.Goals as goal
 
-pub returns-then-is_end : goal.returns-then-is_end
+pub returns-then-at_end : goal.returns-then-at_end
 unfolding program_from
-returns-then-is_end c =
+returns-then-at_end c =
     let e = one_more (λ n. program_from (external (room_of c.args.room)) n c.loop-turn.found c.loop-turn.tokens) _ c.loop-turn._turn c.loop-turn-test.true c.loop-turn.invariant in
     first_of (search rules, grind (arith, common_steps))
 
@@ -22,14 +22,14 @@ loop-turn-preserved c =
     let e = one_more (λ n. program_from (external (room_of c.args.room)) n c.loop-turn.found c.loop-turn.tokens) _ c.loop-turn._turn c.loop-turn-test.true c.loop-turn.invariant in
     first_of (search rules, grind (arith, common_steps))
 
-pub returns-then-is_end-2 : goal.returns-then-is_end-2
+pub returns-then-at_end-2 : goal.returns-then-at_end-2
 unfolding program_from
-returns-then-is_end-2 c =
+returns-then-at_end-2 c =
     let e = no_more (λ n. program_from (external (room_of c.args.room)) n c.loop-turn.found c.loop-turn.tokens) _ c.loop-turn._turn c.loop-turn-test.false c.loop-turn.invariant in
     first_of (search rules, grind (arith, common_steps))
 
-pub returns-else-is_end-2 : goal.returns-else-is_end-2
+pub returns-else-at_end-2 : goal.returns-else-at_end-2
 unfolding program_from
-returns-else-is_end-2 c =
+returns-else-at_end-2 c =
     let e = no_more (λ n. program_from (external (room_of c.args.room)) n c.loop-turn.found c.loop-turn.tokens) _ c.loop-turn._turn c.loop-turn-test.false c.loop-turn.invariant in
     first_of (search rules, grind (arith, common_steps))
