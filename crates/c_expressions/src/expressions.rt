@@ -46,7 +46,7 @@ impl<
         Ok(found)
     }
 
-    // Behind the `(` of a call.
+    // The arguments, up to and with the closing parenthesis.
     #[tactic(auto, unfolding(c_grammar::specs::Expressions::arguments))]
     fn arguments(&self, tokens: &mut Tokens<'_>, room: usize) -> Result<Items<Expr>, Stop>
         requires nests { Nests self.now.grammar.limit (F.pre self.now.grammar.expr) (F.post self.now.grammar.expr) (S.pre self.now.grammar.stmt) (S.post self.now.grammar.stmt) (D.pre self.now.grammar.declarator) (D.post self.now.grammar.declarator) }
@@ -59,6 +59,29 @@ impl<
         let found = self.separated(tokens, room)?;
         tokens.expect(Mark::ParenClose)?;
         Ok(found)
+    }
+
+    // Behind the `[` of an index.
+    #[tactic(auto, unfolding(c_grammar::specs::Expressions::indexed))]
+    fn indexed(&self, tokens: &mut Tokens<'_>, room: usize, line: u32, left: Expr) -> Result<Expr, Stop>
+        requires nests { Nests self.now.grammar.limit (F.pre self.now.grammar.expr) (F.post self.now.grammar.expr) (S.pre self.now.grammar.stmt) (S.post self.now.grammar.stmt) (D.pre self.now.grammar.declarator) (D.post self.now.grammar.declarator) }
+        requires room { room < self.now.grammar.limit }
+        ensures { Reads (spec.indexed line left (inner (room_of room)) tokens.old) result tokens.new }
+    {
+        let place = self.grammar.inner(tokens, room, Part::Whole)?;
+        tokens.expect(Mark::BracketClose)?;
+        Ok(index(self.grammar.alloc, line, left, place)?)
+    }
+
+    // Behind the `(` of a call.
+    #[tactic(auto, unfolding(c_grammar::specs::Expressions::called))]
+    fn called(&self, tokens: &mut Tokens<'_>, room: usize, line: u32, left: Expr) -> Result<Expr, Stop>
+        requires nests { Nests self.now.grammar.limit (F.pre self.now.grammar.expr) (F.post self.now.grammar.expr) (S.pre self.now.grammar.stmt) (S.post self.now.grammar.stmt) (D.pre self.now.grammar.declarator) (D.post self.now.grammar.declarator) }
+        requires room { room < self.now.grammar.limit }
+        ensures { Reads (spec.called line left (inner (room_of room)) tokens.old) result tokens.new }
+    {
+        let found = self.arguments(tokens, room)?;
+        Ok(call(self.grammar.alloc, line, left, found)?)
     }
 
     // Behind the operator.
@@ -75,15 +98,8 @@ impl<
         ensures { Reads (spec.postfix_step (inner (room_of room)) (room_of room) op line left tokens.old) result tokens.new }
     {
         match op {
-            Postfix::Index => {
-                let place = self.grammar.inner(tokens, room, Part::Whole)?;
-                tokens.expect(Mark::BracketClose)?;
-                Ok(index(self.grammar.alloc, line, left, place)?)
-            }
-            Postfix::Call => {
-                let found = self.arguments(tokens, room)?;
-                Ok(call(self.grammar.alloc, line, left, found)?)
-            }
+            Postfix::Index => self.indexed(tokens, room, line, left),
+            Postfix::Call => self.called(tokens, room, line, left),
             Postfix::Step(op) => Ok(step(self.grammar.alloc, line, op, left)?),
         }
     }

@@ -159,9 +159,19 @@ primary room = peek >>= primary_by room
 unfoldable pub arguments : Parser Expr → Parser (List Expr)
 arguments item = λ i. if sees m.ParenClose i then (take_token >> pure []) i else (separated item >>= (λ found. expect m.ParenClose >> pure found)) i
 
+-- behind the `[` of an index
+unfoldable pub indexed : ℕ → Expr → Inner → Parser Expr
+indexed n left r = do
+  x ← r.expr
+  expect m.BracketClose
+  pure (e.Index n left x)
+
+unfoldable pub called : ℕ → Expr → Inner → Parser Expr
+called n left r = e.Call n left <$> arguments r.assign
+
 abbrev pub postfix_step : Inner → Room → Postfix → ℕ → Expr → Parser Expr
-postfix_step r rs postfix_of.Index n left = do x ← r.expr; expect m.BracketClose; pure (e.Index n left x)
-postfix_step r rs postfix_of.Call n left = e.Call n left <$> arguments r.assign
+postfix_step r rs postfix_of.Index n left = indexed n left r
+postfix_step r rs postfix_of.Call n left = called n left r
 postfix_step r rs (postfix_of.Step s) n left = pure (e.Step n s left)
 
 unfoldable pub postfix : Room → Parser Expr

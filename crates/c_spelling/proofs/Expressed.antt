@@ -22,7 +22,7 @@ use Rattle.c_grammar.specs.Input.{Input, Outcome, Parser, kind, line, value, uns
 use Rattle.c_grammar.specs.Steps.{Inner, Room, enter, separated, closed, chain}
 use Rattle.c_grammar.specs.Bases.{is_base}
 use Rattle.c_grammar.specs.Declarators.{typename}
-use Rattle.c_grammar.specs.Expressions.{sign_of, unary_of, looseness, binary_of, postfix_kind, comma_of, is_string, strings, block, parenthesized, compile_inner, local_inner, param_inner, sizeof_inner, cast_inner, worded, primary_by, primary, arguments, postfix_step, postfix, ticked, tick, cast, prefixed, unary_by, unary, binary_step, level, choice, cond_more, cond, assigned, modified, assign_by, assign, comma_step, expr}
+use Rattle.c_grammar.specs.Expressions.{sign_of, unary_of, looseness, binary_of, postfix_kind, comma_of, is_string, strings, block, parenthesized, compile_inner, local_inner, param_inner, sizeof_inner, cast_inner, worded, primary_by, primary, arguments, indexed, called, postfix_step, postfix, ticked, tick, cast, prefixed, unary_by, unary, binary_step, level, choice, cond_more, cond, assigned, modified, assign_by, assign, comma_step, expr}
 use Rattle.c_spelling.specs.Words.{Word, Words, Plain, String, word_by, join, join_strings, words}
 use Rattle.c_spelling.specs.Spelling.{Spelling, mark, unary_word, with_commas, braced, spells_expr, spells_stmt, spells_typename}
 use Rattle.c_spelling.proofs.Nodes as node
@@ -159,12 +159,20 @@ postfix_taken o (k.Mark m.ParenOpen) i h e = let q : postfix_of.Call ≡ o = cc 
 postfix_taken o (k.Step s) i h e = let q : postfix_of.Step s ≡ o = cc in taken (k.Step s) i refl e ∙ ap (λ x. postfix_word x ∷ words (next i)) q
 postfix_taken o _ i h e = let q : ⊥ = cc in absurd q
 
+indexed_says : (n : ℕ) (left : Expr) (r : Inner) → InnerSays r → (i : Input) → Gives (indexed n left r i) (λ x j. spells_expr left (mark m.BracketOpen (words i)) ≡ spells_expr x (words j))
+unfolding indexed
+indexed_says n left r ok i = after _ _ _ _ (ok.expr i) (λ x j g. after _ _ _ _ (expect_says m.BracketClose j) (λ u l q. given _ _ _
+    (let e = node.at_expr_index n left x (words l) in cc)))
+
+called_says : (n : ℕ) (left : Expr) (r : Inner) → InnerSays r → (i : Input) → Gives (called n left r i) (λ x j. spells_expr left (mark m.ParenOpen (words i)) ≡ spells_expr x (words j))
+unfolding called
+called_says n left r ok i = after _ _ _ _ (arguments_says r.assign ok.assign i) (λ xs j g. given _ _ _
+    (let e = node.at_expr_call n left xs (words j) in cc))
+
 postfix_by_says : (r : Inner) (rs : Room) → InnerSays r → (o : Postfix) (n : ℕ) (left : Expr) (i : Input) → Gives (postfix_step r rs o n left i) (λ x j. spells_expr left (postfix_word o ∷ words i) ≡ spells_expr x (words j))
 unfolding postfix_word
-postfix_by_says r rs ok postfix_of.Index n left i = after _ _ _ _ (ok.expr i) (λ x j g. after _ _ _ _ (expect_says m.BracketClose j) (λ u l q. given _ _ _
-    (let e = node.at_expr_index n left x (words l) in cc)))
-postfix_by_says r rs ok postfix_of.Call n left i = after _ _ _ _ (arguments_says r.assign ok.assign i) (λ xs j g. given _ _ _
-    (let e = node.at_expr_call n left xs (words j) in cc))
+postfix_by_says r rs ok postfix_of.Index n left i = indexed_says n left r ok i
+postfix_by_says r rs ok postfix_of.Call n left i = called_says n left r ok i
 postfix_by_says r rs ok (postfix_of.Step s) n left i = given _ _ _ (sym (node.at_expr_step n s left (words i)))
 
 postfix_step_says : StepSays postfix_kind postfix_step

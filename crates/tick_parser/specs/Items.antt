@@ -1,6 +1,6 @@
 -- The tokens of a text, as the grammar reads them, and what is said of the first one that it refuses. Keywords and signs are
 -- told apart as far as the grammar does; a number or a character is known by its value, a name or a string by its bytes.
-use Rattle.std.specs.Prelude.{◌≡◌, ℕ, ◌+◌, ◌-◌, ◌==◌, Bool, true, false, if◌then◌else◌, List, [], ◌∷◌, length, map, take, drop, Option, Some, None, Result, Ok, Err}
+use Rattle.std.specs.Prelude.{◌≡◌, ℕ, ◌+◌, ◌-◌, ◌==◌, Bool, true, false, if◌then◌else◌, List, [], ◌∷◌, length, map, min, take, drop, Option, Some, None, Result, Ok, Err}
 use Rattle.std.specs.List.{count_by}
 use Rattle.tick_tree.specs.declared.base.BinaryOp.TheVariants as op
 use Rattle.tick_tree.specs.declared.base.ModifyOp.TheVariants as modify
@@ -166,9 +166,13 @@ unfoldable pub line_of : Text → List Token → ℕ
 line_of text [] = 1 + count_by (λ b. b == 10) text
 line_of text (t ∷ ts) = t.line
 
+-- the number of a token, as far as a word tells it
+abbrev pub number_of : ℕ → ℕ
+number_of n = min n 4294967295
+
 -- the fault at a token that is counted from the end
 unfoldable pub fault_at : FaultKind → Text → List Token → ℕ → Fault
-fault_at kind text tokens left = record { kind = kind; line = line_of text (drop (length tokens - left) tokens); token = length tokens - left }
+fault_at kind text tokens left = record { kind = kind; line = line_of text (drop (length tokens - left) tokens); token = number_of (length tokens - left) }
 
 unfoldable pub reported : Text → List Token → Outcome (List External) → Result (List External) Fault
 reported text tokens (Ok p) = Ok p.0
