@@ -88,7 +88,11 @@ impl<
         let line = tokens.line();
         let base = base(tokens)?;
         let declarator = self.grammar.inner_declarator(tokens, room, Mode::Either)?;
-        Ok(Parameter { line, base, declarator })
+        Ok(Parameter {
+            line,
+            base,
+            declarator,
+        })
     }
 
     #[tactic(auto, unfolding(c_grammar::specs::Steps::separated, c_grammar::specs::Steps::following_from))]
@@ -181,14 +185,23 @@ impl<
     {
         let core = self.core(tokens, room, mode)?;
         let suffixes = self.suffixes(tokens, room)?;
-        Ok(Declarator { prefixes, core, suffixes })
+        Ok(Declarator {
+            prefixes,
+            core,
+            suffixes,
+        })
     }
 
     /// A declarator, with a name or without as the mode says.
     ///
     /// Syntax or TooDeep exactly at the first token that no declarator takes, or that nests too deep.
     #[tactic(auto, unfolding(c_grammar::specs::Declarators::declarator))]
-    pub fn declarator(&self, tokens: &mut Tokens<'_>, room: usize, mode: Mode) -> Result<Declarator, Stop>
+    pub fn declarator(
+        &self,
+        tokens: &mut Tokens<'_>,
+        room: usize,
+        mode: Mode,
+    ) -> Result<Declarator, Stop>
         requires nests { Nests self.now.grammar.limit (F.pre self.now.grammar.expr) (F.post self.now.grammar.expr) (S.pre self.now.grammar.stmt) (S.post self.now.grammar.stmt) (D.pre self.now.grammar.declarator) (D.post self.now.grammar.declarator) }
         requires room { room ≤ self.now.grammar.limit }
         ensures { Reads (spec.declarator mode (room_of room) tokens.old) result tokens.new }

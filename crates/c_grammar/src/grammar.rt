@@ -86,7 +86,12 @@ impl<
     }
 
     /// A declarator one level deeper.
-    pub fn inner_declarator(&self, tokens: &mut Tokens<'_>, room: usize, mode: Mode) -> Result<Declarator, Stop>
+    pub fn inner_declarator(
+        &self,
+        tokens: &mut Tokens<'_>,
+        room: usize,
+        mode: Mode,
+    ) -> Result<Declarator, Stop>
         requires nests { Nests self.now.limit (F.pre self.now.expr) (F.post self.now.expr) (S.pre self.now.stmt) (S.post self.now.stmt) (D.pre self.now.declarator) (D.post self.now.declarator) }
         requires room { room < self.now.limit }
         ensures { Reads (declarators.declarator mode (statements.room_of room) tokens.old) result tokens.new }

@@ -1,7 +1,6 @@
 -- Bases, declarators and type names spell what they read.
-use Rattle.std.proofs.Common.{◌≡◌, ℕ, Bool, true, false, cond, List, [], ◌∷◌, ◌++◌, map, refl, ap, sym, ◌∙◌, append_assoc, append-nil}
-use Rattle.std.specs.Prelude.{Ok, Err, ◌&&◌, if◌then◌else◌, Option, Some, None, length}
-use Rattle.tick_tree.specs.declared.base.Base.{Base}
+use Rattle.std.proofs.Common.{◌≡◌, Bool, true, false, cond, List, [], ◌∷◌, ◌++◌, refl, ap, sym, ◌∙◌, append_assoc, append-nil}
+use Rattle.std.specs.Prelude.{◌&&◌, Option, Some, None}
 use Rattle.tick_tree.specs.declared.base.Prefix.{Prefix}
 use Rattle.tick_tree.specs.declared.base.Prefix.TheVariants as prefix
 use Rattle.tick_tree.specs.declared.base.BinaryOp.TheVariants as op
@@ -9,7 +8,6 @@ use Rattle.tick_tree.specs.declared.base.Signedness.{Signedness}
 use Rattle.tick_tree.specs.declared.base.Signedness.TheVariants as sign
 use Rattle.tick_tree.specs.declared.syntax.Core.{Core}
 use Rattle.tick_tree.specs.declared.syntax.Core.TheVariants as core_of
-use Rattle.tick_tree.specs.declared.syntax.Declarator.{Declarator}
 use Rattle.tick_tree.specs.declared.syntax.Suffix.{Suffix}
 use Rattle.c_grammar.specs.declared.kind.Kind.{Kind}
 use Rattle.c_grammar.specs.declared.kind.Kind.TheVariants as k
@@ -17,15 +15,15 @@ use Rattle.c_grammar.specs.declared.kind.BaseWord.TheVariants as w
 use Rattle.c_grammar.specs.declared.kind.Mark.TheVariants as m
 use Rattle.c_grammar.specs.declared.grammar.Mode.{Mode}
 use Rattle.c_grammar.specs.declared.grammar.Mode.TheVariants as mode_of
-use Rattle.c_grammar.specs.Input.{Input, Outcome, Parser, kind, line, next, text, sees, is_mark, same_mark}
-use Rattle.c_grammar.specs.Steps.{Inner, Room, enter, separated}
+use Rattle.c_grammar.specs.Input.{Input, Outcome, kind, line, next, text, sees, is_mark, same_mark}
+use Rattle.c_grammar.specs.Steps.{Inner, Room}
 use Rattle.c_grammar.specs.Bases.{is_int, is_void, eat_int, sized_by, sized, base_by, base}
 use Rattle.c_grammar.specs.Declarators.{prefix_of, prefixes_by, prefixes, opens, inner_declarator, unnamed, core_by, core, array, parameter, is_nothing, listed, parameters, list, begins_suffix, suffix, suffixes, behind_prefixes, declarator, typename}
-use Rattle.c_spelling.specs.Words.{Words, Plain, words}
-use Rattle.c_spelling.specs.Spelling.{Spelling, mark, base_words, optional_sign, optional_int, prefix_word, prefix_words, in_turn, with_commas, spells_core, spells_suffix, spells_parameter, spells_declarator, spells_typename, spells_optional}
+use Rattle.c_spelling.specs.Words.{Plain, words}
+use Rattle.c_spelling.specs.Spelling.{mark, base_words, optional_sign, optional_int, prefix_word, prefix_words, spells_core, spells_suffix, spells_parameter, spells_declarator, spells_typename}
 use Rattle.c_spelling.proofs.Nodes.{at_core_absent, at_core_name, at_core_paren, at_suffix_array, at_suffix_unlisted, at_suffix_nothing, at_suffix_listed, at_parameter, at_declarator, at_typename}
-use Rattle.c_spelling.proofs.Gives.{Gives, given, refused, after, choose, choose_parser, guard, weaken, Says, taken, taken_name, taken_mark, marked, expect_says}
-use Rattle.c_spelling.proofs.Lists.{InnerSays, RoomSays, Deeper, BeginsSays, turns, enter_says, optional_says, separated_says, many_says}
+use Rattle.c_spelling.proofs.Gives.{Gives, given, refused, after, choose, choose_parser, weaken, Says, taken, taken_name, taken_mark, expect_says}
+use Rattle.c_spelling.proofs.Lists.{InnerSays, RoomSays, BeginsSays, turns, enter_says, optional_says, separated_says, many_says}
 
 -- ---- bases
 
@@ -84,10 +82,10 @@ prefixes_by_says : (o : Option Prefix) (found : List Prefix) (i : Input) (goes :
     → ((p : Prefix) → Gives (goes (found ++ p ∷ [])) (λ ps j. Prefixes (found ++ p ∷ []) ps (next i) j)) → Gives (prefixes_by o found i goes) (λ ps j. Prefixes found ps i j)
 prefixes_by_says None found i goes h on = given _ _ _ (record { more = []; all = sym (append-nil found); says = refl })
 prefixes_by_says (Some p) found i goes h on = weaken _ _ _ (on p) (λ ps j g. record {
-    more = p ∷ g.more;
-    all = g.all ∙ append_assoc found (p ∷ []) g.more;
-    says = prefix_kind p (kind i) i h refl ∙ ap (prefix_word p) g.says;
-  })
+  more = p ∷ g.more;
+  all = g.all ∙ append_assoc found (p ∷ []) g.more;
+  says = prefix_kind p (kind i) i h refl ∙ ap (prefix_word p) g.says;
+})
 
 prefixes_from_says : (found : List Prefix) (i : Input) → Gives (prefixes found i) (λ ps j. Prefixes found ps i j)
 unfolding kind next

@@ -1,33 +1,28 @@
 -- Expressions spell what they read.
-use Rattle.std.proofs.Common.{◌≡◌, ℕ, zero, suc, Bool, true, false, cond as choice_of, List, [], ◌∷◌, ◌++◌, map, refl, ap, sym, ◌∙◌, append_assoc, append-nil}
-use Rattle.std.specs.Prelude.{Ok, Err, Option, Some, None, ◌==◌}
+use Rattle.std.proofs.Common.{◌≡◌, ℕ, zero, suc, Bool, true, false, cond as choice_of, List, [], ◌∷◌, ◌++◌, map, refl, ap, sym, ◌∙◌, append_assoc}
+use Rattle.std.specs.Prelude.{Option, Some, None, ◌==◌}
 use Rattle.tick_tree.specs.declared.base.BinaryOp.{BinaryOp}
 use Rattle.tick_tree.specs.declared.base.BinaryOp.TheVariants as op
-use Rattle.tick_tree.specs.declared.base.ModifyOp.{ModifyOp}
-use Rattle.tick_tree.specs.declared.base.StepOp.{StepOp}
 use Rattle.tick_tree.specs.declared.base.StepOp.TheVariants as step_op
 use Rattle.tick_tree.specs.declared.base.UnaryOp.{UnaryOp}
 use Rattle.tick_tree.specs.declared.base.UnaryOp.TheVariants as unary_op
 use Rattle.tick_tree.specs.declared.syntax.Expr.{Expr}
-use Rattle.tick_tree.specs.declared.syntax.Stmt.{Stmt}
 use Rattle.c_literals.specs.Literals.{string_bytes}
 use Rattle.c_grammar.specs.declared.item.Item.{Item}
 use Rattle.c_grammar.specs.declared.kind.Kind.{Kind}
 use Rattle.c_grammar.specs.declared.kind.Kind.TheVariants as k
 use Rattle.c_grammar.specs.declared.kind.Mark.TheVariants as m
-use Rattle.c_grammar.specs.declared.grammar.Part.{Part}
 use Rattle.c_grammar.specs.declared.grammar.Postfix.{Postfix}
 use Rattle.c_grammar.specs.declared.grammar.Postfix.TheVariants as postfix_of
-use Rattle.c_grammar.specs.Input.{Input, Outcome, Parser, kind, line, value, unsigned, next, text, sees}
-use Rattle.c_grammar.specs.Steps.{Inner, Room, enter, separated, closed, chain}
+use Rattle.c_grammar.specs.Input.{Input, Parser, kind, line, value, unsigned, next, text, sees}
+use Rattle.c_grammar.specs.Steps.{Inner, Room}
 use Rattle.c_grammar.specs.Bases.{is_base}
-use Rattle.c_grammar.specs.Declarators.{typename}
-use Rattle.c_grammar.specs.Expressions.{sign_of, unary_of, looseness, binary_of, postfix_kind, comma_of, is_string, strings, block, parenthesized, compile_inner, local_inner, param_inner, sizeof_inner, cast_inner, worded, primary_by, primary, arguments, indexed, called, postfix_step, postfix, ticked, tick, cast, prefixed, unary_by, unary, binary_step, level, choice, cond_more, cond, assigned, modified, assign_by, assign, comma_step, expr}
+use Rattle.c_grammar.specs.Expressions.{sign_of, unary_of, looseness, binary_of, postfix_kind, comma_of, is_string, strings, block, parenthesized, compile_inner, local_inner, param_inner, sizeof_inner, cast_inner, worded, primary_by, primary, arguments, indexed, called, postfix_step, postfix, ticked, tick, cast, prefixed, unary_by, unary, binary_step, level, choice, cond_more, cond, assign_by, assign, comma_step, expr}
 use Rattle.c_spelling.specs.Words.{Word, Words, Plain, String, word_by, join, join_strings, words}
-use Rattle.c_spelling.specs.Spelling.{Spelling, mark, unary_word, with_commas, braced, spells_expr, spells_stmt, spells_typename}
+use Rattle.c_spelling.specs.Spelling.{mark, unary_word, with_commas, braced, spells_expr, spells_stmt}
 use Rattle.c_spelling.proofs.Nodes as node
 use Rattle.c_spelling.proofs.Gives.{Gives, given, refused, after, choose, choose_parser, guard, weaken, Says, taken, taken_name, taken_number, taken_character, taken_mark, taken_unary, expect_says}
-use Rattle.c_spelling.proofs.Lists.{InnerSays, RoomSays, Deeper, InParens, Grows, StepSays, turns_closed, enter_says, enter_paren_says, separated_says, closed_says, chain_says}
+use Rattle.c_spelling.proofs.Lists.{InnerSays, RoomSays, Grows, StepSays, enter_says, enter_paren_says, separated_says, closed_says, chain_says}
 use Rattle.c_spelling.proofs.Declared.{typename_says}
 
 -- ---- what stands in brackets

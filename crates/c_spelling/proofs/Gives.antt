@@ -1,6 +1,6 @@
 -- What holds of the value and the tokens that a parser gives, and how it goes on through the steps of a production.
-use Rattle.std.proofs.Common.{◌≡◌, ℕ, Bool, true, false, cond, List, [], ◌∷◌, refl, ap, sym, ◌∙◌, rules}
-use Rattle.std.specs.Prelude.{Ok, Err, Result}
+use Rattle.std.proofs.Common.{◌≡◌, Bool, true, false, cond, [], ◌∷◌, refl, ap, ◌∙◌, rules}
+use Rattle.std.specs.Prelude.{Ok, Err}
 use denote.Enum.Bare.{same_true}
 use Rattle.c_grammar.specs.contracts.kind.Mark as of_mark
 use Rattle.c_grammar.specs.contracts.kind.Word as of_word
@@ -8,13 +8,11 @@ use Rattle.c_grammar.specs.declared.item.Item.{Item}
 use Rattle.c_grammar.specs.declared.kind.Kind.{Kind}
 use Rattle.c_grammar.specs.declared.kind.Kind.TheVariants as k
 use Rattle.c_grammar.specs.declared.kind.Mark.{Mark}
-use Rattle.c_grammar.specs.declared.kind.Mark.TheVariants as m
 use Rattle.c_grammar.specs.declared.kind.Word.{Word as Keyword}
 use Rattle.c_grammar.specs.declared.stop.Stop.{Stop}
 use Rattle.c_grammar.specs.Input.{Input, Outcome, Parser, and_then, kind, next, text, value, unsigned, sees, is_mark, is_word, same_mark, same_word, expect, expect_word}
 use Rattle.tick_tree.specs.declared.base.UnaryOp.{UnaryOp}
-use Rattle.c_literals.specs.Literals.{string_bytes}
-use Rattle.c_spelling.specs.Words.{Word, Words, sign_kind, Plain, Name, Number, Character, word_by, join, words}
+use Rattle.c_spelling.specs.Words.{Words, sign_kind, Plain, Name, Number, Character, word_by, join, words}
 use Rattle.c_spelling.specs.Spelling.{Spelling, mark, keyword_word}
 
 pub Gives : {A : Type 0} → Outcome A → (A → Input → Type 0) → Type 0

@@ -1,6 +1,6 @@
 -- Levels, lists and chains spell what they read, where their parts do.
 use Rattle.std.proofs.Common.{◌≡◌, ℕ, zero, suc, Bool, true, false, cond, List, [], ◌∷◌, ◌++◌, map, refl, ap, sym, ◌∙◌, append_assoc, append-nil}
-use Rattle.std.specs.Prelude.{Ok, Err, if◌then◌else◌, Option, Some, None, length}
+use Rattle.std.specs.Prelude.{if◌then◌else◌, Option, Some, None, length}
 use Rattle.tick_tree.specs.declared.syntax.Expr.{Expr}
 use Rattle.tick_tree.specs.declared.syntax.OptionalExpr.{OptionalExpr}
 use Rattle.tick_tree.specs.declared.syntax.OptionalExpr.TheVariants as maybe
@@ -8,9 +8,9 @@ use Rattle.c_grammar.specs.declared.kind.Kind.{Kind}
 use Rattle.c_grammar.specs.declared.kind.Mark.{Mark}
 use Rattle.c_grammar.specs.declared.kind.Mark.TheVariants as m
 use Rattle.c_grammar.specs.declared.grammar.Mode.{Mode}
-use Rattle.c_grammar.specs.Input.{Input, Outcome, Parser, ◌>>=◌, ◌>>◌, pure, expect, kind, line, next, sees}
-use Rattle.c_grammar.specs.Steps.{Inner, Room, descend, enter, enter_paren, optional, following_from, following, separated, closed_from, closed, many_from, many, chain, chain_by, ends_by}
-use Rattle.c_spelling.specs.Words.{Words, words}
+use Rattle.c_grammar.specs.Input.{Input, Parser, ◌>>=◌, ◌>>◌, pure, expect, kind, line, next, sees}
+use Rattle.c_grammar.specs.Steps.{Inner, Room, descend, enter, enter_paren, optional, following_from, separated, closed_from, closed, many_from, many, chain, chain_by, ends_by}
+use Rattle.c_spelling.specs.Words.{words}
 use Rattle.c_spelling.specs.Spelling.{Spelling, mark, in_turn, behind_commas, with_commas, spells_expr, spells_optional, spells_stmt, spells_declarator}
 use Rattle.c_spelling.proofs.Nodes.{at_optional_absent, at_optional_present}
 use Rattle.c_spelling.proofs.Gives.{Gives, given, refused, after, choose, guard, weaken, Says, taken_mark, expect_says}

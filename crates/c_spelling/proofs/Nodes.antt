@@ -1,5 +1,5 @@
 -- What each node spells, by what its parts spell.
-use Rattle.std.proofs.Common.{◌≡◌, ℕ, Bool, List, map, refl, ap, sym, ◌∙◌}
+use Rattle.std.proofs.Common.{◌≡◌, ℕ, Bool, List, map, ap, sym, ◌∙◌}
 use Rattle.tick_tree.specs.declared.base.Base.{Base}
 use Rattle.tick_tree.specs.declared.base.Prefix.{Prefix}
 use Rattle.tick_tree.specs.declared.base.BinaryOp.{BinaryOp}
@@ -24,7 +24,7 @@ use Rattle.tick_tree.specs.declared.syntax.Suffix.{Suffix}
 use Rattle.tick_tree.specs.declared.syntax.Suffix.TheVariants as suffix_of
 use Rattle.tick_tree.specs.declared.syntax.Typename.{Typename, roll-Typename}
 use Rattle.tick_tree.specs.declared.syntax.Core.TheFolds.{fold-roll-Core, fold-roll-Declaration, fold-roll-Declarator, fold-roll-Expr, fold-roll-Init, fold-roll-Initializer, fold-roll-OptionalExpr, fold-roll-Parameter, fold-roll-Stmt, fold-roll-Suffix, fold-roll-Typename}
-use Rattle.tick_tree.specs.declared.syntax.Core.TheOpen.{Core-F, Declaration-F, Declarator-F, Expr-F, Init-F, Initializer-F, OptionalExpr-F, Parameter-F, Stmt-F, Suffix-F, Typename-F}
+use Rattle.tick_tree.specs.declared.syntax.Core.TheOpen.{Core-F, Expr-F, Initializer-F, OptionalExpr-F, Stmt-F, Suffix-F}
 use Rattle.c_spelling.specs.Words.{Words}
 use Rattle.c_spelling.specs.Spelling.{Spelling, core_rule, expr_rule, initializer_rule, optional_rule, stmt_rule, suffix_rule, declaration_rule, declarator_rule, init_rule, parameter_rule, typename_rule, spells_core, spells_declaration, spells_declarator, spells_expr, spells_init, spells_initializer, spells_optional, spells_parameter, spells_stmt, spells_suffix, spells_typename}
 
@@ -239,4 +239,3 @@ at_parameter n bs d w = ap (λ f. f w) (fold-roll-Parameter Spelling Spelling Sp
 pub at_typename : (bs : Base) (d : Declarator) (w : Words) → spells_typename (roll-Typename (record { base = bs; declarator = d })) w ≡ typename_rule (record { base = bs; declarator = (spells_declarator d) }) w
 unfolding spells_core spells_declaration spells_declarator spells_expr spells_init spells_initializer spells_optional spells_parameter spells_stmt spells_suffix spells_typename
 at_typename bs d w = ap (λ f. f w) (fold-roll-Typename Spelling Spelling Spelling Spelling Spelling Spelling Spelling Spelling Spelling Spelling Spelling core_rule expr_rule initializer_rule optional_rule stmt_rule suffix_rule declaration_rule declarator_rule init_rule parameter_rule typename_rule (record { base = bs; declarator = d }))
-

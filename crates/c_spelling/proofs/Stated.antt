@@ -1,16 +1,15 @@
 -- Declarations, statements and programs spell what they read, with room for any number of levels.
 use Rattle.std.proofs.Common.{◌≡◌, ℕ, zero, suc, Bool, true, false, cond as choice_of, List, [], ◌∷◌, ◌++◌, map, refl, ap, sym, ◌∙◌, append_assoc, append-nil}
-use Rattle.std.specs.Prelude.{Ok, Err, ◌&&◌, if◌then◌else◌, length}
+use Rattle.std.specs.Prelude.{◌&&◌, length}
 use Rattle.tick_tree.specs.declared.base.Base.{Base}
-use Rattle.tick_tree.specs.declared.syntax.Declaration.{Declaration, roll-Declaration}
+use Rattle.tick_tree.specs.declared.syntax.Declaration.{roll-Declaration}
 use Rattle.tick_tree.specs.declared.syntax.Declarator.{Declarator}
 use Rattle.tick_tree.specs.declared.syntax.Expr.{Expr}
 use Rattle.tick_tree.specs.declared.syntax.External.{External}
 use Rattle.tick_tree.specs.declared.syntax.External.TheVariants as external_of
-use Rattle.tick_tree.specs.declared.syntax.Init.{Init, roll-Init}
+use Rattle.tick_tree.specs.declared.syntax.Init.{roll-Init}
 use Rattle.tick_tree.specs.declared.syntax.Initializer.{Initializer}
 use Rattle.tick_tree.specs.declared.syntax.Initializer.TheVariants as initializer_of
-use Rattle.tick_tree.specs.declared.syntax.OptionalExpr.{OptionalExpr}
 use Rattle.tick_tree.specs.declared.syntax.Stmt.{Stmt}
 use Rattle.c_grammar.specs.declared.kind.Kind.{Kind}
 use Rattle.c_grammar.specs.declared.kind.Kind.TheVariants as k
@@ -20,16 +19,15 @@ use Rattle.c_grammar.specs.declared.kind.Word.TheVariants as w
 use Rattle.c_grammar.specs.declared.grammar.Mode.TheVariants as mode_of
 use Rattle.c_grammar.specs.Input.{Input, Outcome, Parser, ◌>>=◌, pure, refuse, kind, line, next, sees}
 use Rattle.c_grammar.specs.Input as input
-use Rattle.c_grammar.specs.Steps.{Inner, Room, following, separated, following_from}
-use Rattle.c_grammar.specs.Bases.{base}
-use Rattle.c_grammar.specs.Declarators.{declarator, declares_function}
-use Rattle.c_grammar.specs.Expressions.{assign, expr, cond, unary, block}
-use Rattle.c_grammar.specs.Statements.{elements_from, elements, initial, initializer, init, declaration, begins_stmt, begins_first, part, else_rest, if_rest, while_rest, do_rest, for_first, for_parts, for_body, for_rest, switch_rest, case_rest, return_rest, plain, word_by, word_stmt, stmt_by, stmt, inner, room_of, variables, function_or_variables, first_declared, external, at_end, program_from, program}
-use Rattle.c_spelling.specs.Words.{Words, Plain, words}
-use Rattle.c_spelling.specs.Spelling.{Spelling, mark, keyword_word, base_words, in_turn, behind_commas, with_commas, optional_comma, braced, spells_expr, spells_optional, spells_init, spells_initializer, spells_declaration, spells_declarator, spells_stmt, spells_external, spells_program}
+use Rattle.c_grammar.specs.Steps.{Inner, Room}
+use Rattle.c_grammar.specs.Declarators.{declares_function}
+use Rattle.c_grammar.specs.Expressions.{expr}
+use Rattle.c_grammar.specs.Statements.{elements_from, elements, initial, initializer, init, declaration, begins_stmt, begins_first, part, else_rest, if_rest, while_rest, do_rest, for_first, for_parts, for_body, for_rest, switch_rest, case_rest, return_rest, plain, word_by, word_stmt, stmt_by, stmt, room_of, variables, function_or_variables, first_declared, external, at_end, program_from, program}
+use Rattle.c_spelling.specs.Words.{words}
+use Rattle.c_spelling.specs.Spelling.{mark, keyword_word, base_words, behind_commas, with_commas, optional_comma, spells_expr, spells_optional, spells_init, spells_initializer, spells_declaration, spells_declarator, spells_stmt, spells_external, spells_program}
 use Rattle.c_spelling.proofs.Nodes as node
-use Rattle.c_spelling.proofs.Gives.{Gives, given, refused, after, choose, choose_parser, guard, weaken, Says, taken, taken_mark, expect_says, expect_word_says}
-use Rattle.c_spelling.proofs.Lists.{InnerSays, RoomSays, Deeper, InParens, More, commas, descend_says, enter_says, enter_paren_says, optional_says, following_says, separated_says}
+use Rattle.c_spelling.proofs.Gives.{Gives, given, refused, after, choose, choose_parser, weaken, Says, taken, taken_mark, expect_says, expect_word_says}
+use Rattle.c_spelling.proofs.Lists.{InnerSays, RoomSays, descend_says, enter_says, enter_paren_says, optional_says, following_says, separated_says}
 use Rattle.c_spelling.proofs.Declared.{base_says, declarator_says}
 use Rattle.c_spelling.proofs.Expressed.{parenthesized_says, block_says, unary_says, cond_says, assign_says, expr_says}
 
@@ -51,14 +49,19 @@ elements_end : (item : Parser Expr) (n : ℕ) (found : List Expr) (x : Expr) (i 
     → (c b : Bool) → sees m.Comma j ≡ c → sees m.BraceClose (choice_of c (next j) j) ≡ b
     → Gives ((choice_of b (pure (initializer_of.List (found ++ x ∷ []) c)) (choice_of c (elements_from item n (found ++ x ∷ [])) refuse)) (choice_of b (next (choice_of c (next j) j)) (choice_of c (next j) j))) (λ v l. Elements found v i l)
 elements_end item n found x i j on h c true is_c is_b = given _ _ _ (record {
-    first = x; rest = []; comma = c; all = refl;
-    says = h ∙ ap (spells_expr x) (comma_by j c is_c ∙ ap (optional_comma c) (taken_mark m.BraceClose (choice_of c (next j) j) is_b));
-  })
+  first = x;
+  rest = [];
+  comma = c;
+  all = refl;
+  says = h ∙ ap (spells_expr x) (comma_by j c is_c ∙ ap (optional_comma c) (taken_mark m.BraceClose (choice_of c (next j) j) is_b));
+})
 elements_end item n found x i j on h true false is_c is_b = weaken _ _ _ (on (found ++ x ∷ []) (next j)) (λ v l g. record {
-    first = x; rest = g.first ∷ g.rest; comma = g.comma;
-    all = g.all ∙ ap (λ xs. initializer_of.List xs g.comma) (append_assoc found (x ∷ []) (g.first ∷ g.rest));
-    says = h ∙ ap (spells_expr x) (taken_mark m.Comma j is_c ∙ ap (mark m.Comma) g.says);
-  })
+  first = x;
+  rest = g.first ∷ g.rest;
+  comma = g.comma;
+  all = g.all ∙ ap (λ xs. initializer_of.List xs g.comma) (append_assoc found (x ∷ []) (g.first ∷ g.rest));
+  says = h ∙ ap (spells_expr x) (taken_mark m.Comma j is_c ∙ ap (mark m.Comma) g.says);
+})
 elements_end item n found x i j on h false false is_c is_b = refused _ _
 
 elements_from_says : (item : Parser Expr) → Says spells_expr item → (n : ℕ) (found : List Expr) (i : Input) → Gives (elements_from item n found i) (λ v j. Elements found v i j)
@@ -192,14 +195,17 @@ stmt_says room ok i = stmt_by_says room ok (kind i) i refl
 pub room_says : (n : ℕ) → RoomSays (room_of n)
 unfolding room_of
 room_says zero = tt
-room_says (suc n) = let ok = room_says n in (record {
+room_says (suc n) = let ok = room_says n in (
+  record {
     expr = expr_says (room_of n) ok;
     assign = assign_says (room_of n) ok;
     cond = cond_says (room_of n) ok;
     unary = unary_says (room_of n) ok;
     stmt = stmt_says (room_of n) ok;
     declarator = λ mode. declarator_says mode (room_of n) ok;
-  }, ok)
+  },
+  ok,
+)
 
 -- ---- programs
 

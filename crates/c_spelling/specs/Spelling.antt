@@ -1,5 +1,5 @@
 -- The words that a tree spells, before others: those of its productions, written out from left to right.
-use Rattle.std.specs.Prelude.{ℕ, Bool, true, false, if◌then◌else◌, List, [], ◌∷◌, map, Option, Some, None}
+use Rattle.std.specs.Prelude.{Bool, if◌then◌else◌, List, [], ◌∷◌, map, Option, Some, None}
 use Rattle.tick_tree.specs.declared.base.Base.{Base}
 use Rattle.tick_tree.specs.declared.base.Base.TheVariants as b
 use Rattle.tick_tree.specs.declared.base.Signedness.{Signedness}
@@ -29,7 +29,7 @@ use Rattle.c_grammar.specs.declared.kind.Mark.{Mark}
 use Rattle.c_grammar.specs.declared.kind.Mark.TheVariants as m
 use Rattle.c_grammar.specs.declared.kind.Word.{Word as Keyword}
 use Rattle.c_grammar.specs.declared.kind.Word.TheVariants as keyword
-use Rattle.c_spelling.specs.Words.{Word, Words, sign_kind, Plain, Name, Number, Character, String}
+use Rattle.c_spelling.specs.Words.{Words, sign_kind, Plain, Name, Number, Character, String}
 
 -- the words of a part of a tree, before others
 abbrev pub Spelling : Type 0

@@ -27,7 +27,9 @@ impl<
         requires room { room ≤ self.now.grammar.limit }
         ensures { Reads (expressions.expr (room_of room) tokens.old) result tokens.new }
     {
-        let expressions = Expressions { grammar: self.grammar };
+        let expressions = Expressions {
+            grammar: self.grammar,
+        };
         expressions.expr(tokens, room)
     }
 
@@ -36,7 +38,9 @@ impl<
         requires room { room ≤ self.now.grammar.limit }
         ensures { Reads (expressions.assign (room_of room) tokens.old) result tokens.new }
     {
-        let expressions = Expressions { grammar: self.grammar };
+        let expressions = Expressions {
+            grammar: self.grammar,
+        };
         expressions.assign(tokens, room)
     }
 
@@ -45,7 +49,9 @@ impl<
         requires room { room ≤ self.now.grammar.limit }
         ensures { Reads (expressions.cond (room_of room) tokens.old) result tokens.new }
     {
-        let expressions = Expressions { grammar: self.grammar };
+        let expressions = Expressions {
+            grammar: self.grammar,
+        };
         expressions.cond(tokens, room)
     }
 
@@ -54,7 +60,9 @@ impl<
         requires room { room ≤ self.now.grammar.limit }
         ensures { Reads (expressions.parenthesized (room_of room) tokens.old) result tokens.new }
     {
-        let expressions = Expressions { grammar: self.grammar };
+        let expressions = Expressions {
+            grammar: self.grammar,
+        };
         expressions.parenthesized(tokens, room)
     }
 
@@ -63,7 +71,9 @@ impl<
         requires room { room ≤ self.now.grammar.limit }
         ensures { Reads (expressions.block (room_of room) tokens.old) result tokens.new }
     {
-        let expressions = Expressions { grammar: self.grammar };
+        let expressions = Expressions {
+            grammar: self.grammar,
+        };
         expressions.block(tokens, room)
     }
 
@@ -72,12 +82,19 @@ impl<
         requires room { room ≤ self.now.grammar.limit }
         ensures { Reads (declarators.declarator Mode.Named (room_of room) tokens.old) result tokens.new }
     {
-        let declarators = Declarators { grammar: self.grammar };
+        let declarators = Declarators {
+            grammar: self.grammar,
+        };
         declarators.declarator(tokens, room, Mode::Named)
     }
 
     // An expression up to this mark, or the mark alone.
-    pub(crate) fn optional(&self, tokens: &mut Tokens<'_>, room: usize, mark: Mark) -> Result<OptionalExpr, Stop>
+    pub(crate) fn optional(
+        &self,
+        tokens: &mut Tokens<'_>,
+        room: usize,
+        mark: Mark,
+    ) -> Result<OptionalExpr, Stop>
         requires nests { Nests self.now.grammar.limit (F.pre self.now.grammar.expr) (F.post self.now.grammar.expr) (S.pre self.now.grammar.stmt) (S.post self.now.grammar.stmt) (D.pre self.now.grammar.declarator) (D.post self.now.grammar.declarator) }
         requires room { room ≤ self.now.grammar.limit }
         ensures { Reads (steps.optional mark (expressions.expr (room_of room)) tokens.old) result tokens.new }
@@ -126,7 +143,11 @@ impl<
     }
 
     #[tactic(auto, unfolding(c_grammar::specs::Statements::initializer))]
-    pub(crate) fn initializer(&self, tokens: &mut Tokens<'_>, room: usize) -> Result<Initializer, Stop>
+    pub(crate) fn initializer(
+        &self,
+        tokens: &mut Tokens<'_>,
+        room: usize,
+    ) -> Result<Initializer, Stop>
         requires nests { Nests self.now.grammar.limit (F.pre self.now.grammar.expr) (F.post self.now.grammar.expr) (S.pre self.now.grammar.stmt) (S.post self.now.grammar.stmt) (D.pre self.now.grammar.declarator) (D.post self.now.grammar.declarator) }
         requires room { room ≤ self.now.grammar.limit }
         ensures { Reads (spec.initializer (room_of room) tokens.old) result tokens.new }
@@ -150,7 +171,12 @@ impl<
 
     // What a declaration declares, behind the first.
     #[tactic(auto, unfolding(c_grammar::specs::Steps::following_from))]
-    pub(crate) fn following(&self, tokens: &mut Tokens<'_>, room: usize, first: Init) -> Result<Items<Init>, Stop>
+    pub(crate) fn following(
+        &self,
+        tokens: &mut Tokens<'_>,
+        room: usize,
+        first: Init,
+    ) -> Result<Items<Init>, Stop>
         requires nests { Nests self.now.grammar.limit (F.pre self.now.grammar.expr) (F.post self.now.grammar.expr) (S.pre self.now.grammar.stmt) (S.post self.now.grammar.stmt) (D.pre self.now.grammar.declarator) (D.post self.now.grammar.declarator) }
         requires room { room ≤ self.now.grammar.limit }
         ensures { Reads (steps.following (spec.init (room_of room)) (first ∷ []) tokens.old) result tokens.new }
@@ -177,7 +203,11 @@ impl<
     }
 
     #[tactic(auto, unfolding(c_grammar::specs::Statements::declaration))]
-    pub(crate) fn declaration(&self, tokens: &mut Tokens<'_>, room: usize) -> Result<Declaration, Stop>
+    pub(crate) fn declaration(
+        &self,
+        tokens: &mut Tokens<'_>,
+        room: usize,
+    ) -> Result<Declaration, Stop>
         requires nests { Nests self.now.grammar.limit (F.pre self.now.grammar.expr) (F.post self.now.grammar.expr) (S.pre self.now.grammar.stmt) (S.post self.now.grammar.stmt) (D.pre self.now.grammar.declarator) (D.post self.now.grammar.declarator) }
         requires room { room ≤ self.now.grammar.limit }
         ensures { Reads (spec.declaration (room_of room) tokens.old) result tokens.new }

@@ -51,7 +51,12 @@ pub fn read_stmt(alloc: Global, tokens: &mut Tokens<'_>, room: usize) -> Result<
 
 /// A declarator, with room for this many levels.
 #[cycle(knot)]
-pub fn read_declarator(alloc: Global, tokens: &mut Tokens<'_>, room: usize, mode: Mode) -> Result<Declarator, Stop>
+pub fn read_declarator(
+    alloc: Global,
+    tokens: &mut Tokens<'_>,
+    room: usize,
+    mode: Mode,
+) -> Result<Declarator, Stop>
     ensures { Reads (declarators.declarator mode (spec.room_of room) tokens.old) result tokens.new }
 {
     let grammar = Grammar {

@@ -2,11 +2,11 @@
 #![tactic(auto)]
 
 mod declarations;
-mod readings;
 mod knot;
 mod nodes;
-mod trees;
 mod programs;
+mod readings;
 mod statements;
+mod trees;
 
 pub use trees::{MAX_NESTING, parse};

@@ -12,10 +12,21 @@ pub fn if_only(alloc: Global, line: u32, test: Expr, first: Stmt) -> Result<Stmt
     Ok(Stmt::If(line, test, Boxed::new(alloc, first)?))
 }
 
-pub fn if_else(alloc: Global, line: u32, test: Expr, first: Stmt, second: Stmt) -> Result<Stmt, AllocError>
+pub fn if_else(
+    alloc: Global,
+    line: u32,
+    test: Expr,
+    first: Stmt,
+    second: Stmt,
+) -> Result<Stmt, AllocError>
     ensures { IfOk result (λ s. s ≡ Stmt.IfElse line test first second) }
 {
-    Ok(Stmt::IfElse(line, test, Boxed::new(alloc, first)?, Boxed::new(alloc, second)?))
+    Ok(Stmt::IfElse(
+        line,
+        test,
+        Boxed::new(alloc, first)?,
+        Boxed::new(alloc, second)?,
+    ))
 }
 
 pub fn while_loop(alloc: Global, line: u32, test: Expr, body: Stmt) -> Result<Stmt, AllocError>
@@ -40,5 +51,11 @@ pub fn for_loop(
 ) -> Result<Stmt, AllocError>
     ensures { IfOk result (λ s. s ≡ Stmt.For line first test step body) }
 {
-    Ok(Stmt::For(line, Boxed::new(alloc, first)?, test, step, Boxed::new(alloc, body)?))
+    Ok(Stmt::For(
+        line,
+        Boxed::new(alloc, first)?,
+        test,
+        step,
+        Boxed::new(alloc, body)?,
+    ))
 }

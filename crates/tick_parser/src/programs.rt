@@ -48,7 +48,13 @@ impl<
 
     // From the first declarator on.
     #[tactic(auto, unfolding(c_grammar::specs::Statements::first_declared))]
-    fn first_declared(&self, tokens: &mut Tokens<'_>, room: usize, line: u32, base: Base) -> Result<External, Stop>
+    fn first_declared(
+        &self,
+        tokens: &mut Tokens<'_>,
+        room: usize,
+        line: u32,
+        base: Base,
+    ) -> Result<External, Stop>
         requires nests { Nests self.now.grammar.limit (F.pre self.now.grammar.expr) (F.post self.now.grammar.expr) (S.pre self.now.grammar.stmt) (S.post self.now.grammar.stmt) (D.pre self.now.grammar.declarator) (D.post self.now.grammar.declarator) }
         requires room { room ≤ self.now.grammar.limit }
         ensures { Reads (spec.first_declared (room_of room) line base tokens.old) result tokens.new }

@@ -113,7 +113,11 @@ fn bytes<'a>(text: &'a [u8], token: &Token) -> &'a [u8]
 {
     let rest = from_place(text, token.at as usize);
     let len = token.len as usize;
-    if len <= rest.len() { &rest[..len] } else { rest }
+    if len <= rest.len() {
+        &rest[..len]
+    } else {
+        rest
+    }
 }
 
 fn kind(text: &[u8], token: &Token) -> Kind
@@ -181,7 +185,11 @@ fn item<'a>(text: &'a [u8], token: &Token) -> Item<'a>
 }
 
 /// The tokens, with what the tree keeps of them.
-pub fn items<'a>(alloc: Global, text: &'a [u8], tokens: &[Token]) -> Result<Vec<Item<'a>>, AllocError>
+pub fn items<'a>(
+    alloc: Global,
+    text: &'a [u8],
+    tokens: &[Token],
+) -> Result<Vec<Item<'a>>, AllocError>
     ensures { IfOk result (λ v. v.items ≡ spec.items_of text.now tokens.now) }
 {
     let mut found = Vec::with_capacity(alloc, tokens.len())?;

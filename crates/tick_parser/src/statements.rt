@@ -143,7 +143,11 @@ impl<
     }
 
     #[tactic(auto, unfolding(c_grammar::specs::Statements::for_parts))]
-    fn for_parts(&self, tokens: &mut Tokens<'_>, room: usize) -> Result<(OptionalExpr, OptionalExpr), Stop>
+    fn for_parts(
+        &self,
+        tokens: &mut Tokens<'_>,
+        room: usize,
+    ) -> Result<(OptionalExpr, OptionalExpr), Stop>
         requires nests { Nests self.now.grammar.limit (F.pre self.now.grammar.expr) (F.post self.now.grammar.expr) (S.pre self.now.grammar.stmt) (S.post self.now.grammar.stmt) (D.pre self.now.grammar.declarator) (D.post self.now.grammar.declarator) }
         requires room { room < self.now.grammar.limit }
         ensures { Reads (spec.for_parts (inner (room_of room)) tokens.old) result tokens.new }

@@ -7,8 +7,8 @@ ghost use Rattle.c_spelling.specs.Spelling.{spells_program};
 ghost use Rattle.c_spelling.specs.Words.{words};
 ghost use Rattle.tick_parser.specs.Items as spec;
 
-use crate::readings::items;
 use crate::programs::program;
+use crate::readings::items;
 use c_grammar::{Stop, Tokens};
 use std::alloc::Global;
 use tick_tree::{Deny, Fault, FaultKind, Token, Tree};
@@ -63,7 +63,9 @@ fn read_tree(alloc: Global, text: &[u8], tokens: &[Token]) -> Result<Tree, Deny>
     requires { length text.now ≤ 1048576 }
     ensures { Answers (λ t. t.items) result (spec.parsed text.now tokens.now) }
 {
-    let items = items(alloc, text, tokens)?;
+    let Ok(items) = items(alloc, text, tokens) else {
+        return Err(Deny::NoMemory);
+    };
     let mut rest = Tokens::new(items.as_slice());
     match program(alloc, &mut rest, MAX_NESTING) {
         Ok(items) => Ok(Tree { items }),
@@ -93,7 +95,12 @@ mod tests {
     use tick_tree::{External, TokenKind};
 
     fn token(kind: TokenKind, at: u32, len: u32) -> Token {
-        Token { kind, at, len, line: 1 }
+        Token {
+            kind,
+            at,
+            len,
+            line: 1,
+        }
     }
 
     #[test]
@@ -110,7 +117,11 @@ mod tests {
             },
             Err(_) => assert!(rt; false),
         }
-        let refused = Fault { kind: FaultKind::Syntax, line: 1, token: 2 };
+        let refused = Fault {
+            kind: FaultKind::Syntax,
+            line: 1,
+            token: 2,
+        };
         match parse(rt.alloc(), b"int x", &tokens[..2]) {
             Ok(_) => assert!(rt; false),
             Err(deny) => assert!(rt; deny == Deny::Refused(refused)),

@@ -9,7 +9,7 @@ mod token;
 pub use base::{Base, BinaryOp, ModifyOp, Prefix, Signedness, StepOp, UnaryOp};
 pub use fault::{Deny, Fault, FaultKind};
 pub use syntax::{
-    Core, Declaration, Declarator, Expr, External, Init, Initializer, OptionalExpr, Parameter, Stmt, Suffix, Tree,
-    Typename,
+    Core, Declaration, Declarator, Expr, External, Init, Initializer, OptionalExpr, Parameter,
+    Stmt, Suffix, Tree, Typename,
 };
 pub use token::{Token, TokenKind};

@@ -3,7 +3,9 @@
 use crate::expressions::{print_all, print_expr, print_optional};
 use crate::names::{base_names, prefix_name, text_of};
 use std::io;
-use tick_tree::{Base, Core, Declaration, Declarator, Init, Initializer, Parameter, Suffix, Typename};
+use tick_tree::{
+    Base, Core, Declaration, Declarator, Init, Initializer, Parameter, Suffix, Typename,
+};
 
 fn print_base<R: Print>(rt: &R, base: Base) -> io::Result<()> {
     let (sign, words) = base_names(base);
@@ -98,7 +100,11 @@ fn print_init<R: Print>(rt: &R, init: &Init) -> io::Result<()> {
         Initializer::List(found, comma) => {
             print!(rt; " = {{")?;
             print_all(rt, found.as_slice())?;
-            if *comma { print!(rt; ",}}") } else { print!(rt; "}}") }
+            if *comma {
+                print!(rt; ",}}")
+            } else {
+                print!(rt; "}}")
+            }
         }
     }
 }

@@ -7,9 +7,10 @@ mod expressions;
 mod names;
 mod statements;
 
-use c_lexer::tokens;
-use std::io::{self, Read};
 use crate::statements::print_external;
+use c_lexer::tokens;
+use std::alloc::Global;
+use std::io::{self, Read};
 use tick_parser::parse;
 use tick_tree::{Deny, Fault, Tree};
 
