@@ -136,12 +136,14 @@ for_parts r = do
 unfoldable pub for_body : ℕ → Room → Stmt → OptionalExpr × OptionalExpr → Parser Stmt
 for_body n room first parts = s.For n first parts.0 parts.1 <$> part room
 
+unfoldable pub for_tail : ℕ → Room → Inner → Stmt → Parser Stmt
+for_tail n room r first = for_parts r >>= for_body n room first
+
 unfoldable pub for_rest : ℕ → Room → Parser Stmt
 for_rest n room = do
   p ← enter_paren room
   first ← for_first p.0
-  parts ← for_parts p.0
-  for_body n room first parts
+  for_tail n room p.0 first
 
 unfoldable pub switch_rest : ℕ → Room → Parser Stmt
 switch_rest n room = do

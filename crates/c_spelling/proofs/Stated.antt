@@ -22,7 +22,7 @@ use Rattle.c_grammar.specs.Input as input
 use Rattle.c_grammar.specs.Steps.{Inner, Room}
 use Rattle.c_grammar.specs.Declarators.{declares_function}
 use Rattle.c_grammar.specs.Expressions.{expr}
-use Rattle.c_grammar.specs.Statements.{elements_from, elements, initial, initializer, init, declaration, begins_stmt, begins_first, part, else_rest, if_rest, while_rest, do_rest, for_first, for_parts, for_body, for_rest, switch_rest, case_rest, return_rest, plain, word_by, word_stmt, stmt_by, stmt, room_of, variables, function_or_variables, first_declared, external, at_end, program_from, program}
+use Rattle.c_grammar.specs.Statements.{elements_from, elements, initial, initializer, init, declaration, begins_stmt, begins_first, part, else_rest, if_rest, while_rest, do_rest, for_first, for_parts, for_body, for_tail, for_rest, switch_rest, case_rest, return_rest, plain, word_by, word_stmt, stmt_by, stmt, room_of, variables, function_or_variables, first_declared, external, at_end, program_from, program}
 use Rattle.c_spelling.specs.Words.{words}
 use Rattle.c_spelling.specs.Spelling.{mark, keyword_word, base_words, behind_commas, with_commas, optional_comma, spells_expr, spells_optional, spells_init, spells_initializer, spells_declaration, spells_declarator, spells_stmt, spells_external, spells_program}
 use Rattle.c_spelling.proofs.Nodes as node
@@ -139,7 +139,7 @@ unfolding for_parts
 for_parts_says r ok i = after _ _ _ _ (optional_says m.Semicolon r.expr ok.expr i) (λ test j g. after _ _ _ _ (optional_says m.ParenClose r.expr ok.expr j) (λ step l h. given _ _ _ cc))
 
 for_says : (n : ℕ) (room : Room) → RoomSays room → (i : Input) → Gives (for_rest n room i) (λ x j. Behind w.For x i j)
-unfolding for_rest for_body
+unfolding for_rest for_tail for_body
 for_says n room ok i = after _ _ _ _ (enter_paren_says room ok i) (λ p j d. after _ _ _ _ (for_first_says p.0 d.inner j) (λ first l g. after _ _ _ _ (for_parts_says p.0 d.inner l) (λ parts a h. after _ _ _ _ (part_says room ok a) (λ body b q. given _ _ _
     (let e = node.at_stmt_for n first parts.0 parts.1 body (words b) in let s = d.says in cc)))))
 

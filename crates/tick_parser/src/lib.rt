@@ -3,7 +3,6 @@
 
 mod declarations;
 mod knot;
-mod nodes;
 mod programs;
 mod readings;
 mod statements;

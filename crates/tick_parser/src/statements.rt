@@ -1,13 +1,13 @@
 //! Statements.
 
-ghost use Rattle.std.specs.Prelude.{◌≡◌, ◌<◌, ◌≤◌};
+ghost use Rattle.std.specs.Prelude.{◌≡◌, ◌<◌, ◌≤◌, ◌-◌};
 ghost use Rattle.c_grammar.specs.Input.{Reads};
 ghost use Rattle.c_grammar.specs.Nests.{Nests};
 ghost use Rattle.c_grammar.specs.Statements as spec;
 ghost use Rattle.c_grammar.specs.Statements.{inner, room_of};
 
-use crate::nodes::{do_loop, for_loop, if_else, if_only, while_loop};
 use c_grammar::{Grammar, Kind, Mark, Mode, Part, Stop, Tokens, Word, descend, enter_paren};
+use sqlite_items::Boxed;
 use std::alloc::Global;
 use tick_tree::{BinaryOp, Declarator, Expr, OptionalExpr, Stmt};
 
@@ -62,7 +62,7 @@ impl<
 > Statements<F, S, D> {
     // A statement that is no item of a block.
     #[tactic(auto, unfolding(c_grammar::specs::Statements::part))]
-    fn part(&self, tokens: &mut Tokens<'_>, room: usize) -> Result<Stmt, Stop>
+    fn part(&self, tokens: &mut Tokens<'_>, room: usize) -> Result<Boxed<Stmt>, Stop>
         requires nests { Nests self.now.grammar.limit (F.pre self.now.grammar.expr) (F.post self.now.grammar.expr) (S.pre self.now.grammar.stmt) (S.post self.now.grammar.stmt) (D.pre self.now.grammar.declarator) (D.post self.now.grammar.declarator) }
         requires room { room ≤ self.now.grammar.limit }
         ensures { Reads (spec.part (room_of room) tokens.old) result tokens.new }
@@ -71,7 +71,8 @@ impl<
             return Err(tokens.refuse());
         }
         descend(tokens, room)?;
-        self.grammar.inner_stmt(tokens, room - 1)
+        let found = self.grammar.inner_stmt(tokens, room - 1)?;
+        Ok(Boxed::new(self.grammar.alloc, found)?)
     }
 
     // Behind the first statement of an `if`.
@@ -82,17 +83,17 @@ impl<
         room: usize,
         line: u32,
         test: Expr,
-        first: Stmt,
+        first: Boxed<Stmt>,
     ) -> Result<Stmt, Stop>
         requires nests { Nests self.now.grammar.limit (F.pre self.now.grammar.expr) (F.post self.now.grammar.expr) (S.pre self.now.grammar.stmt) (S.post self.now.grammar.stmt) (D.pre self.now.grammar.declarator) (D.post self.now.grammar.declarator) }
         requires room { room ≤ self.now.grammar.limit }
         ensures { Reads (spec.else_rest line (room_of room) test first tokens.old) result tokens.new }
     {
         if !tokens.eat(Mark::Else) {
-            return Ok(if_only(self.grammar.alloc, line, test, first)?);
+            return Ok(Stmt::If(line, test, first));
         }
         let second = self.part(tokens, room)?;
-        Ok(if_else(self.grammar.alloc, line, test, first, second)?)
+        Ok(Stmt::IfElse(line, test, first, second))
     }
 
     #[tactic(auto, unfolding(c_grammar::specs::Statements::if_rest))]
@@ -114,7 +115,7 @@ impl<
     {
         let test = self.parenthesized(tokens, room)?;
         let body = self.part(tokens, room)?;
-        Ok(while_loop(self.grammar.alloc, line, test, body)?)
+        Ok(Stmt::While(line, test, body))
     }
 
     #[tactic(auto, unfolding(c_grammar::specs::Statements::do_rest))]
@@ -127,11 +128,11 @@ impl<
         tokens.expect_word(Word::While)?;
         let test = self.parenthesized(tokens, room)?;
         tokens.expect(Mark::Semicolon)?;
-        Ok(do_loop(self.grammar.alloc, line, body, test)?)
+        Ok(Stmt::Do(line, body, test))
     }
 
     #[tactic(auto, unfolding(c_grammar::specs::Statements::for_first))]
-    fn for_first(&self, tokens: &mut Tokens<'_>, room: usize) -> Result<Stmt, Stop>
+    fn for_first(&self, tokens: &mut Tokens<'_>, room: usize) -> Result<Boxed<Stmt>, Stop>
         requires nests { Nests self.now.grammar.limit (F.pre self.now.grammar.expr) (F.post self.now.grammar.expr) (S.pre self.now.grammar.stmt) (S.post self.now.grammar.stmt) (D.pre self.now.grammar.declarator) (D.post self.now.grammar.declarator) }
         requires room { room < self.now.grammar.limit }
         ensures { Reads (spec.for_first (inner (room_of room)) tokens.old) result tokens.new }
@@ -139,7 +140,8 @@ impl<
         if !begins_first(tokens.peek()) {
             return Err(tokens.refuse());
         }
-        self.grammar.inner_stmt(tokens, room)
+        let found = self.grammar.inner_stmt(tokens, room)?;
+        Ok(Boxed::new(self.grammar.alloc, found)?)
     }
 
     #[tactic(auto, unfolding(c_grammar::specs::Statements::for_parts))]
@@ -163,7 +165,7 @@ impl<
         tokens: &mut Tokens<'_>,
         room: usize,
         line: u32,
-        first: Stmt,
+        first: Boxed<Stmt>,
         parts: (OptionalExpr, OptionalExpr),
     ) -> Result<Stmt, Stop>
         requires nests { Nests self.now.grammar.limit (F.pre self.now.grammar.expr) (F.post self.now.grammar.expr) (S.pre self.now.grammar.stmt) (S.post self.now.grammar.stmt) (D.pre self.now.grammar.declarator) (D.post self.now.grammar.declarator) }
@@ -172,7 +174,24 @@ impl<
     {
         let body = self.part(tokens, room)?;
         let (test, step) = parts;
-        Ok(for_loop(self.grammar.alloc, line, first, test, step, body)?)
+        Ok(Stmt::For(line, first, test, step, body))
+    }
+
+    // Behind the first part.
+    #[tactic(auto, unfolding(c_grammar::specs::Statements::for_tail))]
+    fn for_tail(
+        &self,
+        tokens: &mut Tokens<'_>,
+        room: usize,
+        line: u32,
+        first: Boxed<Stmt>,
+    ) -> Result<Stmt, Stop>
+        requires nests { Nests self.now.grammar.limit (F.pre self.now.grammar.expr) (F.post self.now.grammar.expr) (S.pre self.now.grammar.stmt) (S.post self.now.grammar.stmt) (D.pre self.now.grammar.declarator) (D.post self.now.grammar.declarator) }
+        requires room { (0 < room) × (room ≤ self.now.grammar.limit) }
+        ensures { Reads (spec.for_tail line (room_of room) (inner (room_of (room - 1))) first tokens.old) result tokens.new }
+    {
+        let parts = self.for_parts(tokens, room - 1)?;
+        self.for_body(tokens, room, line, first, parts)
     }
 
     #[tactic(auto, unfolding(c_grammar::specs::Statements::for_rest))]
@@ -183,8 +202,7 @@ impl<
     {
         enter_paren(tokens, room)?;
         let first = self.for_first(tokens, room - 1)?;
-        let parts = self.for_parts(tokens, room - 1)?;
-        self.for_body(tokens, room, line, first, parts)
+        self.for_tail(tokens, room, line, first)
     }
 
     #[tactic(auto, unfolding(c_grammar::specs::Statements::switch_rest))]

@@ -3,7 +3,7 @@ use Rattle.std.proofs.lemmas.Grind.{common_steps}
 use Rattle.c_grammar.specs.Expressions.{assign}
 use Rattle.c_grammar.specs.Statements.{elements_from, room_of}
 use Rattle.c_grammar.proofs.Rooms.{one_more, no_more}
-use Rattle.tick_parser.proofs.declarations.Statements.elements.Goals as goal
+use Rattle.tick_parser.proofs.statements.Statements.elements.Goals as goal
 
 pub returns-in_err-assign : goal.returns-in_err-assign
 unfolding elements_from

@@ -3,7 +3,7 @@ use Rattle.std.proofs.lemmas.Grind.{common_steps}
 use Rattle.c_grammar.specs.Steps.{closed_from}
 use Rattle.c_grammar.specs.Statements.{room_of, stmt}
 use Rattle.c_grammar.proofs.Rooms.{one_more, no_more}
-use Rattle.c_expressions.proofs.primaries.Expressions.closed.Goals as goal
+use Rattle.c_expressions.proofs.expressions.Expressions.closed.Goals as goal
 
 pub returns-in_err-inner_stmt : goal.returns-in_err-inner_stmt
 unfolding closed_from

@@ -3,7 +3,7 @@ use Rattle.std.proofs.lemmas.Grind.{common_steps}
 use Rattle.c_grammar.specs.Steps.{following_from}
 use Rattle.c_grammar.specs.Statements.{init, room_of}
 use Rattle.c_grammar.proofs.Rooms.{one_more, no_more}
-use Rattle.tick_parser.proofs.declarations.Statements.following.Goals as goal
+use Rattle.tick_parser.proofs.statements.Statements.following.Goals as goal
 
 pub returns-then-not-eat : goal.returns-then-not-eat
 unfolding following_from
