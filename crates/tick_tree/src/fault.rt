@@ -1,5 +1,8 @@
 //! The static faults: why a text is refused.
 
+ghost use Rattle.std.specs.Prelude.{◌≡◌, ◌≤◌};
+ghost use Rattle.tick_tree.specs.Faults as spec;
+
 use std::alloc::AllocFailed;
 
 /// The rule that a text breaks. Faults are numbered from 0 in this order.
@@ -65,6 +68,85 @@ pub enum FaultKind {
     TooManyParameters,
     /// A size is over its limit.
     TooLarge,
+}
+
+impl FaultKind {
+    /// The fault's number: 0 for `Unbuilt`, then 1 to 29 in the order above, by this project's own list of faults.
+    pub fn number(self) -> u8
+        ensures value { result ≡ spec.number self }
+        ensures small { result ≤ 29 }
+    {
+        match self {
+            FaultKind::Unbuilt => 0,
+            FaultKind::BadByte => 1,
+            FaultKind::OpenComment => 2,
+            FaultKind::OpenLiteral => 3,
+            FaultKind::BadEscape => 4,
+            FaultKind::BigLiteral => 5,
+            FaultKind::TooManyTokens => 6,
+            FaultKind::Syntax => 7,
+            FaultKind::TooDeep => 8,
+            FaultKind::Undeclared => 9,
+            FaultKind::Duplicate => 10,
+            FaultKind::NotFunction => 11,
+            FaultKind::ArgumentCount => 12,
+            FaultKind::TypeMismatch => 13,
+            FaultKind::NotPlace => 14,
+            FaultKind::BadOperand => 15,
+            FaultKind::VoidValue => 16,
+            FaultKind::BreakOutside => 17,
+            FaultKind::ContinueOutside => 18,
+            FaultKind::BadReturn => 19,
+            FaultKind::BadArray => 20,
+            FaultKind::DollarOutside => 21,
+            FaultKind::NestedTick => 22,
+            FaultKind::StageInTick => 23,
+            FaultKind::AddressOfRegister => 24,
+            FaultKind::NoMain => 25,
+            FaultKind::BadCase => 26,
+            FaultKind::DuplicateCase => 27,
+            FaultKind::TooManyParameters => 28,
+            FaultKind::TooLarge => 29,
+        }
+    }
+
+    /// The fault's name, as the command line writes it: the variant's own name.
+    pub fn name(self) -> &'static str
+        ensures { result.now ≡ spec.name self }
+    {
+        match self {
+            FaultKind::Unbuilt => "Unbuilt",
+            FaultKind::BadByte => "BadByte",
+            FaultKind::OpenComment => "OpenComment",
+            FaultKind::OpenLiteral => "OpenLiteral",
+            FaultKind::BadEscape => "BadEscape",
+            FaultKind::BigLiteral => "BigLiteral",
+            FaultKind::TooManyTokens => "TooManyTokens",
+            FaultKind::Syntax => "Syntax",
+            FaultKind::TooDeep => "TooDeep",
+            FaultKind::Undeclared => "Undeclared",
+            FaultKind::Duplicate => "Duplicate",
+            FaultKind::NotFunction => "NotFunction",
+            FaultKind::ArgumentCount => "ArgumentCount",
+            FaultKind::TypeMismatch => "TypeMismatch",
+            FaultKind::NotPlace => "NotPlace",
+            FaultKind::BadOperand => "BadOperand",
+            FaultKind::VoidValue => "VoidValue",
+            FaultKind::BreakOutside => "BreakOutside",
+            FaultKind::ContinueOutside => "ContinueOutside",
+            FaultKind::BadReturn => "BadReturn",
+            FaultKind::BadArray => "BadArray",
+            FaultKind::DollarOutside => "DollarOutside",
+            FaultKind::NestedTick => "NestedTick",
+            FaultKind::StageInTick => "StageInTick",
+            FaultKind::AddressOfRegister => "AddressOfRegister",
+            FaultKind::NoMain => "NoMain",
+            FaultKind::BadCase => "BadCase",
+            FaultKind::DuplicateCase => "DuplicateCase",
+            FaultKind::TooManyParameters => "TooManyParameters",
+            FaultKind::TooLarge => "TooLarge",
+        }
+    }
 }
 
 /// The first static fault of a text.
