@@ -1,6 +1,0 @@
-use Rattle.std.proofs.Common.{◌≡◌, ◌+◌, ◌==◌, take}
-use Rattle.std.specs.List.{count_by}
-use Rattle.tick_parser.proofs.trees.last_line.Given as goal
-
-abbrev pub invariant-loop-byte : goal.invariant-loop-byte
-invariant-loop-byte l = l.line ≡ 1 + count_by (λ b. b == 10) (take l.byte-index l.text)
