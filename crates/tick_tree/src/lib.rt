@@ -1,8 +1,15 @@
 //! The data that the stages of the front hand on: tokens, the syntax tree, the typed tree, and the static faults.
 #![tactic(auto)]
 
+mod base;
 mod fault;
+mod syntax;
 mod token;
 
+pub use base::{Base, BinaryOp, ModifyOp, Prefix, Signedness, StepOp, UnaryOp};
 pub use fault::{Deny, Fault, FaultKind};
+pub use syntax::{
+    Core, Declaration, Declarator, Expr, External, Init, Initializer, OptionalExpr, Parameter,
+    Stmt, Suffix, Tree, Typename,
+};
 pub use token::{Token, TokenKind};
