@@ -1,0 +1,11 @@
+use Rattle.std.proofs.Common.{◌+◌, refl, ap}
+use Rattle.flat_memory.specs.Regions.{spaces_of}
+use Rattle.code_arena.specs.Kept.{arena_of, rows_of}
+use Rattle.mips_core.specs.Core.{begun}
+use Rattle.mips_core.proofs.Loops.{begun_with}
+use Rattle.mips_core.proofs.core_state.Core.begun.Goals as goal
+
+pub returns-clause-state : goal.returns-clause-state
+returns-clause-state c =
+    begun_with (begun c.args.entry (spaces_of c.args.memory) (arena_of c.args.arena) (rows_of c.args.table)) (c.from.result + 4) refl
+    (ap (λ n. n + 4) c.from.ensures)

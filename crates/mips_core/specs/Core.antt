@@ -1,0 +1,171 @@
+-- What the code keeps of the machine's state, in lists, and the state that it stands for. What passes between a run and
+-- the outside is kept by nobody: here the state has none of it, and whoever runs the core says what it is.
+use Rattle.std.specs.Prelude.{zero, suc, ◌≢◌, ◌⊎◌, ⊤, ◌≡◌, ℕ, ◌+◌, ◌-◌, ◌<◌, Bool, true, false, ◌||◌, nat_eq, if◌then◌else◌, List, [], Option, Some, None, slice_index}
+use Rattle.std.specs.Fn.{iterate}
+use Rattle.flat_memory.specs.Spaces.{Spaces}
+use Rattle.code_arena.specs.Arena.{Arena}
+use Rattle.host_edge.specs.declared.ending.Ending.{Ending}
+use Rattle.history.specs.Events.{End}
+use Rattle.history.specs.Events as event
+use Rattle.flat_memory.specs.Regions.{Regions, spaces_of}
+use Rattle.code_arena.specs.Kept.{Kept, arena_of, rows_of}
+use Rattle.mips_core.specs.declared.halt.Halt.{Halt}
+use Rattle.mips_core.specs.declared.halt.Halt.TheVariants.{Ended, Fault}
+use Rattle.mips_encoder.specs.declared.instruction.Instr.{Instr}
+use Rattle.mips_model.specs.State.{Outside, Data, State, World, set_register}
+use Rattle.mips_model.specs.Run.{first_outside}
+use Rattle.mips_encoder.specs.declared.instruction.Instr.TheVariants.{Break, Syscall}
+use Rattle.mips_encoder.specs.declared.instruction.MemoryOp.{MemoryOp}
+use Rattle.word32.specs.declared.width.Width.{Width}
+use Rattle.mips_model.specs.Accesses.{load, store}
+use Rattle.mips_model.specs.Services.{answer}
+use Rattle.mips_model.specs.Effects.{gives, access}
+use Rattle.mips_model.specs.Steps.{decoded, execute, apply, onward, step, is_hazard}
+use Rattle.mips_model.specs.Beside.{beside, is_at_service}
+
+pub record CoreKept : Type 0 where
+  pub registers : List ℕ
+  pub hi : ℕ
+  pub lo : ℕ
+  pub pc : ℕ
+  pub next : ℕ
+  pub loaded : ℕ
+  pub recent : ℕ
+  pub slot : Bool
+  pub memory : Regions
+  pub arena : Kept
+  pub table : List (ℕ × ℕ)
+  pub stopped : Option Halt
+
+-- the address behind the next instruction passes a word only where no instruction is executed
+pub record IsCore (k : CoreKept) : Type 0 where
+  pub is_register : k.loaded < 32
+  pub next_is_low : k.pc < 4294967292 → k.next < 4294967296
+  pub next_is_near : k.next < 4294967300
+
+-- nothing of the outside
+abbrev pub nothing : Outside
+nothing = first_outside (record { bytes = []; failing = false })
+
+abbrev pub data_of : CoreKept → Data
+data_of k = record {
+  registers = slice_index k.registers;
+  hi = k.hi;
+  lo = k.lo;
+  objects = (spaces_of k.memory).objects;
+  closures = (spaces_of k.memory).closures;
+  spec_rows = (spaces_of k.memory).spec_rows;
+  cells = (spaces_of k.memory).cells;
+  emit_stack = (spaces_of k.memory).emit_stack;
+  stack = (spaces_of k.memory).stack;
+  table = rows_of k.table;
+  outside = nothing;
+}
+
+abbrev pub state_of : CoreKept → State
+state_of k = record {
+  pc = k.pc;
+  next = k.next;
+  loaded = k.loaded;
+  recent = k.recent;
+  slot = k.slot;
+  code = record { text = (spaces_of k.memory).text; arena = arena_of k.arena };
+  d = data_of k;
+}
+
+-- the ending of a core that has stopped
+abbrev pub ending_of : Halt → End
+ending_of (Ended e) = event.Ended e
+ending_of (Fault kind at) = event.Fault kind at
+
+abbrev pub ending_from : Option Halt → Option End
+ending_from None = None
+ending_from (Some halt) = Some (ending_of halt)
+
+abbrev pub world_of : CoreKept → World
+world_of k = record { state = state_of k; ending = ending_from k.stopped }
+
+-- a register takes a value; the run goes on behind the next instruction, or branches to an address behind it
+abbrev pub wrote : ℕ → ℕ → World → World
+wrote r v w = record w { state = record w.state { d = set_register r v w.state.d } }
+
+abbrev pub moved : (next : ℕ) (slot : Bool) → World → World
+moved next slot w =
+    record w { state = record w.state { pc = w.state.next; next = next; loaded = 0; recent = w.state.recent - 1; slot = slot } }
+
+abbrev pub chosen : Bool → ℕ → ℕ → ℕ
+chosen taken target other = if taken then target else other
+
+abbrev pub ends : Ending → End
+ends e = event.Ended e
+
+-- one of three registers was loaded by the last instruction
+abbrev pub is_loaded : ℕ → ℕ → ℕ → ℕ → Bool
+is_loaded loaded a b c = if nat_eq loaded 0 then false else (nat_eq a loaded || (nat_eq b loaded || nat_eq c loaded))
+
+-- what the instruction of a word does, if there is one
+abbrev pub does : Option Instr → State → World
+does o s = execute (decoded o) s
+
+-- a register takes a value, where it fits
+abbrev pub given : ℕ → Option ℕ → State → World
+given r v s = apply (gives r v s.d) (s.recent - 1) s
+
+abbrev pub breaking : ℕ → Instr
+breaking code = Break code
+
+-- a value was loaded to a register; a load, a store and either
+abbrev pub took : ℕ → ℕ → State → World
+took r v s = onward (s.next + 4) r (s.recent - 1) false s.code (set_register r v s.d) s
+
+abbrev pub loading : ℕ → ℕ → Width → State → World
+loading r at width s = apply (load r at width s.d) (s.recent - 1) s
+
+abbrev pub storing : ℕ → Width → ℕ → State → World
+storing at width w s = apply (store at width w s.d) (s.recent - 1) s
+
+abbrev pub accessing : MemoryOp → ℕ → ℕ → State → World
+accessing op r at s = apply (access op r at s.d) (s.recent - 1) s
+
+-- So many instructions, none of them a service, lead from what was kept to what is, whatever the outside is; and the
+-- run hadn't ended before the last of them.
+pub record GoesOn (count : ℕ) (old new : CoreKept) : Type 0 where
+  pub ran : (o : Outside) → iterate step count (beside o (world_of old)) ≡ beside o (world_of new)
+  pub alive : (o : Outside) (m : ℕ) → m < count → (iterate step m (beside o (world_of old))).ending ≡ None
+
+-- the loop stops before its count where the machine has stopped, or a service is next
+abbrev pub Pauses : ℕ → CoreKept → Type 0
+Pauses zero k = ⊤
+Pauses (suc left) k = (k.stopped ≢ None) ⊎ ((k.stopped ≡ None) × (is_at_service (state_of k) ≡ true))
+
+-- the first state, but for what its memory, its arena and its table hold
+abbrev pub begun : ℕ → Spaces → Arena → (ℕ → ℕ × ℕ) → State
+begun entry m arena table = record {
+  pc = entry;
+  next = entry + 4;
+  loaded = 0;
+  recent = 0;
+  slot = false;
+  code = record { text = m.text; arena = arena };
+  d = record {
+    registers = λ r. 0;
+    hi = 0;
+    lo = 0;
+    objects = m.objects;
+    closures = m.closures;
+    spec_rows = m.spec_rows;
+    cells = m.cells;
+    emit_stack = m.emit_stack;
+    stack = m.stack;
+    table = table;
+    outside = nothing;
+  };
+}
+
+-- a service answered v, and the arena changed
+abbrev pub answered : ℕ → Arena → State → World
+answered v arena s = onward (s.next + 4) 0 (s.recent - 1) false (record s.code { arena = arena }) (answer v s.d) s
+
+-- a SYSCALL is a hazard
+abbrev pub is_service_hazard : State → Bool
+is_service_hazard s = is_hazard Syscall s

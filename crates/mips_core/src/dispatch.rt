@@ -1,0 +1,107 @@
+//! Which row of the instruction table a word belongs to: by its opcode, and of the opcodes 0 and 1 by a second field.
+
+ghost use Rattle.std.specs.Prelude.{◌≡◌, ◌≢◌, ◌<◌, None};
+ghost use Rattle.mips_encoder.specs.Decoded as table;
+ghost use Rattle.mips_core.specs.Core as spec;
+ghost use Rattle.mips_core.specs.Core.{state_of, world_of};
+
+use crate::core_state::Core;
+use host_edge::MachineKind;
+use mips_encoder::{
+    ArithmeticOp, EqualityOp, HiLo, ImmediateOp, MemoryOp, MultiplyDivideOp, ShiftOp,
+    ShiftVariableOp, SignTest, ZeroComparisonOp,
+};
+
+impl Core {
+    #[inline]
+    fn execute_regimm(&mut self, w: u32)
+        requires on { self.old.stopped ≡ None }
+        requires next { self.old.next < 4294967296 }
+        ensures { world_of self.new ≡ spec.does (table.of_regimm w) (state_of self.old) }
+    {
+        match w / 65536 % 32 {
+            0 => self.branch_on_sign(SignTest::Negative, w),
+            1 => self.branch_on_sign(SignTest::NonNegative, w),
+            16 => self.branch_on_sign_and_link(SignTest::Negative, w),
+            17 => self.branch_on_sign_and_link(SignTest::NonNegative, w),
+            _ => self.fault(MachineKind::Reserved),
+        }
+    }
+
+    #[inline]
+    fn execute_special(&mut self, w: u32)
+        requires on { self.old.stopped ≡ None }
+        requires next { self.old.next < 4294967296 }
+        requires no_service { w ≢ 12 }
+        ensures { world_of self.new ≡ spec.does (table.of_special w) (state_of self.old) }
+    {
+        match w % 64 {
+            0 => self.shift(ShiftOp::Sll, w),
+            2 => self.shift(ShiftOp::Srl, w),
+            3 => self.shift(ShiftOp::Sra, w),
+            4 => self.shift_variable(ShiftVariableOp::Sllv, w),
+            6 => self.shift_variable(ShiftVariableOp::Srlv, w),
+            7 => self.shift_variable(ShiftVariableOp::Srav, w),
+            8 => self.jump_register(w),
+            9 => self.jump_and_link_register(w),
+            12 => self.fault(MachineKind::Reserved),
+            13 => self.break_with(w),
+            16 => self.move_from(HiLo::Hi, w),
+            17 => self.move_to(HiLo::Hi, w),
+            18 => self.move_from(HiLo::Lo, w),
+            19 => self.move_to(HiLo::Lo, w),
+            24 => self.multiply_divide(MultiplyDivideOp::Mult, w),
+            25 => self.multiply_divide(MultiplyDivideOp::Multu, w),
+            26 => self.multiply_divide(MultiplyDivideOp::Div, w),
+            27 => self.multiply_divide(MultiplyDivideOp::Divu, w),
+            32 => self.arithmetic(ArithmeticOp::Add, w),
+            33 => self.arithmetic(ArithmeticOp::Addu, w),
+            34 => self.arithmetic(ArithmeticOp::Sub, w),
+            35 => self.arithmetic(ArithmeticOp::Subu, w),
+            36 => self.arithmetic(ArithmeticOp::And, w),
+            37 => self.arithmetic(ArithmeticOp::Or, w),
+            38 => self.arithmetic(ArithmeticOp::Xor, w),
+            39 => self.arithmetic(ArithmeticOp::Nor, w),
+            42 => self.arithmetic(ArithmeticOp::Slt, w),
+            43 => self.arithmetic(ArithmeticOp::Sltu, w),
+            _ => self.fault(MachineKind::Reserved),
+        }
+    }
+
+    /// Executes the instruction of a word that isn't SYSCALL's.
+    #[inline]
+    pub(crate) fn execute(&mut self, w: u32)
+        requires on { self.old.stopped ≡ None }
+        requires next { self.old.next < 4294967296 }
+        requires no_service { w ≢ 12 }
+        ensures { world_of self.new ≡ spec.does (table.instr_of w) (state_of self.old) }
+    {
+        match w / 67108864 {
+            0 => self.execute_special(w),
+            1 => self.execute_regimm(w),
+            2 => self.jump(w),
+            3 => self.jump_and_link(w),
+            4 => self.branch_on_equality(EqualityOp::Beq, w),
+            5 => self.branch_on_equality(EqualityOp::Bne, w),
+            6 => self.branch_on_zero(ZeroComparisonOp::Blez, w),
+            7 => self.branch_on_zero(ZeroComparisonOp::Bgtz, w),
+            8 => self.immediate(ImmediateOp::Addi, w),
+            9 => self.immediate(ImmediateOp::Addiu, w),
+            10 => self.immediate(ImmediateOp::Slti, w),
+            11 => self.immediate(ImmediateOp::Sltiu, w),
+            12 => self.immediate(ImmediateOp::Andi, w),
+            13 => self.immediate(ImmediateOp::Ori, w),
+            14 => self.immediate(ImmediateOp::Xori, w),
+            15 => self.load_upper(w),
+            32 => self.access_memory(MemoryOp::Lb, w),
+            33 => self.access_memory(MemoryOp::Lh, w),
+            35 => self.access_memory(MemoryOp::Lw, w),
+            36 => self.access_memory(MemoryOp::Lbu, w),
+            37 => self.access_memory(MemoryOp::Lhu, w),
+            40 => self.access_memory(MemoryOp::Sb, w),
+            41 => self.access_memory(MemoryOp::Sh, w),
+            43 => self.access_memory(MemoryOp::Sw, w),
+            _ => self.fault(MachineKind::Reserved),
+        }
+    }
+}

@@ -1,0 +1,19 @@
+//! The machine's registers, memory and control: every instruction but SYSCALL, with all hazards.
+#![tactic(auto)]
+
+mod accesses;
+mod arithmetic;
+mod branches;
+mod core_state;
+mod dispatch;
+mod fetching;
+mod halt;
+mod operations;
+mod services;
+
+pub use core_state::Core;
+pub use halt::Halt;
+pub use services::is_arena_range;
+
+#[cfg(test)]
+mod tests;

@@ -1,0 +1,9 @@
+pub mod State
+pub mod Arithmetic
+pub mod Accesses
+pub mod Services
+pub mod Effects
+pub mod Steps
+pub mod Beside
+pub mod Run
+pub mod Laws
