@@ -1,0 +1,3 @@
+pub mod Numbers
+pub mod Registers
+pub mod Operations
