@@ -4,12 +4,16 @@
 //! and a number tells which fields of an instruction it fits.
 #![tactic(auto)]
 
+mod name;
 mod number;
 mod operation;
+mod pairs;
 mod register;
 
+pub use name::is_name;
 pub use number::{Base, Number, number_of};
 pub use operation::{Operation, operation_of};
+pub use pairs::Pairs;
 pub use register::register_of;
 
 #[cfg(test)]

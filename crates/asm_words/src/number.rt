@@ -56,7 +56,7 @@ fn is_digit(base: Base, b: u8) -> bool
     }
 }
 
-fn digit_value(b: u8) -> u8
+pub(crate) fn digit_value(b: u8) -> u8
     ensures { result ≡ spec.digit_value b }
 {
     if b <= b'9' {
@@ -79,7 +79,7 @@ fn all_digits(base: Base, digits: &[u8]) -> bool
     true
 }
 
-fn are_digits(base: Base, digits: &[u8]) -> bool
+pub(crate) fn are_digits(base: Base, digits: &[u8]) -> bool
     ensures { result ≡ spec.are_digits base digits.now }
 {
     !digits.is_empty() && all_digits(base, digits)

@@ -46,3 +46,24 @@ fn operations_have_names(rt: HostRuntime) {
     assert_eq!(rt; operation_of(b"JALR"), None);
     assert!(rt; Operation::Break.name() == "break");
 }
+
+#[test]
+fn names_begin_with_a_letter(rt: HostRuntime) {
+    assert!(rt; is_name(b"_loop2"));
+    assert!(rt; !is_name(b"2loop"));
+    assert!(rt; !is_name(b"a.b"));
+    assert!(rt; !is_name(b""));
+}
+
+#[test]
+fn pairs_are_bytes(rt: HostRuntime) -> Result<(), std::test::Fail> {
+    let mut out = Vec::new(rt.alloc());
+    match Pairs::of(b"0aFf") {
+        Some(pairs) => pairs.push_to(&mut out)?,
+        None => assert!(rt; false),
+    }
+    assert!(rt; out.as_slice() == [10, 255].as_slice());
+    assert!(rt; Pairs::of(b"0aF").is_none());
+    assert!(rt; Pairs::of(b"").is_none());
+    Ok(())
+}

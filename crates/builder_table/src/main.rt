@@ -1,10 +1,7 @@
 //! Builds the lists of builder ops on its input, a line each, and prints the ops that come of it or the refusal.
 //!
-//! A line is `TITLE | PARAMETERS OP OP ..`. An OP is the number of a builder op and its arguments, with commas between
-//! them; `N*` before it repeats it.
+//! A line is `TITLE | LIST`, with the list in the form of the crate `builder_lines`.
 #![tactic(auto)]
-
-mod parse;
 
 use icode_ir::{BuildOp, Builder};
 use std::io;
@@ -53,7 +50,7 @@ fn main(rt: HostRuntime) -> io::Result<()> {
             continue;
         };
         print!(rt; "{}:", title.trim())?;
-        match parse::list(rt.alloc(), list)? {
+        match builder_lines::list(rt.alloc(), list)? {
             Some((parameters, ops)) => report(&rt, &mut builder, parameters, &ops)?,
             None => println!(rt; " no list")?,
         }

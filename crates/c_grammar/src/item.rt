@@ -46,6 +46,6 @@ pub struct Item<'a> {
     pub value: u32,
     /// Whether it is a number of an unsigned type.
     pub unsigned: bool,
-    /// The bytes of a name; the bytes that a string stands for; else none.
+    /// The bytes of a name; what follows the opening quote of a string; else none.
     pub text: Bytes<'a>,
 }

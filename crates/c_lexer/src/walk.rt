@@ -1,6 +1,6 @@
 //! The walk over a text.
 
-ghost use Rattle.std.specs.Prelude.{◌≡◌, ◌+◌, ◌-◌, ◌<◌, ◌≤◌, length, drop, IfSome, IfNone};
+ghost use Rattle.std.specs.Prelude.{◌≡◌, ◌+◌, ◌-◌, ◌<◌, ◌≤◌, length, drop, IfOk, IfSome, IfNone};
 ghost use Rattle.tick_tree.specs.Faults.{Answers};
 ghost use Rattle.c_lexer.specs.Lex as spec;
 
@@ -92,7 +92,8 @@ pub const MAX_TOKENS: usize = 262144;
 /// the line on which its piece begins.
 pub fn tokens(alloc: Global, text: &[u8]) -> Result<Vec<Token>, Deny>
     requires { length text.now ≤ 1048576 }
-    ensures { Answers (λ v. v.items) result (spec.tokens text.now) }
+    ensures exact { Answers (λ v. v.items) result (spec.tokens text.now) }
+    ensures few { IfOk result (λ v. length v.items ≤ 262144) }
 {
     let mut found = Vec::new(alloc);
     let mut walk = Walk::new(text);

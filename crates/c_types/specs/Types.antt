@@ -86,9 +86,15 @@ is_integer_base (base.Integer k) = true
 abbrev pub is_sized : CType → Bool
 is_sized t = is_sized_under (is_integer_base (base_of t)) (layers_of t)
 
+-- the size under these layers, where there is one of at most 4,194,304 bytes
+abbrev pub limited_parts : Base → List Layer → Option ℕ
+limited_parts b ls =
+    if is_sized_under (is_integer_base b) ls && nat_le (size_under (base_size b) ls) 4194304
+    then Some (size_under (base_size b) ls) else None
+
 -- the size of a type that has one, of at most 4,194,304 bytes
 unfoldable pub limited_size : CType → Option ℕ
-limited_size t = if is_sized t && nat_le (size t) 4194304 then Some (size t) else None
+limited_size t = limited_parts (base_of t) (layers_of t)
 
 -- ---- the same types
 
@@ -229,3 +235,9 @@ converts_parts a as_ b bs zero =
 
 unfoldable pub converts : CType → CType → Bool → Bool
 converts from to zero = converts_parts (base_of from) (layers_of from) (base_of to) (layers_of to) zero
+
+-- ---- pointers
+
+-- the size of what a pointer points to, where that has one
+unfoldable pub pointed_size : CType → Option ℕ
+pointed_size t = if is_pointer (outermost (layers_of t)) then limited_parts (base_of t) (under (layers_of t)) else None

@@ -109,7 +109,7 @@ fn is_integer(base: Base, layers: &[Layer]) -> bool
     layers.is_empty() && base != Base::Void
 }
 
-fn is_pointer(layers: &[Layer]) -> bool
+pub(crate) fn is_pointer(layers: &[Layer]) -> bool
     ensures value { result ≡ spec.is_pointer (spec.outermost layers.now) }
     ensures some { result ≡ true → 0 < length layers.now }
 {
@@ -131,7 +131,7 @@ fn is_listed(layers: &[Layer]) -> bool
 }
 
 // The layers under the outermost one.
-fn under(layers: &[Layer]) -> &[Layer]
+pub(crate) fn under(layers: &[Layer]) -> &[Layer]
     ensures { result.now ≡ spec.under layers.now }
 {
     &layers[..layers.len().saturating_sub(1)]

@@ -11,4 +11,4 @@ pub use conversions::{common, converts, promoted, same};
 pub use copies::{copy, copy_list};
 pub use ctype::{Base, CType, Integer, Layer};
 pub use names::{DeclareFault, Meaning, MeaningKind, Scopes};
-pub use sizes::{MAX_SIZE, limited_size, size_of};
+pub use sizes::{MAX_SIZE, limited_size, pointed_size, size_of};

@@ -1,87 +1,137 @@
--- What an instruction does is known from the word at the program counter, and of a service from register 2.
-use Rattle.std.proofs.Common.{◌≡◌, ◌≢◌, ℕ, ◌%◌, List, [], ◌∷◌, Option, None, Some, refl, sym, ap, ◌∙◌}
+-- What the definition does at a SYSCALL, by the number in register 2, and so what each service is as a run of one
+-- instruction.
+use Rattle.std.proofs.Common.{◌≡◌, ◌≢◌, ℕ, ◌-◌, ◌%◌, Bool, true, false, List, [], ◌∷◌, ◌++◌, Option, None, Some, Result, Ok, Err, refl, sym, ap, ◌∙◌, arith, if◌then◌else◌}
+use Rattle.std.proofs.lemmas.Bool.{false≢true}
+use Rattle.std.proofs.lemmas.Bool.Decides.{nat_tests}
 use Rattle.host_edge.specs.declared.ending.Ending.TheVariants.{Done}
 use Rattle.host_edge.specs.declared.ending.MachineKind.{MachineKind}
 use Rattle.host_edge.specs.declared.ending.MachineKind.TheVariants as kind
-use Rattle.history.specs.Events.{Item, End, Input}
+use Rattle.code_arena.specs.Arena.{flushed}
+use Rattle.history.specs.Events.{Item, In, End, Input}
 use Rattle.history.specs.Events as event
-use Rattle.mips_machine.specs.declared.instruction.Instruction.{Instruction}
-use Rattle.mips_machine.specs.declared.instruction.Instruction.TheVariants.{Syscall}
-use Rattle.mips_machine.specs.declared.service.Service.{Service}
-use Rattle.mips_machine.specs.declared.service.Service.TheVariants as service
+use Rattle.mips_encoder.specs.declared.instruction.Instr.TheVariants.{Syscall}
+use Rattle.mips_model.specs.declared.service.Service.{Service}
+use Rattle.mips_model.specs.declared.service.Service.TheVariants.{PutInt, Exit, PutByte, GetByte, Flush}
+use Rattle.mips_model.specs.Accesses.{Changes, Faults, arena_word}
+use Rattle.mips_model.specs.Services.{service_of, serve, got, read_from, is_arena_range, number_bytes, answer, with_outside}
+use Rattle.mips_model.specs.Steps.{found, word_at, faulted, apply, act, execute, checked, step}
+use Rattle.mips_model.specs.Beside.{is_service, is_at_service}
+use Rattle.mips_core.specs.Core.{is_service_hazard}
 use Rattle.mips_machine.specs.declared.stop.Stop.{Stop}
 use Rattle.mips_machine.specs.declared.stop.Stop.TheVariants.{Ended, Fault, Steps, ReadFault, WriteFault}
-use Rattle.mips_machine.specs.Instructions.{instruction_of}
-use Rattle.mips_machine.specs.Machine.{State, counted, written, read_register, word_at, fetched, perform, service_of, serve, faults, step}
-use Rattle.mips_machine.specs.Ran.{Ran, Puts, Takes, ending_of, world}
-use Rattle.mips_machine.proofs.Steps.{Follows, quiet_ran, put_ran, get_ran}
+use Rattle.mips_machine.specs.Progress.{Progress, is_at_end, no_input, world}
+use Rattle.mips_machine.specs.Ran.{Ran, ending_of, before}
+use Rattle.mips_machine.specs.Served.{counted, answered, input_ended, flushed_at, flushed_outside, argument, second_argument, number, Puts, Takes}
+use Rattle.mips_machine.proofs.Quiet.{quiet_ran}
+use Rattle.mips_machine.proofs.Moves.{IsGet, put_ran, get_ran}
 
--- one instruction whose word is known
-pub step_word : (s : State) (word : ℕ) (o : Option Instruction) → word_at s.text s.pc ≡ Some word → instruction_of word ≡ o
-    → (rest : Input) (said : List Item) → step (world s rest said None) ≡ perform o (world s rest said None)
-step_word s word o at is rest said =
-    ap (λ (x : Option ℕ). fetched x (world s rest said None)) at ∙ ap (λ (x : Option Instruction). perform x (world s rest said None)) is
+service_word : (x : Result ℕ MachineKind) → is_service x ≡ true → x ≡ Ok 12
+service_word (Err k) is = absurd (false≢true is)
+service_word (Ok w) is = let e : w ≡ 12 = grind (arith, nat_tests, is) in ap Ok e
 
--- a service whose number is known
-pub step_service : (s : State) (o : Option Service) → word_at s.text s.pc ≡ Some 12 → service_of (read_register 2 s.registers) ≡ o
-    → (rest : Input) (said : List Item) → step (world s rest said None) ≡ serve o (world s rest said None)
-step_service s o at is rest said = step_word s 12 (Some Syscall) at refl rest said ∙ ap (λ (x : Option Service). serve x (world s rest said None)) is
-
-stops_alike : (s t : State) (rest : Input) (said : List Item) (e f : Option End) → s ≡ t → e ≡ f → world s rest said e ≡ world t rest said f
-stops_alike s t rest said e f same is = ap (λ (x : State). world x rest said e) same ∙ ap (λ (x : Option End). world t rest said x) is
-
-follows_counted : (old new : State) → new ≡ counted old → Follows old new
-follows_counted old new same = record { steps = ap (λ (s : State). s.steps) same; at_end = ap (λ (s : State). s.at_end) same }
-
--- an instruction that stops the run
-stop_ran : (old new : State) (left taken : Option (List ℕ)) (stop : Stop) (e : End) → ending_of stop ≡ Some e → stop ≢ ReadFault → new ≡ counted old
+-- a stop that isn't of the outside, and tells of an ending
+stop_ran : (old new : Progress) (left taken : Option (List ℕ)) (stop : Stop) (e : End) → ending_of stop ≡ Some e → stop ≢ ReadFault → new ≡ counted old
     → ((rest : Input) (said : List Item) → step (world old rest said None) ≡ world (counted old) rest said (Some e))
     → Ran 1 old new left left taken taken stop
 stop_ran old new left taken stop e ends no_read same is =
-    quiet_ran old new left taken stop no_read (not_write stop ends) (follows_counted old new same)
-    (λ rest said. is rest said ∙ stops_alike (counted old) new rest said (Some e) (ending_of stop) (sym same) (sym ends))
+    quiet_ran old new left taken stop no_read (not_write stop ends) (ap (λ (p : Progress). p.steps) same) (ap is_at_end same)
+    (λ rest said. is rest said ∙ ap (λ (p : Progress). world p rest said (Some e)) (sym same) ∙ ap (λ (x : Option End). world new rest said x) (sym ends))
   where
     not_write : (stop : Stop) → ending_of stop ≡ Some e → stop ≢ WriteFault
-    not_write (Ended e) ends is = absurd cc
+    not_write (Ended x) ends is = absurd cc
     not_write (Fault k at) ends is = absurd cc
     not_write Steps ends is = absurd cc
     not_write ReadFault ends is = absurd cc
     not_write WriteFault ends is = absurd cc
 
-pub fault_ran : (old new : State) (left taken : Option (List ℕ)) (stop : Stop) (k : MachineKind) → stop ≡ Fault k old.pc → new ≡ counted old
-    → ((rest : Input) (said : List Item) → step (world old rest said None) ≡ faults k (world old rest said None))
+refused_ran : (old new : Progress) (left taken : Option (List ℕ)) (stop : Stop) (k : MachineKind) → stop ≡ Fault k old.state.pc → new ≡ counted old
+    → ((rest : Input) (said : List Item) → step (world old rest said None) ≡ world (counted old) rest said (Some (event.Fault k old.state.pc)))
     → Ran 1 old new left left taken taken stop
-fault_ran old new left taken stop k stops same is =
-    stop_ran old new left taken stop (event.Fault k old.pc) (ap ending_of stops) (λ r. absurd cc) same is
+refused_ran old new left taken stop k stops same is =
+    stop_ran old new left taken stop (event.Fault k old.state.pc) (ap ending_of stops) (λ r. absurd cc) same is
 
--- no word at the program counter, and a word that is no instruction
-pub fetch_ran : (old new : State) (left taken : Option (List ℕ)) (stop : Stop) → word_at old.text old.pc ≡ None → stop ≡ Fault kind.Fetch old.pc → new ≡ counted old → Ran 1 old new left left taken taken stop
-fetch_ran old new left taken stop at stops same =
-    fault_ran old new left taken stop kind.Fetch stops same (λ rest said. ap (λ (x : Option ℕ). fetched x (world old rest said None)) at)
+module _ (old new : Progress) (at : is_at_service old.state ≡ true) where
+  at_syscall : (rest : Input) (said : List Item) → step (world old rest said None) ≡ checked Syscall (world old rest said None).state
+  at_syscall rest said = ap (λ (x : Result ℕ MachineKind). execute (found x) (world old rest said None).state) (service_word (word_at old.state.code old.state.pc) at)
 
-pub reserved_ran : (old new : State) (left taken : Option (List ℕ)) (stop : Stop) (word : ℕ) → word_at old.text old.pc ≡ Some word → instruction_of word ≡ None → stop ≡ Fault kind.Reserved old.pc → new ≡ counted old → Ran 1 old new left left taken taken stop
-reserved_ran old new left taken stop word at is stops same = fault_ran old new left taken stop kind.Reserved stops same (step_word old word None at is)
+  pub hazard_ran : (left taken : Option (List ℕ)) (stop : Stop) → is_service_hazard old.state ≡ true → stop ≡ Fault kind.Hazard old.state.pc → new ≡ counted old → Ran 1 old new left left taken taken stop
+  hazard_ran left taken stop is stops same =
+      refused_ran old new left taken stop kind.Hazard stops same
+      (λ rest said. at_syscall rest said ∙ ap (λ (b : Bool). if b then faulted kind.Hazard (world old rest said None).state else act Syscall (world old rest said None).state) is)
 
--- an instruction that sets a register
-pub sets_ran : (old new : State) (left taken : Option (List ℕ)) (stop : Stop) (r v : ℕ) → stop ≡ Steps → new ≡ written r v old
-    → ((rest : Input) (said : List Item) → step (world old rest said None) ≡ world (written r v old) rest said None)
-    → Ran 1 old new left left taken taken stop
-sets_ran old new left taken stop r v stops same is =
-    quiet_ran old new left taken stop (λ e. absurd cc) (λ e. absurd cc)
-    (record { steps = ap (λ (s : State). s.steps) same; at_end = ap (λ (s : State). s.at_end) same })
-    (λ rest said. is rest said ∙ stops_alike (written r v old) new rest said None (ending_of stop) (sym same) (sym (ap ending_of stops)))
+  module _ (quiet : is_service_hazard old.state ≡ false) (o : Option Service) (is : service_of (number old) ≡ o) where
+    served : (rest : Input) (said : List Item) → step (world old rest said None) ≡ apply (serve o (world old rest said None).state.d) (old.state.recent - 1) (world old rest said None).state
+    served rest said =
+        at_syscall rest said
+        ∙ ap (λ (b : Bool). if b then faulted kind.Hazard (world old rest said None).state else act Syscall (world old rest said None).state) quiet
+        ∙ ap (λ (x : Option Service). apply (serve x (world old rest said None).state.d) (old.state.recent - 1) (world old rest said None).state) is
 
-module _ (old new : State) (at : word_at old.text old.pc ≡ Some 12) where
-  pub exit_ran : (left taken : Option (List ℕ)) (stop : Stop) → service_of (read_register 2 old.registers) ≡ Some service.Exit → stop ≡ Ended (Done (read_register 4 old.registers % 256)) → new ≡ counted old → Ran 1 old new left left taken taken stop
-  exit_ran left taken stop is stops same =
-      stop_ran old new left taken stop (event.Ended (Done (read_register 4 old.registers % 256))) (ap ending_of stops) (λ r. absurd cc) same (step_service old (Some service.Exit) at is)
+  module _ (quiet : is_service_hazard old.state ≡ false) where
+    pub put_int_ran : (left taken told : Option (List ℕ)) (stop : Stop) → service_of (number old) ≡ Some PutInt → new ≡ answered (argument old) old
+        → Puts stop taken told (number_bytes (argument old)) → Ran 1 old new left left taken told stop
+    put_int_ran left taken told stop is same puts =
+        put_ran old new left taken told stop (number_bytes (argument old)) (argument old) (λ rest said. served quiet (Some PutInt) is rest said) same puts
 
-  pub write_ran : (left taken told : Option (List ℕ)) (stop : Stop) → service_of (read_register 2 old.registers) ≡ Some service.PutByte → new ≡ written 2 (read_register 4 old.registers % 256) old
-      → Puts stop taken told (read_register 4 old.registers % 256 ∷ []) → Ran 1 old new left left taken told stop
-  write_ran left taken told stop is same puts = put_ran old new left taken told stop (read_register 4 old.registers % 256) (step_service old (Some service.PutByte) at is) same puts
+    pub put_byte_ran : (left taken told : Option (List ℕ)) (stop : Stop) → service_of (number old) ≡ Some PutByte → new ≡ answered (argument old % 256) old
+        → Puts stop taken told (argument old % 256 ∷ []) → Ran 1 old new left left taken told stop
+    put_byte_ran left taken told stop is same puts =
+        put_ran old new left taken told stop (argument old % 256 ∷ []) (argument old % 256) (λ rest said. served quiet (Some PutByte) is rest said) same puts
 
-  pub read_ran : (left later taken : Option (List ℕ)) (stop : Stop) → service_of (read_register 2 old.registers) ≡ Some service.GetByte → Takes stop old new left later → Ran 1 old new left later taken taken stop
-  read_ran left later taken stop is took = get_ran old new left later taken stop (step_service old (Some service.GetByte) at is) took
+    pub exit_ran : (left taken : Option (List ℕ)) (stop : Stop) → service_of (number old) ≡ Some Exit → stop ≡ Ended (Done (argument old % 256)) → new ≡ counted old → Ran 1 old new left left taken taken stop
+    exit_ran left taken stop is stops same =
+        stop_ran old new left taken stop (event.Ended (Done (argument old % 256))) (ap ending_of stops) (λ r. absurd cc) same (λ rest said. served quiet (Some Exit) is rest said)
 
-  pub refused_ran : (left taken : Option (List ℕ)) (stop : Stop) → service_of (read_register 2 old.registers) ≡ None → stop ≡ Fault kind.BadService old.pc → new ≡ counted old → Ran 1 old new left left taken taken stop
-  refused_ran left taken stop is stops same = fault_ran old new left taken stop kind.BadService stops same (step_service old None at is)
+    pub unknown_ran : (left taken : Option (List ℕ)) (stop : Stop) → service_of (number old) ≡ None → stop ≡ Fault kind.BadService old.state.pc → new ≡ counted old → Ran 1 old new left left taken taken stop
+    unknown_ran left taken stop is stops same =
+        refused_ran old new left taken stop kind.BadService stops same (λ rest said. served quiet None is rest said)
+
+    -- a flush, by whether its range is the arena's
+    flush_is : (b : Bool) → is_arena_range (argument old) (second_argument old) ≡ b → service_of (number old) ≡ Some Flush → (rest : Input) (said : List Item)
+        → step (world old rest said None) ≡ apply (if b then Changes (flushed (arena_word (argument old)) (second_argument old)) (answer 0 (with_outside (flushed_outside (world old rest said None).state.d.outside) (world old rest said None).state.d)) else Faults kind.BadService) (old.state.recent - 1) (world old rest said None).state
+    flush_is b range is rest said =
+        served quiet (Some Flush) is rest said
+        ∙ ap (λ (x : Bool). apply (if x then Changes (flushed (arena_word (argument old)) (second_argument old)) (answer 0 (with_outside (flushed_outside (world old rest said None).state.d.outside) (world old rest said None).state.d)) else Faults kind.BadService) (old.state.recent - 1) (world old rest said None).state) range
+
+    pub flush_ran : (left taken : Option (List ℕ)) (stop : Stop) → service_of (number old) ≡ Some Flush → is_arena_range (argument old) (second_argument old) ≡ true
+        → stop ≡ Steps → new ≡ flushed_at (argument old) (second_argument old) old → Ran 1 old new left left taken taken stop
+    flush_ran left taken stop is range stops same =
+        quiet_ran old new left taken stop (λ e. absurd cc) (λ e. absurd cc) (ap (λ (p : Progress). p.steps) same) (ap is_at_end same)
+        (λ rest said. flush_is true range is rest said
+        ∙ ap (λ (p : Progress). world p rest said None) (sym same) ∙ ap (λ (x : Option End). world new rest said x) (sym (ap ending_of stops)))
+
+    pub flush_refused_ran : (left taken : Option (List ℕ)) (stop : Stop) → service_of (number old) ≡ Some Flush → is_arena_range (argument old) (second_argument old) ≡ false
+        → stop ≡ Fault kind.BadService old.state.pc → new ≡ counted old → Ran 1 old new left left taken taken stop
+    flush_refused_ran left taken stop is range stops same =
+        refused_ran old new left taken stop kind.BadService stops same (λ rest said. flush_is false range is rest said)
+
+    -- a read, by whether the end was read before
+    get_is : (b : Bool) → is_at_end old ≡ b → service_of (number old) ≡ Some GetByte → (rest : Input) (said : List Item)
+        → step (world old rest said None) ≡ apply (if b then got 4294967295 true rest (world old rest said None).state.d else read_from rest.bytes rest.failing (world old rest said None).state.d) (old.state.recent - 1) (world old rest said None).state
+    get_is b ends is rest said =
+        served quiet (Some GetByte) is rest said
+        ∙ ap (λ (x : Bool). apply (if x then got 4294967295 true rest (world old rest said None).state.d else read_from rest.bytes rest.failing (world old rest said None).state.d) (old.state.recent - 1) (world old rest said None).state) ends
+
+    -- a byte leaves the end unread
+    unread : (b : ℕ) (rest : Input) (said : List Item) → is_at_end old ≡ false
+        → apply (got b false rest (world old rest said None).state.d) (old.state.recent - 1) (world old rest said None).state ≡ world (answered b old) rest (said ++ In b ∷ []) None
+    unread b rest said ends =
+        ap (λ (x : Bool). apply (got b x rest (world old rest said None).state.d) (old.state.recent - 1) (world old rest said None).state) (sym ends)
+
+    -- at the end the answer is -1, whether the end is read now or was read before
+    end_read : (b : Bool) → is_at_end old ≡ b → service_of (number old) ≡ Some GetByte → (rest : Input) (said : List Item) → (is_at_end old ≡ false → rest ≡ no_input)
+        → step (world old rest said None) ≡ world (input_ended old) rest (said ++ In 4294967295 ∷ []) None
+    end_read true ends is rest said none = get_is true ends is rest said
+    end_read false ends is rest said none =
+        ap (λ (i : Input). step (world old i said None)) (none ends)
+        ∙ get_is false ends is no_input said
+        ∙ ap (λ (i : Input). world (input_ended old) i (said ++ In 4294967295 ∷ []) None) (sym (none ends))
+
+    is_get : service_of (number old) ≡ Some GetByte → IsGet old
+    is_get is = record {
+      byte = λ ends b rest said. get_is false ends is (before (b ∷ []) rest) said ∙ unread b rest said ends;
+      ended = λ rest said none. end_read (is_at_end old) refl is rest said none;
+      failed = λ ends said. get_is false ends is (record { bytes = []; failing = true }) said;
+    }
+
+    pub get_byte_ran : (left later taken : Option (List ℕ)) (stop : Stop) → service_of (number old) ≡ Some GetByte → Takes stop old new left later → Ran 1 old new left later taken taken stop
+    get_byte_ran left later taken stop is took = get_ran old new left later taken stop (is_get is) took

@@ -1,5 +1,5 @@
-pub mod Zeros
 pub mod More
-pub mod Steps
+pub mod Quiet
+pub mod Stretch
+pub mod Moves
 pub mod Acts
-pub mod Grows

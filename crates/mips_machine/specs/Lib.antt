@@ -1,4 +1,4 @@
-pub mod Instructions
-pub mod Machine
+pub mod Progress
 pub mod Ran
+pub mod Served
 pub mod Laws

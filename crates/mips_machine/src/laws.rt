@@ -1,7 +1,7 @@
-//! Laws of runs.
+//! Laws of calls.
 ghost use Rattle.std.specs.Prelude.{◌≡◌, ◌≤◌, ◌+◌, ◌^◌, None};
-ghost use Rattle.mips_machine.specs.Laws.{TwoAreOne, RunsOnTold, EndsOnce, RunsGrow};
-ghost use Rattle.mips_machine.specs.Machine.{state_of};
+ghost use Rattle.mips_machine.specs.Laws.{TwoAreOne, CountsSteps, RunsAll, RunsOnTold, BeginsThere};
+ghost use Rattle.mips_machine.specs.Progress.{progress_of};
 ghost use Rattle.mips_machine.specs.Ran.{Ran};
 
 use crate::{Machine, Stop};
@@ -12,19 +12,24 @@ pub fn two_are_one()
     ensures { TwoAreOne }
 {}
 
+/// The instructions of a call are those that the definition executes.
+pub fn counts_steps()
+    ensures { CountsSteps }
+{}
+
+/// Where no write failed, a call is the definition's run of all instructions that were allowed.
+pub fn runs_all()
+    ensures { RunsAll }
+{}
+
 /// On told bytes a call is the definition's run on all of them.
 pub fn runs_on_told()
     ensures { RunsOnTold }
 {}
 
-/// A run that has ended stays as it is.
-pub fn ends_once()
-    ensures { EndsOnce }
-{}
-
-/// What is seen of a run only grows.
-pub fn runs_grow()
-    ensures { RunsGrow }
+/// A machine that has executed nothing begins the definition's run of its image.
+pub fn begins_there()
+    ensures { BeginsThere }
 {}
 
 /// Runs twice, as once with the sum.
@@ -36,8 +41,8 @@ pub fn run_twice<I: Source, O: Sink>(
     second: u64,
 ) -> Stop
     requires fresh { machine.old.stopped ≡ None }
-    requires room { machine.old.kept.steps + first + second ≤ 2 ^ 40 }
-    ensures { Ran (first + second) (state_of machine.old.kept) (state_of machine.new.kept) (I.left input.old) (I.left input.new) (O.taken out.old) (O.taken out.new) result }
+    requires room { (progress_of machine.old).steps + first + second ≤ 2 ^ 40 }
+    ensures { Ran (first + second) (progress_of machine.old) (progress_of machine.new) (I.left input.old) (I.left input.new) (O.taken out.old) (O.taken out.new) result }
 {
     match machine.run(input, out, first) {
         Stop::Steps => machine.run(input, out, second),

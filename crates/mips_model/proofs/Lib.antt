@@ -1,3 +1,5 @@
 pub mod Aside
 pub mod Runs
 pub mod Reach
+pub mod Traces
+pub mod Loaded

@@ -1,20 +1,23 @@
 -- An accepted text's program is within the bounds, and so the headline holds for its image.
-use Rattle.std.proofs.Common.{◌≡◌, ℕ, zero, suc, ◌+◌, ◌-◌, ◌*◌, ◌<◌, ◌≤◌, Bool, true, false, ◌&&◌, nat_lt, nat_le, List, [], ◌∷◌, ◌++◌, length, Option, Some, None, Ok, Err, IfOk, refl, sym, ap, ◌∙◌, arith, subst, if◌then◌else◌}
+use Rattle.std.proofs.Common.{◌≡◌, ℕ, ◌+◌, ◌*◌, ◌<◌, ◌≤◌, Bool, true, false, ◌&&◌, nat_lt, nat_le, List, [], ◌∷◌, ◌++◌, length, Option, Some, None, Ok, Err, IfOk, refl, sym, ap, ◌∙◌, arith, subst, if◌then◌else◌}
 use Rattle.std.specs.declared.result.Result.{Result}
 use Rattle.std.proofs.lemmas.Bool.Decides.{nat_tests}
-use Rattle.std.proofs.lemmas.List.{length-append}
 use Rattle.std.specs.List.{list_all}
 use Rattle.tick_tree.specs.declared.fault.Fault.{Fault}
 use Rattle.tick_tree.specs.declared.fault.Deny.{Deny}
 use Rattle.tick_tree.specs.declared.token.Token.{Token}
+use Rattle.tick_tree.specs.declared.syntax.Tree.{Tree}
 use Rattle.c_lexer.specs.Lex.{tokens}
+use Rattle.tick_parser.specs.Trees.{parsed}
 use Rattle.staged_meaning.specs.Size.{size_of, size_of_items}
-use Rattle.mips_machine.specs.Machine.{Code}
-use Rattle.tick_build.specs.Straight.{Straight, Each, IsSum, IsStraight, program_of, items_of}
-use Rattle.tick_build.specs.Grammar.{Word, Outcome, words_in, text_words}
-use Rattle.tick_build.specs.Words.{load_number, add_words, sum_words, service_words, words_of, code_of}
-use Rattle.tick_build.specs.Texts.{is_sum, is_built, whole, straight_of, or_unbuilt, from_tokens, straight, typed, typed_by, Builds}
+use Rattle.mips_encoder.specs.declared.instruction.Instr.{Instr}
+use Rattle.image_file.specs.Image.{ImageParts, IsImage}
+use Rattle.tick_build.specs.Straight.{Straight, Each, IsSum, program_of, items_of}
+use Rattle.tick_build.specs.Grammar.{Outcome, words_in, text_words}
+use Rattle.tick_build.specs.Words.{call_service, instructions_of, image_of}
+use Rattle.tick_build.specs.Texts.{is_sum, is_built, whole, straight_of, or_unbuilt, from_tokens, from_tree, straight, typed_by, lowered_by, Builds}
 use Rattle.tick_build.proofs.Nodes.{both, long_enough, item_nodes, last_nodes}
+use Rattle.tick_build.proofs.Sums.{sum_and}
 use Rattle.tick_build.proofs.Whole.{headline}
 
 whole_built : (o : Outcome Straight) (s : Straight) → whole o ≡ Some s → is_built s ≡ true
@@ -36,7 +39,11 @@ built_of text s e = by (tokens text) e
   where
     by : (found : Result (List Token) Fault) → from_tokens text found ≡ Ok s → is_built s ≡ true
     by (Err fault) e = absurd cc
-    by (Ok found) e = whole_built (text_words (words_in text found)) s (accepted_some (straight_of (words_in text found)) s e)
+    by (Ok found) e = by_tree found (parsed text found) e
+      where
+        by_tree : (found : List Token) (tree : Result Tree Fault) → from_tree text found tree ≡ Ok s → is_built s ≡ true
+        by_tree found (Err fault) e = absurd cc
+        by_tree found (Ok tree) e = whole_built (text_words (words_in text found)) s (accepted_some (straight_of (words_in text found)) s e)
 
 each_small : (numbers : List ℕ) → list_all (λ n. nat_lt n 2147483648) numbers ≡ true → Each (λ n. n < 2147483648) numbers
 each_small [] all = tt
@@ -58,55 +65,48 @@ each_sum : (sums : List (List ℕ)) → list_all is_sum sums ≡ true → Each I
 each_sum [] all = tt
 each_sum (sum ∷ sums) all = let two = both (is_sum sum) (list_all is_sum sums) all in (sum_is sum two.0, each_sum sums two.1)
 
-added_length : (numbers : List ℕ) → length (add_words numbers) ≡ 3 * length numbers
-added_length [] = refl
-added_length (n ∷ numbers) =
-    let e = added_length numbers in
-    let l : length (n ∷ numbers) ≡ length numbers + 1 = omega arith in
-    let w : length (add_words (n ∷ numbers)) ≡ 3 + length (add_words numbers) = omega arith in
-    omega (arith, e, l, w)
+more : (is : List Instr) → length (call_service 11 ++ is) ≡ 3 + length is
+more is = omega arith
 
-sum_length : (numbers rest : List ℕ) → 1 ≤ length numbers → length (sum_words numbers ++ rest) + 1 ≡ 3 * length numbers + length rest
-sum_length [] rest le = absurd (nothing le)
-  where
-    nothing : 1 ≤ 0 → ⊥
-    nothing le = omega (arith, le)
-sum_length (n ∷ numbers) rest le =
-    let e = added_length numbers in
-    let l : length (n ∷ numbers) ≡ length numbers + 1 = omega arith in
-    let a = length-append (sum_words (n ∷ numbers)) rest in
-    let w : length (sum_words (n ∷ numbers)) ≡ 2 + length (add_words numbers) = omega arith in
-    omega (arith, e, l, a, w)
-
-short : (sums : List (List ℕ)) (answer : List ℕ) → list_all is_sum sums ≡ true → is_sum answer ≡ true → length (words_of sums answer) ≤ 3 * size_of_items (items_of sums answer)
+short : (sums : List (List ℕ)) (answer : List ℕ) → list_all is_sum sums ≡ true → is_sum answer ≡ true → length (instructions_of sums answer) ≤ 3 * size_of_items (items_of sums answer)
 short [] answer all is =
-    let l = sum_length answer (service_words 10) (long_enough answer is).0 in
-    let n = last_nodes answer is in
     let some = (long_enough answer is).0 in
+    let l = sum_and answer (call_service 10) 3 refl some in
+    let n = last_nodes answer is in
     omega (arith, l, n, some)
 short (sum ∷ sums) answer all is =
     let two = both (is_sum sum) (list_all is_sum sums) all in
-    let l = sum_length sum (service_words 11 ++ words_of sums answer) (long_enough sum two.0).0 in
-    let more : length (service_words 11 ++ words_of sums answer) ≡ 3 + length (words_of sums answer) = omega arith in
+    let some = (long_enough sum two.0).0 in
+    let l = sum_and sum (call_service 11 ++ instructions_of sums answer) (3 + length (instructions_of sums answer)) (more (instructions_of sums answer)) some in
     let n = item_nodes sum sums answer two.0 in
     let rest = short sums answer two.1 is in
-    omega (arith, l, more, n, rest, (long_enough sum two.0).0)
+    omega (arith, l, n, rest, some)
 
--- the image of an accepted text
-pub builds : (text : List ℕ) (s : Straight) (code : Code) → straight text ≡ Ok s → code ≡ code_of s → Builds text code
-builds text s code is same =
-    let built = built_of text s is in
+-- the instructions of a program within the bounds fit the text
+pub fitting : (s : Straight) → is_built s ≡ true → length (instructions_of s.outputs s.answer) ≤ 15728640
+fitting s built =
     let parts = both (list_all is_sum s.outputs && is_sum s.answer) (nat_le (size_of (program_of s)) 1000) built in
     let sums = both (list_all is_sum s.outputs) (is_sum s.answer) parts.0 in
     let few : nat_le (size_of (program_of s)) 1000 ≡ true = parts.1 in
     let nodes : size_of (program_of s) ≤ 1000 = grind (arith, nat_tests) in
     let words = short s.outputs s.answer sums.0 sums.1 in
+    omega (arith, nodes, words)
+
+-- the image of an accepted text
+pub builds : (text : List ℕ) (s : Straight) (image : ImageParts) → straight text ≡ Ok s → image ≡ image_of s → IsImage image → Builds text image
+builds text s image is same rules =
+    let built = built_of text s is in
+    let parts = both (list_all is_sum s.outputs && is_sum s.answer) (nat_le (size_of (program_of s)) 1000) built in
+    let sums = both (list_all is_sum s.outputs) (is_sum s.answer) parts.0 in
     subst (Builds text) (sym same) (record {
       program = program_of s;
       accepted = ap typed_by is;
-      headline = headline s (record { outputs = each_sum s.outputs sums.0; answer = sum_is s.answer sums.1 }) (omega (arith, nodes, words));
+      lowering = ap lowered_by is;
+      rules = subst IsImage same rules;
+      headline = headline s (record { outputs = each_sum s.outputs sums.0; answer = sum_is s.answer sums.1 }) (fitting s built);
     })
 
-pub image_builds : (text : List ℕ) (s : Straight) (r : Result Code Deny) → straight text ≡ Ok s → IfOk r (λ code. code ≡ code_of s) → IfOk r (λ code. Builds text code)
-image_builds text s (Ok code) is same = builds text s code is same
-image_builds text s (Err deny) is same = tt
+pub image_builds : (text : List ℕ) (s : Straight) (r : Result ImageParts Deny) → straight text ≡ Ok s → IfOk r (λ image. image ≡ image_of s) → IfOk r (λ image. IsImage image)
+    → IfOk r (λ image. Builds text image)
+image_builds text s (Ok image) is same rules = builds text s image is same rules
+image_builds text s (Err deny) is same rules = tt

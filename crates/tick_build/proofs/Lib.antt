@@ -1,8 +1,9 @@
 pub mod Costs
-pub mod Fetches
 pub mod Sums
 pub mod Programs
 pub mod Whole
 pub mod Turns
 pub mod Nodes
+pub mod Images
 pub mod Built
+pub mod Files

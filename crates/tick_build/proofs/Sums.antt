@@ -1,87 +1,121 @@
--- The words of a sum leave its value in $t8.
-use Rattle.std.proofs.Common.{◌≡◌, ℕ, zero, suc, ◌+◌, ◌-◌, ◌*◌, ◌/◌, ◌%◌, ◌<◌, ◌≤◌, List, [], ◌∷◌, ◌++◌, length, Option, Some, None, refl, sym, ap, ◌∙◌, arith, subst, append_assoc, bit_or}
-use Rattle.std.specs.Fn.{iterate}
+-- The instructions of a sum leave its value in $t8, and a service takes it from there.
+use Rattle.std.proofs.Common.{◌≡◌, ℕ, ◌+◌, ◌*◌, ◌/◌, ◌%◌, ◌≤◌, List, [], ◌∷◌, ◌++◌, length, refl, ap, ◌∙◌, arith, append_assoc, bit_or}
 use Rattle.std.proofs.lemmas.Nat.{or_shifted}
-use Rattle.pace.proofs.Runs.{iterate_add}
-use Rattle.history.specs.Events.{Item, End, Input}
-use Rattle.mips_machine.specs.declared.instruction.Instruction.TheVariants.{LoadUpper, OrImmediate, AddUnsigned, Syscall}
-use Rattle.mips_machine.specs.Machine.{State, World, sets, value, step}
-use Rattle.tick_build.specs.Straight.{Each}
-use Rattle.tick_build.specs.Words.{load_upper, or_immediate, add_unsigned, load_number, add_words, sum_words}
+use Rattle.std.proofs.lemmas.List.{length-append}
+use Rattle.word32.specs.Words.{sum}
+use Rattle.history.specs.Events.{Item, Out}
+use Rattle.mips_encoder.specs.declared.instruction.Instr.{Instr}
+use Rattle.mips_encoder.specs.declared.instruction.Instr.TheVariants.{Arithmetic, ImmediateArithmetic}
+use Rattle.mips_encoder.specs.declared.instruction.ArithmeticOp.TheVariants.{Addu}
+use Rattle.mips_encoder.specs.declared.instruction.ImmediateOp.TheVariants.{Ori}
+use Rattle.mips_model.specs.State.{Outside, Data, register, set_register}
+use Rattle.mips_model.specs.Services.{says, answer, with_outside}
+use Rattle.mips_model.proofs.Reach.{through}
+use Rattle.tick_build.specs.Straight.{IsSum}
+use Rattle.tick_build.specs.Words.{add_numbers, sum_up, call_service}
 use Rattle.tick_build.proofs.Costs.{total}
-use Rattle.tick_build.proofs.Fetches.{HasAt, step_is, upper_24, upper_25, or_24, or_25}
 
 constant_parts : (x : ℕ) → bit_or (x / 65536 * 65536) (x % 65536) ≡ x
 constant_parts x = or_shifted (x / 65536) 16 (x % 65536) (omega arith) ∙ omega arith
 
--- a world that has gone on, where these words stand next
-pub record Comes (from : World) (count : ℕ) (rest : List ℕ) (v : ℕ) : Type 0 where
-  pub to : World
-  pub comes : iterate step count from ≡ to
-  pub at : HasAt to.state.text to.state.pc rest
-  pub sum : to.state.registers 24 ≡ v
-  pub on : to.ending ≡ None
-  pub history : to.history ≡ from.history
+-- straight code leaves this data, whatever comes behind it
+abbrev pub Leaves : List Instr → Data → Data → Type 0
+Leaves is d to = (rest : List Instr) → through (is ++ rest) 0 d ≡ through rest 0 to
 
-pub comes_on : {from : World} {m n : ℕ} {mid rest : List ℕ} {u v : ℕ} → (c : Comes from m mid u) → Comes c.to n rest v → Comes from (m + n) rest v
-comes_on {from} {m} {n} c d = record {
-  to = d.to;
-  comes = iterate_add step m n from ∙ ap (iterate step n) c.comes ∙ d.comes;
-  at = d.at;
-  sum = d.sum;
-  on = d.on;
-  history = d.history ∙ c.history;
-}
+pub leaves_on : (is js : List Instr) (d mid to : Data) → Leaves is d mid → Leaves js mid to → Leaves (is ++ js) d to
+leaves_on is js d mid to first second rest = ap (λ l. through l 0 d) (append_assoc is js rest) ∙ first (js ++ rest) ∙ second rest
 
-module _ (w : World) (n : ℕ) (rest : List ℕ) (small : n < 2147483648) (on : w.ending ≡ None) where
-  hi_small : n / 65536 < 65536
-  hi_small = omega (arith, small)
+pub record Sums (is : List Instr) (d : Data) (v : ℕ) : Type 0 where
+  pub to : Data
+  pub leaves : Leaves is d to
+  pub value : to.registers 24 ≡ v
+  pub outside : to.outside ≡ d.outside
 
-  -- the first number goes to $t8
-  pub loads_24 : HasAt w.state.text w.state.pc (load_number 24 n ++ rest) → Comes w 2 rest n
-  loads_24 h =
-      let w1 = sets 24 (n / 65536 * 65536) w in
-      let w2 = sets 24 (bit_or (value 24 w1) (n % 65536)) w1 in
-      let s1 : step w ≡ w1 = step_is w (load_upper 24 (n / 65536)) (Some (LoadUpper 24 (n / 65536))) on h.0 (upper_24 (n / 65536) hi_small) in
-      let s2 : step w1 ≡ w2 = step_is w1 (or_immediate 24 24 (n % 65536)) (Some (OrImmediate 24 24 (n % 65536))) on h.1.0 (or_24 (n % 65536) (omega arith)) in
-      record {
-        to = w2;
-        comes = ap step s1 ∙ s2;
-        at = h.1.1;
-        sum = constant_parts n;
-        on = on;
-        history = refl;
-      }
+-- register r has taken the number n
+abbrev taken : ℕ → ℕ → Data → Data
+taken r n d = set_register r (bit_or (register r (set_register r (n / 65536 * 65536) d)) (n % 65536)) (set_register r (n / 65536 * 65536) d)
 
-  -- a further one is added to it
-  pub adds_25 : (v : ℕ) → w.state.registers 24 ≡ v → HasAt w.state.text w.state.pc (load_number 25 n ++ add_unsigned 24 24 25 ∷ rest) → Comes w 3 rest ((v + n) % 4294967296)
-  adds_25 v is h =
-      let w1 = sets 25 (n / 65536 * 65536) w in
-      let w2 = sets 25 (bit_or (value 25 w1) (n % 65536)) w1 in
-      let w3 = sets 24 ((value 24 w2 + value 25 w2) % 4294967296) w2 in
-      let s1 : step w ≡ w1 = step_is w (load_upper 25 (n / 65536)) (Some (LoadUpper 25 (n / 65536))) on h.0 (upper_25 (n / 65536) hi_small) in
-      let s2 : step w1 ≡ w2 = step_is w1 (or_immediate 25 25 (n % 65536)) (Some (OrImmediate 25 25 (n % 65536))) on h.1.0 (or_25 (n % 65536) (omega arith)) in
-      let s3 : step w2 ≡ w3 = step_is w2 (add_unsigned 24 24 25) (Some (AddUnsigned 24 24 25)) on h.1.1.0 refl in
-      record {
-        to = w3;
-        comes = ap (λ z. step (step z)) s1 ∙ ap step s2 ∙ s3;
-        at = h.1.1.1;
-        sum = ap (λ x. (x + bit_or (n / 65536 * 65536) (n % 65536)) % 4294967296) is ∙ ap (λ y. (v + y) % 4294967296) (constant_parts n);
-        on = on;
-        history = refl;
-      }
+-- a further number was added
+abbrev added : ℕ → Data → Data
+added n d = set_register 24 (sum (register 24 (taken 25 n d)) (register 25 (taken 25 n d))) (taken 25 n d)
 
-pub adds_all : (numbers : List ℕ) (w : World) (v : ℕ) (rest : List ℕ) → Each (λ n. n < 2147483648) numbers → w.ending ≡ None → w.state.registers 24 ≡ v
-    → HasAt w.state.text w.state.pc (add_words numbers ++ rest) → Comes w (3 * length numbers) rest (total v numbers)
-adds_all [] w v rest small on is h = record { to = w; comes = refl; at = h; sum = is; on = on; history = refl }
-adds_all (n ∷ numbers) w v rest small on is h =
-    let one = adds_25 w n (add_words numbers ++ rest) small.0 on v is h in
-    let more = adds_all numbers one.to ((v + n) % 4294967296) rest small.1 one.on one.sum one.at in
-    let e : 3 + 3 * length numbers ≡ 3 * length (n ∷ numbers) = omega arith in
-    subst (λ k. Comes w k rest (total ((v + n) % 4294967296) numbers)) e (comes_on one more)
+adds_all : (numbers : List ℕ) (d : Data) (v : ℕ) → d.registers 24 ≡ v → Sums (add_numbers numbers) d (total v numbers)
+adds_all [] d v is = record { to = d; leaves = λ rest. refl; value = is; outside = refl }
+adds_all (n ∷ numbers) d v is =
+    let next : (added n d).registers 24 ≡ (v + n) % 4294967296 = ap (λ x. (x + bit_or (n / 65536 * 65536) (n % 65536)) % 4294967296) is ∙ ap (λ y. (v + y) % 4294967296) (constant_parts n) in
+    let more = adds_all numbers (added n d) ((v + n) % 4294967296) next in
+    record { to = more.to; leaves = λ rest. more.leaves rest; value = more.value; outside = more.outside }
 
-pub sums : (n : ℕ) (numbers : List ℕ) (w : World) (rest : List ℕ) → Each (λ n. n < 2147483648) (n ∷ numbers) → w.ending ≡ None
-    → HasAt w.state.text w.state.pc (sum_words (n ∷ numbers) ++ rest) → Comes w (2 + 3 * length numbers) rest (total n numbers)
-sums n numbers w rest small on h =
-    let one = loads_24 w n (add_words numbers ++ rest) small.0 on h in
-    comes_on one (adds_all numbers one.to n rest small.1 one.on one.sum one.at)
+-- the value of a sum
+abbrev pub value_of : List ℕ → ℕ
+value_of [] = 0
+value_of (n ∷ numbers) = total n numbers
+
+no_numbers : 1 ≤ 0 → ⊥
+no_numbers le = omega (arith, le)
+
+pub sums : (numbers : List ℕ) (d : Data) → IsSum numbers → Sums (sum_up numbers) d (value_of numbers)
+sums [] d ok = absurd (no_numbers ok.some)
+sums (n ∷ numbers) d ok =
+    let more = adds_all numbers (taken 24 n d) n (constant_parts n) in
+    record { to = more.to; leaves = λ rest. more.leaves rest; value = more.value; outside = more.outside }
+
+-- before the service k, whose argument is the sum
+abbrev pub asks : ℕ → List Instr
+asks k = Arithmetic Addu 4 24 0 ∷ ImmediateArithmetic Ori 2 0 k ∷ []
+
+abbrev pub asked : ℕ → Data → Data
+asked k d = set_register 2 (bit_or 0 k) (set_register 4 (sum (d.registers 24) 0) d)
+
+pub asks_leaves : (k : ℕ) (d : Data) → Leaves (asks k) d (asked k d)
+asks_leaves k d rest = refl
+
+pub argument : (k : ℕ) (d : Data) (v : ℕ) → d.registers 24 ≡ v → register 4 (asked k d) % 256 ≡ v % 256
+argument k d v is = let a : (v + 0) % 4294967296 % 256 ≡ v % 256 = omega arith in ap (λ x. (x + 0) % 4294967296 % 256) is ∙ a
+
+-- the byte of a sum was put out
+pub record Puts (numbers : List ℕ) (d : Data) : Type 0 where
+  pub to : Data
+  pub leaves : Leaves (sum_up numbers ++ call_service 11) d to
+  pub history : to.outside.history ≡ d.outside.history ++ Out (value_of numbers % 256) ∷ []
+
+abbrev told : ℕ → Data → Data
+told b d = answer b (with_outside (says (b ∷ []) d.outside) d)
+
+tells : (d : Data) → Leaves (call_service 11) d (told (register 4 (asked 11 d) % 256) (asked 11 d))
+tells d rest = refl
+
+pub puts : (numbers : List ℕ) (d : Data) → IsSum numbers → Puts numbers d
+puts numbers d ok =
+    let s = sums numbers d ok in
+    let said = told (register 4 (asked 11 s.to) % 256) (asked 11 s.to) in
+    record {
+      to = said;
+      leaves = leaves_on (sum_up numbers) (call_service 11) d s.to said s.leaves (tells s.to);
+      history = ap (λ b. s.to.outside.history ++ Out b ∷ []) (argument 11 s.to (value_of numbers) s.value)
+          ∙ ap (λ (l : List Item). l ++ Out (value_of numbers % 256) ∷ []) (ap (λ (o : Outside). o.history) s.outside);
+    }
+
+-- how many instructions they are
+added_length : (numbers : List ℕ) → length (add_numbers numbers) ≡ 3 * length numbers
+added_length [] = refl
+added_length (n ∷ numbers) =
+    let e = added_length numbers in
+    let l : length (n ∷ numbers) ≡ length numbers + 1 = omega arith in
+    let w : length (add_numbers (n ∷ numbers)) ≡ 3 + length (add_numbers numbers) = omega arith in
+    omega (arith, e, l, w)
+
+pub sum_length : (numbers : List ℕ) → 1 ≤ length numbers → length (sum_up numbers) + 1 ≡ 3 * length numbers
+sum_length [] some = absurd (no_numbers some)
+sum_length (n ∷ numbers) some =
+    let e = added_length numbers in
+    let l : length (n ∷ numbers) ≡ length numbers + 1 = omega arith in
+    let w : length (sum_up (n ∷ numbers)) ≡ 2 + length (add_numbers numbers) = omega arith in
+    omega (arith, e, l, w)
+
+-- a sum and so many more
+pub sum_and : (numbers : List ℕ) (rest : List Instr) (k : ℕ) → length rest ≡ k → 1 ≤ length numbers → length (sum_up numbers ++ rest) + 1 ≡ 3 * length numbers + k
+sum_and numbers rest k is some =
+    let a = length-append (sum_up numbers) rest in
+    let s = sum_length numbers some in
+    omega (arith, a, s, is)

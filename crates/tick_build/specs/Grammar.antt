@@ -1,12 +1,11 @@
 -- The texts that are built so far, by their tokens:
 --   text = "int" "main" "(" ")" "{" { "putchar" "(" sum ")" ";" } "return" sum ";" "}"
 --   sum  = number { "+" number }
--- A number is decimal, without a suffix, and at most 2,147,483,647; a sum has at most 100 numbers, and main has at
--- most 1,000 nodes. Any other text without a lexical fault is Unbuilt. The grammar is this project's own.
+-- A number is of type int: without a suffix, and at most 2,147,483,647; a sum has at most 100 numbers, and main has at
+-- most 1,000 nodes. Any other text that has a tree is Unbuilt. The grammar is this project's own.
 use Rattle.std.specs.Prelude.{◌≡◌, ◌≢◌, ℕ, zero, suc, ◌+◌, ◌*◌, Bool, true, false, ◌&&◌, ◌||◌, not, ◌==◌, nat_lt, nat_le, if◌then◌else◌, List, [], ◌∷◌, ◌++◌, length, slice_index, map, take, drop, Option, Some, None, Result, Ok, Err, codes}
 use Rattle.std.specs.Str.{bytes_eq}
 use Rattle.std.specs.Char.{is_ascii_digit}
-use Rattle.std.specs.List.{list_all}
 use Rattle.c_literals.specs.Literals.{numeral_at}
 use Rattle.tick_tree.specs.declared.token.Token.{Token}
 use Rattle.tick_build.specs.declared.reading.Stop.{Stop}
@@ -43,15 +42,12 @@ behind (x ∷ words) = words
 unfoldable pub expect : Word → List Word → Outcome (Unit {0})
 expect w words = if sees w words then Some (tt, behind words) else None
 
-abbrev pub has_leading_zero : Word → Bool
-has_leading_zero w = nat_lt 1 (length w) && (slice_index w 0 == 48)
-
--- decimal digits alone, without a leading zero
-abbrev pub is_plain : Word → Bool
-is_plain w = nat_lt 0 (length w) && list_all is_ascii_digit w && not (has_leading_zero w)
+-- a number token, of any spelling: no other token begins with a digit
+abbrev pub is_number : Word → Bool
+is_number w = is_ascii_digit (slice_index w 0)
 
 unfoldable pub number_of : Word → Option ℕ
-number_of w = if is_plain w && not (numeral_at w).unsigned then (numeral_at w).value else None
+number_of w = if is_number w && not (numeral_at w).unsigned then (numeral_at w).value else None
 
 abbrev pub counted : Option ℕ → List Word → Outcome ℕ
 counted None words = None

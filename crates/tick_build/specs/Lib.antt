@@ -3,3 +3,4 @@ pub mod Grammar
 pub mod Words
 pub mod Headline
 pub mod Texts
+pub mod Saved

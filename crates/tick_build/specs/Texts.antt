@@ -4,15 +4,18 @@ use Rattle.std.specs.List.{list_all}
 use Rattle.tick_tree.specs.declared.fault.Fault.{Fault}
 use Rattle.tick_tree.specs.declared.fault.FaultKind.TheVariants.{Unbuilt}
 use Rattle.tick_tree.specs.declared.token.Token.{Token}
+use Rattle.tick_tree.specs.declared.syntax.Tree.{Tree}
 use Rattle.c_lexer.specs.Lex.{tokens}
+use Rattle.tick_parser.specs.Trees.{parsed}
 use Rattle.staged_meaning.specs.Nodes.{Program}
 use Rattle.staged_meaning.specs.Size.{size_of}
-use Rattle.mips_machine.specs.Machine.{Code}
+use Rattle.image_file.specs.Image.{ImageParts, IsImage}
 use Rattle.tick_tree.specs.declared.fault.Deny.{Deny}
 use Rattle.tick_tree.specs.declared.fault.Deny.TheVariants as deny
 use Rattle.tick_build.specs.declared.reading.Stop.{Stop}
 use Rattle.tick_build.specs.declared.reading.Stop.TheVariants as stop
 use Rattle.tick_build.specs.Straight.{Straight, program_of}
+use Rattle.tick_build.specs.Words.{image_of}
 use Rattle.tick_build.specs.Grammar.{Word, Outcome, words_in, text_words}
 use Rattle.tick_build.specs.Headline.{Headline}
 
@@ -45,9 +48,14 @@ abbrev pub or_unbuilt : Option Straight → Result Straight Fault
 or_unbuilt None = Err unbuilt
 or_unbuilt (Some straight) = Ok straight
 
+-- what is built reads the words again, for a text that has a tree
+abbrev pub from_tree : List ℕ → List Token → Result Tree Fault → Result Straight Fault
+from_tree text found (Err fault) = Err fault
+from_tree text found (Ok tree) = or_unbuilt (straight_of (words_in text found))
+
 abbrev pub from_tokens : List ℕ → Result (List Token) Fault → Result Straight Fault
 from_tokens text (Err fault) = Err fault
-from_tokens text (Ok found) = or_unbuilt (straight_of (words_in text found))
+from_tokens text (Ok found) = from_tree text found (parsed text found)
 
 unfoldable pub straight : List ℕ → Result Straight Fault
 straight text = from_tokens text (tokens text)
@@ -60,11 +68,21 @@ typed_by (Ok s) = Ok (program_of s)
 abbrev pub typed : List ℕ → Result Program Fault
 typed text = typed_by (straight text)
 
--- the image of an accepted text, for which the headline holds
-pub record Builds (text : List ℕ) (code : Code) : Type 0 where
+abbrev pub lowered_by : Result Straight Fault → Result ImageParts Fault
+lowered_by (Err fault) = Err fault
+lowered_by (Ok s) = Ok (image_of s)
+
+-- the one image of a text, or its first static fault
+abbrev pub lowered : List ℕ → Result ImageParts Fault
+lowered text = lowered_by (straight text)
+
+-- the image of an accepted text: it keeps the rules of images, and the headline holds for it
+pub record Builds (text : List ℕ) (image : ImageParts) : Type 0 where
   pub program : Program
   pub accepted : typed text ≡ Ok program
-  pub headline : Headline program code
+  pub lowering : lowered text ≡ Ok image
+  pub rules : IsImage image
+  pub headline : Headline program image
 
 -- what a search answers: what is defined, unless memory fails
 abbrev pub Finds : Option Straight → Result Straight Stop → Type 0

@@ -1,20 +1,22 @@
 //! The image of a text.
-ghost use Rattle.std.specs.Prelude.{◌≡◌, ◌≤◌, nat_lt, nat_le, length, true, IfOk, OnErr, Err};
+ghost use Rattle.std.specs.Prelude.{◌≡◌, ◌≤◌, nat_lt, nat_le, [], length, true, IfOk, OnErr, Err};
 ghost use Rattle.std.specs.List.{list_all};
 ghost use Rattle.tick_tree.specs.Faults.{Answers};
 ghost use Rattle.tick_build.specs.Texts as spec;
 ghost use Rattle.tick_build.specs.Texts.{Builds};
 ghost use Rattle.tick_build.specs.Grammar.{words_in};
 ghost use Rattle.tick_build.specs.Straight.{program_of};
-ghost use Rattle.tick_build.specs.Words.{code_of};
+ghost use Rattle.tick_build.specs.Words.{instructions_of, image_of};
 ghost use Rattle.staged_meaning.specs.Size.{size_of};
+ghost use Rattle.image_file.specs.Image.{IsImage};
 
 use crate::lowering::words_of;
 use crate::reading::{Stop, Words};
 use crate::straight::{Outputs, Straight};
 use c_lexer::tokens;
-use mips_machine::Image;
+use image_file::Image;
 use std::alloc::Global;
+use tick_parser::parse;
 use tick_tree::{Deny, Fault, FaultKind, Token};
 
 /// The address of the first word of the text, where a run begins.
@@ -98,6 +100,7 @@ fn straight_of(alloc: Global, text: &[u8]) -> Result<Straight, Deny>
     ensures { Answers (λ s. s) result (spec.straight text.now) }
 {
     let found = tokens(alloc, text)?;
+    let _tree = parse(alloc, text, &found)?;
     match program_of(alloc, text, &found) {
         Ok(straight) => Ok(straight),
         Err(Stop::Refused) => Err(Deny::Refused(unbuilt())),
@@ -116,13 +119,27 @@ pub fn build(alloc: Global, text: &[u8]) -> Result<Image, Deny>
     image_of(alloc, &straight)
 }
 
-// The image of a straight program.
+// The image of a text that a run begins at the first word of.
+fn image_with(alloc: Global, text: Vec<u32>) -> Image
+    requires some { 1 ≤ length text.items }
+    requires few { length text.items ≤ 15728640 }
+    ensures parts { result ≡ record { entry = 4194304; text = text.items; bytes = []; functions = [] } }
+    ensures rules { IsImage result }
+{
+    let bytes = Vec::new(alloc);
+    let functions = Vec::new(alloc);
+    Image::new(ENTRY, text, bytes, functions)
+}
+
+// The image of a straight program, whose words fit the text.
 fn image_of(alloc: Global, straight: &Straight) -> Result<Image, Deny>
-    ensures image { IfOk result (λ image. image ≡ code_of straight.now) }
+    requires { length (instructions_of straight.now.outputs straight.now.answer) ≤ 15728640 }
+    ensures image { IfOk result (λ image. image ≡ image_of straight.now) }
+    ensures rules { IfOk result (λ image. IsImage image) }
     ensures refused { OnErr result (result ≡ Err Deny.NoMemory) }
 {
     match words_of(alloc, straight) {
-        Ok(words) => Ok(Image::new(ENTRY, words)),
+        Ok(words) => Ok(image_with(alloc, words)),
         Err(_) => Err(Deny::NoMemory),
     }
 }

@@ -1,7 +1,5 @@
 //! Reads a straight program from the tokens of its text.
 ghost use Rattle.std.specs.Prelude.{◌≡◌, ◌≢◌, ◌≤◌, ◌+◌, [], ◌∷◌, ◌++◌, length};
-ghost use Rattle.std.specs.List.{list_all};
-ghost use Rattle.std.specs.Char.{is_ascii_digit};
 ghost use Rattle.tick_build.specs.Grammar as spec;
 ghost use Rattle.tick_build.specs.Grammar.{Reads};
 
@@ -66,31 +64,22 @@ fn word_of<'a>(text: &'a [u8], token: &Token) -> &'a [u8]
     &rest[..(token.len as usize).min(rest.len())]
 }
 
-fn has_leading_zero(word: &[u8]) -> bool
-    ensures { result ≡ spec.has_leading_zero word.now }
+fn is_number(word: &[u8]) -> bool
+    ensures { result ≡ spec.is_number word.now }
 {
-    word.len() > 1 && word[0] == b'0'
+    match word {
+        [] => false,
+        [first, ..] => first.is_ascii_digit(),
+    }
 }
 
-fn has_digits_alone(word: &[u8]) -> bool
-    ensures { result ≡ list_all is_ascii_digit word.now }
-{
-    word.iter().all(|b| b.is_ascii_digit())
-}
-
-fn is_plain(word: &[u8]) -> bool
-    ensures { result ≡ spec.is_plain word.now }
-{
-    !word.is_empty() && has_digits_alone(word) && !has_leading_zero(word)
-}
-
-// The value of a decimal number without a suffix, of at most 2,147,483,647.
+// The value of a number token of type int.
 #[tactic(auto, unfolding(crate::specs::Grammar::number_of))]
 fn number_of(word: &[u8]) -> Option<u32>
     ensures { result ≡ spec.number_of word.now }
 {
     let numeral = numeral_at(word);
-    if is_plain(word) && !numeral.unsigned {
+    if is_number(word) && !numeral.unsigned {
         numeral.value
     } else {
         None

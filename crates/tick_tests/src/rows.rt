@@ -91,6 +91,47 @@ fn a_failing_sink_keeps_what_it_took(rt: HostRuntime) -> Result<(), Fail> {
     Ok(())
 }
 
+// A call of `build` on a store that fails at its call number 1, which is the save: what is left at the path of the image.
+fn left_by_a_failing_save(alloc: Global) -> Result<(u8, Vec<u8>), AllocError> {
+    let words = words_of(alloc, "tick build text image")?;
+    let mut store = MemStore::new(alloc, &[1])?;
+    store.put("text", HELLO.as_bytes())?;
+    let mut out = MemSink::new(alloc, ROOM, &[])?;
+    let mut err = MemSink::new(alloc, ROOM, &[])?;
+    let status = status_of(alloc, &words, &mut store, &mut out, &mut err)?;
+    let left = store.file("image").unwrap_or(b"".as_slice());
+    Ok((status, left.to_vec(alloc)?))
+}
+
+#[test]
+fn a_failing_save_leaves_a_front_part(rt: HostRuntime) -> Result<(), Fail> {
+    let (status, left) = left_by_a_failing_save(rt.alloc())?;
+    assert_eq!(rt; status, 75);
+    assert!(rt; left.starts_with(b"TICK\x00\x00\x00\x01\x00\x40\x00\x00\x00\x00\x00\x0f"));
+    assert!(rt; left.len() < 24 + 15 * 4);
+    Ok(())
+}
+
+// `exec` of an image that reads a byte and ends with it, on an input that fails at its first read.
+fn status_of_a_failing_read(alloc: Global) -> Result<u8, AllocError> {
+    let image =
+        b"TICK\x00\x00\x00\x01\x00\x40\x00\x00\x00\x00\x00\x02\x00\x00\x00\x00\x00\x00\x00\x00\x34\x02\x00\x0c\x00\x00\x00\x0c";
+    let words = words_of(alloc, "tick exec image")?;
+    let mut store = MemStore::new(alloc, &[])?;
+    store.put("image", image)?;
+    let mut input = MemSource::new(alloc, b"A", &[0])?;
+    let mut out = MemSink::new(alloc, ROOM, &[])?;
+    let mut err = MemSink::new(alloc, ROOM, &[])?;
+    let ended = tick(alloc, &words, &mut store, &mut input, &mut out, &mut err)?;
+    Ok(status(&ended.outcome))
+}
+
+#[test]
+fn a_failing_input_is_a_read_fault(rt: HostRuntime) -> Result<(), Fail> {
+    assert_eq!(rt; status_of_a_failing_read(rt.alloc())?, 74);
+    Ok(())
+}
+
 #[test]
 fn a_missing_file_is_not_loaded(rt: HostRuntime) -> Result<(), Fail> {
     let seen = seen_after(rt.alloc(), "tick run other", HELLO, &[])?;

@@ -1,136 +1,127 @@
--- What each command reads, writes and answers, and the cause of each outcome. The order of refusals (words, load,
--- length, text, run) is in the definitions themselves; they are the product's own rules.
-use Rattle.std.specs.Prelude.{◌≡◌, ◌≢◌, ◌⊎◌, ℕ, ◌+◌, ◌≤◌, ◌<◌, List, [], length, Option, Some, None, MatchResult, MatchBool, Ok, Err, nat_lt, false, true, ⊤}
-use Rattle.std.specs.Io.KnownBytes.{Keeps, Appends, Consumes}
-use Rattle.host_edge.specs.Files.{Loads}
+-- What each command reads, writes, saves and answers, and the cause of each outcome. The order of refusals (words, load,
+-- length, content, run or save) is in the definitions themselves; they are the product's own rules.
+use Rattle.std.specs.Prelude.{◌≡◌, ◌⊎◌, ℕ, ◌+◌, List, length, Option, Ok, MatchResult, MatchBool, nat_lt, ⊤}
+use Rattle.std.specs.Io.KnownBytes.{Keeps, Appends}
+use Rattle.host_edge.specs.Files.{Loads, Saves, SavesFront}
+use Rattle.host_edge.specs.Moves.{TakesFront}
 use Rattle.host_edge.specs.Causes.{Rose}
-use Rattle.host_edge.specs.declared.ending.Ending.TheVariants as ending
+use Rattle.image_file.specs.Image.{ImageParts}
+use Rattle.image_file.specs.Format.{spelling, parsed}
+use Rattle.asm_print.specs.Text.{text_of}
+use Rattle.mips_text.specs.Assembly.{assembled}
 use Rattle.staged_meaning.specs.Nodes.{Program}
-use Rattle.mips_machine.specs.declared.stop.Stop.{Stop}
-use Rattle.mips_machine.specs.declared.stop.Stop.TheVariants as stop
-use Rattle.mips_machine.specs.Machine.{Code, State, first_state}
-use Rattle.mips_machine.specs.Ran.{Ran}
-use Rattle.tick_build.specs.Texts.{typed}
+use Rattle.tick_build.specs.Texts.{typed, lowered}
 use Rattle.tick_build.specs.Headline.{Headline}
-use Rattle.tick_top.specs.declared.outcome.Outcome.{Outcome}
-use Rattle.tick_top.specs.declared.outcome.Outcome.TheVariants.{Done, BadWords, Refused, LoadFault, TooLong, Trap, MachineFault, OutOfSteps, ReadFault, WriteFault, SaveFault}
-use Rattle.tick_top.specs.declared.outcome.Ended.{Ended}
-use Rattle.tick_top.specs.declared.commands.Front.{Front}
-use Rattle.tick_top.specs.declared.commands.Front.TheVariants.{BuiltImage, Instead}
-use Rattle.tick_top.specs.declared.commands.Loaded.{Loaded}
-use Rattle.tick_top.specs.declared.commands.Loaded.TheVariants.{Whole, TooLongFile, FailedFile}
-use Rattle.tick_top.specs.Said.{Order, run}
+use Rattle.command_words.specs.Orders.{Order, run, build, exec, asm, dis}
+use Rattle.tick_outcome.specs.declared.outcome.Outcome.{Outcome}
+use Rattle.tick_outcome.specs.declared.outcome.Outcome.TheVariants.{Done, BadWords, Refused, AsmRefused, LoadFault, TooLong, BadImage, Trap, MachineFault, OutOfSteps, ReadFault, WriteFault, SaveFault}
+use Rattle.tick_top.specs.declared.ended.Ended.{Ended}
+use Rattle.tick_top.specs.Outside.{Files, Outside, Failures, SameFiles, SameOtherFiles, Silent, Still}
+use Rattle.tick_top.specs.Answers.{IsBare, RanImage, longest_text, longest_image}
 
--- what the store, the source and the sink tell of what they hold
-pub record Outside : Type 0 where
-  pub file : List ℕ → Option (Option (List ℕ))
-  pub left : Option (List ℕ)
-  pub taken : Option (List ℕ)
+-- The file is loaded, and isn't longer than it may be; `next` says what then is done with its bytes, and `answers` what
+-- an answer in place of it is.
+abbrev pub WithFile : Option (Option (List ℕ)) → (longest : ℕ) → (answers : Outcome → Type 0) → (next : List ℕ → Type 0) → Type 0
+WithFile told longest answers next =
+    answers LoadFault
+    ⊎ ((bytes : List ℕ) × Loads told (longest + 1) bytes
+    × MatchBool (nat_lt longest (length bytes)) (answers TooLong) (next bytes))
 
-abbrev pub outside : (List ℕ → Option (Option (List ℕ))) → Option (List ℕ) → Option (List ℕ) → Outside
-outside file left taken = record { file = file; left = left; taken = taken }
+-- a text of the language is accepted, or refused for its first static fault
+abbrev pub WithProgram : (answers : Outcome → Type 0) → (next : List ℕ → Program → Type 0) → List ℕ → Type 0
+WithProgram answers next text = MatchResult (typed text) (next text) (λ fault. answers (Refused fault))
 
--- how often each has failed
-pub record Counts : Type 0 where
-  pub store : ℕ
-  pub input : ℕ
-  pub out : ℕ
+-- an assembly text is an image, or refused for its first fault
+abbrev pub WithAssembled : (answers : Outcome → Type 0) → (next : ImageParts → Type 0) → List ℕ → Type 0
+WithAssembled answers next text = MatchResult (assembled text) next (λ fault. answers (AsmRefused fault))
 
-abbrev pub counts : ℕ → ℕ → ℕ → Counts
-counts store input out = record { store = store; input = input; out = out }
+-- bytes are an image, or break a rule of the image format first
+abbrev pub WithImage : (answers : Outcome → Type 0) → (next : ImageParts → Type 0) → List ℕ → Type 0
+WithImage answers next bytes = MatchResult (parsed bytes) next (λ fault. answers (BadImage fault))
 
--- the most bytes of a text
-abbrev pub longest_text : ℕ
-longest_text = 1048576
+-- ---- run and exec
 
--- the most instructions of a run
-abbrev pub most_steps : ℕ
-most_steps = 1000000000
+-- an answer without a machine: nothing was read, written or saved
+abbrev pub Answered : Outside → Outside → Ended → Outcome → Type 0
+Answered old new e outcome = IsBare e outcome × Silent old new
 
--- no file is another than before
-abbrev pub SameFiles : Outside → Outside → Type 0
-SameFiles old new = (q : List ℕ) → new.file q ≡ old.file q
+-- an image ran for at most so many instructions
+abbrev pub Runs : (steps : ℕ) → Outside → Outside → Ended → ImageParts → Type 0
+Runs steps old new e image = SameFiles old.file new.file × RanImage steps image old.left new.left old.taken new.taken e
 
--- nothing was read, written or saved
-pub record Silent (old new : Outside) : Type 0 where
-  pub files : SameFiles old new
-  pub left : Keeps old.left new.left
-  pub taken : Keeps old.taken new.taken
+-- the image of the text ran, and the headline holds for it
+pub record RunsProgram (steps : ℕ) (old new : Outside) (e : Ended) (text : List ℕ) (program : Program) : Type 0 where
+  pub image : ImageParts
+  pub lowering : lowered text ≡ Ok image
+  pub headline : Headline program image
+  pub runs : Runs steps old new e image
 
--- nothing was written or saved
-pub record Unwritten (old new : Outside) : Type 0 where
-  pub files : SameFiles old new
-  pub taken : Keeps old.taken new.taken
+abbrev pub RunsFile : List ℕ → (steps : ℕ) → Outside → Outside → Ended → Type 0
+RunsFile file steps old new e =
+    WithFile (old.file file) longest_text (Answered old new e) (WithProgram (Answered old new e) (RunsProgram steps old new e))
 
--- what came of a told or an untold file
-abbrev pub IsLoaded : Option (Option (List ℕ)) → Loaded → Type 0
-IsLoaded told (Whole v) = Loads told (longest_text + 1) v.items × (nat_lt longest_text (length v.items) ≡ false)
-IsLoaded told TooLongFile = (text : List ℕ) × Loads told (longest_text + 1) text × (nat_lt longest_text (length text) ≡ true)
-IsLoaded told FailedFile = ⊤
+abbrev pub ExecutesFile : List ℕ → (steps : ℕ) → Outside → Outside → Ended → Type 0
+ExecutesFile file steps old new e =
+    WithFile (old.file file) longest_image (Answered old new e) (WithImage (Answered old new e) (Runs steps old new e))
 
-abbrev pub LoadCause : ℕ → ℕ → Loaded → Type 0
-LoadCause old new (Whole v) = new ≡ old
-LoadCause old new TooLongFile = new ≡ old
-LoadCause old new FailedFile = Rose old new
+-- ---- build and asm
 
--- an answer that no machine stands behind
-pub record IsBare (e : Ended) (given : Outcome) : Type 0 where
-  pub outcome : e.outcome ≡ given
-  pub steps : e.steps ≡ 0
-  pub image : e.image ≡ None
+-- an answer without an image: no file is another than before
+abbrev pub Unsaved : Files → Files → Ended → Outcome → Type 0
+Unsaved old new e outcome = IsBare e outcome × SameFiles old new
 
--- the outcome of a run that stopped so
-abbrev pub outcome_of : Stop → Outcome
-outcome_of (stop.Ended (ending.Done s)) = Done s
-outcome_of (stop.Ended (ending.Trap k)) = Trap k
-outcome_of (stop.Fault k at) = MachineFault k at
-outcome_of stop.Steps = OutOfSteps most_steps
-outcome_of stop.ReadFault = ReadFault
-outcome_of stop.WriteFault = WriteFault
+-- the bytes were saved at a path, or the save failed and a told path holds a front part of them
+abbrev pub SavedAt : List ℕ → List ℕ → Files → Files → Ended → Type 0
+SavedAt path bytes old new e =
+    (IsBare e (Done 0) × Saves (old path) (new path) bytes) ⊎ (IsBare e SaveFault × SavesFront (old path) (new path) bytes)
 
--- the image ran on the input, and is handed back
-pub record RanImage (code : Code) (left later taken told : Option (List ℕ)) (e : Ended) : Type 0 where
-  pub image : e.image ≡ Some code
-  pub final : State
-  pub stop : Stop
-  pub ran : Ran most_steps (first_state code) final left later taken told stop
-  pub steps : e.steps ≡ final.steps
-  pub outcome : e.outcome ≡ outcome_of stop
+-- the one spelling of an image was saved at a path, and reads back as the image; no other file is another than before
+pub record SavesImage (path : List ℕ) (old new : Files) (e : Ended) (image : ImageParts) : Type 0 where
+  pub bytes : List ℕ
+  pub spelt : bytes ≡ spelling image
+  pub read_back : parsed bytes ≡ Ok image
+  pub saved : SavedAt path bytes old new e
+  pub others : SameOtherFiles path old new
 
--- an image of the program ran, and the headline holds for it
-pub record RunsProgram (program : Program) (old new : Outside) (e : Ended) : Type 0 where
-  pub code : Code
-  pub headline : Headline program code
-  pub files : SameFiles old new
-  pub ran : RanImage code old.left new.left old.taken new.taken e
+-- the image of the text, which is the one that runs, was saved, and the headline holds for it
+pub record SavesProgram (path : List ℕ) (old new : Files) (e : Ended) (text : List ℕ) (program : Program) : Type 0 where
+  pub image : ImageParts
+  pub lowering : lowered text ≡ Ok image
+  pub headline : Headline program image
+  pub saves : SavesImage path old new e image
 
--- The file is loaded, and not too long, and its text is accepted or refused for its first static fault; what then
--- is done with the program is `next`.
-abbrev pub WithText : List ℕ → (Program → Outside → Outside → Ended → Type 0) → Outside → Outside → Ended → Type 0
-WithText file next old new e =
-    (IsBare e LoadFault × Silent old new)
-    ⊎ ((text : List ℕ) × Loads (old.file file) (longest_text + 1) text
-    × MatchBool (nat_lt longest_text (length text))
-    (IsBare e TooLong × Silent old new)
-    (MatchResult (typed text) (λ program. next program old new e) (λ fault. IsBare e (Refused fault) × Silent old new)))
+abbrev pub BuildsFile : List ℕ → (path : List ℕ) → Files → Files → Ended → Type 0
+BuildsFile file path old new e =
+    WithFile (old file) longest_text (Unsaved old new e) (WithProgram (Unsaved old new e) (SavesProgram path old new e))
 
--- the image of a loaded file, or the answer that there is in its place
-abbrev pub IsFront : Option (Option (List ℕ)) → Front → Type 0
-IsFront told (BuiltImage code) = (text : List ℕ) × Loads told (longest_text + 1) text × (nat_lt longest_text (length text) ≡ false)
-    × ((program : Program) × (typed text ≡ Ok program) × Headline program code)
-IsFront told (Instead LoadFault) = ⊤
-IsFront told (Instead TooLong) = (text : List ℕ) × Loads told (longest_text + 1) text × (nat_lt longest_text (length text) ≡ true)
-IsFront told (Instead (Refused fault)) = (text : List ℕ) × Loads told (longest_text + 1) text × (nat_lt longest_text (length text) ≡ false) × (typed text ≡ Err fault)
-IsFront told (Instead other) = ⊥
+abbrev pub AssemblesFile : List ℕ → (path : List ℕ) → Files → Files → Ended → Type 0
+AssemblesFile file path old new e =
+    WithFile (old file) longest_text (Unsaved old new e) (WithAssembled (Unsaved old new e) (SavesImage path old new e))
 
-abbrev pub FrontCause : ℕ → ℕ → Front → Type 0
-FrontCause old new (Instead LoadFault) = Rose old new
-FrontCause old new (Instead other) = new ≡ old
-FrontCause old new (BuiltImage code) = new ≡ old
+-- ---- dis
 
--- what a command does
+-- an answer without an image: nothing was written
+abbrev pub Unprinted : Option (List ℕ) → Option (List ℕ) → Ended → Outcome → Type 0
+Unprinted taken told e outcome = IsBare e outcome × Keeps taken told
+
+-- the text of the image was written, or the sink failed and has taken a front part of it
+abbrev pub PrintsText : Option (List ℕ) → Option (List ℕ) → Ended → ImageParts → Type 0
+PrintsText taken told e image =
+    (IsBare e (Done 0) × Appends taken told (text_of image)) ⊎ (IsBare e WriteFault × TakesFront taken told (text_of image))
+
+abbrev pub PrintsFile : Option (Option (List ℕ)) → Option (List ℕ) → Option (List ℕ) → Ended → Type 0
+PrintsFile file taken told e =
+    WithFile file longest_image (Unprinted taken told e) (WithImage (Unprinted taken told e) (PrintsText taken told e))
+
+-- ---- all commands
+
 abbrev pub Does : Order → Outside → Outside → Ended → Type 0
-Does (run file) = WithText file RunsProgram
+Does (run file steps) old new e = RunsFile file steps old new e
+Does (exec file steps) old new e = ExecutesFile file steps old new e
+Does (build file path) old new e = Still old new × BuildsFile file path old.file new.file e
+Does (asm file path) old new e = Still old new × AssemblesFile file path old.file new.file e
+Does (dis file) old new e =
+    (SameFiles old.file new.file × Keeps old.left new.left) × PrintsFile (old.file file) old.taken new.taken e
 
 -- what a command may answer: the words were good
 abbrev pub IsOfCommand : Outcome → Type 0
@@ -138,7 +129,7 @@ IsOfCommand (BadWords place) = ⊥
 IsOfCommand other = ⊤
 
 -- The cause of each outcome: a fault comes only where its count rose, and nothing else comes where one did.
-abbrev pub Cause : Outcome → Counts → Counts → Type 0
+abbrev pub Cause : Outcome → Failures → Failures → Type 0
 Cause LoadFault old new = Rose old.store new.store
 Cause SaveFault old new = Rose old.store new.store
 Cause ReadFault old new = Rose old.input new.input
@@ -146,7 +137,9 @@ Cause WriteFault old new = Rose old.out new.out
 Cause (Done s) old new = new ≡ old
 Cause (BadWords place) old new = new ≡ old
 Cause (Refused fault) old new = new ≡ old
+Cause (AsmRefused fault) old new = new ≡ old
 Cause TooLong old new = new ≡ old
+Cause (BadImage fault) old new = new ≡ old
 Cause (Trap k) old new = new ≡ old
 Cause (MachineFault k at) old new = new ≡ old
 Cause (OutOfSteps n) old new = new ≡ old

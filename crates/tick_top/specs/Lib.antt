@@ -1,3 +1,4 @@
-pub mod Said
+pub mod Outside
+pub mod Answers
 pub mod Does
 pub mod Top

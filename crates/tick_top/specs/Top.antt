@@ -4,15 +4,17 @@ use Rattle.std.specs.Prelude.{◌≡◌, ◌⊎◌, ℕ, List, Option, MatchResu
 use Rattle.std.specs.Io.KnownBytes.{Appends}
 use Rattle.host_edge.specs.Causes.{Rose}
 use Rattle.host_edge.specs.Moves.{TakesFront}
-use Rattle.tick_top.specs.declared.outcome.Outcome.{Outcome}
-use Rattle.tick_top.specs.declared.outcome.Outcome.TheVariants.{Done, BadWords, WriteFault}
-use Rattle.tick_top.specs.declared.outcome.Ended.{Ended}
-use Rattle.tick_top.specs.Said.{order_of, line_of}
-use Rattle.tick_top.specs.Does.{Outside, Counts, Does, Silent, IsBare, IsOfCommand, Cause}
+use Rattle.tick_outcome.specs.declared.outcome.Outcome.{Outcome}
+use Rattle.tick_outcome.specs.declared.outcome.Outcome.TheVariants.{Done, BadWords, WriteFault}
+use Rattle.tick_top.specs.declared.ended.Ended.{Ended}
+use Rattle.command_words.specs.Orders.{order_of}
+use Rattle.tick_outcome.specs.Outcomes.{line_of}
+use Rattle.tick_top.specs.Outside.{Outside, Failures}
+use Rattle.tick_top.specs.Does.{Answered, Does, IsOfCommand, Cause}
 
 -- by the words
 abbrev pub Performs : List (List ℕ) → Outside → Outside → Ended → Type 0
-Performs words old new e = MatchResult (order_of words) (λ order. Does order old new e × IsOfCommand e.outcome) (λ place. IsBare e (BadWords place) × Silent old new)
+Performs words old new e = MatchResult (order_of words) (λ order. Does order old new e × IsOfCommand e.outcome) (λ place. Answered old new e (BadWords place))
 
 -- where standard error fails, Done becomes WriteFault, and any other outcome stays
 abbrev pub unsaid : Outcome → Outcome
@@ -26,6 +28,6 @@ Reports first last taken told old new =
     ⊎ ((last ≡ unsaid first) × TakesFront taken told (line_of first) × Rose old new)
 
 -- a whole call: an outcome of the command, its cause, and what is said of it
-abbrev pub Ticked : List (List ℕ) → Outside → Outside → Counts → Counts → Option (List ℕ) → Option (List ℕ) → ℕ → ℕ → Ended → Type 0
+abbrev pub Ticked : List (List ℕ) → Outside → Outside → Failures → Failures → Option (List ℕ) → Option (List ℕ) → ℕ → ℕ → Ended → Type 0
 Ticked words old new before now taken told err_before err_now e =
     (first : Outcome) × Performs words old new (record e { outcome = first }) × Cause first before now × Reports first e.outcome taken told err_before err_now

@@ -2,12 +2,11 @@
 #![tactic(auto)]
 
 mod commands;
-mod outcome;
-mod report;
+mod ended;
+mod images;
+mod load;
 mod top;
-mod words;
 
-pub use outcome::{Ended, Outcome, status};
-pub use report::{Line, line_of};
+pub use ended::Ended;
+pub use tick_outcome::{Outcome, status};
 pub use top::tick;
-pub use words::{Command, command_of};

@@ -2,14 +2,17 @@
 ghost use Rattle.std.specs.Prelude.{◌≡◌, ◌⊎◌, ◌↔◌, ℕ, map, string_bytes, IfOk, OnErr, Err};
 ghost use Rattle.std.specs.Io.KnownBytes.{Keeps};
 ghost use Rattle.host_edge.specs.Causes.{Rose};
-ghost use Rattle.tick_top.specs.Said.{order_of};
-ghost use Rattle.tick_top.specs.Does.{Unwritten, Cause, outside, counts};
+ghost use Rattle.command_words.specs.Orders.{order_of};
+ghost use Rattle.tick_top.specs.Outside.{Unwritten, outside, failures};
+ghost use Rattle.tick_top.specs.Does.{Cause};
 ghost use Rattle.tick_top.specs.Top.{Performs, Reports, Ticked, unsaid};
 
-use crate::commands::{bare, obey};
-use crate::{Ended, Outcome, command_of, line_of};
+use crate::commands::obey;
+use crate::ended::{Ended, bare};
+use command_words::command_of;
 use host_edge::{Sink, Source, Store, write_whole};
 use std::alloc::{AllocError, Global};
+use tick_outcome::{Outcome, line_of};
 
 // Does what the words say.
 fn perform<S: Store, I: Source, O: Sink>(
@@ -20,12 +23,12 @@ fn perform<S: Store, I: Source, O: Sink>(
     out: &mut O,
 ) -> Result<Ended, AllocError>
     ensures does { IfOk result (Performs (map string_bytes words.now) (outside (S.file store.old) (I.left input.old) (O.taken out.old)) (outside (S.file store.new) (I.left input.new) (O.taken out.new))) }
-    ensures cause { IfOk result (λ e. Cause e.outcome (counts (S.faults store.old) (I.faults input.old) (O.faults out.old)) (counts (S.faults store.new) (I.faults input.new) (O.faults out.new))) }
+    ensures cause { IfOk result (λ e. Cause e.outcome (failures (S.faults store.old) (I.faults input.old) (O.faults out.old)) (failures (S.faults store.new) (I.faults input.new) (O.faults out.new))) }
     ensures none { OnErr result (Unwritten (outside (S.file store.old) (I.left input.old) (O.taken out.old)) (outside (S.file store.new) (I.left input.new) (O.taken out.new))) }
 {
     match command_of(words) {
         Ok(command) => obey(alloc, command, store, input, out),
-        Err(place) => Ok(bare(Outcome::BadWords(place))),
+        Err(place) => Ok(bare(alloc, Outcome::BadWords(place))),
     }
 }
 
@@ -62,8 +65,8 @@ fn whole<S: Store, I: Source, O: Sink, E: Sink>(
     ensures did { IfOk result (Ticked (map string_bytes words.now)
         (outside (S.file store.old) (I.left input.old) (O.taken out.old))
         (outside (S.file store.new) (I.left input.new) (O.taken out.new))
-        (counts (S.faults store.old) (I.faults input.old) (O.faults out.old))
-        (counts (S.faults store.new) (I.faults input.new) (O.faults out.new))
+        (failures (S.faults store.old) (I.faults input.old) (O.faults out.old))
+        (failures (S.faults store.new) (I.faults input.new) (O.faults out.new))
         (E.taken err.old) (E.taken err.new) (E.faults err.old) (E.faults err.new)) }
     ensures no_memory { OnErr result (Keeps (E.taken err.old) (E.taken err.new)
         × Unwritten (outside (S.file store.old) (I.left input.old) (O.taken out.old)) (outside (S.file store.new) (I.left input.new) (O.taken out.new))) }
@@ -86,8 +89,8 @@ pub fn tick<S: Store, I: Source, O: Sink, E: Sink>(
     ensures did { IfOk result (Ticked (map string_bytes words.now)
         (outside (S.file store.old) (I.left input.old) (O.taken out.old))
         (outside (S.file store.new) (I.left input.new) (O.taken out.new))
-        (counts (S.faults store.old) (I.faults input.old) (O.faults out.old))
-        (counts (S.faults store.new) (I.faults input.new) (O.faults out.new))
+        (failures (S.faults store.old) (I.faults input.old) (O.faults out.old))
+        (failures (S.faults store.new) (I.faults input.new) (O.faults out.new))
         (E.taken err.old) (E.taken err.new) (E.faults err.old) (E.faults err.new)) }
     ensures bad_words { IfOk result (λ e. (place : ℕ) → (e.outcome ≡ Outcome.BadWords place) ↔ (order_of (map string_bytes words.now) ≡ Err place)) }
     ensures load_fault { IfOk result (λ e. e.outcome ≡ Outcome.LoadFault → Rose (S.faults store.old) (S.faults store.new)) }

@@ -73,8 +73,32 @@ name DuplicateCase = codes "DuplicateCase"
 name TooManyParameters = codes "TooManyParameters"
 name TooLarge = codes "TooLarge"
 
+-- the fault of a rule that is broken at this line; only a wrong token has its number
+abbrev pub fault : FaultKind → ℕ → Fault
+fault k line = record { kind = k; line = line; token = 0 }
+
 -- An answer of a stage is what is defined, the value (seen through `view`) or the fault, unless memory was not found.
 abbrev pub Answers : {A B : Type 0} → (A → B) → Result A Deny → Result B Fault → Type 0
 Answers view (Ok x) defined = defined ≡ Ok (view x)
 Answers view (Err (Refused f)) defined = defined ≡ Err f
 Answers view (Err NoMemory) defined = Unit {0}
+
+-- what a step of a stage is defined to give: a value, or the fault that ends it
+abbrev pub Checked : Type 0 → Type 0
+Checked A = Result A Fault
+
+infixl 1 ◌>>=◌
+-- a step, and then the next one with its value
+abbrev pub ◌>>=◌ : {A B : Type 0} → Checked A → (A → Checked B) → Checked B
+Ok x >>= f = f x
+Err e >>= f = Err e
+
+-- the answer of a rule that is broken at this line
+abbrev pub refuse : {A : Type 0} → FaultKind → ℕ → Checked A
+refuse k line = Err (fault k line)
+
+-- a step's answer is what is defined, unless memory was not found
+abbrev pub Checks : {A : Type 0} → Result A Deny → Checked A → Type 0
+Checks (Ok x) defined = defined ≡ Ok x
+Checks (Err (Refused f)) defined = defined ≡ Err f
+Checks (Err NoMemory) defined = Unit {0}

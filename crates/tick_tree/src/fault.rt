@@ -1,9 +1,10 @@
 //! The static faults: why a text is refused.
 
-ghost use Rattle.std.specs.Prelude.{◌≡◌, ◌≤◌};
+ghost use Rattle.std.specs.Prelude.{◌≡◌, ◌≤◌, Err};
+ghost use Rattle.tick_tree.specs.declared.fault.Deny.TheVariants.{Refused};
 ghost use Rattle.tick_tree.specs.Faults as spec;
 
-use std::alloc::AllocFailed;
+use std::alloc::{AllocError, AllocFailed};
 
 /// The rule that a text breaks. Faults are numbered from 0 in this order.
 #[derive(Clone, Copy, Debug, PartialEq, Eq)]
@@ -178,4 +179,26 @@ impl<T: Drop> From<AllocFailed<T>> for Deny {
     fn from(_error: AllocFailed<T>) -> Deny {
         Deny::NoMemory
     }
+}
+
+impl From<AllocError> for Deny {
+    ghost use Rattle.std.specs.Prelude.{◌≡◌};
+    ghost use Rattle.tick_tree.specs.declared.fault.Deny.TheVariants.{NoMemory};
+
+    ghost from_gives = { λ _ e. e ≡ NoMemory };
+
+    fn from(_error: AllocError) -> Deny {
+        Deny::NoMemory
+    }
+}
+
+/// The answer of a stage that refuses a text for this rule at this line.
+pub fn refused<T>(kind: FaultKind, line: u32) -> Result<T, Deny>
+    ensures { result ≡ Err (Refused (spec.fault kind line)) }
+{
+    Err(Deny::Refused(Fault {
+        kind,
+        line,
+        token: 0,
+    }))
 }

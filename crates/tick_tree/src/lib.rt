@@ -7,7 +7,7 @@ mod syntax;
 mod token;
 
 pub use base::{Base, BinaryOp, ModifyOp, Prefix, Signedness, StepOp, UnaryOp};
-pub use fault::{Deny, Fault, FaultKind};
+pub use fault::{Deny, Fault, FaultKind, refused};
 pub use syntax::{
     Core, Declaration, Declarator, Expr, External, Init, Initializer, OptionalExpr, Parameter,
     Stmt, Suffix, Tree, Typename,

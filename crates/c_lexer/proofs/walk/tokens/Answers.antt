@@ -1,4 +1,5 @@
 use Rattle.std.proofs.Common.{◌≡◌, ◌<◌, ◌≤◌, ◌+◌, ◌∷◌, [], ◌++◌, length, arith, rules, ◌∙◌, sym, ap, refl, drop, Err}
+use Rattle.std.proofs.lemmas.List.{length-append}
 use Rattle.c_lexer.specs.declared.pieces.Piece.TheVariants.{Gap, Taken, Bad}
 use Rattle.c_lexer.specs.Lex.{Within, piece, max_tokens, token_at}
 use Rattle.c_lexer.proofs.Laws.{to_come, comes_gap, comes_taken, comes_full, comes_bad, comes_nothing}
@@ -13,10 +14,11 @@ loop-piece-preserved-in-Gap c =
     record {
       text = (cc);
       same = ap (to_come c.args.text.now c.loop-piece.found.items) c.pass.ensures.at ∙ goes ∙ c.loop-piece.invariant.same;
+      few = c.loop-piece.invariant.few;
     }
 
-pub returns-then-len-ge-MAX_TOKENS : goal.returns-then-len-ge-MAX_TOKENS
-returns-then-len-ge-MAX_TOKENS c =
+pub returns-then-len-ge-MAX_TOKENS-clause-exact : goal.returns-then-len-ge-MAX_TOKENS-clause-exact
+returns-then-len-ge-MAX_TOKENS-clause-exact c =
     let here : piece (drop c.loop-piece.walk.at c.args.text.now) ≡ Taken c.in-Taken.kind c.in-Taken.n = cc (c.in-Some.ensures.here) in
     let some : c.loop-piece.walk.at < length c.args.text.now = omega (arith, c.in-Some.ensures.some, ap length c.loop-piece.invariant.text) in
     let full : max_tokens ≤ length c.loop-piece.found.items = omega (arith, c.loop-piece.found.ok.0) in
@@ -35,10 +37,11 @@ loop-piece-preserved c =
     record {
       text = (cc);
       same = rw (items, c.pass-in-Taken.ensures.at) (goes ∙ c.loop-piece.invariant.same);
+      few = omega (arith, ap length items, length-append c.loop-piece.found.items (token_at c.args.text.now c.in-Taken.kind c.loop-piece.walk.at c.in-Taken.n ∷ []), few);
     }
 
-pub returns-in-Bad : goal.returns-in-Bad
-returns-in-Bad c =
+pub returns-in-Bad-clause-exact : goal.returns-in-Bad-clause-exact
+returns-in-Bad-clause-exact c =
     let here : piece (drop c.loop-piece.walk.at c.args.text.now) ≡ Bad c.in-Bad.kind = cc (c.in-Some.ensures.here) in
     let some : c.loop-piece.walk.at < length c.args.text.now = omega (arith, c.in-Some.ensures.some, ap length c.loop-piece.invariant.text) in
     let goes = comes_bad c.args.text.now c.loop-piece.found.items c.loop-piece.walk.at c.in-Bad.kind some here in

@@ -5,7 +5,7 @@ use Rattle.c_types.proofs.sizes.capped_size.Given as goal
 
 abbrev pub invariant-loop-at : goal.invariant-loop-at
 invariant-loop-at l = record {
-  known : min (l.count * spec.size_under (spec.base_size l.t.base) (take l.at l.layers)) 4194305 ≡ min (spec.size l.fn.t) 4194305;
+  known : min (l.count * spec.size_under (spec.base_size l.base) (take l.at l.layers)) 4194305 ≡ min (spec.size_under (spec.base_size l.base) l.layers) 4194305;
   within : l.at ≤ length l.layers;
   few : l.count ≤ 4194305;
 }

@@ -6,32 +6,32 @@ use Rattle.c_types.proofs.sizes.is_sized.Goals as goal
 pub loop-at-preserved : goal.loop-at-preserved
 loop-at-preserved c = record {
   known =
-      array_sized (spec.is_integer_base c.args.t.now.base) (c.loop-at.at - 1) c.loop-at.at c.in-Array.field-0 c.as_slice-layers.result.now c.index-layers-at.result (omega arith) c.loop-at.invariant.within c.index-layers-at.is c.in-Array.is
+      array_sized (spec.is_integer_base c.args.base) (c.loop-at.at - 1) c.loop-at.at c.in-Array.field-0 c.args.layers.now c.index-layers-at.result (omega arith) c.loop-at.invariant.within c.index-layers-at.is c.in-Array.is
       ∙ c.loop-at.invariant.known;
   within = omega (arith, c.loop-at.invariant.within);
 }
 
 pub returns-in-Pointer : goal.returns-in-Pointer
 returns-in-Pointer c =
-    word_sized (spec.is_integer_base c.args.t.now.base) (c.loop-at.at - 1) c.loop-at.at c.as_slice-layers.result.now c.index-layers-at.result (omega arith) c.loop-at.invariant.within c.index-layers-at.is c.in-Pointer.is
+    word_sized (spec.is_integer_base c.args.base) (c.loop-at.at - 1) c.loop-at.at c.args.layers.now c.index-layers-at.result (omega arith) c.loop-at.invariant.within c.index-layers-at.is c.in-Pointer.is
     ∙ c.loop-at.invariant.known
 
 pub returns-in-Function : goal.returns-in-Function
 returns-in-Function c =
-    function_sized (spec.is_integer_base c.args.t.now.base) (c.loop-at.at - 1) c.loop-at.at c.as_slice-layers.result.now c.index-layers-at.result (omega arith) c.loop-at.invariant.within c.index-layers-at.is c.in-Function.is
+    function_sized (spec.is_integer_base c.args.base) (c.loop-at.at - 1) c.loop-at.at c.args.layers.now c.index-layers-at.result (omega arith) c.loop-at.invariant.within c.index-layers-at.is c.in-Function.is
     ∙ c.loop-at.invariant.known
 
 pub returns-in-Function-2 : goal.returns-in-Function-2
 returns-in-Function-2 c =
-    function_sized (spec.is_integer_base c.args.t.now.base) (c.loop-at.at - 1) c.loop-at.at c.as_slice-layers.result.now c.index-layers-at.result (omega arith) c.loop-at.invariant.within c.index-layers-at.is c.in-Function.is
+    function_sized (spec.is_integer_base c.args.base) (c.loop-at.at - 1) c.loop-at.at c.args.layers.now c.index-layers-at.result (omega arith) c.loop-at.invariant.within c.index-layers-at.is c.in-Function.is
     ∙ c.loop-at.invariant.known
 
 pub returns-in-Pointer-2 : goal.returns-in-Pointer-2
 returns-in-Pointer-2 c =
-    word_sized (spec.is_integer_base c.args.t.now.base) (c.loop-at.at - 1) c.loop-at.at c.as_slice-layers.result.now c.index-layers-at.result (omega arith) c.loop-at.invariant.within c.index-layers-at.is c.in-Pointer.is
+    word_sized (spec.is_integer_base c.args.base) (c.loop-at.at - 1) c.loop-at.at c.args.layers.now c.index-layers-at.result (omega arith) c.loop-at.invariant.within c.index-layers-at.is c.in-Pointer.is
     ∙ c.loop-at.invariant.known
 
 pub returns-in-Pointer-3 : goal.returns-in-Pointer-3
 returns-in-Pointer-3 c =
-    word_sized (spec.is_integer_base c.args.t.now.base) (c.loop-at.at - 1) c.loop-at.at c.as_slice-layers.result.now c.index-layers-at.result (omega arith) c.loop-at.invariant.within c.index-layers-at.is c.in-Pointer.is
+    word_sized (spec.is_integer_base c.args.base) (c.loop-at.at - 1) c.loop-at.at c.args.layers.now c.index-layers-at.result (omega arith) c.loop-at.invariant.within c.index-layers-at.is c.in-Pointer.is
     ∙ c.loop-at.invariant.known

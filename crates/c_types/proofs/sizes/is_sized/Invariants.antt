@@ -4,7 +4,7 @@ use Rattle.c_types.proofs.sizes.is_sized.Given as goal
 
 abbrev pub invariant-loop-at : goal.invariant-loop-at
 invariant-loop-at l = record {
-  known : spec.is_sized_under (spec.is_integer_base l.t.base) (take l.at l.layers) ≡ spec.is_sized l.fn.t;
+  known : spec.is_sized_under (spec.is_integer_base l.base) (take l.at l.layers) ≡ spec.is_sized_under (spec.is_integer_base l.base) l.layers;
   within : l.at ≤ length l.layers;
 }
 

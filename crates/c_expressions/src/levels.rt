@@ -1,0 +1,169 @@
+//! The levels of precedence above an operand.
+
+ghost use Rattle.std.specs.Prelude.{◌≡◌, ◌<◌, ◌≤◌};
+ghost use Rattle.c_grammar.specs.Input.{Reads};
+ghost use Rattle.c_grammar.specs.Expressions as spec;
+ghost use Rattle.c_grammar.specs.Statements.{inner, room_of};
+ghost use Rattle.c_grammar.specs.Nests.{Nests};
+
+use crate::expressions::Expressions;
+use crate::nodes;
+use crate::operators::{binary_of, is_comma};
+use c_grammar::{Kind, Mark, Mode, Part, Stop, Tokens, enter};
+use std::alloc::Global;
+use tick_tree::{Declarator, Expr, ModifyOp, Stmt};
+
+// How many levels of operators between operands there are.
+const LEVELS: u8 = 10;
+
+impl<
+    F: Fn(Global, &mut Tokens<'_>, usize, Part) -> Result<Expr, Stop>,
+    S: Fn(Global, &mut Tokens<'_>, usize) -> Result<Stmt, Stop>,
+    D: Fn(Global, &mut Tokens<'_>, usize, Mode) -> Result<Declarator, Stop>,
+> Expressions<F, S, D> {
+    // The operators that bind tighter than those of this level.
+    #[cycle(level)]
+    #[tactic(auto, using(crate::proofs::Steps::level_steps))]
+    fn level(&self, tokens: &mut Tokens<'_>, room: usize, level: u8) -> Result<Expr, Stop>
+        requires nests { Nests self.now.grammar.limit (F.pre self.now.grammar.expr) (F.post self.now.grammar.expr) (S.pre self.now.grammar.stmt) (S.post self.now.grammar.stmt) (D.pre self.now.grammar.declarator) (D.post self.now.grammar.declarator) }
+        requires room { room ≤ self.now.grammar.limit }
+        ensures { Reads (spec.level level (room_of room) tokens.old) result tokens.new }
+    {
+        if level == 0 {
+            return self.unary(tokens, room);
+        }
+        let mut left = self.level(tokens, room, level - 1)?;
+        let mut room = room;
+        while let Some(op) = binary_of(level - 1, tokens.peek()) {
+            let line = tokens.line();
+            enter(tokens, room)?;
+            room -= 1;
+            let right = self.level(tokens, room, level - 1)?;
+            left = nodes::binary(self.grammar.alloc, line, op, left, right)?;
+        }
+        Ok(left)
+    }
+
+    // Behind the `?`.
+    #[tactic(auto, unfolding(c_grammar::specs::Expressions::choice))]
+    fn choice(
+        &self,
+        tokens: &mut Tokens<'_>,
+        room: usize,
+        line: u32,
+        test: Expr,
+    ) -> Result<Expr, Stop>
+        requires nests { Nests self.now.grammar.limit (F.pre self.now.grammar.expr) (F.post self.now.grammar.expr) (S.pre self.now.grammar.stmt) (S.post self.now.grammar.stmt) (D.pre self.now.grammar.declarator) (D.post self.now.grammar.declarator) }
+        requires room { room < self.now.grammar.limit }
+        ensures { Reads (spec.choice line test (inner (room_of room)) tokens.old) result tokens.new }
+    {
+        let first = self.grammar.inner(tokens, room, Part::Whole)?;
+        tokens.expect(Mark::Colon)?;
+        let second = self.grammar.inner(tokens, room, Part::Cond)?;
+        Ok(nodes::choice(self.grammar.alloc, line, test, first, second)?)
+    }
+
+    // Behind the first operand.
+    fn cond_more(&self, tokens: &mut Tokens<'_>, room: usize, test: Expr) -> Result<Expr, Stop>
+        requires nests { Nests self.now.grammar.limit (F.pre self.now.grammar.expr) (F.post self.now.grammar.expr) (S.pre self.now.grammar.stmt) (S.post self.now.grammar.stmt) (D.pre self.now.grammar.declarator) (D.post self.now.grammar.declarator) }
+        requires room { room ≤ self.now.grammar.limit }
+        ensures { Reads (spec.cond_more (room_of room) test tokens.old) result tokens.new }
+    {
+        if !tokens.sees(Mark::Question) {
+            return Ok(test);
+        }
+        let line = tokens.line();
+        enter(tokens, room)?;
+        self.choice(tokens, room - 1, line, test)
+    }
+
+    /// An expression without a comma or an assignment outside brackets.
+    ///
+    /// Syntax or TooDeep exactly at the first token that the production doesn't take, or that nests too deep.
+    #[tactic(auto, unfolding(c_grammar::specs::Expressions::cond))]
+    pub fn cond(&self, tokens: &mut Tokens<'_>, room: usize) -> Result<Expr, Stop>
+        requires nests { Nests self.now.grammar.limit (F.pre self.now.grammar.expr) (F.post self.now.grammar.expr) (S.pre self.now.grammar.stmt) (S.post self.now.grammar.stmt) (D.pre self.now.grammar.declarator) (D.post self.now.grammar.declarator) }
+        requires room { room ≤ self.now.grammar.limit }
+        ensures { Reads (spec.cond (room_of room) tokens.old) result tokens.new }
+    {
+        let test = self.level(tokens, room, LEVELS)?;
+        self.cond_more(tokens, room, test)
+    }
+
+    // At a `=`.
+    fn assigned(&self, tokens: &mut Tokens<'_>, room: usize, left: Expr) -> Result<Expr, Stop>
+        requires nests { Nests self.now.grammar.limit (F.pre self.now.grammar.expr) (F.post self.now.grammar.expr) (S.pre self.now.grammar.stmt) (S.post self.now.grammar.stmt) (D.pre self.now.grammar.declarator) (D.post self.now.grammar.declarator) }
+        requires room { room ≤ self.now.grammar.limit }
+        ensures { Reads (spec.assigned (room_of room) left tokens.old) result tokens.new }
+    {
+        let line = tokens.line();
+        enter(tokens, room)?;
+        let right = self.grammar.inner(tokens, room - 1, Part::Assign)?;
+        Ok(nodes::assign(self.grammar.alloc, line, left, right)?)
+    }
+
+    // At an operator that assigns.
+    fn modified(
+        &self,
+        tokens: &mut Tokens<'_>,
+        room: usize,
+        left: Expr,
+        op: ModifyOp,
+    ) -> Result<Expr, Stop>
+        requires nests { Nests self.now.grammar.limit (F.pre self.now.grammar.expr) (F.post self.now.grammar.expr) (S.pre self.now.grammar.stmt) (S.post self.now.grammar.stmt) (D.pre self.now.grammar.declarator) (D.post self.now.grammar.declarator) }
+        requires room { room ≤ self.now.grammar.limit }
+        ensures { Reads (spec.modified (room_of room) left op tokens.old) result tokens.new }
+    {
+        let line = tokens.line();
+        enter(tokens, room)?;
+        let right = self.grammar.inner(tokens, room - 1, Part::Assign)?;
+        Ok(nodes::modify(self.grammar.alloc, line, op, left, right)?)
+    }
+
+    // Behind the left side.
+    fn assign_more(&self, tokens: &mut Tokens<'_>, room: usize, left: Expr) -> Result<Expr, Stop>
+        requires nests { Nests self.now.grammar.limit (F.pre self.now.grammar.expr) (F.post self.now.grammar.expr) (S.pre self.now.grammar.stmt) (S.post self.now.grammar.stmt) (D.pre self.now.grammar.declarator) (D.post self.now.grammar.declarator) }
+        requires room { room ≤ self.now.grammar.limit }
+        ensures { Reads (spec.assign_more (room_of room) left tokens.old) result tokens.new }
+    {
+        match tokens.peek() {
+            Kind::Mark(Mark::Assign) => self.assigned(tokens, room, left),
+            Kind::Modify(op) => self.modified(tokens, room, left, op),
+            _ => Ok(left),
+        }
+    }
+
+    /// An expression without a comma outside brackets.
+    ///
+    /// Syntax or TooDeep exactly at the first token that the production doesn't take, or that nests too deep.
+    #[tactic(auto, unfolding(c_grammar::specs::Expressions::assign))]
+    pub fn assign(&self, tokens: &mut Tokens<'_>, room: usize) -> Result<Expr, Stop>
+        requires nests { Nests self.now.grammar.limit (F.pre self.now.grammar.expr) (F.post self.now.grammar.expr) (S.pre self.now.grammar.stmt) (S.post self.now.grammar.stmt) (D.pre self.now.grammar.declarator) (D.post self.now.grammar.declarator) }
+        requires room { room ≤ self.now.grammar.limit }
+        ensures { Reads (spec.assign (room_of room) tokens.old) result tokens.new }
+    {
+        let left = self.cond(tokens, room)?;
+        self.assign_more(tokens, room, left)
+    }
+
+    /// An expression.
+    ///
+    /// Syntax or TooDeep exactly at the first token that the production doesn't take, or that nests too deep.
+    #[tactic(auto, unfolding(c_grammar::specs::Expressions::expr), using(crate::proofs::Steps::comma_steps))]
+    pub fn expr(&self, tokens: &mut Tokens<'_>, room: usize) -> Result<Expr, Stop>
+        requires nests { Nests self.now.grammar.limit (F.pre self.now.grammar.expr) (F.post self.now.grammar.expr) (S.pre self.now.grammar.stmt) (S.post self.now.grammar.stmt) (D.pre self.now.grammar.declarator) (D.post self.now.grammar.declarator) }
+        requires room { room ≤ self.now.grammar.limit }
+        ensures { Reads (spec.expr (room_of room) tokens.old) result tokens.new }
+    {
+        let mut left = self.assign(tokens, room)?;
+        let mut room = room;
+        while is_comma(tokens.peek()) {
+            let line = tokens.line();
+            enter(tokens, room)?;
+            room -= 1;
+            let right = self.assign(tokens, room)?;
+            left = nodes::comma(self.grammar.alloc, line, left, right)?;
+        }
+        Ok(left)
+    }
+}

@@ -1,0 +1,328 @@
+//! Calls and returns.
+
+ghost use Rattle.std.specs.Prelude.{◌≡◌, IfOk, slice_get};
+ghost use Rattle.tick_tree.specs.Faults.{Checks};
+ghost use Rattle.c_places.specs.Calls as spec;
+ghost use Rattle.c_types.specs.declared.ctype.Layer.{out-Layer};
+ghost use Rattle.c_types.specs.Types as types;
+
+use crate::places::narrowed;
+use c_nodes::{Operand, Place, Value, converted, made, value_of};
+use c_shapes::{inner, is_pointer, is_void};
+use c_types::{CType, Layer, converts};
+use sqlite_items::Items;
+use std::alloc::{AllocError, Global};
+use tick_tree::{Deny, FaultKind, refused};
+use typed_tree::{Answer, Expr, Library};
+
+/// What the rules ask of an argument beside its node.
+#[derive(Drop)]
+pub struct Argument {
+    /// Its type.
+    pub ctype: CType,
+    /// Whether it is the literal 0.
+    pub zero: bool,
+}
+
+/// The arguments of a call, in their order.
+#[derive(Drop)]
+pub struct Arguments {
+    /// Their nodes.
+    pub codes: Items<Expr>,
+    /// Their types.
+    pub types: Items<Argument>,
+}
+
+/// What a call goes to.
+#[derive(Drop)]
+pub enum Callee {
+    /// The function of this number, by its plain name.
+    Static(u32),
+    /// The function whose number this node gives.
+    Number(Expr),
+}
+
+impl Arguments {
+    /// No arguments.
+    pub fn new(alloc: Global) -> Arguments
+        ensures { result ≡ spec.no_arguments }
+    {
+        Arguments {
+            codes: Items::new(alloc),
+            types: Items::new(alloc),
+        }
+    }
+
+    /// These arguments and one more.
+    pub fn with(self, v: Value) -> Result<Arguments, AllocError>
+        ensures { IfOk result (λ list. list ≡ spec.with_argument self v) }
+    {
+        let Arguments {
+            mut codes,
+            mut types,
+        } = self;
+        let Value { code, ctype, zero } = v;
+        codes.push(code)?;
+        types.push(Argument { ctype, zero })?;
+        Ok(Arguments { codes, types })
+    }
+}
+
+fn mismatches(a: &Argument, t: &CType) -> bool
+    ensures { result ≡ spec.mismatches a.now t.now }
+{
+    !is_void(&a.ctype) && !converts(&a.ctype, t, a.zero)
+}
+
+fn any_mismatches(list: &[Argument], types: &[CType]) -> bool
+    ensures { result ≡ spec.any_mismatches list.now types.now }
+{
+    list.iter()
+        .zip(types)
+        .any(|(argument, t)| mismatches(argument, t))
+}
+
+fn any_void(list: &[Argument]) -> bool
+    ensures { result ≡ spec.any_void list.now }
+{
+    list.iter().any(|a| is_void(&a.ctype))
+}
+
+fn void_or_none(list: &[Argument]) -> Option<FaultKind>
+    ensures { result ≡ spec.void_or_none list.now }
+{
+    if any_void(list) {
+        Some(FaultKind::VoidValue)
+    } else {
+        None
+    }
+}
+
+fn listed_breaks(list: &[Argument], types: &[CType]) -> Option<FaultKind>
+    ensures { result ≡ spec.listed_breaks list.now types.now }
+{
+    if list.len() != types.len() {
+        return Some(FaultKind::ArgumentCount);
+    }
+    if any_mismatches(list, types) {
+        Some(FaultKind::TypeMismatch)
+    } else {
+        void_or_none(list)
+    }
+}
+
+fn unlisted_breaks(list: &[Argument]) -> Option<FaultKind>
+    ensures { result ≡ spec.unlisted_breaks list.now }
+{
+    if any_void(list) {
+        return Some(FaultKind::VoidValue);
+    }
+    if list.len() <= 8 {
+        None
+    } else {
+        Some(FaultKind::TooManyParameters)
+    }
+}
+
+fn called_breaks_at(list: &[Argument], layer: &Layer) -> Option<FaultKind>
+    ensures { result ≡ spec.called_breaks_at list.now (out-Layer layer.now) }
+{
+    match layer {
+        Layer::Function(types) => listed_breaks(list, types.as_slice()),
+        Layer::Unlisted => unlisted_breaks(list),
+        Layer::Pointer | Layer::Array(_) | Layer::Cspec | Layer::Vspec => {
+            Some(FaultKind::NotFunction)
+        }
+    }
+}
+
+fn called_breaks_by(list: &[Argument], layers: &[Layer]) -> Option<FaultKind>
+    ensures { result ≡ spec.called_breaks_by list.now (types.outermost layers.now) }
+{
+    match layers.last() {
+        None => Some(FaultKind::NotFunction),
+        Some(layer) => called_breaks_at(list, layer),
+    }
+}
+
+fn called_breaks(t: &CType, list: &[Argument]) -> Option<FaultKind>
+    ensures { result ≡ spec.called_breaks t.now list.now }
+{
+    called_breaks_by(list, t.layers.as_slice())
+}
+
+fn answer_of(t: &CType) -> Answer
+    ensures { result ≡ spec.answer_of t.now }
+{
+    if is_void(t) {
+        Answer::Void
+    } else {
+        Answer::Value
+    }
+}
+
+fn call_node(alloc: Global, f: Callee, t: &CType, codes: Items<Expr>) -> Result<Expr, AllocError>
+    ensures { IfOk result (λ e. e ≡ spec.call_node f t.now codes) }
+{
+    match f {
+        Callee::Static(number) => Ok(Expr::Call(answer_of(t), number, codes)),
+        Callee::Number(e) => {
+            let called = typed_tree::call_number(alloc, answer_of(t), e, codes)?;
+            narrowed(alloc, t, called)
+        }
+    }
+}
+
+/// A call of what has this function type. Refused: NotFunction, ArgumentCount, TypeMismatch, VoidValue or TooManyParameters.
+#[tactic(auto, unfolding(crate::specs::Calls::called))]
+pub fn called(
+    alloc: Global,
+    line: u32,
+    f: Callee,
+    t: CType,
+    list: Arguments,
+) -> Result<Operand, Deny>
+    ensures { Checks result (spec.called line f t list) }
+{
+    let Arguments { codes, types } = list;
+    match called_breaks(&t, types.as_slice()) {
+        Some(kind) => refused(kind, line),
+        None => {
+            let answer = inner(t);
+            let e = call_node(alloc, f, &answer, codes)?;
+            Ok(made(e, answer))
+        }
+    }
+}
+
+fn through(alloc: Global, line: u32, v: Value, list: Arguments) -> Result<Operand, Deny>
+    ensures { Checks result (spec.through line v list) }
+{
+    if !is_pointer(&v.ctype) {
+        return refused(FaultKind::NotFunction, line);
+    }
+    let Value { code, ctype, .. } = v;
+    called(alloc, line, Callee::Number(code), inner(ctype), list)
+}
+
+fn static_number(place: &Place) -> Option<u32>
+    ensures { result ≡ spec.static_number place.now }
+{
+    match place {
+        Place::Function(f) => Some(*f),
+        Place::Value(_) | Place::Register(_) | Place::Generated(_) | Place::Memory(_) => None,
+    }
+}
+
+/// `o(..)`, with o as it is. Refused as [`called`], and NotFunction where o is neither a function nor a pointer to one.
+#[tactic(auto, unfolding(crate::specs::Calls::call))]
+pub fn call(alloc: Global, line: u32, o: Operand, list: Arguments) -> Result<Operand, Deny>
+    ensures { Checks result (spec.call line o list) }
+{
+    match static_number(&o.place) {
+        Some(f) => called(alloc, line, Callee::Static(f), o.ctype, list),
+        None => {
+            let v = value_of(alloc, o)?;
+            through(alloc, line, v, list)
+        }
+    }
+}
+
+fn library_kind(number: u32) -> Option<Library>
+    ensures { result ≡ spec.library_kind number }
+{
+    match number {
+        0 => None,
+        1 => Some(Library::Putchar),
+        2 => Some(Library::Putint),
+        3 => Some(Library::Malloc),
+        _ => Some(Library::Exit),
+    }
+}
+
+fn first_argument(codes: Items<Expr>) -> Option<Expr>
+    ensures { result ≡ slice_get codes 0 }
+{
+    let mut codes = codes;
+    if codes.len() == 0 {
+        None
+    } else {
+        Some(codes.remove(0))
+    }
+}
+
+fn library_node(
+    alloc: Global,
+    kind: Option<Library>,
+    argument: Option<Expr>,
+) -> Result<Expr, AllocError>
+    ensures { IfOk result (λ e. e ≡ spec.library_node kind argument) }
+{
+    match kind {
+        None => Ok(Expr::Getchar),
+        Some(kind) => match argument {
+            None => Ok(Expr::Getchar),
+            Some(e) => typed_tree::library(alloc, kind, e),
+        },
+    }
+}
+
+/// A call of the library function of this number: 0 getchar, 1 putchar, 2 putint, 3 malloc, 4 exit, which has this type. Refused
+/// as [`called`].
+#[tactic(auto, unfolding(crate::specs::Calls::library))]
+pub fn library(
+    alloc: Global,
+    line: u32,
+    number: u32,
+    t: CType,
+    list: Arguments,
+) -> Result<Operand, Deny>
+    ensures { Checks result (spec.library line number t list) }
+{
+    let Arguments { codes, types } = list;
+    match called_breaks(&t, types.as_slice()) {
+        Some(kind) => refused(kind, line),
+        None => {
+            let e = library_node(alloc, library_kind(number), first_argument(codes))?;
+            Ok(made(e, inner(t)))
+        }
+    }
+}
+
+fn return_breaks(wanted: &CType, v: &Value) -> Option<FaultKind>
+    ensures { result ≡ spec.return_breaks wanted.now v.now }
+{
+    if is_void(&v.ctype) {
+        return Some(FaultKind::VoidValue);
+    }
+    if is_void(wanted) {
+        return Some(FaultKind::BadReturn);
+    }
+    if converts(&v.ctype, wanted, v.zero) {
+        None
+    } else {
+        Some(FaultKind::TypeMismatch)
+    }
+}
+
+/// The node of the value that a function of this result returns. Refused: VoidValue, BadReturn or TypeMismatch.
+#[tactic(auto, unfolding(crate::specs::Calls::returned))]
+pub fn returned(alloc: Global, line: u32, wanted: &CType, v: Value) -> Result<Expr, Deny>
+    ensures { Checks result (spec.returned line wanted.now v) }
+{
+    match return_breaks(wanted, &v) {
+        Some(kind) => refused(kind, line),
+        None => Ok(converted(alloc, v, wanted)?),
+    }
+}
+
+/// The node of the value that a tick returns. Refused: VoidValue.
+#[tactic(auto, unfolding(crate::specs::Calls::tick_returned))]
+pub fn tick_returned(line: u32, v: Value) -> Result<Expr, Deny>
+    ensures { Checks result (spec.tick_returned line v) }
+{
+    if is_void(&v.ctype) {
+        return refused(FaultKind::VoidValue, line);
+    }
+    Ok(v.code)
+}

@@ -1,0 +1,147 @@
+//! Calls of `tick` over one store in memory, a line each: the words, the status, the instructions that were executed,
+//! and what was written. Before each call stands a line `%% WORDS` with the bytes of the file `text` behind it, or a line
+//! `%h WORDS` with those of the file `image` in hexadecimal. Without any the file stays. The input is empty.
+#![tactic(auto)]
+
+use host_edge::{MemSink, MemSource, MemStore};
+use std::alloc::{AllocError, Global};
+use std::io::{self, Read};
+use tick_top::{status, tick};
+
+// The bytes that each stream takes at most.
+const ROOM: usize = 4096;
+
+// What stands before a call.
+#[derive(Clone, Copy, Drop)]
+enum Before {
+    // Nothing.
+    Nothing,
+    // The file `text`.
+    Text,
+    // The file `image`, in hexadecimal.
+    Image,
+}
+
+// The value of a hexadecimal digit in lower case; of any other byte 0.
+fn digit_value(digit: u8) -> u8 {
+    match digit {
+        b'0'..=b'9' => digit - b'0',
+        b'a'..=b'f' => digit - b'a' + 10,
+        _ => 0,
+    }
+}
+
+fn from_hex(alloc: Global, digits: &[u8]) -> Result<Vec<u8>, AllocError> {
+    let mut bytes = Vec::new(alloc);
+    let mut high = None;
+    for digit in digits.iter().filter(|d| d.is_ascii_hexdigit()) {
+        match high {
+            None => high = Some(digit_value(*digit)),
+            Some(first) => {
+                bytes.push((first << 4) | digit_value(*digit))?;
+                high = None;
+            }
+        }
+    }
+    Ok(bytes)
+}
+
+fn words_of(alloc: Global, line: &str) -> Result<Vec<String>, AllocError> {
+    let mut all = Vec::new(alloc);
+    for word in line.split_whitespace() {
+        all.push(String::from_str(alloc, word)?)?;
+    }
+    Ok(all)
+}
+
+// What a call left.
+#[derive(Drop)]
+struct Seen {
+    status: u8,
+    steps: u64,
+    out: Vec<u8>,
+    err: Vec<u8>,
+}
+
+fn call(alloc: Global, line: &str, store: &mut MemStore) -> Result<Seen, AllocError> {
+    let words = words_of(alloc, line)?;
+    let mut input = MemSource::new(alloc, b"", &[])?;
+    let mut out = MemSink::new(alloc, ROOM, &[])?;
+    let mut err = MemSink::new(alloc, ROOM, &[])?;
+    let ended = tick(alloc, &words, store, &mut input, &mut out, &mut err)?;
+    Ok(Seen {
+        status: status(&ended.outcome),
+        steps: ended.steps,
+        out: out.taken().to_vec(alloc)?,
+        err: err.taken().to_vec(alloc)?,
+    })
+}
+
+fn put(
+    alloc: Global,
+    store: &mut MemStore,
+    before: &Before,
+    content: &[u8],
+) -> Result<(), AllocError> {
+    match before {
+        Before::Nothing => Ok(()),
+        Before::Text => store.put("text", content),
+        Before::Image => store.put("image", &from_hex(alloc, content)?),
+    }
+}
+
+fn report<R: Print + AllocGlobal>(
+    rt: &R,
+    line: &str,
+    before: &Before,
+    content: &[u8],
+    store: &mut MemStore,
+) -> io::Result<()> {
+    if line.is_empty() {
+        return Ok(());
+    }
+    put(rt.alloc(), store, before, content)?;
+    let seen = call(rt.alloc(), line, store)?;
+    let out = str::from_utf8(&seen.out).unwrap_or("?");
+    let err = str::from_utf8(&seen.err).unwrap_or("?");
+    println!(rt;
+        "{line}: {} in {} steps, out {out:?}, err {err:?}",
+        seen.status, seen.steps
+    )
+}
+
+// The kind of a line that begins a case, and its words.
+fn begins(line: &[u8]) -> Option<(Before, &[u8])> {
+    if let Some(words) = line.strip_prefix(b"%% ") {
+        Some((Before::Text, words))
+    } else if let Some(words) = line.strip_prefix(b"%h ") {
+        Some((Before::Image, words))
+    } else if let Some(words) = line.strip_prefix(b"%- ") {
+        Some((Before::Nothing, words))
+    } else {
+        None
+    }
+}
+
+fn main(rt: HostRuntime) -> io::Result<()> {
+    let mut cases = Vec::new(rt.alloc());
+    rt.reader().read_to_end(&mut cases)?;
+    let mut store = MemStore::new(rt.alloc(), &[])?;
+    let mut words: &[u8] = &[];
+    let mut before = Before::Nothing;
+    let mut content = Vec::new(rt.alloc());
+    for line in cases.split(|b| *b == b'\n') {
+        if let Some((next, next_words)) = begins(line) {
+            let text = str::from_utf8(words).unwrap_or("?");
+            report(&rt, text, &before, &content, &mut store)?;
+            before = next;
+            words = next_words;
+            content.clear();
+        } else {
+            content.extend_from_slice(line)?;
+            content.push(b'\n')?;
+        }
+    }
+    let text = str::from_utf8(words).unwrap_or("?");
+    report(&rt, text, &before, &content, &mut store)
+}

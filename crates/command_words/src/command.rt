@@ -1,0 +1,142 @@
+//! The commands.
+ghost use Rattle.std.specs.Prelude.{◌≡◌, ℕ, List, ◌+◌, ◌<◌, ◌^◌, Ok, Err, map, length, Some, ◌≤◌, IfOk, MatchResult, string_bytes};
+ghost use Rattle.command_words.specs.Orders as spec;
+
+use crate::arguments::{Given, Operands, Wanted, arguments};
+
+/// A command, with its operands.
+#[derive(Clone, Copy, Debug, Drop)]
+pub enum Command<'a> {
+    /// `run FILE`: builds the text of the file and runs its image on the input, for at most so many instructions.
+    Run(&'a str, u64),
+    /// `build FILE IMAGE`: builds the text of the file and saves its image.
+    Build(&'a str, &'a str),
+    /// `exec IMAGE`: runs a saved image on the input, for at most so many instructions.
+    Exec(&'a str, u64),
+    /// `asm FILE IMAGE`: assembles the text of the file and saves the image.
+    Asm(&'a str, &'a str),
+    /// `dis IMAGE`: writes the assembly text of a saved image.
+    Dis(&'a str),
+}
+
+fn wanted(operands: u32, steps: bool) -> Wanted
+    ensures { result ≡ spec.wanted operands steps }
+{
+    Wanted {
+        operands,
+        steps,
+        number: false,
+    }
+}
+
+// The operands and the number of steps of `run` and `exec`.
+fn stepped(words: &[String]) -> Result<(&str, u64), u64>
+    requires { length words.now < 2 ^ 60 }
+    ensures given { MatchResult result
+        (λ a. (order : List ℕ → ℕ → spec.Order) → spec.stepped order (2 + length words.now) (map string_bytes words.now) ≡ Ok (order a.0.now a.1))
+        (λ place. (order : List ℕ → ℕ → spec.Order) → spec.stepped order (2 + length words.now) (map string_bytes words.now) ≡ Err place) }
+    ensures steps { IfOk result (λ a. a.1 ≤ 2 ^ 40) }
+{
+    let given = arguments(wanted(1, true), 2, words)?;
+    match given.operands {
+        Operands::One(operand) => Ok((operand, given.steps)),
+        _ => Err(2 + words.len() as u64),
+    }
+}
+
+// The operand of `dis`.
+fn single(words: &[String]) -> Result<&str, u64>
+    requires { length words.now < 2 ^ 60 }
+    ensures { MatchResult result
+        (λ a. (order : List ℕ → spec.Order) → spec.single order (2 + length words.now) (map string_bytes words.now) ≡ Ok (order a.now))
+        (λ place. (order : List ℕ → spec.Order) → spec.single order (2 + length words.now) (map string_bytes words.now) ≡ Err place) }
+{
+    let given = arguments(wanted(1, false), 2, words)?;
+    match given.operands {
+        Operands::One(operand) => Ok(operand),
+        _ => Err(2 + words.len() as u64),
+    }
+}
+
+// The operands of `build` and `asm`.
+fn double(words: &[String]) -> Result<(&str, &str), u64>
+    requires { length words.now < 2 ^ 60 }
+    ensures { MatchResult result
+        (λ a. (order : List ℕ → List ℕ → spec.Order) → spec.double order (2 + length words.now) (map string_bytes words.now) ≡ Ok (order a.0.now a.1.now))
+        (λ place. (order : List ℕ → List ℕ → spec.Order) → spec.double order (2 + length words.now) (map string_bytes words.now) ≡ Err place) }
+{
+    let given = arguments(wanted(2, false), 2, words)?;
+    match given.operands {
+        Operands::Two(first, second) => Ok((first, second)),
+        _ => Err(2 + words.len() as u64),
+    }
+}
+
+// The names of commands.
+#[derive(Clone, Copy, Debug, Drop)]
+enum Name {
+    Run,
+    Build,
+    Exec,
+    Asm,
+    Dis,
+}
+
+fn name_of(word: &str) -> Option<Name>
+    ensures { result ≡ spec.name_of word.now }
+{
+    match word {
+        "run" => Some(Name::Run),
+        "build" => Some(Name::Build),
+        "exec" => Some(Name::Exec),
+        "asm" => Some(Name::Asm),
+        "dis" => Some(Name::Dis),
+        _ => None,
+    }
+}
+
+// The command of a name and the words behind it.
+fn by_name(name: Name, words: &[String]) -> Result<Command<'_>, u64>
+    requires { length words.now < 2 ^ 60 }
+    ensures command { MatchResult result (λ c. spec.by_name (Some name) (2 + length words.now) (map string_bytes words.now) ≡ Ok (spec.ordered c)) (λ place. spec.by_name (Some name) (2 + length words.now) (map string_bytes words.now) ≡ Err place) }
+    ensures steps { IfOk result (λ c. spec.steps_in c ≤ 2 ^ 40) }
+{
+    match name {
+        Name::Run => {
+            let (file, steps) = stepped(words)?;
+            Ok(Command::Run(file, steps))
+        }
+        Name::Build => {
+            let (file, image) = double(words)?;
+            Ok(Command::Build(file, image))
+        }
+        Name::Exec => {
+            let (image, steps) = stepped(words)?;
+            Ok(Command::Exec(image, steps))
+        }
+        Name::Asm => {
+            let (file, image) = double(words)?;
+            Ok(Command::Asm(file, image))
+        }
+        Name::Dis => {
+            let image = single(words)?;
+            Ok(Command::Dis(image))
+        }
+    }
+}
+
+/// The command that the words give, word 0 being the program's name, or the place of the first word that can't continue
+/// one; that is the number of words where they end too early. A run has at most 1,099,511,627,776 instructions.
+pub fn command_of(words: &[String]) -> Result<Command<'_>, u64>
+    ensures command { MatchResult result (λ c. spec.order_of (map string_bytes words.now) ≡ Ok (spec.ordered c)) (λ place. spec.order_of (map string_bytes words.now) ≡ Err place) }
+    ensures steps { IfOk result (λ c. spec.steps_in c ≤ 2 ^ 40) }
+{
+    match words {
+        [] => Err(0),
+        [_] => Err(1),
+        [_, name, rest @ ..] => match name_of(name.as_str()) {
+            Some(name) => by_name(name, rest),
+            None => Err(1),
+        },
+    }
+}

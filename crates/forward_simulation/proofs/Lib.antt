@@ -1,0 +1,13 @@
+pub mod Addresses
+pub mod Liveness
+pub mod Saving
+pub mod Entering
+pub mod Relation
+pub mod Simulation
+pub mod Ops
+pub mod Ending
+pub mod Whole
+pub mod Fitting
+pub mod Suiting
+pub mod Alike
+pub mod Starts

@@ -1,0 +1,10 @@
+mod Rows
+pub mod Appended
+pub mod Marked
+pub mod Lengths
+pub mod Placed
+pub mod Spliced
+pub mod Written
+pub mod Return
+pub mod Most
+pub mod Kept

@@ -1,0 +1,27 @@
+use Rattle.std.proofs.Common.{ℕ, ◌≡◌, ◌++◌, List, ap, ◌∙◌, append_assoc, arith}
+use Rattle.icode_templates.specs.Words.{words}
+use Rattle.icode_expand.specs.Frames.{restores}
+use Rattle.icode_expand.proofs.Marked.{so_far, so_far_all, restores_more, restores_still}
+use Rattle.icode_expand.proofs.saved.Saved.restore.Goals as goal
+use Rattle.icode_expand.proofs.saved.Saved.restore.Goals.{then-self-place, else-self-place}
+
+pub loop-place-preserved : goal.loop-place-preserved
+loop-place-preserved c =
+    elim c.if-self-place.branch [
+      | then-self-place w ↦ (
+        simp
+            (w.code-is, w.push.ensures.words, w.lw.ensures, w.place_register.ensures, c.loop-place.invariant.0, restores_more _ _ c.loop-place-test.true w.if-self-place.true, append_assoc),
+        rw w.code-is (omega arith),
+      )
+      | else-self-place w ↦ (
+        simp (w.code-is, c.loop-place.invariant.0, restores_still _ _ c.loop-place-test.true w.if-self-place.false),
+        rw w.code-is (omega arith),
+      )
+    ]
+
+pub returns-clause-words : goal.returns-clause-words
+returns-clause-words c =
+    let k : c.loop-place.place ≡ 12 = omega arith in
+    c.loop-place.invariant.0
+    ∙ (ap (λ (p : ℕ). c.args.code.now ++ words (restores (so_far c.self.inside.used p))) k
+    ∙ ap (λ (ks : List ℕ). c.args.code.now ++ words (restores ks)) (so_far_all c.self.inside.used ∙ c.self.view_is))

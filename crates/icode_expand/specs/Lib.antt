@@ -1,0 +1,5 @@
+pub mod Frames
+pub mod Used
+pub mod Expansion
+pub mod Labels
+pub mod Laws

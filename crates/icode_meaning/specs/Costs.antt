@@ -1,0 +1,40 @@
+-- What each op costs in instructions, the least and the most: the bounds of its template, where each register that it
+-- names stands in a far slot. A call pays for the prologue of the function that it enters, and a return for the
+-- epilogue, and for the exit behind `main`. Nothing here says how the templates look; that they keep to these bounds
+-- is proved of them. A label costs nothing, and every other op one instruction at least.
+use Rattle.std.specs.Prelude.{ℕ, ◌+◌, ◌*◌}
+use Rattle.icode_ops.specs.declared.op.Op.{Op}
+use Rattle.icode_ops.specs.declared.op.Op.TheVariants.{Const, Move, Bin, CheckDivision, CheckZero, Un, FrameAddress, Load, Store, Clear, Label, Jump, BranchZero, BranchNonzero, Argument, GetParameter, Call, CallNumber, Result, Return, ReturnZero, Sys, Run, New, Put}
+
+abbrev pub least_of : Op → ℕ
+least_of (Label label) = 0
+least_of _ = 1
+
+-- an operand from a far slot takes 4 instructions, two take 7, and a result 3
+abbrev pub most_of : Op → ℕ
+most_of (Const to word) = 5
+most_of (Move to from) = 7
+most_of (Bin kind to left right) = 12
+most_of (CheckDivision left right) = 16
+most_of (CheckZero divisor) = 7
+most_of (Un kind to from) = 9
+most_of (FrameAddress to offset) = 6
+most_of (Load width to address) = 14
+most_of (Store width address value) = 13
+most_of (Clear offset words) = 6 + 4 * words
+most_of (Label label) = 0
+most_of (Jump label) = 2
+most_of (BranchZero test label) = 8
+most_of (BranchNonzero test label) = 8
+most_of (Argument index from) = 5
+most_of (GetParameter to index) = 7
+most_of (Call address) = 36
+most_of (CallNumber function count) = 52
+most_of (Result to) = 4
+most_of (Return from) = 36
+most_of ReturnZero = 32
+most_of (Sys kind to from) = 11
+-- a routine has 64 instructions at most; one that takes longer is paid for by steps of its own
+most_of (Run routine to from) = 75
+most_of (New to address kind captures) = 75
+most_of (Put index from) = 8

@@ -1,0 +1,5 @@
+pub mod Assembly
+pub mod Words
+pub mod Layout
+pub mod Templates
+pub mod Seen

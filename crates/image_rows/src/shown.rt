@@ -1,0 +1,22 @@
+//! A stop in print.
+
+use host_edge::Ending;
+use mips_machine::Stop;
+use std::fmt;
+
+/// A stop, with the address of a fault in hexadecimal digits.
+#[derive(Drop)]
+pub struct Shown(pub Stop);
+
+impl fmt::Display for Shown {
+    fn fmt<W: fmt::Write>(&self, f: &mut fmt::Formatter<W>) -> fmt::Result {
+        match self.0 {
+            Stop::Ended(Ending::Done(status)) => write!(f, "Done({status})"),
+            Stop::Ended(Ending::Trap(kind)) => write!(f, "Trap({kind:?})"),
+            Stop::Fault(kind, at) => write!(f, "MachineFault({kind:?}, {at:#010x})"),
+            Stop::Steps => write!(f, "OutOfSteps"),
+            Stop::ReadFault => write!(f, "ReadFault"),
+            Stop::WriteFault => write!(f, "WriteFault"),
+        }
+    }
+}

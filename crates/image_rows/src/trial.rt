@@ -1,0 +1,123 @@
+//! What is seen of the runs.
+
+use crate::generator::{Form, Generator};
+use crate::row::Row;
+use crate::shown::Shown;
+use host_edge::{MemSink, MemSource};
+use image_file::{Image, ImageDeny, read};
+use mips_machine::Machine;
+
+/// The bytes that a run may put out.
+const ROOM: usize = 16;
+
+/// The bytes that a run may read.
+const INPUT: &[u8] = b"input";
+
+/// The most bytes of an image file.
+const LONGEST: usize = 83_886_080;
+
+/// The most steps of a run.
+const MOST_STEPS: u64 = 1_099_511_627_776;
+
+/// Runs the image, and prints what is seen of it.
+fn run<R: Print + AllocGlobal>(rt: &R, image: &Image, steps: u64) -> anyhow::Result<()> {
+    let mut machine = Machine::new(rt.alloc(), image)?;
+    let mut input = MemSource::new(rt.alloc(), INPUT, &[])?;
+    let mut out = MemSink::new(rt.alloc(), ROOM, &[])?;
+    let stop = machine.run(&mut input, &mut out, steps.min(MOST_STEPS));
+    let taken = machine.steps();
+    let flushes = machine.counts().flushes;
+    let bytes = hex::encode(rt.alloc(), out.taken())?;
+    println!(rt;
+        "{}, steps {taken}, flushes {flushes}, out {bytes}.",
+        Shown(stop)
+    )?;
+    Ok(())
+}
+
+/// Prints what comes of an image file: the rule that it breaks, or what is seen of its run.
+fn try_file<R: Print + AllocGlobal>(rt: &R, bytes: &[u8], steps: u64) -> anyhow::Result<()> {
+    if bytes.len() > LONGEST {
+        println!(rt; "too long.")?;
+        return Ok(());
+    }
+    match read(rt.alloc(), bytes) {
+        Ok(image) => run(rt, &image, steps)?,
+        Err(ImageDeny::Bad(fault)) => println!(rt; "BadImage({}).", fault.number())?,
+        Err(ImageDeny::NoMemory) => println!(rt; "no memory.")?,
+    }
+    Ok(())
+}
+
+/// Tries so many files with random words.
+fn try_random<R: Print + AllocGlobal>(
+    rt: &R,
+    count: u32,
+    steps: u64,
+    from: usize,
+    file: &[u8],
+    forms: &[Form],
+) -> anyhow::Result<()> {
+    for number in 0..count {
+        print!(rt; "random {number}: ")?;
+        let bytes = Generator::new(number).filled(rt.alloc(), file, from, forms)?;
+        try_file(rt, &bytes, steps)?;
+    }
+    Ok(())
+}
+
+/// Tries so many files with bits turned.
+fn try_mutated<R: Print + AllocGlobal>(
+    rt: &R,
+    count: u32,
+    steps: u64,
+    from: usize,
+    file: &[u8],
+) -> anyhow::Result<()> {
+    for number in 0..count {
+        print!(rt; "mutated {number}: ")?;
+        let bytes = Generator::new(number).turned(rt.alloc(), file, from)?;
+        try_file(rt, &bytes, steps)?;
+    }
+    Ok(())
+}
+
+/// Prints what comes of a row; a form is kept.
+fn answer<R: Print + AllocGlobal>(
+    rt: &R,
+    row: Row<'_>,
+    forms: &mut Vec<Form>,
+) -> anyhow::Result<()> {
+    match row {
+        Row::Given { name, steps, bytes } => {
+            print!(rt; "{name}: ")?;
+            try_file(rt, &bytes, steps)
+        }
+        Row::Form { word, mask } => Ok(forms.push(Form { word, mask })?),
+        Row::Random {
+            count,
+            steps,
+            from,
+            bytes,
+        } => try_random(rt, count, steps, from, &bytes, forms),
+        Row::Mutated {
+            count,
+            steps,
+            from,
+            bytes,
+        } => try_mutated(rt, count, steps, from, &bytes),
+    }
+}
+
+/// Prints what comes of the rows of the standard input, a line each.
+pub fn answer_rows<R: Print + Input + AllocGlobal>(rt: &R) -> anyhow::Result<()> {
+    let mut forms = Vec::new(rt.alloc());
+    for line in rt.lines(rt.alloc()) {
+        let line = line?;
+        match Row::read(rt.alloc(), line.as_str()) {
+            Some(row) => answer(rt, row, &mut forms)?,
+            None => println!(rt; "no row")?,
+        }
+    }
+    Ok(())
+}

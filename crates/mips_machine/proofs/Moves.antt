@@ -1,0 +1,180 @@
+-- A service that puts bytes out, and the one that reads a byte, as runs of one instruction.
+use Rattle.std.proofs.Common.{◌≡◌, inl, inr, ℕ, ◌<◌, nat_eq, true, false, List, [], ◌∷◌, ◌++◌, Option, None, Some, refl, sym, ap, ◌∙◌, subst, arith, append-nil}
+use Rattle.std.specs.Io.KnownBytes.{Appends, IsAtEnd}
+use Rattle.std.proofs.KnownBytes.{Consumes-nil, Appends-nil, Consumes-kept}
+use Rattle.std.proofs.lemmas.Bool.{false≢true}
+use Rattle.std.proofs.lemmas.Bool.Decides.{nat_tests}
+use Rattle.history.specs.Events.{Item, Out, In, End, Input, output, outs}
+use Rattle.history.specs.Events as event
+use Rattle.mips_model.specs.State.{World}
+use Rattle.mips_model.specs.Steps.{step}
+use Rattle.mips_model.proofs.Runs.{run_0, run_1}
+use Rattle.mips_machine.specs.declared.stop.Stop.{Stop}
+use Rattle.mips_machine.specs.declared.stop.Stop.TheVariants.{Ended, Fault, Steps, ReadFault, WriteFault}
+use Rattle.mips_machine.specs.Progress.{Progress, is_at_end, no_input, world}
+use Rattle.mips_machine.specs.Ran.{Ran, EndsFrom, bytes_read, before}
+use Rattle.mips_machine.specs.Served.{counted, answered, input_ended, Puts, Takes}
+use Rattle.mips_machine.proofs.Quiet.{alive_one, said_all}
+
+output_outs : (bytes : List ℕ) → output (outs bytes) ≡ bytes
+output_outs [] = refl
+output_outs (b ∷ bytes) = ap (λ (l : List ℕ). b ∷ l) (output_outs bytes)
+
+put_out : (bytes : List ℕ) → bytes ≡ output (outs bytes) ++ []
+put_out bytes = sym (append-nil (output (outs bytes)) ∙ output_outs bytes)
+
+none_read : (bytes : List ℕ) → bytes_read (outs bytes) ≡ []
+none_read [] = refl
+none_read (b ∷ bytes) = none_read bytes
+
+one_read : (b : ℕ) → b < 256 → bytes_read (In b ∷ []) ≡ b ∷ []
+one_read b lt = let e : nat_eq b 4294967295 ≡ false = grind (arith, nat_tests, lt) in rw e refl
+
+-- what a service does that puts bytes out and answers v
+abbrev IsPut : Progress → List ℕ → ℕ → Type 0
+IsPut old bytes v = (rest : Input) (said : List Item) → step (world old rest said None) ≡ world (answered v old) rest (said ++ outs bytes) None
+
+pub put_ran : (old new : Progress) (left taken told : Option (List ℕ)) (stop : Stop) (bytes : List ℕ) (v : ℕ)
+    → IsPut old bytes v → new ≡ answered v old → Puts stop taken told bytes → Ran 1 old new left left taken told stop
+put_ran old new left taken told Steps bytes v is same puts = record {
+  count = 1;
+  within = omega arith;
+  counted = ap (λ (p : Progress). p.steps) same;
+  all = λ _. refl;
+  given = [];
+  consumed = Consumes-nil left;
+  events = outs bytes;
+  taken_in = none_read bytes;
+  last = [];
+  front = 0;
+  appended = subst (Appends taken told) (put_out bytes) puts;
+  whole = λ _. refl;
+  cut = λ e. absurd (cc);
+  stays = λ e. (refl, ap is_at_end same ∙ e);
+  at_end = λ e n. absurd (false≢true (sym n ∙ sym (ap is_at_end same) ∙ e));
+  ran = λ rest said m.
+      run_1 (world old rest said None) ∙ is rest said
+      ∙ ap (λ (p : Progress). world p rest (said ++ outs bytes) None) (sym same)
+      ∙ ap (λ (o : List Item). world new rest o None) (sym (append-nil (said ++ outs bytes)));
+  alive = λ rest said m. alive_one (world old rest said None) refl;
+  earlier = λ w. absurd (cc);
+}
+put_ran old new left taken told WriteFault bytes v is same puts = record {
+  count = 1;
+  within = omega arith;
+  counted = ap (λ (p : Progress). p.steps) same;
+  all = λ _. refl;
+  given = [];
+  consumed = Consumes-nil left;
+  events = [];
+  taken_in = refl;
+  last = bytes;
+  front = puts.count;
+  appended = puts.taken;
+  whole = λ n. absurd (n refl);
+  cut = λ _. puts.short;
+  stays = λ e. (refl, ap is_at_end same ∙ e);
+  at_end = λ e n. absurd (false≢true (sym n ∙ sym (ap is_at_end same) ∙ e));
+  ran = λ rest said m.
+      run_1 (world old rest said None) ∙ is rest said
+      ∙ ap (λ (p : Progress). world p rest (said ++ outs bytes) None) (sym same)
+      ∙ ap (λ (o : List Item). world new rest (o ++ outs bytes) None) (sym (append-nil said));
+  alive = λ rest said m. alive_one (world old rest said None) refl;
+  earlier = λ w. (0, refl, λ rest said m. ap (λ (v : World). v.state.d.outside.history) (run_0 (world old rest said None)) ∙ sym (append-nil said));
+}
+put_ran old new left taken told (Ended e) bytes v is same puts = absurd puts
+put_ran old new left taken told (Fault k at) bytes v is same puts = absurd puts
+put_ran old new left taken told ReadFault bytes v is same puts = absurd puts
+
+ends_from : (a b : Option (List ℕ)) → IsAtEnd b → EndsFrom a b
+ends_from None b e = tt
+ends_from (Some x) b e = e
+
+-- what the service does that reads: the next byte, the end, a failing input, and nothing more behind the end
+pub record IsGet (old : Progress) : Type 0 where
+  pub byte : is_at_end old ≡ false → (b : ℕ) (rest : Input) (said : List Item)
+      → step (world old (before (b ∷ []) rest) said None) ≡ world (answered b old) rest (said ++ In b ∷ []) None
+  pub ended : (rest : Input) (said : List Item) → (is_at_end old ≡ false → rest ≡ no_input)
+      → step (world old rest said None) ≡ world (input_ended old) rest (said ++ In 4294967295 ∷ []) None
+  pub failed : is_at_end old ≡ false → (said : List Item)
+      → step (world old (record { bytes = []; failing = true }) said None) ≡ world (counted old) (record { bytes = []; failing = true }) said (Some event.ReadFault)
+
+said_one : (new next : Progress) (rest : Input) (said : List Item) (v : ℕ) → new ≡ next → world next rest (said ++ In v ∷ []) None ≡ world new rest ((said ++ In v ∷ []) ++ []) None
+said_one new next rest said v same =
+    ap (λ (p : Progress). world p rest (said ++ In v ∷ []) None) (sym same) ∙ ap (λ (o : List Item). world new rest o None) (sym (append-nil (said ++ In v ∷ [])))
+
+pub get_ran : (old new : Progress) (left later taken : Option (List ℕ)) (stop : Stop) → IsGet old → Takes stop old new left later → Ran 1 old new left later taken taken stop
+get_ran old new left later taken Steps g (inl took) = record {
+  count = 1;
+  within = omega arith;
+  counted = ap (λ (p : Progress). p.steps) took.1.2;
+  all = λ _. refl;
+  given = took.1.0 ∷ [];
+  consumed = took.1.3;
+  events = In took.1.0 ∷ [];
+  taken_in = one_read took.1.0 took.1.1;
+  last = [];
+  front = 0;
+  appended = Appends-nil taken;
+  whole = λ _. refl;
+  cut = λ w. absurd (cc);
+  stays = λ h. absurd (false≢true (sym took.0 ∙ h));
+  at_end = λ h n. absurd (false≢true (sym took.0 ∙ sym (ap is_at_end took.1.2) ∙ h));
+  ran = λ rest said m.
+      run_1 (world old (before (took.1.0 ∷ []) rest) said None) ∙ g.byte took.0 took.1.0 rest said
+      ∙ said_one new (answered took.1.0 old) rest said took.1.0 took.1.2;
+  alive = λ rest said m. alive_one (world old (before (took.1.0 ∷ []) rest) said None) refl;
+  earlier = λ w. absurd (cc);
+}
+get_ran old new left later taken Steps g (inr ended) = record {
+  count = 1;
+  within = omega arith;
+  counted = ap (λ (p : Progress). p.steps) ended.0;
+  all = λ _. refl;
+  given = [];
+  consumed = Consumes-kept left left later [] (Consumes-nil left) ended.1;
+  events = In 4294967295 ∷ [];
+  taken_in = refl;
+  last = [];
+  front = 0;
+  appended = Appends-nil taken;
+  whole = λ _. refl;
+  cut = λ w. absurd (cc);
+  stays = λ h. (refl, ap is_at_end ended.0);
+  at_end = λ h n. ends_from left later (ended.2 n);
+  ran = λ rest said m.
+      run_1 (world old rest said None) ∙ g.ended rest said (m.ended (ap is_at_end ended.0))
+      ∙ said_one new (input_ended old) rest said 4294967295 ended.0;
+  alive = λ rest said m. alive_one (world old rest said None) refl;
+  earlier = λ w. absurd (cc);
+}
+get_ran old new left later taken ReadFault g failed = record {
+  count = 1;
+  within = omega arith;
+  counted = ap (λ (p : Progress). p.steps) failed.1;
+  all = λ _. refl;
+  given = [];
+  consumed = Consumes-kept left left later [] (Consumes-nil left) failed.2;
+  events = [];
+  taken_in = refl;
+  last = [];
+  front = 0;
+  appended = Appends-nil taken;
+  whole = λ _. refl;
+  cut = λ w. absurd (cc);
+  stays = λ h. absurd (false≢true (sym failed.0 ∙ h));
+  at_end = λ h n. absurd (false≢true (sym failed.0 ∙ sym (ap is_at_end failed.1) ∙ h));
+  ran = λ rest said m.
+      let none = m.failed refl in
+      run_1 (world old rest said None)
+      ∙ ap (λ (i : Input). step (world old i said None)) none
+      ∙ g.failed failed.0 said
+      ∙ ap (λ (i : Input). world (counted old) i said (Some event.ReadFault)) (sym none)
+      ∙ ap (λ (p : Progress). world p rest said (Some event.ReadFault)) (sym failed.1)
+      ∙ said_all new rest said (Some event.ReadFault);
+  alive = λ rest said m. alive_one (world old rest said None) refl;
+  earlier = λ w. absurd (cc);
+}
+get_ran old new left later taken (Ended e) g never = absurd never
+get_ran old new left later taken (Fault k at) g never = absurd never
+get_ran old new left later taken WriteFault g never = absurd never

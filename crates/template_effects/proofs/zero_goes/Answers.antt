@@ -1,0 +1,5 @@
+use Rattle.template_effects.proofs.Templates as lemmas
+use Rattle.template_effects.proofs.zero_goes.Goals as goal
+
+pub returns : goal.returns
+returns c = lemmas.zero_goes

@@ -1,0 +1,5 @@
+pub mod Nodes
+pub mod Size
+pub mod Scope
+pub mod World
+pub mod Meaning

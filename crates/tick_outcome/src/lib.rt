@@ -1,0 +1,8 @@
+//! How a call of `tick` ended, and what is said of it: the exit status, and a line on standard error.
+#![tactic(auto)]
+
+mod outcome;
+mod report;
+
+pub use outcome::{Outcome, status};
+pub use report::{Line, line_of};

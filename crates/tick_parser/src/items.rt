@@ -1,0 +1,185 @@
+//! Tokens with their kinds and values.
+
+ghost use Rattle.std.specs.Prelude.{◌≡◌, drop, IfOk};
+ghost use Rattle.tick_parser.specs.Items as spec;
+
+use c_grammar::{BaseWord, Bytes, Item, Kind, Mark, Word};
+use c_literals::{character_value, numeral_at};
+use c_words::{Keyword, Sign, keyword_of, sign_at};
+use std::alloc::{AllocError, Global};
+use tick_tree::{BinaryOp, ModifyOp, StepOp, Token, TokenKind, UnaryOp};
+
+fn keyword_kind(keyword: Keyword) -> Kind
+    ensures { result ≡ spec.keyword_kind keyword }
+{
+    match keyword {
+        Keyword::Void => Kind::Base(BaseWord::Void),
+        Keyword::Char => Kind::Base(BaseWord::Char),
+        Keyword::Short => Kind::Base(BaseWord::Short),
+        Keyword::Int => Kind::Base(BaseWord::Int),
+        Keyword::Long => Kind::Base(BaseWord::Long),
+        Keyword::Signed => Kind::Base(BaseWord::Signed),
+        Keyword::Unsigned => Kind::Base(BaseWord::Unsigned),
+        Keyword::If => Kind::Word(Word::If),
+        Keyword::While => Kind::Word(Word::While),
+        Keyword::Do => Kind::Word(Word::Do),
+        Keyword::For => Kind::Word(Word::For),
+        Keyword::Switch => Kind::Word(Word::Switch),
+        Keyword::Case => Kind::Word(Word::Case),
+        Keyword::Default => Kind::Word(Word::Default),
+        Keyword::Break => Kind::Word(Word::Break),
+        Keyword::Continue => Kind::Word(Word::Continue),
+        Keyword::Return => Kind::Word(Word::Return),
+        Keyword::Else => Kind::Mark(Mark::Else),
+        Keyword::Sizeof => Kind::Sizeof,
+        Keyword::Cspec => Kind::Cspec,
+        Keyword::Vspec => Kind::Vspec,
+        Keyword::Compile => Kind::Compile,
+        Keyword::Local => Kind::Local,
+        Keyword::Param => Kind::Param,
+    }
+}
+
+fn sign_kind(sign: Sign) -> Kind
+    ensures { result ≡ spec.sign_kind sign }
+{
+    match sign {
+        Sign::BraceOpen => Kind::Mark(Mark::BraceOpen),
+        Sign::BraceClose => Kind::Mark(Mark::BraceClose),
+        Sign::ParenOpen => Kind::Mark(Mark::ParenOpen),
+        Sign::ParenClose => Kind::Mark(Mark::ParenClose),
+        Sign::BracketOpen => Kind::Mark(Mark::BracketOpen),
+        Sign::BracketClose => Kind::Mark(Mark::BracketClose),
+        Sign::Semicolon => Kind::Mark(Mark::Semicolon),
+        Sign::Comma => Kind::Mark(Mark::Comma),
+        Sign::Question => Kind::Mark(Mark::Question),
+        Sign::Colon => Kind::Mark(Mark::Colon),
+        Sign::Assign => Kind::Mark(Mark::Assign),
+        Sign::Dot => Kind::Mark(Mark::Dot),
+        Sign::Arrow => Kind::Mark(Mark::Arrow),
+        Sign::Tilde => Kind::Unary(UnaryOp::Complement),
+        Sign::Not => Kind::Unary(UnaryOp::Not),
+        Sign::Dollar => Kind::Unary(UnaryOp::Dollar),
+        Sign::Plus => Kind::Operator(BinaryOp::Add),
+        Sign::Minus => Kind::Operator(BinaryOp::Sub),
+        Sign::Star => Kind::Operator(BinaryOp::Mul),
+        Sign::Slash => Kind::Operator(BinaryOp::Div),
+        Sign::Percent => Kind::Operator(BinaryOp::Rem),
+        Sign::And => Kind::Operator(BinaryOp::BitAnd),
+        Sign::Or => Kind::Operator(BinaryOp::BitOr),
+        Sign::Caret => Kind::Operator(BinaryOp::BitXor),
+        Sign::Less => Kind::Operator(BinaryOp::Less),
+        Sign::Greater => Kind::Operator(BinaryOp::Greater),
+        Sign::Equal => Kind::Operator(BinaryOp::Equal),
+        Sign::NotEqual => Kind::Operator(BinaryOp::NotEqual),
+        Sign::LessEqual => Kind::Operator(BinaryOp::AtMost),
+        Sign::GreaterEqual => Kind::Operator(BinaryOp::AtLeast),
+        Sign::ShiftLeft => Kind::Operator(BinaryOp::ShiftLeft),
+        Sign::ShiftRight => Kind::Operator(BinaryOp::ShiftRight),
+        Sign::AndAnd => Kind::Operator(BinaryOp::And),
+        Sign::OrOr => Kind::Operator(BinaryOp::Or),
+        Sign::PlusPlus => Kind::Step(StepOp::Increment),
+        Sign::MinusMinus => Kind::Step(StepOp::Decrement),
+        Sign::PlusAssign => Kind::Modify(ModifyOp::Add),
+        Sign::MinusAssign => Kind::Modify(ModifyOp::Sub),
+        Sign::StarAssign => Kind::Modify(ModifyOp::Mul),
+        Sign::SlashAssign => Kind::Modify(ModifyOp::Div),
+        Sign::PercentAssign => Kind::Modify(ModifyOp::Rem),
+        Sign::AndAssign => Kind::Modify(ModifyOp::BitAnd),
+        Sign::OrAssign => Kind::Modify(ModifyOp::BitOr),
+        Sign::CaretAssign => Kind::Modify(ModifyOp::BitXor),
+        Sign::ShiftLeftAssign => Kind::Modify(ModifyOp::ShiftLeft),
+        Sign::ShiftRightAssign => Kind::Modify(ModifyOp::ShiftRight),
+        Sign::Backquote => Kind::Backquote,
+    }
+}
+
+// The kind of a token of these bytes.
+fn kind_by(kind: TokenKind, bytes: &[u8]) -> Kind
+    ensures { result ≡ spec.kind_by kind bytes.now }
+{
+    match kind {
+        TokenKind::Name => Kind::Name,
+        TokenKind::Keyword => keyword_of(bytes).map_or(Kind::End, keyword_kind),
+        TokenKind::Number => Kind::Number,
+        TokenKind::Character => Kind::Character,
+        TokenKind::String => Kind::String,
+        TokenKind::Sign => sign_at(bytes).map_or(Kind::End, sign_kind),
+    }
+}
+
+fn value_by(kind: TokenKind, bytes: &[u8]) -> u32
+    ensures { result ≡ spec.value_by kind bytes.now }
+{
+    match kind {
+        TokenKind::Number => numeral_at(bytes).value.unwrap_or(0),
+        TokenKind::Character => character_value(behind_first(bytes)),
+        _ => 0,
+    }
+}
+
+fn unsigned_by(kind: TokenKind, bytes: &[u8]) -> bool
+    ensures { result ≡ spec.unsigned_by kind bytes.now }
+{
+    match kind {
+        TokenKind::Number => numeral_at(bytes).unsigned,
+        _ => false,
+    }
+}
+
+fn text_by(kind: TokenKind, bytes: &[u8]) -> &[u8]
+    ensures { result.now ≡ spec.text_by kind bytes.now }
+{
+    match kind {
+        TokenKind::Name => bytes,
+        TokenKind::String => behind_first(bytes),
+        _ => &[],
+    }
+}
+
+// Without the first byte, if there is one.
+fn behind_first(bytes: &[u8]) -> &[u8]
+    ensures { result.now ≡ drop 1 bytes.now }
+{
+    match bytes {
+        [] => &[],
+        [_, rest @ ..] => rest,
+    }
+}
+
+// The bytes of a token, as far as the text has them.
+fn bytes_of<'a>(text: &'a [u8], token: &Token) -> &'a [u8]
+    ensures { result.now ≡ spec.bytes_of text.now token.now }
+{
+    let rest = &text[(token.at as usize).min(text.len())..];
+    &rest[..(token.len as usize).min(rest.len())]
+}
+
+#[tactic(auto, unfolding(crate::specs::Items::item_of))]
+fn item_of<'a>(text: &'a [u8], token: &Token) -> Item<'a>
+    ensures { result ≡ spec.item_of text.now token.now }
+{
+    let bytes = bytes_of(text, token);
+    Item {
+        kind: kind_by(token.kind, bytes),
+        line: token.line,
+        value: value_by(token.kind, bytes),
+        unsigned: unsigned_by(token.kind, bytes),
+        text: Bytes::new(text_by(token.kind, bytes)),
+    }
+}
+
+/// What the grammar reads of each token of a text.
+pub fn items_of<'a>(
+    alloc: Global,
+    text: &'a [u8],
+    tokens: &[Token],
+) -> Result<Vec<Item<'a>>, AllocError>
+    ensures { IfOk result (λ found. found.items ≡ spec.items_of text.now tokens.now) }
+{
+    let mut found = Vec::new(alloc);
+    for token in tokens {
+        found.push(item_of(text, token))?;
+    }
+    Ok(found)
+}

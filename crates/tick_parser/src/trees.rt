@@ -1,0 +1,138 @@
+//! The tree of a text.
+
+ghost use Rattle.std.specs.Prelude.{◌≡◌, ◌+◌, ◌≤◌, length, IfOk, [], ◌==◌};
+ghost use Rattle.std.specs.List.{count_by};
+ghost use Rattle.tick_tree.specs.Faults.{Answers};
+ghost use Rattle.c_spelling.specs.Words.{words};
+ghost use Rattle.c_spelling.specs.Spelling.{spells_program};
+ghost use Rattle.tick_parser.specs.Items.{items_of};
+ghost use Rattle.tick_parser.specs.Trees as spec;
+
+use crate::items::items_of;
+use crate::knot::{read, read_declarator, read_stmt};
+use crate::statements::Statements;
+use c_grammar::{Grammar, Item, Stop, Tokens};
+use sqlite_items::Items;
+use std::alloc::Global;
+use tick_tree::{Deny, External, Fault, FaultKind, Token, Tree};
+
+/// The greatest nesting: of open brackets, statements that are no items of a block, and operators.
+pub const MAX_NESTING: usize = 200;
+
+// The line behind the last byte.
+fn last_line(text: &[u8]) -> u32
+    requires { length text.now ≤ 1048576 }
+    ensures { result ≡ spec.last_line text.now }
+{
+    1 + text.iter().filter(|b| **b == b'\n').count() as u32
+}
+
+// The line of the first token, or of the end of the text.
+fn first_line(text: &[u8], tokens: &[Token]) -> u32
+    requires { length text.now ≤ 1048576 }
+    ensures { result ≡ spec.first_line text.now tokens.now }
+{
+    match tokens {
+        [] => last_line(text),
+        [first, ..] => first.line,
+    }
+}
+
+// The fault at the token from which so many tokens are left.
+fn fault_at(text: &[u8], tokens: &[Token], kind: FaultKind, left: usize) -> Fault
+    requires small { length text.now ≤ 1048576 }
+    requires few { length tokens.now ≤ 262144 }
+    ensures { result ≡ spec.fault_at text.now tokens.now kind left }
+{
+    let at = tokens.len().saturating_sub(left);
+    Fault {
+        kind,
+        line: first_line(text, &tokens[at..]),
+        token: at as u32,
+    }
+}
+
+fn denial(text: &[u8], tokens: &[Token], stop: Stop) -> Deny
+    requires small { length text.now ≤ 1048576 }
+    requires few { length tokens.now ≤ 262144 }
+    ensures { spec.Denies text.now tokens.now stop result }
+{
+    match stop {
+        Stop::NoMemory => Deny::NoMemory,
+        Stop::Syntax(left) => Deny::Refused(fault_at(text, tokens, FaultKind::Syntax, left)),
+        Stop::TooDeep(left) => Deny::Refused(fault_at(text, tokens, FaultKind::TooDeep, left)),
+    }
+}
+
+// The items of the program that the tokens are.
+#[tactic(auto, unfolding(crate::specs::Trees::outcome))]
+fn program<'a>(alloc: Global, items: &'a [Item<'a>]) -> Result<Items<External>, Stop>
+    ensures found { spec.Finds (spec.outcome items.now) result }
+    ensures spells { IfOk result (λ found. words items.now ≡ spells_program found []) }
+{
+    let statements = Statements {
+        grammar: Grammar {
+            alloc,
+            limit: MAX_NESTING,
+            expr: read,
+            stmt: read_stmt,
+            declarator: read_declarator,
+        },
+    };
+    let mut tokens = Tokens::new(items);
+    statements.program(&mut tokens, MAX_NESTING)
+}
+
+/// The syntax tree of a text of at most 1,048,576 bytes, from its at most 262,144 tokens. The tree spells the tokens.
+///
+/// The fault of the first token that is wrong: Syntax where the grammar takes no such token there, the end of the text with
+/// it, else TooDeep where the nesting at it is over [`MAX_NESTING`].
+#[tactic(auto, unfolding(crate::specs::Trees::parsed))]
+pub fn parse(alloc: Global, text: &[u8], tokens: &[Token]) -> Result<Tree, Deny>
+    requires small { length text.now ≤ 1048576 }
+    requires few { length tokens.now ≤ 262144 }
+    ensures exact { Answers (λ tree. tree) result (spec.parsed text.now tokens.now) }
+    ensures spells { IfOk result (λ tree. words (items_of text.now tokens.now) ≡ spells_program tree.items []) }
+{
+    let Ok(items) = items_of(alloc, text, tokens) else {
+        return Err(Deny::NoMemory);
+    };
+    match program(alloc, &items) {
+        Ok(items) => Ok(Tree { items }),
+        Err(stop) => Err(denial(text, tokens, stop)),
+    }
+}
+
+#[cfg(test)]
+mod tests {
+    use super::*;
+    use tick_tree::TokenKind;
+
+    fn token(kind: TokenKind, at: u32, len: u32) -> Token {
+        Token {
+            kind,
+            at,
+            len,
+            line: 1,
+        }
+    }
+
+    #[test]
+    fn reads_a_declaration(rt: HostRuntime) {
+        let found = [
+            token(TokenKind::Keyword, 0, 3),
+            token(TokenKind::Name, 4, 1),
+            token(TokenKind::Sign, 5, 1),
+        ];
+        let count = match parse(rt.alloc(), b"int x;", &found) {
+            Ok(tree) => tree.items.len(),
+            Err(_) => 0,
+        };
+        assert!(rt; count == 1);
+        let fault = match parse(rt.alloc(), b"int x;", &found[..2]) {
+            Err(Deny::Refused(fault)) => fault.token,
+            _ => 0,
+        };
+        assert!(rt; fault == 2);
+    }
+}

@@ -1,0 +1,120 @@
+//! Whole files, and the images that they hold or stand for.
+ghost use Rattle.std.specs.Prelude.{◌<◌, ◌^◌, IfOk};
+ghost use Rattle.tick_top.specs.Outside.{SameFiles};
+ghost use Rattle.tick_top.specs.Answers.{IsLoaded, LoadCause, IsFront, FrontCause, IsBuilt, IsRefused, IsAssembled, IsAsmRefused, IsRead, IsNoImage};
+
+use crate::ended::Front;
+use host_edge::{LoadFault, Store};
+use image_file::{ImageDeny, read};
+use mips_text::{AsmDeny, assemble};
+use std::alloc::{AllocError, Global};
+use tick_build::build;
+use tick_outcome::Outcome;
+use tick_tree::Deny;
+
+/// The most bytes of a text.
+const LONGEST_TEXT: usize = 1_048_576;
+
+/// The most bytes of an image.
+const LONGEST_IMAGE: usize = 83_886_080;
+
+/// What a load of a whole file gives.
+#[derive(Drop)]
+pub enum Loaded {
+    /// Its bytes.
+    Whole(Vec<u8>),
+    /// It is longer than it may be.
+    TooLongFile,
+    /// The store failed.
+    FailedFile,
+}
+
+// The whole file, which may have so many bytes.
+fn load<S: Store>(
+    alloc: Global,
+    store: &mut S,
+    file: &str,
+    longest: usize,
+) -> Result<Loaded, AllocError>
+    requires { longest < 2 ^ 40 }
+    ensures loaded { IfOk result (IsLoaded (S.file store.old file.now) longest) }
+    ensures same { SameFiles (S.file store.old) (S.file store.new) }
+    ensures cause { IfOk result (LoadCause (S.faults store.old) (S.faults store.new)) }
+{
+    let mut bytes = Vec::new(alloc);
+    match store.load(file, &mut bytes, longest + 1) {
+        Ok(()) => {
+            if bytes.len() > longest {
+                Ok(Loaded::TooLongFile)
+            } else {
+                Ok(Loaded::Whole(bytes))
+            }
+        }
+        Err(LoadFault::Failed) => Ok(Loaded::FailedFile),
+        Err(LoadFault::NoMemory) => Err(AllocError),
+    }
+}
+
+/// The image of the text in a file, or the outcome in its place: the file can't be loaded, or is too long, or the text
+/// is refused for its first static fault.
+pub fn image_of_text<S: Store>(
+    alloc: Global,
+    store: &mut S,
+    file: &str,
+) -> Result<Front, AllocError>
+    ensures front { IfOk result (IsFront (S.file store.old file.now) 1048576 IsBuilt IsRefused) }
+    ensures same { SameFiles (S.file store.old) (S.file store.new) }
+    ensures cause { IfOk result (FrontCause (S.faults store.old) (S.faults store.new)) }
+{
+    match load(alloc, store, file, LONGEST_TEXT)? {
+        Loaded::Whole(text) => match build(alloc, &text) {
+            Ok(image) => Ok(Front::Found(image)),
+            Err(Deny::Refused(fault)) => Ok(Front::Instead(Outcome::Refused(fault))),
+            Err(Deny::NoMemory) => Err(AllocError),
+        },
+        Loaded::TooLongFile => Ok(Front::Instead(Outcome::TooLong)),
+        Loaded::FailedFile => Ok(Front::Instead(Outcome::LoadFault)),
+    }
+}
+
+/// The image that the assembly text in a file is, or the outcome in its place.
+pub fn image_of_assembly<S: Store>(
+    alloc: Global,
+    store: &mut S,
+    file: &str,
+) -> Result<Front, AllocError>
+    ensures front { IfOk result (IsFront (S.file store.old file.now) 1048576 IsAssembled IsAsmRefused) }
+    ensures same { SameFiles (S.file store.old) (S.file store.new) }
+    ensures cause { IfOk result (FrontCause (S.faults store.old) (S.faults store.new)) }
+{
+    match load(alloc, store, file, LONGEST_TEXT)? {
+        Loaded::Whole(text) => match assemble(alloc, &text) {
+            Ok(image) => Ok(Front::Found(image)),
+            Err(AsmDeny::Refused(fault)) => Ok(Front::Instead(Outcome::AsmRefused(fault))),
+            Err(AsmDeny::NoMemory) => Err(AllocError),
+        },
+        Loaded::TooLongFile => Ok(Front::Instead(Outcome::TooLong)),
+        Loaded::FailedFile => Ok(Front::Instead(Outcome::LoadFault)),
+    }
+}
+
+/// The image in a file, or the outcome in its place.
+pub fn image_of_file<S: Store>(
+    alloc: Global,
+    store: &mut S,
+    file: &str,
+) -> Result<Front, AllocError>
+    ensures front { IfOk result (IsFront (S.file store.old file.now) 83886080 IsRead IsNoImage) }
+    ensures same { SameFiles (S.file store.old) (S.file store.new) }
+    ensures cause { IfOk result (FrontCause (S.faults store.old) (S.faults store.new)) }
+{
+    match load(alloc, store, file, LONGEST_IMAGE)? {
+        Loaded::Whole(bytes) => match read(alloc, &bytes) {
+            Ok(image) => Ok(Front::Found(image)),
+            Err(ImageDeny::Bad(fault)) => Ok(Front::Instead(Outcome::BadImage(fault))),
+            Err(ImageDeny::NoMemory) => Err(AllocError),
+        },
+        Loaded::TooLongFile => Ok(Front::Instead(Outcome::TooLong)),
+        Loaded::FailedFile => Ok(Front::Instead(Outcome::LoadFault)),
+    }
+}

@@ -1,0 +1,53 @@
+//! Functions, ticks and whole programs.
+
+use crate::expression::{Expr, Stmt};
+use sqlite_items::Items;
+
+/// The most nodes that a function, a tick or a specification may have.
+pub const SIZE_LIMIT: u32 = 16384;
+
+/// A function of the text.
+#[derive(Drop)]
+pub struct Function {
+    /// Its name.
+    pub name: Items<u8>,
+    /// The line of its name.
+    pub line: u32,
+    /// How many parameters it has, at most 8.
+    pub params: u32,
+    /// The bytes of its frame objects.
+    pub object: u32,
+    /// How many nodes its body has.
+    pub size: u32,
+    /// Its body: a block, whose variables begin with the parameters.
+    pub body: Stmt,
+}
+
+/// What stands behind a backquote.
+#[derive(Drop)]
+pub enum TickBody {
+    /// An expression. Where it leaves no value, the specification is a statement.
+    Expression(Expr),
+    /// A block.
+    Statement(Stmt),
+}
+
+/// A tick of the text.
+#[derive(Drop)]
+pub struct Tick {
+    /// How many nodes its body has, a splice counting as one.
+    pub size: u32,
+    /// What it specifies.
+    pub body: TickBody,
+}
+
+/// A program that breaks no rule.
+#[derive(Drop)]
+pub struct Typed {
+    /// Its functions, in the order of their definitions; the first has the number 1.
+    pub functions: Items<Function>,
+    /// Its ticks, in the order of the text.
+    pub ticks: Items<Tick>,
+    /// The bytes of its globals, then of its strings, from the first address of the object space on.
+    pub image: Items<u8>,
+}
