@@ -116,8 +116,8 @@ take Failed to frame waiting log = Halted ReadFault log
 
 -- where control goes by a test
 abbrev pub branch : ℕ → ℕ → ℕ → ℕ
-branch zero on_zero on_other = on_zero
-branch (suc n) on_zero on_other = on_other
+branch zero at_nothing on_other = at_nothing
+branch (suc n) at_nothing on_other = on_other
 
 abbrev pub target : ℕ → Frame → ℕ
 target label frame = label_index label frame.function.ops
