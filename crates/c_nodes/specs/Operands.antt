@@ -111,8 +111,8 @@ by line None x = Ok x
 by line (Some k) x = refuse k line
 
 -- the node of a test: an integer or a pointer
-unfoldable pub test : ℕ → Value → Checked Expr
-test line v = by line (test_breaks v) v.code
+unfoldable pub condition : ℕ → Value → Checked Expr
+condition line v = by line (test_breaks v) v.code
 
 -- the node of the value of a switch: an integer
 unfoldable pub switched : ℕ → Value → Checked Expr

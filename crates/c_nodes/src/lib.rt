@@ -7,9 +7,9 @@ mod operators;
 mod stages;
 
 pub use operand::{
-    Operand, Place, Value, as_operand, at_address, cast, character, comma, converted, converted_by,
-    dereferenced, effect, made, negated, number, on_integer, plain, plus, settled, size, string,
-    switched, test, value_of, values,
+    Operand, Place, Value, as_operand, at_address, cast, character, comma, condition, converted,
+    converted_by, dereferenced, effect, made, negated, number, on_integer, plain, plus, settled,
+    size, string, switched, value_of, values,
 };
 pub use operators::{Combined, Joined, binary, built, choice, combine, index, scaled};
 pub use stages::{compile, dollar, local, parameter, specification};

@@ -249,9 +249,9 @@ fn integer_breaks(v: &Value) -> Option<FaultKind>
 }
 
 /// The node of a test. Refused: VoidValue, or BadOperand where it is neither an integer nor a pointer.
-#[tactic(auto, unfolding(crate::specs::Operands::test))]
-pub fn test(line: u32, v: Value) -> Result<Expr, Deny>
-    ensures { Checks result (spec.test line v) }
+#[tactic(auto, unfolding(crate::specs::Operands::condition))]
+pub fn condition(line: u32, v: Value) -> Result<Expr, Deny>
+    ensures { Checks result (spec.condition line v) }
 {
     match test_breaks(&v) {
         Some(kind) => refused(kind, line),
@@ -320,7 +320,7 @@ pub fn dereferenced(line: u32, v: Value) -> Result<Operand, Deny>
     }
 }
 
-/// `!v`. Refused as [`test`].
+/// `!v`. Refused as [`condition`].
 #[tactic(auto, unfolding(crate::specs::Operands::negated))]
 pub fn negated(alloc: Global, line: u32, v: Value) -> Result<Operand, Deny>
     ensures { Checks result (spec.negated line v) }

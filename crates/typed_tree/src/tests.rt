@@ -2,21 +2,25 @@
 
 use crate::{Answer, Expr, Library, Stmt, comma, has_value, library, size, statement_size, void};
 use sqlite_items::Items;
+use std::alloc::{AllocError, Global};
+
+// putchar of a byte, as a statement
+fn put(alloc: Global, byte: u32) -> Result<Stmt, AllocError> {
+    Ok(Stmt::Expr(library(alloc, Library::Putchar, Expr::Const(byte))?))
+}
+
+// { putchar(72); return 3; }
+fn body(alloc: Global) -> Result<Stmt, AllocError> {
+    let mut items = Items::new(alloc);
+    items.push(put(alloc, 72)?)?;
+    items.push(Stmt::ReturnValue(Expr::Const(3)))?;
+    Ok(Stmt::Block(Items::new(alloc), items))
+}
 
 #[test]
-fn three_statements_have_nine_nodes(rt: HostRuntime) {
-    // { putchar(72); putchar(10); return 3; }
-    let alloc = rt.alloc();
-    let mut items = Items::new(alloc);
-    let first = library(alloc, Library::Putchar, Expr::Const(72)).expect(&rt, "memory");
-    let second = library(alloc, Library::Putchar, Expr::Const(10)).expect(&rt, "memory");
-    items.push(Stmt::Expr(first)).expect(&rt, "memory");
-    items.push(Stmt::Expr(second)).expect(&rt, "memory");
-    items
-        .push(Stmt::ReturnValue(Expr::Const(3)))
-        .expect(&rt, "memory");
-    let body = Stmt::Block(Items::new(alloc), items);
-    assert!(rt; statement_size(&body) == 9);
+fn a_body_of_two_statements_has_six_nodes(rt: HostRuntime) {
+    let tree = body(rt.alloc()).expect(&rt, "memory");
+    assert!(rt; statement_size(&tree) == 6);
 }
 
 #[test]
