@@ -8,16 +8,14 @@ use Rattle.mips_encoder.specs.Table.{word_of}
 use Rattle.mips_encoder.specs.declared.instruction.Instr.{Instr}
 use Rattle.icode_ops.specs.declared.op.Op.{Op}
 use Rattle.icode_ops.specs.Places.{IsLegal}
-use Rattle.icode_ir.specs.Build.{empty}
-use Rattle.icode_ir.specs.Runs.{run_ops}
 use Rattle.icode_templates.specs.Assembly.{v0, a0, t8, gp, sp, fp, addu, ori, lui, sw, jal, syscall, nop, constant}
 use Rattle.icode_templates.specs.Words.{words}
 use Rattle.icode_expand.specs.Expansion.{expanded}
 use Rattle.tick_meaning.specs.Nodes as node
 use Rattle.tick_meaning.specs.Size.{size_of, charge_of}
 use Rattle.tick_meaning.specs.Meaning.{Program}
-use Rattle.tick_lower.specs.Lower.{Addresses, function_ops}
-use Rattle.tick_lower.specs.Laws.{code_of}
+use Rattle.tick_lower.specs.Lower.{Addresses}
+use Rattle.tick_lower.specs.Laws.{code_of, registers_of}
 
 -- a word to a register whose lower half is 0
 abbrev pub upper : ℕ → ℕ → Instr
@@ -63,16 +61,13 @@ front main functions = filled front_words (words (start_code main functions))
 abbrev pub addresses : Addresses
 addresses = record { function_at = λ f. FUNCTIONS }
 
--- the ops of the function, and how many registers they have
+-- the ops of the function
 abbrev pub ops_of : node.Function → List Op
 ops_of function = code_of addresses function
 
-abbrev pub registers_of : node.Function → ℕ
-registers_of function = (run_ops (function_ops addresses function) (empty function.parameters)).registers
-
 -- a legal choice of places for the registers of the function
 abbrev pub IsChoice : node.Function → List ℕ → Type 0
-IsChoice function places = IsLegal (ops_of function) (registers_of function) places
+IsChoice function places = IsLegal (ops_of function) (registers_of addresses function) places
 
 -- the program that the function is
 abbrev pub program_of : node.Function → Program

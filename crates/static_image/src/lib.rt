@@ -2,6 +2,8 @@
 //! the laws of it.
 #![tactic(auto)]
 
+mod laws;
 mod start;
 
+pub use laws::{headline_holds, images_keep_rules};
 pub use start::write_front;
