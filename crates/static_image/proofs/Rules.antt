@@ -18,7 +18,7 @@ use Rattle.forward_simulation.proofs.Fitting.{code_fits}
 use Rattle.static_image.specs.Layout.{start_code, front, addresses, ops_of, IsChoice, main_words, image_of}
 use Rattle.static_image.specs.Served.{IsStatic}
 use Rattle.static_image.proofs.Lows.{AreWords, words_low, word_at}
-use Rattle.static_image.proofs.Start.{start_fits}
+use Rattle.static_image.proofs.Arriving.{start_fits}
 use Rattle.static_image.proofs.Whole.{main_of, suits, front_length}
 
 same_words : (n w : ℕ) → w < 4294967296 → AreWords (replicate n w)

@@ -48,8 +48,8 @@ use Rattle.static_image.specs.Served.{IsStatic}
 use Rattle.static_image.specs.Headline.{Headline}
 use Rattle.static_image.proofs.Arena as arena
 use Rattle.static_image.proofs.Faultless.{stays_faultless, no_fault}
-use Rattle.static_image.proofs.Kinds.{ops_served}
-use Rattle.static_image.proofs.Start as start
+use Rattle.static_image.proofs.Serving.{ops_served}
+use Rattle.static_image.proofs.Arriving as start
 
 -- main of the staged machine
 abbrev pub main_of : node.Function → Function

@@ -65,9 +65,9 @@ set_up_fits = (
     (omega arith, omega arith),
     (
       (omega arith, omega arith),
-      all_fit_append (set_cell 4 HEAP) _ (cell_fits 4 HEAP (omega arith) (omega arith))
-          (all_fit_append (set_cell 8 CLOSURES) _ (cell_fits 8 CLOSURES (omega arith) (omega arith))
-          (all_fit_append (set_cell 16 2) _ (cell_fits 16 2 (omega arith) (omega arith)) (cell_fits 20 ARENA (omega arith) (omega arith)))),
+      all_fit_append (set_cell 4 HEAP) (set_cell 8 CLOSURES ++ (set_cell 16 2 ++ set_cell 20 ARENA)) (cell_fits 4 HEAP (omega arith) (omega arith))
+          (all_fit_append (set_cell 8 CLOSURES) (set_cell 16 2 ++ set_cell 20 ARENA) (cell_fits 8 CLOSURES (omega arith) (omega arith))
+          (all_fit_append (set_cell 16 2) (set_cell 20 ARENA) (cell_fits 16 2 (omega arith) (omega arith)) (cell_fits 20 ARENA (omega arith) (omega arith)))),
     ),
   ),
 )
@@ -79,18 +79,18 @@ pub start_fits : AllFit (start_code FUNCTIONS 1)
 start_fits = all_fit_append (set_up 1) (jal FUNCTIONS ∷ nop ∷ exit_with_answer) set_up_fits call_fits
 
 -- the data behind straight code that runs through
-abbrev data_of : Option (ℕ × Data) → Data → Data
+abbrev pub data_of : Option (ℕ × Data) → Data → Data
 data_of None d = d
 data_of (Some r) d = r.1
 
 module _ (c : Code) (input : Input) (h : HasAt c 4194304 (start_code FUNCTIONS 1)) where
-  abbrev first : Data
+  abbrev pub first : Data
   first = machine.first_data [] input
 
-  abbrev set : Data
+  abbrev pub set : Data
   set = data_of (through (set_up 1) 0 first) first
 
-  abbrev call_at : ℕ
+  abbrev pub call_at : ℕ
   call_at = past 4194304 (set_up 1)
 
   sets_up : Reaches (length (set_up 1)) (at c 4194304 0 first) (at c call_at 0 set)
@@ -100,7 +100,7 @@ module _ (c : Code) (input : Input) (h : HasAt c 4194304 (start_code FUNCTIONS 1
   rest = back c 4194304 (set_up 1) (jal FUNCTIONS ∷ nop ∷ exit_with_answer) h
 
   -- main is called
-  abbrev called : Data
+  abbrev pub called : Data
   called = set_register 31 (call_at + 8) set
 
   calls : Reaches 2 (at c call_at 0 set) (at c FUNCTIONS 0 called)
