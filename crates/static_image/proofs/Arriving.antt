@@ -1,25 +1,21 @@
 -- The start brings a run of an image to main, with the stack empty, and waits with its exit.
-use Rattle.std.proofs.Common.{◌≡◌, ℕ, ◌+◌, ◌-◌, ◌*◌, ◌/◌, ◌%◌, ◌<◌, ◌≤◌, false, List, [], ◌∷◌, ◌++◌, length, Option, None, Some, refl, sym, ap, ◌∙◌, subst, arith, append_assoc, append-nil, length-append, nat_lt, slice_get, if◌then◌else◌, replicate}
+use Rattle.std.proofs.Common.{◌≡◌, ℕ, ◌+◌, ◌-◌, ◌*◌, ◌/◌, ◌<◌, ◌≤◌, false, List, [], ◌∷◌, ◌++◌, length, Option, None, Some, refl, sym, subst, arith, append_assoc, append-nil, length-append, nat_lt, slice_get, replicate}
 use Rattle.std.specs.Fn.{iterate}
 use Rattle.std.proofs.lemmas.List.{length-replicate}
 use Rattle.std.proofs.lemmas.Bool.Decides.{nat_tests}
-use Rattle.pace.proofs.Runs.{iterate_add}
 use Rattle.word32.specs.declared.map.TheConstants.{TEXT, ARENA, CLOSURES, FUNCTIONS, HEAP}
 use Rattle.flat_memory.specs.Spaces.{text_of}
 use Rattle.history.specs.Events.{Input}
 use Rattle.mips_encoder.specs.Table.{word_of}
-use Rattle.mips_encoder.specs.declared.instruction.Instr.{Instr}
-use Rattle.mips_model.specs.State.{Code, Data, World, set_register}
+use Rattle.mips_model.specs.State.{Code, Data, set_register}
 use Rattle.mips_model.specs.Steps.{step, going}
 use Rattle.mips_model.specs.Run as machine
 use Rattle.mips_model.specs.Laws.{HasAt, past, at, Reaches}
 use Rattle.mips_model.proofs.Loaded.{AllFit, all_fit_append, loaded}
 use Rattle.mips_model.proofs.Reach.{through, through_runs, reaches_on, step_acts, front, back}
 use Rattle.icode_templates.specs.Assembly.{jal, nop}
-use Rattle.icode_templates.specs.Words.{words}
 use Rattle.template_effects.proofs.Jumps.{slot_runs}
 use Rattle.forward_simulation.specs.Standing.{WordsAt, exit_code}
-use Rattle.forward_simulation.proofs.Fitting.{words_stand}
 use Rattle.static_image.specs.Layout.{set_cell, set_up, start_code, exit_with_answer, filled}
 
 -- words stand behind those that are in front of them in a text

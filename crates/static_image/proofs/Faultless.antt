@@ -1,5 +1,5 @@
 -- The staged machine never ends with a fault of the machine.
-use Rattle.std.proofs.Common.{◌≡◌, ℕ, zero, suc, Bool, true, false, List, [], ◌∷◌, Option, None, Some, refl, sym, ◌∙◌, nat_eq, if◌then◌else◌, slice_get}
+use Rattle.std.proofs.Common.{◌≡◌, ℕ, zero, suc, Bool, true, false, List, [], ◌∷◌, Option, None, Some, nat_eq, if◌then◌else◌, slice_get}
 use Rattle.std.specs.Fn.{iterate}
 use Rattle.host_edge.specs.declared.ending.Ending.TheVariants.{Trap}
 use Rattle.host_edge.specs.declared.ending.MachineKind.{MachineKind}
@@ -8,10 +8,9 @@ use Rattle.host_edge.specs.declared.ending.TrapKind.TheVariants.{BadCall}
 use Rattle.history.specs.Events.{End, Ended, ReadFault, Fault}
 use Rattle.icode_ops.specs.declared.op.Op.{Op}
 use Rattle.icode_ops.specs.declared.op.Op.TheVariants.{Const, Move, Bin, CheckDivision, CheckZero, Un, FrameAddress, Load, Store, Clear, Label, Jump, BranchZero, BranchNonzero, Argument, GetParameter, Call, CallNumber, Result, Return, ReturnZero, Sys}
-use Rattle.icode_ops.specs.declared.kind.SysKind.{SysKind}
 use Rattle.icode_ops.specs.declared.kind.SysKind.TheVariants.{PutByte, GetByte, Exit}
-use Rattle.run_state.specs.Operators.{bin_value, un_value, signed_trap, zero_trap}
-use Rattle.run_state.specs.Shared.{Shared, Read, Got, Failed, get_byte, access_trap, loaded, stored, are_objects, zeroed, limit_trap}
+use Rattle.run_state.specs.Operators.{signed_trap, zero_trap}
+use Rattle.run_state.specs.Shared.{Read, Got, Failed, get_byte, access_trap, loaded, stored, are_objects, zeroed, limit_trap}
 use Rattle.icode_meaning.specs.State.{Function, Program, Frame, Log, State, Running, Halted, Stuck, see}
 use Rattle.icode_meaning.specs.Steps.{uses_on, paid, sharing, moved_on, set, goes_on, unless, begun, entered, call_at, call_row, set_from, left, back, take, address_of, act, checked, advance}
 

@@ -1,5 +1,5 @@
 -- The words of instructions that fit are words.
-use Rattle.std.proofs.Common.{ℕ, zero, suc, ◌+◌, ◌*◌, ◌<◌, List, [], ◌∷◌, ◌++◌, arith}
+use Rattle.std.proofs.Common.{ℕ, zero, suc, ◌<◌, List, [], ◌∷◌, arith}
 use Rattle.std.specs.Prelude.{slice_index}
 use Rattle.mips_encoder.specs.Table.{Fits, word_of}
 use Rattle.mips_encoder.specs.Codes.{arithmetic_code, shift_code, shift_variable_code, move_from_code, move_to_code, multiply_divide_code, sign_code, jump_code, equality_code, zero_comparison_code, immediate_code, memory_code}

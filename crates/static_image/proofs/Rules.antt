@@ -1,9 +1,8 @@
 -- The image of a function keeps the rules of images.
-use Rattle.std.proofs.Common.{◌≡◌, ℕ, zero, suc, ◌+◌, ◌-◌, ◌*◌, ◌<◌, ◌≤◌, ◌&&◌, true, List, [], ◌∷◌, ◌++◌, length, refl, ap, ◌∙◌, arith, length-append, nat_lt, replicate}
-use Rattle.std.specs.Bool.{IsTrue}
+use Rattle.std.proofs.Common.{◌≡◌, ℕ, zero, suc, ◌+◌, ◌-◌, ◌*◌, ◌<◌, ◌≤◌, true, List, ◌++◌, length, refl, arith, length-append, nat_lt, replicate}
 use Rattle.std.proofs.lemmas.Bool.Decides.{nat_tests}
-use Rattle.word32.specs.declared.map.TheConstants.{FUNCTIONS, START}
-use Rattle.image_file.specs.Image.{IsImage, is_in_text, has_good_entries}
+use Rattle.word32.specs.declared.map.TheConstants.{FUNCTIONS}
+use Rattle.image_file.specs.Image.{IsImage, has_good_entries}
 use Rattle.mips_encoder.specs.Table.{word_of}
 use Rattle.icode_ir.proofs.Sounds.{Each-append}
 use Rattle.icode_templates.specs.Assembly.{nop}
@@ -11,11 +10,10 @@ use Rattle.icode_templates.specs.Words.{words}
 use Rattle.icode_expand.proofs.Lengths.{length_words}
 use Rattle.icode_expand.proofs.Most.{words_most}
 use Rattle.tick_meaning.specs.Nodes as node
-use Rattle.tick_meaning.specs.Size.{size_of, charge_of}
 use Rattle.tick_lower.proofs.Sizes as sizes
 use Rattle.forward_simulation.specs.Standing.{code_of}
 use Rattle.forward_simulation.proofs.Fitting.{code_fits}
-use Rattle.static_image.specs.Layout.{start_code, front, addresses, ops_of, IsChoice, main_words, image_of}
+use Rattle.static_image.specs.Layout.{start_code, front, addresses, IsChoice, main_words, image_of}
 use Rattle.static_image.specs.Served.{IsStatic}
 use Rattle.static_image.proofs.Lows.{AreWords, words_low, word_at}
 use Rattle.static_image.proofs.Arriving.{start_fits}

@@ -8,8 +8,8 @@ use Rattle.icode_ops.specs.declared.kind.SysKind.TheVariants as sys
 use Rattle.icode_ops.specs.Flow.{op_at}
 use Rattle.icode_ir.specs.declared.build_op.BuildOp.{BuildOp}
 use Rattle.icode_ir.specs.declared.build_op.BuildOp.TheVariants.{Const, Bin, Enter, Leave, GetVariable, SetVariable, Drop, Label, Jump, BranchZero, Return, Sys}
-use Rattle.icode_ir.specs.Build.{Build, empty, operand, variable, label, add, finished}
-use Rattle.icode_ir.specs.Rules.{checked, effect}
+use Rattle.icode_ir.specs.Build.{Build, empty, operand, variable, label, finished}
+use Rattle.icode_ir.specs.Rules.{effect}
 use Rattle.icode_ir.specs.Runs.{run_ops}
 use Rattle.icode_ir.specs.Sound.{Each}
 use Rattle.icode_ir.proofs.Sounds.{Each-append}

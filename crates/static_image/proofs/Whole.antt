@@ -1,22 +1,18 @@
 -- The headline holds for the image of a function, under any legal places of its registers.
-use Rattle.std.proofs.Common.{◌≡◌, ◌⊎◌, inl, inr, ℕ, zero, suc, ◌+◌, ◌-◌, ◌*◌, ◌%◌, ◌<◌, ◌≤◌, Bool, true, false, List, [], ◌∷◌, ◌++◌, length, Option, None, Some, refl, sym, ap, ◌∙◌, subst, arith, ⊎_elim, if◌then◌else◌, is_some, length-append, replicate}
+use Rattle.std.proofs.Common.{◌≡◌, inl, ℕ, ◌+◌, ◌-◌, ◌<◌, ◌≤◌, false, List, [], ◌++◌, length, Option, None, Some, refl, sym, ap, ◌∙◌, arith, ⊎_elim, if◌then◌else◌, is_some, replicate}
 use Rattle.std.specs.Fn.{iterate}
 use Rattle.std.proofs.lemmas.Bool.{cases_lt}
-use Rattle.std.proofs.lemmas.Bool.Decides.{nat_tests}
 use Rattle.pace.specs.Pace.{FourParts}
 use Rattle.pace.specs.Claims.{FollowsAtPace, FollowsAtCost, PaysFor}
 use Rattle.pace.proofs.Promises.{four_parts}
 use Rattle.pace.proofs.Runs.{iterate_add}
 use Rattle.pace.proofs.Seams.{through}
 use Rattle.word32.specs.declared.map.TheConstants.{FUNCTIONS}
-use Rattle.flat_memory.specs.Spaces.{text_of}
 use Rattle.code_arena.specs.declared.arena.WordState.TheVariants.{Unwritten}
 use Rattle.host_edge.specs.declared.ending.MachineKind.{MachineKind}
 use Rattle.history.specs.Events.{End, Fault, Input}
-use Rattle.image_file.specs.Image.{ImageParts, IsImage}
 use Rattle.mips_encoder.specs.Table.{word_of}
-use Rattle.mips_encoder.specs.declared.instruction.Instr.{Instr}
-use Rattle.mips_model.specs.State.{Code, Data, World}
+use Rattle.mips_model.specs.State.{Code, World}
 use Rattle.mips_model.specs.Steps.{Fetched, Is, Refused, fetch, step, run, execute, ended}
 use Rattle.mips_model.specs.Laws.{HasAt}
 use Rattle.mips_model.specs.Run as machine
@@ -26,8 +22,6 @@ use Rattle.mips_model.proofs.Runs.{grows, ends_once}
 use Rattle.mips_model.proofs.Traces.{text_stays}
 use Rattle.icode_templates.specs.Words.{words}
 use Rattle.icode_templates.specs.Assembly.{nop}
-use Rattle.icode_expand.proofs.Lengths.{length_words}
-use Rattle.icode_expand.proofs.Most.{words_most}
 use Rattle.icode_meaning.specs.State.{Function, Program, State, see, least_at, most_at}
 use Rattle.icode_meaning.specs.Steps.{advance, first}
 use Rattle.run_state.specs.Shared.{Shared}
@@ -41,9 +35,9 @@ use Rattle.tick_lower.proofs.Whole as lowering
 use Rattle.forward_simulation.specs.Standing.{Suits, Stands, Arrives}
 use Rattle.forward_simulation.specs.Laws.{KeepsCode}
 use Rattle.forward_simulation.proofs.Suiting.{suit}
-use Rattle.forward_simulation.proofs.Fitting.{function_stands, words_stand, code_fits}
+use Rattle.forward_simulation.proofs.Fitting.{function_stands, words_stand}
 use Rattle.forward_simulation.proofs.Whole.{simulated, code_kept}
-use Rattle.static_image.specs.Layout.{set_up, start_code, front, addresses, ops_of, IsChoice, program_of, main_words, image_of}
+use Rattle.static_image.specs.Layout.{start_code, front, addresses, ops_of, IsChoice, program_of, main_words, image_of}
 use Rattle.static_image.specs.Served.{IsStatic}
 use Rattle.static_image.specs.Headline.{Headline}
 use Rattle.static_image.proofs.Arena as arena

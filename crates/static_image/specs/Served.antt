@@ -1,5 +1,5 @@
 -- The functions of which an image is made so far.
-use Rattle.std.specs.Prelude.{ℕ, ◌≡◌, ◌<◌}
+use Rattle.std.specs.Prelude.{◌≡◌, ◌<◌}
 use Rattle.template_effects.specs.Laws.{IsStraight}
 use Rattle.tick_meaning.specs.Nodes.{Expr, Const, Var, SetVar, Bin, Lib, Putchar, Stmt, Eval, Block, Variable, If, IfElse, While, ReturnValue, Items, NoItem, Item, Function}
 use Rattle.tick_meaning.specs.Scope.{IsReady}

@@ -1,5 +1,5 @@
 -- How many ops and registers the lowering of a function has.
-use Rattle.std.proofs.Common.{◌≡◌, ℕ, ◌+◌, ◌*◌, ◌≤◌, List, [], ◌∷◌, ◌++◌, length, Option, Some, None, refl, sym, ap, ◌∙◌, subst, arith, length-append}
+use Rattle.std.proofs.Common.{◌≡◌, ℕ, ◌+◌, ◌*◌, ◌≤◌, List, [], ◌∷◌, ◌++◌, length, refl, sym, subst, arith, length-append}
 use Rattle.icode_ops.specs.declared.op.Op.{Op}
 use Rattle.icode_ops.specs.declared.op.Op.TheVariants as op
 use Rattle.icode_ops.specs.declared.kind.BinKind.{BinKind}
@@ -8,7 +8,7 @@ use Rattle.icode_ops.specs.declared.kind.SysKind.TheVariants as sys
 use Rattle.icode_ir.specs.declared.build_op.BuildOp.{BuildOp}
 use Rattle.icode_ir.specs.declared.build_op.BuildOp.TheVariants.{Const, Bin, Enter, Leave, GetVariable, SetVariable, Drop, Label, Jump, BranchZero, Return, Sys}
 use Rattle.icode_ir.specs.Build.{Build, empty, operand, finished}
-use Rattle.icode_ir.specs.Rules.{checks, checked, effect}
+use Rattle.icode_ir.specs.Rules.{effect}
 use Rattle.icode_ir.specs.Runs.{run_ops}
 use Rattle.icode_ir.specs.Sound.{Each}
 use Rattle.icode_ir.proofs.Sounds.{Each-append}
@@ -18,8 +18,7 @@ use Rattle.tick_meaning.specs.Nodes.{Expr, Stmt, Items, has_value}
 use Rattle.tick_meaning.specs.Size.{size_of, size_of_expr, size_of_stmt, size_of_items, labels, labels_in, labels_of, temps, temps_in, temps_of, variables_in}
 use Rattle.tick_meaning.specs.Scope.{no_scope, IsBuilt, IsBuiltStmt, AreBuiltItems, IsReady}
 use Rattle.tick_lower.specs.Lower.{Addresses, expr_ops, Targets, stmt_ops, items_ops, nowhere, function_ops, dropping}
-use Rattle.tick_lower.specs.Laws.{code_of, registers_of, IsSmall}
-use Rattle.tick_lower.proofs.Builder.{check_of}
+use Rattle.tick_lower.specs.Laws.{IsSmall}
 use Rattle.tick_lower.proofs.Takes.{Takes}
 use Rattle.tick_lower.proofs.Pushes.{built_value}
 use Rattle.tick_lower.proofs.Registers.{Within}
