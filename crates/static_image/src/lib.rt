@@ -4,6 +4,8 @@
 
 mod laws;
 mod start;
+#[cfg(test)]
+mod tests;
 
 pub use laws::{headline_holds, images_keep_rules};
 pub use start::write_front;
