@@ -1,0 +1,10 @@
+//! The lowering of a function's typed tree to builder ops, which a builder takes.
+#![tactic(auto)]
+
+mod expressions;
+mod function;
+mod ops;
+mod statements;
+mod variables;
+
+pub use function::{function_ops, lower};
