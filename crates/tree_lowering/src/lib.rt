@@ -4,7 +4,9 @@
 mod expressions;
 mod function;
 mod ops;
+mod sizes;
 mod statements;
 mod variables;
 
 pub use function::{function_ops, lower};
+pub use sizes::size;

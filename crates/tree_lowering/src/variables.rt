@@ -15,10 +15,16 @@ pub fn variables(s: &Stmt) -> u32
 {
     match s {
         Stmt::Variable(i) | Stmt::Parameter(i, _) => *i + 1,
-        Stmt::Block(first, items) | Stmt::Switch(_, first, items) => {
+        Stmt::Block(first, items) => {
             most_variables(first.as_slice()).max(most_variables(items.as_slice()))
         }
-        Stmt::If(_, a) | Stmt::While(_, a) | Stmt::Do(a, _) | Stmt::For(_, a) => variables(a.get()),
+        Stmt::Switch(_, first, items) => {
+            most_variables(first.as_slice()).max(most_variables(items.as_slice()))
+        }
+        Stmt::If(_, a) => variables(a.get()),
+        Stmt::While(_, a) => variables(a.get()),
+        Stmt::Do(a, _) => variables(a.get()),
+        Stmt::For(_, a) => variables(a.get()),
         Stmt::ForStep(_, _, a) => variables(a.get()),
         Stmt::IfElse(_, a, b) => variables(a.get()).max(variables(b.get())),
         Stmt::Expr(_) | Stmt::Object(_, _) | Stmt::ParameterObject(_, _, _) => 0,
