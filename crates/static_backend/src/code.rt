@@ -16,7 +16,7 @@ use tree_lowering::lower;
 use typed_tree::Function;
 
 /// A finished builder that has the ops of a function. The only error is want of memory.
-pub fn code(alloc: Global, function: &Function) -> Result<Builder, AllocError>
+pub fn builder_of(alloc: Global, function: &Function) -> Result<Builder, AllocError>
     requires ready { IsReady (function_view function.now) }
     requires parameters { function.now.params ≤ 8 }
     ensures { IfOk result (λ b. b ≡ record {

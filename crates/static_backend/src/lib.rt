@@ -2,9 +2,9 @@
 //! their registers by linear scan, their expansion, and the words in front of it.
 #![tactic(auto)]
 
+mod backend;
 mod code;
-mod image;
 mod places;
 mod text;
 
-pub use image::image;
+pub use backend::image;

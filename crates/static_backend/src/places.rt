@@ -35,7 +35,7 @@ fn places_room(alloc: Global, count: u32) -> Result<Vec<u8>, AllocError>
 }
 
 /// The places that linear scan gives to the registers of a finished list of ops. The only error is want of memory.
-pub fn places(alloc: Global, ops: &[Op], registers: u32) -> Result<Vec<u8>, AllocError>
+pub fn scanned_places(alloc: Global, ops: &[Op], registers: u32) -> Result<Vec<u8>, AllocError>
     requires { IsFinished ops.now registers }
     ensures scanned { IfOk result (λ made. (xs : List SpecInterval) × AreIntervals ops.now xs × (made.items ≡ places_of registers xs)) }
     ensures legal { IfOk result (λ made. IsLegal ops.now registers made.items) }

@@ -32,20 +32,21 @@ fn zeros(alloc: Global, count: usize) -> Result<Vec<u32>, AllocError>
 
 /// The start, and main behind it: the ops' expansion under these places. `frame` is how many bytes main takes from the
 /// stack, and `object` how many its frame's objects have. The only error is want of memory.
-pub fn text(alloc: Global, ops: &[Op], places: &[u8], frame: u32, object: u32) -> Result<Vec<u32>, AllocError>
+pub fn text_words(alloc: Global, ops: &[Op], places: &[u8], frame: u32, object: u32) -> Result<Vec<u32>, AllocError>
     requires finished { (n : ℕ) × IsFinished ops.now n }
     requires frame { frame ≤ 16777216 }
     requires object { object ≤ 16777216 }
     ensures { IfOk result (λ made. made.items ≡ front FIRST 1 ++ expanded ops.now places.now FIRST frame object false) }
 {
     let mut labels = zeros(alloc, MOST_LABELS)?;
-    let mut words = zeros(alloc, FRONT + OP_WORDS * ops.len() + FRAME_WORDS)?;
-    write_front(&mut words[..FRONT], FUNCTIONS, 1);
+    let mut words = zeros(alloc, OP_WORDS * ops.len() + FRAME_WORDS)?;
+    let mut text = zeros(alloc, FRONT)?;
+    write_front(&mut text, FUNCTIONS, 1);
     words_are_few();
-    match expand(ops, places, FUNCTIONS, frame, object, false, &mut labels, &mut words[FRONT..]) {
+    match expand(ops, places, FUNCTIONS, frame, object, false, &mut labels, &mut words) {
         Ok(count) => {
-            words.truncate(FRONT + count);
-            Ok(words)
+            text.extend_from_slice(&words[..count])?;
+            Ok(text)
         }
         Err(_) => unreachable!(),
     }
