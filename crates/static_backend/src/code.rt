@@ -20,8 +20,8 @@ pub fn builder_of(alloc: Global, function: &Function) -> Result<Builder, AllocEr
     requires ready { IsReady (function_view function.now) }
     requires parameters { function.now.params ≤ 8 }
     ensures { IfOk result (λ b. b ≡ record {
-        build = run_ops (function_ops addresses (function_view function.now)) (empty function.now.params);
-        phase = Finished;
+      build = run_ops (function_ops addresses (function_view function.now)) (empty function.now.params);
+      phase = Finished;
     }) }
 {
     let mut builder = Builder::new(alloc)?;

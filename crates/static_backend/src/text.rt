@@ -17,6 +17,7 @@ const FRONT: usize = 1024;
 
 // The most words of an op, and of a prologue with its epilogue.
 const OP_WORDS: usize = 16;
+
 const FRAME_WORDS: usize = 64;
 
 // The most labels of a list of ops.
@@ -32,7 +33,13 @@ fn zeros(alloc: Global, count: usize) -> Result<Vec<u32>, AllocError>
 
 /// The start, and main behind it: the ops' expansion under these places. `frame` is how many bytes main takes from the
 /// stack, and `object` how many its frame's objects have. The only error is want of memory.
-pub fn text_words(alloc: Global, ops: &[Op], places: &[u8], frame: u32, object: u32) -> Result<Vec<u32>, AllocError>
+pub fn text_words(
+    alloc: Global,
+    ops: &[Op],
+    places: &[u8],
+    frame: u32,
+    object: u32,
+) -> Result<Vec<u32>, AllocError>
     requires finished { (n : ℕ) × IsFinished ops.now n }
     requires frame { frame ≤ 16777216 }
     requires object { object ≤ 16777216 }
@@ -43,7 +50,16 @@ pub fn text_words(alloc: Global, ops: &[Op], places: &[u8], frame: u32, object: 
     let mut text = zeros(alloc, FRONT)?;
     write_front(&mut text, FUNCTIONS, 1);
     words_are_few();
-    match expand(ops, places, FUNCTIONS, frame, object, false, &mut labels, &mut words) {
+    match expand(
+        ops,
+        places,
+        FUNCTIONS,
+        frame,
+        object,
+        false,
+        &mut labels,
+        &mut words,
+    ) {
         Ok(count) => {
             text.extend_from_slice(&words[..count])?;
             Ok(text)

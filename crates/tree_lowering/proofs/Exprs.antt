@@ -67,10 +67,10 @@ module _ (d : Addresses) (start mid : List BuildOp) (x : Expr) (l t : ℕ) where
       let xo = expr_ops d (expr_view p) l t in
       let yo = expr_ops d (expr_view q) l2 t2 in
       let whole : expr_ops d (expr_view x) l t ≡ expr_ops d (expr_view a) l t ++ (expr_ops d (expr_view b) (l + labels_in (expr_view a)) (t + temps_in (expr_view a)) ++ build.Bin k ∷ []) =
-          ap (λ z. expr_ops d z l t) (ap expr_view is ∙ view_bin k a b) in
+      ap (λ z. expr_ops d z l t) (ap expr_view is ∙ view_bin k a b) in
       let left : late ++ build.Bin k ∷ [] ≡ start ++ (xo ++ (yo ++ build.Bin k ∷ [])) =
-          ap (λ z. z ++ build.Bin k ∷ []) (second ∙ ap (λ z. z ++ yo) first)
-          ∙ append_assoc (start ++ xo) yo (build.Bin k ∷ []) ∙ append_assoc start xo (yo ++ build.Bin k ∷ []) in
+      ap (λ z. z ++ build.Bin k ∷ []) (second ∙ ap (λ z. z ++ yo) first)
+      ∙ append_assoc (start ++ xo) yo (build.Bin k ∷ []) ∙ append_assoc start xo (yo ++ build.Bin k ∷ []) in
       left ∙ ap (λ z. start ++ (expr_ops d (expr_view z) l t ++ (yo ++ build.Bin k ∷ []))) pa
       ∙ ap (λ z. start ++ (expr_ops d (expr_view a) l t ++ (expr_ops d (expr_view z) l2 t2 ++ build.Bin k ∷ []))) qb
       ∙ ap (λ n. start ++ (expr_ops d (expr_view a) l t ++ (expr_ops d (expr_view b) n t2 ++ build.Bin k ∷ []))) (ls ∙ ap (λ z. l + labels_in (expr_view z)) pa)

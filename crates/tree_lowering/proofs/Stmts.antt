@@ -64,7 +64,7 @@ module _ (d : Addresses) (to : Targets) (x : Stmt) (l t : ℕ) where
       let yo = items_ops d (items_of (map stmt_view q)) to l2 t2 in
       let v : List Stmt → node.Items = λ ss. items_of (map stmt_view ss) in
       let whole : stmt_ops d (stmt_view x) to l t ≡ items_ops d (v a) to l t ++ items_ops d (v b) to (l + labels_of (v a)) (t + temps_of (v a)) =
-          ap (λ z. stmt_ops d z to l t) (ap stmt_view is ∙ stmt_view_block a b) in
+      ap (λ z. stmt_ops d z to l t) (ap stmt_view is ∙ stmt_view_block a b) in
       second ∙ ap (λ z. z ++ yo) first ∙ append_assoc start xo yo
       ∙ ap (λ z. start ++ (items_ops d (v z) to l t ++ yo)) pa
       ∙ ap (λ z. start ++ (items_ops d (v a) to l t ++ items_ops d (v z) to l2 t2)) qb
@@ -81,7 +81,7 @@ module _ (d : Addresses) (to : Targets) (x : Stmt) (l t : ℕ) where
       → late ++ build.Label past ∷ [] ≡ start ++ stmt_ops d (stmt_view x) to l t
   if_ops c a p past l1 t1 l2 t2 start before mid late is pa ps e1 e2 bs tested e3 e4 body =
       let whole : stmt_ops d (stmt_view x) to l t ≡ expr_ops d (expr_view c) (l + 1) t ++ build.BranchZero l ∷ (stmt_ops d (stmt_view a) to (l + 1 + labels_in (expr_view c)) (t + temps_in (expr_view c)) ++ build.Label l ∷ []) =
-          ap (λ z. stmt_ops d z to l t) (ap stmt_view is ∙ stmt_view_if c a) in
+      ap (λ z. stmt_ops d z to l t) (ap stmt_view is ∙ stmt_view_if c a) in
       let joined = if_joined before (expr_ops d (expr_view c) l1 t1) (stmt_ops d (stmt_view p) to l2 t2) (build.Label past ∷ []) (build.BranchZero past) in
       cc
 
@@ -96,10 +96,10 @@ module _ (d : Addresses) (to : Targets) (x : Stmt) (l t : ℕ) where
       → more ++ build.Label end ∷ [] ≡ start ++ stmt_ops d (stmt_view x) to l t
   choice_ops c a b p q past end l1 t1 l2 t2 l3 t3 start before mid late turned more is pa qb e0 e1 e2 e3 bs tested e4 e5 body e6 e7 turn other =
       let whole : stmt_ops d (stmt_view x) to l t ≡ expr_ops d (expr_view c) (l + 2) t ++ build.BranchZero l ∷ (stmt_ops d (stmt_view a) to (l + 2 + labels_in (expr_view c)) (t + temps_in (expr_view c))
-          ++ build.Jump (l + 1) ∷ build.Label l ∷ (stmt_ops d (stmt_view b) to (l + 2 + labels_in (expr_view c) + labels (stmt_view a)) (t + temps_in (expr_view c) + temps (stmt_view a)) ++ build.Label (l + 1) ∷ [])) =
-          ap (λ z. stmt_ops d z to l t) (ap stmt_view is ∙ stmt_view_ifelse c a b) in
+      ++ build.Jump (l + 1) ∷ build.Label l ∷ (stmt_ops d (stmt_view b) to (l + 2 + labels_in (expr_view c) + labels (stmt_view a)) (t + temps_in (expr_view c) + temps (stmt_view a)) ++ build.Label (l + 1) ∷ [])) =
+      ap (λ z. stmt_ops d z to l t) (ap stmt_view is ∙ stmt_view_ifelse c a b) in
       let joined = choice_joined before (expr_ops d (expr_view c) l1 t1) (stmt_ops d (stmt_view p) to l2 t2) (stmt_ops d (stmt_view q) to l3 t3) (build.Label end ∷ [])
-          (build.BranchZero past) (build.Jump end) (build.Label past) in
+      (build.BranchZero past) (build.Jump end) (build.Label past) in
       cc
 
   -- where a break and a continue of the loop go
@@ -115,7 +115,7 @@ module _ (d : Addresses) (to : Targets) (x : Stmt) (l t : ℕ) where
       → late ++ build.Jump begin ∷ build.Label end ∷ [] ≡ start ++ stmt_ops d (stmt_view x) to l t
   while_ops c a p end begin l1 t1 l2 t2 start before begun mid late is pa e0 e1 e2 e3 bs at_begin tested e4 e5 body =
       let whole : stmt_ops d (stmt_view x) to l t ≡ build.Label (l + 1) ∷ (expr_ops d (expr_view c) (l + 2) t ++ build.BranchZero l ∷ (stmt_ops d (stmt_view a) of_loop (l + 2 + labels_in (expr_view c)) (t + temps_in (expr_view c))
-          ++ build.Jump (l + 1) ∷ build.Label l ∷ [])) =
-          ap (λ z. stmt_ops d z to l t) (ap stmt_view is ∙ stmt_view_while c a) in
+      ++ build.Jump (l + 1) ∷ build.Label l ∷ [])) =
+      ap (λ z. stmt_ops d z to l t) (ap stmt_view is ∙ stmt_view_while c a) in
       let joined = while_joined before (expr_ops d (expr_view c) l1 t1) (stmt_ops d (stmt_view p) of_loop l2 t2) (build.Jump begin ∷ build.Label end ∷ []) (build.Label begin) (build.BranchZero end) in
       cc

@@ -13,6 +13,6 @@ pub not_refused : (os : List BuildOp) (b c : Build) (f : BuildFault) → AreTake
 not_refused [] b c f taken refused = refused
 not_refused (o ∷ os) b c f taken refused =
     elim refused [
-      inl h ↦ differ f (sym h.0 ∙ taken.0)
-    | inr h ↦ not_refused os (effect o b) c f taken.1 h.1
+      | inl h ↦ differ f (sym h.0 ∙ taken.0)
+      | inr h ↦ not_refused os (effect o b) c f taken.1 h.1
     ]

@@ -16,8 +16,8 @@ use std::alloc::{AllocError, Global};
 use tick_lower::lowering_is_accepted;
 use typed_tree::Function;
 
-/// The builder ops of a function: one body, with its variables and labels. The only error is want of memory.
-pub fn function_ops(alloc: Global, function: &Function) -> Result<Items<BuildOp>, AllocError>
+// The builder ops of a function: one body, with its variables and labels. The only error is want of memory.
+fn function_ops(alloc: Global, function: &Function) -> Result<Items<BuildOp>, AllocError>
     requires { IsReady (function_view function.now) }
     ensures { IfOk result (λ ops. (addresses : Addresses) → ops ≡ ops_of addresses (function_view function.now)) }
 {

@@ -10,5 +10,5 @@ mod statements;
 mod tests;
 mod variables;
 
-pub use function::{function_ops, lower};
+pub use function::lower;
 pub use sizes::size;

@@ -39,7 +39,7 @@ impl Ops {
     /// A jump to one label, and behind it the place of another. The only error is want of memory.
     pub fn push_turn(&mut self, to: u32, here: u32) -> Result<(), AllocError>
         ensures { OnOk result (self.new ≡ record self.old {
-            list = self.old.list ++ BuildOp.Jump to ∷ BuildOp.Label here ∷ [];
+          list = self.old.list ++ BuildOp.Jump to ∷ BuildOp.Label here ∷ [];
         }) }
     {
         self.list.push(BuildOp::Jump { label: to })?;
@@ -49,7 +49,7 @@ impl Ops {
     /// Sets a variable to 0. The only error is want of memory.
     pub fn push_zero(&mut self, variable: u32) -> Result<(), AllocError>
         ensures { OnOk result (self.new ≡ record self.old {
-            list = self.old.list ++ BuildOp.Const 0 ∷ BuildOp.SetVariable variable ∷ BuildOp.Drop ∷ [];
+          list = self.old.list ++ BuildOp.Const 0 ∷ BuildOp.SetVariable variable ∷ BuildOp.Drop ∷ [];
         }) }
     {
         self.list.push(BuildOp::Const { word: 0 })?;

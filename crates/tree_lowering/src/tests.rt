@@ -1,11 +1,14 @@
 //! A function that returns a number.
 
 ghost use Rattle.std.specs.Prelude.{◌≡◌};
+ghost use Rattle.icode_ir.specs.declared.builder.Phase.TheVariants.{Begun};
+ghost use Rattle.icode_ir.specs.Build.{empty};
 
-use crate::{function_ops, lower, size};
-use icode_ir::{BuildOp, Builder};
+use crate::{lower, size};
+use icode_ir::Builder;
+use icode_ops::Op;
 use sqlite_items::Items;
-use std::alloc::Global;
+use std::alloc::{AllocError, Global};
 use typed_tree::{Expr, Function, Stmt};
 
 // int main() { return 3; }
@@ -23,34 +26,34 @@ fn returns_three(alloc: Global) -> Function
     }
 }
 
+fn nodes_of_return(alloc: Global) -> u32 {
+    let function = returns_three(alloc);
+    size(&function)
+}
+
+fn lower_return(alloc: Global, builder: &mut Builder) -> Result<(), AllocError>
+    requires { builder.old ≡ record { build = empty 0; phase = Begun } }
+    ensures { builder.new.phase ≡ Begun }
+{
+    let function = returns_three(alloc);
+    lower(alloc, &function, builder)
+}
+
 #[test]
 fn a_return_has_two_nodes(rt: HostRuntime) {
-    let function = returns_three(rt.alloc());
-    assert!(rt; size(&function) == 2);
+    assert!(rt; nodes_of_return(rt.alloc()) == 2);
 }
 
 #[test]
-fn a_return_has_four_ops(rt: HostRuntime) {
-    let function = returns_three(rt.alloc());
-    let ops = function_ops(rt.alloc(), &function).expect(&rt, "memory");
-    let enter = BuildOp::Enter {
-        variables: 0,
-        labels: 0,
-    };
-    let want = [
-        enter,
-        BuildOp::Const { word: 3 },
-        BuildOp::Return,
-        BuildOp::Leave,
-    ];
-    assert_eq!(rt; ops.as_slice(), want.as_slice());
-}
-
-#[test]
-fn a_builder_takes_a_return(rt: HostRuntime) {
-    let function = returns_three(rt.alloc());
+fn a_return_has_two_ops(rt: HostRuntime) {
     let mut builder = Builder::new(rt.alloc()).expect(&rt, "memory");
     builder.begin(0);
-    lower(rt.alloc(), &function, &mut builder).expect(&rt, "memory");
-    assert!(rt; builder.registers() == 1);
+    lower_return(rt.alloc(), &mut builder).expect(&rt, "memory");
+    builder.finish().expect(&rt, "every op is taken");
+    let want = [
+        Op::Const { to: 0, word: 3 },
+        Op::Return { from: 0 },
+        Op::ReturnZero,
+    ];
+    assert_eq!(rt; builder.ops(), want.as_slice());
 }

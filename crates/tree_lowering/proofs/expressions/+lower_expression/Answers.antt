@@ -37,6 +37,6 @@ pub returns-in_ok-lower_expression-in-Bin-2-clause-ops : goal.returns-in_ok-lowe
 returns-in_ok-lower_expression-in-Bin-2-clause-ops t c =
     on_ok_weaker c.push-in-Bin.result
     (λ made d. ap (λ o. o.list) made ∙ bin_ops d _ _ _ _ _ _ _ _ _ _ _ _ _ c.in-Bin.is c.get-in-Bin.ensures c.get-in-Bin-2.ensures
-        (c.in_ok-lower_expression-in-Bin.ensures.ops d) c.in_ok-lower_expression-in-Bin.ensures.label c.in_ok-lower_expression-in-Bin.ensures.variable
-        (c.in_ok-lower_expression-in-Bin-2.ensures.ops d))
+    (c.in_ok-lower_expression-in-Bin.ensures.ops d) c.in_ok-lower_expression-in-Bin.ensures.label c.in_ok-lower_expression-in-Bin.ensures.variable
+    (c.in_ok-lower_expression-in-Bin-2.ensures.ops d))
     c.push-in-Bin.ensures

@@ -7,37 +7,55 @@ use Rattle.tree_lowering.proofs.Stmts.{block_built, if_built, choice_built, whil
 use Rattle.tree_lowering.proofs.sizes.+statement_size.Goals as goal
 
 pub statement_size-statements_size-requires : goal.statement_size-statements_size-requires
-statement_size-statements_size-requires t c = (search (rules, the_lemmas), (
-  same_items_built _ _ c.as_slice.ensures (block_built _ _ _ c.in-Block.is c.requires.built).0,
-  omega (arith, c.requires.small, ap size_of_stmt (ap stmt_view c.in-Block.is ∙ stmt_view_block _ _), ap (λ z. size_of_items (items_of (map stmt_view z))) c.as_slice.ensures),
-))
+statement_size-statements_size-requires t c = (
+  search (rules, the_lemmas),
+  (
+    same_items_built _ _ c.as_slice.ensures (block_built _ _ _ c.in-Block.is c.requires.built).0,
+    omega (arith, c.requires.small, ap size_of_stmt (ap stmt_view c.in-Block.is ∙ stmt_view_block _ _), ap (λ z. size_of_items (items_of (map stmt_view z))) c.as_slice.ensures),
+  ),
+)
 
 pub statement_size-statements_size-requires-in-Block : goal.statement_size-statements_size-requires-in-Block
-statement_size-statements_size-requires-in-Block t c = (search (rules, the_lemmas), (
-  same_items_built _ _ c.as_slice-in-Block.ensures (block_built _ _ _ c.in-Block.is c.requires.built).1,
-  omega (arith, c.requires.small, ap size_of_stmt (ap stmt_view c.in-Block.is ∙ stmt_view_block _ _), ap (λ z. size_of_items (items_of (map stmt_view z))) c.as_slice-in-Block.ensures),
-))
+statement_size-statements_size-requires-in-Block t c = (
+  search (rules, the_lemmas),
+  (
+    same_items_built _ _ c.as_slice-in-Block.ensures (block_built _ _ _ c.in-Block.is c.requires.built).1,
+    omega (arith, c.requires.small, ap size_of_stmt (ap stmt_view c.in-Block.is ∙ stmt_view_block _ _), ap (λ z. size_of_items (items_of (map stmt_view z))) c.as_slice-in-Block.ensures),
+  ),
+)
 
 pub statement_size-statement_size-requires : goal.statement_size-statement_size-requires
-statement_size-statement_size-requires t c = (search (rules, the_lemmas), (
-  same_built _ _ c.get.ensures (if_built _ _ _ c.in-If.is c.requires.built).1,
-  omega (arith, c.requires.small, ap size_of_stmt (ap stmt_view c.in-If.is ∙ stmt_view_if _ _), ap (λ z. size_of_stmt (stmt_view z)) c.get.ensures),
-))
+statement_size-statement_size-requires t c = (
+  search (rules, the_lemmas),
+  (
+    same_built _ _ c.get.ensures (if_built _ _ _ c.in-If.is c.requires.built).1,
+    omega (arith, c.requires.small, ap size_of_stmt (ap stmt_view c.in-If.is ∙ stmt_view_if _ _), ap (λ z. size_of_stmt (stmt_view z)) c.get.ensures),
+  ),
+)
 
 pub statement_size-statement_size-requires-in-IfElse : goal.statement_size-statement_size-requires-in-IfElse
-statement_size-statement_size-requires-in-IfElse t c = (search (rules, the_lemmas), (
-  same_built _ _ c.get-in-IfElse.ensures (choice_built _ _ _ _ c.in-IfElse.is c.requires.built).1,
-  omega (arith, c.requires.small, ap size_of_stmt (ap stmt_view c.in-IfElse.is ∙ stmt_view_ifelse _ _ _), ap (λ z. size_of_stmt (stmt_view z)) c.get-in-IfElse.ensures),
-))
+statement_size-statement_size-requires-in-IfElse t c = (
+  search (rules, the_lemmas),
+  (
+    same_built _ _ c.get-in-IfElse.ensures (choice_built _ _ _ _ c.in-IfElse.is c.requires.built).1,
+    omega (arith, c.requires.small, ap size_of_stmt (ap stmt_view c.in-IfElse.is ∙ stmt_view_ifelse _ _ _), ap (λ z. size_of_stmt (stmt_view z)) c.get-in-IfElse.ensures),
+  ),
+)
 
 pub statement_size-statement_size-requires-in-IfElse-2 : goal.statement_size-statement_size-requires-in-IfElse-2
-statement_size-statement_size-requires-in-IfElse-2 t c = (search (rules, the_lemmas), (
-  same_built _ _ c.get-in-IfElse-2.ensures (choice_built _ _ _ _ c.in-IfElse.is c.requires.built).2,
-  omega (arith, c.requires.small, ap size_of_stmt (ap stmt_view c.in-IfElse.is ∙ stmt_view_ifelse _ _ _), ap (λ z. size_of_stmt (stmt_view z)) c.get-in-IfElse-2.ensures),
-))
+statement_size-statement_size-requires-in-IfElse-2 t c = (
+  search (rules, the_lemmas),
+  (
+    same_built _ _ c.get-in-IfElse-2.ensures (choice_built _ _ _ _ c.in-IfElse.is c.requires.built).2,
+    omega (arith, c.requires.small, ap size_of_stmt (ap stmt_view c.in-IfElse.is ∙ stmt_view_ifelse _ _ _), ap (λ z. size_of_stmt (stmt_view z)) c.get-in-IfElse-2.ensures),
+  ),
+)
 
 pub statement_size-statement_size-requires-in-While : goal.statement_size-statement_size-requires-in-While
-statement_size-statement_size-requires-in-While t c = (search (rules, the_lemmas), (
-  same_built _ _ c.get-in-While.ensures (while_built _ _ _ c.in-While.is c.requires.built).1,
-  omega (arith, c.requires.small, ap size_of_stmt (ap stmt_view c.in-While.is ∙ stmt_view_while _ _), ap (λ z. size_of_stmt (stmt_view z)) c.get-in-While.ensures),
-))
+statement_size-statement_size-requires-in-While t c = (
+  search (rules, the_lemmas),
+  (
+    same_built _ _ c.get-in-While.ensures (while_built _ _ _ c.in-While.is c.requires.built).1,
+    omega (arith, c.requires.small, ap size_of_stmt (ap stmt_view c.in-While.is ∙ stmt_view_while _ _), ap (λ z. size_of_stmt (stmt_view z)) c.get-in-While.ensures),
+  ),
+)

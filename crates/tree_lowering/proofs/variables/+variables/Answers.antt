@@ -48,4 +48,3 @@ variables-most_variables-requires-in-Switch t c =
 pub variables-most_variables-requires-in-Switch-2 : goal.variables-most_variables-requires-in-Switch-2
 variables-most_variables-requires-in-Switch-2 t c =
     (search (rules, the_lemmas), omega (arith, c.requires, ap variables_in (ap stmt_view c.in-Switch.is ∙ stmt_view_switch _ _ _), ap (λ z. variables_of (items_of (map stmt_view z))) c.as_slice-in-Switch-2.ensures))
-
