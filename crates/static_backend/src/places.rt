@@ -1,6 +1,6 @@
 //! The places of the registers of a list of ops.
 
-ghost use Rattle.std.specs.Prelude.{◌≡◌, IfOk, List, length};
+ghost use Rattle.std.specs.Prelude.{◌≡◌, ◌≤◌, IfOk, List, length};
 ghost use Rattle.icode_ops.specs.Finished.{IsFinished};
 ghost use Rattle.icode_ops.specs.Live.{AreIntervals};
 ghost use Rattle.icode_ops.specs.Places.{IsLegal};
@@ -34,6 +34,24 @@ fn places_room(alloc: Global, count: u32) -> Result<Vec<u8>, AllocError>
     Ok(made)
 }
 
+// Finds the intervals of a finished list of ops, and scans them. There is a place for each register.
+fn scan_places(
+    live: &mut Live,
+    scanner: &mut Scanner,
+    ops: &[Op],
+    out: &mut [Interval],
+    places: &mut [u8],
+)
+    requires finished { IsFinished ops.now (length places.old) }
+    requires room { length places.old ≤ length out.old }
+    ensures scanned { (xs : List SpecInterval) × AreIntervals ops.now xs × (places.new ≡ places_of (length places.old) xs) }
+    ensures legal { IsLegal ops.now (length places.old) places.new }
+{
+    let count = live.intervals(ops, places.len() as u32, out);
+    intervals_are_scannable();
+    scanner.scan(&out[..count], places);
+}
+
 /// The places that linear scan gives to the registers of a finished list of ops. The only error is want of memory.
 pub fn scanned_places(alloc: Global, ops: &[Op], registers: u32) -> Result<Vec<u8>, AllocError>
     requires { IsFinished ops.now registers }
@@ -44,8 +62,6 @@ pub fn scanned_places(alloc: Global, ops: &[Op], registers: u32) -> Result<Vec<u
     let mut scanner = Scanner::new(alloc)?;
     let mut out = intervals_room(alloc, registers)?;
     let mut made = places_room(alloc, registers)?;
-    let count = live.intervals(ops, registers, &mut out);
-    intervals_are_scannable();
-    scanner.scan(&out[..count], &mut made);
+    scan_places(&mut live, &mut scanner, ops, &mut out, &mut made);
     Ok(made)
 }

@@ -31,9 +31,17 @@ fn zeros(alloc: Global, count: usize) -> Result<Vec<u32>, AllocError>
     Ok(made)
 }
 
-/// The start, and main behind it: the ops' expansion under these places. `frame` is how many bytes main takes from the
-/// stack, and `object` how many its frame's objects have. The only error is want of memory.
-pub fn text_words(
+// The words in front of the functions.
+fn front_words(alloc: Global) -> Result<Vec<u32>, AllocError>
+    ensures { IfOk result (λ made. made.items ≡ front FIRST 1) }
+{
+    let mut made = zeros(alloc, FRONT)?;
+    write_front(&mut made, FUNCTIONS, 1);
+    Ok(made)
+}
+
+// The words of main: the ops' expansion under these places.
+fn main_words(
     alloc: Global,
     ops: &[Op],
     places: &[u8],
@@ -43,12 +51,10 @@ pub fn text_words(
     requires finished { (n : ℕ) × IsFinished ops.now n }
     requires frame { frame ≤ 16777216 }
     requires object { object ≤ 16777216 }
-    ensures { IfOk result (λ made. made.items ≡ front FIRST 1 ++ expanded ops.now places.now FIRST frame object false) }
+    ensures { IfOk result (λ made. made.items ≡ expanded ops.now places.now FIRST frame object false) }
 {
     let mut labels = zeros(alloc, MOST_LABELS)?;
     let mut words = zeros(alloc, OP_WORDS * ops.len() + FRAME_WORDS)?;
-    let mut text = zeros(alloc, FRONT)?;
-    write_front(&mut text, FUNCTIONS, 1);
     words_are_few();
     match expand(
         ops,
@@ -61,9 +67,29 @@ pub fn text_words(
         &mut words,
     ) {
         Ok(count) => {
-            text.extend_from_slice(&words[..count])?;
-            Ok(text)
+            words.truncate(count);
+            Ok(words)
         }
         Err(_) => unreachable!(),
     }
+}
+
+/// The words in front of the functions, and main behind them. `frame` is how many bytes main takes from the stack, and
+/// `object` how many its frame's objects have. The only error is want of memory.
+pub fn text_words(
+    alloc: Global,
+    ops: &[Op],
+    places: &[u8],
+    frame: u32,
+    object: u32,
+) -> Result<Vec<u32>, AllocError>
+    requires finished { (n : ℕ) × IsFinished ops.now n }
+    requires frame { frame ≤ 16777216 }
+    requires object { object ≤ 16777216 }
+    ensures { IfOk result (λ made. made.items ≡ front FIRST 1 ++ expanded ops.now places.now FIRST frame object false) }
+{
+    let words = main_words(alloc, ops, places, frame, object)?;
+    let mut text = front_words(alloc)?;
+    text.extend_from_slice(&words)?;
+    Ok(text)
 }

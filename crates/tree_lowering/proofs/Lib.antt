@@ -2,4 +2,3 @@ pub mod Exprs
 pub mod Stmts
 pub mod Rest
 pub mod Taken
-pub mod Returns

@@ -6,8 +6,6 @@ mod function;
 mod ops;
 mod sizes;
 mod statements;
-#[cfg(test)]
-mod tests;
 mod variables;
 
 pub use function::lower;
