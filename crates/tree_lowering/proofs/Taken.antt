@@ -1,9 +1,9 @@
 -- Ops that are all taken are not refused.
-use Rattle.std.proofs.Common.{◌≡◌, List, [], ◌∷◌, Option, Some, None, sym, ◌∙◌, ◌⊎◌, inl, inr}
+use Rattle.std.proofs.Common.{◌≡◌, List, [], ◌∷◌, Some, None, sym, ◌∙◌, inl, inr}
 use Rattle.icode_ir.specs.declared.build_op.BuildOp.{BuildOp}
 use Rattle.icode_ir.specs.declared.build_op.BuildFault.{BuildFault}
 use Rattle.icode_ir.specs.Build.{Build}
-use Rattle.icode_ir.specs.Rules.{fault_of, effect}
+use Rattle.icode_ir.specs.Rules.{effect}
 use Rattle.icode_ir.specs.Runs.{AreTaken, IsRefused}
 
 differ : (f : BuildFault) → Some f ≡ None → ⊥

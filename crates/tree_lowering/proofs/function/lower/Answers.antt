@@ -1,7 +1,5 @@
-use Rattle.std.proofs.Common.{◌≡◌, List, Result, Err, ap, sym, ◌∙◌, subst}
-use Rattle.icode_ir.specs.declared.build_op.BuildOp.{BuildOp}
-use Rattle.icode_ir.specs.declared.build_op.BuildFault.{BuildFault}
-use Rattle.icode_ir.specs.Build.{Build, empty}
+use Rattle.std.proofs.Common.{◌≡◌, ap, sym, ◌∙◌, subst}
+use Rattle.icode_ir.specs.Build.{empty}
 use Rattle.icode_ir.specs.Runs.{EmitsAll, AreTaken, IsRefused}
 use Rattle.tick_lower.specs.Lower.{Addresses, function_ops}
 use Rattle.tree_view.specs.View.{function_view}
