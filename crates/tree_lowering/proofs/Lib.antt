@@ -1,0 +1,4 @@
+pub mod Exprs
+pub mod Stmts
+pub mod Rest
+pub mod Taken

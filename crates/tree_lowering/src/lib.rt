@@ -1,0 +1,12 @@
+//! The lowering of a function's typed tree to builder ops, which a builder takes.
+#![tactic(auto)]
+
+mod expressions;
+mod function;
+mod ops;
+mod sizes;
+mod statements;
+mod variables;
+
+pub use function::lower;
+pub use sizes::size;
