@@ -2,3 +2,4 @@ pub mod Exprs
 pub mod Stmts
 pub mod Rest
 pub mod Taken
+pub mod Returns

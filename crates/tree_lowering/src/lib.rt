@@ -6,6 +6,8 @@ mod function;
 mod ops;
 mod sizes;
 mod statements;
+#[cfg(test)]
+mod tests;
 mod variables;
 
 pub use function::lower;

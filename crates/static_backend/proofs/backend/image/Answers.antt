@@ -1,4 +1,4 @@
-use Rattle.std.proofs.Common.{◌≡◌, ◌+◌, ◌*◌, ◌++◌, [], List, ℕ, false, ap, sym, ◌∙◌, subst, arith}
+use Rattle.std.proofs.Common.{◌≡◌, ◌+◌, ◌*◌, ◌++◌, [], List, false, ap, sym, ◌∙◌, subst}
 use Rattle.word32.specs.declared.map.TheConstants.{START, FUNCTIONS}
 use Rattle.icode_ops.specs.declared.op.Op.{Op}
 use Rattle.icode_ops.specs.declared.interval.Interval.{Interval}
@@ -12,7 +12,7 @@ use Rattle.image_file.specs.Image as file
 use Rattle.tick_meaning.specs.Size.{size_of, charge_of}
 use Rattle.tick_lower.specs.Laws.{registers_of}
 use Rattle.tree_view.specs.View.{function_view}
-use Rattle.static_image.specs.Layout.{addresses, ops_of, front, IsChoice, image_of}
+use Rattle.static_image.specs.Layout.{addresses, ops_of, front, IsChoice}
 use Rattle.static_backend.proofs.Whole.{is_choice, is_image, is_scanned}
 use Rattle.static_backend.proofs.backend.image.Goals as goal
 

@@ -1,4 +1,4 @@
-use Rattle.std.proofs.Common.{◌≡◌, ℕ, length, ap, sym, ◌∙◌, subst, arith}
+use Rattle.std.proofs.Common.{◌≡◌, length, ap, sym, ◌∙◌, subst, arith}
 use Rattle.icode_ops.specs.Places.{IsLegal}
 use Rattle.static_backend.proofs.Slices.{whole}
 use Rattle.static_backend.proofs.places.scanned_places.Goals as goal
