@@ -5,6 +5,8 @@
 mod backend;
 mod code;
 mod places;
+#[cfg(test)]
+mod tests;
 mod text;
 
 pub use backend::image;
