@@ -11,6 +11,8 @@ use Rattle.flat_memory.specs.Regions.{Regions, spaces_of}
 use Rattle.code_arena.specs.Kept.{Kept, arena_of, rows_of}
 use Rattle.mips_core.specs.declared.halt.Halt.{Halt}
 use Rattle.mips_core.specs.declared.halt.Halt.TheVariants.{Ended, Fault}
+use Rattle.mips_core.specs.declared.halt.Went.{Went}
+use Rattle.mips_core.specs.declared.halt.Went.TheVariants as went
 use Rattle.mips_encoder.specs.declared.instruction.Instr.{Instr}
 use Rattle.mips_model.specs.State.{Outside, Data, State, World, set_register}
 use Rattle.mips_model.specs.Run.{first_outside}
@@ -42,6 +44,16 @@ pub record IsCore (k : CoreKept) : Type 0 where
   pub is_register : k.loaded < 32
   pub next_is_low : k.pc < 4294967292 → k.next < 4294967296
   pub next_is_near : k.next < 4294967300
+
+-- What is behind the next instruction: a branch's target or the next word, as the next instruction stands in a slot or
+-- doesn't. Where nothing is pending, no register was loaded, HI and LO may be set, and no slot is next.
+abbrev pub next_of : (slot : Bool) (target pc : ℕ) → ℕ
+next_of slot target pc = if slot then target else (pc + 4)
+
+pub record IsSettled (pending slot : Bool) (loaded recent : ℕ) : Type 0 where
+  pub no_slot : pending ≡ false → slot ≡ false
+  pub not_loaded : pending ≡ false → loaded ≡ 0
+  pub not_recent : pending ≡ false → recent ≡ 0
 
 -- nothing of the outside
 abbrev pub nothing : Outside
@@ -92,6 +104,21 @@ wrote r v w = record w { state = record w.state { d = set_register r v w.state.d
 abbrev pub moved : (next : ℕ) (slot : Bool) → World → World
 moved next slot w =
     record w { state = record w.state { pc = w.state.next; next = next; loaded = 0; recent = w.state.recent - 1; slot = slot } }
+
+abbrev pub with_loaded : ℕ → World → World
+with_loaded r w = record w { state = record w.state { loaded = r } }
+
+abbrev pub with_recent : ℕ → World → World
+with_recent n w = record w { state = record w.state { recent = n } }
+
+-- HI or LO was read a while ago, if this number isn't 0
+abbrev pub is_recent : ℕ → Bool
+is_recent n = if nat_eq n 0 then false else true
+
+-- an instruction that has this ending behind it went on, or stopped the run
+abbrev pub went_of : Option End → Went
+went_of None = went.On
+went_of (Some e) = went.Stopped
 
 abbrev pub chosen : Bool → ℕ → ℕ → ℕ
 chosen taken target other = if taken then target else other

@@ -8,26 +8,13 @@ ghost use Rattle.mips_model.specs.Beside as beside;
 ghost use Rattle.mips_core.specs.Core.{state_of, world_of};
 
 use crate::core_state::Core;
+use crate::halt::Went;
 use host_edge::MachineKind;
 use word32::map;
 
-/// The word of SYSCALL.
-const SYSCALL: u32 = 12;
-
-/// Whether a word was fetched, and is SYSCALL's.
-#[inline]
-fn is_service(w: &Result<u32, MachineKind>) -> bool
-    ensures { result ≡ beside.is_service w.now }
-{
-    match w {
-        Ok(w) => *w == SYSCALL,
-        Err(_) => false,
-    }
-}
-
 impl Core {
     /// A word of the arena that is executed.
-    #[inline]
+    #[inline(always)]
     fn fetch_from_arena(&self) -> Result<u32, MachineKind>
         requires { 67108864 ≤ self.now.pc }
         ensures { result ≡ steps.word_in_arena (state_of self.now).code self.now.pc }
@@ -45,7 +32,7 @@ impl Core {
     }
 
     /// The word of the next instruction, or why none is executed.
-    #[inline]
+    #[inline(always)]
     pub(crate) fn fetch(&self) -> Result<u32, MachineKind>
         ensures word { result ≡ steps.word_at (state_of self.now).code self.now.pc }
         ensures next { IfOk result (λ w. self.now.next < 4294967296) }
@@ -60,14 +47,14 @@ impl Core {
         }
     }
 
-    /// One instruction that isn't SYSCALL.
-    #[inline]
-    fn step(&mut self, w: Result<u32, MachineKind>)
+    /// One instruction, unless it is SYSCALL.
+    #[inline(always)]
+    fn step(&mut self, w: Result<u32, MachineKind>) -> Went
         requires on { self.old.stopped ≡ None }
         requires word { w ≡ steps.word_at (state_of self.old).code self.old.pc }
         requires next { IfOk w (λ w. self.old.next < 4294967296) }
-        requires no_service { beside.is_service w ≡ false }
-        ensures { world_of self.new ≡ steps.step (world_of self.old) }
+        ensures service { beside.is_service w ≡ true → (result ≡ Went.Service) × (self.new ≡ self.old) }
+        ensures other { beside.is_service w ≡ false → (world_of self.new ≡ steps.step (world_of self.old)) × (result ≡ spec.went_of (world_of self.new).ending) }
     {
         match w {
             Ok(w) => self.execute(w),
@@ -85,15 +72,12 @@ impl Core {
     {
         let mut left = n;
         while left > 0 {
-            if let Some(_) = self.stopped {
-                return left;
-            }
             let w = self.fetch();
-            if is_service(&w) {
-                return left;
+            match self.step(w) {
+                Went::On => left -= 1,
+                Went::Stopped => return left - 1,
+                Went::Service => return left,
             }
-            self.step(w);
-            left -= 1;
         }
         0
     }
