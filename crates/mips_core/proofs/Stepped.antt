@@ -1,14 +1,13 @@
 -- What one instruction's answer says of it.
 use Rattle.std.proofs.Common.{zero, suc, inl, inr, ◌≡◌, ◌≢◌, ℕ, ◌+◌, Bool, true, false, Option, None, Some, Result, refl, sym, ap, ◌∙◌, subst}
 use Rattle.host_edge.specs.declared.ending.MachineKind.{MachineKind}
-use Rattle.mips_model.specs.State.{World}
 use Rattle.mips_model.specs.Steps.{step, word_at}
 use Rattle.mips_model.specs.Beside.{is_service, is_at_service}
 use Rattle.mips_core.specs.declared.halt.Halt.{Halt}
 use Rattle.mips_core.specs.declared.halt.Went.{Went}
 use Rattle.mips_core.specs.declared.halt.Went.TheVariants as went
 use Rattle.mips_core.specs.Core.{CoreKept, GoesOn, Pauses, state_of, world_of, ending_from, went_of}
-use Rattle.mips_core.proofs.Loops.{goes_more, goes_count}
+use Rattle.mips_core.proofs.Loops.{goes_more}
 
 -- an answer other than Service is that of an instruction that was executed or refused
 executed : {P Q : Type 0} (b : Bool) {r : Went} → (b ≡ true → (r ≡ went.Service) × P) → (b ≡ false → Q) → r ≢ went.Service → (b ≡ false) × Q

@@ -13,13 +13,12 @@ use host_edge::MachineKind;
 use word32::map;
 
 impl Core {
-    /// A word of the arena that is executed.
+    /// The word of the next instruction where it isn't in the text, or why none is executed.
     #[inline(always)]
     fn fetch_from_arena(&self) -> Result<u32, MachineKind>
-        requires { 67108864 ≤ self.now.pc }
-        ensures { result ≡ steps.word_in_arena (state_of self.now).code self.now.pc }
+        ensures { result ≡ spec.word_past_text (state_of self.now).code self.now.pc }
     {
-        let from = self.pc - map::ARENA;
+        let from = self.pc.wrapping_sub(map::ARENA);
         let i = from / 4 + from % 4 * 0x4000_0000;
         if i < map::ARENA_WORDS {
             match self.arena.fetch(i) {
@@ -37,13 +36,9 @@ impl Core {
         ensures word { result ≡ steps.word_at (state_of self.now).code self.now.pc }
         ensures next { IfOk result (λ w. self.now.next < 4294967296) }
     {
-        if self.pc < map::ARENA {
-            match self.memory.fetch(self.pc) {
-                Some(w) => Ok(w),
-                None => Err(MachineKind::Fetch),
-            }
-        } else {
-            self.fetch_from_arena()
+        match self.memory.fetch(self.pc) {
+            Some(w) => Ok(w),
+            None => self.fetch_from_arena(),
         }
     }
 

@@ -1,5 +1,4 @@
-use Rattle.std.proofs.Common.{◌≡◌, arith}
-
+use Rattle.std.proofs.Common.{arith}
 use Rattle.mips_core.proofs.Loops.{goes_count}
 use Rattle.mips_core.proofs.Stepped.{one_more, goes_on, stops, serves, not_service, not_stopped, pauses_stopped, pauses_service, goes_same}
 use Rattle.mips_core.proofs.core_state.Core.go_on.Goals as goal
