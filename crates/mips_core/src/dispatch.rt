@@ -30,7 +30,7 @@ impl Core {
         }
     }
 
-    /// A word whose function code is that of SYSCALL.
+    /// A word whose function code is that of SYSCALL: it isn't executed here where it is SYSCALL, and refused else.
     #[inline(always)]
     fn pause(&mut self, w: u32) -> Went
         requires on { self.old.stopped ≡ None }
@@ -82,42 +82,6 @@ impl Core {
             39 => self.arithmetic(ArithmeticOp::Nor, w),
             42 => self.arithmetic(ArithmeticOp::Slt, w),
             43 => self.arithmetic(ArithmeticOp::Sltu, w),
-            1
-            | 5
-            | 10
-            | 11
-            | 14
-            | 15
-            | 20
-            | 21
-            | 22
-            | 23
-            | 28
-            | 29
-            | 30
-            | 31
-            | 40
-            | 41
-            | 44
-            | 45
-            | 46
-            | 47
-            | 48
-            | 49
-            | 50
-            | 51
-            | 52
-            | 53
-            | 54
-            | 55
-            | 56
-            | 57
-            | 58
-            | 59
-            | 60
-            | 61
-            | 62
-            | 63 => { self.fault(MachineKind::Reserved) }
             _ => self.fault(MachineKind::Reserved),
         }
     }
@@ -155,47 +119,6 @@ impl Core {
             40 => self.access_memory(MemoryOp::Sb, w),
             41 => self.access_memory(MemoryOp::Sh, w),
             43 => self.access_memory(MemoryOp::Sw, w),
-            0
-            | 16
-            | 17
-            | 18
-            | 19
-            | 20
-            | 21
-            | 22
-            | 23
-            | 24
-            | 25
-            | 26
-            | 27
-            | 28
-            | 29
-            | 30
-            | 31
-            | 34
-            | 38
-            | 39
-            | 42
-            | 44
-            | 45
-            | 46
-            | 47
-            | 48
-            | 49
-            | 50
-            | 51
-            | 52
-            | 53
-            | 54
-            | 55
-            | 56
-            | 57
-            | 58
-            | 59
-            | 60
-            | 61
-            | 62
-            | 63 => { self.fault(MachineKind::Reserved) }
             _ => self.fault(MachineKind::Reserved),
         }
     }
