@@ -7,7 +7,7 @@ use Rattle.pace.proofs.Runs.{iterate_add}
 use Rattle.word32.specs.Space.{update}
 use Rattle.host_edge.specs.declared.ending.Ending.TheVariants.{Done}
 use Rattle.history.specs.Events.{Item, End, Ended}
-use Rattle.mips_model.specs.State.{Code, Data, State, Outside}
+use Rattle.mips_model.specs.State.{Code, Data, State, World, Outside}
 use Rattle.mips_model.specs.Steps.{step, going}
 use Rattle.mips_model.specs.Run as machine
 use Rattle.mips_model.specs.Laws.{HasAt, past, at, Reaches}
@@ -123,7 +123,7 @@ module _ (c : Code) (exit : ℕ) (ex : HasAt c exit exit_code) where
         count = total + 3;
         from = omega (arith, lo);
         to = omega (arith, go.under, hi, few, n1, n2, n3);
-        related = e1 ∙ e2 ∙ e3;
+        related = (e1 ∙ e2 ∙ e3, ap (λ (z : World). z.state.code) stop);
       }
 
   pub return_pays : (w : Frame) (log : Log) (from : ℕ) (d : Data) (h : Holds c exit w log d) → slice_get w.function.ops w.index ≡ Some (Return from) → uses_on (Return from) w.on ≡ true

@@ -71,18 +71,29 @@ module _ (c : Code) (exit : ℕ) where
     pub few : recent ≤ 1
     pub is : b ≡ going (behind c (address_of w.function holds.places w.index) recent d)
 
+  -- the machine looks like the state, and its code is as it was
+  abbrev pub LooksLike : staged.State → World → Type 0
+  LooksLike a b = (see a ≡ machine.see b) × (b.state.code ≡ c)
+
   abbrev pub Related : staged.State → World → Type 0
   Related (Running w arguments answer [] log) b = StandsAt w log b
   Related (Running w arguments answer (v ∷ vs) log) b = ⊥
-  Related (Halted e log) b = see (Halted e log) ≡ machine.see b
-  Related (Stuck log) b = see (Stuck log) ≡ machine.see b
+  Related (Halted e log) b = LooksLike (Halted e log) b
+  Related (Stuck log) b = LooksLike (Stuck log) b
 
   pub same_seen : (a : staged.State) (b : World) → Related a b → see a ≡ machine.see b
   same_seen (Running w arguments answer [] log) b r =
       ap (λ h. record { history = h; ending = None }) (sym r.holds.history) ∙ sym (ap machine.see r.is)
   same_seen (Running w arguments answer (v ∷ vs) log) b r = absurd r
-  same_seen (Halted e log) b r = r
-  same_seen (Stuck log) b r = r
+  same_seen (Halted e log) b r = r.0
+  same_seen (Stuck log) b r = r.0
+
+  -- what is executed doesn't change the code
+  pub same_code : (a : staged.State) (b : World) → Related a b → b.state.code ≡ c
+  same_code (Running w arguments answer [] log) b r = ap (λ (z : World). z.state.code) r.is
+  same_code (Running w arguments answer (v ∷ vs) log) b r = absurd r
+  same_code (Halted e log) b r = r.1
+  same_code (Stuck log) b r = r.1
 
   -- what the machine does from a state and a log to a staged state
   pub record Pays (a : staged.State) (log : Log) (s : State) : Type 0 where

@@ -4,7 +4,8 @@ use Rattle.std.specs.Fn.{iterate}
 use Rattle.pace.specs.Claims.{PaysFor, SimulatesStep}
 use Rattle.pace.proofs.Runs.{iterate_add}
 use Rattle.pace.proofs.Seams.{pays_for}
-use Rattle.history.specs.Events.{End}
+use Rattle.pace.specs.Pace.{Seen}
+use Rattle.history.specs.Events.{Item, End}
 use Rattle.mips_model.specs.State.{Code, Data, World, Outside}
 use Rattle.mips_model.specs.Steps.{step, going, run}
 use Rattle.mips_model.specs.Run as machine
@@ -22,14 +23,14 @@ use Rattle.icode_meaning.specs.Steps.{uses_on, act, checked, advance, begun, fir
 use Rattle.run_state.specs.Shared.{Shared, charged}
 use Rattle.template_effects.specs.Spots.{pointer}
 use Rattle.forward_simulation.specs.Standing.{Stands, Arrives, IsServed, layout_of, front_code, back_code, code_of, exit_code}
-use Rattle.forward_simulation.specs.Laws.{MainIsSimulated}
+use Rattle.forward_simulation.specs.Laws.{MainIsSimulated, MainKeepsCode}
 use Rattle.forward_simulation.proofs.Addresses.{past_is, past_rises, address_zero}
 use Rattle.icode_templates.specs.Templates.{load_code}
 use Rattle.forward_simulation.proofs.Liveness.{op_found}
 use Rattle.forward_simulation.proofs.Alike.{behind, IsGentle}
 use Rattle.forward_simulation.proofs.Starts.{head_gentle, operand_gentle, label_pays}
 use Rattle.forward_simulation.proofs.Entering.{Entered, prologue_reaches, prologue_enters}
-use Rattle.forward_simulation.proofs.Simulation.{ops_at, address_of, Holds, Related, same_seen, Pays, both_true, one_stands, at_any}
+use Rattle.forward_simulation.proofs.Simulation.{ops_at, address_of, Holds, Related, same_seen, same_code, Pays, both_true, one_stands, at_any}
 use Rattle.forward_simulation.proofs.Ops.{const_pays, move_pays, bin_pays, put_pays, jump_pays, zero_pays, nonzero_pays}
 use Rattle.forward_simulation.proofs.Ending.{few_places, return_pays, zero_return_pays}
 use Rattle.forward_simulation.proofs.Entering as entering
@@ -81,7 +82,7 @@ module _ (c : Code) (exit : ℕ) (ex : HasAt c exit exit_code) (program : Progra
   op_pays o q w arguments answer log d h le i u s = absurd s
 
   stuck_pays : (log : Log) (q a : ℕ) (d : Data) → d.outside.history ≡ log.shared.history → Pays c exit (Stuck log) log (behind c a q d)
-  stuck_pays log q a d e = record { count = 0; from = omega arith; to = omega arith; related = ap (λ z. record { history = z; ending = None }) (sym e) }
+  stuck_pays log q a d e = record { count = 0; from = omega arith; to = omega arith; related = (ap (λ z. record { history = z; ending = None }) (sym e), refl) }
 
   used_pays : (b : Bool) (o : Op) (q : ℕ) (w : Frame) (arguments : ℕ → Option ℕ) (answer : Option ℕ) (log : Log) (d : Data) (h : Holds c exit w log d) → q ≤ 1 → slice_get w.function.ops w.index ≡ Some o → uses_on o w.on ≡ b → IsServed o
       → Pays c exit (if b then act program o w arguments answer [] log else Stuck log) log (behind c (address_of w.function h.places w.index) q d)
@@ -191,6 +192,36 @@ module _ (c : Code) (main : Function) (places : List ℕ) (shared : Shared) (n :
       pays_for (advance program) step least_at most_at see machine.see (Related c arrived.exit) (same_seen c arrived.exit) (halts program) (simulates c arrived.exit arrived.exits program) (n + 20)
       (first main shared) w count (record { d = e; holds = held; recent = 0; few = omega arith; is = comes }) (omega arith) (omega (arith, short))
 
+  -- the same for the code in place of the history
+  abbrev pub code_of_upper : staged.State → Seen Code End
+  code_of_upper a = record { history = c ∷ []; ending = (see a).ending }
+
+  abbrev pub code_of_lower : World → Seen Code End
+  code_of_lower b = record { history = b.state.code ∷ []; ending = b.ending }
+
+  code_seen : (a : staged.State) (b : World) → Related c arrived.exit a b → code_of_upper a ≡ code_of_lower b
+  code_seen a b r =
+      ap (λ z. record { history = c ∷ []; ending = z }) (ap (λ (z : Seen Item End). z.ending) (same_seen c arrived.exit a b r))
+      ∙ ap (λ z. record { history = z ∷ []; ending = b.ending }) (sym (same_code c arrived.exit a b r))
+
+  pub paid_in_code : PaysFor (n + 20) (λ i. code_of_upper (iterate (advance program) i (first main shared))) (λ i. least_at (iterate (advance program) i (first main shared))) (λ i. most_at (iterate (advance program) i (first main shared))) (λ k. code_of_lower (iterate step k w))
+  unfolding held
+  paid_in_code =
+      pays_for (advance program) step least_at most_at code_of_upper code_of_lower (Related c arrived.exit) code_seen (halts program) (simulates c arrived.exit arrived.exits program) (n + 20)
+      (first main shared) w count (record { d = e; holds = held; recent = 0; few = omega arith; is = comes }) (omega arith) (omega (arith, short))
+
 pub simulated : MainIsSimulated
 unfolding run
 simulated c main places shared n w program st arrived = paid c main places shared n w program st arrived
+
+one_code : (c d : Code) → c ∷ [] ≡ d ∷ [] → d ≡ c
+one_code c d e = cc
+
+pub code_kept : MainKeepsCode
+unfolding run
+code_kept c main places shared n w program st arrived =
+    let p = paid_in_code c main places shared n w program st arrived in
+    record {
+      goes_on = λ i none. let a = p.goes_on i none in (a.0, a.1, a.3, one_code c _ a.4);
+      ends = λ i e is. let a = p.ends i e is in (a.0, a.2, one_code c _ a.3);
+    }

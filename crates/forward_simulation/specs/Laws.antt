@@ -1,8 +1,9 @@
 -- The lower seam: what the machine does with a function's words is what the staged machine does with its ops, with the same
 -- history and the same ending, and each op pays for the instructions that are executed for it.
-use Rattle.std.specs.Prelude.{◌≡◌, ℕ, ◌+◌, ◌*◌, ◌%◌, ◌≤◌, false, List, length}
+use Rattle.std.specs.Prelude.{◌≡◌, ℕ, ◌+◌, ◌*◌, ◌%◌, ◌≤◌, false, List, length, Some, None}
 use Rattle.std.specs.Fn.{iterate}
 use Rattle.pace.specs.Claims.{PaysFor}
+use Rattle.history.specs.Events.{End}
 use Rattle.mips_model.specs.State.{Code, World}
 use Rattle.mips_model.specs.Steps.{run}
 use Rattle.mips_model.specs.Run as machine
@@ -10,7 +11,7 @@ use Rattle.word32.specs.declared.map.TheConstants.{ARENA}
 use Rattle.icode_ops.specs.Flow.{op_at}
 use Rattle.icode_ops.specs.Finished.{IsFinished}
 use Rattle.icode_ops.specs.Places.{IsLegal}
-use Rattle.icode_meaning.specs.State.{Function, Program, see, least_at, most_at}
+use Rattle.icode_meaning.specs.State.{Function, Program, State, see, least_at, most_at}
 use Rattle.icode_meaning.specs.Steps.{advance, first}
 use Rattle.run_state.specs.Shared.{Shared}
 use Rattle.icode_expand.specs.Expansion.{expanded}
@@ -25,6 +26,17 @@ MainIsSimulated =
     (λ i. least_at (iterate (advance program) i (first main shared)))
     (λ i. most_at (iterate (advance program) i (first main shared)))
     (λ k. machine.see (run k w))
+
+-- Wherever the staged machine has come to, the machine comes there with the code as it was: later than the least cost, while
+-- it hasn't ended, and else where the machine has ended alike.
+pub record KeepsCode (c : Code) (w : World) (upper : ℕ → State) : Type 0 where
+  pub goes_on : (i : ℕ) → (see (upper i)).ending ≡ None → (n : ℕ) × (least_at (upper i) ≤ n) × ((run n w).ending ≡ None) × ((run n w).state.code ≡ c)
+  pub ends : (i : ℕ) (e : End) → (see (upper i)).ending ≡ Some e → (n : ℕ) × ((run n w).ending ≡ Some e) × ((run n w).state.code ≡ c)
+
+abbrev pub MainKeepsCode : Type 0
+MainKeepsCode =
+    (c : Code) (main : Function) (places : List ℕ) (shared : Shared) (n : ℕ) (w : World) (program : Program)
+    → Stands c main places → Arrives c main shared n w → KeepsCode c w (λ i. iterate (advance program) i (first main shared))
 
 -- a function that suits its places stands where the words of its expansion stand in the text
 abbrev pub WordsSuffice : Type 0

@@ -22,3 +22,5 @@ pub mod Issues
 pub mod Accepts
 pub mod Counts
 pub mod FunctionOps
+pub mod Sounds
+pub mod Sizes

@@ -1,11 +1,12 @@
 -- What is promised of the lowering: the builder takes all of it, and the staged machine runs what comes of it as the
 -- tree means, at a cost of 512 instructions for a unit of work. The expansion of these ops keeps to the same costs, so
 -- both facts together give the headline's pace. These are the project's own.
-use Rattle.std.specs.Prelude.{◌≡◌, ℕ, [], List}
+use Rattle.std.specs.Prelude.{◌≡◌, ℕ, ◌+◌, ◌*◌, ◌≤◌, [], List, length}
 use Rattle.std.specs.Fn.{iterate}
 use Rattle.pace.specs.Claims.{FollowsAtCost}
 use Rattle.history.specs.Events.{Input}
 use Rattle.icode_ops.specs.declared.op.Op.{Op}
+use Rattle.icode_ops.specs.Finished.{IsFinished}
 use Rattle.icode_ir.specs.Build.{empty, finished}
 use Rattle.icode_ir.specs.Runs.{run_ops, AreTaken}
 use Rattle.tick_meaning.specs.Nodes as node
@@ -29,6 +30,20 @@ pub record IsAccepted (addresses : Addresses) (function : node.Function) : Type 
 
 abbrev pub LoweringIsAccepted : Type 0
 LoweringIsAccepted = (addresses : Addresses) (function : node.Function) → IsReady function → IsAccepted addresses function
+
+-- how many registers the ops have
+abbrev pub registers_of : Addresses → node.Function → ℕ
+registers_of addresses function = (run_ops (function_ops addresses function) (empty function.parameters)).registers
+
+-- The ops are a finished list, of twelve ops a node at most besides the last return, and of twelve registers a node. So a
+-- frame of 128 bytes and 48 a node has a word for each register.
+pub record IsSmall (addresses : Addresses) (function : node.Function) : Type 0 where
+  pub finished : IsFinished (code_of addresses function) (registers_of addresses function)
+  pub few_ops : length (code_of addresses function) ≤ 12 * size_of function + 1
+  pub few_registers : registers_of addresses function ≤ 12 * size_of function
+
+abbrev pub LoweringIsSmall : Type 0
+LoweringIsSmall = (addresses : Addresses) (function : node.Function) → IsReady function → IsSmall addresses function
 
 -- the staged machine's function for a function of the text
 pub record Stands (addresses : Addresses) (function : node.Function) (main : Function) : Type 0 where

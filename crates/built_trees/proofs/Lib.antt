@@ -1,0 +1,6 @@
+pub mod Counts
+pub mod Lists
+pub mod Plain
+pub mod Ready
+pub mod Views
+pub mod Whole

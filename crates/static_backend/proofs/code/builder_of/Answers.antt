@@ -1,0 +1,15 @@
+use Rattle.std.proofs.Common.{◌≡◌, ap, ◌∙◌}
+use Rattle.icode_ir.specs.Build.{empty}
+use Rattle.icode_ir.specs.Runs.{run_ops}
+use Rattle.tick_lower.specs.Lower.{function_ops}
+use Rattle.tree_view.specs.View.{function_view}
+use Rattle.static_image.specs.Layout.{addresses}
+use Rattle.static_backend.proofs.code.builder_of.Goals as goal
+
+pub unreachable-requires : goal.unreachable-requires
+unreachable-requires c =
+    let function = function_view c.args.function.now in
+    let accepted = c.lowering_is_accepted.ensures addresses function c.requires.ready in
+    let built : c.lower.new.builder.build ≡ run_ops (function_ops addresses function) (empty function.parameters) =
+    c.in_ok-lower.ensures.taken addresses ∙ ap (λ b. run_ops (function_ops addresses function) b.build) c.begin.ensures in
+    c.in-Err.ensures.0 (ap (λ b. b.operands) built ∙ accepted.no_operands) (ap (λ b. b.bodies) built ∙ accepted.no_bodies)

@@ -1,0 +1,67 @@
+//! The places of the registers of a list of ops.
+
+ghost use Rattle.std.specs.Prelude.{◌≡◌, ◌≤◌, IfOk, List, length};
+ghost use Rattle.icode_ops.specs.Finished.{IsFinished};
+ghost use Rattle.icode_ops.specs.Live.{AreIntervals};
+ghost use Rattle.icode_ops.specs.Places.{IsLegal};
+ghost use Rattle.icode_ops.specs.declared.interval.Interval.{Interval as SpecInterval};
+ghost use Rattle.scan_places.specs.Scan.{places_of};
+
+use icode_liveness::Live;
+use icode_ops::{Interval, Op};
+use linear_scan::{SLOT, Scanner};
+use scan_places::intervals_are_scannable;
+use std::alloc::{AllocError, Global};
+
+// Room for so many intervals.
+fn intervals_room(alloc: Global, count: u32) -> Result<Vec<Interval>, AllocError>
+    ensures { IfOk result (λ made. length made.items ≡ count) }
+{
+    let none = Interval {
+        reg: 0,
+        start: 0,
+        end: 0,
+    };
+    let made = vec![in alloc; none; count as usize]?;
+    Ok(made)
+}
+
+// Room for so many places.
+fn places_room(alloc: Global, count: u32) -> Result<Vec<u8>, AllocError>
+    ensures { IfOk result (λ made. length made.items ≡ count) }
+{
+    let made = vec![in alloc; SLOT; count as usize]?;
+    Ok(made)
+}
+
+// Finds the intervals of a finished list of ops, and scans them. There is a place for each register.
+fn scan_places(
+    live: &mut Live,
+    scanner: &mut Scanner,
+    ops: &[Op],
+    out: &mut [Interval],
+    places: &mut [u8],
+)
+    requires finished { IsFinished ops.now (length places.old) }
+    requires room { length places.old ≤ length out.old }
+    ensures scanned { (xs : List SpecInterval) × AreIntervals ops.now xs × (places.new ≡ places_of (length places.old) xs) }
+    ensures legal { IsLegal ops.now (length places.old) places.new }
+{
+    let count = live.intervals(ops, places.len() as u32, out);
+    intervals_are_scannable();
+    scanner.scan(&out[..count], places);
+}
+
+/// The places that linear scan gives to the registers of a finished list of ops. The only error is want of memory.
+pub fn scanned_places(alloc: Global, ops: &[Op], registers: u32) -> Result<Vec<u8>, AllocError>
+    requires { IsFinished ops.now registers }
+    ensures scanned { IfOk result (λ made. (xs : List SpecInterval) × AreIntervals ops.now xs × (made.items ≡ places_of registers xs)) }
+    ensures legal { IfOk result (λ made. IsLegal ops.now registers made.items) }
+{
+    let mut live = Live::new(alloc)?;
+    let mut scanner = Scanner::new(alloc)?;
+    let mut out = intervals_room(alloc, registers)?;
+    let mut made = places_room(alloc, registers)?;
+    scan_places(&mut live, &mut scanner, ops, &mut out, &mut made);
+    Ok(made)
+}

@@ -1,0 +1,118 @@
+-- The start brings a run of an image to main, with the stack empty, and waits with its exit.
+use Rattle.std.proofs.Common.{◌≡◌, ℕ, ◌+◌, ◌-◌, ◌*◌, ◌/◌, ◌<◌, ◌≤◌, false, List, [], ◌∷◌, ◌++◌, length, Option, None, Some, refl, sym, subst, arith, append_assoc, append-nil, length-append, nat_lt, slice_get, replicate}
+use Rattle.std.specs.Fn.{iterate}
+use Rattle.std.proofs.lemmas.List.{length-replicate}
+use Rattle.std.proofs.lemmas.Bool.Decides.{nat_tests}
+use Rattle.word32.specs.declared.map.TheConstants.{TEXT, ARENA, CLOSURES, FUNCTIONS, HEAP}
+use Rattle.flat_memory.specs.Spaces.{text_of}
+use Rattle.history.specs.Events.{Input}
+use Rattle.mips_encoder.specs.Table.{word_of}
+use Rattle.mips_model.specs.State.{Code, Data, set_register}
+use Rattle.mips_model.specs.Steps.{step, going}
+use Rattle.mips_model.specs.Run as machine
+use Rattle.mips_model.specs.Laws.{HasAt, past, at, Reaches}
+use Rattle.mips_model.proofs.Loaded.{AllFit, all_fit_append, loaded}
+use Rattle.mips_model.proofs.Reach.{through, through_runs, reaches_on, step_acts, front, back}
+use Rattle.icode_templates.specs.Assembly.{jal, nop}
+use Rattle.template_effects.proofs.Jumps.{slot_runs}
+use Rattle.forward_simulation.specs.Standing.{WordsAt, exit_code}
+use Rattle.static_image.specs.Layout.{set_cell, set_up, start_code, exit_with_answer, filled}
+
+-- words stand behind those that are in front of them in a text
+get_behind : (xs : List ℕ) (w : ℕ) (rest : List ℕ) → slice_get (xs ++ w ∷ rest) (length xs) ≡ Some w
+get_behind [] w rest = refl
+get_behind (x ∷ xs) w rest = get_behind xs w rest
+
+word_there : (xs : List ℕ) (w : ℕ) (rest : List ℕ) (a : ℕ) → a ≡ 4194304 + 4 * length xs → text_of (xs ++ w ∷ rest) (a / 4) ≡ Some w
+word_there xs w rest a is =
+    let l : nat_lt (a / 4) (TEXT / 4) ≡ false = grind (arith, nat_tests) in
+    let i : a / 4 - TEXT / 4 ≡ length xs = omega (arith, is) in
+    rw (l, i) (get_behind xs w rest)
+
+pub words_there : (xs ws rest : List ℕ) (a : ℕ) → a ≡ 4194304 + 4 * length xs → WordsAt (loaded (xs ++ (ws ++ rest))) a ws
+words_there xs [] rest a is = tt
+words_there xs (w ∷ ws) rest a is =
+    let one = length-append xs (w ∷ []) in
+    let next : a + 4 ≡ 4194304 + 4 * length (xs ++ w ∷ []) = omega (arith, one, is) in (
+      word_there xs w (ws ++ rest) a is,
+      subst (λ (text : List ℕ). WordsAt (loaded text) (a + 4) ws) (append_assoc xs (w ∷ []) (ws ++ rest)) (words_there (xs ++ w ∷ []) ws rest (a + 4) next),
+    )
+
+-- the words of a text's first part, and of its last
+pub first_words : (ws more rest : List ℕ) → WordsAt (loaded ((ws ++ more) ++ rest)) 4194304 ws
+first_words ws more rest = subst (λ (text : List ℕ). WordsAt (loaded text) 4194304 ws) (sym (append_assoc ws more rest)) (words_there [] ws (more ++ rest) 4194304 refl)
+
+pub last_words : (xs ws : List ℕ) (a : ℕ) → a ≡ 4194304 + 4 * length xs → WordsAt (loaded (xs ++ ws)) a ws
+last_words xs ws a is = subst (λ (text : List ℕ). WordsAt (loaded (xs ++ text)) a ws) (append-nil ws) (words_there xs ws [] a is)
+
+pub filled_length : (size : ℕ) (ws : List ℕ) → length ws ≤ size → length (filled size ws) ≡ size
+filled_length size ws le =
+    omega (arith, le, length-append ws (replicate (size - length ws) (word_of nop)), length-replicate (size - length ws) (word_of nop))
+
+-- each instruction of the start has a word
+cell_fits : (below word : ℕ) → 0 < below → word < 4294967296 → AllFit (set_cell below word)
+cell_fits below word some small =
+    ((omega arith, omega (arith, small)), ((omega arith, omega arith, omega arith), ((omega arith, omega (arith, some), omega arith), tt)))
+
+set_up_fits : AllFit (set_up 1)
+set_up_fits = (
+  (omega arith, omega arith),
+  (
+    (omega arith, omega arith),
+    (
+      (omega arith, omega arith),
+      all_fit_append (set_cell 4 HEAP) (set_cell 8 CLOSURES ++ (set_cell 16 2 ++ set_cell 20 ARENA)) (cell_fits 4 HEAP (omega arith) (omega arith))
+          (all_fit_append (set_cell 8 CLOSURES) (set_cell 16 2 ++ set_cell 20 ARENA) (cell_fits 8 CLOSURES (omega arith) (omega arith))
+          (all_fit_append (set_cell 16 2) (set_cell 20 ARENA) (cell_fits 16 2 (omega arith) (omega arith)) (cell_fits 20 ARENA (omega arith) (omega arith)))),
+    ),
+  ),
+)
+
+call_fits : AllFit (jal FUNCTIONS ∷ nop ∷ exit_with_answer)
+call_fits = (omega arith, ((omega arith, omega arith, omega arith), ((omega arith, omega arith, omega arith), ((omega arith, omega arith, omega arith), (tt, tt)))))
+
+pub start_fits : AllFit (start_code FUNCTIONS 1)
+start_fits = all_fit_append (set_up 1) (jal FUNCTIONS ∷ nop ∷ exit_with_answer) set_up_fits call_fits
+
+-- the data behind straight code that runs through
+abbrev pub data_of : Option (ℕ × Data) → Data → Data
+data_of None d = d
+data_of (Some r) d = r.1
+
+module _ (c : Code) (input : Input) (h : HasAt c 4194304 (start_code FUNCTIONS 1)) where
+  abbrev pub first : Data
+  first = machine.first_data [] input
+
+  abbrev pub set : Data
+  set = data_of (through (set_up 1) 0 first) first
+
+  abbrev pub call_at : ℕ
+  call_at = past 4194304 (set_up 1)
+
+  sets_up : Reaches (length (set_up 1)) (at c 4194304 0 first) (at c call_at 0 set)
+  sets_up = through_runs (set_up 1) c 0 4194304 first (0, set) refl (front c 4194304 (set_up 1) (jal FUNCTIONS ∷ nop ∷ exit_with_answer) h)
+
+  rest : HasAt c call_at (jal FUNCTIONS ∷ nop ∷ exit_with_answer)
+  rest = back c 4194304 (set_up 1) (jal FUNCTIONS ∷ nop ∷ exit_with_answer) h
+
+  -- main is called
+  abbrev pub called : Data
+  called = set_register 31 (call_at + 8) set
+
+  calls : Reaches 2 (at c call_at 0 set) (at c FUNCTIONS 0 called)
+  calls = slot_runs c call_at 0 FUNCTIONS set called (step_acts (jal FUNCTIONS) (at c call_at 0 set) rest.0 refl) rest.1.0
+
+  pub comes : iterate step 17 (going (at c 4194304 0 first)) ≡ going (at c FUNCTIONS 0 called)
+  comes = (reaches_on sets_up calls).by
+
+  pub pointer : called.registers 29 ≡ 2147483648
+  pointer = refl
+
+  pub returns_to : called.registers 31 ≡ call_at + 8
+  returns_to = refl
+
+  pub nothing_yet : called.outside.history ≡ []
+  nothing_yet = refl
+
+  pub waits : HasAt c (call_at + 8) exit_code
+  waits = rest.1.1

@@ -1,0 +1,9 @@
+pub mod Appended
+pub mod Arena
+pub mod Faultless
+pub mod Arriving
+pub mod Serving
+pub mod Lows
+pub mod Front
+pub mod Whole
+pub mod Rules

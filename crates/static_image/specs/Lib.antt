@@ -1,0 +1,4 @@
+pub mod Layout
+pub mod Served
+pub mod Headline
+pub mod Laws

@@ -1,0 +1,5 @@
+pub mod Exprs
+pub mod Stmts
+pub mod Rest
+pub mod Taken
+pub mod Returns

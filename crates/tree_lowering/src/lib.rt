@@ -1,0 +1,14 @@
+//! The lowering of a function's typed tree to builder ops, which a builder takes.
+#![tactic(auto)]
+
+mod expressions;
+mod function;
+mod ops;
+mod sizes;
+mod statements;
+#[cfg(test)]
+mod tests;
+mod variables;
+
+pub use function::lower;
+pub use sizes::size;
