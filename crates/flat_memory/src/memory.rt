@@ -1,6 +1,6 @@
 //! Memory by regions: a vector of words for each.
 
-ghost use Rattle.std.specs.Prelude.{◌≡◌, ◌+◌, ◌*◌, ◌/◌, ◌%◌, ◌-◌, ℕ, ◌<◌, ◌≤◌, true, false, length, slice_index, MatchResult, IfOk, Ok, Err};
+ghost use Rattle.std.specs.Prelude.{◌≡◌, ◌+◌, ◌*◌, ◌/◌, ◌%◌, ◌-◌, ℕ, ◌<◌, ◌≤◌, true, false, length, slice_index, MatchResult, IfOk, IfSome, Ok, Err};
 ghost use Rattle.word32.specs.Space.{words_from, bytes_from};
 ghost use Rattle.word32.specs.Space as space;
 ghost use Rattle.word32.specs.Parts as parts;
@@ -231,10 +231,11 @@ impl Memory {
     }
 
     /// The word of the text at an address, which is fetched as an instruction: none where the address is no multiple
-    /// of 4 or lies outside the text.
+    /// of 4 or lies outside the text, which ends where the arena begins.
     #[inline(always)]
     pub fn fetch(&self, at: u32) -> Option<u32>
-        ensures { result ≡ spaces.fetch (spaces_of self.now) at }
+        ensures word { result ≡ spaces.fetch (spaces_of self.now) at }
+        ensures below { IfSome result (λ w. at < 67108864) }
     {
         let from = at.wrapping_sub(map::TEXT);
         let i = (from / 4 + from % 4 * 0x4000_0000) as usize;

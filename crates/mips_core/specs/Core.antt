@@ -1,6 +1,6 @@
 -- What the code keeps of the machine's state, in lists, and the state that it stands for. What passes between a run and
 -- the outside is kept by nobody: here the state has none of it, and whoever runs the core says what it is.
-use Rattle.std.specs.Prelude.{zero, suc, ◌≢◌, ◌⊎◌, ⊤, ◌≡◌, ℕ, ◌+◌, ◌-◌, ◌<◌, Bool, true, false, ◌||◌, nat_eq, if◌then◌else◌, List, [], Option, Some, None, slice_index}
+use Rattle.std.specs.Prelude.{zero, suc, ◌≢◌, ◌⊎◌, ⊤, ◌≡◌, ℕ, ◌+◌, ◌-◌, ◌<◌, Bool, true, false, ◌||◌, nat_eq, nat_lt, Result, Err, if◌then◌else◌, List, [], Option, Some, None, slice_index}
 use Rattle.std.specs.Fn.{iterate}
 use Rattle.flat_memory.specs.Spaces.{Spaces}
 use Rattle.code_arena.specs.Arena.{Arena}
@@ -9,10 +9,15 @@ use Rattle.history.specs.Events.{End}
 use Rattle.history.specs.Events as event
 use Rattle.flat_memory.specs.Regions.{Regions, spaces_of}
 use Rattle.code_arena.specs.Kept.{Kept, arena_of, rows_of}
+use Rattle.word32.specs.declared.map.TheConstants.{ARENA}
+use Rattle.host_edge.specs.declared.ending.MachineKind.{MachineKind}
+use Rattle.host_edge.specs.declared.ending.MachineKind.TheVariants as kind
 use Rattle.mips_core.specs.declared.halt.Halt.{Halt}
 use Rattle.mips_core.specs.declared.halt.Halt.TheVariants.{Ended, Fault}
+use Rattle.mips_core.specs.declared.halt.Went.{Went}
+use Rattle.mips_core.specs.declared.halt.Went.TheVariants as went
 use Rattle.mips_encoder.specs.declared.instruction.Instr.{Instr}
-use Rattle.mips_model.specs.State.{Outside, Data, State, World, set_register}
+use Rattle.mips_model.specs.State.{Outside, Code, Data, State, World, set_register}
 use Rattle.mips_model.specs.Run.{first_outside}
 use Rattle.mips_encoder.specs.declared.instruction.Instr.TheVariants.{Break, Syscall}
 use Rattle.mips_encoder.specs.declared.instruction.MemoryOp.{MemoryOp}
@@ -20,7 +25,7 @@ use Rattle.word32.specs.declared.width.Width.{Width}
 use Rattle.mips_model.specs.Accesses.{load, store}
 use Rattle.mips_model.specs.Services.{answer}
 use Rattle.mips_model.specs.Effects.{gives, access}
-use Rattle.mips_model.specs.Steps.{decoded, execute, apply, onward, step, is_hazard}
+use Rattle.mips_model.specs.Steps.{word_in_arena, decoded, execute, apply, onward, step, is_hazard}
 use Rattle.mips_model.specs.Beside.{beside, is_at_service}
 
 pub record CoreKept : Type 0 where
@@ -42,6 +47,16 @@ pub record IsCore (k : CoreKept) : Type 0 where
   pub is_register : k.loaded < 32
   pub next_is_low : k.pc < 4294967292 → k.next < 4294967296
   pub next_is_near : k.next < 4294967300
+
+-- What is behind the next instruction: a branch's target or the next word, as the next instruction stands in a slot or
+-- doesn't. Where nothing is pending, no register was loaded, HI and LO may be set, and no slot is next.
+abbrev pub next_of : (slot : Bool) (target pc : ℕ) → ℕ
+next_of slot target pc = if slot then target else (pc + 4)
+
+pub record IsSettled (pending slot : Bool) (loaded recent : ℕ) : Type 0 where
+  pub no_slot : pending ≡ false → slot ≡ false
+  pub not_loaded : pending ≡ false → loaded ≡ 0
+  pub not_recent : pending ≡ false → recent ≡ 0
 
 -- nothing of the outside
 abbrev pub nothing : Outside
@@ -93,6 +108,21 @@ abbrev pub moved : (next : ℕ) (slot : Bool) → World → World
 moved next slot w =
     record w { state = record w.state { pc = w.state.next; next = next; loaded = 0; recent = w.state.recent - 1; slot = slot } }
 
+abbrev pub with_loaded : ℕ → World → World
+with_loaded r w = record w { state = record w.state { loaded = r } }
+
+abbrev pub with_recent : ℕ → World → World
+with_recent n w = record w { state = record w.state { recent = n } }
+
+-- HI or LO was read a while ago, if this number isn't 0
+abbrev pub is_recent : ℕ → Bool
+is_recent n = if nat_eq n 0 then false else true
+
+-- an instruction that has this ending behind it went on, or stopped the run
+abbrev pub went_of : Option End → Went
+went_of None = went.On
+went_of (Some e) = went.Stopped
+
 abbrev pub chosen : Bool → ℕ → ℕ → ℕ
 chosen taken target other = if taken then target else other
 
@@ -132,6 +162,10 @@ accessing op r at s = apply (access op r at s.d) (s.recent - 1) s
 pub record GoesOn (count : ℕ) (old new : CoreKept) : Type 0 where
   pub ran : (o : Outside) → iterate step count (beside o (world_of old)) ≡ beside o (world_of new)
   pub alive : (o : Outside) (m : ℕ) → m < count → (iterate step m (beside o (world_of old))).ending ≡ None
+
+-- the word at an address that has none in the text
+abbrev pub word_past_text : Code → ℕ → Result ℕ MachineKind
+word_past_text c at = if nat_lt at ARENA then Err kind.Fetch else word_in_arena c at
 
 -- the loop stops before its count where the machine has stopped, or a service is next
 abbrev pub Pauses : ℕ → CoreKept → Type 0

@@ -12,6 +12,7 @@ ghost use Rattle.mips_core.specs.Core.{state_of, data_of, world_of};
 
 use crate::arithmetic::widened;
 use crate::core_state::Core;
+use crate::halt::Went;
 use flat_memory::Access;
 use host_edge::{Ending, MachineKind, TrapKind};
 use mips_encoder::{MemoryOp, Register, immediate as low_half, rs, rt};
@@ -33,27 +34,30 @@ fn is_in_table(at: u32) -> bool
 
 impl Core {
     /// A value was loaded to a register.
-    #[inline]
-    fn take(&mut self, r: Register, v: u32)
+    #[inline(always)]
+    fn take(&mut self, r: Register, v: u32) -> Went
         requires on { self.old.stopped ≡ None }
         requires next { self.old.next < 4294967296 }
-        ensures { world_of self.new ≡ spec.took r v (state_of self.old) }
+        ensures world { world_of self.new ≡ spec.took r v (state_of self.old) }
+        ensures went { result ≡ spec.went_of (world_of self.new).ending }
     {
         self.advance();
         self.write(r, v);
-        self.loaded = r.number();
+        self.set_loaded(r);
+        Went::On
     }
 
     /// A word holds what is loaded to a register.
-    fn take_part(&mut self, r: Register, at: u32, width: Width, word: u32)
+    fn take_part(&mut self, r: Register, at: u32, width: Width, word: u32) -> Went
         requires on { self.old.stopped ≡ None }
         requires next { self.old.next < 4294967296 }
-        ensures { world_of self.new ≡ steps.reads (Some word) r at width (self.old.recent - 1) (state_of self.old) }
+        ensures world { world_of self.new ≡ steps.reads (Some word) r at width (self.old.recent - 1) (state_of self.old) }
+        ensures went { result ≡ spec.went_of (world_of self.new).ending }
     {
         if is_aligned(at, width) {
-            self.take(r, loaded_part(word, at, width));
+            self.take(r, loaded_part(word, at, width))
         } else {
-            self.end(Ending::Trap(TrapKind::Misaligned));
+            self.end(Ending::Trap(TrapKind::Misaligned))
         }
     }
 
@@ -70,28 +74,30 @@ impl Core {
 
     /// A load from the arena or the function table.
     #[inline(never)]
-    fn load_elsewhere(&mut self, r: Register, at: u32, width: Width)
+    fn load_elsewhere(&mut self, r: Register, at: u32, width: Width) -> Went
         requires on { self.old.stopped ≡ None }
         requires next { self.old.next < 4294967296 }
         requires outside { flat.load (spaces_of self.old.memory) at width ≡ Err Access.Outside }
-        ensures { world_of self.new ≡ spec.loading r at width (state_of self.old) }
+        ensures world { world_of self.new ≡ spec.loading r at width (state_of self.old) }
+        ensures went { result ≡ spec.went_of (world_of self.new).ending }
     {
         if is_in_arena(at) {
             let word = self.arena.read(at / 4 - map::ARENA / 4);
-            self.take_part(r, at, width, word);
+            self.take_part(r, at, width, word)
         } else if is_in_table(at) {
             let word = self.table_word(at);
-            self.take_part(r, at, width, word);
+            self.take_part(r, at, width, word)
         } else {
-            self.end(Ending::Trap(TrapKind::Range));
+            self.end(Ending::Trap(TrapKind::Range))
         }
     }
 
     #[inline(always)]
-    fn load(&mut self, r: Register, at: u32, width: Width)
+    fn load(&mut self, r: Register, at: u32, width: Width) -> Went
         requires on { self.old.stopped ≡ None }
         requires next { self.old.next < 4294967296 }
-        ensures { world_of self.new ≡ spec.loading r at width (state_of self.old) }
+        ensures world { world_of self.new ≡ spec.loading r at width (state_of self.old) }
+        ensures went { result ≡ spec.went_of (world_of self.new).ending }
     {
         match self.memory.load(at, width) {
             Ok(v) => self.take(r, v),
@@ -102,11 +108,12 @@ impl Core {
 
     /// A store to the arena, or one that is refused.
     #[inline(never)]
-    fn store_elsewhere(&mut self, at: u32, width: Width, w: u32)
+    fn store_elsewhere(&mut self, at: u32, width: Width, w: u32) -> Went
         requires on { self.old.stopped ≡ None }
         requires next { self.old.next < 4294967296 }
         requires outside { flat.store (spaces_of self.old.memory) at width w ≡ Err Access.Outside }
-        ensures { world_of self.new ≡ spec.storing at width w (state_of self.old) }
+        ensures world { world_of self.new ≡ spec.storing at width w (state_of self.old) }
+        ensures went { result ≡ spec.went_of (world_of self.new).ending }
     {
         let aligned = is_aligned(at, width);
         if is_in_arena(at) && aligned {
@@ -114,21 +121,26 @@ impl Core {
             self.arena
                 .write(i, stored_part(self.arena.read(i), at, width, w));
             self.advance();
+            Went::On
         } else if (is_in_arena(at) || is_in_table(at)) && !aligned {
-            self.end(Ending::Trap(TrapKind::Misaligned));
+            self.end(Ending::Trap(TrapKind::Misaligned))
         } else {
-            self.end(Ending::Trap(TrapKind::Range));
+            self.end(Ending::Trap(TrapKind::Range))
         }
     }
 
     #[inline(always)]
-    fn store(&mut self, at: u32, width: Width, w: u32)
+    fn store(&mut self, at: u32, width: Width, w: u32) -> Went
         requires on { self.old.stopped ≡ None }
         requires next { self.old.next < 4294967296 }
-        ensures { world_of self.new ≡ spec.storing at width w (state_of self.old) }
+        ensures world { world_of self.new ≡ spec.storing at width w (state_of self.old) }
+        ensures went { result ≡ spec.went_of (world_of self.new).ending }
     {
         match self.memory.store(at, width, w) {
-            Ok(()) => self.advance(),
+            Ok(()) => {
+                self.advance();
+                Went::On
+            }
             Err(Access::Outside) => self.store_elsewhere(at, width, w),
             Err(Access::Misaligned) => self.end(Ending::Trap(TrapKind::Misaligned)),
             Err(Access::ReadOnly) => self.end(Ending::Trap(TrapKind::Range)),
@@ -136,10 +148,11 @@ impl Core {
     }
 
     #[inline(always)]
-    fn access(&mut self, op: MemoryOp, r: Register, at: u32)
+    fn access(&mut self, op: MemoryOp, r: Register, at: u32) -> Went
         requires on { self.old.stopped ≡ None }
         requires next { self.old.next < 4294967296 }
-        ensures { world_of self.new ≡ spec.accessing op r at (state_of self.old) }
+        ensures world { world_of self.new ≡ spec.accessing op r at (state_of self.old) }
+        ensures went { result ≡ spec.went_of (world_of self.new).ending }
     {
         match op {
             MemoryOp::Lb => self.load(r, at, Width::SignedByte),
@@ -154,10 +167,11 @@ impl Core {
     }
 
     #[inline(always)]
-    pub(crate) fn access_memory(&mut self, op: MemoryOp, w: u32)
+    pub(crate) fn access_memory(&mut self, op: MemoryOp, w: u32) -> Went
         requires on { self.old.stopped ≡ None }
         requires next { self.old.next < 4294967296 }
-        ensures { world_of self.new ≡ spec.does (table.memory op w) (state_of self.old) }
+        ensures world { world_of self.new ≡ spec.does (table.memory op w) (state_of self.old) }
+        ensures went { result ≡ spec.went_of (world_of self.new).ending }
     {
         if self.is_loaded(rt(w), rs(w), rs(w)) {
             return self.fault(MachineKind::Hazard);

@@ -16,7 +16,7 @@ pub fn widened(n: Immediate) -> u32
     ensures { result ≡ widened_half n }
 {
     let bits = n.bits();
-    bits.wrapping_sub(bits / 32768 * 65536)
+    (bits.wrapping_add(32768) % 65536).wrapping_sub(32768)
 }
 
 #[inline]

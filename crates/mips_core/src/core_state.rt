@@ -10,7 +10,7 @@ ghost use Rattle.mips_model.specs.Steps as steps;
 ghost use Rattle.mips_core.specs.Core as spec;
 ghost use Rattle.mips_core.specs.Core.{state_of, data_of, world_of};
 
-use crate::halt::Halt;
+use crate::halt::{Halt, Went};
 use code_arena::{CodeArena, FunctionRows};
 use flat_memory::Memory;
 use host_edge::{Ending, MachineKind};
@@ -26,10 +26,13 @@ pub struct Core {
     pub(crate) hi: u32,
     pub(crate) lo: u32,
     pub(crate) pc: u32,
-    pub(crate) next: u64,
+    // where the run goes on behind a delay slot, if the next instruction stands in one
+    pub(crate) target: u64,
     pub(crate) loaded: u32,
     pub(crate) recent: u32,
     pub(crate) slot: bool,
+    // where it isn't set, nothing was loaded, HI and LO may be set, and no delay slot is next
+    pub(crate) pending: bool,
     pub(crate) memory: Memory,
     pub(crate) arena: CodeArena,
     pub(crate) table: FunctionRows,
@@ -37,7 +40,8 @@ pub struct Core {
 }
 
 impl Model for Core {
-    ghost use Rattle.mips_core.specs.Core.{CoreKept, IsCore};
+    ghost use Rattle.std.specs.Prelude.{◌≡◌, slice_index};
+    ghost use Rattle.mips_core.specs.Core.{CoreKept, IsCore, IsSettled, next_of};
 
     ghost Value = { CoreKept };
 
@@ -46,7 +50,7 @@ impl Model for Core {
       hi = m.hi;
       lo = m.lo;
       pc = m.pc;
-      next = m.next;
+      next = next_of m.slot m.target m.pc;
       loaded = m.loaded;
       recent = m.recent;
       slot = m.slot;
@@ -61,7 +65,7 @@ impl Model for Core {
       hi = m.hi;
       lo = m.lo;
       pc = m.pc;
-      next = m.next;
+      next = next_of m.slot m.target m.pc;
       loaded = m.loaded;
       recent = m.recent;
       slot = m.slot;
@@ -69,7 +73,7 @@ impl Model for Core {
       arena = m.arena;
       table = m.table;
       stopped = m.stopped;
-    }) };
+    }) × ((slice_index m.registers 0 ≡ 0) × IsSettled m.pending m.slot m.loaded m.recent) };
 }
 
 impl Core {
@@ -97,10 +101,11 @@ impl Core {
             hi: 0,
             lo: 0,
             pc: entry,
-            next: u64::from(entry) + 4,
+            target: 0,
             loaded: 0,
             recent: 0,
             slot: false,
+            pending: false,
             memory,
             arena,
             table,
@@ -109,20 +114,15 @@ impl Core {
     }
 
     /// The value of a register.
-    #[inline]
+    #[inline(always)]
     pub fn register(&self, r: Register) -> u32
         ensures { result ≡ model.register r (data_of self.now) }
     {
-        let k = r.number();
-        if k == 0 {
-            0
-        } else {
-            self.registers[k as usize]
-        }
+        self.registers[r.number() as usize]
     }
 
     /// Why the machine has stopped, if it has.
-    #[inline]
+    #[inline(always)]
     pub fn stopped(&self) -> Option<Halt>
         ensures { result ≡ self.now.stopped }
     {
@@ -130,18 +130,16 @@ impl Core {
     }
 
     /// Writes a register.
-    #[inline]
+    #[inline(always)]
     pub(crate) fn write(&mut self, r: Register, v: u32)
         ensures { world_of self.new ≡ spec.wrote r v (world_of self.old) }
     {
-        let k = r.number();
-        if k != 0 {
-            self.registers[k as usize] = v;
-        }
+        self.registers[r.number() as usize] = v;
+        self.registers[0] = 0;
     }
 
     /// Stops the machine.
-    #[inline]
+    #[inline(always)]
     pub(crate) fn stop(&mut self, halt: Halt)
         ensures state { state_of self.new ≡ state_of self.old }
         ensures stopped { self.new.stopped ≡ Some halt }
@@ -150,89 +148,22 @@ impl Core {
     }
 
     /// The program ends.
-    #[inline]
-    pub(crate) fn end(&mut self, e: Ending)
-        ensures { world_of self.new ≡ steps.ended (spec.ends e) (state_of self.old) }
+    #[inline(always)]
+    pub(crate) fn end(&mut self, e: Ending) -> Went
+        ensures world { world_of self.new ≡ steps.ended (spec.ends e) (state_of self.old) }
+        ensures went { result ≡ Went.Stopped }
     {
         self.stop(Halt::Ended(e));
+        Went::Stopped
     }
 
     /// The machine refuses the next instruction.
-    #[inline]
-    pub(crate) fn fault(&mut self, kind: MachineKind)
-        ensures { world_of self.new ≡ steps.faulted kind (state_of self.old) }
+    #[inline(always)]
+    pub(crate) fn fault(&mut self, kind: MachineKind) -> Went
+        ensures world { world_of self.new ≡ steps.faulted kind (state_of self.old) }
+        ensures went { result ≡ Went.Stopped }
     {
         self.stop(Halt::Fault(kind, self.pc));
-    }
-
-    /// On to the next instruction.
-    #[inline]
-    pub(crate) fn advance(&mut self)
-        requires { self.old.next < 4294967296 }
-        ensures { world_of self.new ≡ spec.moved (self.old.next + 4) false (world_of self.old) }
-    {
-        self.pc = self.next as u32;
-        self.next += 4;
-        self.slot = false;
-        self.loaded = 0;
-        if self.recent != 0 {
-            self.recent -= 1;
-        }
-    }
-
-    /// On to the next instruction, which is a delay slot, and from there to a target.
-    #[inline]
-    pub(crate) fn branch(&mut self, taken: bool, target: u32)
-        requires { self.old.next < 4294967296 }
-        ensures { world_of self.new ≡ spec.moved (spec.chosen taken target (self.old.next + 4)) true (world_of self.old) }
-    {
-        self.pc = self.next as u32;
-        self.next = if taken {
-            u64::from(target)
-        } else {
-            self.next + 4
-        };
-        self.slot = true;
-        self.loaded = 0;
-        if self.recent != 0 {
-            self.recent -= 1;
-        }
-    }
-
-    /// Whether the last instruction loaded one of these registers.
-    #[inline]
-    pub(crate) fn is_loaded(&self, a: Register, b: Register, c: Register) -> bool
-        ensures { result ≡ spec.is_loaded self.now.loaded a b c }
-    {
-        self.loaded != 0
-            && (a.number() == self.loaded || b.number() == self.loaded || c.number() == self.loaded)
-    }
-
-    /// The address behind the delay slot.
-    #[inline]
-    pub(crate) fn link(&self) -> u32
-        requires { self.now.next < 4294967296 }
-        ensures { result ≡ (self.now.next + 4) % 4294967296 }
-    {
-        (self.next as u32).wrapping_add(4)
-    }
-
-    /// Where a branch goes that is taken.
-    #[inline]
-    pub(crate) fn branch_target(&self, offset: u32) -> u32
-        requires { self.now.next < 4294967296 }
-        ensures { result ≡ (self.now.next + 4 * offset) % 4294967296 }
-    {
-        (self.next as u32).wrapping_add(offset.wrapping_mul(4))
-    }
-
-    /// The address of a word of the 256 megabytes that the delay slot stands in.
-    #[inline]
-    pub(crate) fn segment_target(&self, word: u32) -> u32
-        requires next { self.now.next < 4294967296 }
-        requires word { word < 67108864 }
-        ensures { result ≡ self.now.next / 268435456 * 268435456 + 4 * word }
-    {
-        (self.next as u32) / 268435456 * 268435456 + 4 * word
+        Went::Stopped
     }
 }

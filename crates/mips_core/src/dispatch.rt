@@ -1,11 +1,12 @@
 //! Which row of the instruction table a word belongs to: by its opcode, and of the opcodes 0 and 1 by a second field.
 
-ghost use Rattle.std.specs.Prelude.{◌≡◌, ◌≢◌, ◌<◌, None};
+ghost use Rattle.std.specs.Prelude.{◌≡◌, ◌≢◌, ◌<◌, ◌≤◌, ◌%◌, None};
 ghost use Rattle.mips_encoder.specs.Decoded as table;
 ghost use Rattle.mips_core.specs.Core as spec;
 ghost use Rattle.mips_core.specs.Core.{state_of, world_of};
 
 use crate::core_state::Core;
+use crate::halt::Went;
 use host_edge::MachineKind;
 use mips_encoder::{
     ArithmeticOp, EqualityOp, HiLo, ImmediateOp, MemoryOp, MultiplyDivideOp, ShiftOp,
@@ -13,11 +14,12 @@ use mips_encoder::{
 };
 
 impl Core {
-    #[inline]
-    fn execute_regimm(&mut self, w: u32)
+    #[inline(always)]
+    fn execute_regimm(&mut self, w: u32) -> Went
         requires on { self.old.stopped ≡ None }
         requires next { self.old.next < 4294967296 }
-        ensures { world_of self.new ≡ spec.does (table.of_regimm w) (state_of self.old) }
+        ensures world { world_of self.new ≡ spec.does (table.of_regimm w) (state_of self.old) }
+        ensures went { result ≡ spec.went_of (world_of self.new).ending }
     {
         match w / 65536 % 32 {
             0 => self.branch_on_sign(SignTest::Negative, w),
@@ -28,12 +30,28 @@ impl Core {
         }
     }
 
-    #[inline]
-    fn execute_special(&mut self, w: u32)
+    /// A word whose function code is that of SYSCALL: it isn't executed here where it is SYSCALL, and refused else.
+    #[inline(always)]
+    fn pause(&mut self, w: u32) -> Went
+        requires on { self.old.stopped ≡ None }
+        requires code { w % 64 ≡ 12 }
+        ensures service { w ≡ 12 → (result ≡ Went.Service) × (self.new ≡ self.old) }
+        ensures other { w ≢ 12 → (world_of self.new ≡ spec.does (table.of_special w) (state_of self.old)) × (result ≡ spec.went_of (world_of self.new).ending) }
+    {
+        if w == 12 {
+            Went::Service
+        } else {
+            self.fault(MachineKind::Reserved)
+        }
+    }
+
+    /// A word with the opcode 0.
+    #[inline(always)]
+    fn execute_special(&mut self, w: u32) -> Went
         requires on { self.old.stopped ≡ None }
         requires next { self.old.next < 4294967296 }
-        requires no_service { w ≢ 12 }
-        ensures { world_of self.new ≡ spec.does (table.of_special w) (state_of self.old) }
+        ensures service { w ≡ 12 → (result ≡ Went.Service) × (self.new ≡ self.old) }
+        ensures other { w ≢ 12 → (world_of self.new ≡ spec.does (table.of_special w) (state_of self.old)) × (result ≡ spec.went_of (world_of self.new).ending) }
     {
         match w % 64 {
             0 => self.shift(ShiftOp::Sll, w),
@@ -44,7 +62,7 @@ impl Core {
             7 => self.shift_variable(ShiftVariableOp::Srav, w),
             8 => self.jump_register(w),
             9 => self.jump_and_link_register(w),
-            12 => self.fault(MachineKind::Reserved),
+            12 => self.pause(w),
             13 => self.break_with(w),
             16 => self.move_from(HiLo::Hi, w),
             17 => self.move_to(HiLo::Hi, w),
@@ -68,16 +86,16 @@ impl Core {
         }
     }
 
-    /// Executes the instruction of a word that isn't SYSCALL's.
-    #[inline]
-    pub(crate) fn execute(&mut self, w: u32)
+    /// A word with another opcode.
+    #[inline(always)]
+    fn execute_coded(&mut self, w: u32) -> Went
         requires on { self.old.stopped ≡ None }
         requires next { self.old.next < 4294967296 }
-        requires no_service { w ≢ 12 }
-        ensures { world_of self.new ≡ spec.does (table.instr_of w) (state_of self.old) }
+        requires high { 67108864 ≤ w }
+        ensures world { world_of self.new ≡ spec.does (table.instr_of w) (state_of self.old) }
+        ensures went { result ≡ spec.went_of (world_of self.new).ending }
     {
         match w / 67108864 {
-            0 => self.execute_special(w),
             1 => self.execute_regimm(w),
             2 => self.jump(w),
             3 => self.jump_and_link(w),
@@ -102,6 +120,21 @@ impl Core {
             41 => self.access_memory(MemoryOp::Sh, w),
             43 => self.access_memory(MemoryOp::Sw, w),
             _ => self.fault(MachineKind::Reserved),
+        }
+    }
+
+    /// Executes the instruction of a word, unless it is SYSCALL.
+    #[inline(always)]
+    pub(crate) fn execute(&mut self, w: u32) -> Went
+        requires on { self.old.stopped ≡ None }
+        requires next { self.old.next < 4294967296 }
+        ensures service { w ≡ 12 → (result ≡ Went.Service) × (self.new ≡ self.old) }
+        ensures other { w ≢ 12 → (world_of self.new ≡ spec.does (table.instr_of w) (state_of self.old)) × (result ≡ spec.went_of (world_of self.new).ending) }
+    {
+        if w < 67108864 {
+            self.execute_special(w)
+        } else {
+            self.execute_coded(w)
         }
     }
 }

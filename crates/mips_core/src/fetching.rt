@@ -8,31 +8,17 @@ ghost use Rattle.mips_model.specs.Beside as beside;
 ghost use Rattle.mips_core.specs.Core.{state_of, world_of};
 
 use crate::core_state::Core;
+use crate::halt::Went;
 use host_edge::MachineKind;
 use word32::map;
 
-/// The word of SYSCALL.
-const SYSCALL: u32 = 12;
-
-/// Whether a word was fetched, and is SYSCALL's.
-#[inline]
-fn is_service(w: &Result<u32, MachineKind>) -> bool
-    ensures { result ≡ beside.is_service w.now }
-{
-    match w {
-        Ok(w) => *w == SYSCALL,
-        Err(_) => false,
-    }
-}
-
 impl Core {
-    /// A word of the arena that is executed.
-    #[inline]
+    /// The word of the next instruction where it isn't in the text, or why none is executed.
+    #[inline(always)]
     fn fetch_from_arena(&self) -> Result<u32, MachineKind>
-        requires { 67108864 ≤ self.now.pc }
-        ensures { result ≡ steps.word_in_arena (state_of self.now).code self.now.pc }
+        ensures { result ≡ spec.word_past_text (state_of self.now).code self.now.pc }
     {
-        let from = self.pc - map::ARENA;
+        let from = self.pc.wrapping_sub(map::ARENA);
         let i = from / 4 + from % 4 * 0x4000_0000;
         if i < map::ARENA_WORDS {
             match self.arena.fetch(i) {
@@ -45,29 +31,25 @@ impl Core {
     }
 
     /// The word of the next instruction, or why none is executed.
-    #[inline]
+    #[inline(always)]
     pub(crate) fn fetch(&self) -> Result<u32, MachineKind>
         ensures word { result ≡ steps.word_at (state_of self.now).code self.now.pc }
         ensures next { IfOk result (λ w. self.now.next < 4294967296) }
     {
-        if self.pc < map::ARENA {
-            match self.memory.fetch(self.pc) {
-                Some(w) => Ok(w),
-                None => Err(MachineKind::Fetch),
-            }
-        } else {
-            self.fetch_from_arena()
+        match self.memory.fetch(self.pc) {
+            Some(w) => Ok(w),
+            None => self.fetch_from_arena(),
         }
     }
 
-    /// One instruction that isn't SYSCALL.
-    #[inline]
-    fn step(&mut self, w: Result<u32, MachineKind>)
+    /// One instruction, unless it is SYSCALL.
+    #[inline(always)]
+    fn step(&mut self, w: Result<u32, MachineKind>) -> Went
         requires on { self.old.stopped ≡ None }
         requires word { w ≡ steps.word_at (state_of self.old).code self.old.pc }
         requires next { IfOk w (λ w. self.old.next < 4294967296) }
-        requires no_service { beside.is_service w ≡ false }
-        ensures { world_of self.new ≡ steps.step (world_of self.old) }
+        ensures service { beside.is_service w ≡ true → (result ≡ Went.Service) × (self.new ≡ self.old) }
+        ensures other { beside.is_service w ≡ false → (world_of self.new ≡ steps.step (world_of self.old)) × (result ≡ spec.went_of (world_of self.new).ending) }
     {
         match w {
             Ok(w) => self.execute(w),
@@ -85,15 +67,12 @@ impl Core {
     {
         let mut left = n;
         while left > 0 {
-            if let Some(_) = self.stopped {
-                return left;
-            }
             let w = self.fetch();
-            if is_service(&w) {
-                return left;
+            match self.step(w) {
+                Went::On => left -= 1,
+                Went::Stopped => return left - 1,
+                Went::Service => return left,
             }
-            self.step(w);
-            left -= 1;
         }
         0
     }

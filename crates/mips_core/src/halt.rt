@@ -10,3 +10,14 @@ pub enum Halt {
     /// The machine refused the instruction at this address.
     Fault(MachineKind, u32),
 }
+
+/// What became of an instruction.
+#[derive(Clone, Copy, Debug, PartialEq, Eq)]
+pub enum Went {
+    /// It was executed, and the run goes on.
+    On,
+    /// It ended the run, or was refused.
+    Stopped,
+    /// It is SYSCALL, and was not executed.
+    Service,
+}

@@ -4,6 +4,7 @@
 mod accesses;
 mod arithmetic;
 mod branches;
+mod control;
 mod core_state;
 mod dispatch;
 mod fetching;

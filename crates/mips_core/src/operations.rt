@@ -8,6 +8,7 @@ ghost use Rattle.mips_core.specs.Core.{state_of, world_of};
 
 use crate::arithmetic::{arithmetic, by_number, immediate, multiply_divide, shifted};
 use crate::core_state::Core;
+use crate::halt::Went;
 use host_edge::MachineKind;
 use mips_encoder::{
     ArithmeticOp, HiLo, ImmediateOp, MultiplyDivideOp, Register, ShiftOp, ShiftVariableOp,
@@ -15,26 +16,29 @@ use mips_encoder::{
 };
 
 impl Core {
-    #[inline]
-    fn give(&mut self, r: Register, v: Option<u32>)
+    #[inline(always)]
+    fn give(&mut self, r: Register, v: Option<u32>) -> Went
         requires on { self.old.stopped ≡ None }
         requires next { self.old.next < 4294967296 }
-        ensures { world_of self.new ≡ spec.given r v (state_of self.old) }
+        ensures world { world_of self.new ≡ spec.given r v (state_of self.old) }
+        ensures went { result ≡ spec.went_of (world_of self.new).ending }
     {
         match v {
             Some(v) => {
                 self.advance();
                 self.write(r, v);
+                Went::On
             }
             None => self.fault(MachineKind::Overflow),
         }
     }
 
-    #[inline]
-    pub(crate) fn arithmetic(&mut self, op: ArithmeticOp, w: u32)
+    #[inline(always)]
+    pub(crate) fn arithmetic(&mut self, op: ArithmeticOp, w: u32) -> Went
         requires on { self.old.stopped ≡ None }
         requires next { self.old.next < 4294967296 }
-        ensures { world_of self.new ≡ spec.does (table.arithmetic op w) (state_of self.old) }
+        ensures world { world_of self.new ≡ spec.does (table.arithmetic op w) (state_of self.old) }
+        ensures went { result ≡ spec.went_of (world_of self.new).ending }
     {
         if w / 64 % 32 != 0 {
             return self.fault(MachineKind::Reserved);
@@ -46,11 +50,12 @@ impl Core {
         self.give(rd(w), v)
     }
 
-    #[inline]
-    pub(crate) fn immediate(&mut self, op: ImmediateOp, w: u32)
+    #[inline(always)]
+    pub(crate) fn immediate(&mut self, op: ImmediateOp, w: u32) -> Went
         requires on { self.old.stopped ≡ None }
         requires next { self.old.next < 4294967296 }
-        ensures { world_of self.new ≡ spec.does (table.immediate_arithmetic op w) (state_of self.old) }
+        ensures world { world_of self.new ≡ spec.does (table.immediate_arithmetic op w) (state_of self.old) }
+        ensures went { result ≡ spec.went_of (world_of self.new).ending }
     {
         if self.is_loaded(rt(w), rs(w), rs(w)) {
             return self.fault(MachineKind::Hazard);
@@ -59,11 +64,12 @@ impl Core {
         self.give(rt(w), v)
     }
 
-    #[inline]
-    pub(crate) fn shift(&mut self, op: ShiftOp, w: u32)
+    #[inline(always)]
+    pub(crate) fn shift(&mut self, op: ShiftOp, w: u32) -> Went
         requires on { self.old.stopped ≡ None }
         requires next { self.old.next < 4294967296 }
-        ensures { world_of self.new ≡ spec.does (table.shift op w) (state_of self.old) }
+        ensures world { world_of self.new ≡ spec.does (table.shift op w) (state_of self.old) }
+        ensures went { result ≡ spec.went_of (world_of self.new).ending }
     {
         if w / 2097152 % 32 != 0 {
             return self.fault(MachineKind::Reserved);
@@ -74,13 +80,15 @@ impl Core {
         let v = shifted(op, self.register(rt(w)), shamt(w).bits());
         self.advance();
         self.write(rd(w), v);
+        Went::On
     }
 
-    #[inline]
-    pub(crate) fn shift_variable(&mut self, op: ShiftVariableOp, w: u32)
+    #[inline(always)]
+    pub(crate) fn shift_variable(&mut self, op: ShiftVariableOp, w: u32) -> Went
         requires on { self.old.stopped ≡ None }
         requires next { self.old.next < 4294967296 }
-        ensures { world_of self.new ≡ spec.does (table.shift_variable op w) (state_of self.old) }
+        ensures world { world_of self.new ≡ spec.does (table.shift_variable op w) (state_of self.old) }
+        ensures went { result ≡ spec.went_of (world_of self.new).ending }
     {
         if w / 64 % 32 != 0 {
             return self.fault(MachineKind::Reserved);
@@ -91,13 +99,15 @@ impl Core {
         let v = shifted(by_number(op), self.register(rt(w)), self.register(rs(w)));
         self.advance();
         self.write(rd(w), v);
+        Went::On
     }
 
-    #[inline]
-    pub(crate) fn load_upper(&mut self, w: u32)
+    #[inline(always)]
+    pub(crate) fn load_upper(&mut self, w: u32) -> Went
         requires on { self.old.stopped ≡ None }
         requires next { self.old.next < 4294967296 }
-        ensures { world_of self.new ≡ spec.does (table.load_upper_immediate w) (state_of self.old) }
+        ensures world { world_of self.new ≡ spec.does (table.load_upper_immediate w) (state_of self.old) }
+        ensures went { result ≡ spec.went_of (world_of self.new).ending }
     {
         if w / 2097152 % 32 != 0 {
             return self.fault(MachineKind::Reserved);
@@ -107,13 +117,15 @@ impl Core {
         }
         self.advance();
         self.write(rt(w), w % 65536 * 65536);
+        Went::On
     }
 
-    #[inline]
-    pub(crate) fn move_from(&mut self, half: HiLo, w: u32)
+    #[inline(always)]
+    pub(crate) fn move_from(&mut self, half: HiLo, w: u32) -> Went
         requires on { self.old.stopped ≡ None }
         requires next { self.old.next < 4294967296 }
-        ensures { world_of self.new ≡ spec.does (table.move_from half w) (state_of self.old) }
+        ensures world { world_of self.new ≡ spec.does (table.move_from half w) (state_of self.old) }
+        ensures went { result ≡ spec.went_of (world_of self.new).ending }
     {
         if w / 65536 != 0 || w / 64 % 32 != 0 {
             return self.fault(MachineKind::Reserved);
@@ -127,19 +139,21 @@ impl Core {
         };
         self.advance();
         self.write(rd(w), v);
-        self.recent = 2;
+        self.set_recent();
+        Went::On
     }
 
-    #[inline]
-    pub(crate) fn move_to(&mut self, half: HiLo, w: u32)
+    #[inline(always)]
+    pub(crate) fn move_to(&mut self, half: HiLo, w: u32) -> Went
         requires on { self.old.stopped ≡ None }
         requires next { self.old.next < 4294967296 }
-        ensures { world_of self.new ≡ spec.does (table.move_to half w) (state_of self.old) }
+        ensures world { world_of self.new ≡ spec.does (table.move_to half w) (state_of self.old) }
+        ensures went { result ≡ spec.went_of (world_of self.new).ending }
     {
         if w / 64 % 32768 != 0 {
             return self.fault(MachineKind::Reserved);
         }
-        if self.recent != 0 || self.is_loaded(rs(w), rs(w), rs(w)) {
+        if self.is_recent() || self.is_loaded(rs(w), rs(w), rs(w)) {
             return self.fault(MachineKind::Hazard);
         }
         let v = self.register(rs(w));
@@ -148,23 +162,26 @@ impl Core {
             HiLo::Hi => self.hi = v,
             HiLo::Lo => self.lo = v,
         }
+        Went::On
     }
 
-    #[inline]
-    pub(crate) fn multiply_divide(&mut self, op: MultiplyDivideOp, w: u32)
+    #[inline(always)]
+    pub(crate) fn multiply_divide(&mut self, op: MultiplyDivideOp, w: u32) -> Went
         requires on { self.old.stopped ≡ None }
         requires next { self.old.next < 4294967296 }
-        ensures { world_of self.new ≡ spec.does (table.multiply_divide op w) (state_of self.old) }
+        ensures world { world_of self.new ≡ spec.does (table.multiply_divide op w) (state_of self.old) }
+        ensures went { result ≡ spec.went_of (world_of self.new).ending }
     {
         if w / 64 % 1024 != 0 {
             return self.fault(MachineKind::Reserved);
         }
-        if self.recent != 0 || self.is_loaded(rs(w), rt(w), rt(w)) {
+        if self.is_recent() || self.is_loaded(rs(w), rt(w), rt(w)) {
             return self.fault(MachineKind::Hazard);
         }
         let v = multiply_divide(op, self.register(rs(w)), self.register(rt(w)));
         self.advance();
         self.hi = v.0;
         self.lo = v.1;
+        Went::On
     }
 }

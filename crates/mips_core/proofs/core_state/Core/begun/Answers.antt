@@ -1,4 +1,4 @@
-use Rattle.std.proofs.Common.{◌+◌, refl, ap}
+use Rattle.std.proofs.Common.{◌+◌, refl}
 use Rattle.flat_memory.specs.Regions.{spaces_of}
 use Rattle.code_arena.specs.Kept.{arena_of, rows_of}
 use Rattle.mips_core.specs.Core.{begun}
@@ -7,5 +7,4 @@ use Rattle.mips_core.proofs.core_state.Core.begun.Goals as goal
 
 pub returns-clause-state : goal.returns-clause-state
 returns-clause-state c =
-    begun_with (begun c.args.entry (spaces_of c.args.memory) (arena_of c.args.arena) (rows_of c.args.table)) (c.from.result + 4) refl
-    (ap (λ n. n + 4) c.from.ensures)
+    begun_with (begun c.args.entry (spaces_of c.args.memory) (arena_of c.args.arena) (rows_of c.args.table)) (c.args.entry + 4) refl refl
