@@ -1,0 +1,9 @@
+pub mod Blocks
+pub mod Frames
+pub mod Functions
+pub mod Images
+pub mod Labels
+pub mod Names
+pub mod Starts
+pub mod Ticks
+pub mod Walks
