@@ -3,6 +3,7 @@ pub mod Frames
 pub mod Functions
 pub mod Images
 pub mod Labels
+pub mod Locals
 pub mod Names
 pub mod Starts
 pub mod Ticks

@@ -142,7 +142,7 @@ impl Frame {
         }
     }
 
-    fn is_object(&self, t: &CType) -> bool
+    pub(crate) fn is_object(&self, t: &CType) -> bool
         ensures { result ≡ spec.is_object t.now self.now }
     {
         is_array(t.layers.as_slice()) || self.needs_address()

@@ -6,6 +6,7 @@ mod frame;
 mod functions;
 mod image;
 mod labels;
+mod locals;
 mod names;
 mod state;
 #[cfg(test)]

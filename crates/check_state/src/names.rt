@@ -16,7 +16,7 @@ use std::alloc::{AllocError, Global};
 use tick_tree::{Deny, FaultKind, refused};
 use typed_tree::{Answer, CaptureKind, CapturedWord, Expr};
 
-fn operand(place: Place, ctype: CType) -> Operand
+pub(crate) fn operand(place: Place, ctype: CType) -> Operand
     ensures { result ≡ spec.operand place ctype }
 {
     Operand {
@@ -26,7 +26,7 @@ fn operand(place: Place, ctype: CType) -> Operand
     }
 }
 
-fn place_by(n: u32, home: Home) -> Place
+pub(crate) fn place_by(n: u32, home: Home) -> Place
     ensures { result ≡ spec.place_by n home }
 {
     match home {

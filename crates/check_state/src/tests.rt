@@ -11,14 +11,11 @@ fn named_in_a_tick_is_an_object_in_the_next_walk(rt: HostRuntime) {
     let alloc = rt.alloc();
     let mut state = State::new(alloc).expect(&rt, "memory");
     state.frame.begin(alloc, integer(alloc, Integer::Int));
+    assert!(rt; state.enter(alloc).is_ok());
     let int = integer(alloc, Integer::Int);
-    state.frame.variable(&int).expect(&rt, "memory");
-    let what = Meaning {
-        kind: MeaningKind::Variable,
-        ctype: int,
-        index: 0,
-    };
-    assert!(rt; state.enter(alloc).is_ok() && state.declare(1, b"x", what).is_ok());
+    assert!(rt; state.local(alloc, Stage::Function, 1, b"x", int).is_ok());
+    let int = integer(alloc, Integer::Int);
+    assert!(rt; state.parameter(alloc, 1, b"x", int).is_err());
     let found = state
         .named(alloc, 2, Stage::Function, b"x")
         .expect(&rt, "a name");

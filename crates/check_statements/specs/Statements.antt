@@ -1,0 +1,102 @@
+-- What each statement is by its parts, and what is checked as it is entered: `break` and `continue` in a loop of the same
+-- function or tick (for `break` also in a switch), `case` and `default` directly in a switch's block. A test comes after all parts
+-- of its statement. These are C's rules; the order is this project's own.
+use Rattle.std.specs.Prelude.{ℕ, Bool, true, false, not, ◌&&◌, ◌||◌, if◌then◌else◌, List, [], ◌∷◌, Option, Some, None, Result, Ok, Err}
+use Rattle.tick_tree.specs.declared.fault.FaultKind.TheVariants as fault
+use Rattle.tick_tree.specs.Faults.{Checked, refuse}
+use Rattle.typed_tree.specs.declared.expression.Expr.{Expr}
+use Rattle.typed_tree.specs.declared.expression.Expr.TheVariants as ex
+use Rattle.typed_tree.specs.declared.expression.Stmt.{Stmt}
+use Rattle.typed_tree.specs.declared.expression.Stmt.TheVariants as st
+use Rattle.c_nodes.specs.declared.operand.Operand.{Operand}
+use Rattle.c_nodes.specs.Operands as nodes
+use Rattle.c_nodes.specs.Operands.{value_of, effect}
+use Rattle.c_places.specs.Calls as calls
+use Rattle.c_constants.specs.Constants.{constant}
+use Rattle.check_state.specs.declared.labels.Labels.{Labels}
+use Rattle.check_state.specs.declared.state.Around.{Around}
+use Rattle.check_state.specs.declared.state.Stage.{Stage}
+use Rattle.check_state.specs.declared.state.Stage.TheVariants as stage
+use Rattle.check_state.specs.declared.state.State.{State}
+use Rattle.check_state.specs.Labels as labels
+use Rattle.check_state.specs.Walks.{Rule, ◌>>=◌}
+use Rattle.tick_tree.specs.Faults.{◌>>=◌ as ◌>>>=◌}
+
+-- ---- what stands round the parts
+
+-- round a part that is no item of a switch's block
+abbrev pub inside : Around → Around
+inside a = record a { is_direct = false }
+
+-- round the body of a loop
+abbrev pub looped : Around → Around
+looped a = record a { in_loop = true; is_direct = false }
+
+-- round the items of a switch's block
+abbrev pub switched : Around → Around
+switched a = record a { in_switch = true; is_direct = true }
+
+-- ---- what is checked as a statement is entered
+
+abbrev pub break_entry : ℕ → Around → Checked Stmt
+break_entry line a = if a.in_loop || a.in_switch then Ok st.Break else refuse fault.BreakOutside line
+
+abbrev pub continue_entry : ℕ → Around → Checked Stmt
+continue_entry line a = if a.in_loop then Ok st.Continue else refuse fault.ContinueOutside line
+
+-- a `case` whose value has the form of a constant, or not
+abbrev pub case_entry : ℕ → Bool → Around → Checked (Unit {0})
+case_entry line form a = if a.is_direct && form then Ok tt else refuse fault.BadCase line
+
+-- ---- labels
+
+abbrev pub with_labels : Labels → State → State
+with_labels l s = record s { labels = l }
+
+abbrev pub labelled : Stmt → State → Checked (Unit {0} × Labels) → Checked (Stmt × State)
+labelled node s (Ok r) = Ok (node, with_labels r.1 s)
+labelled node s (Err f) = Err f
+
+abbrev pub case_by : ℕ → Option ℕ → Rule State Stmt
+case_by line None s = refuse fault.BadCase line
+case_by line (Some n) s = labelled (st.Case n) s (labels.case line n s.labels)
+
+-- a `case` with this value
+unfoldable pub case_node : ℕ → Operand → Rule State Stmt
+case_node line o s = case_by line (constant (effect o)) s
+
+unfoldable pub default_node : ℕ → Around → Rule State Stmt
+default_node line a s = if a.is_direct then labelled st.Default s (labels.default line s.labels) else refuse fault.BadCase line
+
+-- into a switch, which has no labels yet; those of the switch round it
+unfoldable pub switch_entered : Rule State Labels
+switch_entered s = Ok (s.labels, with_labels labels.new s)
+
+-- ---- values
+
+abbrev pub test_node : ℕ → Operand → Checked Expr
+test_node line o = nodes.test line (value_of o)
+
+-- the test of a `for`, which may be absent
+abbrev pub for_test : ℕ → Option Operand → Checked Expr
+for_test line None = Ok (ex.Const 1)
+for_test line (Some o) = test_node line o
+
+abbrev pub switched_node : ℕ → Operand → Checked Expr
+switched_node line o = nodes.switched line (value_of o)
+
+abbrev pub returned_by : ℕ → Stage → Operand → State → Checked Expr
+returned_by line stage.Function o s = calls.returned line s.frame.result (value_of o)
+returned_by line stage.Tick o s = calls.tick_returned line (value_of o)
+returned_by line stage.Dollar o s = calls.tick_returned line (value_of o)
+
+unfoldable pub return_node : ℕ → Stage → Operand → State → Checked Stmt
+return_node line g o s = returned_by line g o s >>>= (λ e. Ok (st.ReturnValue e))
+
+-- ---- bodies
+
+-- a body is one node
+abbrev pub body : List Stmt → Stmt
+body [] = st.Block [] []
+body (x ∷ []) = x
+body (x ∷ y ∷ rest) = st.Block [] (x ∷ y ∷ rest)

@@ -1,0 +1,194 @@
+//! Statements.
+
+ghost use Rattle.std.specs.Prelude.{◌≡◌, IfOk};
+ghost use Rattle.tick_tree.specs.Faults.{Checks};
+ghost use Rattle.check_state.specs.Walks.{Reads};
+ghost use Rattle.check_statements.specs.Statements as spec;
+
+use c_constants::constant_value;
+use c_nodes::{Operand, effect, value_of};
+use check_state::{Around, Labels, Stage, State};
+use sqlite_items::Items;
+use std::alloc::Global;
+use std::mem;
+use tick_tree::{Deny, FaultKind, refused};
+use typed_tree::{Expr, Stmt};
+
+/// What stands round a part that is no item of a switch's block.
+pub fn inside(around: Around) -> Around
+    ensures { result ≡ spec.inside around }
+{
+    Around {
+        is_direct: false,
+        ..around
+    }
+}
+
+/// What stands round the body of a loop.
+pub fn looped(around: Around) -> Around
+    ensures { result ≡ spec.looped around }
+{
+    Around {
+        in_loop: true,
+        is_direct: false,
+        ..around
+    }
+}
+
+/// What stands round the items of a switch's block.
+pub fn switched(around: Around) -> Around
+    ensures { result ≡ spec.switched around }
+{
+    Around {
+        in_switch: true,
+        is_direct: true,
+        ..around
+    }
+}
+
+/// `break`. Refused where neither a loop nor a switch is round it: BreakOutside.
+pub fn break_entry(line: u32, around: Around) -> Result<Stmt, Deny>
+    ensures { Checks result (spec.break_entry line around) }
+{
+    if around.in_loop || around.in_switch {
+        Ok(Stmt::Break)
+    } else {
+        refused(FaultKind::BreakOutside, line)
+    }
+}
+
+/// `continue`. Refused where no loop is round it: ContinueOutside.
+pub fn continue_entry(line: u32, around: Around) -> Result<Stmt, Deny>
+    ensures { Checks result (spec.continue_entry line around) }
+{
+    if around.in_loop {
+        Ok(Stmt::Continue)
+    } else {
+        refused(FaultKind::ContinueOutside, line)
+    }
+}
+
+/// Enters a `case` whose value has the form of a constant, or not. Refused where it hasn't, or isn't directly an item of a
+/// switch's block: BadCase.
+pub fn case_entry(line: u32, has_form: bool, around: Around) -> Result<(), Deny>
+    ensures { Checks result (spec.case_entry line has_form around) }
+{
+    if around.is_direct && has_form {
+        Ok(())
+    } else {
+        refused(FaultKind::BadCase, line)
+    }
+}
+
+fn labelled_case(state: &mut State, line: u32, value: Option<u32>) -> Result<Stmt, Deny>
+    ensures { Reads (spec.case_by line value state.old) result state.new }
+{
+    match value {
+        None => refused(FaultKind::BadCase, line),
+        Some(n) => {
+            state.labels.case(line, n)?;
+            Ok(Stmt::Case(n))
+        }
+    }
+}
+
+/// A `case` with this value. Refused where it has none: BadCase; where the switch has it already: DuplicateCase.
+#[tactic(auto, unfolding(crate::specs::Statements::case_node))]
+pub fn case_node(alloc: Global, state: &mut State, line: u32, o: Operand) -> Result<Stmt, Deny>
+    ensures { Reads (spec.case_node line o state.old) result state.new }
+{
+    let code = effect(alloc, o)?;
+    labelled_case(state, line, constant_value(&code))
+}
+
+/// `default`. Refused where it isn't directly an item of a switch's block: BadCase; where the switch has one already:
+/// DuplicateCase.
+#[tactic(auto, unfolding(crate::specs::Statements::default_node))]
+pub fn default_node(state: &mut State, line: u32, around: Around) -> Result<Stmt, Deny>
+    ensures { Reads (spec.default_node line around state.old) result state.new }
+{
+    if !around.is_direct {
+        return refused(FaultKind::BadCase, line);
+    }
+    state.labels.default(line)?;
+    Ok(Stmt::Default)
+}
+
+/// Enters a switch, which has no labels yet; those of the switch round it.
+#[tactic(auto, unfolding(crate::specs::Statements::switch_entered))]
+pub fn switch_entered(alloc: Global, state: &mut State) -> Result<Labels, Deny>
+    ensures { Reads (spec.switch_entered state.old) result state.new }
+{
+    Ok(mem::replace(&mut state.labels, Labels::new(alloc)))
+}
+
+/// The node of a test, as `c_nodes::test`.
+pub fn test_node(alloc: Global, line: u32, o: Operand) -> Result<Expr, Deny>
+    ensures { Checks result (spec.test_node line o) }
+{
+    let v = value_of(alloc, o)?;
+    c_nodes::test(line, v)
+}
+
+/// The node of the test of a `for`: 1 where it is absent.
+pub fn for_test(alloc: Global, line: u32, o: Option<Operand>) -> Result<Expr, Deny>
+    ensures { Checks result (spec.for_test line o) }
+{
+    match o {
+        None => Ok(Expr::Const(1)),
+        Some(o) => test_node(alloc, line, o),
+    }
+}
+
+/// The node of the value of a switch, as `c_nodes::switched`.
+pub fn switched_node(alloc: Global, line: u32, o: Operand) -> Result<Expr, Deny>
+    ensures { Checks result (spec.switched_node line o) }
+{
+    let v = value_of(alloc, o)?;
+    c_nodes::switched(line, v)
+}
+
+fn returned_by(
+    alloc: Global,
+    state: &State,
+    line: u32,
+    stage: Stage,
+    o: Operand,
+) -> Result<Expr, Deny>
+    ensures { Checks result (spec.returned_by line stage o state.now) }
+{
+    let v = value_of(alloc, o)?;
+    match stage {
+        Stage::Function => c_places::returned(alloc, line, &state.frame.result, v),
+        Stage::Tick | Stage::Dollar => c_places::tick_returned(line, v),
+    }
+}
+
+/// `return` with its value, as `c_places::returned` in a function and `c_places::tick_returned` in a tick.
+#[tactic(auto, unfolding(crate::specs::Statements::return_node))]
+pub fn return_node(
+    alloc: Global,
+    state: &State,
+    line: u32,
+    stage: Stage,
+    o: Operand,
+) -> Result<Stmt, Deny>
+    ensures { Checks result (spec.return_node line stage o state.now) }
+{
+    let e = returned_by(alloc, state, line, stage, o)?;
+    Ok(Stmt::ReturnValue(e))
+}
+
+/// The body of a statement, which is one node.
+pub fn body(alloc: Global, nodes: Items<Stmt>) -> Stmt
+    ensures { result ≡ spec.body nodes }
+{
+    let mut nodes = nodes;
+    if nodes.len() != 1 {
+        return Stmt::Block(Items::new(alloc), nodes);
+    }
+    match nodes.pop() {
+        None => Stmt::Block(Items::new(alloc), nodes),
+        Some(only) => only,
+    }
+}
