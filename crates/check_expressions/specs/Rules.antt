@@ -45,18 +45,20 @@ pub record Shape : Type 0 where
   pub declared : Declared
   pub walk : Stage → Rule State (List Step)
 
--- a statement gives one node, a declaration as many as it has initializers
-abbrev pub Walk : Type 0
-Walk = Around → Rule State (List Stmt)
+-- a statement: whether it is a `;` alone, and the walk over it. A statement gives one node, a declaration as many as it has
+-- initializers.
+pub record Item : Type 0 where
+  pub is_empty : Bool
+  pub walk : Around → Rule State (List Stmt)
 
 -- ---- blocks
 
-abbrev pub each : List Walk → Around → Rule State (List Stmt)
+abbrev pub each : List Item → Around → Rule State (List Stmt)
 each [] a = pure []
-each (w ∷ ws) a = w a >>= (λ x. each ws a >>= (λ xs. pure (x ++ xs)))
+each (w ∷ ws) a = w.walk a >>= (λ x. each ws a >>= (λ xs. pure (x ++ xs)))
 
 -- a block, with the nodes of its variables
-abbrev pub block : List Walk → Around → Rule State Stmt
+abbrev pub block : List Item → Around → Rule State Stmt
 block items a = depth >>= (λ n. enter >>= (λ outer. each items a >>= (λ xs. leave n outer >>= (λ vs. pure (st.Block vs xs)))))
 
 -- what stands round the items of a tick's block
@@ -90,7 +92,7 @@ call line f list g = λ s. call_of line f list g (library_of f.written.name s) s
 abbrev pub tick_expression : ℕ → Node → Stage → Rule State Operand
 tick_expression line a g = lift (tick_entry line g) >>= (λ u s. (a.walk stage.Tick >>= (λ o z. Ok (Productions.tick_expression o z))) (Productions.tick_entered s))
 
-abbrev pub tick_block : ℕ → List Walk → Stage → Rule State Operand
+abbrev pub tick_block : ℕ → List Item → Stage → Rule State Operand
 tick_block line items g = lift (tick_entry line g) >>= (λ u s. (block items tick_around >>= (λ b z. Ok (Productions.tick_block b z))) (Productions.tick_entered s))
 
 abbrev pub compile : ℕ → Node → Named → Stage → Rule State Operand
@@ -113,7 +115,7 @@ cast line t a g = t.walk line g >>= (λ ty. a.walk g >>= (λ o. lift (Production
 abbrev pub choice : ℕ → Node → Node → Node → Stage → Rule State Operand
 choice line c a b g = c.walk g >>= (λ x. both a b g >>= (λ p. lift (Productions.choice_node line x p.0 p.1)))
 
-abbrev pub walk_rule : {I S D N P : Type 0} → Expr-F Shape Node I (Option Node) Walk S D Shape N P Named → Stage → Rule State Operand
+abbrev pub walk_rule : {I S D N P : Type 0} → Expr-F Shape Node I (Option Node) Item S D Shape N P Named → Stage → Rule State Operand
 walk_rule (Expr-F.Expr::Name line name) g = named line g name
 walk_rule (Expr-F.Number n unsigned) g = pure (nodes.number n unsigned)
 walk_rule (Expr-F.Character n) g = pure (nodes.character n)
