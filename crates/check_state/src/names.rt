@@ -64,6 +64,15 @@ fn copy_meaning(alloc: Global, m: &Meaning) -> Result<Meaning, AllocError>
     })
 }
 
+fn library_at(alloc: Global, m: &Meaning) -> Result<Option<(u32, CType)>, AllocError>
+    ensures { IfOk result (λ found. found ≡ spec.library_at m.now.kind m.now.index m.now.ctype) }
+{
+    match m.kind {
+        MeaningKind::Library => Ok(Some((m.index, c_types::copy(alloc, &m.ctype)?))),
+        _ => Ok(None),
+    }
+}
+
 // What stands at this place.
 fn word_of(alloc: Global, place: Place, t: &CType) -> Result<Expr, AllocError>
     ensures { IfOk result (λ e. e ≡ nodes.effect (spec.operand place t.now)) }
@@ -237,6 +246,17 @@ impl State {
         match self.scopes.find(name) {
             None => Ok(None),
             Some(m) => Ok(Some(copy_meaning(alloc, m)?)),
+        }
+    }
+
+    /// The library function that a name is, by its number, with its type.
+    #[tactic(auto, unfolding(crate::specs::Names::library))]
+    pub fn library(&self, alloc: Global, name: &[u8]) -> Result<Option<(u32, CType)>, AllocError>
+        ensures { IfOk result (λ found. found ≡ spec.library self.now.scopes name.now) }
+    {
+        match self.scopes.find(name) {
+            None => Ok(None),
+            Some(m) => library_at(alloc, m),
         }
     }
 

@@ -25,6 +25,7 @@ fn named_in_a_tick_is_an_object_in_the_next_walk(rt: HostRuntime) {
         .expect(&rt, "a name");
     assert!(rt; matches!(found.place, Place::Memory(Expr::Captured(_, 0))));
     assert!(rt; state.named(alloc, 2, Stage::Function, b"putchar").is_err());
+    assert!(rt; matches!(state.library(alloc, b"putchar"), Ok(Some((1, _)))));
     assert!(rt; state.named(alloc, 2, Stage::Function, b"y").is_err());
     assert!(rt; state.frame.end(alloc).is_ok());
     let mut state = state.again(alloc).expect(&rt, "memory");
