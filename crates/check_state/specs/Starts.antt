@@ -34,22 +34,22 @@ abbrev pub library_meaning : ℕ → CType → Meaning
 library_meaning n t = record { kind = kind.Library; ctype = t; index = n }
 
 -- one library function more, by its number
-unfoldable pub library : Name → ℕ → CType → Rule State (Unit {0})
-library name n t = declare 1 name (library_meaning n t)
+unfoldable pub add_library : Name → ℕ → CType → Rule State (Unit {0})
+add_library name n t = declare 1 name (library_meaning n t)
 
 -- int getchar(void) and int putchar(int)
 unfoldable pub first_library : Rule State (Unit {0})
-first_library = library (codes "getchar") 0 (function int []) >>= (λ u. library (codes "putchar") 1 (function int (int ∷ [])))
+first_library = add_library (codes "getchar") 0 (function int []) >>= (λ u. add_library (codes "putchar") 1 (function int (int ∷ [])))
 
 -- void putint(int) and void *malloc(unsigned)
 unfoldable pub second_library : Rule State (Unit {0})
 second_library =
-    library (codes "putint") 2 (function void (int ∷ []))
-    >>= (λ u. library (codes "malloc") 3 (function (over layer.Pointer void) (shapes.integer integer.Unsigned ∷ [])))
+    add_library (codes "putint") 2 (function void (int ∷ []))
+    >>= (λ u. add_library (codes "malloc") 3 (function (over layer.Pointer void) (shapes.integer integer.Unsigned ∷ [])))
 
 -- void exit(int)
 unfoldable pub third_library : Rule State (Unit {0})
-third_library = library (codes "exit") 4 (function void (int ∷ []))
+third_library = add_library (codes "exit") 4 (function void (int ∷ []))
 
 -- the library
 unfoldable pub libraries : Rule State (Unit {0})

@@ -129,9 +129,9 @@ impl State {
         Ok(state)
     }
 
-    #[tactic(auto, unfolding(crate::specs::Starts::library))]
-    fn library(&mut self, name: &[u8], n: u32, t: CType) -> Result<(), Deny>
-        ensures { Reads (spec.library name.now n t self.old) result self.new }
+    #[tactic(auto, unfolding(crate::specs::Starts::add_library))]
+    fn add_library(&mut self, name: &[u8], n: u32, t: CType) -> Result<(), Deny>
+        ensures { Reads (spec.add_library name.now n t self.old) result self.new }
     {
         let what = Meaning {
             kind: MeaningKind::Library,
@@ -146,9 +146,9 @@ impl State {
         ensures { Reads (spec.first_library self.old) result self.new }
     {
         let t = function(integer(alloc, Integer::Int), Items::new(alloc))?;
-        self.library(b"getchar", 0, t)?;
+        self.add_library(b"getchar", 0, t)?;
         let t = function(integer(alloc, Integer::Int), one(alloc, Integer::Int)?)?;
-        self.library(b"putchar", 1, t)
+        self.add_library(b"putchar", 1, t)
     }
 
     #[tactic(auto, unfolding(crate::specs::Starts::second_library))]
@@ -156,10 +156,10 @@ impl State {
         ensures { Reads (spec.second_library self.old) result self.new }
     {
         let t = function(void(alloc), one(alloc, Integer::Int)?)?;
-        self.library(b"putint", 2, t)?;
+        self.add_library(b"putint", 2, t)?;
         let t = over(Layer::Pointer, void(alloc))?;
         let t = function(t, one(alloc, Integer::Unsigned)?)?;
-        self.library(b"malloc", 3, t)
+        self.add_library(b"malloc", 3, t)
     }
 
     #[tactic(auto, unfolding(crate::specs::Starts::third_library))]
@@ -167,7 +167,7 @@ impl State {
         ensures { Reads (spec.third_library self.old) result self.new }
     {
         let t = function(void(alloc), one(alloc, Integer::Int)?)?;
-        self.library(b"exit", 4, t)
+        self.add_library(b"exit", 4, t)
     }
 
     #[tactic(auto, unfolding(crate::specs::Starts::libraries))]

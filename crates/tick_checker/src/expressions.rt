@@ -1,10 +1,5 @@
 //! The walk over expressions.
 
-ghost use Rattle.std.specs.Prelude.{◌≡◌};
-ghost use Rattle.check_expressions.specs.Rules as rules;
-ghost use Rattle.check_state.specs.Walks.{Reads};
-ghost use Rattle.tick_checker.specs.Walk as spec;
-
 use crate::statements::block;
 use crate::types::typename;
 use c_forms::name_of;
@@ -12,9 +7,9 @@ use c_nodes::{Operand, character, number};
 use c_places::Arguments;
 use c_types::CType;
 use check_expressions::{
-    argument, assign_node, binary_node, call_node, cast_node, choice_node, comma_node, compile_node, index_node,
-    modify_node, parameter_node, post_node, staging_entry, string_node, tick_entered, tick_entry, unary_entry,
-    unary_node,
+    argument, assign_node, binary_node, call_node, cast_node, choice_node, comma_node,
+    compile_node, index_node, modify_node, parameter_node, post_node, staging_entry, string_node,
+    tick_entered, tick_entry, unary_entry, unary_node,
 };
 use check_state::{Around, Stage, State};
 use sqlite_items::Items;
@@ -23,9 +18,13 @@ use tick_tree::{Deny, Expr, OptionalExpr, Stmt, Typename, UnaryOp};
 
 // The operands of two expressions.
 #[cycle(walk)]
-fn both(alloc: Global, state: &mut State, stage: Stage, a: &Expr, b: &Expr) -> Result<(Operand, Operand), Deny>
-    ensures { Reads (rules.both (spec.node a.now) (spec.node b.now) stage state.old) result state.new }
-{
+fn both(
+    alloc: Global,
+    state: &mut State,
+    stage: Stage,
+    a: &Expr,
+    b: &Expr,
+) -> Result<(Operand, Operand), Deny> {
     let x = expression(alloc, state, stage, a)?;
     let y = expression(alloc, state, stage, b)?;
     Ok((x, y))
@@ -33,9 +32,12 @@ fn both(alloc: Global, state: &mut State, stage: Stage, a: &Expr, b: &Expr) -> R
 
 // The arguments of a call.
 #[cycle(walk)]
-fn arguments(alloc: Global, state: &mut State, stage: Stage, list: &[Expr]) -> Result<Arguments, Deny>
-    ensures { Reads (spec.arguments list.now stage state.old) result state.new }
-{
+fn arguments(
+    alloc: Global,
+    state: &mut State,
+    stage: Stage,
+    list: &[Expr],
+) -> Result<Arguments, Deny> {
     let mut found = Arguments::new(alloc);
     for e in list {
         let o = expression(alloc, state, stage, e)?;
@@ -45,25 +47,38 @@ fn arguments(alloc: Global, state: &mut State, stage: Stage, list: &[Expr]) -> R
 }
 
 #[cycle(walk)]
-fn library_call(alloc: Global, state: &mut State, line: u32, stage: Stage, n: u32, t: CType, list: &[Expr]) -> Result<Operand, Deny>
-    ensures { Reads (spec.library_call line n t list.now stage state.old) result state.new }
-{
+fn library_call(
+    alloc: Global,
+    state: &mut State,
+    line: u32,
+    stage: Stage,
+    n: u32,
+    t: CType,
+    list: &[Expr],
+) -> Result<Operand, Deny> {
     let found = arguments(alloc, state, stage, list)?;
     c_places::library(alloc, line, n, t, found)
 }
 
 #[cycle(walk)]
-fn plain_call(alloc: Global, state: &mut State, line: u32, stage: Stage, f: &Expr, list: &[Expr]) -> Result<Operand, Deny>
-    ensures { Reads (spec.plain_call line f.now list.now stage state.old) result state.new }
-{
+fn plain_call(
+    alloc: Global,
+    state: &mut State,
+    line: u32,
+    stage: Stage,
+    f: &Expr,
+    list: &[Expr],
+) -> Result<Operand, Deny> {
     let o = expression(alloc, state, stage, f)?;
     let found = arguments(alloc, state, stage, list)?;
     call_node(alloc, line, stage, o, found)
 }
 
-fn library_of(alloc: Global, state: &State, name: Option<&Items<u8>>) -> Result<Option<(u32, CType)>, Deny>
-    ensures { spec.Found result (rules.library_of (option_copied name) state.now) }
-{
+fn library_of(
+    alloc: Global,
+    state: &State,
+    name: Option<&Items<u8>>,
+) -> Result<Option<(u32, CType)>, Deny> {
     match name {
         None => Ok(None),
         Some(name) => Ok(state.library(alloc, name.as_slice())?),
@@ -71,9 +86,14 @@ fn library_of(alloc: Global, state: &State, name: Option<&Items<u8>>) -> Result<
 }
 
 #[cycle(walk)]
-fn call(alloc: Global, state: &mut State, line: u32, stage: Stage, f: &Expr, list: &[Expr]) -> Result<Operand, Deny>
-    ensures { Reads (spec.call line f.now list.now stage state.old) result state.new }
-{
+fn call(
+    alloc: Global,
+    state: &mut State,
+    line: u32,
+    stage: Stage,
+    f: &Expr,
+    list: &[Expr],
+) -> Result<Operand, Deny> {
     match library_of(alloc, state, name_of(f))? {
         Some((n, t)) => library_call(alloc, state, line, stage, n, t, list),
         None => plain_call(alloc, state, line, stage, f, list),
@@ -81,18 +101,20 @@ fn call(alloc: Global, state: &mut State, line: u32, stage: Stage, f: &Expr, lis
 }
 
 #[cycle(walk)]
-fn tick_expression(alloc: Global, state: &mut State, line: u32, stage: Stage, a: &Expr) -> Result<Operand, Deny>
-    ensures { Reads (rules.tick_expression line (spec.node a.now) stage state.old) result state.new }
-{
+fn tick_expression(
+    alloc: Global,
+    state: &mut State,
+    line: u32,
+    stage: Stage,
+    a: &Expr,
+) -> Result<Operand, Deny> {
     tick_entry(line, stage)?;
     tick_entered(alloc, state);
     let o = expression(alloc, state, Stage::Tick, a)?;
     Ok(check_expressions::tick_expression(alloc, state, o)?)
 }
 
-fn tick_around() -> Around
-    ensures { result ≡ rules.tick_around }
-{
+fn tick_around() -> Around {
     Around {
         stage: Stage::Tick,
         in_loop: false,
@@ -102,9 +124,13 @@ fn tick_around() -> Around
 }
 
 #[cycle(walk)]
-fn tick_block(alloc: Global, state: &mut State, line: u32, stage: Stage, items: &[Stmt]) -> Result<Operand, Deny>
-    ensures { Reads (spec.tick_block line items.now stage state.old) result state.new }
-{
+fn tick_block(
+    alloc: Global,
+    state: &mut State,
+    line: u32,
+    stage: Stage,
+    items: &[Stmt],
+) -> Result<Operand, Deny> {
     tick_entry(line, stage)?;
     tick_entered(alloc, state);
     let body = block(alloc, state, tick_around(), items)?;
@@ -112,9 +138,14 @@ fn tick_block(alloc: Global, state: &mut State, line: u32, stage: Stage, items: 
 }
 
 #[cycle(walk)]
-fn compile(alloc: Global, state: &mut State, line: u32, stage: Stage, a: &Expr, t: &Typename) -> Result<Operand, Deny>
-    ensures { Reads (rules.compile line (spec.node a.now) (spec.named t.now) stage state.old) result state.new }
-{
+fn compile(
+    alloc: Global,
+    state: &mut State,
+    line: u32,
+    stage: Stage,
+    a: &Expr,
+    t: &Typename,
+) -> Result<Operand, Deny> {
     staging_entry(line, stage)?;
     let o = expression(alloc, state, stage, a)?;
     let t = typename(alloc, state, line, stage, t)?;
@@ -122,18 +153,27 @@ fn compile(alloc: Global, state: &mut State, line: u32, stage: Stage, a: &Expr, 
 }
 
 #[cycle(walk)]
-fn local(alloc: Global, state: &mut State, line: u32, stage: Stage, t: &Typename) -> Result<Operand, Deny>
-    ensures { Reads (rules.local line (spec.named t.now) stage state.old) result state.new }
-{
+fn local(
+    alloc: Global,
+    state: &mut State,
+    line: u32,
+    stage: Stage,
+    t: &Typename,
+) -> Result<Operand, Deny> {
     staging_entry(line, stage)?;
     let t = typename(alloc, state, line, stage, t)?;
     c_nodes::local(line, t)
 }
 
 #[cycle(walk)]
-fn parameter(alloc: Global, state: &mut State, line: u32, stage: Stage, t: &Typename, a: &Expr) -> Result<Operand, Deny>
-    ensures { Reads (rules.parameter line (spec.named t.now) (spec.node a.now) stage state.old) result state.new }
-{
+fn parameter(
+    alloc: Global,
+    state: &mut State,
+    line: u32,
+    stage: Stage,
+    t: &Typename,
+    a: &Expr,
+) -> Result<Operand, Deny> {
     staging_entry(line, stage)?;
     let t = typename(alloc, state, line, stage, t)?;
     let o = expression(alloc, state, stage, a)?;
@@ -141,27 +181,43 @@ fn parameter(alloc: Global, state: &mut State, line: u32, stage: Stage, t: &Type
 }
 
 #[cycle(walk)]
-fn unary(alloc: Global, state: &mut State, line: u32, stage: Stage, op: UnaryOp, a: &Expr) -> Result<Operand, Deny>
-    ensures { Reads (rules.unary line op (spec.node a.now) stage state.old) result state.new }
-{
+fn unary(
+    alloc: Global,
+    state: &mut State,
+    line: u32,
+    stage: Stage,
+    op: UnaryOp,
+    a: &Expr,
+) -> Result<Operand, Deny> {
     let inner = unary_entry(line, op, stage)?;
     let o = expression(alloc, state, inner, a)?;
     unary_node(alloc, state, line, op, stage, o)
 }
 
 #[cycle(walk)]
-fn cast(alloc: Global, state: &mut State, line: u32, stage: Stage, t: &Typename, a: &Expr) -> Result<Operand, Deny>
-    ensures { Reads (rules.cast line (spec.named t.now) (spec.node a.now) stage state.old) result state.new }
-{
+fn cast(
+    alloc: Global,
+    state: &mut State,
+    line: u32,
+    stage: Stage,
+    t: &Typename,
+    a: &Expr,
+) -> Result<Operand, Deny> {
     let t = typename(alloc, state, line, stage, t)?;
     let o = expression(alloc, state, stage, a)?;
     cast_node(alloc, line, t, o)
 }
 
 #[cycle(walk)]
-fn choice(alloc: Global, state: &mut State, line: u32, stage: Stage, c: &Expr, a: &Expr, b: &Expr) -> Result<Operand, Deny>
-    ensures { Reads (rules.choice line (spec.node c.now) (spec.node a.now) (spec.node b.now) stage state.old) result state.new }
-{
+fn choice(
+    alloc: Global,
+    state: &mut State,
+    line: u32,
+    stage: Stage,
+    c: &Expr,
+    a: &Expr,
+    b: &Expr,
+) -> Result<Operand, Deny> {
     let test = expression(alloc, state, stage, c)?;
     let p = both(alloc, state, stage, a, b)?;
     choice_node(alloc, line, test, p.0, p.1)
@@ -169,9 +225,12 @@ fn choice(alloc: Global, state: &mut State, line: u32, stage: Stage, c: &Expr, a
 
 /// What an expression that may be absent is.
 #[cycle(walk)]
-pub fn optional(alloc: Global, state: &mut State, stage: Stage, e: &OptionalExpr) -> Result<Option<Operand>, Deny>
-    ensures { Reads (statements.optional (spec.optional e.now) stage state.old) result state.new }
-{
+pub fn optional(
+    alloc: Global,
+    state: &mut State,
+    stage: Stage,
+    e: &OptionalExpr,
+) -> Result<Option<Operand>, Deny> {
     match e {
         OptionalExpr::Absent => Ok(None),
         OptionalExpr::Present(e) => Ok(Some(expression(alloc, state, stage, e)?)),
@@ -180,9 +239,12 @@ pub fn optional(alloc: Global, state: &mut State, stage: Stage, e: &OptionalExpr
 
 /// What an expression is, or the first fault.
 #[cycle(walk)]
-pub fn expression(alloc: Global, state: &mut State, stage: Stage, e: &Expr) -> Result<Operand, Deny>
-    ensures { Reads ((spec.node e.now).walk stage state.old) result state.new }
-{
+pub fn expression(
+    alloc: Global,
+    state: &mut State,
+    stage: Stage,
+    e: &Expr,
+) -> Result<Operand, Deny> {
     match e {
         Expr::Name(line, name) => state.named(alloc, *line, stage, name.as_slice()),
         Expr::Number(n, unsigned) => Ok(number(alloc, *n, *unsigned)),

@@ -1,11 +1,5 @@
 //! The walk over type names, declarators and parameter lists.
 
-ghost use Rattle.std.specs.Prelude.{◌≡◌, [], ◌<◌};
-ghost use Rattle.check_expressions.specs.Rules as rules;
-ghost use Rattle.check_state.specs.Walks.{Reads};
-ghost use Rattle.check_statements.specs.Rules as statements;
-ghost use Rattle.tick_checker.specs.Walk as spec;
-
 use crate::expressions::expression;
 use c_declared::{Length, Role, Step, base_of, declared_type, push_prefixes};
 use c_forms::{declared_name, has_form};
@@ -18,27 +12,32 @@ use tick_tree::{Core, Declarator, Deny, Expr, OptionalExpr, Parameter, Suffix, T
 
 /// The type that a type name names, with the line of the node that it is in.
 #[cycle(walk)]
-pub fn typename(alloc: Global, state: &mut State, line: u32, stage: Stage, t: &Typename) -> Result<CType, Deny>
-    ensures { Reads ((spec.named t.now).walk line stage state.old) result state.new }
-{
+pub fn typename(
+    alloc: Global,
+    state: &mut State,
+    line: u32,
+    stage: Stage,
+    t: &Typename,
+) -> Result<CType, Deny> {
     let steps = declarator(alloc, state, stage, &t.declarator)?;
     declared_type(alloc, Role::Typename, line, base_of(t.base), steps)
 }
 
 /// The steps from a base to the type that a declarator declares.
 #[cycle(walk)]
-pub fn declarator(alloc: Global, state: &mut State, stage: Stage, d: &Declarator) -> Result<Items<Step>, Deny>
-    ensures { Reads ((spec.shape d.now).walk stage state.old) result state.new }
-{
+pub fn declarator(
+    alloc: Global,
+    state: &mut State,
+    stage: Stage,
+    d: &Declarator,
+) -> Result<Items<Step>, Deny> {
     let steps = core(alloc, state, stage, &d.core)?;
     let steps = suffixes(alloc, state, stage, steps, d.suffixes.as_slice())?;
     Ok(push_prefixes(steps, d.prefixes.as_slice())?)
 }
 
 #[cycle(walk)]
-fn core(alloc: Global, state: &mut State, stage: Stage, c: &Core) -> Result<Items<Step>, Deny>
-    ensures { Reads ((spec.core c.now).walk stage state.old) result state.new }
-{
+fn core(alloc: Global, state: &mut State, stage: Stage, c: &Core) -> Result<Items<Step>, Deny> {
     match c {
         Core::Absent | Core::Name(_, _) => Ok(Items::new(alloc)),
         Core::Paren(d) => declarator(alloc, state, stage, d.get()),
@@ -46,9 +45,13 @@ fn core(alloc: Global, state: &mut State, stage: Stage, c: &Core) -> Result<Item
 }
 
 #[cycle(walk)]
-fn suffixes(alloc: Global, state: &mut State, stage: Stage, steps: Items<Step>, list: &[Suffix]) -> Result<Items<Step>, Deny>
-    ensures { Reads (spec.suffixes list.now steps stage state.old) result state.new }
-{
+fn suffixes(
+    alloc: Global,
+    state: &mut State,
+    stage: Stage,
+    steps: Items<Step>,
+    list: &[Suffix],
+) -> Result<Items<Step>, Deny> {
     let mut steps = steps;
     for s in list {
         let step = suffix(alloc, state, stage, s)?;
@@ -58,21 +61,27 @@ fn suffixes(alloc: Global, state: &mut State, stage: Stage, steps: Items<Step>, 
 }
 
 #[cycle(walk)]
-fn suffix(alloc: Global, state: &mut State, stage: Stage, s: &Suffix) -> Result<Step, Deny>
-    ensures { Reads (spec.suffix s.now stage state.old) result state.new }
-{
+fn suffix(alloc: Global, state: &mut State, stage: Stage, s: &Suffix) -> Result<Step, Deny> {
     match s {
         Suffix::Array(e) => Ok(Step::Array(length(alloc, state, stage, e)?)),
         Suffix::Unlisted => Ok(Step::Unlisted),
         Suffix::Nothing => Ok(Step::Function(Items::new(alloc))),
-        Suffix::Listed(list) => Ok(Step::Function(parameters(alloc, state, stage, list.as_slice())?)),
+        Suffix::Listed(list) => Ok(Step::Function(parameters(
+            alloc,
+            state,
+            stage,
+            list.as_slice(),
+        )?)),
     }
 }
 
 #[cycle(walk)]
-fn length(alloc: Global, state: &mut State, stage: Stage, e: &OptionalExpr) -> Result<Length, Deny>
-    ensures { Reads (spec.length e.now stage state.old) result state.new }
-{
+fn length(
+    alloc: Global,
+    state: &mut State,
+    stage: Stage,
+    e: &OptionalExpr,
+) -> Result<Length, Deny> {
     match e {
         OptionalExpr::Absent => Ok(Length::Absent),
         OptionalExpr::Present(e) => {
@@ -84,9 +93,12 @@ fn length(alloc: Global, state: &mut State, stage: Stage, e: &OptionalExpr) -> R
 
 // The types of the parameters of a list, whose names are in a scope of their own.
 #[cycle(walk)]
-fn parameters(alloc: Global, state: &mut State, stage: Stage, list: &[Parameter]) -> Result<Items<CType>, Deny>
-    ensures { Reads (spec.parameters list.now stage state.old) result state.new }
-{
+fn parameters(
+    alloc: Global,
+    state: &mut State,
+    stage: Stage,
+    list: &[Parameter],
+) -> Result<Items<CType>, Deny> {
     let depth = state.depth();
     let outer = state.enter(alloc)?;
     let types = each_parameter(alloc, state, stage, list)?;
@@ -95,9 +107,12 @@ fn parameters(alloc: Global, state: &mut State, stage: Stage, list: &[Parameter]
 }
 
 #[cycle(walk)]
-fn each_parameter(alloc: Global, state: &mut State, stage: Stage, list: &[Parameter]) -> Result<Items<CType>, Deny>
-    ensures { Reads (spec.each_parameter list.now stage state.old) result state.new }
-{
+fn each_parameter(
+    alloc: Global,
+    state: &mut State,
+    stage: Stage,
+    list: &[Parameter],
+) -> Result<Items<CType>, Deny> {
     let mut types = Items::new(alloc);
     for p in list {
         let t = parameter(alloc, state, stage, p)?;
@@ -107,9 +122,7 @@ fn each_parameter(alloc: Global, state: &mut State, stage: Stage, list: &[Parame
 }
 
 #[cycle(walk)]
-fn parameter(alloc: Global, state: &mut State, stage: Stage, p: &Parameter) -> Result<CType, Deny>
-    ensures { Reads (spec.parameter p.now stage state.old) result state.new }
-{
+fn parameter(alloc: Global, state: &mut State, stage: Stage, p: &Parameter) -> Result<CType, Deny> {
     let steps = declarator(alloc, state, stage, &p.declarator)?;
     let t = declared_type(alloc, Role::Parameter, p.line, base_of(p.base), steps)?;
     name_parameter(alloc, state, p.line, declared_name(&p.declarator), &t)?;
@@ -117,9 +130,13 @@ fn parameter(alloc: Global, state: &mut State, stage: Stage, p: &Parameter) -> R
 }
 
 // Declares the name of a parameter, where it has one.
-fn name_parameter(alloc: Global, state: &mut State, line: u32, name: Option<(u32, &Items<u8>)>, t: &CType) -> Result<(), Deny>
-    ensures { Reads (spec.name_parameter line (forms.lent name) t.now state.old) result state.new }
-{
+fn name_parameter(
+    alloc: Global,
+    state: &mut State,
+    line: u32,
+    name: Option<(u32, &Items<u8>)>,
+    t: &CType,
+) -> Result<(), Deny> {
     match name {
         None => Ok(()),
         Some((_, name)) => {
