@@ -38,6 +38,7 @@ use Rattle.check_state.specs.declared.state.Stage.{Stage}
 use Rattle.check_state.specs.declared.state.Stage.TheVariants as stage
 use Rattle.check_state.specs.declared.state.State.{State}
 use Rattle.check_state.specs.Names.{captured, addressed}
+use Rattle.check_state.specs.Frames as frames
 use Rattle.check_state.specs.Ticks as ticks
 use Rattle.check_state.specs.Images as images
 use Rattle.check_state.specs.Walks.{Rule, lift}
@@ -172,7 +173,7 @@ string_node bytes s = (nodes.string (images.string_place s.image), record s { im
 
 -- in a tick
 abbrev pub tick_entered : State → State
-tick_entered s = record s { ticks = ticks.entered s.ticks; frame = record (s.frame) { inner = 0 } }
+tick_entered s = record s { ticks = ticks.entered s.ticks; frame = frames.ticked s.frame }
 
 abbrev pub tick_left : TickBody → CType → State → Operand × State
 tick_left b t s = (made (ticks.node s.ticks) t, record s { ticks = ticks.left b s.ticks })

@@ -109,6 +109,10 @@ inner_number f = min (count f.homes + f.inner) 4294967295
 abbrev pub inner_variable : Frame → Frame
 inner_variable f = record f { inner = min (f.inner + 1) 4294967295; nodes = f.nodes ++ st.Variable f.inner ∷ [] }
 
+-- in a tick, which has no variable yet
+abbrev pub ticked : Frame → Frame
+ticked f = record f { inner = 0 }
+
 -- ---- blocks and functions
 
 -- in a block of its own, which has no variable yet

@@ -50,7 +50,7 @@ pub(crate) fn count(len: usize) -> u32
 }
 
 // The sum, as far as a word counts.
-fn plus(a: u32, b: u32) -> u32
+pub(crate) fn plus(a: u32, b: u32) -> u32
     ensures { result ≡ min (a + b) 4294967295 }
 {
     (u64::from(a) + u64::from(b)).min(4294967295) as u32

@@ -5,7 +5,7 @@ ghost use Rattle.std.specs.Option.{option_copied};
 ghost use Rattle.check_state.specs.Functions as spec;
 ghost use Rattle.check_state.specs.Walks.{Reads};
 
-use crate::frame::count;
+use crate::frame::{count, plus};
 use c_types::{DeclareFault, Meaning, MeaningKind, Scopes};
 use sqlite_items::Items;
 use std::alloc::{AllocError, Global};
@@ -51,7 +51,7 @@ impl Functions {
     fn next(&self) -> u32
         ensures { result ≡ spec.next self.now }
     {
-        count(self.all.len()).saturating_add(1)
+        plus(count(self.all.len()), 1)
     }
 
     /// The number that an earlier walk found for the function of this name, 0 where there is none.

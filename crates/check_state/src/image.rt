@@ -83,8 +83,9 @@ impl Image {
         let mut strings = padded(alloc, strings)?;
         let at = strings.len().min(4294967295) as u64;
         let address = word(268435456 + u64::from(self.strings_at) + at);
-        strings.append(Items::from_slice(alloc, bytes)?)?;
-        strings.push(0)?;
+        let mut own = Items::from_slice(alloc, bytes)?;
+        own.push(0)?;
+        strings.append(own)?;
         self.strings = strings;
         Ok(address)
     }

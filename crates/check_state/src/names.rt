@@ -181,7 +181,10 @@ impl State {
     fn home(&self, n: u32) -> Option<Home>
         ensures { result ≡ slice_get self.now.frame.homes n }
     {
-        self.frame.homes.get(n as usize).copied()
+        match self.frame.homes.get(n as usize) {
+            None => None,
+            Some(home) => Some(*home),
+        }
     }
 
     fn in_function(&self, line: u32, n: u32, t: CType) -> Result<Operand, Deny>

@@ -45,18 +45,18 @@ optional None g = pure None
 optional (Some e) g = e.walk g >>= (λ o. pure (Some o))
 
 abbrev pub if_then : ℕ → Node → Item → Around → Rule State (List Stmt)
-if_then line c i a = c.walk a.stage >>= (λ o. body i (Statements.inside a) >>= (λ x. lift (Statements.test_node line o) >>= (λ e. one (st.If e x))))
+if_then line c i a = c.walk a.stage >>= (λ o. body i (Statements.inside a) >>= (λ x. lift (Statements.condition_node line o) >>= (λ e. one (st.If e x))))
 
 abbrev pub if_else : ℕ → Node → Item → Item → Around → Rule State (List Stmt)
 if_else line c i j a =
     c.walk a.stage >>= (λ o. body i (Statements.inside a) >>= (λ x. body j (Statements.inside a)
-    >>= (λ y. lift (Statements.test_node line o) >>= (λ e. one (st.IfElse e x y)))))
+    >>= (λ y. lift (Statements.condition_node line o) >>= (λ e. one (st.IfElse e x y)))))
 
 abbrev pub while_loop : ℕ → Node → Item → Around → Rule State (List Stmt)
-while_loop line c i a = c.walk a.stage >>= (λ o. body i (Statements.looped a) >>= (λ x. lift (Statements.test_node line o) >>= (λ e. one (st.While e x))))
+while_loop line c i a = c.walk a.stage >>= (λ o. body i (Statements.looped a) >>= (λ x. lift (Statements.condition_node line o) >>= (λ e. one (st.While e x))))
 
 abbrev pub do_loop : ℕ → Item → Node → Around → Rule State (List Stmt)
-do_loop line i c a = body i (Statements.looped a) >>= (λ x. c.walk a.stage >>= (λ o. lift (Statements.test_node line o) >>= (λ e. one (st.Do x e))))
+do_loop line i c a = body i (Statements.looped a) >>= (λ x. c.walk a.stage >>= (λ o. lift (Statements.condition_node line o) >>= (λ e. one (st.Do x e))))
 
 abbrev pub for_node : Expr → Option Operand → Stmt → Stmt
 for_node e None x = st.For e x
@@ -66,7 +66,7 @@ for_node e (Some o) x = st.ForStep e (effect o) x
 abbrev pub for_rest : ℕ → Option Node → Option Node → Item → Around → Rule State Stmt
 for_rest line c s i a =
     optional c a.stage >>= (λ o. optional s a.stage >>= (λ p. body i (Statements.looped a)
-    >>= (λ x. lift (Statements.for_test line o) >>= (λ e. pure (for_node e p x)))))
+    >>= (λ x. lift (Statements.for_condition line o) >>= (λ e. pure (for_node e p x)))))
 
 -- with a first part, a block of it and the rest
 abbrev pub for_block : ℕ → Item → Option Node → Option Node → Item → Around → Rule State (List Stmt)

@@ -74,13 +74,13 @@ switch_entered s = Ok (s.labels, with_labels labels.new s)
 
 -- ---- values
 
-abbrev pub test_node : ℕ → Operand → Checked Expr
-test_node line o = nodes.test line (value_of o)
+abbrev pub condition_node : ℕ → Operand → Checked Expr
+condition_node line o = nodes.condition line (value_of o)
 
 -- the test of a `for`, which may be absent
-abbrev pub for_test : ℕ → Option Operand → Checked Expr
-for_test line None = Ok (ex.Const 1)
-for_test line (Some o) = test_node line o
+abbrev pub for_condition : ℕ → Option Operand → Checked Expr
+for_condition line None = Ok (ex.Const 1)
+for_condition line (Some o) = condition_node line o
 
 abbrev pub switched_node : ℕ → Operand → Checked Expr
 switched_node line o = nodes.switched line (value_of o)

@@ -122,21 +122,21 @@ pub fn switch_entered(alloc: Global, state: &mut State) -> Result<Labels, Deny>
     Ok(mem::replace(&mut state.labels, Labels::new(alloc)))
 }
 
-/// The node of a test, as `c_nodes::test`.
-pub fn test_node(alloc: Global, line: u32, o: Operand) -> Result<Expr, Deny>
-    ensures { Checks result (spec.test_node line o) }
+/// The node of a test, as `c_nodes::condition`.
+pub fn condition_node(alloc: Global, line: u32, o: Operand) -> Result<Expr, Deny>
+    ensures { Checks result (spec.condition_node line o) }
 {
     let v = value_of(alloc, o)?;
-    c_nodes::test(line, v)
+    c_nodes::condition(line, v)
 }
 
 /// The node of the test of a `for`: 1 where it is absent.
-pub fn for_test(alloc: Global, line: u32, o: Option<Operand>) -> Result<Expr, Deny>
-    ensures { Checks result (spec.for_test line o) }
+pub fn for_condition(alloc: Global, line: u32, o: Option<Operand>) -> Result<Expr, Deny>
+    ensures { Checks result (spec.for_condition line o) }
 {
     match o {
         None => Ok(Expr::Const(1)),
-        Some(o) => test_node(alloc, line, o),
+        Some(o) => condition_node(alloc, line, o),
     }
 }
 

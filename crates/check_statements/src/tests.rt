@@ -1,9 +1,9 @@
 //! The rules of statements and declarations by hand.
 
 use crate::{
-    body, break_entry, case_entry, case_node, continue_entry, declared_in, default_node, for_test,
-    initialized, inside, length_of, looped, return_node, switch_entered, switched, switched_node,
-    test_node,
+    body, break_entry, case_entry, case_node, condition_node, continue_entry, declared_in,
+    default_node, for_condition, initialized, inside, length_of, looped, return_node,
+    switch_entered, switched, switched_node,
 };
 use c_declared::{Length, Step};
 use c_nodes::{Operand, Place, number};
@@ -70,7 +70,8 @@ fn values_of_statements(rt: HostRuntime) {
     let alloc = rt.alloc();
     let state = State::new(alloc).expect(&rt, "memory");
     assert!(rt;
-        test_node(alloc, 1, number(alloc, 3, false)).is_ok() && for_test(alloc, 1, None).is_ok()
+        condition_node(alloc, 1, number(alloc, 3, false)).is_ok()
+            && for_condition(alloc, 1, None).is_ok()
     );
     assert!(rt; switched_node(alloc, 1, number(alloc, 3, false)).is_ok());
     let back = return_node(alloc, &state, 1, Stage::Function, number(alloc, 3, false));

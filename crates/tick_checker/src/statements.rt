@@ -6,8 +6,8 @@ use c_forms::has_form;
 use c_nodes::{Operand, effect};
 use check_state::{Around, State};
 use check_statements::{
-    body, break_entry, case_entry, case_node, continue_entry, default_node, for_test, inside,
-    looped, return_node, switch_entered, switched, switched_node, test_node,
+    body, break_entry, case_entry, case_node, continue_entry, default_node, for_condition, inside,
+    looped, return_node, switch_entered, switched, switched_node, condition_node,
 };
 use sqlite_items::{Boxed, Items};
 use std::alloc::{AllocError, Global};
@@ -87,7 +87,7 @@ fn branch(
 ) -> Result<Items<Stmt>, Deny> {
     let o = expression(alloc, state, around.stage, c)?;
     let x = body_of(alloc, state, inside(around), a)?;
-    let test = test_node(alloc, line, o)?;
+    let test = condition_node(alloc, line, o)?;
     Ok(one(alloc, if_then(alloc, test, x)?)?)
 }
 
@@ -104,7 +104,7 @@ fn branches(
     let o = expression(alloc, state, around.stage, c)?;
     let x = body_of(alloc, state, inside(around), a)?;
     let y = body_of(alloc, state, inside(around), b)?;
-    let test = test_node(alloc, line, o)?;
+    let test = condition_node(alloc, line, o)?;
     let node = typed_tree::if_else(alloc, test, Boxed::new(alloc, x)?, y)?;
     Ok(one(alloc, node)?)
 }
@@ -120,7 +120,7 @@ fn repeated(
 ) -> Result<Items<Stmt>, Deny> {
     let o = expression(alloc, state, around.stage, c)?;
     let x = body_of(alloc, state, looped(around), a)?;
-    let test = test_node(alloc, line, o)?;
+    let test = condition_node(alloc, line, o)?;
     Ok(one(alloc, while_loop(alloc, test, x)?)?)
 }
 
@@ -135,7 +135,7 @@ fn done_first(
 ) -> Result<Items<Stmt>, Deny> {
     let x = body_of(alloc, state, looped(around), a)?;
     let o = expression(alloc, state, around.stage, c)?;
-    let test = test_node(alloc, line, o)?;
+    let test = condition_node(alloc, line, o)?;
     Ok(one(alloc, do_loop(alloc, x, test)?)?)
 }
 
@@ -168,7 +168,7 @@ fn for_rest(
     let o = optional(alloc, state, around.stage, c)?;
     let step = optional(alloc, state, around.stage, s)?;
     let x = body_of(alloc, state, looped(around), a)?;
-    let test = for_test(alloc, line, o)?;
+    let test = for_condition(alloc, line, o)?;
     Ok(for_node(alloc, test, step, x)?)
 }
 

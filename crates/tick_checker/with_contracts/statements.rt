@@ -12,8 +12,8 @@ use c_forms::has_form;
 use c_nodes::{Operand, effect};
 use check_state::{Around, State};
 use check_statements::{
-    body, break_entry, case_entry, case_node, continue_entry, default_node, for_test, inside, looped, return_node,
-    switch_entered, switched, switched_node, test_node,
+    body, break_entry, case_entry, case_node, continue_entry, default_node, for_condition, inside, looped, return_node,
+    switch_entered, switched, switched_node, condition_node,
 };
 use sqlite_items::Items;
 use std::alloc::{AllocError, Global};
@@ -79,7 +79,7 @@ fn branch(alloc: Global, state: &mut State, line: u32, around: Around, c: &Expr,
 {
     let o = expression(alloc, state, around.stage, c)?;
     let x = body_of(alloc, state, inside(around), a)?;
-    let test = test_node(alloc, line, o)?;
+    let test = condition_node(alloc, line, o)?;
     Ok(one(alloc, if_then(alloc, test, x)?)?)
 }
 
@@ -90,7 +90,7 @@ fn branches(alloc: Global, state: &mut State, line: u32, around: Around, c: &Exp
     let o = expression(alloc, state, around.stage, c)?;
     let x = body_of(alloc, state, inside(around), a)?;
     let y = body_of(alloc, state, inside(around), b)?;
-    let test = test_node(alloc, line, o)?;
+    let test = condition_node(alloc, line, o)?;
     let node = typed_tree::if_else(alloc, test, Boxed::new(alloc, x)?, y)?;
     Ok(one(alloc, node)?)
 }
@@ -101,7 +101,7 @@ fn repeated(alloc: Global, state: &mut State, line: u32, around: Around, c: &Exp
 {
     let o = expression(alloc, state, around.stage, c)?;
     let x = body_of(alloc, state, looped(around), a)?;
-    let test = test_node(alloc, line, o)?;
+    let test = condition_node(alloc, line, o)?;
     Ok(one(alloc, while_loop(alloc, test, x)?)?)
 }
 
@@ -111,7 +111,7 @@ fn done_first(alloc: Global, state: &mut State, line: u32, around: Around, a: &s
 {
     let x = body_of(alloc, state, looped(around), a)?;
     let o = expression(alloc, state, around.stage, c)?;
-    let test = test_node(alloc, line, o)?;
+    let test = condition_node(alloc, line, o)?;
     Ok(one(alloc, do_loop(alloc, x, test)?)?)
 }
 
@@ -135,7 +135,7 @@ fn for_rest(alloc: Global, state: &mut State, line: u32, around: Around, c: &Opt
     let o = optional(alloc, state, around.stage, c)?;
     let step = optional(alloc, state, around.stage, s)?;
     let x = body_of(alloc, state, looped(around), a)?;
-    let test = for_test(alloc, line, o)?;
+    let test = for_condition(alloc, line, o)?;
     Ok(for_node(alloc, test, step, x)?)
 }
 
