@@ -38,10 +38,10 @@ use Rattle.check_state.specs.declared.state.Stage.{Stage}
 use Rattle.check_state.specs.declared.state.Stage.TheVariants as stage
 use Rattle.check_state.specs.declared.state.State.{State}
 use Rattle.check_state.specs.Names.{captured, addressed}
-use Rattle.check_state.specs.Frames as frames
-use Rattle.check_state.specs.Ticks as ticks
-use Rattle.check_state.specs.Images as images
-use Rattle.check_state.specs.Walks.{Rule, lift}
+use Rattle.check_tables.specs.Frames as frames
+use Rattle.check_tables.specs.Ticks as ticks
+use Rattle.check_tables.specs.Images as images
+use Rattle.check_tables.specs.Walks.{Rule, lift}
 
 -- ---- specifications that are left over in a tick
 

@@ -22,9 +22,9 @@ use Rattle.check_state.specs.declared.state.Stage.{Stage}
 use Rattle.check_state.specs.declared.state.Stage.TheVariants as stage
 use Rattle.check_state.specs.declared.state.State.{State}
 use Rattle.check_state.specs.Blocks.{depth, enter, leave}
-use Rattle.check_state.specs.Frames as frames
+use Rattle.check_tables.specs.Frames as frames
 use Rattle.check_state.specs.Names.{named, library}
-use Rattle.check_state.specs.Walks.{Rule, ◌>>=◌, pure, lift}
+use Rattle.check_tables.specs.Walks.{Rule, ◌>>=◌, pure, lift}
 use Rattle.check_expressions.specs.Entries.{tick_entry, staging_entry, unary_entry}
 use Rattle.check_expressions.specs.Productions
 

@@ -3,7 +3,7 @@
 ghost use Rattle.std.specs.Prelude.{◌≡◌, IfOk};
 ghost use Rattle.tick_tree.specs.Faults.{Checks};
 ghost use Rattle.check_state.specs.Names.{Gives};
-ghost use Rattle.check_state.specs.Walks.{Reads};
+ghost use Rattle.check_tables.specs.Walks.{Reads};
 ghost use Rattle.check_expressions.specs.Productions as spec;
 
 use c_nodes::{Operand, Place, Value, made, settled, value_of, values};

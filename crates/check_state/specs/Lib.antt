@@ -1,10 +1,4 @@
 pub mod Blocks
-pub mod Frames
-pub mod Functions
-pub mod Images
-pub mod Labels
 pub mod Locals
 pub mod Names
 pub mod Starts
-pub mod Ticks
-pub mod Walks

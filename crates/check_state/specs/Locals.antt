@@ -7,15 +7,15 @@ use Rattle.c_types.specs.declared.names.MeaningKind.TheVariants as kind
 use Rattle.c_types.specs.Scopes.{Name}
 use Rattle.c_nodes.specs.declared.operand.Operand.{Operand}
 use Rattle.c_nodes.specs.declared.operand.Place.TheVariants as place
-use Rattle.check_state.specs.declared.frame.Frame.{Frame}
-use Rattle.check_state.specs.declared.frame.Home.{Home}
-use Rattle.check_state.specs.declared.frame.Home.TheVariants as home
+use Rattle.check_tables.specs.declared.frame.Frame.{Frame}
+use Rattle.check_tables.specs.declared.frame.Home.{Home}
+use Rattle.check_tables.specs.declared.frame.Home.TheVariants as home
 use Rattle.check_state.specs.declared.state.Stage.{Stage}
 use Rattle.check_state.specs.declared.state.Stage.TheVariants as stage
 use Rattle.check_state.specs.declared.state.State.{State}
-use Rattle.check_state.specs.Frames as frames
+use Rattle.check_tables.specs.Frames as frames
 use Rattle.check_state.specs.Names.{declare, operand, place_by}
-use Rattle.check_state.specs.Walks.{Rule, ◌>>=◌}
+use Rattle.check_tables.specs.Walks.{Rule, ◌>>=◌}
 
 abbrev pub meaning : MeaningKind → CType → ℕ → Meaning
 meaning k t n = record { kind = k; ctype = t; index = n }

@@ -21,15 +21,15 @@ use Rattle.c_nodes.specs.declared.operand.Place.{Place}
 use Rattle.c_nodes.specs.declared.operand.Place.TheVariants as place
 use Rattle.c_nodes.specs.declared.operand.Operand.{Operand}
 use Rattle.c_nodes.specs.Operands.{effect, made}
-use Rattle.check_state.specs.declared.frame.Home.{Home}
-use Rattle.check_state.specs.declared.frame.Home.TheVariants as home
-use Rattle.check_state.specs.declared.frame.Frame.{Frame}
+use Rattle.check_tables.specs.declared.frame.Home.{Home}
+use Rattle.check_tables.specs.declared.frame.Home.TheVariants as home
+use Rattle.check_tables.specs.declared.frame.Frame.{Frame}
 use Rattle.check_state.specs.declared.state.Stage.{Stage}
 use Rattle.check_state.specs.declared.state.Stage.TheVariants as stage
 use Rattle.check_state.specs.declared.state.State.{State}
-use Rattle.check_state.specs.Frames.{count, marked}
-use Rattle.check_state.specs.Ticks as ticks
-use Rattle.check_state.specs.Walks.{Rule}
+use Rattle.check_tables.specs.Frames.{count, marked}
+use Rattle.check_tables.specs.Ticks as ticks
+use Rattle.check_tables.specs.Walks.{Rule}
 
 -- ---- declarations
 

@@ -15,13 +15,13 @@ use Rattle.tick_tree.specs.Faults.{Checked}
 use Rattle.tick_tree.specs.declared.fault.Deny.{Deny}
 use Rattle.tick_tree.specs.declared.fault.Deny.TheVariants.{Refused, NoMemory}
 use Rattle.check_state.specs.declared.state.State.{State}
-use Rattle.check_state.specs.Frames as frames
-use Rattle.check_state.specs.Functions as functions
-use Rattle.check_state.specs.Images as images
-use Rattle.check_state.specs.Labels as labels
+use Rattle.check_tables.specs.Frames as frames
+use Rattle.check_tables.specs.Functions as functions
+use Rattle.check_tables.specs.Images as images
+use Rattle.check_tables.specs.Labels as labels
 use Rattle.check_state.specs.Names.{declare}
-use Rattle.check_state.specs.Ticks as ticks
-use Rattle.check_state.specs.Walks.{Rule, ◌>>=◌}
+use Rattle.check_tables.specs.Ticks as ticks
+use Rattle.check_tables.specs.Walks.{Rule, ◌>>=◌}
 
 abbrev pub int : CType
 int = shapes.integer integer.Int

@@ -2,7 +2,7 @@
 
 ghost use Rattle.std.specs.Prelude.{◌≡◌, ◌<◌, length};
 ghost use Rattle.check_state.specs.Blocks as spec;
-ghost use Rattle.check_state.specs.Walks.{Reads};
+ghost use Rattle.check_tables.specs.Walks.{Reads};
 
 use crate::state::State;
 use sqlite_items::Items;

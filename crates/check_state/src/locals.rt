@@ -3,9 +3,9 @@
 ghost use Rattle.std.specs.Prelude.{◌≡◌, IfOk};
 ghost use Rattle.check_state.specs.Locals as spec;
 ghost use Rattle.check_state.specs.Names.{Gives};
-ghost use Rattle.check_state.specs.Walks.{Reads};
+ghost use Rattle.check_tables.specs.Walks.{Reads};
 
-use crate::frame::{Frame, Home};
+use check_tables::{Frame, Home};
 use crate::names::{operand, place_by};
 use crate::state::{Stage, State};
 use c_nodes::{Operand, Place};

@@ -3,11 +3,11 @@
 ghost use Rattle.std.specs.Prelude.{◌≡◌, IfOk, OnOk, slice_get};
 ghost use Rattle.c_types.specs.Scopes as scopes;
 ghost use Rattle.c_nodes.specs.Operands as nodes;
-ghost use Rattle.check_state.specs.Ticks as ticks;
+ghost use Rattle.check_tables.specs.Ticks as ticks;
 ghost use Rattle.check_state.specs.Names as spec;
-ghost use Rattle.check_state.specs.Walks.{Reads};
+ghost use Rattle.check_tables.specs.Walks.{Reads};
 
-use crate::frame::Home;
+use check_tables::Home;
 use crate::state::{Stage, State};
 use c_nodes::{Operand, Place, made};
 use c_shapes::{inner, is_cspec, is_void, is_vspec};

@@ -3,13 +3,9 @@
 ghost use Rattle.std.specs.Prelude.{◌≡◌, [], ◌∷◌, IfOk};
 ghost use Rattle.c_shapes.specs.Shapes as shapes;
 ghost use Rattle.check_state.specs.Starts as spec;
-ghost use Rattle.check_state.specs.Walks.{Reads};
+ghost use Rattle.check_tables.specs.Walks.{Reads};
 
-use crate::frame::Frame;
-use crate::functions::Functions;
-use crate::image::Image;
-use crate::labels::Labels;
-use crate::ticks::Ticks;
+use check_tables::{Frame, Functions, Image, Labels, Ticks};
 use c_shapes::{integer, over, void};
 use c_types::{CType, Integer, Layer, Meaning, MeaningKind, Scopes};
 use sqlite_items::Items;

@@ -1,6 +1,6 @@
 //! The steps of the walk by hand.
 
-use crate::{Labels, Stage, State};
+use crate::{Stage, State};
 use c_nodes::Place;
 use c_shapes::{integer, over};
 use c_types::{Integer, Layer, Meaning, MeaningKind};
@@ -64,35 +64,4 @@ fn names_of_a_tick_and_of_specifications(rt: HostRuntime) {
     assert!(rt; matches!(found.place, Place::Value(Expr::Splice(_, 0))));
     let body = TickBody::Expression(Expr::Const(1));
     assert!(rt; matches!(state.ticks.leave(alloc, body), Ok(Expr::Tick(0, _))));
-}
-
-#[test]
-fn strings_stand_at_multiples_of_four(rt: HostRuntime) {
-    let alloc = rt.alloc();
-    let mut state = State::new(alloc).expect(&rt, "memory");
-    assert!(rt; state.image.string(alloc, b"abcd") == Ok(268435456));
-    assert!(rt; state.image.string(alloc, b"") == Ok(268435464));
-    assert!(rt; state.image.global(5) == 0 && state.image.global(4) == 8);
-    let mut state = state.again(alloc).expect(&rt, "memory");
-    assert!(rt; state.image.string(alloc, b"") == Ok(268435468));
-}
-
-#[test]
-fn labels_and_functions_stand_once(rt: HostRuntime) {
-    let alloc = rt.alloc();
-    let mut labels = Labels::new(alloc);
-    assert!(rt; labels.case(1, 7).is_ok() && labels.case(1, 8).is_ok());
-    assert!(rt; labels.default(1).is_ok() && labels.default(1).is_err());
-    assert!(rt; labels.case(1, 7).is_err());
-    let mut state = State::new(alloc).expect(&rt, "memory");
-    assert!(rt; state.functions.prototype(alloc, 3, b"f").is_ok());
-    assert!(rt; state.functions.undefined().map(|p| p.line) == Some(3));
-    assert!(rt;
-        state.functions.define(alloc, 4, b"f").is_ok() && state.functions.undefined().is_none()
-    );
-    assert!(rt;
-        state.functions.define(alloc, 5, b"f").is_err() && state.functions.number(b"f") == 0
-    );
-    let state = state.again(alloc).expect(&rt, "memory");
-    assert!(rt; state.functions.number(b"f") == 1);
 }

@@ -26,7 +26,7 @@ use Rattle.check_state.specs.declared.state.State.{State}
 use Rattle.check_state.specs.Blocks.{depth, enter, leave}
 use Rattle.check_state.specs.Locals.{meaning}
 use Rattle.check_state.specs.Names.{declare}
-use Rattle.check_state.specs.Walks.{Rule, ◌>>=◌, pure, lift}
+use Rattle.check_tables.specs.Walks.{Rule, ◌>>=◌, pure, lift}
 use Rattle.check_expressions.specs.Rules.{Node, Named, Shape, Item, each, block}
 use Rattle.check_statements.specs.Declarations.{length_of}
 use Rattle.check_statements.specs.Statements

@@ -13,13 +13,13 @@ use Rattle.c_nodes.specs.Operands as nodes
 use Rattle.c_nodes.specs.Operands.{value_of, effect}
 use Rattle.c_places.specs.Calls as calls
 use Rattle.c_constants.specs.Constants.{constant}
-use Rattle.check_state.specs.declared.labels.Labels.{Labels}
+use Rattle.check_tables.specs.declared.labels.Labels.{Labels}
 use Rattle.check_state.specs.declared.state.Around.{Around}
 use Rattle.check_state.specs.declared.state.Stage.{Stage}
 use Rattle.check_state.specs.declared.state.Stage.TheVariants as stage
 use Rattle.check_state.specs.declared.state.State.{State}
-use Rattle.check_state.specs.Labels as labels
-use Rattle.check_state.specs.Walks.{Rule, ◌>>=◌}
+use Rattle.check_tables.specs.Labels as labels
+use Rattle.check_tables.specs.Walks.{Rule, ◌>>=◌}
 use Rattle.tick_tree.specs.Faults.{◌>>=◌ as ◌>>>=◌}
 
 -- ---- what stands round the parts

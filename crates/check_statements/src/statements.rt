@@ -2,12 +2,13 @@
 
 ghost use Rattle.std.specs.Prelude.{◌≡◌, IfOk};
 ghost use Rattle.tick_tree.specs.Faults.{Checks};
-ghost use Rattle.check_state.specs.Walks.{Reads};
+ghost use Rattle.check_tables.specs.Walks.{Reads};
 ghost use Rattle.check_statements.specs.Statements as spec;
 
 use c_constants::constant_value;
 use c_nodes::{Operand, effect, value_of};
-use check_state::{Around, Labels, Stage, State};
+use check_state::{Around, Stage, State};
+use check_tables::Labels;
 use sqlite_items::Items;
 use std::alloc::Global;
 use std::mem;

@@ -39,7 +39,7 @@ use Rattle.check_state.specs.declared.state.Stage.{Stage}
 use Rattle.check_state.specs.declared.state.State.{State}
 use Rattle.check_state.specs.Locals.{meaning, local}
 use Rattle.check_state.specs.Names.{declare}
-use Rattle.check_state.specs.Walks.{Rule, ◌>>=◌, pure, lift}
+use Rattle.check_tables.specs.Walks.{Rule, ◌>>=◌, pure, lift}
 use Rattle.check_expressions.specs.Rules as rules
 use Rattle.check_expressions.specs.Rules.{Node, Named, Shape, Item, each, walk_rule}
 use Rattle.check_statements.specs.Declarations.{declared_in, initialized}

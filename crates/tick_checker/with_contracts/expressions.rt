@@ -2,7 +2,7 @@
 
 ghost use Rattle.std.specs.Prelude.{◌≡◌};
 ghost use Rattle.check_expressions.specs.Rules as rules;
-ghost use Rattle.check_state.specs.Walks.{Reads};
+ghost use Rattle.check_tables.specs.Walks.{Reads};
 ghost use Rattle.tick_checker.specs.Walk as spec;
 
 use crate::statements::block;

@@ -1,7 +1,7 @@
 //! The bytes of globals and of strings, and where they stand.
 
 ghost use Rattle.std.specs.Prelude.{◌≡◌, ◌++◌, replicate, IfOk, OnOk};
-ghost use Rattle.check_state.specs.Images as spec;
+ghost use Rattle.check_tables.specs.Images as spec;
 
 use sqlite_items::Items;
 use std::alloc::{AllocError, Global};

@@ -2,8 +2,8 @@
 
 ghost use Rattle.std.specs.Prelude.{◌≡◌, IfOk, OnOk};
 ghost use Rattle.std.specs.Option.{option_copied};
-ghost use Rattle.check_state.specs.Functions as spec;
-ghost use Rattle.check_state.specs.Walks.{Reads};
+ghost use Rattle.check_tables.specs.Functions as spec;
+ghost use Rattle.check_tables.specs.Walks.{Reads};
 
 use crate::frame::{count, plus};
 use c_types::{DeclareFault, Meaning, MeaningKind, Scopes};

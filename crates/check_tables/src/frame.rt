@@ -1,9 +1,8 @@
 //! The function that the walk is in: its variables, and which of them need an address.
 
-ghost use Rattle.std.specs.Prelude.{◌≡◌, ◌+◌, min, OnOk};
-ghost use Rattle.std.specs.Option.{option_copied};
+ghost use Rattle.std.specs.Prelude.{◌≡◌, ◌+◌, min, OnOk, slice_get};
 ghost use Rattle.c_declared.specs.Making as making;
-ghost use Rattle.check_state.specs.Frames as spec;
+ghost use Rattle.check_tables.specs.Frames as spec;
 
 use c_shapes::width_of;
 use c_types::{CType, Layer, limited_size};
@@ -56,21 +55,12 @@ pub(crate) fn plus(a: u32, b: u32) -> u32
     (u64::from(a) + u64::from(b)).min(4294967295) as u32
 }
 
-fn mark_by(mark: Option<&bool>) -> bool
-    ensures { result ≡ spec.mark_by (option_copied mark) }
+fn mark_of(marks: &Items<bool>, n: usize) -> bool
+    ensures { result ≡ spec.mark_by (slice_get marks.now n) }
 {
-    match mark {
+    match marks.get(n) {
         None => false,
         Some(mark) => *mark,
-    }
-}
-
-fn mark_in(n: usize, marks: Option<&Items<bool>>) -> bool
-    ensures { result ≡ spec.mark_in n (option_copied marks) }
-{
-    match marks {
-        None => false,
-        Some(marks) => mark_by(marks.get(n)),
     }
 }
 
@@ -129,7 +119,10 @@ impl Frame {
     fn needs_address(&self) -> bool
         ensures { result ≡ spec.needs_address self.now }
     {
-        mark_in(self.homes.len(), self.objects.get(self.done.len()))
+        match self.objects.get(self.done.len()) {
+            None => false,
+            Some(marks) => mark_of(marks, self.homes.len()),
+        }
     }
 
     /// Marks that the variable of this number needs an address.
@@ -142,7 +135,8 @@ impl Frame {
         }
     }
 
-    pub(crate) fn is_object(&self, t: &CType) -> bool
+    /// Whether the next variable is a frame object, where it has this type.
+    pub fn is_object(&self, t: &CType) -> bool
         ensures { result ≡ spec.is_object t.now self.now }
     {
         is_array(t.layers.as_slice()) || self.needs_address()

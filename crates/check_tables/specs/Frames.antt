@@ -8,9 +8,9 @@ use Rattle.c_declared.specs.Making.{is_array}
 use Rattle.c_shapes.specs.Shapes.{width_of, void}
 use Rattle.typed_tree.specs.declared.expression.Stmt.{Stmt}
 use Rattle.typed_tree.specs.declared.expression.Stmt.TheVariants as st
-use Rattle.check_state.specs.declared.frame.Home.{Home}
-use Rattle.check_state.specs.declared.frame.Home.TheVariants as home
-use Rattle.check_state.specs.declared.frame.Frame.{Frame}
+use Rattle.check_tables.specs.declared.frame.Home.{Home}
+use Rattle.check_tables.specs.declared.frame.Home.TheVariants as home
+use Rattle.check_tables.specs.declared.frame.Frame.{Frame}
 
 -- before all functions
 abbrev pub new : Frame

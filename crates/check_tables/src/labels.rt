@@ -1,8 +1,8 @@
 //! The cases of a switch.
 
 ghost use Rattle.std.specs.Prelude.{◌≡◌, ◌↔◌, IfOk, OnOk, OnErr, IsTrue, not, if◌then◌else◌, ◌++◌, ◌∷◌, []};
-ghost use Rattle.check_state.specs.Labels as spec;
-ghost use Rattle.check_state.specs.Walks.{Reads};
+ghost use Rattle.check_tables.specs.Labels as spec;
+ghost use Rattle.check_tables.specs.Walks.{Reads};
 
 use indexmap::IndexSet;
 use std::alloc::{AllocError, Global};

@@ -2,7 +2,7 @@
 -- of the text, each from a multiple of 4 on. An earlier walk says where the globals end, and so where the strings begin.
 -- These are this project's own rules.
 use Rattle.std.specs.Prelude.{ℕ, ◌+◌, ◌-◌, ◌*◌, ◌/◌, ◌%◌, min, nat_le, if◌then◌else◌, List, [], ◌∷◌, ◌++◌, length, replicate}
-use Rattle.check_state.specs.declared.image.Image.{Image}
+use Rattle.check_tables.specs.declared.image.Image.{Image}
 
 abbrev pub new : Image
 new = record { globals = []; end = 0; strings = []; strings_at = 0 }

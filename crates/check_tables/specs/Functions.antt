@@ -9,10 +9,10 @@ use Rattle.c_shapes.specs.Shapes.{void}
 use Rattle.tick_tree.specs.declared.fault.FaultKind.TheVariants as fault
 use Rattle.tick_tree.specs.Faults.{Checked, refuse}
 use Rattle.typed_tree.specs.declared.program.Function.{Function}
-use Rattle.check_state.specs.declared.functions.Prototype.{Prototype}
-use Rattle.check_state.specs.declared.functions.Functions.{Functions}
-use Rattle.check_state.specs.Frames.{count}
-use Rattle.check_state.specs.Walks.{Rule}
+use Rattle.check_tables.specs.declared.functions.Prototype.{Prototype}
+use Rattle.check_tables.specs.declared.functions.Functions.{Functions}
+use Rattle.check_tables.specs.Frames.{count}
+use Rattle.check_tables.specs.Walks.{Rule}
 
 abbrev pub new : Functions
 new = record { defined = [] ∷ []; earlier = [] ∷ []; prototypes = []; all = [] }

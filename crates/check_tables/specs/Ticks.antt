@@ -7,8 +7,8 @@ use Rattle.typed_tree.specs.declared.expression.Expr.TheVariants as ex
 use Rattle.typed_tree.specs.declared.program.Tick.{Tick}
 use Rattle.typed_tree.specs.declared.program.TickBody.{TickBody}
 use Rattle.typed_tree.specs.Sizes.{body_size}
-use Rattle.check_state.specs.declared.ticks.Ticks.{Ticks}
-use Rattle.check_state.specs.Frames.{count}
+use Rattle.check_tables.specs.declared.ticks.Ticks.{Ticks}
+use Rattle.check_tables.specs.Frames.{count}
 
 abbrev pub new : Ticks
 new = record { captures = []; all = [] }

@@ -3,8 +3,8 @@ use Rattle.std.specs.Prelude.{ℕ, ◌==◌, Bool, true, false, List, [], ◌∷
 use Rattle.std.specs.List.{list_any}
 use Rattle.tick_tree.specs.declared.fault.FaultKind.TheVariants.{DuplicateCase}
 use Rattle.tick_tree.specs.Faults.{Checked, refuse}
-use Rattle.check_state.specs.declared.labels.Labels.{Labels}
-use Rattle.check_state.specs.Walks.{Rule}
+use Rattle.check_tables.specs.declared.labels.Labels.{Labels}
+use Rattle.check_tables.specs.Walks.{Rule}
 
 abbrev pub new : Labels
 new = record { values = []; has_default = false }

@@ -1,7 +1,7 @@
 //! The tick that the walk is in, and the ticks of the program so far.
 
 ghost use Rattle.std.specs.Prelude.{◌≡◌, IfOk, OnOk};
-ghost use Rattle.check_state.specs.Ticks as spec;
+ghost use Rattle.check_tables.specs.Ticks as spec;
 
 use crate::frame::count;
 use sqlite_items::Items;
