@@ -18,7 +18,8 @@ fn marked_variables_are_objects_in_the_next_walk(rt: HostRuntime) {
     frame.again(alloc);
     frame.begin(alloc, integer(alloc, Integer::Int));
     assert!(rt; frame.parameter(&int).is_ok() && frame.variable(&int).is_ok());
-    assert!(rt; frame.homes.as_slice() == [Home::Register, Home::Object(0)]);
+    assert!(rt; frame.homes.get(0) == Some(&Home::Register));
+    assert!(rt; frame.homes.get(1) == Some(&Home::Object(0)));
     assert!(rt; frame.object == 4);
 }
 
