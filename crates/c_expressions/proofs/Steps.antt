@@ -1,5 +1,5 @@
 -- One step of a walk over strings, and of each chain of operators.
-use Rattle.std.proofs.Common.{◌≡◌, ℕ, suc, ◌<◌, ◌-◌, true, false, [], ◌∷◌, ◌++◌, length, List, refl, ap, ◌∙◌, arith, cond}
+use Rattle.std.proofs.Common.{◌≡◌, ℕ, suc, ◌<◌, true, false, [], ◌∷◌, ◌++◌, length, List, refl, ap, arith, cond}
 use Rattle.std.specs.Prelude.{Ok, Option, Some, None, is_some}
 use Rattle.tick_tree.specs.declared.base.BinaryOp.{BinaryOp}
 use Rattle.tick_tree.specs.declared.syntax.Expr.{Expr}
@@ -72,7 +72,7 @@ level_goes n o room left i h = chain_goes (binary_of n) (binary_step (level n)) 
 pub level_stops : (n : ℕ) (room : Room) (left : Expr) (i : Input) → binary_of n (kind i) ≡ None → chain (binary_of n) (binary_step (level n)) room left i ≡ Ok (left, i)
 level_stops n room left i h = chain_stops (binary_of n) (binary_step (level n)) room left i h
 
-level_of : (n : ℕ) (room : Room) (i : Input) → level (suc n) room i ≡ (level n room >>= chain (binary_of n) (binary_step (level n)) room) i
+pub level_of : (n : ℕ) (room : Room) (i : Input) → level (suc n) room i ≡ (level n room >>= chain (binary_of n) (binary_step (level n)) room) i
 unfolding level
 level_of n room i = refl
 
@@ -80,7 +80,4 @@ pub level_none : (room : Room) (i : Input) → level 0 room i ≡ unary room i
 unfolding level
 level_none room i = refl
 
-pub level_more : (n : ℕ) (room : Room) (i : Input) → 0 < n → level n room i ≡ (level (n - 1) room >>= chain (binary_of (n - 1)) (binary_step (level (n - 1))) room) i
-level_more n room i h = let e : n ≡ suc (n - 1) = omega arith in ap (λ m. level m room i) e ∙ level_of (n - 1) room i
-
-pub ruleset level_steps = (level_goes, level_stops, level_none)
+pub ruleset level_steps = (level_goes, level_stops)

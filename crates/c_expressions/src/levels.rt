@@ -5,10 +5,11 @@ ghost use Rattle.c_grammar.specs.Input.{Reads};
 ghost use Rattle.c_grammar.specs.Expressions as spec;
 ghost use Rattle.c_grammar.specs.Statements.{inner, room_of};
 ghost use Rattle.c_grammar.specs.Nests.{Nests};
+ghost use Rattle.c_expressions.specs.Precedence.{chain_at};
 
 use crate::expressions::Expressions;
 use crate::nodes;
-use crate::operators::{binary_of, is_comma};
+use crate::operators::{binary_of, is_comma, looseness_within};
 use c_grammar::{Kind, Mark, Mode, Part, Stop, Tokens, enter};
 use std::alloc::Global;
 use tick_tree::{Declarator, Expr, ModifyOp, Stmt};
@@ -21,25 +22,47 @@ impl<
     S: Fn(Global, &mut Tokens<'_>, usize) -> Result<Stmt, Stop>,
     D: Fn(Global, &mut Tokens<'_>, usize, Mode) -> Result<Declarator, Stop>,
 > Expressions<F, S, D> {
-    // The operators that bind tighter than those of this level.
+    // The operators of this level, behind their first operand.
     #[cycle(level)]
     #[tactic(auto, using(crate::proofs::Steps::level_steps))]
-    fn level(&self, tokens: &mut Tokens<'_>, room: usize, level: u8) -> Result<Expr, Stop>
+    fn chain(
+        &self,
+        tokens: &mut Tokens<'_>,
+        room: usize,
+        level: u8,
+        first: Expr,
+    ) -> Result<Expr, Stop>
         requires nests { Nests self.now.grammar.limit (F.pre self.now.grammar.expr) (F.post self.now.grammar.expr) (S.pre self.now.grammar.stmt) (S.post self.now.grammar.stmt) (D.pre self.now.grammar.declarator) (D.post self.now.grammar.declarator) }
         requires room { room ≤ self.now.grammar.limit }
-        ensures { Reads (spec.level level (room_of room) tokens.old) result tokens.new }
+        requires small { level < 10 }
+        ensures { Reads (chain_at level (room_of room) first tokens.old) result tokens.new }
     {
-        if level == 0 {
-            return self.unary(tokens, room);
-        }
-        let mut left = self.level(tokens, room, level - 1)?;
+        let mut left = first;
         let mut room = room;
-        while let Some(op) = binary_of(level - 1, tokens.peek()) {
+        while let Some(op) = binary_of(level, tokens.peek()) {
             let line = tokens.line();
             enter(tokens, room)?;
             room -= 1;
-            let right = self.level(tokens, room, level - 1)?;
+            let right = self.level(tokens, room, level)?;
             left = nodes::binary(self.grammar.alloc, line, op, left, right)?;
+        }
+        Ok(left)
+    }
+
+    // The operators that bind tighter than those of this level. Levels without an operator are passed over.
+    #[cycle(level)]
+    #[tactic(auto, using(crate::proofs::Climbs::climb_steps))]
+    fn level(&self, tokens: &mut Tokens<'_>, room: usize, level: u8) -> Result<Expr, Stop>
+        requires nests { Nests self.now.grammar.limit (F.pre self.now.grammar.expr) (F.post self.now.grammar.expr) (S.pre self.now.grammar.stmt) (S.post self.now.grammar.stmt) (D.pre self.now.grammar.declarator) (D.post self.now.grammar.declarator) }
+        requires room { room ≤ self.now.grammar.limit }
+        requires small { level ≤ 10 }
+        ensures { Reads (spec.level level (room_of room) tokens.old) result tokens.new }
+    {
+        let mut left = self.unary(tokens, room)?;
+        let mut least = 0;
+        while let Some(next) = looseness_within(least, level, tokens.peek()) {
+            left = self.chain(tokens, room, next, left)?;
+            least = next + 1;
         }
         Ok(left)
     }

@@ -1,6 +1,7 @@
 //! The operators that tokens are.
 
-ghost use Rattle.std.specs.Prelude.{◌≡◌, is_some};
+ghost use Rattle.std.specs.Prelude.{◌≡◌, ◌<◌, ◌≤◌, is_some, IfSome};
+ghost use Rattle.c_expressions.specs.Precedence as precedence;
 ghost use Rattle.c_grammar.specs.Expressions as spec;
 
 use c_grammar::{Kind, Mark, Postfix};
@@ -75,6 +76,34 @@ pub fn binary_of(level: u8, kind: Kind) -> Option<BinaryOp>
             }
         }
         _ => None,
+    }
+}
+
+#[tactic(auto, unfolding(crate::specs::Precedence::operator_of))]
+fn operator_of(kind: Kind) -> Option<BinaryOp>
+    ensures { result ≡ precedence.operator_of kind }
+{
+    match kind {
+        Kind::Operator(op) => Some(op),
+        _ => None,
+    }
+}
+
+/// How loosely the kind binds between operands, where it is an operator of a looseness from `least` on and under `end`.
+pub fn looseness_within(least: u8, end: u8, kind: Kind) -> Option<u8>
+    ensures value { result ≡ precedence.loosely least end (precedence.operator_of kind) }
+    ensures within { IfSome result (λ n. (least ≤ n) × (n < end)) }
+{
+    match operator_of(kind) {
+        None => None,
+        Some(op) => {
+            let found = looseness(op);
+            if least <= found && found < end {
+                Some(found)
+            } else {
+                None
+            }
+        }
     }
 }
 
