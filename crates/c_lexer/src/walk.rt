@@ -75,12 +75,16 @@ impl<'a> Walk<'a> {
         ensures text { self.new.text.now ≡ self.old.text.now }
         ensures at { self.new.at ≡ self.old.at + n }
     {
-        for _ in 0..n {
-            if self.text[self.at] == b'\n' {
-                self.line += 1;
+        let text = self.text;
+        let end = self.at + n;
+        let mut line = self.line;
+        for at in self.at..end {
+            if text[at] == b'\n' {
+                line += 1;
             }
-            self.at += 1;
         }
+        self.line = line;
+        self.at = end;
     }
 }
 

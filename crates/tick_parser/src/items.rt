@@ -108,22 +108,17 @@ fn kind_by(kind: TokenKind, bytes: &[u8]) -> Kind
     }
 }
 
-fn value_by(kind: TokenKind, bytes: &[u8]) -> u32
-    ensures { result ≡ spec.value_by kind bytes.now }
+// The value of a number or a character, and whether a number is unsigned.
+fn value_by(kind: TokenKind, bytes: &[u8]) -> (u32, bool)
+    ensures { result ≡ (spec.value_by kind bytes.now, spec.unsigned_by kind bytes.now) }
 {
     match kind {
-        TokenKind::Number => numeral_at(bytes).value.unwrap_or(0),
-        TokenKind::Character => character_value(behind_first(bytes)),
-        _ => 0,
-    }
-}
-
-fn unsigned_by(kind: TokenKind, bytes: &[u8]) -> bool
-    ensures { result ≡ spec.unsigned_by kind bytes.now }
-{
-    match kind {
-        TokenKind::Number => numeral_at(bytes).unsigned,
-        _ => false,
+        TokenKind::Number => {
+            let numeral = numeral_at(bytes);
+            (numeral.value.unwrap_or(0), numeral.unsigned)
+        }
+        TokenKind::Character => (character_value(behind_first(bytes)), false),
+        _ => (0, false),
     }
 }
 
@@ -160,11 +155,12 @@ fn item_of<'a>(text: &'a [u8], token: &Token) -> Item<'a>
     ensures { result ≡ spec.item_of text.now token.now }
 {
     let bytes = bytes_of(text, token);
+    let (value, unsigned) = value_by(token.kind, bytes);
     Item {
         kind: kind_by(token.kind, bytes),
         line: token.line,
-        value: value_by(token.kind, bytes),
-        unsigned: unsigned_by(token.kind, bytes),
+        value,
+        unsigned,
         text: Bytes::new(text_by(token.kind, bytes)),
     }
 }
