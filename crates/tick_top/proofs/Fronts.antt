@@ -3,7 +3,7 @@ use Rattle.std.proofs.Common.{◌≡◌, ℕ, ◌+◌, List, length, Option, Res
 use Rattle.host_edge.specs.Files.{Loads}
 use Rattle.image_file.specs.Image.{ImageParts}
 use Rattle.mips_text.specs.Assembly.{assembled}
-use Rattle.staged_meaning.specs.Nodes.{Program}
+use Rattle.tick_meaning.specs.Meaning.{Program}
 use Rattle.tick_build.specs.Texts.{typed}
 use Rattle.tick_outcome.specs.declared.outcome.Outcome.{Outcome}
 use Rattle.tick_outcome.specs.declared.outcome.Outcome.TheVariants as outcome
@@ -59,8 +59,8 @@ module _ (file path : List ℕ) (old mid new : Files) (e : Ended) (image : Image
       (λ text a. assembled_to (Unsaved old new e) (SavesImage path old new e) text image a (saves_on path old mid new e image same s)) f
 
   saves_program : (text : List ℕ) → IsBuilt text image → WithProgram (Unsaved old new e) (SavesProgram path old new e) text
-  saves_program text (p, accepted, headline, lowering) = program (Unsaved old new e) (SavesProgram path old new e) text p accepted
-      (record { image = image; lowering = lowering; headline = headline; saves = saves_on path old mid new e image same s })
+  saves_program text (p, accepted, headline, choices, lowering) = program (Unsaved old new e) (SavesProgram path old new e) text p accepted
+      (record { image = image; lowering = lowering; headline = headline; choices = choices; saves = saves_on path old mid new e image same s })
 
   pub builds : IsFront (old file) longest_text IsBuilt IsRefused (Found image) → BuildsFile file path old new e
   builds f = found (Unsaved old new e) (old file) longest_text IsBuilt IsRefused (WithProgram (Unsaved old new e) (SavesProgram path old new e)) image saves_program f
