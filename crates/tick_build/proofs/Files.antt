@@ -62,6 +62,7 @@ program_or other (Ok program) = program
 program_or other (Err fault) = other
 
 one_function : (r : Result Program Fault) (f g : Function) → r ≡ Ok (program_of f) → r ≡ Ok (program_of g) → f ≡ g
+unfolding program_or
 one_function r f g is also = ap (λ r. (program_or (program_of f) r).main) (sym is ∙ also)
 
 -- and one image

@@ -12,8 +12,12 @@ same_ends ops v s e t f a b =
     let u = (b.whole e a.last).1 in
     (omega (arith, p, q), omega (arith, r, u))
 
+abbrev interval : (reg start end : ℕ) → Interval
+interval r s e = record { reg = r; start = s; end = e }
+
 same_interval : (x y : Interval) → x.reg ≡ y.reg → x.start ≡ y.start → x.end ≡ y.end → x ≡ y
-same_interval x y r s e = cc
+same_interval x y r s e =
+    ap (λ (v : ℕ). interval v x.start x.end) r ∙ (ap (λ (v : ℕ). interval y.reg v x.end) s ∙ ap (λ (v : ℕ). interval y.reg y.start v) e)
 
 each_in : (P : Interval → Type 0) (xs : List Interval) (x : Interval) → Each P xs → In x xs → P x
 each_in P [] x all i = absurd i
@@ -25,9 +29,9 @@ found : (ops : List Op) (xs ys : List Interval) → AreIntervals ops xs → AreI
 found ops xs ys a b x i =
     let here = each_in (λ (x : Interval). IsInterval ops x.reg x.start x.end) xs x a.each i in
     let other = b.all x.reg x.start here.first in
-    let there = each_in (λ (x : Interval). IsInterval ops x.reg x.start x.end) ys other.0 b.each other.1.0 in
-    let ends = same_ends ops x.reg x.start x.end other.0.start other.0.end here (subst (λ (v : ℕ). IsInterval ops v other.0.start other.0.end) other.1.1 there) in
-    subst (λ (z : Interval). In z ys) (same_interval other.0 x other.1.1 (sym ends.0) (sym ends.1)) other.1.0
+    let there = each_in (λ (x : Interval). IsInterval ops x.reg x.start x.end) ys other.0 b.each other.1 in
+    let ends = same_ends ops x.reg x.start x.end other.0.start other.0.end here (subst (λ (v : ℕ). IsInterval ops v other.0.start other.0.end) other.2 there) in
+    subst (λ (z : Interval). In z ys) (same_interval other.0 x other.2 (sym ends.0) (sym ends.1)) other.1
 
 not_both : (x y : Interval) → Before x y → Before y x → ⊥
 not_both x y (inl a) (inl b) = omega (arith, a, b)

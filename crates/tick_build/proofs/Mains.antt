@@ -34,7 +34,7 @@ expr_served : (n : ℕ) (e : node.Expr) → IsPlain n e → IsServed e
 expr_served n (node.Const w) p = omega (arith, p)
 expr_served n (node.Var i) p = tt
 expr_served n (node.SetVar i a) p = expr_served n a p.1
-expr_served n (node.Bin k a b) p = (operator_straight k p.0, expr_served n a p.1.0, expr_served n b p.1.1)
+expr_served n (node.Bin k a b) p = (operator_straight k p.0, expr_served n a p.1, expr_served n b p.2)
 expr_served n (node.Lib node.Putchar a) p = expr_served n a p
 expr_served n _ p = absurd p
 
@@ -43,7 +43,7 @@ mutual
   stmt_served n (node.Eval e) p = expr_served n e p
   stmt_served n (node.Block NoItem items) p = (tt, items_served n items p)
   stmt_served n (node.If e s) p = (expr_served n e p.0, stmt_served n s p.1)
-  stmt_served n (node.IfElse e s t) p = (expr_served n e p.0, stmt_served n s p.1.0, stmt_served n t p.1.1)
+  stmt_served n (node.IfElse e s t) p = (expr_served n e p.0, stmt_served n s p.1, stmt_served n t p.2)
   stmt_served n (node.While e s) p = (expr_served n e p.0, stmt_served n s p.1)
   stmt_served n (node.ReturnValue e) p = expr_served n e p
   stmt_served n _ p = absurd p
