@@ -1,9 +1,11 @@
 -- Laws of the definitions: the bytes of a piece are passed, and what was found stands before what is still to come.
-use Rattle.std.proofs.Common.{◌≡◌, ℕ, zero, suc, ◌+◌, ◌-◌, ◌<◌, ◌≤◌, Bool, cond, List, [], ◌∷◌, ◌++◌, length, drop, length-drop, refl, sym, ap, ◌∙◌, arith, append_assoc, lt-ltb}
+use Rattle.std.proofs.Common.{◌≡◌, ℕ, zero, suc, ◌+◌, ◌-◌, ◌<◌, ◌≤◌, cond, List, [], ◌∷◌, ◌++◌, length, drop, length-drop, refl, sym, ap, ◌∙◌, arith, append_assoc, lt-ltb, true, false, ◌⊎◌, inl, inr}
 use Rattle.std.specs.Prelude.{Ok, Err}
 use Rattle.std.proofs.lemmas.List.{drop-drop, drop_all, length-append, append-nil}
-use Rattle.std.proofs.lemmas.Bool.{le-ltb}
-use Rattle.c_lexer.specs.Lex.{Text, lex, piece, Lexed, before, token_at, fault_at, by_piece, max_tokens}
+use Rattle.std.specs.List.{prefix_len}
+use Rattle.std.proofs.lemmas.Bool.{le-ltb, cases_Bool}
+use Rattle.c_lexer.specs.declared.classes.Class.TheVariants as class
+use Rattle.c_lexer.specs.Lex.{Text, is_in, past, tokens, lex, piece, Lexed, before, token_at, fault_at, by_piece, max_tokens}
 use Rattle.c_lexer.specs.declared.pieces.Piece.TheVariants.{Gap, Taken, Bad}
 use Rattle.tick_tree.specs.declared.token.Token.{Token}
 use Rattle.tick_tree.specs.declared.token.TokenKind.{TokenKind}
@@ -87,3 +89,35 @@ comes_bad text found at f some e = ap (after found) (lex_bad text at (length fou
 pub comes_nothing : (text : Text) (found : List Token) (at : ℕ) → at ≡ length text → to_come text found at ≡ Ok found
 comes_nothing text found at e =
     ap (λ y. after found (lex text at (length found) 0 y)) (drop_all at text (omega arith)) ∙ ap Ok (append-nil found)
+
+-- ---- blanks
+
+gap_at : (b : ℕ) (z : Text) → is_in class.Blank b ≡ true → piece (b ∷ z) ≡ Gap (past class.Blank (b ∷ z) 1)
+unfolding piece
+gap_at b z e = rw e refl
+
+comes_blanks_by : (text : Text) (found : List Token) (at : ℕ) (z : Text) → drop at text ≡ z → to_come text found (at + prefix_len (is_in class.Blank) z) ≡ to_come text found at
+comes_blanks_by text found at [] e = let same : at + 0 ≡ at = omega arith in ap (to_come text found) same
+comes_blanks_by text found at (b ∷ z) e = by-case (cases_Bool (is_in class.Blank b))
+  where
+    by-case : (is_in class.Blank b ≡ true) ⊎ (is_in class.Blank b ≡ false) → to_come text found (at + prefix_len (is_in class.Blank) (b ∷ z)) ≡ to_come text found at
+    by-case (inl t) =
+        let count : prefix_len (is_in class.Blank) (b ∷ z) ≡ 1 + prefix_len (is_in class.Blank) z = ap (λ t. cond t (1 + prefix_len (is_in class.Blank) z) 0) t in
+        let some : at < length text = omega (arith, length-drop at text, ap length e) in
+        let here : piece (drop at text) ≡ Gap (1 + prefix_len (is_in class.Blank) z) = ap piece e ∙ gap_at b z t in
+        ap (λ n. to_come text found (at + n)) count ∙ comes_gap text found at (1 + prefix_len (is_in class.Blank) z) some here (omega arith)
+    by-case (inr f) =
+        let same : at + 0 ≡ at = omega arith in
+        ap (λ t. to_come text found (at + cond t (1 + prefix_len (is_in class.Blank) z) 0)) f ∙ ap (to_come text found) same
+
+-- blanks are passed
+pub comes_blanks : (text : Text) (found : List Token) (at : ℕ) → to_come text found (past class.Blank text at) ≡ to_come text found at
+comes_blanks text found at = comes_blanks_by text found at (drop at text) refl
+
+after_nothing : (r : Lexed) → after [] r ≡ r
+after_nothing (Ok ts) = refl
+after_nothing (Err f) = refl
+
+-- at the start, blanks are passed
+pub comes_all : (text : Text) → to_come text [] (past class.Blank text 0) ≡ tokens text
+comes_all text = comes_blanks text [] 0 ∙ after_nothing (lex text 0 0 0 text)

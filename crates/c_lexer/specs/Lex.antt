@@ -1,7 +1,7 @@
 -- The tokens of a text: at each place the longest token, with blanks and comments skipped, or the first fault in text order
 -- with its line. The token classes are C's, cut to this project's language; the order of the faults and the limit on tokens
 -- are this project's own rules.
-use Rattle.std.specs.Prelude.{◌≤◌, ℕ, zero, suc, ◌+◌, ◌-◌, Bool, true, not, ◌&&◌, ◌||◌, if◌then◌else◌, ◌==◌, nat_le, nat_lt, List, [], ◌∷◌, length, take, drop, slice_index, Option, Some, None, option_map, is_some, Result, Ok, Err}
+use Rattle.std.specs.Prelude.{◌≡◌, ◌≤◌, ℕ, zero, suc, ◌+◌, ◌-◌, Bool, not, ◌&&◌, ◌||◌, if◌then◌else◌, ◌==◌, nat_le, nat_lt, List, [], ◌∷◌, length, take, drop, slice_index, Option, Some, None, option_map, is_some, Result, Ok, Err}
 use Rattle.std.specs.Char.{is_ascii_digit, is_ascii_alphabetic, is_ascii_alphanumeric}
 use Rattle.std.specs.List.{prefix_len, count_by}
 use Rattle.c_words.specs.Words.{keyword_of, sign_at, spelling}
@@ -133,3 +133,9 @@ abbrev pub Within : ℕ → Piece → Type 0
 Within len (Gap n) = (1 ≤ n) × (n ≤ len)
 Within len (Taken kind n) = (1 ≤ n) × (n ≤ len)
 Within len (Bad kind) = Unit {0}
+
+-- a name or keyword has no line feed
+abbrev pub Flat : Text → Piece → Type 0
+Flat z (Taken kind.Name n) = count_by (λ b. b == 10) (take n z) ≡ 0
+Flat z (Taken kind.Keyword n) = count_by (λ b. b == 10) (take n z) ≡ 0
+Flat z _ = Unit {0}

@@ -22,7 +22,7 @@ pub(crate) fn is_in(class: Class, b: u8) -> bool
     match class {
         Class::Blank => b == b' ' || (9 <= b && b <= 13),
         Class::Letter => b.is_ascii_alphabetic() || b == b'_',
-        Class::Name => b.is_ascii_alphanumeric() || b == b'_',
+        Class::Name => b.is_ascii_lowercase() || b.is_ascii_alphanumeric() || b == b'_',
         Class::Line => !(b == b'\n'),
     }
 }

@@ -30,6 +30,7 @@ fn word(text: &[u8]) -> Piece
     requires letter { spec.is_in class.Letter (slice_index text.now 0) ≡ true }
     ensures value { result ≡ spec.word text.now }
     ensures within { spec.Within (length text.now) result }
+    ensures flat { spec.Flat text.now result }
 {
     let end = past(Class::Name, text, 0);
     let kind = if keyword_of(&text[..end]).is_some() {
@@ -114,6 +115,7 @@ pub(crate) fn piece_of(text: &[u8]) -> Piece
     requires small { length text.now < 2 ^ 62 }
     ensures value { result ≡ spec.piece text.now }
     ensures within { spec.Within (length text.now) result }
+    ensures flat { spec.Flat text.now result }
 {
     let b = byte_at(text, 0);
     let next = byte_at(text, 1);

@@ -1,9 +1,13 @@
 //! The walk over a text.
 
-ghost use Rattle.std.specs.Prelude.{◌≡◌, ◌+◌, ◌-◌, ◌<◌, ◌≤◌, length, drop, IfOk, IfSome, IfNone};
+ghost use Rattle.std.specs.Prelude.{◌≡◌, ◌+◌, ◌-◌, ◌<◌, ◌≤◌, ◌==◌, length, take, drop, IfOk, IfSome, IfNone};
+ghost use Rattle.std.specs.List.{count_by};
 ghost use Rattle.tick_tree.specs.Faults.{Answers};
 ghost use Rattle.c_lexer.specs.Lex as spec;
+ghost use Rattle.c_lexer.specs.declared.classes.Class.TheVariants as class;
+ghost use Rattle.c_lexer.specs.declared.pieces.Piece.TheVariants.{Taken};
 
+use crate::classes::{Class, is_in};
 use crate::pieces::{Piece, piece_of};
 use std::alloc::Global;
 use tick_tree::{Deny, Fault, FaultKind, Token, TokenKind};
@@ -36,6 +40,7 @@ impl<'a> Walk<'a> {
     fn piece(&self) -> Option<Piece>
         ensures here { IfSome result (λ p. p ≡ spec.piece (drop self.now.at self.now.text.now)) }
         ensures within { IfSome result (spec.Within (length self.now.text.now - self.now.at)) }
+        ensures flat { IfSome result (spec.Flat (drop self.now.at self.now.text.now)) }
         ensures some { IfSome result (λ p. self.now.at < length self.now.text.now) }
         ensures none { IfNone result (self.now.at ≡ length self.now.text.now) }
     {
@@ -69,17 +74,69 @@ impl<'a> Walk<'a> {
         }
     }
 
+    // Goes behind the blanks that stand here.
+    fn blanks(&mut self)
+        ensures text { self.new.text.now ≡ self.old.text.now }
+        ensures at { self.new.at ≡ spec.past class.Blank self.old.text.now self.old.at }
+    {
+        let text = self.text;
+        let mut at = self.at;
+        let mut line = self.line;
+        while at < text.len() {
+            let b = text[at];
+            if b != b' ' {
+                if !is_in(Class::Blank, b) {
+                    break;
+                }
+                if b == b'\n' {
+                    line += 1;
+                }
+            }
+            at += 1;
+        }
+        self.at = at;
+        self.line = line;
+    }
+
+    // Goes on by `n` bytes, none of which is a line feed.
+    #[tactic(auto, using(crate::proofs::Lines::flat_goes))]
+    fn skip(&mut self, n: usize)
+        requires within { self.old.at + n ≤ length self.old.text.now }
+        requires flat { count_by (λ b. b == 10) (take n (drop self.old.at self.old.text.now)) ≡ 0 }
+        ensures text { self.new.text.now ≡ self.old.text.now }
+        ensures at { self.new.at ≡ self.old.at + n }
+    {
+        self.at += n;
+    }
+
     // Goes on by `n` bytes.
     fn pass(&mut self, n: usize)
         requires { self.old.at + n ≤ length self.old.text.now }
         ensures text { self.new.text.now ≡ self.old.text.now }
         ensures at { self.new.at ≡ self.old.at + n }
     {
-        for _ in 0..n {
-            if self.text[self.at] == b'\n' {
-                self.line += 1;
+        let text = self.text;
+        let end = self.at + n;
+        let mut line = self.line;
+        for at in self.at..end {
+            if text[at] == b'\n' {
+                line += 1;
             }
-            self.at += 1;
+        }
+        self.line = line;
+        self.at = end;
+    }
+
+    // Goes behind the token of this kind and length that stands here.
+    fn take(&mut self, kind: TokenKind, n: usize)
+        requires within { self.old.at + n ≤ length self.old.text.now }
+        requires flat { spec.Flat (drop self.old.at self.old.text.now) (Taken kind n) }
+        ensures text { self.new.text.now ≡ self.old.text.now }
+        ensures at { self.new.at ≡ self.old.at + n }
+    {
+        match kind {
+            TokenKind::Name | TokenKind::Keyword => self.skip(n),
+            _ => self.pass(n),
         }
     }
 }
@@ -97,6 +154,7 @@ pub fn tokens(alloc: Global, text: &[u8]) -> Result<Vec<Token>, Deny>
 {
     let mut found = Vec::new(alloc);
     let mut walk = Walk::new(text);
+    walk.blanks();
     while let Some(piece) = walk.piece() {
         match piece {
             Piece::Gap(n) => walk.pass(n),
@@ -105,7 +163,8 @@ pub fn tokens(alloc: Global, text: &[u8]) -> Result<Vec<Token>, Deny>
                     return Err(Deny::Refused(walk.fault(FaultKind::TooManyTokens)));
                 }
                 found.push(walk.token(kind, n))?;
-                walk.pass(n);
+                walk.take(kind, n);
+                walk.blanks();
             }
             Piece::Bad(kind) => return Err(Deny::Refused(walk.fault(kind))),
         }

@@ -46,7 +46,7 @@ impl Core {
         if w / 64 % 32768 != 0 {
             return self.fault(MachineKind::Reserved);
         }
-        if self.is_slot() || self.is_loaded(rs(w), rs(w), rs(w)) {
+        if self.is_branch_hazard(rs(w), rs(w), rs(w)) {
             return self.fault(MachineKind::Hazard);
         }
         let to = self.register(rs(w));
@@ -64,7 +64,7 @@ impl Core {
         if w / 2048 % 32 == w / 2097152 % 32 || w / 65536 % 32 != 0 || w / 64 % 32 != 0 {
             return self.fault(MachineKind::Reserved);
         }
-        if self.is_slot() || self.is_loaded(rd(w), rs(w), rs(w)) {
+        if self.is_branch_hazard(rd(w), rs(w), rs(w)) {
             return self.fault(MachineKind::Hazard);
         }
         let to = self.register(rs(w));
@@ -96,7 +96,7 @@ impl Core {
         ensures world { world_of self.new ≡ spec.does (table.jump JumpOp.Jal w) (state_of self.old) }
         ensures went { result ≡ spec.went_of (world_of self.new).ending }
     {
-        if self.is_slot() || self.is_loaded(Register::RA, Register::RA, Register::RA) {
+        if self.is_branch_hazard(Register::RA, Register::RA, Register::RA) {
             return self.fault(MachineKind::Hazard);
         }
         let to = self.segment_target(w % 67108864);
@@ -113,7 +113,7 @@ impl Core {
         ensures world { world_of self.new ≡ spec.does (table.branch_on_equality op w) (state_of self.old) }
         ensures went { result ≡ spec.went_of (world_of self.new).ending }
     {
-        if self.is_slot() || self.is_loaded(rs(w), rt(w), rt(w)) {
+        if self.is_branch_hazard(rs(w), rt(w), rt(w)) {
             return self.fault(MachineKind::Hazard);
         }
         let taken = equality(op, self.register(rs(w)), self.register(rt(w)));
@@ -132,7 +132,7 @@ impl Core {
         if w / 65536 % 32 != 0 {
             return self.fault(MachineKind::Reserved);
         }
-        if self.is_slot() || self.is_loaded(rs(w), rs(w), rs(w)) {
+        if self.is_branch_hazard(rs(w), rs(w), rs(w)) {
             return self.fault(MachineKind::Hazard);
         }
         let taken = zero_comparison(op, self.register(rs(w)));
@@ -148,7 +148,7 @@ impl Core {
         ensures world { world_of self.new ≡ spec.does (table.branch_on_sign test w) (state_of self.old) }
         ensures went { result ≡ spec.went_of (world_of self.new).ending }
     {
-        if self.is_slot() || self.is_loaded(rs(w), rs(w), rs(w)) {
+        if self.is_branch_hazard(rs(w), rs(w), rs(w)) {
             return self.fault(MachineKind::Hazard);
         }
         let taken = sign_test(test, self.register(rs(w)));
@@ -167,7 +167,7 @@ impl Core {
         if w / 2097152 % 32 == 31 {
             return self.fault(MachineKind::Reserved);
         }
-        if self.is_slot() || self.is_loaded(Register::RA, rs(w), rs(w)) {
+        if self.is_branch_hazard(Register::RA, rs(w), rs(w)) {
             return self.fault(MachineKind::Hazard);
         }
         let taken = sign_test(test, self.register(rs(w)));

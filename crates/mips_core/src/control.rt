@@ -29,15 +29,39 @@ impl Core {
         self.pc = self.next() as u32;
         self.slot = false;
         self.loaded = 0;
-        self.pending = self.recent > 1;
+        self.pending = false;
         if self.recent != 0 {
+            self.pending = self.recent > 1;
             self.recent -= 1;
         }
+    }
+
+    /// The same, away from the straight path.
+    #[cold]
+    #[inline(never)]
+    fn settle_aside(&mut self)
+        requires { self.old.next < 4294967296 }
+        ensures { world_of self.new ≡ spec.moved (self.old.next + 4) false (world_of self.old) }
+    {
+        self.settle();
     }
 
     /// On to the next instruction.
     #[inline(always)]
     pub(crate) fn advance(&mut self)
+        requires { self.old.next < 4294967296 }
+        ensures { world_of self.new ≡ spec.moved (self.old.next + 4) false (world_of self.old) }
+    {
+        if self.pending {
+            self.settle_aside();
+        } else {
+            self.pc += 4;
+        }
+    }
+
+    /// On to the next instruction, from one that often stands behind a load or in a delay slot.
+    #[inline(always)]
+    pub(crate) fn pass(&mut self)
         requires { self.old.next < 4294967296 }
         ensures { world_of self.new ≡ spec.moved (self.old.next + 4) false (world_of self.old) }
     {
@@ -51,13 +75,14 @@ impl Core {
     /// On to the next instruction, which is a delay slot, and from there to a target.
     #[inline(always)]
     pub(crate) fn branch(&mut self, taken: bool, target: u32)
-        requires { self.old.next < 4294967296 }
+        requires next { self.old.next < 4294967296 }
+        requires slot { self.old.slot ≡ false }
         ensures { world_of self.new ≡ spec.moved (spec.chosen taken target (self.old.next + 4)) true (world_of self.old) }
     {
         let target = if taken {
             u64::from(target)
         } else {
-            self.next() + 4
+            u64::from(self.pc) + 8
         };
         self.advance();
         self.target = target;
@@ -83,14 +108,37 @@ impl Core {
         self.pending = true;
     }
 
+    #[cold]
+    #[inline(never)]
+    fn was_loaded(&self, a: Register, b: Register, c: Register) -> bool
+        ensures { result ≡ spec.is_loaded self.now.loaded a b c }
+    {
+        self.loaded != 0
+            && (a.number() == self.loaded || b.number() == self.loaded || c.number() == self.loaded)
+    }
+
     /// Whether the last instruction loaded one of these registers.
     #[inline(always)]
     pub(crate) fn is_loaded(&self, a: Register, b: Register, c: Register) -> bool
         ensures { result ≡ spec.is_loaded self.now.loaded a b c }
     {
-        self.pending
-            && self.loaded != 0
-            && (a.number() == self.loaded || b.number() == self.loaded || c.number() == self.loaded)
+        self.pending && self.was_loaded(a, b, c)
+    }
+
+    #[cold]
+    #[inline(never)]
+    fn forbids_branch(&self, a: Register, b: Register, c: Register) -> bool
+        ensures { result ≡ (self.now.slot || spec.is_loaded self.now.loaded a b c) }
+    {
+        self.slot || self.was_loaded(a, b, c)
+    }
+
+    /// Whether a branch may not be next: in a delay slot, or where the last instruction loaded one of these registers.
+    #[inline(always)]
+    pub(crate) fn is_branch_hazard(&self, a: Register, b: Register, c: Register) -> bool
+        ensures { result ≡ (self.now.slot || spec.is_loaded self.now.loaded a b c) }
+    {
+        self.pending && self.forbids_branch(a, b, c)
     }
 
     /// Whether the next instruction stands in a delay slot.
@@ -109,31 +157,44 @@ impl Core {
         self.pending && self.recent != 0
     }
 
+    /// The address of the delay slot of a branch.
+    #[inline(always)]
+    fn behind(&self) -> u32
+        requires next { self.now.next < 4294967296 }
+        requires slot { self.now.slot ≡ false }
+        ensures { result ≡ self.now.next }
+    {
+        self.pc + 4
+    }
+
     /// The address behind the delay slot.
     #[inline(always)]
     pub(crate) fn link(&self) -> u32
-        requires { self.now.next < 4294967296 }
+        requires next { self.now.next < 4294967296 }
+        requires slot { self.now.slot ≡ false }
         ensures { result ≡ (self.now.next + 4) % 4294967296 }
     {
-        (self.next() as u32).wrapping_add(4)
+        self.behind().wrapping_add(4)
     }
 
     /// Where a branch goes that is taken.
     #[inline(always)]
     pub(crate) fn branch_target(&self, offset: u32) -> u32
-        requires { self.now.next < 4294967296 }
+        requires next { self.now.next < 4294967296 }
+        requires slot { self.now.slot ≡ false }
         ensures { result ≡ (self.now.next + 4 * offset) % 4294967296 }
     {
-        (self.next() as u32).wrapping_add(offset.wrapping_mul(4))
+        self.behind().wrapping_add(offset.wrapping_mul(4))
     }
 
     /// The address of a word of the 256 megabytes that the delay slot stands in.
     #[inline(always)]
     pub(crate) fn segment_target(&self, word: u32) -> u32
         requires next { self.now.next < 4294967296 }
+        requires slot { self.now.slot ≡ false }
         requires word { word < 67108864 }
         ensures { result ≡ self.now.next / 268435456 * 268435456 + 4 * word }
     {
-        (self.next() as u32) / 268435456 * 268435456 + 4 * word
+        self.behind() / 268435456 * 268435456 + 4 * word
     }
 }

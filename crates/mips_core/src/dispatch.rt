@@ -54,7 +54,7 @@ impl Core {
         ensures other { w ≢ 12 → (world_of self.new ≡ spec.does (table.of_special w) (state_of self.old)) × (result ≡ spec.went_of (world_of self.new).ending) }
     {
         match w % 64 {
-            0 => self.shift(ShiftOp::Sll, w),
+            0 => self.shift_left(w),
             2 => self.shift(ShiftOp::Srl, w),
             3 => self.shift(ShiftOp::Sra, w),
             4 => self.shift_variable(ShiftVariableOp::Sllv, w),
@@ -82,7 +82,12 @@ impl Core {
             39 => self.arithmetic(ArithmeticOp::Nor, w),
             42 => self.arithmetic(ArithmeticOp::Slt, w),
             43 => self.arithmetic(ArithmeticOp::Sltu, w),
-            _ => self.fault(MachineKind::Reserved),
+            // all other codes, and no two neighbours in one arm: a range is compiled to a test in front of the table
+            10 | 14 | 20 | 22 | 28 | 30 | 40 => self.fault(MachineKind::Reserved),
+            1 | 5 | 11 | 15 | 21 | 23 | 29 | 31 | 41 => self.fault(MachineKind::Reserved),
+            44 | 46 | 48 | 50 | 52 | 54 | 56 | 58 | 60 | 62 => self.fault(MachineKind::Reserved),
+            45 | 47 | 49 | 51 | 53 | 55 | 57 | 59 | 61 | 63 => self.fault(MachineKind::Reserved),
+            _ => unreachable!(),
         }
     }
 
@@ -119,7 +124,12 @@ impl Core {
             40 => self.access_memory(MemoryOp::Sb, w),
             41 => self.access_memory(MemoryOp::Sh, w),
             43 => self.access_memory(MemoryOp::Sw, w),
-            _ => self.fault(MachineKind::Reserved),
+            // all other codes, and no two neighbours in one arm: a range is compiled to a test in front of the table
+            16 | 18 | 20 | 22 | 24 | 26 | 28 | 30 | 34 | 38 => self.fault(MachineKind::Reserved),
+            17 | 19 | 21 | 23 | 25 | 27 | 29 | 31 | 39 | 42 => self.fault(MachineKind::Reserved),
+            44 | 46 | 48 | 50 | 52 | 54 | 56 | 58 | 60 | 62 => self.fault(MachineKind::Reserved),
+            45 | 47 | 49 | 51 | 53 | 55 | 57 | 59 | 61 | 63 => self.fault(MachineKind::Reserved),
+            _ => unreachable!(),
         }
     }
 

@@ -10,3 +10,4 @@ mod tests;
 mod text;
 
 pub use backend::image;
+pub use code::builder_of;

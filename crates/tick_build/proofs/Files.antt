@@ -9,10 +9,17 @@ use Rattle.image_file.specs.Image.{ImageParts, IsImage}
 use Rattle.image_file.specs.Format.{word_bytes, function_bytes, header, spelling, parsed}
 use Rattle.image_file.specs.declared.fault.ImageFault.{ImageFault}
 use Rattle.image_file.proofs.Words.{length-words, length-functions}
-use Rattle.staged_meaning.specs.Nodes.{Program}
-use Rattle.tick_build.specs.Headline.{Headline}
-use Rattle.tick_build.specs.Texts.{Builds, lowered}
+use Rattle.icode_ops.specs.declared.interval.Interval.{Interval}
+use Rattle.scan_places.specs.Scan.{places_of}
+use Rattle.tick_meaning.specs.Nodes.{Function}
+use Rattle.tick_meaning.specs.Meaning.{Program}
+use Rattle.static_image.specs.Headline.{Headline}
+use Rattle.tick_lower.specs.Laws.{registers_of}
+use Rattle.static_image.specs.Layout.{addresses, program_of, image_of, ops_of}
+use Rattle.static_backend.specs.Scanned.{IsScanned}
+use Rattle.tick_build.specs.Texts.{typed, Lowered, Builds}
 use Rattle.tick_build.specs.Saved.{IsFileOf, HeadlineOfBytes, Saves}
+use Rattle.tick_build.proofs.Intervals.{one_list}
 
 spelling_short : (image : ImageParts) → IsImage image → length (spelling image) ≤ 83886080
 spelling_short image is =
@@ -49,10 +56,28 @@ pub read_headline : (program : Program) (bytes : List ℕ) (image : ImageParts) 
 read_headline program bytes image h read =
     subst (Headline program) (one_image ImageFault h.image image (parsed bytes) h.file.read_back read) h.headline
 
+-- a text has one program
+program_or : Program → Result Program Fault → Program
+program_or other (Ok program) = program
+program_or other (Err fault) = other
+
+one_function : (r : Result Program Fault) (f g : Function) → r ≡ Ok (program_of f) → r ≡ Ok (program_of g) → f ≡ g
+unfolding program_or
+one_function r f g is also = ap (λ r. (program_or (program_of f) r).main) (sym is ∙ also)
+
+-- and one image
+one_scan : (f : Function) (a b : ImageParts) → IsScanned f a → IsScanned f b → a ≡ b
+one_scan f a b s t =
+    s.same ∙ ap (λ (xs : List Interval). image_of f (places_of (registers_of addresses f) xs)) (one_list (ops_of f) s.intervals t.intervals s.found t.found) ∙ sym t.same
+
+one_lowered : (text : List ℕ) (a b : ImageParts) → Lowered text a → Lowered text b → a ≡ b
+one_lowered text a b s t =
+    one_scan t.function a b (subst (λ (f : Function). IsScanned f a) (one_function (typed text) s.function t.function s.accepted t.accepted) s.scanned) t.scanned
+
 pub one_file : (text one other : List ℕ) → Saves text one → Saves text other → one ≡ other
 one_file text one other a b =
-    a.file.spelt ∙ ap spelling (one_image Fault a.image b.image (lowered text) a.builds.lowering b.builds.lowering) ∙ sym b.file.spelt
+    a.file.spelt ∙ ap spelling (one_lowered text a.image b.image a.builds.lowering b.builds.lowering) ∙ sym b.file.spelt
 
 pub built_file : (text bytes : List ℕ) (image : ImageParts) → Saves text bytes → Builds text image → IsFileOf image bytes
 built_file text bytes image s b =
-    subst (λ (i : ImageParts). IsFileOf i bytes) (one_image Fault s.image image (lowered text) s.builds.lowering b.lowering) s.file
+    subst (λ (i : ImageParts). IsFileOf i bytes) (one_lowered text s.image image s.builds.lowering b.lowering) s.file

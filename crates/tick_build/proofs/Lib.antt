@@ -1,9 +1,3 @@
-pub mod Costs
-pub mod Sums
-pub mod Programs
-pub mod Whole
-pub mod Turns
-pub mod Nodes
-pub mod Images
-pub mod Built
+pub mod Mains
 pub mod Files
+pub mod Intervals

@@ -3,8 +3,8 @@
 use Rattle.std.specs.Prelude.{◌≡◌, ℕ, ◌≤◌, List, length, Ok}
 use Rattle.image_file.specs.Image.{ImageParts}
 use Rattle.image_file.specs.Format.{spelling, parsed}
-use Rattle.staged_meaning.specs.Nodes.{Program}
-use Rattle.tick_build.specs.Headline.{Headline}
+use Rattle.tick_meaning.specs.Meaning.{Program}
+use Rattle.static_image.specs.Headline.{Headline}
 use Rattle.tick_build.specs.Texts.{Builds}
 
 -- the most bytes of an image file

@@ -2,10 +2,7 @@
 #![tactic(auto)]
 
 mod accepted;
-mod lowering;
-mod reading;
 mod saved;
-mod straight;
 
 pub use accepted::build;
 pub use saved::{build_file, reads_headline, saves_built, saves_headline, saves_one};

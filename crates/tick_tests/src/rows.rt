@@ -72,13 +72,23 @@ fn a_sum_wraps(rt: HostRuntime) -> Result<(), Fail> {
 }
 
 #[test]
-fn other_texts_are_unbuilt(rt: HostRuntime) -> Result<(), Fail> {
-    let line = b"tick: line 1: 0 Unbuilt\n".as_slice();
-    let seen = seen_after(rt.alloc(), "tick run text", "int main(){return x;}", &[])?;
-    assert_eq!(rt; seen.status, 65);
-    assert_eq!(rt; seen.err.as_slice(), line);
+fn other_texts_are_refused(rt: HostRuntime) -> Result<(), Fail> {
+    let unbuilt = seen_after(
+        rt.alloc(),
+        "tick run text",
+        "int main(){return getchar();}",
+        &[],
+    )?;
+    assert_eq!(rt; unbuilt.status, 65);
+    assert_eq!(rt;
+        unbuilt.err.as_slice(),
+        b"tick: line 1: 0 Unbuilt\n".as_slice()
+    );
     let empty = seen_after(rt.alloc(), "tick run text", "", &[])?;
-    assert_eq!(rt; empty.err.as_slice(), line);
+    assert_eq!(rt;
+        empty.err.as_slice(),
+        b"tick: line 1: 25 NoMain\n".as_slice()
+    );
     Ok(())
 }
 
@@ -107,8 +117,9 @@ fn left_by_a_failing_save(alloc: Global) -> Result<(u8, Vec<u8>), AllocError> {
 fn a_failing_save_leaves_a_front_part(rt: HostRuntime) -> Result<(), Fail> {
     let (status, left) = left_by_a_failing_save(rt.alloc())?;
     assert_eq!(rt; status, 75);
-    assert!(rt; left.starts_with(b"TICK\x00\x00\x00\x01\x00\x40\x00\x00\x00\x00\x00\x0f"));
-    assert!(rt; left.len() < 24 + 15 * 4);
+    assert!(rt; left.starts_with(b"TICK\x00\x00\x00\x01\x00\x40\x00\x00"));
+    // an image has 24 bytes of header, and 1,024 words in front of its functions
+    assert!(rt; left.len() < 24 + 1024 * 4);
     Ok(())
 }
 

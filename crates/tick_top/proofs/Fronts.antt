@@ -1,17 +1,18 @@
 -- From what came of a file to what a command did with it.
-use Rattle.std.proofs.Common.{◌≡◌, ℕ, ◌+◌, List, length, Option, Result, Ok, Err, IfOk, nat_lt, inl, inr, false}
+use Rattle.std.proofs.Common.{◌≡◌, ℕ, ◌+◌, List, length, Option, Result, Ok, Err, IfOk, nat_lt, inl, inr, false, subst, sym}
 use Rattle.host_edge.specs.Files.{Loads}
 use Rattle.image_file.specs.Image.{ImageParts}
 use Rattle.mips_text.specs.Assembly.{assembled}
-use Rattle.staged_meaning.specs.Nodes.{Program}
+use Rattle.tick_meaning.specs.Meaning.{Program}
 use Rattle.tick_build.specs.Texts.{typed}
 use Rattle.tick_outcome.specs.declared.outcome.Outcome.{Outcome}
 use Rattle.tick_outcome.specs.declared.outcome.Outcome.TheVariants as outcome
 use Rattle.tick_top.specs.declared.ended.Front.TheVariants.{Found, Instead}
 use Rattle.tick_top.specs.declared.ended.Ended.{Ended}
-use Rattle.tick_top.specs.Outside.{Files, SameFiles}
+use Rattle.command_words.specs.Orders.{Order, build}
+use Rattle.tick_top.specs.Outside.{Files, Outside, Still, SameFiles}
 use Rattle.tick_top.specs.Answers.{IsFront, longest_text, IsBuilt, IsRefused, IsAssembled, IsAsmRefused}
-use Rattle.tick_top.specs.Does.{WithFile, WithProgram, WithAssembled, Unsaved, SavesImage, SavesProgram, AssemblesFile, BuildsFile}
+use Rattle.tick_top.specs.Does.{WithFile, WithProgram, WithAssembled, Unsaved, SavesImage, SavesProgram, AssemblesFile, BuildsFile, Does}
 use Rattle.tick_top.proofs.Saved.{saves_on}
 
 pub if_ok : {T E : Type 0} {P Q : T → Type 0} (r : Result T E) → ((x : T) → P x → Q x) → IfOk r P → IfOk r Q
@@ -59,8 +60,8 @@ module _ (file path : List ℕ) (old mid new : Files) (e : Ended) (image : Image
       (λ text a. assembled_to (Unsaved old new e) (SavesImage path old new e) text image a (saves_on path old mid new e image same s)) f
 
   saves_program : (text : List ℕ) → IsBuilt text image → WithProgram (Unsaved old new e) (SavesProgram path old new e) text
-  saves_program text (p, accepted, headline, lowering) = program (Unsaved old new e) (SavesProgram path old new e) text p accepted
-      (record { image = image; lowering = lowering; headline = headline; saves = saves_on path old mid new e image same s })
+  saves_program text (p, accepted, headline, choices, lowering) = program (Unsaved old new e) (SavesProgram path old new e) text p accepted
+      (record { image = image; lowering = lowering; headline = headline; choices = choices; saves = saves_on path old mid new e image same s })
 
   pub builds : IsFront (old file) longest_text IsBuilt IsRefused (Found image) → BuildsFile file path old new e
   builds f = found (Unsaved old new e) (old file) longest_text IsBuilt IsRefused (WithProgram (Unsaved old new e) (SavesProgram path old new e)) image saves_program f
@@ -88,3 +89,9 @@ module _ (file path : List ℕ) (old new : Files) (e : Ended) where
   builds_nothing outcome.WriteFault a f = refuses outcome.WriteFault a f
   builds_nothing outcome.ReadFault a f = refuses outcome.ReadFault a f
   builds_nothing outcome.SaveFault a f = refuses outcome.SaveFault a f
+
+-- what the order to build does, where nothing was read or written
+pub ordered_build : {F : Type 0} (file path : List ℕ) (order : Order) (old new : Outside) (r : Result Ended F) → order ≡ build file path → Still old new
+    → IfOk r (BuildsFile file path old.file new.file) → IfOk r (Does order old new)
+ordered_build file path order old new r is still h =
+    subst (λ o. IfOk r (Does o old new)) (sym is) (if_ok r (λ e b. (still, b)) h)

@@ -11,9 +11,9 @@ use Rattle.mips_machine.specs.declared.stop.Stop.TheVariants as stop
 use Rattle.mips_machine.specs.Progress.{Progress, first_progress, counts_of}
 use Rattle.mips_machine.specs.Ran.{Ran}
 use Rattle.mips_text.specs.Assembly.{assembled}
-use Rattle.staged_meaning.specs.Nodes.{Program}
-use Rattle.tick_build.specs.Texts.{typed, lowered}
-use Rattle.tick_build.specs.Headline.{Headline}
+use Rattle.tick_meaning.specs.Meaning.{Program}
+use Rattle.tick_build.specs.Texts.{typed, Lowered, HoldsForChoices}
+use Rattle.static_image.specs.Headline.{Headline}
 use Rattle.tick_outcome.specs.declared.outcome.Outcome.{Outcome}
 use Rattle.tick_outcome.specs.declared.outcome.Outcome.TheVariants.{Done, Refused, AsmRefused, LoadFault, TooLong, BadImage, Trap, MachineFault, OutOfSteps, ReadFault, WriteFault}
 use Rattle.tick_top.specs.declared.ended.Ended.{Ended}
@@ -58,7 +58,7 @@ FrontCause old new (Found image) = new ≡ old
 
 -- a text of the language, and the image that was built of it
 abbrev pub IsBuilt : List ℕ → ImageParts → Type 0
-IsBuilt text image = (program : Program) × (typed text ≡ Ok program) × Headline program image × (lowered text ≡ Ok image)
+IsBuilt text image = (program : Program) × (typed text ≡ Ok program) × Headline program image × HoldsForChoices program × Lowered text image
 
 abbrev pub IsRefused : List ℕ → Outcome → Type 0
 IsRefused text (Refused fault) = typed text ≡ Err fault

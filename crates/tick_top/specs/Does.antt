@@ -9,9 +9,9 @@ use Rattle.image_file.specs.Image.{ImageParts}
 use Rattle.image_file.specs.Format.{spelling, parsed}
 use Rattle.asm_print.specs.Text.{text_of}
 use Rattle.mips_text.specs.Assembly.{assembled}
-use Rattle.staged_meaning.specs.Nodes.{Program}
-use Rattle.tick_build.specs.Texts.{typed, lowered}
-use Rattle.tick_build.specs.Headline.{Headline}
+use Rattle.tick_meaning.specs.Meaning.{Program}
+use Rattle.tick_build.specs.Texts.{typed, Lowered, HoldsForChoices}
+use Rattle.static_image.specs.Headline.{Headline}
 use Rattle.command_words.specs.Orders.{Order, run, build, exec, asm, dis}
 use Rattle.tick_outcome.specs.declared.outcome.Outcome.{Outcome}
 use Rattle.tick_outcome.specs.declared.outcome.Outcome.TheVariants.{Done, BadWords, Refused, AsmRefused, LoadFault, TooLong, BadImage, Trap, MachineFault, OutOfSteps, ReadFault, WriteFault, SaveFault}
@@ -49,11 +49,12 @@ Answered old new e outcome = IsBare e outcome × Silent old new
 abbrev pub Runs : (steps : ℕ) → Outside → Outside → Ended → ImageParts → Type 0
 Runs steps old new e image = SameFiles old.file new.file × RanImage steps image old.left new.left old.taken new.taken e
 
--- the image of the text ran, and the headline holds for it
+-- the image of the text ran; the headline holds for it, as under every other legal choice of places of main
 pub record RunsProgram (steps : ℕ) (old new : Outside) (e : Ended) (text : List ℕ) (program : Program) : Type 0 where
   pub image : ImageParts
-  pub lowering : lowered text ≡ Ok image
+  pub lowering : Lowered text image
   pub headline : Headline program image
+  pub choices : HoldsForChoices program
   pub runs : Runs steps old new e image
 
 abbrev pub RunsFile : List ℕ → (steps : ℕ) → Outside → Outside → Ended → Type 0
@@ -83,11 +84,13 @@ pub record SavesImage (path : List ℕ) (old new : Files) (e : Ended) (image : I
   pub saved : SavedAt path bytes old new e
   pub others : SameOtherFiles path old new
 
--- the image of the text, which is the one that runs, was saved, and the headline holds for it
+-- the image of the text, which is the one that runs, was saved; the headline holds for it, as under every other legal
+-- choice of places of main
 pub record SavesProgram (path : List ℕ) (old new : Files) (e : Ended) (text : List ℕ) (program : Program) : Type 0 where
   pub image : ImageParts
-  pub lowering : lowered text ≡ Ok image
+  pub lowering : Lowered text image
   pub headline : Headline program image
+  pub choices : HoldsForChoices program
   pub saves : SavesImage path old new e image
 
 abbrev pub BuildsFile : List ℕ → (path : List ℕ) → Files → Files → Ended → Type 0

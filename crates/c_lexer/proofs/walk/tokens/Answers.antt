@@ -1,9 +1,20 @@
-use Rattle.std.proofs.Common.{◌≡◌, ◌<◌, ◌≤◌, ◌+◌, ◌∷◌, [], ◌++◌, length, arith, rules, ◌∙◌, sym, ap, refl, drop, Err}
+use Rattle.std.proofs.Common.{◌≡◌, ◌<◌, ◌≤◌, ◌+◌, ◌∷◌, [], ◌++◌, length, arith, ◌∙◌, sym, ap, drop, Err}
 use Rattle.std.proofs.lemmas.List.{length-append}
 use Rattle.c_lexer.specs.declared.pieces.Piece.TheVariants.{Gap, Taken, Bad}
-use Rattle.c_lexer.specs.Lex.{Within, piece, max_tokens, token_at}
-use Rattle.c_lexer.proofs.Laws.{to_come, comes_gap, comes_taken, comes_full, comes_bad, comes_nothing}
+use Rattle.c_lexer.specs.Lex.{piece, max_tokens, token_at, past}
+use Rattle.c_lexer.specs.declared.classes.Class.TheVariants as class
+use Rattle.c_lexer.proofs.Laws.{to_come, comes_gap, comes_taken, comes_full, comes_bad, comes_blanks, comes_all}
 use Rattle.c_lexer.proofs.walk.tokens.Goals as goal
+
+pub loop-piece-init : goal.loop-piece-init
+loop-piece-init c =
+    let here : c.blanks.new.self.at ≡ past class.Blank c.args.text.now 0 = cc (c.blanks.ensures.at, c.new-walk.ensures.at, c.new-walk.ensures.text) in
+    let none : c.new-found.result.items ≡ [] = c.new-found.ensures.items in
+    record {
+      text = cc (c.blanks.ensures.text, c.new-walk.ensures.text);
+      same = ap (λ found. to_come c.args.text.now found c.blanks.new.self.at) none ∙ ap (to_come c.args.text.now []) here ∙ comes_all c.args.text.now;
+      few = omega (arith, ap length none);
+    }
 
 pub loop-piece-preserved-in-Gap : goal.loop-piece-preserved-in-Gap
 loop-piece-preserved-in-Gap c =
@@ -34,9 +45,11 @@ loop-piece-preserved c =
     let goes = comes_taken c.args.text.now c.loop-piece.found.items c.loop-piece.walk.at c.in-Taken.kind c.in-Taken.n some here within.0 few in
     let t : c.token.result ≡ token_at c.args.text.now c.in-Taken.kind c.loop-piece.walk.at c.in-Taken.n = cc (c.token.ensures) in
     let items : c.push.new.self.items ≡ c.loop-piece.found.items ++ token_at c.args.text.now c.in-Taken.kind c.loop-piece.walk.at c.in-Taken.n ∷ [] = c.in_ok-push-in-Taken.ensures.items ∙ ap (λ t. c.loop-piece.found.items ++ t ∷ []) t in
+    let more = c.loop-piece.found.items ++ token_at c.args.text.now c.in-Taken.kind c.loop-piece.walk.at c.in-Taken.n ∷ [] in
+    let place : c.blanks-in-Taken.new.self.at ≡ past class.Blank c.args.text.now (c.loop-piece.walk.at + c.in-Taken.n) = cc (c.blanks-in-Taken.ensures.at, c.take.ensures.at, c.take.ensures.text, c.loop-piece.invariant.text) in
     record {
-      text = (cc);
-      same = rw (items, c.pass-in-Taken.ensures.at) (goes ∙ c.loop-piece.invariant.same);
+      text = cc (c.blanks-in-Taken.ensures.text, c.take.ensures.text, c.loop-piece.invariant.text);
+      same = rw (items, place) (comes_blanks c.args.text.now more (c.loop-piece.walk.at + c.in-Taken.n) ∙ goes ∙ c.loop-piece.invariant.same);
       few = omega (arith, ap length items, length-append c.loop-piece.found.items (token_at c.args.text.now c.in-Taken.kind c.loop-piece.walk.at c.in-Taken.n ∷ []), few);
     }
 

@@ -1,9 +1,7 @@
-use Rattle.tick_build.proofs.Built.{built_of, fitting, image_builds}
+use Rattle.std.proofs.Common.{rules, ◌≡◌}
+use Rattle.tick_build.proofs.Mains.{refuses_text}
 use Rattle.tick_build.proofs.accepted.build.Goals as goal
 
-pub image_of-requires : goal.image_of-requires
-image_of-requires c = fitting c.in_ok-straight.straight (built_of c.args.text.now c.in_ok-straight.straight c.in_ok-straight.ensures)
-
-pub returns-clause-built : goal.returns-clause-built
-returns-clause-built c =
-    image_builds c.args.text.now c.in_ok-straight.straight c.image_of.result c.in_ok-straight.ensures c.image_of.ensures.image c.image_of.ensures.rules
+pub returns-in_err-program-clause-refused : goal.returns-in_err-program-clause-refused
+returns-in_err-program-clause-refused c =
+    refuses_text c.args.text.now c.in_err-program.field-0.0 c.from_residual.result (search rules) (search rules)

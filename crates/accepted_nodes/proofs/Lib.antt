@@ -1,0 +1,5 @@
+pub mod Calls
+pub mod Nodes
+pub mod Operands
+pub mod Operators
+pub mod Places

@@ -1,0 +1,4 @@
+pub mod Accepted
+pub mod Counts
+pub mod Places
+pub mod Values

@@ -1,0 +1,4 @@
+pub mod Counts
+pub mod Marked
+pub mod Rest
+pub mod Statics

@@ -1,0 +1,9 @@
+-- What a walk over statements has still before it.
+use Rattle.std.proofs.Common.{ℕ, List, map, drop}
+use Rattle.typed_tree.specs.declared.expression.Stmt.{Stmt}
+use Rattle.tick_meaning.specs.Nodes as node
+use Rattle.tree_view.specs.View.{stmt_view, items_of}
+
+-- the view of the statements from this one on
+abbrev pub rest : ℕ → List Stmt → node.Items
+rest i ss = items_of (map stmt_view (drop i ss))

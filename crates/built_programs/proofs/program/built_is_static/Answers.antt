@@ -1,0 +1,5 @@
+use Rattle.built_programs.proofs.Statics.{built_static}
+use Rattle.built_programs.proofs.program.built_is_static.Goals as goal
+
+pub returns : goal.returns
+returns c = built_static

@@ -1,0 +1,11 @@
+//! Which typed programs run so far, and the function that each of them is.
+#![tactic(auto)]
+
+mod listed;
+mod marks;
+mod program;
+mod scoped;
+#[cfg(test)]
+mod tests;
+
+pub use program::{built_is_static, function_of};

@@ -1,0 +1,3 @@
+pub mod Entries
+pub mod Productions
+pub mod Rules

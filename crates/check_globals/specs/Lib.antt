@@ -1,0 +1,4 @@
+pub mod Functions
+pub mod Names
+pub mod Programs
+pub mod Statics

@@ -1,0 +1,191 @@
+//! Definitions of functions.
+
+ghost use Rattle.std.specs.Prelude.{◌≡◌, map, IfOk, OnOk};
+ghost use Rattle.c_forms.specs.Forms as forms;
+ghost use Rattle.check_globals.specs.Functions as spec;
+ghost use Rattle.check_state.specs.Locals as locals;
+ghost use Rattle.check_statements.specs.Declarations.{name_by};
+ghost use Rattle.check_tables.specs.Functions as functions;
+ghost use Rattle.check_tables.specs.Walks.{Reads};
+
+use crate::names::{Before, declare, known_before};
+use c_forms::declared_name;
+use c_shapes::inner;
+use c_types::{CType, Layer, MeaningKind};
+use check_state::State;
+use check_tables::Functions;
+use sqlite_items::{Boxed, Items};
+use std::alloc::{AllocError, Global};
+use tick_tree::{Declarator, Deny, FaultKind, Parameter, refused};
+use typed_tree::{Function, Stmt, statement_size};
+
+fn define(alloc: Global, state: &mut State, line: u32, name: &[u8]) -> Result<(), Deny>
+    ensures { Reads (spec.define line name.now state.old) result state.new }
+{
+    state.functions.define(alloc, line, name)
+}
+
+fn next(all: &Functions) -> u32
+    ensures { result ≡ functions.next all.now }
+{
+    let count = all.all.len().min(4294967295) as u32;
+    (u64::from(count) + 1).min(4294967295) as u32
+}
+
+fn first_function(
+    alloc: Global,
+    state: &mut State,
+    line: u32,
+    name: &[u8],
+    t: &CType,
+) -> Result<(), Deny>
+    ensures { Reads (spec.first_function line name.now t.now state.old) result state.new }
+{
+    let index = next(&state.functions);
+    declare(alloc, state, line, name, MeaningKind::Function, t, index)?;
+    define(alloc, state, line, name)
+}
+
+#[tactic(auto, unfolding(crate::specs::Functions::named))]
+fn named(alloc: Global, state: &mut State, line: u32, name: &[u8], t: &CType) -> Result<(), Deny>
+    ensures { Reads (spec.named line name.now t.now state.old) result state.new }
+{
+    match known_before(state, name, t) {
+        Before::Nothing => first_function(alloc, state, line, name, t),
+        Before::SamePrototype => define(alloc, state, line, name),
+        Before::OtherPrototype => refused(FaultKind::TypeMismatch, line),
+        Before::Taken => refused(FaultKind::Duplicate, line),
+    }
+}
+
+/// Names a function that is defined, by its declarator. Refused: Duplicate where it is a variable, a function that is defined or in
+/// the library; TypeMismatch where a prototype of the name has another type.
+pub fn name_function(
+    alloc: Global,
+    state: &mut State,
+    line: u32,
+    d: &Declarator,
+    t: &CType,
+) -> Result<(), Deny>
+    ensures { Reads (spec.named line (name_by (forms.declared_name d.now)) t.now state.old) result state.new }
+{
+    match declared_name(d) {
+        None => named(alloc, state, line, &[], t),
+        Some((_, name)) => named(alloc, state, line, name.as_slice(), t),
+    }
+}
+
+// A parameter without a name.
+fn unnamed(state: &mut State, t: &CType) -> Result<(), AllocError>
+    ensures { OnOk result (state.new ≡ locals.with_parameter t.now state.old) }
+{
+    state.frame.parameter(t)
+}
+
+fn parameter(alloc: Global, state: &mut State, p: &Parameter, t: &CType) -> Result<(), Deny>
+    ensures { Reads (spec.parameter_by (spec.given p.now).0 (spec.given p.now).1 t.now state.old) result state.new }
+{
+    match declared_name(&p.declarator) {
+        None => Ok(unnamed(state, t)?),
+        Some((_, name)) => {
+            let t = c_types::copy(alloc, t)?;
+            state.parameter(alloc, p.line, name.as_slice(), t)
+        }
+    }
+}
+
+#[tactic(auto, using(crate::proofs::Parameters::no_more))]
+fn parameters(
+    alloc: Global,
+    state: &mut State,
+    types: &[CType],
+    list: &[Parameter],
+) -> Result<(), Deny>
+    ensures { Reads (spec.parameters types.now (map spec.given list.now) state.old) result state.new }
+{
+    for at in 0..types.len().min(list.len()) {
+        parameter(alloc, state, &list[at], &types[at])?;
+    }
+    Ok(())
+}
+
+/// Begins a function of this type, whose parameters are written so: they stand in the scope that is open. Refused where two have one
+/// name: Duplicate.
+#[tactic(auto, unfolding(crate::specs::Functions::begun))]
+pub fn begin(alloc: Global, state: &mut State, t: &CType, list: &[Parameter]) -> Result<(), Deny>
+    ensures { Reads (spec.begun t.now (map spec.given list.now) state.old) result state.new }
+{
+    let answer = inner(c_types::copy(alloc, t)?);
+    state.frame.begin(alloc, answer);
+    match t.layers.as_slice().last() {
+        Some(Layer::Function(types)) => parameters(alloc, state, types.as_slice(), list),
+        _ => Ok(()),
+    }
+}
+
+fn count_of(t: &CType) -> u32
+    ensures { result ≡ spec.count_of t.now }
+{
+    match t.layers.as_slice().last() {
+        Some(Layer::Function(types)) => types.len().min(4294967295) as u32,
+        _ => 0,
+    }
+}
+
+fn line_of(line: u32, d: &Declarator) -> u32
+    ensures { result ≡ spec.line_by line (forms.declared_name d.now) }
+{
+    match declared_name(d) {
+        None => line,
+        Some((at, _)) => at,
+    }
+}
+
+fn name_of(alloc: Global, d: &Declarator) -> Result<Items<u8>, AllocError>
+    ensures { IfOk result (λ name. name ≡ name_by (forms.declared_name d.now)) }
+{
+    match declared_name(d) {
+        None => Ok(Items::new(alloc)),
+        Some((_, name)) => Items::from_slice(alloc, name.as_slice()),
+    }
+}
+
+fn function(
+    alloc: Global,
+    state: &State,
+    line: u32,
+    d: &Declarator,
+    t: &CType,
+    body: Boxed<Stmt>,
+) -> Result<Function, AllocError>
+    ensures { IfOk result (λ f. f ≡ spec.function line (forms.declared_name d.now) t.now body state.now) }
+{
+    let size = statement_size(body.get());
+    let name = name_of(alloc, d)?;
+    Ok(Function {
+        name,
+        line: line_of(line, d),
+        params: count_of(t),
+        object: state.frame.object,
+        size,
+        body: body.into_inner(),
+    })
+}
+
+/// Ends a function of this type, whose body has this node.
+#[tactic(auto, unfolding(crate::specs::Functions::ended))]
+pub fn end(
+    alloc: Global,
+    state: &mut State,
+    line: u32,
+    d: &Declarator,
+    t: &CType,
+    body: Boxed<Stmt>,
+) -> Result<(), Deny>
+    ensures { Reads (spec.ended line (forms.declared_name d.now) t.now body state.old) result state.new }
+{
+    let made = function(alloc, state, line, d, t, body)?;
+    state.functions.add(made)?;
+    state.frame.end(alloc)?;
+    Ok(())
+}

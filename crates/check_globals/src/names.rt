@@ -1,0 +1,213 @@
+//! Names at file scope.
+
+ghost use Rattle.std.specs.Prelude.{◌≡◌};
+ghost use Rattle.c_forms.specs.Forms as forms;
+ghost use Rattle.check_globals.specs.Names as spec;
+ghost use Rattle.check_state.specs.Locals as locals;
+ghost use Rattle.check_state.specs.Names as names;
+ghost use Rattle.check_statements.specs.Declarations.{name_by};
+ghost use Rattle.check_tables.specs.Walks.{Reads};
+
+use c_declared::Step;
+use c_forms::declared_name;
+use c_types::{CType, Meaning, MeaningKind, limited_size, same};
+use check_state::State;
+use sqlite_items::Items;
+use std::alloc::Global;
+use tick_tree::{Declarator, Deny, FaultKind, refused};
+
+/// What a name at file scope is already.
+#[derive(Clone, Copy, Debug, PartialEq, Eq)]
+pub(crate) enum Before {
+    /// It has no meaning.
+    Nothing,
+    /// It has a prototype of the same type, and no function yet.
+    SamePrototype,
+    /// It has a prototype of another type, and no function yet.
+    OtherPrototype,
+    /// It is a variable, a function that is defined, or in the library.
+    Taken,
+}
+
+/// The steps of a declarator at file scope: `()` at its name is an empty list of parameters.
+pub fn named_steps(alloc: Global, steps: Items<Step>) -> Items<Step>
+    ensures { result ≡ spec.named_steps steps }
+{
+    let mut steps = steps;
+    if let Some(Step::Unlisted) = steps.as_slice().first() {
+        steps.set(0, Step::Function(Items::new(alloc)));
+    }
+    steps
+}
+
+fn is_function(kind: MeaningKind) -> bool
+    ensures { result ≡ spec.is_function kind }
+{
+    matches!(kind, MeaningKind::Function)
+}
+
+fn before_by(is_defined: bool, t: &CType, m: &Meaning) -> Before
+    ensures { result ≡ spec.before_by is_defined t.now (Some m.now) }
+{
+    if !is_function(m.kind) || is_defined {
+        Before::Taken
+    } else if same(&m.ctype, t) {
+        Before::SamePrototype
+    } else {
+        Before::OtherPrototype
+    }
+}
+
+pub(crate) fn known_before(state: &State, name: &[u8], t: &CType) -> Before
+    ensures { result ≡ spec.known_before name.now t.now state.now }
+{
+    match state.scopes.find(name) {
+        None => Before::Nothing,
+        Some(m) => before_by(state.functions.is_defined(name), t, m),
+    }
+}
+
+pub(crate) fn declare(
+    alloc: Global,
+    state: &mut State,
+    line: u32,
+    name: &[u8],
+    kind: MeaningKind,
+    t: &CType,
+    index: u32,
+) -> Result<(), Deny>
+    ensures { Reads (names.declare line name.now (locals.meaning kind t.now index) state.old) result state.new }
+{
+    let what = Meaning {
+        kind,
+        ctype: c_types::copy(alloc, t)?,
+        index,
+    };
+    state.declare(line, name, what)
+}
+
+fn note(alloc: Global, state: &mut State, line: u32, name: &[u8]) -> Result<(), Deny>
+    ensures { Reads (spec.note line name.now state.old) result state.new }
+{
+    Ok(state.functions.prototype(alloc, line, name)?)
+}
+
+fn first_prototype(
+    alloc: Global,
+    state: &mut State,
+    line: u32,
+    name: &[u8],
+    t: &CType,
+) -> Result<(), Deny>
+    ensures { Reads (spec.first_prototype line name.now t.now state.old) result state.new }
+{
+    let index = state.functions.number(name);
+    declare(alloc, state, line, name, MeaningKind::Function, t, index)?;
+    note(alloc, state, line, name)
+}
+
+#[tactic(auto, unfolding(crate::specs::Names::prototype))]
+fn named_prototype(
+    alloc: Global,
+    state: &mut State,
+    line: u32,
+    name: &[u8],
+    t: &CType,
+) -> Result<(), Deny>
+    ensures { Reads (spec.prototype line name.now t.now state.old) result state.new }
+{
+    match known_before(state, name, t) {
+        Before::Nothing => first_prototype(alloc, state, line, name, t),
+        Before::SamePrototype => note(alloc, state, line, name),
+        Before::OtherPrototype => refused(FaultKind::TypeMismatch, line),
+        Before::Taken => refused(FaultKind::Duplicate, line),
+    }
+}
+
+fn size_by(size: Option<u32>) -> u32
+    ensures { result ≡ spec.size_by size }
+{
+    match size {
+        None => 0,
+        Some(n) => n,
+    }
+}
+
+fn address(at: u32) -> u32
+    ensures { result ≡ spec.address at }
+{
+    (268435456 + u64::from(at)).min(4294967295) as u32
+}
+
+fn first_variable(
+    alloc: Global,
+    state: &mut State,
+    line: u32,
+    name: &[u8],
+    t: &CType,
+) -> Result<u32, Deny>
+    ensures { Reads (spec.first_variable line name.now t.now state.old) result state.new }
+{
+    let at = state.image.global(size_by(limited_size(t)));
+    declare(
+        alloc,
+        state,
+        line,
+        name,
+        MeaningKind::Global,
+        t,
+        address(at),
+    )?;
+    Ok(at)
+}
+
+#[tactic(auto, unfolding(crate::specs::Names::variable))]
+fn named_variable(
+    alloc: Global,
+    state: &mut State,
+    line: u32,
+    name: &[u8],
+    t: &CType,
+) -> Result<u32, Deny>
+    ensures { Reads (spec.variable line name.now t.now state.old) result state.new }
+{
+    match known_before(state, name, t) {
+        Before::Nothing => first_variable(alloc, state, line, name, t),
+        Before::SamePrototype | Before::OtherPrototype => refused(FaultKind::TypeMismatch, line),
+        Before::Taken => refused(FaultKind::Duplicate, line),
+    }
+}
+
+/// A prototype by its declarator. Refused: Duplicate where its name is a variable, a function that is defined or in the library;
+/// TypeMismatch where a prototype of the name has another type.
+pub fn prototype(
+    alloc: Global,
+    state: &mut State,
+    line: u32,
+    d: &Declarator,
+    t: &CType,
+) -> Result<(), Deny>
+    ensures { Reads (spec.prototype line (name_by (forms.declared_name d.now)) t.now state.old) result state.new }
+{
+    match declared_name(d) {
+        None => named_prototype(alloc, state, line, &[], t),
+        Some((_, name)) => named_prototype(alloc, state, line, name.as_slice(), t),
+    }
+}
+
+/// A variable by its declarator; its place, in bytes from the first global on. Refused: Duplicate where its name is a variable, a
+/// function that is defined or in the library; TypeMismatch where it has a prototype.
+pub fn variable(
+    alloc: Global,
+    state: &mut State,
+    line: u32,
+    d: &Declarator,
+    t: &CType,
+) -> Result<u32, Deny>
+    ensures { Reads (spec.variable line (name_by (forms.declared_name d.now)) t.now state.old) result state.new }
+{
+    match declared_name(d) {
+        None => named_variable(alloc, state, line, &[], t),
+        Some((_, name)) => named_variable(alloc, state, line, name.as_slice(), t),
+    }
+}

@@ -1,0 +1,218 @@
+//! What is checked after the walk.
+
+ghost use Rattle.std.specs.Prelude.{◌≡◌, ◌+◌, ◌++◌, ◌-◌, length, min, replicate, IfOk, sum_by, nat_le, Some, None};
+ghost use Rattle.c_types.specs.Types as types;
+ghost use Rattle.check_globals.specs.Programs as spec;
+ghost use Rattle.check_tables.specs.Images as images;
+ghost use Rattle.tick_tree.specs.Faults.{Checks};
+
+use c_types::{Base, CType, Integer, Layer, Meaning, MeaningKind};
+use check_state::State;
+use check_tables::Image;
+use sqlite_items::Items;
+use std::alloc::{AllocError, Global};
+use tick_tree::{Deny, FaultKind, refused};
+use typed_tree::{Function, SIZE_LIMIT, Tick, Typed};
+
+/// The most bytes of a function's frame objects, and of globals and strings.
+pub const BYTES_LIMIT: u32 = 4194304;
+
+/// The most words that all functions and ticks may be charged.
+pub const CHARGE_LIMIT: u64 = 15728640;
+
+fn takes_none(t: &CType) -> bool
+    ensures { result ≡ spec.takes_none (types.outermost (types.layers_of t.now)) }
+{
+    match t.layers.as_slice().last() {
+        Some(Layer::Function(list)) => list.as_slice().is_empty(),
+        _ => false,
+    }
+}
+
+fn is_int(base: Base) -> bool
+    ensures { result ≡ spec.is_int base }
+{
+    matches!(base, Base::Integer(Integer::Int))
+}
+
+fn is_main_type(t: &CType) -> bool
+    ensures { result ≡ spec.is_main_type t.now }
+{
+    t.layers.len() == 1 && takes_none(t) && is_int(t.base)
+}
+
+fn is_main(is_defined: bool, m: &Meaning) -> bool
+    ensures { result ≡ spec.is_main is_defined (Some m.now) }
+{
+    matches!(m.kind, MeaningKind::Function) && is_defined && is_main_type(&m.ctype)
+}
+
+fn has_main(state: &State) -> bool
+    ensures { result ≡ spec.has_main state.now }
+{
+    match state.scopes.find(b"main") {
+        None => false,
+        Some(m) => is_main(state.functions.is_defined(b"main"), m),
+    }
+}
+
+fn function_fits(f: &Function) -> bool
+    ensures { result ≡ spec.function_fits f.now }
+{
+    f.size <= SIZE_LIMIT && f.object <= BYTES_LIMIT
+}
+
+fn functions_fit(list: &[Function]) -> bool
+    ensures { result ≡ spec.functions_fit list.now }
+{
+    for f in list {
+        if !function_fits(f) {
+            return false;
+        }
+    }
+    true
+}
+
+fn ticks_fit(list: &[Tick]) -> bool
+    ensures { result ≡ spec.ticks_fit list.now }
+{
+    for t in list {
+        if t.size > SIZE_LIMIT {
+            return false;
+        }
+    }
+    true
+}
+
+// This many words and those of one more function or tick, up to one over the limit.
+fn charged(found: u64, size: u32) -> u64
+    ensures { result ≡ min (found + spec.charge size) 15728641 }
+{
+    let more = 192 * u64::from(size) + 64;
+    if found > CHARGE_LIMIT {
+        return CHARGE_LIMIT + 1;
+    }
+    (found + more).min(CHARGE_LIMIT + 1)
+}
+
+fn functions_charge(list: &[Function]) -> u64
+    ensures { result ≡ min (1024 + sum_by (λ f. spec.charge f.size) list.now) 15728641 }
+{
+    let mut found = 1024;
+    for f in list {
+        found = charged(found, f.size);
+    }
+    found
+}
+
+fn ticks_charge(from: u64, list: &[Tick]) -> u64
+    ensures { result ≡ min (from + sum_by (λ t. spec.charge t.size) list.now) 15728641 }
+{
+    let mut found = from.min(CHARGE_LIMIT + 1);
+    for t in list {
+        found = charged(found, t.size);
+    }
+    found
+}
+
+fn charges_fit(functions: &[Function], ticks: &[Tick]) -> bool
+    ensures { result ≡ nat_le (spec.charges functions.now ticks.now) 15728640 }
+{
+    ticks_charge(functions_charge(functions), ticks) <= CHARGE_LIMIT
+}
+
+fn strings_begin(image: &Image) -> u32
+    ensures { result ≡ spec.strings_begin image.now }
+{
+    if image.strings.as_slice().is_empty() {
+        image.end
+    } else {
+        image.strings_at
+    }
+}
+
+fn image_fits(image: &Image) -> bool
+    ensures { result ≡ spec.image_fits image.now }
+{
+    let strings = image.strings.len();
+    if strings > BYTES_LIMIT as usize {
+        return false;
+    }
+    u64::from(strings_begin(image)) + strings as u64 <= u64::from(BYTES_LIMIT)
+}
+
+fn fits(state: &State) -> bool
+    ensures { result ≡ spec.fits state.now }
+{
+    let functions = state.functions.all.as_slice();
+    let ticks = state.ticks.all.as_slice();
+    image_fits(&state.image)
+        && functions_fit(functions)
+        && ticks_fit(ticks)
+        && charges_fit(functions, ticks)
+}
+
+fn up_to(alloc: Global, n: u32, bytes: Items<u8>) -> Result<Items<u8>, AllocError>
+    ensures { IfOk result (λ all. all ≡ images.up_to n bytes) }
+{
+    let mut bytes = bytes;
+    let missing = (n as usize).saturating_sub(bytes.len());
+    let zeros = vec![in alloc; 0; missing]?;
+    bytes.append(Items::from_vec(zeros))?;
+    Ok(bytes)
+}
+
+fn image_bytes(alloc: Global, image: Image) -> Result<Items<u8>, AllocError>
+    ensures { IfOk result (λ bytes. bytes ≡ spec.image image) }
+{
+    let begin = strings_begin(&image);
+    let Image {
+        globals,
+        strings,
+        ..
+    } = image;
+    let mut bytes = up_to(alloc, begin, globals)?;
+    bytes.append(strings)?;
+    Ok(bytes)
+}
+
+fn typed(alloc: Global, state: State) -> Result<Typed, AllocError>
+    ensures { IfOk result (λ t. t ≡ spec.typed state) }
+{
+    let State {
+        functions,
+        ticks,
+        image,
+        ..
+    } = state;
+    let image = image_bytes(alloc, image)?;
+    Ok(Typed {
+        functions: functions.all,
+        ticks: ticks.all,
+        image,
+    })
+}
+
+fn whole(alloc: Global, state: State) -> Result<Typed, Deny>
+    ensures { Checks result (spec.finished_by None state) }
+{
+    if !has_main(&state) {
+        return refused(FaultKind::NoMain, 1);
+    }
+    if !fits(&state) {
+        return refused(FaultKind::TooLarge, 1);
+    }
+    Ok(typed(alloc, state)?)
+}
+
+/// The typed tree of a program after its walk. Refused, in this order: Undeclared at the first prototype that has no function, NoMain,
+/// TooLarge.
+#[tactic(auto, unfolding(crate::specs::Programs::finished))]
+pub fn finished(alloc: Global, state: State) -> Result<Typed, Deny>
+    ensures { Checks result (spec.finished state) }
+{
+    if let Some(p) = state.functions.undefined() {
+        return refused(FaultKind::Undeclared, p.line);
+    }
+    whole(alloc, state)
+}

@@ -1,0 +1,218 @@
+//! Initializers at file scope.
+
+ghost use Rattle.std.specs.Prelude.{◌≡◌, ◌++◌, ◌∷◌, [], IfOk, is_some, length};
+ghost use Rattle.c_forms.specs.Forms as forms;
+ghost use Rattle.check_globals.specs.Statics as spec;
+ghost use Rattle.check_tables.specs.Walks.{Reads};
+
+use c_constants::constant_value;
+use c_forms::has_form;
+use c_nodes::{Operand, Value, value_of};
+use c_shapes::width_of;
+use c_types::{Base, CType, Integer, Layer};
+use check_state::State;
+use check_statements::{is_array, is_string, lower, value_breaks};
+use sqlite_items::Items;
+use std::alloc::{AllocError, Global};
+use tick_tree::{Deny, Expr, FaultKind, refused};
+use word32::Width;
+
+fn bytes_of(alloc: Global, width: Width, n: u32) -> Result<Items<u8>, AllocError>
+    ensures { IfOk result (λ bytes. bytes ≡ spec.bytes_of width n) }
+{
+    let third = (n / 256 % 256) as u8;
+    let fourth = (n % 256) as u8;
+    match width {
+        Width::SignedByte | Width::Byte => Items::from_slice(alloc, &[fourth]),
+        Width::SignedHalf | Width::Half => Items::from_slice(alloc, &[third, fourth]),
+        Width::Word => {
+            let first = (n / 16777216 % 256) as u8;
+            let second = (n / 65536 % 256) as u8;
+            Items::from_slice(alloc, &[first, second, third, fourth])
+        }
+    }
+}
+
+fn fill(alloc: Global, state: &mut State, at: u32, bytes: Items<u8>) -> Result<(), Deny>
+    ensures { Reads (spec.fill at bytes state.old) result state.new }
+{
+    Ok(state.image.fill(alloc, at, bytes)?)
+}
+
+fn is_text_pointer(t: &CType) -> bool
+    ensures { result ≡ spec.is_text_pointer t.now }
+{
+    t.layers.len() == 1
+        && matches!(t.layers.as_slice().last(), Some(Layer::Pointer))
+        && matches!(t.base, Base::Integer(Integer::Char))
+}
+
+fn formed(allowed: bool, v: &Value) -> Result<u32, FaultKind>
+    ensures { result ≡ spec.formed allowed v.now }
+{
+    if !allowed {
+        return Err(FaultKind::BadOperand);
+    }
+    match constant_value(&v.code) {
+        None => Err(FaultKind::BadOperand),
+        Some(n) => Ok(n),
+    }
+}
+
+fn static_word(has_form: bool, is_string: bool, v: &Value, t: &CType) -> Result<u32, FaultKind>
+    ensures { result ≡ spec.static_word has_form is_string v.now t.now }
+{
+    match value_breaks(v, t) {
+        Some(kind) => Err(kind),
+        None => formed(has_form || is_string && is_text_pointer(t), v),
+    }
+}
+
+/// Gives the global at this place, which has this type, a value; e is its expression. Refused: VoidValue alone, TypeMismatch,
+/// BadOperand where it is neither a constant nor a string for `char *`.
+#[tactic(auto, unfolding(crate::specs::Statics::static_value))]
+pub fn static_value(
+    alloc: Global,
+    state: &mut State,
+    line: u32,
+    at: u32,
+    t: &CType,
+    e: &Expr,
+    o: Operand,
+) -> Result<(), Deny>
+    ensures { Reads (spec.static_value line at t.now (forms.has_form e.now) (is_some (forms.string_of e.now)) o state.old) result state.new }
+{
+    let v = value_of(alloc, o)?;
+    match static_word(has_form(e), is_string(e), &v, t) {
+        Err(kind) => refused(kind, line),
+        Ok(n) => {
+            let bytes = bytes_of(alloc, width_of(t), n)?;
+            fill(alloc, state, at, bytes)
+        }
+    }
+}
+
+fn elements_of(t: &CType) -> u32
+    ensures { result ≡ spec.elements_of t.now }
+{
+    match t.layers.as_slice().last() {
+        Some(Layer::Array(count)) => *count,
+        _ => 0,
+    }
+}
+
+fn is_too_long(count: usize, t: &CType) -> bool
+    ensures { result ≡ spec.is_too_long count t.now }
+{
+    (elements_of(t) as usize) < count
+}
+
+fn with_zero(alloc: Global, bytes: &[u8]) -> Result<Items<u8>, AllocError>
+    ensures { IfOk result (λ all. all ≡ bytes.now ++ 0 ∷ []) }
+{
+    let mut all = Items::from_slice(alloc, bytes)?;
+    all.push(0)?;
+    Ok(all)
+}
+
+/// Gives the array of char at this place a string, with its zero byte. Refused where it is too long: BadArray.
+#[tactic(auto, unfolding(crate::specs::Statics::static_text))]
+pub fn static_text(
+    alloc: Global,
+    state: &mut State,
+    line: u32,
+    at: u32,
+    t: &CType,
+    bytes: &[u8],
+) -> Result<(), Deny>
+    ensures { Reads (spec.static_text line at t.now bytes.now state.old) result state.new }
+{
+    let all = with_zero(alloc, bytes)?;
+    if is_too_long(all.len(), t) {
+        return refused(FaultKind::BadArray, line);
+    }
+    fill(alloc, state, at, all)
+}
+
+/// The values of a list so far.
+#[derive(Drop)]
+pub struct Row {
+    /// The rule of the lowest number that they break.
+    pub broken: Option<FaultKind>,
+    /// The bytes of those that break none.
+    pub bytes: Items<u8>,
+}
+
+impl Row {
+    /// Before the values, for a variable of this type: no array takes a list but an array.
+    pub fn new(alloc: Global, t: &CType) -> Row
+        ensures { result ≡ spec.row_begun t.now }
+    {
+        let broken = if is_array(t) {
+            None
+        } else {
+            Some(FaultKind::TypeMismatch)
+        };
+        Row {
+            broken,
+            bytes: Items::new(alloc),
+        }
+    }
+
+    fn take(self, alloc: Global, t: &CType, n: u32) -> Result<Row, AllocError>
+        ensures { IfOk result (λ row. row ≡ spec.row_by t.now self (Ok n)) }
+    {
+        let Row { broken, mut bytes } = self;
+        let more = bytes_of(alloc, width_of(t), n)?;
+        bytes.append(more)?;
+        Ok(Row { broken, bytes })
+    }
+
+    /// One value more, by the type of an element; e is its expression.
+    #[tactic(auto, unfolding(crate::specs::Statics::row_more))]
+    pub fn more(self, alloc: Global, t: &CType, e: &Expr, o: Operand) -> Result<Row, AllocError>
+        ensures { IfOk result (λ row. row ≡ spec.row_more t.now (forms.has_form e.now) (is_some (forms.string_of e.now)) o self) }
+    {
+        let v = value_of(alloc, o)?;
+        match static_word(has_form(e), is_string(e), &v, t) {
+            Err(kind) => {
+                let Row { broken, bytes } = self;
+                Ok(Row {
+                    broken: lower(broken, Some(kind)),
+                    bytes,
+                })
+            }
+            Ok(n) => self.take(alloc, t, n),
+        }
+    }
+}
+
+fn row_breaks(count: usize, t: &CType, row: &Row) -> Option<FaultKind>
+    ensures { result ≡ spec.row_breaks count t.now row.now }
+{
+    if is_too_long(count, t) {
+        lower(row.broken, Some(FaultKind::BadArray))
+    } else {
+        row.broken
+    }
+}
+
+/// Gives the global at this place, which has this type, a list of so many values. Refused: TypeMismatch where it is no array,
+/// BadArray where the list is too long, or what its values break.
+#[tactic(auto, unfolding(crate::specs::Statics::static_list))]
+pub fn static_list(
+    alloc: Global,
+    state: &mut State,
+    line: u32,
+    at: u32,
+    t: &CType,
+    list: &[Expr],
+    row: Row,
+) -> Result<(), Deny>
+    ensures { Reads (spec.static_list line at t.now (length list.now) row state.old) result state.new }
+{
+    match row_breaks(list.len(), t, &row) {
+        Some(kind) => refused(kind, line),
+        None => fill(alloc, state, at, row.bytes),
+    }
+}

@@ -1,0 +1,4 @@
+pub mod Blocks
+pub mod Locals
+pub mod Names
+pub mod Starts

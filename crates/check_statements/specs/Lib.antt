@@ -1,0 +1,4 @@
+pub mod Declarations
+pub mod Initializers
+pub mod Rules
+pub mod Statements

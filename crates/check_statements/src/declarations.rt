@@ -1,0 +1,249 @@
+//! Declarations in a block, and the lengths of arrays.
+
+ghost use Rattle.std.specs.Prelude.{◌≡◌, IfOk, Some, ◌+◌, min, length};
+ghost use Rattle.c_declared.specs.Making as making;
+ghost use Rattle.c_declared.specs.Steps.{filled};
+ghost use Rattle.c_forms.specs.Forms as forms;
+ghost use Rattle.tick_tree.specs.Faults.{Checks};
+ghost use Rattle.check_tables.specs.Walks.{Reads};
+ghost use Rattle.check_statements.specs.Declarations as spec;
+
+use c_constants::constant_value;
+use c_declared::{Length, Role, Step, declared_type, fill_length};
+use c_forms::{declared_name, string_of};
+use c_nodes::{Operand, effect};
+use c_types::{Base, CType, Layer};
+use check_state::{Stage, State};
+use sqlite_items::Items;
+use std::alloc::{AllocError, Global};
+use tick_tree::{Declarator, Deny, Expr, Fault, FaultKind, Prefix, refused};
+
+#[cycle(staged)]
+#[tactic(auto, using(crate::proofs::Staged::by_layers))]
+fn is_staged(t: &CType) -> bool
+    ensures { result ≡ spec.is_staged t.now }
+{
+    any_staged_layer(t.layers.as_slice())
+}
+
+#[cycle(staged)]
+fn any_staged_layer(layers: &[Layer]) -> bool
+    ensures { result ≡ spec.any_staged_layer layers.now }
+{
+    for layer in layers {
+        if is_staged_layer(layer) {
+            return true;
+        }
+    }
+    false
+}
+
+#[cycle(staged)]
+#[tactic(auto, using(crate::proofs::Staged::layers))]
+fn is_staged_layer(layer: &Layer) -> bool
+    ensures { result ≡ spec.is_staged_layer layer.now }
+{
+    match layer {
+        Layer::Pointer | Layer::Array(_) | Layer::Unlisted => false,
+        Layer::Function(list) => any_staged(list.as_slice()),
+        Layer::Cspec | Layer::Vspec => true,
+    }
+}
+
+#[cycle(staged)]
+fn any_staged(list: &[CType]) -> bool
+    ensures { result ≡ spec.any_staged list.now }
+{
+    for t in list {
+        if is_staged(t) {
+            return true;
+        }
+    }
+    false
+}
+
+fn is_staged_prefix(prefix: Prefix) -> bool
+    ensures { result ≡ spec.is_staged_prefix prefix }
+{
+    matches!(prefix, Prefix::Cspec | Prefix::Vspec)
+}
+
+fn is_staged_step(step: &Step) -> bool
+    ensures { result ≡ spec.is_staged_step step.now }
+{
+    match step {
+        Step::Prefix(prefix) => is_staged_prefix(*prefix),
+        Step::Function(list) => any_staged(list.as_slice()),
+        Step::Array(_) | Step::Unlisted => false,
+    }
+}
+
+fn any_staged_step(steps: &[Step]) -> bool
+    ensures { result ≡ spec.any_staged_step steps.now }
+{
+    for step in steps {
+        if is_staged_step(step) {
+            return true;
+        }
+    }
+    false
+}
+
+fn is_array(steps: &[Step]) -> bool
+    ensures { result ≡ spec.is_array steps.now }
+{
+    matches!(steps.first(), Some(Step::Array(_)))
+}
+
+fn tick_breaks(steps: &[Step]) -> Option<FaultKind>
+    ensures { result ≡ spec.tick_breaks steps.now }
+{
+    if is_array(steps) {
+        Some(FaultKind::BadArray)
+    } else if any_staged_step(steps) {
+        Some(FaultKind::StageInTick)
+    } else {
+        None
+    }
+}
+
+fn lower_at(line: u32, kind: FaultKind, fault: Fault) -> Fault
+    ensures { result ≡ spec.lower_at line kind fault }
+{
+    if kind.number() < fault.kind.number() {
+        Fault {
+            kind,
+            line,
+            token: 0,
+        }
+    } else {
+        fault
+    }
+}
+
+fn broken_type(
+    alloc: Global,
+    line: u32,
+    base: Base,
+    steps: Items<Step>,
+    kind: FaultKind,
+) -> Result<CType, Deny>
+    ensures { Checks result (spec.lowered line (Some kind) (making.declared_type Role.Local line base steps)) }
+{
+    match declared_type(alloc, Role::Local, line, base, steps) {
+        Ok(_) => refused(kind, line),
+        Err(Deny::Refused(fault)) => Err(Deny::Refused(lower_at(line, kind, fault))),
+        Err(Deny::NoMemory) => Err(Deny::NoMemory),
+    }
+}
+
+fn local_type(alloc: Global, line: u32, base: Base, steps: Items<Step>) -> Result<CType, Deny>
+    ensures { Checks result (making.declared_type Role.Local line base steps) }
+{
+    declared_type(alloc, Role::Local, line, base, steps)
+}
+
+fn tick_type(alloc: Global, line: u32, base: Base, steps: Items<Step>) -> Result<CType, Deny>
+    ensures { Checks result (spec.lowered line (spec.tick_breaks steps) (making.declared_type Role.Local line base steps)) }
+{
+    match tick_breaks(steps.as_slice()) {
+        None => local_type(alloc, line, base, steps),
+        Some(kind) => broken_type(alloc, line, base, steps, kind),
+    }
+}
+
+/// The type of a variable of a block. Refused as `c_declared::declared_type`; in a tick also BadArray where it is an array, and
+/// StageInTick where a cspec or vspec is in it.
+#[tactic(auto, unfolding(crate::specs::Declarations::declared_in))]
+pub fn declared_in(
+    alloc: Global,
+    stage: Stage,
+    line: u32,
+    base: Base,
+    steps: Items<Step>,
+) -> Result<CType, Deny>
+    ensures { Checks result (spec.declared_in stage line base steps) }
+{
+    match stage {
+        Stage::Function | Stage::Dollar => local_type(alloc, line, base, steps),
+        Stage::Tick => tick_type(alloc, line, base, steps),
+    }
+}
+
+fn length_by(value: Option<u32>) -> Length
+    ensures { result ≡ spec.length_by value }
+{
+    match value {
+        None => Length::Computed,
+        Some(n) => Length::Constant(n),
+    }
+}
+
+/// The length that an expression gives an array; whether it has the form of a constant is said.
+#[tactic(auto, unfolding(crate::specs::Declarations::length_of))]
+pub fn length_of(alloc: Global, has_form: bool, o: Operand) -> Result<Length, AllocError>
+    ensures { IfOk result (λ n. n ≡ spec.length_of has_form o) }
+{
+    if !has_form {
+        return Ok(Length::Computed);
+    }
+    let code = effect(alloc, o)?;
+    Ok(length_by(constant_value(&code)))
+}
+
+fn string_length(bytes: &Items<u8>) -> u32
+    ensures { result ≡ min (length bytes.now + 1) 4294967295 }
+{
+    bytes.len().min(4294967294) as u32 + 1
+}
+
+/// The steps with the length that a value gives, where the array lacks one: that of a string with its zero byte, else 1.
+pub fn with_value(steps: Items<Step>, e: &Expr) -> Items<Step>
+    ensures { result ≡ filled (spec.value_count (forms.string_of e.now)) steps }
+{
+    match string_of(e) {
+        None => fill_length(steps, 1),
+        Some(bytes) => fill_length(steps, string_length(bytes)),
+    }
+}
+
+/// The steps with the length that a list of values gives, where the array lacks one.
+pub fn with_list(steps: Items<Step>, list: &[Expr]) -> Items<Step>
+    ensures { result ≡ filled (spec.list_count list.now) steps }
+{
+    fill_length(steps, list.len().min(4294967295) as u32)
+}
+
+/// Declares a variable of a block by the name of its declarator, as `State::local`.
+pub fn declare(
+    alloc: Global,
+    state: &mut State,
+    stage: Stage,
+    line: u32,
+    d: &Declarator,
+    t: CType,
+) -> Result<Operand, Deny>
+    ensures { Reads (spec.declare stage line (forms.declared_name d.now) t state.old) result state.new }
+{
+    match declared_name(d) {
+        None => state.local(alloc, stage, line, &[], t),
+        Some((_, name)) => state.local(alloc, stage, line, name.as_slice(), t),
+    }
+}
+
+/// Declares a parameter of a list, where it has a name, as `State::list_parameter`.
+pub fn declare_parameter(
+    alloc: Global,
+    state: &mut State,
+    stage: Stage,
+    line: u32,
+    d: &Declarator,
+    t: &CType,
+) -> Result<(), Deny>
+    ensures { Reads (spec.declare_parameter stage line (forms.declared_name d.now) t.now state.old) result state.new }
+{
+    match declared_name(d) {
+        None => Ok(()),
+        Some((_, name)) => state.list_parameter(alloc, stage, line, name.as_slice(), t),
+    }
+}

@@ -1,0 +1,6 @@
+use Rattle.std.proofs.Common.{◌≡◌, drop}
+use Rattle.check_tables.specs.Functions as spec
+use Rattle.check_tables.proofs.functions.Functions.undefined.Given as goal
+
+abbrev pub invariant-loop-prototype : goal.invariant-loop-prototype
+invariant-loop-prototype l = spec.lacking (drop l.prototype-index l.self.prototypes) l.self ≡ spec.lacking l.self.prototypes l.self

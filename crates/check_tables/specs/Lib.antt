@@ -1,0 +1,6 @@
+pub mod Frames
+pub mod Functions
+pub mod Images
+pub mod Labels
+pub mod Ticks
+pub mod Walks

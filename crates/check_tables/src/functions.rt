@@ -1,0 +1,131 @@
+//! The functions of the program: their numbers, and which prototypes have one.
+
+ghost use Rattle.std.specs.Prelude.{◌≡◌, IfOk, OnOk};
+ghost use Rattle.std.specs.Option.{option_copied};
+ghost use Rattle.check_tables.specs.Functions as spec;
+ghost use Rattle.check_tables.specs.Walks.{Reads};
+
+use crate::frame::{count, plus};
+use c_types::{DeclareFault, Meaning, MeaningKind, Scopes};
+use sqlite_items::Items;
+use std::alloc::{AllocError, Global};
+use tick_tree::{Deny, FaultKind, refused};
+use typed_tree::Function;
+
+/// A prototype of the text.
+#[derive(Drop)]
+pub struct Prototype {
+    /// The line of its declaration.
+    pub line: u32,
+    /// The name of its function.
+    pub name: Items<u8>,
+}
+
+/// What the walk knows of the functions of the program. After an error it is not to be used any more.
+#[derive(Drop)]
+pub struct Functions {
+    /// The functions defined so far, with their numbers: one scope.
+    pub defined: Scopes,
+    /// Those that an earlier walk found.
+    pub earlier: Scopes,
+    /// The prototypes so far, in the order of the text.
+    pub prototypes: Items<Prototype>,
+    /// The functions that the walk has left.
+    pub all: Items<Function>,
+}
+
+impl Functions {
+    /// Before all items.
+    pub fn new(alloc: Global) -> Result<Functions, AllocError>
+        ensures { IfOk result (λ s. s ≡ spec.new) }
+    {
+        let defined = Scopes::new(alloc)?;
+        Ok(Functions {
+            defined,
+            earlier: Scopes::new(alloc)?,
+            prototypes: Items::new(alloc),
+            all: Items::new(alloc),
+        })
+    }
+
+    fn next(&self) -> u32
+        ensures { result ≡ spec.next self.now }
+    {
+        plus(count(self.all.len()), 1)
+    }
+
+    /// The number that an earlier walk found for the function of this name, 0 where there is none.
+    pub fn number(&self, name: &[u8]) -> u32
+        ensures { result ≡ spec.number name.now self.now }
+    {
+        match self.earlier.find(name) {
+            None => 0,
+            Some(found) => found.index,
+        }
+    }
+
+    /// Whether a function of this name is defined so far.
+    pub fn is_defined(&self, name: &[u8]) -> bool
+        ensures { result ≡ spec.is_defined name.now self.now }
+    {
+        self.defined.find(name).is_some()
+    }
+
+    /// Defines a function. Refused where one of its name is defined already: Duplicate.
+    #[tactic(auto, unfolding(crate::specs::Functions::define))]
+    pub fn define(&mut self, alloc: Global, line: u32, name: &[u8]) -> Result<(), Deny>
+        ensures { Reads (spec.define line name.now self.old) result self.new }
+    {
+        let what = Meaning {
+            kind: MeaningKind::Function,
+            ctype: c_shapes::void(alloc),
+            index: self.next(),
+        };
+        match self.defined.declare(name, what) {
+            Ok(()) => Ok(()),
+            Err(DeclareFault::Taken) => refused(FaultKind::Duplicate, line),
+            Err(DeclareFault::NoMemory) => Err(Deny::NoMemory),
+        }
+    }
+
+    /// Notes a prototype.
+    pub fn prototype(&mut self, alloc: Global, line: u32, name: &[u8]) -> Result<(), AllocError>
+        ensures { OnOk result (self.new ≡ spec.with_prototype line name.now self.old) }
+    {
+        let name = Items::from_slice(alloc, name)?;
+        self.prototypes.push(Prototype { line, name })
+    }
+
+    /// Takes a function that the walk has left.
+    pub fn add(&mut self, function: Function) -> Result<(), AllocError>
+        ensures { OnOk result (self.new ≡ spec.with_function function self.old) }
+    {
+        self.all.push(function)
+    }
+
+    /// The first prototype, in the order of the text, that has no function.
+    #[tactic(auto, unfolding(crate::specs::Functions::undefined))]
+    pub fn undefined(&self) -> Option<&Prototype>
+        ensures { option_copied result ≡ spec.undefined self.now }
+    {
+        for prototype in self.prototypes.as_slice() {
+            if !self.is_defined(prototype.name.as_slice()) {
+                return Some(prototype);
+            }
+        }
+        None
+    }
+
+    /// Goes back before all items, with the numbers of these functions.
+    pub fn again(self, alloc: Global) -> Result<Functions, AllocError>
+        ensures { IfOk result (λ s. s ≡ spec.again self) }
+    {
+        let Functions { defined, .. } = self;
+        Ok(Functions {
+            defined: Scopes::new(alloc)?,
+            earlier: defined,
+            prototypes: Items::new(alloc),
+            all: Items::new(alloc),
+        })
+    }
+}

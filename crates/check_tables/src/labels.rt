@@ -1,0 +1,89 @@
+//! The cases of a switch.
+
+ghost use Rattle.std.specs.Prelude.{◌≡◌, ◌↔◌, IfOk, OnOk, OnErr, IsTrue, not, if◌then◌else◌, ◌++◌, ◌∷◌, []};
+ghost use Rattle.check_tables.specs.Labels as spec;
+ghost use Rattle.check_tables.specs.Walks.{Reads};
+
+use indexmap::IndexSet;
+use std::alloc::{AllocError, Global};
+use std::marker::Model;
+use tick_tree::{Deny, FaultKind, refused};
+
+/// The values of the cases of a switch, in the order of the text. Contracts see them as a list.
+#[derive(Drop)]
+pub struct Values {
+    all: IndexSet<u32>,
+}
+
+impl Model for Values {
+    ghost use Rattle.std.specs.Prelude.{ℕ, List};
+
+    ghost Value = { List ℕ };
+
+    ghost view = { λ s. s.all.keys };
+}
+
+impl Values {
+    /// No values.
+    pub fn new(alloc: Global) -> Values
+        ensures { result ≡ [] }
+    {
+        Values {
+            all: IndexSet::new(alloc),
+        }
+    }
+
+    /// Adds a value that isn't there; whether it was added.
+    pub fn add(&mut self, value: u32) -> Result<bool, AllocError>
+        ensures added { IfOk result (λ is_new. is_new ≡ not (spec.is_member value self.old)) }
+        ensures after { OnOk result (self.new ≡ (if spec.is_member value self.old then self.old else self.old ++ value ∷ [])) }
+    {
+        let is_new = self.all.insert(value)?;
+        Ok(is_new)
+    }
+}
+
+/// The labels of a switch so far. After an error they are not to be used any more.
+#[derive(Drop)]
+pub struct Labels {
+    /// The values of its cases.
+    pub values: Values,
+    /// Whether it has a `default`.
+    pub has_default: bool,
+}
+
+impl Labels {
+    /// No labels.
+    pub fn new(alloc: Global) -> Labels
+        ensures { result ≡ spec.new }
+    {
+        Labels {
+            values: Values::new(alloc),
+            has_default: false,
+        }
+    }
+
+    /// The label of a `case`. Refused where the switch has its value already: DuplicateCase.
+    #[tactic(auto, unfolding(crate::specs::Labels::case))]
+    pub fn case(&mut self, line: u32, value: u32) -> Result<(), Deny>
+        ensures { Reads (spec.case line value self.old) result self.new }
+    {
+        if self.values.add(value)? {
+            Ok(())
+        } else {
+            refused(FaultKind::DuplicateCase, line)
+        }
+    }
+
+    /// The label of a `default`. Refused where the switch has one already: DuplicateCase.
+    #[tactic(auto, unfolding(crate::specs::Labels::default))]
+    pub fn default(&mut self, line: u32) -> Result<(), Deny>
+        ensures { Reads (spec.default line self.old) result self.new }
+    {
+        if self.has_default {
+            return refused(FaultKind::DuplicateCase, line);
+        }
+        self.has_default = true;
+        Ok(())
+    }
+}

@@ -1,0 +1,17 @@
+//! What the walk of the checker knows, table by table: the function that it is in, ticks, labels, globals and strings, and the
+//! functions of the program.
+#![tactic(auto)]
+
+mod frame;
+mod functions;
+mod image;
+mod labels;
+#[cfg(test)]
+mod tests;
+mod ticks;
+
+pub use frame::{Frame, Home};
+pub use functions::{Functions, Prototype};
+pub use image::Image;
+pub use labels::{Labels, Values};
+pub use ticks::Ticks;

@@ -1,0 +1,135 @@
+//! Lowers the programs on its input, a line each, and prints the ops of their `main`, how many registers these have, the
+//! live intervals of the registers, and what an expansion without any room answers.
+#![tactic(auto)]
+
+ghost use Rattle.std.specs.Prelude.{◌≡◌, ℕ, ◌≤◌, length, IfOk, IfSome};
+ghost use Rattle.icode_ir.specs.declared.builder.Phase.TheVariants.{Finished};
+ghost use Rattle.icode_ops.specs.Finished.{IsFinished};
+
+use built_programs::{built_is_static, function_of};
+use c_lexer::tokens;
+use icode_expand::expand;
+use icode_ir::Builder;
+use icode_liveness::Live;
+use icode_ops::{Interval, Op};
+use static_backend::builder_of;
+use std::alloc::{AllocError, Global};
+use std::io;
+use tick_checker::check;
+use tick_parser::parse;
+use tick_tree::Deny;
+use typed_tree::Typed;
+
+// The longest program, in bytes.
+const LONGEST: usize = 1_048_576;
+
+// The address of the first word, and the bytes of a frame.
+const FIRST: u32 = 0x0040_1000;
+
+const FRAME: u32 = 128;
+
+// As many labels as a builder gives.
+const LABELS: usize = 196_608;
+
+// The program of a text, where it is accepted.
+fn typed(alloc: Global, text: &[u8]) -> Result<Typed, Deny>
+    requires { length text.now ≤ 1048576 }
+{
+    let found = tokens(alloc, text)?;
+    let tree = parse(alloc, text, &found)?;
+    check(alloc, &tree)
+}
+
+// The live intervals of a finished list of ops.
+fn print_intervals<R: Print + AllocGlobal>(
+    rt: &R,
+    live: &mut Live,
+    ops: &[Op],
+    registers: u32,
+) -> io::Result<()>
+    requires { IsFinished ops.now registers }
+{
+    let none = Interval {
+        reg: 0,
+        start: 0,
+        end: 0,
+    };
+    let mut out = vec![in rt.alloc(); none; registers as usize]?;
+    let count = live.intervals(ops, registers, &mut out);
+    for x in out.iter().take(count) {
+        print!(rt; " {}: {} to {};", x.reg, x.start, x.end)?;
+    }
+    Ok(())
+}
+
+// What an expansion of the ops without any room answers.
+fn print_expansion<R: Print + AllocGlobal>(rt: &R, ops: &[Op]) -> io::Result<()>
+    requires { (n : ℕ) × IsFinished ops.now n }
+{
+    let mut labels = vec![in rt.alloc(); 0u32; LABELS]?;
+    match expand(ops, &[], FIRST, FRAME, 0, false, &mut labels, &mut []) {
+        Ok(count) => println!(rt; " {count} words"),
+        Err(short) => println!(rt; " {short}"),
+    }
+}
+
+// A finished builder that has the ops of a program's function, where it is one that runs so far.
+#[tactic(auto, using(crate::proofs::Ready::ready, crate::proofs::Ready::few_parameters))]
+fn finished_builder(alloc: Global, program: &Typed) -> Result<Option<Builder>, AllocError>
+    ensures { IfOk result (λ found. IfSome found (λ b. b.phase ≡ Finished)) }
+{
+    built_is_static();
+    match function_of(alloc, program) {
+        Ok(Some(function)) => Ok(Some(builder_of(alloc, function)?)),
+        Ok(None) => Ok(None),
+        Err(error) => Err(error),
+    }
+}
+
+// The ops of a finished builder, and what comes of them.
+fn report<R: Print + AllocGlobal>(rt: &R, live: &mut Live, builder: &Builder) -> io::Result<()>
+    requires { builder.now.phase ≡ Finished }
+{
+    for op in builder.ops() {
+        print!(rt; "{op:?}; ")?;
+    }
+    print!(rt; "{} registers;", builder.registers())?;
+    print_intervals(rt, live, builder.ops(), builder.registers())?;
+    print_expansion(rt, builder.ops())
+}
+
+// What comes of a program.
+fn report_program<R: Print + AllocGlobal>(
+    rt: &R,
+    live: &mut Live,
+    program: &Typed,
+) -> io::Result<()> {
+    match finished_builder(rt.alloc(), program)? {
+        Some(builder) => report(rt, live, &builder),
+        None => println!(rt; "not built"),
+    }
+}
+
+// What comes of a text.
+fn report_text<R: Print + AllocGlobal>(rt: &R, live: &mut Live, text: &[u8]) -> io::Result<()>
+    requires { length text.now ≤ 1048576 }
+{
+    match typed(rt.alloc(), text) {
+        Ok(program) => report_program(rt, live, &program),
+        Err(_) => println!(rt; "refused"),
+    }
+}
+
+fn main(rt: HostRuntime) -> io::Result<()> {
+    let mut live = Live::new(rt.alloc())?;
+    for line in rt.lines(rt.alloc()) {
+        let line = line?;
+        let text = line.as_str().as_bytes();
+        if text.len() > LONGEST {
+            println!(rt; "too long")?;
+            continue;
+        }
+        report_text(&rt, &mut live, text)?;
+    }
+    Ok(())
+}

@@ -1,0 +1,101 @@
+//! Programs under `run`, and under `build` and then `exec`: of both the status and what was written, a line each. Before
+//! each program stands a line `%% STEPS`, with the most instructions of each run.
+#![tactic(auto)]
+
+use host_edge::{MemSink, MemSource, MemStore};
+use std::alloc::{AllocError, Global};
+use std::io::{self, Read};
+use tick_top::{status, tick};
+
+// The bytes that each stream takes at most.
+const ROOM: usize = 4096;
+
+fn words_of(
+    alloc: Global,
+    first: &str,
+    steps: &str,
+    last: &str,
+) -> Result<Vec<String>, AllocError> {
+    let mut all = Vec::new(alloc);
+    for word in first.split_whitespace() {
+        all.push(String::from_str(alloc, word)?)?;
+    }
+    if !steps.is_empty() {
+        all.push(String::from_str(alloc, "--steps")?)?;
+        all.push(String::from_str(alloc, steps)?)?;
+    }
+    for word in last.split_whitespace() {
+        all.push(String::from_str(alloc, word)?)?;
+    }
+    Ok(all)
+}
+
+// What a call left.
+#[derive(Drop)]
+struct Seen {
+    status: u8,
+    out: Vec<u8>,
+    err: Vec<u8>,
+}
+
+fn call(alloc: Global, words: &[String], store: &mut MemStore) -> Result<Seen, AllocError> {
+    let mut input = MemSource::new(alloc, b"", &[])?;
+    let mut out = MemSink::new(alloc, ROOM, &[])?;
+    let mut err = MemSink::new(alloc, ROOM, &[])?;
+    let ended = tick(alloc, words, store, &mut input, &mut out, &mut err)?;
+    Ok(Seen {
+        status: status(&ended.outcome),
+        out: out.taken().to_vec(alloc)?,
+        err: err.taken().to_vec(alloc)?,
+    })
+}
+
+fn show<R: Print + AllocGlobal>(rt: &R, name: &str, seen: &Seen) -> io::Result<()> {
+    let out = str::from_utf8(&seen.out).unwrap_or("?");
+    let err = str::from_utf8(&seen.err).unwrap_or("?");
+    println!(rt; "{name}: {}, out {out:?}, err {err:?}", seen.status)
+}
+
+// A program under `run`, and under `build` and then `exec`, on a store of its own.
+fn report<R: Print + AllocGlobal>(rt: &R, steps: &str, text: &[u8]) -> io::Result<()> {
+    let alloc = rt.alloc();
+    let mut store = MemStore::new(alloc, &[])?;
+    store.put("text", text)?;
+    let ran = call(
+        alloc,
+        &words_of(alloc, "tick run", steps, "text")?,
+        &mut store,
+    )?;
+    show(rt, "run", &ran)?;
+    call(
+        alloc,
+        &words_of(alloc, "tick build text image", "", "")?,
+        &mut store,
+    )?;
+    let executed = call(
+        alloc,
+        &words_of(alloc, "tick exec", steps, "image")?,
+        &mut store,
+    )?;
+    show(rt, "exec", &executed)
+}
+
+fn main(rt: HostRuntime) -> io::Result<()> {
+    let mut cases = Vec::new(rt.alloc());
+    rt.reader().read_to_end(&mut cases)?;
+    let mut steps: &[u8] = b"";
+    let mut text = Vec::new(rt.alloc());
+    for line in cases.split(|b| *b == b'\n') {
+        if let Some(next) = line.strip_prefix(b"%% ") {
+            if !text.is_empty() {
+                report(&rt, str::from_utf8(steps).unwrap_or("?"), &text)?;
+            }
+            steps = next;
+            text.clear();
+        } else {
+            text.extend_from_slice(line)?;
+            text.push(b'\n')?;
+        }
+    }
+    report(&rt, str::from_utf8(steps).unwrap_or("?"), &text)
+}

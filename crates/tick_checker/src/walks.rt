@@ -1,0 +1,43 @@
+//! A whole program: the two walks, and what is checked after them.
+
+ghost use Rattle.tick_tree.specs.Faults.{Checks};
+ghost use Rattle.tick_checker.specs.Program as spec;
+
+use crate::program::walk;
+use check_globals::finished;
+use check_state::State;
+use std::alloc::Global;
+use tick_tree::{Deny, External, Tree};
+use typed_tree::Typed;
+
+fn second(alloc: Global, state: State, list: &[External]) -> Result<Typed, Deny>
+    ensures { Checks result (spec.second_walk list.now state) }
+{
+    let mut state = state;
+    walk(alloc, &mut state, list)?;
+    finished(alloc, state)
+}
+
+fn again(alloc: Global, state: State, list: &[External]) -> Result<Typed, Deny>
+    ensures { Checks result (spec.walk_again list.now state) }
+{
+    let state = state.again(alloc)?;
+    second(alloc, state, list)
+}
+
+fn first(alloc: Global, state: State, list: &[External]) -> Result<Typed, Deny>
+    ensures { Checks result (spec.first_walk list.now state) }
+{
+    let mut state = state;
+    walk(alloc, &mut state, list)?;
+    again(alloc, state, list)
+}
+
+/// The typed tree of a program, or its first static fault from Undeclared on.
+#[tactic(auto, unfolding(crate::specs::Program::checked))]
+pub fn check(alloc: Global, tree: &Tree) -> Result<Typed, Deny>
+    ensures { Checks result (spec.checked tree.now) }
+{
+    let state = State::new(alloc)?;
+    first(alloc, state, tree.items.as_slice())
+}

@@ -1,0 +1,12 @@
+use Rattle.std.proofs.Common.{rules, ap}
+use Rattle.command_words.specs.Orders.{ordered}
+use Rattle.tick_top.specs.Outside.{outside}
+use Rattle.tick_top.proofs.Fronts.{ordered_build}
+use Rattle.tick_top.proofs.commands.obey.Goals as goal
+
+pub returns-in-Build-clause-does : goal.returns-in-Build-clause-does
+returns-in-Build-clause-does g c =
+    ordered_build c.in-Build.file.now c.in-Build.path.now (ordered c.args.command)
+    (outside (g.S.Store.file c.args.store.now) (g.I.Source.left c.args.input.now) (g.O.Sink.taken c.args.out.now))
+    (outside (g.S.Store.file c.build_file.new.store) (g.I.Source.left c.args.input.now) (g.O.Sink.taken c.args.out.now))
+    c.build_file.result (ap ordered c.in-Build.is) (search rules) (search rules)
