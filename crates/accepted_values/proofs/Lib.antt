@@ -1,0 +1,9 @@
+pub mod Broken
+pub mod Calls
+pub mod Combining
+pub mod Nodes
+pub mod Operands
+pub mod Operators
+pub mod Places
+pub mod Stages
+pub mod Types
