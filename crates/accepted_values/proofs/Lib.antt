@@ -1,6 +1,7 @@
 pub mod Broken
 pub mod Calls
 pub mod Combining
+pub mod Declared
 pub mod Nodes
 pub mod Operands
 pub mod Operators

@@ -17,7 +17,6 @@ use Rattle.accepted_trees.specs.Values.{Use, used, all_used, same, value_use, is
 use Rattle.accepted_trees.proofs.Uses.{value_use_const, value_use_captured, value_use_var, value_use_setvar, value_use_postvar, value_use_vget, value_use_vset, value_use_vpost, value_use_frame, value_use_load, value_use_store, value_use_modify, value_use_post, value_use_bin, value_use_un, value_use_and, value_use_or, value_use_cond, value_use_comma, value_use_void, value_use_call, value_use_callnumber, value_use_getchar, value_use_lib, value_use_tick, value_use_capture, value_use_splice, value_use_compile, value_use_local, value_use_paramof}
 use Rattle.accepted_values.specs.Used.{Leaves, EachLeaves, UsedAs}
 use Rattle.accepted_values.specs.Laws.{NodesUse}
-use Rattle.accepted_values.proofs.Types.{layer_type}
 
 along : (u w : Use) → u ≡ w → used w ≡ true → used u ≡ true
 along u w e h = ap used e ∙ h
@@ -177,5 +176,4 @@ nodes_use = record {
   capture = capture_left;
   splice = splice_used;
   tick = tick_left;
-  layer = layer_type;
 }

@@ -36,7 +36,7 @@ one_of b l p ls ms true y = layered_value b ms p
 one_of b l p ls ms false true = refl
 one_of b l p ls ms false false = refl
 
-decayed_value : (b : Base) (ls : List Layer) → types.is_void b (decayed_layers ls) ≡ types.is_void b ls
+pub decayed_value : (b : Base) (ls : List Layer) → types.is_void b (decayed_layers ls) ≡ types.is_void b ls
 decayed_value b [] = refl
 decayed_value b (l ∷ ls) = one_of b l layer.Pointer ls (under (l ∷ ls)) (is_array (l ∷ ls)) (is_function (l ∷ ls))
 

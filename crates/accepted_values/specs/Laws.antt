@@ -1,9 +1,15 @@
 -- Each rule of single nodes makes of parts that are used right a node that is used right.
-use Rattle.std.specs.Prelude.{◌≡◌, ℕ, Bool, true, false, List}
+use Rattle.std.specs.Prelude.{◌≡◌, ℕ, Bool, true, false, List, [], ◌∷◌, Ok}
 use Rattle.icode_ops.specs.declared.kind.UnKind.{UnKind}
 use Rattle.c_types.specs.declared.ctype.CType.{CType}
+use Rattle.c_types.specs.declared.ctype.Base.{Base}
+use Rattle.c_types.specs.declared.ctype.Integer.TheVariants as kind
 use Rattle.c_types.specs.declared.ctype.Layer.{Layer}
-use Rattle.c_shapes.specs.Shapes.{over, is_void}
+use Rattle.c_types.specs.declared.ctype.Layer.TheVariants as layer
+use Rattle.c_declared.specs.declared.steps.Role.{Role}
+use Rattle.c_declared.specs.declared.steps.Step.{Step}
+use Rattle.c_declared.specs.Making.{decayed, declared_type}
+use Rattle.c_shapes.specs.Shapes.{integer, void, over, inner, is_void, is_vspec}
 use Rattle.tick_tree.specs.declared.base.BinaryOp.{BinaryOp}
 use Rattle.tick_tree.specs.declared.base.ModifyOp.{ModifyOp}
 use Rattle.tick_tree.specs.declared.base.StepOp.{StepOp}
@@ -20,7 +26,26 @@ use Rattle.c_places.specs.declared.calls.Arguments.{Arguments}
 use Rattle.c_places.specs.Calls as calls
 use Rattle.c_places.specs.Places as places
 use Rattle.accepted_trees.specs.Values.{is_right}
-use Rattle.accepted_values.specs.Used.{Leaves, EachLeaves, UsedAs, IsUsedValue, IsUsed, AreUsed, IsLibrary, Unless}
+use Rattle.accepted_values.specs.Used.{declares, Leaves, EachLeaves, UsedAs, IsUsedValue, IsUsed, AreUsed, IsLibrary, Unless}
+
+-- ---- types
+
+pub record TypesUse : Type 0 where
+  -- a type with a layer isn't void
+  pub layer : (l : Layer) (t : CType) → is_void (over l t) ≡ false
+  -- a value's type is void where its place's is
+  pub decayed : (t : CType) → is_void (decayed t) ≡ is_void t
+  -- the type of a declared name isn't void, and that of a variable of generated code isn't either
+  pub declared : (r : Role) (line : ℕ) (b : Base) (ss : List Step) (t : CType) → declares r ≡ true → declared_type r line b ss ≡ Ok t → is_void t ≡ false
+  pub vspec : (r : Role) (line : ℕ) (b : Base) (ss : List Step) (t : CType) → declared_type r line b ss ≡ Ok t → is_vspec t ≡ true → is_void (inner t) ≡ false
+
+-- the types of the library functions, by their numbers
+pub record LibraryUses : Type 0 where
+  pub getchar : IsLibrary 0 (over (layer.Function []) (integer kind.Int))
+  pub putchar : IsLibrary 1 (over (layer.Function (integer kind.Int ∷ [])) (integer kind.Int))
+  pub putint : IsLibrary 2 (over (layer.Function (integer kind.Int ∷ [])) void)
+  pub malloc : IsLibrary 3 (over (layer.Function (integer kind.Unsigned ∷ [])) (over layer.Pointer void))
+  pub exit : IsLibrary 4 (over (layer.Function (integer kind.Int ∷ [])) void)
 
 -- ---- single nodes, which the walk makes itself
 
@@ -35,8 +60,6 @@ pub record NodesUse : Type 0 where
   pub capture : (k : CaptureKind) (e : Expr) → Leaves e → Leaves (ex.Capture k e)
   pub splice : (t : CType) (i : ℕ) → UsedAs t (ex.Splice (calls.answer_of t) i)
   pub tick : (n : ℕ) (es : List Expr) → EachLeaves es → Leaves (ex.Tick n es)
-  -- a type with a layer isn't void
-  pub layer : (l : Layer) (t : CType) → is_void (over l t) ≡ false
 
 -- ---- operands
 
@@ -101,6 +124,8 @@ pub record CallsUse : Type 0 where
   pub tick_returned : (line : ℕ) (v : Value) → IsUsedValue v → Unless Leaves (calls.tick_returned line v)
 
 pub record RulesUse : Type 0 where
+  pub types : TypesUse
+  pub libraries : LibraryUses
   pub nodes : NodesUse
   pub operands : OperandsUse
   pub prefixes : PrefixesUse

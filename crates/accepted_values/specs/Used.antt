@@ -5,6 +5,8 @@ use Rattle.c_types.specs.declared.ctype.CType.{CType}
 use Rattle.c_types.specs.declared.ctype.Layer.{Layer, out-Layer}
 use Rattle.c_types.specs.declared.ctype.Layer.TheOpen.{Layer-F}
 use Rattle.c_types.specs.Types.{Opened, outermost, layers_of}
+use Rattle.c_declared.specs.declared.steps.Role.{Role}
+use Rattle.c_declared.specs.declared.steps.Role.TheVariants as role
 use Rattle.c_shapes.specs.Shapes.{is_void, inner}
 use Rattle.tick_tree.specs.Faults.{Checked}
 use Rattle.typed_tree.specs.declared.expression.Library.{Library}
@@ -65,6 +67,15 @@ EachUsedAs _ _ = ⊥
 
 abbrev pub AreUsed : Arguments → Type 0
 AreUsed list = EachUsedAs list.types list.codes
+
+-- ---- declarations
+
+-- a declaration of a name; a type name declares none
+abbrev pub declares : Role → Bool
+declares role.Typename = false
+declares role.FileScope = true
+declares role.Local = true
+declares role.Parameter = true
 
 -- ---- the library
 
