@@ -53,9 +53,9 @@ unfolding assign
 assign_used line o v h u =
     unless_by IsUsed line _ _
     (λ k. let p : place_breaks o (void_breaks v) ≡ None = assigned_place o v k in
-      let n : is_void v.ctype ≡ false = no_fault (is_void v.ctype) fault.VoidValue None (no_first (is_place o.place) fault.NotPlace _ p) in
-      as_used o.ctype _ (stored_left o.place o.ctype (converted v o.ctype) h (converted_left v o.ctype (left_of v.ctype v.code u n)))
-      (place_type o.place o.ctype (is_so (is_place o.place) fault.NotPlace _ p) h))
+    let n : is_void v.ctype ≡ false = no_fault (is_void v.ctype) fault.VoidValue None (no_first (is_place o.place) fault.NotPlace _ p) in
+    as_used o.ctype _ (stored_left o.place o.ctype (converted v o.ctype) h (converted_left v o.ctype (left_of v.ctype v.code u n)))
+    (place_type o.place o.ctype (is_so (is_place o.place) fault.NotPlace _ p) h))
 
 -- ---- `op=`
 
@@ -84,7 +84,7 @@ modified_used : (line : ℕ) (c : Combined) (o : Operand) (e : Expr) → IsUsed 
 modified_used line c o e h k =
     unless_by IsUsed line _ _
     (λ b. as_used o.ctype _ (changed_left c o.place o.ctype e h (k (is_so (comes_back c) fault.TypeMismatch _ b)))
-      (place_type o.place o.ctype (is_so (is_place o.place) fault.NotPlace None (no_first (comes_back c) fault.TypeMismatch _ b)) h))
+    (place_type o.place o.ctype (is_so (is_place o.place) fault.NotPlace None (no_first (comes_back c) fault.TypeMismatch _ b)) h))
 
 modify_by_used : (line : ℕ) (o : Operand) (v : Value) (c : Option Combined) → ((d : Combined) → c ≡ Some d → comes_back d ≡ true → Leaves v.code) → IsUsed o → Unless IsUsed (modify_by line o v c)
 modify_by_used line o v None k h = tt
@@ -118,7 +118,7 @@ post_by_used line s o None h = tt
 post_by_used line s o (Some n) h =
     unless_by IsUsed line _ _
     (λ b. let p : is_place o.place ≡ true = is_so (is_place o.place) fault.NotPlace None b in
-      as_used o.ctype _ (posted_left o.place o.ctype (amount s n) p h) (place_type o.place o.ctype p h))
+    as_used o.ctype _ (posted_left o.place o.ctype (amount s n) p h) (place_type o.place o.ctype p h))
 
 post_used : (line : ℕ) (s : StepOp) (o : Operand) → IsUsed o → Unless IsUsed (post line s o)
 unfolding post
