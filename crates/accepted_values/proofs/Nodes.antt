@@ -1,5 +1,5 @@
 -- Where the parts of a node are used right, the node leaves its value; one law a node.
-use Rattle.std.proofs.Common.{◌≡◌, ℕ, Bool, true, false, not, ◌&&◌, if◌then◌else◌, refl, ap, sym, ◌∙◌, List, [], ◌∷◌, map}
+use Rattle.std.proofs.Common.{◌≡◌, ℕ, Bool, true, false, not, ◌&&◌, if◌then◌else◌, refl, ap, sym, ◌∙◌, List, [], ◌∷◌, ◌++◌, map}
 use Rattle.word32.specs.declared.width.Width.{Width}
 use Rattle.icode_ops.specs.declared.kind.BinKind.{BinKind}
 use Rattle.icode_ops.specs.declared.kind.UnKind.{UnKind}
@@ -124,6 +124,10 @@ each_left : (es : List Expr) → EachLeaves es → all_used (map value_use es) �
 each_left [] h = refl
 each_left (e ∷ es) h = and_true _ _ h.0 (each_left es h.1)
 
+one_more : (es : List Expr) (e : Expr) → EachLeaves es → Leaves e → EachLeaves (es ++ e ∷ [])
+one_more [] e h k = (k, tt)
+one_more (x ∷ es) e h k = (h.0, one_more es e h.1 k)
+
 tick_left : (n : ℕ) (es : List Expr) → EachLeaves es → Leaves (ex.Tick n es)
 tick_left n es h = along _ _ (value_use_tick n es) (each_left es h)
 
@@ -175,5 +179,6 @@ nodes_use = record {
   captured = captured_left;
   capture = capture_left;
   splice = splice_used;
+  more = one_more;
   tick = tick_left;
 }

@@ -1,5 +1,5 @@
 -- Each rule of single nodes makes of parts that are used right a node that is used right.
-use Rattle.std.specs.Prelude.{◌≡◌, ℕ, Bool, true, false, List, [], ◌∷◌, Ok}
+use Rattle.std.specs.Prelude.{◌≡◌, ℕ, Bool, true, false, List, [], ◌∷◌, ◌++◌, Ok}
 use Rattle.icode_ops.specs.declared.kind.UnKind.{UnKind}
 use Rattle.c_types.specs.declared.ctype.CType.{CType}
 use Rattle.c_types.specs.declared.ctype.Base.{Base}
@@ -59,6 +59,7 @@ pub record NodesUse : Type 0 where
   pub captured : (w : CapturedWord) (i : ℕ) → Leaves (ex.Captured w i)
   pub capture : (k : CaptureKind) (e : Expr) → Leaves e → Leaves (ex.Capture k e)
   pub splice : (t : CType) (i : ℕ) → UsedAs t (ex.Splice (calls.answer_of t) i)
+  pub more : (es : List Expr) (e : Expr) → EachLeaves es → Leaves e → EachLeaves (es ++ e ∷ [])
   pub tick : (n : ℕ) (es : List Expr) → EachLeaves es → Leaves (ex.Tick n es)
 
 -- ---- operands
