@@ -54,7 +54,7 @@ impl Core {
         ensures other { w ≢ 12 → (world_of self.new ≡ spec.does (table.of_special w) (state_of self.old)) × (result ≡ spec.went_of (world_of self.new).ending) }
     {
         match w % 64 {
-            0 => self.shift_left(w),
+            0 => self.shift(ShiftOp::Sll, w),
             2 => self.shift(ShiftOp::Srl, w),
             3 => self.shift(ShiftOp::Sra, w),
             4 => self.shift_variable(ShiftVariableOp::Sllv, w),
@@ -135,7 +135,7 @@ impl Core {
 
     /// Executes the instruction of a word, unless it is SYSCALL.
     #[inline(always)]
-    pub(crate) fn execute(&mut self, w: u32) -> Went
+    fn execute(&mut self, w: u32) -> Went
         requires on { self.old.stopped ≡ None }
         requires next { self.old.next < 4294967296 }
         ensures service { w ≡ 12 → (result ≡ Went.Service) × (self.new ≡ self.old) }
@@ -145,6 +145,49 @@ impl Core {
             self.execute_special(w)
         } else {
             self.execute_coded(w)
+        }
+    }
+
+    /// The same, compiled once more, for where something is pending.
+    #[inline(never)]
+    fn execute_aside(&mut self, w: u32) -> Went
+        requires on { self.old.stopped ≡ None }
+        requires next { self.old.next < 4294967296 }
+        ensures service { w ≡ 12 → (result ≡ Went.Service) × (self.new ≡ self.old) }
+        ensures other { w ≢ 12 → (world_of self.new ≡ spec.does (table.instr_of w) (state_of self.old)) × (result ≡ spec.went_of (world_of self.new).ending) }
+    {
+        self.execute(w)
+    }
+
+    /// The same where something is pending. There a nop is likely, which is never a hazard.
+    #[cold]
+    #[inline(never)]
+    fn execute_pending(&mut self, w: u32) -> Went
+        requires on { self.old.stopped ≡ None }
+        requires next { self.old.next < 4294967296 }
+        ensures service { w ≡ 12 → (result ≡ Went.Service) × (self.new ≡ self.old) }
+        ensures other { w ≢ 12 → (world_of self.new ≡ spec.does (table.instr_of w) (state_of self.old)) × (result ≡ spec.went_of (world_of self.new).ending) }
+    {
+        if w == 0 {
+            self.settle();
+            Went::On
+        } else {
+            self.execute_aside(w)
+        }
+    }
+
+    /// The same. Where nothing is pending no test of an instruction for it is left, since all are compiled into this place.
+    #[inline(always)]
+    pub(crate) fn execute_next(&mut self, w: u32) -> Went
+        requires on { self.old.stopped ≡ None }
+        requires next { self.old.next < 4294967296 }
+        ensures service { w ≡ 12 → (result ≡ Went.Service) × (self.new ≡ self.old) }
+        ensures other { w ≢ 12 → (world_of self.new ≡ spec.does (table.instr_of w) (state_of self.old)) × (result ≡ spec.went_of (world_of self.new).ending) }
+    {
+        if self.pending {
+            self.execute_pending(w)
+        } else {
+            self.execute(w)
         }
     }
 }

@@ -83,22 +83,6 @@ impl Core {
         Went::On
     }
 
-    /// SLL. Its word 0 is a nop, which does nothing and is never a hazard.
-    #[inline(always)]
-    pub(crate) fn shift_left(&mut self, w: u32) -> Went
-        requires on { self.old.stopped ≡ None }
-        requires next { self.old.next < 4294967296 }
-        ensures world { world_of self.new ≡ spec.does (table.shift ShiftOp.Sll w) (state_of self.old) }
-        ensures went { result ≡ spec.went_of (world_of self.new).ending }
-    {
-        if w == 0 {
-            self.pass();
-            Went::On
-        } else {
-            self.shift(ShiftOp::Sll, w)
-        }
-    }
-
     #[inline(always)]
     pub(crate) fn shift_variable(&mut self, op: ShiftVariableOp, w: u32) -> Went
         requires on { self.old.stopped ≡ None }
