@@ -41,8 +41,8 @@ impl Core {
         ensures world { world_of self.new ≡ spec.took r v (state_of self.old) }
         ensures went { result ≡ spec.went_of (world_of self.new).ending }
     {
-        self.advance();
         self.write(r, v);
+        self.advance();
         self.set_loaded(r);
         Went::On
     }

@@ -15,7 +15,7 @@ use mips_encoder::{
 
 impl Core {
     #[inline(always)]
-    fn execute_regimm(&mut self, w: u32) -> Went
+    fn execute_regimm<const ASIDE: bool>(&mut self, w: u32) -> Went
         requires on { self.old.stopped ≡ None }
         requires next { self.old.next < 4294967296 }
         ensures world { world_of self.new ≡ spec.does (table.of_regimm w) (state_of self.old) }
@@ -47,7 +47,7 @@ impl Core {
 
     /// A word with the opcode 0.
     #[inline(always)]
-    fn execute_special(&mut self, w: u32) -> Went
+    fn execute_special<const ASIDE: bool>(&mut self, w: u32) -> Went
         requires on { self.old.stopped ≡ None }
         requires next { self.old.next < 4294967296 }
         ensures service { w ≡ 12 → (result ≡ Went.Service) × (self.new ≡ self.old) }
@@ -93,7 +93,7 @@ impl Core {
 
     /// A word with another opcode.
     #[inline(always)]
-    fn execute_coded(&mut self, w: u32) -> Went
+    fn execute_coded<const ASIDE: bool>(&mut self, w: u32) -> Went
         requires on { self.old.stopped ≡ None }
         requires next { self.old.next < 4294967296 }
         requires high { 67108864 ≤ w }
@@ -101,7 +101,7 @@ impl Core {
         ensures went { result ≡ spec.went_of (world_of self.new).ending }
     {
         match w / 67108864 {
-            1 => self.execute_regimm(w),
+            1 => self.execute_regimm::<ASIDE>(w),
             2 => self.jump(w),
             3 => self.jump_and_link(w),
             4 => self.branch_on_equality(EqualityOp::Beq, w),
@@ -133,22 +133,24 @@ impl Core {
         }
     }
 
-    /// Executes the instruction of a word, unless it is SYSCALL.
+    /// Executes the instruction of a word, unless it is SYSCALL. It is compiled twice, and `ASIDE` tells the copies apart:
+    /// one for where something is pending, and one for where nothing is.
     #[inline(always)]
-    fn execute(&mut self, w: u32) -> Went
+    fn execute<const ASIDE: bool>(&mut self, w: u32) -> Went
         requires on { self.old.stopped ≡ None }
         requires next { self.old.next < 4294967296 }
         ensures service { w ≡ 12 → (result ≡ Went.Service) × (self.new ≡ self.old) }
         ensures other { w ≢ 12 → (world_of self.new ≡ spec.does (table.instr_of w) (state_of self.old)) × (result ≡ spec.went_of (world_of self.new).ending) }
     {
         if w < 67108864 {
-            self.execute_special(w)
+            self.execute_special::<ASIDE>(w)
         } else {
-            self.execute_coded(w)
+            self.execute_coded::<ASIDE>(w)
         }
     }
 
-    /// The same, compiled once more, for where something is pending.
+    /// The same where something is pending.
+    #[cold]
     #[inline(never)]
     fn execute_aside(&mut self, w: u32) -> Went
         requires on { self.old.stopped ≡ None }
@@ -156,27 +158,11 @@ impl Core {
         ensures service { w ≡ 12 → (result ≡ Went.Service) × (self.new ≡ self.old) }
         ensures other { w ≢ 12 → (world_of self.new ≡ spec.does (table.instr_of w) (state_of self.old)) × (result ≡ spec.went_of (world_of self.new).ending) }
     {
-        self.execute(w)
+        self.execute::<true>(w)
     }
 
-    /// The same where something is pending. There a nop is likely, which is never a hazard.
-    #[cold]
-    #[inline(never)]
-    fn execute_pending(&mut self, w: u32) -> Went
-        requires on { self.old.stopped ≡ None }
-        requires next { self.old.next < 4294967296 }
-        ensures service { w ≡ 12 → (result ≡ Went.Service) × (self.new ≡ self.old) }
-        ensures other { w ≢ 12 → (world_of self.new ≡ spec.does (table.instr_of w) (state_of self.old)) × (result ≡ spec.went_of (world_of self.new).ending) }
-    {
-        if w == 0 {
-            self.settle();
-            Went::On
-        } else {
-            self.execute_aside(w)
-        }
-    }
-
-    /// The same. Where nothing is pending no test of an instruction for it is left, since all are compiled into this place.
+    /// The same. Where nothing is pending, which is tested here, the compiler drops the tests of the instructions; where
+    /// something is, a nop is likely, which is never a hazard.
     #[inline(always)]
     pub(crate) fn execute_next(&mut self, w: u32) -> Went
         requires on { self.old.stopped ≡ None }
@@ -184,10 +170,13 @@ impl Core {
         ensures service { w ≡ 12 → (result ≡ Went.Service) × (self.new ≡ self.old) }
         ensures other { w ≢ 12 → (world_of self.new ≡ spec.does (table.instr_of w) (state_of self.old)) × (result ≡ spec.went_of (world_of self.new).ending) }
     {
-        if self.pending {
-            self.execute_pending(w)
+        if !self.pending {
+            self.execute::<false>(w)
+        } else if w == 0 {
+            self.settle();
+            Went::On
         } else {
-            self.execute(w)
+            self.execute_aside(w)
         }
     }
 }

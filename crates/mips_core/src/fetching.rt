@@ -14,8 +14,7 @@ use word32::map;
 
 impl Core {
     /// The word of the next instruction where it isn't in the text, or why none is executed.
-    #[cold]
-    #[inline(never)]
+    #[inline(always)]
     fn fetch_from_arena(&self) -> Result<u32, MachineKind>
         ensures { result ≡ spec.word_past_text (state_of self.now).code self.now.pc }
     {

@@ -25,8 +25,8 @@ impl Core {
     {
         match v {
             Some(v) => {
-                self.advance();
                 self.write(r, v);
+                self.advance();
                 Went::On
             }
             None => self.fault(MachineKind::Overflow),
@@ -78,8 +78,8 @@ impl Core {
             return self.fault(MachineKind::Hazard);
         }
         let v = shifted(op, self.register(rt(w)), shamt(w).bits());
-        self.advance();
         self.write(rd(w), v);
+        self.advance();
         Went::On
     }
 
@@ -97,8 +97,8 @@ impl Core {
             return self.fault(MachineKind::Hazard);
         }
         let v = shifted(by_number(op), self.register(rt(w)), self.register(rs(w)));
-        self.advance();
         self.write(rd(w), v);
+        self.advance();
         Went::On
     }
 
@@ -115,8 +115,8 @@ impl Core {
         if self.is_loaded(rt(w), rt(w), rt(w)) {
             return self.fault(MachineKind::Hazard);
         }
-        self.advance();
         self.write(rt(w), w % 65536 * 65536);
+        self.advance();
         Went::On
     }
 
@@ -137,8 +137,8 @@ impl Core {
             HiLo::Hi => self.hi,
             HiLo::Lo => self.lo,
         };
-        self.advance();
         self.write(rd(w), v);
+        self.advance();
         self.set_recent();
         Went::On
     }
