@@ -41,8 +41,8 @@ impl Core {
         ensures world { world_of self.new ≡ spec.took r v (state_of self.old) }
         ensures went { result ≡ spec.went_of (world_of self.new).ending }
     {
-        self.advance();
         self.write(r, v);
+        self.advance();
         self.set_loaded(r);
         Went::On
     }
@@ -147,8 +147,14 @@ impl Core {
         }
     }
 
+    // CODE is the operation's opcode: each is compiled by itself, and with its instruction
     #[inline(always)]
-    fn access(&mut self, op: MemoryOp, r: Register, at: u32) -> Went
+    fn access<const ASIDE: bool, const CODE: u32>(
+        &mut self,
+        op: MemoryOp,
+        r: Register,
+        at: u32,
+    ) -> Went
         requires on { self.old.stopped ≡ None }
         requires next { self.old.next < 4294967296 }
         ensures world { world_of self.new ≡ spec.accessing op r at (state_of self.old) }
@@ -167,7 +173,11 @@ impl Core {
     }
 
     #[inline(always)]
-    pub(crate) fn access_memory(&mut self, op: MemoryOp, w: u32) -> Went
+    pub(crate) fn access_memory<const ASIDE: bool, const CODE: u32>(
+        &mut self,
+        op: MemoryOp,
+        w: u32,
+    ) -> Went
         requires on { self.old.stopped ≡ None }
         requires next { self.old.next < 4294967296 }
         ensures world { world_of self.new ≡ spec.does (table.memory op w) (state_of self.old) }
@@ -177,6 +187,6 @@ impl Core {
             return self.fault(MachineKind::Hazard);
         }
         let at = self.register(rs(w)).wrapping_add(widened(low_half(w)));
-        self.access(op, rt(w), at)
+        self.access::<ASIDE, CODE>(op, rt(w), at)
     }
 }

@@ -22,7 +22,7 @@ impl Core {
 
     /// On to the next instruction, from a delay slot or where something may not have followed.
     #[inline(always)]
-    fn settle(&mut self)
+    pub(crate) fn settle(&mut self)
         requires { self.old.next < 4294967296 }
         ensures { world_of self.new ≡ spec.moved (self.old.next + 4) false (world_of self.old) }
     {
@@ -36,32 +36,9 @@ impl Core {
         }
     }
 
-    /// The same, away from the straight path.
-    #[cold]
-    #[inline(never)]
-    fn settle_aside(&mut self)
-        requires { self.old.next < 4294967296 }
-        ensures { world_of self.new ≡ spec.moved (self.old.next + 4) false (world_of self.old) }
-    {
-        self.settle();
-    }
-
     /// On to the next instruction.
     #[inline(always)]
     pub(crate) fn advance(&mut self)
-        requires { self.old.next < 4294967296 }
-        ensures { world_of self.new ≡ spec.moved (self.old.next + 4) false (world_of self.old) }
-    {
-        if self.pending {
-            self.settle_aside();
-        } else {
-            self.pc += 4;
-        }
-    }
-
-    /// On to the next instruction, from one that often stands behind a load or in a delay slot.
-    #[inline(always)]
-    pub(crate) fn pass(&mut self)
         requires { self.old.next < 4294967296 }
         ensures { world_of self.new ≡ spec.moved (self.old.next + 4) false (world_of self.old) }
     {
@@ -108,29 +85,14 @@ impl Core {
         self.pending = true;
     }
 
-    #[cold]
-    #[inline(never)]
-    fn was_loaded(&self, a: Register, b: Register, c: Register) -> bool
-        ensures { result ≡ spec.is_loaded self.now.loaded a b c }
-    {
-        self.loaded != 0
-            && (a.number() == self.loaded || b.number() == self.loaded || c.number() == self.loaded)
-    }
-
     /// Whether the last instruction loaded one of these registers.
     #[inline(always)]
     pub(crate) fn is_loaded(&self, a: Register, b: Register, c: Register) -> bool
         ensures { result ≡ spec.is_loaded self.now.loaded a b c }
     {
-        self.pending && self.was_loaded(a, b, c)
-    }
-
-    #[cold]
-    #[inline(never)]
-    fn forbids_branch(&self, a: Register, b: Register, c: Register) -> bool
-        ensures { result ≡ (self.now.slot || spec.is_loaded self.now.loaded a b c) }
-    {
-        self.slot || self.was_loaded(a, b, c)
+        self.pending
+            && self.loaded != 0
+            && (a.number() == self.loaded || b.number() == self.loaded || c.number() == self.loaded)
     }
 
     /// Whether a branch may not be next: in a delay slot, or where the last instruction loaded one of these registers.
@@ -138,7 +100,7 @@ impl Core {
     pub(crate) fn is_branch_hazard(&self, a: Register, b: Register, c: Register) -> bool
         ensures { result ≡ (self.now.slot || spec.is_loaded self.now.loaded a b c) }
     {
-        self.pending && self.forbids_branch(a, b, c)
+        self.is_slot() || self.is_loaded(a, b, c)
     }
 
     /// Whether the next instruction stands in a delay slot.

@@ -22,9 +22,6 @@ use std::marker::Model;
 /// The machine but for its services.
 #[derive(Drop)]
 pub struct Core {
-    pub(crate) registers: [u32; 32],
-    pub(crate) hi: u32,
-    pub(crate) lo: u32,
     pub(crate) pc: u32,
     // where the run goes on behind a delay slot, if the next instruction stands in one
     pub(crate) target: u64,
@@ -33,6 +30,9 @@ pub struct Core {
     pub(crate) slot: bool,
     // where it isn't set, nothing was loaded, HI and LO may be set, and no delay slot is next
     pub(crate) pending: bool,
+    pub(crate) registers: [u32; 32],
+    pub(crate) hi: u32,
+    pub(crate) lo: u32,
     pub(crate) memory: Memory,
     pub(crate) arena: CodeArena,
     pub(crate) table: FunctionRows,
@@ -148,7 +148,8 @@ impl Core {
     }
 
     /// The program ends.
-    #[inline(always)]
+    #[cold]
+    #[inline(never)]
     pub(crate) fn end(&mut self, e: Ending) -> Went
         ensures world { world_of self.new ≡ steps.ended (spec.ends e) (state_of self.old) }
         ensures went { result ≡ Went.Stopped }
@@ -158,7 +159,8 @@ impl Core {
     }
 
     /// The machine refuses the next instruction.
-    #[inline(always)]
+    #[cold]
+    #[inline(never)]
     pub(crate) fn fault(&mut self, kind: MachineKind) -> Went
         ensures world { world_of self.new ≡ steps.faulted kind (state_of self.old) }
         ensures went { result ≡ Went.Stopped }

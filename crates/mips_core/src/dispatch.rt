@@ -15,7 +15,7 @@ use mips_encoder::{
 
 impl Core {
     #[inline(always)]
-    fn execute_regimm(&mut self, w: u32) -> Went
+    fn execute_regimm<const ASIDE: bool>(&mut self, w: u32) -> Went
         requires on { self.old.stopped ≡ None }
         requires next { self.old.next < 4294967296 }
         ensures world { world_of self.new ≡ spec.does (table.of_regimm w) (state_of self.old) }
@@ -47,14 +47,14 @@ impl Core {
 
     /// A word with the opcode 0.
     #[inline(always)]
-    fn execute_special(&mut self, w: u32) -> Went
+    fn execute_special<const ASIDE: bool>(&mut self, w: u32) -> Went
         requires on { self.old.stopped ≡ None }
         requires next { self.old.next < 4294967296 }
         ensures service { w ≡ 12 → (result ≡ Went.Service) × (self.new ≡ self.old) }
         ensures other { w ≢ 12 → (world_of self.new ≡ spec.does (table.of_special w) (state_of self.old)) × (result ≡ spec.went_of (world_of self.new).ending) }
     {
         match w % 64 {
-            0 => self.shift_left(w),
+            0 => self.shift(ShiftOp::Sll, w),
             2 => self.shift(ShiftOp::Srl, w),
             3 => self.shift(ShiftOp::Sra, w),
             4 => self.shift_variable(ShiftVariableOp::Sllv, w),
@@ -93,7 +93,7 @@ impl Core {
 
     /// A word with another opcode.
     #[inline(always)]
-    fn execute_coded(&mut self, w: u32) -> Went
+    fn execute_coded<const ASIDE: bool>(&mut self, w: u32) -> Went
         requires on { self.old.stopped ≡ None }
         requires next { self.old.next < 4294967296 }
         requires high { 67108864 ≤ w }
@@ -101,7 +101,7 @@ impl Core {
         ensures went { result ≡ spec.went_of (world_of self.new).ending }
     {
         match w / 67108864 {
-            1 => self.execute_regimm(w),
+            1 => self.execute_regimm::<ASIDE>(w),
             2 => self.jump(w),
             3 => self.jump_and_link(w),
             4 => self.branch_on_equality(EqualityOp::Beq, w),
@@ -116,14 +116,14 @@ impl Core {
             13 => self.immediate(ImmediateOp::Ori, w),
             14 => self.immediate(ImmediateOp::Xori, w),
             15 => self.load_upper(w),
-            32 => self.access_memory(MemoryOp::Lb, w),
-            33 => self.access_memory(MemoryOp::Lh, w),
-            35 => self.access_memory(MemoryOp::Lw, w),
-            36 => self.access_memory(MemoryOp::Lbu, w),
-            37 => self.access_memory(MemoryOp::Lhu, w),
-            40 => self.access_memory(MemoryOp::Sb, w),
-            41 => self.access_memory(MemoryOp::Sh, w),
-            43 => self.access_memory(MemoryOp::Sw, w),
+            32 => self.access_memory::<ASIDE, 32>(MemoryOp::Lb, w),
+            33 => self.access_memory::<ASIDE, 33>(MemoryOp::Lh, w),
+            35 => self.access_memory::<ASIDE, 35>(MemoryOp::Lw, w),
+            36 => self.access_memory::<ASIDE, 36>(MemoryOp::Lbu, w),
+            37 => self.access_memory::<ASIDE, 37>(MemoryOp::Lhu, w),
+            40 => self.access_memory::<ASIDE, 40>(MemoryOp::Sb, w),
+            41 => self.access_memory::<ASIDE, 41>(MemoryOp::Sh, w),
+            43 => self.access_memory::<ASIDE, 43>(MemoryOp::Sw, w),
             // all other codes, and no two neighbours in one arm: a range is compiled to a test in front of the table
             16 | 18 | 20 | 22 | 24 | 26 | 28 | 30 | 34 | 38 => self.fault(MachineKind::Reserved),
             17 | 19 | 21 | 23 | 25 | 27 | 29 | 31 | 39 | 42 => self.fault(MachineKind::Reserved),
@@ -133,18 +133,50 @@ impl Core {
         }
     }
 
-    /// Executes the instruction of a word, unless it is SYSCALL.
+    /// Executes the instruction of a word, unless it is SYSCALL. It is compiled twice, and `ASIDE` tells the copies apart:
+    /// one for where something is pending, and one for where nothing is.
     #[inline(always)]
-    pub(crate) fn execute(&mut self, w: u32) -> Went
+    fn execute<const ASIDE: bool>(&mut self, w: u32) -> Went
         requires on { self.old.stopped ≡ None }
         requires next { self.old.next < 4294967296 }
         ensures service { w ≡ 12 → (result ≡ Went.Service) × (self.new ≡ self.old) }
         ensures other { w ≢ 12 → (world_of self.new ≡ spec.does (table.instr_of w) (state_of self.old)) × (result ≡ spec.went_of (world_of self.new).ending) }
     {
         if w < 67108864 {
-            self.execute_special(w)
+            self.execute_special::<ASIDE>(w)
         } else {
-            self.execute_coded(w)
+            self.execute_coded::<ASIDE>(w)
+        }
+    }
+
+    /// The same where something is pending.
+    #[cold]
+    #[inline(never)]
+    fn execute_aside(&mut self, w: u32) -> Went
+        requires on { self.old.stopped ≡ None }
+        requires next { self.old.next < 4294967296 }
+        ensures service { w ≡ 12 → (result ≡ Went.Service) × (self.new ≡ self.old) }
+        ensures other { w ≢ 12 → (world_of self.new ≡ spec.does (table.instr_of w) (state_of self.old)) × (result ≡ spec.went_of (world_of self.new).ending) }
+    {
+        self.execute::<true>(w)
+    }
+
+    /// The same. Where nothing is pending, which is tested here, the compiler drops the tests of the instructions; where
+    /// something is, a nop is likely, which is never a hazard.
+    #[inline(always)]
+    pub(crate) fn execute_next(&mut self, w: u32) -> Went
+        requires on { self.old.stopped ≡ None }
+        requires next { self.old.next < 4294967296 }
+        ensures service { w ≡ 12 → (result ≡ Went.Service) × (self.new ≡ self.old) }
+        ensures other { w ≢ 12 → (world_of self.new ≡ spec.does (table.instr_of w) (state_of self.old)) × (result ≡ spec.went_of (world_of self.new).ending) }
+    {
+        if !self.pending {
+            self.execute::<false>(w)
+        } else if w == 0 {
+            self.settle();
+            Went::On
+        } else {
+            self.execute_aside(w)
         }
     }
 }

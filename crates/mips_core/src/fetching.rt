@@ -52,12 +52,13 @@ impl Core {
         ensures other { beside.is_service w ≡ false → (world_of self.new ≡ steps.step (world_of self.old)) × (result ≡ spec.went_of (world_of self.new).ending) }
     {
         match w {
-            Ok(w) => self.execute(w),
+            Ok(w) => self.execute_next(w),
             Err(kind) => self.fault(kind),
         }
     }
 
     /// Executes up to n instructions until the machine stops or a SYSCALL is next, and answers how many of n are left.
+    #[inline(never)]
     pub fn go_on(&mut self, n: u64) -> u64
         requires on { self.old.stopped ≡ None }
         ensures within { result ≤ n }

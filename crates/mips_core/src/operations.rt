@@ -25,8 +25,8 @@ impl Core {
     {
         match v {
             Some(v) => {
-                self.advance();
                 self.write(r, v);
+                self.advance();
                 Went::On
             }
             None => self.fault(MachineKind::Overflow),
@@ -78,25 +78,9 @@ impl Core {
             return self.fault(MachineKind::Hazard);
         }
         let v = shifted(op, self.register(rt(w)), shamt(w).bits());
-        self.advance();
         self.write(rd(w), v);
+        self.advance();
         Went::On
-    }
-
-    /// SLL. Its word 0 is a nop, which does nothing and is never a hazard.
-    #[inline(always)]
-    pub(crate) fn shift_left(&mut self, w: u32) -> Went
-        requires on { self.old.stopped ≡ None }
-        requires next { self.old.next < 4294967296 }
-        ensures world { world_of self.new ≡ spec.does (table.shift ShiftOp.Sll w) (state_of self.old) }
-        ensures went { result ≡ spec.went_of (world_of self.new).ending }
-    {
-        if w == 0 {
-            self.pass();
-            Went::On
-        } else {
-            self.shift(ShiftOp::Sll, w)
-        }
     }
 
     #[inline(always)]
@@ -113,8 +97,8 @@ impl Core {
             return self.fault(MachineKind::Hazard);
         }
         let v = shifted(by_number(op), self.register(rt(w)), self.register(rs(w)));
-        self.advance();
         self.write(rd(w), v);
+        self.advance();
         Went::On
     }
 
@@ -131,8 +115,8 @@ impl Core {
         if self.is_loaded(rt(w), rt(w), rt(w)) {
             return self.fault(MachineKind::Hazard);
         }
-        self.advance();
         self.write(rt(w), w % 65536 * 65536);
+        self.advance();
         Went::On
     }
 
@@ -153,8 +137,8 @@ impl Core {
             HiLo::Hi => self.hi,
             HiLo::Lo => self.lo,
         };
-        self.advance();
         self.write(rd(w), v);
+        self.advance();
         self.set_recent();
         Went::On
     }
