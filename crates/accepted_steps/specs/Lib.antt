@@ -1,0 +1,4 @@
+pub mod Good
+pub mod Kept
+pub mod Known
+pub mod Steps
