@@ -2,9 +2,14 @@
 //! This is a part of the law on the whole walk; there is no code to run here.
 #![tactic(auto)]
 
-ghost use Rattle.accepted_types.specs.Laws.{PlainSteps};
+ghost use Rattle.accepted_types.specs.Laws.{ExpressionsKeep, PlainSteps};
 
 /// That a step which names nothing, and captures only what stands anywhere, may stand between others.
 pub fn plain_steps()
     ensures { PlainSteps }
+{}
+
+/// That the walk over an expression keeps what expressions keep, where the walks over its parts do.
+pub fn expressions_keep()
+    ensures { ExpressionsKeep }
 {}
