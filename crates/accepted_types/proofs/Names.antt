@@ -1,5 +1,5 @@
 -- What a name, an address, a string and a tick leave of the state: the names, the variables and the functions.
-use Rattle.std.proofs.Common.{◌≡◌, ℕ, Bool, true, false, if◌then◌else◌, List, [], ◌∷◌, ◌++◌, refl, sym, ap, subst, ◌∙◌, Option, Some, None, Ok}
+use Rattle.std.proofs.Common.{◌≡◌, ℕ, Bool, true, false, if◌then◌else◌, List, [], ◌∷◌, ◌++◌, refl, ap, subst, Option, Some, None, Ok}
 use Rattle.std.specs.Prelude.{slice_get}
 use Rattle.c_types.specs.declared.ctype.CType.{CType}
 use Rattle.c_types.specs.declared.names.Meaning.{Meaning}
@@ -12,21 +12,17 @@ use Rattle.typed_tree.specs.declared.expression.CaptureKind.{CaptureKind}
 use Rattle.typed_tree.specs.declared.expression.Expr.{Expr}
 use Rattle.typed_tree.specs.declared.expression.Expr.TheVariants as ex
 use Rattle.typed_tree.specs.declared.program.TickBody.{TickBody}
-use Rattle.c_nodes.specs.declared.operand.Operand.{Operand}
-use Rattle.c_nodes.specs.declared.operand.Place.{Place}
-use Rattle.c_nodes.specs.declared.operand.Place.TheVariants as place
 use Rattle.check_tables.specs.declared.frame.Home.{Home}
-use Rattle.check_tables.specs.Frames.{marked}
 use Rattle.check_tables.specs.Ticks as ticks
 use Rattle.check_state.specs.declared.state.Stage.{Stage}
 use Rattle.check_state.specs.declared.state.Stage.TheVariants as stage
 use Rattle.check_state.specs.declared.state.State.{State}
 use Rattle.check_state.specs.Names.{captured, addressed, outer_variable, in_tick, under_dollar, variable, parameter, global, meant, named_by, named}
 use Rattle.check_expressions.specs.Productions.{string_node, tick_entered, tick_left}
-use Rattle.accepted_steps.specs.Kept.{Starts, KeepsTables, KeepsTick, KeepsStage, Keeps, IsKeeping}
-use Rattle.accepted_types.proofs.Fronts.{starts_refl, starts_behind, starts_more}
+use Rattle.accepted_steps.specs.Kept.{KeepsStage, Keeps, IsKeeping}
+use Rattle.accepted_types.proofs.Fronts.{starts_refl, starts_behind}
 use Rattle.accepted_types.proofs.Walks.{ok_same}
-use Rattle.accepted_types.proofs.Keeps.{keeps_refl, keeps_more, keeps_same}
+use Rattle.accepted_types.proofs.Keeps.{keeps_refl, keeps_more}
 
 -- a step that answers this
 pub gives_keeps : {A : Type 0} (g : Stage) (s new : State) (p : A × State) (x : A) → ◌≡◌ {A = Checked (A × State)} (Ok p) (Ok (x, new)) → Keeps g s p.1 → Keeps g s new

@@ -1,5 +1,5 @@
 -- Walks that do nothing but capture what stands anywhere, and what their answers are.
-use Rattle.std.proofs.Common.{◌≡◌, refl, sym, ap, subst, ◌∙◌, Ok, Err}
+use Rattle.std.proofs.Common.{◌≡◌, subst, Ok}
 use Rattle.tick_tree.specs.Faults.{Checked}
 use Rattle.check_state.specs.declared.state.Stage.{Stage}
 use Rattle.check_state.specs.declared.state.State.{State}
@@ -7,7 +7,7 @@ use Rattle.check_tables.specs.Walks.{Rule, ◌>>=◌, pure, lift}
 use Rattle.accepted_nodes.specs.Right.{Unless}
 use Rattle.accepted_steps.specs.Good.{Plain, PlainList}
 use Rattle.accepted_types.proofs.Walks.{ran, pure_same, pure_value, lifted}
-use Rattle.accepted_types.proofs.Plain.{plain_same, plain_more, plain_list_same, plain_list_more, plain_is_list}
+use Rattle.accepted_types.proofs.Plain.{plain_same, plain_more, plain_list_same, plain_list_more}
 
 -- it names nothing, and what it answers is so
 abbrev pub IsPlain : {A : Type 0} → Stage → (A → Type 0) → Rule State A → Type 0

@@ -1,11 +1,7 @@
 -- What the walk over an expression keeps, where the walks over its parts keep it.
-use Rattle.std.proofs.Common.{◌≡◌, ℕ, List, [], ◌∷◌, ◌++◌, refl, sym, ap, subst, ◌∙◌, Option, Some, None, Result, Ok, Err}
+use Rattle.std.proofs.Common.{◌≡◌, ℕ, List, [], ◌∷◌, ◌++◌, ap, Option, Some, None, Ok, Err}
 use Rattle.c_types.specs.declared.ctype.CType.{CType}
-use Rattle.c_types.specs.declared.ctype.Layer.TheVariants as layer
-use Rattle.c_shapes.specs.Shapes.{over, void}
-use Rattle.tick_tree.specs.declared.base.BinaryOp.{BinaryOp}
 use Rattle.tick_tree.specs.declared.base.StepOp.{StepOp}
-use Rattle.tick_tree.specs.declared.base.ModifyOp.{ModifyOp}
 use Rattle.tick_tree.specs.declared.base.UnaryOp.{UnaryOp}
 use Rattle.tick_tree.specs.declared.base.UnaryOp.TheVariants as unary_op
 use Rattle.tick_tree.specs.Faults.{Checked, ◌>>=◌ as ◌>>>=◌}
@@ -23,15 +19,15 @@ use Rattle.c_nodes.specs.Stages as stages
 use Rattle.c_places.specs.declared.calls.Arguments.{Arguments}
 use Rattle.c_places.specs.Calls as calls
 use Rattle.c_places.specs.Places as places
-use Rattle.check_tables.specs.Walks.{Rule, ◌>>=◌, pure, lift}
+use Rattle.check_tables.specs.Walks.{◌>>=◌, pure, lift}
 use Rattle.check_tables.specs.Ticks as ticks
 use Rattle.check_state.specs.declared.state.Stage.{Stage}
 use Rattle.check_state.specs.declared.state.Stage.TheVariants as stage
 use Rattle.check_state.specs.declared.state.State.{State}
-use Rattle.check_expressions.specs.Entries.{tick_entry, staging_entry, unary_entry}
+use Rattle.check_expressions.specs.Entries.{staging_entry}
 use Rattle.check_expressions.specs.Productions
-use Rattle.check_expressions.specs.Rules.{Node, Named, Shape, Item, block, tick_around, both, arguments, library_of, library_call, plain_call, call_of, call, tick_expression, tick_block, compile, local, parameter, unary, cast, choice, index, post, size, binary, assign, modify, comma, walk_rule}
-use Rattle.accepted_steps.specs.Kept.{Starts, KeepsTables, KeepsTick, KeepsStage, Keeps, Grows, IsKeeping, IsGrowing}
+use Rattle.check_expressions.specs.Rules.{Node, Named, Shape, Item, block, tick_around, both, arguments, library_of, library_call, plain_call, call_of, call, tick_expression, tick_block, compile, local, parameter, unary, cast, choice, post, size, comma, walk_rule}
+use Rattle.accepted_steps.specs.Kept.{Keeps, Grows, IsKeeping}
 use Rattle.accepted_steps.specs.Good.{GoodNode, GoodNamed}
 use Rattle.accepted_steps.specs.Items.{KeepsBlock, GoodBlock}
 use Rattle.accepted_types.specs.Parts.{EachPart, GoodParts}

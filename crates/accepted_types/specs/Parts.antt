@@ -1,5 +1,5 @@
 -- What is asked of the parts of an expression, and of those that have the form of a constant.
-use Rattle.std.specs.Prelude.{◌≡◌, ℕ, Bool, true, false, List, [], ◌∷◌, Option}
+use Rattle.std.specs.Prelude.{◌≡◌, ℕ, true, false, List, [], ◌∷◌, Option}
 use Rattle.tick_tree.specs.declared.syntax.Core.TheOpen.{Expr-F}
 use Rattle.check_expressions.specs.Rules.{Node, Named, Shape, Item, block, tick_around}
 use Rattle.accepted_steps.specs.Good.{GoodNode, GoodNamed}
