@@ -32,7 +32,7 @@ gives_keeps g s new p x e k = subst (λ z. Keeps g s z) (ap (λ r. r.1) (ok_same
 
 pub captured_keeps : (k : CaptureKind) (e : Expr) (s : State) → Keeps stage.Tick s (captured k e s)
 captured_keeps k e s = record {
-  tables = record { scopes = refl; result = refl; homes = refl; nodes = refl; object = refl; labels = refl; functions = refl };
+  tables = record { scopes = refl; result = refl; homes = refl; nodes = refl; object = refl; labels = refl; functions = refl; image = record { end = refl; globals = refl; at = refl } };
   at = (record { inner = refl; ticks = refl }, starts_behind s.ticks.captures (ex.Capture k e ∷ []));
 }
 
@@ -43,7 +43,7 @@ marked_stage stage.Dollar n s = (record { inner = refl; ticks = refl }, refl)
 
 pub addressed_keeps : (g : Stage) (n : ℕ) (s : State) → Keeps g s (addressed n s)
 addressed_keeps g n s = record {
-  tables = record { scopes = refl; result = refl; homes = refl; nodes = refl; object = refl; labels = refl; functions = refl };
+  tables = record { scopes = refl; result = refl; homes = refl; nodes = refl; object = refl; labels = refl; functions = refl; image = record { end = refl; globals = refl; at = refl } };
   at = marked_stage g n s;
 }
 
@@ -54,7 +54,7 @@ string_stage stage.Dollar bytes s = (record { inner = refl; ticks = refl }, refl
 
 pub string_keeps : (g : Stage) (bytes : List ℕ) (s : State) → Keeps g s (string_node bytes s).1
 string_keeps g bytes s = record {
-  tables = record { scopes = refl; result = refl; homes = refl; nodes = refl; object = refl; labels = refl; functions = refl };
+  tables = record { scopes = refl; result = refl; homes = refl; nodes = refl; object = refl; labels = refl; functions = refl; image = record { end = refl; globals = refl; at = refl } };
   at = string_stage g bytes s;
 }
 
@@ -122,6 +122,7 @@ tick_keeps b t s z k = record {
     object = k.tables.object;
     labels = k.tables.labels;
     functions = k.tables.functions;
+    image = record { end = k.tables.image.end; globals = k.tables.image.globals; at = k.tables.image.at };
   };
   at = record { rest = ticks.tick_of b ∷ []; is = ap (λ l. l ++ ticks.tick_of b ∷ []) k.at.0.ticks };
 }

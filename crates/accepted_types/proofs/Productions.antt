@@ -102,6 +102,7 @@ block_keeps b s z h k = record {
     object = h.at.object;
     labels = k.labels;
     functions = h.tables.functions;
+    image = record { end = h.tables.image.end; globals = h.tables.image.globals; at = h.tables.image.at };
   };
   at = record { rest = ticks.tick_of (body.Statement b) ∷ []; is = ap (λ l. l ++ ticks.tick_of (body.Statement b) ∷ []) h.at.ticks };
 }
