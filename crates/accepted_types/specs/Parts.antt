@@ -1,8 +1,13 @@
 -- What is asked of the parts of an expression, and of those that have the form of a constant.
-use Rattle.std.specs.Prelude.{◌≡◌, ℕ, true, false, List, [], ◌∷◌, Option}
-use Rattle.tick_tree.specs.declared.syntax.Core.TheOpen.{Expr-F}
+use Rattle.std.specs.Prelude.{◌≡◌, ℕ, true, false, List, [], ◌∷◌, Option, Some, None}
+use Rattle.c_types.specs.declared.ctype.CType.{CType}
+use Rattle.c_declared.specs.declared.steps.Step.{Step}
+use Rattle.tick_tree.specs.declared.syntax.Core.TheOpen.{Expr-F, Suffix-F}
+use Rattle.check_state.specs.declared.state.Stage.{Stage}
+use Rattle.check_state.specs.declared.state.State.{State}
+use Rattle.check_tables.specs.Walks.{Rule}
 use Rattle.check_expressions.specs.Rules.{Node, Named, Shape, Item, block, tick_around}
-use Rattle.accepted_steps.specs.Good.{GoodNode, GoodNamed}
+use Rattle.accepted_steps.specs.Good.{GoodNode, GoodNamed, GoodParameter}
 use Rattle.accepted_steps.specs.Items.{GoodBlock}
 
 abbrev pub EachPart : {A : Type 0} → (A → Type 0) → List A → Type 0
@@ -43,3 +48,16 @@ HasForm (Expr-F.Cast line t a) = a.written.constant ≡ true
 HasForm (Expr-F.Sizeof line t) = Unit {0}
 HasForm (Expr-F.Binary line op a b) = (a.written.constant ≡ true) × (b.written.constant ≡ true)
 HasForm _ = true ≡ false
+
+-- ---- types
+
+abbrev pub GoodOptional : ℕ → Option Node → Type 0
+GoodOptional many None = Unit {0}
+GoodOptional many (Some e) = GoodNode many e
+
+-- the parts of a suffix are good
+abbrev pub GoodSuffixParts : {I D N : Type 0} → ℕ → Suffix-F Shape Node I (Option Node) Item (Stage → Rule State Step) D Shape N (Stage → Rule State CType) Named → Type 0
+GoodSuffixParts many (Suffix-F.Array e) = GoodOptional many e
+GoodSuffixParts many Suffix-F.Unlisted = Unit {0}
+GoodSuffixParts many Suffix-F.Nothing = Unit {0}
+GoodSuffixParts many (Suffix-F.Listed ps) = EachPart GoodParameter ps
