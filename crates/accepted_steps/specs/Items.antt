@@ -10,6 +10,7 @@ use Rattle.check_tables.specs.Walks.{Rule}
 use Rattle.check_expressions.specs.Rules.{Item}
 use Rattle.accepted_trees.specs.Counts.{one_if}
 use Rattle.accepted_trees.specs.Places.{Around, Act, act, in_function, is_label, values_of, defaults_of, all_different}
+use Rattle.accepted_trees.specs.Values.{uses_values}
 use Rattle.accepted_steps.specs.Counts.{Counts}
 use Rattle.accepted_steps.specs.Kept.{Starts, IsGrowing}
 use Rattle.accepted_steps.specs.Known.{Blocks, numbers, of_tick, Small, Known}
@@ -67,13 +68,13 @@ DoesStand many a step =
 
 -- ---- labels
 
--- the labels that these nodes are, behind those so far
-pub record Labelled (a : Standing) (s new : State) (xs : List Stmt) : Type 0 where
+-- the labels that these nodes are, behind those so far; directly in the block of a switch, or not
+pub record Labelled (direct : Bool) (s new : State) (xs : List Stmt) : Type 0 where
   pub values : new.labels.values ≡ s.labels.values ++ values_of (map act xs)
   pub defaults : one_if new.labels.has_default ≡ one_if s.labels.has_default + defaults_of (map act xs)
   pub different : all_different s.labels.values ≡ true → all_different new.labels.values ≡ true
   -- elsewhere there are none
-  pub kept : a.is_direct ≡ false → new.labels ≡ s.labels
+  pub kept : direct ≡ false → new.labels ≡ s.labels
 
 -- ---- variables
 
@@ -98,8 +99,8 @@ pub record Declared (g : Stage) (s new : State) : Type 0 where
 abbrev pub IsCounting : Stage → Rule State (List Stmt) → Type 0
 IsCounting g step = (s new : State) (xs : List Stmt) → step s ≡ Ok (xs, new) → Small g new → Counts g s new xs
 
-abbrev pub IsLabelling : Standing → Rule State (List Stmt) → Type 0
-IsLabelling a step = (s new : State) (xs : List Stmt) → step s ≡ Ok (xs, new) → Labelled a s new xs
+abbrev pub IsLabelling : Bool → Rule State (List Stmt) → Type 0
+IsLabelling direct step = (s new : State) (xs : List Stmt) → step s ≡ Ok (xs, new) → Labelled direct s new xs
 
 abbrev pub IsDeclaring : Stage → Rule State (List Stmt) → Type 0
 IsDeclaring g step = (s new : State) (xs : List Stmt) → step s ≡ Ok (xs, new) → Small g new → (s.frame.object % 4 == 0) ≡ true → Declared g s new
@@ -108,14 +109,16 @@ IsDeclaring g step = (s new : State) (xs : List Stmt) → step s ≡ Ok (xs, new
 pub record GoodStatement (many : ℕ) (a : Standing) (step : Rule State (List Stmt)) : Type 0 where
   pub grows : IsGrowing a.stage step
   pub counts : IsCounting a.stage step
-  pub labels : IsLabelling a step
+  pub labels : IsLabelling a.is_direct step
   pub declares : IsDeclaring a.stage step
   pub does : DoesStand many a step
 
 -- it captures and declares few things, whatever stands round it
+abbrev pub Few : State → State → Type 0
+Few s new = (length new.ticks.captures ≤ length s.ticks.captures + 1000000000) × (new.frame.inner ≤ s.frame.inner + 1000000000)
+
 abbrev pub IsFew : Rule State (List Stmt) → Type 0
-IsFew step = (s new : State) (xs : List Stmt) → step s ≡ Ok (xs, new)
-    → (length new.ticks.captures ≤ length s.ticks.captures + 1000000000) × (new.frame.inner ≤ s.frame.inner + 1000000000)
+IsFew step = (s new : State) (xs : List Stmt) → step s ≡ Ok (xs, new) → Few s new
 
 pub record GoodItem (many : ℕ) (i : Item) : Type 0 where
   pub walk : (a : Standing) → MayStand a.stage → GoodStatement many a (i.walk a)
@@ -133,4 +136,5 @@ pub record GoodBlock (many : ℕ) (a : Standing) (step : Rule State Stmt) : Type
   pub keeps : (s new : State) (x : Stmt) → step s ≡ Ok (x, new) → KeepsBlock s new
   pub counts : (s new : State) (x : Stmt) → step s ≡ Ok (x, new) → Small a.stage new → Counts a.stage s new (x ∷ [])
   pub aligned : (s new : State) (x : Stmt) → step s ≡ Ok (x, new) → Small a.stage new → (s.frame.object % 4 == 0) ≡ true → (new.frame.object % 4 == 0) ≡ true
-  pub does : Does many a.stage (λ r x. (act x).stands (at a.stage (placed_round a r)) ≡ true) step
+  pub few : (s new : State) (x : Stmt) → step s ≡ Ok (x, new) → Few s new
+  pub does : Does many a.stage (λ r x. ((act x).stands (at a.stage (placed_round a r)) ≡ true) × (uses_values x ≡ true)) step
