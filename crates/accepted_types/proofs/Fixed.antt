@@ -34,7 +34,7 @@ use Rattle.accepted_types.proofs.Walks.{ok_same, ran, pure_value, lifted}
 
 -- ---- steps
 
-pure_fixed : {A : Type 0} (x : A) → IsFixed (pure {S = State} x)
+pub pure_fixed : {A : Type 0} (x : A) → IsFixed (pure {S = State} x)
 pure_fixed x s t m n y z e f = sym (pure_value x y s m e) ∙ pure_value x z t n f
 
 lift_fixed : {A : Type 0} (r : Checked A) → IsFixed (lift {S = State} r)
