@@ -268,3 +268,101 @@ layer-Suffix (Suffix-F.Listed ps) = record { at = λ g. s.list_light _ g (each_k
 for t in T:
     layers = layers.replace(f"@{t}@", cases[t])
 open(f"{root}/proofs/Tree.antt", "w").write(layers)
+
+# ---- the parameters of a declarator
+P = dict(Core="Inner", Suffix="(List Given)", Declarator="Head", Parameter="Given")
+PV = " ".join(P.get(t, "(Unit {0})") for t in T)
+PW = dict(Core="inner", Suffix="list", Declarator="head", Parameter="written")
+pwalks = " ".join(PW.get(t, "nothing") for t in T)
+PR = dict(Core="inner_rule", Suffix="list_rule", Declarator="head_rule", Parameter="given_rule")
+prules = " ".join(PR.get(t, "nothing") for t in T)
+FEW = dict(Core="FewInner", Suffix="FewListed", Declarator="FewHead", Parameter="OneNode")
+few = lambda t: FEW.get(t, "Any")
+fknown = " ".join(f"(({'x'} : {t}) × {few(t)} x)" for t in T)
+params = """-- A declarator has no more parameters than nodes. Written by tools/checker/weights.py.
+use Rattle.std.proofs.Common.{◌≡◌, ℕ, ◌+◌, ◌≤◌, List, [], ◌∷◌, map, length, refl, ap, sym, subst, arith}
+""" + "".join(f"use Rattle.tick_tree.specs.declared.syntax.{t}.{{{t}, roll-{t}}}\n" for t in T) + f"""use Rattle.tick_tree.specs.declared.syntax.Core.TheOpen.{{{", ".join(t + "-F" for t in T)}}}
+use Rattle.tick_tree.specs.declared.syntax.Core.TheFolds.{{{", ".join("map-" + t for t in T)}, ind-Declarator, fold-roll-Core, fold-roll-Suffix, fold-roll-Declarator}}
+use Rattle.check_globals.specs.Functions.{{Given}}
+use Rattle.tick_checker.specs.Parameters.{{Head, Inner, nothing, first_of, inner_rule, head_rule, list_rule, given_rule, inner, head, list, written, parameters_of}}
+use Rattle.accepted_weights.specs.Weights.{{total, {", ".join(NRULE[t] for t in T)}, {", ".join(WEIGHT[t] for t in T)}}}
+use Rattle.accepted_weights.proofs.Folds.{{weighed-Core, weighed-Suffix, weighed-Declarator, weighed-Parameter, weigh-Core, weigh-Suffix, weigh-Declarator, weigh-Parameter, Core-T, Suffix-T, Declarator-T, Parameter-T}}
+
+abbrev Any : {{A : Type 0}} → A → Type 0
+Any x = Unit {{0}}
+
+-- where the suffix behind it has this many parameters
+FewInner : Core → Type 0
+FewInner c = (gs : List Given) (n : ℕ) → length gs ≤ n → length ((inner c).list gs) ≤ core_weight c + n
+
+abbrev FewListed : Suffix → Type 0
+FewListed s = length (list s) ≤ suffix_weight s
+
+abbrev FewHead : Declarator → Type 0
+FewHead d = length (head d).list ≤ declarator_weight d
+
+abbrev OneNode : Parameter → Type 0
+OneNode p = 1 ≤ parameter_weight p
+
+""".replace("\nFewInner", "\nabbrev FewInner", 1) + "\n".join(f"""abbrev {t}-G : Type 0
+{t}-G = {t}-F {fknown}
+
+abbrev front-{t} : {t}-G → {t}-T
+front-{t} = map-{t} {fknown} {trees} {fronts}
+
+given-{t} : (x : {t}-T) → {PW[t]} (roll-{t} x) ≡ {PR[t]} (map-{t} {trees} {PV} {pwalks} x)
+unfolding inner head list written
+given-{t} x = fold-roll-{t} {PV} {prules} x
+""" for t in ["Core", "Suffix", "Declarator"]) + f"""
+-- ---- the layers
+
+layer-Core : (y : Core-G) (gs : List Given) (n : ℕ) → length gs ≤ n → length ((inner_rule (map-Core {trees} {PV} {pwalks} (front-Core y))).list gs) ≤ core_nodes (weighed-Core (front-Core y)) + n
+layer-Core Core-F.Core::Absent gs n h = omega arith
+layer-Core (Core-F.Core::Name line x) gs n h = omega arith
+layer-Core (Core-F.Core::Paren d) gs n h = omega (arith, d.1)
+
+written_few : (ps : List ((p : Parameter) × OneNode p)) → length (map written (map (λ k. k.0) ps)) ≤ total (map parameter_weight (map (λ k. k.0) ps))
+written_few [] = omega arith
+written_few (p ∷ ps) = omega (arith, p.1, written_few ps)
+
+layer-Suffix : (y : Suffix-G) → length (list_rule (map-Suffix {trees} {PV} {pwalks} (front-Suffix y))) ≤ suffix_nodes (weighed-Suffix (front-Suffix y))
+layer-Suffix (Suffix-F.Array e) = omega arith
+layer-Suffix Suffix-F.Unlisted = omega arith
+layer-Suffix Suffix-F.Nothing = omega arith
+layer-Suffix (Suffix-F.Listed ps) = omega (arith, written_few ps)
+
+first_few : (ss : List ((s : Suffix) × FewListed s)) → length (first_of (map list (map (λ k. k.0) ss))) ≤ total (map suffix_weight (map (λ k. k.0) ss))
+first_few [] = omega arith
+first_few (s ∷ ss) = omega (arith, s.1)
+
+layer-Declarator : (y : Declarator-G) → length (head_rule (map-Declarator {trees} {PV} {pwalks} (front-Declarator y))).list ≤ declarator_nodes (weighed-Declarator (front-Declarator y))
+layer-Declarator y = omega (arith, y.core.1 (first_of (map list (map (λ k. k.0) y.suffixes))) (total (map suffix_weight (map (λ k. k.0) y.suffixes))) (first_few y.suffixes))
+
+-- ---- the induction
+
+step-Core : (x : Core-T) (y : Core-G) → front-Core y ≡ x → FewInner (roll-Core x)
+step-Core x y is =
+    subst (λ z. FewInner (roll-Core z)) is
+        (λ gs n h. subst (λ w. length ((inner (roll-Core (front-Core y))).list gs) ≤ w + n) (sym (weigh-Core (front-Core y)))
+            (subst (λ (v : Inner). length (v.list gs) ≤ core_nodes (weighed-Core (front-Core y)) + n) (sym (given-Core (front-Core y))) (layer-Core y gs n h)))
+
+step-Suffix : (x : Suffix-T) (y : Suffix-G) → front-Suffix y ≡ x → FewListed (roll-Suffix x)
+step-Suffix x y is =
+    subst (λ z. FewListed (roll-Suffix z)) is
+        (subst (λ w. length (list (roll-Suffix (front-Suffix y))) ≤ w) (sym (weigh-Suffix (front-Suffix y)))
+            (subst (λ (v : List Given). length v ≤ suffix_nodes (weighed-Suffix (front-Suffix y))) (sym (given-Suffix (front-Suffix y))) (layer-Suffix y)))
+
+step-Declarator : (x : Declarator-T) (y : Declarator-G) → front-Declarator y ≡ x → FewHead (roll-Declarator x)
+step-Declarator x y is =
+    subst (λ z. FewHead (roll-Declarator z)) is
+        (subst (λ w. length (head (roll-Declarator (front-Declarator y))).list ≤ w) (sym (weigh-Declarator (front-Declarator y)))
+            (subst (λ (v : Head). length v.list ≤ declarator_nodes (weighed-Declarator (front-Declarator y))) (sym (given-Declarator (front-Declarator y))) (layer-Declarator y)))
+
+-- each parameter is a node
+step-Parameter : (x : Parameter-T) → OneNode (roll-Parameter x)
+step-Parameter x = rw (weigh-Parameter x) (omega arith)
+
+pub parameters_few : (d : Declarator) → length (parameters_of d) ≤ declarator_weight d
+parameters_few = ind-Declarator {" ".join(few(t) for t in T)} {" ".join("(λ x y is. step-Parameter x)" if t == "Parameter" else "step-" + t if t in FEW else "(λ x y is. tt)" for t in T)}
+"""
+open(f"{root}/proofs/Given.antt", "w").write(params)

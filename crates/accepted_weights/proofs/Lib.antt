@@ -1,3 +1,7 @@
 pub mod Declarations
 pub mod Folds
+pub mod Functions
+pub mod Given
+pub mod Globals
+pub mod Programs
 pub mod Tree

@@ -42,7 +42,7 @@ use Rattle.light_steps.proofs.Walks.{light_refl, weak, by_after, after, lift_aft
 pub same_light : (w : ℕ) (s new : State) → new.ticks.captures ≡ s.ticks.captures → new.frame.inner ≡ s.frame.inner → new.frame.homes ≡ s.frame.homes → new.ticks.all ≡ s.ticks.all → Light w s new
 same_light w s new a b c d = record { captures = rw a (omega arith); inner = omega arith; homes = rw c (omega arith); ticks = rw d (omega arith) }
 
-one_more : {A : Type 0} (xs : List A) (x : A) → length (xs ++ x ∷ []) ≤ length xs + 1
+pub one_more : {A : Type 0} (xs : List A) (x : A) → length (xs ++ x ∷ []) ≤ length xs + 1
 one_more xs x = simp length-append (omega arith)
 
 captured_light : (k : CaptureKind) (e : Expr) (s : State) → Light 1 s (names.captured k e s)
@@ -118,11 +118,11 @@ declared_more {w = w} line name what s r b = after (weak w (bind_light (declare_
 
 -- ---- variables
 
-variable_homes : (b : Bool) (x y : Frame) (n : ℕ) → length x.homes ≤ n → length y.homes ≤ n → length (if b then x else y).homes ≤ n
+pub variable_homes : (b : Bool) (x y : Frame) (n : ℕ) → length x.homes ≤ n → length y.homes ≤ n → length (if b then x else y).homes ≤ n
 variable_homes true x y n h k = h
 variable_homes false x y n h k = k
 
-variable_inner : (b : Bool) (x y : Frame) (n : ℕ) → x.inner ≤ n → y.inner ≤ n → (if b then x else y).inner ≤ n
+pub variable_inner : (b : Bool) (x y : Frame) (n : ℕ) → x.inner ≤ n → y.inner ≤ n → (if b then x else y).inner ≤ n
 variable_inner true x y n h k = h
 variable_inner false x y n h k = k
 
