@@ -366,3 +366,126 @@ pub parameters_few : (d : Declarator) → length (parameters_of d) ≤ declarato
 parameters_few = ind-Declarator {" ".join(few(t) for t in T)} {" ".join("(λ x y is. step-Parameter x)" if t == "Parameter" else "step-" + t if t in FEW else "(λ x y is. tt)" for t in T)}
 """
 open(f"{root}/proofs/Given.antt", "w").write(params)
+
+# ---- induction over what is small
+LO = dict(zip(T, "core expr initializer optional stmt suffix declaration declarator init parameter typename".split()))
+small = """-- Induction over the parts of a tree that is small: what is shown of a node by its parts, where the node weighs no more than a limit, holds
+-- of each tree that does, since each part weighs less than its node. Written by tools/checker/weights.py.
+use Rattle.std.proofs.Common.{◌≡◌, ℕ, ◌+◌, ◌≤◌, List, [], ◌∷◌, map, refl, ap, sym, subst, ◌∙◌, arith}
+""" + "".join(f"use Rattle.tick_tree.specs.declared.syntax.{t}.{{{t}, roll-{t}}}\n" for t in T) + f"""use Rattle.tick_tree.specs.declared.syntax.Core.TheOpen.{{{", ".join(t + "-F" for t in T)}}}
+use Rattle.tick_tree.specs.declared.syntax.Core.TheFolds.{{{", ".join("map-" + t for t in T)}, {", ".join("ind-" + t for t in T)}}}
+use Rattle.accepted_weights.specs.Weights.{{total, {", ".join(NRULE[t] for t in T)}, {", ".join(WEIGHT[t] for t in T)}}}
+use Rattle.accepted_weights.proofs.Folds.{{{", ".join("weighed-" + t for t in T)}, {", ".join("weigh-" + t for t in T)}, {", ".join(t + "-T" for t in T)}}}
+
+-- parts of a list
+pub record Lowered {{A : Type 0}} (P : A → Type 0) (xs : List A) : Type 0 where
+  pub parts : List ((x : A) × P x)
+  pub is : map (λ k. k.0) parts ≡ xs
+
+lower : {{A : Type 0}} (P : A → Type 0) (limit : ℕ) (weigh : A → ℕ) (ks : List ((x : A) × (weigh x ≤ limit → P x))) → total (map weigh (map (λ k. k.0) ks)) ≤ limit → Lowered P (map (λ k. k.0) ks)
+lower P limit weigh [] h = record {{ parts = []; is = refl }}
+lower P limit weigh (k ∷ ks) h =
+    let rest = lower P limit weigh ks (omega arith) in
+    record {{ parts = (k.0, k.1 (omega arith)) ∷ rest.parts; is = ap (λ l. k.0 ∷ l) rest.is }}
+
+module _ (limit : ℕ) {" ".join(f"(P{t} : {t} → Type 0)" for t in T)} where
+"""
+pk = " ".join(f"((x : {t}) × P{t} x)" for t in T)
+qk = " ".join(f"((x : {t}) × ({WEIGHT[t]} x ≤ limit → P{t} x))" for t in T)
+PARAMS = " ".join(f"P{t}" for t in T)
+body = ""
+for t in T:
+    body += f"""
+pub {t}-P : Type 0
+{t}-P = {t}-F {pk}
+
+pub parts-{t} : {t}-F {pk} → {t}-T
+parts-{t} = map-{t} {pk} {trees} {fronts}
+
+{t}-Q : Type 0
+{t}-Q = {t}-F {qk}
+
+small-{t} : {t}-F {qk} → {t}-T
+small-{t} = map-{t} {qk} {trees} {fronts}
+
+-- what is shown of a node by its parts
+pub Step{t} : Type 0
+Step{t} = (x : {t}-T) (y : {t}-F {pk}) → parts-{t} y ≡ x → {WEIGHT[t]} (roll-{t} x) ≤ limit → P{t} (roll-{t} x)
+"""
+for t in T:
+    for name in [f"{t}-P : T", f"parts-{t} : ", f"{t}-Q : T", f"small-{t} : ", f"Step{t} : T"]:
+        body = body.replace("\npub " + name, "\nabbrev pub " + name).replace("\n" + name, "\nabbrev " + name)
+
+def arg(kind, v):
+    return f"({v}.0, {v}.1 (omega arith))"
+def one(con, args):
+    """args: list of (name, kind) with kind in 'k' (part), 'p' (plain), or a type's name (a list of that type's parts)"""
+    pat = f"({con} {' '.join(a for a, k in args)})" if args else con
+    lists = [(a, k) for a, k in args if k not in "kp"]
+    lets = "".join(f"let {a}z = lower P{k} limit {WEIGHT[k]} {a} (omega arith) in " for a, k in lists)
+    val = " ".join(arg(k, a) if k == "k" else a if k == "p" else f"{a}z.parts" for a, k in args)
+    val = f"({con} {val})" if args else con
+    if lists:
+        a, k = lists[0]
+        whole = " ".join(f"{x}.0" if kk == "k" else x if kk == "p" else "l" for x, kk in args)
+        eq = f"ap (λ (l : List {k}). {con} {whole}) {a}z.is"
+    else:
+        eq = "refl"
+    return pat, f"{lets}record {{ layer = {val}; is = {eq} }}"
+
+CONS = {
+"Core": [("Core-F.Core::Absent", ""), ("Core-F.Core::Name", "n:p x:p"), ("Core-F.Core::Paren", "d:k")],
+"Expr": [("Expr-F.Expr::Name", "n:p x:p"), ("Expr-F.Number", "n:p u:p"), ("Expr-F.Character", "n:p"), ("Expr-F.String", "x:p"), ("Expr-F.Expr::Paren", "a:k"),
+    ("Expr-F.Compile", "n:p a:k t:k"), ("Expr-F.Expr::Local", "n:p t:k"), ("Expr-F.Param", "n:p t:k a:k"), ("Expr-F.Index", "n:p a:k c:k"), ("Expr-F.Call", "n:p a:k xs:Expr"),
+    ("Expr-F.Step", "n:p o:p a:k"), ("Expr-F.Unary", "n:p o:p a:k"), ("Expr-F.Tick", "n:p a:k"), ("Expr-F.TickBlock", "n:p xs:Stmt"), ("Expr-F.Cast", "n:p t:k a:k"),
+    ("Expr-F.Sizeof", "n:p t:k"), ("Expr-F.Binary", "n:p o:p a:k c:k"), ("Expr-F.Choice", "n:p a:k c:k d:k"), ("Expr-F.Assign", "n:p a:k c:k"), ("Expr-F.Modify", "n:p o:p a:k c:k"),
+    ("Expr-F.Comma", "n:p a:k c:k")],
+"Initializer": [("Initializer-F.Initializer::Absent", ""), ("Initializer-F.Value", "a:k"), ("Initializer-F.List", "xs:Expr comma:p")],
+"OptionalExpr": [("OptionalExpr-F.OptionalExpr::Absent", ""), ("OptionalExpr-F.Present", "a:k")],
+"Stmt": [("Stmt-F.Empty", ""), ("Stmt-F.Expr", "a:k"), ("Stmt-F.Block", "xs:Stmt"), ("Stmt-F.Stmt::Local", "d:k"), ("Stmt-F.If", "n:p a:k i:k"), ("Stmt-F.IfElse", "n:p a:k i:k j:k"),
+    ("Stmt-F.While", "n:p a:k i:k"), ("Stmt-F.Do", "n:p i:k a:k"), ("Stmt-F.For", "n:p i:k a:k c:k j:k"), ("Stmt-F.Switch", "n:p a:k xs:Stmt"), ("Stmt-F.Case", "n:p a:k"),
+    ("Stmt-F.Default", "n:p"), ("Stmt-F.Break", "n:p"), ("Stmt-F.Continue", "n:p"), ("Stmt-F.Return", "n:p a:k")],
+"Suffix": [("Suffix-F.Array", "a:k"), ("Suffix-F.Unlisted", ""), ("Suffix-F.Nothing", ""), ("Suffix-F.Listed", "xs:Parameter")],
+}
+RECS = {
+"Declaration": ("record { line = y.line; base = y.base; inits = z.parts }", "inits", "Init", "record { line = y.line; base = y.base; inits = l }"),
+"Declarator": ("record { prefixes = y.prefixes; core = (y.core.0, y.core.1 (omega arith)); suffixes = z.parts }", "suffixes", "Suffix", "record { prefixes = y.prefixes; core = y.core.0; suffixes = l }"),
+"Init": ("record { declarator = (y.declarator.0, y.declarator.1 (omega arith)); value = (y.value.0, y.value.1 (omega arith)) }", None, None, None),
+"Parameter": ("record { line = y.line; base = y.base; declarator = (y.declarator.0, y.declarator.1 (omega arith)) }", None, None, None),
+"Typename": ("record { base = y.base; declarator = (y.declarator.0, y.declarator.1 (omega arith)) }", None, None, None),
+}
+for t in T:
+    body += f"""
+record Small{t} (x : {t}-T) : Type 0 where
+  layer : {t}-F {pk}
+  is : parts-{t} layer ≡ x
+
+lower-{t} : (y : {t}-F {qk}) → {NRULE[t]} (weighed-{t} (small-{t} y)) ≤ limit → Small{t} (small-{t} y)
+"""
+    if t in CONS:
+        for con, args in CONS[t]:
+            a = [tuple(x.split(":")) for x in args.split()]
+            pat, val = one(con, a)
+            body += f"lower-{t} {pat} h = {val}\n"
+    else:
+        val, lst, k, back = RECS[t]
+        if lst:
+            body += f"lower-{t} y h = let z = lower P{k} limit {WEIGHT[k]} y.{lst} (omega arith) in record {{ layer = {val}; is = ap (λ (l : List {k}). {back}) z.is }}\n"
+        else:
+            body += f"lower-{t} y h = record {{ layer = {val}; is = refl }}\n"
+    body += f"""
+step-{t} : Step{t} → (x : {t}-T) (y : {t}-F {qk}) → small-{t} y ≡ x → {WEIGHT[t]} (roll-{t} x) ≤ limit → P{t} (roll-{t} x)
+step-{t} step x y is h =
+    let z = lower-{t} y (subst (λ w. w ≤ limit) (weigh-{t} (small-{t} y)) (subst (λ v. {WEIGHT[t]} (roll-{t} v) ≤ limit) (sym is) h)) in
+    step x z.layer (z.is ∙ is) h
+"""
+steps = " ".join(f"(s{t} : Step{t})" for t in T)
+qs = " ".join(f"(λ x. {WEIGHT[t]} x ≤ limit → P{t} x)" for t in T)
+ss = " ".join(f"(step-{t} s{t})" for t in T)
+for t in T:
+    body += f"""
+pub {LO[t]}_small : {steps} → (x : {t}) → {WEIGHT[t]} x ≤ limit → P{t} x
+{LO[t]}_small {" ".join("s" + u for u in T)} = ind-{t} {qs} {ss}
+"""
+small += "\n".join(("  " + l) if l else l for l in body.split("\n")).rstrip() + "\n"
+open(f"{root}/proofs/Small.antt", "w").write(small)

@@ -4,4 +4,5 @@ pub mod Functions
 pub mod Given
 pub mod Globals
 pub mod Programs
+pub mod Small
 pub mod Tree
