@@ -20,216 +20,216 @@ use Rattle.accepted_walks.specs.Asked.{Asked, EveryCore, EveryExpr, EveryInitial
 
 -- ---- a tree of which what is asked holds
 
-abbrev KnownCore : Asked → Type 0
+abbrev pub KnownCore : Asked → Type 0
 KnownCore q = (x : Core) × q.shape (core x)
 
-abbrev KnownExpr : Asked → Type 0
+abbrev pub KnownExpr : Asked → Type 0
 KnownExpr q = (x : Expr) × q.node (node x)
 
-abbrev KnownInitializer : Asked → Type 0
+abbrev pub KnownInitializer : Asked → Type 0
 KnownInitializer q = (x : Initializer) × q.start (initializer x)
 
-abbrev KnownOptionalExpr : Asked → Type 0
+abbrev pub KnownOptionalExpr : Asked → Type 0
 KnownOptionalExpr q = (x : OptionalExpr) × q.optional (optional x)
 
-abbrev KnownStmt : Asked → Type 0
+abbrev pub KnownStmt : Asked → Type 0
 KnownStmt q = (x : Stmt) × q.item (item x)
 
-abbrev KnownSuffix : Asked → Type 0
+abbrev pub KnownSuffix : Asked → Type 0
 KnownSuffix q = (x : Suffix) × q.suffix (suffix x)
 
-abbrev KnownDeclaration : Asked → Type 0
+abbrev pub KnownDeclaration : Asked → Type 0
 KnownDeclaration q = (x : Declaration) × q.declarations (declaration x)
 
-abbrev KnownDeclarator : Asked → Type 0
+abbrev pub KnownDeclarator : Asked → Type 0
 KnownDeclarator q = (x : Declarator) × q.shape (shape x)
 
-abbrev KnownInit : Asked → Type 0
+abbrev pub KnownInit : Asked → Type 0
 KnownInit q = (x : Init) × q.init (init x)
 
-abbrev KnownParameter : Asked → Type 0
+abbrev pub KnownParameter : Asked → Type 0
 KnownParameter q = (x : Parameter) × q.parameter (parameter x)
 
-abbrev KnownTypename : Asked → Type 0
+abbrev pub KnownTypename : Asked → Type 0
 KnownTypename q = (x : Typename) × q.named (named x)
 
 -- ---- a layer of trees, of such trees, and of what the walks over them are
 
-abbrev Core-T : Type 0
+abbrev pub Core-T : Type 0
 Core-T = Core-F Core Expr Initializer OptionalExpr Stmt Suffix Declaration Declarator Init Parameter Typename
 
-abbrev Core-K : Asked → Type 0
+abbrev pub Core-K : Asked → Type 0
 Core-K q = Core-F (KnownCore q) (KnownExpr q) (KnownInitializer q) (KnownOptionalExpr q) (KnownStmt q) (KnownSuffix q) (KnownDeclaration q) (KnownDeclarator q) (KnownInit q) (KnownParameter q) (KnownTypename q)
 
-abbrev firstCore : (q : Asked) → Core-K q → Core-T
+abbrev pub firstCore : (q : Asked) → Core-K q → Core-T
 firstCore q y = map-Core (KnownCore q) (KnownExpr q) (KnownInitializer q) (KnownOptionalExpr q) (KnownStmt q) (KnownSuffix q) (KnownDeclaration q) (KnownDeclarator q) (KnownInit q) (KnownParameter q) (KnownTypename q) Core Expr Initializer OptionalExpr Stmt Suffix Declaration Declarator Init Parameter Typename (λ k. k.0) (λ k. k.0) (λ k. k.0) (λ k. k.0) (λ k. k.0) (λ k. k.0) (λ k. k.0) (λ k. k.0) (λ k. k.0) (λ k. k.0) (λ k. k.0) y
 
-abbrev walkedCore : Core-T → Core-W
+abbrev pub walkedCore : Core-T → Core-W
 walkedCore x = map-Core Core Expr Initializer OptionalExpr Stmt Suffix Declaration Declarator Init Parameter Typename Shape Node Start (Option Node) Item SuffixWalk Declarations Shape InitParts TypeWalk Named core node initializer optional item suffix declaration shape init parameter named x
 
-abbrev Expr-T : Type 0
+abbrev pub Expr-T : Type 0
 Expr-T = Expr-F Core Expr Initializer OptionalExpr Stmt Suffix Declaration Declarator Init Parameter Typename
 
-abbrev Expr-K : Asked → Type 0
+abbrev pub Expr-K : Asked → Type 0
 Expr-K q = Expr-F (KnownCore q) (KnownExpr q) (KnownInitializer q) (KnownOptionalExpr q) (KnownStmt q) (KnownSuffix q) (KnownDeclaration q) (KnownDeclarator q) (KnownInit q) (KnownParameter q) (KnownTypename q)
 
-abbrev firstExpr : (q : Asked) → Expr-K q → Expr-T
+abbrev pub firstExpr : (q : Asked) → Expr-K q → Expr-T
 firstExpr q y = map-Expr (KnownCore q) (KnownExpr q) (KnownInitializer q) (KnownOptionalExpr q) (KnownStmt q) (KnownSuffix q) (KnownDeclaration q) (KnownDeclarator q) (KnownInit q) (KnownParameter q) (KnownTypename q) Core Expr Initializer OptionalExpr Stmt Suffix Declaration Declarator Init Parameter Typename (λ k. k.0) (λ k. k.0) (λ k. k.0) (λ k. k.0) (λ k. k.0) (λ k. k.0) (λ k. k.0) (λ k. k.0) (λ k. k.0) (λ k. k.0) (λ k. k.0) y
 
-abbrev walkedExpr : Expr-T → Expr-W
+abbrev pub walkedExpr : Expr-T → Expr-W
 walkedExpr x = map-Expr Core Expr Initializer OptionalExpr Stmt Suffix Declaration Declarator Init Parameter Typename Shape Node Start (Option Node) Item SuffixWalk Declarations Shape InitParts TypeWalk Named core node initializer optional item suffix declaration shape init parameter named x
 
-abbrev Initializer-T : Type 0
+abbrev pub Initializer-T : Type 0
 Initializer-T = Initializer-F Core Expr Initializer OptionalExpr Stmt Suffix Declaration Declarator Init Parameter Typename
 
-abbrev Initializer-K : Asked → Type 0
+abbrev pub Initializer-K : Asked → Type 0
 Initializer-K q = Initializer-F (KnownCore q) (KnownExpr q) (KnownInitializer q) (KnownOptionalExpr q) (KnownStmt q) (KnownSuffix q) (KnownDeclaration q) (KnownDeclarator q) (KnownInit q) (KnownParameter q) (KnownTypename q)
 
-abbrev firstInitializer : (q : Asked) → Initializer-K q → Initializer-T
+abbrev pub firstInitializer : (q : Asked) → Initializer-K q → Initializer-T
 firstInitializer q y = map-Initializer (KnownCore q) (KnownExpr q) (KnownInitializer q) (KnownOptionalExpr q) (KnownStmt q) (KnownSuffix q) (KnownDeclaration q) (KnownDeclarator q) (KnownInit q) (KnownParameter q) (KnownTypename q) Core Expr Initializer OptionalExpr Stmt Suffix Declaration Declarator Init Parameter Typename (λ k. k.0) (λ k. k.0) (λ k. k.0) (λ k. k.0) (λ k. k.0) (λ k. k.0) (λ k. k.0) (λ k. k.0) (λ k. k.0) (λ k. k.0) (λ k. k.0) y
 
-abbrev walkedInitializer : Initializer-T → Initializer-W
+abbrev pub walkedInitializer : Initializer-T → Initializer-W
 walkedInitializer x = map-Initializer Core Expr Initializer OptionalExpr Stmt Suffix Declaration Declarator Init Parameter Typename Shape Node Start (Option Node) Item SuffixWalk Declarations Shape InitParts TypeWalk Named core node initializer optional item suffix declaration shape init parameter named x
 
-abbrev OptionalExpr-T : Type 0
+abbrev pub OptionalExpr-T : Type 0
 OptionalExpr-T = OptionalExpr-F Core Expr Initializer OptionalExpr Stmt Suffix Declaration Declarator Init Parameter Typename
 
-abbrev OptionalExpr-K : Asked → Type 0
+abbrev pub OptionalExpr-K : Asked → Type 0
 OptionalExpr-K q = OptionalExpr-F (KnownCore q) (KnownExpr q) (KnownInitializer q) (KnownOptionalExpr q) (KnownStmt q) (KnownSuffix q) (KnownDeclaration q) (KnownDeclarator q) (KnownInit q) (KnownParameter q) (KnownTypename q)
 
-abbrev firstOptionalExpr : (q : Asked) → OptionalExpr-K q → OptionalExpr-T
+abbrev pub firstOptionalExpr : (q : Asked) → OptionalExpr-K q → OptionalExpr-T
 firstOptionalExpr q y = map-OptionalExpr (KnownCore q) (KnownExpr q) (KnownInitializer q) (KnownOptionalExpr q) (KnownStmt q) (KnownSuffix q) (KnownDeclaration q) (KnownDeclarator q) (KnownInit q) (KnownParameter q) (KnownTypename q) Core Expr Initializer OptionalExpr Stmt Suffix Declaration Declarator Init Parameter Typename (λ k. k.0) (λ k. k.0) (λ k. k.0) (λ k. k.0) (λ k. k.0) (λ k. k.0) (λ k. k.0) (λ k. k.0) (λ k. k.0) (λ k. k.0) (λ k. k.0) y
 
-abbrev walkedOptionalExpr : OptionalExpr-T → OptionalExpr-W
+abbrev pub walkedOptionalExpr : OptionalExpr-T → OptionalExpr-W
 walkedOptionalExpr x = map-OptionalExpr Core Expr Initializer OptionalExpr Stmt Suffix Declaration Declarator Init Parameter Typename Shape Node Start (Option Node) Item SuffixWalk Declarations Shape InitParts TypeWalk Named core node initializer optional item suffix declaration shape init parameter named x
 
-abbrev Stmt-T : Type 0
+abbrev pub Stmt-T : Type 0
 Stmt-T = Stmt-F Core Expr Initializer OptionalExpr Stmt Suffix Declaration Declarator Init Parameter Typename
 
-abbrev Stmt-K : Asked → Type 0
+abbrev pub Stmt-K : Asked → Type 0
 Stmt-K q = Stmt-F (KnownCore q) (KnownExpr q) (KnownInitializer q) (KnownOptionalExpr q) (KnownStmt q) (KnownSuffix q) (KnownDeclaration q) (KnownDeclarator q) (KnownInit q) (KnownParameter q) (KnownTypename q)
 
-abbrev firstStmt : (q : Asked) → Stmt-K q → Stmt-T
+abbrev pub firstStmt : (q : Asked) → Stmt-K q → Stmt-T
 firstStmt q y = map-Stmt (KnownCore q) (KnownExpr q) (KnownInitializer q) (KnownOptionalExpr q) (KnownStmt q) (KnownSuffix q) (KnownDeclaration q) (KnownDeclarator q) (KnownInit q) (KnownParameter q) (KnownTypename q) Core Expr Initializer OptionalExpr Stmt Suffix Declaration Declarator Init Parameter Typename (λ k. k.0) (λ k. k.0) (λ k. k.0) (λ k. k.0) (λ k. k.0) (λ k. k.0) (λ k. k.0) (λ k. k.0) (λ k. k.0) (λ k. k.0) (λ k. k.0) y
 
-abbrev walkedStmt : Stmt-T → Stmt-W
+abbrev pub walkedStmt : Stmt-T → Stmt-W
 walkedStmt x = map-Stmt Core Expr Initializer OptionalExpr Stmt Suffix Declaration Declarator Init Parameter Typename Shape Node Start (Option Node) Item SuffixWalk Declarations Shape InitParts TypeWalk Named core node initializer optional item suffix declaration shape init parameter named x
 
-abbrev Suffix-T : Type 0
+abbrev pub Suffix-T : Type 0
 Suffix-T = Suffix-F Core Expr Initializer OptionalExpr Stmt Suffix Declaration Declarator Init Parameter Typename
 
-abbrev Suffix-K : Asked → Type 0
+abbrev pub Suffix-K : Asked → Type 0
 Suffix-K q = Suffix-F (KnownCore q) (KnownExpr q) (KnownInitializer q) (KnownOptionalExpr q) (KnownStmt q) (KnownSuffix q) (KnownDeclaration q) (KnownDeclarator q) (KnownInit q) (KnownParameter q) (KnownTypename q)
 
-abbrev firstSuffix : (q : Asked) → Suffix-K q → Suffix-T
+abbrev pub firstSuffix : (q : Asked) → Suffix-K q → Suffix-T
 firstSuffix q y = map-Suffix (KnownCore q) (KnownExpr q) (KnownInitializer q) (KnownOptionalExpr q) (KnownStmt q) (KnownSuffix q) (KnownDeclaration q) (KnownDeclarator q) (KnownInit q) (KnownParameter q) (KnownTypename q) Core Expr Initializer OptionalExpr Stmt Suffix Declaration Declarator Init Parameter Typename (λ k. k.0) (λ k. k.0) (λ k. k.0) (λ k. k.0) (λ k. k.0) (λ k. k.0) (λ k. k.0) (λ k. k.0) (λ k. k.0) (λ k. k.0) (λ k. k.0) y
 
-abbrev walkedSuffix : Suffix-T → Suffix-W
+abbrev pub walkedSuffix : Suffix-T → Suffix-W
 walkedSuffix x = map-Suffix Core Expr Initializer OptionalExpr Stmt Suffix Declaration Declarator Init Parameter Typename Shape Node Start (Option Node) Item SuffixWalk Declarations Shape InitParts TypeWalk Named core node initializer optional item suffix declaration shape init parameter named x
 
-abbrev Declaration-T : Type 0
+abbrev pub Declaration-T : Type 0
 Declaration-T = Declaration-F Core Expr Initializer OptionalExpr Stmt Suffix Declaration Declarator Init Parameter Typename
 
-abbrev Declaration-K : Asked → Type 0
+abbrev pub Declaration-K : Asked → Type 0
 Declaration-K q = Declaration-F (KnownCore q) (KnownExpr q) (KnownInitializer q) (KnownOptionalExpr q) (KnownStmt q) (KnownSuffix q) (KnownDeclaration q) (KnownDeclarator q) (KnownInit q) (KnownParameter q) (KnownTypename q)
 
-abbrev firstDeclaration : (q : Asked) → Declaration-K q → Declaration-T
+abbrev pub firstDeclaration : (q : Asked) → Declaration-K q → Declaration-T
 firstDeclaration q y = map-Declaration (KnownCore q) (KnownExpr q) (KnownInitializer q) (KnownOptionalExpr q) (KnownStmt q) (KnownSuffix q) (KnownDeclaration q) (KnownDeclarator q) (KnownInit q) (KnownParameter q) (KnownTypename q) Core Expr Initializer OptionalExpr Stmt Suffix Declaration Declarator Init Parameter Typename (λ k. k.0) (λ k. k.0) (λ k. k.0) (λ k. k.0) (λ k. k.0) (λ k. k.0) (λ k. k.0) (λ k. k.0) (λ k. k.0) (λ k. k.0) (λ k. k.0) y
 
-abbrev walkedDeclaration : Declaration-T → Declaration-W
+abbrev pub walkedDeclaration : Declaration-T → Declaration-W
 walkedDeclaration x = map-Declaration Core Expr Initializer OptionalExpr Stmt Suffix Declaration Declarator Init Parameter Typename Shape Node Start (Option Node) Item SuffixWalk Declarations Shape InitParts TypeWalk Named core node initializer optional item suffix declaration shape init parameter named x
 
-abbrev Declarator-T : Type 0
+abbrev pub Declarator-T : Type 0
 Declarator-T = Declarator-F Core Expr Initializer OptionalExpr Stmt Suffix Declaration Declarator Init Parameter Typename
 
-abbrev Declarator-K : Asked → Type 0
+abbrev pub Declarator-K : Asked → Type 0
 Declarator-K q = Declarator-F (KnownCore q) (KnownExpr q) (KnownInitializer q) (KnownOptionalExpr q) (KnownStmt q) (KnownSuffix q) (KnownDeclaration q) (KnownDeclarator q) (KnownInit q) (KnownParameter q) (KnownTypename q)
 
-abbrev firstDeclarator : (q : Asked) → Declarator-K q → Declarator-T
+abbrev pub firstDeclarator : (q : Asked) → Declarator-K q → Declarator-T
 firstDeclarator q y = map-Declarator (KnownCore q) (KnownExpr q) (KnownInitializer q) (KnownOptionalExpr q) (KnownStmt q) (KnownSuffix q) (KnownDeclaration q) (KnownDeclarator q) (KnownInit q) (KnownParameter q) (KnownTypename q) Core Expr Initializer OptionalExpr Stmt Suffix Declaration Declarator Init Parameter Typename (λ k. k.0) (λ k. k.0) (λ k. k.0) (λ k. k.0) (λ k. k.0) (λ k. k.0) (λ k. k.0) (λ k. k.0) (λ k. k.0) (λ k. k.0) (λ k. k.0) y
 
-abbrev walkedDeclarator : Declarator-T → Declarator-W
+abbrev pub walkedDeclarator : Declarator-T → Declarator-W
 walkedDeclarator x = map-Declarator Core Expr Initializer OptionalExpr Stmt Suffix Declaration Declarator Init Parameter Typename Shape Node Start (Option Node) Item SuffixWalk Declarations Shape InitParts TypeWalk Named core node initializer optional item suffix declaration shape init parameter named x
 
-abbrev Init-T : Type 0
+abbrev pub Init-T : Type 0
 Init-T = Init-F Core Expr Initializer OptionalExpr Stmt Suffix Declaration Declarator Init Parameter Typename
 
-abbrev Init-K : Asked → Type 0
+abbrev pub Init-K : Asked → Type 0
 Init-K q = Init-F (KnownCore q) (KnownExpr q) (KnownInitializer q) (KnownOptionalExpr q) (KnownStmt q) (KnownSuffix q) (KnownDeclaration q) (KnownDeclarator q) (KnownInit q) (KnownParameter q) (KnownTypename q)
 
-abbrev firstInit : (q : Asked) → Init-K q → Init-T
+abbrev pub firstInit : (q : Asked) → Init-K q → Init-T
 firstInit q y = map-Init (KnownCore q) (KnownExpr q) (KnownInitializer q) (KnownOptionalExpr q) (KnownStmt q) (KnownSuffix q) (KnownDeclaration q) (KnownDeclarator q) (KnownInit q) (KnownParameter q) (KnownTypename q) Core Expr Initializer OptionalExpr Stmt Suffix Declaration Declarator Init Parameter Typename (λ k. k.0) (λ k. k.0) (λ k. k.0) (λ k. k.0) (λ k. k.0) (λ k. k.0) (λ k. k.0) (λ k. k.0) (λ k. k.0) (λ k. k.0) (λ k. k.0) y
 
-abbrev walkedInit : Init-T → Init-W
+abbrev pub walkedInit : Init-T → Init-W
 walkedInit x = map-Init Core Expr Initializer OptionalExpr Stmt Suffix Declaration Declarator Init Parameter Typename Shape Node Start (Option Node) Item SuffixWalk Declarations Shape InitParts TypeWalk Named core node initializer optional item suffix declaration shape init parameter named x
 
-abbrev Parameter-T : Type 0
+abbrev pub Parameter-T : Type 0
 Parameter-T = Parameter-F Core Expr Initializer OptionalExpr Stmt Suffix Declaration Declarator Init Parameter Typename
 
-abbrev Parameter-K : Asked → Type 0
+abbrev pub Parameter-K : Asked → Type 0
 Parameter-K q = Parameter-F (KnownCore q) (KnownExpr q) (KnownInitializer q) (KnownOptionalExpr q) (KnownStmt q) (KnownSuffix q) (KnownDeclaration q) (KnownDeclarator q) (KnownInit q) (KnownParameter q) (KnownTypename q)
 
-abbrev firstParameter : (q : Asked) → Parameter-K q → Parameter-T
+abbrev pub firstParameter : (q : Asked) → Parameter-K q → Parameter-T
 firstParameter q y = map-Parameter (KnownCore q) (KnownExpr q) (KnownInitializer q) (KnownOptionalExpr q) (KnownStmt q) (KnownSuffix q) (KnownDeclaration q) (KnownDeclarator q) (KnownInit q) (KnownParameter q) (KnownTypename q) Core Expr Initializer OptionalExpr Stmt Suffix Declaration Declarator Init Parameter Typename (λ k. k.0) (λ k. k.0) (λ k. k.0) (λ k. k.0) (λ k. k.0) (λ k. k.0) (λ k. k.0) (λ k. k.0) (λ k. k.0) (λ k. k.0) (λ k. k.0) y
 
-abbrev walkedParameter : Parameter-T → Parameter-W
+abbrev pub walkedParameter : Parameter-T → Parameter-W
 walkedParameter x = map-Parameter Core Expr Initializer OptionalExpr Stmt Suffix Declaration Declarator Init Parameter Typename Shape Node Start (Option Node) Item SuffixWalk Declarations Shape InitParts TypeWalk Named core node initializer optional item suffix declaration shape init parameter named x
 
-abbrev Typename-T : Type 0
+abbrev pub Typename-T : Type 0
 Typename-T = Typename-F Core Expr Initializer OptionalExpr Stmt Suffix Declaration Declarator Init Parameter Typename
 
-abbrev Typename-K : Asked → Type 0
+abbrev pub Typename-K : Asked → Type 0
 Typename-K q = Typename-F (KnownCore q) (KnownExpr q) (KnownInitializer q) (KnownOptionalExpr q) (KnownStmt q) (KnownSuffix q) (KnownDeclaration q) (KnownDeclarator q) (KnownInit q) (KnownParameter q) (KnownTypename q)
 
-abbrev firstTypename : (q : Asked) → Typename-K q → Typename-T
+abbrev pub firstTypename : (q : Asked) → Typename-K q → Typename-T
 firstTypename q y = map-Typename (KnownCore q) (KnownExpr q) (KnownInitializer q) (KnownOptionalExpr q) (KnownStmt q) (KnownSuffix q) (KnownDeclaration q) (KnownDeclarator q) (KnownInit q) (KnownParameter q) (KnownTypename q) Core Expr Initializer OptionalExpr Stmt Suffix Declaration Declarator Init Parameter Typename (λ k. k.0) (λ k. k.0) (λ k. k.0) (λ k. k.0) (λ k. k.0) (λ k. k.0) (λ k. k.0) (λ k. k.0) (λ k. k.0) (λ k. k.0) (λ k. k.0) y
 
-abbrev walkedTypename : Typename-T → Typename-W
+abbrev pub walkedTypename : Typename-T → Typename-W
 walkedTypename x = map-Typename Core Expr Initializer OptionalExpr Stmt Suffix Declaration Declarator Init Parameter Typename Shape Node Start (Option Node) Item SuffixWalk Declarations Shape InitParts TypeWalk Named core node initializer optional item suffix declaration shape init parameter named x
 
 -- ---- the walk over a layer
 
-walk_core : (x : Core-T) → core (roll-Core x) ≡ core_rule (walkedCore x)
+pub walk_core : (x : Core-T) → core (roll-Core x) ≡ core_rule (walkedCore x)
 unfolding core node initializer optional item suffix declaration shape init parameter named
 walk_core x = fold-roll-Core Shape Node Start (Option Node) Item SuffixWalk Declarations Shape InitParts TypeWalk Named core_rule expr_rule start_rule optional_rule stmt_rule suffix_walk declaration_rule declarator_rule init_rule parameter_rule typename_rule x
 
-walk_expr : (x : Expr-T) → node (roll-Expr x) ≡ expr_rule (walkedExpr x)
+pub walk_expr : (x : Expr-T) → node (roll-Expr x) ≡ expr_rule (walkedExpr x)
 unfolding core node initializer optional item suffix declaration shape init parameter named
 walk_expr x = fold-roll-Expr Shape Node Start (Option Node) Item SuffixWalk Declarations Shape InitParts TypeWalk Named core_rule expr_rule start_rule optional_rule stmt_rule suffix_walk declaration_rule declarator_rule init_rule parameter_rule typename_rule x
 
-walk_initializer : (x : Initializer-T) → initializer (roll-Initializer x) ≡ start_rule (walkedInitializer x)
+pub walk_initializer : (x : Initializer-T) → initializer (roll-Initializer x) ≡ start_rule (walkedInitializer x)
 unfolding core node initializer optional item suffix declaration shape init parameter named
 walk_initializer x = fold-roll-Initializer Shape Node Start (Option Node) Item SuffixWalk Declarations Shape InitParts TypeWalk Named core_rule expr_rule start_rule optional_rule stmt_rule suffix_walk declaration_rule declarator_rule init_rule parameter_rule typename_rule x
 
-walk_optional : (x : OptionalExpr-T) → optional (roll-OptionalExpr x) ≡ optional_rule (walkedOptionalExpr x)
+pub walk_optional : (x : OptionalExpr-T) → optional (roll-OptionalExpr x) ≡ optional_rule (walkedOptionalExpr x)
 unfolding core node initializer optional item suffix declaration shape init parameter named
 walk_optional x = fold-roll-OptionalExpr Shape Node Start (Option Node) Item SuffixWalk Declarations Shape InitParts TypeWalk Named core_rule expr_rule start_rule optional_rule stmt_rule suffix_walk declaration_rule declarator_rule init_rule parameter_rule typename_rule x
 
-walk_stmt : (x : Stmt-T) → item (roll-Stmt x) ≡ stmt_rule (walkedStmt x)
+pub walk_stmt : (x : Stmt-T) → item (roll-Stmt x) ≡ stmt_rule (walkedStmt x)
 unfolding core node initializer optional item suffix declaration shape init parameter named
 walk_stmt x = fold-roll-Stmt Shape Node Start (Option Node) Item SuffixWalk Declarations Shape InitParts TypeWalk Named core_rule expr_rule start_rule optional_rule stmt_rule suffix_walk declaration_rule declarator_rule init_rule parameter_rule typename_rule x
 
-walk_suffix : (x : Suffix-T) → suffix (roll-Suffix x) ≡ suffix_walk (walkedSuffix x)
+pub walk_suffix : (x : Suffix-T) → suffix (roll-Suffix x) ≡ suffix_walk (walkedSuffix x)
 unfolding core node initializer optional item suffix declaration shape init parameter named
 walk_suffix x = fold-roll-Suffix Shape Node Start (Option Node) Item SuffixWalk Declarations Shape InitParts TypeWalk Named core_rule expr_rule start_rule optional_rule stmt_rule suffix_walk declaration_rule declarator_rule init_rule parameter_rule typename_rule x
 
-walk_declaration : (x : Declaration-T) → declaration (roll-Declaration x) ≡ declaration_rule (walkedDeclaration x)
+pub walk_declaration : (x : Declaration-T) → declaration (roll-Declaration x) ≡ declaration_rule (walkedDeclaration x)
 unfolding core node initializer optional item suffix declaration shape init parameter named
 walk_declaration x = fold-roll-Declaration Shape Node Start (Option Node) Item SuffixWalk Declarations Shape InitParts TypeWalk Named core_rule expr_rule start_rule optional_rule stmt_rule suffix_walk declaration_rule declarator_rule init_rule parameter_rule typename_rule x
 
-walk_declarator : (x : Declarator-T) → shape (roll-Declarator x) ≡ declarator_rule (walkedDeclarator x)
+pub walk_declarator : (x : Declarator-T) → shape (roll-Declarator x) ≡ declarator_rule (walkedDeclarator x)
 unfolding core node initializer optional item suffix declaration shape init parameter named
 walk_declarator x = fold-roll-Declarator Shape Node Start (Option Node) Item SuffixWalk Declarations Shape InitParts TypeWalk Named core_rule expr_rule start_rule optional_rule stmt_rule suffix_walk declaration_rule declarator_rule init_rule parameter_rule typename_rule x
 
-walk_init : (x : Init-T) → init (roll-Init x) ≡ init_rule (walkedInit x)
+pub walk_init : (x : Init-T) → init (roll-Init x) ≡ init_rule (walkedInit x)
 unfolding core node initializer optional item suffix declaration shape init parameter named
 walk_init x = fold-roll-Init Shape Node Start (Option Node) Item SuffixWalk Declarations Shape InitParts TypeWalk Named core_rule expr_rule start_rule optional_rule stmt_rule suffix_walk declaration_rule declarator_rule init_rule parameter_rule typename_rule x
 
-walk_parameter : (x : Parameter-T) → parameter (roll-Parameter x) ≡ parameter_rule (walkedParameter x)
+pub walk_parameter : (x : Parameter-T) → parameter (roll-Parameter x) ≡ parameter_rule (walkedParameter x)
 unfolding core node initializer optional item suffix declaration shape init parameter named
 walk_parameter x = fold-roll-Parameter Shape Node Start (Option Node) Item SuffixWalk Declarations Shape InitParts TypeWalk Named core_rule expr_rule start_rule optional_rule stmt_rule suffix_walk declaration_rule declarator_rule init_rule parameter_rule typename_rule x
 
-walk_typename : (x : Typename-T) → named (roll-Typename x) ≡ typename_rule (walkedTypename x)
+pub walk_typename : (x : Typename-T) → named (roll-Typename x) ≡ typename_rule (walkedTypename x)
 unfolding core node initializer optional item suffix declaration shape init parameter named
 walk_typename x = fold-roll-Typename Shape Node Start (Option Node) Item SuffixWalk Declarations Shape InitParts TypeWalk Named core_rule expr_rule start_rule optional_rule stmt_rule suffix_walk declaration_rule declarator_rule init_rule parameter_rule typename_rule x
 
@@ -314,72 +314,72 @@ parts_parameter q y = y.declarator.1
 parts_typename : (q : Asked) (y : Typename-K q) → EveryTypename q (walkedTypename (firstTypename q y))
 parts_typename q y = y.declarator.1
 
--- ---- a layer
+-- ---- a layer, of which this is given
 
-step_core : (q : Asked) → RulesKeep q → (x : Core-T) (y : Core-K q) → firstCore q y ≡ x → q.shape (core (roll-Core x))
-step_core q k x y is = subst (λ z. q.shape (core (roll-Core z))) is (subst (λ w. q.shape w) (sym (walk_core (firstCore q y))) (k.core (walkedCore (firstCore q y)) (parts_core q y)))
+pub step_core : (q : Asked) (G : Core-W → Type 0) → ((x : Core-W) → EveryCore q x → G x → q.shape (core_rule x)) → (x : Core-T) (y : Core-K q) → firstCore q y ≡ x → G (walkedCore x) → q.shape (core (roll-Core x))
+step_core q G rule x y is given = subst (λ w. q.shape w) (sym (walk_core x)) (rule (walkedCore x) (subst (λ z. EveryCore q (walkedCore z)) is (parts_core q y)) given)
 
-step_expr : (q : Asked) → RulesKeep q → (x : Expr-T) (y : Expr-K q) → firstExpr q y ≡ x → q.node (node (roll-Expr x))
-step_expr q k x y is = subst (λ z. q.node (node (roll-Expr z))) is (subst (λ w. q.node w) (sym (walk_expr (firstExpr q y))) (k.expr (walkedExpr (firstExpr q y)) (parts_expr q y)))
+pub step_expr : (q : Asked) (G : Expr-W → Type 0) → ((x : Expr-W) → EveryExpr q x → G x → q.node (expr_rule x)) → (x : Expr-T) (y : Expr-K q) → firstExpr q y ≡ x → G (walkedExpr x) → q.node (node (roll-Expr x))
+step_expr q G rule x y is given = subst (λ w. q.node w) (sym (walk_expr x)) (rule (walkedExpr x) (subst (λ z. EveryExpr q (walkedExpr z)) is (parts_expr q y)) given)
 
-step_initializer : (q : Asked) → RulesKeep q → (x : Initializer-T) (y : Initializer-K q) → firstInitializer q y ≡ x → q.start (initializer (roll-Initializer x))
-step_initializer q k x y is = subst (λ z. q.start (initializer (roll-Initializer z))) is (subst (λ w. q.start w) (sym (walk_initializer (firstInitializer q y))) (k.initializer (walkedInitializer (firstInitializer q y)) (parts_initializer q y)))
+pub step_initializer : (q : Asked) (G : Initializer-W → Type 0) → ((x : Initializer-W) → EveryInitializer q x → G x → q.start (start_rule x)) → (x : Initializer-T) (y : Initializer-K q) → firstInitializer q y ≡ x → G (walkedInitializer x) → q.start (initializer (roll-Initializer x))
+step_initializer q G rule x y is given = subst (λ w. q.start w) (sym (walk_initializer x)) (rule (walkedInitializer x) (subst (λ z. EveryInitializer q (walkedInitializer z)) is (parts_initializer q y)) given)
 
-step_optional : (q : Asked) → RulesKeep q → (x : OptionalExpr-T) (y : OptionalExpr-K q) → firstOptionalExpr q y ≡ x → q.optional (optional (roll-OptionalExpr x))
-step_optional q k x y is = subst (λ z. q.optional (optional (roll-OptionalExpr z))) is (subst (λ w. q.optional w) (sym (walk_optional (firstOptionalExpr q y))) (k.optional (walkedOptionalExpr (firstOptionalExpr q y)) (parts_optional q y)))
+pub step_optional : (q : Asked) (G : OptionalExpr-W → Type 0) → ((x : OptionalExpr-W) → EveryOptionalExpr q x → G x → q.optional (optional_rule x)) → (x : OptionalExpr-T) (y : OptionalExpr-K q) → firstOptionalExpr q y ≡ x → G (walkedOptionalExpr x) → q.optional (optional (roll-OptionalExpr x))
+step_optional q G rule x y is given = subst (λ w. q.optional w) (sym (walk_optional x)) (rule (walkedOptionalExpr x) (subst (λ z. EveryOptionalExpr q (walkedOptionalExpr z)) is (parts_optional q y)) given)
 
-step_stmt : (q : Asked) → RulesKeep q → (x : Stmt-T) (y : Stmt-K q) → firstStmt q y ≡ x → q.item (item (roll-Stmt x))
-step_stmt q k x y is = subst (λ z. q.item (item (roll-Stmt z))) is (subst (λ w. q.item w) (sym (walk_stmt (firstStmt q y))) (k.stmt (walkedStmt (firstStmt q y)) (parts_stmt q y)))
+pub step_stmt : (q : Asked) (G : Stmt-W → Type 0) → ((x : Stmt-W) → EveryStmt q x → G x → q.item (stmt_rule x)) → (x : Stmt-T) (y : Stmt-K q) → firstStmt q y ≡ x → G (walkedStmt x) → q.item (item (roll-Stmt x))
+step_stmt q G rule x y is given = subst (λ w. q.item w) (sym (walk_stmt x)) (rule (walkedStmt x) (subst (λ z. EveryStmt q (walkedStmt z)) is (parts_stmt q y)) given)
 
-step_suffix : (q : Asked) → RulesKeep q → (x : Suffix-T) (y : Suffix-K q) → firstSuffix q y ≡ x → q.suffix (suffix (roll-Suffix x))
-step_suffix q k x y is = subst (λ z. q.suffix (suffix (roll-Suffix z))) is (subst (λ w. q.suffix w) (sym (walk_suffix (firstSuffix q y))) (k.suffix (walkedSuffix (firstSuffix q y)) (parts_suffix q y)))
+pub step_suffix : (q : Asked) (G : Suffix-W → Type 0) → ((x : Suffix-W) → EverySuffix q x → G x → q.suffix (suffix_walk x)) → (x : Suffix-T) (y : Suffix-K q) → firstSuffix q y ≡ x → G (walkedSuffix x) → q.suffix (suffix (roll-Suffix x))
+step_suffix q G rule x y is given = subst (λ w. q.suffix w) (sym (walk_suffix x)) (rule (walkedSuffix x) (subst (λ z. EverySuffix q (walkedSuffix z)) is (parts_suffix q y)) given)
 
-step_declaration : (q : Asked) → RulesKeep q → (x : Declaration-T) (y : Declaration-K q) → firstDeclaration q y ≡ x → q.declarations (declaration (roll-Declaration x))
-step_declaration q k x y is = subst (λ z. q.declarations (declaration (roll-Declaration z))) is (subst (λ w. q.declarations w) (sym (walk_declaration (firstDeclaration q y))) (k.declaration (walkedDeclaration (firstDeclaration q y)) (parts_declaration q y)))
+pub step_declaration : (q : Asked) (G : Declaration-W → Type 0) → ((x : Declaration-W) → EveryDeclaration q x → G x → q.declarations (declaration_rule x)) → (x : Declaration-T) (y : Declaration-K q) → firstDeclaration q y ≡ x → G (walkedDeclaration x) → q.declarations (declaration (roll-Declaration x))
+step_declaration q G rule x y is given = subst (λ w. q.declarations w) (sym (walk_declaration x)) (rule (walkedDeclaration x) (subst (λ z. EveryDeclaration q (walkedDeclaration z)) is (parts_declaration q y)) given)
 
-step_declarator : (q : Asked) → RulesKeep q → (x : Declarator-T) (y : Declarator-K q) → firstDeclarator q y ≡ x → q.shape (shape (roll-Declarator x))
-step_declarator q k x y is = subst (λ z. q.shape (shape (roll-Declarator z))) is (subst (λ w. q.shape w) (sym (walk_declarator (firstDeclarator q y))) (k.declarator (walkedDeclarator (firstDeclarator q y)) (parts_declarator q y)))
+pub step_declarator : (q : Asked) (G : Declarator-W → Type 0) → ((x : Declarator-W) → EveryDeclarator q x → G x → q.shape (declarator_rule x)) → (x : Declarator-T) (y : Declarator-K q) → firstDeclarator q y ≡ x → G (walkedDeclarator x) → q.shape (shape (roll-Declarator x))
+step_declarator q G rule x y is given = subst (λ w. q.shape w) (sym (walk_declarator x)) (rule (walkedDeclarator x) (subst (λ z. EveryDeclarator q (walkedDeclarator z)) is (parts_declarator q y)) given)
 
-step_init : (q : Asked) → RulesKeep q → (x : Init-T) (y : Init-K q) → firstInit q y ≡ x → q.init (init (roll-Init x))
-step_init q k x y is = subst (λ z. q.init (init (roll-Init z))) is (subst (λ w. q.init w) (sym (walk_init (firstInit q y))) (k.init (walkedInit (firstInit q y)) (parts_init q y)))
+pub step_init : (q : Asked) (G : Init-W → Type 0) → ((x : Init-W) → EveryInit q x → G x → q.init (init_rule x)) → (x : Init-T) (y : Init-K q) → firstInit q y ≡ x → G (walkedInit x) → q.init (init (roll-Init x))
+step_init q G rule x y is given = subst (λ w. q.init w) (sym (walk_init x)) (rule (walkedInit x) (subst (λ z. EveryInit q (walkedInit z)) is (parts_init q y)) given)
 
-step_parameter : (q : Asked) → RulesKeep q → (x : Parameter-T) (y : Parameter-K q) → firstParameter q y ≡ x → q.parameter (parameter (roll-Parameter x))
-step_parameter q k x y is = subst (λ z. q.parameter (parameter (roll-Parameter z))) is (subst (λ w. q.parameter w) (sym (walk_parameter (firstParameter q y))) (k.parameter (walkedParameter (firstParameter q y)) (parts_parameter q y)))
+pub step_parameter : (q : Asked) (G : Parameter-W → Type 0) → ((x : Parameter-W) → EveryParameter q x → G x → q.parameter (parameter_rule x)) → (x : Parameter-T) (y : Parameter-K q) → firstParameter q y ≡ x → G (walkedParameter x) → q.parameter (parameter (roll-Parameter x))
+step_parameter q G rule x y is given = subst (λ w. q.parameter w) (sym (walk_parameter x)) (rule (walkedParameter x) (subst (λ z. EveryParameter q (walkedParameter z)) is (parts_parameter q y)) given)
 
-step_typename : (q : Asked) → RulesKeep q → (x : Typename-T) (y : Typename-K q) → firstTypename q y ≡ x → q.named (named (roll-Typename x))
-step_typename q k x y is = subst (λ z. q.named (named (roll-Typename z))) is (subst (λ w. q.named w) (sym (walk_typename (firstTypename q y))) (k.typename (walkedTypename (firstTypename q y)) (parts_typename q y)))
+pub step_typename : (q : Asked) (G : Typename-W → Type 0) → ((x : Typename-W) → EveryTypename q x → G x → q.named (typename_rule x)) → (x : Typename-T) (y : Typename-K q) → firstTypename q y ≡ x → G (walkedTypename x) → q.named (named (roll-Typename x))
+step_typename q G rule x y is given = subst (λ w. q.named w) (sym (walk_typename x)) (rule (walkedTypename x) (subst (λ z. EveryTypename q (walkedTypename z)) is (parts_typename q y)) given)
 
 -- ---- trees
 
 pub holds_core : (q : Asked) → RulesKeep q → (x : Core) → q.shape (core x)
-holds_core q k = ind-Core (λ x. q.shape (core x)) (λ x. q.node (node x)) (λ x. q.start (initializer x)) (λ x. q.optional (optional x)) (λ x. q.item (item x)) (λ x. q.suffix (suffix x)) (λ x. q.declarations (declaration x)) (λ x. q.shape (shape x)) (λ x. q.init (init x)) (λ x. q.parameter (parameter x)) (λ x. q.named (named x)) (step_core q k) (step_expr q k) (step_initializer q k) (step_optional q k) (step_stmt q k) (step_suffix q k) (step_declaration q k) (step_declarator q k) (step_init q k) (step_parameter q k) (step_typename q k)
+holds_core q k = ind-Core (λ x. q.shape (core x)) (λ x. q.node (node x)) (λ x. q.start (initializer x)) (λ x. q.optional (optional x)) (λ x. q.item (item x)) (λ x. q.suffix (suffix x)) (λ x. q.declarations (declaration x)) (λ x. q.shape (shape x)) (λ x. q.init (init x)) (λ x. q.parameter (parameter x)) (λ x. q.named (named x)) (λ x y is. step_core q (λ w. Unit {0}) (λ w h u. k.core w h) x y is tt) (λ x y is. step_expr q (λ w. Unit {0}) (λ w h u. k.expr w h) x y is tt) (λ x y is. step_initializer q (λ w. Unit {0}) (λ w h u. k.initializer w h) x y is tt) (λ x y is. step_optional q (λ w. Unit {0}) (λ w h u. k.optional w h) x y is tt) (λ x y is. step_stmt q (λ w. Unit {0}) (λ w h u. k.stmt w h) x y is tt) (λ x y is. step_suffix q (λ w. Unit {0}) (λ w h u. k.suffix w h) x y is tt) (λ x y is. step_declaration q (λ w. Unit {0}) (λ w h u. k.declaration w h) x y is tt) (λ x y is. step_declarator q (λ w. Unit {0}) (λ w h u. k.declarator w h) x y is tt) (λ x y is. step_init q (λ w. Unit {0}) (λ w h u. k.init w h) x y is tt) (λ x y is. step_parameter q (λ w. Unit {0}) (λ w h u. k.parameter w h) x y is tt) (λ x y is. step_typename q (λ w. Unit {0}) (λ w h u. k.typename w h) x y is tt)
 
 pub holds_expr : (q : Asked) → RulesKeep q → (x : Expr) → q.node (node x)
-holds_expr q k = ind-Expr (λ x. q.shape (core x)) (λ x. q.node (node x)) (λ x. q.start (initializer x)) (λ x. q.optional (optional x)) (λ x. q.item (item x)) (λ x. q.suffix (suffix x)) (λ x. q.declarations (declaration x)) (λ x. q.shape (shape x)) (λ x. q.init (init x)) (λ x. q.parameter (parameter x)) (λ x. q.named (named x)) (step_core q k) (step_expr q k) (step_initializer q k) (step_optional q k) (step_stmt q k) (step_suffix q k) (step_declaration q k) (step_declarator q k) (step_init q k) (step_parameter q k) (step_typename q k)
+holds_expr q k = ind-Expr (λ x. q.shape (core x)) (λ x. q.node (node x)) (λ x. q.start (initializer x)) (λ x. q.optional (optional x)) (λ x. q.item (item x)) (λ x. q.suffix (suffix x)) (λ x. q.declarations (declaration x)) (λ x. q.shape (shape x)) (λ x. q.init (init x)) (λ x. q.parameter (parameter x)) (λ x. q.named (named x)) (λ x y is. step_core q (λ w. Unit {0}) (λ w h u. k.core w h) x y is tt) (λ x y is. step_expr q (λ w. Unit {0}) (λ w h u. k.expr w h) x y is tt) (λ x y is. step_initializer q (λ w. Unit {0}) (λ w h u. k.initializer w h) x y is tt) (λ x y is. step_optional q (λ w. Unit {0}) (λ w h u. k.optional w h) x y is tt) (λ x y is. step_stmt q (λ w. Unit {0}) (λ w h u. k.stmt w h) x y is tt) (λ x y is. step_suffix q (λ w. Unit {0}) (λ w h u. k.suffix w h) x y is tt) (λ x y is. step_declaration q (λ w. Unit {0}) (λ w h u. k.declaration w h) x y is tt) (λ x y is. step_declarator q (λ w. Unit {0}) (λ w h u. k.declarator w h) x y is tt) (λ x y is. step_init q (λ w. Unit {0}) (λ w h u. k.init w h) x y is tt) (λ x y is. step_parameter q (λ w. Unit {0}) (λ w h u. k.parameter w h) x y is tt) (λ x y is. step_typename q (λ w. Unit {0}) (λ w h u. k.typename w h) x y is tt)
 
 pub holds_initializer : (q : Asked) → RulesKeep q → (x : Initializer) → q.start (initializer x)
-holds_initializer q k = ind-Initializer (λ x. q.shape (core x)) (λ x. q.node (node x)) (λ x. q.start (initializer x)) (λ x. q.optional (optional x)) (λ x. q.item (item x)) (λ x. q.suffix (suffix x)) (λ x. q.declarations (declaration x)) (λ x. q.shape (shape x)) (λ x. q.init (init x)) (λ x. q.parameter (parameter x)) (λ x. q.named (named x)) (step_core q k) (step_expr q k) (step_initializer q k) (step_optional q k) (step_stmt q k) (step_suffix q k) (step_declaration q k) (step_declarator q k) (step_init q k) (step_parameter q k) (step_typename q k)
+holds_initializer q k = ind-Initializer (λ x. q.shape (core x)) (λ x. q.node (node x)) (λ x. q.start (initializer x)) (λ x. q.optional (optional x)) (λ x. q.item (item x)) (λ x. q.suffix (suffix x)) (λ x. q.declarations (declaration x)) (λ x. q.shape (shape x)) (λ x. q.init (init x)) (λ x. q.parameter (parameter x)) (λ x. q.named (named x)) (λ x y is. step_core q (λ w. Unit {0}) (λ w h u. k.core w h) x y is tt) (λ x y is. step_expr q (λ w. Unit {0}) (λ w h u. k.expr w h) x y is tt) (λ x y is. step_initializer q (λ w. Unit {0}) (λ w h u. k.initializer w h) x y is tt) (λ x y is. step_optional q (λ w. Unit {0}) (λ w h u. k.optional w h) x y is tt) (λ x y is. step_stmt q (λ w. Unit {0}) (λ w h u. k.stmt w h) x y is tt) (λ x y is. step_suffix q (λ w. Unit {0}) (λ w h u. k.suffix w h) x y is tt) (λ x y is. step_declaration q (λ w. Unit {0}) (λ w h u. k.declaration w h) x y is tt) (λ x y is. step_declarator q (λ w. Unit {0}) (λ w h u. k.declarator w h) x y is tt) (λ x y is. step_init q (λ w. Unit {0}) (λ w h u. k.init w h) x y is tt) (λ x y is. step_parameter q (λ w. Unit {0}) (λ w h u. k.parameter w h) x y is tt) (λ x y is. step_typename q (λ w. Unit {0}) (λ w h u. k.typename w h) x y is tt)
 
 pub holds_optional : (q : Asked) → RulesKeep q → (x : OptionalExpr) → q.optional (optional x)
-holds_optional q k = ind-OptionalExpr (λ x. q.shape (core x)) (λ x. q.node (node x)) (λ x. q.start (initializer x)) (λ x. q.optional (optional x)) (λ x. q.item (item x)) (λ x. q.suffix (suffix x)) (λ x. q.declarations (declaration x)) (λ x. q.shape (shape x)) (λ x. q.init (init x)) (λ x. q.parameter (parameter x)) (λ x. q.named (named x)) (step_core q k) (step_expr q k) (step_initializer q k) (step_optional q k) (step_stmt q k) (step_suffix q k) (step_declaration q k) (step_declarator q k) (step_init q k) (step_parameter q k) (step_typename q k)
+holds_optional q k = ind-OptionalExpr (λ x. q.shape (core x)) (λ x. q.node (node x)) (λ x. q.start (initializer x)) (λ x. q.optional (optional x)) (λ x. q.item (item x)) (λ x. q.suffix (suffix x)) (λ x. q.declarations (declaration x)) (λ x. q.shape (shape x)) (λ x. q.init (init x)) (λ x. q.parameter (parameter x)) (λ x. q.named (named x)) (λ x y is. step_core q (λ w. Unit {0}) (λ w h u. k.core w h) x y is tt) (λ x y is. step_expr q (λ w. Unit {0}) (λ w h u. k.expr w h) x y is tt) (λ x y is. step_initializer q (λ w. Unit {0}) (λ w h u. k.initializer w h) x y is tt) (λ x y is. step_optional q (λ w. Unit {0}) (λ w h u. k.optional w h) x y is tt) (λ x y is. step_stmt q (λ w. Unit {0}) (λ w h u. k.stmt w h) x y is tt) (λ x y is. step_suffix q (λ w. Unit {0}) (λ w h u. k.suffix w h) x y is tt) (λ x y is. step_declaration q (λ w. Unit {0}) (λ w h u. k.declaration w h) x y is tt) (λ x y is. step_declarator q (λ w. Unit {0}) (λ w h u. k.declarator w h) x y is tt) (λ x y is. step_init q (λ w. Unit {0}) (λ w h u. k.init w h) x y is tt) (λ x y is. step_parameter q (λ w. Unit {0}) (λ w h u. k.parameter w h) x y is tt) (λ x y is. step_typename q (λ w. Unit {0}) (λ w h u. k.typename w h) x y is tt)
 
 pub holds_stmt : (q : Asked) → RulesKeep q → (x : Stmt) → q.item (item x)
-holds_stmt q k = ind-Stmt (λ x. q.shape (core x)) (λ x. q.node (node x)) (λ x. q.start (initializer x)) (λ x. q.optional (optional x)) (λ x. q.item (item x)) (λ x. q.suffix (suffix x)) (λ x. q.declarations (declaration x)) (λ x. q.shape (shape x)) (λ x. q.init (init x)) (λ x. q.parameter (parameter x)) (λ x. q.named (named x)) (step_core q k) (step_expr q k) (step_initializer q k) (step_optional q k) (step_stmt q k) (step_suffix q k) (step_declaration q k) (step_declarator q k) (step_init q k) (step_parameter q k) (step_typename q k)
+holds_stmt q k = ind-Stmt (λ x. q.shape (core x)) (λ x. q.node (node x)) (λ x. q.start (initializer x)) (λ x. q.optional (optional x)) (λ x. q.item (item x)) (λ x. q.suffix (suffix x)) (λ x. q.declarations (declaration x)) (λ x. q.shape (shape x)) (λ x. q.init (init x)) (λ x. q.parameter (parameter x)) (λ x. q.named (named x)) (λ x y is. step_core q (λ w. Unit {0}) (λ w h u. k.core w h) x y is tt) (λ x y is. step_expr q (λ w. Unit {0}) (λ w h u. k.expr w h) x y is tt) (λ x y is. step_initializer q (λ w. Unit {0}) (λ w h u. k.initializer w h) x y is tt) (λ x y is. step_optional q (λ w. Unit {0}) (λ w h u. k.optional w h) x y is tt) (λ x y is. step_stmt q (λ w. Unit {0}) (λ w h u. k.stmt w h) x y is tt) (λ x y is. step_suffix q (λ w. Unit {0}) (λ w h u. k.suffix w h) x y is tt) (λ x y is. step_declaration q (λ w. Unit {0}) (λ w h u. k.declaration w h) x y is tt) (λ x y is. step_declarator q (λ w. Unit {0}) (λ w h u. k.declarator w h) x y is tt) (λ x y is. step_init q (λ w. Unit {0}) (λ w h u. k.init w h) x y is tt) (λ x y is. step_parameter q (λ w. Unit {0}) (λ w h u. k.parameter w h) x y is tt) (λ x y is. step_typename q (λ w. Unit {0}) (λ w h u. k.typename w h) x y is tt)
 
 pub holds_suffix : (q : Asked) → RulesKeep q → (x : Suffix) → q.suffix (suffix x)
-holds_suffix q k = ind-Suffix (λ x. q.shape (core x)) (λ x. q.node (node x)) (λ x. q.start (initializer x)) (λ x. q.optional (optional x)) (λ x. q.item (item x)) (λ x. q.suffix (suffix x)) (λ x. q.declarations (declaration x)) (λ x. q.shape (shape x)) (λ x. q.init (init x)) (λ x. q.parameter (parameter x)) (λ x. q.named (named x)) (step_core q k) (step_expr q k) (step_initializer q k) (step_optional q k) (step_stmt q k) (step_suffix q k) (step_declaration q k) (step_declarator q k) (step_init q k) (step_parameter q k) (step_typename q k)
+holds_suffix q k = ind-Suffix (λ x. q.shape (core x)) (λ x. q.node (node x)) (λ x. q.start (initializer x)) (λ x. q.optional (optional x)) (λ x. q.item (item x)) (λ x. q.suffix (suffix x)) (λ x. q.declarations (declaration x)) (λ x. q.shape (shape x)) (λ x. q.init (init x)) (λ x. q.parameter (parameter x)) (λ x. q.named (named x)) (λ x y is. step_core q (λ w. Unit {0}) (λ w h u. k.core w h) x y is tt) (λ x y is. step_expr q (λ w. Unit {0}) (λ w h u. k.expr w h) x y is tt) (λ x y is. step_initializer q (λ w. Unit {0}) (λ w h u. k.initializer w h) x y is tt) (λ x y is. step_optional q (λ w. Unit {0}) (λ w h u. k.optional w h) x y is tt) (λ x y is. step_stmt q (λ w. Unit {0}) (λ w h u. k.stmt w h) x y is tt) (λ x y is. step_suffix q (λ w. Unit {0}) (λ w h u. k.suffix w h) x y is tt) (λ x y is. step_declaration q (λ w. Unit {0}) (λ w h u. k.declaration w h) x y is tt) (λ x y is. step_declarator q (λ w. Unit {0}) (λ w h u. k.declarator w h) x y is tt) (λ x y is. step_init q (λ w. Unit {0}) (λ w h u. k.init w h) x y is tt) (λ x y is. step_parameter q (λ w. Unit {0}) (λ w h u. k.parameter w h) x y is tt) (λ x y is. step_typename q (λ w. Unit {0}) (λ w h u. k.typename w h) x y is tt)
 
 pub holds_declaration : (q : Asked) → RulesKeep q → (x : Declaration) → q.declarations (declaration x)
-holds_declaration q k = ind-Declaration (λ x. q.shape (core x)) (λ x. q.node (node x)) (λ x. q.start (initializer x)) (λ x. q.optional (optional x)) (λ x. q.item (item x)) (λ x. q.suffix (suffix x)) (λ x. q.declarations (declaration x)) (λ x. q.shape (shape x)) (λ x. q.init (init x)) (λ x. q.parameter (parameter x)) (λ x. q.named (named x)) (step_core q k) (step_expr q k) (step_initializer q k) (step_optional q k) (step_stmt q k) (step_suffix q k) (step_declaration q k) (step_declarator q k) (step_init q k) (step_parameter q k) (step_typename q k)
+holds_declaration q k = ind-Declaration (λ x. q.shape (core x)) (λ x. q.node (node x)) (λ x. q.start (initializer x)) (λ x. q.optional (optional x)) (λ x. q.item (item x)) (λ x. q.suffix (suffix x)) (λ x. q.declarations (declaration x)) (λ x. q.shape (shape x)) (λ x. q.init (init x)) (λ x. q.parameter (parameter x)) (λ x. q.named (named x)) (λ x y is. step_core q (λ w. Unit {0}) (λ w h u. k.core w h) x y is tt) (λ x y is. step_expr q (λ w. Unit {0}) (λ w h u. k.expr w h) x y is tt) (λ x y is. step_initializer q (λ w. Unit {0}) (λ w h u. k.initializer w h) x y is tt) (λ x y is. step_optional q (λ w. Unit {0}) (λ w h u. k.optional w h) x y is tt) (λ x y is. step_stmt q (λ w. Unit {0}) (λ w h u. k.stmt w h) x y is tt) (λ x y is. step_suffix q (λ w. Unit {0}) (λ w h u. k.suffix w h) x y is tt) (λ x y is. step_declaration q (λ w. Unit {0}) (λ w h u. k.declaration w h) x y is tt) (λ x y is. step_declarator q (λ w. Unit {0}) (λ w h u. k.declarator w h) x y is tt) (λ x y is. step_init q (λ w. Unit {0}) (λ w h u. k.init w h) x y is tt) (λ x y is. step_parameter q (λ w. Unit {0}) (λ w h u. k.parameter w h) x y is tt) (λ x y is. step_typename q (λ w. Unit {0}) (λ w h u. k.typename w h) x y is tt)
 
 pub holds_declarator : (q : Asked) → RulesKeep q → (x : Declarator) → q.shape (shape x)
-holds_declarator q k = ind-Declarator (λ x. q.shape (core x)) (λ x. q.node (node x)) (λ x. q.start (initializer x)) (λ x. q.optional (optional x)) (λ x. q.item (item x)) (λ x. q.suffix (suffix x)) (λ x. q.declarations (declaration x)) (λ x. q.shape (shape x)) (λ x. q.init (init x)) (λ x. q.parameter (parameter x)) (λ x. q.named (named x)) (step_core q k) (step_expr q k) (step_initializer q k) (step_optional q k) (step_stmt q k) (step_suffix q k) (step_declaration q k) (step_declarator q k) (step_init q k) (step_parameter q k) (step_typename q k)
+holds_declarator q k = ind-Declarator (λ x. q.shape (core x)) (λ x. q.node (node x)) (λ x. q.start (initializer x)) (λ x. q.optional (optional x)) (λ x. q.item (item x)) (λ x. q.suffix (suffix x)) (λ x. q.declarations (declaration x)) (λ x. q.shape (shape x)) (λ x. q.init (init x)) (λ x. q.parameter (parameter x)) (λ x. q.named (named x)) (λ x y is. step_core q (λ w. Unit {0}) (λ w h u. k.core w h) x y is tt) (λ x y is. step_expr q (λ w. Unit {0}) (λ w h u. k.expr w h) x y is tt) (λ x y is. step_initializer q (λ w. Unit {0}) (λ w h u. k.initializer w h) x y is tt) (λ x y is. step_optional q (λ w. Unit {0}) (λ w h u. k.optional w h) x y is tt) (λ x y is. step_stmt q (λ w. Unit {0}) (λ w h u. k.stmt w h) x y is tt) (λ x y is. step_suffix q (λ w. Unit {0}) (λ w h u. k.suffix w h) x y is tt) (λ x y is. step_declaration q (λ w. Unit {0}) (λ w h u. k.declaration w h) x y is tt) (λ x y is. step_declarator q (λ w. Unit {0}) (λ w h u. k.declarator w h) x y is tt) (λ x y is. step_init q (λ w. Unit {0}) (λ w h u. k.init w h) x y is tt) (λ x y is. step_parameter q (λ w. Unit {0}) (λ w h u. k.parameter w h) x y is tt) (λ x y is. step_typename q (λ w. Unit {0}) (λ w h u. k.typename w h) x y is tt)
 
 pub holds_init : (q : Asked) → RulesKeep q → (x : Init) → q.init (init x)
-holds_init q k = ind-Init (λ x. q.shape (core x)) (λ x. q.node (node x)) (λ x. q.start (initializer x)) (λ x. q.optional (optional x)) (λ x. q.item (item x)) (λ x. q.suffix (suffix x)) (λ x. q.declarations (declaration x)) (λ x. q.shape (shape x)) (λ x. q.init (init x)) (λ x. q.parameter (parameter x)) (λ x. q.named (named x)) (step_core q k) (step_expr q k) (step_initializer q k) (step_optional q k) (step_stmt q k) (step_suffix q k) (step_declaration q k) (step_declarator q k) (step_init q k) (step_parameter q k) (step_typename q k)
+holds_init q k = ind-Init (λ x. q.shape (core x)) (λ x. q.node (node x)) (λ x. q.start (initializer x)) (λ x. q.optional (optional x)) (λ x. q.item (item x)) (λ x. q.suffix (suffix x)) (λ x. q.declarations (declaration x)) (λ x. q.shape (shape x)) (λ x. q.init (init x)) (λ x. q.parameter (parameter x)) (λ x. q.named (named x)) (λ x y is. step_core q (λ w. Unit {0}) (λ w h u. k.core w h) x y is tt) (λ x y is. step_expr q (λ w. Unit {0}) (λ w h u. k.expr w h) x y is tt) (λ x y is. step_initializer q (λ w. Unit {0}) (λ w h u. k.initializer w h) x y is tt) (λ x y is. step_optional q (λ w. Unit {0}) (λ w h u. k.optional w h) x y is tt) (λ x y is. step_stmt q (λ w. Unit {0}) (λ w h u. k.stmt w h) x y is tt) (λ x y is. step_suffix q (λ w. Unit {0}) (λ w h u. k.suffix w h) x y is tt) (λ x y is. step_declaration q (λ w. Unit {0}) (λ w h u. k.declaration w h) x y is tt) (λ x y is. step_declarator q (λ w. Unit {0}) (λ w h u. k.declarator w h) x y is tt) (λ x y is. step_init q (λ w. Unit {0}) (λ w h u. k.init w h) x y is tt) (λ x y is. step_parameter q (λ w. Unit {0}) (λ w h u. k.parameter w h) x y is tt) (λ x y is. step_typename q (λ w. Unit {0}) (λ w h u. k.typename w h) x y is tt)
 
 pub holds_parameter : (q : Asked) → RulesKeep q → (x : Parameter) → q.parameter (parameter x)
-holds_parameter q k = ind-Parameter (λ x. q.shape (core x)) (λ x. q.node (node x)) (λ x. q.start (initializer x)) (λ x. q.optional (optional x)) (λ x. q.item (item x)) (λ x. q.suffix (suffix x)) (λ x. q.declarations (declaration x)) (λ x. q.shape (shape x)) (λ x. q.init (init x)) (λ x. q.parameter (parameter x)) (λ x. q.named (named x)) (step_core q k) (step_expr q k) (step_initializer q k) (step_optional q k) (step_stmt q k) (step_suffix q k) (step_declaration q k) (step_declarator q k) (step_init q k) (step_parameter q k) (step_typename q k)
+holds_parameter q k = ind-Parameter (λ x. q.shape (core x)) (λ x. q.node (node x)) (λ x. q.start (initializer x)) (λ x. q.optional (optional x)) (λ x. q.item (item x)) (λ x. q.suffix (suffix x)) (λ x. q.declarations (declaration x)) (λ x. q.shape (shape x)) (λ x. q.init (init x)) (λ x. q.parameter (parameter x)) (λ x. q.named (named x)) (λ x y is. step_core q (λ w. Unit {0}) (λ w h u. k.core w h) x y is tt) (λ x y is. step_expr q (λ w. Unit {0}) (λ w h u. k.expr w h) x y is tt) (λ x y is. step_initializer q (λ w. Unit {0}) (λ w h u. k.initializer w h) x y is tt) (λ x y is. step_optional q (λ w. Unit {0}) (λ w h u. k.optional w h) x y is tt) (λ x y is. step_stmt q (λ w. Unit {0}) (λ w h u. k.stmt w h) x y is tt) (λ x y is. step_suffix q (λ w. Unit {0}) (λ w h u. k.suffix w h) x y is tt) (λ x y is. step_declaration q (λ w. Unit {0}) (λ w h u. k.declaration w h) x y is tt) (λ x y is. step_declarator q (λ w. Unit {0}) (λ w h u. k.declarator w h) x y is tt) (λ x y is. step_init q (λ w. Unit {0}) (λ w h u. k.init w h) x y is tt) (λ x y is. step_parameter q (λ w. Unit {0}) (λ w h u. k.parameter w h) x y is tt) (λ x y is. step_typename q (λ w. Unit {0}) (λ w h u. k.typename w h) x y is tt)
 
 pub holds_typename : (q : Asked) → RulesKeep q → (x : Typename) → q.named (named x)
-holds_typename q k = ind-Typename (λ x. q.shape (core x)) (λ x. q.node (node x)) (λ x. q.start (initializer x)) (λ x. q.optional (optional x)) (λ x. q.item (item x)) (λ x. q.suffix (suffix x)) (λ x. q.declarations (declaration x)) (λ x. q.shape (shape x)) (λ x. q.init (init x)) (λ x. q.parameter (parameter x)) (λ x. q.named (named x)) (step_core q k) (step_expr q k) (step_initializer q k) (step_optional q k) (step_stmt q k) (step_suffix q k) (step_declaration q k) (step_declarator q k) (step_init q k) (step_parameter q k) (step_typename q k)
+holds_typename q k = ind-Typename (λ x. q.shape (core x)) (λ x. q.node (node x)) (λ x. q.start (initializer x)) (λ x. q.optional (optional x)) (λ x. q.item (item x)) (λ x. q.suffix (suffix x)) (λ x. q.declarations (declaration x)) (λ x. q.shape (shape x)) (λ x. q.init (init x)) (λ x. q.parameter (parameter x)) (λ x. q.named (named x)) (λ x y is. step_core q (λ w. Unit {0}) (λ w h u. k.core w h) x y is tt) (λ x y is. step_expr q (λ w. Unit {0}) (λ w h u. k.expr w h) x y is tt) (λ x y is. step_initializer q (λ w. Unit {0}) (λ w h u. k.initializer w h) x y is tt) (λ x y is. step_optional q (λ w. Unit {0}) (λ w h u. k.optional w h) x y is tt) (λ x y is. step_stmt q (λ w. Unit {0}) (λ w h u. k.stmt w h) x y is tt) (λ x y is. step_suffix q (λ w. Unit {0}) (λ w h u. k.suffix w h) x y is tt) (λ x y is. step_declaration q (λ w. Unit {0}) (λ w h u. k.declaration w h) x y is tt) (λ x y is. step_declarator q (λ w. Unit {0}) (λ w h u. k.declarator w h) x y is tt) (λ x y is. step_init q (λ w. Unit {0}) (λ w h u. k.init w h) x y is tt) (λ x y is. step_parameter q (λ w. Unit {0}) (λ w h u. k.parameter w h) x y is tt) (λ x y is. step_typename q (λ w. Unit {0}) (λ w h u. k.typename w h) x y is tt)
