@@ -1,5 +1,5 @@
 -- What is asked of the walks over the parts of a tree: each rule of the walk that is given such parts makes such a part again.
-use Rattle.std.specs.Prelude.{◌≡◌, ℕ, ◌-◌, Bool, true, false, ◌||◌, List, [], ◌∷◌, length, Ok}
+use Rattle.std.specs.Prelude.{◌≡◌, ℕ, ◌+◌, ◌-◌, ◌≤◌, Bool, true, false, ◌||◌, List, [], ◌∷◌, length, Ok}
 use Rattle.c_types.specs.declared.ctype.CType.{CType}
 use Rattle.c_declared.specs.declared.steps.Length.{Length}
 use Rattle.c_declared.specs.declared.steps.Length.TheVariants as len
@@ -14,6 +14,7 @@ use Rattle.check_tables.specs.Walks.{Rule}
 use Rattle.check_expressions.specs.Rules.{Node, Named, Shape}
 use Rattle.accepted_trees.specs.Places.{Around}
 use Rattle.accepted_nodes.specs.Right.{IsRight}
+use Rattle.accepted_values.specs.Used.{IsUsed}
 use Rattle.accepted_steps.specs.Kept.{Starts, KeepsTables, KeepsTick, IsKeeping, outer}
 use Rattle.accepted_steps.specs.Steps.{at, EachCapture, Does}
 
@@ -78,7 +79,7 @@ GoodParameter w = (g : Stage) (s new : State) (x : CType) → w g s ≡ Ok (x, n
 
 -- an operand stands right, and leaves the value that its type says
 abbrev pub Good : Around → Operand → Type 0
-Good a o = IsRight a o
+Good a o = IsRight a o × IsUsed o
 
 -- where it runs in a function, it stands right anywhere
 abbrev pub Anywhere : Stage → Operand → Type 0
@@ -89,4 +90,6 @@ Anywhere stage.Dollar o = (a : Around) → Good a o
 pub record GoodNode (many : ℕ) (n : Node) : Type 0 where
   pub keeps : (g : Stage) → IsKeeping g (n.walk g)
   pub does : (g : Stage) → Does many g (λ r o. Good (at g r) o) (n.walk g)
+  -- the captures of a walk are few, whatever is known
+  pub few : (g : Stage) (s new : State) (o : Operand) → n.walk g s ≡ Ok (o, new) → length new.ticks.captures ≤ length s.ticks.captures + 1000000000
   pub constant : n.written.constant ≡ true → (g : Stage) (s new : State) (o : Operand) → n.walk g s ≡ Ok (o, new) → Plain g s new × Anywhere g o

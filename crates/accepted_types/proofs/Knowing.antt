@@ -17,7 +17,7 @@ use Rattle.check_state.specs.declared.state.State.{State}
 use Rattle.accepted_trees.specs.Places.{part}
 use Rattle.accepted_steps.specs.Kept.{Starts, KeepsTables, KeepsTick, KeepsStage, Keeps}
 use Rattle.accepted_steps.specs.Known.{Blocks, of_function, of_tick, has, numbers, HasHome, IsVariable, IsParameter, IsFunction, is_number, Means, EachEntry, EachScope, Small, SmallInner, SmallTick, Known}
-use Rattle.accepted_steps.specs.Steps.{Round, Captures, kinds, AgreesTick, Agrees}
+use Rattle.accepted_steps.specs.Steps.{Round, Captures, one_kind, kinds, AgreesTick, Agrees}
 use Rattle.accepted_types.proofs.Fronts.{starts_same, starts_front, starts_length}
 
 -- ---- the names
@@ -54,7 +54,7 @@ means_kept many g b {s} {new} k name m kind.Variable x =
 means_kept many g b {s} {new} k name m kind.Parameter x =
     (subst (λ hs. IsParameter g b new m.index (slice_get hs m.index)) (sym k.homes) (parameter_kept g b k m.index (slice_get s.frame.homes m.index) x.0), x.1)
 means_kept many g b k name m kind.Global x = x
-means_kept many g b k name m kind.Function x = subst (λ f. IsFunction many f name m.index) (sym k.functions) x
+means_kept many g b k name m kind.Function x = (subst (λ f. IsFunction many f name m.index) (sym k.functions) x.0, x.1)
 means_kept many g b k name m kind.Library x = x
 
 pub each_entry : (P Q : Name → Meaning → Type 0) → ((n : Name) (m : Meaning) → P n m → Q n m) → (es : Scope) → EachEntry P es → EachEntry Q es
@@ -110,7 +110,7 @@ known_kept {many} {g} {b} {ks} {s} {new} more k each known small =
 
 pub kinds_append : (xs ys : List Expr) → kinds (xs ++ ys) ≡ kinds xs ++ kinds ys
 kinds_append [] ys = refl
-kinds_append (x ∷ xs) ys = ap (λ l. (part x).capture ++ l) (kinds_append xs ys) ∙ sym (append_assoc (part x).capture (kinds xs) (kinds ys))
+kinds_append (x ∷ xs) ys = ap (λ l. one_kind x ∷ l) (kinds_append xs ys)
 
 captures_front : (xs ys : List CaptureKind) (all : Option (List CaptureKind)) → Captures (xs ++ ys) all → Captures xs all
 captures_front xs ys None x = x

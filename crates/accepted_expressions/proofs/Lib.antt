@@ -1,0 +1,4 @@
+pub mod Captures
+pub mod Nodes
+pub mod Steps
+pub mod Ticks
