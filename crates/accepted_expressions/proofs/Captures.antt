@@ -1,7 +1,8 @@
 -- A step in a tick that makes one capture: it has the number of the captures before it, and what surrounds the tick's body has its
 -- kind there.
-use Rattle.std.proofs.Common.{◌≡◌, ℕ, ◌≤◌, ◌<◌, Bool, true, false, List, [], ◌∷◌, ◌++◌, length, map, refl, sym, ap, subst, ◌∙◌, append_assoc, append-nil, length-append, arith, Option, Some, None}
+use Rattle.std.proofs.Common.{◌≡◌, ℕ, ◌≤◌, ◌<◌, Bool, true, false, List, [], ◌∷◌, ◌++◌, length, map, refl, sym, ap, subst, ◌∙◌, append_assoc, append-nil, length-append, arith, Option, Some, None, Ok}
 use Rattle.std.specs.Prelude.{slice_get}
+use Rattle.tick_tree.specs.Faults.{Checked}
 use Rattle.std.proofs.Math.Nat.{min-eq_left}
 use Rattle.std.proofs.Math.Seq.{get_or-append_seam}
 use Rattle.std.proofs.lemmas.List.{length-map}
@@ -12,6 +13,8 @@ use Rattle.typed_tree.specs.declared.expression.CaptureKind.{CaptureKind}
 use Rattle.typed_tree.specs.declared.expression.CaptureKind.TheVariants as capture
 use Rattle.typed_tree.specs.declared.expression.Expr.{Expr}
 use Rattle.typed_tree.specs.declared.expression.Expr.TheVariants as ex
+use Rattle.c_nodes.specs.declared.operand.Operand.{Operand}
+use Rattle.check_state.specs.declared.state.Stage.{Stage}
 use Rattle.check_state.specs.declared.state.Stage.TheVariants as stage
 use Rattle.check_state.specs.declared.state.State.{State}
 use Rattle.check_tables.specs.Frames.{count}
@@ -23,10 +26,13 @@ use Rattle.accepted_nodes.proofs.Nodes.{and_true}
 use Rattle.accepted_values.specs.Used.{Leaves}
 use Rattle.accepted_values.proofs.Nodes.{nodes_use}
 use Rattle.accepted_steps.specs.Kept.{Starts, KeepsTables, KeepsTick, Keeps}
-use Rattle.accepted_steps.specs.Known.{Blocks, Known}
-use Rattle.accepted_steps.specs.Steps.{Round, Agrees, Captures, first_kind, one_kind, kinds, EachTick, EachCapture, Did}
+use Rattle.accepted_steps.specs.Known.{Blocks, Small, Known}
+use Rattle.accepted_steps.specs.Steps.{Round, at, Agrees, Captures, first_kind, one_kind, kinds, EachTick, EachCapture, Did}
+use Rattle.accepted_steps.specs.Good.{Good}
+use Rattle.accepted_types.proofs.Walks.{ok_same}
+use Rattle.accepted_types.proofs.Plain.{plain_refl, plain_did_by}
 use Rattle.accepted_types.proofs.Fronts.{same_rest, no_rest}
-use Rattle.accepted_types.proofs.Knowing.{kinds_append, known_kept, agrees_back}
+use Rattle.accepted_types.proofs.Knowing.{kinds_append, known_kept, agrees_back, small_back}
 
 -- ---- kinds
 
@@ -116,4 +122,39 @@ catch_did {many} {b} {ks} {s} {new} {k} {e} P c known caught stands =
       stands = λ r a.
         let before = agrees_back [] (catch_keeps c) a in
         stands r before (finds r c (agrees_same a) before);
+    }
+
+-- ---- answers
+
+-- a step that answers this operand and leaves this state
+abbrev pub Gives : ℕ → Stage → Blocks → List (List CaptureKind) → State → Operand × State → Type 0
+Gives many g b ks s p = Did many g b ks s p.1 (λ r. Good (at g r) p.0)
+
+pub given : {many : ℕ} {g : Stage} {b : Blocks} {ks : List (List CaptureKind)} {s new : State} {x : Operand} (p : Operand × State) → Gives many g b ks s p → ◌≡◌ {A = Checked (Operand × State)} (Ok p) (Ok (x, new)) → Did many g b ks s new (λ r. Good (at g r) x)
+given {many} {g} {b} {ks} {s} {new} {x} p d e = subst (λ q. Gives many g b ks s q) (ok_same p (x, new) e) d
+
+-- one that changes nothing
+pub stays : {many : ℕ} {g : Stage} {b : Blocks} {ks : List (List CaptureKind)} {s : State} (o : Operand) → Known many g b ks s → ((r : Round) → Agrees many g b ks s r → Good (at g r) o) → Gives many g b ks s (o, s)
+stays {g = g} {s = s} o known h = plain_did_by (λ r. Good (at g r) o) (plain_refl g s) known h
+
+-- ---- steps without ticks
+
+pub none_of : {A : Type 0} (xs : List A) → length xs ≡ 0 → xs ≡ []
+none_of [] h = refl
+none_of (x ∷ xs) h = cc
+
+-- a step that makes no tick, of which this is known where no count is cut
+pub did_small : {many : ℕ} {g : Stage} {b : Blocks} {ks : List (List CaptureKind)} {s new : State} (P : Round → Type 0) → Keeps g s new → new.ticks.all ≡ s.ticks.all → Known many g b ks s → (Small g s → Did many g b ks s new P) → Did many g b ks s new P
+did_small {many} {g} {b} {ks} {s} {new} P k same known h =
+    let none = λ (small : Small g new).
+      let before = small_back k small in
+      none_of (h before).more (omega (arith, length-append ks (h before).more, ((h before).known small).ticks, (known before).ticks, ap length same)) in
+    let its = λ (r : Round) (a : Agrees many g b (ks ++ []) new r). subst (λ l. Agrees many g b (ks ++ l) new r) (sym (none a.small)) a in
+    record {
+      more = [];
+      known = known_kept [] k (λ made. sym (ap length (no_rest same made))) known;
+      back = λ r a. agrees_back [] k a;
+      ticks = λ r a made. subst (λ ts. EachTick r.function ts []) (sym (no_rest same made)) tt;
+      captures = λ r a. (h (small_back k a.small)).captures r (its r a);
+      stands = λ r a. (h (small_back k a.small)).stands r (its r a);
     }

@@ -37,8 +37,16 @@ use Rattle.accepted_steps.specs.Steps.{Round, Agrees, first_kind, one_kind, kind
 use Rattle.accepted_steps.specs.Good.{Good}
 use Rattle.accepted_types.proofs.Fronts.{starts_refl, starts_front, same_rest}
 use Rattle.accepted_types.proofs.Knowing.{each_scope, known_kept, agrees_back}
-use Rattle.accepted_expressions.specs.Laws.{KeepsBlock}
-use Rattle.accepted_expressions.proofs.Captures.{same_kinds_refl, count_small, found}
+use Rattle.accepted_expressions.proofs.Captures.{same_kinds_refl, count_small, found, none_of}
+
+-- ---- what the walk over the body of a tick leaves
+
+-- it captures little and has few variables
+pub record KeepsBody (s new : State) : Type 0 where
+  pub tables : KeepsTables s new
+  pub ticks : new.ticks.all ≡ s.ticks.all
+  pub captures : length new.ticks.captures ≤ length s.ticks.captures + 1000000000
+  pub inner : new.frame.inner ≤ s.frame.inner + 1000000000
 
 -- ---- the captures of a tick, as parts of its node
 
@@ -104,6 +112,7 @@ known_entered {many} {b} {ks} {s} known small =
     record {
       names = each_scope (λ name m. Means many stage.Function b s name m m.kind) (λ name m. Means many stage.Tick (blocks b s) (tick_entered s) name m m.kind) (λ name m h. means_entered many b s name m m.kind h) s.scopes was.names;
       ticks = was.ticks;
+      object = was.object;
     }
 
 -- ---- out of it
@@ -113,29 +122,24 @@ abbrev pub left : TickBody → State → State
 left body s = record s { ticks = ticks.left body s.ticks }
 
 tables_left : (body : TickBody) (s t : State) → KeepsTables (tick_entered s) t → KeepsTables s (left body t)
-tables_left body s t k = record { scopes = k.scopes; result = k.result; homes = k.homes; nodes = k.nodes; object = k.object; labels = k.labels; functions = k.functions }
+tables_left body s t k = record { scopes = k.scopes; result = k.result; homes = k.homes; nodes = k.nodes; object = k.object; labels = k.labels; functions = k.functions; image = record { end = k.image.end; globals = k.image.globals; at = k.image.at } }
 
 abbrev starts_left : (body : TickBody) (s t : State) → t.ticks.all ≡ s.ticks.all → Starts s.ticks.all (left body t).ticks.all
 starts_left body s t e = record { rest = ticks.tick_of body ∷ []; is = ap (λ l. l ++ ticks.tick_of body ∷ []) e }
 
-pub keeps_left : (body : TickBody) (s t : State) → KeepsBlock (tick_entered s) t → Keeps stage.Function s (left body t)
+pub keeps_left : (body : TickBody) (s t : State) → KeepsBody (tick_entered s) t → Keeps stage.Function s (left body t)
 keeps_left body s t k = record { tables = tables_left body s t k.tables; at = starts_left body s t k.ticks }
 
--- what is known of the body of a tick
-pub record BodyStands (r : Round) (body : TickBody) : Type 0 where
-  pub stands : stands_as_tick body r.tick ≡ true
+-- the body of a tick stands right there, and its values are used
+pub record BodyStands (a : Around) (body : TickBody) : Type 0 where
+  pub stands : stands_as_tick body a ≡ true
   pub values : body_uses_values body ≡ true
-  pub numbers : IsNumbered body
-
-none_of : {A : Type 0} (xs : List A) → length xs ≡ 0 → xs ≡ []
-none_of [] h = refl
-none_of (x ∷ xs) h = cc
 
 -- what is round the body, where this is round the tick
 abbrev inside : Round → List Expr → Round
 inside r es = record { function = r.function; tick = round_tick r.function (kinds es) }
 
-small_before : (s t : State) (body : TickBody) → KeepsBlock (tick_entered s) t → Small stage.Function (left body t) → Small stage.Function s
+small_before : (s t : State) (body : TickBody) → KeepsBody (tick_entered s) t → Small stage.Function (left body t) → Small stage.Function s
 small_before s t body k x = record {
   homes = omega (arith, ap length k.tables.homes, x.homes);
   object = omega (arith, k.tables.object, x.object);
@@ -143,7 +147,7 @@ small_before s t body k x = record {
   tick = tt;
 }
 
-small_inside : (s t : State) (body : TickBody) → KeepsBlock (tick_entered s) t → Small stage.Function (left body t) → Small stage.Tick t
+small_inside : (s t : State) (body : TickBody) → KeepsBody (tick_entered s) t → Small stage.Function (left body t) → Small stage.Tick t
 small_inside s t body k x = record {
   homes = x.homes;
   object = x.object;
@@ -151,7 +155,7 @@ small_inside s t body k x = record {
   tick = record { inner = omega (arith, k.inner); captures = omega (arith, k.captures) };
 }
 
-module _ {many : ℕ} {b : Blocks} {ks : List (List CaptureKind)} {s t : State} (body : TickBody) (known : Known many stage.Function b ks s) (k : KeepsBlock (tick_entered s) t) (d : Did many stage.Tick (blocks b s) ks (tick_entered s) t (λ r. BodyStands r body)) where
+module _ {many : ℕ} {b : Blocks} {ks : List (List CaptureKind)} {s t : State} (body : TickBody) (known : Known many stage.Function b ks s) (k : KeepsBody (tick_entered s) t) (numbered : Small stage.Tick t → IsNumbered body) (P : Round → Type 0) (here : (r : Round) → P (inside r t.ticks.captures) → BodyStands (round_tick r.function (kinds t.ticks.captures)) body) (d : Did many stage.Tick (blocks b s) ks (tick_entered s) t P) where
   -- no tick is made in a tick
   no_more : Small stage.Function (left body t) → d.more ≡ []
   no_more small =
@@ -176,8 +180,8 @@ module _ {many : ℕ} {b : Blocks} {ks : List (List CaptureKind)} {s t : State} 
 
   body_stands : (r : Round) → Agrees many stage.Function b (ks ++ kinds t.ticks.captures ∷ []) (left body t) r → TickStands r.function (ticks.tick_of body) (kinds t.ticks.captures)
   body_stands r a =
-      let x = d.stands (inside r t.ticks.captures) (agrees_inside r a) in
-      record { stands = x.stands; values = x.values; numbers = x.numbers }
+      let x = here r (d.stands (inside r t.ticks.captures) (agrees_inside r a)) in
+      record { stands = x.stands; values = x.values; numbers = numbered (small_inside s t body k a.small) }
 
   its_kinds : (r : Round) → Agrees many stage.Function b (ks ++ kinds t.ticks.captures ∷ []) (left body t) r → slice_get r.function.ticks (count t.ticks.all) ≡ Some (kinds t.ticks.captures)
   its_kinds r a =

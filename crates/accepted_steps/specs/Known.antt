@@ -118,6 +118,8 @@ pub record Small (g : Stage) (s : State) : Type 0 where
 pub record Knows (many : ℕ) (g : Stage) (b : Blocks) (ks : List (List CaptureKind)) (s : State) : Type 0 where
   pub names : EachScope (λ name m. Means many g b s name m m.kind) s.scopes
   pub ticks : length ks ≡ length s.ticks.all
+  -- frame objects stand at multiples of 4
+  pub object : (s.frame.object % 4 == 0) ≡ true
 
 -- what is known, where no count is cut
 abbrev pub Known : ℕ → Stage → Blocks → List (List CaptureKind) → State → Type 0
