@@ -1,7 +1,9 @@
 pub mod Captures
+pub mod Dollar
 pub mod Meant
 pub mod Named
 pub mod Names
 pub mod Nodes
+pub mod Productions
 pub mod Steps
 pub mod Ticks

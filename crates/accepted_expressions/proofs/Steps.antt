@@ -87,6 +87,10 @@ answers {g = g} P x h = goes_plain P (pure x) (pure_keeps g x) (λ s new y e. pl
 unless_ok : {A : Type 0} (P : A → Type 0) (c : Checked A) (x : A) → c ≡ Ok x → Unless P c → P x
 unless_ok P c x e u = subst (λ z. Unless P z) e u
 
+pub by_premise : {A : Type 0} (P : Type 0) (Q : A → Type 0) (c : Checked A) → (P → Unless Q c) → Unless (λ x. P → Q x) c
+by_premise P Q (Ok x) h = h
+by_premise P Q (Err f) h = tt
+
 -- a step that only its own rule decides
 pub decides : {A : Type 0} {many : ℕ} {g : Stage} (P : Round → A → Type 0) (c : Checked A) → ((r : Round) → in_function r.function ≡ true → Unless (P r) c) → Goes many g P (lift c)
 decides {g = g} P c h =
