@@ -1,3 +1,4 @@
+pub mod Calls
 pub mod Captures
 pub mod Dollar
 pub mod Meant

@@ -26,7 +26,7 @@ use Rattle.accepted_steps.specs.Steps.{Round, at}
 use Rattle.accepted_steps.specs.Good.{Good, GoodNode, GoodNamed}
 use Rattle.accepted_types.specs.Parts.{EachPart}
 use Rattle.accepted_types.proofs.Plain.{plain_keeps, plain_did}
-use Rattle.accepted_expressions.proofs.Steps.{Goes, then, answers, decides, refuses, by_premise}
+use Rattle.accepted_expressions.proofs.Steps.{Goes, implies, then, answers, decides, refuses, by_premise}
 use Rattle.accepted_expressions.proofs.Nodes.{good_size, good_binary, good_index, good_assign, good_modify, good_comma, good_choice, good_cast, good_post, good_step, good_star, good_compile, good_local, good_parameter, good_signed, ArgumentsStand, good_none, good_argument, good_library, good_call}
 use Rattle.accepted_expressions.proofs.Dollar.{dollar_goes, address_goes}
 
@@ -50,15 +50,6 @@ named_part t line g h = record {
 rule : {many : ℕ} {g : Stage} (P : Round → Type 0) (c : Checked Operand) → ((r : Round) → in_function r.function ≡ true → P r → Unless (Good (at g r)) c) → Goes many g (λ r o. P r → Good (at g r) o) (lift c)
 rule {g = g} P c h = decides (λ r o. P r → Good (at g r) o) c (λ r f. by_premise (P r) (Good (at g r)) c (h r f))
 
--- what stands without a premise stands with one
-premised : {many : ℕ} {g : Stage} {A : Type 0} {P : Round → A → Type 0} {Q : Round → Type 0} {p : Rule State A} → Goes many g P p → Goes many g (λ r x. Q r → P r x) p
-premised h = record {
-  keeps = h.keeps;
-  does = λ b ks s new x known e.
-    let d = h.does b ks s new x known e in
-    record { more = d.more; known = d.known; back = d.back; ticks = d.ticks; captures = d.captures; stands = λ r a q. d.stands r a };
-}
-
 -- ---- two parts
 
 abbrev Both : Stage → Round → Operand × Operand → Type 0
@@ -70,7 +61,7 @@ both_go a b g h k =
     (λ x. then (Right g) (λ r p. Right g r x → Both g r p) (b.walk g) (λ y. pure (x, y)) (part b g k)
     (λ y. answers (λ r p. Right g r y → Right g r x → Both g r p) (x, y) (λ r q p. (p, q))))
 
-two : {many : ℕ} (a b : Node) (g : Stage) (f : Operand → Operand → Checked Operand) → GoodNode many a → GoodNode many b → ((r : Round) (x y : Operand) → Right g r x → Right g r y → Unless (Right g r) (f x y)) → Goes many g (Right g) (both a b g >>= (λ p. lift (f p.0 p.1)))
+pub two : {many : ℕ} (a b : Node) (g : Stage) (f : Operand → Operand → Checked Operand) → GoodNode many a → GoodNode many b → ((r : Round) (x y : Operand) → Right g r x → Right g r y → Unless (Right g r) (f x y)) → Goes many g (Right g) (both a b g >>= (λ p. lift (f p.0 p.1)))
 two a b g f h k rules =
     then (Both g) (Right g) (both a b g) (λ p. lift (f p.0 p.1)) (both_go a b g h k)
     (λ p. rule (λ r. Both g r p) (f p.0 p.1) (λ r i q. rules r p.0 p.1 q.0 q.1))
@@ -104,7 +95,7 @@ size_goes line t g h =
 pub cast_goes : {many : ℕ} (line : ℕ) (t : Named) (a : Node) (g : Stage) → GoodNamed t → GoodNode many a → Goes many g (Right g) (cast line t a g)
 cast_goes line t a g h k =
     then Any (Right g) (t.walk line g) (λ ty. a.walk g >>= (λ o. lift (productions.cast_node line ty o))) (named_part t line g h)
-    (λ ty. premised (one a g (productions.cast_node line ty) k (λ r o q. good_cast (at g r) line ty o q)))
+    (λ ty. implies (Right g) (λ r o. Unit {0} → Right g r o) (a.walk g >>= (λ o. lift (productions.cast_node line ty o))) (one a g (productions.cast_node line ty) k (λ r o q. good_cast (at g r) line ty o q)) (λ r x q u. q))
 
 own : {many : ℕ} (line : ℕ) (op : UnaryOp) (a : Node) (g : Stage) → GoodNode many a → ((o : Operand) → Goes many g (λ r x. Right g r o → Right g r x) (productions.unary_node line op g o)) → Goes many g (Right g) (a.walk g >>= productions.unary_node line op g)
 own line op a g h k = then (Right g) (Right g) (a.walk g) (productions.unary_node line op g) (part a g h) k
@@ -130,3 +121,30 @@ unary_goes line unary_op.Address a g h = own line unary_op.Address a g h (λ o. 
 unary_goes line unary_op.Dollar a g h = dollar line a g h
 unary_goes line unary_op.Increment a g h = own line unary_op.Increment a g h (λ o. step line step_op.Increment g o)
 unary_goes line unary_op.Decrement a g h = own line unary_op.Decrement a g h (λ o. step line step_op.Decrement g o)
+
+-- ---- specifications, which functions alone make
+
+pub compile_goes : {many : ℕ} (line : ℕ) (a : Node) (t : Named) (g : Stage) → GoodNode many a → GoodNamed t → Goes many g (Right g) (compile line a t g)
+compile_goes line a t stage.Function h k =
+    then (Right stage.Function) (Right stage.Function) (a.walk stage.Function) (λ o. t.walk line stage.Function >>= (λ ty. lift (productions.compile_node line ty o))) (part a stage.Function h)
+    (λ o. then Any (λ r x. Right stage.Function r o → Right stage.Function r x) (t.walk line stage.Function) (λ ty. lift (productions.compile_node line ty o)) (named_part t line stage.Function k)
+    (λ ty. implies (λ r x. Right stage.Function r o → Right stage.Function r x) (λ r x. Unit {0} → Right stage.Function r o → Right stage.Function r x) (lift (productions.compile_node line ty o))
+      (rule (λ r. Right stage.Function r o) (productions.compile_node line ty o) (λ r i q. good_compile r.function line ty o i q)) (λ r x q u. q)))
+compile_goes line a t stage.Tick h k = refuses (Right stage.Tick) _
+compile_goes line a t stage.Dollar h k = refuses (Right stage.Dollar) _
+
+pub local_goes : {many : ℕ} (line : ℕ) (t : Named) (g : Stage) → GoodNamed t → Goes many g (Right g) (local line t g)
+local_goes line t stage.Function k =
+    then Any (Right stage.Function) (t.walk line stage.Function) (λ ty. lift (stages.local line ty)) (named_part t line stage.Function k)
+    (λ ty. rule (λ r. Unit {0}) (stages.local line ty) (λ r i q. good_local r.function line ty i))
+local_goes line t stage.Tick k = refuses (Right stage.Tick) _
+local_goes line t stage.Dollar k = refuses (Right stage.Dollar) _
+
+pub parameter_goes : {many : ℕ} (line : ℕ) (t : Named) (a : Node) (g : Stage) → GoodNamed t → GoodNode many a → Goes many g (Right g) (parameter line t a g)
+parameter_goes line t a stage.Function k h =
+    then Any (Right stage.Function) (t.walk line stage.Function) (λ ty. a.walk stage.Function >>= (λ o. lift (productions.parameter_node line ty o))) (named_part t line stage.Function k)
+    (λ ty. implies (Right stage.Function) (λ r x. Unit {0} → Right stage.Function r x) (a.walk stage.Function >>= (λ o. lift (productions.parameter_node line ty o)))
+      (then (Right stage.Function) (Right stage.Function) (a.walk stage.Function) (λ o. lift (productions.parameter_node line ty o)) (part a stage.Function h)
+        (λ o. rule (λ r. Right stage.Function r o) (productions.parameter_node line ty o) (λ r i q. good_parameter r.function line ty o i q))) (λ r x q u. q))
+parameter_goes line t a stage.Tick k h = refuses (Right stage.Tick) _
+parameter_goes line t a stage.Dollar k h = refuses (Right stage.Dollar) _

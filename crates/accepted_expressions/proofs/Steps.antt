@@ -74,6 +74,15 @@ then {g = g} P Q p f h k = record {
     ((k w.value).does b (ks ++ d.more) w.state new y d.known w.next);
 }
 
+-- what is asked of the answers may be less
+pub implies : {A : Type 0} {many : ℕ} {g : Stage} (P Q : Round → A → Type 0) (step : Rule State A) → Goes many g P step → ((r : Round) (x : A) → P r x → Q r x) → Goes many g Q step
+implies P Q step h k = record {
+  keeps = h.keeps;
+  does = λ b ks s new x known e.
+    let d = h.does b ks s new x known e in
+    record { more = d.more; known = d.known; back = d.back; ticks = d.ticks; captures = d.captures; stands = λ r a. k r x (d.stands r a) };
+}
+
 -- a rule that is plain, and whose answers stand right
 pub goes_plain : {A : Type 0} {many : ℕ} {g : Stage} (P : Round → A → Type 0) (step : Rule State A) → IsKeeping g step → ((s new : State) (x : A) → step s ≡ Ok (x, new) → Plain g s new) → ((s new : State) (x : A) → step s ≡ Ok (x, new) → (r : Round) → in_function r.function ≡ true → P r x) → Goes many g P step
 goes_plain P step keeps plain stands = record {
