@@ -1,3 +1,4 @@
+pub mod Bodies
 pub mod Calls
 pub mod Captures
 pub mod Dollar
@@ -8,3 +9,4 @@ pub mod Nodes
 pub mod Productions
 pub mod Steps
 pub mod Ticks
+pub mod Walk
