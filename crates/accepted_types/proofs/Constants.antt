@@ -141,7 +141,7 @@ captured_plain v s z p h =
         object = p.tables.object;
         labels = p.tables.labels;
         functions = p.tables.functions;
-    image = record { end = p.tables.image.end; globals = p.tables.image.globals; at = p.tables.image.at };
+        image = record { end = p.tables.image.end; globals = p.tables.image.globals; at = p.tables.image.at };
       };
       captures = c;
       at = (record { inner = p.at.0.inner; ticks = p.at.0.ticks }, λ more a. subst (λ es. EachCapture a es) (same_rest c more) (one_capture a capture.Dollar v.code (h a).stands (h a).captured.code));
