@@ -1,11 +1,10 @@
 -- The two bodies of a tick: an expression, and a block, whose variables are numbered from 0 on.
-use Rattle.std.proofs.Common.{◌≡◌, ℕ, ◌+◌, ◌≤◌, ◌<◌, Bool, true, false, ◌&&◌, if◌then◌else◌, List, [], ◌∷◌, length, map, sum, refl, sym, ap, subst, ◌∙◌, arith, Ok}
+use Rattle.std.proofs.Common.{◌≡◌, ℕ, ◌+◌, ◌≤◌, ◌<◌, Bool, true, false, ◌&&◌, List, [], ◌∷◌, length, map, sum, refl, ap, ◌∙◌, arith, Ok}
 use Rattle.std.specs.Prelude.{nat_le, nat_lt}
-use Rattle.std.proofs.lemmas.Bool.{leb-true, ltb-true}
+use Rattle.std.proofs.lemmas.Bool.{ltb-true}
 use Rattle.std.proofs.lemmas.List.Sums.{sum-map, sum_by-cons}
 use Rattle.c_types.specs.declared.ctype.Layer.TheVariants as layer
 use Rattle.c_shapes.specs.Shapes.{over, void}
-use Rattle.typed_tree.specs.declared.expression.CaptureKind.{CaptureKind}
 use Rattle.typed_tree.specs.declared.expression.Stmt.{Stmt}
 use Rattle.typed_tree.specs.declared.program.TickBody.TheVariants as body
 use Rattle.typed_tree.specs.Sizes.{statement_size, statements_size}
@@ -15,7 +14,6 @@ use Rattle.c_nodes.specs.Stages as stages
 use Rattle.check_state.specs.declared.state.Stage.{Stage}
 use Rattle.check_state.specs.declared.state.Stage.TheVariants as stage
 use Rattle.check_state.specs.declared.state.State.{State}
-use Rattle.check_tables.specs.Walks.{Rule, ◌>>=◌}
 use Rattle.check_expressions.specs.Productions as productions
 use Rattle.check_expressions.specs.Productions.{tick_entered}
 use Rattle.check_expressions.specs.Rules.{Node, Item, block, tick_around, tick_expression, tick_block}
@@ -29,8 +27,7 @@ use Rattle.accepted_values.proofs.Stages.{stages_use}
 use Rattle.accepted_steps.specs.Counts.{declarations_in, between, Counts}
 use Rattle.accepted_steps.specs.Items.{placed, KeepsBlock, Few, GoodBlock}
 use Rattle.accepted_steps.specs.Kept.{Keeps, Grows}
-use Rattle.accepted_steps.specs.Known.{Blocks, Small, Known}
-use Rattle.accepted_steps.specs.Steps.{Round, at, round_tick, kinds, Did, Does}
+use Rattle.accepted_steps.specs.Steps.{Round, at, round_tick, kinds, Does}
 use Rattle.accepted_steps.specs.Good.{Good, GoodNode}
 use Rattle.accepted_types.proofs.Walks.{ran}
 use Rattle.accepted_expressions.proofs.Captures.{given}
@@ -53,8 +50,8 @@ expression_does many line a stage.Function h b ks s new x known e =
     let d = h.does stage.Tick (blocks b s) ks (tick_entered s) w.state w.value (known_entered known) w.first in
     given (productions.tick_expression w.value w.state)
     (tick_did (body.Expression (value_of w.value).code) known k (λ small. tt) (λ r. Good r.tick w.value)
-      (λ r q. expression_stands (round_tick r.function (kinds w.state.ticks.captures)) w.value q) d
-      (stages.specification (value_of w.value).ctype) (stages_use.specification (value_of w.value).ctype)) w.next
+    (λ r q. expression_stands (round_tick r.function (kinds w.state.ticks.captures)) w.value q) d
+    (stages.specification (value_of w.value).ctype) (stages_use.specification (value_of w.value).ctype)) w.next
 expression_does many line a stage.Tick h b ks s new x known e = cc
 expression_does many line a stage.Dollar h b ks s new x known e = cc
 
@@ -118,8 +115,8 @@ block_does many line items stage.Function h b ks s new x known e =
     let d = h.does (blocks b s) ks (tick_entered s) w.state w.value (known_entered known) w.first in
     given (productions.tick_block w.value w.state)
     (tick_did (body.Statement w.value) known k
-      (λ small. numbered (tick_entered s) w.state w.value (h.counts (tick_entered s) w.state w.value w.first small) kept.nodes refl)
-      (λ r. Block r w.value) (λ r q. record { stands = q.0; values = q.1 }) d
-      (over layer.Cspec void) (types_use.layer layer.Cspec void)) w.next
+    (λ small. numbered (tick_entered s) w.state w.value (h.counts (tick_entered s) w.state w.value w.first small) kept.nodes refl)
+    (λ r. Block r w.value) (λ r q. record { stands = q.0; values = q.1 }) d
+    (over layer.Cspec void) (types_use.layer layer.Cspec void)) w.next
 block_does many line items stage.Tick h b ks s new x known e = cc
 block_does many line items stage.Dollar h b ks s new x known e = cc

@@ -4,12 +4,12 @@ use Rattle.c_types.specs.declared.ctype.CType.{CType}
 use Rattle.c_types.specs.declared.names.Meaning.{Meaning}
 use Rattle.c_types.specs.declared.names.MeaningKind.{MeaningKind}
 use Rattle.c_types.specs.declared.names.MeaningKind.TheVariants as kind
-use Rattle.c_types.specs.Scopes.{Name, Scopes, find}
+use Rattle.c_types.specs.Scopes.{Name, find}
 use Rattle.typed_tree.specs.declared.expression.CaptureKind.{CaptureKind}
 use Rattle.c_nodes.specs.declared.operand.Operand.{Operand}
 use Rattle.c_places.specs.declared.calls.Arguments.{Arguments}
 use Rattle.c_places.specs.Calls as calls
-use Rattle.check_tables.specs.Walks.{Rule, ◌>>=◌, pure, lift}
+use Rattle.check_tables.specs.Walks.{◌>>=◌, lift}
 use Rattle.check_state.specs.declared.state.Stage.{Stage}
 use Rattle.check_state.specs.declared.state.State.{State}
 use Rattle.check_state.specs.Names.{library_at, library_by, library}
@@ -17,8 +17,8 @@ use Rattle.check_expressions.specs.Productions as productions
 use Rattle.check_expressions.specs.Rules.{Node, arguments, library_of, library_call, plain_call, call_of, call}
 use Rattle.accepted_values.specs.Used.{IsLibrary}
 use Rattle.accepted_steps.specs.Known.{Blocks, Means, EachScope, Small, Known}
-use Rattle.accepted_steps.specs.Steps.{Round, at, Agrees, Did, Does}
-use Rattle.accepted_steps.specs.Good.{Good, GoodNode}
+use Rattle.accepted_steps.specs.Steps.{Round, at, Did, Does}
+use Rattle.accepted_steps.specs.Good.{GoodNode}
 use Rattle.accepted_types.specs.Parts.{EachPart}
 use Rattle.accepted_expressions.proofs.Steps.{Goes, implies, then, answers, decides, by_premise}
 use Rattle.accepted_expressions.proofs.Names.{known_name}
@@ -35,7 +35,7 @@ arguments_go [] before g h = answers (Listed g before) before (λ r x. x)
 arguments_go (a ∷ rest) before g h =
     then (Right g) (Listed g before) (a.walk g) (λ x. arguments rest (productions.argument before x) g) (part a g h.0)
     (λ x. implies (Listed g (productions.argument before x)) (λ r list. Right g r x → Listed g before r list) (arguments rest (productions.argument before x) g)
-      (arguments_go rest (productions.argument before x) g h.1) (λ r list k o w. k (good_argument (at g r) before x w o)))
+    (arguments_go rest (productions.argument before x) g h.1) (λ r list k o w. k (good_argument (at g r) before x w o)))
 
 abbrev AllStand : Stage → Round → Arguments → Type 0
 AllStand g r list = ArgumentsStand (at g r) list
@@ -50,16 +50,16 @@ library_goes : {many : ℕ} (line n : ℕ) (t : CType) (list : List Node) (g : S
 library_goes line n t list g h =
     then (AllStand g) (λ r o. IsLibrary n t → Right g r o) (arguments list calls.no_arguments g) (λ xs. lift (calls.library line n t xs)) (all_go list g h)
     (λ xs. decides (λ r o. AllStand g r xs → IsLibrary n t → Right g r o) (calls.library line n t xs)
-      (λ r i. by_premise (AllStand g r xs) (λ o. IsLibrary n t → Right g r o) (calls.library line n t xs)
-        (λ k. by_premise (IsLibrary n t) (Right g r) (calls.library line n t xs) (λ l. good_library (at g r) line n t xs l k))))
+    (λ r i. by_premise (AllStand g r xs) (λ o. IsLibrary n t → Right g r o) (calls.library line n t xs)
+    (λ k. by_premise (IsLibrary n t) (Right g r) (calls.library line n t xs) (λ l. good_library (at g r) line n t xs l k))))
 
 plain_goes : {many : ℕ} (line : ℕ) (f : Node) (list : List Node) (g : Stage) → GoodNode many f → EachPart (GoodNode many) list → Goes many g (Right g) (plain_call line f list g)
 plain_goes line f list g h k =
     then (Right g) (Right g) (f.walk g) (λ o. arguments list calls.no_arguments g >>= (λ xs. lift (productions.call_node line g o xs))) (part f g h)
     (λ o. then (AllStand g) (λ r x. Right g r o → Right g r x) (arguments list calls.no_arguments g) (λ xs. lift (productions.call_node line g o xs)) (all_go list g k)
     (λ xs. decides (λ r x. AllStand g r xs → Right g r o → Right g r x) (productions.call_node line g o xs)
-      (λ r i. by_premise (AllStand g r xs) (λ x. Right g r o → Right g r x) (productions.call_node line g o xs)
-        (λ l. by_premise (Right g r o) (Right g r) (productions.call_node line g o xs) (λ q. good_call (at g r) line g o xs q l)))))
+    (λ r i. by_premise (AllStand g r xs) (λ x. Right g r o → Right g r x) (productions.call_node line g o xs)
+    (λ l. by_premise (Right g r o) (Right g r) (productions.call_node line g o xs) (λ q. good_call (at g r) line g o xs q l)))))
 
 -- ---- which call it is
 

@@ -1,6 +1,6 @@
 -- A step in a tick that makes one capture: it has the number of the captures before it, and what surrounds the tick's body has its
 -- kind there.
-use Rattle.std.proofs.Common.{◌≡◌, ℕ, ◌≤◌, ◌<◌, Bool, true, false, List, [], ◌∷◌, ◌++◌, length, map, refl, sym, ap, subst, ◌∙◌, append_assoc, append-nil, length-append, arith, Option, Some, None, Ok}
+use Rattle.std.proofs.Common.{◌≡◌, ℕ, ◌≤◌, ◌<◌, Bool, true, List, [], ◌∷◌, ◌++◌, length, refl, sym, ap, subst, ◌∙◌, append_assoc, append-nil, length-append, arith, Option, Some, None, Ok}
 use Rattle.std.specs.Prelude.{slice_get}
 use Rattle.tick_tree.specs.Faults.{Checked}
 use Rattle.std.proofs.Math.Nat.{min-eq_left}
@@ -116,12 +116,12 @@ catch_did {many} {b} {ks} {s} {new} {k} {e} P c known caught stands =
       back = λ r a. agrees_back [] (catch_keeps c) a;
       ticks = λ r a made. subst (λ ts. EachTick r.function ts []) (sym (none made)) tt;
       captures = λ r a more.
-        let x = caught r (agrees_back [] (catch_keeps c) a) in
-        subst (λ es. EachCapture r.function es) (same_rest (catch_starts c) more)
-        (capture_stands r.function k e x.stands, nodes_use.capture k e x.used, tt);
+          let x = caught r (agrees_back [] (catch_keeps c) a) in
+          subst (λ es. EachCapture r.function es) (same_rest (catch_starts c) more)
+          (capture_stands r.function k e x.stands, nodes_use.capture k e x.used, tt);
       stands = λ r a.
-        let before = agrees_back [] (catch_keeps c) a in
-        stands r before (finds r c (agrees_same a) before);
+          let before = agrees_back [] (catch_keeps c) a in
+          stands r before (finds r c (agrees_same a) before);
     }
 
 -- ---- answers
@@ -147,8 +147,8 @@ none_of (x ∷ xs) h = cc
 pub did_small : {many : ℕ} {g : Stage} {b : Blocks} {ks : List (List CaptureKind)} {s new : State} (P : Round → Type 0) → Keeps g s new → new.ticks.all ≡ s.ticks.all → Known many g b ks s → (Small g s → Did many g b ks s new P) → Did many g b ks s new P
 did_small {many} {g} {b} {ks} {s} {new} P k same known h =
     let none = λ (small : Small g new).
-      let before = small_back k small in
-      none_of (h before).more (omega (arith, length-append ks (h before).more, ((h before).known small).ticks, (known before).ticks, ap length same)) in
+    let before = small_back k small in
+    none_of (h before).more (omega (arith, length-append ks (h before).more, ((h before).known small).ticks, (known before).ticks, ap length same)) in
     let its = λ (r : Round) (a : Agrees many g b (ks ++ []) new r). subst (λ l. Agrees many g b (ks ++ l) new r) (sym (none a.small)) a in
     record {
       more = [];

@@ -1,7 +1,7 @@
 -- What stands under `$`, and `&`.
-use Rattle.std.proofs.Common.{◌≡◌, ℕ, true, List, [], ◌∷◌, ◌++◌, refl, sym, ap, subst, ◌∙◌, Option, Some, None, Ok, Err}
+use Rattle.std.proofs.Common.{◌≡◌, ℕ, true, List, refl, sym, ap, subst, ◌∙◌, Option, Some, None, Ok, Err}
 use Rattle.std.proofs.lemmas.Bool.{le-leb}
-use Rattle.std.proofs.Common.{◌≤◌, arith}
+use Rattle.std.proofs.Common.{arith}
 use Rattle.c_types.specs.declared.ctype.CType.{CType}
 use Rattle.c_types.specs.declared.ctype.Layer.TheVariants as layer
 use Rattle.c_types.specs.declared.names.Meaning.{Meaning}
@@ -13,7 +13,6 @@ use Rattle.tick_tree.specs.Faults.{Checked, ◌>>=◌ as ◌>>>=◌}
 use Rattle.typed_tree.specs.declared.expression.CaptureKind.{CaptureKind}
 use Rattle.typed_tree.specs.declared.expression.CaptureKind.TheVariants as capture
 use Rattle.typed_tree.specs.declared.expression.CapturedWord.TheVariants as word
-use Rattle.typed_tree.specs.declared.expression.Expr.{Expr}
 use Rattle.typed_tree.specs.declared.expression.Expr.TheVariants as ex
 use Rattle.c_nodes.specs.declared.operand.Operand.{Operand}
 use Rattle.c_nodes.specs.declared.operand.Place.{Place}
@@ -30,23 +29,23 @@ use Rattle.check_state.specs.declared.state.Stage.TheVariants as stage
 use Rattle.check_state.specs.declared.state.State.{State}
 use Rattle.check_state.specs.Names.{addressed}
 use Rattle.check_expressions.specs.Productions as productions
-use Rattle.accepted_trees.specs.Places.{Part, part, Around, captured, is_word}
+use Rattle.accepted_trees.specs.Places.{Part, Around, captured, is_word}
 use Rattle.accepted_trees.proofs.Equations.{part_captured}
 use Rattle.accepted_nodes.specs.Right.{Stands, RightPlace, Unless}
 use Rattle.accepted_values.specs.Used.{UsedPlace}
 use Rattle.accepted_values.proofs.Nodes.{nodes_use}
 use Rattle.accepted_values.proofs.Declared.{types_use}
-use Rattle.accepted_steps.specs.Kept.{Starts, KeepsTick, Keeps, IsKeeping}
-use Rattle.accepted_steps.specs.Known.{Blocks, IsVariable, IsParameter, Means, Small, Knows, Known}
-use Rattle.accepted_steps.specs.Steps.{Round, at, Agrees, EachCapture, Did, Does}
+use Rattle.accepted_steps.specs.Kept.{Keeps, IsKeeping}
+use Rattle.accepted_steps.specs.Known.{Blocks, IsVariable, IsParameter, Means, Small, Known}
+use Rattle.accepted_steps.specs.Steps.{Round, at, Agrees, EachCapture, Did}
 use Rattle.accepted_steps.specs.Good.{Good, PlainStage, Plain}
 use Rattle.accepted_types.proofs.Fronts.{no_rest, starts_refl}
 use Rattle.accepted_types.proofs.Keeps.{keeps_refl, keeps_more, keeps_dollar}
 use Rattle.accepted_types.proofs.Plain.{plain_refl, plain_did_by}
-use Rattle.accepted_types.proofs.Knowing.{each_scope, agrees_back}
+use Rattle.accepted_types.proofs.Knowing.{each_scope}
 use Rattle.accepted_types.proofs.Names.{gives_keeps, addressed_keeps, captured_keeps}
 use Rattle.accepted_types.proofs.Walks.{ran, ok_same}
-use Rattle.accepted_expressions.proofs.Captures.{same_kind_refl, Catches, Caught, catch_did, Gives, given, stays}
+use Rattle.accepted_expressions.proofs.Captures.{catch_did, Gives, given}
 use Rattle.accepted_expressions.proofs.Names.{frame_stands}
 use Rattle.accepted_expressions.proofs.Nodes.{CapturedStands, good_dollar, good_address}
 use Rattle.accepted_expressions.proofs.Steps.{Goes, did_join, by_premise, decides}
@@ -128,9 +127,10 @@ module _ {many : ℕ} {b : Blocks} {ks : List (List CaptureKind)} {s : State} (k
       catch_did {k = capture.Dollar} {e = v.code} (λ r. Good r.tick (made (ex.Captured word.Dollar (ticks.place s.ticks)) v.ctype))
       (record { tables = record { scopes = refl; result = refl; homes = refl; nodes = refl; object = refl; labels = refl; functions = refl; image = record { end = refl; globals = refl; at = refl } }; tick = record { inner = refl; ticks = refl }; captures = refl })
       known (λ r a. record { stands = (h r a).code; used = (h r a).captured.code })
-      (λ r a f.
-        (captured_word r.tick (ticks.place s.ticks) (f (is_word word.Dollar) refl),
-         nodes_use.used v.ctype (ex.Captured word.Dollar (ticks.place s.ticks)) (nodes_use.captured word.Dollar (ticks.place s.ticks)) (h r a).captured.type))
+      (λ r a f. (
+        captured_word r.tick (ticks.place s.ticks) (f (is_word word.Dollar) refl),
+        nodes_use.used v.ctype (ex.Captured word.Dollar (ticks.place s.ticks)) (nodes_use.captured word.Dollar (ticks.place s.ticks)) (h r a).captured.type,
+      ))
 
   dollar_by_rule : (c : Checked Value) (x : Operand) (new : State) → ((r : Round) → Agrees many stage.Tick b ks s r → Unless (CapturedStands r.function) c) → ◌≡◌ {A = Checked (Operand × State)} (c >>>= (λ v. Ok (productions.dollar_by v s))) (Ok (x, new)) → Did many stage.Tick b ks s new (λ r. Good r.tick x)
   dollar_by_rule (Ok v) x new h e = given (productions.dollar_by v s) (dollar_by_did v h) e
@@ -152,14 +152,14 @@ dollar_node_keeps line o s new x e = rule_keeps (stages.dollar line (value_of o)
 pub dollar_goes : {many : ℕ} (line : ℕ) (p : Rule State Operand) → Goes many stage.Dollar (λ r o. Good r.function o) p → Goes many stage.Tick (λ r o. Good r.tick o) (p >>= productions.dollar_node line)
 dollar_goes {many} line p h = record {
   keeps = λ s new x e.
-    let w = ran p (productions.dollar_node line) s x new e in
-    keeps_more (keeps_dollar (h.keeps s w.state w.value w.first)) (dollar_node_keeps line w.value w.state new x w.next);
+      let w = ran p (productions.dollar_node line) s x new e in
+      keeps_more (keeps_dollar (h.keeps s w.state w.value w.first)) (dollar_node_keeps line w.value w.state new x w.next);
   does = λ b ks s new x known e.
-    let w = ran p (productions.dollar_node line) s x new e in
-    let k = h.keeps s w.state w.value w.first in
-    let d = did_dollar (λ r. Good r.function w.value) k (h.does b ks s w.state w.value (known_dollar known) w.first) in
-    did_join (λ r. Good r.function w.value) (λ r. Good r.tick x) (keeps_dollar k) (dollar_node_keeps line w.value w.state new x w.next) d
-    (dollar_node_did d.known line w.value x new d.stands w.next);
+      let w = ran p (productions.dollar_node line) s x new e in
+      let k = h.keeps s w.state w.value w.first in
+      let d = did_dollar (λ r. Good r.function w.value) k (h.does b ks s w.state w.value (known_dollar known) w.first) in
+      did_join (λ r. Good r.function w.value) (λ r. Good r.tick x) (keeps_dollar k) (dollar_node_keeps line w.value w.state new x w.next) d
+      (dollar_node_did d.known line w.value x new d.stands w.next);
 }
 
 -- ---- `&`
@@ -191,11 +191,11 @@ module _ {many : ℕ} {g : Stage} {b : Blocks} {ks : List (List CaptureKind)} {s
   address_by_did line t (place.Register i) x new e =
       answered (Names (place.Register i) t) (made (ex.Frame 0) (over layer.Pointer t), addressed i s)
       (plain_did_by (λ r. Names (place.Register i) t r (made (ex.Frame 0) (over layer.Pointer t))) (marked_plain g i s) known
-        (λ r a h k. (frame_stands r.function 0 a.is_function (le-leb 0 r.function.object (omega arith)) refl, nodes_use.used (over layer.Pointer t) (ex.Frame 0) (nodes_use.frame 0) (types_use.layer layer.Pointer t)))) e
+      (λ r a h k. (frame_stands r.function 0 a.is_function (le-leb 0 r.function.object (omega arith)) refl, nodes_use.used (over layer.Pointer t) (ex.Frame 0) (nodes_use.frame 0) (types_use.layer layer.Pointer t)))) e
   address_by_did line t (place.Memory v) x new e =
       answered (Names (place.Memory v) t) (made v (over layer.Pointer t), s)
       (plain_did_by (λ r. Names (place.Memory v) t r (made v (over layer.Pointer t))) (plain_refl g s) known
-        (λ r a h k. (h, nodes_use.used (over layer.Pointer t) v k.address (types_use.layer layer.Pointer t)))) e
+      (λ r a h k. (h, nodes_use.used (over layer.Pointer t) v k.address (types_use.layer layer.Pointer t)))) e
 
 address_by_keeps : (g : Stage) (line : ℕ) (t : CType) (p : Place) → IsKeeping g (productions.address_by line t p)
 address_by_keeps g line t (place.Value v) s new x e = cc
@@ -209,8 +209,8 @@ address_by_goes : {many : ℕ} (g : Stage) (line : ℕ) (o : Operand) → Goes m
 address_by_goes g line o = record {
   keeps = address_by_keeps g line o.ctype o.place;
   does = λ b ks s new x known e.
-    let d = address_by_did known line o.ctype o.place x new e in
-    record { more = d.more; known = d.known; back = d.back; ticks = d.ticks; captures = d.captures; stands = λ r a h. d.stands r a h.0 h.1 };
+      let d = address_by_did known line o.ctype o.place x new e in
+      record { more = d.more; known = d.known; back = d.back; ticks = d.ticks; captures = d.captures; stands = λ r a h. d.stands r a h.0 h.1 };
 }
 
 address_in_tick : {many : ℕ} (line : ℕ) (o : Operand) → Goes many stage.Tick (λ r x. Good r.tick o → Good r.tick x) (lift (places.address line o))

@@ -1,5 +1,5 @@
 -- What each kind of name is where it stands.
-use Rattle.std.proofs.Common.{◌≡◌, ℕ, ◌-◌, Bool, true, false, ◌&&◌, List, [], ◌∷◌, refl, sym, ap, subst, ◌∙◌, Option, Some, None, Ok}
+use Rattle.std.proofs.Common.{◌≡◌, ℕ, true, false, ◌&&◌, List, [], refl, sym, ap, ◌∙◌, Option, Some, None, Ok}
 use Rattle.std.specs.Prelude.{slice_get, nat_le}
 use Rattle.c_types.specs.declared.ctype.CType.{CType}
 use Rattle.c_types.specs.declared.names.Meaning.{Meaning}
@@ -7,19 +7,15 @@ use Rattle.c_types.specs.declared.names.MeaningKind.{MeaningKind}
 use Rattle.c_types.specs.declared.names.MeaningKind.TheVariants as kind
 use Rattle.c_types.specs.Scopes.{Name, find}
 use Rattle.c_shapes.specs.Shapes.{is_void, is_cspec, is_vspec}
-use Rattle.tick_tree.specs.Faults.{Checked}
 use Rattle.typed_tree.specs.declared.expression.CaptureKind.{CaptureKind}
 use Rattle.typed_tree.specs.declared.expression.Expr.TheVariants as ex
 use Rattle.c_nodes.specs.declared.operand.Operand.{Operand}
 use Rattle.c_nodes.specs.declared.operand.Place.TheVariants as place
 use Rattle.check_tables.specs.declared.frame.Home.{Home}
-use Rattle.check_tables.specs.declared.functions.Prototype.{Prototype}
-use Rattle.check_tables.specs.Functions.{number}
 use Rattle.check_state.specs.declared.state.Stage.{Stage}
 use Rattle.check_state.specs.declared.state.Stage.TheVariants as stage
 use Rattle.check_state.specs.declared.state.State.{State}
-use Rattle.check_state.specs.Names.{operand, place_by, home_by, in_function, under_dollar, variable, parameter, global, meant, named_by, named}
-use Rattle.accepted_trees.specs.Places.{Around, is_called}
+use Rattle.check_state.specs.Names.{operand, place_by, in_function, under_dollar, variable, parameter, global, meant, named_by, named}
 use Rattle.accepted_steps.specs.Kept.{KeepsStage, Keeps}
 use Rattle.accepted_steps.specs.Known.{Blocks, of_function, HasHome, IsVariable, IsParameter, IsFunction, is_number, IsObject, Means, Small, Known}
 use Rattle.accepted_steps.specs.Steps.{Round, at, Agrees, Did, Does}

@@ -1,11 +1,6 @@
 -- A name at each stage: where a function runs, in a tick, which captures what is of the function, and under `$`.
-use Rattle.std.proofs.Common.{◌≡◌, ℕ, ◌-◌, Bool, true, false, ◌&&◌, if◌then◌else◌, List, [], ◌∷◌, refl, sym, ap, subst, ◌∙◌, Option, Some, None, Ok}
-use Rattle.std.specs.Prelude.{slice_get, nat_le}
+use Rattle.std.proofs.Common.{◌≡◌, ℕ, ◌-◌, Bool, true, false, if◌then◌else◌, List, refl, ap, ◌∙◌, Option, Some, None, Ok}
 use Rattle.c_types.specs.declared.ctype.CType.{CType}
-use Rattle.c_types.specs.declared.names.Meaning.{Meaning}
-use Rattle.c_types.specs.declared.names.MeaningKind.{MeaningKind}
-use Rattle.c_types.specs.declared.names.MeaningKind.TheVariants as kind
-use Rattle.c_types.specs.Scopes.{Name, find}
 use Rattle.c_shapes.specs.Shapes.{is_void, is_cspec, is_vspec, inner}
 use Rattle.tick_tree.specs.Faults.{Checked}
 use Rattle.typed_tree.specs.declared.expression.CaptureKind.{CaptureKind}
@@ -15,27 +10,23 @@ use Rattle.typed_tree.specs.declared.expression.Expr.{Expr}
 use Rattle.typed_tree.specs.declared.expression.Expr.TheVariants as ex
 use Rattle.c_nodes.specs.declared.operand.Operand.{Operand}
 use Rattle.c_nodes.specs.declared.operand.Place.TheVariants as place
-use Rattle.c_nodes.specs.Operands.{effect, value_of, made}
+use Rattle.c_nodes.specs.Operands.{effect, made}
 use Rattle.check_tables.specs.declared.frame.Home.{Home}
-use Rattle.check_tables.specs.declared.functions.Prototype.{Prototype}
 use Rattle.check_tables.specs.Frames.{count}
 use Rattle.check_tables.specs.Ticks as ticks
-use Rattle.check_state.specs.declared.state.Stage.{Stage}
 use Rattle.check_state.specs.declared.state.Stage.TheVariants as stage
 use Rattle.check_state.specs.declared.state.State.{State}
-use Rattle.check_state.specs.Names.{operand, place_by, address_by, answer_of, home_by, splice, generated, outer_object, outer_variable, outer_global, in_tick, under_dollar, variable, parameter, global, meant, named_by, named}
-use Rattle.accepted_trees.specs.Places.{Part, part, Around, in_scope, is_called, captured, is_splice, is_variable, is_word}
+use Rattle.check_state.specs.Names.{operand, place_by, address_by, answer_of, home_by, splice, generated, outer_object, outer_variable, in_tick}
+use Rattle.accepted_trees.specs.Places.{Part, Around, captured, is_splice, is_variable, is_word}
 use Rattle.accepted_trees.proofs.Equations.{part_captured, part_splice}
 use Rattle.accepted_nodes.specs.Right.{Stands}
-use Rattle.accepted_nodes.proofs.Nodes.{and_true, const_stands}
-use Rattle.accepted_values.specs.Used.{Leaves}
-use Rattle.accepted_values.proofs.Broken.{first_true, second_true}
+use Rattle.accepted_nodes.proofs.Nodes.{const_stands}
 use Rattle.accepted_values.proofs.Nodes.{nodes_use}
-use Rattle.accepted_steps.specs.Known.{Blocks, has, of_function, of_tick, HasHome, IsVariable, IsParameter, IsFunction, is_number, IsObject, Means, Known}
-use Rattle.accepted_steps.specs.Steps.{Round, at, Agrees, Did, Does}
+use Rattle.accepted_steps.specs.Known.{Blocks, of_function, HasHome, IsVariable, IsParameter, IsObject, Known}
+use Rattle.accepted_steps.specs.Steps.{Round, Agrees, Did}
 use Rattle.accepted_steps.specs.Good.{Good}
-use Rattle.accepted_expressions.proofs.Captures.{same_kind_refl, Catches, Caught, FindsKind, catch_did, Gives, given, stays}
-use Rattle.accepted_expressions.proofs.Names.{known_name, HasRoom, home_good, home_address, address_left, room_of, effect_left}
+use Rattle.accepted_expressions.proofs.Captures.{same_kind_refl, Caught, catch_did, Gives, given, stays}
+use Rattle.accepted_expressions.proofs.Names.{home_good, home_address, address_left, room_of, effect_left}
 use Rattle.accepted_expressions.proofs.Nodes.{good_value}
 
 -- ---- captures
@@ -52,9 +43,10 @@ module _ {many : ℕ} {b : Blocks} {ks : List (List CaptureKind)} {s : State} (k
       catch_did {k = capture.Splice (answer_of (inner t))} {e = e} (λ r. Good r.tick (made (ex.Splice (answer_of (inner t)) (ticks.place s.ticks)) (inner t)))
       (record { tables = record { scopes = refl; result = refl; homes = refl; nodes = refl; object = refl; labels = refl; functions = refl; image = record { end = refl; globals = refl; at = refl } }; tick = record { inner = refl; ticks = refl }; captures = refl })
       known caught
-      (λ r a f.
-        (ap (λ (p : Part). p.stands r.tick) (part_splice (answer_of (inner t)) (ticks.place s.ticks)) ∙ f (is_splice (answer_of (inner t))) (same_kind_refl (capture.Splice (answer_of (inner t)))),
-         nodes_use.splice (inner t) (ticks.place s.ticks)))
+      (λ r a f. (
+        ap (λ (p : Part). p.stands r.tick) (part_splice (answer_of (inner t)) (ticks.place s.ticks)) ∙ f (is_splice (answer_of (inner t))) (same_kind_refl (capture.Splice (answer_of (inner t)))),
+        nodes_use.splice (inner t) (ticks.place s.ticks),
+      ))
 
   generated_did : (t : CType) (e : Expr) → is_void (inner t) ≡ false → ((r : Round) → Agrees many stage.Tick b ks s r → Caught e r) → Gives many stage.Tick b ks s (generated t e s)
   generated_did t e v caught =

@@ -1,6 +1,6 @@
 -- A name where it stands: what it means stands right there, and in a tick what it captures does.
-use Rattle.std.proofs.Common.{◌≡◌, ℕ, ◌-◌, ◌%◌, ◌==◌, ◌≤◌, Bool, true, false, ◌&&◌, if◌then◌else◌, List, [], ◌∷◌, ◌++◌, refl, sym, ap, subst, ◌∙◌, arith, Option, Some, None, Ok}
-use Rattle.std.specs.Prelude.{slice_get, nat_le}
+use Rattle.std.proofs.Common.{◌≡◌, ℕ, ◌%◌, ◌==◌, Bool, true, false, ◌&&◌, if◌then◌else◌, List, [], ◌∷◌, refl, ap, subst, ◌∙◌, arith, Option, Some, None}
+use Rattle.std.specs.Prelude.{nat_le}
 use Rattle.std.specs.Option.{option_or}
 use Rattle.std.specs.Str.{bytes_eq}
 use Rattle.std.proofs.lemmas.Bool.{leb-true, le-leb}
@@ -9,41 +9,29 @@ use Rattle.c_types.specs.declared.names.Meaning.{Meaning}
 use Rattle.c_types.specs.declared.names.MeaningKind.{MeaningKind}
 use Rattle.c_types.specs.declared.names.MeaningKind.TheVariants as kind
 use Rattle.c_types.specs.Scopes.{Name, Scope, Scopes, find, in_scope as said}
-use Rattle.c_shapes.specs.Shapes.{is_void, is_cspec, is_vspec, inner}
-use Rattle.tick_tree.specs.Faults.{Checked}
+use Rattle.c_shapes.specs.Shapes.{is_void}
 use Rattle.typed_tree.specs.declared.expression.CaptureKind.{CaptureKind}
-use Rattle.typed_tree.specs.declared.expression.CaptureKind.TheVariants as capture
-use Rattle.typed_tree.specs.declared.expression.CapturedWord.TheVariants as word
-use Rattle.typed_tree.specs.declared.expression.Expr.{Expr}
 use Rattle.typed_tree.specs.declared.expression.Expr.TheVariants as ex
 use Rattle.c_nodes.specs.declared.operand.Operand.{Operand}
-use Rattle.c_nodes.specs.declared.operand.Place.TheVariants as place
-use Rattle.c_nodes.specs.Operands.{effect, value_of, made}
+use Rattle.c_nodes.specs.Operands.{effect, value_of}
 use Rattle.check_tables.specs.declared.frame.Home.{Home}
 use Rattle.check_tables.specs.declared.frame.Home.TheVariants as home
 use Rattle.check_tables.specs.declared.functions.Functions.{Functions}
-use Rattle.check_tables.specs.declared.functions.Prototype.{Prototype}
-use Rattle.check_tables.specs.Functions.{number}
-use Rattle.check_tables.specs.Frames.{count}
-use Rattle.check_tables.specs.Ticks as ticks
 use Rattle.check_state.specs.declared.state.Stage.{Stage}
-use Rattle.check_state.specs.declared.state.Stage.TheVariants as stage
 use Rattle.check_state.specs.declared.state.State.{State}
-use Rattle.check_state.specs.Names.{operand, place_by, address_by, answer_of, home_by, splice, generated, outer_object, outer_variable, outer_global, in_tick, under_dollar, variable, parameter, global, meant, named_by, named}
-use Rattle.accepted_trees.specs.Places.{Part, part, Around, in_scope, in_function, is_frame, is_called, is_splice, is_variable, is_word}
-use Rattle.accepted_trees.proofs.Equations.{part_frame, part_captured, part_splice}
+use Rattle.check_state.specs.Names.{operand, place_by, address_by}
+use Rattle.accepted_trees.specs.Places.{Part, Around, in_scope, in_function}
+use Rattle.accepted_trees.proofs.Equations.{part_frame}
 use Rattle.accepted_nodes.specs.Right.{Stands}
-use Rattle.accepted_nodes.proofs.Nodes.{and_true, const_stands}
+use Rattle.accepted_nodes.proofs.Nodes.{and_true}
 use Rattle.accepted_values.specs.Used.{Leaves}
 use Rattle.accepted_values.proofs.Broken.{first_true, second_true}
 use Rattle.accepted_values.proofs.Nodes.{nodes_use}
 use Rattle.accepted_values.proofs.Declared.{types_use}
-use Rattle.accepted_steps.specs.Kept.{Keeps}
-use Rattle.accepted_steps.specs.Known.{Blocks, has, of_function, of_tick, HasHome, IsVariable, IsParameter, IsFunction, is_number, IsObject, Means, EachEntry, EachScope, Known}
-use Rattle.accepted_steps.specs.Steps.{Round, at, Agrees, Did, Does}
+use Rattle.accepted_steps.specs.Known.{Blocks, has, of_function, HasHome, IsFunction, IsObject, Means, EachEntry, EachScope}
+use Rattle.accepted_steps.specs.Steps.{Round, Agrees}
 use Rattle.accepted_steps.specs.Good.{Good}
 use Rattle.accepted_types.proofs.Knowing.{each_scope}
-use Rattle.accepted_expressions.proofs.Captures.{same_kind_refl, Catches, Caught, FindsKind, catch_did, Gives, given, stays}
 use Rattle.accepted_expressions.proofs.Nodes.{good_value}
 
 -- ---- what is known of each name is known of the one that is found
@@ -103,9 +91,10 @@ pub record HasRoom (a : Around) (ns : List ℕ) (size : ℕ) : Type 0 where
 
 pub home_good : (a : Around) (visible : List ℕ) (object n : ℕ) (h : Home) (t : CType) → HasRoom a visible object → HasHome visible object n h → IsObject t → Good a (operand (place_by n h) t)
 home_good a visible object n home.Register t room h k = (room.visible n h, k.type)
-home_good a visible object n (home.Object off) t room h k =
-    (frame_stands a off room.function (below off object a.object (first_true (nat_le off object) (off % 4 == 0) h) room.object) (second_true (nat_le off object) (off % 4 == 0) h),
-     record { address = nodes_use.frame off; type = k.type })
+home_good a visible object n (home.Object off) t room h k = (
+  frame_stands a off room.function (below off object a.object (first_true (nat_le off object) (off % 4 == 0) h) room.object) (second_true (nat_le off object) (off % 4 == 0) h),
+  record { address = nodes_use.frame off; type = k.type },
+)
 
 -- the address that a tick captures
 pub home_address : (a : Around) (visible : List ℕ) (object n : ℕ) (h : Home) → HasRoom a visible object → HasHome visible object n h → Stands a (address_by h)

@@ -1,6 +1,6 @@
 -- Each production's own rule makes of operands that stand right one that stands right. Here the laws on where nodes stand and on
 -- the values that they use come together.
-use Rattle.std.proofs.Common.{◌≡◌, ℕ, Bool, true, false, ◌&&◌, if◌then◌else◌, List, [], ◌∷◌, ◌++◌, Ok, Err}
+use Rattle.std.proofs.Common.{◌≡◌, ℕ, Bool, true, false, ◌&&◌, if◌then◌else◌, Ok, Err}
 use Rattle.icode_ops.specs.declared.kind.UnKind.TheVariants as un
 use Rattle.c_types.specs.declared.ctype.CType.{CType}
 use Rattle.tick_tree.specs.declared.base.BinaryOp.{BinaryOp}

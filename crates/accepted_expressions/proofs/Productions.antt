@@ -1,33 +1,25 @@
 -- The walk over each node, of good parts, makes an operand that stands right.
-use Rattle.std.proofs.Common.{◌≡◌, ℕ, ◌+◌, ◌≤◌, true, List, [], ◌∷◌, ◌++◌, length, refl, sym, ap, subst, ◌∙◌, Option, Some, None, Ok, Err}
-use Rattle.c_types.specs.declared.ctype.CType.{CType}
+use Rattle.std.proofs.Common.{◌≡◌, ℕ, true}
 use Rattle.tick_tree.specs.declared.base.StepOp.{StepOp}
 use Rattle.tick_tree.specs.declared.base.StepOp.TheVariants as step_op
 use Rattle.tick_tree.specs.declared.base.UnaryOp.{UnaryOp}
 use Rattle.tick_tree.specs.declared.base.UnaryOp.TheVariants as unary_op
 use Rattle.tick_tree.specs.Faults.{Checked}
-use Rattle.tick_tree.specs.declared.syntax.Core.TheOpen.{Expr-F}
 use Rattle.c_nodes.specs.declared.operand.Operand.{Operand}
 use Rattle.c_nodes.specs.Operands as nodes
 use Rattle.c_nodes.specs.Stages as stages
-use Rattle.c_places.specs.declared.calls.Arguments.{Arguments}
-use Rattle.c_places.specs.Calls as calls
-use Rattle.check_tables.specs.Walks.{Rule, ◌>>=◌, pure, lift}
+use Rattle.check_tables.specs.Walks.{◌>>=◌, pure, lift}
 use Rattle.check_state.specs.declared.state.Stage.{Stage}
 use Rattle.check_state.specs.declared.state.Stage.TheVariants as stage
-use Rattle.check_state.specs.declared.state.State.{State}
 use Rattle.check_expressions.specs.Productions as productions
-use Rattle.check_expressions.specs.Rules.{Node, Named, Shape, Item, both, arguments, library_call, plain_call, compile, local, parameter, unary, cast, choice, index, post, size, binary, assign, modify, comma}
+use Rattle.check_expressions.specs.Rules.{Node, Named, both, compile, local, parameter, unary, cast, choice, post, size, comma}
 use Rattle.accepted_trees.specs.Places.{in_function}
 use Rattle.accepted_nodes.specs.Right.{Unless}
-use Rattle.accepted_values.specs.Used.{IsLibrary}
-use Rattle.accepted_steps.specs.Kept.{IsKeeping}
 use Rattle.accepted_steps.specs.Steps.{Round, at}
 use Rattle.accepted_steps.specs.Good.{Good, GoodNode, GoodNamed}
-use Rattle.accepted_types.specs.Parts.{EachPart}
 use Rattle.accepted_types.proofs.Plain.{plain_keeps, plain_did}
 use Rattle.accepted_expressions.proofs.Steps.{Goes, implies, then, answers, decides, refuses, by_premise}
-use Rattle.accepted_expressions.proofs.Nodes.{good_size, good_binary, good_index, good_assign, good_modify, good_comma, good_choice, good_cast, good_post, good_step, good_star, good_compile, good_local, good_parameter, good_signed, ArgumentsStand, good_none, good_argument, good_library, good_call}
+use Rattle.accepted_expressions.proofs.Nodes.{good_size, good_comma, good_choice, good_cast, good_post, good_step, good_star, good_compile, good_local, good_parameter, good_signed}
 use Rattle.accepted_expressions.proofs.Dollar.{dollar_goes, address_goes}
 
 -- an operand stands right at its stage
@@ -76,8 +68,8 @@ choice_goes line c a b g l h k =
     then (Right g) (Right g) (c.walk g) (λ x. both a b g >>= (λ p. lift (productions.choice_node line x p.0 p.1))) (part c g l)
     (λ x. then (Both g) (λ r o. Right g r x → Right g r o) (both a b g) (λ p. lift (productions.choice_node line x p.0 p.1)) (both_go a b g h k)
     (λ p. decides (λ r o. Both g r p → Right g r x → Right g r o) (productions.choice_node line x p.0 p.1)
-      (λ r i. by_premise (Both g r p) (λ o. Right g r x → Right g r o) (productions.choice_node line x p.0 p.1)
-        (λ q. by_premise (Right g r x) (Right g r) (productions.choice_node line x p.0 p.1) (λ w. good_choice (at g r) line x p.0 p.1 w q.0 q.1)))))
+    (λ r i. by_premise (Both g r p) (λ o. Right g r x → Right g r o) (productions.choice_node line x p.0 p.1)
+    (λ q. by_premise (Right g r x) (Right g r) (productions.choice_node line x p.0 p.1) (λ w. good_choice (at g r) line x p.0 p.1 w q.0 q.1)))))
 
 -- ---- one part
 
@@ -129,7 +121,7 @@ compile_goes line a t stage.Function h k =
     then (Right stage.Function) (Right stage.Function) (a.walk stage.Function) (λ o. t.walk line stage.Function >>= (λ ty. lift (productions.compile_node line ty o))) (part a stage.Function h)
     (λ o. then Any (λ r x. Right stage.Function r o → Right stage.Function r x) (t.walk line stage.Function) (λ ty. lift (productions.compile_node line ty o)) (named_part t line stage.Function k)
     (λ ty. implies (λ r x. Right stage.Function r o → Right stage.Function r x) (λ r x. Unit {0} → Right stage.Function r o → Right stage.Function r x) (lift (productions.compile_node line ty o))
-      (rule (λ r. Right stage.Function r o) (productions.compile_node line ty o) (λ r i q. good_compile r.function line ty o i q)) (λ r x q u. q)))
+    (rule (λ r. Right stage.Function r o) (productions.compile_node line ty o) (λ r i q. good_compile r.function line ty o i q)) (λ r x q u. q)))
 compile_goes line a t stage.Tick h k = refuses (Right stage.Tick) _
 compile_goes line a t stage.Dollar h k = refuses (Right stage.Dollar) _
 
@@ -144,7 +136,7 @@ pub parameter_goes : {many : ℕ} (line : ℕ) (t : Named) (a : Node) (g : Stage
 parameter_goes line t a stage.Function k h =
     then Any (Right stage.Function) (t.walk line stage.Function) (λ ty. a.walk stage.Function >>= (λ o. lift (productions.parameter_node line ty o))) (named_part t line stage.Function k)
     (λ ty. implies (Right stage.Function) (λ r x. Unit {0} → Right stage.Function r x) (a.walk stage.Function >>= (λ o. lift (productions.parameter_node line ty o)))
-      (then (Right stage.Function) (Right stage.Function) (a.walk stage.Function) (λ o. lift (productions.parameter_node line ty o)) (part a stage.Function h)
-        (λ o. rule (λ r. Right stage.Function r o) (productions.parameter_node line ty o) (λ r i q. good_parameter r.function line ty o i q))) (λ r x q u. q))
+    (then (Right stage.Function) (Right stage.Function) (a.walk stage.Function) (λ o. lift (productions.parameter_node line ty o)) (part a stage.Function h)
+    (λ o. rule (λ r. Right stage.Function r o) (productions.parameter_node line ty o) (λ r i q. good_parameter r.function line ty o i q))) (λ r x q u. q))
 parameter_goes line t a stage.Tick k h = refuses (Right stage.Tick) _
 parameter_goes line t a stage.Dollar k h = refuses (Right stage.Dollar) _

@@ -1,5 +1,5 @@
 -- Steps of the walk one after the other: what each did comes together.
-use Rattle.std.proofs.Common.{◌≡◌, ℕ, true, false, List, [], ◌∷◌, ◌++◌, length, refl, sym, ap, subst, ◌∙◌, append_assoc, Ok, Err}
+use Rattle.std.proofs.Common.{◌≡◌, ℕ, true, List, [], ◌∷◌, ◌++◌, sym, subst, append_assoc, Ok, Err}
 use Rattle.typed_tree.specs.declared.expression.CaptureKind.{CaptureKind}
 use Rattle.typed_tree.specs.declared.program.Tick.{Tick}
 use Rattle.tick_tree.specs.Faults.{Checked}
@@ -10,13 +10,13 @@ use Rattle.check_state.specs.declared.state.State.{State}
 use Rattle.check_tables.specs.Walks.{Rule, ◌>>=◌, pure, lift}
 use Rattle.accepted_trees.specs.Places.{Around, in_function}
 use Rattle.accepted_nodes.specs.Right.{Unless}
-use Rattle.accepted_steps.specs.Kept.{Starts, KeepsStage, Keeps, IsKeeping}
+use Rattle.accepted_steps.specs.Kept.{KeepsStage, Keeps, IsKeeping}
 use Rattle.accepted_steps.specs.Known.{Blocks, Known}
 use Rattle.accepted_steps.specs.Steps.{Round, Agrees, EachTick, EachCapture, CapturesStand, Did, Does}
 use Rattle.accepted_steps.specs.Good.{Plain}
 use Rattle.accepted_types.proofs.Fronts.{starts_more, same_rest}
 use Rattle.accepted_types.proofs.Walks.{ran, pure_same, pure_value, lifted}
-use Rattle.accepted_types.proofs.Keeps.{keeps_more, pure_keeps, lift_keeps, bind_keeps}
+use Rattle.accepted_types.proofs.Keeps.{pure_keeps, lift_keeps, bind_keeps}
 use Rattle.accepted_types.proofs.Knowing.{keeps_ticks}
 use Rattle.accepted_types.proofs.Plain.{each_capture, plain_same, plain_did_by}
 
@@ -46,8 +46,8 @@ did_join {many} {g} {b} {ks} {s} {t} {new} P Q h k d e =
       known = subst (λ l. Known many g b l new) joined e.known;
       back = λ r a. d.back r (e.back r (back r a));
       ticks = λ r a made.
-        subst (λ ts. EachTick r.function ts (d.more ++ e.more)) (same_rest (starts_more first next) made)
-        (each_tick r.function first.rest next.rest d.more e.more (d.ticks r (e.back r (back r a)) first) (e.ticks r (back r a) next));
+          subst (λ ts. EachTick r.function ts (d.more ++ e.more)) (same_rest (starts_more first next) made)
+          (each_tick r.function first.rest next.rest d.more e.more (d.ticks r (e.back r (back r a)) first) (e.ticks r (back r a) next));
       captures = λ r a. captures_more g s t new r h.at k.at (d.captures r (e.back r (back r a))) (e.captures r (back r a));
       stands = λ r a. e.stands r (back r a);
     }
@@ -68,10 +68,10 @@ pub then : {A B : Type 0} {many : ℕ} {g : Stage} (P : Round → A → Type 0) 
 then {g = g} P Q p f h k = record {
   keeps = bind_keeps g p f h.keeps (λ x. (k x).keeps);
   does = λ b ks s new y known e.
-    let w = ran p f s y new e in
-    let d = h.does b ks s w.state w.value known w.first in
-    did_more (λ r. P r w.value) (λ r. Q r y) (h.keeps s w.state w.value w.first) ((k w.value).keeps w.state new y w.next) d
-    ((k w.value).does b (ks ++ d.more) w.state new y d.known w.next);
+      let w = ran p f s y new e in
+      let d = h.does b ks s w.state w.value known w.first in
+      did_more (λ r. P r w.value) (λ r. Q r y) (h.keeps s w.state w.value w.first) ((k w.value).keeps w.state new y w.next) d
+      ((k w.value).does b (ks ++ d.more) w.state new y d.known w.next);
 }
 
 -- what is asked of the answers may be less
@@ -79,8 +79,8 @@ pub implies : {A : Type 0} {many : ℕ} {g : Stage} (P Q : Round → A → Type 
 implies P Q step h k = record {
   keeps = h.keeps;
   does = λ b ks s new x known e.
-    let d = h.does b ks s new x known e in
-    record { more = d.more; known = d.known; back = d.back; ticks = d.ticks; captures = d.captures; stands = λ r a. k r x (d.stands r a) };
+      let d = h.does b ks s new x known e in
+      record { more = d.more; known = d.known; back = d.back; ticks = d.ticks; captures = d.captures; stands = λ r a. k r x (d.stands r a) };
 }
 
 -- a rule that is plain, and whose answers stand right

@@ -1,7 +1,7 @@
 -- A tick, which makes a specification: its body stands right where its captures are those that it made, and these stand right where
 -- the specification is made.
-use Rattle.std.proofs.Common.{◌≡◌, ℕ, ◌+◌, ◌≤◌, Bool, true, false, ◌&&◌, List, [], ◌∷◌, ◌++◌, length, map, refl, sym, ap, subst, ◌∙◌, append_assoc, append-nil, length-append, arith, Option, Some, None}
-use Rattle.std.specs.Prelude.{slice_get, nat_le}
+use Rattle.std.proofs.Common.{◌≡◌, ℕ, ◌+◌, ◌≤◌, true, false, ◌&&◌, List, [], ◌∷◌, ◌++◌, length, map, refl, sym, ap, subst, ◌∙◌, append_assoc, append-nil, length-append, arith, Option, Some, None}
+use Rattle.std.specs.Prelude.{slice_get}
 use Rattle.std.specs.List.{list_all}
 use Rattle.c_types.specs.declared.ctype.CType.{CType}
 use Rattle.c_types.specs.declared.names.Meaning.{Meaning}
@@ -14,7 +14,6 @@ use Rattle.typed_tree.specs.declared.expression.Expr.{Expr, roll-Expr}
 use Rattle.typed_tree.specs.declared.expression.Expr.TheOpen.{Expr-F}
 use Rattle.typed_tree.specs.declared.expression.Expr.TheFolds.{fold-roll-Expr, ind-Expr, map-Expr}
 use Rattle.typed_tree.specs.declared.expression.Expr.TheVariants as ex
-use Rattle.typed_tree.specs.declared.program.Tick.{Tick}
 use Rattle.typed_tree.specs.declared.program.TickBody.{TickBody}
 use Rattle.c_nodes.specs.Operands.{made}
 use Rattle.check_tables.specs.declared.frame.Home.{Home}
@@ -24,15 +23,15 @@ use Rattle.check_state.specs.declared.state.Stage.TheVariants as stage
 use Rattle.check_state.specs.declared.state.State.{State}
 use Rattle.check_expressions.specs.Productions.{tick_entered}
 use Rattle.accepted_trees.specs.Accepted.{IsNumbered}
-use Rattle.accepted_trees.specs.Places.{Part, part, expr_rule, Around, in_function, in_scope, kinds_of, kinds_at, same_kinds, is_tick, stands_as_tick}
+use Rattle.accepted_trees.specs.Places.{Part, part, expr_rule, Around, in_function, kinds_of, kinds_at, stands_as_tick}
 use Rattle.accepted_trees.specs.Values.{body_uses_values}
 use Rattle.accepted_trees.proofs.Equations.{part_tick}
 use Rattle.accepted_nodes.specs.Right.{Stands}
 use Rattle.accepted_nodes.proofs.Nodes.{and_true}
-use Rattle.accepted_values.specs.Used.{Leaves, EachLeaves}
+use Rattle.accepted_values.specs.Used.{EachLeaves}
 use Rattle.accepted_values.proofs.Nodes.{nodes_use}
 use Rattle.accepted_steps.specs.Kept.{Starts, KeepsTables, Keeps}
-use Rattle.accepted_steps.specs.Known.{Blocks, numbers, has, IsVariable, IsParameter, Means, Small, SmallInner, Knows, Known}
+use Rattle.accepted_steps.specs.Known.{Blocks, numbers, has, IsVariable, IsParameter, Means, Small, Known}
 use Rattle.accepted_steps.specs.Steps.{Round, Agrees, first_kind, one_kind, kinds, round_tick, TickStands, EachTick, EachCapture, Did}
 use Rattle.accepted_steps.specs.Good.{Good}
 use Rattle.accepted_types.proofs.Fronts.{starts_refl, starts_front, same_rest}
@@ -201,7 +200,8 @@ module _ {many : ℕ} {b : Blocks} {ks : List (List CaptureKind)} {s t : State} 
     ticks = λ r a made. subst (λ ts. EachTick r.function ts (kinds t.ticks.captures ∷ [])) (same_rest (starts_left body s t k.ticks) made) (body_stands r a, tt);
     captures = λ r a. tt;
     stands = λ r a.
-      let es = made_captures r a in
-      (node_stands r.function (count t.ticks.all) t.ticks.captures a.is_function es (its_kinds r a),
-       nodes_use.used ty (ex.Tick (count t.ticks.all) t.ticks.captures) (nodes_use.tick (count t.ticks.all) t.ticks.captures (all_left r.function t.ticks.captures es)) v);
+        let es = made_captures r a in (
+          node_stands r.function (count t.ticks.all) t.ticks.captures a.is_function es (its_kinds r a),
+          nodes_use.used ty (ex.Tick (count t.ticks.all) t.ticks.captures) (nodes_use.tick (count t.ticks.all) t.ticks.captures (all_left r.function t.ticks.captures es)) v,
+        );
   }

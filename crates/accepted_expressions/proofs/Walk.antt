@@ -1,9 +1,6 @@
 -- The walk over an expression, of good parts.
-use Rattle.std.proofs.Common.{◌≡◌, ℕ, List, [], ◌∷◌, refl, sym, subst, Option, Ok}
-use Rattle.tick_tree.specs.Faults.{Checked}
+use Rattle.std.proofs.Common.{ℕ, List, refl, sym, subst, Option, Ok}
 use Rattle.tick_tree.specs.declared.syntax.Core.TheOpen.{Expr-F}
-use Rattle.typed_tree.specs.declared.expression.CaptureKind.{CaptureKind}
-use Rattle.c_nodes.specs.declared.operand.Operand.{Operand}
 use Rattle.c_nodes.specs.Operands as nodes
 use Rattle.check_state.specs.declared.state.Stage.{Stage}
 use Rattle.check_state.specs.declared.state.Stage.TheVariants as stage
@@ -11,7 +8,7 @@ use Rattle.check_state.specs.declared.state.State.{State}
 use Rattle.check_tables.specs.Images as images
 use Rattle.check_expressions.specs.Productions as productions
 use Rattle.check_expressions.specs.Rules.{Node, Named, Shape, Item, walk_rule}
-use Rattle.accepted_steps.specs.Steps.{Round, at, EachCapture, Does}
+use Rattle.accepted_steps.specs.Steps.{at, EachCapture, Does}
 use Rattle.accepted_steps.specs.Good.{Good, PlainStage, Plain}
 use Rattle.accepted_types.specs.Parts.{GoodParts}
 use Rattle.accepted_types.proofs.Fronts.{no_rest, starts_refl}
