@@ -180,7 +180,7 @@ module _ {many : ℕ} {b : Blocks} {ks : List (List CaptureKind)} {s t : State} 
   body_stands : (r : Round) → Agrees many stage.Function b (ks ++ kinds t.ticks.captures ∷ []) (left body t) r → TickStands r.function (ticks.tick_of body) (kinds t.ticks.captures)
   body_stands r a =
       let x = here r (d.stands (inside r t.ticks.captures) (agrees_inside r a)) in
-      record { stands = x.stands; values = x.values; numbers = numbered (small_inside s t body k a.small) }
+      record { stands = x.stands; values = x.values; numbers = numbered (small_inside s t body k a.small); size = refl }
 
   its_kinds : (r : Round) → Agrees many stage.Function b (ks ++ kinds t.ticks.captures ∷ []) (left body t) r → slice_get r.function.ticks (count t.ticks.all) ≡ Some (kinds t.ticks.captures)
   its_kinds r a =

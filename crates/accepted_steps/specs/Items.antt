@@ -55,7 +55,7 @@ StandsAs false r x = x.stands r ≡ true
 
 -- a node that a statement answers
 abbrev pub ItemStands : Standing → Around → Stmt → Type 0
-ItemStands a r x = StandsAs a.is_direct r (act x)
+ItemStands a r x = StandsAs a.is_direct r (act x) × (uses_values x ≡ true)
 
 abbrev pub ItemsStand : Standing → Around → List Stmt → Type 0
 ItemsStand a r xs = EachNode (ItemStands a r) xs
@@ -83,10 +83,13 @@ abbrev pub Declares : ℕ → Stmt → Type 0
 Declares object x = (r : Around) → in_function r ≡ true → nat_le object r.object ≡ true → (act x).declares r ≡ true
 
 -- in a tick it stands anywhere
+abbrev pub DeclaresIn : Stage → ℕ → Stmt → Type 0
+DeclaresIn stage.Function object x = Declares object x
+DeclaresIn stage.Tick object x = (r : Around) → (act x).declares r ≡ true
+DeclaresIn stage.Dollar object x = (r : Around) → (act x).declares r ≡ true
+
 abbrev pub DeclaresAt : Stage → ℕ → Stmt → Type 0
-DeclaresAt stage.Function object x = Declares object x
-DeclaresAt stage.Tick object x = (r : Around) → (act x).declares r ≡ true
-DeclaresAt stage.Dollar object x = (r : Around) → (act x).declares r ≡ true
+DeclaresAt g object x = DeclaresIn g object x × (uses_values x ≡ true)
 
 -- the nodes of the variables that were declared
 pub record Declared (g : Stage) (s new : State) : Type 0 where
