@@ -3,6 +3,7 @@ use Rattle.std.proofs.Common.{ℕ}
 use Rattle.tick_tree.specs.declared.syntax.Core.TheOpen.{Core-F, Expr-F, Initializer-F, OptionalExpr-F, Suffix-F}
 use Rattle.tick_checker.specs.Walk.{Core-W, Expr-W, Initializer-W, OptionalExpr-W, Suffix-W, Declarator-W, Declaration-W, Init-W, Parameter-W, Typename-W, core_rule, expr_rule, start_rule, optional_rule, suffix_walk, declarator_rule, declaration_rule, init_rule, parameter_rule, typename_rule}
 use Rattle.accepted_steps.specs.Good.{GoodNode, GoodShape, GoodSuffix, GoodParameter, GoodNamed}
+use Rattle.accepted_expressions.proofs.Walk.{walk_does}
 use Rattle.accepted_types.specs.Parts.{GoodOptional, GoodParts, GoodSuffixParts}
 use Rattle.accepted_types.proofs.Constants.{constant_plain}
 use Rattle.accepted_types.proofs.Productions.{walk_keeps}
@@ -43,7 +44,7 @@ good_expr many k e h f =
     let p = parts many k e h f.parts in
     record {
       keeps = walk_keeps many e p;
-      does = k.does e p;
+      does = walk_does many e p;
       string = λ is g s new o r. string_plain many e p (string_of e is) g s new o r;
       few = f.walk;
       constant = λ is g s new o r. constant_plain many e p (form_of e is) g s new o r;
