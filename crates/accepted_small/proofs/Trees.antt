@@ -1,4 +1,4 @@
--- The law on small trees: an induction over their parts, each of which is small.
+-- The law on small trees: an induction over their parts, each of which is small. Written by tools/checker/walks.py.
 use Rattle.std.proofs.Common.{◌≡◌, ℕ, ◌≤◌}
 use Rattle.tick_tree.specs.declared.syntax.Core.{roll-Core}
 use Rattle.tick_tree.specs.declared.syntax.Expr.{Expr, roll-Expr}
