@@ -13,6 +13,7 @@ use Rattle.check_state.specs.declared.state.Stage.TheVariants as stage
 use Rattle.check_state.specs.declared.state.State.{State}
 use Rattle.accepted_trees.specs.Places.{Around, in_scope, in_function, part, kinds_of, stands_as_tick}
 use Rattle.accepted_trees.specs.Values.{body_uses_values, is_used}
+use Rattle.accepted_trees.specs.Accepted.{IsNumbered}
 use Rattle.accepted_steps.specs.Kept.{Starts}
 use Rattle.accepted_steps.specs.Known.{Blocks, of_function, of_tick, has, is_number, Small, Known}
 
@@ -63,6 +64,7 @@ round_tick a ks = record { variables = []; object = 0; functions = a.functions; 
 pub record TickStands (a : Around) (t : Tick) (ks : List CaptureKind) : Type 0 where
   pub stands : stands_as_tick t.body (round_tick a ks) ≡ true
   pub values : body_uses_values t.body ≡ true
+  pub numbers : IsNumbered t.body
 
 abbrev pub EachTick : Around → List Tick → List (List CaptureKind) → Type 0
 EachTick a [] [] = Unit {0}
