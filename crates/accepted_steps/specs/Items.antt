@@ -67,13 +67,13 @@ DoesStand many a step =
 
 -- ---- labels
 
--- the labels that these nodes are, behind those so far
-pub record Labelled (a : Standing) (s new : State) (xs : List Stmt) : Type 0 where
+-- the labels that these nodes are, behind those so far; directly in the block of a switch, or not
+pub record Labelled (direct : Bool) (s new : State) (xs : List Stmt) : Type 0 where
   pub values : new.labels.values ≡ s.labels.values ++ values_of (map act xs)
   pub defaults : one_if new.labels.has_default ≡ one_if s.labels.has_default + defaults_of (map act xs)
   pub different : all_different s.labels.values ≡ true → all_different new.labels.values ≡ true
   -- elsewhere there are none
-  pub kept : a.is_direct ≡ false → new.labels ≡ s.labels
+  pub kept : direct ≡ false → new.labels ≡ s.labels
 
 -- ---- variables
 
@@ -98,8 +98,8 @@ pub record Declared (g : Stage) (s new : State) : Type 0 where
 abbrev pub IsCounting : Stage → Rule State (List Stmt) → Type 0
 IsCounting g step = (s new : State) (xs : List Stmt) → step s ≡ Ok (xs, new) → Small g new → Counts g s new xs
 
-abbrev pub IsLabelling : Standing → Rule State (List Stmt) → Type 0
-IsLabelling a step = (s new : State) (xs : List Stmt) → step s ≡ Ok (xs, new) → Labelled a s new xs
+abbrev pub IsLabelling : Bool → Rule State (List Stmt) → Type 0
+IsLabelling direct step = (s new : State) (xs : List Stmt) → step s ≡ Ok (xs, new) → Labelled direct s new xs
 
 abbrev pub IsDeclaring : Stage → Rule State (List Stmt) → Type 0
 IsDeclaring g step = (s new : State) (xs : List Stmt) → step s ≡ Ok (xs, new) → Small g new → (s.frame.object % 4 == 0) ≡ true → Declared g s new
@@ -108,7 +108,7 @@ IsDeclaring g step = (s new : State) (xs : List Stmt) → step s ≡ Ok (xs, new
 pub record GoodStatement (many : ℕ) (a : Standing) (step : Rule State (List Stmt)) : Type 0 where
   pub grows : IsGrowing a.stage step
   pub counts : IsCounting a.stage step
-  pub labels : IsLabelling a step
+  pub labels : IsLabelling a.is_direct step
   pub declares : IsDeclaring a.stage step
   pub does : DoesStand many a step
 

@@ -1,6 +1,6 @@
 -- What is known before a step that keeps it is known behind it, and who has room for what is known behind it had room before.
 use Rattle.std.proofs.Common.{◌≡◌, ℕ, ◌+◌, ◌-◌, ◌≤◌, Bool, true, if◌then◌else◌, List, [], ◌∷◌, ◌++◌, length, refl, sym, ap, subst, ◌∙◌, append_assoc, append-nil, length-append, arith, Option, Some, None}
-use Rattle.std.specs.Prelude.{nat_le, slice_get}
+use Rattle.std.specs.Prelude.{nat_le, slice_get, ◌%◌, ◌==◌}
 use Rattle.c_types.specs.declared.names.Meaning.{Meaning}
 use Rattle.c_types.specs.declared.names.MeaningKind.{MeaningKind}
 use Rattle.c_types.specs.declared.names.MeaningKind.TheVariants as kind
@@ -104,6 +104,7 @@ known_kept {many} {g} {b} {ks} {s} {new} more k each known small =
     record {
       names = names_kept many g b k.tables was.names;
       ticks = omega (arith, length-append ks more, length-append s.ticks.all made.rest, ap length made.is, was.ticks, e);
+      object = subst (λ o. (o % 4 == 0) ≡ true) (sym k.tables.object) was.object;
     }
 
 -- ---- surroundings

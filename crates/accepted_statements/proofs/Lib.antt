@@ -1,0 +1,5 @@
+pub mod Blocks
+pub mod Counting
+pub mod Growing
+pub mod Making
+pub mod Nodes
