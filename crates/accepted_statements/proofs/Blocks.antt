@@ -15,10 +15,10 @@ use Rattle.accepted_trees.specs.Counts.{objects_at, declarations_of}
 use Rattle.accepted_steps.specs.Kept.{Starts, outer, GrowsTables, GrowsFunction, GrowsTick, GrowsStage, Grows}
 use Rattle.accepted_steps.specs.Known.{Small, SmallTick, SmallInner}
 use Rattle.accepted_steps.specs.Counts.{objects_in, declarations_in, between, variables, Counts}
-use Rattle.accepted_steps.specs.Items.{Declared}
-use Rattle.accepted_types.proofs.Fronts.{starts_refl, starts_same}
+use Rattle.accepted_steps.specs.Items.{EachNode, DeclaresAt, Declared}
+use Rattle.accepted_types.proofs.Fronts.{starts_refl, no_rest}
 use Rattle.accepted_statements.proofs.Counting.{sum_one, objects_append, declarations_append, sizes_append, CountsAs}
-use Rattle.accepted_statements.proofs.Making.{Made, declared_none}
+use Rattle.accepted_statements.proofs.Making.{Made}
 
 -- ---- the states round a block
 
@@ -40,8 +40,8 @@ front ss = ap (λ n. take n (ss ++ [] ∷ [])) (count ss) ∙ take-append_seam s
     count ss = omega (arith, length-append ss ([] ∷ []))
 
 -- the scopes round a block stand again behind it
-pub scopes_back : {g : Stage} {s t : State} → Grows g (inside s) t → take (length s.scopes) t.scopes ≡ s.scopes
-scopes_back {g} {s} {t} p =
+pub scopes_back : (g : Stage) (s t : State) → Grows g (inside s) t → take (length s.scopes) t.scopes ≡ s.scopes
+scopes_back g s t p =
     let e : length t.scopes - 1 ≡ length s.scopes = omega (arith, p.tables.depth, length-append s.scopes ([] ∷ [])) in
     ap (λ n. take n t.scopes) (sym e) ∙ p.tables.scopes ∙ front s.scopes
 
@@ -50,11 +50,11 @@ stage_back stage.Function s t p = record { homes = p.homes; object = p.object; t
 stage_back stage.Tick s t p = record { homes = p.homes; object = p.object; inner = p.inner; ticks = p.ticks; captures = p.captures }
 stage_back stage.Dollar s t p = record { homes = p.homes; object = p.object; inner = p.inner; ticks = p.ticks; captures = p.captures }
 
-pub grows_back : {g : Stage} {s t : State} → Grows g (inside s) t → Grows g s (back s t)
-grows_back {g} {s} {t} p = record {
+pub grows_back : (g : Stage) (s t : State) → Grows g (inside s) t → Grows g s (back s t)
+grows_back g s t p = record {
   tables = record {
-    depth = ap length (scopes_back p);
-    scopes = ap outer (scopes_back p);
+    depth = ap length (scopes_back g s t p);
+    scopes = ap outer (scopes_back g s t p);
     result = p.tables.result;
     nodes = starts_refl s.frame.nodes;
     functions = p.tables.functions;
@@ -67,8 +67,8 @@ small_tick stage.Function s t x = tt
 small_tick stage.Tick s t x = record { inner = x.inner; captures = x.captures }
 small_tick stage.Dollar s t x = record { inner = x.inner; captures = x.captures }
 
-pub small_inside : {g : Stage} {s t : State} → Small g (back s t) → Small g t
-small_inside {g} {s} {t} x = record { homes = x.homes; object = x.object; ticks = x.ticks; tick = small_tick g s t x.tick }
+pub small_inside : (g : Stage) (s t : State) → Small g (back s t) → Small g t
+small_inside g s t x = record { homes = x.homes; object = x.object; ticks = x.ticks; tick = small_tick g s t x.tick }
 
 variables_inside : (g : Stage) (s : State) → variables g (inside s) ≡ variables g s
 variables_inside stage.Function s = refl
@@ -81,8 +81,8 @@ variables_back stage.Tick s t = refl
 variables_back stage.Dollar s t = refl
 
 -- a node that counts as the block's variables and items do
-pub counts_back : {g : Stage} {s t : State} {xs : List Stmt} (x : Stmt) → CountsAs x (t.frame.nodes ++ xs) → Counts g (inside s) t xs → Counts g s (back s t) (x ∷ [])
-counts_back {g} {s} {t} {xs} x k c = record {
+pub counts_back : (g : Stage) (s t : State) (xs : List Stmt) (x : Stmt) → CountsAs x (t.frame.nodes ++ xs) → Counts g (inside s) t xs → Counts g s (back s t) (x ∷ [])
+counts_back g s t xs x k c = record {
   objects = λ byte. omega (arith, sum_one (objects_at byte) x, k.objects byte, objects_append byte t.frame.nodes xs, c.objects byte);
   declarations = λ i.
     subst (λ m. declarations_in i s.frame.nodes + declarations_in i (x ∷ []) ≤ declarations_in i s.frame.nodes + between m (variables g (back s t)) i) (variables_inside g s)
@@ -91,9 +91,9 @@ counts_back {g} {s} {t} {xs} x k c = record {
   sizes = omega (arith, sum_one statement_size x, k.size, sizes_append t.frame.nodes xs, c.sizes, variables_inside g s, variables_back g s t);
 }
 
-pub made_back : {g : Stage} {s t : State} {xs : List Stmt} (x : Stmt) → CountsAs x (t.frame.nodes ++ xs) → Made g (inside s) t xs → Made g s (back s t) (x ∷ [])
-made_back {g} {s} {t} {xs} x k m = record {
-  grows = grows_back m.grows;
-  counts = λ small. counts_back x k (m.counts (small_inside small));
-  declares = λ small h. record { aligned = (m.declares (small_inside small) h).aligned; nodes = (declared_none {g = g} {s = s} {new = s} refl refl h).nodes };
+pub made_back : (g : Stage) (s t : State) (xs : List Stmt) (x : Stmt) → CountsAs x (t.frame.nodes ++ xs) → Made g (inside s) t xs → Made g s (back s t) (x ∷ [])
+made_back g s t xs x k m = record {
+  grows = grows_back g s t m.grows;
+  counts = λ small. counts_back g s t xs x k (m.counts (small_inside g s t small));
+  declares = λ small h. record { aligned = (m.declares (small_inside g s t small) h).aligned; nodes = λ more. subst (λ ys. EachNode (DeclaresAt g t.frame.object) ys) (sym (no_rest refl more)) tt };
 }

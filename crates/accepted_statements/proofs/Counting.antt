@@ -60,12 +60,18 @@ counts_none {g} {s} {new} {xs} n o v k = record {
   sizes = omega (arith, ap statements_size n, v);
 }
 
-pub counts_more : {g : Stage} {s t new : State} {xs ys : List Stmt} → Grows g s t → Grows g t new → Counts g s t xs → Counts g t new ys → Counts g s new (xs ++ ys)
-counts_more {g} {s} {t} {new} {xs} {ys} p q c d = record {
-  objects = λ byte. omega (arith, objects_append byte xs ys, c.objects byte, d.objects byte, between_more s.frame.object t.frame.object new.frame.object byte (object_grows g s t p.at) (object_grows g t new q.at));
-  declarations = λ i. omega (arith, declarations_append i xs ys, c.declarations i, d.declarations i, between_more (variables g s) (variables g t) (variables g new) i (variables_grow g s t p.at) (variables_grow g t new q.at));
-  sizes = omega (arith, sizes_append xs ys, c.sizes, d.sizes);
-}
+pub counts_more : {g : Stage} {s t new : State} {xs ys : List Stmt} → Grows g s t → Grows g t new → Small g new → Counts g s t xs → Counts g t new ys → Counts g s new (xs ++ ys)
+counts_more {g} {s} {t} {new} {xs} {ys} p q small c d =
+    let was = small_before q small in
+    let a = object_grows g s t p.at was.object in
+    let b = object_grows g t new q.at small.object in
+    let m = variables_grow g s t p.at was.tick in
+    let n = variables_grow g t new q.at small.tick in
+    record {
+      objects = λ byte. omega (arith, objects_append byte xs ys, c.objects byte, d.objects byte, between_more s.frame.object t.frame.object new.frame.object byte a b);
+      declarations = λ i. omega (arith, declarations_append i xs ys, c.declarations i, d.declarations i, between_more (variables g s) (variables g t) (variables g new) i m n);
+      sizes = omega (arith, sizes_append xs ys, c.sizes, d.sizes);
+    }
 
 -- a node that counts as much as these
 pub record CountsAs (x : Stmt) (xs : List Stmt) : Type 0 where

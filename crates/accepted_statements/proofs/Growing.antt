@@ -8,6 +8,9 @@ use Rattle.accepted_steps.specs.Known.{Small, SmallTick, SmallInner}
 use Rattle.accepted_steps.specs.Counts.{variables}
 use Rattle.accepted_types.proofs.Fronts.{starts_refl, starts_same, starts_more, starts_length}
 
+chain : (l m n k : ℕ) → (m ≤ k → l ≤ m) → (n ≤ k → m ≤ n) → n ≤ k → l ≤ n
+chain l m n k p q h = let b : m ≤ n = q h in let a : l ≤ m = p (omega (arith, b, h)) in omega (arith, a, b)
+
 tables_more : {s t new : State} → GrowsTables s t → GrowsTables t new → GrowsTables s new
 tables_more p q = record {
   depth = q.depth ∙ p.depth;
@@ -20,7 +23,7 @@ tables_more p q = record {
 function_more : {s t new : State} → GrowsFunction s t → GrowsFunction t new → GrowsFunction s new
 function_more {s} {t} {new} p q = record {
   homes = starts_more p.homes q.homes;
-  object = omega (arith, p.object, q.object);
+  object = λ h. chain s.frame.object t.frame.object new.frame.object 4194304 p.object q.object h;
   ticks = starts_more p.ticks q.ticks;
 }
 
@@ -28,7 +31,7 @@ tick_more : {s t new : State} → GrowsTick s t → GrowsTick t new → GrowsTic
 tick_more {s} {t} {new} p q = record {
   homes = q.homes ∙ p.homes;
   object = q.object ∙ p.object;
-  inner = omega (arith, p.inner, q.inner);
+  inner = λ h. chain s.frame.inner t.frame.inner new.frame.inner 1000000000 p.inner q.inner h;
   ticks = q.ticks ∙ p.ticks;
   captures = starts_more p.captures q.captures;
 }
@@ -50,7 +53,7 @@ tick_grows : {s new : State} → KeepsTables s new → KeepsTick s new → Start
 tick_grows {s} {new} k t c = record {
   homes = k.homes;
   object = k.object;
-  inner = same_order s.frame.inner new.frame.inner t.inner;
+  inner = λ h. same_order s.frame.inner new.frame.inner t.inner;
   ticks = t.ticks;
   captures = c;
 }
@@ -58,7 +61,7 @@ tick_grows {s} {new} k t c = record {
 stage_grows : (g : Stage) (s new : State) → KeepsTables s new → KeepsStage g s new → GrowsStage g s new
 stage_grows stage.Function s new k h = record {
   homes = starts_same s.frame.homes new.frame.homes k.homes;
-  object = same_order s.frame.object new.frame.object k.object;
+  object = λ small. same_order s.frame.object new.frame.object k.object;
   ticks = h;
 }
 stage_grows stage.Tick s new k h = tick_grows k h.0 h.1
@@ -81,7 +84,7 @@ keeps_grows {g} {s} {new} k = record {
 inner_back : {s new : State} → GrowsTick s new → SmallInner new → SmallInner s
 inner_back {s} {new} k x =
     let l = starts_length k.captures in
-    record { inner = omega (arith, k.inner, x.inner); captures = omega (arith, l, x.captures) }
+    record { inner = let i : s.frame.inner ≤ new.frame.inner = k.inner x.inner in omega (arith, i, x.inner); captures = omega (arith, l, x.captures) }
 
 small_tick : (g : Stage) (s new : State) → GrowsStage g s new → SmallTick g new → SmallTick g s
 small_tick stage.Function s new k x = tt
@@ -93,25 +96,25 @@ homes_grow stage.Function s new k = k.homes
 homes_grow stage.Tick s new k = starts_same s.frame.homes new.frame.homes k.homes
 homes_grow stage.Dollar s new k = starts_same s.frame.homes new.frame.homes k.homes
 
-pub object_grows : (g : Stage) (s new : State) → GrowsStage g s new → s.frame.object ≤ new.frame.object
-object_grows stage.Function s new k = k.object
-object_grows stage.Tick s new k = same_order s.frame.object new.frame.object k.object
-object_grows stage.Dollar s new k = same_order s.frame.object new.frame.object k.object
+pub object_grows : (g : Stage) (s new : State) → GrowsStage g s new → new.frame.object ≤ 4194304 → s.frame.object ≤ new.frame.object
+object_grows stage.Function s new k h = k.object h
+object_grows stage.Tick s new k h = same_order s.frame.object new.frame.object k.object
+object_grows stage.Dollar s new k h = same_order s.frame.object new.frame.object k.object
 
 pub ticks_grow : (g : Stage) (s new : State) → GrowsStage g s new → Starts s.ticks.all new.ticks.all
 ticks_grow stage.Function s new k = k.ticks
 ticks_grow stage.Tick s new k = starts_same s.ticks.all new.ticks.all k.ticks
 ticks_grow stage.Dollar s new k = starts_same s.ticks.all new.ticks.all k.ticks
 
-pub variables_grow : (g : Stage) (s new : State) → GrowsStage g s new → variables g s ≤ variables g new
-variables_grow stage.Function s new k = starts_length k.homes
-variables_grow stage.Tick s new k = k.inner
-variables_grow stage.Dollar s new k = k.inner
+pub variables_grow : (g : Stage) (s new : State) → GrowsStage g s new → SmallTick g new → variables g s ≤ variables g new
+variables_grow stage.Function s new k h = starts_length k.homes
+variables_grow stage.Tick s new k h = k.inner h.inner
+variables_grow stage.Dollar s new k h = k.inner h.inner
 
 pub small_before : {g : Stage} {s new : State} → Grows g s new → Small g new → Small g s
 small_before {g} {s} {new} k x =
     let h = starts_length (homes_grow g s new k.at) in
-    let o = object_grows g s new k.at in
+    let o = object_grows g s new k.at x.object in
     let t = starts_length (ticks_grow g s new k.at) in
     record {
       homes = omega (arith, h, x.homes);

@@ -1,5 +1,6 @@
 pub mod Blocks
 pub mod Counting
 pub mod Growing
+pub mod Locals
 pub mod Making
 pub mod Nodes

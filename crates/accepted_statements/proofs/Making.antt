@@ -42,13 +42,13 @@ declared_none {g} {s} {new} n o h = record {
   nodes = λ more. subst (λ xs. EachNode (DeclaresAt g new.frame.object) xs) (sym (no_rest n more)) tt;
 }
 
-pub declared_more : {g : Stage} {s t new : State} → Grows g s t → Grows g t new → Declared g s t → Declared g t new → Declared g s new
-declared_more {g} {s} {t} {new} p q c d = record {
+pub declared_more : {g : Stage} {s t new : State} → Grows g s t → Grows g t new → new.frame.object ≤ 4194304 → Declared g s t → Declared g t new → Declared g s new
+declared_more {g} {s} {t} {new} p q small c d = record {
   aligned = d.aligned;
   nodes = λ more.
     subst (λ xs. EachNode (DeclaresAt g new.frame.object) xs) (same_rest (starts_more p.tables.nodes q.tables.nodes) more)
     (each_append (DeclaresAt g new.frame.object) p.tables.nodes.rest q.tables.nodes.rest
-      (each_weaken (DeclaresAt g t.frame.object) (DeclaresAt g new.frame.object) (declares_later g t.frame.object new.frame.object (object_grows g t new q.at)) p.tables.nodes.rest (c.nodes p.tables.nodes))
+      (each_weaken (DeclaresAt g t.frame.object) (DeclaresAt g new.frame.object) (declares_later g t.frame.object new.frame.object (object_grows g t new q.at small)) p.tables.nodes.rest (c.nodes p.tables.nodes))
       (d.nodes q.tables.nodes));
 }
 
@@ -77,8 +77,8 @@ made_kept {g} {s} {new} k = record {
 pub made_more : {g : Stage} {s t new : State} {xs ys : List Stmt} → Made g s t xs → Made g t new ys → Made g s new (xs ++ ys)
 made_more {g} {s} {t} {new} {xs} {ys} p q = record {
   grows = grows_more p.grows q.grows;
-  counts = λ small. counts_more p.grows q.grows (p.counts (small_before q.grows small)) (q.counts small);
-  declares = λ small h. let d = p.declares (small_before q.grows small) h in declared_more p.grows q.grows d (q.declares small d.aligned);
+  counts = λ small. counts_more p.grows q.grows small (p.counts (small_before q.grows small)) (q.counts small);
+  declares = λ small h. let d = p.declares (small_before q.grows small) h in declared_more p.grows q.grows small.object d (q.declares small d.aligned);
 }
 
 pub made_behind : {g : Stage} {s t new : State} {xs : List Stmt} → Keeps g s t → Made g t new xs → Made g s new xs

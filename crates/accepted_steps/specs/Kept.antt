@@ -59,16 +59,16 @@ pub record GrowsTables (s new : State) : Type 0 where
   pub nodes : Starts s.frame.nodes new.frame.nodes
   pub functions : new.functions ≡ s.functions
 
--- where the function runs, its variables grow; in a tick, the tick's
+-- where the function runs, its variables grow; in a tick, the tick's. A count that is cut says nothing
 pub record GrowsFunction (s new : State) : Type 0 where
   pub homes : Starts s.frame.homes new.frame.homes
-  pub object : s.frame.object ≤ new.frame.object
+  pub object : new.frame.object ≤ 4194304 → s.frame.object ≤ new.frame.object
   pub ticks : Starts s.ticks.all new.ticks.all
 
 pub record GrowsTick (s new : State) : Type 0 where
   pub homes : new.frame.homes ≡ s.frame.homes
   pub object : new.frame.object ≡ s.frame.object
-  pub inner : s.frame.inner ≤ new.frame.inner
+  pub inner : new.frame.inner ≤ 1000000000 → s.frame.inner ≤ new.frame.inner
   pub ticks : new.ticks.all ≡ s.ticks.all
   pub captures : Starts s.ticks.captures new.ticks.captures
 
