@@ -26,6 +26,7 @@ use Rattle.check_tables.specs.Walks.{Rule, ◌>>=◌}
 use Rattle.accepted_trees.specs.Counts.{one_if, objects_at, declarations_of}
 use Rattle.accepted_trees.specs.Places.{Around, act, in_function, is_object}
 use Rattle.accepted_trees.proofs.Equations.{act_variable, act_object, objects_at_variable, objects_at_object, declarations_of_variable, declarations_of_object}
+use Rattle.accepted_trees.proofs.Uses.{uses_values_variable, uses_values_object}
 use Rattle.accepted_steps.specs.Kept.{Starts, outer, GrowsTables, GrowsFunction, GrowsTick, Grows}
 use Rattle.accepted_steps.specs.Known.{Small}
 use Rattle.accepted_steps.specs.Counts.{objects_in, declarations_in, between, variables, Counts}
@@ -161,14 +162,14 @@ register_declares : (s : State) (ss : Scopes) → (s.frame.object % 4 == 0) ≡ 
 register_declares s ss h = record {
   aligned = h;
   nodes = node_behind (DeclaresAt stage.Function s.frame.object) s.frame.nodes (st.Variable (frames.number s.frame))
-    (λ r f o. ap (λ a. a.declares r) (act_variable (frames.number s.frame)));
+    (λ r f o. ap (λ a. a.declares r) (act_variable (frames.number s.frame)), uses_values_variable (frames.number s.frame));
 }
 
 object_declares : (s : State) (ss : Scopes) (n : ℕ) → after s.frame.object n ≡ s.frame.object + 4 * n → (s.frame.object % 4 == 0) ≡ true → Declared stage.Function s (record s { scopes = ss; frame = frames.object_variable n s.frame })
 object_declares s ss n e h = record {
   aligned = ap (λ m. m % 4 == 0) e ∙ aligned_after s.frame.object n h;
   nodes = node_behind (DeclaresAt stage.Function (after s.frame.object n)) s.frame.nodes (st.Object s.frame.object n)
-    (λ r f o. ap (λ a. a.declares r) (act_object s.frame.object n) ∙ declares_object s.frame.object n r h f (subst (λ m. nat_le m r.object ≡ true) e o));
+    (λ r f o. ap (λ a. a.declares r) (act_object s.frame.object n) ∙ declares_object s.frame.object n r h f (subst (λ m. nat_le m r.object ≡ true) e o), uses_values_object s.frame.object n);
 }
 
 register_made : (s : State) (name : Name) (what : Meaning) → Made stage.Function s (record s { scopes = declared s.scopes name what; frame = frames.register_variable s.frame }) []
@@ -229,7 +230,7 @@ inner_made s name what = record {
   counts = λ small. inner_counts s (declared s.scopes name what) (inner_small s.frame.inner small.tick.inner);
   declares = λ small h. record {
     aligned = h;
-    nodes = node_behind (DeclaresAt stage.Tick s.frame.object) s.frame.nodes (st.Variable s.frame.inner) (λ r. ap (λ a. a.declares r) (act_variable s.frame.inner));
+    nodes = node_behind (DeclaresAt stage.Tick s.frame.object) s.frame.nodes (st.Variable s.frame.inner) (λ r. ap (λ a. a.declares r) (act_variable s.frame.inner), uses_values_variable s.frame.inner);
   };
 }
 

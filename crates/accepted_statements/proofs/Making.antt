@@ -32,7 +32,7 @@ le_before : (m n k : ℕ) → m ≤ n → nat_le n k ≡ true → nat_le m k ≡
 le_before m n k p q = grind (arith, nat_tests)
 
 declares_later : (g : Stage) (m n : ℕ) → m ≤ n → (x : Stmt) → DeclaresAt g m x → DeclaresAt g n x
-declares_later stage.Function m n p x d = λ r f h. d r f (le_before m n r.object p h)
+declares_later stage.Function m n p x d = (λ r f h. d.0 r f (le_before m n r.object p h), d.1)
 declares_later stage.Tick m n p x d = d
 declares_later stage.Dollar m n p x d = d
 

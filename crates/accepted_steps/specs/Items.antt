@@ -10,6 +10,7 @@ use Rattle.check_tables.specs.Walks.{Rule}
 use Rattle.check_expressions.specs.Rules.{Item}
 use Rattle.accepted_trees.specs.Counts.{one_if}
 use Rattle.accepted_trees.specs.Places.{Around, Act, act, in_function, is_label, values_of, defaults_of, all_different}
+use Rattle.accepted_trees.specs.Values.{uses_values}
 use Rattle.accepted_steps.specs.Counts.{Counts}
 use Rattle.accepted_steps.specs.Kept.{Starts, IsGrowing}
 use Rattle.accepted_steps.specs.Known.{Blocks, numbers, of_tick, Small, Known}
@@ -54,7 +55,7 @@ StandsAs false r x = x.stands r ≡ true
 
 -- a node that a statement answers
 abbrev pub ItemStands : Standing → Around → Stmt → Type 0
-ItemStands a r x = StandsAs a.is_direct r (act x)
+ItemStands a r x = StandsAs a.is_direct r (act x) × (uses_values x ≡ true)
 
 abbrev pub ItemsStand : Standing → Around → List Stmt → Type 0
 ItemsStand a r xs = EachNode (ItemStands a r) xs
@@ -82,10 +83,13 @@ abbrev pub Declares : ℕ → Stmt → Type 0
 Declares object x = (r : Around) → in_function r ≡ true → nat_le object r.object ≡ true → (act x).declares r ≡ true
 
 -- in a tick it stands anywhere
+abbrev pub DeclaresIn : Stage → ℕ → Stmt → Type 0
+DeclaresIn stage.Function object x = Declares object x
+DeclaresIn stage.Tick object x = (r : Around) → (act x).declares r ≡ true
+DeclaresIn stage.Dollar object x = (r : Around) → (act x).declares r ≡ true
+
 abbrev pub DeclaresAt : Stage → ℕ → Stmt → Type 0
-DeclaresAt stage.Function object x = Declares object x
-DeclaresAt stage.Tick object x = (r : Around) → (act x).declares r ≡ true
-DeclaresAt stage.Dollar object x = (r : Around) → (act x).declares r ≡ true
+DeclaresAt g object x = DeclaresIn g object x × (uses_values x ≡ true)
 
 -- the nodes of the variables that were declared
 pub record Declared (g : Stage) (s new : State) : Type 0 where
@@ -113,9 +117,11 @@ pub record GoodStatement (many : ℕ) (a : Standing) (step : Rule State (List St
   pub does : DoesStand many a step
 
 -- it captures and declares few things, whatever stands round it
+abbrev pub Few : State → State → Type 0
+Few s new = (length new.ticks.captures ≤ length s.ticks.captures + 1000000000) × (new.frame.inner ≤ s.frame.inner + 1000000000)
+
 abbrev pub IsFew : Rule State (List Stmt) → Type 0
-IsFew step = (s new : State) (xs : List Stmt) → step s ≡ Ok (xs, new)
-    → (length new.ticks.captures ≤ length s.ticks.captures + 1000000000) × (new.frame.inner ≤ s.frame.inner + 1000000000)
+IsFew step = (s new : State) (xs : List Stmt) → step s ≡ Ok (xs, new) → Few s new
 
 pub record GoodItem (many : ℕ) (i : Item) : Type 0 where
   pub walk : (a : Standing) → MayStand a.stage → GoodStatement many a (i.walk a)
@@ -133,4 +139,5 @@ pub record GoodBlock (many : ℕ) (a : Standing) (step : Rule State Stmt) : Type
   pub keeps : (s new : State) (x : Stmt) → step s ≡ Ok (x, new) → KeepsBlock s new
   pub counts : (s new : State) (x : Stmt) → step s ≡ Ok (x, new) → Small a.stage new → Counts a.stage s new (x ∷ [])
   pub aligned : (s new : State) (x : Stmt) → step s ≡ Ok (x, new) → Small a.stage new → (s.frame.object % 4 == 0) ≡ true → (new.frame.object % 4 == 0) ≡ true
-  pub does : Does many a.stage (λ r x. (act x).stands (at a.stage (placed_round a r)) ≡ true) step
+  pub few : (s new : State) (x : Stmt) → step s ≡ Ok (x, new) → Few s new
+  pub does : Does many a.stage (λ r x. ((act x).stands (at a.stage (placed_round a r)) ≡ true) × (uses_values x ≡ true)) step

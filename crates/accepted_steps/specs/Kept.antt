@@ -16,6 +16,12 @@ pub record Starts {A : Type 0} (xs ys : List A) : Type 0 where
 
 -- ---- an expression, or a type
 
+-- of the image only strings are added
+pub record KeepsGlobals (s new : State) : Type 0 where
+  pub end : new.image.end ≡ s.image.end
+  pub globals : new.image.globals ≡ s.image.globals
+  pub at : new.image.strings_at ≡ s.image.strings_at
+
 -- the tables that no expression and no type changes
 pub record KeepsTables (s new : State) : Type 0 where
   pub scopes : new.scopes ≡ s.scopes
@@ -25,6 +31,7 @@ pub record KeepsTables (s new : State) : Type 0 where
   pub object : new.frame.object ≡ s.frame.object
   pub labels : new.labels ≡ s.labels
   pub functions : new.functions ≡ s.functions
+  pub image : KeepsGlobals s new
 
 -- in a tick nothing but its captures grows; where the function runs, ticks are made
 pub record KeepsTick (s new : State) : Type 0 where
@@ -58,6 +65,7 @@ pub record GrowsTables (s new : State) : Type 0 where
   pub result : new.frame.result ≡ s.frame.result
   pub nodes : Starts s.frame.nodes new.frame.nodes
   pub functions : new.functions ≡ s.functions
+  pub image : KeepsGlobals s new
 
 -- where the function runs, its variables grow; in a tick, the tick's. A count that is cut says nothing
 pub record GrowsFunction (s new : State) : Type 0 where

@@ -1,16 +1,22 @@
 -- What steps keep comes together over steps.
-use Rattle.std.proofs.Common.{◌≡◌, ℕ, List, [], ◌∷◌, ◌++◌, refl, sym, ap, subst, ◌∙◌, Ok}
+use Rattle.std.proofs.Common.{◌≡◌, refl, subst, ◌∙◌}
 use Rattle.tick_tree.specs.Faults.{Checked}
 use Rattle.check_state.specs.declared.state.Stage.{Stage}
 use Rattle.check_state.specs.declared.state.Stage.TheVariants as stage
 use Rattle.check_state.specs.declared.state.State.{State}
 use Rattle.check_tables.specs.Walks.{Rule, ◌>>=◌, pure, lift}
-use Rattle.accepted_steps.specs.Kept.{Starts, KeepsTables, KeepsTick, KeepsStage, Keeps, IsKeeping}
+use Rattle.accepted_steps.specs.Kept.{KeepsGlobals, KeepsTables, KeepsTick, KeepsStage, Keeps, IsKeeping}
 use Rattle.accepted_types.proofs.Fronts.{starts_refl, starts_same, starts_more}
 use Rattle.accepted_types.proofs.Walks.{ran, pure_same, lifted}
 
+abbrev pub globals_refl : (s : State) → KeepsGlobals s s
+globals_refl s = record { end = refl; globals = refl; at = refl }
+
+pub globals_more : {s t new : State} → KeepsGlobals s t → KeepsGlobals t new → KeepsGlobals s new
+globals_more p q = record { end = q.end ∙ p.end; globals = q.globals ∙ p.globals; at = q.at ∙ p.at }
+
 pub tables_refl : (s : State) → KeepsTables s s
-tables_refl s = record { scopes = refl; result = refl; homes = refl; nodes = refl; object = refl; labels = refl; functions = refl }
+tables_refl s = record { scopes = refl; result = refl; homes = refl; nodes = refl; object = refl; labels = refl; functions = refl; image = globals_refl s }
 
 pub tables_more : {s t new : State} → KeepsTables s t → KeepsTables t new → KeepsTables s new
 tables_more p q = record {
@@ -21,6 +27,7 @@ tables_more p q = record {
   object = q.object ∙ p.object;
   labels = q.labels ∙ p.labels;
   functions = q.functions ∙ p.functions;
+  image = globals_more p.image q.image;
 }
 
 pub tick_refl : (s : State) → KeepsTick s s

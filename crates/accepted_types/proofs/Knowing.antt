@@ -1,6 +1,6 @@
 -- What is known before a step that keeps it is known behind it, and who has room for what is known behind it had room before.
-use Rattle.std.proofs.Common.{◌≡◌, ℕ, ◌+◌, ◌-◌, ◌≤◌, Bool, true, if◌then◌else◌, List, [], ◌∷◌, ◌++◌, length, refl, sym, ap, subst, ◌∙◌, append_assoc, append-nil, length-append, arith, Option, Some, None}
-use Rattle.std.specs.Prelude.{nat_le, slice_get, ◌%◌, ◌==◌}
+use Rattle.std.proofs.Common.{◌≡◌, ℕ, ◌-◌, true, if◌then◌else◌, List, [], ◌∷◌, ◌++◌, length, refl, sym, ap, subst, ◌∙◌, length-append, arith, Option, Some, None}
+use Rattle.std.specs.Prelude.{◌%◌, ◌==◌, nat_le, slice_get}
 use Rattle.c_types.specs.declared.names.Meaning.{Meaning}
 use Rattle.c_types.specs.declared.names.MeaningKind.{MeaningKind}
 use Rattle.c_types.specs.declared.names.MeaningKind.TheVariants as kind
@@ -14,10 +14,9 @@ use Rattle.check_tables.specs.Functions.{number}
 use Rattle.check_state.specs.declared.state.Stage.{Stage}
 use Rattle.check_state.specs.declared.state.Stage.TheVariants as stage
 use Rattle.check_state.specs.declared.state.State.{State}
-use Rattle.accepted_trees.specs.Places.{part, kinds_of, in_scope}
 use Rattle.accepted_steps.specs.Kept.{Starts, KeepsTables, KeepsTick, KeepsStage, Keeps}
-use Rattle.accepted_steps.specs.Known.{Blocks, of_function, of_tick, has, numbers, HasHome, IsVariable, IsParameter, IsFunction, is_number, Means, EachEntry, EachScope, Small, SmallInner, SmallTick, Knows, Known}
-use Rattle.accepted_steps.specs.Steps.{Round, Captures, kinds, AgreesTick, Agrees}
+use Rattle.accepted_steps.specs.Known.{Blocks, of_function, of_tick, has, numbers, HasHome, IsVariable, IsParameter, IsFunction, is_number, Means, EachEntry, EachScope, Small, SmallInner, SmallTick, Known}
+use Rattle.accepted_steps.specs.Steps.{Round, Captures, one_kind, kinds, AgreesTick, Agrees}
 use Rattle.accepted_types.proofs.Fronts.{starts_same, starts_front, starts_length}
 
 -- ---- the names
@@ -54,7 +53,7 @@ means_kept many g b {s} {new} k name m kind.Variable x =
 means_kept many g b {s} {new} k name m kind.Parameter x =
     (subst (λ hs. IsParameter g b new m.index (slice_get hs m.index)) (sym k.homes) (parameter_kept g b k m.index (slice_get s.frame.homes m.index) x.0), x.1)
 means_kept many g b k name m kind.Global x = x
-means_kept many g b k name m kind.Function x = subst (λ f. IsFunction many f name m.index) (sym k.functions) x
+means_kept many g b k name m kind.Function x = (subst (λ f. IsFunction many f name m.index) (sym k.functions) x.0, x.1)
 means_kept many g b k name m kind.Library x = x
 
 pub each_entry : (P Q : Name → Meaning → Type 0) → ((n : Name) (m : Meaning) → P n m → Q n m) → (es : Scope) → EachEntry P es → EachEntry Q es
@@ -111,7 +110,7 @@ known_kept {many} {g} {b} {ks} {s} {new} more k each known small =
 
 pub kinds_append : (xs ys : List Expr) → kinds (xs ++ ys) ≡ kinds xs ++ kinds ys
 kinds_append [] ys = refl
-kinds_append (x ∷ xs) ys = ap (λ l. (part x).capture ++ l) (kinds_append xs ys) ∙ sym (append_assoc (part x).capture (kinds xs) (kinds ys))
+kinds_append (x ∷ xs) ys = ap (λ l. one_kind x ∷ l) (kinds_append xs ys)
 
 captures_front : (xs ys : List CaptureKind) (all : Option (List CaptureKind)) → Captures (xs ++ ys) all → Captures xs all
 captures_front xs ys None x = x
@@ -125,9 +124,10 @@ agrees_tick_back : (g : Stage) (b : Blocks) (s new : State) (r : Round) → Keep
 agrees_tick_back stage.Function b s new r k h x = tt
 agrees_tick_back stage.Tick b s new r k h x =
     (λ i p. x.0 i (subst (λ ns. has i ns ≡ true) (sym (of_tick_kept stage.Tick b k)) p), captures_back s.ticks.captures new.ticks.captures r.tick.captures h.1 x.1)
-agrees_tick_back stage.Dollar b s new r k h x =
-    (λ i p. x.0 i (subst (λ ns. has i ns ≡ true) (sym (of_tick_kept stage.Dollar b k)) p),
-     captures_back s.ticks.captures new.ticks.captures r.tick.captures (starts_same s.ticks.captures new.ticks.captures h.1) x.1)
+agrees_tick_back stage.Dollar b s new r k h x = (
+  λ i p. x.0 i (subst (λ ns. has i ns ≡ true) (sym (of_tick_kept stage.Dollar b k)) p),
+  captures_back s.ticks.captures new.ticks.captures r.tick.captures (starts_same s.ticks.captures new.ticks.captures h.1) x.1,
+)
 
 pub agrees_back : {many : ℕ} {g : Stage} {b : Blocks} {ks : List (List CaptureKind)} {s new : State} {r : Round} (more : List (List CaptureKind)) → Keeps g s new → Agrees many g b (ks ++ more) new r → Agrees many g b ks s r
 agrees_back {many} {g} {b} {ks} {s} {new} {r} more k a = record {

@@ -1,17 +1,17 @@
 -- A step that does nothing but capture what stands anywhere: such steps one after the other, and what one did.
-use Rattle.std.proofs.Common.{◌≡◌, ℕ, true, List, [], ◌∷◌, ◌++◌, length, refl, sym, ap, subst, ◌∙◌, append_assoc, append-nil, Ok}
+use Rattle.std.proofs.Common.{◌≡◌, ℕ, List, [], ◌∷◌, ◌++◌, length, refl, sym, ap, subst, ◌∙◌}
 use Rattle.typed_tree.specs.declared.expression.CaptureKind.{CaptureKind}
 use Rattle.typed_tree.specs.declared.expression.Expr.{Expr}
 use Rattle.check_state.specs.declared.state.Stage.{Stage}
 use Rattle.check_state.specs.declared.state.Stage.TheVariants as stage
 use Rattle.check_state.specs.declared.state.State.{State}
 use Rattle.accepted_trees.specs.Places.{Around}
-use Rattle.accepted_steps.specs.Kept.{Starts, KeepsTables, KeepsTick, KeepsStage, Keeps, outer}
+use Rattle.accepted_steps.specs.Kept.{Starts, KeepsStage, Keeps, outer}
 use Rattle.accepted_steps.specs.Known.{Blocks, Known}
 use Rattle.accepted_steps.specs.Steps.{Round, Agrees, EachCapture, EachTick, CapturesStand, Did}
 use Rattle.accepted_steps.specs.Good.{PlainStage, Plain, PlainTables, PlainList}
 use Rattle.accepted_types.proofs.Fronts.{starts_refl, starts_same, starts_more, same_rest, no_rest}
-use Rattle.accepted_types.proofs.Keeps.{tables_refl, tables_more, tick_refl, tick_more}
+use Rattle.accepted_types.proofs.Keeps.{globals_refl, globals_more, tables_refl, tables_more, tick_refl, tick_more}
 use Rattle.accepted_types.proofs.Knowing.{known_kept, agrees_back}
 
 -- ---- captures
@@ -59,7 +59,7 @@ plain_more {g} {s} {t} {new} p q = record {
 -- ---- steps that name in the innermost scope
 
 list_tables_refl : (s : State) → PlainTables s s
-list_tables_refl s = record { depth = refl; scopes = refl; result = refl; homes = refl; nodes = refl; object = refl; labels = refl; functions = refl }
+list_tables_refl s = record { depth = refl; scopes = refl; result = refl; homes = refl; nodes = refl; object = refl; labels = refl; functions = refl; image = globals_refl s }
 
 list_tables_more : {s t new : State} → PlainTables s t → PlainTables t new → PlainTables s new
 list_tables_more p q = record {
@@ -71,6 +71,7 @@ list_tables_more p q = record {
   object = q.object ∙ p.object;
   labels = q.labels ∙ p.labels;
   functions = q.functions ∙ p.functions;
+  image = globals_more p.image q.image;
 }
 
 pub plain_list_refl : (g : Stage) (s : State) → PlainList g s s
@@ -97,6 +98,7 @@ plain_is_list p = record {
     object = p.tables.object;
     labels = p.tables.labels;
     functions = p.tables.functions;
+    image = p.tables.image;
   };
   captures = p.captures;
   at = p.at;

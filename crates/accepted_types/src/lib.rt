@@ -2,9 +2,24 @@
 //! This is a part of the law on the whole walk; there is no code to run here.
 #![tactic(auto)]
 
-ghost use Rattle.accepted_types.specs.Laws.{PlainSteps};
+ghost use Rattle.accepted_types.specs.Laws.{ConstantsArePlain, ExpressionsKeep, PlainSteps, SuffixesAreGood};
 
 /// That a step which names nothing, and captures only what stands anywhere, may stand between others.
 pub fn plain_steps()
     ensures { PlainSteps }
+{}
+
+/// That the walk over an expression keeps what expressions keep, where the walks over its parts do.
+pub fn expressions_keep()
+    ensures { ExpressionsKeep }
+{}
+
+/// That an expression with the form of a constant names nothing and captures only what stands anywhere.
+pub fn constants_are_plain()
+    ensures { ConstantsArePlain }
+{}
+
+/// That a suffix of a declarator names nothing and captures only what stands anywhere, or has a length that isn't constant.
+pub fn suffixes_are_good()
+    ensures { SuffixesAreGood }
 {}
