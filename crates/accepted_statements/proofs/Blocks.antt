@@ -58,6 +58,7 @@ grows_back g s t p = record {
     result = p.tables.result;
     nodes = starts_refl s.frame.nodes;
     functions = p.tables.functions;
+    image = record { end = p.tables.image.end; globals = p.tables.image.globals; at = p.tables.image.at };
   };
   at = stage_back g s t p.at;
 }

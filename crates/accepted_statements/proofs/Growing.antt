@@ -7,6 +7,7 @@ use Rattle.accepted_steps.specs.Kept.{Starts, KeepsTables, KeepsTick, KeepsStage
 use Rattle.accepted_steps.specs.Known.{Small, SmallTick, SmallInner}
 use Rattle.accepted_steps.specs.Counts.{variables}
 use Rattle.accepted_types.proofs.Fronts.{starts_refl, starts_same, starts_more, starts_length}
+use Rattle.accepted_types.proofs.Keeps.{globals_more}
 
 chain : (l m n k : ℕ) → (m ≤ k → l ≤ m) → (n ≤ k → m ≤ n) → n ≤ k → l ≤ n
 chain l m n k p q h = let b : m ≤ n = q h in let a : l ≤ m = p (omega (arith, b, h)) in omega (arith, a, b)
@@ -18,6 +19,7 @@ tables_more p q = record {
   result = q.result ∙ p.result;
   nodes = starts_more p.nodes q.nodes;
   functions = q.functions ∙ p.functions;
+  image = globals_more p.image q.image;
 }
 
 function_more : {s t new : State} → GrowsFunction s t → GrowsFunction t new → GrowsFunction s new
@@ -75,6 +77,7 @@ keeps_grows {g} {s} {new} k = record {
     result = k.tables.result;
     nodes = starts_same s.frame.nodes new.frame.nodes k.tables.nodes;
     functions = k.tables.functions;
+    image = k.tables.image;
   };
   at = stage_grows g s new k.tables k.at;
 }

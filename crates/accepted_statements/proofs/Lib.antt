@@ -2,7 +2,9 @@ pub mod Blocking
 pub mod Blocks
 pub mod Counting
 pub mod Growing
+pub mod Labelling
 pub mod Locals
+pub mod Makes
 pub mod Making
 pub mod Nodes
 pub mod Runs

@@ -142,6 +142,7 @@ register_grows s name what = record {
     result = refl;
     nodes = starts_behind s.frame.nodes (st.Variable (frames.number s.frame) ∷ []);
     functions = refl;
+    image = record { end = refl; globals = refl; at = refl };
   };
   at = record { homes = starts_behind s.frame.homes (home.Register ∷ []); object = λ h. omega arith; ticks = starts_refl s.ticks.all };
 }
@@ -154,6 +155,7 @@ object_grows s name what n = record {
     result = refl;
     nodes = starts_behind s.frame.nodes (st.Object s.frame.object n ∷ []);
     functions = refl;
+    image = record { end = refl; globals = refl; at = refl };
   };
   at = record { homes = starts_behind s.frame.homes (home.Object s.frame.object ∷ []); object = λ h. after_grows s.frame.object n h; ticks = starts_refl s.ticks.all };
 }
@@ -224,6 +226,7 @@ inner_made s name what = record {
       result = refl;
       nodes = starts_behind s.frame.nodes (st.Variable s.frame.inner ∷ []);
       functions = refl;
+      image = record { end = refl; globals = refl; at = refl };
     };
     at = record { homes = refl; object = refl; inner = λ h. inner_more s.frame.inner h; ticks = refl; captures = starts_refl s.ticks.captures };
   };
