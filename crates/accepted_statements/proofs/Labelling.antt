@@ -33,11 +33,11 @@ if_not : {A : Type 0} (b : Bool) (x y : A) (k : FaultKind) (line : ℕ) → (if 
 if_not true x y k line e = cc
 if_not false x y k line e = (refl, ok_same x y e)
 
-first_true : (x y : Bool) → (x && y) ≡ true → x ≡ true
+pub first_true : (x y : Bool) → (x && y) ≡ true → x ≡ true
 first_true true y h = refl
 first_true false y h = h
 
-second_true : (x y : Bool) → (x && y) ≡ true → y ≡ true
+pub second_true : (x y : Bool) → (x && y) ≡ true → y ≡ true
 second_true true y h = h
 second_true false y h = cc
 

@@ -8,3 +8,4 @@ pub mod Makes
 pub mod Making
 pub mod Nodes
 pub mod Runs
+pub mod Whole

@@ -44,7 +44,7 @@ makes_of h s new xs e = record {
 }
 
 -- one node that is no label
-one_node : {g : Stage} {s new : State} {ys : List Stmt} (direct : Bool) (xs : List Stmt) (x : Stmt) → x ∷ [] ≡ xs → CountsAs x ys → Unlabelled x → Made g s new ys → new.labels ≡ s.labels → Makes g direct s new xs
+pub one_node : {g : Stage} {s new : State} {ys : List Stmt} (direct : Bool) (xs : List Stmt) (x : Stmt) → x ∷ [] ≡ xs → CountsAs x ys → Unlabelled x → Made g s new ys → new.labels ≡ s.labels → Makes g direct s new xs
 one_node {g} {s} {new} direct xs x is c u m l = record {
   made = subst (λ zs. Made g s new zs) is (made_as x c m);
   labelled = subst (λ zs. Labelled direct s new zs) is (labelled_one direct x l u);
@@ -52,12 +52,12 @@ one_node {g} {s} {new} direct xs x is c u m l = record {
 
 -- ---- bodies
 
-body_made : {many : ℕ} {i : Item} {a : Standing} {s new : State} {x : Stmt} → GoodItem many i → MayStand a.stage → BodyRan i a s x new → Made a.stage s new (x ∷ [])
+pub body_made : {many : ℕ} {i : Item} {a : Standing} {s new : State} {x : Stmt} → GoodItem many i → MayStand a.stage → BodyRan i a s x new → Made a.stage s new (x ∷ [])
 body_made {a = a} {s = s} {new = new} h may w =
     subst (λ y. Made a.stage s new (y ∷ [])) w.is (made_as (statements.body w.value) (body_counts w.value) (makes_of (h.walk a may) s new w.value w.walk).made)
 
-body_labels : {many : ℕ} {i : Item} {a : Standing} {s new : State} {x : Stmt} → GoodItem many i → MayStand a.stage → a.is_direct ≡ false → BodyRan i a s x new → new.labels ≡ s.labels
-body_labels {a = a} {s = s} {new = new} h may d w = (h.walk a may).labels s new w.value w.walk .kept d
+pub body_labels : {many : ℕ} {i : Item} {a : Standing} {s new : State} {x : Stmt} → GoodItem many i → MayStand a.stage → a.is_direct ≡ false → BodyRan i a s x new → new.labels ≡ s.labels
+body_labels {a = a} {s = s} {new = new} h may d w = ((h.walk a may).labels s new w.value w.walk).kept d
 
 -- ---- statements with parts
 
@@ -83,32 +83,37 @@ else_makes line c i j a may hc hi hj s new xs w =
       (made_behind k (made_more (body_made hi may w.body) (body_made hj may w.other)))
       (body_labels hj may refl w.other ∙ body_labels hi may refl w.body ∙ k.tables.labels)
 
-optional_keeps : {many : ℕ} (c : Option Node) (g : Stage) (s new : State) (o : Option Operand) → GoodOptional many c → OptionalRan c g s o new → Keeps g s new
-optional_keeps None g s new o h w = keeps_same g w.1
-optional_keeps (Some n) g s new o h w = h.keeps g s new w.value w.walk
+pub optional_keeps : (many : ℕ) (c : Option Node) (g : Stage) (s new : State) (o : Option Operand) → GoodOptional many c → OptionalRan c g s o new → Keeps g s new
+optional_keeps many None g s new o h w = keeps_same g w.1
+optional_keeps many (Some n) g s new o h w = h.keeps g s new w.value w.walk
 
 -- the rest of a `for`
+pub for_labels : {many : ℕ} (line : ℕ) (c step : Option Node) (i : Item) (a : Standing) → MayStand a.stage → GoodOptional many c → GoodOptional many step → GoodItem many i → (s new : State) (x : Stmt) → ForRan line c step i a s x new → new.labels ≡ s.labels
+for_labels {many} line c step i a may hc hs hi s new x w =
+    let k = keeps_more (optional_keeps many c a.stage s w.first w.test hc w.tested) (optional_keeps many step a.stage w.first w.between w.next hs w.stepped) in
+    body_labels hi may refl w.body ∙ k.tables.labels
+
 pub for_makes : {many : ℕ} (line : ℕ) (c step : Option Node) (i : Item) (a : Standing) → MayStand a.stage → GoodOptional many c → GoodOptional many step → GoodItem many i → (s new : State) (x : Stmt) → ForRan line c step i a s x new → Makes a.stage a.is_direct s new (x ∷ [])
-for_makes line c step i a may hc hs hi s new x w =
-    let k = keeps_more (optional_keeps c a.stage s w.first w.test hc w.tested) (optional_keeps step a.stage w.first w.between w.next hs w.stepped) in
+for_makes {many} line c step i a may hc hs hi s new x w =
+    let k = keeps_more (optional_keeps many c a.stage s w.first w.test hc w.tested) (optional_keeps many step a.stage w.first w.between w.next hs w.stepped) in
     one_node a.is_direct (x ∷ []) (statements.for_by w.condition w.next w.node) (ap (λ y. y ∷ []) w.is) (for_counts w.condition w.next w.node) (for_unlabelled w.condition w.next w.node)
-      (made_behind k (body_made hi may w.body)) (body_labels hi may refl w.body ∙ k.tables.labels)
+      (made_behind k (body_made hi may w.body)) (for_labels line c step i a may hc hs hi s new x w)
 
 -- ---- lists and blocks
 
-pub each_makes : {many : ℕ} (items : List Item) (a : Standing) → MayStand a.stage → EachPart (GoodItem many) items → (s new : State) (xs : List Stmt) → each items a s ≡ Ok (xs, new) → Makes a.stage a.is_direct s new xs
-each_makes [] a may h s new xs e =
+pub each_makes : (many : ℕ) (items : List Item) (a : Standing) → MayStand a.stage → EachPart (GoodItem many) items → (s new : State) (xs : List Stmt) → each items a s ≡ Ok (xs, new) → Makes a.stage a.is_direct s new xs
+each_makes many [] a may h s new xs e =
     let same = pure_same [] xs s new e in
     let none = pure_value [] xs s new e in
     record {
       made = subst (λ zs. Made a.stage s new zs) none (made_kept (keeps_same a.stage same));
       labelled = subst (λ zs. Labelled a.is_direct s new zs) none (labelled_none a.is_direct (ap (λ z. z.labels) (sym same)));
     }
-each_makes (i ∷ items) a may h s new xs e =
+each_makes many (i ∷ items) a may h s new xs e =
     let r = ran (i.walk a) (λ x. each items a >>= (λ ys. pure (x ++ ys))) s xs new e in
     let f = followed (each items a) (λ ys. r.value ++ ys) r.state xs new r.next in
     let one = makes_of (h.0.walk a may) s r.state r.value r.first in
-    let rest = each_makes items a may h.1 r.state new f.value f.walk in
+    let rest = each_makes many items a may h.1 r.state new f.value f.walk in
     record {
       made = subst (λ zs. Made a.stage s new zs) f.is (made_more one.made rest.made);
       labelled = subst (λ zs. Labelled a.is_direct s new zs) f.is (labelled_more one.labelled rest.labelled);
