@@ -1,11 +1,14 @@
 pub mod Blocking
 pub mod Blocks
 pub mod Counting
+pub mod Entering
 pub mod Growing
 pub mod Labelling
+pub mod Lists
 pub mod Locals
 pub mod Makes
 pub mod Making
 pub mod Nodes
 pub mod Runs
 pub mod Whole
+pub mod Wider
