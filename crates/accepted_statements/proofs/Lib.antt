@@ -3,6 +3,7 @@ pub mod Blocks
 pub mod Counting
 pub mod Entering
 pub mod Growing
+pub mod Joining
 pub mod Labelling
 pub mod Lists
 pub mod Locals
@@ -10,5 +11,6 @@ pub mod Makes
 pub mod Making
 pub mod Nodes
 pub mod Runs
+pub mod Standing
 pub mod Whole
 pub mod Wider
