@@ -1,6 +1,7 @@
 pub mod Blocking
 pub mod Blocks
 pub mod Counting
+pub mod Doing
 pub mod Entering
 pub mod Growing
 pub mod Joining
