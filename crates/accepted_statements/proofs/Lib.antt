@@ -14,4 +14,5 @@ pub mod Nodes
 pub mod Runs
 pub mod Standing
 pub mod Whole
+pub mod Within
 pub mod Wider
