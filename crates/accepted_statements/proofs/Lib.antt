@@ -1,6 +1,7 @@
 pub mod Blocking
 pub mod Blocks
 pub mod Counting
+pub mod Declaring
 pub mod Doing
 pub mod Entering
 pub mod Growing
@@ -13,6 +14,7 @@ pub mod Making
 pub mod Nodes
 pub mod Runs
 pub mod Standing
+pub mod Switching
 pub mod Whole
 pub mod Within
 pub mod Wider

@@ -93,10 +93,10 @@ object_one byte off n new e = ap (λ m. one_if (nat_le off byte && nat_lt byte m
 pub after_small : (off n : ℕ) → after off n ≤ 4194304 → after off n ≡ off + 4 * n
 after_small off n h = omega arith
 
-after_grows : (off n : ℕ) → after off n ≤ 4194304 → off ≤ after off n
+pub after_grows : (off n : ℕ) → after off n ≤ 4194304 → off ≤ after off n
 after_grows off n h = omega arith
 
-aligned_after : (off n : ℕ) → (off % 4 == 0) ≡ true → ((off + 4 * n) % 4 == 0) ≡ true
+pub aligned_after : (off n : ℕ) → (off % 4 == 0) ≡ true → ((off + 4 * n) % 4 == 0) ≡ true
 aligned_after off n h = grind (arith, nat_tests)
 
 pub both : (x y : Bool) → x ≡ true → y ≡ true → (x && y) ≡ true
@@ -134,7 +134,7 @@ object_counts s ss n e = record {
     length-append s.frame.homes (home.Object s.frame.object ∷ []));
 }
 
-register_grows : (s : State) (name : Name) (what : Meaning) → Grows stage.Function s (record s { scopes = declared s.scopes name what; frame = frames.register_variable s.frame })
+pub register_grows : (s : State) (name : Name) (what : Meaning) → Grows stage.Function s (record s { scopes = declared s.scopes name what; frame = frames.register_variable s.frame })
 register_grows s name what = record {
   tables = record {
     depth = declared_length s.scopes name what;
@@ -147,7 +147,7 @@ register_grows s name what = record {
   at = record { homes = starts_behind s.frame.homes (home.Register ∷ []); object = λ h. omega arith; ticks = starts_refl s.ticks.all };
 }
 
-object_grows : (s : State) (name : Name) (what : Meaning) (n : ℕ) → Grows stage.Function s (record s { scopes = declared s.scopes name what; frame = frames.object_variable n s.frame })
+pub object_grows : (s : State) (name : Name) (what : Meaning) (n : ℕ) → Grows stage.Function s (record s { scopes = declared s.scopes name what; frame = frames.object_variable n s.frame })
 object_grows s name what n = record {
   tables = record {
     depth = declared_length s.scopes name what;
@@ -211,29 +211,33 @@ inner_counts s ss e = record {
   sizes = omega (arith, sizes_append s.frame.nodes (st.Variable s.frame.inner ∷ []), sum_one statement_size (st.Variable s.frame.inner), statement_size_variable s.frame.inner, e);
 }
 
-inner_small : (n : ℕ) → min (n + 1) 4294967295 ≤ 1000000000 → min (n + 1) 4294967295 ≡ n + 1
+pub inner_small : (n : ℕ) → min (n + 1) 4294967295 ≤ 1000000000 → min (n + 1) 4294967295 ≡ n + 1
 inner_small n h = omega arith
 
 inner_more : (n : ℕ) → min (n + 1) 4294967295 ≤ 1000000000 → n ≤ min (n + 1) 4294967295
 inner_more n h = omega arith
 
+pub inner_grows : (s : State) (name : Name) (what : Meaning) → Grows stage.Tick s (record s { scopes = declared s.scopes name what; frame = frames.inner_variable s.frame })
+inner_grows s name what = record {
+  tables = record {
+    depth = declared_length s.scopes name what;
+    scopes = declared_outer s.scopes name what;
+    result = refl;
+    nodes = starts_behind s.frame.nodes (st.Variable s.frame.inner ∷ []);
+    functions = refl;
+    image = record { end = refl; globals = refl; at = refl };
+  };
+  at = record { homes = refl; object = refl; inner = λ h. inner_more s.frame.inner h; ticks = refl; captures = starts_refl s.ticks.captures };
+}
+
 inner_made : (s : State) (name : Name) (what : Meaning) → Made stage.Tick s (record s { scopes = declared s.scopes name what; frame = frames.inner_variable s.frame }) []
 inner_made s name what = record {
-  grows = record {
-    tables = record {
-      depth = declared_length s.scopes name what;
-      scopes = declared_outer s.scopes name what;
-      result = refl;
-      nodes = starts_behind s.frame.nodes (st.Variable s.frame.inner ∷ []);
-      functions = refl;
-      image = record { end = refl; globals = refl; at = refl };
-    };
-    at = record { homes = refl; object = refl; inner = λ h. inner_more s.frame.inner h; ticks = refl; captures = starts_refl s.ticks.captures };
-  };
+  grows = inner_grows s name what;
   counts = λ small. inner_counts s (declared s.scopes name what) (inner_small s.frame.inner small.tick.inner);
   declares = λ small h. record {
     aligned = h;
-    nodes = node_behind (DeclaresAt stage.Tick s.frame.object) s.frame.nodes (st.Variable s.frame.inner) (λ r. ap (λ a. a.declares r) (act_variable s.frame.inner), uses_values_variable s.frame.inner);
+    nodes = node_behind (DeclaresAt stage.Tick s.frame.object) s.frame.nodes (st.Variable s.frame.inner)
+      (λ r. ap (λ a. a.declares r) (act_variable s.frame.inner), uses_values_variable s.frame.inner);
   };
 }
 

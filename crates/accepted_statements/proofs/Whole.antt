@@ -105,19 +105,23 @@ relabelled g l m s t xs p = record {
   declares = λ small h. let d = p.declares (small_without g m t small) h in record { aligned = d.aligned; nodes = d.nodes };
 }
 
-pub switch_makes : {many : ℕ} (line : ℕ) (c : Node) (items : List Item) (a : Standing) → MayStand a.stage → GoodNode many c → EachPart (GoodItem many) items → (s new : State) (xs : List Stmt) → SwitchRan line c items a s xs new → Makes a.stage a.is_direct s new xs
-switch_makes {many} line c items a may hc h s new xs w =
-    let k = hc.keeps a.stage s w.first w.operand w.walk in
+-- behind the value of the switch
+pub switch_made : (many : ℕ) (line : ℕ) (c : Node) (items : List Item) (a : Standing) → MayStand a.stage → EachPart (GoodItem many) items → (s new : State) (xs : List Stmt) → (w : SwitchRan line c items a s xs new) → Made a.stage w.first new (st.Switch w.test w.body.state.frame.nodes w.body.value ∷ [])
+switch_made many line c items a may h s new xs w =
     let m = each_makes many items (statements.switched a) may h (inside (with_labels labels.new w.first)) w.body.state w.body.value w.body.walk in
     let x : Stmt = st.Switch w.test w.body.state.frame.nodes w.body.value in
     let in_switch : Made a.stage (with_labels labels.new w.first) w.last (x ∷ []) =
         enclosed_made x w.body (switch_counts w.test w.body.state.frame.nodes w.body.value) m.made in
-    let whole : Made a.stage w.first new (x ∷ []) =
-        subst (λ z. Made a.stage w.first z (x ∷ [])) w.state (relabelled a.stage labels.new w.first.labels w.first w.last (x ∷ []) in_switch) in
+    subst (λ z. Made a.stage w.first z (x ∷ [])) w.state (relabelled a.stage labels.new w.first.labels w.first w.last (x ∷ []) in_switch)
+
+pub switch_makes : {many : ℕ} (line : ℕ) (c : Node) (items : List Item) (a : Standing) → MayStand a.stage → GoodNode many c → EachPart (GoodItem many) items → (s new : State) (xs : List Stmt) → SwitchRan line c items a s xs new → Makes a.stage a.is_direct s new xs
+switch_makes {many} line c items a may hc h s new xs w =
+    let k = hc.keeps a.stage s w.first w.operand w.walk in
+    let x : Stmt = st.Switch w.test w.body.state.frame.nodes w.body.value in
     let is : x ∷ [] ≡ xs = ap (λ p. st.Switch w.test p.0 p.1 ∷ []) w.body.is ∙ w.is in
     let same : new.labels ≡ s.labels = ap (λ z. z.labels) (sym w.state) ∙ k.tables.labels in
     record {
-      made = subst (λ zs. Made a.stage s new zs) is (made_behind k whole);
+      made = subst (λ zs. Made a.stage s new zs) is (made_behind k (switch_made many line c items a may h s new xs w));
       labelled = subst (λ zs. Labelled a.is_direct s new zs) is (labelled_one a.is_direct x same (switch_unlabelled w.test w.body.state.frame.nodes w.body.value));
     }
 

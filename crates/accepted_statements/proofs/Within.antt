@@ -47,22 +47,22 @@ use Rattle.accepted_statements.proofs.Doing.{place_of, may_of, node_did, for_did
 
 -- ---- the variables of a block
 
-declares_all : (g : Stage) (object : ℕ) (vs : List Stmt) (r : Around) → (g ≡ stage.Function → in_function r ≡ true) → (g ≡ stage.Function → nat_le object r.object ≡ true) → EachNode (DeclaresAt g object) vs → all_declare (map act vs) r ≡ true
+pub declares_all : (g : Stage) (object : ℕ) (vs : List Stmt) (r : Around) → (g ≡ stage.Function → in_function r ≡ true) → (g ≡ stage.Function → nat_le object r.object ≡ true) → EachNode (DeclaresAt g object) vs → all_declare (map act vs) r ≡ true
 declares_all g object [] r f o h = refl
 declares_all stage.Function object (v ∷ vs) r f o h = both ((act v).declares r) (all_declare (map act vs) r) (h.0.0 r (f refl) (o refl)) (declares_all stage.Function object vs r f o h.1)
 declares_all stage.Tick object (v ∷ vs) r f o h = both ((act v).declares r) (all_declare (map act vs) r) (h.0.0 r) (declares_all stage.Tick object vs r f o h.1)
 declares_all stage.Dollar object (v ∷ vs) r f o h = both ((act v).declares r) (all_declare (map act vs) r) (h.0.0 r) (declares_all stage.Dollar object vs r f o h.1)
 
-variables_use : (g : Stage) (object : ℕ) (vs : List Stmt) → EachNode (DeclaresAt g object) vs → all_true (map uses_values vs) ≡ true
+pub variables_use : (g : Stage) (object : ℕ) (vs : List Stmt) → EachNode (DeclaresAt g object) vs → all_true (map uses_values vs) ≡ true
 variables_use g object [] h = refl
 variables_use g object (v ∷ vs) h = both (uses_values v) (all_true (map uses_values vs)) h.0.1 (variables_use g object vs h.1)
 
-function_round : (g : Stage) (a : Standing) (r : Round) → in_function r.function ≡ true → g ≡ stage.Function → in_function (at g (placed_round a r)) ≡ true
+pub function_round : (g : Stage) (a : Standing) (r : Round) → in_function r.function ≡ true → g ≡ stage.Function → in_function (at g (placed_round a r)) ≡ true
 function_round stage.Function a r h e = h
 function_round stage.Tick a r h e = cc
 function_round stage.Dollar a r h e = h
 
-object_round : (g : Stage) (a : Standing) (r : Round) (n : ℕ) → nat_le n r.function.object ≡ true → g ≡ stage.Function → nat_le n (at g (placed_round a r)).object ≡ true
+pub object_round : (g : Stage) (a : Standing) (r : Round) (n : ℕ) → nat_le n r.function.object ≡ true → g ≡ stage.Function → nat_le n (at g (placed_round a r)).object ≡ true
 object_round stage.Function a r n h e = h
 object_round stage.Tick a r n h e = cc
 object_round stage.Dollar a r n h e = h
@@ -74,7 +74,7 @@ round_in stage.Function may vs a r = refl
 round_in stage.Tick may vs a r = refl
 round_in stage.Dollar may vs a r = cc
 
-in_entered : (g : Stage) (b : Blocks) (s : State) → MayStand g → InBlock g (entered g b s)
+pub in_entered : (g : Stage) (b : Blocks) (s : State) → MayStand g → InBlock g (entered g b s)
 in_entered stage.Function b s may = tt
 in_entered stage.Tick b s may = refl
 in_entered stage.Dollar b s may = may
