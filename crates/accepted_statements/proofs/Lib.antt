@@ -1,3 +1,4 @@
+pub mod Assembly
 pub mod Blocking
 pub mod Blocks
 pub mod Counting

@@ -28,6 +28,10 @@ as_one x y o d n = record {
 as_none : (x : Stmt) → ((byte : ℕ) → objects_at byte x ≡ 0) → ((i : ℕ) → declarations_of i x ≡ 0) → CountsAs x []
 as_none x o d = record { objects = o; declarations = d; size = omega arith }
 
+-- a node counts as it does
+pub as_itself : (x : Stmt) → CountsAs x (x ∷ [])
+as_itself x = as_one x x (λ byte. refl) (λ i. refl) (omega arith)
+
 pub expr_counts : (e : Expr) → CountsAs (st.Expr e) []
 expr_counts e = as_none (st.Expr e) (λ byte. objects_at_expr byte e) (λ i. declarations_of_expr i e)
 
