@@ -47,10 +47,10 @@ use Rattle.accepted_statements.proofs.Standing.{Stood, Test, Effect, EffectOf, s
 
 -- ---- tests
 
-unless_ok : {A : Type 0} (P : A → Type 0) (c : Checked A) (x : A) → c ≡ Ok x → Unless P c → P x
+pub unless_ok : {A : Type 0} (P : A → Type 0) (c : Checked A) (x : A) → c ≡ Ok x → Unless P c → P x
 unless_ok P c x e u = subst (λ z. Unless P z) e u
 
-unless_used : {A : Type 0} (P : A → Type 0) (c : Checked A) (x : A) → c ≡ Ok x → UnlessUsed P c → P x
+pub unless_used : {A : Type 0} (P : A → Type 0) (c : Checked A) (x : A) → c ≡ Ok x → UnlessUsed P c → P x
 unless_used P c x e u = subst (λ z. UnlessUsed P z) e u
 
 pub condition_test : (r : Around) (line : ℕ) (o : Operand) (e : Expr) → Good r o → statements.condition_node line o ≡ Ok e → Test r e

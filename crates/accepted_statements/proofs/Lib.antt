@@ -1,4 +1,5 @@
 pub mod Assembly
+pub mod Beginning
 pub mod Blocking
 pub mod Blocks
 pub mod Counting
