@@ -40,6 +40,7 @@ use Rattle.accepted_types.proofs.Walks.{ran, pure_same, pure_value, lifted}
 use Rattle.accepted_types.proofs.Keeps.{pure_keeps, lift_keeps, bind_keeps}
 use Rattle.accepted_types.proofs.Plain.{plain_keeps, plain_same, plain_did_by}
 use Rattle.accepted_types.proofs.NodeRules.{good_value}
+use Rattle.accepted_statements.specs.Laws.{declares_one}
 use Rattle.accepted_statements.specs.Parts.{GoodType, Begun, Nothing, Effect, GoodBegin}
 use Rattle.accepted_statements.proofs.Growing.{keeps_grows, grows_more}
 use Rattle.accepted_statements.proofs.Nodes.{expr_counts, expr_unlabelled}
@@ -119,9 +120,6 @@ list_good many a line p row step = record {
 }
 
 -- ---- a declarator
-
-abbrev pub declares_one : Stage → ℕ → Option (ℕ × Name) → Rule State CType → (Operand → Rule State (List Stmt)) → Rule State (List Stmt)
-declares_one g line name w begin = w >>= (λ t. declarations.declare g line name t >>= (λ p. begin p))
 
 begun_made : (g : Stage) (direct : Bool) (s new : State) (xs : List Stmt) → Made g s new [] → new.labels ≡ s.labels → Begun xs → Makes g direct s new xs
 begun_made g direct s new xs m l (Nothing is) = record {

@@ -17,6 +17,7 @@ pub mod Nodes
 pub mod Runs
 pub mod Standing
 pub mod Switching
+pub mod Typing
 pub mod Whole
 pub mod Within
 pub mod Wider
