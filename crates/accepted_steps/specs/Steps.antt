@@ -1,10 +1,11 @@
 -- What a step of the walk makes stands right in each surrounding that agrees with the state after it.
-use Rattle.std.specs.Prelude.{◌≡◌, ℕ, ◌≤◌, Bool, true, false, nat_le, List, [], ◌∷◌, ◌++◌, length, map, slice_get, Option, Some, None, Ok}
+use Rattle.std.specs.Prelude.{◌≡◌, ℕ, min, ◌≤◌, Bool, true, false, nat_le, List, [], ◌∷◌, ◌++◌, length, map, slice_get, Option, Some, None, Ok}
 use Rattle.std.specs.List.{list_all}
 use Rattle.typed_tree.specs.declared.expression.CaptureKind.{CaptureKind}
 use Rattle.typed_tree.specs.declared.expression.CaptureKind.TheVariants as capture
 use Rattle.typed_tree.specs.declared.expression.Expr.{Expr}
 use Rattle.typed_tree.specs.declared.program.Tick.{Tick}
+use Rattle.typed_tree.specs.Sizes.{body_size}
 use Rattle.check_tables.specs.declared.functions.Functions.{Functions}
 use Rattle.check_tables.specs.declared.functions.Prototype.{Prototype}
 use Rattle.check_tables.specs.Functions.{number}
@@ -74,6 +75,7 @@ pub record TickStands (a : Around) (t : Tick) (ks : List CaptureKind) : Type 0 w
   pub stands : stands_as_tick t.body (round_tick a ks) ≡ true
   pub values : body_uses_values t.body ≡ true
   pub numbers : IsNumbered t.body
+  pub size : t.size ≡ min (body_size t.body) 65536
 
 abbrev pub EachTick : Around → List Tick → List (List CaptureKind) → Type 0
 EachTick a [] [] = Unit {0}

@@ -1,4 +1,5 @@
 pub mod Constants
+pub mod Fixed
 pub mod Fronts
 pub mod Keeps
 pub mod Knowing
@@ -8,5 +9,6 @@ pub mod NodeRules
 pub mod Plain
 pub mod Plainly
 pub mod Productions
+pub mod Strings
 pub mod Types
 pub mod Walks

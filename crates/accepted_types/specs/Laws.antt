@@ -5,13 +5,14 @@ use Rattle.c_types.specs.declared.ctype.CType.{CType}
 use Rattle.c_declared.specs.declared.steps.Step.{Step}
 use Rattle.c_nodes.specs.declared.operand.Operand.{Operand}
 use Rattle.check_state.specs.declared.state.Stage.{Stage}
+use Rattle.check_state.specs.declared.state.Stage.TheVariants as stage
 use Rattle.check_state.specs.declared.state.State.{State}
 use Rattle.check_tables.specs.Walks.{Rule}
 use Rattle.check_expressions.specs.Rules.{Node, Named, Shape, Item, walk_rule}
 use Rattle.check_statements.specs.Rules.{suffix_rule}
 use Rattle.accepted_steps.specs.Kept.{Keeps, IsKeeping}
 use Rattle.accepted_steps.specs.Good.{Plain, Anywhere, GoodSuffix}
-use Rattle.accepted_types.specs.Parts.{GoodParts, HasForm, GoodSuffixParts}
+use Rattle.accepted_types.specs.Parts.{GoodParts, HasForm, IsString, GoodSuffixParts, IsFixed, FixedParts, FixedSuffix, FixedSuffixParts}
 
 -- ---- steps that name nothing, and capture only what stands anywhere
 
@@ -38,6 +39,11 @@ ConstantsArePlain =
     (many : ℕ) (e : Expr-W) → GoodParts many e → HasForm e → (g : Stage) (s new : State) (o : Operand) → walk_rule e g s ≡ Ok (o, new)
     → Plain g s new × Anywhere g o
 
+-- and a string captures nothing
+abbrev pub StringsArePlain : Type 0
+StringsArePlain =
+    (many : ℕ) (e : Expr-W) → GoodParts many e → IsString e → (g : Stage) (s new : State) (o : Operand) → walk_rule e g s ≡ Ok (o, new) → Plain g s new
+
 -- ---- types
 
 abbrev pub Suffix-W : Type 0
@@ -46,3 +52,9 @@ Suffix-W = Suffix-F Shape Node (Unit {0}) (Option Node) Item (Stage → Rule Sta
 -- a suffix of a declarator names nothing, or has a length that isn't constant
 abbrev pub SuffixesAreGood : Type 0
 SuffixesAreGood = (many : ℕ) (e : Suffix-W) → GoodSuffixParts many e → GoodSuffix (suffix_rule e)
+
+-- ---- what doesn't depend on what is known
+
+pub record Fixing : Type 0 where
+  pub constants : (e : Expr-W) → FixedParts e → HasForm e → IsFixed (walk_rule e stage.Function)
+  pub suffixes : (e : Suffix-W) → FixedSuffixParts e → FixedSuffix (suffix_rule e)

@@ -2,7 +2,7 @@
 //! This is a part of the law on the whole walk; there is no code to run here.
 #![tactic(auto)]
 
-ghost use Rattle.accepted_types.specs.Laws.{ConstantsArePlain, ExpressionsKeep, PlainSteps, SuffixesAreGood};
+ghost use Rattle.accepted_types.specs.Laws.{ConstantsArePlain, ExpressionsKeep, Fixing, PlainSteps, StringsArePlain, SuffixesAreGood};
 
 /// That a step which names nothing, and captures only what stands anywhere, may stand between others.
 pub fn plain_steps()
@@ -22,4 +22,14 @@ pub fn constants_are_plain()
 /// That a suffix of a declarator names nothing and captures only what stands anywhere, or has a length that isn't constant.
 pub fn suffixes_are_good()
     ensures { SuffixesAreGood }
+{}
+
+/// That a string names nothing and captures nothing.
+pub fn strings_are_plain()
+    ensures { StringsArePlain }
+{}
+
+/// That the value of a constant and the steps of a declarator don't depend on what is known where a function runs.
+pub fn constants_are_fixed()
+    ensures { Fixing }
 {}
