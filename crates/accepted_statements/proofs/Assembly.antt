@@ -1,6 +1,6 @@
 -- Each statement whose parts are good is good, and so is a block.
-use Rattle.std.proofs.Common.{◌≡◌, ℕ, ◌%◌, Bool, true, false, List, [], ◌∷◌, ◌++◌, refl, sym, ap, subst, ◌∙◌, Option, Some, None, Ok, Err}
-use Rattle.std.specs.Prelude.{◌==◌, ◌||◌, if◌then◌else◌}
+use Rattle.std.proofs.Common.{◌≡◌, ℕ, Bool, true, false, List, [], refl, sym, ap, subst, ◌∙◌, Option, Some, None, Ok}
+use Rattle.std.specs.Prelude.{◌||◌, if◌then◌else◌}
 use Rattle.tick_tree.specs.declared.syntax.Core.TheOpen.{Stmt-F}
 use Rattle.typed_tree.specs.declared.expression.CaptureKind.{CaptureKind}
 use Rattle.typed_tree.specs.declared.expression.Stmt.{Stmt}
@@ -9,7 +9,7 @@ use Rattle.check_state.specs.declared.state.Around.{Around as Standing}
 use Rattle.check_state.specs.declared.state.Stage.{Stage}
 use Rattle.check_state.specs.declared.state.Stage.TheVariants as stage
 use Rattle.check_state.specs.declared.state.State.{State}
-use Rattle.check_tables.specs.Walks.{Rule, ◌>>=◌, pure, lift}
+use Rattle.check_tables.specs.Walks.{Rule, pure, lift}
 use Rattle.check_expressions.specs.Rules.{Node, Named, Shape, Item, each, block}
 use Rattle.check_statements.specs.Rules as rules
 use Rattle.check_statements.specs.Rules.{stmt_walk}
@@ -17,25 +17,21 @@ use Rattle.check_statements.specs.Statements as statements
 use Rattle.accepted_trees.specs.Places.{Around, act}
 use Rattle.accepted_trees.specs.Values.{uses_values}
 use Rattle.accepted_steps.specs.Known.{Blocks, Known}
-use Rattle.accepted_steps.specs.Steps.{Round, at, Did}
-use Rattle.accepted_steps.specs.Good.{GoodNode}
-use Rattle.accepted_steps.specs.Items.{MayStand, InBlock, placed_round, ItemsStand, DoesStand, GoodStatement, GoodItem, Few, KeepsBlock, GoodBlock}
+use Rattle.accepted_steps.specs.Steps.{Round, at}
+use Rattle.accepted_steps.specs.Items.{MayStand, InBlock, placed_round, ItemsStand, GoodStatement, GoodItem, Few, GoodBlock}
 use Rattle.accepted_types.specs.Parts.{EachPart, GoodOptional}
-use Rattle.accepted_types.proofs.Fronts.{no_rest}
-use Rattle.accepted_types.proofs.Walks.{ran, pure_same, pure_value}
-use Rattle.accepted_types.proofs.Plain.{plain_same, plain_did_by}
-use Rattle.accepted_statements.specs.Parts.{GoodDeclaration, GoodStatementParts}
-use Rattle.accepted_statements.proofs.Blocks.{inside, back, scopes_back}
+use Rattle.accepted_types.proofs.Walks.{pure_same, pure_value}
+use Rattle.accepted_statements.specs.Parts.{GoodStatementParts}
+use Rattle.accepted_statements.proofs.Blocks.{inside, scopes_back}
 use Rattle.accepted_statements.proofs.Nodes.{Unlabelled, as_itself, break_counts, continue_counts, return_counts, block_counts, break_unlabelled, continue_unlabelled, return_unlabelled, block_unlabelled}
-use Rattle.accepted_statements.proofs.Making.{Made}
-use Rattle.accepted_statements.proofs.Runs.{Follows, followed, if_ran, while_ran, do_ran, else_ran, for_ran}
-use Rattle.accepted_statements.proofs.Blocking.{Enclosed, enclosed, switch_ran}
+use Rattle.accepted_statements.proofs.Runs.{followed, if_ran, while_ran, do_ran, else_ran, for_ran}
+use Rattle.accepted_statements.proofs.Blocking.{enclosed, switch_ran}
 use Rattle.accepted_statements.proofs.Labelling.{break_ran, continue_ran, answer_ran, case_ran, default_ran}
 use Rattle.accepted_statements.proofs.Makes.{Makes, one_node, if_makes, while_makes, do_makes, else_makes, for_makes, each_makes}
 use Rattle.accepted_statements.proofs.Whole.{blocked, block_makes, switch_makes, expr_makes, answer_makes, same_makes, case_makes, default_makes, for_block_makes}
 use Rattle.accepted_statements.proofs.Joining.{did_so}
 use Rattle.accepted_statements.proofs.Standing.{Stood, stood_one, list_stood, break_stood, continue_stood, return_stood}
-use Rattle.accepted_statements.proofs.Doing.{place_of, may_of, DidStand, if_did, while_did, do_did, else_did, for_did, expr_did, answer_did, same_did, each_did}
+use Rattle.accepted_statements.proofs.Doing.{place_of, DidStand, if_did, while_did, do_did, else_did, for_did, expr_did, answer_did, same_did}
 use Rattle.accepted_statements.proofs.Within.{whole_block_did, for_block_did}
 use Rattle.accepted_statements.proofs.Switching.{switch_did, case_did, default_did}
 

@@ -1,15 +1,10 @@
 -- A declaration in a block whose parts are good is good: its type, its name, and what its variable begins with.
-use Rattle.std.proofs.Common.{◌≡◌, ℕ, Bool, true, false, List, [], ◌∷◌, ◌++◌, refl, sym, ap, subst, ◌∙◌, Option, Some, None, Ok, Err}
+use Rattle.std.proofs.Common.{◌≡◌, ℕ, Bool, true, false, List, [], ◌∷◌, ◌++◌, sym, ap, subst, ◌∙◌, Option, Ok}
 use Rattle.std.specs.Prelude.{if◌then◌else◌}
-use Rattle.c_types.specs.declared.ctype.Base.{Base}
 use Rattle.c_types.specs.declared.ctype.CType.{CType}
 use Rattle.c_forms.specs.Forms.{Name}
-use Rattle.c_declared.specs.declared.steps.Role.TheVariants as role
-use Rattle.c_declared.specs.declared.steps.Step.{Step}
-use Rattle.c_declared.specs.Making.{declared_type}
 use Rattle.tick_tree.specs.declared.fault.FaultKind.{FaultKind}
-use Rattle.tick_tree.specs.Faults.{Checked, refuse, ◌>>=◌ as ◌>>>=◌}
-use Rattle.typed_tree.specs.declared.expression.CaptureKind.{CaptureKind}
+use Rattle.tick_tree.specs.Faults.{refuse, ◌>>=◌ as ◌>>>=◌}
 use Rattle.typed_tree.specs.declared.expression.Stmt.{Stmt}
 use Rattle.typed_tree.specs.declared.expression.Stmt.TheVariants as st
 use Rattle.c_nodes.specs.declared.operand.Operand.{Operand}
@@ -17,11 +12,9 @@ use Rattle.c_nodes.specs.Operands.{value_of, effect}
 use Rattle.c_places.specs.Places as places
 use Rattle.check_state.specs.declared.state.Around.{Around as Standing}
 use Rattle.check_state.specs.declared.state.Stage.{Stage}
-use Rattle.check_state.specs.declared.state.Stage.TheVariants as stage
 use Rattle.check_state.specs.declared.state.State.{State}
-use Rattle.check_state.specs.Locals.{local}
 use Rattle.check_tables.specs.Walks.{Rule, ◌>>=◌, pure, lift}
-use Rattle.check_expressions.specs.Rules.{Node, Shape}
+use Rattle.check_expressions.specs.Rules.{Node}
 use Rattle.check_statements.specs.Declarations as declarations
 use Rattle.check_statements.specs.Declarations.{declared_in}
 use Rattle.check_statements.specs.Initializers as initializers
@@ -31,12 +24,10 @@ use Rattle.accepted_nodes.specs.Right.{IsRight}
 use Rattle.accepted_nodes.proofs.Places.{places_stand}
 use Rattle.accepted_values.specs.Used.{IsUsed}
 use Rattle.accepted_values.proofs.Places.{places_use}
-use Rattle.accepted_steps.specs.Kept.{IsKeeping}
-use Rattle.accepted_steps.specs.Known.{Blocks, IsObject, Known}
-use Rattle.accepted_steps.specs.Steps.{Round, at, Did}
-use Rattle.accepted_steps.specs.Good.{Plain, Good, GoodNode, GoodShape, any_computed}
-use Rattle.accepted_steps.specs.Items.{MayStand, InBlock, Labelled, ItemStands, ItemsStand, GoodStatement}
-use Rattle.accepted_types.proofs.Walks.{ran, pure_same, pure_value, lifted}
+use Rattle.accepted_steps.specs.Steps.{at, Did}
+use Rattle.accepted_steps.specs.Good.{Good, GoodNode}
+use Rattle.accepted_steps.specs.Items.{MayStand, Labelled, ItemStands, ItemsStand, GoodStatement}
+use Rattle.accepted_types.proofs.Walks.{ran, pure_same, pure_value}
 use Rattle.accepted_types.proofs.Keeps.{pure_keeps, lift_keeps, bind_keeps}
 use Rattle.accepted_types.proofs.Plain.{plain_keeps, plain_same, plain_did_by}
 use Rattle.accepted_types.proofs.NodeRules.{good_value}
@@ -46,11 +37,11 @@ use Rattle.accepted_statements.proofs.Growing.{keeps_grows, grows_more}
 use Rattle.accepted_statements.proofs.Nodes.{expr_counts, expr_unlabelled}
 use Rattle.accepted_statements.proofs.Making.{Made, made_kept, made_behind, made_before, made_more, made_as, labelled_more, labelled_none, labelled_one, each_append}
 use Rattle.accepted_statements.proofs.Locals.{local_made, local_labels}
-use Rattle.accepted_statements.proofs.Runs.{Gave, gave, Follows, followed, Judged, judged}
+use Rattle.accepted_statements.proofs.Runs.{gave, followed, judged}
 use Rattle.accepted_statements.proofs.Makes.{Makes, makes_of}
 use Rattle.accepted_statements.proofs.Joining.{did_both, did_so, did_placed}
 use Rattle.accepted_statements.proofs.Standing.{stood_one, expr_stood}
-use Rattle.accepted_statements.proofs.Doing.{place_of, may_of, node_did, DidStand, good_effect, unless_ok, unless_used}
+use Rattle.accepted_statements.proofs.Doing.{place_of, node_did, good_effect, unless_ok, unless_used}
 use Rattle.accepted_statements.proofs.Declaring.{local_did}
 use Rattle.accepted_statements.proofs.Assembly.{statement_good}
 

@@ -1,28 +1,23 @@
 -- The walk over a block that gives an answer, and that over a switch, a label and a return, taken apart.
-use Rattle.std.proofs.Common.{◌≡◌, ℕ, Bool, true, false, ◌&&◌, ◌||◌, List, [], ◌∷◌, ◌++◌, refl, sym, ap, subst, ◌∙◌, Option, Some, None, Ok, Err}
-use Rattle.std.specs.Prelude.{if◌then◌else◌, length}
-use Rattle.tick_tree.specs.declared.fault.FaultKind.TheVariants as fault
-use Rattle.tick_tree.specs.Faults.{Checked, refuse}
+use Rattle.std.proofs.Common.{◌≡◌, ℕ, List, [], ◌∷◌, sym, ap, subst, ◌∙◌, Ok}
+use Rattle.std.specs.Prelude.{length}
 use Rattle.typed_tree.specs.declared.expression.Expr.{Expr}
 use Rattle.typed_tree.specs.declared.expression.Stmt.{Stmt}
 use Rattle.typed_tree.specs.declared.expression.Stmt.TheVariants as st
 use Rattle.c_nodes.specs.declared.operand.Operand.{Operand}
-use Rattle.c_nodes.specs.Operands.{effect}
-use Rattle.c_constants.specs.Constants.{constant}
 use Rattle.check_tables.specs.declared.labels.Labels.{Labels}
 use Rattle.check_tables.specs.Labels as labels
 use Rattle.check_state.specs.declared.state.Around.{Around as Standing}
-use Rattle.check_state.specs.declared.state.Stage.{Stage}
 use Rattle.check_state.specs.declared.state.State.{State}
 use Rattle.check_state.specs.Blocks.{depth, enter, leave}
 use Rattle.check_tables.specs.Walks.{Rule, ◌>>=◌, pure, lift}
-use Rattle.check_expressions.specs.Rules.{Node, Item, each, block}
+use Rattle.check_expressions.specs.Rules.{Node, Item, each}
 use Rattle.check_statements.specs.Rules as rules
 use Rattle.check_statements.specs.Statements as statements
 use Rattle.check_statements.specs.Statements.{switch_node, return_node, switch_entered, with_labels, case_node, default_node}
-use Rattle.accepted_types.proofs.Walks.{ran, ok_same, pure_same, pure_value, lifted}
+use Rattle.accepted_types.proofs.Walks.{ran, ok_same, pure_same, pure_value}
 use Rattle.accepted_statements.proofs.Blocks.{inside, behind, back}
-use Rattle.accepted_statements.proofs.Runs.{Gave, gave, Follows, followed, Judged, judged}
+use Rattle.accepted_statements.proofs.Runs.{gave, followed, judged}
 
 -- ---- blocks
 

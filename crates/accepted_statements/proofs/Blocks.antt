@@ -1,21 +1,18 @@
 -- What a block makes of what its items make: it has a scope and variables of its own.
-use Rattle.std.proofs.Common.{◌≡◌, ℕ, ◌+◌, ◌-◌, ◌≤◌, ◌%◌, Bool, true, false, List, [], ◌∷◌, ◌++◌, length, take, map, refl, sym, ap, subst, ◌∙◌, append-nil, length-append, arith, Ok}
-use Rattle.std.specs.Prelude.{◌==◌}
+use Rattle.std.proofs.Common.{◌≡◌, ℕ, ◌+◌, ◌-◌, ◌≤◌, List, [], ◌∷◌, ◌++◌, length, take, refl, sym, ap, subst, ◌∙◌, length-append, arith}
 use Rattle.std.proofs.Math.Seq.{take-append_seam}
 use Rattle.c_types.specs.Scopes.{Scopes}
 use Rattle.typed_tree.specs.declared.expression.Stmt.{Stmt}
-use Rattle.typed_tree.specs.declared.expression.Stmt.TheVariants as st
 use Rattle.typed_tree.specs.Sizes.{statement_size}
-use Rattle.check_tables.specs.declared.labels.Labels.{Labels}
 use Rattle.check_tables.specs.Frames as frames
 use Rattle.check_state.specs.declared.state.Stage.{Stage}
 use Rattle.check_state.specs.declared.state.Stage.TheVariants as stage
 use Rattle.check_state.specs.declared.state.State.{State}
 use Rattle.accepted_trees.specs.Counts.{objects_at, declarations_of}
-use Rattle.accepted_steps.specs.Kept.{Starts, outer, GrowsTables, GrowsFunction, GrowsTick, GrowsStage, Grows}
-use Rattle.accepted_steps.specs.Known.{Small, SmallTick, SmallInner}
-use Rattle.accepted_steps.specs.Counts.{objects_in, declarations_in, between, variables, Counts}
-use Rattle.accepted_steps.specs.Items.{EachNode, DeclaresAt, Declared}
+use Rattle.accepted_steps.specs.Kept.{outer, GrowsStage, Grows}
+use Rattle.accepted_steps.specs.Known.{Small, SmallTick}
+use Rattle.accepted_steps.specs.Counts.{declarations_in, between, variables, Counts}
+use Rattle.accepted_steps.specs.Items.{EachNode, DeclaresAt}
 use Rattle.accepted_types.proofs.Fronts.{starts_refl, no_rest}
 use Rattle.accepted_statements.proofs.Counting.{sum_one, objects_append, declarations_append, sizes_append, CountsAs}
 use Rattle.accepted_statements.proofs.Making.{Made}

@@ -1,6 +1,5 @@
 -- The counts of nodes come together over lists, and over statements.
-use Rattle.std.proofs.Common.{◌≡◌, ℕ, ◌+◌, ◌-◌, ◌≤◌, Bool, true, false, ◌&&◌, List, [], ◌∷◌, ◌++◌, length, map, refl, sym, ap, subst, ◌∙◌, append-nil, arith}
-use Rattle.std.specs.Prelude.{nat_le, nat_lt, if◌then◌else◌}
+use Rattle.std.proofs.Common.{◌≡◌, ℕ, ◌+◌, ◌≤◌, List, [], ◌∷◌, ◌++◌, map, ap, ◌∙◌, arith}
 use Rattle.std.specs.List.{sum}
 use Rattle.std.proofs.lemmas.Bool.Decides.{nat_tests}
 use Rattle.std.proofs.lemmas.List.{map-append}
@@ -9,11 +8,11 @@ use Rattle.typed_tree.specs.declared.expression.Stmt.{Stmt}
 use Rattle.typed_tree.specs.Sizes.{statement_size, statements_size}
 use Rattle.check_state.specs.declared.state.Stage.{Stage}
 use Rattle.check_state.specs.declared.state.State.{State}
-use Rattle.accepted_trees.specs.Counts.{one_if, objects_at, declarations_of}
-use Rattle.accepted_steps.specs.Kept.{Starts, Grows}
+use Rattle.accepted_trees.specs.Counts.{objects_at, declarations_of}
+use Rattle.accepted_steps.specs.Kept.{Grows}
 use Rattle.accepted_steps.specs.Known.{Small}
 use Rattle.accepted_steps.specs.Counts.{objects_in, declarations_in, between, variables, Counts}
-use Rattle.accepted_statements.proofs.Growing.{grows_more, small_before, object_grows, variables_grow}
+use Rattle.accepted_statements.proofs.Growing.{small_before, object_grows, variables_grow}
 
 -- ---- lists
 

@@ -1,5 +1,5 @@
 -- What the declaration of a variable did: its name means the variable, whose node stands in the block.
-use Rattle.std.proofs.Common.{◌≡◌, ℕ, ◌+◌, ◌-◌, ◌*◌, ◌≤◌, ◌%◌, min, Bool, true, false, ◌&&◌, List, [], ◌∷◌, ◌++◌, length, map, refl, sym, ap, subst, ◌∙◌, append-nil, length-append, arith, Option, Some, None, Ok}
+use Rattle.std.proofs.Common.{◌≡◌, ℕ, ◌+◌, ◌-◌, ◌≤◌, ◌%◌, min, Bool, true, false, ◌&&◌, List, [], ◌∷◌, ◌++◌, length, refl, sym, ap, subst, ◌∙◌, append-nil, length-append, arith, Ok}
 use Rattle.std.specs.Prelude.{◌==◌, nat_le, slice_get, if◌then◌else◌}
 use Rattle.std.proofs.lemmas.Bool.Decides.{nat_tests}
 use Rattle.std.proofs.lemmas.Option.{slice_get_past}
@@ -7,7 +7,6 @@ use Rattle.c_types.specs.declared.ctype.CType.{CType}
 use Rattle.c_types.specs.declared.names.Meaning.{Meaning}
 use Rattle.c_types.specs.declared.names.MeaningKind.TheVariants as kind
 use Rattle.c_types.specs.Scopes.{Name, Scopes, declared, innermost}
-use Rattle.c_shapes.specs.Shapes.{is_void}
 use Rattle.typed_tree.specs.declared.expression.CaptureKind.{CaptureKind}
 use Rattle.typed_tree.specs.declared.expression.Expr.TheVariants as ex
 use Rattle.typed_tree.specs.declared.expression.Stmt.{Stmt}
@@ -22,20 +21,20 @@ use Rattle.check_state.specs.declared.state.Stage.{Stage}
 use Rattle.check_state.specs.declared.state.Stage.TheVariants as stage
 use Rattle.check_state.specs.declared.state.State.{State}
 use Rattle.check_state.specs.Names.{operand, place_by}
-use Rattle.check_state.specs.Locals.{meaning, next_home, made_outer, made_inner, local}
-use Rattle.accepted_trees.specs.Places.{Around, act, part, in_function, in_scope, is_frame}
+use Rattle.check_state.specs.Locals.{meaning, made_outer, local}
+use Rattle.accepted_trees.specs.Places.{Around, in_function}
 use Rattle.accepted_trees.proofs.Equations.{act_variable, part_frame}
 use Rattle.accepted_nodes.specs.Right.{Stands}
 use Rattle.accepted_values.proofs.Nodes.{nodes_use}
-use Rattle.accepted_steps.specs.Kept.{Starts, Grows}
-use Rattle.accepted_steps.specs.Known.{Blocks, of_function, of_tick, has, numbers, HasHome, IsVariable, IsObject, Means, Small, Knows, Known}
+use Rattle.accepted_steps.specs.Kept.{Grows}
+use Rattle.accepted_steps.specs.Known.{Blocks, of_tick, has, numbers, HasHome, IsVariable, IsObject, Means, Known}
 use Rattle.accepted_steps.specs.Steps.{Round, at, Agrees, Did}
 use Rattle.accepted_steps.specs.Good.{Good}
 use Rattle.accepted_steps.specs.Items.{InBlock}
 use Rattle.accepted_types.proofs.Fronts.{starts_behind}
 use Rattle.accepted_statements.proofs.Growing.{small_before}
-use Rattle.accepted_statements.proofs.Locals.{both, outer_gives, inner_gives, register_grows, object_grows, inner_grows, after_small, after_grows, aligned_after, inner_small, named}
-use Rattle.accepted_statements.proofs.Lists.{get_front, get_last, has_front, has_back, has_self, has_none, has_starts, numbers_append, scope_append, scope_at, scopes_set}
+use Rattle.accepted_statements.proofs.Locals.{both, outer_gives, inner_gives, register_grows, object_grows, inner_grows, after_small, after_grows, aligned_after, named}
+use Rattle.accepted_statements.proofs.Lists.{get_front, get_last, has_back, has_self, has_none, has_starts, numbers_append, scope_append, scope_at, scopes_set}
 use Rattle.accepted_statements.proofs.Wider.{Wider, AllMean, names_wider, agrees_wider}
 use Rattle.accepted_statements.proofs.Joining.{did_only}
 

@@ -1,5 +1,5 @@
 -- What statements with tests and bodies did.
-use Rattle.std.proofs.Common.{◌≡◌, ℕ, Bool, true, false, List, [], ◌∷◌, ◌++◌, map, refl, sym, ap, subst, ◌∙◌, Option, Some, None, Ok, Err}
+use Rattle.std.proofs.Common.{◌≡◌, ℕ, false, List, [], ◌∷◌, ◌++◌, refl, sym, subst, Option, Some, None, Ok}
 use Rattle.tick_tree.specs.Faults.{Checked}
 use Rattle.typed_tree.specs.declared.expression.CaptureKind.{CaptureKind}
 use Rattle.typed_tree.specs.declared.expression.Expr.{Expr}
@@ -14,11 +14,11 @@ use Rattle.check_state.specs.declared.state.Around.{Around as Standing}
 use Rattle.check_state.specs.declared.state.Stage.{Stage}
 use Rattle.check_state.specs.declared.state.Stage.TheVariants as stage
 use Rattle.check_state.specs.declared.state.State.{State}
-use Rattle.check_tables.specs.Walks.{Rule, ◌>>=◌, pure, lift}
+use Rattle.check_tables.specs.Walks.{◌>>=◌, pure}
 use Rattle.check_expressions.specs.Rules.{Node, Item, each}
 use Rattle.check_statements.specs.Rules as rules
 use Rattle.check_statements.specs.Statements as statements
-use Rattle.accepted_trees.specs.Places.{Around, act, looped}
+use Rattle.accepted_trees.specs.Places.{Around, looped}
 use Rattle.accepted_nodes.specs.Right.{Stands, Unless}
 use Rattle.accepted_nodes.proofs.Operands.{prefixes_stand}
 use Rattle.accepted_nodes.proofs.Calls.{calls_stand}
@@ -27,19 +27,18 @@ use Rattle.accepted_values.specs.Used.{Leaves, Unless as UnlessUsed}
 use Rattle.accepted_values.proofs.Nodes.{nodes_use}
 use Rattle.accepted_values.proofs.Operands.{prefixes_use}
 use Rattle.accepted_values.proofs.Calls.{calls_use}
-use Rattle.accepted_steps.specs.Kept.{Keeps, Grows}
+use Rattle.accepted_steps.specs.Kept.{Grows}
 use Rattle.accepted_steps.specs.Known.{Blocks, Known}
-use Rattle.accepted_steps.specs.Steps.{Round, at, Agrees, Did}
+use Rattle.accepted_steps.specs.Steps.{Round, at, Did}
 use Rattle.accepted_steps.specs.Good.{Good, GoodNode}
-use Rattle.accepted_steps.specs.Items.{MayStand, InBlock, placed_round, ItemStands, ItemsStand, GoodStatement, GoodItem}
+use Rattle.accepted_steps.specs.Items.{MayStand, InBlock, placed_round, ItemStands, ItemsStand, GoodItem}
 use Rattle.accepted_types.specs.Parts.{EachPart, GoodOptional}
 use Rattle.accepted_types.proofs.Walks.{ran, pure_same, pure_value}
-use Rattle.accepted_types.proofs.Keeps.{keeps_more}
 use Rattle.accepted_types.proofs.Plain.{plain_same, plain_did_by}
 use Rattle.accepted_types.proofs.NodeRules.{good_value}
 use Rattle.accepted_statements.proofs.Growing.{keeps_grows, grows_more}
 use Rattle.accepted_statements.proofs.Making.{each_append}
-use Rattle.accepted_statements.proofs.Runs.{Follows, followed, BodyRan, IfRan, WhileRan, DoRan, ElseRan, OptionalRan, ForRan}
+use Rattle.accepted_statements.proofs.Runs.{followed, BodyRan, IfRan, WhileRan, DoRan, ElseRan, OptionalRan, ForRan}
 use Rattle.accepted_statements.proofs.Labelling.{AnswerRan}
 use Rattle.accepted_statements.proofs.Makes.{optional_keeps, each_makes}
 use Rattle.accepted_statements.proofs.Joining.{did_both, did_so, did_placed}

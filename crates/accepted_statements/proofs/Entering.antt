@@ -1,19 +1,18 @@
 -- What is known in a block that is entered, and behind it.
-use Rattle.std.proofs.Common.{◌≡◌, ℕ, ◌+◌, ◌-◌, ◌≤◌, ◌%◌, Bool, true, false, ◌&&◌, if◌then◌else◌, List, [], ◌∷◌, ◌++◌, length, map, refl, sym, ap, subst, ◌∙◌, append_assoc, append-nil, length-append, arith, Option, Some, None}
-use Rattle.std.specs.Prelude.{◌==◌, ◌⊎◌, nat_le, slice_get}
+use Rattle.std.proofs.Common.{◌≡◌, ℕ, ◌-◌, true, List, [], ◌∷◌, ◌++◌, map, refl, sym, ap, subst, ◌∙◌, arith, None}
+use Rattle.std.specs.Prelude.{◌⊎◌, nat_le, slice_get}
 use Rattle.std.proofs.Common.{inl, inr}
 use Rattle.typed_tree.specs.declared.expression.CaptureKind.{CaptureKind}
 use Rattle.typed_tree.specs.declared.expression.Stmt.{Stmt}
 use Rattle.typed_tree.specs.declared.program.Tick.{Tick}
-use Rattle.check_tables.specs.declared.frame.Home.{Home}
 use Rattle.check_tables.specs.Frames.{count}
 use Rattle.check_state.specs.declared.state.Stage.{Stage}
 use Rattle.check_state.specs.declared.state.Stage.TheVariants as stage
 use Rattle.check_state.specs.declared.state.State.{State}
-use Rattle.accepted_trees.specs.Places.{Around, Act, act, in_scope, within}
-use Rattle.accepted_steps.specs.Kept.{Starts, GrowsStage, Grows}
-use Rattle.accepted_steps.specs.Known.{Blocks, of_function, of_tick, has, numbers, EachEntry, EachScope, Means, Small, Knows, Known}
-use Rattle.accepted_steps.specs.Steps.{Round, at, AgreesTick, Agrees, TickStands, EachTick, CapturesStand, Did}
+use Rattle.accepted_trees.specs.Places.{Around, act, in_scope, within}
+use Rattle.accepted_steps.specs.Kept.{GrowsStage, Grows}
+use Rattle.accepted_steps.specs.Known.{Blocks, of_function, of_tick, has, numbers, Means, Small, Known}
+use Rattle.accepted_steps.specs.Steps.{Round, AgreesTick, Agrees, EachTick, CapturesStand, Did}
 use Rattle.accepted_steps.specs.Items.{MayStand, entered}
 use Rattle.accepted_statements.proofs.Growing.{small_before, object_grows, homes_grow}
 use Rattle.accepted_statements.proofs.Blocks.{inside, back, scopes_back, grows_back, small_inside}
@@ -167,7 +166,7 @@ tick_out : (vs : List Stmt) (a : Around) (ts : List Tick) (ks : List (List Captu
 tick_out vs a [] [] h = tt
 tick_out vs a [] (k ∷ ks) h = h
 tick_out vs a (t ∷ ts) [] h = h
-tick_out vs a (t ∷ ts) (k ∷ ks) h = (record { stands = h.0.stands; values = h.0.values; numbers = h.0.numbers }, tick_out vs a ts ks h.1)
+tick_out vs a (t ∷ ts) (k ∷ ks) h = (record { stands = h.0.stands; values = h.0.values; numbers = h.0.numbers; size = h.0.size }, tick_out vs a ts ks h.1)
 
 pub ticks_out : (g : Stage) (vs : List Stmt) (r : Round) (ts : List Tick) (ks : List (List CaptureKind)) → EachTick (in_block g vs r).function ts ks → EachTick r.function ts ks
 ticks_out stage.Function vs r ts ks h = tick_out vs r.function ts ks h

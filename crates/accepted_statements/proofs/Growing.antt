@@ -1,12 +1,12 @@
 -- What statements leave comes together over statements, and an expression leaves no less.
-use Rattle.std.proofs.Common.{◌≡◌, ℕ, ◌-◌, ◌≤◌, List, [], ◌∷◌, ◌++◌, length, refl, sym, ap, subst, ◌∙◌, arith}
+use Rattle.std.proofs.Common.{◌≡◌, ℕ, ◌≤◌, length, ap, ◌∙◌, arith}
 use Rattle.check_state.specs.declared.state.Stage.{Stage}
 use Rattle.check_state.specs.declared.state.Stage.TheVariants as stage
 use Rattle.check_state.specs.declared.state.State.{State}
 use Rattle.accepted_steps.specs.Kept.{Starts, KeepsTables, KeepsTick, KeepsStage, Keeps, outer, GrowsTables, GrowsFunction, GrowsTick, GrowsStage, Grows}
 use Rattle.accepted_steps.specs.Known.{Small, SmallTick, SmallInner}
 use Rattle.accepted_steps.specs.Counts.{variables}
-use Rattle.accepted_types.proofs.Fronts.{starts_refl, starts_same, starts_more, starts_length}
+use Rattle.accepted_types.proofs.Fronts.{starts_same, starts_more, starts_length}
 use Rattle.accepted_types.proofs.Keeps.{globals_more}
 
 chain : (l m n k : ℕ) → (m ≤ k → l ≤ m) → (n ≤ k → m ≤ n) → n ≤ k → l ≤ n

@@ -1,22 +1,19 @@
 -- What steps one after the other did, where statements stand among them.
-use Rattle.std.proofs.Common.{◌≡◌, ℕ, true, false, List, [], ◌∷◌, ◌++◌, length, refl, sym, ap, subst, ◌∙◌, append_assoc, append-nil, Ok, arith}
+use Rattle.std.proofs.Common.{◌≡◌, ℕ, List, [], ◌∷◌, ◌++◌, sym, subst, append_assoc, append-nil}
 use Rattle.typed_tree.specs.declared.expression.CaptureKind.{CaptureKind}
 use Rattle.typed_tree.specs.declared.program.Tick.{Tick}
-use Rattle.check_tables.specs.declared.labels.Labels.{Labels}
 use Rattle.check_state.specs.declared.state.Around.{Around as Standing}
 use Rattle.check_state.specs.declared.state.Stage.{Stage}
 use Rattle.check_state.specs.declared.state.Stage.TheVariants as stage
 use Rattle.check_state.specs.declared.state.State.{State}
-use Rattle.check_statements.specs.Statements.{with_labels}
 use Rattle.accepted_trees.specs.Places.{Around}
-use Rattle.accepted_steps.specs.Kept.{Starts, GrowsStage, Grows}
-use Rattle.accepted_steps.specs.Known.{Blocks, Small, Known}
-use Rattle.accepted_steps.specs.Steps.{Round, at, AgreesTick, Agrees, EachTick, EachCapture, CapturesStand, Did}
-use Rattle.accepted_steps.specs.Items.{placed, placed_round}
-use Rattle.accepted_types.proofs.Fronts.{starts_more, starts_refl, same_rest, no_rest}
+use Rattle.accepted_steps.specs.Kept.{GrowsStage, Grows}
+use Rattle.accepted_steps.specs.Known.{Blocks, Known}
+use Rattle.accepted_steps.specs.Steps.{Round, AgreesTick, Agrees, EachTick, EachCapture, CapturesStand, Did}
+use Rattle.accepted_steps.specs.Items.{placed_round}
+use Rattle.accepted_types.proofs.Fronts.{starts_more, same_rest, no_rest}
 use Rattle.accepted_types.proofs.Plain.{each_capture}
 use Rattle.accepted_statements.proofs.Growing.{ticks_grow}
-use Rattle.accepted_statements.proofs.Wider.{Wider, names_wider, agrees_wider}
 
 -- ---- two steps
 

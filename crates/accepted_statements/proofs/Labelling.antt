@@ -1,27 +1,25 @@
 -- The walk over a label, a return, a break and a continue that gives an answer, taken apart.
-use Rattle.std.proofs.Common.{◌≡◌, ℕ, Bool, true, false, ◌&&◌, ◌||◌, List, [], ◌∷◌, ◌++◌, refl, sym, ap, subst, ◌∙◌, Option, Some, None, Ok, Err}
+use Rattle.std.proofs.Common.{◌≡◌, ℕ, Bool, true, false, ◌&&◌, ◌||◌, List, [], ◌∷◌, ◌++◌, refl, sym, subst, Option, Some, None, Ok}
 use Rattle.std.specs.Prelude.{if◌then◌else◌}
 use Rattle.tick_tree.specs.declared.fault.FaultKind.{FaultKind}
-use Rattle.tick_tree.specs.Faults.{Checked, refuse}
+use Rattle.tick_tree.specs.Faults.{refuse}
 use Rattle.typed_tree.specs.declared.expression.Expr.{Expr}
 use Rattle.typed_tree.specs.declared.expression.Stmt.{Stmt}
 use Rattle.typed_tree.specs.declared.expression.Stmt.TheVariants as st
 use Rattle.c_nodes.specs.declared.operand.Operand.{Operand}
 use Rattle.c_nodes.specs.Operands.{effect}
 use Rattle.c_constants.specs.Constants.{constant}
-use Rattle.check_tables.specs.declared.labels.Labels.{Labels}
 use Rattle.check_tables.specs.Labels as labels
 use Rattle.check_tables.specs.Labels.{is_member}
 use Rattle.check_state.specs.declared.state.Around.{Around as Standing}
-use Rattle.check_state.specs.declared.state.Stage.{Stage}
 use Rattle.check_state.specs.declared.state.State.{State}
-use Rattle.check_tables.specs.Walks.{Rule, ◌>>=◌, pure, lift}
+use Rattle.check_tables.specs.Walks.{◌>>=◌, lift}
 use Rattle.check_expressions.specs.Rules.{Node}
 use Rattle.check_statements.specs.Rules as rules
 use Rattle.check_statements.specs.Statements as statements
 use Rattle.check_statements.specs.Statements.{return_node, with_labels, case_node, default_node}
 use Rattle.accepted_types.proofs.Walks.{ran, ok_same, pure_same, pure_value, lifted}
-use Rattle.accepted_statements.proofs.Runs.{Gave, gave}
+use Rattle.accepted_statements.proofs.Runs.{gave}
 
 -- ---- what a test decided
 

@@ -1,13 +1,12 @@
 -- Lists that grow: what stands in them still does.
-use Rattle.std.proofs.Common.{◌≡◌, ℕ, zero, suc, ◌+◌, ◌-◌, ◌≤◌, ◌<◌, Bool, true, false, ◌&&◌, ◌||◌, List, [], ◌∷◌, ◌++◌, length, map, refl, sym, ap, subst, ◌∙◌, append_assoc, append-nil, Option, Some, None, arith}
-use Rattle.std.specs.Prelude.{◌==◌, ◌⊎◌, slice_get, slice_set, slice_index_or, if◌then◌else◌, nat_le}
+use Rattle.std.proofs.Common.{◌≡◌, ℕ, zero, suc, Bool, true, false, ◌||◌, List, [], ◌∷◌, ◌++◌, length, refl, sym, ap, subst, ◌∙◌, append_assoc, Some, arith}
+use Rattle.std.specs.Prelude.{◌==◌, ◌⊎◌, slice_get, slice_set, slice_index_or}
 use Rattle.std.proofs.Common.{inl, inr}
-use Rattle.std.specs.List.{list_any}
 use Rattle.std.proofs.lemmas.Bool.Decides.{nat_tests}
 use Rattle.typed_tree.specs.declared.expression.Stmt.{Stmt}
 use Rattle.c_types.specs.declared.names.Meaning.{Meaning}
 use Rattle.c_types.specs.Scopes.{Name, Scope, Scopes}
-use Rattle.accepted_trees.specs.Places.{act, numbers_of}
+use Rattle.accepted_trees.specs.Places.{act}
 use Rattle.accepted_steps.specs.Kept.{Starts}
 use Rattle.accepted_steps.specs.Known.{numbers, has, EachEntry, EachScope}
 

@@ -1,5 +1,5 @@
 -- What the declaration of a variable makes: a name, the variable's place, and its node.
-use Rattle.std.proofs.Common.{◌≡◌, ℕ, ◌+◌, ◌-◌, ◌*◌, ◌≤◌, ◌%◌, min, Bool, true, false, ◌&&◌, List, [], ◌∷◌, ◌++◌, length, take, map, refl, sym, ap, subst, ◌∙◌, append-nil, length-append, arith, Option, Some, None, Ok}
+use Rattle.std.proofs.Common.{◌≡◌, ℕ, ◌+◌, ◌-◌, ◌*◌, ◌≤◌, ◌%◌, min, Bool, true, false, ◌&&◌, List, [], ◌∷◌, ◌++◌, length, take, refl, sym, ap, subst, ◌∙◌, length-append, arith, Option, Some, None, Ok}
 use Rattle.std.specs.Prelude.{◌==◌, nat_le, nat_lt, if◌then◌else◌}
 use Rattle.std.proofs.lemmas.List.{length-set, take-set}
 use Rattle.std.proofs.lemmas.Bool.Decides.{nat_tests}
@@ -7,13 +7,11 @@ use Rattle.c_types.specs.declared.ctype.CType.{CType}
 use Rattle.c_types.specs.declared.names.Meaning.{Meaning}
 use Rattle.c_types.specs.declared.names.MeaningKind.TheVariants as kind
 use Rattle.c_types.specs.Scopes.{Name, Scopes, declared, innermost, in_scope}
-use Rattle.tick_tree.specs.Faults.{Checked}
 use Rattle.typed_tree.specs.declared.expression.Stmt.{Stmt}
 use Rattle.typed_tree.specs.declared.expression.Stmt.TheVariants as st
 use Rattle.typed_tree.specs.Sizes.{statement_size}
 use Rattle.typed_tree.proofs.SizeLaws.{statement_size_variable, statement_size_object}
 use Rattle.c_nodes.specs.declared.operand.Operand.{Operand}
-use Rattle.check_tables.specs.declared.frame.Frame.{Frame}
 use Rattle.check_tables.specs.declared.frame.Home.TheVariants as home
 use Rattle.check_tables.specs.Frames as frames
 use Rattle.check_tables.specs.Frames.{variable, after, count}
@@ -22,14 +20,12 @@ use Rattle.check_state.specs.declared.state.Stage.TheVariants as stage
 use Rattle.check_state.specs.declared.state.State.{State}
 use Rattle.check_state.specs.Names.{declare, declared_by}
 use Rattle.check_state.specs.Locals.{meaning, made_outer, made_inner, outer_local, inner_local, local}
-use Rattle.check_tables.specs.Walks.{Rule, ◌>>=◌}
 use Rattle.accepted_trees.specs.Counts.{one_if, objects_at, declarations_of}
-use Rattle.accepted_trees.specs.Places.{Around, act, in_function, is_object}
+use Rattle.accepted_trees.specs.Places.{Around, in_function, is_object}
 use Rattle.accepted_trees.proofs.Equations.{act_variable, act_object, objects_at_variable, objects_at_object, declarations_of_variable, declarations_of_object}
 use Rattle.accepted_trees.proofs.Uses.{uses_values_variable, uses_values_object}
-use Rattle.accepted_steps.specs.Kept.{Starts, outer, GrowsTables, GrowsFunction, GrowsTick, Grows}
-use Rattle.accepted_steps.specs.Known.{Small}
-use Rattle.accepted_steps.specs.Counts.{objects_in, declarations_in, between, variables, Counts}
+use Rattle.accepted_steps.specs.Kept.{Starts, outer, Grows}
+use Rattle.accepted_steps.specs.Counts.{between, Counts}
 use Rattle.accepted_steps.specs.Items.{EachNode, DeclaresAt, Declared, MayStand}
 use Rattle.accepted_types.proofs.Fronts.{starts_refl, starts_behind, same_rest}
 use Rattle.accepted_types.proofs.Walks.{ran, ok_same}

@@ -1,36 +1,27 @@
 -- What each statement makes, of what its parts make.
-use Rattle.std.proofs.Common.{◌≡◌, ℕ, ◌+◌, ◌≤◌, ◌%◌, Bool, true, false, not, ◌&&◌, ◌||◌, List, [], ◌∷◌, ◌++◌, length, map, refl, sym, ap, subst, ◌∙◌, append_assoc, append-nil, Option, Some, None, Ok, arith}
-use Rattle.std.specs.Prelude.{◌==◌}
+use Rattle.std.proofs.Common.{◌≡◌, ℕ, Bool, false, List, [], ◌∷◌, ◌++◌, refl, sym, ap, subst, ◌∙◌, Option, Some, None, Ok}
 use Rattle.typed_tree.specs.declared.expression.Stmt.{Stmt}
 use Rattle.typed_tree.specs.declared.expression.Stmt.TheVariants as st
 use Rattle.c_nodes.specs.declared.operand.Operand.{Operand}
-use Rattle.c_nodes.specs.Operands.{effect}
-use Rattle.check_tables.specs.declared.labels.Labels.{Labels}
-use Rattle.check_tables.specs.Labels as labels
 use Rattle.check_state.specs.declared.state.Around.{Around as Standing}
 use Rattle.check_state.specs.declared.state.Stage.{Stage}
-use Rattle.check_state.specs.declared.state.Stage.TheVariants as stage
 use Rattle.check_state.specs.declared.state.State.{State}
-use Rattle.check_tables.specs.Walks.{Rule, ◌>>=◌, pure, lift}
-use Rattle.check_expressions.specs.Rules.{Node, Item, each, block}
-use Rattle.check_statements.specs.Rules as rules
+use Rattle.check_tables.specs.Walks.{Rule, ◌>>=◌, pure}
+use Rattle.check_expressions.specs.Rules.{Node, Item, each}
 use Rattle.check_statements.specs.Statements as statements
 use Rattle.check_statements.specs.Statements.{with_labels}
-use Rattle.accepted_steps.specs.Kept.{Keeps, GrowsStage, Grows}
-use Rattle.accepted_steps.specs.Known.{Small, SmallTick}
-use Rattle.accepted_steps.specs.Counts.{variables, Counts}
+use Rattle.accepted_steps.specs.Kept.{Keeps}
 use Rattle.accepted_steps.specs.Good.{GoodNode}
-use Rattle.accepted_steps.specs.Items.{MayStand, Labelled, Declared, GoodStatement, GoodItem}
+use Rattle.accepted_steps.specs.Items.{MayStand, Labelled, GoodStatement, GoodItem}
 use Rattle.accepted_types.specs.Parts.{EachPart, GoodOptional}
 use Rattle.accepted_types.proofs.Walks.{ran, pure_same, pure_value}
 use Rattle.accepted_types.proofs.Keeps.{keeps_same, keeps_more}
 use Rattle.accepted_statements.proofs.Counting.{CountsAs}
-use Rattle.accepted_statements.proofs.Nodes.{Unlabelled, expr_counts, break_counts, continue_counts, return_counts, answer_counts, case_counts, default_counts, if_counts, while_counts, do_counts, for_counts, if_else_counts, block_counts, switch_counts, body_counts, expr_unlabelled, block_unlabelled, if_unlabelled, if_else_unlabelled, while_unlabelled, do_unlabelled, for_unlabelled, switch_unlabelled, break_unlabelled, continue_unlabelled, return_unlabelled, answer_unlabelled}
+use Rattle.accepted_statements.proofs.Nodes.{Unlabelled, if_counts, while_counts, do_counts, for_counts, if_else_counts, body_counts, if_unlabelled, if_else_unlabelled, while_unlabelled, do_unlabelled, for_unlabelled}
 use Rattle.accepted_statements.proofs.Making.{Made, made_kept, made_more, made_behind, made_before, made_as, labelled_more, labelled_none, labelled_one}
-use Rattle.accepted_statements.proofs.Blocks.{inside, back, made_back}
-use Rattle.accepted_statements.proofs.Runs.{Follows, followed, BodyRan, IfRan, WhileRan, DoRan, ElseRan, OptionalRan, ForRan, for_ran}
-use Rattle.accepted_statements.proofs.Blocking.{Enclosed, enclosed, paired, SwitchRan}
-use Rattle.accepted_statements.proofs.Labelling.{BreakRan, ContinueRan, AnswerRan}
+use Rattle.accepted_statements.proofs.Blocks.{inside, made_back}
+use Rattle.accepted_statements.proofs.Runs.{followed, BodyRan, IfRan, WhileRan, DoRan, ElseRan, OptionalRan, ForRan}
+use Rattle.accepted_statements.proofs.Blocking.{Enclosed}
 
 -- what a statement makes, and the labels that it is
 pub record Makes (g : Stage) (direct : Bool) (s new : State) (xs : List Stmt) : Type 0 where

@@ -1,20 +1,20 @@
 -- What statements make comes together over statements: what they leave, what they count, the variables that they declare, and the labels
 -- that they are.
-use Rattle.std.proofs.Common.{◌≡◌, ℕ, ◌+◌, ◌≤◌, ◌%◌, Bool, true, false, List, [], ◌∷◌, ◌++◌, length, map, refl, sym, ap, subst, ◌∙◌, append_assoc, append-nil, arith}
+use Rattle.std.proofs.Common.{◌≡◌, ℕ, ◌+◌, ◌≤◌, ◌%◌, Bool, true, List, [], ◌∷◌, ◌++◌, length, map, refl, sym, ap, subst, ◌∙◌, append_assoc, append-nil, arith}
 use Rattle.std.specs.Prelude.{◌==◌, nat_le}
 use Rattle.std.proofs.lemmas.Bool.Decides.{nat_tests}
 use Rattle.typed_tree.specs.declared.expression.Stmt.{Stmt}
 use Rattle.check_state.specs.declared.state.Stage.{Stage}
 use Rattle.check_state.specs.declared.state.Stage.TheVariants as stage
 use Rattle.check_state.specs.declared.state.State.{State}
-use Rattle.accepted_trees.specs.Places.{Around, act, in_function, values_of, defaults_of, all_different}
+use Rattle.accepted_trees.specs.Places.{act, values_of, defaults_of, all_different}
 use Rattle.accepted_trees.specs.Counts.{one_if}
-use Rattle.accepted_steps.specs.Kept.{Starts, KeepsTables, KeepsStage, Keeps, Grows}
+use Rattle.accepted_steps.specs.Kept.{KeepsTables, KeepsStage, Keeps, Grows}
 use Rattle.accepted_steps.specs.Known.{Small}
-use Rattle.accepted_steps.specs.Counts.{objects_in, declarations_in, variables, Counts}
+use Rattle.accepted_steps.specs.Counts.{variables, Counts}
 use Rattle.accepted_steps.specs.Items.{EachNode, DeclaresAt, Declared, Labelled}
 use Rattle.accepted_types.proofs.Fronts.{starts_more, same_rest, no_rest}
-use Rattle.accepted_statements.proofs.Growing.{grows_more, keeps_grows, small_before, object_grows, variables_grow}
+use Rattle.accepted_statements.proofs.Growing.{grows_more, keeps_grows, small_before, object_grows}
 use Rattle.accepted_statements.proofs.Counting.{Nothing, counts_none, counts_more, CountsAs, counts_as}
 use Rattle.accepted_statements.proofs.Nodes.{Unlabelled}
 

@@ -1,17 +1,16 @@
 -- What each node of a statement counts, and that it is no label.
-use Rattle.std.proofs.Common.{◌≡◌, ℕ, ◌+◌, ◌≤◌, List, [], ◌∷◌, ◌++◌, map, refl, sym, ap, ◌∙◌, append-nil, Option, Some, None, arith}
+use Rattle.std.proofs.Common.{◌≡◌, ℕ, ◌≤◌, List, [], ◌∷◌, ◌++◌, refl, ap, Option, Some, None, arith}
 use Rattle.typed_tree.specs.declared.expression.Expr.{Expr}
 use Rattle.typed_tree.specs.declared.expression.Stmt.{Stmt}
 use Rattle.typed_tree.specs.declared.expression.Stmt.TheVariants as st
-use Rattle.typed_tree.specs.Sizes.{size, statement_size, statements_size}
-use Rattle.typed_tree.proofs.SizeLaws.{statement_size_expr, statement_size_block, statement_size_if, statement_size_ifelse, statement_size_while, statement_size_do, statement_size_for, statement_size_forstep, statement_size_switch, statement_size_case, statement_size_returnvalue}
+use Rattle.typed_tree.specs.Sizes.{statement_size}
+use Rattle.typed_tree.proofs.SizeLaws.{statement_size_block, statement_size_if, statement_size_ifelse, statement_size_while, statement_size_do, statement_size_for, statement_size_forstep, statement_size_switch}
 use Rattle.c_nodes.specs.declared.operand.Operand.{Operand}
 use Rattle.c_nodes.specs.Operands.{effect}
 use Rattle.check_statements.specs.Statements as statements
 use Rattle.accepted_trees.specs.Counts.{objects_at, declarations_of}
-use Rattle.accepted_trees.specs.Places.{act, values_of, defaults_of}
+use Rattle.accepted_trees.specs.Places.{act}
 use Rattle.accepted_trees.proofs.Equations.{act_expr, act_block, act_if, act_ifelse, act_while, act_do, act_for, act_forstep, act_switch, act_break, act_continue, act_return, act_returnvalue, objects_at_expr, objects_at_block, objects_at_if, objects_at_ifelse, objects_at_while, objects_at_do, objects_at_for, objects_at_forstep, objects_at_switch, objects_at_case, objects_at_default, objects_at_break, objects_at_continue, objects_at_return, objects_at_returnvalue, declarations_of_expr, declarations_of_block, declarations_of_if, declarations_of_ifelse, declarations_of_while, declarations_of_do, declarations_of_for, declarations_of_forstep, declarations_of_switch, declarations_of_case, declarations_of_default, declarations_of_break, declarations_of_continue, declarations_of_return, declarations_of_returnvalue}
-use Rattle.accepted_steps.specs.Counts.{objects_in, declarations_in}
 use Rattle.accepted_statements.proofs.Counting.{sum_one, sum_cons, objects_append, declarations_append, sizes_append, CountsAs}
 
 -- ---- counts

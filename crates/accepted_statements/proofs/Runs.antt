@@ -1,24 +1,19 @@
 -- The walk over a statement that gives an answer, taken apart into the walks over its parts.
-use Rattle.std.proofs.Common.{◌≡◌, ℕ, Bool, true, false, ◌&&◌, ◌||◌, List, [], ◌∷◌, ◌++◌, refl, sym, ap, subst, ◌∙◌, Option, Some, None, Ok, Err}
-use Rattle.std.specs.Prelude.{if◌then◌else◌}
-use Rattle.tick_tree.specs.declared.fault.FaultKind.TheVariants as fault
-use Rattle.tick_tree.specs.Faults.{Checked, refuse, ◌>>=◌ as ◌>>>=◌}
+use Rattle.std.proofs.Common.{◌≡◌, ℕ, List, [], ◌∷◌, refl, sym, ap, subst, ◌∙◌, Option, Some, None, Ok, Err}
+use Rattle.tick_tree.specs.Faults.{Checked, ◌>>=◌ as ◌>>>=◌}
 use Rattle.typed_tree.specs.declared.expression.Expr.{Expr}
 use Rattle.typed_tree.specs.declared.expression.Stmt.{Stmt}
 use Rattle.typed_tree.specs.declared.expression.Stmt.TheVariants as st
 use Rattle.c_nodes.specs.declared.operand.Operand.{Operand}
-use Rattle.c_nodes.specs.Operands.{effect}
 use Rattle.check_state.specs.declared.state.Around.{Around as Standing}
 use Rattle.check_state.specs.declared.state.Stage.{Stage}
 use Rattle.check_state.specs.declared.state.State.{State}
-use Rattle.check_state.specs.Blocks.{depth, enter, leave}
 use Rattle.check_tables.specs.Walks.{Rule, ◌>>=◌, pure, lift}
-use Rattle.check_expressions.specs.Rules.{Node, Item, each, block}
+use Rattle.check_expressions.specs.Rules.{Node, Item}
 use Rattle.check_statements.specs.Rules as rules
 use Rattle.check_statements.specs.Statements as statements
 use Rattle.check_statements.specs.Statements.{if_node, if_else_node, while_node, do_node, for_node, switch_node, return_node, switch_entered, with_labels}
 use Rattle.accepted_types.proofs.Walks.{ran, ok_same, pure_same, pure_value, lifted}
-use Rattle.accepted_statements.proofs.Blocks.{inside, behind, back}
 
 -- ---- single steps
 

@@ -1,7 +1,6 @@
 -- Which nodes stand, where their parts do.
-use Rattle.std.proofs.Common.{◌≡◌, ℕ, ◌+◌, ◌≤◌, Bool, true, false, not, ◌&&◌, ◌||◌, List, [], ◌∷◌, ◌++◌, length, map, refl, sym, ap, subst, ◌∙◌, append-nil, Option, Some, None}
+use Rattle.std.proofs.Common.{◌≡◌, ℕ, Bool, true, false, ◌&&◌, ◌||◌, List, [], ◌∷◌, map, refl, ap, ◌∙◌, append-nil, Option, Some, None}
 use Rattle.std.specs.Prelude.{nat_le}
-use Rattle.std.specs.List.{list_all}
 use Rattle.typed_tree.specs.declared.expression.Expr.{Expr}
 use Rattle.typed_tree.specs.declared.expression.Stmt.{Stmt}
 use Rattle.typed_tree.specs.declared.expression.Stmt.TheVariants as st
@@ -15,7 +14,7 @@ use Rattle.accepted_trees.proofs.Equations.{act_expr, act_block, act_if, act_ife
 use Rattle.accepted_trees.proofs.Uses.{uses_values_expr, uses_values_block, uses_values_if, uses_values_ifelse, uses_values_while, uses_values_do, uses_values_for, uses_values_forstep, uses_values_switch, uses_values_case, uses_values_default, uses_values_break, uses_values_continue, uses_values_return, uses_values_returnvalue}
 use Rattle.accepted_nodes.specs.Right.{Stands}
 use Rattle.accepted_values.specs.Used.{Leaves}
-use Rattle.accepted_steps.specs.Items.{EachNode, StandsAs, ItemStands, ItemsStand}
+use Rattle.accepted_steps.specs.Items.{StandsAs, ItemStands, ItemsStand}
 use Rattle.accepted_statements.proofs.Locals.{both}
 
 -- a statement that stands, and uses its values

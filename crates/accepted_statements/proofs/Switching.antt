@@ -1,18 +1,17 @@
 -- What a switch and its labels did.
-use Rattle.std.proofs.Common.{◌≡◌, ℕ, ◌+◌, ◌≤◌, Bool, true, false, List, [], ◌∷◌, ◌++◌, map, refl, sym, ap, subst, ◌∙◌, Ok, arith}
+use Rattle.std.proofs.Common.{◌≡◌, ℕ, ◌+◌, Bool, true, false, List, [], ◌∷◌, ◌++◌, map, refl, sym, ap, subst, ◌∙◌, arith}
 use Rattle.std.specs.Prelude.{nat_le}
 use Rattle.std.proofs.lemmas.Bool.Decides.{nat_tests}
 use Rattle.typed_tree.specs.declared.expression.CaptureKind.{CaptureKind}
 use Rattle.typed_tree.specs.declared.expression.Stmt.{Stmt}
 use Rattle.typed_tree.specs.declared.expression.Stmt.TheVariants as st
-use Rattle.c_nodes.specs.declared.operand.Operand.{Operand}
 use Rattle.check_tables.specs.declared.labels.Labels.{Labels}
 use Rattle.check_tables.specs.Labels as labels
 use Rattle.check_state.specs.declared.state.Around.{Around as Standing}
 use Rattle.check_state.specs.declared.state.Stage.{Stage}
 use Rattle.check_state.specs.declared.state.Stage.TheVariants as stage
 use Rattle.check_state.specs.declared.state.State.{State}
-use Rattle.check_expressions.specs.Rules.{Node, Item, each}
+use Rattle.check_expressions.specs.Rules.{Node, Item}
 use Rattle.check_statements.specs.Statements as statements
 use Rattle.check_statements.specs.Statements.{with_labels}
 use Rattle.accepted_trees.specs.Counts.{one_if}
@@ -21,7 +20,7 @@ use Rattle.accepted_trees.specs.Values.{uses_values, all_true}
 use Rattle.accepted_steps.specs.Known.{Blocks, Known}
 use Rattle.accepted_steps.specs.Steps.{Round, at, CapturesStand, Did}
 use Rattle.accepted_steps.specs.Good.{Good, GoodNode}
-use Rattle.accepted_steps.specs.Items.{MayStand, InBlock, entered, placed_round, EachNode, DeclaresAt, Labelled, ItemsStand, GoodItem}
+use Rattle.accepted_steps.specs.Items.{MayStand, InBlock, entered, placed_round, EachNode, DeclaresAt, ItemsStand, GoodItem}
 use Rattle.accepted_steps.specs.Kept.{Grows}
 use Rattle.accepted_types.specs.Parts.{EachPart}
 use Rattle.accepted_types.proofs.Plain.{plain_same, plain_did_by}
@@ -34,7 +33,7 @@ use Rattle.accepted_statements.proofs.Makes.{each_makes}
 use Rattle.accepted_statements.proofs.Whole.{switch_made}
 use Rattle.accepted_statements.proofs.Entering.{known_inside, in_block, did_block}
 use Rattle.accepted_statements.proofs.Joining.{did_both, did_so}
-use Rattle.accepted_statements.proofs.Standing.{Stood, stood_one, switch_stood, all_labelled, values_of_items, case_item, default_item}
+use Rattle.accepted_statements.proofs.Standing.{stood_one, switch_stood, all_labelled, values_of_items, case_item, default_item}
 use Rattle.accepted_statements.proofs.Doing.{place_of, may_of, node_did, each_did, DidStand, switched_test}
 use Rattle.accepted_statements.proofs.Within.{declares_all, variables_use, function_round, object_round, in_entered, known_relabelled, agrees_unlabelled, did_relabelled}
 

@@ -10,8 +10,7 @@ use Rattle.tick_tree.specs.declared.fault.FaultKind.{FaultKind}
 use Rattle.tick_tree.specs.Faults.{Checked}
 use Rattle.check_state.specs.declared.state.Stage.{Stage}
 use Rattle.check_state.specs.declared.state.Stage.TheVariants as stage
-use Rattle.check_state.specs.declared.state.State.{State}
-use Rattle.check_tables.specs.Walks.{Rule, ◌>>=◌, lift}
+use Rattle.check_tables.specs.Walks.{◌>>=◌, lift}
 use Rattle.check_expressions.specs.Rules.{Shape}
 use Rattle.check_statements.specs.Declarations.{declared_in, lowered, tick_breaks}
 use Rattle.accepted_values.proofs.Declared.{types_use}

@@ -1,11 +1,10 @@
 -- What blocks, switches, labels and the other statements make.
-use Rattle.std.proofs.Common.{◌≡◌, ℕ, ◌+◌, ◌≤◌, ◌%◌, Bool, true, false, not, ◌&&◌, ◌||◌, List, [], ◌∷◌, ◌++◌, length, map, refl, sym, ap, subst, ◌∙◌, append_assoc, append-nil, Option, Some, None, Ok, arith}
-use Rattle.std.specs.Prelude.{◌==◌, if◌then◌else◌}
+use Rattle.std.proofs.Common.{◌≡◌, ℕ, ◌+◌, ◌≤◌, Bool, true, false, not, ◌||◌, List, [], ◌∷◌, ◌++◌, refl, sym, ap, subst, ◌∙◌, append-nil, Option, Ok, arith}
+use Rattle.std.specs.Prelude.{◌==◌}
 use Rattle.std.specs.List.{list_any}
 use Rattle.std.proofs.lemmas.Bool.Decides.{nat_tests}
 use Rattle.typed_tree.specs.declared.expression.Stmt.{Stmt}
 use Rattle.typed_tree.specs.declared.expression.Stmt.TheVariants as st
-use Rattle.c_nodes.specs.declared.operand.Operand.{Operand}
 use Rattle.c_nodes.specs.Operands.{effect}
 use Rattle.check_tables.specs.declared.labels.Labels.{Labels}
 use Rattle.check_tables.specs.Labels as labels
@@ -14,29 +13,29 @@ use Rattle.check_state.specs.declared.state.Around.{Around as Standing}
 use Rattle.check_state.specs.declared.state.Stage.{Stage}
 use Rattle.check_state.specs.declared.state.Stage.TheVariants as stage
 use Rattle.check_state.specs.declared.state.State.{State}
-use Rattle.check_tables.specs.Walks.{Rule, ◌>>=◌, pure, lift}
+use Rattle.check_tables.specs.Walks.{◌>>=◌, pure}
 use Rattle.check_expressions.specs.Rules.{Node, Item, each, block}
 use Rattle.check_statements.specs.Rules as rules
 use Rattle.check_statements.specs.Statements as statements
 use Rattle.check_statements.specs.Statements.{with_labels}
 use Rattle.accepted_trees.specs.Counts.{one_if}
-use Rattle.accepted_trees.specs.Places.{act, values_of, defaults_of, all_different}
+use Rattle.accepted_trees.specs.Places.{all_different}
 use Rattle.accepted_trees.proofs.Equations.{act_case, act_default}
-use Rattle.accepted_steps.specs.Kept.{Keeps, GrowsStage, Grows}
+use Rattle.accepted_steps.specs.Kept.{GrowsStage}
 use Rattle.accepted_steps.specs.Known.{Small, SmallTick}
 use Rattle.accepted_steps.specs.Counts.{declarations_in, between, variables, Counts}
 use Rattle.accepted_steps.specs.Good.{GoodNode}
-use Rattle.accepted_steps.specs.Items.{MayStand, Labelled, Declared, GoodStatement, GoodItem}
+use Rattle.accepted_steps.specs.Items.{MayStand, Labelled, GoodItem}
 use Rattle.accepted_types.specs.Parts.{EachPart, GoodOptional}
-use Rattle.accepted_types.proofs.Walks.{ran, pure_same, pure_value}
-use Rattle.accepted_types.proofs.Keeps.{keeps_same, keeps_more}
+use Rattle.accepted_types.proofs.Walks.{ran}
+use Rattle.accepted_types.proofs.Keeps.{keeps_same}
 use Rattle.accepted_statements.proofs.Counting.{CountsAs}
-use Rattle.accepted_statements.proofs.Nodes.{Unlabelled, expr_counts, break_counts, continue_counts, return_counts, answer_counts, case_counts, default_counts, block_counts, switch_counts, expr_unlabelled, block_unlabelled, switch_unlabelled, break_unlabelled, continue_unlabelled, return_unlabelled, answer_unlabelled}
-use Rattle.accepted_statements.proofs.Making.{Made, made_kept, made_more, made_behind, made_before, made_as, labelled_more, labelled_none, labelled_one}
-use Rattle.accepted_statements.proofs.Blocks.{inside, back, made_back}
-use Rattle.accepted_statements.proofs.Runs.{Follows, followed, BodyRan, for_ran}
-use Rattle.accepted_statements.proofs.Blocking.{Enclosed, enclosed, paired, SwitchRan}
-use Rattle.accepted_statements.proofs.Labelling.{BreakRan, ContinueRan, AnswerRan, with_value, with_default, ValueRan, CaseRan, DefaultRan, first_true, second_true}
+use Rattle.accepted_statements.proofs.Nodes.{Unlabelled, expr_counts, answer_counts, case_counts, default_counts, block_counts, switch_counts, expr_unlabelled, block_unlabelled, switch_unlabelled, answer_unlabelled}
+use Rattle.accepted_statements.proofs.Making.{Made, made_kept, made_more, made_behind, made_as, labelled_more, labelled_none, labelled_one}
+use Rattle.accepted_statements.proofs.Blocks.{inside}
+use Rattle.accepted_statements.proofs.Runs.{followed, for_ran}
+use Rattle.accepted_statements.proofs.Blocking.{enclosed, SwitchRan}
+use Rattle.accepted_statements.proofs.Labelling.{AnswerRan, with_value, with_default, CaseRan, DefaultRan, first_true, second_true}
 use Rattle.accepted_statements.proofs.Locals.{both}
 use Rattle.accepted_statements.proofs.Makes.{Makes, makes_of, one_node, for_makes, for_labels, each_makes, enclosed_made, enclosed_labels}
 

@@ -1,11 +1,11 @@
 -- What is known in a state is known in one where more stands, and who has room for the second has room for the first.
-use Rattle.std.proofs.Common.{◌≡◌, ℕ, ◌+◌, ◌-◌, ◌≤◌, ◌%◌, Bool, true, false, ◌&&◌, if◌then◌else◌, List, [], ◌∷◌, ◌++◌, length, refl, sym, ap, subst, ◌∙◌, append_assoc, append-nil, length-append, arith, Option, Some, None}
+use Rattle.std.proofs.Common.{◌≡◌, ℕ, ◌-◌, ◌≤◌, ◌%◌, true, List, ◌++◌, refl, sym, ap, subst, ◌∙◌, arith, Option, Some, None}
 use Rattle.std.specs.Prelude.{◌==◌, nat_le, slice_get}
 use Rattle.std.proofs.lemmas.Bool.Decides.{nat_tests}
 use Rattle.c_types.specs.declared.names.Meaning.{Meaning}
 use Rattle.c_types.specs.declared.names.MeaningKind.{MeaningKind}
 use Rattle.c_types.specs.declared.names.MeaningKind.TheVariants as kind
-use Rattle.c_types.specs.Scopes.{Name, Scope, Scopes}
+use Rattle.c_types.specs.Scopes.{Name, Scopes}
 use Rattle.typed_tree.specs.declared.expression.CaptureKind.{CaptureKind}
 use Rattle.typed_tree.specs.declared.expression.Expr.{Expr}
 use Rattle.check_tables.specs.declared.frame.Home.{Home}
@@ -16,16 +16,14 @@ use Rattle.check_tables.specs.Functions.{number}
 use Rattle.check_state.specs.declared.state.Stage.{Stage}
 use Rattle.check_state.specs.declared.state.Stage.TheVariants as stage
 use Rattle.check_state.specs.declared.state.State.{State}
-use Rattle.accepted_trees.specs.Places.{in_scope}
-use Rattle.accepted_steps.specs.Kept.{Starts, GrowsStage, GrowsTick, Grows}
-use Rattle.accepted_steps.specs.Known.{Blocks, of_function, of_tick, has, numbers, HasHome, IsVariable, IsParameter, IsFunction, is_number, Means, EachEntry, EachScope, Small, Knows, Known}
+use Rattle.accepted_steps.specs.Kept.{Starts, GrowsStage, Grows}
+use Rattle.accepted_steps.specs.Known.{Blocks, of_function, of_tick, has, HasHome, IsVariable, IsParameter, IsFunction, is_number, Means, EachScope}
 use Rattle.accepted_steps.specs.Steps.{Round, Captures, kinds, AgreesTick, Agrees}
-use Rattle.accepted_types.proofs.Fronts.{starts_same, starts_front, starts_length}
+use Rattle.accepted_types.proofs.Fronts.{starts_front}
 use Rattle.accepted_types.proofs.Knowing.{each_scope, kinds_append}
-use Rattle.accepted_statements.proofs.Growing.{small_before, object_grows}
+use Rattle.accepted_statements.proofs.Growing.{small_before}
 use Rattle.accepted_statements.proofs.Labelling.{first_true, second_true}
 use Rattle.accepted_statements.proofs.Locals.{both}
-use Rattle.accepted_statements.proofs.Lists.{get_starts, has_front, has_none}
 
 -- where more stands: `b` and `c` are the blocks round
 pub record Wider (g : Stage) (b : Blocks) (s : State) (c : Blocks) (new : State) : Type 0 where

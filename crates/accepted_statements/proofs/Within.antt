@@ -1,49 +1,41 @@
 -- What blocks, switches and labels did.
-use Rattle.std.proofs.Common.{◌≡◌, ℕ, ◌+◌, ◌-◌, ◌≤◌, ◌%◌, Bool, true, false, ◌&&◌, List, [], ◌∷◌, ◌++◌, map, refl, sym, ap, subst, ◌∙◌, append-nil, Option, Some, None, Ok, Err, arith}
-use Rattle.std.specs.Prelude.{◌==◌, nat_le, if◌then◌else◌}
-use Rattle.std.proofs.lemmas.Bool.Decides.{nat_tests}
+use Rattle.std.proofs.Common.{◌≡◌, ℕ, ◌-◌, true, false, List, [], ◌∷◌, ◌++◌, map, refl, ap, subst, ◌∙◌, Option, Ok, arith}
+use Rattle.std.specs.Prelude.{nat_le}
 use Rattle.typed_tree.specs.declared.expression.CaptureKind.{CaptureKind}
 use Rattle.typed_tree.specs.declared.expression.Stmt.{Stmt}
 use Rattle.typed_tree.specs.declared.expression.Stmt.TheVariants as st
-use Rattle.c_nodes.specs.declared.operand.Operand.{Operand}
 use Rattle.check_tables.specs.declared.labels.Labels.{Labels}
-use Rattle.check_tables.specs.Labels as labels
 use Rattle.check_tables.specs.Frames.{count}
 use Rattle.check_state.specs.declared.state.Around.{Around as Standing}
 use Rattle.check_state.specs.declared.state.Stage.{Stage}
 use Rattle.check_state.specs.declared.state.Stage.TheVariants as stage
 use Rattle.check_state.specs.declared.state.State.{State}
-use Rattle.check_tables.specs.Walks.{Rule, ◌>>=◌, pure, lift}
+use Rattle.check_tables.specs.Walks.{◌>>=◌, pure}
 use Rattle.check_expressions.specs.Rules.{Node, Item, each, block}
 use Rattle.check_statements.specs.Rules as rules
 use Rattle.check_statements.specs.Statements as statements
 use Rattle.check_statements.specs.Statements.{with_labels}
-use Rattle.accepted_trees.specs.Counts.{one_if}
-use Rattle.accepted_trees.specs.Places.{Around, act, in_function, within, looped, switched, all_declare, all_stand, all_items, values_of, defaults_of, all_different}
+use Rattle.accepted_trees.specs.Places.{Around, act, in_function, within, all_declare}
 use Rattle.accepted_trees.specs.Values.{uses_values, all_true}
-use Rattle.accepted_steps.specs.Kept.{Starts, Keeps, GrowsStage, Grows}
-use Rattle.accepted_steps.specs.Known.{Blocks, of_function, of_tick, has, Small, SmallTick, Knows, Known}
+use Rattle.accepted_steps.specs.Known.{Blocks, of_function, of_tick, has, Small, Known}
 use Rattle.accepted_steps.specs.Steps.{Round, at, AgreesTick, Agrees, CapturesStand, Did}
-use Rattle.accepted_steps.specs.Good.{Good, GoodNode}
-use Rattle.accepted_steps.specs.Items.{MayStand, InBlock, entered, placed_round, EachNode, DeclaresAt, ItemStands, ItemsStand, GoodStatement, GoodItem}
+use Rattle.accepted_steps.specs.Items.{MayStand, InBlock, entered, placed_round, EachNode, DeclaresAt, ItemStands, ItemsStand, GoodItem}
 use Rattle.accepted_types.specs.Parts.{EachPart, GoodOptional}
 use Rattle.accepted_types.proofs.Walks.{ran}
-use Rattle.accepted_statements.proofs.Growing.{keeps_grows, small_before}
+use Rattle.accepted_statements.proofs.Growing.{small_before}
 use Rattle.accepted_statements.proofs.Blocks.{inside, back, small_inside, grows_back}
-use Rattle.accepted_statements.proofs.Lists.{has_none}
 use Rattle.accepted_statements.proofs.Locals.{both}
-use Rattle.accepted_statements.proofs.Runs.{Follows, followed, for_ran}
-use Rattle.accepted_statements.proofs.Blocking.{Enclosed, enclosed, paired, SwitchRan}
-use Rattle.accepted_statements.proofs.Labelling.{with_value, with_default, ValueRan, CaseRan, DefaultRan}
+use Rattle.accepted_statements.proofs.Runs.{followed, for_ran}
+use Rattle.accepted_statements.proofs.Blocking.{enclosed}
 use Rattle.accepted_statements.proofs.Making.{Made, made_more}
-use Rattle.accepted_statements.proofs.Makes.{Makes, makes_of, each_makes, for_makes}
+use Rattle.accepted_statements.proofs.Makes.{makes_of, each_makes, for_makes}
 use Rattle.accepted_statements.proofs.Whole.{blocked}
 use Rattle.accepted_statements.proofs.Wider.{Wider, names_wider}
 use Rattle.accepted_statements.proofs.Entering.{known_inside, in_block, did_block}
 use Rattle.accepted_statements.proofs.Joining.{did_both, did_so}
-use Rattle.accepted_statements.proofs.Standing.{Stood, Test, stood_one, item_stood, block_stood, switch_stood, all_of, all_labelled, values_of_items, case_item, default_item}
+use Rattle.accepted_statements.proofs.Standing.{Stood, stood_one, block_stood, all_of, values_of_items}
 use Rattle.accepted_statements.proofs.Making.{each_append}
-use Rattle.accepted_statements.proofs.Doing.{place_of, may_of, node_did, for_did, each_did, DidStand, switched_test}
+use Rattle.accepted_statements.proofs.Doing.{place_of, may_of, for_did, each_did, DidStand}
 
 -- ---- the variables of a block
 

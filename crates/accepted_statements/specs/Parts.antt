@@ -1,7 +1,6 @@
 -- What is asked of the parts of a statement and of a declaration in a block.
 use Rattle.std.specs.Prelude.{◌≡◌, ℕ, List, [], ◌∷◌, Option, Ok}
 use Rattle.c_types.specs.declared.ctype.CType.{CType}
-use Rattle.c_declared.specs.declared.steps.Step.{Step}
 use Rattle.tick_tree.specs.declared.syntax.Core.TheOpen.{Stmt-F}
 use Rattle.typed_tree.specs.declared.expression.CaptureKind.{CaptureKind}
 use Rattle.typed_tree.specs.declared.expression.Expr.{Expr}
@@ -17,7 +16,7 @@ use Rattle.accepted_steps.specs.Kept.{IsKeeping}
 use Rattle.accepted_steps.specs.Known.{Blocks, IsObject, Known}
 use Rattle.accepted_steps.specs.Steps.{at, Did}
 use Rattle.accepted_steps.specs.Good.{Plain, Good, GoodNode}
-use Rattle.accepted_steps.specs.Items.{MayStand, InBlock, placed_round, ItemsStand, GoodStatement, GoodItem}
+use Rattle.accepted_steps.specs.Items.{MayStand, placed_round, ItemsStand, GoodStatement, GoodItem}
 use Rattle.accepted_types.specs.Parts.{EachPart, GoodOptional}
 
 -- ---- statements
