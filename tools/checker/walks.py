@@ -130,30 +130,29 @@ text+="use Rattle.tick_checker.specs.Walk.{%s}\n"%", ".join(WALK_OF[t] for t in 
 text+="use Rattle.accepted_weights.specs.Weights.{%s}\n"%", ".join(WEIGHT_OF[t] for t in TYPES)
 text+="use Rattle.accepted_weights.proofs.Small.{%s}\n"%", ".join(SMALL_OF[t] for t in TYPES)
 text+="use Rattle.accepted_walks.proofs.Induction.{%s, %s, %s, %s}\n"%(", ".join(t+"-T" for t in TYPES),", ".join(t+"-K" for t in TYPES),", ".join("first"+t for t in TYPES),", ".join("step_"+LAW_OF[t] for t in TYPES))
-text+="use Rattle.accepted_small.specs.Good.{good, FewExpr, FewStmt}\nuse Rattle.accepted_small.specs.Laws.{RulesAreGood, SmallAreGood}\nuse Rattle.accepted_small.proofs.Few.{few_expr, few_stmt}\nuse Rattle.accepted_small.proofs.Rules.{%s}\n"%", ".join("good_"+LAW_OF[t] for t in TYPES if t!="Stmt")
+text+="use Rattle.accepted_small.specs.Good.{good, FewExpr}\nuse Rattle.accepted_small.specs.Laws.{SmallAreGood}\nuse Rattle.accepted_small.proofs.Few.{few_expr}\nuse Rattle.accepted_small.proofs.Rules.{%s}\n"%", ".join("good_"+LAW_OF[t] for t in TYPES)
 text+="\n-- ---- a layer of a small tree\n\n"
 for t in TYPES:
     l=LAW_OF[t]
-    sig=f"{l} : (many : ℕ) → RulesAreGood many → (x : {t}-T) (y : {t}-K (good many)) → first{t} (good many) y ≡ x → {WEIGHT_OF[t]} (roll-{t} x) ≤ 1000000000 → (good many).{FIELD_OF[t]} ({WALK_OF[t]} (roll-{t} x))\n"
+    sig=f"{l} : (many : ℕ) (x : {t}-T) (y : {t}-K (good many)) → first{t} (good many) y ≡ x → {WEIGHT_OF[t]} (roll-{t} x) ≤ 1000000000 → (good many).{FIELD_OF[t]} ({WALK_OF[t]} (roll-{t} x))\n"
     text+="at_"+sig
-    if t=="Expr": body=f"step_{l} (good many) FewExpr (good_expr many k) x y is (few_expr x h)"
-    elif t=="Stmt": body=f"step_{l} (good many) FewStmt k.statement x y is (few_stmt x h)"
+    if t=="Expr": body=f"step_{l} (good many) FewExpr (good_expr many) x y is (few_expr x h)"
     else: body=f"step_{l} (good many) (λ w. Unit {{0}}) (λ w p u. good_{l} many w p) x y is tt"
-    text+=f"at_{l} many k x y is h = {body}\n\n"
+    text+=f"at_{l} many x y is h = {body}\n\n"
 text+="-- ---- trees\n\n"
 preds=" ".join(f"(λ x. (good many).{FIELD_OF[t]} ({WALK_OF[t]} x))" for t in TYPES)
-steps=" ".join(f"(at_{LAW_OF[t]} many k)" for t in TYPES)
+steps=" ".join(f"(at_{LAW_OF[t]} many)" for t in TYPES)
 for t in ["Expr","Stmt","Declarator","Initializer","Declaration"]:
     l=LAW_OF[t]
-    text+=f"small_{l} : (many : ℕ) → RulesAreGood many → (x : {t}) → {WEIGHT_OF[t]} x ≤ 1000000000 → (good many).{FIELD_OF[t]} ({WALK_OF[t]} x)\n"
-    text+=f"small_{l} many k = {SMALL_OF[t]} 1000000000 {preds} {steps}\n\n"
-text+="""pub small_are_good : (many : ℕ) → RulesAreGood many → SmallAreGood many
-small_are_good many k = record {
-  node = small_expr many k;
-  item = small_stmt many k;
-  shape = small_declarator many k;
-  start = small_initializer many k;
-  declaration = small_declaration many k;
+    text+=f"small_{l} : (many : ℕ) (x : {t}) → {WEIGHT_OF[t]} x ≤ 1000000000 → (good many).{FIELD_OF[t]} ({WALK_OF[t]} x)\n"
+    text+=f"small_{l} many = {SMALL_OF[t]} 1000000000 {preds} {steps}\n\n"
+text+="""pub small_are_good : (many : ℕ) → SmallAreGood many
+small_are_good many = record {
+  node = small_expr many;
+  item = small_stmt many;
+  shape = small_declarator many;
+  start = small_initializer many;
+  declaration = small_declaration many;
 }
 """
 open("crates/accepted_small/proofs/Trees.antt", "w").write(text)
