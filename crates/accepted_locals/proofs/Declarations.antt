@@ -1,8 +1,7 @@
 -- A declaration in a block whose declarators are good is good.
-use Rattle.std.proofs.Common.{◌≡◌, ℕ, List, [], ◌∷◌, ◌++◌, Option, Some, None}
+use Rattle.std.proofs.Common.{◌≡◌, ℕ, List, [], ◌∷◌, None}
 use Rattle.std.specs.Prelude.{false, is_some}
 use Rattle.tick_tree.specs.declared.base.Base.{Base}
-use Rattle.typed_tree.specs.declared.expression.Stmt.{Stmt as Act}
 use Rattle.c_declared.specs.declared.steps.Step.{Step}
 use Rattle.c_declared.specs.Words as words
 use Rattle.c_shapes.specs.Shapes.{inner}
@@ -12,7 +11,7 @@ use Rattle.check_expressions.specs.Rules.{Shape}
 use Rattle.check_statements.specs.Declarations as declarations
 use Rattle.check_statements.specs.Initializers as initializers
 use Rattle.tick_checker.specs.Walk.{Start, Nothing, Value, Values, InitParts, Declarations, Stmt-W, with_start, elements, begin, local_type, declare_parts, declare_one, declare_each, declaration_walk, stmt_rule}
-use Rattle.accepted_steps.specs.Good.{GoodNode, GoodShape, any_computed}
+use Rattle.accepted_steps.specs.Good.{GoodShape, any_computed}
 use Rattle.accepted_steps.specs.Items.{MayStand, GoodStatement, GoodItem}
 use Rattle.accepted_types.specs.Parts.{EachPart}
 use Rattle.accepted_types.proofs.Lengths.{computed_filled}

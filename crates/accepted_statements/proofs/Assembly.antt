@@ -31,7 +31,7 @@ use Rattle.accepted_statements.proofs.Makes.{Makes, one_node, if_makes, while_ma
 use Rattle.accepted_statements.proofs.Whole.{blocked, block_makes, switch_makes, expr_makes, answer_makes, same_makes, case_makes, default_makes, for_block_makes}
 use Rattle.accepted_statements.proofs.Joining.{did_so}
 use Rattle.accepted_statements.proofs.Standing.{Stood, stood_one, list_stood, break_stood, continue_stood, return_stood}
-use Rattle.accepted_statements.proofs.Doing.{place_of, DidStand, if_did, while_did, do_did, else_did, for_did, expr_did, answer_did, same_did}
+use Rattle.accepted_statements.proofs.Doing.{place_of, DidStand, if_did, while_did, do_did, else_did, for_did, expr_did, answer_did, same_did, each_did}
 use Rattle.accepted_statements.proofs.Within.{whole_block_did, for_block_did}
 use Rattle.accepted_statements.proofs.Switching.{switch_did, case_did, default_did}
 
@@ -46,7 +46,12 @@ statement_good a step makes did = record {
   does = λ b ks s new xs here known e. did b ks s new xs here known e;
 }
 
--- ---- blocks
+-- ---- lists and blocks
+
+pub each_good : (many : ℕ) (items : List Item) (a : Standing) → MayStand a.stage → EachPart (GoodItem many) items → GoodStatement many a (each items a)
+each_good many items a may h = statement_good a (each items a)
+  (λ s new xs e. each_makes many items a may h s new xs e)
+  (λ b ks s new xs here known e. each_did many items a b ks s new xs h here known e)
 
 abbrev pub StoodBlock : Around → Stmt → Type 0
 StoodBlock r x = ((act x).stands r ≡ true) × (uses_values x ≡ true)

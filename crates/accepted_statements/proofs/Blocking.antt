@@ -40,25 +40,27 @@ pub record Enclosed {A B : Type 0} (p : Rule State A) (f : A → List Stmt → B
 abbrev pub enclose : {A B : Type 0} → Rule State A → (A → List Stmt → B) → Rule State B
 enclose p f = depth >>= (λ n. enter >>= (λ outer. p >>= (λ x. leave n outer >>= (λ vs. pure (f x vs)))))
 
+enclosed_by : {A B : Type 0} (p : Rule State A) (f : A → List Stmt → B) (s d i t new : State) (n : ℕ) (outer vs : List Stmt) (x : A) (y : B) → s ≡ d → length s.scopes ≡ n
+    → ◌≡◌ {A = List Stmt × State} (d.frame.nodes, inside d) (outer, i) → p i ≡ Ok (x, t) → ◌≡◌ {A = List Stmt × State} (t.frame.nodes, behind n outer t) (vs, new) → f x vs ≡ y → Enclosed p f s y new
+enclosed_by p f s d i t new n outer vs x y same count entry walk exit is =
+    let state : inside s ≡ i = ap inside same ∙ ap (λ r. r.1) entry in
+    let nodes : s.frame.nodes ≡ outer = ap (λ z. z.frame.nodes) same ∙ ap (λ r. r.0) entry in
+    record {
+      value = x;
+      state = t;
+      walk = subst (λ z. p z ≡ Ok (x, t)) (sym state) walk;
+      is = ap (f x) (ap (λ r. r.0) exit) ∙ is;
+      back = ap (λ m. behind m s.frame.nodes t) count ∙ ap (λ ws. behind n ws t) nodes ∙ ap (λ r. r.1) exit;
+    }
+
 pub enclosed : {A B : Type 0} (p : Rule State A) (f : A → List Stmt → B) (s : State) (y : B) (new : State) → enclose p f s ≡ Ok (y, new) → Enclosed p f s y new
 enclosed p f s y new e =
     let d = ran depth (λ n. enter >>= (λ outer. p >>= (λ x. leave n outer >>= (λ vs. pure (f x vs))))) s y new e in
     let i = ran enter (λ outer. p >>= (λ x. leave d.value outer >>= (λ vs. pure (f x vs)))) d.state y new d.next in
     let w = ran p (λ x. leave d.value i.value >>= (λ vs. pure (f x vs))) i.state y new i.next in
     let l = followed (leave d.value i.value) (λ vs. f w.value vs) w.state y new w.next in
-    let same : s ≡ d.state = pure_same (length s.scopes) d.value s d.state d.first in
-    let count : length s.scopes ≡ d.value = pure_value (length s.scopes) d.value s d.state d.first in
-    let entry = enter_gives d.state i.state i.value i.first in
-    let exit = leave_gives d.value i.value w.state new l.value l.walk in
-    let state : inside s ≡ i.state = ap inside same ∙ ap (λ r. r.1) entry in
-    let nodes : s.frame.nodes ≡ i.value = ap (λ z. z.frame.nodes) same ∙ ap (λ r. r.0) entry in
-    record {
-      value = w.value;
-      state = w.state;
-      walk = subst (λ z. p z ≡ Ok (w.value, w.state)) (sym state) w.first;
-      is = ap (f w.value) (ap (λ r. r.0) exit) ∙ l.is;
-      back = ap (λ n. behind n s.frame.nodes w.state) count ∙ ap (λ vs. behind d.value vs w.state) nodes ∙ ap (λ r. r.1) exit;
-    }
+    enclosed_by p f s d.state i.state w.state new d.value i.value l.value w.value y (pure_same (length s.scopes) d.value s d.state d.first) (pure_value (length s.scopes) d.value s d.state d.first)
+      (enter_gives d.state i.state i.value i.first) w.first (leave_gives d.value i.value w.state new l.value l.walk) l.is
 
 -- ---- switches
 
@@ -82,6 +84,13 @@ switch_entry : (s t : State) (l : Labels) → switch_entered s ≡ Ok (l, t) →
 unfolding switch_entered
 switch_entry s t l e = ok_same (s.labels, with_labels labels.new s) (l, t) e
 
+switch_entered_by : (items : List Item) (a : Standing) (s t : State) (l : Labels) (p : List Stmt × List Stmt) (q : List Stmt × List Stmt) (last new : State) → ◌≡◌ {A = Labels × State} (s.labels, with_labels labels.new s) (l, t)
+    → rules.switch_block items a t ≡ Ok (p, last) → ◌≡◌ {A = (List Stmt × List Stmt) × State} (p, with_labels l last) (q, new) → rules.switch_block items a (with_labels labels.new s) ≡ Ok (q, last)
+switch_entered_by items a s t l p q last new entry walk exit = ap (rules.switch_block items a) (ap (λ r. r.1) entry) ∙ walk ∙ ap (λ r. Ok (r.0, last)) exit
+
+switch_left : (s t last new : State) (l : Labels) (p q : List Stmt × List Stmt) → ◌≡◌ {A = Labels × State} (s.labels, with_labels labels.new s) (l, t) → ◌≡◌ {A = (List Stmt × List Stmt) × State} (p, with_labels l last) (q, new) → with_labels s.labels last ≡ new
+switch_left s t last new l p q entry exit = ap (λ r. with_labels r.0 last) entry ∙ ap (λ r. r.1) exit
+
 pub switch_ran : (line : ℕ) (c : Node) (items : List Item) (a : Standing) (s : State) (xs : List Stmt) (new : State) → rules.switch line c items a s ≡ Ok (xs, new) → SwitchRan line c items a s xs new
 unfolding switch_node
 switch_ran line c items a s xs new e =
@@ -91,8 +100,7 @@ switch_ran line c items a s xs new e =
     let b = ran (rules.switch_block items a) (λ p z. Ok (p, with_labels i.value z)) i.state j.value new i.next in
     let entry = switch_entry r.state i.state i.value i.first in
     let exit : ◌≡◌ {A = (List Stmt × List Stmt) × State} (b.value, with_labels i.value b.state) (j.value, new) = ok_same (b.value, with_labels i.value b.state) (j.value, new) b.next in
-    let w : rules.switch_block items a (with_labels labels.new r.state) ≡ Ok (j.value, b.state) =
-        ap (rules.switch_block items a) (ap (λ p. p.1) entry) ∙ b.first ∙ ap (λ p. Ok (p.0, b.state)) exit in
+    let w = switch_entered_by items a r.state i.state i.value b.value j.value b.state new entry b.first exit in
     let g = gave (statements.switched_node line r.value) (λ t. statements.one (st.Switch t j.value.0 j.value.1)) xs j.gives in
     record {
       operand = r.value;
@@ -102,7 +110,7 @@ switch_ran line c items a s xs new e =
       vs = j.value.0;
       nodes = j.value.1;
       body = enclosed (each items (statements.switched a)) paired (with_labels labels.new r.state) j.value b.state w;
-      state = ap (λ p. with_labels p.0 b.state) entry ∙ ap (λ p. p.1) exit;
+      state = switch_left r.state i.state b.state new i.value b.value j.value entry exit;
       test = g.value;
       gives = g.gives;
       is = g.is;

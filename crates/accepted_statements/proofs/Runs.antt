@@ -160,6 +160,9 @@ pub record ElseRan (line : ℕ) (c : Node) (i j : Item) (a : Standing) (s : Stat
   pub gives : statements.condition_node line operand ≡ Ok test
   pub is : st.IfElse test one two ∷ [] ≡ xs
 
+else_is : (e : Expr) (x y : Stmt) (p : Stmt × Stmt) (xs : List Stmt) → ◌≡◌ {A = Stmt × Stmt} (x, y) p → st.IfElse e p.0 p.1 ∷ [] ≡ xs → st.IfElse e x y ∷ [] ≡ xs
+else_is e x y p xs h k = ap (λ q. st.IfElse e q.0 q.1 ∷ []) h ∙ k
+
 pub else_ran : (line : ℕ) (c : Node) (i j : Item) (a : Standing) (s : State) (xs : List Stmt) (new : State) → rules.if_else line c i j a s ≡ Ok (xs, new) → ElseRan line c i j a s xs new
 unfolding if_else_node
 else_ran line c i j a s xs new e =
@@ -179,7 +182,7 @@ else_ran line c i j a s xs new e =
       other = body_ran j (statements.inside a) f.state h.value new h.walk;
       test = g.value;
       gives = g.gives;
-      is = ap (λ p. st.IfElse g.value p.0 p.1 ∷ []) h.is ∙ g.is;
+      is = else_is g.value f.value h.value k.value xs h.is g.is;
     }
 
 -- ---- loops with three parts
@@ -205,6 +208,12 @@ pub record ForRan (line : ℕ) (c step : Option Node) (i : Item) (a : Standing) 
   pub gives : statements.for_condition line test ≡ Ok condition
   pub is : statements.for_by condition next node ≡ x
 
+for_gives : (line : ℕ) (o : Option Operand) (n : Option Operand) (p : Option Operand × Option Operand) (e : Expr) → ◌≡◌ {A = Option Operand × Option Operand} (o, n) p → statements.for_condition line p.0 ≡ Ok e → statements.for_condition line o ≡ Ok e
+for_gives line o n p e h k = ap (λ q. statements.for_condition line q.0) h ∙ k
+
+for_is : (e : Expr) (o n : Option Operand) (p : Option Operand × Option Operand) (y x : Stmt) → ◌≡◌ {A = Option Operand × Option Operand} (o, n) p → statements.for_by e p.1 y ≡ x → statements.for_by e n y ≡ x
+for_is e o n p y x h k = ap (λ q. statements.for_by e q.1 y) h ∙ k
+
 pub for_ran : (line : ℕ) (c step : Option Node) (i : Item) (a : Standing) (s : State) (x : Stmt) (new : State) → rules.for_rest line c step i a s ≡ Ok (x, new) → ForRan line c step i a s x new
 unfolding for_node
 for_ran line c step i a s x new e =
@@ -223,6 +232,6 @@ for_ran line c step i a s x new e =
       node = j.value;
       body = body_ran i (statements.looped a) r.state j.value new j.walk;
       condition = g.value;
-      gives = ap (λ p. statements.for_condition line p.0) h.is ∙ g.gives;
-      is = ap (λ p. statements.for_by g.value p.1 j.value) h.is ∙ g.is;
+      gives = for_gives line f.value h.value r.value g.value h.is g.gives;
+      is = for_is g.value f.value h.value r.value j.value x h.is g.is;
     }

@@ -12,7 +12,7 @@ use Rattle.check_state.specs.declared.state.Around.{Around as Standing}
 use Rattle.check_state.specs.declared.state.Stage.{Stage}
 use Rattle.check_state.specs.declared.state.State.{State}
 use Rattle.check_tables.specs.Walks.{Rule, ◌>>=◌, pure, lift}
-use Rattle.check_expressions.specs.Rules.{Node, Named, Shape, Item, block}
+use Rattle.check_expressions.specs.Rules.{Node, Named, Shape, Item, each, block}
 use Rattle.check_statements.specs.Declarations as declarations
 use Rattle.check_statements.specs.Declarations.{declared_in}
 use Rattle.check_statements.specs.Initializers as initializers
@@ -30,6 +30,10 @@ Stmt-W = Stmt-F Shape Node (Unit {0}) (Option Node) Item (Unit {0}) (Stage → R
 
 abbrev pub StatementsAreGood : Type 0
 StatementsAreGood = (many : ℕ) (s : Stmt-W) → GoodStatementParts many (λ d. d) s → (a : Standing) → MayStand a.stage → GoodStatement many a (stmt_walk (λ d. d) s a)
+
+-- the items of a block, one after the other
+abbrev pub ListsAreGood : Type 0
+ListsAreGood = (many : ℕ) (items : List Item) (a : Standing) → MayStand a.stage → EachPart (GoodItem many) items → GoodStatement many a (each items a)
 
 abbrev pub BlocksAreGood : Type 0
 BlocksAreGood =

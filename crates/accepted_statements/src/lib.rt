@@ -2,11 +2,16 @@
 //! they answer stand right. This is a part of the law on the whole walk; there is no code to run here.
 #![tactic(auto)]
 
-ghost use Rattle.accepted_statements.specs.Laws.{BlocksAreGood, DeclarationsAreGood, StatementsAreGood};
+ghost use Rattle.accepted_statements.specs.Laws.{BlocksAreGood, DeclarationsAreGood, ListsAreGood, StatementsAreGood};
 
 /// That the walk over a statement is good, where the walks over its parts are.
 pub fn statements_are_good()
     ensures { StatementsAreGood }
+{}
+
+/// That the walk over the items of a block is good, where the walks over each of them are.
+pub fn lists_are_good()
+    ensures { ListsAreGood }
 {}
 
 /// That the walk over a block is good, where the walks over its items are, and leaves the names and variables round it.
