@@ -13,7 +13,7 @@ use Rattle.typed_tree.specs.declared.expression.Stmt.TheVariants as st
 use Rattle.check_tables.specs.declared.functions.Functions.{Functions}
 use Rattle.check_tables.specs.Frames as frames
 use Rattle.check_tables.specs.Functions as tables
-use Rattle.check_tables.specs.Walks.{Rule, ◌>>=◌, pure, lift}
+use Rattle.check_tables.specs.Walks.{Rule, ◌>>=◌}
 use Rattle.check_state.specs.declared.state.State.{State}
 use Rattle.check_state.specs.Locals.{meaning, parameter, with_parameter}
 use Rattle.check_state.specs.Names.{declare}
@@ -159,7 +159,8 @@ parameters_fresh t gs = record { after = λ s. began_by (inner t) (length gs) s 
 
 -- ---- the whole function
 
-begun_fresh : {w : ℕ} (t : CType) (gs : List Given) (items : List Item) → Each LightItem w items → Fresh (length gs) w (program.begun t gs items)
+-- its parameters and its items
+pub begun_fresh : {w : ℕ} (t : CType) (gs : List Given) (items : List Item) → Each LightItem w items → Fresh (length gs) w (program.begun t gs items)
 begun_fresh t gs items h = fresh_weak _ (fresh_next (parameters_fresh t gs) (λ u. each_light items program.around h)) (omega arith)
 
 body_fresh : {w : ℕ} (t : CType) (gs : List Given) (items : List Item) → Each LightItem w items → Fresh (length gs) w (program.body t gs items)

@@ -1,22 +1,22 @@
 -- A declarator has no more parameters than nodes. Written by tools/checker/weights.py.
-use Rattle.std.proofs.Common.{◌≡◌, ℕ, ◌+◌, ◌≤◌, List, [], ◌∷◌, map, length, refl, ap, sym, subst, arith}
+use Rattle.std.proofs.Common.{◌≡◌, ℕ, ◌+◌, ◌≤◌, List, [], ◌∷◌, map, length, sym, subst, arith}
 use Rattle.tick_tree.specs.declared.syntax.Core.{Core, roll-Core}
-use Rattle.tick_tree.specs.declared.syntax.Expr.{Expr, roll-Expr}
-use Rattle.tick_tree.specs.declared.syntax.Initializer.{Initializer, roll-Initializer}
-use Rattle.tick_tree.specs.declared.syntax.OptionalExpr.{OptionalExpr, roll-OptionalExpr}
-use Rattle.tick_tree.specs.declared.syntax.Stmt.{Stmt, roll-Stmt}
+use Rattle.tick_tree.specs.declared.syntax.Expr.{Expr}
+use Rattle.tick_tree.specs.declared.syntax.Initializer.{Initializer}
+use Rattle.tick_tree.specs.declared.syntax.OptionalExpr.{OptionalExpr}
+use Rattle.tick_tree.specs.declared.syntax.Stmt.{Stmt}
 use Rattle.tick_tree.specs.declared.syntax.Suffix.{Suffix, roll-Suffix}
-use Rattle.tick_tree.specs.declared.syntax.Declaration.{Declaration, roll-Declaration}
+use Rattle.tick_tree.specs.declared.syntax.Declaration.{Declaration}
 use Rattle.tick_tree.specs.declared.syntax.Declarator.{Declarator, roll-Declarator}
-use Rattle.tick_tree.specs.declared.syntax.Init.{Init, roll-Init}
+use Rattle.tick_tree.specs.declared.syntax.Init.{Init}
 use Rattle.tick_tree.specs.declared.syntax.Parameter.{Parameter, roll-Parameter}
-use Rattle.tick_tree.specs.declared.syntax.Typename.{Typename, roll-Typename}
-use Rattle.tick_tree.specs.declared.syntax.Core.TheOpen.{Core-F, Expr-F, Initializer-F, OptionalExpr-F, Stmt-F, Suffix-F, Declaration-F, Declarator-F, Init-F, Parameter-F, Typename-F}
-use Rattle.tick_tree.specs.declared.syntax.Core.TheFolds.{map-Core, map-Expr, map-Initializer, map-OptionalExpr, map-Stmt, map-Suffix, map-Declaration, map-Declarator, map-Init, map-Parameter, map-Typename, ind-Declarator, fold-roll-Core, fold-roll-Suffix, fold-roll-Declarator}
+use Rattle.tick_tree.specs.declared.syntax.Typename.{Typename}
+use Rattle.tick_tree.specs.declared.syntax.Core.TheOpen.{Core-F, Suffix-F, Declarator-F}
+use Rattle.tick_tree.specs.declared.syntax.Core.TheFolds.{map-Core, map-Suffix, map-Declarator, ind-Declarator, fold-roll-Core, fold-roll-Suffix, fold-roll-Declarator}
 use Rattle.check_globals.specs.Functions.{Given}
 use Rattle.tick_checker.specs.Parameters.{Head, Inner, nothing, first_of, inner_rule, head_rule, list_rule, given_rule, inner, head, list, written, parameters_of}
-use Rattle.accepted_weights.specs.Weights.{total, core_nodes, expr_nodes, initializer_nodes, optional_nodes, statement_nodes, suffix_nodes, declaration_nodes, declarator_nodes, init_nodes, parameter_nodes, typename_nodes, core_weight, weight, initializer_weight, optional_weight, statement_weight, suffix_weight, declaration_weight, declarator_weight, init_weight, parameter_weight, typename_weight}
-use Rattle.accepted_weights.proofs.Folds.{weighed-Core, weighed-Suffix, weighed-Declarator, weighed-Parameter, weigh-Core, weigh-Suffix, weigh-Declarator, weigh-Parameter, Core-T, Suffix-T, Declarator-T, Parameter-T}
+use Rattle.accepted_weights.specs.Weights.{total, core_nodes, suffix_nodes, declarator_nodes, core_weight, suffix_weight, declarator_weight, parameter_weight}
+use Rattle.accepted_weights.proofs.Folds.{weighed-Core, weighed-Suffix, weighed-Declarator, weigh-Core, weigh-Suffix, weigh-Declarator, weigh-Parameter, Core-T, Suffix-T, Declarator-T, Parameter-T}
 
 abbrev Any : {A : Type 0} → A → Type 0
 Any x = Unit {0}

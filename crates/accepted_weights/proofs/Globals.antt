@@ -1,5 +1,5 @@
 -- What the walk over declarations at file scope makes grow.
-use Rattle.std.proofs.Common.{◌≡◌, ℕ, ◌+◌, ◌≤◌, Bool, true, false, if◌then◌else◌, List, [], ◌∷◌, ◌++◌, length, refl, Option, Some, None, is_some, Result, Ok, Err, arith}
+use Rattle.std.proofs.Common.{◌≡◌, ℕ, Bool, true, false, if◌then◌else◌, List, [], ◌∷◌, ◌++◌, length, refl, Option, Some, None, is_some, Result, Ok, Err, arith}
 use Rattle.c_types.specs.declared.ctype.CType.{CType}
 use Rattle.c_types.specs.declared.names.Meaning.{Meaning}
 use Rattle.c_types.specs.declared.names.MeaningKind.TheVariants as kind
@@ -14,11 +14,10 @@ use Rattle.tick_tree.specs.declared.fault.FaultKind.TheVariants as fault
 use Rattle.tick_tree.specs.Faults.{Checked, refuse}
 use Rattle.check_tables.specs.Functions as tables
 use Rattle.check_tables.specs.Images as images
-use Rattle.check_tables.specs.Walks.{Rule, ◌>>=◌, pure, lift}
+use Rattle.check_tables.specs.Walks.{Rule}
 use Rattle.check_state.specs.declared.state.Stage.TheVariants as stage
 use Rattle.check_state.specs.declared.state.State.{State}
 use Rattle.check_state.specs.Locals.{meaning}
-use Rattle.check_state.specs.Names.{declare}
 use Rattle.check_expressions.specs.Rules.{Node, Shape}
 use Rattle.check_statements.specs.Declarations.{name_by}
 use Rattle.check_statements.specs.Initializers.{is_text}
@@ -27,7 +26,7 @@ use Rattle.check_globals.specs.Names as names
 use Rattle.check_globals.specs.Statics as statics
 use Rattle.tick_checker.specs.Program as program
 use Rattle.tick_checker.specs.Walk.{Start, Nothing, Value, Values, InitParts, Declarations}
-use Rattle.light_steps.specs.Light.{Light, After, Bounded, LightNode, LightShape, Each, none, more}
+use Rattle.light_steps.specs.Light.{Light, After, Bounded, LightNode, Each, none, more}
 use Rattle.light_steps.proofs.Walks.{weak, by_after, after, pure_light, lift_light, bind_light, light_first}
 use Rattle.light_steps.proofs.States.{same_light, declare_light}
 use Rattle.accepted_weights.specs.Parts.{LightStart, nothing, value, values, LightInit, LightDeclarations}

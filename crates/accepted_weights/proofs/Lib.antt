@@ -5,4 +5,5 @@ pub mod Given
 pub mod Globals
 pub mod Programs
 pub mod Small
+pub mod Starts
 pub mod Tree

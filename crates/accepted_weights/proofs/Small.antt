@@ -1,6 +1,6 @@
 -- Induction over the parts of a tree that is small: what is shown of a node by its parts, where the node weighs no more than a limit, holds
 -- of each tree that does, since each part weighs less than its node. Written by tools/checker/weights.py.
-use Rattle.std.proofs.Common.{◌≡◌, ℕ, ◌+◌, ◌≤◌, List, [], ◌∷◌, map, refl, ap, sym, subst, ◌∙◌, arith}
+use Rattle.std.proofs.Common.{◌≡◌, ℕ, ◌≤◌, List, [], ◌∷◌, map, refl, ap, sym, subst, ◌∙◌, arith}
 use Rattle.tick_tree.specs.declared.syntax.Core.{Core, roll-Core}
 use Rattle.tick_tree.specs.declared.syntax.Expr.{Expr, roll-Expr}
 use Rattle.tick_tree.specs.declared.syntax.Initializer.{Initializer, roll-Initializer}

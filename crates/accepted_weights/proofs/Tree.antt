@@ -1,6 +1,6 @@
 -- The walk over each part of a tree makes nothing grow by more than the weight of the part: an induction over the types of the tree.
 -- Written by tools/checker/weights.py.
-use Rattle.std.proofs.Common.{◌≡◌, ℕ, ◌+◌, ◌≤◌, List, [], ◌∷◌, map, refl, sym, subst, Some, None, arith}
+use Rattle.std.proofs.Common.{◌≡◌, ℕ, List, [], ◌∷◌, map, sym, subst, arith}
 use Rattle.tick_tree.specs.declared.syntax.Core.{Core, roll-Core}
 use Rattle.tick_tree.specs.declared.syntax.Expr.{Expr, roll-Expr}
 use Rattle.tick_tree.specs.declared.syntax.Initializer.{Initializer, roll-Initializer}
