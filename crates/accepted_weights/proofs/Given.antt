@@ -15,8 +15,9 @@ use Rattle.tick_tree.specs.declared.syntax.Core.TheOpen.{Core-F, Suffix-F, Decla
 use Rattle.tick_tree.specs.declared.syntax.Core.TheFolds.{map-Core, map-Suffix, map-Declarator, ind-Declarator, fold-roll-Core, fold-roll-Suffix, fold-roll-Declarator}
 use Rattle.check_globals.specs.Functions.{Given}
 use Rattle.tick_checker.specs.Parameters.{Head, Inner, nothing, first_of, inner_rule, head_rule, list_rule, given_rule, inner, head, list, written, parameters_of}
-use Rattle.accepted_weights.specs.Weights.{total, core_nodes, suffix_nodes, declarator_nodes, core_weight, suffix_weight, declarator_weight, parameter_weight}
-use Rattle.accepted_weights.proofs.Folds.{weighed-Core, weighed-Suffix, weighed-Declarator, weigh-Core, weigh-Suffix, weigh-Declarator, weigh-Parameter, Core-T, Suffix-T, Declarator-T, Parameter-T}
+use Rattle.tree_weights.specs.Weights.{total, core_nodes, suffix_nodes, declarator_nodes, core_weight, suffix_weight, declarator_weight, parameter_weight}
+use Rattle.tree_weights.proofs.Folds.{weigh-Core, weigh-Suffix, weigh-Declarator, weigh-Parameter}
+use Rattle.tree_weights.specs.Layers.{Core-T, Suffix-T, Declarator-T, Parameter-T, weighed-Core, weighed-Suffix, weighed-Declarator}
 
 abbrev Any : {A : Type 0} → A → Type 0
 Any x = Unit {0}

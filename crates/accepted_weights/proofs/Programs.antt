@@ -8,7 +8,7 @@ use Rattle.tick_checker.specs.Program as program
 use Rattle.tick_checker.specs.Walk.{item, shape, declaration}
 use Rattle.light_steps.specs.Light.{Bounded, LightItem, Each, none, more}
 use Rattle.light_steps.proofs.Walks.{weak, pure_light, bind_light}
-use Rattle.accepted_weights.specs.Weights.{total, statement_weight, item_weight}
+use Rattle.tree_weights.specs.Weights.{total, statement_weight, item_weight}
 use Rattle.accepted_weights.proofs.Functions.{function_light}
 use Rattle.accepted_weights.proofs.Given.{parameters_few}
 use Rattle.accepted_weights.proofs.Globals.{declared_light}

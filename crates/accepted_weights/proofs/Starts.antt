@@ -16,7 +16,7 @@ use Rattle.tick_checker.specs.Program as program
 use Rattle.light_steps.specs.Light.{After, Bounded}
 use Rattle.light_steps.proofs.Walks.{weak, after, bind_light}
 use Rattle.light_steps.proofs.States.{declare_light}
-use Rattle.accepted_weights.specs.Weights.{total, item_weight, tree_weight}
+use Rattle.tree_weights.specs.Weights.{total, item_weight, tree_weight}
 use Rattle.accepted_weights.proofs.Programs.{walk_light}
 
 add_light : (name : Name) (n : ℕ) (t : CType) → Bounded 0 (starts.add_library name n t)

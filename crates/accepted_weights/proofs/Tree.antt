@@ -23,9 +23,11 @@ use Rattle.light_steps.proofs.States.{named_light}
 use Rattle.light_steps.proofs.Expressions as e
 use Rattle.light_steps.proofs.Statements as s
 use Rattle.accepted_weights.specs.Parts.{LightStart, nothing, value, values, LightInit, LightDeclarations}
-use Rattle.accepted_weights.specs.Weights.{total, core_nodes, expr_nodes, initializer_nodes, optional_nodes, statement_nodes, suffix_nodes, declaration_nodes, declarator_nodes, init_nodes, parameter_nodes, typename_nodes, core_weight, weight, initializer_weight, optional_weight, statement_weight, suffix_weight, declaration_weight, declarator_weight, init_weight, parameter_weight, typename_weight}
+use Rattle.tree_weights.specs.Weights.{total, core_nodes, expr_nodes, initializer_nodes, optional_nodes, statement_nodes, suffix_nodes, declaration_nodes, declarator_nodes, init_nodes, parameter_nodes, typename_nodes, core_weight, weight, initializer_weight, optional_weight, statement_weight, suffix_weight, declaration_weight, declarator_weight, init_weight, parameter_weight, typename_weight}
 use Rattle.accepted_weights.proofs.Declarations as d
-use Rattle.accepted_weights.proofs.Folds.{weighed-Core, weighed-Expr, weighed-Initializer, weighed-OptionalExpr, weighed-Stmt, weighed-Suffix, weighed-Declaration, weighed-Declarator, weighed-Init, weighed-Parameter, weighed-Typename, walked-Core, walked-Expr, walked-Initializer, walked-OptionalExpr, walked-Stmt, walked-Suffix, walked-Declaration, walked-Declarator, walked-Init, walked-Parameter, walked-Typename, weigh-Core, weigh-Expr, weigh-Initializer, weigh-OptionalExpr, weigh-Stmt, weigh-Suffix, weigh-Declaration, weigh-Declarator, weigh-Init, weigh-Parameter, weigh-Typename, walk-Core, walk-Expr, walk-Initializer, walk-OptionalExpr, walk-Stmt, walk-Suffix, walk-Declaration, walk-Declarator, walk-Init, walk-Parameter, walk-Typename, Core-T, Expr-T, Initializer-T, OptionalExpr-T, Stmt-T, Suffix-T, Declaration-T, Declarator-T, Init-T, Parameter-T, Typename-T}
+use Rattle.accepted_weights.proofs.Walks.{walked-Core, walked-Expr, walked-Initializer, walked-OptionalExpr, walked-Stmt, walked-Suffix, walked-Declaration, walked-Declarator, walked-Init, walked-Parameter, walked-Typename, walk-Core, walk-Expr, walk-Initializer, walk-OptionalExpr, walk-Stmt, walk-Suffix, walk-Declaration, walk-Declarator, walk-Init, walk-Parameter, walk-Typename}
+use Rattle.tree_weights.proofs.Folds.{weigh-Core, weigh-Expr, weigh-Initializer, weigh-OptionalExpr, weigh-Stmt, weigh-Suffix, weigh-Declaration, weigh-Declarator, weigh-Init, weigh-Parameter, weigh-Typename}
+use Rattle.tree_weights.specs.Layers.{Core-T, Expr-T, Initializer-T, OptionalExpr-T, Stmt-T, Suffix-T, Declaration-T, Declarator-T, Init-T, Parameter-T, Typename-T, weighed-Core, weighed-Expr, weighed-Initializer, weighed-OptionalExpr, weighed-Stmt, weighed-Suffix, weighed-Declaration, weighed-Declarator, weighed-Init, weighed-Parameter, weighed-Typename}
 
 -- ---- what is shown of each part
 

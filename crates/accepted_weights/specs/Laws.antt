@@ -24,7 +24,7 @@ use Rattle.tick_checker.specs.Program as program
 use Rattle.tick_checker.specs.Walk.{declaration, declaration_walk, item, named, node, parameter, shape, suffix}
 use Rattle.light_steps.specs.Light.{After, Bounded, LightItem, Each}
 use Rattle.accepted_weights.specs.Fresh.{Fresh}
-use Rattle.accepted_weights.specs.Weights.{total, weight, statement_weight, declarator_weight, declaration_weight, parameter_weight, suffix_weight, typename_weight, item_weight, tree_weight}
+use Rattle.tree_weights.specs.Weights.{total, weight, statement_weight, declarator_weight, declaration_weight, parameter_weight, suffix_weight, typename_weight, item_weight, tree_weight}
 
 pub record PartsAreLight : Type 0 where
   pub expression : (e : Expr) (g : Stage) → Bounded (weight e) ((node e).walk g)

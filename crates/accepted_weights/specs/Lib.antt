@@ -1,4 +1,3 @@
 pub mod Fresh
 pub mod Laws
 pub mod Parts
-pub mod Weights

@@ -14,8 +14,9 @@ use Rattle.tick_tree.specs.declared.syntax.Parameter.{Parameter, roll-Parameter}
 use Rattle.tick_tree.specs.declared.syntax.Typename.{Typename, roll-Typename}
 use Rattle.tick_tree.specs.declared.syntax.Core.TheOpen.{Core-F, Expr-F, Initializer-F, OptionalExpr-F, Stmt-F, Suffix-F, Declaration-F, Declarator-F, Init-F, Parameter-F, Typename-F}
 use Rattle.tick_tree.specs.declared.syntax.Core.TheFolds.{map-Core, map-Expr, map-Initializer, map-OptionalExpr, map-Stmt, map-Suffix, map-Declaration, map-Declarator, map-Init, map-Parameter, map-Typename, ind-Core, ind-Expr, ind-Initializer, ind-OptionalExpr, ind-Stmt, ind-Suffix, ind-Declaration, ind-Declarator, ind-Init, ind-Parameter, ind-Typename}
-use Rattle.accepted_weights.specs.Weights.{total, core_nodes, expr_nodes, initializer_nodes, optional_nodes, statement_nodes, suffix_nodes, declaration_nodes, declarator_nodes, init_nodes, parameter_nodes, typename_nodes, core_weight, weight, initializer_weight, optional_weight, statement_weight, suffix_weight, declaration_weight, declarator_weight, init_weight, parameter_weight, typename_weight}
-use Rattle.accepted_weights.proofs.Folds.{weighed-Core, weighed-Expr, weighed-Initializer, weighed-OptionalExpr, weighed-Stmt, weighed-Suffix, weighed-Declaration, weighed-Declarator, weighed-Init, weighed-Parameter, weighed-Typename, weigh-Core, weigh-Expr, weigh-Initializer, weigh-OptionalExpr, weigh-Stmt, weigh-Suffix, weigh-Declaration, weigh-Declarator, weigh-Init, weigh-Parameter, weigh-Typename, Core-T, Expr-T, Initializer-T, OptionalExpr-T, Stmt-T, Suffix-T, Declaration-T, Declarator-T, Init-T, Parameter-T, Typename-T}
+use Rattle.tree_weights.specs.Weights.{total, core_nodes, expr_nodes, initializer_nodes, optional_nodes, statement_nodes, suffix_nodes, declaration_nodes, declarator_nodes, init_nodes, parameter_nodes, typename_nodes, core_weight, weight, initializer_weight, optional_weight, statement_weight, suffix_weight, declaration_weight, declarator_weight, init_weight, parameter_weight, typename_weight}
+use Rattle.tree_weights.proofs.Folds.{weigh-Core, weigh-Expr, weigh-Initializer, weigh-OptionalExpr, weigh-Stmt, weigh-Suffix, weigh-Declaration, weigh-Declarator, weigh-Init, weigh-Parameter, weigh-Typename}
+use Rattle.tree_weights.specs.Layers.{Core-T, Expr-T, Initializer-T, OptionalExpr-T, Stmt-T, Suffix-T, Declaration-T, Declarator-T, Init-T, Parameter-T, Typename-T, weighed-Core, weighed-Expr, weighed-Initializer, weighed-OptionalExpr, weighed-Stmt, weighed-Suffix, weighed-Declaration, weighed-Declarator, weighed-Init, weighed-Parameter, weighed-Typename}
 
 -- parts of a list
 pub record Lowered {A : Type 0} (P : A → Type 0) (xs : List A) : Type 0 where
@@ -29,7 +30,6 @@ lower P limit weigh (k ∷ ks) h =
     record { parts = (k.0, k.1 (omega arith)) ∷ rest.parts; is = ap (λ l. k.0 ∷ l) rest.is }
 
 module _ (limit : ℕ) (PCore : Core → Type 0) (PExpr : Expr → Type 0) (PInitializer : Initializer → Type 0) (POptionalExpr : OptionalExpr → Type 0) (PStmt : Stmt → Type 0) (PSuffix : Suffix → Type 0) (PDeclaration : Declaration → Type 0) (PDeclarator : Declarator → Type 0) (PInit : Init → Type 0) (PParameter : Parameter → Type 0) (PTypename : Typename → Type 0) where
-
   abbrev pub Core-P : Type 0
   Core-P = Core-F ((x : Core) × PCore x) ((x : Expr) × PExpr x) ((x : Initializer) × PInitializer x) ((x : OptionalExpr) × POptionalExpr x) ((x : Stmt) × PStmt x) ((x : Suffix) × PSuffix x) ((x : Declaration) × PDeclaration x) ((x : Declarator) × PDeclarator x) ((x : Init) × PInit x) ((x : Parameter) × PParameter x) ((x : Typename) × PTypename x)
 
