@@ -94,20 +94,20 @@ layer-Declarator y = omega (arith, y.core.1 (first_of (map list (map (λ k. k.0)
 step-Core : (x : Core-T) (y : Core-G) → front-Core y ≡ x → FewInner (roll-Core x)
 step-Core x y is =
     subst (λ z. FewInner (roll-Core z)) is
-        (λ gs n h. subst (λ w. length ((inner (roll-Core (front-Core y))).list gs) ≤ w + n) (sym (weigh-Core (front-Core y)))
-            (subst (λ (v : Inner). length (v.list gs) ≤ core_nodes (weighed-Core (front-Core y)) + n) (sym (given-Core (front-Core y))) (layer-Core y gs n h)))
+    (λ gs n h. subst (λ w. length ((inner (roll-Core (front-Core y))).list gs) ≤ w + n) (sym (weigh-Core (front-Core y)))
+    (subst (λ (v : Inner). length (v.list gs) ≤ core_nodes (weighed-Core (front-Core y)) + n) (sym (given-Core (front-Core y))) (layer-Core y gs n h)))
 
 step-Suffix : (x : Suffix-T) (y : Suffix-G) → front-Suffix y ≡ x → FewListed (roll-Suffix x)
 step-Suffix x y is =
     subst (λ z. FewListed (roll-Suffix z)) is
-        (subst (λ w. length (list (roll-Suffix (front-Suffix y))) ≤ w) (sym (weigh-Suffix (front-Suffix y)))
-            (subst (λ (v : List Given). length v ≤ suffix_nodes (weighed-Suffix (front-Suffix y))) (sym (given-Suffix (front-Suffix y))) (layer-Suffix y)))
+    (subst (λ w. length (list (roll-Suffix (front-Suffix y))) ≤ w) (sym (weigh-Suffix (front-Suffix y)))
+    (subst (λ (v : List Given). length v ≤ suffix_nodes (weighed-Suffix (front-Suffix y))) (sym (given-Suffix (front-Suffix y))) (layer-Suffix y)))
 
 step-Declarator : (x : Declarator-T) (y : Declarator-G) → front-Declarator y ≡ x → FewHead (roll-Declarator x)
 step-Declarator x y is =
     subst (λ z. FewHead (roll-Declarator z)) is
-        (subst (λ w. length (head (roll-Declarator (front-Declarator y))).list ≤ w) (sym (weigh-Declarator (front-Declarator y)))
-            (subst (λ (v : Head). length v.list ≤ declarator_nodes (weighed-Declarator (front-Declarator y))) (sym (given-Declarator (front-Declarator y))) (layer-Declarator y)))
+    (subst (λ w. length (head (roll-Declarator (front-Declarator y))).list ≤ w) (sym (weigh-Declarator (front-Declarator y)))
+    (subst (λ (v : Head). length v.list ≤ declarator_nodes (weighed-Declarator (front-Declarator y))) (sym (given-Declarator (front-Declarator y))) (layer-Declarator y)))
 
 -- each parameter is a node
 step-Parameter : (x : Parameter-T) → OneNode (roll-Parameter x)

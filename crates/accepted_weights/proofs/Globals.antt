@@ -60,7 +60,7 @@ with_global_light t s = same_light 0 s _ refl refl refl refl
 first_variable_light : (line : ℕ) (name : Name) (t : CType) (s : State) → After 0 s (names.first_variable line name t s)
 first_variable_light line name t s =
     after (weak {A = ℕ} 0 (light_first (names.with_global t) (with_global_light t)
-        (bind_light (declare_light line name (meaning kind.Global t (names.address (images.place s.image)))) (λ u. pure_light (images.place s.image)))) (omega arith)) s
+    (bind_light (declare_light line name (meaning kind.Global t (names.address (images.place s.image)))) (λ u. pure_light (images.place s.image)))) (omega arith)) s
 
 known_variable : (line : ℕ) (name : Name) (t : CType) (s : State) (m : Meaning) (d a b : Bool) → names.is_function m.kind ≡ a → same m.ctype t ≡ b → After 0 s (names.variable_by (names.before_by d t (Some m)) line name t s)
 known_variable line name t s m d false b e h = rw e tt
@@ -146,7 +146,7 @@ variable_rule line t d start h = weak _ (bind_light (variable_name_light line (n
 global_light : {w : ℕ} (line : ℕ) (b : Base) (i : InitParts) → LightInit w i → Bounded w (program.global line b i)
 global_light line b i h =
     weak _ (bind_light (bind_light (h.shape.at stage.Function) (λ ss. lift_light _))
-        (λ t. either_light (is_function t) _ _ (prototype_rule line t i.shape i.start h.start) (variable_rule line t i.shape i.start h.start))) (omega arith)
+    (λ t. either_light (is_function t) _ _ (prototype_rule line t i.shape i.start h.start) (variable_rule line t i.shape i.start h.start))) (omega arith)
 
 globals_light : (is : List InitParts) {w : ℕ} (line : ℕ) (b : Base) → Each LightInit w is → Bounded w (program.globals line b is)
 globals_light [] line b none = pure_light tt

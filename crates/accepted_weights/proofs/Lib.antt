@@ -1,4 +1,5 @@
 pub mod Declarations
+pub mod Few
 pub mod Functions
 pub mod Given
 pub mod Globals

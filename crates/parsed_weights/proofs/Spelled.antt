@@ -1,5 +1,5 @@
 -- A tree has at most four nodes for each word that it spells, but for its root. Written by tools/checker/weights.py.
-use Rattle.std.proofs.Common.{◌≡◌, ℕ, ◌+◌, ◌*◌, ◌≤◌, Bool, true, false, List, [], ◌∷◌, map, length, refl, sym, subst, Some, None, arith}
+use Rattle.std.proofs.Common.{◌≡◌, ℕ, ◌+◌, ◌*◌, ◌≤◌, Bool, true, false, List, [], ◌∷◌, map, length, sym, subst, Some, None, arith}
 use Rattle.std.specs.Prelude.{Option}
 use Rattle.tick_tree.specs.declared.syntax.Core.{Core, roll-Core}
 use Rattle.tick_tree.specs.declared.syntax.Expr.{Expr, roll-Expr}
@@ -21,12 +21,12 @@ use Rattle.tick_tree.specs.declared.base.Signedness.TheVariants as sign
 use Rattle.tick_tree.specs.declared.syntax.External.{External}
 use Rattle.tick_tree.specs.declared.syntax.External.TheVariants as ext
 use Rattle.tick_tree.specs.declared.syntax.Core.TheOpen.{Core-F, Expr-F, Initializer-F, OptionalExpr-F, Stmt-F, Suffix-F, Declaration-F, Declarator-F, Init-F, Parameter-F, Typename-F}
-use Rattle.tick_tree.specs.declared.syntax.Core.TheFolds.{map-Core, map-Expr, map-Initializer, map-OptionalExpr, map-Stmt, map-Suffix, map-Declaration, map-Declarator, map-Init, map-Parameter, map-Typename, ind-Core, ind-Expr, ind-Initializer, ind-OptionalExpr, ind-Stmt, ind-Suffix, ind-Declaration, ind-Declarator, ind-Init, ind-Parameter, ind-Typename, fold-roll-Core, fold-roll-Expr, fold-roll-Initializer, fold-roll-OptionalExpr, fold-roll-Stmt, fold-roll-Suffix, fold-roll-Declaration, fold-roll-Declarator, fold-roll-Init, fold-roll-Parameter, fold-roll-Typename}
+use Rattle.tick_tree.specs.declared.syntax.Core.TheFolds.{map-Core, map-Expr, map-Initializer, map-OptionalExpr, map-Stmt, map-Suffix, map-Declaration, map-Declarator, map-Init, map-Parameter, map-Typename, ind-Stmt, ind-Declaration, ind-Declarator, fold-roll-Core, fold-roll-Expr, fold-roll-Initializer, fold-roll-OptionalExpr, fold-roll-Stmt, fold-roll-Suffix, fold-roll-Declaration, fold-roll-Declarator, fold-roll-Init, fold-roll-Parameter, fold-roll-Typename}
 use Rattle.c_grammar.specs.declared.kind.BaseWord.TheVariants as base_word
 use Rattle.c_grammar.specs.declared.kind.Kind.TheVariants as k
 use Rattle.c_grammar.specs.declared.kind.Mark.TheVariants as m
 use Rattle.c_grammar.specs.declared.kind.Word.TheVariants as keyword
-use Rattle.c_spelling.specs.Words.{Words, sign_kind, Plain, Name, Number, Character, String}
+use Rattle.c_spelling.specs.Words.{Words, Plain}
 use Rattle.c_spelling.specs.Spelling.{Spelling, mark, keyword_word, sign_words, optional_sign, optional_int, base_words, prefix_word, prefix_words, in_turn, behind_commas, with_commas, braced, core_rule, expr_rule, initializer_rule, optional_rule, stmt_rule, suffix_rule, declaration_rule, declarator_rule, init_rule, parameter_rule, typename_rule, spells_core, spells_expr, spells_initializer, spells_optional, spells_stmt, spells_suffix, spells_declaration, spells_declarator, spells_init, spells_parameter, spells_typename, spells_external, spells_program}
 use Rattle.tree_weights.specs.Weights.{total, item_weight, core_nodes, expr_nodes, initializer_nodes, optional_nodes, statement_nodes, suffix_nodes, declaration_nodes, declarator_nodes, init_nodes, parameter_nodes, typename_nodes, core_weight, weight, initializer_weight, optional_weight, statement_weight, suffix_weight, declaration_weight, declarator_weight, init_weight, parameter_weight, typename_weight}
 use Rattle.tree_weights.proofs.Folds.{weigh-Core, weigh-Expr, weigh-Initializer, weigh-OptionalExpr, weigh-Stmt, weigh-Suffix, weigh-Declaration, weigh-Declarator, weigh-Init, weigh-Parameter, weigh-Typename}
@@ -376,68 +376,68 @@ spell-Typename r w = omega (arith, r.declarator.1 w, base_few r.base (spells_dec
 step-Core : (x : Core-T) (y : Core-S) → front-Core y ≡ x → SpellsCore (roll-Core x)
 step-Core x y is =
     subst (λ z. SpellsCore (roll-Core z)) is
-        (subst (λ (n : ℕ). Few 1 n (spells_core (roll-Core (front-Core y)))) (sym (weigh-Core (front-Core y)))
-            (subst (λ (v : Spelling). Few 1 (core_nodes (weighed-Core (front-Core y))) v) (sym (says-Core (front-Core y))) (spell-Core y)))
+    (subst (λ (n : ℕ). Few 1 n (spells_core (roll-Core (front-Core y)))) (sym (weigh-Core (front-Core y)))
+    (subst (λ (v : Spelling). Few 1 (core_nodes (weighed-Core (front-Core y))) v) (sym (says-Core (front-Core y))) (spell-Core y)))
 
 step-Expr : (x : Expr-T) (y : Expr-S) → front-Expr y ≡ x → SpellsExpr (roll-Expr x)
 step-Expr x y is =
     subst (λ z. SpellsExpr (roll-Expr z)) is
-        (subst (λ (n : ℕ). Few 0 n (spells_expr (roll-Expr (front-Expr y)))) (sym (weigh-Expr (front-Expr y)))
-            (subst (λ (v : Spelling). Few 0 (expr_nodes (weighed-Expr (front-Expr y))) v) (sym (says-Expr (front-Expr y))) (spell-Expr y)))
+    (subst (λ (n : ℕ). Few 0 n (spells_expr (roll-Expr (front-Expr y)))) (sym (weigh-Expr (front-Expr y)))
+    (subst (λ (v : Spelling). Few 0 (expr_nodes (weighed-Expr (front-Expr y))) v) (sym (says-Expr (front-Expr y))) (spell-Expr y)))
 
 step-Initializer : (x : Initializer-T) (y : Initializer-S) → front-Initializer y ≡ x → SpellsInitializer (roll-Initializer x)
 step-Initializer x y is =
     subst (λ z. SpellsInitializer (roll-Initializer z)) is
-        (subst (λ (n : ℕ). Few 1 n (spells_initializer (roll-Initializer (front-Initializer y)))) (sym (weigh-Initializer (front-Initializer y)))
-            (subst (λ (v : Spelling). Few 1 (initializer_nodes (weighed-Initializer (front-Initializer y))) v) (sym (says-Initializer (front-Initializer y))) (spell-Initializer y)))
+    (subst (λ (n : ℕ). Few 1 n (spells_initializer (roll-Initializer (front-Initializer y)))) (sym (weigh-Initializer (front-Initializer y)))
+    (subst (λ (v : Spelling). Few 1 (initializer_nodes (weighed-Initializer (front-Initializer y))) v) (sym (says-Initializer (front-Initializer y))) (spell-Initializer y)))
 
 step-OptionalExpr : (x : OptionalExpr-T) (y : OptionalExpr-S) → front-OptionalExpr y ≡ x → SpellsOptionalExpr (roll-OptionalExpr x)
 step-OptionalExpr x y is =
     subst (λ z. SpellsOptionalExpr (roll-OptionalExpr z)) is
-        (subst (λ (n : ℕ). Few 1 n (spells_optional (roll-OptionalExpr (front-OptionalExpr y)))) (sym (weigh-OptionalExpr (front-OptionalExpr y)))
-            (subst (λ (v : Spelling). Few 1 (optional_nodes (weighed-OptionalExpr (front-OptionalExpr y))) v) (sym (says-OptionalExpr (front-OptionalExpr y))) (spell-OptionalExpr y)))
+    (subst (λ (n : ℕ). Few 1 n (spells_optional (roll-OptionalExpr (front-OptionalExpr y)))) (sym (weigh-OptionalExpr (front-OptionalExpr y)))
+    (subst (λ (v : Spelling). Few 1 (optional_nodes (weighed-OptionalExpr (front-OptionalExpr y))) v) (sym (says-OptionalExpr (front-OptionalExpr y))) (spell-OptionalExpr y)))
 
 step-Stmt : (x : Stmt-T) (y : Stmt-S) → front-Stmt y ≡ x → SpellsStmt (roll-Stmt x)
 step-Stmt x y is =
     subst (λ z. SpellsStmt (roll-Stmt z)) is
-        (subst (λ (n : ℕ). Few 0 n (spells_stmt (roll-Stmt (front-Stmt y)))) (sym (weigh-Stmt (front-Stmt y)))
-            (subst (λ (v : Spelling). Few 0 (statement_nodes (weighed-Stmt (front-Stmt y))) v) (sym (says-Stmt (front-Stmt y))) (spell-Stmt y)))
+    (subst (λ (n : ℕ). Few 0 n (spells_stmt (roll-Stmt (front-Stmt y)))) (sym (weigh-Stmt (front-Stmt y)))
+    (subst (λ (v : Spelling). Few 0 (statement_nodes (weighed-Stmt (front-Stmt y))) v) (sym (says-Stmt (front-Stmt y))) (spell-Stmt y)))
 
 step-Suffix : (x : Suffix-T) (y : Suffix-S) → front-Suffix y ≡ x → SpellsSuffix (roll-Suffix x)
 step-Suffix x y is =
     subst (λ z. SpellsSuffix (roll-Suffix z)) is
-        (subst (λ (n : ℕ). Few 0 n (spells_suffix (roll-Suffix (front-Suffix y)))) (sym (weigh-Suffix (front-Suffix y)))
-            (subst (λ (v : Spelling). Few 0 (suffix_nodes (weighed-Suffix (front-Suffix y))) v) (sym (says-Suffix (front-Suffix y))) (spell-Suffix y)))
+    (subst (λ (n : ℕ). Few 0 n (spells_suffix (roll-Suffix (front-Suffix y)))) (sym (weigh-Suffix (front-Suffix y)))
+    (subst (λ (v : Spelling). Few 0 (suffix_nodes (weighed-Suffix (front-Suffix y))) v) (sym (says-Suffix (front-Suffix y))) (spell-Suffix y)))
 
 step-Declaration : (x : Declaration-T) (y : Declaration-S) → front-Declaration y ≡ x → SpellsDeclaration (roll-Declaration x)
 step-Declaration x y is =
     subst (λ z. SpellsDeclaration (roll-Declaration z)) is
-        (subst (λ (n : ℕ). Few 0 (n + 2) (spells_declaration (roll-Declaration (front-Declaration y)))) (sym (weigh-Declaration (front-Declaration y)))
-            (subst (λ (v : Spelling). Few 0 (declaration_nodes (weighed-Declaration (front-Declaration y)) + 2) v) (sym (says-Declaration (front-Declaration y))) (spell-Declaration y)))
+    (subst (λ (n : ℕ). Few 0 (n + 2) (spells_declaration (roll-Declaration (front-Declaration y)))) (sym (weigh-Declaration (front-Declaration y)))
+    (subst (λ (v : Spelling). Few 0 (declaration_nodes (weighed-Declaration (front-Declaration y)) + 2) v) (sym (says-Declaration (front-Declaration y))) (spell-Declaration y)))
 
 step-Declarator : (x : Declarator-T) (y : Declarator-S) → front-Declarator y ≡ x → SpellsDeclarator (roll-Declarator x)
 step-Declarator x y is =
     subst (λ z. SpellsDeclarator (roll-Declarator z)) is
-        (subst (λ (n : ℕ). Few 2 n (spells_declarator (roll-Declarator (front-Declarator y)))) (sym (weigh-Declarator (front-Declarator y)))
-            (subst (λ (v : Spelling). Few 2 (declarator_nodes (weighed-Declarator (front-Declarator y))) v) (sym (says-Declarator (front-Declarator y))) (spell-Declarator y)))
+    (subst (λ (n : ℕ). Few 2 n (spells_declarator (roll-Declarator (front-Declarator y)))) (sym (weigh-Declarator (front-Declarator y)))
+    (subst (λ (v : Spelling). Few 2 (declarator_nodes (weighed-Declarator (front-Declarator y))) v) (sym (says-Declarator (front-Declarator y))) (spell-Declarator y)))
 
 step-Init : (x : Init-T) (y : Init-S) → front-Init y ≡ x → SpellsInit (roll-Init x)
 step-Init x y is =
     subst (λ z. SpellsInit (roll-Init z)) is
-        (subst (λ (n : ℕ). Few 4 n (spells_init (roll-Init (front-Init y)))) (sym (weigh-Init (front-Init y)))
-            (subst (λ (v : Spelling). Few 4 (init_nodes (weighed-Init (front-Init y))) v) (sym (says-Init (front-Init y))) (spell-Init y)))
+    (subst (λ (n : ℕ). Few 4 n (spells_init (roll-Init (front-Init y)))) (sym (weigh-Init (front-Init y)))
+    (subst (λ (v : Spelling). Few 4 (init_nodes (weighed-Init (front-Init y))) v) (sym (says-Init (front-Init y))) (spell-Init y)))
 
 step-Parameter : (x : Parameter-T) (y : Parameter-S) → front-Parameter y ≡ x → SpellsParameter (roll-Parameter x)
 step-Parameter x y is =
     subst (λ z. SpellsParameter (roll-Parameter z)) is
-        (subst (λ (n : ℕ). Few 0 n (spells_parameter (roll-Parameter (front-Parameter y)))) (sym (weigh-Parameter (front-Parameter y)))
-            (subst (λ (v : Spelling). Few 0 (parameter_nodes (weighed-Parameter (front-Parameter y))) v) (sym (says-Parameter (front-Parameter y))) (spell-Parameter y)))
+    (subst (λ (n : ℕ). Few 0 n (spells_parameter (roll-Parameter (front-Parameter y)))) (sym (weigh-Parameter (front-Parameter y)))
+    (subst (λ (v : Spelling). Few 0 (parameter_nodes (weighed-Parameter (front-Parameter y))) v) (sym (says-Parameter (front-Parameter y))) (spell-Parameter y)))
 
 step-Typename : (x : Typename-T) (y : Typename-S) → front-Typename y ≡ x → SpellsTypename (roll-Typename x)
 step-Typename x y is =
     subst (λ z. SpellsTypename (roll-Typename z)) is
-        (subst (λ (n : ℕ). Few 0 n (spells_typename (roll-Typename (front-Typename y)))) (sym (weigh-Typename (front-Typename y)))
-            (subst (λ (v : Spelling). Few 0 (typename_nodes (weighed-Typename (front-Typename y))) v) (sym (says-Typename (front-Typename y))) (spell-Typename y)))
+    (subst (λ (n : ℕ). Few 0 n (spells_typename (roll-Typename (front-Typename y)))) (sym (weigh-Typename (front-Typename y)))
+    (subst (λ (v : Spelling). Few 0 (typename_nodes (weighed-Typename (front-Typename y))) v) (sym (says-Typename (front-Typename y))) (spell-Typename y)))
 
 pub stmt_few : (x : Stmt) → SpellsStmt x
 stmt_few = ind-Stmt SpellsCore SpellsExpr SpellsInitializer SpellsOptionalExpr SpellsStmt SpellsSuffix SpellsDeclaration SpellsDeclarator SpellsInit SpellsParameter SpellsTypename step-Core step-Expr step-Initializer step-OptionalExpr step-Stmt step-Suffix step-Declaration step-Declarator step-Init step-Parameter step-Typename
