@@ -40,6 +40,7 @@ pub type_good : (g : Stage) (line : ℕ) (b : Base) (d : Shape) (f : List Step �
     → GoodType g (d.walk g >>= (λ ss. lift (declared_in g line b (f ss))))
 type_good g line b d f h k s new t e =
     let r = ran (d.walk g) (λ ss. lift (declared_in g line b (f ss))) s t new e in
-    let l = lifted (declared_in g line b (f r.value)) r.state t new r.next in
-    (plain_more (h g s r.state r.value r.first (k r.value (local_not_computed g line b (f r.value) t l.value))) (plain_same g l.state),
-     object_type line b (f r.value) t (declared_local g line b (f r.value) t l.value))
+    let l = lifted (declared_in g line b (f r.value)) r.state t new r.next in (
+      plain_more (h g s r.state r.value r.first (k r.value (local_not_computed g line b (f r.value) t l.value))) (plain_same g l.state),
+      object_type line b (f r.value) t (declared_local g line b (f r.value) t l.value),
+    )
