@@ -35,14 +35,14 @@ begin_good many a line p (Values es) h = list_good many a line p (initializers.i
 parts_good : (many : ℕ) (a : Standing) (line : ℕ) (b : Base) (d : Shape) (i : Start) → MayStand a.stage → GoodShape d → GoodStart many i → GoodStatement many a (declare_parts line b a.stage d i)
 parts_good many a line b d i may h k =
     declared_good many a line d.declared.name (local_type line b a.stage d i) (λ p. begin line a.stage p i) may
-      (type_good a.stage line (words.base_of b) d (with_start i) h (computed_start i))
-      (λ p. begin_good many a line p i k)
+    (type_good a.stage line (words.base_of b) d (with_start i) h (computed_start i))
+    (λ p. begin_good many a line p i k)
 
 each_good : (many : ℕ) (a : Standing) (line : ℕ) (b : Base) (is : List InitParts) → MayStand a.stage → EachPart (GoodInit many) is → GoodStatement many a (declare_each line b a.stage is)
 each_good many a line b [] may h = none_good many a
 each_good many a line b (i ∷ is) may h =
     more_good many a (declare_one line b a.stage i) (declare_each line b a.stage is) may
-      (parts_good many a line b i.shape i.start may h.0.shape h.0.start) (each_good many a line b is may h.1)
+    (parts_good many a line b i.shape i.start may h.0.shape h.0.start) (each_good many a line b is may h.1)
 
 pub declaration_good : (many : ℕ) (d : Declarations) → GoodDeclarators many d → GoodDeclaration many (declaration_walk d)
 declaration_good many d h a may = each_good many a d.line d.base d.inits may h

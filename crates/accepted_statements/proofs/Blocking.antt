@@ -60,7 +60,7 @@ enclosed p f s y new e =
     let w = ran p (λ x. leave d.value i.value >>= (λ vs. pure (f x vs))) i.state y new i.next in
     let l = followed (leave d.value i.value) (λ vs. f w.value vs) w.state y new w.next in
     enclosed_by p f s d.state i.state w.state new d.value i.value l.value w.value y (pure_same (length s.scopes) d.value s d.state d.first) (pure_value (length s.scopes) d.value s d.state d.first)
-      (enter_gives d.state i.state i.value i.first) w.first (leave_gives d.value i.value w.state new l.value l.walk) l.is
+    (enter_gives d.state i.state i.value i.first) w.first (leave_gives d.value i.value w.state new l.value l.walk) l.is
 
 -- ---- switches
 

@@ -83,9 +83,9 @@ pub counts_back : (g : Stage) (s t : State) (xs : List Stmt) (x : Stmt) → Coun
 counts_back g s t xs x k c = record {
   objects = λ byte. omega (arith, sum_one (objects_at byte) x, k.objects byte, objects_append byte t.frame.nodes xs, c.objects byte);
   declarations = λ i.
-    subst (λ m. declarations_in i s.frame.nodes + declarations_in i (x ∷ []) ≤ declarations_in i s.frame.nodes + between m (variables g (back s t)) i) (variables_inside g s)
-    (subst (λ m. declarations_in i s.frame.nodes + declarations_in i (x ∷ []) ≤ declarations_in i s.frame.nodes + between (variables g (inside s)) m i) (sym (variables_back g s t))
-    (omega (arith, sum_one (declarations_of i) x, k.declarations i, declarations_append i t.frame.nodes xs, c.declarations i)));
+      subst (λ m. declarations_in i s.frame.nodes + declarations_in i (x ∷ []) ≤ declarations_in i s.frame.nodes + between m (variables g (back s t)) i) (variables_inside g s)
+      (subst (λ m. declarations_in i s.frame.nodes + declarations_in i (x ∷ []) ≤ declarations_in i s.frame.nodes + between (variables g (inside s)) m i) (sym (variables_back g s t))
+      (omega (arith, sum_one (declarations_of i) x, k.declarations i, declarations_append i t.frame.nodes xs, c.declarations i)));
   sizes = omega (arith, sum_one statement_size x, k.size, sizes_append t.frame.nodes xs, c.sizes, variables_inside g s, variables_back g s t);
 }
 

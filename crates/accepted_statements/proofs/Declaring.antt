@@ -44,7 +44,7 @@ use Rattle.accepted_statements.proofs.Joining.{did_only}
 names_more : (many : ℕ) (g : Stage) (b : Blocks) (new : State) (ss : Scopes) (name : Name) (m : Meaning) → AllMean many g b new ss → Means many g b new name m m.kind → AllMean many g b new (declared ss name m)
 names_more many g b new ss name m all one =
     scopes_set (λ n k. Means many g b new n k k.kind) ss (length ss - 1) (innermost ss ++ (name, m) ∷ []) all
-      (scope_append (λ n k. Means many g b new n k k.kind) (innermost ss) ((name, m) ∷ []) (scope_at (λ n k. Means many g b new n k k.kind) ss (length ss - 1) all) (one, tt))
+    (scope_append (λ n k. Means many g b new n k k.kind) (innermost ss) ((name, m) ∷ []) (scope_at (λ n k. Means many g b new n k k.kind) ss (length ss - 1) all) (one, tt))
 
 numbers_variable : (n : ℕ) → numbers (st.Variable n ∷ []) ≡ n ∷ []
 numbers_variable n = ap (λ a. a.number ++ []) (act_variable n)
@@ -53,8 +53,8 @@ numbers_variable n = ap (λ a. a.number ++ []) (act_variable n)
 has_variable : (n : ℕ) (ns : List ℕ) (xs : List Stmt) → has n (ns ++ numbers (xs ++ st.Variable n ∷ [])) ≡ true
 has_variable n ns xs =
     has_back n ns (numbers (xs ++ st.Variable n ∷ []))
-      (subst (λ l. has n l ≡ true) (sym (numbers_append xs (st.Variable n ∷ [])))
-        (has_back n (numbers xs) (numbers (st.Variable n ∷ [])) (subst (λ l. has n l ≡ true) (sym (numbers_variable n)) (has_self n))))
+    (subst (λ l. has n l ≡ true) (sym (numbers_append xs (st.Variable n ∷ [])))
+    (has_back n (numbers xs) (numbers (st.Variable n ∷ [])) (subst (λ l. has n l ≡ true) (sym (numbers_variable n)) (has_self n))))
 
 agrees_back : {many : ℕ} {g : Stage} {b : Blocks} {ks : List (List CaptureKind)} {s new : State} {r : Round} → Wider g b s b new → Grows g s new → Agrees many g b ks new r → Agrees many g b ks s r
 agrees_back {many} {g} {b} {ks} {s} {new} {r} w k a = agrees_wider [] w k (subst (λ l. Agrees many g b l new r) (sym (append-nil ks)) a)
@@ -85,9 +85,11 @@ number_is s h k = omega (arith, k, length-append s.frame.homes (h ∷ []))
 means_new : (many : ℕ) (b : Blocks) (s : State) (name : Name) (t : CType) (h : Home) (x : Stmt) (object : ℕ) → frames.number s.frame ≡ length s.frame.homes → IsObject t
     → HasHome (b.function ++ numbers (s.frame.nodes ++ x ∷ [])) object (frames.number s.frame) h
     → Means many stage.Function b (with_home name t h x object s) name (meaning kind.Variable t (frames.number s.frame)) kind.Variable
-means_new many b s name t h x object e o k =
-    (subst (λ m. IsVariable stage.Function b (with_home name t h x object s) (frames.number s.frame) m)
-      (sym (ap (λ i. slice_get (s.frame.homes ++ h ∷ []) i) e ∙ get_last s.frame.homes h)) k, o)
+means_new many b s name t h x object e o k = (
+  subst (λ m. IsVariable stage.Function b (with_home name t h x object s) (frames.number s.frame) m)
+      (sym (ap (λ i. slice_get (s.frame.homes ++ h ∷ []) i) e ∙ get_last s.frame.homes h)) k,
+  o,
+)
 
 outer_did : {many : ℕ} (b : Blocks) {ks : List (List CaptureKind)} (s : State) (name : Name) (t : CType) (h : Home) (x : Stmt) (object : ℕ) (P : Round → Type 0) → IsObject t
     → Grows stage.Function s (with_home name t h x object s)
@@ -99,16 +101,16 @@ outer_did : {many : ℕ} (b : Blocks) {ks : List (List CaptureKind)} (s : State)
 outer_did {many} b {ks} s name t h x object P o grows more aligned stands answer known =
     let new : State = with_home name t h x object s in
     did_only P refl refl
-      (λ small.
-        let k = known (small_before grows small) in
-        record {
-          names = names_more many stage.Function b new s.scopes name (meaning kind.Variable t (frames.number s.frame)) (names_wider many (outer_wider b s name t h x object (more small.object)) s.scopes k.names)
-            (means_new many b s name t h x object (number_is s h small.homes) o (stands small.object k.object));
-          ticks = k.ticks;
-          object = aligned small.object k.object;
-        })
-      (λ r a. agrees_back (outer_wider b s name t h x object (more a.small.object)) grows a)
-      (λ r a. answer r (known (small_before grows a.small)).object a)
+    (λ small.
+    let k = known (small_before grows small) in
+    record {
+      names = names_more many stage.Function b new s.scopes name (meaning kind.Variable t (frames.number s.frame)) (names_wider many (outer_wider b s name t h x object (more small.object)) s.scopes k.names)
+          (means_new many b s name t h x object (number_is s h small.homes) o (stands small.object k.object));
+      ticks = k.ticks;
+      object = aligned small.object k.object;
+    })
+    (λ r a. agrees_back (outer_wider b s name t h x object (more a.small.object)) grows a)
+    (λ r a. answer r (known (small_before grows a.small)).object a)
 
 frame_stands : (r : Around) (off : ℕ) → in_function r ≡ true → nat_le off r.object ≡ true → (off % 4 == 0) ≡ true → Stands r (ex.Frame off)
 frame_stands r off f o h = ap (λ p. p.stands r) (part_frame off) ∙ both (in_function r && nat_le off r.object) (off % 4 == 0) (both (in_function r) (nat_le off r.object) f o) h
@@ -123,24 +125,26 @@ register_did : {many : ℕ} (b : Blocks) {ks : List (List CaptureKind)} (s : Sta
     → Did many stage.Function b ks s (with_home name t home.Register (st.Variable (frames.number s.frame)) s.frame.object s) (λ r. Good r.function (operand (place.Register (frames.number s.frame)) t))
 register_did b s name t o known =
     outer_did b s name t home.Register (st.Variable (frames.number s.frame)) s.frame.object (λ r. Good r.function (operand (place.Register (frames.number s.frame)) t)) o
-      (register_grows s name (meaning kind.Variable t (frames.number s.frame)))
-      (λ h. omega arith) (λ h k. k) (λ h k. has_variable (frames.number s.frame) b.function s.frame.nodes)
-      (λ r k a. (a.visible (frames.number s.frame) (has_variable (frames.number s.frame) b.function s.frame.nodes), o.type)) known
+    (register_grows s name (meaning kind.Variable t (frames.number s.frame)))
+    (λ h. omega arith) (λ h k. k) (λ h k. has_variable (frames.number s.frame) b.function s.frame.nodes)
+    (λ r k a. (a.visible (frames.number s.frame) (has_variable (frames.number s.frame) b.function s.frame.nodes), o.type)) known
 
 object_did : {many : ℕ} (b : Blocks) {ks : List (List CaptureKind)} (s : State) (name : Name) (t : CType) (n : ℕ) → IsObject t → Known many stage.Function b ks s
     → Did many stage.Function b ks s (with_home name t (home.Object s.frame.object) (st.Object s.frame.object n) (after s.frame.object n) s) (λ r. Good r.function (operand (place.Memory (ex.Frame s.frame.object)) t))
 object_did b s name t n o known =
     outer_did b s name t (home.Object s.frame.object) (st.Object s.frame.object n) (after s.frame.object n) (λ r. Good r.function (operand (place.Memory (ex.Frame s.frame.object)) t)) o
-      (object_grows s name (meaning kind.Variable t (frames.number s.frame)) n)
-      (λ h. after_grows s.frame.object n h)
-      (λ h k. ap (λ m. m % 4 == 0) (after_small s.frame.object n h) ∙ aligned_after s.frame.object n k)
-      (λ h k. both (nat_le s.frame.object (after s.frame.object n)) (s.frame.object % 4 == 0) (le_here s.frame.object (after s.frame.object n) (after_grows s.frame.object n h)) k)
-      (λ r k a. (frame_stands r.function s.frame.object a.is_function (le_before s.frame.object (after s.frame.object n) r.function.object (after_grows s.frame.object n a.small.object) a.object) k,
-        record { address = nodes_use.frame s.frame.object; type = o.type })) known
+    (object_grows s name (meaning kind.Variable t (frames.number s.frame)) n)
+    (λ h. after_grows s.frame.object n h)
+    (λ h k. ap (λ m. m % 4 == 0) (after_small s.frame.object n h) ∙ aligned_after s.frame.object n k)
+    (λ h k. both (nat_le s.frame.object (after s.frame.object n)) (s.frame.object % 4 == 0) (le_here s.frame.object (after s.frame.object n) (after_grows s.frame.object n h)) k)
+    (λ r k a. (
+      frame_stands r.function s.frame.object a.is_function (le_before s.frame.object (after s.frame.object n) r.function.object (after_grows s.frame.object n a.small.object) a.object) k,
+      record { address = nodes_use.frame s.frame.object; type = o.type },
+    )) known
 
 variable_by : {many : ℕ} (b : Blocks) {ks : List (List CaptureKind)} (s : State) (name : Name) (t : CType) (c : Bool) → IsObject t → Known many stage.Function b ks s
     → Did many stage.Function b ks s (record s { scopes = declared s.scopes name (meaning kind.Variable t (frames.number s.frame)); frame = if c then frames.object_variable (frames.words t) s.frame else frames.register_variable s.frame })
-      (λ r. Good r.function (operand (place_by (frames.number s.frame) (if c then home.Object s.frame.object else home.Register)) t))
+    (λ r. Good r.function (operand (place_by (frames.number s.frame) (if c then home.Object s.frame.object else home.Register)) t))
 variable_by b s name t true o known = object_did b s name t (frames.words t) o known
 variable_by b s name t false o known = register_did b s name t o known
 
@@ -186,9 +190,11 @@ inner_past s h k = omega (arith, h, k)
 
 means_inner : (many : ℕ) (b : Blocks) (s : State) (name : Name) (t : CType) → b.in_tick ≡ true → length s.frame.homes ≤ 1000000000 → min (s.frame.inner + 1) 4294967295 ≤ 1000000000 → IsObject t
     → Means many stage.Tick b (with_inner name t s) name (meaning kind.Variable t (frames.inner_number s.frame)) kind.Variable
-means_inner many b s name t e h k o =
-    (subst (λ m. IsVariable stage.Tick b (with_inner name t s) (frames.inner_number s.frame) m) (sym (slice_get_past s.frame.homes (frames.inner_number s.frame) (inner_past s h k)))
-      (ap (λ i. has i (of_tick stage.Tick b (with_inner name t s))) (inner_index s h k) ∙ has_inner b s name t e), o)
+means_inner many b s name t e h k o = (
+  subst (λ m. IsVariable stage.Tick b (with_inner name t s) (frames.inner_number s.frame) m) (sym (slice_get_past s.frame.homes (frames.inner_number s.frame) (inner_past s h k)))
+      (ap (λ i. has i (of_tick stage.Tick b (with_inner name t s))) (inner_index s h k) ∙ has_inner b s name t e),
+  o,
+)
 
 inner_did : {many : ℕ} (b : Blocks) {ks : List (List CaptureKind)} (s : State) (name : Name) (t : CType) → b.in_tick ≡ true → IsObject t → Known many stage.Tick b ks s
     → Did many stage.Tick b ks s (with_inner name t s) (λ r. Good r.tick (operand (place.Register s.frame.inner) t))
@@ -196,16 +202,16 @@ inner_did {many} b {ks} s name t e o known =
     let new : State = with_inner name t s in
     let grows = inner_grows s name (meaning kind.Variable t (frames.inner_number s.frame)) in
     did_only (λ r. Good r.tick (operand (place.Register s.frame.inner) t)) refl refl
-      (λ small.
-        let k = known (small_before grows small) in
-        record {
-          names = names_more many stage.Tick b new s.scopes name (meaning kind.Variable t (frames.inner_number s.frame)) (names_wider many (inner_wider b s name t e) s.scopes k.names)
-            (means_inner many b s name t e small.homes small.tick.inner o);
-          ticks = k.ticks;
-          object = k.object;
-        })
-      (λ r a. agrees_back (inner_wider b s name t e) grows a)
-      (λ r a. (a.in_tick.0 s.frame.inner (has_inner b s name t e), o.type))
+    (λ small.
+    let k = known (small_before grows small) in
+    record {
+      names = names_more many stage.Tick b new s.scopes name (meaning kind.Variable t (frames.inner_number s.frame)) (names_wider many (inner_wider b s name t e) s.scopes k.names)
+          (means_inner many b s name t e small.homes small.tick.inner o);
+      ticks = k.ticks;
+      object = k.object;
+    })
+    (λ r a. agrees_back (inner_wider b s name t e) grows a)
+    (λ r a. (a.in_tick.0 s.frame.inner (has_inner b s name t e), o.type))
 
 -- ---- the declaration
 

@@ -152,9 +152,9 @@ if_did line c i a b ks s new xs hc hi here known w =
     let d = node_did hc a known w.walk in
     let e = body_did hi (statements.inside a) here refl d.known w.body in
     did_so (λ r. Good (place_of a r) w.operand × Stood (place_of a r) w.node) (λ r. ItemsStand a (place_of a r) xs)
-      (did_both (λ r. Good (place_of a r) w.operand) (λ r. Stood (place_of a r) w.node) (keeps_grows k) (body_grows hi (statements.inside a) (may_of a.stage b here) w.body) d e)
-      (λ ms r ag p. subst (λ ys. ItemsStand a (place_of a r) ys) w.is
-        (stood_one a (place_of a r) (st.If w.test w.node) (if_stood (place_of a r) w.test w.node (condition_test (place_of a r) line w.operand w.test p.0 w.gives) p.1)))
+    (did_both (λ r. Good (place_of a r) w.operand) (λ r. Stood (place_of a r) w.node) (keeps_grows k) (body_grows hi (statements.inside a) (may_of a.stage b here) w.body) d e)
+    (λ ms r ag p. subst (λ ys. ItemsStand a (place_of a r) ys) w.is
+    (stood_one a (place_of a r) (st.If w.test w.node) (if_stood (place_of a r) w.test w.node (condition_test (place_of a r) line w.operand w.test p.0 w.gives) p.1)))
 
 pub while_did : {many : ℕ} (line : ℕ) (c : Node) (i : Item) (a : Standing) (b : Blocks) (ks : List (List CaptureKind)) (s new : State) (xs : List Stmt) → GoodNode many c → GoodItem many i → InBlock a.stage b → Known many a.stage b ks s → WhileRan line c i a s xs new → DidStand many a b ks s new xs
 while_did line c i a b ks s new xs hc hi here known w =
@@ -162,9 +162,9 @@ while_did line c i a b ks s new xs hc hi here known w =
     let d = node_did hc a known w.walk in
     let e = body_did hi (statements.looped a) here refl d.known w.body in
     did_so (λ r. Good (place_of a r) w.operand × Stood (place_of (statements.looped a) r) w.node) (λ r. ItemsStand a (place_of a r) xs)
-      (did_both (λ r. Good (place_of a r) w.operand) (λ r. Stood (place_of (statements.looped a) r) w.node) (keeps_grows k) (body_grows hi (statements.looped a) (may_of a.stage b here) w.body) d e)
-      (λ ms r ag p. subst (λ ys. ItemsStand a (place_of a r) ys) w.is
-        (stood_one a (place_of a r) (st.While w.test w.node) (while_stood (place_of a r) w.test w.node (condition_test (place_of a r) line w.operand w.test p.0 w.gives) (loop_stood a r w.node p.1))))
+    (did_both (λ r. Good (place_of a r) w.operand) (λ r. Stood (place_of (statements.looped a) r) w.node) (keeps_grows k) (body_grows hi (statements.looped a) (may_of a.stage b here) w.body) d e)
+    (λ ms r ag p. subst (λ ys. ItemsStand a (place_of a r) ys) w.is
+    (stood_one a (place_of a r) (st.While w.test w.node) (while_stood (place_of a r) w.test w.node (condition_test (place_of a r) line w.operand w.test p.0 w.gives) (loop_stood a r w.node p.1))))
 
 pub do_did : {many : ℕ} (line : ℕ) (i : Item) (c : Node) (a : Standing) (b : Blocks) (ks : List (List CaptureKind)) (s new : State) (xs : List Stmt) → GoodNode many c → GoodItem many i → InBlock a.stage b → Known many a.stage b ks s → DoRan line i c a s xs new → DidStand many a b ks s new xs
 do_did line i c a b ks s new xs hc hi here known w =
@@ -172,9 +172,9 @@ do_did line i c a b ks s new xs hc hi here known w =
     let d = body_did hi (statements.looped a) here refl known w.body in
     let e = node_did hc a d.known w.walk in
     did_so (λ r. Stood (place_of (statements.looped a) r) w.node × Good (place_of a r) w.operand) (λ r. ItemsStand a (place_of a r) xs)
-      (did_both (λ r. Stood (place_of (statements.looped a) r) w.node) (λ r. Good (place_of a r) w.operand) (body_grows hi (statements.looped a) (may_of a.stage b here) w.body) (keeps_grows k) d e)
-      (λ ms r ag p. subst (λ ys. ItemsStand a (place_of a r) ys) w.is
-        (stood_one a (place_of a r) (st.Do w.node w.test) (do_stood (place_of a r) w.node w.test (loop_stood a r w.node p.0) (condition_test (place_of a r) line w.operand w.test p.1 w.gives))))
+    (did_both (λ r. Stood (place_of (statements.looped a) r) w.node) (λ r. Good (place_of a r) w.operand) (body_grows hi (statements.looped a) (may_of a.stage b here) w.body) (keeps_grows k) d e)
+    (λ ms r ag p. subst (λ ys. ItemsStand a (place_of a r) ys) w.is
+    (stood_one a (place_of a r) (st.Do w.node w.test) (do_stood (place_of a r) w.node w.test (loop_stood a r w.node p.0) (condition_test (place_of a r) line w.operand w.test p.1 w.gives))))
 
 pub else_did : {many : ℕ} (line : ℕ) (c : Node) (i j : Item) (a : Standing) (b : Blocks) (ks : List (List CaptureKind)) (s new : State) (xs : List Stmt) → GoodNode many c → GoodItem many i → GoodItem many j → InBlock a.stage b → Known many a.stage b ks s → ElseRan line c i j a s xs new → DidStand many a b ks s new xs
 else_did line c i j a b ks s new xs hc hi hj here known w =
@@ -187,9 +187,9 @@ else_did line c i j a b ks s new xs hc hi hj here known w =
     let two = did_both (λ r. Good (place_of a r) w.operand) (λ r. Stood (place_of a r) w.one) k m d e in
     let f = body_did hj (statements.inside a) here refl two.known w.other in
     did_so (λ r. (Good (place_of a r) w.operand × Stood (place_of a r) w.one) × Stood (place_of a r) w.two) (λ r. ItemsStand a (place_of a r) xs)
-      (did_both (λ r. Good (place_of a r) w.operand × Stood (place_of a r) w.one) (λ r. Stood (place_of a r) w.two) (grows_more k m) n two f)
-      (λ ms r ag p. subst (λ ys. ItemsStand a (place_of a r) ys) w.is
-        (stood_one a (place_of a r) (st.IfElse w.test w.one w.two) (if_else_stood (place_of a r) w.test w.one w.two (condition_test (place_of a r) line w.operand w.test p.0.0 w.gives) p.0.1 p.1)))
+    (did_both (λ r. Good (place_of a r) w.operand × Stood (place_of a r) w.one) (λ r. Stood (place_of a r) w.two) (grows_more k m) n two f)
+    (λ ms r ag p. subst (λ ys. ItemsStand a (place_of a r) ys) w.is
+    (stood_one a (place_of a r) (st.IfElse w.test w.one w.two) (if_else_stood (place_of a r) w.test w.one w.two (condition_test (place_of a r) line w.operand w.test p.0.0 w.gives) p.0.1 p.1)))
 
 optional_did : (many : ℕ) (c : Option Node) (a : Standing) (b : Blocks) (ks : List (List CaptureKind)) (s t : State) (o : Option Operand) → GoodOptional many c → Known many a.stage b ks s → OptionalRan c a.stage s o t → Did many a.stage b ks s t (λ r. GoodOption (place_of a r) o)
 optional_did many None a b ks s t o h known w = plain_did_by (λ r. GoodOption (place_of a r) o) (plain_same a.stage w.1) known (λ r ag. subst (λ z. GoodOption (place_of a r) z) (sym w.0) tt)
@@ -207,9 +207,9 @@ for_did {many} line c step i a b ks s new x hc hs hi here known w =
     let two = did_both (λ r. GoodOption (place_of a r) w.test) (λ r. GoodOption (place_of a r) w.next) k l d e in
     let f = body_did hi (statements.looped a) here refl two.known w.body in
     did_so (λ r. (GoodOption (place_of a r) w.test × GoodOption (place_of a r) w.next) × Stood (place_of (statements.looped a) r) w.node) (λ r. Stood (place_of a r) x)
-      (did_both (λ r. GoodOption (place_of a r) w.test × GoodOption (place_of a r) w.next) (λ r. Stood (place_of (statements.looped a) r) w.node) (grows_more k l) m two f)
-      (λ ms r ag p. subst (λ y. Stood (place_of a r) y) w.is
-        (for_stood (place_of a r) w.condition w.next w.node (for_test (place_of a r) line w.test w.condition p.0.0 w.gives) (option_effect (place_of a r) w.next p.0.1) (loop_stood a r w.node p.1)))
+    (did_both (λ r. GoodOption (place_of a r) w.test × GoodOption (place_of a r) w.next) (λ r. Stood (place_of (statements.looped a) r) w.node) (grows_more k l) m two f)
+    (λ ms r ag p. subst (λ y. Stood (place_of a r) y) w.is
+    (for_stood (place_of a r) w.condition w.next w.node (for_test (place_of a r) line w.test w.condition p.0.0 w.gives) (option_effect (place_of a r) w.next p.0.1) (loop_stood a r w.node p.1)))
 
 pub expr_did : {many : ℕ} (n : Node) (a : Standing) (b : Blocks) (ks : List (List CaptureKind)) (s new : State) (xs : List Stmt) → GoodNode many n → Known many a.stage b ks s → rules.alone n a s ≡ Ok (xs, new) → DidStand many a b ks s new xs
 expr_did n a b ks s new xs h known e =
@@ -221,7 +221,7 @@ pub answer_did : {many : ℕ} (line : ℕ) (n : Node) (a : Standing) (b : Blocks
 answer_did line n a b ks s new xs h known w =
     did_so (λ r. Good (place_of a r) w.operand) (λ r. ItemsStand a (place_of a r) xs) (node_did h a known w.walk)
     (λ ms r ag p. subst (λ ys. ItemsStand a (place_of a r) ys) w.is
-      (stood_one a (place_of a r) (st.ReturnValue w.code) (answer_stood (place_of a r) w.code (returned_test (place_of a r) line a.stage w.operand new w.code p w.gives))))
+    (stood_one a (place_of a r) (st.ReturnValue w.code) (answer_stood (place_of a r) w.code (returned_test (place_of a r) line a.stage w.operand new w.code p w.gives))))
 
 -- where nothing is changed
 pub same_did : {many : ℕ} (a : Standing) (b : Blocks) (ks : List (List CaptureKind)) (s new : State) (xs : List Stmt) (x : Stmt) → Known many a.stage b ks s → s ≡ new → x ∷ [] ≡ xs → ((r : Round) → Stood (place_of a r) x) → DidStand many a b ks s new xs
@@ -241,5 +241,5 @@ each_did many (i ∷ items) a b ks s new xs h here known e =
     let d = one.does b ks s r.state r.value here known r.first in
     let rest = each_did many items a b (ks ++ d.more) r.state new f.value h.1 here d.known f.walk in
     did_so (λ q. ItemsStand a (place_of a q) r.value × ItemsStand a (place_of a q) f.value) (λ q. ItemsStand a (place_of a q) xs)
-      (did_both (λ q. ItemsStand a (place_of a q) r.value) (λ q. ItemsStand a (place_of a q) f.value) (one.grows s r.state r.value r.first) ((each_makes many items a (may_of a.stage b here) h.1 r.state new f.value f.walk).made.grows) d rest)
-      (λ ms q ag p. subst (λ ys. ItemsStand a (place_of a q) ys) f.is (each_append (ItemStands a (place_of a q)) r.value f.value p.0 p.1))
+    (did_both (λ q. ItemsStand a (place_of a q) r.value) (λ q. ItemsStand a (place_of a q) f.value) (one.grows s r.state r.value r.first) ((each_makes many items a (may_of a.stage b here) h.1 r.state new f.value f.walk).made.grows) d rest)
+    (λ ms q ag p. subst (λ ys. ItemsStand a (place_of a q) ys) f.is (each_append (ItemStands a (place_of a q)) r.value f.value p.0 p.1))

@@ -41,8 +41,8 @@ did_both {many} {g} {b} {ks} {s} {t} {new} P Q h k d e =
       known = subst (λ l. Known many g b l new) joined e.known;
       back = λ r a. d.back r (e.back r (back r a));
       ticks = λ r a made.
-        subst (λ ts. EachTick r.function ts (d.more ++ e.more)) (same_rest (starts_more first next) made)
-        (each_tick r.function first.rest next.rest d.more e.more (d.ticks r (e.back r (back r a)) first) (e.ticks r (back r a) next));
+          subst (λ ts. EachTick r.function ts (d.more ++ e.more)) (same_rest (starts_more first next) made)
+          (each_tick r.function first.rest next.rest d.more e.more (d.ticks r (e.back r (back r a)) first) (e.ticks r (back r a) next));
       captures = λ r a. captures_more g s t new r h.at k.at (d.captures r (e.back r (back r a))) (e.captures r (back r a));
       stands = λ r a. (d.stands r (e.back r (back r a)), e.stands r (back r a));
     }

@@ -111,23 +111,46 @@ node_behind P xs x p more = subst (λ ys. EachNode P ys) (same_rest (starts_behi
 -- a variable in a register
 register_counts : (s : State) (ss : Scopes) → count s.frame.homes ≡ length s.frame.homes → Counts stage.Function s (record s { scopes = ss; frame = frames.register_variable s.frame }) []
 register_counts s ss e = record {
-  objects = λ byte. omega (arith, objects_append byte s.frame.nodes (st.Variable (frames.number s.frame) ∷ []), sum_one (objects_at byte) (st.Variable (frames.number s.frame)),
-    objects_at_variable byte (frames.number s.frame), between_none s.frame.object s.frame.object byte refl);
-  declarations = λ i. omega (arith, declarations_append i s.frame.nodes (st.Variable (frames.number s.frame) ∷ []), sum_one (declarations_of i) (st.Variable (frames.number s.frame)),
+  objects = λ byte. omega (
+    arith,
+    objects_append byte s.frame.nodes (st.Variable (frames.number s.frame) ∷ []),
+    sum_one (objects_at byte) (st.Variable (frames.number s.frame)),
+    objects_at_variable byte (frames.number s.frame),
+    between_none s.frame.object s.frame.object byte refl,
+  );
+  declarations = λ i. omega (
+    arith,
+    declarations_append i s.frame.nodes (st.Variable (frames.number s.frame) ∷ []),
+    sum_one (declarations_of i) (st.Variable (frames.number s.frame)),
     variable_node i (frames.number s.frame) ∙ ap (λ n. one_if (i == n)) e ∙ variable_one i (length s.frame.homes),
-    ap (λ n. between (length s.frame.homes) n i) (length-append s.frame.homes (home.Register ∷ [])));
-  sizes = omega (arith, sizes_append s.frame.nodes (st.Variable (frames.number s.frame) ∷ []), sum_one statement_size (st.Variable (frames.number s.frame)), statement_size_variable (frames.number s.frame),
-    length-append s.frame.homes (home.Register ∷ []));
+    ap (λ n. between (length s.frame.homes) n i) (length-append s.frame.homes (home.Register ∷ [])),
+  );
+  sizes = omega (
+    arith,
+    sizes_append s.frame.nodes (st.Variable (frames.number s.frame) ∷ []),
+    sum_one statement_size (st.Variable (frames.number s.frame)),
+    statement_size_variable (frames.number s.frame),
+    length-append s.frame.homes (home.Register ∷ []),
+  );
 }
 
 -- a variable that is a frame object
 object_counts : (s : State) (ss : Scopes) (n : ℕ) → after s.frame.object n ≡ s.frame.object + 4 * n → Counts stage.Function s (record s { scopes = ss; frame = frames.object_variable n s.frame }) []
 object_counts s ss n e = record {
-  objects = λ byte. omega (arith, objects_append byte s.frame.nodes (st.Object s.frame.object n ∷ []), sum_one (objects_at byte) (st.Object s.frame.object n),
-    objects_at_object byte s.frame.object n ∙ object_one byte s.frame.object n (after s.frame.object n) e);
+  objects = λ byte. omega (
+    arith,
+    objects_append byte s.frame.nodes (st.Object s.frame.object n ∷ []),
+    sum_one (objects_at byte) (st.Object s.frame.object n),
+    objects_at_object byte s.frame.object n ∙ object_one byte s.frame.object n (after s.frame.object n) e,
+  );
   declarations = λ i. omega (arith, declarations_append i s.frame.nodes (st.Object s.frame.object n ∷ []), sum_one (declarations_of i) (st.Object s.frame.object n), declarations_of_object i s.frame.object n);
-  sizes = omega (arith, sizes_append s.frame.nodes (st.Object s.frame.object n ∷ []), sum_one statement_size (st.Object s.frame.object n), statement_size_object s.frame.object n,
-    length-append s.frame.homes (home.Object s.frame.object ∷ []));
+  sizes = omega (
+    arith,
+    sizes_append s.frame.nodes (st.Object s.frame.object n ∷ []),
+    sum_one statement_size (st.Object s.frame.object n),
+    statement_size_object s.frame.object n,
+    length-append s.frame.homes (home.Object s.frame.object ∷ []),
+  );
 }
 
 pub register_grows : (s : State) (name : Name) (what : Meaning) → Grows stage.Function s (record s { scopes = declared s.scopes name what; frame = frames.register_variable s.frame })
@@ -160,14 +183,14 @@ register_declares : (s : State) (ss : Scopes) → (s.frame.object % 4 == 0) ≡ 
 register_declares s ss h = record {
   aligned = h;
   nodes = node_behind (DeclaresAt stage.Function s.frame.object) s.frame.nodes (st.Variable (frames.number s.frame))
-    (λ r f o. ap (λ a. a.declares r) (act_variable (frames.number s.frame)), uses_values_variable (frames.number s.frame));
+      (λ r f o. ap (λ a. a.declares r) (act_variable (frames.number s.frame)), uses_values_variable (frames.number s.frame));
 }
 
 object_declares : (s : State) (ss : Scopes) (n : ℕ) → after s.frame.object n ≡ s.frame.object + 4 * n → (s.frame.object % 4 == 0) ≡ true → Declared stage.Function s (record s { scopes = ss; frame = frames.object_variable n s.frame })
 object_declares s ss n e h = record {
   aligned = ap (λ m. m % 4 == 0) e ∙ aligned_after s.frame.object n h;
   nodes = node_behind (DeclaresAt stage.Function (after s.frame.object n)) s.frame.nodes (st.Object s.frame.object n)
-    (λ r f o. ap (λ a. a.declares r) (act_object s.frame.object n) ∙ declares_object s.frame.object n r h f (subst (λ m. nat_le m r.object ≡ true) e o), uses_values_object s.frame.object n);
+      (λ r f o. ap (λ a. a.declares r) (act_object s.frame.object n) ∙ declares_object s.frame.object n r h f (subst (λ m. nat_le m r.object ≡ true) e o), uses_values_object s.frame.object n);
 }
 
 register_made : (s : State) (name : Name) (what : Meaning) → Made stage.Function s (record s { scopes = declared s.scopes name what; frame = frames.register_variable s.frame }) []
@@ -200,10 +223,20 @@ outer_made s name what t = variable_by s name what t (frames.is_object t s.frame
 
 inner_counts : (s : State) (ss : Scopes) → min (s.frame.inner + 1) 4294967295 ≡ s.frame.inner + 1 → Counts stage.Tick s (record s { scopes = ss; frame = frames.inner_variable s.frame }) []
 inner_counts s ss e = record {
-  objects = λ byte. omega (arith, objects_append byte s.frame.nodes (st.Variable s.frame.inner ∷ []), sum_one (objects_at byte) (st.Variable s.frame.inner),
-    objects_at_variable byte s.frame.inner, between_none s.frame.object s.frame.object byte refl);
-  declarations = λ i. omega (arith, declarations_append i s.frame.nodes (st.Variable s.frame.inner ∷ []), sum_one (declarations_of i) (st.Variable s.frame.inner),
-    variable_node i s.frame.inner ∙ variable_one i s.frame.inner, ap (λ n. between s.frame.inner n i) e);
+  objects = λ byte. omega (
+    arith,
+    objects_append byte s.frame.nodes (st.Variable s.frame.inner ∷ []),
+    sum_one (objects_at byte) (st.Variable s.frame.inner),
+    objects_at_variable byte s.frame.inner,
+    between_none s.frame.object s.frame.object byte refl,
+  );
+  declarations = λ i. omega (
+    arith,
+    declarations_append i s.frame.nodes (st.Variable s.frame.inner ∷ []),
+    sum_one (declarations_of i) (st.Variable s.frame.inner),
+    variable_node i s.frame.inner ∙ variable_one i s.frame.inner,
+    ap (λ n. between s.frame.inner n i) e,
+  );
   sizes = omega (arith, sizes_append s.frame.nodes (st.Variable s.frame.inner ∷ []), sum_one statement_size (st.Variable s.frame.inner), statement_size_variable s.frame.inner, e);
 }
 
@@ -233,7 +266,7 @@ inner_made s name what = record {
   declares = λ small h. record {
     aligned = h;
     nodes = node_behind (DeclaresAt stage.Tick s.frame.object) s.frame.nodes (st.Variable s.frame.inner)
-      (λ r. ap (λ a. a.declares r) (act_variable s.frame.inner), uses_values_variable s.frame.inner);
+        (λ r. ap (λ a. a.declares r) (act_variable s.frame.inner), uses_values_variable s.frame.inner);
   };
 }
 

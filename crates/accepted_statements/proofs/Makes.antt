@@ -71,8 +71,8 @@ pub else_makes : {many : ℕ} (line : ℕ) (c : Node) (i j : Item) (a : Standing
 else_makes line c i j a may hc hi hj s new xs w =
     let k = hc.keeps a.stage s w.first w.operand w.walk in
     one_node a.is_direct xs (st.IfElse w.test w.one w.two) w.is (if_else_counts w.test w.one w.two) (if_else_unlabelled w.test w.one w.two)
-      (made_behind k (made_more (body_made hi may w.body) (body_made hj may w.other)))
-      (body_labels hj may refl w.other ∙ body_labels hi may refl w.body ∙ k.tables.labels)
+    (made_behind k (made_more (body_made hi may w.body) (body_made hj may w.other)))
+    (body_labels hj may refl w.other ∙ body_labels hi may refl w.body ∙ k.tables.labels)
 
 pub optional_keeps : (many : ℕ) (c : Option Node) (g : Stage) (s new : State) (o : Option Operand) → GoodOptional many c → OptionalRan c g s o new → Keeps g s new
 optional_keeps many None g s new o h w = keeps_same g w.1
@@ -88,7 +88,7 @@ pub for_makes : {many : ℕ} (line : ℕ) (c step : Option Node) (i : Item) (a :
 for_makes {many} line c step i a may hc hs hi s new x w =
     let k = keeps_more (optional_keeps many c a.stage s w.first w.test hc w.tested) (optional_keeps many step a.stage w.first w.between w.next hs w.stepped) in
     one_node a.is_direct (x ∷ []) (statements.for_by w.condition w.next w.node) (ap (λ y. y ∷ []) w.is) (for_counts w.condition w.next w.node) (for_unlabelled w.condition w.next w.node)
-      (made_behind k (body_made hi may w.body)) (for_labels line c step i a may hc hs hi s new x w)
+    (made_behind k (body_made hi may w.body)) (for_labels line c step i a may hc hs hi s new x w)
 
 -- ---- lists and blocks
 

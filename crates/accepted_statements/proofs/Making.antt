@@ -46,8 +46,8 @@ pub declared_more : {g : Stage} {s t new : State} → Grows g s t → Grows g t 
 declared_more {g} {s} {t} {new} p q small c d = record {
   aligned = d.aligned;
   nodes = λ more.
-    subst (λ xs. EachNode (DeclaresAt g new.frame.object) xs) (same_rest (starts_more p.tables.nodes q.tables.nodes) more)
-    (each_append (DeclaresAt g new.frame.object) p.tables.nodes.rest q.tables.nodes.rest
+      subst (λ xs. EachNode (DeclaresAt g new.frame.object) xs) (same_rest (starts_more p.tables.nodes q.tables.nodes) more)
+      (each_append (DeclaresAt g new.frame.object) p.tables.nodes.rest q.tables.nodes.rest
       (each_weaken (DeclaresAt g t.frame.object) (DeclaresAt g new.frame.object) (declares_later g t.frame.object new.frame.object (object_grows g t new q.at small)) p.tables.nodes.rest (c.nodes p.tables.nodes))
       (d.nodes q.tables.nodes));
 }

@@ -150,9 +150,9 @@ pub switch_stood : (r : Around) (e : Expr) (vs xs : List Stmt) → Test r e → 
     → all_different (values_of (map act xs)) ≡ true → nat_le (defaults_of (map act xs)) 1 ≡ true → Stood r (st.Switch e vs xs)
 switch_stood r e vs xs t d u h v f n = record {
   stands = ap (λ a. a.stands r) (act_switch e vs xs)
-    ∙ both ((part e).stands r && all_declare (map act vs) r && all_items (map act xs) (switched (within (map act vs) r)) && all_different (values_of (map act xs))) (nat_le (defaults_of (map act xs)) 1)
-        (both ((part e).stands r && all_declare (map act vs) r && all_items (map act xs) (switched (within (map act vs) r))) (all_different (values_of (map act xs)))
-          (both ((part e).stands r && all_declare (map act vs) r) (all_items (map act xs) (switched (within (map act vs) r))) (both ((part e).stands r) (all_declare (map act vs) r) t.stands d) h) f) n;
+      ∙ both ((part e).stands r && all_declare (map act vs) r && all_items (map act xs) (switched (within (map act vs) r)) && all_different (values_of (map act xs))) (nat_le (defaults_of (map act xs)) 1)
+      (both ((part e).stands r && all_declare (map act vs) r && all_items (map act xs) (switched (within (map act vs) r))) (all_different (values_of (map act xs)))
+      (both ((part e).stands r && all_declare (map act vs) r) (all_items (map act xs) (switched (within (map act vs) r))) (both ((part e).stands r) (all_declare (map act vs) r) t.stands d) h) f) n;
   values = uses_values_switch e vs xs ∙ both (is_used e && all_true (map uses_values vs)) (all_true (map uses_values xs)) (both (is_used e) (all_true (map uses_values vs)) t.leaves u) v;
 }
 

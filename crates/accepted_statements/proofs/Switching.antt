@@ -55,18 +55,18 @@ pub parts_did : {many : ℕ} (a : Standing) (b : Blocks) {ks : List (List Captur
     → Did many a.stage (entered a.stage b s) ks (inside s) t (λ r. ItemsStand (statements.switched a) (place_of (statements.switched a) r) xs) → Did many a.stage b ks s (back s t) (λ r. Parts (place_of a r) t.frame.nodes xs)
 parts_did {many} a b {ks} s t xs may m known d =
     did_so (λ r. ItemsStand (statements.switched a) (place_of (statements.switched a) (in_block a.stage t.frame.nodes r)) xs) (λ r. Parts (place_of a r) t.frame.nodes xs)
-      (did_block s t (λ r. ItemsStand (statements.switched a) (place_of (statements.switched a) r) xs) may m.grows known d)
-      (λ ms r ag p.
-        let small = small_inside a.stage s t ag.small in
-        let was = known (small_before (grows_back a.stage s t m.grows) ag.small) in
-        let nodes : EachNode (DeclaresAt a.stage t.frame.object) t.frame.nodes = (m.declares small was.object).nodes (record { rest = t.frame.nodes; is = refl }) in
-        let items : ItemsStand (statements.switched a) (switched (within (map act t.frame.nodes) (place_of a r))) xs = subst (λ z. ItemsStand (statements.switched a) z xs) (round_in a.stage may t.frame.nodes a r) p in
-        record {
-          declare = declares_all a.stage t.frame.object t.frame.nodes (place_of a r) (function_round a.stage a r ag.is_function) (object_round a.stage a r t.frame.object ag.object) nodes;
-          variables = variables_use a.stage t.frame.object t.frame.nodes nodes;
-          items = all_labelled (statements.switched a) (switched (within (map act t.frame.nodes) (place_of a r))) xs refl items;
-          values = values_of_items (statements.switched a) (switched (within (map act t.frame.nodes) (place_of a r))) xs items;
-        })
+    (did_block s t (λ r. ItemsStand (statements.switched a) (place_of (statements.switched a) r) xs) may m.grows known d)
+    (λ ms r ag p.
+    let small = small_inside a.stage s t ag.small in
+    let was = known (small_before (grows_back a.stage s t m.grows) ag.small) in
+    let nodes : EachNode (DeclaresAt a.stage t.frame.object) t.frame.nodes = (m.declares small was.object).nodes (record { rest = t.frame.nodes; is = refl }) in
+    let items : ItemsStand (statements.switched a) (switched (within (map act t.frame.nodes) (place_of a r))) xs = subst (λ z. ItemsStand (statements.switched a) z xs) (round_in a.stage may t.frame.nodes a r) p in
+    record {
+      declare = declares_all a.stage t.frame.object t.frame.nodes (place_of a r) (function_round a.stage a r ag.is_function) (object_round a.stage a r t.frame.object ag.object) nodes;
+      variables = variables_use a.stage t.frame.object t.frame.nodes nodes;
+      items = all_labelled (statements.switched a) (switched (within (map act t.frame.nodes) (place_of a r))) xs refl items;
+      values = values_of_items (statements.switched a) (switched (within (map act t.frame.nodes) (place_of a r))) xs items;
+    })
 
 one_at_most : (b : Bool) (n : ℕ) → one_if b ≡ 0 + n → nat_le n 1 ≡ true
 one_at_most true n e = grind (arith, nat_tests)
@@ -102,17 +102,17 @@ switch_did {many} line c items a b ks s new xs hc h here known w =
     let f : Did many a.stage b (ks ++ d.more) s0 (back s0 t) (λ r. Parts (place_of a r) t.frame.nodes ys) = parts_did a b s0 t ys may m.made known0 e in
     let g : Did many a.stage b (ks ++ d.more) s0 w.last (λ r. Parts (place_of a r) t.frame.nodes ys) = subst (λ z. Did many a.stage b (ks ++ d.more) s0 z (λ r. Parts (place_of a r) t.frame.nodes ys)) w.body.back f in
     let i : Did many a.stage b (ks ++ d.more) w.first new (λ r. Parts (place_of a r) t.frame.nodes ys) =
-        subst (λ z. Did many a.stage b (ks ++ d.more) w.first z (λ r. Parts (place_of a r) t.frame.nodes ys)) w.state
-          (did_from labels.new w.first (with_labels w.first.labels w.last) (λ r. Parts (place_of a r) t.frame.nodes ys) (did_relabelled w.first.labels s0 w.last (λ r. Parts (place_of a r) t.frame.nodes ys) g)) in
+    subst (λ z. Did many a.stage b (ks ++ d.more) w.first z (λ r. Parts (place_of a r) t.frame.nodes ys)) w.state
+    (did_from labels.new w.first (with_labels w.first.labels w.last) (λ r. Parts (place_of a r) t.frame.nodes ys) (did_relabelled w.first.labels s0 w.last (λ r. Parts (place_of a r) t.frame.nodes ys) g)) in
     let different : all_different (values_of (map act ys)) ≡ true = ap all_different (sym m.labelled.values) ∙ m.labelled.different refl in
     let few : nat_le (defaults_of (map act ys)) 1 ≡ true = one_at_most t.labels.has_default (defaults_of (map act ys)) m.labelled.defaults in
     let grown : Grows a.stage w.first new = (switch_made many line c items a may h s new xs w).grows in
     did_so (λ r. Good (place_of a r) w.operand × Parts (place_of a r) t.frame.nodes ys) (λ r. ItemsStand a (place_of a r) xs)
-      (did_both (λ r. Good (place_of a r) w.operand) (λ r. Parts (place_of a r) t.frame.nodes ys) (keeps_grows k) grown d i)
-      (λ ms r ag p.
-        subst (λ zs. ItemsStand a (place_of a r) zs) (ap (λ q. st.Switch w.test q.0 q.1 ∷ []) w.body.is ∙ w.is)
-          (stood_one a (place_of a r) (st.Switch w.test t.frame.nodes ys)
-            (switch_stood (place_of a r) w.test t.frame.nodes ys (switched_test (place_of a r) line w.operand w.test p.0 w.gives) p.1.declare p.1.variables p.1.items p.1.values different few)))
+    (did_both (λ r. Good (place_of a r) w.operand) (λ r. Parts (place_of a r) t.frame.nodes ys) (keeps_grows k) grown d i)
+    (λ ms r ag p.
+    subst (λ zs. ItemsStand a (place_of a r) zs) (ap (λ q. st.Switch w.test q.0 q.1 ∷ []) w.body.is ∙ w.is)
+    (stood_one a (place_of a r) (st.Switch w.test t.frame.nodes ys)
+    (switch_stood (place_of a r) w.test t.frame.nodes ys (switched_test (place_of a r) line w.operand w.test p.0 w.gives) p.1.declare p.1.variables p.1.items p.1.values different few)))
 
 -- ---- labels
 
@@ -120,7 +120,7 @@ pub case_did : {many : ℕ} (n : Node) (a : Standing) (b : Blocks) (ks : List (L
 case_did {many} n a b ks s new xs h known w =
     let l = w.label in
     let d = did_so (λ r. Good (place_of a r) w.operand) (λ r. ItemsStand a (place_of a r) xs) (node_did h a known w.walk)
-      (λ ms r ag p. subst (λ zs. ItemsStand a (place_of a r) zs) l.is (case_item a (place_of a r) l.value w.direct, tt)) in
+    (λ ms r ag p. subst (λ zs. ItemsStand a (place_of a r) zs) l.is (case_item a (place_of a r) l.value w.direct, tt)) in
     subst (λ z. DidStand many a b ks s z xs) l.state (did_relabelled (with_value l.value w.between).labels s w.between (λ r. ItemsStand a (place_of a r) xs) d)
 
 pub default_did : {many : ℕ} (a : Standing) (b : Blocks) (ks : List (List CaptureKind)) (s new : State) (xs : List Stmt) → Known many a.stage b ks s → DefaultRan a s xs new → DidStand many a b ks s new xs

@@ -79,8 +79,8 @@ counts_relabelled : (g : Stage) (l m : Labels) (s t : State) (xs : List Stmt) �
 counts_relabelled g l m s t xs c = record {
   objects = c.objects;
   declarations = λ i.
-    subst (λ n. declarations_in i t.frame.nodes + declarations_in i xs ≤ declarations_in i s.frame.nodes + between n (variables g (with_labels m t)) i) (variables_relabelled g l s)
-    (subst (λ n. declarations_in i t.frame.nodes + declarations_in i xs ≤ declarations_in i s.frame.nodes + between (variables g (with_labels l s)) n i) (sym (variables_relabelled g m t)) (c.declarations i));
+      subst (λ n. declarations_in i t.frame.nodes + declarations_in i xs ≤ declarations_in i s.frame.nodes + between n (variables g (with_labels m t)) i) (variables_relabelled g l s)
+      (subst (λ n. declarations_in i t.frame.nodes + declarations_in i xs ≤ declarations_in i s.frame.nodes + between (variables g (with_labels l s)) n i) (sym (variables_relabelled g m t)) (c.declarations i));
   sizes = omega (arith, c.sizes, variables_relabelled g l s, variables_relabelled g m t);
 }
 
@@ -110,7 +110,7 @@ switch_made many line c items a may h s new xs w =
     let m = each_makes many items (statements.switched a) may h (inside (with_labels labels.new w.first)) w.body.state w.body.value w.body.walk in
     let x : Stmt = st.Switch w.test w.body.state.frame.nodes w.body.value in
     let in_switch : Made a.stage (with_labels labels.new w.first) w.last (x ∷ []) =
-        enclosed_made x w.body (switch_counts w.test w.body.state.frame.nodes w.body.value) m.made in
+    enclosed_made x w.body (switch_counts w.test w.body.state.frame.nodes w.body.value) m.made in
     subst (λ z. Made a.stage w.first z (x ∷ [])) w.state (relabelled a.stage labels.new w.first.labels w.first w.last (x ∷ []) in_switch)
 
 pub switch_makes : {many : ℕ} (line : ℕ) (c : Node) (items : List Item) (a : Standing) → MayStand a.stage → GoodNode many c → EachPart (GoodItem many) items → (s new : State) (xs : List Stmt) → SwitchRan line c items a s xs new → Makes a.stage a.is_direct s new xs
@@ -162,8 +162,8 @@ pub one_more : (xs : List ℕ) (n : ℕ) → is_member n xs ≡ false → all_di
 one_more [] n h d = refl
 one_more (x ∷ xs) n h d =
     both (not (list_any (λ y. x == y) (xs ++ n ∷ []))) (all_different (xs ++ n ∷ []))
-      (ap not (differ x xs n (other_way n x (first_false (n == x) (is_member n xs) h))) ∙ first_true (not (list_any (λ y. x == y) xs)) (all_different xs) d)
-      (one_more xs n (second_false (n == x) (is_member n xs) h) (second_true (not (list_any (λ y. x == y) xs)) (all_different xs) d))
+    (ap not (differ x xs n (other_way n x (first_false (n == x) (is_member n xs) h))) ∙ first_true (not (list_any (λ y. x == y) xs)) (all_different xs) d)
+    (one_more xs n (second_false (n == x) (is_member n xs) h) (second_true (not (list_any (λ y. x == y) xs)) (all_different xs) d))
 
 -- labels are no part of what is made
 relabelled_same : (g : Stage) (l : Labels) (s t : State) (xs : List Stmt) → Made g s t xs → Made g s (with_labels l t) xs
@@ -206,7 +206,7 @@ case_makes n a h s new xs w =
     let x : Stmt = st.Case l.value in
     let m : Made a.stage s w.between (x ∷ []) = made_as x (case_counts l.value) (made_kept k) in
     let labelled : Labelled true s new (x ∷ []) =
-        labelled_more (labelled_none true k.tables.labels) (subst (λ z. Labelled true w.between z (x ∷ [])) l.state (value_labels w.between l.value l.fresh)) in
+    labelled_more (labelled_none true k.tables.labels) (subst (λ z. Labelled true w.between z (x ∷ [])) l.state (value_labels w.between l.value l.fresh)) in
     record {
       made = subst (λ zs. Made a.stage s new zs) l.is (subst (λ z. Made a.stage s z (x ∷ [])) l.state (relabelled_same a.stage (with_value l.value w.between).labels s w.between (x ∷ []) m));
       labelled = subst (λ zs. Labelled a.is_direct s new zs) l.is (subst (λ d. Labelled d s new (x ∷ [])) (sym w.direct) labelled);

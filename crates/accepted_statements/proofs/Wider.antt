@@ -1,5 +1,5 @@
 -- What is known in a state is known in one where more stands, and who has room for the second has room for the first.
-use Rattle.std.proofs.Common.{◌≡◌, ℕ, ◌-◌, ◌≤◌, ◌%◌, true, List, ◌++◌, refl, sym, ap, subst, ◌∙◌, arith, Option, Some, None}
+use Rattle.std.proofs.Common.{◌≡◌, ℕ, ◌-◌, ◌≤◌, ◌%◌, true, List, ◌++◌, refl, sym, subst, arith, Option, Some, None}
 use Rattle.std.specs.Prelude.{◌==◌, nat_le, slice_get}
 use Rattle.std.proofs.lemmas.Bool.Decides.{nat_tests}
 use Rattle.c_types.specs.declared.names.Meaning.{Meaning}
@@ -7,7 +7,6 @@ use Rattle.c_types.specs.declared.names.MeaningKind.{MeaningKind}
 use Rattle.c_types.specs.declared.names.MeaningKind.TheVariants as kind
 use Rattle.c_types.specs.Scopes.{Name, Scopes}
 use Rattle.typed_tree.specs.declared.expression.CaptureKind.{CaptureKind}
-use Rattle.typed_tree.specs.declared.expression.Expr.{Expr}
 use Rattle.check_tables.specs.declared.frame.Home.{Home}
 use Rattle.check_tables.specs.declared.frame.Home.TheVariants as home
 use Rattle.check_tables.specs.declared.functions.Prototype.{Prototype}
@@ -16,11 +15,11 @@ use Rattle.check_tables.specs.Functions.{number}
 use Rattle.check_state.specs.declared.state.Stage.{Stage}
 use Rattle.check_state.specs.declared.state.Stage.TheVariants as stage
 use Rattle.check_state.specs.declared.state.State.{State}
-use Rattle.accepted_steps.specs.Kept.{Starts, GrowsStage, Grows}
+use Rattle.accepted_steps.specs.Kept.{GrowsStage, Grows}
 use Rattle.accepted_steps.specs.Known.{Blocks, of_function, of_tick, has, HasHome, IsVariable, IsParameter, IsFunction, is_number, Means, EachScope}
-use Rattle.accepted_steps.specs.Steps.{Round, Captures, kinds, AgreesTick, Agrees}
+use Rattle.accepted_steps.specs.Steps.{Round, AgreesTick, Agrees}
 use Rattle.accepted_types.proofs.Fronts.{starts_front}
-use Rattle.accepted_types.proofs.Knowing.{each_scope, kinds_append}
+use Rattle.accepted_types.proofs.Knowing.{each_scope, captures_back}
 use Rattle.accepted_statements.proofs.Growing.{small_before}
 use Rattle.accepted_statements.proofs.Labelling.{first_true, second_true}
 use Rattle.accepted_statements.proofs.Locals.{both}
@@ -74,14 +73,6 @@ names_wider many {g} {b} {s} {c} {new} w ss x =
     each_scope (λ name m. Means many g b s name m m.kind) (λ name m. Means many g c new name m m.kind) (λ name m h. means_wider many w name m m.kind h) ss x
 
 -- ---- surroundings
-
-captures_front : (xs ys : List CaptureKind) (all : Option (List CaptureKind)) → Captures (xs ++ ys) all → Captures xs all
-captures_front xs ys None x = x
-captures_front xs ys (Some all) x = starts_front xs ys x
-
-captures_back : (xs ys : List Expr) (all : Option (List CaptureKind)) → Starts xs ys → Captures (kinds ys) all → Captures (kinds xs) all
-captures_back xs ys all p x =
-    captures_front (kinds xs) (kinds p.rest) all (subst (λ l. Captures l all) (ap kinds p.is ∙ kinds_append xs p.rest) x)
 
 tick_wider : (g : Stage) (b : Blocks) (s : State) (c : Blocks) (new : State) (r : Round) → Wider g b s c new → GrowsStage g s new → AgreesTick g c new r → AgreesTick g b s r
 tick_wider stage.Function b s c new r w k x = tt

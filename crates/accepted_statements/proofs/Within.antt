@@ -78,17 +78,17 @@ pub block_did : {many : ℕ} (a : Standing) (b : Blocks) {ks : List (List Captur
     → Did many a.stage (entered a.stage b s) ks (inside s) t (λ r. ItemsStand a (place_of a r) xs) → Did many a.stage b ks s (back s t) (λ r. Stood (place_of a r) (st.Block t.frame.nodes xs))
 block_did {many} a b {ks} s t xs may direct m known d =
     did_so (λ r. ItemsStand a (place_of a (in_block a.stage t.frame.nodes r)) xs) (λ r. Stood (place_of a r) (st.Block t.frame.nodes xs))
-      (did_block s t (λ r. ItemsStand a (place_of a r) xs) may m.grows known d)
-      (λ ms r ag p.
-        let small = small_inside a.stage s t ag.small in
-        let was = known (small_before (grows_back a.stage s t m.grows) ag.small) in
-        let nodes : EachNode (DeclaresAt a.stage t.frame.object) t.frame.nodes = (m.declares small was.object).nodes (record { rest = t.frame.nodes; is = refl }) in
-        let items : ItemsStand a (within (map act t.frame.nodes) (place_of a r)) xs = subst (λ z. ItemsStand a z xs) (round_in a.stage may t.frame.nodes a r) p in
-        block_stood (place_of a r) t.frame.nodes xs
-          (declares_all a.stage t.frame.object t.frame.nodes (place_of a r) (function_round a.stage a r ag.is_function) (object_round a.stage a r t.frame.object ag.object) nodes)
-          (variables_use a.stage t.frame.object t.frame.nodes nodes)
-          (all_of a (within (map act t.frame.nodes) (place_of a r)) xs direct items)
-          (values_of_items a (within (map act t.frame.nodes) (place_of a r)) xs items))
+    (did_block s t (λ r. ItemsStand a (place_of a r) xs) may m.grows known d)
+    (λ ms r ag p.
+    let small = small_inside a.stage s t ag.small in
+    let was = known (small_before (grows_back a.stage s t m.grows) ag.small) in
+    let nodes : EachNode (DeclaresAt a.stage t.frame.object) t.frame.nodes = (m.declares small was.object).nodes (record { rest = t.frame.nodes; is = refl }) in
+    let items : ItemsStand a (within (map act t.frame.nodes) (place_of a r)) xs = subst (λ z. ItemsStand a z xs) (round_in a.stage may t.frame.nodes a r) p in
+    block_stood (place_of a r) t.frame.nodes xs
+    (declares_all a.stage t.frame.object t.frame.nodes (place_of a r) (function_round a.stage a r ag.is_function) (object_round a.stage a r t.frame.object ag.object) nodes)
+    (variables_use a.stage t.frame.object t.frame.nodes nodes)
+    (all_of a (within (map act t.frame.nodes) (place_of a r)) xs direct items)
+    (values_of_items a (within (map act t.frame.nodes) (place_of a r)) xs items))
 
 pub whole_block_did : (many : ℕ) (items : List Item) (a : Standing) → MayStand a.stage → a.is_direct ≡ false → EachPart (GoodItem many) items → (b : Blocks) (ks : List (List CaptureKind)) (s new : State) (x : Stmt) → Known many a.stage b ks s → block items a s ≡ Ok (x, new)
     → Did many a.stage b ks s new (λ r. Stood (place_of a r) x)
@@ -97,7 +97,7 @@ whole_block_did many items a may direct h b ks s new x known e =
     let m = each_makes many items a may h (inside s) w.state w.value w.walk in
     let d = each_did many items a (entered a.stage b s) ks (inside s) w.state w.value h (in_entered a.stage b s may) (known_inside many a.stage b ks s known) w.walk in
     subst (λ z. Did many a.stage b ks s z (λ r. Stood (place_of a r) x)) w.back
-      (subst (λ y. Did many a.stage b ks s (back s w.state) (λ r. Stood (place_of a r) y)) w.is (block_did a b s w.state w.value may direct m.made known d))
+    (subst (λ y. Did many a.stage b ks s (back s w.state) (λ r. Stood (place_of a r) y)) w.is (block_did a b s w.state w.value may direct m.made known d))
 
 -- ---- a `for` with a first part
 
@@ -117,13 +117,13 @@ for_block_did many line first c step i a hf hc hs hi b ks s new xs here known e 
     let d = (hf.walk (statements.inside a) may).does c2 ks (inside s) r.state r.value in2 (known_inside many a.stage b ks s known) r.first in
     let g = for_did line c step i a c2 (ks ++ d.more) r.state w.state f.value hc hs hi in2 d.known q in
     let two = did_so (λ z. ItemsStand (statements.inside a) (place_of a z) r.value × Stood (place_of a z) f.value) (λ z. ItemsStand (statements.inside a) (place_of a z) w.value)
-      (did_both (λ z. ItemsStand (statements.inside a) (place_of a z) r.value) (λ z. Stood (place_of a z) f.value) one.made.grows rest.made.grows d g)
-      (λ ms z ag p. subst (λ ys. ItemsStand (statements.inside a) (place_of a z) ys) f.is
-        (each_append (ItemStands (statements.inside a) (place_of a z)) r.value (f.value ∷ []) p.0 (stood_one (statements.inside a) (place_of a z) f.value p.1))) in
+    (did_both (λ z. ItemsStand (statements.inside a) (place_of a z) r.value) (λ z. Stood (place_of a z) f.value) one.made.grows rest.made.grows d g)
+    (λ ms z ag p. subst (λ ys. ItemsStand (statements.inside a) (place_of a z) ys) f.is
+    (each_append (ItemStands (statements.inside a) (place_of a z)) r.value (f.value ∷ []) p.0 (stood_one (statements.inside a) (place_of a z) f.value p.1))) in
     let whole = block_did (statements.inside a) b s w.state w.value may refl m known two in
     subst (λ z. DidStand many a b ks s z xs) w.back
-      (did_so (λ z. Stood (place_of a z) (st.Block w.state.frame.nodes w.value)) (λ z. ItemsStand a (place_of a z) xs) whole
-        (λ ms z ag p. subst (λ ys. ItemsStand a (place_of a z) ys) w.is (stood_one a (place_of a z) (st.Block w.state.frame.nodes w.value) p)))
+    (did_so (λ z. Stood (place_of a z) (st.Block w.state.frame.nodes w.value)) (λ z. ItemsStand a (place_of a z) xs) whole
+    (λ ms z ag p. subst (λ ys. ItemsStand a (place_of a z) ys) w.is (stood_one a (place_of a z) (st.Block w.state.frame.nodes w.value) p)))
 
 -- ---- labels are nothing that is known
 

@@ -49,13 +49,13 @@ declares_one g line name w begin = w >>= (λ t. declarations.declare g line name
 pub record DeclarationsAreGood : Type 0 where
   -- the type of a variable, whose steps an initializer may complete
   pub type : (g : Stage) (line : ℕ) (b : Base) (d : Shape) (f : List Step → List Step) → GoodShape d → ((ss : List Step) → any_computed (f ss) ≡ false → any_computed ss ≡ false)
-    → GoodType g (d.walk g >>= (λ ss. lift (declared_in g line b (f ss))))
+      → GoodType g (d.walk g >>= (λ ss. lift (declared_in g line b (f ss))))
   -- it begins with nothing, with a value, or with a list
   pub nothing : (many : ℕ) (a : Standing) (p : Operand) → GoodBegin many a p (pure [])
   pub value : (many : ℕ) (a : Standing) (line : ℕ) (p : Operand) (n : Node) (string : Bool) → GoodNode many n → GoodBegin many a p (n.walk a.stage >>= (λ o. lift (initializers.from_value line p string o)))
   pub list : (many : ℕ) (a : Standing) (line : ℕ) (p : Operand) (row : Bool) (step : Rule State (Option FaultKind)) → GoodBegin many a p (step >>= (λ broken. lift (initializers.from_list line row broken)))
   -- one declarator, and several
   pub one : (many : ℕ) (a : Standing) (line : ℕ) (name : Option (ℕ × Name)) (w : Rule State CType) (begin : Operand → Rule State (List Stmt)) → MayStand a.stage → GoodType a.stage w → ((p : Operand) → GoodBegin many a p (begin p))
-    → GoodStatement many a (declares_one a.stage line name w begin)
+      → GoodStatement many a (declares_one a.stage line name w begin)
   pub none : (many : ℕ) (a : Standing) → GoodStatement many a (pure [])
   pub more : (many : ℕ) (a : Standing) (p q : Rule State (List Stmt)) → MayStand a.stage → GoodStatement many a p → GoodStatement many a q → GoodStatement many a (p >>= (λ xs. q >>= (λ ys. pure (xs ++ ys))))

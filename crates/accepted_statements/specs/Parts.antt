@@ -60,4 +60,4 @@ pub record GoodBegin (many : ℕ) (a : Standing) (p : Operand) (step : Rule Stat
   pub begun : (s new : State) (xs : List Stmt) → step s ≡ Ok (xs, new) → Begun xs
   -- where the variable stands right
   pub does : (b : Blocks) (ks : List (List CaptureKind)) (s new : State) (xs : List Stmt) → Known many a.stage b ks s → step s ≡ Ok (xs, new)
-    → Did many a.stage b ks s new (λ r. Good (at a.stage (placed_round a r)) p → ItemsStand a (at a.stage (placed_round a r)) xs)
+      → Did many a.stage b ks s new (λ r. Good (at a.stage (placed_round a r)) p → ItemsStand a (at a.stage (placed_round a r)) xs)
