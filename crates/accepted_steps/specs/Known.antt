@@ -92,16 +92,20 @@ EachScope P (s ∷ ss) = EachEntry P s × EachScope P ss
 
 -- ---- what is small enough to be counted in a word
 
+pub record SmallInner (s : State) : Type 0 where
+  pub inner : s.frame.inner ≤ 1000000000
+  pub captures : length s.ticks.captures ≤ 1000000000
+
+-- in a tick; elsewhere nothing asks how many captures there are
 abbrev pub SmallTick : Stage → State → Type 0
 SmallTick stage.Function s = Unit {0}
-SmallTick stage.Tick s = s.frame.inner ≤ 1000000000
-SmallTick stage.Dollar s = s.frame.inner ≤ 1000000000
+SmallTick stage.Tick s = SmallInner s
+SmallTick stage.Dollar s = SmallInner s
 
 pub record Small (g : Stage) (s : State) : Type 0 where
   pub homes : length s.frame.homes ≤ 1000000000
   pub object : s.frame.object ≤ 4194304
   pub ticks : length s.ticks.all ≤ 1000000000
-  pub captures : length s.ticks.captures ≤ 1000000000
   pub tick : SmallTick g s
 
 -- what is known in a state: `ks` are what the ticks so far capture
