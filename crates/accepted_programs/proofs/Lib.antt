@@ -1,4 +1,5 @@
 pub mod Bools
+pub mod Declared
 pub mod Finish
 pub mod Names
 pub mod Parameters
@@ -6,3 +7,4 @@ pub mod Scopes
 pub mod Steps
 pub mod Sums
 pub mod Tables
+pub mod Variables
