@@ -40,7 +40,7 @@ lower_by : (a b : FaultKind) (c : Bool) → (if c then Some b else Some a) ≡ N
 lower_by a b true is = cc
 lower_by a b false is = cc
 
-none_lower : (a b : Option FaultKind) → lower a b ≡ None → (a ≡ None) × (b ≡ None)
+pub none_lower : (a b : Option FaultKind) → lower a b ≡ None → (a ≡ None) × (b ≡ None)
 none_lower None b is = (refl, is)
 none_lower (Some a) None is = absurd (cc)
 none_lower (Some a) (Some b) is = absurd (lower_by a b _ is)

@@ -5,6 +5,7 @@ pub mod Names
 pub mod Parameters
 pub mod Scopes
 pub mod Steps
+pub mod Still
 pub mod Sums
 pub mod Tables
 pub mod Variables

@@ -12,8 +12,9 @@ use Rattle.check_tables.specs.Functions.{number, number_by}
 use Rattle.check_state.specs.declared.state.Stage.{Stage}
 use Rattle.check_state.specs.declared.state.State.{State}
 use Rattle.check_state.specs.Names.{declare, declared_by}
+use Rattle.accepted_values.specs.Used.{IsLibrary}
 use Rattle.accepted_steps.specs.Kept.{Starts}
-use Rattle.accepted_steps.specs.Known.{Blocks, Means, IsFunction, Numbered, Declared, EachEntry}
+use Rattle.accepted_steps.specs.Known.{Blocks, Means, IsObject, IsFunction, Numbered, Declared, EachEntry}
 use Rattle.accepted_programs.proofs.Bools.{get_front}
 use Rattle.accepted_programs.proofs.Steps.{state_of}
 
@@ -23,9 +24,9 @@ use Rattle.accepted_programs.proofs.Steps.{state_of}
 abbrev pub FileMeans : ℕ → Functions → Name → Meaning → MeaningKind → Type 0
 FileMeans many f name m kind.Variable = true ≡ false
 FileMeans many f name m kind.Parameter = true ≡ false
-FileMeans many f name m kind.Global = is_void m.ctype ≡ false
-FileMeans many f name m kind.Function = IsFunction many f name m.index
-FileMeans many f name m kind.Library = Unit {0}
+FileMeans many f name m kind.Global = IsObject m.ctype
+FileMeans many f name m kind.Function = IsFunction many f name m.index × (is_void m.ctype ≡ false)
+FileMeans many f name m kind.Library = IsLibrary m.index m.ctype
 
 abbrev pub FileName : ℕ → Functions → Name → Meaning → Type 0
 FileName many f name m = FileMeans many f name m m.kind
@@ -35,7 +36,7 @@ means many g b s name m kind.Variable h = absurd (cc)
 means many g b s name m kind.Parameter h = absurd (cc)
 means many g b s name m kind.Global h = h
 means many g b s name m kind.Function h = h
-means many g b s name m kind.Library h = tt
+means many g b s name m kind.Library h = h
 
 pub each_map : (P Q : Name → Meaning → Type 0) (sc : Scope) → ((name : Name) (m : Meaning) → P name m → Q name m) → EachEntry P sc → EachEntry Q sc
 each_map P Q [] f h = tt
@@ -63,8 +64,8 @@ file_later_at : (many : ℕ) (f new : Functions) (name : Name) (m : Meaning) (k 
 file_later_at many f new name m kind.Variable l h = h
 file_later_at many f new name m kind.Parameter l h = h
 file_later_at many f new name m kind.Global l h = h
-file_later_at many f new name m kind.Function l h = function_later many f new name m.index l h
-file_later_at many f new name m kind.Library l h = tt
+file_later_at many f new name m kind.Function l h = (function_later many f new name m.index l h.0, h.1)
+file_later_at many f new name m kind.Library l h = h
 
 pub file_later : (many : ℕ) (f new : Functions) (sc : Scope) → Later f new → EachEntry (FileName many f) sc → EachEntry (FileName many new) sc
 file_later many f new sc l h = each_map (FileName many f) (FileName many new) sc (λ name m k. file_later_at many f new name m m.kind l k) h
