@@ -1,8 +1,11 @@
+pub mod Bodies
 pub mod Bools
 pub mod Declared
 pub mod Finish
+pub mod Given
 pub mod Names
 pub mod Parameters
+pub mod Placed
 pub mod Scopes
 pub mod Steps
 pub mod Still

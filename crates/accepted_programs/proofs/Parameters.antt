@@ -57,7 +57,7 @@ less m n o h k = grind (arith, nat_tests)
 
 -- ---- one more
 
-count_small : {A : Type 0} (xs : List A) (k : ℕ) → length xs ≡ k → k ≤ 7 → frames.count xs ≡ k
+pub count_small : {A : Type 0} (xs : List A) (k : ℕ) → length xs ≡ k → k ≤ 7 → frames.count xs ≡ k
 count_small xs k e h = omega arith
 
 length_map : {A B : Type 0} (g : A → B) (xs : List A) → length (map g xs) ≡ length xs
