@@ -1,11 +1,13 @@
 pub mod Bodies
 pub mod Bools
 pub mod Declared
+pub mod Files
 pub mod Finish
 pub mod Given
 pub mod Names
 pub mod Parameters
 pub mod Placed
+pub mod Runs
 pub mod Scopes
 pub mod Steps
 pub mod Still
