@@ -3,7 +3,9 @@ pub mod Bools
 pub mod Declared
 pub mod Files
 pub mod Finish
+pub mod Functions
 pub mod Given
+pub mod Inside
 pub mod Names
 pub mod Parameters
 pub mod Placed
