@@ -92,7 +92,6 @@ pub record AtFile (e s : State) : Type 0 where
   pub table : Scope
   pub defined : s.functions.defined ≡ table ∷ []
   pub linked : EachLinked scope s.functions.all
-  pub nodes : s.frame.nodes ≡ []
 
 -- ---- what stands in functions and ticks
 

@@ -113,7 +113,7 @@ length_front : {A : Type 0} (xs ys : List A) → length xs ≤ length (xs ++ ys)
 length_front [] ys = omega arith
 length_front (x ∷ xs) ys = let h : length xs ≤ length (xs ++ ys) = length_front xs ys in omega arith
 
-starts_length : {A : Type 0} (xs ys : List A) → Starts xs ys → length xs ≤ length ys
+pub starts_length : {A : Type 0} (xs ys : List A) → Starts xs ys → length xs ≤ length ys
 starts_length xs ys h = let e : length ys ≡ length (xs ++ h.rest) = ap length h.is in let m : length xs ≤ length (xs ++ h.rest) = length_front xs h.rest in omega arith
 
 block_numbered : (top : Scope) (n : ℕ) (s new : State) (xs : List Stmt) → Givens top n s → length s.frame.homes ≤ length new.frame.homes → Counts stage.Function s new xs → AreNumbered (st.Block new.frame.nodes xs)

@@ -1,11 +1,14 @@
 pub mod Bodies
 pub mod Bools
 pub mod Declared
+pub mod Done
 pub mod Files
 pub mod Finish
 pub mod Functions
 pub mod Given
+pub mod Globals
 pub mod Inside
+pub mod Made
 pub mod Names
 pub mod Parameters
 pub mod Placed
@@ -16,3 +19,4 @@ pub mod Still
 pub mod Sums
 pub mod Tables
 pub mod Variables
+pub mod Whole
