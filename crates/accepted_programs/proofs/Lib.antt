@@ -19,4 +19,5 @@ pub mod Still
 pub mod Sums
 pub mod Tables
 pub mod Variables
+pub mod Walk
 pub mod Whole
