@@ -14,6 +14,7 @@ pub mod Parameters
 pub mod Placed
 pub mod Runs
 pub mod Scopes
+pub mod Second
 pub mod Steps
 pub mod Still
 pub mod Sums
