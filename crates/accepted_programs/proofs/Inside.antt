@@ -34,7 +34,7 @@ pub ticks_round : (e : State) (all : List (List CaptureKind)) (vs : List ℕ) (o
 ticks_round e all vs object [] [] h = tt
 ticks_round e all vs object [] (k ∷ ks) h = h
 ticks_round e all vs object (t ∷ ts) [] h = h
-ticks_round e all vs object (t ∷ ts) (k ∷ ks) h = (record { stands = h.0.stands; values = h.0.values; numbers = h.0.numbers }, ticks_round e all vs object ts ks h.1)
+ticks_round e all vs object (t ∷ ts) (k ∷ ks) h = (record { stands = h.0.stands; values = h.0.values; numbers = h.0.numbers; size = h.0.size }, ticks_round e all vs object ts ks h.1)
 
 -- ---- what is known where the items begin
 

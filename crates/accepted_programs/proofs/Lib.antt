@@ -9,12 +9,14 @@ pub mod Given
 pub mod Globals
 pub mod Inside
 pub mod Made
+pub mod Main
 pub mod Names
 pub mod Parameters
 pub mod Placed
 pub mod Runs
 pub mod Scopes
 pub mod Second
+pub mod Starts
 pub mod Steps
 pub mod Still
 pub mod Sums
