@@ -1,5 +1,6 @@
 pub mod Bodies
 pub mod Bools
+pub mod Checked
 pub mod Declared
 pub mod Done
 pub mod Files
@@ -21,6 +22,7 @@ pub mod Steps
 pub mod Still
 pub mod Sums
 pub mod Tables
+pub mod Top
 pub mod Variables
 pub mod Walk
 pub mod Whole
