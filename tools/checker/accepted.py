@@ -1,5 +1,5 @@
-"""Writes crates/accepted_trees/proofs/Equations.antt: for each variant of the typed nodes what is asked of it, by what is asked
-of its parts. It reads the equations of sizes, which have the same form. Run it at the top of the checkout.
+"""Writes crates/accepted_trees/proofs/Equations.antt and Uses.antt: for each variant of the typed nodes what is asked of it, by
+what is asked of its parts. It reads the equations of sizes, which have the same form. Run it at the top of the checkout.
 """
 import re
 
@@ -21,8 +21,12 @@ use Rattle.typed_tree.specs.declared.expression.Stmt.{Stmt}
 use Rattle.typed_tree.specs.declared.expression.Stmt.TheOpen.{Stmt-F}
 use Rattle.typed_tree.specs.declared.expression.Stmt.TheFolds.{fold-roll-Stmt}
 use Rattle.typed_tree.specs.declared.expression.Stmt.TheVariants as st
-use Rattle.accepted_trees.specs.Places.{Part, part, expr_rule, Act, act, stmt_rule}
+"""
+EQUATIONS = """use Rattle.accepted_trees.specs.Places.{Part, part, expr_rule, Act, act, stmt_rule}
 use Rattle.accepted_trees.specs.Counts.{objects_at, object_rule, declarations_of, declaration_rule}
+"""
+USES = """use Rattle.std.specs.Prelude.{Bool}
+use Rattle.accepted_trees.specs.Values.{Use, value_use, expr_rule, uses_values, stmt_rule}
 """
 
 
@@ -34,14 +38,14 @@ def named(block):
     return re.match(r"pub (\w+) :", block).group(1)
 
 
-def expression(block):
-    block = block.replace("fold-roll-Expr ℕ size_rule", "fold-roll-Expr Part expr_rule").replace("size_rule", "expr_rule")
-    return re.sub(r"\bsize\b", "part", re.sub(r"\bsize_", "part_", block))
+def expression(block, name="part", type="Part"):
+    block = block.replace("fold-roll-Expr ℕ size_rule", "fold-roll-Expr %s expr_rule" % type).replace("size_rule", "expr_rule")
+    return re.sub(r"\bsize\b", name, re.sub(r"\bsize_", name + "_", block))
 
 
-def statement(block):
-    block = block.replace("fold-roll-Stmt ℕ statement_rule", "fold-roll-Stmt Act stmt_rule").replace("statement_rule", "stmt_rule")
-    return re.sub(r"\bstatement_size\b", "act", re.sub(r"\bstatement_size_", "act_", block))
+def statement(block, name="act", type="Act"):
+    block = block.replace("fold-roll-Stmt ℕ statement_rule", "fold-roll-Stmt %s stmt_rule" % type).replace("statement_rule", "stmt_rule")
+    return re.sub(r"\bstatement_size\b", name, re.sub(r"\bstatement_size_", name + "_", block))
 
 
 def counted(block, function, rule):
@@ -60,14 +64,21 @@ def ruleset(name, blocks):
     return "pub ruleset %s = (%s)" % (name, ", ".join(named(b) for b in blocks))
 
 
+def write(name, head, blocks):
+    with open("crates/accepted_trees/proofs/%s.antt" % name, "w") as out:
+        out.write("\n\n".join([(HEAD + head).strip()] + blocks) + "\n")
+
+
 def main():
     parts = [expression(b) for b in laws("size")]
     acts = [statement(b) for b in laws("statement_size")]
     objects = [counted(b, "objects_at", "object_rule") for b in laws("statement_size")]
     declarations = [counted(b, "declarations_of", "declaration_rule") for b in laws("statement_size")]
     sets = [ruleset("parts", parts), ruleset("acts", acts), ruleset("objects", objects), ruleset("declarations", declarations)]
-    with open("crates/accepted_trees/proofs/Equations.antt", "w") as out:
-        out.write("\n\n".join([HEAD.strip()] + parts + acts + objects + declarations + sets) + "\n")
+    write("Equations", EQUATIONS, parts + acts + objects + declarations + sets)
+    uses = [expression(b, "value_use", "Use") for b in laws("size")]
+    used = [statement(b, "uses_values", "Bool") for b in laws("statement_size")]
+    write("Uses", USES, uses + used + [ruleset("uses", uses), ruleset("values_used", used)])
 
 
 main()

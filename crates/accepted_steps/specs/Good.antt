@@ -1,5 +1,5 @@
 -- What is asked of the walks over the parts of a tree: each rule of the walk that is given such parts makes such a part again.
-use Rattle.std.specs.Prelude.{◌≡◌, ℕ, ◌-◌, Bool, true, false, ◌||◌, List, [], ◌∷◌, length, Ok}
+use Rattle.std.specs.Prelude.{◌≡◌, ℕ, ◌+◌, ◌-◌, ◌≤◌, Bool, true, false, ◌||◌, List, [], ◌∷◌, length, is_some, Ok}
 use Rattle.c_types.specs.declared.ctype.CType.{CType}
 use Rattle.c_declared.specs.declared.steps.Length.{Length}
 use Rattle.c_declared.specs.declared.steps.Length.TheVariants as len
@@ -14,7 +14,8 @@ use Rattle.check_tables.specs.Walks.{Rule}
 use Rattle.check_expressions.specs.Rules.{Node, Named, Shape}
 use Rattle.accepted_trees.specs.Places.{Around}
 use Rattle.accepted_nodes.specs.Right.{IsRight}
-use Rattle.accepted_steps.specs.Kept.{Starts, KeepsTables, KeepsTick, IsKeeping, outer}
+use Rattle.accepted_values.specs.Used.{IsUsed}
+use Rattle.accepted_steps.specs.Kept.{Starts, KeepsGlobals, KeepsTables, KeepsTick, IsKeeping, outer}
 use Rattle.accepted_steps.specs.Steps.{at, EachCapture, Does}
 
 -- ---- types
@@ -42,6 +43,7 @@ pub record PlainTables (s new : State) : Type 0 where
   pub object : new.frame.object ≡ s.frame.object
   pub labels : new.labels ≡ s.labels
   pub functions : new.functions ≡ s.functions
+  pub image : KeepsGlobals s new
 
 pub record PlainList (g : Stage) (s new : State) : Type 0 where
   pub tables : PlainTables s new
@@ -78,7 +80,7 @@ GoodParameter w = (g : Stage) (s new : State) (x : CType) → w g s ≡ Ok (x, n
 
 -- an operand stands right, and leaves the value that its type says
 abbrev pub Good : Around → Operand → Type 0
-Good a o = IsRight a o
+Good a o = IsRight a o × IsUsed o
 
 -- where it runs in a function, it stands right anywhere
 abbrev pub Anywhere : Stage → Operand → Type 0
@@ -89,4 +91,8 @@ Anywhere stage.Dollar o = (a : Around) → Good a o
 pub record GoodNode (many : ℕ) (n : Node) : Type 0 where
   pub keeps : (g : Stage) → IsKeeping g (n.walk g)
   pub does : (g : Stage) → Does many g (λ r o. Good (at g r) o) (n.walk g)
+  -- so does a string, also in parentheses
+  pub string : is_some n.written.string ≡ true → (g : Stage) (s new : State) (o : Operand) → n.walk g s ≡ Ok (o, new) → Plain g s new
+  -- the captures of a walk are few, whatever is known
+  pub few : (g : Stage) (s new : State) (o : Operand) → n.walk g s ≡ Ok (o, new) → length new.ticks.captures ≤ length s.ticks.captures + 1000000000
   pub constant : n.written.constant ≡ true → (g : Stage) (s new : State) (o : Operand) → n.walk g s ≡ Ok (o, new) → Plain g s new × Anywhere g o

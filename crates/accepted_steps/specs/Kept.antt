@@ -16,6 +16,12 @@ pub record Starts {A : Type 0} (xs ys : List A) : Type 0 where
 
 -- ---- an expression, or a type
 
+-- of the image only strings are added
+pub record KeepsGlobals (s new : State) : Type 0 where
+  pub end : new.image.end ≡ s.image.end
+  pub globals : new.image.globals ≡ s.image.globals
+  pub at : new.image.strings_at ≡ s.image.strings_at
+
 -- the tables that no expression and no type changes
 pub record KeepsTables (s new : State) : Type 0 where
   pub scopes : new.scopes ≡ s.scopes
@@ -25,6 +31,7 @@ pub record KeepsTables (s new : State) : Type 0 where
   pub object : new.frame.object ≡ s.frame.object
   pub labels : new.labels ≡ s.labels
   pub functions : new.functions ≡ s.functions
+  pub image : KeepsGlobals s new
 
 -- in a tick nothing but its captures grows; where the function runs, ticks are made
 pub record KeepsTick (s new : State) : Type 0 where
@@ -58,17 +65,18 @@ pub record GrowsTables (s new : State) : Type 0 where
   pub result : new.frame.result ≡ s.frame.result
   pub nodes : Starts s.frame.nodes new.frame.nodes
   pub functions : new.functions ≡ s.functions
+  pub image : KeepsGlobals s new
 
--- where the function runs, its variables grow; in a tick, the tick's
+-- where the function runs, its variables grow; in a tick, the tick's. A count that is cut says nothing
 pub record GrowsFunction (s new : State) : Type 0 where
   pub homes : Starts s.frame.homes new.frame.homes
-  pub object : s.frame.object ≤ new.frame.object
+  pub object : new.frame.object ≤ 4194304 → s.frame.object ≤ new.frame.object
   pub ticks : Starts s.ticks.all new.ticks.all
 
 pub record GrowsTick (s new : State) : Type 0 where
   pub homes : new.frame.homes ≡ s.frame.homes
   pub object : new.frame.object ≡ s.frame.object
-  pub inner : s.frame.inner ≤ new.frame.inner
+  pub inner : new.frame.inner ≤ 1000000000 → s.frame.inner ≤ new.frame.inner
   pub ticks : new.ticks.all ≡ s.ticks.all
   pub captures : Starts s.ticks.captures new.ticks.captures
 

@@ -6,7 +6,7 @@ use Rattle.c_types.specs.declared.names.Meaning.{Meaning}
 use Rattle.c_types.specs.declared.names.MeaningKind.{MeaningKind}
 use Rattle.c_types.specs.declared.names.MeaningKind.TheVariants as kind
 use Rattle.c_types.specs.Scopes.{Name, Scope, Scopes}
-use Rattle.c_shapes.specs.Shapes.{is_void}
+use Rattle.c_shapes.specs.Shapes.{is_void, is_vspec, inner}
 use Rattle.typed_tree.specs.declared.expression.CaptureKind.{CaptureKind}
 use Rattle.typed_tree.specs.declared.expression.Stmt.{Stmt}
 use Rattle.check_tables.specs.declared.frame.Home.{Home}
@@ -19,6 +19,7 @@ use Rattle.check_state.specs.declared.state.Stage.{Stage}
 use Rattle.check_state.specs.declared.state.Stage.TheVariants as stage
 use Rattle.check_state.specs.declared.state.State.{State}
 use Rattle.accepted_trees.specs.Places.{act, numbers_of}
+use Rattle.accepted_values.specs.Used.{IsLibrary}
 
 -- the numbers of the register variables of the blocks round the innermost one: those of the function, and those of the tick; and
 -- whether the innermost block is the tick's
@@ -72,13 +73,18 @@ pub data IsFunction (many : ℕ) (f : Functions) (name : Name) (n : ℕ) : Type 
   -- a prototype with the number that an earlier walk found
   Declared : (i : ℕ) (p : Prototype) → slice_get f.prototypes i ≡ Some p → n ≡ number p.name f → IsFunction many f name n
 
+-- a type that a variable may have: it has values, and where it is that of a variable of generated code, so does that
+pub record IsObject (t : CType) : Type 0 where
+  pub type : is_void t ≡ false
+  pub specified : is_vspec t ≡ true → is_void (inner t) ≡ false
+
 -- what a name means in a program of so many functions
 abbrev pub Means : ℕ → Stage → Blocks → State → Name → Meaning → MeaningKind → Type 0
-Means many g b s name m kind.Variable = IsVariable g b s m.index (slice_get s.frame.homes m.index) × (is_void m.ctype ≡ false)
-Means many g b s name m kind.Parameter = IsParameter g b s m.index (slice_get s.frame.homes m.index) × (is_void m.ctype ≡ false)
-Means many g b s name m kind.Global = is_void m.ctype ≡ false
-Means many g b s name m kind.Function = IsFunction many s.functions name m.index
-Means many g b s name m kind.Library = Unit {0}
+Means many g b s name m kind.Variable = IsVariable g b s m.index (slice_get s.frame.homes m.index) × IsObject m.ctype
+Means many g b s name m kind.Parameter = IsParameter g b s m.index (slice_get s.frame.homes m.index) × IsObject m.ctype
+Means many g b s name m kind.Global = IsObject m.ctype
+Means many g b s name m kind.Function = IsFunction many s.functions name m.index × (is_void m.ctype ≡ false)
+Means many g b s name m kind.Library = IsLibrary m.index m.ctype
 
 -- ---- each of them
 
@@ -112,6 +118,8 @@ pub record Small (g : Stage) (s : State) : Type 0 where
 pub record Knows (many : ℕ) (g : Stage) (b : Blocks) (ks : List (List CaptureKind)) (s : State) : Type 0 where
   pub names : EachScope (λ name m. Means many g b s name m m.kind) s.scopes
   pub ticks : length ks ≡ length s.ticks.all
+  -- frame objects stand at multiples of 4
+  pub object : (s.frame.object % 4 == 0) ≡ true
 
 -- what is known, where no count is cut
 abbrev pub Known : ℕ → Stage → Blocks → List (List CaptureKind) → State → Type 0

@@ -1,4 +1,6 @@
+pub mod Counts
 pub mod Good
+pub mod Items
 pub mod Kept
 pub mod Known
 pub mod Steps

@@ -1,9 +1,11 @@
 -- What a step of the walk makes stands right in each surrounding that agrees with the state after it.
-use Rattle.std.specs.Prelude.{◌≡◌, ℕ, ◌≤◌, Bool, true, false, nat_le, List, [], ◌∷◌, ◌++◌, length, map, slice_get, Option, Some, None, Ok}
+use Rattle.std.specs.Prelude.{◌≡◌, ℕ, min, ◌≤◌, Bool, true, false, nat_le, List, [], ◌∷◌, ◌++◌, length, map, slice_get, Option, Some, None, Ok}
 use Rattle.std.specs.List.{list_all}
 use Rattle.typed_tree.specs.declared.expression.CaptureKind.{CaptureKind}
+use Rattle.typed_tree.specs.declared.expression.CaptureKind.TheVariants as capture
 use Rattle.typed_tree.specs.declared.expression.Expr.{Expr}
 use Rattle.typed_tree.specs.declared.program.Tick.{Tick}
+use Rattle.typed_tree.specs.Sizes.{body_size}
 use Rattle.check_tables.specs.declared.functions.Functions.{Functions}
 use Rattle.check_tables.specs.declared.functions.Prototype.{Prototype}
 use Rattle.check_tables.specs.Functions.{number}
@@ -11,7 +13,7 @@ use Rattle.check_tables.specs.Walks.{Rule}
 use Rattle.check_state.specs.declared.state.Stage.{Stage}
 use Rattle.check_state.specs.declared.state.Stage.TheVariants as stage
 use Rattle.check_state.specs.declared.state.State.{State}
-use Rattle.accepted_trees.specs.Places.{Around, in_scope, in_function, part, kinds_of, stands_as_tick}
+use Rattle.accepted_trees.specs.Places.{Around, in_scope, in_function, part, stands_as_tick}
 use Rattle.accepted_trees.specs.Values.{body_uses_values, is_used}
 use Rattle.accepted_trees.specs.Accepted.{IsNumbered}
 use Rattle.accepted_steps.specs.Kept.{Starts}
@@ -29,9 +31,17 @@ at stage.Dollar r = r.function
 
 -- ---- captures
 
+abbrev pub first_kind : List CaptureKind → CaptureKind
+first_kind [] = capture.Dollar
+first_kind (k ∷ ks) = k
+
+-- the kind that a capture has
+abbrev pub one_kind : Expr → CaptureKind
+one_kind e = first_kind (part e).capture
+
 -- the kinds of a list of captures
 abbrev pub kinds : List Expr → List CaptureKind
-kinds es = kinds_of (map part es)
+kinds es = map one_kind es
 
 -- a tick has these captures first
 abbrev pub Captures : List CaptureKind → Option (List CaptureKind) → Type 0
@@ -65,6 +75,7 @@ pub record TickStands (a : Around) (t : Tick) (ks : List CaptureKind) : Type 0 w
   pub stands : stands_as_tick t.body (round_tick a ks) ≡ true
   pub values : body_uses_values t.body ≡ true
   pub numbers : IsNumbered t.body
+  pub size : t.size ≡ min (body_size t.body) 65536
 
 abbrev pub EachTick : Around → List Tick → List (List CaptureKind) → Type 0
 EachTick a [] [] = Unit {0}

@@ -1,0 +1,12 @@
+pub mod Bodies
+pub mod Calls
+pub mod Captures
+pub mod Dollar
+pub mod Meant
+pub mod Named
+pub mod Names
+pub mod Nodes
+pub mod Productions
+pub mod Steps
+pub mod Ticks
+pub mod Walk

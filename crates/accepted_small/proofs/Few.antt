@@ -1,0 +1,62 @@
+-- The walk over a layer of a small tree captures few things.
+use Rattle.std.proofs.Common.{ℕ, ◌≤◌, List, [], ◌∷◌, map, subst, arith}
+use Rattle.tick_tree.specs.declared.syntax.Expr.{roll-Expr}
+use Rattle.tick_tree.specs.declared.syntax.Stmt.{Stmt, roll-Stmt}
+use Rattle.tick_tree.specs.declared.syntax.Core.TheOpen.{Expr-F}
+use Rattle.check_state.specs.declared.state.State.{State}
+use Rattle.check_expressions.specs.Rules.{tick_around}
+use Rattle.tick_checker.specs.Walk.{item}
+use Rattle.light_steps.specs.Light.{Light, LightNode, LightItem, Each, none, more}
+use Rattle.light_steps.proofs.Expressions.{block_light}
+use Rattle.accepted_weights.specs.Weights.{total, weight, statement_weight, expr_nodes}
+use Rattle.accepted_weights.proofs.Folds.{weigh-Expr, weighed-Expr}
+use Rattle.accepted_weights.proofs.Tree.{expr_light, stmt_light}
+use Rattle.accepted_steps.specs.Items.{Few}
+use Rattle.accepted_walks.proofs.Induction.{Expr-T, Stmt-T, walkedExpr, walkedStmt, walk_expr, walk_stmt}
+use Rattle.accepted_small.specs.Good.{FewBlock, FewParts, FewExpr, FewStmt}
+
+light_few : (w : ℕ) (s new : State) → w ≤ 1000000000 → Light w s new → Few s new
+light_few w s new h l = (omega (arith, l.captures), omega (arith, l.inner))
+
+items_light : (xs : List Stmt) → Each LightItem (total (map statement_weight xs)) (map item xs)
+items_light [] = none
+items_light (x ∷ xs) = more (stmt_light x) (items_light xs)
+
+few_block : (xs : List Stmt) → total (map statement_weight xs) ≤ 1000000000 → FewBlock (map item xs)
+few_block xs h s new x e = light_few (total (map statement_weight xs)) s new h ((block_light (map item xs) tick_around (items_light xs)).light s new x e)
+
+few_parts : (x : Expr-T) → expr_nodes (weighed-Expr x) ≤ 1000000000 → FewParts (walkedExpr x)
+few_parts (Expr-F.TickBlock line xs) h = few_block xs (omega arith)
+few_parts (Expr-F.Expr::Name line name) h = tt
+few_parts (Expr-F.Number n unsigned) h = tt
+few_parts (Expr-F.Character n) h = tt
+few_parts (Expr-F.String bytes) h = tt
+few_parts (Expr-F.Expr::Paren a) h = tt
+few_parts (Expr-F.Compile line a t) h = tt
+few_parts (Expr-F.Expr::Local line t) h = tt
+few_parts (Expr-F.Param line t a) h = tt
+few_parts (Expr-F.Index line a b) h = tt
+few_parts (Expr-F.Call line c list) h = tt
+few_parts (Expr-F.Step line op a) h = tt
+few_parts (Expr-F.Unary line op a) h = tt
+few_parts (Expr-F.Tick line a) h = tt
+few_parts (Expr-F.Cast line t a) h = tt
+few_parts (Expr-F.Sizeof line t) h = tt
+few_parts (Expr-F.Binary line op a b) h = tt
+few_parts (Expr-F.Choice line c a b) h = tt
+few_parts (Expr-F.Assign line a b) h = tt
+few_parts (Expr-F.Modify line op a b) h = tt
+few_parts (Expr-F.Comma line a b) h = tt
+
+pub few_expr : (x : Expr-T) → weight (roll-Expr x) ≤ 1000000000 → FewExpr (walkedExpr x)
+few_expr x h =
+    let l = subst (λ n. LightNode (weight (roll-Expr x)) n) (walk_expr x) (expr_light (roll-Expr x)) in
+    record {
+      walk = λ g s new o e. (light_few (weight (roll-Expr x)) s new h ((l.at g).light s new o e)).0;
+      parts = few_parts x (subst (λ w. w ≤ 1000000000) (weigh-Expr x) h);
+    }
+
+pub few_stmt : (x : Stmt-T) → statement_weight (roll-Stmt x) ≤ 1000000000 → FewStmt (walkedStmt x)
+few_stmt x h a s new xs e =
+    let l = subst (λ n. LightItem (statement_weight (roll-Stmt x)) n) (walk_stmt x) (stmt_light (roll-Stmt x)) in
+    light_few (statement_weight (roll-Stmt x)) s new h ((l.at a).light s new xs e)

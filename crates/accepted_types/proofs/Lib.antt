@@ -1,0 +1,14 @@
+pub mod Constants
+pub mod Fixed
+pub mod Fronts
+pub mod Keeps
+pub mod Knowing
+pub mod Lengths
+pub mod Names
+pub mod NodeRules
+pub mod Plain
+pub mod Plainly
+pub mod Productions
+pub mod Strings
+pub mod Types
+pub mod Walks

@@ -1,0 +1,10 @@
+pub mod Broken
+pub mod Calls
+pub mod Combining
+pub mod Declared
+pub mod Nodes
+pub mod Operands
+pub mod Operators
+pub mod Places
+pub mod Stages
+pub mod Types

@@ -1,0 +1,67 @@
+-- How an expression is written: what has the form of a constant, and what is a string.
+use Rattle.std.proofs.Common.{◌≡◌, Bool, true, false, refl}
+use Rattle.std.specs.Prelude.{◌&&◌, is_some}
+use Rattle.c_forms.specs.Forms.{is_strict}
+use Rattle.tick_tree.specs.declared.syntax.Core.TheOpen.{Expr-F}
+use Rattle.tick_checker.specs.Walk.{Expr-W, written_rule}
+use Rattle.accepted_types.specs.Parts.{HasForm, IsString}
+
+first_true : (b c : Bool) → (b && c) ≡ true → b ≡ true
+first_true true c h = refl
+first_true false c h = h
+
+second_true : (b c : Bool) → (b && c) ≡ true → c ≡ true
+second_true true c h = h
+second_true false c h = cc
+
+never : false ≡ true → true ≡ false
+never h = cc
+
+pub form_of : (e : Expr-W) → (written_rule e).constant ≡ true → HasForm e
+form_of (Expr-F.Number n unsigned) h = tt
+form_of (Expr-F.Character n) h = tt
+form_of (Expr-F.Expr::Paren a) h = h
+form_of (Expr-F.Unary line op a) h = h
+form_of (Expr-F.Cast line t a) h = second_true t.integer a.written.constant h
+form_of (Expr-F.Sizeof line t) h = tt
+form_of (Expr-F.Binary line op a b) h = (
+  second_true (is_strict op) a.written.constant (first_true (is_strict op && a.written.constant) b.written.constant h),
+  second_true (is_strict op && a.written.constant) b.written.constant h,
+)
+form_of (Expr-F.Expr::Name line name) h = never h
+form_of (Expr-F.String bytes) h = never h
+form_of (Expr-F.Compile line a t) h = never h
+form_of (Expr-F.Expr::Local line t) h = never h
+form_of (Expr-F.Param line t a) h = never h
+form_of (Expr-F.Index line a b) h = never h
+form_of (Expr-F.Call line c list) h = never h
+form_of (Expr-F.Step line op a) h = never h
+form_of (Expr-F.Tick line a) h = never h
+form_of (Expr-F.TickBlock line items) h = never h
+form_of (Expr-F.Choice line c a b) h = never h
+form_of (Expr-F.Assign line a b) h = never h
+form_of (Expr-F.Modify line op a b) h = never h
+form_of (Expr-F.Comma line a b) h = never h
+
+pub string_of : (e : Expr-W) → is_some (written_rule e).string ≡ true → IsString e
+string_of (Expr-F.String bytes) h = tt
+string_of (Expr-F.Expr::Paren a) h = h
+string_of (Expr-F.Number n unsigned) h = never h
+string_of (Expr-F.Character n) h = never h
+string_of (Expr-F.Unary line op a) h = never h
+string_of (Expr-F.Cast line t a) h = never h
+string_of (Expr-F.Sizeof line t) h = never h
+string_of (Expr-F.Binary line op a b) h = never h
+string_of (Expr-F.Expr::Name line name) h = never h
+string_of (Expr-F.Compile line a t) h = never h
+string_of (Expr-F.Expr::Local line t) h = never h
+string_of (Expr-F.Param line t a) h = never h
+string_of (Expr-F.Index line a b) h = never h
+string_of (Expr-F.Call line c list) h = never h
+string_of (Expr-F.Step line op a) h = never h
+string_of (Expr-F.Tick line a) h = never h
+string_of (Expr-F.TickBlock line items) h = never h
+string_of (Expr-F.Choice line c a b) h = never h
+string_of (Expr-F.Assign line a b) h = never h
+string_of (Expr-F.Modify line op a b) h = never h
+string_of (Expr-F.Comma line a b) h = never h

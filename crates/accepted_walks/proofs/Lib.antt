@@ -1,0 +1,4 @@
+pub mod Declarators
+pub mod Fixed
+pub mod Forms
+pub mod Induction

@@ -1,0 +1,31 @@
+-- The walk over the items of a program makes nothing grow by more than their weight.
+use Rattle.std.proofs.Common.{◌≡◌, ℕ, ◌+◌, ◌≤◌, List, [], ◌∷◌, map, length, refl, Result, Ok, Err, arith}
+use Rattle.tick_tree.specs.declared.syntax.Declaration.{Declaration}
+use Rattle.tick_tree.specs.declared.syntax.External.{External}
+use Rattle.tick_tree.specs.declared.syntax.External.TheVariants as ext
+use Rattle.tick_tree.specs.declared.syntax.Stmt.{Stmt}
+use Rattle.tick_tree.specs.Faults.{Checked}
+use Rattle.check_tables.specs.Walks.{Rule, ◌>>=◌, pure}
+use Rattle.check_state.specs.declared.state.State.{State}
+use Rattle.tick_checker.specs.Parameters.{parameters_of}
+use Rattle.tick_checker.specs.Program as program
+use Rattle.tick_checker.specs.Walk.{item, shape, declaration}
+use Rattle.light_steps.specs.Light.{Light, Bounded, LightItem, Each, none, more}
+use Rattle.light_steps.proofs.Walks.{weak, pure_light, bind_light}
+use Rattle.accepted_weights.specs.Weights.{total, statement_weight, declarator_weight, declaration_weight, item_weight}
+use Rattle.accepted_weights.proofs.Functions.{function_light}
+use Rattle.accepted_weights.proofs.Given.{parameters_few}
+use Rattle.accepted_weights.proofs.Globals.{declared_light}
+use Rattle.accepted_weights.proofs.Tree.{stmt_light, declarator_light, declaration_light}
+
+pub items_light : (xs : List Stmt) → Each LightItem (total (map statement_weight xs)) (map item xs)
+items_light [] = none
+items_light (x ∷ xs) = more (stmt_light x) (items_light xs)
+
+pub external_light : (x : External) → Bounded (item_weight x) (program.external x)
+external_light (ext.Function line b d xs) = weak _ (function_light line b (shape d) (parameters_of d) (map item xs) (declarator_light d) (parameters_few d) (items_light xs)) (omega arith)
+external_light (ext.Declaration d) = weak _ (declared_light (declaration d) (declaration_light d)) (omega arith)
+
+pub walk_light : (xs : List External) → Bounded (total (map item_weight xs)) (program.walk xs)
+walk_light [] = pure_light tt
+walk_light (x ∷ xs) = bind_light (external_light x) (λ u. walk_light xs)

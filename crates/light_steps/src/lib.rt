@@ -1,0 +1,2 @@
+//! How much a step of the checker's walk makes grow.
+#![tactic(auto)]
