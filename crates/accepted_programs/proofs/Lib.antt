@@ -9,6 +9,7 @@ pub mod Functions
 pub mod Given
 pub mod Globals
 pub mod Inside
+pub mod Listed
 pub mod Lists
 pub mod Made
 pub mod Main
