@@ -1,9 +1,11 @@
 pub mod Bodies
 pub mod Bools
+pub mod Bounds
 pub mod Checked
 pub mod Declared
 pub mod Done
 pub mod Files
+pub mod Fills
 pub mod Finish
 pub mod Functions
 pub mod Given
