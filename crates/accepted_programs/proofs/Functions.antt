@@ -34,7 +34,7 @@ use Rattle.tick_checker.specs.Program.{around}
 use Rattle.accepted_trees.specs.Accepted as accepted
 use Rattle.accepted_steps.specs.Good.{any_computed, GoodShape, Plain}
 use Rattle.accepted_steps.specs.Items.{GoodStatement}
-use Rattle.accepted_steps.specs.Kept.{Starts, Grows, IsGrowing, outer}
+use Rattle.accepted_steps.specs.Kept.{Starts, KeepsGlobals, Grows, IsGrowing, outer}
 use Rattle.accepted_steps.specs.Known.{EachEntry, Small, is_number, IsFunction, Numbered}
 use Rattle.accepted_steps.specs.Steps.{EachTick}
 use Rattle.accepted_programs.proofs.Bools.{and_left, and_right, true_le}
@@ -72,6 +72,7 @@ first_named (step.Unlisted ∷ ss) = refl
 
 pub record Typed (line : ℕ) (b : Base) (d : Shape) (gs : List Given) (s new : State) (t : CType) : Type 0 where
   pub still : Still s new
+  pub image : KeepsGlobals s new
   pub value : is_void t ≡ false
   pub few : length (types_of t) ≤ 8
   pub enough : length (types_of t) ≤ length gs
@@ -84,6 +85,7 @@ function_typed many line b d gs items s new t good r =
     let types : types_of t ≡ first_list r.steps = first_types (words.base_of b) (names.named_steps r.steps) t f ∙ first_named r.steps in
     record {
       still = plain_still s new (good.shape stage.Function s new r.steps r.walked computed);
+      image = (good.shape stage.Function s new r.steps r.walked computed).tables.image;
       value = file_value (words.base_of b) (names.named_steps r.steps) t f;
       few = subst (λ (ts : List CType). length ts ≤ 8) (sym (first_types (words.base_of b) (names.named_steps r.steps) t f)) (first_few (words.base_of b) (names.named_steps r.steps) f.worst);
       enough = subst (λ (ts : List CType). length ts ≤ length gs) (sym types) (good.enough s new r.steps r.walked);

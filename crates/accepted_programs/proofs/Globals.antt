@@ -25,7 +25,7 @@ use Rattle.tick_checker.specs.Program as program
 use Rattle.tick_checker.specs.Walk.{Start, Nothing, Value, Values, InitParts, Declarations, with_start}
 use Rattle.accepted_values.proofs.Declared.{types_use}
 use Rattle.accepted_steps.specs.Good.{any_computed, GoodShape}
-use Rattle.accepted_steps.specs.Kept.{Starts}
+use Rattle.accepted_steps.specs.Kept.{Starts, KeepsGlobals}
 use Rattle.accepted_steps.specs.Known.{EachEntry, IsObject, IsFunction, Declared}
 use Rattle.accepted_programs.proofs.Bools.{get_last}
 use Rattle.accepted_programs.proofs.Declared.{FileType, file_type, none_computed, named_computed, filled_computed}
@@ -92,7 +92,7 @@ global_still many s new sc one h = record {
 
 -- ---- a prototype
 
-prototype_done : (many line : ℕ) (name : Name) (t : CType) (s new : State) (u : Unit {0}) (sc : Scope) → s.scopes ≡ sc ∷ [] → is_void t ≡ false
+pub prototype_done : (many line : ℕ) (name : Name) (t : CType) (s new : State) (u : Unit {0}) (sc : Scope) → s.scopes ≡ sc ∷ [] → is_void t ≡ false
     → names.prototype line name t s ≡ Ok (u, new) → GlobalDone many s new sc
 prototype_done many line name t s new u sc one value is =
     let n : NamedPrototype line name t s new sc = prototype_named line name t s new u sc one is in
@@ -113,7 +113,7 @@ prototype_done many line name t s new u sc one value is =
 
 -- ---- a variable
 
-variable_done : (many line : ℕ) (name : Name) (t : CType) (s new : State) (at : ℕ) (sc : Scope) → s.scopes ≡ sc ∷ [] → IsObject t
+pub variable_done : (many line : ℕ) (name : Name) (t : CType) (s new : State) (at : ℕ) (sc : Scope) → s.scopes ≡ sc ∷ [] → IsObject t
     → names.variable line name t s ≡ Ok (at, new) → GlobalDone many s new sc
 variable_done many line name t s new at sc one object is =
     let n : NamedVariable name t s new at sc = variable_named line name t s new at sc one is in
@@ -136,11 +136,16 @@ started Nothing ss = refl
 started (Value e) ss = filled_computed _ ss
 started (Values es) ss = filled_computed _ ss
 
-pub record GlobalType (s new : State) (t : CType) : Type 0 where
+pub record GlobalType (line : ℕ) (b : Base) (d : Shape) (start : Start) (s new : State) (t : CType) : Type 0 where
   pub still : Still s new
+  pub image : KeepsGlobals s new
+  pub steps : List Step
+  pub to : State
+  pub walked : d.walk stage.Function s ≡ Ok (steps, to)
+  pub typed : declared_type role.FileScope line (words.base_of b) (with_start start (names.named_steps steps)) ≡ Ok t
   pub object : IsObject t
 
-global_typed : (line : ℕ) (b : Base) (d : Shape) (start : Start) (s new : State) (t : CType) → GoodShape d → program.global_type line b d start s ≡ Ok (t, new) → GlobalType s new t
+pub global_typed : (line : ℕ) (b : Base) (d : Shape) (start : Start) (s new : State) (t : CType) → GoodShape d → program.global_type line b d start s ≡ Ok (t, new) → GlobalType line b d start s new t
 global_typed line b d start s new t good is =
     let p : Parts (d.walk stage.Function) (λ ss. lift (declared_type role.FileScope line (words.base_of b) (with_start start (names.named_steps ss)))) s new t
           = parts (d.walk stage.Function) (λ ss. lift (declared_type role.FileScope line (words.base_of b) (with_start start (names.named_steps ss)))) s new t is in
@@ -151,6 +156,11 @@ global_typed line b d start s new t good is =
                  = sym (named_computed p.answer) ∙ sym (started start (names.named_steps p.answer)) ∙ none_computed (with_start start (names.named_steps p.answer)) (words.base_of b) [] f.worst in
     record {
       still = subst (λ (z : State). Still s z) (sym l.same) (plain_still s p.between (good stage.Function s p.between p.answer p.first computed));
+      image = subst (λ (z : State). KeepsGlobals s z) (sym l.same) (good stage.Function s p.between p.answer p.first computed).tables.image;
+      steps = p.answer;
+      to = p.between;
+      walked = p.first;
+      typed = l.gave;
       object = record {
         type = types_use.declared role.FileScope line (words.base_of b) (with_start start (names.named_steps p.answer)) t refl l.gave;
         specified = types_use.vspec role.FileScope line (words.base_of b) (with_start start (names.named_steps p.answer)) t l.gave;
@@ -178,12 +188,12 @@ named_case : (b : Bool) (many line : ℕ) (t : CType) (d : Shape) (start : Start
 named_case true many line t d start s new u sc one object good is = prototype_parts many line t d start s new u sc one object is
 named_case false many line t d start s new u sc one object good is = variable_parts many line t d start s new u sc one object good is
 
-global_done : (many line : ℕ) (b : Base) (i : InitParts) (s new : State) (u : Unit {0}) (sc : Scope) → GoodInit i → s.scopes ≡ sc ∷ []
+pub global_done : (many line : ℕ) (b : Base) (i : InitParts) (s new : State) (u : Unit {0}) (sc : Scope) → GoodInit i → s.scopes ≡ sc ∷ []
     → program.global line b i s ≡ Ok (u, new) → GlobalDone many s new sc
 global_done many line b i s new u sc good one is =
     let p : Parts (program.global_type line b i.shape i.start) (λ t. program.named line t i.shape i.start) s new u
           = parts (program.global_type line b i.shape i.start) (λ t. program.named line t i.shape i.start) s new u is in
-    let ty : GlobalType s p.between p.answer = global_typed line b i.shape i.start s p.between p.answer good.shape p.first in
+    let ty : GlobalType line b i.shape i.start s p.between p.answer = global_typed line b i.shape i.start s p.between p.answer good.shape p.first in
     let first : GlobalDone many s p.between sc = global_still many s p.between sc one ty.still in
     global_more many s p.between new sc first
       (named_case (is_function p.answer) many line p.answer i.shape i.start p.between new u first.scope first.one ty.object good.start p.second)

@@ -4,6 +4,7 @@ pub mod Bounds
 pub mod Checked
 pub mod Declared
 pub mod Done
+pub mod Ends
 pub mod Files
 pub mod Fills
 pub mod Finish
