@@ -11,7 +11,9 @@ use Rattle.typed_tree.specs.Sizes.{body_size}
 use Rattle.check_tables.specs.declared.functions.Functions.{Functions}
 use Rattle.check_tables.specs.declared.functions.Prototype.{Prototype}
 use Rattle.check_tables.specs.declared.ticks.Ticks.{Ticks}
+use Rattle.check_tables.specs.declared.image.Image.{Image}
 use Rattle.check_tables.specs.Functions as tables
+use Rattle.check_tables.specs.Images as images
 use Rattle.check_state.specs.declared.state.State.{State}
 use Rattle.check_state.specs.Starts.{empty, emptied}
 use Rattle.check_globals.specs.Programs.{typed, image, tick_fits}
@@ -21,6 +23,8 @@ use Rattle.accepted_steps.specs.Kept.{Starts}
 use Rattle.accepted_steps.specs.Known.{is_number}
 use Rattle.accepted_steps.specs.Steps.{EachTick, TickStands}
 use Rattle.accepted_programs.proofs.Bools.{true_le}
+use Rattle.accepted_programs.proofs.Bounds.{Bounded, image_small}
+use Rattle.accepted_programs.proofs.Ends.{AllFit, AllFixed, ImageKept, walk_image, walks_end}
 use Rattle.accepted_programs.proofs.Checked.{Ran, ran}
 use Rattle.accepted_programs.proofs.Files.{many, End, AtFile, EachLinked, names_of, round}
 use Rattle.accepted_programs.proofs.Finish.{Finished, finished_gives, Limits, limits, tick_fit, words_small}
@@ -135,9 +139,27 @@ is_accepted s e p ns t f end w none no_ticks bytes =
       small = words_small e end.limits;
     }
 
--- given the parts, and that the bytes of the image are few
-pub program_accepted : (t : Tree) (p : Typed) → ((n : ℕ) → EachGood n t.items) → ((r : Ran t.items p) → length (image r.last.1.image) ≤ 4194304) → checked t ≡ Ok p → accepted.IsAccepted p
-program_accepted t p good bytes is =
+-- ---- the image
+
+image_few : (xs : List External) (p : Typed) → AllFit → EachGood 0 xs → AllFixed xs → (r : Ran xs p) → Finished r.last.1 p → length (image r.last.1.image) ≤ 4194304
+image_few xs p fit good fixed r f =
+    let l : Library empty r.begin.1 = started r.begin.1 r.begin.0 r.one in
+    let b : Begun r.first.1 r.middle.1 = second_begun xs p r in
+    let one : r.begin.1.scopes ≡ l.scope ∷ [] = ap (λ (z : State). z.scopes) l.is in
+    let defined : r.begin.1.functions.defined ≡ [] ∷ [] = ap (λ (z : State). z.functions.defined) l.is in
+    let again : r.middle.1.functions.defined ≡ [] ∷ [] = ap (λ (f : Functions). f.defined) b.functions in
+    let first : r.begin.1.image ≡ images.new = ap (λ (z : State). z.image) l.is in
+    let second : r.middle.1.image ≡ images.again r.first.1.image = ap (λ (z : State). z.image) b.library.is in
+    let k : ImageKept r.middle.1 r.last.1 = walk_image fit xs r.middle.1 r.last.1 r.last.0 b.library.scope [] good b.one again r.four in
+    let ends : r.first.1.image.end ≡ r.last.1.image.end
+             = walks_end fit xs r.begin.1 r.first.1 r.middle.1 r.last.1 r.first.0 r.last.0 l.scope b.library.scope [] [] good fixed one b.one defined again r.two r.four
+                 (ap (λ (i : Image). i.end) first ∙ sym (ap (λ (i : Image). i.end) second)) in
+    image_small r.last.1.image r.first.1.image.end (k.strings ∙ ap (λ (i : Image). i.strings_at) second) (sym ends)
+      (k.bounded (subst Bounded (sym second) (λ h. omega arith))) (limits r.last.1 f.fits).image
+
+-- given the parts
+pub program_accepted : (t : Tree) (p : Typed) → AllFit → ((n : ℕ) → EachGood n t.items) → AllFixed t.items → checked t ≡ Ok p → accepted.IsAccepted p
+program_accepted t p fit good fixed is =
     let r : Ran t.items p = ran t p is in
     let b : Begun r.first.1 r.middle.1 = second_begun t.items p r in
     let tb : Tabled (functions_in t.items) r.last.1 = tabled t.items p (good 0) r in
@@ -146,4 +168,4 @@ program_accepted t p good bytes is =
     let w : Walked r.last.1 [] r.middle.1
           = walked r.last.1 t.items [] r.middle.1 r.last.0 end (good (many r.last.1)) (begun_file r.last.1 r.first.1 r.middle.1 b) (ap length (sym b.ticks)) r.four in
     subst (λ (q : Typed). accepted.IsAccepted q) (sym f.is)
-      (is_accepted r.middle.1 r.last.1 p (functions_in t.items) tb f end w (ap (λ (g : Functions). g.all) b.functions) b.ticks (bytes r))
+      (is_accepted r.middle.1 r.last.1 p (functions_in t.items) tb f end w (ap (λ (g : Functions). g.all) b.functions) b.ticks (image_few t.items p fit (good 0) fixed r f))
