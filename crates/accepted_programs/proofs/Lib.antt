@@ -19,6 +19,7 @@ pub mod Main
 pub mod Names
 pub mod Parameters
 pub mod Placed
+pub mod Room
 pub mod Runs
 pub mod Scopes
 pub mod Second
