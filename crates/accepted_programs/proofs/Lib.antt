@@ -8,6 +8,7 @@ pub mod Ends
 pub mod Files
 pub mod Fills
 pub mod Finish
+pub mod Fits
 pub mod Functions
 pub mod Given
 pub mod Globals

@@ -237,7 +237,7 @@ no_base base.Void h = absurd (cc)
 no_base (base.Integer k) h = (k, refl)
 
 -- one value fits
-value_fits : (b : Base) (ss : List Step) → Layers b ss → HasValue (ctype b (made ss [])) → bytes_in (ctype b (made ss [])) ≤ size_of (ctype b (made ss []))
+pub value_fits : (b : Base) (ss : List Step) → Layers b ss → HasValue (ctype b (made ss [])) → bytes_in (ctype b (made ss [])) ≤ size_of (ctype b (made ss []))
 value_fits b [] h v =
     let k : (k : Integer) × (b ≡ base.Integer k) = no_base b h.value in
     subst (λ (x : Base). bytes_in (ctype x []) ≤ size_of (ctype x [])) (sym k.1) (integer_fits k.0)
@@ -264,7 +264,7 @@ array_case true v n size h = absurd (cc)
 array_case false true n size h = absurd (cc)
 array_case false false n size h = (refl, refl, count_small n size (is_count n size) refl h)
 
-arrayed : (b : Base) (ms : List Layer) (n : ℕ) → breaks (out-Layer (layer.Array n)) b ms ≡ None → Arrayed b ms n
+pub arrayed : (b : Base) (ms : List Layer) (n : ℕ) → breaks (out-Layer (layer.Array n)) b ms ≡ None → Arrayed b ms n
 arrayed b ms n h =
     let e : array_breaks n b ms ≡ None = ap (λ (o : Opened). breaks o b ms) (sym (layer.outs-Array n)) ∙ h in
     let r : (making.is_function ms ≡ false) × (is_void b ms ≡ false) × (bytes b ms * n ≤ 4194304) = array_case (making.is_function ms) (is_void b ms) n (bytes b ms * n) e in
@@ -283,14 +283,14 @@ take_last xs x =
     let n : length (xs ++ x ∷ []) - 1 ≡ length xs = (let l : length (xs ++ x ∷ []) ≡ suc (length xs) = length_one xs x in omega arith) in
     ap (λ (i : ℕ). take i (xs ++ x ∷ [])) n ∙ take_front xs (x ∷ [])
 
-under_last : (ls : List Layer) (l : Layer) → under (ls ++ l ∷ []) ≡ ls
+pub under_last : (ls : List Layer) (l : Layer) → under (ls ++ l ∷ []) ≡ ls
 under_last ls l = take_last ls l
 
-elements : (b : Base) (ms : List Layer) (n : ℕ) → statics.elements_of (ctype b (ms ++ layer.Array n ∷ [])) ≡ n
+pub elements : (b : Base) (ms : List Layer) (n : ℕ) → statics.elements_of (ctype b (ms ++ layer.Array n ∷ [])) ≡ n
 elements b ms n = ap statics.elements_by (outermost_last ms (layer.Array n)) ∙ ap statics.elements_at (layer.outs-Array n)
 
 -- the size of an array whose elements have one
-array_size : (b : Base) (ms : List Layer) (n : ℕ) → is_sized_under (is_integer_base b) ms ≡ true → Arrayed b ms n → size_of (ctype b (ms ++ layer.Array n ∷ [])) ≡ size_under (base_size b) ms * n
+pub array_size : (b : Base) (ms : List Layer) (n : ℕ) → is_sized_under (is_integer_base b) ms ≡ true → Arrayed b ms n → size_of (ctype b (ms ++ layer.Array n ∷ [])) ≡ size_under (base_size b) ms * n
 array_size b ms n sized a =
     let size : size_under (base_size b) (ms ++ layer.Array n ∷ []) ≡ size_under (base_size b) ms * n = size_last (base_size b) ms (layer.Array n) ∙ ap (size_at (size_under (base_size b) ms)) (layer.outs-Array n) in
     let whole : is_sized_under (is_integer_base b) (ms ++ layer.Array n ∷ []) ≡ true = sized_last (is_integer_base b) ms (layer.Array n) ∙ ap (is_sized_at (is_sized_under (is_integer_base b) ms)) (layer.outs-Array n) ∙ sized in
@@ -310,7 +310,7 @@ some_bytes : (t : CType) → 1 ≤ bytes_in t
 some_bytes t = width_some (width_of t)
 
 -- values of a list fit in an array
-list_fits : (b : Base) (ss : List Step) (n : ℕ) → worst ss b [] ≡ None → Arrayed b (made ss []) n → HasValue (ctype b (made ss [])) → (m : ℕ) → m ≤ n
+pub list_fits : (b : Base) (ss : List Step) (n : ℕ) → worst ss b [] ≡ None → Arrayed b (made ss []) n → HasValue (ctype b (made ss [])) → (m : ℕ) → m ≤ n
     → m * bytes_in (ctype b (made ss [])) ≤ size_of (ctype b (made ss [] ++ layer.Array n ∷ []))
 list_fits b ss n w a v m few =
     let one : bytes_in (ctype b (made ss [])) ≤ size_of (ctype b (made ss [])) = value_fits b ss (record { worst = w; value = a.value; other = a.other }) v in
