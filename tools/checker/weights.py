@@ -1,6 +1,7 @@
 #!/usr/bin/env python3
-"""Writes crates/accepted_weights/specs/Weights.antt and proofs/Tree.antt: the fold that counts the nodes of a tree, and the induction
-over the types of the tree that the walk over a part makes nothing grow by more than its nodes."""
+"""weights.py CRATES: writes crates/tree_weights (specs/Weights, specs/Layers, proofs/Folds, proofs/Small): the fold that counts the nodes
+of a tree, and the induction over small trees; crates/accepted_weights (proofs/Walks, proofs/Tree, proofs/Given): that the walk over a
+part makes nothing grow by more than its nodes; and crates/parsed_weights (proofs/Spelled): that a tree has few nodes for its words."""
 import sys
 T = ["Core", "Expr", "Initializer", "OptionalExpr", "Stmt", "Suffix", "Declaration", "Declarator", "Init", "Parameter", "Typename"]
 WALK = dict(zip(T, "core node initializer optional item suffix declaration shape init parameter named".split()))
@@ -124,28 +125,55 @@ abbrev pub tree_weight : Tree → ℕ
 tree_weight t = 1 + total (map item_weight t.items)
 """
 
-weigh = """-- The weight of a node by those of its parts, a layer of each type of the tree. Written by tools/checker/weights.py.
-use Rattle.std.proofs.Common.{◌≡◌, ℕ, ◌+◌, List, [], ◌∷◌, map, refl}
-use Rattle.std.specs.Prelude.{Option}
-""" + "".join(f"use Rattle.tick_tree.specs.declared.syntax.{t}.{{{t}, roll-{t}}}\n" for t in T) + f"""use Rattle.tick_tree.specs.declared.syntax.Core.TheOpen.{{{", ".join(t + "-F" for t in T)}}}
-use Rattle.tick_tree.specs.declared.syntax.Core.TheFolds.{{{", ".join("map-" + t for t in T)}, {", ".join("fold-roll-" + t for t in T)}}}
-use Rattle.check_expressions.specs.Rules.{{Node, Named, Shape, Item}}
-use Rattle.tick_checker.specs.Walk.{{Start, InitParts, Declarations, SuffixWalk, TypeWalk, {", ".join(t + "-W" for t in T)}, {", ".join(WRULE[t] for t in T)}, {", ".join(WALK[t] for t in T)}}}
-use Rattle.accepted_weights.specs.Weights.{{{", ".join(t + "-N" for t in T)}, {", ".join(NRULE[t] for t in T)}, {", ".join(WEIGHT[t] for t in T)}}}
+LAYERS = f"Rattle.tree_weights.specs.Layers.{{{', '.join(t + '-T' for t in T)}, {', '.join('weighed-' + t for t in T)}}}"
+TREES = "".join(f"use Rattle.tick_tree.specs.declared.syntax.{t}.{{{t}}}\n" for t in T)
+ROLLS = "".join(f"use Rattle.tick_tree.specs.declared.syntax.{t}.{{{t}, roll-{t}}}\n" for t in T)
+LAW = dict(zip(T, "core expression initializer optional statement suffix declaration declarator init parameter typename".split()))
 
--- ---- a layer of the tree, and what the folds make of it
+shapes = """-- A layer of each type of the tree, and the weights of its parts in their places. Written by tools/checker/weights.py.
+use Rattle.std.specs.Prelude.{◌≡◌, ℕ}
+""" + ROLLS + f"""use Rattle.tick_tree.specs.declared.syntax.Core.TheOpen.{{{", ".join(t + "-F" for t in T)}}}
+use Rattle.tick_tree.specs.declared.syntax.Core.TheFolds.{{{", ".join("map-" + t for t in T)}}}
+use Rattle.tree_weights.specs.Weights.{{{", ".join(t + "-N" for t in T)}, {", ".join(NRULE[t] for t in T)}, {", ".join(WEIGHT[t] for t in T)}}}
 
 """ + "\n".join(f"""abbrev pub {t}-T : Type 0
 {t}-T = {t}-F {trees}
 
 abbrev pub weighed-{t} : {t}-T → {t}-N
 weighed-{t} = map-{t} {trees} {nat} {weights}
+""" for t in T) + """
+-- a node weighs one more than its parts together, and so more than each
+pub record NodesWeighMore : Type 0 where
+""" + "".join(f"  pub {LAW[t]} : (x : {t}-T) → {WEIGHT[t]} (roll-{t} x) ≡ {NRULE[t]} (weighed-{t} x)\n" for t in T)
 
-abbrev pub walked-{t} : {t}-T → {t}-W
-walked-{t} = map-{t} {trees} {values} {walks}
-""" for t in T) + "\n-- ---- the folds\n\n" + "\n".join(f"""pub weigh-{t} : (x : {t}-T) → {WEIGHT[t]} (roll-{t} x) ≡ {NRULE[t]} (weighed-{t} x)
+folds = """-- The weight of a node by those of its parts. Written by tools/checker/weights.py.
+use Rattle.std.proofs.Common.{◌≡◌, ℕ}
+""" + ROLLS + f"""use Rattle.tick_tree.specs.declared.syntax.Core.TheFolds.{{{", ".join("fold-roll-" + t for t in T)}}}
+use Rattle.tree_weights.specs.Weights.{{{", ".join(NRULE[t] for t in T)}, {", ".join(WEIGHT[t] for t in T)}}}
+use {LAYERS}
+
+""" + "\n".join(f"""pub weigh-{t} : (x : {t}-T) → {WEIGHT[t]} (roll-{t} x) ≡ {NRULE[t]} (weighed-{t} x)
 unfolding {weights}
 weigh-{t} x = fold-roll-{t} {nat} {nrules} x
+""" for t in T)
+
+weighanswer = f"""use Rattle.tree_weights.proofs.Folds.{{{", ".join("weigh-" + t for t in T)}}}
+use Rattle.tree_weights.proofs.nodes_weigh_more.Goals as goal
+
+pub returns : goal.returns
+returns c = record {{ {"; ".join(LAW[t] + " = weigh-" + t for t in T)} }}
+"""
+
+walkfolds = """-- The walk over a node by those over its parts. Written by tools/checker/weights.py.
+use Rattle.std.proofs.Common.{◌≡◌}
+use Rattle.std.specs.Prelude.{Option}
+""" + ROLLS + f"""use Rattle.tick_tree.specs.declared.syntax.Core.TheFolds.{{{", ".join("map-" + t for t in T)}, {", ".join("fold-roll-" + t for t in T)}}}
+use Rattle.check_expressions.specs.Rules.{{Node, Named, Shape, Item}}
+use Rattle.tick_checker.specs.Walk.{{Start, InitParts, Declarations, SuffixWalk, TypeWalk, {", ".join(t + "-W" for t in T)}, {", ".join(WRULE[t] for t in T)}, {", ".join(WALK[t] for t in T)}}}
+use {LAYERS}
+
+""" + "\n".join(f"""abbrev pub walked-{t} : {t}-T → {t}-W
+walked-{t} = map-{t} {trees} {values} {walks}
 
 pub walk-{t} : (x : {t}-T) → {WALK[t]} (roll-{t} x) ≡ {WRULE[t]} (walked-{t} x)
 unfolding {walks}
@@ -153,8 +181,13 @@ walk-{t} x = fold-roll-{t} {values} {wrules} x
 """ for t in T)
 
 root = sys.argv[1]
-open(f"{root}/specs/Weights.antt", "w").write(spec)
-open(f"{root}/proofs/Folds.antt", "w").write(weigh)
+def write(name, text):
+    open(f"{root}/{name}.antt", "w").write(text)
+write("tree_weights/specs/Weights", spec)
+write("tree_weights/specs/Layers", shapes)
+write("tree_weights/proofs/Folds", folds)
+write("tree_weights/proofs/nodes_weigh_more/Answers", weighanswer)
+write("accepted_weights/proofs/Walks", walkfolds)
 
 layers = """-- The walk over each part of a tree makes nothing grow by more than the weight of the part: an induction over the types of the tree.
 -- Written by tools/checker/weights.py.
@@ -170,9 +203,11 @@ use Rattle.light_steps.proofs.States.{{named_light}}
 use Rattle.light_steps.proofs.Expressions as e
 use Rattle.light_steps.proofs.Statements as s
 use Rattle.accepted_weights.specs.Parts.{{LightStart, nothing, value, values, LightInit, LightDeclarations}}
-use Rattle.accepted_weights.specs.Weights.{{total, {", ".join(NRULE[t] for t in T)}, {", ".join(WEIGHT[t] for t in T)}}}
+use Rattle.tree_weights.specs.Weights.{{total, {", ".join(NRULE[t] for t in T)}, {", ".join(WEIGHT[t] for t in T)}}}
 use Rattle.accepted_weights.proofs.Declarations as d
-use Rattle.accepted_weights.proofs.Folds.{{{", ".join("weighed-" + t for t in T)}, {", ".join("walked-" + t for t in T)}, {", ".join("weigh-" + t for t in T)}, {", ".join("walk-" + t for t in T)}, {", ".join(t + "-T" for t in T)}}}
+use Rattle.accepted_weights.proofs.Walks.{{{", ".join("walked-" + t for t in T)}, {", ".join("walk-" + t for t in T)}}}
+use Rattle.tree_weights.proofs.Folds.{{{", ".join("weigh-" + t for t in T)}}}
+use {LAYERS}
 
 -- ---- what is shown of each part
 
@@ -267,7 +302,7 @@ layer-Suffix (Suffix-F.Listed ps) = record { at = λ g. s.list_light _ g (each_k
 }
 for t in T:
     layers = layers.replace(f"@{t}@", cases[t])
-open(f"{root}/proofs/Tree.antt", "w").write(layers)
+write("accepted_weights/proofs/Tree", layers)
 
 # ---- the parameters of a declarator
 P = dict(Core="Inner", Suffix="(List Given)", Declarator="Head", Parameter="Given")
@@ -285,8 +320,9 @@ use Rattle.std.proofs.Common.{◌≡◌, ℕ, ◌+◌, ◌≤◌, List, [], ◌�
 use Rattle.tick_tree.specs.declared.syntax.Core.TheFolds.{{{", ".join("map-" + t for t in T)}, ind-Declarator, fold-roll-Core, fold-roll-Suffix, fold-roll-Declarator}}
 use Rattle.check_globals.specs.Functions.{{Given}}
 use Rattle.tick_checker.specs.Parameters.{{Head, Inner, nothing, first_of, inner_rule, head_rule, list_rule, given_rule, inner, head, list, written, parameters_of}}
-use Rattle.accepted_weights.specs.Weights.{{total, {", ".join(NRULE[t] for t in T)}, {", ".join(WEIGHT[t] for t in T)}}}
-use Rattle.accepted_weights.proofs.Folds.{{weighed-Core, weighed-Suffix, weighed-Declarator, weighed-Parameter, weigh-Core, weigh-Suffix, weigh-Declarator, weigh-Parameter, Core-T, Suffix-T, Declarator-T, Parameter-T}}
+use Rattle.tree_weights.specs.Weights.{{total, {", ".join(NRULE[t] for t in T)}, {", ".join(WEIGHT[t] for t in T)}}}
+use Rattle.tree_weights.proofs.Folds.{{weigh-Core, weigh-Suffix, weigh-Declarator, weigh-Parameter}}
+use {LAYERS}
 
 abbrev Any : {{A : Type 0}} → A → Type 0
 Any x = Unit {{0}}
@@ -365,7 +401,7 @@ step-Parameter x = rw (weigh-Parameter x) (omega arith)
 pub parameters_few : (d : Declarator) → length (parameters_of d) ≤ declarator_weight d
 parameters_few = ind-Declarator {" ".join(few(t) for t in T)} {" ".join("(λ x y is. step-Parameter x)" if t == "Parameter" else "step-" + t if t in FEW else "(λ x y is. tt)" for t in T)}
 """
-open(f"{root}/proofs/Given.antt", "w").write(params)
+write("accepted_weights/proofs/Given", params)
 
 # ---- induction over what is small
 LO = dict(zip(T, "core expr initializer optional stmt suffix declaration declarator init parameter typename".split()))
@@ -374,8 +410,9 @@ small = """-- Induction over the parts of a tree that is small: what is shown of
 use Rattle.std.proofs.Common.{◌≡◌, ℕ, ◌+◌, ◌≤◌, List, [], ◌∷◌, map, refl, ap, sym, subst, ◌∙◌, arith}
 """ + "".join(f"use Rattle.tick_tree.specs.declared.syntax.{t}.{{{t}, roll-{t}}}\n" for t in T) + f"""use Rattle.tick_tree.specs.declared.syntax.Core.TheOpen.{{{", ".join(t + "-F" for t in T)}}}
 use Rattle.tick_tree.specs.declared.syntax.Core.TheFolds.{{{", ".join("map-" + t for t in T)}, {", ".join("ind-" + t for t in T)}}}
-use Rattle.accepted_weights.specs.Weights.{{total, {", ".join(NRULE[t] for t in T)}, {", ".join(WEIGHT[t] for t in T)}}}
-use Rattle.accepted_weights.proofs.Folds.{{{", ".join("weighed-" + t for t in T)}, {", ".join("weigh-" + t for t in T)}, {", ".join(t + "-T" for t in T)}}}
+use Rattle.tree_weights.specs.Weights.{{total, {", ".join(NRULE[t] for t in T)}, {", ".join(WEIGHT[t] for t in T)}}}
+use Rattle.tree_weights.proofs.Folds.{{{", ".join("weigh-" + t for t in T)}}}
+use {LAYERS}
 
 -- parts of a list
 pub record Lowered {{A : Type 0}} (P : A → Type 0) (xs : List A) : Type 0 where
@@ -488,4 +525,4 @@ pub {LO[t]}_small : {steps} → (x : {t}) → {WEIGHT[t]} x ≤ limit → P{t} x
 {LO[t]}_small {" ".join("s" + u for u in T)} = ind-{t} {qs} {ss}
 """
 small += "\n".join(("  " + l) if l else l for l in body.split("\n")).rstrip() + "\n"
-open(f"{root}/proofs/Small.antt", "w").write(small)
+write("tree_weights/proofs/Small", small)

@@ -1,7 +1,7 @@
 -- The walk over a layer of a small tree captures few things.
 use Rattle.std.proofs.Common.{ℕ, ◌≤◌, List, [], ◌∷◌, map, subst, arith}
 use Rattle.tick_tree.specs.declared.syntax.Expr.{roll-Expr}
-use Rattle.tick_tree.specs.declared.syntax.Stmt.{Stmt, roll-Stmt}
+use Rattle.tick_tree.specs.declared.syntax.Stmt.{Stmt}
 use Rattle.tick_tree.specs.declared.syntax.Core.TheOpen.{Expr-F}
 use Rattle.check_state.specs.declared.state.State.{State}
 use Rattle.check_expressions.specs.Rules.{tick_around}
@@ -12,8 +12,8 @@ use Rattle.accepted_weights.specs.Weights.{total, weight, statement_weight, expr
 use Rattle.accepted_weights.proofs.Folds.{weigh-Expr, weighed-Expr}
 use Rattle.accepted_weights.proofs.Tree.{expr_light, stmt_light}
 use Rattle.accepted_steps.specs.Items.{Few}
-use Rattle.accepted_walks.proofs.Induction.{Expr-T, Stmt-T, walkedExpr, walkedStmt, walk_expr, walk_stmt}
-use Rattle.accepted_small.specs.Good.{FewBlock, FewParts, FewExpr, FewStmt}
+use Rattle.accepted_walks.proofs.Induction.{Expr-T, walkedExpr, walk_expr}
+use Rattle.accepted_small.specs.Good.{FewBlock, FewParts, FewExpr}
 
 light_few : (w : ℕ) (s new : State) → w ≤ 1000000000 → Light w s new → Few s new
 light_few w s new h l = (omega (arith, l.captures), omega (arith, l.inner))
@@ -55,8 +55,3 @@ few_expr x h =
       walk = λ g s new o e. (light_few (weight (roll-Expr x)) s new h ((l.at g).light s new o e)).0;
       parts = few_parts x (subst (λ w. w ≤ 1000000000) (weigh-Expr x) h);
     }
-
-pub few_stmt : (x : Stmt-T) → statement_weight (roll-Stmt x) ≤ 1000000000 → FewStmt (walkedStmt x)
-few_stmt x h a s new xs e =
-    let l = subst (λ n. LightItem (statement_weight (roll-Stmt x)) n) (walk_stmt x) (stmt_light (roll-Stmt x)) in
-    light_few (statement_weight (roll-Stmt x)) s new h ((l.at a).light s new xs e)

@@ -1,49 +1,55 @@
 -- Each rule of the walk makes of good parts a good whole.
-use Rattle.std.proofs.Common.{ℕ}
-use Rattle.tick_tree.specs.declared.syntax.Core.TheOpen.{Core-F, Expr-F, Initializer-F, OptionalExpr-F, Suffix-F}
-use Rattle.tick_checker.specs.Walk.{Core-W, Expr-W, Initializer-W, OptionalExpr-W, Suffix-W, Declarator-W, Declaration-W, Init-W, Parameter-W, Typename-W, core_rule, expr_rule, start_rule, optional_rule, suffix_walk, declarator_rule, declaration_rule, init_rule, parameter_rule, typename_rule}
+use Rattle.std.proofs.Common.{ℕ, refl}
+use Rattle.tick_tree.specs.declared.syntax.Core.TheOpen.{Core-F, Expr-F, Initializer-F, OptionalExpr-F, Stmt-F, Suffix-F}
+use Rattle.check_expressions.specs.Rules.{tick_around}
+use Rattle.tick_checker.specs.Walk.{Core-W, Expr-W, Initializer-W, OptionalExpr-W, Stmt-W, Suffix-W, Declarator-W, Declaration-W, Init-W, Parameter-W, Typename-W, core_rule, expr_rule, start_rule, optional_rule, suffix_walk, declarator_rule, declaration_rule, init_rule, parameter_rule, typename_rule, stmt_rule, declaration_walk}
 use Rattle.accepted_steps.specs.Good.{GoodNode, GoodShape, GoodSuffix, GoodParameter, GoodNamed}
+use Rattle.accepted_steps.specs.Items.{GoodItem}
+use Rattle.accepted_expressions.proofs.Walk.{walk_does}
+use Rattle.accepted_statements.specs.Parts.{GoodStatementParts}
+use Rattle.accepted_statements.proofs.Assembly.{block_good}
+use Rattle.accepted_locals.specs.Parts.{GoodStart, GoodInit, GoodDeclarators}
+use Rattle.accepted_locals.proofs.Declarations.{declaration_good, item_good}
 use Rattle.accepted_types.specs.Parts.{GoodOptional, GoodParts, GoodSuffixParts}
 use Rattle.accepted_types.proofs.Constants.{constant_plain}
 use Rattle.accepted_types.proofs.Productions.{walk_keeps}
 use Rattle.accepted_types.proofs.Strings.{string_plain}
-use Rattle.accepted_walks.specs.Asked.{EveryCore, EveryExpr, EveryInitializer, EveryOptionalExpr, EverySuffix, EveryDeclarator, EveryDeclaration, EveryInit, EveryParameter, EveryTypename}
+use Rattle.accepted_walks.specs.Asked.{EveryCore, EveryExpr, EveryInitializer, EveryOptionalExpr, EveryStmt, EverySuffix, EveryDeclarator, EveryDeclaration, EveryInit, EveryParameter, EveryTypename}
 use Rattle.accepted_walks.proofs.Declarators.{good_core as core_of, good_declarator as declarator_of, good_typename as typename_of, good_parameter as parameter_of, good_suffix as suffix_of}
 use Rattle.accepted_walks.proofs.Forms.{form_of, string_of}
-use Rattle.accepted_small.specs.Good.{GoodStart, GoodInit, GoodDeclarations, good, FewParts, FewExpr}
-use Rattle.accepted_small.specs.Laws.{RulesAreGood}
+use Rattle.accepted_small.specs.Good.{good, FewParts, FewExpr}
 
 -- ---- expressions
 
-parts : (many : ℕ) → RulesAreGood many → (e : Expr-W) → EveryExpr (good many) e → FewParts e → GoodParts many e
-parts many k (Expr-F.TickBlock line items) h f = k.block items h f
-parts many k (Expr-F.Expr::Name line name) h f = tt
-parts many k (Expr-F.Number n unsigned) h f = tt
-parts many k (Expr-F.Character n) h f = tt
-parts many k (Expr-F.String bytes) h f = tt
-parts many k (Expr-F.Expr::Paren a) h f = h
-parts many k (Expr-F.Compile line a t) h f = h
-parts many k (Expr-F.Expr::Local line t) h f = h
-parts many k (Expr-F.Param line t a) h f = h
-parts many k (Expr-F.Index line a b) h f = h
-parts many k (Expr-F.Call line c list) h f = h
-parts many k (Expr-F.Step line op a) h f = h
-parts many k (Expr-F.Unary line op a) h f = h
-parts many k (Expr-F.Tick line a) h f = h
-parts many k (Expr-F.Cast line t a) h f = h
-parts many k (Expr-F.Sizeof line t) h f = h
-parts many k (Expr-F.Binary line op a b) h f = h
-parts many k (Expr-F.Choice line c a b) h f = h
-parts many k (Expr-F.Assign line a b) h f = h
-parts many k (Expr-F.Modify line op a b) h f = h
-parts many k (Expr-F.Comma line a b) h f = h
+parts : (many : ℕ) (e : Expr-W) → EveryExpr (good many) e → FewParts e → GoodParts many e
+parts many (Expr-F.TickBlock line items) h f = block_good items tick_around tt refl h f
+parts many (Expr-F.Expr::Name line name) h f = tt
+parts many (Expr-F.Number n unsigned) h f = tt
+parts many (Expr-F.Character n) h f = tt
+parts many (Expr-F.String bytes) h f = tt
+parts many (Expr-F.Expr::Paren a) h f = h
+parts many (Expr-F.Compile line a t) h f = h
+parts many (Expr-F.Expr::Local line t) h f = h
+parts many (Expr-F.Param line t a) h f = h
+parts many (Expr-F.Index line a b) h f = h
+parts many (Expr-F.Call line c list) h f = h
+parts many (Expr-F.Step line op a) h f = h
+parts many (Expr-F.Unary line op a) h f = h
+parts many (Expr-F.Tick line a) h f = h
+parts many (Expr-F.Cast line t a) h f = h
+parts many (Expr-F.Sizeof line t) h f = h
+parts many (Expr-F.Binary line op a b) h f = h
+parts many (Expr-F.Choice line c a b) h f = h
+parts many (Expr-F.Assign line a b) h f = h
+parts many (Expr-F.Modify line op a b) h f = h
+parts many (Expr-F.Comma line a b) h f = h
 
-pub good_expr : (many : ℕ) → RulesAreGood many → (e : Expr-W) → EveryExpr (good many) e → FewExpr e → GoodNode many (expr_rule e)
-good_expr many k e h f =
-    let p = parts many k e h f.parts in
+pub good_expr : (many : ℕ) (e : Expr-W) → EveryExpr (good many) e → FewExpr e → GoodNode many (expr_rule e)
+good_expr many e h f =
+    let p = parts many e h f.parts in
     record {
       keeps = walk_keeps many e p;
-      does = k.does e p;
+      does = walk_does many e p;
       string = λ is g s new o r. string_plain many e p (string_of e is) g s new o r;
       few = f.walk;
       constant = λ is g s new o r. constant_plain many e p (form_of e is) g s new o r;
@@ -83,10 +89,30 @@ good_parameter many x h = parameter_of x h
 pub good_typename : (many : ℕ) (x : Typename-W) → EveryTypename (good many) x → GoodNamed (typename_rule x)
 good_typename many x h = typename_of x h
 
--- ---- declarations
+-- ---- declarations and statements
 
 pub good_init : (many : ℕ) (x : Init-W) → EveryInit (good many) x → GoodInit many (init_rule x)
-good_init many x h = h
+good_init many x h = record { shape = h.0; start = h.1 }
 
-pub good_declaration : (many : ℕ) (x : Declaration-W) → EveryDeclaration (good many) x → GoodDeclarations many (declaration_rule x)
+pub good_declaration : (many : ℕ) (x : Declaration-W) → EveryDeclaration (good many) x → GoodDeclarators many (declaration_rule x)
 good_declaration many x h = h
+
+statement_parts : (many : ℕ) (x : Stmt-W) → EveryStmt (good many) x → GoodStatementParts many declaration_walk x
+statement_parts many Stmt-F.Empty h = tt
+statement_parts many (Stmt-F.Expr e) h = h
+statement_parts many (Stmt-F.Block items) h = h
+statement_parts many (Stmt-F.Stmt::Local d) h = declaration_good many d h
+statement_parts many (Stmt-F.If line c i) h = h
+statement_parts many (Stmt-F.IfElse line c i j) h = h
+statement_parts many (Stmt-F.While line c i) h = h
+statement_parts many (Stmt-F.Do line i c) h = h
+statement_parts many (Stmt-F.For line first c s i) h = h
+statement_parts many (Stmt-F.Switch line e items) h = h
+statement_parts many (Stmt-F.Case line e) h = h
+statement_parts many (Stmt-F.Default line) h = tt
+statement_parts many (Stmt-F.Break line) h = tt
+statement_parts many (Stmt-F.Continue line) h = tt
+statement_parts many (Stmt-F.Return line e) h = h
+
+pub good_stmt : (many : ℕ) (x : Stmt-W) → EveryStmt (good many) x → GoodItem many (stmt_rule x)
+good_stmt many x h = item_good many x (statement_parts many x h)

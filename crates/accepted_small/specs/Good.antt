@@ -4,28 +4,17 @@ use Rattle.std.specs.Prelude.{◌≡◌, ℕ, ◌+◌, ◌≤◌, List, length, 
 use Rattle.tick_tree.specs.declared.syntax.Core.TheOpen.{Expr-F}
 use Rattle.typed_tree.specs.declared.expression.Stmt.{Stmt}
 use Rattle.c_nodes.specs.declared.operand.Operand.{Operand}
-use Rattle.check_state.specs.declared.state.Around.{Around as Standing}
 use Rattle.check_state.specs.declared.state.Stage.{Stage}
 use Rattle.check_state.specs.declared.state.State.{State}
 use Rattle.check_expressions.specs.Rules.{Item, block, tick_around, walk_rule}
-use Rattle.tick_checker.specs.Walk.{Start, Nothing, Value, Values, InitParts, Declarations, Expr-W, Stmt-W, statement_walk}
+use Rattle.tick_checker.specs.Walk.{Expr-W}
 use Rattle.accepted_steps.specs.Good.{GoodNode, GoodShape, GoodSuffix, GoodParameter, GoodNamed}
-use Rattle.accepted_steps.specs.Items.{GoodItem, Few, IsFew}
-use Rattle.accepted_types.specs.Parts.{EachPart, GoodOptional}
+use Rattle.accepted_steps.specs.Items.{GoodItem, Few}
+use Rattle.accepted_types.specs.Parts.{GoodOptional}
+use Rattle.accepted_locals.specs.Parts.{GoodStart, GoodInit, GoodDeclarators}
 use Rattle.accepted_walks.specs.Asked.{Asked}
 
 -- ---- what is asked
-
-abbrev pub GoodStart : ℕ → Start → Type 0
-GoodStart many Nothing = Unit {0}
-GoodStart many (Value e) = GoodNode many e
-GoodStart many (Values es) = EachPart (GoodNode many) es
-
-abbrev pub GoodInit : ℕ → InitParts → Type 0
-GoodInit many i = GoodShape i.shape × GoodStart many i.start
-
-abbrev pub GoodDeclarations : ℕ → Declarations → Type 0
-GoodDeclarations many d = EachPart (GoodInit many) d.inits
 
 abbrev pub good : ℕ → Asked
 good many = record {
@@ -35,7 +24,7 @@ good many = record {
   optional = GoodOptional many;
   item = GoodItem many;
   suffix = GoodSuffix;
-  declarations = GoodDeclarations many;
+  declarations = GoodDeclarators many;
   init = GoodInit many;
   parameter = GoodParameter;
   named = GoodNamed;
@@ -54,6 +43,3 @@ FewParts _ = Unit {0}
 pub record FewExpr (e : Expr-W) : Type 0 where
   pub walk : (g : Stage) (s new : State) (o : Operand) → walk_rule e g s ≡ Ok (o, new) → length new.ticks.captures ≤ length s.ticks.captures + 1000000000
   pub parts : FewParts e
-
-abbrev pub FewStmt : Stmt-W → Type 0
-FewStmt x = (a : Standing) → IsFew (statement_walk x a)

@@ -112,11 +112,11 @@ pub kinds_append : (xs ys : List Expr) → kinds (xs ++ ys) ≡ kinds xs ++ kind
 kinds_append [] ys = refl
 kinds_append (x ∷ xs) ys = ap (λ l. one_kind x ∷ l) (kinds_append xs ys)
 
-captures_front : (xs ys : List CaptureKind) (all : Option (List CaptureKind)) → Captures (xs ++ ys) all → Captures xs all
+pub captures_front : (xs ys : List CaptureKind) (all : Option (List CaptureKind)) → Captures (xs ++ ys) all → Captures xs all
 captures_front xs ys None x = x
 captures_front xs ys (Some all) x = starts_front xs ys x
 
-captures_back : (xs ys : List Expr) (all : Option (List CaptureKind)) → Starts xs ys → Captures (kinds ys) all → Captures (kinds xs) all
+pub captures_back : (xs ys : List Expr) (all : Option (List CaptureKind)) → Starts xs ys → Captures (kinds ys) all → Captures (kinds xs) all
 captures_back xs ys all p x =
     captures_front (kinds xs) (kinds p.rest) all (subst (λ l. Captures l all) (ap kinds p.is ∙ kinds_append xs p.rest) x)
 

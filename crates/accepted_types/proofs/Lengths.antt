@@ -128,7 +128,7 @@ type_not_computed r line b ss x h =
     let ts : List Step = taken_as r ss in
     computed_taken r ss (none_computed ts b [] (lower_first (worst ts b []) (role_breaks r b (made ts [])) (answered line (finished r b (made ts [])) x _ h)))
 
-lowered_ok : (line : ℕ) (k : Option FaultKind) (t : Checked CType) (x : CType) → lowered line k t ≡ Ok x → t ≡ Ok x
+pub lowered_ok : (line : ℕ) (k : Option FaultKind) (t : Checked CType) (x : CType) → lowered line k t ≡ Ok x → t ≡ Ok x
 lowered_ok line None t x h = h
 lowered_ok line (Some k) (Ok t) x h = cc
 lowered_ok line (Some k) (Err f) x h = cc

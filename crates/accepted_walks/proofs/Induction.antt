@@ -1,4 +1,5 @@
--- What each rule of the walk keeps holds of the walk over each tree: an induction over the syntax tree, once for all that is asked.
+-- What each rule of the walk keeps holds of the walk over each tree: an induction over the syntax tree, once for all that is asked. Written by
+-- tools/checker/walks.py.
 use Rattle.std.proofs.Common.{◌≡◌, List, [], ◌∷◌, map, sym, subst, Option}
 use Rattle.tick_tree.specs.declared.syntax.Core.{Core, roll-Core}
 use Rattle.tick_tree.specs.declared.syntax.Expr.{Expr, roll-Expr}

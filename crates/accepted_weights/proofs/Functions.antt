@@ -1,5 +1,5 @@
 -- What the walk over a function makes grow. Its variables are counted anew.
-use Rattle.std.proofs.Common.{◌≡◌, ℕ, ◌+◌, ◌≤◌, Bool, true, false, List, [], ◌∷◌, length, refl, Option, Some, None, Ok, Err, arith}
+use Rattle.std.proofs.Common.{◌≡◌, ℕ, ◌+◌, ◌≤◌, Bool, true, false, List, [], ◌∷◌, length, refl, Option, Some, None, Ok, Err, arith, ap, subst}
 use Rattle.c_types.specs.declared.ctype.CType.{CType}
 use Rattle.c_types.specs.declared.names.MeaningKind.TheVariants as kind
 use Rattle.c_types.specs.declared.names.Meaning.{Meaning}
@@ -13,7 +13,7 @@ use Rattle.typed_tree.specs.declared.expression.Stmt.TheVariants as st
 use Rattle.check_tables.specs.declared.functions.Functions.{Functions}
 use Rattle.check_tables.specs.Frames as frames
 use Rattle.check_tables.specs.Functions as tables
-use Rattle.check_tables.specs.Walks.{Rule, ◌>>=◌, pure, lift}
+use Rattle.check_tables.specs.Walks.{Rule, ◌>>=◌}
 use Rattle.check_state.specs.declared.state.State.{State}
 use Rattle.check_state.specs.Locals.{meaning, parameter, with_parameter}
 use Rattle.check_state.specs.Names.{declare}
@@ -67,12 +67,23 @@ fresh_behind_by v w f s (Err e) l k = tt
 pub fresh_behind : {A B : Type 0} {v w : ℕ} {p : Rule State A} {f : A → Rule State B} → Bounded v p → ((x : A) → Fresh v w (f x)) → Bounded (v + w) (p >>= f)
 fresh_behind {v = v} {w = w} {p = p} {f = f} h k = by_after (λ s. fresh_behind_by v w f s (p s) (after h s) k)
 
+ok_same : {A : Type 0} (x y : A) → ◌≡◌ {A = Checked A} (Ok x) (Ok y) → x ≡ y
+ok_same x y e = cc
+
 fresh_weak_by : {A : Type 0} (u v w : ℕ) (s : State) (r : Checked (A × State)) → FreshAfter u v s r → v ≤ w → FreshAfter u w s r
 fresh_weak_by u v w s (Ok x) f h = record { captures = omega arith; inner = omega arith; homes = omega arith; ticks = omega arith }
 fresh_weak_by u v w s (Err k) f h = tt
 
 pub fresh_weak : {A : Type 0} {u v : ℕ} {r : Rule State A} (w : ℕ) → Fresh u v r → v ≤ w → Fresh u w r
 fresh_weak {u = u} {v = v} {r = r} w f h = record { after = λ s. fresh_weak_by u v w s (r s) (f.after s) h }
+
+ran_by : {A : Type 0} (v w : ℕ) (s new : State) (x : A) (r : Checked (A × State)) → FreshAfter v w s r → r ≡ Ok (x, new) → FreshTables v w s new
+ran_by v w s new x (Ok y) f e = subst (λ z. FreshTables v w s z) (ap (λ r. r.1) (ok_same y (x, new) e)) f
+ran_by v w s new x (Err k) f e = absurd (cc)
+
+-- what such a step that gave an answer left
+pub fresh_ran : {A : Type 0} {v w : ℕ} {r : Rule State A} → Fresh v w r → (s new : State) (x : A) → r s ≡ Ok (x, new) → FreshTables v w s new
+fresh_ran {v = v} {w = w} {r = r} f s new x e = ran_by v w s new x (r s) (f.after s) e
 
 -- ---- names
 
@@ -145,7 +156,7 @@ parameters_light [] gs s = no_variables _ s
 parameters_light (t ∷ ts) [] s = no_variables _ s
 parameters_light (t ∷ ts) (g ∷ gs) s =
     variables_weak (1 + length gs) (length (g ∷ gs)) s (functions.parameters (t ∷ ts) (g ∷ gs) s)
-        (parameters_by (length gs) ts gs s (functions.parameter_by g.0 g.1 t s) (parameter_by g.0 g.1 t s) (parameters_light ts gs)) (omega arith)
+    (parameters_by (length gs) ts gs s (functions.parameter_by g.0 g.1 t s) (parameter_by g.0 g.1 t s) (parameters_light ts gs)) (omega arith)
 
 -- into a function: it has no variable, and nothing grew
 began_by : {A : Type 0} (t : CType) (n : ℕ) (s : State) (r : Checked (A × State)) → VariablesAfter n (record s { frame = frames.began t s.frame }) r → FreshAfter n 0 s r
@@ -159,13 +170,14 @@ parameters_fresh t gs = record { after = λ s. began_by (inner t) (length gs) s 
 
 -- ---- the whole function
 
-begun_fresh : {w : ℕ} (t : CType) (gs : List Given) (items : List Item) → Each LightItem w items → Fresh (length gs) w (program.begun t gs items)
+-- its parameters and its items
+pub begun_fresh : {w : ℕ} (t : CType) (gs : List Given) (items : List Item) → Each LightItem w items → Fresh (length gs) w (program.begun t gs items)
 begun_fresh t gs items h = fresh_weak _ (fresh_next (parameters_fresh t gs) (λ u. each_light items program.around h)) (omega arith)
 
 body_fresh : {w : ℕ} (t : CType) (gs : List Given) (items : List Item) → Each LightItem w items → Fresh (length gs) w (program.body t gs items)
 body_fresh t gs items h =
     fresh_first depth_light (λ n. fresh_first enter_light (λ outer.
-        fresh_weak _ (fresh_next (begun_fresh t gs items h) (λ xs. bind_light (leave_light n outer) (λ vs. pure_light (st.Block vs xs)))) (omega arith)))
+    fresh_weak _ (fresh_next (begun_fresh t gs items h) (λ xs. bind_light (leave_light n outer) (λ vs. pure_light (st.Block vs xs)))) (omega arith)))
 
 ended_light : (line : ℕ) (n : Option (ℕ × Name)) (t : CType) (x : Stmt) → Bounded 0 (functions.ended line n t x)
 unfolding functions.ended

@@ -1,22 +1,23 @@
 -- A declarator has no more parameters than nodes. Written by tools/checker/weights.py.
-use Rattle.std.proofs.Common.{◌≡◌, ℕ, ◌+◌, ◌≤◌, List, [], ◌∷◌, map, length, refl, ap, sym, subst, arith}
+use Rattle.std.proofs.Common.{◌≡◌, ℕ, ◌+◌, ◌≤◌, List, [], ◌∷◌, map, length, sym, subst, arith}
 use Rattle.tick_tree.specs.declared.syntax.Core.{Core, roll-Core}
-use Rattle.tick_tree.specs.declared.syntax.Expr.{Expr, roll-Expr}
-use Rattle.tick_tree.specs.declared.syntax.Initializer.{Initializer, roll-Initializer}
-use Rattle.tick_tree.specs.declared.syntax.OptionalExpr.{OptionalExpr, roll-OptionalExpr}
-use Rattle.tick_tree.specs.declared.syntax.Stmt.{Stmt, roll-Stmt}
+use Rattle.tick_tree.specs.declared.syntax.Expr.{Expr}
+use Rattle.tick_tree.specs.declared.syntax.Initializer.{Initializer}
+use Rattle.tick_tree.specs.declared.syntax.OptionalExpr.{OptionalExpr}
+use Rattle.tick_tree.specs.declared.syntax.Stmt.{Stmt}
 use Rattle.tick_tree.specs.declared.syntax.Suffix.{Suffix, roll-Suffix}
-use Rattle.tick_tree.specs.declared.syntax.Declaration.{Declaration, roll-Declaration}
+use Rattle.tick_tree.specs.declared.syntax.Declaration.{Declaration}
 use Rattle.tick_tree.specs.declared.syntax.Declarator.{Declarator, roll-Declarator}
-use Rattle.tick_tree.specs.declared.syntax.Init.{Init, roll-Init}
+use Rattle.tick_tree.specs.declared.syntax.Init.{Init}
 use Rattle.tick_tree.specs.declared.syntax.Parameter.{Parameter, roll-Parameter}
-use Rattle.tick_tree.specs.declared.syntax.Typename.{Typename, roll-Typename}
-use Rattle.tick_tree.specs.declared.syntax.Core.TheOpen.{Core-F, Expr-F, Initializer-F, OptionalExpr-F, Stmt-F, Suffix-F, Declaration-F, Declarator-F, Init-F, Parameter-F, Typename-F}
-use Rattle.tick_tree.specs.declared.syntax.Core.TheFolds.{map-Core, map-Expr, map-Initializer, map-OptionalExpr, map-Stmt, map-Suffix, map-Declaration, map-Declarator, map-Init, map-Parameter, map-Typename, ind-Declarator, fold-roll-Core, fold-roll-Suffix, fold-roll-Declarator}
+use Rattle.tick_tree.specs.declared.syntax.Typename.{Typename}
+use Rattle.tick_tree.specs.declared.syntax.Core.TheOpen.{Core-F, Suffix-F, Declarator-F}
+use Rattle.tick_tree.specs.declared.syntax.Core.TheFolds.{map-Core, map-Suffix, map-Declarator, ind-Declarator, fold-roll-Core, fold-roll-Suffix, fold-roll-Declarator}
 use Rattle.check_globals.specs.Functions.{Given}
 use Rattle.tick_checker.specs.Parameters.{Head, Inner, nothing, first_of, inner_rule, head_rule, list_rule, given_rule, inner, head, list, written, parameters_of}
-use Rattle.accepted_weights.specs.Weights.{total, core_nodes, expr_nodes, initializer_nodes, optional_nodes, statement_nodes, suffix_nodes, declaration_nodes, declarator_nodes, init_nodes, parameter_nodes, typename_nodes, core_weight, weight, initializer_weight, optional_weight, statement_weight, suffix_weight, declaration_weight, declarator_weight, init_weight, parameter_weight, typename_weight}
-use Rattle.accepted_weights.proofs.Folds.{weighed-Core, weighed-Suffix, weighed-Declarator, weighed-Parameter, weigh-Core, weigh-Suffix, weigh-Declarator, weigh-Parameter, Core-T, Suffix-T, Declarator-T, Parameter-T}
+use Rattle.tree_weights.specs.Weights.{total, core_nodes, suffix_nodes, declarator_nodes, core_weight, suffix_weight, declarator_weight, parameter_weight}
+use Rattle.tree_weights.proofs.Folds.{weigh-Core, weigh-Suffix, weigh-Declarator, weigh-Parameter}
+use Rattle.tree_weights.specs.Layers.{Core-T, Suffix-T, Declarator-T, Parameter-T, weighed-Core, weighed-Suffix, weighed-Declarator}
 
 abbrev Any : {A : Type 0} → A → Type 0
 Any x = Unit {0}
@@ -93,20 +94,20 @@ layer-Declarator y = omega (arith, y.core.1 (first_of (map list (map (λ k. k.0)
 step-Core : (x : Core-T) (y : Core-G) → front-Core y ≡ x → FewInner (roll-Core x)
 step-Core x y is =
     subst (λ z. FewInner (roll-Core z)) is
-        (λ gs n h. subst (λ w. length ((inner (roll-Core (front-Core y))).list gs) ≤ w + n) (sym (weigh-Core (front-Core y)))
-            (subst (λ (v : Inner). length (v.list gs) ≤ core_nodes (weighed-Core (front-Core y)) + n) (sym (given-Core (front-Core y))) (layer-Core y gs n h)))
+    (λ gs n h. subst (λ w. length ((inner (roll-Core (front-Core y))).list gs) ≤ w + n) (sym (weigh-Core (front-Core y)))
+    (subst (λ (v : Inner). length (v.list gs) ≤ core_nodes (weighed-Core (front-Core y)) + n) (sym (given-Core (front-Core y))) (layer-Core y gs n h)))
 
 step-Suffix : (x : Suffix-T) (y : Suffix-G) → front-Suffix y ≡ x → FewListed (roll-Suffix x)
 step-Suffix x y is =
     subst (λ z. FewListed (roll-Suffix z)) is
-        (subst (λ w. length (list (roll-Suffix (front-Suffix y))) ≤ w) (sym (weigh-Suffix (front-Suffix y)))
-            (subst (λ (v : List Given). length v ≤ suffix_nodes (weighed-Suffix (front-Suffix y))) (sym (given-Suffix (front-Suffix y))) (layer-Suffix y)))
+    (subst (λ w. length (list (roll-Suffix (front-Suffix y))) ≤ w) (sym (weigh-Suffix (front-Suffix y)))
+    (subst (λ (v : List Given). length v ≤ suffix_nodes (weighed-Suffix (front-Suffix y))) (sym (given-Suffix (front-Suffix y))) (layer-Suffix y)))
 
 step-Declarator : (x : Declarator-T) (y : Declarator-G) → front-Declarator y ≡ x → FewHead (roll-Declarator x)
 step-Declarator x y is =
     subst (λ z. FewHead (roll-Declarator z)) is
-        (subst (λ w. length (head (roll-Declarator (front-Declarator y))).list ≤ w) (sym (weigh-Declarator (front-Declarator y)))
-            (subst (λ (v : Head). length v.list ≤ declarator_nodes (weighed-Declarator (front-Declarator y))) (sym (given-Declarator (front-Declarator y))) (layer-Declarator y)))
+    (subst (λ w. length (head (roll-Declarator (front-Declarator y))).list ≤ w) (sym (weigh-Declarator (front-Declarator y)))
+    (subst (λ (v : Head). length v.list ≤ declarator_nodes (weighed-Declarator (front-Declarator y))) (sym (given-Declarator (front-Declarator y))) (layer-Declarator y)))
 
 -- each parameter is a node
 step-Parameter : (x : Parameter-T) → OneNode (roll-Parameter x)

@@ -1,5 +1,5 @@
 -- What the walk over declarations at file scope makes grow.
-use Rattle.std.proofs.Common.{◌≡◌, ℕ, ◌+◌, ◌≤◌, Bool, true, false, if◌then◌else◌, List, [], ◌∷◌, ◌++◌, length, refl, Option, Some, None, is_some, Result, Ok, Err, arith}
+use Rattle.std.proofs.Common.{◌≡◌, ℕ, Bool, true, false, if◌then◌else◌, List, [], ◌∷◌, ◌++◌, length, refl, Option, Some, None, is_some, Result, Ok, Err, arith}
 use Rattle.c_types.specs.declared.ctype.CType.{CType}
 use Rattle.c_types.specs.declared.names.Meaning.{Meaning}
 use Rattle.c_types.specs.declared.names.MeaningKind.TheVariants as kind
@@ -14,11 +14,10 @@ use Rattle.tick_tree.specs.declared.fault.FaultKind.TheVariants as fault
 use Rattle.tick_tree.specs.Faults.{Checked, refuse}
 use Rattle.check_tables.specs.Functions as tables
 use Rattle.check_tables.specs.Images as images
-use Rattle.check_tables.specs.Walks.{Rule, ◌>>=◌, pure, lift}
+use Rattle.check_tables.specs.Walks.{Rule}
 use Rattle.check_state.specs.declared.state.Stage.TheVariants as stage
 use Rattle.check_state.specs.declared.state.State.{State}
 use Rattle.check_state.specs.Locals.{meaning}
-use Rattle.check_state.specs.Names.{declare}
 use Rattle.check_expressions.specs.Rules.{Node, Shape}
 use Rattle.check_statements.specs.Declarations.{name_by}
 use Rattle.check_statements.specs.Initializers.{is_text}
@@ -27,7 +26,7 @@ use Rattle.check_globals.specs.Names as names
 use Rattle.check_globals.specs.Statics as statics
 use Rattle.tick_checker.specs.Program as program
 use Rattle.tick_checker.specs.Walk.{Start, Nothing, Value, Values, InitParts, Declarations}
-use Rattle.light_steps.specs.Light.{Light, After, Bounded, LightNode, LightShape, Each, none, more}
+use Rattle.light_steps.specs.Light.{Light, After, Bounded, LightNode, Each, none, more}
 use Rattle.light_steps.proofs.Walks.{weak, by_after, after, pure_light, lift_light, bind_light, light_first}
 use Rattle.light_steps.proofs.States.{same_light, declare_light}
 use Rattle.accepted_weights.specs.Parts.{LightStart, nothing, value, values, LightInit, LightDeclarations}
@@ -61,7 +60,7 @@ with_global_light t s = same_light 0 s _ refl refl refl refl
 first_variable_light : (line : ℕ) (name : Name) (t : CType) (s : State) → After 0 s (names.first_variable line name t s)
 first_variable_light line name t s =
     after (weak {A = ℕ} 0 (light_first (names.with_global t) (with_global_light t)
-        (bind_light (declare_light line name (meaning kind.Global t (names.address (images.place s.image)))) (λ u. pure_light (images.place s.image)))) (omega arith)) s
+    (bind_light (declare_light line name (meaning kind.Global t (names.address (images.place s.image)))) (λ u. pure_light (images.place s.image)))) (omega arith)) s
 
 known_variable : (line : ℕ) (name : Name) (t : CType) (s : State) (m : Meaning) (d a b : Bool) → names.is_function m.kind ≡ a → same m.ctype t ≡ b → After 0 s (names.variable_by (names.before_by d t (Some m)) line name t s)
 known_variable line name t s m d false b e h = rw e tt
@@ -147,7 +146,7 @@ variable_rule line t d start h = weak _ (bind_light (variable_name_light line (n
 global_light : {w : ℕ} (line : ℕ) (b : Base) (i : InitParts) → LightInit w i → Bounded w (program.global line b i)
 global_light line b i h =
     weak _ (bind_light (bind_light (h.shape.at stage.Function) (λ ss. lift_light _))
-        (λ t. either_light (is_function t) _ _ (prototype_rule line t i.shape i.start h.start) (variable_rule line t i.shape i.start h.start))) (omega arith)
+    (λ t. either_light (is_function t) _ _ (prototype_rule line t i.shape i.start h.start) (variable_rule line t i.shape i.start h.start))) (omega arith)
 
 globals_light : (is : List InitParts) {w : ℕ} (line : ℕ) (b : Base) → Each LightInit w is → Bounded w (program.globals line b is)
 globals_light [] line b none = pure_light tt

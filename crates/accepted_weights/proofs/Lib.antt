@@ -1,8 +1,11 @@
 pub mod Declarations
+pub mod Few
 pub mod Folds
 pub mod Functions
 pub mod Given
 pub mod Globals
 pub mod Programs
 pub mod Small
+pub mod Starts
 pub mod Tree
+pub mod Walks

@@ -1,18 +1,14 @@
 -- The walk over the items of a program makes nothing grow by more than their weight.
-use Rattle.std.proofs.Common.{◌≡◌, ℕ, ◌+◌, ◌≤◌, List, [], ◌∷◌, map, length, refl, Result, Ok, Err, arith}
-use Rattle.tick_tree.specs.declared.syntax.Declaration.{Declaration}
+use Rattle.std.proofs.Common.{List, [], ◌∷◌, map, arith}
 use Rattle.tick_tree.specs.declared.syntax.External.{External}
 use Rattle.tick_tree.specs.declared.syntax.External.TheVariants as ext
 use Rattle.tick_tree.specs.declared.syntax.Stmt.{Stmt}
-use Rattle.tick_tree.specs.Faults.{Checked}
-use Rattle.check_tables.specs.Walks.{Rule, ◌>>=◌, pure}
-use Rattle.check_state.specs.declared.state.State.{State}
 use Rattle.tick_checker.specs.Parameters.{parameters_of}
 use Rattle.tick_checker.specs.Program as program
 use Rattle.tick_checker.specs.Walk.{item, shape, declaration}
-use Rattle.light_steps.specs.Light.{Light, Bounded, LightItem, Each, none, more}
+use Rattle.light_steps.specs.Light.{Bounded, LightItem, Each, none, more}
 use Rattle.light_steps.proofs.Walks.{weak, pure_light, bind_light}
-use Rattle.accepted_weights.specs.Weights.{total, statement_weight, declarator_weight, declaration_weight, item_weight}
+use Rattle.tree_weights.specs.Weights.{total, statement_weight, item_weight}
 use Rattle.accepted_weights.proofs.Functions.{function_light}
 use Rattle.accepted_weights.proofs.Given.{parameters_few}
 use Rattle.accepted_weights.proofs.Globals.{declared_light}

@@ -1,6 +1,6 @@
 -- The walk over each part of a tree makes nothing grow by more than the weight of the part: an induction over the types of the tree.
 -- Written by tools/checker/weights.py.
-use Rattle.std.proofs.Common.{◌≡◌, ℕ, ◌+◌, ◌≤◌, List, [], ◌∷◌, map, refl, sym, subst, Some, None, arith}
+use Rattle.std.proofs.Common.{◌≡◌, ℕ, List, [], ◌∷◌, map, sym, subst, arith}
 use Rattle.tick_tree.specs.declared.syntax.Core.{Core, roll-Core}
 use Rattle.tick_tree.specs.declared.syntax.Expr.{Expr, roll-Expr}
 use Rattle.tick_tree.specs.declared.syntax.Initializer.{Initializer, roll-Initializer}
@@ -23,9 +23,11 @@ use Rattle.light_steps.proofs.States.{named_light}
 use Rattle.light_steps.proofs.Expressions as e
 use Rattle.light_steps.proofs.Statements as s
 use Rattle.accepted_weights.specs.Parts.{LightStart, nothing, value, values, LightInit, LightDeclarations}
-use Rattle.accepted_weights.specs.Weights.{total, core_nodes, expr_nodes, initializer_nodes, optional_nodes, statement_nodes, suffix_nodes, declaration_nodes, declarator_nodes, init_nodes, parameter_nodes, typename_nodes, core_weight, weight, initializer_weight, optional_weight, statement_weight, suffix_weight, declaration_weight, declarator_weight, init_weight, parameter_weight, typename_weight}
+use Rattle.tree_weights.specs.Weights.{total, core_nodes, expr_nodes, initializer_nodes, optional_nodes, statement_nodes, suffix_nodes, declaration_nodes, declarator_nodes, init_nodes, parameter_nodes, typename_nodes, core_weight, weight, initializer_weight, optional_weight, statement_weight, suffix_weight, declaration_weight, declarator_weight, init_weight, parameter_weight, typename_weight}
 use Rattle.accepted_weights.proofs.Declarations as d
-use Rattle.accepted_weights.proofs.Folds.{weighed-Core, weighed-Expr, weighed-Initializer, weighed-OptionalExpr, weighed-Stmt, weighed-Suffix, weighed-Declaration, weighed-Declarator, weighed-Init, weighed-Parameter, weighed-Typename, walked-Core, walked-Expr, walked-Initializer, walked-OptionalExpr, walked-Stmt, walked-Suffix, walked-Declaration, walked-Declarator, walked-Init, walked-Parameter, walked-Typename, weigh-Core, weigh-Expr, weigh-Initializer, weigh-OptionalExpr, weigh-Stmt, weigh-Suffix, weigh-Declaration, weigh-Declarator, weigh-Init, weigh-Parameter, weigh-Typename, walk-Core, walk-Expr, walk-Initializer, walk-OptionalExpr, walk-Stmt, walk-Suffix, walk-Declaration, walk-Declarator, walk-Init, walk-Parameter, walk-Typename, Core-T, Expr-T, Initializer-T, OptionalExpr-T, Stmt-T, Suffix-T, Declaration-T, Declarator-T, Init-T, Parameter-T, Typename-T}
+use Rattle.accepted_weights.proofs.Walks.{walked-Core, walked-Expr, walked-Initializer, walked-OptionalExpr, walked-Stmt, walked-Suffix, walked-Declaration, walked-Declarator, walked-Init, walked-Parameter, walked-Typename, walk-Core, walk-Expr, walk-Initializer, walk-OptionalExpr, walk-Stmt, walk-Suffix, walk-Declaration, walk-Declarator, walk-Init, walk-Parameter, walk-Typename}
+use Rattle.tree_weights.proofs.Folds.{weigh-Core, weigh-Expr, weigh-Initializer, weigh-OptionalExpr, weigh-Stmt, weigh-Suffix, weigh-Declaration, weigh-Declarator, weigh-Init, weigh-Parameter, weigh-Typename}
+use Rattle.tree_weights.specs.Layers.{Core-T, Expr-T, Initializer-T, OptionalExpr-T, Stmt-T, Suffix-T, Declaration-T, Declarator-T, Init-T, Parameter-T, Typename-T, weighed-Core, weighed-Expr, weighed-Initializer, weighed-OptionalExpr, weighed-Stmt, weighed-Suffix, weighed-Declaration, weighed-Declarator, weighed-Init, weighed-Parameter, weighed-Typename}
 
 -- ---- what is shown of each part
 
@@ -253,68 +255,68 @@ layer-Typename y = d.typename_light y.base (shape y.declarator.0) y.declarator.1
 step-Core : (x : Core-T) (y : Core-K) → front-Core y ≡ x → CoreLight (roll-Core x)
 step-Core x y is =
     subst (λ z. CoreLight (roll-Core z)) is
-        (subst (λ w. LightShape w (core (roll-Core (front-Core y)))) (sym (weigh-Core (front-Core y)))
-            (subst (λ v. LightShape (core_nodes (weighed-Core (front-Core y))) v) (sym (walk-Core (front-Core y))) (layer-Core y)))
+    (subst (λ w. LightShape w (core (roll-Core (front-Core y)))) (sym (weigh-Core (front-Core y)))
+    (subst (λ v. LightShape (core_nodes (weighed-Core (front-Core y))) v) (sym (walk-Core (front-Core y))) (layer-Core y)))
 
 step-Expr : (x : Expr-T) (y : Expr-K) → front-Expr y ≡ x → ExprLight (roll-Expr x)
 step-Expr x y is =
     subst (λ z. ExprLight (roll-Expr z)) is
-        (subst (λ w. LightNode w (node (roll-Expr (front-Expr y)))) (sym (weigh-Expr (front-Expr y)))
-            (subst (λ v. LightNode (expr_nodes (weighed-Expr (front-Expr y))) v) (sym (walk-Expr (front-Expr y))) (layer-Expr y)))
+    (subst (λ w. LightNode w (node (roll-Expr (front-Expr y)))) (sym (weigh-Expr (front-Expr y)))
+    (subst (λ v. LightNode (expr_nodes (weighed-Expr (front-Expr y))) v) (sym (walk-Expr (front-Expr y))) (layer-Expr y)))
 
 step-Initializer : (x : Initializer-T) (y : Initializer-K) → front-Initializer y ≡ x → InitializerLight (roll-Initializer x)
 step-Initializer x y is =
     subst (λ z. InitializerLight (roll-Initializer z)) is
-        (subst (λ w. LightStart w (initializer (roll-Initializer (front-Initializer y)))) (sym (weigh-Initializer (front-Initializer y)))
-            (subst (λ v. LightStart (initializer_nodes (weighed-Initializer (front-Initializer y))) v) (sym (walk-Initializer (front-Initializer y))) (layer-Initializer y)))
+    (subst (λ w. LightStart w (initializer (roll-Initializer (front-Initializer y)))) (sym (weigh-Initializer (front-Initializer y)))
+    (subst (λ v. LightStart (initializer_nodes (weighed-Initializer (front-Initializer y))) v) (sym (walk-Initializer (front-Initializer y))) (layer-Initializer y)))
 
 step-OptionalExpr : (x : OptionalExpr-T) (y : OptionalExpr-K) → front-OptionalExpr y ≡ x → OptionalExprLight (roll-OptionalExpr x)
 step-OptionalExpr x y is =
     subst (λ z. OptionalExprLight (roll-OptionalExpr z)) is
-        (subst (λ w. LightOptional w (optional (roll-OptionalExpr (front-OptionalExpr y)))) (sym (weigh-OptionalExpr (front-OptionalExpr y)))
-            (subst (λ v. LightOptional (optional_nodes (weighed-OptionalExpr (front-OptionalExpr y))) v) (sym (walk-OptionalExpr (front-OptionalExpr y))) (layer-OptionalExpr y)))
+    (subst (λ w. LightOptional w (optional (roll-OptionalExpr (front-OptionalExpr y)))) (sym (weigh-OptionalExpr (front-OptionalExpr y)))
+    (subst (λ v. LightOptional (optional_nodes (weighed-OptionalExpr (front-OptionalExpr y))) v) (sym (walk-OptionalExpr (front-OptionalExpr y))) (layer-OptionalExpr y)))
 
 step-Stmt : (x : Stmt-T) (y : Stmt-K) → front-Stmt y ≡ x → StmtLight (roll-Stmt x)
 step-Stmt x y is =
     subst (λ z. StmtLight (roll-Stmt z)) is
-        (subst (λ w. LightItem w (item (roll-Stmt (front-Stmt y)))) (sym (weigh-Stmt (front-Stmt y)))
-            (subst (λ v. LightItem (statement_nodes (weighed-Stmt (front-Stmt y))) v) (sym (walk-Stmt (front-Stmt y))) (layer-Stmt y)))
+    (subst (λ w. LightItem w (item (roll-Stmt (front-Stmt y)))) (sym (weigh-Stmt (front-Stmt y)))
+    (subst (λ v. LightItem (statement_nodes (weighed-Stmt (front-Stmt y))) v) (sym (walk-Stmt (front-Stmt y))) (layer-Stmt y)))
 
 step-Suffix : (x : Suffix-T) (y : Suffix-K) → front-Suffix y ≡ x → SuffixLight (roll-Suffix x)
 step-Suffix x y is =
     subst (λ z. SuffixLight (roll-Suffix z)) is
-        (subst (λ w. LightSuffix w (suffix (roll-Suffix (front-Suffix y)))) (sym (weigh-Suffix (front-Suffix y)))
-            (subst (λ v. LightSuffix (suffix_nodes (weighed-Suffix (front-Suffix y))) v) (sym (walk-Suffix (front-Suffix y))) (layer-Suffix y)))
+    (subst (λ w. LightSuffix w (suffix (roll-Suffix (front-Suffix y)))) (sym (weigh-Suffix (front-Suffix y)))
+    (subst (λ v. LightSuffix (suffix_nodes (weighed-Suffix (front-Suffix y))) v) (sym (walk-Suffix (front-Suffix y))) (layer-Suffix y)))
 
 step-Declaration : (x : Declaration-T) (y : Declaration-K) → front-Declaration y ≡ x → DeclarationLight (roll-Declaration x)
 step-Declaration x y is =
     subst (λ z. DeclarationLight (roll-Declaration z)) is
-        (subst (λ w. LightDeclarations w (declaration (roll-Declaration (front-Declaration y)))) (sym (weigh-Declaration (front-Declaration y)))
-            (subst (λ v. LightDeclarations (declaration_nodes (weighed-Declaration (front-Declaration y))) v) (sym (walk-Declaration (front-Declaration y))) (layer-Declaration y)))
+    (subst (λ w. LightDeclarations w (declaration (roll-Declaration (front-Declaration y)))) (sym (weigh-Declaration (front-Declaration y)))
+    (subst (λ v. LightDeclarations (declaration_nodes (weighed-Declaration (front-Declaration y))) v) (sym (walk-Declaration (front-Declaration y))) (layer-Declaration y)))
 
 step-Declarator : (x : Declarator-T) (y : Declarator-K) → front-Declarator y ≡ x → DeclaratorLight (roll-Declarator x)
 step-Declarator x y is =
     subst (λ z. DeclaratorLight (roll-Declarator z)) is
-        (subst (λ w. LightShape w (shape (roll-Declarator (front-Declarator y)))) (sym (weigh-Declarator (front-Declarator y)))
-            (subst (λ v. LightShape (declarator_nodes (weighed-Declarator (front-Declarator y))) v) (sym (walk-Declarator (front-Declarator y))) (layer-Declarator y)))
+    (subst (λ w. LightShape w (shape (roll-Declarator (front-Declarator y)))) (sym (weigh-Declarator (front-Declarator y)))
+    (subst (λ v. LightShape (declarator_nodes (weighed-Declarator (front-Declarator y))) v) (sym (walk-Declarator (front-Declarator y))) (layer-Declarator y)))
 
 step-Init : (x : Init-T) (y : Init-K) → front-Init y ≡ x → InitLight (roll-Init x)
 step-Init x y is =
     subst (λ z. InitLight (roll-Init z)) is
-        (subst (λ w. LightInit w (init (roll-Init (front-Init y)))) (sym (weigh-Init (front-Init y)))
-            (subst (λ v. LightInit (init_nodes (weighed-Init (front-Init y))) v) (sym (walk-Init (front-Init y))) (layer-Init y)))
+    (subst (λ w. LightInit w (init (roll-Init (front-Init y)))) (sym (weigh-Init (front-Init y)))
+    (subst (λ v. LightInit (init_nodes (weighed-Init (front-Init y))) v) (sym (walk-Init (front-Init y))) (layer-Init y)))
 
 step-Parameter : (x : Parameter-T) (y : Parameter-K) → front-Parameter y ≡ x → ParameterLight (roll-Parameter x)
 step-Parameter x y is =
     subst (λ z. ParameterLight (roll-Parameter z)) is
-        (subst (λ w. LightType w (parameter (roll-Parameter (front-Parameter y)))) (sym (weigh-Parameter (front-Parameter y)))
-            (subst (λ v. LightType (parameter_nodes (weighed-Parameter (front-Parameter y))) v) (sym (walk-Parameter (front-Parameter y))) (layer-Parameter y)))
+    (subst (λ w. LightType w (parameter (roll-Parameter (front-Parameter y)))) (sym (weigh-Parameter (front-Parameter y)))
+    (subst (λ v. LightType (parameter_nodes (weighed-Parameter (front-Parameter y))) v) (sym (walk-Parameter (front-Parameter y))) (layer-Parameter y)))
 
 step-Typename : (x : Typename-T) (y : Typename-K) → front-Typename y ≡ x → TypenameLight (roll-Typename x)
 step-Typename x y is =
     subst (λ z. TypenameLight (roll-Typename z)) is
-        (subst (λ w. LightNamed w (named (roll-Typename (front-Typename y)))) (sym (weigh-Typename (front-Typename y)))
-            (subst (λ v. LightNamed (typename_nodes (weighed-Typename (front-Typename y))) v) (sym (walk-Typename (front-Typename y))) (layer-Typename y)))
+    (subst (λ w. LightNamed w (named (roll-Typename (front-Typename y)))) (sym (weigh-Typename (front-Typename y)))
+    (subst (λ v. LightNamed (typename_nodes (weighed-Typename (front-Typename y))) v) (sym (walk-Typename (front-Typename y))) (layer-Typename y)))
 
 pub core_light : (x : Core) → CoreLight x
 core_light = ind-Core CoreLight ExprLight InitializerLight OptionalExprLight StmtLight SuffixLight DeclarationLight DeclaratorLight InitLight ParameterLight TypenameLight step-Core step-Expr step-Initializer step-OptionalExpr step-Stmt step-Suffix step-Declaration step-Declarator step-Init step-Parameter step-Typename

@@ -1,5 +1,5 @@
 -- How much a function makes grow: its variables are counted anew.
-use Rattle.std.specs.Prelude.{◌≡◌, ℕ, ◌+◌, ◌≤◌, length, Ok, Err}
+use Rattle.std.specs.Prelude.{ℕ, ◌+◌, ◌≤◌, length, Ok, Err}
 use Rattle.tick_tree.specs.Faults.{Checked}
 use Rattle.check_state.specs.declared.state.State.{State}
 use Rattle.check_tables.specs.Walks.{Rule}

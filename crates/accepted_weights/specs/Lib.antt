@@ -1,3 +1,4 @@
 pub mod Fresh
+pub mod Laws
 pub mod Parts
 pub mod Weights

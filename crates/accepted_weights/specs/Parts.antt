@@ -1,6 +1,6 @@
 -- The parts of a declaration, each with a number that bounds what its walk makes grow.
-use Rattle.std.specs.Prelude.{◌≡◌, ℕ, ◌+◌, ◌≤◌, List, [], ◌∷◌, Option, Some, None}
-use Rattle.check_expressions.specs.Rules.{Node, Shape}
+use Rattle.std.specs.Prelude.{ℕ, ◌+◌, ◌≤◌, List}
+use Rattle.check_expressions.specs.Rules.{Node}
 use Rattle.tick_checker.specs.Walk.{Start, Nothing, Value, Values, InitParts, Declarations}
 use Rattle.light_steps.specs.Light.{LightNode, LightShape, Each}
 

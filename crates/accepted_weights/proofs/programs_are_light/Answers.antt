@@ -1,0 +1,18 @@
+use Rattle.accepted_weights.proofs.Functions.{parameters_fresh, begun_fresh}
+use Rattle.accepted_weights.proofs.Given.{parameters_few}
+use Rattle.accepted_weights.proofs.Programs.{items_light, external_light, walk_light}
+use Rattle.accepted_weights.proofs.Starts.{start_light, again_light, ticks_few}
+use Rattle.accepted_weights.proofs.programs_are_light.Goals as goal
+
+pub returns : goal.returns
+returns c = record {
+  parameters = parameters_fresh;
+  given = parameters_few;
+  body = λ w. begun_fresh;
+  items = items_light;
+  external = external_light;
+  walk = walk_light;
+  start = start_light;
+  again = again_light;
+  ticks = ticks_few;
+}
