@@ -13,6 +13,7 @@ pub mod Functions
 pub mod Given
 pub mod Globals
 pub mod Inside
+pub mod Law
 pub mod Listed
 pub mod Lists
 pub mod Made
