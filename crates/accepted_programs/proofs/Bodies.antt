@@ -53,12 +53,12 @@ body_stands n ps rest xs a few p d x =
     let count : length (map act ps) ≡ n = length_map act ps ∙ few in
     ap (λ (y : Act). y.is_body n a) (act_block (ps ++ rest) xs)
     ∙ and_true (nat_le n (length (map act (ps ++ rest))) && are_parameters 0 (take n (map act (ps ++ rest))) a && all_declare (drop n (map act (ps ++ rest))) a) (all_stand (map act xs) (within (map act (ps ++ rest)) a))
-        (and_true (nat_le n (length (map act (ps ++ rest))) && are_parameters 0 (take n (map act (ps ++ rest))) a) (all_declare (drop n (map act (ps ++ rest))) a)
-          (and_true (nat_le n (length (map act (ps ++ rest)))) (are_parameters 0 (take n (map act (ps ++ rest))) a)
-            (ap (λ vs. nat_le n (length vs)) both ∙ le_true n (length (map act ps ++ map act rest)) (let h : length (map act ps) ≤ length (map act ps ++ map act rest) = length_both (map act ps) (map act rest) in omega arith))
-            (ap (λ vs. are_parameters 0 (take n vs) a) both ∙ ap (λ vs. are_parameters 0 vs a) (take_front n (map act ps) (map act rest) count) ∙ p))
-          (ap (λ vs. all_declare (drop n vs) a) both ∙ ap (λ vs. all_declare vs a) (drop_front n (map act ps) (map act rest) count) ∙ d))
-        x
+    (and_true (nat_le n (length (map act (ps ++ rest))) && are_parameters 0 (take n (map act (ps ++ rest))) a) (all_declare (drop n (map act (ps ++ rest))) a)
+    (and_true (nat_le n (length (map act (ps ++ rest)))) (are_parameters 0 (take n (map act (ps ++ rest))) a)
+    (ap (λ vs. nat_le n (length vs)) both ∙ le_true n (length (map act ps ++ map act rest)) (let h : length (map act ps) ≤ length (map act ps ++ map act rest) = length_both (map act ps) (map act rest) in omega arith))
+    (ap (λ vs. are_parameters 0 (take n vs) a) both ∙ ap (λ vs. are_parameters 0 vs a) (take_front n (map act ps) (map act rest) count) ∙ p))
+    (ap (λ vs. all_declare (drop n vs) a) both ∙ ap (λ vs. all_declare vs a) (drop_front n (map act ps) (map act rest) count) ∙ d))
+    x
 
 pub body_used : (ps rest xs : List Stmt) → all_true (map uses_values ps) ≡ true → all_true (map uses_values rest) ≡ true → all_true (map uses_values xs) ≡ true
     → uses_values (st.Block (ps ++ rest) xs) ≡ true
@@ -89,16 +89,16 @@ pub body_numbered : (k h : ℕ) (ps vs xs : List Stmt) → k ≤ h → ((i : ℕ
     → h ≤ statements_size vs + statements_size xs → AreNumbered (st.Block vs xs)
 body_numbered k h ps vs xs few first more size = record {
   once = λ i.
-    let e : declarations_of i (st.Block vs xs) ≡ declarations_in i vs + declarations_in i xs = declarations_of_block i vs xs in
-    let f : declarations_in i ps ≤ one_if (nat_lt i k) = first i in
-    let m : declarations_in i vs + declarations_in i xs ≤ declarations_in i ps + between k h i = more i in
-    let z : one_if (nat_lt i k) + between k h i ≤ 1 = once_joined i k h in
-    omega arith;
+      let e : declarations_of i (st.Block vs xs) ≡ declarations_in i vs + declarations_in i xs = declarations_of_block i vs xs in
+      let f : declarations_in i ps ≤ one_if (nat_lt i k) = first i in
+      let m : declarations_in i vs + declarations_in i xs ≤ declarations_in i ps + between k h i = more i in
+      let z : one_if (nat_lt i k) + between k h i ≤ 1 = once_joined i k h in
+      omega arith;
   dense = λ i some.
-    let e : declarations_of i (st.Block vs xs) ≡ declarations_in i vs + declarations_in i xs = declarations_of_block i vs xs in
-    let f : declarations_in i ps ≤ one_if (nat_lt i k) = first i in
-    let m : declarations_in i vs + declarations_in i xs ≤ declarations_in i ps + between k h i = more i in
-    let s : statement_size (st.Block vs xs) ≡ 1 + statements_size vs + statements_size xs = statement_size_block vs xs in
-    let z : i < h = below i k h few (let y : 0 < one_if (nat_lt i k) + between k h i = omega arith in y) in
-    omega arith;
+      let e : declarations_of i (st.Block vs xs) ≡ declarations_in i vs + declarations_in i xs = declarations_of_block i vs xs in
+      let f : declarations_in i ps ≤ one_if (nat_lt i k) = first i in
+      let m : declarations_in i vs + declarations_in i xs ≤ declarations_in i ps + between k h i = more i in
+      let s : statement_size (st.Block vs xs) ≡ 1 + statements_size vs + statements_size xs = statement_size_block vs xs in
+      let z : i < h = below i k h few (let y : 0 < one_if (nat_lt i k) + between k h i = omega arith in y) in
+      omega arith;
 }

@@ -60,7 +60,7 @@ up_to_length n bytes h = up_to_is n bytes ∙ add-sub_of_le h
 image_length : (i : Image) → length i.globals ≤ strings_begin i → strings_begin i + length i.strings ≤ 4194304 → length (image i) ≤ 4194304
 image_length i h few =
     let whole : length (image i) ≡ strings_begin i + length i.strings
-              = length-append (images.up_to (strings_begin i) i.globals) i.strings ∙ ap (λ (n : ℕ). n + length i.strings) (up_to_length (strings_begin i) i.globals h) in
+    = length-append (images.up_to (strings_begin i) i.globals) i.strings ∙ ap (λ (n : ℕ). n + length i.strings) (up_to_length (strings_begin i) i.globals h) in
     subst (λ (n : ℕ). n ≤ 4194304) (sym whole) few
 
 begin_case : (i : Image) (b : Bool) (end : ℕ) → i.strings_at ≡ images.aligned end → i.end ≡ end → Bounded i → begin_by b i ≤ 4194304 → length i.globals ≤ begin_by b i

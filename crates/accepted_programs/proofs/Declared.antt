@@ -63,7 +63,7 @@ pub file_type : (line : ℕ) (b : Base) (ss : List Step) (t : CType) → declare
 unfolding declared_type
 file_type line b ss t is =
     let a : (lower (worst ss b []) (void_breaks b (made ss [])) ≡ None) × (t ≡ ctype b (made ss []))
-          = answer_ok line (ctype b (made ss [])) t (lower (worst ss b []) (void_breaks b (made ss []))) is in
+    = answer_ok line (ctype b (made ss [])) t (lower (worst ss b []) (void_breaks b (made ss []))) is in
     let n : (worst ss b [] ≡ None) × (void_breaks b (made ss []) ≡ None) = none_lower (worst ss b []) (void_breaks b (made ss [])) a.0 in
     record { is = a.1; worst = n.0; value = void_case (is_void b (made ss [])) n.1 }
 

@@ -73,7 +73,7 @@ function_image many line b d gs items s new r sc table good one two =
     let given : KeepsGlobals r.named r.third.given = image_keeps r.named r.third.given p.all.aside.image in
     let last : KeepsGlobals r.third.given r.third.last = (good.walks.grows r.third.given r.third.last r.third.nodes r.third.walked).tables.image in
     let whole : KeepsGlobals s r.third.last
-              = keeps_more s r.typed r.third.last p.typed.image (keeps_more r.typed r.named r.third.last named (keeps_more r.named r.third.given r.third.last given last)) in
+    = keeps_more s r.typed r.third.last p.typed.image (keeps_more r.typed r.named r.third.last named (keeps_more r.named r.third.given r.third.last given last)) in
     keeps_more s r.third.last new whole (image_keeps r.third.last new (ap (λ (z : State). z.image) (is_made line b d gs items s new r)))
 
 -- ---- a declarator
@@ -110,7 +110,7 @@ prototype_image : (line : ℕ) (t : CType) (d : Shape) (start : Start) (s new : 
     → program.prototype line t d start s ≡ Ok (u, new) → Ended t s new
 prototype_image line t d start s new u sc one f is =
     let p : Parts (names.prototype line (name_by d.declared.name) t) (λ v. program.no_start line start) s new u
-          = parts (names.prototype line (name_by d.declared.name) t) (λ v. program.no_start line start) s new u is in
+    = parts (names.prototype line (name_by d.declared.name) t) (λ v. program.no_start line start) s new u is in
     let n : NamedPrototype line (name_by d.declared.name) t s p.between sc = prototype_named line (name_by d.declared.name) t s p.between p.answer sc one p.first in
     let k : KeepsGlobals s new = image_keeps s new (ap (λ (z : State). z.image) (sym (no_start_same line start p.between new u p.second)) ∙ ap (λ (z : State). z.image) n.is) in
     record { end = k.end ∙ function_end t s.image.end f; kept = keeps_kept s new k }
@@ -119,7 +119,7 @@ variable_image : (line : ℕ) (t : CType) (d : Shape) (start : Start) (s new : S
     → program.variable line t d start s ≡ Ok (u, new) → Ended t s new
 variable_image line t d start s new u sc one f good fit is =
     let p : Parts (names.variable line (name_by d.declared.name) t) (λ at. program.static_begin line at t start) s new u
-          = parts (names.variable line (name_by d.declared.name) t) (λ at. program.static_begin line at t start) s new u is in
+    = parts (names.variable line (name_by d.declared.name) t) (λ at. program.static_begin line at t start) s new u is in
     let n : NamedVariable (name_by d.declared.name) t s p.between p.answer sc = variable_named line (name_by d.declared.name) t s p.between p.answer sc one p.first in
     let image : p.between.image ≡ images.with_global (size_of t) s.image = ap (λ (z : State). z.image) n.is in
     let b : Filled p.answer (size_of t) p.between new = begin_filled line p.answer t start p.between new u good fit p.second in
@@ -140,11 +140,11 @@ pub global_image : AllFit → (line : ℕ) (b : Base) (i : InitParts) (s new : S
     → program.global line b i s ≡ Ok (u, new) → GlobalImage line b i s new
 global_image fit line b i s new u sc good one is =
     let p : Parts (program.global_type line b i.shape i.start) (λ t. program.named line t i.shape i.start) s new u
-          = parts (program.global_type line b i.shape i.start) (λ t. program.named line t i.shape i.start) s new u is in
+    = parts (program.global_type line b i.shape i.start) (λ t. program.named line t i.shape i.start) s new u is in
     let ty : GlobalType line b i.shape i.start s p.between p.answer = global_typed line b i.shape i.start s p.between p.answer good.shape p.first in
     let e : Ended p.answer p.between new
-          = named_image (is_function p.answer) line p.answer i.shape i.start p.between new u sc (ty.still.scopes ∙ one) refl good.start
-              (fit line b i.start (names.named_steps ty.steps) p.answer ty.typed) p.second in
+    = named_image (is_function p.answer) line p.answer i.shape i.start p.between new u sc (ty.still.scopes ∙ one) refl good.start
+    (fit line b i.start (names.named_steps ty.steps) p.answer ty.typed) p.second in
     record {
       type = p.answer;
       steps = ty.steps;
@@ -163,7 +163,7 @@ same_end : (line : ℕ) (b : Base) (i : InitParts) (s new z last : State) → Fi
 same_end line b i s new z last fixed p q e =
     let steps : p.steps ≡ q.steps = fixed s z p.to q.to p.steps q.steps p.walked q.walked in
     let type : p.type ≡ q.type
-             = ok_type p.type q.type (sym p.typed ∙ ap (λ ss. declared_type role.FileScope line (words.base_of b) (with_start i.start (names.named_steps ss))) steps ∙ q.typed) in
+    = ok_type p.type q.type (sym p.typed ∙ ap (λ ss. declared_type role.FileScope line (words.base_of b) (with_start i.start (names.named_steps ss))) steps ∙ q.typed) in
     p.end ∙ ap (λ t. end_after t s.image.end) type ∙ ap (λ n. end_after q.type n) e ∙ sym q.end
 
 -- ---- declarations
@@ -188,7 +188,7 @@ globals_end fit line b (i ∷ is) s new z last u v sc dc good fixed one two h k 
     let p : Parts (program.global line b i) (λ w. program.globals line b is) s new u = parts (program.global line b i) (λ w. program.globals line b is) s new u h in
     let q : Parts (program.global line b i) (λ w. program.globals line b is) z last v = parts (program.global line b i) (λ w. program.globals line b is) z last v k in
     let first : p.between.image.end ≡ q.between.image.end
-              = same_end line b i s p.between z q.between fixed.0 (global_image fit line b i s p.between p.answer sc good.0 one p.first) (global_image fit line b i z q.between q.answer dc good.0 two q.first) e in
+    = same_end line b i s p.between z q.between fixed.0 (global_image fit line b i s p.between p.answer sc good.0 one p.first) (global_image fit line b i z q.between q.answer dc good.0 two q.first) e in
     let d : GlobalDone 0 s p.between sc = global_done 0 line b i s p.between p.answer sc good.0 one p.first in
     let f : GlobalDone 0 z q.between dc = global_done 0 line b i z q.between q.answer dc good.0 two q.first in
     globals_end fit line b is p.between new q.between last u v d.scope f.scope good.1 fixed.1 d.one f.one p.second q.second first
@@ -231,7 +231,7 @@ walks_end fit (x ∷ xs) s new z last u v sc dc table other good fixed one two t
     let p : Parts (program.external x) (λ w. program.walk xs) s new u = parts (program.external x) (λ w. program.walk xs) s new u h in
     let q : Parts (program.external x) (λ w. program.walk xs) z last v = parts (program.external x) (λ w. program.walk xs) z last v k in
     let first : p.between.image.end ≡ q.between.image.end
-              = external_end fit x s p.between z q.between p.answer q.answer sc dc table other good.0 fixed.0 one two three four p.first q.first e in
+    = external_end fit x s p.between z q.between p.answer q.answer sc dc table other good.0 fixed.0 one two three four p.first q.first e in
     let g : Grew _ s p.between table = external_grew 0 x s p.between p.answer sc table good.0 one three p.first in
     let f : Grew _ z q.between other = external_grew 0 x z q.between q.answer dc other good.0 two four q.first in
     walks_end fit xs p.between new q.between last u v g.scope f.scope _ _ good.1 fixed.1 g.one f.one g.defined f.defined p.second q.second first

@@ -90,11 +90,11 @@ filled : (at size : ℕ) (bytes : List ℕ) (s new : State) (u : Unit {0}) → l
 filled at size bytes s new u few is =
     let e : record s { image = images.with_bytes at bytes s.image } ≡ new = state_of tt u (record s { image = images.with_bytes at bytes s.image }) new is in
     subst (λ (z : State). Filled at size s z) e
-      (record {
-        end = end_case at bytes s.image (nat_le at 4194304);
-        strings = strings_case at bytes s.image (nat_le at 4194304);
-        globals = λ k h w. let l : length (images.with_bytes at bytes s.image).globals ≤ k + length bytes = filled_case at bytes s.image (nat_le at 4194304) k h w in omega arith;
-      })
+    (record {
+      end = end_case at bytes s.image (nat_le at 4194304);
+      strings = strings_case at bytes s.image (nat_le at 4194304);
+      globals = λ k h w. let l : length (images.with_bytes at bytes s.image).globals ≤ k + length bytes = filled_case at bytes s.image (nat_le at 4194304) k h w in omega arith;
+    })
 
 pub none_filled : (at size : ℕ) (s : State) → Filled at size s s
 none_filled at size s = record { end = refl; strings = refl; globals = λ k h w. omega arith }
@@ -144,9 +144,9 @@ static_value line at t form string o s new u fit is = value_case line at t form 
 walked_value : (line at : ℕ) (t : CType) (e : Node) (s new : State) (u : Unit {0}) → StaticNode e → BytesFit t → program.static_walked line at t e s ≡ Ok (u, new) → Filled at (size_of t) s new
 walked_value line at t e s new u h fit is =
     let p : Parts (e.walk stage.Function) (λ o. statics.static_value line at t e.written.constant (is_some e.written.string) o) s new u
-          = parts (e.walk stage.Function) (λ o. statics.static_value line at t e.written.constant (is_some e.written.string) o) s new u is in
+    = parts (e.walk stage.Function) (λ o. statics.static_value line at t e.written.constant (is_some e.written.string) o) s new u is in
     let v : Allowed e.written.constant (is_some e.written.string) × Filled at (size_of t) p.between new
-          = static_value line at t e.written.constant (is_some e.written.string) p.answer p.between new u fit p.second in
+    = static_value line at t e.written.constant (is_some e.written.string) p.answer p.between new u fit p.second in
     kept_filled at (size_of t) s p.between new (walked_keeps e s p.between p.answer h v.0 p.first) v.1
 
 not_less : (m n : ℕ) → nat_lt m n ≡ false → n ≤ m
@@ -221,11 +221,11 @@ row_ran [] t r q s new h is none = record {
 }
 row_ran (e ∷ es) t r q s new h is none =
     let p : Parts (e.walk stage.Function) (λ o. program.row es t (statics.row_more t e.written.constant (is_some e.written.string) o r)) s new q
-          = parts (e.walk stage.Function) (λ o. program.row es t (statics.row_more t e.written.constant (is_some e.written.string) o r)) s new q is in
+    = parts (e.walk stage.Function) (λ o. program.row es t (statics.row_more t e.written.constant (is_some e.written.string) o r)) s new q is in
     let rest : RowRan es t (statics.row_more t e.written.constant (is_some e.written.string) p.answer r) q p.between new
-             = row_ran es t (statics.row_more t e.written.constant (is_some e.written.string) p.answer r) q p.between new h.1 p.second none in
+    = row_ran es t (statics.row_more t e.written.constant (is_some e.written.string) p.answer r) q p.between new h.1 p.second none in
     let one : OneMore t e.written.constant (is_some e.written.string) p.answer r (statics.row_more t e.written.constant (is_some e.written.string) p.answer r)
-            = row_more t e.written.constant (is_some e.written.string) p.answer r rest.broken in
+    = row_more t e.written.constant (is_some e.written.string) p.answer r rest.broken in
     let a : length q.bytes ≡ length (statics.row_more t e.written.constant (is_some e.written.string) p.answer r).bytes + length es * bytes_in t = rest.bytes in
     let b : length (statics.row_more t e.written.constant (is_some e.written.string) p.answer r).bytes ≡ length r.bytes + bytes_in t = one.bytes in
     let c : suc (length es) * bytes_in t ≡ bytes_in t + length es * bytes_in t = times_more (length es) (bytes_in t) in
@@ -272,7 +272,7 @@ list_end line at t es q s m new u h fit row is = list_case line at t es q (stati
 static_list : (line at : ℕ) (t : CType) (es : List Node) (s new : State) (u : Unit {0}) → EachStatic es → BytesFit t → program.static_list line at t es s ≡ Ok (u, new) → Filled at (size_of t) s new
 static_list line at t es s new u h fit is =
     let p : Parts (program.row es (inner t) (statics.row_begun t)) (λ r. statics.static_list line at t (length es) r) s new u
-          = parts (program.row es (inner t) (statics.row_begun t)) (λ r. statics.static_list line at t (length es) r) s new u is in
+    = parts (program.row es (inner t) (statics.row_begun t)) (λ r. statics.static_list line at t (length es) r) s new u is in
     list_end line at t es p.answer s p.between new u h fit p.first p.second
 
 -- a global's beginning

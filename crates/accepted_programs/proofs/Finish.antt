@@ -50,9 +50,9 @@ limits s h =
     let c : Bool = ticks_fit s.ticks.all in
     let d : Bool = nat_le (charges s.functions.all s.ticks.all) 15728640 in
     let abc : (image_fits s.image && functions_fit s.functions.all && ticks_fit s.ticks.all) ≡ true
-            = and_left (image_fits s.image && functions_fit s.functions.all && ticks_fit s.ticks.all) (nat_le (charges s.functions.all s.ticks.all) 15728640) h in
+    = and_left (image_fits s.image && functions_fit s.functions.all && ticks_fit s.ticks.all) (nat_le (charges s.functions.all s.ticks.all) 15728640) h in
     let ab : (image_fits s.image && functions_fit s.functions.all) ≡ true
-           = and_left (image_fits s.image && functions_fit s.functions.all) (ticks_fit s.ticks.all) abc in
+    = and_left (image_fits s.image && functions_fit s.functions.all) (ticks_fit s.ticks.all) abc in
     record {
       image = and_left (image_fits s.image) (functions_fit s.functions.all) ab;
       functions = and_right (image_fits s.image) (functions_fit s.functions.all) ab;

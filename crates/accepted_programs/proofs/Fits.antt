@@ -116,9 +116,9 @@ rows_fit b ss w array v m few =
     let under_ : inner (ctype b (made ss [])) ≡ ctype b (made l.rest []) = ap (λ (ls : List Layer). inner (ctype b ls)) l.is ∙ inner_last b (made l.rest []) (layer.Array l.count) in
     let count : statics.elements_of (ctype b (made ss [])) ≡ l.count = ap (λ (ls : List Layer). statics.elements_of (ctype b ls)) l.is ∙ elements b (made l.rest []) l.count in
     let fits : m * bytes_in (ctype b (made l.rest [])) ≤ size_of (ctype b (made l.rest [] ++ layer.Array l.count ∷ []))
-             = list_fits b l.rest l.count l.worst l.array (subst HasValue under_ v) m (omega arith) in
+    = list_fits b l.rest l.count l.worst l.array (subst HasValue under_ v) m (omega arith) in
     subst (λ (t : CType). m * bytes_in t ≤ size_of (ctype b (made ss []))) (sym under_)
-      (subst (λ (ls : List Layer). m * bytes_in (ctype b (made l.rest [])) ≤ size_of (ctype b ls)) (sym l.is) fits)
+    (subst (λ (ls : List Layer). m * bytes_in (ctype b (made l.rest [])) ≤ size_of (ctype b ls)) (sym l.is) fits)
 
 -- ---- all of them
 

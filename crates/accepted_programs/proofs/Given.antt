@@ -77,19 +77,19 @@ named : (top : Scope) (k line : ℕ) (name : Name) (t : CType) (s m : State) (u 
     → declare line name (meaning kind.Parameter t (frames.number s.frame)) s ≡ Ok (u, m) → One top k s (with_parameter t m)
 named top k line name t s m u few object g is =
     let d : DeclaresSecond name (meaning kind.Parameter t (frames.number s.frame)) s m top g.scope
-          = declare_second line name (meaning kind.Parameter t (frames.number s.frame)) s m u top g.scope g.two is in
+    = declare_second line name (meaning kind.Parameter t (frames.number s.frame)) s m u top g.scope g.two is in
     subst (λ (z : State). One top k s (with_parameter t z)) (sym d.is)
-      (record {
-        at = record {
-          scope = g.scope ++ (name, meaning kind.Parameter t (frames.number s.frame)) ∷ [];
-          two = refl;
-          names = each_more (ParameterAt (frames.parameter t s.frame)) g.scope name (meaning kind.Parameter t (frames.number s.frame))
+    (record {
+      at = record {
+        scope = g.scope ++ (name, meaning kind.Parameter t (frames.number s.frame)) ∷ [];
+        two = refl;
+        names = each_more (ParameterAt (frames.parameter t s.frame)) g.scope name (meaning kind.Parameter t (frames.number s.frame))
             (later s.frame (frames.parameter t s.frame) g.scope (parameter_more k t s.frame few g.frame) g.names)
             (record { kind = refl; place = parameter_placed k t s.frame few g.frame; type = object });
-          frame = parameter_at k t s.frame few g.frame;
-        };
-        aside = record { functions = refl; ticks = refl; image = refl };
-      })
+        frame = parameter_at k t s.frame few g.frame;
+      };
+      aside = record { functions = refl; ticks = refl; image = refl };
+    })
 
 with_state : (t : CType) (m new : State) (u : Unit {0}) → ◌≡◌ {A = Checked (Unit {0} × State)} (Ok (tt, with_parameter t m)) (Ok (u, new)) → with_parameter t m ≡ new
 with_state t m new u is = state_of tt u (with_parameter t m) new is
@@ -99,7 +99,7 @@ parameter : (top : Scope) (k line : ℕ) (name : Name) (t : CType) (s new : Stat
 unfolding locals.parameter
 parameter top k line name t s new u few object g is =
     let p : Parts (declare line name (meaning kind.Parameter t (frames.number s.frame))) (λ v z. Ok (tt, with_parameter t z)) s new u
-          = parts (declare line name (meaning kind.Parameter t (frames.number s.frame))) (λ v z. Ok (tt, with_parameter t z)) s new u is in
+    = parts (declare line name (meaning kind.Parameter t (frames.number s.frame))) (λ v z. Ok (tt, with_parameter t z)) s new u is in
     subst (λ (z : State). One top k s z) (with_state t p.between new u p.second) (named top k line name t s p.between p.answer few object g p.first)
 
 one : (top : Scope) (k line : ℕ) (o : Option (ℕ × Name)) (t : CType) (s new : State) (u : Unit {0}) → k ≤ 7 → IsObject t → Givens top k s
@@ -122,7 +122,7 @@ all : (top : Scope) (k n : ℕ) (ts : List CType) (gs : List Given) (s new : Sta
     → Givens top k s → globals.parameters ts gs s ≡ Ok (u, new) → All top n s new
 all top k n [] gs s new u e few enough objects g is =
     subst (λ (z : State). All top n s z) (state_of tt u s new is)
-      (record { at = subst (λ (i : ℕ). Givens top i s) (let z : k ≡ n = omega arith in z) g; aside = record { functions = refl; ticks = refl; image = refl } })
+    (record { at = subst (λ (i : ℕ). Givens top i s) (let z : k ≡ n = omega arith in z) g; aside = record { functions = refl; ticks = refl; image = refl } })
 all top k n (t ∷ ts) [] s new u e few enough objects g is = absurd (omega arith)
 all top k n (t ∷ ts) (x ∷ gs) s new u e few enough objects g is =
     let p : Parts (globals.parameter_by x.0 x.1 t) (λ v. globals.parameters ts gs) s new u = parts (globals.parameter_by x.0 x.1 t) (λ v. globals.parameters ts gs) s new u is in
@@ -154,8 +154,8 @@ pub function_begun : (top : Scope) (t : CType) (gs : List Given) (s new : State)
 unfolding globals.begun
 function_begun top t gs s new u two few enough objects is =
     let begun : All top (length (globals.types_of t)) (record s { frame = frames.began (inner t) s.frame }) new
-              = all top 0 (length (globals.types_of t)) (globals.types_of t) gs (record s { frame = frames.began (inner t) s.frame }) new u (omega arith) few enough objects
-                  (record { scope = []; two = two; names = tt; frame = began_at (inner t) s.frame }) is in
+    = all top 0 (length (globals.types_of t)) (globals.types_of t) gs (record s { frame = frames.began (inner t) s.frame }) new u (omega arith) few enough objects
+    (record { scope = []; two = two; names = tt; frame = began_at (inner t) s.frame }) is in
     record { at = begun.at; aside = record { functions = begun.aside.functions; ticks = begun.aside.ticks; image = begun.aside.image } }
 
 -- ---- what names mean then
@@ -167,4 +167,4 @@ means_by many s name m o h e t p = (subst (λ (z : Option Home). IsParameter sta
 pub parameter_means : (many : ℕ) (s : State) (name : Name) (m : Meaning) → ParameterAt s.frame name m → Means many stage.Function alone s name m m.kind
 parameter_means many s name m p =
     subst (λ (k : MeaningKind). Means many stage.Function alone s name m k) (sym p.kind)
-      (means_by many s name m (slice_get s.frame.homes m.index) p.place.home p.place.is p.type p.place.stands)
+    (means_by many s name m (slice_get s.frame.homes m.index) p.place.home p.place.is p.type p.place.stands)

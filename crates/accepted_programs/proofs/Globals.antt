@@ -99,17 +99,17 @@ prototype_done many line name t s new u sc one value is =
     let p : Prototype = record { line = line; name = name } in
     let later : Later s.functions (tables.with_prototype line name s.functions) = record { earlier = refl; prototypes = record { rest = record { line = line; name = name } ∷ []; is = refl } } in
     subst (λ (z : State). GlobalDone many s z sc) (sym n.is)
-      (record {
-        scope = n.scope;
-        one = refl;
-        keeps = n.keeps;
-        names = λ h. n.names (FileName many (tables.with_prototype line name s.functions)) (file_later many s.functions (tables.with_prototype line name s.functions) sc later h)
+    (record {
+      scope = n.scope;
+      one = refl;
+      keeps = n.keeps;
+      names = λ h. n.names (FileName many (tables.with_prototype line name s.functions)) (file_later many s.functions (tables.with_prototype line name s.functions) sc later h)
           (Declared (length s.functions.prototypes) (record { line = line; name = name }) (get_last s.functions.prototypes (record { line = line; name = name })) refl, value);
-        later = later;
-        defined = refl;
-        all = refl;
-        ticks = refl;
-      })
+      later = later;
+      defined = refl;
+      all = refl;
+      ticks = refl;
+    })
 
 -- ---- a variable
 
@@ -118,16 +118,16 @@ pub variable_done : (many line : ℕ) (name : Name) (t : CType) (s new : State) 
 variable_done many line name t s new at sc one object is =
     let n : NamedVariable name t s new at sc = variable_named line name t s new at sc one is in
     subst (λ (z : State). GlobalDone many s z sc) (sym n.is)
-      (record {
-        scope = sc ++ (name, next_global t s) ∷ [];
-        one = refl;
-        keeps = λ m x h. found_front sc (name, next_global t s) m x h;
-        names = λ h. each_more (FileName many s.functions) sc name (next_global t s) h object;
-        later = later_refl s.functions;
-        defined = refl;
-        all = refl;
-        ticks = refl;
-      })
+    (record {
+      scope = sc ++ (name, next_global t s) ∷ [];
+      one = refl;
+      keeps = λ m x h. found_front sc (name, next_global t s) m x h;
+      names = λ h. each_more (FileName many s.functions) sc name (next_global t s) h object;
+      later = later_refl s.functions;
+      defined = refl;
+      all = refl;
+      ticks = refl;
+    })
 
 -- ---- a declarator
 
@@ -148,12 +148,12 @@ pub record GlobalType (line : ℕ) (b : Base) (d : Shape) (start : Start) (s new
 pub global_typed : (line : ℕ) (b : Base) (d : Shape) (start : Start) (s new : State) (t : CType) → GoodShape d → program.global_type line b d start s ≡ Ok (t, new) → GlobalType line b d start s new t
 global_typed line b d start s new t good is =
     let p : Parts (d.walk stage.Function) (λ ss. lift (declared_type role.FileScope line (words.base_of b) (with_start start (names.named_steps ss)))) s new t
-          = parts (d.walk stage.Function) (λ ss. lift (declared_type role.FileScope line (words.base_of b) (with_start start (names.named_steps ss)))) s new t is in
+    = parts (d.walk stage.Function) (λ ss. lift (declared_type role.FileScope line (words.base_of b) (with_start start (names.named_steps ss)))) s new t is in
     let l : Lifted (declared_type role.FileScope line (words.base_of b) (with_start start (names.named_steps p.answer))) p.between new t
-          = lifted (declared_type role.FileScope line (words.base_of b) (with_start start (names.named_steps p.answer))) p.between new t p.second in
+    = lifted (declared_type role.FileScope line (words.base_of b) (with_start start (names.named_steps p.answer))) p.between new t p.second in
     let f : FileType (words.base_of b) (with_start start (names.named_steps p.answer)) t = file_type line (words.base_of b) (with_start start (names.named_steps p.answer)) t l.gave in
     let computed : any_computed p.answer ≡ false
-                 = sym (named_computed p.answer) ∙ sym (started start (names.named_steps p.answer)) ∙ none_computed (with_start start (names.named_steps p.answer)) (words.base_of b) [] f.worst in
+    = sym (named_computed p.answer) ∙ sym (started start (names.named_steps p.answer)) ∙ none_computed (with_start start (names.named_steps p.answer)) (words.base_of b) [] f.worst in
     record {
       still = subst (λ (z : State). Still s z) (sym l.same) (plain_still s p.between (good stage.Function s p.between p.answer p.first computed));
       image = subst (λ (z : State). KeepsGlobals s z) (sym l.same) (good stage.Function s p.between p.answer p.first computed).tables.image;
@@ -171,7 +171,7 @@ prototype_parts : (many line : ℕ) (t : CType) (d : Shape) (start : Start) (s n
     → program.prototype line t d start s ≡ Ok (u, new) → GlobalDone many s new sc
 prototype_parts many line t d start s new u sc one object is =
     let p : Parts (names.prototype line (name_by d.declared.name) t) (λ v. program.no_start line start) s new u
-          = parts (names.prototype line (name_by d.declared.name) t) (λ v. program.no_start line start) s new u is in
+    = parts (names.prototype line (name_by d.declared.name) t) (λ v. program.no_start line start) s new u is in
     let first : GlobalDone many s p.between sc = prototype_done many line (name_by d.declared.name) t s p.between p.answer sc one object.type p.first in
     global_more many s p.between new sc first (global_still many p.between new first.scope first.one (no_start line start p.between new u p.second))
 
@@ -179,7 +179,7 @@ variable_parts : (many line : ℕ) (t : CType) (d : Shape) (start : Start) (s ne
     → program.variable line t d start s ≡ Ok (u, new) → GlobalDone many s new sc
 variable_parts many line t d start s new u sc one object good is =
     let p : Parts (names.variable line (name_by d.declared.name) t) (λ at. program.static_begin line at t start) s new u
-          = parts (names.variable line (name_by d.declared.name) t) (λ at. program.static_begin line at t start) s new u is in
+    = parts (names.variable line (name_by d.declared.name) t) (λ at. program.static_begin line at t start) s new u is in
     let first : GlobalDone many s p.between sc = variable_done many line (name_by d.declared.name) t s p.between p.answer sc one object p.first in
     global_more many s p.between new sc first (global_still many p.between new first.scope first.one (begin_still line p.answer t start p.between new u good p.second))
 
@@ -192,11 +192,11 @@ pub global_done : (many line : ℕ) (b : Base) (i : InitParts) (s new : State) (
     → program.global line b i s ≡ Ok (u, new) → GlobalDone many s new sc
 global_done many line b i s new u sc good one is =
     let p : Parts (program.global_type line b i.shape i.start) (λ t. program.named line t i.shape i.start) s new u
-          = parts (program.global_type line b i.shape i.start) (λ t. program.named line t i.shape i.start) s new u is in
+    = parts (program.global_type line b i.shape i.start) (λ t. program.named line t i.shape i.start) s new u is in
     let ty : GlobalType line b i.shape i.start s p.between p.answer = global_typed line b i.shape i.start s p.between p.answer good.shape p.first in
     let first : GlobalDone many s p.between sc = global_still many s p.between sc one ty.still in
     global_more many s p.between new sc first
-      (named_case (is_function p.answer) many line p.answer i.shape i.start p.between new u first.scope first.one ty.object good.start p.second)
+    (named_case (is_function p.answer) many line p.answer i.shape i.start p.between new u first.scope first.one ty.object good.start p.second)
 
 -- a declaration
 pub globals_done : (many line : ℕ) (b : Base) (is : List InitParts) (s new : State) (u : Unit {0}) (sc : Scope) → EachInit is → s.scopes ≡ sc ∷ []

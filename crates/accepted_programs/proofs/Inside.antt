@@ -40,10 +40,13 @@ ticks_round e all vs object (t ∷ ts) (k ∷ ks) h = (record { stands = h.0.sta
 
 names_known : (e : State) (top : Scope) (n : ℕ) (s : State) → Givens top n s → EachEntry (FileName (many e) s.functions) top → EachScope (λ name m. Means (many e) stage.Function alone s name m m.kind) s.scopes
 names_known e top n s g names =
-    subst (λ (ss : Scopes). EachScope (λ name m. Means (many e) stage.Function alone s name m m.kind) ss) (sym g.two)
-      (each_map (FileName (many e) s.functions) (λ name m. Means (many e) stage.Function alone s name m m.kind) top (λ name m h. means (many e) stage.Function alone s name m m.kind h) names,
-       (each_map (ParameterAt s.frame) (λ name m. Means (many e) stage.Function alone s name m m.kind) g.scope (λ name m h. parameter_means (many e) s name m h) g.names,
-       tt))
+    subst (λ (ss : Scopes). EachScope (λ name m. Means (many e) stage.Function alone s name m m.kind) ss) (sym g.two) (
+      each_map (FileName (many e) s.functions) (λ name m. Means (many e) stage.Function alone s name m m.kind) top (λ name m h. means (many e) stage.Function alone s name m m.kind h) names,
+      (
+        each_map (ParameterAt s.frame) (λ name m. Means (many e) stage.Function alone s name m m.kind) g.scope (λ name m h. parameter_means (many e) s name m h) g.names,
+        tt,
+      ),
+    )
 
 pub known : (e : State) (top : Scope) (n : ℕ) (ks : List (List CaptureKind)) (s : State) → Givens top n s → EachEntry (FileName (many e) s.functions) top
     → length ks ≡ length s.ticks.all → Known (many e) stage.Function alone ks s
@@ -94,12 +97,12 @@ block_stands : (e : State) (top : Scope) (n : ℕ) (all : List (List CaptureKind
     → stands_as_body (st.Block new.frame.nodes xs) n (round e all [] new.frame.object) ≡ true
 block_stands e top n all s new rest xs g object is declares items =
     let both : ItemsStand around (round e all (numbers (s.frame.nodes ++ rest)) new.frame.object) xs
-             = subst (λ (vs : List Stmt). ItemsStand around (round e all (numbers vs) new.frame.object) xs) is items in
+    = subst (λ (vs : List Stmt). ItemsStand around (round e all (numbers vs) new.frame.object) xs) is items in
     subst (λ (vs : List Stmt). stands_as_body (st.Block vs xs) n (round e all [] new.frame.object) ≡ true) (sym is)
-      (body_stands n s.frame.nodes rest xs (round e all [] new.frame.object) g.frame.nodes
-        (g.frame.stand (round e all [] new.frame.object) refl (le_true s.frame.object new.frame.object object))
-        (declared_stand new.frame.object (round e all [] new.frame.object) rest refl (same_le new.frame.object) declares)
-        (items_stand (round e all (numbers (s.frame.nodes ++ rest)) new.frame.object) xs both))
+    (body_stands n s.frame.nodes rest xs (round e all [] new.frame.object) g.frame.nodes
+    (g.frame.stand (round e all [] new.frame.object) refl (le_true s.frame.object new.frame.object object))
+    (declared_stand new.frame.object (round e all [] new.frame.object) rest refl (same_le new.frame.object) declares)
+    (items_stand (round e all (numbers (s.frame.nodes ++ rest)) new.frame.object) xs both))
 
 block_used : (e : State) (top : Scope) (n : ℕ) (all : List (List CaptureKind)) (s new : State) (rest xs : List Stmt) → Givens top n s
     → new.frame.nodes ≡ s.frame.nodes ++ rest → EachNode (DeclaresAt stage.Function new.frame.object) rest
@@ -107,7 +110,7 @@ block_used : (e : State) (top : Scope) (n : ℕ) (all : List (List CaptureKind))
     → uses_values (st.Block new.frame.nodes xs) ≡ true
 block_used e top n all s new rest xs g is declares items =
     subst (λ (vs : List Stmt). uses_values (st.Block vs xs) ≡ true) (sym is)
-      (body_used s.frame.nodes rest xs g.frame.values (declared_used new.frame.object rest declares) (items_used (round e all (numbers new.frame.nodes) new.frame.object) xs items))
+    (body_used s.frame.nodes rest xs g.frame.values (declared_used new.frame.object rest declares) (items_used (round e all (numbers new.frame.nodes) new.frame.object) xs items))
 
 length_front : {A : Type 0} (xs ys : List A) → length xs ≤ length (xs ++ ys)
 length_front [] ys = omega arith
@@ -122,8 +125,8 @@ block_numbered top n s new xs g more c =
     let z : statements_size s.frame.nodes ≡ n = g.frame.size in
     let sizes : statements_size s.frame.nodes + length new.frame.homes ≤ statements_size new.frame.nodes + statements_size xs + length s.frame.homes = c.sizes in
     body_numbered (length s.frame.homes) (length new.frame.homes) s.frame.nodes new.frame.nodes xs more
-      (λ i. subst (λ (k : ℕ). declarations_in i s.frame.nodes ≤ one_if (nat_lt i k)) (sym h) (g.frame.declared i))
-      c.declarations (omega arith)
+    (λ i. subst (λ (k : ℕ). declarations_in i s.frame.nodes ≤ one_if (nat_lt i k)) (sym h) (g.frame.declared i))
+    c.declarations (omega arith)
 
 pub inside : (e : State) (top : Scope) (n : ℕ) (ks : List (List CaptureKind)) (step : Rule State (List Stmt)) (s new : State) (xs : List Stmt)
     → GoodStatement (many e) around step → Givens top n s → EachEntry (FileName (many e) s.functions) top → length ks ≡ length s.ticks.all
@@ -141,10 +144,10 @@ inside e top n ks step s new xs good g names counted is small prototypes =
       more = d.more;
       counted = (d.known small).ticks;
       stands = λ all starts. block_stands e top n all s new grows.tables.nodes.rest xs g object grows.tables.nodes.is (declared.nodes grows.tables.nodes)
-        (d.stands (round_items e all new) (agrees e (ks ++ d.more) all new small prototypes starts));
+          (d.stands (round_items e all new) (agrees e (ks ++ d.more) all new small prototypes starts));
       values = block_used e top n (ks ++ d.more) s new grows.tables.nodes.rest xs g grows.tables.nodes.is (declared.nodes grows.tables.nodes) (d.stands (round_items e (ks ++ d.more) new) here);
       objects = λ byte. body_objects byte s.frame.object new.frame.object (objects_in byte s.frame.nodes) new.frame.nodes xs object (g.frame.objects byte) (counts.objects byte);
       numbers = block_numbered top n s new xs g (starts_length s.frame.homes new.frame.homes grows.at.homes) counts;
       ticks = λ all starts made. ticks_round e all (numbers new.frame.nodes) new.frame.object made.rest d.more
-        (d.ticks (round_items e all new) (agrees e (ks ++ d.more) all new small prototypes starts) made);
+          (d.ticks (round_items e all new) (agrees e (ks ++ d.more) all new small prototypes starts) made);
     }

@@ -65,7 +65,7 @@ types_length : (ps : List TypeWalk) (s new : State) (ts : List CType) → each_t
 types_length [] s new ts is = sym (ap (λ (us : List CType). length us) (answer_of [] ts s new is))
 types_length (w ∷ ps) s new ts is =
     let p : Parts (w stage.Function) (λ t. each_type ps stage.Function >>= (λ us. pure (t ∷ us))) s new ts
-          = parts (w stage.Function) (λ t. each_type ps stage.Function >>= (λ us. pure (t ∷ us))) s new ts is in
+    = parts (w stage.Function) (λ t. each_type ps stage.Function >>= (λ us. pure (t ∷ us))) s new ts is in
     let q : Parts (each_type ps stage.Function) (λ us. pure (p.answer ∷ us)) p.between new ts = parts (each_type ps stage.Function) (λ us. pure (p.answer ∷ us)) p.between new ts p.second in
     sym (ap (λ (us : List CType). length us) (answer_of (p.answer ∷ q.answer) ts q.between new q.second)) ∙ ap suc (types_length ps p.between q.between q.answer q.first)
 
@@ -99,7 +99,7 @@ steps_front [] gs zs xs s new f is = subst (λ (ys : List Step). Front ys gs) (a
 steps_front (w ∷ ws) gs zs xs s new f is =
     let p : Parts (w stage.Function) (λ y. each_step ws (zs ++ y ∷ []) stage.Function) s new xs = parts (w stage.Function) (λ y. each_step ws (zs ++ y ∷ []) stage.Function) s new xs is in
     steps_front ws gs (zs ++ p.answer ∷ []) xs p.between new
-      (record { first = f.first; rest = f.rest ++ p.answer ∷ []; is = ap (λ l. l ++ p.answer ∷ []) f.is; enough = f.enough }) p.second
+    (record { first = f.first; rest = f.rest ++ p.answer ∷ []; is = ap (λ l. l ++ p.answer ∷ []) f.is; enough = f.enough }) p.second
 
 prefixed_front : (ps : List Prefix) (gs : List Given) (xs : List Step) → Front xs gs → Front (prefixed ps xs) gs
 prefixed_front [] gs xs f = f
@@ -189,14 +189,14 @@ core_holds Core-F.Core::Absent ss h s new xs is =
     absurd (let z : false ≡ true = e ∙ h in cc)
 core_holds (Core-F.Core::Name n text) ss h s new xs is =
     subst (λ (i : Inner). Front xs (i.list (first_of (map list ss)))) (sym (head_core (Core-F.Core::Name n text)))
-      (name_front ss (sym (ap (λ (f : Bool → Bool). f (not (is_nil ss))) (listed_core (Core-F.Core::Name n text))) ∙ h) s new xs
-        (ap (λ (c : Shape). cored c ss s) (sym (walk_core (Core-F.Core::Name n text))) ∙ is))
+    (name_front ss (sym (ap (λ (f : Bool → Bool). f (not (is_nil ss))) (listed_core (Core-F.Core::Name n text))) ∙ h) s new xs
+    (ap (λ (c : Shape). cored c ss s) (sym (walk_core (Core-F.Core::Name n text))) ∙ is))
 core_holds (Core-F.Core::Paren d) ss h s new xs is =
     let inside : is_listed d.0 ≡ true = sym (ap (λ (f : Bool → Bool). f (not (is_nil ss))) (listed_core (Core-F.Core::Paren d.0))) ∙ h in
     let p : Parts ((shape d.0).walk stage.Function) (λ zs. each_step (map suffix ss) zs stage.Function) s new xs
-          = parts ((shape d.0).walk stage.Function) (λ zs. each_step (map suffix ss) zs stage.Function) s new xs (ap (λ (c : Shape). cored c ss s) (sym (walk_core (Core-F.Core::Paren d.0))) ∙ is) in
+    = parts ((shape d.0).walk stage.Function) (λ zs. each_step (map suffix ss) zs stage.Function) s new xs (ap (λ (c : Shape). cored c ss s) (sym (walk_core (Core-F.Core::Paren d.0))) ∙ is) in
     subst (λ (i : Inner). Front xs (i.list (first_of (map list ss)))) (sym (head_core (Core-F.Core::Paren d.0)))
-      (steps_front (map suffix ss) (parameters_of d.0) p.answer xs p.between new (d.1 inside s p.between p.answer p.first) p.second)
+    (steps_front (map suffix ss) (parameters_of d.0) p.answer xs p.between new (d.1 inside s p.between p.answer p.first) p.second)
 
 core_step : (x : Core-T) (y : Core-K) → firstCore y ≡ x → CoreListed (roll-Core x)
 core_step x y is = subst (λ (z : Core-T). CoreListed (roll-Core z)) is (core_holds y)
@@ -209,19 +209,19 @@ of_declarator : (c : Core) (ss : List Suffix) (ps : List Prefix) → CoreListed 
     → declarator_walk (core c) (map suffix ss) ps stage.Function s ≡ Ok (xs, new) → Front xs ((inner c).list (first_of (map list ss)))
 of_declarator c ss ps good h s new xs is =
     let p : Parts ((core c).walk stage.Function) (λ zs. each_step (map suffix ss) zs stage.Function >>= (λ all. pure (prefixed ps all))) s new xs
-          = parts ((core c).walk stage.Function) (λ zs. each_step (map suffix ss) zs stage.Function >>= (λ all. pure (prefixed ps all))) s new xs is in
+    = parts ((core c).walk stage.Function) (λ zs. each_step (map suffix ss) zs stage.Function >>= (λ all. pure (prefixed ps all))) s new xs is in
     let q : Parts (each_step (map suffix ss) p.answer stage.Function) (λ all. pure (prefixed ps all)) p.between new xs
-          = parts (each_step (map suffix ss) p.answer stage.Function) (λ all. pure (prefixed ps all)) p.between new xs p.second in
+    = parts (each_step (map suffix ss) p.answer stage.Function) (λ all. pure (prefixed ps all)) p.between new xs p.second in
     let whole : cored (core c) ss s ≡ Ok (q.answer, q.between) = ap (λ r. r >>>= (λ z. each_step (map suffix ss) z.0 stage.Function z.1)) p.first ∙ q.first in
     subst (λ (ys : List Step). Front ys ((inner c).list (first_of (map list ss)))) (answer_of (prefixed ps q.answer) xs q.between new q.second)
-      (prefixed_front ps ((inner c).list (first_of (map list ss))) q.answer (good ss h s q.between q.answer whole))
+    (prefixed_front ps ((inner c).list (first_of (map list ss))) q.answer (good ss h s q.between q.answer whole))
 
 declarator_holds : (z : Declarator-T) → CoreListed z.core → DeclaratorListed (roll-Declarator z)
 declarator_holds z good h s new xs is =
     let listed : is_listed_core z.core (not (is_nil z.suffixes)) ≡ true
-               = sym (ap (λ b. is_listed_core z.core (not b)) (nil_map rule.nothing z.suffixes)) ∙ sym (listed_declarator z) ∙ h in
+    = sym (ap (λ b. is_listed_core z.core (not b)) (nil_map rule.nothing z.suffixes)) ∙ sym (listed_declarator z) ∙ h in
     subst (λ (i : Head). Front xs i.list) (sym (head_declarator z))
-      (of_declarator z.core z.suffixes z.prefixes good listed s new xs (ap (λ (c : Shape). c.walk stage.Function s) (sym (walk_declarator z)) ∙ is))
+    (of_declarator z.core z.suffixes z.prefixes good listed s new xs (ap (λ (c : Shape). c.walk stage.Function s) (sym (walk_declarator z)) ∙ is))
 
 declarator_step : (x : Declarator-T) (y : Declarator-K) → firstDeclarator y ≡ x → DeclaratorListed (roll-Declarator x)
 declarator_step x y is = subst (λ (z : Declarator-T). DeclaratorListed (roll-Declarator z)) is (declarator_holds (firstDeclarator y) y.core.1)

@@ -81,11 +81,11 @@ declarator_lists : (core : Shape) (ws : List SuffixWalk) (ps : List Prefix) (s n
     → declarator_walk core ws ps stage.Function s ≡ Ok (xs, new) → EachList xs
 declarator_lists core ws ps s new xs h k is =
     let p : Parts (core.walk stage.Function) (λ ss. each_step ws ss stage.Function >>= (λ all. pure (prefixed ps all))) s new xs
-          = parts (core.walk stage.Function) (λ ss. each_step ws ss stage.Function >>= (λ all. pure (prefixed ps all))) s new xs is in
+    = parts (core.walk stage.Function) (λ ss. each_step ws ss stage.Function >>= (λ all. pure (prefixed ps all))) s new xs is in
     let q : Parts (each_step ws p.answer stage.Function) (λ all. pure (prefixed ps all)) p.between new xs
-          = parts (each_step ws p.answer stage.Function) (λ all. pure (prefixed ps all)) p.between new xs p.second in
+    = parts (each_step ws p.answer stage.Function) (λ all. pure (prefixed ps all)) p.between new xs p.second in
     subst EachList (answer_of (prefixed ps q.answer) xs q.between new q.second)
-      (prefixed_lists ps q.answer (steps_lists ws p.answer q.answer p.between q.between k (h s p.between p.answer p.first) q.first))
+    (prefixed_lists ps q.answer (steps_lists ws p.answer q.answer p.between q.between k (h s p.between p.answer p.first) q.first))
 
 core_lists : (x : Core-W) → EveryCore objects x → ObjectShape (core_rule x)
 core_lists Core-F.Core::Absent h = λ s new xs is. subst EachList (answer_of [] xs s new is) tt
@@ -98,7 +98,7 @@ types_objects : (ps : List TypeWalk) (s new : State) (ts : List CType) → EachP
 types_objects [] s new ts h is = subst EachObject (answer_of [] ts s new is) tt
 types_objects (w ∷ ps) s new ts h is =
     let p : Parts (w stage.Function) (λ t. each_type ps stage.Function >>= (λ us. pure (t ∷ us))) s new ts
-          = parts (w stage.Function) (λ t. each_type ps stage.Function >>= (λ us. pure (t ∷ us))) s new ts is in
+    = parts (w stage.Function) (λ t. each_type ps stage.Function >>= (λ us. pure (t ∷ us))) s new ts is in
     let q : Parts (each_type ps stage.Function) (λ us. pure (p.answer ∷ us)) p.between new ts = parts (each_type ps stage.Function) (λ us. pure (p.answer ∷ us)) p.between new ts p.second in
     subst EachObject (answer_of (p.answer ∷ q.answer) ts q.between new q.second) (h.0 s p.between p.answer p.first, types_objects ps p.between q.between q.answer h.1 q.first)
 
@@ -113,20 +113,20 @@ pub record ListRan (ps : List TypeWalk) (s : State) (x : Step) : Type 0 where
 pub list_ran : (ps : List TypeWalk) (s new : State) (x : Step) → list_step ps stage.Function s ≡ Ok (x, new) → ListRan ps s x
 list_ran ps s new x is =
     let a : Parts depth (λ n. enter >>= (λ outer. each_type ps stage.Function >>= (λ ts. leave n outer >>= (λ vs. pure (step.Function ts))))) s new x
-          = parts depth (λ n. enter >>= (λ outer. each_type ps stage.Function >>= (λ ts. leave n outer >>= (λ vs. pure (step.Function ts))))) s new x is in
+    = parts depth (λ n. enter >>= (λ outer. each_type ps stage.Function >>= (λ ts. leave n outer >>= (λ vs. pure (step.Function ts))))) s new x is in
     let b : Parts enter (λ outer. each_type ps stage.Function >>= (λ ts. leave a.answer outer >>= (λ vs. pure (step.Function ts)))) a.between new x
-          = parts enter (λ outer. each_type ps stage.Function >>= (λ ts. leave a.answer outer >>= (λ vs. pure (step.Function ts)))) a.between new x a.second in
+    = parts enter (λ outer. each_type ps stage.Function >>= (λ ts. leave a.answer outer >>= (λ vs. pure (step.Function ts)))) a.between new x a.second in
     let c : Parts (each_type ps stage.Function) (λ ts. leave a.answer b.answer >>= (λ vs. pure (step.Function ts))) b.between new x
-          = parts (each_type ps stage.Function) (λ ts. leave a.answer b.answer >>= (λ vs. pure (step.Function ts))) b.between new x b.second in
+    = parts (each_type ps stage.Function) (λ ts. leave a.answer b.answer >>= (λ vs. pure (step.Function ts))) b.between new x b.second in
     let d : Parts (leave a.answer b.answer) (λ vs. pure (step.Function c.answer)) c.between new x
-          = parts (leave a.answer b.answer) (λ vs. pure (step.Function c.answer)) c.between new x c.second in
+    = parts (leave a.answer b.answer) (λ vs. pure (step.Function c.answer)) c.between new x c.second in
     record { types = c.answer; from = b.between; to = c.between; walked = c.first; is = sym (answer_of (step.Function c.answer) x d.between new d.second) }
 
 pub length_ran : (o : Option Node) (s new : State) (x : Step) → length_step o stage.Function s ≡ Ok (x, new) → [] ≡ list_of x
 length_ran None s new x is = ap list_of (answer_of (step.Array len.Absent) x s new is)
 length_ran (Some e) s new x is =
     let p : Parts (e.walk stage.Function) (λ o. pure (step.Array (length_of e.written.constant o))) s new x
-          = parts (e.walk stage.Function) (λ o. pure (step.Array (length_of e.written.constant o))) s new x is in
+    = parts (e.walk stage.Function) (λ o. pure (step.Array (length_of e.written.constant o))) s new x is in
     ap list_of (answer_of (step.Array (length_of e.written.constant p.answer)) x p.between new p.second)
 
 suffix_lists : (x : Suffix-W) → EverySuffix objects x → ObjectSuffix (suffix_walk x)
@@ -140,17 +140,17 @@ suffix_lists (Suffix-F.Listed ps) h = λ s new x is.
 parameter_object : (line : ℕ) (b : Base) (d : Shape) (s new : State) (t : CType) → parameter_walk line b d stage.Function s ≡ Ok (t, new) → IsObject t
 parameter_object line b d s new t is =
     let p : Parts (d.walk stage.Function) (λ ss. lift (declared_type role.Parameter line (words.base_of b) ss) >>= (λ u. declarations.declare_parameter stage.Function line d.declared.name u >>= (λ v. pure u))) s new t
-          = parts (d.walk stage.Function) (λ ss. lift (declared_type role.Parameter line (words.base_of b) ss) >>= (λ u. declarations.declare_parameter stage.Function line d.declared.name u >>= (λ v. pure u))) s new t is in
+    = parts (d.walk stage.Function) (λ ss. lift (declared_type role.Parameter line (words.base_of b) ss) >>= (λ u. declarations.declare_parameter stage.Function line d.declared.name u >>= (λ v. pure u))) s new t is in
     let q : Parts (lift (declared_type role.Parameter line (words.base_of b) p.answer)) (λ u. declarations.declare_parameter stage.Function line d.declared.name u >>= (λ v. pure u)) p.between new t
-          = parts (lift (declared_type role.Parameter line (words.base_of b) p.answer)) (λ u. declarations.declare_parameter stage.Function line d.declared.name u >>= (λ v. pure u)) p.between new t p.second in
+    = parts (lift (declared_type role.Parameter line (words.base_of b) p.answer)) (λ u. declarations.declare_parameter stage.Function line d.declared.name u >>= (λ v. pure u)) p.between new t p.second in
     let l : Lifted (declared_type role.Parameter line (words.base_of b) p.answer) p.between q.between q.answer = lifted (declared_type role.Parameter line (words.base_of b) p.answer) p.between q.between q.answer q.first in
     let r : Parts (declarations.declare_parameter stage.Function line d.declared.name q.answer) (λ v. pure q.answer) q.between new t
-          = parts (declarations.declare_parameter stage.Function line d.declared.name q.answer) (λ v. pure q.answer) q.between new t q.second in
+    = parts (declarations.declare_parameter stage.Function line d.declared.name q.answer) (λ v. pure q.answer) q.between new t q.second in
     subst IsObject (answer_of q.answer t r.between new r.second)
-      (record {
-        type = types_use.declared role.Parameter line (words.base_of b) p.answer q.answer refl l.gave;
-        specified = types_use.vspec role.Parameter line (words.base_of b) p.answer q.answer l.gave;
-      })
+    (record {
+      type = types_use.declared role.Parameter line (words.base_of b) p.answer q.answer refl l.gave;
+      specified = types_use.vspec role.Parameter line (words.base_of b) p.answer q.answer l.gave;
+    })
 
 -- ---- each tree
 

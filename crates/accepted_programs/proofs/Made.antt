@@ -95,12 +95,12 @@ pub parts_of : (many line : ℕ) (b : Base) (d : Shape) (gs : List Given) (items
 parts_of many line b d gs items s new r sc table good one two =
     let ty : Typed line b d gs s r.typed r.type = function_typed many line b d gs items s r.typed r.type good r.first in
     let n : NamedFunction (name_by d.declared.name) r.type r.typed r.named sc table
-          = function_named line (name_by d.declared.name) r.type r.typed r.named r.u sc table (ty.still.scopes ∙ one) (ap (λ (f : Functions). f.defined) ty.still.functions ∙ two) r.second in
+    = function_named line (name_by d.declared.name) r.type r.typed r.named r.u sc table (ty.still.scopes ∙ one) (ap (λ (f : Functions). f.defined) ty.still.functions ∙ two) r.second in
     let top : r.named.scopes ≡ n.scope ∷ [] = ap (λ (z : State). z.scopes) n.is in
     let a : All n.scope (length (types_of r.type)) (entered r.named) r.third.given
-          = function_begun n.scope r.type gs (entered r.named) r.third.given r.third.u (ap (λ (ss : Scopes). ss ++ [] ∷ []) top) ty.few ty.enough ty.objects r.third.begun in
+    = function_begun n.scope r.type gs (entered r.named) r.third.given r.third.u (ap (λ (ss : Scopes). ss ++ [] ∷ []) top) ty.few ty.enough ty.objects r.third.begun in
     let bl : Blocked n.scope r.named r.third.last
-           = blocked n.scope (length (types_of r.type)) (rules.each items around) r.named r.third.given r.third.last r.third.nodes top a good.walks.grows r.third.walked in
+    = blocked n.scope (length (types_of r.type)) (rules.each items around) r.named r.third.given r.third.last r.third.nodes top a good.walks.grows r.third.walked in
     record { typed = ty; name = n; all = a; grown = grown line d r.type s r.typed r.named r.third.given r.third.last r.third.nodes sc table (name_by d.declared.name) (length (types_of r.type)) ty.still n a bl }
 
 -- one function more, and the ticks that it made
@@ -108,10 +108,12 @@ pub function_towards : (many line : ℕ) (b : Base) (d : Shape) (gs : List Given
     → PartsOf line b d gs items s new r sc table → Towards s new
 function_towards many line b d gs items s new r sc table p =
     subst (λ (z : State). Towards s z) (sym (is_made line b d gs items s new r))
-      (record {
-        earlier = ap (λ (f : Functions). f.earlier) p.grown.functions;
-        prototypes = starts_same s.functions.prototypes r.third.last.functions.prototypes (ap (λ (f : Functions). f.prototypes) p.grown.functions);
-        all = record { rest = made_function line d r.type r.named r.third.last r.third.nodes ∷ [];
-                       is = ap (λ (f : Functions). f.all ++ made_function line d r.type r.named r.third.last r.third.nodes ∷ []) p.grown.functions };
-        ticks = p.grown.ticks;
-      })
+    (record {
+      earlier = ap (λ (f : Functions). f.earlier) p.grown.functions;
+      prototypes = starts_same s.functions.prototypes r.third.last.functions.prototypes (ap (λ (f : Functions). f.prototypes) p.grown.functions);
+      all = record {
+        rest = made_function line d r.type r.named r.third.last r.third.nodes ∷ [];
+        is = ap (λ (f : Functions). f.all ++ made_function line d r.type r.named r.third.last r.third.nodes ∷ []) p.grown.functions;
+      };
+      ticks = p.grown.ticks;
+    })

@@ -75,11 +75,11 @@ other_layers (x ∷ []) (y ∷ []) one h k = other_layer x y h (and_left (same_l
 pub main_list : (a t : CType) → (a ≡ t) ⊎ (same a t ≡ true) → is_main_type a ≡ true → types_of t ≡ []
 main_list a t (inl e) h =
     subst (λ (u : CType). types_of u ≡ []) e
-      (no_types (outermost (layers_of a)) (and_right (length (layers_of a) == 1) (takes_none (outermost (layers_of a))) (and_left (length (layers_of a) == 1 && takes_none (outermost (layers_of a))) (is_int (base_of a)) h)))
+    (no_types (outermost (layers_of a)) (and_right (length (layers_of a) == 1) (takes_none (outermost (layers_of a))) (and_left (length (layers_of a) == 1 && takes_none (outermost (layers_of a))) (is_int (base_of a)) h)))
 main_list a t (inr e) h =
     let shape : (length (layers_of a) == 1 && takes_none (outermost (layers_of a))) ≡ true = and_left (length (layers_of a) == 1 && takes_none (outermost (layers_of a))) (is_int (base_of a)) h in
     let layers : same_layers (layers_of a) (layers_of t) ≡ true
-               = and_right (same_base (base_of a) (base_of t)) (same_layers (layers_of a) (layers_of t)) (by_parts (same_base (base_of a) (base_of t) && same_layers (layers_of a) (layers_of t)) a t refl ∙ e) in
+    = and_right (same_base (base_of a) (base_of t)) (same_layers (layers_of a) (layers_of t)) (by_parts (same_base (base_of a) (base_of t) && same_layers (layers_of a) (layers_of t)) a t refl ∙ e) in
     other_layers (layers_of a) (layers_of t) (and_left (length (layers_of a) == 1) (takes_none (outermost (layers_of a))) shape) (and_right (length (layers_of a) == 1) (takes_none (outermost (layers_of a))) shape) layers
 
 -- ---- the function
@@ -101,7 +101,7 @@ meant : (s : State) (o : Option Meaning) → find s.scopes (codes "main") ≡ o 
 meant s None e h = absurd (cc)
 meant s (Some m) e h =
     let a : (names.is_function m.kind && tables.is_defined (codes "main") s.functions) ≡ true
-          = and_left (names.is_function m.kind && tables.is_defined (codes "main") s.functions) (is_main_type m.ctype) h in
+    = and_left (names.is_function m.kind && tables.is_defined (codes "main") s.functions) (is_main_type m.ctype) h in
     record {
       what = m;
       found = e;

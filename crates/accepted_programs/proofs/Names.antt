@@ -59,12 +59,12 @@ first_function : (line : ℕ) (name : Name) (t : CType) (s new : State) (u : Uni
 first_function line name t s new u sc dc one two is =
     let what : Meaning = meaning kind.Function t (functions.next s.functions) in
     let p : Parts (declare line name (meaning kind.Function t (functions.next s.functions))) (λ v. globals.define line name) s new u
-          = parts (declare line name (meaning kind.Function t (functions.next s.functions))) (λ v. globals.define line name) s new u is in
+    = parts (declare line name (meaning kind.Function t (functions.next s.functions))) (λ v. globals.define line name) s new u is in
     let d : DeclaresFirst name (meaning kind.Function t (functions.next s.functions)) s p.between sc
-          = declare_first line name (meaning kind.Function t (functions.next s.functions)) s p.between p.answer sc one p.first in
+    = declare_first line name (meaning kind.Function t (functions.next s.functions)) s p.between p.answer sc one p.first in
     let f : p.between.functions ≡ s.functions = ap (λ (z : State). z.functions) d.is in
     let e : new ≡ record p.between { functions = record p.between.functions { defined = with_name (length p.between.functions.all) name dc ∷ [] } }
-          = define_state line name p.between new u dc (ap (λ (z : Functions). z.defined) f ∙ two) p.second in
+    = define_state line name p.between new u dc (ap (λ (z : Functions). z.defined) f ∙ two) p.second in
     record {
       scope = sc ++ (name, meaning kind.Function t (functions.next s.functions)) ∷ [];
       is = e ∙ ap (λ (z : State). record z { functions = record z.functions { defined = with_name (length z.functions.all) name dc ∷ [] } }) d.is;
@@ -135,9 +135,9 @@ first_prototype : (line : ℕ) (name : Name) (t : CType) (s new : State) (u : Un
     → names.first_prototype line name t s ≡ Ok (u, new) → NamedPrototype line name t s new sc
 first_prototype line name t s new u sc one is =
     let p : Parts (declare line name (meaning kind.Function t (functions.number name s.functions))) (λ v. names.note line name) s new u
-          = parts (declare line name (meaning kind.Function t (functions.number name s.functions))) (λ v. names.note line name) s new u is in
+    = parts (declare line name (meaning kind.Function t (functions.number name s.functions))) (λ v. names.note line name) s new u is in
     let d : DeclaresFirst name (meaning kind.Function t (functions.number name s.functions)) s p.between sc
-          = declare_first line name (meaning kind.Function t (functions.number name s.functions)) s p.between p.answer sc one p.first in
+    = declare_first line name (meaning kind.Function t (functions.number name s.functions)) s p.between p.answer sc one p.first in
     record {
       scope = sc ++ (name, meaning kind.Function t (functions.number name s.functions)) ∷ [];
       is = noted line name p.between new u p.second ∙ ap (λ (z : State). record z { functions = functions.with_prototype line name z.functions }) d.is;
@@ -162,4 +162,3 @@ pub prototype_named : (line : ℕ) (name : Name) (t : CType) (s new : State) (u 
     → names.prototype line name t s ≡ Ok (u, new) → NamedPrototype line name t s new sc
 unfolding names.prototype
 prototype_named line name t s new u sc one is = prototype_case (names.known_before name t s) line name t s new u sc one is
-

@@ -49,8 +49,8 @@ is_object_parameter : (k : ℕ) (w : Width) (off : ℕ) (a : Around) → in_func
 is_object_parameter k w off a h within aligned =
     ap (λ (x : Act). x.is_parameter k a) (act_parameterobject k w off)
     ∙ and_true (k == k) (is_object off 1 a) (same_number k)
-        (and_true (in_function a && nat_le (off + 4 * 1) a.object) (off % 4 == 0) (and_true (in_function a) (nat_le (off + 4 * 1) a.object) h within)
-          (ap (λ (n : ℕ). n == 0) aligned))
+    (and_true (in_function a && nat_le (off + 4 * 1) a.object) (off % 4 == 0) (and_true (in_function a) (nat_le (off + 4 * 1) a.object) h within)
+    (ap (λ (n : ℕ). n == 0) aligned))
 
 less : (m n o : ℕ) → m ≤ n → nat_le n o ≡ true → nat_le m o ≡ true
 less m n o h k = grind (arith, nat_tests)
@@ -71,7 +71,7 @@ register_declared : (i k n : ℕ) (w : Width) (vs : List Stmt) → n ≡ k → s
     → sum (map (declarations_of i) (vs ++ st.Parameter n w ∷ [])) ≤ one_if (nat_lt i (suc k))
 register_declared i k n w vs e h =
     let more : sum (map (declarations_of i) (vs ++ st.Parameter n w ∷ [])) ≡ sum (map (declarations_of i) vs) + sum (map (declarations_of i) (st.Parameter n w ∷ []))
-             = sum_map_both (declarations_of i) vs (st.Parameter n w ∷ []) in
+    = sum_map_both (declarations_of i) vs (st.Parameter n w ∷ []) in
     let one : declarations_of i (st.Parameter n w) ≡ one_if (i == n) = declarations_of_parameter i n w in
     let same : one_if (i == n) ≡ one_if (i == k) = ap (λ (m : ℕ). one_if (i == m)) e in
     let b : sum (map (declarations_of i) vs) + one_if (i == k) ≤ one_if (nat_lt i (suc k)) = number_more i k (sum (map (declarations_of i) vs)) h in
@@ -81,7 +81,7 @@ object_declared : (i k n : ℕ) (w : Width) (off : ℕ) (vs : List Stmt) → sum
     → sum (map (declarations_of i) (vs ++ st.ParameterObject n w off ∷ [])) ≤ one_if (nat_lt i (suc k))
 object_declared i k n w off vs h =
     let more : sum (map (declarations_of i) (vs ++ st.ParameterObject n w off ∷ [])) ≡ sum (map (declarations_of i) vs) + sum (map (declarations_of i) (st.ParameterObject n w off ∷ []))
-             = sum_map_both (declarations_of i) vs (st.ParameterObject n w off ∷ []) in
+    = sum_map_both (declarations_of i) vs (st.ParameterObject n w off ∷ []) in
     let none : declarations_of i (st.ParameterObject n w off) ≡ 0 = declarations_of_parameterobject i n w off in
     let b : sum (map (declarations_of i) vs) ≤ one_if (nat_lt i (suc k)) = number_same i k (sum (map (declarations_of i) vs)) h in
     omega arith
@@ -96,18 +96,18 @@ register_at k t f few at =
       small = let s : f.object ≤ 4 * k = at.small in omega arith;
       aligned = at.aligned;
       stand = λ a h within.
-        ap (λ vs. are_parameters 0 vs a) (map_both act f.nodes (st.Parameter (frames.number f) (width_of t) ∷ []))
-        ∙ parameters_more 0 (frames.number f) (map act f.nodes) (act (st.Parameter (frames.number f) (width_of t))) a
-            (at_place k (frames.number f) act f.nodes number at.nodes) (at.stand a h within) (is_register (frames.number f) (width_of t) a h);
+          ap (λ vs. are_parameters 0 vs a) (map_both act f.nodes (st.Parameter (frames.number f) (width_of t) ∷ []))
+          ∙ parameters_more 0 (frames.number f) (map act f.nodes) (act (st.Parameter (frames.number f) (width_of t))) a
+          (at_place k (frames.number f) act f.nodes number at.nodes) (at.stand a h within) (is_register (frames.number f) (width_of t) a h);
       values = all_map_both uses_values f.nodes (st.Parameter (frames.number f) (width_of t) ∷ []) at.values
-        (and_true (uses_values (st.Parameter (frames.number f) (width_of t))) true (values_parameter (frames.number f) (width_of t)) refl);
+          (and_true (uses_values (st.Parameter (frames.number f) (width_of t))) true (values_parameter (frames.number f) (width_of t)) refl);
       objects = λ byte. sum_map_both (objects_at byte) f.nodes (st.Parameter (frames.number f) (width_of t) ∷ [])
-        ∙ (let o : objects_at byte (st.Parameter (frames.number f) (width_of t)) ≡ 0 = objects_at_parameter byte (frames.number f) (width_of t) in
-           let s : sum (map (objects_at byte) f.nodes) ≡ one_if (nat_lt byte f.object) = at.objects byte in omega arith);
+          ∙ (let o : objects_at byte (st.Parameter (frames.number f) (width_of t)) ≡ 0 = objects_at_parameter byte (frames.number f) (width_of t) in
+          let s : sum (map (objects_at byte) f.nodes) ≡ one_if (nat_lt byte f.object) = at.objects byte in omega arith);
       declared = λ i. register_declared i k (frames.number f) (width_of t) f.nodes number (at.declared i);
       size = sum_map_both statement_size f.nodes (st.Parameter (frames.number f) (width_of t) ∷ [])
-        ∙ (let o : statement_size (st.Parameter (frames.number f) (width_of t)) ≡ 1 = statement_size_parameter (frames.number f) (width_of t) in
-           let s : sum (map statement_size f.nodes) ≡ k = at.size in omega arith);
+          ∙ (let o : statement_size (st.Parameter (frames.number f) (width_of t)) ≡ 1 = statement_size_parameter (frames.number f) (width_of t) in
+          let s : sum (map statement_size f.nodes) ≡ k = at.size in omega arith);
     }
 
 aligned_more : (o : ℕ) → o % 4 ≡ 0 → (o + 4) % 4 ≡ 0
@@ -124,25 +124,25 @@ object_at k t f few at =
       small = omega arith;
       aligned = ap (λ (n : ℕ). n % 4) after ∙ aligned_more f.object at.aligned;
       stand = λ a h within.
-        ap (λ vs. are_parameters 0 vs a) (map_both act f.nodes (st.ParameterObject (frames.number f) (width_of t) f.object ∷ []))
-        ∙ parameters_more 0 (frames.number f) (map act f.nodes) (act (st.ParameterObject (frames.number f) (width_of t) f.object)) a
-            (at_place k (frames.number f) act f.nodes number at.nodes)
-            (at.stand a h (less f.object (frames.after f.object 1) a.object (omega arith) within))
-            (is_object_parameter (frames.number f) (width_of t) f.object a h (ap (λ (n : ℕ). nat_le n a.object) (sym after) ∙ within) at.aligned);
+          ap (λ vs. are_parameters 0 vs a) (map_both act f.nodes (st.ParameterObject (frames.number f) (width_of t) f.object ∷ []))
+          ∙ parameters_more 0 (frames.number f) (map act f.nodes) (act (st.ParameterObject (frames.number f) (width_of t) f.object)) a
+          (at_place k (frames.number f) act f.nodes number at.nodes)
+          (at.stand a h (less f.object (frames.after f.object 1) a.object (omega arith) within))
+          (is_object_parameter (frames.number f) (width_of t) f.object a h (ap (λ (n : ℕ). nat_le n a.object) (sym after) ∙ within) at.aligned);
       values = all_map_both uses_values f.nodes (st.ParameterObject (frames.number f) (width_of t) f.object ∷ []) at.values
-        (and_true (uses_values (st.ParameterObject (frames.number f) (width_of t) f.object)) true (values_object (frames.number f) (width_of t) f.object) refl);
+          (and_true (uses_values (st.ParameterObject (frames.number f) (width_of t) f.object)) true (values_object (frames.number f) (width_of t) f.object) refl);
       objects = λ byte. sum_map_both (objects_at byte) f.nodes (st.ParameterObject (frames.number f) (width_of t) f.object ∷ [])
-        ∙ (let o : objects_at byte (st.ParameterObject (frames.number f) (width_of t) f.object) ≡ one_if (is_in byte f.object 1)
-                 = objects_at_parameterobject byte (frames.number f) (width_of t) f.object in
-           let s : sum (map (objects_at byte) f.nodes) ≡ one_if (nat_lt byte f.object) = at.objects byte in
-           let b : one_if (nat_lt byte f.object) + one_if (is_in byte f.object 1) ≡ one_if (nat_lt byte (f.object + 4)) = bytes_more byte f.object in
-           let e : one_if (nat_lt byte (f.object + 4)) ≡ one_if (nat_lt byte (frames.after f.object 1)) = ap (λ (n : ℕ). one_if (nat_lt byte n)) (sym after) in
-           omega arith);
+          ∙ (let o : objects_at byte (st.ParameterObject (frames.number f) (width_of t) f.object) ≡ one_if (is_in byte f.object 1)
+          = objects_at_parameterobject byte (frames.number f) (width_of t) f.object in
+          let s : sum (map (objects_at byte) f.nodes) ≡ one_if (nat_lt byte f.object) = at.objects byte in
+          let b : one_if (nat_lt byte f.object) + one_if (is_in byte f.object 1) ≡ one_if (nat_lt byte (f.object + 4)) = bytes_more byte f.object in
+          let e : one_if (nat_lt byte (f.object + 4)) ≡ one_if (nat_lt byte (frames.after f.object 1)) = ap (λ (n : ℕ). one_if (nat_lt byte n)) (sym after) in
+          omega arith);
       declared = λ i. object_declared i k (frames.number f) (width_of t) f.object f.nodes (at.declared i);
       size = sum_map_both statement_size f.nodes (st.ParameterObject (frames.number f) (width_of t) f.object ∷ [])
-        ∙ (let o : statement_size (st.ParameterObject (frames.number f) (width_of t) f.object) ≡ 1
-                 = statement_size_parameterobject (frames.number f) (width_of t) f.object in
-           let s : sum (map statement_size f.nodes) ≡ k = at.size in omega arith);
+          ∙ (let o : statement_size (st.ParameterObject (frames.number f) (width_of t) f.object) ≡ 1
+          = statement_size_parameterobject (frames.number f) (width_of t) f.object in
+          let s : sum (map statement_size f.nodes) ≡ k = at.size in omega arith);
     }
 
 either_at : (k : ℕ) (t : CType) (f : Frame) (b : Bool) → k ≤ 7 → FrameAt k f → FrameAt (suc k) (if b then frames.object_parameter t f else frames.register_parameter t f)

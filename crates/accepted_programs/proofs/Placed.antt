@@ -56,9 +56,9 @@ register_placed k t f few at = record {
   home = home.Register;
   is = new_is k (frames.number f) f.homes home.Register at.homes (count_small f.homes k at.homes few);
   stands =
-    ap (λ ns. has (frames.number f) ns) (numbers_more f.nodes (st.Parameter (frames.number f) (width_of t) ∷ []))
-    ∙ has_back (frames.number f) (numbers f.nodes) (numbers (st.Parameter (frames.number f) (width_of t) ∷ []))
-        (ap (λ (x : Act). has (frames.number f) (x.number ++ [])) (act_parameter (frames.number f) (width_of t)) ∙ has_self (frames.number f));
+      ap (λ ns. has (frames.number f) ns) (numbers_more f.nodes (st.Parameter (frames.number f) (width_of t) ∷ []))
+      ∙ has_back (frames.number f) (numbers f.nodes) (numbers (st.Parameter (frames.number f) (width_of t) ∷ []))
+      (ap (λ (x : Act). has (frames.number f) (x.number ++ [])) (act_parameter (frames.number f) (width_of t)) ∙ has_self (frames.number f));
 }
 
 object_more : (k : ℕ) (t : CType) (f : Frame) → k ≤ 7 → FrameAt k f → More f (frames.object_parameter t f)
@@ -73,8 +73,8 @@ object_placed k t f few at = record {
   home = home.Object f.object;
   is = new_is k (frames.number f) f.homes (home.Object f.object) at.homes (count_small f.homes k at.homes few);
   stands =
-    let small : f.object ≤ 4 * k = at.small in
-    and_true (nat_le f.object (frames.after f.object 1)) (f.object % 4 == 0) (le_true f.object (frames.after f.object 1) (omega arith)) (ap (λ (n : ℕ). n == 0) at.aligned);
+      let small : f.object ≤ 4 * k = at.small in
+      and_true (nat_le f.object (frames.after f.object 1)) (f.object % 4 == 0) (le_true f.object (frames.after f.object 1) (omega arith)) (ap (λ (n : ℕ). n == 0) at.aligned);
 }
 
 either_more : (k : ℕ) (t : CType) (f : Frame) (b : Bool) → k ≤ 7 → FrameAt k f → More f (if b then frames.object_parameter t f else frames.register_parameter t f)

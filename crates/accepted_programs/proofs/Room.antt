@@ -168,8 +168,8 @@ only_same a b c d e f g p q h = grind (arith, nat_tests)
 converts_same : (a : Base) (as_ : List Layer) (b : Base) (bs : List Layer) (z : Bool) → is_array_layer (outermost bs) ≡ true → converts_parts a as_ b bs z ≡ true → same_layers as_ bs ≡ true
 converts_same a as_ b bs z array h =
     and_right (same_base a b) (same_layers as_ bs)
-      (only_same (is_integer a as_) (is_integer b bs) (same_parts a as_ b bs) z (is_pointer (outermost bs)) (is_pointer (outermost as_)) (serves a (under as_) b (under bs))
-        (no_integer b bs array) (no_pointer (outermost bs) array) h)
+    (only_same (is_integer a as_) (is_integer b bs) (same_parts a as_ b bs) z (is_pointer (outermost bs)) (is_pointer (outermost as_)) (serves a (under as_) b (under bs))
+    (no_integer b bs array) (no_pointer (outermost bs) array) h)
 
 array_converts : (v : CType) (t : CType) (z : Bool) → is_array_layer (outermost (layers_of v)) ≡ false → is_array_layer (outermost (layers_of t)) ≡ true → converts v t z ≡ true → ⊥
 unfolding converts
@@ -182,7 +182,7 @@ no_array_value : (t : CType) → HasValue t → is_array_layer (outermost (layer
 no_array_value t v array =
     let n : value_breaks (value_of v.operand) t ≡ None = broken_none (value_breaks (value_of v.operand) t) _ (value_of v.operand) v.word v.is in
     let c : converts (value_of v.operand).ctype t (value_of v.operand).zero ≡ true
-          = converts_case (shapes.is_void (value_of v.operand).ctype) (converts (value_of v.operand).ctype t (value_of v.operand).zero) n in
+    = converts_case (shapes.is_void (value_of v.operand).ctype) (converts (value_of v.operand).ctype t (value_of v.operand).zero) n in
     let d : is_array_layer (outermost (layers_of (value_of v.operand).ctype)) ≡ false = ap (λ (u : CType). is_array_layer (outermost (layers_of u))) (value_type v.operand) ∙ decayed_array v.operand.ctype in
     array_converts (value_of v.operand).ctype t (value_of v.operand).zero d array c
 
@@ -315,6 +315,6 @@ pub list_fits : (b : Base) (ss : List Step) (n : ℕ) → worst ss b [] ≡ None
 list_fits b ss n w a v m few =
     let one : bytes_in (ctype b (made ss [])) ≤ size_of (ctype b (made ss [])) = value_fits b ss (record { worst = w; value = a.value; other = a.other }) v in
     let s : (is_sized_under (is_integer_base b) (made ss []) ≡ true) × (bytes_in (ctype b (made ss [])) ≤ size_under (base_size b) (made ss []))
-          = has_size b (made ss []) (bytes_in (ctype b (made ss []))) (some_bytes (ctype b (made ss []))) one in
+    = has_size b (made ss []) (bytes_in (ctype b (made ss []))) (some_bytes (ctype b (made ss []))) one in
     subst (λ (k : ℕ). m * bytes_in (ctype b (made ss [])) ≤ k) (sym (array_size b (made ss []) n s.0 a))
-      (product m n (bytes_in (ctype b (made ss []))) (size_under (base_size b) (made ss [])) few s.1)
+    (product m n (bytes_in (ctype b (made ss []))) (size_under (base_size b) (made ss [])) few s.1)

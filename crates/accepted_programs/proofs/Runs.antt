@@ -45,9 +45,9 @@ pub body_ran : (t : CType) (gs : List Given) (items : List Item) (s new : State)
 unfolding enter leave
 body_ran t gs items s new x is =
     let p : Parts (program.begun t gs items) (λ xs. leave (length s.scopes) s.frame.nodes >>= (λ vs. pure (st.Block vs xs))) (entered s) new x
-          = parts (program.begun t gs items) (λ xs. leave (length s.scopes) s.frame.nodes >>= (λ vs. pure (st.Block vs xs))) (entered s) new x is in
+    = parts (program.begun t gs items) (λ xs. leave (length s.scopes) s.frame.nodes >>= (λ vs. pure (st.Block vs xs))) (entered s) new x is in
     let q : Parts (functions.begun t gs) (λ v. rules.each items program.around) (entered s) p.between p.answer
-          = parts (functions.begun t gs) (λ v. rules.each items program.around) (entered s) p.between p.answer p.first in
+    = parts (functions.begun t gs) (λ v. rules.each items program.around) (entered s) p.between p.answer p.first in
     record {
       given = q.between;
       u = q.answer;
@@ -75,9 +75,9 @@ pub record TypeRan (line : ℕ) (b : Base) (d : Shape) (s new : State) (t : CTyp
 pub type_ran : (line : ℕ) (b : Base) (d : Shape) (s new : State) (t : CType) → program.function_type line b d s ≡ Ok (t, new) → TypeRan line b d s new t
 type_ran line b d s new t is =
     let p : Parts (d.walk stage.Function) (λ ss. lift (declared_type role.FileScope line (words.base_of b) (names.named_steps ss))) s new t
-          = parts (d.walk stage.Function) (λ ss. lift (declared_type role.FileScope line (words.base_of b) (names.named_steps ss))) s new t is in
+    = parts (d.walk stage.Function) (λ ss. lift (declared_type role.FileScope line (words.base_of b) (names.named_steps ss))) s new t is in
     let l : Lifted (declared_type role.FileScope line (words.base_of b) (names.named_steps p.answer)) p.between new t
-          = lifted (declared_type role.FileScope line (words.base_of b) (names.named_steps p.answer)) p.between new t p.second in
+    = lifted (declared_type role.FileScope line (words.base_of b) (names.named_steps p.answer)) p.between new t p.second in
     record { steps = p.answer; walked = p.first ∙ ap (λ (z : State). Ok (p.answer, z)) (sym l.same); typed = l.gave }
 
 pub record FunctionRan (line : ℕ) (b : Base) (d : Shape) (gs : List Given) (items : List Item) (s new : State) : Type 0 where
@@ -95,11 +95,11 @@ pub record FunctionRan (line : ℕ) (b : Base) (d : Shape) (gs : List Given) (it
 pub function_ran : (line : ℕ) (b : Base) (d : Shape) (gs : List Given) (items : List Item) (s new : State) (u : Unit {0}) → program.function line b d gs items s ≡ Ok (u, new) → FunctionRan line b d gs items s new
 function_ran line b d gs items s new u is =
     let a : Parts (program.function_type line b d) (λ t. functions.named line (name_by d.declared.name) t >>= (λ v. program.function_rest line t d gs items)) s new u
-          = parts (program.function_type line b d) (λ t. functions.named line (name_by d.declared.name) t >>= (λ v. program.function_rest line t d gs items)) s new u is in
+    = parts (program.function_type line b d) (λ t. functions.named line (name_by d.declared.name) t >>= (λ v. program.function_rest line t d gs items)) s new u is in
     let n : Parts (functions.named line (name_by d.declared.name) a.answer) (λ v. program.function_rest line a.answer d gs items) a.between new u
-          = parts (functions.named line (name_by d.declared.name) a.answer) (λ v. program.function_rest line a.answer d gs items) a.between new u a.second in
+    = parts (functions.named line (name_by d.declared.name) a.answer) (λ v. program.function_rest line a.answer d gs items) a.between new u a.second in
     let r : Parts (program.body a.answer gs items) (λ x. functions.ended line d.declared.name a.answer x) n.between new u
-          = parts (program.body a.answer gs items) (λ x. functions.ended line d.declared.name a.answer x) n.between new u n.second in
+    = parts (program.body a.answer gs items) (λ x. functions.ended line d.declared.name a.answer x) n.between new u n.second in
     record {
       typed = a.between;
       type = a.answer;

@@ -57,8 +57,8 @@ pub function_later : (many : ℕ) (f new : Functions) (name : Name) (n : ℕ) �
 function_later many f new name n l (Numbered h) = Numbered h
 function_later many f new name n l (Declared i p at is) =
     Declared i p
-      (ap (λ ps. slice_get ps i) l.prototypes.is ∙ get_front f.prototypes l.prototypes.rest i p at)
-      (is ∙ ap (λ (d : Scopes). number_by (find d p.name)) (sym l.earlier))
+    (ap (λ ps. slice_get ps i) l.prototypes.is ∙ get_front f.prototypes l.prototypes.rest i p at)
+    (is ∙ ap (λ (d : Scopes). number_by (find d p.name)) (sym l.earlier))
 
 file_later_at : (many : ℕ) (f new : Functions) (name : Name) (m : Meaning) (k : MeaningKind) → Later f new → FileMeans many f name m k → FileMeans many new name m k
 file_later_at many f new name m kind.Variable l h = h

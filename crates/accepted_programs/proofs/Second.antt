@@ -81,15 +81,15 @@ behind_function e name ks s m table before after f w = record {
   counted = ap length (sym (append_assoc ks f.more w.more)) ∙ w.counted;
   file = w.file;
   functions = λ all starts made.
-    let whole : Starts ((ks ++ f.more) ++ w.more) all = subst (λ l. Starts l all) (sym (append_assoc ks f.more w.more)) starts in
-    let first : Starts (ks ++ f.more) all = starts_trans (ks ++ f.more) ((ks ++ f.more) ++ w.more) all (record { rest = w.more; is = refl }) whole in
-    subst (λ (fs : List Function). EachFunction e all fs)
+      let whole : Starts ((ks ++ f.more) ++ w.more) all = subst (λ l. Starts l all) (sym (append_assoc ks f.more w.more)) starts in
+      let first : Starts (ks ++ f.more) all = starts_trans (ks ++ f.more) ((ks ++ f.more) ++ w.more) all (record { rest = w.more; is = refl }) whole in
+      subst (λ (fs : List Function). EachFunction e all fs)
       (rest_both s.functions.all m.functions.all e.functions.all (record { rest = f.function ∷ []; is = f.all }) after.all made)
       (f.stands all first, w.functions all whole after.all);
   ticks = λ all starts made.
-    let whole : Starts ((ks ++ f.more) ++ w.more) all = subst (λ l. Starts l all) (sym (append_assoc ks f.more w.more)) starts in
-    let first : Starts (ks ++ f.more) all = starts_trans (ks ++ f.more) ((ks ++ f.more) ++ w.more) all (record { rest = w.more; is = refl }) whole in
-    subst (λ (ts : List Tick). EachTick (round e all [] 0) ts (f.more ++ w.more))
+      let whole : Starts ((ks ++ f.more) ++ w.more) all = subst (λ l. Starts l all) (sym (append_assoc ks f.more w.more)) starts in
+      let first : Starts (ks ++ f.more) all = starts_trans (ks ++ f.more) ((ks ++ f.more) ++ w.more) all (record { rest = w.more; is = refl }) whole in
+      subst (λ (ts : List Tick). EachTick (round e all [] 0) ts (f.more ++ w.more))
       (rest_both s.ticks.all m.ticks.all e.ticks.all before.ticks after.ticks made)
       (ticks_both (round e all [] 0) before.ticks.rest after.ticks.rest f.more w.more (f.ticks all first before.ticks) (w.ticks all whole after.ticks));
 }

@@ -100,9 +100,9 @@ static_value line at t form string o s new u is = value_case line at t form stri
 walked_value : (line at : ℕ) (t : CType) (e : Node) (s new : State) (u : Unit {0}) → StaticNode e → program.static_walked line at t e s ≡ Ok (u, new) → Still s new
 walked_value line at t e s new u h is =
     let p : Parts (e.walk stage.Function) (λ o. statics.static_value line at t e.written.constant (is_some e.written.string) o) s new u
-          = parts (e.walk stage.Function) (λ o. statics.static_value line at t e.written.constant (is_some e.written.string) o) s new u is in
+    = parts (e.walk stage.Function) (λ o. statics.static_value line at t e.written.constant (is_some e.written.string) o) s new u is in
     let v : Allowed e.written.constant (is_some e.written.string) × Still p.between new
-          = static_value line at t e.written.constant (is_some e.written.string) p.answer p.between new u p.second in
+    = static_value line at t e.written.constant (is_some e.written.string) p.answer p.between new u p.second in
     still_more s p.between new (walked_still e s p.between p.answer h v.0 p.first) v.1
 
 text_case : (b : Bool) (line at : ℕ) (bytes : List ℕ) (s new : State) (u : Unit {0}) → (if b then refuse fault.BadArray line else statics.fill at bytes s) ≡ Ok (u, new) → Still s new
@@ -137,9 +137,9 @@ row_still : (es : List Node) (t : CType) (r q : Row) (s new : State) → EachSta
 row_still [] t r q s new h is none = (ap (λ (z : Row). z.broken) (answer_of r q s new is) ∙ none, still_same s new (sym (state_of r q s new is)))
 row_still (e ∷ es) t r q s new h is none =
     let p : Parts (e.walk stage.Function) (λ o. program.row es t (statics.row_more t e.written.constant (is_some e.written.string) o r)) s new q
-          = parts (e.walk stage.Function) (λ o. program.row es t (statics.row_more t e.written.constant (is_some e.written.string) o r)) s new q is in
+    = parts (e.walk stage.Function) (λ o. program.row es t (statics.row_more t e.written.constant (is_some e.written.string) o r)) s new q is in
     let rest : ((statics.row_more t e.written.constant (is_some e.written.string) p.answer r).broken ≡ None) × Still p.between new
-             = row_still es t (statics.row_more t e.written.constant (is_some e.written.string) p.answer r) q p.between new h.1 p.second none in
+    = row_still es t (statics.row_more t e.written.constant (is_some e.written.string) p.answer r) q p.between new h.1 p.second none in
     let one : (r.broken ≡ None) × Allowed e.written.constant (is_some e.written.string) = row_more t e.written.constant (is_some e.written.string) p.answer r rest.0 in
     (one.0, still_more s p.between new (walked_still e s p.between p.answer h.0 one.1 p.first) rest.1)
 
@@ -160,7 +160,7 @@ list_end line at t count r s new u is =
 static_list : (line at : ℕ) (t : CType) (es : List Node) (s new : State) (u : Unit {0}) → EachStatic es → program.static_list line at t es s ≡ Ok (u, new) → Still s new
 static_list line at t es s new u h is =
     let p : Parts (program.row es (inner t) (statics.row_begun t)) (λ r. statics.static_list line at t (length es) r) s new u
-          = parts (program.row es (inner t) (statics.row_begun t)) (λ r. statics.static_list line at t (length es) r) s new u is in
+    = parts (program.row es (inner t) (statics.row_begun t)) (λ r. statics.static_list line at t (length es) r) s new u is in
     let l : (p.answer.broken ≡ None) × Still p.between new = list_end line at t (length es) p.answer p.between new u p.second in
     let r : ((statics.row_begun t).broken ≡ None) × Still s p.between = row_still es (inner t) (statics.row_begun t) p.answer s p.between h p.first l.0 in
     still_more s p.between new r.1 l.1

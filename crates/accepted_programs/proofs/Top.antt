@@ -48,7 +48,7 @@ first_table xs p good r =
     let l : Library empty r.begin.1 = started r.begin.1 r.begin.0 r.one in
     let fs : r.begin.1.functions ≡ tables.new = ap (λ (z : State). z.functions) l.is in
     let g : Grew (functions_in xs) r.begin.1 r.first.1 []
-          = walk_grew 0 xs r.begin.1 r.first.1 r.first.0 l.scope [] good (ap (λ (z : State). z.scopes) l.is) (ap (λ (f : Functions). f.defined) fs) r.two in
+    = walk_grew 0 xs r.begin.1 r.first.1 r.first.0 l.scope [] good (ap (λ (z : State). z.scopes) l.is) (ap (λ (f : Functions). f.defined) fs) r.two in
     g.defined ∙ ap (λ (f : Functions). with_names (length f.all) (functions_in xs) [] ∷ []) fs
 
 pub record Begun (s new : State) : Type 1 where
@@ -66,7 +66,7 @@ tabled : (xs : List External) (p : Typed) → EachGood 0 xs → (r : Ran xs p) �
 tabled xs p good r =
     let b : Begun r.first.1 r.middle.1 = second_begun xs p r in
     let g : Grew (functions_in xs) r.middle.1 r.last.1 []
-          = walk_grew 0 xs r.middle.1 r.last.1 r.last.0 b.library.scope [] good b.one (ap (λ (f : Functions). f.defined) b.functions) r.four in
+    = walk_grew 0 xs r.middle.1 r.last.1 r.last.0 b.library.scope [] good b.one (ap (λ (f : Functions). f.defined) b.functions) r.four in
     let n : length r.last.1.functions.all ≡ length r.middle.1.functions.all + length (functions_in xs) = count_grew (functions_in xs) r.middle.1 r.last.1 [] g in
     let z : length r.middle.1.functions.all ≡ 0 = ap (λ (f : Functions). length f.all) b.functions in
     record {
@@ -80,7 +80,7 @@ ended : (ns : List Name) (e : State) (p : Typed) → Tabled ns e → Finished e 
 ended ns e p t f = record {
   limits = limits e f.fits;
   numbers = prototypes_numbered (many e) e.functions (with_names 0 ns []) t.defined t.earlier
-    (numbered (many e) 0 ns [] (let c : length e.functions.all ≡ length ns = t.count in omega arith) tt) f.prototypes;
+      (numbered (many e) 0 ns [] (let c : length e.functions.all ≡ length ns = t.count in omega arith) tt) f.prototypes;
 }
 
 begun_file : (e s new : State) → Begun s new → AtFile e new
@@ -152,10 +152,10 @@ image_few xs p fit good fixed r f =
     let second : r.middle.1.image ≡ images.again r.first.1.image = ap (λ (z : State). z.image) b.library.is in
     let k : ImageKept r.middle.1 r.last.1 = walk_image fit xs r.middle.1 r.last.1 r.last.0 b.library.scope [] good b.one again r.four in
     let ends : r.first.1.image.end ≡ r.last.1.image.end
-             = walks_end fit xs r.begin.1 r.first.1 r.middle.1 r.last.1 r.first.0 r.last.0 l.scope b.library.scope [] [] good fixed one b.one defined again r.two r.four
-                 (ap (λ (i : Image). i.end) first ∙ sym (ap (λ (i : Image). i.end) second)) in
+    = walks_end fit xs r.begin.1 r.first.1 r.middle.1 r.last.1 r.first.0 r.last.0 l.scope b.library.scope [] [] good fixed one b.one defined again r.two r.four
+    (ap (λ (i : Image). i.end) first ∙ sym (ap (λ (i : Image). i.end) second)) in
     image_small r.last.1.image r.first.1.image.end (k.strings ∙ ap (λ (i : Image). i.strings_at) second) (sym ends)
-      (k.bounded (subst Bounded (sym second) (λ h. omega arith))) (limits r.last.1 f.fits).image
+    (k.bounded (subst Bounded (sym second) (λ h. omega arith))) (limits r.last.1 f.fits).image
 
 -- given the parts
 pub program_accepted : (t : Tree) (p : Typed) → AllFit → ((n : ℕ) → EachGood n t.items) → AllFixed t.items → checked t ≡ Ok p → accepted.IsAccepted p
@@ -166,6 +166,6 @@ program_accepted t p fit good fixed is =
     let f : Finished r.last.1 p = finished_gives r.last.1 p r.five in
     let end : End r.last.1 = ended (functions_in t.items) r.last.1 p tb f in
     let w : Walked r.last.1 [] r.middle.1
-          = walked r.last.1 t.items [] r.middle.1 r.last.0 end (good (many r.last.1)) (begun_file r.last.1 r.first.1 r.middle.1 b) (ap length (sym b.ticks)) r.four in
+    = walked r.last.1 t.items [] r.middle.1 r.last.0 end (good (many r.last.1)) (begun_file r.last.1 r.first.1 r.middle.1 b) (ap length (sym b.ticks)) r.four in
     subst (λ (q : Typed). accepted.IsAccepted q) (sym f.is)
-      (is_accepted r.middle.1 r.last.1 p (functions_in t.items) tb f end w (ap (λ (g : Functions). g.all) b.functions) b.ticks (image_few t.items p fit (good 0) fixed r f))
+    (is_accepted r.middle.1 r.last.1 p (functions_in t.items) tb f end w (ap (λ (g : Functions). g.all) b.functions) b.ticks (image_few t.items p fit (good 0) fixed r f))

@@ -28,9 +28,9 @@ first_variable : (line : ℕ) (name : Name) (t : CType) (s new : State) (at : �
     → names.first_variable line name t s ≡ Ok (at, new) → NamedVariable name t s new at sc
 first_variable line name t s new at sc one is =
     let p : Parts (declare line name (next_global t s)) (λ u z. Ok (images.place s.image, z)) (names.with_global t s) new at
-          = parts (declare line name (next_global t s)) (λ u z. Ok (images.place s.image, z)) (names.with_global t s) new at is in
+    = parts (declare line name (next_global t s)) (λ u z. Ok (images.place s.image, z)) (names.with_global t s) new at is in
     let d : DeclaresFirst name (next_global t s) (names.with_global t s) p.between sc
-          = declare_first line name (next_global t s) (names.with_global t s) p.between p.answer sc one p.first in
+    = declare_first line name (next_global t s) (names.with_global t s) p.between p.answer sc one p.first in
     record {
       is = sym (state_of (images.place s.image) at p.between new p.second) ∙ d.is;
       place = sym (answer_of (images.place s.image) at p.between new p.second);

@@ -67,7 +67,7 @@ function_grew many line b d gs items s new r sc table good one two =
       one = ap (λ (z : State). z.scopes) made ∙ p.grown.scopes;
       defined = ap (λ (z : State). z.functions.defined) made ∙ ap (λ (f : Functions). f.defined) p.grown.functions;
       names = ap (λ (z : State). names_of z.functions.all) made ∙ names_last r.third.last.functions.all (made_function line d r.type r.named r.third.last r.third.nodes)
-        ∙ ap (λ (f : Functions). names_of f.all ++ name_by d.declared.name ∷ []) p.grown.functions;
+          ∙ ap (λ (f : Functions). names_of f.all ++ name_by d.declared.name ∷ []) p.grown.functions;
     }
 
 global_grew : (many : ℕ) (s new : State) (sc table : Scope) → GlobalDone many s new sc → s.functions.defined ≡ table ∷ [] → Grew [] s new table
@@ -120,7 +120,7 @@ grew_more xs ys s m new table p q = record {
   scope = q.scope;
   one = q.one;
   defined = q.defined ∙ ap (λ (i : ℕ). with_names i ys (with_names (length s.functions.all) xs table) ∷ []) (count_grew xs s m table p)
-    ∙ ap (λ sc. sc ∷ []) (sym (both_names (length s.functions.all) xs ys table));
+      ∙ ap (λ sc. sc ∷ []) (sym (both_names (length s.functions.all) xs ys table));
   names = q.names ∙ ap (λ ns. ns ++ ys) p.names ∙ append_assoc (names_of s.functions.all) xs ys;
 }
 
@@ -145,5 +145,5 @@ walk_grew many (x ∷ xs) s new u sc table good one two is =
     let p : Parts (program.external x) (λ v. program.walk xs) s new u = parts (program.external x) (λ v. program.walk xs) s new u is in
     let first : Grew (names_in x) s p.between table = external_grew many x s p.between p.answer sc table good.0 one two p.first in
     let rest : Grew (functions_in xs) p.between new (with_names (length s.functions.all) (names_in x) table)
-             = walk_grew many xs p.between new u first.scope (with_names (length s.functions.all) (names_in x) table) good.1 first.one first.defined p.second in
+    = walk_grew many xs p.between new u first.scope (with_names (length s.functions.all) (names_in x) table) good.1 first.one first.defined p.second in
     subst (λ (ns : List Name). Grew ns s new table) (names_first x xs) (grew_more (names_in x) (functions_in xs) s p.between new table first rest)

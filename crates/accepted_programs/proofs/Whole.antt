@@ -75,7 +75,7 @@ fits_end : (e : State) (line : ℕ) (d : Shape) (t : CType) (s named last : Stat
     → function_fits (made_function line d t named last xs) ≡ true
 fits_end e line d t s named last xs name table end w =
     function_fit e.functions.all (length last.functions.all) (made_function line d t named last xs) end.limits.functions
-      (get_rest last.functions.all (made_function line d t named last xs) w.all.rest e.functions.all w.all.is)
+    (get_rest last.functions.all (made_function line d t named last xs) w.all.rest e.functions.all w.all.is)
 
 -- its number
 own_number : (e : State) (line : ℕ) (d : Shape) (t : CType) (s named last : State) (xs : List Stmt) (name : Name) (table : Scope) → Towards (made_state line d t named last xs) e
@@ -107,7 +107,7 @@ file_then e line d t s typed_ named last xs sc table linked n is scopes names = 
   table = with_name (length s.functions.all) (name_by d.declared.name) table;
   defined = ap (λ (f : Functions). f.defined) is;
   linked = subst (λ (fs : List Function). EachLinked n.scope (fs ++ made_function line d t named last xs ∷ [])) (sym (ap (λ (f : Functions). f.all) is))
-    (linked_last n.scope s.functions.all (made_function line d t named last xs) (linked_later sc n.scope s.functions.all n.keeps linked)
+      (linked_last n.scope s.functions.all (made_function line d t named last xs) (linked_later sc n.scope s.functions.all n.keeps linked)
       (record { what = n.what; found = n.found; type = t; same = n.same; params = refl }));
 }
 
@@ -123,25 +123,25 @@ function_done e line b d gs items ks s new end good file counted r towards =
     let made : new ≡ made_state line d r.type r.named r.third.last r.third.nodes = is_made line b d gs items s new r in
     let w : Towards (made_state line d r.type r.named r.third.last r.third.nodes) e = subst (λ (z : State). Towards z e) made towards in
     let fits : function_fits (made_function line d r.type r.named r.third.last r.third.nodes) ≡ true
-             = fits_end e line d r.type s r.named r.third.last r.third.nodes (name_by d.declared.name) file.table end w in
+    = fits_end e line d r.type s r.named r.third.last r.third.nodes (name_by d.declared.name) file.table end w in
     let small : Small stage.Function r.third.last
-              = small_after e line d r.type r.named r.third.given r.third.last r.third.nodes (length (types_of r.type)) end w fits p.typed.few p.all.at.frame.homes (good.few r.third.given r.third.last r.third.nodes r.third.walked) in
+    = small_after e line d r.type r.named r.third.given r.third.last r.third.nodes (length (types_of r.type)) end w fits p.typed.few p.all.at.frame.homes (good.few r.third.given r.third.last r.third.nodes r.third.walked) in
     let below : length s.functions.all < many e = own_number e line d r.type s r.named r.third.last r.third.nodes (name_by d.declared.name) file.table w p.grown.functions in
     let names : EachEntry (FileName (many e) r.third.last.functions) p.name.scope
-              = names_then e s r.typed r.named r.third.last r.type file.scope file.table (name_by d.declared.name) file.names p.typed.still p.typed.value p.name p.grown.functions below in
+    = names_then e s r.typed r.named r.third.last r.type file.scope file.table (name_by d.declared.name) file.names p.typed.still p.typed.value p.name p.grown.functions below in
     let i : Inside e ks (length (types_of r.type)) r.third.given r.third.last r.third.nodes
-          = inside e p.name.scope (length (types_of r.type)) ks (rules.each items around) r.third.given r.third.last r.third.nodes good.walks p.all.at
-              (subst (λ (f : Functions). EachEntry (FileName (many e) f) p.name.scope) (sym p.grown.same) names)
-              (counted ∙ ap length (sym p.grown.before)) r.third.walked small (numbers_then e line d r.type r.named r.third.last r.third.nodes end w) in
+    = inside e p.name.scope (length (types_of r.type)) ks (rules.each items around) r.third.given r.third.last r.third.nodes good.walks p.all.at
+    (subst (λ (f : Functions). EachEntry (FileName (many e) f) p.name.scope) (sym p.grown.same) names)
+    (counted ∙ ap length (sym p.grown.before)) r.third.walked small (numbers_then e line d r.type r.named r.third.last r.third.nodes end w) in
     subst (λ (z : State). FunctionDone e (name_by d.declared.name) ks s z file.table) (sym made)
-      (record {
-        file = file_then e line d r.type s r.typed r.named r.third.last r.third.nodes file.scope file.table file.linked p.name p.grown.functions p.grown.scopes names;
-        defined = ap (λ (f : Functions). f.defined) p.grown.functions;
-        function = made_function line d r.type r.named r.third.last r.third.nodes;
-        all = ap (λ (f : Functions). f.all ++ made_function line d r.type r.named r.third.last r.third.nodes ∷ []) p.grown.functions;
-        named = refl;
-        more = i.more;
-        counted = i.counted;
-        stands = λ all starts. is_right e ks all line d r.type r.named r.third.given r.third.last r.third.nodes p.typed.few fits i starts;
-        ticks = λ all starts m. i.ticks all starts (record { rest = m.rest; is = m.is ∙ ap (λ ts. ts ++ m.rest) (sym p.grown.before) });
-      })
+    (record {
+      file = file_then e line d r.type s r.typed r.named r.third.last r.third.nodes file.scope file.table file.linked p.name p.grown.functions p.grown.scopes names;
+      defined = ap (λ (f : Functions). f.defined) p.grown.functions;
+      function = made_function line d r.type r.named r.third.last r.third.nodes;
+      all = ap (λ (f : Functions). f.all ++ made_function line d r.type r.named r.third.last r.third.nodes ∷ []) p.grown.functions;
+      named = refl;
+      more = i.more;
+      counted = i.counted;
+      stands = λ all starts. is_right e ks all line d r.type r.named r.third.given r.third.last r.third.nodes p.typed.few fits i starts;
+      ticks = λ all starts m. i.ticks all starts (record { rest = m.rest; is = m.is ∙ ap (λ ts. ts ++ m.rest) (sym p.grown.before) });
+    })
