@@ -14,8 +14,6 @@ use Rattle.check_tables.specs.Walks.{Rule}
 use Rattle.check_state.specs.declared.state.State.{State}
 use Rattle.check_state.specs.Locals.{meaning}
 use Rattle.check_state.specs.Names.{declare}
-use Rattle.check_globals.specs.declared.names.Before.{Before}
-use Rattle.check_globals.specs.declared.names.Before.TheVariants as before
 use Rattle.check_globals.specs.Functions as globals
 use Rattle.check_globals.specs.Names as names
 use Rattle.accepted_steps.specs.Known.{EachEntry}
@@ -75,49 +73,45 @@ first_function line name t s new u sc dc one two is =
       names = λ P h k. each_more P sc name (meaning kind.Function t (functions.next s.functions)) h k;
     }
 
--- a name that has a prototype of the same type
-record Prototyped (t : CType) (o : Option Meaning) : Type 0 where
-  what : Meaning
-  is : o ≡ Some what
-  function : names.is_function what.kind ≡ true
-  same : same what.ctype t ≡ true
-
-kind_case : (a b c : Bool) → (if not a || b then before.Taken else (if c then before.SamePrototype else before.OtherPrototype)) ≡ before.SamePrototype → (a ≡ true) × (c ≡ true)
-kind_case true false true is = (refl, refl)
-kind_case true false false is = absurd (cc)
-kind_case true true c is = absurd (cc)
-kind_case false b c is = absurd (cc)
-
-before_case : (d : Bool) (t : CType) (o : Option Meaning) → names.before_by d t o ≡ before.SamePrototype → Prototyped t o
-before_case d t None is = absurd (cc)
-before_case d t (Some m) is =
-    let r : (names.is_function m.kind ≡ true) × (same m.ctype t ≡ true) = kind_case (names.is_function m.kind) d (same m.ctype t) is in
-    record { what = m; is = refl; function = r.0; same = r.1 }
+pub split : (b : Bool) → (b ≡ true) ⊎ (b ≡ false)
+split true = inl refl
+split false = inr refl
 
 found_first : (sc : Scope) (ss : Scopes) (name : Name) (o : Option Meaning) → ss ≡ sc ∷ [] → find ss name ≡ o → in_scope sc name ≡ o
 found_first sc ss name o one is = ap (λ (z : Scopes). find z name) (sym one) ∙ is
 
-function_case : (b : Before) (line : ℕ) (name : Name) (t : CType) (s new : State) (u : Unit {0}) (sc dc : Scope) → names.known_before name t s ≡ b
-    → s.scopes ≡ sc ∷ [] → s.functions.defined ≡ dc ∷ [] → globals.function_by b line name t s ≡ Ok (u, new) → NamedFunction name t s new sc dc
-function_case before.Nothing line name t s new u sc dc known one two is = first_function line name t s new u sc dc one two is
-function_case before.SamePrototype line name t s new u sc dc known one two is =
-    let p : Prototyped t (find s.scopes name) = before_case (functions.is_defined name s.functions) t (find s.scopes name) known in
+same_prototype : (line : ℕ) (name : Name) (t : CType) (s new : State) (u : Unit {0}) (sc dc : Scope) (m : Meaning) → find s.scopes name ≡ Some m → same m.ctype t ≡ true
+    → s.scopes ≡ sc ∷ [] → s.functions.defined ≡ dc ∷ [] → globals.define line name s ≡ Ok (u, new) → NamedFunction name t s new sc dc
+same_prototype line name t s new u sc dc m known type one two is =
     record {
       scope = sc;
       is = define_state line name s new u dc two is ∙ ap (λ (z : Scopes). record s { scopes = z; functions = record s.functions { defined = with_name (length s.functions.all) name dc ∷ [] } }) one;
-      what = p.what;
-      found = found_first sc s.scopes name (Some p.what) one p.is;
-      same = inr p.same;
-      keeps = λ n m h. h;
+      what = m;
+      found = found_first sc s.scopes name (Some m) one known;
+      same = inr type;
+      keeps = λ n x h. h;
       names = λ P h k. h;
     }
-function_case before.OtherPrototype line name t s new u sc dc known one two is = absurd (cc)
-function_case before.Taken line name t s new u sc dc known one two is = absurd (cc)
+
+function_some : (d : Bool) (line : ℕ) (name : Name) (t : CType) (s new : State) (u : Unit {0}) (sc dc : Scope) (m : Meaning) → find s.scopes name ≡ Some m → s.scopes ≡ sc ∷ [] → s.functions.defined ≡ dc ∷ []
+    → ((not (names.is_function m.kind) || d) ≡ true) ⊎ ((not (names.is_function m.kind) || d) ≡ false) → (same m.ctype t ≡ true) ⊎ (same m.ctype t ≡ false)
+    → globals.function_by (names.before_by d t (Some m)) line name t s ≡ Ok (u, new) → NamedFunction name t s new sc dc
+function_some d line name t s new u sc dc m known one two (inl e) f is = absurd (let z = rw e at is in cc)
+function_some d line name t s new u sc dc m known one two (inr e) (inl f) is =
+    let z : globals.define line name s ≡ Ok (u, new) = rw (e, f) at is in same_prototype line name t s new u sc dc m known f one two z
+function_some d line name t s new u sc dc m known one two (inr e) (inr f) is = absurd (let z = rw (e, f) at is in cc)
+
+function_case : (o : Option Meaning) (line : ℕ) (name : Name) (t : CType) (s new : State) (u : Unit {0}) (sc dc : Scope) → find s.scopes name ≡ o
+    → s.scopes ≡ sc ∷ [] → s.functions.defined ≡ dc ∷ [] → globals.function_by (names.before_by (functions.is_defined name s.functions) t o) line name t s ≡ Ok (u, new) → NamedFunction name t s new sc dc
+function_case None line name t s new u sc dc known one two is = first_function line name t s new u sc dc one two is
+function_case (Some m) line name t s new u sc dc known one two is =
+    function_some (functions.is_defined name s.functions) line name t s new u sc dc m known one two
+      (split (not (names.is_function m.kind) || functions.is_defined name s.functions)) (split (same m.ctype t)) is
 
 pub function_named : (line : ℕ) (name : Name) (t : CType) (s new : State) (u : Unit {0}) (sc dc : Scope) → s.scopes ≡ sc ∷ [] → s.functions.defined ≡ dc ∷ []
     → globals.named line name t s ≡ Ok (u, new) → NamedFunction name t s new sc dc
 unfolding globals.named
-function_named line name t s new u sc dc one two is = function_case (names.known_before name t s) line name t s new u sc dc refl one two is
+function_named line name t s new u sc dc one two is = function_case (find s.scopes name) line name t s new u sc dc refl one two is
 
 -- ---- prototypes
 
@@ -145,20 +139,30 @@ first_prototype line name t s new u sc one is =
       names = λ P h k. each_more P sc name (meaning kind.Function t (functions.number name s.functions)) h k;
     }
 
-prototype_case : (b : Before) (line : ℕ) (name : Name) (t : CType) (s new : State) (u : Unit {0}) (sc : Scope) → s.scopes ≡ sc ∷ []
-    → names.prototype_by b line name t s ≡ Ok (u, new) → NamedPrototype line name t s new sc
-prototype_case before.Nothing line name t s new u sc one is = first_prototype line name t s new u sc one is
-prototype_case before.SamePrototype line name t s new u sc one is =
+again : (line : ℕ) (name : Name) (t : CType) (s new : State) (u : Unit {0}) (sc : Scope) → s.scopes ≡ sc ∷ [] → names.note line name s ≡ Ok (u, new) → NamedPrototype line name t s new sc
+again line name t s new u sc one is =
     record {
       scope = sc;
       is = noted line name s new u is ∙ ap (λ (z : Scopes). record s { scopes = z; functions = functions.with_prototype line name s.functions }) one;
       keeps = λ n m h. h;
       names = λ P h k. h;
     }
-prototype_case before.OtherPrototype line name t s new u sc one is = absurd (cc)
-prototype_case before.Taken line name t s new u sc one is = absurd (cc)
+
+prototype_some : (d : Bool) (line : ℕ) (name : Name) (t : CType) (s new : State) (u : Unit {0}) (sc : Scope) (m : Meaning) → s.scopes ≡ sc ∷ []
+    → ((not (names.is_function m.kind) || d) ≡ true) ⊎ ((not (names.is_function m.kind) || d) ≡ false) → (same m.ctype t ≡ true) ⊎ (same m.ctype t ≡ false)
+    → names.prototype_by (names.before_by d t (Some m)) line name t s ≡ Ok (u, new) → NamedPrototype line name t s new sc
+prototype_some d line name t s new u sc m one (inl e) f is = absurd (let z = rw e at is in cc)
+prototype_some d line name t s new u sc m one (inr e) (inl f) is = let z : names.note line name s ≡ Ok (u, new) = rw (e, f) at is in again line name t s new u sc one z
+prototype_some d line name t s new u sc m one (inr e) (inr f) is = absurd (let z = rw (e, f) at is in cc)
+
+prototype_case : (o : Option Meaning) (line : ℕ) (name : Name) (t : CType) (s new : State) (u : Unit {0}) (sc : Scope) → s.scopes ≡ sc ∷ []
+    → names.prototype_by (names.before_by (functions.is_defined name s.functions) t o) line name t s ≡ Ok (u, new) → NamedPrototype line name t s new sc
+prototype_case None line name t s new u sc one is = first_prototype line name t s new u sc one is
+prototype_case (Some m) line name t s new u sc one is =
+    prototype_some (functions.is_defined name s.functions) line name t s new u sc m one
+      (split (not (names.is_function m.kind) || functions.is_defined name s.functions)) (split (same m.ctype t)) is
 
 pub prototype_named : (line : ℕ) (name : Name) (t : CType) (s new : State) (u : Unit {0}) (sc : Scope) → s.scopes ≡ sc ∷ []
     → names.prototype line name t s ≡ Ok (u, new) → NamedPrototype line name t s new sc
 unfolding names.prototype
-prototype_named line name t s new u sc one is = prototype_case (names.known_before name t s) line name t s new u sc one is
+prototype_named line name t s new u sc one is = prototype_case (find s.scopes name) line name t s new u sc one is
