@@ -1,0 +1,120 @@
+-- Lists with one more at the end, and the equations of what is asked of the nodes of parameters.
+use Rattle.std.proofs.Common.{◌≡◌, ℕ, zero, suc, ◌+◌, ◌*◌, ◌%◌, ◌≤◌, ◌<◌, ◌==◌, Bool, true, false, ◌&&◌, ◌||◌, nat_le, nat_lt, if◌then◌else◌, refl, ap, sym, ◌∙◌, List, [], ◌∷◌, ◌++◌, length, map, sum, sum_by, arith, append_assoc, append-nil, take, drop}
+use Rattle.std.specs.List.{list_any, list_all}
+use Rattle.std.proofs.lemmas.Bool.Decides.{nat_tests}
+use Rattle.std.proofs.lemmas.List.Sums.{sum-map, sum_by-append}
+use Rattle.word32.specs.declared.width.Width.{Width}
+use Rattle.typed_tree.specs.declared.expression.Stmt.{Stmt}
+use Rattle.typed_tree.specs.declared.expression.Stmt.TheVariants as st
+use Rattle.typed_tree.specs.declared.expression.Stmt.TheOpen.{Stmt-F}
+use Rattle.typed_tree.specs.declared.expression.Stmt.TheFolds.{fold-roll-Stmt}
+use Rattle.accepted_trees.specs.Counts.{one_if, is_in}
+use Rattle.accepted_trees.specs.Places.{Around, Act, act, numbers_of, are_parameters}
+use Rattle.accepted_trees.specs.Values.{uses_values, all_true}
+use Rattle.accepted_trees.specs.Values as values
+use Rattle.accepted_steps.specs.Known.{has, numbers}
+
+pub map_both : {A B : Type 0} (f : A → B) (xs ys : List A) → map f (xs ++ ys) ≡ map f xs ++ map f ys
+map_both f [] ys = refl
+map_both f (x ∷ xs) ys = ap (λ l. f x ∷ l) (map_both f xs ys)
+
+pub sum_map_both : {A : Type 0} (f : A → ℕ) (xs ys : List A) → sum (map f (xs ++ ys)) ≡ sum (map f xs) + sum (map f ys)
+sum_map_both f xs ys =
+    let a : sum (map f (xs ++ ys)) ≡ sum_by f (xs ++ ys) = sum-map f (xs ++ ys) in
+    let b : sum_by f (xs ++ ys) ≡ sum_by f xs + sum_by f ys = sum_by-append f xs ys in
+    let c : sum (map f xs) ≡ sum_by f xs = sum-map f xs in
+    let d : sum (map f ys) ≡ sum_by f ys = sum-map f ys in
+    omega arith
+
+pub all_both : (xs ys : List Bool) → all_true xs ≡ true → all_true ys ≡ true → all_true (xs ++ ys) ≡ true
+all_both [] ys h k = k
+all_both (true ∷ xs) ys h k = all_both xs ys h k
+all_both (false ∷ xs) ys h k = absurd (cc)
+
+pub all_map_both : {A : Type 0} (f : A → Bool) (xs ys : List A) → all_true (map f xs) ≡ true → all_true (map f ys) ≡ true → all_true (map f (xs ++ ys)) ≡ true
+all_map_both f xs ys h k = ap all_true (map_both f xs ys) ∙ all_both (map f xs) (map f ys) h k
+
+-- ---- register variables
+
+pub numbers_both : (xs ys : List Act) → numbers_of (xs ++ ys) ≡ numbers_of xs ++ numbers_of ys
+numbers_both [] ys = refl
+numbers_both (x ∷ xs) ys = ap (λ l. x.number ++ l) (numbers_both xs ys) ∙ sym (append_assoc x.number (numbers_of xs) (numbers_of ys))
+
+pub numbers_more : (xs ys : List Stmt) → numbers (xs ++ ys) ≡ numbers xs ++ numbers ys
+numbers_more xs ys = ap numbers_of (map_both act xs ys) ∙ numbers_both (map act xs) (map act ys)
+
+front_by : (b c d : Bool) → (c ≡ true → d ≡ true) → (b || c) ≡ true → (b || d) ≡ true
+front_by true c d f h = refl
+front_by false c d f h = f h
+
+pub has_front : (n : ℕ) (xs ys : List ℕ) → has n xs ≡ true → has n (xs ++ ys) ≡ true
+has_front n [] ys h = absurd (cc)
+has_front n (x ∷ xs) ys h = front_by (n == x) (has n xs) (has n (xs ++ ys)) (has_front n xs ys) h
+
+back_by : (b c : Bool) → c ≡ true → (b || c) ≡ true
+back_by true c h = refl
+back_by false c h = h
+
+pub has_back : (n : ℕ) (xs ys : List ℕ) → has n ys ≡ true → has n (xs ++ ys) ≡ true
+has_back n [] ys h = h
+has_back n (x ∷ xs) ys h = back_by (n == x) (has n (xs ++ ys)) (has_back n xs ys h)
+
+pub same_number : (n : ℕ) → (n == n) ≡ true
+same_number n = grind (arith, nat_tests)
+
+pub has_self : (n : ℕ) → has n (n ∷ []) ≡ true
+has_self n = ap (λ b. b || false) (same_number n)
+
+-- ---- parameters
+
+parameters_by : (b c d : Bool) → (c ≡ true → d ≡ true) → (b && c) ≡ true → (b && d) ≡ true
+parameters_by true c d f h = f h
+parameters_by false c d f h = h
+
+one_by : (b : Bool) → b ≡ true → (b && true) ≡ true
+one_by true h = refl
+one_by false h = h
+
+pub parameters_more : (j n : ℕ) (vs : List Act) (v : Act) (a : Around) → n ≡ j + length vs → are_parameters j vs a ≡ true → v.is_parameter n a ≡ true → are_parameters j (vs ++ v ∷ []) a ≡ true
+parameters_more j n [] v a e h k = one_by (v.is_parameter j a) (ap (λ i. v.is_parameter i a) (let z : j ≡ n = omega arith in z) ∙ k)
+parameters_more j n (x ∷ vs) v a e h k =
+    parameters_by (x.is_parameter j a) (are_parameters (j + 1) vs a) (are_parameters (j + 1) (vs ++ v ∷ []) a) (λ p. parameters_more (j + 1) n vs v a (omega arith) p k) h
+
+-- ---- bytes and numbers
+
+pub bytes_more : (byte o : ℕ) → one_if (nat_lt byte o) + one_if (is_in byte o 1) ≡ one_if (nat_lt byte (o + 4))
+bytes_more byte o = grind (arith, nat_tests)
+
+pub number_more : (i k x : ℕ) → x ≤ one_if (nat_lt i k) → x + one_if (i == k) ≤ one_if (nat_lt i (suc k))
+number_more i k x h = grind (arith, nat_tests)
+
+pub number_same : (i k x : ℕ) → x ≤ one_if (nat_lt i k) → x ≤ one_if (nat_lt i (suc k))
+number_same i k x h = grind (arith, nat_tests)
+
+-- ---- used values
+
+pub values_parameter : (k : ℕ) (w : Width) → uses_values (st.Parameter k w) ≡ true
+unfolding uses_values
+values_parameter k w = ap uses_values (sym (st.rolls-Parameter k w)) ∙ fold-roll-Stmt Bool values.stmt_rule (Stmt-F.Parameter k w)
+
+pub values_object : (k : ℕ) (w : Width) (off : ℕ) → uses_values (st.ParameterObject k w off) ≡ true
+unfolding uses_values
+values_object k w off = ap uses_values (sym (st.rolls-ParameterObject k w off)) ∙ fold-roll-Stmt Bool values.stmt_rule (Stmt-F.ParameterObject k w off)
+
+pub values_block : (vs xs : List Stmt) → uses_values (st.Block vs xs) ≡ (all_true (map uses_values vs) && all_true (map uses_values xs))
+unfolding uses_values
+values_block vs xs = ap uses_values (sym (st.rolls-Block vs xs)) ∙ fold-roll-Stmt Bool values.stmt_rule (Stmt-F.Block vs xs)
+
+-- ---- the front of a list
+
+pub take_front : {A : Type 0} (n : ℕ) (xs ys : List A) → length xs ≡ n → take n (xs ++ ys) ≡ xs
+take_front zero [] ys e = refl
+take_front zero (x ∷ xs) ys e = absurd (omega arith)
+take_front (suc n) [] ys e = absurd (omega arith)
+take_front (suc n) (x ∷ xs) ys e = ap (λ l. x ∷ l) (take_front n xs ys (omega arith))
+
+pub drop_front : {A : Type 0} (n : ℕ) (xs ys : List A) → length xs ≡ n → drop n (xs ++ ys) ≡ ys
+drop_front zero [] ys e = refl
+drop_front zero (x ∷ xs) ys e = absurd (omega arith)
+drop_front (suc n) [] ys e = absurd (omega arith)
+drop_front (suc n) (x ∷ xs) ys e = drop_front n xs ys (omega arith)
