@@ -33,7 +33,7 @@ pub fn param(alloc: Global, line: u32, ty: Typename, number: Expr) -> Result<Exp
 pub fn index(alloc: Global, line: u32, left: Expr, at: Expr) -> Result<Expr, AllocError>
     ensures { IfOk result (λ e. e ≡ Expr.Index line left at) }
 {
-    Ok(Expr::Index(line, Boxed::new(alloc, left)?, Boxed::new(alloc, at)?))
+    Ok(Expr::Index(line, Boxed::new(alloc, (left, at))?))
 }
 
 pub fn call(
@@ -89,8 +89,7 @@ pub fn binary(
     Ok(Expr::Binary(
         line,
         op,
-        Boxed::new(alloc, left)?,
-        Boxed::new(alloc, right)?,
+        Boxed::new(alloc, (left, right))?,
     ))
 }
 
@@ -114,7 +113,7 @@ pub fn choice(
 pub fn assign(alloc: Global, line: u32, left: Expr, right: Expr) -> Result<Expr, AllocError>
     ensures { IfOk result (λ e. e ≡ Expr.Assign line left right) }
 {
-    Ok(Expr::Assign(line, Boxed::new(alloc, left)?, Boxed::new(alloc, right)?))
+    Ok(Expr::Assign(line, Boxed::new(alloc, (left, right))?))
 }
 
 pub fn modify(
@@ -129,13 +128,12 @@ pub fn modify(
     Ok(Expr::Modify(
         line,
         op,
-        Boxed::new(alloc, left)?,
-        Boxed::new(alloc, right)?,
+        Boxed::new(alloc, (left, right))?,
     ))
 }
 
 pub fn comma(alloc: Global, line: u32, left: Expr, right: Expr) -> Result<Expr, AllocError>
     ensures { IfOk result (λ e. e ≡ Expr.Comma line left right) }
 {
-    Ok(Expr::Comma(line, Boxed::new(alloc, left)?, Boxed::new(alloc, right)?))
+    Ok(Expr::Comma(line, Boxed::new(alloc, (left, right))?))
 }

@@ -30,7 +30,7 @@ pub enum Expr {
     /// `param(T, e)`, with the line of `param`.
     Param(u32, Boxed<Typename>, Boxed<Expr>),
     /// `a[b]`, with the line of `[`.
-    Index(u32, Boxed<Expr>, Boxed<Expr>),
+    Index(u32, Boxed<(Expr, Expr)>),
     /// `f(a, b)`, with the line of `(`.
     Call(u32, Boxed<Expr>, Items<Expr>),
     /// `a++` and `a--`.
@@ -46,15 +46,15 @@ pub enum Expr {
     /// `sizeof(T)`, with the line of `sizeof`.
     Sizeof(u32, Boxed<Typename>),
     /// An operator between two operands.
-    Binary(u32, BinaryOp, Boxed<Expr>, Boxed<Expr>),
+    Binary(u32, BinaryOp, Boxed<(Expr, Expr)>),
     /// `a ? b : c`, with the line of `?`.
     Choice(u32, Boxed<Expr>, Boxed<Expr>, Boxed<Expr>),
     /// `a = b`.
-    Assign(u32, Boxed<Expr>, Boxed<Expr>),
+    Assign(u32, Boxed<(Expr, Expr)>),
     /// `a += b` and its like.
-    Modify(u32, ModifyOp, Boxed<Expr>, Boxed<Expr>),
+    Modify(u32, ModifyOp, Boxed<(Expr, Expr)>),
     /// `a, b`.
-    Comma(u32, Boxed<Expr>, Boxed<Expr>),
+    Comma(u32, Boxed<(Expr, Expr)>),
 }
 
 /// An expression that may be left out.
