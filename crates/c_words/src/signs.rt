@@ -254,6 +254,7 @@ fn of_three(a: u8, b: u8, c: u8) -> Option<Sign>
 
 // The longest sign that begins a text.
 #[tactic(auto, unfolding(crate::specs::Words::sign_at))]
+#[inline(always)]
 fn longest(text: &[u8]) -> Option<Sign>
     ensures { result ≡ spec.sign_at text.now }
 {
@@ -266,6 +267,7 @@ fn longest(text: &[u8]) -> Option<Sign>
 
 /// The longest sign that begins a text, and none where no sign does.
 #[tactic(auto, using(crate::proofs::Within::found_within))]
+#[inline(always)]
 pub fn sign_at(text: &[u8]) -> Option<Sign>
     ensures value { result ≡ spec.sign_at text.now }
     ensures within { IfSome result (λ s. length (spec.spelling s) ≤ length text.now) }
