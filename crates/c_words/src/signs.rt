@@ -254,7 +254,6 @@ fn of_three(a: u8, b: u8, c: u8) -> Option<Sign>
 
 // The longest sign that begins a text.
 #[tactic(auto, unfolding(crate::specs::Words::sign_at))]
-#[inline(always)]
 fn longest(text: &[u8]) -> Option<Sign>
     ensures { result ≡ spec.sign_at text.now }
 {
