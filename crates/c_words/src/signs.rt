@@ -266,7 +266,6 @@ fn longest(text: &[u8]) -> Option<Sign>
 
 /// The longest sign that begins a text, and none where no sign does.
 #[tactic(auto, using(crate::proofs::Within::found_within))]
-#[inline(always)]
 pub fn sign_at(text: &[u8]) -> Option<Sign>
     ensures value { result ≡ spec.sign_at text.now }
     ensures within { IfSome result (λ s. length (spec.spelling s) ≤ length text.now) }
