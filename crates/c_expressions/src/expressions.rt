@@ -123,7 +123,6 @@ impl<
     }
 
     #[tactic(auto, unfolding(c_grammar::specs::Expressions::primary))]
-    #[inline(always)]
     pub(crate) fn primary(&self, tokens: &mut Tokens<'_>, room: usize) -> Result<Expr, Stop>
         requires nests { Nests self.now.grammar.limit (F.pre self.now.grammar.expr) (F.post self.now.grammar.expr) (S.pre self.now.grammar.stmt) (S.post self.now.grammar.stmt) (D.pre self.now.grammar.declarator) (D.post self.now.grammar.declarator) }
         requires room { room ≤ self.now.grammar.limit }

@@ -74,7 +74,6 @@ impl<
     }
 
     #[tactic(auto, unfolding(c_grammar::specs::Expressions::postfix), using(crate::proofs::Steps::postfix_steps))]
-    #[inline(always)]
     fn postfix(&self, tokens: &mut Tokens<'_>, room: usize) -> Result<Expr, Stop>
         requires nests { Nests self.now.grammar.limit (F.pre self.now.grammar.expr) (F.post self.now.grammar.expr) (S.pre self.now.grammar.stmt) (S.post self.now.grammar.stmt) (D.pre self.now.grammar.declarator) (D.post self.now.grammar.declarator) }
         requires room { room ≤ self.now.grammar.limit }
@@ -129,7 +128,6 @@ impl<
     }
 
     // At a `(`, which begins a cast where a base follows.
-    #[inline(always)]
     fn parenthesis(&self, tokens: &mut Tokens<'_>, room: usize) -> Result<Expr, Stop>
         requires nests { Nests self.now.grammar.limit (F.pre self.now.grammar.expr) (F.post self.now.grammar.expr) (S.pre self.now.grammar.stmt) (S.post self.now.grammar.stmt) (D.pre self.now.grammar.declarator) (D.post self.now.grammar.declarator) }
         requires room { room ≤ self.now.grammar.limit }
