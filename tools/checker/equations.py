@@ -8,20 +8,20 @@ RULES = ("core_rule expr_rule start_rule optional_rule stmt_rule suffix_walk dec
          "parameter_rule typename_rule")
 WALKS = "core node optional item suffix declaration shape init initializer parameter named"
 NUMBER, BYTES = "ℕ", "(List ℕ)"
-# A child has its type and the function of the walk over it; a list of children ends in a star.
+# A child has its type and the function of the walk over it; a list of children ends in a star, two children in one box in a comma.
 EXPR, TYPENAME, STMT, OPTIONAL = ("Expr", "node"), ("Typename", "named"), ("Stmt", "item"), ("OptionalExpr", "optional")
-EXPRS, STMTS = ("(List Expr)", "node*"), ("(List Stmt)", "item*")
+EXPRS, STMTS, PAIR = ("(List Expr)", "node*"), ("(List Stmt)", "item*"), ("(Expr × Expr)", "node,")
 
 EXPRESSIONS = [
     ("Name", "Expr::Name", [NUMBER, BYTES]), ("Number", "Number", [NUMBER, "Bool"]), ("Character", "Character", [NUMBER]),
     ("String", "String", [BYTES]), ("Paren", "Expr::Paren", [EXPR]), ("Compile", "Compile", [NUMBER, EXPR, TYPENAME]),
     ("Local", "Expr::Local", [NUMBER, TYPENAME]), ("Param", "Param", [NUMBER, TYPENAME, EXPR]),
-    ("Index", "Index", [NUMBER, EXPR, EXPR]), ("Call", "Call", [NUMBER, EXPR, EXPRS]), ("Step", "Step", [NUMBER, "StepOp", EXPR]),
+    ("Index", "Index", [NUMBER, PAIR]), ("Call", "Call", [NUMBER, EXPR, EXPRS]), ("Step", "Step", [NUMBER, "StepOp", EXPR]),
     ("Unary", "Unary", [NUMBER, "UnaryOp", EXPR]), ("Tick", "Tick", [NUMBER, EXPR]), ("TickBlock", "TickBlock", [NUMBER, STMTS]),
     ("Cast", "Cast", [NUMBER, TYPENAME, EXPR]), ("Sizeof", "Sizeof", [NUMBER, TYPENAME]),
-    ("Binary", "Binary", [NUMBER, "BinaryOp", EXPR, EXPR]), ("Choice", "Choice", [NUMBER, EXPR, EXPR, EXPR]),
-    ("Assign", "Assign", [NUMBER, EXPR, EXPR]), ("Modify", "Modify", [NUMBER, "ModifyOp", EXPR, EXPR]),
-    ("Comma", "Comma", [NUMBER, EXPR, EXPR]),
+    ("Binary", "Binary", [NUMBER, "BinaryOp", PAIR]), ("Choice", "Choice", [NUMBER, EXPR, EXPR, EXPR]),
+    ("Assign", "Assign", [NUMBER, PAIR]), ("Modify", "Modify", [NUMBER, "ModifyOp", PAIR]),
+    ("Comma", "Comma", [NUMBER, PAIR]),
 ]
 STATEMENTS = [
     ("Empty", "Empty", []), ("Expr", "Expr", [EXPR]), ("Block", "Block", [STMTS]),
@@ -82,6 +82,8 @@ def walked(name, field):
     if isinstance(field, str):
         return name
     function = field[1]
+    if function.endswith(","):
+        return "(%s %s.0, %s %s.1)" % (function[:-1], name, function[:-1], name)
     return "(map %s %s)" % (function[:-1], name) if function.endswith("*") else "(%s %s)" % (function, name)
 
 

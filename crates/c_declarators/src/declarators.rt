@@ -12,7 +12,7 @@ use crate::lists::{begins_suffix, opens, prefixes};
 use c_grammar::{Grammar, Kind, Mark, Mode, Part, Stop, Tokens, base, enter, is_void};
 use sqlite_items::{Boxed, Items};
 use std::alloc::Global;
-use tick_tree::{Core, Declarator, Expr, OptionalExpr, Parameter, Prefix, Stmt, Suffix};
+use tick_tree::{Core, Declarator, Expr, Name, OptionalExpr, Parameter, Prefix, Stmt, Suffix};
 
 /// The productions of declarators. Each takes the number of levels that may still open.
 #[derive(Clone, Copy)]
@@ -216,7 +216,7 @@ fn named(alloc: Global, tokens: &mut Tokens<'_>) -> Result<Core, Stop>
     ensures { Reads (spec.named tokens.old) result tokens.new }
 {
     let line = tokens.line();
-    let name = Items::from_slice(alloc, tokens.text())?;
+    let name = Name::new(alloc, tokens.text())?;
     tokens.take();
     Ok(Core::Name(line, name))
 }

@@ -8,14 +8,14 @@ use c_grammar::{Kind, Stop, Tokens};
 use c_literals::append_string;
 use sqlite_items::Items;
 use std::alloc::Global;
-use tick_tree::Expr;
+use tick_tree::{Expr, Name};
 
 // At a name.
 pub fn name(alloc: Global, tokens: &mut Tokens<'_>) -> Result<Expr, Stop>
     ensures { Reads (spec.name tokens.old) result tokens.new }
 {
     let line = tokens.line();
-    let text = Items::from_slice(alloc, tokens.text())?;
+    let text = Name::new(alloc, tokens.text())?;
     tokens.take();
     Ok(Expr::Name(line, text))
 }

@@ -52,6 +52,7 @@ impl<
     // The operators that bind tighter than those of this level. Levels without an operator are passed over.
     #[cycle(level)]
     #[tactic(auto, using(crate::proofs::Climbs::climb_steps))]
+    #[inline(always)]
     fn level(&self, tokens: &mut Tokens<'_>, room: usize, level: u8) -> Result<Expr, Stop>
         requires nests { Nests self.now.grammar.limit (F.pre self.now.grammar.expr) (F.post self.now.grammar.expr) (S.pre self.now.grammar.stmt) (S.post self.now.grammar.stmt) (D.pre self.now.grammar.declarator) (D.post self.now.grammar.declarator) }
         requires room { room ≤ self.now.grammar.limit }
@@ -87,6 +88,7 @@ impl<
     }
 
     // Behind the first operand.
+    #[inline(always)]
     fn cond_more(&self, tokens: &mut Tokens<'_>, room: usize, test: Expr) -> Result<Expr, Stop>
         requires nests { Nests self.now.grammar.limit (F.pre self.now.grammar.expr) (F.post self.now.grammar.expr) (S.pre self.now.grammar.stmt) (S.post self.now.grammar.stmt) (D.pre self.now.grammar.declarator) (D.post self.now.grammar.declarator) }
         requires room { room ≤ self.now.grammar.limit }
@@ -104,6 +106,7 @@ impl<
     ///
     /// Syntax or TooDeep exactly at the first token that the production doesn't take, or that nests too deep.
     #[tactic(auto, unfolding(c_grammar::specs::Expressions::cond))]
+    #[inline(always)]
     pub fn cond(&self, tokens: &mut Tokens<'_>, room: usize) -> Result<Expr, Stop>
         requires nests { Nests self.now.grammar.limit (F.pre self.now.grammar.expr) (F.post self.now.grammar.expr) (S.pre self.now.grammar.stmt) (S.post self.now.grammar.stmt) (D.pre self.now.grammar.declarator) (D.post self.now.grammar.declarator) }
         requires room { room ≤ self.now.grammar.limit }
@@ -144,6 +147,7 @@ impl<
     }
 
     // Behind the left side.
+    #[inline(always)]
     fn assign_more(&self, tokens: &mut Tokens<'_>, room: usize, left: Expr) -> Result<Expr, Stop>
         requires nests { Nests self.now.grammar.limit (F.pre self.now.grammar.expr) (F.post self.now.grammar.expr) (S.pre self.now.grammar.stmt) (S.post self.now.grammar.stmt) (D.pre self.now.grammar.declarator) (D.post self.now.grammar.declarator) }
         requires room { room ≤ self.now.grammar.limit }
@@ -160,6 +164,7 @@ impl<
     ///
     /// Syntax or TooDeep exactly at the first token that the production doesn't take, or that nests too deep.
     #[tactic(auto, unfolding(c_grammar::specs::Expressions::assign))]
+    #[inline(always)]
     pub fn assign(&self, tokens: &mut Tokens<'_>, room: usize) -> Result<Expr, Stop>
         requires nests { Nests self.now.grammar.limit (F.pre self.now.grammar.expr) (F.post self.now.grammar.expr) (S.pre self.now.grammar.stmt) (S.post self.now.grammar.stmt) (D.pre self.now.grammar.declarator) (D.post self.now.grammar.declarator) }
         requires room { room ≤ self.now.grammar.limit }
@@ -173,6 +178,7 @@ impl<
     ///
     /// Syntax or TooDeep exactly at the first token that the production doesn't take, or that nests too deep.
     #[tactic(auto, unfolding(c_grammar::specs::Expressions::expr), using(crate::proofs::Steps::comma_steps))]
+    #[inline(always)]
     pub fn expr(&self, tokens: &mut Tokens<'_>, room: usize) -> Result<Expr, Stop>
         requires nests { Nests self.now.grammar.limit (F.pre self.now.grammar.expr) (F.post self.now.grammar.expr) (S.pre self.now.grammar.stmt) (S.post self.now.grammar.stmt) (D.pre self.now.grammar.declarator) (D.post self.now.grammar.declarator) }
         requires room { room ≤ self.now.grammar.limit }

@@ -31,9 +31,9 @@ pub fn param(alloc: Global, line: u32, ty: Typename, number: Expr) -> Result<Exp
 }
 
 pub fn index(alloc: Global, line: u32, left: Expr, at: Expr) -> Result<Expr, AllocError>
-    ensures { IfOk result (λ e. e ≡ Expr.Index line left at) }
+    ensures { IfOk result (λ e. e ≡ Expr.Index line (left, at)) }
 {
-    Ok(Expr::Index(line, Boxed::new(alloc, left)?, Boxed::new(alloc, at)?))
+    Ok(Expr::Index(line, Boxed::new(alloc, (left, at))?))
 }
 
 pub fn call(
@@ -84,14 +84,9 @@ pub fn binary(
     left: Expr,
     right: Expr,
 ) -> Result<Expr, AllocError>
-    ensures { IfOk result (λ e. e ≡ Expr.Binary line op left right) }
+    ensures { IfOk result (λ e. e ≡ Expr.Binary line op (left, right)) }
 {
-    Ok(Expr::Binary(
-        line,
-        op,
-        Boxed::new(alloc, left)?,
-        Boxed::new(alloc, right)?,
-    ))
+    Ok(Expr::Binary(line, op, Boxed::new(alloc, (left, right))?))
 }
 
 pub fn choice(
@@ -112,9 +107,9 @@ pub fn choice(
 }
 
 pub fn assign(alloc: Global, line: u32, left: Expr, right: Expr) -> Result<Expr, AllocError>
-    ensures { IfOk result (λ e. e ≡ Expr.Assign line left right) }
+    ensures { IfOk result (λ e. e ≡ Expr.Assign line (left, right)) }
 {
-    Ok(Expr::Assign(line, Boxed::new(alloc, left)?, Boxed::new(alloc, right)?))
+    Ok(Expr::Assign(line, Boxed::new(alloc, (left, right))?))
 }
 
 pub fn modify(
@@ -124,18 +119,13 @@ pub fn modify(
     left: Expr,
     right: Expr,
 ) -> Result<Expr, AllocError>
-    ensures { IfOk result (λ e. e ≡ Expr.Modify line op left right) }
+    ensures { IfOk result (λ e. e ≡ Expr.Modify line op (left, right)) }
 {
-    Ok(Expr::Modify(
-        line,
-        op,
-        Boxed::new(alloc, left)?,
-        Boxed::new(alloc, right)?,
-    ))
+    Ok(Expr::Modify(line, op, Boxed::new(alloc, (left, right))?))
 }
 
 pub fn comma(alloc: Global, line: u32, left: Expr, right: Expr) -> Result<Expr, AllocError>
-    ensures { IfOk result (λ e. e ≡ Expr.Comma line left right) }
+    ensures { IfOk result (λ e. e ≡ Expr.Comma line (left, right)) }
 {
-    Ok(Expr::Comma(line, Boxed::new(alloc, left)?, Boxed::new(alloc, right)?))
+    Ok(Expr::Comma(line, Boxed::new(alloc, (left, right))?))
 }

@@ -140,6 +140,7 @@ impl<
         }
     }
 
+    #[inline(always)]
     fn by_operator(
         &self,
         tokens: &mut Tokens<'_>,
@@ -160,6 +161,7 @@ impl<
     ///
     /// Syntax or TooDeep exactly at the first token that the production doesn't take, or that nests too deep.
     #[tactic(auto, unfolding(c_grammar::specs::Expressions::unary))]
+    #[inline(always)]
     pub fn unary(&self, tokens: &mut Tokens<'_>, room: usize) -> Result<Expr, Stop>
         requires nests { Nests self.now.grammar.limit (F.pre self.now.grammar.expr) (F.post self.now.grammar.expr) (S.pre self.now.grammar.stmt) (S.post self.now.grammar.stmt) (D.pre self.now.grammar.declarator) (D.post self.now.grammar.declarator) }
         requires room { room ≤ self.now.grammar.limit }

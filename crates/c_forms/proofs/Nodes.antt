@@ -53,9 +53,9 @@ pub at_param : (n : ℕ) (t : Typename) (a : Expr) → written (e.Param n t a) �
 unfolding written declared declared_core is_integer_name
 at_param n t a = ap written (sym (e.rolls-Param n t a)) ∙ fold-roll-Expr Declared Written (Unit {0}) (Unit {0}) (Unit {0}) (Unit {0}) (Unit {0}) Declared (Unit {0}) (Unit {0}) Bool core_rule expr_rule nothing nothing nothing nothing nothing declarator_rule nothing nothing typename_rule (Expr-F.Param n t a)
 
-pub at_index : (n : ℕ) (a : Expr) (c : Expr) → written (e.Index n a c) ≡ expr_rule (Expr-F.Index n (written a) (written c))
+pub at_index : (n : ℕ) (p : Expr × Expr) → written (e.Index n p) ≡ expr_rule (Expr-F.Index n (written p.0, written p.1))
 unfolding written declared declared_core is_integer_name
-at_index n a c = ap written (sym (e.rolls-Index n a c)) ∙ fold-roll-Expr Declared Written (Unit {0}) (Unit {0}) (Unit {0}) (Unit {0}) (Unit {0}) Declared (Unit {0}) (Unit {0}) Bool core_rule expr_rule nothing nothing nothing nothing nothing declarator_rule nothing nothing typename_rule (Expr-F.Index n a c)
+at_index n p = ap written (sym (e.rolls-Index n p)) ∙ fold-roll-Expr Declared Written (Unit {0}) (Unit {0}) (Unit {0}) (Unit {0}) (Unit {0}) Declared (Unit {0}) (Unit {0}) Bool core_rule expr_rule nothing nothing nothing nothing nothing declarator_rule nothing nothing typename_rule (Expr-F.Index n p)
 
 pub at_call : (n : ℕ) (a : Expr) (xs : List Expr) → written (e.Call n a xs) ≡ nameless false
 unfolding written declared declared_core is_integer_name
@@ -85,25 +85,25 @@ pub at_sizeof : (n : ℕ) (t : Typename) → written (e.Sizeof n t) ≡ expr_rul
 unfolding written declared declared_core is_integer_name
 at_sizeof n t = ap written (sym (e.rolls-Sizeof n t)) ∙ fold-roll-Expr Declared Written (Unit {0}) (Unit {0}) (Unit {0}) (Unit {0}) (Unit {0}) Declared (Unit {0}) (Unit {0}) Bool core_rule expr_rule nothing nothing nothing nothing nothing declarator_rule nothing nothing typename_rule (Expr-F.Sizeof n t)
 
-pub at_binary : (n : ℕ) (o : BinaryOp) (a : Expr) (c : Expr) → written (e.Binary n o a c) ≡ expr_rule (Expr-F.Binary n o (written a) (written c))
+pub at_binary : (n : ℕ) (o : BinaryOp) (p : Expr × Expr) → written (e.Binary n o p) ≡ expr_rule (Expr-F.Binary n o (written p.0, written p.1))
 unfolding written declared declared_core is_integer_name
-at_binary n o a c = ap written (sym (e.rolls-Binary n o a c)) ∙ fold-roll-Expr Declared Written (Unit {0}) (Unit {0}) (Unit {0}) (Unit {0}) (Unit {0}) Declared (Unit {0}) (Unit {0}) Bool core_rule expr_rule nothing nothing nothing nothing nothing declarator_rule nothing nothing typename_rule (Expr-F.Binary n o a c)
+at_binary n o p = ap written (sym (e.rolls-Binary n o p)) ∙ fold-roll-Expr Declared Written (Unit {0}) (Unit {0}) (Unit {0}) (Unit {0}) (Unit {0}) Declared (Unit {0}) (Unit {0}) Bool core_rule expr_rule nothing nothing nothing nothing nothing declarator_rule nothing nothing typename_rule (Expr-F.Binary n o p)
 
 pub at_choice : (n : ℕ) (a : Expr) (c : Expr) (d : Expr) → written (e.Choice n a c d) ≡ expr_rule (Expr-F.Choice n (written a) (written c) (written d))
 unfolding written declared declared_core is_integer_name
 at_choice n a c d = ap written (sym (e.rolls-Choice n a c d)) ∙ fold-roll-Expr Declared Written (Unit {0}) (Unit {0}) (Unit {0}) (Unit {0}) (Unit {0}) Declared (Unit {0}) (Unit {0}) Bool core_rule expr_rule nothing nothing nothing nothing nothing declarator_rule nothing nothing typename_rule (Expr-F.Choice n a c d)
 
-pub at_assign : (n : ℕ) (a : Expr) (c : Expr) → written (e.Assign n a c) ≡ expr_rule (Expr-F.Assign n (written a) (written c))
+pub at_assign : (n : ℕ) (p : Expr × Expr) → written (e.Assign n p) ≡ expr_rule (Expr-F.Assign n (written p.0, written p.1))
 unfolding written declared declared_core is_integer_name
-at_assign n a c = ap written (sym (e.rolls-Assign n a c)) ∙ fold-roll-Expr Declared Written (Unit {0}) (Unit {0}) (Unit {0}) (Unit {0}) (Unit {0}) Declared (Unit {0}) (Unit {0}) Bool core_rule expr_rule nothing nothing nothing nothing nothing declarator_rule nothing nothing typename_rule (Expr-F.Assign n a c)
+at_assign n p = ap written (sym (e.rolls-Assign n p)) ∙ fold-roll-Expr Declared Written (Unit {0}) (Unit {0}) (Unit {0}) (Unit {0}) (Unit {0}) Declared (Unit {0}) (Unit {0}) Bool core_rule expr_rule nothing nothing nothing nothing nothing declarator_rule nothing nothing typename_rule (Expr-F.Assign n p)
 
-pub at_modify : (n : ℕ) (o : ModifyOp) (a : Expr) (c : Expr) → written (e.Modify n o a c) ≡ expr_rule (Expr-F.Modify n o (written a) (written c))
+pub at_modify : (n : ℕ) (o : ModifyOp) (p : Expr × Expr) → written (e.Modify n o p) ≡ expr_rule (Expr-F.Modify n o (written p.0, written p.1))
 unfolding written declared declared_core is_integer_name
-at_modify n o a c = ap written (sym (e.rolls-Modify n o a c)) ∙ fold-roll-Expr Declared Written (Unit {0}) (Unit {0}) (Unit {0}) (Unit {0}) (Unit {0}) Declared (Unit {0}) (Unit {0}) Bool core_rule expr_rule nothing nothing nothing nothing nothing declarator_rule nothing nothing typename_rule (Expr-F.Modify n o a c)
+at_modify n o p = ap written (sym (e.rolls-Modify n o p)) ∙ fold-roll-Expr Declared Written (Unit {0}) (Unit {0}) (Unit {0}) (Unit {0}) (Unit {0}) Declared (Unit {0}) (Unit {0}) Bool core_rule expr_rule nothing nothing nothing nothing nothing declarator_rule nothing nothing typename_rule (Expr-F.Modify n o p)
 
-pub at_comma : (n : ℕ) (a : Expr) (c : Expr) → written (e.Comma n a c) ≡ expr_rule (Expr-F.Comma n (written a) (written c))
+pub at_comma : (n : ℕ) (p : Expr × Expr) → written (e.Comma n p) ≡ expr_rule (Expr-F.Comma n (written p.0, written p.1))
 unfolding written declared declared_core is_integer_name
-at_comma n a c = ap written (sym (e.rolls-Comma n a c)) ∙ fold-roll-Expr Declared Written (Unit {0}) (Unit {0}) (Unit {0}) (Unit {0}) (Unit {0}) Declared (Unit {0}) (Unit {0}) Bool core_rule expr_rule nothing nothing nothing nothing nothing declarator_rule nothing nothing typename_rule (Expr-F.Comma n a c)
+at_comma n p = ap written (sym (e.rolls-Comma n p)) ∙ fold-roll-Expr Declared Written (Unit {0}) (Unit {0}) (Unit {0}) (Unit {0}) (Unit {0}) Declared (Unit {0}) (Unit {0}) Bool core_rule expr_rule nothing nothing nothing nothing nothing declarator_rule nothing nothing typename_rule (Expr-F.Comma n p)
 
 pub core_absent : declared_core core_of.Absent ≡ core_rule Core-F.Core::Absent
 unfolding written declared declared_core is_integer_name

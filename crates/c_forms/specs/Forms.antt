@@ -71,7 +71,7 @@ expr_rule (Expr-F.Expr::Paren a) = a
 expr_rule (Expr-F.Compile n a t) = nameless false
 expr_rule (Expr-F.Expr::Local n t) = nameless false
 expr_rule (Expr-F.Param n t a) = nameless false
-expr_rule (Expr-F.Index n a c) = nameless false
+expr_rule (Expr-F.Index n p) = nameless false
 expr_rule (Expr-F.Call n a args) = nameless false
 expr_rule (Expr-F.Step n o a) = nameless false
 expr_rule (Expr-F.Unary n o a) = nameless a.constant
@@ -79,11 +79,11 @@ expr_rule (Expr-F.Tick n a) = nameless false
 expr_rule (Expr-F.TickBlock n items) = nameless false
 expr_rule (Expr-F.Cast n t a) = nameless (t && a.constant)
 expr_rule (Expr-F.Sizeof n t) = nameless true
-expr_rule (Expr-F.Binary n o a c) = nameless (is_strict o && a.constant && c.constant)
+expr_rule (Expr-F.Binary n o p) = nameless (is_strict o && p.0.constant && p.1.constant)
 expr_rule (Expr-F.Choice n a c d) = nameless false
-expr_rule (Expr-F.Assign n a c) = nameless false
-expr_rule (Expr-F.Modify n o a c) = nameless false
-expr_rule (Expr-F.Comma n a c) = nameless false
+expr_rule (Expr-F.Assign n p) = nameless false
+expr_rule (Expr-F.Modify n o p) = nameless false
+expr_rule (Expr-F.Comma n p) = nameless false
 
 abbrev pub core_rule : Core-W → Declared
 core_rule Core-F.Core::Absent = record { plain = true; name = None }

@@ -9,7 +9,7 @@ ghost use Rattle.c_forms.specs.Forms as spec;
 mod tests;
 
 use sqlite_items::Items;
-use tick_tree::{Base, BinaryOp, Core, Declarator, Expr, Prefix, Suffix, Typename};
+use tick_tree::{Base, BinaryOp, Core, Declarator, Expr, Name, Prefix, Suffix, Typename};
 
 fn is_strict(op: BinaryOp) -> bool
     ensures { result ≡ spec.is_strict op }
@@ -74,30 +74,33 @@ pub fn has_form(e: &Expr) -> bool
         Expr::Number(_, _) | Expr::Character(_) | Expr::Sizeof(_, _) => true,
         Expr::Paren(a) | Expr::Unary(_, _, a) => has_form(a.get()),
         Expr::Cast(_, t, a) => is_integer_name(t.get()) && has_form(a.get()),
-        Expr::Binary(_, op, a, b) => is_strict(*op) && has_form(a.get()) && has_form(b.get()),
+        Expr::Binary(_, op, p) => {
+            let (a, b) = p.get();
+            is_strict(*op) && has_form(a) && has_form(b)
+        }
         Expr::Name(_, _) | Expr::String(_) | Expr::Compile(_, _, _) | Expr::Local(_, _) => false,
-        Expr::Param(_, _, _) | Expr::Index(_, _, _) | Expr::Call(_, _, _) => false,
+        Expr::Param(_, _, _) | Expr::Index(_, _) | Expr::Call(_, _, _) => false,
         Expr::Step(_, _, _) | Expr::Tick(_, _) | Expr::TickBlock(_, _) => false,
-        Expr::Choice(_, _, _, _) | Expr::Assign(_, _, _) => false,
-        Expr::Modify(_, _, _, _) | Expr::Comma(_, _, _) => false,
+        Expr::Choice(_, _, _, _) | Expr::Assign(_, _) => false,
+        Expr::Modify(_, _, _) | Expr::Comma(_, _) => false,
     }
 }
 
 /// The plain name that an expression is, also in parentheses.
 #[tactic(auto, using(crate::proofs::Nodes::expressions))]
-pub fn name_of(e: &Expr) -> Option<&Items<u8>>
+pub fn name_of(e: &Expr) -> Option<&Name>
     ensures { option_copied result ≡ spec.name_of e.now }
 {
     match e {
         Expr::Name(_, name) => Some(name),
         Expr::Paren(a) => name_of(a.get()),
         Expr::Number(_, _) | Expr::Character(_) | Expr::Sizeof(_, _) => None,
-        Expr::Unary(_, _, _) | Expr::Cast(_, _, _) | Expr::Binary(_, _, _, _) => None,
+        Expr::Unary(_, _, _) | Expr::Cast(_, _, _) | Expr::Binary(_, _, _) => None,
         Expr::String(_) | Expr::Compile(_, _, _) | Expr::Local(_, _) => None,
-        Expr::Param(_, _, _) | Expr::Index(_, _, _) | Expr::Call(_, _, _) => None,
+        Expr::Param(_, _, _) | Expr::Index(_, _) | Expr::Call(_, _, _) => None,
         Expr::Step(_, _, _) | Expr::Tick(_, _) | Expr::TickBlock(_, _) => None,
-        Expr::Choice(_, _, _, _) | Expr::Assign(_, _, _) => None,
-        Expr::Modify(_, _, _, _) | Expr::Comma(_, _, _) => None,
+        Expr::Choice(_, _, _, _) | Expr::Assign(_, _) => None,
+        Expr::Modify(_, _, _) | Expr::Comma(_, _) => None,
     }
 }
 
@@ -110,19 +113,19 @@ pub fn string_of(e: &Expr) -> Option<&Items<u8>>
         Expr::String(bytes) => Some(bytes),
         Expr::Paren(a) => string_of(a.get()),
         Expr::Number(_, _) | Expr::Character(_) | Expr::Sizeof(_, _) => None,
-        Expr::Unary(_, _, _) | Expr::Cast(_, _, _) | Expr::Binary(_, _, _, _) => None,
+        Expr::Unary(_, _, _) | Expr::Cast(_, _, _) | Expr::Binary(_, _, _) => None,
         Expr::Name(_, _) | Expr::Compile(_, _, _) | Expr::Local(_, _) => None,
-        Expr::Param(_, _, _) | Expr::Index(_, _, _) | Expr::Call(_, _, _) => None,
+        Expr::Param(_, _, _) | Expr::Index(_, _) | Expr::Call(_, _, _) => None,
         Expr::Step(_, _, _) | Expr::Tick(_, _) | Expr::TickBlock(_, _) => None,
-        Expr::Choice(_, _, _, _) | Expr::Assign(_, _, _) => None,
-        Expr::Modify(_, _, _, _) | Expr::Comma(_, _, _) => None,
+        Expr::Choice(_, _, _, _) | Expr::Assign(_, _) => None,
+        Expr::Modify(_, _, _) | Expr::Comma(_, _) => None,
     }
 }
 
 /// The name that a declarator declares, with the line where it stands.
 #[cycle(named)]
 #[tactic(auto, using(crate::proofs::Nodes::name_by_core))]
-pub fn declared_name(d: &Declarator) -> Option<(u32, &Items<u8>)>
+pub fn declared_name(d: &Declarator) -> Option<(u32, &Name)>
     ensures { spec.lent result ≡ spec.declared_name d.now }
 {
     core_name(&d.core)
@@ -130,7 +133,7 @@ pub fn declared_name(d: &Declarator) -> Option<(u32, &Items<u8>)>
 
 #[cycle(named)]
 #[tactic(auto, using(crate::proofs::Nodes::cores))]
-fn core_name(core: &Core) -> Option<(u32, &Items<u8>)>
+fn core_name(core: &Core) -> Option<(u32, &Name)>
     ensures { spec.lent result ≡ (spec.declared_core core.now).name }
 {
     match core {

@@ -2,26 +2,26 @@
 
 use crate::{declared_name, has_form, name_of, string_of};
 use sqlite_items::{Boxed, Items};
-use tick_tree::{BinaryOp, Core, Declarator, Expr};
+use tick_tree::{BinaryOp, Core, Declarator, Expr, Name};
 
 #[test]
 fn a_sum_of_numbers_has_the_form(rt: HostRuntime) {
     let alloc = rt.alloc();
-    let one = Boxed::new(alloc, Expr::Number(1, false)).expect(&rt, "memory");
-    let two = Boxed::new(alloc, Expr::Character(2)).expect(&rt, "memory");
-    assert!(rt; has_form(&Expr::Binary(1, BinaryOp::Add, one, two)));
-    let one = Boxed::new(alloc, Expr::Number(1, false)).expect(&rt, "memory");
-    let two = Boxed::new(alloc, Expr::Number(2, false)).expect(&rt, "memory");
-    assert!(rt; !has_form(&Expr::Binary(1, BinaryOp::And, one, two)));
+    let sum = (Expr::Number(1, false), Expr::Character(2));
+    let sum = Boxed::new(alloc, sum).expect(&rt, "memory");
+    assert!(rt; has_form(&Expr::Binary(1, BinaryOp::Add, sum)));
+    let both = (Expr::Number(1, false), Expr::Number(2, false));
+    let both = Boxed::new(alloc, both).expect(&rt, "memory");
+    assert!(rt; !has_form(&Expr::Binary(1, BinaryOp::And, both)));
 }
 
 #[test]
 fn names_and_strings_in_parentheses(rt: HostRuntime) {
     let alloc = rt.alloc();
-    let bytes = Items::from_slice(alloc, b"f").expect(&rt, "memory");
+    let bytes = Name::new(alloc, b"f").expect(&rt, "memory");
     let inner = Boxed::new(alloc, Expr::Name(3, bytes)).expect(&rt, "memory");
     let e = Expr::Paren(inner);
-    assert!(rt; matches!(name_of(&e), Some(name) if name.len() == 1));
+    assert!(rt; matches!(name_of(&e), Some(name) if name.as_slice() == b"f".as_slice()));
     assert!(rt; string_of(&e).is_none());
     let bytes = Items::from_slice(alloc, b"ab").expect(&rt, "memory");
     assert!(rt; matches!(string_of(&Expr::String(bytes)), Some(text) if text.len() == 2));
@@ -30,7 +30,7 @@ fn names_and_strings_in_parentheses(rt: HostRuntime) {
 #[test]
 fn a_declarator_in_parentheses(rt: HostRuntime) {
     let alloc = rt.alloc();
-    let bytes = Items::from_slice(alloc, b"x").expect(&rt, "memory");
+    let bytes = Name::new(alloc, b"x").expect(&rt, "memory");
     let inner = Declarator {
         prefixes: Items::new(alloc),
         core: Core::Name(4, bytes),

@@ -164,7 +164,7 @@ unfoldable pub indexed : ℕ → Expr → Inner → Parser Expr
 indexed n left r = do
   x ← r.expr
   expect m.BracketClose
-  pure (e.Index n left x)
+  pure (e.Index n (left, x))
 
 unfoldable pub called : ℕ → Expr → Inner → Parser Expr
 called n left r = e.Call n left <$> arguments r.assign
@@ -224,7 +224,7 @@ unary room = peek >>= unary_by room
 -- ---- levels
 
 abbrev pub binary_step : (Room → Parser Expr) → Inner → Room → BinaryOp → ℕ → Expr → Parser Expr
-binary_step operand r rs o n left = e.Binary n o left <$> operand rs
+binary_step operand r rs o n left = (λ x. e.Binary n o (left, x)) <$> operand rs
 
 -- the operators of the levels below this one
 unfoldable pub level : ℕ → Room → Parser Expr
@@ -246,10 +246,10 @@ unfoldable pub cond : Room → Parser Expr
 cond room = level 10 room >>= cond_more room
 
 abbrev pub assigned : Room → Expr → Parser Expr
-assigned room left = at_line >>= (λ n. within room (λ r. e.Assign n left <$> r.assign))
+assigned room left = at_line >>= (λ n. within room (λ r. (λ x. e.Assign n (left, x)) <$> r.assign))
 
 abbrev pub modified : Room → Expr → ModifyOp → Parser Expr
-modified room left o = at_line >>= (λ n. within room (λ r. e.Modify n o left <$> r.assign))
+modified room left o = at_line >>= (λ n. within room (λ r. (λ x. e.Modify n o (left, x)) <$> r.assign))
 
 abbrev pub assign_by : Room → Expr → Kind → Parser Expr
 assign_by room left (k.Mark m.Assign) = assigned room left
@@ -263,7 +263,7 @@ unfoldable pub assign : Room → Parser Expr
 assign room = cond room >>= assign_more room
 
 abbrev pub comma_step : Inner → Room → Unit {0} → ℕ → Expr → Parser Expr
-comma_step r rs _ n left = e.Comma n left <$> assign rs
+comma_step r rs _ n left = (λ x. e.Comma n (left, x)) <$> assign rs
 
 unfoldable pub expr : Room → Parser Expr
 expr room = assign room >>= chain comma_of comma_step room

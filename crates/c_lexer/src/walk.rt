@@ -152,7 +152,7 @@ pub fn tokens(alloc: Global, text: &[u8]) -> Result<Vec<Token>, Deny>
     ensures exact { Answers (λ v. v.items) result (spec.tokens text.now) }
     ensures few { IfOk result (λ v. length v.items ≤ 262144) }
 {
-    let mut found = Vec::new(alloc);
+    let mut found = Vec::with_capacity(alloc, text.len().min(MAX_TOKENS))?;
     let mut walk = Walk::new(text);
     walk.blanks();
     while let Some(piece) = walk.piece() {

@@ -157,7 +157,7 @@ postfix_taken o _ i h e = let q : ⊥ = cc in absurd q
 indexed_says : (n : ℕ) (left : Expr) (r : Inner) → InnerSays r → (i : Input) → Gives (indexed n left r i) (λ x j. spells_expr left (mark m.BracketOpen (words i)) ≡ spells_expr x (words j))
 unfolding indexed
 indexed_says n left r ok i = after _ _ _ _ (ok.expr i) (λ x j g. after _ _ _ _ (expect_says m.BracketClose j) (λ u l q. given _ _ _
-    (let e = node.at_expr_index n left x (words l) in cc)))
+    (let e = node.at_expr_index n (left, x) (words l) in cc)))
 
 called_says : (n : ℕ) (left : Expr) (r : Inner) → InnerSays r → (i : Input) → Gives (called n left r i) (λ x j. spells_expr left (mark m.ParenOpen (words i)) ≡ spells_expr x (words j))
 unfolding called
@@ -236,7 +236,7 @@ binary_taken n o _ i h e = let q : ⊥ = cc in absurd q
 
 binary_step_says : (n : ℕ) (operand : Room → Parser Expr) → ((rs : Room) → RoomSays rs → Says spells_expr (operand rs)) → StepSays (binary_of n) (binary_step operand)
 binary_step_says n operand ok r rs inner rooms o l left i h = after _ _ _ _ (ok rs rooms (next i)) (λ x j g. given _ _ _
-    (let e = node.at_expr_binary l o left x (words j) in let t = binary_taken n o (kind i) i h refl in cc))
+    (let e = node.at_expr_binary l o (left, x) (words j) in let t = binary_taken n o (kind i) i h refl in cc))
 
 level_says : (n : ℕ) (room : Room) → RoomSays room → Says spells_expr (level n room)
 unfolding level
@@ -259,9 +259,9 @@ cond_says room ok i = after _ _ _ _ (level_says 10 room ok i) (λ x j g. weaken 
 
 assign_by_says : (room : Room) → RoomSays room → (left : Expr) (kd : Kind) (i : Input) → kind i ≡ kd → Gives (assign_by room left kd i) (λ x j. Grows left i x j)
 assign_by_says room ok left (k.Mark m.Assign) i h = after _ _ _ _ (enter_says room ok i) (λ p j d. after _ _ _ _ (d.inner.assign j) (λ x l g. given _ _ _
-    (let e = node.at_expr_assign (line i) left x (words l) in let t = taken (k.Mark m.Assign) i refl h in let b = d.behind in cc)))
+    (let e = node.at_expr_assign (line i) (left, x) (words l) in let t = taken (k.Mark m.Assign) i refl h in let b = d.behind in cc)))
 assign_by_says room ok left (k.Modify o) i h = after _ _ _ _ (enter_says room ok i) (λ p j d. after _ _ _ _ (d.inner.assign j) (λ x l g. given _ _ _
-    (let e = node.at_expr_modify (line i) o left x (words l) in let t = taken (k.Modify o) i refl h in let b = d.behind in cc)))
+    (let e = node.at_expr_modify (line i) o (left, x) (words l) in let t = taken (k.Modify o) i refl h in let b = d.behind in cc)))
 assign_by_says room ok left _ i h = given _ _ _ refl
 
 pub assign_says : (room : Room) → RoomSays room → Says spells_expr (assign room)
@@ -275,7 +275,7 @@ comma_taken u _ i h e = let q : ⊥ = cc in absurd q
 
 comma_step_says : StepSays comma_of comma_step
 comma_step_says r rs inner rooms u n left i h = after _ _ _ _ (assign_says rs rooms (next i)) (λ x j g. given _ _ _
-    (let e = node.at_expr_comma n left x (words j) in let t = comma_taken u (kind i) i h refl in cc))
+    (let e = node.at_expr_comma n (left, x) (words j) in let t = comma_taken u (kind i) i h refl in cc))
 
 pub expr_says : (room : Room) → RoomSays room → Says spells_expr (expr room)
 unfolding expr

@@ -60,9 +60,9 @@ pub at_expr_param : (n : ℕ) (t : Typename) (x : Expr) (w : Words) → spells_e
 unfolding spells_core spells_declaration spells_declarator spells_expr spells_init spells_initializer spells_optional spells_parameter spells_stmt spells_suffix spells_typename
 at_expr_param n t x w = ap (λ f. f w) (ap spells_expr (sym (e.rolls-Param n t x)) ∙ fold-roll-Expr Spelling Spelling Spelling Spelling Spelling Spelling Spelling Spelling Spelling Spelling Spelling core_rule expr_rule initializer_rule optional_rule stmt_rule suffix_rule declaration_rule declarator_rule init_rule parameter_rule typename_rule (Expr-F.Param n t x))
 
-pub at_expr_index : (n : ℕ) (x : Expr) (y : Expr) (w : Words) → spells_expr (e.Index n x y) w ≡ expr_rule (Expr-F.Index n (spells_expr x) (spells_expr y)) w
+pub at_expr_index : (n : ℕ) (p : Expr × Expr) (w : Words) → spells_expr (e.Index n p) w ≡ expr_rule (Expr-F.Index n (spells_expr p.0, spells_expr p.1)) w
 unfolding spells_core spells_declaration spells_declarator spells_expr spells_init spells_initializer spells_optional spells_parameter spells_stmt spells_suffix spells_typename
-at_expr_index n x y w = ap (λ f. f w) (ap spells_expr (sym (e.rolls-Index n x y)) ∙ fold-roll-Expr Spelling Spelling Spelling Spelling Spelling Spelling Spelling Spelling Spelling Spelling Spelling core_rule expr_rule initializer_rule optional_rule stmt_rule suffix_rule declaration_rule declarator_rule init_rule parameter_rule typename_rule (Expr-F.Index n x y))
+at_expr_index n p w = ap (λ f. f w) (ap spells_expr (sym (e.rolls-Index n p)) ∙ fold-roll-Expr Spelling Spelling Spelling Spelling Spelling Spelling Spelling Spelling Spelling Spelling Spelling core_rule expr_rule initializer_rule optional_rule stmt_rule suffix_rule declaration_rule declarator_rule init_rule parameter_rule typename_rule (Expr-F.Index n p))
 
 pub at_expr_call : (n : ℕ) (x : Expr) (xs : List Expr) (w : Words) → spells_expr (e.Call n x xs) w ≡ expr_rule (Expr-F.Call n (spells_expr x) (map spells_expr xs)) w
 unfolding spells_core spells_declaration spells_declarator spells_expr spells_init spells_initializer spells_optional spells_parameter spells_stmt spells_suffix spells_typename
@@ -92,25 +92,25 @@ pub at_expr_sizeof : (n : ℕ) (t : Typename) (w : Words) → spells_expr (e.Siz
 unfolding spells_core spells_declaration spells_declarator spells_expr spells_init spells_initializer spells_optional spells_parameter spells_stmt spells_suffix spells_typename
 at_expr_sizeof n t w = ap (λ f. f w) (ap spells_expr (sym (e.rolls-Sizeof n t)) ∙ fold-roll-Expr Spelling Spelling Spelling Spelling Spelling Spelling Spelling Spelling Spelling Spelling Spelling core_rule expr_rule initializer_rule optional_rule stmt_rule suffix_rule declaration_rule declarator_rule init_rule parameter_rule typename_rule (Expr-F.Sizeof n t))
 
-pub at_expr_binary : (n : ℕ) (bi : BinaryOp) (x : Expr) (y : Expr) (w : Words) → spells_expr (e.Binary n bi x y) w ≡ expr_rule (Expr-F.Binary n bi (spells_expr x) (spells_expr y)) w
+pub at_expr_binary : (n : ℕ) (bi : BinaryOp) (p : Expr × Expr) (w : Words) → spells_expr (e.Binary n bi p) w ≡ expr_rule (Expr-F.Binary n bi (spells_expr p.0, spells_expr p.1)) w
 unfolding spells_core spells_declaration spells_declarator spells_expr spells_init spells_initializer spells_optional spells_parameter spells_stmt spells_suffix spells_typename
-at_expr_binary n bi x y w = ap (λ f. f w) (ap spells_expr (sym (e.rolls-Binary n bi x y)) ∙ fold-roll-Expr Spelling Spelling Spelling Spelling Spelling Spelling Spelling Spelling Spelling Spelling Spelling core_rule expr_rule initializer_rule optional_rule stmt_rule suffix_rule declaration_rule declarator_rule init_rule parameter_rule typename_rule (Expr-F.Binary n bi x y))
+at_expr_binary n bi p w = ap (λ f. f w) (ap spells_expr (sym (e.rolls-Binary n bi p)) ∙ fold-roll-Expr Spelling Spelling Spelling Spelling Spelling Spelling Spelling Spelling Spelling Spelling Spelling core_rule expr_rule initializer_rule optional_rule stmt_rule suffix_rule declaration_rule declarator_rule init_rule parameter_rule typename_rule (Expr-F.Binary n bi p))
 
 pub at_expr_choice : (n : ℕ) (x : Expr) (y : Expr) (z : Expr) (w : Words) → spells_expr (e.Choice n x y z) w ≡ expr_rule (Expr-F.Choice n (spells_expr x) (spells_expr y) (spells_expr z)) w
 unfolding spells_core spells_declaration spells_declarator spells_expr spells_init spells_initializer spells_optional spells_parameter spells_stmt spells_suffix spells_typename
 at_expr_choice n x y z w = ap (λ f. f w) (ap spells_expr (sym (e.rolls-Choice n x y z)) ∙ fold-roll-Expr Spelling Spelling Spelling Spelling Spelling Spelling Spelling Spelling Spelling Spelling Spelling core_rule expr_rule initializer_rule optional_rule stmt_rule suffix_rule declaration_rule declarator_rule init_rule parameter_rule typename_rule (Expr-F.Choice n x y z))
 
-pub at_expr_assign : (n : ℕ) (x : Expr) (y : Expr) (w : Words) → spells_expr (e.Assign n x y) w ≡ expr_rule (Expr-F.Assign n (spells_expr x) (spells_expr y)) w
+pub at_expr_assign : (n : ℕ) (p : Expr × Expr) (w : Words) → spells_expr (e.Assign n p) w ≡ expr_rule (Expr-F.Assign n (spells_expr p.0, spells_expr p.1)) w
 unfolding spells_core spells_declaration spells_declarator spells_expr spells_init spells_initializer spells_optional spells_parameter spells_stmt spells_suffix spells_typename
-at_expr_assign n x y w = ap (λ f. f w) (ap spells_expr (sym (e.rolls-Assign n x y)) ∙ fold-roll-Expr Spelling Spelling Spelling Spelling Spelling Spelling Spelling Spelling Spelling Spelling Spelling core_rule expr_rule initializer_rule optional_rule stmt_rule suffix_rule declaration_rule declarator_rule init_rule parameter_rule typename_rule (Expr-F.Assign n x y))
+at_expr_assign n p w = ap (λ f. f w) (ap spells_expr (sym (e.rolls-Assign n p)) ∙ fold-roll-Expr Spelling Spelling Spelling Spelling Spelling Spelling Spelling Spelling Spelling Spelling Spelling core_rule expr_rule initializer_rule optional_rule stmt_rule suffix_rule declaration_rule declarator_rule init_rule parameter_rule typename_rule (Expr-F.Assign n p))
 
-pub at_expr_modify : (n : ℕ) (mo : ModifyOp) (x : Expr) (y : Expr) (w : Words) → spells_expr (e.Modify n mo x y) w ≡ expr_rule (Expr-F.Modify n mo (spells_expr x) (spells_expr y)) w
+pub at_expr_modify : (n : ℕ) (mo : ModifyOp) (p : Expr × Expr) (w : Words) → spells_expr (e.Modify n mo p) w ≡ expr_rule (Expr-F.Modify n mo (spells_expr p.0, spells_expr p.1)) w
 unfolding spells_core spells_declaration spells_declarator spells_expr spells_init spells_initializer spells_optional spells_parameter spells_stmt spells_suffix spells_typename
-at_expr_modify n mo x y w = ap (λ f. f w) (ap spells_expr (sym (e.rolls-Modify n mo x y)) ∙ fold-roll-Expr Spelling Spelling Spelling Spelling Spelling Spelling Spelling Spelling Spelling Spelling Spelling core_rule expr_rule initializer_rule optional_rule stmt_rule suffix_rule declaration_rule declarator_rule init_rule parameter_rule typename_rule (Expr-F.Modify n mo x y))
+at_expr_modify n mo p w = ap (λ f. f w) (ap spells_expr (sym (e.rolls-Modify n mo p)) ∙ fold-roll-Expr Spelling Spelling Spelling Spelling Spelling Spelling Spelling Spelling Spelling Spelling Spelling core_rule expr_rule initializer_rule optional_rule stmt_rule suffix_rule declaration_rule declarator_rule init_rule parameter_rule typename_rule (Expr-F.Modify n mo p))
 
-pub at_expr_comma : (n : ℕ) (x : Expr) (y : Expr) (w : Words) → spells_expr (e.Comma n x y) w ≡ expr_rule (Expr-F.Comma n (spells_expr x) (spells_expr y)) w
+pub at_expr_comma : (n : ℕ) (p : Expr × Expr) (w : Words) → spells_expr (e.Comma n p) w ≡ expr_rule (Expr-F.Comma n (spells_expr p.0, spells_expr p.1)) w
 unfolding spells_core spells_declaration spells_declarator spells_expr spells_init spells_initializer spells_optional spells_parameter spells_stmt spells_suffix spells_typename
-at_expr_comma n x y w = ap (λ f. f w) (ap spells_expr (sym (e.rolls-Comma n x y)) ∙ fold-roll-Expr Spelling Spelling Spelling Spelling Spelling Spelling Spelling Spelling Spelling Spelling Spelling core_rule expr_rule initializer_rule optional_rule stmt_rule suffix_rule declaration_rule declarator_rule init_rule parameter_rule typename_rule (Expr-F.Comma n x y))
+at_expr_comma n p w = ap (λ f. f w) (ap spells_expr (sym (e.rolls-Comma n p)) ∙ fold-roll-Expr Spelling Spelling Spelling Spelling Spelling Spelling Spelling Spelling Spelling Spelling Spelling core_rule expr_rule initializer_rule optional_rule stmt_rule suffix_rule declaration_rule declarator_rule init_rule parameter_rule typename_rule (Expr-F.Comma n p))
 
 pub at_optional_absent : (w : Words) → spells_optional maybe.Absent w ≡ optional_rule OptionalExpr-F.OptionalExpr::Absent w
 unfolding spells_core spells_declaration spells_declarator spells_expr spells_init spells_initializer spells_optional spells_parameter spells_stmt spells_suffix spells_typename

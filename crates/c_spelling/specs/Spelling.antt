@@ -109,7 +109,7 @@ expr_rule (Expr-F.Expr::Paren a) w = mark m.ParenOpen (a (mark m.ParenClose w))
 expr_rule (Expr-F.Compile n a t) w = Plain k.Compile ∷ mark m.ParenOpen (a (mark m.Comma (t (mark m.ParenClose w))))
 expr_rule (Expr-F.Expr::Local n t) w = Plain k.Local ∷ mark m.ParenOpen (t (mark m.ParenClose w))
 expr_rule (Expr-F.Param n t a) w = Plain k.Param ∷ mark m.ParenOpen (t (mark m.Comma (a (mark m.ParenClose w))))
-expr_rule (Expr-F.Index n a c) w = a (mark m.BracketOpen (c (mark m.BracketClose w)))
+expr_rule (Expr-F.Index n p) w = p.0 (mark m.BracketOpen (p.1 (mark m.BracketClose w)))
 expr_rule (Expr-F.Call n a args) w = a (mark m.ParenOpen (with_commas args (mark m.ParenClose w)))
 expr_rule (Expr-F.Step n o a) w = a (Plain (k.Step o) ∷ w)
 expr_rule (Expr-F.Unary n o a) w = unary_word o (a w)
@@ -117,11 +117,11 @@ expr_rule (Expr-F.Tick n a) w = Plain k.Backquote ∷ a w
 expr_rule (Expr-F.TickBlock n items) w = Plain k.Backquote ∷ braced items w
 expr_rule (Expr-F.Cast n t a) w = mark m.ParenOpen (t (mark m.ParenClose (a w)))
 expr_rule (Expr-F.Sizeof n t) w = Plain k.Sizeof ∷ mark m.ParenOpen (t (mark m.ParenClose w))
-expr_rule (Expr-F.Binary n o a c) w = a (Plain (k.Operator o) ∷ c w)
+expr_rule (Expr-F.Binary n o p) w = p.0 (Plain (k.Operator o) ∷ p.1 w)
 expr_rule (Expr-F.Choice n a c d) w = a (mark m.Question (c (mark m.Colon (d w))))
-expr_rule (Expr-F.Assign n a c) w = a (mark m.Assign (c w))
-expr_rule (Expr-F.Modify n o a c) w = a (Plain (k.Modify o) ∷ c w)
-expr_rule (Expr-F.Comma n a c) w = a (mark m.Comma (c w))
+expr_rule (Expr-F.Assign n p) w = p.0 (mark m.Assign (p.1 w))
+expr_rule (Expr-F.Modify n o p) w = p.0 (Plain (k.Modify o) ∷ p.1 w)
+expr_rule (Expr-F.Comma n p) w = p.0 (mark m.Comma (p.1 w))
 
 abbrev pub optional_rule : OptionalExpr-F Spelling Spelling Spelling Spelling Spelling Spelling Spelling Spelling Spelling Spelling Spelling → Spelling
 optional_rule OptionalExpr-F.OptionalExpr::Absent w = w

@@ -93,6 +93,7 @@ impl Keyword {
 }
 
 // The one of these keywords that a word is.
+#[inline(always)]
 fn among(keywords: &[Keyword], word: &[u8]) -> Option<Keyword>
     ensures { result ≡ spec.spelt keywords.now word.now }
 {
@@ -106,6 +107,7 @@ fn among(keywords: &[Keyword], word: &[u8]) -> Option<Keyword>
 
 /// The keyword that a word is, and none for every other text.
 #[tactic(auto, unfolding(crate::specs::Words::keyword_of))]
+#[inline(always)]
 pub fn keyword_of(word: &[u8]) -> Option<Keyword>
     ensures { result ≡ spec.keyword_of word.now }
 {

@@ -88,12 +88,12 @@ at_node_param a b c = ap node (sym (e.rolls-Param a b c)) ∙ fold-roll-Expr Sha
 pub node_param : (a : ℕ) (b : Typename) (c : Expr) (g : Stage) (s : State) → (node (e.Param a b c)).walk g s ≡ expr_walk (Expr-F.Param a (named b) (node c)) g s
 node_param a b c g s = ap (λ w. w.walk g s) (at_node_param a b c)
 
-pub at_node_index : (a : ℕ) (b : Expr) (c : Expr) → node (e.Index a b c) ≡ expr_rule (Expr-F.Index a (node b) (node c))
+pub at_node_index : (a : ℕ) (b : (Expr × Expr)) → node (e.Index a b) ≡ expr_rule (Expr-F.Index a (node b.0, node b.1))
 unfolding core node optional item suffix declaration shape init initializer parameter named
-at_node_index a b c = ap node (sym (e.rolls-Index a b c)) ∙ fold-roll-Expr Shape Node Start (Option Node) Item SuffixWalk Declarations Shape InitParts TypeWalk Named core_rule expr_rule start_rule optional_rule stmt_rule suffix_walk declaration_rule declarator_rule init_rule parameter_rule typename_rule (Expr-F.Index a b c)
+at_node_index a b = ap node (sym (e.rolls-Index a b)) ∙ fold-roll-Expr Shape Node Start (Option Node) Item SuffixWalk Declarations Shape InitParts TypeWalk Named core_rule expr_rule start_rule optional_rule stmt_rule suffix_walk declaration_rule declarator_rule init_rule parameter_rule typename_rule (Expr-F.Index a b)
 
-pub node_index : (a : ℕ) (b : Expr) (c : Expr) (g : Stage) (s : State) → (node (e.Index a b c)).walk g s ≡ expr_walk (Expr-F.Index a (node b) (node c)) g s
-node_index a b c g s = ap (λ w. w.walk g s) (at_node_index a b c)
+pub node_index : (a : ℕ) (b : (Expr × Expr)) (g : Stage) (s : State) → (node (e.Index a b)).walk g s ≡ expr_walk (Expr-F.Index a (node b.0, node b.1)) g s
+node_index a b g s = ap (λ w. w.walk g s) (at_node_index a b)
 
 pub at_node_call : (a : ℕ) (b : Expr) (c : (List Expr)) → node (e.Call a b c) ≡ expr_rule (Expr-F.Call a (node b) (map node c))
 unfolding core node optional item suffix declaration shape init initializer parameter named
@@ -144,12 +144,12 @@ at_node_sizeof a b = ap node (sym (e.rolls-Sizeof a b)) ∙ fold-roll-Expr Shape
 pub node_sizeof : (a : ℕ) (b : Typename) (g : Stage) (s : State) → (node (e.Sizeof a b)).walk g s ≡ expr_walk (Expr-F.Sizeof a (named b)) g s
 node_sizeof a b g s = ap (λ w. w.walk g s) (at_node_sizeof a b)
 
-pub at_node_binary : (a : ℕ) (b : BinaryOp) (c : Expr) (d : Expr) → node (e.Binary a b c d) ≡ expr_rule (Expr-F.Binary a b (node c) (node d))
+pub at_node_binary : (a : ℕ) (b : BinaryOp) (c : (Expr × Expr)) → node (e.Binary a b c) ≡ expr_rule (Expr-F.Binary a b (node c.0, node c.1))
 unfolding core node optional item suffix declaration shape init initializer parameter named
-at_node_binary a b c d = ap node (sym (e.rolls-Binary a b c d)) ∙ fold-roll-Expr Shape Node Start (Option Node) Item SuffixWalk Declarations Shape InitParts TypeWalk Named core_rule expr_rule start_rule optional_rule stmt_rule suffix_walk declaration_rule declarator_rule init_rule parameter_rule typename_rule (Expr-F.Binary a b c d)
+at_node_binary a b c = ap node (sym (e.rolls-Binary a b c)) ∙ fold-roll-Expr Shape Node Start (Option Node) Item SuffixWalk Declarations Shape InitParts TypeWalk Named core_rule expr_rule start_rule optional_rule stmt_rule suffix_walk declaration_rule declarator_rule init_rule parameter_rule typename_rule (Expr-F.Binary a b c)
 
-pub node_binary : (a : ℕ) (b : BinaryOp) (c : Expr) (d : Expr) (g : Stage) (s : State) → (node (e.Binary a b c d)).walk g s ≡ expr_walk (Expr-F.Binary a b (node c) (node d)) g s
-node_binary a b c d g s = ap (λ w. w.walk g s) (at_node_binary a b c d)
+pub node_binary : (a : ℕ) (b : BinaryOp) (c : (Expr × Expr)) (g : Stage) (s : State) → (node (e.Binary a b c)).walk g s ≡ expr_walk (Expr-F.Binary a b (node c.0, node c.1)) g s
+node_binary a b c g s = ap (λ w. w.walk g s) (at_node_binary a b c)
 
 pub at_node_choice : (a : ℕ) (b : Expr) (c : Expr) (d : Expr) → node (e.Choice a b c d) ≡ expr_rule (Expr-F.Choice a (node b) (node c) (node d))
 unfolding core node optional item suffix declaration shape init initializer parameter named
@@ -158,26 +158,26 @@ at_node_choice a b c d = ap node (sym (e.rolls-Choice a b c d)) ∙ fold-roll-Ex
 pub node_choice : (a : ℕ) (b : Expr) (c : Expr) (d : Expr) (g : Stage) (s : State) → (node (e.Choice a b c d)).walk g s ≡ expr_walk (Expr-F.Choice a (node b) (node c) (node d)) g s
 node_choice a b c d g s = ap (λ w. w.walk g s) (at_node_choice a b c d)
 
-pub at_node_assign : (a : ℕ) (b : Expr) (c : Expr) → node (e.Assign a b c) ≡ expr_rule (Expr-F.Assign a (node b) (node c))
+pub at_node_assign : (a : ℕ) (b : (Expr × Expr)) → node (e.Assign a b) ≡ expr_rule (Expr-F.Assign a (node b.0, node b.1))
 unfolding core node optional item suffix declaration shape init initializer parameter named
-at_node_assign a b c = ap node (sym (e.rolls-Assign a b c)) ∙ fold-roll-Expr Shape Node Start (Option Node) Item SuffixWalk Declarations Shape InitParts TypeWalk Named core_rule expr_rule start_rule optional_rule stmt_rule suffix_walk declaration_rule declarator_rule init_rule parameter_rule typename_rule (Expr-F.Assign a b c)
+at_node_assign a b = ap node (sym (e.rolls-Assign a b)) ∙ fold-roll-Expr Shape Node Start (Option Node) Item SuffixWalk Declarations Shape InitParts TypeWalk Named core_rule expr_rule start_rule optional_rule stmt_rule suffix_walk declaration_rule declarator_rule init_rule parameter_rule typename_rule (Expr-F.Assign a b)
 
-pub node_assign : (a : ℕ) (b : Expr) (c : Expr) (g : Stage) (s : State) → (node (e.Assign a b c)).walk g s ≡ expr_walk (Expr-F.Assign a (node b) (node c)) g s
-node_assign a b c g s = ap (λ w. w.walk g s) (at_node_assign a b c)
+pub node_assign : (a : ℕ) (b : (Expr × Expr)) (g : Stage) (s : State) → (node (e.Assign a b)).walk g s ≡ expr_walk (Expr-F.Assign a (node b.0, node b.1)) g s
+node_assign a b g s = ap (λ w. w.walk g s) (at_node_assign a b)
 
-pub at_node_modify : (a : ℕ) (b : ModifyOp) (c : Expr) (d : Expr) → node (e.Modify a b c d) ≡ expr_rule (Expr-F.Modify a b (node c) (node d))
+pub at_node_modify : (a : ℕ) (b : ModifyOp) (c : (Expr × Expr)) → node (e.Modify a b c) ≡ expr_rule (Expr-F.Modify a b (node c.0, node c.1))
 unfolding core node optional item suffix declaration shape init initializer parameter named
-at_node_modify a b c d = ap node (sym (e.rolls-Modify a b c d)) ∙ fold-roll-Expr Shape Node Start (Option Node) Item SuffixWalk Declarations Shape InitParts TypeWalk Named core_rule expr_rule start_rule optional_rule stmt_rule suffix_walk declaration_rule declarator_rule init_rule parameter_rule typename_rule (Expr-F.Modify a b c d)
+at_node_modify a b c = ap node (sym (e.rolls-Modify a b c)) ∙ fold-roll-Expr Shape Node Start (Option Node) Item SuffixWalk Declarations Shape InitParts TypeWalk Named core_rule expr_rule start_rule optional_rule stmt_rule suffix_walk declaration_rule declarator_rule init_rule parameter_rule typename_rule (Expr-F.Modify a b c)
 
-pub node_modify : (a : ℕ) (b : ModifyOp) (c : Expr) (d : Expr) (g : Stage) (s : State) → (node (e.Modify a b c d)).walk g s ≡ expr_walk (Expr-F.Modify a b (node c) (node d)) g s
-node_modify a b c d g s = ap (λ w. w.walk g s) (at_node_modify a b c d)
+pub node_modify : (a : ℕ) (b : ModifyOp) (c : (Expr × Expr)) (g : Stage) (s : State) → (node (e.Modify a b c)).walk g s ≡ expr_walk (Expr-F.Modify a b (node c.0, node c.1)) g s
+node_modify a b c g s = ap (λ w. w.walk g s) (at_node_modify a b c)
 
-pub at_node_comma : (a : ℕ) (b : Expr) (c : Expr) → node (e.Comma a b c) ≡ expr_rule (Expr-F.Comma a (node b) (node c))
+pub at_node_comma : (a : ℕ) (b : (Expr × Expr)) → node (e.Comma a b) ≡ expr_rule (Expr-F.Comma a (node b.0, node b.1))
 unfolding core node optional item suffix declaration shape init initializer parameter named
-at_node_comma a b c = ap node (sym (e.rolls-Comma a b c)) ∙ fold-roll-Expr Shape Node Start (Option Node) Item SuffixWalk Declarations Shape InitParts TypeWalk Named core_rule expr_rule start_rule optional_rule stmt_rule suffix_walk declaration_rule declarator_rule init_rule parameter_rule typename_rule (Expr-F.Comma a b c)
+at_node_comma a b = ap node (sym (e.rolls-Comma a b)) ∙ fold-roll-Expr Shape Node Start (Option Node) Item SuffixWalk Declarations Shape InitParts TypeWalk Named core_rule expr_rule start_rule optional_rule stmt_rule suffix_walk declaration_rule declarator_rule init_rule parameter_rule typename_rule (Expr-F.Comma a b)
 
-pub node_comma : (a : ℕ) (b : Expr) (c : Expr) (g : Stage) (s : State) → (node (e.Comma a b c)).walk g s ≡ expr_walk (Expr-F.Comma a (node b) (node c)) g s
-node_comma a b c g s = ap (λ w. w.walk g s) (at_node_comma a b c)
+pub node_comma : (a : ℕ) (b : (Expr × Expr)) (g : Stage) (s : State) → (node (e.Comma a b)).walk g s ≡ expr_walk (Expr-F.Comma a (node b.0, node b.1)) g s
+node_comma a b g s = ap (λ w. w.walk g s) (at_node_comma a b)
 
 pub ruleset expressions = (node_name, node_number, node_character, node_string, node_paren, node_compile, node_local, node_param, node_index, node_call, node_step, node_unary, node_tick, node_tickblock, node_cast, node_sizeof, node_binary, node_choice, node_assign, node_modify, node_comma)
 

@@ -108,7 +108,7 @@ expr_layer (Expr-F.Expr::Paren a) = a.1
 expr_layer (Expr-F.Compile n a t) = refl
 expr_layer (Expr-F.Expr::Local n t) = refl
 expr_layer (Expr-F.Param n t a) = refl
-expr_layer (Expr-F.Index n a c) = refl
+expr_layer (Expr-F.Index n p) = refl
 expr_layer (Expr-F.Call n a xs) = refl
 expr_layer (Expr-F.Step n o a) = refl
 expr_layer (Expr-F.Unary n o a) = ap (λ w. forms.nameless w.constant) a.1
@@ -116,12 +116,12 @@ expr_layer (Expr-F.Tick n a) = refl
 expr_layer (Expr-F.TickBlock n ss) = refl
 expr_layer (Expr-F.Cast n t a) = ap (λ w. forms.nameless ((named t.0).integer && w.constant)) a.1 ∙ ap (λ b. forms.nameless (b && (forms.written a.0).constant)) t.1
 expr_layer (Expr-F.Sizeof n t) = refl
-expr_layer (Expr-F.Binary n o a c) = ap (λ w. forms.nameless (forms.is_strict o && w.constant && (node c.0).written.constant)) a.1
-    ∙ ap (λ w. forms.nameless (forms.is_strict o && (forms.written a.0).constant && w.constant)) c.1
+expr_layer (Expr-F.Binary n o p) = ap (λ w. forms.nameless (forms.is_strict o && w.constant && (node p.1.0).written.constant)) p.0.1
+    ∙ ap (λ w. forms.nameless (forms.is_strict o && (forms.written p.0.0).constant && w.constant)) p.1.1
 expr_layer (Expr-F.Choice n a c d) = refl
-expr_layer (Expr-F.Assign n a c) = refl
-expr_layer (Expr-F.Modify n o a c) = refl
-expr_layer (Expr-F.Comma n a c) = refl
+expr_layer (Expr-F.Assign n p) = refl
+expr_layer (Expr-F.Modify n o p) = refl
+expr_layer (Expr-F.Comma n p) = refl
 
 expr_step : (x : Expr-F Core Expr Initializer OptionalExpr Stmt Suffix Declaration Declarator Init Parameter Typename) (y : Expr-F KnownCore KnownExpr KnownInitializer KnownOptionalExpr KnownStmt KnownSuffix KnownDeclaration KnownDeclarator KnownInit KnownParameter KnownTypename) → (map-Expr KnownCore KnownExpr KnownInitializer KnownOptionalExpr KnownStmt KnownSuffix KnownDeclaration KnownDeclarator KnownInit KnownParameter KnownTypename Core Expr Initializer OptionalExpr Stmt Suffix Declaration Declarator Init Parameter Typename (λ k. k.0) (λ k. k.0) (λ k. k.0) (λ k. k.0) (λ k. k.0) (λ k. k.0) (λ k. k.0) (λ k. k.0) (λ k. k.0) (λ k. k.0) (λ k. k.0) y) ≡ x → ExprAgrees (roll-Expr x)
 expr_step x y is = subst (λ z. ExprAgrees (roll-Expr z)) is (ap (λ w. w.written) (walk_expr (map-Expr KnownCore KnownExpr KnownInitializer KnownOptionalExpr KnownStmt KnownSuffix KnownDeclaration KnownDeclarator KnownInit KnownParameter KnownTypename Core Expr Initializer OptionalExpr Stmt Suffix Declaration Declarator Init Parameter Typename (λ k. k.0) (λ k. k.0) (λ k. k.0) (λ k. k.0) (λ k. k.0) (λ k. k.0) (λ k. k.0) (λ k. k.0) (λ k. k.0) (λ k. k.0) (λ k. k.0) y)) ∙ expr_layer y ∙ sym (form_expr (map-Expr KnownCore KnownExpr KnownInitializer KnownOptionalExpr KnownStmt KnownSuffix KnownDeclaration KnownDeclarator KnownInit KnownParameter KnownTypename Core Expr Initializer OptionalExpr Stmt Suffix Declaration Declarator Init Parameter Typename (λ k. k.0) (λ k. k.0) (λ k. k.0) (λ k. k.0) (λ k. k.0) (λ k. k.0) (λ k. k.0) (λ k. k.0) (λ k. k.0) (λ k. k.0) (λ k. k.0) y)))

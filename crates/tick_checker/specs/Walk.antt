@@ -151,7 +151,7 @@ written_rule (Expr-F.Expr::Paren a) = a.written
 written_rule (Expr-F.Unary n o a) = forms.nameless a.written.constant
 written_rule (Expr-F.Cast n t a) = forms.nameless (t.integer && a.written.constant)
 written_rule (Expr-F.Sizeof n t) = forms.nameless true
-written_rule (Expr-F.Binary n o a c) = forms.nameless (forms.is_strict o && a.written.constant && c.written.constant)
+written_rule (Expr-F.Binary n o p) = forms.nameless (forms.is_strict o && p.0.written.constant && p.1.written.constant)
 written_rule _ = forms.nameless false
 
 abbrev pub expr_walk : Expr-W → Stage → Rule State Operand

@@ -379,7 +379,10 @@ pub fn expression(alloc: Global, state: &mut State, stage: Stage, e: &Expr) -> R
             t.get(),
             a.get(),
         ),
-        Expr::Index(line, a, b) => index(alloc, state, *line, stage, a.get(), b.get()),
+        Expr::Index(line, p) => {
+            let (a, b) = p.get();
+            index(alloc, state, *line, stage, a, b)
+        }
         Expr::Call(line, f, list) => call(alloc, state, *line, stage, f.get(), list.as_slice()),
         Expr::Step(line, op, a) => post(alloc, state, *line, stage, *op, a.get()),
         Expr::Unary(line, op, a) => unary(alloc, state, *line, stage, *op, a.get()),
@@ -387,16 +390,24 @@ pub fn expression(alloc: Global, state: &mut State, stage: Stage, e: &Expr) -> R
         Expr::TickBlock(line, items) => tick_block(alloc, state, *line, stage, items.as_slice()),
         Expr::Cast(line, t, a) => cast(alloc, state, *line, stage, t.get(), a.get()),
         Expr::Sizeof(line, t) => size(alloc, state, *line, stage, t.get()),
-        Expr::Binary(line, op, a, b) => {
-            binary(alloc, state, *line, stage, *op, a.get(), b.get())
+        Expr::Binary(line, op, p) => {
+            let (a, b) = p.get();
+            binary(alloc, state, *line, stage, *op, a, b)
         }
         Expr::Choice(line, c, a, b) => {
             choice(alloc, state, *line, stage, c.get(), a.get(), b.get())
         }
-        Expr::Assign(line, a, b) => assign(alloc, state, *line, stage, a.get(), b.get()),
-        Expr::Modify(line, op, a, b) => {
-            modify(alloc, state, *line, stage, *op, a.get(), b.get())
+        Expr::Assign(line, p) => {
+            let (a, b) = p.get();
+            assign(alloc, state, *line, stage, a, b)
         }
-        Expr::Comma(_, a, b) => comma(alloc, state, stage, a.get(), b.get()),
+        Expr::Modify(line, op, p) => {
+            let (a, b) = p.get();
+            modify(alloc, state, *line, stage, *op, a, b)
+        }
+        Expr::Comma(_, p) => {
+            let (a, b) = p.get();
+            comma(alloc, state, stage, a, b)
+        }
     }
 }

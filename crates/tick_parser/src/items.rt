@@ -177,7 +177,7 @@ pub fn items_of<'a>(
 ) -> Result<Vec<Item<'a>>, AllocError>
     ensures { IfOk result (λ found. found.items ≡ spec.items_of text.now tokens.now) }
 {
-    let mut found = Vec::new(alloc);
+    let mut found = Vec::with_capacity(alloc, tokens.len())?;
     for token in tokens {
         found.push(item_of(text, token))?;
     }

@@ -3,11 +3,13 @@
 
 mod base;
 mod fault;
+mod name;
 mod syntax;
 mod token;
 
 pub use base::{Base, BinaryOp, ModifyOp, Prefix, Signedness, StepOp, UnaryOp};
 pub use fault::{Deny, Fault, FaultKind, refused};
+pub use name::Name;
 pub use syntax::{
     Core, Declaration, Declarator, Expr, External, Init, Initializer, OptionalExpr, Parameter,
     Stmt, Suffix, Tree, Typename,

@@ -6,6 +6,7 @@
 //! Lists are vectors, so the depth of a tree is bounded by the nesting of its text, and not by its length.
 
 use crate::base::{Base, BinaryOp, ModifyOp, Prefix, StepOp, UnaryOp};
+use crate::name::Name;
 use sqlite_items::{Boxed, Items};
 
 /// An expression. Where a `u32` stands first, it is the line of the node's token.
@@ -13,7 +14,7 @@ use sqlite_items::{Boxed, Items};
 #[derive(Drop)]
 pub enum Expr {
     /// A name, with its bytes.
-    Name(u32, Items<u8>),
+    Name(u32, Name),
     /// A number, with its value and whether it is unsigned.
     Number(u32, bool),
     /// A character literal, with its value as a word: the byte's value as a signed char.
@@ -29,7 +30,7 @@ pub enum Expr {
     /// `param(T, e)`, with the line of `param`.
     Param(u32, Boxed<Typename>, Boxed<Expr>),
     /// `a[b]`, with the line of `[`.
-    Index(u32, Boxed<Expr>, Boxed<Expr>),
+    Index(u32, Boxed<(Expr, Expr)>),
     /// `f(a, b)`, with the line of `(`.
     Call(u32, Boxed<Expr>, Items<Expr>),
     /// `a++` and `a--`.
@@ -45,15 +46,15 @@ pub enum Expr {
     /// `sizeof(T)`, with the line of `sizeof`.
     Sizeof(u32, Boxed<Typename>),
     /// An operator between two operands.
-    Binary(u32, BinaryOp, Boxed<Expr>, Boxed<Expr>),
+    Binary(u32, BinaryOp, Boxed<(Expr, Expr)>),
     /// `a ? b : c`, with the line of `?`.
     Choice(u32, Boxed<Expr>, Boxed<Expr>, Boxed<Expr>),
     /// `a = b`.
-    Assign(u32, Boxed<Expr>, Boxed<Expr>),
+    Assign(u32, Boxed<(Expr, Expr)>),
     /// `a += b` and its like.
-    Modify(u32, ModifyOp, Boxed<Expr>, Boxed<Expr>),
+    Modify(u32, ModifyOp, Boxed<(Expr, Expr)>),
     /// `a, b`.
-    Comma(u32, Boxed<Expr>, Boxed<Expr>),
+    Comma(u32, Boxed<(Expr, Expr)>),
 }
 
 /// An expression that may be left out.
@@ -95,7 +96,7 @@ pub enum Core {
     /// Nothing: the declarator is that of a type name or of a parameter without a name.
     Absent,
     /// The declared name, with its line and its bytes.
-    Name(u32, Items<u8>),
+    Name(u32, Name),
     /// A declarator in parentheses.
     Paren(Boxed<Declarator>),
 }

@@ -9,7 +9,7 @@ use Rattle.c_lexer.proofs.walk.tokens.Goals as goal
 pub loop-piece-init : goal.loop-piece-init
 loop-piece-init c =
     let here : c.blanks.new.self.at ≡ past class.Blank c.args.text.now 0 = cc (c.blanks.ensures.at, c.new-walk.ensures.at, c.new-walk.ensures.text) in
-    let none : c.new-found.result.items ≡ [] = c.new-found.ensures.items in
+    let none : c.in_ok-found.found.items ≡ [] = c.in_ok-found.ensures.items in
     record {
       text = cc (c.blanks.ensures.text, c.new-walk.ensures.text);
       same = ap (λ found. to_come c.args.text.now found c.blanks.new.self.at) none ∙ ap (to_come c.args.text.now []) here ∙ comes_all c.args.text.now;

@@ -1,0 +1,59 @@
+//! Names.
+
+ghost use Rattle.std.specs.Prelude.{◌≡◌, IfOk};
+
+use smallvec::SmallVec;
+use std::alloc::{AllocError, Global};
+use std::marker::Model;
+
+/// A name, which contracts see as its bytes. One of up to 16 bytes takes no memory of its own.
+#[derive(Drop)]
+pub struct Name {
+    bytes: SmallVec<u8, 16>,
+}
+
+impl Model for Name {
+    ghost use Rattle.std.specs.Prelude.{List, ℕ};
+
+    ghost Value = { List ℕ };
+
+    ghost view = { λ n. n.bytes.items };
+}
+
+impl Name {
+    /// The name of these bytes.
+    ///
+    /// # Errors
+    ///
+    /// AllocError where there is no memory for them.
+    pub fn new(alloc: Global, bytes: &[u8]) -> Result<Name, AllocError>
+        ensures { IfOk result (λ n. n ≡ bytes.now) }
+    {
+        Ok(Name {
+            bytes: SmallVec::from_slice(alloc, bytes)?,
+        })
+    }
+
+    /// Its bytes.
+    pub fn as_slice(&self) -> &[u8]
+        ensures { result.now ≡ self.now }
+    {
+        self.bytes.as_slice()
+    }
+}
+
+#[cfg(test)]
+mod tests {
+    use super::*;
+
+    #[test]
+    fn short_and_long(rt: HostRuntime) {
+        let long: &[u8] = b"a_name_of_more_than_sixteen_bytes";
+        let short = Name::new(rt.alloc(), b"x").expect(&rt, "memory");
+        assert!(rt; short.as_slice() == b"x".as_slice());
+        let in_place = Name::new(rt.alloc(), &long[..16]).expect(&rt, "memory");
+        assert!(rt; in_place.as_slice() == &long[..16]);
+        let name = Name::new(rt.alloc(), long).expect(&rt, "memory");
+        assert!(rt; name.as_slice() == long);
+    }
+}
