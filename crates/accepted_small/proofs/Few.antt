@@ -35,18 +35,18 @@ few_parts (Expr-F.Expr::Paren a) h = tt
 few_parts (Expr-F.Compile line a t) h = tt
 few_parts (Expr-F.Expr::Local line t) h = tt
 few_parts (Expr-F.Param line t a) h = tt
-few_parts (Expr-F.Index line a b) h = tt
+few_parts (Expr-F.Index line ab) h = tt
 few_parts (Expr-F.Call line c list) h = tt
 few_parts (Expr-F.Step line op a) h = tt
 few_parts (Expr-F.Unary line op a) h = tt
 few_parts (Expr-F.Tick line a) h = tt
 few_parts (Expr-F.Cast line t a) h = tt
 few_parts (Expr-F.Sizeof line t) h = tt
-few_parts (Expr-F.Binary line op a b) h = tt
+few_parts (Expr-F.Binary line op ab) h = tt
 few_parts (Expr-F.Choice line c a b) h = tt
-few_parts (Expr-F.Assign line a b) h = tt
-few_parts (Expr-F.Modify line op a b) h = tt
-few_parts (Expr-F.Comma line a b) h = tt
+few_parts (Expr-F.Assign line ab) h = tt
+few_parts (Expr-F.Modify line op ab) h = tt
+few_parts (Expr-F.Comma line ab) h = tt
 
 pub few_expr : (x : Expr-T) → weight (roll-Expr x) ≤ 1000000000 → FewExpr (walkedExpr x)
 few_expr x h =

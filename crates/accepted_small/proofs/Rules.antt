@@ -31,18 +31,18 @@ parts many (Expr-F.Expr::Paren a) h f = h
 parts many (Expr-F.Compile line a t) h f = h
 parts many (Expr-F.Expr::Local line t) h f = h
 parts many (Expr-F.Param line t a) h f = h
-parts many (Expr-F.Index line a b) h f = h
+parts many (Expr-F.Index line ab) h f = h
 parts many (Expr-F.Call line c list) h f = h
 parts many (Expr-F.Step line op a) h f = h
 parts many (Expr-F.Unary line op a) h f = h
 parts many (Expr-F.Tick line a) h f = h
 parts many (Expr-F.Cast line t a) h f = h
 parts many (Expr-F.Sizeof line t) h f = h
-parts many (Expr-F.Binary line op a b) h f = h
+parts many (Expr-F.Binary line op ab) h f = h
 parts many (Expr-F.Choice line c a b) h f = h
-parts many (Expr-F.Assign line a b) h f = h
-parts many (Expr-F.Modify line op a b) h f = h
-parts many (Expr-F.Comma line a b) h f = h
+parts many (Expr-F.Assign line ab) h f = h
+parts many (Expr-F.Modify line op ab) h f = h
+parts many (Expr-F.Comma line ab) h f = h
 
 pub good_expr : (many : ℕ) (e : Expr-W) → EveryExpr (good many) e → FewExpr e → GoodNode many (expr_rule e)
 good_expr many e h f =

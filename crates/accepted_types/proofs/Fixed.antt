@@ -98,21 +98,21 @@ constant_fixed (Expr-F.Expr::Paren a) h f = h f
 constant_fixed (Expr-F.Unary line op a) h f = unary_fixed line op a (h f)
 constant_fixed (Expr-F.Cast line t a) h f = cast_fixed line t a h.0 (h.1 f)
 constant_fixed (Expr-F.Sizeof line t) h f = size_fixed line t h
-constant_fixed (Expr-F.Binary line op a b) h f = binary_fixed line op a b (h.0 f.0) (h.1 f.1)
+constant_fixed (Expr-F.Binary line op ab) h f = binary_fixed line op ab.0 ab.1 (h.0 f.0) (h.1 f.1)
 constant_fixed (Expr-F.Expr::Name line name) h f = λ s t m n y z d e. cc
 constant_fixed (Expr-F.String bytes) h f = λ s t m n y z d e. cc
 constant_fixed (Expr-F.Compile line a t) h f = λ s t m n y z d e. cc
 constant_fixed (Expr-F.Expr::Local line t) h f = λ s t m n y z d e. cc
 constant_fixed (Expr-F.Param line t a) h f = λ s t m n y z d e. cc
-constant_fixed (Expr-F.Index line a b) h f = λ s t m n y z d e. cc
+constant_fixed (Expr-F.Index line ab) h f = λ s t m n y z d e. cc
 constant_fixed (Expr-F.Call line c list) h f = λ s t m n y z d e. cc
 constant_fixed (Expr-F.Step line op a) h f = λ s t m n y z d e. cc
 constant_fixed (Expr-F.Tick line a) h f = λ s t m n y z d e. cc
 constant_fixed (Expr-F.TickBlock line items) h f = λ s t m n y z d e. cc
 constant_fixed (Expr-F.Choice line c a b) h f = λ s t m n y z d e. cc
-constant_fixed (Expr-F.Assign line a b) h f = λ s t m n y z d e. cc
-constant_fixed (Expr-F.Modify line op a b) h f = λ s t m n y z d e. cc
-constant_fixed (Expr-F.Comma line a b) h f = λ s t m n y z d e. cc
+constant_fixed (Expr-F.Assign line ab) h f = λ s t m n y z d e. cc
+constant_fixed (Expr-F.Modify line op ab) h f = λ s t m n y z d e. cc
+constant_fixed (Expr-F.Comma line ab) h f = λ s t m n y z d e. cc
 
 -- ---- suffixes
 

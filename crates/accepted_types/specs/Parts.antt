@@ -25,7 +25,7 @@ GoodParts many (Expr-F.Expr::Paren a) = GoodNode many a
 GoodParts many (Expr-F.Compile line a t) = GoodNode many a × GoodNamed t
 GoodParts many (Expr-F.Expr::Local line t) = GoodNamed t
 GoodParts many (Expr-F.Param line t a) = GoodNamed t × GoodNode many a
-GoodParts many (Expr-F.Index line a b) = GoodNode many a × GoodNode many b
+GoodParts many (Expr-F.Index line ab) = GoodNode many ab.0 × GoodNode many ab.1
 GoodParts many (Expr-F.Call line f list) = GoodNode many f × EachPart (GoodNode many) list
 GoodParts many (Expr-F.Step line op a) = GoodNode many a
 GoodParts many (Expr-F.Unary line op a) = GoodNode many a
@@ -33,11 +33,11 @@ GoodParts many (Expr-F.Tick line a) = GoodNode many a
 GoodParts many (Expr-F.TickBlock line items) = GoodBlock many tick_around (block items tick_around)
 GoodParts many (Expr-F.Cast line t a) = GoodNamed t × GoodNode many a
 GoodParts many (Expr-F.Sizeof line t) = GoodNamed t
-GoodParts many (Expr-F.Binary line op a b) = GoodNode many a × GoodNode many b
+GoodParts many (Expr-F.Binary line op ab) = GoodNode many ab.0 × GoodNode many ab.1
 GoodParts many (Expr-F.Choice line c a b) = GoodNode many c × GoodNode many a × GoodNode many b
-GoodParts many (Expr-F.Assign line a b) = GoodNode many a × GoodNode many b
-GoodParts many (Expr-F.Modify line op a b) = GoodNode many a × GoodNode many b
-GoodParts many (Expr-F.Comma line a b) = GoodNode many a × GoodNode many b
+GoodParts many (Expr-F.Assign line ab) = GoodNode many ab.0 × GoodNode many ab.1
+GoodParts many (Expr-F.Modify line op ab) = GoodNode many ab.0 × GoodNode many ab.1
+GoodParts many (Expr-F.Comma line ab) = GoodNode many ab.0 × GoodNode many ab.1
 
 -- an expression has the form of a constant only if its parts have, and it is one of these
 abbrev pub HasForm : {I S D N P : Type 0} → Expr-F Shape Node I (Option Node) Item S D Shape N P Named → Type 0
@@ -47,7 +47,7 @@ HasForm (Expr-F.Expr::Paren a) = a.written.constant ≡ true
 HasForm (Expr-F.Unary line op a) = a.written.constant ≡ true
 HasForm (Expr-F.Cast line t a) = a.written.constant ≡ true
 HasForm (Expr-F.Sizeof line t) = Unit {0}
-HasForm (Expr-F.Binary line op a b) = (a.written.constant ≡ true) × (b.written.constant ≡ true)
+HasForm (Expr-F.Binary line op ab) = (ab.0.written.constant ≡ true) × (ab.1.written.constant ≡ true)
 HasForm _ = true ≡ false
 
 -- a string, also in parentheses
@@ -101,7 +101,7 @@ FixedParts (Expr-F.Expr::Paren a) = FixedNode a
 FixedParts (Expr-F.Unary line op a) = FixedNode a
 FixedParts (Expr-F.Cast line t a) = FixedNamed t × FixedNode a
 FixedParts (Expr-F.Sizeof line t) = FixedNamed t
-FixedParts (Expr-F.Binary line op a b) = FixedNode a × FixedNode b
+FixedParts (Expr-F.Binary line op ab) = FixedNode ab.0 × FixedNode ab.1
 FixedParts _ = Unit {0}
 
 abbrev pub FixedSuffixParts : {I D N : Type 0} → Suffix-F Shape Node I (Option Node) Item (Stage → Rule State Step) D Shape N (Stage → Rule State CType) Named → Type 0

@@ -24,7 +24,7 @@ form_of (Expr-F.Expr::Paren a) h = h
 form_of (Expr-F.Unary line op a) h = h
 form_of (Expr-F.Cast line t a) h = second_true t.integer a.written.constant h
 form_of (Expr-F.Sizeof line t) h = tt
-form_of (Expr-F.Binary line op a b) h = (
+form_of (Expr-F.Binary line op ab) h = (
   second_true (is_strict op) a.written.constant (first_true (is_strict op && a.written.constant) b.written.constant h),
   second_true (is_strict op && a.written.constant) b.written.constant h,
 )
@@ -33,15 +33,15 @@ form_of (Expr-F.String bytes) h = never h
 form_of (Expr-F.Compile line a t) h = never h
 form_of (Expr-F.Expr::Local line t) h = never h
 form_of (Expr-F.Param line t a) h = never h
-form_of (Expr-F.Index line a b) h = never h
+form_of (Expr-F.Index line ab) h = never h
 form_of (Expr-F.Call line c list) h = never h
 form_of (Expr-F.Step line op a) h = never h
 form_of (Expr-F.Tick line a) h = never h
 form_of (Expr-F.TickBlock line items) h = never h
 form_of (Expr-F.Choice line c a b) h = never h
-form_of (Expr-F.Assign line a b) h = never h
-form_of (Expr-F.Modify line op a b) h = never h
-form_of (Expr-F.Comma line a b) h = never h
+form_of (Expr-F.Assign line ab) h = never h
+form_of (Expr-F.Modify line op ab) h = never h
+form_of (Expr-F.Comma line ab) h = never h
 
 pub string_of : (e : Expr-W) → is_some (written_rule e).string ≡ true → IsString e
 string_of (Expr-F.String bytes) h = tt
@@ -51,17 +51,17 @@ string_of (Expr-F.Character n) h = never h
 string_of (Expr-F.Unary line op a) h = never h
 string_of (Expr-F.Cast line t a) h = never h
 string_of (Expr-F.Sizeof line t) h = never h
-string_of (Expr-F.Binary line op a b) h = never h
+string_of (Expr-F.Binary line op ab) h = never h
 string_of (Expr-F.Expr::Name line name) h = never h
 string_of (Expr-F.Compile line a t) h = never h
 string_of (Expr-F.Expr::Local line t) h = never h
 string_of (Expr-F.Param line t a) h = never h
-string_of (Expr-F.Index line a b) h = never h
+string_of (Expr-F.Index line ab) h = never h
 string_of (Expr-F.Call line c list) h = never h
 string_of (Expr-F.Step line op a) h = never h
 string_of (Expr-F.Tick line a) h = never h
 string_of (Expr-F.TickBlock line items) h = never h
 string_of (Expr-F.Choice line c a b) h = never h
-string_of (Expr-F.Assign line a b) h = never h
-string_of (Expr-F.Modify line op a b) h = never h
-string_of (Expr-F.Comma line a b) h = never h
+string_of (Expr-F.Assign line ab) h = never h
+string_of (Expr-F.Modify line op ab) h = never h
+string_of (Expr-F.Comma line ab) h = never h

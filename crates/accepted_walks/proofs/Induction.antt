@@ -254,7 +254,7 @@ parts_expr q (Expr-F.Expr::Paren a) = a.1
 parts_expr q (Expr-F.Compile n a t) = (a.1, t.1)
 parts_expr q (Expr-F.Expr::Local n t) = t.1
 parts_expr q (Expr-F.Param n t a) = (t.1, a.1)
-parts_expr q (Expr-F.Index n a b) = (a.1, b.1)
+parts_expr q (Expr-F.Index n ab) = (ab.0.1, ab.1.1)
 parts_expr q (Expr-F.Call n a list) = (a.1, each node q.node list)
 parts_expr q (Expr-F.Step n o a) = a.1
 parts_expr q (Expr-F.Unary n o a) = a.1
@@ -262,11 +262,11 @@ parts_expr q (Expr-F.Tick n a) = a.1
 parts_expr q (Expr-F.TickBlock n items) = each item q.item items
 parts_expr q (Expr-F.Cast n t a) = (t.1, a.1)
 parts_expr q (Expr-F.Sizeof n t) = t.1
-parts_expr q (Expr-F.Binary n o a b) = (a.1, b.1)
+parts_expr q (Expr-F.Binary n o ab) = (ab.0.1, ab.1.1)
 parts_expr q (Expr-F.Choice n c a b) = (c.1, a.1, b.1)
-parts_expr q (Expr-F.Assign n a b) = (a.1, b.1)
-parts_expr q (Expr-F.Modify n o a b) = (a.1, b.1)
-parts_expr q (Expr-F.Comma n a b) = (a.1, b.1)
+parts_expr q (Expr-F.Assign n ab) = (ab.0.1, ab.1.1)
+parts_expr q (Expr-F.Modify n o ab) = (ab.0.1, ab.1.1)
+parts_expr q (Expr-F.Comma n ab) = (ab.0.1, ab.1.1)
 
 parts_initializer : (q : Asked) (y : Initializer-K q) → EveryInitializer q (walkedInitializer (firstInitializer q y))
 parts_initializer q Initializer-F.Initializer::Absent = tt

@@ -33,7 +33,7 @@ EveryExpr q (Expr-F.Expr::Paren a) = q.node a
 EveryExpr q (Expr-F.Compile line a t) = q.node a × q.named t
 EveryExpr q (Expr-F.Expr::Local line t) = q.named t
 EveryExpr q (Expr-F.Param line t a) = q.named t × q.node a
-EveryExpr q (Expr-F.Index line a b) = q.node a × q.node b
+EveryExpr q (Expr-F.Index line ab) = q.node ab.0 × q.node ab.1
 EveryExpr q (Expr-F.Call line a list) = q.node a × EachPart q.node list
 EveryExpr q (Expr-F.Step line op a) = q.node a
 EveryExpr q (Expr-F.Unary line op a) = q.node a
@@ -41,11 +41,11 @@ EveryExpr q (Expr-F.Tick line a) = q.node a
 EveryExpr q (Expr-F.TickBlock line items) = EachPart q.item items
 EveryExpr q (Expr-F.Cast line t a) = q.named t × q.node a
 EveryExpr q (Expr-F.Sizeof line t) = q.named t
-EveryExpr q (Expr-F.Binary line op a b) = q.node a × q.node b
+EveryExpr q (Expr-F.Binary line op ab) = q.node ab.0 × q.node ab.1
 EveryExpr q (Expr-F.Choice line c a b) = q.node c × q.node a × q.node b
-EveryExpr q (Expr-F.Assign line a b) = q.node a × q.node b
-EveryExpr q (Expr-F.Modify line op a b) = q.node a × q.node b
-EveryExpr q (Expr-F.Comma line a b) = q.node a × q.node b
+EveryExpr q (Expr-F.Assign line ab) = q.node ab.0 × q.node ab.1
+EveryExpr q (Expr-F.Modify line op ab) = q.node ab.0 × q.node ab.1
+EveryExpr q (Expr-F.Comma line ab) = q.node ab.0 × q.node ab.1
 
 abbrev pub EveryInitializer : Asked → Initializer-W → Type 0
 EveryInitializer q Initializer-F.Initializer::Absent = Unit {0}

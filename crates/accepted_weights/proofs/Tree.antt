@@ -189,7 +189,7 @@ layer-Expr (Expr-F.Expr::Paren a) = record { at = λ g. e.paren_light (node a.0)
 layer-Expr (Expr-F.Compile n a t) = record { at = λ g. e.compile_light n (node a.0) (named t.0) g a.1 t.1 }
 layer-Expr (Expr-F.Expr::Local n t) = record { at = λ g. e.local_light n (named t.0) g t.1 }
 layer-Expr (Expr-F.Param n t a) = record { at = λ g. e.parameter_light n (named t.0) (node a.0) g t.1 a.1 }
-layer-Expr (Expr-F.Index n a c) = record { at = λ g. e.index_light n (node a.0) (node c.0) g a.1 c.1 }
+layer-Expr (Expr-F.Index n ab) = record { at = λ g. e.index_light n (node ab.0.0) (node ab.1.0) g ab.0.1 ab.1.1 }
 layer-Expr (Expr-F.Call n a xs) = record { at = λ g. e.call_light n (node a.0) _ g a.1 (nodes_known xs) }
 layer-Expr (Expr-F.Step n o a) = record { at = λ g. e.post_light n o (node a.0) g a.1 }
 layer-Expr (Expr-F.Unary n o a) = record { at = λ g. e.unary_light n o (node a.0) g a.1 }
@@ -197,11 +197,11 @@ layer-Expr (Expr-F.Tick n a) = record { at = λ g. e.tick_light n (node a.0) g a
 layer-Expr (Expr-F.TickBlock n ss) = record { at = λ g. e.tick_block_light n _ g (items_known ss) }
 layer-Expr (Expr-F.Cast n t a) = record { at = λ g. e.cast_light n (named t.0) (node a.0) g t.1 a.1 }
 layer-Expr (Expr-F.Sizeof n t) = record { at = λ g. e.size_light n (named t.0) g t.1 }
-layer-Expr (Expr-F.Binary n o a c) = record { at = λ g. e.binary_light n o (node a.0) (node c.0) g a.1 c.1 }
+layer-Expr (Expr-F.Binary n o ab) = record { at = λ g. e.binary_light n o (node ab.0.0) (node ab.1.0) g ab.0.1 ab.1.1 }
 layer-Expr (Expr-F.Choice n a c d) = record { at = λ g. e.choice_light n (node a.0) (node c.0) (node d.0) g a.1 c.1 d.1 }
-layer-Expr (Expr-F.Assign n a c) = record { at = λ g. e.assign_light n (node a.0) (node c.0) g a.1 c.1 }
-layer-Expr (Expr-F.Modify n o a c) = record { at = λ g. e.modify_light n o (node a.0) (node c.0) g a.1 c.1 }
-layer-Expr (Expr-F.Comma n a c) = record { at = λ g. e.comma_light (node a.0) (node c.0) g a.1 c.1 }
+layer-Expr (Expr-F.Assign n ab) = record { at = λ g. e.assign_light n (node ab.0.0) (node ab.1.0) g ab.0.1 ab.1.1 }
+layer-Expr (Expr-F.Modify n o ab) = record { at = λ g. e.modify_light n o (node ab.0.0) (node ab.1.0) g ab.0.1 ab.1.1 }
+layer-Expr (Expr-F.Comma n ab) = record { at = λ g. e.comma_light (node ab.0.0) (node ab.1.0) g ab.0.1 ab.1.1 }
 
 layer-Initializer : (y : Initializer-K) → LightStart (initializer_nodes (weighed-Initializer (front-Initializer y))) (start_rule (walked-Initializer (front-Initializer y)))
 layer-Initializer Initializer-F.Initializer::Absent = nothing

@@ -233,7 +233,7 @@ module _ (limit : ℕ) (PCore : Core → Type 0) (PExpr : Expr → Type 0) (PIni
   lower-Expr (Expr-F.Compile n a t) h = record { layer = (Expr-F.Compile n (a.0, a.1 (omega arith)) (t.0, t.1 (omega arith))); is = refl }
   lower-Expr (Expr-F.Expr::Local n t) h = record { layer = (Expr-F.Expr::Local n (t.0, t.1 (omega arith))); is = refl }
   lower-Expr (Expr-F.Param n t a) h = record { layer = (Expr-F.Param n (t.0, t.1 (omega arith)) (a.0, a.1 (omega arith))); is = refl }
-  lower-Expr (Expr-F.Index n a c) h = record { layer = (Expr-F.Index n (a.0, a.1 (omega arith)) (c.0, c.1 (omega arith))); is = refl }
+  lower-Expr (Expr-F.Index n ab) h = record { layer = (Expr-F.Index n ((ab.0.0, ab.0.1 (omega arith)), (ab.1.0, ab.1.1 (omega arith)))); is = refl }
   lower-Expr (Expr-F.Call n a xs) h = let xsz = lower PExpr limit weight xs (omega arith) in record { layer = (Expr-F.Call n (a.0, a.1 (omega arith)) xsz.parts); is = ap (λ (l : List Expr). Expr-F.Call n a.0 l) xsz.is }
   lower-Expr (Expr-F.Step n o a) h = record { layer = (Expr-F.Step n o (a.0, a.1 (omega arith))); is = refl }
   lower-Expr (Expr-F.Unary n o a) h = record { layer = (Expr-F.Unary n o (a.0, a.1 (omega arith))); is = refl }
@@ -241,11 +241,11 @@ module _ (limit : ℕ) (PCore : Core → Type 0) (PExpr : Expr → Type 0) (PIni
   lower-Expr (Expr-F.TickBlock n xs) h = let xsz = lower PStmt limit statement_weight xs (omega arith) in record { layer = (Expr-F.TickBlock n xsz.parts); is = ap (λ (l : List Stmt). Expr-F.TickBlock n l) xsz.is }
   lower-Expr (Expr-F.Cast n t a) h = record { layer = (Expr-F.Cast n (t.0, t.1 (omega arith)) (a.0, a.1 (omega arith))); is = refl }
   lower-Expr (Expr-F.Sizeof n t) h = record { layer = (Expr-F.Sizeof n (t.0, t.1 (omega arith))); is = refl }
-  lower-Expr (Expr-F.Binary n o a c) h = record { layer = (Expr-F.Binary n o (a.0, a.1 (omega arith)) (c.0, c.1 (omega arith))); is = refl }
+  lower-Expr (Expr-F.Binary n o ab) h = record { layer = (Expr-F.Binary n o ((ab.0.0, ab.0.1 (omega arith)), (ab.1.0, ab.1.1 (omega arith)))); is = refl }
   lower-Expr (Expr-F.Choice n a c d) h = record { layer = (Expr-F.Choice n (a.0, a.1 (omega arith)) (c.0, c.1 (omega arith)) (d.0, d.1 (omega arith))); is = refl }
-  lower-Expr (Expr-F.Assign n a c) h = record { layer = (Expr-F.Assign n (a.0, a.1 (omega arith)) (c.0, c.1 (omega arith))); is = refl }
-  lower-Expr (Expr-F.Modify n o a c) h = record { layer = (Expr-F.Modify n o (a.0, a.1 (omega arith)) (c.0, c.1 (omega arith))); is = refl }
-  lower-Expr (Expr-F.Comma n a c) h = record { layer = (Expr-F.Comma n (a.0, a.1 (omega arith)) (c.0, c.1 (omega arith))); is = refl }
+  lower-Expr (Expr-F.Assign n ab) h = record { layer = (Expr-F.Assign n ((ab.0.0, ab.0.1 (omega arith)), (ab.1.0, ab.1.1 (omega arith)))); is = refl }
+  lower-Expr (Expr-F.Modify n o ab) h = record { layer = (Expr-F.Modify n o ((ab.0.0, ab.0.1 (omega arith)), (ab.1.0, ab.1.1 (omega arith)))); is = refl }
+  lower-Expr (Expr-F.Comma n ab) h = record { layer = (Expr-F.Comma n ((ab.0.0, ab.0.1 (omega arith)), (ab.1.0, ab.1.1 (omega arith)))); is = refl }
 
   step-Expr : StepExpr → (x : Expr-T) (y : Expr-F ((x : Core) × (core_weight x ≤ limit → PCore x)) ((x : Expr) × (weight x ≤ limit → PExpr x)) ((x : Initializer) × (initializer_weight x ≤ limit → PInitializer x)) ((x : OptionalExpr) × (optional_weight x ≤ limit → POptionalExpr x)) ((x : Stmt) × (statement_weight x ≤ limit → PStmt x)) ((x : Suffix) × (suffix_weight x ≤ limit → PSuffix x)) ((x : Declaration) × (declaration_weight x ≤ limit → PDeclaration x)) ((x : Declarator) × (declarator_weight x ≤ limit → PDeclarator x)) ((x : Init) × (init_weight x ≤ limit → PInit x)) ((x : Parameter) × (parameter_weight x ≤ limit → PParameter x)) ((x : Typename) × (typename_weight x ≤ limit → PTypename x))) → small-Expr y ≡ x → weight (roll-Expr x) ≤ limit → PExpr (roll-Expr x)
   step-Expr step x y is h =

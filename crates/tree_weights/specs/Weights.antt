@@ -71,7 +71,7 @@ expr_nodes (Expr-F.Expr::Paren a) = 1 + a
 expr_nodes (Expr-F.Compile n a t) = 1 + (a + t)
 expr_nodes (Expr-F.Expr::Local n t) = 1 + t
 expr_nodes (Expr-F.Param n t a) = 1 + (t + a)
-expr_nodes (Expr-F.Index n a b) = 1 + (a + b)
+expr_nodes (Expr-F.Index n ab) = 1 + (ab.0 + ab.1)
 expr_nodes (Expr-F.Call n a list) = 1 + (a + total list)
 expr_nodes (Expr-F.Step n op a) = 1 + a
 expr_nodes (Expr-F.Unary n op a) = 1 + a
@@ -79,11 +79,11 @@ expr_nodes (Expr-F.Tick n a) = 1 + a
 expr_nodes (Expr-F.TickBlock n items) = 1 + total items
 expr_nodes (Expr-F.Cast n t a) = 1 + (t + a)
 expr_nodes (Expr-F.Sizeof n t) = 1 + t
-expr_nodes (Expr-F.Binary n op a b) = 1 + (a + b)
+expr_nodes (Expr-F.Binary n op ab) = 1 + (ab.0 + ab.1)
 expr_nodes (Expr-F.Choice n c a b) = 1 + (c + (a + b))
-expr_nodes (Expr-F.Assign n a b) = 1 + (a + b)
-expr_nodes (Expr-F.Modify n op a b) = 1 + (a + b)
-expr_nodes (Expr-F.Comma n a b) = 1 + (a + b)
+expr_nodes (Expr-F.Assign n ab) = 1 + (ab.0 + ab.1)
+expr_nodes (Expr-F.Modify n op ab) = 1 + (ab.0 + ab.1)
+expr_nodes (Expr-F.Comma n ab) = 1 + (ab.0 + ab.1)
 
 abbrev pub initializer_nodes : Initializer-N → ℕ
 initializer_nodes Initializer-F.Initializer::Absent = 1
