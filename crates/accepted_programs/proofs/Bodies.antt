@@ -1,19 +1,18 @@
 -- The body of a function: where its parameters, its variables and its items stand right, it does; and what it counts.
-use Rattle.std.proofs.Common.{◌≡◌, ℕ, zero, suc, ◌+◌, ◌≤◌, ◌<◌, ◌==◌, Bool, true, false, ◌&&◌, nat_le, nat_lt, if◌then◌else◌, refl, ap, sym, ◌∙◌, subst, List, [], ◌∷◌, ◌++◌, length, map, sum, take, drop, arith}
+use Rattle.std.proofs.Common.{◌≡◌, ℕ, suc, ◌+◌, ◌≤◌, ◌<◌, true, ◌&&◌, nat_le, nat_lt, refl, ap, ◌∙◌, List, [], ◌∷◌, ◌++◌, length, map, take, drop, arith}
 use Rattle.std.proofs.lemmas.Bool.Decides.{nat_tests}
 use Rattle.typed_tree.specs.declared.expression.Stmt.{Stmt}
 use Rattle.typed_tree.specs.declared.expression.Stmt.TheVariants as st
 use Rattle.typed_tree.specs.Sizes.{statement_size, statements_size}
 use Rattle.typed_tree.proofs.SizeLaws.{statement_size_block}
-use Rattle.check_state.specs.declared.state.Around.{Around as Standing}
 use Rattle.check_state.specs.declared.state.Stage.TheVariants as stage
 use Rattle.accepted_trees.specs.Accepted.{AreNumbered}
 use Rattle.accepted_trees.specs.Counts.{one_if, objects_at, declarations_of}
-use Rattle.accepted_trees.specs.Places.{Around, Act, act, in_function, numbers_of, within, all_stand, all_declare, are_parameters, is_body, stands_as_body}
+use Rattle.accepted_trees.specs.Places.{Around, Act, act, in_function, within, all_stand, all_declare, are_parameters, stands_as_body}
 use Rattle.accepted_trees.specs.Values.{uses_values, all_true}
 use Rattle.accepted_trees.proofs.Equations.{act_block, objects_at_block, declarations_of_block}
 use Rattle.accepted_steps.specs.Counts.{objects_in, declarations_in, between}
-use Rattle.accepted_steps.specs.Items.{EachNode, ItemsStand, ItemStands, DeclaresAt}
+use Rattle.accepted_steps.specs.Items.{EachNode, ItemsStand, DeclaresAt}
 use Rattle.tick_checker.specs.Program.{around}
 use Rattle.accepted_programs.proofs.Bools.{and_true, le_true}
 use Rattle.accepted_programs.proofs.Sums.{map_both, all_map_both, take_front, drop_front, values_block}

@@ -1,21 +1,12 @@
 -- The bytes of the globals end where the globals do, and both walks end them at one place.
-use Rattle.std.proofs.Common.{◌≡◌, ℕ, zero, suc, ◌+◌, ◌*◌, ◌-◌, ◌/◌, ◌≤◌, min, Bool, true, false, nat_le, if◌then◌else◌, refl, ap, sym, ◌∙◌, subst, List, [], ◌∷◌, ◌++◌, length, map, replicate, Option, Some, None, Ok, arith, add-sub_of_le}
-use Rattle.std.proofs.Math.ListN.{length-replicate, length-append}
+use Rattle.std.proofs.Common.{◌≡◌, ℕ, ◌+◌, ◌≤◌, min, Bool, true, false, if◌then◌else◌, ap, sym, ◌∙◌, subst, List, length, arith, add-sub_of_le}
+use Rattle.std.proofs.Math.ListN.{length-append}
 use Rattle.c_types.specs.declared.ctype.CType.{CType}
-use Rattle.c_declared.specs.declared.steps.Role.TheVariants as role
-use Rattle.c_declared.specs.declared.steps.Step.{Step}
-use Rattle.c_declared.specs.Making.{declared_type}
-use Rattle.c_declared.specs.Words as words
 use Rattle.c_forms.specs.Forms.{is_nil}
 use Rattle.c_shapes.specs.Shapes.{is_function}
-use Rattle.tick_tree.specs.declared.base.Base.{Base}
-use Rattle.tick_tree.specs.Faults.{Checked, refuse}
 use Rattle.check_tables.specs.declared.image.Image.{Image}
 use Rattle.check_tables.specs.Images as images
-use Rattle.check_tables.specs.Walks.{Rule, ◌>>=◌, pure, lift}
-use Rattle.check_state.specs.declared.state.Stage.TheVariants as stage
 use Rattle.check_state.specs.declared.state.State.{State}
-use Rattle.check_expressions.specs.Rules.{Shape}
 use Rattle.check_globals.specs.Programs.{image, strings_begin, begin_by, image_fits}
 use Rattle.accepted_steps.specs.Kept.{KeepsGlobals}
 use Rattle.accepted_programs.proofs.Bools.{true_le}

@@ -1,8 +1,7 @@
 -- What was checked, taken apart: both walks, and what is checked at the end.
-use Rattle.std.proofs.Common.{◌≡◌, refl, ap, sym, ◌∙◌, List, Ok, Err}
+use Rattle.std.proofs.Common.{◌≡◌, List, Ok}
 use Rattle.tick_tree.specs.declared.syntax.External.{External}
 use Rattle.tick_tree.specs.declared.syntax.Tree.{Tree}
-use Rattle.tick_tree.specs.Faults.{Checked, ◌>>=◌ as ◌>>>=◌}
 use Rattle.typed_tree.specs.declared.program.Typed.{Typed}
 use Rattle.check_state.specs.declared.state.State.{State}
 use Rattle.check_state.specs.Starts.{start, again}

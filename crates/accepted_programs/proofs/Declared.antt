@@ -1,30 +1,26 @@
 -- The type of a name at file scope: no length of it is computed, it isn't void, and a function's list is short.
-use Rattle.std.proofs.Common.{◌≡◌, ℕ, zero, suc, ◌+◌, ◌*◌, ◌-◌, ◌≤◌, ◌<◌, Bool, true, false, not, ◌&&◌, ◌||◌, nat_le, nat_lt, if◌then◌else◌, refl, ap, sym, ◌∙◌, List, [], ◌∷◌, ◌++◌, length, slice_get, Option, Some, None, Result, Ok, Err, arith}
-use Rattle.std.proofs.lemmas.Bool.Decides.{nat_tests}
+use Rattle.std.proofs.Common.{◌≡◌, ℕ, suc, ◌*◌, ◌-◌, ◌≤◌, Bool, true, false, ◌||◌, nat_le, if◌then◌else◌, refl, ap, sym, ◌∙◌, List, [], ◌∷◌, ◌++◌, length, slice_get, Option, Some, None, Ok, arith}
 use Rattle.c_types.specs.declared.ctype.Base.{Base}
-use Rattle.c_types.specs.declared.ctype.CType.{CType, roll-CType, out-CType, out-roll-CType}
+use Rattle.c_types.specs.declared.ctype.CType.{CType, out-roll-CType}
 use Rattle.c_types.specs.declared.ctype.Layer.{Layer, out-Layer}
 use Rattle.c_types.specs.declared.ctype.Layer.TheOpen.{Layer-F, CType-F}
 use Rattle.c_types.specs.declared.ctype.Layer.TheVariants as layer
 use Rattle.c_types.specs.Types.{Opened, base_of, layers_of, outermost, is_void}
-use Rattle.c_declared.specs.declared.steps.Length.{Length}
 use Rattle.c_declared.specs.declared.steps.Length.TheVariants as len
-use Rattle.c_declared.specs.declared.steps.Role.{Role}
 use Rattle.c_declared.specs.declared.steps.Role.TheVariants as role
 use Rattle.c_declared.specs.declared.steps.Step.{Step}
 use Rattle.c_declared.specs.declared.steps.Step.TheVariants as step
-use Rattle.c_declared.specs.Making.{declared_type, declared_by, answer, lower, lower_of, worst, made, breaks, array_breaks, function_breaks, result_breaks, unless, is_count, void_breaks, ctype, finished, is_function, is_array, bytes}
-use Rattle.c_declared.specs.Steps.{layer_of, prefix_layer, filled, with_length, lacks_length}
+use Rattle.c_declared.specs.Making.{declared_type, answer, lower, worst, made, breaks, unless, is_count, void_breaks, ctype, is_function, is_array, bytes}
+use Rattle.c_declared.specs.Steps.{layer_of, prefix_layer, filled}
 use Rattle.c_shapes.specs.Shapes as shapes
 use Rattle.tick_tree.specs.declared.base.Prefix.{Prefix}
 use Rattle.tick_tree.specs.declared.base.Prefix.TheVariants as prefix
-use Rattle.tick_tree.specs.declared.fault.Fault.{Fault}
 use Rattle.tick_tree.specs.declared.fault.FaultKind.{FaultKind}
 use Rattle.tick_tree.specs.declared.fault.FaultKind.TheVariants.{TypeMismatch, VoidValue, BadArray, TooManyParameters}
 use Rattle.check_globals.specs.Functions.{types_of, types_by, types_at}
 use Rattle.check_globals.specs.Names.{named_steps, without_parameters}
 use Rattle.accepted_programs.proofs.Bools.{true_le}
-use Rattle.accepted_steps.specs.Good.{is_computed, is_computed_step, any_computed}
+use Rattle.accepted_steps.specs.Good.{is_computed_step, any_computed}
 
 -- ---- the parts of a made type
 

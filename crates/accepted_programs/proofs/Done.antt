@@ -1,14 +1,7 @@
 -- A function of the program stands right, and what it leaves for the items behind it: the walk over it, put together.
-use Rattle.std.proofs.Common.{◌≡◌, ℕ, zero, suc, ◌+◌, ◌-◌, ◌*◌, ◌≤◌, ◌<◌, min, Bool, true, false, ◌&&◌, nat_le, refl, ap, sym, ◌∙◌, subst, List, [], ◌∷◌, ◌++◌, length, map, take, slice_get, Option, Some, None, Ok, arith, append-nil}
+use Rattle.std.proofs.Common.{◌≡◌, ℕ, ◌≤◌, min, true, nat_le, ap, sym, ◌∙◌, subst, List, [], ◌∷◌, ◌++◌, length, slice_get, Some, arith}
 use Rattle.c_types.specs.declared.ctype.CType.{CType}
-use Rattle.c_types.specs.declared.names.MeaningKind.TheVariants as kind
-use Rattle.c_types.specs.Scopes.{Name, Scope, Scopes, in_scope}
-use Rattle.c_types.specs.Types.{layers_of}
-use Rattle.c_declared.specs.declared.steps.Role.TheVariants as role
-use Rattle.c_declared.specs.declared.steps.Step.{Step}
-use Rattle.c_declared.specs.declared.steps.Step.TheVariants as step
-use Rattle.c_declared.specs.Words as words
-use Rattle.c_shapes.specs.Shapes.{is_void}
+use Rattle.c_types.specs.Scopes.{Name, Scope}
 use Rattle.tick_tree.specs.declared.base.Base.{Base}
 use Rattle.typed_tree.specs.declared.expression.CaptureKind.{CaptureKind}
 use Rattle.typed_tree.specs.declared.expression.Stmt.{Stmt}
@@ -16,41 +9,20 @@ use Rattle.typed_tree.specs.declared.expression.Stmt.TheVariants as st
 use Rattle.typed_tree.specs.declared.program.Function.{Function}
 use Rattle.typed_tree.specs.Sizes.{statement_size}
 use Rattle.check_tables.specs.declared.functions.Functions.{Functions}
-use Rattle.check_tables.specs.declared.functions.Prototype.{Prototype}
-use Rattle.check_tables.specs.declared.ticks.Ticks.{Ticks}
-use Rattle.check_tables.specs.Walks.{Rule}
-use Rattle.check_tables.specs.Functions as tables
-use Rattle.check_state.specs.declared.state.Stage.TheVariants as stage
 use Rattle.check_state.specs.declared.state.State.{State}
-use Rattle.check_state.specs.Locals.{meaning}
-use Rattle.check_expressions.specs.Rules as rules
 use Rattle.check_expressions.specs.Rules.{Shape, Item}
-use Rattle.check_statements.specs.Declarations.{name_by}
 use Rattle.check_globals.specs.Functions as functions
 use Rattle.check_globals.specs.Functions.{Given, types_of, count_of}
-use Rattle.check_globals.specs.Names as names
 use Rattle.check_globals.specs.Programs.{typed, function_fits}
-use Rattle.tick_checker.specs.Program.{around}
 use Rattle.accepted_trees.specs.Accepted as accepted
 use Rattle.accepted_trees.specs.Places.{stands_as_body}
-use Rattle.accepted_steps.specs.Good.{any_computed, GoodShape, Plain}
-use Rattle.accepted_steps.specs.Items.{GoodStatement}
-use Rattle.accepted_steps.specs.Kept.{Starts, Grows, IsGrowing, outer}
-use Rattle.accepted_steps.specs.Known.{EachEntry, Small, is_number, IsFunction, Numbered}
+use Rattle.accepted_steps.specs.Kept.{Starts}
 use Rattle.accepted_steps.specs.Steps.{EachTick}
 use Rattle.accepted_programs.proofs.Bools.{and_left, and_right, true_le, get_front, get_last}
-use Rattle.accepted_programs.proofs.Declared.{FileType, file_type, file_value, none_computed, named_computed, first_list, first_types, first_few}
-use Rattle.accepted_programs.proofs.Files.{many, End, Towards, towards_more, numbered_on, Linked, EachLinked, linked_later, linked_last, AtFile, round}
-use Rattle.accepted_programs.proofs.Finish.{few_ticks, function_fit}
-use Rattle.accepted_programs.proofs.Functions.{GoodFunction, Typed, function_typed, Blocked, blocked}
-use Rattle.accepted_programs.proofs.Given.{EachObject, All, function_begun}
-use Rattle.accepted_programs.proofs.Inside.{Inside, inside}
-use Rattle.accepted_programs.proofs.Names.{NamedFunction, function_named}
-use Rattle.accepted_programs.proofs.Runs.{entered, left, ended, BodyRan, TypeRan, FunctionRan}
-use Rattle.accepted_programs.proofs.Scopes.{FileName, Later, file_later}
-use Rattle.accepted_programs.proofs.Steps.{starts_same, starts_trans}
-use Rattle.accepted_programs.proofs.Still.{Still, plain_still}
-use Rattle.accepted_programs.proofs.Tables.{with_name, is_number_at}
+use Rattle.accepted_programs.proofs.Files.{AtFile, round}
+use Rattle.accepted_programs.proofs.Inside.{Inside}
+use Rattle.accepted_programs.proofs.Runs.{left, ended, FunctionRan}
+use Rattle.accepted_programs.proofs.Tables.{with_name}
 
 -- ---- the function that was made
 

@@ -1,7 +1,7 @@
 -- Both walks end the globals at one place.
-use Rattle.std.proofs.Common.{◌≡◌, ℕ, suc, ◌+◌, ◌≤◌, min, Bool, true, false, if◌then◌else◌, refl, ap, sym, ◌∙◌, subst, List, [], ◌∷◌, ◌++◌, length, map, Option, Some, None, Ok}
+use Rattle.std.proofs.Common.{◌≡◌, ℕ, ◌+◌, min, Bool, true, false, if◌then◌else◌, refl, ap, sym, ◌∙◌, subst, List, [], ◌∷◌, map, Ok}
 use Rattle.c_types.specs.declared.ctype.CType.{CType}
-use Rattle.c_types.specs.Scopes.{Name, Scope, Scopes}
+use Rattle.c_types.specs.Scopes.{Scope}
 use Rattle.c_declared.specs.declared.steps.Role.TheVariants as role
 use Rattle.c_declared.specs.declared.steps.Step.{Step}
 use Rattle.c_declared.specs.Making.{declared_type}
@@ -12,10 +12,9 @@ use Rattle.tick_tree.specs.declared.fault.FaultKind.TheVariants as fault
 use Rattle.tick_tree.specs.declared.syntax.External.{External}
 use Rattle.tick_tree.specs.declared.syntax.External.TheVariants as ext
 use Rattle.tick_tree.specs.Faults.{Checked, refuse}
-use Rattle.typed_tree.specs.declared.expression.Stmt.{Stmt}
 use Rattle.check_tables.specs.declared.image.Image.{Image}
 use Rattle.check_tables.specs.Images as images
-use Rattle.check_tables.specs.Walks.{Rule, ◌>>=◌, pure, lift}
+use Rattle.check_tables.specs.Walks.{lift}
 use Rattle.check_state.specs.declared.state.Stage.TheVariants as stage
 use Rattle.check_state.specs.declared.state.State.{State}
 use Rattle.check_expressions.specs.Rules.{Shape, Item}
@@ -24,19 +23,19 @@ use Rattle.check_globals.specs.Functions.{Given}
 use Rattle.check_globals.specs.Names as names
 use Rattle.tick_checker.specs.Parameters.{parameters_of}
 use Rattle.tick_checker.specs.Program as program
-use Rattle.tick_checker.specs.Walk.{Start, Nothing, Value, Values, InitParts, Declarations, with_start, declaration, shape, item}
-use Rattle.accepted_types.specs.Parts.{IsFixed, FixedShape}
+use Rattle.tick_checker.specs.Walk.{Start, Nothing, Value, Values, InitParts, with_start, declaration, shape, item}
+use Rattle.accepted_types.specs.Parts.{FixedShape}
 use Rattle.accepted_steps.specs.Kept.{KeepsGlobals}
 use Rattle.accepted_programs.proofs.Bounds.{Bounded, end_after, fill_bounded, kept_bounded}
-use Rattle.accepted_programs.proofs.Done.{made_state, is_made}
-use Rattle.accepted_programs.proofs.Fills.{size_of, BytesFit, Filled, begin_filled, keeps_same, keeps_more}
+use Rattle.accepted_programs.proofs.Done.{is_made}
+use Rattle.accepted_programs.proofs.Fills.{size_of, BytesFit, Filled, begin_filled, keeps_more}
 use Rattle.accepted_programs.proofs.Functions.{GoodFunction}
-use Rattle.accepted_programs.proofs.Globals.{GoodInit, EachInit, GlobalType, global_typed, GlobalDone, global_done, global_still, prototype_done}
+use Rattle.accepted_programs.proofs.Globals.{GoodInit, EachInit, GlobalType, global_typed, GlobalDone, global_done}
 use Rattle.accepted_programs.proofs.Made.{PartsOf, parts_of}
 use Rattle.accepted_programs.proofs.Names.{NamedPrototype, prototype_named}
 use Rattle.accepted_programs.proofs.Runs.{FunctionRan, function_ran}
 use Rattle.accepted_programs.proofs.Steps.{Parts, parts, state_of}
-use Rattle.accepted_programs.proofs.Still.{Still, StaticStart}
+use Rattle.accepted_programs.proofs.Still.{StaticStart}
 use Rattle.accepted_programs.proofs.Variables.{NamedVariable, variable_named}
 use Rattle.accepted_programs.proofs.Walk.{GoodExternal, EachGood, Grew, external_grew}
 

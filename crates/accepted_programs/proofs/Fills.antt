@@ -1,23 +1,20 @@
 -- What a global's beginning leaves of the image: the bytes of the globals reach no further than the global does.
-use Rattle.std.proofs.Common.{◌≡◌, ℕ, zero, suc, ◌+◌, ◌*◌, ◌-◌, ◌≤◌, ◌<◌, Bool, true, false, ◌&&◌, ◌||◌, nat_le, nat_lt, if◌then◌else◌, refl, ap, sym, ◌∙◌, subst, List, [], ◌∷◌, ◌++◌, length, replicate, Option, Some, None, is_some, Result, Ok, Err, ◌⊎◌, inl, inr, arith, suc-mul, zero-mul, add_comm}
+use Rattle.std.proofs.Common.{◌≡◌, ℕ, suc, ◌+◌, ◌*◌, ◌-◌, ◌≤◌, Bool, true, false, nat_le, nat_lt, if◌then◌else◌, refl, ap, sym, ◌∙◌, subst, List, [], ◌∷◌, ◌++◌, length, replicate, Option, Some, None, is_some, Result, Ok, Err, ◌⊎◌, inl, inr, arith, suc-mul, zero-mul, add_comm}
 use Rattle.std.proofs.lemmas.Bool.Decides.{nat_tests}
 use Rattle.std.proofs.Math.ListN.{length-replicate, length-append}
 use Rattle.word32.specs.declared.width.Width.{Width}
 use Rattle.word32.specs.declared.width.Width.TheVariants as width
-use Rattle.c_types.specs.declared.ctype.Base.{Base}
 use Rattle.c_types.specs.declared.ctype.CType.{CType}
 use Rattle.c_types.specs.Types.{limited_size}
-use Rattle.c_declared.specs.declared.steps.Step.{Step}
 use Rattle.c_declared.specs.Making.{lower}
-use Rattle.c_shapes.specs.Shapes.{inner, width_of, is_function}
+use Rattle.c_shapes.specs.Shapes.{inner, width_of}
 use Rattle.tick_tree.specs.declared.fault.FaultKind.{FaultKind}
 use Rattle.tick_tree.specs.declared.fault.FaultKind.TheVariants as fault
-use Rattle.tick_tree.specs.Faults.{Checked, refuse}
+use Rattle.tick_tree.specs.Faults.{refuse}
 use Rattle.c_nodes.specs.declared.operand.Operand.{Operand}
 use Rattle.c_nodes.specs.Operands.{value_of}
 use Rattle.check_tables.specs.declared.image.Image.{Image}
 use Rattle.check_tables.specs.Images as images
-use Rattle.check_tables.specs.Walks.{Rule, ◌>>=◌, pure, lift}
 use Rattle.check_state.specs.declared.state.Stage.TheVariants as stage
 use Rattle.check_state.specs.declared.state.State.{State}
 use Rattle.check_expressions.specs.Rules.{Node}
@@ -28,8 +25,7 @@ use Rattle.check_globals.specs.Statics as statics
 use Rattle.tick_checker.specs.Walk.{Start, Nothing, Value as One, Values}
 use Rattle.tick_checker.specs.Program as program
 use Rattle.accepted_steps.specs.Kept.{KeepsGlobals}
-use Rattle.accepted_steps.specs.Good.{Plain}
-use Rattle.accepted_programs.proofs.Declared.{FileType, none_lower}
+use Rattle.accepted_programs.proofs.Declared.{none_lower}
 use Rattle.accepted_programs.proofs.Steps.{Parts, parts, state_of, answer_of}
 use Rattle.accepted_programs.proofs.Still.{Allowed, word_allowed, StaticNode, EachStatic, StaticStart}
 

@@ -1,8 +1,8 @@
 -- What is known of the typed tree from what is checked after the walk.
-use Rattle.std.proofs.Common.{◌≡◌, ℕ, zero, suc, ◌+◌, ◌*◌, ◌-◌, ◌≤◌, ◌<◌, Bool, true, false, ◌&&◌, nat_le, if◌then◌else◌, refl, ap, sym, ◌∙◌, List, [], ◌∷◌, ◌++◌, length, length-append, map, sum, sum_by, Option, Some, None, is_some, Ok, Err, slice_get, arith, codes}
+use Rattle.std.proofs.Common.{◌≡◌, ℕ, zero, suc, ◌+◌, ◌≤◌, Bool, true, false, ◌&&◌, nat_le, if◌then◌else◌, refl, ap, sym, ◌∙◌, List, [], ◌∷◌, length, map, sum, sum_by, Option, Some, None, Ok, slice_get, arith}
 use Rattle.std.proofs.lemmas.List.Sums.{sum-map, sum_by-cons}
 use Rattle.tick_tree.specs.declared.fault.FaultKind.TheVariants as fault
-use Rattle.tick_tree.specs.Faults.{Checked, refuse}
+use Rattle.tick_tree.specs.Faults.{refuse}
 use Rattle.typed_tree.specs.declared.program.Function.{Function}
 use Rattle.typed_tree.specs.declared.program.Tick.{Tick}
 use Rattle.typed_tree.specs.declared.program.Typed.{Typed}

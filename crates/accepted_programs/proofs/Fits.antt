@@ -1,5 +1,5 @@
 -- Each type at file scope has room for what a global of it begins with: a value, a string, or a list.
-use Rattle.std.proofs.Common.{◌≡◌, ℕ, zero, suc, ◌+◌, ◌*◌, ◌-◌, ◌≤◌, ◌<◌, ◌==◌, Bool, true, false, ◌&&◌, if◌then◌else◌, refl, ap, sym, ◌∙◌, subst, List, [], ◌∷◌, ◌++◌, length, Option, Some, None, Ok, arith}
+use Rattle.std.proofs.Common.{◌≡◌, ℕ, suc, ◌*◌, ◌≤◌, ◌==◌, Bool, true, false, ◌&&◌, refl, ap, sym, ◌∙◌, subst, List, [], ◌∷◌, ◌++◌, length, None, arith}
 use Rattle.std.proofs.lemmas.Bool.Decides.{nat_tests}
 use Rattle.c_types.specs.declared.ctype.Base.{Base}
 use Rattle.c_types.specs.declared.ctype.Base.TheVariants as base
@@ -7,8 +7,7 @@ use Rattle.c_types.specs.declared.ctype.Integer.TheVariants as kind
 use Rattle.c_types.specs.declared.ctype.CType.{CType}
 use Rattle.c_types.specs.declared.ctype.Layer.{Layer, out-Layer}
 use Rattle.c_types.specs.declared.ctype.Layer.TheVariants as layer
-use Rattle.c_types.specs.Types.{base_of, layers_of, outermost, under, base_size, size_under, is_integer_base, is_sized_under, is_void}
-use Rattle.c_declared.specs.declared.steps.Role.TheVariants as role
+use Rattle.c_types.specs.Types.{base_size, size_under, is_integer_base, is_sized_under, is_void}
 use Rattle.c_declared.specs.declared.steps.Step.{Step}
 use Rattle.c_declared.specs.declared.steps.Step.TheVariants as step
 use Rattle.c_declared.specs.Making.{declared_type, worst, made, breaks, ctype, is_array_at, is_array_layer}
@@ -17,18 +16,17 @@ use Rattle.c_declared.specs.Steps.{layer_of, prefix_layer, count_of}
 use Rattle.c_declared.specs.Words as words
 use Rattle.c_shapes.specs.Shapes as shapes
 use Rattle.c_shapes.specs.Shapes.{inner}
-use Rattle.tick_tree.specs.declared.base.Base.{Base as Written}
 use Rattle.tick_tree.specs.declared.base.Prefix.{Prefix}
 use Rattle.tick_tree.specs.declared.base.Prefix.TheVariants as prefix
 use Rattle.check_globals.specs.Statics as statics
 use Rattle.check_statements.specs.Initializers.{is_text, is_array, is_char}
-use Rattle.tick_checker.specs.Walk.{Start, with_start}
+use Rattle.tick_checker.specs.Walk.{with_start}
 use Rattle.accepted_values.proofs.Declared.{outermost_last}
 use Rattle.accepted_programs.proofs.Bools.{and_left, and_right}
 use Rattle.accepted_programs.proofs.Declared.{FileType, file_type, none_lower}
 use Rattle.accepted_programs.proofs.Ends.{AllFit}
 use Rattle.accepted_programs.proofs.Fills.{size_of, bytes_in, HasValue, BytesFit}
-use Rattle.accepted_programs.proofs.Room.{Layers, value_fits, Arrayed, arrayed, array_size, list_fits, elements, under_last}
+use Rattle.accepted_programs.proofs.Room.{value_fits, Arrayed, arrayed, array_size, list_fits, elements, under_last}
 
 -- ---- which types are arrays
 

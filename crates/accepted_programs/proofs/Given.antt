@@ -1,17 +1,16 @@
 -- The walk over the parameters of a function: each is known with its home, and stands at the head of the block.
-use Rattle.std.proofs.Common.{◌≡◌, ℕ, zero, suc, ◌+◌, ◌*◌, ◌%◌, ◌≤◌, ◌==◌, Bool, true, false, ◌&&◌, nat_le, nat_lt, if◌then◌else◌, refl, ap, sym, ◌∙◌, subst, List, [], ◌∷◌, ◌++◌, length, map, sum, slice_get, Option, Some, None, Ok, Err, arith}
+use Rattle.std.proofs.Common.{◌≡◌, ℕ, suc, ◌+◌, ◌≤◌, false, nat_lt, refl, sym, ◌∙◌, subst, List, [], ◌∷◌, ◌++◌, length, slice_get, Option, Some, None, Ok, arith}
 use Rattle.std.proofs.lemmas.Bool.Decides.{nat_tests}
 use Rattle.c_types.specs.declared.ctype.CType.{CType}
 use Rattle.c_types.specs.declared.names.Meaning.{Meaning}
 use Rattle.c_types.specs.declared.names.MeaningKind.{MeaningKind}
 use Rattle.c_types.specs.declared.names.MeaningKind.TheVariants as kind
-use Rattle.c_types.specs.Scopes.{Name, Scope, Scopes}
+use Rattle.c_types.specs.Scopes.{Name, Scope}
 use Rattle.c_shapes.specs.Shapes.{inner}
 use Rattle.tick_tree.specs.Faults.{Checked}
 use Rattle.check_tables.specs.declared.frame.Frame.{Frame}
 use Rattle.check_tables.specs.declared.frame.Home.{Home}
 use Rattle.check_tables.specs.Frames as frames
-use Rattle.check_tables.specs.Walks.{Rule, ◌>>=◌, pure}
 use Rattle.check_state.specs.declared.state.Stage.TheVariants as stage
 use Rattle.check_state.specs.declared.state.State.{State}
 use Rattle.check_state.specs.Locals as locals
@@ -20,7 +19,6 @@ use Rattle.check_state.specs.Names.{declare}
 use Rattle.check_globals.specs.Functions as globals
 use Rattle.check_globals.specs.Functions.{Given}
 use Rattle.accepted_trees.specs.Counts.{one_if}
-use Rattle.accepted_steps.specs.Kept.{Starts}
 use Rattle.accepted_steps.specs.Known.{Blocks, IsObject, IsParameter, Means, EachEntry}
 use Rattle.accepted_programs.proofs.Parameters.{FrameAt, PlacedAt, parameter_at}
 use Rattle.accepted_programs.proofs.Placed.{More, placed_later, parameter_more, parameter_placed}

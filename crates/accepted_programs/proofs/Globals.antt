@@ -1,38 +1,35 @@
 -- What a declaration at file scope leaves: names that mean something, and nothing of functions but prototypes.
-use Rattle.std.proofs.Common.{◌≡◌, ℕ, Bool, true, false, if◌then◌else◌, refl, ap, sym, ◌∙◌, subst, List, [], ◌∷◌, ◌++◌, length, slice_get, Option, Some, None, Ok, append-nil}
+use Rattle.std.proofs.Common.{◌≡◌, ℕ, Bool, true, false, if◌then◌else◌, refl, ap, sym, ◌∙◌, subst, List, [], ◌∷◌, ◌++◌, length, Some, Ok}
 use Rattle.c_types.specs.declared.ctype.CType.{CType}
 use Rattle.c_types.specs.declared.names.Meaning.{Meaning}
-use Rattle.c_types.specs.declared.names.MeaningKind.TheVariants as kind
-use Rattle.c_types.specs.Scopes.{Name, Scope, Scopes, in_scope}
+use Rattle.c_types.specs.Scopes.{Name, Scope, in_scope}
 use Rattle.c_declared.specs.declared.steps.Role.TheVariants as role
 use Rattle.c_declared.specs.declared.steps.Step.{Step}
 use Rattle.c_declared.specs.Making.{declared_type}
 use Rattle.c_declared.specs.Words as words
-use Rattle.c_shapes.specs.Shapes.{is_void, is_vspec, inner, is_function}
+use Rattle.c_shapes.specs.Shapes.{is_void, is_function}
 use Rattle.tick_tree.specs.declared.base.Base.{Base}
-use Rattle.tick_tree.specs.Faults.{Checked}
 use Rattle.check_tables.specs.declared.functions.Functions.{Functions}
 use Rattle.check_tables.specs.declared.functions.Prototype.{Prototype}
 use Rattle.check_tables.specs.Functions as tables
-use Rattle.check_tables.specs.Walks.{Rule, ◌>>=◌, pure, lift}
+use Rattle.check_tables.specs.Walks.{lift}
 use Rattle.check_state.specs.declared.state.Stage.TheVariants as stage
 use Rattle.check_state.specs.declared.state.State.{State}
-use Rattle.check_state.specs.Locals.{meaning}
 use Rattle.check_expressions.specs.Rules.{Shape}
 use Rattle.check_statements.specs.Declarations.{name_by}
 use Rattle.check_globals.specs.Names as names
 use Rattle.tick_checker.specs.Program as program
-use Rattle.tick_checker.specs.Walk.{Start, Nothing, Value, Values, InitParts, Declarations, with_start}
+use Rattle.tick_checker.specs.Walk.{Start, Nothing, Value, Values, InitParts, with_start}
 use Rattle.accepted_values.proofs.Declared.{types_use}
 use Rattle.accepted_steps.specs.Good.{any_computed, GoodShape}
-use Rattle.accepted_steps.specs.Kept.{Starts, KeepsGlobals}
-use Rattle.accepted_steps.specs.Known.{EachEntry, IsObject, IsFunction, Declared}
+use Rattle.accepted_steps.specs.Kept.{KeepsGlobals}
+use Rattle.accepted_steps.specs.Known.{EachEntry, IsObject, Declared}
 use Rattle.accepted_programs.proofs.Bools.{get_last}
 use Rattle.accepted_programs.proofs.Declared.{FileType, file_type, none_computed, named_computed, filled_computed}
 use Rattle.accepted_programs.proofs.Names.{NamedPrototype, prototype_named}
 use Rattle.accepted_programs.proofs.Scopes.{FileName, Later, file_later, found_front, each_more}
 use Rattle.accepted_programs.proofs.Steps.{Parts, parts, state_of, Lifted, lifted, starts_same, starts_trans}
-use Rattle.accepted_programs.proofs.Still.{Still, plain_still, still_more, StaticStart, begin_still, no_start}
+use Rattle.accepted_programs.proofs.Still.{Still, plain_still, StaticStart, begin_still, no_start}
 use Rattle.accepted_programs.proofs.Variables.{next_global, NamedVariable, variable_named}
 
 -- ---- what is asked of a declarator with its beginning

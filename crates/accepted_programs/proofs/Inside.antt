@@ -1,11 +1,11 @@
 -- The items of a function stand right in it: what the walk over them makes, once its parameters are known.
-use Rattle.std.proofs.Common.{◌≡◌, ℕ, zero, suc, ◌+◌, ◌*◌, ◌%◌, ◌≤◌, ◌==◌, Bool, true, false, ◌&&◌, nat_le, nat_lt, refl, ap, sym, ◌∙◌, subst, List, [], ◌∷◌, ◌++◌, length, map, sum, slice_get, Option, Some, None, Ok, arith, append-nil}
-use Rattle.c_types.specs.Scopes.{Name, Scope, Scopes}
+use Rattle.std.proofs.Common.{◌≡◌, ℕ, ◌+◌, ◌≤◌, ◌==◌, true, nat_le, nat_lt, refl, ap, sym, subst, List, [], ◌∷◌, ◌++◌, length, slice_get, Some, Ok, arith, append-nil}
+use Rattle.c_types.specs.Scopes.{Scope, Scopes}
 use Rattle.typed_tree.specs.declared.expression.CaptureKind.{CaptureKind}
 use Rattle.typed_tree.specs.declared.expression.Stmt.{Stmt}
 use Rattle.typed_tree.specs.declared.expression.Stmt.TheVariants as st
 use Rattle.typed_tree.specs.declared.program.Tick.{Tick}
-use Rattle.typed_tree.specs.Sizes.{statement_size, statements_size}
+use Rattle.typed_tree.specs.Sizes.{statements_size}
 use Rattle.check_tables.specs.declared.functions.Prototype.{Prototype}
 use Rattle.check_tables.specs.Functions.{number}
 use Rattle.check_tables.specs.Walks.{Rule}
@@ -13,14 +13,14 @@ use Rattle.check_state.specs.declared.state.Stage.TheVariants as stage
 use Rattle.check_state.specs.declared.state.State.{State}
 use Rattle.tick_checker.specs.Program.{around}
 use Rattle.accepted_trees.specs.Accepted.{AreNumbered}
-use Rattle.accepted_trees.specs.Counts.{one_if, objects_at, declarations_of}
-use Rattle.accepted_trees.specs.Places.{Around, act, in_function, stands_as_body}
+use Rattle.accepted_trees.specs.Counts.{one_if, objects_at}
+use Rattle.accepted_trees.specs.Places.{stands_as_body}
 use Rattle.accepted_trees.specs.Values.{uses_values}
 use Rattle.accepted_steps.specs.Counts.{Counts, objects_in, declarations_in}
 use Rattle.accepted_steps.specs.Items.{placed, GoodStatement, Declared, EachNode, DeclaresAt, ItemsStand}
 use Rattle.accepted_steps.specs.Kept.{Starts, Grows}
-use Rattle.accepted_steps.specs.Known.{Means, EachEntry, EachScope, Small, Knows, Known, is_number, numbers}
-use Rattle.accepted_steps.specs.Steps.{Round, Agrees, Did, EachTick, TickStands, round_tick}
+use Rattle.accepted_steps.specs.Known.{Means, EachEntry, EachScope, Small, Known, is_number, numbers}
+use Rattle.accepted_steps.specs.Steps.{Round, Agrees, Did, EachTick, round_tick}
 use Rattle.accepted_programs.proofs.Bodies.{items_stand, items_used, declared_stand, declared_used, body_stands, body_used, body_objects, body_numbered}
 use Rattle.accepted_programs.proofs.Bools.{le_true}
 use Rattle.accepted_programs.proofs.Files.{many, round}

@@ -1,7 +1,6 @@
 -- The law on a whole program, from the laws on its parts.
-use Rattle.std.proofs.Common.{◌≡◌, ℕ, ◌+◌, ◌≤◌, Bool, true, refl, ap, sym, ◌∙◌, subst, List, [], ◌∷◌, length, map, Option, Some, None, is_some, Ok, arith}
-use Rattle.tick_tree.specs.declared.syntax.Declaration.{Declaration, out-Declaration}
-use Rattle.tick_tree.specs.declared.syntax.Declarator.{Declarator}
+use Rattle.std.proofs.Common.{◌≡◌, ℕ, ◌+◌, ◌≤◌, sym, subst, List, [], ◌∷◌, length, map, Ok, arith}
+use Rattle.tick_tree.specs.declared.syntax.Declaration.{out-Declaration}
 use Rattle.tick_tree.specs.declared.syntax.External.{External}
 use Rattle.tick_tree.specs.declared.syntax.External.TheVariants as ext
 use Rattle.tick_tree.specs.declared.syntax.Init.{Init, out-Init}
@@ -9,19 +8,17 @@ use Rattle.tick_tree.specs.declared.syntax.Stmt.{Stmt as Written}
 use Rattle.tick_tree.specs.declared.syntax.Tree.{Tree}
 use Rattle.typed_tree.specs.declared.expression.Stmt.{Stmt}
 use Rattle.typed_tree.specs.declared.program.Typed.{Typed}
-use Rattle.c_nodes.specs.declared.operand.Operand.{Operand}
 use Rattle.check_state.specs.declared.state.Stage.TheVariants as stage
 use Rattle.check_state.specs.declared.state.State.{State}
 use Rattle.check_expressions.specs.Rules as rules
 use Rattle.check_expressions.specs.Rules.{Node, Shape, Item}
-use Rattle.tick_checker.specs.Parameters.{parameters_of}
 use Rattle.tick_checker.specs.Program.{around, checked}
-use Rattle.tick_checker.specs.Walk.{Start, Nothing, Value, Values, InitParts, Declarations, declaration, shape, item, init}
+use Rattle.tick_checker.specs.Walk.{Start, Nothing, Value, Values, InitParts, Declarations, declaration, item, init}
 use Rattle.tick_checker.proofs.Equations.{at_init, at_declaration}
 use Rattle.light_steps.specs.Light.{Light}
 use Rattle.light_steps.proofs.Expressions.{each_light}
 use Rattle.accepted_trees.specs.Accepted.{IsAccepted}
-use Rattle.accepted_steps.specs.Good.{GoodNode, Plain}
+use Rattle.accepted_steps.specs.Good.{GoodNode}
 use Rattle.accepted_steps.specs.Items.{GoodItem}
 use Rattle.accepted_types.specs.Parts.{EachPart, FixedShape}
 use Rattle.accepted_walks.proofs.Fixed.{walks_fixed}
@@ -30,10 +27,9 @@ use Rattle.accepted_locals.specs.Parts.{GoodStart, GoodInit as GoodLocal}
 use Rattle.accepted_weights.specs.Weights.{total, statement_weight, item_weight, tree_weight}
 use Rattle.accepted_weights.proofs.Programs.{items_light}
 use Rattle.accepted_small.proofs.Trees.{small_are_good}
-use Rattle.accepted_programs.specs.Named.{is_listed, EachNamed, IsNamed}
+use Rattle.accepted_programs.specs.Named.{EachNamed, IsNamed}
 use Rattle.accepted_programs.proofs.Ends.{EachFixed, AllFixed}
 use Rattle.accepted_programs.proofs.Fits.{all_fit}
-use Rattle.accepted_programs.proofs.Functions.{GoodFunction}
 use Rattle.accepted_programs.proofs.Globals.{EachInit}
 use Rattle.accepted_programs.proofs.Listed.{enough}
 use Rattle.accepted_programs.proofs.Lists.{list_objects}

@@ -1,5 +1,5 @@
 -- A function has as many parameters as the types in its list, where that stands at its name.
-use Rattle.std.proofs.Common.{◌≡◌, ℕ, suc, ◌≤◌, Bool, true, false, not, refl, ap, sym, ◌∙◌, subst, List, [], ◌∷◌, ◌++◌, length, map, Option, Some, None, Ok, arith}
+use Rattle.std.proofs.Common.{◌≡◌, suc, ◌≤◌, Bool, true, false, not, refl, ap, sym, ◌∙◌, subst, List, [], ◌∷◌, ◌++◌, length, map, Ok, arith}
 use Rattle.c_types.specs.declared.ctype.CType.{CType}
 use Rattle.c_declared.specs.declared.steps.Step.{Step}
 use Rattle.c_declared.specs.declared.steps.Step.TheVariants as step
@@ -22,22 +22,21 @@ use Rattle.tick_tree.specs.declared.syntax.Core.TheOpen.{Core-F, Suffix-F, Decla
 use Rattle.tick_tree.specs.declared.syntax.Core.TheFolds.{ind-Declarator, map-Core, map-Declarator, fold-roll-Core, fold-roll-Declarator}
 use Rattle.tick_tree.specs.Faults.{◌>>=◌ as ◌>>>=◌}
 use Rattle.check_tables.specs.Walks.{Rule, ◌>>=◌, pure}
-use Rattle.check_state.specs.declared.state.Stage.{Stage}
 use Rattle.check_state.specs.declared.state.Stage.TheVariants as stage
 use Rattle.check_state.specs.declared.state.State.{State}
-use Rattle.check_expressions.specs.Rules.{Node, Shape}
+use Rattle.check_expressions.specs.Rules.{Shape}
 use Rattle.check_statements.specs.Rules.{each_step, each_type}
 use Rattle.check_globals.specs.Functions.{Given}
 use Rattle.tick_checker.specs.Parameters.{Head, Inner, nothing, inner_rule, head_rule, first_of, list_rule, given_rule, inner, head, list, written, parameters_of}
-use Rattle.tick_checker.specs.Walk.{SuffixWalk, TypeWalk, core_rule, declarator_rule, declarator_walk, suffix_walk, core, shape, suffix, parameter, optional}
+use Rattle.tick_checker.specs.Walk.{SuffixWalk, TypeWalk, declarator_walk, core, shape, suffix, parameter, optional}
 use Rattle.tick_checker.proofs.Equations.{at_suffix_array, at_suffix_unlisted, at_suffix_nothing, at_suffix_listed}
-use Rattle.tick_checker.proofs.Heads.{list_array, list_unlisted, list_nothing, list_listed}
-use Rattle.accepted_walks.proofs.Induction.{Core-T, Declarator-T, Suffix-T, walkedCore, walkedDeclarator, walk_core, walk_declarator}
+use Rattle.tick_checker.proofs.Heads.{list_listed}
+use Rattle.accepted_walks.proofs.Induction.{Core-T, Declarator-T, Suffix-T, walk_core, walk_declarator}
 use Rattle.accepted_programs.specs.Named as rule
 use Rattle.accepted_programs.specs.Named.{is_listed, is_listed_core}
 use Rattle.accepted_programs.proofs.Declared.{list_of, first_list}
 use Rattle.accepted_programs.proofs.Lists.{ListRan, list_ran, length_ran}
-use Rattle.accepted_programs.proofs.Steps.{Parts, parts, state_of, answer_of}
+use Rattle.accepted_programs.proofs.Steps.{Parts, parts, answer_of}
 
 -- ---- what is shown
 

@@ -1,5 +1,5 @@
 -- The types in the parameter lists of a declarator are those of variables.
-use Rattle.std.proofs.Common.{◌≡◌, ℕ, refl, ap, sym, ◌∙◌, subst, List, [], ◌∷◌, ◌++◌, length, Option, Some, None, Ok}
+use Rattle.std.proofs.Common.{◌≡◌, ℕ, refl, ap, sym, subst, List, [], ◌∷◌, ◌++◌, Option, Some, None, Ok}
 use Rattle.c_types.specs.declared.ctype.CType.{CType}
 use Rattle.c_declared.specs.declared.steps.Length.TheVariants as len
 use Rattle.c_declared.specs.declared.steps.Role.TheVariants as role
@@ -11,26 +11,24 @@ use Rattle.c_declared.specs.Words as words
 use Rattle.tick_tree.specs.declared.base.Base.{Base}
 use Rattle.tick_tree.specs.declared.base.Prefix.{Prefix}
 use Rattle.tick_tree.specs.declared.syntax.Declarator.{Declarator}
-use Rattle.tick_tree.specs.declared.syntax.Core.TheOpen.{Core-F, Suffix-F, Declarator-F, Parameter-F}
-use Rattle.typed_tree.specs.declared.expression.Stmt.{Stmt}
-use Rattle.check_tables.specs.Walks.{Rule, ◌>>=◌, pure, lift}
-use Rattle.check_state.specs.declared.state.Stage.{Stage}
+use Rattle.tick_tree.specs.declared.syntax.Core.TheOpen.{Core-F, Suffix-F}
+use Rattle.check_tables.specs.Walks.{◌>>=◌, pure, lift}
 use Rattle.check_state.specs.declared.state.Stage.TheVariants as stage
 use Rattle.check_state.specs.declared.state.State.{State}
 use Rattle.check_state.specs.Blocks.{depth, enter, leave}
 use Rattle.check_expressions.specs.Rules.{Node, Shape}
 use Rattle.check_statements.specs.Declarations as declarations
 use Rattle.check_statements.specs.Declarations.{length_of}
-use Rattle.check_statements.specs.Rules.{each_step, each_type, list_step, length_step, suffix_rule}
-use Rattle.tick_checker.specs.Walk.{SuffixWalk, TypeWalk, Core-W, Suffix-W, Declarator-W, Parameter-W, core_rule, suffix_walk, declarator_walk, declarator_rule, parameter_walk, parameter_rule, shape}
+use Rattle.check_statements.specs.Rules.{each_step, each_type, list_step, length_step}
+use Rattle.tick_checker.specs.Walk.{SuffixWalk, TypeWalk, Core-W, Suffix-W, core_rule, suffix_walk, declarator_walk, parameter_walk, shape}
 use Rattle.accepted_types.specs.Parts.{EachPart}
-use Rattle.accepted_walks.specs.Asked.{Asked, RulesKeep, EveryCore, EverySuffix, EveryDeclarator, EveryParameter}
+use Rattle.accepted_walks.specs.Asked.{Asked, RulesKeep, EveryCore, EverySuffix}
 use Rattle.accepted_walks.proofs.Induction.{holds_declarator}
 use Rattle.accepted_values.proofs.Declared.{types_use}
 use Rattle.accepted_steps.specs.Known.{IsObject}
 use Rattle.accepted_programs.proofs.Declared.{list_of, first_list}
 use Rattle.accepted_programs.proofs.Given.{EachObject}
-use Rattle.accepted_programs.proofs.Steps.{Parts, parts, state_of, answer_of, Lifted, lifted}
+use Rattle.accepted_programs.proofs.Steps.{Parts, parts, answer_of, Lifted, lifted}
 
 -- ---- what is asked
 

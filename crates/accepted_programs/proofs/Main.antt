@@ -1,11 +1,11 @@
 -- `main` is one of the functions, and has no parameters.
-use Rattle.std.proofs.Common.{◌≡◌, ℕ, zero, suc, ◌+◌, ◌-◌, min, ◌==◌, Bool, true, false, ◌&&◌, refl, ap, sym, ◌∙◌, subst, List, [], ◌∷◌, ◌++◌, length, map, codes, slice_get, Option, Some, None, is_some, Ok, arith, ◌⊎◌, inl, inr}
+use Rattle.std.proofs.Common.{◌≡◌, ℕ, zero, suc, min, ◌==◌, Bool, true, false, ◌&&◌, refl, ap, sym, ◌∙◌, subst, List, [], ◌∷◌, length, codes, slice_get, Option, Some, None, is_some, arith, ◌⊎◌, inl, inr}
 use Rattle.std.proofs.lemmas.Bool.Decides.{nat_tests}
 use Rattle.c_types.specs.declared.ctype.CType.{CType}
 use Rattle.c_types.specs.declared.ctype.Layer.{Layer, out-Layer}
 use Rattle.c_types.specs.declared.ctype.Layer.TheOpen.{Layer-F}
 use Rattle.c_types.specs.declared.names.Meaning.{Meaning}
-use Rattle.c_types.specs.Scopes.{Name, Scope, Scopes, in_scope, find}
+use Rattle.c_types.specs.Scopes.{Name, Scopes, in_scope, find}
 use Rattle.c_types.specs.Types.{Opened, base_of, layers_of, outermost, same, same_base, same_layers, same_layer, same_lists}
 use Rattle.c_types.proofs.SameLaws.{by_parts, by_layer, opened_same}
 use Rattle.c_forms.specs.Forms.{is_nil}

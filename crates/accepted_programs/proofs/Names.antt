@@ -1,23 +1,19 @@
 -- What a name at file scope leaves: of a function, of a prototype, of a variable.
-use Rattle.std.proofs.Common.{◌≡◌, ℕ, zero, suc, ◌+◌, Bool, true, false, not, ◌&&◌, ◌||◌, if◌then◌else◌, refl, ap, sym, ◌∙◌, List, [], ◌∷◌, ◌++◌, length, Option, Some, None, is_some, Ok, Err, ◌⊎◌, inl, inr}
+use Rattle.std.proofs.Common.{◌≡◌, ℕ, Bool, true, false, not, ◌||◌, refl, ap, sym, ◌∙◌, [], ◌∷◌, ◌++◌, length, Option, Some, None, Ok, Err, ◌⊎◌, inl, inr}
 use Rattle.c_types.specs.declared.ctype.CType.{CType}
 use Rattle.c_types.specs.declared.names.Meaning.{Meaning}
-use Rattle.c_types.specs.declared.names.MeaningKind.{MeaningKind}
 use Rattle.c_types.specs.declared.names.MeaningKind.TheVariants as kind
 use Rattle.c_types.specs.Scopes.{Name, Scope, Scopes, in_scope, find}
 use Rattle.c_types.specs.Types.{same}
 use Rattle.tick_tree.specs.Faults.{Checked}
 use Rattle.check_tables.specs.declared.functions.Functions.{Functions}
 use Rattle.check_tables.specs.Functions as functions
-use Rattle.check_tables.specs.Images as images
-use Rattle.check_tables.specs.Walks.{Rule}
 use Rattle.check_state.specs.declared.state.State.{State}
 use Rattle.check_state.specs.Locals.{meaning}
 use Rattle.check_state.specs.Names.{declare}
 use Rattle.check_globals.specs.Functions as globals
 use Rattle.check_globals.specs.Names as names
 use Rattle.accepted_steps.specs.Known.{EachEntry}
-use Rattle.accepted_programs.proofs.Bools.{and_left, and_right}
 use Rattle.accepted_programs.proofs.Scopes.{found_front, found_new, each_more, DeclaresFirst, declare_first}
 use Rattle.accepted_programs.proofs.Steps.{Parts, parts, state_of}
 use Rattle.accepted_programs.proofs.Tables.{with_name, define_gives}
@@ -106,7 +102,7 @@ function_case : (o : Option Meaning) (line : ℕ) (name : Name) (t : CType) (s n
 function_case None line name t s new u sc dc known one two is = first_function line name t s new u sc dc one two is
 function_case (Some m) line name t s new u sc dc known one two is =
     function_some (functions.is_defined name s.functions) line name t s new u sc dc m known one two
-      (split (not (names.is_function m.kind) || functions.is_defined name s.functions)) (split (same m.ctype t)) is
+    (split (not (names.is_function m.kind) || functions.is_defined name s.functions)) (split (same m.ctype t)) is
 
 pub function_named : (line : ℕ) (name : Name) (t : CType) (s new : State) (u : Unit {0}) (sc dc : Scope) → s.scopes ≡ sc ∷ [] → s.functions.defined ≡ dc ∷ []
     → globals.named line name t s ≡ Ok (u, new) → NamedFunction name t s new sc dc
@@ -160,7 +156,7 @@ prototype_case : (o : Option Meaning) (line : ℕ) (name : Name) (t : CType) (s 
 prototype_case None line name t s new u sc one is = first_prototype line name t s new u sc one is
 prototype_case (Some m) line name t s new u sc one is =
     prototype_some (functions.is_defined name s.functions) line name t s new u sc m one
-      (split (not (names.is_function m.kind) || functions.is_defined name s.functions)) (split (same m.ctype t)) is
+    (split (not (names.is_function m.kind) || functions.is_defined name s.functions)) (split (same m.ctype t)) is
 
 pub prototype_named : (line : ℕ) (name : Name) (t : CType) (s new : State) (u : Unit {0}) (sc : Scope) → s.scopes ≡ sc ∷ []
     → names.prototype line name t s ≡ Ok (u, new) → NamedPrototype line name t s new sc

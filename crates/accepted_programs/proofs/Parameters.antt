@@ -1,12 +1,11 @@
 -- The parameters of a function: each is a node at the head of its block, and is known with its home.
-use Rattle.std.proofs.Common.{◌≡◌, ℕ, zero, suc, ◌+◌, ◌*◌, ◌%◌, ◌-◌, ◌≤◌, ◌<◌, ◌==◌, min, Bool, true, false, ◌&&◌, nat_le, nat_lt, if◌then◌else◌, refl, ap, sym, ◌∙◌, subst, List, [], ◌∷◌, ◌++◌, length, map, sum, slice_get, Option, Some, None, Ok, Err, arith}
+use Rattle.std.proofs.Common.{◌≡◌, ℕ, suc, ◌+◌, ◌*◌, ◌%◌, ◌≤◌, ◌==◌, Bool, true, false, ◌&&◌, nat_le, nat_lt, if◌then◌else◌, refl, ap, sym, ◌∙◌, List, [], ◌∷◌, ◌++◌, length, map, sum, slice_get, Some, arith}
 use Rattle.std.proofs.lemmas.Bool.Decides.{nat_tests}
 use Rattle.word32.specs.declared.width.Width.{Width}
 use Rattle.c_types.specs.declared.ctype.CType.{CType}
-use Rattle.c_shapes.specs.Shapes.{width_of, is_void}
+use Rattle.c_shapes.specs.Shapes.{width_of}
 use Rattle.typed_tree.specs.declared.expression.Stmt.{Stmt}
 use Rattle.typed_tree.specs.declared.expression.Stmt.TheVariants as st
-use Rattle.typed_tree.specs.declared.expression.Stmt.TheOpen.{Stmt-F}
 use Rattle.typed_tree.specs.Sizes.{statement_size}
 use Rattle.typed_tree.proofs.SizeLaws.{statement_size_parameter, statement_size_parameterobject}
 use Rattle.check_tables.specs.declared.frame.Frame.{Frame}
@@ -14,12 +13,12 @@ use Rattle.check_tables.specs.declared.frame.Home.{Home}
 use Rattle.check_tables.specs.declared.frame.Home.TheVariants as home
 use Rattle.check_tables.specs.Frames as frames
 use Rattle.accepted_trees.specs.Counts.{one_if, is_in, objects_at, declarations_of}
-use Rattle.accepted_trees.specs.Places.{Around, Act, act, in_function, are_parameters, stmt_rule, is_object, numbers_of}
+use Rattle.accepted_trees.specs.Places.{Around, Act, act, in_function, are_parameters, is_object}
 use Rattle.accepted_trees.specs.Values.{uses_values, all_true}
 use Rattle.accepted_trees.proofs.Equations.{act_parameter, act_parameterobject, objects_at_parameter, objects_at_parameterobject, declarations_of_parameter, declarations_of_parameterobject}
-use Rattle.accepted_steps.specs.Known.{has, numbers, HasHome}
-use Rattle.accepted_programs.proofs.Bools.{and_true, and_left, and_right, true_le, le_true, get_front, get_last, length_last}
-use Rattle.accepted_programs.proofs.Sums.{map_both, sum_map_both, all_map_both, numbers_more, has_front, has_back, has_self, same_number, parameters_more, bytes_more, number_more, number_same, values_parameter, values_object}
+use Rattle.accepted_steps.specs.Known.{numbers, HasHome}
+use Rattle.accepted_programs.proofs.Bools.{and_true, length_last}
+use Rattle.accepted_programs.proofs.Sums.{map_both, sum_map_both, all_map_both, same_number, parameters_more, bytes_more, number_more, number_same, values_parameter, values_object}
 
 -- so many parameters stand in a function that has nothing else yet
 pub record FrameAt (k : ℕ) (f : Frame) : Type 0 where

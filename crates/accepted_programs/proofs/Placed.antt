@@ -1,16 +1,15 @@
 -- Where the parameters of a function stand, and that they stand there as more come.
-use Rattle.std.proofs.Common.{◌≡◌, ℕ, zero, suc, ◌+◌, ◌*◌, ◌%◌, ◌≤◌, ◌==◌, min, Bool, true, false, ◌&&◌, nat_le, if◌then◌else◌, refl, ap, sym, ◌∙◌, List, [], ◌∷◌, ◌++◌, length, map, slice_get, Option, Some, None, arith}
+use Rattle.std.proofs.Common.{◌≡◌, ℕ, ◌*◌, ◌%◌, ◌≤◌, ◌==◌, Bool, true, false, nat_le, if◌then◌else◌, refl, ap, ◌∙◌, List, [], ◌∷◌, ◌++◌, length, slice_get, Some, arith}
 use Rattle.std.proofs.lemmas.Bool.Decides.{nat_tests}
 use Rattle.c_types.specs.declared.ctype.CType.{CType}
 use Rattle.c_shapes.specs.Shapes.{width_of}
-use Rattle.typed_tree.specs.declared.expression.Stmt.{Stmt}
 use Rattle.typed_tree.specs.declared.expression.Stmt.TheVariants as st
 use Rattle.check_tables.specs.declared.frame.Frame.{Frame}
 use Rattle.check_tables.specs.declared.frame.Home.{Home}
 use Rattle.check_tables.specs.declared.frame.Home.TheVariants as home
 use Rattle.check_tables.specs.Frames as frames
-use Rattle.accepted_trees.specs.Places.{Act, act}
-use Rattle.accepted_trees.proofs.Equations.{act_parameter, act_parameterobject}
+use Rattle.accepted_trees.specs.Places.{Act}
+use Rattle.accepted_trees.proofs.Equations.{act_parameter}
 use Rattle.accepted_steps.specs.Kept.{Starts}
 use Rattle.accepted_steps.specs.Known.{has, numbers, HasHome}
 use Rattle.accepted_programs.proofs.Bools.{and_true, and_left, and_right, get_front, get_last, le_true}

@@ -1,5 +1,5 @@
 -- Each type at file scope has room for the values that a global of it begins with.
-use Rattle.std.proofs.Common.{◌≡◌, ℕ, zero, suc, ◌+◌, ◌*◌, ◌-◌, ◌≤◌, ◌<◌, ◌==◌, Bool, true, false, not, ◌&&◌, ◌||◌, nat_le, nat_lt, if◌then◌else◌, refl, ap, sym, ◌∙◌, subst, List, [], ◌∷◌, ◌++◌, length, take, slice_get, Option, Some, None, Result, Ok, Err, arith, mul-le-mul, mul_comm}
+use Rattle.std.proofs.Common.{◌≡◌, ℕ, suc, ◌*◌, ◌-◌, ◌≤◌, Bool, true, false, ◌&&◌, ◌||◌, nat_le, nat_lt, if◌then◌else◌, refl, ap, sym, ◌∙◌, subst, List, [], ◌∷◌, ◌++◌, length, take, slice_get, Option, Some, None, Ok, arith, mul-le-mul, mul_comm}
 use Rattle.std.proofs.lemmas.Bool.Decides.{nat_tests}
 use Rattle.word32.specs.declared.width.Width.{Width}
 use Rattle.word32.specs.declared.width.Width.TheVariants as width
@@ -11,15 +11,13 @@ use Rattle.c_types.specs.declared.ctype.CType.{CType}
 use Rattle.c_types.specs.declared.ctype.Layer.{Layer, out-Layer}
 use Rattle.c_types.specs.declared.ctype.Layer.TheVariants as layer
 use Rattle.c_types.specs.declared.ctype.Layer.TheOpen.{Layer-F}
-use Rattle.c_types.specs.Types.{Opened, base_of, layers_of, outermost, under, base_size, size_at, size_under, is_sized_at, is_sized_under, is_integer_base, limited_parts, limited_size, converts, converts_parts, same_parts, same_base, same_layers, same_layer, is_integer, is_pointer, is_pointer_at, serves, is_void}
+use Rattle.c_types.specs.Types.{Opened, base_of, layers_of, outermost, under, base_size, size_at, size_under, is_sized_at, is_sized_under, is_integer_base, limited_size, converts, converts_parts, same_parts, same_base, same_layers, same_layer, is_integer, is_pointer, is_pointer_at, serves, is_void}
 use Rattle.c_types.proofs.SameLaws.{by_layer, opened_same}
-use Rattle.c_declared.specs.declared.steps.Role.TheVariants as role
 use Rattle.c_declared.specs.declared.steps.Step.{Step}
 use Rattle.c_declared.specs.declared.steps.Step.TheVariants as step
 use Rattle.c_declared.specs.Making.{declared_type, worst, made, breaks, array_breaks, unless, is_count, ctype, decayed, decayed_layers, is_array_at, is_array_layer, is_function_at, is_function_layer, bytes}
 use Rattle.c_declared.specs.Making as making
-use Rattle.c_declared.specs.Steps.{layer_of, prefix_layer, count_of}
-use Rattle.c_declared.specs.Words as words
+use Rattle.c_declared.specs.Steps.{prefix_layer, count_of}
 use Rattle.c_shapes.specs.Shapes as shapes
 use Rattle.c_shapes.specs.Shapes.{width_of, inner}
 use Rattle.tick_tree.specs.declared.base.Prefix.{Prefix}
@@ -31,11 +29,10 @@ use Rattle.c_nodes.specs.declared.operand.Value.{Value}
 use Rattle.c_nodes.specs.Operands.{value_of}
 use Rattle.check_globals.specs.Names.{size_by}
 use Rattle.check_globals.specs.Statics as statics
-use Rattle.check_statements.specs.Initializers.{value_breaks, is_text, is_array, is_char}
+use Rattle.check_statements.specs.Initializers.{value_breaks}
 use Rattle.accepted_values.proofs.Declared.{outermost_last}
 use Rattle.accepted_programs.proofs.Bools.{and_left, and_right, true_le, le_true}
-use Rattle.accepted_programs.proofs.Declared.{FileType, none_lower}
-use Rattle.accepted_programs.proofs.Fills.{size_of, bytes_in, HasValue, BytesFit}
+use Rattle.accepted_programs.proofs.Fills.{size_of, bytes_in, HasValue}
 
 -- ---- sizes under one layer more
 

@@ -1,5 +1,5 @@
 -- The walk over a function, taken apart.
-use Rattle.std.proofs.Common.{◌≡◌, ℕ, refl, ap, sym, ◌∙◌, subst, List, [], ◌∷◌, ◌++◌, length, take, Option, Some, None, Ok, Err}
+use Rattle.std.proofs.Common.{◌≡◌, ℕ, ap, sym, ◌∙◌, List, [], ◌∷◌, ◌++◌, length, take, Option, Ok}
 use Rattle.c_types.specs.declared.ctype.CType.{CType}
 use Rattle.c_forms.specs.Forms.{Name}
 use Rattle.c_declared.specs.declared.steps.Role.TheVariants as role
@@ -11,10 +11,10 @@ use Rattle.typed_tree.specs.declared.expression.Stmt.{Stmt}
 use Rattle.typed_tree.specs.declared.expression.Stmt.TheVariants as st
 use Rattle.check_tables.specs.Frames as frames
 use Rattle.check_tables.specs.Functions as tables
-use Rattle.check_tables.specs.Walks.{Rule, ◌>>=◌, pure, lift}
+use Rattle.check_tables.specs.Walks.{◌>>=◌, pure, lift}
 use Rattle.check_state.specs.declared.state.Stage.TheVariants as stage
 use Rattle.check_state.specs.declared.state.State.{State}
-use Rattle.check_state.specs.Blocks.{depth, enter, leave}
+use Rattle.check_state.specs.Blocks.{enter, leave}
 use Rattle.check_expressions.specs.Rules as rules
 use Rattle.check_expressions.specs.Rules.{Shape, Item}
 use Rattle.check_statements.specs.Declarations.{name_by}

@@ -1,14 +1,13 @@
 -- Names at file scope: what each means, and that a name that is found stays found.
-use Rattle.std.proofs.Common.{◌≡◌, ℕ, zero, suc, Bool, true, false, if◌then◌else◌, refl, ap, sym, ◌∙◌, List, [], ◌∷◌, ◌++◌, length, Option, Some, None, is_some, Ok, Err, slice_get, bytes_eq}
+use Rattle.std.proofs.Common.{◌≡◌, ℕ, Bool, true, false, if◌then◌else◌, refl, ap, sym, ◌∙◌, [], ◌∷◌, ◌++◌, Option, Some, None, Ok, slice_get, bytes_eq}
 use Rattle.std.proofs.lemmas.Slice.Eq.{bytes_eq-Decides}
 use Rattle.c_types.specs.declared.names.Meaning.{Meaning}
 use Rattle.c_types.specs.declared.names.MeaningKind.{MeaningKind}
 use Rattle.c_types.specs.declared.names.MeaningKind.TheVariants as kind
 use Rattle.c_types.specs.Scopes.{Name, Scope, Scopes, in_scope, find, innermost, declared}
 use Rattle.c_shapes.specs.Shapes.{is_void}
-use Rattle.tick_tree.specs.Faults.{Checked}
 use Rattle.check_tables.specs.declared.functions.Functions.{Functions}
-use Rattle.check_tables.specs.Functions.{number, number_by}
+use Rattle.check_tables.specs.Functions.{number_by}
 use Rattle.check_state.specs.declared.state.Stage.{Stage}
 use Rattle.check_state.specs.declared.state.State.{State}
 use Rattle.check_state.specs.Names.{declare, declared_by}

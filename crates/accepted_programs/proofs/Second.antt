@@ -1,12 +1,11 @@
 -- The second walk: each function and each tick that it makes stands right at its end.
-use Rattle.std.proofs.Common.{◌≡◌, ℕ, zero, suc, ◌+◌, ◌≤◌, refl, ap, sym, ◌∙◌, subst, List, [], ◌∷◌, ◌++◌, length, map, slice_get, Option, Some, None, Ok, arith, append-nil, append_assoc}
-use Rattle.c_types.specs.Scopes.{Name, Scope, Scopes}
+use Rattle.std.proofs.Common.{◌≡◌, refl, ap, sym, ◌∙◌, subst, List, [], ◌∷◌, ◌++◌, length, map, Ok, append-nil, append_assoc}
+use Rattle.c_types.specs.Scopes.{Name, Scope}
 use Rattle.tick_tree.specs.declared.syntax.External.{External}
 use Rattle.tick_tree.specs.declared.syntax.External.TheVariants as ext
 use Rattle.typed_tree.specs.declared.expression.CaptureKind.{CaptureKind}
 use Rattle.typed_tree.specs.declared.program.Function.{Function}
 use Rattle.typed_tree.specs.declared.program.Tick.{Tick}
-use Rattle.check_tables.specs.declared.functions.Functions.{Functions}
 use Rattle.check_state.specs.declared.state.State.{State}
 use Rattle.check_statements.specs.Declarations.{name_by}
 use Rattle.check_globals.specs.Programs.{typed}
@@ -16,13 +15,11 @@ use Rattle.tick_checker.specs.Walk.{declaration, shape, item}
 use Rattle.accepted_trees.specs.Accepted as accepted
 use Rattle.accepted_trees.specs.Places.{Around}
 use Rattle.accepted_steps.specs.Kept.{Starts}
-use Rattle.accepted_steps.specs.Known.{EachEntry}
 use Rattle.accepted_steps.specs.Steps.{EachTick}
 use Rattle.accepted_programs.proofs.Done.{FunctionDone}
-use Rattle.accepted_programs.proofs.Files.{many, End, Towards, towards_more, AtFile, EachLinked, linked_later, round}
+use Rattle.accepted_programs.proofs.Files.{many, End, Towards, AtFile, EachLinked, linked_later, round}
 use Rattle.accepted_programs.proofs.Globals.{GlobalDone, globals_done}
 use Rattle.accepted_programs.proofs.Runs.{FunctionRan, function_ran}
-use Rattle.accepted_programs.proofs.Scopes.{FileName}
 use Rattle.accepted_programs.proofs.Steps.{Parts, parts, state_of, starts_trans}
 use Rattle.accepted_programs.proofs.Walk.{GoodExternal, EachGood, functions_in, Grew, external_grew, walk_grew}
 use Rattle.accepted_programs.proofs.Whole.{function_done}

@@ -1,16 +1,14 @@
 -- A walk begins with the names of the library.
-use Rattle.std.proofs.Common.{◌≡◌, ℕ, refl, ap, sym, ◌∙◌, subst, List, [], ◌∷◌, ◌++◌, length, codes, Option, Some, None, Ok}
+use Rattle.std.proofs.Common.{◌≡◌, ℕ, refl, ap, ◌∙◌, [], ◌∷◌, ◌++◌, codes, Ok}
 use Rattle.c_types.specs.declared.ctype.CType.{CType}
 use Rattle.c_types.specs.declared.ctype.Integer.TheVariants as integer
 use Rattle.c_types.specs.declared.ctype.Layer.TheVariants as layer
-use Rattle.c_types.specs.declared.names.Meaning.{Meaning}
 use Rattle.c_types.specs.Scopes.{Name, Scope, Scopes}
 use Rattle.c_shapes.specs.Shapes as shapes
 use Rattle.c_shapes.specs.Shapes.{over, void}
 use Rattle.check_tables.specs.declared.functions.Functions.{Functions}
-use Rattle.check_tables.specs.Walks.{Rule, ◌>>=◌}
+use Rattle.check_tables.specs.Walks.{◌>>=◌}
 use Rattle.check_state.specs.declared.state.State.{State}
-use Rattle.check_state.specs.Names.{declare}
 use Rattle.check_state.specs.Starts.{int, function, library_meaning, add_library, first_library, second_library, third_library, libraries, empty, start, emptied, again}
 use Rattle.accepted_values.specs.Used.{IsLibrary}
 use Rattle.accepted_values.proofs.Declared.{libraries_use}

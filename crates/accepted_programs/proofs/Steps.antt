@@ -1,6 +1,5 @@
 -- The parts of a step that gave an answer: a `>>=` that gives one has both its parts give one.
-use Rattle.std.proofs.Common.{◌≡◌, ℕ, List, [], ◌∷◌, ◌++◌, refl, ap, sym, ◌∙◌, append_assoc, append-nil, Result, Ok, Err}
-use Rattle.tick_tree.specs.declared.fault.Fault.{Fault}
+use Rattle.std.proofs.Common.{◌≡◌, List, [], ◌++◌, refl, ap, sym, ◌∙◌, append_assoc, append-nil, Ok, Err}
 use Rattle.tick_tree.specs.Faults.{Checked, ◌>>=◌ as ◌>>>=◌}
 use Rattle.check_tables.specs.Walks.{Rule, ◌>>=◌, lift}
 use Rattle.accepted_steps.specs.Kept.{Starts}

@@ -5,12 +5,12 @@ use Rattle.c_declared.specs.Making.{lower}
 use Rattle.c_shapes.specs.Shapes.{inner, width_of}
 use Rattle.tick_tree.specs.declared.fault.FaultKind.{FaultKind}
 use Rattle.tick_tree.specs.declared.fault.FaultKind.TheVariants as fault
-use Rattle.tick_tree.specs.Faults.{Checked, refuse}
+use Rattle.tick_tree.specs.Faults.{refuse}
 use Rattle.c_nodes.specs.declared.operand.Operand.{Operand}
 use Rattle.c_nodes.specs.declared.operand.Value.{Value}
 use Rattle.c_nodes.specs.Operands.{value_of}
 use Rattle.check_tables.specs.Images as images
-use Rattle.check_tables.specs.Walks.{Rule, ◌>>=◌, pure, lift}
+use Rattle.check_tables.specs.Walks.{lift}
 use Rattle.check_state.specs.declared.state.Stage.TheVariants as stage
 use Rattle.check_state.specs.declared.state.State.{State}
 use Rattle.check_expressions.specs.Rules.{Node}
@@ -19,10 +19,9 @@ use Rattle.check_globals.specs.declared.statics.Row.{Row}
 use Rattle.check_globals.specs.Statics as statics
 use Rattle.tick_checker.specs.Walk.{Start, Nothing, Value as One, Values}
 use Rattle.tick_checker.specs.Program as program
-use Rattle.accepted_steps.specs.Kept.{Starts, KeepsTables}
 use Rattle.accepted_steps.specs.Good.{Plain}
 use Rattle.accepted_programs.proofs.Declared.{none_lower}
-use Rattle.accepted_programs.proofs.Steps.{Parts, parts, state_of, answer_of, Lifted, lifted}
+use Rattle.accepted_programs.proofs.Steps.{Parts, parts, state_of, answer_of}
 
 pub record Still (s new : State) : Type 0 where
   pub scopes : new.scopes ≡ s.scopes

@@ -1,16 +1,13 @@
 -- Both walks define the same functions: after a walk the table of those that are defined is told by their names alone.
-use Rattle.std.proofs.Common.{◌≡◌, ℕ, zero, suc, ◌+◌, ◌≤◌, ◌<◌, min, Bool, true, false, ◌&&◌, nat_le, if◌then◌else◌, refl, ap, sym, ◌∙◌, List, [], ◌∷◌, ◌++◌, length, map, Option, Some, None, is_some, Ok, Err, slice_get, arith, bytes_eq, append-nil}
+use Rattle.std.proofs.Common.{◌≡◌, ℕ, zero, suc, ◌+◌, ◌≤◌, ◌<◌, min, Bool, true, false, if◌then◌else◌, refl, ap, sym, ◌∙◌, List, [], ◌∷◌, ◌++◌, length, Option, Some, None, is_some, Ok, slice_get, arith, bytes_eq, append-nil}
 use Rattle.std.proofs.lemmas.Bool.Decides.{nat_tests}
 use Rattle.std.proofs.lemmas.Slice.Eq.{bytes_eq-Decides}
 use Rattle.c_types.specs.declared.names.Meaning.{Meaning}
 use Rattle.c_types.specs.Scopes.{Name, Scope, Scopes, in_scope, find, innermost, declared}
 use Rattle.check_tables.specs.declared.functions.Functions.{Functions}
 use Rattle.check_tables.specs.declared.functions.Prototype.{Prototype}
-use Rattle.check_tables.specs.Frames.{count}
 use Rattle.check_tables.specs.Functions.{define, defined_by, next, number, number_by, is_defined, meaning, lacking, undefined}
-use Rattle.tick_tree.specs.Faults.{Checked}
 use Rattle.accepted_steps.specs.Known.{is_number}
-use Rattle.accepted_programs.proofs.Bools.{le_true}
 use Rattle.accepted_programs.proofs.Steps.{state_of}
 
 -- the number of the function that so many stand before

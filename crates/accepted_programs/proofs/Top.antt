@@ -1,6 +1,6 @@
 -- The law on a whole program, given what is known of its parts.
-use Rattle.std.proofs.Common.{◌≡◌, ℕ, zero, suc, ◌+◌, ◌≤◌, min, Bool, true, false, nat_le, refl, ap, sym, ◌∙◌, subst, List, [], ◌∷◌, ◌++◌, length, map, slice_get, Option, Some, None, Ok, arith, append-nil}
-use Rattle.c_types.specs.Scopes.{Name, Scope, Scopes}
+use Rattle.std.proofs.Common.{◌≡◌, ℕ, zero, suc, ◌+◌, ◌≤◌, min, true, ap, sym, ◌∙◌, subst, List, [], ◌∷◌, ◌++◌, length, slice_get, Some, Ok, arith, append-nil}
+use Rattle.c_types.specs.Scopes.{Name}
 use Rattle.tick_tree.specs.declared.syntax.External.{External}
 use Rattle.tick_tree.specs.declared.syntax.Tree.{Tree}
 use Rattle.typed_tree.specs.declared.expression.CaptureKind.{CaptureKind}
@@ -9,29 +9,26 @@ use Rattle.typed_tree.specs.declared.program.Tick.{Tick}
 use Rattle.typed_tree.specs.declared.program.Typed.{Typed}
 use Rattle.typed_tree.specs.Sizes.{body_size}
 use Rattle.check_tables.specs.declared.functions.Functions.{Functions}
-use Rattle.check_tables.specs.declared.functions.Prototype.{Prototype}
-use Rattle.check_tables.specs.declared.ticks.Ticks.{Ticks}
 use Rattle.check_tables.specs.declared.image.Image.{Image}
 use Rattle.check_tables.specs.Functions as tables
 use Rattle.check_tables.specs.Images as images
 use Rattle.check_state.specs.declared.state.State.{State}
 use Rattle.check_state.specs.Starts.{empty, emptied}
 use Rattle.check_globals.specs.Programs.{typed, image, tick_fits}
-use Rattle.tick_checker.specs.Program.{walk, checked}
+use Rattle.tick_checker.specs.Program.{checked}
 use Rattle.accepted_trees.specs.Accepted as accepted
 use Rattle.accepted_steps.specs.Kept.{Starts}
-use Rattle.accepted_steps.specs.Known.{is_number}
 use Rattle.accepted_steps.specs.Steps.{EachTick, TickStands}
 use Rattle.accepted_programs.proofs.Bools.{true_le}
 use Rattle.accepted_programs.proofs.Bounds.{Bounded, image_small}
 use Rattle.accepted_programs.proofs.Ends.{AllFit, AllFixed, ImageKept, walk_image, walks_end}
 use Rattle.accepted_programs.proofs.Checked.{Ran, ran}
 use Rattle.accepted_programs.proofs.Files.{many, End, AtFile, EachLinked, names_of, round}
-use Rattle.accepted_programs.proofs.Finish.{Finished, finished_gives, Limits, limits, tick_fit, words_small}
+use Rattle.accepted_programs.proofs.Finish.{Finished, finished_gives, limits, tick_fit, words_small}
 use Rattle.accepted_programs.proofs.Main.{HasMain, main_found}
 use Rattle.accepted_programs.proofs.Second.{EachFunction, Walked, walked}
 use Rattle.accepted_programs.proofs.Starts.{Library, started, begun_again}
-use Rattle.accepted_programs.proofs.Tables.{with_names, EachNumber, numbered, prototypes_numbered}
+use Rattle.accepted_programs.proofs.Tables.{with_names, numbered, prototypes_numbered}
 use Rattle.accepted_programs.proofs.Walk.{EachGood, functions_in, Grew, walk_grew, count_grew}
 
 -- ---- where the second walk ends

@@ -1,9 +1,9 @@
 -- What a variable at file scope leaves of the names, and its place.
-use Rattle.std.proofs.Common.{◌≡◌, ℕ, Bool, true, false, not, ◌||◌, ◌⊎◌, inl, inr, refl, ap, sym, ◌∙◌, List, [], ◌∷◌, ◌++◌, Option, Some, None, Ok, Err}
+use Rattle.std.proofs.Common.{◌≡◌, ℕ, Bool, true, false, not, ◌||◌, ◌⊎◌, inl, inr, sym, ◌∙◌, [], ◌∷◌, ◌++◌, Option, Some, None, Ok}
 use Rattle.c_types.specs.declared.ctype.CType.{CType}
 use Rattle.c_types.specs.declared.names.Meaning.{Meaning}
 use Rattle.c_types.specs.declared.names.MeaningKind.TheVariants as kind
-use Rattle.c_types.specs.Scopes.{Name, Scope, Scopes, in_scope, find}
+use Rattle.c_types.specs.Scopes.{Name, Scope, find}
 use Rattle.c_types.specs.Types.{same, limited_size}
 use Rattle.check_tables.specs.Functions as functions
 use Rattle.check_tables.specs.Images as images
@@ -48,7 +48,7 @@ variable_case : (o : Option Meaning) (line : ℕ) (name : Name) (t : CType) (s n
 variable_case None line name t s new at sc one is = first_variable line name t s new at sc one is
 variable_case (Some m) line name t s new at sc one is =
     absurd (variable_some (functions.is_defined name s.functions) line name t s new at sc m
-      (split (not (names.is_function m.kind) || functions.is_defined name s.functions)) (split (same m.ctype t)) is)
+    (split (not (names.is_function m.kind) || functions.is_defined name s.functions)) (split (same m.ctype t)) is)
 
 pub variable_named : (line : ℕ) (name : Name) (t : CType) (s new : State) (at : ℕ) (sc : Scope) → s.scopes ≡ sc ∷ []
     → names.variable line name t s ≡ Ok (at, new) → NamedVariable name t s new at sc

@@ -1,12 +1,9 @@
 -- The walk over a program: what both walks leave of the functions.
-use Rattle.std.proofs.Common.{◌≡◌, ℕ, zero, suc, ◌+◌, ◌≤◌, refl, ap, sym, ◌∙◌, subst, List, [], ◌∷◌, ◌++◌, length, map, take, slice_get, Option, Some, None, Ok, arith, append-nil, append_assoc}
-use Rattle.c_types.specs.Scopes.{Name, Scope, Scopes}
+use Rattle.std.proofs.Common.{◌≡◌, ℕ, suc, ◌+◌, refl, ap, sym, ◌∙◌, subst, List, [], ◌∷◌, ◌++◌, length, map, Ok, arith, append-nil, append_assoc}
+use Rattle.c_types.specs.Scopes.{Name, Scope}
 use Rattle.tick_tree.specs.declared.base.Base.{Base}
-use Rattle.tick_tree.specs.declared.syntax.Declaration.{Declaration}
-use Rattle.tick_tree.specs.declared.syntax.Declarator.{Declarator}
 use Rattle.tick_tree.specs.declared.syntax.External.{External}
 use Rattle.tick_tree.specs.declared.syntax.External.TheVariants as ext
-use Rattle.tick_tree.specs.declared.syntax.Stmt.{Stmt as Tree}
 use Rattle.typed_tree.specs.declared.program.Function.{Function}
 use Rattle.check_tables.specs.declared.functions.Functions.{Functions}
 use Rattle.check_state.specs.declared.state.State.{State}
@@ -16,7 +13,6 @@ use Rattle.check_globals.specs.Functions.{Given}
 use Rattle.tick_checker.specs.Parameters.{parameters_of}
 use Rattle.tick_checker.specs.Program as program
 use Rattle.tick_checker.specs.Walk.{declaration, shape, item}
-use Rattle.accepted_steps.specs.Kept.{Starts}
 use Rattle.accepted_programs.proofs.Done.{made_function, made_state, is_made}
 use Rattle.accepted_programs.proofs.Files.{Towards, towards_more, names_of}
 use Rattle.accepted_programs.proofs.Functions.{GoodFunction}

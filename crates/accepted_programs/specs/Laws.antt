@@ -1,5 +1,5 @@
 -- What each accepted text's typed tree is known to be: a law on the definition of the checker alone.
-use Rattle.std.specs.Prelude.{◌≡◌, ℕ, ◌≤◌, Ok}
+use Rattle.std.specs.Prelude.{◌≡◌, ◌≤◌, Ok}
 use Rattle.tick_tree.specs.declared.syntax.Tree.{Tree}
 use Rattle.typed_tree.specs.declared.program.Typed.{Typed}
 use Rattle.tick_checker.specs.Program.{checked}

@@ -1,6 +1,6 @@
 -- The functions of a text: behind the name of each stands a list of parameters at once, not even a parenthesis between them. The grammar
 -- takes a body nowhere else.
-use Rattle.std.specs.Prelude.{◌≡◌, ℕ, Bool, true, false, not, List, [], ◌∷◌}
+use Rattle.std.specs.Prelude.{◌≡◌, Bool, true, false, not, List, [], ◌∷◌}
 use Rattle.c_forms.specs.Forms.{is_nil}
 use Rattle.tick_tree.specs.declared.syntax.Core.{Core}
 use Rattle.tick_tree.specs.declared.syntax.Declarator.{Declarator}
