@@ -11,9 +11,9 @@ use Rattle.c_grammar.specs.Steps.{Room, following}
 use Rattle.c_grammar.specs.Declarators.{declares_function}
 use Rattle.c_grammar.specs.Statements.{initializer, init, variables, function_or_variables, first_declared, external, at_end, program_from, program, room_of}
 use Rattle.c_spelling.proofs.Gives.{Gives, given, taken_from, refused, after, choose, choose_parser}
-use Rattle.parsed_names.specs.Named.{EachNamed, is_listed}
-use Rattle.parsed_names.specs.Laws.{NamesItsFunctions}
-use Rattle.parsed_names.proofs.Declared.{anything, past, declared_with_list, deep_room}
+use Rattle.accepted_programs.specs.Named.{EachNamed, is_listed}
+use Rattle.accepted_texts.specs.Laws.{NamesItsFunctions}
+use Rattle.accepted_texts.proofs.Declared.{anything, past, declared_with_list, deep_room}
 
 abbrev NamedItem : External → Input → Type 0
 NamedItem x j = EachNamed (x ∷ [])
@@ -55,7 +55,7 @@ items_are_named n zero found i h = choose (at_end i) _ _ _ (λ c. given _ _ _ h)
 items_are_named n (suc turns) found i h = choose (at_end i) _ _ _ (λ c. given _ _ _ h)
     (λ c. after _ _ _ _ (external_is_named n i) (λ x j k. items_are_named n turns (found ++ x ∷ []) j (one_more found x h k)))
 
-program_named : (n : ℕ) (i : Input) → Gives (program (room_of n) i) (λ xs j. EachNamed xs)
+pub program_named : (n : ℕ) (i : Input) → Gives (program (room_of n) i) (λ xs j. EachNamed xs)
 unfolding program
 program_named n i = items_are_named n (length i) [] i tt
 

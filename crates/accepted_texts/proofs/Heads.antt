@@ -9,7 +9,7 @@ use Rattle.tick_tree.specs.declared.syntax.Core.TheOpen.{Core-F}
 use Rattle.tick_tree.specs.declared.syntax.Core.TheFolds.{fold-roll-Core, fold-roll-Declarator}
 use Rattle.tick_tree.specs.declared.syntax.Declarator.{Declarator, roll-Declarator}
 use Rattle.tick_tree.specs.declared.syntax.Suffix.{Suffix}
-use Rattle.parsed_names.specs.Named.{is_listed, is_listed_core, core_rule, declarator_rule, nothing}
+use Rattle.accepted_programs.specs.Named.{is_listed, is_listed_core, core_rule, declarator_rule, nothing}
 
 -- ---- the fold, a node at a time
 

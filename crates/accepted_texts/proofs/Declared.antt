@@ -15,8 +15,8 @@ use Rattle.c_grammar.specs.Steps.{Inner, Room, descend, enter, many, many_from}
 use Rattle.c_grammar.specs.Statements.{room_of}
 use Rattle.c_grammar.specs.Declarators.{prefix_of, prefixes_by, prefixes, opens, inner_declarator, core_by, core, begins_suffix, suffix, suffixes, behind_prefixes, declarator, is_name, declares_function}
 use Rattle.c_spelling.proofs.Gives.{Gives, given, refused, after, choose, weaken, marked}
-use Rattle.parsed_names.specs.Named.{is_listed, is_listed_core}
-use Rattle.parsed_names.proofs.Heads.{listed_name, listed_paren, listed_declarator}
+use Rattle.accepted_programs.specs.Named.{is_listed, is_listed_core}
+use Rattle.accepted_texts.proofs.Heads.{listed_name, listed_paren, listed_declarator}
 
 pub anything : {A : Type 0} (o : Outcome A) → Gives o (λ a j. Unit {0})
 anything (Ok p) = given p.0 p.1 _ tt

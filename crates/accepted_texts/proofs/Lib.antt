@@ -1,3 +1,4 @@
 pub mod Declared
 pub mod Heads
 pub mod Programs
+pub mod Texts

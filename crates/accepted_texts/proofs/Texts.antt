@@ -1,0 +1,46 @@
+-- The tree of a text names its functions and is small, so that what the checker makes of it stands right.
+use Rattle.std.proofs.Common.{◌≡◌, ℕ, ◌+◌, ◌*◌, ◌≤◌, List, length, refl, ap, subst, ◌∙◌, Result, Ok, Err, arith}
+use Rattle.tick_tree.specs.declared.fault.Fault.{Fault}
+use Rattle.tick_tree.specs.declared.syntax.External.{External}
+use Rattle.tick_tree.specs.declared.syntax.Tree.{Tree}
+use Rattle.tick_tree.specs.declared.token.Token.{Token}
+use Rattle.typed_tree.specs.declared.program.Typed.{Typed}
+use Rattle.c_grammar.specs.declared.item.Item.{Item}
+use Rattle.c_grammar.specs.declared.stop.Stop.{Stop}
+use Rattle.c_grammar.specs.Input.{Input, Outcome}
+use Rattle.c_grammar.specs.Statements.{room_of, program}
+use Rattle.c_spelling.proofs.Gives.{Gives, taken_from}
+use Rattle.tick_parser.specs.Items.{Text, items_of}
+use Rattle.tick_parser.specs.Trees.{parsed, outcome, judged, items_or_stop, max_nesting}
+use Rattle.tick_checker.specs.Program.{checked}
+use Rattle.accepted_trees.specs.Accepted.{IsAccepted}
+use Rattle.accepted_programs.specs.Named.{EachNamed, IsNamed}
+use Rattle.accepted_programs.proofs.Law.{accepted_law}
+use Rattle.parsed_weights.proofs.Parsed.{parsed_few}
+use Rattle.accepted_texts.specs.Laws.{TextsAreAccepted}
+use Rattle.accepted_texts.proofs.Programs.{program_named}
+
+same_items : (xs ys : List External) → ◌≡◌ {A = Result (List External) Stop} (Ok xs) (Ok ys) → xs ≡ ys
+same_items xs ys e = cc
+
+same_tree : (t z : Tree) → ◌≡◌ {A = Result Tree Fault} (Ok t) (Ok z) → t ≡ z
+same_tree t z e = cc
+
+given_named : (r : Outcome (List External)) (xs : List External) → Gives r (λ found j. EachNamed found) → items_or_stop r ≡ Ok xs → EachNamed xs
+given_named (Ok p) xs g e = subst EachNamed (same_items p.0 xs e) (taken_from p.0 p.1 (λ found j. EachNamed found) g)
+given_named (Err k) xs g e = absurd (cc)
+
+outcome_named : (i : Input) (xs : List External) → outcome i ≡ Ok xs → EachNamed xs
+unfolding outcome
+outcome_named i xs e = given_named (program (room_of max_nesting) i) xs (program_named max_nesting i) e
+
+judged_named : (text : Text) (tokens : List Token) (i : List Item) (r : Result (List External) Stop) (t : Tree) → outcome i ≡ r → judged text tokens r ≡ Ok t → IsNamed t
+judged_named text tokens i (Ok xs) t o e = subst IsNamed (same_tree (record { items = xs }) t e) (outcome_named i xs o)
+judged_named text tokens i (Err k) t o e = absurd (cc)
+
+parsed_named : (text : Text) (tokens : List Token) (t : Tree) → parsed text tokens ≡ Ok t → IsNamed t
+unfolding parsed
+parsed_named text tokens t e = judged_named text tokens (items_of text tokens) (outcome (items_of text tokens)) t refl e
+
+pub accepted_text : TextsAreAccepted
+accepted_text text tokens t p few read is = accepted_law t p (parsed_named text tokens t read) (omega (arith, parsed_few text tokens t read)) is
