@@ -7,7 +7,9 @@ use Rattle.tick_tree.specs.declared.fault.FaultKind.TheVariants as fault
 use Rattle.tick_tree.specs.declared.token.Token.{Token}
 use Rattle.tick_tree.specs.declared.token.TokenKind.{TokenKind}
 use Rattle.typed_tree.specs.declared.program.Typed.{Typed}
-use Rattle.c_lexer.specs.Lex.{Lexed, Piece, Gap, Taken, Bad, piece, token_at, fault_at, before, max_tokens, by_piece, lex, tokens}
+use Rattle.c_lexer.specs.declared.pieces.Piece.{Piece}
+use Rattle.c_lexer.specs.declared.pieces.Piece.TheVariants.{Gap, Taken, Bad}
+use Rattle.c_lexer.specs.Lex.{Lexed, piece, token_at, fault_at, before, max_tokens, by_piece, lex, tokens}
 use Rattle.c_grammar.specs.declared.item.Item.{Item}
 use Rattle.c_grammar.specs.declared.stop.Stop.{Stop}
 use Rattle.c_grammar.specs.Input.{Input, Outcome}
