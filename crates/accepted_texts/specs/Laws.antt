@@ -1,10 +1,9 @@
 -- What is known of the typed tree of each text that the checker accepts.
-use Rattle.std.specs.Prelude.{◌≡◌, ℕ, List, Ok}
+use Rattle.std.specs.Prelude.{◌≡◌, ◌≤◌, ℕ, List, length, Ok}
 use Rattle.tick_tree.specs.declared.syntax.External.{External}
 use Rattle.tick_tree.specs.declared.syntax.Tree.{Tree}
 use Rattle.tick_tree.specs.declared.token.Token.{Token}
 use Rattle.typed_tree.specs.declared.program.Typed.{Typed}
-use Rattle.c_lexer.specs.Lex.{tokens}
 use Rattle.c_grammar.specs.Input.{Input}
 use Rattle.c_grammar.specs.Statements.{program, room_of}
 use Rattle.tick_parser.specs.Items.{Text}
@@ -21,4 +20,5 @@ NamesItsFunctions = (n : ℕ) (i rest : Input) (xs : List External) → program 
 -- and it is not too large
 abbrev pub TextsAreAccepted : Type 0
 TextsAreAccepted =
-    (text : Text) (found : List Token) (t : Tree) (p : Typed) → tokens text ≡ Ok found → parsed text found ≡ Ok t → checked t ≡ Ok p → IsAccepted p
+    (text : Text) (tokens : List Token) (t : Tree) (p : Typed) → length tokens ≤ 262144 → parsed text tokens ≡ Ok t → checked t ≡ Ok p
+    → IsAccepted p

@@ -9,7 +9,7 @@ pub fn program_is_named()
     ensures { NamesItsFunctions }
 {}
 
-/// What is known of the typed tree of an accepted text: of what its tokens, their tree and the checker give.
+/// What is known of the typed tree of an accepted text, by its tokens, of which a text has at most 262,144.
 pub fn texts_are_accepted()
     ensures { TextsAreAccepted }
 {}
