@@ -1,10 +1,9 @@
 -- The tree of a text names its functions and is small, so that what the checker makes of it stands right.
-use Rattle.std.proofs.Common.{◌≡◌, ℕ, ◌+◌, ◌*◌, ◌≤◌, List, length, refl, ap, subst, ◌∙◌, Result, Ok, Err, arith}
+use Rattle.std.proofs.Common.{◌≡◌, List, refl, subst, Result, Ok, Err, arith}
 use Rattle.tick_tree.specs.declared.fault.Fault.{Fault}
 use Rattle.tick_tree.specs.declared.syntax.External.{External}
 use Rattle.tick_tree.specs.declared.syntax.Tree.{Tree}
 use Rattle.tick_tree.specs.declared.token.Token.{Token}
-use Rattle.typed_tree.specs.declared.program.Typed.{Typed}
 use Rattle.c_grammar.specs.declared.item.Item.{Item}
 use Rattle.c_grammar.specs.declared.stop.Stop.{Stop}
 use Rattle.c_grammar.specs.Input.{Input, Outcome}
@@ -12,8 +11,6 @@ use Rattle.c_grammar.specs.Statements.{room_of, program}
 use Rattle.c_spelling.proofs.Gives.{Gives, taken_from}
 use Rattle.tick_parser.specs.Items.{Text, items_of}
 use Rattle.tick_parser.specs.Trees.{parsed, outcome, judged, items_or_stop, max_nesting}
-use Rattle.tick_checker.specs.Program.{checked}
-use Rattle.accepted_trees.specs.Accepted.{IsAccepted}
 use Rattle.accepted_programs.specs.Named.{EachNamed, IsNamed}
 use Rattle.accepted_programs.proofs.Law.{accepted_law}
 use Rattle.parsed_weights.proofs.Parsed.{parsed_few}
