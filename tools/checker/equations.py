@@ -97,13 +97,18 @@ def parts(module, kind, function, variant, layer_name, fields):
     return vs, binders, tree, result, proof
 
 
+def equation(name, function, rule, made):
+    """What a walk over a node is by the rule, under this name."""
+    vs, binders, tree, result, proof = made
+    text = "pub %s : %s%s %s ≡ %s %s\nunfolding %s\n" % (name, binders + " → " if binders else "", function, tree, rule, result, WALKS)
+    return text + "%s = %s\n\n" % (" ".join([name] + vs), proof)
+
+
 def whole(module, kind, function, rule, variants, ruleset):
     text, names = "", []
     for variant, layer_name, fields in variants:
-        vs, binders, tree, result, proof = parts(module, kind, function, variant, layer_name, fields)
         name = "%s_%s" % (function, variant.lower())
-        text += "pub %s : %s%s %s ≡ %s %s\nunfolding %s\n" % (name, binders + " → " if binders else "", function, tree, rule, result, WALKS)
-        text += "%s = %s\n\n" % (" ".join([name] + vs), proof)
+        text += equation(name, function, rule, parts(module, kind, function, variant, layer_name, fields))
         names.append(name)
     return text + "pub ruleset %s = (%s)\n\n" % (ruleset, ", ".join(names))
 
@@ -111,13 +116,14 @@ def whole(module, kind, function, rule, variants, ruleset):
 def pointwise(module, kind, function, rule, variants, arguments, walk, ruleset, pick):
     text, names = "", []
     for variant, layer_name, fields in variants:
-        vs, binders, tree, result, proof = parts(module, kind, function, variant, layer_name, fields)
         name = "%s_%s" % (function, variant.lower())
-        text += "pub at_%s : %s%s %s ≡ %s %s\nunfolding %s\n" % (name, binders + " → " if binders else "", function, tree, rule, result, WALKS)
-        text += "at_%s = %s\n\n" % (" ".join([name] + vs), proof)
+        made = parts(module, kind, function, variant, layer_name, fields)
+        vs, binders, tree, result, _ = made
+        text += equation("at_" + name, function, rule, made)
         given = " ".join("(%s : %s)" % a for a in arguments)
         xs = " ".join(a[0] for a in arguments)
-        text += "pub %s : %s %s → (%s %s)%s %s ≡ %s %s %s\n" % (name, binders, given, function, tree, pick, xs, walk, result, xs)
+        binders = binders + " " + given if binders else given
+        text += "pub %s : %s → (%s %s)%s %s ≡ %s %s %s\n" % (name, binders, function, tree, pick, xs, walk, result, xs)
         text += "%s = ap (λ w. w%s %s) (%s)\n\n" % (" ".join([name] + vs + [a[0] for a in arguments]), pick, xs, " ".join(["at_" + name] + vs))
         names.append(name)
     return text + "pub ruleset %s = (%s)\n\n" % (ruleset, ", ".join(names))

@@ -3,6 +3,8 @@ crates/accepted_small/proofs/Trees.antt.
 
 Run it at the top of the checkout, after a change of the tree's types or of the fold's rules; then `rt tidy` in both crates.
 """
+import re
+
 TYPES = "Core Expr Initializer OptionalExpr Stmt Suffix Declaration Declarator Init Parameter Typename".split()
 WALK_OF = dict(zip(TYPES, "core node initializer optional item suffix declaration shape init parameter named".split()))
 RULE_OF = dict(zip(TYPES, "core_rule expr_rule start_rule optional_rule stmt_rule suffix_walk declaration_rule declarator_rule init_rule parameter_rule typename_rule".split()))
@@ -13,6 +15,52 @@ TREES = " ".join(TYPES)
 ALL_RULES = " ".join(RULE_OF[t] for t in TYPES)
 ALL_WALKS = " ".join(WALK_OF[t] for t in TYPES)
 KNOWN = " ".join(f"(Known{t} q)" for t in TYPES)
+# The parts of each layer: its pattern, and each part with what is asked of it; a * stands before a list of parts.
+PARTS = {
+    "Core": ["Core-F.Core::Absent", "(Core-F.Core::Name n text)", "(Core-F.Core::Paren d): shape d"],
+    "Expr": ["(Expr-F.Expr::Name line name)", "(Expr-F.Number n unsigned)", "(Expr-F.Character n)", "(Expr-F.String bytes)",
+        "(Expr-F.Expr::Paren a): node a", "(Expr-F.Compile line a t): node a, named t", "(Expr-F.Expr::Local line t): named t",
+        "(Expr-F.Param line t a): named t, node a", "(Expr-F.Index line ab): node ab.0, node ab.1",
+        "(Expr-F.Call line a list): node a, *node list", "(Expr-F.Step line op a): node a", "(Expr-F.Unary line op a): node a",
+        "(Expr-F.Tick line a): node a", "(Expr-F.TickBlock line items): *item items", "(Expr-F.Cast line t a): named t, node a",
+        "(Expr-F.Sizeof line t): named t", "(Expr-F.Binary line op ab): node ab.0, node ab.1",
+        "(Expr-F.Choice line c a b): node c, node a, node b", "(Expr-F.Assign line ab): node ab.0, node ab.1",
+        "(Expr-F.Modify line op ab): node ab.0, node ab.1", "(Expr-F.Comma line ab): node ab.0, node ab.1"],
+    "Initializer": ["Initializer-F.Initializer::Absent", "(Initializer-F.Value e): node e", "(Initializer-F.List es comma): *node es"],
+    "OptionalExpr": ["OptionalExpr-F.OptionalExpr::Absent", "(OptionalExpr-F.Present e): node e"],
+    "Stmt": ["Stmt-F.Empty", "(Stmt-F.Expr e): node e", "(Stmt-F.Block items): *item items", "(Stmt-F.Stmt::Local d): declarations d",
+        "(Stmt-F.If line c i): node c, item i", "(Stmt-F.IfElse line c i j): node c, item i, item j", "(Stmt-F.While line c i): node c, item i",
+        "(Stmt-F.Do line i c): item i, node c", "(Stmt-F.For line first c s i): item first, optional c, optional s, item i",
+        "(Stmt-F.Switch line e items): node e, *item items", "(Stmt-F.Case line e): node e", "(Stmt-F.Default line)", "(Stmt-F.Break line)",
+        "(Stmt-F.Continue line)", "(Stmt-F.Return line e): optional e"],
+    "Suffix": ["(Suffix-F.Array e): optional e", "Suffix-F.Unlisted", "Suffix-F.Nothing", "(Suffix-F.Listed ps): *parameter ps"],
+    "Declaration": ["d: *init d.inits"],
+    "Declarator": ["d: shape d.core, *suffix d.suffixes"],
+    "Init": ["i: shape i.declarator, start i.value"],
+    "Parameter": ["p: shape p.declarator"],
+    "Typename": ["t: shape t.declarator"],
+}
+
+
+def productions(kind):
+    """Each pattern of a layer with its parts: what is asked of one, its name, and whether it is a list of them."""
+    for production in PARTS[kind]:
+        pattern, _, parts = re.fullmatch(r"(.*?)(: (.*))?", production).groups()
+        parts = [it.split() for it in parts.split(", ")] if parts else []
+        yield pattern, [(asked.lstrip("*"), name, asked.startswith("*")) for asked, name in parts]
+
+
+def asked_of(parts):
+    """What is asked of the parts of a layer."""
+    return " × ".join(f"EachPart q.{asked} {name}" if is_list else f"q.{asked} {name}" for asked, name, is_list in parts) or "Unit {0}"
+
+
+def known_of(parts):
+    """That it holds of them, of trees of which it holds."""
+    known = [f"each {asked} q.{asked} {name}" if is_list else f"{name}.1" for asked, name, is_list in parts]
+    return "tt" if not known else known[0] if len(known) == 1 else f"({', '.join(known)})"
+
+
 text = """-- What each rule of the walk keeps holds of the walk over each tree: an induction over the syntax tree, once for all that is asked. Written by
 -- tools/checker/walks.py.
 use Rattle.std.proofs.Common.{◌≡◌, ℕ, List, [], ◌∷◌, map, refl, ap, sym, ◌∙◌, subst, Option}
@@ -43,23 +91,11 @@ each f P [] = tt
 each f P (y ∷ ys) = (y.1, each f P ys)
 
 """
-PARTS = {}
-PARTS["Core"]=["Core-F.Core::Absent = tt","(Core-F.Core::Name n text) = tt","(Core-F.Core::Paren d) = d.1"]
-PARTS["Expr"]=["(Expr-F.Expr::Name n text) = tt","(Expr-F.Number n u) = tt","(Expr-F.Character n) = tt","(Expr-F.String bytes) = tt","(Expr-F.Expr::Paren a) = a.1","(Expr-F.Compile n a t) = (a.1, t.1)","(Expr-F.Expr::Local n t) = t.1","(Expr-F.Param n t a) = (t.1, a.1)","(Expr-F.Index n a b) = (a.1, b.1)","(Expr-F.Call n a list) = (a.1, each node q.node list)","(Expr-F.Step n o a) = a.1","(Expr-F.Unary n o a) = a.1","(Expr-F.Tick n a) = a.1","(Expr-F.TickBlock n items) = each item q.item items","(Expr-F.Cast n t a) = (t.1, a.1)","(Expr-F.Sizeof n t) = t.1","(Expr-F.Binary n o a b) = (a.1, b.1)","(Expr-F.Choice n c a b) = (c.1, a.1, b.1)","(Expr-F.Assign n a b) = (a.1, b.1)","(Expr-F.Modify n o a b) = (a.1, b.1)","(Expr-F.Comma n a b) = (a.1, b.1)"]
-PARTS["Initializer"]=["Initializer-F.Initializer::Absent = tt","(Initializer-F.Value e) = e.1","(Initializer-F.List es comma) = each node q.node es"]
-PARTS["OptionalExpr"]=["OptionalExpr-F.OptionalExpr::Absent = tt","(OptionalExpr-F.Present e) = e.1"]
-PARTS["Stmt"]=["Stmt-F.Empty = tt","(Stmt-F.Expr e) = e.1","(Stmt-F.Block items) = each item q.item items","(Stmt-F.Stmt::Local d) = d.1","(Stmt-F.If n c i) = (c.1, i.1)","(Stmt-F.IfElse n c i j) = (c.1, i.1, j.1)","(Stmt-F.While n c i) = (c.1, i.1)","(Stmt-F.Do n i c) = (i.1, c.1)","(Stmt-F.For n first c s i) = (first.1, c.1, s.1, i.1)","(Stmt-F.Switch n e items) = (e.1, each item q.item items)","(Stmt-F.Case n e) = e.1","(Stmt-F.Default n) = tt","(Stmt-F.Break n) = tt","(Stmt-F.Continue n) = tt","(Stmt-F.Return n e) = e.1"]
-PARTS["Suffix"]=["(Suffix-F.Array e) = e.1","Suffix-F.Unlisted = tt","Suffix-F.Nothing = tt","(Suffix-F.Listed ps) = each parameter q.parameter ps"]
-PARTS["Declaration"]=["y = each init q.init y.inits"]
-PARTS["Declarator"]=["y = (y.core.1, each suffix q.suffix y.suffixes)"]
-PARTS["Init"]=["y = (y.declarator.1, y.value.1)"]
-PARTS["Parameter"]=["y = y.declarator.1"]
-PARTS["Typename"]=["y = y.declarator.1"]
 for t in TYPES:
     l=LAW_OF[t]
     text+=f"parts_{l} : (q : Asked) (y : {t}-K q) → Every{t} q (walked{t} (first{t} q y))\n"
-    for c in PARTS[t]:
-        text+=f"parts_{l} q {c}\n"
+    for pattern, parts in productions(t):
+        text+=f"parts_{l} q {pattern} = {known_of(parts)}\n"
     text+="\n"
 text+="-- ---- a layer, of which this is given\n\n"
 for t in TYPES:
@@ -98,22 +134,10 @@ pub record Asked : Type 1 where
 -- ---- the parts of a layer
 
 """%(", ".join(t+"-F" for t in TYPES),", ".join(t+"-W" for t in TYPES),", ".join(RULE_OF[t] for t in TYPES))
-ASKED = {}
-ASKED["Core"]=["Core-F.Core::Absent = Unit {0}","(Core-F.Core::Name n text) = Unit {0}","(Core-F.Core::Paren d) = q.shape d"]
-ASKED["Expr"]=["(Expr-F.Expr::Name line name) = Unit {0}","(Expr-F.Number n unsigned) = Unit {0}","(Expr-F.Character n) = Unit {0}","(Expr-F.String bytes) = Unit {0}","(Expr-F.Expr::Paren a) = q.node a","(Expr-F.Compile line a t) = q.node a × q.named t","(Expr-F.Expr::Local line t) = q.named t","(Expr-F.Param line t a) = q.named t × q.node a","(Expr-F.Index line a b) = q.node a × q.node b","(Expr-F.Call line a list) = q.node a × EachPart q.node list","(Expr-F.Step line op a) = q.node a","(Expr-F.Unary line op a) = q.node a","(Expr-F.Tick line a) = q.node a","(Expr-F.TickBlock line items) = EachPart q.item items","(Expr-F.Cast line t a) = q.named t × q.node a","(Expr-F.Sizeof line t) = q.named t","(Expr-F.Binary line op a b) = q.node a × q.node b","(Expr-F.Choice line c a b) = q.node c × q.node a × q.node b","(Expr-F.Assign line a b) = q.node a × q.node b","(Expr-F.Modify line op a b) = q.node a × q.node b","(Expr-F.Comma line a b) = q.node a × q.node b"]
-ASKED["Initializer"]=["Initializer-F.Initializer::Absent = Unit {0}","(Initializer-F.Value e) = q.node e","(Initializer-F.List es comma) = EachPart q.node es"]
-ASKED["OptionalExpr"]=["OptionalExpr-F.OptionalExpr::Absent = Unit {0}","(OptionalExpr-F.Present e) = q.node e"]
-ASKED["Stmt"]=["Stmt-F.Empty = Unit {0}","(Stmt-F.Expr e) = q.node e","(Stmt-F.Block items) = EachPart q.item items","(Stmt-F.Stmt::Local d) = q.declarations d","(Stmt-F.If line c i) = q.node c × q.item i","(Stmt-F.IfElse line c i j) = q.node c × q.item i × q.item j","(Stmt-F.While line c i) = q.node c × q.item i","(Stmt-F.Do line i c) = q.item i × q.node c","(Stmt-F.For line first c s i) = q.item first × q.optional c × q.optional s × q.item i","(Stmt-F.Switch line e items) = q.node e × EachPart q.item items","(Stmt-F.Case line e) = q.node e","(Stmt-F.Default line) = Unit {0}","(Stmt-F.Break line) = Unit {0}","(Stmt-F.Continue line) = Unit {0}","(Stmt-F.Return line e) = q.optional e"]
-ASKED["Suffix"]=["(Suffix-F.Array e) = q.optional e","Suffix-F.Unlisted = Unit {0}","Suffix-F.Nothing = Unit {0}","(Suffix-F.Listed ps) = EachPart q.parameter ps"]
-ASKED["Declaration"]=["d = EachPart q.init d.inits"]
-ASKED["Declarator"]=["d = q.shape d.core × EachPart q.suffix d.suffixes"]
-ASKED["Init"]=["i = q.shape i.declarator × q.start i.value"]
-ASKED["Parameter"]=["p = q.shape p.declarator"]
-ASKED["Typename"]=["t = q.shape t.declarator"]
 for t in TYPES:
     definitions += f"abbrev pub Every{t} : Asked → {t}-W → Type 0\n"
-    for c in ASKED[t]:
-        definitions += f"Every{t} q {c}\n"
+    for pattern, parts in productions(t):
+        definitions += f"Every{t} q {pattern} = {asked_of(parts)}\n"
     definitions += "\n"
 definitions += "-- each rule of the walk keeps what is asked\npub record RulesKeep (q : Asked) : Type 0 where\n"
 for t in TYPES: definitions += f"  pub {LAW_OF[t]} : (x : {t}-W) → Every{t} q x → q.{FIELD_OF[t]} ({RULE_OF[t]} x)\n"

@@ -1,7 +1,8 @@
 #!/usr/bin/env python3
 """weights.py CRATES: writes crates/tree_weights (specs/Weights, specs/Layers, proofs/Folds, proofs/Small): the fold that counts the nodes
-of a tree, and the induction over small trees; crates/accepted_weights (proofs/Walks, proofs/Tree, proofs/Given): that the walk over a
-part makes nothing grow by more than its nodes; and crates/parsed_weights (proofs/Spelled): that a tree has few nodes for its words."""
+of a tree, and the induction over small trees; and crates/accepted_weights (proofs/Walks, proofs/Tree, proofs/Given): that the walk over a
+part makes nothing grow by more than its nodes. Run it with `crates` at the top of the checkout, then `rt check --fix-imports` and `rt fmt`
+in both crates."""
 import sys
 T = ["Core", "Expr", "Initializer", "OptionalExpr", "Stmt", "Suffix", "Declaration", "Declarator", "Init", "Parameter", "Typename"]
 WALK = dict(zip(T, "core node initializer optional item suffix declaration shape init parameter named".split()))
@@ -51,7 +52,7 @@ expr_nodes (Expr-F.Expr::Paren a) = 1 + a
 expr_nodes (Expr-F.Compile n a t) = 1 + (a + t)
 expr_nodes (Expr-F.Expr::Local n t) = 1 + t
 expr_nodes (Expr-F.Param n t a) = 1 + (t + a)
-expr_nodes (Expr-F.Index n a b) = 1 + (a + b)
+expr_nodes (Expr-F.Index n ab) = 1 + (ab.0 + ab.1)
 expr_nodes (Expr-F.Call n a list) = 1 + (a + total list)
 expr_nodes (Expr-F.Step n op a) = 1 + a
 expr_nodes (Expr-F.Unary n op a) = 1 + a
@@ -59,11 +60,11 @@ expr_nodes (Expr-F.Tick n a) = 1 + a
 expr_nodes (Expr-F.TickBlock n items) = 1 + total items
 expr_nodes (Expr-F.Cast n t a) = 1 + (t + a)
 expr_nodes (Expr-F.Sizeof n t) = 1 + t
-expr_nodes (Expr-F.Binary n op a b) = 1 + (a + b)
+expr_nodes (Expr-F.Binary n op ab) = 1 + (ab.0 + ab.1)
 expr_nodes (Expr-F.Choice n c a b) = 1 + (c + (a + b))
-expr_nodes (Expr-F.Assign n a b) = 1 + (a + b)
-expr_nodes (Expr-F.Modify n op a b) = 1 + (a + b)
-expr_nodes (Expr-F.Comma n a b) = 1 + (a + b)
+expr_nodes (Expr-F.Assign n ab) = 1 + (ab.0 + ab.1)
+expr_nodes (Expr-F.Modify n op ab) = 1 + (ab.0 + ab.1)
+expr_nodes (Expr-F.Comma n ab) = 1 + (ab.0 + ab.1)
 
 abbrev pub initializer_nodes : Initializer-N → ℕ
 initializer_nodes Initializer-F.Initializer::Absent = 1
@@ -257,7 +258,7 @@ layer-Expr (Expr-F.Expr::Paren a) = record { at = λ g. e.paren_light (node a.0)
 layer-Expr (Expr-F.Compile n a t) = record { at = λ g. e.compile_light n (node a.0) (named t.0) g a.1 t.1 }
 layer-Expr (Expr-F.Expr::Local n t) = record { at = λ g. e.local_light n (named t.0) g t.1 }
 layer-Expr (Expr-F.Param n t a) = record { at = λ g. e.parameter_light n (named t.0) (node a.0) g t.1 a.1 }
-layer-Expr (Expr-F.Index n a c) = record { at = λ g. e.index_light n (node a.0) (node c.0) g a.1 c.1 }
+layer-Expr (Expr-F.Index n ab) = record { at = λ g. e.index_light n (node ab.0.0) (node ab.1.0) g ab.0.1 ab.1.1 }
 layer-Expr (Expr-F.Call n a xs) = record { at = λ g. e.call_light n (node a.0) _ g a.1 (nodes_known xs) }
 layer-Expr (Expr-F.Step n o a) = record { at = λ g. e.post_light n o (node a.0) g a.1 }
 layer-Expr (Expr-F.Unary n o a) = record { at = λ g. e.unary_light n o (node a.0) g a.1 }
@@ -265,11 +266,11 @@ layer-Expr (Expr-F.Tick n a) = record { at = λ g. e.tick_light n (node a.0) g a
 layer-Expr (Expr-F.TickBlock n ss) = record { at = λ g. e.tick_block_light n _ g (items_known ss) }
 layer-Expr (Expr-F.Cast n t a) = record { at = λ g. e.cast_light n (named t.0) (node a.0) g t.1 a.1 }
 layer-Expr (Expr-F.Sizeof n t) = record { at = λ g. e.size_light n (named t.0) g t.1 }
-layer-Expr (Expr-F.Binary n o a c) = record { at = λ g. e.binary_light n o (node a.0) (node c.0) g a.1 c.1 }
+layer-Expr (Expr-F.Binary n o ab) = record { at = λ g. e.binary_light n o (node ab.0.0) (node ab.1.0) g ab.0.1 ab.1.1 }
 layer-Expr (Expr-F.Choice n a c d) = record { at = λ g. e.choice_light n (node a.0) (node c.0) (node d.0) g a.1 c.1 d.1 }
-layer-Expr (Expr-F.Assign n a c) = record { at = λ g. e.assign_light n (node a.0) (node c.0) g a.1 c.1 }
-layer-Expr (Expr-F.Modify n o a c) = record { at = λ g. e.modify_light n o (node a.0) (node c.0) g a.1 c.1 }
-layer-Expr (Expr-F.Comma n a c) = record { at = λ g. e.comma_light (node a.0) (node c.0) g a.1 c.1 }""",
+layer-Expr (Expr-F.Assign n ab) = record { at = λ g. e.assign_light n (node ab.0.0) (node ab.1.0) g ab.0.1 ab.1.1 }
+layer-Expr (Expr-F.Modify n o ab) = record { at = λ g. e.modify_light n o (node ab.0.0) (node ab.1.0) g ab.0.1 ab.1.1 }
+layer-Expr (Expr-F.Comma n ab) = record { at = λ g. e.comma_light (node ab.0.0) (node ab.1.0) g ab.0.1 ab.1.1 }""",
 "Initializer": """layer-Initializer Initializer-F.Initializer::Absent = nothing
 layer-Initializer (Initializer-F.Value a) = value (record { at = λ g. weak _ (a.1.at g) (omega arith) })
 layer-Initializer (Initializer-F.List xs comma) = values (omega arith) (nodes_known xs)""",
@@ -453,14 +454,16 @@ for t in T:
     for name in [f"{t}-P : T", f"parts-{t} : ", f"{t}-Q : T", f"small-{t} : ", f"Step{t} : T"]:
         body = body.replace("\npub " + name, "\nabbrev pub " + name).replace("\n" + name, "\nabbrev " + name)
 
-def arg(kind, v):
+def lowered(v):
     return f"({v}.0, {v}.1 (omega arith))"
+def arg(kind, v):
+    return {"p": v, "k": lowered(v), "2": f"({lowered(v + '.0')}, {lowered(v + '.1')})"}.get(kind, f"{v}z.parts")
 def one(con, args):
-    """args: list of (name, kind) with kind in 'k' (part), 'p' (plain), or a type's name (a list of that type's parts)"""
+    """args: list of (name, kind) with kind in 'k' (part), '2' (a pair of parts), 'p' (plain), or a type's name (a list of that type's parts)"""
     pat = f"({con} {' '.join(a for a, k in args)})" if args else con
-    lists = [(a, k) for a, k in args if k not in "kp"]
+    lists = [(a, k) for a, k in args if k not in "k2p"]
     lets = "".join(f"let {a}z = lower P{k} limit {WEIGHT[k]} {a} (omega arith) in " for a, k in lists)
-    val = " ".join(arg(k, a) if k == "k" else a if k == "p" else f"{a}z.parts" for a, k in args)
+    val = " ".join(arg(k, a) for a, k in args)
     val = f"({con} {val})" if args else con
     if lists:
         a, k = lists[0]
@@ -473,10 +476,10 @@ def one(con, args):
 CONS = {
 "Core": [("Core-F.Core::Absent", ""), ("Core-F.Core::Name", "n:p x:p"), ("Core-F.Core::Paren", "d:k")],
 "Expr": [("Expr-F.Expr::Name", "n:p x:p"), ("Expr-F.Number", "n:p u:p"), ("Expr-F.Character", "n:p"), ("Expr-F.String", "x:p"), ("Expr-F.Expr::Paren", "a:k"),
-    ("Expr-F.Compile", "n:p a:k t:k"), ("Expr-F.Expr::Local", "n:p t:k"), ("Expr-F.Param", "n:p t:k a:k"), ("Expr-F.Index", "n:p a:k c:k"), ("Expr-F.Call", "n:p a:k xs:Expr"),
+    ("Expr-F.Compile", "n:p a:k t:k"), ("Expr-F.Expr::Local", "n:p t:k"), ("Expr-F.Param", "n:p t:k a:k"), ("Expr-F.Index", "n:p ab:2"), ("Expr-F.Call", "n:p a:k xs:Expr"),
     ("Expr-F.Step", "n:p o:p a:k"), ("Expr-F.Unary", "n:p o:p a:k"), ("Expr-F.Tick", "n:p a:k"), ("Expr-F.TickBlock", "n:p xs:Stmt"), ("Expr-F.Cast", "n:p t:k a:k"),
-    ("Expr-F.Sizeof", "n:p t:k"), ("Expr-F.Binary", "n:p o:p a:k c:k"), ("Expr-F.Choice", "n:p a:k c:k d:k"), ("Expr-F.Assign", "n:p a:k c:k"), ("Expr-F.Modify", "n:p o:p a:k c:k"),
-    ("Expr-F.Comma", "n:p a:k c:k")],
+    ("Expr-F.Sizeof", "n:p t:k"), ("Expr-F.Binary", "n:p o:p ab:2"), ("Expr-F.Choice", "n:p a:k c:k d:k"), ("Expr-F.Assign", "n:p ab:2"), ("Expr-F.Modify", "n:p o:p ab:2"),
+    ("Expr-F.Comma", "n:p ab:2")],
 "Initializer": [("Initializer-F.Initializer::Absent", ""), ("Initializer-F.Value", "a:k"), ("Initializer-F.List", "xs:Expr comma:p")],
 "OptionalExpr": [("OptionalExpr-F.OptionalExpr::Absent", ""), ("OptionalExpr-F.Present", "a:k")],
 "Stmt": [("Stmt-F.Empty", ""), ("Stmt-F.Expr", "a:k"), ("Stmt-F.Block", "xs:Stmt"), ("Stmt-F.Stmt::Local", "d:k"), ("Stmt-F.If", "n:p a:k i:k"), ("Stmt-F.IfElse", "n:p a:k i:k j:k"),

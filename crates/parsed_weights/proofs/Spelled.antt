@@ -1,4 +1,4 @@
--- A tree has at most four nodes for each word that it spells, but for its root. Written by tools/checker/weights.py.
+-- A tree has at most four nodes for each word that it spells, but for its root: an induction over the tree.
 use Rattle.std.proofs.Common.{◌≡◌, ℕ, ◌+◌, ◌*◌, ◌≤◌, Bool, true, false, List, [], ◌∷◌, map, length, sym, subst, Some, None, arith}
 use Rattle.std.specs.Prelude.{Option}
 use Rattle.tick_tree.specs.declared.syntax.Core.{Core, roll-Core}
