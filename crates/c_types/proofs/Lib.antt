@@ -1,4 +1,5 @@
+pub mod ExtentLaws
 pub mod Lookups
 pub mod SameLaws
-pub mod SizeLaws
 pub mod Stack
+pub mod Told

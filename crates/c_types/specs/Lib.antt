@@ -1,2 +1,5 @@
-pub mod Scopes
 pub mod Types
+pub mod Tags
+pub mod Extents
+pub mod Shared
+pub mod Scopes

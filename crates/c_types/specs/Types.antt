@@ -5,7 +5,7 @@ use Rattle.c_types.specs.declared.ctype.Integer.{Integer}
 use Rattle.c_types.specs.declared.ctype.Integer.TheVariants as kind
 use Rattle.c_types.specs.declared.ctype.Base.{Base}
 use Rattle.c_types.specs.declared.ctype.Base.TheVariants as base
-use Rattle.c_types.specs.declared.ctype.CType.{CType, out-CType}
+use Rattle.c_types.specs.declared.ctype.CType.{CType, out-CType, roll-CType}
 use Rattle.c_types.specs.declared.ctype.Layer.{Layer, out-Layer}
 use Rattle.c_types.specs.declared.ctype.Layer.TheOpen.{Layer-F, CType-F}
 use Rattle.c_types.specs.declared.ctype.Layer.TheFolds.{fold-Layer, fold-CType}
@@ -41,6 +41,10 @@ base_of t = (out-CType t).base
 -- the layers over the base, the outermost last
 abbrev pub layers_of : CType → List Layer
 layers_of t = (out-CType t).layers
+
+-- the type of these layers over this base
+abbrev pub ctype : Base → List Layer → CType
+ctype b ls = roll-CType (record { base = b; layers = ls })
 
 -- a layer, opened
 abbrev pub Opened : Type 0

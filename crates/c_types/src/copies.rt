@@ -7,9 +7,9 @@ use crate::ctype::{Base, CType, Layer};
 use sqlite_items::Items;
 use std::alloc::{AllocError, Global};
 
-/// A copy of a type.
+/// A copy of a type, layer by layer.
 #[cycle(copy)]
-pub fn copy(alloc: Global, t: &CType) -> Result<CType, AllocError>
+pub fn copy_ctype(alloc: Global, t: &CType) -> Result<CType, AllocError>
     ensures { IfOk result (λ c. c ≡ t.now) }
 {
     let layers = copy_layers(alloc, t.layers.as_slice())?;
@@ -21,7 +21,7 @@ pub fn copy(alloc: Global, t: &CType) -> Result<CType, AllocError>
 
 // A copy of layers.
 #[cycle(copy)]
-fn copy_layers(alloc: Global, layers: &[Layer]) -> Result<Items<Layer>, AllocError>
+pub(crate) fn copy_layers(alloc: Global, layers: &[Layer]) -> Result<Items<Layer>, AllocError>
     ensures { IfOk result (λ c. c ≡ layers.now) }
 {
     let mut found = Items::new(alloc);
@@ -54,7 +54,7 @@ pub fn copy_list(alloc: Global, list: &[CType]) -> Result<Items<CType>, AllocErr
 {
     let mut found = Items::new(alloc);
     for t in list {
-        let copied = copy(alloc, t)?;
+        let copied = copy_ctype(alloc, t)?;
         found.push(copied)?;
     }
     Ok(found)

@@ -4,11 +4,18 @@
 mod conversions;
 mod copies;
 mod ctype;
+mod extents;
+mod layers;
 mod names;
+mod row;
+mod shared;
 mod sizes;
+mod tags;
 
-pub use conversions::{common, converts, promoted, same};
-pub use copies::{copy, copy_list};
+pub use conversions::{common, converts, converts_to, promoted, same, same_ctypes};
+pub use copies::copy_ctype;
 pub use ctype::{Base, CType, Integer, Layer};
+pub use layers::Layers;
 pub use names::{DeclareFault, Meaning, MeaningKind, Scopes};
+pub use shared::{TypeRef, copy};
 pub use sizes::{MAX_SIZE, limited_size, pointed_size, size_of};

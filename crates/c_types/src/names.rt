@@ -4,7 +4,7 @@ ghost use Rattle.std.specs.Prelude.{◌≡◌, ◌<◌, ◌-◌, None, Some, OnO
 ghost use Rattle.std.specs.Option.{option_copied};
 ghost use Rattle.c_types.specs.Scopes as spec;
 
-use crate::ctype::CType;
+use crate::shared::TypeRef;
 use indexmap::IndexMap;
 use std::alloc::{AllocError, AllocFailed, Global};
 use std::marker::Model;
@@ -30,7 +30,7 @@ pub struct Meaning {
     /// What kind of thing it is.
     pub kind: MeaningKind,
     /// Its type.
-    pub ctype: CType,
+    pub ctype: TypeRef,
     /// Its number or place among the things of its kind.
     pub index: u32,
 }
@@ -210,26 +210,7 @@ impl Scopes {
 #[cfg(test)]
 mod tests {
     use super::*;
-    use crate::conversions::{common, converts, promoted, same};
-    use crate::copies::copy;
-    use crate::ctype::{Base, Integer, Layer};
-    use crate::sizes::limited_size;
-
-    #[test]
-    fn rules_on_types(rt: HostRuntime) {
-        let letter = CType::new(rt.alloc(), Base::Integer(Integer::Char));
-        let pointer = copy(rt.alloc(), &letter).expect(&rt, "memory");
-        let pointer = pointer.with(Layer::Pointer).expect(&rt, "memory");
-        let row = copy(rt.alloc(), &pointer).expect(&rt, "memory");
-        let row = row.with(Layer::Array(3)).expect(&rt, "memory");
-        assert!(rt; limited_size(&row) == Some(12) && same(&row, &row) && !same(&row, &pointer));
-        let any = CType::new(rt.alloc(), Base::Void);
-        let any = any.with(Layer::Pointer).expect(&rt, "memory");
-        assert!(rt; converts(&pointer, &any, false) && !converts(&letter, &any, false));
-        assert!(rt; converts(&letter, &any, true) && !same(&pointer, &letter));
-        assert!(rt; promoted(Integer::UnsignedShort) == Integer::Int);
-        assert!(rt; common(Integer::Char, Integer::Unsigned) == Integer::Unsigned);
-    }
+    use crate::ctype::{Base, Integer};
 
     #[test]
     fn inner_declaration_hides(rt: HostRuntime) {
@@ -237,12 +218,12 @@ mod tests {
         let mut scopes = Scopes::new(rt.alloc()).expect(&rt, "memory");
         let outer = Meaning {
             kind: MeaningKind::Global,
-            ctype: CType::new(rt.alloc(), int),
+            ctype: TypeRef::new(rt.alloc(), int),
             index: 1,
         };
         let inner = Meaning {
             kind: MeaningKind::Variable,
-            ctype: CType::new(rt.alloc(), int),
+            ctype: TypeRef::new(rt.alloc(), int),
             index: 2,
         };
         assert!(rt; scopes.declare(b"x", outer).is_ok());

@@ -1,0 +1,84 @@
+-- The extents of layers are their sizes.
+use Rattle.std.proofs.Common.{◌≡◌, ℕ, zero, suc, ◌+◌, ◌*◌, ◌-◌, ◌<◌, ◌≤◌, Bool, true, false, ◌&&◌, List, [], ◌∷◌, ◌++◌, length, take, Some, None, refl, ap, ◌∙◌, arith}
+use Rattle.std.proofs.lemmas.List.{length-append}
+use Rattle.std.specs.Prelude.{min, nat_le, slice_get, if◌then◌else◌}
+use Rattle.c_types.specs.declared.ctype.Integer.TheVariants as kind
+use Rattle.c_types.specs.declared.ctype.Base.{Base}
+use Rattle.c_types.specs.declared.ctype.Base.TheVariants as base
+use Rattle.c_types.specs.declared.ctype.Layer.{Layer, out-Layer}
+use Rattle.c_types.specs.declared.ctype.Layer.TheOpen.{Layer-F}
+use Rattle.c_types.specs.declared.extents.Extent.{Extent}
+use Rattle.c_types.specs.Types.{Opened, base_size, is_integer_base, size_at, size_under, under, is_sized_at, is_sized_under, limited_parts}
+use Rattle.c_types.specs.Extents.{start, grown_at, grown, after, extents, limited}
+
+-- over the first layers
+pub found : (e : Extent) (ls : List Layer) (n : ℕ) → n ≤ length ls → slice_get (extents e ls) n ≡ Some (after e (take n ls))
+found e [] zero h = refl
+found e [] (suc n) h = absurd (omega (arith, h))
+found e (l ∷ ls) zero h = refl
+found e (l ∷ ls) (suc n) h = found (grown e l) ls n (omega (arith, h))
+
+-- over layers and more on top
+pub joined : (e : Extent) (xs ys : List Layer) → after (after e xs) ys ≡ after e (xs ++ ys)
+joined e [] ys = refl
+joined e (x ∷ xs) ys = joined (grown e x) xs ys
+
+-- under the outermost of the layers on top
+pub under_more : (xs ys : List Layer) → 0 < length ys → xs ++ take (length ys - 1) ys ≡ under (xs ++ ys)
+under_more [] ys h = refl
+under_more (x ∷ xs) ys h =
+    let long : length (xs ++ ys) ≡ length xs + length ys = length-append xs ys in
+    let less : suc (length (xs ++ ys) - 1) ≡ suc (length (xs ++ ys)) - 1 = omega (arith, long, h) in
+    ap (λ ls. x ∷ ls) (under_more xs ys h) ∙ ap (λ k. take k (x ∷ (xs ++ ys))) less
+
+-- a size that is cut serves as the size itself
+cap : (a s k : ℕ) → min (min a k * s) k ≡ min (a * s) k
+cap a zero k = grind (arith)
+cap a (suc s) k = grind (arith)
+
+abbrev extent : ℕ → Bool → Extent
+extent s b = record { size = min s 4194305; sized = b }
+
+step : (s : ℕ) (b : Bool) (o : Opened) → grown_at (extent s b) o ≡ extent (size_at s o) (is_sized_at b o)
+step s b (Layer-F.Array n) = ap (λ m. record { size = m; sized = b }) (cap s n 4194305)
+step s b (Layer-F.Function list) = refl
+step s b Layer-F.Unlisted = refl
+step s b Layer-F.Pointer = refl
+step s b Layer-F.Cspec = refl
+step s b Layer-F.Vspec = refl
+
+over : (s : ℕ) (b : Bool) (ls : List Layer) → after (extent s b) ls ≡ extent (size_under s ls) (is_sized_under b ls)
+over s b [] = refl
+over s b (l ∷ ls) = ap (λ e. after e ls) (step s b (out-Layer l)) ∙ over (size_at s (out-Layer l)) (is_sized_at b (out-Layer l)) ls
+
+begun : (b : Base) → start b ≡ extent (base_size b) (is_integer_base b)
+begun base.Void = refl
+begun (base.Integer kind.Char) = refl
+begun (base.Integer kind.UnsignedChar) = refl
+begun (base.Integer kind.Short) = refl
+begun (base.Integer kind.UnsignedShort) = refl
+begun (base.Integer kind.Int) = refl
+begun (base.Integer kind.Unsigned) = refl
+
+-- the size and whether there is one
+counted : (b : Base) (ls : List Layer) → after (start b) ls ≡ extent (size_under (base_size b) ls) (is_sized_under (is_integer_base b) ls)
+counted b ls = ap (λ e. after e ls) (begun b) ∙ over (base_size b) (is_integer_base b) ls
+
+fits : (s : ℕ) → (if nat_le (min s 4194305) 4194304 then Some (min s 4194305) else None) ≡ (if nat_le s 4194304 then Some s else None)
+fits s = grind (arith)
+
+cut : (s : ℕ) (b : Bool) → limited (extent s b) ≡ (if b && nat_le s 4194304 then Some s else None)
+cut s false = refl
+cut s true = fits s
+
+pub limits : (b : Base) (ls : List Layer) → limited (after (start b) ls) ≡ limited_parts b ls
+limits b ls = ap limited (counted b ls) ∙ cut (size_under (base_size b) ls) (is_sized_under (is_integer_base b) ls)
+
+pub whole : (b : Base) (ls : List Layer) → size_under (base_size b) ls ≤ 4194304 → (after (start b) ls).size ≡ size_under (base_size b) ls
+whole b ls h = let e : (after (start b) ls).size ≡ min (size_under (base_size b) ls) 4194305 = ap (λ e. e.size) (counted b ls) in e ∙ omega (arith, h)
+
+pub same_extent : (x y : Extent) → Some x ≡ Some y → x ≡ y
+same_extent x y h = cc
+
+pub none_some : (x : Extent) → None ≡ Some x → ⊥
+none_some x h = cc

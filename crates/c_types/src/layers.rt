@@ -1,0 +1,149 @@
+//! The layers of a type, lent.
+
+ghost use Rattle.std.specs.Prelude.{◌≡◌, ◌<◌, ◌++◌, ◌==◌, length, slice_get, Some};
+ghost use Rattle.std.specs.Option.{option_copied};
+ghost use Rattle.c_types.specs.Types as types;
+ghost use Rattle.c_types.specs.Shared.{AreTagged};
+
+use crate::conversions::same_layer;
+use crate::ctype::Layer;
+use std::marker::Model;
+
+/// The layers of a type, the outermost last: first those that a row keeps, with the tags of as many of the first as have any,
+/// and then those on top.
+#[derive(Drop)]
+pub struct Layers<'a> {
+    row: &'a [Layer],
+    tags: &'a [u8],
+    // How many of the first are told by their tags alone.
+    told: usize,
+    more: &'a [Layer],
+}
+
+impl<'a> Model for Layers<'a> {
+    ghost use Rattle.std.specs.Prelude.{List, ◌++◌};
+    ghost use Rattle.c_types.specs.declared.ctype.Layer.{Layer};
+    ghost use Rattle.c_types.specs.Shared.{AreTagged};
+    ghost use Rattle.c_types.specs.contracts.ctype.Layer as inner;
+    ghost use Rattle.std.specs.Coded.{codes};
+
+    ghost Value = { List Layer };
+
+    ghost coded = { Prim.hlevel (codes, inner.the_row.coded) };
+
+    ghost view = { λ l. l.row.now ++ l.more.now };
+
+    ghost invariant = { λ l. AreTagged l.row.now l.tags.now l.told };
+}
+
+impl<'a> Layers<'a> {
+    /// Layers with their tags.
+    pub(crate) fn tagged(
+        row: &'a [Layer],
+        tags: &'a [u8],
+        told: usize,
+        more: &'a [Layer],
+    ) -> Layers<'a>
+        requires { AreTagged row.now tags.now told }
+        ensures { result ≡ row.now ++ more.now }
+    {
+        Layers {
+            row,
+            tags,
+            told,
+            more,
+        }
+    }
+
+    /// Layers without tags.
+    pub fn plain(layers: &'a [Layer]) -> Layers<'a>
+        ensures { result ≡ layers.now }
+    {
+        Layers {
+            row: &[],
+            tags: &[],
+            told: 0,
+            more: layers,
+        }
+    }
+
+    /// How many there are.
+    pub fn len(&self) -> usize
+        ensures { result ≡ length self.now }
+    {
+        self.row.len() + self.more.len()
+    }
+
+    /// Whether there is none.
+    pub fn is_empty(&self) -> bool
+        ensures { result ≡ (length self.now == 0) }
+    {
+        self.len() == 0
+    }
+
+    /// The layer at this place, counted from the base.
+    fn at(&self, place: usize) -> &'a Layer
+        requires { place < length self.now }
+        ensures { slice_get self.now place ≡ Some result.now }
+    {
+        let below = self.row.len();
+        if place < below {
+            &self.row[place]
+        } else {
+            &self.more[place - below]
+        }
+    }
+
+    /// The outermost layer; none where the type is its base.
+    pub fn last(&self) -> Option<&'a Layer>
+        ensures { option_copied result ≡ types.outermost self.now }
+    {
+        match self.more.last() {
+            Some(layer) => Some(layer),
+            None => self.row.last(),
+        }
+    }
+
+    /// The layers under the outermost one.
+    pub fn under(&self) -> Layers<'a>
+        ensures { result ≡ types.under self.now }
+    {
+        let on_top = self.more.len();
+        if on_top > 0 {
+            return Layers {
+                row: self.row,
+                tags: self.tags,
+                told: self.told,
+                more: &self.more[..on_top - 1],
+            };
+        }
+        let below = self.row.len().saturating_sub(1);
+        let tagged = self.tags.len().min(below);
+        Layers {
+            row: &self.row[..below],
+            tags: &self.tags[..tagged],
+            told: self.told.min(tagged),
+            more: self.more,
+        }
+    }
+}
+
+/// Whether the layers are the same: as many as their tags tell by these, and the others one by one.
+#[tactic(auto, using(crate::proofs::SameLaws::other_layers))]
+pub(crate) fn same_shared(a: &Layers<'_>, b: &Layers<'_>) -> bool
+    ensures { result ≡ types.same_layers a.now b.now }
+{
+    if a.len() != b.len() {
+        return false;
+    }
+    let told = a.told.min(b.tags.len());
+    if a.tags[..told] != b.tags[..told] {
+        return false;
+    }
+    for place in told..a.len() {
+        if !same_layer(a.at(place), b.at(place)) {
+            return false;
+        }
+    }
+    true
+}
