@@ -9,7 +9,8 @@ use Rattle.c_types.specs.declared.ctype.Base.TheVariants as base
 use Rattle.c_types.specs.declared.ctype.Layer.{Layer, out-Layer}
 use Rattle.c_types.specs.declared.ctype.Layer.TheVariants as layer
 use Rattle.c_types.specs.declared.ctype.Layer.TheOpen.{Layer-F}
-use Rattle.c_types.specs.declared.ctype.CType.{CType, roll-CType}
+use Rattle.c_types.specs.declared.ctype.CType.{CType}
+pub use Rattle.c_types.specs.Types.{ctype}
 use Rattle.c_types.specs.Types.{Opened, base_size, size_under, outermost, under, is_void, is_pointer, base_of, layers_of}
 use Rattle.tick_tree.specs.declared.fault.Fault.{Fault}
 use Rattle.tick_tree.specs.declared.fault.FaultKind.{FaultKind}
@@ -125,9 +126,6 @@ role_breaks role.Parameter b ls = void_breaks b ls
 -- an array becomes a pointer to its element, and a function one to itself
 abbrev pub decayed_layers : List Layer → List Layer
 decayed_layers ls = if is_array ls then under ls ++ layer.Pointer ∷ [] else (if is_function ls then ls ++ layer.Pointer ∷ [] else ls)
-
-abbrev pub ctype : Base → List Layer → CType
-ctype b ls = roll-CType (record { base = b; layers = ls })
 
 -- the type that a value has whose place has this type
 unfoldable pub decayed : CType → CType

@@ -7,7 +7,7 @@ ghost use Rattle.c_types.specs.declared.ctype.Layer.{out-Layer};
 ghost use Rattle.tick_tree.specs.Faults.{Answers};
 
 use crate::steps::{Role, Step, fill_length, layer_of};
-use c_types::{Base, CType, Integer, Layer, MAX_SIZE};
+use c_types::{Base, CType, Integer, Layer, Layers, MAX_SIZE, TypeRef};
 use sqlite_items::Items;
 use std::alloc::{AllocError, Global};
 use tick_tree::{Deny, Fault, FaultKind};
@@ -195,15 +195,31 @@ fn decayed_layers(layers: Items<Layer>) -> Result<Items<Layer>, AllocError>
     Ok(layers)
 }
 
+fn is_lent_array(layers: &Layers<'_>) -> bool
+    ensures { result ≡ spec.is_array layers.now }
+{
+    matches!(layers.last(), Some(Layer::Array(_)))
+}
+
+fn is_lent_function(layers: &Layers<'_>) -> bool
+    ensures { result ≡ spec.is_function layers.now }
+{
+    matches!(layers.last(), Some(Layer::Function(_) | Layer::Unlisted))
+}
+
 /// The type of a value whose place has this type: an array becomes a pointer to its first element, and a function a pointer to
 /// itself.
 #[tactic(auto, unfolding(crate::specs::Making::decayed))]
-pub fn decayed(t: CType) -> Result<CType, AllocError>
+pub fn decayed(t: TypeRef) -> Result<TypeRef, AllocError>
     ensures { IfOk result (λ c. c ≡ spec.decayed t) }
 {
-    let CType { base, layers } = t;
-    let layers = decayed_layers(layers)?;
-    Ok(CType { base, layers })
+    if is_lent_array(&t.layers()) {
+        t.under().with(Layer::Pointer)
+    } else if is_lent_function(&t.layers()) {
+        t.with(Layer::Pointer)
+    } else {
+        Ok(t)
+    }
 }
 
 fn finished(role: Role, base: Base, layers: Items<Layer>) -> Result<CType, AllocError>

@@ -1,7 +1,7 @@
 //! Tests of the rules on declared types.
 
 use crate::{Length, Role, Step, base_of, decayed, declared_type, fill_length, push_prefixes};
-use c_types::{Base, CType, Integer, Layer, same};
+use c_types::{Base, CType, Integer, Layer, TypeRef, same, same_ctypes};
 use sqlite_items::Items;
 use std::alloc::Global;
 use tick_tree::{Base as Words, Deny, Fault, FaultKind, Prefix, Signedness};
@@ -28,8 +28,11 @@ fn array_of_pointers(rt: HostRuntime) {
     let wanted = CType::new(rt.alloc(), INT);
     let wanted = wanted.with(Layer::Pointer).expect(&rt, "memory");
     let wanted = wanted.with(Layer::Array(3)).expect(&rt, "memory");
-    assert!(rt; same(&made, &wanted));
-    let value = decayed(made).expect(&rt, "memory");
+    assert!(rt; same_ctypes(&made, &wanted));
+    let wanted = TypeRef::share(rt.alloc(), wanted).expect(&rt, "memory");
+    let place = TypeRef::share(rt.alloc(), made).expect(&rt, "memory");
+    assert!(rt; same(&place, &wanted));
+    let value = decayed(place).expect(&rt, "memory");
     assert!(rt; !same(&value, &wanted));
 }
 

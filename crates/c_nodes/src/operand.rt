@@ -9,7 +9,7 @@ use c_shapes::{
     conversion, decays, inner, integer, is_integer, is_pointer, is_scalar, is_void, over,
     points_to_void, promoted_type, width_of,
 };
-use c_types::{CType, Integer, Layer, converts};
+use c_types::{Integer, Layer, TypeRef, converts};
 use icode_ops::UnKind;
 use std::alloc::{AllocError, Global};
 use tick_tree::{Deny, FaultKind, refused};
@@ -36,7 +36,7 @@ pub struct Operand {
     /// What it names.
     pub place: Place,
     /// Its type.
-    pub ctype: CType,
+    pub ctype: TypeRef,
     /// Whether it is the literal 0.
     pub zero: bool,
 }
@@ -47,12 +47,12 @@ pub struct Value {
     /// Its node.
     pub code: Expr,
     /// Its type, which is neither an array nor a function.
-    pub ctype: CType,
+    pub ctype: TypeRef,
     /// Whether it is the literal 0.
     pub zero: bool,
 }
 
-fn code_of(alloc: Global, place: Place, t: &CType) -> Result<Expr, AllocError>
+fn code_of(alloc: Global, place: Place, t: &TypeRef) -> Result<Expr, AllocError>
     ensures { IfOk result (λ e. e ≡ spec.code_of place t.now) }
 {
     match place {
@@ -92,7 +92,7 @@ pub fn values(alloc: Global, a: Operand, b: Operand) -> Result<(Value, Value), A
 }
 
 /// A value of this node and type that is not the literal 0.
-pub fn plain(code: Expr, ctype: CType) -> Value
+pub fn plain(code: Expr, ctype: TypeRef) -> Value
     ensures { result ≡ spec.plain code ctype }
 {
     Value {
@@ -115,14 +115,14 @@ pub fn as_operand(v: Value) -> Operand
 }
 
 /// An expression of this node and type that is no place.
-pub fn made(code: Expr, ctype: CType) -> Operand
+pub fn made(code: Expr, ctype: TypeRef) -> Operand
     ensures { result ≡ spec.made code ctype }
 {
     as_operand(plain(code, ctype))
 }
 
 /// What stands at this address.
-pub fn at_address(address: Expr, ctype: CType) -> Operand
+pub fn at_address(address: Expr, ctype: TypeRef) -> Operand
     ensures { result ≡ spec.at_address address ctype }
 {
     Operand {
@@ -164,7 +164,7 @@ pub fn converted_by(alloc: Global, kind: Option<UnKind>, e: Expr) -> Result<Expr
 
 /// The node of a value as a value of a type that it converts to.
 #[tactic(auto, unfolding(crate::specs::Operands::converted))]
-pub fn converted(alloc: Global, v: Value, to: &CType) -> Result<Expr, AllocError>
+pub fn converted(alloc: Global, v: Value, to: &TypeRef) -> Result<Expr, AllocError>
     ensures { IfOk result (λ e. e ≡ spec.converted v to.now) }
 {
     let kind = conversion(&v.ctype, to);
@@ -211,7 +211,7 @@ pub fn string(alloc: Global, address: u32) -> Result<Operand, AllocError>
 }
 
 /// `sizeof` of a type. Refused: BadOperand where the type is void or a function.
-pub fn size(alloc: Global, line: u32, t: &CType) -> Result<Operand, Deny>
+pub fn size(alloc: Global, line: u32, t: &TypeRef) -> Result<Operand, Deny>
     ensures { Checks result (spec.size line t.now) }
 {
     match c_types::limited_size(t) {
@@ -334,7 +334,7 @@ pub fn negated(alloc: Global, line: u32, v: Value) -> Result<Operand, Deny>
     }
 }
 
-fn cast_breaks(t: &CType, v: &Value) -> Option<FaultKind>
+fn cast_breaks(t: &TypeRef, v: &Value) -> Option<FaultKind>
     ensures { result ≡ spec.cast_breaks t.now v.now }
 {
     let ok = is_scalar(t) && is_scalar(&v.ctype);
@@ -344,7 +344,7 @@ fn cast_breaks(t: &CType, v: &Value) -> Option<FaultKind>
 /// A cast to this type: of integers and pointers to integers and pointers, and of anything to void. Refused: VoidValue, or
 /// BadOperand.
 #[tactic(auto, unfolding(crate::specs::Operands::cast))]
-pub fn cast(alloc: Global, line: u32, t: CType, v: Value) -> Result<Operand, Deny>
+pub fn cast(alloc: Global, line: u32, t: TypeRef, v: Value) -> Result<Operand, Deny>
     ensures { Checks result (spec.cast line t v) }
 {
     if is_void(&t) {

@@ -9,7 +9,7 @@ use crate::operand::{Operand, Value, at_address, made, test_breaks, unless_kind}
 use c_shapes::{
     inner, integer, integer_of, is_integer, is_pointer, is_scalar, is_void, points_to_void, void,
 };
-use c_types::{CType, Integer, common, converts, pointed_size, promoted, same};
+use c_types::{Integer, TypeRef, common, converts, pointed_size, promoted, same};
 use icode_ops::BinKind;
 use std::alloc::{AllocError, Global};
 use tick_tree::{BinaryOp, Deny, FaultKind, refused};
@@ -178,7 +178,7 @@ fn scaled_left(size: Option<u32>) -> Option<Combined>
     }
 }
 
-fn with_pointer(op: BinaryOp, zero: bool, b: &CType) -> Option<Combined>
+fn with_pointer(op: BinaryOp, zero: bool, b: &TypeRef) -> Option<Combined>
     ensures { result ≡ spec.with_pointer op zero b.now }
 {
     if is_sum(op) {
@@ -197,7 +197,7 @@ fn scaled_right(op: BinaryOp, size: Option<u32>) -> Option<Combined>
     }
 }
 
-fn with_integer(op: BinaryOp, a: &CType, zero: bool) -> Option<Combined>
+fn with_integer(op: BinaryOp, a: &TypeRef, zero: bool) -> Option<Combined>
     ensures { result ≡ spec.with_integer op a.now zero }
 {
     if is_sum(op) || is_difference(op) {
@@ -216,13 +216,13 @@ fn divided(size: Option<u32>) -> Option<Combined>
     }
 }
 
-fn comparable(a: &CType, b: &CType) -> bool
+fn comparable(a: &TypeRef, b: &TypeRef) -> bool
     ensures { result ≡ spec.comparable a.now b.now }
 {
     is_pointer(a) && is_pointer(b) && (same(a, b) || points_to_void(a) || points_to_void(b))
 }
 
-fn difference(a: &CType, b: &CType) -> Option<Combined>
+fn difference(a: &TypeRef, b: &TypeRef) -> Option<Combined>
     ensures { result ≡ spec.difference a.now b.now }
 {
     if same(a, b) {
@@ -232,7 +232,7 @@ fn difference(a: &CType, b: &CType) -> Option<Combined>
     }
 }
 
-fn with_pointers(op: BinaryOp, a: &CType, b: &CType) -> Option<Combined>
+fn with_pointers(op: BinaryOp, a: &TypeRef, b: &TypeRef) -> Option<Combined>
     ensures { result ≡ spec.with_pointers op a.now b.now }
 {
     if is_difference(op) {
@@ -245,7 +245,13 @@ fn with_pointers(op: BinaryOp, a: &CType, b: &CType) -> Option<Combined>
 /// How an operator other than `&&` and `||` takes two values of these types, which are the literal 0 or not; none where its rule
 /// hasn't these types.
 #[tactic(auto, unfolding(crate::specs::Operators::combine))]
-pub fn combine(op: BinaryOp, a: &CType, a_zero: bool, b: &CType, b_zero: bool) -> Option<Combined>
+pub fn combine(
+    op: BinaryOp,
+    a: &TypeRef,
+    a_zero: bool,
+    b: &TypeRef,
+    b_zero: bool,
+) -> Option<Combined>
     ensures { result ≡ spec.combine op a.now a_zero b.now b_zero }
 {
     match integer_of(a) {
@@ -300,7 +306,7 @@ pub fn built(alloc: Global, by: Combined, x: Expr, y: Expr) -> Result<Expr, Allo
     }
 }
 
-fn type_of(alloc: Global, by: Combined, a: CType, b: CType) -> CType
+fn type_of(alloc: Global, by: Combined, a: TypeRef, b: TypeRef) -> TypeRef
     ensures { result ≡ spec.type_of by a b }
 {
     match by {
@@ -448,7 +454,7 @@ fn joined_type(a: &Value, b: &Value) -> Option<Joined>
     joined_by(a, b)
 }
 
-fn type_joined(alloc: Global, by: Joined, a: CType, b: CType) -> CType
+fn type_joined(alloc: Global, by: Joined, a: TypeRef, b: TypeRef) -> TypeRef
     ensures { result ≡ spec.type_joined by a b }
 {
     match by {

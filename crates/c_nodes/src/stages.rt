@@ -6,13 +6,13 @@ ghost use Rattle.c_nodes.specs.Stages as spec;
 
 use crate::operand::{Operand, Value, made, plain, unless_kind, unless_void};
 use c_shapes::{is_cspec, is_integer, is_scalar, is_void, is_word, over, promoted_type};
-use c_types::{CType, Layer};
+use c_types::{Layer, TypeRef};
 use std::alloc::{AllocError, Global};
 use tick_tree::{Deny, FaultKind, refused};
 use typed_tree::Expr;
 
 /// The type of a specification of an expression of this type.
-pub fn specification(alloc: Global, t: CType) -> Result<CType, AllocError>
+pub fn specification(alloc: Global, t: TypeRef) -> Result<TypeRef, AllocError>
     ensures { IfOk result (λ found. found ≡ spec.specification t) }
 {
     over(Layer::Cspec, promoted_type(alloc, t))
@@ -34,13 +34,13 @@ pub fn dollar(alloc: Global, line: u32, v: Value) -> Result<Value, Deny>
     Ok(plain(code, t))
 }
 
-fn compiles_to(t: &CType) -> bool
+fn compiles_to(t: &TypeRef) -> bool
     ensures { result ≡ spec.compiles_to t.now }
 {
     is_void(t) || is_scalar(t)
 }
 
-fn compile_breaks(t: &CType, v: &Value) -> Option<FaultKind>
+fn compile_breaks(t: &TypeRef, v: &Value) -> Option<FaultKind>
     ensures { result ≡ spec.compile_breaks t.now v.now }
 {
     if !compiles_to(t) {
@@ -50,14 +50,14 @@ fn compile_breaks(t: &CType, v: &Value) -> Option<FaultKind>
     unless_void(v, kind)
 }
 
-fn compiled_type(t: CType) -> Result<CType, AllocError>
+fn compiled_type(t: TypeRef) -> Result<TypeRef, AllocError>
     ensures { IfOk result (λ found. found ≡ spec.compiled_type t) }
 {
     let function = over(Layer::Unlisted, t)?;
     over(Layer::Pointer, function)
 }
 
-fn compiling(alloc: Global, t: CType, e: Expr) -> Result<Operand, AllocError>
+fn compiling(alloc: Global, t: TypeRef, e: Expr) -> Result<Operand, AllocError>
     ensures { IfOk result (λ o. o ≡ spec.compiling t e) }
 {
     let e = typed_tree::compile(alloc, e)?;
@@ -67,7 +67,7 @@ fn compiling(alloc: Global, t: CType, e: Expr) -> Result<Operand, AllocError>
 /// `compile(v, T)`. Refused: TypeMismatch where T is neither void nor an integer nor a pointer, or v no specification;
 /// VoidValue.
 #[tactic(auto, unfolding(crate::specs::Stages::compile))]
-pub fn compile(alloc: Global, line: u32, t: CType, v: Value) -> Result<Operand, Deny>
+pub fn compile(alloc: Global, line: u32, t: TypeRef, v: Value) -> Result<Operand, Deny>
     ensures { Checks result (spec.compile line t v) }
 {
     match compile_breaks(&t, &v) {
@@ -78,7 +78,7 @@ pub fn compile(alloc: Global, line: u32, t: CType, v: Value) -> Result<Operand, 
 
 /// `local(T)`. Refused: TypeMismatch where T is no word type.
 #[tactic(auto, unfolding(crate::specs::Stages::local))]
-pub fn local(line: u32, t: CType) -> Result<Operand, Deny>
+pub fn local(line: u32, t: TypeRef) -> Result<Operand, Deny>
     ensures { Checks result (spec.local line t) }
 {
     if !is_word(&t) {
@@ -87,7 +87,7 @@ pub fn local(line: u32, t: CType) -> Result<Operand, Deny>
     Ok(made(Expr::Local, over(Layer::Vspec, t)?))
 }
 
-fn parameter_breaks(t: &CType, v: &Value) -> Option<FaultKind>
+fn parameter_breaks(t: &TypeRef, v: &Value) -> Option<FaultKind>
     ensures { result ≡ spec.parameter_breaks t.now v.now }
 {
     if !is_word(t) {
@@ -97,7 +97,7 @@ fn parameter_breaks(t: &CType, v: &Value) -> Option<FaultKind>
     unless_void(v, kind)
 }
 
-fn making_parameter(alloc: Global, t: CType, e: Expr) -> Result<Operand, AllocError>
+fn making_parameter(alloc: Global, t: TypeRef, e: Expr) -> Result<Operand, AllocError>
     ensures { IfOk result (λ o. o ≡ spec.making_parameter t e) }
 {
     let e = typed_tree::parameter(alloc, e)?;
@@ -106,7 +106,7 @@ fn making_parameter(alloc: Global, t: CType, e: Expr) -> Result<Operand, AllocEr
 
 /// `param(T, v)`. Refused: TypeMismatch where T is no word type; VoidValue, or BadOperand where v is no integer.
 #[tactic(auto, unfolding(crate::specs::Stages::parameter))]
-pub fn parameter(alloc: Global, line: u32, t: CType, v: Value) -> Result<Operand, Deny>
+pub fn parameter(alloc: Global, line: u32, t: TypeRef, v: Value) -> Result<Operand, Deny>
     ensures { Checks result (spec.parameter line t v) }
 {
     match parameter_breaks(&t, &v) {

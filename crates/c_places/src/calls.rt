@@ -9,7 +9,7 @@ ghost use Rattle.c_types.specs.Types as types;
 use crate::places::narrowed;
 use c_nodes::{Operand, Place, Value, converted, made, value_of};
 use c_shapes::{inner, is_pointer, is_void};
-use c_types::{CType, Layer, converts};
+use c_types::{CType, Layer, Layers, TypeRef, converts, converts_to};
 use sqlite_items::Items;
 use std::alloc::{AllocError, Global};
 use tick_tree::{Deny, FaultKind, refused};
@@ -19,7 +19,7 @@ use typed_tree::{Answer, Expr, Library};
 #[derive(Drop)]
 pub struct Argument {
     /// Its type.
-    pub ctype: CType,
+    pub ctype: TypeRef,
     /// Whether it is the literal 0.
     pub zero: bool,
 }
@@ -71,7 +71,7 @@ impl Arguments {
 fn mismatches(a: &Argument, t: &CType) -> bool
     ensures { result ≡ spec.mismatches a.now t.now }
 {
-    !is_void(&a.ctype) && !converts(&a.ctype, t, a.zero)
+    !is_void(&a.ctype) && !converts_to(&a.ctype, t, a.zero)
 }
 
 fn any_mismatches(list: &[Argument], types: &[CType]) -> bool
@@ -136,7 +136,7 @@ fn called_breaks_at(list: &[Argument], layer: &Layer) -> Option<FaultKind>
     }
 }
 
-fn called_breaks_by(list: &[Argument], layers: &[Layer]) -> Option<FaultKind>
+fn called_breaks_by(list: &[Argument], layers: &Layers<'_>) -> Option<FaultKind>
     ensures { result ≡ spec.called_breaks_by list.now (types.outermost layers.now) }
 {
     match layers.last() {
@@ -145,13 +145,13 @@ fn called_breaks_by(list: &[Argument], layers: &[Layer]) -> Option<FaultKind>
     }
 }
 
-fn called_breaks(t: &CType, list: &[Argument]) -> Option<FaultKind>
+fn called_breaks(t: &TypeRef, list: &[Argument]) -> Option<FaultKind>
     ensures { result ≡ spec.called_breaks t.now list.now }
 {
-    called_breaks_by(list, t.layers.as_slice())
+    called_breaks_by(list, &t.layers())
 }
 
-fn answer_of(t: &CType) -> Answer
+fn answer_of(t: &TypeRef) -> Answer
     ensures { result ≡ spec.answer_of t.now }
 {
     if is_void(t) {
@@ -161,7 +161,7 @@ fn answer_of(t: &CType) -> Answer
     }
 }
 
-fn call_node(alloc: Global, f: Callee, t: &CType, codes: Items<Expr>) -> Result<Expr, AllocError>
+fn call_node(alloc: Global, f: Callee, t: &TypeRef, codes: Items<Expr>) -> Result<Expr, AllocError>
     ensures { IfOk result (λ e. e ≡ spec.call_node f t.now codes) }
 {
     match f {
@@ -179,7 +179,7 @@ pub fn called(
     alloc: Global,
     line: u32,
     f: Callee,
-    t: CType,
+    t: TypeRef,
     list: Arguments,
 ) -> Result<Operand, Deny>
     ensures { Checks result (spec.called line f t list) }
@@ -274,7 +274,7 @@ pub fn library(
     alloc: Global,
     line: u32,
     number: u32,
-    t: CType,
+    t: TypeRef,
     list: Arguments,
 ) -> Result<Operand, Deny>
     ensures { Checks result (spec.library line number t list) }
@@ -289,7 +289,7 @@ pub fn library(
     }
 }
 
-fn return_breaks(wanted: &CType, v: &Value) -> Option<FaultKind>
+fn return_breaks(wanted: &TypeRef, v: &Value) -> Option<FaultKind>
     ensures { result ≡ spec.return_breaks wanted.now v.now }
 {
     if is_void(&v.ctype) {
@@ -307,7 +307,7 @@ fn return_breaks(wanted: &CType, v: &Value) -> Option<FaultKind>
 
 /// The node of the value that a function of this result returns. Refused: VoidValue, BadReturn or TypeMismatch.
 #[tactic(auto, unfolding(crate::specs::Calls::returned))]
-pub fn returned(alloc: Global, line: u32, wanted: &CType, v: Value) -> Result<Expr, Deny>
+pub fn returned(alloc: Global, line: u32, wanted: &TypeRef, v: Value) -> Result<Expr, Deny>
     ensures { Checks result (spec.returned line wanted.now v) }
 {
     match return_breaks(wanted, &v) {

@@ -9,7 +9,7 @@ use c_nodes::{
     Combined, Operand, Place, Value, built, combine, converted, converted_by, made, scaled,
 };
 use c_shapes::{integer_of, is_void, narrowing, over, width_of};
-use c_types::{CType, Integer, Layer, converts, pointed_size};
+use c_types::{Integer, Layer, TypeRef, converts, pointed_size};
 use icode_ops::BinKind;
 use std::alloc::{AllocError, Global};
 use tick_tree::{BinaryOp, Deny, FaultKind, ModifyOp, StepOp, refused};
@@ -24,7 +24,7 @@ fn is_place(place: &Place) -> bool
     }
 }
 
-fn mismatches(t: &CType, v: &Value) -> bool
+fn mismatches(t: &TypeRef, v: &Value) -> bool
     ensures { result ≡ spec.mismatches t.now v.now }
 {
     !is_void(t) && !is_void(&v.ctype) && !converts(&v.ctype, t, v.zero)
@@ -60,7 +60,7 @@ fn assign_breaks(o: &Operand, v: &Value) -> Option<FaultKind>
     }
 }
 
-fn stored(alloc: Global, place: Place, t: &CType, e: Expr) -> Result<Expr, AllocError>
+fn stored(alloc: Global, place: Place, t: &TypeRef, e: Expr) -> Result<Expr, AllocError>
     ensures { IfOk result (λ found. found ≡ spec.stored place t.now e) }
 {
     match place {
@@ -138,7 +138,7 @@ fn combined_breaks(o: &Operand, by: Combined) -> Option<FaultKind>
 }
 
 /// A word as a value of a type.
-pub(crate) fn narrowed(alloc: Global, t: &CType, e: Expr) -> Result<Expr, AllocError>
+pub(crate) fn narrowed(alloc: Global, t: &TypeRef, e: Expr) -> Result<Expr, AllocError>
     ensures { IfOk result (λ found. found ≡ spec.narrowed t.now e) }
 {
     match integer_of(t) {
@@ -170,7 +170,7 @@ fn changed_register(
     alloc: Global,
     by: Combined,
     i: u32,
-    t: &CType,
+    t: &TypeRef,
     e: Expr,
 ) -> Result<Expr, AllocError>
     ensures { IfOk result (λ found. found ≡ spec.changed_register by i t.now e) }
@@ -191,7 +191,7 @@ fn changed_memory(
     alloc: Global,
     by: Combined,
     address: Expr,
-    t: &CType,
+    t: &TypeRef,
     e: Expr,
 ) -> Result<Expr, AllocError>
     ensures { IfOk result (λ found. found ≡ spec.changed_memory by address t.now e) }
@@ -204,7 +204,7 @@ fn changed(
     alloc: Global,
     by: Combined,
     place: Place,
-    t: &CType,
+    t: &TypeRef,
     e: Expr,
 ) -> Result<Expr, AllocError>
     ensures { IfOk result (λ found. found ≡ spec.changed by place t.now e) }
@@ -245,7 +245,7 @@ pub fn modify(alloc: Global, line: u32, op: ModifyOp, o: Operand, v: Value) -> R
     }
 }
 
-fn step_of(t: &CType) -> Option<u32>
+fn step_of(t: &TypeRef) -> Option<u32>
     ensures { result ≡ spec.step_of t.now }
 {
     match integer_of(t) {
@@ -297,7 +297,7 @@ fn amount(op: StepOp, size: u32) -> u32
     }
 }
 
-fn posted(alloc: Global, place: Place, t: &CType, n: u32) -> Result<Expr, AllocError>
+fn posted(alloc: Global, place: Place, t: &TypeRef, n: u32) -> Result<Expr, AllocError>
     ensures { IfOk result (λ found. found ≡ spec.posted place t.now n) }
 {
     match place {

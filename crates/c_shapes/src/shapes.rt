@@ -5,9 +5,8 @@ ghost use Rattle.c_types.specs.Types as types;
 ghost use Rattle.c_declared.specs.Making as making;
 ghost use Rattle.c_shapes.specs.Shapes as spec;
 
-use c_types::{Base, CType, Integer, Layer, promoted};
+use c_types::{Base, Integer, Layer, Layers, TypeRef, promoted};
 use icode_ops::UnKind;
-use sqlite_items::Items;
 use std::alloc::{AllocError, Global};
 use word32::Width;
 
@@ -20,7 +19,7 @@ fn base_integer(base: Base) -> Option<Integer>
     }
 }
 
-fn integer_parts(base: Base, layers: &[Layer]) -> Option<Integer>
+fn integer_parts(base: Base, layers: &Layers<'_>) -> Option<Integer>
     ensures { result ≡ spec.integer_parts base layers.now }
 {
     if layers.is_empty() {
@@ -31,14 +30,14 @@ fn integer_parts(base: Base, layers: &[Layer]) -> Option<Integer>
 }
 
 /// The integer type that a type is.
-pub fn integer_of(t: &CType) -> Option<Integer>
+pub fn integer_of(t: &TypeRef) -> Option<Integer>
     ensures { result ≡ spec.integer_of t.now }
 {
-    integer_parts(t.base, t.layers.as_slice())
+    integer_parts(t.base(), &t.layers())
 }
 
 /// Whether a type is an integer type.
-pub fn is_integer(t: &CType) -> bool
+pub fn is_integer(t: &TypeRef) -> bool
     ensures { result ≡ spec.is_integer t.now }
 {
     match integer_of(t) {
@@ -47,56 +46,56 @@ pub fn is_integer(t: &CType) -> bool
     }
 }
 
-fn is_void_parts(base: Base, layers: &[Layer]) -> bool
+fn is_void_parts(base: Base, layers: &Layers<'_>) -> bool
     ensures { result ≡ types.is_void base layers.now }
 {
     layers.is_empty() && base == Base::Void
 }
 
 /// Whether a type is void.
-pub fn is_void(t: &CType) -> bool
+pub fn is_void(t: &TypeRef) -> bool
     ensures { result ≡ spec.is_void t.now }
 {
-    is_void_parts(t.base, t.layers.as_slice())
+    is_void_parts(t.base(), &t.layers())
 }
 
-fn is_pointer_parts(layers: &[Layer]) -> bool
+fn is_pointer_parts(layers: &Layers<'_>) -> bool
     ensures { result ≡ types.is_pointer (types.outermost layers.now) }
 {
     matches!(layers.last(), Some(Layer::Pointer))
 }
 
 /// Whether a type is a pointer.
-pub fn is_pointer(t: &CType) -> bool
+pub fn is_pointer(t: &TypeRef) -> bool
     ensures { result ≡ spec.is_pointer t.now }
 {
-    is_pointer_parts(t.layers.as_slice())
+    is_pointer_parts(&t.layers())
 }
 
-fn is_array_parts(layers: &[Layer]) -> bool
+fn is_array_parts(layers: &Layers<'_>) -> bool
     ensures { result ≡ making.is_array layers.now }
 {
     matches!(layers.last(), Some(Layer::Array(_)))
 }
 
-fn is_function_parts(layers: &[Layer]) -> bool
+fn is_function_parts(layers: &Layers<'_>) -> bool
     ensures { result ≡ making.is_function layers.now }
 {
     matches!(layers.last(), Some(Layer::Function(_) | Layer::Unlisted))
 }
 
 /// Whether a type is a function.
-pub fn is_function(t: &CType) -> bool
+pub fn is_function(t: &TypeRef) -> bool
     ensures { result ≡ spec.is_function t.now }
 {
-    is_function_parts(t.layers.as_slice())
+    is_function_parts(&t.layers())
 }
 
 /// Whether a type is an array or a function, so that its value is a pointer.
-pub fn decays(t: &CType) -> bool
+pub fn decays(t: &TypeRef) -> bool
     ensures { result ≡ spec.decays t.now }
 {
-    is_array_parts(t.layers.as_slice()) || is_function_parts(t.layers.as_slice())
+    is_array_parts(&t.layers()) || is_function_parts(&t.layers())
 }
 
 fn is_word_base(base: Base) -> bool
@@ -105,7 +104,7 @@ fn is_word_base(base: Base) -> bool
     matches!(base, Base::Integer(Integer::Int | Integer::Unsigned))
 }
 
-fn is_word_parts(base: Base, layers: &[Layer]) -> bool
+fn is_word_parts(base: Base, layers: &Layers<'_>) -> bool
     ensures { result ≡ making.is_word base layers.now }
 {
     match layers.last() {
@@ -115,106 +114,89 @@ fn is_word_parts(base: Base, layers: &[Layer]) -> bool
 }
 
 /// Whether a type is int, unsigned int or a pointer.
-pub fn is_word(t: &CType) -> bool
+pub fn is_word(t: &TypeRef) -> bool
     ensures { result ≡ spec.is_word t.now }
 {
-    is_word_parts(t.base, t.layers.as_slice())
+    is_word_parts(t.base(), &t.layers())
 }
 
 /// Whether a type is an integer or a pointer.
-pub fn is_scalar(t: &CType) -> bool
+pub fn is_scalar(t: &TypeRef) -> bool
     ensures { result ≡ spec.is_scalar t.now }
 {
     is_integer(t) || is_pointer(t)
 }
 
-fn is_cspec_parts(layers: &[Layer]) -> bool
+fn is_cspec_parts(layers: &Layers<'_>) -> bool
     ensures { result ≡ spec.is_cspec_layer (types.outermost layers.now) }
 {
     matches!(layers.last(), Some(Layer::Cspec))
 }
 
 /// Whether a type is that of a specification.
-pub fn is_cspec(t: &CType) -> bool
+pub fn is_cspec(t: &TypeRef) -> bool
     ensures { result ≡ spec.is_cspec t.now }
 {
-    is_cspec_parts(t.layers.as_slice())
+    is_cspec_parts(&t.layers())
 }
 
-fn is_vspec_parts(layers: &[Layer]) -> bool
+fn is_vspec_parts(layers: &Layers<'_>) -> bool
     ensures { result ≡ spec.is_vspec_layer (types.outermost layers.now) }
 {
     matches!(layers.last(), Some(Layer::Vspec))
 }
 
 /// Whether a type is that of a variable of generated code.
-pub fn is_vspec(t: &CType) -> bool
+pub fn is_vspec(t: &TypeRef) -> bool
     ensures { result ≡ spec.is_vspec t.now }
 {
-    is_vspec_parts(t.layers.as_slice())
-}
-
-// The layers under the outermost one.
-fn under(layers: &[Layer]) -> &[Layer]
-    ensures { result.now ≡ types.under layers.now }
-{
-    &layers[..layers.len().saturating_sub(1)]
+    is_vspec_parts(&t.layers())
 }
 
 /// Whether a type is a pointer to void.
-pub fn points_to_void(t: &CType) -> bool
+pub fn points_to_void(t: &TypeRef) -> bool
     ensures { result ≡ spec.points_to_void t.now }
 {
-    is_pointer(t) && is_void_parts(t.base, under(t.layers.as_slice()))
+    is_pointer(t) && is_void_parts(t.base(), &t.layers().under())
 }
 
 /// Whether a type is a pointer to a function.
-pub fn points_to_function(t: &CType) -> bool
+pub fn points_to_function(t: &TypeRef) -> bool
     ensures { result ≡ spec.points_to_function t.now }
 {
-    is_pointer(t) && is_function_parts(under(t.layers.as_slice()))
+    is_pointer(t) && is_function_parts(&t.layers().under())
 }
 
 /// An integer type.
-pub fn integer(alloc: Global, kind: Integer) -> CType
+pub fn integer(alloc: Global, kind: Integer) -> TypeRef
     ensures { result ≡ spec.integer kind }
 {
-    CType {
-        base: Base::Integer(kind),
-        layers: Items::new(alloc),
-    }
+    TypeRef::new(alloc, Base::Integer(kind))
 }
 
 /// The type void.
-pub fn void(alloc: Global) -> CType
+pub fn void(alloc: Global) -> TypeRef
     ensures { result ≡ spec.void }
 {
-    CType {
-        base: Base::Void,
-        layers: Items::new(alloc),
-    }
+    TypeRef::new(alloc, Base::Void)
 }
 
 /// The type that one more layer makes.
-pub fn over(layer: Layer, t: CType) -> Result<CType, AllocError>
+pub fn over(layer: Layer, t: TypeRef) -> Result<TypeRef, AllocError>
     ensures { IfOk result (λ made. made ≡ spec.over layer t) }
 {
-    let CType { base, mut layers } = t;
-    layers.push(layer)?;
-    Ok(CType { base, layers })
+    t.with(layer)
 }
 
 /// The type under the outermost layer: what a pointer points to, a function answers or a specification has.
-pub fn inner(t: CType) -> CType
+pub fn inner(t: TypeRef) -> TypeRef
     ensures { result ≡ spec.inner t }
 {
-    let CType { base, mut layers } = t;
-    layers.pop();
-    CType { base, layers }
+    t.under()
 }
 
 /// The type after promotion: a narrow integer becomes an int.
-pub fn promoted_type(alloc: Global, t: CType) -> CType
+pub fn promoted_type(alloc: Global, t: TypeRef) -> TypeRef
     ensures { result ≡ spec.promoted t }
 {
     match integer_of(&t) {
@@ -236,7 +218,7 @@ fn integer_width(kind: Integer) -> Width
 }
 
 /// How many bytes a scalar has, and how they become a word.
-pub fn width_of(t: &CType) -> Width
+pub fn width_of(t: &TypeRef) -> Width
     ensures { result ≡ spec.width_of t.now }
 {
     match integer_of(t) {
@@ -286,7 +268,7 @@ fn conversion_by(from: Option<Integer>, to: Integer) -> Option<UnKind>
 }
 
 /// What a conversion does to a word; none where each value of the one type is the same word in the other.
-pub fn conversion(from: &CType, to: &CType) -> Option<UnKind>
+pub fn conversion(from: &TypeRef, to: &TypeRef) -> Option<UnKind>
     ensures { result ≡ spec.conversion from.now to.now }
 {
     match integer_of(to) {

@@ -12,7 +12,7 @@ use c_forms::name_of;
 use c_nodes::{Operand, value_of};
 use c_places::Arguments;
 use c_shapes::{inner, is_function, is_pointer};
-use c_types::CType;
+use c_types::TypeRef;
 use check_state::{Stage, State};
 use std::alloc::{AllocError, Global};
 use tick_tree::{Deny, Expr, Fault, FaultKind, refused};
@@ -22,7 +22,7 @@ pub fn library_of(
     alloc: Global,
     state: &State,
     callee: &Expr,
-) -> Result<Option<(u32, CType)>, AllocError>
+) -> Result<Option<(u32, TypeRef)>, AllocError>
     ensures { IfOk result (λ found. found ≡ rules.library_of (forms.name_of callee.now) state.now) }
 {
     match name_of(callee) {
@@ -40,13 +40,13 @@ pub fn argument(alloc: Global, list: Arguments, o: Operand) -> Result<Arguments,
     list.with(v)
 }
 
-fn called_type(t: CType) -> CType
+fn called_type(t: TypeRef) -> TypeRef
     ensures { result ≡ spec.called_type t }
 {
     if is_pointer(&t) { inner(t) } else { t }
 }
 
-fn answers_specification(alloc: Global, t: &CType) -> Result<bool, AllocError>
+fn answers_specification(alloc: Global, t: &TypeRef) -> Result<bool, AllocError>
     ensures { IfOk result (λ answers. answers ≡ spec.answers_specification t.now) }
 {
     let called = called_type(c_types::copy(alloc, t)?);

@@ -8,7 +8,7 @@ ghost use Rattle.check_expressions.specs.Productions as spec;
 
 use c_nodes::{Operand, Place, Value, made, settled, value_of, values};
 use c_shapes::{is_cspec, is_vspec, over};
-use c_types::{CType, Layer};
+use c_types::{Layer, TypeRef};
 use check_state::{Stage, State};
 use icode_ops::UnKind;
 use std::alloc::{AllocError, Global};
@@ -24,7 +24,7 @@ pub(crate) fn is_tick(stage: Stage) -> bool
     }
 }
 
-pub(crate) fn is_specification(t: &CType) -> bool
+pub(crate) fn is_specification(t: &TypeRef) -> bool
     ensures { result ≡ spec.is_specification t.now }
 {
     is_cspec(t) || is_vspec(t)
@@ -124,7 +124,7 @@ pub fn choice_node(
 
 /// `(T) o`, as `c_nodes::cast`.
 #[tactic(auto, unfolding(crate::specs::Productions::cast_node))]
-pub fn cast_node(alloc: Global, line: u32, t: CType, o: Operand) -> Result<Operand, Deny>
+pub fn cast_node(alloc: Global, line: u32, t: TypeRef, o: Operand) -> Result<Operand, Deny>
     ensures { Checks result (spec.cast_node line t o) }
 {
     let v = value_of(alloc, o)?;

@@ -8,7 +8,7 @@ ghost use Rattle.check_expressions.specs.Rules as rules;
 
 use c_nodes::{Operand, Value, made, specification, value_of};
 use c_shapes::{over, void};
-use c_types::{CType, Layer};
+use c_types::{Layer, TypeRef};
 use check_state::{Around, Stage, State};
 use sqlite_items::Boxed;
 use std::alloc::{AllocError, Global};
@@ -17,7 +17,7 @@ use typed_tree::{Stmt, TickBody};
 
 /// `compile(o, T)`, as `c_nodes::compile`.
 #[tactic(auto, unfolding(crate::specs::Productions::compile_node))]
-pub fn compile_node(alloc: Global, line: u32, t: CType, o: Operand) -> Result<Operand, Deny>
+pub fn compile_node(alloc: Global, line: u32, t: TypeRef, o: Operand) -> Result<Operand, Deny>
     ensures { Checks result (spec.compile_node line t o) }
 {
     let v = value_of(alloc, o)?;
@@ -26,7 +26,7 @@ pub fn compile_node(alloc: Global, line: u32, t: CType, o: Operand) -> Result<Op
 
 /// `param(T, o)`, as `c_nodes::parameter`.
 #[tactic(auto, unfolding(crate::specs::Productions::parameter_node))]
-pub fn parameter_node(alloc: Global, line: u32, t: CType, o: Operand) -> Result<Operand, Deny>
+pub fn parameter_node(alloc: Global, line: u32, t: TypeRef, o: Operand) -> Result<Operand, Deny>
     ensures { Checks result (spec.parameter_node line t o) }
 {
     let v = value_of(alloc, o)?;
@@ -57,7 +57,7 @@ fn tick_left(
     alloc: Global,
     state: &mut State,
     body: TickBody,
-    t: CType,
+    t: TypeRef,
 ) -> Result<Operand, AllocError>
     ensures { Gives result state.new (spec.tick_left body t state.old) }
 {

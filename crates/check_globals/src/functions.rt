@@ -11,7 +11,7 @@ ghost use Rattle.check_tables.specs.Walks.{Reads};
 use crate::names::{Before, declare, known_before};
 use c_forms::declared_name;
 use c_shapes::inner;
-use c_types::{CType, Layer, MeaningKind};
+use c_types::{CType, Layer, MeaningKind, TypeRef, copy_ctype};
 use check_state::State;
 use check_tables::Functions;
 use sqlite_items::{Boxed, Items};
@@ -37,7 +37,7 @@ fn first_function(
     state: &mut State,
     line: u32,
     name: &[u8],
-    t: &CType,
+    t: &TypeRef,
 ) -> Result<(), Deny>
     ensures { Reads (spec.first_function line name.now t.now state.old) result state.new }
 {
@@ -47,7 +47,7 @@ fn first_function(
 }
 
 #[tactic(auto, unfolding(crate::specs::Functions::named))]
-fn named(alloc: Global, state: &mut State, line: u32, name: &[u8], t: &CType) -> Result<(), Deny>
+fn named(alloc: Global, state: &mut State, line: u32, name: &[u8], t: &TypeRef) -> Result<(), Deny>
     ensures { Reads (spec.named line name.now t.now state.old) result state.new }
 {
     match known_before(state, name, t) {
@@ -65,7 +65,7 @@ pub fn name_function(
     state: &mut State,
     line: u32,
     d: &Declarator,
-    t: &CType,
+    t: &TypeRef,
 ) -> Result<(), Deny>
     ensures { Reads (spec.named line (name_by (forms.declared_name d.now)) t.now state.old) result state.new }
 {
@@ -76,7 +76,7 @@ pub fn name_function(
 }
 
 // A parameter without a name.
-fn unnamed(state: &mut State, t: &CType) -> Result<(), AllocError>
+fn unnamed(state: &mut State, t: &TypeRef) -> Result<(), AllocError>
     ensures { OnOk result (state.new ≡ locals.with_parameter t.now state.old) }
 {
     state.frame.parameter(t)
@@ -85,12 +85,10 @@ fn unnamed(state: &mut State, t: &CType) -> Result<(), AllocError>
 fn parameter(alloc: Global, state: &mut State, p: &Parameter, t: &CType) -> Result<(), Deny>
     ensures { Reads (spec.parameter_by (spec.given p.now).0 (spec.given p.now).1 t.now state.old) result state.new }
 {
+    let t = TypeRef::share(alloc, copy_ctype(alloc, t)?)?;
     match declared_name(&p.declarator) {
-        None => Ok(unnamed(state, t)?),
-        Some((_, name)) => {
-            let t = c_types::copy(alloc, t)?;
-            state.parameter(alloc, p.line, name.as_slice(), t)
-        }
+        None => Ok(unnamed(state, &t)?),
+        Some((_, name)) => state.parameter(alloc, p.line, name.as_slice(), t),
     }
 }
 
@@ -112,21 +110,21 @@ fn parameters(
 /// Begins a function of this type, whose parameters are written so: they stand in the scope that is open. Refused where two have one
 /// name: Duplicate.
 #[tactic(auto, unfolding(crate::specs::Functions::begun))]
-pub fn begin(alloc: Global, state: &mut State, t: &CType, list: &[Parameter]) -> Result<(), Deny>
+pub fn begin(alloc: Global, state: &mut State, t: &TypeRef, list: &[Parameter]) -> Result<(), Deny>
     ensures { Reads (spec.begun t.now (map spec.given list.now) state.old) result state.new }
 {
     let answer = inner(c_types::copy(alloc, t)?);
     state.frame.begin(alloc, answer);
-    match t.layers.as_slice().last() {
+    match t.layers().last() {
         Some(Layer::Function(types)) => parameters(alloc, state, types.as_slice(), list),
         _ => Ok(()),
     }
 }
 
-fn count_of(t: &CType) -> u32
+fn count_of(t: &TypeRef) -> u32
     ensures { result ≡ spec.count_of t.now }
 {
-    match t.layers.as_slice().last() {
+    match t.layers().last() {
         Some(Layer::Function(types)) => types.len().min(4294967295) as u32,
         _ => 0,
     }
@@ -155,7 +153,7 @@ fn function(
     state: &State,
     line: u32,
     d: &Declarator,
-    t: &CType,
+    t: &TypeRef,
     body: Boxed<Stmt>,
 ) -> Result<Function, AllocError>
     ensures { IfOk result (λ f. f ≡ spec.function line (forms.declared_name d.now) t.now body state.now) }
@@ -179,7 +177,7 @@ pub fn end(
     state: &mut State,
     line: u32,
     d: &Declarator,
-    t: &CType,
+    t: &TypeRef,
     body: Boxed<Stmt>,
 ) -> Result<(), Deny>
     ensures { Reads (spec.ended line (forms.declared_name d.now) t.now body state.old) result state.new }

@@ -10,7 +10,7 @@ ghost use Rattle.check_tables.specs.Walks.{Reads};
 
 use c_declared::Step;
 use c_forms::declared_name;
-use c_types::{CType, Meaning, MeaningKind, limited_size, same};
+use c_types::{Meaning, MeaningKind, TypeRef, limited_size, same};
 use check_state::State;
 use sqlite_items::Items;
 use std::alloc::Global;
@@ -46,7 +46,7 @@ fn is_function(kind: MeaningKind) -> bool
     matches!(kind, MeaningKind::Function)
 }
 
-fn before_by(is_defined: bool, t: &CType, m: &Meaning) -> Before
+fn before_by(is_defined: bool, t: &TypeRef, m: &Meaning) -> Before
     ensures { result ≡ spec.before_by is_defined t.now (Some m.now) }
 {
     if !is_function(m.kind) || is_defined {
@@ -58,7 +58,7 @@ fn before_by(is_defined: bool, t: &CType, m: &Meaning) -> Before
     }
 }
 
-pub(crate) fn known_before(state: &State, name: &[u8], t: &CType) -> Before
+pub(crate) fn known_before(state: &State, name: &[u8], t: &TypeRef) -> Before
     ensures { result ≡ spec.known_before name.now t.now state.now }
 {
     match state.scopes.find(name) {
@@ -73,7 +73,7 @@ pub(crate) fn declare(
     line: u32,
     name: &[u8],
     kind: MeaningKind,
-    t: &CType,
+    t: &TypeRef,
     index: u32,
 ) -> Result<(), Deny>
     ensures { Reads (names.declare line name.now (locals.meaning kind t.now index) state.old) result state.new }
@@ -97,7 +97,7 @@ fn first_prototype(
     state: &mut State,
     line: u32,
     name: &[u8],
-    t: &CType,
+    t: &TypeRef,
 ) -> Result<(), Deny>
     ensures { Reads (spec.first_prototype line name.now t.now state.old) result state.new }
 {
@@ -112,7 +112,7 @@ fn named_prototype(
     state: &mut State,
     line: u32,
     name: &[u8],
-    t: &CType,
+    t: &TypeRef,
 ) -> Result<(), Deny>
     ensures { Reads (spec.prototype line name.now t.now state.old) result state.new }
 {
@@ -144,7 +144,7 @@ fn first_variable(
     state: &mut State,
     line: u32,
     name: &[u8],
-    t: &CType,
+    t: &TypeRef,
 ) -> Result<u32, Deny>
     ensures { Reads (spec.first_variable line name.now t.now state.old) result state.new }
 {
@@ -167,7 +167,7 @@ fn named_variable(
     state: &mut State,
     line: u32,
     name: &[u8],
-    t: &CType,
+    t: &TypeRef,
 ) -> Result<u32, Deny>
     ensures { Reads (spec.variable line name.now t.now state.old) result state.new }
 {
@@ -185,7 +185,7 @@ pub fn prototype(
     state: &mut State,
     line: u32,
     d: &Declarator,
-    t: &CType,
+    t: &TypeRef,
 ) -> Result<(), Deny>
     ensures { Reads (spec.prototype line (name_by (forms.declared_name d.now)) t.now state.old) result state.new }
 {
@@ -202,7 +202,7 @@ pub fn variable(
     state: &mut State,
     line: u32,
     d: &Declarator,
-    t: &CType,
+    t: &TypeRef,
 ) -> Result<u32, Deny>
     ensures { Reads (spec.variable line (name_by (forms.declared_name d.now)) t.now state.old) result state.new }
 {

@@ -6,7 +6,7 @@ ghost use Rattle.check_globals.specs.Programs as spec;
 ghost use Rattle.check_tables.specs.Images as images;
 ghost use Rattle.tick_tree.specs.Faults.{Checks};
 
-use c_types::{Base, CType, Integer, Layer, Meaning, MeaningKind};
+use c_types::{Base, Integer, Layer, Meaning, MeaningKind, TypeRef};
 use check_state::State;
 use check_tables::Image;
 use sqlite_items::Items;
@@ -20,10 +20,10 @@ pub const BYTES_LIMIT: u32 = 4194304;
 /// The most words that all functions and ticks may be charged.
 pub const CHARGE_LIMIT: u64 = 15728640;
 
-fn takes_none(t: &CType) -> bool
+fn takes_none(t: &TypeRef) -> bool
     ensures { result ≡ spec.takes_none (types.outermost (types.layers_of t.now)) }
 {
-    match t.layers.as_slice().last() {
+    match t.layers().last() {
         Some(Layer::Function(list)) => list.as_slice().is_empty(),
         _ => false,
     }
@@ -35,10 +35,10 @@ fn is_int(base: Base) -> bool
     matches!(base, Base::Integer(Integer::Int))
 }
 
-fn is_main_type(t: &CType) -> bool
+fn is_main_type(t: &TypeRef) -> bool
     ensures { result ≡ spec.is_main_type t.now }
 {
-    t.layers.len() == 1 && takes_none(t) && is_int(t.base)
+    t.layers().len() == 1 && takes_none(t) && is_int(t.base())
 }
 
 fn is_main(is_defined: bool, m: &Meaning) -> bool

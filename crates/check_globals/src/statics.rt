@@ -9,7 +9,7 @@ use c_constants::constant_value;
 use c_forms::has_form;
 use c_nodes::{Operand, Value, value_of};
 use c_shapes::width_of;
-use c_types::{Base, CType, Integer, Layer};
+use c_types::{Base, Integer, Layer, TypeRef};
 use check_state::State;
 use check_statements::{is_array, is_string, lower, value_breaks};
 use sqlite_items::Items;
@@ -39,12 +39,12 @@ fn fill(alloc: Global, state: &mut State, at: u32, bytes: Items<u8>) -> Result<(
     Ok(state.image.fill(alloc, at, bytes)?)
 }
 
-fn is_text_pointer(t: &CType) -> bool
+fn is_text_pointer(t: &TypeRef) -> bool
     ensures { result ≡ spec.is_text_pointer t.now }
 {
-    t.layers.len() == 1
-        && matches!(t.layers.as_slice().last(), Some(Layer::Pointer))
-        && matches!(t.base, Base::Integer(Integer::Char))
+    t.layers().len() == 1
+        && matches!(t.layers().last(), Some(Layer::Pointer))
+        && matches!(t.base(), Base::Integer(Integer::Char))
 }
 
 fn formed(allowed: bool, v: &Value) -> Result<u32, FaultKind>
@@ -59,7 +59,7 @@ fn formed(allowed: bool, v: &Value) -> Result<u32, FaultKind>
     }
 }
 
-fn static_word(has_form: bool, is_string: bool, v: &Value, t: &CType) -> Result<u32, FaultKind>
+fn static_word(has_form: bool, is_string: bool, v: &Value, t: &TypeRef) -> Result<u32, FaultKind>
     ensures { result ≡ spec.static_word has_form is_string v.now t.now }
 {
     match value_breaks(v, t) {
@@ -76,7 +76,7 @@ pub fn static_value(
     state: &mut State,
     line: u32,
     at: u32,
-    t: &CType,
+    t: &TypeRef,
     e: &Expr,
     o: Operand,
 ) -> Result<(), Deny>
@@ -92,16 +92,16 @@ pub fn static_value(
     }
 }
 
-fn elements_of(t: &CType) -> u32
+fn elements_of(t: &TypeRef) -> u32
     ensures { result ≡ spec.elements_of t.now }
 {
-    match t.layers.as_slice().last() {
+    match t.layers().last() {
         Some(Layer::Array(count)) => *count,
         _ => 0,
     }
 }
 
-fn is_too_long(count: usize, t: &CType) -> bool
+fn is_too_long(count: usize, t: &TypeRef) -> bool
     ensures { result ≡ spec.is_too_long count t.now }
 {
     (elements_of(t) as usize) < count
@@ -122,7 +122,7 @@ pub fn static_text(
     state: &mut State,
     line: u32,
     at: u32,
-    t: &CType,
+    t: &TypeRef,
     bytes: &[u8],
 ) -> Result<(), Deny>
     ensures { Reads (spec.static_text line at t.now bytes.now state.old) result state.new }
@@ -145,7 +145,7 @@ pub struct Row {
 
 impl Row {
     /// Before the values, for a variable of this type: no array takes a list but an array.
-    pub fn new(alloc: Global, t: &CType) -> Row
+    pub fn new(alloc: Global, t: &TypeRef) -> Row
         ensures { result ≡ spec.row_begun t.now }
     {
         let broken = if is_array(t) {
@@ -159,7 +159,7 @@ impl Row {
         }
     }
 
-    fn take(self, alloc: Global, t: &CType, n: u32) -> Result<Row, AllocError>
+    fn take(self, alloc: Global, t: &TypeRef, n: u32) -> Result<Row, AllocError>
         ensures { IfOk result (λ row. row ≡ spec.row_by t.now self (Ok n)) }
     {
         let Row { broken, mut bytes } = self;
@@ -170,7 +170,7 @@ impl Row {
 
     /// One value more, by the type of an element; e is its expression.
     #[tactic(auto, unfolding(crate::specs::Statics::row_more))]
-    pub fn more(self, alloc: Global, t: &CType, e: &Expr, o: Operand) -> Result<Row, AllocError>
+    pub fn more(self, alloc: Global, t: &TypeRef, e: &Expr, o: Operand) -> Result<Row, AllocError>
         ensures { IfOk result (λ row. row ≡ spec.row_more t.now (forms.has_form e.now) (is_some (forms.string_of e.now)) o self) }
     {
         let v = value_of(alloc, o)?;
@@ -187,7 +187,7 @@ impl Row {
     }
 }
 
-fn row_breaks(count: usize, t: &CType, row: &Row) -> Option<FaultKind>
+fn row_breaks(count: usize, t: &TypeRef, row: &Row) -> Option<FaultKind>
     ensures { result ≡ spec.row_breaks count t.now row.now }
 {
     if is_too_long(count, t) {
@@ -205,7 +205,7 @@ pub fn static_list(
     state: &mut State,
     line: u32,
     at: u32,
-    t: &CType,
+    t: &TypeRef,
     list: &[Expr],
     row: Row,
 ) -> Result<(), Deny>

@@ -8,13 +8,13 @@ ghost use Rattle.check_tables.specs.Walks.{Reads};
 use crate::names::{operand, place_by};
 use crate::state::{Stage, State};
 use c_nodes::{Operand, Place};
-use c_types::{CType, Meaning, MeaningKind};
+use c_types::{CType, Meaning, MeaningKind, TypeRef, copy_ctype};
 use check_tables::{Frame, Home};
 use std::alloc::{AllocError, Global};
 use tick_tree::Deny;
 
 // What a name of this type means.
-fn meaning(alloc: Global, kind: MeaningKind, t: &CType, n: u32) -> Result<Meaning, AllocError>
+fn meaning(alloc: Global, kind: MeaningKind, t: &TypeRef, n: u32) -> Result<Meaning, AllocError>
     ensures { IfOk result (λ m. m ≡ spec.meaning kind t.now n) }
 {
     Ok(Meaning {
@@ -33,15 +33,16 @@ fn list_meaning(
 ) -> Result<Meaning, AllocError>
     ensures { IfOk result (λ m. m ≡ spec.list_meaning stage t.now frame.now) }
 {
+    let t = TypeRef::share(alloc, copy_ctype(alloc, t)?)?;
     match stage {
         Stage::Function | Stage::Dollar => {
-            meaning(alloc, MeaningKind::Parameter, t, frame.number())
+            meaning(alloc, MeaningKind::Parameter, &t, frame.number())
         }
-        Stage::Tick => meaning(alloc, MeaningKind::Variable, t, frame.inner_number()),
+        Stage::Tick => meaning(alloc, MeaningKind::Variable, &t, frame.inner_number()),
     }
 }
 
-fn next_home(frame: &Frame, t: &CType) -> Home
+fn next_home(frame: &Frame, t: &TypeRef) -> Home
     ensures { result ≡ spec.next_home t.now frame.now }
 {
     if frame.is_object(t) {
@@ -52,7 +53,7 @@ fn next_home(frame: &Frame, t: &CType) -> Home
 }
 
 impl State {
-    fn made_outer(&mut self, t: CType) -> Result<Operand, AllocError>
+    fn made_outer(&mut self, t: TypeRef) -> Result<Operand, AllocError>
         ensures { Gives result self.new (spec.made_outer t self.old) }
     {
         let place = place_by(self.frame.number(), next_home(&self.frame, &t));
@@ -60,7 +61,7 @@ impl State {
         Ok(operand(place, t))
     }
 
-    fn made_inner(&mut self, t: CType) -> Result<Operand, AllocError>
+    fn made_inner(&mut self, t: TypeRef) -> Result<Operand, AllocError>
         ensures { Gives result self.new (spec.made_inner t self.old) }
     {
         let place = Place::Register(self.frame.inner);
@@ -74,7 +75,7 @@ impl State {
         alloc: Global,
         line: u32,
         name: &[u8],
-        t: CType,
+        t: TypeRef,
     ) -> Result<Operand, Deny>
         ensures { Reads (spec.outer_local line name.now t self.old) result self.new }
     {
@@ -89,7 +90,7 @@ impl State {
         alloc: Global,
         line: u32,
         name: &[u8],
-        t: CType,
+        t: TypeRef,
     ) -> Result<Operand, Deny>
         ensures { Reads (spec.inner_local line name.now t self.old) result self.new }
     {
@@ -106,7 +107,7 @@ impl State {
         stage: Stage,
         line: u32,
         name: &[u8],
-        t: CType,
+        t: TypeRef,
     ) -> Result<Operand, Deny>
         ensures { Reads (spec.local stage line name.now t self.old) result self.new }
     {
@@ -118,7 +119,13 @@ impl State {
 
     /// Declares a parameter of the function, which has a name. Refused where an earlier one has the name: Duplicate.
     #[tactic(auto, unfolding(crate::specs::Locals::parameter))]
-    pub fn parameter(&mut self, alloc: Global, line: u32, name: &[u8], t: CType) -> Result<(), Deny>
+    pub fn parameter(
+        &mut self,
+        alloc: Global,
+        line: u32,
+        name: &[u8],
+        t: TypeRef,
+    ) -> Result<(), Deny>
         ensures { Reads (spec.parameter line name.now t self.old) result self.new }
     {
         let what = meaning(alloc, MeaningKind::Parameter, &t, self.frame.number())?;

@@ -10,13 +10,13 @@ ghost use Rattle.check_tables.specs.Walks.{Reads};
 use crate::state::{Stage, State};
 use c_nodes::{Operand, Place, made};
 use c_shapes::{inner, is_cspec, is_void, is_vspec};
-use c_types::{CType, DeclareFault, Meaning, MeaningKind};
+use c_types::{DeclareFault, Meaning, MeaningKind, TypeRef};
 use check_tables::Home;
 use std::alloc::{AllocError, Global};
 use tick_tree::{Deny, FaultKind, refused};
 use typed_tree::{Answer, CaptureKind, CapturedWord, Expr};
 
-pub(crate) fn operand(place: Place, ctype: CType) -> Operand
+pub(crate) fn operand(place: Place, ctype: TypeRef) -> Operand
     ensures { result ≡ spec.operand place ctype }
 {
     Operand {
@@ -53,7 +53,7 @@ fn home_by(home: Option<Home>) -> Home
     }
 }
 
-fn answer_of(t: &CType) -> Answer
+fn answer_of(t: &TypeRef) -> Answer
     ensures { result ≡ spec.answer_of t.now }
 {
     if is_void(t) {
@@ -73,7 +73,7 @@ fn copy_meaning(alloc: Global, m: &Meaning) -> Result<Meaning, AllocError>
     })
 }
 
-fn library_at(alloc: Global, m: &Meaning) -> Result<Option<(u32, CType)>, AllocError>
+fn library_at(alloc: Global, m: &Meaning) -> Result<Option<(u32, TypeRef)>, AllocError>
     ensures { IfOk result (λ found. found ≡ spec.library_at m.now.kind m.now.index m.now.ctype) }
 {
     match m.kind {
@@ -83,7 +83,7 @@ fn library_at(alloc: Global, m: &Meaning) -> Result<Option<(u32, CType)>, AllocE
 }
 
 // What stands at this place.
-fn word_of(alloc: Global, place: Place, t: &CType) -> Result<Expr, AllocError>
+fn word_of(alloc: Global, place: Place, t: &TypeRef) -> Result<Expr, AllocError>
     ensures { IfOk result (λ e. e ≡ nodes.effect (spec.operand place t.now)) }
 {
     c_nodes::effect(alloc, operand(place, c_types::copy(alloc, t)?))
@@ -109,7 +109,7 @@ impl State {
         self.ticks.capture(alloc, kind, code)
     }
 
-    fn splice(&mut self, alloc: Global, t: CType, code: Expr) -> Result<Operand, AllocError>
+    fn splice(&mut self, alloc: Global, t: TypeRef, code: Expr) -> Result<Operand, AllocError>
         ensures { spec.Gives result self.new (spec.splice t code self.old) }
     {
         let t = inner(t);
@@ -118,7 +118,7 @@ impl State {
         Ok(made(Expr::Splice(answer, n), t))
     }
 
-    fn generated(&mut self, alloc: Global, t: CType, code: Expr) -> Result<Operand, AllocError>
+    fn generated(&mut self, alloc: Global, t: TypeRef, code: Expr) -> Result<Operand, AllocError>
         ensures { spec.Gives result self.new (spec.generated t code self.old) }
     {
         let n = self.capture(alloc, CaptureKind::Variable, code)?;
@@ -130,7 +130,7 @@ impl State {
         alloc: Global,
         n: u32,
         home: Home,
-        t: CType,
+        t: TypeRef,
     ) -> Result<Operand, AllocError>
         ensures { spec.Gives result self.new (spec.outer_object n home t self.old) }
     {
@@ -145,7 +145,7 @@ impl State {
         alloc: Global,
         n: u32,
         home: Home,
-        t: CType,
+        t: TypeRef,
     ) -> Result<Operand, AllocError>
         ensures { spec.Gives result self.new (spec.outer_variable n home t self.old) }
     {
@@ -160,7 +160,12 @@ impl State {
         }
     }
 
-    fn outer_global(&mut self, alloc: Global, address: u32, t: CType) -> Result<Operand, AllocError>
+    fn outer_global(
+        &mut self,
+        alloc: Global,
+        address: u32,
+        t: TypeRef,
+    ) -> Result<Operand, AllocError>
         ensures { spec.Gives result self.new (spec.outer_global address t self.old) }
     {
         let place = Place::Memory(Expr::Const(address));
@@ -175,7 +180,7 @@ impl State {
         }
     }
 
-    fn in_tick(&mut self, alloc: Global, n: u32, t: CType) -> Result<Operand, Deny>
+    fn in_tick(&mut self, alloc: Global, n: u32, t: TypeRef) -> Result<Operand, Deny>
         ensures { Reads (spec.in_tick n t (slice_get self.old.frame.homes n) self.old) result self.new }
     {
         match self.home(n) {
@@ -196,7 +201,7 @@ impl State {
         }
     }
 
-    fn under_dollar(&self, line: u32, n: u32, t: CType) -> Result<Operand, Deny>
+    fn under_dollar(&self, line: u32, n: u32, t: TypeRef) -> Result<Operand, Deny>
         ensures { Reads (spec.under_dollar line n t (slice_get self.now.frame.homes n) self.now) result self.now }
     {
         match self.home(n) {
@@ -205,7 +210,7 @@ impl State {
         }
     }
 
-    fn in_function(&self, n: u32, t: CType) -> Operand
+    fn in_function(&self, n: u32, t: TypeRef) -> Operand
         ensures { spec.in_function n t (slice_get self.now.frame.homes n) self.now ≡ Ok (result, self.now) }
     {
         operand(place_by(n, home_by(self.home(n))), t)
@@ -217,7 +222,7 @@ impl State {
         line: u32,
         stage: Stage,
         n: u32,
-        t: CType,
+        t: TypeRef,
     ) -> Result<Operand, Deny>
         ensures { Reads (spec.variable line stage n t self.old) result self.new }
     {
@@ -233,7 +238,7 @@ impl State {
         alloc: Global,
         stage: Stage,
         n: u32,
-        t: CType,
+        t: TypeRef,
     ) -> Result<Operand, Deny>
         ensures { Reads (spec.parameter stage n t self.old) result self.new }
     {
@@ -251,7 +256,7 @@ impl State {
         alloc: Global,
         stage: Stage,
         address: u32,
-        t: CType,
+        t: TypeRef,
     ) -> Result<Operand, AllocError>
         ensures { spec.Gives result self.new (spec.global stage address t self.old) }
     {
@@ -287,7 +292,7 @@ impl State {
 
     /// The library function that a name is, by its number, with its type.
     #[tactic(auto, unfolding(crate::specs::Names::library))]
-    pub fn library(&self, alloc: Global, name: &[u8]) -> Result<Option<(u32, CType)>, AllocError>
+    pub fn library(&self, alloc: Global, name: &[u8]) -> Result<Option<(u32, TypeRef)>, AllocError>
         ensures { IfOk result (λ found. found ≡ spec.library self.now.scopes name.now) }
     {
         match self.scopes.find(name) {

@@ -6,7 +6,7 @@ ghost use Rattle.check_state.specs.Starts as spec;
 ghost use Rattle.check_tables.specs.Walks.{Reads};
 
 use c_shapes::{integer, over, void};
-use c_types::{CType, Integer, Layer, Meaning, MeaningKind, Scopes};
+use c_types::{Base, CType, Integer, Layer, Meaning, MeaningKind, Scopes, TypeRef};
 use check_tables::{Frame, Functions, Image, Labels, Ticks};
 use sqlite_items::Items;
 use std::alloc::{AllocError, Global};
@@ -54,7 +54,7 @@ pub struct State {
 }
 
 // A function of these arguments that answers this.
-fn function(t: CType, list: Items<CType>) -> Result<CType, AllocError>
+fn function(t: TypeRef, list: Items<CType>) -> Result<TypeRef, AllocError>
     ensures { IfOk result (λ made. made ≡ spec.function t list) }
 {
     over(Layer::Function(list), t)
@@ -64,7 +64,10 @@ fn one(alloc: Global, kind: Integer) -> Result<Items<CType>, AllocError>
     ensures { IfOk result (λ list. list ≡ shapes.integer kind ∷ []) }
 {
     let mut list = Items::new(alloc);
-    list.push(integer(alloc, kind))?;
+    list.push(CType {
+        base: Base::Integer(kind),
+        layers: Items::new(alloc),
+    })?;
     Ok(list)
 }
 
@@ -126,7 +129,7 @@ impl State {
     }
 
     #[tactic(auto, unfolding(crate::specs::Starts::add_library))]
-    fn add_library(&mut self, name: &[u8], n: u32, t: CType) -> Result<(), Deny>
+    fn add_library(&mut self, name: &[u8], n: u32, t: TypeRef) -> Result<(), Deny>
         ensures { Reads (spec.add_library name.now n t self.old) result self.new }
     {
         let what = Meaning {

@@ -12,7 +12,7 @@ use c_constants::constant_value;
 use c_declared::{Length, Role, Step, declared_type, fill_length};
 use c_forms::{declared_name, string_of};
 use c_nodes::{Operand, effect};
-use c_types::{Base, CType, Layer};
+use c_types::{Base, CType, Layer, TypeRef};
 use check_state::{Stage, State};
 use sqlite_items::Items;
 use std::alloc::{AllocError, Global};
@@ -127,7 +127,7 @@ fn broken_type(
     base: Base,
     steps: Items<Step>,
     kind: FaultKind,
-) -> Result<CType, Deny>
+) -> Result<TypeRef, Deny>
     ensures { Checks result (spec.lowered line (Some kind) (making.declared_type Role.Local line base steps)) }
 {
     match declared_type(alloc, Role::Local, line, base, steps) {
@@ -137,13 +137,14 @@ fn broken_type(
     }
 }
 
-fn local_type(alloc: Global, line: u32, base: Base, steps: Items<Step>) -> Result<CType, Deny>
+fn local_type(alloc: Global, line: u32, base: Base, steps: Items<Step>) -> Result<TypeRef, Deny>
     ensures { Checks result (making.declared_type Role.Local line base steps) }
 {
-    declared_type(alloc, Role::Local, line, base, steps)
+    let t = declared_type(alloc, Role::Local, line, base, steps)?;
+    Ok(TypeRef::share(alloc, t)?)
 }
 
-fn tick_type(alloc: Global, line: u32, base: Base, steps: Items<Step>) -> Result<CType, Deny>
+fn tick_type(alloc: Global, line: u32, base: Base, steps: Items<Step>) -> Result<TypeRef, Deny>
     ensures { Checks result (spec.lowered line (spec.tick_breaks steps) (making.declared_type Role.Local line base steps)) }
 {
     match tick_breaks(steps.as_slice()) {
@@ -161,7 +162,7 @@ pub fn declared_in(
     line: u32,
     base: Base,
     steps: Items<Step>,
-) -> Result<CType, Deny>
+) -> Result<TypeRef, Deny>
     ensures { Checks result (spec.declared_in stage line base steps) }
 {
     match stage {
@@ -221,7 +222,7 @@ pub fn declare(
     stage: Stage,
     line: u32,
     d: &Declarator,
-    t: CType,
+    t: TypeRef,
 ) -> Result<Operand, Deny>
     ensures { Reads (spec.declare stage line (forms.declared_name d.now) t state.old) result state.new }
 {

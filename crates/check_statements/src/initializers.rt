@@ -9,7 +9,7 @@ ghost use Rattle.check_statements.specs.Initializers as spec;
 use c_forms::string_of;
 use c_nodes::{Operand, Value, value_of};
 use c_shapes::is_void;
-use c_types::{Base, CType, Integer, Layer, converts};
+use c_types::{Base, Integer, Layer, TypeRef, converts};
 use sqlite_items::Items;
 use std::alloc::{AllocError, Global};
 use tick_tree::{self as syntax, Deny, FaultKind, refused};
@@ -23,10 +23,10 @@ pub fn is_string(e: &syntax::Expr) -> bool
 }
 
 /// Whether a type is an array.
-pub fn is_array(t: &CType) -> bool
+pub fn is_array(t: &TypeRef) -> bool
     ensures { result ≡ spec.is_array t.now }
 {
-    matches!(t.layers.as_slice().last(), Some(Layer::Array(_)))
+    matches!(t.layers().last(), Some(Layer::Array(_)))
 }
 
 fn is_char(base: Base) -> bool
@@ -36,10 +36,10 @@ fn is_char(base: Base) -> bool
 }
 
 /// Whether a type is an array of char.
-pub fn is_text(t: &CType) -> bool
+pub fn is_text(t: &TypeRef) -> bool
     ensures { result ≡ spec.is_text t.now }
 {
-    is_array(t) && t.layers.len() == 1 && is_char(t.base)
+    is_array(t) && t.layers().len() == 1 && is_char(t.base())
 }
 
 /// The broken rule of the lower number.
@@ -77,7 +77,7 @@ fn lowest(broken: Option<FaultKind>, kind: FaultKind) -> FaultKind
 }
 
 /// What a value breaks as an initializer of this type: VoidValue alone, or TypeMismatch.
-pub fn value_breaks(v: &Value, t: &CType) -> Option<FaultKind>
+pub fn value_breaks(v: &Value, t: &TypeRef) -> Option<FaultKind>
     ensures { result ≡ spec.value_breaks v.now t.now }
 {
     if is_void(&v.ctype) {
@@ -89,7 +89,7 @@ pub fn value_breaks(v: &Value, t: &CType) -> Option<FaultKind>
     }
 }
 
-fn array_breaks(is_string: bool, v: &Value, t: &CType) -> FaultKind
+fn array_breaks(is_string: bool, v: &Value, t: &TypeRef) -> FaultKind
     ensures { result ≡ spec.array_breaks is_string v.now t.now }
 {
     if is_string && is_text(t) {
@@ -132,7 +132,7 @@ pub fn from_value(
 pub fn element(
     alloc: Global,
     o: Operand,
-    t: &CType,
+    t: &TypeRef,
     broken: Option<FaultKind>,
 ) -> Result<Option<FaultKind>, AllocError>
     ensures { IfOk result (λ found. found ≡ spec.element o t.now broken) }

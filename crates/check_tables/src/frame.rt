@@ -5,7 +5,7 @@ ghost use Rattle.c_declared.specs.Making as making;
 ghost use Rattle.check_tables.specs.Frames as spec;
 
 use c_shapes::width_of;
-use c_types::{CType, Layer, limited_size};
+use c_types::{Layer, Layers, TypeRef, limited_size};
 use sqlite_items::Items;
 use std::alloc::{AllocError, Global};
 use std::mem;
@@ -24,7 +24,7 @@ pub enum Home {
 #[derive(Drop)]
 pub struct Frame {
     /// The type that the function answers.
-    pub result: CType,
+    pub result: TypeRef,
     /// Where its variables stand, by their numbers; the parameters are the first.
     pub homes: Items<Home>,
     /// How many variables the tick has so far in which the walk is.
@@ -64,13 +64,13 @@ fn mark_of(marks: &Items<bool>, n: usize) -> bool
     }
 }
 
-fn is_array(layers: &[Layer]) -> bool
+fn is_array(layers: &Layers<'_>) -> bool
     ensures { result ≡ making.is_array layers.now }
 {
     matches!(layers.last(), Some(Layer::Array(_)))
 }
 
-fn words(t: &CType) -> u32
+fn words(t: &TypeRef) -> u32
     ensures { result ≡ spec.words t.now }
 {
     match limited_size(t) {
@@ -136,10 +136,10 @@ impl Frame {
     }
 
     /// Whether the next variable is a frame object, where it has this type.
-    pub fn is_object(&self, t: &CType) -> bool
+    pub fn is_object(&self, t: &TypeRef) -> bool
         ensures { result ≡ spec.is_object t.now self.now }
     {
-        is_array(t.layers.as_slice()) || self.needs_address()
+        is_array(&t.layers()) || self.needs_address()
     }
 
     fn object_variable(&mut self, words: u32) -> Result<(), AllocError>
@@ -166,7 +166,7 @@ impl Frame {
     /// One variable more of a block of the function: a frame object where it is an array, or where an earlier walk saw that
     /// it needs an address.
     #[tactic(auto, unfolding(crate::specs::Frames::variable))]
-    pub fn variable(&mut self, t: &CType) -> Result<(), AllocError>
+    pub fn variable(&mut self, t: &TypeRef) -> Result<(), AllocError>
         ensures { OnOk result (self.new ≡ spec.variable t.now self.old) }
     {
         if self.is_object(t) {
@@ -176,7 +176,7 @@ impl Frame {
         }
     }
 
-    fn object_parameter(&mut self, t: &CType) -> Result<(), AllocError>
+    fn object_parameter(&mut self, t: &TypeRef) -> Result<(), AllocError>
         ensures { OnOk result (self.new ≡ spec.object_parameter t.now self.old) }
     {
         let n = self.number();
@@ -189,7 +189,7 @@ impl Frame {
         Ok(())
     }
 
-    fn register_parameter(&mut self, t: &CType) -> Result<(), AllocError>
+    fn register_parameter(&mut self, t: &TypeRef) -> Result<(), AllocError>
         ensures { OnOk result (self.new ≡ spec.register_parameter t.now self.old) }
     {
         let n = self.number();
@@ -202,7 +202,7 @@ impl Frame {
 
     /// One parameter more of the function: a frame object where an earlier walk saw that it needs an address.
     #[tactic(auto, unfolding(crate::specs::Frames::parameter))]
-    pub fn parameter(&mut self, t: &CType) -> Result<(), AllocError>
+    pub fn parameter(&mut self, t: &TypeRef) -> Result<(), AllocError>
         ensures { OnOk result (self.new ≡ spec.parameter t.now self.old) }
     {
         if self.needs_address() {
@@ -239,7 +239,7 @@ impl Frame {
     }
 
     /// Enters a function that answers this type.
-    pub fn begin(&mut self, alloc: Global, result_type: CType)
+    pub fn begin(&mut self, alloc: Global, result_type: TypeRef)
         ensures { self.new ≡ spec.began result_type self.old }
     {
         self.result = result_type;

@@ -9,7 +9,7 @@ use crate::types::declarator;
 use c_declared::{Step, base_of};
 use c_nodes::Operand;
 use c_shapes::inner;
-use c_types::CType;
+use c_types::TypeRef;
 use check_state::{Stage, State};
 use check_statements::{
     declare, declared_in, element, from_list, from_value, is_array, is_string, with_list,
@@ -54,7 +54,7 @@ fn elements(
     alloc: Global,
     state: &mut State,
     stage: Stage,
-    t: &CType,
+    t: &TypeRef,
     list: &[Expr],
 ) -> Result<Option<FaultKind>, Deny>
     ensures { Reads (spec.elements (map spec.node list.now) t.now None stage state.old) result state.new }
@@ -116,7 +116,7 @@ fn local_type(
     base: Base,
     d: &Declarator,
     value: &Initializer,
-) -> Result<CType, Deny>
+) -> Result<TypeRef, Deny>
     ensures { Reads (spec.local_type line base stage (spec.shape d.now) (spec.initializer value.now) state.old) result state.new }
 {
     let steps = declarator(alloc, state, stage, d)?;

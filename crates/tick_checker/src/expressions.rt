@@ -11,7 +11,7 @@ use crate::statements::block;
 use crate::types::typename;
 use c_nodes::{Operand, character, number};
 use c_places::Arguments;
-use c_types::CType;
+use c_types::TypeRef;
 use check_expressions::{
     argument, assign_node, binary_node, call_node, cast_node, choice_node, comma_node,
     compile_node, index_node, library_of, modify_node, parameter_node, post_node, staging_entry,
@@ -62,7 +62,7 @@ fn library_call(
     line: u32,
     stage: Stage,
     n: u32,
-    t: CType,
+    t: TypeRef,
     list: &[Expr],
 ) -> Result<Operand, Deny>
     ensures { Reads (rules.library_call line n t (map spec.node list.now) stage state.old) result state.new }

@@ -16,7 +16,7 @@ use crate::types::declarator;
 use c_declared::{Role, base_of, declared_type};
 use c_forms::string_of;
 use c_shapes::{inner, is_function};
-use c_types::CType;
+use c_types::TypeRef;
 use check_globals::{
     Row, end, name_function, named_steps, prototype, static_list, static_text, static_value,
     variable,
@@ -38,17 +38,24 @@ fn global_type(
     base: Base,
     d: &Declarator,
     value: &Initializer,
-) -> Result<CType, Deny>
+) -> Result<TypeRef, Deny>
     ensures { Reads (spec.global_type line base (walks.shape d.now) (walks.initializer value.now) state.old) result state.new }
 {
     let steps = declarator(alloc, state, Stage::Function, d)?;
     let steps = with_start(named_steps(alloc, steps), value);
-    declared_type(alloc, Role::FileScope, line, base_of(base), steps)
+    let t = declared_type(alloc, Role::FileScope, line, base_of(base), steps)?;
+    Ok(TypeRef::share(alloc, t)?)
 }
 
 // The values of a list, by the type of an element.
 #[tactic(auto, using(crate::proofs::Written::forms_of))]
-fn row(alloc: Global, state: &mut State, t: &CType, start: Row, list: &[Expr]) -> Result<Row, Deny>
+fn row(
+    alloc: Global,
+    state: &mut State,
+    t: &TypeRef,
+    start: Row,
+    list: &[Expr],
+) -> Result<Row, Deny>
     ensures { Reads (spec.row (map walks.node list.now) t.now start state.old) result state.new }
 {
     let mut row = start;
@@ -65,7 +72,7 @@ fn listed(
     state: &mut State,
     line: u32,
     at: u32,
-    t: &CType,
+    t: &TypeRef,
     list: &[Expr],
 ) -> Result<(), Deny>
     ensures { Reads (spec.static_list line at t.now (map walks.node list.now) state.old) result state.new }
@@ -81,7 +88,7 @@ fn static_walked(
     state: &mut State,
     line: u32,
     at: u32,
-    t: &CType,
+    t: &TypeRef,
     e: &Expr,
 ) -> Result<(), Deny>
     ensures { Reads (spec.static_walked line at t.now (walks.node e.now) state.old) result state.new }
@@ -96,7 +103,7 @@ fn static_one(
     state: &mut State,
     line: u32,
     at: u32,
-    t: &CType,
+    t: &TypeRef,
     e: &Expr,
 ) -> Result<(), Deny>
     ensures { Reads (spec.static_by line at t.now (walks.node e.now) (walks.node e.now).written.string state.old) result state.new }
@@ -119,7 +126,7 @@ fn static_begin(
     state: &mut State,
     line: u32,
     at: u32,
-    t: &CType,
+    t: &TypeRef,
     value: &Initializer,
 ) -> Result<(), Deny>
     ensures { Reads (spec.static_begin line at t.now (walks.initializer value.now) state.old) result state.new }
@@ -136,7 +143,7 @@ fn begin_variable(
     alloc: Global,
     state: &mut State,
     line: u32,
-    t: &CType,
+    t: &TypeRef,
     d: &Declarator,
     value: &Initializer,
 ) -> Result<(), Deny>
@@ -177,7 +184,7 @@ fn begin_prototype(
     alloc: Global,
     state: &mut State,
     line: u32,
-    t: &CType,
+    t: &TypeRef,
     d: &Declarator,
     value: &Initializer,
 ) -> Result<(), Deny>
@@ -240,17 +247,13 @@ fn function_type(
     line: u32,
     base: Base,
     d: &Declarator,
-) -> Result<CType, Deny>
+) -> Result<TypeRef, Deny>
     ensures { Reads (spec.function_type line base (walks.shape d.now) state.old) result state.new }
 {
     let steps = declarator(alloc, state, Stage::Function, d)?;
-    declared_type(
-        alloc,
-        Role::FileScope,
-        line,
-        base_of(base),
-        named_steps(alloc, steps),
-    )
+    let steps = named_steps(alloc, steps);
+    let t = declared_type(alloc, Role::FileScope, line, base_of(base), steps)?;
+    Ok(TypeRef::share(alloc, t)?)
 }
 
 fn around() -> Around
@@ -267,7 +270,7 @@ fn around() -> Around
 fn begun(
     alloc: Global,
     state: &mut State,
-    t: &CType,
+    t: &TypeRef,
     list: &[Parameter],
     block: &[tick_tree::Stmt],
 ) -> Result<Items<Stmt>, Deny>
@@ -280,7 +283,7 @@ fn begun(
 fn body(
     alloc: Global,
     state: &mut State,
-    t: &CType,
+    t: &TypeRef,
     list: &[Parameter],
     block: &[tick_tree::Stmt],
 ) -> Result<Boxed<Stmt>, Deny>
@@ -298,7 +301,7 @@ fn function_rest(
     alloc: Global,
     state: &mut State,
     line: u32,
-    t: &CType,
+    t: &TypeRef,
     d: &Declarator,
     block: &[tick_tree::Stmt],
 ) -> Result<(), Deny>

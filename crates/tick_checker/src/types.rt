@@ -8,7 +8,7 @@ ghost use Rattle.tick_checker.specs.Walk as spec;
 use crate::expressions::expression;
 use c_declared::{Length, Role, Step, base_of, declared_type, push_prefixes};
 use c_forms::has_form;
-use c_types::CType;
+use c_types::{CType, TypeRef};
 use check_state::{Stage, State};
 use check_statements::{declare_parameter, length_of};
 use sqlite_items::Items;
@@ -24,11 +24,12 @@ pub fn typename(
     line: u32,
     stage: Stage,
     t: &Typename,
-) -> Result<CType, Deny>
+) -> Result<TypeRef, Deny>
     ensures { Reads ((spec.named t.now).walk line stage state.old) result state.new }
 {
     let steps = declarator(alloc, state, stage, &t.declarator)?;
-    declared_type(alloc, Role::Typename, line, base_of(t.base), steps)
+    let named = declared_type(alloc, Role::Typename, line, base_of(t.base), steps)?;
+    Ok(TypeRef::share(alloc, named)?)
 }
 
 /// The steps from a base to the type that a declarator declares.
