@@ -3,13 +3,12 @@
 ghost use Rattle.std.specs.Prelude.{◌≡◌, IfOk, slice_get};
 ghost use Rattle.tick_tree.specs.Faults.{Checks};
 ghost use Rattle.c_places.specs.Calls as spec;
-ghost use Rattle.c_types.specs.declared.ctype.Layer.{out-Layer};
 ghost use Rattle.c_types.specs.Types as types;
 
 use crate::places::narrowed;
 use c_nodes::{Operand, Place, Value, converted, made, value_of};
 use c_shapes::{inner, is_pointer, is_void};
-use c_types::{CType, Layer, Layers, TypeRef, converts, converts_to};
+use c_types::{Layer, Layers, Parameter, Parameters, TypeRef, converts, converts_to};
 use sqlite_items::Items;
 use std::alloc::{AllocError, Global};
 use tick_tree::{Deny, FaultKind, refused};
@@ -68,18 +67,26 @@ impl Arguments {
     }
 }
 
-fn mismatches(a: &Argument, t: &CType) -> bool
+fn mismatches(a: &Argument, t: &Parameter<'_>) -> bool
     ensures { result ≡ spec.mismatches a.now t.now }
 {
     !is_void(&a.ctype) && !converts_to(&a.ctype, t, a.zero)
 }
 
-fn any_mismatches(list: &[Argument], types: &[CType]) -> bool
+fn any_mismatches(list: &[Argument], types: &Parameters<'_>) -> bool
     ensures { result ≡ spec.any_mismatches list.now types.now }
 {
-    list.iter()
-        .zip(types)
-        .any(|(argument, t)| mismatches(argument, t))
+    for i in 0..list.len() {
+        match types.get(i) {
+            Some(t) => {
+                if mismatches(&list[i], &t) {
+                    return true;
+                }
+            }
+            None => return false,
+        }
+    }
+    false
 }
 
 fn any_void(list: &[Argument]) -> bool
@@ -98,7 +105,7 @@ fn void_or_none(list: &[Argument]) -> Option<FaultKind>
     }
 }
 
-fn listed_breaks(list: &[Argument], types: &[CType]) -> Option<FaultKind>
+fn listed_breaks(list: &[Argument], types: &Parameters<'_>) -> Option<FaultKind>
     ensures { result ≡ spec.listed_breaks list.now types.now }
 {
     if list.len() != types.len() {
@@ -124,24 +131,13 @@ fn unlisted_breaks(list: &[Argument]) -> Option<FaultKind>
     }
 }
 
-fn called_breaks_at(list: &[Argument], layer: &Layer) -> Option<FaultKind>
-    ensures { result ≡ spec.called_breaks_at list.now (out-Layer layer.now) }
-{
-    match layer {
-        Layer::Function(types) => listed_breaks(list, types.as_slice()),
-        Layer::Unlisted => unlisted_breaks(list),
-        Layer::Pointer | Layer::Array(_) | Layer::Cspec | Layer::Vspec => {
-            Some(FaultKind::NotFunction)
-        }
-    }
-}
-
 fn called_breaks_by(list: &[Argument], layers: &Layers<'_>) -> Option<FaultKind>
     ensures { result ≡ spec.called_breaks_by list.now (types.outermost layers.now) }
 {
     match layers.last() {
-        None => Some(FaultKind::NotFunction),
-        Some(layer) => called_breaks_at(list, layer),
+        Some(Layer::Function(_)) => listed_breaks(list, &layers.parameters()),
+        Some(Layer::Unlisted) => unlisted_breaks(list),
+        _ => Some(FaultKind::NotFunction),
     }
 }
 
@@ -214,18 +210,31 @@ fn static_number(place: &Place) -> Option<u32>
     }
 }
 
-/// `o(..)`, with o as it is. Refused as [`called`], and NotFunction where o is neither a function nor a pointer to one.
-#[tactic(auto, unfolding(crate::specs::Calls::call))]
-pub fn call(alloc: Global, line: u32, o: Operand, list: Arguments) -> Result<Operand, Deny>
-    ensures { Checks result (spec.call line o list) }
+fn call_by(
+    alloc: Global,
+    line: u32,
+    o: Operand,
+    list: Arguments,
+    number: Option<u32>,
+) -> Result<Operand, Deny>
+    ensures { Checks result (spec.call_by line o list number) }
 {
-    match static_number(&o.place) {
+    match number {
         Some(f) => called(alloc, line, Callee::Static(f), o.ctype, list),
         None => {
             let v = value_of(alloc, o)?;
             through(alloc, line, v, list)
         }
     }
+}
+
+/// `o(..)`, with o as it is. Refused as [`called`], and NotFunction where o is neither a function nor a pointer to one.
+#[tactic(auto, unfolding(crate::specs::Calls::call))]
+pub fn call(alloc: Global, line: u32, o: Operand, list: Arguments) -> Result<Operand, Deny>
+    ensures { Checks result (spec.call line o list) }
+{
+    let number = static_number(&o.place);
+    call_by(alloc, line, o, list, number)
 }
 
 fn library_kind(number: u32) -> Option<Library>

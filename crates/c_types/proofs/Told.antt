@@ -1,13 +1,14 @@
 -- The tags of layers tell which are the same.
-use Rattle.std.proofs.Common.{◌≡◌, ℕ, zero, suc, ◌+◌, ◌<◌, ◌≤◌, Bool, true, false, ◌&&◌, List, [], ◌∷◌, ◌++◌, length, take, drop, get_or, nat_eq, refl, sym, ap, ◌∙◌, arith, add-one, not, Some, None}
+use Rattle.std.proofs.Common.{◌≡◌, ℕ, zero, suc, ◌+◌, ◌-◌, ◌<◌, inr, ◌≤◌, Bool, true, false, ◌&&◌, List, [], ◌∷◌, ◌++◌, length, take, drop, get_or, nat_eq, refl, sym, ap, ◌∙◌, arith, add-one, not, Some, None}
 use lib.Pointwise.{pointwise}
 use Rattle.std.specs.Prelude.{◌==◌, min, slice_get}
-use Rattle.std.proofs.lemmas.List.{take-take, take-map, take-append-le, length-take-le, length-append, drop_all}
+use Rattle.std.proofs.lemmas.List.{take-take, take-map, take-append-le, length-take-le, length-append, length-map, take_all, drop_all, nil_from_length, append-nil}
+use Rattle.c_types.specs.declared.ctype.CType.{CType}
 use Rattle.c_types.specs.declared.ctype.Layer.{Layer, out-Layer}
 use Rattle.c_types.specs.declared.ctype.Layer.TheOpen.{Layer-F}
-use Rattle.c_types.specs.Types.{Opened, same_layer, same_layers}
-use Rattle.c_types.specs.Tags.{tag, tag_at, tags, array_tag, AllTold}
-use Rattle.c_types.specs.Shared.{AreTagged}
+use Rattle.c_types.specs.Types.{Opened, layers_of, outermost, same_layer, same_layers}
+use Rattle.c_types.specs.Tags.{tag, tag_at, tags, tags_in, tags_of_list, tags_of_lists, array_tag, AllTold, AreTold}
+use Rattle.c_types.specs.Shared.{AreTagged, AreLent, AreTypes, TagsOf}
 use Rattle.c_types.proofs.SameLaws.{opened_same, by_layer}
 
 -- ---- told layers
@@ -47,6 +48,73 @@ cut row marks told n k j h marked below within few fewer_told =
       fewer = omega (arith, long, few);
       all = rw (take-take j k marks few, ← take-take j told marks fewer_told) (fewer (take told marks) j h.all);
     }
+
+lists_cut : (row : List Layer) (lists : List (List (List ℕ))) (n k : ℕ) → lists ≡ tags_of_lists (take (length lists) row) → k ≡ min (length lists) n → n ≤ length row → take k lists ≡ tags_of_lists (take (length (take k lists)) (take n row))
+lists_cut row lists n k h e within =
+    let long : length (take k lists) ≡ k = length-take-le k lists (omega (arith, e)) in
+    ap (take k) h
+    ∙ take-map tags_in k (take (length lists) row)
+    ∙ ap tags_of_lists (take-take k (length lists) row (omega (arith, e)) ∙ sym (take-take k n row (omega (arith, e))) ∙ ap (λ m. take m (take n row)) (sym long))
+
+pub cut_lent : (row : List Layer) (marks : List ℕ) (told : ℕ) (lists : List (List (List ℕ))) (n k j m : ℕ) → AreLent row marks told lists → k ≤ length marks → k ≤ n → n ≤ length row → j ≤ k → j ≤ told → m ≡ min (length lists) n → AreLent (take n row) (take k marks) j (take m lists)
+cut_lent row marks told lists n k j m h marked below within few fewer_told e = record {
+  tagged = cut row marks told n k j h.tagged marked below within few fewer_told;
+  listed = lists_cut row lists n m h.listed e within;
+}
+
+-- all the tags of all the layers
+pub all_tagged : (row : List Layer) (marks : List ℕ) (told : ℕ) → marks ≡ tags row → AreTold marks told → AreTagged row marks told
+all_tagged row marks told h are =
+    let long : length marks ≡ length row = ap length h ∙ length-map row tag in
+    record {
+      within = omega (arith, long);
+      are = h ∙ ap tags (sym (take_all (length marks) row (omega (arith, long))));
+      fewer = are.fewer;
+      all = are.all;
+    }
+
+pub all_lent : (row : List Layer) (marks : List ℕ) (told : ℕ) (lists : List (List (List ℕ))) → marks ≡ tags row → AreTold marks told → lists ≡ tags_of_lists row → AreLent row marks told lists
+all_lent row marks told lists h are listed =
+    let long : length lists ≡ length row = ap length listed ∙ length-map row tags_in in
+    record {
+      tagged = all_tagged row marks told h are;
+      listed = listed ∙ ap tags_of_lists (sym (take_all (length lists) row (omega (arith, long))));
+    }
+
+same_type : (x y : CType) → Some x ≡ Some y → x ≡ y
+same_type x y h = cc
+
+no_type : (x : CType) → None ≡ Some x → ⊥
+no_type x h = cc
+
+same_tags : (x y : List ℕ) → Some x ≡ Some y → x ≡ y
+same_tags x y h = cc
+
+no_tags : (x : List ℕ) → None ≡ Some x → ⊥
+no_tags x h = cc
+
+tags_at : (types : List CType) (n i : ℕ) (t : CType) (marks : List ℕ) → slice_get types i ≡ Some t → slice_get (tags_of_list (take n types)) i ≡ Some marks → marks ≡ tags (layers_of t)
+tags_at types zero i t marks h e = absurd (no_tags marks e)
+tags_at [] (suc n) i t marks h e = absurd (no_type t h)
+tags_at (x ∷ types) (suc n) zero t marks h e = sym (same_tags (tags (layers_of x)) marks e) ∙ ap (λ t. tags (layers_of t)) (same_type x t h)
+tags_at (x ∷ types) (suc n) (suc i) t marks h e = tags_at types n i t marks h e
+
+-- the tags of the type at one place of a list
+pub type_tagged : (types : List CType) (lists : List (List ℕ)) (i : ℕ) (t : CType) (marks : List ℕ) (told : ℕ) → AreTypes types lists → slice_get types i ≡ Some t → slice_get lists i ≡ Some marks → AreTold marks told → AreTagged (layers_of t) marks told
+type_tagged types lists i t marks told h read found are =
+    all_tagged (layers_of t) marks told (tags_at types (length lists) i t marks read (ap (λ l. slice_get l i) (sym h) ∙ found)) are
+
+list_at_place : (row : List Layer) (k : ℕ) (ts : List (List ℕ)) → k < length row → ts ≡ get_or (tags_of_lists row) k ts → TagsOf (slice_get row k) ts
+list_at_place [] k ts h e = absurd (omega (arith, h))
+list_at_place (x ∷ row) zero ts h e = inr e
+list_at_place (x ∷ row) (suc k) ts h e = list_at_place row k ts (omega (arith, h)) e
+
+-- the tags of the outermost layer's list
+pub last_list : (row more : List Layer) (lists : List (List (List ℕ))) (ts : List (List ℕ)) → length more ≡ 0 → 0 < length row → length lists ≡ length row → lists ≡ tags_of_lists (take (length lists) row) → ts ≡ get_or lists (length row - 1) ts → TagsOf (outermost (row ++ more)) ts
+last_list row more lists ts none some long listed read =
+    let all : lists ≡ tags_of_lists row = listed ∙ ap tags_of_lists (take_all (length lists) row (omega (arith, long))) in
+    let alone : row ++ more ≡ row = ap (λ m. row ++ m) (nil_from_length more none) ∙ append-nil row in
+    rw alone (list_at_place row (length row - 1) ts (omega (arith, some)) (read ∙ ap (λ l. get_or l (length row - 1) ts) all))
 
 -- ---- the same layers
 

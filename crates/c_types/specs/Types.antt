@@ -205,6 +205,15 @@ abbrev pub is_listed : Option Layer → Bool
 is_listed None = false
 is_listed (Some l) = is_listed_at (out-Layer l)
 
+-- the types of a function's arguments
+abbrev pub list_at : Opened → List CType
+list_at (Layer-F.Function list) = list
+list_at _ = []
+
+abbrev pub list_of : Option Layer → List CType
+list_of None = []
+list_of (Some l) = list_at (out-Layer l)
+
 -- the types of these bases under these layers are the same
 abbrev pub same_parts : Base → List Layer → Base → List Layer → Bool
 same_parts a as_ b bs = same_base a b && same_layers as_ bs

@@ -5,6 +5,7 @@ ghost use Rattle.c_types.specs.Types as spec;
 
 use crate::ctype::{Base, CType, Integer, Layer};
 use crate::layers::{Layers, same_shared};
+use crate::parameters::Parameter;
 use crate::shared::TypeRef;
 
 /// The type after promotion: a narrow integer becomes an int.
@@ -184,16 +185,10 @@ pub fn converts(from: &TypeRef, to: &TypeRef, zero: bool) -> bool
     converts_parts(from.base(), &from.layers(), to.base(), &to.layers(), zero)
 }
 
-/// Whether a value converts to a type of a list of parameters.
+/// Whether a value converts to the type of a parameter.
 #[tactic(auto, unfolding(crate::specs::Types::converts))]
-pub fn converts_to(from: &TypeRef, to: &CType, zero: bool) -> bool
+pub fn converts_to(from: &TypeRef, to: &Parameter<'_>, zero: bool) -> bool
     ensures { result ≡ spec.converts from.now to.now zero }
 {
-    converts_parts(
-        from.base(),
-        &from.layers(),
-        to.base,
-        &Layers::plain(to.layers.as_slice()),
-        zero,
-    )
+    converts_parts(from.base(), &from.layers(), to.base(), &to.layers(), zero)
 }

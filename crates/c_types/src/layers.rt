@@ -3,27 +3,31 @@
 ghost use Rattle.std.specs.Prelude.{◌≡◌, ◌<◌, ◌++◌, ◌==◌, length, slice_get, Some};
 ghost use Rattle.std.specs.Option.{option_copied};
 ghost use Rattle.c_types.specs.Types as types;
-ghost use Rattle.c_types.specs.Shared.{AreTagged};
+ghost use Rattle.c_types.specs.Shared.{AreLent, TagsOf};
 
 use crate::conversions::same_layer;
 use crate::ctype::Layer;
+use crate::parameters::Parameters;
+use crate::tags::Tags;
+use sqlite_items::Items;
 use std::marker::Model;
 
 /// The layers of a type, the outermost last: first those that a row keeps, with the tags of as many of the first as have any,
-/// and then those on top.
+/// and those of the types of their lists, and then those on top.
 #[derive(Drop)]
 pub struct Layers<'a> {
     row: &'a [Layer],
     tags: &'a [u8],
     // How many of the first are told by their tags alone.
     told: usize,
+    lists: &'a [Items<Tags>],
     more: &'a [Layer],
 }
 
 impl<'a> Model for Layers<'a> {
     ghost use Rattle.std.specs.Prelude.{List, ◌++◌};
     ghost use Rattle.c_types.specs.declared.ctype.Layer.{Layer};
-    ghost use Rattle.c_types.specs.Shared.{AreTagged};
+    ghost use Rattle.c_types.specs.Shared.{AreLent};
     ghost use Rattle.c_types.specs.contracts.ctype.Layer as inner;
     ghost use Rattle.std.specs.Coded.{codes};
 
@@ -33,7 +37,7 @@ impl<'a> Model for Layers<'a> {
 
     ghost view = { λ l. l.row.now ++ l.more.now };
 
-    ghost invariant = { λ l. AreTagged l.row.now l.tags.now l.told };
+    ghost invariant = { λ l. AreLent l.row.now l.tags.now l.told l.lists.now };
 }
 
 impl<'a> Layers<'a> {
@@ -42,15 +46,17 @@ impl<'a> Layers<'a> {
         row: &'a [Layer],
         tags: &'a [u8],
         told: usize,
+        lists: &'a [Items<Tags>],
         more: &'a [Layer],
     ) -> Layers<'a>
-        requires { AreTagged row.now tags.now told }
+        requires { AreLent row.now tags.now told lists.now }
         ensures { result ≡ row.now ++ more.now }
     {
         Layers {
             row,
             tags,
             told,
+            lists,
             more,
         }
     }
@@ -63,6 +69,7 @@ impl<'a> Layers<'a> {
             row: &[],
             tags: &[],
             told: 0,
+            lists: &[],
             more: layers,
         }
     }
@@ -104,6 +111,29 @@ impl<'a> Layers<'a> {
         }
     }
 
+    // The tags of the types of the outermost layer's list, where they are kept.
+    fn last_tags(&self) -> &'a [Tags]
+        ensures { TagsOf (types.outermost self.now) result.now }
+    {
+        let below = self.row.len();
+        let on_top = self.more.len();
+        if on_top == 0 && below > 0 && self.lists.len() == below {
+            self.lists[below - 1].as_slice()
+        } else {
+            &[]
+        }
+    }
+
+    /// The types of the parameters of the function that this is; none where it is none.
+    pub fn parameters(&self) -> Parameters<'a>
+        ensures { result ≡ types.list_of (types.outermost self.now) }
+    {
+        match self.last() {
+            Some(Layer::Function(list)) => { Parameters::tagged(list.as_slice(), self.last_tags()) }
+            _ => Parameters::tagged(&[], &[]),
+        }
+    }
+
     /// The layers under the outermost one.
     pub fn under(&self) -> Layers<'a>
         ensures { result ≡ types.under self.now }
@@ -114,6 +144,7 @@ impl<'a> Layers<'a> {
                 row: self.row,
                 tags: self.tags,
                 told: self.told,
+                lists: self.lists,
                 more: &self.more[..on_top - 1],
             };
         }
@@ -123,6 +154,7 @@ impl<'a> Layers<'a> {
             row: &self.row[..below],
             tags: &self.tags[..tagged],
             told: self.told.min(tagged),
+            lists: &self.lists[..self.lists.len().min(below)],
             more: self.more,
         }
     }

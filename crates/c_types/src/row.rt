@@ -7,19 +7,20 @@ ghost use Rattle.c_types.specs.Extents as sizes;
 use crate::ctype::{Base, CType, Layer};
 use crate::extents::{Extent, extents, start};
 use crate::layers::Layers;
-use crate::tags::{tags_of, told_in};
+use crate::tags::{Tags, tags_of_lists};
 use sqlite_items::Items;
 use std::alloc::{AllocError, Global};
 use std::marker::Model;
 use std::rc::Rc;
 
-/// The layers over a base, with a tag and an extent for each.
+/// The layers over a base, with a tag and an extent for each, and the tags of the types of its list.
 #[derive(Drop)]
 pub(crate) struct Row {
     base: Base,
     layers: Items<Layer>,
-    tags: Items<u8>,
-    told: usize,
+    tags: Tags,
+    // Those of the types of each layer's list.
+    lists: Items<Items<Tags>>,
     // That of the base, and that over each layer.
     extents: Items<Extent>,
 }
@@ -36,7 +37,7 @@ impl Model for Row {
 
     ghost view = { λ r. ctype r.base r.layers };
 
-    ghost invariant = { λ r. IsRow r.base r.layers r.tags r.told r.extents };
+    ghost invariant = { λ r. IsRow r.base r.layers r.tags r.lists r.extents };
 }
 
 impl Row {
@@ -44,14 +45,14 @@ impl Row {
         ensures { IfOk result (λ r. r ≡ t) }
     {
         let CType { base, layers } = t;
-        let tags = tags_of(alloc, layers.as_slice())?;
-        let told = told_in(tags.as_slice());
+        let tags = Tags::new(alloc, layers.as_slice())?;
+        let lists = tags_of_lists(alloc, layers.as_slice())?;
         let extents = extents(alloc, start(base), layers.as_slice())?;
         Ok(Row {
             base,
             layers,
             tags,
-            told,
+            lists,
             extents,
         })
     }
@@ -79,9 +80,13 @@ impl Row {
         requires { len ≤ length (types.layers_of self.now) }
         ensures { result ≡ take len (types.layers_of self.now) ++ more.now }
     {
-        let layers = &self.layers.as_slice()[..len];
-        let tags = &self.tags.as_slice()[..len];
-        Layers::tagged(layers, tags, self.told.min(len), more)
+        Layers::tagged(
+            &self.layers.as_slice()[..len],
+            &self.tags.bytes()[..len],
+            self.tags.told().min(len),
+            &self.lists.as_slice()[..len],
+            more,
+        )
     }
 }
 

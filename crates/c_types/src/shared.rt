@@ -240,10 +240,31 @@ mod tests {
             .with(Layer::Array(301));
         let longer = longer.expect(&rt, "memory");
         assert!(rt; !same(&t, &longer) && limited_size(&longer) == Some(1204));
-        let other = arrays(alloc, 6, 300);
-        let other = other.expect(&rt, "memory");
-        assert!(rt; !converts_to(&t, &other, false));
+        let other = arrays(alloc, 6, 300).expect(&rt, "memory");
         let other = TypeRef::share(alloc, other).expect(&rt, "memory");
         assert!(rt; !same(&t, &other) && !converts(&element, &other.under(), false));
+    }
+
+    #[test]
+    fn parameters(rt: HostRuntime) {
+        let alloc = rt.alloc();
+        let mut list = Items::new(alloc);
+        assert!(rt;
+            list.push(arrays(alloc, 5, 300).expect(&rt, "memory"))
+                .is_ok()
+        );
+        let function = CType::new(alloc, Base::Void).with(Layer::Function(list));
+        let function = TypeRef::share(alloc, function.expect(&rt, "memory"));
+        let function = function.expect(&rt, "memory");
+        let layers = function.layers();
+        let parameters = layers.parameters();
+        let first = parameters.get(0).expect(&rt, "a parameter");
+        assert!(rt; parameters.len() == 1 && first.layers().len() == 3);
+        let like = arrays(alloc, 5, 300).expect(&rt, "memory");
+        let like = TypeRef::share(alloc, like).expect(&rt, "memory");
+        let unlike = arrays(alloc, 5, 301).expect(&rt, "memory");
+        let unlike = TypeRef::share(alloc, unlike).expect(&rt, "memory");
+        assert!(rt; converts_to(&like, &first, false));
+        assert!(rt; !converts_to(&unlike, &first, false));
     }
 }
