@@ -2,14 +2,9 @@
 use Rattle.std.proofs.Common.{◌≡◌, ℕ, zero, suc, ◌+◌, ◌<◌, false, ◌||◌, List, [], ◌∷◌, length, drop, get_or, Some, None, refl, sym, ap, ◌∙◌, add-one, arith}
 use Rattle.std.specs.Prelude.{slice_get}
 use Rattle.c_types.specs.declared.ctype.CType.{CType}
+use Rattle.c_types.proofs.Coded.{same_type, no_type}
 use Rattle.c_places.specs.declared.calls.Argument.{Argument}
 use Rattle.c_places.specs.Calls.{mismatches, any_mismatches}
-
-same_type : (x y : CType) → Some x ≡ Some y → x ≡ y
-same_type x y h = cc
-
-no_type : (x : CType) → None ≡ Some x → ⊥
-no_type x h = cc
 
 next : (as_ : List Argument) (ts : List CType) (i : ℕ) (a : Argument) (t : CType) → i < length as_ → a ≡ get_or as_ i a → slice_get ts i ≡ Some t → any_mismatches (drop i as_) (drop i ts) ≡ (mismatches a t || any_mismatches (drop (suc i) as_) (drop (suc i) ts))
 next [] ts i a t h read found = absurd (omega (arith, h))

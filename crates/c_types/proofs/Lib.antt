@@ -1,5 +1,7 @@
+pub mod CodeLaws
 pub mod ExtentLaws
 pub mod Lookups
 pub mod SameLaws
 pub mod Stack
-pub mod Told
+pub mod Coded
+pub mod SameCodes

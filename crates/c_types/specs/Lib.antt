@@ -1,5 +1,5 @@
 pub mod Types
-pub mod Tags
+pub mod Codes
 pub mod Extents
 pub mod Shared
 pub mod Scopes

@@ -1,4 +1,4 @@
--- What the parts of a shared type say: a row of layers with their tags and extents, of which a type has the first so many, and
+-- What the parts of a shared type say: a row of layers with their code and extents, of which a type has the first so many, and
 -- its own layers on top.
 use Rattle.std.specs.Prelude.{ℕ, ◌≡◌, ◌≤◌, ◌⊎◌, List, [], ◌++◌, length, take, Option, Some, None}
 use Rattle.c_types.specs.declared.ctype.Base.{Base}
@@ -6,39 +6,38 @@ use Rattle.c_types.specs.declared.ctype.Layer.{Layer}
 use Rattle.c_types.specs.declared.ctype.CType.{CType}
 use Rattle.c_types.specs.declared.extents.Extent.{Extent}
 use Rattle.c_types.specs.Types.{base_of, layers_of}
-use Rattle.c_types.specs.Tags.{tags, tags_of_list, tags_in, tags_of_lists, AllTold}
+use Rattle.c_types.specs.declared.code.Code.{Code}
+use Rattle.c_types.specs.Codes as Codes
+use Rattle.c_types.specs.Codes.{codes, code_of, codes_in, codes_of_list, codes_of_lists}
 use Rattle.c_types.specs.Extents.{start, extents}
 
--- the first layers have these tags, and as many of them as `told` are told by their tags alone
-abbrev pub AreTagged : List Layer → List ℕ → ℕ → Type 0
-AreTagged row marks told = record {
-  within : length marks ≤ length row;
-  are : marks ≡ tags (take (length marks) row);
-  fewer : told ≤ length marks;
-  all : AllTold (take told marks);
+-- the layers have this code, which ends there for each, and the types of the lists of the first of them have these
+abbrev pub AreLent : List Layer → List ℕ → List ℕ → List (List Code) → Type 0
+AreLent row bytes ends lists = record {
+  coded : bytes ≡ codes row;
+  ended : ends ≡ Codes.ends 0 row;
+  listed : lists ≡ codes_of_lists (take (length lists) row);
 }
 
--- the first layers have these tags, and the types of their lists have these
-abbrev pub AreLent : List Layer → List ℕ → ℕ → List (List (List ℕ)) → Type 0
-AreLent row marks told lists = record {
-  tagged : AreTagged row marks told;
-  listed : lists ≡ tags_of_lists (take (length lists) row);
-}
+-- the first types of a list have these codes
+abbrev pub AreTypes : List CType → List Code → Type 0
+AreTypes types lists = lists ≡ codes_of_list (take (length lists) types)
 
--- the first types of a list have these tags
-abbrev pub AreTypes : List CType → List (List ℕ) → Type 0
-AreTypes types lists = lists ≡ tags_of_list (take (length lists) types)
+-- no code, or that of these layers
+abbrev pub IsCodeOf : List Layer → Option Code → Type 0
+IsCodeOf ls None = Unit {0}
+IsCodeOf ls (Some code) = code ≡ code_of ls
 
--- no tags, or those of the types of a layer's list
-abbrev pub TagsOf : Option Layer → List (List ℕ) → Type 0
-TagsOf None lists = lists ≡ []
-TagsOf (Some l) lists = (lists ≡ []) ⊎ (lists ≡ tags_in l)
+-- no codes, or those of the types of a layer's list
+abbrev pub CodesOf : Option Layer → List Code → Type 0
+CodesOf None lists = lists ≡ []
+CodesOf (Some l) lists = (lists ≡ []) ⊎ (lists ≡ codes_in l)
 
--- each layer has its tag, and the types of its list have theirs, and it has the extent under it
-abbrev pub IsRow : Base → List Layer → List ℕ → List (List (List ℕ)) → List Extent → Type 0
-IsRow b row marks lists sizes = record {
-  tagged : marks ≡ tags row;
-  listed : lists ≡ tags_of_lists row;
+-- the layers have this code, and the types of their lists have these, and each has the extent under it
+abbrev pub IsRow : Base → List Layer → Code → List (List Code) → List Extent → Type 0
+IsRow b row code lists sizes = record {
+  coded : code ≡ code_of row;
+  listed : lists ≡ codes_of_lists row;
   counted : sizes ≡ extents (start b) row;
 }
 

@@ -3,24 +3,25 @@
 ghost use Rattle.std.specs.Prelude.{◌≡◌, ◌<◌, ◌++◌, ◌==◌, length, slice_get, Some};
 ghost use Rattle.std.specs.Option.{option_copied};
 ghost use Rattle.c_types.specs.Types as types;
-ghost use Rattle.c_types.specs.Shared.{AreLent, TagsOf};
+ghost use Rattle.c_types.specs.Shared.{AreLent, CodesOf};
 
+use crate::code::{Code, first};
 use crate::conversions::same_layer;
 use crate::ctype::Layer;
 use crate::parameters::Parameters;
-use crate::tags::Tags;
 use sqlite_items::Items;
 use std::marker::Model;
 
-/// The layers of a type, the outermost last: first those that a row keeps, with the tags of as many of the first as have any,
-/// and those of the types of their lists, and then those on top.
+/// The layers of a type, the outermost last: first those that have a code, with the codes of the types of their lists, and then
+/// those on top.
 #[derive(Drop)]
 pub struct Layers<'a> {
     row: &'a [Layer],
-    tags: &'a [u8],
-    // How many of the first are told by their tags alone.
-    told: usize,
-    lists: &'a [Items<Tags>],
+    code: &'a [u8],
+    // Where the code of each of them ends.
+    ends: &'a [usize],
+    // The codes of the types of the lists of the first of them.
+    lists: &'a [Items<Code>],
     more: &'a [Layer],
 }
 
@@ -37,38 +38,38 @@ impl<'a> Model for Layers<'a> {
 
     ghost view = { λ l. l.row.now ++ l.more.now };
 
-    ghost invariant = { λ l. AreLent l.row.now l.tags.now l.told l.lists.now };
+    ghost invariant = { λ l. AreLent l.row.now l.code.now l.ends.now l.lists.now };
 }
 
 impl<'a> Layers<'a> {
-    /// Layers with their tags.
-    pub(crate) fn tagged(
+    /// Layers with their code, and more on top.
+    pub(crate) fn coded(
         row: &'a [Layer],
-        tags: &'a [u8],
-        told: usize,
-        lists: &'a [Items<Tags>],
+        code: &'a [u8],
+        ends: &'a [usize],
+        lists: &'a [Items<Code>],
         more: &'a [Layer],
     ) -> Layers<'a>
-        requires { AreLent row.now tags.now told lists.now }
+        requires { AreLent row.now code.now ends.now lists.now }
         ensures { result ≡ row.now ++ more.now }
     {
         Layers {
             row,
-            tags,
-            told,
+            code,
+            ends,
             lists,
             more,
         }
     }
 
-    /// Layers without tags.
-    pub fn plain(layers: &'a [Layer]) -> Layers<'a>
+    /// Layers without a code.
+    pub(crate) fn plain(layers: &'a [Layer]) -> Layers<'a>
         ensures { result ≡ layers.now }
     {
         Layers {
             row: &[],
-            tags: &[],
-            told: 0,
+            code: &[],
+            ends: &[],
             lists: &[],
             more: layers,
         }
@@ -111,9 +112,9 @@ impl<'a> Layers<'a> {
         }
     }
 
-    // The tags of the types of the outermost layer's list, where they are kept.
-    fn last_tags(&self) -> &'a [Tags]
-        ensures { TagsOf (types.outermost self.now) result.now }
+    // The codes of the types of the outermost layer's list, where they are kept.
+    fn last_codes(&self) -> &'a [Code]
+        ensures { CodesOf (types.outermost self.now) result.now }
     {
         let below = self.row.len();
         let on_top = self.more.len();
@@ -129,8 +130,8 @@ impl<'a> Layers<'a> {
         ensures { result ≡ types.list_of (types.outermost self.now) }
     {
         match self.last() {
-            Some(Layer::Function(list)) => { Parameters::tagged(list.as_slice(), self.last_tags()) }
-            _ => Parameters::tagged(&[], &[]),
+            Some(Layer::Function(list)) => { Parameters::coded(list.as_slice(), self.last_codes()) }
+            _ => Parameters::coded(&[], &[]),
         }
     }
 
@@ -142,25 +143,24 @@ impl<'a> Layers<'a> {
         if on_top > 0 {
             return Layers {
                 row: self.row,
-                tags: self.tags,
-                told: self.told,
+                code: self.code,
+                ends: self.ends,
                 lists: self.lists,
                 more: &self.more[..on_top - 1],
             };
         }
         let below = self.row.len().saturating_sub(1);
-        let tagged = self.tags.len().min(below);
         Layers {
             row: &self.row[..below],
-            tags: &self.tags[..tagged],
-            told: self.told.min(tagged),
+            code: first(self.code, self.ends, below),
+            ends: &self.ends[..below],
             lists: &self.lists[..self.lists.len().min(below)],
             more: self.more,
         }
     }
 }
 
-/// Whether the layers are the same: as many as their tags tell by these, and the others one by one.
+/// Whether the layers are the same: by their codes as far as both have any, and the others one by one.
 #[tactic(auto, using(crate::proofs::SameLaws::other_layers))]
 pub(crate) fn same_shared(a: &Layers<'_>, b: &Layers<'_>) -> bool
     ensures { result ≡ types.same_layers a.now b.now }
@@ -168,11 +168,11 @@ pub(crate) fn same_shared(a: &Layers<'_>, b: &Layers<'_>) -> bool
     if a.len() != b.len() {
         return false;
     }
-    let told = a.told.min(b.tags.len());
-    if a.tags[..told] != b.tags[..told] {
+    let both = a.row.len().min(b.row.len());
+    if first(a.code, a.ends, both) != first(b.code, b.ends, both) {
         return false;
     }
-    for place in told..a.len() {
+    for place in both..a.len() {
         if !same_layer(a.at(place), b.at(place)) {
             return false;
         }

@@ -1,6 +1,7 @@
 //! Types: their sizes, their conversions, and the scopes in which names have them.
 #![tactic(auto)]
 
+mod code;
 mod conversions;
 mod copies;
 mod ctype;
@@ -11,7 +12,6 @@ mod parameters;
 mod row;
 mod shared;
 mod sizes;
-mod tags;
 
 pub use conversions::{common, converts, converts_to, promoted, same, same_ctypes};
 pub use copies::copy_ctype;

@@ -4,16 +4,16 @@ ghost use Rattle.std.specs.Prelude.{◌≡◌, length, slice_get};
 ghost use Rattle.c_types.specs.Types as types;
 ghost use Rattle.c_types.specs.Shared.{AreTypes};
 
+use crate::code::Code;
 use crate::ctype::{Base, CType};
 use crate::layers::Layers;
-use crate::tags::Tags;
 use std::marker::Model;
 
-/// The types of a function's parameters, with the tags of as many of the first as have any.
+/// The types of a function's parameters, with the codes of as many of the first as have any.
 #[derive(Drop)]
 pub struct Parameters<'a> {
     types: &'a [CType],
-    tags: &'a [Tags],
+    type_codes: &'a [Code],
 }
 
 impl<'a> Model for Parameters<'a> {
@@ -29,16 +29,16 @@ impl<'a> Model for Parameters<'a> {
 
     ghost view = { λ p. p.types.now };
 
-    ghost invariant = { λ p. AreTypes p.types.now p.tags.now };
+    ghost invariant = { λ p. AreTypes p.types.now p.type_codes.now };
 }
 
 impl<'a> Parameters<'a> {
-    /// Types with their tags.
-    pub(crate) fn tagged(types: &'a [CType], tags: &'a [Tags]) -> Parameters<'a>
-        requires { AreTypes types.now tags.now }
+    /// Types with their codes.
+    pub(crate) fn coded(types: &'a [CType], type_codes: &'a [Code]) -> Parameters<'a>
+        requires { AreTypes types.now type_codes.now }
         ensures { result ≡ types.now }
     {
-        Parameters { types, tags }
+        Parameters { types, type_codes }
     }
 
     /// How many there are.
@@ -53,33 +53,23 @@ impl<'a> Parameters<'a> {
         ensures { result ≡ slice_get self.now place }
     {
         let ctype = self.types.get(place)?;
-        Some(match self.tags.get(place) {
-            Some(tags) => Parameter {
-                ctype,
-                tags: tags.bytes(),
-                told: tags.told(),
-            },
-            None => Parameter {
-                ctype,
-                tags: &[],
-                told: 0,
-            },
-        })
+        let code = self.type_codes.get(place);
+        Some(Parameter { ctype, code })
     }
 }
 
-/// The type of a parameter, with its tags.
+/// The type of a parameter, with its code.
 #[derive(Drop)]
 pub struct Parameter<'a> {
     ctype: &'a CType,
-    tags: &'a [u8],
-    told: usize,
+    code: Option<&'a Code>,
 }
 
 impl<'a> Model for Parameter<'a> {
     ghost use Rattle.c_types.specs.declared.ctype.CType.{CType};
+    ghost use Rattle.std.specs.Option.{option_copied};
     ghost use Rattle.c_types.specs.Types.{layers_of};
-    ghost use Rattle.c_types.specs.Shared.{AreTagged};
+    ghost use Rattle.c_types.specs.Shared.{IsCodeOf};
     ghost use Rattle.c_types.specs.contracts.ctype.CType as inner;
 
     ghost Value = { CType };
@@ -88,7 +78,7 @@ impl<'a> Model for Parameter<'a> {
 
     ghost view = { λ p. p.ctype.now };
 
-    ghost invariant = { λ p. AreTagged (layers_of p.ctype.now) p.tags.now p.told };
+    ghost invariant = { λ p. IsCodeOf (layers_of p.ctype.now) (option_copied p.code) };
 }
 
 impl<'a> Parameter<'a> {
@@ -103,6 +93,18 @@ impl<'a> Parameter<'a> {
     pub fn layers(&self) -> Layers<'a>
         ensures { result ≡ types.layers_of self.now }
     {
-        Layers::tagged(self.ctype.layers.as_slice(), self.tags, self.told, &[], &[])
+        let layers = self.ctype.layers.as_slice();
+        match self.code {
+            Some(code) => {
+                Layers::coded(
+                    layers,
+                    code.bytes.as_slice(),
+                    code.ends.as_slice(),
+                    &[],
+                    &[],
+                )
+            }
+            None => Layers::plain(layers),
+        }
     }
 }

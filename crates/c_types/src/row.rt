@@ -4,24 +4,24 @@ ghost use Rattle.std.specs.Prelude.{◌≡◌, ◌≤◌, ◌++◌, length, take
 ghost use Rattle.c_types.specs.Types as types;
 ghost use Rattle.c_types.specs.Extents as sizes;
 
+use crate::code::{Code, codes_of_lists, first};
 use crate::ctype::{Base, CType, Layer};
 use crate::extents::{Extent, extents, start};
 use crate::layers::Layers;
-use crate::tags::{Tags, tags_of_lists};
 use sqlite_items::Items;
 use std::alloc::{AllocError, Global};
 use std::marker::Model;
 use std::rc::Rc;
 
-/// The layers over a base, with a tag and an extent for each, and the tags of the types of its list.
+/// The layers over a base, with their code, the extent over each, and the codes of the types of each one's list.
 #[derive(Drop)]
 pub(crate) struct Row {
     base: Base,
     layers: Items<Layer>,
-    tags: Tags,
-    // Those of the types of each layer's list.
-    lists: Items<Items<Tags>>,
-    // That of the base, and that over each layer.
+    code: Code,
+    // The codes of the types of each layer's list.
+    lists: Items<Items<Code>>,
+    // The extent of the base, and that over each layer.
     extents: Items<Extent>,
 }
 
@@ -37,7 +37,7 @@ impl Model for Row {
 
     ghost view = { λ r. ctype r.base r.layers };
 
-    ghost invariant = { λ r. IsRow r.base r.layers r.tags r.lists r.extents };
+    ghost invariant = { λ r. IsRow r.base r.layers r.code r.lists r.extents };
 }
 
 impl Row {
@@ -45,23 +45,16 @@ impl Row {
         ensures { IfOk result (λ r. r ≡ t) }
     {
         let CType { base, layers } = t;
-        let tags = Tags::new(alloc, layers.as_slice())?;
-        let lists = tags_of_lists(alloc, layers.as_slice())?;
+        let code = Code::new(alloc, layers.as_slice())?;
+        let lists = codes_of_lists(alloc, layers.as_slice())?;
         let extents = extents(alloc, start(base), layers.as_slice())?;
         Ok(Row {
             base,
             layers,
-            tags,
+            code,
             lists,
             extents,
         })
-    }
-
-    /// How many layers there are.
-    pub(crate) fn len(&self) -> usize
-        ensures { result ≡ length (types.layers_of self.now) }
-    {
-        self.layers.len()
     }
 
     /// The extent over the first `len` layers.
@@ -80,10 +73,11 @@ impl Row {
         requires { len ≤ length (types.layers_of self.now) }
         ensures { result ≡ take len (types.layers_of self.now) ++ more.now }
     {
-        Layers::tagged(
+        let ends = self.code.ends.as_slice();
+        Layers::coded(
             &self.layers.as_slice()[..len],
-            &self.tags.bytes()[..len],
-            self.tags.told().min(len),
+            first(self.code.bytes.as_slice(), ends, len),
+            &ends[..len],
             &self.lists.as_slice()[..len],
             more,
         )

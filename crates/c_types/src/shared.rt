@@ -15,8 +15,8 @@ use sqlite_items::Items;
 use std::alloc::{AllocError, Global};
 use std::marker::Model;
 
-/// A type whose copies share its layers: to copy it, to put a layer on it and to take one off costs the same however many
-/// layers it has.
+/// A type whose copies share its row of layers: to copy it, to put a layer on it and to take one off costs the same however many
+/// layers its row has.
 pub struct TypeRef {
     base: Base,
     row: Option<SharedRow>,
@@ -266,5 +266,30 @@ mod tests {
         let unlike = TypeRef::share(alloc, unlike).expect(&rt, "memory");
         assert!(rt; converts_to(&like, &first, false));
         assert!(rt; !converts_to(&unlike, &first, false));
+    }
+
+    // A function that takes a function that takes an array of so many, and an int.
+    fn nested(alloc: Global, count: u32) -> Result<TypeRef, AllocError> {
+        let mut inner = Items::new(alloc);
+        inner.push(arrays(alloc, count, 2)?)?;
+        let mut list = Items::new(alloc);
+        list.push(CType::new(alloc, Base::Void).with(Layer::Function(inner))?)?;
+        list.push(CType::new(alloc, Base::Integer(Integer::Int)))?;
+        TypeRef::share(
+            alloc,
+            CType::new(alloc, Base::Void).with(Layer::Function(list))?,
+        )
+    }
+
+    #[test]
+    fn lists_in_lists(rt: HostRuntime) {
+        let alloc = rt.alloc();
+        let t = nested(alloc, 70000).expect(&rt, "memory");
+        let like = nested(alloc, 70000).expect(&rt, "memory");
+        let unlike = nested(alloc, 4464).expect(&rt, "memory");
+        assert!(rt; same(&t, &like) && !same(&t, &unlike));
+        let pointer = copy(alloc, &t).expect(&rt, "memory").with(Layer::Pointer);
+        let pointer = pointer.expect(&rt, "memory");
+        assert!(rt; !same(&t, &pointer) && same(&pointer.under(), &like));
     }
 }
