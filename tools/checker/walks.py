@@ -61,6 +61,17 @@ def known_of(parts):
     return "tt" if not known else known[0] if len(known) == 1 else f"({', '.join(known)})"
 
 
+# The names of variables in the patterns of the lemmas, where they are others than in the definitions.
+IN_LEMMAS = {"line": "n", "op": "o", "unsigned": "u", "name": "text"}
+
+
+def in_lemma(pattern, parts):
+    """A pattern and its parts as the lemmas write them; a record is `y` there."""
+    if re.fullmatch(r"[a-z]", pattern):
+        return "y", [(asked, "y" + name[1:], is_list) for asked, name, is_list in parts]
+    return re.sub(r"(?<= )[a-z]+\b", lambda it: IN_LEMMAS.get(it[0], it[0]), pattern), parts
+
+
 text = """-- What each rule of the walk keeps holds of the walk over each tree: an induction over the syntax tree, once for all that is asked. Written by
 -- tools/checker/walks.py.
 use Rattle.std.proofs.Common.{◌≡◌, ℕ, List, [], ◌∷◌, map, refl, ap, sym, ◌∙◌, subst, Option}
@@ -94,7 +105,8 @@ each f P (y ∷ ys) = (y.1, each f P ys)
 for t in TYPES:
     l=LAW_OF[t]
     text+=f"parts_{l} : (q : Asked) (y : {t}-K q) → Every{t} q (walked{t} (first{t} q y))\n"
-    for pattern, parts in productions(t):
+    for production in productions(t):
+        pattern, parts = in_lemma(*production)
         text+=f"parts_{l} q {pattern} = {known_of(parts)}\n"
     text+="\n"
 text+="-- ---- a layer, of which this is given\n\n"
