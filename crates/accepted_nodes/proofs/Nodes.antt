@@ -1,5 +1,5 @@
 -- Where the parts of a node stand right, the node does; one law a node.
-use Rattle.std.proofs.Common.{◌≡◌, ℕ, Bool, true, false, ◌&&◌, if◌then◌else◌, refl, ap, ◌∙◌, List, [], ◌∷◌, map, Option, Some, None}
+use Rattle.std.proofs.Common.{◌≡◌, ℕ, Bool, true, false, if◌then◌else◌, refl, ap, ◌∙◌, List, [], ◌∷◌, map, Option, Some, None}
 use Rattle.word32.specs.declared.width.Width.{Width}
 use Rattle.icode_ops.specs.declared.kind.BinKind.{BinKind}
 use Rattle.icode_ops.specs.declared.kind.UnKind.{UnKind}
@@ -12,13 +12,11 @@ use Rattle.typed_tree.specs.declared.expression.Expr.TheVariants as ex
 use Rattle.c_nodes.specs.Operands.{by}
 use Rattle.accepted_trees.specs.Places.{Around, Part, part, in_scope, in_function, captured, is_variable, is_called, each_stands}
 use Rattle.accepted_trees.proofs.Equations.{part_const, part_var, part_setvar, part_postvar, part_vget, part_vset, part_vpost, part_load, part_store, part_modify, part_post, part_bin, part_un, part_and, part_or, part_cond, part_comma, part_void, part_call, part_callnumber, part_getchar, part_lib, part_compile, part_local, part_paramof}
+use Rattle.accepted_trees.proofs.Bools.{and_true}
 use Rattle.accepted_nodes.specs.Right.{Stands, Unless, EachStands}
 
 along : (a : Around) (p q : Part) → p ≡ q → q.stands a ≡ true → p.stands a ≡ true
 along a p q e h = ap (λ (r : Part). r.stands a) e ∙ h
-
-pub and_true : (b c : Bool) → b ≡ true → c ≡ true → (b && c) ≡ true
-and_true b c p q = ap (λ (x : Bool). x && c) p ∙ q
 
 pub const_stands : (a : Around) (n : ℕ) → Stands a (ex.Const n)
 const_stands a n = along a _ _ (part_const n) refl

@@ -1,5 +1,5 @@
 -- What is so where a rule isn't broken.
-use Rattle.std.proofs.Common.{◌≡◌, ℕ, Bool, true, false, not, ◌&&◌, ◌||◌, if◌then◌else◌, refl, Option, Some, None}
+use Rattle.std.proofs.Common.{◌≡◌, ℕ, Bool, true, false, not, ◌&&◌, if◌then◌else◌, refl, Option, Some, None}
 use Rattle.c_shapes.specs.Shapes.{is_void}
 use Rattle.tick_tree.specs.declared.fault.FaultKind.{FaultKind}
 use Rattle.tick_tree.specs.declared.fault.FaultKind.TheVariants as fault
@@ -46,22 +46,6 @@ pub value_left : (v : Value) (k : Option FaultKind) → IsUsedValue v → unless
 value_left v k u h = left_of v.ctype v.code u (not_void v k h)
 
 -- ---- tests
-
-pub first_false : (b c : Bool) → (b || c) ≡ false → b ≡ false
-first_false true c h = h
-first_false false c h = refl
-
-pub second_false : (b c : Bool) → (b || c) ≡ false → c ≡ false
-second_false true c h = cc
-second_false false c h = h
-
-pub first_true : (b c : Bool) → (b && c) ≡ true → b ≡ true
-first_true true c h = refl
-first_true false c h = h
-
-pub second_true : (b c : Bool) → (b && c) ≡ true → c ≡ true
-second_true true c h = h
-second_true false c h = cc
 
 pub but_not : (b c : Bool) → (b && not (b && c)) ≡ true → c ≡ false
 but_not true true h = cc

@@ -22,9 +22,10 @@ use Rattle.c_places.specs.declared.calls.Callee.{Callee}
 use Rattle.c_places.specs.declared.calls.Callee.TheVariants as callee
 use Rattle.c_places.specs.Places.{narrowing_of, narrowed}
 use Rattle.c_places.specs.Calls.{with_argument, any_mismatches, any_void, called_breaks_at, called_breaks_by, called_breaks, call_node, called, through, static_number, call_by, call, library_kind, library_node, library, returned, tick_returned}
+use Rattle.accepted_trees.proofs.Bools.{first_false, second_false}
 use Rattle.accepted_values.specs.Used.{Leaves, EachLeaves, UsedAs, IsUsedValue, IsUsed, EachUsedAs, AreUsed, library_answers, takes_one_at, takes_one_by, IsLibrary, Unless}
 use Rattle.accepted_values.specs.Laws.{CallsUse}
-use Rattle.accepted_values.proofs.Broken.{unless_by, unless_if, no_fault, no_other, is_so, no_first, first_false, second_false}
+use Rattle.accepted_values.proofs.Broken.{unless_by, unless_if, no_fault, no_other, is_so, no_first}
 use Rattle.accepted_values.proofs.Nodes.{as_used, left_of, getchar_left, call_used, call_number_used, library_used}
 use Rattle.accepted_values.proofs.Operands.{value_used, converted_by_left, converted_left}
 use Rattle.accepted_values.proofs.Types.{integer_not_void, pointer_not_void}

@@ -9,7 +9,7 @@ use Rattle.c_nodes.specs.declared.operators.Combined.{Combined}
 use Rattle.c_nodes.specs.declared.operators.Combined.TheVariants as by_form
 use Rattle.c_nodes.specs.Operators.{combine, combine_by, comparing, comparable, is_comparison, is_sum, is_difference, scaled_left, divided}
 use Rattle.c_places.specs.Places.{comes_back}
-use Rattle.accepted_values.proofs.Broken.{first_true, second_true}
+use Rattle.accepted_trees.proofs.Bools.{first_true, second_true}
 use Rattle.accepted_values.proofs.Types.{integer_not_void, pointer_not_void}
 
 -- the operator's value converts to no type of a place

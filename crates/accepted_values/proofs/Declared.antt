@@ -37,7 +37,7 @@ outermost_last ls l =
     let here : length ls < length (ls ++ l ∷ []) = omega (arith, length-append ls (l ∷ [])) in
     ap (slice_get (ls ++ l ∷ [])) (end_at ls l) ∙ slice_get-get_or (ls ++ l ∷ []) (length ls) l here ∙ ap Some (get_or-append_seam ls l [] l)
 
-under_last : (ls : List Layer) (l : Layer) → under (ls ++ l ∷ []) ≡ ls
+pub under_last : (ls : List Layer) (l : Layer) → under (ls ++ l ∷ []) ≡ ls
 under_last ls l = ap (λ (n : ℕ). take n (ls ++ l ∷ [])) (end_at ls l) ∙ take-append_seam ls (l ∷ [])
 
 -- ---- rules that a declaration doesn't break
@@ -46,12 +46,12 @@ one_is_broken : (p : Bool) (a b : FaultKind) → (if p then Some b else Some a) 
 one_is_broken true a b h = cc
 one_is_broken false a b h = h
 
-first_none : (a b : Option FaultKind) → lower a b ≡ None → a ≡ None
+pub first_none : (a b : Option FaultKind) → lower a b ≡ None → a ≡ None
 first_none None b h = refl
 first_none (Some a) None h = h
 first_none (Some a) (Some b) h = one_is_broken (nat_lt (number b) (number a)) a b h
 
-second_none : (a b : Option FaultKind) → lower a b ≡ None → b ≡ None
+pub second_none : (a b : Option FaultKind) → lower a b ≡ None → b ≡ None
 second_none None b h = h
 second_none (Some a) None h = refl
 second_none (Some a) (Some b) h = let e = one_is_broken (nat_lt (number b) (number a)) a b h in cc
@@ -60,7 +60,7 @@ answered : (line : ℕ) (t u : CType) (k : Option FaultKind) → answer line t k
 answered line t u None h = cc
 answered line t u (Some k) h = cc
 
-unbroken : (line : ℕ) (t u : CType) (k : Option FaultKind) → answer line t k ≡ Ok u → k ≡ None
+pub unbroken : (line : ℕ) (t u : CType) (k : Option FaultKind) → answer line t k ≡ Ok u → k ≡ None
 unbroken line t u None h = refl
 unbroken line t u (Some k) h = cc
 

@@ -1,5 +1,5 @@
 -- Where the parts of a node are used right, the node leaves its value; one law a node.
-use Rattle.std.proofs.Common.{◌≡◌, ℕ, Bool, true, false, not, ◌&&◌, if◌then◌else◌, refl, ap, sym, ◌∙◌, List, [], ◌∷◌, ◌++◌, map}
+use Rattle.std.proofs.Common.{◌≡◌, ℕ, Bool, true, false, not, if◌then◌else◌, refl, ap, sym, ◌∙◌, List, [], ◌∷◌, ◌++◌, map}
 use Rattle.word32.specs.declared.width.Width.{Width}
 use Rattle.icode_ops.specs.declared.kind.BinKind.{BinKind}
 use Rattle.icode_ops.specs.declared.kind.UnKind.{UnKind}
@@ -15,30 +15,20 @@ use Rattle.typed_tree.specs.Sizes.{is_value, answers}
 use Rattle.c_places.specs.Calls.{answer_of}
 use Rattle.accepted_trees.specs.Values.{Use, used, all_used, same, value_use, is_right}
 use Rattle.accepted_trees.proofs.Uses.{value_use_const, value_use_captured, value_use_var, value_use_setvar, value_use_postvar, value_use_vget, value_use_vset, value_use_vpost, value_use_frame, value_use_load, value_use_store, value_use_modify, value_use_post, value_use_bin, value_use_un, value_use_and, value_use_or, value_use_cond, value_use_comma, value_use_void, value_use_call, value_use_callnumber, value_use_getchar, value_use_lib, value_use_tick, value_use_capture, value_use_splice, value_use_compile, value_use_local, value_use_paramof}
+use Rattle.accepted_trees.proofs.Bools.{and_true, first_true, second_true}
 use Rattle.accepted_values.specs.Used.{Leaves, EachLeaves, UsedAs}
 use Rattle.accepted_values.specs.Laws.{NodesUse}
 
 along : (u w : Use) → u ≡ w → used w ≡ true → used u ≡ true
 along u w e h = ap used e ∙ h
 
-pub and_true : (b c : Bool) → b ≡ true → c ≡ true → (b && c) ≡ true
-and_true b c p q = ap (λ (x : Bool). x && c) p ∙ q
-
-and_left : (b c : Bool) → (b && c) ≡ true → b ≡ true
-and_left true c h = refl
-and_left false c h = h
-
-and_right : (b c : Bool) → (b && c) ≡ true → c ≡ true
-and_right true c h = h
-and_right false c h = cc
-
 -- ---- an expression of a type, and one that leaves a value
 
 pub right_of : (e : Expr) → Leaves e → is_right e ≡ true
-right_of e h = and_right (value_use e).value (value_use e).right h
+right_of e h = second_true (value_use e).value (value_use e).right h
 
 pub as_used : (t : CType) (e : Expr) → Leaves e → is_void t ≡ false → UsedAs t e
-as_used t e h n = record { right = right_of e h; value = and_left (value_use e).value (value_use e).right h ∙ sym (ap not n) }
+as_used t e h n = record { right = right_of e h; value = first_true (value_use e).value (value_use e).right h ∙ sym (ap not n) }
 
 pub left_of : (t : CType) (e : Expr) → UsedAs t e → is_void t ≡ false → Leaves e
 left_of t e h n = and_true _ _ (h.value ∙ ap not n) h.right

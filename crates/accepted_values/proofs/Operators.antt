@@ -18,9 +18,10 @@ use Rattle.c_nodes.specs.declared.operators.Joined.{Joined}
 use Rattle.c_nodes.specs.declared.operators.Joined.TheVariants as joined
 use Rattle.c_nodes.specs.Operands.{comma}
 use Rattle.c_nodes.specs.Operators.{scaled, built, type_of, binary_by, combine, arithmetic, logic_breaks, both, either, binary, index_by, index, joined_by, type_joined, choice_by, joined_type, choice}
+use Rattle.accepted_trees.proofs.Bools.{first_false, second_false}
 use Rattle.accepted_values.specs.Used.{Leaves, IsUsedValue, IsUsed, Unless}
 use Rattle.accepted_values.specs.Laws.{OperatorsUse}
-use Rattle.accepted_values.proofs.Broken.{unless_by, unless_if, no_fault, first_false, second_false, value_left}
+use Rattle.accepted_values.proofs.Broken.{unless_by, unless_if, no_fault, value_left}
 use Rattle.accepted_values.proofs.Nodes.{as_used, left_of, const_left, bin_left, both_left, either_left, choice_used, comma_used}
 use Rattle.accepted_values.proofs.Types.{integer_type, void_type, pointed_type}
 
