@@ -1,6 +1,5 @@
 -- The tree of a text names its functions and is small, so that what the checker makes of it stands right.
 use Rattle.std.proofs.Common.{◌≡◌, List, refl, subst, Result, Ok, Err, arith}
-use Rattle.tick_tree.specs.declared.fault.Fault.{Fault}
 use Rattle.tick_tree.specs.declared.syntax.External.{External}
 use Rattle.tick_tree.specs.declared.syntax.Tree.{Tree}
 use Rattle.tick_tree.specs.declared.token.Token.{Token}
@@ -13,15 +12,9 @@ use Rattle.tick_parser.specs.Items.{Text, items_of}
 use Rattle.tick_parser.specs.Trees.{parsed, outcome, judged, items_or_stop, max_nesting}
 use Rattle.accepted_programs.specs.Named.{EachNamed, IsNamed}
 use Rattle.accepted_programs.proofs.Law.{accepted_law}
-use Rattle.parsed_weights.proofs.Parsed.{parsed_few}
+use Rattle.parsed_weights.proofs.Parsed.{parsed_few, same_items, same_tree}
 use Rattle.accepted_texts.specs.Laws.{TextsAreAccepted}
 use Rattle.accepted_texts.proofs.Programs.{program_named}
-
-same_items : (xs ys : List External) → ◌≡◌ {A = Result (List External) Stop} (Ok xs) (Ok ys) → xs ≡ ys
-same_items xs ys e = cc
-
-same_tree : (t z : Tree) → ◌≡◌ {A = Result Tree Fault} (Ok t) (Ok z) → t ≡ z
-same_tree t z e = cc
 
 given_named : (r : Outcome (List External)) (xs : List External) → Gives r (λ found j. EachNamed found) → items_or_stop r ≡ Ok xs → EachNamed xs
 given_named (Ok p) xs g e = subst EachNamed (same_items p.0 xs e) (taken_from p.0 p.1 (λ found j. EachNamed found) g)

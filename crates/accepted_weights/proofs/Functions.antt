@@ -24,7 +24,7 @@ use Rattle.check_globals.specs.Functions.{Given}
 use Rattle.check_globals.specs.Names as names
 use Rattle.tick_checker.specs.Program as program
 use Rattle.light_steps.specs.Light.{Light, After, Bounded, LightShape, LightItem, Each}
-use Rattle.light_steps.proofs.Walks.{weak, by_after, after, pure_light, lift_light, bind_light}
+use Rattle.light_steps.proofs.Walks.{weak, by_after, after, pure_light, lift_light, bind_light, ok_same}
 use Rattle.light_steps.proofs.States.{same_light, declare_light, depth_light, enter_light, leave_light, one_more, variable_homes, variable_inner}
 use Rattle.light_steps.proofs.Expressions.{each_light}
 use Rattle.accepted_weights.specs.Fresh.{FreshTables, FreshAfter, Fresh, Variables, VariablesAfter}
@@ -66,9 +66,6 @@ fresh_behind_by v w f s (Err e) l k = tt
 -- behind a step that makes grow by as many as the variables begin with
 pub fresh_behind : {A B : Type 0} {v w : ℕ} {p : Rule State A} {f : A → Rule State B} → Bounded v p → ((x : A) → Fresh v w (f x)) → Bounded (v + w) (p >>= f)
 fresh_behind {v = v} {w = w} {p = p} {f = f} h k = by_after (λ s. fresh_behind_by v w f s (p s) (after h s) k)
-
-ok_same : {A : Type 0} (x y : A) → ◌≡◌ {A = Checked A} (Ok x) (Ok y) → x ≡ y
-ok_same x y e = cc
 
 fresh_weak_by : {A : Type 0} (u v w : ℕ) (s : State) (r : Checked (A × State)) → FreshAfter u v s r → v ≤ w → FreshAfter u w s r
 fresh_weak_by u v w s (Ok x) f h = record { captures = omega arith; inner = omega arith; homes = omega arith; ticks = omega arith }

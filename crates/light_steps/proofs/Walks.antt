@@ -19,7 +19,7 @@ light_weak v w s new p h = record { captures = omega arith; inner = omega arith;
 pub weak : {A : Type 0} {v : ℕ} {r : Rule State A} (w : ℕ) → Bounded v r → v ≤ w → Bounded w r
 weak {v = v} w b h = record { light = λ s new x e. light_weak v w s new (b.light s new x e) h }
 
-ok_same : {A : Type 0} (x y : A) → ◌≡◌ {A = Checked A} (Ok x) (Ok y) → x ≡ y
+pub ok_same : {A : Type 0} (x y : A) → ◌≡◌ {A = Checked A} (Ok x) (Ok y) → x ≡ y
 ok_same x y e = cc
 
 after_light : {A : Type 0} (w : ℕ) (s new : State) (x : A) (r : Checked (A × State)) → After w s r → r ≡ Ok (x, new) → Light w s new

@@ -45,10 +45,10 @@ words_few (t ∷ i) = omega (arith, join_few (word_by t t.kind) (words i), words
 pub spelled_few : (tokens : List Item) (t : Tree) → words tokens ≡ spells_program t.items [] → tree_weight t ≤ 4 * length tokens + 1
 spelled_few tokens t e = omega (arith, program_few t.items [], words_few tokens, ap length e)
 
-same_items : (xs ys : List External) → ◌≡◌ {A = Result (List External) Stop} (Ok xs) (Ok ys) → xs ≡ ys
+pub same_items : (xs ys : List External) → ◌≡◌ {A = Result (List External) Stop} (Ok xs) (Ok ys) → xs ≡ ys
 same_items xs ys e = cc
 
-same_tree : (t z : Tree) → ◌≡◌ {A = Result Tree Fault} (Ok t) (Ok z) → t ≡ z
+pub same_tree : (t z : Tree) → ◌≡◌ {A = Result Tree Fault} (Ok t) (Ok z) → t ≡ z
 same_tree t z e = cc
 
 program_spells : (i : Input) (r : Outcome (List External)) (xs : List External) → Gives r (λ found j. words i ≡ spells_program found []) → items_or_stop r ≡ Ok xs → words i ≡ spells_program xs []
