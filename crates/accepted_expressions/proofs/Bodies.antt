@@ -21,7 +21,7 @@ use Rattle.accepted_trees.specs.Accepted.{AreNumbered}
 use Rattle.accepted_trees.specs.Counts.{one_if, declarations_of}
 use Rattle.accepted_trees.specs.Places.{Around, act}
 use Rattle.accepted_trees.specs.Values.{uses_values}
-use Rattle.accepted_values.proofs.Broken.{second_true}
+use Rattle.accepted_trees.proofs.Bools.{second_true}
 use Rattle.accepted_values.proofs.Declared.{types_use}
 use Rattle.accepted_values.proofs.Stages.{stages_use}
 use Rattle.accepted_steps.specs.Counts.{declarations_in, between, Counts}

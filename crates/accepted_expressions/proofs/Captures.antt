@@ -21,8 +21,8 @@ use Rattle.check_tables.specs.Frames.{count}
 use Rattle.check_tables.specs.Ticks as ticks
 use Rattle.accepted_trees.specs.Places.{Part, part, Around, same_answer, same_kind, same_kinds, kind_at, captured_in, captured}
 use Rattle.accepted_trees.proofs.Equations.{part_capture}
+use Rattle.accepted_trees.proofs.Bools.{and_true}
 use Rattle.accepted_nodes.specs.Right.{Stands}
-use Rattle.accepted_nodes.proofs.Nodes.{and_true}
 use Rattle.accepted_values.specs.Used.{Leaves}
 use Rattle.accepted_values.proofs.Nodes.{nodes_use}
 use Rattle.accepted_steps.specs.Kept.{Starts, KeepsTables, KeepsTick, Keeps}

@@ -35,6 +35,7 @@ use Rattle.accepted_nodes.specs.Right.{Stands, RightPlace, Unless}
 use Rattle.accepted_values.specs.Used.{UsedPlace}
 use Rattle.accepted_values.proofs.Nodes.{nodes_use}
 use Rattle.accepted_values.proofs.Declared.{types_use}
+use Rattle.accepted_nodes.proofs.Nodes.{frame_stands}
 use Rattle.accepted_steps.specs.Kept.{Keeps, IsKeeping}
 use Rattle.accepted_steps.specs.Known.{Blocks, IsVariable, IsParameter, Means, Small, Known}
 use Rattle.accepted_steps.specs.Steps.{Round, at, Agrees, EachCapture, Did}
@@ -46,7 +47,6 @@ use Rattle.accepted_types.proofs.Knowing.{each_scope}
 use Rattle.accepted_types.proofs.Names.{gives_keeps, addressed_keeps, captured_keeps}
 use Rattle.accepted_types.proofs.Walks.{ran, ok_same}
 use Rattle.accepted_expressions.proofs.Captures.{catch_did, Gives, given}
-use Rattle.accepted_expressions.proofs.Names.{frame_stands}
 use Rattle.accepted_expressions.proofs.Nodes.{CapturedStands, good_dollar, good_address}
 use Rattle.accepted_expressions.proofs.Steps.{Goes, did_join, by_premise, decides}
 

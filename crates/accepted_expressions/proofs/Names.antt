@@ -1,5 +1,5 @@
 -- A name where it stands: what it means stands right there, and in a tick what it captures does.
-use Rattle.std.proofs.Common.{◌≡◌, ℕ, ◌%◌, ◌==◌, Bool, true, false, ◌&&◌, if◌then◌else◌, List, [], ◌∷◌, refl, ap, subst, ◌∙◌, arith, Option, Some, None}
+use Rattle.std.proofs.Common.{◌≡◌, ℕ, ◌%◌, ◌==◌, Bool, true, false, if◌then◌else◌, List, [], ◌∷◌, refl, subst, ◌∙◌, arith, Option, Some, None}
 use Rattle.std.specs.Prelude.{nat_le}
 use Rattle.std.specs.Option.{option_or}
 use Rattle.std.specs.Str.{bytes_eq}
@@ -11,7 +11,6 @@ use Rattle.c_types.specs.declared.names.MeaningKind.TheVariants as kind
 use Rattle.c_types.specs.Scopes.{Name, Scope, Scopes, find, in_scope as said}
 use Rattle.c_shapes.specs.Shapes.{is_void}
 use Rattle.typed_tree.specs.declared.expression.CaptureKind.{CaptureKind}
-use Rattle.typed_tree.specs.declared.expression.Expr.TheVariants as ex
 use Rattle.c_nodes.specs.declared.operand.Operand.{Operand}
 use Rattle.c_nodes.specs.Operands.{effect, value_of}
 use Rattle.check_tables.specs.declared.frame.Home.{Home}
@@ -20,12 +19,11 @@ use Rattle.check_tables.specs.declared.functions.Functions.{Functions}
 use Rattle.check_state.specs.declared.state.Stage.{Stage}
 use Rattle.check_state.specs.declared.state.State.{State}
 use Rattle.check_state.specs.Names.{operand, place_by, address_by}
-use Rattle.accepted_trees.specs.Places.{Part, Around, in_scope, in_function}
-use Rattle.accepted_trees.proofs.Equations.{part_frame}
+use Rattle.accepted_trees.specs.Places.{Around, in_scope, in_function}
+use Rattle.accepted_trees.proofs.Bools.{first_true, second_true}
 use Rattle.accepted_nodes.specs.Right.{Stands}
-use Rattle.accepted_nodes.proofs.Nodes.{and_true}
+use Rattle.accepted_nodes.proofs.Nodes.{frame_stands}
 use Rattle.accepted_values.specs.Used.{Leaves}
-use Rattle.accepted_values.proofs.Broken.{first_true, second_true}
 use Rattle.accepted_values.proofs.Nodes.{nodes_use}
 use Rattle.accepted_values.proofs.Declared.{types_use}
 use Rattle.accepted_steps.specs.Known.{Blocks, has, of_function, HasHome, IsFunction, IsObject, Means, EachEntry, EachScope}
@@ -74,11 +72,6 @@ known_name many g b s name m h e =
     (each_scope (λ n x. Means many g b s n x x.kind) (λ n x. Means many g b s [] x x.kind) (λ n x k. means_any many g b s n x x.kind k) s.scopes h) e
 
 -- ---- variables of the function
-
-pub frame_stands : (a : Around) (off : ℕ) → in_function a ≡ true → nat_le off a.object ≡ true → (off % 4 == 0) ≡ true → Stands a (ex.Frame off)
-frame_stands a off f h k =
-    ap (λ (p : Part). p.stands a) (part_frame off)
-    ∙ and_true (in_function a && nat_le off a.object) (off % 4 == 0) (and_true (in_function a) (nat_le off a.object) f h) k
 
 below : (a b c : ℕ) → nat_le a b ≡ true → nat_le b c ≡ true → nat_le a c ≡ true
 below a b c h k = let p = leb-true a b h in let q = leb-true b c k in le-leb a c (omega (arith, p, q))

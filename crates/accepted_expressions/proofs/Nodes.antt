@@ -37,6 +37,7 @@ use Rattle.accepted_values.proofs.Places.{places_use}
 use Rattle.accepted_values.proofs.Calls.{calls_use}
 use Rattle.accepted_values.proofs.Stages.{stages_use}
 use Rattle.accepted_steps.specs.Good.{Good}
+use Rattle.accepted_types.proofs.NodeRules.{good_settled}
 
 -- ---- both laws at once
 
@@ -48,26 +49,14 @@ pub record ValueStands (a : Around) (v : Value) : Type 0 where
 pub good_value : (a : Around) (o : Operand) → Good a o → ValueStands a (value_of o)
 good_value a o h = record { code = operands_stand.value a o h.0; used = operands_use.value o h.1 }
 
-good_settled : (a : Around) (o : Operand) → Good a o → Good a (settled o)
-good_settled a o h = (operands_stand.settled a o h.0, operands_use.settled o h.1)
-
 good_unless : (a : Around) (c : Checked Operand) → Unless (IsRight a) c → used.Unless IsUsed c → Unless (Good a) c
 good_unless a (Ok o) h k = (h, k)
 good_unless a (Err f) h k = tt
 
 -- ---- operands without parts
 
-pub good_number : (a : Around) (n : ℕ) (u : Bool) → Good a (nodes.number n u)
-good_number a n u = (operands_stand.number a n u, operands_use.number n u)
-
-pub good_character : (a : Around) (n : ℕ) → Good a (nodes.character n)
-good_character a n = (operands_stand.character a n, operands_use.character n)
-
 pub good_string : (a : Around) (n : ℕ) → Good a (nodes.string n)
 good_string a n = (operands_stand.string a n, operands_use.string n)
-
-pub good_size : (a : Around) (line : ℕ) (t : CType) → Unless (Good a) (nodes.size line t)
-good_size a line t = good_unless a (nodes.size line t) (operands_stand.size a line t) (operands_use.size line t)
 
 -- ---- specifications that are left over
 

@@ -18,8 +18,9 @@ use Rattle.accepted_nodes.specs.Right.{Unless}
 use Rattle.accepted_steps.specs.Steps.{Round, at}
 use Rattle.accepted_steps.specs.Good.{Good, GoodNode, GoodNamed}
 use Rattle.accepted_types.proofs.Plain.{plain_keeps, plain_did}
+use Rattle.accepted_types.proofs.NodeRules.{good_size}
 use Rattle.accepted_expressions.proofs.Steps.{Goes, implies, then, answers, decides, refuses, by_premise}
-use Rattle.accepted_expressions.proofs.Nodes.{good_size, good_comma, good_choice, good_cast, good_post, good_step, good_star, good_compile, good_local, good_parameter, good_signed}
+use Rattle.accepted_expressions.proofs.Nodes.{good_comma, good_choice, good_cast, good_post, good_step, good_star, good_compile, good_local, good_parameter, good_signed}
 use Rattle.accepted_expressions.proofs.Dollar.{dollar_goes, address_goes}
 
 -- an operand stands right at its stage

@@ -1,5 +1,5 @@
 -- Steps of the walk one after the other: what each did comes together.
-use Rattle.std.proofs.Common.{◌≡◌, ℕ, true, List, [], ◌∷◌, ◌++◌, sym, subst, append_assoc, Ok, Err}
+use Rattle.std.proofs.Common.{◌≡◌, ℕ, true, List, ◌++◌, sym, subst, append_assoc, Ok, Err}
 use Rattle.typed_tree.specs.declared.expression.CaptureKind.{CaptureKind}
 use Rattle.typed_tree.specs.declared.program.Tick.{Tick}
 use Rattle.tick_tree.specs.Faults.{Checked}
@@ -8,8 +8,9 @@ use Rattle.check_state.specs.declared.state.Stage.{Stage}
 use Rattle.check_state.specs.declared.state.Stage.TheVariants as stage
 use Rattle.check_state.specs.declared.state.State.{State}
 use Rattle.check_tables.specs.Walks.{Rule, ◌>>=◌, pure, lift}
-use Rattle.accepted_trees.specs.Places.{Around, in_function}
+use Rattle.accepted_trees.specs.Places.{in_function}
 use Rattle.accepted_nodes.specs.Right.{Unless}
+use Rattle.accepted_nodes.proofs.Nodes.{unless_ok}
 use Rattle.accepted_steps.specs.Kept.{KeepsStage, Keeps, IsKeeping}
 use Rattle.accepted_steps.specs.Known.{Blocks, Known}
 use Rattle.accepted_steps.specs.Steps.{Round, Agrees, EachTick, EachCapture, CapturesStand, Did, Does}
@@ -18,15 +19,9 @@ use Rattle.accepted_types.proofs.Fronts.{starts_more, same_rest}
 use Rattle.accepted_types.proofs.Walks.{ran, pure_same, pure_value, lifted}
 use Rattle.accepted_types.proofs.Keeps.{pure_keeps, lift_keeps, bind_keeps}
 use Rattle.accepted_types.proofs.Knowing.{keeps_ticks}
-use Rattle.accepted_types.proofs.Plain.{each_capture, plain_same, plain_did_by}
+use Rattle.accepted_types.proofs.Plain.{each_capture, plain_same, plain_did_by, each_tick}
 
 -- ---- two steps
-
-pub each_tick : (a : Around) (ts us : List Tick) (ks ms : List (List CaptureKind)) → EachTick a ts ks → EachTick a us ms → EachTick a (ts ++ us) (ks ++ ms)
-each_tick a [] us [] ms p q = q
-each_tick a [] us (k ∷ ks) ms p q = cc
-each_tick a (t ∷ ts) us [] ms p q = cc
-each_tick a (t ∷ ts) us (k ∷ ks) ms p q = (p.0, each_tick a ts us ks ms p.1 q)
 
 captures_more : (g : Stage) (s t new : State) (r : Round) → KeepsStage g s t → KeepsStage g t new → CapturesStand g s t r → CapturesStand g t new r → CapturesStand g s new r
 captures_more stage.Function s t new r h k p q = tt
@@ -92,9 +87,6 @@ goes_plain P step keeps plain stands = record {
 
 pub answers : {A : Type 0} {many : ℕ} {g : Stage} (P : Round → A → Type 0) (x : A) → ((r : Round) → P r x) → Goes many g P (pure x)
 answers {g = g} P x h = goes_plain P (pure x) (pure_keeps g x) (λ s new y e. plain_same g (pure_same x y s new e)) (λ s new y e r f. subst (λ z. P r z) (pure_value x y s new e) (h r))
-
-unless_ok : {A : Type 0} (P : A → Type 0) (c : Checked A) (x : A) → c ≡ Ok x → Unless P c → P x
-unless_ok P c x e u = subst (λ z. Unless P z) e u
 
 pub by_premise : {A : Type 0} (P : Type 0) (Q : A → Type 0) (c : Checked A) → (P → Unless Q c) → Unless (λ x. P → Q x) c
 by_premise P Q (Ok x) h = h

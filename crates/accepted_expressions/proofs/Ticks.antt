@@ -26,8 +26,8 @@ use Rattle.accepted_trees.specs.Accepted.{IsNumbered}
 use Rattle.accepted_trees.specs.Places.{Part, part, expr_rule, Around, in_function, kinds_of, kinds_at, stands_as_tick}
 use Rattle.accepted_trees.specs.Values.{body_uses_values}
 use Rattle.accepted_trees.proofs.Equations.{part_tick}
+use Rattle.accepted_trees.proofs.Bools.{and_true}
 use Rattle.accepted_nodes.specs.Right.{Stands}
-use Rattle.accepted_nodes.proofs.Nodes.{and_true}
 use Rattle.accepted_values.specs.Used.{EachLeaves}
 use Rattle.accepted_values.proofs.Nodes.{nodes_use}
 use Rattle.accepted_steps.specs.Kept.{Starts, KeepsTables, Keeps}

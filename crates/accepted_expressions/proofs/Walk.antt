@@ -13,11 +13,12 @@ use Rattle.accepted_steps.specs.Good.{Good, PlainStage, Plain}
 use Rattle.accepted_types.specs.Parts.{GoodParts}
 use Rattle.accepted_types.proofs.Fronts.{no_rest, starts_refl}
 use Rattle.accepted_types.proofs.Plain.{plain_did_by}
+use Rattle.accepted_types.proofs.NodeRules.{good_number, good_character}
 use Rattle.accepted_expressions.proofs.Bodies.{expression_does, block_does}
 use Rattle.accepted_expressions.proofs.Calls.{call_does}
 use Rattle.accepted_expressions.proofs.Captures.{given}
 use Rattle.accepted_expressions.proofs.Meant.{name_goes}
-use Rattle.accepted_expressions.proofs.Nodes.{good_number, good_character, good_string, good_binary, good_index, good_assign, good_modify}
+use Rattle.accepted_expressions.proofs.Nodes.{good_string, good_binary, good_index, good_assign, good_modify}
 use Rattle.accepted_expressions.proofs.Productions.{Right, two, comma_goes, choice_goes, post_goes, size_goes, cast_goes, unary_goes, compile_goes, local_goes, parameter_goes}
 use Rattle.accepted_expressions.proofs.Steps.{answers}
 

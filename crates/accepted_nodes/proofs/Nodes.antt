@@ -1,5 +1,5 @@
 -- Where the parts of a node stand right, the node does; one law a node.
-use Rattle.std.proofs.Common.{◌≡◌, ℕ, Bool, true, false, if◌then◌else◌, refl, ap, ◌∙◌, List, [], ◌∷◌, map, Option, Some, None}
+use Rattle.std.proofs.Common.{◌≡◌, ℕ, ◌%◌, ◌==◌, Bool, true, false, ◌&&◌, nat_le, if◌then◌else◌, refl, ap, subst, ◌∙◌, List, [], ◌∷◌, map, Option, Some, None, Ok}
 use Rattle.word32.specs.declared.width.Width.{Width}
 use Rattle.icode_ops.specs.declared.kind.BinKind.{BinKind}
 use Rattle.icode_ops.specs.declared.kind.UnKind.{UnKind}
@@ -11,7 +11,7 @@ use Rattle.typed_tree.specs.declared.expression.Expr.{Expr}
 use Rattle.typed_tree.specs.declared.expression.Expr.TheVariants as ex
 use Rattle.c_nodes.specs.Operands.{by}
 use Rattle.accepted_trees.specs.Places.{Around, Part, part, in_scope, in_function, captured, is_variable, is_called, each_stands}
-use Rattle.accepted_trees.proofs.Equations.{part_const, part_var, part_setvar, part_postvar, part_vget, part_vset, part_vpost, part_load, part_store, part_modify, part_post, part_bin, part_un, part_and, part_or, part_cond, part_comma, part_void, part_call, part_callnumber, part_getchar, part_lib, part_compile, part_local, part_paramof}
+use Rattle.accepted_trees.proofs.Equations.{part_const, part_var, part_setvar, part_postvar, part_vget, part_vset, part_vpost, part_frame, part_load, part_store, part_modify, part_post, part_bin, part_un, part_and, part_or, part_cond, part_comma, part_void, part_call, part_callnumber, part_getchar, part_lib, part_compile, part_local, part_paramof}
 use Rattle.accepted_trees.proofs.Bools.{and_true}
 use Rattle.accepted_nodes.specs.Right.{Stands, Unless, EachStands}
 
@@ -38,6 +38,11 @@ set_generated_stands a i e h k = along a _ _ (part_vset i e) (and_true _ _ h k)
 
 pub post_generated_stands : (a : Around) (i n : ℕ) → captured is_variable i a ≡ true → Stands a (ex.VPost i n)
 post_generated_stands a i n h = along a _ _ (part_vpost i n) h
+
+pub frame_stands : (a : Around) (off : ℕ) → in_function a ≡ true → nat_le off a.object ≡ true → (off % 4 == 0) ≡ true → Stands a (ex.Frame off)
+frame_stands a off f h k =
+    along a _ _ (part_frame off)
+    (and_true (in_function a && nat_le off a.object) (off % 4 == 0) (and_true (in_function a) (nat_le off a.object) f h) k)
 
 pub load_stands : (a : Around) (w : Width) (e : Expr) → Stands a e → Stands a (ex.Load w e)
 load_stands a w e h = along a _ _ (part_load w e) h
@@ -108,3 +113,6 @@ unless_by P line (Some k) x h = tt
 pub unless_if : {A : Type 0} (P : A → Type 0) (b : Bool) (r s : Checked A) → Unless P r → Unless P s → Unless P (if b then r else s)
 unless_if P true r s h k = h
 unless_if P false r s h k = k
+
+pub unless_ok : {A : Type 0} (P : A → Type 0) (c : Checked A) (x : A) → c ≡ Ok x → Unless P c → P x
+unless_ok P c x e u = subst (λ z. Unless P z) e u

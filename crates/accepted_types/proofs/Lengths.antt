@@ -1,6 +1,5 @@
 -- No type is made of steps with a length that isn't constant, and what is done with steps hides none.
-use Rattle.std.proofs.Common.{◌≡◌, ℕ, ◌*◌, Bool, true, false, ◌||◌, if◌then◌else◌, List, [], ◌∷◌, ◌++◌, refl, sym, ap, ◌∙◌, Option, Some, None, Ok, Err}
-use Rattle.std.specs.Prelude.{nat_lt}
+use Rattle.std.proofs.Common.{◌≡◌, ℕ, ◌*◌, Bool, true, false, if◌then◌else◌, List, [], ◌∷◌, ◌++◌, refl, sym, ap, ◌∙◌, Option, Some, None, Ok, Err}
 use Rattle.c_types.specs.declared.ctype.CType.{CType}
 use Rattle.c_types.specs.declared.ctype.Base.{Base}
 use Rattle.c_types.specs.declared.ctype.Layer.{Layer, out-Layer}
@@ -13,29 +12,18 @@ use Rattle.c_declared.specs.declared.steps.Role.TheVariants as role
 use Rattle.c_declared.specs.declared.steps.Step.{Step}
 use Rattle.c_declared.specs.declared.steps.Step.TheVariants as step
 use Rattle.c_declared.specs.Steps.{layer_of, prefixed, lacks, with_length, filled}
-use Rattle.c_declared.specs.Making.{is_function, bytes, unless, is_count, breaks, lower, made, worst, role_breaks, finished, taken_as, answer, declared_type}
+use Rattle.c_declared.specs.Making.{is_function, bytes, unless, is_count, breaks, made, worst, role_breaks, finished, taken_as, declared_type}
 use Rattle.tick_tree.specs.declared.base.Prefix.{Prefix}
 use Rattle.tick_tree.specs.declared.fault.FaultKind.{FaultKind}
 use Rattle.tick_tree.specs.declared.fault.FaultKind.TheVariants.{TypeMismatch, VoidValue, BadArray}
-use Rattle.tick_tree.specs.Faults.{Checked, number}
+use Rattle.tick_tree.specs.Faults.{Checked}
 use Rattle.c_nodes.specs.declared.operand.Operand.{Operand}
 use Rattle.check_state.specs.declared.state.Stage.{Stage}
 use Rattle.check_state.specs.declared.state.Stage.TheVariants as stage
 use Rattle.check_statements.specs.Declarations.{tick_breaks, lowered, declared_in, length_of}
+use Rattle.accepted_trees.proofs.Bools.{both_false, first_false, second_false}
+use Rattle.accepted_values.proofs.Declared.{first_none, second_none, unbroken}
 use Rattle.accepted_steps.specs.Good.{is_computed, is_computed_step, any_computed}
-
--- ---- tests
-
-pub first_false : (b c : Bool) → (b || c) ≡ false → b ≡ false
-first_false true c h = h
-first_false false c h = refl
-
-pub second_false : (b c : Bool) → (b || c) ≡ false → c ≡ false
-second_false true c h = cc
-second_false false c h = h
-
-pub both_false : (b c : Bool) → b ≡ false → c ≡ false → (b || c) ≡ false
-both_false b c p q = ap (λ x. x || c) p ∙ q
 
 -- ---- several steps
 
@@ -83,7 +71,7 @@ no_zero b ls is =
     let e : breaks (Layer-F.Array 0) b ls ≡ None = ap (λ (x : Opened). breaks x b ls) (sym (layer.outs-Array 0)) ∙ is in
     array_case (is_function ls) (is_void b ls) (bytes b ls * 0) e
 
-not_computed : (s : Step) (b : Base) (ls : List Layer) → breaks (out-Layer (layer_of s)) b ls ≡ None → is_computed_step s ≡ false
+pub not_computed : (s : Step) (b : Base) (ls : List Layer) → breaks (out-Layer (layer_of s)) b ls ≡ None → is_computed_step s ≡ false
 not_computed (step.Prefix p) b ls is = refl
 not_computed (step.Array len.Computed) b ls is = no_zero b ls is
 not_computed (step.Array len.Absent) b ls is = refl
@@ -91,30 +79,12 @@ not_computed (step.Array (len.Constant n)) b ls is = refl
 not_computed (step.Function list) b ls is = refl
 not_computed step.Unlisted b ls is = refl
 
-some_of : (b : Bool) (x y : FaultKind) → (if b then Some x else Some y) ≡ None → true ≡ false
-some_of true x y h = cc
-some_of false x y h = cc
-
-lower_first : (a b : Option FaultKind) → lower a b ≡ None → a ≡ None
-lower_first None b h = refl
-lower_first (Some x) None h = h
-lower_first (Some x) (Some y) h = let f = some_of (nat_lt (number y) (number x)) y x h in cc
-
-lower_second : (a b : Option FaultKind) → lower a b ≡ None → b ≡ None
-lower_second None b h = h
-lower_second (Some x) None h = refl
-lower_second (Some x) (Some y) h = let f = some_of (nat_lt (number y) (number x)) y x h in cc
-
-none_computed : (ss : List Step) (b : Base) (ls : List Layer) → worst ss b ls ≡ None → any_computed ss ≡ false
+pub none_computed : (ss : List Step) (b : Base) (ls : List Layer) → worst ss b ls ≡ None → any_computed ss ≡ false
 none_computed [] b ls is = refl
 none_computed (s ∷ ss) b ls is =
     both_false (is_computed_step s) (any_computed ss)
-    (not_computed s b (made ss ls) (lower_second (worst ss b ls) (breaks (out-Layer (layer_of s)) b (made ss ls)) is))
-    (none_computed ss b ls (lower_first (worst ss b ls) (breaks (out-Layer (layer_of s)) b (made ss ls)) is))
-
-answered : (line : ℕ) (t x : CType) (k : Option FaultKind) → answer line t k ≡ Ok x → k ≡ None
-answered line t x None h = refl
-answered line t x (Some k) h = cc
+    (not_computed s b (made ss ls) (second_none (worst ss b ls) (breaks (out-Layer (layer_of s)) b (made ss ls)) is))
+    (none_computed ss b ls (first_none (worst ss b ls) (breaks (out-Layer (layer_of s)) b (made ss ls)) is))
 
 computed_taken : (r : Role) (ss : List Step) → any_computed (taken_as r ss) ≡ false → any_computed ss ≡ false
 computed_taken role.Typename ss h = h
@@ -126,7 +96,7 @@ pub type_not_computed : (r : Role) (line : ℕ) (b : Base) (ss : List Step) (x :
 unfolding declared_type
 type_not_computed r line b ss x h =
     let ts : List Step = taken_as r ss in
-    computed_taken r ss (none_computed ts b [] (lower_first (worst ts b []) (role_breaks r b (made ts [])) (answered line (finished r b (made ts [])) x _ h)))
+    computed_taken r ss (none_computed ts b [] (first_none (worst ts b []) (role_breaks r b (made ts [])) (unbroken line (finished r b (made ts [])) x _ h)))
 
 pub lowered_ok : (line : ℕ) (k : Option FaultKind) (t : Checked CType) (x : CType) → lowered line k t ≡ Ok x → t ≡ Ok x
 lowered_ok line None t x h = h

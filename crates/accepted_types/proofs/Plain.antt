@@ -2,6 +2,7 @@
 use Rattle.std.proofs.Common.{◌≡◌, ℕ, List, [], ◌∷◌, ◌++◌, length, refl, sym, ap, subst, ◌∙◌}
 use Rattle.typed_tree.specs.declared.expression.CaptureKind.{CaptureKind}
 use Rattle.typed_tree.specs.declared.expression.Expr.{Expr}
+use Rattle.typed_tree.specs.declared.program.Tick.{Tick}
 use Rattle.check_state.specs.declared.state.Stage.{Stage}
 use Rattle.check_state.specs.declared.state.Stage.TheVariants as stage
 use Rattle.check_state.specs.declared.state.State.{State}
@@ -14,11 +15,17 @@ use Rattle.accepted_types.proofs.Fronts.{starts_refl, starts_same, starts_more, 
 use Rattle.accepted_types.proofs.Keeps.{globals_refl, globals_more, tables_refl, tables_more, tick_refl, tick_more}
 use Rattle.accepted_types.proofs.Knowing.{known_kept, agrees_back}
 
--- ---- captures
+-- ---- captures and ticks
 
 pub each_capture : (a : Around) (xs ys : List Expr) → EachCapture a xs → EachCapture a ys → EachCapture a (xs ++ ys)
 each_capture a [] ys p q = q
 each_capture a (x ∷ xs) ys p q = (p.0, p.1, each_capture a xs ys p.2 q)
+
+pub each_tick : (a : Around) (ts us : List Tick) (ks ms : List (List CaptureKind)) → EachTick a ts ks → EachTick a us ms → EachTick a (ts ++ us) (ks ++ ms)
+each_tick a [] us [] ms p q = q
+each_tick a [] us (k ∷ ks) ms p q = cc
+each_tick a (t ∷ ts) us [] ms p q = cc
+each_tick a (t ∷ ts) us (k ∷ ks) ms p q = (p.0, each_tick a ts us ks ms p.1 q)
 
 -- those of two steps, one behind the other
 captures_more : (s t new : State) → Starts s.ticks.captures t.ticks.captures → Starts t.ticks.captures new.ticks.captures

@@ -14,7 +14,6 @@ use Rattle.c_declared.specs.Steps.{prefixed}
 use Rattle.tick_tree.specs.declared.base.Prefix.{Prefix}
 use Rattle.tick_tree.specs.Faults.{Checked}
 use Rattle.tick_tree.specs.declared.syntax.Core.TheOpen.{Suffix-F}
-use Rattle.check_tables.specs.Frames as frames
 use Rattle.check_tables.specs.Walks.{Rule, ◌>>=◌, pure, lift}
 use Rattle.check_state.specs.declared.state.Stage.{Stage}
 use Rattle.check_state.specs.declared.state.Stage.TheVariants as stage
@@ -25,6 +24,7 @@ use Rattle.check_state.specs.Names.{declared_by, declare}
 use Rattle.check_expressions.specs.Rules.{Node, Named, Shape, Item}
 use Rattle.check_statements.specs.Declarations.{length_of, declare_parameter}
 use Rattle.check_statements.specs.Rules.{computed_step, length_step, each_type, list_step, suffix_rule, each_step}
+use Rattle.accepted_trees.proofs.Bools.{first_false}
 use Rattle.accepted_steps.specs.Kept.{outer}
 use Rattle.accepted_steps.specs.Good.{PlainStage, Plain, PlainList, is_computed_step, any_computed, GoodSuffix, GoodShape, GoodParameter, GoodNode}
 use Rattle.accepted_types.specs.Parts.{EachPart, GoodOptional, GoodSuffixParts}
@@ -32,7 +32,8 @@ use Rattle.accepted_types.proofs.Fronts.{starts_refl}
 use Rattle.accepted_types.proofs.Walks.{ok_same, ran, pure_same, pure_value, lifted}
 use Rattle.accepted_types.proofs.Plain.{plain_same, plain_more, plain_stage_refl, plain_list_more, plain_is_list}
 use Rattle.accepted_types.proofs.Plainly.{IsPlainList, pure_plain_list, bind_plain_list}
-use Rattle.accepted_types.proofs.Lengths.{first_false, computed_front, computed_rest, computed_prefixed, type_not_computed, has_form}
+use Rattle.accepted_types.proofs.Lengths.{computed_front, computed_rest, computed_prefixed, type_not_computed, has_form}
+use Rattle.accepted_types.proofs.Blocks.{inside, back}
 
 -- ---- lengths
 
@@ -50,7 +51,7 @@ length_good many (Some e) h g s new x is c = computed_good many e h g s new x is
 -- ---- lists of parameters
 
 -- a name in the innermost scope
-declared_outer : (ss : Scopes) (name : Name) (what : Meaning) → outer (declared ss name what) ≡ outer ss
+pub declared_outer : (ss : Scopes) (name : Name) (what : Meaning) → outer (declared ss name what) ≡ outer ss
 declared_outer ss name what =
     ap (λ k. take (k - 1) (declared ss name what)) (length-set ss (length ss - 1) (innermost ss ++ (name, what) ∷ []))
     ∙ take-set ss (length ss - 1) (innermost ss ++ (name, what) ∷ [])
@@ -106,19 +107,13 @@ scopes_back ss zs x d o =
     let f : length zs - 1 ≡ length ss = ap (λ n. n - 1) d ∙ e in
     ap (λ n. take n zs) (sym f) ∙ o ∙ ap (λ n. take n (ss ++ x ∷ [])) e ∙ take-append_seam ss (x ∷ [])
 
-abbrev entered : State → State
-entered s = record s { scopes = s.scopes ++ [] ∷ []; frame = frames.entered s.frame }
-
-abbrev left : State → State → State
-left s z = record z { scopes = take (length s.scopes) z.scopes; frame = frames.left s.frame.nodes z.frame }
-
-list_stage : (g : Stage) (s z : State) → PlainStage g (entered s) z → PlainStage g s (left s z)
+list_stage : (g : Stage) (s z : State) → PlainStage g (inside s) z → PlainStage g s (back s z)
 list_stage stage.Function s z p = p
 list_stage stage.Tick s z p = (record { inner = p.0.inner; ticks = p.0.ticks }, p.1)
 list_stage stage.Dollar s z p = (record { inner = p.0.inner; ticks = p.0.ticks }, p.1)
 
 -- into the scope of a list and out of it
-list_left : (g : Stage) (s z : State) → PlainList g (entered s) z → Plain g s (left s z)
+list_left : (g : Stage) (s z : State) → PlainList g (inside s) z → Plain g s (back s z)
 list_left g s z p = record {
   tables = record {
     scopes = scopes_back s.scopes z.scopes [] p.tables.depth p.tables.scopes;
@@ -137,8 +132,8 @@ list_left g s z p = record {
 list_good : (ps : List (Stage → Rule State CType)) → EachPart GoodParameter ps → (g : Stage) (s new : State) (x : Step) → list_step ps g s ≡ Ok (x, new) → Plain g s new
 unfolding enter leave
 list_good ps h g s new x is =
-    let r = ran (each_type ps g) (λ ts. leave (length s.scopes) s.frame.nodes >>= (λ vs. pure (step.Function ts))) (entered s) x new is in
-    subst (λ z. Plain g s z) (pure_same (step.Function r.value) x (left s r.state) new r.next) (list_left g s r.state (each_type_list ps g h (entered s) r.state r.value r.first))
+    let r = ran (each_type ps g) (λ ts. leave (length s.scopes) s.frame.nodes >>= (λ vs. pure (step.Function ts))) (inside s) x new is in
+    subst (λ z. Plain g s z) (pure_same (step.Function r.value) x (back s r.state) new r.next) (list_left g s r.state (each_type_list ps g h (inside s) r.state r.value r.first))
 
 -- ---- suffixes
 
