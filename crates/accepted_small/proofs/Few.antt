@@ -1,26 +1,23 @@
 -- The walk over a layer of a small tree captures few things.
-use Rattle.std.proofs.Common.{ℕ, ◌≤◌, List, [], ◌∷◌, map, subst, arith}
+use Rattle.std.proofs.Common.{ℕ, ◌≤◌, List, map, subst, arith}
 use Rattle.tick_tree.specs.declared.syntax.Expr.{roll-Expr}
 use Rattle.tick_tree.specs.declared.syntax.Stmt.{Stmt}
 use Rattle.tick_tree.specs.declared.syntax.Core.TheOpen.{Expr-F}
 use Rattle.check_state.specs.declared.state.State.{State}
 use Rattle.check_expressions.specs.Rules.{tick_around}
 use Rattle.tick_checker.specs.Walk.{item}
-use Rattle.light_steps.specs.Light.{Light, LightNode, LightItem, Each, none, more}
+use Rattle.light_steps.specs.Light.{Light, LightNode}
 use Rattle.light_steps.proofs.Expressions.{block_light}
 use Rattle.accepted_weights.specs.Weights.{total, weight, statement_weight, expr_nodes}
 use Rattle.accepted_weights.proofs.Folds.{weigh-Expr, weighed-Expr}
-use Rattle.accepted_weights.proofs.Tree.{expr_light, stmt_light}
+use Rattle.accepted_weights.proofs.Tree.{expr_light}
 use Rattle.accepted_steps.specs.Items.{Few}
 use Rattle.accepted_walks.proofs.Induction.{Expr-T, walkedExpr, walk_expr}
+use Rattle.accepted_weights.proofs.Programs.{items_light}
 use Rattle.accepted_small.specs.Good.{FewBlock, FewParts, FewExpr}
 
 light_few : (w : ℕ) (s new : State) → w ≤ 1000000000 → Light w s new → Few s new
 light_few w s new h l = (omega (arith, l.captures), omega (arith, l.inner))
-
-items_light : (xs : List Stmt) → Each LightItem (total (map statement_weight xs)) (map item xs)
-items_light [] = none
-items_light (x ∷ xs) = more (stmt_light x) (items_light xs)
 
 few_block : (xs : List Stmt) → total (map statement_weight xs) ≤ 1000000000 → FewBlock (map item xs)
 few_block xs h s new x e = light_few (total (map statement_weight xs)) s new h ((block_light (map item xs) tick_around (items_light xs)).light s new x e)

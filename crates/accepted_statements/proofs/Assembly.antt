@@ -21,8 +21,9 @@ use Rattle.accepted_steps.specs.Steps.{Round, at}
 use Rattle.accepted_steps.specs.Items.{MayStand, InBlock, placed_round, ItemsStand, GoodStatement, GoodItem, Few, GoodBlock}
 use Rattle.accepted_types.specs.Parts.{EachPart, GoodOptional}
 use Rattle.accepted_types.proofs.Walks.{pure_same, pure_value}
+use Rattle.accepted_types.proofs.Blocks.{inside}
 use Rattle.accepted_statements.specs.Parts.{GoodStatementParts}
-use Rattle.accepted_statements.proofs.Blocks.{inside, scopes_back}
+use Rattle.accepted_statements.proofs.Blocks.{scopes_back}
 use Rattle.accepted_statements.proofs.Nodes.{Unlabelled, as_itself, break_counts, continue_counts, return_counts, block_counts, break_unlabelled, continue_unlabelled, return_unlabelled, block_unlabelled}
 use Rattle.accepted_statements.proofs.Runs.{followed, if_ran, while_ran, do_ran, else_ran, for_ran}
 use Rattle.accepted_statements.proofs.Blocking.{enclosed, switch_ran}

@@ -24,6 +24,7 @@ use Rattle.accepted_nodes.specs.Right.{IsRight}
 use Rattle.accepted_nodes.proofs.Places.{places_stand}
 use Rattle.accepted_values.specs.Used.{IsUsed}
 use Rattle.accepted_values.proofs.Places.{places_use}
+use Rattle.accepted_nodes.proofs.Nodes.{unless_ok}
 use Rattle.accepted_steps.specs.Steps.{at, Did}
 use Rattle.accepted_steps.specs.Good.{Good, GoodNode}
 use Rattle.accepted_steps.specs.Items.{MayStand, Labelled, ItemStands, ItemsStand, GoodStatement}
@@ -41,7 +42,7 @@ use Rattle.accepted_statements.proofs.Runs.{gave, followed, judged}
 use Rattle.accepted_statements.proofs.Makes.{Makes, makes_of}
 use Rattle.accepted_statements.proofs.Joining.{did_both, did_so, did_placed}
 use Rattle.accepted_statements.proofs.Standing.{stood_one, expr_stood}
-use Rattle.accepted_statements.proofs.Doing.{place_of, node_did, good_effect, unless_ok, unless_used}
+use Rattle.accepted_statements.proofs.Doing.{place_of, node_did, good_effect, unless_used}
 use Rattle.accepted_statements.proofs.Declaring.{local_did}
 use Rattle.accepted_statements.proofs.Assembly.{statement_good}
 

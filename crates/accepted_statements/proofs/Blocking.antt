@@ -16,7 +16,7 @@ use Rattle.check_statements.specs.Rules as rules
 use Rattle.check_statements.specs.Statements as statements
 use Rattle.check_statements.specs.Statements.{switch_node, return_node, switch_entered, with_labels, case_node, default_node}
 use Rattle.accepted_types.proofs.Walks.{ran, ok_same, pure_same, pure_value}
-use Rattle.accepted_statements.proofs.Blocks.{inside, behind, back}
+use Rattle.accepted_types.proofs.Blocks.{inside, behind, back}
 use Rattle.accepted_statements.proofs.Runs.{gave, followed, judged}
 
 -- ---- blocks

@@ -1,10 +1,9 @@
 -- What a block makes of what its items make: it has a scope and variables of its own.
-use Rattle.std.proofs.Common.{◌≡◌, ℕ, ◌+◌, ◌-◌, ◌≤◌, List, [], ◌∷◌, ◌++◌, length, take, refl, sym, ap, subst, ◌∙◌, length-append, arith}
+use Rattle.std.proofs.Common.{◌≡◌, ◌+◌, ◌-◌, ◌≤◌, List, [], ◌∷◌, ◌++◌, length, take, refl, sym, ap, subst, ◌∙◌, length-append, arith}
 use Rattle.std.proofs.Math.Seq.{take-append_seam}
 use Rattle.c_types.specs.Scopes.{Scopes}
 use Rattle.typed_tree.specs.declared.expression.Stmt.{Stmt}
 use Rattle.typed_tree.specs.Sizes.{statement_size}
-use Rattle.check_tables.specs.Frames as frames
 use Rattle.check_state.specs.declared.state.Stage.{Stage}
 use Rattle.check_state.specs.declared.state.Stage.TheVariants as stage
 use Rattle.check_state.specs.declared.state.State.{State}
@@ -14,21 +13,11 @@ use Rattle.accepted_steps.specs.Known.{Small, SmallTick}
 use Rattle.accepted_steps.specs.Counts.{declarations_in, between, variables, Counts}
 use Rattle.accepted_steps.specs.Items.{EachNode, DeclaresAt}
 use Rattle.accepted_types.proofs.Fronts.{starts_refl, no_rest}
+use Rattle.accepted_types.proofs.Blocks.{inside, back}
 use Rattle.accepted_statements.proofs.Counting.{sum_one, objects_append, declarations_append, sizes_append, CountsAs}
 use Rattle.accepted_statements.proofs.Making.{Made}
 
 -- ---- the states round a block
-
--- in a block that is entered in this state
-abbrev pub inside : State → State
-inside s = record s { scopes = s.scopes ++ [] ∷ []; frame = frames.entered s.frame }
-
--- behind it
-abbrev pub behind : ℕ → List Stmt → State → State
-behind n vs t = record t { scopes = take n t.scopes; frame = frames.left vs t.frame }
-
-abbrev pub back : State → State → State
-back s t = behind (length s.scopes) s.frame.nodes t
 
 front : (ss : Scopes) → outer (ss ++ [] ∷ []) ≡ ss
 front ss = ap (λ n. take n (ss ++ [] ∷ [])) (count ss) ∙ take-append_seam ss ([] ∷ [])

@@ -1,7 +1,6 @@
 -- What the declaration of a variable did: its name means the variable, whose node stands in the block.
-use Rattle.std.proofs.Common.{◌≡◌, ℕ, ◌+◌, ◌-◌, ◌≤◌, ◌%◌, min, Bool, true, false, ◌&&◌, List, [], ◌∷◌, ◌++◌, length, refl, sym, ap, subst, ◌∙◌, append-nil, length-append, arith, Ok}
+use Rattle.std.proofs.Common.{◌≡◌, ℕ, ◌+◌, ◌-◌, ◌≤◌, ◌%◌, min, Bool, true, false, List, [], ◌∷◌, ◌++◌, length, refl, sym, ap, subst, ◌∙◌, append-nil, length-append, arith, Ok}
 use Rattle.std.specs.Prelude.{◌==◌, nat_le, slice_get, if◌then◌else◌}
-use Rattle.std.proofs.lemmas.Bool.Decides.{nat_tests}
 use Rattle.std.proofs.lemmas.Option.{slice_get_past}
 use Rattle.c_types.specs.declared.ctype.CType.{CType}
 use Rattle.c_types.specs.declared.names.Meaning.{Meaning}
@@ -22,10 +21,10 @@ use Rattle.check_state.specs.declared.state.Stage.TheVariants as stage
 use Rattle.check_state.specs.declared.state.State.{State}
 use Rattle.check_state.specs.Names.{operand, place_by}
 use Rattle.check_state.specs.Locals.{meaning, made_outer, local}
-use Rattle.accepted_trees.specs.Places.{Around, in_function}
-use Rattle.accepted_trees.proofs.Equations.{act_variable, part_frame}
-use Rattle.accepted_nodes.specs.Right.{Stands}
+use Rattle.accepted_trees.proofs.Equations.{act_variable}
+use Rattle.accepted_trees.proofs.Bools.{and_true, le_true, le_less}
 use Rattle.accepted_values.proofs.Nodes.{nodes_use}
+use Rattle.accepted_nodes.proofs.Nodes.{frame_stands}
 use Rattle.accepted_steps.specs.Kept.{Grows}
 use Rattle.accepted_steps.specs.Known.{Blocks, of_tick, has, numbers, HasHome, IsVariable, IsObject, Means, Known}
 use Rattle.accepted_steps.specs.Steps.{Round, at, Agrees, Did}
@@ -33,7 +32,7 @@ use Rattle.accepted_steps.specs.Good.{Good}
 use Rattle.accepted_steps.specs.Items.{InBlock}
 use Rattle.accepted_types.proofs.Fronts.{starts_behind}
 use Rattle.accepted_statements.proofs.Growing.{small_before}
-use Rattle.accepted_statements.proofs.Locals.{both, outer_gives, inner_gives, register_grows, object_grows, inner_grows, after_small, after_grows, aligned_after, named}
+use Rattle.accepted_statements.proofs.Locals.{outer_gives, inner_gives, register_grows, object_grows, inner_grows, after_small, after_grows, aligned_after, named, inner_state}
 use Rattle.accepted_statements.proofs.Lists.{get_front, get_last, has_back, has_self, has_none, has_starts, numbers_append, scope_append, scope_at, scopes_set}
 use Rattle.accepted_statements.proofs.Wider.{Wider, AllMean, names_wider, agrees_wider}
 use Rattle.accepted_statements.proofs.Joining.{did_only}
@@ -112,15 +111,6 @@ outer_did {many} b {ks} s name t h x object P o grows more aligned stands answer
     (λ r a. agrees_back (outer_wider b s name t h x object (more a.small.object)) grows a)
     (λ r a. answer r (known (small_before grows a.small)).object a)
 
-frame_stands : (r : Around) (off : ℕ) → in_function r ≡ true → nat_le off r.object ≡ true → (off % 4 == 0) ≡ true → Stands r (ex.Frame off)
-frame_stands r off f o h = ap (λ p. p.stands r) (part_frame off) ∙ both (in_function r && nat_le off r.object) (off % 4 == 0) (both (in_function r) (nat_le off r.object) f o) h
-
-le_here : (m n : ℕ) → m ≤ n → nat_le m n ≡ true
-le_here m n h = grind (arith, nat_tests)
-
-le_before : (m n k : ℕ) → m ≤ n → nat_le n k ≡ true → nat_le m k ≡ true
-le_before m n k h p = grind (arith, nat_tests)
-
 register_did : {many : ℕ} (b : Blocks) {ks : List (List CaptureKind)} (s : State) (name : Name) (t : CType) → IsObject t → Known many stage.Function b ks s
     → Did many stage.Function b ks s (with_home name t home.Register (st.Variable (frames.number s.frame)) s.frame.object s) (λ r. Good r.function (operand (place.Register (frames.number s.frame)) t))
 register_did b s name t o known =
@@ -136,9 +126,9 @@ object_did b s name t n o known =
     (object_grows s name (meaning kind.Variable t (frames.number s.frame)) n)
     (λ h. after_grows s.frame.object n h)
     (λ h k. ap (λ m. m % 4 == 0) (after_small s.frame.object n h) ∙ aligned_after s.frame.object n k)
-    (λ h k. both (nat_le s.frame.object (after s.frame.object n)) (s.frame.object % 4 == 0) (le_here s.frame.object (after s.frame.object n) (after_grows s.frame.object n h)) k)
+    (λ h k. and_true (nat_le s.frame.object (after s.frame.object n)) (s.frame.object % 4 == 0) (le_true s.frame.object (after s.frame.object n) (after_grows s.frame.object n h)) k)
     (λ r k a. (
-      frame_stands r.function s.frame.object a.is_function (le_before s.frame.object (after s.frame.object n) r.function.object (after_grows s.frame.object n a.small.object) a.object) k,
+      frame_stands r.function s.frame.object a.is_function (le_less s.frame.object (after s.frame.object n) r.function.object (after_grows s.frame.object n a.small.object) a.object) k,
       record { address = nodes_use.frame s.frame.object; type = o.type },
     )) known
 
@@ -158,18 +148,12 @@ variable_did b s name t o known = variable_by b s name t (frames.is_object t s.f
 tick_has : (b : Blocks) (s : State) → b.in_tick ≡ true → of_tick stage.Tick b s ≡ b.tick ++ numbers s.frame.nodes
 tick_has b s e = ap (λ c. if c then b.tick ++ numbers s.frame.nodes else []) e
 
-abbrev with_inner : Name → CType → State → State
-with_inner name t s = record s {
-  scopes = declared s.scopes name (meaning kind.Variable t (frames.inner_number s.frame));
-  frame = frames.inner_variable s.frame;
-}
-
-tick_more : (b : Blocks) (s : State) (name : Name) (t : CType) → b.in_tick ≡ true → (i : ℕ) → has i (of_tick stage.Tick b s) ≡ true → has i (of_tick stage.Tick b (with_inner name t s)) ≡ true
+tick_more : (b : Blocks) (s : State) (name : Name) (t : CType) → b.in_tick ≡ true → (i : ℕ) → has i (of_tick stage.Tick b s) ≡ true → has i (of_tick stage.Tick b (inner_state name t s)) ≡ true
 tick_more b s name t e i h =
-    ap (λ l. has i l) (tick_has b (with_inner name t s) e)
+    ap (λ l. has i l) (tick_has b (inner_state name t s) e)
     ∙ has_starts (starts_behind s.frame.nodes (st.Variable s.frame.inner ∷ [])) i b.tick (ap (λ l. has i l) (sym (tick_has b s e)) ∙ h)
 
-inner_wider : (b : Blocks) (s : State) (name : Name) (t : CType) → b.in_tick ≡ true → Wider stage.Tick b s b (with_inner name t s)
+inner_wider : (b : Blocks) (s : State) (name : Name) (t : CType) → b.in_tick ≡ true → Wider stage.Tick b s b (inner_state name t s)
 inner_wider b s name t e = record {
   homes = λ i k h. h;
   own = λ i h k. (h, tick_more b s name t e (i - count s.frame.homes) k);
@@ -179,8 +163,8 @@ inner_wider b s name t e = record {
   functions = refl;
 }
 
-has_inner : (b : Blocks) (s : State) (name : Name) (t : CType) → b.in_tick ≡ true → has s.frame.inner (of_tick stage.Tick b (with_inner name t s)) ≡ true
-has_inner b s name t e = ap (λ l. has s.frame.inner l) (tick_has b (with_inner name t s) e) ∙ has_variable s.frame.inner b.tick s.frame.nodes
+has_inner : (b : Blocks) (s : State) (name : Name) (t : CType) → b.in_tick ≡ true → has s.frame.inner (of_tick stage.Tick b (inner_state name t s)) ≡ true
+has_inner b s name t e = ap (λ l. has s.frame.inner l) (tick_has b (inner_state name t s) e) ∙ has_variable s.frame.inner b.tick s.frame.nodes
 
 inner_index : (s : State) → length s.frame.homes ≤ 1000000000 → min (s.frame.inner + 1) 4294967295 ≤ 1000000000 → frames.inner_number s.frame - count s.frame.homes ≡ s.frame.inner
 inner_index s h k = omega (arith, h, k)
@@ -189,17 +173,17 @@ inner_past : (s : State) → length s.frame.homes ≤ 1000000000 → min (s.fram
 inner_past s h k = omega (arith, h, k)
 
 means_inner : (many : ℕ) (b : Blocks) (s : State) (name : Name) (t : CType) → b.in_tick ≡ true → length s.frame.homes ≤ 1000000000 → min (s.frame.inner + 1) 4294967295 ≤ 1000000000 → IsObject t
-    → Means many stage.Tick b (with_inner name t s) name (meaning kind.Variable t (frames.inner_number s.frame)) kind.Variable
+    → Means many stage.Tick b (inner_state name t s) name (meaning kind.Variable t (frames.inner_number s.frame)) kind.Variable
 means_inner many b s name t e h k o = (
-  subst (λ m. IsVariable stage.Tick b (with_inner name t s) (frames.inner_number s.frame) m) (sym (slice_get_past s.frame.homes (frames.inner_number s.frame) (inner_past s h k)))
-      (ap (λ i. has i (of_tick stage.Tick b (with_inner name t s))) (inner_index s h k) ∙ has_inner b s name t e),
+  subst (λ m. IsVariable stage.Tick b (inner_state name t s) (frames.inner_number s.frame) m) (sym (slice_get_past s.frame.homes (frames.inner_number s.frame) (inner_past s h k)))
+      (ap (λ i. has i (of_tick stage.Tick b (inner_state name t s))) (inner_index s h k) ∙ has_inner b s name t e),
   o,
 )
 
 inner_did : {many : ℕ} (b : Blocks) {ks : List (List CaptureKind)} (s : State) (name : Name) (t : CType) → b.in_tick ≡ true → IsObject t → Known many stage.Tick b ks s
-    → Did many stage.Tick b ks s (with_inner name t s) (λ r. Good r.tick (operand (place.Register s.frame.inner) t))
+    → Did many stage.Tick b ks s (inner_state name t s) (λ r. Good r.tick (operand (place.Register s.frame.inner) t))
 inner_did {many} b {ks} s name t e o known =
-    let new : State = with_inner name t s in
+    let new : State = inner_state name t s in
     let grows = inner_grows s name (meaning kind.Variable t (frames.inner_number s.frame)) in
     did_only (λ r. Good r.tick (operand (place.Register s.frame.inner) t)) refl refl
     (λ small.

@@ -19,10 +19,10 @@ use Rattle.check_expressions.specs.Rules.{Node, Item, each}
 use Rattle.check_statements.specs.Rules as rules
 use Rattle.check_statements.specs.Statements as statements
 use Rattle.accepted_trees.specs.Places.{Around, looped}
-use Rattle.accepted_nodes.specs.Right.{Stands, Unless}
+use Rattle.accepted_nodes.specs.Right.{Stands}
 use Rattle.accepted_nodes.proofs.Operands.{prefixes_stand}
 use Rattle.accepted_nodes.proofs.Calls.{calls_stand}
-use Rattle.accepted_nodes.proofs.Nodes.{const_stands}
+use Rattle.accepted_nodes.proofs.Nodes.{const_stands, unless_ok}
 use Rattle.accepted_values.specs.Used.{Leaves, Unless as UnlessUsed}
 use Rattle.accepted_values.proofs.Nodes.{nodes_use}
 use Rattle.accepted_values.proofs.Operands.{prefixes_use}
@@ -45,9 +45,6 @@ use Rattle.accepted_statements.proofs.Joining.{did_both, did_so, did_placed}
 use Rattle.accepted_statements.proofs.Standing.{Stood, Test, Effect, EffectOf, stood_one, body_stood, if_stood, if_else_stood, while_stood, do_stood, for_stood, expr_stood, answer_stood}
 
 -- ---- tests
-
-pub unless_ok : {A : Type 0} (P : A → Type 0) (c : Checked A) (x : A) → c ≡ Ok x → Unless P c → P x
-unless_ok P c x e u = subst (λ z. Unless P z) e u
 
 pub unless_used : {A : Type 0} (P : A → Type 0) (c : Checked A) (x : A) → c ≡ Ok x → UnlessUsed P c → P x
 unless_used P c x e u = subst (λ z. UnlessUsed P z) e u

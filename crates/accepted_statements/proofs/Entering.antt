@@ -14,8 +14,9 @@ use Rattle.accepted_steps.specs.Kept.{GrowsStage, Grows}
 use Rattle.accepted_steps.specs.Known.{Blocks, of_function, of_tick, has, numbers, Means, Small, Known}
 use Rattle.accepted_steps.specs.Steps.{Round, AgreesTick, Agrees, EachTick, CapturesStand, Did}
 use Rattle.accepted_steps.specs.Items.{MayStand, entered}
+use Rattle.accepted_types.proofs.Blocks.{inside, back}
 use Rattle.accepted_statements.proofs.Growing.{small_before, object_grows, homes_grow}
-use Rattle.accepted_statements.proofs.Blocks.{inside, back, scopes_back, grows_back, small_inside}
+use Rattle.accepted_statements.proofs.Blocks.{scopes_back, grows_back, small_inside}
 use Rattle.accepted_statements.proofs.Lists.{get_starts, has_front, has_back, has_either, has_none, scopes_append}
 use Rattle.accepted_statements.proofs.Wider.{Wider, AllMean, names_wider, agrees_wider}
 

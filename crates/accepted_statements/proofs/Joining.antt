@@ -1,5 +1,5 @@
 -- What steps one after the other did, where statements stand among them.
-use Rattle.std.proofs.Common.{◌≡◌, ℕ, List, [], ◌∷◌, ◌++◌, sym, subst, append_assoc, append-nil}
+use Rattle.std.proofs.Common.{◌≡◌, ℕ, List, [], ◌++◌, sym, subst, append_assoc, append-nil}
 use Rattle.typed_tree.specs.declared.expression.CaptureKind.{CaptureKind}
 use Rattle.typed_tree.specs.declared.program.Tick.{Tick}
 use Rattle.check_state.specs.declared.state.Around.{Around as Standing}
@@ -12,16 +12,10 @@ use Rattle.accepted_steps.specs.Known.{Blocks, Known}
 use Rattle.accepted_steps.specs.Steps.{Round, AgreesTick, Agrees, EachTick, EachCapture, CapturesStand, Did}
 use Rattle.accepted_steps.specs.Items.{placed_round}
 use Rattle.accepted_types.proofs.Fronts.{starts_more, same_rest, no_rest}
-use Rattle.accepted_types.proofs.Plain.{each_capture}
+use Rattle.accepted_types.proofs.Plain.{each_capture, each_tick}
 use Rattle.accepted_statements.proofs.Growing.{ticks_grow}
 
 -- ---- two steps
-
-each_tick : (a : Around) (ts us : List Tick) (ks ms : List (List CaptureKind)) → EachTick a ts ks → EachTick a us ms → EachTick a (ts ++ us) (ks ++ ms)
-each_tick a [] us [] ms p q = q
-each_tick a [] us (k ∷ ks) ms p q = cc
-each_tick a (t ∷ ts) us [] ms p q = cc
-each_tick a (t ∷ ts) us (k ∷ ks) ms p q = (p.0, each_tick a ts us ks ms p.1 q)
 
 captures_more : (g : Stage) (s t new : State) (r : Round) → GrowsStage g s t → GrowsStage g t new → CapturesStand g s t r → CapturesStand g t new r → CapturesStand g s new r
 captures_more stage.Function s t new r h k p q = tt

@@ -18,6 +18,7 @@ use Rattle.check_expressions.specs.Rules.{Node}
 use Rattle.check_statements.specs.Rules as rules
 use Rattle.check_statements.specs.Statements as statements
 use Rattle.check_statements.specs.Statements.{return_node, with_labels, case_node, default_node}
+use Rattle.accepted_trees.proofs.Bools.{first_true, second_true}
 use Rattle.accepted_types.proofs.Walks.{ran, ok_same, pure_same, pure_value, lifted}
 use Rattle.accepted_statements.proofs.Runs.{gave}
 
@@ -30,14 +31,6 @@ if_ok false x y k line e = cc
 if_not : {A : Type 0} (b : Bool) (x y : A) (k : FaultKind) (line : ℕ) → (if b then refuse k line else Ok x) ≡ Ok y → (b ≡ false) × (x ≡ y)
 if_not true x y k line e = cc
 if_not false x y k line e = (refl, ok_same x y e)
-
-pub first_true : (x y : Bool) → (x && y) ≡ true → x ≡ true
-first_true true y h = refl
-first_true false y h = h
-
-pub second_true : (x y : Bool) → (x && y) ≡ true → y ≡ true
-second_true true y h = h
-second_true false y h = cc
 
 -- ---- jumps
 

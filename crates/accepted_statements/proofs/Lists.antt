@@ -1,12 +1,12 @@
 -- Lists that grow: what stands in them still does.
-use Rattle.std.proofs.Common.{◌≡◌, ℕ, zero, suc, Bool, true, false, ◌||◌, List, [], ◌∷◌, ◌++◌, length, refl, sym, ap, subst, ◌∙◌, append_assoc, Some, arith}
+use Rattle.std.proofs.Common.{◌≡◌, ℕ, zero, suc, Bool, true, false, ◌||◌, List, [], ◌∷◌, ◌++◌, length, refl, sym, ap, subst, ◌∙◌, append_assoc, Some}
 use Rattle.std.specs.Prelude.{◌==◌, ◌⊎◌, slice_get, slice_set, slice_index_or}
 use Rattle.std.proofs.Common.{inl, inr}
-use Rattle.std.proofs.lemmas.Bool.Decides.{nat_tests}
 use Rattle.typed_tree.specs.declared.expression.Stmt.{Stmt}
 use Rattle.c_types.specs.declared.names.Meaning.{Meaning}
 use Rattle.c_types.specs.Scopes.{Name, Scope, Scopes}
 use Rattle.accepted_trees.specs.Places.{act}
+use Rattle.accepted_trees.proofs.Bools.{front_by, back_by, same_number}
 use Rattle.accepted_steps.specs.Kept.{Starts}
 use Rattle.accepted_steps.specs.Known.{numbers, has, EachEntry, EachScope}
 
@@ -26,17 +26,9 @@ get_starts {xs = xs} s i x e = ap (λ l. slice_get l i) s.is ∙ get_front xs s.
 
 -- ---- numbers
 
-front_by : (b c d : Bool) → (c ≡ true → d ≡ true) → (b || c) ≡ true → (b || d) ≡ true
-front_by true c d f h = refl
-front_by false c d f h = f h
-
 pub has_front : (i : ℕ) (xs ys : List ℕ) → has i xs ≡ true → has i (xs ++ ys) ≡ true
 has_front i [] ys h = cc
 has_front i (x ∷ xs) ys h = front_by (i == x) (has i xs) (has i (xs ++ ys)) (has_front i xs ys) h
-
-back_by : (b c : Bool) → c ≡ true → (b || c) ≡ true
-back_by true c h = refl
-back_by false c h = h
 
 pub has_back : (i : ℕ) (xs ys : List ℕ) → has i ys ≡ true → has i (xs ++ ys) ≡ true
 has_back i [] ys h = h
@@ -49,9 +41,6 @@ either_by false c d f h = f h
 pub has_either : (i : ℕ) (xs ys : List ℕ) → has i (xs ++ ys) ≡ true → (has i xs ≡ true) ⊎ (has i ys ≡ true)
 has_either i [] ys h = inr h
 has_either i (x ∷ xs) ys h = either_by (i == x) (has i xs) (has i (xs ++ ys)) (has_either i xs ys) h
-
-same_number : (n : ℕ) → (n == n) ≡ true
-same_number n = grind (arith, nat_tests)
 
 pub has_self : (n : ℕ) → has n (n ∷ []) ≡ true
 has_self n = ap (λ b. b || false) (same_number n)

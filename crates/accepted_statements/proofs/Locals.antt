@@ -1,7 +1,7 @@
 -- What the declaration of a variable makes: a name, the variable's place, and its node.
-use Rattle.std.proofs.Common.{◌≡◌, ℕ, ◌+◌, ◌-◌, ◌*◌, ◌≤◌, ◌%◌, min, Bool, true, false, ◌&&◌, List, [], ◌∷◌, ◌++◌, length, take, refl, sym, ap, subst, ◌∙◌, length-append, arith, Option, Some, None, Ok}
+use Rattle.std.proofs.Common.{◌≡◌, ℕ, ◌+◌, ◌-◌, ◌*◌, ◌≤◌, ◌%◌, min, Bool, true, false, ◌&&◌, List, [], ◌∷◌, ◌++◌, length, refl, sym, ap, subst, ◌∙◌, length-append, arith, Option, Some, None, Ok}
 use Rattle.std.specs.Prelude.{◌==◌, nat_le, nat_lt, if◌then◌else◌}
-use Rattle.std.proofs.lemmas.List.{length-set, take-set}
+use Rattle.std.proofs.lemmas.List.{length-set}
 use Rattle.std.proofs.lemmas.Bool.Decides.{nat_tests}
 use Rattle.c_types.specs.declared.ctype.CType.{CType}
 use Rattle.c_types.specs.declared.names.Meaning.{Meaning}
@@ -24,11 +24,13 @@ use Rattle.accepted_trees.specs.Counts.{one_if, objects_at, declarations_of}
 use Rattle.accepted_trees.specs.Places.{Around, in_function, is_object}
 use Rattle.accepted_trees.proofs.Equations.{act_variable, act_object, objects_at_variable, objects_at_object, declarations_of_variable, declarations_of_object}
 use Rattle.accepted_trees.proofs.Uses.{uses_values_variable, uses_values_object}
-use Rattle.accepted_steps.specs.Kept.{Starts, outer, Grows}
+use Rattle.accepted_trees.proofs.Bools.{and_true}
+use Rattle.accepted_steps.specs.Kept.{Starts, Grows}
 use Rattle.accepted_steps.specs.Counts.{between, Counts}
 use Rattle.accepted_steps.specs.Items.{EachNode, DeclaresAt, Declared, MayStand}
 use Rattle.accepted_types.proofs.Fronts.{starts_refl, starts_behind, same_rest}
 use Rattle.accepted_types.proofs.Walks.{ran, ok_same}
+use Rattle.accepted_types.proofs.Types.{declared_outer}
 use Rattle.accepted_statements.proofs.Counting.{sum_one, objects_append, declarations_append, sizes_append, between_none}
 use Rattle.accepted_statements.proofs.Making.{Made}
 
@@ -36,10 +38,6 @@ use Rattle.accepted_statements.proofs.Making.{Made}
 
 pub declared_length : (ss : Scopes) (name : Name) (what : Meaning) → length (declared ss name what) ≡ length ss
 declared_length ss name what = length-set ss (length ss - 1) (innermost ss ++ (name, what) ∷ [])
-
-pub declared_outer : (ss : Scopes) (name : Name) (what : Meaning) → outer (declared ss name what) ≡ outer ss
-declared_outer ss name what =
-    ap (λ n. take (n - 1) (declared ss name what)) (declared_length ss name what) ∙ take-set ss (length ss - 1) (innermost ss ++ (name, what) ∷ [])
 
 abbrev pub named : Name → Meaning → State → State
 named name what s = record s { scopes = declared s.scopes name what }
@@ -95,12 +93,8 @@ after_grows off n h = omega arith
 pub aligned_after : (off n : ℕ) → (off % 4 == 0) ≡ true → ((off + 4 * n) % 4 == 0) ≡ true
 aligned_after off n h = grind (arith, nat_tests)
 
-pub both : (x y : Bool) → x ≡ true → y ≡ true → (x && y) ≡ true
-both true y p q = q
-both false y p q = cc
-
 declares_object : (off n : ℕ) (r : Around) → (off % 4 == 0) ≡ true → in_function r ≡ true → nat_le (off + 4 * n) r.object ≡ true → is_object off n r ≡ true
-declares_object off n r a f h = both (in_function r && nat_le (off + 4 * n) r.object) (off % 4 == 0) (both (in_function r) (nat_le (off + 4 * n) r.object) f h) a
+declares_object off n r a f h = and_true (in_function r && nat_le (off + 4 * n) r.object) (off % 4 == 0) (and_true (in_function r) (nat_le (off + 4 * n) r.object) f h) a
 
 -- one node more
 pub node_behind : (P : Stmt → Type 0) (xs : List Stmt) (x : Stmt) → P x → (more : Starts xs (xs ++ x ∷ [])) → EachNode P more.rest

@@ -16,10 +16,11 @@ use Rattle.accepted_steps.specs.Items.{MayStand, Labelled, GoodStatement, GoodIt
 use Rattle.accepted_types.specs.Parts.{EachPart, GoodOptional}
 use Rattle.accepted_types.proofs.Walks.{ran, pure_same, pure_value}
 use Rattle.accepted_types.proofs.Keeps.{keeps_same, keeps_more}
+use Rattle.accepted_types.proofs.Blocks.{inside}
 use Rattle.accepted_statements.proofs.Counting.{CountsAs}
 use Rattle.accepted_statements.proofs.Nodes.{Unlabelled, if_counts, while_counts, do_counts, for_counts, if_else_counts, body_counts, if_unlabelled, if_else_unlabelled, while_unlabelled, do_unlabelled, for_unlabelled}
 use Rattle.accepted_statements.proofs.Making.{Made, made_kept, made_more, made_behind, made_before, made_as, labelled_more, labelled_none, labelled_one}
-use Rattle.accepted_statements.proofs.Blocks.{inside, made_back}
+use Rattle.accepted_statements.proofs.Blocks.{made_back}
 use Rattle.accepted_statements.proofs.Runs.{followed, BodyRan, IfRan, WhileRan, DoRan, ElseRan, OptionalRan, ForRan}
 use Rattle.accepted_statements.proofs.Blocking.{Enclosed}
 

@@ -1,14 +1,14 @@
 -- What statements make comes together over statements: what they leave, what they count, the variables that they declare, and the labels
 -- that they are.
 use Rattle.std.proofs.Common.{◌≡◌, ℕ, ◌+◌, ◌≤◌, ◌%◌, Bool, true, List, [], ◌∷◌, ◌++◌, length, map, refl, sym, ap, subst, ◌∙◌, append_assoc, append-nil, arith}
-use Rattle.std.specs.Prelude.{◌==◌, nat_le}
-use Rattle.std.proofs.lemmas.Bool.Decides.{nat_tests}
+use Rattle.std.specs.Prelude.{◌==◌}
 use Rattle.typed_tree.specs.declared.expression.Stmt.{Stmt}
 use Rattle.check_state.specs.declared.state.Stage.{Stage}
 use Rattle.check_state.specs.declared.state.Stage.TheVariants as stage
 use Rattle.check_state.specs.declared.state.State.{State}
 use Rattle.accepted_trees.specs.Places.{act, values_of, defaults_of, all_different}
 use Rattle.accepted_trees.specs.Counts.{one_if}
+use Rattle.accepted_trees.proofs.Bools.{le_less}
 use Rattle.accepted_steps.specs.Kept.{KeepsTables, KeepsStage, Keeps, Grows}
 use Rattle.accepted_steps.specs.Known.{Small}
 use Rattle.accepted_steps.specs.Counts.{variables, Counts}
@@ -28,11 +28,8 @@ pub each_weaken : (P Q : Stmt → Type 0) → ((x : Stmt) → P x → Q x) → (
 each_weaken P Q f [] p = tt
 each_weaken P Q f (x ∷ xs) p = (f x p.0, each_weaken P Q f xs p.1)
 
-le_before : (m n k : ℕ) → m ≤ n → nat_le n k ≡ true → nat_le m k ≡ true
-le_before m n k p q = grind (arith, nat_tests)
-
 declares_later : (g : Stage) (m n : ℕ) → m ≤ n → (x : Stmt) → DeclaresAt g m x → DeclaresAt g n x
-declares_later stage.Function m n p x d = (λ r f h. d.0 r f (le_before m n r.object p h), d.1)
+declares_later stage.Function m n p x d = (λ r f h. d.0 r f (le_less m n r.object p h), d.1)
 declares_later stage.Tick m n p x d = d
 declares_later stage.Dollar m n p x d = d
 

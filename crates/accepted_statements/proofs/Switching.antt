@@ -24,8 +24,9 @@ use Rattle.accepted_steps.specs.Items.{MayStand, InBlock, entered, placed_round,
 use Rattle.accepted_steps.specs.Kept.{Grows}
 use Rattle.accepted_types.specs.Parts.{EachPart}
 use Rattle.accepted_types.proofs.Plain.{plain_same, plain_did_by}
+use Rattle.accepted_types.proofs.Blocks.{inside, back}
 use Rattle.accepted_statements.proofs.Growing.{keeps_grows, small_before}
-use Rattle.accepted_statements.proofs.Blocks.{inside, back, small_inside, grows_back}
+use Rattle.accepted_statements.proofs.Blocks.{small_inside, grows_back}
 use Rattle.accepted_statements.proofs.Making.{Made}
 use Rattle.accepted_statements.proofs.Blocking.{SwitchRan}
 use Rattle.accepted_statements.proofs.Labelling.{with_value, with_default, CaseRan, DefaultRan}

@@ -21,6 +21,7 @@ use Rattle.check_statements.specs.Statements.{with_labels}
 use Rattle.accepted_trees.specs.Counts.{one_if}
 use Rattle.accepted_trees.specs.Places.{all_different}
 use Rattle.accepted_trees.proofs.Equations.{act_case, act_default}
+use Rattle.accepted_trees.proofs.Bools.{first_true, second_true, first_false, second_false, and_true}
 use Rattle.accepted_steps.specs.Kept.{GrowsStage}
 use Rattle.accepted_steps.specs.Known.{Small, SmallTick}
 use Rattle.accepted_steps.specs.Counts.{declarations_in, between, variables, Counts}
@@ -29,14 +30,13 @@ use Rattle.accepted_steps.specs.Items.{MayStand, Labelled, GoodItem}
 use Rattle.accepted_types.specs.Parts.{EachPart, GoodOptional}
 use Rattle.accepted_types.proofs.Walks.{ran}
 use Rattle.accepted_types.proofs.Keeps.{keeps_same}
+use Rattle.accepted_types.proofs.Blocks.{inside}
 use Rattle.accepted_statements.proofs.Counting.{CountsAs}
 use Rattle.accepted_statements.proofs.Nodes.{Unlabelled, expr_counts, answer_counts, case_counts, default_counts, block_counts, switch_counts, expr_unlabelled, block_unlabelled, switch_unlabelled, answer_unlabelled}
 use Rattle.accepted_statements.proofs.Making.{Made, made_kept, made_more, made_behind, made_as, labelled_more, labelled_none, labelled_one}
-use Rattle.accepted_statements.proofs.Blocks.{inside}
 use Rattle.accepted_statements.proofs.Runs.{followed, for_ran}
 use Rattle.accepted_statements.proofs.Blocking.{enclosed, SwitchRan}
-use Rattle.accepted_statements.proofs.Labelling.{AnswerRan, with_value, with_default, CaseRan, DefaultRan, first_true, second_true}
-use Rattle.accepted_statements.proofs.Locals.{both}
+use Rattle.accepted_statements.proofs.Labelling.{AnswerRan, with_value, with_default, CaseRan, DefaultRan}
 use Rattle.accepted_statements.proofs.Makes.{Makes, makes_of, one_node, for_makes, for_labels, each_makes, enclosed_made, enclosed_labels}
 
 -- ---- blocks
@@ -84,7 +84,7 @@ counts_relabelled g l m s t xs c = record {
   sizes = omega (arith, c.sizes, variables_relabelled g l s, variables_relabelled g m t);
 }
 
-small_without : (g : Stage) (m : Labels) (t : State) → Small g (with_labels m t) → Small g t
+pub small_without : (g : Stage) (m : Labels) (t : State) → Small g (with_labels m t) → Small g t
 small_without g m t x = record { homes = x.homes; object = x.object; ticks = x.ticks; tick = small_relabelled g m t x.tick }
 
 relabelled : (g : Stage) (l m : Labels) (s t : State) (xs : List Stmt) → Made g (with_labels l s) t xs → Made g s (with_labels m t) xs
@@ -150,18 +150,10 @@ differ n (x ∷ xs) m k = ap (λ b. (n == x) || b) (differ n xs m k)
 other_way : (m n : ℕ) → (m == n) ≡ false → (n == m) ≡ false
 other_way m n h = grind (arith, nat_tests)
 
-first_false : (x y : Bool) → (x || y) ≡ false → x ≡ false
-first_false true y h = cc
-first_false false y h = refl
-
-second_false : (x y : Bool) → (x || y) ≡ false → y ≡ false
-second_false true y h = cc
-second_false false y h = h
-
 pub one_more : (xs : List ℕ) (n : ℕ) → is_member n xs ≡ false → all_different xs ≡ true → all_different (xs ++ n ∷ []) ≡ true
 one_more [] n h d = refl
 one_more (x ∷ xs) n h d =
-    both (not (list_any (λ y. x == y) (xs ++ n ∷ []))) (all_different (xs ++ n ∷ []))
+    and_true (not (list_any (λ y. x == y) (xs ++ n ∷ []))) (all_different (xs ++ n ∷ []))
     (ap not (differ x xs n (other_way n x (first_false (n == x) (is_member n xs) h))) ∙ first_true (not (list_any (λ y. x == y) xs)) (all_different xs) d)
     (one_more xs n (second_false (n == x) (is_member n xs) h) (second_true (not (list_any (λ y. x == y) xs)) (all_different xs) d))
 

@@ -1,7 +1,6 @@
 -- What is known in a state is known in one where more stands, and who has room for the second has room for the first.
-use Rattle.std.proofs.Common.{◌≡◌, ℕ, ◌-◌, ◌≤◌, ◌%◌, true, List, ◌++◌, refl, sym, subst, arith, Option, Some, None}
+use Rattle.std.proofs.Common.{◌≡◌, ℕ, ◌-◌, ◌≤◌, ◌%◌, true, List, ◌++◌, refl, sym, subst, Option, Some, None}
 use Rattle.std.specs.Prelude.{◌==◌, nat_le, slice_get}
-use Rattle.std.proofs.lemmas.Bool.Decides.{nat_tests}
 use Rattle.c_types.specs.declared.names.Meaning.{Meaning}
 use Rattle.c_types.specs.declared.names.MeaningKind.{MeaningKind}
 use Rattle.c_types.specs.declared.names.MeaningKind.TheVariants as kind
@@ -15,14 +14,13 @@ use Rattle.check_tables.specs.Functions.{number}
 use Rattle.check_state.specs.declared.state.Stage.{Stage}
 use Rattle.check_state.specs.declared.state.Stage.TheVariants as stage
 use Rattle.check_state.specs.declared.state.State.{State}
+use Rattle.accepted_trees.proofs.Bools.{first_true, second_true, and_true, le_less, le_more}
 use Rattle.accepted_steps.specs.Kept.{GrowsStage, Grows}
 use Rattle.accepted_steps.specs.Known.{Blocks, of_function, of_tick, has, HasHome, IsVariable, IsParameter, IsFunction, is_number, Means, EachScope}
 use Rattle.accepted_steps.specs.Steps.{Round, AgreesTick, Agrees}
 use Rattle.accepted_types.proofs.Fronts.{starts_front}
 use Rattle.accepted_types.proofs.Knowing.{each_scope, captures_back}
 use Rattle.accepted_statements.proofs.Growing.{small_before}
-use Rattle.accepted_statements.proofs.Labelling.{first_true, second_true}
-use Rattle.accepted_statements.proofs.Locals.{both}
 
 -- where more stands: `b` and `c` are the blocks round
 pub record Wider (g : Stage) (b : Blocks) (s : State) (c : Blocks) (new : State) : Type 0 where
@@ -36,16 +34,10 @@ pub record Wider (g : Stage) (b : Blocks) (s : State) (c : Blocks) (new : State)
 
 -- ---- names
 
-le_more : (m n k : ℕ) → n ≤ k → nat_le m n ≡ true → nat_le m k ≡ true
-le_more m n k p q = grind (arith, nat_tests)
-
-le_less : (m n k : ℕ) → m ≤ n → nat_le n k ≡ true → nat_le m k ≡ true
-le_less m n k p q = grind (arith, nat_tests)
-
 home_wider : {g : Stage} {b : Blocks} {s : State} {c : Blocks} {new : State} → Wider g b s c new → (n : ℕ) (h : Home) → HasHome (of_function g b s) s.frame.object n h → HasHome (of_function g c new) new.frame.object n h
 home_wider w n home.Register x = w.function n x
 home_wider {s = s} {new = new} w n (home.Object at) x =
-    both (nat_le at new.frame.object) (at % 4 == 0) (le_more at s.frame.object new.frame.object w.object (first_true (nat_le at s.frame.object) (at % 4 == 0) x)) (second_true (nat_le at s.frame.object) (at % 4 == 0) x)
+    and_true (nat_le at new.frame.object) (at % 4 == 0) (le_more at s.frame.object new.frame.object w.object (first_true (nat_le at s.frame.object) (at % 4 == 0) x)) (second_true (nat_le at s.frame.object) (at % 4 == 0) x)
 
 variable_wider : {g : Stage} {b : Blocks} {s : State} {c : Blocks} {new : State} → Wider g b s c new → (n : ℕ) (h : Option Home) → slice_get s.frame.homes n ≡ h → IsVariable g b s n h → IsVariable g c new n (slice_get new.frame.homes n)
 variable_wider {g} {b} {s} {c} {new} w n None e x =

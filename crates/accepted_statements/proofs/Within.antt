@@ -17,19 +17,20 @@ use Rattle.check_statements.specs.Statements as statements
 use Rattle.check_statements.specs.Statements.{with_labels}
 use Rattle.accepted_trees.specs.Places.{Around, act, in_function, within, all_declare}
 use Rattle.accepted_trees.specs.Values.{uses_values, all_true}
-use Rattle.accepted_steps.specs.Known.{Blocks, of_function, of_tick, has, Small, Known}
+use Rattle.accepted_trees.proofs.Bools.{and_true}
+use Rattle.accepted_steps.specs.Known.{Blocks, of_function, of_tick, has, Known}
 use Rattle.accepted_steps.specs.Steps.{Round, at, AgreesTick, Agrees, CapturesStand, Did}
 use Rattle.accepted_steps.specs.Items.{MayStand, InBlock, entered, placed_round, EachNode, DeclaresAt, ItemStands, ItemsStand, GoodItem}
 use Rattle.accepted_types.specs.Parts.{EachPart, GoodOptional}
 use Rattle.accepted_types.proofs.Walks.{ran}
+use Rattle.accepted_types.proofs.Blocks.{inside, back}
 use Rattle.accepted_statements.proofs.Growing.{small_before}
-use Rattle.accepted_statements.proofs.Blocks.{inside, back, small_inside, grows_back}
-use Rattle.accepted_statements.proofs.Locals.{both}
+use Rattle.accepted_statements.proofs.Blocks.{small_inside, grows_back}
 use Rattle.accepted_statements.proofs.Runs.{followed, for_ran}
 use Rattle.accepted_statements.proofs.Blocking.{enclosed}
 use Rattle.accepted_statements.proofs.Making.{Made, made_more}
 use Rattle.accepted_statements.proofs.Makes.{makes_of, each_makes, for_makes}
-use Rattle.accepted_statements.proofs.Whole.{blocked}
+use Rattle.accepted_statements.proofs.Whole.{blocked, small_without}
 use Rattle.accepted_statements.proofs.Wider.{Wider, names_wider}
 use Rattle.accepted_statements.proofs.Entering.{known_inside, in_block, did_block}
 use Rattle.accepted_statements.proofs.Joining.{did_both, did_so}
@@ -41,13 +42,13 @@ use Rattle.accepted_statements.proofs.Doing.{place_of, may_of, for_did, each_did
 
 pub declares_all : (g : Stage) (object : ℕ) (vs : List Stmt) (r : Around) → (g ≡ stage.Function → in_function r ≡ true) → (g ≡ stage.Function → nat_le object r.object ≡ true) → EachNode (DeclaresAt g object) vs → all_declare (map act vs) r ≡ true
 declares_all g object [] r f o h = refl
-declares_all stage.Function object (v ∷ vs) r f o h = both ((act v).declares r) (all_declare (map act vs) r) (h.0.0 r (f refl) (o refl)) (declares_all stage.Function object vs r f o h.1)
-declares_all stage.Tick object (v ∷ vs) r f o h = both ((act v).declares r) (all_declare (map act vs) r) (h.0.0 r) (declares_all stage.Tick object vs r f o h.1)
-declares_all stage.Dollar object (v ∷ vs) r f o h = both ((act v).declares r) (all_declare (map act vs) r) (h.0.0 r) (declares_all stage.Dollar object vs r f o h.1)
+declares_all stage.Function object (v ∷ vs) r f o h = and_true ((act v).declares r) (all_declare (map act vs) r) (h.0.0 r (f refl) (o refl)) (declares_all stage.Function object vs r f o h.1)
+declares_all stage.Tick object (v ∷ vs) r f o h = and_true ((act v).declares r) (all_declare (map act vs) r) (h.0.0 r) (declares_all stage.Tick object vs r f o h.1)
+declares_all stage.Dollar object (v ∷ vs) r f o h = and_true ((act v).declares r) (all_declare (map act vs) r) (h.0.0 r) (declares_all stage.Dollar object vs r f o h.1)
 
 pub variables_use : (g : Stage) (object : ℕ) (vs : List Stmt) → EachNode (DeclaresAt g object) vs → all_true (map uses_values vs) ≡ true
 variables_use g object [] h = refl
-variables_use g object (v ∷ vs) h = both (uses_values v) (all_true (map uses_values vs)) h.0.1 (variables_use g object vs h.1)
+variables_use g object (v ∷ vs) h = and_true (uses_values v) (all_true (map uses_values vs)) h.0.1 (variables_use g object vs h.1)
 
 pub function_round : (g : Stage) (a : Standing) (r : Round) → in_function r.function ≡ true → g ≡ stage.Function → in_function (at g (placed_round a r)) ≡ true
 function_round stage.Function a r h e = h
@@ -147,14 +148,9 @@ labels_wider g b l s = record {
   functions = refl;
 }
 
-small_relabelled : (g : Stage) (l : Labels) (s : State) → Small g (with_labels l s) → Small g s
-small_relabelled stage.Function l s x = record { homes = x.homes; object = x.object; ticks = x.ticks; tick = tt }
-small_relabelled stage.Tick l s x = record { homes = x.homes; object = x.object; ticks = x.ticks; tick = record { inner = x.tick.inner; captures = x.tick.captures } }
-small_relabelled stage.Dollar l s x = record { homes = x.homes; object = x.object; ticks = x.ticks; tick = record { inner = x.tick.inner; captures = x.tick.captures } }
-
 pub known_relabelled : {many : ℕ} {g : Stage} {b : Blocks} {ks : List (List CaptureKind)} (l : Labels) (s : State) → Known many g b ks s → Known many g b ks (with_labels l s)
 known_relabelled {many} {g} {b} {ks} l s known small =
-    let k = known (small_relabelled g l s small) in
+    let k = known (small_without g l s small) in
     record { names = names_wider many (labels_wider g b l s) s.scopes k.names; ticks = k.ticks; object = k.object }
 
 tick_relabelled : (g : Stage) (b : Blocks) (l : Labels) (s : State) (r : Round) → AgreesTick g b (with_labels l s) r → AgreesTick g b s r
@@ -164,7 +160,7 @@ tick_relabelled stage.Dollar b l s r x = (x.0, x.1)
 
 pub agrees_unlabelled : {many : ℕ} {g : Stage} {b : Blocks} {ks : List (List CaptureKind)} (l : Labels) (s : State) {r : Round} → Agrees many g b ks (with_labels l s) r → Agrees many g b ks s r
 agrees_unlabelled {many} {g} {b} {ks} l s {r} x = record {
-  small = small_relabelled g l s x.small;
+  small = small_without g l s x.small;
   visible = λ i h. x.visible i (ap (λ ns. has i ns) (of_function_relabelled g b l s) ∙ h);
   object = x.object;
   is_function = x.is_function;

@@ -1,18 +1,11 @@
 -- How an expression is written: what has the form of a constant, and what is a string.
-use Rattle.std.proofs.Common.{◌≡◌, Bool, true, false, refl}
+use Rattle.std.proofs.Common.{◌≡◌, true, false}
 use Rattle.std.specs.Prelude.{◌&&◌, is_some}
 use Rattle.c_forms.specs.Forms.{is_strict}
 use Rattle.tick_tree.specs.declared.syntax.Core.TheOpen.{Expr-F}
 use Rattle.tick_checker.specs.Walk.{Expr-W, written_rule}
+use Rattle.accepted_trees.proofs.Bools.{first_true, second_true}
 use Rattle.accepted_types.specs.Parts.{HasForm, IsString}
-
-first_true : (b c : Bool) → (b && c) ≡ true → b ≡ true
-first_true true c h = refl
-first_true false c h = h
-
-second_true : (b c : Bool) → (b && c) ≡ true → c ≡ true
-second_true true c h = h
-second_true false c h = cc
 
 never : false ≡ true → true ≡ false
 never h = cc
