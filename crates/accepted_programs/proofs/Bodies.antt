@@ -1,5 +1,5 @@
 -- The body of a function: where its parameters, its variables and its items stand right, it does; and what it counts.
-use Rattle.std.proofs.Common.{◌≡◌, ℕ, suc, ◌+◌, ◌≤◌, ◌<◌, true, ◌&&◌, nat_le, nat_lt, refl, ap, ◌∙◌, List, [], ◌∷◌, ◌++◌, length, map, take, drop, arith}
+use Rattle.std.proofs.Common.{◌≡◌, ℕ, ◌+◌, ◌≤◌, ◌<◌, true, ◌&&◌, nat_le, nat_lt, refl, ap, ◌∙◌, List, [], ◌∷◌, ◌++◌, length, map, take, drop, arith}
 use Rattle.std.proofs.lemmas.Bool.Decides.{nat_tests}
 use Rattle.typed_tree.specs.declared.expression.Stmt.{Stmt}
 use Rattle.typed_tree.specs.declared.expression.Stmt.TheVariants as st
@@ -11,11 +11,12 @@ use Rattle.accepted_trees.specs.Counts.{one_if, objects_at, declarations_of}
 use Rattle.accepted_trees.specs.Places.{Around, Act, act, in_function, within, all_stand, all_declare, are_parameters, stands_as_body}
 use Rattle.accepted_trees.specs.Values.{uses_values, all_true}
 use Rattle.accepted_trees.proofs.Equations.{act_block, objects_at_block, declarations_of_block}
+use Rattle.accepted_trees.proofs.Bools.{and_true, le_true}
 use Rattle.accepted_steps.specs.Counts.{objects_in, declarations_in, between}
 use Rattle.accepted_steps.specs.Items.{EachNode, ItemsStand, DeclaresAt}
 use Rattle.tick_checker.specs.Program.{around}
-use Rattle.accepted_programs.proofs.Bools.{and_true, le_true}
 use Rattle.accepted_programs.proofs.Sums.{map_both, all_map_both, take_front, drop_front, values_block}
+use Rattle.accepted_programs.proofs.Bools.{length_map, length_front}
 
 -- ---- items and variables
 
@@ -37,14 +38,6 @@ declared_used object (v ∷ vs) d = and_true (uses_values v) (all_true (map uses
 
 -- ---- the body
 
-length_map : {A B : Type 0} (g : A → B) (xs : List A) → length (map g xs) ≡ length xs
-length_map g [] = refl
-length_map g (x ∷ xs) = ap suc (length_map g xs)
-
-length_both : {A : Type 0} (xs ys : List A) → length xs ≤ length (xs ++ ys)
-length_both [] ys = omega arith
-length_both (x ∷ xs) ys = let h : length xs ≤ length (xs ++ ys) = length_both xs ys in omega arith
-
 pub body_stands : (n : ℕ) (ps rest xs : List Stmt) (a : Around) → length ps ≡ n → are_parameters 0 (map act ps) a ≡ true → all_declare (map act rest) a ≡ true
     → all_stand (map act xs) (within (map act (ps ++ rest)) a) ≡ true → stands_as_body (st.Block (ps ++ rest) xs) n a ≡ true
 body_stands n ps rest xs a few p d x =
@@ -54,7 +47,7 @@ body_stands n ps rest xs a few p d x =
     ∙ and_true (nat_le n (length (map act (ps ++ rest))) && are_parameters 0 (take n (map act (ps ++ rest))) a && all_declare (drop n (map act (ps ++ rest))) a) (all_stand (map act xs) (within (map act (ps ++ rest)) a))
     (and_true (nat_le n (length (map act (ps ++ rest))) && are_parameters 0 (take n (map act (ps ++ rest))) a) (all_declare (drop n (map act (ps ++ rest))) a)
     (and_true (nat_le n (length (map act (ps ++ rest)))) (are_parameters 0 (take n (map act (ps ++ rest))) a)
-    (ap (λ vs. nat_le n (length vs)) both ∙ le_true n (length (map act ps ++ map act rest)) (let h : length (map act ps) ≤ length (map act ps ++ map act rest) = length_both (map act ps) (map act rest) in omega arith))
+    (ap (λ vs. nat_le n (length vs)) both ∙ le_true n (length (map act ps ++ map act rest)) (let h : length (map act ps) ≤ length (map act ps ++ map act rest) = length_front (map act ps) (map act rest) in omega arith))
     (ap (λ vs. are_parameters 0 (take n vs) a) both ∙ ap (λ vs. are_parameters 0 vs a) (take_front n (map act ps) (map act rest) count) ∙ p))
     (ap (λ vs. all_declare (drop n vs) a) both ∙ ap (λ vs. all_declare vs a) (drop_front n (map act ps) (map act rest) count) ∙ d))
     x

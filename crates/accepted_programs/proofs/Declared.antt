@@ -1,5 +1,5 @@
 -- The type of a name at file scope: no length of it is computed, it isn't void, and a function's list is short.
-use Rattle.std.proofs.Common.{◌≡◌, ℕ, suc, ◌*◌, ◌-◌, ◌≤◌, Bool, true, false, ◌||◌, nat_le, if◌then◌else◌, refl, ap, sym, ◌∙◌, List, [], ◌∷◌, ◌++◌, length, slice_get, Option, Some, None, Ok, arith}
+use Rattle.std.proofs.Common.{◌≡◌, ℕ, suc, ◌-◌, ◌≤◌, Bool, true, false, ◌||◌, nat_le, if◌then◌else◌, refl, ap, sym, ◌∙◌, List, [], ◌∷◌, ◌++◌, length, slice_get, Option, Some, None, Ok, arith}
 use Rattle.c_types.specs.declared.ctype.Base.{Base}
 use Rattle.c_types.specs.declared.ctype.CType.{CType, out-roll-CType}
 use Rattle.c_types.specs.declared.ctype.Layer.{Layer, out-Layer}
@@ -10,16 +10,17 @@ use Rattle.c_declared.specs.declared.steps.Length.TheVariants as len
 use Rattle.c_declared.specs.declared.steps.Role.TheVariants as role
 use Rattle.c_declared.specs.declared.steps.Step.{Step}
 use Rattle.c_declared.specs.declared.steps.Step.TheVariants as step
-use Rattle.c_declared.specs.Making.{declared_type, answer, lower, worst, made, breaks, unless, is_count, void_breaks, ctype, is_function, is_array, bytes}
+use Rattle.c_declared.specs.Making.{declared_type, answer, lower, worst, made, breaks, unless, void_breaks, ctype, is_function, is_array}
 use Rattle.c_declared.specs.Steps.{layer_of, prefix_layer, filled}
 use Rattle.c_shapes.specs.Shapes as shapes
 use Rattle.tick_tree.specs.declared.base.Prefix.{Prefix}
 use Rattle.tick_tree.specs.declared.base.Prefix.TheVariants as prefix
 use Rattle.tick_tree.specs.declared.fault.FaultKind.{FaultKind}
-use Rattle.tick_tree.specs.declared.fault.FaultKind.TheVariants.{TypeMismatch, VoidValue, BadArray, TooManyParameters}
+use Rattle.tick_tree.specs.declared.fault.FaultKind.TheVariants.{TypeMismatch, VoidValue, TooManyParameters}
 use Rattle.check_globals.specs.Functions.{types_of, types_by, types_at}
 use Rattle.check_globals.specs.Names.{named_steps, without_parameters}
-use Rattle.accepted_programs.proofs.Bools.{true_le}
+use Rattle.accepted_statements.proofs.Lists.{get_last}
+use Rattle.accepted_programs.proofs.Bools.{true_le, length_last}
 use Rattle.accepted_steps.specs.Good.{is_computed_step, any_computed}
 
 -- ---- the parts of a made type
@@ -70,37 +71,6 @@ file_value b ss t f =
 
 -- ---- lengths
 
-none_count : (size : ℕ) → is_count 0 size ≡ false
-none_count size = refl
-
-array_case : (a c : Bool) (size : ℕ) → (if a then Some TypeMismatch else (if c then Some VoidValue else unless (is_count 0 size) BadArray)) ≡ None → ⊥
-array_case true c size is = cc
-array_case false true size is = cc
-array_case false false size is = cc
-
--- an array has a length
-no_zero : (b : Base) (ls : List Layer) → breaks (out-Layer (layer.Array 0)) b ls ≡ None → ⊥
-no_zero b ls is =
-    let e : breaks (Layer-F.Array 0) b ls ≡ None = ap (λ (x : Opened). breaks x b ls) (sym (layer.outs-Array 0)) ∙ is in
-    array_case (is_function ls) (is_void b ls) (bytes b ls * 0) e
-
-not_computed : (s : Step) (b : Base) (ls : List Layer) → breaks (out-Layer (layer_of s)) b ls ≡ None → is_computed_step s ≡ false
-not_computed (step.Prefix p) b ls is = refl
-not_computed (step.Array len.Computed) b ls is = absurd (no_zero b ls is)
-not_computed (step.Array len.Absent) b ls is = refl
-not_computed (step.Array (len.Constant n)) b ls is = refl
-not_computed (step.Function list) b ls is = refl
-not_computed step.Unlisted b ls is = refl
-
-or_false : (a b : Bool) → a ≡ false → b ≡ false → (a || b) ≡ false
-or_false a b p q = ap (λ x. x || b) p ∙ q
-
-pub none_computed : (ss : List Step) (b : Base) (ls : List Layer) → worst ss b ls ≡ None → any_computed ss ≡ false
-none_computed [] b ls is = refl
-none_computed (s ∷ ss) b ls is =
-    let n : (worst ss b ls ≡ None) × (breaks (out-Layer (layer_of s)) b (made ss ls) ≡ None) = none_lower (worst ss b ls) (breaks (out-Layer (layer_of s)) b (made ss ls)) is in
-    or_false (is_computed_step s) (any_computed ss) (not_computed s b (made ss ls) n.1) (none_computed ss b ls n.0)
-
 -- ---- steps at file scope
 
 step_computed : (s : Step) → is_computed_step (without_parameters s) ≡ is_computed_step s
@@ -147,18 +117,10 @@ step_types (step.Array n) = ap types_at (layer.outs-Array _)
 step_types (step.Function list) = ap types_at (layer.outs-Function list)
 step_types step.Unlisted = ap types_at layer.outs-Unlisted
 
-last_place : {A : Type 0} (xs : List A) (x : A) → slice_get (xs ++ x ∷ []) (length xs) ≡ Some x
-last_place [] x = refl
-last_place (y ∷ xs) x = last_place xs x
-
-length_one : {A : Type 0} (xs : List A) (x : A) → length (xs ++ x ∷ []) ≡ suc (length xs)
-length_one [] x = refl
-length_one (y ∷ xs) x = ap suc (length_one xs x)
-
 last_one : {A : Type 0} (xs : List A) (x : A) → slice_get (xs ++ x ∷ []) (length (xs ++ x ∷ []) - 1) ≡ Some x
 last_one xs x =
-    let e : length (xs ++ x ∷ []) - 1 ≡ length xs = (let l : length (xs ++ x ∷ []) ≡ suc (length xs) = length_one xs x in omega arith) in
-    ap (λ n. slice_get (xs ++ x ∷ []) n) e ∙ last_place xs x
+    let e : length (xs ++ x ∷ []) - 1 ≡ length xs = (let l : length (xs ++ x ∷ []) ≡ suc (length xs) = length_last xs x in omega arith) in
+    ap (λ n. slice_get (xs ++ x ∷ []) n) e ∙ get_last xs x
 
 made_types : (ss : List Step) → types_by (outermost (made ss [])) ≡ first_list ss
 made_types [] = refl

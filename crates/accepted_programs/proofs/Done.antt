@@ -16,12 +16,15 @@ use Rattle.check_globals.specs.Functions.{Given, types_of, count_of}
 use Rattle.check_globals.specs.Programs.{typed, function_fits}
 use Rattle.accepted_trees.specs.Accepted as accepted
 use Rattle.accepted_trees.specs.Places.{stands_as_body}
+use Rattle.accepted_trees.proofs.Bools.{first_true, second_true}
 use Rattle.accepted_steps.specs.Kept.{Starts}
 use Rattle.accepted_steps.specs.Steps.{EachTick}
-use Rattle.accepted_programs.proofs.Bools.{and_left, and_right, true_le, get_front, get_last}
+use Rattle.accepted_types.proofs.Blocks.{back}
+use Rattle.accepted_statements.proofs.Lists.{get_front, get_last}
+use Rattle.accepted_programs.proofs.Bools.{true_le}
 use Rattle.accepted_programs.proofs.Files.{AtFile, round}
 use Rattle.accepted_programs.proofs.Inside.{Inside}
-use Rattle.accepted_programs.proofs.Runs.{left, ended, FunctionRan}
+use Rattle.accepted_programs.proofs.Runs.{ended, FunctionRan}
 use Rattle.accepted_programs.proofs.Tables.{with_name}
 
 -- ---- the function that was made
@@ -30,15 +33,11 @@ use Rattle.accepted_programs.proofs.Tables.{with_name}
 abbrev pub body_of : State → List Stmt → Stmt
 body_of last xs = st.Block last.frame.nodes xs
 
--- the state behind its block
-abbrev pub behind : State → State → State
-behind named last = left (length named.scopes) named.frame.nodes last
-
 abbrev pub made_function : ℕ → Shape → CType → State → State → List Stmt → Function
-made_function line d t named last xs = functions.function line d.declared.name t (body_of last xs) (behind named last)
+made_function line d t named last xs = functions.function line d.declared.name t (body_of last xs) (back named last)
 
 abbrev pub made_state : ℕ → Shape → CType → State → State → List Stmt → State
-made_state line d t named last xs = ended line d.declared.name t (body_of last xs) (behind named last)
+made_state line d t named last xs = ended line d.declared.name t (body_of last xs) (back named last)
 
 pub is_made : (line : ℕ) (b : Base) (d : Shape) (gs : List Given) (items : List Item) (s new : State) (r : FunctionRan line b d gs items s new)
     → new ≡ made_state line d r.type r.named r.third.last r.third.nodes
@@ -74,7 +73,7 @@ pub is_right : (e : State) (ks all : List (List CaptureKind)) (line : ℕ) (d : 
     → accepted.IsFunction (typed e) all (made_function line d t named last xs)
 is_right e ks all line d t named given last xs few fits inner starts =
     let count : count_of t ≡ length (types_of t) = omega arith in
-    let size : min (statement_size (body_of last xs)) 65536 ≤ 16384 = true_le _ _ (and_left (nat_le (min (statement_size (body_of last xs)) 65536) 16384) (nat_le last.frame.object 4194304) fits) in
+    let size : min (statement_size (body_of last xs)) 65536 ≤ 16384 = true_le _ _ (first_true (nat_le (min (statement_size (body_of last xs)) 65536) 16384) (nat_le last.frame.object 4194304) fits) in
     record {
       stands = subst (λ (n : ℕ). stands_as_body (body_of last xs) n (round e all [] last.frame.object) ≡ true) (sym count) (inner.stands all starts);
       values = inner.values;
@@ -83,5 +82,5 @@ is_right e ks all line d t named given last xs few fits inner starts =
       numbers = inner.numbers;
       few = omega arith;
       small = size;
-      short = true_le _ _ (and_right (nat_le (min (statement_size (body_of last xs)) 65536) 16384) (nat_le last.frame.object 4194304) fits);
+      short = true_le _ _ (second_true (nat_le (min (statement_size (body_of last xs)) 65536) 16384) (nat_le last.frame.object 4194304) fits);
     }

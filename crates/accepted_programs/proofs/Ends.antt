@@ -26,6 +26,7 @@ use Rattle.tick_checker.specs.Program as program
 use Rattle.tick_checker.specs.Walk.{Start, Nothing, Value, Values, InitParts, with_start, declaration, shape, item}
 use Rattle.accepted_types.specs.Parts.{FixedShape}
 use Rattle.accepted_steps.specs.Kept.{KeepsGlobals}
+use Rattle.accepted_types.proofs.Walks.{pure_same}
 use Rattle.accepted_programs.proofs.Bounds.{Bounded, end_after, fill_bounded, kept_bounded}
 use Rattle.accepted_programs.proofs.Done.{is_made}
 use Rattle.accepted_programs.proofs.Fills.{size_of, BytesFit, Filled, begin_filled, keeps_more}
@@ -34,7 +35,7 @@ use Rattle.accepted_programs.proofs.Globals.{GoodInit, EachInit, GlobalType, glo
 use Rattle.accepted_programs.proofs.Made.{PartsOf, parts_of}
 use Rattle.accepted_programs.proofs.Names.{NamedPrototype, prototype_named}
 use Rattle.accepted_programs.proofs.Runs.{FunctionRan, function_ran}
-use Rattle.accepted_programs.proofs.Steps.{Parts, parts, state_of}
+use Rattle.accepted_programs.proofs.Steps.{Parts, parts}
 use Rattle.accepted_programs.proofs.Still.{StaticStart}
 use Rattle.accepted_programs.proofs.Variables.{NamedVariable, variable_named}
 use Rattle.accepted_programs.proofs.Walk.{GoodExternal, EachGood, Grew, external_grew}
@@ -87,7 +88,7 @@ pub record GlobalImage (line : ℕ) (b : Base) (i : InitParts) (s new : State) :
   pub kept : ImageKept s new
 
 no_start_same : (line : ℕ) (start : Start) (s new : State) (u : Unit {0}) → program.no_start line start s ≡ Ok (u, new) → s ≡ new
-no_start_same line Nothing s new u is = state_of tt u s new is
+no_start_same line Nothing s new u is = pure_same tt u s new is
 no_start_same line (Value e) s new u is =
     let p : Parts (e.walk stage.Function) (λ o. lift (refuse fault.TypeMismatch line)) s new u = parts (e.walk stage.Function) (λ o. lift (refuse fault.TypeMismatch line)) s new u is in
     absurd (let q = p.second in cc)
@@ -172,7 +173,7 @@ EachFixed [] = Unit {0}
 EachFixed (i ∷ is) = FixedShape i.shape × EachFixed is
 
 globals_image : AllFit → (line : ℕ) (b : Base) (is : List InitParts) (s new : State) (u : Unit {0}) (sc : Scope) → EachInit is → s.scopes ≡ sc ∷ [] → program.globals line b is s ≡ Ok (u, new) → ImageKept s new
-globals_image fit line b [] s new u sc good one h = image_same s new (state_of tt u s new h)
+globals_image fit line b [] s new u sc good one h = image_same s new (pure_same tt u s new h)
 globals_image fit line b (i ∷ is) s new u sc good one h =
     let p : Parts (program.global line b i) (λ v. program.globals line b is) s new u = parts (program.global line b i) (λ v. program.globals line b is) s new u h in
     let g : GlobalImage line b i s p.between = global_image fit line b i s p.between p.answer sc good.0 one p.first in
@@ -182,7 +183,7 @@ globals_image fit line b (i ∷ is) s new u sc good one h =
 globals_end : AllFit → (line : ℕ) (b : Base) (is : List InitParts) (s new z last : State) (u v : Unit {0}) (sc dc : Scope) → EachInit is → EachFixed is → s.scopes ≡ sc ∷ [] → z.scopes ≡ dc ∷ []
     → program.globals line b is s ≡ Ok (u, new) → program.globals line b is z ≡ Ok (v, last) → s.image.end ≡ z.image.end → new.image.end ≡ last.image.end
 globals_end fit line b [] s new z last u v sc dc good fixed one two h k e =
-    ap (λ (x : State). x.image.end) (sym (state_of tt u s new h)) ∙ e ∙ ap (λ (x : State). x.image.end) (state_of tt v z last k)
+    ap (λ (x : State). x.image.end) (sym (pure_same tt u s new h)) ∙ e ∙ ap (λ (x : State). x.image.end) (pure_same tt v z last k)
 globals_end fit line b (i ∷ is) s new z last u v sc dc good fixed one two h k e =
     let p : Parts (program.global line b i) (λ w. program.globals line b is) s new u = parts (program.global line b i) (λ w. program.globals line b is) s new u h in
     let q : Parts (program.global line b i) (λ w. program.globals line b is) z last v = parts (program.global line b i) (λ w. program.globals line b is) z last v k in
@@ -216,7 +217,7 @@ external_end fit (ext.Declaration d) s new z last u v sc dc table other good fix
     globals_end fit (declaration d).line (declaration d).base (declaration d).inits s new z last u v sc dc good fixed one two h k e
 
 pub walk_image : AllFit → (xs : List External) (s new : State) (u : Unit {0}) (sc table : Scope) → EachGood 0 xs → s.scopes ≡ sc ∷ [] → s.functions.defined ≡ table ∷ [] → program.walk xs s ≡ Ok (u, new) → ImageKept s new
-walk_image fit [] s new u sc table good one two is = image_same s new (state_of tt u s new is)
+walk_image fit [] s new u sc table good one two is = image_same s new (pure_same tt u s new is)
 walk_image fit (x ∷ xs) s new u sc table good one two is =
     let p : Parts (program.external x) (λ v. program.walk xs) s new u = parts (program.external x) (λ v. program.walk xs) s new u is in
     let g : Grew _ s p.between table = external_grew 0 x s p.between p.answer sc table good.0 one two p.first in
@@ -225,7 +226,7 @@ walk_image fit (x ∷ xs) s new u sc table good one two is =
 pub walks_end : AllFit → (xs : List External) (s new z last : State) (u v : Unit {0}) (sc dc table other : Scope) → EachGood 0 xs → AllFixed xs → s.scopes ≡ sc ∷ [] → z.scopes ≡ dc ∷ []
     → s.functions.defined ≡ table ∷ [] → z.functions.defined ≡ other ∷ [] → program.walk xs s ≡ Ok (u, new) → program.walk xs z ≡ Ok (v, last) → s.image.end ≡ z.image.end → new.image.end ≡ last.image.end
 walks_end fit [] s new z last u v sc dc table other good fixed one two three four h k e =
-    ap (λ (x : State). x.image.end) (sym (state_of tt u s new h)) ∙ e ∙ ap (λ (x : State). x.image.end) (state_of tt v z last k)
+    ap (λ (x : State). x.image.end) (sym (pure_same tt u s new h)) ∙ e ∙ ap (λ (x : State). x.image.end) (pure_same tt v z last k)
 walks_end fit (x ∷ xs) s new z last u v sc dc table other good fixed one two three four h k e =
     let p : Parts (program.external x) (λ w. program.walk xs) s new u = parts (program.external x) (λ w. program.walk xs) s new u h in
     let q : Parts (program.external x) (λ w. program.walk xs) z last v = parts (program.external x) (λ w. program.walk xs) z last v k in

@@ -13,7 +13,7 @@ use Rattle.check_globals.specs.Functions.{count_of}
 use Rattle.accepted_trees.specs.Places.{Around}
 use Rattle.accepted_steps.specs.Kept.{Starts}
 use Rattle.accepted_steps.specs.Known.{EachEntry, is_number}
-use Rattle.accepted_programs.proofs.Bools.{get_front}
+use Rattle.accepted_statements.proofs.Lists.{get_front}
 use Rattle.accepted_programs.proofs.Finish.{Limits}
 use Rattle.accepted_programs.proofs.Scopes.{FileName}
 use Rattle.accepted_programs.proofs.Steps.{starts_trans}

@@ -25,8 +25,10 @@ use Rattle.check_globals.specs.Statics as statics
 use Rattle.tick_checker.specs.Walk.{Start, Nothing, Value as One, Values}
 use Rattle.tick_checker.specs.Program as program
 use Rattle.accepted_steps.specs.Kept.{KeepsGlobals}
+use Rattle.accepted_types.proofs.Walks.{pure_same, pure_value}
+use Rattle.accepted_types.proofs.Keeps.{globals_refl}
 use Rattle.accepted_programs.proofs.Declared.{none_lower}
-use Rattle.accepted_programs.proofs.Steps.{Parts, parts, state_of, answer_of}
+use Rattle.accepted_programs.proofs.Steps.{Parts, parts}
 use Rattle.accepted_programs.proofs.Still.{Allowed, word_allowed, StaticNode, EachStatic, StaticStart}
 
 -- how many bytes a global of this type takes
@@ -84,7 +86,7 @@ strings_case at bytes i false = refl
 
 filled : (at size : ℕ) (bytes : List ℕ) (s new : State) (u : Unit {0}) → length bytes ≤ size → statics.fill at bytes s ≡ Ok (u, new) → Filled at size s new
 filled at size bytes s new u few is =
-    let e : record s { image = images.with_bytes at bytes s.image } ≡ new = state_of tt u (record s { image = images.with_bytes at bytes s.image }) new is in
+    let e : record s { image = images.with_bytes at bytes s.image } ≡ new = pure_same tt u (record s { image = images.with_bytes at bytes s.image }) new is in
     subst (λ (z : State). Filled at size s z) e
     (record {
       end = end_case at bytes s.image (nat_le at 4194304);
@@ -102,11 +104,8 @@ kept_filled at size s m new k f = record {
   globals = λ n h w. f.globals n (subst (λ (l : List ℕ). length l ≤ n) (sym k.globals) h) w;
 }
 
-keeps_refl : (s : State) → KeepsGlobals s s
-keeps_refl s = record { end = refl; globals = refl; at = refl }
-
 pub keeps_same : (s new : State) → new ≡ s → KeepsGlobals s new
-keeps_same s new e = subst (λ (z : State). KeepsGlobals s z) (sym e) (keeps_refl s)
+keeps_same s new e = subst (λ (z : State). KeepsGlobals s z) (sym e) (globals_refl s)
 
 pub keeps_more : (s m new : State) → KeepsGlobals s m → KeepsGlobals m new → KeepsGlobals s new
 keeps_more s m new p q = record { end = q.end ∙ p.end; globals = q.globals ∙ p.globals; at = q.at ∙ p.at }
@@ -210,10 +209,10 @@ times_more n b = suc-mul n b ∙ add_comm (n * b) b
 
 row_ran : (es : List Node) (t : CType) (r q : Row) (s new : State) → EachStatic es → program.row es t r s ≡ Ok (q, new) → q.broken ≡ None → RowRan es t r q s new
 row_ran [] t r q s new h is none = record {
-  broken = ap (λ (z : Row). z.broken) (answer_of r q s new is) ∙ none;
-  bytes = ap (λ (z : Row). length z.bytes) (sym (answer_of r q s new is)) ∙ (let z : length r.bytes ≡ length r.bytes + 0 * bytes_in t = (let y : 0 * bytes_in t ≡ 0 = zero-mul (bytes_in t) in omega arith) in z);
+  broken = ap (λ (z : Row). z.broken) (pure_value r q s new is) ∙ none;
+  bytes = ap (λ (z : Row). length z.bytes) (sym (pure_value r q s new is)) ∙ (let z : length r.bytes ≡ length r.bytes + 0 * bytes_in t = (let y : 0 * bytes_in t ≡ 0 = zero-mul (bytes_in t) in omega arith) in z);
   value = inl refl;
-  keeps = keeps_same s new (sym (state_of r q s new is));
+  keeps = keeps_same s new (sym (pure_same r q s new is));
 }
 row_ran (e ∷ es) t r q s new h is none =
     let p : Parts (e.walk stage.Function) (λ o. program.row es t (statics.row_more t e.written.constant (is_some e.written.string) o r)) s new q
@@ -273,6 +272,6 @@ static_list line at t es s new u h fit is =
 
 -- a global's beginning
 pub begin_filled : (line at : ℕ) (t : CType) (start : Start) (s new : State) (u : Unit {0}) → StaticStart start → BytesFit t → program.static_begin line at t start s ≡ Ok (u, new) → Filled at (size_of t) s new
-begin_filled line at t Nothing s new u h fit is = subst (λ (z : State). Filled at (size_of t) s z) (state_of tt u s new is) (none_filled at (size_of t) s)
+begin_filled line at t Nothing s new u h fit is = subst (λ (z : State). Filled at (size_of t) s z) (pure_same tt u s new is) (none_filled at (size_of t) s)
 begin_filled line at t (One e) s new u h fit is = static_by line at t e e.written.string s new u h fit is
 begin_filled line at t (Values es) s new u h fit is = static_list line at t es s new u h fit is

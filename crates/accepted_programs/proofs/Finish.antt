@@ -11,7 +11,8 @@ use Rattle.check_tables.specs.Functions.{undefined}
 use Rattle.check_state.specs.declared.state.State.{State}
 use Rattle.check_globals.specs.Programs.{finished, finished_by, has_main, fits, typed, image_fits, functions_fit, function_fits, ticks_fit, tick_fits, charges}
 use Rattle.accepted_trees.specs.Accepted as accepted
-use Rattle.accepted_programs.proofs.Bools.{and_left, and_right, true_le}
+use Rattle.accepted_trees.proofs.Bools.{first_true, second_true}
+use Rattle.accepted_programs.proofs.Bools.{true_le}
 
 pub record Finished (s : State) (p : Typed) : Type 0 where
   pub prototypes : undefined s.functions ≡ None
@@ -50,25 +51,25 @@ limits s h =
     let c : Bool = ticks_fit s.ticks.all in
     let d : Bool = nat_le (charges s.functions.all s.ticks.all) 15728640 in
     let abc : (image_fits s.image && functions_fit s.functions.all && ticks_fit s.ticks.all) ≡ true
-    = and_left (image_fits s.image && functions_fit s.functions.all && ticks_fit s.ticks.all) (nat_le (charges s.functions.all s.ticks.all) 15728640) h in
+    = first_true (image_fits s.image && functions_fit s.functions.all && ticks_fit s.ticks.all) (nat_le (charges s.functions.all s.ticks.all) 15728640) h in
     let ab : (image_fits s.image && functions_fit s.functions.all) ≡ true
-    = and_left (image_fits s.image && functions_fit s.functions.all) (ticks_fit s.ticks.all) abc in
+    = first_true (image_fits s.image && functions_fit s.functions.all) (ticks_fit s.ticks.all) abc in
     record {
-      image = and_left (image_fits s.image) (functions_fit s.functions.all) ab;
-      functions = and_right (image_fits s.image) (functions_fit s.functions.all) ab;
-      ticks = and_right (image_fits s.image && functions_fit s.functions.all) (ticks_fit s.ticks.all) abc;
-      words = true_le _ _ (and_right (image_fits s.image && functions_fit s.functions.all && ticks_fit s.ticks.all) (nat_le (charges s.functions.all s.ticks.all) 15728640) h);
+      image = first_true (image_fits s.image) (functions_fit s.functions.all) ab;
+      functions = second_true (image_fits s.image) (functions_fit s.functions.all) ab;
+      ticks = second_true (image_fits s.image && functions_fit s.functions.all) (ticks_fit s.ticks.all) abc;
+      words = true_le _ _ (second_true (image_fits s.image && functions_fit s.functions.all && ticks_fit s.ticks.all) (nat_le (charges s.functions.all s.ticks.all) 15728640) h);
     }
 
 pub function_fit : (fs : List Function) (n : ℕ) (f : Function) → functions_fit fs ≡ true → slice_get fs n ≡ Some f → function_fits f ≡ true
 function_fit [] n f h at = absurd (cc)
-function_fit (g ∷ fs) zero f h at = let same : g ≡ f = cc in ap function_fits (sym same) ∙ and_left (function_fits g) (functions_fit fs) h
-function_fit (g ∷ fs) (suc n) f h at = function_fit fs n f (and_right (function_fits g) (functions_fit fs) h) at
+function_fit (g ∷ fs) zero f h at = let same : g ≡ f = cc in ap function_fits (sym same) ∙ first_true (function_fits g) (functions_fit fs) h
+function_fit (g ∷ fs) (suc n) f h at = function_fit fs n f (second_true (function_fits g) (functions_fit fs) h) at
 
 pub tick_fit : (ts : List Tick) (n : ℕ) (t : Tick) → ticks_fit ts ≡ true → slice_get ts n ≡ Some t → tick_fits t ≡ true
 tick_fit [] n t h at = absurd (cc)
-tick_fit (u ∷ ts) zero t h at = let same : u ≡ t = cc in ap tick_fits (sym same) ∙ and_left (tick_fits u) (ticks_fit ts) h
-tick_fit (u ∷ ts) (suc n) t h at = tick_fit ts n t (and_right (tick_fits u) (ticks_fit ts) h) at
+tick_fit (u ∷ ts) zero t h at = let same : u ≡ t = cc in ap tick_fits (sym same) ∙ first_true (tick_fits u) (ticks_fit ts) h
+tick_fit (u ∷ ts) (suc n) t h at = tick_fit ts n t (second_true (tick_fits u) (ticks_fit ts) h) at
 
 -- ---- charges
 

@@ -1,6 +1,5 @@
 -- Each type at file scope has room for what a global of it begins with: a value, a string, or a list.
 use Rattle.std.proofs.Common.{◌≡◌, ℕ, suc, ◌*◌, ◌≤◌, ◌==◌, Bool, true, false, ◌&&◌, refl, ap, sym, ◌∙◌, subst, List, [], ◌∷◌, ◌++◌, length, None, arith}
-use Rattle.std.proofs.lemmas.Bool.Decides.{nat_tests}
 use Rattle.c_types.specs.declared.ctype.Base.{Base}
 use Rattle.c_types.specs.declared.ctype.Base.TheVariants as base
 use Rattle.c_types.specs.declared.ctype.Integer.TheVariants as kind
@@ -21,12 +20,13 @@ use Rattle.tick_tree.specs.declared.base.Prefix.TheVariants as prefix
 use Rattle.check_globals.specs.Statics as statics
 use Rattle.check_statements.specs.Initializers.{is_text, is_array, is_char}
 use Rattle.tick_checker.specs.Walk.{with_start}
-use Rattle.accepted_values.proofs.Declared.{outermost_last}
-use Rattle.accepted_programs.proofs.Bools.{and_left, and_right}
+use Rattle.accepted_trees.proofs.Bools.{first_true, second_true}
+use Rattle.accepted_values.proofs.Declared.{outermost_last, under_last}
 use Rattle.accepted_programs.proofs.Declared.{FileType, file_type, none_lower}
 use Rattle.accepted_programs.proofs.Ends.{AllFit}
 use Rattle.accepted_programs.proofs.Fills.{size_of, bytes_in, HasValue, BytesFit}
-use Rattle.accepted_programs.proofs.Room.{value_fits, Arrayed, arrayed, array_size, list_fits, elements, under_last}
+use Rattle.accepted_programs.proofs.Room.{value_fits, Arrayed, arrayed, array_size, list_fits, elements}
+use Rattle.accepted_programs.proofs.Bools.{length_last, two_not_one}
 
 -- ---- which types are arrays
 
@@ -60,15 +60,8 @@ last_array b (step.Unlisted ∷ ss) w h = absurd (clash (is_array (ctype b (made
 
 -- ---- a string
 
-length_one : (ms : List Layer) (l : Layer) → length (ms ++ l ∷ []) ≡ suc (length ms)
-length_one [] l = refl
-length_one (m ∷ ms) l = ap suc (length_one ms l)
-
-two : (n : ℕ) → (suc (suc n) == 1) ≡ true → ⊥
-two n h = grind (arith, nat_tests)
-
 longer : (ms : List Layer) (l : Layer) → (suc (length (ms ++ l ∷ [])) == 1) ≡ true → ⊥
-longer ms l h = two (length ms) (ap (λ (n : ℕ). suc n == 1) (sym (length_one ms l)) ∙ h)
+longer ms l h = two_not_one (length ms) (ap (λ (n : ℕ). suc n == 1) (sym (length_last ms l)) ∙ h)
 
 one_layer : (ms : List Layer) (l : Layer) → (length (ms ++ l ∷ []) == 1) ≡ true → ms ≡ []
 one_layer [] l h = refl
@@ -94,11 +87,11 @@ char_fits b ms n m c none a h =
 
 text_fits : (b : Base) (ss : List Step) → worst ss b [] ≡ None → is_text (ctype b (made ss [])) ≡ true → (m : ℕ) → m ≤ statics.elements_of (ctype b (made ss [])) → m ≤ size_of (ctype b (made ss []))
 text_fits b ss w h m few =
-    let both : (is_array (ctype b (made ss [])) && length (made ss []) == 1) ≡ true = and_left (is_array (ctype b (made ss [])) && length (made ss []) == 1) (is_char b) h in
-    let l : LastArray b ss = last_array b ss w (and_left (is_array (ctype b (made ss []))) (length (made ss []) == 1) both) in
-    let one : (length (made ss []) == 1) ≡ true = and_right (is_array (ctype b (made ss []))) (length (made ss []) == 1) both in
+    let both : (is_array (ctype b (made ss [])) && length (made ss []) == 1) ≡ true = first_true (is_array (ctype b (made ss [])) && length (made ss []) == 1) (is_char b) h in
+    let l : LastArray b ss = last_array b ss w (first_true (is_array (ctype b (made ss []))) (length (made ss []) == 1) both) in
+    let one : (length (made ss []) == 1) ≡ true = second_true (is_array (ctype b (made ss []))) (length (made ss []) == 1) both in
     let none : made l.rest [] ≡ [] = one_layer (made l.rest []) (layer.Array l.count) (ap (λ (ls : List Layer). length ls == 1) (sym l.is) ∙ one) in
-    let char : b ≡ base.Integer kind.Char = char_base b (and_right (is_array (ctype b (made ss [])) && length (made ss []) == 1) (is_char b) h) in
+    let char : b ≡ base.Integer kind.Char = char_base b (second_true (is_array (ctype b (made ss [])) && length (made ss []) == 1) (is_char b) h) in
     let count : statics.elements_of (ctype b (made ss [])) ≡ l.count = ap (λ (ls : List Layer). statics.elements_of (ctype b ls)) l.is ∙ elements b (made l.rest []) l.count in
     subst (λ (ls : List Layer). m ≤ size_of (ctype b ls)) (sym l.is) (char_fits b (made l.rest []) l.count m char none l.array (omega arith))
 

@@ -20,11 +20,14 @@ use Rattle.tick_checker.specs.Program.{around}
 use Rattle.accepted_steps.specs.Good.{any_computed, GoodShape}
 use Rattle.accepted_steps.specs.Items.{GoodStatement}
 use Rattle.accepted_steps.specs.Kept.{Starts, KeepsGlobals, Grows, IsGrowing, outer}
-use Rattle.accepted_programs.proofs.Declared.{FileType, file_type, file_value, none_computed, named_computed, first_list, first_types, first_few}
+use Rattle.accepted_types.proofs.Fronts.{starts_same}
+use Rattle.accepted_types.proofs.Lengths.{none_computed}
+use Rattle.accepted_types.proofs.Blocks.{inside}
+use Rattle.accepted_programs.proofs.Declared.{FileType, file_type, file_value, named_computed, first_list, first_types, first_few}
 use Rattle.accepted_programs.proofs.Files.{many}
 use Rattle.accepted_programs.proofs.Given.{EachObject, All}
-use Rattle.accepted_programs.proofs.Runs.{entered, TypeRan}
-use Rattle.accepted_programs.proofs.Steps.{starts_same, starts_trans}
+use Rattle.accepted_programs.proofs.Runs.{TypeRan}
+use Rattle.accepted_programs.proofs.Steps.{starts_trans}
 use Rattle.accepted_programs.proofs.Still.{Still, plain_still}
 
 -- ---- what is asked of a function's parts
@@ -82,7 +85,7 @@ back_out top scope given last two depth out =
     let n : length last - 1 ≡ 1 = (let z : length given ≡ 2 = ap length two in omega arith) in
     ap (λ (i : ℕ). take i last) (sym n) ∙ out ∙ ap outer two
 
-pub blocked : (top : Scope) (n : ℕ) (step : Rule State (List Stmt)) (s given last : State) (xs : List Stmt) → s.scopes ≡ top ∷ [] → All top n (entered s) given
+pub blocked : (top : Scope) (n : ℕ) (step : Rule State (List Stmt)) (s given last : State) (xs : List Stmt) → s.scopes ≡ top ∷ [] → All top n (inside s) given
     → IsGrowing stage.Function step → step given ≡ Ok (xs, last) → Blocked top s last
 blocked top n step s given last xs one all grows is =
     let g : Grows stage.Function given last = grows given last xs is in

@@ -20,10 +20,11 @@ use Rattle.check_globals.specs.Functions as globals
 use Rattle.check_globals.specs.Functions.{Given}
 use Rattle.accepted_trees.specs.Counts.{one_if}
 use Rattle.accepted_steps.specs.Known.{Blocks, IsObject, IsParameter, Means, EachEntry}
+use Rattle.accepted_types.proofs.Walks.{pure_same}
 use Rattle.accepted_programs.proofs.Parameters.{FrameAt, PlacedAt, parameter_at}
 use Rattle.accepted_programs.proofs.Placed.{More, placed_later, parameter_more, parameter_placed}
 use Rattle.accepted_programs.proofs.Scopes.{each_map, each_more, DeclaresSecond, declare_second}
-use Rattle.accepted_programs.proofs.Steps.{Parts, parts, state_of}
+use Rattle.accepted_programs.proofs.Steps.{Parts, parts}
 
 -- no block is round that of a function
 abbrev pub alone : Blocks
@@ -90,7 +91,7 @@ named top k line name t s m u few object g is =
     })
 
 with_state : (t : CType) (m new : State) (u : Unit {0}) → ◌≡◌ {A = Checked (Unit {0} × State)} (Ok (tt, with_parameter t m)) (Ok (u, new)) → with_parameter t m ≡ new
-with_state t m new u is = state_of tt u (with_parameter t m) new is
+with_state t m new u is = pure_same tt u (with_parameter t m) new is
 
 parameter : (top : Scope) (k line : ℕ) (name : Name) (t : CType) (s new : State) (u : Unit {0}) → k ≤ 7 → IsObject t → Givens top k s
     → locals.parameter line name t s ≡ Ok (u, new) → One top k s new
@@ -119,7 +120,7 @@ pub record All (top : Scope) (n : ℕ) (s new : State) : Type 0 where
 all : (top : Scope) (k n : ℕ) (ts : List CType) (gs : List Given) (s new : State) (u : Unit {0}) → k + length ts ≡ n → n ≤ 8 → length ts ≤ length gs → EachObject ts
     → Givens top k s → globals.parameters ts gs s ≡ Ok (u, new) → All top n s new
 all top k n [] gs s new u e few enough objects g is =
-    subst (λ (z : State). All top n s z) (state_of tt u s new is)
+    subst (λ (z : State). All top n s z) (pure_same tt u s new is)
     (record { at = subst (λ (i : ℕ). Givens top i s) (let z : k ≡ n = omega arith in z) g; aside = record { functions = refl; ticks = refl; image = refl } })
 all top k n (t ∷ ts) [] s new u e few enough objects g is = absurd (omega arith)
 all top k n (t ∷ ts) (x ∷ gs) s new u e few enough objects g is =

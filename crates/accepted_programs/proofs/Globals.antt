@@ -24,11 +24,14 @@ use Rattle.accepted_values.proofs.Declared.{types_use}
 use Rattle.accepted_steps.specs.Good.{any_computed, GoodShape}
 use Rattle.accepted_steps.specs.Kept.{KeepsGlobals}
 use Rattle.accepted_steps.specs.Known.{EachEntry, IsObject, Declared}
-use Rattle.accepted_programs.proofs.Bools.{get_last}
-use Rattle.accepted_programs.proofs.Declared.{FileType, file_type, none_computed, named_computed, filled_computed}
+use Rattle.accepted_types.proofs.Walks.{pure_same}
+use Rattle.accepted_types.proofs.Fronts.{starts_same}
+use Rattle.accepted_types.proofs.Lengths.{none_computed}
+use Rattle.accepted_statements.proofs.Lists.{get_last}
+use Rattle.accepted_programs.proofs.Declared.{FileType, file_type, named_computed, filled_computed}
 use Rattle.accepted_programs.proofs.Names.{NamedPrototype, prototype_named}
 use Rattle.accepted_programs.proofs.Scopes.{FileName, Later, file_later, found_front, each_more}
-use Rattle.accepted_programs.proofs.Steps.{Parts, parts, state_of, Lifted, lifted, starts_same, starts_trans}
+use Rattle.accepted_programs.proofs.Steps.{Parts, parts, Lifted, lifted, starts_trans}
 use Rattle.accepted_programs.proofs.Still.{Still, plain_still, StaticStart, begin_still, no_start}
 use Rattle.accepted_programs.proofs.Variables.{next_global, NamedVariable, variable_named}
 
@@ -198,7 +201,7 @@ global_done many line b i s new u sc good one is =
 -- a declaration
 pub globals_done : (many line : ℕ) (b : Base) (is : List InitParts) (s new : State) (u : Unit {0}) (sc : Scope) → EachInit is → s.scopes ≡ sc ∷ []
     → program.globals line b is s ≡ Ok (u, new) → GlobalDone many s new sc
-globals_done many line b [] s new u sc good one h = subst (λ (z : State). GlobalDone many s z sc) (state_of tt u s new h) (global_same many s sc one)
+globals_done many line b [] s new u sc good one h = subst (λ (z : State). GlobalDone many s z sc) (pure_same tt u s new h) (global_same many s sc one)
 globals_done many line b (i ∷ is) s new u sc good one h =
     let p : Parts (program.global line b i) (λ v. program.globals line b is) s new u = parts (program.global line b i) (λ v. program.globals line b is) s new u h in
     let first : GlobalDone many s p.between sc = global_done many line b i s p.between p.answer sc good.0 one p.first in

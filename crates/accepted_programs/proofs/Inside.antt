@@ -1,5 +1,5 @@
 -- The items of a function stand right in it: what the walk over them makes, once its parameters are known.
-use Rattle.std.proofs.Common.{◌≡◌, ℕ, ◌+◌, ◌≤◌, ◌==◌, true, nat_le, nat_lt, refl, ap, sym, subst, List, [], ◌∷◌, ◌++◌, length, slice_get, Some, Ok, arith, append-nil}
+use Rattle.std.proofs.Common.{◌≡◌, ℕ, ◌+◌, ◌≤◌, ◌==◌, true, nat_le, nat_lt, refl, ap, sym, subst, List, [], ◌∷◌, ◌++◌, length, slice_get, Some, Ok, arith}
 use Rattle.c_types.specs.Scopes.{Scope, Scopes}
 use Rattle.typed_tree.specs.declared.expression.CaptureKind.{CaptureKind}
 use Rattle.typed_tree.specs.declared.expression.Stmt.{Stmt}
@@ -16,16 +16,18 @@ use Rattle.accepted_trees.specs.Accepted.{AreNumbered}
 use Rattle.accepted_trees.specs.Counts.{one_if, objects_at}
 use Rattle.accepted_trees.specs.Places.{stands_as_body}
 use Rattle.accepted_trees.specs.Values.{uses_values}
+use Rattle.accepted_trees.proofs.Bools.{le_true}
 use Rattle.accepted_steps.specs.Counts.{Counts, objects_in, declarations_in}
 use Rattle.accepted_steps.specs.Items.{placed, GoodStatement, Declared, EachNode, DeclaresAt, ItemsStand}
 use Rattle.accepted_steps.specs.Kept.{Starts, Grows}
 use Rattle.accepted_steps.specs.Known.{Means, EachEntry, EachScope, Small, Known, is_number, numbers}
 use Rattle.accepted_steps.specs.Steps.{Round, Agrees, Did, EachTick, round_tick}
+use Rattle.accepted_types.proofs.Fronts.{starts_refl}
 use Rattle.accepted_programs.proofs.Bodies.{items_stand, items_used, declared_stand, declared_used, body_stands, body_used, body_objects, body_numbered}
-use Rattle.accepted_programs.proofs.Bools.{le_true}
 use Rattle.accepted_programs.proofs.Files.{many, round}
 use Rattle.accepted_programs.proofs.Given.{alone, Givens, ParameterAt, parameter_means}
 use Rattle.accepted_programs.proofs.Scopes.{FileName, means, each_map}
+use Rattle.accepted_programs.proofs.Bools.{length_front}
 
 -- ---- the ticks of a function, whatever its variables and its frame
 
@@ -87,9 +89,6 @@ pub record Inside (e : State) (ks : List (List CaptureKind)) (n : ℕ) (s new : 
   pub numbers : AreNumbered (st.Block new.frame.nodes xs)
   pub ticks : (all : List (List CaptureKind)) → Starts (ks ++ more) all → (made : Starts s.ticks.all new.ticks.all) → EachTick (round e all [] 0) made.rest more
 
-all_of : {A : Type 0} (xs : List A) → Starts xs xs
-all_of xs = record { rest = []; is = sym (append-nil xs) }
-
 -- the node of the body: its parameters, and the variables behind them
 block_stands : (e : State) (top : Scope) (n : ℕ) (all : List (List CaptureKind)) (s new : State) (rest xs : List Stmt) → Givens top n s → s.frame.object ≤ new.frame.object
     → new.frame.nodes ≡ s.frame.nodes ++ rest → EachNode (DeclaresAt stage.Function new.frame.object) rest
@@ -111,10 +110,6 @@ block_used : (e : State) (top : Scope) (n : ℕ) (all : List (List CaptureKind))
 block_used e top n all s new rest xs g is declares items =
     subst (λ (vs : List Stmt). uses_values (st.Block vs xs) ≡ true) (sym is)
     (body_used s.frame.nodes rest xs g.frame.values (declared_used new.frame.object rest declares) (items_used (round e all (numbers new.frame.nodes) new.frame.object) xs items))
-
-length_front : {A : Type 0} (xs ys : List A) → length xs ≤ length (xs ++ ys)
-length_front [] ys = omega arith
-length_front (x ∷ xs) ys = let h : length xs ≤ length (xs ++ ys) = length_front xs ys in omega arith
 
 pub starts_length : {A : Type 0} (xs ys : List A) → Starts xs ys → length xs ≤ length ys
 starts_length xs ys h = let e : length ys ≡ length (xs ++ h.rest) = ap length h.is in let m : length xs ≤ length (xs ++ h.rest) = length_front xs h.rest in omega arith
@@ -139,7 +134,7 @@ inside e top n ks step s new xs good g names counted is small prototypes =
     let object : s.frame.object ≤ new.frame.object = grows.at.object small.object in
     let declared : Declared stage.Function s new = good.declares s new xs is small (ap (λ (i : ℕ). i == 0) g.frame.aligned) in
     let counts : Counts stage.Function s new xs = good.counts s new xs is small in
-    let here : Agrees (many e) stage.Function alone (ks ++ d.more) new (round_items e (ks ++ d.more) new) = agrees e (ks ++ d.more) (ks ++ d.more) new small prototypes (all_of (ks ++ d.more)) in
+    let here : Agrees (many e) stage.Function alone (ks ++ d.more) new (round_items e (ks ++ d.more) new) = agrees e (ks ++ d.more) (ks ++ d.more) new small prototypes (starts_refl (ks ++ d.more)) in
     record {
       more = d.more;
       counted = (d.known small).ticks;

@@ -31,12 +31,14 @@ use Rattle.tick_checker.specs.Parameters.{Head, Inner, nothing, inner_rule, head
 use Rattle.tick_checker.specs.Walk.{SuffixWalk, TypeWalk, declarator_walk, core, shape, suffix, parameter, optional}
 use Rattle.tick_checker.proofs.Equations.{at_suffix_array, at_suffix_unlisted, at_suffix_nothing, at_suffix_listed}
 use Rattle.tick_checker.proofs.Heads.{list_listed}
+use Rattle.accepted_types.proofs.Walks.{pure_value}
 use Rattle.accepted_walks.proofs.Induction.{Core-T, Declarator-T, Suffix-T, walk_core, walk_declarator}
 use Rattle.accepted_programs.specs.Named as rule
 use Rattle.accepted_programs.specs.Named.{is_listed, is_listed_core}
 use Rattle.accepted_programs.proofs.Declared.{list_of, first_list}
 use Rattle.accepted_programs.proofs.Lists.{ListRan, list_ran, length_ran}
-use Rattle.accepted_programs.proofs.Steps.{Parts, parts, answer_of}
+use Rattle.accepted_programs.proofs.Steps.{Parts, parts}
+use Rattle.accepted_programs.proofs.Bools.{length_map}
 
 -- ---- what is shown
 
@@ -61,30 +63,26 @@ DeclaratorListed d = is_listed d ≡ true → (s new : State) (xs : List Step) �
 -- ---- suffixes
 
 types_length : (ps : List TypeWalk) (s new : State) (ts : List CType) → each_type ps stage.Function s ≡ Ok (ts, new) → length ts ≡ length ps
-types_length [] s new ts is = sym (ap (λ (us : List CType). length us) (answer_of [] ts s new is))
+types_length [] s new ts is = sym (ap (λ (us : List CType). length us) (pure_value [] ts s new is))
 types_length (w ∷ ps) s new ts is =
     let p : Parts (w stage.Function) (λ t. each_type ps stage.Function >>= (λ us. pure (t ∷ us))) s new ts
     = parts (w stage.Function) (λ t. each_type ps stage.Function >>= (λ us. pure (t ∷ us))) s new ts is in
     let q : Parts (each_type ps stage.Function) (λ us. pure (p.answer ∷ us)) p.between new ts = parts (each_type ps stage.Function) (λ us. pure (p.answer ∷ us)) p.between new ts p.second in
-    sym (ap (λ (us : List CType). length us) (answer_of (p.answer ∷ q.answer) ts q.between new q.second)) ∙ ap suc (types_length ps p.between q.between q.answer q.first)
-
-map_length : {A B : Type 0} (f : A → B) (xs : List A) → length (map f xs) ≡ length xs
-map_length f [] = refl
-map_length f (x ∷ xs) = ap suc (map_length f xs)
+    sym (ap (λ (us : List CType). length us) (pure_value (p.answer ∷ q.answer) ts q.between new q.second)) ∙ ap suc (types_length ps p.between q.between q.answer q.first)
 
 none_enough : (y : Step) (gs : List Given) → [] ≡ list_of y → length (list_of y) ≤ length gs
 none_enough y gs e = subst (λ (ts : List CType). length ts ≤ length gs) e (omega arith)
 
 suffix_variant : (x : Suffix-T) → SuffixListed (roll-Suffix x)
 suffix_variant (Suffix-F.Array e) = subst SuffixListed (sym (sx.rolls-Array e)) (λ s new y is. none_enough y (list (sx.Array e)) (length_ran (optional e) s new y (ap (λ (w : SuffixWalk). w stage.Function s) (sym (at_suffix_array e)) ∙ is)))
-suffix_variant Suffix-F.Unlisted = subst SuffixListed (sym sx.rolls-Unlisted) (λ s new y is. none_enough y (list sx.Unlisted) (ap list_of (answer_of step.Unlisted y s new (ap (λ (w : SuffixWalk). w stage.Function s) (sym at_suffix_unlisted) ∙ is))))
-suffix_variant Suffix-F.Nothing = subst SuffixListed (sym sx.rolls-Nothing) (λ s new y is. none_enough y (list sx.Nothing) (ap list_of (answer_of (step.Function []) y s new (ap (λ (w : SuffixWalk). w stage.Function s) (sym at_suffix_nothing) ∙ is))))
+suffix_variant Suffix-F.Unlisted = subst SuffixListed (sym sx.rolls-Unlisted) (λ s new y is. none_enough y (list sx.Unlisted) (ap list_of (pure_value step.Unlisted y s new (ap (λ (w : SuffixWalk). w stage.Function s) (sym at_suffix_unlisted) ∙ is))))
+suffix_variant Suffix-F.Nothing = subst SuffixListed (sym sx.rolls-Nothing) (λ s new y is. none_enough y (list sx.Nothing) (ap list_of (pure_value (step.Function []) y s new (ap (λ (w : SuffixWalk). w stage.Function s) (sym at_suffix_nothing) ∙ is))))
 suffix_variant (Suffix-F.Listed ps) = subst SuffixListed (sym (sx.rolls-Listed ps)) (λ s new y is.
     let r : ListRan (map parameter ps) s y = list_ran (map parameter ps) s new y (ap (λ (w : SuffixWalk). w stage.Function s) (sym (at_suffix_listed ps)) ∙ is) in
     let a : length r.types ≡ length (map parameter ps) = types_length (map parameter ps) r.from r.to r.types r.walked in
-    let b : length (map parameter ps) ≡ length ps = map_length parameter ps in
+    let b : length (map parameter ps) ≡ length ps = length_map parameter ps in
     let c : length (list (sx.Listed ps)) ≡ length (map written ps) = ap (λ (gs : List Given). length gs) (list_listed ps) in
-    let d : length (map written ps) ≡ length ps = map_length written ps in
+    let d : length (map written ps) ≡ length ps = length_map written ps in
     let e : length (list_of y) ≡ length r.types = ap (λ (z : Step). length (list_of z)) r.is in
     omega arith)
 
@@ -94,7 +92,7 @@ suffix_enough x = subst SuffixListed (roll-out-Suffix x) (suffix_variant (out-Su
 -- ---- steps behind a first one
 
 steps_front : (ws : List SuffixWalk) (gs : List Given) (zs xs : List Step) (s new : State) → Front zs gs → each_step ws zs stage.Function s ≡ Ok (xs, new) → Front xs gs
-steps_front [] gs zs xs s new f is = subst (λ (ys : List Step). Front ys gs) (answer_of zs xs s new is) f
+steps_front [] gs zs xs s new f is = subst (λ (ys : List Step). Front ys gs) (pure_value zs xs s new is) f
 steps_front (w ∷ ws) gs zs xs s new f is =
     let p : Parts (w stage.Function) (λ y. each_step ws (zs ++ y ∷ []) stage.Function) s new xs = parts (w stage.Function) (λ y. each_step ws (zs ++ y ∷ []) stage.Function) s new xs is in
     steps_front ws gs (zs ++ p.answer ∷ []) xs p.between new
@@ -212,7 +210,7 @@ of_declarator c ss ps good h s new xs is =
     let q : Parts (each_step (map suffix ss) p.answer stage.Function) (λ all. pure (prefixed ps all)) p.between new xs
     = parts (each_step (map suffix ss) p.answer stage.Function) (λ all. pure (prefixed ps all)) p.between new xs p.second in
     let whole : cored (core c) ss s ≡ Ok (q.answer, q.between) = ap (λ r. r >>>= (λ z. each_step (map suffix ss) z.0 stage.Function z.1)) p.first ∙ q.first in
-    subst (λ (ys : List Step). Front ys ((inner c).list (first_of (map list ss)))) (answer_of (prefixed ps q.answer) xs q.between new q.second)
+    subst (λ (ys : List Step). Front ys ((inner c).list (first_of (map list ss)))) (pure_value (prefixed ps q.answer) xs q.between new q.second)
     (prefixed_front ps ((inner c).list (first_of (map list ss))) q.answer (good ss h s q.between q.answer whole))
 
 declarator_holds : (z : Declarator-T) → CoreListed z.core → DeclaratorListed (roll-Declarator z)

@@ -22,13 +22,14 @@ use Rattle.check_statements.specs.Declarations.{length_of}
 use Rattle.check_statements.specs.Rules.{each_step, each_type, list_step, length_step}
 use Rattle.tick_checker.specs.Walk.{SuffixWalk, TypeWalk, Core-W, Suffix-W, core_rule, suffix_walk, declarator_walk, parameter_walk, shape}
 use Rattle.accepted_types.specs.Parts.{EachPart}
+use Rattle.accepted_types.proofs.Walks.{pure_value}
 use Rattle.accepted_walks.specs.Asked.{Asked, RulesKeep, EveryCore, EverySuffix}
 use Rattle.accepted_walks.proofs.Induction.{holds_declarator}
 use Rattle.accepted_values.proofs.Declared.{types_use}
 use Rattle.accepted_steps.specs.Known.{IsObject}
 use Rattle.accepted_programs.proofs.Declared.{list_of, first_list}
 use Rattle.accepted_programs.proofs.Given.{EachObject}
-use Rattle.accepted_programs.proofs.Steps.{Parts, parts, answer_of, Lifted, lifted}
+use Rattle.accepted_programs.proofs.Steps.{Parts, parts, Lifted, lifted}
 
 -- ---- what is asked
 
@@ -70,7 +71,7 @@ prefixed_lists [] ss h = h
 prefixed_lists (p ∷ ps) ss h = list_last (prefixed ps ss) (step.Prefix p) (prefixed_lists ps ss h) tt
 
 steps_lists : (ws : List SuffixWalk) (ss xs : List Step) (s new : State) → EachPart ObjectSuffix ws → EachList ss → each_step ws ss stage.Function s ≡ Ok (xs, new) → EachList xs
-steps_lists [] ss xs s new h k is = subst EachList (answer_of ss xs s new is) k
+steps_lists [] ss xs s new h k is = subst EachList (pure_value ss xs s new is) k
 steps_lists (w ∷ ws) ss xs s new h k is =
     let p : Parts (w stage.Function) (λ x. each_step ws (ss ++ x ∷ []) stage.Function) s new xs = parts (w stage.Function) (λ x. each_step ws (ss ++ x ∷ []) stage.Function) s new xs is in
     steps_lists ws (ss ++ p.answer ∷ []) xs p.between new h.1 (list_last ss p.answer k (h.0 s p.between p.answer p.first)) p.second
@@ -82,23 +83,23 @@ declarator_lists core ws ps s new xs h k is =
     = parts (core.walk stage.Function) (λ ss. each_step ws ss stage.Function >>= (λ all. pure (prefixed ps all))) s new xs is in
     let q : Parts (each_step ws p.answer stage.Function) (λ all. pure (prefixed ps all)) p.between new xs
     = parts (each_step ws p.answer stage.Function) (λ all. pure (prefixed ps all)) p.between new xs p.second in
-    subst EachList (answer_of (prefixed ps q.answer) xs q.between new q.second)
+    subst EachList (pure_value (prefixed ps q.answer) xs q.between new q.second)
     (prefixed_lists ps q.answer (steps_lists ws p.answer q.answer p.between q.between k (h s p.between p.answer p.first) q.first))
 
 core_lists : (x : Core-W) → EveryCore objects x → ObjectShape (core_rule x)
-core_lists Core-F.Core::Absent h = λ s new xs is. subst EachList (answer_of [] xs s new is) tt
-core_lists (Core-F.Core::Name n text) h = λ s new xs is. subst EachList (answer_of [] xs s new is) tt
+core_lists Core-F.Core::Absent h = λ s new xs is. subst EachList (pure_value [] xs s new is) tt
+core_lists (Core-F.Core::Name n text) h = λ s new xs is. subst EachList (pure_value [] xs s new is) tt
 core_lists (Core-F.Core::Paren d) h = h
 
 -- ---- suffixes and parameters
 
 types_objects : (ps : List TypeWalk) (s new : State) (ts : List CType) → EachPart ObjectParameter ps → each_type ps stage.Function s ≡ Ok (ts, new) → EachObject ts
-types_objects [] s new ts h is = subst EachObject (answer_of [] ts s new is) tt
+types_objects [] s new ts h is = subst EachObject (pure_value [] ts s new is) tt
 types_objects (w ∷ ps) s new ts h is =
     let p : Parts (w stage.Function) (λ t. each_type ps stage.Function >>= (λ us. pure (t ∷ us))) s new ts
     = parts (w stage.Function) (λ t. each_type ps stage.Function >>= (λ us. pure (t ∷ us))) s new ts is in
     let q : Parts (each_type ps stage.Function) (λ us. pure (p.answer ∷ us)) p.between new ts = parts (each_type ps stage.Function) (λ us. pure (p.answer ∷ us)) p.between new ts p.second in
-    subst EachObject (answer_of (p.answer ∷ q.answer) ts q.between new q.second) (h.0 s p.between p.answer p.first, types_objects ps p.between q.between q.answer h.1 q.first)
+    subst EachObject (pure_value (p.answer ∷ q.answer) ts q.between new q.second) (h.0 s p.between p.answer p.first, types_objects ps p.between q.between q.answer h.1 q.first)
 
 -- what a list is the step of
 pub record ListRan (ps : List TypeWalk) (s : State) (x : Step) : Type 0 where
@@ -118,19 +119,19 @@ list_ran ps s new x is =
     = parts (each_type ps stage.Function) (λ ts. leave a.answer b.answer >>= (λ vs. pure (step.Function ts))) b.between new x b.second in
     let d : Parts (leave a.answer b.answer) (λ vs. pure (step.Function c.answer)) c.between new x
     = parts (leave a.answer b.answer) (λ vs. pure (step.Function c.answer)) c.between new x c.second in
-    record { types = c.answer; from = b.between; to = c.between; walked = c.first; is = sym (answer_of (step.Function c.answer) x d.between new d.second) }
+    record { types = c.answer; from = b.between; to = c.between; walked = c.first; is = sym (pure_value (step.Function c.answer) x d.between new d.second) }
 
 pub length_ran : (o : Option Node) (s new : State) (x : Step) → length_step o stage.Function s ≡ Ok (x, new) → [] ≡ list_of x
-length_ran None s new x is = ap list_of (answer_of (step.Array len.Absent) x s new is)
+length_ran None s new x is = ap list_of (pure_value (step.Array len.Absent) x s new is)
 length_ran (Some e) s new x is =
     let p : Parts (e.walk stage.Function) (λ o. pure (step.Array (length_of e.written.constant o))) s new x
     = parts (e.walk stage.Function) (λ o. pure (step.Array (length_of e.written.constant o))) s new x is in
-    ap list_of (answer_of (step.Array (length_of e.written.constant p.answer)) x p.between new p.second)
+    ap list_of (pure_value (step.Array (length_of e.written.constant p.answer)) x p.between new p.second)
 
 suffix_lists : (x : Suffix-W) → EverySuffix objects x → ObjectSuffix (suffix_walk x)
 suffix_lists (Suffix-F.Array e) h = λ s new x is. subst EachObject (length_ran e s new x is) tt
-suffix_lists Suffix-F.Unlisted h = λ s new x is. subst (λ (y : Step). EachObject (list_of y)) (answer_of step.Unlisted x s new is) tt
-suffix_lists Suffix-F.Nothing h = λ s new x is. subst (λ (y : Step). EachObject (list_of y)) (answer_of (step.Function []) x s new is) tt
+suffix_lists Suffix-F.Unlisted h = λ s new x is. subst (λ (y : Step). EachObject (list_of y)) (pure_value step.Unlisted x s new is) tt
+suffix_lists Suffix-F.Nothing h = λ s new x is. subst (λ (y : Step). EachObject (list_of y)) (pure_value (step.Function []) x s new is) tt
 suffix_lists (Suffix-F.Listed ps) h = λ s new x is.
     let r : ListRan ps s x = list_ran ps s new x is in
     subst (λ (y : Step). EachObject (list_of y)) (sym r.is) (types_objects ps r.from r.to r.types h r.walked)
@@ -144,7 +145,7 @@ parameter_object line b d s new t is =
     let l : Lifted (declared_type role.Parameter line (words.base_of b) p.answer) p.between q.between q.answer = lifted (declared_type role.Parameter line (words.base_of b) p.answer) p.between q.between q.answer q.first in
     let r : Parts (declarations.declare_parameter stage.Function line d.declared.name q.answer) (λ v. pure q.answer) q.between new t
     = parts (declarations.declare_parameter stage.Function line d.declared.name q.answer) (λ v. pure q.answer) q.between new t q.second in
-    subst IsObject (answer_of q.answer t r.between new r.second)
+    subst IsObject (pure_value q.answer t r.between new r.second)
     (record {
       type = types_use.declared role.Parameter line (words.base_of b) p.answer q.answer refl l.gave;
       specified = types_use.vspec role.Parameter line (words.base_of b) p.answer q.answer l.gave;

@@ -14,13 +14,14 @@ use Rattle.check_statements.specs.Declarations.{name_by}
 use Rattle.check_globals.specs.Functions.{Given, types_of}
 use Rattle.tick_checker.specs.Program.{around}
 use Rattle.accepted_steps.specs.Kept.{Starts}
+use Rattle.accepted_types.proofs.Fronts.{starts_same}
+use Rattle.accepted_types.proofs.Blocks.{inside}
 use Rattle.accepted_programs.proofs.Done.{made_function, is_made, with_defined}
 use Rattle.accepted_programs.proofs.Files.{many, Towards}
 use Rattle.accepted_programs.proofs.Functions.{GoodFunction, Typed, function_typed, Blocked, blocked}
 use Rattle.accepted_programs.proofs.Given.{All, function_begun}
 use Rattle.accepted_programs.proofs.Names.{NamedFunction, function_named}
-use Rattle.accepted_programs.proofs.Runs.{entered, FunctionRan}
-use Rattle.accepted_programs.proofs.Steps.{starts_same}
+use Rattle.accepted_programs.proofs.Runs.{FunctionRan}
 use Rattle.accepted_programs.proofs.Still.{Still}
 
 -- ---- growth
@@ -42,7 +43,7 @@ named_ticks : (name : Name) (table : Scope) (s typed_ named : State) (t : CType)
 named_ticks name table s typed_ named t sc still n = ap (λ (z : State). z.ticks.all) n.is ∙ still.ticks
 
 grown : (line : ℕ) (d : Shape) (t : CType) (s typed_ named given last : State) (xs : List Stmt) (sc table : Scope) (name : Name) (k : ℕ) → Still s typed_
-    → (n : NamedFunction name t typed_ named sc table) → All n.scope k (entered named) given → Blocked n.scope named last → Grown line d t s named given last xs n.scope table name
+    → (n : NamedFunction name t typed_ named sc table) → All n.scope k (inside named) given → Blocked n.scope named last → Grown line d t s named given last xs n.scope table name
 grown line d t s typed_ named given last xs sc table name k still n all b = record {
   functions = b.functions ∙ named_functions name table s typed_ named t sc still n;
   same = all.aside.functions ∙ sym b.functions;
@@ -56,7 +57,7 @@ grown line d t s typed_ named given last xs sc table name k still n all b = reco
 pub record PartsOf (line : ℕ) (b : Base) (d : Shape) (gs : List Given) (items : List Item) (s new : State) (r : FunctionRan line b d gs items s new) (sc table : Scope) : Type 1 where
   pub typed : Typed line b d gs s r.typed r.type
   pub name : NamedFunction (name_by d.declared.name) r.type r.typed r.named sc table
-  pub all : All name.scope (length (types_of r.type)) (entered r.named) r.third.given
+  pub all : All name.scope (length (types_of r.type)) (inside r.named) r.third.given
   pub grown : Grown line d r.type s r.named r.third.given r.third.last r.third.nodes name.scope table (name_by d.declared.name)
 
 pub parts_of : (many line : ℕ) (b : Base) (d : Shape) (gs : List Given) (items : List Item) (s new : State) (r : FunctionRan line b d gs items s new) (sc table : Scope)
@@ -66,8 +67,8 @@ parts_of many line b d gs items s new r sc table good one two =
     let n : NamedFunction (name_by d.declared.name) r.type r.typed r.named sc table
     = function_named line (name_by d.declared.name) r.type r.typed r.named r.u sc table (ty.still.scopes ∙ one) (ap (λ (f : Functions). f.defined) ty.still.functions ∙ two) r.second in
     let top : r.named.scopes ≡ n.scope ∷ [] = ap (λ (z : State). z.scopes) n.is in
-    let a : All n.scope (length (types_of r.type)) (entered r.named) r.third.given
-    = function_begun n.scope r.type gs (entered r.named) r.third.given r.third.u (ap (λ (ss : Scopes). ss ++ [] ∷ []) top) ty.few ty.enough ty.objects r.third.begun in
+    let a : All n.scope (length (types_of r.type)) (inside r.named) r.third.given
+    = function_begun n.scope r.type gs (inside r.named) r.third.given r.third.u (ap (λ (ss : Scopes). ss ++ [] ∷ []) top) ty.few ty.enough ty.objects r.third.begun in
     let bl : Blocked n.scope r.named r.third.last
     = blocked n.scope (length (types_of r.type)) (rules.each items around) r.named r.third.given r.third.last r.third.nodes top a good.walks.grows r.third.walked in
     record { typed = ty; name = n; all = a; grown = grown line d r.type s r.typed r.named r.third.given r.third.last r.third.nodes sc table (name_by d.declared.name) (length (types_of r.type)) ty.still n a bl }

@@ -1,6 +1,5 @@
 -- `main` is one of the functions, and has no parameters.
-use Rattle.std.proofs.Common.{◌≡◌, ℕ, zero, suc, min, ◌==◌, Bool, true, false, ◌&&◌, refl, ap, sym, ◌∙◌, subst, List, [], ◌∷◌, length, codes, slice_get, Option, Some, None, is_some, arith, ◌⊎◌, inl, inr}
-use Rattle.std.proofs.lemmas.Bool.Decides.{nat_tests}
+use Rattle.std.proofs.Common.{◌≡◌, ℕ, zero, suc, min, ◌==◌, true, ◌&&◌, refl, ap, sym, ◌∙◌, subst, List, [], ◌∷◌, length, codes, slice_get, Option, Some, None, is_some, ◌⊎◌, inl, inr}
 use Rattle.c_types.specs.declared.ctype.CType.{CType}
 use Rattle.c_types.specs.declared.ctype.Layer.{Layer, out-Layer}
 use Rattle.c_types.specs.declared.ctype.Layer.TheOpen.{Layer-F}
@@ -15,9 +14,10 @@ use Rattle.check_state.specs.declared.state.State.{State}
 use Rattle.check_globals.specs.Functions.{count_of, types_of, types_by, types_at}
 use Rattle.check_globals.specs.Names as names
 use Rattle.check_globals.specs.Programs.{is_main_type, takes_none, takes_none_at, is_int, is_main, has_main}
-use Rattle.accepted_programs.proofs.Bools.{and_left, and_right}
+use Rattle.accepted_trees.proofs.Bools.{first_true, second_true}
 use Rattle.accepted_programs.proofs.Files.{AtFile, Linked, linked_at, names_of}
 use Rattle.accepted_programs.proofs.Tables.{with_names, keys, keys_of, key_found, Stands}
+use Rattle.accepted_programs.proofs.Bools.{two_not_one, never_both}
 
 -- ---- its type
 
@@ -57,30 +57,23 @@ other_list Layer-F.Vspec p h k = absurd (cc)
 other_layer : (a b : Layer) → takes_none (Some a) ≡ true → same_layer a b ≡ true → types_by (Some b) ≡ []
 other_layer a b h k = other_list (out-Layer a) (out-Layer b) h (by_layer (opened_same (out-Layer a) (out-Layer b)) a b refl ∙ k)
 
-two_not_one : (n : ℕ) → (suc (suc n) == 1) ≡ true → ⊥
-two_not_one n h = grind (arith, nat_tests)
-
-more_layers : (b : Bool) → (b && false) ≡ true → ⊥
-more_layers true h = cc
-more_layers false h = cc
-
 other_layers : (xs ys : List Layer) → (length xs == 1) ≡ true → takes_none (outermost xs) ≡ true → same_layers xs ys ≡ true → types_by (outermost ys) ≡ []
 other_layers [] ys one h k = absurd (cc)
 other_layers (x ∷ y ∷ xs) ys one h k = absurd (two_not_one (length xs) one)
 other_layers (x ∷ []) [] one h k = absurd (cc)
-other_layers (x ∷ []) (y ∷ z ∷ ys) one h k = absurd (let e : same_layers (x ∷ []) (y ∷ z ∷ ys) ≡ true = k in more_layers (same_layer x y) e)
-other_layers (x ∷ []) (y ∷ []) one h k = other_layer x y h (and_left (same_layer x y) true k)
+other_layers (x ∷ []) (y ∷ z ∷ ys) one h k = absurd (let e : same_layers (x ∷ []) (y ∷ z ∷ ys) ≡ true = k in never_both (same_layer x y) e)
+other_layers (x ∷ []) (y ∷ []) one h k = other_layer x y h (first_true (same_layer x y) true k)
 
 -- a type that is that of `main`, or the same as it, has no parameters
 pub main_list : (a t : CType) → (a ≡ t) ⊎ (same a t ≡ true) → is_main_type a ≡ true → types_of t ≡ []
 main_list a t (inl e) h =
     subst (λ (u : CType). types_of u ≡ []) e
-    (no_types (outermost (layers_of a)) (and_right (length (layers_of a) == 1) (takes_none (outermost (layers_of a))) (and_left (length (layers_of a) == 1 && takes_none (outermost (layers_of a))) (is_int (base_of a)) h)))
+    (no_types (outermost (layers_of a)) (second_true (length (layers_of a) == 1) (takes_none (outermost (layers_of a))) (first_true (length (layers_of a) == 1 && takes_none (outermost (layers_of a))) (is_int (base_of a)) h)))
 main_list a t (inr e) h =
-    let shape : (length (layers_of a) == 1 && takes_none (outermost (layers_of a))) ≡ true = and_left (length (layers_of a) == 1 && takes_none (outermost (layers_of a))) (is_int (base_of a)) h in
+    let shape : (length (layers_of a) == 1 && takes_none (outermost (layers_of a))) ≡ true = first_true (length (layers_of a) == 1 && takes_none (outermost (layers_of a))) (is_int (base_of a)) h in
     let layers : same_layers (layers_of a) (layers_of t) ≡ true
-    = and_right (same_base (base_of a) (base_of t)) (same_layers (layers_of a) (layers_of t)) (by_parts (same_base (base_of a) (base_of t) && same_layers (layers_of a) (layers_of t)) a t refl ∙ e) in
-    other_layers (layers_of a) (layers_of t) (and_left (length (layers_of a) == 1) (takes_none (outermost (layers_of a))) shape) (and_right (length (layers_of a) == 1) (takes_none (outermost (layers_of a))) shape) layers
+    = second_true (same_base (base_of a) (base_of t)) (same_layers (layers_of a) (layers_of t)) (by_parts (same_base (base_of a) (base_of t) && same_layers (layers_of a) (layers_of t)) a t refl ∙ e) in
+    other_layers (layers_of a) (layers_of t) (first_true (length (layers_of a) == 1) (takes_none (outermost (layers_of a))) shape) (second_true (length (layers_of a) == 1) (takes_none (outermost (layers_of a))) shape) layers
 
 -- ---- the function
 
@@ -101,12 +94,12 @@ meant : (s : State) (o : Option Meaning) → find s.scopes (codes "main") ≡ o 
 meant s None e h = absurd (cc)
 meant s (Some m) e h =
     let a : (names.is_function m.kind && tables.is_defined (codes "main") s.functions) ≡ true
-    = and_left (names.is_function m.kind && tables.is_defined (codes "main") s.functions) (is_main_type m.ctype) h in
+    = first_true (names.is_function m.kind && tables.is_defined (codes "main") s.functions) (is_main_type m.ctype) h in
     record {
       what = m;
       found = e;
-      defined = and_right (names.is_function m.kind) (tables.is_defined (codes "main") s.functions) a;
-      type = and_right (names.is_function m.kind && tables.is_defined (codes "main") s.functions) (is_main_type m.ctype) h;
+      defined = second_true (names.is_function m.kind) (tables.is_defined (codes "main") s.functions) a;
+      type = second_true (names.is_function m.kind && tables.is_defined (codes "main") s.functions) (is_main_type m.ctype) h;
     }
 
 record Placed (fs : List Function) (i : ℕ) (name : Name) : Type 0 where

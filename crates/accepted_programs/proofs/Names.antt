@@ -14,8 +14,9 @@ use Rattle.check_state.specs.Names.{declare}
 use Rattle.check_globals.specs.Functions as globals
 use Rattle.check_globals.specs.Names as names
 use Rattle.accepted_steps.specs.Known.{EachEntry}
+use Rattle.accepted_types.proofs.Walks.{pure_same}
 use Rattle.accepted_programs.proofs.Scopes.{found_front, found_new, each_more, DeclaresFirst, declare_first}
-use Rattle.accepted_programs.proofs.Steps.{Parts, parts, state_of}
+use Rattle.accepted_programs.proofs.Steps.{Parts, parts}
 use Rattle.accepted_programs.proofs.Tables.{with_name, define_gives}
 
 -- ---- a function is defined
@@ -27,7 +28,7 @@ pub record With (line : ℕ) (name : Name) (s new : State) : Type 0 where
 
 with_case : (line : ℕ) (name : Name) (s new : State) (u : Unit {0}) (r : Checked (Unit {0} × Functions)) → functions.define line name s.functions ≡ r
     → globals.with_functions s r ≡ Ok (u, new) → With line name s new
-with_case line name s new u (Ok r) e is = record { made = r.1; is = sym (state_of r.0 u (record s { functions = r.1 }) new is); gave = e }
+with_case line name s new u (Ok r) e is = record { made = r.1; is = sym (pure_same r.0 u (record s { functions = r.1 }) new is); gave = e }
 with_case line name s new u (Err k) e is = absurd (cc)
 
 pub define_state : (line : ℕ) (name : Name) (s new : State) (u : Unit {0}) (dc : Scope) → s.functions.defined ≡ dc ∷ []
@@ -119,7 +120,7 @@ pub record NamedPrototype (line : ℕ) (name : Name) (t : CType) (s new : State)
   pub names : (P : Name → Meaning → Type 0) → EachEntry P sc → P name (meaning kind.Function t (functions.number name s.functions)) → EachEntry P scope
 
 noted : (line : ℕ) (name : Name) (s new : State) (u : Unit {0}) → names.note line name s ≡ Ok (u, new) → new ≡ record s { functions = functions.with_prototype line name s.functions }
-noted line name s new u is = sym (state_of tt u (record s { functions = functions.with_prototype line name s.functions }) new is)
+noted line name s new u is = sym (pure_same tt u (record s { functions = functions.with_prototype line name s.functions }) new is)
 
 first_prototype : (line : ℕ) (name : Name) (t : CType) (s new : State) (u : Unit {0}) (sc : Scope) → s.scopes ≡ sc ∷ []
     → names.first_prototype line name t s ≡ Ok (u, new) → NamedPrototype line name t s new sc

@@ -1,6 +1,5 @@
 -- The parameters of a function: each is a node at the head of its block, and is known with its home.
 use Rattle.std.proofs.Common.{◌≡◌, ℕ, suc, ◌+◌, ◌*◌, ◌%◌, ◌≤◌, ◌==◌, Bool, true, false, ◌&&◌, nat_le, nat_lt, if◌then◌else◌, refl, ap, sym, ◌∙◌, List, [], ◌∷◌, ◌++◌, length, map, sum, slice_get, Some, arith}
-use Rattle.std.proofs.lemmas.Bool.Decides.{nat_tests}
 use Rattle.word32.specs.declared.width.Width.{Width}
 use Rattle.c_types.specs.declared.ctype.CType.{CType}
 use Rattle.c_shapes.specs.Shapes.{width_of}
@@ -16,9 +15,10 @@ use Rattle.accepted_trees.specs.Counts.{one_if, is_in, objects_at, declarations_
 use Rattle.accepted_trees.specs.Places.{Around, Act, act, in_function, are_parameters, is_object}
 use Rattle.accepted_trees.specs.Values.{uses_values, all_true}
 use Rattle.accepted_trees.proofs.Equations.{act_parameter, act_parameterobject, objects_at_parameter, objects_at_parameterobject, declarations_of_parameter, declarations_of_parameterobject}
+use Rattle.accepted_trees.proofs.Bools.{and_true, same_number, le_less}
 use Rattle.accepted_steps.specs.Known.{numbers, HasHome}
-use Rattle.accepted_programs.proofs.Bools.{and_true, length_last}
-use Rattle.accepted_programs.proofs.Sums.{map_both, sum_map_both, all_map_both, same_number, parameters_more, bytes_more, number_more, number_same, values_parameter, values_object}
+use Rattle.accepted_programs.proofs.Bools.{length_last, length_map}
+use Rattle.accepted_programs.proofs.Sums.{map_both, sum_map_both, all_map_both, parameters_more, bytes_more, number_more, number_same, values_parameter, values_object}
 
 -- so many parameters stand in a function that has nothing else yet
 pub record FrameAt (k : ℕ) (f : Frame) : Type 0 where
@@ -51,17 +51,10 @@ is_object_parameter k w off a h within aligned =
     (and_true (in_function a && nat_le (off + 4 * 1) a.object) (off % 4 == 0) (and_true (in_function a) (nat_le (off + 4 * 1) a.object) h within)
     (ap (λ (n : ℕ). n == 0) aligned))
 
-less : (m n o : ℕ) → m ≤ n → nat_le n o ≡ true → nat_le m o ≡ true
-less m n o h k = grind (arith, nat_tests)
-
 -- ---- one more
 
 pub count_small : {A : Type 0} (xs : List A) (k : ℕ) → length xs ≡ k → k ≤ 7 → frames.count xs ≡ k
 count_small xs k e h = omega arith
-
-length_map : {A B : Type 0} (g : A → B) (xs : List A) → length (map g xs) ≡ length xs
-length_map g [] = refl
-length_map g (x ∷ xs) = ap suc (length_map g xs)
 
 at_place : {A : Type 0} (k n : ℕ) (g : Stmt → A) (vs : List Stmt) → n ≡ k → length vs ≡ k → n ≡ 0 + length (map g vs)
 at_place k n g vs e h = let m : length (map g vs) ≡ length vs = length_map g vs in omega arith
@@ -126,7 +119,7 @@ object_at k t f few at =
           ap (λ vs. are_parameters 0 vs a) (map_both act f.nodes (st.ParameterObject (frames.number f) (width_of t) f.object ∷ []))
           ∙ parameters_more 0 (frames.number f) (map act f.nodes) (act (st.ParameterObject (frames.number f) (width_of t) f.object)) a
           (at_place k (frames.number f) act f.nodes number at.nodes)
-          (at.stand a h (less f.object (frames.after f.object 1) a.object (omega arith) within))
+          (at.stand a h (le_less f.object (frames.after f.object 1) a.object (omega arith) within))
           (is_object_parameter (frames.number f) (width_of t) f.object a h (ap (λ (n : ℕ). nat_le n a.object) (sym after) ∙ within) at.aligned);
       values = all_map_both uses_values f.nodes (st.ParameterObject (frames.number f) (width_of t) f.object ∷ []) at.values
           (and_true (uses_values (st.ParameterObject (frames.number f) (width_of t) f.object)) true (values_object (frames.number f) (width_of t) f.object) refl);

@@ -1,6 +1,5 @@
 -- Where the parameters of a function stand, and that they stand there as more come.
 use Rattle.std.proofs.Common.{◌≡◌, ℕ, ◌*◌, ◌%◌, ◌≤◌, ◌==◌, Bool, true, false, nat_le, if◌then◌else◌, refl, ap, ◌∙◌, List, [], ◌∷◌, ◌++◌, length, slice_get, Some, arith}
-use Rattle.std.proofs.lemmas.Bool.Decides.{nat_tests}
 use Rattle.c_types.specs.declared.ctype.CType.{CType}
 use Rattle.c_shapes.specs.Shapes.{width_of}
 use Rattle.typed_tree.specs.declared.expression.Stmt.TheVariants as st
@@ -10,11 +9,11 @@ use Rattle.check_tables.specs.declared.frame.Home.TheVariants as home
 use Rattle.check_tables.specs.Frames as frames
 use Rattle.accepted_trees.specs.Places.{Act}
 use Rattle.accepted_trees.proofs.Equations.{act_parameter}
+use Rattle.accepted_trees.proofs.Bools.{and_true, first_true, second_true, le_true, le_more}
 use Rattle.accepted_steps.specs.Kept.{Starts}
 use Rattle.accepted_steps.specs.Known.{has, numbers, HasHome}
-use Rattle.accepted_programs.proofs.Bools.{and_true, and_left, and_right, get_front, get_last, le_true}
+use Rattle.accepted_statements.proofs.Lists.{get_front, get_last, has_front, has_back, has_self, numbers_append}
 use Rattle.accepted_programs.proofs.Parameters.{FrameAt, PlacedAt, count_small}
-use Rattle.accepted_programs.proofs.Sums.{numbers_more, has_front, has_back, has_self}
 
 -- a frame with more
 pub record More (f new : Frame) : Type 0 where
@@ -22,14 +21,11 @@ pub record More (f new : Frame) : Type 0 where
   pub nodes : Starts f.nodes new.nodes
   pub object : f.object ≤ new.object
 
-within : (at m n : ℕ) → m ≤ n → nat_le at m ≡ true → nat_le at n ≡ true
-within at m n h k = grind (arith, nat_tests)
-
 home_later : (f new : Frame) (n : ℕ) (h : Home) → More f new → HasHome (numbers f.nodes) f.object n h → HasHome (numbers new.nodes) new.object n h
 home_later f new n home.Register m k =
-    ap (λ vs. has n (numbers vs)) m.nodes.is ∙ ap (λ ns. has n ns) (numbers_more f.nodes m.nodes.rest) ∙ has_front n (numbers f.nodes) (numbers m.nodes.rest) k
+    ap (λ vs. has n (numbers vs)) m.nodes.is ∙ ap (λ ns. has n ns) (numbers_append f.nodes m.nodes.rest) ∙ has_front n (numbers f.nodes) (numbers m.nodes.rest) k
 home_later f new n (home.Object at) m k =
-    and_true (nat_le at new.object) (at % 4 == 0) (within at f.object new.object m.object (and_left (nat_le at f.object) (at % 4 == 0) k)) (and_right (nat_le at f.object) (at % 4 == 0) k)
+    and_true (nat_le at new.object) (at % 4 == 0) (le_more at f.object new.object m.object (first_true (nat_le at f.object) (at % 4 == 0) k)) (second_true (nat_le at f.object) (at % 4 == 0) k)
 
 pub placed_later : (f new : Frame) (n : ℕ) → More f new → PlacedAt f n → PlacedAt new n
 placed_later f new n m p = record {
@@ -55,7 +51,7 @@ register_placed k t f few at = record {
   home = home.Register;
   is = new_is k (frames.number f) f.homes home.Register at.homes (count_small f.homes k at.homes few);
   stands =
-      ap (λ ns. has (frames.number f) ns) (numbers_more f.nodes (st.Parameter (frames.number f) (width_of t) ∷ []))
+      ap (λ ns. has (frames.number f) ns) (numbers_append f.nodes (st.Parameter (frames.number f) (width_of t) ∷ []))
       ∙ has_back (frames.number f) (numbers f.nodes) (numbers (st.Parameter (frames.number f) (width_of t) ∷ []))
       (ap (λ (x : Act). has (frames.number f) (x.number ++ [])) (act_parameter (frames.number f) (width_of t)) ∙ has_self (frames.number f));
 }

@@ -1,5 +1,5 @@
 -- Each type at file scope has room for the values that a global of it begins with.
-use Rattle.std.proofs.Common.{◌≡◌, ℕ, suc, ◌*◌, ◌-◌, ◌≤◌, Bool, true, false, ◌&&◌, ◌||◌, nat_le, nat_lt, if◌then◌else◌, refl, ap, sym, ◌∙◌, subst, List, [], ◌∷◌, ◌++◌, length, take, slice_get, Option, Some, None, Ok, arith, mul-le-mul, mul_comm}
+use Rattle.std.proofs.Common.{◌≡◌, ℕ, suc, ◌*◌, ◌-◌, ◌≤◌, Bool, true, false, ◌&&◌, ◌||◌, nat_le, nat_lt, if◌then◌else◌, refl, ap, sym, ◌∙◌, subst, List, [], ◌∷◌, ◌++◌, length, slice_get, Option, Some, None, Ok, arith, mul-le-mul, mul_comm}
 use Rattle.std.proofs.lemmas.Bool.Decides.{nat_tests}
 use Rattle.word32.specs.declared.width.Width.{Width}
 use Rattle.word32.specs.declared.width.Width.TheVariants as width
@@ -30,8 +30,9 @@ use Rattle.c_nodes.specs.Operands.{value_of}
 use Rattle.check_globals.specs.Names.{size_by}
 use Rattle.check_globals.specs.Statics as statics
 use Rattle.check_statements.specs.Initializers.{value_breaks}
+use Rattle.accepted_trees.proofs.Bools.{first_true, second_true, le_true}
 use Rattle.accepted_values.proofs.Declared.{outermost_last}
-use Rattle.accepted_programs.proofs.Bools.{and_left, and_right, true_le, le_true}
+use Rattle.accepted_programs.proofs.Bools.{true_le, never_both}
 use Rattle.accepted_programs.proofs.Fills.{size_of, bytes_in, HasValue}
 
 -- ---- sizes under one layer more
@@ -116,19 +117,15 @@ last_of x y xs =
     let n : length (x ∷ y ∷ xs) - 1 ≡ suc (length (y ∷ xs) - 1) = omega arith in
     ap (λ (i : ℕ). slice_get (x ∷ y ∷ xs) i) n
 
-more : (b : Bool) → (b && false) ≡ true → ⊥
-more true h = cc
-more false h = cc
-
 same_outermost : (xs ys : List Layer) → same_layers xs ys ≡ true → is_array_layer (outermost ys) ≡ true → is_array_layer (outermost xs) ≡ true
 same_outermost [] [] h k = k
 same_outermost [] (y ∷ ys) h k = absurd (cc)
 same_outermost (x ∷ xs) [] h k = absurd (cc)
-same_outermost (x ∷ []) (y ∷ []) h k = same_kind (out-Layer x) (out-Layer y) (by_layer (opened_same (out-Layer x) (out-Layer y)) x y refl ∙ and_left (same_layer x y) true h) k
-same_outermost (x ∷ []) (y ∷ z ∷ ys) h k = absurd (let w : (same_layer x y && false) ≡ true = h in more (same_layer x y) w)
-same_outermost (x ∷ z ∷ xs) (y ∷ []) h k = absurd (let w : (same_layer x y && false) ≡ true = h in more (same_layer x y) w)
+same_outermost (x ∷ []) (y ∷ []) h k = same_kind (out-Layer x) (out-Layer y) (by_layer (opened_same (out-Layer x) (out-Layer y)) x y refl ∙ first_true (same_layer x y) true h) k
+same_outermost (x ∷ []) (y ∷ z ∷ ys) h k = absurd (let w : (same_layer x y && false) ≡ true = h in never_both (same_layer x y) w)
+same_outermost (x ∷ z ∷ xs) (y ∷ []) h k = absurd (let w : (same_layer x y && false) ≡ true = h in never_both (same_layer x y) w)
 same_outermost (x ∷ v ∷ xs) (y ∷ z ∷ ys) h k =
-    ap is_array_layer (last_of x v xs) ∙ same_outermost (v ∷ xs) (z ∷ ys) (and_right (same_layer x y) (same_layers (v ∷ xs) (z ∷ ys)) h) (sym (ap is_array_layer (last_of y z ys)) ∙ k)
+    ap is_array_layer (last_of x v xs) ∙ same_outermost (v ∷ xs) (z ∷ ys) (second_true (same_layer x y) (same_layers (v ∷ xs) (z ∷ ys)) h) (sym (ap is_array_layer (last_of y z ys)) ∙ k)
 
 -- a type that decayed is no array
 pointer_last : (ls : List Layer) → is_array_layer (outermost (ls ++ layer.Pointer ∷ [])) ≡ false
@@ -164,7 +161,7 @@ only_same a b c d e f g p q h = grind (arith, nat_tests)
 
 converts_same : (a : Base) (as_ : List Layer) (b : Base) (bs : List Layer) (z : Bool) → is_array_layer (outermost bs) ≡ true → converts_parts a as_ b bs z ≡ true → same_layers as_ bs ≡ true
 converts_same a as_ b bs z array h =
-    and_right (same_base a b) (same_layers as_ bs)
+    second_true (same_base a b) (same_layers as_ bs)
     (only_same (is_integer a as_) (is_integer b bs) (same_parts a as_ b bs) z (is_pointer (outermost bs)) (is_pointer (outermost as_)) (serves a (under as_) b (under bs))
     (no_integer b bs array) (no_pointer (outermost bs) array) h)
 
@@ -253,7 +250,7 @@ pub record Arrayed (b : Base) (ms : List Layer) (n : ℕ) : Type 0 where
   pub small : bytes b ms * n ≤ 4194304
 
 count_small : (n size : ℕ) (c : Bool) → is_count n size ≡ c → unless c fault.BadArray ≡ None → size ≤ 4194304
-count_small n size true e h = true_le size 4194304 (and_right (nat_lt 0 n) (nat_le size 4194304) e)
+count_small n size true e h = true_le size 4194304 (second_true (nat_lt 0 n) (nat_le size 4194304) e)
 count_small n size false e h = absurd (cc)
 
 array_case : (f v : Bool) (n size : ℕ) → (if f then Some fault.TypeMismatch else (if v then Some fault.VoidValue else unless (is_count n size) fault.BadArray)) ≡ None → (f ≡ false) × (v ≡ false) × (size ≤ 4194304)
@@ -266,22 +263,6 @@ arrayed b ms n h =
     let e : array_breaks n b ms ≡ None = ap (λ (o : Opened). breaks o b ms) (sym (layer.outs-Array n)) ∙ h in
     let r : (making.is_function ms ≡ false) × (is_void b ms ≡ false) × (bytes b ms * n ≤ 4194304) = array_case (making.is_function ms) (is_void b ms) n (bytes b ms * n) e in
     record { other = r.0; value = r.1; small = r.2 }
-
-length_one : {A : Type 0} (xs : List A) (x : A) → length (xs ++ x ∷ []) ≡ suc (length xs)
-length_one [] x = refl
-length_one (y ∷ xs) x = ap suc (length_one xs x)
-
-take_front : {A : Type 0} (xs ys : List A) → take (length xs) (xs ++ ys) ≡ xs
-take_front [] ys = refl
-take_front (x ∷ xs) ys = ap (λ l. x ∷ l) (take_front xs ys)
-
-take_last : {A : Type 0} (xs : List A) (x : A) → take (length (xs ++ x ∷ []) - 1) (xs ++ x ∷ []) ≡ xs
-take_last xs x =
-    let n : length (xs ++ x ∷ []) - 1 ≡ length xs = (let l : length (xs ++ x ∷ []) ≡ suc (length xs) = length_one xs x in omega arith) in
-    ap (λ (i : ℕ). take i (xs ++ x ∷ [])) n ∙ take_front xs (x ∷ [])
-
-pub under_last : (ls : List Layer) (l : Layer) → under (ls ++ l ∷ []) ≡ ls
-under_last ls l = take_last ls l
 
 pub elements : (b : Base) (ms : List Layer) (n : ℕ) → statics.elements_of (ctype b (ms ++ layer.Array n ∷ [])) ≡ n
 elements b ms n = ap statics.elements_by (outermost_last ms (layer.Array n)) ∙ ap statics.elements_at (layer.outs-Array n)

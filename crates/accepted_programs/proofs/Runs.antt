@@ -1,5 +1,5 @@
 -- The walk over a function, taken apart.
-use Rattle.std.proofs.Common.{◌≡◌, ℕ, ap, sym, ◌∙◌, List, [], ◌∷◌, ◌++◌, length, take, Option, Ok}
+use Rattle.std.proofs.Common.{◌≡◌, ℕ, ap, sym, ◌∙◌, List, length, Option, Ok}
 use Rattle.c_types.specs.declared.ctype.CType.{CType}
 use Rattle.c_forms.specs.Forms.{Name}
 use Rattle.c_declared.specs.declared.steps.Role.TheVariants as role
@@ -22,32 +22,27 @@ use Rattle.check_globals.specs.Functions as functions
 use Rattle.check_globals.specs.Functions.{Given}
 use Rattle.check_globals.specs.Names as names
 use Rattle.tick_checker.specs.Program as program
-use Rattle.accepted_programs.proofs.Steps.{Parts, parts, state_of, answer_of, Lifted, lifted}
-
--- in a block of its own, and back
-abbrev pub entered : State → State
-entered s = record s { scopes = s.scopes ++ [] ∷ []; frame = frames.entered s.frame }
-
-abbrev pub left : ℕ → List Stmt → State → State
-left n outer s = record s { scopes = take n s.scopes; frame = frames.left outer s.frame }
+use Rattle.accepted_types.proofs.Walks.{pure_same, pure_value}
+use Rattle.accepted_types.proofs.Blocks.{inside, behind}
+use Rattle.accepted_programs.proofs.Steps.{Parts, parts, Lifted, lifted}
 
 pub record BodyRan (t : CType) (gs : List Given) (items : List Item) (s new : State) (x : Stmt) : Type 0 where
   pub given : State
   pub u : Unit {0}
-  pub begun : functions.begun t gs (entered s) ≡ Ok (u, given)
+  pub begun : functions.begun t gs (inside s) ≡ Ok (u, given)
   pub last : State
   pub nodes : List Stmt
   pub walked : rules.each items program.around given ≡ Ok (nodes, last)
-  pub is : new ≡ left (length s.scopes) s.frame.nodes last
+  pub is : new ≡ behind (length s.scopes) s.frame.nodes last
   pub node : x ≡ st.Block last.frame.nodes nodes
 
 pub body_ran : (t : CType) (gs : List Given) (items : List Item) (s new : State) (x : Stmt) → program.body t gs items s ≡ Ok (x, new) → BodyRan t gs items s new x
 unfolding enter leave
 body_ran t gs items s new x is =
-    let p : Parts (program.begun t gs items) (λ xs. leave (length s.scopes) s.frame.nodes >>= (λ vs. pure (st.Block vs xs))) (entered s) new x
-    = parts (program.begun t gs items) (λ xs. leave (length s.scopes) s.frame.nodes >>= (λ vs. pure (st.Block vs xs))) (entered s) new x is in
-    let q : Parts (functions.begun t gs) (λ v. rules.each items program.around) (entered s) p.between p.answer
-    = parts (functions.begun t gs) (λ v. rules.each items program.around) (entered s) p.between p.answer p.first in
+    let p : Parts (program.begun t gs items) (λ xs. leave (length s.scopes) s.frame.nodes >>= (λ vs. pure (st.Block vs xs))) (inside s) new x
+    = parts (program.begun t gs items) (λ xs. leave (length s.scopes) s.frame.nodes >>= (λ vs. pure (st.Block vs xs))) (inside s) new x is in
+    let q : Parts (functions.begun t gs) (λ v. rules.each items program.around) (inside s) p.between p.answer
+    = parts (functions.begun t gs) (λ v. rules.each items program.around) (inside s) p.between p.answer p.first in
     record {
       given = q.between;
       u = q.answer;
@@ -55,8 +50,8 @@ body_ran t gs items s new x is =
       last = p.between;
       nodes = p.answer;
       walked = q.second;
-      is = sym (state_of (st.Block p.between.frame.nodes p.answer) x (left (length s.scopes) s.frame.nodes p.between) new p.second);
-      node = sym (answer_of (st.Block p.between.frame.nodes p.answer) x (left (length s.scopes) s.frame.nodes p.between) new p.second);
+      is = sym (pure_same (st.Block p.between.frame.nodes p.answer) x (behind (length s.scopes) s.frame.nodes p.between) new p.second);
+      node = sym (pure_value (st.Block p.between.frame.nodes p.answer) x (behind (length s.scopes) s.frame.nodes p.between) new p.second);
     }
 
 -- after a function
@@ -65,7 +60,7 @@ ended line name t x s = record s { functions = tables.with_function (functions.f
 
 ended_is : (line : ℕ) (name : Option (ℕ × Name)) (t : CType) (x : Stmt) (s new : State) (u : Unit {0}) → functions.ended line name t x s ≡ Ok (u, new) → new ≡ ended line name t x s
 unfolding functions.ended
-ended_is line name t x s new u is = sym (state_of tt u (ended line name t x s) new is)
+ended_is line name t x s new u is = sym (pure_same tt u (ended line name t x s) new is)
 
 pub record TypeRan (line : ℕ) (b : Base) (d : Shape) (s new : State) (t : CType) : Type 0 where
   pub steps : List Step

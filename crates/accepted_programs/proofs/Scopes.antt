@@ -14,8 +14,8 @@ use Rattle.check_state.specs.Names.{declare, declared_by}
 use Rattle.accepted_values.specs.Used.{IsLibrary}
 use Rattle.accepted_steps.specs.Kept.{Starts}
 use Rattle.accepted_steps.specs.Known.{Blocks, Means, IsObject, IsFunction, Numbered, Declared, EachEntry}
-use Rattle.accepted_programs.proofs.Bools.{get_front}
-use Rattle.accepted_programs.proofs.Steps.{state_of}
+use Rattle.accepted_types.proofs.Walks.{pure_same}
+use Rattle.accepted_statements.proofs.Lists.{get_front}
 
 -- ---- what names mean
 
@@ -105,7 +105,7 @@ pub record Declares (name : Name) (what : Meaning) (s new : State) (inner : Scop
 declare_case : (line : ℕ) (name : Name) (what : Meaning) (s new : State) (u : Unit {0}) (inner : Scope) (o : Option Meaning) → in_scope inner name ≡ o
     → declared_by line name what s o ≡ Ok (u, new) → Declares name what s new inner
 declare_case line name what s new u inner None none is =
-    record { fresh = none; is = sym (state_of tt u (record s { scopes = declared s.scopes name what }) new is) }
+    record { fresh = none; is = sym (pure_same tt u (record s { scopes = declared s.scopes name what }) new is) }
 declare_case line name what s new u inner (Some m) none is = absurd (cc)
 
 pub declare_gives : (line : ℕ) (name : Name) (what : Meaning) (s new : State) (u : Unit {0}) → declare line name what s ≡ Ok (u, new) → Declares name what s new (innermost s.scopes)

@@ -13,14 +13,15 @@ use Rattle.tick_checker.specs.Parameters.{parameters_of}
 use Rattle.tick_checker.specs.Program as program
 use Rattle.tick_checker.specs.Walk.{declaration, shape, item}
 use Rattle.accepted_trees.specs.Accepted as accepted
-use Rattle.accepted_trees.specs.Places.{Around}
 use Rattle.accepted_steps.specs.Kept.{Starts}
 use Rattle.accepted_steps.specs.Steps.{EachTick}
+use Rattle.accepted_types.proofs.Walks.{pure_same}
+use Rattle.accepted_types.proofs.Plain.{each_tick}
 use Rattle.accepted_programs.proofs.Done.{FunctionDone}
 use Rattle.accepted_programs.proofs.Files.{many, End, Towards, AtFile, EachLinked, linked_later, round}
 use Rattle.accepted_programs.proofs.Globals.{GlobalDone, globals_done}
 use Rattle.accepted_programs.proofs.Runs.{FunctionRan, function_ran}
-use Rattle.accepted_programs.proofs.Steps.{Parts, parts, state_of, starts_trans}
+use Rattle.accepted_programs.proofs.Steps.{Parts, parts, starts_trans}
 use Rattle.accepted_programs.proofs.Walk.{GoodExternal, EachGood, functions_in, Grew, external_grew, walk_grew}
 use Rattle.accepted_programs.proofs.Whole.{function_done}
 
@@ -43,12 +44,6 @@ rest_both xs ys zs p q made =
 abbrev pub EachFunction : State → List (List CaptureKind) → List Function → Type 0
 EachFunction e all [] = Unit {0}
 EachFunction e all (f ∷ fs) = accepted.IsFunction (typed e) all f × EachFunction e all fs
-
-ticks_both : (a : Around) (ts us : List Tick) (ks ms : List (List CaptureKind)) → EachTick a ts ks → EachTick a us ms → EachTick a (ts ++ us) (ks ++ ms)
-ticks_both a [] us [] ms h k = k
-ticks_both a [] us (x ∷ ks) ms h k = absurd (cc)
-ticks_both a (t ∷ ts) us [] ms h k = absurd (cc)
-ticks_both a (t ∷ ts) us (x ∷ ks) ms h k = (h.0, ticks_both a ts us ks ms h.1 k)
 
 -- the walk from this state to the end
 pub record Walked (e : State) (ks : List (List CaptureKind)) (s : State) : Type 0 where
@@ -88,7 +83,7 @@ behind_function e name ks s m table before after f w = record {
       let first : Starts (ks ++ f.more) all = starts_trans (ks ++ f.more) ((ks ++ f.more) ++ w.more) all (record { rest = w.more; is = refl }) whole in
       subst (λ (ts : List Tick). EachTick (round e all [] 0) ts (f.more ++ w.more))
       (rest_both s.ticks.all m.ticks.all e.ticks.all before.ticks after.ticks made)
-      (ticks_both (round e all [] 0) before.ticks.rest after.ticks.rest f.more w.more (f.ticks all first before.ticks) (w.ticks all whole after.ticks));
+      (each_tick (round e all [] 0) before.ticks.rest after.ticks.rest f.more w.more (f.ticks all first before.ticks) (w.ticks all whole after.ticks));
 }
 
 -- ---- a declaration, and what comes behind it
@@ -128,7 +123,7 @@ first_walked e (ext.Declaration d) xs ks s m u v end good file counted is after 
 pub walked : (e : State) (xs : List External) (ks : List (List CaptureKind)) (s : State) (u : Unit {0}) → End e → EachGood (many e) xs → AtFile e s → length ks ≡ length s.ticks.all
     → program.walk xs s ≡ Ok (u, e) → Walked e ks s
 walked e [] ks s u end good file counted is =
-    subst (λ (z : State). Walked e ks z) (sym (state_of tt u s e is)) (ended e ks (subst (λ (z : State). AtFile e z) (state_of tt u s e is) file) (counted ∙ ap (λ (z : State). length z.ticks.all) (state_of tt u s e is)))
+    subst (λ (z : State). Walked e ks z) (sym (pure_same tt u s e is)) (ended e ks (subst (λ (z : State). AtFile e z) (pure_same tt u s e is) file) (counted ∙ ap (λ (z : State). length z.ticks.all) (pure_same tt u s e is)))
 walked e (x ∷ xs) ks s u end good file counted is =
     let p : Parts (program.external x) (λ v. program.walk xs) s e u = parts (program.external x) (λ v. program.walk xs) s e u is in
     let g : Grew _ s p.between file.table = external_grew (many e) x s p.between p.answer file.scope file.table good.0 file.one file.defined p.first in

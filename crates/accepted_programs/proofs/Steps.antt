@@ -1,8 +1,9 @@
 -- The parts of a step that gave an answer: a `>>=` that gives one has both its parts give one.
-use Rattle.std.proofs.Common.{◌≡◌, List, [], ◌++◌, refl, ap, sym, ◌∙◌, append_assoc, append-nil, Ok, Err}
+use Rattle.std.proofs.Common.{◌≡◌, List, ◌++◌, refl, ap, sym, ◌∙◌, append_assoc, Ok, Err}
 use Rattle.tick_tree.specs.Faults.{Checked, ◌>>=◌ as ◌>>>=◌}
 use Rattle.check_tables.specs.Walks.{Rule, ◌>>=◌, lift}
 use Rattle.accepted_steps.specs.Kept.{Starts}
+use Rattle.accepted_types.proofs.Walks.{pure_same, pure_value}
 
 pub record Parts {S A B : Type 0} (p : Rule S A) (f : A → Rule S B) (s new : S) (x : B) : Type 0 where
   pub answer : A
@@ -18,23 +19,13 @@ parts_by p f s new x (Err k) e is = absurd (cc)
 pub parts : {S A B : Type 0} (p : Rule S A) (f : A → Rule S B) (s new : S) (x : B) → (p >>= f) s ≡ Ok (x, new) → Parts p f s new x
 parts p f s new x is = parts_by p f s new x (p s) refl is
 
-pub ok_same : {A : Type 0} (x y : A) → ◌≡◌ {A = Checked A} (Ok x) (Ok y) → x ≡ y
-ok_same x y e = cc
-
--- the state and the answer of a step that gave this
-pub state_of : {S A : Type 0} (x y : A) (s new : S) → ◌≡◌ {A = Checked (A × S)} (Ok (x, s)) (Ok (y, new)) → s ≡ new
-state_of x y s new e = ap (λ r. r.1) (ok_same (x, s) (y, new) e)
-
-pub answer_of : {S A : Type 0} (x y : A) (s new : S) → ◌≡◌ {A = Checked (A × S)} (Ok (x, s)) (Ok (y, new)) → x ≡ y
-answer_of x y s new e = ap (λ r. r.0) (ok_same (x, s) (y, new) e)
-
 -- a step that only its own rule decides
 pub record Lifted {S A : Type 0} (r : Checked A) (s new : S) (x : A) : Type 0 where
   pub same : new ≡ s
   pub gave : r ≡ Ok x
 
 pub lifted : {S A : Type 0} (r : Checked A) (s new : S) (x : A) → lift r s ≡ Ok (x, new) → Lifted r s new x
-lifted (Ok y) s new x is = record { same = sym (state_of y x s new is); gave = ap Ok (answer_of y x s new is) }
+lifted (Ok y) s new x is = record { same = sym (pure_same y x s new is); gave = ap Ok (pure_value y x s new is) }
 lifted (Err k) s new x is = absurd (cc)
 
 -- both parts of a choice of two checked steps
@@ -48,9 +39,6 @@ then_by (Ok a) f x is = record { answer = a; first = refl; second = is }
 then_by (Err k) f x is = absurd (cc)
 
 -- ---- lists that begin with others
-
-pub starts_same : {A : Type 0} (xs ys : List A) → ys ≡ xs → Starts xs ys
-starts_same xs ys is = record { rest = []; is = is ∙ sym (append-nil xs) }
 
 pub starts_more : {A : Type 0} (xs ys more : List A) → ys ≡ xs ++ more → Starts xs ys
 starts_more xs ys more is = record { rest = more; is = is }

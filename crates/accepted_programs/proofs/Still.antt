@@ -20,8 +20,9 @@ use Rattle.check_globals.specs.Statics as statics
 use Rattle.tick_checker.specs.Walk.{Start, Nothing, Value as One, Values}
 use Rattle.tick_checker.specs.Program as program
 use Rattle.accepted_steps.specs.Good.{Plain}
+use Rattle.accepted_types.proofs.Walks.{pure_same, pure_value}
 use Rattle.accepted_programs.proofs.Declared.{none_lower}
-use Rattle.accepted_programs.proofs.Steps.{Parts, parts, state_of, answer_of}
+use Rattle.accepted_programs.proofs.Steps.{Parts, parts}
 
 pub record Still (s new : State) : Type 0 where
   pub scopes : new.scopes ≡ s.scopes
@@ -83,7 +84,7 @@ walked_still e s new o h (inr c) is = plain_still s new (h.string c s new o is)
 
 pub filled_still : (at : ℕ) (bytes : List ℕ) (s new : State) (u : Unit {0}) → statics.fill at bytes s ≡ Ok (u, new) → Still s new
 filled_still at bytes s new u is =
-    let e : record s { image = images.with_bytes at bytes s.image } ≡ new = state_of tt u (record s { image = images.with_bytes at bytes s.image }) new is in
+    let e : record s { image = images.with_bytes at bytes s.image } ≡ new = pure_same tt u (record s { image = images.with_bytes at bytes s.image }) new is in
     record { scopes = ap (λ (z : State). z.scopes) (sym e); functions = ap (λ (z : State). z.functions) (sym e); ticks = ap (λ (z : State). z.ticks.all) (sym e) }
 
 value_case : (line at : ℕ) (t : CType) (form string : Bool) (o : Operand) (s new : State) (u : Unit {0}) (r : Result ℕ FaultKind) → statics.static_word form string (value_of o) t ≡ r
@@ -133,7 +134,7 @@ unfolding statics.row_more
 row_more t form string o r none = row_case t form string o r (statics.static_word form string (value_of o) t) refl none
 
 row_still : (es : List Node) (t : CType) (r q : Row) (s new : State) → EachStatic es → program.row es t r s ≡ Ok (q, new) → q.broken ≡ None → (r.broken ≡ None) × Still s new
-row_still [] t r q s new h is none = (ap (λ (z : Row). z.broken) (answer_of r q s new is) ∙ none, still_same s new (sym (state_of r q s new is)))
+row_still [] t r q s new h is none = (ap (λ (z : Row). z.broken) (pure_value r q s new is) ∙ none, still_same s new (sym (pure_same r q s new is)))
 row_still (e ∷ es) t r q s new h is none =
     let p : Parts (e.walk stage.Function) (λ o. program.row es t (statics.row_more t e.written.constant (is_some e.written.string) o r)) s new q
     = parts (e.walk stage.Function) (λ o. program.row es t (statics.row_more t e.written.constant (is_some e.written.string) o r)) s new q is in
@@ -166,13 +167,13 @@ static_list line at t es s new u h is =
 
 -- a global's beginning
 pub begin_still : (line at : ℕ) (t : CType) (start : Start) (s new : State) (u : Unit {0}) → StaticStart start → program.static_begin line at t start s ≡ Ok (u, new) → Still s new
-begin_still line at t Nothing s new u h is = still_same s new (sym (state_of tt u s new is))
+begin_still line at t Nothing s new u h is = still_same s new (sym (pure_same tt u s new is))
 begin_still line at t (One e) s new u h is = static_by line at t e e.written.string s new u h is
 begin_still line at t (Values es) s new u h is = static_list line at t es s new u h is
 
 -- a prototype has none
 pub no_start : (line : ℕ) (start : Start) (s new : State) (u : Unit {0}) → program.no_start line start s ≡ Ok (u, new) → Still s new
-no_start line Nothing s new u is = still_same s new (sym (state_of tt u s new is))
+no_start line Nothing s new u is = still_same s new (sym (pure_same tt u s new is))
 no_start line (One e) s new u is =
     let p : Parts (e.walk stage.Function) (λ o. lift (refuse fault.TypeMismatch line)) s new u = parts (e.walk stage.Function) (λ o. lift (refuse fault.TypeMismatch line)) s new u is in
     absurd (let q = p.second in cc)

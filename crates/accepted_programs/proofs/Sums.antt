@@ -1,5 +1,5 @@
 -- Lists with one more at the end, and the equations of what is asked of the nodes of parameters.
-use Rattle.std.proofs.Common.{◌≡◌, ℕ, zero, suc, ◌+◌, ◌≤◌, ◌==◌, Bool, true, false, ◌&&◌, ◌||◌, nat_lt, refl, ap, sym, ◌∙◌, List, [], ◌∷◌, ◌++◌, length, map, sum, sum_by, arith, append_assoc, take, drop}
+use Rattle.std.proofs.Common.{◌≡◌, ℕ, zero, suc, ◌+◌, ◌≤◌, ◌==◌, Bool, true, false, ◌&&◌, nat_lt, refl, ap, sym, ◌∙◌, List, [], ◌∷◌, ◌++◌, length, map, sum, sum_by, arith, take, drop}
 use Rattle.std.proofs.lemmas.Bool.Decides.{nat_tests}
 use Rattle.std.proofs.lemmas.List.Sums.{sum-map, sum_by-append}
 use Rattle.word32.specs.declared.width.Width.{Width}
@@ -8,10 +8,9 @@ use Rattle.typed_tree.specs.declared.expression.Stmt.TheVariants as st
 use Rattle.typed_tree.specs.declared.expression.Stmt.TheOpen.{Stmt-F}
 use Rattle.typed_tree.specs.declared.expression.Stmt.TheFolds.{fold-roll-Stmt}
 use Rattle.accepted_trees.specs.Counts.{one_if, is_in}
-use Rattle.accepted_trees.specs.Places.{Around, Act, act, numbers_of, are_parameters}
+use Rattle.accepted_trees.specs.Places.{Around, Act, are_parameters}
 use Rattle.accepted_trees.specs.Values.{uses_values, all_true}
 use Rattle.accepted_trees.specs.Values as values
-use Rattle.accepted_steps.specs.Known.{has, numbers}
 
 pub map_both : {A B : Type 0} (f : A → B) (xs ys : List A) → map f (xs ++ ys) ≡ map f xs ++ map f ys
 map_both f [] ys = refl
@@ -34,35 +33,6 @@ pub all_map_both : {A : Type 0} (f : A → Bool) (xs ys : List A) → all_true (
 all_map_both f xs ys h k = ap all_true (map_both f xs ys) ∙ all_both (map f xs) (map f ys) h k
 
 -- ---- register variables
-
-pub numbers_both : (xs ys : List Act) → numbers_of (xs ++ ys) ≡ numbers_of xs ++ numbers_of ys
-numbers_both [] ys = refl
-numbers_both (x ∷ xs) ys = ap (λ l. x.number ++ l) (numbers_both xs ys) ∙ sym (append_assoc x.number (numbers_of xs) (numbers_of ys))
-
-pub numbers_more : (xs ys : List Stmt) → numbers (xs ++ ys) ≡ numbers xs ++ numbers ys
-numbers_more xs ys = ap numbers_of (map_both act xs ys) ∙ numbers_both (map act xs) (map act ys)
-
-front_by : (b c d : Bool) → (c ≡ true → d ≡ true) → (b || c) ≡ true → (b || d) ≡ true
-front_by true c d f h = refl
-front_by false c d f h = f h
-
-pub has_front : (n : ℕ) (xs ys : List ℕ) → has n xs ≡ true → has n (xs ++ ys) ≡ true
-has_front n [] ys h = absurd (cc)
-has_front n (x ∷ xs) ys h = front_by (n == x) (has n xs) (has n (xs ++ ys)) (has_front n xs ys) h
-
-back_by : (b c : Bool) → c ≡ true → (b || c) ≡ true
-back_by true c h = refl
-back_by false c h = h
-
-pub has_back : (n : ℕ) (xs ys : List ℕ) → has n ys ≡ true → has n (xs ++ ys) ≡ true
-has_back n [] ys h = h
-has_back n (x ∷ xs) ys h = back_by (n == x) (has n (xs ++ ys)) (has_back n xs ys h)
-
-pub same_number : (n : ℕ) → (n == n) ≡ true
-same_number n = grind (arith, nat_tests)
-
-pub has_self : (n : ℕ) → has n (n ∷ []) ≡ true
-has_self n = ap (λ b. b || false) (same_number n)
 
 -- ---- parameters
 

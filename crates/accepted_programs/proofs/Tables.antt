@@ -8,7 +8,7 @@ use Rattle.check_tables.specs.declared.functions.Functions.{Functions}
 use Rattle.check_tables.specs.declared.functions.Prototype.{Prototype}
 use Rattle.check_tables.specs.Functions.{define, defined_by, next, number, number_by, is_defined, meaning, lacking, undefined}
 use Rattle.accepted_steps.specs.Known.{is_number}
-use Rattle.accepted_programs.proofs.Steps.{state_of}
+use Rattle.accepted_types.proofs.Walks.{pure_same}
 
 -- the number of the function that so many stand before
 abbrev pub number_at : ℕ → ℕ
@@ -28,7 +28,7 @@ with_names n (x ∷ xs) sc = with_names (suc n) xs (with_name n x sc)
 defined_case : (line : ℕ) (name : Name) (s new : Functions) (u : Unit {0}) (sc : Scope) (o : Option Meaning) → s.defined ≡ sc ∷ []
     → defined_by line name s o ≡ Ok (u, new) → new ≡ record s { defined = with_name (length s.all) name sc ∷ [] }
 defined_case line name s new u sc None one is =
-    sym (state_of tt u (record s { defined = declared s.defined name (meaning (next s)) }) new is) ∙ ap (λ (d : Scopes). record s { defined = declared d name (meaning (next s)) }) one
+    sym (pure_same tt u (record s { defined = declared s.defined name (meaning (next s)) }) new is) ∙ ap (λ (d : Scopes). record s { defined = declared d name (meaning (next s)) }) one
 defined_case line name s new u sc (Some m) one is = absurd (cc)
 
 pub define_gives : (line : ℕ) (name : Name) (s new : Functions) (u : Unit {0}) (sc : Scope) → s.defined ≡ sc ∷ []

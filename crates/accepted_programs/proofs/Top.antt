@@ -1,5 +1,5 @@
 -- The law on a whole program, given what is known of its parts.
-use Rattle.std.proofs.Common.{◌≡◌, ℕ, zero, suc, ◌+◌, ◌≤◌, min, true, ap, sym, ◌∙◌, subst, List, [], ◌∷◌, ◌++◌, length, slice_get, Some, Ok, arith, append-nil}
+use Rattle.std.proofs.Common.{◌≡◌, ℕ, zero, suc, ◌+◌, ◌≤◌, min, true, ap, sym, ◌∙◌, subst, List, [], ◌∷◌, ◌++◌, length, slice_get, Some, Ok, arith}
 use Rattle.c_types.specs.Scopes.{Name}
 use Rattle.tick_tree.specs.declared.syntax.External.{External}
 use Rattle.tick_tree.specs.declared.syntax.Tree.{Tree}
@@ -17,8 +17,8 @@ use Rattle.check_state.specs.Starts.{empty, emptied}
 use Rattle.check_globals.specs.Programs.{typed, image, tick_fits}
 use Rattle.tick_checker.specs.Program.{checked}
 use Rattle.accepted_trees.specs.Accepted as accepted
-use Rattle.accepted_steps.specs.Kept.{Starts}
 use Rattle.accepted_steps.specs.Steps.{EachTick, TickStands}
+use Rattle.accepted_types.proofs.Fronts.{starts_refl}
 use Rattle.accepted_programs.proofs.Bools.{true_le}
 use Rattle.accepted_programs.proofs.Bounds.{Bounded, image_small}
 use Rattle.accepted_programs.proofs.Ends.{AllFit, AllFixed, ImageKept, walk_image, walks_end}
@@ -113,9 +113,6 @@ tick_at e all (u ∷ ts) (m ∷ ms) zero t ks h at k fits =
     right_tick e all t ks (subst (λ (x : Tick). TickStands (round e all [] 0) x ks) same (subst (λ (x : List CaptureKind). TickStands (round e all [] 0) u x) other h.0)) fits
 tick_at e all (u ∷ ts) (m ∷ ms) (suc n) t ks h at k fits = tick_at e all ts ms n t ks h.1 at k fits
 
-all_of : {A : Type 0} (xs : List A) → Starts xs xs
-all_of xs = record { rest = []; is = sym (append-nil xs) }
-
 -- ---- the law
 
 is_accepted : (s : State) (e : State) (p : Typed) (ns : List Name) → Tabled ns e → Finished e p → End e → Walked e [] s → s.functions.all ≡ [] → s.ticks.all ≡ [] → length (image e.image) ≤ 4194304
@@ -125,8 +122,8 @@ is_accepted s e p ns t f end w none no_ticks bytes =
     record {
       captures = w.more;
       each = w.counted;
-      functions = λ n g at. function_at e w.more e.functions.all n g (w.functions w.more (all_of w.more) (record { rest = e.functions.all; is = ap (λ l. l ++ e.functions.all) (sym none) })) at;
-      ticks = λ n u ks at k. tick_at e w.more e.ticks.all w.more n u ks (w.ticks w.more (all_of w.more) (record { rest = e.ticks.all; is = ap (λ l. l ++ e.ticks.all) (sym no_ticks) })) at k (tick_fit e.ticks.all n u end.limits.ticks at);
+      functions = λ n g at. function_at e w.more e.functions.all n g (w.functions w.more (starts_refl w.more) (record { rest = e.functions.all; is = ap (λ l. l ++ e.functions.all) (sym none) })) at;
+      ticks = λ n u ks at k. tick_at e w.more e.ticks.all w.more n u ks (w.ticks w.more (starts_refl w.more) (record { rest = e.ticks.all; is = ap (λ l. l ++ e.ticks.all) (sym no_ticks) })) at k (tick_fit e.ticks.all n u end.limits.ticks at);
       main = m.place;
       main_function = m.function;
       is_main = m.is;

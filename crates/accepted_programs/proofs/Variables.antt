@@ -11,9 +11,10 @@ use Rattle.check_state.specs.declared.state.State.{State}
 use Rattle.check_state.specs.Locals.{meaning}
 use Rattle.check_state.specs.Names.{declare}
 use Rattle.check_globals.specs.Names as names
+use Rattle.accepted_types.proofs.Walks.{pure_same, pure_value}
 use Rattle.accepted_programs.proofs.Names.{split}
 use Rattle.accepted_programs.proofs.Scopes.{DeclaresFirst, declare_first}
-use Rattle.accepted_programs.proofs.Steps.{Parts, parts, state_of, answer_of}
+use Rattle.accepted_programs.proofs.Steps.{Parts, parts}
 
 -- the meaning of the next variable
 abbrev pub next_global : CType → State → Meaning
@@ -32,8 +33,8 @@ first_variable line name t s new at sc one is =
     let d : DeclaresFirst name (next_global t s) (names.with_global t s) p.between sc
     = declare_first line name (next_global t s) (names.with_global t s) p.between p.answer sc one p.first in
     record {
-      is = sym (state_of (images.place s.image) at p.between new p.second) ∙ d.is;
-      place = sym (answer_of (images.place s.image) at p.between new p.second);
+      is = sym (pure_same (images.place s.image) at p.between new p.second) ∙ d.is;
+      place = sym (pure_value (images.place s.image) at p.between new p.second);
     }
 
 variable_some : (d : Bool) (line : ℕ) (name : Name) (t : CType) (s new : State) (at : ℕ) (sc : Scope) (m : Meaning)

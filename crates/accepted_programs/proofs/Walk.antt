@@ -13,13 +13,15 @@ use Rattle.check_globals.specs.Functions.{Given}
 use Rattle.tick_checker.specs.Parameters.{parameters_of}
 use Rattle.tick_checker.specs.Program as program
 use Rattle.tick_checker.specs.Walk.{declaration, shape, item}
+use Rattle.accepted_types.proofs.Walks.{pure_same}
+use Rattle.accepted_types.proofs.Fronts.{starts_same}
 use Rattle.accepted_programs.proofs.Done.{made_function, made_state, is_made}
 use Rattle.accepted_programs.proofs.Files.{Towards, towards_more, names_of}
 use Rattle.accepted_programs.proofs.Functions.{GoodFunction}
 use Rattle.accepted_programs.proofs.Globals.{EachInit, GlobalDone, globals_done}
 use Rattle.accepted_programs.proofs.Made.{PartsOf, parts_of, function_towards}
 use Rattle.accepted_programs.proofs.Runs.{FunctionRan, function_ran}
-use Rattle.accepted_programs.proofs.Steps.{Parts, parts, state_of, starts_same}
+use Rattle.accepted_programs.proofs.Steps.{Parts, parts}
 use Rattle.accepted_programs.proofs.Tables.{with_name, with_names}
 
 -- ---- what is asked of the items of a program
@@ -136,7 +138,7 @@ names_first (ext.Declaration d) xs = refl
 -- either walk
 pub walk_grew : (many : ℕ) (xs : List External) (s new : State) (u : Unit {0}) (sc table : Scope) → EachGood many xs → s.scopes ≡ sc ∷ [] → s.functions.defined ≡ table ∷ []
     → program.walk xs s ≡ Ok (u, new) → Grew (functions_in xs) s new table
-walk_grew many [] s new u sc table good one two is = subst (λ (z : State). Grew [] s z table) (state_of tt u s new is) (grew_same s sc table one two)
+walk_grew many [] s new u sc table good one two is = subst (λ (z : State). Grew [] s z table) (pure_same tt u s new is) (grew_same s sc table one two)
 walk_grew many (x ∷ xs) s new u sc table good one two is =
     let p : Parts (program.external x) (λ v. program.walk xs) s new u = parts (program.external x) (λ v. program.walk xs) s new u is in
     let first : Grew (names_in x) s p.between table = external_grew many x s p.between p.answer sc table good.0 one two p.first in

@@ -19,8 +19,10 @@ use Rattle.check_statements.specs.Declarations.{name_by}
 use Rattle.check_globals.specs.Functions.{Given, types_of}
 use Rattle.check_globals.specs.Programs.{function_fits}
 use Rattle.tick_checker.specs.Program.{around}
+use Rattle.accepted_trees.proofs.Bools.{second_true}
 use Rattle.accepted_steps.specs.Known.{EachEntry, Small, is_number, Numbered}
-use Rattle.accepted_programs.proofs.Bools.{and_right, true_le, length_last}
+use Rattle.accepted_types.proofs.Fronts.{starts_same}
+use Rattle.accepted_programs.proofs.Bools.{true_le, length_last}
 use Rattle.accepted_programs.proofs.Done.{body_of, made_function, made_state, is_made, FunctionDone, with_defined, get_rest, is_right}
 use Rattle.accepted_programs.proofs.Files.{many, End, Towards, numbered_on, EachLinked, linked_later, linked_last, AtFile}
 use Rattle.accepted_programs.proofs.Finish.{few_ticks, function_fit}
@@ -30,7 +32,6 @@ use Rattle.accepted_programs.proofs.Made.{PartsOf, parts_of}
 use Rattle.accepted_programs.proofs.Names.{NamedFunction}
 use Rattle.accepted_programs.proofs.Runs.{FunctionRan}
 use Rattle.accepted_programs.proofs.Scopes.{FileName, Later, file_later}
-use Rattle.accepted_programs.proofs.Steps.{starts_same}
 use Rattle.accepted_programs.proofs.Still.{Still}
 use Rattle.accepted_programs.proofs.Tables.{with_name, is_number_at}
 
@@ -45,7 +46,7 @@ small_after e line d t named given last xs n end w fits few homes more =
     let part : length last.ticks.all ≤ length e.ticks.all = starts_length last.ticks.all e.ticks.all w.ticks in
     record {
       homes = omega arith;
-      object = true_le _ _ (and_right (nat_le (min (statement_size (body_of last xs)) 65536) 16384) (nat_le last.frame.object 4194304) fits);
+      object = true_le _ _ (second_true (nat_le (min (statement_size (body_of last xs)) 65536) 16384) (nat_le last.frame.object 4194304) fits);
       ticks = omega arith;
       tick = tt;
     }
