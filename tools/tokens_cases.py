@@ -1,5 +1,5 @@
 #!/usr/bin/env python3
-"""Writes the input of the program tokens_table and what it must print.
+"""Writes the input of the program trial_tokens and what it must print.
 
 Each text is a row of pieces, put down by hand from docs/tokens.md: a kind and the bytes. So the places, lengths and lines
 are those of the pieces, and no run of the lexer is asked. Run it at the top of the repository.
@@ -120,7 +120,7 @@ for title, text, answer in rows:
     stdout += f"{title}:{answer}\n"
 stdout += "the most tokens: 262144 tokens\none token more: 6 TooManyTokens on line 1\n"
 stdout += "the longest text:\none name: Name@0+1048576:1\n"
-with open("crates/tokens_table/stdin", "wb") as file:
+with open("crates/trial_tokens/stdin", "wb") as file:
     file.write(stdin)
-with open("crates/tokens_table/stdout", "w") as file:
+with open("crates/trial_tokens/stdout", "w") as file:
     file.write(stdout)

@@ -1,4 +1,4 @@
-"""Writes crates/tick_checker/proofs/Equations.antt: for each variant of each type of the tree the walk over it, by the walks over its parts.
+"""Writes crates/check_walk/proofs/Equations.antt: for each variant of each type of the tree the walk over it, by the walks over its parts.
 
 Run it at the top of the checkout, after a change of the tree's variants or of the folds' rules.
 """
@@ -64,12 +64,11 @@ use Rattle.tick_tree.specs.declared.syntax.Suffix.TheVariants as sx
 use Rattle.tick_tree.specs.declared.syntax.Typename.{Typename, out-Typename}
 use Rattle.tick_tree.specs.declared.syntax.Core.TheFolds.{fold-roll-Core, fold-roll-Expr, fold-roll-Initializer, fold-roll-OptionalExpr, fold-roll-Stmt, fold-roll-Suffix, fold_out-Declaration, fold_out-Declarator, fold_out-Init, fold_out-Parameter, fold_out-Typename}
 use Rattle.tick_tree.specs.declared.syntax.Core.TheOpen.{Core-F, Expr-F, Initializer-F, OptionalExpr-F, Stmt-F, Suffix-F}
-use Rattle.check_state.specs.declared.state.Around.{Around}
-use Rattle.check_state.specs.declared.state.Stage.{Stage}
-use Rattle.check_state.specs.declared.state.State.{State}
+use Rattle.check_env.specs.declared.state.Around.{Around}
+use Rattle.check_env.specs.declared.state.Stage.{Stage}
+use Rattle.check_env.specs.declared.state.State.{State}
 use Rattle.check_expressions.specs.Rules.{Node, Named, Shape, Item}
-use Rattle.tick_checker.specs.Program as program
-use Rattle.tick_checker.specs.Walk.{Start, InitParts, Declarations, SuffixWalk, TypeWalk, core_rule, expr_rule, start_rule, optional_rule, stmt_rule, declaration_rule, declarator_rule, init_rule, parameter_rule, typename_rule, declaration_walk, declare_one, declare_parts, declare_each, suffix_walk, expr_walk, statement_walk, typename_walk, parameter_walk, declarator_walk, core, node, optional, item, suffix, declaration, shape, init, initializer, parameter, named}
+use Rattle.check_walk.specs.Walk.{Start, InitParts, Declarations, SuffixWalk, TypeWalk, core_rule, expr_rule, start_rule, optional_rule, stmt_rule, declaration_rule, declarator_rule, init_rule, parameter_rule, typename_rule, declaration_walk, declare_one, declare_by, declare_each, suffix_walk, suffix_steps, expr_walk, statement_walk, typename_walk, parameter_walk, declarator_walk, core, node, optional, item, suffix, declaration, shape, init, initializer, parameter, named}
 
 """
 
@@ -144,24 +143,14 @@ def of_struct(kind, function, value, arguments, walk, pick, note):
 
 PARTS = """-- one declarator, by its parts
 pub by_init : (line : ℕ) (b : Base) (g : Stage) (x : Init) (s : State)
-    → declare_one line b g (init x) s ≡ declare_parts line b g (shape (out-Init x).declarator) (initializer (out-Init x).value) s
+    → declare_one line b g (init x) s ≡ declare_by line b g (shape (out-Init x).declarator) (initializer (out-Init x).value) s
 by_init line b g x s = ap (λ i. declare_one line b g i s) (at_init x)
 
 pub by_declaration : (x : Declaration) (g : Stage) (s : State)
     → declaration_walk (declaration x) g s ≡ declare_each (out-Declaration x).line (out-Declaration x).base g (map init (out-Declaration x).inits) s
 by_declaration x g s = ap (λ d. declaration_walk d g s) (at_declaration x)
 
-pub global_by_init : (line : ℕ) (b : Base) (x : Init) (s : State)
-    → program.global line b (init x) s ≡ program.global_parts line b (shape (out-Init x).declarator) (initializer (out-Init x).value) s
-global_by_init line b x s = ap (λ i. program.global line b i s) (at_init x)
-
-pub declared_by_parts : (x : Declaration) (s : State)
-    → program.declared (declaration x) s ≡ program.globals (out-Declaration x).line (out-Declaration x).base (map init (out-Declaration x).inits) s
-declared_by_parts x s = ap (λ d. program.declared d s) (at_declaration x)
-
 pub ruleset types = (shape_walk, named_walk, parameter_walk, by_init, by_declaration)
-
-pub ruleset globals = (global_by_init, declared_by_parts)
 
 """
 
@@ -185,21 +174,22 @@ def main():
     text += pointwise("st", "Stmt", "item", "stmt_rule", STATEMENTS, around, "statement_walk", "statements", ".walk")
     text += whole("oe", "OptionalExpr", "optional", "optional_rule", OPTIONALS, "optionals")
     text += whole("iz", "Initializer", "initializer", "start_rule", INITIALIZERS, "initializers")
-    text += pointwise("sx", "Suffix", "suffix", "suffix_walk", SUFFIXES, stage, "suffix_walk", "suffixes", "")
+    text += pointwise("sx", "Suffix", "suffix", "suffix_walk", SUFFIXES, stage, "suffix_steps", "suffixes", ".walk")
     text += whole("co", "Core", "core", "core_rule", CORES, "cores")
     text += of_struct("Declarator", "shape", "declarator_of (core $.core) (map suffix $.suffixes) $.prefixes", stage,
                       "declarator_walk (core $.core) (map suffix $.suffixes) $.prefixes", ".walk", "a declarator")
     text += of_struct("Typename", "named", "typename_of $.base (shape $.declarator)", [("line", "ℕ")] + stage,
                       "typename_walk $.base (shape $.declarator)", ".walk", "a type name")
-    text += of_struct("Parameter", "parameter", "parameter_walk $.line $.base (shape $.declarator)", stage,
-                      "parameter_walk $.line $.base (shape $.declarator)", "", "a parameter")
+    text += of_struct("Parameter", "parameter", "record { staged = (shape $.declarator).declared.staged; walk = parameter_walk $.line $.base (shape $.declarator) }",
+                      stage, "parameter_walk $.line $.base (shape $.declarator)", ".walk", "a parameter")
     text += of_struct("Init", "init", "record { shape = shape $.declarator; start = initializer $.value }", [], "", "", "a declarator and its initializer")
     text += of_struct("Declaration", "declaration", "record { line = $.line; base = $.base; inits = map init $.inits }", [], "", "", "a declaration")
     text += PARTS
     text += empties(STATEMENTS)
     text = text.replace("typename_walk, parameter_walk, declarator_walk,", "declarator_of, typename_of, typename_walk, parameter_walk as parameter_steps, declarator_walk,")
     text = text.replace("≡ parameter_walk (out", "≡ parameter_steps (out")
-    with open("crates/tick_checker/proofs/Equations.antt", "w") as file:
+    text = text.replace("walk = parameter_walk (out", "walk = parameter_steps (out")
+    with open("crates/check_walk/proofs/Equations.antt", "w") as file:
         file.write(text)
 
 

@@ -8,9 +8,11 @@ UNIT = "(Unit {0})"
 RESULTS = "Inner %s %s %s %s (List Given) %s Head %s Given %s" % ((UNIT,) * 7)
 RULES = "inner_rule nothing nothing nothing nothing list_rule nothing head_rule nothing given_rule nothing"
 WALKS = "inner nothing nothing nothing nothing list nothing head nothing written nothing"
-FORM_RESULTS = "Declared Written %s %s %s %s %s Declared %s %s Bool" % ((UNIT,) * 7)
-FORM_RULES = "forms.core_rule forms.expr_rule nothing nothing nothing nothing nothing forms.declarator_rule nothing nothing forms.typename_rule"
-FORMS = "forms.declared_core forms.written nothing nothing nothing nothing nothing forms.declared nothing nothing forms.is_integer_name"
+FORM_RESULTS = "Declared Written %s %s %s Bool %s Declared %s Bool Bool" % ((UNIT,) * 5)
+FORM_RULES = ("forms.core_rule forms.expr_rule nothing nothing nothing forms.suffix_rule nothing forms.declarator_rule nothing "
+              "forms.parameter_rule forms.typename_rule")
+FORMS = ("forms.declared_core forms.written nothing nothing nothing forms.is_staged_suffix nothing forms.declared nothing "
+         "forms.is_staged_parameter forms.is_integer_name")
 AGREES = {"Core": "CoreAgrees", "Declarator": "DeclaratorAgrees"}
 FUNCTION = {"Core": "inner", "Declarator": "head"}
 FORM = {"Core": "forms.declared_core", "Declarator": "forms.declared"}
@@ -18,12 +20,13 @@ RULE = {"Core": ("inner_rule", "forms.core_rule"), "Declarator": ("head_rule", "
 KNOWN = " ".join("Known%s" % t for t in TYPES)
 ALL = " ".join(TYPES)
 UNFOLD = "unfolding inner head list written"
-FORM_UNFOLD = "unfolding forms.written forms.declared forms.declared_core forms.is_integer_name"
+FORM_UNFOLD = ("unfolding forms.written forms.declared forms.declared_core forms.is_staged_suffix forms.is_staged_parameter "
+               "forms.is_integer_name")
 
 HEAD = """-- The parameters of the function that a declarator declares, by the parts of the declarator. Written by tools/checker/heads.py.
 use Rattle.std.proofs.Common.{◌≡◌, ℕ, Bool, List, [], ◌∷◌, map, refl, ap, sym, ◌∙◌, subst}
-use Rattle.c_forms.specs.Forms as forms
-use Rattle.c_forms.specs.Forms.{Written, Declared}
+use Rattle.check_forms.specs.Forms as forms
+use Rattle.check_forms.specs.Forms.{Written, Declared}
 use Rattle.tick_tree.specs.declared.syntax.Core.TheVariants as co
 use Rattle.tick_tree.specs.declared.syntax.Suffix.TheVariants as sx
 use Rattle.tick_tree.specs.declared.syntax.Declarator.{out-Declarator}
@@ -70,7 +73,7 @@ pub by_core : (ps : List Given) (d : Declarator) → ps ≡ (inner (out-Declarat
 by_core ps d h = h ∙ ap (λ x. x.list) (sym (opened d))
 
 """ % (UNFOLD, RESULTS, RULES)
-    text += """-- ---- the name is that of c_forms
+    text += """-- ---- the name is that of check_forms
 
 abbrev CoreAgrees : Core → Type 0
 CoreAgrees c = (inner c).name ≡ (forms.declared_core c).name

@@ -1,9 +1,9 @@
-"""Writes crates/tick_checker/proofs/+walk/Invariants.antt: the measures of the functions of the walk, and the invariants of its loops.
+"""Writes crates/check_walk/proofs/+walk/Invariants.antt: the measures of the functions of the walk, and the invariants of its loops.
 
 Run it at the top of the checkout, after a change of a function of the cycle.
 """
 import re,os
-B='crates/tick_checker/'
+B='crates/check_walk/'
 R=dict(expression=0,core=0,suffix=0,statement=0,optional=0,length=0,begin=0,returned=0,
 suffixes=1,declarator=2,typename=3,parameter=3,each_parameter=4,parameters=5,computed_length=1,
 begin_value=1,elements=1,begin_list=2,local_type=3,declared_parts=4,declared_local=5,locals=6,declaration=7,
@@ -12,15 +12,15 @@ post=1,unary=1,size=4,local_specification=4,compile=4,cast=4,parameter_specifica
 TREE={'&Expr':'size-Expr','&syntax::Stmt':'size-Stmt','&OptionalExpr':'size-OptionalExpr','&Initializer':'size-Initializer'}
 out='''use Rattle.std.proofs.Common.{◌≡◌, map, ℕ, ◌+◌, ◌*◌, max, drop, []}
 use Rattle.std.specs.Prelude.{None}
-use Rattle.c_places.specs.Calls as calls
+use Rattle.check_lvalues.specs.Calls as calls
 use Rattle.tick_tree.specs.declared.syntax.Expr.{size-Expr}
 use Rattle.tick_tree.specs.declared.syntax.Initializer.{size-Initializer}
 use Rattle.tick_tree.specs.declared.syntax.OptionalExpr.{size-OptionalExpr}
 use Rattle.tick_tree.specs.declared.syntax.Stmt.{size-Stmt}
 use Rattle.check_statements.specs.Rules as statements
-use Rattle.tick_checker.specs.Walk as spec
-use Rattle.tick_checker.proofs.Loops.{after}
-use Rattle.tick_checker.proofs.+walk.Given as goal
+use Rattle.check_walk.specs.Walk as spec
+use Rattle.check_walk.proofs.Loops.{after}
+use Rattle.check_walk.proofs.+walk.Given as goal
 
 -- each function takes the parts of a value, or passes a value on to one of a lower rank
 '''

@@ -1,6 +1,6 @@
 #!/usr/bin/env python3
-"""weights.py CRATES: writes crates/tree_weights (specs/Weights, specs/Layers, proofs/Folds, proofs/Small): the fold that counts the nodes
-of a tree, and the induction over small trees; and crates/accepted_weights (proofs/Walks, proofs/Tree, proofs/Given): that the walk over a
+"""weights.py CRATES: writes crates/syntax_size (specs/Weights, specs/Layers, proofs/Folds, proofs/Small): the fold that counts the nodes
+of a tree, and the induction over small trees; and crates/wf_growth (proofs/Walks, proofs/Tree, proofs/Given): that the walk over a
 part makes nothing grow by more than its nodes. Run it with `crates` at the top of the checkout, then `rt check --fix-imports` and `rt fmt`
 in both crates."""
 import sys
@@ -126,7 +126,7 @@ abbrev pub tree_weight : Tree → ℕ
 tree_weight t = 1 + total (map item_weight t.items)
 """
 
-LAYERS = f"Rattle.tree_weights.specs.Layers.{{{', '.join(t + '-T' for t in T)}, {', '.join('weighed-' + t for t in T)}}}"
+LAYERS = f"Rattle.syntax_size.specs.Layers.{{{', '.join(t + '-T' for t in T)}, {', '.join('weighed-' + t for t in T)}}}"
 TREES = "".join(f"use Rattle.tick_tree.specs.declared.syntax.{t}.{{{t}}}\n" for t in T)
 ROLLS = "".join(f"use Rattle.tick_tree.specs.declared.syntax.{t}.{{{t}, roll-{t}}}\n" for t in T)
 LAW = dict(zip(T, "core expression initializer optional statement suffix declaration declarator init parameter typename".split()))
@@ -135,7 +135,7 @@ shapes = """-- A layer of each type of the tree, and the weights of its parts in
 use Rattle.std.specs.Prelude.{◌≡◌, ℕ}
 """ + ROLLS + f"""use Rattle.tick_tree.specs.declared.syntax.Core.TheOpen.{{{", ".join(t + "-F" for t in T)}}}
 use Rattle.tick_tree.specs.declared.syntax.Core.TheFolds.{{{", ".join("map-" + t for t in T)}}}
-use Rattle.tree_weights.specs.Weights.{{{", ".join(t + "-N" for t in T)}, {", ".join(NRULE[t] for t in T)}, {", ".join(WEIGHT[t] for t in T)}}}
+use Rattle.syntax_size.specs.Weights.{{{", ".join(t + "-N" for t in T)}, {", ".join(NRULE[t] for t in T)}, {", ".join(WEIGHT[t] for t in T)}}}
 
 """ + "\n".join(f"""abbrev pub {t}-T : Type 0
 {t}-T = {t}-F {trees}
@@ -150,7 +150,7 @@ pub record NodesWeighMore : Type 0 where
 folds = """-- The weight of a node by those of its parts. Written by tools/checker/weights.py.
 use Rattle.std.proofs.Common.{◌≡◌, ℕ}
 """ + ROLLS + f"""use Rattle.tick_tree.specs.declared.syntax.Core.TheFolds.{{{", ".join("fold-roll-" + t for t in T)}}}
-use Rattle.tree_weights.specs.Weights.{{{", ".join(NRULE[t] for t in T)}, {", ".join(WEIGHT[t] for t in T)}}}
+use Rattle.syntax_size.specs.Weights.{{{", ".join(NRULE[t] for t in T)}, {", ".join(WEIGHT[t] for t in T)}}}
 use {LAYERS}
 
 """ + "\n".join(f"""pub weigh-{t} : (x : {t}-T) → {WEIGHT[t]} (roll-{t} x) ≡ {NRULE[t]} (weighed-{t} x)
@@ -158,8 +158,8 @@ unfolding {weights}
 weigh-{t} x = fold-roll-{t} {nat} {nrules} x
 """ for t in T)
 
-weighanswer = f"""use Rattle.tree_weights.proofs.Folds.{{{", ".join("weigh-" + t for t in T)}}}
-use Rattle.tree_weights.proofs.nodes_weigh_more.Goals as goal
+weighanswer = f"""use Rattle.syntax_size.proofs.Folds.{{{", ".join("weigh-" + t for t in T)}}}
+use Rattle.syntax_size.proofs.nodes_weigh_more.Goals as goal
 
 pub returns : goal.returns
 returns c = record {{ {"; ".join(LAW[t] + " = weigh-" + t for t in T)} }}
@@ -170,7 +170,7 @@ use Rattle.std.proofs.Common.{◌≡◌}
 use Rattle.std.specs.Prelude.{Option}
 """ + ROLLS + f"""use Rattle.tick_tree.specs.declared.syntax.Core.TheFolds.{{{", ".join("map-" + t for t in T)}, {", ".join("fold-roll-" + t for t in T)}}}
 use Rattle.check_expressions.specs.Rules.{{Node, Named, Shape, Item}}
-use Rattle.tick_checker.specs.Walk.{{Start, InitParts, Declarations, SuffixWalk, TypeWalk, {", ".join(t + "-W" for t in T)}, {", ".join(WRULE[t] for t in T)}, {", ".join(WALK[t] for t in T)}}}
+use Rattle.check_walk.specs.Walk.{{Start, InitParts, Declarations, SuffixWalk, TypeWalk, {", ".join(t + "-W" for t in T)}, {", ".join(WRULE[t] for t in T)}, {", ".join(WALK[t] for t in T)}}}
 use {LAYERS}
 
 """ + "\n".join(f"""abbrev pub walked-{t} : {t}-T → {t}-W
@@ -184,30 +184,30 @@ walk-{t} x = fold-roll-{t} {values} {wrules} x
 root = sys.argv[1]
 def write(name, text):
     open(f"{root}/{name}.antt", "w").write(text)
-write("tree_weights/specs/Weights", spec)
-write("tree_weights/specs/Layers", shapes)
-write("tree_weights/proofs/Folds", folds)
-write("tree_weights/proofs/nodes_weigh_more/Answers", weighanswer)
-write("accepted_weights/proofs/Walks", walkfolds)
+write("syntax_size/specs/Weights", spec)
+write("syntax_size/specs/Layers", shapes)
+write("syntax_size/proofs/Folds", folds)
+write("syntax_size/proofs/nodes_weigh_more/Answers", weighanswer)
+write("wf_growth/proofs/Walks", walkfolds)
 
 layers = """-- The walk over each part of a tree makes nothing grow by more than the weight of the part: an induction over the types of the tree.
 -- Written by tools/checker/weights.py.
 use Rattle.std.proofs.Common.{◌≡◌, ℕ, ◌+◌, ◌≤◌, List, [], ◌∷◌, map, refl, sym, subst, Some, None, arith}
 """ + "".join(f"use Rattle.tick_tree.specs.declared.syntax.{t}.{{{t}, roll-{t}}}\n" for t in T) + f"""use Rattle.tick_tree.specs.declared.syntax.Core.TheOpen.{{{", ".join(t + "-F" for t in T)}}}
 use Rattle.tick_tree.specs.declared.syntax.Core.TheFolds.{{{", ".join("map-" + t for t in T)}, {", ".join("ind-" + t for t in T)}}}
-use Rattle.c_nodes.specs.Operands as nodes
+use Rattle.check_operators.specs.Operands as nodes
 use Rattle.check_statements.specs.Rules as statement_rules
-use Rattle.tick_checker.specs.Walk.{{{", ".join(WRULE[t] for t in T)}, {", ".join(WALK[t] for t in T)}}}
-use Rattle.light_steps.specs.Light.{{LightNode, LightShape, LightItem, LightSuffix, LightType, LightNamed, LightOptional, absent, present, Each, none, more}}
-use Rattle.light_steps.proofs.Walks.{{weak, pure_light, lift_light}}
-use Rattle.light_steps.proofs.States.{{named_light}}
-use Rattle.light_steps.proofs.Expressions as e
-use Rattle.light_steps.proofs.Statements as s
-use Rattle.accepted_weights.specs.Parts.{{LightStart, nothing, value, values, LightInit, LightDeclarations}}
-use Rattle.tree_weights.specs.Weights.{{total, {", ".join(NRULE[t] for t in T)}, {", ".join(WEIGHT[t] for t in T)}}}
-use Rattle.accepted_weights.proofs.Declarations as d
-use Rattle.accepted_weights.proofs.Walks.{{{", ".join("walked-" + t for t in T)}, {", ".join("walk-" + t for t in T)}}}
-use Rattle.tree_weights.proofs.Folds.{{{", ".join("weigh-" + t for t in T)}}}
+use Rattle.check_walk.specs.Walk.{{{", ".join(WRULE[t] for t in T)}, {", ".join(WALK[t] for t in T)}}}
+use Rattle.wf_growth_rules.specs.Light.{{LightNode, LightShape, LightItem, LightSuffix, LightType, LightNamed, LightOptional, absent, present, Each, none, more}}
+use Rattle.wf_growth_rules.proofs.Walks.{{weak, pure_light, lift_light}}
+use Rattle.wf_growth_rules.proofs.States.{{named_light}}
+use Rattle.wf_growth_rules.proofs.Expressions as e
+use Rattle.wf_growth_rules.proofs.Statements as s
+use Rattle.wf_growth.specs.Parts.{{LightStart, nothing, value, values, LightInit, LightDeclarations}}
+use Rattle.syntax_size.specs.Weights.{{total, {", ".join(NRULE[t] for t in T)}, {", ".join(WEIGHT[t] for t in T)}}}
+use Rattle.wf_growth.proofs.Declarations as d
+use Rattle.wf_growth.proofs.Walks.{{{", ".join("walked-" + t for t in T)}, {", ".join("walk-" + t for t in T)}}}
+use Rattle.syntax_size.proofs.Folds.{{{", ".join("weigh-" + t for t in T)}}}
 use {LAYERS}
 
 -- ---- what is shown of each part
@@ -303,7 +303,7 @@ layer-Suffix (Suffix-F.Listed ps) = record { at = λ g. s.list_light _ g (each_k
 }
 for t in T:
     layers = layers.replace(f"@{t}@", cases[t])
-write("accepted_weights/proofs/Tree", layers)
+write("wf_growth/proofs/Tree", layers)
 
 # ---- the parameters of a declarator
 P = dict(Core="Inner", Suffix="(List Given)", Declarator="Head", Parameter="Given")
@@ -321,8 +321,8 @@ use Rattle.std.proofs.Common.{◌≡◌, ℕ, ◌+◌, ◌≤◌, List, [], ◌�
 use Rattle.tick_tree.specs.declared.syntax.Core.TheFolds.{{{", ".join("map-" + t for t in T)}, ind-Declarator, fold-roll-Core, fold-roll-Suffix, fold-roll-Declarator}}
 use Rattle.check_globals.specs.Functions.{{Given}}
 use Rattle.tick_checker.specs.Parameters.{{Head, Inner, nothing, first_of, inner_rule, head_rule, list_rule, given_rule, inner, head, list, written, parameters_of}}
-use Rattle.tree_weights.specs.Weights.{{total, {", ".join(NRULE[t] for t in T)}, {", ".join(WEIGHT[t] for t in T)}}}
-use Rattle.tree_weights.proofs.Folds.{{weigh-Core, weigh-Suffix, weigh-Declarator, weigh-Parameter}}
+use Rattle.syntax_size.specs.Weights.{{total, {", ".join(NRULE[t] for t in T)}, {", ".join(WEIGHT[t] for t in T)}}}
+use Rattle.syntax_size.proofs.Folds.{{weigh-Core, weigh-Suffix, weigh-Declarator, weigh-Parameter}}
 use {LAYERS}
 
 abbrev Any : {{A : Type 0}} → A → Type 0
@@ -402,7 +402,7 @@ step-Parameter x = rw (weigh-Parameter x) (omega arith)
 pub parameters_few : (d : Declarator) → length (parameters_of d) ≤ declarator_weight d
 parameters_few = ind-Declarator {" ".join(few(t) for t in T)} {" ".join("(λ x y is. step-Parameter x)" if t == "Parameter" else "step-" + t if t in FEW else "(λ x y is. tt)" for t in T)}
 """
-write("accepted_weights/proofs/Given", params)
+write("wf_growth/proofs/Given", params)
 
 # ---- induction over what is small
 LO = dict(zip(T, "core expr initializer optional stmt suffix declaration declarator init parameter typename".split()))
@@ -411,8 +411,8 @@ small = """-- Induction over the parts of a tree that is small: what is shown of
 use Rattle.std.proofs.Common.{◌≡◌, ℕ, ◌+◌, ◌≤◌, List, [], ◌∷◌, map, refl, ap, sym, subst, ◌∙◌, arith}
 """ + "".join(f"use Rattle.tick_tree.specs.declared.syntax.{t}.{{{t}, roll-{t}}}\n" for t in T) + f"""use Rattle.tick_tree.specs.declared.syntax.Core.TheOpen.{{{", ".join(t + "-F" for t in T)}}}
 use Rattle.tick_tree.specs.declared.syntax.Core.TheFolds.{{{", ".join("map-" + t for t in T)}, {", ".join("ind-" + t for t in T)}}}
-use Rattle.tree_weights.specs.Weights.{{total, {", ".join(NRULE[t] for t in T)}, {", ".join(WEIGHT[t] for t in T)}}}
-use Rattle.tree_weights.proofs.Folds.{{{", ".join("weigh-" + t for t in T)}}}
+use Rattle.syntax_size.specs.Weights.{{total, {", ".join(NRULE[t] for t in T)}, {", ".join(WEIGHT[t] for t in T)}}}
+use Rattle.syntax_size.proofs.Folds.{{{", ".join("weigh-" + t for t in T)}}}
 use {LAYERS}
 
 -- parts of a list
@@ -528,4 +528,4 @@ pub {LO[t]}_small : {steps} → (x : {t}) → {WEIGHT[t]} x ≤ limit → P{t} x
 {LO[t]}_small {" ".join("s" + u for u in T)} = ind-{t} {qs} {ss}
 """
 small += "\n".join(("  " + l) if l else l for l in body.split("\n")).rstrip() + "\n"
-write("tree_weights/proofs/Small", small)
+write("syntax_size/proofs/Small", small)

@@ -1,4 +1,4 @@
-"""Writes crates/tick_checker/proofs/Written.antt: the fold of the walk knows of each node how it is written as c_forms does.
+"""Writes crates/check_walk/proofs/Written.antt: the fold of the walk knows of each node how it is written as check_forms does.
 
 Run it at the top of the checkout, after a change of the tree's types or of the folds' rules.
 """
@@ -10,20 +10,24 @@ RESULTS = "Shape Node Start (Option Node) Item SuffixWalk Declarations Shape Ini
 RULES = ("core_rule expr_rule start_rule optional_rule stmt_rule suffix_walk declaration_rule declarator_rule init_rule "
          "parameter_rule typename_rule")
 UNIT = "(Unit {0})"
-FORM_RESULTS = "Declared Written %s %s %s %s %s Declared %s %s Bool" % ((UNIT,) * 7)
-FORM_RULES = "forms.core_rule forms.expr_rule nothing nothing nothing nothing nothing forms.declarator_rule nothing nothing forms.typename_rule"
-FORMS = "forms.declared_core forms.written nothing nothing nothing nothing nothing forms.declared nothing nothing forms.is_integer_name"
-AGREES = {"Core": "CoreAgrees", "Expr": "ExprAgrees", "Declarator": "DeclaratorAgrees", "Typename": "TypenameAgrees"}
+FORM_RESULTS = "Declared Written %s %s %s Bool %s Declared %s Bool Bool" % ((UNIT,) * 5)
+FORM_RULES = ("forms.core_rule forms.expr_rule nothing nothing nothing forms.suffix_rule nothing forms.declarator_rule nothing "
+              "forms.parameter_rule forms.typename_rule")
+FORMS = ("forms.declared_core forms.written nothing nothing nothing forms.is_staged_suffix nothing forms.declared nothing "
+         "forms.is_staged_parameter forms.is_integer_name")
+AGREES = {"Core": "CoreAgrees", "Expr": "ExprAgrees", "Suffix": "SuffixAgrees", "Declarator": "DeclaratorAgrees",
+          "Parameter": "ParameterAgrees", "Typename": "TypenameAgrees"}
 KNOWN = " ".join("Known%s" % t for t in TYPES)
 FIRSTS = " ".join(["(λ k. k.0)"] * 11)
 ALL = " ".join(TYPES)
-UNFOLD = "unfolding %s forms.written forms.declared forms.declared_core forms.is_integer_name" % " ".join(WALKS.values())
+UNFOLD = ("unfolding %s forms.written forms.declared forms.declared_core forms.is_staged_suffix forms.is_staged_parameter "
+          "forms.is_integer_name") % " ".join(WALKS.values())
 
-HEAD = """-- What the walk's fold knows of the way in which a part is written is what c_forms says of it. Written by tools/checker/written.py.
+HEAD = """-- What the walk's fold knows of the way in which a part is written is what check_forms says of it. Written by tools/checker/written.py.
 use Rattle.std.proofs.Common.{◌≡◌, ℕ, Bool, true, false, List, [], ◌∷◌, map, refl, ap, sym, ◌∙◌, subst}
-use Rattle.std.specs.Prelude.{◌&&◌, Option, Some, None, is_some}
-use Rattle.c_forms.specs.Forms as forms
-use Rattle.c_forms.specs.Forms.{Written, Declared, nothing, Name}
+use Rattle.std.specs.Prelude.{◌&&◌, ◌||◌, Option, Some, None, is_some}
+use Rattle.check_forms.specs.Forms as forms
+use Rattle.check_forms.specs.Forms.{Written, Declared, nothing, Name}
 """
 
 
@@ -42,8 +46,8 @@ def main():
     for t in AGREES:
         text += "use Rattle.tick_tree.specs.declared.syntax.%s.{roll-%s}\n" % (t, t)
     text += imports or ("use Rattle.check_expressions.specs.Rules.{Node, Named, Shape, Item}\n"
-                        "use Rattle.tick_checker.specs.Walk.{Start, InitParts, Declarations, SuffixWalk, TypeWalk, core_rule, expr_rule, start_rule, "
-                        "optional_rule, stmt_rule, suffix_walk, declaration_rule, declarator_rule, init_rule, parameter_rule, typename_rule, written_rule, %s}\n"
+                        "use Rattle.check_walk.specs.Walk.{Start, InitParts, Declarations, SuffixWalk, TypeWalk, core_rule, expr_rule, start_rule, "
+                        "optional_rule, stmt_rule, suffix_walk, declaration_rule, declarator_rule, init_rule, parameter_rule, typename_rule, written_rule, any_suffix, any_parameter, %s}\n"
                         % ", ".join(WALKS.values()))
     text += """
 abbrev CoreAgrees : Core → Type 0
@@ -51,6 +55,12 @@ CoreAgrees c = (core c).declared ≡ forms.declared_core c
 
 abbrev ExprAgrees : Expr → Type 0
 ExprAgrees e = (node e).written ≡ forms.written e
+
+abbrev SuffixAgrees : Suffix → Type 0
+SuffixAgrees s = (suffix s).staged ≡ forms.is_staged_suffix s
+
+abbrev ParameterAgrees : Parameter → Type 0
+ParameterAgrees p = (parameter p).staged ≡ forms.is_staged_parameter p
 
 abbrev DeclaratorAgrees : Declarator → Type 0
 DeclaratorAgrees d = (shape d).declared ≡ forms.declared d
@@ -68,19 +78,33 @@ Any x = Unit {0}
 nil_map f [] = refl
 nil_map f (x ∷ xs) = refl
 
+staged_suffixes : (ss : List KnownSuffix) → any_suffix (map suffix (map (λ k. k.0) ss)) ≡ forms.any (map forms.is_staged_suffix (map (λ k. k.0) ss))
+staged_suffixes [] = refl
+staged_suffixes (s ∷ ss) =
+    ap (λ b. b || any_suffix (map suffix (map (λ k. k.0) ss))) s.1
+    ∙ ap (λ b. forms.is_staged_suffix s.0 || b) (staged_suffixes ss)
+
+staged_parameters : (ps : List KnownParameter) → any_parameter (map parameter (map (λ k. k.0) ps)) ≡ forms.any (map forms.is_staged_parameter (map (λ k. k.0) ps))
+staged_parameters [] = refl
+staged_parameters (p ∷ ps) =
+    ap (λ b. b || any_parameter (map parameter (map (λ k. k.0) ps))) p.1
+    ∙ ap (λ b. forms.is_staged_parameter p.0 || b) (staged_parameters ps)
+
 """
     for t in AGREES:
         low = t.lower()
-        rule = {"Core": "core_rule", "Expr": "expr_rule", "Declarator": "declarator_rule", "Typename": "typename_rule"}[t]
-        form = {"Core": "forms.declared_core", "Expr": "forms.written", "Declarator": "forms.declared", "Typename": "forms.is_integer_name"}[t]
+        rule = {"Suffix": "suffix_walk"}.get(t, "%s_rule" % low)
+        form_rule = "%s_rule" % low
+        form = {"Core": "forms.declared_core", "Expr": "forms.written", "Suffix": "forms.is_staged_suffix", "Declarator": "forms.declared",
+                "Parameter": "forms.is_staged_parameter", "Typename": "forms.is_integer_name"}[t]
         text += "walk_%s : (x : %s-F %s) → %s (roll-%s x) ≡ %s (map-%s %s %s %s x)\n%s\nwalk_%s x = fold-roll-%s %s %s x\n\n" % (
             low, t, ALL, WALKS[t], t, rule, t, ALL, RESULTS, " ".join(WALKS.values()), UNFOLD, low, t, RESULTS, RULES)
         text += "form_%s : (x : %s-F %s) → %s (roll-%s x) ≡ forms.%s (map-%s %s %s %s x)\n%s\nform_%s x = fold-roll-%s %s %s x\n\n" % (
-            low, t, ALL, form, t, rule, t, ALL, FORM_RESULTS, FORMS, UNFOLD, low, t, FORM_RESULTS, FORM_RULES)
-        pick = {"Core": "declared", "Expr": "written", "Declarator": "declared", "Typename": "integer"}[t]
+            low, t, ALL, form, t, form_rule, t, ALL, FORM_RESULTS, FORMS, UNFOLD, low, t, FORM_RESULTS, FORM_RULES)
+        pick = {"Core": "declared", "Expr": "written", "Suffix": "staged", "Declarator": "declared", "Parameter": "staged", "Typename": "integer"}[t]
         y = firsts(t, "y")
         text += "%s_layer : (y : %s-F %s) → (%s (map-%s %s %s %s %s)).%s ≡ forms.%s (map-%s %s %s %s %s)\n" % (
-            low, t, KNOWN, rule, t, ALL, RESULTS, " ".join(WALKS.values()), y, pick, rule, t, ALL, FORM_RESULTS, FORMS, y)
+            low, t, KNOWN, rule, t, ALL, RESULTS, " ".join(WALKS.values()), y, pick, form_rule, t, ALL, FORM_RESULTS, FORMS, y)
         if t == "Core":
             text += "core_layer Core-F.Core::Absent = refl\ncore_layer (Core-F.Core::Name n x) = refl\ncore_layer (Core-F.Core::Paren d) = d.1\n\n"
         elif t == "Expr":
@@ -110,11 +134,32 @@ expr_layer (Expr-F.Comma n p) = refl
 """
         elif t == "Declarator":
             text += """declarator_layer y =
-    ap (λ c. record { plain = forms.is_nil y.prefixes && c.plain && forms.is_nil (map suffix (map (λ k. k.0) y.suffixes)); name = c.name }) y.core.1
-    ∙ ap (λ z. record { plain = forms.is_nil y.prefixes && (forms.declared_core y.core.0).plain && z; name = (forms.declared_core y.core.0).name })
-    (nil_map suffix (map (λ k. k.0) y.suffixes) ∙ sym (nil_map nothing (map (λ k. k.0) y.suffixes)))
+    ap (λ c. record {
+      plain = forms.is_nil y.prefixes && c.plain && forms.is_nil (map suffix (map (λ k. k.0) y.suffixes));
+      name = c.name;
+      staged = forms.any_staged_prefix y.prefixes || c.staged || any_suffix (map suffix (map (λ k. k.0) y.suffixes));
+    }) y.core.1
+    ∙ ap (λ z. record {
+      plain = forms.is_nil y.prefixes && (forms.declared_core y.core.0).plain && z;
+      name = (forms.declared_core y.core.0).name;
+      staged = forms.any_staged_prefix y.prefixes || (forms.declared_core y.core.0).staged || any_suffix (map suffix (map (λ k. k.0) y.suffixes));
+    }) (nil_map suffix (map (λ k. k.0) y.suffixes) ∙ sym (nil_map forms.is_staged_suffix (map (λ k. k.0) y.suffixes)))
+    ∙ ap (λ z. record {
+      plain = forms.is_nil y.prefixes && (forms.declared_core y.core.0).plain && forms.is_nil (map forms.is_staged_suffix (map (λ k. k.0) y.suffixes));
+      name = (forms.declared_core y.core.0).name;
+      staged = forms.any_staged_prefix y.prefixes || (forms.declared_core y.core.0).staged || z;
+    }) (staged_suffixes y.suffixes)
 
 """
+        elif t == "Suffix":
+            text += """suffix_layer (Suffix-F.Array e) = refl
+suffix_layer Suffix-F.Unlisted = refl
+suffix_layer Suffix-F.Nothing = refl
+suffix_layer (Suffix-F.Listed ps) = staged_parameters ps
+
+"""
+        elif t == "Parameter":
+            text += "parameter_layer y = ap (λ c. c.staged) y.declarator.1\n\n"
         else:
             text += "typename_layer y = ap (λ c. forms.is_some_type y.base && c.plain) y.declarator.1\n\n"
         text += "%s_step : (x : %s-F %s) (y : %s-F %s) → %s ≡ x → %s (roll-%s x)\n" % (low, t, ALL, t, KNOWN, y, AGREES[t], t)
@@ -122,7 +167,7 @@ expr_layer (Expr-F.Comma n p) = refl
             low, AGREES[t], t, pick, low, y, low, low, y)
     motives = " ".join(AGREES.get(t, "Any") for t in TYPES)
     steps = " ".join("%s_step" % t.lower() if t in AGREES else "(λ x y is. tt)" for t in TYPES)
-    names = {"Core": "core_agrees", "Expr": "expr_agrees", "Declarator": "declarator_agrees", "Typename": "typename_agrees"}
+    names = {t: "%s_agrees" % t.lower() for t in AGREES}
     for t in AGREES:
         text += "pub %s : (x : %s) → %s x\n%s = ind-%s %s %s\n\n" % (names[t], t, AGREES[t], names[t], t, motives, steps)
     text += """-- as a function asks it
@@ -138,9 +183,12 @@ string_agrees e = ap (λ w. w.string) (expr_agrees e)
 pub declared_agrees : (d : Declarator) → (shape d).declared.name ≡ forms.declared_name d
 declared_agrees d = ap (λ w. w.name) (declarator_agrees d)
 
-pub ruleset forms_of = (constant_agrees, name_agrees, string_agrees, declared_agrees)
+pub staged_agrees : (d : Declarator) → (shape d).declared.staged ≡ forms.is_staged d
+staged_agrees d = ap (λ w. w.staged) (declarator_agrees d)
+
+pub ruleset forms_of = (constant_agrees, name_agrees, string_agrees, declared_agrees, staged_agrees)
 """
-    open("proofs/Written.antt" if imports else "crates/tick_checker/proofs/Written.antt", "w").write(text)
+    open("proofs/Written.antt" if imports else "crates/check_walk/proofs/Written.antt", "w").write(text)
 
 
 main()

@@ -1,6 +1,6 @@
 """A second machine, written from docs/machine-model.md, docs/instructions.md, docs/memory.md and docs/image.md alone.
 
-It is slow and plain. The expected output of the programs random_images and mutated_images is what it says of the same
+It is slow and plain. The expected output of the generated images of the programs trial_random_images and trial_mutated_images is what it says of the same
 image files.
 """
 import struct
@@ -42,7 +42,8 @@ def read_image(data):
         return 5
     if len(data) > end:
         return 6
-    return entry, struct.unpack(f">{words}I", data[24:24 + 4 * words]), data[24 + 4 * words:24 + 4 * words + size]
+    text = struct.unpack(f">{words}I", data[24:24 + 4 * words])
+    return entry, text, data[24 + 4 * words:24 + 4 * words + size], list(zip(rows[0::2], rows[1::2]))
 
 
 def signed(w, bits=32):
@@ -51,11 +52,14 @@ def signed(w, bits=32):
 
 class Machine:
     def __init__(self, image, given, room):
-        self.pc, self.text, data = image
+        self.pc, self.text, data, functions = image
         self.next = self.pc + 4
         self.r, self.hi, self.lo = [0] * 32, 0, 0
         self.bytes = {OBJECTS + i: b for i, b in enumerate(data)}
-        self.arena, self.flushed = {}, set()
+        # the function table: function n, from 1 on, is row n, its address and then its count; a row without a function
+        # has the address 0 and the count 0xffffffff
+        self.rows = {n: row for n, row in enumerate(functions, 1)}
+        self.flushed = set()
         self.loaded, self.recent, self.slot = 0, 0, False
         self.input, self.room, self.out = list(given), room, b""
         self.steps = self.flushes = 0
@@ -80,7 +84,8 @@ class Machine:
         if TEXT <= at < TEXT + 4 * len(self.text):
             return self.text[(at - TEXT) // 4] >> (24 - 8 * (at % 4)) & 255
         if TABLE <= at < TABLE + 524288:
-            return 255 if at % 8 >= 4 else 0
+            row = self.rows.get((at - TABLE) // 8, (0, 0xFFFFFFFF))
+            return row[at % 8 // 4] >> (24 - 8 * (at % 4)) & 255
         return self.bytes.get(at, 0)
 
     def word(self, at):
