@@ -15,6 +15,3 @@ pub use line::{Line, Statement, line_of};
 pub use operand::{Operands, Target, operands_of, target_of};
 pub use piece::{Class, Piece, pieces};
 pub use word::Word;
-
-#[cfg(test)]
-mod tests;

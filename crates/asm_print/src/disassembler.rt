@@ -33,7 +33,7 @@ fn function_line(function: &FunctionEntry) -> Line
     line.push(b".fn ");
     line.push_word(function.address);
     line.push(b" ");
-    line.push_number(function.count);
+    line.push_number(u64::from(function.count));
     line.push(b"\n");
     line
 }

@@ -18,6 +18,3 @@ pub use name::{
     shift_variable, sign, sign_and_link, zero_comparison,
 };
 pub use operand::Operand;
-
-#[cfg(test)]
-mod tests;

@@ -91,7 +91,7 @@ impl Line {
     }
 
     /// Adds a decimal number.
-    pub fn push_number(&mut self, number: u32)
+    pub fn push_number(&mut self, number: u64)
         requires { length self.old + 40 ≤ 256 }
         ensures pushed { self.new ≡ self.old ++ decimal number }
         ensures len { length self.new ≤ length self.old + 40 }
@@ -130,10 +130,10 @@ impl Line {
         ensures len { length self.new ≤ length self.old + 41 }
     {
         if bits < 32768 {
-            self.push_number(bits);
+            self.push_number(u64::from(bits));
         } else {
             self.push(b"-");
-            self.push_number(65536 - bits);
+            self.push_number(u64::from(65536 - bits));
         }
     }
 
@@ -146,10 +146,10 @@ impl Line {
         match operand {
             Operand::Numbered(number) => {
                 self.push(b"$");
-                self.push_number(number);
+                self.push_number(u64::from(number));
             }
             Operand::Signed(bits) => self.push_signed(bits.bits()),
-            Operand::Unsigned(number) => self.push_number(number),
+            Operand::Unsigned(number) => self.push_number(u64::from(number)),
             Operand::Address(address) => self.push_word(address),
         }
     }

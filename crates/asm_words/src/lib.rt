@@ -15,6 +15,3 @@ pub use number::{Base, Number, number_of};
 pub use operation::{Operation, operation_of};
 pub use pairs::Pairs;
 pub use register::register_of;
-
-#[cfg(test)]
-mod tests;

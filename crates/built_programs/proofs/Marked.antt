@@ -5,8 +5,8 @@ use Rattle.std.proofs.lemmas.Bool.{and_parts, cases_eq}
 use Rattle.word32.specs.Space.{update}
 use Rattle.word32.proofs.SpaceLaws.{update_same, update_other}
 use Rattle.typed_tree.specs.declared.expression.Stmt.{Stmt}
-use Rattle.tick_meaning.specs.Nodes as node
-use Rattle.tick_meaning.specs.Scope.{Scope, no_scope, scope_after}
+use Rattle.typed_tree.specs.Nodes as node
+use Rattle.staged_meaning.specs.Scope.{Scope, no_scope, scope_after}
 use Rattle.built_programs.specs.Built.{variable_of, are_new, is_scoped_stmt}
 use Rattle.built_programs.specs.Marks.{marked, without_one, without}
 use Rattle.built_programs.proofs.Rest.{rest}

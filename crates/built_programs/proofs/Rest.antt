@@ -1,8 +1,8 @@
 -- What a walk over statements has still before it.
 use Rattle.std.proofs.Common.{ℕ, List, map, drop}
 use Rattle.typed_tree.specs.declared.expression.Stmt.{Stmt}
-use Rattle.tick_meaning.specs.Nodes as node
-use Rattle.tree_view.specs.View.{stmt_view, items_of}
+use Rattle.typed_tree.specs.Nodes as node
+use Rattle.typed_tree.specs.View.{stmt_view, items_of}
 
 -- the view of the statements from this one on
 abbrev pub rest : ℕ → List Stmt → node.Items

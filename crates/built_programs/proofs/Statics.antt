@@ -4,14 +4,15 @@ use Rattle.std.proofs.lemmas.Bool.{and_parts}
 use Rattle.std.proofs.lemmas.Bool.Decides.{nat_tests}
 use Rattle.icode_ops.specs.declared.kind.BinKind.{BinKind}
 use Rattle.icode_ops.specs.declared.kind.BinKind.TheVariants as kind
-use Rattle.template_effects.specs.Laws.{IsStraight}
+use Rattle.icode_templates_proof.specs.Laws.{IsStraight}
 use Rattle.typed_tree.specs.declared.program.Function.{Function}
 use Rattle.typed_tree.specs.declared.program.Tick.{Tick}
 use Rattle.word32.specs.Space.{update}
-use Rattle.tick_meaning.specs.Nodes as node
-use Rattle.tick_meaning.specs.Size.{size_of, variables_in, variables_of}
-use Rattle.tick_meaning.specs.Scope.{Scope, no_scope, scope_of, scope_after, IsScoped, IsScopedStmt, AreScopedItems, IsBuilt, IsBuiltStmt, AreBuiltItems}
-use Rattle.tree_view.specs.View.{function_view}
+use Rattle.typed_tree.specs.Nodes as node
+use Rattle.typed_tree.specs.declared.expression.Library.TheVariants as library
+use Rattle.staged_meaning.specs.Size.{size_of, variables_in, variables_of}
+use Rattle.staged_meaning.specs.Scope.{Scope, no_scope, scope_of, scope_after, IsScoped, IsScopedStmt, AreScopedItems, IsBuilt, IsBuiltStmt, AreBuiltItems}
+use Rattle.typed_tree.specs.View.{function_view}
 use Rattle.static_image.specs.Served.{IsServed, IsServedStmt, AreServedItems}
 use Rattle.built_programs.specs.Built.{is_operator, is_listed_expr, is_listed_stmt, are_listed, is_listed, are_new, is_scoped_expr, is_scoped_stmt, are_scoped, is_scoped, accepted, of_parts, built}
 use Rattle.built_programs.specs.Laws.{MeetsBackend, BuiltIsStatic}
@@ -79,7 +80,7 @@ expr_built (node.Const w) h = tt
 expr_built (node.Var i) h = tt
 expr_built (node.SetVar i a) h = expr_built a h
 expr_built (node.Bin k a b) h = let p = listed_bin k a b h in (expr_built a p.1, expr_built b p.2)
-expr_built (node.Lib node.Putchar a) h = expr_built a h
+expr_built (node.Lib library.Putchar a) h = expr_built a h
 expr_built _ h = absurd cc
 
 expr_served : (e : node.Expr) → is_listed_expr e ≡ true → IsServed e
@@ -87,7 +88,7 @@ expr_served (node.Const w) h = below w 4294967296 h
 expr_served (node.Var i) h = tt
 expr_served (node.SetVar i a) h = expr_served a h
 expr_served (node.Bin k a b) h = let p = listed_bin k a b h in (operator_straight k p.0, expr_served a p.1, expr_served b p.2)
-expr_served (node.Lib node.Putchar a) h = expr_served a h
+expr_served (node.Lib library.Putchar a) h = expr_served a h
 expr_served _ h = absurd cc
 
 mutual

@@ -8,10 +8,12 @@ use Rattle.icode_ops.specs.declared.kind.BinKind.TheVariants as kind
 use Rattle.typed_tree.specs.declared.program.Function.{Function}
 use Rattle.typed_tree.specs.declared.program.Tick.{Tick}
 use Rattle.typed_tree.specs.declared.program.Typed.{Typed}
-use Rattle.tick_meaning.specs.Nodes as node
-use Rattle.tick_meaning.specs.Size.{size_of}
-use Rattle.tick_meaning.specs.Scope.{Scope, no_scope, scope_of, scope_after}
-use Rattle.tree_view.specs.View.{function_view}
+use Rattle.typed_tree.specs.Nodes as node
+use Rattle.typed_tree.specs.declared.expression.Library.{Library}
+use Rattle.typed_tree.specs.declared.expression.Library.TheVariants as library
+use Rattle.staged_meaning.specs.Size.{size_of}
+use Rattle.staged_meaning.specs.Scope.{Scope, no_scope, scope_of, scope_after}
+use Rattle.typed_tree.specs.View.{function_view}
 
 -- ---- the nodes of the list
 
@@ -21,8 +23,8 @@ is_operator kind.Subtract = true
 is_operator kind.LessSigned = true
 is_operator _ = false
 
-abbrev pub is_putchar : node.Library → Bool
-is_putchar node.Putchar = true
+abbrev pub is_putchar : Library → Bool
+is_putchar library.Putchar = true
 is_putchar _ = false
 
 abbrev pub is_word : ℕ → Bool

@@ -1,7 +1,7 @@
 -- What is known of each function that is built: the backend makes its image.
 use Rattle.std.specs.Prelude.{◌≡◌, ◌≤◌, Some}
 use Rattle.typed_tree.specs.declared.program.Typed.{Typed}
-use Rattle.tick_meaning.specs.Nodes.{Function}
+use Rattle.typed_tree.specs.Nodes.{Function}
 use Rattle.static_image.specs.Served.{IsStatic}
 use Rattle.built_programs.specs.Built.{built}
 

@@ -1,8 +1,8 @@
 -- A mark for each variable that is in scope.
 use Rattle.std.specs.Prelude.{ℕ, Bool, true, false, List, Option, Some, None, slice_index_or}
 use Rattle.word32.specs.Space.{update}
-use Rattle.tick_meaning.specs.Nodes.{Items, NoItem, Item}
-use Rattle.tick_meaning.specs.Scope.{Scope}
+use Rattle.typed_tree.specs.Nodes.{Items, NoItem, Item}
+use Rattle.staged_meaning.specs.Scope.{Scope}
 use Rattle.built_programs.specs.Built.{variable_of}
 
 -- the variables that are marked

@@ -5,7 +5,5 @@ mod listed;
 mod marks;
 mod program;
 mod scoped;
-#[cfg(test)]
-mod tests;
 
 pub use program::{built_is_static, function_of};

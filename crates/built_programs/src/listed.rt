@@ -1,7 +1,7 @@
 //! Whether each node is one of those that run so far.
 
 ghost use Rattle.std.specs.Prelude.{◌≡◌, map};
-ghost use Rattle.tree_view.specs.View.{library_view, expr_view, stmt_view, items_of, function_view};
+ghost use Rattle.typed_tree.specs.View.{expr_view, stmt_view, items_of, function_view};
 ghost use Rattle.built_programs.specs.Built as spec;
 
 use icode_ops::BinKind;
@@ -21,13 +21,13 @@ fn is_operator(kind: BinKind) -> bool
 }
 
 fn is_putchar(function: Library) -> bool
-    ensures { result ≡ spec.is_putchar (library_view function) }
+    ensures { result ≡ spec.is_putchar function }
 {
     matches!(function, Library::Putchar)
 }
 
 // Whether each node of an expression is of the list.
-#[tactic(auto, using(tree_view::proofs::Views::expressions))]
+#[tactic(auto, using(typed_tree::proofs::Views::expressions))]
 fn is_listed_expression(e: &Expr) -> bool
     ensures { result ≡ spec.is_listed_expr (expr_view e.now) }
 {
@@ -52,21 +52,21 @@ fn is_listed_expression(e: &Expr) -> bool
 
 // Whether each node of a statement is of the list.
 #[cycle(is_listed_statement)]
-#[tactic(auto, using(tree_view::proofs::Views::statements))]
+#[tactic(auto, using(typed_tree::proofs::Views::statements))]
 fn is_listed_statement(s: &Stmt) -> bool
     ensures { result ≡ spec.is_listed_stmt (stmt_view s.now) }
 {
     match s {
-        Stmt::Expr(e) | Stmt::ReturnValue(e) => is_listed_expression(e),
+        Stmt::Eval(e) | Stmt::ReturnValue(e) => is_listed_expression(e.get()),
         Stmt::Block(variables, items) => {
             are_listed(variables.as_slice()) && are_listed(items.as_slice())
         }
         Stmt::Variable(_) => true,
         Stmt::If(test, a) | Stmt::While(test, a) => {
-            is_listed_expression(test) && is_listed_statement(a.get())
+            is_listed_expression(test.get()) && is_listed_statement(a.get())
         }
         Stmt::IfElse(test, a, b) => {
-            is_listed_expression(test)
+            is_listed_expression(test.get())
                 && is_listed_statement(a.get())
                 && is_listed_statement(b.get())
         }
@@ -95,5 +95,5 @@ fn are_listed(list: &[Stmt]) -> bool
 pub fn is_listed(function: &Function) -> bool
     ensures { result ≡ spec.is_listed (function_view function.now) }
 {
-    function.params == 0 && function.object == 0 && is_listed_statement(&function.body)
+    function.params == 0 && function.object == 0 && is_listed_statement(function.body.get())
 }

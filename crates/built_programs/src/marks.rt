@@ -1,8 +1,8 @@
 //! A mark for each variable that is in scope, by its number.
 
 ghost use Rattle.std.specs.Prelude.{◌≡◌, length, map, IsTrue};
-ghost use Rattle.tick_meaning.specs.Scope.{scope_after};
-ghost use Rattle.tree_view.specs.View.{stmt_view, items_of};
+ghost use Rattle.staged_meaning.specs.Scope.{scope_after};
+ghost use Rattle.typed_tree.specs.View.{stmt_view, items_of};
 ghost use Rattle.built_programs.specs.Built.{variable_of as variable_of_node, is_new, are_new};
 ghost use Rattle.built_programs.specs.Marks.{marked, with_one, without_one, without};
 
@@ -17,13 +17,13 @@ pub fn is_marked(marks: &[bool], variable: u32) -> bool
 }
 
 // The variable that a node declares.
-#[tactic(auto, using(tree_view::proofs::Views::statements))]
+#[tactic(auto, using(typed_tree::proofs::Views::statements))]
 fn variable_of(s: &Stmt) -> Option<u32>
     ensures { result ≡ variable_of_node (stmt_view s.now) }
 {
     match s {
         Stmt::Variable(i) => Some(*i),
-        Stmt::Expr(_) | Stmt::Block(_, _) | Stmt::Object(_, _) | Stmt::Parameter(_, _) => None,
+        Stmt::Eval(_) | Stmt::Block(_, _) | Stmt::Object(_, _) | Stmt::Parameter(_, _) => None,
         Stmt::ParameterObject(_, _, _) | Stmt::If(_, _) | Stmt::IfElse(_, _, _) => None,
         Stmt::While(_, _) | Stmt::Do(_, _) | Stmt::For(_, _) | Stmt::ForStep(_, _, _) => None,
         Stmt::Switch(_, _, _) | Stmt::Case(_) | Stmt::Default | Stmt::Break => None,

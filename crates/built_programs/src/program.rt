@@ -2,7 +2,7 @@
 
 ghost use Rattle.std.specs.Prelude.{◌≡◌, IfOk};
 ghost use Rattle.std.specs.Option.{option_map, option_copied};
-ghost use Rattle.tree_view.specs.View.{function_view};
+ghost use Rattle.typed_tree.specs.View.{function_view};
 ghost use Rattle.built_programs.specs.Built.{accepted as accepted_of, built};
 ghost use Rattle.built_programs.specs.Laws.{BuiltIsStatic};
 

@@ -1,8 +1,8 @@
 //! Whether each variable is used only where it is in scope.
 
 ghost use Rattle.std.specs.Prelude.{◌≡◌, length, map, IsTrue, IfOk};
-ghost use Rattle.tick_meaning.specs.Scope.{no_scope};
-ghost use Rattle.tree_view.specs.View.{expr_view, stmt_view, items_of, function_view};
+ghost use Rattle.staged_meaning.specs.Scope.{no_scope};
+ghost use Rattle.typed_tree.specs.View.{expr_view, stmt_view, items_of, function_view};
 ghost use Rattle.built_programs.specs.Built as spec;
 ghost use Rattle.built_programs.specs.Marks.{marked};
 
@@ -11,7 +11,7 @@ use std::alloc::{AllocError, Global};
 use typed_tree::{Expr, Function, SIZE_LIMIT, Stmt, statement_size};
 
 // Whether each variable that an expression uses is in scope.
-#[tactic(auto, using(tree_view::proofs::Views::expressions))]
+#[tactic(auto, using(typed_tree::proofs::Views::expressions))]
 fn is_scoped_expression(e: &Expr, marks: &[bool]) -> bool
     ensures { result ≡ spec.is_scoped_expr (marked marks.now) (expr_view e.now) }
 {
@@ -36,14 +36,14 @@ fn is_scoped_expression(e: &Expr, marks: &[bool]) -> bool
 
 // Whether a statement uses variables only where they are in scope. Behind it its own variables are out of scope.
 #[cycle(is_scoped_statement)]
-#[tactic(auto, using(tree_view::proofs::Views::statements))]
+#[tactic(auto, using(typed_tree::proofs::Views::statements))]
 fn is_scoped_statement(s: &Stmt, marks: &mut [bool]) -> bool
     ensures scoped { result ≡ spec.is_scoped_stmt (length marks.old) (marked marks.old) (stmt_view s.now) }
     ensures kept { IsTrue result → marked marks.new ≡ marked marks.old }
 {
     match s {
-        Stmt::Expr(e) => is_scoped_expression(e, marks),
-        Stmt::ReturnValue(e) => is_scoped_expression(e, marks),
+        Stmt::Eval(e) => is_scoped_expression(e.get(), marks),
+        Stmt::ReturnValue(e) => is_scoped_expression(e.get(), marks),
         Stmt::Block(variables, items) => {
             if !declare(variables.as_slice(), marks) {
                 return false;
@@ -55,10 +55,10 @@ fn is_scoped_statement(s: &Stmt, marks: &mut [bool]) -> bool
             true
         }
         Stmt::If(test, a) | Stmt::While(test, a) => {
-            is_scoped_expression(test, marks) && is_scoped_statement(a.get(), marks)
+            is_scoped_expression(test.get(), marks) && is_scoped_statement(a.get(), marks)
         }
         Stmt::IfElse(test, a, b) => {
-            if !is_scoped_expression(test, marks) {
+            if !is_scoped_expression(test.get(), marks) {
                 return false;
             }
             is_scoped_statement(a.get(), marks) && is_scoped_statement(b.get(), marks)
@@ -101,9 +101,9 @@ fn is_scoped_body(alloc: Global, body: &Stmt, size: usize) -> Result<bool, Alloc
 pub fn is_scoped(alloc: Global, function: &Function) -> Result<bool, AllocError>
     ensures { IfOk result (λ fits. fits ≡ spec.is_scoped (function_view function.now)) }
 {
-    let size = statement_size(&function.body);
+    let size = statement_size(function.body.get());
     if size > SIZE_LIMIT {
         return Ok(false);
     }
-    is_scoped_body(alloc, &function.body, size as usize)
+    is_scoped_body(alloc, function.body.get(), size as usize)
 }

@@ -4,12 +4,12 @@
 use Rattle.std.specs.Prelude.{◌≡◌, ◌≤◌, ℕ, zero, suc, ◌+◌, ◌-◌, Bool, not, ◌&&◌, ◌||◌, if◌then◌else◌, ◌==◌, nat_le, nat_lt, List, [], ◌∷◌, length, take, drop, slice_index, Option, Some, None, option_map, is_some, Result, Ok, Err}
 use Rattle.std.specs.Char.{is_ascii_digit, is_ascii_alphabetic, is_ascii_alphanumeric}
 use Rattle.std.specs.List.{prefix_len, count_by}
-use Rattle.c_words.specs.Words.{keyword_of, sign_at, spelling}
-use Rattle.c_words.specs.declared.signs.Sign.{Sign}
-use Rattle.c_literals.specs.Literals.{numeral_at, closing_of}
-use Rattle.c_literals.specs.declared.numbers.Numeral.{Numeral}
-use Rattle.c_literals.specs.declared.closings.Closing.{Closing}
-use Rattle.c_literals.specs.declared.closings.Closing.TheVariants.{Closed, Open, Wrong}
+use Rattle.lex_words.specs.Words.{keyword_of, sign_at, spelling}
+use Rattle.lex_words.specs.declared.signs.Sign.{Sign}
+use Rattle.lex_literals.specs.Literals.{numeral_at, closing_of}
+use Rattle.lex_literals.specs.declared.numbers.Numeral.{Numeral}
+use Rattle.lex_literals.specs.declared.closings.Closing.{Closing}
+use Rattle.lex_literals.specs.declared.closings.Closing.TheVariants.{Closed, Open, Wrong}
 use Rattle.tick_tree.specs.declared.token.Token.{Token}
 use Rattle.tick_tree.specs.declared.token.TokenKind.{TokenKind}
 use Rattle.tick_tree.specs.declared.token.TokenKind.TheVariants as kind
@@ -49,13 +49,13 @@ number n = if is_some n.value then Taken kind.Number n.len else Bad fault.BigLit
 abbrev pub string : Closing → Piece
 string (Closed end chars) = Taken kind.String (end + 1)
 string Open = Bad fault.OpenLiteral
-string Wrong = Bad fault.BadEscape
+string (Wrong chars) = Bad fault.BadEscape
 
--- a character literal, which has exactly one character
+-- A character literal, which has exactly one character. Behind its first character no other is looked at, and no escape.
 abbrev pub character : Closing → Piece
 character (Closed end chars) = if chars == 1 then Taken kind.Character (end + 1) else Bad fault.OpenLiteral
 character Open = Bad fault.OpenLiteral
-character Wrong = Bad fault.BadEscape
+character (Wrong chars) = Bad (if chars == 0 then fault.BadEscape else fault.OpenLiteral)
 
 -- the length of the rest of a comment, up to and with `*/`
 abbrev pub comment_len : Text → Option ℕ

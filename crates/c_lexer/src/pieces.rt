@@ -2,15 +2,15 @@
 
 ghost use Rattle.std.specs.Prelude.{◌≡◌, ◌≢◌, ◌+◌, ◌^◌, ◌<◌, ◌≤◌, length, drop, slice_index, true, IfSome};
 ghost use Rattle.std.specs.Char.{is_ascii_digit};
-ghost use Rattle.c_words.specs.Words.{spelling};
-ghost use Rattle.c_literals.specs.Literals.{Ends};
+ghost use Rattle.lex_words.specs.Words.{spelling};
+ghost use Rattle.lex_literals.specs.Literals.{Ends};
 ghost use Rattle.c_lexer.specs.Lex as spec;
 ghost use Rattle.c_lexer.specs.declared.classes.Class.TheVariants as class;
 
 use crate::byte_at;
 use crate::classes::{Class, is_in, past};
-use c_literals::{Closing, Numeral, closing_of, numeral_at};
-use c_words::{Sign, keyword_of, sign_at};
+use lex_literals::{Closing, Numeral, closing_of, numeral_at};
+use lex_words::{Sign, keyword_of, sign_at};
 use tick_tree::{FaultKind, TokenKind};
 
 /// What stands at a place.
@@ -59,7 +59,7 @@ fn string(closing: Closing) -> Piece
     match closing {
         Closing::Closed(end, _) => Piece::Taken(TokenKind::String, end + 1),
         Closing::Open => Piece::Bad(FaultKind::OpenLiteral),
-        Closing::Wrong => Piece::Bad(FaultKind::BadEscape),
+        Closing::Wrong(_) => Piece::Bad(FaultKind::BadEscape),
     }
 }
 
@@ -70,8 +70,10 @@ fn character(closing: Closing) -> Piece
 {
     match closing {
         Closing::Closed(end, 1) => Piece::Taken(TokenKind::Character, end + 1),
-        Closing::Closed(_, _) | Closing::Open => Piece::Bad(FaultKind::OpenLiteral),
-        Closing::Wrong => Piece::Bad(FaultKind::BadEscape),
+        Closing::Wrong(0) => Piece::Bad(FaultKind::BadEscape),
+        Closing::Closed(_, _) | Closing::Open | Closing::Wrong(_) => Piece::Bad(
+            FaultKind::OpenLiteral,
+        ),
     }
 }
 

@@ -8,6 +8,7 @@ use crate::shared::TypeRef;
 use indexmap::IndexMap;
 use std::alloc::{AllocError, AllocFailed, Global};
 use std::marker::Model;
+use thiserror::Error;
 
 /// What kind of thing a name means.
 #[derive(Clone, Copy, Debug, PartialEq, Eq)]
@@ -36,11 +37,13 @@ pub struct Meaning {
 }
 
 /// Why a name was not declared.
-#[derive(Clone, Copy, Debug, PartialEq, Eq)]
+#[derive(Clone, Copy, Debug, PartialEq, Eq, Error)]
 pub enum DeclareFault {
     /// The innermost scope has the name.
+    #[error("the innermost scope has the name already")]
     Taken,
     /// Memory was not found.
+    #[error("memory was not found")]
     NoMemory,
 }
 
@@ -204,33 +207,5 @@ impl Scopes {
             }
         }
         None
-    }
-}
-
-#[cfg(test)]
-mod tests {
-    use super::*;
-    use crate::ctype::{Base, Integer};
-
-    #[test]
-    fn inner_declaration_hides(rt: HostRuntime) {
-        let int = Base::Integer(Integer::Int);
-        let mut scopes = Scopes::new(rt.alloc()).expect(&rt, "memory");
-        let outer = Meaning {
-            kind: MeaningKind::Global,
-            ctype: TypeRef::new(rt.alloc(), int),
-            index: 1,
-        };
-        let inner = Meaning {
-            kind: MeaningKind::Variable,
-            ctype: TypeRef::new(rt.alloc(), int),
-            index: 2,
-        };
-        assert!(rt; scopes.declare(b"x", outer).is_ok());
-        assert!(rt; scopes.open().is_ok() && scopes.declare(b"x", inner).is_ok());
-        assert!(rt; scopes.find(b"x").map(|found| found.index) == Some(2));
-        assert!(rt; scopes.depth() == 2 && scopes.find(b"y").is_none());
-        scopes.close_to(1);
-        assert!(rt; scopes.find(b"x").map(|found| found.index) == Some(1));
     }
 }

@@ -5,8 +5,8 @@ use Rattle.tick_tree.specs.declared.base.UnaryOp.{UnaryOp}
 use Rattle.tick_tree.specs.declared.base.UnaryOp.TheVariants as unary_op
 use Rattle.tick_tree.specs.declared.fault.FaultKind.TheVariants as fault
 use Rattle.tick_tree.specs.Faults.{Checked, refuse}
-use Rattle.check_state.specs.declared.state.Stage.{Stage}
-use Rattle.check_state.specs.declared.state.Stage.TheVariants as stage
+use Rattle.check_env.specs.declared.state.Stage.{Stage}
+use Rattle.check_env.specs.declared.state.Stage.TheVariants as stage
 
 -- a backquote
 abbrev pub tick_entry : ℕ → Stage → Checked (Unit {0})

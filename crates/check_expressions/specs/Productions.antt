@@ -5,7 +5,7 @@ use Rattle.std.specs.Prelude.{ℕ, Bool, true, false, ◌&&◌, ◌||◌, nat_lt
 use Rattle.icode_ops.specs.declared.kind.UnKind.TheVariants as un
 use Rattle.c_types.specs.declared.ctype.CType.{CType}
 use Rattle.c_types.specs.declared.ctype.Layer.TheVariants as layer
-use Rattle.c_shapes.specs.Shapes.{is_cspec, is_vspec, is_pointer, is_function, inner, over, void}
+use Rattle.check_types.specs.Shapes.{is_cspec, is_vspec, is_pointer, is_function, inner, over, void}
 use Rattle.tick_tree.specs.declared.base.BinaryOp.{BinaryOp}
 use Rattle.tick_tree.specs.declared.base.ModifyOp.{ModifyOp}
 use Rattle.tick_tree.specs.declared.base.StepOp.{StepOp}
@@ -21,21 +21,21 @@ use Rattle.typed_tree.specs.declared.expression.Expr.TheVariants as ex
 use Rattle.typed_tree.specs.declared.expression.Stmt.{Stmt}
 use Rattle.typed_tree.specs.declared.program.TickBody.{TickBody}
 use Rattle.typed_tree.specs.declared.program.TickBody.TheVariants as body
-use Rattle.c_nodes.specs.declared.operand.Place.{Place}
-use Rattle.c_nodes.specs.declared.operand.Place.TheVariants as place
-use Rattle.c_nodes.specs.declared.operand.Operand.{Operand}
-use Rattle.c_nodes.specs.declared.operand.Value.{Value}
-use Rattle.c_nodes.specs.Operands as nodes
-use Rattle.c_nodes.specs.Operands.{value_of, values, settled, made}
-use Rattle.c_nodes.specs.Operators as operators
-use Rattle.c_nodes.specs.Stages as stages
-use Rattle.c_places.specs.Places as places
-use Rattle.c_places.specs.Calls as calls
-use Rattle.c_places.specs.declared.calls.Arguments.{Arguments}
-use Rattle.check_state.specs.declared.state.Stage.{Stage}
-use Rattle.check_state.specs.declared.state.Stage.TheVariants as stage
-use Rattle.check_state.specs.declared.state.State.{State}
-use Rattle.check_state.specs.Names.{captured, addressed}
+use Rattle.check_operators.specs.declared.operand.Place.{Place}
+use Rattle.check_operators.specs.declared.operand.Place.TheVariants as place
+use Rattle.check_operators.specs.declared.operand.Operand.{Operand}
+use Rattle.check_operators.specs.declared.operand.Value.{Value}
+use Rattle.check_operators.specs.Operands as nodes
+use Rattle.check_operators.specs.Operands.{value_of, values, settled, made}
+use Rattle.check_operators.specs.Operators as operators
+use Rattle.check_operators.specs.Stages as stages
+use Rattle.check_lvalues.specs.Places as places
+use Rattle.check_lvalues.specs.Calls as calls
+use Rattle.check_lvalues.specs.declared.calls.Arguments.{Arguments}
+use Rattle.check_env.specs.declared.state.Stage.{Stage}
+use Rattle.check_env.specs.declared.state.Stage.TheVariants as stage
+use Rattle.check_env.specs.declared.state.State.{State}
+use Rattle.check_env.specs.Names.{captured, addressed}
 use Rattle.check_tables.specs.Frames as frames
 use Rattle.check_tables.specs.Ticks as ticks
 use Rattle.check_tables.specs.Images as images

@@ -3,8 +3,8 @@
 -- which fault is the first.
 use Rattle.std.specs.Prelude.{ℕ, Bool, false, List, [], ◌∷◌, ◌++◌, Option, Some, None, Ok}
 use Rattle.c_types.specs.declared.ctype.CType.{CType}
-use Rattle.c_declared.specs.declared.steps.Step.{Step}
-use Rattle.c_forms.specs.Forms.{Name, Written, Declared}
+use Rattle.check_declarators.specs.declared.steps.Step.{Step}
+use Rattle.check_forms.specs.Forms.{Name, Written, Declared}
 use Rattle.tick_tree.specs.declared.base.BinaryOp.{BinaryOp}
 use Rattle.tick_tree.specs.declared.base.StepOp.{StepOp}
 use Rattle.tick_tree.specs.declared.base.ModifyOp.{ModifyOp}
@@ -12,17 +12,17 @@ use Rattle.tick_tree.specs.declared.base.UnaryOp.{UnaryOp}
 use Rattle.tick_tree.specs.declared.syntax.Core.TheOpen.{Expr-F}
 use Rattle.typed_tree.specs.declared.expression.Stmt.{Stmt}
 use Rattle.typed_tree.specs.declared.expression.Stmt.TheVariants as st
-use Rattle.c_nodes.specs.declared.operand.Operand.{Operand}
-use Rattle.c_nodes.specs.Operands as nodes
-use Rattle.c_nodes.specs.Stages as stages
-use Rattle.c_places.specs.declared.calls.Arguments.{Arguments}
-use Rattle.c_places.specs.Calls as calls
-use Rattle.check_state.specs.declared.state.Around.{Around}
-use Rattle.check_state.specs.declared.state.Stage.{Stage}
-use Rattle.check_state.specs.declared.state.Stage.TheVariants as stage
-use Rattle.check_state.specs.declared.state.State.{State}
-use Rattle.check_state.specs.Blocks.{depth, enter, leave}
-use Rattle.check_state.specs.Names.{named, library}
+use Rattle.check_operators.specs.declared.operand.Operand.{Operand}
+use Rattle.check_operators.specs.Operands as nodes
+use Rattle.check_operators.specs.Stages as stages
+use Rattle.check_lvalues.specs.declared.calls.Arguments.{Arguments}
+use Rattle.check_lvalues.specs.Calls as calls
+use Rattle.check_env.specs.declared.state.Around.{Around}
+use Rattle.check_env.specs.declared.state.Stage.{Stage}
+use Rattle.check_env.specs.declared.state.Stage.TheVariants as stage
+use Rattle.check_env.specs.declared.state.State.{State}
+use Rattle.check_env.specs.Blocks.{depth, enter, leave}
+use Rattle.check_env.specs.Names.{named, library}
 use Rattle.check_tables.specs.Walks.{Rule, ◌>>=◌, pure, lift}
 use Rattle.check_expressions.specs.Entries.{tick_entry, staging_entry, unary_entry}
 use Rattle.check_expressions.specs.Productions

@@ -2,18 +2,18 @@
 
 ghost use Rattle.std.specs.Prelude.{◌≡◌, IfOk};
 ghost use Rattle.tick_tree.specs.Faults.{Checks};
-ghost use Rattle.c_forms.specs.Forms as forms;
-ghost use Rattle.c_places.specs.Calls as calls;
+ghost use Rattle.check_forms.specs.Forms as forms;
+ghost use Rattle.check_lvalues.specs.Calls as calls;
 ghost use Rattle.check_expressions.specs.Productions as spec;
 ghost use Rattle.check_expressions.specs.Rules as rules;
 
 use crate::nodes::{is_specification, is_tick};
-use c_forms::name_of;
-use c_nodes::{Operand, value_of};
-use c_places::Arguments;
-use c_shapes::{inner, is_function, is_pointer};
 use c_types::TypeRef;
-use check_state::{Stage, State};
+use check_env::{Stage, State};
+use check_forms::name_of;
+use check_lvalues::Arguments;
+use check_operators::{Operand, value_of};
+use check_types::{inner, is_function, is_pointer};
 use std::alloc::{AllocError, Global};
 use tick_tree::{Deny, Expr, Fault, FaultKind, refused};
 
@@ -70,7 +70,7 @@ fn lower_at(line: u32, fault: Fault) -> Fault
     }
 }
 
-/// A call of what is no library function, as `c_places::call`; StageInTick where it answers a specification in a tick.
+/// A call of what is no library function, as `check_lvalues::call`; StageInTick where it answers a specification in a tick.
 #[tactic(auto, unfolding(crate::specs::Productions::call_node))]
 pub fn call_node(
     alloc: Global,
@@ -84,14 +84,14 @@ pub fn call_node(
     if is_tick(stage) && answers_specification(alloc, &o.ctype)? {
         left_call(alloc, line, o, list)
     } else {
-        c_places::call(alloc, line, o, list)
+        check_lvalues::call(alloc, line, o, list)
     }
 }
 
 fn left_call(alloc: Global, line: u32, o: Operand, list: Arguments) -> Result<Operand, Deny>
     ensures { Checks result (spec.left_of line (calls.call line o list)) }
 {
-    match c_places::call(alloc, line, o, list) {
+    match check_lvalues::call(alloc, line, o, list) {
         Ok(_) => refused(FaultKind::StageInTick, line),
         Err(Deny::Refused(fault)) => Err(Deny::Refused(lower_at(line, fault))),
         Err(Deny::NoMemory) => Err(Deny::NoMemory),

@@ -4,7 +4,7 @@ ghost use Rattle.std.specs.Prelude.{◌≡◌};
 ghost use Rattle.tick_tree.specs.Faults.{Checks};
 ghost use Rattle.check_expressions.specs.Entries as spec;
 
-use check_state::Stage;
+use check_env::Stage;
 use tick_tree::{Deny, FaultKind, UnaryOp, refused};
 
 /// Enters a backquote. Refused in a tick: NestedTick.

@@ -2,15 +2,16 @@
 
 ghost use Rattle.std.specs.Prelude.{◌≡◌, IfOk};
 ghost use Rattle.tick_tree.specs.Faults.{Checks};
-ghost use Rattle.check_state.specs.Names.{Gives};
+ghost use Rattle.check_env.specs.Names.{Gives};
 ghost use Rattle.check_tables.specs.Walks.{Reads};
 ghost use Rattle.check_expressions.specs.Productions as spec;
 
-use c_nodes::{Operand, Place, Value, made, settled, value_of, values};
-use c_shapes::{is_cspec, is_vspec, over};
 use c_types::{Layer, TypeRef};
-use check_state::{Stage, State};
+use check_env::{Stage, State};
+use check_operators::{Operand, Place, Value, made, settled, value_of, values};
+use check_types::{is_cspec, is_vspec, over};
 use icode_ops::UnKind;
+use sqlite_items::Boxed;
 use std::alloc::{AllocError, Global};
 use tick_tree::{BinaryOp, Deny, FaultKind, ModifyOp, StepOp, UnaryOp, refused};
 use typed_tree::{CaptureKind, CapturedWord, Expr};
@@ -40,7 +41,7 @@ fn left(line: u32, stage: Stage, o: Operand) -> Result<Operand, Deny>
     Ok(o)
 }
 
-/// An operator between two operands, as `c_nodes::binary`.
+/// An operator between two operands, as `check_operators::binary`.
 #[tactic(auto, unfolding(crate::specs::Productions::binary_node))]
 pub fn binary_node(
     alloc: Global,
@@ -52,10 +53,10 @@ pub fn binary_node(
     ensures { Checks result (spec.binary_node line op a b) }
 {
     let p = values(alloc, a, b)?;
-    c_nodes::binary(alloc, line, op, p.0, p.1)
+    check_operators::binary(alloc, line, op, p.0, p.1)
 }
 
-/// `a[b]`, as `c_nodes::index`; StageInTick where it is a specification in a tick.
+/// `a[b]`, as `check_operators::index`; StageInTick where it is a specification in a tick.
 #[tactic(auto, unfolding(crate::specs::Productions::index_node))]
 pub fn index_node(
     alloc: Global,
@@ -67,21 +68,21 @@ pub fn index_node(
     ensures { Checks result (spec.index_node line stage a b) }
 {
     let p = values(alloc, a, b)?;
-    let o = c_nodes::index(alloc, line, p.0, p.1)?;
+    let o = check_operators::index(alloc, line, p.0, p.1)?;
     left(line, stage, o)
 }
 
-/// `a = b`, as `c_places::assign`.
+/// `a = b`, as `check_lvalues::assign`.
 #[tactic(auto, unfolding(crate::specs::Productions::assign_node))]
 pub fn assign_node(alloc: Global, line: u32, a: Operand, b: Operand) -> Result<Operand, Deny>
     ensures { Checks result (spec.assign_node line a b) }
 {
     let o = settled(alloc, a)?;
     let v = value_of(alloc, b)?;
-    c_places::assign(alloc, line, o, v)
+    check_lvalues::assign(alloc, line, o, v)
 }
 
-/// `a op= b`, as `c_places::modify`.
+/// `a op= b`, as `check_lvalues::modify`.
 #[tactic(auto, unfolding(crate::specs::Productions::modify_node))]
 pub fn modify_node(
     alloc: Global,
@@ -94,7 +95,7 @@ pub fn modify_node(
 {
     let o = settled(alloc, a)?;
     let v = value_of(alloc, b)?;
-    c_places::modify(alloc, line, op, o, v)
+    check_lvalues::modify(alloc, line, op, o, v)
 }
 
 /// `a, b`
@@ -103,10 +104,10 @@ pub fn comma_node(alloc: Global, a: Operand, b: Operand) -> Result<Operand, Allo
     ensures { IfOk result (λ o. o ≡ spec.comma_node a b) }
 {
     let p = values(alloc, a, b)?;
-    c_nodes::comma(alloc, p.0, p.1)
+    check_operators::comma(alloc, p.0, p.1)
 }
 
-/// `c ? a : b`, as `c_nodes::choice`.
+/// `c ? a : b`, as `check_operators::choice`.
 #[tactic(auto, unfolding(crate::specs::Productions::choice_node))]
 pub fn choice_node(
     alloc: Global,
@@ -119,25 +120,25 @@ pub fn choice_node(
 {
     let test = value_of(alloc, c)?;
     let p = values(alloc, a, b)?;
-    c_nodes::choice(alloc, line, test, p.0, p.1)
+    check_operators::choice(alloc, line, test, p.0, p.1)
 }
 
-/// `(T) o`, as `c_nodes::cast`.
+/// `(T) o`, as `check_operators::cast`.
 #[tactic(auto, unfolding(crate::specs::Productions::cast_node))]
 pub fn cast_node(alloc: Global, line: u32, t: TypeRef, o: Operand) -> Result<Operand, Deny>
     ensures { Checks result (spec.cast_node line t o) }
 {
     let v = value_of(alloc, o)?;
-    c_nodes::cast(alloc, line, t, v)
+    check_operators::cast(alloc, line, t, v)
 }
 
-/// `o++` and `o--`, as `c_places::post`.
+/// `o++` and `o--`, as `check_lvalues::post`.
 #[tactic(auto, unfolding(crate::specs::Productions::post_node))]
 pub fn post_node(alloc: Global, line: u32, op: StepOp, o: Operand) -> Result<Operand, Deny>
     ensures { Checks result (spec.post_node line op o) }
 {
     let o = settled(alloc, o)?;
-    c_places::post(alloc, line, op, o)
+    check_lvalues::post(alloc, line, op, o)
 }
 
 #[tactic(auto, unfolding(crate::specs::Productions::step_node))]
@@ -145,7 +146,7 @@ fn step_node(alloc: Global, line: u32, op: StepOp, o: Operand) -> Result<Operand
     ensures { Checks result (spec.step_node line op o) }
 {
     let o = settled(alloc, o)?;
-    c_places::stepped(alloc, line, op, o)
+    check_lvalues::stepped(alloc, line, op, o)
 }
 
 #[tactic(auto, unfolding(crate::specs::Productions::star_node))]
@@ -153,18 +154,19 @@ fn star_node(alloc: Global, line: u32, stage: Stage, o: Operand) -> Result<Opera
     ensures { Checks result (spec.star_node line stage o) }
 {
     let v = value_of(alloc, o)?;
-    let place = c_nodes::dereferenced(line, v)?;
+    let place = check_operators::dereferenced(line, v)?;
     left(line, stage, place)
 }
 
-fn address_by(state: &mut State, line: u32, o: Operand) -> Result<Operand, Deny>
+fn address_by(alloc: Global, state: &mut State, line: u32, o: Operand) -> Result<Operand, Deny>
     ensures { Reads (spec.address_by line o.ctype o.place state.old) result state.new }
 {
     let Operand { place, ctype, .. } = o;
     match place {
         Place::Register(i) => {
             state.frame.mark(i);
-            Ok(made(Expr::Frame(0), over(Layer::Pointer, ctype)?))
+            let t = over(Layer::Pointer, ctype)?;
+            Ok(made(Boxed::new(alloc, Expr::Frame(0))?, t))
         }
         Place::Memory(address) => Ok(made(address, over(Layer::Pointer, ctype)?)),
         Place::Generated(_) => refused(FaultKind::AddressOfRegister, line),
@@ -172,24 +174,30 @@ fn address_by(state: &mut State, line: u32, o: Operand) -> Result<Operand, Deny>
     }
 }
 
-/// `&o`: in a function a variable that is no frame object yet becomes one in the next walk. Refused as `c_places::address`.
+/// `&o`: in a function a variable that is no frame object yet becomes one in the next walk. Refused as `check_lvalues::address`.
 #[tactic(auto, unfolding(crate::specs::Productions::address_node))]
-fn address_node(state: &mut State, line: u32, stage: Stage, o: Operand) -> Result<Operand, Deny>
+fn address_node(
+    alloc: Global,
+    state: &mut State,
+    line: u32,
+    stage: Stage,
+    o: Operand,
+) -> Result<Operand, Deny>
     ensures { Reads (spec.address_node line stage o state.old) result state.new }
 {
     match stage {
-        Stage::Function | Stage::Dollar => address_by(state, line, o),
-        Stage::Tick => c_places::address(line, o),
+        Stage::Function | Stage::Dollar => address_by(alloc, state, line, o),
+        Stage::Tick => check_lvalues::address(line, o),
     }
 }
 
-/// `$o`, as `c_nodes::dollar`: the value is captured as the tick is evaluated.
+/// `$o`, as `check_operators::dollar`: the value is captured as the tick is evaluated.
 #[tactic(auto, unfolding(crate::specs::Productions::dollar_node))]
 fn dollar_node(alloc: Global, state: &mut State, line: u32, o: Operand) -> Result<Operand, Deny>
     ensures { Reads (spec.dollar_node line o state.old) result state.new }
 {
     let v = value_of(alloc, o)?;
-    let v = c_nodes::dollar(alloc, line, v)?;
+    let v = check_operators::dollar(alloc, line, v)?;
     Ok(captured(alloc, state, v)?)
 }
 
@@ -198,7 +206,8 @@ fn captured(alloc: Global, state: &mut State, v: Value) -> Result<Operand, Alloc
 {
     let Value { code, ctype, .. } = v;
     let i = state.ticks.capture(alloc, CaptureKind::Dollar, code)?;
-    Ok(made(Expr::Captured(CapturedWord::Dollar, i), ctype))
+    let node = Boxed::new(alloc, Expr::Captured(CapturedWord::Dollar, i))?;
+    Ok(made(node, ctype))
 }
 
 fn signed_node(alloc: Global, line: u32, op: UnaryOp, o: Operand) -> Result<Operand, Deny>
@@ -206,10 +215,10 @@ fn signed_node(alloc: Global, line: u32, op: UnaryOp, o: Operand) -> Result<Oper
 {
     let v = value_of(alloc, o)?;
     match op {
-        UnaryOp::Minus => c_nodes::on_integer(alloc, line, UnKind::Negate, v),
-        UnaryOp::Complement => c_nodes::on_integer(alloc, line, UnKind::Complement, v),
-        UnaryOp::Not => c_nodes::negated(alloc, line, v),
-        _ => c_nodes::plus(alloc, line, v),
+        UnaryOp::Minus => check_operators::on_integer(alloc, line, UnKind::Negate, v),
+        UnaryOp::Complement => check_operators::on_integer(alloc, line, UnKind::Complement, v),
+        UnaryOp::Not => check_operators::negated(alloc, line, v),
+        _ => check_operators::plus(alloc, line, v),
     }
 }
 
@@ -229,7 +238,7 @@ pub fn unary_node(
             signed_node(alloc, line, op, o)
         }
         UnaryOp::Star => star_node(alloc, line, stage, o),
-        UnaryOp::Address => address_node(state, line, stage, o),
+        UnaryOp::Address => address_node(alloc, state, line, stage, o),
         UnaryOp::Dollar => dollar_node(alloc, state, line, o),
         UnaryOp::Increment => step_node(alloc, line, StepOp::Increment, o),
         UnaryOp::Decrement => step_node(alloc, line, StepOp::Decrement, o),
@@ -241,5 +250,5 @@ pub fn string_node(alloc: Global, state: &mut State, bytes: &[u8]) -> Result<Ope
     ensures { Gives result state.new (spec.string_node bytes.now state.old) }
 {
     let address = state.image.string(alloc, bytes)?;
-    c_nodes::string(alloc, address)
+    check_operators::string(alloc, address)
 }

@@ -2,35 +2,35 @@
 
 ghost use Rattle.std.specs.Prelude.{◌≡◌};
 ghost use Rattle.tick_tree.specs.Faults.{Checks};
-ghost use Rattle.check_state.specs.Names.{Gives};
+ghost use Rattle.check_env.specs.Names.{Gives};
 ghost use Rattle.check_expressions.specs.Productions as spec;
 ghost use Rattle.check_expressions.specs.Rules as rules;
 
-use c_nodes::{Operand, Value, made, specification, value_of};
-use c_shapes::{over, void};
 use c_types::{Layer, TypeRef};
-use check_state::{Around, Stage, State};
+use check_env::{Around, Stage, State};
+use check_operators::{Operand, Value, made, specification, value_of};
+use check_types::{over, void};
 use sqlite_items::Boxed;
 use std::alloc::{AllocError, Global};
 use tick_tree::Deny;
 use typed_tree::{Stmt, TickBody};
 
-/// `compile(o, T)`, as `c_nodes::compile`.
+/// `compile(o, T)`, as `check_operators::compile`.
 #[tactic(auto, unfolding(crate::specs::Productions::compile_node))]
 pub fn compile_node(alloc: Global, line: u32, t: TypeRef, o: Operand) -> Result<Operand, Deny>
     ensures { Checks result (spec.compile_node line t o) }
 {
     let v = value_of(alloc, o)?;
-    c_nodes::compile(alloc, line, t, v)
+    check_operators::compile(alloc, line, t, v)
 }
 
-/// `param(T, o)`, as `c_nodes::parameter`.
+/// `param(T, o)`, as `check_operators::parameter`.
 #[tactic(auto, unfolding(crate::specs::Productions::parameter_node))]
 pub fn parameter_node(alloc: Global, line: u32, t: TypeRef, o: Operand) -> Result<Operand, Deny>
     ensures { Checks result (spec.parameter_node line t o) }
 {
     let v = value_of(alloc, o)?;
-    c_nodes::parameter(alloc, line, t, v)
+    check_operators::parameter(alloc, line, t, v)
 }
 
 /// What stands round the items of a tick's block: no loop and no switch of the tick.
@@ -84,5 +84,5 @@ pub fn tick_block(
     ensures { Gives result state.new (spec.tick_block block state.old) }
 {
     let t = over(Layer::Cspec, void(alloc))?;
-    tick_left(alloc, state, TickBody::Statement(block.into_inner()), t)
+    tick_left(alloc, state, TickBody::Statement(block), t)
 }

@@ -7,8 +7,8 @@ use Rattle.c_types.specs.declared.ctype.Layer.TheOpen.{Layer-F}
 use Rattle.c_types.specs.declared.names.MeaningKind.TheVariants as kind
 use Rattle.c_types.specs.Scopes.{Name}
 use Rattle.c_types.specs.Types.{Opened, layers_of, outermost}
-use Rattle.c_forms.specs.Forms.{declared_name}
-use Rattle.c_shapes.specs.Shapes.{inner}
+use Rattle.check_forms.specs.Forms.{declared_name}
+use Rattle.check_types.specs.Shapes.{inner}
 use Rattle.tick_tree.specs.declared.fault.FaultKind.TheVariants as fault
 use Rattle.tick_tree.specs.declared.syntax.Parameter.{Parameter, out-Parameter}
 use Rattle.tick_tree.specs.Faults.{Checked, refuse}
@@ -19,9 +19,9 @@ use Rattle.check_tables.specs.declared.functions.Functions.{Functions}
 use Rattle.check_tables.specs.Frames as frames
 use Rattle.check_tables.specs.Functions as functions
 use Rattle.check_tables.specs.Walks.{Rule, ◌>>=◌, pure}
-use Rattle.check_state.specs.declared.state.State.{State}
-use Rattle.check_state.specs.Locals.{meaning, parameter, with_parameter}
-use Rattle.check_state.specs.Names.{declare}
+use Rattle.check_env.specs.declared.state.State.{State}
+use Rattle.check_env.specs.Locals.{meaning, parameter, with_parameter}
+use Rattle.check_env.specs.Names.{declare}
 use Rattle.check_globals.specs.declared.names.Before.{Before}
 use Rattle.check_globals.specs.declared.names.Before.TheVariants as before
 use Rattle.check_statements.specs.Declarations.{name_by}

@@ -8,16 +8,16 @@ use Rattle.c_types.specs.declared.names.MeaningKind.{MeaningKind}
 use Rattle.c_types.specs.declared.names.MeaningKind.TheVariants as kind
 use Rattle.c_types.specs.Scopes.{Name, find}
 use Rattle.c_types.specs.Types.{same, limited_size}
-use Rattle.c_declared.specs.declared.steps.Step.{Step}
-use Rattle.c_declared.specs.declared.steps.Step.TheVariants as step
+use Rattle.check_declarators.specs.declared.steps.Step.{Step}
+use Rattle.check_declarators.specs.declared.steps.Step.TheVariants as step
 use Rattle.tick_tree.specs.declared.fault.FaultKind.TheVariants as fault
 use Rattle.tick_tree.specs.Faults.{refuse}
 use Rattle.check_tables.specs.Functions as functions
 use Rattle.check_tables.specs.Images as images
 use Rattle.check_tables.specs.Walks.{Rule, ◌>>=◌}
-use Rattle.check_state.specs.declared.state.State.{State}
-use Rattle.check_state.specs.Locals.{meaning}
-use Rattle.check_state.specs.Names.{declare}
+use Rattle.check_env.specs.declared.state.State.{State}
+use Rattle.check_env.specs.Locals.{meaning}
+use Rattle.check_env.specs.Names.{declare}
 use Rattle.check_globals.specs.declared.names.Before.{Before}
 use Rattle.check_globals.specs.declared.names.Before.TheVariants as before
 

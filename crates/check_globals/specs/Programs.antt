@@ -11,7 +11,7 @@ use Rattle.c_types.specs.declared.ctype.Layer.TheOpen.{Layer-F}
 use Rattle.c_types.specs.declared.names.Meaning.{Meaning}
 use Rattle.c_types.specs.Scopes.{find}
 use Rattle.c_types.specs.Types.{Opened, base_of, layers_of, outermost}
-use Rattle.c_forms.specs.Forms.{is_nil}
+use Rattle.check_forms.specs.Forms.{is_nil}
 use Rattle.tick_tree.specs.declared.fault.FaultKind.TheVariants as fault
 use Rattle.tick_tree.specs.Faults.{Checked, refuse}
 use Rattle.typed_tree.specs.declared.program.Function.{Function}
@@ -21,7 +21,7 @@ use Rattle.check_tables.specs.declared.functions.Prototype.{Prototype}
 use Rattle.check_tables.specs.declared.image.Image.{Image}
 use Rattle.check_tables.specs.Functions as functions
 use Rattle.check_tables.specs.Images as images
-use Rattle.check_state.specs.declared.state.State.{State}
+use Rattle.check_env.specs.declared.state.State.{State}
 use Rattle.check_globals.specs.Names.{is_function}
 
 -- ---- main

@@ -1,27 +1,28 @@
 -- Initializers at file scope. They are constant expressions, strings for `char *`, lists of these for an array, and a string for an
 -- array of char, which stands in the array itself with its zero byte. A value breaks VoidValue alone, else TypeMismatch where it
 -- doesn't convert, else BadOperand where it is of another form or has no value. Of several rules that a list breaks, the lowest
--- number counts. These are this project's own rules.
-use Rattle.std.specs.Prelude.{ℕ, ◌/◌, ◌%◌, Bool, ◌&&◌, ◌||◌, ◌==◌, nat_lt, if◌then◌else◌, List, [], ◌∷◌, ◌++◌, length, Option, Some, None, Result, Ok, Err}
+-- number counts. Whether an array that has its length from its initializer is too large is asked behind the initializer's
+-- expressions, and before its own rules: BadArray. These are this project's own rules.
+use Rattle.std.specs.Prelude.{ℕ, ◌/◌, ◌%◌, Bool, not, ◌&&◌, ◌||◌, ◌==◌, nat_lt, if◌then◌else◌, List, [], ◌∷◌, ◌++◌, length, Option, Some, None, Result, Ok, Err}
 use Rattle.word32.specs.declared.width.Width.{Width}
 use Rattle.word32.specs.declared.width.Width.TheVariants as width
 use Rattle.c_types.specs.declared.ctype.CType.{CType}
 use Rattle.c_types.specs.declared.ctype.Layer.{Layer, out-Layer}
 use Rattle.c_types.specs.declared.ctype.Layer.TheOpen.{Layer-F}
 use Rattle.c_types.specs.Types.{Opened, base_of, layers_of, outermost, is_pointer}
-use Rattle.c_declared.specs.Making.{lower}
-use Rattle.c_shapes.specs.Shapes.{width_of}
+use Rattle.check_declarators.specs.Making.{lower}
+use Rattle.check_types.specs.Shapes.{width_of}
 use Rattle.tick_tree.specs.declared.fault.FaultKind.{FaultKind}
 use Rattle.tick_tree.specs.declared.fault.FaultKind.TheVariants as fault
 use Rattle.tick_tree.specs.Faults.{refuse}
-use Rattle.c_nodes.specs.declared.operand.Operand.{Operand}
-use Rattle.c_nodes.specs.declared.operand.Value.{Value}
-use Rattle.c_nodes.specs.Operands.{value_of}
-use Rattle.c_constants.specs.Constants.{constant}
+use Rattle.check_operators.specs.declared.operand.Operand.{Operand}
+use Rattle.check_operators.specs.declared.operand.Value.{Value}
+use Rattle.check_operators.specs.Operands.{value_of}
+use Rattle.check_constants.specs.Constants.{constant}
 use Rattle.check_tables.specs.Images as images
 use Rattle.check_tables.specs.Walks.{Rule}
-use Rattle.check_state.specs.declared.state.State.{State}
-use Rattle.check_statements.specs.Initializers.{is_array, is_char, value_breaks}
+use Rattle.check_env.specs.declared.state.State.{State}
+use Rattle.check_statements.specs.Initializers.{is_array, is_char, has_size, value_breaks}
 use Rattle.check_globals.specs.declared.statics.Row.{Row}
 
 -- ---- bytes
@@ -63,9 +64,13 @@ abbrev pub value_by : ℕ → ℕ → CType → Result ℕ FaultKind → Rule St
 value_by line at t (Ok n) s = fill at (bytes_of (width_of t) n) s
 value_by line at t (Err k) s = refuse k line
 
+-- what a value gives a type, where that has a size
+abbrev pub sized_word : CType → Result ℕ FaultKind → Result ℕ FaultKind
+sized_word t word = if has_size t then word else Err fault.BadArray
+
 -- the global at this place has this type and begins with this value
 unfoldable pub static_value : ℕ → ℕ → CType → Bool → Bool → Operand → Rule State (Unit {0})
-static_value line at t form string o s = value_by line at t (static_word form string (value_of o) t) s
+static_value line at t form string o s = value_by line at t (sized_word t (static_word form string (value_of o) t)) s
 
 -- ---- an array
 
@@ -84,10 +89,14 @@ elements_of t = elements_by (outermost (layers_of t))
 abbrev pub is_too_long : ℕ → CType → Bool
 is_too_long count t = nat_lt (elements_of t) count
 
+-- the array has no size, or so many elements are too many
+abbrev pub lacks_room : ℕ → CType → Bool
+lacks_room count t = not (has_size t) || is_too_long count t
+
 -- an array of char begins with a string and its zero byte
 unfoldable pub static_text : ℕ → ℕ → CType → List ℕ → Rule State (Unit {0})
 static_text line at t bytes s =
-    if is_too_long (length (bytes ++ 0 ∷ [])) t then refuse fault.BadArray line else fill at (bytes ++ 0 ∷ []) s
+    if lacks_room (length (bytes ++ 0 ∷ [])) t then refuse fault.BadArray line else fill at (bytes ++ 0 ∷ []) s
 
 -- before the values of a list
 abbrev pub row_begun : CType → Row
@@ -103,7 +112,9 @@ row_more t form string o row = row_by t row (static_word form string (value_of o
 
 -- what a list of so many values breaks
 abbrev pub row_breaks : ℕ → CType → Row → Option FaultKind
-row_breaks count t row = if is_too_long count t then lower row.broken (Some fault.BadArray) else row.broken
+row_breaks count t row =
+    if has_size t then (if is_too_long count t then lower row.broken (Some fault.BadArray) else row.broken)
+    else Some fault.BadArray
 
 abbrev pub list_by : ℕ → ℕ → List ℕ → Option FaultKind → Rule State (Unit {0})
 list_by line at bytes None s = fill at bytes s

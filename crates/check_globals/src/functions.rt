@@ -1,19 +1,19 @@
 //! Definitions of functions.
 
 ghost use Rattle.std.specs.Prelude.{◌≡◌, map, IfOk, OnOk};
-ghost use Rattle.c_forms.specs.Forms as forms;
+ghost use Rattle.check_forms.specs.Forms as forms;
 ghost use Rattle.check_globals.specs.Functions as spec;
-ghost use Rattle.check_state.specs.Locals as locals;
+ghost use Rattle.check_env.specs.Locals as locals;
 ghost use Rattle.check_statements.specs.Declarations.{name_by};
 ghost use Rattle.check_tables.specs.Functions as functions;
 ghost use Rattle.check_tables.specs.Walks.{Reads};
 
 use crate::names::{Before, declare, known_before};
-use c_forms::declared_name;
-use c_shapes::inner;
 use c_types::{CType, Layer, MeaningKind, TypeRef, copy_ctype};
-use check_state::State;
+use check_env::State;
+use check_forms::declared_name;
 use check_tables::Functions;
+use check_types::inner;
 use sqlite_items::{Boxed, Items};
 use std::alloc::{AllocError, Global};
 use tick_tree::{Declarator, Deny, FaultKind, Parameter, refused};
@@ -166,7 +166,7 @@ fn function(
         params: count_of(t),
         object: state.frame.object,
         size,
-        body: body.into_inner(),
+        body,
     })
 }
 

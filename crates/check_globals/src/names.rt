@@ -1,17 +1,17 @@
 //! Names at file scope.
 
 ghost use Rattle.std.specs.Prelude.{◌≡◌};
-ghost use Rattle.c_forms.specs.Forms as forms;
+ghost use Rattle.check_forms.specs.Forms as forms;
 ghost use Rattle.check_globals.specs.Names as spec;
-ghost use Rattle.check_state.specs.Locals as locals;
-ghost use Rattle.check_state.specs.Names as names;
+ghost use Rattle.check_env.specs.Locals as locals;
+ghost use Rattle.check_env.specs.Names as names;
 ghost use Rattle.check_statements.specs.Declarations.{name_by};
 ghost use Rattle.check_tables.specs.Walks.{Reads};
 
-use c_declared::Step;
-use c_forms::declared_name;
 use c_types::{Meaning, MeaningKind, TypeRef, limited_size, same};
-use check_state::State;
+use check_declarators::Step;
+use check_env::State;
+use check_forms::declared_name;
 use sqlite_items::Items;
 use std::alloc::Global;
 use tick_tree::{Declarator, Deny, FaultKind, refused};

@@ -7,7 +7,7 @@ ghost use Rattle.check_tables.specs.Images as images;
 ghost use Rattle.tick_tree.specs.Faults.{Checks};
 
 use c_types::{Base, Integer, Layer, Meaning, MeaningKind, TypeRef};
-use check_state::State;
+use check_env::State;
 use check_tables::Image;
 use sqlite_items::Items;
 use std::alloc::{AllocError, Global};
@@ -180,26 +180,39 @@ fn typed(alloc: Global, state: State) -> Result<Typed, AllocError>
     ensures { IfOk result (λ t. t ≡ spec.typed state) }
 {
     let State {
-        functions,
+        scopes,
+        frame,
         ticks,
+        labels,
         image,
-        ..
+        functions,
     } = state;
-    let image = image_bytes(alloc, image)?;
-    Ok(Typed {
-        functions: functions.all,
-        ticks: ticks.all,
-        image,
-    })
+    drop(scopes);
+    drop(frame);
+    drop(labels);
+    match image_bytes(alloc, image) {
+        Ok(image) => Ok(Typed {
+            functions: functions.all,
+            ticks: ticks.all,
+            image,
+        }),
+        Err(why) => {
+            drop(functions);
+            drop(ticks);
+            Err(why)
+        }
+    }
 }
 
 fn whole(alloc: Global, state: State) -> Result<Typed, Deny>
     ensures { Checks result (spec.finished_by None state) }
 {
     if !has_main(&state) {
+        drop(state);
         return refused(FaultKind::NoMain, 1);
     }
     if !fits(&state) {
+        drop(state);
         return refused(FaultKind::TooLarge, 1);
     }
     Ok(typed(alloc, state)?)
@@ -212,7 +225,9 @@ pub fn finished(alloc: Global, state: State) -> Result<Typed, Deny>
     ensures { Checks result (spec.finished state) }
 {
     if let Some(p) = state.functions.undefined() {
-        return refused(FaultKind::Undeclared, p.line);
+        let line = p.line;
+        drop(state);
+        return refused(FaultKind::Undeclared, line);
     }
     whole(alloc, state)
 }

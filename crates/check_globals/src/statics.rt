@@ -1,17 +1,17 @@
 //! Initializers at file scope.
 
 ghost use Rattle.std.specs.Prelude.{◌≡◌, ◌++◌, ◌∷◌, [], IfOk, is_some, length};
-ghost use Rattle.c_forms.specs.Forms as forms;
+ghost use Rattle.check_forms.specs.Forms as forms;
 ghost use Rattle.check_globals.specs.Statics as spec;
 ghost use Rattle.check_tables.specs.Walks.{Reads};
 
-use c_constants::constant_value;
-use c_forms::has_form;
-use c_nodes::{Operand, Value, value_of};
-use c_shapes::width_of;
 use c_types::{Base, Integer, Layer, TypeRef};
-use check_state::State;
-use check_statements::{is_array, is_string, lower, value_breaks};
+use check_constants::constant_value;
+use check_env::State;
+use check_forms::has_form;
+use check_operators::{Operand, Value, value_of};
+use check_statements::{has_size, is_array, is_string, lower, value_breaks};
+use check_types::width_of;
 use sqlite_items::Items;
 use std::alloc::{AllocError, Global};
 use tick_tree::{Deny, Expr, FaultKind, refused};
@@ -53,7 +53,7 @@ fn formed(allowed: bool, v: &Value) -> Result<u32, FaultKind>
     if !allowed {
         return Err(FaultKind::BadOperand);
     }
-    match constant_value(&v.code) {
+    match constant_value(v.code.get()) {
         None => Err(FaultKind::BadOperand),
         Some(n) => Ok(n),
     }
@@ -68,8 +68,18 @@ fn static_word(has_form: bool, is_string: bool, v: &Value, t: &TypeRef) -> Resul
     }
 }
 
-/// Gives the global at this place, which has this type, a value; e is its expression. Refused: VoidValue alone, TypeMismatch,
-/// BadOperand where it is neither a constant nor a string for `char *`.
+fn sized_word(t: &TypeRef, word: Result<u32, FaultKind>) -> Result<u32, FaultKind>
+    ensures { result ≡ spec.sized_word t.now word }
+{
+    if has_size(t) {
+        word
+    } else {
+        Err(FaultKind::BadArray)
+    }
+}
+
+/// Gives the global at this place, which has this type, a value; e is its expression. Refused: BadArray where the type has no
+/// size, VoidValue alone, TypeMismatch, BadOperand where it is neither a constant nor a string for `char *`.
 #[tactic(auto, unfolding(crate::specs::Statics::static_value))]
 pub fn static_value(
     alloc: Global,
@@ -83,7 +93,8 @@ pub fn static_value(
     ensures { Reads (spec.static_value line at t.now (forms.has_form e.now) (is_some (forms.string_of e.now)) o state.old) result state.new }
 {
     let v = value_of(alloc, o)?;
-    match static_word(has_form(e), is_string(e), &v, t) {
+    let word = static_word(has_form(e), is_string(e), &v, t);
+    match sized_word(t, word) {
         Err(kind) => refused(kind, line),
         Ok(n) => {
             let bytes = bytes_of(alloc, width_of(t), n)?;
@@ -107,6 +118,12 @@ fn is_too_long(count: usize, t: &TypeRef) -> bool
     (elements_of(t) as usize) < count
 }
 
+fn lacks_room(count: usize, t: &TypeRef) -> bool
+    ensures { result ≡ spec.lacks_room count t.now }
+{
+    !has_size(t) || is_too_long(count, t)
+}
+
 fn with_zero(alloc: Global, bytes: &[u8]) -> Result<Items<u8>, AllocError>
     ensures { IfOk result (λ all. all ≡ bytes.now ++ 0 ∷ []) }
 {
@@ -115,7 +132,7 @@ fn with_zero(alloc: Global, bytes: &[u8]) -> Result<Items<u8>, AllocError>
     Ok(all)
 }
 
-/// Gives the array of char at this place a string, with its zero byte. Refused where it is too long: BadArray.
+/// Gives the array of char at this place a string, with its zero byte. Refused where it is too long or the array too large: BadArray.
 #[tactic(auto, unfolding(crate::specs::Statics::static_text))]
 pub fn static_text(
     alloc: Global,
@@ -128,7 +145,7 @@ pub fn static_text(
     ensures { Reads (spec.static_text line at t.now bytes.now state.old) result state.new }
 {
     let all = with_zero(alloc, bytes)?;
-    if is_too_long(all.len(), t) {
+    if lacks_room(all.len(), t) {
         return refused(FaultKind::BadArray, line);
     }
     fill(alloc, state, at, all)
@@ -190,7 +207,9 @@ impl Row {
 fn row_breaks(count: usize, t: &TypeRef, row: &Row) -> Option<FaultKind>
     ensures { result ≡ spec.row_breaks count t.now row.now }
 {
-    if is_too_long(count, t) {
+    if !has_size(t) {
+        Some(FaultKind::BadArray)
+    } else if is_too_long(count, t) {
         lower(row.broken, Some(FaultKind::BadArray))
     } else {
         row.broken
@@ -198,7 +217,7 @@ fn row_breaks(count: usize, t: &TypeRef, row: &Row) -> Option<FaultKind>
 }
 
 /// Gives the global at this place, which has this type, a list of so many values. Refused: TypeMismatch where it is no array,
-/// BadArray where the list is too long, or what its values break.
+/// BadArray where the list is too long or the array too large, or what its values break.
 #[tactic(auto, unfolding(crate::specs::Statics::static_list))]
 pub fn static_list(
     alloc: Global,

@@ -1,80 +1,37 @@
--- Declarations in a block: the type, in a tick with its own rules (no array, and no cspec or vspec in the type), then the name;
--- and the lengths of arrays. Of several rules that a type breaks, the lowest number counts. The rules are C's with this
--- project's specifications; their order is its own.
-use Rattle.std.specs.Prelude.{ℕ, ◌+◌, min, Bool, true, false, ◌||◌, nat_lt, if◌then◌else◌, List, [], ◌∷◌, length, Option, Some, None, Ok, Err}
+-- Declarations in a block: what is checked as one is entered (in a tick no cspec or vspec is written in it); the type, in a
+-- tick with its own rule (no array); then the name; and the lengths of arrays. Of several rules that a type breaks, the lowest
+-- number counts. The rules are C's with this project's specifications; their order is its own.
+use Rattle.std.specs.Prelude.{ℕ, ◌+◌, min, Bool, true, false, nat_lt, if◌then◌else◌, List, [], ◌∷◌, length, Option, Some, None, Ok, Err}
 use Rattle.c_types.specs.declared.ctype.Base.{Base}
 use Rattle.c_types.specs.declared.ctype.CType.{CType}
-use Rattle.c_types.specs.declared.ctype.Layer.{Layer}
-use Rattle.c_types.specs.declared.ctype.Layer.TheOpen.{Layer-F, CType-F}
-use Rattle.c_types.specs.declared.ctype.Layer.TheFolds.{fold-Layer, fold-CType}
-use Rattle.c_declared.specs.declared.steps.Length.{Length}
-use Rattle.c_declared.specs.declared.steps.Length.TheVariants as len
-use Rattle.c_declared.specs.declared.steps.Role.TheVariants as role
-use Rattle.c_declared.specs.declared.steps.Step.{Step}
-use Rattle.c_declared.specs.declared.steps.Step.TheVariants as step
-use Rattle.c_declared.specs.Making.{declared_type}
-use Rattle.tick_tree.specs.declared.base.Prefix.{Prefix}
-use Rattle.tick_tree.specs.declared.base.Prefix.TheVariants as prefix
+use Rattle.check_declarators.specs.declared.steps.Length.{Length}
+use Rattle.check_declarators.specs.declared.steps.Length.TheVariants as len
+use Rattle.check_declarators.specs.declared.steps.Role.TheVariants as role
+use Rattle.check_declarators.specs.declared.steps.Step.{Step}
+use Rattle.check_declarators.specs.declared.steps.Step.TheVariants as step
+use Rattle.check_declarators.specs.Making.{declared_type}
 use Rattle.tick_tree.specs.declared.fault.Fault.{Fault}
 use Rattle.tick_tree.specs.declared.fault.FaultKind.{FaultKind}
 use Rattle.tick_tree.specs.declared.fault.FaultKind.TheVariants as fault
 use Rattle.tick_tree.specs.Faults.{Checked, refuse, number}
-use Rattle.c_forms.specs.Forms.{Name}
-use Rattle.c_nodes.specs.declared.operand.Operand.{Operand}
-use Rattle.c_nodes.specs.Operands.{effect}
-use Rattle.c_constants.specs.Constants.{constant}
+use Rattle.check_types.specs.Shapes.{is_void}
+use Rattle.check_forms.specs.Forms.{Name}
+use Rattle.check_operators.specs.declared.operand.Operand.{Operand}
+use Rattle.check_operators.specs.Operands.{effect}
+use Rattle.check_constants.specs.Constants.{constant}
 use Rattle.check_tables.specs.Walks.{Rule, pure}
-use Rattle.check_state.specs.declared.state.Stage.{Stage}
-use Rattle.check_state.specs.declared.state.Stage.TheVariants as stage
-use Rattle.check_state.specs.declared.state.State.{State}
-use Rattle.check_state.specs.Locals.{local, list_parameter}
+use Rattle.check_env.specs.declared.state.Stage.{Stage}
+use Rattle.check_env.specs.declared.state.Stage.TheVariants as stage
+use Rattle.check_env.specs.declared.state.State.{State}
+use Rattle.check_env.specs.Locals.{local, list_parameter}
 
--- ---- a cspec or vspec anywhere in a type
+-- ---- as a declaration is entered
 
-abbrev pub any : List Bool → Bool
-any [] = false
-any (b ∷ bs) = b || any bs
-
-abbrev pub layer_rule : Layer-F Bool Bool → Bool
-layer_rule Layer-F.Pointer = false
-layer_rule (Layer-F.Array n) = false
-layer_rule (Layer-F.Function list) = any list
-layer_rule Layer-F.Unlisted = false
-layer_rule Layer-F.Cspec = true
-layer_rule Layer-F.Vspec = true
-
-abbrev pub ctype_rule : CType-F Bool Bool → Bool
-ctype_rule t = any t.layers
-
--- whether a cspec or vspec is in a type, in the lists of its functions too
-unfoldable pub is_staged : CType → Bool
-is_staged = fold-CType Bool Bool layer_rule ctype_rule
-
-unfoldable pub is_staged_layer : Layer → Bool
-is_staged_layer = fold-Layer Bool Bool layer_rule ctype_rule
-
-abbrev pub any_staged : List CType → Bool
-any_staged [] = false
-any_staged (t ∷ ts) = is_staged t || any_staged ts
-
-abbrev pub any_staged_layer : List Layer → Bool
-any_staged_layer [] = false
-any_staged_layer (l ∷ ls) = is_staged_layer l || any_staged_layer ls
-
-abbrev pub is_staged_prefix : Prefix → Bool
-is_staged_prefix prefix.Star = false
-is_staged_prefix prefix.Cspec = true
-is_staged_prefix prefix.Vspec = true
-
-abbrev pub is_staged_step : Step → Bool
-is_staged_step (step.Prefix p) = is_staged_prefix p
-is_staged_step (step.Array n) = false
-is_staged_step (step.Function list) = any_staged list
-is_staged_step step.Unlisted = false
-
-abbrev pub any_staged_step : List Step → Bool
-any_staged_step [] = false
-any_staged_step (s ∷ ss) = is_staged_step s || any_staged_step ss
+-- whether a cspec or vspec is written in the declarator is said: that of a variable of a tick has none
+abbrev pub entered : Stage → ℕ → Bool → Checked (Unit {0})
+entered stage.Function line staged = Ok tt
+entered stage.Tick line staged = if staged then refuse fault.StageInTick line else Ok tt
+entered stage.Dollar line staged = Ok tt
 
 -- ---- types
 
@@ -89,7 +46,7 @@ is_array (s ∷ ss) = is_array_step s
 
 -- what a variable of a tick breaks
 abbrev pub tick_breaks : List Step → Option FaultKind
-tick_breaks ss = if is_array ss then Some fault.BadArray else (if any_staged_step ss then Some fault.StageInTick else None)
+tick_breaks ss = if is_array ss then Some fault.BadArray else None
 
 abbrev pub lower_at : ℕ → FaultKind → Fault → Fault
 lower_at line k f = if nat_lt (number k) (number f.kind) then record { kind = k; line = line; token = 0 } else f
@@ -115,9 +72,9 @@ abbrev pub length_by : Option ℕ → Length
 length_by None = len.Computed
 length_by (Some n) = len.Constant n
 
--- the length that an expression gives an array: it has the form of a constant, or not
+-- the length that an expression gives an array: it has the form of a constant, or not; what is void isn't a value
 unfoldable pub length_of : Bool → Operand → Length
-length_of form o = if form then length_by (constant (effect o)) else len.Computed
+length_of form o = if form then length_by (constant (effect o)) else (if is_void o.ctype then len.Void else len.Computed)
 
 -- how many elements a value gives an array that lacks its length: a string's are its bytes with the zero byte
 abbrev pub value_count : Option (List ℕ) → ℕ

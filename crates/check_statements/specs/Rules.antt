@@ -3,17 +3,17 @@
 -- project's own rule: it decides which fault is the first.
 use Rattle.std.specs.Prelude.{ℕ, if◌then◌else◌, List, [], ◌∷◌, ◌++◌, Option, Some, None, Ok}
 use Rattle.c_types.specs.declared.ctype.CType.{CType}
-use Rattle.c_declared.specs.declared.steps.Step.{Step}
-use Rattle.c_declared.specs.declared.steps.Step.TheVariants as step
-use Rattle.c_declared.specs.declared.steps.Length.TheVariants as len
+use Rattle.check_declarators.specs.declared.steps.Step.{Step}
+use Rattle.check_declarators.specs.declared.steps.Step.TheVariants as step
+use Rattle.check_declarators.specs.declared.steps.Length.TheVariants as len
 use Rattle.tick_tree.specs.declared.syntax.Core.TheOpen.{Stmt-F, Suffix-F}
 use Rattle.typed_tree.specs.declared.expression.Stmt.{Stmt}
 use Rattle.typed_tree.specs.declared.expression.Stmt.TheVariants as st
-use Rattle.c_nodes.specs.declared.operand.Operand.{Operand}
-use Rattle.check_state.specs.declared.state.Around.{Around}
-use Rattle.check_state.specs.declared.state.Stage.{Stage}
-use Rattle.check_state.specs.declared.state.State.{State}
-use Rattle.check_state.specs.Blocks.{depth, enter, leave}
+use Rattle.check_operators.specs.declared.operand.Operand.{Operand}
+use Rattle.check_env.specs.declared.state.Around.{Around}
+use Rattle.check_env.specs.declared.state.Stage.{Stage}
+use Rattle.check_env.specs.declared.state.State.{State}
+use Rattle.check_env.specs.Blocks.{depth, enter, leave}
 use Rattle.check_tables.specs.Walks.{Rule, ◌>>=◌, pure, lift}
 use Rattle.check_expressions.specs.Rules.{Node, Named, Shape, Item, each, block}
 use Rattle.check_statements.specs.Declarations.{length_of}

@@ -8,16 +8,16 @@ use Rattle.typed_tree.specs.declared.expression.Expr.{Expr}
 use Rattle.typed_tree.specs.declared.expression.Expr.TheVariants as ex
 use Rattle.typed_tree.specs.declared.expression.Stmt.{Stmt}
 use Rattle.typed_tree.specs.declared.expression.Stmt.TheVariants as st
-use Rattle.c_nodes.specs.declared.operand.Operand.{Operand}
-use Rattle.c_nodes.specs.Operands as nodes
-use Rattle.c_nodes.specs.Operands.{value_of, effect}
-use Rattle.c_places.specs.Calls as calls
-use Rattle.c_constants.specs.Constants.{constant}
+use Rattle.check_operators.specs.declared.operand.Operand.{Operand}
+use Rattle.check_operators.specs.Operands as nodes
+use Rattle.check_operators.specs.Operands.{value_of, effect}
+use Rattle.check_lvalues.specs.Calls as calls
+use Rattle.check_constants.specs.Constants.{constant}
 use Rattle.check_tables.specs.declared.labels.Labels.{Labels}
-use Rattle.check_state.specs.declared.state.Around.{Around}
-use Rattle.check_state.specs.declared.state.Stage.{Stage}
-use Rattle.check_state.specs.declared.state.Stage.TheVariants as stage
-use Rattle.check_state.specs.declared.state.State.{State}
+use Rattle.check_env.specs.declared.state.Around.{Around}
+use Rattle.check_env.specs.declared.state.Stage.{Stage}
+use Rattle.check_env.specs.declared.state.Stage.TheVariants as stage
+use Rattle.check_env.specs.declared.state.State.{State}
 use Rattle.check_tables.specs.Labels as labels
 use Rattle.check_tables.specs.Walks.{Rule}
 
@@ -43,7 +43,7 @@ one x = x ∷ []
 
 -- an expression
 abbrev pub alone : Operand → List Stmt
-alone o = one (st.Expr (effect o))
+alone o = one (st.Eval (effect o))
 
 -- a body is one node
 abbrev pub body : List Stmt → Stmt

@@ -1,92 +1,39 @@
 //! Declarations in a block, and the lengths of arrays.
 
 ghost use Rattle.std.specs.Prelude.{◌≡◌, IfOk, Some, ◌+◌, min, length};
-ghost use Rattle.c_declared.specs.Making as making;
-ghost use Rattle.c_declared.specs.Steps.{filled};
-ghost use Rattle.c_forms.specs.Forms as forms;
+ghost use Rattle.check_declarators.specs.Making as making;
+ghost use Rattle.check_declarators.specs.Steps.{filled};
+ghost use Rattle.check_forms.specs.Forms as forms;
 ghost use Rattle.tick_tree.specs.Faults.{Checks};
 ghost use Rattle.check_tables.specs.Walks.{Reads};
 ghost use Rattle.check_statements.specs.Declarations as spec;
 
-use c_constants::constant_value;
-use c_declared::{Length, Role, Step, declared_type, fill_length};
-use c_forms::{declared_name, string_of};
-use c_nodes::{Operand, effect};
-use c_types::{Base, CType, Layer, TypeRef};
-use check_state::{Stage, State};
+use c_types::{Base, CType, TypeRef};
+use check_constants::constant_value;
+use check_declarators::{Length, Role, Step, declared_type, fill_length};
+use check_env::{Stage, State};
+use check_forms::{declared_name, is_staged, string_of};
+use check_operators::{Operand, effect};
+use check_types::is_void;
 use sqlite_items::Items;
 use std::alloc::{AllocError, Global};
-use tick_tree::{Declarator, Deny, Expr, Fault, FaultKind, Prefix, refused};
+use tick_tree::{Declarator, Deny, Expr, Fault, FaultKind, refused};
 
-#[cycle(staged)]
-#[tactic(auto, using(crate::proofs::Staged::by_layers))]
-fn is_staged(t: &CType) -> bool
-    ensures { result ≡ spec.is_staged t.now }
+/// What is checked as a declarator of a declaration is entered: StageInTick where a cspec or vspec is written in one of a
+/// tick.
+pub fn entered(stage: Stage, line: u32, d: &Declarator) -> Result<(), Deny>
+    ensures { Checks result (spec.entered stage line (forms.is_staged d.now)) }
 {
-    any_staged_layer(t.layers.as_slice())
-}
-
-#[cycle(staged)]
-fn any_staged_layer(layers: &[Layer]) -> bool
-    ensures { result ≡ spec.any_staged_layer layers.now }
-{
-    for layer in layers {
-        if is_staged_layer(layer) {
-            return true;
+    match stage {
+        Stage::Function | Stage::Dollar => Ok(()),
+        Stage::Tick => {
+            if is_staged(d) {
+                refused(FaultKind::StageInTick, line)
+            } else {
+                Ok(())
+            }
         }
     }
-    false
-}
-
-#[cycle(staged)]
-#[tactic(auto, using(crate::proofs::Staged::layers))]
-fn is_staged_layer(layer: &Layer) -> bool
-    ensures { result ≡ spec.is_staged_layer layer.now }
-{
-    match layer {
-        Layer::Pointer | Layer::Array(_) | Layer::Unlisted => false,
-        Layer::Function(list) => any_staged(list.as_slice()),
-        Layer::Cspec | Layer::Vspec => true,
-    }
-}
-
-#[cycle(staged)]
-fn any_staged(list: &[CType]) -> bool
-    ensures { result ≡ spec.any_staged list.now }
-{
-    for t in list {
-        if is_staged(t) {
-            return true;
-        }
-    }
-    false
-}
-
-fn is_staged_prefix(prefix: Prefix) -> bool
-    ensures { result ≡ spec.is_staged_prefix prefix }
-{
-    matches!(prefix, Prefix::Cspec | Prefix::Vspec)
-}
-
-fn is_staged_step(step: &Step) -> bool
-    ensures { result ≡ spec.is_staged_step step.now }
-{
-    match step {
-        Step::Prefix(prefix) => is_staged_prefix(*prefix),
-        Step::Function(list) => any_staged(list.as_slice()),
-        Step::Array(_) | Step::Unlisted => false,
-    }
-}
-
-fn any_staged_step(steps: &[Step]) -> bool
-    ensures { result ≡ spec.any_staged_step steps.now }
-{
-    for step in steps {
-        if is_staged_step(step) {
-            return true;
-        }
-    }
-    false
 }
 
 fn is_array(steps: &[Step]) -> bool
@@ -100,8 +47,6 @@ fn tick_breaks(steps: &[Step]) -> Option<FaultKind>
 {
     if is_array(steps) {
         Some(FaultKind::BadArray)
-    } else if any_staged_step(steps) {
-        Some(FaultKind::StageInTick)
     } else {
         None
     }
@@ -153,8 +98,8 @@ fn tick_type(alloc: Global, line: u32, base: Base, steps: Items<Step>) -> Result
     }
 }
 
-/// The type of a variable of a block. Refused as `c_declared::declared_type`; in a tick also BadArray where it is an array, and
-/// StageInTick where a cspec or vspec is in it.
+/// The type of a variable of a block. Refused as `check_declarators::declared_type`; in a tick also BadArray where it is an
+/// array.
 #[tactic(auto, unfolding(crate::specs::Declarations::declared_in))]
 pub fn declared_in(
     alloc: Global,
@@ -186,10 +131,14 @@ pub fn length_of(alloc: Global, has_form: bool, o: Operand) -> Result<Length, Al
     ensures { IfOk result (λ n. n ≡ spec.length_of has_form o) }
 {
     if !has_form {
-        return Ok(Length::Computed);
+        return Ok(if is_void(&o.ctype) {
+            Length::Void
+        } else {
+            Length::Computed
+        });
     }
     let code = effect(alloc, o)?;
-    Ok(length_by(constant_value(&code)))
+    Ok(length_by(constant_value(code.get())))
 }
 
 fn string_length(bytes: &Items<u8>) -> u32

@@ -1,15 +1,15 @@
 //! Initializers in a block.
 
 ghost use Rattle.std.specs.Prelude.{◌≡◌, IfOk, is_some};
-ghost use Rattle.c_declared.specs.Making as making;
-ghost use Rattle.c_forms.specs.Forms as forms;
+ghost use Rattle.check_declarators.specs.Making as making;
+ghost use Rattle.check_forms.specs.Forms as forms;
 ghost use Rattle.tick_tree.specs.Faults.{Checks};
 ghost use Rattle.check_statements.specs.Initializers as spec;
 
-use c_forms::string_of;
-use c_nodes::{Operand, Value, value_of};
-use c_shapes::is_void;
-use c_types::{Base, Integer, Layer, TypeRef, converts};
+use c_types::{Base, Integer, Layer, TypeRef, converts, limited_size};
+use check_forms::string_of;
+use check_operators::{Operand, Value, value_of};
+use check_types::is_void;
 use sqlite_items::Items;
 use std::alloc::{AllocError, Global};
 use tick_tree::{self as syntax, Deny, FaultKind, refused};
@@ -89,10 +89,20 @@ pub fn value_breaks(v: &Value, t: &TypeRef) -> Option<FaultKind>
     }
 }
 
+/// Whether a type has some bytes, and at most `c_types::MAX_SIZE`. An array whose length is counted may have another size.
+pub fn has_size(t: &TypeRef) -> bool
+    ensures { result ≡ spec.has_size t.now }
+{
+    match limited_size(t) {
+        None => false,
+        Some(n) => n > 0,
+    }
+}
+
 fn array_breaks(is_string: bool, v: &Value, t: &TypeRef) -> FaultKind
     ensures { result ≡ spec.array_breaks is_string v.now t.now }
 {
-    if is_string && is_text(t) {
+    if !has_size(t) || is_string && is_text(t) {
         FaultKind::BadArray
     } else {
         lowest(value_breaks(v, t), FaultKind::BadArray)
@@ -104,12 +114,12 @@ fn initialized(alloc: Global, line: u32, place: Operand, o: Operand) -> Result<I
     ensures { Checks result (spec.initialized line place o) }
 {
     let v = value_of(alloc, o)?;
-    let set = c_places::assign(alloc, line, place, v)?;
+    let set = check_lvalues::assign(alloc, line, place, v)?;
     Ok(crate::statements::alone(alloc, set)?)
 }
 
 /// The nodes of a variable's initializer by one value, which is a string or not: an assignment, refused as
-/// `c_places::assign`. An array is refused: BadArray, or what the value breaks.
+/// `check_lvalues::assign`. An array is refused: BadArray, or what the value breaks.
 #[tactic(auto, unfolding(crate::specs::Initializers::from_value))]
 pub fn from_value(
     alloc: Global,
@@ -141,20 +151,28 @@ pub fn element(
     Ok(lower(broken, value_breaks(&v, t)))
 }
 
-fn list_breaks(is_row: bool, broken: Option<FaultKind>) -> FaultKind
-    ensures { result ≡ spec.list_breaks is_row broken }
+fn list_breaks(is_row: bool, is_sized: bool, broken: Option<FaultKind>) -> FaultKind
+    ensures { result ≡ spec.list_breaks is_row is_sized broken }
 {
-    if is_row {
+    if is_row && is_sized {
         lowest(broken, FaultKind::BadArray)
+    } else if is_row {
+        FaultKind::BadArray
     } else {
         FaultKind::TypeMismatch
     }
 }
 
-/// A variable's initializer by a list of values, which break this; whether the variable is an array is said. Refused:
-/// TypeMismatch where it is none, else BadArray or what the values break.
-pub fn from_list(line: u32, is_row: bool, broken: Option<FaultKind>) -> Result<Items<Stmt>, Deny>
-    ensures { Checks result (spec.from_list line is_row broken) }
+/// A variable's initializer by a list of values, which break this; whether the variable is an array, and whether its type has
+/// a size, is said. Refused: TypeMismatch where it is none, BadArray where it has no size, else BadArray or what the values
+/// break.
+pub fn from_list(
+    line: u32,
+    is_row: bool,
+    is_sized: bool,
+    broken: Option<FaultKind>,
+) -> Result<Items<Stmt>, Deny>
+    ensures { Checks result (spec.from_list line is_row is_sized broken) }
 {
-    refused(list_breaks(is_row, broken), line)
+    refused(list_breaks(is_row, is_sized, broken), line)
 }

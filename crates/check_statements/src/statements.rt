@@ -5,9 +5,9 @@ ghost use Rattle.tick_tree.specs.Faults.{Checks};
 ghost use Rattle.check_tables.specs.Walks.{Reads};
 ghost use Rattle.check_statements.specs.Statements as spec;
 
-use c_constants::constant_value;
-use c_nodes::{Operand, effect, value_of};
-use check_state::{Around, Stage, State};
+use check_constants::constant_value;
+use check_env::{Around, Stage, State};
+use check_operators::{Operand, effect, value_of};
 use check_tables::Labels;
 use sqlite_items::{Boxed, Items};
 use std::alloc::{AllocError, Global};
@@ -68,7 +68,7 @@ pub fn alone(alloc: Global, o: Operand) -> Result<Items<Stmt>, AllocError>
     ensures { IfOk result (λ nodes. nodes ≡ spec.alone o) }
 {
     let code = effect(alloc, o)?;
-    one(alloc, Stmt::Expr(code))
+    one(alloc, Stmt::Eval(code))
 }
 
 fn body_node(alloc: Global, nodes: Items<Stmt>) -> Stmt
@@ -153,7 +153,7 @@ pub fn case_node(
     ensures { Reads (spec.case_node line o state.old) result state.new }
 {
     let code = effect(alloc, o)?;
-    labelled_case(alloc, state, line, constant_value(&code))
+    labelled_case(alloc, state, line, constant_value(code.get()))
 }
 
 /// `default`. Refused where it isn't directly an item of a switch's block: BadCase; where the switch has one already:
@@ -182,14 +182,14 @@ pub fn switch_entered(alloc: Global, state: &mut State) -> Result<Labels, Deny>
     Ok(mem::replace(&mut state.labels, Labels::new(alloc)))
 }
 
-fn condition_node(alloc: Global, line: u32, o: Operand) -> Result<Expr, Deny>
+fn condition_node(alloc: Global, line: u32, o: Operand) -> Result<Boxed<Expr>, Deny>
     ensures { Checks result (spec.condition_node line o) }
 {
     let v = value_of(alloc, o)?;
-    c_nodes::condition(line, v)
+    check_operators::condition(line, v)
 }
 
-/// `if` without `else`. Its test is refused as by `c_nodes::condition`.
+/// `if` without `else`. Its test is refused as by `check_operators::condition`.
 #[tactic(auto, unfolding(crate::specs::Statements::if_node))]
 pub fn if_node(alloc: Global, line: u32, o: Operand, body: Boxed<Stmt>) -> Result<Items<Stmt>, Deny>
     ensures { Checks result (spec.if_node line o body) }
@@ -198,7 +198,7 @@ pub fn if_node(alloc: Global, line: u32, o: Operand, body: Boxed<Stmt>) -> Resul
     checked(alloc, Stmt::If(test, body))
 }
 
-/// `if` with `else`. Its test is refused as by `c_nodes::condition`.
+/// `if` with `else`. Its test is refused as by `check_operators::condition`.
 #[tactic(auto, unfolding(crate::specs::Statements::if_else_node))]
 pub fn if_else_node(
     alloc: Global,
@@ -213,7 +213,7 @@ pub fn if_else_node(
     checked(alloc, Stmt::IfElse(test, a, b))
 }
 
-/// `while`. Its test is refused as by `c_nodes::condition`.
+/// `while`. Its test is refused as by `check_operators::condition`.
 #[tactic(auto, unfolding(crate::specs::Statements::while_node))]
 pub fn while_node(
     alloc: Global,
@@ -227,7 +227,7 @@ pub fn while_node(
     checked(alloc, Stmt::While(test, body))
 }
 
-/// `do`. Its test is refused as by `c_nodes::condition`.
+/// `do`. Its test is refused as by `check_operators::condition`.
 #[tactic(auto, unfolding(crate::specs::Statements::do_node))]
 pub fn do_node(alloc: Global, line: u32, body: Boxed<Stmt>, o: Operand) -> Result<Items<Stmt>, Deny>
     ensures { Checks result (spec.do_node line body o) }
@@ -236,34 +236,34 @@ pub fn do_node(alloc: Global, line: u32, body: Boxed<Stmt>, o: Operand) -> Resul
     checked(alloc, Stmt::Do(body, test))
 }
 
-fn for_condition(alloc: Global, line: u32, o: Option<Operand>) -> Result<Expr, Deny>
+fn for_condition(alloc: Global, line: u32, o: Option<Operand>) -> Result<Boxed<Expr>, Deny>
     ensures { Checks result (spec.for_condition line o) }
 {
     match o {
-        None => Ok(Expr::Const(1)),
+        None => Ok(Boxed::new(alloc, Expr::Const(1))?),
         Some(o) => condition_node(alloc, line, o),
     }
 }
 
 fn for_by(
     alloc: Global,
-    test: Expr,
+    test: Boxed<Expr>,
     step: Option<Operand>,
     body: Boxed<Stmt>,
-) -> Result<Stmt, AllocError>
+) -> Result<Boxed<Stmt>, AllocError>
     ensures { IfOk result (λ node. node ≡ spec.for_by test step body) }
 {
     match step {
-        None => Ok(Stmt::For(test, body)),
+        None => typed_tree::for_loop(alloc, test, body),
         Some(o) => {
             let step = effect(alloc, o)?;
-            Ok(Stmt::ForStep(test, step, body))
+            typed_tree::for_step(alloc, test, step, body)
         }
     }
 }
 
 /// A `for` behind its first part, with its test, which is 1 where it is absent, and its step. The test is refused as by
-/// `c_nodes::condition`.
+/// `check_operators::condition`.
 #[tactic(auto, unfolding(crate::specs::Statements::for_node))]
 pub fn for_node(
     alloc: Global,
@@ -271,21 +271,21 @@ pub fn for_node(
     test: Option<Operand>,
     step: Option<Operand>,
     body: Boxed<Stmt>,
-) -> Result<Stmt, Deny>
+) -> Result<Boxed<Stmt>, Deny>
     ensures { Checks result (spec.for_node line test step body) }
 {
     let test = for_condition(alloc, line, test)?;
     Ok(for_by(alloc, test, step, body)?)
 }
 
-fn switched_node(alloc: Global, line: u32, o: Operand) -> Result<Expr, Deny>
+fn switched_node(alloc: Global, line: u32, o: Operand) -> Result<Boxed<Expr>, Deny>
     ensures { Checks result (spec.switched_node line o) }
 {
     let v = value_of(alloc, o)?;
-    c_nodes::switched(line, v)
+    check_operators::switched(line, v)
 }
 
-/// A switch whose block has these variables and these items. Its value is refused as by `c_nodes::switched`.
+/// A switch whose block has these variables and these items. Its value is refused as by `check_operators::switched`.
 #[tactic(auto, unfolding(crate::specs::Statements::switch_node))]
 pub fn switch_node(
     alloc: Global,
@@ -306,17 +306,17 @@ fn returned_by(
     line: u32,
     stage: Stage,
     o: Operand,
-) -> Result<Expr, Deny>
+) -> Result<Boxed<Expr>, Deny>
     ensures { Checks result (spec.returned_by line stage o state.now) }
 {
     let v = value_of(alloc, o)?;
     match stage {
-        Stage::Function => c_places::returned(alloc, line, &state.frame.result, v),
-        Stage::Tick | Stage::Dollar => c_places::tick_returned(line, v),
+        Stage::Function => check_lvalues::returned(alloc, line, &state.frame.result, v),
+        Stage::Tick | Stage::Dollar => check_lvalues::tick_returned(line, v),
     }
 }
 
-/// `return` with its value, as `c_places::returned` in a function and `c_places::tick_returned` in a tick.
+/// `return` with its value, as `check_lvalues::returned` in a function and `check_lvalues::tick_returned` in a tick.
 #[tactic(auto, unfolding(crate::specs::Statements::return_node))]
 pub fn return_node(
     alloc: Global,

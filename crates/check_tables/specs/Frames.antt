@@ -4,8 +4,8 @@
 use Rattle.std.specs.Prelude.{ℕ, ◌+◌, ◌*◌, ◌/◌, min, Bool, true, false, ◌||◌, nat_lt, if◌then◌else◌, List, [], ◌∷◌, ◌++◌, length, slice_get, slice_set, Option, Some, None}
 use Rattle.c_types.specs.declared.ctype.CType.{CType}
 use Rattle.c_types.specs.Types.{layers_of, limited_size}
-use Rattle.c_declared.specs.Making.{is_array}
-use Rattle.c_shapes.specs.Shapes.{width_of, void}
+use Rattle.check_declarators.specs.Making.{is_array}
+use Rattle.check_types.specs.Shapes.{width_of, void}
 use Rattle.typed_tree.specs.declared.expression.Stmt.{Stmt}
 use Rattle.typed_tree.specs.declared.expression.Stmt.TheVariants as st
 use Rattle.check_tables.specs.declared.frame.Home.{Home}

@@ -1,11 +1,11 @@
 //! The function that the walk is in: its variables, and which of them need an address.
 
 ghost use Rattle.std.specs.Prelude.{◌≡◌, ◌+◌, min, OnOk, slice_get};
-ghost use Rattle.c_declared.specs.Making as making;
+ghost use Rattle.check_declarators.specs.Making as making;
 ghost use Rattle.check_tables.specs.Frames as spec;
 
-use c_shapes::width_of;
 use c_types::{Layer, Layers, TypeRef, limited_size};
+use check_types::width_of;
 use sqlite_items::Items;
 use std::alloc::{AllocError, Global};
 use std::mem;
@@ -91,7 +91,7 @@ impl Frame {
         ensures { result ≡ spec.new }
     {
         Frame {
-            result: c_shapes::void(alloc),
+            result: check_types::void(alloc),
             homes: Items::new(alloc),
             inner: 0,
             object: 0,
@@ -181,10 +181,9 @@ impl Frame {
     {
         let n = self.number();
         let at = self.object;
-        let node = Stmt::ParameterObject(n, width_of(t), at);
         self.homes.push(Home::Object(at))?;
         self.marks.push(false)?;
-        self.nodes.push(node)?;
+        self.nodes.push(Stmt::ParameterObject(n, width_of(t), at))?;
         self.object = after(at, 1);
         Ok(())
     }
@@ -193,10 +192,9 @@ impl Frame {
         ensures { OnOk result (self.new ≡ spec.register_parameter t.now self.old) }
     {
         let n = self.number();
-        let node = Stmt::Parameter(n, width_of(t));
         self.homes.push(Home::Register)?;
         self.marks.push(false)?;
-        self.nodes.push(node)?;
+        self.nodes.push(Stmt::Parameter(n, width_of(t)))?;
         Ok(())
     }
 

@@ -78,7 +78,7 @@ impl Functions {
     {
         let what = Meaning {
             kind: MeaningKind::Function,
-            ctype: c_shapes::void(alloc),
+            ctype: check_types::void(alloc),
             index: self.next(),
         };
         match self.defined.declare(name, what) {

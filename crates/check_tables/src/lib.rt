@@ -6,8 +6,6 @@ mod frame;
 mod functions;
 mod image;
 mod labels;
-#[cfg(test)]
-mod tests;
 mod ticks;
 
 pub use frame::{Frame, Home};

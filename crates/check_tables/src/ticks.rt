@@ -4,7 +4,7 @@ ghost use Rattle.std.specs.Prelude.{◌≡◌, IfOk, OnOk};
 ghost use Rattle.check_tables.specs.Ticks as spec;
 
 use crate::frame::count;
-use sqlite_items::Items;
+use sqlite_items::{Boxed, Items};
 use std::alloc::{AllocError, Global};
 use std::mem;
 use typed_tree::{CaptureKind, Expr, Tick, TickBody, body_size};
@@ -43,13 +43,14 @@ impl Ticks {
         &mut self,
         alloc: Global,
         kind: CaptureKind,
-        code: Expr,
+        code: Boxed<Expr>,
     ) -> Result<u32, AllocError>
         ensures place { IfOk result (λ n. n ≡ spec.place self.old) }
         ensures after { OnOk result (self.new ≡ spec.captured kind code self.old) }
     {
         let n = count(self.captures.len());
-        self.captures.push(typed_tree::capture(alloc, kind, code)?)?;
+        let node = typed_tree::capture(alloc, kind, code)?;
+        self.captures.push(node.into_inner())?;
         Ok(n)
     }
 
@@ -61,13 +62,13 @@ impl Ticks {
     }
 
     /// Leaves a tick of this body; the node that makes its specification.
-    pub fn leave(&mut self, alloc: Global, body: TickBody) -> Result<Expr, AllocError>
+    pub fn leave(&mut self, alloc: Global, body: TickBody) -> Result<Boxed<Expr>, AllocError>
         ensures node { IfOk result (λ e. e ≡ spec.node self.old) }
         ensures after { OnOk result (self.new ≡ spec.left body self.old) }
     {
         let n = count(self.all.len());
         let captures = mem::replace(&mut self.captures, Items::new(alloc));
         self.all.push(tick_of(body))?;
-        Ok(Expr::Tick(n, captures))
+        Boxed::new(alloc, Expr::Tick(n, captures))
     }
 }

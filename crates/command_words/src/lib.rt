@@ -3,8 +3,6 @@
 
 mod arguments;
 mod command;
-#[cfg(test)]
-mod tests;
 
 pub use command::{Command, command_of};
 

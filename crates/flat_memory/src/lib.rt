@@ -9,6 +9,3 @@ mod memory;
 pub use access::Access;
 pub use memory::Memory;
 pub use word32::Width;
-
-#[cfg(test)]
-mod tests;

@@ -18,8 +18,6 @@ mod sink;
 mod source;
 mod std_streams;
 mod store;
-#[cfg(test)]
-mod tests;
 mod whole;
 
 pub use ending::{Counts, Ending, MachineKind, TrapKind};

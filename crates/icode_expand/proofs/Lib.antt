@@ -5,6 +5,5 @@ pub mod Lengths
 pub mod Placed
 pub mod Spliced
 pub mod Written
-pub mod Return
 pub mod Most
 pub mod Kept

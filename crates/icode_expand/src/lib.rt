@@ -12,8 +12,6 @@ mod labels;
 mod laws;
 mod output;
 mod saved;
-#[cfg(test)]
-mod tests;
 
 use crate::frame::Frame;
 use crate::labels::place_labels;

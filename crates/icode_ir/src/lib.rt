@@ -8,8 +8,6 @@ mod draft;
 mod emit;
 mod key_table;
 mod label_table;
-#[cfg(test)]
-mod tests;
 
 pub use body::Body;
 pub use build_op::{BuildFault, BuildOp, NotEmpty};

@@ -5,4 +5,3 @@ pub mod Reaching
 pub mod Writing
 pub mod Starting
 pub mod Sorting
-pub mod TestRows

@@ -1,14 +1,39 @@
 -- What each op costs in instructions, the least and the most: the bounds of its template, where each register that it
 -- names stands in a far slot. A call pays for the prologue of the function that it enters, and a return for the
 -- epilogue, and for the exit behind `main`. Nothing here says how the templates look; that they keep to these bounds
--- is proved of them. A label costs nothing, and every other op one instruction at least.
+-- is proved of them. A label costs nothing.
 use Rattle.std.specs.Prelude.{ℕ, ◌+◌, ◌*◌}
 use Rattle.icode_ops.specs.declared.op.Op.{Op}
 use Rattle.icode_ops.specs.declared.op.Op.TheVariants.{Const, Move, Bin, CheckDivision, CheckZero, Un, FrameAddress, Load, Store, Clear, Label, Jump, BranchZero, BranchNonzero, Argument, GetParameter, Call, CallNumber, Result, Return, ReturnZero, Sys, Run, New, Put}
 
+-- An operand from a register takes 1 instruction, and so does a result. An op that traps, or ends the run, pays too, so the
+-- least of a check, an access, a call or a service is that of its shortest way to its trap or end.
 abbrev pub least_of : Op → ℕ
+least_of (Const to word) = 3
+least_of (Move to from) = 2
+least_of (Bin kind to left right) = 4
+least_of (CheckDivision left right) = 5
+least_of (CheckZero divisor) = 3
+least_of (Un kind to from) = 3
+least_of (FrameAddress to offset) = 4
+least_of (Load width to address) = 6
+least_of (Store width address value) = 7
+least_of (Clear offset words) = 6
 least_of (Label label) = 0
-least_of _ = 1
+least_of (Jump label) = 2
+least_of (BranchZero test label) = 3
+least_of (BranchNonzero test label) = 3
+least_of (Argument index from) = 2
+least_of (GetParameter to index) = 3
+least_of (Call address) = 10
+least_of (CallNumber function count) = 5
+least_of (Result to) = 2
+least_of (Return from) = 10
+least_of ReturnZero = 9
+least_of (Sys kind to from) = 4
+least_of (Run routine to from) = 8
+least_of (New to address kind captures) = 11
+least_of (Put index from) = 5
 
 -- an operand from a far slot takes 4 instructions, two take 7, and a result 3
 abbrev pub most_of : Op → ℕ
@@ -21,7 +46,7 @@ most_of (Un kind to from) = 9
 most_of (FrameAddress to offset) = 6
 most_of (Load width to address) = 14
 most_of (Store width address value) = 13
-most_of (Clear offset words) = 6 + 4 * words
+most_of (Clear offset words) = 6
 most_of (Label label) = 0
 most_of (Jump label) = 2
 most_of (BranchZero test label) = 8
@@ -38,3 +63,7 @@ most_of (Sys kind to from) = 11
 most_of (Run routine to from) = 75
 most_of (New to address kind captures) = 75
 most_of (Put index from) = 8
+
+-- a word that a Clear sets to 0 is a step of its own: the four instructions of its loop
+abbrev pub word_cost : ℕ
+word_cost = 4

@@ -1,3 +1,4 @@
 pub mod Costs
 pub mod State
 pub mod Steps
+pub mod Functions

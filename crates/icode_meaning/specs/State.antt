@@ -5,7 +5,7 @@ use Rattle.std.specs.Prelude.{ℕ, Bool, List, Option, Some, None, nat_eq, if◌
 use Rattle.pace.specs.Pace.{Seen}
 use Rattle.history.specs.Events.{Item, End}
 use Rattle.icode_ops.specs.declared.op.Op.{Op}
-use Rattle.run_state.specs.Shared.{Shared}
+use Rattle.meaning_state.specs.Shared.{Shared}
 
 -- a function: the address where it stands, its ops, its charge and the bytes of its frame objects, and whether it was
 -- compiled during the run
@@ -41,6 +41,8 @@ pub record Log : Type 0 where
 -- ended. Stuck is what no code of the lowering comes to.
 pub data State : Type 0 where
   Running : Frame → (arguments : ℕ → Option ℕ) → (answer : Option ℕ) → List Frame → Log → State
+  -- the word at an address is set to 0, and so many behind it; then the call goes on at its next op
+  Zeroing : (more address : ℕ) → Frame → List Frame → Log → State
   Halted : End → Log → State
   Stuck : Log → State
 
@@ -54,11 +56,13 @@ argued k x arguments j = if nat_eq j k then Some x else arguments j
 
 abbrev pub log_of : State → Log
 log_of (Running frame arguments answer waiting log) = log
+log_of (Zeroing more address frame waiting log) = log
 log_of (Halted end log) = log
 log_of (Stuck log) = log
 
 abbrev pub ending_of : State → Option End
 ending_of (Running frame arguments answer waiting log) = None
+ending_of (Zeroing more address frame waiting log) = None
 ending_of (Halted end log) = Some end
 ending_of (Stuck log) = None
 

@@ -1,5 +1,5 @@
--- The steps of the staged machine: one op each. A machine that has ended stays so, and so does one that is stuck.
--- Routines of the run-time library, closures and putint are still to come; their ops are stuck until then.
+-- The steps of the staged machine: one op each, and one for each word that a Clear sets. A machine that has ended stays
+-- so, and so does one that is stuck. Ticks and compile are still to come; their ops are stuck until then.
 use Rattle.std.specs.Prelude.{ℕ, zero, suc, ◌+◌, ◌%◌, Bool, true, false, ◌&&◌, List, [], ◌∷◌, Option, Some, None, nat_eq, if◌then◌else◌, slice_get}
 use Rattle.word32.specs.Words.{wrap}
 use Rattle.word32.specs.Space.{update}
@@ -8,13 +8,15 @@ use Rattle.host_edge.specs.declared.ending.TrapKind.{TrapKind}
 use Rattle.host_edge.specs.declared.ending.TrapKind.TheVariants.{BadCall}
 use Rattle.history.specs.Events.{Ended, ReadFault}
 use Rattle.icode_ops.specs.declared.op.Op.{Op}
-use Rattle.icode_ops.specs.declared.op.Op.TheVariants.{Const, Move, Bin, CheckDivision, CheckZero, Un, FrameAddress, Load, Store, Clear, Label, Jump, BranchZero, BranchNonzero, Argument, GetParameter, Call, CallNumber, Result, Return, ReturnZero, Sys}
-use Rattle.icode_ops.specs.declared.kind.SysKind.TheVariants.{PutByte, GetByte, Exit}
+use Rattle.icode_ops.specs.declared.op.Op.TheVariants.{Const, Move, Bin, CheckDivision, CheckZero, Un, FrameAddress, Load, Store, Clear, Label, Jump, BranchZero, BranchNonzero, Argument, GetParameter, Call, CallNumber, Result, Return, ReturnZero, Sys, Run}
+use Rattle.icode_ops.specs.declared.kind.SysKind.TheVariants.{PutInteger, PutByte, GetByte, Exit}
+use Rattle.icode_ops.specs.declared.kind.RunKind.TheVariants as run
 use Rattle.icode_ops.specs.Flow.{first_use, second_use, label_of, holds}
-use Rattle.run_state.specs.Operators.{bin_value, un_value, signed_trap, zero_trap}
-use Rattle.run_state.specs.Shared.{Shared, byte_answer, put_byte, Read, Got, Failed, get_byte, access_trap, loaded, stored, are_objects, zeroed, frame_start, limit_trap, charged, discharged}
-use Rattle.icode_meaning.specs.Costs.{least_of, most_of}
-use Rattle.icode_meaning.specs.State.{Function, Program, Frame, Log, State, Running, Halted, Stuck, nothing, argued}
+use Rattle.meaning_state.specs.Operators.{bin_value, un_value, signed_trap, zero_trap}
+use Rattle.meaning_state.specs.Shared.{Shared, Specification, Local, Param, byte_answer, put_byte, put_number, malloc_answer, malloc, Read, Got, Failed, get_byte, access_trap, loaded, stored, are_objects, zeroed, frame_start, limit_trap, charged, discharged}
+use Rattle.meaning_state.specs.Rows.{closure_trap, index_trap, next_number, specified}
+use Rattle.icode_meaning.specs.Costs.{least_of, most_of, word_cost}
+use Rattle.icode_meaning.specs.State.{Function, Program, Frame, Log, State, Running, Zeroing, Halted, Stuck, nothing, argued}
 
 -- the place of a label: the first op that is it
 abbrev pub label_index : ℕ → List Op → ℕ
@@ -114,6 +116,12 @@ abbrev pub take : Read → ℕ → Frame → List Frame → Log → State
 take (Got x shared) to frame waiting log = goes_on (set to x frame) waiting (sharing shared log)
 take Failed to frame waiting log = Halted ReadFault log
 
+-- a variable of generated code is specified, where there is room for its closure
+abbrev pub specifies : Specification → ℕ → Frame → List Frame → Log → State
+specifies specification to frame waiting log =
+    unless (closure_trap 0 log.shared) log
+    (goes_on (set to (next_number log.shared) frame) waiting (sharing (specified specification 0 log.shared) log))
+
 -- where control goes by a test
 abbrev pub branch : ℕ → ℕ → ℕ → ℕ
 branch zero at_nothing on_other = at_nothing
@@ -124,6 +132,24 @@ target label frame = label_index label frame.function.ops
 
 abbrev pub address_of : ℕ → Frame → Log → ℕ
 address_of offset frame log = wrap (frame_start frame.function.object log.shared + offset)
+
+-- words begin to be set to 0; the loop has its test at its end, so there is none of no words
+abbrev pub zeroing : ℕ → ℕ → Frame → List Frame → Log → State
+zeroing zero address frame waiting log = Stuck log
+zeroing (suc more) address frame waiting log = Zeroing more address frame waiting log
+
+-- a word is set to 0
+abbrev pub word_zeroed : ℕ → Log → Log
+word_zeroed address log = record log {
+  shared = zeroed address 1 log.shared;
+  least = log.least + word_cost;
+  most = log.most + word_cost;
+}
+
+-- behind a word
+abbrev pub zeroed_on : ℕ → ℕ → Frame → List Frame → Log → State
+zeroed_on zero address frame waiting log = goes_on (moved_on frame) waiting log
+zeroed_on (suc more) address frame waiting log = Zeroing more (address + 4) frame waiting log
 
 -- one op
 abbrev pub act : Program → Op → Frame → (ℕ → Option ℕ) → Option ℕ → List Frame → Log → State
@@ -152,8 +178,7 @@ act program (Store width a v) frame arguments answer waiting log =
     (sharing (stored (frame.values a) width (frame.values v) log.shared) (paid (Store width a v) log)))
 act program (Clear offset words) frame arguments answer waiting log =
     if are_objects (address_of offset frame log) words
-    then goes_on (moved_on frame) waiting
-    (sharing (zeroed (address_of offset frame log) words log.shared) (paid (Clear offset words) log))
+    then zeroing words (address_of offset frame log) frame waiting (paid (Clear offset words) log)
     else Stuck log
 act program (Label label) frame arguments answer waiting log =
     goes_on (moved_on frame) waiting (paid (Label label) log)
@@ -177,6 +202,9 @@ act program (Result to) frame arguments answer waiting log = set_from (Result to
 act program (Return from) frame arguments answer waiting log =
     back (frame.values from) waiting (left frame.function (paid (Return from) log))
 act program ReturnZero frame arguments answer waiting log = back 0 waiting (left frame.function (paid ReturnZero log))
+act program (Sys PutInteger to from) frame arguments answer waiting log =
+    goes_on (set to (frame.values from) frame) waiting
+    (sharing (put_number (frame.values from) log.shared) (paid (Sys PutInteger to from) log))
 act program (Sys PutByte to from) frame arguments answer waiting log =
     goes_on (set to (byte_answer (frame.values from)) frame) waiting
     (sharing (put_byte (frame.values from) log.shared) (paid (Sys PutByte to from) log))
@@ -184,6 +212,14 @@ act program (Sys GetByte to from) frame arguments answer waiting log =
     take (get_byte log.shared) to frame waiting (paid (Sys GetByte to from) log)
 act program (Sys Exit to from) frame arguments answer waiting log =
     Halted (Ended (Done (frame.values from % 256))) (paid (Sys Exit to from) log)
+act program (Run run.Malloc to from) frame arguments answer waiting log =
+    goes_on (set to (malloc_answer (frame.values from) log.shared) frame) waiting
+    (sharing (malloc (frame.values from) log.shared) (paid (Run run.Malloc to from) log))
+act program (Run run.Local to from) frame arguments answer waiting log =
+    specifies Local to frame waiting (paid (Run run.Local to from) log)
+act program (Run run.Parameter to from) frame arguments answer waiting log =
+    unless (index_trap (frame.values from)) (paid (Run run.Parameter to from) log)
+    (specifies (Param (frame.values from)) to frame waiting (paid (Run run.Parameter to from) log))
 act program _ frame arguments answer waiting log = Stuck log
 
 -- an op that uses a register that is not set is stuck, and so is a call behind its last op
@@ -196,6 +232,8 @@ checked program (Some o) frame arguments answer waiting log =
 abbrev pub advance : Program → State → State
 advance program (Running frame arguments answer waiting log) =
     checked program (slice_get frame.function.ops frame.index) frame arguments answer waiting log
+advance program (Zeroing more address frame waiting log) =
+    zeroed_on more address frame waiting (word_zeroed address log)
 advance program (Halted end log) = Halted end log
 advance program (Stuck log) = Stuck log
 

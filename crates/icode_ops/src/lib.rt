@@ -6,8 +6,6 @@ mod bounded;
 mod interval;
 mod kind;
 mod op;
-#[cfg(test)]
-mod tests;
 
 pub use bounded::{ArgumentCount, ArgumentIndex, CallAddress, CaptureIndex};
 pub use interval::Interval;

@@ -10,8 +10,6 @@ mod services;
 mod snippet;
 mod spot;
 mod template;
-#[cfg(test)]
-mod tests;
 
 pub use snippet::Snippet;
 pub use spot::Layout;

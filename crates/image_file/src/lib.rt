@@ -12,6 +12,3 @@ pub use fault::{ImageDeny, ImageFault};
 pub use image::{FunctionEntry, Image};
 pub use reader::read;
 pub use writer::write;
-
-#[cfg(test)]
-mod tests;

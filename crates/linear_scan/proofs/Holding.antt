@@ -8,10 +8,10 @@ use Rattle.std.proofs.lemmas.Bool.{cases_lt}
 use Rattle.linked_row.specs.Sorted.{SortedList, has, without, insert as insert_entry}
 use Rattle.linked_row.specs.Sorted.{last_of as last_pair}
 use Rattle.icode_ops.specs.declared.interval.Interval.{Interval}
-use Rattle.scan_places.specs.Scan.{Keeper, ScanState, alive, insert, numbers, least_free, last_of, but_last, keep, visit, place}
-use Rattle.scan_places.specs.Lists.{Each, Pairs}
-use Rattle.scan_places.proofs.Keepers.{Each-weaker, Each-both, Each-alive, Each-insert, Each-but_last, Each-last, Pairs-alive, Pairs-but_last, Pairs-insert, Ordered, Ordered-insert, length-alive, length-insert, length-but_last}
-use Rattle.scan_places.proofs.Free.{least_free-free, is-free}
+use Rattle.linear_scan_spec.specs.Scan.{Keeper, ScanState, alive, insert, numbers, least_free, last_of, but_last, keep, visit, place}
+use Rattle.linear_scan_spec.specs.Lists.{Each, Pairs}
+use Rattle.linear_scan_spec.proofs.Keepers.{Each-weaker, Each-both, Each-alive, Each-insert, Each-but_last, Each-last, Pairs-alive, Pairs-but_last, Pairs-insert, Ordered, Ordered-insert, length-alive, length-insert, length-but_last}
+use Rattle.linear_scan_spec.proofs.Free.{least_free-free, is-free}
 use Rattle.linear_scan.specs.Held.{ids, from_end, ApartIds, pairs, Holds, IsFresh}
 use Rattle.linear_scan.proofs.Pairs.{without-first, has-ids}
 

@@ -1,4 +1,3 @@
 pub mod Pairs
 pub mod Holding
 pub mod Visiting
-pub mod Ascents

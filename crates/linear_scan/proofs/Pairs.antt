@@ -3,8 +3,8 @@ use Rattle.std.proofs.Common.{ℕ, zero, suc, ◌+◌, ◌-◌, ◌≡◌, ◌�
 use Rattle.std.proofs.lemmas.Bool.Decides.{nat_tests}
 use Rattle.std.specs.List.{list_any}
 use Rattle.linked_row.specs.Sorted.{has, without, first_of}
-use Rattle.scan_places.specs.Scan.{least_free}
-use Rattle.scan_places.specs.Lists.{Each}
+use Rattle.linear_scan_spec.specs.Scan.{least_free}
+use Rattle.linear_scan_spec.specs.Lists.{Each}
 use Rattle.linear_scan.specs.Held.{ids, from_end, ApartIds}
 
 pub without-other : (id : ℕ) (ps : List (ℕ × ℕ)) → Each (λ q. id ≢ q.0) ps → without id ps ≡ ps

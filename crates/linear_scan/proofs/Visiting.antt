@@ -3,16 +3,16 @@ use Rattle.std.proofs.Common.{ℕ, ◌≡◌, ◌≢◌, ◌<◌, ◌≤◌, Boo
 use Rattle.std.proofs.lemmas.Bool.Decides.{nat_tests}
 use Rattle.linked_row.specs.Sorted.{SortedList, without, first_of}
 use Rattle.icode_ops.specs.declared.interval.Interval.{Interval}
-use Rattle.scan_places.specs.Scan.{Keeper, ScanState, alive, last_of, but_last, keep, crowd, visit, visit_all, scan, place, places_of}
-use Rattle.scan_places.specs.Lists.{Each}
-use Rattle.scan_places.proofs.Keepers.{Each-In, Each-both, Each-insert}
+use Rattle.linear_scan_spec.specs.Scan.{Keeper, ScanState, alive, last_of, but_last, keep, crowd, visit, visit_all, scan, place, places_of}
+use Rattle.linear_scan_spec.specs.Lists.{Each}
+use Rattle.linear_scan_spec.proofs.Keepers.{Each-In, Each-both, Each-insert}
 use Rattle.linear_scan.specs.Held.{Holds, IsFresh}
 use Rattle.linear_scan.proofs.Holding.{living, fresh-living, fresh-dropping, dropping}
-use Rattle.scan_places.proofs.Order.{InOrder, in-any, each-any}
-use Rattle.scan_places.proofs.Lists.{are-places_of, get-places_of}
-use Rattle.scan_places.proofs.Legals.{places-are-legal}
-use Rattle.scan_places.proofs.Crowding.{spills-are-crowded}
-use Rattle.scan_places.specs.Laws.{AreScannable, IsCrowded}
+use Rattle.linear_scan_spec.proofs.Order.{InOrder, in-any, each-any}
+use Rattle.linear_scan_spec.proofs.Lists.{are-places_of, get-places_of}
+use Rattle.linear_scan_spec.proofs.Legals.{places-are-legal}
+use Rattle.linear_scan_spec.proofs.Crowding.{spills-are-crowded}
+use Rattle.linear_scan_spec.specs.Laws.{AreScannable, IsCrowded}
 use Rattle.icode_ops.specs.declared.op.Op.{Op}
 use Rattle.icode_ops.specs.Live.{AreIntervals}
 use Rattle.icode_ops.specs.Live.{In as InIntervals, Each as EachInterval}

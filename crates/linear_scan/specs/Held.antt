@@ -4,8 +4,8 @@ use Rattle.std.specs.Prelude.{ℕ, ◌≡◌, ◌≢◌, ◌<◌, ◌≤◌, nat
 use Rattle.std.specs.List.{list_any}
 use Rattle.linked_row.specs.Sorted.{SortedList}
 use Rattle.icode_ops.specs.declared.interval.Interval.{Interval}
-use Rattle.scan_places.specs.Lists.{Each, Pairs}
-use Rattle.scan_places.specs.Scan.{Keeper, ScanState, place}
+use Rattle.linear_scan_spec.specs.Lists.{Each, Pairs}
+use Rattle.linear_scan_spec.specs.Scan.{Keeper, ScanState, place}
 
 -- the ids of a row
 abbrev pub ids : List (ℕ × ℕ) → List ℕ

@@ -1,7 +1,7 @@
 //! Linear scan register allocation: the places of virtual registers, from their intervals.
 //!
 //! The scan is that of Poletto and Sarkar (Linear Scan Register Allocation, TOPLAS 21(5), 1999) with a row of the
-//! active intervals by their ends. The definition of the places and the laws stand in the crate `scan_places`.
+//! active intervals by their ends. The definition of the places and the laws stand in the crate `linear_scan_spec`.
 #![tactic(auto)]
 
 ghost use Rattle.std.specs.Prelude.{◌≡◌, ◌≢◌, ℕ, ◌<◌, ◌≤◌, length, Some, [], ◌∷◌, slice_index, List};
@@ -9,9 +9,9 @@ ghost use Rattle.icode_ops.specs.Live.{In as InIntervals, Each as EachInterval, 
 ghost use Rattle.icode_ops.specs.Places.{IsLegal};
 ghost use Rattle.icode_ops.specs.declared.op.Op.{Op};
 ghost use Rattle.icode_ops.specs.declared.interval.Interval.{Interval as SpecInterval};
-ghost use Rattle.scan_places.specs.Lists.{Each};
-ghost use Rattle.scan_places.specs.Scan.{Keeper, ScanState, least_free, last_of, but_last, keep, visit, places_of};
-ghost use Rattle.scan_places.specs.Laws.{AreScannable, IsCrowded};
+ghost use Rattle.linear_scan_spec.specs.Lists.{Each};
+ghost use Rattle.linear_scan_spec.specs.Scan.{Keeper, ScanState, least_free, last_of, but_last, keep, visit, places_of};
+ghost use Rattle.linear_scan_spec.specs.Laws.{AreScannable, IsCrowded};
 ghost use Rattle.linear_scan.specs.Held.{ids, from_end, ApartIds, Holds, IsFresh};
 
 use icode_ops::Interval;
@@ -163,47 +163,5 @@ fn empty(keepers: &mut Row)
 {
     while let Some((number, _)) = keepers.first() {
         keepers.remove(number);
-    }
-}
-
-#[cfg(test)]
-mod tests {
-    use super::*;
-
-    // The interval of a register that begins at the op of its number.
-    macro_rules! nested {
-        ($reg:literal, $end:literal) => {
-            Interval {
-                reg: $reg,
-                start: $reg,
-                end: $end,
-            }
-        };
-    }
-
-    #[test]
-    fn thirteenth_interval_is_spilled(rt: HostRuntime) -> Result<(), AllocError> {
-        let mut scanner = Scanner::new(rt.alloc())?;
-        let mut places = [0; 14];
-        let intervals = [
-            nested!(0, 40),
-            nested!(1, 39),
-            nested!(2, 38),
-            nested!(3, 37),
-            nested!(4, 36),
-            nested!(5, 35),
-            nested!(6, 34),
-            nested!(7, 33),
-            nested!(8, 32),
-            nested!(9, 31),
-            nested!(10, 30),
-            nested!(11, 29),
-            nested!(12, 28),
-        ];
-        scanner.scan(&intervals, &mut places);
-        assert_eq!(rt; places, [12, 1, 2, 3, 4, 5, 6, 7, 8, 9, 10, 11, 0, 12]);
-        scanner.scan(&intervals[0..12], &mut places);
-        assert_eq!(rt; places, [0, 1, 2, 3, 4, 5, 6, 7, 8, 9, 10, 11, 12, 12]);
-        Ok(())
     }
 }

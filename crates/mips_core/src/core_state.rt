@@ -1,11 +1,12 @@
 //! The registers, the memory and the control of a machine.
 
-ghost use Rattle.std.specs.Prelude.{◌≡◌, ◌+◌, ◌-◌, ◌*◌, ◌/◌, ◌%◌, ◌<◌, ◌≤◌, ℕ, true, false, IfOk, IfSome, Ok, Err, None, Some, []};
+ghost use Rattle.std.specs.Prelude.{◌≡◌, ◌+◌, ◌-◌, ◌*◌, ◌/◌, ◌%◌, ◌<◌, ◌≤◌, ℕ, true, false, length, map, IfOk, IfSome, Ok, Err, None, Some, []};
 ghost use Rattle.flat_memory.specs.Regions.{spaces_of};
 ghost use Rattle.code_arena.specs.Kept.{arena_of, rows_of};
+ghost use Rattle.code_arena.specs.Rows as rows;
 ghost use Rattle.image_file.specs.Image.{IsImage};
 ghost use Rattle.mips_model.specs.State as model;
-ghost use Rattle.mips_model.specs.Run.{first_state};
+ghost use Rattle.mips_model.specs.Run.{first_state, row_of};
 ghost use Rattle.mips_model.specs.Steps as steps;
 ghost use Rattle.mips_core.specs.Core as spec;
 ghost use Rattle.mips_core.specs.Core.{state_of, data_of, world_of};
@@ -14,7 +15,7 @@ use crate::halt::{Halt, Went};
 use code_arena::{CodeArena, FunctionRows};
 use flat_memory::Memory;
 use host_edge::{Ending, MachineKind};
-use image_file::Image;
+use image_file::{FunctionEntry, Image};
 use mips_encoder::Register;
 use std::alloc::{AllocError, Global};
 use std::marker::Model;
@@ -76,6 +77,21 @@ impl Model for Core {
     }) × ((slice_index m.registers 0 ≡ 0) × IsSettled m.pending m.slot m.loaded m.recent) };
 }
 
+/// The function table in which functions are the rows from 1 on, in their order, and no other is published.
+///
+/// # Errors
+/// Where memory is wanting.
+fn numbered(alloc: Global, functions: &[FunctionEntry]) -> Result<FunctionRows, AllocError>
+    requires { length functions.now ≤ 65535 }
+    ensures { IfOk result (λ t. rows_of t ≡ rows.numbered (map row_of functions.now)) }
+{
+    let mut table = FunctionRows::new(alloc)?;
+    for (i, function) in functions.iter().enumerate() {
+        table.set(i as u32 + 1, function.address, function.count);
+    }
+    Ok(table)
+}
+
 impl Core {
     /// The machine in its first state. It takes all the memory that it ever needs.
     ///
@@ -87,7 +103,7 @@ impl Core {
     {
         let memory = Memory::new(alloc, image.text(), image.bytes())?;
         let arena = CodeArena::new(alloc)?;
-        let table = FunctionRows::new(alloc)?;
+        let table = numbered(alloc, image.functions())?;
         Ok(Core::begun(image.entry(), memory, arena, table))
     }
 

@@ -18,6 +18,3 @@ pub use instruction::{
 };
 pub use operand::{BreakCode, Immediate, JumpTarget, LinkPair, LinkSource, ShiftAmount};
 pub use register::Register;
-
-#[cfg(test)]
-mod tests;

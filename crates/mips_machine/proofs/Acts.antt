@@ -7,13 +7,13 @@ use Rattle.host_edge.specs.declared.ending.Ending.TheVariants.{Done}
 use Rattle.host_edge.specs.declared.ending.MachineKind.{MachineKind}
 use Rattle.host_edge.specs.declared.ending.MachineKind.TheVariants as kind
 use Rattle.code_arena.specs.Arena.{flushed}
-use Rattle.history.specs.Events.{Item, In, End, Input}
+use Rattle.history.specs.Events.{Item, In, End, Input, next_byte, number_bytes}
 use Rattle.history.specs.Events as event
 use Rattle.mips_encoder.specs.declared.instruction.Instr.TheVariants.{Syscall}
 use Rattle.mips_model.specs.declared.service.Service.{Service}
 use Rattle.mips_model.specs.declared.service.Service.TheVariants.{PutInt, Exit, PutByte, GetByte, Flush}
 use Rattle.mips_model.specs.Accesses.{Changes, Faults, arena_word}
-use Rattle.mips_model.specs.Services.{service_of, serve, got, read_from, is_arena_range, number_bytes, answer, with_outside}
+use Rattle.mips_model.specs.Services.{service_of, serve, got, read, is_arena_range, answer, with_outside}
 use Rattle.mips_model.specs.Steps.{found, word_at, faulted, apply, act, execute, checked, step}
 use Rattle.mips_model.specs.Beside.{is_service, is_at_service}
 use Rattle.mips_core.specs.Core.{is_service_hazard}
@@ -106,10 +106,10 @@ module _ (old new : Progress) (at : is_at_service old.state ≡ true) where
 
     -- a read, by whether the end was read before
     get_is : (b : Bool) → is_at_end old ≡ b → service_of (number old) ≡ Some GetByte → (rest : Input) (said : List Item)
-        → step (world old rest said None) ≡ apply (if b then got 4294967295 true rest (world old rest said None).state.d else read_from rest.bytes rest.failing (world old rest said None).state.d) (old.state.recent - 1) (world old rest said None).state
+        → step (world old rest said None) ≡ apply (if b then got 4294967295 true rest (world old rest said None).state.d else read (next_byte rest) (world old rest said None).state.d) (old.state.recent - 1) (world old rest said None).state
     get_is b ends is rest said =
         served quiet (Some GetByte) is rest said
-        ∙ ap (λ (x : Bool). apply (if x then got 4294967295 true rest (world old rest said None).state.d else read_from rest.bytes rest.failing (world old rest said None).state.d) (old.state.recent - 1) (world old rest said None).state) ends
+        ∙ ap (λ (x : Bool). apply (if x then got 4294967295 true rest (world old rest said None).state.d else read (next_byte rest) (world old rest said None).state.d) (old.state.recent - 1) (world old rest said None).state) ends
 
     -- a byte leaves the end unread
     unread : (b : ℕ) (rest : Input) (said : List Item) → is_at_end old ≡ false
@@ -128,7 +128,11 @@ module _ (old new : Progress) (at : is_at_service old.state ≡ true) where
 
     is_get : service_of (number old) ≡ Some GetByte → IsGet old
     is_get is = record {
-      byte = λ ends b rest said. get_is false ends is (before (b ∷ []) rest) said ∙ unread b rest said ends;
+      byte = λ ends b lt rest said.
+          let whole : b % 256 ≡ b = omega (arith, lt) in
+          get_is false ends is (before (b ∷ []) rest) said
+          ∙ ap (λ v. apply (got v false rest (world old rest said None).state.d) (old.state.recent - 1) (world old rest said None).state) whole
+          ∙ unread b rest said ends;
       ended = λ rest said none. end_read (is_at_end old) refl is rest said none;
       failed = λ ends said. get_is false ends is (record { bytes = []; failing = true }) said;
     }

@@ -3,7 +3,7 @@ use Rattle.std.proofs.Common.{◌≡◌, ◌≢◌, inl, inr, ℕ, zero, suc, �
 use Rattle.std.specs.Io.KnownBytes.{Appends, Consumes}
 use Rattle.std.proofs.KnownBytes.{Consumes-nil, Consumes-trans, Appends-nil, Appends-trans}
 use Rattle.std.proofs.lemmas.Bool.{false≢true, cases_Bool, cases_lt}
-use Rattle.history.specs.Events.{Item, Out, In, End, Input, output, outs}
+use Rattle.history.specs.Events.{Item, Out, In, Made, Entered, End, Input, output, outs}
 use Rattle.mips_model.specs.State.{World}
 use Rattle.mips_model.specs.Steps.{step, run}
 use Rattle.mips_model.specs.Run.{steps_within}
@@ -18,6 +18,8 @@ pub output-++ : (a b : List Item) → output (a ++ b) ≡ output a ++ output b
 output-++ [] b = refl
 output-++ (Out x ∷ a) b = ap (λ (l : List ℕ). x ∷ l) (output-++ a b)
 output-++ (In x ∷ a) b = output-++ a b
+output-++ (Made f syntax ∷ a) b = output-++ a b
+output-++ (Entered f ∷ a) b = output-++ a b
 
 -- and the bytes that they took from the input
 read_on : (w : ℕ) (a b : List Item) (t : Bool) → bytes_read (a ++ b) ≡ bytes_read a ++ bytes_read b
@@ -29,6 +31,8 @@ pub bytes_read-++ : (a b : List Item) → bytes_read (a ++ b) ≡ bytes_read a +
 bytes_read-++ [] b = refl
 bytes_read-++ (Out x ∷ a) b = bytes_read-++ a b
 bytes_read-++ (In x ∷ a) b = read_on x a b (nat_eq x 4294967295) (bytes_read-++ a b)
+bytes_read-++ (Made f syntax ∷ a) b = bytes_read-++ a b
+bytes_read-++ (Entered f ∷ a) b = bytes_read-++ a b
 
 -- at the end already
 still_at_end : (a b c : Option (List ℕ)) (first second : List ℕ) → Consumes a b first → Consumes b c second → second ≡ [] → EndsFrom a b → EndsFrom a c
@@ -69,6 +73,7 @@ ran_none s left taken = record {
   at_end = λ e n. absurd (false≢true (sym n ∙ e));
   ran = λ rest said m. run_0 (world s rest said None) ∙ sym (ap (λ o. world s rest (o ++ []) None) (append-nil said) ∙ ap (λ o. world s rest o None) (append-nil said));
   alive = λ rest said m k lt. absurd (none k lt);
+  unended = λ r. absurd (cc);
   earlier = λ w. absurd (cc);
 }
 
@@ -92,6 +97,7 @@ ran_within le other f = record {
   at_end = f.at_end;
   ran = f.ran;
   alive = f.alive;
+  unended = f.unended;
   earlier = f.earlier;
 }
 
@@ -179,6 +185,7 @@ module _ {a b : ℕ} {old mid new : Progress} {left between later taken held tol
         ∙ s.ran rest (said ++ f.events) (follows_second rest m)
         ∙ ap (λ (l : List Item). world new rest (l ++ outs s.last) (ending_of stop)) (append_assoc said f.events s.events);
     alive = λ rest said m k lt. ⊎_elim (λ early. first_alive rest said m k early) (λ late. second_alive rest said m k late lt) (cases_lt k f.count);
+    unended = s.unended;
     earlier = λ w. let before_last = s.earlier w in (
       f.count + before_last.0,
       omega (arith, before_last.1),

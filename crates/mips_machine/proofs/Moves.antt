@@ -57,6 +57,7 @@ put_ran old new left taken told Steps bytes v is same puts = record {
       ∙ ap (λ (p : Progress). world p rest (said ++ outs bytes) None) (sym same)
       ∙ ap (λ (o : List Item). world new rest o None) (sym (append-nil (said ++ outs bytes)));
   alive = λ rest said m. alive_one (world old rest said None) refl;
+  unended = λ r. absurd (cc);
   earlier = λ w. absurd (cc);
 }
 put_ran old new left taken told WriteFault bytes v is same puts = record {
@@ -80,6 +81,7 @@ put_ran old new left taken told WriteFault bytes v is same puts = record {
       ∙ ap (λ (p : Progress). world p rest (said ++ outs bytes) None) (sym same)
       ∙ ap (λ (o : List Item). world new rest (o ++ outs bytes) None) (sym (append-nil said));
   alive = λ rest said m. alive_one (world old rest said None) refl;
+  unended = λ r. absurd (cc);
   earlier = λ w. (0, refl, λ rest said m. ap (λ (v : World). v.state.d.outside.history) (run_0 (world old rest said None)) ∙ sym (append-nil said));
 }
 put_ran old new left taken told (Ended e) bytes v is same puts = absurd puts
@@ -92,7 +94,7 @@ ends_from (Some x) b e = e
 
 -- what the service does that reads: the next byte, the end, a failing input, and nothing more behind the end
 pub record IsGet (old : Progress) : Type 0 where
-  pub byte : is_at_end old ≡ false → (b : ℕ) (rest : Input) (said : List Item)
+  pub byte : is_at_end old ≡ false → (b : ℕ) → b < 256 → (rest : Input) (said : List Item)
       → step (world old (before (b ∷ []) rest) said None) ≡ world (answered b old) rest (said ++ In b ∷ []) None
   pub ended : (rest : Input) (said : List Item) → (is_at_end old ≡ false → rest ≡ no_input)
       → step (world old rest said None) ≡ world (input_ended old) rest (said ++ In 4294967295 ∷ []) None
@@ -121,9 +123,10 @@ get_ran old new left later taken Steps g (inl took) = record {
   stays = λ h. absurd (false≢true (sym took.0 ∙ h));
   at_end = λ h n. absurd (false≢true (sym took.0 ∙ sym (ap is_at_end took.1.2) ∙ h));
   ran = λ rest said m.
-      run_1 (world old (before (took.1.0 ∷ []) rest) said None) ∙ g.byte took.0 took.1.0 rest said
+      run_1 (world old (before (took.1.0 ∷ []) rest) said None) ∙ g.byte took.0 took.1.0 took.1.1 rest said
       ∙ said_one new (answered took.1.0 old) rest said took.1.0 took.1.2;
   alive = λ rest said m. alive_one (world old (before (took.1.0 ∷ []) rest) said None) refl;
+  unended = λ r. absurd (cc);
   earlier = λ w. absurd (cc);
 }
 get_ran old new left later taken Steps g (inr ended) = record {
@@ -146,6 +149,7 @@ get_ran old new left later taken Steps g (inr ended) = record {
       run_1 (world old rest said None) ∙ g.ended rest said (m.ended (ap is_at_end ended.0))
       ∙ said_one new (input_ended old) rest said 4294967295 ended.0;
   alive = λ rest said m. alive_one (world old rest said None) refl;
+  unended = λ r. absurd (cc);
   earlier = λ w. absurd (cc);
 }
 get_ran old new left later taken ReadFault g failed = record {
@@ -173,6 +177,7 @@ get_ran old new left later taken ReadFault g failed = record {
       ∙ ap (λ (p : Progress). world p rest said (Some event.ReadFault)) (sym failed.1)
       ∙ said_all new rest said (Some event.ReadFault);
   alive = λ rest said m. alive_one (world old rest said None) refl;
+  unended = λ r. ap is_at_end failed.1 ∙ failed.0;
   earlier = λ w. absurd (cc);
 }
 get_ran old new left later taken (Ended e) g never = absurd never

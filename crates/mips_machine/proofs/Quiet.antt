@@ -40,5 +40,6 @@ quiet_ran old new left taken stop no_read no_write steps same is = record {
   at_end = λ h n. absurd (false≢true (sym n ∙ sym same ∙ h));
   ran = λ rest said m. run_1 (world old rest said None) ∙ is rest said ∙ said_all new rest said (ending_of stop);
   alive = λ rest said m. alive_one (world old rest said None) refl;
+  unended = λ r. absurd (no_read r);
   earlier = λ w. absurd (no_write w);
 }

@@ -64,6 +64,7 @@ stretch_ran count old new left taken stop no_read no_write on g s is = record {
   alive = λ rest said m k lt.
       ap (λ (w : World). (iterate step k w).ending) (sym (world_is old rest said None (ap ending_from on)))
       ∙ g.alive (with old rest said) k lt;
+  unended = λ r. absurd (no_read r);
   earlier = λ w. absurd (no_write w);
 }
 

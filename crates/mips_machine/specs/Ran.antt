@@ -4,7 +4,7 @@
 use Rattle.std.specs.Prelude.{◌≡◌, ◌≢◌, ℕ, ◌+◌, ◌≤◌, ◌<◌, true, false, List, [], ◌∷◌, ◌++◌, length, take, Option, Some, None, nat_eq, if◌then◌else◌, ⊤}
 use Rattle.std.specs.Io.KnownBytes.{Appends, Consumes, IsAtEnd}
 use Rattle.host_edge.specs.Causes.{Rose}
-use Rattle.history.specs.Events.{Item, Out, In, End, Input, output, outs}
+use Rattle.history.specs.Events.{Item, Out, In, Made, Entered, End, Input, output, outs}
 use Rattle.history.specs.Events as event
 use Rattle.mips_model.specs.Steps.{run}
 use Rattle.mips_machine.specs.declared.stop.Stop.{Stop}
@@ -46,10 +46,12 @@ abbrev pub bytes_read : List Item → List ℕ
 bytes_read [] = []
 bytes_read (Out b ∷ items) = bytes_read items
 bytes_read (In w ∷ items) = if nat_eq w 4294967295 then bytes_read items else (w ∷ bytes_read items)
+bytes_read (Made f syntax ∷ items) = bytes_read items
+bytes_read (Entered f ∷ items) = bytes_read items
 
 -- Within n instructions: the input began with the bytes `given`, the events took place, whose bytes were put out,
 -- and of the last service, whose write failed, a front part of its bytes `last`. Exactly `count` instructions were
--- executed, since the run had not ended before the last of them.
+-- executed, since the run had not ended before the last of them. A read fails only where the end wasn't read.
 pub record Ran (n : ℕ) (old new : Progress) (left later taken told : Option (List ℕ)) (stop : Stop) : Type 0 where
   pub count : ℕ
   pub within : count ≤ n
@@ -66,6 +68,7 @@ pub record Ran (n : ℕ) (old new : Progress) (left later taken told : Option (L
   pub cut : stop ≡ WriteFault → front < length last
   pub stays : is_at_end old ≡ true → (given ≡ []) × (is_at_end new ≡ true)
   pub at_end : is_at_end new ≡ true → is_at_end old ≡ false → EndsFrom left later
+  pub unended : stop ≡ ReadFault → is_at_end new ≡ false
   pub ran : (rest : Input) (said : List Item) → MayFollow old new stop rest
       → run count (world old (before given rest) said None) ≡ world new rest (said ++ events ++ outs last) (ending_of stop)
   pub alive : (rest : Input) (said : List Item) → MayFollow old new stop rest

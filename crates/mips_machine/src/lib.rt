@@ -10,6 +10,3 @@ pub use host_edge::Counts;
 pub use laws::{begins_there, counts_steps, run_twice, runs_all, runs_on_told, two_are_one};
 pub use machine::Machine;
 pub use stop::Stop;
-
-#[cfg(test)]
-mod tests;

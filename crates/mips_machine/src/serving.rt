@@ -2,7 +2,7 @@
 //! goes to `$v0`.
 ghost use Rattle.std.specs.Prelude.{◌≡◌, ◌≢◌, ◌≤◌, ◌<◌, ◌+◌, ◌%◌, ◌^◌, true, false, None, Some, [], ◌∷◌, List};
 ghost use Rattle.mips_model.specs.Beside.{is_at_service};
-ghost use Rattle.mips_model.specs.Services.{number_bytes};
+ghost use Rattle.history.specs.Events.{number_bytes};
 ghost use Rattle.mips_model.specs.Services as services;
 ghost use Rattle.mips_core.specs.Core.{state_of, is_service_hazard};
 ghost use Rattle.mips_machine.specs.Progress.{Progress, progress_of};

@@ -7,7 +7,7 @@ use Rattle.pace.specs.Claims.{Grows}
 use Rattle.pace.proofs.Runs.{steps_grow}
 use Rattle.host_edge.specs.declared.ending.MachineKind.{MachineKind}
 use Rattle.host_edge.specs.declared.ending.MachineKind.TheVariants as kind
-use Rattle.history.specs.Events.{Item, In, End, Input, outs}
+use Rattle.history.specs.Events.{Item, In, End, Input, Next, Given, AtEnd, Failing, next_byte, number_bytes, outs}
 use Rattle.image_file.specs.Image.{ImageParts}
 use Rattle.mips_encoder.specs.declared.instruction.Instr.TheVariants.{Syscall}
 use Rattle.mips_model.specs.declared.service.Service.{Service}
@@ -15,7 +15,7 @@ use Rattle.mips_model.specs.declared.service.Service.TheVariants.{PutInt, Exit, 
 use Rattle.mips_model.specs.State.{State, World, register}
 use Rattle.mips_model.specs.Accesses.{Changes, Faults, arena_word}
 use Rattle.code_arena.specs.Arena.{flushed}
-use Rattle.mips_model.specs.Services.{service_of, serve, get, got, read_from, flush, is_arena_range, number_bytes, answer, with_outside}
+use Rattle.mips_model.specs.Services.{service_of, serve, get, got, read, flush, is_arena_range, answer, with_outside}
 use Rattle.mips_model.specs.Steps.{found, word_at, fetch, faulted, apply, act, is_hazard, checked, execute, step, run}
 use Rattle.mips_model.specs.Beside.{is_service, is_at_service}
 use Rattle.mips_model.specs.Run.{see, begins, runs}
@@ -54,17 +54,17 @@ events w = w.state.d.outside.history
 abbrev same : (l : List Item) → IsPrefix l l
 same l = ([], append-nil l)
 
-read_grows : (bytes : List ℕ) (failing : Bool) (recent : ℕ) (s : State) → IsPrefix s.d.outside.history (events (apply (read_from bytes failing s.d) recent s))
-read_grows (b ∷ bytes) failing recent s = (In b ∷ [], refl)
-read_grows [] true recent s = same s.d.outside.history
-read_grows [] false recent s = (In 4294967295 ∷ [], refl)
+read_grows : (next : Next) (recent : ℕ) (s : State) → IsPrefix s.d.outside.history (events (apply (read next s.d) recent s))
+read_grows (Given b rest) recent s = (In b ∷ [], refl)
+read_grows AtEnd recent s = (In 4294967295 ∷ [], refl)
+read_grows Failing recent s = same s.d.outside.history
 
 get_grows : (recent : ℕ) (s : State) → IsPrefix s.d.outside.history (events (apply (get s.d) recent s))
 get_grows recent s = by s.d.outside.at_end
   where
-    by : (b : Bool) → IsPrefix s.d.outside.history (events (apply (if b then got 4294967295 true s.d.outside.input s.d else read_from s.d.outside.input.bytes s.d.outside.input.failing s.d) recent s))
+    by : (b : Bool) → IsPrefix s.d.outside.history (events (apply (if b then got 4294967295 true s.d.outside.input s.d else read (next_byte s.d.outside.input) s.d) recent s))
     by true = (In 4294967295 ∷ [], refl)
-    by false = read_grows s.d.outside.input.bytes s.d.outside.input.failing recent s
+    by false = read_grows (next_byte s.d.outside.input) recent s
 
 flush_grows : (at count recent : ℕ) (s : State) → IsPrefix s.d.outside.history (events (apply (flush at count s.d) recent s))
 flush_grows at count recent s = by (is_arena_range at count)

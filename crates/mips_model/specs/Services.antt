@@ -1,12 +1,12 @@
 -- The services that SYSCALL offers: its number is in register 2 ($v0), its arguments in registers 4 to 6 ($a0 to $a2),
 -- and its answer goes to register 2. They are this project's own; those with numbers 1 to 12 follow SPIM's. A service
 -- that is not in the table, or that refuses its arguments, is a fault of the machine.
-use Rattle.std.specs.Prelude.{ℕ, ◌+◌, ◌*◌, ◌%◌, ◌-◌, Bool, true, false, ◌&&◌, nat_eq, nat_lt, nat_le, if◌then◌else◌, List, [], ◌∷◌, ◌++◌, Option, Some, None, codes, decimal}
+use Rattle.std.specs.Prelude.{ℕ, ◌+◌, ◌*◌, ◌%◌, ◌-◌, Bool, true, false, ◌&&◌, nat_eq, nat_lt, nat_le, if◌then◌else◌, List, [], ◌∷◌, ◌++◌, Option, Some, None}
 use Rattle.word32.specs.declared.map.TheConstants.{ARENA, ARENA_BYTES}
 use Rattle.code_arena.specs.Arena.{flushed}
 use Rattle.host_edge.specs.declared.ending.Ending.TheVariants.{Done}
 use Rattle.host_edge.specs.declared.ending.MachineKind.TheVariants as kind
-use Rattle.history.specs.Events.{In, Input, outs}
+use Rattle.history.specs.Events.{In, Input, outs, Next, Given, AtEnd, Failing, next_byte, number_bytes}
 use Rattle.mips_model.specs.declared.service.Service.{Service}
 use Rattle.mips_model.specs.declared.service.Service.TheVariants.{PutInt, Exit, PutByte, GetByte, Flush}
 use Rattle.mips_model.specs.State.{Outside, Data, register, set_register}
@@ -31,10 +31,7 @@ with_outside o d = record d { outside = o }
 abbrev pub says : List ℕ → Outside → Outside
 says bytes o = record o { history = o.history ++ outs bytes }
 
--- service 1 writes its argument in signed decimal: the two's complement of a word from 2 ^ 31 on, behind a minus sign
-abbrev pub number_bytes : ℕ → List ℕ
-number_bytes w = if nat_lt w 2147483648 then decimal w else (codes "-" ++ decimal (4294967296 - w))
-
+-- bytes are put out, and the answer is v
 abbrev pub put : List ℕ → ℕ → Data → Effect
 put bytes v d = Plain (answer v (with_outside (says bytes d.outside) d))
 
@@ -43,15 +40,13 @@ abbrev pub got : ℕ → Bool → Input → Data → Effect
 got v at_end input d =
     Plain (answer v (with_outside (record d.outside { input = input; at_end = at_end; history = d.outside.history ++ In v ∷ [] }) d))
 
-abbrev pub read_from : List ℕ → Bool → Data → Effect
-read_from (b ∷ bytes) failing d = got b false (record { bytes = bytes; failing = failing }) d
-read_from [] true d = InputFails
-read_from [] false d = got 4294967295 true (record { bytes = []; failing = false }) d
+abbrev pub read : Next → Data → Effect
+read (Given b rest) d = got b false rest d
+read AtEnd d = got 4294967295 true (record { bytes = []; failing = false }) d
+read Failing d = InputFails
 
 abbrev pub get : Data → Effect
-get d =
-    if d.outside.at_end then got 4294967295 true d.outside.input d
-    else read_from d.outside.input.bytes d.outside.input.failing d
+get d = if d.outside.at_end then got 4294967295 true d.outside.input d else read (next_byte d.outside.input) d
 
 -- so many words from an address on are in the arena, and the address is that of one
 abbrev pub is_arena_range : ℕ → ℕ → Bool

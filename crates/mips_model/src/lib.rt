@@ -7,6 +7,3 @@ mod service;
 
 pub use laws::{ends_once, runs_grow};
 pub use service::Service;
-
-#[cfg(test)]
-mod tests;

@@ -15,6 +15,3 @@ mod values;
 pub use asm_print::disassemble;
 pub use assembly::assemble;
 pub use fault::{AsmDeny, AsmFault, AsmFaultKind};
-
-#[cfg(test)]
-mod tests;

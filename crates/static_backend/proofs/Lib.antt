@@ -1,3 +1,2 @@
 pub mod Slices
 pub mod Whole
-pub mod Returns

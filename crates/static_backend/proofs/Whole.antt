@@ -8,10 +8,10 @@ use Rattle.icode_ops.specs.declared.interval.Interval.{Interval}
 use Rattle.icode_ops.specs.Live.{AreIntervals}
 use Rattle.icode_ops.specs.Places.{IsLegal}
 use Rattle.icode_expand.specs.Expansion.{expanded}
-use Rattle.scan_places.specs.Scan.{places_of}
-use Rattle.tick_meaning.specs.Nodes.{Function}
-use Rattle.tick_meaning.specs.Size.{size_of, charge_of}
-use Rattle.tick_lower.specs.Laws.{registers_of}
+use Rattle.linear_scan_spec.specs.Scan.{places_of}
+use Rattle.typed_tree.specs.Nodes.{Function}
+use Rattle.staged_meaning.specs.Size.{size_of, charge_of}
+use Rattle.tick_lower_proof.specs.Laws.{registers_of}
 use Rattle.static_image.specs.Layout.{addresses, ops_of, front, IsChoice, image_of}
 use Rattle.static_backend.specs.Scanned.{IsScanned}
 

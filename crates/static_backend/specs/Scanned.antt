@@ -3,9 +3,9 @@ use Rattle.std.specs.Prelude.{◌≡◌, List}
 use Rattle.image_file.specs.Image.{ImageParts}
 use Rattle.icode_ops.specs.declared.interval.Interval.{Interval}
 use Rattle.icode_ops.specs.Live.{AreIntervals}
-use Rattle.scan_places.specs.Scan.{places_of}
-use Rattle.tick_meaning.specs.Nodes.{Function}
-use Rattle.tick_lower.specs.Laws.{registers_of}
+use Rattle.linear_scan_spec.specs.Scan.{places_of}
+use Rattle.typed_tree.specs.Nodes.{Function}
+use Rattle.tick_lower_proof.specs.Laws.{registers_of}
 use Rattle.static_image.specs.Layout.{addresses, ops_of, IsChoice, image_of}
 
 pub record IsScanned (function : Function) (image : ImageParts) : Type 0 where

@@ -3,7 +3,7 @@
 ghost use Rattle.std.specs.Prelude.{◌≤◌, IfOk};
 ghost use Rattle.static_image.specs.Served.{IsStatic};
 ghost use Rattle.static_backend.specs.Scanned.{IsScanned};
-ghost use Rattle.tree_view.specs.View.{function_view};
+ghost use Rattle.typed_tree.specs.View.{function_view};
 
 use crate::code::builder_of;
 use crate::places::scanned_places;
@@ -11,7 +11,7 @@ use crate::text::text_words;
 use image_file::Image;
 use static_image::images_keep_rules;
 use std::alloc::{AllocError, Global};
-use tree_lowering::size;
+use tick_lower::size;
 use typed_tree::Function;
 use word32::map::START;
 

@@ -4,15 +4,15 @@ ghost use Rattle.std.specs.Prelude.{◌≡◌, ◌≤◌, IfOk};
 ghost use Rattle.icode_ir.specs.Build.{empty};
 ghost use Rattle.icode_ir.specs.Runs.{run_ops};
 ghost use Rattle.icode_ir.specs.declared.builder.Phase.TheVariants.{Finished};
-ghost use Rattle.tick_meaning.specs.Scope.{IsReady};
-ghost use Rattle.tick_lower.specs.Lower.{function_ops};
-ghost use Rattle.tree_view.specs.View.{function_view};
+ghost use Rattle.staged_meaning.specs.Scope.{IsReady};
+ghost use Rattle.tick_lower_proof.specs.Lower.{function_ops};
+ghost use Rattle.typed_tree.specs.View.{function_view};
 ghost use Rattle.static_image.specs.Layout.{addresses};
 
 use icode_ir::Builder;
 use std::alloc::{AllocError, Global};
-use tick_lower::lowering_is_accepted;
-use tree_lowering::lower;
+use tick_lower::lower;
+use tick_lower_proof::lowering_is_accepted;
 use typed_tree::Function;
 
 /// A finished builder that has the ops of a function. The only error is want of memory.

@@ -5,8 +5,6 @@
 mod backend;
 mod code;
 mod places;
-#[cfg(test)]
-mod tests;
 mod text;
 
 pub use backend::image;

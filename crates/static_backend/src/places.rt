@@ -5,12 +5,12 @@ ghost use Rattle.icode_ops.specs.Finished.{IsFinished};
 ghost use Rattle.icode_ops.specs.Live.{AreIntervals};
 ghost use Rattle.icode_ops.specs.Places.{IsLegal};
 ghost use Rattle.icode_ops.specs.declared.interval.Interval.{Interval as SpecInterval};
-ghost use Rattle.scan_places.specs.Scan.{places_of};
+ghost use Rattle.linear_scan_spec.specs.Scan.{places_of};
 
 use icode_liveness::Live;
 use icode_ops::{Interval, Op};
 use linear_scan::{SLOT, Scanner};
-use scan_places::intervals_are_scannable;
+use linear_scan_spec::intervals_are_scannable;
 use std::alloc::{AllocError, Global};
 
 // Room for so many intervals.

@@ -1,5 +1,5 @@
 -- No step makes a word of the arena unwritten again. So while no word is written or flushed, what is executed is the text's.
-use Rattle.std.proofs.Common.{◌≡◌, ℕ, zero, suc, ◌+◌, ◌/◌, ◌%◌, ◌==◌, Bool, true, false, ◌&&◌, Option, None, Some, List, [], ◌∷◌, Err, refl, sym, ap, ◌∙◌, arith, nat_eq, nat_lt, nat_le, if◌then◌else◌, is_some}
+use Rattle.std.proofs.Common.{◌≡◌, ℕ, zero, suc, ◌+◌, ◌/◌, ◌%◌, ◌==◌, Bool, true, false, ◌&&◌, Option, None, Some, Err, refl, sym, ap, ◌∙◌, arith, nat_eq, nat_lt, nat_le, if◌then◌else◌, is_some}
 use Rattle.std.specs.Fn.{iterate}
 use Rattle.std.proofs.lemmas.Bool.Decides.{nat_tests}
 use Rattle.word32.specs.Words.{wrap, widened_half}
@@ -18,7 +18,7 @@ use Rattle.host_edge.specs.declared.ending.MachineKind.TheVariants as kind
 use Rattle.host_edge.specs.declared.ending.TrapKind.{TrapKind}
 use Rattle.host_edge.specs.declared.ending.TrapKind.TheVariants as trap
 use Rattle.host_edge.specs.declared.ending.Ending.TheVariants.{Trap}
-use Rattle.history.specs.Events.{Ended}
+use Rattle.history.specs.Events.{Ended, Next, Given, AtEnd, Failing, next_byte}
 use Rattle.image_file.specs.Image.{ImageParts}
 use Rattle.mips_encoder.specs.declared.instruction.Instr.{Instr}
 use Rattle.mips_encoder.specs.declared.instruction.Instr.TheVariants.{Arithmetic, Shift, ShiftVariable, JumpRegister, JumpAndLinkRegister, Syscall, Break, MoveFrom, MoveTo, MultiplyDivide, BranchOnSign, BranchOnSignAndLink, Jump, BranchOnEquality, BranchOnZero, ImmediateArithmetic, LoadUpperImmediate, Memory}
@@ -31,7 +31,7 @@ use Rattle.mips_model.specs.declared.service.Service.TheVariants.{PutInt, Exit, 
 use Rattle.mips_model.specs.State.{Code, Data, State, World, register, set_register}
 use Rattle.mips_model.specs.Arithmetic.{arithmetic, immediate}
 use Rattle.mips_model.specs.Accesses.{Effect, Plain, Loads, Changes, ReadsText, ReadsArena, StoresText, Branches, BranchesLinking, Jumps, JumpsLinking, Goes, GoesLinking, Ends, Faults, InputFails, aligned, load_in, store_in, table_word_at, arena_word, stored_in_arena}
-use Rattle.mips_model.specs.Services.{service_of, serve, get, got, read_from, flush, is_arena_range, answer, with_outside}
+use Rattle.mips_model.specs.Services.{service_of, serve, get, got, read, flush, is_arena_range, answer, with_outside}
 use Rattle.mips_model.specs.Effects.{gives, breaks, trap_of, goes, access, effect}
 use Rattle.mips_model.specs.Steps.{Fetched, Is, Refused, fetch, found, from_text, text_word, from_arena, is_arena_word, word_in_arena, onward, ended, reads, stores_text, faulted, apply, act, is_hazard, recent_behind, execute, step}
 use Rattle.mips_model.specs.Run.{IsTextWord}
@@ -114,17 +114,17 @@ goes_safe : (op : JumpOp) (word : ℕ) → IsSafe (goes op word)
 goes_safe J word = tt
 goes_safe Jal word = tt
 
-read_safe : (bytes : List ℕ) (failing : Bool) (d : Data) → IsSafe (read_from bytes failing d)
-read_safe (b ∷ bytes) failing d = tt
-read_safe [] true d = tt
-read_safe [] false d = tt
+read_safe : (next : Next) (d : Data) → IsSafe (read next d)
+read_safe (Given b rest) d = tt
+read_safe AtEnd d = tt
+read_safe Failing d = tt
 
 get_safe : (d : Data) → IsSafe (get d)
 get_safe d = by d.outside.at_end
   where
-    by : (b : Bool) → IsSafe (if b then got 4294967295 true d.outside.input d else read_from d.outside.input.bytes d.outside.input.failing d)
+    by : (b : Bool) → IsSafe (if b then got 4294967295 true d.outside.input d else read (next_byte d.outside.input) d)
     by true = tt
-    by false = read_safe d.outside.input.bytes d.outside.input.failing d
+    by false = read_safe (next_byte d.outside.input) d
 
 flush_safe : (at count : ℕ) (d : Data) → IsSafe (flush at count d)
 flush_safe at count d = by (is_arena_range at count)

@@ -1,9 +1,11 @@
--- The start brings a run of an image to main, with the stack empty, and waits with its exit.
-use Rattle.std.proofs.Common.{◌≡◌, ℕ, ◌+◌, ◌-◌, ◌*◌, ◌/◌, ◌<◌, ◌≤◌, false, List, [], ◌∷◌, ◌++◌, length, Option, None, Some, refl, sym, subst, arith, append_assoc, append-nil, length-append, nat_lt, slice_get, replicate}
+-- The start brings a run of an image to main, with the stack empty and the cells set, and waits with its exit.
+use Rattle.std.proofs.Common.{◌≡◌, ℕ, zero, suc, ◌+◌, ◌-◌, ◌*◌, ◌/◌, ◌<◌, ◌≤◌, Bool, true, false, List, [], ◌∷◌, ◌++◌, length, Option, None, Some, refl, sym, ◌∙◌, subst, arith, append_assoc, append-nil, length-append, nat_lt, if◌then◌else◌, slice_get, replicate}
 use Rattle.std.specs.Fn.{iterate}
 use Rattle.std.proofs.lemmas.List.{length-replicate}
 use Rattle.std.proofs.lemmas.Bool.Decides.{nat_tests}
-use Rattle.word32.specs.declared.map.TheConstants.{TEXT, ARENA, CLOSURES, FUNCTIONS, HEAP}
+use Rattle.word32.specs.declared.map.TheConstants.{TEXT, ARENA, CLOSURES, FUNCTIONS, HEAP, OBJECTS, UNPUBLISHED}
+use Rattle.word32.specs.Bytes.{word_in}
+use Rattle.word32.specs.Space.{bytes_from}
 use Rattle.flat_memory.specs.Spaces.{text_of}
 use Rattle.history.specs.Events.{Input}
 use Rattle.mips_encoder.specs.Table.{word_of}
@@ -14,9 +16,13 @@ use Rattle.mips_model.specs.Laws.{HasAt, past, at, Reaches}
 use Rattle.mips_model.proofs.Loaded.{AllFit, all_fit_append, loaded}
 use Rattle.mips_model.proofs.Reach.{through, through_runs, reaches_on, step_acts, front, back}
 use Rattle.icode_templates.specs.Assembly.{jal, nop}
-use Rattle.template_effects.proofs.Jumps.{slot_runs}
-use Rattle.forward_simulation.specs.Standing.{WordsAt, exit_code}
-use Rattle.static_image.specs.Layout.{set_cell, set_up, start_code, exit_with_answer, filled}
+use Rattle.icode_templates_proof.proofs.Jumps.{slot_runs}
+use Rattle.icode_frames_spec.specs.Standing.{WordsAt, exit_code}
+use Rattle.icode_frames_spec.specs.Relation.{MemoryAgrees, ExtentsAgree}
+use Rattle.icode_meaning.specs.State.{Program}
+use Rattle.typed_tree.specs.Nodes as node
+use Rattle.staged_meaning.specs.Meaning.{at_start}
+use Rattle.static_image.specs.Layout.{set_cell, set_up, start_code, exit_with_answer, filled, program_of}
 
 -- words stand behind those that are in front of them in a text
 get_behind : (xs : List ℕ) (w : ℕ) (rest : List ℕ) → slice_get (xs ++ w ∷ rest) (length xs) ≡ Some w
@@ -79,15 +85,27 @@ abbrev pub data_of : Option (ℕ × Data) → Data → Data
 data_of None d = d
 data_of (Some r) d = r.1
 
+-- no object has bytes yet
+no_bytes : (n : ℕ) → bytes_from (OBJECTS / 4) [] n < 4294967296
+no_bytes n = by (nat_lt n (OBJECTS / 4))
+  where
+    by : (b : Bool) → (if b then 0 else word_in [] (4 * (n - OBJECTS / 4))) < 4294967296
+    by true = omega arith
+    by false = omega arith
+
+-- where main is called, and where the start waits with its exit
+abbrev pub call_at : ℕ
+call_at = past 4194304 (set_up 1)
+
+abbrev pub exit_at : ℕ
+exit_at = call_at + 8
+
 module _ (c : Code) (input : Input) (h : HasAt c 4194304 (start_code FUNCTIONS 1)) where
   abbrev pub first : Data
-  first = machine.first_data [] input
+  first = machine.first_data [] [] input
 
   abbrev pub set : Data
   set = data_of (through (set_up 1) 0 first) first
-
-  abbrev pub call_at : ℕ
-  call_at = past 4194304 (set_up 1)
 
   sets_up : Reaches (length (set_up 1)) (at c 4194304 0 first) (at c call_at 0 set)
   sets_up = through_runs (set_up 1) c 0 4194304 first (0, set) refl (front c 4194304 (set_up 1) (jal FUNCTIONS ∷ nop ∷ exit_with_answer) h)
@@ -97,7 +115,7 @@ module _ (c : Code) (input : Input) (h : HasAt c 4194304 (start_code FUNCTIONS 1
 
   -- main is called
   abbrev pub called : Data
-  called = set_register 31 (call_at + 8) set
+  called = set_register 31 exit_at set
 
   calls : Reaches 2 (at c call_at 0 set) (at c FUNCTIONS 0 called)
   calls = slot_runs c call_at 0 FUNCTIONS set called (step_acts (jal FUNCTIONS) (at c call_at 0 set) rest.0 refl) rest.1.0
@@ -105,14 +123,30 @@ module _ (c : Code) (input : Input) (h : HasAt c 4194304 (start_code FUNCTIONS 1
   pub comes : iterate step 17 (going (at c 4194304 0 first)) ≡ going (at c FUNCTIONS 0 called)
   comes = (reaches_on sets_up calls).by
 
-  pub pointer : called.registers 29 ≡ 2147483648
-  pointer = refl
-
-  pub returns_to : called.registers 31 ≡ call_at + 8
-  returns_to = refl
-
-  pub nothing_yet : called.outside.history ≡ []
-  nothing_yet = refl
-
-  pub waits : HasAt c (call_at + 8) exit_code
+  pub waits : HasAt c exit_at exit_code
   waits = rest.1.1
+
+  unpublished : (n : ℕ) → (called.table n).1 ≡ UNPUBLISHED
+  unpublished zero = refl
+  unpublished (suc n) = refl
+
+  -- no function has a row, and nothing was read or put out
+  pub agrees : (program : Program) (function : node.Function) → ((n : ℕ) → program.row n ≡ None)
+      → MemoryAgrees program (at_start (program_of function) input) 0 called
+  agrees program function none = record {
+    history = refl;
+    input = refl;
+    at_end = λ e. absurd cc;
+    objects = refl;
+    object_words = no_bytes;
+    heap = refl;
+    active_calls = refl;
+    active_word = omega arith;
+    table = record {
+      rows = λ n a k e. (let z : None ≡ Some (a, k) = sym (none n) ∙ e in absurd cc);
+      others = λ n l e. unpublished n;
+    };
+  }
+
+  pub extents : (function : node.Function) → ExtentsAgree (at_start (program_of function) input) called
+  extents function = record { used = refl; frames = refl }

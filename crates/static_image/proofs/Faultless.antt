@@ -7,12 +7,14 @@ use Rattle.host_edge.specs.declared.ending.TrapKind.{TrapKind}
 use Rattle.host_edge.specs.declared.ending.TrapKind.TheVariants.{BadCall}
 use Rattle.history.specs.Events.{End, Ended, ReadFault, Fault}
 use Rattle.icode_ops.specs.declared.op.Op.{Op}
-use Rattle.icode_ops.specs.declared.op.Op.TheVariants.{Const, Move, Bin, CheckDivision, CheckZero, Un, FrameAddress, Load, Store, Clear, Label, Jump, BranchZero, BranchNonzero, Argument, GetParameter, Call, CallNumber, Result, Return, ReturnZero, Sys}
+use Rattle.icode_ops.specs.declared.op.Op.TheVariants.{Const, Move, Bin, CheckDivision, CheckZero, Un, FrameAddress, Load, Store, Clear, Label, Jump, BranchZero, BranchNonzero, Argument, GetParameter, Call, CallNumber, Result, Return, ReturnZero, Sys, Run}
 use Rattle.icode_ops.specs.declared.kind.SysKind.TheVariants.{PutByte, GetByte, Exit}
-use Rattle.run_state.specs.Operators.{signed_trap, zero_trap}
-use Rattle.run_state.specs.Shared.{Read, Got, Failed, get_byte, access_trap, loaded, stored, are_objects, zeroed, limit_trap}
-use Rattle.icode_meaning.specs.State.{Function, Program, Frame, Log, State, Running, Halted, Stuck, see}
-use Rattle.icode_meaning.specs.Steps.{uses_on, paid, sharing, moved_on, set, goes_on, unless, begun, entered, call_at, call_row, set_from, left, back, take, address_of, act, checked, advance}
+use Rattle.icode_ops.specs.declared.kind.RunKind.TheVariants as run
+use Rattle.meaning_state.specs.Operators.{signed_trap, zero_trap}
+use Rattle.meaning_state.specs.Shared.{Specification, Local, Param, Read, Got, Failed, get_byte, access_trap, loaded, stored, are_objects, zeroed, limit_trap}
+use Rattle.meaning_state.specs.Rows.{closure_trap, index_trap, next_number, specified}
+use Rattle.icode_meaning.specs.State.{Function, Program, Frame, Log, State, Running, Zeroing, Halted, Stuck, see}
+use Rattle.icode_meaning.specs.Steps.{uses_on, paid, sharing, moved_on, set, goes_on, unless, begun, entered, call_at, call_row, set_from, left, back, take, address_of, act, checked, advance, zeroing, zeroed_on, word_zeroed, specifies}
 
 abbrev pub IsNoFault : End → Type 0
 IsNoFault (Ended e) = Unit {0}
@@ -21,6 +23,7 @@ IsNoFault (Fault k a) = ⊥
 
 abbrev pub IsFaultless : State → Type 0
 IsFaultless (Running frame arguments answer waiting log) = Unit {0}
+IsFaultless (Zeroing more address frame waiting log) = Unit {0}
 IsFaultless (Halted e log) = IsNoFault e
 IsFaultless (Stuck log) = Unit {0}
 
@@ -53,9 +56,19 @@ take_is : (r : Read) (to : ℕ) (frame : Frame) (waiting : List Frame) (log : Lo
 take_is (Got x shared) to frame waiting log = tt
 take_is Failed to frame waiting log = tt
 
-clear_is : (b : Bool) (frame : Frame) (waiting : List Frame) (log log' : Log) → IsFaultless (if b then goes_on frame waiting log else Stuck log')
-clear_is true frame waiting log log' = tt
-clear_is false frame waiting log log' = tt
+specifies_is : (specification : Specification) (to : ℕ) (frame : Frame) (waiting : List Frame) (log : Log) → IsFaultless (specifies specification to frame waiting log)
+specifies_is specification to frame waiting log =
+    unless_is (closure_trap 0 log.shared) log
+    (goes_on (set to (next_number log.shared) frame) waiting (sharing (specified specification 0 log.shared) log)) tt
+
+clear_is : (b : Bool) (words address : ℕ) (frame : Frame) (waiting : List Frame) (log log' : Log) → IsFaultless (if b then zeroing words address frame waiting log else Stuck log')
+clear_is true zero address frame waiting log log' = tt
+clear_is true (suc more) address frame waiting log log' = tt
+clear_is false words address frame waiting log log' = tt
+
+zeroed_on_is : (more address : ℕ) (frame : Frame) (waiting : List Frame) (log : Log) → IsFaultless (zeroed_on more address frame waiting log)
+zeroed_on_is zero address frame waiting log = tt
+zeroed_on_is (suc more) address frame waiting log = tt
 
 module _ (program : Program) where
   act_is : (o : Op) (frame : Frame) (arguments : ℕ → Option ℕ) (answer : Option ℕ) (waiting : List Frame) (log : Log) → IsFaultless (act program o frame arguments answer waiting log)
@@ -75,8 +88,7 @@ module _ (program : Program) where
       unless_is (access_trap (frame.values a) width) (paid (Store width a v) log)
       (goes_on (moved_on frame) waiting (sharing (stored (frame.values a) width (frame.values v) log.shared) (paid (Store width a v) log))) tt
   act_is (Clear offset words) frame arguments answer waiting log =
-      clear_is (are_objects (address_of offset frame log) words) (moved_on frame) waiting
-      (sharing (zeroed (address_of offset frame log) words log.shared) (paid (Clear offset words) log)) log
+      clear_is (are_objects (address_of offset frame log) words) words (address_of offset frame log) frame waiting (paid (Clear offset words) log) log
   act_is (Label label) frame arguments answer waiting log = tt
   act_is (Jump label) frame arguments answer waiting log = tt
   act_is (BranchZero test label) frame arguments answer waiting log = tt
@@ -92,6 +104,10 @@ module _ (program : Program) where
   act_is (Sys PutByte to from) frame arguments answer waiting log = tt
   act_is (Sys GetByte to from) frame arguments answer waiting log = take_is (get_byte log.shared) to frame waiting (paid (Sys GetByte to from) log)
   act_is (Sys Exit to from) frame arguments answer waiting log = tt
+  act_is (Run run.Local to from) frame arguments answer waiting log = specifies_is Local to frame waiting (paid (Run run.Local to from) log)
+  act_is (Run run.Parameter to from) frame arguments answer waiting log =
+      unless_is (index_trap (frame.values from)) (paid (Run run.Parameter to from) log)
+      (specifies (Param (frame.values from)) to frame waiting (paid (Run run.Parameter to from) log)) (specifies_is (Param (frame.values from)) to frame waiting (paid (Run run.Parameter to from) log))
   act_is _ frame arguments answer waiting log = tt
 
   checked_is : (x : Option Op) (frame : Frame) (arguments : ℕ → Option ℕ) (answer : Option ℕ) (waiting : List Frame) (log : Log) → IsFaultless (checked program x frame arguments answer waiting log)
@@ -104,6 +120,7 @@ module _ (program : Program) where
 
   advance_is : (s : State) → IsFaultless s → IsFaultless (advance program s)
   advance_is (Running frame arguments answer waiting log) h = checked_is (slice_get frame.function.ops frame.index) frame arguments answer waiting log
+  advance_is (Zeroing more address frame waiting log) h = zeroed_on_is more address frame waiting (word_zeroed address log)
   advance_is (Halted e log) h = h
   advance_is (Stuck log) h = tt
 
@@ -113,6 +130,7 @@ module _ (program : Program) where
 
 pub no_fault : (s : State) (k : MachineKind) (a : ℕ) → IsFaultless s → (see s).ending ≡ Some (Fault k a) → ⊥
 no_fault (Running frame arguments answer waiting log) k a h e = cc
+no_fault (Zeroing more address frame waiting log) k a h e = cc
 no_fault (Halted (Ended x) log) k a h e = cc
 no_fault (Halted ReadFault log) k a h e = cc
 no_fault (Halted (Fault x y) log) k a h e = h

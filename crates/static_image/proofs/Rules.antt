@@ -9,15 +9,16 @@ use Rattle.icode_templates.specs.Assembly.{nop}
 use Rattle.icode_templates.specs.Words.{words}
 use Rattle.icode_expand.proofs.Lengths.{length_words}
 use Rattle.icode_expand.proofs.Most.{words_most}
-use Rattle.tick_meaning.specs.Nodes as node
-use Rattle.tick_lower.proofs.Sizes as sizes
-use Rattle.forward_simulation.specs.Standing.{code_of}
-use Rattle.forward_simulation.proofs.Fitting.{code_fits}
+use Rattle.typed_tree.specs.Nodes as node
+use Rattle.tick_lower_proof.proofs.Sizes as sizes
+use Rattle.icode_frames_spec.specs.Standing.{code_of}
+use Rattle.icode_words_proof.proofs.Fitting.{code_fits}
 use Rattle.static_image.specs.Layout.{start_code, front, addresses, IsChoice, main_words, image_of}
 use Rattle.static_image.specs.Served.{IsStatic}
 use Rattle.static_image.proofs.Lows.{AreWords, words_low, word_at}
 use Rattle.static_image.proofs.Arriving.{start_fits}
-use Rattle.static_image.proofs.Whole.{main_of, suits, front_length}
+use Rattle.static_image.proofs.Serving.{ops_served}
+use Rattle.static_image.proofs.Whole.{main_of, suits, fits_below, front_length}
 
 same_words : (n w : ℕ) → w < 4294967296 → AreWords (replicate n w)
 same_words zero w low = tt
@@ -35,7 +36,9 @@ module _ (function : node.Function) (places : List ℕ) (static : IsStatic funct
   all_words : AreWords text
   all_words =
       Each-append (λ w. w < 4294967296) (front FUNCTIONS 1) (main_words function places) front_words
-      (words_low (code_of (main_of function) places) (code_fits (main_of function) places (suits function places static choice)))
+      (words_low (code_of (main_of function) places)
+      (code_fits (main_of function) places (suits function places static choice) (fits_below function places static choice)
+      (ops_served addresses function static)))
 
   long : length text ≡ 1024 + length (code_of (main_of function) places)
   long =

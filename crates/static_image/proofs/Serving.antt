@@ -13,14 +13,15 @@ use Rattle.icode_ir.specs.Rules.{effect}
 use Rattle.icode_ir.specs.Runs.{run_ops}
 use Rattle.icode_ir.specs.Sound.{Each}
 use Rattle.icode_ir.proofs.Sounds.{Each-append}
-use Rattle.template_effects.specs.Laws.{IsStraight}
-use Rattle.forward_simulation.specs.Standing as standing
-use Rattle.forward_simulation.specs.Standing.{IsPutByte}
-use Rattle.tick_meaning.specs.Nodes as node
-use Rattle.tick_meaning.specs.Nodes.{Expr, Stmt, Items, has_value}
-use Rattle.tick_meaning.specs.Size.{labels_in, labels, labels_of, temps_in, temps, temps_of, variables_in}
-use Rattle.tick_lower.specs.Lower.{Addresses, expr_ops, Targets, stmt_ops, items_ops, nowhere, function_ops, dropping}
-use Rattle.tick_lower.specs.Laws.{code_of}
+use Rattle.icode_templates_proof.specs.Laws.{IsStraight}
+use Rattle.icode_steps_proof.specs.Served as standing
+use Rattle.icode_steps_proof.specs.Served.{IsPutByte}
+use Rattle.typed_tree.specs.Nodes as node
+use Rattle.typed_tree.specs.declared.expression.Library.TheVariants as library
+use Rattle.typed_tree.specs.Nodes.{Expr, Stmt, Items, has_value}
+use Rattle.staged_meaning.specs.Size.{labels_in, labels, labels_of, temps_in, temps, temps_of, variables_in}
+use Rattle.tick_lower_proof.specs.Lower.{Addresses, expr_ops, Targets, stmt_ops, items_ops, nowhere, function_ops, dropping}
+use Rattle.tick_lower_proof.specs.Laws.{code_of}
 use Rattle.static_image.specs.Served.{IsServed, IsServedStmt, AreServedItems, IsStatic}
 
 -- the builder's ops from which only such ops come
@@ -47,7 +48,7 @@ module _ (d : Addresses) where
   expr_plain (node.Const word) served l t = (served, tt)
   expr_plain (node.Var i) served l t = (tt, tt)
   expr_plain (node.SetVar i a) served l t = one (expr_ops d a l t) (SetVariable i) (expr_plain a served l t) tt
-  expr_plain (node.Lib node.Putchar a) served l t = one (expr_ops d a l t) (Sys sys.PutByte) (expr_plain a served l t) tt
+  expr_plain (node.Lib library.Putchar a) served l t = one (expr_ops d a l t) (Sys sys.PutByte) (expr_plain a served l t) tt
   expr_plain (node.Bin k x y) served l t =
       Each-append IsPlain (expr_ops d x l t) _ (expr_plain x served.1 l t)
       (one (expr_ops d y (l + labels_in x) (t + temps_in x)) (Bin k) (expr_plain y served.2 (l + labels_in x) (t + temps_in x)) served.0)

@@ -1,13 +1,14 @@
 -- The headline holds for the image of a function, under any legal places of its registers.
-use Rattle.std.proofs.Common.{◌≡◌, inl, ℕ, ◌+◌, ◌-◌, ◌<◌, ◌≤◌, false, List, [], ◌++◌, length, Option, None, Some, refl, sym, ap, ◌∙◌, arith, ⊎_elim, if◌then◌else◌, is_some, replicate}
+use Rattle.std.proofs.Common.{◌≡◌, ◌≢◌, inl, inr, ℕ, ◌+◌, ◌-◌, ◌*◌, ◌<◌, ◌≤◌, Bool, true, false, List, [], ◌++◌, length, Option, None, Some}
+use Rattle.std.proofs.Common.{refl, sym, ap, ◌∙◌, subst, arith, ⊎_elim, nat_eq, if◌then◌else◌, is_some, replicate}
 use Rattle.std.specs.Fn.{iterate}
-use Rattle.std.proofs.lemmas.Bool.{cases_lt}
+use Rattle.std.proofs.lemmas.Bool.{cases_lt, cases_eq, eq-eqb, ne_eqb}
 use Rattle.pace.specs.Pace.{FourParts}
 use Rattle.pace.specs.Claims.{FollowsAtPace, FollowsAtCost, PaysFor}
 use Rattle.pace.proofs.Promises.{four_parts}
 use Rattle.pace.proofs.Runs.{iterate_add}
 use Rattle.pace.proofs.Seams.{through}
-use Rattle.word32.specs.declared.map.TheConstants.{FUNCTIONS}
+use Rattle.word32.specs.declared.map.TheConstants.{ARENA, FUNCTIONS}
 use Rattle.code_arena.specs.declared.arena.WordState.TheVariants.{Unwritten}
 use Rattle.host_edge.specs.declared.ending.MachineKind.{MachineKind}
 use Rattle.history.specs.Events.{End, Fault, Input}
@@ -22,21 +23,24 @@ use Rattle.mips_model.proofs.Runs.{grows, ends_once}
 use Rattle.mips_model.proofs.Traces.{text_stays}
 use Rattle.icode_templates.specs.Words.{words}
 use Rattle.icode_templates.specs.Assembly.{nop}
+use Rattle.icode_ops.specs.Flow.{op_at}
 use Rattle.icode_meaning.specs.State.{Function, Program, State, see, least_at, most_at}
 use Rattle.icode_meaning.specs.Steps.{advance, first}
-use Rattle.run_state.specs.Shared.{Shared}
-use Rattle.tick_meaning.specs.Nodes as node
-use Rattle.tick_meaning.specs.Size.{size_of, charge_of}
-use Rattle.tick_meaning.specs.Meaning.{at_start, meant}
-use Rattle.tick_lower.specs.Laws.{registers_of, IsSmall}
-use Rattle.tick_lower.proofs.FunctionOps.{has_code}
-use Rattle.tick_lower.proofs.Sizes as sizes
-use Rattle.tick_lower.proofs.Whole as lowering
-use Rattle.forward_simulation.specs.Standing.{Suits, Stands, Arrives}
-use Rattle.forward_simulation.specs.Laws.{KeepsCode}
-use Rattle.forward_simulation.proofs.Suiting.{suit}
-use Rattle.forward_simulation.proofs.Fitting.{function_stands, words_stand}
-use Rattle.forward_simulation.proofs.Whole.{simulated, code_kept}
+use Rattle.meaning_state.specs.Shared.{Shared}
+use Rattle.typed_tree.specs.Nodes as node
+use Rattle.staged_meaning.specs.Size.{size_of, charge_of}
+use Rattle.staged_meaning.specs.Meaning.{at_start, meant}
+use Rattle.tick_lower_proof.specs.Laws.{registers_of, IsSmall}
+use Rattle.tick_lower_proof.proofs.FunctionOps.{has_code}
+use Rattle.tick_lower_proof.proofs.Sizes as sizes
+use Rattle.tick_lower_proof.proofs.Whole as lowering
+use Rattle.icode_frames_spec.specs.Standing.{Suits, Stands}
+use Rattle.icode_frames_spec.specs.Settings.{Setting, Standing}
+use Rattle.icode_steps_proof.specs.Served.{IsServed, Serving}
+use Rattle.icode_expand_proof.specs.Laws.{Arrives, KeepsCode}
+use Rattle.icode_words_proof.proofs.Suiting.{suit}
+use Rattle.icode_words_proof.proofs.Fitting.{function_stands, words_stand}
+use Rattle.icode_expand_proof.proofs.Whole.{simulated, code_kept}
 use Rattle.static_image.specs.Layout.{start_code, front, addresses, ops_of, IsChoice, program_of, main_words, image_of}
 use Rattle.static_image.specs.Served.{IsStatic}
 use Rattle.static_image.specs.Headline.{Headline}
@@ -55,9 +59,23 @@ main_of function = record {
   compiled = false;
 }
 
--- no function is called
-abbrev pub no_functions : Program
-no_functions = record { function_at = λ a. None; row = λ n. None }
+-- main is the only function, and has no number
+abbrev pub alone : Function → Program
+alone main = record { function_at = λ a. if nat_eq a main.address then Some main else None; row = λ n. None }
+
+-- what holds of main holds of each function
+alone_has : (main : Function) (P : ℕ → Function → Type 0) → P main.address main → (a : ℕ) (f : Function)
+    → (alone main).function_at a ≡ Some f → P a f
+alone_has main P there a f e = elim (cases_eq a main.address) [
+  | inl same ↦ (let t : nat_eq a main.address ≡ true = eq-eqb a main.address same in
+      let is : main ≡ f = one (sym (ap (λ (b : Bool). if b then Some main else None) t) ∙ e) in
+      subst (λ (g : Function). P a g) is (subst (λ n. P n main) (sym same) there))
+  | inr ne ↦ (let t : nat_eq a main.address ≡ false = ne_eqb a main.address ne in
+      let no : None ≡ Some f = sym (ap (λ (b : Bool). if b then Some main else None) t) ∙ e in absurd cc)
+]
+  where
+    one : {f g : Function} → Some f ≡ Some g → f ≡ g
+    one e = cc
 
 module _ (function : node.Function) (places : List ℕ) (static : IsStatic function) (choice : IsChoice function places) where
   abbrev main : Function
@@ -68,9 +86,11 @@ module _ (function : node.Function) (places : List ℕ) (static : IsStatic funct
 
   pub suits : Suits main places
   suits =
-      suit main (registers_of addresses function) places small.finished choice (ops_served addresses function static)
-      (omega (arith, small.few_registers)) (omega arith) (omega (arith, static.ready.small)) static.plain refl refl
-      (omega (arith, small.few_ops, static.ready.small))
+      suit main (registers_of addresses function) places small.finished choice (omega (arith, small.few_registers)) (omega arith)
+      (omega (arith, static.ready.small)) (omega (arith, static.plain)) refl (omega (arith, small.few_ops, static.ready.small))
+
+  pub fits_below : main.address + 4 * (16 * length main.ops + 64) ≤ ARENA
+  fits_below = omega (arith, small.few_ops, static.ready.small)
 
   abbrev text : List ℕ
   text = front FUNCTIONS 1 ++ main_words function places
@@ -87,39 +107,58 @@ module _ (function : node.Function) (places : List ℕ) (static : IsStatic funct
       (start.first_words (words (start_code FUNCTIONS 1)) (replicate (1024 - length (words (start_code FUNCTIONS 1))) (word_of nop)) (main_words function places))
 
   pub stands : Stands c main places
-  stands = function_stands c main places suits (start.last_words (front FUNCTIONS 1) (main_words function places) FUNCTIONS (omega (arith, front_length)))
+  stands =
+      function_stands c main places suits (ops_served addresses function static) fits_below
+      (start.last_words (front FUNCTIONS 1) (main_words function places) FUNCTIONS (omega (arith, front_length)))
+
+  abbrev setting : Setting
+  setting = record { code = c; program = alone main; places_at = λ a. places; exit = start.exit_at }
+
+  serving : Serving setting
+  serving = record {
+    ops = alone_has main (λ a f. (p : ℕ) → IsServed (op_at f.ops p)) (ops_served addresses function static);
+  }
 
   module _ (input : Input) where
+    standing : Standing setting
+    standing = record {
+      functions = alone_has main (λ a f. (f.address ≡ a) × Stands c f places) (refl, stands);
+      exits = start.waits c input start_stands;
+    }
+
     abbrev begins : World
     begins = machine.begins (image_of function places) input
 
     abbrev shared : Shared
     shared = at_start (program_of function) input
 
-    arrives : Arrives c main shared 17 begins
+    arrives : Arrives setting main shared 17 begins
     arrives = record {
       d = start.called c input start_stands;
-      exit = start.call_at c input start_stands + 8;
       arrives = start.comes c input start_stands;
-      pointer = start.pointer c input start_stands;
-      returns_to = start.returns_to c input start_stands;
-      exits = start.waits c input start_stands;
-      history = start.nothing_yet c input start_stands;
+      known = refl;
+      returns_to = refl;
+      global = refl;
+      memory = start.agrees c input start_stands (alone main) function (λ n. refl);
+      extents = start.extents c input start_stands function;
       unused = refl;
+      none = refl;
+      fits = omega (arith, static.ready.small);
+      objects_fit = omega (arith, static.plain);
     }
 
     abbrev upper : ℕ → State
-    upper i = iterate (advance no_functions) i (first main shared)
+    upper i = iterate (advance (alone main)) i (first main shared)
 
     follows : FollowsAtCost 512 4000 (meant (program_of function) input) (λ i. see (upper i)) (λ i. least_at (upper i)) (λ i. most_at (upper i))
-    follows = lowering.follows_at_cost no_functions addresses (program_of function) input main static.ready (has_code addresses function static.ready) refl refl
+    follows = lowering.follows_at_cost (alone main) addresses (program_of function) input main static.ready (has_code addresses function static.ready) refl refl
 
-    pays : PaysFor 37 (λ i. see (upper i)) (λ i. least_at (upper i)) (λ i. most_at (upper i)) (λ k. machine.see (run k begins))
-    pays = simulated c main places shared 17 begins no_functions stands arrives
+    pays : PaysFor 49 (λ i. see (upper i)) (λ i. least_at (upper i)) (λ i. most_at (upper i)) (λ k. machine.see (run k begins))
+    pays = simulated setting main shared 17 begins standing serving arrives
 
     pub at_pace : (choices : List ℕ) → FollowsAtPace 512 4096 (meant (program_of function) input) (runs (image_of function places) input choices)
     at_pace choices =
-        let f = through 512 4000 37 (meant (program_of function) input) (λ i. see (upper i)) (λ k. machine.see (run k begins)) (λ i. least_at (upper i)) (λ i. most_at (upper i)) follows pays in
+        let f = through 512 4000 49 (meant (program_of function) input) (λ i. see (upper i)) (λ k. machine.see (run k begins)) (λ i. least_at (upper i)) (λ i. most_at (upper i)) follows pays in
         record {
           goes_on = λ m none. let a = f.goes_on m none in (a.0, a.1, omega (arith, a.2), a.3, a.4);
           ends = λ m e is. let a = f.ends m e is in (a.0, omega (arith, a.1), a.2, a.3);
@@ -131,7 +170,7 @@ module _ (function : node.Function) (places : List ℕ) (static : IsStatic funct
         (grows (image_of function places) input choices) (at_pace choices)
 
     keeps : KeepsCode c begins upper
-    keeps = code_kept c main places shared 17 begins no_functions stands arrives
+    keeps = code_kept setting main shared 17 begins standing serving arrives
 
     -- the run comes to a later state with the code as it was
     abbrev Later : ℕ → Type 0
@@ -181,7 +220,7 @@ module _ (function : node.Function) (places : List ℕ) (static : IsStatic funct
         let last : iterate step (i + 1) begins ≡ ended (Fault k a) w.state = iterate_add step i 1 begins ∙ stops in
         let meaning = (faithful []).ends_only_so (i + 1) (Fault k a) tt (ap (λ (z : World). z.ending) last) in
         let f = follows.ends (i + 1) (Fault k a) meaning.ending in
-        no_fault (upper f.0) k a (stays_faultless no_functions f.0 (first main shared) tt) f.2
+        no_fault (upper f.0) k a (stays_faultless (alone main) f.0 (first main shared) tt) f.2
 
     text_executed : (i : ℕ) → (iterate step i begins).ending ≡ None → IsTextWord (image_of function places) (iterate step i begins).state.pc
     text_executed i on = by (fetch (iterate step i begins).state.code (iterate step i begins).state.pc) refl
@@ -193,7 +232,14 @@ module _ (function : node.Function) (places : List ℕ) (static : IsStatic funct
 
     pub clean : (choices : List ℕ) (n : ℕ) → IsDefined (image_of function places) input choices n → IsClean (image_of function places) input choices n
     unfolding run
-    clean choices n defined i is on = inl (text_executed i on)
+    clean choices n defined i within on = inl (text_executed i on)
+
+    faultless : (choices : List ℕ) (n : ℕ) → IsDefined (image_of function places) input choices n
+        → (k : MachineKind) (a : ℕ) → (runs (image_of function places) input choices n).ending ≢ Some (Fault k a)
+    faultless choices n defined k a is =
+        let meaning = (faithful choices).ends_only_so n (Fault k a) defined is in
+        let f = follows.ends n (Fault k a) meaning.ending in
+        no_fault (upper f.0) k a (stays_faultless (alone main) f.0 (first main shared) tt) f.2
 
   pub headline : Headline (program_of function) (image_of function places)
-  headline = record { faithful = λ input choices. faithful input choices; clean = λ input choices n defined. clean input choices n defined }
+  headline = record { faithful = λ input choices. faithful input choices; clean = λ input choices n defined. clean input choices n defined; faultless = λ input choices n defined. faultless input choices n defined }

@@ -2,7 +2,7 @@
 -- legal places the registers of the function have.
 use Rattle.std.specs.Prelude.{ℕ, List}
 use Rattle.image_file.specs.Image.{IsImage}
-use Rattle.tick_meaning.specs.Nodes.{Function}
+use Rattle.typed_tree.specs.Nodes.{Function}
 use Rattle.static_image.specs.Layout.{IsChoice, program_of, image_of}
 use Rattle.static_image.specs.Served.{IsStatic}
 use Rattle.static_image.specs.Headline.{Headline}

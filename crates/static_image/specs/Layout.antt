@@ -11,11 +11,11 @@ use Rattle.icode_ops.specs.Places.{IsLegal}
 use Rattle.icode_templates.specs.Assembly.{v0, a0, t8, gp, sp, fp, addu, ori, lui, sw, jal, syscall, nop, constant}
 use Rattle.icode_templates.specs.Words.{words}
 use Rattle.icode_expand.specs.Expansion.{expanded}
-use Rattle.tick_meaning.specs.Nodes as node
-use Rattle.tick_meaning.specs.Size.{size_of, charge_of}
-use Rattle.tick_meaning.specs.Meaning.{Program}
-use Rattle.tick_lower.specs.Lower.{Addresses}
-use Rattle.tick_lower.specs.Laws.{code_of, registers_of}
+use Rattle.typed_tree.specs.Nodes as node
+use Rattle.staged_meaning.specs.Size.{size_of, charge_of}
+use Rattle.staged_meaning.specs.Meaning.{Program}
+use Rattle.tick_lower_proof.specs.Lower.{Addresses}
+use Rattle.tick_lower_proof.specs.Laws.{code_of, registers_of}
 
 -- a word to a register whose lower half is 0
 abbrev pub upper : ℕ → ℕ → Instr
@@ -71,7 +71,7 @@ IsChoice function places = IsLegal (ops_of function) (registers_of addresses fun
 
 -- the program that the function is
 abbrev pub program_of : node.Function → Program
-program_of function = record { main = function; image = [] }
+program_of function = record { main = function; functions = function ∷ []; ticks = []; image = [] }
 
 -- the words of the function, under a choice of places of its registers
 abbrev pub main_words : node.Function → List ℕ → List ℕ

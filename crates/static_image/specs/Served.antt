@@ -1,8 +1,9 @@
 -- The functions of which an image is made so far.
 use Rattle.std.specs.Prelude.{◌≡◌, ◌<◌}
-use Rattle.template_effects.specs.Laws.{IsStraight}
-use Rattle.tick_meaning.specs.Nodes.{Expr, Const, Var, SetVar, Bin, Lib, Putchar, Stmt, Eval, Block, Variable, If, IfElse, While, ReturnValue, Items, NoItem, Item, Function}
-use Rattle.tick_meaning.specs.Scope.{IsReady}
+use Rattle.icode_templates_proof.specs.Laws.{IsStraight}
+use Rattle.typed_tree.specs.Nodes.{Expr, Const, Var, SetVar, Bin, Lib, Stmt, Eval, Block, Variable, If, IfElse, While, ReturnValue, Items, NoItem, Item, Function}
+use Rattle.typed_tree.specs.declared.expression.Library.TheVariants.{Putchar}
+use Rattle.staged_meaning.specs.Scope.{IsReady}
 
 -- each constant is a word, and each operator one that uses neither HI nor LO
 abbrev pub IsServed : Expr → Type 0

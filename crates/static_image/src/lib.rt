@@ -4,8 +4,6 @@
 
 mod laws;
 mod start;
-#[cfg(test)]
-mod tests;
 
 pub use laws::{headline_holds, images_keep_rules};
 pub use start::write_front;

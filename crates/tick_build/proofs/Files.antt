@@ -10,11 +10,11 @@ use Rattle.image_file.specs.Format.{word_bytes, function_bytes, header, spelling
 use Rattle.image_file.specs.declared.fault.ImageFault.{ImageFault}
 use Rattle.image_file.proofs.Words.{length-words, length-functions}
 use Rattle.icode_ops.specs.declared.interval.Interval.{Interval}
-use Rattle.scan_places.specs.Scan.{places_of}
-use Rattle.tick_meaning.specs.Nodes.{Function}
-use Rattle.tick_meaning.specs.Meaning.{Program}
+use Rattle.linear_scan_spec.specs.Scan.{places_of}
+use Rattle.typed_tree.specs.Nodes.{Function}
+use Rattle.staged_meaning.specs.Meaning.{Program}
 use Rattle.static_image.specs.Headline.{Headline}
-use Rattle.tick_lower.specs.Laws.{registers_of}
+use Rattle.tick_lower_proof.specs.Laws.{registers_of}
 use Rattle.static_image.specs.Layout.{addresses, program_of, image_of, ops_of}
 use Rattle.static_backend.specs.Scanned.{IsScanned}
 use Rattle.tick_build.specs.Texts.{typed, Lowered, Builds}
@@ -70,7 +70,7 @@ one_scan : (f : Function) (a b : ImageParts) → IsScanned f a → IsScanned f b
 one_scan f a b s t =
     s.same ∙ ap (λ (xs : List Interval). image_of f (places_of (registers_of addresses f) xs)) (one_list (ops_of f) s.intervals t.intervals s.found t.found) ∙ sym t.same
 
-one_lowered : (text : List ℕ) (a b : ImageParts) → Lowered text a → Lowered text b → a ≡ b
+pub one_lowered : (text : List ℕ) (a b : ImageParts) → Lowered text a → Lowered text b → a ≡ b
 one_lowered text a b s t =
     one_scan t.function a b (subst (λ (f : Function). IsScanned f a) (one_function (typed text) s.function t.function s.accepted t.accepted) s.scanned) t.scanned
 

@@ -6,8 +6,8 @@ use Rattle.tick_tree.specs.declared.fault.Deny.TheVariants as deny
 use Rattle.tick_tree.specs.declared.fault.Fault.{Fault}
 use Rattle.tick_tree.specs.Faults.{Checks}
 use Rattle.typed_tree.specs.declared.program.Typed.{Typed}
-use Rattle.tick_meaning.specs.Nodes.{Function}
-use Rattle.tick_meaning.specs.Meaning.{Program}
+use Rattle.typed_tree.specs.Nodes.{Function}
+use Rattle.staged_meaning.specs.Meaning.{Program}
 use Rattle.image_file.specs.Image.{ImageParts, IsImage}
 use Rattle.built_programs.specs.Built.{built}
 use Rattle.built_programs.specs.Laws.{BuiltIsStatic}

@@ -3,9 +3,9 @@
 use Rattle.std.specs.Prelude.{◌≡◌, ℕ, ◌≤◌, List, length, Ok}
 use Rattle.image_file.specs.Image.{ImageParts}
 use Rattle.image_file.specs.Format.{spelling, parsed}
-use Rattle.tick_meaning.specs.Meaning.{Program}
+use Rattle.staged_meaning.specs.Meaning.{Program}
 use Rattle.static_image.specs.Headline.{Headline}
-use Rattle.tick_build.specs.Texts.{Builds}
+use Rattle.tick_build.specs.Texts.{Builds, Lowered}
 
 -- the most bytes of an image file
 abbrev pub most_file_bytes : ℕ
@@ -38,6 +38,10 @@ abbrev pub ReadsHeadline : Type 0
 ReadsHeadline =
     (program : Program) (bytes : List ℕ) (image : ImageParts) → HeadlineOfBytes program bytes → parsed bytes ≡ Ok image
     → Headline program image
+
+-- A text has one image: what is lowered of it for a run is what is lowered for a file.
+abbrev pub LowersOne : Type 0
+LowersOne = (text : List ℕ) (one other : ImageParts) → Lowered text one → Lowered text other → one ≡ other
 
 -- a text has one image file
 abbrev pub SavesOne : Type 0

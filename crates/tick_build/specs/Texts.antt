@@ -11,8 +11,8 @@ use Rattle.tick_parser.specs.Trees.{parsed}
 use Rattle.typed_tree.specs.declared.program.Typed.{Typed}
 use Rattle.tick_checker.specs.Program.{checked}
 use Rattle.built_programs.specs.Built.{built}
-use Rattle.tick_meaning.specs.Nodes.{Function}
-use Rattle.tick_meaning.specs.Meaning.{Program}
+use Rattle.typed_tree.specs.Nodes.{Function}
+use Rattle.staged_meaning.specs.Meaning.{Program}
 use Rattle.image_file.specs.Image.{ImageParts, IsImage}
 use Rattle.static_image.specs.Layout.{IsChoice, program_of, image_of}
 use Rattle.static_image.specs.Headline.{Headline}

@@ -5,7 +5,4 @@ mod accepted;
 mod saved;
 
 pub use accepted::build;
-pub use saved::{build_file, reads_headline, saves_built, saves_headline, saves_one};
-
-#[cfg(test)]
-mod tests;
+pub use saved::{build_file, lowers_one, reads_headline, saves_built, saves_headline, saves_one};

@@ -3,7 +3,7 @@ ghost use Rattle.std.specs.Prelude.{◌≡◌, ◌≤◌, length, IfOk};
 ghost use Rattle.image_file.specs.Image.{IsImage};
 ghost use Rattle.tick_build.specs.Texts as spec;
 ghost use Rattle.tick_build.specs.Texts.{Builds};
-ghost use Rattle.tick_build.specs.Saved.{IsFileOf, Saves, SavesHeadline, ReadsHeadline, SavesOne, SavesBuilt};
+ghost use Rattle.tick_build.specs.Saved.{IsFileOf, Saves, SavesHeadline, ReadsHeadline, LowersOne, SavesOne, SavesBuilt};
 
 use crate::accepted::build;
 use image_file::write;
@@ -35,6 +35,11 @@ pub fn saves_headline()
 /// The headline holds for the image that is read from the saved bytes.
 pub fn reads_headline()
     ensures { ReadsHeadline }
+{}
+
+/// A text has one image: the one that `run` lowers it to is the one whose bytes `build_file` gives.
+pub fn lowers_one()
+    ensures { LowersOne }
 {}
 
 /// A text has one image file.

@@ -9,16 +9,16 @@ use Rattle.tick_tree.specs.declared.syntax.Expr.{Expr}
 use Rattle.tick_tree.specs.declared.syntax.External.{External}
 use Rattle.tick_tree.specs.declared.syntax.Init.{Init}
 use Rattle.tick_tree.specs.Faults.{◌>>=◌ as ◌>>>=◌}
-use Rattle.c_forms.specs.Forms.{has_form, string_of}
-use Rattle.c_nodes.specs.declared.operand.Operand.{Operand}
+use Rattle.check_forms.specs.Forms.{has_form, string_of}
+use Rattle.check_operators.specs.declared.operand.Operand.{Operand}
 use Rattle.check_globals.specs.declared.statics.Row.{Row}
 use Rattle.check_globals.specs.Statics.{row_more}
-use Rattle.check_state.specs.declared.state.Stage.TheVariants as stage
-use Rattle.check_state.specs.declared.state.State.{State}
+use Rattle.check_env.specs.declared.state.Stage.TheVariants as stage
+use Rattle.check_env.specs.declared.state.State.{State}
 use Rattle.tick_checker.specs.Program as spec
-use Rattle.tick_checker.specs.Walk as walks
-use Rattle.tick_checker.proofs.Loops.{next}
-use Rattle.tick_checker.proofs.Written.{expr_agrees}
+use Rattle.check_walk.specs.Walk as walks
+use Rattle.check_walk.proofs.Loops.{next}
+use Rattle.check_walk.proofs.Written.{expr_agrees}
 
 pub row_goes : (xs : List Expr) (i : ℕ) (e : Expr) (t : CType) (r : Row) (s z : State) (o : Operand) → i < length xs → e ≡ get_or xs i e
     → (walks.node e).walk stage.Function s ≡ Ok (o, z)
@@ -63,7 +63,7 @@ pub walk_fails : (xs : List External) (i : ℕ) (e : External) (s : State) (f : 
     → spec.external e s ≡ Err f → spec.walk (drop i xs) s ≡ Err f
 walk_fails xs i e s f h is was = next (λ es. spec.walk es s) xs i e h is ∙ ap (λ q. q >>>= (λ p. spec.walk (drop (i + 1) xs) p.1)) was
 
--- the same with what c_forms says of the value
+-- the same with what check_forms says of the value
 pub row_next : (xs : List Expr) (i : ℕ) (e : Expr) (t : CType) (r next_row : Row) (s z : State) (o : Operand) → i < length xs → e ≡ get_or xs i e
     → (walks.node e).walk stage.Function s ≡ Ok (o, z) → next_row ≡ row_more t (has_form e) (is_some (string_of e)) o r
     → spec.row (map walks.node (drop (i + 1) xs)) t next_row z ≡ spec.row (map walks.node (drop i xs)) t r s

@@ -1,7 +1,7 @@
 -- The parameters of the function that a declarator declares, by the parts of the declarator. Written by tools/checker/heads.py.
 use Rattle.std.proofs.Common.{◌≡◌, ℕ, Bool, List, [], ◌∷◌, map, refl, ap, sym, ◌∙◌, subst}
-use Rattle.c_forms.specs.Forms as forms
-use Rattle.c_forms.specs.Forms.{Written, Declared}
+use Rattle.check_forms.specs.Forms as forms
+use Rattle.check_forms.specs.Forms.{Written, Declared}
 use Rattle.tick_tree.specs.declared.syntax.Core.TheVariants as co
 use Rattle.tick_tree.specs.declared.syntax.Suffix.TheVariants as sx
 use Rattle.tick_tree.specs.declared.syntax.Declarator.{out-Declarator}
@@ -44,7 +44,7 @@ opened d = fold_out-Declarator Inner (Unit {0}) (Unit {0}) (Unit {0}) (Unit {0})
 pub by_core : (ps : List Given) (d : Declarator) → ps ≡ (inner (out-Declarator d).core).list (first_of (map list (out-Declarator d).suffixes)) → ps ≡ parameters_of d
 by_core ps d h = h ∙ ap (λ x. x.list) (sym (opened d))
 
--- ---- the name is that of c_forms
+-- ---- the name is that of check_forms
 
 abbrev CoreAgrees : Core → Type 0
 CoreAgrees c = (inner c).name ≡ (forms.declared_core c).name
@@ -92,11 +92,11 @@ walk_core : (x : Core-F Core Expr Initializer OptionalExpr Stmt Suffix Declarati
 unfolding inner head list written
 walk_core x = fold-roll-Core Inner (Unit {0}) (Unit {0}) (Unit {0}) (Unit {0}) (List Given) (Unit {0}) Head (Unit {0}) Given (Unit {0}) inner_rule nothing nothing nothing nothing list_rule nothing head_rule nothing given_rule nothing x
 
-form_core : (x : Core-F Core Expr Initializer OptionalExpr Stmt Suffix Declaration Declarator Init Parameter Typename) → forms.declared_core (roll-Core x) ≡ forms.core_rule (map-Core Core Expr Initializer OptionalExpr Stmt Suffix Declaration Declarator Init Parameter Typename Declared Written (Unit {0}) (Unit {0}) (Unit {0}) (Unit {0}) (Unit {0}) Declared (Unit {0}) (Unit {0}) Bool forms.declared_core forms.written nothing nothing nothing nothing nothing forms.declared nothing nothing forms.is_integer_name x)
-unfolding forms.written forms.declared forms.declared_core forms.is_integer_name
-form_core x = fold-roll-Core Declared Written (Unit {0}) (Unit {0}) (Unit {0}) (Unit {0}) (Unit {0}) Declared (Unit {0}) (Unit {0}) Bool forms.core_rule forms.expr_rule nothing nothing nothing nothing nothing forms.declarator_rule nothing nothing forms.typename_rule x
+form_core : (x : Core-F Core Expr Initializer OptionalExpr Stmt Suffix Declaration Declarator Init Parameter Typename) → forms.declared_core (roll-Core x) ≡ forms.core_rule (map-Core Core Expr Initializer OptionalExpr Stmt Suffix Declaration Declarator Init Parameter Typename Declared Written (Unit {0}) (Unit {0}) (Unit {0}) Bool (Unit {0}) Declared (Unit {0}) Bool Bool forms.declared_core forms.written nothing nothing nothing forms.is_staged_suffix nothing forms.declared nothing forms.is_staged_parameter forms.is_integer_name x)
+unfolding forms.written forms.declared forms.declared_core forms.is_staged_suffix forms.is_staged_parameter forms.is_integer_name
+form_core x = fold-roll-Core Declared Written (Unit {0}) (Unit {0}) (Unit {0}) Bool (Unit {0}) Declared (Unit {0}) Bool Bool forms.core_rule forms.expr_rule nothing nothing nothing forms.suffix_rule nothing forms.declarator_rule nothing forms.parameter_rule forms.typename_rule x
 
-core_layer : (y : Core-F KnownCore KnownExpr KnownInitializer KnownOptionalExpr KnownStmt KnownSuffix KnownDeclaration KnownDeclarator KnownInit KnownParameter KnownTypename) → (inner_rule (map-Core Core Expr Initializer OptionalExpr Stmt Suffix Declaration Declarator Init Parameter Typename Inner (Unit {0}) (Unit {0}) (Unit {0}) (Unit {0}) (List Given) (Unit {0}) Head (Unit {0}) Given (Unit {0}) inner nothing nothing nothing nothing list nothing head nothing written nothing (map-Core KnownCore KnownExpr KnownInitializer KnownOptionalExpr KnownStmt KnownSuffix KnownDeclaration KnownDeclarator KnownInit KnownParameter KnownTypename Core Expr Initializer OptionalExpr Stmt Suffix Declaration Declarator Init Parameter Typename (λ k. k.0) (λ k. k.0) (λ k. k.0) (λ k. k.0) (λ k. k.0) (λ k. k.0) (λ k. k.0) (λ k. k.0) (λ k. k.0) (λ k. k.0) (λ k. k.0) y))).name ≡ (forms.core_rule (map-Core Core Expr Initializer OptionalExpr Stmt Suffix Declaration Declarator Init Parameter Typename Declared Written (Unit {0}) (Unit {0}) (Unit {0}) (Unit {0}) (Unit {0}) Declared (Unit {0}) (Unit {0}) Bool forms.declared_core forms.written nothing nothing nothing nothing nothing forms.declared nothing nothing forms.is_integer_name (map-Core KnownCore KnownExpr KnownInitializer KnownOptionalExpr KnownStmt KnownSuffix KnownDeclaration KnownDeclarator KnownInit KnownParameter KnownTypename Core Expr Initializer OptionalExpr Stmt Suffix Declaration Declarator Init Parameter Typename (λ k. k.0) (λ k. k.0) (λ k. k.0) (λ k. k.0) (λ k. k.0) (λ k. k.0) (λ k. k.0) (λ k. k.0) (λ k. k.0) (λ k. k.0) (λ k. k.0) y))).name
+core_layer : (y : Core-F KnownCore KnownExpr KnownInitializer KnownOptionalExpr KnownStmt KnownSuffix KnownDeclaration KnownDeclarator KnownInit KnownParameter KnownTypename) → (inner_rule (map-Core Core Expr Initializer OptionalExpr Stmt Suffix Declaration Declarator Init Parameter Typename Inner (Unit {0}) (Unit {0}) (Unit {0}) (Unit {0}) (List Given) (Unit {0}) Head (Unit {0}) Given (Unit {0}) inner nothing nothing nothing nothing list nothing head nothing written nothing (map-Core KnownCore KnownExpr KnownInitializer KnownOptionalExpr KnownStmt KnownSuffix KnownDeclaration KnownDeclarator KnownInit KnownParameter KnownTypename Core Expr Initializer OptionalExpr Stmt Suffix Declaration Declarator Init Parameter Typename (λ k. k.0) (λ k. k.0) (λ k. k.0) (λ k. k.0) (λ k. k.0) (λ k. k.0) (λ k. k.0) (λ k. k.0) (λ k. k.0) (λ k. k.0) (λ k. k.0) y))).name ≡ (forms.core_rule (map-Core Core Expr Initializer OptionalExpr Stmt Suffix Declaration Declarator Init Parameter Typename Declared Written (Unit {0}) (Unit {0}) (Unit {0}) Bool (Unit {0}) Declared (Unit {0}) Bool Bool forms.declared_core forms.written nothing nothing nothing forms.is_staged_suffix nothing forms.declared nothing forms.is_staged_parameter forms.is_integer_name (map-Core KnownCore KnownExpr KnownInitializer KnownOptionalExpr KnownStmt KnownSuffix KnownDeclaration KnownDeclarator KnownInit KnownParameter KnownTypename Core Expr Initializer OptionalExpr Stmt Suffix Declaration Declarator Init Parameter Typename (λ k. k.0) (λ k. k.0) (λ k. k.0) (λ k. k.0) (λ k. k.0) (λ k. k.0) (λ k. k.0) (λ k. k.0) (λ k. k.0) (λ k. k.0) (λ k. k.0) y))).name
 core_layer Core-F.Core::Absent = refl
 core_layer (Core-F.Core::Name n x) = refl
 core_layer (Core-F.Core::Paren d) = d.1
@@ -108,11 +108,11 @@ walk_declarator : (x : Declarator-F Core Expr Initializer OptionalExpr Stmt Suff
 unfolding inner head list written
 walk_declarator x = fold-roll-Declarator Inner (Unit {0}) (Unit {0}) (Unit {0}) (Unit {0}) (List Given) (Unit {0}) Head (Unit {0}) Given (Unit {0}) inner_rule nothing nothing nothing nothing list_rule nothing head_rule nothing given_rule nothing x
 
-form_declarator : (x : Declarator-F Core Expr Initializer OptionalExpr Stmt Suffix Declaration Declarator Init Parameter Typename) → forms.declared (roll-Declarator x) ≡ forms.declarator_rule (map-Declarator Core Expr Initializer OptionalExpr Stmt Suffix Declaration Declarator Init Parameter Typename Declared Written (Unit {0}) (Unit {0}) (Unit {0}) (Unit {0}) (Unit {0}) Declared (Unit {0}) (Unit {0}) Bool forms.declared_core forms.written nothing nothing nothing nothing nothing forms.declared nothing nothing forms.is_integer_name x)
-unfolding forms.written forms.declared forms.declared_core forms.is_integer_name
-form_declarator x = fold-roll-Declarator Declared Written (Unit {0}) (Unit {0}) (Unit {0}) (Unit {0}) (Unit {0}) Declared (Unit {0}) (Unit {0}) Bool forms.core_rule forms.expr_rule nothing nothing nothing nothing nothing forms.declarator_rule nothing nothing forms.typename_rule x
+form_declarator : (x : Declarator-F Core Expr Initializer OptionalExpr Stmt Suffix Declaration Declarator Init Parameter Typename) → forms.declared (roll-Declarator x) ≡ forms.declarator_rule (map-Declarator Core Expr Initializer OptionalExpr Stmt Suffix Declaration Declarator Init Parameter Typename Declared Written (Unit {0}) (Unit {0}) (Unit {0}) Bool (Unit {0}) Declared (Unit {0}) Bool Bool forms.declared_core forms.written nothing nothing nothing forms.is_staged_suffix nothing forms.declared nothing forms.is_staged_parameter forms.is_integer_name x)
+unfolding forms.written forms.declared forms.declared_core forms.is_staged_suffix forms.is_staged_parameter forms.is_integer_name
+form_declarator x = fold-roll-Declarator Declared Written (Unit {0}) (Unit {0}) (Unit {0}) Bool (Unit {0}) Declared (Unit {0}) Bool Bool forms.core_rule forms.expr_rule nothing nothing nothing forms.suffix_rule nothing forms.declarator_rule nothing forms.parameter_rule forms.typename_rule x
 
-declarator_layer : (y : Declarator-F KnownCore KnownExpr KnownInitializer KnownOptionalExpr KnownStmt KnownSuffix KnownDeclaration KnownDeclarator KnownInit KnownParameter KnownTypename) → (head_rule (map-Declarator Core Expr Initializer OptionalExpr Stmt Suffix Declaration Declarator Init Parameter Typename Inner (Unit {0}) (Unit {0}) (Unit {0}) (Unit {0}) (List Given) (Unit {0}) Head (Unit {0}) Given (Unit {0}) inner nothing nothing nothing nothing list nothing head nothing written nothing (map-Declarator KnownCore KnownExpr KnownInitializer KnownOptionalExpr KnownStmt KnownSuffix KnownDeclaration KnownDeclarator KnownInit KnownParameter KnownTypename Core Expr Initializer OptionalExpr Stmt Suffix Declaration Declarator Init Parameter Typename (λ k. k.0) (λ k. k.0) (λ k. k.0) (λ k. k.0) (λ k. k.0) (λ k. k.0) (λ k. k.0) (λ k. k.0) (λ k. k.0) (λ k. k.0) (λ k. k.0) y))).name ≡ (forms.declarator_rule (map-Declarator Core Expr Initializer OptionalExpr Stmt Suffix Declaration Declarator Init Parameter Typename Declared Written (Unit {0}) (Unit {0}) (Unit {0}) (Unit {0}) (Unit {0}) Declared (Unit {0}) (Unit {0}) Bool forms.declared_core forms.written nothing nothing nothing nothing nothing forms.declared nothing nothing forms.is_integer_name (map-Declarator KnownCore KnownExpr KnownInitializer KnownOptionalExpr KnownStmt KnownSuffix KnownDeclaration KnownDeclarator KnownInit KnownParameter KnownTypename Core Expr Initializer OptionalExpr Stmt Suffix Declaration Declarator Init Parameter Typename (λ k. k.0) (λ k. k.0) (λ k. k.0) (λ k. k.0) (λ k. k.0) (λ k. k.0) (λ k. k.0) (λ k. k.0) (λ k. k.0) (λ k. k.0) (λ k. k.0) y))).name
+declarator_layer : (y : Declarator-F KnownCore KnownExpr KnownInitializer KnownOptionalExpr KnownStmt KnownSuffix KnownDeclaration KnownDeclarator KnownInit KnownParameter KnownTypename) → (head_rule (map-Declarator Core Expr Initializer OptionalExpr Stmt Suffix Declaration Declarator Init Parameter Typename Inner (Unit {0}) (Unit {0}) (Unit {0}) (Unit {0}) (List Given) (Unit {0}) Head (Unit {0}) Given (Unit {0}) inner nothing nothing nothing nothing list nothing head nothing written nothing (map-Declarator KnownCore KnownExpr KnownInitializer KnownOptionalExpr KnownStmt KnownSuffix KnownDeclaration KnownDeclarator KnownInit KnownParameter KnownTypename Core Expr Initializer OptionalExpr Stmt Suffix Declaration Declarator Init Parameter Typename (λ k. k.0) (λ k. k.0) (λ k. k.0) (λ k. k.0) (λ k. k.0) (λ k. k.0) (λ k. k.0) (λ k. k.0) (λ k. k.0) (λ k. k.0) (λ k. k.0) y))).name ≡ (forms.declarator_rule (map-Declarator Core Expr Initializer OptionalExpr Stmt Suffix Declaration Declarator Init Parameter Typename Declared Written (Unit {0}) (Unit {0}) (Unit {0}) Bool (Unit {0}) Declared (Unit {0}) Bool Bool forms.declared_core forms.written nothing nothing nothing forms.is_staged_suffix nothing forms.declared nothing forms.is_staged_parameter forms.is_integer_name (map-Declarator KnownCore KnownExpr KnownInitializer KnownOptionalExpr KnownStmt KnownSuffix KnownDeclaration KnownDeclarator KnownInit KnownParameter KnownTypename Core Expr Initializer OptionalExpr Stmt Suffix Declaration Declarator Init Parameter Typename (λ k. k.0) (λ k. k.0) (λ k. k.0) (λ k. k.0) (λ k. k.0) (λ k. k.0) (λ k. k.0) (λ k. k.0) (λ k. k.0) (λ k. k.0) (λ k. k.0) y))).name
 declarator_layer y = y.core.1
 
 declarator_step : (x : Declarator-F Core Expr Initializer OptionalExpr Stmt Suffix Declaration Declarator Init Parameter Typename) (y : Declarator-F KnownCore KnownExpr KnownInitializer KnownOptionalExpr KnownStmt KnownSuffix KnownDeclaration KnownDeclarator KnownInit KnownParameter KnownTypename) → (map-Declarator KnownCore KnownExpr KnownInitializer KnownOptionalExpr KnownStmt KnownSuffix KnownDeclaration KnownDeclarator KnownInit KnownParameter KnownTypename Core Expr Initializer OptionalExpr Stmt Suffix Declaration Declarator Init Parameter Typename (λ k. k.0) (λ k. k.0) (λ k. k.0) (λ k. k.0) (λ k. k.0) (λ k. k.0) (λ k. k.0) (λ k. k.0) (λ k. k.0) (λ k. k.0) (λ k. k.0) y) ≡ x → DeclaratorAgrees (roll-Declarator x)

@@ -1,5 +1,3 @@
-pub mod Equations
 pub mod Globals
 pub mod Heads
-pub mod Loops
-pub mod Written
+pub mod Parts

@@ -1,6 +1,6 @@
 -- The parameters of the function that a declarator declares, as they are written: the list that stands first behind its name.
 use Rattle.std.specs.Prelude.{ℕ, List, [], ◌∷◌, Option, Some, None}
-use Rattle.c_forms.specs.Forms.{Name}
+use Rattle.check_forms.specs.Forms.{Name}
 use Rattle.tick_tree.specs.declared.syntax.Core.{Core}
 use Rattle.tick_tree.specs.declared.syntax.Declarator.{Declarator}
 use Rattle.tick_tree.specs.declared.syntax.Parameter.{Parameter}

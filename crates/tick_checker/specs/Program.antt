@@ -4,11 +4,11 @@
 -- rules; what may stand at file scope is C's.
 use Rattle.std.specs.Prelude.{◌≡◌, ℕ, Bool, true, false, ◌&&◌, if◌then◌else◌, List, [], ◌∷◌, length, map, Option, Some, None, is_some, Result, Ok, Err}
 use Rattle.c_types.specs.declared.ctype.CType.{CType}
-use Rattle.c_declared.specs.declared.steps.Role.TheVariants as role
-use Rattle.c_declared.specs.declared.steps.Step.{Step}
-use Rattle.c_declared.specs.Making.{declared_type}
-use Rattle.c_declared.specs.Words as words
-use Rattle.c_shapes.specs.Shapes.{inner, is_function}
+use Rattle.check_declarators.specs.declared.steps.Role.TheVariants as role
+use Rattle.check_declarators.specs.declared.steps.Step.{Step}
+use Rattle.check_declarators.specs.Making.{declared_type}
+use Rattle.check_declarators.specs.Words as words
+use Rattle.check_types.specs.Shapes.{inner, is_function}
 use Rattle.tick_tree.specs.declared.base.Base.{Base}
 use Rattle.tick_tree.specs.declared.fault.FaultKind.TheVariants as fault
 use Rattle.tick_tree.specs.declared.syntax.Declaration.{Declaration}
@@ -19,11 +19,11 @@ use Rattle.tick_tree.specs.Faults.{Checked, refuse, ◌>>=◌ as ◌>>>=◌}
 use Rattle.typed_tree.specs.declared.expression.Stmt.{Stmt as Act}
 use Rattle.typed_tree.specs.declared.expression.Stmt.TheVariants as st
 use Rattle.typed_tree.specs.declared.program.Typed.{Typed}
-use Rattle.check_state.specs.declared.state.Around.{Around}
-use Rattle.check_state.specs.declared.state.Stage.TheVariants as stage
-use Rattle.check_state.specs.declared.state.State.{State}
-use Rattle.check_state.specs.Blocks.{depth, enter, leave}
-use Rattle.check_state.specs.Starts.{start, again}
+use Rattle.check_env.specs.declared.state.Around.{Around}
+use Rattle.check_env.specs.declared.state.Stage.TheVariants as stage
+use Rattle.check_env.specs.declared.state.State.{State}
+use Rattle.check_env.specs.Blocks.{depth, enter, leave}
+use Rattle.check_env.specs.Starts.{start, again}
 use Rattle.check_tables.specs.Walks.{Rule, ◌>>=◌, pure, lift}
 use Rattle.check_expressions.specs.Rules as rules
 use Rattle.check_expressions.specs.Rules.{Node, Shape, Item}
@@ -36,7 +36,7 @@ use Rattle.check_globals.specs.Names as names
 use Rattle.check_globals.specs.Programs.{finished}
 use Rattle.check_globals.specs.Statics as statics
 use Rattle.tick_checker.specs.Parameters.{parameters_of}
-use Rattle.tick_checker.specs.Walk.{Start, Nothing, Value, Values, InitParts, Declarations, declaration, with_start, shape, item}
+use Rattle.check_walk.specs.Walk.{Start, Nothing, Value, Values, InitParts, Declarations, declaration, with_start, shape, item}
 
 -- ---- variables and prototypes
 

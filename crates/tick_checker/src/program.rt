@@ -6,23 +6,20 @@ ghost use Rattle.check_globals.specs.Statics.{row_begun};
 ghost use Rattle.check_tables.specs.Walks.{Reads};
 ghost use Rattle.tick_checker.specs.Parameters as heads;
 ghost use Rattle.tick_checker.specs.Program as spec;
-ghost use Rattle.tick_checker.specs.Walk as walks;
+ghost use Rattle.check_walk.specs.Walk as walks;
 
-use crate::declarations::with_start;
-use crate::expressions::expression;
 use crate::parameters::parameters_of;
-use crate::statements::items;
-use crate::types::declarator;
-use c_declared::{Role, base_of, declared_type};
-use c_forms::string_of;
-use c_shapes::{inner, is_function};
 use c_types::TypeRef;
+use check_declarators::{Role, base_of, declared_type};
+use check_env::{Around, Stage, State};
+use check_forms::string_of;
 use check_globals::{
     Row, end, name_function, named_steps, prototype, static_list, static_text, static_value,
     variable,
 };
-use check_state::{Around, Stage, State};
 use check_statements::is_text;
+use check_types::{inner, is_function};
+use check_walk::{declarator, expression, items, with_start};
 use sqlite_items::{Boxed, Items};
 use std::alloc::Global;
 use tick_tree::{
@@ -48,7 +45,7 @@ fn global_type(
 }
 
 // The values of a list, by the type of an element.
-#[tactic(auto, using(crate::proofs::Written::forms_of))]
+#[tactic(auto, using(check_walk::proofs::Written::forms_of))]
 fn row(
     alloc: Global,
     state: &mut State,
@@ -66,7 +63,7 @@ fn row(
     Ok(row)
 }
 
-#[tactic(auto, using(crate::proofs::Loops::same_length))]
+#[tactic(auto, using(check_walk::proofs::Loops::same_length))]
 fn listed(
     alloc: Global,
     state: &mut State,
@@ -82,7 +79,7 @@ fn listed(
     static_list(alloc, state, line, at, t, list, row)
 }
 
-#[tactic(auto, using(crate::proofs::Written::forms_of))]
+#[tactic(auto, using(check_walk::proofs::Written::forms_of))]
 fn static_walked(
     alloc: Global,
     state: &mut State,
@@ -97,7 +94,7 @@ fn static_walked(
     static_value(alloc, state, line, at, t, e, o)
 }
 
-#[tactic(auto, using(crate::proofs::Written::forms_of))]
+#[tactic(auto, using(check_walk::proofs::Written::forms_of))]
 fn static_one(
     alloc: Global,
     state: &mut State,
@@ -120,7 +117,7 @@ fn static_one(
     }
 }
 
-#[tactic(auto, using(crate::proofs::Equations::initializers))]
+#[tactic(auto, using(check_walk::proofs::Equations::initializers))]
 fn static_begin(
     alloc: Global,
     state: &mut State,
@@ -138,7 +135,7 @@ fn static_begin(
     }
 }
 
-#[tactic(auto, using(crate::proofs::Written::forms_of))]
+#[tactic(auto, using(check_walk::proofs::Written::forms_of))]
 fn begin_variable(
     alloc: Global,
     state: &mut State,
@@ -162,7 +159,7 @@ fn walked(alloc: Global, state: &mut State, list: &[Expr]) -> Result<(), Deny>
     Ok(())
 }
 
-#[tactic(auto, using(crate::proofs::Equations::initializers))]
+#[tactic(auto, using(check_walk::proofs::Equations::initializers))]
 fn no_start(alloc: Global, state: &mut State, line: u32, value: &Initializer) -> Result<(), Deny>
     ensures { Reads (spec.no_start line (walks.initializer value.now) state.old) result state.new }
 {
@@ -179,7 +176,7 @@ fn no_start(alloc: Global, state: &mut State, line: u32, value: &Initializer) ->
     }
 }
 
-#[tactic(auto, using(crate::proofs::Written::forms_of))]
+#[tactic(auto, using(check_walk::proofs::Written::forms_of))]
 fn begin_prototype(
     alloc: Global,
     state: &mut State,
@@ -212,7 +209,7 @@ fn global_parts(
     }
 }
 
-#[tactic(auto, using(crate::proofs::Equations::globals))]
+#[tactic(auto, using(crate::proofs::Parts::globals))]
 fn global(alloc: Global, state: &mut State, line: u32, base: Base, init: &Init) -> Result<(), Deny>
     ensures { Reads (spec.global line base (walks.init init.now) state.old) result state.new }
 {
@@ -234,7 +231,7 @@ fn globals(
     Ok(())
 }
 
-#[tactic(auto, using(crate::proofs::Equations::globals))]
+#[tactic(auto, using(crate::proofs::Parts::globals))]
 fn declared(alloc: Global, state: &mut State, d: &Declaration) -> Result<(), Deny>
     ensures { Reads (spec.declared (walks.declaration d.now) state.old) result state.new }
 {
@@ -296,7 +293,7 @@ fn body(
     Ok(Boxed::new(alloc, Stmt::Block(variables, nodes))?)
 }
 
-#[tactic(auto, using(crate::proofs::Written::forms_of))]
+#[tactic(auto, using(check_walk::proofs::Written::forms_of))]
 fn function_rest(
     alloc: Global,
     state: &mut State,
@@ -311,7 +308,7 @@ fn function_rest(
     end(alloc, state, line, d, t, node)
 }
 
-#[tactic(auto, using(crate::proofs::Written::forms_of))]
+#[tactic(auto, using(check_walk::proofs::Written::forms_of))]
 fn function(
     alloc: Global,
     state: &mut State,

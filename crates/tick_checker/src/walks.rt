@@ -4,8 +4,8 @@ ghost use Rattle.tick_tree.specs.Faults.{Checks};
 ghost use Rattle.tick_checker.specs.Program as spec;
 
 use crate::program::walk;
+use check_env::State;
 use check_globals::finished;
-use check_state::State;
 use std::alloc::Global;
 use tick_tree::{Deny, External, Tree};
 use typed_tree::Typed;
@@ -14,8 +14,13 @@ fn second(alloc: Global, state: State, list: &[External]) -> Result<Typed, Deny>
     ensures { Checks result (spec.second_walk list.now state) }
 {
     let mut state = state;
-    walk(alloc, &mut state, list)?;
-    finished(alloc, state)
+    match walk(alloc, &mut state, list) {
+        Ok(()) => finished(alloc, state),
+        Err(why) => {
+            drop(state);
+            Err(why)
+        }
+    }
 }
 
 fn again(alloc: Global, state: State, list: &[External]) -> Result<Typed, Deny>
@@ -29,8 +34,13 @@ fn first(alloc: Global, state: State, list: &[External]) -> Result<Typed, Deny>
     ensures { Checks result (spec.first_walk list.now state) }
 {
     let mut state = state;
-    walk(alloc, &mut state, list)?;
-    again(alloc, state, list)
+    match walk(alloc, &mut state, list) {
+        Ok(()) => again(alloc, state, list),
+        Err(why) => {
+            drop(state);
+            Err(why)
+        }
+    }
 }
 
 /// The typed tree of a program, or its first static fault from Undeclared on.

@@ -1,125 +1,121 @@
--- The machine follows every tree of the kinds that are built.
-use Rattle.std.proofs.Common.{◌≡◌, ℕ, suc, ◌+◌, ◌<◌, ◌≤◌, List, [], ◌∷◌, ◌++◌, Option, Some, true, refl, sym, ap, subst, arith}
-use Rattle.std.specs.Prelude.{slice_get, max, ◌&&◌}
-use Rattle.word32.specs.Space.{update}
-use Rattle.icode_ops.specs.declared.op.Op.{Op}
-use Rattle.icode_ops.specs.declared.op.Op.TheVariants as op
-use Rattle.icode_ir.specs.declared.body.Body.{Body}
+-- The ops of a statement, by its node in the code's tree; and that the parts of what is built are built.
+use Rattle.std.proofs.Common.{◌≡◌, ℕ, ◌+◌, List, [], ◌∷◌, ◌++◌, map, ap, sym, ◌∙◌, subst, append_assoc}
+use Rattle.icode_ir.specs.declared.build_op.BuildOp.{BuildOp}
 use Rattle.icode_ir.specs.declared.build_op.BuildOp.TheVariants as build
-use Rattle.tick_meaning.specs.Nodes.{Expr, Const, Var, SetVar, Bin, Lib, Putchar, Stmt, Eval, Variable, Parameter, ReturnValue, Items, NoItem, Item, has_value}
-use Rattle.tick_meaning.specs.Size.{temps_in, variables_in, variables_of}
-use Rattle.tick_meaning.specs.Scope.{Scope, scope_of, scope_after, IsScoped, IsBuilt}
-use Rattle.tick_meaning.specs.World.{Normal, with_variable}
-use Rattle.tick_meaning.specs.Meaning.{Context, eval, exec}
-use Rattle.icode_meaning.specs.State.{Program}
-use Rattle.icode_meaning.specs.Steps.{paid, back, left}
-use Rattle.tick_lower.specs.Lower.{Addresses, expr_ops, dropping}
-use Rattle.tick_lower.proofs.Machine.{Goes, goes_op, then_op, Here, at_op, put, put_same}
-use Rattle.tick_lower.proofs.Builder.{View, top, after_ops, after_append, Stands, stands_front, stands_back}
-use Rattle.tick_lower.proofs.Pushes.{built_value}
-use Rattle.tick_lower.proofs.Follow.{Follows, then_follows, spend_follows}
-use Rattle.tick_lower.proofs.Registers.{Within, keeps_all, keeps_less, put_vars, put_keeps, set_vars, set_keeps, in_wider, within_more}
-use Rattle.tick_lower.proofs.Values.{base_of, IsBack, Valued, ExprRuns}
-use Rattle.tick_lower.proofs.Exprs.{const_run, var_run, set_node, putchar_node}
-use Rattle.tick_lower.proofs.Binary.{bin_node}
-use Rattle.tick_lower.proofs.Ways.{Left, Runs}
+use Rattle.typed_tree.specs.declared.expression.Expr.{Expr}
+use Rattle.typed_tree.specs.declared.expression.Stmt.{Stmt}
+use Rattle.typed_tree.specs.declared.expression.Stmt.TheVariants as st
+use Rattle.typed_tree.specs.Nodes as node
+use Rattle.staged_meaning.specs.Size.{labels_in, labels, labels_of, temps_in, temps, temps_of}
+use Rattle.staged_meaning.specs.Scope.{IsBuilt, IsBuiltStmt, AreBuiltItems}
+use Rattle.tick_lower_proof.specs.Lower.{Addresses, Targets, expr_ops, stmt_ops, items_ops}
+use Rattle.typed_tree.specs.View.{expr_view, stmt_view, items_of}
+use Rattle.typed_tree.proofs.Views.{stmt_view_block, stmt_view_if, stmt_view_ifelse, stmt_view_while}
 
-pub max_left : (a b c : ℕ) → max a b ≤ c → a ≤ c
-max_left a b c h = omega (arith, h)
+module _ (x : Stmt) where
+  pub block_built : (a b : List Stmt) → x ≡ st.Block a b → IsBuiltStmt (stmt_view x) → AreBuiltItems (items_of (map stmt_view a)) × AreBuiltItems (items_of (map stmt_view b))
+  block_built a b is h = subst IsBuiltStmt (ap stmt_view is ∙ stmt_view_block a b) h
 
-pub max_right : (a b c : ℕ) → max a b ≤ c → b ≤ c
-max_right a b c h = omega (arith, h)
+  pub if_built : (c : Expr) (a : Stmt) → x ≡ st.If c a → IsBuiltStmt (stmt_view x) → IsBuilt (expr_view c) × IsBuiltStmt (stmt_view a)
+  if_built c a is h = subst IsBuiltStmt (ap stmt_view is ∙ stmt_view_if c a) h
 
--- a statement takes no variable out of scope
-pub wider_stmt : (s : Stmt) (scope : Scope) (j : ℕ) → scope j ≡ true → scope_of s scope j ≡ true
-wider_stmt (Variable i) scope j h = in_wider i j scope h
-wider_stmt (Parameter k w) scope j h = in_wider k j scope h
-wider_stmt _ scope j h = h
+  pub choice_built : (c : Expr) (a b : Stmt) → x ≡ st.IfElse c a b → IsBuiltStmt (stmt_view x) → IsBuilt (expr_view c) × IsBuiltStmt (stmt_view a) × IsBuiltStmt (stmt_view b)
+  choice_built c a b is h = subst IsBuiltStmt (ap stmt_view is ∙ stmt_view_ifelse c a b) h
 
-pub wider_items : (is : Items) (scope : Scope) (j : ℕ) → scope j ≡ true → scope_after is scope j ≡ true
-wider_items NoItem scope j h = h
-wider_items (Item s is) scope j h = wider_items is (scope_of s scope) j (wider_stmt s scope j h)
+  pub while_built : (c : Expr) (a : Stmt) → x ≡ st.While c a → IsBuiltStmt (stmt_view x) → IsBuilt (expr_view c) × IsBuiltStmt (stmt_view a)
+  while_built c a is h = subst IsBuiltStmt (ap stmt_view is ∙ stmt_view_while c a) h
 
--- and the variables in scope are below the bound
-pub within_stmt : (s : Stmt) (scope : Scope) (src : ℕ) → variables_in s ≤ src → Within scope src → Within (scope_of s scope) src
-within_stmt (Variable i) scope src le h = within_more i src scope (omega arith) h
-within_stmt (Parameter k w) scope src le h = within_more k src scope (omega arith) h
-within_stmt _ scope src le h = h
+  pub block_labels : (a b : List Stmt) → x ≡ st.Block a b → labels (stmt_view x) ≡ labels_of (items_of (map stmt_view a)) + labels_of (items_of (map stmt_view b))
+  block_labels a b is = ap labels (ap stmt_view is ∙ stmt_view_block a b)
 
-pub within_items : (is : Items) (scope : Scope) (src : ℕ) → variables_of is ≤ src → Within scope src → Within (scope_after is scope) src
-within_items NoItem scope src le h = h
-within_items (Item s is) scope src le h =
-    within_items is (scope_of s scope) src (max_right (variables_in s) (variables_of is) src le)
-    (within_stmt s scope src (max_left (variables_in s) (variables_of is) src le) h)
+  pub if_labels : (c : Expr) (a : Stmt) → x ≡ st.If c a → labels (stmt_view x) ≡ 1 + labels_in (expr_view c) + labels (stmt_view a)
+  if_labels c a is = ap labels (ap stmt_view is ∙ stmt_view_if c a)
 
-module _ (P : Program) (c : Context) (d : Addresses) (f : Here) (bodies : List Body) (src n : ℕ) (sn : src ≤ n) where
-  abbrev base : ℕ
-  base = base_of bodies
+  pub choice_labels : (c : Expr) (a b : Stmt) → x ≡ st.IfElse c a b → labels (stmt_view x) ≡ 2 + labels_in (expr_view c) + labels (stmt_view a) + labels (stmt_view b)
+  choice_labels c a b is = ap labels (ap stmt_view is ∙ stmt_view_ifelse c a b)
 
-  abbrev code : List Op
-  code = f.function.ops
+  pub while_labels : (c : Expr) (a : Stmt) → x ≡ st.While c a → labels (stmt_view x) ≡ 2 + labels_in (expr_view c) + labels (stmt_view a)
+  while_labels c a is = ap labels (ap stmt_view is ∙ stmt_view_while c a)
 
-  pub expr_run : (scope : Scope) → Within scope src → (e : Expr) → IsBuilt e → ExprRuns P c d f bodies src n scope e
-  expr_run scope inside (Const x) built = const_run P c d f bodies src n sn scope inside x
-  expr_run scope inside (Var i) built = var_run P c d f bodies src n sn scope inside i
-  expr_run scope inside (SetVar i a) built = set_node P c d f bodies src n sn scope inside i a built (expr_run scope inside a built)
-  expr_run scope inside (Bin k x y) built = bin_node P c d f bodies src n sn scope inside k x y built.0 built.1 (expr_run scope inside x built.0) (expr_run scope inside y built.1)
-  expr_run scope inside (Lib Putchar a) built = putchar_node P c d f bodies src n sn scope inside a built (expr_run scope inside a built)
-  expr_run scope inside _ built = absurd built
+-- p is what the code has for the part
+pub same_built : (a p : Stmt) → p ≡ a → IsBuiltStmt (stmt_view a) → IsBuiltStmt (stmt_view p)
+same_built a p at h = subst (λ z. IsBuiltStmt (stmt_view z)) (sym at) h
 
-  -- an expression whose value is not used
-  pub eval_run : (scope : Scope) → Within scope src → (m : ℕ) (e : Expr) → IsBuilt e → IsScoped scope e → (l t : ℕ) → src ≤ t → t + temps_in e ≤ n → (v : View) (br co : Option ℕ) → v.bodies ≡ bodies → base + n ≤ v.next → m ≤ v.next → Stands code (expr_ops d e l t ++ dropping (has_value e)) v → Runs P f base n scope scope m (exec c (Eval e)) v.place (after_ops (expr_ops d e l t ++ dropping (has_value e)) v).place br co c.turns
-  unfolding Runs
-  eval_run scope inside m e built ok l t st tn v br co eb nb mb at r g w lt are o =
-      let s = at_op f v.place r g in
-      let u = w.units in
-      let eo = expr_ops d e l t in
-      let v1 = after_ops eo v in
-      let Q : View → Type 0 = λ v2. Follows P s u g (Left P s u g f base n scope scope m r v2.place br co) (IsBack P s u g f) (exec c (Eval e) w) in
-      subst (λ z. Q (after_ops (eo ++ dropping z) v)) (sym (built_value d e built))
-      (subst Q (sym (after_append eo (build.Drop ∷ []) v))
-      (then_follows P s u g (Valued P s u g f base n scope v v1 r) (Left P s u g f base n scope scope m r v1.place br co) (IsBack P s u g f) (IsBack P s u g f) (eval c e w) _
-      (expr_run scope inside e built ok l t st tn v eb nb (stands_front code eo (dropping (has_value e)) v at) r g w lt are o) (λ x w h. h)
-      (λ x w1 h. record { regs = h.regs; log = h.log; goes = h.goes; vars = h.vars; keeps = keeps_less base n m v.next r h.regs mb h.keeps; shared_is = h.shared_is; fewer = h.fewer; low = h.low; high = omega (arith, h.high) })))
+pub same_items_built : (a p : List Stmt) → p ≡ a → AreBuiltItems (items_of (map stmt_view a)) → AreBuiltItems (items_of (map stmt_view p))
+same_items_built a p at h = subst (λ z. AreBuiltItems (items_of (map stmt_view z))) (sym at) h
 
-  pub return_run : (scope : Scope) → Within scope src → (m : ℕ) (e : Expr) → IsBuilt e → IsScoped scope e → (l t : ℕ) → src ≤ t → t + temps_in e ≤ n → (v : View) (e' : ℕ) (br co : Option ℕ) → v.bodies ≡ bodies → base + n ≤ v.next → Stands code (expr_ops d e l t ++ build.Return ∷ []) v → Runs P f base n scope scope m (exec c (ReturnValue e)) v.place e' br co c.turns
-  unfolding Runs
-  return_run scope inside m e built ok l t st tn v e' br co eb nb at r g w lt are o =
-      let s = at_op f v.place r g in
-      let u = w.units in
-      let eo = expr_ops d e l t in
-      let v1 = after_ops eo v in
-      let here = (stands_back code eo (build.Return ∷ []) v at).0.0 in
-      then_follows P s u g (Valued P s u g f base n scope v v1 r) (Left P s u g f base n scope scope m r e' br co) (IsBack P s u g f) (IsBack P s u g f) (eval c e w) _
-      (expr_run scope inside e built ok l t st tn v eb nb (stands_front code eo (build.Return ∷ []) v at) r g w lt are o) (λ x w h. h)
-      (λ x w1 h.
-      let o1 = op.Return (top v1.operands) in
-      record {
-        log = paid o1 h.log;
-        goes = subst (λ z. Goes P s (back z f.waiting (left f.function (paid o1 h.log)))) h.value.value (then_op f v1.place h.regs h.log o1 h.goes here (ap (λ z. z && true) h.value.on));
-        shared_is = h.shared_is;
-        fewer = h.fewer;
-        low = omega (arith, h.low);
-        high = omega (arith, h.high);
-      })
+if_joined : (s x y z : List BuildOp) (b : BuildOp) → ((s ++ (x ++ b ∷ [])) ++ y) ++ z ≡ s ++ (x ++ b ∷ (y ++ z))
+if_joined s x y z b = simp append_assoc
 
-  -- a variable comes into scope, and is 0
-  pub variable_run : (scope : Scope) → Within scope src → (m i : ℕ) → i < src → (v : View) (br co : Option ℕ) → v.bodies ≡ bodies → base + n ≤ v.next → m ≤ v.next → Stands code (build.Const 0 ∷ build.SetVariable i ∷ build.Drop ∷ []) v → Runs P f base n scope (update i true scope) m (exec c (Variable i)) v.place (suc (suc v.place)) br co c.turns
-  unfolding Runs
-  variable_run scope inside m i small v br co eb nb mb at r g w lt are o =
-      let s = at_op f v.place r g in
-      let u = w.units in
-      let x = v.next in
-      let r1 = put x 0 r in
-      let y = r1.values x in
-      let r2 = put (base + i) y r1 in
-      let o1 = op.Const x 0 in
-      let o2 = op.Move (base + i) x in
-      let g2 = paid o2 (paid o1 g) in
-      let same = put_same x 0 r in
-      let here = subst (λ z. slice_get code (suc v.place) ≡ Some (op.Move (base_of z + i) x)) eb at.1.0.0 in
-      let go = then_op f (suc v.place) r1 (paid o1 g) o2 (goes_op P f v.place r g o1 at.0.0 refl) here (ap (λ z. z && true) same.on) in
-      let keep2 = set_keeps i y base n m r r1 (omega arith) (put_keeps x 0 base n m r r mb (keeps_all base n m r)) in
-      let are2 = set_vars i y 0 base scope r1 w.variables same.value (put_vars x 0 base src scope r w.variables inside (omega arith) are) in
-      spend_follows P s u g (Left P s u g f base n scope (update i true scope) m r (suc (suc v.place)) br co) (IsBack P s u g f) f (suc (suc v.place)) r2 g2 w.units Normal (with_variable i 0 w) go o (omega arith) (omega arith)
-      (λ k q. record { regs = r2; log = g2; goes = go; vars = are2; keeps = keep2; shared_is = o; fewer = omega (arith, q); low = omega (arith, q); high = omega (arith, q) })
+choice_joined : (s x y z w : List BuildOp) (b j k : BuildOp) → ((((s ++ (x ++ b ∷ [])) ++ y) ++ j ∷ k ∷ []) ++ z) ++ w ≡ s ++ (x ++ b ∷ (y ++ j ∷ k ∷ (z ++ w)))
+choice_joined s x y z w b j k = simp append_assoc
+
+while_joined : (s x y w : List BuildOp) (a b : BuildOp) → (((s ++ a ∷ []) ++ (x ++ b ∷ [])) ++ y) ++ w ≡ s ++ a ∷ (x ++ b ∷ (y ++ w))
+while_joined s x y w a b = simp append_assoc
+
+module _ (d : Addresses) (to : Targets) (x : Stmt) (l t : ℕ) where
+  pub block_ops : (a b p q : List Stmt) (l2 t2 : ℕ) (start mid late : List BuildOp) → x ≡ st.Block a b → p ≡ a → q ≡ b
+      → mid ≡ start ++ items_ops d (items_of (map stmt_view p)) to l t
+      → l2 ≡ l + labels_of (items_of (map stmt_view p)) → t2 ≡ t + temps_of (items_of (map stmt_view p))
+      → late ≡ mid ++ items_ops d (items_of (map stmt_view q)) to l2 t2
+      → late ≡ start ++ stmt_ops d (stmt_view x) to l t
+  block_ops a b p q l2 t2 start mid late is pa qb first ls ts second =
+      let xo = items_ops d (items_of (map stmt_view p)) to l t in
+      let yo = items_ops d (items_of (map stmt_view q)) to l2 t2 in
+      let v : List Stmt → node.Items = λ ss. items_of (map stmt_view ss) in
+      let whole : stmt_ops d (stmt_view x) to l t ≡ items_ops d (v a) to l t ++ items_ops d (v b) to (l + labels_of (v a)) (t + temps_of (v a)) =
+      ap (λ z. stmt_ops d z to l t) (ap stmt_view is ∙ stmt_view_block a b) in
+      second ∙ ap (λ z. z ++ yo) first ∙ append_assoc start xo yo
+      ∙ ap (λ z. start ++ (items_ops d (v z) to l t ++ yo)) pa
+      ∙ ap (λ z. start ++ (items_ops d (v a) to l t ++ items_ops d (v z) to l2 t2)) qb
+      ∙ ap (λ n. start ++ (items_ops d (v a) to l t ++ items_ops d (v b) to n t2)) (ls ∙ ap (λ z. l + labels_of (v z)) pa)
+      ∙ ap (λ n. start ++ (items_ops d (v a) to l t ++ items_ops d (v b) to (l + labels_of (v a)) n)) (ts ∙ ap (λ z. t + temps_of (v z)) pa)
+      ∙ sym (ap (λ z. start ++ z) whole)
+
+  -- the ops behind the test, and behind the body
+  pub if_ops : (c : Expr) (a p : Stmt) (past l1 t1 l2 t2 : ℕ) (start before mid late : List BuildOp) → x ≡ st.If c a → p ≡ a
+      → past ≡ l → l1 ≡ l + 1 → t1 ≡ t → before ≡ start
+      → mid ≡ before ++ (expr_ops d (expr_view c) l1 t1 ++ build.BranchZero past ∷ [])
+      → l2 ≡ l1 + labels_in (expr_view c) → t2 ≡ t1 + temps_in (expr_view c)
+      → late ≡ mid ++ stmt_ops d (stmt_view p) to l2 t2
+      → late ++ build.Label past ∷ [] ≡ start ++ stmt_ops d (stmt_view x) to l t
+  if_ops c a p past l1 t1 l2 t2 start before mid late is pa ps e1 e2 bs tested e3 e4 body =
+      let whole : stmt_ops d (stmt_view x) to l t ≡ expr_ops d (expr_view c) (l + 1) t ++ build.BranchZero l ∷ (stmt_ops d (stmt_view a) to (l + 1 + labels_in (expr_view c)) (t + temps_in (expr_view c)) ++ build.Label l ∷ []) =
+      ap (λ z. stmt_ops d z to l t) (ap stmt_view is ∙ stmt_view_if c a) in
+      let joined = if_joined before (expr_ops d (expr_view c) l1 t1) (stmt_ops d (stmt_view p) to l2 t2) (build.Label past ∷ []) (build.BranchZero past) in
+      cc
+
+  pub choice_ops : (c : Expr) (a b p q : Stmt) (past end l1 t1 l2 t2 l3 t3 : ℕ) (start before mid late turned more : List BuildOp) → x ≡ st.IfElse c a b → p ≡ a → q ≡ b
+      → past ≡ l → end ≡ l + 1 → l1 ≡ l + 2 → t1 ≡ t → before ≡ start
+      → mid ≡ before ++ (expr_ops d (expr_view c) l1 t1 ++ build.BranchZero past ∷ [])
+      → l2 ≡ l1 + labels_in (expr_view c) → t2 ≡ t1 + temps_in (expr_view c)
+      → late ≡ mid ++ stmt_ops d (stmt_view p) to l2 t2
+      → l3 ≡ l2 + labels (stmt_view p) → t3 ≡ t2 + temps (stmt_view p)
+      → turned ≡ late ++ build.Jump end ∷ build.Label past ∷ []
+      → more ≡ turned ++ stmt_ops d (stmt_view q) to l3 t3
+      → more ++ build.Label end ∷ [] ≡ start ++ stmt_ops d (stmt_view x) to l t
+  choice_ops c a b p q past end l1 t1 l2 t2 l3 t3 start before mid late turned more is pa qb e0 e1 e2 e3 bs tested e4 e5 body e6 e7 turn other =
+      let whole : stmt_ops d (stmt_view x) to l t ≡ expr_ops d (expr_view c) (l + 2) t ++ build.BranchZero l ∷ (stmt_ops d (stmt_view a) to (l + 2 + labels_in (expr_view c)) (t + temps_in (expr_view c))
+      ++ build.Jump (l + 1) ∷ build.Label l ∷ (stmt_ops d (stmt_view b) to (l + 2 + labels_in (expr_view c) + labels (stmt_view a)) (t + temps_in (expr_view c) + temps (stmt_view a)) ++ build.Label (l + 1) ∷ [])) =
+      ap (λ z. stmt_ops d z to l t) (ap stmt_view is ∙ stmt_view_ifelse c a b) in
+      let joined = choice_joined before (expr_ops d (expr_view c) l1 t1) (stmt_ops d (stmt_view p) to l2 t2) (stmt_ops d (stmt_view q) to l3 t3) (build.Label end ∷ [])
+      (build.BranchZero past) (build.Jump end) (build.Label past) in
+      cc
+
+  -- where a break and a continue of the loop go
+  abbrev pub of_loop : Targets
+  of_loop = record { on_break = l; on_continue = l + 1 }
+
+  pub while_ops : (c : Expr) (a p : Stmt) (end begin l1 t1 l2 t2 : ℕ) (start before begun mid late : List BuildOp) → x ≡ st.While c a → p ≡ a
+      → end ≡ l → begin ≡ l + 1 → l1 ≡ l + 2 → t1 ≡ t → before ≡ start
+      → begun ≡ before ++ build.Label begin ∷ []
+      → mid ≡ begun ++ (expr_ops d (expr_view c) l1 t1 ++ build.BranchZero end ∷ [])
+      → l2 ≡ l1 + labels_in (expr_view c) → t2 ≡ t1 + temps_in (expr_view c)
+      → late ≡ mid ++ stmt_ops d (stmt_view p) of_loop l2 t2
+      → late ++ build.Jump begin ∷ build.Label end ∷ [] ≡ start ++ stmt_ops d (stmt_view x) to l t
+  while_ops c a p end begin l1 t1 l2 t2 start before begun mid late is pa e0 e1 e2 e3 bs at_begin tested e4 e5 body =
+      let whole : stmt_ops d (stmt_view x) to l t ≡ build.Label (l + 1) ∷ (expr_ops d (expr_view c) (l + 2) t ++ build.BranchZero l ∷ (stmt_ops d (stmt_view a) of_loop (l + 2 + labels_in (expr_view c)) (t + temps_in (expr_view c))
+      ++ build.Jump (l + 1) ∷ build.Label l ∷ [])) =
+      ap (λ z. stmt_ops d z to l t) (ap stmt_view is ∙ stmt_view_while c a) in
+      let joined = while_joined before (expr_ops d (expr_view c) l1 t1) (stmt_ops d (stmt_view p) of_loop l2 t2) (build.Jump begin ∷ build.Label end ∷ []) (build.Label begin) (build.BranchZero end) in
+      cc

@@ -1,5 +1,6 @@
 -- What is said of an outcome: its exit status and its line on standard error. Statuses and lines are the product's own.
-use Rattle.std.specs.Prelude.{ℕ, ◌+◌, ◌/◌, ◌%◌, nat_lt, List, [], ◌∷◌, ◌++◌, if◌then◌else◌, codes, decimal}
+use Rattle.std.specs.Prelude.{ℕ, List, [], ◌++◌, codes, decimal}
+use Rattle.asm_print.specs.Numbers.{prefixed_word}
 use Rattle.host_edge.specs.Endings.{trap_name, machine_name}
 use Rattle.tick_tree.specs.Faults.{number, name}
 use Rattle.mips_text.specs.Faults as asm
@@ -25,15 +26,6 @@ status_of WriteFault = 73
 status_of ReadFault = 74
 status_of SaveFault = 75
 
--- a hexadecimal digit in lower case, and a word as eight of them
-abbrev pub hex_digit : ℕ → ℕ
-hex_digit d = if nat_lt d 10 then d + 48 else d + 87
-
-abbrev pub hex_word : ℕ → List ℕ
-hex_word w =
-    hex_digit (w / 268435456 % 16) ∷ hex_digit (w / 16777216 % 16) ∷ hex_digit (w / 1048576 % 16) ∷ hex_digit (w / 65536 % 16) ∷
-    hex_digit (w / 4096 % 16) ∷ hex_digit (w / 256 % 16) ∷ hex_digit (w / 16 % 16) ∷ hex_digit (w % 16) ∷ []
-
 -- the name of a rule of the image format
 abbrev pub image_fault_name : ImageFault → List ℕ
 image_fault_name Short = codes "Short"
@@ -53,7 +45,7 @@ line_of LoadFault = codes "tick: cannot load\n"
 line_of TooLong = codes "tick: too long\n"
 line_of (BadImage fault) = codes "tick: image " ++ decimal (fault_number fault) ++ codes " " ++ image_fault_name fault ++ codes "\n"
 line_of (Trap k) = codes "tick: trap " ++ trap_name k ++ codes "\n"
-line_of (MachineFault k at) = codes "tick: machine " ++ machine_name k ++ codes " at 0x" ++ hex_word at ++ codes "\n"
+line_of (MachineFault k at) = codes "tick: machine " ++ machine_name k ++ codes " at " ++ prefixed_word at ++ codes "\n"
 line_of (OutOfSteps n) = codes "tick: out of " ++ decimal n ++ codes " steps\n"
 line_of WriteFault = codes "tick: write fault\n"
 line_of ReadFault = codes "tick: read fault\n"

@@ -5,4 +5,4 @@ mod outcome;
 mod report;
 
 pub use outcome::{Outcome, status};
-pub use report::{Line, line_of};
+pub use report::line_of;

@@ -5,16 +5,16 @@ use Rattle.tick_tree.specs.Faults.{Answers}
 use Rattle.tick_tree.specs.declared.fault.Deny.{Deny}
 use Rattle.tick_tree.specs.declared.syntax.External.{External}
 use Rattle.tick_tree.specs.declared.token.Token.{Token}
-use Rattle.c_grammar.specs.declared.item.Item.{Item}
-use Rattle.c_grammar.specs.declared.stop.Stop.{Stop}
-use Rattle.c_grammar.specs.declared.stop.Stop.TheVariants.{NoMemory, Syntax, TooDeep}
-use Rattle.c_grammar.specs.Input.{Input, Reads}
-use Rattle.c_grammar.specs.Statements.{room_of}
-use Rattle.c_grammar.specs.Statements as grammar
-use Rattle.c_spelling.specs.Words.{words}
-use Rattle.c_spelling.specs.Spelling.{spells_program}
-use Rattle.c_spelling.proofs.Gives.{Gives, taken_from}
-use Rattle.c_spelling.proofs.Stated.{program_says}
+use Rattle.parse_grammar.specs.declared.item.Item.{Item}
+use Rattle.parse_grammar.specs.declared.stop.Stop.{Stop}
+use Rattle.parse_grammar.specs.declared.stop.Stop.TheVariants.{NoMemory, Syntax, TooDeep}
+use Rattle.parse_grammar.specs.Input.{Input, Reads}
+use Rattle.parse_grammar.specs.Statements.{room_of}
+use Rattle.parse_grammar.specs.Statements as grammar
+use Rattle.parse_spelling.specs.Words.{words}
+use Rattle.parse_spelling.specs.Spelling.{spells_program}
+use Rattle.parse_spelling.proofs.Gives.{Gives, taken_from}
+use Rattle.parse_spelling.proofs.Stated.{program_says}
 use Rattle.tick_parser.specs.Items.{Text, items_of}
 use Rattle.tick_parser.specs.Trees.{outcome, items_or_stop, judged, parsed, Finds, Denies}
 

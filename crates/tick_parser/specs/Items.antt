@@ -8,18 +8,18 @@ use Rattle.tick_tree.specs.declared.base.UnaryOp.TheVariants as unary_op
 use Rattle.tick_tree.specs.declared.token.Token.{Token}
 use Rattle.tick_tree.specs.declared.token.TokenKind.{TokenKind}
 use Rattle.tick_tree.specs.declared.token.TokenKind.TheVariants as kind
-use Rattle.c_words.specs.declared.keywords.Keyword.{Keyword}
-use Rattle.c_words.specs.declared.keywords.Keyword.TheVariants as word
-use Rattle.c_words.specs.declared.signs.Sign.{Sign}
-use Rattle.c_words.specs.declared.signs.Sign.TheVariants as mark
-use Rattle.c_words.specs.Words.{keyword_of, sign_at}
-use Rattle.c_literals.specs.Literals.{numeral_at, character_value}
-use Rattle.c_grammar.specs.declared.item.Item.{Item}
-use Rattle.c_grammar.specs.declared.kind.Kind.{Kind}
-use Rattle.c_grammar.specs.declared.kind.Kind.TheVariants as k
-use Rattle.c_grammar.specs.declared.kind.BaseWord.TheVariants as base
-use Rattle.c_grammar.specs.declared.kind.Word.TheVariants as w
-use Rattle.c_grammar.specs.declared.kind.Mark.TheVariants as m
+use Rattle.lex_words.specs.declared.keywords.Keyword.{Keyword}
+use Rattle.lex_words.specs.declared.keywords.Keyword.TheVariants as word
+use Rattle.lex_words.specs.declared.signs.Sign.{Sign}
+use Rattle.lex_words.specs.declared.signs.Sign.TheVariants as mark
+use Rattle.lex_words.specs.Words.{keyword_of, sign_at}
+use Rattle.lex_literals.specs.Literals.{numeral_at, character_value}
+use Rattle.parse_grammar.specs.declared.item.Item.{Item}
+use Rattle.parse_grammar.specs.declared.kind.Kind.{Kind}
+use Rattle.parse_grammar.specs.declared.kind.Kind.TheVariants as k
+use Rattle.parse_grammar.specs.declared.kind.BaseWord.TheVariants as base
+use Rattle.parse_grammar.specs.declared.kind.Word.TheVariants as w
+use Rattle.parse_grammar.specs.declared.kind.Mark.TheVariants as m
 
 abbrev pub Text : Type 0
 Text = List ℕ

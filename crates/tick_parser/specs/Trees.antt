@@ -10,11 +10,11 @@ use Rattle.tick_tree.specs.declared.fault.FaultKind.{FaultKind}
 use Rattle.tick_tree.specs.declared.fault.FaultKind.TheVariants as fault
 use Rattle.tick_tree.specs.declared.syntax.External.{External}
 use Rattle.tick_tree.specs.declared.syntax.Tree.{Tree}
-use Rattle.c_grammar.specs.declared.item.Item.{Item}
-use Rattle.c_grammar.specs.declared.stop.Stop.{Stop}
-use Rattle.c_grammar.specs.declared.stop.Stop.TheVariants.{NoMemory, Syntax, TooDeep}
-use Rattle.c_grammar.specs.Input.{Outcome}
-use Rattle.c_grammar.specs.Statements.{room_of, program}
+use Rattle.parse_grammar.specs.declared.item.Item.{Item}
+use Rattle.parse_grammar.specs.declared.stop.Stop.{Stop}
+use Rattle.parse_grammar.specs.declared.stop.Stop.TheVariants.{NoMemory, Syntax, TooDeep}
+use Rattle.parse_grammar.specs.Input.{Outcome}
+use Rattle.parse_grammar.specs.Statements.{room_of, program}
 use Rattle.tick_parser.specs.Items.{Text, items_of}
 
 -- the greatest nesting

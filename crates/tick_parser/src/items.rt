@@ -3,9 +3,9 @@
 ghost use Rattle.std.specs.Prelude.{◌≡◌, drop, IfOk};
 ghost use Rattle.tick_parser.specs.Items as spec;
 
-use c_grammar::{BaseWord, Bytes, Item, Kind, Mark, Word};
-use c_literals::{character_value, numeral_at};
-use c_words::{Keyword, Sign, keyword_of, sign_at};
+use lex_literals::{character_value, numeral_at};
+use lex_words::{Keyword, Sign, keyword_of, sign_at};
+use parse_grammar::{BaseWord, Bytes, Item, Kind, Mark, Word};
 use std::alloc::{AllocError, Global};
 use tick_tree::{BinaryOp, ModifyOp, StepOp, Token, TokenKind, UnaryOp};
 

@@ -1,15 +1,16 @@
 //! The functions that read what stands one level deeper.
 
-ghost use Rattle.c_grammar.specs.Input.{Reads};
-ghost use Rattle.c_grammar.specs.Declarators as declarators;
-ghost use Rattle.c_grammar.specs.Expressions as expressions;
-ghost use Rattle.c_grammar.specs.Statements as statements;
-ghost use Rattle.c_grammar.specs.Statements.{room_of};
+ghost use Rattle.parse_grammar.specs.Input.{Reads};
+ghost use Rattle.parse_grammar.specs.Declarators as declarators;
+ghost use Rattle.parse_grammar.specs.Expressions as expressions;
+ghost use Rattle.parse_grammar.specs.Statements as statements;
+ghost use Rattle.parse_grammar.specs.Statements.{room_of};
 
-use crate::statements::Statements;
-use c_declarators::Declarators;
-use c_expressions::Expressions;
-use c_grammar::{Grammar, Mode, Part, Stop, Tokens};
+use parse_declarators::Declarators;
+use parse_expressions::Expressions;
+use parse_grammar::{Grammar, Mode, Part, Stop, Tokens};
+use parse_operands::Operands;
+use parse_statements::Statements;
 use std::alloc::Global;
 use tick_tree::{Declarator, Expr, Stmt};
 
@@ -18,7 +19,7 @@ use tick_tree::{Declarator, Expr, Stmt};
 pub fn read(alloc: Global, tokens: &mut Tokens<'_>, room: usize, part: Part) -> Result<Expr, Stop>
     ensures { Reads (expressions.at part (room_of room) tokens.old) result tokens.new }
 {
-    let expressions = Expressions {
+    let operands = Operands {
         grammar: Grammar {
             alloc,
             limit: room,
@@ -27,11 +28,12 @@ pub fn read(alloc: Global, tokens: &mut Tokens<'_>, room: usize, part: Part) -> 
             declarator: read_declarator,
         },
     };
+    let expressions = Expressions { operands };
     match part {
         Part::Whole => expressions.expr(tokens, room),
         Part::Assign => expressions.assign(tokens, room),
         Part::Cond => expressions.cond(tokens, room),
-        Part::Unary => expressions.unary(tokens, room),
+        Part::Unary => expressions.operands.unary(tokens, room),
     }
 }
 

@@ -3,15 +3,15 @@
 ghost use Rattle.std.specs.Prelude.{◌≡◌, ◌+◌, ◌≤◌, length, IfOk, [], ◌==◌};
 ghost use Rattle.std.specs.List.{count_by};
 ghost use Rattle.tick_tree.specs.Faults.{Answers};
-ghost use Rattle.c_spelling.specs.Words.{words};
-ghost use Rattle.c_spelling.specs.Spelling.{spells_program};
+ghost use Rattle.parse_spelling.specs.Words.{words};
+ghost use Rattle.parse_spelling.specs.Spelling.{spells_program};
 ghost use Rattle.tick_parser.specs.Items.{items_of};
 ghost use Rattle.tick_parser.specs.Trees as spec;
 
 use crate::items::items_of;
 use crate::knot::{read, read_declarator, read_stmt};
-use crate::statements::Statements;
-use c_grammar::{Grammar, Item, Stop, Tokens};
+use parse_grammar::{Grammar, Item, Stop, Tokens};
+use parse_statements::Statements;
 use sqlite_items::Items;
 use std::alloc::Global;
 use tick_tree::{Deny, External, Fault, FaultKind, Token, Tree};
@@ -100,39 +100,5 @@ pub fn parse(alloc: Global, text: &[u8], tokens: &[Token]) -> Result<Tree, Deny>
     match program(alloc, &items) {
         Ok(items) => Ok(Tree { items }),
         Err(stop) => Err(denial(text, tokens, stop)),
-    }
-}
-
-#[cfg(test)]
-mod tests {
-    use super::*;
-    use tick_tree::TokenKind;
-
-    fn token(kind: TokenKind, at: u32, len: u32) -> Token {
-        Token {
-            kind,
-            at,
-            len,
-            line: 1,
-        }
-    }
-
-    #[test]
-    fn reads_a_declaration(rt: HostRuntime) {
-        let found = [
-            token(TokenKind::Keyword, 0, 3),
-            token(TokenKind::Name, 4, 1),
-            token(TokenKind::Sign, 5, 1),
-        ];
-        let count = match parse(rt.alloc(), b"int x;", &found) {
-            Ok(tree) => tree.items.len(),
-            Err(_) => 0,
-        };
-        assert!(rt; count == 1);
-        let fault = match parse(rt.alloc(), b"int x;", &found[..2]) {
-            Err(Deny::Refused(fault)) => fault.token,
-            _ => 0,
-        };
-        assert!(rt; fault == 2);
     }
 }

@@ -11,7 +11,7 @@ use Rattle.mips_machine.specs.declared.stop.Stop.TheVariants as stop
 use Rattle.mips_machine.specs.Progress.{Progress, first_progress, counts_of}
 use Rattle.mips_machine.specs.Ran.{Ran}
 use Rattle.mips_text.specs.Assembly.{assembled}
-use Rattle.tick_meaning.specs.Meaning.{Program}
+use Rattle.staged_meaning.specs.Meaning.{Program}
 use Rattle.tick_build.specs.Texts.{typed, Lowered, HoldsForChoices}
 use Rattle.static_image.specs.Headline.{Headline}
 use Rattle.tick_outcome.specs.declared.outcome.Outcome.{Outcome}

@@ -9,7 +9,7 @@ use Rattle.image_file.specs.Image.{ImageParts}
 use Rattle.image_file.specs.Format.{spelling, parsed}
 use Rattle.asm_print.specs.Text.{text_of}
 use Rattle.mips_text.specs.Assembly.{assembled}
-use Rattle.tick_meaning.specs.Meaning.{Program}
+use Rattle.staged_meaning.specs.Meaning.{Program}
 use Rattle.tick_build.specs.Texts.{typed, Lowered, HoldsForChoices}
 use Rattle.static_image.specs.Headline.{Headline}
 use Rattle.command_words.specs.Orders.{Order, run, build, exec, asm, dis}

@@ -5,6 +5,7 @@ ghost use Rattle.tick_tree.specs.declared.fault.Deny.TheVariants.{Refused};
 ghost use Rattle.tick_tree.specs.Faults as spec;
 
 use std::alloc::{AllocError, AllocFailed};
+use thiserror::Error;
 
 /// The rule that a text breaks. Faults are numbered from 0 in this order.
 #[derive(Clone, Copy, Debug, PartialEq, Eq)]
@@ -151,7 +152,8 @@ impl FaultKind {
 }
 
 /// The first static fault of a text.
-#[derive(Clone, Copy, Debug, PartialEq, Eq)]
+#[derive(Clone, Copy, Debug, PartialEq, Eq, Error)]
+#[error("line {line}: {}", .kind.name())]
 pub struct Fault {
     /// The rule that is broken.
     pub kind: FaultKind,
@@ -162,11 +164,13 @@ pub struct Fault {
 }
 
 /// Why a stage of the front gives no answer.
-#[derive(Clone, Copy, Debug, PartialEq, Eq)]
+#[derive(Clone, Copy, Debug, PartialEq, Eq, Error)]
 pub enum Deny {
     /// The text has this fault.
+    #[error("{0}")]
     Refused(Fault),
     /// Memory was not found.
+    #[error("memory was not found")]
     NoMemory,
 }
 

@@ -11,7 +11,6 @@ use sqlite_items::{Boxed, Items};
 
 /// An expression. Where a `u32` stands first, it is the line of the node's token.
 #[cycle(tree)]
-#[derive(Drop)]
 pub enum Expr {
     /// A name, with its bytes.
     Name(u32, Name),
@@ -57,6 +56,51 @@ pub enum Expr {
     Comma(u32, Boxed<(Expr, Expr)>),
 }
 
+impl Drop for Expr {
+    #[cycle(tree)]
+    fn drop(self) {
+        match self {
+            Expr::Name(_, name) => drop(name),
+            Expr::Number(_, _) => (),
+            Expr::Character(_) => (),
+            Expr::String(bytes) => drop(bytes),
+            Expr::Paren(inner) => drop(inner),
+            Expr::Compile(_, code, ty) => {
+                drop(code);
+                drop(ty);
+            }
+            Expr::Local(_, ty) => drop(ty),
+            Expr::Param(_, ty, number) => {
+                drop(ty);
+                drop(number);
+            }
+            Expr::Index(_, pair) => drop(pair),
+            Expr::Call(_, callee, arguments) => {
+                drop(callee);
+                drop(arguments);
+            }
+            Expr::Step(_, _, operand) => drop(operand),
+            Expr::Unary(_, _, operand) => drop(operand),
+            Expr::Tick(_, operand) => drop(operand),
+            Expr::TickBlock(_, items) => drop(items),
+            Expr::Cast(_, ty, operand) => {
+                drop(ty);
+                drop(operand);
+            }
+            Expr::Sizeof(_, ty) => drop(ty),
+            Expr::Binary(_, _, pair) => drop(pair),
+            Expr::Choice(_, test, first, second) => {
+                drop(test);
+                drop(first);
+                drop(second);
+            }
+            Expr::Assign(_, pair) => drop(pair),
+            Expr::Modify(_, _, pair) => drop(pair),
+            Expr::Comma(_, pair) => drop(pair),
+        }
+    }
+}
+
 /// An expression that may be left out.
 #[cycle(tree)]
 #[derive(Drop)]
@@ -79,7 +123,6 @@ pub struct Typename {
 
 /// What makes a type of a base, and mostly names it.
 #[cycle(tree)]
-#[derive(Drop)]
 pub struct Declarator {
     /// What stands before the name, from left to right.
     pub prefixes: Items<Prefix>,
@@ -87,6 +130,20 @@ pub struct Declarator {
     pub core: Core,
     /// What stands behind the name, from left to right.
     pub suffixes: Items<Suffix>,
+}
+
+impl Drop for Declarator {
+    #[cycle(tree)]
+    fn drop(self) {
+        let Declarator {
+            prefixes,
+            core,
+            suffixes,
+        } = self;
+        drop(prefixes);
+        drop(core);
+        drop(suffixes);
+    }
 }
 
 /// The inner part of a declarator.
@@ -163,7 +220,6 @@ pub struct Declaration {
 
 /// A statement, or a declaration as an item of a block. Where a `u32` stands first, it is the line of its first word.
 #[cycle(tree)]
-#[derive(Drop)]
 pub enum Stmt {
     /// A `;` alone.
     Empty,
@@ -195,6 +251,50 @@ pub enum Stmt {
     Continue(u32),
     /// `return`, with its value.
     Return(u32, OptionalExpr),
+}
+
+impl Drop for Stmt {
+    #[cycle(tree)]
+    fn drop(self) {
+        match self {
+            Stmt::Empty => (),
+            Stmt::Expr(value) => drop(value),
+            Stmt::Block(items) => drop(items),
+            Stmt::Local(declaration) => drop(declaration),
+            Stmt::If(_, test, first) => {
+                drop(test);
+                drop(first);
+            }
+            Stmt::IfElse(_, test, first, second) => {
+                drop(test);
+                drop(first);
+                drop(second);
+            }
+            Stmt::While(_, test, body) => {
+                drop(test);
+                drop(body);
+            }
+            Stmt::Do(_, body, test) => {
+                drop(body);
+                drop(test);
+            }
+            Stmt::For(_, first, test, step, body) => {
+                drop(first);
+                drop(test);
+                drop(step);
+                drop(body);
+            }
+            Stmt::Switch(_, value, items) => {
+                drop(value);
+                drop(items);
+            }
+            Stmt::Case(_, value) => drop(value),
+            Stmt::Default(_) => (),
+            Stmt::Break(_) => (),
+            Stmt::Continue(_) => (),
+            Stmt::Return(_, value) => drop(value),
+        }
+    }
 }
 
 /// An item of a program.

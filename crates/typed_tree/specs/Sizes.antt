@@ -9,10 +9,10 @@ use Rattle.typed_tree.specs.declared.expression.Expr.{Expr}
 use Rattle.typed_tree.specs.declared.expression.Expr.TheOpen.{Expr-F}
 use Rattle.typed_tree.specs.declared.expression.Expr.TheFolds.{fold-Expr}
 use Rattle.typed_tree.specs.declared.expression.Stmt.{Stmt}
-use Rattle.typed_tree.specs.declared.expression.Stmt.TheOpen.{Stmt-F}
-use Rattle.typed_tree.specs.declared.expression.Stmt.TheFolds.{fold-Stmt}
 use Rattle.typed_tree.specs.declared.program.TickBody.{TickBody}
 use Rattle.typed_tree.specs.declared.program.TickBody.TheVariants as body
+use Rattle.typed_tree.specs.Folds.{Parts, Rules, fold_statement, total}
+use Rattle.typed_tree.specs.Folds as parts
 
 -- ---- sizes
 
@@ -38,11 +38,11 @@ size_rule (Expr-F.Or a b) = 1 + a + b
 size_rule (Expr-F.Cond c a b) = 1 + c + a + b
 size_rule (Expr-F.Comma a b) = 1 + a + b
 size_rule (Expr-F.Void a) = 1 + a
-size_rule (Expr-F.Call r f list) = 1 + sum list
-size_rule (Expr-F.CallNumber r a list) = 1 + a + sum list
+size_rule (Expr-F.Call r f list) = 1 + total list
+size_rule (Expr-F.CallNumber r a list) = 1 + a + total list
 size_rule Expr-F.Getchar = 1
 size_rule (Expr-F.Lib f a) = 1 + a
-size_rule (Expr-F.Tick t list) = 1 + sum list
+size_rule (Expr-F.Tick t list) = 1 + total list
 size_rule (Expr-F.Capture k a) = 1 + a
 size_rule (Expr-F.Splice r i) = 1
 size_rule (Expr-F.Compile a) = 1 + a
@@ -57,30 +57,33 @@ abbrev pub size_list : List Expr → ℕ
 size_list es = sum (map size es)
 
 -- the nodes of a statement, by those of its parts
-abbrev pub statement_rule : Stmt-F ℕ → ℕ
-statement_rule (Stmt-F.Expr e) = 1 + size e
-statement_rule (Stmt-F.Block variables items) = 1 + sum variables + sum items
-statement_rule (Stmt-F.Variable i) = 1
-statement_rule (Stmt-F.Object off words) = 1
-statement_rule (Stmt-F.Parameter k w) = 1
-statement_rule (Stmt-F.ParameterObject k w off) = 1
-statement_rule (Stmt-F.If c a) = 1 + size c + a
-statement_rule (Stmt-F.IfElse c a b) = 1 + size c + a + b
-statement_rule (Stmt-F.While c a) = 1 + size c + a
-statement_rule (Stmt-F.Do a c) = 1 + a + size c
-statement_rule (Stmt-F.For c a) = 1 + size c + a
-statement_rule (Stmt-F.ForStep c step a) = 1 + size c + size step + a
-statement_rule (Stmt-F.Switch e variables items) = 2 + size e + sum variables + sum items
-statement_rule (Stmt-F.Case c) = 1
-statement_rule Stmt-F.Default = 1
-statement_rule Stmt-F.Break = 1
-statement_rule Stmt-F.Continue = 1
-statement_rule Stmt-F.Return = 1
-statement_rule (Stmt-F.ReturnValue e) = 1 + size e
+abbrev pub statement_rule : Parts ℕ ℕ → ℕ
+statement_rule (parts.Eval e) = 1 + e
+statement_rule (parts.Block variables items) = 1 + total variables + total items
+statement_rule (parts.Variable i) = 1
+statement_rule (parts.Object off words) = 1
+statement_rule (parts.Parameter k w) = 1
+statement_rule (parts.ParameterObject k w off) = 1
+statement_rule (parts.If c a) = 1 + c + a
+statement_rule (parts.IfElse c a b) = 1 + c + a + b
+statement_rule (parts.While c a) = 1 + c + a
+statement_rule (parts.Do a c) = 1 + a + c
+statement_rule (parts.For c a) = 1 + c + a
+statement_rule (parts.ForStep c step a) = 1 + c + step + a
+statement_rule (parts.Switch e variables items) = 2 + e + total variables + total items
+statement_rule (parts.Case c) = 1
+statement_rule parts.Default = 1
+statement_rule parts.Break = 1
+statement_rule parts.Continue = 1
+statement_rule parts.Return = 1
+statement_rule (parts.ReturnValue e) = 1 + e
+
+abbrev pub size_rules : Rules ℕ ℕ
+size_rules = record { expr = size_rule; stmt = statement_rule }
 
 -- how many nodes a statement has; the block of a switch is one of them
 unfoldable pub statement_size : Stmt → ℕ
-statement_size = fold-Stmt ℕ statement_rule
+statement_size = fold_statement size_rules
 
 abbrev pub statements_size : List Stmt → ℕ
 statements_size ss = sum (map statement_size ss)

@@ -121,7 +121,7 @@ pub enum Expr {
 #[derive(Drop)]
 pub enum Stmt {
     /// An expression, for its effects.
-    Expr(Expr),
+    Eval(Boxed<Expr>),
     /// A block: the nodes of its variables, then its items.
     Block(Items<Stmt>, Items<Stmt>),
     /// A register variable of a block, set to 0.
@@ -133,19 +133,19 @@ pub enum Stmt {
     /// A parameter of this number and width in the frame object at this offset in bytes.
     ParameterObject(u32, Width, u32),
     /// `if` without `else`.
-    If(Expr, Boxed<Stmt>),
+    If(Boxed<Expr>, Boxed<Stmt>),
     /// `if` with `else`.
-    IfElse(Expr, Boxed<Stmt>, Boxed<Stmt>),
+    IfElse(Boxed<Expr>, Boxed<Stmt>, Boxed<Stmt>),
     /// `while`
-    While(Expr, Boxed<Stmt>),
+    While(Boxed<Expr>, Boxed<Stmt>),
     /// `do`, with its body and its test.
-    Do(Boxed<Stmt>, Expr),
+    Do(Boxed<Stmt>, Boxed<Expr>),
     /// `for` without a step: its test and its body. What stands first is an item before it.
-    For(Expr, Boxed<Stmt>),
+    For(Boxed<Expr>, Boxed<Stmt>),
     /// `for`: its test, its step and its body.
-    ForStep(Expr, Expr, Boxed<Stmt>),
+    ForStep(Boxed<Expr>, Boxed<Expr>, Boxed<Stmt>),
     /// `switch`: its value, and the variables and items of its block, which is a node of its own.
-    Switch(Expr, Items<Stmt>, Items<Stmt>),
+    Switch(Boxed<Expr>, Items<Stmt>, Items<Stmt>),
     /// `case` with its value: an item of a switch's block.
     Case(u32),
     /// `default`: an item of a switch's block.
@@ -157,5 +157,5 @@ pub enum Stmt {
     /// `return` without a value: the answer is 0.
     Return,
     /// `return` with its value.
-    ReturnValue(Expr),
+    ReturnValue(Boxed<Expr>),
 }

@@ -5,8 +5,6 @@ mod expression;
 mod nodes;
 mod program;
 mod sizes;
-#[cfg(test)]
-mod tests;
 
 pub use expression::{Answer, CaptureKind, CapturedWord, Expr, Library, Stmt};
 pub use nodes::{

@@ -1,7 +1,7 @@
 //! Functions, ticks and whole programs.
 
 use crate::expression::{Expr, Stmt};
-use sqlite_items::Items;
+use sqlite_items::{Boxed, Items};
 
 /// The most nodes that a function, a tick or a specification may have.
 pub const SIZE_LIMIT: u32 = 16384;
@@ -20,16 +20,16 @@ pub struct Function {
     /// How many nodes its body has.
     pub size: u32,
     /// Its body: a block, whose variables begin with the parameters.
-    pub body: Stmt,
+    pub body: Boxed<Stmt>,
 }
 
 /// What stands behind a backquote.
 #[derive(Drop)]
 pub enum TickBody {
     /// An expression. Where it leaves no value, the specification is a statement.
-    Expression(Expr),
+    Expression(Boxed<Expr>),
     /// A block.
-    Statement(Stmt),
+    Statement(Boxed<Stmt>),
 }
 
 /// A tick of the text.

@@ -47,7 +47,7 @@ pub fn size(e: &Expr) -> u32
 
 // How many nodes these expressions have together, or 65,536 where they have more.
 #[cycle(size)]
-#[tactic(auto, using(crate::proofs::SizeLaws::one_more))]
+#[tactic(auto, using(crate::proofs::Totals::one_more))]
 fn list_size(list: &[Expr]) -> u32
     ensures { result ≡ min (spec.size_list list.now) 65536 }
 {
@@ -68,24 +68,27 @@ pub fn statement_size(s: &Stmt) -> u32
         Stmt::Variable(_) | Stmt::Object(_, _) | Stmt::Parameter(_, _) => 1,
         Stmt::ParameterObject(_, _, _) | Stmt::Case(_) | Stmt::Default => 1,
         Stmt::Break | Stmt::Continue | Stmt::Return => 1,
-        Stmt::Expr(e) | Stmt::ReturnValue(e) => plus(1, size(e)),
+        Stmt::Eval(e) | Stmt::ReturnValue(e) => plus(1, size(e.get())),
         Stmt::Block(variables, items) => {
             let first = plus(1, statements_size(variables.as_slice()));
             plus(first, statements_size(items.as_slice()))
         }
         Stmt::If(test, a) | Stmt::While(test, a) | Stmt::Do(a, test) | Stmt::For(test, a) => {
-            plus(plus(1, size(test)), statement_size(a.get()))
+            plus(plus(1, size(test.get())), statement_size(a.get()))
         }
         Stmt::IfElse(test, a, b) => {
             let both = plus(statement_size(a.get()), statement_size(b.get()));
-            plus(plus(1, size(test)), both)
+            plus(plus(1, size(test.get())), both)
         }
         Stmt::ForStep(test, step, a) => {
-            let both = plus(size(test), size(step));
+            let both = plus(size(test.get()), size(step.get()));
             plus(plus(1, both), statement_size(a.get()))
         }
         Stmt::Switch(value, variables, items) => {
-            let first = plus(plus(2, size(value)), statements_size(variables.as_slice()));
+            let first = plus(
+                plus(2, size(value.get())),
+                statements_size(variables.as_slice()),
+            );
             plus(first, statements_size(items.as_slice()))
         }
     }
@@ -93,7 +96,7 @@ pub fn statement_size(s: &Stmt) -> u32
 
 // How many nodes these statements have together, or 65,536 where they have more.
 #[cycle(statement_size)]
-#[tactic(auto, using(crate::proofs::SizeLaws::one_statement_more))]
+#[tactic(auto, using(crate::proofs::Totals::one_statement_more))]
 fn statements_size(list: &[Stmt]) -> u32
     ensures { result ≡ min (spec.statements_size list.now) 65536 }
 {
@@ -109,8 +112,8 @@ pub fn body_size(body: &TickBody) -> u32
     ensures { result ≡ min (spec.body_size body.now) 65536 }
 {
     match body {
-        TickBody::Expression(e) => size(e),
-        TickBody::Statement(s) => statement_size(s),
+        TickBody::Expression(e) => size(e.get()),
+        TickBody::Statement(s) => statement_size(s.get()),
     }
 }
 

@@ -5,3 +5,4 @@ pub mod PartLaws
 pub mod SpaceLaws
 pub mod Views
 pub mod WordLaws
+mod Written

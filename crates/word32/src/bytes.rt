@@ -3,16 +3,15 @@
 ghost use Rattle.std.specs.Prelude.{◌≡◌, ℕ, ◌+◌, ◌*◌, ◌/◌, ◌%◌, ◌-◌, ◌<◌, ◌≤◌, ◌⊎◌, length, slice_index};
 ghost use Rattle.word32.specs.Bytes as spec;
 
+use byteorder::{BigEndian, ByteOrder};
+
 /// The word in the four bytes from `at` on, the most significant first.
 #[inline]
 pub fn be_read(bytes: &[u8], at: usize) -> u32
     requires { at + 4 ≤ length bytes.now }
     ensures { result ≡ spec.word_in bytes.now at }
 {
-    bytes[at] as u32 * 16777216
-        + bytes[at + 1] as u32 * 65536
-        + bytes[at + 2] as u32 * 256
-        + bytes[at + 3] as u32
+    BigEndian::read_u32(&bytes[at..])
 }
 
 /// Writes a word into the four bytes from `at` on, the most significant first. The other bytes stay as they are.
@@ -23,8 +22,5 @@ pub fn be_write(bytes: &mut [u8], at: usize, w: u32)
     ensures word { spec.word_in bytes.new at ≡ w }
     ensures others { (k : ℕ) → (k < at) ⊎ (at + 4 ≤ k) → slice_index bytes.new k ≡ slice_index bytes.old k }
 {
-    bytes[at] = (w / 16777216) as u8;
-    bytes[at + 1] = (w / 65536 % 256) as u8;
-    bytes[at + 2] = (w / 256 % 256) as u8;
-    bytes[at + 3] = (w % 256) as u8;
+    BigEndian::write_u32(&mut bytes[at..at + 4], w);
 }

@@ -13,6 +13,3 @@ pub use division::{DivFault, div_s, div_u};
 pub use extend::{sext8, sext16};
 pub use part::{access_laws, is_aligned, loaded_part, stored_part};
 pub use width::Width;
-
-#[cfg(test)]
-mod tests;

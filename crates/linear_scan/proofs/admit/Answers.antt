@@ -1,6 +1,6 @@
 use Rattle.std.proofs.Common.{arith, sym, subst, set}
 use Rattle.linked_row.specs.Sorted.{SortedList}
-use Rattle.scan_places.specs.Scan.{keep}
+use Rattle.linear_scan_spec.specs.Scan.{keep}
 use Rattle.linear_scan.specs.Held.{Holds}
 use Rattle.linear_scan.proofs.Holding.{free-number, keep-holds}
 use Rattle.linear_scan.proofs.admit.Goals as goal

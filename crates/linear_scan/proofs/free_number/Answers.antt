@@ -1,5 +1,5 @@
 use Rattle.std.proofs.Common.{arith, sym, ◌∙◌, subst, ◌≡◌, ◌-◌}
-use Rattle.scan_places.specs.Scan.{least_free}
+use Rattle.linear_scan_spec.specs.Scan.{least_free}
 use Rattle.linear_scan.specs.Held.{ids}
 use Rattle.linear_scan.proofs.Pairs.{has-ids, free-here, free-more, free-end}
 use Rattle.linear_scan.proofs.free_number.Goals as goal

@@ -1,7 +1,7 @@
 use Rattle.std.proofs.Common.{arith, sym, ◌∙◌, ap, subst, ℕ, ◌≡◌, ◌<◌, true, List, length, set, get_or, Some}
 use Rattle.linked_row.specs.Sorted.{SortedList, has, without}
-use Rattle.scan_places.specs.Scan.{Keeper, ScanState, last_of}
-use Rattle.scan_places.proofs.Keepers.{Each-last}
+use Rattle.linear_scan_spec.specs.Scan.{Keeper, ScanState, last_of}
+use Rattle.linear_scan_spec.proofs.Keepers.{Each-last}
 use Rattle.linear_scan.specs.Held.{Holds}
 use Rattle.linear_scan.proofs.Holding.{drop-holds, has-last, dropping}
 use Rattle.linear_scan.proofs.spill_last.Goals as goal

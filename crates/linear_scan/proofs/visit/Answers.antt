@@ -1,8 +1,8 @@
 use Rattle.std.proofs.Common.{arith, sym, ◌∙◌, ap, subst, ℕ, ◌≡◌, ◌<◌, List, length, Option, Some}
 use Rattle.linked_row.specs.Sorted.{SortedList}
 use Rattle.linked_row.specs.Sorted.{last_of as last_pair}
-use Rattle.scan_places.specs.Scan.{Keeper, ScanState, last_of, but_last}
-use Rattle.scan_places.proofs.Keepers.{length-but_last}
+use Rattle.linear_scan_spec.specs.Scan.{Keeper, ScanState, last_of, but_last}
+use Rattle.linear_scan_spec.proofs.Keepers.{length-but_last}
 use Rattle.linear_scan.specs.Held.{from_end, ApartIds, Holds}
 use Rattle.linear_scan.proofs.Holding.{apart-pairs, alive-holds, living, dropping, few-keepers, twelve-keepers, fresh-living, fresh-dropping, last-pairs, last-none, visit-few, visit-last, visit-pass, pass-holds}
 use Rattle.linear_scan.proofs.visit.Goals as goal

@@ -1,5 +1,5 @@
 use Rattle.std.proofs.Common.{◌≡◌, length}
-use Rattle.tick_meaning.specs.Scope.{scope_after}
+use Rattle.staged_meaning.specs.Scope.{scope_after}
 use Rattle.built_programs.specs.Built.{are_new}
 use Rattle.built_programs.specs.Marks.{marked}
 use Rattle.built_programs.proofs.Rest.{rest}

@@ -1,7 +1,7 @@
 use Rattle.std.proofs.Common.{◌≡◌, ◌&&◌, true, ap, sym, ◌∙◌, subst}
 use Rattle.std.specs.Prelude.{if◌then◌else◌}
 use Rattle.tick_tree.specs.Faults.{Checks}
-use Rattle.c_places.specs.Calls as calls
+use Rattle.check_lvalues.specs.Calls as calls
 use Rattle.check_expressions.specs.Productions as spec
 use Rattle.check_expressions.specs.Productions.{call_node}
 use Rattle.check_expressions.proofs.calls.call_node.Goals as goal

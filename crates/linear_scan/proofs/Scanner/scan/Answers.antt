@@ -1,7 +1,7 @@
 use Rattle.std.proofs.Common.{ℕ, ◌+◌, ◌≡◌, ◌<◌, suc, List, ◌∷◌, length, drop, get_or, drop-cons, ◌∙◌, ap, subst, arith}
 use Rattle.icode_ops.specs.declared.interval.Interval.{Interval}
-use Rattle.scan_places.specs.Scan.{scan}
-use Rattle.scan_places.proofs.Order.{in-order, each-any}
+use Rattle.linear_scan_spec.specs.Scan.{scan}
+use Rattle.linear_scan_spec.proofs.Order.{in-order, each-any}
 use Rattle.linear_scan.proofs.Visiting.{Visiting, visiting-start, visiting-step, written}
 use Rattle.linear_scan.proofs.Scanner.scan.Goals as goal
 

@@ -1,5 +1,5 @@
 use Rattle.std.proofs.Common.{◌≡◌, ◌<◌, ℕ, drop, get_or}
-use Rattle.scan_places.specs.Scan.{scan}
+use Rattle.linear_scan_spec.specs.Scan.{scan}
 use Rattle.linear_scan.proofs.Visiting.{Visiting}
 use Rattle.linear_scan.proofs.Scanner.scan.Given as goal
 

@@ -6,12 +6,12 @@ use Rattle.icode_ops.specs.Live.{AreIntervals}
 use Rattle.icode_ops.specs.Places.{IsLegal}
 use Rattle.icode_ir.specs.Build.{finished}
 use Rattle.icode_expand.specs.Expansion.{expanded}
-use Rattle.scan_places.specs.Scan.{places_of}
+use Rattle.linear_scan_spec.specs.Scan.{places_of}
 use Rattle.image_file.specs.Image.{IsImage}
 use Rattle.image_file.specs.Image as file
-use Rattle.tick_meaning.specs.Size.{size_of, charge_of}
-use Rattle.tick_lower.specs.Laws.{registers_of}
-use Rattle.tree_view.specs.View.{function_view}
+use Rattle.staged_meaning.specs.Size.{size_of, charge_of}
+use Rattle.tick_lower_proof.specs.Laws.{registers_of}
+use Rattle.typed_tree.specs.View.{function_view}
 use Rattle.static_image.specs.Layout.{addresses, ops_of, front, IsChoice}
 use Rattle.static_backend.proofs.Whole.{is_choice, is_image, is_scanned}
 use Rattle.static_backend.proofs.backend.image.Goals as goal

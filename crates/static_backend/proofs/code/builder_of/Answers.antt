@@ -1,8 +1,8 @@
 use Rattle.std.proofs.Common.{◌≡◌, ap, ◌∙◌}
 use Rattle.icode_ir.specs.Build.{empty}
 use Rattle.icode_ir.specs.Runs.{run_ops}
-use Rattle.tick_lower.specs.Lower.{function_ops}
-use Rattle.tree_view.specs.View.{function_view}
+use Rattle.tick_lower_proof.specs.Lower.{function_ops}
+use Rattle.typed_tree.specs.View.{function_view}
 use Rattle.static_image.specs.Layout.{addresses}
 use Rattle.static_backend.proofs.code.builder_of.Goals as goal
 

@@ -1,5 +1,5 @@
 use Rattle.std.proofs.Common.{rules, ◌≡◌}
-use Rattle.tree_view.specs.View.{function_view}
+use Rattle.typed_tree.specs.View.{function_view}
 use Rattle.tick_build.proofs.Mains.{is_static}
 use Rattle.tick_build.proofs.accepted.from_program.Goals as goal
 

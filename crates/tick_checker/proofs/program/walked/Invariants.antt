@@ -1,6 +1,6 @@
 use Rattle.std.proofs.Common.{◌≡◌, drop, map}
 use Rattle.tick_checker.specs.Program as spec
-use Rattle.tick_checker.specs.Walk as walks
+use Rattle.check_walk.specs.Walk as walks
 use Rattle.tick_checker.proofs.program.walked.Given as goal
 
 -- the values so far, and those to come

@@ -1,5 +1,0 @@
-use Rattle.accepted_statements.proofs.Assembly.{each_good}
-use Rattle.accepted_statements.proofs.lists_are_good.Goals as goal
-
-pub returns : goal.returns
-returns c = each_good

@@ -1,3 +1,0 @@
-pub mod Bools
-pub mod Equations
-pub mod Uses

@@ -1,4 +1,0 @@
-pub mod Accepted
-pub mod Counts
-pub mod Places
-pub mod Values

@@ -1,6 +1,0 @@
-use Rattle.asm_law.proofs.Join.{text_reads_back}
-use Rattle.asm_law.proofs.reads_back.Goals as goal
-
--- src/lib.rt:7:1
-pub returns : goal.returns
-returns c = text_reads_back

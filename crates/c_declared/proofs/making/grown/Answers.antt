@@ -1,5 +1,0 @@
-use Rattle.c_declared.proofs.Takes.{array_grows}
-use Rattle.c_declared.proofs.making.grown.Goals as goal
-
-pub returns-in-Array : goal.returns-in-Array
-returns-in-Array c = array_grows c.args.base c.args.layers.now c.args.layer.now _ _ _ c.in-Array.is c.requires c.product.ensures

@@ -1,7 +1,0 @@
-use Rattle.std.proofs.Common.{◌≡◌, ◌-◌}
-use Rattle.c_grammar.specs.Statements.{room_of, stmt}
-use Rattle.c_grammar.specs.Steps.{closed, closed_from}
-use Rattle.c_expressions.proofs.expressions.Expressions.closed.Given as goal
-
-abbrev pub invariant-loop-turn : goal.invariant-loop-turn
-invariant-loop-turn g l = closed (stmt (room_of l.room)) l.fn.tokens ≡ closed_from (stmt (room_of l.room)) (l._turn-end - l._turn) l.found l.tokens

@@ -1,8 +1,0 @@
-use Rattle.std.proofs.Common.{◌≡◌, ◌-◌}
-use Rattle.c_grammar.specs.Expressions.{assign}
-use Rattle.c_grammar.specs.Statements.{room_of}
-use Rattle.c_grammar.specs.Steps.{separated, following_from}
-use Rattle.c_expressions.proofs.expressions.Expressions.separated.Given as goal
-
-abbrev pub invariant-loop-turn : goal.invariant-loop-turn
-invariant-loop-turn g l = separated (assign (room_of l.room)) l.fn.tokens ≡ following_from (assign (room_of l.room)) (l._turn-end - l._turn) l.found l.tokens

@@ -1,9 +1,0 @@
-use Rattle.std.proofs.Common.{◌≡◌, ◌≤◌, drop}
-use Rattle.c_literals.specs.Literals.{value_of}
-use Rattle.c_literals.proofs.numbers.number.Given as goal
-
-abbrev pub invariant-loop-b : goal.invariant-loop-b
-invariant-loop-b l = record {
-  same : value_of l.radix l.n (drop l.b-index l.digits) ≡ value_of l.radix 0 l.digits;
-  small : l.n ≤ 4294967295;
-}

@@ -1,6 +1,0 @@
-use Rattle.std.proofs.Common.{◌≡◌, drop}
-use Rattle.c_words.specs.Words as spec
-use Rattle.c_words.proofs.keywords.among.Given as goal
-
-abbrev pub invariant-loop-keyword : goal.invariant-loop-keyword
-invariant-loop-keyword l = spec.spelt (drop l.keyword-index l.keywords) l.word ≡ spec.spelt l.keywords l.word

@@ -1,0 +1,278 @@
+//! What the rules on expressions ask of a type.
+
+ghost use Rattle.std.specs.Prelude.{◌≡◌, ◌<◌, length, IfOk};
+ghost use Rattle.c_types.specs.Types as types;
+ghost use Rattle.check_declarators.specs.Making as making;
+ghost use Rattle.check_types.specs.Shapes as spec;
+
+use c_types::{Base, Integer, Layer, Layers, TypeRef, promoted};
+use icode_ops::UnKind;
+use std::alloc::{AllocError, Global};
+use word32::Width;
+
+fn base_integer(base: Base) -> Option<Integer>
+    ensures { result ≡ spec.base_integer base }
+{
+    match base {
+        Base::Void => None,
+        Base::Integer(kind) => Some(kind),
+    }
+}
+
+fn integer_parts(base: Base, layers: &Layers<'_>) -> Option<Integer>
+    ensures { result ≡ spec.integer_parts base layers.now }
+{
+    if layers.is_empty() {
+        base_integer(base)
+    } else {
+        None
+    }
+}
+
+/// The integer type that a type is.
+pub fn integer_of(t: &TypeRef) -> Option<Integer>
+    ensures { result ≡ spec.integer_of t.now }
+{
+    integer_parts(t.base(), &t.layers())
+}
+
+/// Whether a type is an integer type.
+pub fn is_integer(t: &TypeRef) -> bool
+    ensures { result ≡ spec.is_integer t.now }
+{
+    match integer_of(t) {
+        None => false,
+        Some(_) => true,
+    }
+}
+
+fn is_void_parts(base: Base, layers: &Layers<'_>) -> bool
+    ensures { result ≡ types.is_void base layers.now }
+{
+    layers.is_empty() && base == Base::Void
+}
+
+/// Whether a type is void.
+pub fn is_void(t: &TypeRef) -> bool
+    ensures { result ≡ spec.is_void t.now }
+{
+    is_void_parts(t.base(), &t.layers())
+}
+
+fn is_pointer_parts(layers: &Layers<'_>) -> bool
+    ensures { result ≡ types.is_pointer (types.outermost layers.now) }
+{
+    matches!(layers.last(), Some(Layer::Pointer))
+}
+
+/// Whether a type is a pointer.
+pub fn is_pointer(t: &TypeRef) -> bool
+    ensures { result ≡ spec.is_pointer t.now }
+{
+    is_pointer_parts(&t.layers())
+}
+
+fn is_array_parts(layers: &Layers<'_>) -> bool
+    ensures { result ≡ making.is_array layers.now }
+{
+    matches!(layers.last(), Some(Layer::Array(_)))
+}
+
+fn is_function_parts(layers: &Layers<'_>) -> bool
+    ensures { result ≡ making.is_function layers.now }
+{
+    matches!(layers.last(), Some(Layer::Function(_) | Layer::Unlisted))
+}
+
+/// Whether a type is a function.
+pub fn is_function(t: &TypeRef) -> bool
+    ensures { result ≡ spec.is_function t.now }
+{
+    is_function_parts(&t.layers())
+}
+
+/// Whether a type is an array or a function, so that its value is a pointer.
+pub fn decays(t: &TypeRef) -> bool
+    ensures { result ≡ spec.decays t.now }
+{
+    is_array_parts(&t.layers()) || is_function_parts(&t.layers())
+}
+
+fn is_word_base(base: Base) -> bool
+    ensures { result ≡ making.is_word_base base }
+{
+    matches!(base, Base::Integer(Integer::Int | Integer::Unsigned))
+}
+
+fn is_word_parts(base: Base, layers: &Layers<'_>) -> bool
+    ensures { result ≡ making.is_word base layers.now }
+{
+    match layers.last() {
+        None => is_word_base(base),
+        Some(last) => matches!(last, Layer::Pointer),
+    }
+}
+
+/// Whether a type is int, unsigned int or a pointer.
+pub fn is_word(t: &TypeRef) -> bool
+    ensures { result ≡ spec.is_word t.now }
+{
+    is_word_parts(t.base(), &t.layers())
+}
+
+/// Whether a type is an integer or a pointer.
+pub fn is_scalar(t: &TypeRef) -> bool
+    ensures { result ≡ spec.is_scalar t.now }
+{
+    is_integer(t) || is_pointer(t)
+}
+
+fn is_cspec_parts(layers: &Layers<'_>) -> bool
+    ensures { result ≡ spec.is_cspec_layer (types.outermost layers.now) }
+{
+    matches!(layers.last(), Some(Layer::Cspec))
+}
+
+/// Whether a type is that of a specification.
+pub fn is_cspec(t: &TypeRef) -> bool
+    ensures { result ≡ spec.is_cspec t.now }
+{
+    is_cspec_parts(&t.layers())
+}
+
+fn is_vspec_parts(layers: &Layers<'_>) -> bool
+    ensures { result ≡ spec.is_vspec_layer (types.outermost layers.now) }
+{
+    matches!(layers.last(), Some(Layer::Vspec))
+}
+
+/// Whether a type is that of a variable of generated code.
+pub fn is_vspec(t: &TypeRef) -> bool
+    ensures { result ≡ spec.is_vspec t.now }
+{
+    is_vspec_parts(&t.layers())
+}
+
+/// Whether a type is a pointer to void.
+pub fn points_to_void(t: &TypeRef) -> bool
+    ensures { result ≡ spec.points_to_void t.now }
+{
+    is_pointer(t) && is_void_parts(t.base(), &t.layers().under())
+}
+
+/// Whether a type is a pointer to a function.
+pub fn points_to_function(t: &TypeRef) -> bool
+    ensures { result ≡ spec.points_to_function t.now }
+{
+    is_pointer(t) && is_function_parts(&t.layers().under())
+}
+
+/// An integer type.
+pub fn integer(alloc: Global, kind: Integer) -> TypeRef
+    ensures { result ≡ spec.integer kind }
+{
+    TypeRef::new(alloc, Base::Integer(kind))
+}
+
+/// The type void.
+pub fn void(alloc: Global) -> TypeRef
+    ensures { result ≡ spec.void }
+{
+    TypeRef::new(alloc, Base::Void)
+}
+
+/// The type that one more layer makes.
+pub fn over(layer: Layer, t: TypeRef) -> Result<TypeRef, AllocError>
+    ensures { IfOk result (λ made. made ≡ spec.over layer t) }
+{
+    t.with(layer)
+}
+
+/// The type under the outermost layer: what a pointer points to, a function answers or a specification has.
+pub fn inner(t: TypeRef) -> TypeRef
+    ensures { result ≡ spec.inner t }
+{
+    t.under()
+}
+
+/// The type after promotion: a narrow integer becomes an int.
+pub fn promoted_type(alloc: Global, t: TypeRef) -> TypeRef
+    ensures { result ≡ spec.promoted t }
+{
+    match integer_of(&t) {
+        Some(kind) => integer(alloc, promoted(kind)),
+        None => t,
+    }
+}
+
+fn integer_width(kind: Integer) -> Width
+    ensures { result ≡ spec.integer_width kind }
+{
+    match kind {
+        Integer::Char => Width::SignedByte,
+        Integer::UnsignedChar => Width::Byte,
+        Integer::Short => Width::SignedHalf,
+        Integer::UnsignedShort => Width::Half,
+        Integer::Int | Integer::Unsigned => Width::Word,
+    }
+}
+
+/// How many bytes a scalar has, and how they become a word.
+pub fn width_of(t: &TypeRef) -> Width
+    ensures { result ≡ spec.width_of t.now }
+{
+    match integer_of(t) {
+        Some(kind) => integer_width(kind),
+        None => Width::Word,
+    }
+}
+
+/// What makes any word a value of an integer type; none where each word is one.
+pub fn narrowing(kind: Integer) -> Option<UnKind>
+    ensures { result ≡ spec.narrowing kind }
+{
+    match kind {
+        Integer::Char => Some(UnKind::SignedByte),
+        Integer::UnsignedChar => Some(UnKind::Byte),
+        Integer::Short => Some(UnKind::SignedHalf),
+        Integer::UnsignedShort => Some(UnKind::Half),
+        Integer::Int | Integer::Unsigned => None,
+    }
+}
+
+// Whether the second is narrow and has each value of the first.
+fn holds(from: Integer, to: Integer) -> bool
+    ensures { result ≡ spec.holds from to }
+{
+    match from {
+        Integer::Char => matches!(to, Integer::Char | Integer::Short),
+        Integer::UnsignedChar => {
+            matches!(
+                to,
+                Integer::UnsignedChar | Integer::Short | Integer::UnsignedShort
+            )
+        }
+        Integer::Short => matches!(to, Integer::Short),
+        Integer::UnsignedShort => matches!(to, Integer::UnsignedShort),
+        Integer::Int | Integer::Unsigned => false,
+    }
+}
+
+fn conversion_by(from: Option<Integer>, to: Integer) -> Option<UnKind>
+    ensures { result ≡ spec.conversion_by from to }
+{
+    match from {
+        None => narrowing(to),
+        Some(from) => { if holds(from, to) { None } else { narrowing(to) } }
+    }
+}
+
+/// What a conversion does to a word; none where each value of the one type is the same word in the other.
+pub fn conversion(from: &TypeRef, to: &TypeRef) -> Option<UnKind>
+    ensures { result ≡ spec.conversion from.now to.now }
+{
+    match integer_of(to) {
+        None => None,
+        Some(kind) => conversion_by(integer_of(from), kind),
+    }
+}

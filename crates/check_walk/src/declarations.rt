@@ -1,0 +1,202 @@
+//! The walk over declarations in a block.
+
+ghost use Rattle.std.specs.Prelude.{◌≡◌, None, map};
+ghost use Rattle.check_tables.specs.Walks.{Reads};
+ghost use Rattle.check_walk.specs.Walk as spec;
+
+use crate::expressions::expression;
+use crate::types::declarator;
+use c_types::TypeRef;
+use check_declarators::{Step, base_of};
+use check_env::{Stage, State};
+use check_operators::Operand;
+use check_statements::{
+    declare, declared_in, element, entered, from_list, from_value, has_size, is_array, is_string,
+    with_list, with_value,
+};
+use check_types::inner;
+use sqlite_items::Items;
+use std::alloc::Global;
+use tick_tree::{Base, Declaration, Declarator, Deny, Expr, FaultKind, Init, Initializer};
+use typed_tree::Stmt;
+
+/// The steps with the count of an initializer's values, where the array lacks a length.
+#[tactic(auto, using(crate::proofs::Equations::initializers, crate::proofs::Written::forms_of, crate::proofs::Loops::same_count))]
+pub fn with_start(steps: Items<Step>, value: &Initializer) -> Items<Step>
+    ensures { result ≡ spec.with_start (spec.initializer value.now) steps }
+{
+    match value {
+        Initializer::Absent => steps,
+        Initializer::Value(e) => with_value(steps, e),
+        Initializer::List(list, _) => with_list(steps, list.as_slice()),
+    }
+}
+
+#[cycle(walk)]
+#[tactic(auto, using(crate::proofs::Written::forms_of))]
+fn begin_value(
+    alloc: Global,
+    state: &mut State,
+    stage: Stage,
+    line: u32,
+    place: Operand,
+    e: &Expr,
+) -> Result<Items<Stmt>, Deny>
+    ensures { Reads (spec.begin_value line stage place (spec.node e.now) state.old) result state.new }
+{
+    let o = expression(alloc, state, stage, e)?;
+    from_value(alloc, line, place, is_string(e), o)
+}
+
+// What the values of a list break as elements of this type.
+#[cycle(walk)]
+fn elements(
+    alloc: Global,
+    state: &mut State,
+    stage: Stage,
+    t: &TypeRef,
+    list: &[Expr],
+) -> Result<Option<FaultKind>, Deny>
+    ensures { Reads (spec.elements (map spec.node list.now) t.now None stage state.old) result state.new }
+{
+    let mut broken = None;
+    for e in list {
+        let o = expression(alloc, state, stage, e)?;
+        broken = element(alloc, o, t, broken)?;
+    }
+    Ok(broken)
+}
+
+#[cycle(walk)]
+fn begin_list(
+    alloc: Global,
+    state: &mut State,
+    stage: Stage,
+    line: u32,
+    place: Operand,
+    list: &[Expr],
+) -> Result<Items<Stmt>, Deny>
+    ensures { Reads (spec.begin_list line stage place (map spec.node list.now) state.old) result state.new }
+{
+    let is_row = is_array(&place.ctype);
+    let is_sized = has_size(&place.ctype);
+    let t = inner(place.ctype);
+    let broken = elements(alloc, state, stage, &t, list)?;
+    from_list(line, is_row, is_sized, broken)
+}
+
+// A variable begins with its initializer.
+#[cycle(walk)]
+#[tactic(auto, using(crate::proofs::Equations::initializers))]
+fn begin(
+    alloc: Global,
+    state: &mut State,
+    stage: Stage,
+    line: u32,
+    place: Operand,
+    value: &Initializer,
+) -> Result<Items<Stmt>, Deny>
+    ensures { Reads (spec.begin line stage place (spec.initializer value.now) state.old) result state.new }
+{
+    match value {
+        Initializer::Absent => Ok(Items::new(alloc)),
+        Initializer::Value(e) => begin_value(alloc, state, stage, line, place, e),
+        Initializer::List(list, _) => {
+            begin_list(alloc, state, stage, line, place, list.as_slice())
+        }
+    }
+}
+
+// The type of a declared variable, after the lengths and lists of its declarator.
+#[cycle(walk)]
+fn local_type(
+    alloc: Global,
+    state: &mut State,
+    stage: Stage,
+    line: u32,
+    base: Base,
+    d: &Declarator,
+    value: &Initializer,
+) -> Result<TypeRef, Deny>
+    ensures { Reads (spec.local_type line base stage (spec.shape d.now) (spec.initializer value.now) state.old) result state.new }
+{
+    let steps = declarator(alloc, state, stage, d)?;
+    declared_in(alloc, stage, line, base_of(base), with_start(steps, value))
+}
+
+// Its type, its name, its initializer.
+#[cycle(walk)]
+#[tactic(auto, using(crate::proofs::Written::forms_of))]
+fn declared_parts(
+    alloc: Global,
+    state: &mut State,
+    stage: Stage,
+    line: u32,
+    base: Base,
+    d: &Declarator,
+    value: &Initializer,
+) -> Result<Items<Stmt>, Deny>
+    ensures { Reads (spec.declare_parts line base stage (spec.shape d.now) (spec.initializer value.now) state.old) result state.new }
+{
+    let t = local_type(alloc, state, stage, line, base, d, value)?;
+    let place = declare(alloc, state, stage, line, d, t)?;
+    begin(alloc, state, stage, line, place, value)
+}
+
+#[cycle(walk)]
+#[tactic(auto, using(crate::proofs::Equations::types, crate::proofs::Written::forms_of))]
+fn declared_local(
+    alloc: Global,
+    state: &mut State,
+    stage: Stage,
+    line: u32,
+    base: Base,
+    init: &Init,
+) -> Result<Items<Stmt>, Deny>
+    ensures { Reads (spec.declare_one line base stage (spec.init init.now) state.old) result state.new }
+{
+    entered(stage, line, &init.declarator)?;
+    declared_parts(
+        alloc,
+        state,
+        stage,
+        line,
+        base,
+        &init.declarator,
+        &init.value,
+    )
+}
+
+// The nodes of the initializers of these.
+#[cycle(walk)]
+fn locals(
+    alloc: Global,
+    state: &mut State,
+    stage: Stage,
+    line: u32,
+    base: Base,
+    list: &[Init],
+) -> Result<Items<Stmt>, Deny>
+    ensures { Reads (spec.declare_each line base stage (map spec.init list.now) state.old) result state.new }
+{
+    let mut nodes = Items::new(alloc);
+    for init in list {
+        let found = declared_local(alloc, state, stage, line, base, init)?;
+        nodes.append(found)?;
+    }
+    Ok(nodes)
+}
+
+/// The nodes of the initializers of a declaration in a block.
+#[cycle(walk)]
+#[tactic(auto, using(crate::proofs::Equations::types))]
+pub fn declaration(
+    alloc: Global,
+    state: &mut State,
+    stage: Stage,
+    d: &Declaration,
+) -> Result<Items<Stmt>, Deny>
+    ensures { Reads (spec.declaration_walk (spec.declaration d.now) stage state.old) result state.new }
+{
+    locals(alloc, state, stage, d.line, d.base, d.inits.as_slice())
+}

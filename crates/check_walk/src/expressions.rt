@@ -1,0 +1,413 @@
+//! The walk over expressions.
+
+ghost use Rattle.std.specs.Prelude.{◌≡◌, map};
+ghost use Rattle.check_lvalues.specs.Calls as calls;
+ghost use Rattle.check_expressions.specs.Rules as rules;
+ghost use Rattle.check_statements.specs.Rules as statements;
+ghost use Rattle.check_tables.specs.Walks.{Reads};
+ghost use Rattle.check_walk.specs.Walk as spec;
+
+use crate::statements::block;
+use crate::types::typename;
+use c_types::TypeRef;
+use check_env::{Stage, State};
+use check_expressions::{
+    argument, assign_node, binary_node, call_node, cast_node, choice_node, comma_node,
+    compile_node, index_node, library_of, modify_node, parameter_node, post_node, staging_entry,
+    string_node, tick_around, tick_entered, tick_entry, unary_entry, unary_node,
+};
+use check_lvalues::Arguments;
+use check_operators::{Operand, character, number};
+use std::alloc::Global;
+use tick_tree::{BinaryOp, Deny, Expr, ModifyOp, OptionalExpr, StepOp, Stmt, Typename, UnaryOp};
+
+// The operands of two expressions.
+#[cycle(walk)]
+fn both(
+    alloc: Global,
+    state: &mut State,
+    stage: Stage,
+    a: &Expr,
+    b: &Expr,
+) -> Result<(Operand, Operand), Deny>
+    ensures { Reads (rules.both (spec.node a.now) (spec.node b.now) stage state.old) result state.new }
+{
+    let x = expression(alloc, state, stage, a)?;
+    let y = expression(alloc, state, stage, b)?;
+    Ok((x, y))
+}
+
+// The arguments of a call.
+#[cycle(walk)]
+fn arguments(
+    alloc: Global,
+    state: &mut State,
+    stage: Stage,
+    list: &[Expr],
+) -> Result<Arguments, Deny>
+    ensures { Reads (spec.arguments list.now calls.no_arguments stage state.old) result state.new }
+{
+    let mut found = Arguments::new(alloc);
+    for e in list {
+        let o = expression(alloc, state, stage, e)?;
+        found = argument(alloc, found, o)?;
+    }
+    Ok(found)
+}
+
+#[cycle(walk)]
+fn library_call(
+    alloc: Global,
+    state: &mut State,
+    line: u32,
+    stage: Stage,
+    n: u32,
+    t: TypeRef,
+    list: &[Expr],
+) -> Result<Operand, Deny>
+    ensures { Reads (rules.library_call line n t (map spec.node list.now) stage state.old) result state.new }
+{
+    let found = arguments(alloc, state, stage, list)?;
+    check_lvalues::library(alloc, line, n, t, found)
+}
+
+#[cycle(walk)]
+fn plain_call(
+    alloc: Global,
+    state: &mut State,
+    line: u32,
+    stage: Stage,
+    f: &Expr,
+    list: &[Expr],
+) -> Result<Operand, Deny>
+    ensures { Reads (rules.plain_call line (spec.node f.now) (map spec.node list.now) stage state.old) result state.new }
+{
+    let o = expression(alloc, state, stage, f)?;
+    let found = arguments(alloc, state, stage, list)?;
+    call_node(alloc, line, stage, o, found)
+}
+
+#[cycle(walk)]
+#[tactic(auto, using(crate::proofs::Written::forms_of))]
+fn call(
+    alloc: Global,
+    state: &mut State,
+    line: u32,
+    stage: Stage,
+    f: &Expr,
+    list: &[Expr],
+) -> Result<Operand, Deny>
+    ensures { Reads (rules.call line (spec.node f.now) (map spec.node list.now) stage state.old) result state.new }
+{
+    match library_of(alloc, state, f)? {
+        Some((n, t)) => library_call(alloc, state, line, stage, n, t, list),
+        None => plain_call(alloc, state, line, stage, f, list),
+    }
+}
+
+#[cycle(walk)]
+fn tick_expression(
+    alloc: Global,
+    state: &mut State,
+    line: u32,
+    stage: Stage,
+    a: &Expr,
+) -> Result<Operand, Deny>
+    ensures { Reads (rules.tick_expression line (spec.node a.now) stage state.old) result state.new }
+{
+    tick_entry(line, stage)?;
+    tick_entered(alloc, state);
+    let o = expression(alloc, state, Stage::Tick, a)?;
+    Ok(check_expressions::tick_expression(alloc, state, o)?)
+}
+
+#[cycle(walk)]
+fn tick_block(
+    alloc: Global,
+    state: &mut State,
+    line: u32,
+    stage: Stage,
+    items: &[Stmt],
+) -> Result<Operand, Deny>
+    ensures { Reads (rules.tick_block line (map spec.item items.now) stage state.old) result state.new }
+{
+    tick_entry(line, stage)?;
+    tick_entered(alloc, state);
+    let body = block(alloc, state, tick_around(), items)?;
+    Ok(check_expressions::tick_block(alloc, state, body)?)
+}
+
+#[cycle(walk)]
+fn compile(
+    alloc: Global,
+    state: &mut State,
+    line: u32,
+    stage: Stage,
+    a: &Expr,
+    t: &Typename,
+) -> Result<Operand, Deny>
+    ensures { Reads (rules.compile line (spec.node a.now) (spec.named t.now) stage state.old) result state.new }
+{
+    staging_entry(line, stage)?;
+    let o = expression(alloc, state, stage, a)?;
+    let t = typename(alloc, state, line, stage, t)?;
+    compile_node(alloc, line, t, o)
+}
+
+#[cycle(walk)]
+fn local_specification(
+    alloc: Global,
+    state: &mut State,
+    line: u32,
+    stage: Stage,
+    t: &Typename,
+) -> Result<Operand, Deny>
+    ensures { Reads (rules.local line (spec.named t.now) stage state.old) result state.new }
+{
+    staging_entry(line, stage)?;
+    let t = typename(alloc, state, line, stage, t)?;
+    check_operators::local(alloc, line, t)
+}
+
+#[cycle(walk)]
+fn parameter_specification(
+    alloc: Global,
+    state: &mut State,
+    line: u32,
+    stage: Stage,
+    t: &Typename,
+    a: &Expr,
+) -> Result<Operand, Deny>
+    ensures { Reads (rules.parameter line (spec.named t.now) (spec.node a.now) stage state.old) result state.new }
+{
+    staging_entry(line, stage)?;
+    let t = typename(alloc, state, line, stage, t)?;
+    let o = expression(alloc, state, stage, a)?;
+    parameter_node(alloc, line, t, o)
+}
+
+#[cycle(walk)]
+fn unary(
+    alloc: Global,
+    state: &mut State,
+    line: u32,
+    stage: Stage,
+    op: UnaryOp,
+    a: &Expr,
+) -> Result<Operand, Deny>
+    ensures { Reads (rules.unary line op (spec.node a.now) stage state.old) result state.new }
+{
+    let inner = unary_entry(line, op, stage)?;
+    let o = expression(alloc, state, inner, a)?;
+    unary_node(alloc, state, line, op, stage, o)
+}
+
+#[cycle(walk)]
+fn cast(
+    alloc: Global,
+    state: &mut State,
+    line: u32,
+    stage: Stage,
+    t: &Typename,
+    a: &Expr,
+) -> Result<Operand, Deny>
+    ensures { Reads (rules.cast line (spec.named t.now) (spec.node a.now) stage state.old) result state.new }
+{
+    let t = typename(alloc, state, line, stage, t)?;
+    let o = expression(alloc, state, stage, a)?;
+    cast_node(alloc, line, t, o)
+}
+
+#[cycle(walk)]
+fn choice(
+    alloc: Global,
+    state: &mut State,
+    line: u32,
+    stage: Stage,
+    c: &Expr,
+    a: &Expr,
+    b: &Expr,
+) -> Result<Operand, Deny>
+    ensures { Reads (rules.choice line (spec.node c.now) (spec.node a.now) (spec.node b.now) stage state.old) result state.new }
+{
+    let test = expression(alloc, state, stage, c)?;
+    let p = both(alloc, state, stage, a, b)?;
+    choice_node(alloc, line, test, p.0, p.1)
+}
+
+#[cycle(walk)]
+fn index(
+    alloc: Global,
+    state: &mut State,
+    line: u32,
+    stage: Stage,
+    a: &Expr,
+    b: &Expr,
+) -> Result<Operand, Deny>
+    ensures { Reads (rules.index line (spec.node a.now) (spec.node b.now) stage state.old) result state.new }
+{
+    let p = both(alloc, state, stage, a, b)?;
+    index_node(alloc, line, stage, p.0, p.1)
+}
+
+#[cycle(walk)]
+fn post(
+    alloc: Global,
+    state: &mut State,
+    line: u32,
+    stage: Stage,
+    op: StepOp,
+    a: &Expr,
+) -> Result<Operand, Deny>
+    ensures { Reads (rules.post line op (spec.node a.now) stage state.old) result state.new }
+{
+    let o = expression(alloc, state, stage, a)?;
+    post_node(alloc, line, op, o)
+}
+
+#[cycle(walk)]
+fn size(
+    alloc: Global,
+    state: &mut State,
+    line: u32,
+    stage: Stage,
+    t: &Typename,
+) -> Result<Operand, Deny>
+    ensures { Reads (rules.size line (spec.named t.now) stage state.old) result state.new }
+{
+    let t = typename(alloc, state, line, stage, t)?;
+    check_operators::size(alloc, line, &t)
+}
+
+#[cycle(walk)]
+fn binary(
+    alloc: Global,
+    state: &mut State,
+    line: u32,
+    stage: Stage,
+    op: BinaryOp,
+    a: &Expr,
+    b: &Expr,
+) -> Result<Operand, Deny>
+    ensures { Reads (rules.binary line op (spec.node a.now) (spec.node b.now) stage state.old) result state.new }
+{
+    let p = both(alloc, state, stage, a, b)?;
+    binary_node(alloc, line, op, p.0, p.1)
+}
+
+#[cycle(walk)]
+fn assign(
+    alloc: Global,
+    state: &mut State,
+    line: u32,
+    stage: Stage,
+    a: &Expr,
+    b: &Expr,
+) -> Result<Operand, Deny>
+    ensures { Reads (rules.assign line (spec.node a.now) (spec.node b.now) stage state.old) result state.new }
+{
+    let p = both(alloc, state, stage, a, b)?;
+    assign_node(alloc, line, p.0, p.1)
+}
+
+#[cycle(walk)]
+fn modify(
+    alloc: Global,
+    state: &mut State,
+    line: u32,
+    stage: Stage,
+    op: ModifyOp,
+    a: &Expr,
+    b: &Expr,
+) -> Result<Operand, Deny>
+    ensures { Reads (rules.modify line op (spec.node a.now) (spec.node b.now) stage state.old) result state.new }
+{
+    let p = both(alloc, state, stage, a, b)?;
+    modify_node(alloc, line, op, p.0, p.1)
+}
+
+#[cycle(walk)]
+fn comma(
+    alloc: Global,
+    state: &mut State,
+    stage: Stage,
+    a: &Expr,
+    b: &Expr,
+) -> Result<Operand, Deny>
+    ensures { Reads (rules.comma (spec.node a.now) (spec.node b.now) stage state.old) result state.new }
+{
+    let p = both(alloc, state, stage, a, b)?;
+    Ok(comma_node(alloc, p.0, p.1)?)
+}
+
+/// What an expression that may be absent is.
+#[cycle(walk)]
+#[tactic(auto, using(crate::proofs::Equations::optionals))]
+pub fn optional(
+    alloc: Global,
+    state: &mut State,
+    stage: Stage,
+    e: &OptionalExpr,
+) -> Result<Option<Operand>, Deny>
+    ensures { Reads (statements.optional (spec.optional e.now) stage state.old) result state.new }
+{
+    match e {
+        OptionalExpr::Absent => Ok(None),
+        OptionalExpr::Present(e) => Ok(Some(expression(alloc, state, stage, e)?)),
+    }
+}
+
+/// What an expression is, or the first fault.
+#[cycle(walk)]
+#[tactic(auto, using(crate::proofs::Equations::expressions))]
+pub fn expression(alloc: Global, state: &mut State, stage: Stage, e: &Expr) -> Result<Operand, Deny>
+    ensures { Reads ((spec.node e.now).walk stage state.old) result state.new }
+{
+    match e {
+        Expr::Name(line, name) => state.named(alloc, *line, stage, name.as_slice()),
+        Expr::Number(n, unsigned) => Ok(number(alloc, *n, *unsigned)?),
+        Expr::Character(n) => Ok(character(alloc, *n)?),
+        Expr::String(bytes) => Ok(string_node(alloc, state, bytes.as_slice())?),
+        Expr::Paren(a) => expression(alloc, state, stage, a.get()),
+        Expr::Compile(line, a, t) => compile(alloc, state, *line, stage, a.get(), t.get()),
+        Expr::Local(line, t) => local_specification(alloc, state, *line, stage, t.get()),
+        Expr::Param(line, t, a) => parameter_specification(
+            alloc,
+            state,
+            *line,
+            stage,
+            t.get(),
+            a.get(),
+        ),
+        Expr::Index(line, p) => {
+            let (a, b) = p.get();
+            index(alloc, state, *line, stage, a, b)
+        }
+        Expr::Call(line, f, list) => call(alloc, state, *line, stage, f.get(), list.as_slice()),
+        Expr::Step(line, op, a) => post(alloc, state, *line, stage, *op, a.get()),
+        Expr::Unary(line, op, a) => unary(alloc, state, *line, stage, *op, a.get()),
+        Expr::Tick(line, a) => tick_expression(alloc, state, *line, stage, a.get()),
+        Expr::TickBlock(line, items) => tick_block(alloc, state, *line, stage, items.as_slice()),
+        Expr::Cast(line, t, a) => cast(alloc, state, *line, stage, t.get(), a.get()),
+        Expr::Sizeof(line, t) => size(alloc, state, *line, stage, t.get()),
+        Expr::Binary(line, op, p) => {
+            let (a, b) = p.get();
+            binary(alloc, state, *line, stage, *op, a, b)
+        }
+        Expr::Choice(line, c, a, b) => {
+            choice(alloc, state, *line, stage, c.get(), a.get(), b.get())
+        }
+        Expr::Assign(line, p) => {
+            let (a, b) = p.get();
+            assign(alloc, state, *line, stage, a, b)
+        }
+        Expr::Modify(line, op, p) => {
+            let (a, b) = p.get();
+            modify(alloc, state, *line, stage, *op, a, b)
+        }
+        Expr::Comma(_, p) => {
+            let (a, b) = p.get();
+            comma(alloc, state, stage, a, b)
+        }
+    }
+}

@@ -1,0 +1,437 @@
+//! The walk over statements.
+
+ghost use Rattle.std.specs.Prelude.{◌≡◌, Ok, map};
+ghost use Rattle.tick_tree.specs.Faults.{Checks};
+ghost use Rattle.check_statements.specs.Rules as statements;
+ghost use Rattle.check_tables.specs.Walks.{Reads};
+ghost use Rattle.check_walk.specs.Walk as spec;
+
+use crate::declarations::declaration;
+use crate::expressions::{expression, optional};
+use check_env::{Around, State};
+use check_forms::has_form;
+use check_operators::Operand;
+use check_statements::{
+    body, break_entry, case_entry, case_node, continue_entry, default_node, do_node, for_node,
+    if_else_node, if_node, inside, looped, one, return_node, switch_entered, switch_node, switched,
+    while_node,
+};
+use sqlite_items::{Boxed, Items};
+use std::alloc::Global;
+use tick_tree::{self as syntax, Deny, Expr, OptionalExpr};
+use typed_tree::Stmt;
+
+/// The nodes of the items of a block.
+#[cycle(walk)]
+pub fn items(
+    alloc: Global,
+    state: &mut State,
+    around: Around,
+    list: &[syntax::Stmt],
+) -> Result<Items<Stmt>, Deny>
+    ensures { Reads (spec.items list.now around state.old) result state.new }
+{
+    let mut nodes = Items::new(alloc);
+    for s in list {
+        let found = statement(alloc, state, around, s)?;
+        nodes.append(found)?;
+    }
+    Ok(nodes)
+}
+
+/// A block, with the nodes of its variables.
+#[cycle(walk)]
+pub fn block(
+    alloc: Global,
+    state: &mut State,
+    around: Around,
+    list: &[syntax::Stmt],
+) -> Result<Boxed<Stmt>, Deny>
+    ensures { Reads (spec.block list.now around state.old) result state.new }
+{
+    let depth = state.depth();
+    let outer = state.enter(alloc)?;
+    let nodes = items(alloc, state, around, list)?;
+    let variables = state.leave(depth, outer)?;
+    Ok(Boxed::new(alloc, Stmt::Block(variables, nodes))?)
+}
+
+// The body of a statement, which is one node.
+#[cycle(walk)]
+fn body_of(
+    alloc: Global,
+    state: &mut State,
+    around: Around,
+    s: &syntax::Stmt,
+) -> Result<Boxed<Stmt>, Deny>
+    ensures { Reads (statements.body (spec.item s.now) around state.old) result state.new }
+{
+    let nodes = statement(alloc, state, around, s)?;
+    Ok(body(alloc, nodes)?)
+}
+
+#[cycle(walk)]
+fn alone(alloc: Global, state: &mut State, around: Around, e: &Expr) -> Result<Items<Stmt>, Deny>
+    ensures { Reads (statements.alone (spec.node e.now) around state.old) result state.new }
+{
+    let o = expression(alloc, state, around.stage, e)?;
+    Ok(check_statements::alone(alloc, o)?)
+}
+
+#[cycle(walk)]
+fn block_alone(
+    alloc: Global,
+    state: &mut State,
+    around: Around,
+    list: &[syntax::Stmt],
+) -> Result<Items<Stmt>, Deny>
+    ensures { Reads (statements.block_alone (map spec.item list.now) around state.old) result state.new }
+{
+    let node = block(alloc, state, inside(around), list)?;
+    Ok(one(alloc, node.into_inner())?)
+}
+
+#[cycle(walk)]
+fn branch(
+    alloc: Global,
+    state: &mut State,
+    line: u32,
+    around: Around,
+    c: &Expr,
+    a: &syntax::Stmt,
+) -> Result<Items<Stmt>, Deny>
+    ensures { Reads (statements.if_then line (spec.node c.now) (spec.item a.now) around state.old) result state.new }
+{
+    let o = expression(alloc, state, around.stage, c)?;
+    let x = body_of(alloc, state, inside(around), a)?;
+    if_node(alloc, line, o, x)
+}
+
+// The bodies of `if` and `else`.
+#[cycle(walk)]
+fn bodies(
+    alloc: Global,
+    state: &mut State,
+    around: Around,
+    a: &syntax::Stmt,
+    b: &syntax::Stmt,
+) -> Result<(Boxed<Stmt>, Boxed<Stmt>), Deny>
+    ensures { Reads (statements.bodies (spec.item a.now) (spec.item b.now) around state.old) result state.new }
+{
+    let x = body_of(alloc, state, around, a)?;
+    let y = body_of(alloc, state, around, b)?;
+    Ok((x, y))
+}
+
+#[cycle(walk)]
+fn branches(
+    alloc: Global,
+    state: &mut State,
+    line: u32,
+    around: Around,
+    c: &Expr,
+    a: &syntax::Stmt,
+    b: &syntax::Stmt,
+) -> Result<Items<Stmt>, Deny>
+    ensures { Reads (statements.if_else line (spec.node c.now) (spec.item a.now) (spec.item b.now) around state.old) result state.new }
+{
+    let o = expression(alloc, state, around.stage, c)?;
+    let p = bodies(alloc, state, inside(around), a, b)?;
+    if_else_node(alloc, line, o, p.0, p.1)
+}
+
+#[cycle(walk)]
+fn repeated(
+    alloc: Global,
+    state: &mut State,
+    line: u32,
+    around: Around,
+    c: &Expr,
+    a: &syntax::Stmt,
+) -> Result<Items<Stmt>, Deny>
+    ensures { Reads (statements.while_loop line (spec.node c.now) (spec.item a.now) around state.old) result state.new }
+{
+    let o = expression(alloc, state, around.stage, c)?;
+    let x = body_of(alloc, state, looped(around), a)?;
+    while_node(alloc, line, o, x)
+}
+
+#[cycle(walk)]
+fn done_first(
+    alloc: Global,
+    state: &mut State,
+    line: u32,
+    around: Around,
+    a: &syntax::Stmt,
+    c: &Expr,
+) -> Result<Items<Stmt>, Deny>
+    ensures { Reads (statements.do_loop line (spec.item a.now) (spec.node c.now) around state.old) result state.new }
+{
+    let x = body_of(alloc, state, looped(around), a)?;
+    let o = expression(alloc, state, around.stage, c)?;
+    do_node(alloc, line, x, o)
+}
+
+// The test and the step of a `for`.
+#[cycle(walk)]
+fn test_and_step(
+    alloc: Global,
+    state: &mut State,
+    around: Around,
+    c: &OptionalExpr,
+    s: &OptionalExpr,
+) -> Result<(Option<Operand>, Option<Operand>), Deny>
+    ensures { Reads (statements.test_and_step (spec.optional c.now) (spec.optional s.now) around state.old) result state.new }
+{
+    let x = optional(alloc, state, around.stage, c)?;
+    let y = optional(alloc, state, around.stage, s)?;
+    Ok((x, y))
+}
+
+// A `for` behind its first part.
+#[cycle(walk)]
+fn for_rest(
+    alloc: Global,
+    state: &mut State,
+    line: u32,
+    around: Around,
+    c: &OptionalExpr,
+    s: &OptionalExpr,
+    a: &syntax::Stmt,
+) -> Result<Boxed<Stmt>, Deny>
+    ensures { Reads (statements.for_rest line (spec.optional c.now) (spec.optional s.now) (spec.item a.now) around state.old) result state.new }
+{
+    let p = test_and_step(alloc, state, around, c, s)?;
+    let x = body_of(alloc, state, looped(around), a)?;
+    for_node(alloc, line, p.0, p.1, x)
+}
+
+#[cycle(walk)]
+fn for_alone(
+    alloc: Global,
+    state: &mut State,
+    line: u32,
+    around: Around,
+    c: &OptionalExpr,
+    s: &OptionalExpr,
+    a: &syntax::Stmt,
+) -> Result<Items<Stmt>, Deny>
+    ensures { Reads (statements.for_alone line (spec.optional c.now) (spec.optional s.now) (spec.item a.now) around state.old) result state.new }
+{
+    let node = for_rest(alloc, state, line, around, c, s, a)?;
+    Ok(one(alloc, node.into_inner())?)
+}
+
+// The first part of a `for`, and the rest.
+#[cycle(walk)]
+fn for_items(
+    alloc: Global,
+    state: &mut State,
+    line: u32,
+    around: Around,
+    first: &syntax::Stmt,
+    c: &OptionalExpr,
+    s: &OptionalExpr,
+    a: &syntax::Stmt,
+) -> Result<Items<Stmt>, Deny>
+    ensures { Reads (statements.for_items line (spec.item first.now) (spec.optional c.now) (spec.optional s.now) (spec.item a.now) around state.old) result state.new }
+{
+    let mut nodes = statement(alloc, state, inside(around), first)?;
+    let node = for_rest(alloc, state, line, around, c, s, a)?;
+    nodes.push(node.into_inner())?;
+    Ok(nodes)
+}
+
+// A `for` with a first part: a block of it and the rest.
+#[cycle(walk)]
+fn for_block(
+    alloc: Global,
+    state: &mut State,
+    line: u32,
+    around: Around,
+    first: &syntax::Stmt,
+    c: &OptionalExpr,
+    s: &OptionalExpr,
+    a: &syntax::Stmt,
+) -> Result<Items<Stmt>, Deny>
+    ensures { Reads (statements.for_block line (spec.item first.now) (spec.optional c.now) (spec.optional s.now) (spec.item a.now) around state.old) result state.new }
+{
+    let depth = state.depth();
+    let outer = state.enter(alloc)?;
+    let nodes = for_items(alloc, state, line, around, first, c, s, a)?;
+    let variables = state.leave(depth, outer)?;
+    Ok(one(alloc, Stmt::Block(variables, nodes))?)
+}
+
+#[tactic(auto, using(crate::proofs::Equations::empties))]
+fn is_empty(s: &syntax::Stmt) -> bool
+    ensures { result ≡ (spec.item s.now).is_empty }
+{
+    match s {
+        syntax::Stmt::Empty => true,
+        syntax::Stmt::Expr(_) | syntax::Stmt::Block(_) | syntax::Stmt::Local(_) => false,
+        syntax::Stmt::If(_, _, _) | syntax::Stmt::IfElse(_, _, _, _) => false,
+        syntax::Stmt::While(_, _, _) | syntax::Stmt::Do(_, _, _) => false,
+        syntax::Stmt::For(_, _, _, _, _) | syntax::Stmt::Switch(_, _, _) => false,
+        syntax::Stmt::Case(_, _) | syntax::Stmt::Default(_) | syntax::Stmt::Break(_) => false,
+        syntax::Stmt::Continue(_) | syntax::Stmt::Return(_, _) => false,
+    }
+}
+
+#[cycle(walk)]
+fn for_all(
+    alloc: Global,
+    state: &mut State,
+    line: u32,
+    around: Around,
+    first: &syntax::Stmt,
+    c: &OptionalExpr,
+    s: &OptionalExpr,
+    a: &syntax::Stmt,
+) -> Result<Items<Stmt>, Deny>
+    ensures { Reads (statements.for_loop line (spec.item first.now) (spec.optional c.now) (spec.optional s.now) (spec.item a.now) around state.old) result state.new }
+{
+    if is_empty(first) {
+        for_alone(alloc, state, line, around, c, s, a)
+    } else {
+        for_block(alloc, state, line, around, first, c, s, a)
+    }
+}
+
+// The variables and the items of a switch's block.
+#[cycle(walk)]
+fn switch_block(
+    alloc: Global,
+    state: &mut State,
+    around: Around,
+    list: &[syntax::Stmt],
+) -> Result<(Items<Stmt>, Items<Stmt>), Deny>
+    ensures { Reads (statements.switch_block (map spec.item list.now) around state.old) result state.new }
+{
+    let depth = state.depth();
+    let outer = state.enter(alloc)?;
+    let nodes = items(alloc, state, switched(around), list)?;
+    let variables = state.leave(depth, outer)?;
+    Ok((variables, nodes))
+}
+
+// The block of a switch, with labels of its own.
+#[cycle(walk)]
+fn labelled_block(
+    alloc: Global,
+    state: &mut State,
+    around: Around,
+    list: &[syntax::Stmt],
+) -> Result<(Items<Stmt>, Items<Stmt>), Deny>
+    ensures { Reads (statements.labelled_block (map spec.item list.now) around state.old) result state.new }
+{
+    let outer = switch_entered(alloc, state)?;
+    let p = switch_block(alloc, state, around, list)?;
+    state.labels = outer;
+    Ok(p)
+}
+
+#[cycle(walk)]
+fn switch(
+    alloc: Global,
+    state: &mut State,
+    line: u32,
+    around: Around,
+    e: &Expr,
+    list: &[syntax::Stmt],
+) -> Result<Items<Stmt>, Deny>
+    ensures { Reads (statements.switch line (spec.node e.now) (map spec.item list.now) around state.old) result state.new }
+{
+    let o = expression(alloc, state, around.stage, e)?;
+    let p = labelled_block(alloc, state, around, list)?;
+    switch_node(alloc, line, o, p.0, p.1)
+}
+
+#[cycle(walk)]
+#[tactic(auto, using(crate::proofs::Written::forms_of))]
+fn case(
+    alloc: Global,
+    state: &mut State,
+    line: u32,
+    around: Around,
+    e: &Expr,
+) -> Result<Items<Stmt>, Deny>
+    ensures { Reads (statements.case line (spec.node e.now) around state.old) result state.new }
+{
+    case_entry(line, has_form(e), around)?;
+    let o = expression(alloc, state, around.stage, e)?;
+    case_node(alloc, state, line, o)
+}
+
+#[cycle(walk)]
+fn answered(
+    alloc: Global,
+    state: &mut State,
+    line: u32,
+    around: Around,
+    e: &Expr,
+) -> Result<Items<Stmt>, Deny>
+    ensures { Reads (statements.answered line (spec.node e.now) around state.old) result state.new }
+{
+    let o = expression(alloc, state, around.stage, e)?;
+    return_node(alloc, state, line, around.stage, o)
+}
+
+#[cycle(walk)]
+#[tactic(auto, using(crate::proofs::Equations::optionals))]
+fn returned(
+    alloc: Global,
+    state: &mut State,
+    line: u32,
+    around: Around,
+    e: &OptionalExpr,
+) -> Result<Items<Stmt>, Deny>
+    ensures { Reads (statements.returning line (spec.optional e.now) around state.old) result state.new }
+{
+    match e {
+        OptionalExpr::Absent => Ok(one(alloc, Stmt::Return)?),
+        OptionalExpr::Present(e) => answered(alloc, state, line, around, e),
+    }
+}
+
+fn empty(alloc: Global) -> Result<Items<Stmt>, Deny>
+    ensures { Checks result (Ok statements.empty) }
+{
+    Ok(one(alloc, Stmt::Block(Items::new(alloc), Items::new(alloc)))?)
+}
+
+/// The nodes of a statement, one but for a declaration, or the first fault.
+#[cycle(walk)]
+#[tactic(auto, using(crate::proofs::Equations::statements))]
+pub fn statement(
+    alloc: Global,
+    state: &mut State,
+    around: Around,
+    s: &syntax::Stmt,
+) -> Result<Items<Stmt>, Deny>
+    ensures { Reads ((spec.item s.now).walk around state.old) result state.new }
+{
+    match s {
+        syntax::Stmt::Empty => empty(alloc),
+        syntax::Stmt::Expr(e) => alone(alloc, state, around, e),
+        syntax::Stmt::Block(list) => block_alone(alloc, state, around, list.as_slice()),
+        syntax::Stmt::Local(d) => declaration(alloc, state, around.stage, d),
+        syntax::Stmt::If(line, c, a) => branch(alloc, state, *line, around, c, a.get()),
+        syntax::Stmt::IfElse(line, c, a, b) => {
+            branches(alloc, state, *line, around, c, a.get(), b.get())
+        }
+        syntax::Stmt::While(line, c, a) => repeated(alloc, state, *line, around, c, a.get()),
+        syntax::Stmt::Do(line, a, c) => done_first(alloc, state, *line, around, a.get(), c),
+        syntax::Stmt::For(line, first, c, s, a) => {
+            for_all(alloc, state, *line, around, first.get(), c, s, a.get())
+        }
+        syntax::Stmt::Switch(line, e, list) => {
+            switch(alloc, state, *line, around, e, list.as_slice())
+        }
+        syntax::Stmt::Case(line, e) => case(alloc, state, *line, around, e),
+        syntax::Stmt::Default(line) => default_node(alloc, state, *line, around),
+        syntax::Stmt::Break(line) => break_entry(alloc, *line, around),
+        syntax::Stmt::Continue(line) => continue_entry(alloc, *line, around),
+        syntax::Stmt::Return(line, e) => returned(alloc, state, *line, around, e),
+    }
+}

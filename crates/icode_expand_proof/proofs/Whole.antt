@@ -1,0 +1,398 @@
+-- Each step of the staged machine is simulated, whatever calls wait.
+use Rattle.std.proofs.Common.{◌≡◌, ◌⊎◌, inl, inr, nat_eq, ℕ, zero, suc, ◌+◌, ◌*◌, ◌≤◌, Bool, true, false, List, [], ◌∷◌}
+use Rattle.std.proofs.Common.{◌++◌}
+use Rattle.std.proofs.Common.{Option, Some, None, refl, sym, ap, ◌∙◌, subst, arith, slice_get, if◌then◌else◌}
+use Rattle.std.proofs.Common.{append_assoc}
+use Rattle.std.specs.Fn.{iterate}
+use Rattle.pace.specs.Claims.{PaysFor, SimulatesStep}
+use Rattle.pace.proofs.Runs.{iterate_add}
+use Rattle.pace.proofs.Seams.{pays_for}
+use Rattle.host_edge.specs.declared.ending.TrapKind.{TrapKind}
+use Rattle.host_edge.specs.declared.ending.Ending.TheVariants.{Trap}
+use Rattle.host_edge.specs.declared.ending.TrapKind.TheVariants.{BadCall}
+use Rattle.history.specs.Events.{Item, End, Ended}
+use Rattle.pace.specs.Pace.{Seen}
+use Rattle.mips_encoder.specs.declared.instruction.Instr.{Instr}
+use Rattle.mips_model.specs.State.{Code, Data, World}
+use Rattle.mips_model.specs.Effects.{effect, sets_hilo}
+use Rattle.mips_model.specs.Steps.{Is, fetch, step, run}
+use Rattle.mips_model.specs.Run as machine
+use Rattle.mips_model.specs.Laws.{HasAt, at}
+use Rattle.icode_ops.specs.declared.op.Op.{Op}
+use Rattle.icode_ops.specs.declared.op.Op.TheVariants.{Const, Move, Bin, FrameAddress, Clear, Label, Jump, BranchZero}
+use Rattle.icode_ops.specs.declared.op.Op.TheVariants.{BranchNonzero}
+use Rattle.icode_ops.specs.declared.op.Op.TheVariants.{Sys}
+use Rattle.icode_ops.specs.declared.op.Op.TheVariants.{Argument, GetParameter, Call, CallNumber, Result, Return}
+use Rattle.icode_ops.specs.declared.op.Op.TheVariants.{ReturnZero}
+use Rattle.icode_ops.specs.declared.kind.SysKind.TheVariants.{PutByte}
+use Rattle.icode_ops.specs.Flow.{first_use}
+use Rattle.icode_templates.specs.Layout.{parameter_spot}
+use Rattle.icode_templates.specs.Templates.{load_code}
+use Rattle.icode_meaning.specs.State as staged
+use Rattle.icode_meaning.specs.State.{Function, Frame, Log, Running, Zeroing, Halted, Stuck, nothing, see, least_at}
+use Rattle.icode_meaning.specs.State.{most_at}
+use Rattle.icode_meaning.specs.Steps.{uses_on, act, checked, advance, first, paid, left, back, begun, entered, unless}
+use Rattle.icode_meaning.specs.Steps.{zeroing, address_of, goes_on, moved_on, call_at, call_row, set_from}
+use Rattle.meaning_state.specs.Shared.{Shared, limit_trap, are_objects}
+use Rattle.icode_templates_proof.specs.Spots.{Framed}
+use Rattle.icode_frames_spec.specs.Relation.{Holds, Related, behind, Pays}
+use Rattle.icode_frames_spec.specs.Settings.{Setting, places_of, Standing}
+use Rattle.icode_frames_spec.specs.Standing.{layout_of, op_stands_at, Stands}
+use Rattle.icode_frames_spec.proofs.Codes.{op_code, one_stands}
+use Rattle.icode_frames_spec.proofs.Frames.{spots}
+use Rattle.icode_frames_spec.proofs.Places.{slot_usable}
+use Rattle.icode_steps_proof.proofs.Liveness.{op_found, both_true}
+use Rattle.icode_steps_proof.proofs.ObjectAddresses.{address_pays}
+use Rattle.icode_steps_proof.proofs.Ops.{const_pays, move_pays, bin_pays, put_pays, jump_pays, zero_pays, nonzero_pays}
+use Rattle.icode_steps_proof.proofs.Ops.{label_pays}
+use Rattle.icode_steps_proof.proofs.Paying.{first_operand}
+use Rattle.icode_steps_proof.proofs.Recent.{IsOnward, IsGentle, head_gentle, load_gentle, at_any}
+use Rattle.icode_steps_proof.proofs.Zeroing.{round_pays, clear_pays}
+use Rattle.icode_steps_proof.specs.Served.{IsServed, Serving}
+use Rattle.icode_expand_proof.specs.Laws.{Arrives, ProgramIsSimulated, ProgramKeepsCode}
+use Rattle.icode_expand_proof.proofs.Arguments.{argument_pays, result_pays, parameter_pays}
+use Rattle.icode_expand_proof.proofs.Calls.{found_pays}
+use Rattle.icode_expand_proof.proofs.Entrance.{Enters, Begun, holds_begun}
+use Rattle.icode_expand_proof.proofs.NumberCalls.{number_pays}
+use Rattle.icode_expand_proof.proofs.Returns.{return_pays, zero_return_pays}
+
+-- what a call and a return have paid
+back_least : (x : ℕ) (waiting : List Frame) (log : Log) → least_at (back x waiting log) ≡ log.least
+back_least x [] log = refl
+back_least x (v ∷ vs) log = refl
+
+enter_least : (t : Option TrapKind) (f : Function) (arguments : ℕ → Option ℕ) (waiting : List Frame) (log : Log)
+    → least_at (unless t log (goes_on (begun f arguments) waiting (entered f log))) ≡ log.least
+enter_least None f arguments waiting log = refl
+enter_least (Some k) f arguments waiting log = refl
+
+zeroing_least : (n address : ℕ) (w : Frame) (waiting : List Frame) (log : Log)
+    → least_at (zeroing n address w waiting log) ≡ log.least
+zeroing_least zero address w waiting log = refl
+zeroing_least (suc more) address w waiting log = refl
+
+-- a call by a number has paid, or is stuck
+row_least : (s : Setting) (number n : ℕ) (x : Option (ℕ × ℕ)) (w : Frame) (arguments : ℕ → Option ℕ)
+    (waiting : List Frame) (log : Log)
+    → (log.least + 1 ≤ least_at (call_row s.program (CallNumber number n) n x w arguments waiting log)) ⊎
+    (call_row s.program (CallNumber number n) n x w arguments waiting log ≡ Stuck log)
+row_least s number n None w arguments waiting log = inl (omega arith)
+row_least s number n (Some (address, k)) w arguments waiting log = by (nat_eq k n) (s.program.function_at address)
+  where
+    by : (b : Bool) (y : Option Function)
+        → (log.least + 1 ≤ least_at (if b then call_at (CallNumber number n) y w arguments waiting log else Halted
+        (Ended (Trap BadCall)) (paid (CallNumber number n) log)))
+        ⊎ ((if b then call_at (CallNumber number n) y w arguments waiting log else Halted (Ended (Trap BadCall))
+        (paid (CallNumber number n) log)) ≡ Stuck log)
+    by false y = inl (omega arith)
+    by true None = inr refl
+    by true (Some g) = inl (let e = enter_least (limit_trap g.charge g.object log.shared) g arguments
+        (moved_on w ∷ waiting) (paid (CallNumber number n) log) in omega (arith, e))
+
+no_end : {e : End} → Some e ≡ None → ⊥
+no_end h = cc
+
+pub halts : (s : Setting) (a : staged.State) (e : End) → (see a).ending ≡ Some e → advance s.program a ≡ a
+halts s (Running w arguments answer waiting log) e h = absurd (no_end (sym h))
+halts s (Zeroing more address w waiting log) e h = absurd (no_end (sym h))
+halts s (Halted x log) e h = refl
+halts s (Stuck log) e h = refl
+
+pub same_seen : (s : Setting) (a : staged.State) (b : World) → Related s a b → see a ≡ machine.see b
+same_seen s (Running w arguments answer waiting log) b r =
+    ap (λ h. record { history = h; ending = None }) (sym r.1.holds.memory.history) ∙ sym (ap machine.see r.1.is)
+same_seen s (Zeroing more address w waiting log) b r =
+    ap (λ h. record { history = h; ending = None }) (sym r.1.holds.memory.history) ∙ sym (ap machine.see r.1.is)
+same_seen s (Halted e log) b r = r.0
+same_seen s (Stuck log) b r = r.0
+
+pub same_code : (s : Setting) (a : staged.State) (b : World) → Related s a b → b.state.code ≡ s.code
+same_code s (Running w arguments answer waiting log) b r = ap (λ (z : World). z.state.code) r.1.is
+same_code s (Zeroing more address w waiting log) b r = ap (λ (z : World). z.state.code) r.1.is
+same_code s (Halted e log) b r = r.1
+same_code s (Stuck log) b r = r.1
+
+module _ (s : Setting) (st : Standing s) (sv : Serving s) where
+  stuck_any : (log : Log) (q a : ℕ) (d : Data) → d.outside.history ≡ log.shared.history
+      → Pays s (Stuck log) log (behind s.code a q d)
+  stuck_any log q a d e =
+      record {
+        count = 0;
+        low = omega arith;
+        high = omega arith;
+        related = (ap (λ z. record { history = z; ending = None }) (sym e), refl);
+      }
+
+  module _ (w : Frame) (arguments : ℕ → Option ℕ) (answer : Option ℕ) (waiting : List Frame) (log : Log) (d : Data)
+      (h : Holds s w arguments answer waiting log d) (q : ℕ) (le : q ≤ 1) where
+    abbrev f : Function
+    f = w.function
+
+    abbrev places : List ℕ
+    places = places_of s f
+
+    abbrev a : ℕ
+    a = op_stands_at f places w.index
+
+    stands : Stands s.code f places
+    stands = (st.functions f.address f h.known).1
+
+    -- an op that brings an operand in first
+    operand_gentle : (o : Op) (from : ℕ) (rest : List Instr) → slice_get f.ops w.index ≡ Some o
+        → first_use o ≡ Some from → w.on from ≡ true → op_code f places o ≡ load_code 24
+        ((layout_of f places).spot from) ++ rest → IsGentle s.code a d
+    operand_gentle o from rest i is t e =
+        let x = first_operand s st w d o from h.known h.ready i is t in
+        (load_gentle s.code a f.charge d ((layout_of f places).spot from) rest h.ready.framed
+        (spots f places from stands.suits x.inside)
+        (subst (HasAt s.code a) e (one_stands s.code f places stands w.index o i)))
+
+    head : (o : Op) (i : Instr) → fetch s.code a ≡ Is i → sets_hilo i ≡ false → IsOnward (effect i d)
+        → IsGentle s.code a d
+    head o i stood quiet onward = head_gentle s.code a d i stood quiet onward
+
+    begun_at : (a' : staged.State) → IsGentle s.code a d → log.least + 1 ≤ least_at a'
+        → Pays s a' log (at s.code a 0 d) → Pays s a' log (behind s.code a q d)
+    begun_at a' g lo p = at_any s q a' log a d le g lo p
+
+    call_pays : (address : ℕ) (x : Option Function) → s.program.function_at address ≡ x → slice_get f.ops w.index
+        ≡ Some (Call address) → Pays s (call_at (Call address) x w arguments waiting log) log (behind s.code a q d)
+    call_pays address None e i = stuck_any log q a d h.memory.history
+    call_pays address (Some g) e i =
+        let least = enter_least (limit_trap g.charge g.object log.shared) g arguments (moved_on w ∷ waiting)
+        (paid (Call address) log) in
+        begun_at (call_at (Call address) (Some g) w arguments waiting log)
+        (head (Call address) _ (one_stands s.code f places stands w.index (Call address) i).0 refl tt)
+        (omega (arith, least))
+        (found_pays s st w arguments answer waiting log d address (Some g) e i h)
+
+    got_pays : (to : ℕ) (x : Option ℕ) → answer ≡ x → slice_get f.ops w.index ≡ Some (Result to)
+        → Pays s (set_from (Result to) x to w waiting log) log (behind s.code a q d)
+    got_pays to None e i = stuck_any log q a d h.memory.history
+    got_pays to (Some x) e i =
+        begun_at (set_from (Result to) (Some x) to w waiting log)
+        (head (Result to) _ (one_stands s.code f places stands w.index (Result to) i).0 refl tt) (omega arith)
+        (subst (λ y. Pays s (set_from (Result to) y to w waiting log) log (at s.code a 0 d)) e
+        (result_pays s st w arguments answer waiting log to d i h))
+
+    taken_pays : (to k : ℕ) (x : Option ℕ) → w.parameters k ≡ x → slice_get f.ops w.index ≡ Some (GetParameter to k)
+        → Pays s (set_from (GetParameter to k) x to w waiting log) log (behind s.code a q d)
+    taken_pays to k None e i = stuck_any log q a d h.memory.history
+    taken_pays to k (Some x) e i =
+        let bytes = f.charge + 4 * k + 4 in
+        let reach = h.ready.reach k x e in
+        let fr : Framed (d.registers 29) bytes =
+        record { from = h.ready.framed.from; to = omega (arith, reach.1); even = h.ready.framed.even } in
+        let o = GetParameter to k in
+        let u = slot_usable bytes (f.charge + 4 * k) (omega arith) (omega (arith, stands.suits.whole)) in
+        let code = subst (HasAt s.code a) (append_assoc (load_code 24 (parameter_spot (layout_of f places) k)) _ _)
+        (one_stands s.code f places stands w.index o i) in
+        begun_at (set_from o (Some x) to w waiting log)
+        ((load_gentle s.code a bytes d (parameter_spot (layout_of f places) k) _ fr u code)) (omega arith)
+        (parameter_pays s st w arguments answer waiting log to k d (Some x) e i h)
+
+    numbered_pays : (number n : ℕ) → n ≤ 8 → slice_get f.ops w.index ≡ Some (CallNumber number n)
+        → uses_on (CallNumber number n) w.on ≡ true
+        → Pays s (call_row s.program (CallNumber number n) n (s.program.row (w.values number)) w arguments waiting log)
+        log (behind s.code a q d)
+    numbered_pays number n few i u =
+        elim (row_least s number n (s.program.row (w.values number)) w arguments waiting log) [
+          | inl more ↦ begun_at (call_row s.program (CallNumber number n) n (s.program.row (w.values number)) w
+              arguments
+              waiting log) (operand_gentle (CallNumber number n) number _ i refl (both_true (w.on number) true u).0
+              (append_assoc (load_code 24 ((layout_of f places).spot number)) _ _)) more
+              (number_pays s st w arguments answer waiting log number n d few i u h (s.program.row (w.values number))
+              refl)
+          | inr e ↦ subst (λ z. Pays s z log (behind s.code a q d)) (sym e) (stuck_any log q a d h.memory.history)
+        ]
+
+    cleared_pays : (offset words : ℕ) (b : Bool) → are_objects (address_of offset w log) words ≡ b
+        → slice_get f.ops w.index ≡ Some (Clear offset words)
+        → Pays s (if b then zeroing words (address_of offset w log) w waiting (paid (Clear offset words) log) else
+        Stuck log) log
+        (behind s.code a q d)
+    cleared_pays offset words false e i = stuck_any log q a d h.memory.history
+    cleared_pays offset words true e i =
+        let least = zeroing_least words (address_of offset w log) w waiting (paid (Clear offset words) log) in
+        begun_at (zeroing words (address_of offset w log) w waiting (paid (Clear offset words) log))
+        (head (Clear offset words) _ (one_stands s.code f places stands w.index (Clear offset words) i).0 refl tt)
+        (omega (arith, least)) (clear_pays s st w waiting offset words i arguments answer log d h e)
+
+    op_pays : (o : Op) → slice_get f.ops w.index ≡ Some o → uses_on o w.on ≡ true → IsServed o
+        → Pays s (act s.program o w arguments answer waiting log) log (behind s.code a q d)
+    op_pays (Const to word) i u z = begun_at (act s.program (Const to word) w arguments answer waiting log)
+        (head (Const to word) _ (one_stands s.code f places stands w.index (Const to word) i).0 refl tt) (omega arith)
+        (const_pays s st w arguments answer waiting log d h to word i z)
+    op_pays (Move to from) i u z = begun_at (act s.program (Move to from) w arguments answer waiting log)
+        (operand_gentle (Move to from) from _ i refl (both_true (w.on from) true u).0
+        (append_assoc (load_code 24 ((layout_of f places).spot from)) _ _)) (omega arith)
+        (move_pays s st w arguments answer waiting log d h to from i u)
+    op_pays (Bin kind to left right) i u z =
+        begun_at (act s.program (Bin kind to left right) w arguments answer waiting log)
+        (operand_gentle (Bin kind to left right) left _ i refl (both_true (w.on left) (w.on right) u).0
+        (append_assoc (load_code 24 ((layout_of f places).spot left)) _ _)) (omega arith)
+        (bin_pays s st w arguments answer waiting log d h kind to left right i u z)
+    op_pays (FrameAddress to offset) i u z =
+        begun_at (act s.program (FrameAddress to offset) w arguments answer waiting log)
+        (head (FrameAddress to offset) _ (one_stands s.code f places stands w.index (FrameAddress to offset) i).0 refl
+        tt)
+        (omega arith) (address_pays s st w arguments answer waiting log d h to offset i)
+    op_pays (Clear offset words) i u z =
+        cleared_pays offset words (are_objects (address_of offset w log) words) refl i
+    op_pays (Label label) i u z = label_pays s st w arguments answer waiting log d h q label le i
+    op_pays (Jump label) i u z = begun_at (act s.program (Jump label) w arguments answer waiting log)
+        (head (Jump label) _ (one_stands s.code f places stands w.index (Jump label) i).0 refl tt) (omega arith)
+        (jump_pays s st w arguments answer waiting log d h label i)
+    op_pays (BranchZero test label) i u z =
+        begun_at (act s.program (BranchZero test label) w arguments answer waiting log)
+        (operand_gentle (BranchZero test label) test _ i refl (both_true (w.on test) true u).0
+        (append_assoc (load_code 24 ((layout_of f places).spot test)) _ _)) (omega arith)
+        (zero_pays s st w arguments answer waiting log d h test label i u)
+    op_pays (BranchNonzero test label) i u z =
+        begun_at (act s.program (BranchNonzero test label) w arguments answer waiting log)
+        (operand_gentle (BranchNonzero test label) test _ i refl (both_true (w.on test) true u).0
+        (append_assoc (load_code 24 ((layout_of f places).spot test)) _ _)) (omega arith)
+        (nonzero_pays s st w arguments answer waiting log d h test label i u)
+    op_pays (Argument k from) i u z = begun_at (act s.program (Argument k from) w arguments answer waiting log)
+        (operand_gentle (Argument k from) from _ i refl (both_true (w.on from) true u).0
+        (append_assoc (load_code 24 ((layout_of f places).spot from)) _ _)) (omega arith)
+        (argument_pays s st w arguments answer waiting log k from d z i u h)
+    op_pays (GetParameter to k) i u z = taken_pays to k (w.parameters k) refl i
+    op_pays (Call address) i u z = call_pays address (s.program.function_at address) refl i
+    op_pays (CallNumber number n) i u z = numbered_pays number n z i u
+    op_pays (Result to) i u z = got_pays to answer refl i
+    op_pays (Return from) i u z =
+        let least = back_least (w.values from) waiting (left w.function (paid (Return from) log)) in
+        begun_at (act s.program (Return from) w arguments answer waiting log)
+        (operand_gentle (Return from) from _ i refl (both_true (w.on from) true u).0
+        (append_assoc (load_code 24 ((layout_of f places).spot from)) _ _)) (omega (arith, least))
+        (return_pays s st w arguments answer waiting log d from i u h)
+    op_pays ReturnZero i u z =
+        let least = back_least 0 waiting (left w.function (paid ReturnZero log)) in
+        begun_at (act s.program ReturnZero w arguments answer waiting log)
+        (head ReturnZero _ (one_stands s.code f places stands w.index ReturnZero i).0 refl tt)
+        (omega (arith, least)) (zero_return_pays s st w arguments answer waiting log d i h)
+    op_pays (Sys PutByte to from) i u z = begun_at (act s.program (Sys PutByte to from) w arguments answer waiting log)
+        (operand_gentle (Sys PutByte to from) from _ i refl (both_true (w.on from) true u).0
+        (append_assoc (load_code 24 ((layout_of f places).spot from)) _ _)) (omega arith)
+        (put_pays s st w arguments answer waiting log d h to from i u)
+    op_pays o i u z = absurd z
+
+    used_pays : (b : Bool) (o : Op) → slice_get f.ops w.index ≡ Some o → uses_on o w.on ≡ b → IsServed o
+        → Pays s (if b then act s.program o w arguments answer waiting log else Stuck log) log (behind s.code a q d)
+    used_pays true o i u z = op_pays o i u z
+    used_pays false o i u z = stuck_any log q a d h.memory.history
+
+    pub checked_pays : (x : Option Op) → slice_get f.ops w.index ≡ x
+        → Pays s (checked s.program x w arguments answer waiting log) log (behind s.code a q d)
+    checked_pays None i = stuck_any log q a d h.memory.history
+    checked_pays (Some o) i =
+        used_pays (uses_on o w.on) o i refl (subst IsServed (op_found f.ops w.index o i).is
+        (sv.ops f.address f h.known w.index))
+
+  pub simulates : (a : staged.State) (b : World) → (see a).ending ≡ None → Related s a b
+      → SimulatesStep (advance s.program) step least_at most_at (Related s) a b
+  simulates (Running w arguments answer waiting log) b none r =
+      let x = r.1 in
+      let p = checked_pays w arguments answer waiting log x.d x.holds x.recent x.few (slice_get w.function.ops w.index)
+      refl in
+      record {
+        count = p.count;
+        from = p.low;
+        to = p.high;
+        related = subst (λ z. Related s (advance s.program (Running w arguments answer waiting log))
+            (iterate step p.count z)) (sym x.is) p.related;
+      }
+  simulates (Zeroing more address w waiting log) b none r =
+      let x = r.1 in
+      let p = round_pays s st w waiting x.offset x.words x.op more address log x.d x.holds x.next x.end x.from x.to
+      x.even in
+      record {
+        count = p.count;
+        from = p.low;
+        to = p.high;
+        related =
+            subst (λ z. Related s (advance s.program (Zeroing more address w waiting log)) (iterate step p.count z))
+            (sym x.is)
+            p.related;
+      }
+  simulates (Halted e log) b none r = absurd (no_end none)
+  simulates (Stuck log) b none r = record { count = 0; from = omega arith; to = omega arith; related = r }
+
+module _ (s : Setting) (main : Function) (shared : Shared) (n : ℕ) (w : World) (st : Standing s) (sv : Serving s)
+    (arrived : Arrives s main shared n w) where
+  abbrev log0 : Log
+  log0 = record { shared = shared; active = 0; least = 1; most = 1 }
+
+  enters : Enters s nothing [] log0 arrived.d
+  enters =
+      let top = arrived.extents.used in
+      let obj = arrived.extents.frames in
+      record {
+        waits = arrived.returns_to;
+        memory = arrived.memory;
+        extents = arrived.extents;
+        from = omega (arith, top, arrived.unused);
+        even = omega (arith, top, arrived.unused);
+        global = arrived.global;
+        objects_to = omega (arith, obj, arrived.none);
+        reach = λ k x e. absurd cc;
+        stand = λ k x e. absurd cc;
+      }
+
+  start : Begun s main nothing [] log0 arrived.d
+  start = holds_begun s st main arrived.known nothing [] log0 arrived.d enters
+      (omega (arith, arrived.unused, arrived.fits)) (omega (arith, arrived.none, arrived.objects_fit))
+
+  abbrev count : ℕ
+  count = n + start.runs.count
+
+  related : Related s (first main shared) (iterate step count w)
+  related =
+      let by = iterate_add step n start.runs.count w ∙ ap (iterate step start.runs.count) arrived.arrives
+      ∙ start.runs.reaches.by in
+      (st, record { d = start.after; holds = start.holds; recent = 0; few = omega arith; is = by })
+
+  pub program_pays : PaysFor (n + 32) (λ i. see (iterate (advance s.program) i (first main shared)))
+      (λ i. least_at (iterate (advance s.program) i (first main shared)))
+      (λ i. most_at (iterate (advance s.program) i (first main shared))) (λ k. machine.see (iterate step k w))
+  program_pays =
+      pays_for (advance s.program) step least_at most_at see machine.see (Related s) (same_seen s) (halts s)
+      (simulates s st sv) (n + 32)
+      (first main shared) w count related (omega (arith, start.runs.over)) (omega (arith, start.runs.under))
+
+  -- the same for the code in place of the history
+  abbrev pub code_of_upper : staged.State → Seen Code End
+  code_of_upper a = record { history = s.code ∷ []; ending = (see a).ending }
+
+  abbrev pub code_of_lower : World → Seen Code End
+  code_of_lower b = record { history = b.state.code ∷ []; ending = b.ending }
+
+  code_seen : (a : staged.State) (b : World) → Related s a b → code_of_upper a ≡ code_of_lower b
+  code_seen a b r =
+      ap (λ z. record { history = s.code ∷ []; ending = z }) (ap (λ (z : Seen Item End). z.ending) (same_seen s a b r))
+      ∙ ap (λ z. record { history = z ∷ []; ending = b.ending }) (sym (same_code s a b r))
+
+  pub paid_in_code : PaysFor (n + 32) (λ i. code_of_upper (iterate (advance s.program) i (first main shared)))
+      (λ i. least_at (iterate (advance s.program) i (first main shared)))
+      (λ i. most_at (iterate (advance s.program) i (first main shared))) (λ k. code_of_lower (iterate step k w))
+  paid_in_code =
+      pays_for (advance s.program) step least_at most_at code_of_upper code_of_lower (Related s) code_seen (halts s)
+      (simulates s st sv) (n + 32)
+      (first main shared) w count related (omega (arith, start.runs.over)) (omega (arith, start.runs.under))
+
+pub simulated : ProgramIsSimulated
+unfolding run
+simulated s main shared n w st sv arrived = program_pays s main shared n w st sv arrived
+
+one_code : (c d : Code) → c ∷ [] ≡ d ∷ [] → d ≡ c
+one_code c d e = cc
+
+pub code_kept : ProgramKeepsCode
+unfolding run
+code_kept s main shared n w st sv arrived =
+    let p = paid_in_code s main shared n w st sv arrived in
+    record {
+      goes_on = λ i none. let a = p.goes_on i none in (a.0, a.1, a.3, one_code s.code _ a.4);
+      ends = λ i e is. let a = p.ends i e is in (a.0, a.2, one_code s.code _ a.3);
+    }

@@ -1,0 +1,5 @@
+pub mod Addresses
+pub mod Places
+pub mod Frames
+pub mod Codes
+pub mod Memory

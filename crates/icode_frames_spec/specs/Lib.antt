@@ -1,0 +1,4 @@
+pub mod Standing
+pub mod Settings
+pub mod Frames
+pub mod Relation

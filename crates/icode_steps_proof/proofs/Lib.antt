@@ -1,0 +1,10 @@
+pub mod Liveness
+pub mod Recent
+pub mod Paying
+pub mod Within
+pub mod Writes
+pub mod Clears
+pub mod Zeroing
+pub mod ObjectAddresses
+pub mod Ops
+pub mod Growing

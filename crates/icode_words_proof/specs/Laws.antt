@@ -1,0 +1,26 @@
+-- When a function stands in memory under places of its registers: its words stand in the text, and the places suit.
+use Rattle.std.specs.Prelude.{◌≡◌, ℕ, ◌+◌, ◌*◌, ◌%◌, ◌<◌, ◌≤◌, List, length}
+use Rattle.word32.specs.declared.map.TheConstants.{ARENA}
+use Rattle.mips_model.specs.State.{Code}
+use Rattle.icode_ops.specs.Flow.{op_at}
+use Rattle.icode_ops.specs.Finished.{IsFinished}
+use Rattle.icode_ops.specs.Places.{IsLegal}
+use Rattle.icode_expand.specs.Expansion.{expanded}
+use Rattle.icode_meaning.specs.State.{Function}
+use Rattle.icode_frames_spec.specs.Standing.{Suits, Stands, WordsAt}
+use Rattle.icode_steps_proof.specs.Served.{IsServed}
+
+-- A function that suits its places, and whose ops are served, stands where the words of its expansion stand in the
+-- text, where 16 words an op and 64 besides, the most it has, end below the arena.
+abbrev pub WordsSuffice : Type 0
+WordsSuffice =
+    (c : Code) (f : Function) (places : List ℕ) → Suits f places → ((p : ℕ) → IsServed (op_at f.ops p))
+    → f.address + 4 * (16 * length f.ops + 64) ≤ ARENA
+    → WordsAt c f.address (expanded f.ops places f.address f.charge f.object f.compiled) → Stands c f places
+
+-- What a builder and a choice of places give suits, where the frame has room and the code ends where jumps reach.
+abbrev pub LegalPlacesSuit : Type 0
+LegalPlacesSuit =
+    (f : Function) (registers : ℕ) (places : List ℕ) → IsFinished f.ops registers → IsLegal f.ops registers places
+    → 128 + 4 * registers ≤ f.charge → f.charge % 4 ≡ 0 → f.charge ≤ 1073741824 → f.object ≤ 1073741824
+    → f.address % 4 ≡ 0 → f.address + 4 * (16 * length f.ops + 64) < 268435456 → Suits f places

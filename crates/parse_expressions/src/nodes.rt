@@ -1,0 +1,60 @@
+//! The nodes of the tree that hold other nodes.
+
+ghost use Rattle.std.specs.Prelude.{◌≡◌, IfOk};
+
+use sqlite_items::Boxed;
+use std::alloc::{AllocError, Global};
+use tick_tree::{BinaryOp, Expr, ModifyOp};
+
+pub fn binary(
+    alloc: Global,
+    line: u32,
+    op: BinaryOp,
+    left: Expr,
+    right: Expr,
+) -> Result<Expr, AllocError>
+    ensures { IfOk result (λ e. e ≡ Expr.Binary line op (left, right)) }
+{
+    Ok(Expr::Binary(line, op, Boxed::new(alloc, (left, right))?))
+}
+
+pub fn choice(
+    alloc: Global,
+    line: u32,
+    test: Expr,
+    first: Expr,
+    second: Expr,
+) -> Result<Expr, AllocError>
+    ensures { IfOk result (λ e. e ≡ Expr.Choice line test first second) }
+{
+    Ok(Expr::Choice(
+        line,
+        Boxed::new(alloc, test)?,
+        Boxed::new(alloc, first)?,
+        Boxed::new(alloc, second)?,
+    ))
+}
+
+pub fn assign(alloc: Global, line: u32, left: Expr, right: Expr) -> Result<Expr, AllocError>
+    ensures { IfOk result (λ e. e ≡ Expr.Assign line (left, right)) }
+{
+    Ok(Expr::Assign(line, Boxed::new(alloc, (left, right))?))
+}
+
+pub fn modify(
+    alloc: Global,
+    line: u32,
+    op: ModifyOp,
+    left: Expr,
+    right: Expr,
+) -> Result<Expr, AllocError>
+    ensures { IfOk result (λ e. e ≡ Expr.Modify line op (left, right)) }
+{
+    Ok(Expr::Modify(line, op, Boxed::new(alloc, (left, right))?))
+}
+
+pub fn comma(alloc: Global, line: u32, left: Expr, right: Expr) -> Result<Expr, AllocError>
+    ensures { IfOk result (λ e. e ≡ Expr.Comma line (left, right)) }
+{
+    Ok(Expr::Comma(line, Boxed::new(alloc, (left, right))?))
+}

@@ -1,0 +1,101 @@
+//! How a production reads what stands one level deeper.
+
+ghost use Rattle.std.specs.Prelude.{◌≡◌, ◌<◌};
+ghost use Rattle.parse_grammar.specs.Input.{Reads};
+ghost use Rattle.parse_grammar.specs.Declarators as declarators;
+ghost use Rattle.parse_grammar.specs.Expressions as expressions;
+ghost use Rattle.parse_grammar.specs.Statements as statements;
+ghost use Rattle.parse_grammar.specs.Nests.{Nests};
+
+use crate::stop::Stop;
+use crate::tokens::Tokens;
+use std::alloc::Global;
+use tick_tree::{Declarator, Expr, StepOp, Stmt};
+
+/// An expression that may stand one level deeper.
+#[derive(Clone, Copy, Debug, PartialEq, Eq)]
+pub enum Part {
+    /// With commas.
+    Whole,
+    /// Without a comma outside brackets.
+    Assign,
+    /// Without a comma or an assignment outside brackets.
+    Cond,
+    /// The operand of an operator.
+    Unary,
+}
+
+/// Whether a declarator has a name.
+#[derive(Clone, Copy, Debug, PartialEq, Eq)]
+pub enum Mode {
+    /// It has one: it declares.
+    Named,
+    /// It may have one: it is a parameter's.
+    Either,
+    /// It has none: it is that of a type name.
+    Nameless,
+}
+
+/// An operator behind its operand.
+#[derive(Clone, Copy, Debug, PartialEq, Eq)]
+pub enum Postfix {
+    /// `[`
+    Index,
+    /// `(`
+    Call,
+    /// `++` or `--`
+    Step(StepOp),
+}
+
+/// The allocator, and the functions that read what stands deeper.
+#[derive(Clone, Copy)]
+pub struct Grammar<F, S, D> {
+    /// Where trees are made.
+    pub alloc: Global,
+    /// The functions are called with room for fewer levels than these.
+    pub limit: usize,
+    /// Reads a part of an expression.
+    pub expr: F,
+    /// Reads an item of a block.
+    pub stmt: S,
+    /// Reads a declarator.
+    pub declarator: D,
+}
+
+impl<
+    F: Fn(Global, &mut Tokens<'_>, usize, Part) -> Result<Expr, Stop>,
+    S: Fn(Global, &mut Tokens<'_>, usize) -> Result<Stmt, Stop>,
+    D: Fn(Global, &mut Tokens<'_>, usize, Mode) -> Result<Declarator, Stop>,
+> Grammar<F, S, D> {
+    /// An expression one level deeper.
+    pub fn inner(&self, tokens: &mut Tokens<'_>, room: usize, part: Part) -> Result<Expr, Stop>
+        requires nests { Nests self.now.limit (F.pre self.now.expr) (F.post self.now.expr) (S.pre self.now.stmt) (S.post self.now.stmt) (D.pre self.now.declarator) (D.post self.now.declarator) }
+        requires room { room < self.now.limit }
+        ensures { Reads (expressions.at part (statements.room_of room) tokens.old) result tokens.new }
+    {
+        (self.expr)(self.alloc, tokens, room, part)
+    }
+
+    /// An item of a block, or a statement, one level deeper.
+    pub fn inner_stmt(&self, tokens: &mut Tokens<'_>, room: usize) -> Result<Stmt, Stop>
+        requires nests { Nests self.now.limit (F.pre self.now.expr) (F.post self.now.expr) (S.pre self.now.stmt) (S.post self.now.stmt) (D.pre self.now.declarator) (D.post self.now.declarator) }
+        requires room { room < self.now.limit }
+        ensures { Reads (statements.stmt (statements.room_of room) tokens.old) result tokens.new }
+    {
+        (self.stmt)(self.alloc, tokens, room)
+    }
+
+    /// A declarator one level deeper.
+    pub fn inner_declarator(
+        &self,
+        tokens: &mut Tokens<'_>,
+        room: usize,
+        mode: Mode,
+    ) -> Result<Declarator, Stop>
+        requires nests { Nests self.now.limit (F.pre self.now.expr) (F.post self.now.expr) (S.pre self.now.stmt) (S.post self.now.stmt) (D.pre self.now.declarator) (D.post self.now.declarator) }
+        requires room { room < self.now.limit }
+        ensures { Reads (declarators.declarator mode (statements.room_of room) tokens.old) result tokens.new }
+    {
+        (self.declarator)(self.alloc, tokens, room, mode)
+    }
+}

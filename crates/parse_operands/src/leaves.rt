@@ -1,0 +1,59 @@
+//! Expressions that need no room for nesting.
+
+ghost use Rattle.std.specs.Prelude.{◌≡◌, []};
+ghost use Rattle.parse_grammar.specs.Expressions as spec;
+ghost use Rattle.parse_grammar.specs.Input.{Reads};
+
+use lex_literals::append_string;
+use parse_grammar::{Kind, Stop, Tokens};
+use sqlite_items::Items;
+use std::alloc::Global;
+use tick_tree::{Expr, Name};
+
+// At a name.
+pub fn name(alloc: Global, tokens: &mut Tokens<'_>) -> Result<Expr, Stop>
+    ensures { Reads (spec.name tokens.old) result tokens.new }
+{
+    let line = tokens.line();
+    let text = Name::new(alloc, tokens.text())?;
+    tokens.take();
+    Ok(Expr::Name(line, text))
+}
+
+// At a number.
+pub fn number(tokens: &mut Tokens<'_>) -> Expr
+    ensures { spec.number tokens.old ≡ Ok (result, tokens.new) }
+{
+    let found = Expr::Number(tokens.value(), tokens.unsigned());
+    tokens.take();
+    found
+}
+
+// At a character literal.
+pub fn character(tokens: &mut Tokens<'_>) -> Expr
+    ensures { spec.character tokens.old ≡ Ok (result, tokens.new) }
+{
+    let found = Expr::Character(tokens.value());
+    tokens.take();
+    found
+}
+
+#[tactic(auto, unfolding(parse_grammar::specs::Expressions::is_string))]
+fn is_string(kind: Kind) -> bool
+    ensures { result ≡ spec.is_string kind }
+{
+    matches!(kind, Kind::String)
+}
+
+/// The bytes of the strings that stand next, joined.
+#[tactic(auto, using(crate::proofs::Steps::string_steps))]
+pub fn strings(alloc: Global, tokens: &mut Tokens<'_>) -> Result<Items<u8>, Stop>
+    ensures { Reads (spec.strings [] tokens.old) result tokens.new }
+{
+    let mut found = Vec::new(alloc);
+    while is_string(tokens.peek()) {
+        append_string(tokens.text(), &mut found)?;
+        tokens.take();
+    }
+    Ok(Items::from_vec(found))
+}

@@ -1,0 +1,9 @@
+pub mod Size
+pub mod Scope
+pub mod World
+pub mod Program
+pub mod Specifications
+pub mod Expressions
+pub mod Statements
+pub mod Meaning
+pub mod Source

@@ -1,0 +1,107 @@
+-- Which variables are in scope: those of the blocks that are entered. A checked tree uses no other. And which nodes have
+-- a meaning so far: further kinds join as further cases.
+use Rattle.std.specs.Prelude.{ℕ, ◌≡◌, ◌≤◌, Bool, true, false}
+use Rattle.word32.specs.Space.{update}
+use Rattle.typed_tree.specs.Nodes.{Expr, Const, Var, SetVar, PostVar, VSet, Load, Store, Modify, Post, Bin, Un, And, Or, Cond, Comma, Void, Call, CallNumber, Lib, Tick, Capture, Compile, ParamOf, Args, NoArg, Arg, Stmt, Eval, Block, Variable, Parameter, If, IfElse, While, Do, For, ForStep, Switch, ReturnValue, Items, NoItem, Item, Function}
+use Rattle.typed_tree.specs.declared.expression.Library.TheVariants.{Putchar}
+use Rattle.staged_meaning.specs.Size.{size_of, variables_in}
+
+-- true at the variables that are in scope
+abbrev pub Scope : Type 0
+Scope = ℕ → Bool
+
+abbrev pub no_scope : Scope
+no_scope i = false
+
+-- the scope behind a statement, and behind a list of them: a variable of a block stands before the items that use it
+abbrev pub scope_of : Stmt → Scope → Scope
+scope_of (Variable i) scope = update i true scope
+scope_of (Parameter k width) scope = update k true scope
+scope_of _ scope = scope
+
+abbrev pub scope_after : Items → Scope → Scope
+scope_after NoItem scope = scope
+scope_after (Item s items) scope = scope_after items (scope_of s scope)
+
+-- each variable that is used is in scope
+abbrev mutual
+  pub IsScoped : Scope → Expr → Type 0
+  IsScoped scope (Var i) = scope i ≡ true
+  IsScoped scope (SetVar i a) = (scope i ≡ true) × IsScoped scope a
+  IsScoped scope (PostVar i width step) = scope i ≡ true
+  IsScoped scope (VSet c a) = IsScoped scope a
+  IsScoped scope (Load w a) = IsScoped scope a
+  IsScoped scope (Store w a b) = IsScoped scope a × IsScoped scope b
+  IsScoped scope (Modify w k a b) = IsScoped scope a × IsScoped scope b
+  IsScoped scope (Post w step a) = IsScoped scope a
+  IsScoped scope (Bin k a b) = IsScoped scope a × IsScoped scope b
+  IsScoped scope (Un k a) = IsScoped scope a
+  IsScoped scope (And a b) = IsScoped scope a × IsScoped scope b
+  IsScoped scope (Or a b) = IsScoped scope a × IsScoped scope b
+  IsScoped scope (Cond c a b) = IsScoped scope c × IsScoped scope a × IsScoped scope b
+  IsScoped scope (Comma a b) = IsScoped scope a × IsScoped scope b
+  IsScoped scope (Void a) = IsScoped scope a
+  IsScoped scope (Call answer f args) = AreScoped scope args
+  IsScoped scope (CallNumber answer a args) = IsScoped scope a × AreScoped scope args
+  IsScoped scope (Lib library a) = IsScoped scope a
+  IsScoped scope (Tick tick args) = AreScoped scope args
+  IsScoped scope (Capture kind a) = IsScoped scope a
+  IsScoped scope (Compile a) = IsScoped scope a
+  IsScoped scope (ParamOf a) = IsScoped scope a
+  IsScoped scope _ = Unit {0}
+
+  pub AreScoped : Scope → Args → Type 0
+  AreScoped scope NoArg = Unit {0}
+  AreScoped scope (Arg a args) = IsScoped scope a × AreScoped scope args
+
+abbrev mutual
+  pub IsScopedStmt : Scope → Stmt → Type 0
+  IsScopedStmt scope (Eval e) = IsScoped scope e
+  IsScopedStmt scope (Block variables items) =
+      AreScopedItems scope variables × AreScopedItems (scope_after variables scope) items
+  IsScopedStmt scope (If e s) = IsScoped scope e × IsScopedStmt scope s
+  IsScopedStmt scope (IfElse e s t) = IsScoped scope e × IsScopedStmt scope s × IsScopedStmt scope t
+  IsScopedStmt scope (While e s) = IsScoped scope e × IsScopedStmt scope s
+  IsScopedStmt scope (Do s e) = IsScopedStmt scope s × IsScoped scope e
+  IsScopedStmt scope (For e s) = IsScoped scope e × IsScopedStmt scope s
+  IsScopedStmt scope (ForStep e step s) = IsScoped scope e × IsScoped scope step × IsScopedStmt scope s
+  IsScopedStmt scope (Switch e variables items) =
+      IsScoped scope e × AreScopedItems scope variables × AreScopedItems (scope_after variables scope) items
+  IsScopedStmt scope (ReturnValue e) = IsScoped scope e
+  IsScopedStmt scope _ = Unit {0}
+
+  pub AreScopedItems : Scope → Items → Type 0
+  AreScopedItems scope NoItem = Unit {0}
+  AreScopedItems scope (Item s items) = IsScopedStmt scope s × AreScopedItems (scope_of s scope) items
+
+-- the nodes of a tree are of the kinds that are built so far
+abbrev pub IsBuilt : Expr → Type 0
+IsBuilt (Const word) = Unit {0}
+IsBuilt (Var i) = Unit {0}
+IsBuilt (SetVar i a) = IsBuilt a
+IsBuilt (Bin k a b) = IsBuilt a × IsBuilt b
+IsBuilt (Lib Putchar a) = IsBuilt a
+IsBuilt _ = ⊥
+
+abbrev mutual
+  pub IsBuiltStmt : Stmt → Type 0
+  IsBuiltStmt (Eval e) = IsBuilt e
+  IsBuiltStmt (Block variables items) = AreBuiltItems variables × AreBuiltItems items
+  IsBuiltStmt (Variable i) = Unit {0}
+  IsBuiltStmt (If e s) = IsBuilt e × IsBuiltStmt s
+  IsBuiltStmt (IfElse e s t) = IsBuilt e × IsBuiltStmt s × IsBuiltStmt t
+  IsBuiltStmt (While e s) = IsBuilt e × IsBuiltStmt s
+  IsBuiltStmt (ReturnValue e) = IsBuilt e
+  IsBuiltStmt _ = ⊥
+
+  pub AreBuiltItems : Items → Type 0
+  AreBuiltItems NoItem = Unit {0}
+  AreBuiltItems (Item s items) = IsBuiltStmt s × AreBuiltItems items
+
+-- A function whose nodes are built and use the variables that are in scope. It has at most so many nodes as a program
+-- that is accepted may have in a function, and its variables are numbered from 0, each declared by a node.
+pub record IsReady (function : Function) : Type 0 where
+  pub built : IsBuiltStmt function.body
+  pub scoped : IsScopedStmt no_scope function.body
+  pub small : size_of function ≤ 16384
+  pub dense : variables_in function.body ≤ size_of function

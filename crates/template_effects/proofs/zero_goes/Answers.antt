@@ -1,5 +1,0 @@
-use Rattle.template_effects.proofs.Templates as lemmas
-use Rattle.template_effects.proofs.zero_goes.Goals as goal
-
-pub returns : goal.returns
-returns c = lemmas.zero_goes

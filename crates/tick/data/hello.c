@@ -1,1 +1,0 @@
-int main(){putchar(72);putchar(10);return 3;}

@@ -1,0 +1,63 @@
+//! The ops of a function, and a builder that takes them.
+
+ghost use Rattle.std.specs.Prelude.{◌≡◌, IfOk, OnOk};
+ghost use Rattle.icode_ir.specs.Build.{empty};
+ghost use Rattle.icode_ir.specs.Runs.{run_ops};
+ghost use Rattle.staged_meaning.specs.Scope.{IsReady};
+ghost use Rattle.tick_lower_proof.specs.Lower.{Addresses, function_ops as ops_of};
+ghost use Rattle.typed_tree.specs.View.{function_view};
+
+use crate::ops::Ops;
+use crate::statements::lower_statement;
+use crate::variables::variables;
+use icode_ir::{BuildOp, Builder, Phase};
+use sqlite_items::Items;
+use std::alloc::{AllocError, Global};
+use tick_lower_proof::lowering_is_accepted;
+use typed_tree::Function;
+
+// The builder ops of a function: one body, with its variables and labels. The only error is want of memory.
+fn function_ops(alloc: Global, function: &Function) -> Result<Items<BuildOp>, AllocError>
+    requires { IsReady (function_view function.now) }
+    ensures { IfOk result (λ ops. (addresses : Addresses) → ops ≡ ops_of addresses (function_view function.now)) }
+{
+    let mut ops = Ops {
+        list: Items::new(alloc),
+        label: 0,
+        variable: variables(function.body.get()),
+    };
+    // how many labels the body has is known behind it
+    ops.push(BuildOp::Leave)?;
+    lower_statement(function.body.get(), &mut ops)?;
+    ops.push(BuildOp::Leave)?;
+    let Ops {
+        mut list,
+        label,
+        variable,
+    } = ops;
+    list.set(
+        0,
+        BuildOp::Enter {
+            variables: variable,
+            labels: label,
+        },
+    );
+    Ok(list)
+}
+
+/// Gives the ops of a function to a builder that is begun for it. The builder takes them all, and can then be finished.
+/// The only error is want of memory.
+pub fn lower(alloc: Global, function: &Function, builder: &mut Builder) -> Result<(), AllocError>
+    requires begun { builder.old ≡ record { build = empty function.now.params; phase = Phase.Begun } }
+    requires ready { IsReady (function_view function.now) }
+    ensures phase { builder.new.phase ≡ Phase.Begun }
+    ensures taken { OnOk result ((addresses : Addresses) →
+        builder.new.build ≡ run_ops (ops_of addresses (function_view function.now)) builder.old.build) }
+{
+    let ops = function_ops(alloc, function)?;
+    lowering_is_accepted();
+    match builder.emit_all(ops.as_slice()) {
+        Ok(()) => Ok(()),
+        Err(_) => unreachable!(),
+    }
+}

@@ -1,0 +1,64 @@
+-- What is promised of the lowering: the builder takes all of it, and the staged machine runs what comes of it as the
+-- tree means, at a cost of 512 instructions for a unit of work. The expansion of these ops keeps to the same costs, so
+-- both facts together give the headline's pace. These are the project's own.
+use Rattle.std.specs.Prelude.{◌≡◌, ℕ, ◌+◌, ◌*◌, ◌≤◌, [], List, length}
+use Rattle.std.specs.Fn.{iterate}
+use Rattle.pace.specs.Claims.{FollowsAtCost}
+use Rattle.history.specs.Events.{Input}
+use Rattle.icode_ops.specs.declared.op.Op.{Op}
+use Rattle.icode_ops.specs.Finished.{IsFinished}
+use Rattle.icode_ir.specs.Build.{empty, finished}
+use Rattle.icode_ir.specs.Runs.{run_ops, AreTaken}
+use Rattle.typed_tree.specs.Nodes as node
+use Rattle.staged_meaning.specs.Size.{size_of, charge_of}
+use Rattle.staged_meaning.specs.Scope.{IsReady}
+use Rattle.staged_meaning.specs.Meaning as meaning
+use Rattle.staged_meaning.specs.Meaning.{at_start, meant}
+use Rattle.icode_meaning.specs.State.{Function, Program, State, see, least_at, most_at}
+use Rattle.icode_meaning.specs.Steps.{advance, first}
+use Rattle.tick_lower_proof.specs.Lower.{Addresses, function_ops}
+
+-- the ops of a function: what a builder hands out that took its lowering and was finished
+abbrev pub code_of : Addresses → node.Function → List Op
+code_of addresses function = finished (run_ops (function_ops addresses function) (empty function.parameters))
+
+-- a builder that was begun takes each op, and then has no operand and no body left, so it can be finished
+pub record IsAccepted (addresses : Addresses) (function : node.Function) : Type 0 where
+  pub taken : AreTaken (function_ops addresses function) (empty function.parameters)
+  pub no_operands : (run_ops (function_ops addresses function) (empty function.parameters)).operands ≡ []
+  pub no_bodies : (run_ops (function_ops addresses function) (empty function.parameters)).bodies ≡ []
+
+abbrev pub LoweringIsAccepted : Type 0
+LoweringIsAccepted = (addresses : Addresses) (function : node.Function) → IsReady function → IsAccepted addresses function
+
+-- how many registers the ops have
+abbrev pub registers_of : Addresses → node.Function → ℕ
+registers_of addresses function = (run_ops (function_ops addresses function) (empty function.parameters)).registers
+
+-- The ops are a finished list, of twelve ops a node at most besides the last return, and of twelve registers a node. So a
+-- frame of 128 bytes and 48 a node has a word for each register.
+pub record IsSmall (addresses : Addresses) (function : node.Function) : Type 0 where
+  pub finished : IsFinished (code_of addresses function) (registers_of addresses function)
+  pub few_ops : length (code_of addresses function) ≤ 12 * size_of function + 1
+  pub few_registers : registers_of addresses function ≤ 12 * size_of function
+
+abbrev pub LoweringIsSmall : Type 0
+LoweringIsSmall = (addresses : Addresses) (function : node.Function) → IsReady function → IsSmall addresses function
+
+-- the staged machine's function for a function of the text
+pub record Stands (addresses : Addresses) (function : node.Function) (main : Function) : Type 0 where
+  pub ops : main.ops ≡ code_of addresses function
+  pub charge : main.charge ≡ charge_of (size_of function)
+  pub object : main.object ≡ function.object
+
+-- the state after so many ops
+abbrev pub state_at : Program → meaning.Program → Input → Function → ℕ → State
+state_at machine program input main i = iterate (advance machine) i (first main (at_start program input))
+
+-- the machine's history and ending are the meaning's, and its two clocks lie round the units
+abbrev pub LoweringFollows : Type 0
+LoweringFollows =
+    (machine : Program) (addresses : Addresses) (program : meaning.Program) (input : Input) (main : Function) →
+    IsReady program.main → Stands addresses program.main main →
+    FollowsAtCost 512 4000 (meant program input) (λ i. see (state_at machine program input main i))
+    (λ i. least_at (state_at machine program input main i)) (λ i. most_at (state_at machine program input main i))

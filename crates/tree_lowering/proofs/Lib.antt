@@ -1,5 +1,0 @@
-pub mod Exprs
-pub mod Stmts
-pub mod Rest
-pub mod Taken
-pub mod Returns

@@ -1,5 +1,0 @@
-use Rattle.tree_lowering.proofs.Returns.{ready_item}
-use Rattle.tree_lowering.proofs.tests.count_with_ops.Goals as goal
-
-pub lower-requires-clause-ready : goal.lower-requires-clause-ready
-lower-requires-clause-ready c = ready_item c.args.list.now c.loop-f.f-index c.f-item.result c.loop-f-test.true c.f-item.is c.requires

@@ -1,5 +1,0 @@
-use Rattle.tree_lowering.proofs.Returns.{ready_item}
-use Rattle.tree_lowering.proofs.tests.nodes_of.Goals as goal
-
-pub size-requires : goal.size-requires
-size-requires c = ready_item c.args.list.now c.loop-f.f-index c.f-item.result c.loop-f-test.true c.f-item.is c.requires

@@ -1,0 +1,76 @@
+//! Prints the tokens of the texts on its input, or their first fault, a line each. A text has a line `%% TITLE` before it,
+//! and goes up to the next such line.
+#![tactic(auto)]
+
+use c_lexer::{MAX_TOKENS, tokens};
+use std::io::{self, Read};
+use tick_tree::{Deny, Token};
+use trial_cases::cases;
+
+// The most bytes that a text may have.
+const MAX_BYTES: usize = 1048576;
+
+// A list of up to a hundred tokens in full, each as KIND@PLACE+LENGTH:LINE, and of a longer one the count.
+fn print_tokens<R: Print + AllocGlobal>(rt: &R, found: &[Token]) -> io::Result<()> {
+    if 100 < found.len() {
+        return println!(rt; " {} tokens", found.len());
+    }
+    for token in found {
+        print!(rt;
+            " {:?}@{}+{}:{}",
+            token.kind, token.at, token.len, token.line
+        )?;
+    }
+    println!(rt; "")
+}
+
+// The line of one text.
+fn report<R: Print + AllocGlobal>(rt: &R, title: &[u8], text: &[u8]) -> io::Result<()> {
+    let title = str::from_utf8(title).unwrap_or("?");
+    print!(rt; "{title}:")?;
+    if MAX_BYTES < text.len() {
+        return println!(rt; " over {MAX_BYTES} bytes");
+    }
+    match tokens(rt.alloc(), text) {
+        Ok(found) => print_tokens(rt, &found),
+        Err(Deny::Refused(fault)) => {
+            println!(rt;
+                " {} {} on line {}",
+                fault.kind.number(),
+                fault.kind.name(),
+                fault.line
+            )
+        }
+        Err(Deny::NoMemory) => println!(rt; " no memory"),
+    }
+}
+
+// The texts of a file.
+fn report_cases<R: Print + AllocGlobal>(rt: &R, file: &[u8]) -> io::Result<()> {
+    for case in &cases(rt.alloc(), file)? {
+        report(rt, case.title, &case.text(rt.alloc())?)?;
+    }
+    Ok(())
+}
+
+// A text of one byte over and over.
+fn report_repeated<R: Print + AllocGlobal>(
+    rt: &R,
+    title: &[u8],
+    byte: u8,
+    times: usize,
+) -> io::Result<()> {
+    let mut text = Vec::new(rt.alloc());
+    text.resize(times, byte)?;
+    report(rt, title, &text)
+}
+
+fn main(rt: HostRuntime) -> io::Result<()> {
+    let mut file = Vec::new(rt.alloc());
+    rt.reader().read_to_end(&mut file)?;
+    report_cases(&rt, &file)?;
+    report_repeated(&rt, b"the most tokens", b';', MAX_TOKENS)?;
+    report_repeated(&rt, b"one token more", b';', MAX_TOKENS + 1)?;
+    report_repeated(&rt, b"the longest text", b' ', MAX_BYTES)?;
+    report_repeated(&rt, b"one name", b'_', MAX_BYTES)
+}

@@ -1,0 +1,60 @@
+//! The texts of two images, by hand, and a sink that fails in the middle of one.
+
+use asm_print::disassemble;
+use host_edge::{Failed, MemSink};
+use image_file::read;
+use std::test::Fail;
+
+// The image file of `ori $2,$0,10` and `syscall`, without data and functions.
+const TWO_INSTRUCTIONS: [u8; 32] = [
+    84, 73, 67, 75, 0, 0, 0, 1, 0, 64, 0, 0, 0, 0, 0, 2, 0, 0, 0, 0, 0, 0, 0, 0, 52, 2, 0, 10, 0,
+    0, 0, 12,
+];
+
+// An image file with six words, 33 bytes of data, and one function of two arguments.
+const ALL_PARTS: [u8; 89] = [
+    84, 73, 67, 75, 0, 0, 0, 1, 0, 64, 0, 4, 0, 0, 0, 6, 0, 0, 0, 33, 0, 0, 0, 1, 12, 16, 0, 4, 16,
+    34, 255, 255, 0, 0, 0, 0, 255, 255, 255, 255, 143, 164, 255, 248, 60, 8, 255, 255, 48, 49, 50,
+    51, 52, 53, 54, 55, 56, 57, 97, 98, 99, 100, 101, 102, 103, 104, 105, 106, 107, 108, 109, 110,
+    111, 112, 113, 114, 115, 116, 117, 118, 119, 0, 64, 0, 0, 0, 0, 0, 2,
+];
+
+const ALL_PARTS_TEXT: &str =
+    ".entry 0x00400004\n.fn 0x00400000 2\n.data 303132333435363738396162636465666768696a6b6c6d6e6f70717273747576\n.data 77\njal 0x00400010\nbeq $1,$2,-1\nsll $0,$0,0\n.word 0xffffffff\nlw $4,-8($29)\nlui $8,65535\n";
+
+#[test]
+fn two_instructions_are_written(rt: HostRuntime) -> Result<(), Fail> {
+    let mut sink = MemSink::new(rt.alloc(), 100, &[])?;
+    match read(rt.alloc(), &TWO_INSTRUCTIONS) {
+        Ok(image) => assert_eq!(rt; disassemble(&image, &mut sink), Ok(())),
+        Err(_) => assert!(rt; false),
+    }
+    let text = ".entry 0x00400000\nori $2,$0,10\nsyscall\n";
+    assert_eq!(rt; sink.taken(), text.as_bytes());
+    Ok(())
+}
+
+#[test]
+fn all_parts_are_written(rt: HostRuntime) -> Result<(), Fail> {
+    let mut sink = MemSink::new(rt.alloc(), 400, &[])?;
+    match read(rt.alloc(), &ALL_PARTS) {
+        Ok(image) => assert_eq!(rt; disassemble(&image, &mut sink), Ok(())),
+        Err(_) => assert!(rt; false),
+    }
+    assert_eq!(rt; sink.taken(), ALL_PARTS_TEXT.as_bytes());
+    Ok(())
+}
+
+#[test]
+fn a_failing_sink_has_taken_a_front(rt: HostRuntime) -> Result<(), Fail> {
+    let mut sink = MemSink::new(rt.alloc(), 400, &[2])?;
+    match read(rt.alloc(), &ALL_PARTS) {
+        Ok(image) => assert_eq!(rt; disassemble(&image, &mut sink), Err(Failed)),
+        Err(_) => assert!(rt; false),
+    }
+    assert_eq!(rt;
+        sink.taken(),
+        ".entry 0x00400004\n.fn 0x00400000 2\n".as_bytes()
+    );
+    Ok(())
+}

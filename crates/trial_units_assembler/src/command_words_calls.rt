@@ -1,0 +1,40 @@
+//! The words of whole command lines.
+
+use command_words::{Command, command_of};
+use std::alloc::{AllocError, Global};
+use std::test::Fail;
+
+fn words_of(alloc: Global, line: &str) -> Result<Vec<String>, AllocError> {
+    let mut all = Vec::new(alloc);
+    for word in line.split_whitespace() {
+        all.push(String::from_str(alloc, word)?)?;
+    }
+    Ok(all)
+}
+
+// The place of the first bad word, or 0 where the words are good.
+fn bad_place(alloc: Global, line: &str) -> Result<u64, AllocError> {
+    let words = words_of(alloc, line)?;
+    match command_of(&words) {
+        Ok(_) => Ok(0),
+        Err(place) => Ok(place),
+    }
+}
+
+#[test]
+fn options_stand_anywhere(rt: HostRuntime) -> Result<(), Fail> {
+    let words = words_of(rt.alloc(), "tick exec --steps 007 image")?;
+    assert!(rt; matches!(command_of(&words), Ok(Command::Exec("image", 7))));
+    let words = words_of(rt.alloc(), "tick run text")?;
+    assert!(rt; matches!(command_of(&words), Ok(Command::Run("text", 1_000_000_000))));
+    Ok(())
+}
+
+#[test]
+fn bad_words_have_places(rt: HostRuntime) -> Result<(), Fail> {
+    assert_eq!(rt; bad_place(rt.alloc(), "tick run")?, 2);
+    assert_eq!(rt; bad_place(rt.alloc(), "tick run a b")?, 3);
+    assert_eq!(rt; bad_place(rt.alloc(), "tick run --steps 0 a")?, 3);
+    assert_eq!(rt; bad_place(rt.alloc(), "tick build a --steps 5 b")?, 3);
+    Ok(())
+}

@@ -1,0 +1,37 @@
+-- A function that returns 3 is ready to be lowered, and has an image.
+use Rattle.std.proofs.Common.{◌≡◌, ℕ, ◌<◌, List, length, get_or, ap, sym, ◌∙◌, subst, lit<, lit≤}
+use Rattle.std.specs.List.{All}
+use Rattle.std.proofs.lemmas.List.Elements.{All-get_or}
+use Rattle.typed_tree.specs.declared.expression.Expr.TheVariants as e
+use Rattle.typed_tree.specs.declared.expression.Stmt.TheVariants as st
+use Rattle.typed_tree.specs.declared.program.Function.{Function}
+use Rattle.typed_tree.specs.Nodes as node
+use Rattle.typed_tree.specs.View.{stmt_view, function_view}
+use Rattle.typed_tree.proofs.Views.{view_const, stmt_view_returnvalue}
+use Rattle.staged_meaning.specs.Scope.{IsReady}
+use Rattle.static_image.specs.Served.{IsStatic}
+
+abbrev pub ReturnsThree : Function → Type 0
+ReturnsThree f = (f.body ≡ st.ReturnValue (e.Const 3)) × (f.params ≡ 0) × (f.object ≡ 0)
+
+with_body : Function → node.Stmt → node.Function
+with_body f b = record { parameters = f.params; object = f.object; body = b }
+
+static_return : (f : Function) → ReturnsThree f → IsStatic (function_view f)
+unfolding with_body
+static_return f h =
+    let body : stmt_view f.body ≡ node.ReturnValue (node.Const 3) = ap stmt_view h.0 ∙ stmt_view_returnvalue (e.Const 3) ∙ ap node.ReturnValue (view_const 3) in
+    subst (λ b. IsStatic (with_body f b)) (sym body) (record {
+      ready = record { built = tt; scoped = tt; small = lit≤ tt; dense = lit≤ tt };
+      served = lit< tt;
+      plain = h.2;
+    })
+
+pub static_item : (list : List Function) (i : ℕ) (f : Function) → i < length list → f ≡ get_or list i f → All ReturnsThree list → IsStatic (function_view f)
+static_item list i f h is all = subst (λ g. IsStatic (function_view g)) (sym is) (static_return (get_or list i f) (All-get_or ReturnsThree list i f h all))
+
+pub few_parameters : (list : List Function) (i : ℕ) (f : Function) → i < length list → f ≡ get_or list i f → All ReturnsThree list → f.params ≡ 0
+few_parameters list i f h is all = ap (λ g. g.params) is ∙ (All-get_or ReturnsThree list i f h all).1
+
+pub ready_item : (list : List Function) (i : ℕ) (f : Function) → i < length list → f ≡ get_or list i f → All ReturnsThree list → IsReady (function_view f)
+ready_item list i f h is all = (static_item list i f h is all).ready

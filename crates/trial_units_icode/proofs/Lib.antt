@@ -1,0 +1,3 @@
+pub mod Ascents
+pub mod FinishedLists
+pub mod Return

@@ -1,0 +1,73 @@
+//! Image files by hand, from the format's rules.
+
+ghost use Rattle.std.specs.Prelude.{◌≤◌, length};
+
+use image_file::{ImageDeny, read, write};
+use std::alloc::Global;
+use std::test::Fail;
+
+// The image of `ori $2,$0,10` and `syscall`, without data and functions.
+const TWO_INSTRUCTIONS: [u8; 32] = [
+    0x54, 0x49, 0x43, 0x4b, 0, 0, 0, 1, 0, 0x40, 0, 0, 0, 0, 0, 2, 0, 0, 0, 0, 0, 0, 0, 0, 0x34, 2,
+    0, 0x0a, 0, 0, 0, 0x0c,
+];
+
+// An image with one word of text, three bytes of data, and one function of two arguments.
+const ALL_PARTS: [u8; 39] = [
+    0x54, 0x49, 0x43, 0x4b, 0, 0, 0, 1, 0, 0x40, 0, 0, 0, 0, 0, 1, 0, 0, 0, 3, 0, 0, 0, 1, 0, 0, 0,
+    0x0c, 7, 8, 9, 0, 0x40, 0, 0, 0, 0, 0, 2,
+];
+
+#[test]
+fn two_instructions_are_read_and_written(rt: HostRuntime) -> Result<(), Fail> {
+    match read(rt.alloc(), &TWO_INSTRUCTIONS) {
+        Ok(image) => {
+            assert_eq!(rt; image.entry(), 0x0040_0000);
+            assert!(rt; image.text() == [0x3402_000a, 0x0000_000c].as_slice());
+            let bytes = write(rt.alloc(), &image)?;
+            assert!(rt; bytes.as_slice() == TWO_INSTRUCTIONS.as_slice());
+        }
+        Err(_) => assert!(rt; false),
+    }
+    Ok(())
+}
+
+#[test]
+fn all_parts_are_read(rt: HostRuntime) {
+    match read(rt.alloc(), &ALL_PARTS) {
+        Ok(image) => {
+            assert!(rt; image.bytes() == [7, 8, 9].as_slice());
+            assert_eq!(rt; image.functions().len(), 1);
+            let first = image.functions()[0];
+            assert_eq!(rt; first.address, 0x0040_0000);
+            assert_eq!(rt; first.count, 2);
+        }
+        Err(_) => assert!(rt; false),
+    }
+}
+
+/// The number of the rule that bytes break, or 0.
+fn broken(alloc: Global, bytes: &[u8]) -> u8
+    requires { length bytes.now ≤ 83886080 }
+{
+    match read(alloc, bytes) {
+        Err(ImageDeny::Bad(fault)) => fault.number(),
+        _ => 0,
+    }
+}
+
+#[test]
+fn a_cut_and_a_byte_more_are_refused(rt: HostRuntime) {
+    let mut longer = [0; 33];
+    longer[..32].copy_from_slice(&TWO_INSTRUCTIONS);
+    assert_eq!(rt; broken(rt.alloc(), &TWO_INSTRUCTIONS[..23]), 1);
+    assert_eq!(rt; broken(rt.alloc(), &longer), 6);
+}
+
+#[test]
+fn version_three_is_refused(rt: HostRuntime) {
+    let mut header = [0; 24];
+    header.copy_from_slice(&TWO_INSTRUCTIONS[..24]);
+    header[7] = 3;
+    assert_eq!(rt; broken(rt.alloc(), &header), 3);
+}

@@ -1,0 +1,30 @@
+//! The first instructions of an image, up to its first service.
+
+use image_file::read;
+use mips_core::{Core, is_arena_range};
+use mips_encoder::Register;
+use std::alloc::AllocError;
+
+// The image of `ori $2,$0,10` and `syscall`, without data and functions.
+const TWO_INSTRUCTIONS: [u8; 32] = [
+    0x54, 0x49, 0x43, 0x4b, 0, 0, 0, 1, 0, 0x40, 0, 0, 0, 0, 0, 2, 0, 0, 0, 0, 0, 0, 0, 0, 0x34, 2,
+    0, 0x0a, 0, 0, 0, 0x0c,
+];
+
+#[test]
+fn stops_before_a_service(rt: HostRuntime) -> Result<(), AllocError> {
+    if let Ok(image) = read(rt.alloc(), &TWO_INSTRUCTIONS) {
+        let mut core = Core::new(rt.alloc(), &image)?;
+        assert_eq!(rt; core.pc(), 0x0040_0000);
+        let left = core.go_on(5);
+        assert_eq!(rt; left, 4);
+        assert_eq!(rt; core.register(Register::V0), 10);
+        assert!(rt; core.stopped().is_none());
+        assert!(rt; !core.is_service_hazard());
+    } else {
+        assert!(rt; false);
+    }
+    assert!(rt; is_arena_range(0x05ff_fffc, 1));
+    assert!(rt; !is_arena_range(0x05ff_fffc, 2));
+    Ok(())
+}

@@ -1,0 +1,10 @@
+//! The numbers of the services.
+
+use mips_model::Service;
+
+#[test]
+fn services_have_their_numbers(rt: HostRuntime) {
+    assert!(rt; Service::from_number(1) == Some(Service::PutInt));
+    assert!(rt; Service::from_number(67) == Some(Service::Flush));
+    assert!(rt; Service::from_number(64).is_none());
+}

@@ -1,0 +1,4 @@
+pub mod Bools
+pub mod Equations
+pub mod Uses
+pub mod Viewed

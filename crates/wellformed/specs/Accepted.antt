@@ -1,0 +1,80 @@
+-- What is known of the typed tree of an accepted text: its nodes stand right, its sizes and its frame objects are those of
+-- its functions and ticks, and it is not too large. These are this project's own rules.
+use Rattle.std.specs.Prelude.{◌≡◌, ℕ, ◌+◌, ◌*◌, ◌<◌, ◌≤◌, IsTrue, false, nat_lt, List, [], length, map, sum, codes, slice_get, Some, None}
+use Rattle.typed_tree.specs.declared.expression.CaptureKind.{CaptureKind}
+use Rattle.typed_tree.specs.declared.expression.Stmt.{Stmt}
+use Rattle.typed_tree.specs.declared.program.Function.{Function}
+use Rattle.typed_tree.specs.declared.program.Tick.{Tick}
+use Rattle.typed_tree.specs.declared.program.TickBody.{TickBody}
+use Rattle.typed_tree.specs.declared.program.TickBody.TheVariants as body
+use Rattle.typed_tree.specs.declared.program.Typed.{Typed}
+use Rattle.typed_tree.specs.Sizes.{statement_size, body_size}
+use Rattle.wellformed.specs.Counts.{one_if, objects_at, declarations_of}
+use Rattle.wellformed.specs.Places.{Around, stands_as_body, stands_as_tick}
+use Rattle.wellformed.specs.Values.{uses_values, body_uses_values}
+
+-- what is round the body of a function, and round that of a tick
+abbrev pub round_function : Typed → List (List CaptureKind) → Function → Around
+round_function p ticks f = record { variables = []; object = f.object; functions = length p.functions; ticks = ticks; captures = None; in_loop = false; in_switch = false }
+
+abbrev pub round_tick : Typed → List (List CaptureKind) → List CaptureKind → Around
+round_tick p ticks kinds = record { variables = []; object = 0; functions = length p.functions; ticks = ticks; captures = Some kinds; in_loop = false; in_switch = false }
+
+-- each register variable is declared once, and its number is less than the size
+pub record AreNumbered (s : Stmt) : Type 0 where
+  pub once : (i : ℕ) → declarations_of i s ≤ 1
+  pub dense : (i : ℕ) → 0 < declarations_of i s → i < statement_size s
+
+abbrev pub IsNumbered : TickBody → Type 0
+IsNumbered (body.Expression e) = Unit {0}
+IsNumbered (body.Statement s) = AreNumbered s
+
+-- a function of the program, where its ticks capture this
+pub record IsFunction (p : Typed) (ticks : List (List CaptureKind)) (f : Function) : Type 0 where
+  pub stands : IsTrue (stands_as_body f.body f.params (round_function p ticks f))
+  pub values : IsTrue (uses_values f.body)
+  pub size : f.size ≡ statement_size f.body
+  -- each byte belongs to one frame object
+  pub objects : (byte : ℕ) → objects_at byte f.body ≡ one_if (nat_lt byte f.object)
+  pub numbers : AreNumbered f.body
+  pub few : f.params ≤ 8
+  pub small : f.size ≤ 16384
+  pub short : f.object ≤ 4194304
+
+-- a tick of the program that captures this
+pub record IsTick (p : Typed) (ticks : List (List CaptureKind)) (t : Tick) (kinds : List CaptureKind) : Type 0 where
+  pub stands : IsTrue (stands_as_tick t.body (round_tick p ticks kinds))
+  pub values : IsTrue (body_uses_values t.body)
+  pub size : t.size ≡ body_size t.body
+  pub numbers : IsNumbered t.body
+  pub small : t.size ≤ 16384
+
+-- the words that are charged for a function or a tick of this size
+abbrev pub charge : ℕ → ℕ
+charge size = 192 * size + 64
+
+abbrev pub size_of_function : Function → ℕ
+size_of_function f = f.size
+
+abbrev pub size_of_tick : Tick → ℕ
+size_of_tick t = t.size
+
+abbrev pub words : Typed → ℕ
+words p = 1024 + sum (map (λ f. charge (size_of_function f)) p.functions) + sum (map (λ t. charge (size_of_tick t)) p.ticks)
+
+-- the typed tree of an accepted text
+pub record IsAccepted (p : Typed) : Type 0 where
+  -- what its ticks capture
+  pub captures : List (List CaptureKind)
+  pub each : length captures ≡ length p.ticks
+  pub functions : (n : ℕ) (f : Function) → slice_get p.functions n ≡ Some f → IsFunction p captures f
+  pub ticks : (n : ℕ) (t : Tick) (kinds : List CaptureKind) → slice_get p.ticks n ≡ Some t → slice_get captures n ≡ Some kinds → IsTick p captures t kinds
+  -- `main` is one of the functions
+  pub main : ℕ
+  pub main_function : Function
+  pub is_main : slice_get p.functions main ≡ Some main_function
+  pub name : main_function.name ≡ codes "main"
+  pub no_parameters : main_function.params ≡ 0
+  -- and no limit is met
+  pub image : length p.image ≤ 4194304
+  pub small : words p ≤ 15728640

@@ -1,0 +1,5 @@
+pub mod Accepted
+pub mod Counts
+pub mod Places
+pub mod Values
+pub mod Program

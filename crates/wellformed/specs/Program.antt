@@ -1,0 +1,102 @@
+-- What is known of the typed tree of an accepted text, said of its view: the tree that has a meaning. Its nodes stand right, its
+-- frame objects are those of its functions, and it is not too large. These are this project's own rules.
+use Rattle.std.specs.Prelude.{◌≡◌, ℕ, ◌+◌, ◌≤◌, ◌<◌, Bool, IsTrue, false, nat_lt, List, [], length, map, sum, codes, slice_get, Some, None}
+use Rattle.typed_tree.specs.declared.expression.CaptureKind.{CaptureKind}
+use Rattle.typed_tree.specs.declared.program.Function.{Function}
+use Rattle.typed_tree.specs.declared.program.Tick.{Tick}
+use Rattle.typed_tree.specs.declared.program.Typed.{Typed}
+use Rattle.typed_tree.specs.Nodes as node
+use Rattle.typed_tree.specs.Nodes.{Expression, Statement, fold_expr, fold_stmt}
+use Rattle.typed_tree.specs.Measures.{size_of_stmt, size_of_body}
+use Rattle.typed_tree.specs.View.{function_view, body_view, program_view}
+use Rattle.wellformed.specs.Accepted.{charge}
+use Rattle.wellformed.specs.Counts.{one_if, object_rules, declaration_rules}
+use Rattle.wellformed.specs.Places as places
+use Rattle.wellformed.specs.Places.{Around}
+use Rattle.wellformed.specs.Values as values
+
+-- the body of a function of so many parameters stands right
+abbrev pub stands_as_body : node.Stmt → ℕ → Around → Bool
+stands_as_body s n a = (fold_stmt places.rules s).is_body n a
+
+-- and so does what stands behind a backquote
+abbrev pub stands_as_tick : node.TickBody → Around → Bool
+stands_as_tick (Expression e) a = (fold_expr places.expr_rule e).stands a
+stands_as_tick (Statement s) a = (fold_stmt places.rules s).stands a
+
+-- each value that is used is left
+abbrev pub uses_values : node.Stmt → Bool
+uses_values = fold_stmt values.rules
+
+abbrev pub body_uses_values : node.TickBody → Bool
+body_uses_values (Expression e) = (fold_expr values.expr_rule e).right
+body_uses_values (Statement s) = uses_values s
+
+-- how many frame objects a byte belongs to, and how many declarations a register variable has
+abbrev pub objects_at : ℕ → node.Stmt → ℕ
+objects_at byte = fold_stmt (object_rules byte)
+
+abbrev pub declarations_of : ℕ → node.Stmt → ℕ
+declarations_of i = fold_stmt (declaration_rules i)
+
+-- each register variable is declared once, and its number is less than the size
+pub record AreNumbered (s : node.Stmt) : Type 0 where
+  pub once : (i : ℕ) → declarations_of i s ≤ 1
+  pub dense : (i : ℕ) → 0 < declarations_of i s → i < size_of_stmt s
+
+abbrev pub IsNumbered : node.TickBody → Type 0
+IsNumbered (Expression e) = Unit {0}
+IsNumbered (Statement s) = AreNumbered s
+
+-- what is round the body of a function, and round that of a tick
+abbrev pub round_function : node.Program → List (List CaptureKind) → node.Function → Around
+round_function p ticks f = record { variables = []; object = f.object; functions = length p.functions; ticks = ticks; captures = None; in_loop = false; in_switch = false }
+
+abbrev pub round_tick : node.Program → List (List CaptureKind) → List CaptureKind → Around
+round_tick p ticks kinds = record { variables = []; object = 0; functions = length p.functions; ticks = ticks; captures = Some kinds; in_loop = false; in_switch = false }
+
+-- a function of the program, where its ticks capture this
+pub record IsFunction (p : node.Program) (ticks : List (List CaptureKind)) (f : node.Function) : Type 0 where
+  pub stands : IsTrue (stands_as_body f.body f.parameters (round_function p ticks f))
+  pub values : IsTrue (uses_values f.body)
+  -- each byte belongs to one frame object
+  pub objects : (byte : ℕ) → objects_at byte f.body ≡ one_if (nat_lt byte f.object)
+  pub numbers : AreNumbered f.body
+  pub few : f.parameters ≤ 8
+  pub small : size_of_stmt f.body ≤ 16384
+  pub short : f.object ≤ 4194304
+
+-- a tick of the program that captures this
+pub record IsTick (p : node.Program) (ticks : List (List CaptureKind)) (t : node.TickBody) (kinds : List CaptureKind) : Type 0 where
+  pub stands : IsTrue (stands_as_tick t (round_tick p ticks kinds))
+  pub values : IsTrue (body_uses_values t)
+  pub numbers : IsNumbered t
+  pub small : size_of_body t ≤ 16384
+
+-- the words that are charged for a program
+abbrev pub words : node.Program → ℕ
+words p = 1024 + sum (map (λ f. charge (size_of_stmt f.body)) p.functions) + sum (map (λ t. charge (size_of_body t)) p.ticks)
+
+-- a program as the meaning has it
+pub record IsProgram (p : node.Program) : Type 0 where
+  -- what its ticks capture
+  pub captures : List (List CaptureKind)
+  pub each : length captures ≡ length p.ticks
+  pub functions : (n : ℕ) (f : node.Function) → slice_get p.functions n ≡ Some f → IsFunction p captures f
+  pub ticks : (n : ℕ) (t : node.TickBody) (kinds : List CaptureKind) → slice_get p.ticks n ≡ Some t → slice_get captures n ≡ Some kinds → IsTick p captures t kinds
+  -- no limit is met
+  pub image : length p.image ≤ 4194304
+  pub small : words p ≤ 15728640
+
+-- the typed tree of an accepted text
+pub record IsWellFormed (p : Typed) : Type 0 where
+  pub program : IsProgram (program_view p)
+  -- the sizes that the tree keeps are counts of nodes
+  pub function_sizes : (n : ℕ) (f : Function) → slice_get p.functions n ≡ Some f → f.size ≡ size_of_stmt (function_view f).body
+  pub tick_sizes : (n : ℕ) (t : Tick) → slice_get p.ticks n ≡ Some t → t.size ≡ size_of_body (body_view t.body)
+  -- `main` is one of the functions
+  pub main : ℕ
+  pub main_function : Function
+  pub is_main : slice_get p.functions main ≡ Some main_function
+  pub name : main_function.name ≡ codes "main"
+  pub no_parameters : main_function.params ≡ 0

@@ -1,0 +1,10 @@
+//! A function of an accepted text is one that the lowering takes. This is a law on definitions; there is no code to run here.
+#![tactic(auto)]
+
+ghost use Rattle.wf_ready.specs.Laws.{FunctionsAreReady};
+
+/// That a function of an accepted text uses variables in their scope, has at most 16,384 nodes, and numbers its variables below their
+/// count: so it is ready for the lowering once its nodes are of the kinds that are built.
+pub fn functions_are_ready()
+    ensures { FunctionsAreReady }
+{}

@@ -1,0 +1,63 @@
+-- What is asked of the parts of a statement and of a declaration in a block.
+use Rattle.std.specs.Prelude.{◌≡◌, ℕ, List, [], ◌∷◌, Option, Ok}
+use Rattle.c_types.specs.declared.ctype.CType.{CType}
+use Rattle.tick_tree.specs.declared.syntax.Core.TheOpen.{Stmt-F}
+use Rattle.typed_tree.specs.declared.expression.CaptureKind.{CaptureKind}
+use Rattle.typed_tree.specs.declared.expression.Expr.{Expr}
+use Rattle.typed_tree.specs.declared.expression.Stmt.{Stmt}
+use Rattle.typed_tree.specs.declared.expression.Stmt.TheVariants as st
+use Rattle.check_operators.specs.declared.operand.Operand.{Operand}
+use Rattle.check_env.specs.declared.state.Around.{Around as Standing}
+use Rattle.check_env.specs.declared.state.Stage.{Stage}
+use Rattle.check_env.specs.declared.state.State.{State}
+use Rattle.check_tables.specs.Walks.{Rule}
+use Rattle.check_expressions.specs.Rules.{Node, Named, Shape, Item}
+use Rattle.wf_invariant.specs.Kept.{IsKeeping}
+use Rattle.wf_invariant.specs.Known.{Blocks, IsObject, Known}
+use Rattle.wf_invariant.specs.Steps.{at, Did}
+use Rattle.wf_invariant.specs.Good.{Plain, Good, GoodNode}
+use Rattle.wf_invariant.specs.Items.{MayStand, placed_round, ItemsStand, GoodStatement, GoodItem}
+use Rattle.wf_types.specs.Parts.{EachPart, GoodOptional}
+
+-- ---- statements
+
+-- the walk over a declaration, wherever it stands in a block
+abbrev pub GoodDeclaration : ℕ → (Stage → Rule State (List Stmt)) → Type 0
+GoodDeclaration many d = (a : Standing) → MayStand a.stage → GoodStatement many a (d a.stage)
+
+-- the parts of a statement are good
+abbrev pub GoodStatementParts : {I S D N P : Type 0} → ℕ → (D → Stage → Rule State (List Stmt)) → Stmt-F Shape Node I (Option Node) Item S D Shape N P Named → Type 0
+GoodStatementParts many declaration Stmt-F.Empty = Unit {0}
+GoodStatementParts many declaration (Stmt-F.Expr e) = GoodNode many e
+GoodStatementParts many declaration (Stmt-F.Block items) = EachPart (GoodItem many) items
+GoodStatementParts many declaration (Stmt-F.Stmt::Local d) = GoodDeclaration many (declaration d)
+GoodStatementParts many declaration (Stmt-F.If line c i) = GoodNode many c × GoodItem many i
+GoodStatementParts many declaration (Stmt-F.IfElse line c i j) = GoodNode many c × GoodItem many i × GoodItem many j
+GoodStatementParts many declaration (Stmt-F.While line c i) = GoodNode many c × GoodItem many i
+GoodStatementParts many declaration (Stmt-F.Do line i c) = GoodItem many i × GoodNode many c
+GoodStatementParts many declaration (Stmt-F.For line first c s i) = GoodItem many first × GoodOptional many c × GoodOptional many s × GoodItem many i
+GoodStatementParts many declaration (Stmt-F.Switch line e items) = GoodNode many e × EachPart (GoodItem many) items
+GoodStatementParts many declaration (Stmt-F.Case line e) = GoodNode many e
+GoodStatementParts many declaration (Stmt-F.Default line) = Unit {0}
+GoodStatementParts many declaration (Stmt-F.Break line) = Unit {0}
+GoodStatementParts many declaration (Stmt-F.Continue line) = Unit {0}
+GoodStatementParts many declaration (Stmt-F.Return line e) = GoodOptional many e
+
+-- ---- declarations
+
+-- the walk over the type of a variable: it names nothing, and a variable may have what it answers
+abbrev pub GoodType : Stage → Rule State CType → Type 0
+GoodType g w = (s new : State) (t : CType) → w s ≡ Ok (t, new) → Plain g s new × IsObject t
+
+-- what a variable begins with is one node for its effect, or none
+pub data Begun (xs : List Stmt) : Type 0 where
+  Nothing : xs ≡ [] → Begun xs
+  Effect : (e : Expr) → xs ≡ st.Eval e ∷ [] → Begun xs
+
+-- a variable begins so
+pub record GoodBegin (many : ℕ) (a : Standing) (p : Operand) (step : Rule State (List Stmt)) : Type 0 where
+  pub keeps : IsKeeping a.stage step
+  pub begun : (s new : State) (xs : List Stmt) → step s ≡ Ok (xs, new) → Begun xs
+  -- where the variable stands right
+  pub does : (b : Blocks) (ks : List (List CaptureKind)) (s new : State) (xs : List Stmt) → Known many a.stage b ks s → step s ≡ Ok (xs, new)
+      → Did many a.stage b ks s new (λ r. Good (at a.stage (placed_round a r)) p → ItemsStand a (at a.stage (placed_round a r)) xs)
