@@ -3,7 +3,7 @@
 ghost use Rattle.std.specs.Prelude.{◌≡◌, ◌<◌, ◌++◌, ◌∷◌, [], None, IfOk};
 ghost use Rattle.icode_ir.specs.Build.{find};
 
-use sparse_set::SparseSet;
+use collections::SparseSet;
 use std::alloc::{AllocError, Global};
 use std::marker::Model;
 

@@ -1,10 +1,10 @@
 //! Which labels were jumped to and which stand, and how many of the former aren't among the latter.
 
 ghost use Rattle.std.specs.Prelude.{◌≡◌, ◌<◌, ◌++◌, ◌∷◌, [], false, IfOk, length};
-ghost use Rattle.sparse_set.specs.Members.{is_in, with_member};
+ghost use Rattle.collections.specs.Members.{is_in, with_member};
 ghost use Rattle.icode_ir.specs.Tables.{unplaced_count};
 
-use sparse_set::SparseSet;
+use collections::SparseSet;
 use std::alloc::{AllocError, Global};
 use std::marker::Model;
 

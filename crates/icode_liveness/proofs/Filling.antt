@@ -8,7 +8,7 @@ use Rattle.icode_ops.specs.declared.op.Op.{Op}
 use Rattle.icode_ops.specs.declared.op.Op.TheVariants.{ReturnZero}
 use Rattle.icode_ops.specs.Flow.{defined, first_use, second_use, defines, uses, holds, goes_to, label_of, op_at}
 use Rattle.icode_ops.specs.Finished.{Below, InRange}
-use Rattle.buckets.specs.Contents.{with_slot, empty_buckets}
+use Rattle.collections.specs.Contents.{with_slot, empty_buckets}
 use Rattle.icode_liveness.specs.Lists.{In, Each}
 use Rattle.icode_liveness.specs.Tables.{mentions, MentionedAt, GoesFrom, IsTable, KnowsLabels, listed, with_mentions}
 use Rattle.icode_liveness.proofs.Lists.{Each-weaker}

@@ -1,8 +1,8 @@
 -- The room that is kept for the largest list of ops. A list has at most 196,609 ops, 393,216
 -- registers and 196,608 labels, as a finished list keeps, and each op has three slots.
 use Rattle.std.specs.Prelude.{ℕ, ◌≤◌, List, length}
-use Rattle.buckets.specs.Contents.{Contents}
-use Rattle.sparse_set.specs.Members.{Members}
+use Rattle.collections.specs.Contents.{Contents}
+use Rattle.collections.specs.Members.{Members}
 
 pub record HasRooms (mentions jumps starts : Contents) (found : Members) (ends : List ℕ) : Type 0
   where

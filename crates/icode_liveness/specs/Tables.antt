@@ -4,7 +4,7 @@
 use Rattle.std.specs.Prelude.{ℕ, ◌+◌, ◌≡◌, ◌<◌, ◌/◌, ◌||◌, Bool, true, List, [], Option, None, Some, length, slice_index_or}
 use Rattle.icode_ops.specs.declared.op.Op.{Op}
 use Rattle.icode_ops.specs.Flow.{defined, first_use, second_use, defines, uses, goes_to, label_of, op_at}
-use Rattle.buckets.specs.Contents.{with_slot}
+use Rattle.collections.specs.Contents.{with_slot}
 use Rattle.icode_liveness.specs.Lists.{In, Each}
 
 -- the op defines or uses the register

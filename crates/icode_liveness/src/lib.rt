@@ -12,9 +12,8 @@ ghost use Rattle.std.specs.Prelude.{◌≡◌, ◌<◌, ◌≤◌, IfOk, length,
 ghost use Rattle.icode_ops.specs.Finished.{IsFinished};
 ghost use Rattle.icode_ops.specs.Live.{AreIntervals, Each};
 
-use buckets::Buckets;
+use collections::{Buckets, SparseSet};
 use icode_ops::{Interval, Op};
-use sparse_set::SparseSet;
 use std::alloc::{AllocError, Global};
 use std::marker::Model;
 

@@ -8,9 +8,8 @@ ghost use Rattle.icode_liveness.specs.Search.{is_sought, SoughtIn, HasSought, Pa
 ghost use Rattle.icode_liveness.specs.Tables.{MentionedAt, GoesFrom, IsTable, KnowsLabels};
 
 use crate::sought::Sought;
-use buckets::Buckets;
+use collections::{Buckets, SparseSet};
 use icode_ops::Op;
-use sparse_set::SparseSet;
 
 // Adds a place, if its op has what is sought of the register.
 fn add(found: &mut SparseSet, ops: &[Op], place: u32, sought: Sought, register: u32)

@@ -5,7 +5,7 @@ ghost use Rattle.icode_ops.specs.Flow.{goes_to};
 ghost use Rattle.icode_ops.specs.Finished.{Below, InRange, IsFinished};
 ghost use Rattle.icode_liveness.specs.Tables.{listed, with_mentions, MentionedAt, GoesFrom, IsTable, KnowsLabels};
 
-use buckets::Buckets;
+use collections::Buckets;
 use icode_ops::Op;
 
 // Lists the slot in the bucket, if there is one.

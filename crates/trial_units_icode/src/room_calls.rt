@@ -1,6 +1,6 @@
 //! Writes to the end of a vector that has room.
 
-use room::{extend_in_room, push_in_room};
+use collections::{extend_in_room, push_in_room};
 use std::alloc::AllocError;
 
 #[test]

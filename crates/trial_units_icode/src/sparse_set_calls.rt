@@ -1,6 +1,6 @@
 //! A set's members, in the order in which they came.
 
-use sparse_set::SparseSet;
+use collections::SparseSet;
 use std::alloc::AllocError;
 
 #[test]

@@ -1,5 +1,5 @@
 use Rattle.std.proofs.Common.{sym, subst}
-use Rattle.sparse_set.specs.Members.{Members}
+use Rattle.collections.specs.Members.{Members}
 use Rattle.icode_liveness.specs.Lists.{In}
 use Rattle.icode_liveness.proofs.Listing.{member-there}
 use Rattle.icode_liveness.proofs.search.add.Goals as goal

@@ -1,5 +1,5 @@
 use Rattle.std.proofs.Common.{arith, ◌∙◌, ap, subst, ◌<◌, ◌≤◌, [], length, get_or}
-use Rattle.sparse_set.specs.Members.{Members}
+use Rattle.collections.specs.Members.{Members}
 use Rattle.icode_liveness.specs.declared.sought.Sought.TheVariants.{Use}
 use Rattle.icode_liveness.specs.Lists.{Extends}
 use Rattle.icode_liveness.specs.Search.{SoughtIn}

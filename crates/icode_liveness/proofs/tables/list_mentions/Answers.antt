@@ -4,7 +4,7 @@ use Rattle.icode_ops.specs.declared.op.Op.{Op}
 use Rattle.icode_ops.specs.declared.op.Op.TheVariants.{ReturnZero}
 use Rattle.icode_ops.specs.Flow.{op_at}
 use Rattle.icode_ops.specs.Finished.{InRange}
-use Rattle.buckets.specs.Contents.{Contents}
+use Rattle.collections.specs.Contents.{Contents}
 use Rattle.icode_liveness.specs.Tables.{MentionedAt, IsTable, with_mentions}
 use Rattle.icode_liveness.proofs.Filling.{table-empty, length-empty, mentions-more, length-mentions}
 use Rattle.icode_liveness.proofs.tables.list_mentions.Goals as goal

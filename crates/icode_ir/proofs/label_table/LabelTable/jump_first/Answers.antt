@@ -1,5 +1,5 @@
 use Rattle.std.proofs.Common.{sym, ◌∙◌, ap, cond, ◌+◌, ◌≤◌, length, arith, not}
-use Rattle.sparse_set.specs.Members.{is_in}
+use Rattle.collections.specs.Members.{is_in}
 use Rattle.icode_ir.proofs.Marking.{first-jump, tally-length}
 use Rattle.icode_ir.proofs.label_table.LabelTable.jump_first.Goals as goal
 use Rattle.icode_ir.proofs.label_table.LabelTable.jump_first.Goals.{then-placed, else-placed}

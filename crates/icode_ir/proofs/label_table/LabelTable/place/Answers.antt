@@ -1,5 +1,5 @@
 use Rattle.std.proofs.Common.{sym, ◌∙◌, ap, cond, arith, ℕ}
-use Rattle.sparse_set.specs.Members.{is_in}
+use Rattle.collections.specs.Members.{is_in}
 use Rattle.icode_ir.proofs.Marking.{label-placed, counted-one}
 use Rattle.icode_ir.proofs.label_table.LabelTable.place.Goals as goal
 use Rattle.icode_ir.proofs.label_table.LabelTable.place.Goals.{then-jumped, else-jumped}

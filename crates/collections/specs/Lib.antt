@@ -1,0 +1,4 @@
+pub mod Chains
+pub mod Contents
+pub mod Members
+pub mod Positions
