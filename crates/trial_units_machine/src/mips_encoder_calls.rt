@@ -7,7 +7,7 @@ use mips_encoder::{
 
 /// Reads a word that the table has, and gives the word of what was read.
 fn again(word: u32) -> Option<u32> {
-    decode(word).map(encode)
+    Some(encode(decode(word)?))
 }
 
 #[test]
