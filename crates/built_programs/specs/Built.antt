@@ -14,6 +14,7 @@ use Rattle.typed_tree.specs.declared.expression.Library.TheVariants as library
 use Rattle.staged_meaning.specs.Size.{size_of}
 use Rattle.staged_meaning.specs.Scope.{Scope, no_scope, scope_of, scope_after}
 use Rattle.typed_tree.specs.View.{function_view}
+use Rattle.limits.specs.declared.program.TheConstants.{SIZE_LIMIT}
 
 -- ---- the nodes of the list
 
@@ -105,7 +106,7 @@ abbrev mutual
 -- A function has no more nodes than a program that is accepted may have in one. Its variables are numbered from 0, each of
 -- them declared by a node: so their numbers are below the number of nodes.
 abbrev pub is_scoped : node.Function → Bool
-is_scoped function = nat_le (size_of function) 16384 && is_scoped_stmt (size_of function) no_scope function.body
+is_scoped function = nat_le (size_of function) SIZE_LIMIT && is_scoped_stmt (size_of function) no_scope function.body
 
 -- ---- programs
 

@@ -7,8 +7,9 @@ ghost use Rattle.built_programs.specs.Built as spec;
 ghost use Rattle.built_programs.specs.Marks.{marked};
 
 use crate::marks::{declare, hide, is_marked};
+use limits::program::SIZE_LIMIT;
 use std::alloc::{AllocError, Global};
-use typed_tree::{Expr, Function, SIZE_LIMIT, Stmt, statement_size};
+use typed_tree::{Expr, Function, Stmt, statement_size};
 
 // Whether each variable that an expression uses is in scope.
 #[tactic(auto, using(typed_tree::proofs::Views::expressions))]

@@ -20,6 +20,7 @@ use Rattle.c_lexer.specs.declared.classes.Class.{Class}
 use Rattle.c_lexer.specs.declared.classes.Class.TheVariants as class
 use Rattle.c_lexer.specs.declared.pieces.Piece.{Piece}
 use Rattle.c_lexer.specs.declared.pieces.Piece.TheVariants.{Gap, Taken, Bad}
+use Rattle.limits.specs.declared.text.TheConstants.{MAX_TOKENS}
 
 abbrev pub Text : Type 0
 Text = List ℕ
@@ -105,7 +106,7 @@ before t (Err f) = Err f
 
 -- the most tokens that a text may have
 abbrev pub max_tokens : ℕ
-max_tokens = 262144
+max_tokens = MAX_TOKENS
 
 -- What follows a piece at the place `at`, where `count` tokens stand before it and `goes` gives the tokens after the piece,
 -- from their count so far and the bytes of the piece that are still to pass.

@@ -7,7 +7,7 @@ mod classes;
 mod pieces;
 mod walk;
 
-pub use walk::{MAX_TOKENS, tokens};
+pub use walk::tokens;
 
 // The byte at a place, or 0 behind the end.
 fn byte_at(text: &[u8], at: usize) -> u8

@@ -6,9 +6,11 @@ ghost use Rattle.tick_tree.specs.Faults.{Answers};
 ghost use Rattle.c_lexer.specs.Lex as spec;
 ghost use Rattle.c_lexer.specs.declared.classes.Class.TheVariants as class;
 ghost use Rattle.c_lexer.specs.declared.pieces.Piece.TheVariants.{Taken};
+ghost use Rattle.limits.specs.declared.text.TheConstants.{LONGEST_TEXT};
 
 use crate::classes::{Class, is_in};
 use crate::pieces::{Piece, piece_of};
+use limits::text::MAX_TOKENS;
 use std::alloc::Global;
 use tick_tree::{Deny, Fault, FaultKind, Token, TokenKind};
 
@@ -18,14 +20,14 @@ struct Walk<'a> {
     text: &'a [u8],
     at: usize,
     line: u32,
-    ghost small: { length text.now ≤ 1048576 },
+    ghost small: { length text.now ≤ LONGEST_TEXT },
     ghost within: { at ≤ length text.now },
     ghost lined: { line ≡ spec.line_at text.now at },
 }
 
 impl<'a> Walk<'a> {
     fn new(text: &'a [u8]) -> Walk<'a>
-        requires { length text.now ≤ 1048576 }
+        requires { length text.now ≤ LONGEST_TEXT }
         ensures text { result.text.now ≡ text.now }
         ensures at { result.at ≡ 0 }
     {
@@ -141,16 +143,13 @@ impl<'a> Walk<'a> {
     }
 }
 
-/// The most tokens that a text may have.
-pub const MAX_TOKENS: usize = 262144;
-
 /// The tokens of a text of at most 1,048,576 bytes, in text order, or its first fault: a byte that begins nothing, a comment
 /// or literal that isn't closed, a wrong escape, a number over 4,294,967,295, or one token over [`MAX_TOKENS`]. The fault has
 /// the line on which its piece begins.
 pub fn tokens(alloc: Global, text: &[u8]) -> Result<Vec<Token>, Deny>
-    requires { length text.now ≤ 1048576 }
+    requires { length text.now ≤ LONGEST_TEXT }
     ensures exact { Answers (λ v. v.items) result (spec.tokens text.now) }
-    ensures few { IfOk result (λ v. length v.items ≤ 262144) }
+    ensures few { IfOk result (λ v. length v.items ≤ MAX_TOKENS) }
 {
     let mut found = Vec::with_capacity(alloc, text.len().min(MAX_TOKENS))?;
     let mut walk = Walk::new(text);

@@ -6,12 +6,13 @@ use Rattle.c_types.specs.declared.ctype.Layer.{Layer, out-Layer}
 use Rattle.c_types.specs.declared.ctype.Layer.TheOpen.{Layer-F}
 use Rattle.c_types.specs.declared.extents.Extent.{Extent}
 use Rattle.c_types.specs.Types.{Opened, base_size, is_integer_base}
+use Rattle.limits.specs.declared.program.TheConstants.{MAX_SIZE, SIZE_TOP}
 
 abbrev pub start : Base → Extent
 start b = record { size = base_size b; sized = is_integer_base b }
 
 abbrev pub grown_at : Extent → Opened → Extent
-grown_at e (Layer-F.Array count) = record { size = min (e.size * count) 4194305; sized = e.sized }
+grown_at e (Layer-F.Array count) = record { size = min (e.size * count) SIZE_TOP; sized = e.sized }
 grown_at e (Layer-F.Function list) = record { size = 0; sized = false }
 grown_at e Layer-F.Unlisted = record { size = 0; sized = false }
 grown_at e Layer-F.Pointer = record { size = 4; sized = true }
@@ -33,4 +34,4 @@ extents e (l ∷ ls) = e ∷ extents (grown e l) ls
 
 -- the size, where there is one of at most 4,194,304 bytes
 abbrev pub limited : Extent → Option ℕ
-limited e = if e.sized && nat_le e.size 4194304 then Some e.size else None
+limited e = if e.sized && nat_le e.size MAX_SIZE then Some e.size else None

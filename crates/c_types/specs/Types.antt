@@ -9,6 +9,7 @@ use Rattle.c_types.specs.declared.ctype.CType.{CType, out-CType, roll-CType}
 use Rattle.c_types.specs.declared.ctype.Layer.{Layer, out-Layer}
 use Rattle.c_types.specs.declared.ctype.Layer.TheOpen.{Layer-F, CType-F}
 use Rattle.c_types.specs.declared.ctype.Layer.TheFolds.{fold-Layer, fold-CType}
+use Rattle.limits.specs.declared.program.TheConstants.{MAX_SIZE}
 
 -- ---- integers
 
@@ -93,7 +94,7 @@ is_sized t = is_sized_under (is_integer_base (base_of t)) (layers_of t)
 -- the size under these layers, where there is one of at most 4,194,304 bytes
 abbrev pub limited_parts : Base → List Layer → Option ℕ
 limited_parts b ls =
-    if is_sized_under (is_integer_base b) ls && nat_le (size_under (base_size b) ls) 4194304
+    if is_sized_under (is_integer_base b) ls && nat_le (size_under (base_size b) ls) MAX_SIZE
     then Some (size_under (base_size b) ls) else None
 
 -- the size of a type that has one, of at most 4,194,304 bytes

@@ -6,6 +6,7 @@ ghost use Rattle.c_types.specs.Extents as spec;
 
 use crate::ctype::{Base, Layer};
 use crate::sizes::width;
+use limits::program::SIZE_TOP;
 use sqlite_items::Items;
 use std::alloc::{AllocError, Global};
 
@@ -40,7 +41,7 @@ pub(crate) fn grown(extent: Extent, layer: &Layer) -> Extent
 {
     match layer {
         Layer::Array(count) => Extent {
-            size: (u64::from(extent.size) * u64::from(*count)).min(4194305) as u32,
+            size: (u64::from(extent.size) * u64::from(*count)).min(SIZE_TOP) as u32,
             sized: extent.sized,
         },
         Layer::Function(_) | Layer::Unlisted => Extent {

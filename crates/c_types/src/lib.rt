@@ -20,4 +20,4 @@ pub use layers::Layers;
 pub use names::{DeclareFault, Meaning, MeaningKind, Scopes};
 pub use parameters::{Parameter, Parameters};
 pub use shared::{TypeRef, copy};
-pub use sizes::{MAX_SIZE, limited_size, pointed_size, size_of};
+pub use sizes::{limited_size, pointed_size, size_of};

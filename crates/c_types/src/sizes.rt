@@ -8,6 +8,7 @@ use crate::conversions::is_pointer;
 use crate::ctype::Integer;
 use crate::extents::Extent;
 use crate::shared::TypeRef;
+use limits::program::MAX_SIZE;
 
 /// The bytes of an integer type.
 pub(crate) fn width(kind: Integer) -> u32
@@ -21,13 +22,10 @@ pub(crate) fn width(kind: Integer) -> u32
     }
 }
 
-/// The most bytes that a type may have.
-pub const MAX_SIZE: u32 = 4194304;
-
 /// The size in bytes of a type that is neither void nor a function nor an array of these, and has at most [`MAX_SIZE`].
 pub fn size_of(t: &TypeRef) -> u32
     requires sized { IsTrue (spec.is_sized t.now) }
-    requires small { spec.size t.now ≤ 4194304 }
+    requires small { spec.size t.now ≤ MAX_SIZE }
     ensures { result ≡ spec.size t.now }
 {
     t.extent().size

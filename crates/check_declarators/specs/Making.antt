@@ -25,6 +25,7 @@ use Rattle.check_declarators.specs.declared.steps.Role.TheVariants as role
 use Rattle.check_declarators.specs.declared.steps.Step.{Step}
 use Rattle.check_declarators.specs.declared.steps.Step.TheVariants as step
 use Rattle.check_declarators.specs.Steps.{layer_of, filled}
+use Rattle.limits.specs.declared.program.TheConstants.{MAX_SIZE}
 
 -- ---- tests of a type, by its base and the layers over it
 
@@ -72,7 +73,7 @@ unless ok k = if ok then None else Some k
 
 -- an array of `count` has a length and no more bytes than a type may have
 abbrev pub is_count : ℕ → ℕ → Bool
-is_count count size = nat_lt 0 count && nat_le size 4194304
+is_count count size = nat_lt 0 count && nat_le size MAX_SIZE
 
 -- What the length of an array breaks whose elements have so many bytes. What an initializer counts is tested behind it.
 abbrev pub length_breaks : Length → ℕ → Option FaultKind

@@ -6,7 +6,8 @@ ghost use Rattle.check_declarators.specs.Making as spec;
 ghost use Rattle.tick_tree.specs.Faults.{Answers};
 
 use crate::steps::{Length, Role, Step, fill_length, layer_of};
-use c_types::{Base, CType, Integer, Layer, Layers, MAX_SIZE, TypeRef};
+use c_types::{Base, CType, Integer, Layer, Layers, TypeRef};
+use limits::program::{MAX_SIZE, SIZE_TOP};
 use sqlite_items::Items;
 use std::alloc::{AllocError, Global};
 use tick_tree::{Deny, Fault, FaultKind, Prefix};
@@ -59,14 +60,14 @@ fn is_count(count: u32, size: u32) -> bool
 
 // The bytes of so many elements of a size, or 4,194,305 where they are more.
 fn product(size: u32, count: u32) -> u32
-    requires { size ≤ 4194305 }
-    ensures { result ≡ min (size * count) 4194305 }
+    requires { size ≤ SIZE_TOP }
+    ensures { result ≡ min (size * count) SIZE_TOP }
 {
-    (u64::from(size) * u64::from(count)).min(4194305) as u32
+    (u64::from(size) * u64::from(count)).min(SIZE_TOP) as u32
 }
 
 fn array_breaks(length: Length, base: Base, layers: &[Layer], size: u32) -> Option<FaultKind>
-    requires { size ≡ min (spec.bytes base layers.now) 4194305 }
+    requires { size ≡ min (spec.bytes base layers.now) SIZE_TOP }
     ensures { result ≡ spec.array_breaks length base layers.now }
 {
     if is_function(layers) {
@@ -121,7 +122,7 @@ fn function_breaks(count: usize, layers: &[Layer]) -> Option<FaultKind>
 // The rule of the lowest number that is broken where the step is taken on these layers, which have `size` bytes, or more than
 // are allowed.
 fn breaks(step: &Step, base: Base, layers: &[Layer], size: u32) -> Option<FaultKind>
-    requires { size ≡ min (spec.bytes base layers.now) 4194305 }
+    requires { size ≡ min (spec.bytes base layers.now) SIZE_TOP }
     ensures { result ≡ spec.breaks step.now base layers.now }
 {
     match step {
@@ -135,8 +136,8 @@ fn breaks(step: &Step, base: Base, layers: &[Layer], size: u32) -> Option<FaultK
 // The bytes under one layer more, or 4,194,305 where they are more.
 #[tactic(auto, using(crate::proofs::Takes::grows))]
 fn grown(layer: &Layer, base: Base, layers: &[Layer], size: u32) -> u32
-    requires { size ≡ min (spec.bytes base layers.now) 4194305 }
-    ensures { result ≡ min (spec.bytes base (layers.now ++ layer.now ∷ [])) 4194305 }
+    requires { size ≡ min (spec.bytes base layers.now) SIZE_TOP }
+    ensures { result ≡ min (spec.bytes base (layers.now ++ layer.now ∷ [])) SIZE_TOP }
 {
     match layer {
         Layer::Array(count) => product(size, *count),

@@ -20,6 +20,7 @@ use Rattle.check_env.specs.Locals.{meaning}
 use Rattle.check_env.specs.Names.{declare}
 use Rattle.check_globals.specs.declared.names.Before.{Before}
 use Rattle.check_globals.specs.declared.names.Before.TheVariants as before
+use Rattle.word32.specs.declared.map.TheConstants.{OBJECTS}
 
 -- ---- types
 
@@ -80,7 +81,7 @@ size_by (Some n) = n
 
 -- the address of the global at this place
 abbrev pub address : ℕ → ℕ
-address at = min (268435456 + at) 4294967295
+address at = min (OBJECTS + at) 4294967295
 
 abbrev pub with_global : CType → State → State
 with_global t s = record s { image = images.with_global (size_by (limited_size t)) s.image }

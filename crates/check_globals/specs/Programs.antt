@@ -23,6 +23,8 @@ use Rattle.check_tables.specs.Functions as functions
 use Rattle.check_tables.specs.Images as images
 use Rattle.check_env.specs.declared.state.State.{State}
 use Rattle.check_globals.specs.Names.{is_function}
+use Rattle.limits.specs.declared.program.TheConstants.{CHARGE_LIMIT, FRAME_OBJECT_BYTES, FRONT_WORDS, SIZE_LIMIT, WORDS_OF_A_BODY, WORDS_OF_A_NODE}
+use Rattle.word32.specs.declared.map.TheConstants.{GLOBAL_BYTES}
 
 -- ---- main
 
@@ -54,17 +56,17 @@ has_main s = is_main (functions.is_defined (codes "main") s.functions) (find s.s
 
 -- the words that a function or a tick of so many nodes is charged
 abbrev pub charge : ℕ → ℕ
-charge size = 192 * size + 64
+charge size = WORDS_OF_A_NODE * size + WORDS_OF_A_BODY
 
 abbrev pub function_fits : Function → Bool
-function_fits f = nat_le f.size 16384 && nat_le f.object 4194304
+function_fits f = nat_le f.size SIZE_LIMIT && nat_le f.object FRAME_OBJECT_BYTES
 
 abbrev pub functions_fit : List Function → Bool
 functions_fit [] = true
 functions_fit (f ∷ fs) = function_fits f && functions_fit fs
 
 abbrev pub tick_fits : Tick → Bool
-tick_fits t = nat_le t.size 16384
+tick_fits t = nat_le t.size SIZE_LIMIT
 
 abbrev pub ticks_fit : List Tick → Bool
 ticks_fit [] = true
@@ -72,7 +74,7 @@ ticks_fit (t ∷ ts) = tick_fits t && ticks_fit ts
 
 -- the words that functions and ticks are charged together
 abbrev pub charges : List Function → List Tick → ℕ
-charges fs ts = 1024 + sum_by (λ f. charge f.size) fs + sum_by (λ t. charge t.size) ts
+charges fs ts = FRONT_WORDS + sum_by (λ f. charge f.size) fs + sum_by (λ t. charge t.size) ts
 
 abbrev pub begin_by : Bool → Image → ℕ
 begin_by true i = i.end
@@ -83,12 +85,12 @@ abbrev pub strings_begin : Image → ℕ
 strings_begin i = begin_by (is_nil i.strings) i
 
 abbrev pub image_fits : Image → Bool
-image_fits i = nat_le (strings_begin i + length i.strings) 4194304
+image_fits i = nat_le (strings_begin i + length i.strings) GLOBAL_BYTES
 
 abbrev pub fits : State → Bool
 fits s =
     image_fits s.image && functions_fit s.functions.all && ticks_fit s.ticks.all
-    && nat_le (charges s.functions.all s.ticks.all) 15728640
+    && nat_le (charges s.functions.all s.ticks.all) CHARGE_LIMIT
 
 -- ---- the typed tree
 

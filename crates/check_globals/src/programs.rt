@@ -9,16 +9,15 @@ ghost use Rattle.tick_tree.specs.Faults.{Checks};
 use c_types::{Base, Integer, Layer, Meaning, MeaningKind, TypeRef};
 use check_env::State;
 use check_tables::Image;
+use limits::program::{
+    CHARGE_LIMIT, CHARGE_TOP, FRAME_OBJECT_BYTES, FRONT_WORDS, SIZE_LIMIT, WORDS_OF_A_BODY,
+    WORDS_OF_A_NODE,
+};
 use sqlite_items::Items;
 use std::alloc::{AllocError, Global};
 use tick_tree::{Deny, FaultKind, refused};
-use typed_tree::{Function, SIZE_LIMIT, Tick, Typed};
-
-/// The most bytes of a function's frame objects, and of globals and strings.
-pub const BYTES_LIMIT: u32 = 4194304;
-
-/// The most words that all functions and ticks may be charged.
-pub const CHARGE_LIMIT: u64 = 15728640;
+use typed_tree::{Function, Tick, Typed};
+use word32::map::GLOBAL_BYTES;
 
 fn takes_none(t: &TypeRef) -> bool
     ensures { result ≡ spec.takes_none (types.outermost (types.layers_of t.now)) }
@@ -59,7 +58,7 @@ fn has_main(state: &State) -> bool
 fn function_fits(f: &Function) -> bool
     ensures { result ≡ spec.function_fits f.now }
 {
-    f.size <= SIZE_LIMIT && f.object <= BYTES_LIMIT
+    f.size <= SIZE_LIMIT && f.object <= FRAME_OBJECT_BYTES
 }
 
 fn functions_fit(list: &[Function]) -> bool
@@ -86,19 +85,19 @@ fn ticks_fit(list: &[Tick]) -> bool
 
 // This many words and those of one more function or tick, up to one over the limit.
 fn charged(found: u64, size: u32) -> u64
-    ensures { result ≡ min (found + spec.charge size) 15728641 }
+    ensures { result ≡ min (found + spec.charge size) CHARGE_TOP }
 {
-    let more = 192 * u64::from(size) + 64;
+    let more = WORDS_OF_A_NODE * u64::from(size) + WORDS_OF_A_BODY;
     if found > CHARGE_LIMIT {
-        return CHARGE_LIMIT + 1;
+        return CHARGE_TOP;
     }
-    (found + more).min(CHARGE_LIMIT + 1)
+    (found + more).min(CHARGE_TOP)
 }
 
 fn functions_charge(list: &[Function]) -> u64
-    ensures { result ≡ min (1024 + sum_by (λ f. spec.charge f.size) list.now) 15728641 }
+    ensures { result ≡ min (FRONT_WORDS + sum_by (λ f. spec.charge f.size) list.now) CHARGE_TOP }
 {
-    let mut found = 1024;
+    let mut found = FRONT_WORDS as u64;
     for f in list {
         found = charged(found, f.size);
     }
@@ -106,9 +105,9 @@ fn functions_charge(list: &[Function]) -> u64
 }
 
 fn ticks_charge(from: u64, list: &[Tick]) -> u64
-    ensures { result ≡ min (from + sum_by (λ t. spec.charge t.size) list.now) 15728641 }
+    ensures { result ≡ min (from + sum_by (λ t. spec.charge t.size) list.now) CHARGE_TOP }
 {
-    let mut found = from.min(CHARGE_LIMIT + 1);
+    let mut found = from.min(CHARGE_TOP);
     for t in list {
         found = charged(found, t.size);
     }
@@ -116,7 +115,7 @@ fn ticks_charge(from: u64, list: &[Tick]) -> u64
 }
 
 fn charges_fit(functions: &[Function], ticks: &[Tick]) -> bool
-    ensures { result ≡ nat_le (spec.charges functions.now ticks.now) 15728640 }
+    ensures { result ≡ nat_le (spec.charges functions.now ticks.now) CHARGE_LIMIT }
 {
     ticks_charge(functions_charge(functions), ticks) <= CHARGE_LIMIT
 }
@@ -135,10 +134,10 @@ fn image_fits(image: &Image) -> bool
     ensures { result ≡ spec.image_fits image.now }
 {
     let strings = image.strings.len();
-    if strings > BYTES_LIMIT as usize {
+    if strings > GLOBAL_BYTES as usize {
         return false;
     }
-    u64::from(strings_begin(image)) + strings as u64 <= u64::from(BYTES_LIMIT)
+    u64::from(strings_begin(image)) + strings as u64 <= u64::from(GLOBAL_BYTES)
 }
 
 fn fits(state: &State) -> bool

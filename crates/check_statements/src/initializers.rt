@@ -89,7 +89,7 @@ pub fn value_breaks(v: &Value, t: &TypeRef) -> Option<FaultKind>
     }
 }
 
-/// Whether a type has some bytes, and at most `c_types::MAX_SIZE`. An array whose length is counted may have another size.
+/// Whether a type has some bytes, and at most `limits::program::MAX_SIZE`. An array whose length is counted may have another size.
 pub fn has_size(t: &TypeRef) -> bool
     ensures { result ≡ spec.has_size t.now }
 {

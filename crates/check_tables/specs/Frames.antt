@@ -11,6 +11,7 @@ use Rattle.typed_tree.specs.declared.expression.Stmt.TheVariants as st
 use Rattle.check_tables.specs.declared.frame.Home.{Home}
 use Rattle.check_tables.specs.declared.frame.Home.TheVariants as home
 use Rattle.check_tables.specs.declared.frame.Frame.{Frame}
+use Rattle.limits.specs.declared.program.TheConstants.{PLACE_TOP}
 
 -- before all functions
 abbrev pub new : Frame
@@ -58,7 +59,7 @@ words t = words_by (limited_size t)
 
 -- the bytes of frame objects after so many words more, up to one word over the limit
 abbrev pub after : ℕ → ℕ → ℕ
-after object n = min (object + 4 * n) 4194308
+after object n = min (object + 4 * n) PLACE_TOP
 
 abbrev pub is_object : CType → Frame → Bool
 is_object t f = is_array (layers_of t) || needs_address f

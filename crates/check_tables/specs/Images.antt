@@ -3,13 +3,15 @@
 -- These are this project's own rules.
 use Rattle.std.specs.Prelude.{ℕ, ◌+◌, ◌-◌, ◌*◌, ◌/◌, ◌%◌, min, nat_le, if◌then◌else◌, List, [], ◌∷◌, ◌++◌, length, replicate}
 use Rattle.check_tables.specs.declared.image.Image.{Image}
+use Rattle.word32.specs.declared.map.TheConstants.{GLOBAL_BYTES, OBJECTS}
+use Rattle.limits.specs.declared.program.TheConstants.{PLACE_TOP}
 
 abbrev pub new : Image
 new = record { globals = []; end = 0; strings = []; strings_at = 0 }
 
 -- the next multiple of 4, up to one word over the limit
 abbrev pub aligned : ℕ → ℕ
-aligned n = min ((n + 3) / 4 * 4) 4194308
+aligned n = min ((n + 3) / 4 * 4) PLACE_TOP
 
 -- ---- strings
 
@@ -26,7 +28,7 @@ word n = min n 4294967295
 
 -- the address of the next string
 abbrev pub string_place : Image → ℕ
-string_place s = word (268435456 + s.strings_at + word (length (padded s.strings)))
+string_place s = word (OBJECTS + s.strings_at + word (length (padded s.strings)))
 
 -- after a string, with its zero byte
 abbrev pub with_string : List ℕ → Image → Image
@@ -40,7 +42,7 @@ place s = aligned s.end
 
 -- after a global of so many bytes
 abbrev pub with_global : ℕ → Image → Image
-with_global size s = record s { end = min (place s + size) 4194308 }
+with_global size s = record s { end = min (place s + size) PLACE_TOP }
 
 -- bytes up to this length, zeros behind them
 abbrev pub up_to : ℕ → List ℕ → List ℕ
@@ -48,7 +50,7 @@ up_to n bytes = bytes ++ replicate (n - length bytes) 0
 
 -- with these first bytes of the global at this place; over the limit on sizes none are kept
 abbrev pub with_bytes : ℕ → List ℕ → Image → Image
-with_bytes at bytes s = if nat_le at 4194304 then record s { globals = up_to at s.globals ++ bytes } else s
+with_bytes at bytes s = if nat_le at GLOBAL_BYTES then record s { globals = up_to at s.globals ++ bytes } else s
 
 -- before all items, with the end of the globals of an earlier walk
 abbrev pub again : Image → Image

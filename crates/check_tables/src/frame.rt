@@ -6,6 +6,7 @@ ghost use Rattle.check_tables.specs.Frames as spec;
 
 use c_types::{Layer, Layers, TypeRef, limited_size};
 use check_types::width_of;
+use limits::program::PLACE_TOP;
 use sqlite_items::Items;
 use std::alloc::{AllocError, Global};
 use std::mem;
@@ -82,7 +83,7 @@ fn words(t: &TypeRef) -> u32
 fn after(object: u32, words: u32) -> u32
     ensures { result ≡ spec.after object words }
 {
-    (u64::from(object) + 4 * u64::from(words)).min(4194308) as u32
+    (u64::from(object) + 4 * u64::from(words)).min(PLACE_TOP) as u32
 }
 
 impl Frame {

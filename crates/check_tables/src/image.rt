@@ -3,6 +3,7 @@
 ghost use Rattle.std.specs.Prelude.{◌≡◌, ◌++◌, replicate, IfOk, OnOk};
 ghost use Rattle.check_tables.specs.Images as spec;
 
+use limits::program::PLACE_TOP;
 use sqlite_items::Items;
 use std::alloc::{AllocError, Global};
 
@@ -22,7 +23,7 @@ pub struct Image {
 fn aligned(n: u32) -> u32
     ensures { result ≡ spec.aligned n }
 {
-    ((u64::from(n) + 3) / 4 * 4).min(4194308) as u32
+    ((u64::from(n) + 3) / 4 * 4).min(PLACE_TOP) as u32
 }
 
 fn gap(n: usize) -> usize
@@ -96,7 +97,7 @@ impl Image {
         ensures after { self.new ≡ spec.with_global size self.old }
     {
         let at = aligned(self.end);
-        self.end = (u64::from(at) + u64::from(size)).min(4194308) as u32;
+        self.end = (u64::from(at) + u64::from(size)).min(PLACE_TOP) as u32;
         at
     }
 

@@ -6,7 +6,8 @@ use Rattle.std.specs.Str.{bytes_eq}
 use Rattle.std.specs.Char.{is_ascii_digit}
 use Rattle.std.specs.List.{list_all}
 use Rattle.std.specs.Str.Parse.{digits_value}
-use Rattle.command_words.specs.declared.TheConstants.{MOST_STEPS, DEFAULT_STEPS, MOST_DIGITS}
+use Rattle.command_words.specs.declared.TheConstants.{MOST_DIGITS}
+use Rattle.limits.specs.declared.run.TheConstants.{MOST_STEPS, DEFAULT_STEPS}
 use Rattle.command_words.specs.declared.command.Command.{Command}
 use Rattle.command_words.specs.declared.command.Command.TheVariants as code
 use Rattle.command_words.specs.declared.command.Name.{Name}

@@ -4,7 +4,8 @@ ghost use Rattle.std.specs.Char.{is_ascii_digit};
 ghost use Rattle.std.specs.List.{list_all};
 ghost use Rattle.command_words.specs.Orders as spec;
 
-use crate::{DEFAULT_STEPS, MOST_DIGITS, MOST_STEPS};
+use crate::MOST_DIGITS;
+use limits::run::{DEFAULT_STEPS, MOST_STEPS};
 
 /// The operands that were given, in their order.
 #[derive(Clone, Copy, Debug, Drop)]

@@ -2,7 +2,7 @@
 -- the memory map, and definitions see the lists as spaces.
 use Rattle.std.specs.Prelude.{◌≡◌, ℕ, ◌≤◌, ◌/◌, List, length}
 use Rattle.word32.specs.Space.{words_from}
-use Rattle.word32.specs.declared.map.TheConstants.{OBJECTS, CLOSURES, SPEC_ROWS, CELLS, EMIT_STACK, STACK}
+use Rattle.word32.specs.declared.map.TheConstants.{OBJECTS, CLOSURES, SPEC_ROWS, CELLS, EMIT_STACK, STACK, CELL_BYTES, CLOSURE_BYTES, EMIT_STACK_BYTES, OBJECT_BYTES, SPEC_ROW_BYTES, STACK_BYTES, TEXT_WORDS}
 use Rattle.flat_memory.specs.Spaces.{Spaces, text_of}
 
 pub record Regions : Type 0 where
@@ -16,13 +16,13 @@ pub record Regions : Type 0 where
 
 -- the lengths in words
 pub record Sized (r : Regions) : Type 0 where
-  pub text_most : length r.text ≤ 15728640
-  pub objects_all : length r.objects ≡ 4194304
-  pub closures_all : length r.closures ≡ 1048576
-  pub spec_rows_all : length r.spec_rows ≡ 262144
-  pub cells_all : length r.cells ≡ 1024
-  pub emit_stack_all : length r.emit_stack ≡ 262144
-  pub stack_all : length r.stack ≡ 4194304
+  pub text_most : length r.text ≤ TEXT_WORDS
+  pub objects_all : length r.objects ≡ OBJECT_BYTES / 4
+  pub closures_all : length r.closures ≡ CLOSURE_BYTES / 4
+  pub spec_rows_all : length r.spec_rows ≡ SPEC_ROW_BYTES / 4
+  pub cells_all : length r.cells ≡ CELL_BYTES / 4
+  pub emit_stack_all : length r.emit_stack ≡ EMIT_STACK_BYTES / 4
+  pub stack_all : length r.stack ≡ STACK_BYTES / 4
 
 -- the regions as spaces: each list from the number of its region's first word on
 abbrev pub spaces_of : Regions → Spaces

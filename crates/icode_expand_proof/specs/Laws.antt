@@ -4,7 +4,7 @@ use Rattle.std.specs.Prelude.{◌≡◌, ℕ, ◌+◌, ◌≤◌, true, List, Op
 use Rattle.std.specs.Fn.{iterate}
 use Rattle.pace.specs.Claims.{PaysFor}
 use Rattle.history.specs.Events.{End}
-use Rattle.word32.specs.declared.map.TheConstants.{GLOBAL_POINTER}
+use Rattle.word32.specs.declared.map.TheConstants.{GLOBAL_POINTER, STACK_BYTES}
 use Rattle.mips_model.specs.State.{Code, Data, World}
 use Rattle.mips_model.specs.Steps.{step, going, run}
 use Rattle.mips_model.specs.Run as machine
@@ -17,6 +17,7 @@ use Rattle.icode_frames_spec.specs.Standing.{op_stands_at}
 use Rattle.icode_frames_spec.specs.Settings.{Setting, places_of, Standing}
 use Rattle.icode_frames_spec.specs.Relation.{MemoryAgrees, ExtentsAgree, Holds, Pays}
 use Rattle.icode_steps_proof.specs.Served.{Serving}
+use Rattle.limits.specs.declared.program.TheConstants.{FRAME_OBJECT_BYTES}
 
 -- A call and a return lead from a related state to a related state, within the cost of their ops, under all legal
 -- places of both functions: with the callee's prologue and the limits, and with the caller's registers restored.
@@ -52,8 +53,8 @@ pub record Arrives (s : Setting) (main : Function) (shared : Shared) (n : ℕ) (
   pub extents : ExtentsAgree shared d
   pub unused : shared.used ≡ 0
   pub none : shared.frames ≡ 0
-  pub fits : main.charge ≤ 16777216
-  pub objects_fit : main.object ≤ 4194304
+  pub fits : main.charge ≤ STACK_BYTES
+  pub objects_fit : main.object ≤ FRAME_OBJECT_BYTES
 
 abbrev pub ProgramIsSimulated : Type 0
 ProgramIsSimulated =

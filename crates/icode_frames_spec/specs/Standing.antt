@@ -14,6 +14,7 @@ use Rattle.icode_expand.specs.Frames.{saved, prologue, epilogue}
 use Rattle.icode_expand.specs.Expansion.{op_address, aims, expansion}
 use Rattle.icode_expand.specs.Expansion as expanded
 use Rattle.icode_meaning.specs.State.{Function}
+use Rattle.limits.specs.declared.run.TheConstants.{STACK_OF_A_CALL}
 
 -- the spots of a function's registers, and the code before its ops and behind them
 abbrev pub layout_of : Function → List ℕ → Layout
@@ -45,7 +46,7 @@ leave_at f places = aims (layout_of f places) (ops_at f places) f.ops ToEpilogue
 pub record Suits (f : Function) (places : List ℕ) : Type 0 where
   pub in_range : (p : ℕ) → InRange (length places) (op_at f.ops p)
   pub legal : IsLegal f.ops (length places) places
-  pub room : 128 + 4 * length places ≤ f.charge
+  pub room : STACK_OF_A_CALL + 4 * length places ≤ f.charge
   pub whole : f.charge % 4 ≡ 0
   pub small : f.charge ≤ 1073741824
   pub few : f.object ≤ 1073741824

@@ -4,6 +4,7 @@ ghost use Rattle.std.specs.Prelude.{◌≡◌, ◌<◌, ◌++◌, ◌∷◌, [],
 ghost use Rattle.icode_ir.specs.Build.{find};
 
 use collections::SparseSet;
+use limits::ops::KEYS;
 use std::alloc::{AllocError, Global};
 use std::marker::Model;
 
@@ -17,12 +18,13 @@ pub struct KeyTable {
 impl Model for KeyTable {
     ghost use Rattle.std.specs.Prelude.{List, ℕ, ◌≡◌, length};
     ghost use Rattle.icode_ir.specs.Tables.{with_registers};
+    ghost use Rattle.limits.specs.declared.ops.TheConstants.{KEYS};
 
     ghost Value = { List (ℕ × ℕ) };
 
     ghost view = { λ t. with_registers t.registers.items t.keys.members };
 
-    ghost invariant = { λ t. (t.keys.room ≡ 262152) × (length t.registers.items ≡ 262152) };
+    ghost invariant = { λ t. (t.keys.room ≡ KEYS) × (length t.registers.items ≡ KEYS) };
 }
 
 impl KeyTable {
@@ -30,8 +32,8 @@ impl KeyTable {
     pub fn new(alloc: Global) -> Result<Self, AllocError>
         ensures { IfOk result (λ t. t ≡ []) }
     {
-        let keys = SparseSet::new(alloc, 262_152)?;
-        let registers = vec![in alloc; 0; 262_152]?;
+        let keys = SparseSet::new(alloc, KEYS)?;
+        let registers = vec![in alloc; 0; KEYS as usize]?;
         Ok(KeyTable { keys, registers })
     }
 
@@ -44,7 +46,7 @@ impl KeyTable {
 
     /// The register of the key, if it was mentioned.
     pub fn find(&self, key: u32) -> Option<u32>
-        requires { key < 262152 }
+        requires { key < KEYS }
         ensures { result ≡ find key self.now }
     {
         if self.keys.contains(key) {
@@ -56,7 +58,7 @@ impl KeyTable {
 
     /// Adds a key that wasn't mentioned.
     pub fn insert(&mut self, key: u32, register: u32)
-        requires key { key < 262152 }
+        requires key { key < KEYS }
         requires first { find key self.old ≡ None }
         ensures { self.new ≡ self.old ++ (key, register) ∷ [] }
     {

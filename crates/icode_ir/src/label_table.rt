@@ -5,6 +5,7 @@ ghost use Rattle.collections.specs.Members.{is_in, with_member};
 ghost use Rattle.icode_ir.specs.Tables.{unplaced_count};
 
 use collections::SparseSet;
+use limits::ops::MOST_LABELS;
 use std::alloc::{AllocError, Global};
 use std::marker::Model;
 
@@ -31,8 +32,8 @@ impl LabelTable {
     pub fn new(alloc: Global) -> Result<Self, AllocError>
         ensures { IfOk result (λ t. t ≡ record { jumped = []; placed = [] }) }
     {
-        let jumped = SparseSet::new(alloc, 196_608)?;
-        let placed = SparseSet::new(alloc, 196_608)?;
+        let jumped = SparseSet::new(alloc, MOST_LABELS)?;
+        let placed = SparseSet::new(alloc, MOST_LABELS)?;
         Ok(LabelTable {
             jumped,
             placed,
@@ -51,7 +52,7 @@ impl LabelTable {
 
     /// Whether the label stands.
     pub fn is_placed(&self, label: u32) -> bool
-        requires { label < 196608 }
+        requires { label < MOST_LABELS }
         ensures { result ≡ is_in label self.now.placed }
     {
         self.placed.contains(label)
@@ -66,7 +67,7 @@ impl LabelTable {
 
     /// The label was jumped to.
     pub fn jump(&mut self, label: u32)
-        requires label { label < 196608 }
+        requires label { label < MOST_LABELS }
         requires few { length self.old.jumped < 4294967295 }
         ensures { self.new ≡ record self.old { jumped = with_member label self.old.jumped } }
     {
@@ -77,7 +78,7 @@ impl LabelTable {
 
     // The label was jumped to for the first time.
     fn jump_first(&mut self, label: u32)
-        requires label { label < 196608 }
+        requires label { label < MOST_LABELS }
         requires few { length self.old.jumped < 4294967295 }
         requires first { is_in label self.old.jumped ≡ false }
         ensures { self.new ≡ record self.old { jumped = self.old.jumped ++ label ∷ [] } }
@@ -93,7 +94,7 @@ impl LabelTable {
 
     /// The label stands from now on.
     pub fn place(&mut self, label: u32)
-        requires label { label < 196608 }
+        requires label { label < MOST_LABELS }
         requires first { is_in label self.old.placed ≡ false }
         ensures { self.new ≡ record self.old { placed = self.old.placed ++ label ∷ [] } }
     {

@@ -14,15 +14,9 @@ ghost use Rattle.icode_ops.specs.Live.{AreIntervals, Each};
 
 use collections::{Buckets, SparseSet};
 use icode_ops::{Interval, Op};
+use limits::ops::{MOST_LABELS, MOST_OPS, MOST_REGISTERS};
 use std::alloc::{AllocError, Global};
 use std::marker::Model;
-
-// The largest list of ops, its registers and its labels.
-const MOST_OPS: u32 = 196_609;
-
-const MOST_REGISTERS: u32 = 393_216;
-
-const MOST_LABELS: u32 = 196_608;
 
 // The slots of an op: of the register that it defines and of the two that it uses.
 const SLOTS: u32 = 3;

@@ -4,6 +4,7 @@ ghost use Rattle.std.specs.Prelude.{◌≡◌, ◌+◌, ◌*◌, ◌<◌, ◌≤
 ghost use Rattle.icode_ops.specs.Flow.{goes_to};
 ghost use Rattle.icode_ops.specs.Finished.{Below, InRange, IsFinished};
 ghost use Rattle.icode_liveness.specs.Tables.{listed, with_mentions, MentionedAt, GoesFrom, IsTable, KnowsLabels};
+ghost use Rattle.limits.specs.declared.ops.TheConstants.{MOST_LABELS};
 
 use collections::Buckets;
 use icode_ops::Op;
@@ -58,7 +59,7 @@ pub fn list_mentions(buckets: &mut Buckets, ops: &[Op], registers: u32)
 /// Lists under each label the ops that may go to it.
 pub fn list_jumps(buckets: &mut Buckets, ops: &[Op], registers: u32)
     requires finished { IsFinished ops.now registers }
-    requires buckets { 196608 ≤ buckets.old.bucket_room }
+    requires buckets { MOST_LABELS ≤ buckets.old.bucket_room }
     requires slots { 3 * length ops.now ≤ buckets.old.slot_room }
     ensures table { IsTable (GoesFrom ops.now (length ops.now)) buckets.new.buckets }
     ensures labels { KnowsLabels ops.now (length buckets.new.buckets) }
@@ -75,7 +76,7 @@ pub fn list_jumps(buckets: &mut Buckets, ops: &[Op], registers: u32)
 fn label_count(ops: &[Op], registers: u32) -> u32
     requires { IsFinished ops.now registers }
     ensures labels { KnowsLabels ops.now result }
-    ensures low { result ≤ 196608 }
+    ensures low { result ≤ MOST_LABELS }
 {
     let mut count = 0;
     for p in 0..ops.len() {
@@ -86,11 +87,11 @@ fn label_count(ops: &[Op], registers: u32) -> u32
 
 // The greater of a count and one more than a label, if there is one.
 fn above(count: u32, label: Option<u32>) -> u32
-    requires low { count ≤ 196608 }
-    requires label { Below 196608 label }
+    requires low { count ≤ MOST_LABELS }
+    requires label { Below MOST_LABELS label }
     ensures count { count ≤ result }
     ensures label { Below result label }
-    ensures low { result ≤ 196608 }
+    ensures low { result ≤ MOST_LABELS }
 {
     match label {
         Some(label) => count.max(label + 1),

@@ -3,6 +3,7 @@
 -- return to at 80, nothing up to 127, and then the slots, of a word each. These are the project's own rules.
 use Rattle.std.specs.Prelude.{ℕ, ◌+◌, ◌*◌, Bool, not, nat_lt, if◌then◌else◌, List}
 use Rattle.icode_ops.specs.Places.{place_of}
+use Rattle.limits.specs.declared.run.TheConstants.{STACK_OF_A_CALL}
 
 -- a register of the machine, or the slot at an offset in bytes from $sp; it is far where no load's offset reaches it
 pub data Spot : Type 0 where
@@ -15,7 +16,7 @@ place_register place = if nat_lt place 8 then (16 + place) else place
 
 -- the offset of a virtual register's slot
 abbrev pub slot_offset : ℕ → ℕ
-slot_offset v = 128 + 4 * v
+slot_offset v = STACK_OF_A_CALL + 4 * v
 
 abbrev pub slot : ℕ → Spot
 slot offset = InSlot (not (nat_lt offset 32768)) offset

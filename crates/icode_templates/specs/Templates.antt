@@ -16,6 +16,7 @@ use Rattle.icode_ops.specs.declared.op.Op.{Op}
 use Rattle.icode_ops.specs.declared.op.Op.TheVariants.{Const, Move, Bin, CheckDivision, CheckZero, Un, FrameAddress, Load, Store, Clear, Label, Jump, BranchZero, BranchNonzero, Argument, GetParameter, Call, CallNumber, Result, Return, ReturnZero, Sys, Run, New, Put}
 use Rattle.icode_templates.specs.Assembly.{scratch, v0, a0, a1, a2, t8, t9, gp, sp, fp, ra, addu, subu, and, or, xor, nor, slt, sltu, sll, srl, sra, sllv, srlv, srav, mult, div, divu, mflo, mfhi, addiu, sltiu, andi, ori, xori, lui, lb, lbu, lh, lhu, lw, sb, sh, sw, beq, bne, j, jal, jalr, syscall, trap, nop, constant}
 use Rattle.icode_templates.specs.Layout.{Spot, InRegister, InSlot, Layout, parameter_spot}
+use Rattle.word32.specs.declared.map.TheConstants.{ROUTINE_BYTES, START}
 
 -- an offset in two halves, where the lower one is taken with its sign
 abbrev pub upper : ℕ → ℕ
@@ -149,7 +150,7 @@ number_call n = number_row ++ (count_check n ++ jalr ra t8 ∷ nop ∷ [])
 
 -- the address of a routine of the run-time library: blocks of 64 words from the beginning of the text
 abbrev pub routine_address : ℕ → ℕ
-routine_address number = 4194304 + 256 * number
+routine_address number = START + ROUTINE_BYTES * number
 
 -- the routine that makes closures
 abbrev pub new_address : ℕ

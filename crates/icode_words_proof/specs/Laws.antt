@@ -9,18 +9,20 @@ use Rattle.icode_expand.specs.Expansion.{expanded}
 use Rattle.icode_meaning.specs.State.{Function}
 use Rattle.icode_frames_spec.specs.Standing.{Suits, Stands, WordsAt}
 use Rattle.icode_steps_proof.specs.Served.{IsServed}
+use Rattle.limits.specs.declared.ops.TheConstants.{FRAME_WORDS, OP_WORDS}
+use Rattle.limits.specs.declared.run.TheConstants.{STACK_OF_A_CALL}
 
 -- A function that suits its places, and whose ops are served, stands where the words of its expansion stand in the
 -- text, where 16 words an op and 64 besides, the most it has, end below the arena.
 abbrev pub WordsSuffice : Type 0
 WordsSuffice =
     (c : Code) (f : Function) (places : List ℕ) → Suits f places → ((p : ℕ) → IsServed (op_at f.ops p))
-    → f.address + 4 * (16 * length f.ops + 64) ≤ ARENA
+    → f.address + 4 * (OP_WORDS * length f.ops + FRAME_WORDS) ≤ ARENA
     → WordsAt c f.address (expanded f.ops places f.address f.charge f.object f.compiled) → Stands c f places
 
 -- What a builder and a choice of places give suits, where the frame has room and the code ends where jumps reach.
 abbrev pub LegalPlacesSuit : Type 0
 LegalPlacesSuit =
     (f : Function) (registers : ℕ) (places : List ℕ) → IsFinished f.ops registers → IsLegal f.ops registers places
-    → 128 + 4 * registers ≤ f.charge → f.charge % 4 ≡ 0 → f.charge ≤ 1073741824 → f.object ≤ 1073741824
-    → f.address % 4 ≡ 0 → f.address + 4 * (16 * length f.ops + 64) < 268435456 → Suits f places
+    → STACK_OF_A_CALL + 4 * registers ≤ f.charge → f.charge % 4 ≡ 0 → f.charge ≤ 1073741824 → f.object ≤ 1073741824
+    → f.address % 4 ≡ 0 → f.address + 4 * (OP_WORDS * length f.ops + FRAME_WORDS) < 268435456 → Suits f places

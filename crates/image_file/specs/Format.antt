@@ -29,6 +29,8 @@ use Rattle.std.specs.Prelude.{
   Ok,
   Err,
 }
+use Rattle.limits.specs.declared.program.TheConstants.{MOST_FUNCTIONS}
+use Rattle.word32.specs.declared.map.TheConstants.{GLOBAL_BYTES, TEXT_WORDS}
 use Rattle.std.specs.List.{flat_map}
 use Rattle.word32.specs.Bytes.{word_in}
 use Rattle.image_file.specs.Image.{ImageParts, has_good_entries}
@@ -92,7 +94,7 @@ parts_in bytes = record {
 -- Whether the header's counts are within the limits.
 abbrev pub has_small_counts : List ℕ → Bool
 has_small_counts bytes =
-    (nat_le (word_in bytes 12) 15728640 && nat_le (word_in bytes 16) 4194304) && nat_le (word_in bytes 20) 65535
+    (nat_le (word_in bytes 12) TEXT_WORDS && nat_le (word_in bytes 16) GLOBAL_BYTES) && nat_le (word_in bytes 20) MOST_FUNCTIONS
 
 -- This fault where the rule doesn't hold, else what the later rules say.
 abbrev pub rule : Bool → ImageFault → Option ImageFault → Option ImageFault

@@ -6,7 +6,3 @@ pub const MAGIC: u32 = 0x5449_434b;
 pub const VERSION: u32 = 1;
 /// The bytes of the six words before the parts.
 pub const HEADER_BYTES: usize = 24;
-/// The most functions. With row 0, which no function has, they fill the machine's function table.
-pub const MOST_FUNCTIONS: u32 = 65_535;
-/// The most arguments of a function.
-pub const MOST_ARGUMENTS: u32 = 8;

@@ -14,13 +14,15 @@ ghost use Rattle.image_file.specs.Format.{
   fault_of,
   Answers,
 };
+ghost use Rattle.limits.specs.declared.text.TheConstants.{LONGEST_IMAGE};
 ghost use Rattle.image_file.specs.Format as format;
 ghost use Rattle.word32.specs.Bytes.{word_in};
 ghost use Rattle.image_file.specs.Image as image;
 
 use crate::fault::{ImageDeny, ImageFault};
-use crate::format::{HEADER_BYTES, MAGIC, MOST_ARGUMENTS, MOST_FUNCTIONS, VERSION};
+use crate::format::{HEADER_BYTES, MAGIC, VERSION};
 use crate::image::{FunctionEntry, Image};
+use limits::program::{MOST_ARGUMENTS, MOST_FUNCTIONS};
 use std::alloc::{AllocError, Global};
 use word32::be_read;
 use word32::map::{GLOBAL_BYTES, TEXT, TEXT_WORDS};
@@ -33,7 +35,7 @@ use word32::map::{GLOBAL_BYTES, TEXT, TEXT_WORDS};
 /// Version, Counts, Short for the parts, Entry, Trailing. All of them are tested before memory is taken. `NoMemory` where
 /// memory was not found.
 pub fn read(alloc: Global, bytes: &[u8]) -> Result<Image, ImageDeny>
-    requires { length bytes.now ≤ 83886080 }
+    requires { length bytes.now ≤ LONGEST_IMAGE }
     ensures parsed { Answers (parsed bytes.now) result }
     ensures spelling { IfOk result (λ image. spelling image ≡ bytes.now) }
     ensures accepts { (i : ImageParts) → IsImage i → spelling i ≡ bytes.now → Answers (Ok i) result }
@@ -42,7 +44,7 @@ pub fn read(alloc: Global, bytes: &[u8]) -> Result<Image, ImageDeny>
 }
 
 fn parse(alloc: Global, bytes: &[u8]) -> Result<Image, ImageDeny>
-    requires { length bytes.now ≤ 83886080 }
+    requires { length bytes.now ≤ LONGEST_IMAGE }
     ensures { Answers (parsed bytes.now) result }
 {
     match fault(bytes) {
@@ -66,7 +68,7 @@ fn parts(alloc: Global, bytes: &[u8]) -> Result<Image, AllocError>
 
 /// The first rule that bytes break.
 fn fault(bytes: &[u8]) -> Option<ImageFault>
-    requires { length bytes.now ≤ 83886080 }
+    requires { length bytes.now ≤ LONGEST_IMAGE }
     ensures { result ≡ fault_of bytes.now }
 {
     if bytes.len() < HEADER_BYTES {
@@ -117,7 +119,7 @@ fn end(bytes: &[u8]) -> usize
 
 /// Whether an address is that of a word, in a text of so many words.
 fn is_text_address(words: u32, address: u32) -> bool
-    requires { words ≤ 15728640 }
+    requires { words ≤ TEXT_WORDS }
     ensures { result ≡ is_in_text words address }
 {
     address >= TEXT && address < TEXT + 4 * words && address % 4 == 0
@@ -125,7 +127,7 @@ fn is_text_address(words: u32, address: u32) -> bool
 
 /// Whether a function stands at a word of a text of so many words, and takes few arguments.
 fn is_function(words: u32, f: FunctionEntry) -> bool
-    requires { words ≤ 15728640 }
+    requires { words ≤ TEXT_WORDS }
     ensures { result ≡ is_function_in words f }
 {
     is_text_address(words, f.address) && f.count <= MOST_ARGUMENTS
@@ -135,7 +137,7 @@ fn is_function(words: u32, f: FunctionEntry) -> bool
 #[tactic(auto, using(crate::proofs::Words::all_functions_more))]
 fn are_functions(bytes: &[u8], at: usize, count: usize, words: u32) -> bool
     requires reaches { at + 8 * count ≤ length bytes.now }
-    requires words { words ≤ 15728640 }
+    requires words { words ≤ TEXT_WORDS }
     ensures { result ≡ list_all (is_function_in words) (functions_in bytes.now at count) }
 {
     let mut good = true;
@@ -148,7 +150,7 @@ fn are_functions(bytes: &[u8], at: usize, count: usize, words: u32) -> bool
 /// Whether the entry and each function stand at words of the text, and each function takes few arguments.
 #[tactic(auto, using(crate::proofs::Words::length_words_in))]
 fn has_good_entries(bytes: &[u8]) -> bool
-    requires counts { word_in bytes.now 12 ≤ 15728640 }
+    requires counts { word_in bytes.now 12 ≤ TEXT_WORDS }
     requires reaches { end_at bytes.now ≤ length bytes.now }
     ensures { result ≡ image.has_good_entries (parts_in bytes.now) }
 {

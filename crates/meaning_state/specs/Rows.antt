@@ -6,6 +6,9 @@ use Rattle.host_edge.specs.declared.ending.TrapKind.TheVariants.{BadParam, SpecL
 use Rattle.history.specs.Syntax.{Syntax, Ticked, Captures, NoCapture, Word, Named, Spliced}
 use Rattle.history.specs.Events.{Made}
 use Rattle.meaning_state.specs.Shared.{Shared, Specification, happens}
+use Rattle.limits.specs.declared.program.TheConstants.{SIZE_LIMIT, WORDS_OF_A_BODY, WORDS_OF_A_NODE}
+use Rattle.limits.specs.declared.run.TheConstants.{CAPTURE_BYTES, CLOSURE_HEAD_BYTES}
+use Rattle.word32.specs.declared.map.TheConstants.{ARENA_WORDS, CLOSURE_BYTES, FUNCTION_ROWS}
 
 -- the member of a row with a number, counted from 1
 abbrev pub numbered : {A : Type 0} → ℕ → List A → Option A
@@ -60,14 +63,14 @@ locals_of syntax = count_locals (keys_of syntax)
 
 -- a closure with so many captures
 abbrev pub closure_bytes : ℕ → ℕ
-closure_bytes captures = 16 + 4 * captures
+closure_bytes captures = CLOSURE_HEAD_BYTES + CAPTURE_BYTES * captures
 
 abbrev pub closure_trap : (captures : ℕ) → Shared → Option TrapKind
-closure_trap captures shared = if nat_le (shared.closures + closure_bytes captures) 4194304 then None else Some SpecLimit
+closure_trap captures shared = if nat_le (shared.closures + closure_bytes captures) CLOSURE_BYTES then None else Some SpecLimit
 
 -- the size of a new specification
 abbrev pub size_trap : (size : ℕ) → Option TrapKind
-size_trap size = if nat_le size 16384 then None else Some SizeLimit
+size_trap size = if nat_le size SIZE_LIMIT then None else Some SizeLimit
 
 -- the index of a new parameter, unsigned
 abbrev pub index_trap : (index : ℕ) → Option TrapKind
@@ -87,14 +90,14 @@ specified specification captures shared = record shared {
 
 -- a function of this size is charged so many words of the arena
 abbrev pub arena_words : ℕ → ℕ
-arena_words size = 192 * size + 64
+arena_words size = WORDS_OF_A_NODE * size + WORDS_OF_A_BODY
 
 -- a function more, of a number: the table has rows for numbers below 65,536
 abbrev pub table_trap : (function : ℕ) → Option TrapKind
-table_trap function = if nat_lt function 65536 then None else Some TableLimit
+table_trap function = if nat_lt function FUNCTION_ROWS then None else Some TableLimit
 
 abbrev pub arena_trap : (size : ℕ) → Shared → Option TrapKind
-arena_trap size shared = if nat_le (shared.arena + arena_words size) 8388608 then None else Some ArenaLimit
+arena_trap size shared = if nat_le (shared.arena + arena_words size) ARENA_WORDS then None else Some ArenaLimit
 
 -- the number of the next function, behind so many of the text
 abbrev pub next_function : (functions : ℕ) → Shared → ℕ

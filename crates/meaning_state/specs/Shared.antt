@@ -10,6 +10,8 @@ use Rattle.host_edge.specs.declared.ending.TrapKind.{TrapKind}
 use Rattle.host_edge.specs.declared.ending.TrapKind.TheVariants.{Range, Misaligned, StackLimit, FrameLimit}
 use Rattle.history.specs.Syntax.{Syntax}
 use Rattle.history.specs.Events.{Item, Out, In, Input, Next, Given, AtEnd, Failing, next_byte, outs, number_bytes}
+use Rattle.limits.specs.declared.program.TheConstants.{FRAME_OBJECT_BYTES}
+use Rattle.word32.specs.declared.map.TheConstants.{FRAMES, OBJECTS, OBJECTS_END, OBJECT_BYTES, STACK_BYTES}
 
 -- A specification: of an expression, of a statement, a variable of generated code, or its parameter of an index.
 pub data Specification : Type 0 where
@@ -68,7 +70,7 @@ get_byte shared = read (next_byte shared.input) shared
 -- the trap of an access: an address that is no object's, and then one that isn't aligned
 abbrev pub access_trap : ℕ → Width → Option TrapKind
 access_trap at width =
-    if nat_eq (at / 16777216) 16 then (if is_aligned at width then None else Some Misaligned) else Some Range
+    if nat_eq (at / OBJECT_BYTES) (OBJECTS / OBJECT_BYTES) then (if is_aligned at width then None else Some Misaligned) else Some Range
 
 abbrev pub loaded : ℕ → Width → Shared → ℕ
 loaded at width shared = space.load shared.objects at width
@@ -79,7 +81,7 @@ stored at width v shared = record shared { objects = space.store at width v shar
 -- so many words from an address on are objects, and the address is that of a word
 abbrev pub are_objects : ℕ → ℕ → Bool
 are_objects at words =
-    if nat_le 268435456 at then (if nat_le (at + 4 * words) 285212672 then nat_eq (at % 4) 0 else false) else false
+    if nat_le OBJECTS at then (if nat_le (at + 4 * words) OBJECTS_END then nat_eq (at % 4) 0 else false) else false
 
 -- so many words from an address on are set to 0
 abbrev pub zeroed : ℕ → ℕ → Shared → Shared
@@ -89,13 +91,13 @@ zeroed at words shared = record shared {
 
 -- where the frame objects of the newest call begin, which have so many bytes
 abbrev pub frame_start : ℕ → Shared → ℕ
-frame_start object shared = 281018368 + (shared.frames - object)
+frame_start object shared = FRAMES + (shared.frames - object)
 
 -- a call is charged this, with so many bytes of frame objects; the limits in this order
 abbrev pub limit_trap : ℕ → ℕ → Shared → Option TrapKind
 limit_trap charge object shared =
-    if nat_le (shared.used + charge) 16777216
-    then (if nat_le (shared.frames + object) 4194304 then None else Some FrameLimit) else Some StackLimit
+    if nat_le (shared.used + charge) STACK_BYTES
+    then (if nat_le (shared.frames + object) FRAME_OBJECT_BYTES then None else Some FrameLimit) else Some StackLimit
 
 abbrev pub charged : ℕ → ℕ → Shared → Shared
 charged charge object shared = record shared { used = shared.used + charge; frames = shared.frames + object }
@@ -107,7 +109,7 @@ discharged charge object shared = record shared { used = shared.used - charge; f
 -- malloc answers 0 where the rest of the heap is smaller than its argument, and else the next place of the heap, which moves
 -- on in multiples of 8
 abbrev pub is_room : ℕ → Shared → Bool
-is_room bytes shared = nat_le bytes (281018368 - shared.heap)
+is_room bytes shared = nat_le bytes (FRAMES - shared.heap)
 
 abbrev pub malloc_answer : ℕ → Shared → ℕ
 malloc_answer bytes shared = if is_room bytes shared then shared.heap else 0

@@ -16,6 +16,7 @@ use Rattle.mips_text.specs.Positions.{Placed, placed, start, words}
 use Rattle.mips_text.specs.Labels.{labels}
 use Rattle.mips_text.specs.Instructions.{Read}
 use Rattle.mips_text.specs.Values.{Known, known_by, given}
+use Rattle.word32.specs.declared.map.TheConstants.{START}
 
 -- ---- the image of what all lines give
 
@@ -26,7 +27,7 @@ entry (i ∷ is) = option_or (entry_of i) (entry is)
 
 abbrev pub image : List Item → ImageParts
 image is =
-    image_of (unwrap_or (entry is) 0x00400000) (flat_map words_of is) (flat_map data_of is) (flat_map functions_of is)
+    image_of (unwrap_or (entry is) START) (flat_map words_of is) (flat_map data_of is) (flat_map functions_of is)
 
 -- ---- the first fault, or what all lines give
 

@@ -6,6 +6,7 @@ use Rattle.asm_words.specs.Data.{bytes_of}
 use Rattle.mips_text.specs.declared.position.Position.{Position}
 use Rattle.mips_text.specs.declared.item.Item.{Item}
 use Rattle.mips_text.specs.declared.item.Item.TheVariants as item
+use Rattle.limits.specs.declared.program.TheConstants.{MOST_FUNCTIONS}
 
 abbrev pub entry_of : Item → Option ℕ
 entry_of (item.Entry a) = Some a
@@ -31,7 +32,7 @@ digits_in i = 0
 -- An entry and a function stand at words of the text, and few functions stand before a function.
 abbrev pub IsGood : ℕ → Position → Item → Type 0
 IsGood words p (item.Entry a) = IsTrue (is_in_text words a)
-IsGood words p (item.Function f) = IsTrue (is_function_in words f) × (p.functions < 65535)
+IsGood words p (item.Function f) = IsTrue (is_function_in words f) × (p.functions < MOST_FUNCTIONS)
 IsGood words p i = Unit {0}
 
 -- Positions count the words and the functions that lines give.

@@ -8,6 +8,7 @@ use Rattle.asm_lines.specs.declared.line.Line.{Line}
 use Rattle.mips_text.specs.LabelPlace.{LabelPlace}
 use Rattle.mips_text.specs.declared.position.Position.{Position}
 use Rattle.mips_text.specs.Positions.{Placed}
+use Rattle.word32.specs.declared.map.TheConstants.{TEXT}
 
 -- Labels with their names, in an order.
 abbrev pub Names : Type 0
@@ -36,4 +37,4 @@ find (e ∷ es) name = if bytes_eq name e.0 then Some e.1 else find es name
 
 -- The address of a label.
 abbrev pub address : LabelPlace → ℕ
-address l = 4194304 + 4 * l.words
+address l = TEXT + 4 * l.words

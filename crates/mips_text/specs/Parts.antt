@@ -10,6 +10,9 @@ use Rattle.mips_text.specs.declared.fault.AsmDeny.{AsmDeny}
 use Rattle.mips_text.specs.declared.fault.AsmDeny.TheVariants.{Refused, NoMemory}
 use Rattle.mips_text.specs.declared.item.Item.{Item}
 use Rattle.mips_text.specs.Items.{entry_of, words_of, data_of, functions_of}
+use Rattle.limits.specs.declared.program.TheConstants.{MOST_FUNCTIONS}
+use Rattle.limits.specs.declared.text.TheConstants.{LONGEST_TEXT}
+use Rattle.word32.specs.declared.map.TheConstants.{START}
 
 pub record Gathered : Type 0 where
   pub entry : Option ℕ
@@ -58,9 +61,9 @@ IsEntry words (Some a) = IsTrue (is_in_text words a)
 pub record AreSound (words : ℕ) (g : Gathered) : Type 0 where
   pub entry : IsEntry words g.entry
   pub text : length g.text ≡ words
-  pub bytes : length g.bytes ≤ 1048576
+  pub bytes : length g.bytes ≤ LONGEST_TEXT
   pub functions : IsTrue (list_all (is_function_in words) g.functions)
-  pub few : length g.functions ≤ 65535
+  pub few : length g.functions ≤ MOST_FUNCTIONS
 
 abbrev pub image_in : Gathered → ImageParts
-image_in g = image_of (unwrap_or g.entry 0x00400000) g.text g.bytes g.functions
+image_in g = image_of (unwrap_or g.entry START) g.text g.bytes g.functions

@@ -1,6 +1,6 @@
 -- What a line gives to the image, or its fault. Every number has to fit its field, and an entry and a function have to
 -- stand at words of the text. On one line the fault with the lower number counts. The rules are this project's own.
-use Rattle.std.specs.Prelude.{ℕ, Bool, true, ◌==◌, nat_lt, if◌then◌else◌, List, Option, Some, None, Ok, Err}
+use Rattle.std.specs.Prelude.{ℕ, ◌+◌, Bool, true, ◌==◌, nat_lt, if◌then◌else◌, List, Option, Some, None, Ok, Err}
 use Rattle.image_file.specs.Image.{is_in_text}
 use Rattle.mips_encoder.specs.Table.{word_of}
 use Rattle.asm_words.specs.declared.number.Number.{Number}
@@ -16,6 +16,7 @@ use Rattle.mips_text.specs.declared.item.Item.{Item}
 use Rattle.mips_text.specs.declared.item.Item.TheVariants as item
 use Rattle.mips_text.specs.Labels.{Names, find}
 use Rattle.mips_text.specs.Instructions.{Find, Read, ◌>>=◌, pure, fitting, below, address_of, instruction_of}
+use Rattle.limits.specs.declared.program.TheConstants.{MOST_ARGUMENTS, MOST_FUNCTIONS}
 
 -- The labels of a text, and how many words it has.
 pub record Known : Type 0 where
@@ -33,7 +34,7 @@ text_address k t = do
 
 -- The count of a function's arguments, at most 8; there are at most 65,535 functions.
 abbrev pub argument_count : Position → Number → Read ℕ
-argument_count p n = if nat_lt p.functions 65535 then below 9 n else Err BadNumber
+argument_count p n = if nat_lt p.functions MOST_FUNCTIONS then below (MOST_ARGUMENTS + 1) n else Err BadNumber
 
 -- What a statement gives.
 abbrev pub item_of : Known → Position → Statement → Read Item

@@ -6,6 +6,7 @@ ghost use Rattle.mips_text.specs.Assembly as spec;
 ghost use Rattle.mips_text.specs.Parts as parts;
 ghost use Rattle.mips_text.specs.Positions.{words};
 ghost use Rattle.mips_text.specs.Values.{known_by};
+ghost use Rattle.limits.specs.declared.text.TheConstants.{LONGEST_TEXT};
 
 use crate::cut::first_line;
 use crate::fault::{AsmDeny, AsmFault, AsmFaultKind};
@@ -59,7 +60,7 @@ impl Parts {
 
 // What all lines of a text give, or the first fault of a line.
 fn gather(alloc: Global, text: &[u8], survey: &Survey) -> Result<Parts, AsmDeny>
-    requires small { length text.now ≤ 1048576 }
+    requires small { length text.now ≤ LONGEST_TEXT }
     requires words { survey.now.words ≡ words (spec.placed_lines text.now) }
     ensures gives { parts.Gives (parts.gathered parts.none (spec.collected (known_by survey.now.labels survey.now.words) (spec.placed_lines text.now))) result }
     ensures sound { IfOk result (λ p. parts.AreSound survey.now.words (parts.parts_of p)) }
@@ -94,7 +95,7 @@ fn image_of(
     functions: Vec<FunctionEntry>,
 ) -> Image
     requires some { 0 < length text.items }
-    requires small { length text.items ≤ 1048576 }
+    requires small { length text.items ≤ LONGEST_TEXT }
     requires sound { parts.AreSound (length text.items) (parts.gathered_of entry text.items bytes.items functions.items) }
     ensures { result ≡ parts.image_in (parts.gathered_of entry text.items bytes.items functions.items) }
 {
@@ -110,7 +111,7 @@ fn image_of(
 /// `NoMemory` where memory was not found.
 #[tactic(auto, unfolding(crate::specs::Assembly::assembled))]
 pub fn assemble(alloc: Global, text: &[u8]) -> Result<Image, AsmDeny>
-    requires { length text.now ≤ 1048576 }
+    requires { length text.now ≤ LONGEST_TEXT }
     ensures { spec.Answers (spec.assembled text.now) result }
 {
     let survey = surveyed(alloc, text)?;

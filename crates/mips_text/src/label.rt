@@ -2,6 +2,7 @@
 
 ghost use Rattle.std.specs.Prelude.{◌≡◌, ◌≤◌, ◌*◌, ◌+◌, ◌++◌, ◌∷◌, [], OnOk};
 ghost use Rattle.mips_text.specs.Labels as spec;
+ghost use Rattle.limits.specs.declared.text.TheConstants.{LONGEST_TEXT};
 
 use crate::position::Position;
 use asm_lines::{Line, Word};
@@ -25,7 +26,7 @@ impl Model for Label {
 
     ghost view = { λ l. record { line = l.line; words = l.words } };
 
-    ghost invariant = { λ l. l.words ≤ 1048576 };
+    ghost invariant = { λ l. l.words ≤ LONGEST_TEXT };
 
     ghost inverse = { λ v. record { line = v.line; words = v.words } };
 }
@@ -33,7 +34,7 @@ impl Model for Label {
 impl Label {
     /// The label of a line.
     pub fn at(position: Position) -> Label
-        requires { position.words ≤ 1048576 }
+        requires { position.words ≤ LONGEST_TEXT }
         ensures { result ≡ spec.label_at position }
     {
         Label {
@@ -52,7 +53,7 @@ impl Label {
     /// How many words stand before it.
     pub fn words(self) -> u32
         ensures value { result ≡ self.words }
-        ensures small { result ≤ 1048576 }
+        ensures small { result ≤ LONGEST_TEXT }
     {
         self.words
     }
@@ -113,7 +114,7 @@ impl Labels {
 
     /// Adds the label of a line at a position, unless its name is there.
     pub fn note_line(&mut self, at: Position, line: &Option<Line<'_>>) -> Result<(), AllocError>
-        requires { at.words ≤ 1048576 }
+        requires { at.words ≤ LONGEST_TEXT }
         ensures { OnOk result (spec.find self.new ≡ spec.find (self.old ++ spec.label_in at line.now)) }
     {
         let Some(line) = line else {

@@ -2,6 +2,7 @@
 
 ghost use Rattle.std.specs.Prelude.{◌≡◌, ◌≤◌};
 ghost use Rattle.mips_text.specs.Positions as spec;
+ghost use Rattle.limits.specs.declared.text.TheConstants.{LONGEST_TEXT};
 
 use asm_lines::{Line, Statement};
 
@@ -63,9 +64,9 @@ impl Position {
 
     // The position behind a statement.
     fn behind_statement(self, statement: &Statement<'_>) -> Position
-        requires line { self.line ≤ 1048576 }
-        requires words { self.words ≤ 1048576 }
-        requires functions { self.functions ≤ 1048576 }
+        requires line { self.line ≤ LONGEST_TEXT }
+        requires words { self.words ≤ LONGEST_TEXT }
+        requires functions { self.functions ≤ LONGEST_TEXT }
         ensures { result ≡ spec.behind_by self statement.now }
     {
         Position {
@@ -86,9 +87,9 @@ impl Position {
 
     /// The position behind a line.
     pub fn behind(self, line: &Option<Line<'_>>) -> Position
-        requires line { self.line ≤ 1048576 }
-        requires words { self.words ≤ 1048576 }
-        requires functions { self.functions ≤ 1048576 }
+        requires line { self.line ≤ LONGEST_TEXT }
+        requires words { self.words ≤ LONGEST_TEXT }
+        requires functions { self.functions ≤ LONGEST_TEXT }
         ensures { result ≡ spec.behind self line.now }
     {
         match line {

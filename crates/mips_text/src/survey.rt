@@ -3,6 +3,7 @@
 ghost use Rattle.std.specs.Prelude.{◌≡◌, ◌≤◌, length, IfOk};
 ghost use Rattle.mips_text.specs.Assembly as spec;
 ghost use Rattle.mips_text.specs.Values.{known_by};
+ghost use Rattle.limits.specs.declared.text.TheConstants.{LONGEST_TEXT};
 
 use crate::cut::first_line;
 use crate::label::Labels;
@@ -17,7 +18,7 @@ pub struct Survey {
     pub labels: Labels,
     /// How many words the text has.
     pub words: u32,
-    ghost small: { words ≤ 1048576 },
+    ghost small: { words ≤ LONGEST_TEXT },
 }
 
 /// The labels and the words of a text.
@@ -25,7 +26,7 @@ pub struct Survey {
 /// # Errors
 /// Memory was not found.
 pub fn surveyed(alloc: Global, text: &[u8]) -> Result<Survey, AllocError>
-    requires { length text.now ≤ 1048576 }
+    requires { length text.now ≤ LONGEST_TEXT }
     ensures { IfOk result (λ s. known_by s.labels s.words ≡ spec.known (spec.placed_lines text.now)) }
 {
     let mut labels = Labels::new(alloc);

@@ -8,6 +8,7 @@ ghost use Rattle.mips_text.specs.Instructions as instructions;
 ghost use Rattle.mips_text.specs.Positions.{behind, behind_by};
 ghost use Rattle.mips_text.specs.Items as items;
 ghost use Rattle.mips_text.specs.Values as spec;
+ghost use Rattle.limits.specs.declared.text.TheConstants.{LONGEST_TEXT};
 
 use crate::fault::AsmFaultKind;
 use crate::item::Item;
@@ -17,6 +18,7 @@ use crate::survey::Survey;
 use asm_lines::{Draft, Line, Statement, Target, Word};
 use asm_words::Number;
 use image_file::FunctionEntry;
+use limits::program::{MOST_ARGUMENTS, MOST_FUNCTIONS};
 use mips_encoder::{
     BreakCode, Immediate, ImmediateOp, Instr, JumpTarget, LinkPair, LinkSource, Register,
     ShiftAmount, encode,
@@ -87,8 +89,8 @@ fn distance(from: u32, to: u32) -> Number
 // The count of a function's arguments, where few enough functions stand before it.
 fn argument_count(at: Position, number: Number) -> Result<u32, AsmFaultKind>
     ensures value { result ≡ spec.argument_count at number }
-    ensures small { IfOk result (λ n. n ≤ 8) }
-    ensures few { IfOk result (λ n. at.functions < 65535) }
+    ensures small { IfOk result (λ n. n ≤ MOST_ARGUMENTS) }
+    ensures few { IfOk result (λ n. at.functions < MOST_FUNCTIONS) }
 {
     if at.functions < MOST_FUNCTIONS {
         below(MOST_ARGUMENTS + 1, number)
@@ -96,11 +98,6 @@ fn argument_count(at: Position, number: Number) -> Result<u32, AsmFaultKind>
         Err(AsmFaultKind::BadNumber)
     }
 }
-
-/// The most functions of an image.
-const MOST_FUNCTIONS: u32 = 65_535;
-/// The most arguments of a function.
-const MOST_ARGUMENTS: u32 = 8;
 
 impl Survey {
     fn label_of(&self, name: &Word<'_>) -> Result<Label, AsmFaultKind>
@@ -122,7 +119,7 @@ impl Survey {
 
     // The offset for a branch that is the word `at` of the text.
     fn offset_of(&self, at: u32, target: &Target<'_>) -> Result<Immediate, AsmFaultKind>
-        requires { at ≤ 1048576 }
+        requires { at ≤ LONGEST_TEXT }
         ensures { result ≡ instructions.offset_of (find self.now.labels) at target.now }
     {
         match target {
@@ -144,7 +141,7 @@ impl Survey {
     // The instruction that is the word `at` of the text.
     #[tactic(auto, unfolding(crate::specs::Instructions::instruction_of))]
     fn instruction_of(&self, at: u32, draft: Draft<'_>) -> Result<Instr, AsmFaultKind>
-        requires { at ≤ 1048576 }
+        requires { at ≤ LONGEST_TEXT }
         ensures { result ≡ instructions.instruction_of (find self.now.labels) at draft.entry }
     {
         match draft {
@@ -207,7 +204,7 @@ impl Survey {
 
     // What a statement gives.
     fn item_of<'a>(&self, at: Position, statement: Statement<'a>) -> Result<Item<'a>, AsmFaultKind>
-        requires { at.words ≤ 1048576 }
+        requires { at.words ≤ LONGEST_TEXT }
         ensures value { result ≡ spec.item_of (spec.known_by self.now.labels self.now.words) at statement.entry }
         ensures good { IfOk result (items.IsGood self.now.words at) }
         ensures digits { IfOk result (λ i. items.digits_in i ≤ digits_of statement.entry) }
@@ -247,7 +244,7 @@ impl Survey {
     /// What a line at a position gives to the image, or its fault.
     #[tactic(auto, unfolding(crate::specs::Values::given))]
     pub fn given<'a>(&self, at: Position, line: Option<Line<'a>>) -> Result<Item<'a>, AsmFaultKind>
-        requires { at.words ≤ 1048576 }
+        requires { at.words ≤ LONGEST_TEXT }
         ensures value { result ≡ spec.given (spec.known_by self.now.labels self.now.words) at line.entry }
         ensures good { IfOk result (items.IsGood self.now.words at) }
         ensures digits { (n : ℕ) → HasDigits n line.entry → IfOk result (λ i. items.digits_in i ≤ n) }

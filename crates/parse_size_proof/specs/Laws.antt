@@ -8,10 +8,11 @@ use Rattle.parse_spelling.specs.Words.{words}
 use Rattle.tick_parser.specs.Items.{Text}
 use Rattle.tick_parser.specs.Trees.{parsed}
 use Rattle.syntax_size.specs.Weights.{tree_weight}
+use Rattle.limits.specs.declared.text.TheConstants.{MAX_TOKENS}
 
 pub record ParsedTreesAreSmall : Type 0 where
   -- as the contract of `parse` says it
   pub spelled : (tokens : List Item) (t : Tree) → words tokens ≡ spells_program t.items [] → tree_weight t ≤ 4 * length tokens + 1
   pub read : (text : Text) (tokens : List Token) (t : Tree) → parsed text tokens ≡ Ok t → tree_weight t ≤ 4 * length tokens + 1
   -- so each text that is read at all has a small tree
-  pub small : (text : Text) (tokens : List Token) (t : Tree) → length tokens ≤ 262144 → parsed text tokens ≡ Ok t → tree_weight t ≤ 1000000000
+  pub small : (text : Text) (tokens : List Token) (t : Tree) → length tokens ≤ MAX_TOKENS → parsed text tokens ≡ Ok t → tree_weight t ≤ 1000000000

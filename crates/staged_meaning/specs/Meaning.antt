@@ -1,7 +1,7 @@
 -- The meaning of a program: a big-step evaluation by cases on typed nodes, with units of work as fuel. Here are calls, of the
 -- functions of the text and of those that were compiled; generated code, in which each spliced body has variables of its
 -- own; and a whole run, with its history and its ending. These are this project's own rules.
-use Rattle.std.specs.Prelude.{ℕ, zero, suc, ◌%◌, nat_lt, if◌then◌else◌, List, [], Option, Some, None, slice_get}
+use Rattle.std.specs.Prelude.{ℕ, zero, suc, ◌/◌, ◌%◌, nat_lt, if◌then◌else◌, List, [], Option, Some, None, slice_get}
 use Rattle.word32.specs.Space.{bytes_from}
 use Rattle.host_edge.specs.declared.ending.Ending.TheVariants.{Done, Trap}
 use Rattle.host_edge.specs.declared.ending.TrapKind.TheVariants.{BadCall}
@@ -17,6 +17,7 @@ use Rattle.staged_meaning.specs.World.{World, Result, Gives, Returns, Ends, Stop
 pub use Rattle.staged_meaning.specs.Program.{Tick, OfExpression, OfStatement, Program, Callee, Static, Generated, callee_at, syntax_size}
 pub use Rattle.staged_meaning.specs.Expressions.{Context, eval, eval_args}
 pub use Rattle.staged_meaning.specs.Statements.{argument, exec, exec_items, then_next, turn_end, turns, round_end, rounds, stepped}
+use Rattle.word32.specs.declared.map.TheConstants.{HEAP, OBJECTS}
 
 -- ---- calls
 
@@ -151,8 +152,8 @@ abbrev pub at_start : Program → Input → Shared
 at_start program input = record {
   history = [];
   input = input;
-  objects = bytes_from 67108864 program.image;
-  heap = 272629760;
+  objects = bytes_from (OBJECTS / 4) program.image;
+  heap = HEAP;
   used = 0;
   frames = 0;
   specifications = [];

@@ -5,6 +5,7 @@ use Rattle.word32.specs.Space.{update}
 use Rattle.typed_tree.specs.Nodes.{Expr, Const, Var, SetVar, PostVar, VSet, Load, Store, Modify, Post, Bin, Un, And, Or, Cond, Comma, Void, Call, CallNumber, Lib, Tick, Capture, Compile, ParamOf, Args, NoArg, Arg, Stmt, Eval, Block, Variable, Parameter, If, IfElse, While, Do, For, ForStep, Switch, ReturnValue, Items, NoItem, Item, Function}
 use Rattle.typed_tree.specs.declared.expression.Library.TheVariants.{Putchar}
 use Rattle.staged_meaning.specs.Size.{size_of, variables_in}
+use Rattle.limits.specs.declared.program.TheConstants.{SIZE_LIMIT}
 
 -- true at the variables that are in scope
 abbrev pub Scope : Type 0
@@ -103,5 +104,5 @@ abbrev mutual
 pub record IsReady (function : Function) : Type 0 where
   pub built : IsBuiltStmt function.body
   pub scoped : IsScopedStmt no_scope function.body
-  pub small : size_of function ≤ 16384
+  pub small : size_of function ≤ SIZE_LIMIT
   pub dense : variables_in function.body ≤ size_of function

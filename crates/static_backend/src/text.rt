@@ -8,20 +8,11 @@ ghost use Rattle.static_image.specs.Layout.{front};
 
 use icode_expand::{expand, words_are_few};
 use icode_ops::Op;
+use limits::ops::{FRAME_WORDS, OP_LIMIT, OP_WORDS};
+use limits::program::FRONT_WORDS;
 use static_image::write_front;
 use std::alloc::{AllocError, Global};
 use word32::map::FUNCTIONS;
-
-// The words in front of the functions.
-const FRONT: usize = 1024;
-
-// The most words of an op, and of a prologue with its epilogue.
-const OP_WORDS: usize = 16;
-
-const FRAME_WORDS: usize = 64;
-
-// The most labels of a list of ops.
-const MOST_LABELS: usize = 196_608;
 
 // So many zeros.
 fn zeros(alloc: Global, count: usize) -> Result<Vec<u32>, AllocError>
@@ -35,7 +26,7 @@ fn zeros(alloc: Global, count: usize) -> Result<Vec<u32>, AllocError>
 fn front_words(alloc: Global) -> Result<Vec<u32>, AllocError>
     ensures { IfOk result (λ made. made.items ≡ front FIRST 1) }
 {
-    let mut made = zeros(alloc, FRONT)?;
+    let mut made = zeros(alloc, FRONT_WORDS)?;
     write_front(&mut made, FUNCTIONS, 1);
     Ok(made)
 }
@@ -53,7 +44,7 @@ fn main_words(
     requires object { object ≤ 16777216 }
     ensures { IfOk result (λ made. made.items ≡ expanded ops.now places.now FIRST frame object false) }
 {
-    let mut labels = zeros(alloc, MOST_LABELS)?;
+    let mut labels = zeros(alloc, OP_LIMIT)?;
     let mut words = zeros(alloc, OP_WORDS * ops.len() + FRAME_WORDS)?;
     words_are_few();
     match expand(

@@ -16,6 +16,7 @@ use Rattle.staged_meaning.specs.Size.{size_of, charge_of}
 use Rattle.staged_meaning.specs.Meaning.{Program}
 use Rattle.tick_lower_proof.specs.Lower.{Addresses}
 use Rattle.tick_lower_proof.specs.Laws.{code_of, registers_of}
+use Rattle.limits.specs.declared.program.TheConstants.{FRONT_WORDS}
 
 -- a word to a register whose lower half is 0
 abbrev pub upper : ℕ → ℕ → Instr
@@ -52,7 +53,7 @@ abbrev pub block_words : ℕ
 block_words = 64
 
 abbrev pub front_words : ℕ
-front_words = 1024
+front_words = FRONT_WORDS
 
 abbrev pub front : (main functions : ℕ) → List ℕ
 front main functions = filled front_words (words (start_code main functions))

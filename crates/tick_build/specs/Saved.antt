@@ -6,10 +6,11 @@ use Rattle.image_file.specs.Format.{spelling, parsed}
 use Rattle.staged_meaning.specs.Meaning.{Program}
 use Rattle.static_image.specs.Headline.{Headline}
 use Rattle.tick_build.specs.Texts.{Builds, Lowered}
+use Rattle.limits.specs.declared.text.TheConstants.{LONGEST_IMAGE}
 
 -- the most bytes of an image file
 abbrev pub most_file_bytes : ℕ
-most_file_bytes = 83886080
+most_file_bytes = LONGEST_IMAGE
 
 -- the bytes of an image's file: its one spelling, which is read back as the image
 pub record IsFileOf (image : ImageParts) (bytes : List ℕ) : Type 0 where

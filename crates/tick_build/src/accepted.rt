@@ -4,6 +4,7 @@ ghost use Rattle.tick_tree.specs.Faults.{Checks};
 ghost use Rattle.built_programs.specs.Built.{built};
 ghost use Rattle.tick_build.specs.Texts as spec;
 ghost use Rattle.tick_build.specs.Texts.{Builds};
+ghost use Rattle.limits.specs.declared.text.TheConstants.{LONGEST_TEXT};
 
 use built_programs::{built_is_static, function_of};
 use c_lexer::tokens;
@@ -29,7 +30,7 @@ fn unbuilt() -> Fault
 // The typed tree of a text.
 #[tactic(auto, unfolding(crate::specs::Texts::typed_tree))]
 fn from_text(alloc: Global, text: &[u8]) -> Result<Typed, Deny>
-    requires { length text.now ≤ 1048576 }
+    requires { length text.now ≤ LONGEST_TEXT }
     ensures { Checks result (spec.typed_tree text.now) }
 {
     let found = tokens(alloc, text)?;
@@ -57,7 +58,7 @@ fn from_program(alloc: Global, program: &Typed) -> Result<Image, Deny>
 /// machine does on every input what the text means, at the pace, and ends only so.
 #[tactic(auto, using(crate::proofs::Mains::builds, crate::proofs::Mains::refuses))]
 pub fn build(alloc: Global, text: &[u8]) -> Result<Image, Deny>
-    requires { length text.now ≤ 1048576 }
+    requires { length text.now ≤ LONGEST_TEXT }
     ensures built { IfOk result (λ image. Builds text.now image) }
     ensures refused { spec.Refuses (spec.typed text.now) result }
 {

@@ -4,6 +4,7 @@ ghost use Rattle.image_file.specs.Image.{IsImage};
 ghost use Rattle.tick_build.specs.Texts as spec;
 ghost use Rattle.tick_build.specs.Texts.{Builds};
 ghost use Rattle.tick_build.specs.Saved.{IsFileOf, Saves, SavesHeadline, ReadsHeadline, LowersOne, SavesOne, SavesBuilt};
+ghost use Rattle.limits.specs.declared.text.TheConstants.{LONGEST_TEXT};
 
 use crate::accepted::build;
 use image_file::write;
@@ -16,7 +17,7 @@ use tick_tree::Deny;
 /// # Errors
 /// `Refused` exactly for the text's first static fault, and `NoMemory` where memory was not found.
 pub fn build_file(alloc: Global, text: &[u8]) -> Result<Vec<u8>, Deny>
-    requires { length text.now ≤ 1048576 }
+    requires { length text.now ≤ LONGEST_TEXT }
     ensures saved { IfOk result (λ bytes. Saves text.now bytes.items) }
     ensures refused { spec.Refuses (spec.typed text.now) result }
 {

@@ -17,6 +17,7 @@ use Rattle.staged_meaning.specs.Meaning.{at_start, meant}
 use Rattle.icode_meaning.specs.State.{Function, Program, State, see, least_at, most_at}
 use Rattle.icode_meaning.specs.Steps.{advance, first}
 use Rattle.tick_lower_proof.specs.Lower.{Addresses, function_ops}
+use Rattle.limits.specs.declared.cost.TheConstants.{START_OPS_INSTRUCTIONS, UNIT_INSTRUCTIONS}
 
 -- the ops of a function: what a builder hands out that took its lowering and was finished
 abbrev pub code_of : Addresses → node.Function → List Op
@@ -60,5 +61,5 @@ abbrev pub LoweringFollows : Type 0
 LoweringFollows =
     (machine : Program) (addresses : Addresses) (program : meaning.Program) (input : Input) (main : Function) →
     IsReady program.main → Stands addresses program.main main →
-    FollowsAtCost 512 4000 (meant program input) (λ i. see (state_at machine program input main i))
+    FollowsAtCost UNIT_INSTRUCTIONS START_OPS_INSTRUCTIONS (meant program input) (λ i. see (state_at machine program input main i))
     (λ i. least_at (state_at machine program input main i)) (λ i. most_at (state_at machine program input main i))

@@ -16,10 +16,11 @@ use Rattle.parse_grammar.specs.declared.stop.Stop.TheVariants.{NoMemory, Syntax,
 use Rattle.parse_grammar.specs.Input.{Outcome}
 use Rattle.parse_grammar.specs.Statements.{room_of, program}
 use Rattle.tick_parser.specs.Items.{Text, items_of}
+use Rattle.limits.specs.declared.text.TheConstants.{MAX_NESTING}
 
 -- the greatest nesting
 abbrev pub max_nesting : ℕ
-max_nesting = 200
+max_nesting = MAX_NESTING
 
 -- the line behind the last byte of a text
 abbrev pub last_line : Text → ℕ

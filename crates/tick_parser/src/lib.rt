@@ -5,4 +5,4 @@ mod items;
 mod knot;
 mod trees;
 
-pub use trees::{MAX_NESTING, parse};
+pub use trees::parse;

@@ -7,21 +7,20 @@ ghost use Rattle.parse_spelling.specs.Words.{words};
 ghost use Rattle.parse_spelling.specs.Spelling.{spells_program};
 ghost use Rattle.tick_parser.specs.Items.{items_of};
 ghost use Rattle.tick_parser.specs.Trees as spec;
+ghost use Rattle.limits.specs.declared.text.TheConstants.{LONGEST_TEXT, MAX_TOKENS};
 
 use crate::items::items_of;
 use crate::knot::{read, read_declarator, read_stmt};
+use limits::text::MAX_NESTING;
 use parse_grammar::{Grammar, Item, Stop, Tokens};
 use parse_statements::Statements;
 use sqlite_items::Items;
 use std::alloc::Global;
 use tick_tree::{Deny, External, Fault, FaultKind, Token, Tree};
 
-/// The greatest nesting: of open brackets, statements that are no items of a block, and operators.
-pub const MAX_NESTING: usize = 200;
-
 // The line behind the last byte.
 fn last_line(text: &[u8]) -> u32
-    requires { length text.now ≤ 1048576 }
+    requires { length text.now ≤ LONGEST_TEXT }
     ensures { result ≡ spec.last_line text.now }
 {
     1 + text.iter().filter(|b| **b == b'\n').count() as u32
@@ -29,7 +28,7 @@ fn last_line(text: &[u8]) -> u32
 
 // The line of the first token, or of the end of the text.
 fn first_line(text: &[u8], tokens: &[Token]) -> u32
-    requires { length text.now ≤ 1048576 }
+    requires { length text.now ≤ LONGEST_TEXT }
     ensures { result ≡ spec.first_line text.now tokens.now }
 {
     match tokens {
@@ -40,8 +39,8 @@ fn first_line(text: &[u8], tokens: &[Token]) -> u32
 
 // The fault at the token from which so many tokens are left.
 fn fault_at(text: &[u8], tokens: &[Token], kind: FaultKind, left: usize) -> Fault
-    requires small { length text.now ≤ 1048576 }
-    requires few { length tokens.now ≤ 262144 }
+    requires small { length text.now ≤ LONGEST_TEXT }
+    requires few { length tokens.now ≤ MAX_TOKENS }
     ensures { result ≡ spec.fault_at text.now tokens.now kind left }
 {
     let at = tokens.len().saturating_sub(left);
@@ -53,8 +52,8 @@ fn fault_at(text: &[u8], tokens: &[Token], kind: FaultKind, left: usize) -> Faul
 }
 
 fn denial(text: &[u8], tokens: &[Token], stop: Stop) -> Deny
-    requires small { length text.now ≤ 1048576 }
-    requires few { length tokens.now ≤ 262144 }
+    requires small { length text.now ≤ LONGEST_TEXT }
+    requires few { length tokens.now ≤ MAX_TOKENS }
     ensures { spec.Denies text.now tokens.now stop result }
 {
     match stop {
@@ -89,8 +88,8 @@ fn program<'a>(alloc: Global, items: &'a [Item<'a>]) -> Result<Items<External>, 
 /// it, else TooDeep where the nesting at it is over [`MAX_NESTING`].
 #[tactic(auto, unfolding(crate::specs::Trees::parsed))]
 pub fn parse(alloc: Global, text: &[u8], tokens: &[Token]) -> Result<Tree, Deny>
-    requires small { length text.now ≤ 1048576 }
-    requires few { length tokens.now ≤ 262144 }
+    requires small { length text.now ≤ LONGEST_TEXT }
+    requires few { length tokens.now ≤ MAX_TOKENS }
     ensures exact { Answers (λ tree. tree) result (spec.parsed text.now tokens.now) }
     ensures spells { IfOk result (λ tree. words (items_of text.now tokens.now) ≡ spells_program tree.items []) }
 {

@@ -21,13 +21,14 @@ use Rattle.tick_top.specs.declared.ended.Front.{Front}
 use Rattle.tick_top.specs.declared.ended.Front.TheVariants.{Found, Instead}
 use Rattle.tick_top.specs.declared.load.Loaded.{Loaded}
 use Rattle.tick_top.specs.declared.load.Loaded.TheVariants.{Whole, TooLongFile, FailedFile}
+use Rattle.limits.specs.declared.text.TheConstants.{LONGEST_IMAGE, LONGEST_TEXT}
 
 -- the most bytes of a text, and of an image
 abbrev pub longest_text : ℕ
-longest_text = 1048576
+longest_text = LONGEST_TEXT
 
 abbrev pub longest_image : ℕ
-longest_image = 83886080
+longest_image = LONGEST_IMAGE
 
 -- what came of a told or an untold file that may have so many bytes
 abbrev pub IsLoaded : Option (Option (List ℕ)) → (longest : ℕ) → Loaded → Type 0

@@ -6,17 +6,12 @@ ghost use Rattle.tick_top.specs.Answers.{IsLoaded, LoadCause, IsFront, FrontCaus
 use crate::ended::Front;
 use host_edge::{LoadFault, Store};
 use image_file::{ImageDeny, read};
+use limits::text::{LONGEST_IMAGE, LONGEST_TEXT};
 use mips_text::{AsmDeny, assemble};
 use std::alloc::{AllocError, Global};
 use tick_build::build;
 use tick_outcome::Outcome;
 use tick_tree::Deny;
-
-/// The most bytes of a text.
-const LONGEST_TEXT: usize = 1_048_576;
-
-/// The most bytes of an image.
-const LONGEST_IMAGE: usize = 83_886_080;
 
 /// What a load of a whole file gives.
 #[derive(Drop)]
@@ -62,7 +57,7 @@ pub fn image_of_text<S: Store>(
     store: &mut S,
     file: &str,
 ) -> Result<Front, AllocError>
-    ensures front { IfOk result (IsFront (S.file store.old file.now) 1048576 IsBuilt IsRefused) }
+    ensures front { IfOk result (IsFront (S.file store.old file.now) LONGEST_TEXT IsBuilt IsRefused) }
     ensures same { SameFiles (S.file store.old) (S.file store.new) }
     ensures cause { IfOk result (FrontCause (S.faults store.old) (S.faults store.new)) }
 {
@@ -83,7 +78,7 @@ pub fn image_of_assembly<S: Store>(
     store: &mut S,
     file: &str,
 ) -> Result<Front, AllocError>
-    ensures front { IfOk result (IsFront (S.file store.old file.now) 1048576 IsAssembled IsAsmRefused) }
+    ensures front { IfOk result (IsFront (S.file store.old file.now) LONGEST_TEXT IsAssembled IsAsmRefused) }
     ensures same { SameFiles (S.file store.old) (S.file store.new) }
     ensures cause { IfOk result (FrontCause (S.faults store.old) (S.faults store.new)) }
 {
@@ -104,7 +99,7 @@ pub fn image_of_file<S: Store>(
     store: &mut S,
     file: &str,
 ) -> Result<Front, AllocError>
-    ensures front { IfOk result (IsFront (S.file store.old file.now) 83886080 IsRead IsNoImage) }
+    ensures front { IfOk result (IsFront (S.file store.old file.now) LONGEST_IMAGE IsRead IsNoImage) }
     ensures same { SameFiles (S.file store.old) (S.file store.new) }
     ensures cause { IfOk result (FrontCause (S.faults store.old) (S.faults store.new)) }
 {

@@ -5,18 +5,17 @@
 
 use host_edge::MemSink;
 use image_file::{Image, write};
+use limits::text::LONGEST_TEXT;
 use mips_text::{AsmDeny, assemble, disassemble};
 use std::io::{self, Read};
 use trial_cases::cases;
 
-// The most bytes that a text may have.
-const MAX_BYTES: usize = 1_048_576;
 // The most words of an image that is printed.
 const MAX_WORDS: usize = 100;
 
 // Whether a text is assembled to the image with this file.
 fn is_text_of<R: AllocGlobal>(rt: &R, text: &[u8], file: &[u8]) -> io::Result<bool> {
-    if MAX_BYTES < text.len() {
+    if LONGEST_TEXT < text.len() {
         return Ok(false);
     }
     match assemble(rt.alloc(), text) {
@@ -34,7 +33,7 @@ fn print_words<R: Print + AllocGlobal>(rt: &R, words: &[u32]) -> io::Result<()> 
 
 // An image in full, or of a large one whether its text is assembled to it.
 fn print_image<R: Print + AllocGlobal>(rt: &R, image: &Image) -> io::Result<()> {
-    let mut sink = MemSink::new(rt.alloc(), 4 * MAX_BYTES, &[])?;
+    let mut sink = MemSink::new(rt.alloc(), 4 * LONGEST_TEXT, &[])?;
     if disassemble(image, &mut sink).is_err() {
         return println!(rt; " no text");
     }
@@ -46,7 +45,7 @@ fn print_image<R: Print + AllocGlobal>(rt: &R, image: &Image) -> io::Result<()> 
         print_words(rt, image.text())?;
         print!(rt; "{}", str::from_utf8(sink.taken()).unwrap_or("?"))?;
     }
-    if MAX_BYTES < sink.taken().len() {
+    if LONGEST_TEXT < sink.taken().len() {
         println!(rt; "too long to read")
     } else if is_text_of(rt, sink.taken(), &file)? {
         println!(rt; "the same again")
@@ -59,8 +58,8 @@ fn print_image<R: Print + AllocGlobal>(rt: &R, image: &Image) -> io::Result<()> 
 fn report<R: Print + AllocGlobal>(rt: &R, title: &[u8], text: &[u8]) -> io::Result<()> {
     let title = str::from_utf8(title).unwrap_or("?");
     print!(rt; "{title}:")?;
-    if MAX_BYTES < text.len() {
-        return println!(rt; " over {MAX_BYTES} bytes");
+    if LONGEST_TEXT < text.len() {
+        return println!(rt; " over {LONGEST_TEXT} bytes");
     }
     match assemble(rt.alloc(), text) {
         Ok(image) => print_image(rt, &image),

@@ -9,6 +9,7 @@
 ghost use Rattle.std.specs.Prelude.{◌≤◌, length};
 
 use c_lexer::tokens;
+use limits::text::LONGEST_TEXT;
 use std::alloc::{AllocError, Global};
 use std::io::{self, Read};
 use tick_checker::check;
@@ -17,11 +18,8 @@ use tick_tree::Deny;
 use trial_cases::{Case, cases};
 use typed_tree::Typed;
 
-// The most bytes that a text may have.
-const MAX_BYTES: usize = 1_048_576;
-
 fn typed(alloc: Global, text: &[u8]) -> Result<Typed, Deny>
-    requires { length text.now ≤ 1048576 }
+    requires { length text.now ≤ LONGEST_TEXT }
 {
     let found = tokens(alloc, text)?;
     let tree = parse(alloc, text, &found)?;
@@ -66,7 +64,7 @@ fn sizes_of(alloc: Global, program: &Typed) -> Result<Sizes, AllocError> {
 
 // The sizes of a text, or its first static fault.
 fn sizes_of_text(alloc: Global, text: &[u8]) -> Result<Sizes, Deny>
-    requires { length text.now ≤ 1048576 }
+    requires { length text.now ≤ LONGEST_TEXT }
 {
     let program = typed(alloc, text)?;
     match sizes_of(alloc, &program) {
@@ -107,8 +105,8 @@ fn report_accepted<R: Print + AllocGlobal>(rt: &R, title: &str, sizes: &Sizes) -
 fn report<R: Print + AllocGlobal>(rt: &R, title: &[u8], text: &[u8]) -> io::Result<()> {
     let title = str::from_utf8(title).unwrap_or("?");
     print!(rt; "{title}:")?;
-    if MAX_BYTES < text.len() {
-        return println!(rt; " over {MAX_BYTES} bytes");
+    if LONGEST_TEXT < text.len() {
+        return println!(rt; " over {LONGEST_TEXT} bytes");
     }
     match sizes_of_text(rt.alloc(), text) {
         Ok(sizes) => report_accepted(rt, title, &sizes),

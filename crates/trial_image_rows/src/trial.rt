@@ -5,6 +5,8 @@ use crate::row::Row;
 use crate::shown::Shown;
 use host_edge::{MemSink, MemSource};
 use image_file::{Image, ImageDeny, read};
+use limits::run::MOST_STEPS;
+use limits::text::LONGEST_IMAGE;
 use mips_machine::Machine;
 
 /// The bytes that a run may put out.
@@ -12,12 +14,6 @@ const ROOM: usize = 16;
 
 /// The bytes that a run may read.
 const INPUT: &[u8] = b"input";
-
-/// The most bytes of an image file.
-const LONGEST: usize = 83_886_080;
-
-/// The most steps of a run.
-const MOST_STEPS: u64 = 1_099_511_627_776;
 
 /// Runs the image, and prints what is seen of it.
 fn run<R: Print + AllocGlobal>(rt: &R, image: &Image, steps: u64) -> anyhow::Result<()> {
@@ -37,7 +33,7 @@ fn run<R: Print + AllocGlobal>(rt: &R, image: &Image, steps: u64) -> anyhow::Res
 
 /// Prints what comes of an image file: the rule that it breaks, or what is seen of its run.
 fn try_file<R: Print + AllocGlobal>(rt: &R, bytes: &[u8], steps: u64) -> anyhow::Result<()> {
-    if bytes.len() > LONGEST {
+    if bytes.len() > LONGEST_IMAGE {
         println!(rt; "too long.")?;
         return Ok(());
     }

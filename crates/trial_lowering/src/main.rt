@@ -12,6 +12,8 @@ use icode_expand::expand;
 use icode_ir::Builder;
 use icode_liveness::Live;
 use icode_ops::{Interval, Op};
+use limits::ops::OP_LIMIT;
+use limits::text::LONGEST_TEXT;
 use static_backend::builder_of;
 use std::alloc::{AllocError, Global};
 use std::io;
@@ -20,20 +22,14 @@ use tick_parser::parse;
 use tick_tree::Deny;
 use typed_tree::Typed;
 
-// The longest program, in bytes.
-const LONGEST: usize = 1_048_576;
-
 // The address of the first word, and the bytes of a frame.
 const FIRST: u32 = 0x0040_1000;
 
 const FRAME: u32 = 128;
 
-// As many labels as a builder gives.
-const LABELS: usize = 196_608;
-
 // The program of a text, where it is accepted.
 fn typed(alloc: Global, text: &[u8]) -> Result<Typed, Deny>
-    requires { length text.now ≤ 1048576 }
+    requires { length text.now ≤ LONGEST_TEXT }
 {
     let found = tokens(alloc, text)?;
     let tree = parse(alloc, text, &found)?;
@@ -66,7 +62,7 @@ fn print_intervals<R: Print + AllocGlobal>(
 fn print_expansion<R: Print + AllocGlobal>(rt: &R, ops: &[Op]) -> io::Result<()>
     requires { (n : ℕ) × IsFinished ops.now n }
 {
-    let mut labels = vec![in rt.alloc(); 0u32; LABELS]?;
+    let mut labels = vec![in rt.alloc(); 0u32; OP_LIMIT]?;
     match expand(ops, &[], FIRST, FRAME, 0, false, &mut labels, &mut []) {
         Ok(count) => println!(rt; " {count} words"),
         Err(short) => println!(rt; " {short}"),
@@ -112,7 +108,7 @@ fn report_program<R: Print + AllocGlobal>(
 
 // What comes of a text.
 fn report_text<R: Print + AllocGlobal>(rt: &R, live: &mut Live, text: &[u8]) -> io::Result<()>
-    requires { length text.now ≤ 1048576 }
+    requires { length text.now ≤ LONGEST_TEXT }
 {
     match typed(rt.alloc(), text) {
         Ok(program) => report_program(rt, live, &program),
@@ -125,7 +121,7 @@ fn main(rt: HostRuntime) -> io::Result<()> {
     for line in rt.lines(rt.alloc()) {
         let line = line?;
         let text = line.as_str().as_bytes();
-        if text.len() > LONGEST {
+        if text.len() > LONGEST_TEXT {
             println!(rt; "too long")?;
             continue;
         }

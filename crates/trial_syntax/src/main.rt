@@ -5,17 +5,15 @@
 ghost use Rattle.std.specs.Prelude.{◌≤◌, length};
 
 use c_lexer::tokens;
+use limits::text::LONGEST_TEXT;
 use std::alloc::Global;
 use std::io::{self, Read};
 use tick_parser::parse;
 use tick_tree::{Deny, Tree};
 use trial_cases::cases;
 
-// The most bytes that a text may have.
-const MAX_BYTES: usize = 1048576;
-
 fn tree_of(alloc: Global, text: &[u8]) -> Result<Tree, Deny>
-    requires { length text.now ≤ 1048576 }
+    requires { length text.now ≤ LONGEST_TEXT }
 {
     let found = tokens(alloc, text)?;
     parse(alloc, text, &found)
@@ -25,8 +23,8 @@ fn tree_of(alloc: Global, text: &[u8]) -> Result<Tree, Deny>
 fn report<R: Print + AllocGlobal>(rt: &R, title: &[u8], text: &[u8]) -> io::Result<()> {
     let title = str::from_utf8(title).unwrap_or("?");
     print!(rt; "{title}:")?;
-    if MAX_BYTES < text.len() {
-        return println!(rt; " over {MAX_BYTES} bytes");
+    if LONGEST_TEXT < text.len() {
+        return println!(rt; " over {LONGEST_TEXT} bytes");
     }
     match tree_of(rt.alloc(), text) {
         Ok(tree) => println!(rt; " a tree of {} items", tree.items.len()),

@@ -2,13 +2,11 @@
 //! and goes up to the next such line.
 #![tactic(auto)]
 
-use c_lexer::{MAX_TOKENS, tokens};
+use c_lexer::tokens;
+use limits::text::{LONGEST_TEXT, MAX_TOKENS};
 use std::io::{self, Read};
 use tick_tree::{Deny, Token};
 use trial_cases::cases;
-
-// The most bytes that a text may have.
-const MAX_BYTES: usize = 1048576;
 
 // A list of up to a hundred tokens in full, each as KIND@PLACE+LENGTH:LINE, and of a longer one the count.
 fn print_tokens<R: Print + AllocGlobal>(rt: &R, found: &[Token]) -> io::Result<()> {
@@ -28,8 +26,8 @@ fn print_tokens<R: Print + AllocGlobal>(rt: &R, found: &[Token]) -> io::Result<(
 fn report<R: Print + AllocGlobal>(rt: &R, title: &[u8], text: &[u8]) -> io::Result<()> {
     let title = str::from_utf8(title).unwrap_or("?");
     print!(rt; "{title}:")?;
-    if MAX_BYTES < text.len() {
-        return println!(rt; " over {MAX_BYTES} bytes");
+    if LONGEST_TEXT < text.len() {
+        return println!(rt; " over {LONGEST_TEXT} bytes");
     }
     match tokens(rt.alloc(), text) {
         Ok(found) => print_tokens(rt, &found),
@@ -71,6 +69,6 @@ fn main(rt: HostRuntime) -> io::Result<()> {
     report_cases(&rt, &file)?;
     report_repeated(&rt, b"the most tokens", b';', MAX_TOKENS)?;
     report_repeated(&rt, b"one token more", b';', MAX_TOKENS + 1)?;
-    report_repeated(&rt, b"the longest text", b' ', MAX_BYTES)?;
-    report_repeated(&rt, b"one name", b'_', MAX_BYTES)
+    report_repeated(&rt, b"the longest text", b' ', LONGEST_TEXT)?;
+    report_repeated(&rt, b"one name", b'_', LONGEST_TEXT)
 }

@@ -3,9 +3,6 @@
 use crate::expression::{Expr, Stmt};
 use sqlite_items::{Boxed, Items};
 
-/// The most nodes that a function, a tick or a specification may have.
-pub const SIZE_LIMIT: u32 = 16384;
-
 /// A function of the text.
 #[derive(Drop)]
 pub struct Function {

@@ -12,6 +12,8 @@ use Rattle.typed_tree.specs.Sizes.{statement_size, body_size}
 use Rattle.wellformed.specs.Counts.{one_if, objects_at, declarations_of}
 use Rattle.wellformed.specs.Places.{Around, stands_as_body, stands_as_tick}
 use Rattle.wellformed.specs.Values.{uses_values, body_uses_values}
+use Rattle.limits.specs.declared.program.TheConstants.{CHARGE_LIMIT, FRAME_OBJECT_BYTES, FRONT_WORDS, MOST_ARGUMENTS, SIZE_LIMIT, WORDS_OF_A_BODY, WORDS_OF_A_NODE}
+use Rattle.word32.specs.declared.map.TheConstants.{GLOBAL_BYTES}
 
 -- what is round the body of a function, and round that of a tick
 abbrev pub round_function : Typed → List (List CaptureKind) → Function → Around
@@ -37,9 +39,9 @@ pub record IsFunction (p : Typed) (ticks : List (List CaptureKind)) (f : Functio
   -- each byte belongs to one frame object
   pub objects : (byte : ℕ) → objects_at byte f.body ≡ one_if (nat_lt byte f.object)
   pub numbers : AreNumbered f.body
-  pub few : f.params ≤ 8
-  pub small : f.size ≤ 16384
-  pub short : f.object ≤ 4194304
+  pub few : f.params ≤ MOST_ARGUMENTS
+  pub small : f.size ≤ SIZE_LIMIT
+  pub short : f.object ≤ FRAME_OBJECT_BYTES
 
 -- a tick of the program that captures this
 pub record IsTick (p : Typed) (ticks : List (List CaptureKind)) (t : Tick) (kinds : List CaptureKind) : Type 0 where
@@ -47,11 +49,11 @@ pub record IsTick (p : Typed) (ticks : List (List CaptureKind)) (t : Tick) (kind
   pub values : IsTrue (body_uses_values t.body)
   pub size : t.size ≡ body_size t.body
   pub numbers : IsNumbered t.body
-  pub small : t.size ≤ 16384
+  pub small : t.size ≤ SIZE_LIMIT
 
 -- the words that are charged for a function or a tick of this size
 abbrev pub charge : ℕ → ℕ
-charge size = 192 * size + 64
+charge size = WORDS_OF_A_NODE * size + WORDS_OF_A_BODY
 
 abbrev pub size_of_function : Function → ℕ
 size_of_function f = f.size
@@ -60,7 +62,7 @@ abbrev pub size_of_tick : Tick → ℕ
 size_of_tick t = t.size
 
 abbrev pub words : Typed → ℕ
-words p = 1024 + sum (map (λ f. charge (size_of_function f)) p.functions) + sum (map (λ t. charge (size_of_tick t)) p.ticks)
+words p = FRONT_WORDS + sum (map (λ f. charge (size_of_function f)) p.functions) + sum (map (λ t. charge (size_of_tick t)) p.ticks)
 
 -- the typed tree of an accepted text
 pub record IsAccepted (p : Typed) : Type 0 where
@@ -76,5 +78,5 @@ pub record IsAccepted (p : Typed) : Type 0 where
   pub name : main_function.name ≡ codes "main"
   pub no_parameters : main_function.params ≡ 0
   -- and no limit is met
-  pub image : length p.image ≤ 4194304
-  pub small : words p ≤ 15728640
+  pub image : length p.image ≤ GLOBAL_BYTES
+  pub small : words p ≤ CHARGE_LIMIT

@@ -14,6 +14,8 @@ use Rattle.wellformed.specs.Counts.{one_if, object_rules, declaration_rules}
 use Rattle.wellformed.specs.Places as places
 use Rattle.wellformed.specs.Places.{Around}
 use Rattle.wellformed.specs.Values as values
+use Rattle.limits.specs.declared.program.TheConstants.{CHARGE_LIMIT, FRAME_OBJECT_BYTES, FRONT_WORDS, MOST_ARGUMENTS, SIZE_LIMIT}
+use Rattle.word32.specs.declared.map.TheConstants.{GLOBAL_BYTES}
 
 -- the body of a function of so many parameters stands right
 abbrev pub stands_as_body : node.Stmt → ℕ → Around → Bool
@@ -62,20 +64,20 @@ pub record IsFunction (p : node.Program) (ticks : List (List CaptureKind)) (f : 
   -- each byte belongs to one frame object
   pub objects : (byte : ℕ) → objects_at byte f.body ≡ one_if (nat_lt byte f.object)
   pub numbers : AreNumbered f.body
-  pub few : f.parameters ≤ 8
-  pub small : size_of_stmt f.body ≤ 16384
-  pub short : f.object ≤ 4194304
+  pub few : f.parameters ≤ MOST_ARGUMENTS
+  pub small : size_of_stmt f.body ≤ SIZE_LIMIT
+  pub short : f.object ≤ FRAME_OBJECT_BYTES
 
 -- a tick of the program that captures this
 pub record IsTick (p : node.Program) (ticks : List (List CaptureKind)) (t : node.TickBody) (kinds : List CaptureKind) : Type 0 where
   pub stands : IsTrue (stands_as_tick t (round_tick p ticks kinds))
   pub values : IsTrue (body_uses_values t)
   pub numbers : IsNumbered t
-  pub small : size_of_body t ≤ 16384
+  pub small : size_of_body t ≤ SIZE_LIMIT
 
 -- the words that are charged for a program
 abbrev pub words : node.Program → ℕ
-words p = 1024 + sum (map (λ f. charge (size_of_stmt f.body)) p.functions) + sum (map (λ t. charge (size_of_body t)) p.ticks)
+words p = FRONT_WORDS + sum (map (λ f. charge (size_of_stmt f.body)) p.functions) + sum (map (λ t. charge (size_of_body t)) p.ticks)
 
 -- a program as the meaning has it
 pub record IsProgram (p : node.Program) : Type 0 where
@@ -85,8 +87,8 @@ pub record IsProgram (p : node.Program) : Type 0 where
   pub functions : (n : ℕ) (f : node.Function) → slice_get p.functions n ≡ Some f → IsFunction p captures f
   pub ticks : (n : ℕ) (t : node.TickBody) (kinds : List CaptureKind) → slice_get p.ticks n ≡ Some t → slice_get captures n ≡ Some kinds → IsTick p captures t kinds
   -- no limit is met
-  pub image : length p.image ≤ 4194304
-  pub small : words p ≤ 15728640
+  pub image : length p.image ≤ GLOBAL_BYTES
+  pub small : words p ≤ CHARGE_LIMIT
 
 -- the typed tree of an accepted text
 pub record IsWellFormed (p : Typed) : Type 0 where

@@ -8,6 +8,7 @@ use Rattle.check_env.specs.declared.state.Stage.{Stage}
 use Rattle.check_env.specs.declared.state.Stage.TheVariants as stage
 use Rattle.check_env.specs.declared.state.State.{State}
 use Rattle.check_tables.specs.Walks.{Rule}
+use Rattle.limits.specs.declared.program.TheConstants.{FRAME_OBJECT_BYTES}
 
 -- a list is the front part of another
 pub record Starts {A : Type 0} (xs ys : List A) : Type 0 where
@@ -70,7 +71,7 @@ pub record GrowsTables (s new : State) : Type 0 where
 -- where the function runs, its variables grow; in a tick, the tick's. A count that is cut says nothing
 pub record GrowsFunction (s new : State) : Type 0 where
   pub homes : Starts s.frame.homes new.frame.homes
-  pub object : new.frame.object ≤ 4194304 → s.frame.object ≤ new.frame.object
+  pub object : new.frame.object ≤ FRAME_OBJECT_BYTES → s.frame.object ≤ new.frame.object
   pub ticks : Starts s.ticks.all new.ticks.all
 
 pub record GrowsTick (s new : State) : Type 0 where

@@ -20,6 +20,7 @@ use Rattle.check_env.specs.declared.state.Stage.TheVariants as stage
 use Rattle.check_env.specs.declared.state.State.{State}
 use Rattle.wellformed.specs.Places.{act, numbers_of}
 use Rattle.wf_values.specs.Used.{IsLibrary}
+use Rattle.limits.specs.declared.program.TheConstants.{FRAME_OBJECT_BYTES}
 
 -- the numbers of the register variables of the blocks round the innermost one: those of the function, and those of the tick; and
 -- whether the innermost block is the tick's
@@ -110,7 +111,7 @@ SmallTick stage.Dollar s = SmallInner s
 
 pub record Small (g : Stage) (s : State) : Type 0 where
   pub homes : length s.frame.homes ≤ 1000000000
-  pub object : s.frame.object ≤ 4194304
+  pub object : s.frame.object ≤ FRAME_OBJECT_BYTES
   pub ticks : length s.ticks.all ≤ 1000000000
   pub tick : SmallTick g s
 

@@ -11,6 +11,7 @@ use Rattle.tick_parser.specs.Trees.{parsed}
 use Rattle.tick_checker.specs.Program.{checked}
 use Rattle.wellformed.specs.Program.{IsWellFormed}
 use Rattle.wf_programs.specs.Named.{EachNamed}
+use Rattle.limits.specs.declared.text.TheConstants.{MAX_TOKENS}
 
 -- a program that the grammar takes has a list of parameters at once behind the name of each function
 abbrev pub NamesItsFunctions : Type 0
@@ -20,5 +21,5 @@ NamesItsFunctions = (n : ℕ) (i rest : Input) (xs : List External) → program 
 -- functions and ticks, and it is not too large
 abbrev pub TextsAreWellFormed : Type 0
 TextsAreWellFormed =
-    (text : Text) (tokens : List Token) (t : Tree) (p : Typed) → length tokens ≤ 262144 → parsed text tokens ≡ Ok t → checked t ≡ Ok p
+    (text : Text) (tokens : List Token) (t : Tree) (p : Typed) → length tokens ≤ MAX_TOKENS → parsed text tokens ≡ Ok t → checked t ≡ Ok p
     → IsWellFormed p
