@@ -1,5 +1,5 @@
 """Writes the inductions over the walk: crates/wf_induction/specs/Asked.antt and proofs/Induction.antt, and
-crates/wf_trees/proofs/Trees.antt.
+crates/tick_checker/proofs/Trees.antt.
 
 Run it at the top of the checkout, after a change of the tree's types or of the fold's rules; then `rt tidy` in both crates.
 """
@@ -163,10 +163,10 @@ use Rattle.std.proofs.Common.{◌≡◌, ℕ, ◌≤◌, List}
 """
 for t in TYPES: text+=f"use Rattle.tick_tree.specs.declared.syntax.{t}.{{{t}, roll-{t}}}\n"
 text+="use Rattle.check_walk.specs.Walk.{%s}\n"%", ".join(WALK_OF[t] for t in TYPES)
-text+="use Rattle.wf_growth.specs.Weights.{%s}\n"%", ".join(WEIGHT_OF[t] for t in TYPES)
-text+="use Rattle.wf_growth.proofs.Small.{%s}\n"%", ".join(SMALL_OF[t] for t in TYPES)
+text+="use Rattle.tick_tree.specs.Weights.{%s}\n"%", ".join(WEIGHT_OF[t] for t in TYPES)
+text+="use Rattle.syntax_size.proofs.Small.{%s}\n"%", ".join(SMALL_OF[t] for t in TYPES)
 text+="use Rattle.wf_induction.proofs.Induction.{%s, %s, %s, %s}\n"%(", ".join(t+"-T" for t in TYPES),", ".join(t+"-K" for t in TYPES),", ".join("first"+t for t in TYPES),", ".join("step_"+LAW_OF[t] for t in TYPES))
-text+="use Rattle.wf_trees.specs.Good.{good, FewExpr}\nuse Rattle.wf_trees.specs.Laws.{SmallAreGood}\nuse Rattle.wf_trees.proofs.Few.{few_expr}\nuse Rattle.wf_trees.proofs.Rules.{%s}\n"%", ".join("good_"+LAW_OF[t] for t in TYPES)
+text+="use Rattle.tick_checker.specs.Good.{good, FewExpr}\nuse Rattle.tick_checker.specs.Small.{SmallAreGood}\nuse Rattle.tick_checker.proofs.Few.{few_expr}\nuse Rattle.tick_checker.proofs.Rules.{%s}\n"%", ".join("good_"+LAW_OF[t] for t in TYPES)
 text+="\n-- ---- a layer of a small tree\n\n"
 for t in TYPES:
     l=LAW_OF[t]
@@ -191,4 +191,4 @@ small_are_good many = record {
   declaration = small_declaration many;
 }
 """
-open("crates/wf_trees/proofs/Trees.antt", "w").write(text)
+open("crates/tick_checker/proofs/Trees.antt", "w").write(text)

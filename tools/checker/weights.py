@@ -1,8 +1,8 @@
 #!/usr/bin/env python3
-"""weights.py CRATES: writes crates/syntax_size (specs/Weights, specs/Layers, proofs/Folds, proofs/Small): the fold that counts the nodes
-of a tree, and the induction over small trees; and crates/wf_growth (proofs/Walks, proofs/Tree, proofs/Given): that the walk over a
-part makes nothing grow by more than its nodes. Run it with `crates` at the top of the checkout, then `rt check --fix-imports` and `rt fmt`
-in both crates."""
+"""weights.py CRATES: writes crates/tick_tree (specs/Weights): the fold that counts the nodes of a tree; crates/syntax_size (specs/Layers,
+proofs/Folds, proofs/Small): its equations, and the induction over small trees; and crates/wf_growth_rules (proofs/Layers, proofs/Tree)
+and crates/wf_growth (proofs/Given): that the walk over a part makes nothing grow by more than its nodes. Run it with `crates` at the
+top of the checkout, then `rt check --fix-imports` and `rt fmt` in these crates."""
 import sys
 T = ["Core", "Expr", "Initializer", "OptionalExpr", "Stmt", "Suffix", "Declaration", "Declarator", "Init", "Parameter", "Typename"]
 WALK = dict(zip(T, "core node initializer optional item suffix declaration shape init parameter named".split()))
@@ -27,7 +27,7 @@ spec = f"""-- The weight of a part of a tree: the number of its nodes, where a p
 use Rattle.std.specs.Prelude.{{ℕ, ◌+◌, List, [], ◌∷◌, map}}
 """ + "".join(f"use Rattle.tick_tree.specs.declared.syntax.{t}.{{{t}}}\n" for t in T) + f"""use Rattle.tick_tree.specs.declared.syntax.External.{{External}}
 use Rattle.tick_tree.specs.declared.syntax.External.TheVariants as ext
-use Rattle.tick_tree.specs.declared.syntax.Tree.{{Tree}}
+use Rattle.tick_tree.specs.Items.{{TreeItems}}
 use Rattle.tick_tree.specs.declared.syntax.Core.TheOpen.{{{", ".join(t + "-F" for t in T)}}}
 use Rattle.tick_tree.specs.declared.syntax.Core.TheFolds.{{{", ".join("fold-" + t for t in T)}}}
 
@@ -122,7 +122,7 @@ abbrev pub item_weight : External → ℕ
 item_weight (ext.Function n b d items) = 1 + (declarator_weight d + total (map statement_weight items))
 item_weight (ext.Declaration d) = 1 + declaration_weight d
 
-abbrev pub tree_weight : Tree → ℕ
+abbrev pub tree_weight : TreeItems → ℕ
 tree_weight t = 1 + total (map item_weight t.items)
 """
 
@@ -135,7 +135,7 @@ shapes = """-- A layer of each type of the tree, and the weights of its parts in
 use Rattle.std.specs.Prelude.{◌≡◌, ℕ}
 """ + ROLLS + f"""use Rattle.tick_tree.specs.declared.syntax.Core.TheOpen.{{{", ".join(t + "-F" for t in T)}}}
 use Rattle.tick_tree.specs.declared.syntax.Core.TheFolds.{{{", ".join("map-" + t for t in T)}}}
-use Rattle.syntax_size.specs.Weights.{{{", ".join(t + "-N" for t in T)}, {", ".join(NRULE[t] for t in T)}, {", ".join(WEIGHT[t] for t in T)}}}
+use Rattle.tick_tree.specs.Weights.{{{", ".join(t + "-N" for t in T)}, {", ".join(NRULE[t] for t in T)}, {", ".join(WEIGHT[t] for t in T)}}}
 
 """ + "\n".join(f"""abbrev pub {t}-T : Type 0
 {t}-T = {t}-F {trees}
@@ -150,7 +150,7 @@ pub record NodesWeighMore : Type 0 where
 folds = """-- The weight of a node by those of its parts. Written by tools/checker/weights.py.
 use Rattle.std.proofs.Common.{◌≡◌, ℕ}
 """ + ROLLS + f"""use Rattle.tick_tree.specs.declared.syntax.Core.TheFolds.{{{", ".join("fold-roll-" + t for t in T)}}}
-use Rattle.syntax_size.specs.Weights.{{{", ".join(NRULE[t] for t in T)}, {", ".join(WEIGHT[t] for t in T)}}}
+use Rattle.tick_tree.specs.Weights.{{{", ".join(NRULE[t] for t in T)}, {", ".join(WEIGHT[t] for t in T)}}}
 use {LAYERS}
 
 """ + "\n".join(f"""pub weigh-{t} : (x : {t}-T) → {WEIGHT[t]} (roll-{t} x) ≡ {NRULE[t]} (weighed-{t} x)
@@ -184,11 +184,11 @@ walk-{t} x = fold-roll-{t} {values} {wrules} x
 root = sys.argv[1]
 def write(name, text):
     open(f"{root}/{name}.antt", "w").write(text)
-write("syntax_size/specs/Weights", spec)
+write("tick_tree/specs/Weights", spec)
 write("syntax_size/specs/Layers", shapes)
 write("syntax_size/proofs/Folds", folds)
 write("syntax_size/proofs/nodes_weigh_more/Answers", weighanswer)
-write("wf_growth/proofs/Walks", walkfolds)
+write("wf_growth_rules/proofs/Layers", walkfolds)
 
 layers = """-- The walk over each part of a tree makes nothing grow by more than the weight of the part: an induction over the types of the tree.
 -- Written by tools/checker/weights.py.
@@ -203,10 +203,10 @@ use Rattle.wf_growth_rules.proofs.Walks.{{weak, pure_light, lift_light}}
 use Rattle.wf_growth_rules.proofs.States.{{named_light}}
 use Rattle.wf_growth_rules.proofs.Expressions as e
 use Rattle.wf_growth_rules.proofs.Statements as s
-use Rattle.wf_growth.specs.Parts.{{LightStart, nothing, value, values, LightInit, LightDeclarations}}
-use Rattle.syntax_size.specs.Weights.{{total, {", ".join(NRULE[t] for t in T)}, {", ".join(WEIGHT[t] for t in T)}}}
-use Rattle.wf_growth.proofs.Declarations as d
-use Rattle.wf_growth.proofs.Walks.{{{", ".join("walked-" + t for t in T)}, {", ".join("walk-" + t for t in T)}}}
+use Rattle.wf_growth_rules.specs.Parts.{{LightStart, nothing, value, values, LightInit, LightDeclarations}}
+use Rattle.tick_tree.specs.Weights.{{total, {", ".join(NRULE[t] for t in T)}, {", ".join(WEIGHT[t] for t in T)}}}
+use Rattle.wf_growth_rules.proofs.Declarations as d
+use Rattle.wf_growth_rules.proofs.Layers.{{{", ".join("walked-" + t for t in T)}, {", ".join("walk-" + t for t in T)}}}
 use Rattle.syntax_size.proofs.Folds.{{{", ".join("weigh-" + t for t in T)}}}
 use {LAYERS}
 
@@ -303,7 +303,7 @@ layer-Suffix (Suffix-F.Listed ps) = record { at = λ g. s.list_light _ g (each_k
 }
 for t in T:
     layers = layers.replace(f"@{t}@", cases[t])
-write("wf_growth/proofs/Tree", layers)
+write("wf_growth_rules/proofs/Tree", layers)
 
 # ---- the parameters of a declarator
 P = dict(Core="Inner", Suffix="(List Given)", Declarator="Head", Parameter="Given")
@@ -320,8 +320,8 @@ use Rattle.std.proofs.Common.{◌≡◌, ℕ, ◌+◌, ◌≤◌, List, [], ◌�
 """ + "".join(f"use Rattle.tick_tree.specs.declared.syntax.{t}.{{{t}, roll-{t}}}\n" for t in T) + f"""use Rattle.tick_tree.specs.declared.syntax.Core.TheOpen.{{{", ".join(t + "-F" for t in T)}}}
 use Rattle.tick_tree.specs.declared.syntax.Core.TheFolds.{{{", ".join("map-" + t for t in T)}, ind-Declarator, fold-roll-Core, fold-roll-Suffix, fold-roll-Declarator}}
 use Rattle.check_globals.specs.Functions.{{Given}}
-use Rattle.tick_checker.specs.Parameters.{{Head, Inner, nothing, first_of, inner_rule, head_rule, list_rule, given_rule, inner, head, list, written, parameters_of}}
-use Rattle.syntax_size.specs.Weights.{{total, {", ".join(NRULE[t] for t in T)}, {", ".join(WEIGHT[t] for t in T)}}}
+use Rattle.check_programs.specs.Parameters.{{Head, Inner, nothing, first_of, inner_rule, head_rule, list_rule, given_rule, inner, head, list, written, parameters_of}}
+use Rattle.tick_tree.specs.Weights.{{total, {", ".join(NRULE[t] for t in T)}, {", ".join(WEIGHT[t] for t in T)}}}
 use Rattle.syntax_size.proofs.Folds.{{weigh-Core, weigh-Suffix, weigh-Declarator, weigh-Parameter}}
 use {LAYERS}
 
@@ -411,7 +411,7 @@ small = """-- Induction over the parts of a tree that is small: what is shown of
 use Rattle.std.proofs.Common.{◌≡◌, ℕ, ◌+◌, ◌≤◌, List, [], ◌∷◌, map, refl, ap, sym, subst, ◌∙◌, arith}
 """ + "".join(f"use Rattle.tick_tree.specs.declared.syntax.{t}.{{{t}, roll-{t}}}\n" for t in T) + f"""use Rattle.tick_tree.specs.declared.syntax.Core.TheOpen.{{{", ".join(t + "-F" for t in T)}}}
 use Rattle.tick_tree.specs.declared.syntax.Core.TheFolds.{{{", ".join("map-" + t for t in T)}, {", ".join("ind-" + t for t in T)}}}
-use Rattle.syntax_size.specs.Weights.{{total, {", ".join(NRULE[t] for t in T)}, {", ".join(WEIGHT[t] for t in T)}}}
+use Rattle.tick_tree.specs.Weights.{{total, {", ".join(NRULE[t] for t in T)}, {", ".join(WEIGHT[t] for t in T)}}}
 use Rattle.syntax_size.proofs.Folds.{{{", ".join("weigh-" + t for t in T)}}}
 use {LAYERS}
 

@@ -1,4 +1,2 @@
-pub mod Counts
-pub mod Marked
 pub mod Rest
 pub mod Statics

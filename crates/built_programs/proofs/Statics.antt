@@ -1,20 +1,22 @@
 -- A function that is built is one that the backend makes the image of.
-use Rattle.std.proofs.Common.{◌≡◌, ℕ, ◌<◌, ◌≤◌, Bool, true, false, ◌&&◌, not, nat_eq, nat_le, nat_lt, if◌then◌else◌, List, [], ◌∷◌, Some, None, refl, sym, subst, arith}
+use Rattle.std.proofs.Common.{◌≡◌, ℕ, ◌<◌, Bool, true, false, ◌&&◌, nat_eq, nat_lt, if◌then◌else◌, List, [], ◌∷◌, map, slice_get, Some, None, refl, sym, subst, arith}
 use Rattle.std.proofs.lemmas.Bool.{and_parts}
 use Rattle.std.proofs.lemmas.Bool.Decides.{nat_tests}
 use Rattle.icode_ops.specs.declared.kind.BinKind.{BinKind}
 use Rattle.icode_ops.specs.declared.kind.BinKind.TheVariants as kind
 use Rattle.icode_templates_proof.specs.Laws.{IsStraight}
+use Rattle.typed_tree.specs.declared.expression.CaptureKind.{CaptureKind}
 use Rattle.typed_tree.specs.declared.program.Function.{Function}
 use Rattle.typed_tree.specs.declared.program.Tick.{Tick}
-use Rattle.word32.specs.Space.{update}
 use Rattle.typed_tree.specs.Nodes as node
 use Rattle.typed_tree.specs.declared.expression.Library.TheVariants as library
-use Rattle.staged_meaning.specs.Size.{size_of, variables_in, variables_of}
-use Rattle.staged_meaning.specs.Scope.{Scope, no_scope, scope_of, scope_after, IsScoped, IsScopedStmt, AreScopedItems, IsBuilt, IsBuiltStmt, AreBuiltItems}
-use Rattle.typed_tree.specs.View.{function_view}
+use Rattle.staged_meaning.specs.Scope.{IsBuilt, IsBuiltStmt, AreBuiltItems}
+use Rattle.typed_tree.specs.View.{function_view, program_view}
+use Rattle.wellformed.specs.declared.typed.Typed.{Typed}
+use Rattle.wellformed.specs.Program.{IsFunction, IsWellFormed}
+use Rattle.wf_ready.specs.Laws.{FunctionsAreReady}
 use Rattle.static_image.specs.Served.{IsServed, IsServedStmt, AreServedItems}
-use Rattle.built_programs.specs.Built.{is_operator, is_listed_expr, is_listed_stmt, are_listed, is_listed, are_new, is_scoped_expr, is_scoped_stmt, are_scoped, is_scoped, accepted, of_parts, built}
+use Rattle.built_programs.specs.Built.{is_operator, is_listed_expr, is_listed_stmt, are_listed, is_listed, accepted, of_parts, built}
 use Rattle.built_programs.specs.Laws.{MeetsBackend, BuiltIsStatic}
 
 three_parts : (a b c : Bool) → (a && b && c) ≡ true → (a ≡ true) × (b ≡ true) × (c ≡ true)
@@ -23,13 +25,10 @@ three_parts a b c h = let two = and_parts (a && b) c h in let first = and_parts 
 below : (a b : ℕ) → nat_lt a b ≡ true → a < b
 below a b h = grind (arith, nat_tests)
 
-at_most : (a b : ℕ) → nat_le a b ≡ true → a ≤ b
-at_most a b h = grind (arith, nat_tests)
-
 is_number : (a b : ℕ) → nat_eq a b ≡ true → a ≡ b
 is_number a b h = grind (arith, nat_tests)
 
--- the parts of a node of the list, and of one whose variables are in scope
+-- the parts of a node of the list
 listed_bin : (k : BinKind) (a b : node.Expr) → is_listed_expr (node.Bin k a b) ≡ true → (is_operator k ≡ true) × (is_listed_expr a ≡ true) × (is_listed_expr b ≡ true)
 listed_bin k a b h = three_parts (is_operator k) (is_listed_expr a) (is_listed_expr b) h
 
@@ -45,27 +44,6 @@ listed_choice e s t h = three_parts (is_listed_expr e) (is_listed_stmt s) (is_li
 
 listed_item : (s : node.Stmt) (is : node.Items) → are_listed (node.Item s is) ≡ true → (is_listed_stmt s ≡ true) × (are_listed is ≡ true)
 listed_item s is h = and_parts (is_listed_stmt s) (are_listed is) h
-
--- the limit on the numbers of variables, and the scope
-module _ (limit : ℕ) (scope : Scope) where
-  scoped_block : (vs is : node.Items) → is_scoped_stmt limit scope (node.Block vs is) ≡ true → (are_new limit scope vs ≡ true) × (are_scoped limit (scope_after vs scope) is ≡ true)
-  scoped_block vs is k = and_parts (are_new limit scope vs) (are_scoped limit (scope_after vs scope) is) k
-
-  scoped_if : (e : node.Expr) (s : node.Stmt) → is_scoped_stmt limit scope (node.If e s) ≡ true → (is_scoped_expr scope e ≡ true) × (is_scoped_stmt limit scope s ≡ true)
-  scoped_if e s k = and_parts (is_scoped_expr scope e) (is_scoped_stmt limit scope s) k
-
-  scoped_choice : (e : node.Expr) (s t : node.Stmt) → is_scoped_stmt limit scope (node.IfElse e s t) ≡ true
-      → (is_scoped_expr scope e ≡ true) × (is_scoped_stmt limit scope s ≡ true) × (is_scoped_stmt limit scope t ≡ true)
-  scoped_choice e s t k = three_parts (is_scoped_expr scope e) (is_scoped_stmt limit scope s) (is_scoped_stmt limit scope t) k
-
-  scoped_item : (s : node.Stmt) (is : node.Items) → are_scoped limit scope (node.Item s is) ≡ true → (is_scoped_stmt limit scope s ≡ true) × (are_scoped limit scope is ≡ true)
-  scoped_item s is k = and_parts (is_scoped_stmt limit scope s) (are_scoped limit scope is) k
-
-  -- the first of a block's variables
-  new_item : (i : ℕ) (vs : node.Items) → are_new limit scope (node.Item (node.Variable i) vs) ≡ true → (i < limit) × (are_new limit (update i true scope) vs ≡ true)
-  new_item i vs h =
-      let p = and_parts (nat_lt i limit && not (scope i)) (are_new limit (update i true scope) vs) h in
-      (below i limit (and_parts (nat_lt i limit) (not (scope i)) p.0).0, p.1)
 
 -- ---- the nodes of the list
 
@@ -121,95 +99,18 @@ mutual
   items_served node.NoItem h = tt
   items_served (node.Item s is) h = let p = listed_item s is h in (stmt_served s p.0, items_served is p.1)
 
--- ---- scopes
-
-expr_scoped : (scope : Scope) (e : node.Expr) → is_scoped_expr scope e ≡ true → IsScoped scope e
-expr_scoped scope (node.Const w) k = tt
-expr_scoped scope (node.Var i) k = k
-expr_scoped scope (node.SetVar i a) k = let q = and_parts (scope i) (is_scoped_expr scope a) k in (q.0, expr_scoped scope a q.1)
-expr_scoped scope (node.Bin o a b) k =
-    let q = and_parts (is_scoped_expr scope a) (is_scoped_expr scope b) k in
-    (expr_scoped scope a q.0, expr_scoped scope b q.1)
-expr_scoped scope (node.Lib l a) k = expr_scoped scope a k
-expr_scoped scope _ k = absurd cc
-
--- the variables of a block use none, and each has a number below the limit
-variables_scoped : (limit : ℕ) (scope : Scope) (vs : node.Items) → are_new limit scope vs ≡ true → AreScopedItems scope vs
-variables_scoped limit scope node.NoItem h = tt
-variables_scoped limit scope (node.Item (node.Variable i) vs) h = (tt, variables_scoped limit (update i true scope) vs (new_item limit scope i vs h).1)
-variables_scoped limit scope (node.Item _ vs) h = absurd cc
-
-variables_below : (limit : ℕ) (scope : Scope) (vs : node.Items) → are_new limit scope vs ≡ true → variables_of vs ≤ limit
-variables_below limit scope node.NoItem h = omega arith
-variables_below limit scope (node.Item (node.Variable i) vs) h =
-    let p = new_item limit scope i vs h in
-    omega (arith, p.0, variables_below limit (update i true scope) vs p.1)
-variables_below limit scope (node.Item _ vs) h = absurd cc
-
--- an item declares nothing for those behind it
-same_scope : (limit : ℕ) (scope : Scope) (s : node.Stmt) → is_scoped_stmt limit scope s ≡ true → scope_of s scope ≡ scope
-same_scope limit scope (node.Variable i) k = absurd cc
-same_scope limit scope (node.Parameter i w) k = absurd cc
-same_scope limit scope _ k = refl
-
-mutual
-  stmt_scoped : (limit : ℕ) (scope : Scope) (s : node.Stmt) → is_scoped_stmt limit scope s ≡ true → IsScopedStmt scope s
-  stmt_scoped limit scope (node.Eval e) k = expr_scoped scope e k
-  stmt_scoped limit scope (node.Block vs is) k =
-      let q = scoped_block limit scope vs is k in
-      (variables_scoped limit scope vs q.0, items_scoped limit (scope_after vs scope) is q.1)
-  stmt_scoped limit scope (node.If e s) k = let q = scoped_if limit scope e s k in (expr_scoped scope e q.0, stmt_scoped limit scope s q.1)
-  stmt_scoped limit scope (node.IfElse e s t) k =
-      let q = scoped_choice limit scope e s t k in
-      (expr_scoped scope e q.0, stmt_scoped limit scope s q.1, stmt_scoped limit scope t q.2)
-  stmt_scoped limit scope (node.While e s) k = let q = scoped_if limit scope e s k in (expr_scoped scope e q.0, stmt_scoped limit scope s q.1)
-  stmt_scoped limit scope (node.ReturnValue e) k = expr_scoped scope e k
-  stmt_scoped limit scope _ k = absurd cc
-
-  items_scoped : (limit : ℕ) (scope : Scope) (is : node.Items) → are_scoped limit scope is ≡ true → AreScopedItems scope is
-  items_scoped limit scope node.NoItem k = tt
-  items_scoped limit scope (node.Item s is) k =
-      let q = scoped_item limit scope s is k in
-      (stmt_scoped limit scope s q.0, subst (λ (x : Scope). AreScopedItems x is) (sym (same_scope limit scope s q.0)) (items_scoped limit scope is q.1))
-
-mutual
-  stmt_below : (limit : ℕ) (scope : Scope) (s : node.Stmt) → is_scoped_stmt limit scope s ≡ true → variables_in s ≤ limit
-  stmt_below limit scope (node.Eval e) k = omega arith
-  stmt_below limit scope (node.Block vs is) k =
-      let q = scoped_block limit scope vs is k in
-      omega (arith, variables_below limit scope vs q.0, items_below limit (scope_after vs scope) is q.1)
-  stmt_below limit scope (node.If e s) k = stmt_below limit scope s (scoped_if limit scope e s k).1
-  stmt_below limit scope (node.IfElse e s t) k =
-      let q = scoped_choice limit scope e s t k in
-      omega (arith, stmt_below limit scope s q.1, stmt_below limit scope t q.2)
-  stmt_below limit scope (node.While e s) k = stmt_below limit scope s (scoped_if limit scope e s k).1
-  stmt_below limit scope (node.ReturnValue e) k = omega arith
-  stmt_below limit scope _ k = absurd cc
-
-  items_below : (limit : ℕ) (scope : Scope) (is : node.Items) → are_scoped limit scope is ≡ true → variables_of is ≤ limit
-  items_below limit scope node.NoItem k = omega arith
-  items_below limit scope (node.Item s is) k =
-      let q = scoped_item limit scope s is k in
-      omega (arith, stmt_below limit scope s q.0, items_below limit scope is q.1)
-
 -- ---- functions
 
--- a function of nodes of the list, whose variables are in scope where they are used, is one that the backend takes
-meets : (f : node.Function) → is_listed f ≡ true → is_scoped f ≡ true → MeetsBackend f
-meets f h k =
-    let p = three_parts (nat_eq f.parameters 0) (nat_eq f.object 0) (is_listed_stmt f.body) h in
-    let q = and_parts (nat_le (size_of f) 16384) (is_scoped_stmt (size_of f) no_scope f.body) k in
-    let none : f.parameters ≡ 0 = is_number f.parameters 0 p.0 in
+-- a function of an accepted text whose nodes are of the list is one that the backend takes
+meets : FunctionsAreReady → (p : node.Program) (ticks : List (List CaptureKind)) (f : node.Function) → IsFunction p ticks f → is_listed f ≡ true → MeetsBackend f
+meets ready p ticks f is h =
+    let l = three_parts (nat_eq f.parameters 0) (nat_eq f.object 0) (is_listed_stmt f.body) h in
+    let none : f.parameters ≡ 0 = is_number f.parameters 0 l.0 in
     record {
       static = record {
-        ready = record {
-          built = stmt_built f.body p.2;
-          scoped = stmt_scoped (size_of f) no_scope f.body q.1;
-          small = at_most (size_of f) 16384 q.0;
-          dense = stmt_below (size_of f) no_scope f.body q.1;
-        };
-        served = stmt_served f.body p.2;
-        plain = is_number f.object 0 p.1;
+        ready = ready p ticks f is (stmt_built f.body l.2);
+        served = stmt_served f.body l.2;
+        plain = is_number f.object 0 l.1;
       };
       parameters = omega (arith, none);
     }
@@ -218,16 +119,20 @@ chosen : (b : Bool) (g f : node.Function) → (if b then Some g else None) ≡ S
 chosen true g f e = (refl, cc)
 chosen false g f e = absurd cc
 
-of_accepted : (g f : node.Function) → accepted g ≡ Some f → MeetsBackend f
-of_accepted g f e =
-    let two = chosen (is_listed g && is_scoped g) g f e in
-    let p = and_parts (is_listed g) (is_scoped g) two.0 in
-    subst MeetsBackend two.1 (meets g p.0 p.1)
+of_accepted : FunctionsAreReady → (p : node.Program) (ticks : List (List CaptureKind)) (g f : node.Function) → IsFunction p ticks g → accepted g ≡ Some f → MeetsBackend f
+of_accepted ready p ticks g f is e =
+    let two = chosen (is_listed g) g f e in
+    subst MeetsBackend two.1 (meets ready p ticks g is two.0)
 
-of_program : (f : node.Function) (fs : List Function) (ts : List Tick) (image : List ℕ) → of_parts fs ts image ≡ Some f → MeetsBackend f
-of_program f (g ∷ []) [] [] e = of_accepted (function_view g) f e
-of_program f _ _ _ e = absurd cc
+-- the one function of a program is its first
+first_function : (fs : List Function) (g : Function) → fs ≡ g ∷ [] → slice_get (map function_view fs) 0 ≡ Some (function_view g)
+first_function fs g same = subst (λ (xs : List Function). slice_get (map function_view xs) 0 ≡ Some (function_view g)) (sym same) refl
 
-pub built_static : BuiltIsStatic
+of_program : FunctionsAreReady → (p : Typed) → IsWellFormed p → (f : node.Function) (fs : List Function) (ts : List Tick) (image : List ℕ) → p.functions ≡ fs → of_parts fs ts image ≡ Some f → MeetsBackend f
+of_program ready p h f (g ∷ []) [] [] same e =
+    of_accepted ready (program_view p) h.program.captures (function_view g) f (h.program.functions 0 (function_view g) (first_function p.functions g same)) e
+of_program ready p h f _ _ _ same e = absurd cc
+
+pub built_static : FunctionsAreReady → BuiltIsStatic
 unfolding built
-built_static program f e = of_program f program.functions program.ticks program.image e
+built_static ready p f h e = of_program ready p h f p.functions p.ticks p.image refl e

@@ -2,8 +2,6 @@
 #![tactic(auto)]
 
 mod listed;
-mod marks;
 mod program;
-mod scoped;
 
 pub use program::{built_is_static, function_of};

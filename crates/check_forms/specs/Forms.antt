@@ -16,15 +16,12 @@ use Rattle.tick_tree.specs.declared.syntax.Parameter.{Parameter}
 use Rattle.tick_tree.specs.declared.syntax.Typename.{Typename}
 use Rattle.tick_tree.specs.declared.syntax.Core.TheFolds.{fold-Core, fold-Expr, fold-Declarator, fold-Suffix, fold-Parameter, fold-Typename}
 use Rattle.tick_tree.specs.declared.syntax.Core.TheOpen.{Expr-F, OptionalExpr-F, Typename-F, Declarator-F, Core-F, Suffix-F, Parameter-F, Initializer-F, Init-F, Declaration-F, Stmt-F}
+pub use Rattle.tick_tree.specs.Named.{is_nil}
 
 abbrev pub Name : Type 0
 Name = List ℕ
 
 -- ---- constants
-
-abbrev pub is_nil : {A : Type 0} → List A → Bool
-is_nil [] = true
-is_nil (x ∷ xs) = false
 
 abbrev pub is_some_type : Base → Bool
 is_some_type b.Void = false

@@ -16,7 +16,7 @@ use Rattle.tick_tree.specs.declared.fault.FaultKind.TheVariants as fault
 use Rattle.tick_tree.specs.Faults.{Checked, refuse}
 use Rattle.typed_tree.specs.declared.program.Function.{Function}
 use Rattle.typed_tree.specs.declared.program.Tick.{Tick}
-use Rattle.typed_tree.specs.declared.program.Typed.{Typed}
+use Rattle.typed_tree.specs.declared.program.TypedParts.{TypedParts}
 use Rattle.check_tables.specs.declared.functions.Prototype.{Prototype}
 use Rattle.check_tables.specs.declared.image.Image.{Image}
 use Rattle.check_tables.specs.Functions as functions
@@ -98,13 +98,13 @@ fits s =
 abbrev pub image : Image → List ℕ
 image i = images.up_to (strings_begin i) i.globals ++ i.strings
 
-abbrev pub typed : State → Typed
+abbrev pub typed : State → TypedParts
 typed s = record { functions = s.functions.all; ticks = s.ticks.all; image = image s.image }
 
-abbrev pub finished_by : Option Prototype → State → Checked Typed
+abbrev pub finished_by : Option Prototype → State → Checked TypedParts
 finished_by None s = if has_main s then (if fits s then Ok (typed s) else refuse fault.TooLarge 1) else refuse fault.NoMain 1
 finished_by (Some p) s = refuse fault.Undeclared p.line
 
 -- the typed tree of a program after its walk, or the first fault that is found then
-unfoldable pub finished : State → Checked Typed
+unfoldable pub finished : State → Checked TypedParts
 finished s = finished_by (functions.undefined s.functions) s

@@ -16,7 +16,7 @@ use limits::program::{
 use sqlite_items::Items;
 use std::alloc::{AllocError, Global};
 use tick_tree::{Deny, FaultKind, refused};
-use typed_tree::{Function, Tick, Typed};
+use typed_tree::{Function, Tick, TypedParts};
 use word32::map::GLOBAL_BYTES;
 
 fn takes_none(t: &TypeRef) -> bool
@@ -175,7 +175,7 @@ fn image_bytes(alloc: Global, image: Image) -> Result<Items<u8>, AllocError>
     Ok(bytes)
 }
 
-fn typed(alloc: Global, state: State) -> Result<Typed, AllocError>
+fn typed(alloc: Global, state: State) -> Result<TypedParts, AllocError>
     ensures { IfOk result (λ t. t ≡ spec.typed state) }
 {
     let State {
@@ -190,7 +190,7 @@ fn typed(alloc: Global, state: State) -> Result<Typed, AllocError>
     drop(frame);
     drop(labels);
     match image_bytes(alloc, image) {
-        Ok(image) => Ok(Typed {
+        Ok(image) => Ok(TypedParts {
             functions: functions.all,
             ticks: ticks.all,
             image,
@@ -203,7 +203,7 @@ fn typed(alloc: Global, state: State) -> Result<Typed, AllocError>
     }
 }
 
-fn whole(alloc: Global, state: State) -> Result<Typed, Deny>
+fn whole(alloc: Global, state: State) -> Result<TypedParts, Deny>
     ensures { Checks result (spec.finished_by None state) }
 {
     if !has_main(&state) {
@@ -217,10 +217,10 @@ fn whole(alloc: Global, state: State) -> Result<Typed, Deny>
     Ok(typed(alloc, state)?)
 }
 
-/// The typed tree of a program after its walk. Refused, in this order: Undeclared at the first prototype that has no function, NoMain,
+/// The parts of the typed program after its walk. Refused, in this order: Undeclared at the first prototype that has no function, NoMain,
 /// TooLarge.
 #[tactic(auto, unfolding(crate::specs::Programs::finished))]
-pub fn finished(alloc: Global, state: State) -> Result<Typed, Deny>
+pub fn finished(alloc: Global, state: State) -> Result<TypedParts, Deny>
     ensures { Checks result (spec.finished state) }
 {
     if let Some(p) = state.functions.undefined() {

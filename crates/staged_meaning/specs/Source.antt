@@ -5,7 +5,7 @@ use Rattle.std.specs.Cmp.Lexicographic.{pointwise}
 use Rattle.typed_tree.specs.declared.program.Function.{Function}
 use Rattle.typed_tree.specs.declared.program.TickBody.{TickBody}
 use Rattle.typed_tree.specs.declared.program.TickBody.TheVariants as body
-use Rattle.typed_tree.specs.declared.program.Typed.{Typed}
+use Rattle.typed_tree.specs.declared.program.TypedParts.{TypedParts}
 use Rattle.typed_tree.specs.View.{expr_view, stmt_view, function_view}
 use Rattle.staged_meaning.specs.Program.{Tick, OfExpression, OfStatement, Program}
 
@@ -18,7 +18,7 @@ abbrev pub main_of : List Function → Option Function
 main_of [] = None
 main_of (f ∷ functions) = if pointwise nat_eq f.name (codes "main") then Some f else main_of functions
 
-abbrev pub program_from : Option Function → Typed → Option Program
+abbrev pub program_from : Option Function → TypedParts → Option Program
 program_from None typed = None
 program_from (Some main) typed = Some (record {
   main = function_view main;
@@ -27,5 +27,5 @@ program_from (Some main) typed = Some (record {
   image = typed.image;
 })
 
-abbrev pub program_view : Typed → Option Program
+abbrev pub program_view : TypedParts → Option Program
 program_view typed = program_from (main_of typed.functions) typed

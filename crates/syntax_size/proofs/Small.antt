@@ -14,7 +14,7 @@ use Rattle.tick_tree.specs.declared.syntax.Parameter.{Parameter, roll-Parameter}
 use Rattle.tick_tree.specs.declared.syntax.Typename.{Typename, roll-Typename}
 use Rattle.tick_tree.specs.declared.syntax.Core.TheOpen.{Core-F, Expr-F, Initializer-F, OptionalExpr-F, Stmt-F, Suffix-F, Declaration-F, Declarator-F, Init-F, Parameter-F, Typename-F}
 use Rattle.tick_tree.specs.declared.syntax.Core.TheFolds.{map-Core, map-Expr, map-Initializer, map-OptionalExpr, map-Stmt, map-Suffix, map-Declaration, map-Declarator, map-Init, map-Parameter, map-Typename, ind-Core, ind-Expr, ind-Initializer, ind-OptionalExpr, ind-Stmt, ind-Suffix, ind-Declaration, ind-Declarator, ind-Init, ind-Parameter, ind-Typename}
-use Rattle.syntax_size.specs.Weights.{total, core_nodes, expr_nodes, initializer_nodes, optional_nodes, statement_nodes, suffix_nodes, declaration_nodes, declarator_nodes, init_nodes, parameter_nodes, typename_nodes, core_weight, weight, initializer_weight, optional_weight, statement_weight, suffix_weight, declaration_weight, declarator_weight, init_weight, parameter_weight, typename_weight}
+use Rattle.tick_tree.specs.Weights.{total, core_nodes, expr_nodes, initializer_nodes, optional_nodes, statement_nodes, suffix_nodes, declaration_nodes, declarator_nodes, init_nodes, parameter_nodes, typename_nodes, core_weight, weight, initializer_weight, optional_weight, statement_weight, suffix_weight, declaration_weight, declarator_weight, init_weight, parameter_weight, typename_weight}
 use Rattle.syntax_size.proofs.Folds.{weigh-Core, weigh-Expr, weigh-Initializer, weigh-OptionalExpr, weigh-Stmt, weigh-Suffix, weigh-Declaration, weigh-Declarator, weigh-Init, weigh-Parameter, weigh-Typename}
 use Rattle.syntax_size.specs.Layers.{Core-T, Expr-T, Initializer-T, OptionalExpr-T, Stmt-T, Suffix-T, Declaration-T, Declarator-T, Init-T, Parameter-T, Typename-T, weighed-Core, weighed-Expr, weighed-Initializer, weighed-OptionalExpr, weighed-Stmt, weighed-Suffix, weighed-Declaration, weighed-Declarator, weighed-Init, weighed-Parameter, weighed-Typename}
 

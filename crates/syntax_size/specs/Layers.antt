@@ -13,7 +13,7 @@ use Rattle.tick_tree.specs.declared.syntax.Parameter.{Parameter, roll-Parameter}
 use Rattle.tick_tree.specs.declared.syntax.Typename.{Typename, roll-Typename}
 use Rattle.tick_tree.specs.declared.syntax.Core.TheOpen.{Core-F, Expr-F, Initializer-F, OptionalExpr-F, Stmt-F, Suffix-F, Declaration-F, Declarator-F, Init-F, Parameter-F, Typename-F}
 use Rattle.tick_tree.specs.declared.syntax.Core.TheFolds.{map-Core, map-Expr, map-Initializer, map-OptionalExpr, map-Stmt, map-Suffix, map-Declaration, map-Declarator, map-Init, map-Parameter, map-Typename}
-use Rattle.syntax_size.specs.Weights.{Core-N, Expr-N, Initializer-N, OptionalExpr-N, Stmt-N, Suffix-N, Declaration-N, Declarator-N, Init-N, Parameter-N, Typename-N, core_nodes, expr_nodes, initializer_nodes, optional_nodes, statement_nodes, suffix_nodes, declaration_nodes, declarator_nodes, init_nodes, parameter_nodes, typename_nodes, core_weight, weight, initializer_weight, optional_weight, statement_weight, suffix_weight, declaration_weight, declarator_weight, init_weight, parameter_weight, typename_weight}
+use Rattle.tick_tree.specs.Weights.{Core-N, Expr-N, Initializer-N, OptionalExpr-N, Stmt-N, Suffix-N, Declaration-N, Declarator-N, Init-N, Parameter-N, Typename-N, core_nodes, expr_nodes, initializer_nodes, optional_nodes, statement_nodes, suffix_nodes, declaration_nodes, declarator_nodes, init_nodes, parameter_nodes, typename_nodes, core_weight, weight, initializer_weight, optional_weight, statement_weight, suffix_weight, declaration_weight, declarator_weight, init_weight, parameter_weight, typename_weight}
 
 abbrev pub Core-T : Type 0
 Core-T = Core-F Core Expr Initializer OptionalExpr Stmt Suffix Declaration Declarator Init Parameter Typename

@@ -5,7 +5,8 @@ use Rattle.tick_tree.specs.declared.fault.Deny.{Deny}
 use Rattle.tick_tree.specs.declared.fault.Deny.TheVariants as deny
 use Rattle.tick_tree.specs.declared.fault.Fault.{Fault}
 use Rattle.tick_tree.specs.Faults.{Checks}
-use Rattle.typed_tree.specs.declared.program.Typed.{Typed}
+use Rattle.wellformed.specs.declared.typed.Typed.{Typed}
+use Rattle.wellformed.specs.Program.{IsWellFormed}
 use Rattle.typed_tree.specs.Nodes.{Function}
 use Rattle.staged_meaning.specs.Meaning.{Program}
 use Rattle.image_file.specs.Image.{ImageParts, IsImage}
@@ -18,11 +19,11 @@ use Rattle.static_image.specs.Headline.{Headline}
 use Rattle.static_backend.specs.Scanned.{IsScanned}
 use Rattle.tick_build.specs.Texts.{unbuilt, or_unbuilt, from_typed, typed_tree, typed, Builds, Refuses, Backs}
 
-pub is_static : BuiltIsStatic → (program : Typed) (f : Function) → built program ≡ Some f → IsStatic f
-is_static law program f e = (law program f e).static
+pub is_static : BuiltIsStatic → (program : Typed) (f : Function) → IsWellFormed program → built program ≡ Some f → IsStatic f
+is_static law program f h e = (law program f h e).static
 
-pub has_few_parameters : BuiltIsStatic → (program : Typed) (f : Function) → built program ≡ Some f → f.parameters ≤ 8
-has_few_parameters law program f e = (law program f e).parameters
+pub has_few_parameters : BuiltIsStatic → (program : Typed) (f : Function) → IsWellFormed program → built program ≡ Some f → f.parameters ≤ 8
+has_few_parameters law program f h e = (law program f h e).parameters
 
 -- a text whose typed tree is this program
 typed_by : (text : List ℕ) (program : Typed) → typed_tree text ≡ Ok program → typed text ≡ or_unbuilt (built program)
@@ -31,9 +32,9 @@ typed_by text program e = ap from_typed e
 
 -- the image of a function whose program is accepted
 builds_function : BuiltIsStatic → HeadlineHolds → ImagesKeepRules → (text : List ℕ) (program : Typed) (f : Function) (image : ImageParts)
-    → typed_tree text ≡ Ok program → built program ≡ Some f → IsScanned f image → Builds text image
-builds_function law holds keep text program f image tree is scanned =
-    let static = is_static law program f is in
+    → IsWellFormed program → typed_tree text ≡ Ok program → built program ≡ Some f → IsScanned f image → Builds text image
+builds_function law holds keep text program f image h tree is scanned =
+    let static = is_static law program f h is in
     let places = scanned.legal in
     let accepted : typed text ≡ Ok (program_of f) = typed_by text program tree ∙ ap or_unbuilt is in
     record {
@@ -46,9 +47,9 @@ builds_function law holds keep text program f image tree is scanned =
     }
 
 pub builds : BuiltIsStatic → HeadlineHolds → ImagesKeepRules → (text : List ℕ) (program : Typed) (r : Result ImageParts Deny)
-    → typed_tree text ≡ Ok program → Backs (built program) r → IfOk r (Builds text)
-builds law holds keep text program (Ok image) tree (f, is, scanned) = builds_function law holds keep text program f image tree is scanned
-builds law holds keep text program (Err d) tree b = tt
+    → IsWellFormed program → typed_tree text ≡ Ok program → Backs (built program) r → IfOk r (Builds text)
+builds law holds keep text program (Ok image) h tree (f, is, scanned) = builds_function law holds keep text program f image h tree is scanned
+builds law holds keep text program (Err d) h tree b = tt
 
 pub refuses : (text : List ℕ) (program : Typed) (r : Result ImageParts Deny) → typed_tree text ≡ Ok program → Backs (built program) r → Refuses (typed text) r
 refuses text program (Ok image) tree b = tt

@@ -5,11 +5,11 @@ use Rattle.tick_tree.specs.declared.fault.FaultKind.TheVariants.{Unbuilt}
 use Rattle.tick_tree.specs.declared.fault.Deny.{Deny}
 use Rattle.tick_tree.specs.declared.fault.Deny.TheVariants as deny
 use Rattle.tick_tree.specs.declared.token.Token.{Token}
-use Rattle.tick_tree.specs.declared.syntax.Tree.{Tree}
+use Rattle.tick_tree.specs.declared.tree.Tree.{Tree}
 use Rattle.c_lexer.specs.Lex.{tokens}
 use Rattle.tick_parser.specs.Trees.{parsed}
-use Rattle.typed_tree.specs.declared.program.Typed.{Typed}
-use Rattle.tick_checker.specs.Program.{checked}
+use Rattle.wellformed.specs.declared.typed.Typed.{Typed}
+use Rattle.check_programs.specs.Program.{checked}
 use Rattle.built_programs.specs.Built.{built}
 use Rattle.typed_tree.specs.Nodes.{Function}
 use Rattle.staged_meaning.specs.Meaning.{Program}

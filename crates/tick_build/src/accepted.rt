@@ -14,7 +14,7 @@ use std::alloc::Global;
 use tick_checker::check;
 use tick_parser::parse;
 use tick_tree::{Deny, Fault, FaultKind};
-use typed_tree::Typed;
+use wellformed::Typed;
 
 // The text uses a part of the language that isn't built yet.
 fn unbuilt() -> Fault
@@ -44,13 +44,13 @@ fn from_program(alloc: Global, program: &Typed) -> Result<Image, Deny>
     ensures { spec.Backs (built program.now) result }
 {
     built_is_static();
-    match function_of(alloc, program) {
-        Ok(Some(function)) => match static_backend::image(alloc, function) {
+    program.keeps_law();
+    match function_of(program) {
+        Some(function) => match static_backend::image(alloc, function) {
             Ok(image) => Ok(image),
             Err(_) => Err(Deny::NoMemory),
         },
-        Ok(None) => Err(Deny::Refused(unbuilt())),
-        Err(_) => Err(Deny::NoMemory),
+        None => Err(Deny::Refused(unbuilt())),
     }
 }
 
@@ -63,6 +63,7 @@ pub fn build(alloc: Global, text: &[u8]) -> Result<Image, Deny>
     ensures refused { spec.Refuses (spec.typed text.now) result }
 {
     let program = from_text(alloc, text)?;
+    program.keeps_law();
     built_is_static();
     headline_holds();
     images_keep_rules();

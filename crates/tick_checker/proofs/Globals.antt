@@ -1,73 +1,210 @@
--- One turn more of each loop at file scope: what is defined for the parts that are left is what is defined for those behind the next
--- one, after it; or the fault of the next one.
-use Rattle.std.proofs.Common.{◌≡◌, ℕ, ◌+◌, ◌<◌, List, [], ◌∷◌, length, get_or, drop, map, ap, sym, ◌∙◌, Ok, Err}
-use Rattle.std.specs.Prelude.{is_some}
+-- What a declaration at file scope leaves: names that mean something, and nothing of functions but prototypes.
+use Rattle.std.proofs.Common.{◌≡◌, ℕ, Bool, true, false, if◌then◌else◌, refl, ap, sym, ◌∙◌, subst, List, [], ◌∷◌, ◌++◌, length, Some, Ok}
 use Rattle.c_types.specs.declared.ctype.CType.{CType}
+use Rattle.c_types.specs.declared.names.Meaning.{Meaning}
+use Rattle.c_types.specs.Scopes.{Name, Scope, in_scope}
+use Rattle.check_declarators.specs.declared.steps.Role.TheVariants as role
+use Rattle.check_declarators.specs.declared.steps.Step.{Step}
+use Rattle.check_declarators.specs.Making.{declared_type}
+use Rattle.check_declarators.specs.Words as words
+use Rattle.check_types.specs.Shapes.{is_void, is_function}
 use Rattle.tick_tree.specs.declared.base.Base.{Base}
-use Rattle.tick_tree.specs.declared.fault.Fault.{Fault}
-use Rattle.tick_tree.specs.declared.syntax.Expr.{Expr}
-use Rattle.tick_tree.specs.declared.syntax.External.{External}
-use Rattle.tick_tree.specs.declared.syntax.Init.{Init}
-use Rattle.tick_tree.specs.Faults.{◌>>=◌ as ◌>>>=◌}
-use Rattle.check_forms.specs.Forms.{has_form, string_of}
-use Rattle.check_operators.specs.declared.operand.Operand.{Operand}
-use Rattle.check_globals.specs.declared.statics.Row.{Row}
-use Rattle.check_globals.specs.Statics.{row_more}
+use Rattle.check_tables.specs.declared.functions.Functions.{Functions}
+use Rattle.check_tables.specs.declared.functions.Prototype.{Prototype}
+use Rattle.check_tables.specs.Functions as tables
+use Rattle.check_tables.specs.Walks.{lift}
 use Rattle.check_env.specs.declared.state.Stage.TheVariants as stage
 use Rattle.check_env.specs.declared.state.State.{State}
-use Rattle.tick_checker.specs.Program as spec
-use Rattle.check_walk.specs.Walk as walks
-use Rattle.check_walk.proofs.Loops.{next}
-use Rattle.check_walk.proofs.Written.{expr_agrees}
+use Rattle.check_expressions.specs.Rules.{Shape}
+use Rattle.check_statements.specs.Declarations.{name_by}
+use Rattle.check_globals.specs.Names as names
+use Rattle.check_programs.specs.Program as program
+use Rattle.check_walk.specs.Walk.{Start, Nothing, Value, Values, InitParts, with_start}
+use Rattle.wf_values.proofs.Declared.{types_use}
+use Rattle.wf_invariant.specs.Good.{any_computed, GoodShape}
+use Rattle.wf_invariant.specs.Kept.{KeepsGlobals}
+use Rattle.wf_invariant.specs.Known.{EachEntry, IsObject, Declared}
+use Rattle.wf_types.proofs.Walks.{pure_same}
+use Rattle.wf_types.proofs.Fronts.{starts_same}
+use Rattle.wf_types.proofs.Lengths.{none_computed}
+use Rattle.wf_statements.proofs.Lists.{get_last}
+use Rattle.tick_checker.proofs.Declared.{FileType, file_type, named_computed, filled_computed}
+use Rattle.tick_checker.proofs.Names.{NamedPrototype, prototype_named}
+use Rattle.tick_checker.proofs.Scopes.{FileName, Later, file_later, found_front, each_more}
+use Rattle.tick_checker.proofs.Steps.{Parts, parts, Lifted, lifted, starts_trans}
+use Rattle.tick_checker.proofs.Still.{Still, plain_still, StaticStart, begin_still, no_start}
+use Rattle.tick_checker.proofs.Variables.{next_global, NamedVariable, variable_named}
 
-pub row_goes : (xs : List Expr) (i : ℕ) (e : Expr) (t : CType) (r : Row) (s z : State) (o : Operand) → i < length xs → e ≡ get_or xs i e
-    → (walks.node e).walk stage.Function s ≡ Ok (o, z)
-    → spec.row (map walks.node (drop i xs)) t r s
-    ≡ spec.row (map walks.node (drop (i + 1) xs)) t (row_more t (walks.node e).written.constant (is_some (walks.node e).written.string) o r) z
-row_goes xs i e t r s z o h is was =
-    next (λ es. spec.row (map walks.node es) t r s) xs i e h is
-    ∙ ap (λ q. q >>>= (λ p. spec.row (map walks.node (drop (i + 1) xs)) t (row_more t (walks.node e).written.constant (is_some (walks.node e).written.string) p.0 r) p.1)) was
+-- ---- what is asked of a declarator with its beginning
 
-pub row_fails : (xs : List Expr) (i : ℕ) (e : Expr) (t : CType) (r : Row) (s : State) (f : Fault) → i < length xs → e ≡ get_or xs i e
-    → (walks.node e).walk stage.Function s ≡ Err f → spec.row (map walks.node (drop i xs)) t r s ≡ Err f
-row_fails xs i e t r s f h is was =
-    next (λ es. spec.row (map walks.node es) t r s) xs i e h is
-    ∙ ap (λ q. q >>>= (λ p. spec.row (map walks.node (drop (i + 1) xs)) t (row_more t (walks.node e).written.constant (is_some (walks.node e).written.string) p.0 r) p.1)) was
+pub record GoodInit (i : InitParts) : Type 0 where
+  pub shape : GoodShape i.shape
+  pub start : StaticStart i.start
 
-pub walked_goes : (xs : List Expr) (i : ℕ) (e : Expr) (s z : State) (o : Operand) → i < length xs → e ≡ get_or xs i e
-    → (walks.node e).walk stage.Function s ≡ Ok (o, z) → spec.walked (map walks.node (drop i xs)) s ≡ spec.walked (map walks.node (drop (i + 1) xs)) z
-walked_goes xs i e s z o h is was =
-    next (λ es. spec.walked (map walks.node es) s) xs i e h is ∙ ap (λ q. q >>>= (λ p. spec.walked (map walks.node (drop (i + 1) xs)) p.1)) was
+abbrev pub EachInit : List InitParts → Type 0
+EachInit [] = Unit {0}
+EachInit (i ∷ is) = GoodInit i × EachInit is
 
-pub walked_fails : (xs : List Expr) (i : ℕ) (e : Expr) (s : State) (f : Fault) → i < length xs → e ≡ get_or xs i e
-    → (walks.node e).walk stage.Function s ≡ Err f → spec.walked (map walks.node (drop i xs)) s ≡ Err f
-walked_fails xs i e s f h is was =
-    next (λ es. spec.walked (map walks.node es) s) xs i e h is ∙ ap (λ q. q >>>= (λ p. spec.walked (map walks.node (drop (i + 1) xs)) p.1)) was
+-- ---- what a declaration does
 
-pub globals_goes : (xs : List Init) (i : ℕ) (e : Init) (line : ℕ) (b : Base) (s z : State) → i < length xs → e ≡ get_or xs i e
-    → spec.global line b (walks.init e) s ≡ Ok (tt, z)
-    → spec.globals line b (map walks.init (drop i xs)) s ≡ spec.globals line b (map walks.init (drop (i + 1) xs)) z
-globals_goes xs i e line b s z h is was =
-    next (λ es. spec.globals line b (map walks.init es) s) xs i e h is ∙ ap (λ q. q >>>= (λ p. spec.globals line b (map walks.init (drop (i + 1) xs)) p.1)) was
+pub record GlobalDone (many : ℕ) (s new : State) (sc : Scope) : Type 0 where
+  pub scope : Scope
+  pub one : new.scopes ≡ scope ∷ []
+  pub keeps : (n : Name) (m : Meaning) → in_scope sc n ≡ Some m → in_scope scope n ≡ Some m
+  pub names : EachEntry (FileName many s.functions) sc → EachEntry (FileName many new.functions) scope
+  pub later : Later s.functions new.functions
+  pub defined : new.functions.defined ≡ s.functions.defined
+  pub all : new.functions.all ≡ s.functions.all
+  pub ticks : new.ticks.all ≡ s.ticks.all
 
-pub globals_fails : (xs : List Init) (i : ℕ) (e : Init) (line : ℕ) (b : Base) (s : State) (f : Fault) → i < length xs → e ≡ get_or xs i e
-    → spec.global line b (walks.init e) s ≡ Err f → spec.globals line b (map walks.init (drop i xs)) s ≡ Err f
-globals_fails xs i e line b s f h is was =
-    next (λ es. spec.globals line b (map walks.init es) s) xs i e h is ∙ ap (λ q. q >>>= (λ p. spec.globals line b (map walks.init (drop (i + 1) xs)) p.1)) was
+later_refl : (f : Functions) → Later f f
+later_refl f = record { earlier = refl; prototypes = starts_same f.prototypes f.prototypes refl }
 
-pub walk_goes : (xs : List External) (i : ℕ) (e : External) (s z : State) → i < length xs → e ≡ get_or xs i e
-    → spec.external e s ≡ Ok (tt, z) → spec.walk (drop i xs) s ≡ spec.walk (drop (i + 1) xs) z
-walk_goes xs i e s z h is was = next (λ es. spec.walk es s) xs i e h is ∙ ap (λ q. q >>>= (λ p. spec.walk (drop (i + 1) xs) p.1)) was
+later_more : (f g h : Functions) → Later f g → Later g h → Later f h
+later_more f g h p q = record { earlier = q.earlier ∙ p.earlier; prototypes = starts_trans f.prototypes g.prototypes h.prototypes p.prototypes q.prototypes }
 
-pub walk_fails : (xs : List External) (i : ℕ) (e : External) (s : State) (f : Fault) → i < length xs → e ≡ get_or xs i e
-    → spec.external e s ≡ Err f → spec.walk (drop i xs) s ≡ Err f
-walk_fails xs i e s f h is was = next (λ es. spec.walk es s) xs i e h is ∙ ap (λ q. q >>>= (λ p. spec.walk (drop (i + 1) xs) p.1)) was
+pub global_same : (many : ℕ) (s : State) (sc : Scope) → s.scopes ≡ sc ∷ [] → GlobalDone many s s sc
+global_same many s sc one = record { scope = sc; one = one; keeps = λ n m h. h; names = λ h. h; later = later_refl s.functions; defined = refl; all = refl; ticks = refl }
 
--- the same with what check_forms says of the value
-pub row_next : (xs : List Expr) (i : ℕ) (e : Expr) (t : CType) (r next_row : Row) (s z : State) (o : Operand) → i < length xs → e ≡ get_or xs i e
-    → (walks.node e).walk stage.Function s ≡ Ok (o, z) → next_row ≡ row_more t (has_form e) (is_some (string_of e)) o r
-    → spec.row (map walks.node (drop (i + 1) xs)) t next_row z ≡ spec.row (map walks.node (drop i xs)) t r s
-row_next xs i e t r next_row s z o h is was made =
-    ap (λ q. spec.row (map walks.node (drop (i + 1) xs)) t q z) made
-    ∙ ap (λ w. spec.row (map walks.node (drop (i + 1) xs)) t (row_more t w.constant (is_some w.string) o r) z) (sym (expr_agrees e))
-    ∙ sym (row_goes xs i e t r s z o h is was)
+pub global_more : (many : ℕ) (s m new : State) (sc : Scope) → (p : GlobalDone many s m sc) → GlobalDone many m new p.scope → GlobalDone many s new sc
+global_more many s m new sc p q = record {
+  scope = q.scope;
+  one = q.one;
+  keeps = λ n x h. q.keeps n x (p.keeps n x h);
+  names = λ h. q.names (p.names h);
+  later = later_more s.functions m.functions new.functions p.later q.later;
+  defined = q.defined ∙ p.defined;
+  all = q.all ∙ p.all;
+  ticks = q.ticks ∙ p.ticks;
+}
+
+pub global_still : (many : ℕ) (s new : State) (sc : Scope) → s.scopes ≡ sc ∷ [] → Still s new → GlobalDone many s new sc
+global_still many s new sc one h = record {
+  scope = sc;
+  one = h.scopes ∙ one;
+  keeps = λ n m k. k;
+  names = λ k. subst (λ (f : Functions). EachEntry (FileName many f) sc) (sym h.functions) k;
+  later = subst (λ (f : Functions). Later s.functions f) (sym h.functions) (later_refl s.functions);
+  defined = ap (λ (f : Functions). f.defined) h.functions;
+  all = ap (λ (f : Functions). f.all) h.functions;
+  ticks = h.ticks;
+}
+
+-- ---- a prototype
+
+pub prototype_done : (many line : ℕ) (name : Name) (t : CType) (s new : State) (u : Unit {0}) (sc : Scope) → s.scopes ≡ sc ∷ [] → is_void t ≡ false
+    → names.prototype line name t s ≡ Ok (u, new) → GlobalDone many s new sc
+prototype_done many line name t s new u sc one value is =
+    let n : NamedPrototype line name t s new sc = prototype_named line name t s new u sc one is in
+    let p : Prototype = record { line = line; name = name } in
+    let later : Later s.functions (tables.with_prototype line name s.functions) = record { earlier = refl; prototypes = record { rest = record { line = line; name = name } ∷ []; is = refl } } in
+    subst (λ (z : State). GlobalDone many s z sc) (sym n.is)
+    (record {
+      scope = n.scope;
+      one = refl;
+      keeps = n.keeps;
+      names = λ h. n.names (FileName many (tables.with_prototype line name s.functions)) (file_later many s.functions (tables.with_prototype line name s.functions) sc later h)
+          (Declared (length s.functions.prototypes) (record { line = line; name = name }) (get_last s.functions.prototypes (record { line = line; name = name })) refl, value);
+      later = later;
+      defined = refl;
+      all = refl;
+      ticks = refl;
+    })
+
+-- ---- a variable
+
+pub variable_done : (many line : ℕ) (name : Name) (t : CType) (s new : State) (at : ℕ) (sc : Scope) → s.scopes ≡ sc ∷ [] → IsObject t
+    → names.variable line name t s ≡ Ok (at, new) → GlobalDone many s new sc
+variable_done many line name t s new at sc one object is =
+    let n : NamedVariable name t s new at sc = variable_named line name t s new at sc one is in
+    subst (λ (z : State). GlobalDone many s z sc) (sym n.is)
+    (record {
+      scope = sc ++ (name, next_global t s) ∷ [];
+      one = refl;
+      keeps = λ m x h. found_front sc (name, next_global t s) m x h;
+      names = λ h. each_more (FileName many s.functions) sc name (next_global t s) h object;
+      later = later_refl s.functions;
+      defined = refl;
+      all = refl;
+      ticks = refl;
+    })
+
+-- ---- a declarator
+
+started : (start : Start) (ss : List Step) → any_computed (with_start start ss) ≡ any_computed ss
+started Nothing ss = refl
+started (Value e) ss = filled_computed _ ss
+started (Values es) ss = filled_computed _ ss
+
+pub record GlobalType (line : ℕ) (b : Base) (d : Shape) (start : Start) (s new : State) (t : CType) : Type 0 where
+  pub still : Still s new
+  pub image : KeepsGlobals s new
+  pub steps : List Step
+  pub to : State
+  pub walked : d.walk stage.Function s ≡ Ok (steps, to)
+  pub typed : declared_type role.FileScope line (words.base_of b) (with_start start (names.named_steps steps)) ≡ Ok t
+  pub computed : any_computed steps ≡ false
+  pub object : IsObject t
+
+pub global_typed : (line : ℕ) (b : Base) (d : Shape) (start : Start) (s new : State) (t : CType) → GoodShape d → program.global_type line b d start s ≡ Ok (t, new) → GlobalType line b d start s new t
+global_typed line b d start s new t good is =
+    let p : Parts (d.walk stage.Function) (λ ss. lift (declared_type role.FileScope line (words.base_of b) (with_start start (names.named_steps ss)))) s new t
+    = parts (d.walk stage.Function) (λ ss. lift (declared_type role.FileScope line (words.base_of b) (with_start start (names.named_steps ss)))) s new t is in
+    let l : Lifted (declared_type role.FileScope line (words.base_of b) (with_start start (names.named_steps p.answer))) p.between new t
+    = lifted (declared_type role.FileScope line (words.base_of b) (with_start start (names.named_steps p.answer))) p.between new t p.second in
+    let f : FileType (words.base_of b) (with_start start (names.named_steps p.answer)) t = file_type line (words.base_of b) (with_start start (names.named_steps p.answer)) t l.gave in
+    let computed : any_computed p.answer ≡ false
+    = sym (named_computed p.answer) ∙ sym (started start (names.named_steps p.answer)) ∙ none_computed (with_start start (names.named_steps p.answer)) (words.base_of b) [] f.worst in
+    record {
+      still = subst (λ (z : State). Still s z) (sym l.same) (plain_still s p.between (good stage.Function s p.between p.answer p.first computed));
+      image = subst (λ (z : State). KeepsGlobals s z) (sym l.same) (good stage.Function s p.between p.answer p.first computed).tables.image;
+      steps = p.answer;
+      to = p.between;
+      walked = p.first;
+      typed = l.gave;
+      computed = computed;
+      object = record {
+        type = types_use.declared role.FileScope line (words.base_of b) (with_start start (names.named_steps p.answer)) t refl l.gave;
+        specified = types_use.vspec role.FileScope line (words.base_of b) (with_start start (names.named_steps p.answer)) t l.gave;
+      };
+    }
+
+prototype_parts : (many line : ℕ) (t : CType) (d : Shape) (start : Start) (s new : State) (u : Unit {0}) (sc : Scope) → s.scopes ≡ sc ∷ [] → IsObject t
+    → program.prototype line t d start s ≡ Ok (u, new) → GlobalDone many s new sc
+prototype_parts many line t d start s new u sc one object is =
+    let p : Parts (names.prototype line (name_by d.declared.name) t) (λ v. program.no_start line start) s new u
+    = parts (names.prototype line (name_by d.declared.name) t) (λ v. program.no_start line start) s new u is in
+    let first : GlobalDone many s p.between sc = prototype_done many line (name_by d.declared.name) t s p.between p.answer sc one object.type p.first in
+    global_more many s p.between new sc first (global_still many p.between new first.scope first.one (no_start line start p.between new u p.second))
+
+variable_parts : (many line : ℕ) (t : CType) (d : Shape) (start : Start) (s new : State) (u : Unit {0}) (sc : Scope) → s.scopes ≡ sc ∷ [] → IsObject t → StaticStart start
+    → program.variable line t d start s ≡ Ok (u, new) → GlobalDone many s new sc
+variable_parts many line t d start s new u sc one object good is =
+    let p : Parts (names.variable line (name_by d.declared.name) t) (λ at. program.static_begin line at t start) s new u
+    = parts (names.variable line (name_by d.declared.name) t) (λ at. program.static_begin line at t start) s new u is in
+    let first : GlobalDone many s p.between sc = variable_done many line (name_by d.declared.name) t s p.between p.answer sc one object p.first in
+    global_more many s p.between new sc first (global_still many p.between new first.scope first.one (begin_still line p.answer t start p.between new u good p.second))
+
+named_case : (b : Bool) (many line : ℕ) (t : CType) (d : Shape) (start : Start) (s new : State) (u : Unit {0}) (sc : Scope) → s.scopes ≡ sc ∷ [] → IsObject t → StaticStart start
+    → (if b then program.prototype line t d start else program.variable line t d start) s ≡ Ok (u, new) → GlobalDone many s new sc
+named_case true many line t d start s new u sc one object good is = prototype_parts many line t d start s new u sc one object is
+named_case false many line t d start s new u sc one object good is = variable_parts many line t d start s new u sc one object good is
+
+pub global_done : (many line : ℕ) (b : Base) (i : InitParts) (s new : State) (u : Unit {0}) (sc : Scope) → GoodInit i → s.scopes ≡ sc ∷ []
+    → program.global line b i s ≡ Ok (u, new) → GlobalDone many s new sc
+global_done many line b i s new u sc good one is =
+    let p : Parts (program.global_type line b i.shape i.start) (λ t. program.named line t i.shape i.start) s new u
+    = parts (program.global_type line b i.shape i.start) (λ t. program.named line t i.shape i.start) s new u is in
+    let ty : GlobalType line b i.shape i.start s p.between p.answer = global_typed line b i.shape i.start s p.between p.answer good.shape p.first in
+    let first : GlobalDone many s p.between sc = global_still many s p.between sc one ty.still in
+    global_more many s p.between new sc first
+    (named_case (is_function p.answer) many line p.answer i.shape i.start p.between new u first.scope first.one ty.object good.start p.second)
+
+-- a declaration
+pub globals_done : (many line : ℕ) (b : Base) (is : List InitParts) (s new : State) (u : Unit {0}) (sc : Scope) → EachInit is → s.scopes ≡ sc ∷ []
+    → program.globals line b is s ≡ Ok (u, new) → GlobalDone many s new sc
+globals_done many line b [] s new u sc good one h = subst (λ (z : State). GlobalDone many s z sc) (pure_same tt u s new h) (global_same many s sc one)
+globals_done many line b (i ∷ is) s new u sc good one h =
+    let p : Parts (program.global line b i) (λ v. program.globals line b is) s new u = parts (program.global line b i) (λ v. program.globals line b is) s new u h in
+    let first : GlobalDone many s p.between sc = global_done many line b i s p.between p.answer sc good.0 one p.first in
+    global_more many s p.between new sc first (globals_done many line b is p.between new u first.scope good.1 first.one p.second)

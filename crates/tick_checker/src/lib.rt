@@ -1,8 +1,9 @@
-//! The checker: from the syntax tree of a program to its typed tree, or to its first static fault.
+//! The checker: from the syntax tree of a text to its typed tree, or to its first static fault; and the law on accepted texts, which
+//! the typed tree keeps in its type.
 #![tactic(auto)]
 
-mod parameters;
-mod program;
-mod walks;
+mod checker;
+mod laws;
 
-pub use walks::check;
+pub use checker::check;
+pub use laws::{checked_is_well_formed, trees_are_good};

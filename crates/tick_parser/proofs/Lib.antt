@@ -1,1 +1,6 @@
+pub mod Declared
 pub mod Found
+pub mod Heads
+pub mod Parsed
+pub mod Programs
+pub mod Spelled

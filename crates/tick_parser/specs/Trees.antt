@@ -9,7 +9,7 @@ use Rattle.tick_tree.specs.declared.fault.Fault.{Fault}
 use Rattle.tick_tree.specs.declared.fault.FaultKind.{FaultKind}
 use Rattle.tick_tree.specs.declared.fault.FaultKind.TheVariants as fault
 use Rattle.tick_tree.specs.declared.syntax.External.{External}
-use Rattle.tick_tree.specs.declared.syntax.Tree.{Tree}
+use Rattle.tick_tree.specs.declared.tree.Tree.{Tree}
 use Rattle.parse_grammar.specs.declared.item.Item.{Item}
 use Rattle.parse_grammar.specs.declared.stop.Stop.{Stop}
 use Rattle.parse_grammar.specs.declared.stop.Stop.TheVariants.{NoMemory, Syntax, TooDeep}

@@ -5,4 +5,4 @@ mod items;
 mod knot;
 mod trees;
 
-pub use trees::parse;
+pub use trees::{parse, parsed_are_texts};

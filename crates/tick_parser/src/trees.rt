@@ -6,6 +6,7 @@ ghost use Rattle.tick_tree.specs.Faults.{Answers};
 ghost use Rattle.parse_spelling.specs.Words.{words};
 ghost use Rattle.parse_spelling.specs.Spelling.{spells_program};
 ghost use Rattle.tick_parser.specs.Items.{items_of};
+ghost use Rattle.tick_parser.specs.Laws.{ParsedAreTexts};
 ghost use Rattle.tick_parser.specs.Trees as spec;
 ghost use Rattle.limits.specs.declared.text.TheConstants.{LONGEST_TEXT, MAX_TOKENS};
 
@@ -86,7 +87,7 @@ fn program<'a>(alloc: Global, items: &'a [Item<'a>]) -> Result<Items<External>, 
 ///
 /// The fault of the first token that is wrong: Syntax where the grammar takes no such token there, the end of the text with
 /// it, else TooDeep where the nesting at it is over [`MAX_NESTING`].
-#[tactic(auto, unfolding(crate::specs::Trees::parsed))]
+#[tactic(auto, unfolding(crate::specs::Trees::parsed), using(crate::proofs::Parsed::is_text))]
 pub fn parse(alloc: Global, text: &[u8], tokens: &[Token]) -> Result<Tree, Deny>
     requires small { length text.now ≤ LONGEST_TEXT }
     requires few { length tokens.now ≤ MAX_TOKENS }
@@ -97,7 +98,12 @@ pub fn parse(alloc: Global, text: &[u8], tokens: &[Token]) -> Result<Tree, Deny>
         return Err(Deny::NoMemory);
     };
     match program(alloc, &items) {
-        Ok(items) => Ok(Tree { items }),
+        Ok(items) => Ok(Tree::new(items)),
         Err(stop) => Err(denial(text, tokens, stop)),
     }
 }
+
+/// That each tree of at most 262,144 tokens names its functions and is small, as [`Tree`] keeps it.
+pub fn parsed_are_texts()
+    ensures { ParsedAreTexts }
+{}

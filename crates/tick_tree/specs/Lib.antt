@@ -1,1 +1,5 @@
 pub mod Faults
+pub mod Items
+pub mod Named
+pub mod Texts
+pub mod Weights

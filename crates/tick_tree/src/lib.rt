@@ -6,12 +6,14 @@ mod fault;
 mod name;
 mod syntax;
 mod token;
+mod tree;
 
 pub use base::{Base, BinaryOp, ModifyOp, Prefix, Signedness, StepOp, UnaryOp};
 pub use fault::{Deny, Fault, FaultKind, refused};
 pub use name::Name;
 pub use syntax::{
     Core, Declaration, Declarator, Expr, External, Init, Initializer, OptionalExpr, Parameter,
-    Stmt, Suffix, Tree, Typename,
+    Stmt, Suffix, Typename,
 };
 pub use token::{Token, TokenKind};
+pub use tree::Tree;

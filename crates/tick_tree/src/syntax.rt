@@ -305,10 +305,3 @@ pub enum External {
     /// A declaration, which may declare nothing.
     Declaration(Declaration),
 }
-
-/// A program.
-#[derive(Drop)]
-pub struct Tree {
-    /// Its items, from first to last.
-    pub items: Items<External>,
-}

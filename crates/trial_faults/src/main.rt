@@ -16,7 +16,7 @@ use tick_checker::check;
 use tick_parser::parse;
 use tick_tree::Deny;
 use trial_cases::{Case, cases};
-use typed_tree::Typed;
+use wellformed::Typed;
 
 fn typed(alloc: Global, text: &[u8]) -> Result<Typed, Deny>
     requires { length text.now ≤ LONGEST_TEXT }
@@ -44,7 +44,7 @@ struct Sizes {
 
 fn sizes_of(alloc: Global, program: &Typed) -> Result<Sizes, AllocError> {
     let mut functions = Vec::new(alloc);
-    for f in program.functions.as_slice() {
+    for f in program.functions() {
         functions.push(FunctionSizes {
             nodes: f.size,
             object: f.object,
@@ -52,13 +52,13 @@ fn sizes_of(alloc: Global, program: &Typed) -> Result<Sizes, AllocError> {
         })?;
     }
     let mut ticks = Vec::new(alloc);
-    for t in program.ticks.as_slice() {
+    for t in program.ticks() {
         ticks.push(t.size)?;
     }
     Ok(Sizes {
         functions,
         ticks,
-        bytes: program.image.len(),
+        bytes: program.image().len(),
     })
 }
 

@@ -20,7 +20,7 @@ use std::io;
 use tick_checker::check;
 use tick_parser::parse;
 use tick_tree::Deny;
-use typed_tree::Typed;
+use wellformed::Typed;
 
 // The address of the first word, and the bytes of a frame.
 const FIRST: u32 = 0x0040_1000;
@@ -75,10 +75,10 @@ fn finished_builder(alloc: Global, program: &Typed) -> Result<Option<Builder>, A
     ensures { IfOk result (λ found. IfSome found (λ b. b.phase ≡ Finished)) }
 {
     built_is_static();
-    match function_of(alloc, program) {
-        Ok(Some(function)) => Ok(Some(builder_of(alloc, function)?)),
-        Ok(None) => Ok(None),
-        Err(error) => Err(error),
+    program.keeps_law();
+    match function_of(program) {
+        Some(function) => Ok(Some(builder_of(alloc, function)?)),
+        None => Ok(None),
     }
 }
 

@@ -27,7 +27,7 @@ fn report<R: Print + AllocGlobal>(rt: &R, title: &[u8], text: &[u8]) -> io::Resu
         return println!(rt; " over {LONGEST_TEXT} bytes");
     }
     match tree_of(rt.alloc(), text) {
-        Ok(tree) => println!(rt; " a tree of {} items", tree.items.len()),
+        Ok(tree) => println!(rt; " a tree of {} items", tree.items().len()),
         Err(Deny::Refused(fault)) => {
             println!(rt;
                 " {} {} on line {} at token {}",

@@ -20,7 +20,7 @@ fn reads_a_declaration(rt: HostRuntime) {
         token(TokenKind::Sign, 5, 1),
     ];
     let count = match parse(rt.alloc(), b"int x;", &found) {
-        Ok(tree) => tree.items.len(),
+        Ok(tree) => tree.items().len(),
         Err(_) => 0,
     };
     assert!(rt; count == 1);

@@ -8,7 +8,7 @@ use Rattle.typed_tree.specs.declared.program.Function.{Function}
 use Rattle.typed_tree.specs.declared.program.Tick.{Tick}
 use Rattle.typed_tree.specs.declared.program.TickBody.{TickBody}
 use Rattle.typed_tree.specs.declared.program.TickBody.TheVariants as body
-use Rattle.typed_tree.specs.declared.program.Typed.{Typed}
+use Rattle.typed_tree.specs.declared.program.TypedParts.{TypedParts}
 use Rattle.typed_tree.specs.Folds.{Parts, Rules, fold_statement}
 use Rattle.typed_tree.specs.Folds as parts
 use Rattle.typed_tree.specs.Nodes as node
@@ -97,5 +97,5 @@ body_view (body.Statement s) = node.Statement (stmt_view s)
 abbrev pub tick_view : Tick → node.TickBody
 tick_view t = body_view t.body
 
-abbrev pub program_view : Typed → node.Program
+abbrev pub program_view : TypedParts → node.Program
 program_view p = record { functions = map function_view p.functions; ticks = map tick_view p.ticks; image = p.image }

@@ -12,5 +12,5 @@ pub use nodes::{
     for_step, if_else, if_then, library, load, modify, parameter, post, set_generated,
     set_variable, store, unary, void, while_loop,
 };
-pub use program::{Function, Tick, TickBody, Typed};
+pub use program::{Function, Tick, TickBody, TypedParts};
 pub use sizes::{body_size, has_value, size, statement_size};

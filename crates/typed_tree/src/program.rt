@@ -38,9 +38,9 @@ pub struct Tick {
     pub body: TickBody,
 }
 
-/// A program that breaks no rule.
+/// The parts of a typed program, as the checker puts them together. The typed tree of an accepted text is sealed: `wellformed::Typed`.
 #[derive(Drop)]
-pub struct Typed {
+pub struct TypedParts {
     /// Its functions, in the order of their definitions; the first has the number 1.
     pub functions: Items<Function>,
     /// Its ticks, in the order of the text.

@@ -10,7 +10,7 @@ use Rattle.typed_tree.specs.declared.program.Function.{Function}
 use Rattle.typed_tree.specs.declared.program.Tick.{Tick}
 use Rattle.typed_tree.specs.declared.program.TickBody.{TickBody}
 use Rattle.typed_tree.specs.declared.program.TickBody.TheVariants as body
-use Rattle.typed_tree.specs.declared.program.Typed.{Typed}
+use Rattle.typed_tree.specs.declared.program.TypedParts.{TypedParts}
 use Rattle.typed_tree.specs.Nodes.{fold_expr, fold_stmt}
 use Rattle.typed_tree.specs.Sizes.{body_size}
 use Rattle.typed_tree.specs.Measures.{size_of_stmt, size_of_body}
@@ -76,7 +76,7 @@ body_numbered : (b : TickBody) → accepted.IsNumbered b → IsNumbered (body_vi
 body_numbered (body.Expression e) h = tt
 body_numbered (body.Statement s) h = numbers_viewed s h
 
-module _ (p : Typed) (all : List (List CaptureKind)) where
+module _ (p : TypedParts) (all : List (List CaptureKind)) where
   as_many : length (map function_view p.functions) ≡ length p.functions
   as_many = length-map p.functions function_view
 
@@ -131,7 +131,7 @@ beside (a ∷ xs) (b ∷ ys) (suc n) x e at = beside xs ys n x (omega (arith, e)
 
 -- ---- programs
 
-module _ (p : Typed) (h : IsAccepted p) where
+module _ (p : TypedParts) (h : IsAccepted p) where
   function_sized : (n : ℕ) (f : Function) → slice_get p.functions n ≡ Some f → f.size ≡ size_of_stmt (stmt_view f.body)
   function_sized n f at = (h.functions n f at).size ∙ statement_size_viewed f.body
 

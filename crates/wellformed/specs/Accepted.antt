@@ -7,7 +7,7 @@ use Rattle.typed_tree.specs.declared.program.Function.{Function}
 use Rattle.typed_tree.specs.declared.program.Tick.{Tick}
 use Rattle.typed_tree.specs.declared.program.TickBody.{TickBody}
 use Rattle.typed_tree.specs.declared.program.TickBody.TheVariants as body
-use Rattle.typed_tree.specs.declared.program.Typed.{Typed}
+use Rattle.typed_tree.specs.declared.program.TypedParts.{TypedParts}
 use Rattle.typed_tree.specs.Sizes.{statement_size, body_size}
 use Rattle.wellformed.specs.Counts.{one_if, objects_at, declarations_of}
 use Rattle.wellformed.specs.Places.{Around, stands_as_body, stands_as_tick}
@@ -16,10 +16,10 @@ use Rattle.limits.specs.declared.program.TheConstants.{CHARGE_LIMIT, FRAME_OBJEC
 use Rattle.word32.specs.declared.map.TheConstants.{GLOBAL_BYTES}
 
 -- what is round the body of a function, and round that of a tick
-abbrev pub round_function : Typed → List (List CaptureKind) → Function → Around
+abbrev pub round_function : TypedParts → List (List CaptureKind) → Function → Around
 round_function p ticks f = record { variables = []; object = f.object; functions = length p.functions; ticks = ticks; captures = None; in_loop = false; in_switch = false }
 
-abbrev pub round_tick : Typed → List (List CaptureKind) → List CaptureKind → Around
+abbrev pub round_tick : TypedParts → List (List CaptureKind) → List CaptureKind → Around
 round_tick p ticks kinds = record { variables = []; object = 0; functions = length p.functions; ticks = ticks; captures = Some kinds; in_loop = false; in_switch = false }
 
 -- each register variable is declared once, and its number is less than the size
@@ -32,7 +32,7 @@ IsNumbered (body.Expression e) = Unit {0}
 IsNumbered (body.Statement s) = AreNumbered s
 
 -- a function of the program, where its ticks capture this
-pub record IsFunction (p : Typed) (ticks : List (List CaptureKind)) (f : Function) : Type 0 where
+pub record IsFunction (p : TypedParts) (ticks : List (List CaptureKind)) (f : Function) : Type 0 where
   pub stands : IsTrue (stands_as_body f.body f.params (round_function p ticks f))
   pub values : IsTrue (uses_values f.body)
   pub size : f.size ≡ statement_size f.body
@@ -44,7 +44,7 @@ pub record IsFunction (p : Typed) (ticks : List (List CaptureKind)) (f : Functio
   pub short : f.object ≤ FRAME_OBJECT_BYTES
 
 -- a tick of the program that captures this
-pub record IsTick (p : Typed) (ticks : List (List CaptureKind)) (t : Tick) (kinds : List CaptureKind) : Type 0 where
+pub record IsTick (p : TypedParts) (ticks : List (List CaptureKind)) (t : Tick) (kinds : List CaptureKind) : Type 0 where
   pub stands : IsTrue (stands_as_tick t.body (round_tick p ticks kinds))
   pub values : IsTrue (body_uses_values t.body)
   pub size : t.size ≡ body_size t.body
@@ -61,11 +61,11 @@ size_of_function f = f.size
 abbrev pub size_of_tick : Tick → ℕ
 size_of_tick t = t.size
 
-abbrev pub words : Typed → ℕ
+abbrev pub words : TypedParts → ℕ
 words p = FRONT_WORDS + sum (map (λ f. charge (size_of_function f)) p.functions) + sum (map (λ t. charge (size_of_tick t)) p.ticks)
 
 -- the typed tree of an accepted text
-pub record IsAccepted (p : Typed) : Type 0 where
+pub record IsAccepted (p : TypedParts) : Type 0 where
   -- what its ticks capture
   pub captures : List (List CaptureKind)
   pub each : length captures ≡ length p.ticks

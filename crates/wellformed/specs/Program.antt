@@ -4,7 +4,7 @@ use Rattle.std.specs.Prelude.{◌≡◌, ℕ, ◌+◌, ◌≤◌, ◌<◌, Bool,
 use Rattle.typed_tree.specs.declared.expression.CaptureKind.{CaptureKind}
 use Rattle.typed_tree.specs.declared.program.Function.{Function}
 use Rattle.typed_tree.specs.declared.program.Tick.{Tick}
-use Rattle.typed_tree.specs.declared.program.Typed.{Typed}
+use Rattle.typed_tree.specs.declared.program.TypedParts.{TypedParts}
 use Rattle.typed_tree.specs.Nodes as node
 use Rattle.typed_tree.specs.Nodes.{Expression, Statement, fold_expr, fold_stmt}
 use Rattle.typed_tree.specs.Measures.{size_of_stmt, size_of_body}
@@ -91,7 +91,7 @@ pub record IsProgram (p : node.Program) : Type 0 where
   pub small : words p ≤ CHARGE_LIMIT
 
 -- the typed tree of an accepted text
-pub record IsWellFormed (p : Typed) : Type 0 where
+pub record IsWellFormed (p : TypedParts) : Type 0 where
   pub program : IsProgram (program_view p)
   -- the sizes that the tree keeps are counts of nodes
   pub function_sizes : (n : ℕ) (f : Function) → slice_get p.functions n ≡ Some f → f.size ≡ size_of_stmt (function_view f).body

@@ -22,7 +22,7 @@ use Rattle.check_statements.specs.Declarations.{name_by}
 use Rattle.check_globals.specs.Functions as functions
 use Rattle.check_globals.specs.Functions.{Given}
 use Rattle.check_globals.specs.Names as names
-use Rattle.tick_checker.specs.Program as program
+use Rattle.check_programs.specs.Program as program
 use Rattle.wf_growth_rules.specs.Light.{Light, After, Bounded, LightShape, LightItem, Each}
 use Rattle.wf_growth_rules.proofs.Walks.{weak, by_after, after, pure_light, lift_light, bind_light, ok_same}
 use Rattle.wf_growth_rules.proofs.States.{same_light, declare_light, depth_light, enter_light, leave_light, one_more, variable_homes, variable_inner}

@@ -14,8 +14,8 @@ use Rattle.tick_tree.specs.declared.syntax.Typename.{Typename}
 use Rattle.tick_tree.specs.declared.syntax.Core.TheOpen.{Core-F, Suffix-F, Declarator-F}
 use Rattle.tick_tree.specs.declared.syntax.Core.TheFolds.{map-Core, map-Suffix, map-Declarator, ind-Declarator, fold-roll-Core, fold-roll-Suffix, fold-roll-Declarator}
 use Rattle.check_globals.specs.Functions.{Given}
-use Rattle.tick_checker.specs.Parameters.{Head, Inner, nothing, first_of, inner_rule, head_rule, list_rule, given_rule, inner, head, list, written, parameters_of}
-use Rattle.syntax_size.specs.Weights.{total, core_nodes, suffix_nodes, declarator_nodes, core_weight, suffix_weight, declarator_weight, parameter_weight}
+use Rattle.check_programs.specs.Parameters.{Head, Inner, nothing, first_of, inner_rule, head_rule, list_rule, given_rule, inner, head, list, written, parameters_of}
+use Rattle.tick_tree.specs.Weights.{total, core_nodes, suffix_nodes, declarator_nodes, core_weight, suffix_weight, declarator_weight, parameter_weight}
 use Rattle.syntax_size.proofs.Folds.{weigh-Core, weigh-Suffix, weigh-Declarator, weigh-Parameter}
 use Rattle.syntax_size.specs.Layers.{Core-T, Suffix-T, Declarator-T, Parameter-T, weighed-Core, weighed-Suffix, weighed-Declarator}
 

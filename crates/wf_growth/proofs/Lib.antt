@@ -1,11 +1,5 @@
-pub mod Declarations
-pub mod Few
-pub mod Folds
 pub mod Functions
 pub mod Given
 pub mod Globals
 pub mod Programs
-pub mod Small
 pub mod Starts
-pub mod Tree
-pub mod Walks

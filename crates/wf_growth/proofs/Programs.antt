@@ -2,21 +2,17 @@
 use Rattle.std.proofs.Common.{List, [], ◌∷◌, map, arith}
 use Rattle.tick_tree.specs.declared.syntax.External.{External}
 use Rattle.tick_tree.specs.declared.syntax.External.TheVariants as ext
-use Rattle.tick_tree.specs.declared.syntax.Stmt.{Stmt}
-use Rattle.tick_checker.specs.Parameters.{parameters_of}
-use Rattle.tick_checker.specs.Program as program
+use Rattle.check_programs.specs.Parameters.{parameters_of}
+use Rattle.check_programs.specs.Program as program
 use Rattle.check_walk.specs.Walk.{item, shape, declaration}
-use Rattle.wf_growth_rules.specs.Light.{Bounded, LightItem, Each, none, more}
+use Rattle.wf_growth_rules.specs.Light.{Bounded}
 use Rattle.wf_growth_rules.proofs.Walks.{weak, pure_light, bind_light}
-use Rattle.syntax_size.specs.Weights.{total, statement_weight, item_weight}
+use Rattle.tick_tree.specs.Weights.{total, item_weight}
 use Rattle.wf_growth.proofs.Functions.{function_light}
 use Rattle.wf_growth.proofs.Given.{parameters_few}
 use Rattle.wf_growth.proofs.Globals.{declared_light}
-use Rattle.wf_growth.proofs.Tree.{stmt_light, declarator_light, declaration_light}
-
-pub items_light : (xs : List Stmt) → Each LightItem (total (map statement_weight xs)) (map item xs)
-items_light [] = none
-items_light (x ∷ xs) = more (stmt_light x) (items_light xs)
+use Rattle.wf_growth_rules.proofs.Few.{items_light}
+use Rattle.wf_growth_rules.proofs.Tree.{declarator_light, declaration_light}
 
 pub external_light : (x : External) → Bounded (item_weight x) (program.external x)
 external_light (ext.Function line b d xs) = weak _ (function_light line b (shape d) (parameters_of d) (map item xs) (declarator_light d) (parameters_few d) (items_light xs)) (omega arith)

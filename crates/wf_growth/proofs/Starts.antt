@@ -2,9 +2,9 @@
 use Rattle.std.proofs.Common.{◌≡◌, ℕ, ◌≤◌, Bool, true, false, if◌then◌else◌, List, map, length, subst, Option, Some, None, Ok, Err, arith}
 use Rattle.tick_tree.specs.declared.fault.FaultKind.TheVariants as fault
 use Rattle.tick_tree.specs.declared.syntax.External.{External}
-use Rattle.tick_tree.specs.declared.syntax.Tree.{Tree}
+use Rattle.tick_tree.specs.declared.tree.Tree.{Tree}
 use Rattle.tick_tree.specs.Faults.{Checked, refuse, ◌>>=◌ as ◌>>>=◌}
-use Rattle.typed_tree.specs.declared.program.Typed.{Typed}
+use Rattle.typed_tree.specs.declared.program.TypedParts.{TypedParts}
 use Rattle.c_types.specs.declared.ctype.CType.{CType}
 use Rattle.c_types.specs.Scopes.{Name}
 use Rattle.check_tables.specs.declared.functions.Prototype.{Prototype}
@@ -12,11 +12,11 @@ use Rattle.check_tables.specs.Functions as tables
 use Rattle.check_env.specs.declared.state.State.{State}
 use Rattle.check_env.specs.Starts as starts
 use Rattle.check_globals.specs.Programs as programs
-use Rattle.tick_checker.specs.Program as program
+use Rattle.check_programs.specs.Program as program
 use Rattle.wf_growth_rules.specs.Light.{After, Bounded}
 use Rattle.wf_growth_rules.proofs.Walks.{weak, after, bind_light}
 use Rattle.wf_growth_rules.proofs.States.{declare_light}
-use Rattle.syntax_size.specs.Weights.{total, item_weight, tree_weight}
+use Rattle.tick_tree.specs.Weights.{total, item_weight, tree_weight}
 use Rattle.wf_growth.proofs.Programs.{walk_light}
 
 add_light : (name : Name) (n : ℕ) (t : CType) → Bounded 0 (starts.add_library name n t)
@@ -51,7 +51,7 @@ again_light s = after libraries_light (starts.emptied s)
 
 -- ---- the ticks of a program
 
-abbrev FewTicks : ℕ → Checked Typed → Type 0
+abbrev FewTicks : ℕ → Checked TypedParts → Type 0
 FewTicks n (Ok p) = length p.ticks ≤ n
 FewTicks n (Err f) = Unit {0}
 
@@ -94,15 +94,15 @@ start_by xs (Ok x) = first_by xs (program.walk xs x.1)
 start_by xs (Err f) = tt
 
 checked_few : (t : Tree) → FewTicks (total (map item_weight t.items)) (program.checked t)
-unfolding program.checked
+unfolding program.checked program.checked_items
 checked_few t = start_by t.items starts.start
 
-ok_typed : (q p : Typed) → ◌≡◌ {A = Checked Typed} (Ok q) (Ok p) → q ≡ p
+ok_typed : (q p : TypedParts) → ◌≡◌ {A = Checked TypedParts} (Ok q) (Ok p) → q ≡ p
 ok_typed q p e = cc
 
-few_ticks : (n : ℕ) (r : Checked Typed) (p : Typed) → FewTicks n r → r ≡ Ok p → length p.ticks ≤ n
-few_ticks n (Ok q) p h e = subst (λ (z : Typed). length z.ticks ≤ n) (ok_typed q p e) h
+few_ticks : (n : ℕ) (r : Checked TypedParts) (p : TypedParts) → FewTicks n r → r ≡ Ok p → length p.ticks ≤ n
+few_ticks n (Ok q) p h e = subst (λ (z : TypedParts). length z.ticks ≤ n) (ok_typed q p e) h
 few_ticks n (Err f) p h e = absurd (cc)
 
-pub ticks_few : (t : Tree) (p : Typed) → program.checked t ≡ Ok p → length p.ticks ≤ tree_weight t
+pub ticks_few : (t : Tree) (p : TypedParts) → program.checked t ≡ Ok p → length p.ticks ≤ tree_weight t
 ticks_few t p e = omega (arith, few_ticks (total (map item_weight t.items)) (program.checked t) p (checked_few t) e)

@@ -1,4 +1,2 @@
 pub mod Fresh
 pub mod Laws
-pub mod Parts
-pub mod Weights

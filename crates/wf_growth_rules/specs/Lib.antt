@@ -1,2 +1,4 @@
 pub mod Laws
 pub mod Light
+pub mod Parts
+pub mod Trees

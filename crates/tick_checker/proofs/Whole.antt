@@ -1,0 +1,127 @@
+-- A function of the program, whole.
+use Rattle.std.proofs.Common.{◌≡◌, ℕ, suc, ◌+◌, ◌≤◌, ◌<◌, min, true, false, nat_le, refl, ap, sym, ◌∙◌, subst, List, [], ◌∷◌, ◌++◌, length, take, slice_get, Some, arith}
+use Rattle.c_types.specs.declared.ctype.CType.{CType}
+use Rattle.c_types.specs.Scopes.{Name, Scope}
+use Rattle.check_types.specs.Shapes.{is_void}
+use Rattle.tick_tree.specs.declared.base.Base.{Base}
+use Rattle.typed_tree.specs.declared.expression.CaptureKind.{CaptureKind}
+use Rattle.typed_tree.specs.declared.expression.Stmt.{Stmt}
+use Rattle.typed_tree.specs.declared.program.Function.{Function}
+use Rattle.typed_tree.specs.Sizes.{statement_size}
+use Rattle.check_tables.specs.declared.functions.Functions.{Functions}
+use Rattle.check_tables.specs.declared.functions.Prototype.{Prototype}
+use Rattle.check_tables.specs.Functions as tables
+use Rattle.check_env.specs.declared.state.Stage.TheVariants as stage
+use Rattle.check_env.specs.declared.state.State.{State}
+use Rattle.check_expressions.specs.Rules as rules
+use Rattle.check_expressions.specs.Rules.{Shape, Item}
+use Rattle.check_statements.specs.Declarations.{name_by}
+use Rattle.check_globals.specs.Functions.{Given, types_of}
+use Rattle.check_globals.specs.Programs.{function_fits}
+use Rattle.check_programs.specs.Program.{around}
+use Rattle.wellformed.proofs.Bools.{second_true}
+use Rattle.wf_invariant.specs.Known.{EachEntry, Small, is_number, Numbered}
+use Rattle.wf_types.proofs.Fronts.{starts_same}
+use Rattle.tick_checker.proofs.Bools.{true_le, length_last}
+use Rattle.tick_checker.proofs.Done.{body_of, made_function, made_state, is_made, FunctionDone, with_defined, get_rest, is_right}
+use Rattle.tick_checker.proofs.Files.{many, End, Towards, numbered_on, EachLinked, linked_later, linked_last, AtFile}
+use Rattle.tick_checker.proofs.Finish.{few_ticks, function_fit}
+use Rattle.tick_checker.proofs.Functions.{GoodFunction}
+use Rattle.tick_checker.proofs.Inside.{Inside, inside, starts_length}
+use Rattle.tick_checker.proofs.Made.{PartsOf, parts_of}
+use Rattle.tick_checker.proofs.Names.{NamedFunction}
+use Rattle.tick_checker.proofs.Runs.{FunctionRan}
+use Rattle.tick_checker.proofs.Scopes.{FileName, Later, file_later}
+use Rattle.tick_checker.proofs.Still.{Still}
+use Rattle.tick_checker.proofs.Tables.{with_name, is_number_at}
+
+-- ---- a function, whole
+
+-- the state after a function has few things, as the end has
+small_after : (e : State) (line : ℕ) (d : Shape) (t : CType) (named given last : State) (xs : List Stmt) (n : ℕ) → End e → Towards (made_state line d t named last xs) e
+    → function_fits (made_function line d t named last xs) ≡ true → n ≤ 8 → length given.frame.homes ≡ n → length last.frame.homes ≤ length given.frame.homes + 900000000
+    → Small stage.Function last
+small_after e line d t named given last xs n end w fits few homes more =
+    let ticks : length e.ticks.all ≤ 15728640 = few_ticks e end.limits in
+    let part : length last.ticks.all ≤ length e.ticks.all = starts_length last.ticks.all e.ticks.all w.ticks in
+    record {
+      homes = omega arith;
+      object = true_le _ _ (second_true (nat_le (min (statement_size (body_of last xs)) 65536) 16384) (nat_le last.frame.object 4194304) fits);
+      ticks = omega arith;
+      tick = tt;
+    }
+
+fits_end : (e : State) (line : ℕ) (d : Shape) (t : CType) (s named last : State) (xs : List Stmt) (name : Name) (table : Scope) → End e → Towards (made_state line d t named last xs) e
+    → function_fits (made_function line d t named last xs) ≡ true
+fits_end e line d t s named last xs name table end w =
+    function_fit e.functions.all (length last.functions.all) (made_function line d t named last xs) end.limits.functions
+    (get_rest last.functions.all (made_function line d t named last xs) w.all.rest e.functions.all w.all.is)
+
+-- its number
+own_number : (e : State) (line : ℕ) (d : Shape) (t : CType) (s named last : State) (xs : List Stmt) (name : Name) (table : Scope) → Towards (made_state line d t named last xs) e
+    → last.functions ≡ with_defined (length s.functions.all) name table s.functions → length s.functions.all < many e
+own_number e line d t s named last xs name table w is =
+    let all : last.functions.all ≡ s.functions.all = ap (λ (f : Functions). f.all) is in
+    let a : length last.functions.all ≡ length s.functions.all = ap length all in
+    let b : length (last.functions.all ++ made_function line d t named last xs ∷ []) ≡ suc (length last.functions.all) = length_last last.functions.all (made_function line d t named last xs) in
+    let c : length (last.functions.all ++ made_function line d t named last xs ∷ []) ≤ length e.functions.all = starts_length (last.functions.all ++ made_function line d t named last xs ∷ []) e.functions.all w.all in
+    omega arith
+
+-- the names at file scope then
+names_then : (e : State) (s typed_ named last : State) (t : CType) (sc table : Scope) (name : Name) → EachEntry (FileName (many e) s.functions) sc → Still s typed_ → is_void t ≡ false
+    → (n : NamedFunction name t typed_ named sc table) → last.functions ≡ with_defined (length s.functions.all) name table s.functions → length s.functions.all < many e
+    → EachEntry (FileName (many e) last.functions) n.scope
+names_then e s typed_ named last t sc table name names still value n is below =
+    let later : Later s.functions last.functions = record { earlier = ap (λ (f : Functions). f.earlier) is; prototypes = starts_same s.functions.prototypes last.functions.prototypes (ap (λ (f : Functions). f.prototypes) is) } in
+    let all : length typed_.functions.all ≡ length s.functions.all = ap (λ (f : Functions). length f.all) still.functions in
+    let number : is_number (many e) (tables.next typed_.functions) ≡ true = is_number_at (many e) (length typed_.functions.all) (omega arith) in
+    n.names (FileName (many e) last.functions) (file_later (many e) s.functions last.functions sc later names) (Numbered number, value)
+
+file_then : (e : State) (line : ℕ) (d : Shape) (t : CType) (s typed_ named last : State) (xs : List Stmt) (sc table : Scope) → EachLinked sc s.functions.all
+    → (n : NamedFunction (name_by d.declared.name) t typed_ named sc table) → last.functions ≡ with_defined (length s.functions.all) (name_by d.declared.name) table s.functions
+    → take (length named.scopes) last.scopes ≡ n.scope ∷ [] → EachEntry (FileName (many e) last.functions) n.scope → AtFile e (made_state line d t named last xs)
+file_then e line d t s typed_ named last xs sc table linked n is scopes names = record {
+  scope = n.scope;
+  one = scopes;
+  names = file_later (many e) last.functions (tables.with_function (made_function line d t named last xs) last.functions) n.scope (record { earlier = refl; prototypes = starts_same last.functions.prototypes last.functions.prototypes refl }) names;
+  table = with_name (length s.functions.all) (name_by d.declared.name) table;
+  defined = ap (λ (f : Functions). f.defined) is;
+  linked = subst (λ (fs : List Function). EachLinked n.scope (fs ++ made_function line d t named last xs ∷ [])) (sym (ap (λ (f : Functions). f.all) is))
+      (linked_last n.scope s.functions.all (made_function line d t named last xs) (linked_later sc n.scope s.functions.all n.keeps linked)
+      (record { what = n.what; found = n.found; type = t; same = n.same; params = refl }));
+}
+
+numbers_then : (e : State) (line : ℕ) (d : Shape) (t : CType) (named last : State) (xs : List Stmt) → End e → Towards (made_state line d t named last xs) e
+    → (i : ℕ) (p : Prototype) → slice_get last.functions.prototypes i ≡ Some p → is_number (many e) (tables.number p.name last.functions) ≡ true
+numbers_then e line d t named last xs end w = numbered_on (made_state line d t named last xs) e end w
+
+pub function_done : (e : State) (line : ℕ) (b : Base) (d : Shape) (gs : List Given) (items : List Item) (ks : List (List CaptureKind)) (s new : State)
+    → End e → GoodFunction (many e) d gs items → (file : AtFile e s) → length ks ≡ length s.ticks.all → (r : FunctionRan line b d gs items s new) → Towards new e
+    → FunctionDone e (name_by d.declared.name) ks s new file.table
+function_done e line b d gs items ks s new end good file counted r towards =
+    let p : PartsOf line b d gs items s new r file.scope file.table = parts_of (many e) line b d gs items s new r file.scope file.table good file.one file.defined in
+    let made : new ≡ made_state line d r.type r.named r.third.last r.third.nodes = is_made line b d gs items s new r in
+    let w : Towards (made_state line d r.type r.named r.third.last r.third.nodes) e = subst (λ (z : State). Towards z e) made towards in
+    let fits : function_fits (made_function line d r.type r.named r.third.last r.third.nodes) ≡ true
+    = fits_end e line d r.type s r.named r.third.last r.third.nodes (name_by d.declared.name) file.table end w in
+    let small : Small stage.Function r.third.last
+    = small_after e line d r.type r.named r.third.given r.third.last r.third.nodes (length (types_of r.type)) end w fits p.typed.few p.all.at.frame.homes (good.few r.third.given r.third.last r.third.nodes r.third.walked) in
+    let below : length s.functions.all < many e = own_number e line d r.type s r.named r.third.last r.third.nodes (name_by d.declared.name) file.table w p.grown.functions in
+    let names : EachEntry (FileName (many e) r.third.last.functions) p.name.scope
+    = names_then e s r.typed r.named r.third.last r.type file.scope file.table (name_by d.declared.name) file.names p.typed.still p.typed.value p.name p.grown.functions below in
+    let i : Inside e ks (length (types_of r.type)) r.third.given r.third.last r.third.nodes
+    = inside e p.name.scope (length (types_of r.type)) ks (rules.each items around) r.third.given r.third.last r.third.nodes good.walks p.all.at
+    (subst (λ (f : Functions). EachEntry (FileName (many e) f) p.name.scope) (sym p.grown.same) names)
+    (counted ∙ ap length (sym p.grown.before)) r.third.walked small (numbers_then e line d r.type r.named r.third.last r.third.nodes end w) in
+    subst (λ (z : State). FunctionDone e (name_by d.declared.name) ks s z file.table) (sym made)
+    (record {
+      file = file_then e line d r.type s r.typed r.named r.third.last r.third.nodes file.scope file.table file.linked p.name p.grown.functions p.grown.scopes names;
+      defined = ap (λ (f : Functions). f.defined) p.grown.functions;
+      function = made_function line d r.type r.named r.third.last r.third.nodes;
+      all = ap (λ (f : Functions). f.all ++ made_function line d r.type r.named r.third.last r.third.nodes ∷ []) p.grown.functions;
+      named = refl;
+      more = i.more;
+      counted = i.counted;
+      stands = λ all starts. is_right e ks all line d r.type r.named r.third.given r.third.last r.third.nodes p.typed.few fits i starts;
+      ticks = λ all starts m. i.ticks all starts (record { rest = m.rest; is = m.is ∙ ap (λ ts. ts ++ m.rest) (sym p.grown.before) });
+    })

@@ -1,4 +1,0 @@
-pub mod Declared
-pub mod Heads
-pub mod Programs
-pub mod Texts

@@ -1,5 +1,0 @@
-use Rattle.wf_trees.proofs.Trees.{small_are_good}
-use Rattle.wf_trees.proofs.trees_are_good.Goals as goal
-
-pub returns : goal.returns
-returns c = small_are_good
