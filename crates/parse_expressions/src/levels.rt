@@ -18,9 +18,9 @@ use tick_tree::{Declarator, Expr, ModifyOp, Stmt};
 const LEVELS: u8 = 10;
 
 impl<
-    F: Fn(Global, &mut Tokens<'_>, usize, Part) -> Result<Expr, Stop>,
-    S: Fn(Global, &mut Tokens<'_>, usize) -> Result<Stmt, Stop>,
-    D: Fn(Global, &mut Tokens<'_>, usize, Mode) -> Result<Declarator, Stop>,
+    F: Fn(Global, &mut Tokens<'_>, usize, Part) -> Result<Expr, Stop> + Copy,
+    S: Fn(Global, &mut Tokens<'_>, usize) -> Result<Stmt, Stop> + Copy,
+    D: Fn(Global, &mut Tokens<'_>, usize, Mode) -> Result<Declarator, Stop> + Copy,
 > Expressions<F, S, D> {
     // The operators of this level, behind their first operand.
     #[cycle(level)]

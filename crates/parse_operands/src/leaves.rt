@@ -2,7 +2,7 @@
 
 ghost use Rattle.std.specs.Prelude.{◌≡◌, []};
 ghost use Rattle.parse_grammar.specs.Expressions as spec;
-ghost use Rattle.parse_grammar.specs.Input.{Reads};
+ghost use Rattle.parse_grammar.specs.Input.{Reads, and_then, pure};
 
 use lex_literals::append_string;
 use parse_grammar::{Kind, Stop, Tokens};
@@ -45,9 +45,9 @@ fn is_string(kind: Kind) -> bool
     matches!(kind, Kind::String)
 }
 
-/// The bytes of the strings that stand next, joined.
+// The bytes of the strings that stand next, joined.
 #[tactic(auto, using(crate::proofs::Steps::string_steps))]
-pub fn strings(alloc: Global, tokens: &mut Tokens<'_>) -> Result<Items<u8>, Stop>
+fn strings(alloc: Global, tokens: &mut Tokens<'_>) -> Result<Items<u8>, Stop>
     ensures { Reads (spec.strings [] tokens.old) result tokens.new }
 {
     let mut found = Vec::new(alloc);
@@ -56,4 +56,11 @@ pub fn strings(alloc: Global, tokens: &mut Tokens<'_>) -> Result<Items<u8>, Stop
         tokens.take();
     }
     Ok(Items::from_vec(found))
+}
+
+// The strings that stand next, as one.
+pub fn string(alloc: Global, tokens: &mut Tokens<'_>) -> Result<Expr, Stop>
+    ensures { Reads (and_then (spec.strings [] tokens.old) (λ bytes. pure (Expr.String bytes))) result tokens.new }
+{
+    Ok(Expr::String(strings(alloc, tokens)?))
 }

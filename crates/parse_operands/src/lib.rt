@@ -7,6 +7,5 @@ mod nodes;
 mod operands;
 mod operators;
 mod postfixes;
-mod staged;
 
 pub use operands::Operands;

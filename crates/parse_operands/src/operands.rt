@@ -3,17 +3,17 @@
 ghost use Rattle.std.specs.Prelude.{◌≡◌, ◌<◌, ◌≤◌};
 ghost use Rattle.parse_grammar.specs.Input.{Reads};
 ghost use Rattle.parse_grammar.specs.Steps as steps;
-ghost use Rattle.parse_grammar.specs.Declarators as declarators;
 ghost use Rattle.parse_grammar.specs.Expressions as spec;
-ghost use Rattle.parse_grammar.specs.Statements.{inner, room_of, stmt};
+ghost use Rattle.parse_grammar.specs.Statements.{room_of, stmt};
 ghost use Rattle.parse_grammar.specs.Nests.{Nests};
 
-use crate::leaves::{character, name, number, strings};
+use crate::leaves::{character, name, number, string};
 use crate::nodes;
-use parse_grammar::{Grammar, Kind, Mark, Mode, Part, Stop, Tokens, base, enter, enter_paren};
+use parse_grammar::{Grammar, Kind, Mark, Mode, Part, Stop, Tokens, enter, enter_paren};
+use parse_typenames::Typenames;
 use sqlite_items::Items;
 use std::alloc::Global;
-use tick_tree::{Declarator, Expr, Stmt, Typename};
+use tick_tree::{Declarator, Expr, Stmt};
 
 /// The productions of operands. Each takes the number of levels that may still open.
 #[derive(Clone, Copy)]
@@ -23,21 +23,10 @@ pub struct Operands<F, S, D> {
 }
 
 impl<
-    F: Fn(Global, &mut Tokens<'_>, usize, Part) -> Result<Expr, Stop>,
-    S: Fn(Global, &mut Tokens<'_>, usize) -> Result<Stmt, Stop>,
-    D: Fn(Global, &mut Tokens<'_>, usize, Mode) -> Result<Declarator, Stop>,
+    F: Fn(Global, &mut Tokens<'_>, usize, Part) -> Result<Expr, Stop> + Copy,
+    S: Fn(Global, &mut Tokens<'_>, usize) -> Result<Stmt, Stop> + Copy,
+    D: Fn(Global, &mut Tokens<'_>, usize, Mode) -> Result<Declarator, Stop> + Copy,
 > Operands<F, S, D> {
-    #[tactic(auto, unfolding(parse_grammar::specs::Declarators::typename))]
-    pub(crate) fn typename(&self, tokens: &mut Tokens<'_>, room: usize) -> Result<Typename, Stop>
-        requires nests { Nests self.now.grammar.limit (F.pre self.now.grammar.expr) (F.post self.now.grammar.expr) (S.pre self.now.grammar.stmt) (S.post self.now.grammar.stmt) (D.pre self.now.grammar.declarator) (D.post self.now.grammar.declarator) }
-        requires room { room < self.now.grammar.limit }
-        ensures { Reads (declarators.typename (inner (room_of room)) tokens.old) result tokens.new }
-    {
-        let base = base(tokens)?;
-        let declarator = self.grammar.inner_declarator(tokens, room, Mode::Nameless)?;
-        Ok(Typename { base, declarator })
-    }
-
     #[tactic(auto, unfolding(parse_grammar::specs::Steps::separated, parse_grammar::specs::Steps::following_from))]
     fn separated(&self, tokens: &mut Tokens<'_>, room: usize) -> Result<Items<Expr>, Stop>
         requires nests { Nests self.now.grammar.limit (F.pre self.now.grammar.expr) (F.post self.now.grammar.expr) (S.pre self.now.grammar.stmt) (S.post self.now.grammar.stmt) (D.pre self.now.grammar.declarator) (D.post self.now.grammar.declarator) }
@@ -122,6 +111,16 @@ impl<
         Ok(whole)
     }
 
+    // At a `(` that begins no cast.
+    fn paren(&self, tokens: &mut Tokens<'_>, room: usize) -> Result<Expr, Stop>
+        requires nests { Nests self.now.grammar.limit (F.pre self.now.grammar.expr) (F.post self.now.grammar.expr) (S.pre self.now.grammar.stmt) (S.post self.now.grammar.stmt) (D.pre self.now.grammar.declarator) (D.post self.now.grammar.declarator) }
+        requires room { room ≤ self.now.grammar.limit }
+        ensures { Reads (spec.primary_by (room_of room) (Kind.Mark Mark.ParenOpen) tokens.old) result tokens.new }
+    {
+        let inner = self.parenthesized(tokens, room)?;
+        Ok(nodes::paren(self.grammar.alloc, inner)?)
+    }
+
     #[tactic(auto, unfolding(parse_grammar::specs::Expressions::primary))]
     pub(crate) fn primary(&self, tokens: &mut Tokens<'_>, room: usize) -> Result<Expr, Stop>
         requires nests { Nests self.now.grammar.limit (F.pre self.now.grammar.expr) (F.post self.now.grammar.expr) (S.pre self.now.grammar.stmt) (S.post self.now.grammar.stmt) (D.pre self.now.grammar.declarator) (D.post self.now.grammar.declarator) }
@@ -129,17 +128,18 @@ impl<
         ensures { Reads (spec.primary (room_of room) tokens.old) result tokens.new }
     {
         let alloc = self.grammar.alloc;
+        let typenames = Typenames {
+            grammar: self.grammar,
+        };
         match tokens.peek() {
             Kind::Name => name(alloc, tokens),
             Kind::Number => Ok(number(tokens)),
             Kind::Character => Ok(character(tokens)),
-            Kind::String => Ok(Expr::String(strings(alloc, tokens)?)),
-            Kind::Compile => self.compile(tokens, room),
-            Kind::Local => self.local(tokens, room),
-            Kind::Param => self.param(tokens, room),
-            Kind::Mark(Mark::ParenOpen) => {
-                Ok(nodes::paren(alloc, self.parenthesized(tokens, room)?)?)
-            }
+            Kind::String => string(alloc, tokens),
+            Kind::Compile => typenames.compile(tokens, room),
+            Kind::Local => typenames.local(tokens, room),
+            Kind::Param => typenames.param(tokens, room),
+            Kind::Mark(Mark::ParenOpen) => self.paren(tokens, room),
             _ => Err(tokens.refuse()),
         }
     }

@@ -10,13 +10,14 @@ use crate::nodes;
 use crate::operands::Operands;
 use crate::operators::{postfix_kind, unary_of};
 use parse_grammar::{Kind, Mark, Mode, Part, Postfix, Stop, Tokens, enter, is_base};
+use parse_typenames::Typenames;
 use std::alloc::Global;
 use tick_tree::{Declarator, Expr, Stmt, UnaryOp};
 
 impl<
-    F: Fn(Global, &mut Tokens<'_>, usize, Part) -> Result<Expr, Stop>,
-    S: Fn(Global, &mut Tokens<'_>, usize) -> Result<Stmt, Stop>,
-    D: Fn(Global, &mut Tokens<'_>, usize, Mode) -> Result<Declarator, Stop>,
+    F: Fn(Global, &mut Tokens<'_>, usize, Part) -> Result<Expr, Stop> + Copy,
+    S: Fn(Global, &mut Tokens<'_>, usize) -> Result<Stmt, Stop> + Copy,
+    D: Fn(Global, &mut Tokens<'_>, usize, Mode) -> Result<Declarator, Stop> + Copy,
 > Operands<F, S, D> {
     // Behind the opening bracket of an index.
     #[tactic(auto, unfolding(parse_grammar::specs::Expressions::indexed))]
@@ -134,7 +135,10 @@ impl<
         ensures { Reads (spec.unary_by (room_of room) (Kind.Mark Mark.ParenOpen) tokens.old) result tokens.new }
     {
         if is_base(tokens.peek_second()) {
-            self.cast(tokens, room)
+            let typenames = Typenames {
+                grammar: self.grammar,
+            };
+            typenames.cast(tokens, room)
         } else {
             self.postfix(tokens, room)
         }
@@ -169,7 +173,12 @@ impl<
     {
         match tokens.peek() {
             Kind::Backquote => self.tick(tokens, room),
-            Kind::Sizeof => self.size_of(tokens, room),
+            Kind::Sizeof => {
+                let typenames = Typenames {
+                    grammar: self.grammar,
+                };
+                typenames.size_of(tokens, room)
+            }
             Kind::Mark(Mark::ParenOpen) => self.parenthesis(tokens, room),
             kind => self.by_operator(tokens, room, unary_of(kind)),
         }

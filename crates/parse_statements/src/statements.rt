@@ -1,7 +1,7 @@
 //! Statements.
 
 ghost use Rattle.std.specs.Prelude.{◌≡◌, ◌-◌, ◌<◌, ◌≤◌};
-ghost use Rattle.parse_grammar.specs.Input.{Reads};
+ghost use Rattle.parse_grammar.specs.Input.{Reads, and_then, expect, pure};
 ghost use Rattle.parse_grammar.specs.Steps as steps;
 ghost use Rattle.parse_grammar.specs.Expressions as expressions;
 ghost use Rattle.parse_grammar.specs.Statements as spec;
@@ -9,6 +9,7 @@ ghost use Rattle.parse_grammar.specs.Statements.{inner, room_of};
 ghost use Rattle.parse_grammar.specs.Nests.{Nests};
 
 use crate::first_words::{begins_first, begins_stmt};
+use parse_declarations::Declarations;
 use parse_expressions::Expressions;
 use parse_grammar::{Grammar, Kind, Mark, Mode, Part, Stop, Tokens, Word, descend, enter_paren};
 use parse_operands::Operands;
@@ -16,7 +17,15 @@ use sqlite_items::Boxed;
 use std::alloc::Global;
 use tick_tree::{Declarator, Expr, OptionalExpr, Stmt};
 
-/// The productions of statements, declarations and programs. Each takes the number of levels that may still open.
+// A statement, up to and with the mark that ends it.
+fn ended(tokens: &mut Tokens<'_>, mark: Mark, found: Stmt) -> Result<Stmt, Stop>
+    ensures { Reads (and_then (expect mark tokens.old) (λ _. pure found)) result tokens.new }
+{
+    tokens.expect(mark)?;
+    Ok(found)
+}
+
+/// The productions of statements. Each takes the number of levels that may still open.
 #[derive(Clone, Copy)]
 pub struct Statements<F, S, D> {
     /// Reads what stands deeper.
@@ -297,18 +306,9 @@ impl<
             Word::For => self.for_rest(tokens, room, line),
             Word::Switch => self.switch_rest(tokens, room, line),
             Word::Case => self.case_rest(tokens, room, line),
-            Word::Default => {
-                tokens.expect(Mark::Colon)?;
-                Ok(Stmt::Default(line))
-            }
-            Word::Break => {
-                tokens.expect(Mark::Semicolon)?;
-                Ok(Stmt::Break(line))
-            }
-            Word::Continue => {
-                tokens.expect(Mark::Semicolon)?;
-                Ok(Stmt::Continue(line))
-            }
+            Word::Default => ended(tokens, Mark::Colon, Stmt::Default(line)),
+            Word::Break => ended(tokens, Mark::Semicolon, Stmt::Break(line)),
+            Word::Continue => ended(tokens, Mark::Semicolon, Stmt::Continue(line)),
             Word::Return => self.return_rest(tokens, room, line),
         }
     }
@@ -322,6 +322,29 @@ impl<
         let line = tokens.line();
         tokens.take();
         self.by_word(tokens, room, word, line)
+    }
+
+    fn block(&self, tokens: &mut Tokens<'_>, room: usize) -> Result<Stmt, Stop>
+        requires nests { Nests self.now.grammar.limit (F.pre self.now.grammar.expr) (F.post self.now.grammar.expr) (S.pre self.now.grammar.stmt) (S.post self.now.grammar.stmt) (D.pre self.now.grammar.declarator) (D.post self.now.grammar.declarator) }
+        requires room { room ≤ self.now.grammar.limit }
+        ensures { Reads (and_then (expressions.block (room_of room) tokens.old) (λ items. pure (Stmt.Block items))) result tokens.new }
+    {
+        let operands = Operands {
+            grammar: self.grammar,
+        };
+        Ok(Stmt::Block(operands.block(tokens, room)?))
+    }
+
+    // A declaration in a block.
+    fn local(&self, tokens: &mut Tokens<'_>, room: usize) -> Result<Stmt, Stop>
+        requires nests { Nests self.now.grammar.limit (F.pre self.now.grammar.expr) (F.post self.now.grammar.expr) (S.pre self.now.grammar.stmt) (S.post self.now.grammar.stmt) (D.pre self.now.grammar.declarator) (D.post self.now.grammar.declarator) }
+        requires room { room ≤ self.now.grammar.limit }
+        ensures { Reads (and_then (spec.declaration (room_of room) tokens.old) (λ d. pure (Stmt.Local d))) result tokens.new }
+    {
+        let declarations = Declarations {
+            grammar: self.grammar,
+        };
+        Ok(Stmt::Local(declarations.declaration(tokens, room)?))
     }
 
     /// An item of a block: a declaration or a statement.
@@ -338,13 +361,8 @@ impl<
                 tokens.take();
                 Ok(Stmt::Empty)
             }
-            Kind::Mark(Mark::BraceOpen) => {
-                let operands = Operands {
-                    grammar: self.grammar,
-                };
-                Ok(Stmt::Block(operands.block(tokens, room)?))
-            }
-            Kind::Base(_) => Ok(Stmt::Local(self.declaration(tokens, room)?)),
+            Kind::Mark(Mark::BraceOpen) => self.block(tokens, room),
+            Kind::Base(_) => self.local(tokens, room),
             Kind::Word(word) => self.word_stmt(tokens, room, word),
             _ => self.plain(tokens, room),
         }

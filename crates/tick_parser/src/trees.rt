@@ -13,8 +13,8 @@ ghost use Rattle.limits.specs.declared.text.TheConstants.{LONGEST_TEXT, MAX_TOKE
 use crate::items::items_of;
 use crate::knot::{read, read_declarator, read_stmt};
 use limits::text::MAX_NESTING;
+use parse_declarations::Declarations;
 use parse_grammar::{Grammar, Item, Stop, Tokens};
-use parse_statements::Statements;
 use sqlite_items::Items;
 use std::alloc::Global;
 use tick_tree::{Deny, External, Fault, FaultKind, Token, Tree};
@@ -70,7 +70,7 @@ fn program<'a>(alloc: Global, items: &'a [Item<'a>]) -> Result<Items<External>, 
     ensures found { spec.Finds (spec.outcome items.now) result }
     ensures spells { IfOk result (λ found. words items.now ≡ spells_program found []) }
 {
-    let statements = Statements {
+    let declarations = Declarations {
         grammar: Grammar {
             alloc,
             limit: MAX_NESTING,
@@ -80,7 +80,7 @@ fn program<'a>(alloc: Global, items: &'a [Item<'a>]) -> Result<Items<External>, 
         },
     };
     let mut tokens = Tokens::new(items);
-    statements.program(&mut tokens, MAX_NESTING)
+    declarations.program(&mut tokens, MAX_NESTING)
 }
 
 /// The syntax tree of a text of at most 1,048,576 bytes, from its at most 262,144 tokens. The tree spells the tokens.

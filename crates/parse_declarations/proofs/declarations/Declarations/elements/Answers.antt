@@ -3,7 +3,7 @@ use Rattle.std.proofs.lemmas.Grind.{common_steps}
 use Rattle.parse_grammar.specs.Expressions.{assign}
 use Rattle.parse_grammar.specs.Statements.{room_of, elements_from}
 use Rattle.parse_grammar.proofs.Rooms.{one_more, no_more}
-use Rattle.parse_statements.proofs.statements.Statements.elements.Goals as goal
+use Rattle.parse_declarations.proofs.declarations.Declarations.elements.Goals as goal
 
 pub returns-in_err-inner : goal.returns-in_err-inner
 unfolding elements_from

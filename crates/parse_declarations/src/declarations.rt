@@ -8,20 +8,26 @@ ghost use Rattle.parse_grammar.specs.Statements as spec;
 ghost use Rattle.parse_grammar.specs.Statements.{room_of};
 ghost use Rattle.parse_grammar.specs.Nests.{Nests};
 
-use crate::statements::Statements;
 use parse_declarators::Declarators;
 use parse_expressions::Expressions;
-use parse_grammar::{Mark, Mode, Part, Stop, Tokens, base, enter};
+use parse_grammar::{Grammar, Mark, Mode, Part, Stop, Tokens, base, enter};
 use parse_operands::Operands;
 use sqlite_items::Items;
 use std::alloc::Global;
 use tick_tree::{Declaration, Declarator, Expr, Init, Initializer, Stmt};
 
+/// The productions of declarations and programs. Each takes the number of levels that may still open.
+#[derive(Clone, Copy)]
+pub struct Declarations<F, S, D> {
+    /// Reads what stands deeper.
+    pub grammar: Grammar<F, S, D>,
+}
+
 impl<
     F: Fn(Global, &mut Tokens<'_>, usize, Part) -> Result<Expr, Stop> + Copy,
     S: Fn(Global, &mut Tokens<'_>, usize) -> Result<Stmt, Stop> + Copy,
     D: Fn(Global, &mut Tokens<'_>, usize, Mode) -> Result<Declarator, Stop> + Copy,
-> Statements<F, S, D> {
+> Declarations<F, S, D> {
     // A list in braces, behind its opening brace.
     #[tactic(auto, unfolding(parse_grammar::specs::Statements::elements, parse_grammar::specs::Statements::elements_from))]
     fn elements(&self, tokens: &mut Tokens<'_>, room: usize) -> Result<Initializer, Stop>
@@ -125,12 +131,11 @@ impl<
         self.following(tokens, room, found)
     }
 
+    /// A declaration: a base and its declarators, with their initializers and the `;`.
+    ///
+    /// Syntax or TooDeep exactly at the first token that the production doesn't take, or that nests too deep.
     #[tactic(auto, unfolding(parse_grammar::specs::Statements::declaration))]
-    pub(crate) fn declaration(
-        &self,
-        tokens: &mut Tokens<'_>,
-        room: usize,
-    ) -> Result<Declaration, Stop>
+    pub fn declaration(&self, tokens: &mut Tokens<'_>, room: usize) -> Result<Declaration, Stop>
         requires nests { Nests self.now.grammar.limit (F.pre self.now.grammar.expr) (F.post self.now.grammar.expr) (S.pre self.now.grammar.stmt) (S.post self.now.grammar.stmt) (D.pre self.now.grammar.declarator) (D.post self.now.grammar.declarator) }
         requires room { room ≤ self.now.grammar.limit }
         ensures { Reads (spec.declaration (room_of room) tokens.old) result tokens.new }

@@ -7,7 +7,7 @@ ghost use Rattle.parse_grammar.specs.Statements.{inner, room_of};
 ghost use Rattle.parse_grammar.specs.Nests.{Nests};
 
 use crate::nodes;
-use crate::operands::Operands;
+use crate::typenames::Typenames;
 use parse_grammar::{Mark, Mode, Part, Stop, Tokens, enter, enter_paren};
 use std::alloc::Global;
 use tick_tree::{Declarator, Expr, Stmt};
@@ -16,7 +16,7 @@ impl<
     F: Fn(Global, &mut Tokens<'_>, usize, Part) -> Result<Expr, Stop>,
     S: Fn(Global, &mut Tokens<'_>, usize) -> Result<Stmt, Stop>,
     D: Fn(Global, &mut Tokens<'_>, usize, Mode) -> Result<Declarator, Stop>,
-> Operands<F, S, D> {
+> Typenames<F, S, D> {
     #[tactic(auto, unfolding(parse_grammar::specs::Expressions::compile_inner))]
     fn compile_inner(&self, tokens: &mut Tokens<'_>, room: usize, line: u32) -> Result<Expr, Stop>
         requires nests { Nests self.now.grammar.limit (F.pre self.now.grammar.expr) (F.post self.now.grammar.expr) (S.pre self.now.grammar.stmt) (S.post self.now.grammar.stmt) (D.pre self.now.grammar.declarator) (D.post self.now.grammar.declarator) }
@@ -30,8 +30,11 @@ impl<
         Ok(nodes::compile(self.grammar.alloc, line, code, ty)?)
     }
 
+    /// `compile(..)`: an expression and a type name, from its word on.
+    ///
+    /// Syntax or TooDeep exactly at the first token that the production doesn't take, or that nests too deep.
     #[tactic(auto, unfolding(parse_grammar::specs::Expressions::worded))]
-    pub(crate) fn compile(&self, tokens: &mut Tokens<'_>, room: usize) -> Result<Expr, Stop>
+    pub fn compile(&self, tokens: &mut Tokens<'_>, room: usize) -> Result<Expr, Stop>
         requires nests { Nests self.now.grammar.limit (F.pre self.now.grammar.expr) (F.post self.now.grammar.expr) (S.pre self.now.grammar.stmt) (S.post self.now.grammar.stmt) (D.pre self.now.grammar.declarator) (D.post self.now.grammar.declarator) }
         requires room { room ≤ self.now.grammar.limit }
         ensures { Reads (spec.worded spec.compile_inner (room_of room) tokens.old) result tokens.new }
@@ -53,8 +56,11 @@ impl<
         Ok(nodes::local(self.grammar.alloc, line, ty)?)
     }
 
+    /// `local(..)`: a type name, from its word on.
+    ///
+    /// Syntax or TooDeep exactly at the first token that the production doesn't take, or that nests too deep.
     #[tactic(auto, unfolding(parse_grammar::specs::Expressions::worded))]
-    pub(crate) fn local(&self, tokens: &mut Tokens<'_>, room: usize) -> Result<Expr, Stop>
+    pub fn local(&self, tokens: &mut Tokens<'_>, room: usize) -> Result<Expr, Stop>
         requires nests { Nests self.now.grammar.limit (F.pre self.now.grammar.expr) (F.post self.now.grammar.expr) (S.pre self.now.grammar.stmt) (S.post self.now.grammar.stmt) (D.pre self.now.grammar.declarator) (D.post self.now.grammar.declarator) }
         requires room { room ≤ self.now.grammar.limit }
         ensures { Reads (spec.worded spec.local_inner (room_of room) tokens.old) result tokens.new }
@@ -78,8 +84,11 @@ impl<
         Ok(nodes::param(self.grammar.alloc, line, ty, number)?)
     }
 
+    /// `param(..)`: a type name and an expression, from its word on.
+    ///
+    /// Syntax or TooDeep exactly at the first token that the production doesn't take, or that nests too deep.
     #[tactic(auto, unfolding(parse_grammar::specs::Expressions::worded))]
-    pub(crate) fn param(&self, tokens: &mut Tokens<'_>, room: usize) -> Result<Expr, Stop>
+    pub fn param(&self, tokens: &mut Tokens<'_>, room: usize) -> Result<Expr, Stop>
         requires nests { Nests self.now.grammar.limit (F.pre self.now.grammar.expr) (F.post self.now.grammar.expr) (S.pre self.now.grammar.stmt) (S.post self.now.grammar.stmt) (D.pre self.now.grammar.declarator) (D.post self.now.grammar.declarator) }
         requires room { room ≤ self.now.grammar.limit }
         ensures { Reads (spec.worded spec.param_inner (room_of room) tokens.old) result tokens.new }
@@ -101,8 +110,11 @@ impl<
         Ok(nodes::size_of(self.grammar.alloc, line, ty)?)
     }
 
+    /// `sizeof(..)`: a type name, from its word on.
+    ///
+    /// Syntax or TooDeep exactly at the first token that the production doesn't take, or that nests too deep.
     #[tactic(auto, unfolding(parse_grammar::specs::Expressions::worded))]
-    pub(crate) fn size_of(&self, tokens: &mut Tokens<'_>, room: usize) -> Result<Expr, Stop>
+    pub fn size_of(&self, tokens: &mut Tokens<'_>, room: usize) -> Result<Expr, Stop>
         requires nests { Nests self.now.grammar.limit (F.pre self.now.grammar.expr) (F.post self.now.grammar.expr) (S.pre self.now.grammar.stmt) (S.post self.now.grammar.stmt) (D.pre self.now.grammar.declarator) (D.post self.now.grammar.declarator) }
         requires room { room ≤ self.now.grammar.limit }
         ensures { Reads (spec.worded spec.sizeof_inner (room_of room) tokens.old) result tokens.new }
@@ -126,8 +138,11 @@ impl<
         Ok(nodes::cast(self.grammar.alloc, line, ty, operand)?)
     }
 
+    /// A cast: a type name in parentheses and its operand, from the `(` on.
+    ///
+    /// Syntax or TooDeep exactly at the first token that the production doesn't take, or that nests too deep.
     #[tactic(auto, unfolding(parse_grammar::specs::Expressions::cast))]
-    pub(crate) fn cast(&self, tokens: &mut Tokens<'_>, room: usize) -> Result<Expr, Stop>
+    pub fn cast(&self, tokens: &mut Tokens<'_>, room: usize) -> Result<Expr, Stop>
         requires nests { Nests self.now.grammar.limit (F.pre self.now.grammar.expr) (F.post self.now.grammar.expr) (S.pre self.now.grammar.stmt) (S.post self.now.grammar.stmt) (D.pre self.now.grammar.declarator) (D.post self.now.grammar.declarator) }
         requires room { room ≤ self.now.grammar.limit }
         ensures { Reads (spec.cast (room_of room) tokens.old) result tokens.new }

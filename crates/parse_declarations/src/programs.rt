@@ -6,7 +6,7 @@ ghost use Rattle.parse_grammar.specs.Statements as spec;
 ghost use Rattle.parse_grammar.specs.Statements.{room_of};
 ghost use Rattle.parse_grammar.specs.Nests.{Nests};
 
-use crate::statements::Statements;
+use crate::declarations::Declarations;
 use parse_declarators::{Declarators, declares_function};
 use parse_grammar::{Mark, Mode, Part, Stop, Tokens, base};
 use parse_operands::Operands;
@@ -26,7 +26,7 @@ impl<
     F: Fn(Global, &mut Tokens<'_>, usize, Part) -> Result<Expr, Stop> + Copy,
     S: Fn(Global, &mut Tokens<'_>, usize) -> Result<Stmt, Stop> + Copy,
     D: Fn(Global, &mut Tokens<'_>, usize, Mode) -> Result<Declarator, Stop> + Copy,
-> Statements<F, S, D> {
+> Declarations<F, S, D> {
     // Behind the first declarator of a declaration.
     #[tactic(auto, unfolding(parse_grammar::specs::Statements::variables))]
     fn variables(

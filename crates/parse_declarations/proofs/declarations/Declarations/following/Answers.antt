@@ -3,7 +3,7 @@ use Rattle.std.proofs.lemmas.Grind.{common_steps}
 use Rattle.parse_grammar.specs.Statements.{room_of, init}
 use Rattle.parse_grammar.specs.Steps.{following_from}
 use Rattle.parse_grammar.proofs.Rooms.{one_more}
-use Rattle.parse_statements.proofs.statements.Statements.following.Goals as goal
+use Rattle.parse_declarations.proofs.declarations.Declarations.following.Goals as goal
 
 pub returns-then-not-eat : goal.returns-then-not-eat
 unfolding following_from

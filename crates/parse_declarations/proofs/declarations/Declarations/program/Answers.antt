@@ -2,7 +2,7 @@ use Rattle.std.proofs.Common.{rules, arith}
 use Rattle.std.proofs.lemmas.Grind.{common_steps}
 use Rattle.parse_grammar.specs.Statements.{room_of, external, program_from}
 use Rattle.parse_grammar.proofs.Rooms.{one_more, no_more}
-use Rattle.parse_statements.proofs.statements.Statements.program.Goals as goal
+use Rattle.parse_declarations.proofs.declarations.Declarations.program.Goals as goal
 
 pub returns-then-is_at_end : goal.returns-then-is_at_end
 unfolding program_from

@@ -1,0 +1,37 @@
+//! The nodes of the tree that hold a type name.
+
+ghost use Rattle.std.specs.Prelude.{◌≡◌, IfOk};
+
+use sqlite_items::Boxed;
+use std::alloc::{AllocError, Global};
+use tick_tree::{Expr, Typename};
+
+pub fn compile(alloc: Global, line: u32, code: Expr, ty: Typename) -> Result<Expr, AllocError>
+    ensures { IfOk result (λ e. e ≡ Expr.Compile line code ty) }
+{
+    Ok(Expr::Compile(line, Boxed::new(alloc, code)?, Boxed::new(alloc, ty)?))
+}
+
+pub fn local(alloc: Global, line: u32, ty: Typename) -> Result<Expr, AllocError>
+    ensures { IfOk result (λ e. e ≡ Expr.Local line ty) }
+{
+    Ok(Expr::Local(line, Boxed::new(alloc, ty)?))
+}
+
+pub fn param(alloc: Global, line: u32, ty: Typename, number: Expr) -> Result<Expr, AllocError>
+    ensures { IfOk result (λ e. e ≡ Expr.Param line ty number) }
+{
+    Ok(Expr::Param(line, Boxed::new(alloc, ty)?, Boxed::new(alloc, number)?))
+}
+
+pub fn cast(alloc: Global, line: u32, ty: Typename, operand: Expr) -> Result<Expr, AllocError>
+    ensures { IfOk result (λ e. e ≡ Expr.Cast line ty operand) }
+{
+    Ok(Expr::Cast(line, Boxed::new(alloc, ty)?, Boxed::new(alloc, operand)?))
+}
+
+pub fn size_of(alloc: Global, line: u32, ty: Typename) -> Result<Expr, AllocError>
+    ensures { IfOk result (λ e. e ≡ Expr.Sizeof line ty) }
+{
+    Ok(Expr::Sizeof(line, Boxed::new(alloc, ty)?))
+}
