@@ -16,7 +16,7 @@ use Rattle.mips_machine.specs.Ran.{Ran, EndsFrom, bytes_read, before}
 use Rattle.mips_machine.specs.Served.{counted, answered, input_ended, Puts, Takes}
 use Rattle.mips_machine.proofs.Quiet.{alive_one, said_all}
 
-output_outs : (bytes : List ℕ) → output (outs bytes) ≡ bytes
+pub output_outs : (bytes : List ℕ) → output (outs bytes) ≡ bytes
 output_outs [] = refl
 output_outs (b ∷ bytes) = ap (λ (l : List ℕ). b ∷ l) (output_outs bytes)
 

@@ -1,2 +1,11 @@
 pub mod Saved
 pub mod Fronts
+pub mod Runs
+pub mod Outcomes
+pub mod Came
+pub mod Meant
+pub mod Rows
+pub mod Calls
+pub mod Endings
+pub mod Complete
+pub mod Stated

@@ -4,9 +4,11 @@
 mod commands;
 mod ended;
 mod images;
+mod laws;
 mod load;
 mod top;
 
 pub use ended::Ended;
+pub use laws::{commands_complete, run_completes, run_means, shows_runs};
 pub use tick_outcome::{Outcome, status};
 pub use top::tick;

@@ -1,0 +1,144 @@
+-- Where nothing outside failed, a command whose file isn't refused is done.
+use Rattle.std.proofs.Common.{◌≡◌, ◌≢◌, ◌⊎◌, inl, inr, ℕ, ◌+◌, ◌<◌, ◌≤◌, false, arith, lt-ltb, List, length, take, Option, Some, None, Result, Ok, nat_lt, refl, sym, ap, ◌∙◌, subst}
+use Rattle.std.proofs.lemmas.Bool.{false≢true, cases_lt}
+use Rattle.std.proofs.lemmas.List.{take_all}
+use Rattle.host_edge.specs.Files.{Loads}
+use Rattle.host_edge.specs.declared.ending.Ending.{Ending}
+use Rattle.history.specs.Events.{Ended}
+use Rattle.image_file.specs.Image.{ImageParts}
+use Rattle.mips_model.specs.Run.{runs}
+use Rattle.staged_meaning.specs.Meaning.{Program, meant}
+use Rattle.static_image.specs.Headline.{Headline}
+use Rattle.tick_tree.specs.declared.fault.Fault.{Fault}
+use Rattle.tick_build.specs.Texts.{typed}
+use Rattle.command_words.specs.Orders.{Order, run, build, exec, asm, dis, order_of}
+use Rattle.tick_outcome.specs.declared.outcome.Outcome.{Outcome}
+use Rattle.tick_outcome.specs.declared.outcome.Outcome.TheVariants as outcome
+use Rattle.tick_top.specs.declared.ended.Ended as code
+use Rattle.tick_top.specs.Outside.{Files, Outside, Failures}
+use Rattle.tick_top.specs.Answers.{longest_text}
+use Rattle.tick_top.specs.Does.{SavedAt, Cause}
+use Rattle.tick_top.specs.Top.{Reports, Ticked}
+use Rattle.tick_top.specs.Seen.{EndsBehind, outcome_at, Moves, ShowsRun}
+use Rattle.tick_top.specs.Rows.{file_of, longest_of, refusal, most_steps}
+use Rattle.tick_top.specs.Meant.{allowed, Unfailed}
+use Rattle.tick_top.specs.Laws.{told}
+use Rattle.tick_top.proofs.Came.{Performed, Came}
+use Rattle.tick_top.proofs.Calls.{IsDone, shows, input_ends}
+use Rattle.tick_top.proofs.Endings.{order_shows}
+use Rattle.tick_top.proofs.Meant.{in_time}
+use Rattle.tick_top.proofs.Outcomes.{seen_whole}
+use Rattle.tick_top.proofs.Rows.{performed, refused_front}
+
+module _ (words : List (List ℕ)) (old new : Outside) (before now : Failures) (taken said : Option (List ℕ)) (err_before err_now : ℕ) (e : code.Ended) (did : Ticked words old new before now taken said err_before err_now e) (fine : Unfailed before now err_before err_now) where
+  abbrev first : Outcome
+  first = did.0
+
+  abbrev at_first : code.Ended
+  at_first = record e { outcome = first }
+
+  -- the outcome is said
+  said_first : e.outcome ≡ first
+  said_first = by did.3
+    where
+      by : Reports first e.outcome taken said err_before err_now → e.outcome ≡ first
+      by (inl r) = r.0
+      by (inr r) = absurd (fine.err r.2)
+
+  -- and no fault of the outside
+  caused : (o : Outcome) → first ≡ o → Cause o before now
+  caused o is = subst (λ x. Cause x before now) is did.2
+
+  no_load_fault : first ≢ outcome.LoadFault
+  no_load_fault is = fine.store (caused outcome.LoadFault is)
+
+  no_save_fault : first ≢ outcome.SaveFault
+  no_save_fault is = fine.store (caused outcome.SaveFault is)
+
+  no_read_fault : first ≢ outcome.ReadFault
+  no_read_fault is = fine.input (caused outcome.ReadFault is)
+
+  no_write_fault : first ≢ outcome.WriteFault
+  no_write_fault is = fine.out (caused outcome.WriteFault is)
+
+  -- ---- a told file that isn't refused
+
+  module _ (order : Order) (file : List ℕ) (ordered : order_of words ≡ Ok order) (is_told : old.file (file_of order) ≡ Some (Some file)) (accepted : refusal order file ≡ None) where
+    loaded : (bytes : List ℕ) → Loads (old.file (file_of order)) (longest_of order + 1) bytes → bytes ≡ take (longest_of order + 1) file
+    loaded bytes loads = subst (λ t. Loads t (longest_of order + 1) bytes) is_told loads
+
+    not_refused : (bytes : List ℕ) → Loads (old.file (file_of order)) (longest_of order + 1) bytes → refusal order bytes ≡ None
+    not_refused bytes loads = ap (refusal order) (loaded bytes loads) ∙ refused_front order file ∙ accepted
+
+    pub done : IsDone order old new at_first
+    done = by (performed words old new at_first order ordered did.1)
+      where
+        by : Came order old new at_first → IsDone order old new at_first
+        by (inl failed) = absurd (no_load_fault failed.outcome)
+        by (inr (bytes, loads, inl (o, refused, bare))) = absurd (none_is (sym (not_refused bytes loads) ∙ refused))
+          where
+            none_is : ◌≡◌ {A = Option Outcome} None (Some o) → ⊥
+            none_is q = cc
+        by (inr (bytes, loads, inr (is, d))) = record { bytes = bytes; loads = loads; fine = is; done = d }
+
+    saved_done : (path bytes : List ℕ) (a b : Files) → SavedAt path bytes a b at_first → first ≡ outcome.Done 0
+    saved_done path bytes a b (inl s) = s.0.outcome
+    saved_done path bytes a b (inr s) = absurd (no_save_fault s.0.outcome)
+
+    order_done : (o : Order) (bytes : List ℕ) → most_steps o ≡ None → Performed o old new at_first bytes → first ≡ outcome.Done 0
+    order_done (run path steps) bytes none d = absurd cc
+    order_done (exec path steps) bytes none d = absurd cc
+    order_done (build path image) bytes none (program, is, s) = saved_done image s.saves.bytes old.file new.file s.saves.saved
+    order_done (asm path image) bytes none (parts, is, s) = saved_done image s.bytes old.file new.file s.saved
+    order_done (dis path) bytes none (parts, is, inl p) = p.0.outcome
+    order_done (dis path) bytes none (parts, is, inr p) = absurd (no_write_fault p.0.outcome)
+
+    pub is_done_so : most_steps order ≡ None → e.outcome ≡ outcome.Done 0
+    is_done_so none = said_first ∙ order_done order done.bytes none done.done
+
+    -- what is shown of a run on told input
+    told_run : (steps : ℕ) (bytes : List ℕ) (image : ImageParts) → old.left ≡ Some bytes
+        → ShowsRun steps image e.choices.items old.left new.left old.taken new.taken first
+        → (first ≡ outcome_at steps (runs image (told bytes) e.choices.items steps).ending)
+        × Moves old.left new.left old.taken new.taken (runs image (told bytes) e.choices.items steps).history
+    told_run steps bytes image left s =
+        let input : s.input ≡ told bytes = subst (λ l. EndsBehind l s.input) left (input_ends old.left new.left first s.input no_read_fault s.is_input) in
+        subst
+        (λ i. (first ≡ outcome_at steps (runs image i e.choices.items steps).ending) × Moves old.left new.left old.taken new.taken (runs image i e.choices.items steps).history)
+        input
+        (seen_whole steps old.left new.left old.taken new.taken first (runs image s.input e.choices.items steps) no_write_fault s.seen)
+
+    pub ends_so : (steps : ℕ) (bytes : List ℕ) → most_steps order ≡ Some steps → old.left ≡ Some bytes
+        → (image : ImageParts) × (e.image ≡ Some image) × (e.outcome ≡ outcome_at steps (runs image (told bytes) e.choices.items steps).ending)
+    ends_so steps bytes most left =
+        let s = order_shows order steps old new at_first done.bytes most done.done in
+        (s.image, s.handed_back, said_first ∙ (told_run steps bytes s.image left s.shown).0)
+
+  -- ---- a told text that is accepted
+
+  accepted_is : (file text : List ℕ) (steps : ℕ) (program : Program) → nat_lt longest_text (length text) ≡ false → typed text ≡ Ok program → refusal (run file steps) text ≡ None
+  accepted_is file text steps program short is = rw short (rw is refl)
+
+  one_program : (r : Result Program Fault) (a b : Program) → r ≡ Ok a → r ≡ Ok b → a ≡ b
+  one_program r a b p q = cc
+
+  pub completes : (file text : List ℕ) (steps : ℕ) (program : Program) (bytes : List ℕ) (units : ℕ) (end : Ending)
+      → order_of words ≡ Ok (run file steps) → old.file file ≡ Some (Some text) → nat_lt longest_text (length text) ≡ false → typed text ≡ Ok program
+      → old.left ≡ Some bytes → (meant program (told bytes) units).ending ≡ Some (Ended end) → allowed units ≤ steps
+      → (e.outcome ≡ outcome_at steps (Some (Ended end))) × Moves old.left new.left old.taken new.taken (meant program (told bytes) units).history
+  completes file text steps program bytes units end ordered is_told short is left ends le =
+      let accepted = accepted_is file text steps program short is in
+      let d = done (run file steps) text ordered is_told accepted in
+      let r = d.done.2 in
+      let shown = told_run (run file steps) text ordered is_told accepted steps bytes r.image left (shows steps old new at_first r.image r.runs) in
+      let whole : d.bytes ≡ text = loaded (run file steps) text ordered is_told accepted d.bytes d.loads ∙ all_of text short in
+      let same = one_program (typed text) d.done.0 program (ap typed (sym whole) ∙ d.done.1) is in
+      let there = in_time program r.image (subst (λ p. Headline p r.image) same r.headline) e.choices.items (told bytes) steps units (Ended end) ends le in
+      (said_first ∙ shown.0 ∙ ap (outcome_at steps) there.0, subst (Moves old.left new.left old.taken new.taken) there.1 shown.1)
+    where
+      all_of : (text : List ℕ) → nat_lt longest_text (length text) ≡ false → take (longest_text + 1) text ≡ text
+      all_of text short = take_all (longest_text + 1) text (within (cases_lt longest_text (length text)))
+        where
+          within : (longest_text < length text) ⊎ (length text ≤ longest_text) → length text ≤ longest_text + 1
+          within (inl long) = absurd (false≢true (sym short ∙ lt-ltb longest_text (length text) long))
+          within (inr le) = omega (arith, le)

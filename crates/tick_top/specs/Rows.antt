@@ -1,0 +1,138 @@
+-- When each outcome comes: a refusal exactly where the file's bytes are refused so, and an ending exactly where the
+-- machine's run of the image ends so. The order of refusals (words, load, length, content) is the product's own.
+use Rattle.std.specs.Prelude.{◌≡◌, ◌≢◌, ◌↔◌, ℕ, ◌+◌, List, length, Option, Some, None, Result, Ok, Err, nat_lt, if◌then◌else◌}
+use Rattle.host_edge.specs.Files.{Loads}
+use Rattle.host_edge.specs.declared.ending.Ending.TheVariants as ending
+use Rattle.host_edge.specs.declared.ending.MachineKind.{MachineKind}
+use Rattle.host_edge.specs.declared.ending.TrapKind.{TrapKind}
+use Rattle.history.specs.Events as event
+use Rattle.history.specs.Events.{End, Input}
+use Rattle.image_file.specs.Image.{ImageParts}
+use Rattle.image_file.specs.Format.{parsed}
+use Rattle.image_file.specs.declared.fault.ImageFault.{ImageFault}
+use Rattle.mips_model.specs.Run.{runs}
+use Rattle.mips_text.specs.Assembly.{assembled}
+use Rattle.mips_text.specs.declared.fault.AsmFault.{AsmFault}
+use Rattle.staged_meaning.specs.Meaning.{Program}
+use Rattle.tick_tree.specs.declared.fault.Fault.{Fault}
+use Rattle.tick_build.specs.Texts.{typed}
+use Rattle.command_words.specs.Orders.{Order, run, build, exec, asm, dis, order_of}
+use Rattle.tick_outcome.specs.declared.outcome.Outcome.{Outcome}
+use Rattle.tick_outcome.specs.declared.outcome.Outcome.TheVariants.{Refused, AsmRefused, LoadFault, TooLong, BadImage, Trap, MachineFault, OutOfSteps, WriteFault}
+use Rattle.tick_top.specs.declared.ended.Ended.{Ended}
+use Rattle.tick_top.specs.Outside.{Files, Outside}
+use Rattle.tick_top.specs.Answers.{longest_text, longest_image}
+use Rattle.tick_top.specs.Seen.{IsInput}
+
+-- ---- refusals
+
+-- the file that an order loads, and the most bytes that it may have
+abbrev pub file_of : Order → List ℕ
+file_of (run file steps) = file
+file_of (build file path) = file
+file_of (exec file steps) = file
+file_of (asm file path) = file
+file_of (dis file) = file
+
+abbrev pub longest_of : Order → ℕ
+longest_of (run file steps) = longest_text
+longest_of (build file path) = longest_text
+longest_of (exec file steps) = longest_image
+longest_of (asm file path) = longest_text
+longest_of (dis file) = longest_image
+
+abbrev pub text_refusal : Result Program Fault → Option Outcome
+text_refusal (Ok program) = None
+text_refusal (Err fault) = Some (Refused fault)
+
+abbrev pub assembly_refusal : Result ImageParts AsmFault → Option Outcome
+assembly_refusal (Ok image) = None
+assembly_refusal (Err fault) = Some (AsmRefused fault)
+
+abbrev pub image_refusal : Result ImageParts ImageFault → Option Outcome
+image_refusal (Ok image) = None
+image_refusal (Err fault) = Some (BadImage fault)
+
+-- why the bytes of a file aren't what an order takes, if they aren't: `run` and `build` take a text of the language, `asm`
+-- an assembly text, `exec` and `dis` an image
+abbrev pub content_refusal : Order → List ℕ → Option Outcome
+content_refusal (run file steps) bytes = text_refusal (typed bytes)
+content_refusal (build file path) bytes = text_refusal (typed bytes)
+content_refusal (exec file steps) bytes = image_refusal (parsed bytes)
+content_refusal (asm file path) bytes = assembly_refusal (assembled bytes)
+content_refusal (dis file) bytes = image_refusal (parsed bytes)
+
+abbrev pub refusal : Order → List ℕ → Option Outcome
+refusal order bytes = if nat_lt (longest_of order) (length bytes) then Some TooLong else content_refusal order bytes
+
+-- the outcome is the refusal of the bytes that were loaded from the file of the words' order
+pub record Refuses (words : List (List ℕ)) (files : Files) (outcome : Outcome) : Type 0 where
+  pub order : Order
+  pub ordered : order_of words ≡ Ok order
+  pub bytes : List ℕ
+  pub loads : Loads (files (file_of order)) (longest_of order + 1) bytes
+  pub refused : refusal order bytes ≡ Some outcome
+
+-- An outcome is a refusal: it comes only of bytes that are refused so, and where the file is told and was loaded, exactly
+-- then.
+pub record IsRefusal (words : List (List ℕ)) (files : Files) (last outcome : Outcome) : Type 0 where
+  pub only : last ≡ outcome → Refuses words files outcome
+  pub exactly : (order : Order) (file : List ℕ) → order_of words ≡ Ok order → files (file_of order) ≡ Some (Some file)
+      → last ≢ LoadFault → (last ≡ outcome) ↔ (refusal order file ≡ Some outcome)
+
+-- ---- endings
+
+-- the most instructions of an order that runs a machine
+abbrev pub most_steps : Order → Option ℕ
+most_steps (run file steps) = Some steps
+most_steps (exec file steps) = Some steps
+most_steps other = None
+
+-- The words run a machine for at most so many instructions, and so its run of the image that is handed back ends within
+-- them, on the call's input; or hasn't ended.
+pub record RunEnds (words : List (List ℕ)) (old new : Outside) (e : Ended) (steps : ℕ) (end : Option End) : Type 0 where
+  pub order : Order
+  pub ordered : order_of words ≡ Ok order
+  pub most : most_steps order ≡ Some steps
+  pub image : ImageParts
+  pub handed_back : e.image ≡ Some image
+  pub input : Input
+  pub is_input : IsInput old.left new.left e.outcome input
+  pub ending : (runs image input e.choices.items steps).ending ≡ end
+
+-- An outcome, given by the most instructions, is that of an ending: it comes only of a run that ends so, and where the
+-- input is told and no write failed, always.
+pub record IsOfEnding (words : List (List ℕ)) (old new : Outside) (e : Ended) (outcome : ℕ → Outcome) (end : Option End) : Type 0 where
+  pub only : (n : ℕ) → e.outcome ≡ outcome n → (steps : ℕ) × (outcome steps ≡ outcome n) × RunEnds words old new e steps end
+  pub always : (steps : ℕ) (bytes : List ℕ) → old.left ≡ Some bytes → RunEnds words old new e steps end
+      → e.outcome ≢ WriteFault → e.outcome ≡ outcome steps
+
+-- the words execute a saved image
+abbrev pub Executes : List (List ℕ) → Type 0
+Executes words = (file : List ℕ) × (steps : ℕ) × (order_of words ≡ Ok (exec file steps))
+
+-- ---- the rows, each of what a call answered
+
+abbrev pub RefusedRow : List (List ℕ) → Outside → Ended → Type 0
+RefusedRow words old e = (fault : Fault) → IsRefusal words old.file e.outcome (Refused fault)
+
+abbrev pub AsmRefusedRow : List (List ℕ) → Outside → Ended → Type 0
+AsmRefusedRow words old e = (fault : AsmFault) → IsRefusal words old.file e.outcome (AsmRefused fault)
+
+abbrev pub TooLongRow : List (List ℕ) → Outside → Ended → Type 0
+TooLongRow words old e = IsRefusal words old.file e.outcome TooLong
+
+abbrev pub BadImageRow : List (List ℕ) → Outside → Ended → Type 0
+BadImageRow words old e = (fault : ImageFault) → IsRefusal words old.file e.outcome (BadImage fault)
+
+abbrev pub TrapRow : List (List ℕ) → Outside → Outside → Ended → Type 0
+TrapRow words old new e = (kind : TrapKind) → IsOfEnding words old new e (λ steps. Trap kind) (Some (event.Ended (ending.Trap kind)))
+
+-- a fault of the machine comes of `exec` alone
+abbrev pub MachineFaultRow : List (List ℕ) → Outside → Outside → Ended → Type 0
+MachineFaultRow words old new e = (kind : MachineKind) (at : ℕ)
+    → (e.outcome ≡ MachineFault kind at → Executes words)
+    × IsOfEnding words old new e (λ steps. MachineFault kind at) (Some (event.Fault kind at))
+
+abbrev pub OutOfStepsRow : List (List ℕ) → Outside → Outside → Ended → Type 0
+OutOfStepsRow words old new e = IsOfEnding words old new e OutOfSteps None

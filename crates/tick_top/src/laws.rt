@@ -1,0 +1,22 @@
+//! Laws of a whole call.
+ghost use Rattle.tick_top.specs.Laws.{RunMeans, RunCompletes, ShowsRuns, CommandsComplete};
+
+/// What `run` answers is what the text means: where it answers Done, the meaning ends so, and its output was put out.
+pub fn run_means()
+    ensures { RunMeans }
+{}
+
+/// Where the meaning ends within what the instructions allow and nothing outside fails, `run` answers that ending.
+pub fn run_completes()
+    ensures { RunCompletes }
+{}
+
+/// What `run` and `exec` show is the definition's run of the image that they hand back.
+pub fn shows_runs()
+    ensures { ShowsRuns }
+{}
+
+/// A command whose file isn't refused is done, where nothing outside fails.
+pub fn commands_complete()
+    ensures { CommandsComplete }
+{}
