@@ -52,22 +52,19 @@ any_mismatches as_ ts = list_any (λ p. mismatches p.0 p.1) (zip as_ ts)
 abbrev pub any_void : List Argument → Bool
 any_void as_ = list_any (λ a. is_void a.ctype) as_
 
-abbrev pub void_or_none : List Argument → Option FaultKind
-void_or_none as_ = if any_void as_ then Some fault.VoidValue else None
+-- what arguments break by themselves: none is void, and no call has more than 8
+abbrev pub arguments_break : List Argument → Option FaultKind
+arguments_break as_ = if any_void as_ then Some fault.VoidValue else (if nat_le (length as_) 8 then None else Some fault.TooManyParameters)
 
 -- what arguments break against a declared list
 abbrev pub listed_breaks : List Argument → List CType → Option FaultKind
 listed_breaks as_ ts =
-    if length as_ == length ts then (if any_mismatches as_ ts then Some fault.TypeMismatch else void_or_none as_)
+    if length as_ == length ts then (if any_mismatches as_ ts then Some fault.TypeMismatch else arguments_break as_)
     else Some fault.ArgumentCount
-
--- what arguments break where any are taken
-abbrev pub unlisted_breaks : List Argument → Option FaultKind
-unlisted_breaks as_ = if any_void as_ then Some fault.VoidValue else (if nat_le (length as_) 8 then None else Some fault.TooManyParameters)
 
 abbrev pub called_breaks_at : List Argument → Opened → Option FaultKind
 called_breaks_at as_ (Layer-F.Function ts) = listed_breaks as_ ts
-called_breaks_at as_ Layer-F.Unlisted = unlisted_breaks as_
+called_breaks_at as_ Layer-F.Unlisted = arguments_break as_
 called_breaks_at as_ _ = Some fault.NotFunction
 
 abbrev pub called_breaks_by : List Argument → Option Layer → Option FaultKind

@@ -95,13 +95,16 @@ fn any_void(list: &[Argument]) -> bool
     list.iter().any(|a| is_void(&a.ctype))
 }
 
-fn void_or_none(list: &[Argument]) -> Option<FaultKind>
-    ensures { result ≡ spec.void_or_none list.now }
+fn arguments_break(list: &[Argument]) -> Option<FaultKind>
+    ensures { result ≡ spec.arguments_break list.now }
 {
     if any_void(list) {
-        Some(FaultKind::VoidValue)
-    } else {
+        return Some(FaultKind::VoidValue);
+    }
+    if list.len() <= 8 {
         None
+    } else {
+        Some(FaultKind::TooManyParameters)
     }
 }
 
@@ -114,20 +117,7 @@ fn listed_breaks(list: &[Argument], types: &Parameters<'_>) -> Option<FaultKind>
     if any_mismatches(list, types) {
         Some(FaultKind::TypeMismatch)
     } else {
-        void_or_none(list)
-    }
-}
-
-fn unlisted_breaks(list: &[Argument]) -> Option<FaultKind>
-    ensures { result ≡ spec.unlisted_breaks list.now }
-{
-    if any_void(list) {
-        return Some(FaultKind::VoidValue);
-    }
-    if list.len() <= 8 {
-        None
-    } else {
-        Some(FaultKind::TooManyParameters)
+        arguments_break(list)
     }
 }
 
@@ -136,7 +126,7 @@ fn called_breaks_by(list: &[Argument], layers: &Layers<'_>) -> Option<FaultKind>
 {
     match layers.last() {
         Some(Layer::Function(_)) => listed_breaks(list, &layers.parameters()),
-        Some(Layer::Unlisted) => unlisted_breaks(list),
+        Some(Layer::Unlisted) => arguments_break(list),
         _ => Some(FaultKind::NotFunction),
     }
 }

@@ -5,7 +5,7 @@ use Rattle.c_types.specs.declared.ctype.CType.{CType, out-roll-CType}
 use Rattle.c_types.specs.declared.ctype.Layer.{Layer, out-Layer}
 use Rattle.c_types.specs.declared.ctype.Layer.TheOpen.{CType-F}
 use Rattle.c_types.specs.declared.ctype.Layer.TheVariants as layer
-use Rattle.c_types.specs.Types.{base_of, layers_of, outermost, is_void}
+use Rattle.c_types.specs.Types.{base_of, layers_of, outermost, is_unlisted_at, is_unlisted, is_void}
 use Rattle.check_declarators.specs.declared.steps.Length.TheVariants as len
 use Rattle.check_declarators.specs.declared.steps.Role.TheVariants as role
 use Rattle.check_declarators.specs.declared.steps.Step.{Step}
@@ -130,6 +130,56 @@ made_types (s ∷ ss) = ap types_by (last_one (made ss []) (layer_of s)) ∙ ste
 
 pub first_types : (b : Base) (ss : List Step) (t : CType) → FileType b ss t → types_of t ≡ first_list ss
 first_types b ss t f = ap types_of f.is ∙ ap (λ ls. types_by (outermost ls)) (layers_made b (made ss [])) ∙ made_types ss
+
+-- ---- a list that takes any arguments
+
+abbrev pub is_open : Step → Bool
+is_open step.Unlisted = true
+is_open _ = false
+
+abbrev pub first_open : List Step → Bool
+first_open [] = false
+first_open (s ∷ ss) = is_open s
+
+prefix_open : (p : Prefix) → is_unlisted_at (out-Layer (prefix_layer p)) ≡ false
+prefix_open prefix.Star = ap is_unlisted_at layer.outs-Pointer
+prefix_open prefix.Cspec = ap is_unlisted_at layer.outs-Cspec
+prefix_open prefix.Vspec = ap is_unlisted_at layer.outs-Vspec
+
+step_open : (s : Step) → is_unlisted_at (out-Layer (layer_of s)) ≡ is_open s
+step_open (step.Prefix p) = prefix_open p
+step_open (step.Array n) = ap is_unlisted_at (layer.outs-Array _)
+step_open (step.Function list) = ap is_unlisted_at (layer.outs-Function list)
+step_open step.Unlisted = ap is_unlisted_at layer.outs-Unlisted
+
+made_open : (ss : List Step) → is_unlisted (outermost (made ss [])) ≡ first_open ss
+made_open [] = refl
+made_open (s ∷ ss) = ap is_unlisted (last_one (made ss []) (layer_of s)) ∙ step_open s
+
+pub open_type : (b : Base) (ss : List Step) (t : CType) → FileType b ss t → is_unlisted (outermost (layers_of t)) ≡ first_open ss
+open_type b ss t f = ap (λ u. is_unlisted (outermost (layers_of u))) f.is ∙ ap (λ ls. is_unlisted (outermost ls)) (layers_made b (made ss [])) ∙ made_open ss
+
+-- at the name of a function an open list is an empty one
+pub named_open : (ss : List Step) → first_open (named_steps ss) ≡ false
+named_open [] = refl
+named_open (step.Prefix p ∷ ss) = refl
+named_open (step.Array n ∷ ss) = refl
+named_open (step.Function list ∷ ss) = refl
+named_open (step.Unlisted ∷ ss) = refl
+
+filled_open_by : (count : ℕ) (s : Step) (ss : List Step) → first_open (filled count (s ∷ ss)) ≡ is_open s
+filled_open_by count (step.Prefix p) ss = refl
+filled_open_by count (step.Array len.Computed) ss = refl
+filled_open_by count (step.Array len.Absent) ss = refl
+filled_open_by count (step.Array len.Void) ss = refl
+filled_open_by count (step.Array (len.Counted n)) ss = refl
+filled_open_by count (step.Array (len.Constant n)) ss = refl
+filled_open_by count (step.Function list) ss = refl
+filled_open_by count step.Unlisted ss = refl
+
+pub filled_open : (count : ℕ) (ss : List Step) → first_open (filled count ss) ≡ first_open ss
+filled_open count [] = refl
+filled_open count (s ∷ ss) = filled_open_by count s ss
 
 few_by : (n : ℕ) (b : Bool) → nat_le n 8 ≡ b → (if b then None else Some TooManyParameters) ≡ None → n ≤ 8
 few_by n true e is = true_le n 8 e

@@ -66,7 +66,7 @@ image_keeps s new e = record { end = ap (λ (i : Image). i.end) e; globals = ap 
 
 -- ---- a function
 
-pub function_image : (many line : ℕ) (b : Base) (d : Shape) (gs : List Given) (items : List Item) (s new : State) (r : FunctionRan line b d gs items s new) (sc table : Scope)
+pub function_image : (many : List ℕ) (line : ℕ) (b : Base) (d : Shape) (gs : List Given) (items : List Item) (s new : State) (r : FunctionRan line b d gs items s new) (sc table : Scope)
     → GoodFunction many d gs items → s.scopes ≡ sc ∷ [] → s.functions.defined ≡ table ∷ [] → KeepsGlobals s new
 function_image many line b d gs items s new r sc table good one two =
     let p : PartsOf line b d gs items s new r sc table = parts_of many line b d gs items s new r sc table good one two in
@@ -180,7 +180,7 @@ globals_image fit line b [] s new u sc good one h = image_same s new (pure_same 
 globals_image fit line b (i ∷ is) s new u sc good one h =
     let p : Parts (program.global line b i) (λ v. program.globals line b is) s new u = parts (program.global line b i) (λ v. program.globals line b is) s new u h in
     let g : GlobalImage line b i s p.between = global_image fit line b i s p.between p.answer sc good.0 one p.first in
-    let d : GlobalDone 0 s p.between sc = global_done 0 line b i s p.between p.answer sc good.0 one p.first in
+    let d : GlobalDone [] s p.between sc = global_done [] line b i s p.between p.answer sc good.0 one p.first in
     image_more s p.between new g.kept (globals_image fit line b is p.between new u d.scope good.1 d.one p.second)
 
 globals_end : AllFit → (line : ℕ) (b : Base) (is : List InitParts) (s new z last : State) (u v : Unit {0}) (sc dc : Scope) → EachInit is → EachFixed is → s.scopes ≡ sc ∷ [] → z.scopes ≡ dc ∷ []
@@ -192,8 +192,8 @@ globals_end fit line b (i ∷ is) s new z last u v sc dc good fixed one two h k 
     let q : Parts (program.global line b i) (λ w. program.globals line b is) z last v = parts (program.global line b i) (λ w. program.globals line b is) z last v k in
     let first : p.between.image.end ≡ q.between.image.end
     = same_end line b i s p.between z q.between fixed.0 (global_image fit line b i s p.between p.answer sc good.0 one p.first) (global_image fit line b i z q.between q.answer dc good.0 two q.first) e in
-    let d : GlobalDone 0 s p.between sc = global_done 0 line b i s p.between p.answer sc good.0 one p.first in
-    let f : GlobalDone 0 z q.between dc = global_done 0 line b i z q.between q.answer dc good.0 two q.first in
+    let d : GlobalDone [] s p.between sc = global_done [] line b i s p.between p.answer sc good.0 one p.first in
+    let f : GlobalDone [] z q.between dc = global_done [] line b i z q.between q.answer dc good.0 two q.first in
     globals_end fit line b is p.between new q.between last u v d.scope f.scope good.1 fixed.1 d.one f.one p.second q.second first
 
 -- ---- the walk
@@ -206,27 +206,27 @@ abbrev pub AllFixed : List External → Type 0
 AllFixed [] = Unit {0}
 AllFixed (x ∷ xs) = FixedExternal x × AllFixed xs
 
-external_image : AllFit → (x : External) (s new : State) (u : Unit {0}) (sc table : Scope) → GoodExternal 0 x → s.scopes ≡ sc ∷ [] → s.functions.defined ≡ table ∷ [] → program.external x s ≡ Ok (u, new) → ImageKept s new
+external_image : AllFit → (x : External) (s new : State) (u : Unit {0}) (sc table : Scope) → GoodExternal [] x → s.scopes ≡ sc ∷ [] → s.functions.defined ≡ table ∷ [] → program.external x s ≡ Ok (u, new) → ImageKept s new
 external_image fit (ext.Function line b d items) s new u sc table good one two is =
-    keeps_kept s new (function_image 0 line b (shape d) (parameters_of d) (map item items) s new (function_ran line b (shape d) (parameters_of d) (map item items) s new u is) sc table good one two)
+    keeps_kept s new (function_image [] line b (shape d) (parameters_of d) (map item items) s new (function_ran line b (shape d) (parameters_of d) (map item items) s new u is) sc table good one two)
 external_image fit (ext.Declaration d) s new u sc table good one two is = globals_image fit (declaration d).line (declaration d).base (declaration d).inits s new u sc good one is
 
-external_end : AllFit → (x : External) (s new z last : State) (u v : Unit {0}) (sc dc table other : Scope) → GoodExternal 0 x → FixedExternal x → s.scopes ≡ sc ∷ [] → z.scopes ≡ dc ∷ []
+external_end : AllFit → (x : External) (s new z last : State) (u v : Unit {0}) (sc dc table other : Scope) → GoodExternal [] x → FixedExternal x → s.scopes ≡ sc ∷ [] → z.scopes ≡ dc ∷ []
     → s.functions.defined ≡ table ∷ [] → z.functions.defined ≡ other ∷ [] → program.external x s ≡ Ok (u, new) → program.external x z ≡ Ok (v, last) → s.image.end ≡ z.image.end → new.image.end ≡ last.image.end
 external_end fit (ext.Function line b d items) s new z last u v sc dc table other good fixed one two three four h k e =
-    (function_image 0 line b (shape d) (parameters_of d) (map item items) s new (function_ran line b (shape d) (parameters_of d) (map item items) s new u h) sc table good one three).end
-    ∙ e ∙ sym (function_image 0 line b (shape d) (parameters_of d) (map item items) z last (function_ran line b (shape d) (parameters_of d) (map item items) z last v k) dc other good two four).end
+    (function_image [] line b (shape d) (parameters_of d) (map item items) s new (function_ran line b (shape d) (parameters_of d) (map item items) s new u h) sc table good one three).end
+    ∙ e ∙ sym (function_image [] line b (shape d) (parameters_of d) (map item items) z last (function_ran line b (shape d) (parameters_of d) (map item items) z last v k) dc other good two four).end
 external_end fit (ext.Declaration d) s new z last u v sc dc table other good fixed one two three four h k e =
     globals_end fit (declaration d).line (declaration d).base (declaration d).inits s new z last u v sc dc good fixed one two h k e
 
-pub walk_image : AllFit → (xs : List External) (s new : State) (u : Unit {0}) (sc table : Scope) → EachGood 0 xs → s.scopes ≡ sc ∷ [] → s.functions.defined ≡ table ∷ [] → program.walk xs s ≡ Ok (u, new) → ImageKept s new
+pub walk_image : AllFit → (xs : List External) (s new : State) (u : Unit {0}) (sc table : Scope) → EachGood [] xs → s.scopes ≡ sc ∷ [] → s.functions.defined ≡ table ∷ [] → program.walk xs s ≡ Ok (u, new) → ImageKept s new
 walk_image fit [] s new u sc table good one two is = image_same s new (pure_same tt u s new is)
 walk_image fit (x ∷ xs) s new u sc table good one two is =
     let p : Parts (program.external x) (λ v. program.walk xs) s new u = parts (program.external x) (λ v. program.walk xs) s new u is in
-    let g : Grew _ s p.between table = external_grew 0 x s p.between p.answer sc table good.0 one two p.first in
+    let g : Grew _ s p.between table = external_grew [] x s p.between p.answer sc table good.0 one two p.first in
     image_more s p.between new (external_image fit x s p.between p.answer sc table good.0 one two p.first) (walk_image fit xs p.between new u g.scope _ good.1 g.one g.defined p.second)
 
-pub walks_end : AllFit → (xs : List External) (s new z last : State) (u v : Unit {0}) (sc dc table other : Scope) → EachGood 0 xs → AllFixed xs → s.scopes ≡ sc ∷ [] → z.scopes ≡ dc ∷ []
+pub walks_end : AllFit → (xs : List External) (s new z last : State) (u v : Unit {0}) (sc dc table other : Scope) → EachGood [] xs → AllFixed xs → s.scopes ≡ sc ∷ [] → z.scopes ≡ dc ∷ []
     → s.functions.defined ≡ table ∷ [] → z.functions.defined ≡ other ∷ [] → program.walk xs s ≡ Ok (u, new) → program.walk xs z ≡ Ok (v, last) → s.image.end ≡ z.image.end → new.image.end ≡ last.image.end
 walks_end fit [] s new z last u v sc dc table other good fixed one two three four h k e =
     ap (λ (x : State). x.image.end) (sym (pure_same tt u s new h)) ∙ e ∙ ap (λ (x : State). x.image.end) (pure_same tt v z last k)
@@ -235,6 +235,6 @@ walks_end fit (x ∷ xs) s new z last u v sc dc table other good fixed one two t
     let q : Parts (program.external x) (λ w. program.walk xs) z last v = parts (program.external x) (λ w. program.walk xs) z last v k in
     let first : p.between.image.end ≡ q.between.image.end
     = external_end fit x s p.between z q.between p.answer q.answer sc dc table other good.0 fixed.0 one two three four p.first q.first e in
-    let g : Grew _ s p.between table = external_grew 0 x s p.between p.answer sc table good.0 one three p.first in
-    let f : Grew _ z q.between other = external_grew 0 x z q.between q.answer dc other good.0 two four q.first in
+    let g : Grew _ s p.between table = external_grew [] x s p.between p.answer sc table good.0 one three p.first in
+    let f : Grew _ z q.between other = external_grew [] x z q.between q.answer dc other good.0 two four q.first in
     walks_end fit xs p.between new q.between last u v g.scope f.scope _ _ good.1 fixed.1 g.one f.one g.defined f.defined p.second q.second first

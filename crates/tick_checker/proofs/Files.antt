@@ -1,33 +1,42 @@
 -- What is known between the items of a program, and at the end of its walk.
-use Rattle.std.proofs.Common.{◌≡◌, ℕ, zero, suc, true, false, ap, sym, ◌∙◌, subst, List, [], ◌∷◌, ◌++◌, length, slice_get, Some, None, ◌⊎◌}
+use Rattle.std.proofs.Common.{◌≡◌, ℕ, zero, suc, ◌≤◌, true, false, ◌∙◌, subst, List, [], ◌∷◌, ◌++◌, length, slice_get, Some, None, ◌⊎◌}
 use Rattle.c_types.specs.declared.ctype.CType.{CType}
 use Rattle.c_types.specs.declared.names.Meaning.{Meaning}
-use Rattle.c_types.specs.Scopes.{Name, Scope, Scopes, in_scope, find}
+use Rattle.c_types.specs.Scopes.{Name, Scope, in_scope}
 use Rattle.c_types.specs.Types.{same}
 use Rattle.typed_tree.specs.declared.expression.CaptureKind.{CaptureKind}
 use Rattle.typed_tree.specs.declared.program.Function.{Function}
 use Rattle.check_tables.specs.declared.functions.Prototype.{Prototype}
-use Rattle.check_tables.specs.Functions.{number, number_by}
+use Rattle.check_tables.specs.Functions.{number}
 use Rattle.check_env.specs.declared.state.State.{State}
-use Rattle.check_globals.specs.Functions.{count_of}
+use Rattle.check_globals.specs.Functions.{count_of, types_of}
+use Rattle.wellformed.specs.Accepted.{parameters_of}
 use Rattle.wellformed.specs.Places.{Around}
 use Rattle.wf_invariant.specs.Kept.{Starts}
-use Rattle.wf_invariant.specs.Known.{EachEntry, is_number}
-use Rattle.wf_statements.proofs.Lists.{get_front}
+use Rattle.wf_invariant.specs.Known.{EachEntry}
 use Rattle.tick_checker.proofs.Finish.{Limits}
-use Rattle.tick_checker.proofs.Scopes.{FileName}
+use Rattle.tick_checker.proofs.Scopes.{FileName, AllFound}
 use Rattle.tick_checker.proofs.Steps.{starts_trans}
+use Rattle.tick_checker.proofs.Tables.{HasNumber}
 
 -- ---- the end
 
--- how many functions the program has
-abbrev pub many : State → ℕ
-many e = length e.functions.all
+-- the names of functions
+abbrev pub names_of : List Function → List Name
+names_of [] = []
+names_of (f ∷ fs) = f.name ∷ names_of fs
+
+abbrev pub whole : State → List Name
+whole e = names_of e.functions.all
+
+-- how many parameters each function of the program has
+abbrev pub many : State → List ℕ
+many e = parameters_of e.functions.all
 
 -- what is checked at the end of the walk
 pub record End (e : State) : Type 0 where
   pub limits : Limits e
-  pub numbers : (i : ℕ) (p : Prototype) → slice_get e.functions.prototypes i ≡ Some p → is_number (many e) (number p.name e.functions) ≡ true
+  pub numbers : (i : ℕ) (p : Prototype) → slice_get e.functions.prototypes i ≡ Some p → HasNumber (whole e) p.name (number p.name e.functions)
 
 -- a state on the way to the end
 pub record Towards (s e : State) : Type 0 where
@@ -44,12 +53,6 @@ towards_more s m e p q = record {
   ticks = starts_trans s.ticks.all m.ticks.all e.ticks.all p.ticks q.ticks;
 }
 
--- each function that is declared so far is defined
-pub numbered_on : (s e : State) → End e → Towards s e → (i : ℕ) (p : Prototype) → slice_get s.functions.prototypes i ≡ Some p → is_number (many e) (number p.name s.functions) ≡ true
-numbered_on s e end w i p at =
-    ap (λ (d : Scopes). is_number (many e) (number_by (find d p.name))) (sym w.earlier)
-    ∙ end.numbers i p (ap (λ ps. slice_get ps i) w.prototypes.is ∙ get_front s.functions.prototypes w.prototypes.rest i p at)
-
 -- ---- between items
 
 -- a function of the program is found by its name
@@ -59,6 +62,7 @@ pub record Linked (sc : Scope) (f : Function) : Type 0 where
   pub type : CType
   pub same : (what.ctype ≡ type) ⊎ (same what.ctype type ≡ true)
   pub params : f.params ≡ count_of type
+  pub few : length (types_of type) ≤ 8
 
 abbrev pub EachLinked : Scope → List Function → Type 0
 EachLinked sc [] = Unit {0}
@@ -67,7 +71,7 @@ EachLinked sc (f ∷ fs) = Linked sc f × EachLinked sc fs
 pub linked_later : (sc new : Scope) (fs : List Function) → ((n : Name) (m : Meaning) → in_scope sc n ≡ Some m → in_scope new n ≡ Some m) → EachLinked sc fs → EachLinked new fs
 linked_later sc new [] h l = tt
 linked_later sc new (f ∷ fs) h l =
-    (record { what = l.0.what; found = h f.name l.0.what l.0.found; type = l.0.type; same = l.0.same; params = l.0.params }, linked_later sc new fs h l.1)
+    (record { what = l.0.what; found = h f.name l.0.what l.0.found; type = l.0.type; same = l.0.same; params = l.0.params; few = l.0.few }, linked_later sc new fs h l.1)
 
 pub linked_last : (sc : Scope) (fs : List Function) (f : Function) → EachLinked sc fs → Linked sc f → EachLinked sc (fs ++ f ∷ [])
 linked_last sc [] f h l = (l, tt)
@@ -78,15 +82,11 @@ linked_at sc [] n f h at = absurd (cc)
 linked_at sc (g ∷ fs) zero f h at = let e : g ≡ f = cc in subst (λ (x : Function). Linked sc x) e h.0
 linked_at sc (g ∷ fs) (suc n) f h at = linked_at sc fs n f h.1 at
 
--- the names of functions
-abbrev pub names_of : List Function → List Name
-names_of [] = []
-names_of (f ∷ fs) = f.name ∷ names_of fs
-
 pub record AtFile (e s : State) : Type 0 where
   pub scope : Scope
   pub one : s.scopes ≡ scope ∷ []
-  pub names : EachEntry (FileName (many e) s.functions) scope
+  pub names : EachEntry (FileName (whole e) s.functions) scope
+  pub found : AllFound scope
   pub table : Scope
   pub defined : s.functions.defined ≡ table ∷ []
   pub linked : EachLinked scope s.functions.all

@@ -1,6 +1,7 @@
 -- A function of the program stands right, and what it leaves for the items behind it.
 use Rattle.std.proofs.Common.{◌≡◌, ℕ, ◌+◌, ◌-◌, ◌≤◌, false, refl, ap, sym, ◌∙◌, subst, List, [], ◌∷◌, length, take, Ok, arith}
 use Rattle.c_types.specs.declared.ctype.CType.{CType}
+use Rattle.c_types.specs.Types.{is_unlisted, outermost, layers_of}
 use Rattle.c_types.specs.Scopes.{Scope, Scopes}
 use Rattle.check_declarators.specs.declared.steps.Step.{Step}
 use Rattle.check_declarators.specs.declared.steps.Step.TheVariants as step
@@ -23,7 +24,7 @@ use Rattle.wf_invariant.specs.Kept.{Starts, KeepsGlobals, Grows, IsGrowing, oute
 use Rattle.wf_types.proofs.Fronts.{starts_same}
 use Rattle.wf_types.proofs.Lengths.{none_computed}
 use Rattle.wf_types.proofs.Blocks.{inside}
-use Rattle.tick_checker.proofs.Declared.{FileType, file_type, file_value, named_computed, first_list, first_types, first_few}
+use Rattle.tick_checker.proofs.Declared.{FileType, file_type, file_value, named_computed, first_list, first_types, first_few, open_type, named_open}
 use Rattle.tick_checker.proofs.Files.{many}
 use Rattle.tick_checker.proofs.Given.{EachObject, All}
 use Rattle.tick_checker.proofs.Runs.{TypeRan}
@@ -32,7 +33,7 @@ use Rattle.tick_checker.proofs.Still.{Still, plain_still}
 
 -- ---- what is asked of a function's parts
 
-pub record GoodFunction (many : ℕ) (d : Shape) (gs : List Given) (items : List Item) : Type 0 where
+pub record GoodFunction (many : List ℕ) (d : Shape) (gs : List Given) (items : List Item) : Type 0 where
   pub shape : GoodShape d
   -- the types of a list are those of variables
   pub objects : (s new : State) (xs : List Step) → d.walk stage.Function s ≡ Ok (xs, new) → EachObject (first_list xs)
@@ -54,11 +55,12 @@ pub record Typed (line : ℕ) (b : Base) (d : Shape) (gs : List Given) (s new : 
   pub still : Still s new
   pub image : KeepsGlobals s new
   pub value : is_void t ≡ false
+  pub list : is_unlisted (outermost (layers_of t)) ≡ false
   pub few : length (types_of t) ≤ 8
   pub enough : length (types_of t) ≤ length gs
   pub objects : EachObject (types_of t)
 
-pub function_typed : (many line : ℕ) (b : Base) (d : Shape) (gs : List Given) (items : List Item) (s new : State) (t : CType) → GoodFunction many d gs items → TypeRan line b d s new t → Typed line b d gs s new t
+pub function_typed : (many : List ℕ) (line : ℕ) (b : Base) (d : Shape) (gs : List Given) (items : List Item) (s new : State) (t : CType) → GoodFunction many d gs items → TypeRan line b d s new t → Typed line b d gs s new t
 function_typed many line b d gs items s new t good r =
     let f : FileType (words.base_of b) (names.named_steps r.steps) t = file_type line (words.base_of b) (names.named_steps r.steps) t r.typed in
     let computed : any_computed r.steps ≡ false = sym (named_computed r.steps) ∙ none_computed (names.named_steps r.steps) (words.base_of b) [] f.worst in
@@ -67,6 +69,7 @@ function_typed many line b d gs items s new t good r =
       still = plain_still s new (good.shape stage.Function s new r.steps r.walked computed);
       image = (good.shape stage.Function s new r.steps r.walked computed).tables.image;
       value = file_value (words.base_of b) (names.named_steps r.steps) t f;
+      list = open_type (words.base_of b) (names.named_steps r.steps) t f ∙ named_open r.steps;
       few = subst (λ (ts : List CType). length ts ≤ 8) (sym (first_types (words.base_of b) (names.named_steps r.steps) t f)) (first_few (words.base_of b) (names.named_steps r.steps) f.worst);
       enough = subst (λ (ts : List CType). length ts ≤ length gs) (sym types) (good.enough s new r.steps r.walked);
       objects = subst EachObject (sym types) (good.objects s new r.steps r.walked);

@@ -159,11 +159,11 @@ function_begun top t gs s new u two few enough objects is =
 
 -- ---- what names mean then
 
-means_by : (many : ℕ) (s : State) (name : Name) (m : Meaning) (o : Option Home) (h : Home) → o ≡ Some h → IsObject m.ctype
+means_by : (many : List ℕ) (s : State) (name : Name) (m : Meaning) (o : Option Home) (h : Home) → o ≡ Some h → IsObject m.ctype
     → IsParameter stage.Function alone s m.index (Some h) → IsParameter stage.Function alone s m.index o × IsObject m.ctype
 means_by many s name m o h e t p = (subst (λ (z : Option Home). IsParameter stage.Function alone s m.index z) (sym e) p, t)
 
-pub parameter_means : (many : ℕ) (s : State) (name : Name) (m : Meaning) → ParameterAt s.frame name m → Means many stage.Function alone s name m m.kind
+pub parameter_means : (many : List ℕ) (s : State) (name : Name) (m : Meaning) → ParameterAt s.frame name m → Means many stage.Function alone s name m m.kind
 parameter_means many s name m p =
     subst (λ (k : MeaningKind). Means many stage.Function alone s name m k) (sym p.kind)
     (means_by many s name m (slice_get s.frame.homes m.index) p.place.home p.place.is p.type p.place.stands)

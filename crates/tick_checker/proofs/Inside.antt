@@ -6,8 +6,6 @@ use Rattle.typed_tree.specs.declared.expression.Stmt.{Stmt}
 use Rattle.typed_tree.specs.declared.expression.Stmt.TheVariants as st
 use Rattle.typed_tree.specs.declared.program.Tick.{Tick}
 use Rattle.typed_tree.specs.Sizes.{statements_size}
-use Rattle.check_tables.specs.declared.functions.Prototype.{Prototype}
-use Rattle.check_tables.specs.Functions.{number}
 use Rattle.check_tables.specs.Walks.{Rule}
 use Rattle.check_env.specs.declared.state.Stage.TheVariants as stage
 use Rattle.check_env.specs.declared.state.State.{State}
@@ -20,13 +18,13 @@ use Rattle.wellformed.proofs.Bools.{le_true}
 use Rattle.wf_invariant.specs.Counts.{Counts, objects_in, declarations_in}
 use Rattle.wf_invariant.specs.Items.{placed, GoodStatement, Declared, EachNode, DeclaresAt, ItemsStand}
 use Rattle.wf_invariant.specs.Kept.{Starts, Grows}
-use Rattle.wf_invariant.specs.Known.{Means, EachEntry, EachScope, Small, Known, is_number, numbers}
+use Rattle.wf_invariant.specs.Known.{Means, EachEntry, EachScope, Small, Known, numbers}
 use Rattle.wf_invariant.specs.Steps.{Round, Agrees, Did, EachTick, round_tick}
 use Rattle.wf_types.proofs.Fronts.{starts_refl}
 use Rattle.tick_checker.proofs.Bodies.{items_stand, items_used, declared_stand, declared_used, body_stands, body_used, body_objects, body_numbered}
 use Rattle.tick_checker.proofs.Files.{many, round}
 use Rattle.tick_checker.proofs.Given.{alone, Givens, ParameterAt, parameter_means}
-use Rattle.tick_checker.proofs.Scopes.{FileName, means, each_map}
+use Rattle.tick_checker.proofs.Scopes.{TopName, means, each_map}
 use Rattle.tick_checker.proofs.Bools.{length_front}
 
 -- ---- the ticks of a function, whatever its variables and its frame
@@ -40,17 +38,17 @@ ticks_round e all vs object (t ∷ ts) (k ∷ ks) h = (record { stands = h.0.sta
 
 -- ---- what is known where the items begin
 
-names_known : (e : State) (top : Scope) (n : ℕ) (s : State) → Givens top n s → EachEntry (FileName (many e) s.functions) top → EachScope (λ name m. Means (many e) stage.Function alone s name m m.kind) s.scopes
+names_known : (e : State) (top : Scope) (n : ℕ) (s : State) → Givens top n s → EachEntry (TopName (many e)) top → EachScope (λ name m. Means (many e) stage.Function alone s name m m.kind) s.scopes
 names_known e top n s g names =
     subst (λ (ss : Scopes). EachScope (λ name m. Means (many e) stage.Function alone s name m m.kind) ss) (sym g.two) (
-      each_map (FileName (many e) s.functions) (λ name m. Means (many e) stage.Function alone s name m m.kind) top (λ name m h. means (many e) stage.Function alone s name m m.kind h) names,
+      each_map (TopName (many e)) (λ name m. Means (many e) stage.Function alone s name m m.kind) top (λ name m h. means (many e) stage.Function alone s name m m.kind h) names,
       (
         each_map (ParameterAt s.frame) (λ name m. Means (many e) stage.Function alone s name m m.kind) g.scope (λ name m h. parameter_means (many e) s name m h) g.names,
         tt,
       ),
     )
 
-pub known : (e : State) (top : Scope) (n : ℕ) (ks : List (List CaptureKind)) (s : State) → Givens top n s → EachEntry (FileName (many e) s.functions) top
+pub known : (e : State) (top : Scope) (n : ℕ) (ks : List (List CaptureKind)) (s : State) → Givens top n s → EachEntry (TopName (many e)) top
     → length ks ≡ length s.ticks.all → Known (many e) stage.Function alone ks s
 known e top n ks s g names counted small = record { names = names_known e top n s g names; ticks = counted; object = ap (λ (i : ℕ). i == 0) g.frame.aligned }
 
@@ -64,15 +62,13 @@ same_le : (n : ℕ) → nat_le n n ≡ true
 same_le n = le_true n n (omega arith)
 
 agrees : (e : State) (ks all : List (List CaptureKind)) (s : State) → Small stage.Function s
-    → ((i : ℕ) (p : Prototype) → slice_get s.functions.prototypes i ≡ Some p → is_number (many e) (number p.name s.functions) ≡ true)
     → Starts ks all → Agrees (many e) stage.Function alone ks s (round_items e all s)
-agrees e ks all s small prototypes starts = record {
+agrees e ks all s small starts = record {
   small = small;
   visible = λ i h. h;
   object = same_le s.frame.object;
   is_function = refl;
   functions = (refl, refl);
-  prototypes = prototypes;
   ticks = starts;
   in_tick = tt;
 }
@@ -124,25 +120,24 @@ block_numbered top n s new xs g more c =
     c.declarations (omega arith)
 
 pub inside : (e : State) (top : Scope) (n : ℕ) (ks : List (List CaptureKind)) (step : Rule State (List Stmt)) (s new : State) (xs : List Stmt)
-    → GoodStatement (many e) around step → Givens top n s → EachEntry (FileName (many e) s.functions) top → length ks ≡ length s.ticks.all
+    → GoodStatement (many e) around step → Givens top n s → EachEntry (TopName (many e)) top → length ks ≡ length s.ticks.all
     → step s ≡ Ok (xs, new) → Small stage.Function new
-    → ((i : ℕ) (p : Prototype) → slice_get new.functions.prototypes i ≡ Some p → is_number (many e) (number p.name new.functions) ≡ true)
     → Inside e ks n s new xs
-inside e top n ks step s new xs good g names counted is small prototypes =
+inside e top n ks step s new xs good g names counted is small =
     let d : Did (many e) stage.Function alone ks s new (λ r. ItemsStand around (placed around r.function) xs) = good.does alone ks s new xs tt (known e top n ks s g names counted) is in
     let grows : Grows stage.Function s new = good.grows s new xs is in
     let object : s.frame.object ≤ new.frame.object = grows.at.object small.object in
     let declared : Declared stage.Function s new = good.declares s new xs is small (ap (λ (i : ℕ). i == 0) g.frame.aligned) in
     let counts : Counts stage.Function s new xs = good.counts s new xs is small in
-    let here : Agrees (many e) stage.Function alone (ks ++ d.more) new (round_items e (ks ++ d.more) new) = agrees e (ks ++ d.more) (ks ++ d.more) new small prototypes (starts_refl (ks ++ d.more)) in
+    let here : Agrees (many e) stage.Function alone (ks ++ d.more) new (round_items e (ks ++ d.more) new) = agrees e (ks ++ d.more) (ks ++ d.more) new small (starts_refl (ks ++ d.more)) in
     record {
       more = d.more;
       counted = (d.known small).ticks;
       stands = λ all starts. block_stands e top n all s new grows.tables.nodes.rest xs g object grows.tables.nodes.is (declared.nodes grows.tables.nodes)
-          (d.stands (round_items e all new) (agrees e (ks ++ d.more) all new small prototypes starts));
+          (d.stands (round_items e all new) (agrees e (ks ++ d.more) all new small starts));
       values = block_used e top n (ks ++ d.more) s new grows.tables.nodes.rest xs g grows.tables.nodes.is (declared.nodes grows.tables.nodes) (d.stands (round_items e (ks ++ d.more) new) here);
       objects = λ byte. body_objects byte s.frame.object new.frame.object (objects_in byte s.frame.nodes) new.frame.nodes xs object (g.frame.objects byte) (counts.objects byte);
       numbers = block_numbered top n s new xs g (starts_length s.frame.homes new.frame.homes grows.at.homes) counts;
       ticks = λ all starts made. ticks_round e all (numbers new.frame.nodes) new.frame.object made.rest d.more
-          (d.ticks (round_items e all new) (agrees e (ks ++ d.more) all new small prototypes starts) made);
+          (d.ticks (round_items e all new) (agrees e (ks ++ d.more) all new small starts) made);
     }

@@ -38,28 +38,28 @@ use Rattle.tick_checker.proofs.Walk.{GoodExternal, EachGood}
 
 -- ---- declarations
 
-static_node : (many : ℕ) (n : Node) → GoodNode many n → StaticNode n
+static_node : (many : List ℕ) (n : Node) → GoodNode many n → StaticNode n
 static_node many n g = record {
   constant = λ c s new o is. (g.constant c stage.Function s new o is).0;
   string = λ c s new o is. g.string c stage.Function s new o is;
 }
 
-static_each : (many : ℕ) (ns : List Node) → EachPart (GoodNode many) ns → EachStatic ns
+static_each : (many : List ℕ) (ns : List Node) → EachPart (GoodNode many) ns → EachStatic ns
 static_each many [] h = tt
 static_each many (n ∷ ns) h = (static_node many n h.0, static_each many ns h.1)
 
-static_start : (many : ℕ) (start : Start) → GoodStart many start → StaticStart start
+static_start : (many : List ℕ) (start : Start) → GoodStart many start → StaticStart start
 static_start many Nothing h = tt
 static_start many (Value e) h = static_node many e h
 static_start many (Values es) h = static_each many es h
 
-inits_good : (many : ℕ) (is : List InitParts) → EachPart (GoodLocal many) is → EachInit is
+inits_good : (many : List ℕ) (is : List InitParts) → EachPart (GoodLocal many) is → EachInit is
 inits_good many [] h = tt
 inits_good many (i ∷ is) h = (record { shape = h.0.shape; start = static_start many i.start h.0.start }, inits_good many is h.1)
 
 -- ---- functions
 
-items_good : (many : ℕ) (ss : List Written) → total (map statement_weight ss) ≤ 1000000000 → EachPart (GoodItem many) (map item ss)
+items_good : (many : List ℕ) (ss : List Written) → total (map statement_weight ss) ≤ 1000000000 → EachPart (GoodItem many) (map item ss)
 items_good many [] h = tt
 items_good many (s ∷ ss) h = ((small_are_good many).item s (omega arith), items_good many ss (omega arith))
 
@@ -70,7 +70,7 @@ few_homes ss s new xs h is =
     let k : length new.frame.homes ≤ length s.frame.homes + total (map statement_weight ss) = l.homes in
     omega arith
 
-external_good : (many : ℕ) (x : External) (xs : List External) → EachNamed (x ∷ xs) → item_weight x ≤ 900000000 → GoodExternal many x
+external_good : (many : List ℕ) (x : External) (xs : List External) → EachNamed (x ∷ xs) → item_weight x ≤ 900000000 → GoodExternal many x
 external_good many (ext.Function line b d ss) xs named few = record {
   shape = (small_are_good many).shape d (omega arith);
   objects = list_objects d;
@@ -84,7 +84,7 @@ rest_named : (x : External) (xs : List External) → EachNamed (x ∷ xs) → Ea
 rest_named (ext.Function line b d ss) xs h = h.1
 rest_named (ext.Declaration d) xs h = h
 
-each_external : (many : ℕ) (xs : List External) → EachNamed xs → total (map item_weight xs) ≤ 900000000 → EachGood many xs
+each_external : (many : List ℕ) (xs : List External) → EachNamed xs → total (map item_weight xs) ≤ 900000000 → EachGood many xs
 each_external many [] named few = tt
 each_external many (x ∷ xs) named few = (external_good many x xs named (omega arith), each_external many xs (rest_named x xs named) (omega arith))
 

@@ -2,6 +2,7 @@ pub mod Bodies
 pub mod Bools
 pub mod Bounds
 pub mod Checked
+pub mod Counted
 pub mod Declarations
 pub mod Declared
 pub mod Done

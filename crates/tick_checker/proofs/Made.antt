@@ -60,7 +60,7 @@ pub record PartsOf (line : ℕ) (b : Base) (d : Shape) (gs : List Given) (items 
   pub all : All name.scope (length (types_of r.type)) (inside r.named) r.third.given
   pub grown : Grown line d r.type s r.named r.third.given r.third.last r.third.nodes name.scope table (name_by d.declared.name)
 
-pub parts_of : (many line : ℕ) (b : Base) (d : Shape) (gs : List Given) (items : List Item) (s new : State) (r : FunctionRan line b d gs items s new) (sc table : Scope)
+pub parts_of : (many : List ℕ) (line : ℕ) (b : Base) (d : Shape) (gs : List Given) (items : List Item) (s new : State) (r : FunctionRan line b d gs items s new) (sc table : Scope)
     → GoodFunction many d gs items → s.scopes ≡ sc ∷ [] → s.functions.defined ≡ table ∷ [] → PartsOf line b d gs items s new r sc table
 parts_of many line b d gs items s new r sc table good one two =
     let ty : Typed line b d gs s r.typed r.type = function_typed many line b d gs items s r.typed r.type good r.first in
@@ -74,7 +74,7 @@ parts_of many line b d gs items s new r sc table good one two =
     record { typed = ty; name = n; all = a; grown = grown line d r.type s r.typed r.named r.third.given r.third.last r.third.nodes sc table (name_by d.declared.name) (length (types_of r.type)) ty.still n a bl }
 
 -- one function more, and the ticks that it made
-pub function_towards : (many line : ℕ) (b : Base) (d : Shape) (gs : List Given) (items : List Item) (s new : State) (r : FunctionRan line b d gs items s new) (sc table : Scope)
+pub function_towards : (many : List ℕ) (line : ℕ) (b : Base) (d : Shape) (gs : List Given) (items : List Item) (s new : State) (r : FunctionRan line b d gs items s new) (sc table : Scope)
     → PartsOf line b d gs items s new r sc table → Towards s new
 function_towards many line b d gs items s new r sc table p =
     subst (λ (z : State). Towards s z) (sym (is_made line b d gs items s new r))

@@ -102,12 +102,12 @@ meant s (Some m) e h =
       type = second_true (names.is_function m.kind && tables.is_defined (codes "main") s.functions) (is_main_type m.ctype) h;
     }
 
-record Placed (fs : List Function) (i : ℕ) (name : Name) : Type 0 where
-  function : Function
-  is : slice_get fs i ≡ Some function
-  named : function.name ≡ name
+pub record Placed (fs : List Function) (i : ℕ) (name : Name) : Type 0 where
+  pub function : Function
+  pub is : slice_get fs i ≡ Some function
+  pub named : function.name ≡ name
 
-placed_at : (fs : List Function) (i : ℕ) (name : Name) → slice_get (names_of fs) i ≡ Some name → Placed fs i name
+pub placed_at : (fs : List Function) (i : ℕ) (name : Name) → slice_get (names_of fs) i ≡ Some name → Placed fs i name
 placed_at [] i name h = absurd (cc)
 placed_at (f ∷ fs) zero name h = record { function = f; is = refl; named = cc }
 placed_at (f ∷ fs) (suc i) name h = let p : Placed fs i name = placed_at fs i name h in record { function = p.function; is = p.is; named = p.named }
@@ -115,7 +115,7 @@ placed_at (f ∷ fs) (suc i) name h = let p : Placed fs i name = placed_at fs i 
 no_count : (t : CType) → types_of t ≡ [] → count_of t ≡ 0
 no_count t e = ap (λ (ts : List CType). min (length ts) 4294967295) e
 
-same_some : (x y : Meaning) → Some x ≡ Some y → x ≡ y
+pub same_some : (x y : Meaning) → Some x ≡ Some y → x ≡ y
 same_some x y e = cc
 
 pub main_found : (e : State) (ns : List Name) → AtFile e e → e.functions.defined ≡ with_names 0 ns [] ∷ [] → names_of e.functions.all ≡ ns → has_main e ≡ true → HasMain e.functions.all

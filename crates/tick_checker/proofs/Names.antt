@@ -15,7 +15,7 @@ use Rattle.check_globals.specs.Functions as globals
 use Rattle.check_globals.specs.Names as names
 use Rattle.wf_invariant.specs.Known.{EachEntry}
 use Rattle.wf_types.proofs.Walks.{pure_same}
-use Rattle.tick_checker.proofs.Scopes.{found_front, found_new, each_more, DeclaresFirst, declare_first}
+use Rattle.tick_checker.proofs.Scopes.{found_front, found_new, each_more, AllFound, all_found_more, DeclaresFirst, declare_first}
 use Rattle.tick_checker.proofs.Steps.{Parts, parts}
 use Rattle.tick_checker.proofs.Tables.{with_name, define_gives}
 
@@ -48,6 +48,7 @@ pub record NamedFunction (name : Name) (t : CType) (s new : State) (sc dc : Scop
   pub same : (what.ctype ≡ t) ⊎ (same what.ctype t ≡ true)
   pub keeps : (n : Name) (m : Meaning) → in_scope sc n ≡ Some m → in_scope scope n ≡ Some m
   pub names : (P : Name → Meaning → Type 0) → EachEntry P sc → P name (meaning kind.Function t (functions.next s.functions)) → EachEntry P scope
+  pub every : AllFound sc → AllFound scope
 
 first_function : (line : ℕ) (name : Name) (t : CType) (s new : State) (u : Unit {0}) (sc dc : Scope) → s.scopes ≡ sc ∷ [] → s.functions.defined ≡ dc ∷ []
     → globals.first_function line name t s ≡ Ok (u, new) → NamedFunction name t s new sc dc
@@ -68,6 +69,7 @@ first_function line name t s new u sc dc one two is =
       same = inl refl;
       keeps = λ n m h. found_front sc (name, meaning kind.Function t (functions.next s.functions)) n m h;
       names = λ P h k. each_more P sc name (meaning kind.Function t (functions.next s.functions)) h k;
+      every = λ h. all_found_more sc name (meaning kind.Function t (functions.next s.functions)) d.fresh h;
     }
 
 pub split : (b : Bool) → (b ≡ true) ⊎ (b ≡ false)
@@ -88,6 +90,7 @@ same_prototype line name t s new u sc dc m known type one two is =
       same = inr type;
       keeps = λ n x h. h;
       names = λ P h k. h;
+      every = λ h. h;
     }
 
 function_some : (d : Bool) (line : ℕ) (name : Name) (t : CType) (s new : State) (u : Unit {0}) (sc dc : Scope) (m : Meaning) → find s.scopes name ≡ Some m → s.scopes ≡ sc ∷ [] → s.functions.defined ≡ dc ∷ []
@@ -118,6 +121,7 @@ pub record NamedPrototype (line : ℕ) (name : Name) (t : CType) (s new : State)
   pub is : new ≡ record s { scopes = scope ∷ []; functions = functions.with_prototype line name s.functions }
   pub keeps : (n : Name) (m : Meaning) → in_scope sc n ≡ Some m → in_scope scope n ≡ Some m
   pub names : (P : Name → Meaning → Type 0) → EachEntry P sc → P name (meaning kind.Function t (functions.number name s.functions)) → EachEntry P scope
+  pub every : AllFound sc → AllFound scope
 
 noted : (line : ℕ) (name : Name) (s new : State) (u : Unit {0}) → names.note line name s ≡ Ok (u, new) → new ≡ record s { functions = functions.with_prototype line name s.functions }
 noted line name s new u is = sym (pure_same tt u (record s { functions = functions.with_prototype line name s.functions }) new is)
@@ -134,6 +138,7 @@ first_prototype line name t s new u sc one is =
       is = noted line name p.between new u p.second ∙ ap (λ (z : State). record z { functions = functions.with_prototype line name z.functions }) d.is;
       keeps = λ n m h. found_front sc (name, meaning kind.Function t (functions.number name s.functions)) n m h;
       names = λ P h k. each_more P sc name (meaning kind.Function t (functions.number name s.functions)) h k;
+      every = λ h. all_found_more sc name (meaning kind.Function t (functions.number name s.functions)) d.fresh h;
     }
 
 again : (line : ℕ) (name : Name) (t : CType) (s new : State) (u : Unit {0}) (sc : Scope) → s.scopes ≡ sc ∷ [] → names.note line name s ≡ Ok (u, new) → NamedPrototype line name t s new sc
@@ -143,6 +148,7 @@ again line name t s new u sc one is =
       is = noted line name s new u is ∙ ap (λ (z : Scopes). record s { scopes = z; functions = functions.with_prototype line name s.functions }) one;
       keeps = λ n m h. h;
       names = λ P h k. h;
+      every = λ h. h;
     }
 
 prototype_some : (d : Bool) (line : ℕ) (name : Name) (t : CType) (s new : State) (u : Unit {0}) (sc : Scope) (m : Meaning) → s.scopes ≡ sc ∷ []

@@ -1,5 +1,5 @@
 -- Each rule of the walk makes of good parts a good whole.
-use Rattle.std.proofs.Common.{ℕ, refl}
+use Rattle.std.proofs.Common.{ℕ, refl, List}
 use Rattle.tick_tree.specs.declared.syntax.Core.TheOpen.{Core-F, Expr-F, Initializer-F, OptionalExpr-F, Stmt-F, Suffix-F}
 use Rattle.check_expressions.specs.Rules.{tick_around}
 use Rattle.check_walk.specs.Walk.{Core-W, Expr-W, Initializer-W, OptionalExpr-W, Stmt-W, Suffix-W, Declarator-W, Declaration-W, Init-W, Parameter-W, Typename-W, core_rule, expr_rule, start_rule, optional_rule, suffix_walk, suffix_of, declarator_rule, declaration_rule, init_rule, parameter_rule, typename_rule, stmt_rule, declaration_walk}
@@ -21,7 +21,7 @@ use Rattle.tick_checker.specs.Good.{good, FewParts, FewExpr}
 
 -- ---- expressions
 
-parts : (many : ℕ) (e : Expr-W) → EveryExpr (good many) e → FewParts e → GoodParts many e
+parts : (many : List ℕ) (e : Expr-W) → EveryExpr (good many) e → FewParts e → GoodParts many e
 parts many (Expr-F.TickBlock line items) h f = block_good items tick_around tt refl h f
 parts many (Expr-F.Expr::Name line name) h f = tt
 parts many (Expr-F.Number n unsigned) h f = tt
@@ -44,7 +44,7 @@ parts many (Expr-F.Assign line ab) h f = h
 parts many (Expr-F.Modify line op ab) h f = h
 parts many (Expr-F.Comma line ab) h f = h
 
-pub good_expr : (many : ℕ) (e : Expr-W) → EveryExpr (good many) e → FewExpr e → GoodNode many (expr_rule e)
+pub good_expr : (many : List ℕ) (e : Expr-W) → EveryExpr (good many) e → FewExpr e → GoodNode many (expr_rule e)
 good_expr many e h f =
     let p = parts many e h f.parts in
     record {
@@ -55,49 +55,49 @@ good_expr many e h f =
       constant = λ is g s new o r. constant_plain many e p (form_of e is) g s new o r;
     }
 
-pub good_optional : (many : ℕ) (x : OptionalExpr-W) → EveryOptionalExpr (good many) x → GoodOptional many (optional_rule x)
+pub good_optional : (many : List ℕ) (x : OptionalExpr-W) → EveryOptionalExpr (good many) x → GoodOptional many (optional_rule x)
 good_optional many OptionalExpr-F.OptionalExpr::Absent h = tt
 good_optional many (OptionalExpr-F.Present e) h = h
 
-pub good_initializer : (many : ℕ) (x : Initializer-W) → EveryInitializer (good many) x → GoodStart many (start_rule x)
+pub good_initializer : (many : List ℕ) (x : Initializer-W) → EveryInitializer (good many) x → GoodStart many (start_rule x)
 good_initializer many Initializer-F.Initializer::Absent h = tt
 good_initializer many (Initializer-F.Value e) h = h
 good_initializer many (Initializer-F.List es comma) h = h
 
 -- ---- types
 
-pub good_core : (many : ℕ) (x : Core-W) → EveryCore (good many) x → GoodShape (core_rule x)
+pub good_core : (many : List ℕ) (x : Core-W) → EveryCore (good many) x → GoodShape (core_rule x)
 good_core many Core-F.Core::Absent h = core_of Core-F.Core::Absent h
 good_core many (Core-F.Core::Name n text) h = core_of (Core-F.Core::Name n text) h
 good_core many (Core-F.Core::Paren d) h = core_of (Core-F.Core::Paren d) h
 
-suffix_parts : (many : ℕ) (x : Suffix-W) → EverySuffix (good many) x → GoodSuffixParts many (suffix_of x)
+suffix_parts : (many : List ℕ) (x : Suffix-W) → EverySuffix (good many) x → GoodSuffixParts many (suffix_of x)
 suffix_parts many (Suffix-F.Array e) h = h
 suffix_parts many Suffix-F.Unlisted h = tt
 suffix_parts many Suffix-F.Nothing h = tt
 suffix_parts many (Suffix-F.Listed ps) h = each_parameter GoodParameter ps h
 
-pub good_suffix : (many : ℕ) (x : Suffix-W) → EverySuffix (good many) x → GoodSuffix (suffix_walk x).walk
+pub good_suffix : (many : List ℕ) (x : Suffix-W) → EverySuffix (good many) x → GoodSuffix (suffix_walk x).walk
 good_suffix many x h = suffix_is_good many x (suffix_parts many x h)
 
-pub good_declarator : (many : ℕ) (x : Declarator-W) → EveryDeclarator (good many) x → GoodShape (declarator_rule x)
+pub good_declarator : (many : List ℕ) (x : Declarator-W) → EveryDeclarator (good many) x → GoodShape (declarator_rule x)
 good_declarator many x h = declarator_of x h.0 h.1
 
-pub good_parameter : (many : ℕ) (x : Parameter-W) → EveryParameter (good many) x → GoodParameter (parameter_rule x).walk
+pub good_parameter : (many : List ℕ) (x : Parameter-W) → EveryParameter (good many) x → GoodParameter (parameter_rule x).walk
 good_parameter many x h = parameter_of x h
 
-pub good_typename : (many : ℕ) (x : Typename-W) → EveryTypename (good many) x → GoodNamed (typename_rule x)
+pub good_typename : (many : List ℕ) (x : Typename-W) → EveryTypename (good many) x → GoodNamed (typename_rule x)
 good_typename many x h = typename_of x h
 
 -- ---- declarations and statements
 
-pub good_init : (many : ℕ) (x : Init-W) → EveryInit (good many) x → GoodInit many (init_rule x)
+pub good_init : (many : List ℕ) (x : Init-W) → EveryInit (good many) x → GoodInit many (init_rule x)
 good_init many x h = record { shape = h.0; start = h.1 }
 
-pub good_declaration : (many : ℕ) (x : Declaration-W) → EveryDeclaration (good many) x → GoodDeclarators many (declaration_rule x)
+pub good_declaration : (many : List ℕ) (x : Declaration-W) → EveryDeclaration (good many) x → GoodDeclarators many (declaration_rule x)
 good_declaration many x h = h
 
-statement_parts : (many : ℕ) (x : Stmt-W) → EveryStmt (good many) x → GoodStatementParts many declaration_walk x
+statement_parts : (many : List ℕ) (x : Stmt-W) → EveryStmt (good many) x → GoodStatementParts many declaration_walk x
 statement_parts many Stmt-F.Empty h = tt
 statement_parts many (Stmt-F.Expr e) h = h
 statement_parts many (Stmt-F.Block items) h = h
@@ -114,5 +114,5 @@ statement_parts many (Stmt-F.Break line) h = tt
 statement_parts many (Stmt-F.Continue line) h = tt
 statement_parts many (Stmt-F.Return line e) h = h
 
-pub good_stmt : (many : ℕ) (x : Stmt-W) → EveryStmt (good many) x → GoodItem many (stmt_rule x)
+pub good_stmt : (many : List ℕ) (x : Stmt-W) → EveryStmt (good many) x → GoodItem many (stmt_rule x)
 good_stmt many x h = item_good many x (statement_parts many x h)

@@ -1,6 +1,7 @@
 -- The second walk: each function and each tick that it makes stands right at its end.
-use Rattle.std.proofs.Common.{◌≡◌, refl, ap, sym, ◌∙◌, subst, List, [], ◌∷◌, ◌++◌, length, map, Ok, append-nil, append_assoc}
-use Rattle.c_types.specs.Scopes.{Name, Scope}
+use Rattle.std.proofs.Common.{◌≡◌, refl, ap, sym, ◌∙◌, subst, List, [], ◌∷◌, ◌++◌, length, map, Some, Ok, append-nil, append_assoc}
+use Rattle.c_types.specs.declared.names.Meaning.{Meaning}
+use Rattle.c_types.specs.Scopes.{Name, Scope, find}
 use Rattle.tick_tree.specs.declared.syntax.External.{External}
 use Rattle.tick_tree.specs.declared.syntax.External.TheVariants as ext
 use Rattle.typed_tree.specs.declared.expression.CaptureKind.{CaptureKind}
@@ -17,13 +18,14 @@ use Rattle.wf_invariant.specs.Kept.{Starts}
 use Rattle.wf_invariant.specs.Steps.{EachTick}
 use Rattle.wf_types.proofs.Walks.{pure_same}
 use Rattle.wf_types.proofs.Plain.{each_tick}
+use Rattle.tick_checker.proofs.Counted.{EndNames}
 use Rattle.tick_checker.proofs.Done.{FunctionDone}
-use Rattle.tick_checker.proofs.Files.{many, End, Towards, AtFile, EachLinked, linked_later, round}
+use Rattle.tick_checker.proofs.Files.{whole, many, End, Towards, AtFile, EachLinked, linked_later, round}
 use Rattle.tick_checker.proofs.Globals.{GlobalDone, globals_done}
 use Rattle.tick_checker.proofs.Runs.{FunctionRan, function_ran}
 use Rattle.tick_checker.proofs.Steps.{Parts, parts, starts_trans}
 use Rattle.tick_checker.proofs.Walk.{GoodExternal, EachGood, functions_in, Grew, external_grew, walk_grew}
-use Rattle.tick_checker.proofs.Whole.{function_done}
+use Rattle.tick_checker.proofs.Whole.{function_file, function_done}
 
 -- ---- lists behind the same front
 
@@ -88,17 +90,18 @@ behind_function e name ks s m table before after f w = record {
 
 -- ---- a declaration, and what comes behind it
 
-file_after : (e s m : State) (file : AtFile e s) → GlobalDone (many e) s m file.scope → AtFile e m
+file_after : (e s m : State) (file : AtFile e s) → GlobalDone (whole e) s m file.scope → AtFile e m
 file_after e s m file g = record {
   scope = g.scope;
   one = g.one;
   names = g.names file.names;
+  found = g.every file.found;
   table = file.table;
   defined = g.defined ∙ file.defined;
   linked = subst (λ (fs : List Function). EachLinked g.scope fs) (sym g.all) (linked_later file.scope g.scope s.functions.all g.keeps file.linked);
 }
 
-behind_declaration : (e s m : State) (ks : List (List CaptureKind)) (sc : Scope) → GlobalDone (many e) s m sc → Walked e ks m → Walked e ks s
+behind_declaration : (e s m : State) (ks : List (List CaptureKind)) (sc : Scope) → GlobalDone (whole e) s m sc → Walked e ks m → Walked e ks s
 behind_declaration e s m ks sc g w = record {
   more = w.more;
   counted = w.counted;
@@ -107,25 +110,41 @@ behind_declaration e s m ks sc g w = record {
   ticks = λ all starts made. w.ticks all starts (record { rest = made.rest; is = made.is ∙ ap (λ l. l ++ made.rest) (sym g.ticks) });
 }
 
--- ---- the walk
+-- ---- what is known of the file at the end
 
-first_walked : (e : State) (x : External) (xs : List External) (ks : List (List CaptureKind)) (s m : State) (u v : Unit {0}) → End e → GoodExternal (many e) x → AtFile e s → length ks ≡ length s.ticks.all
-    → program.external x s ≡ Ok (u, m) → Towards m e → ((ms : List (List CaptureKind)) → AtFile e m → length ms ≡ length m.ticks.all → Walked e ms m) → Walked e ks s
-first_walked e (ext.Function line b d items) xs ks s m u v end good file counted is after rest =
-    let r : FunctionRan line b (shape d) (parameters_of d) (map item items) s m = function_ran line b (shape d) (parameters_of d) (map item items) s m u is in
-    let f : FunctionDone e (name_by (shape d).declared.name) ks s m file.table = function_done e line b (shape d) (parameters_of d) (map item items) ks s m end good file counted r after in
-    let g : Grew (name_by (shape d).declared.name ∷ []) s m file.table = external_grew (many e) (ext.Function line b d items) s m u file.scope file.table good file.one file.defined is in
-    behind_function e (name_by (shape d).declared.name) ks s m file.table g.towards after f (rest (ks ++ f.more) f.file f.counted)
-first_walked e (ext.Declaration d) xs ks s m u v end good file counted is after rest =
-    let g : GlobalDone (many e) s m file.scope = globals_done (many e) (declaration d).line (declaration d).base (declaration d).inits s m u file.scope good file.one is in
-    behind_declaration e s m ks file.scope g (rest ks (file_after e s m file g) (counted ∙ ap length (sym g.ticks)))
+file_then : (e : State) (x : External) (s m : State) (u : Unit {0}) → GoodExternal (many e) x → AtFile e s → program.external x s ≡ Ok (u, m) → Towards m e → AtFile e m
+file_then e (ext.Function line b d items) s m u good file is after =
+    function_file e line b (shape d) (parameters_of d) (map item items) s m good file (function_ran line b (shape d) (parameters_of d) (map item items) s m u is) after
+file_then e (ext.Declaration d) s m u good file is after =
+    file_after e s m file (globals_done (whole e) (declaration d).line (declaration d).base (declaration d).inits s m u file.scope good file.one is)
 
-pub walked : (e : State) (xs : List External) (ks : List (List CaptureKind)) (s : State) (u : Unit {0}) → End e → EachGood (many e) xs → AtFile e s → length ks ≡ length s.ticks.all
-    → program.walk xs s ≡ Ok (u, e) → Walked e ks s
-walked e [] ks s u end good file counted is =
-    subst (λ (z : State). Walked e ks z) (sym (pure_same tt u s e is)) (ended e ks (subst (λ (z : State). AtFile e z) (pure_same tt u s e is) file) (counted ∙ ap (λ (z : State). length z.ticks.all) (pure_same tt u s e is)))
-walked e (x ∷ xs) ks s u end good file counted is =
+pub file_at_end : (e : State) (xs : List External) (s : State) (u : Unit {0}) → EachGood (many e) xs → AtFile e s → program.walk xs s ≡ Ok (u, e) → AtFile e e
+file_at_end e [] s u good file is = subst (λ (z : State). AtFile e z) (pure_same tt u s e is) file
+file_at_end e (x ∷ xs) s u good file is =
     let p : Parts (program.external x) (λ v. program.walk xs) s e u = parts (program.external x) (λ v. program.walk xs) s e u is in
     let g : Grew _ s p.between file.table = external_grew (many e) x s p.between p.answer file.scope file.table good.0 file.one file.defined p.first in
     let after : Grew (functions_in xs) p.between e _ = walk_grew (many e) xs p.between e u g.scope _ good.1 g.one g.defined p.second in
-    first_walked e x xs ks s p.between p.answer u end good.0 file counted p.first after.towards (λ ms f c. walked e xs ms p.between u end good.1 f c p.second)
+    file_at_end e xs p.between u good.1 (file_then e x s p.between p.answer good.0 file p.first after.towards) p.second
+
+-- ---- the walk
+
+first_walked : (e : State) (x : External) (xs : List External) (ks : List (List CaptureKind)) (s m : State) (u v : Unit {0}) → End e → EndNames e → GoodExternal (many e) x → AtFile e s → length ks ≡ length s.ticks.all
+    → program.external x s ≡ Ok (u, m) → Towards m e → ((n : Name) (z : Meaning) → find m.scopes n ≡ Some z → find e.scopes n ≡ Some z) → ((ms : List (List CaptureKind)) → AtFile e m → length ms ≡ length m.ticks.all → Walked e ms m) → Walked e ks s
+first_walked e (ext.Function line b d items) xs ks s m u v end ends good file counted is after keeps rest =
+    let r : FunctionRan line b (shape d) (parameters_of d) (map item items) s m = function_ran line b (shape d) (parameters_of d) (map item items) s m u is in
+    let f : FunctionDone e (name_by (shape d).declared.name) ks s m file.table = function_done e line b (shape d) (parameters_of d) (map item items) ks s m end ends good file counted r after keeps in
+    let g : Grew (name_by (shape d).declared.name ∷ []) s m file.table = external_grew (many e) (ext.Function line b d items) s m u file.scope file.table good file.one file.defined is in
+    behind_function e (name_by (shape d).declared.name) ks s m file.table g.towards after f (rest (ks ++ f.more) f.file f.counted)
+first_walked e (ext.Declaration d) xs ks s m u v end ends good file counted is after keeps rest =
+    let g : GlobalDone (whole e) s m file.scope = globals_done (whole e) (declaration d).line (declaration d).base (declaration d).inits s m u file.scope good file.one is in
+    behind_declaration e s m ks file.scope g (rest ks (file_after e s m file g) (counted ∙ ap length (sym g.ticks)))
+
+pub walked : (e : State) (xs : List External) (ks : List (List CaptureKind)) (s : State) (u : Unit {0}) → End e → EndNames e → EachGood (many e) xs → AtFile e s → length ks ≡ length s.ticks.all
+    → program.walk xs s ≡ Ok (u, e) → Walked e ks s
+walked e [] ks s u end ends good file counted is =
+    subst (λ (z : State). Walked e ks z) (sym (pure_same tt u s e is)) (ended e ks (subst (λ (z : State). AtFile e z) (pure_same tt u s e is) file) (counted ∙ ap (λ (z : State). length z.ticks.all) (pure_same tt u s e is)))
+walked e (x ∷ xs) ks s u end ends good file counted is =
+    let p : Parts (program.external x) (λ v. program.walk xs) s e u = parts (program.external x) (λ v. program.walk xs) s e u is in
+    let g : Grew _ s p.between file.table = external_grew (many e) x s p.between p.answer file.scope file.table good.0 file.one file.defined p.first in
+    let after : Grew (functions_in xs) p.between e _ = walk_grew (many e) xs p.between e u g.scope _ good.1 g.one g.defined p.second in
+    first_walked e x xs ks s p.between p.answer u end ends good.0 file counted p.first after.towards after.keeps (λ ms f c. walked e xs ms p.between u end ends good.1 f c p.second)

@@ -1,5 +1,5 @@
 -- A walk begins with the names of the library.
-use Rattle.std.proofs.Common.{◌≡◌, ℕ, refl, ap, ◌∙◌, [], ◌∷◌, ◌++◌, codes, Ok}
+use Rattle.std.proofs.Common.{◌≡◌, ℕ, refl, ap, ◌∙◌, [], ◌∷◌, ◌++◌, codes, Ok, List}
 use Rattle.c_types.specs.declared.ctype.CType.{CType}
 use Rattle.c_types.specs.declared.ctype.Integer.TheVariants as integer
 use Rattle.c_types.specs.declared.ctype.Layer.TheVariants as layer
@@ -13,7 +13,7 @@ use Rattle.check_env.specs.Starts.{int, function, library_meaning, add_library, 
 use Rattle.wf_values.specs.Used.{IsLibrary}
 use Rattle.wf_values.proofs.Declared.{libraries_use}
 use Rattle.wf_invariant.specs.Known.{EachEntry}
-use Rattle.tick_checker.proofs.Scopes.{FileName, each_more, DeclaresFirst, declare_first}
+use Rattle.tick_checker.proofs.Scopes.{FileName, each_more, AllFound, all_found_more, DeclaresFirst, declare_first}
 use Rattle.tick_checker.proofs.Steps.{Parts, parts}
 
 -- ---- one name more
@@ -22,7 +22,8 @@ use Rattle.tick_checker.proofs.Steps.{Parts, parts}
 pub record Library (s new : State) : Type 1 where
   pub scope : Scope
   pub is : new ≡ record s { scopes = scope ∷ [] }
-  pub names : (many : ℕ) (f : Functions) → EachEntry (FileName many f) scope
+  pub names : (whole : List Name) (f : Functions) → EachEntry (FileName whole f) scope
+  pub every : AllFound scope
 
 one_more : (name : Name) (n : ℕ) (t : CType) (s m new : State) (u : Unit {0}) → IsLibrary n t → Library s m → add_library name n t m ≡ Ok (u, new) → Library s new
 unfolding add_library
@@ -31,7 +32,8 @@ one_more name n t s m new u lib l is =
     record {
       scope = l.scope ++ (name, library_meaning n t) ∷ [];
       is = d.is ∙ ap (λ (z : State). record z { scopes = (l.scope ++ (name, library_meaning n t) ∷ []) ∷ [] }) l.is;
-      names = λ many f. each_more (FileName many f) l.scope name (library_meaning n t) (l.names many f) lib;
+      names = λ whole f. each_more (FileName whole f) l.scope name (library_meaning n t) (l.names whole f) lib;
+      every = all_found_more l.scope name (library_meaning n t) d.fresh l.every;
     }
 
 two_more : (a b : Name) (i j : ℕ) (t v : CType) (s m new : State) (u : Unit {0}) → IsLibrary i t → IsLibrary j v → Library s m
@@ -58,7 +60,7 @@ third_names s m new u l is = one_more (codes "exit") 4 (function void (int ∷ [
 pub library_names : (s new : State) (u : Unit {0}) → s.scopes ≡ [] ∷ [] → libraries s ≡ Ok (u, new) → Library s new
 unfolding libraries
 library_names s new u none is =
-    let begin : Library s s = record { scope = []; is = ap (λ (ss : Scopes). record s { scopes = ss }) none; names = λ many f. tt } in
+    let begin : Library s s = record { scope = []; is = ap (λ (ss : Scopes). record s { scopes = ss }) none; names = λ whole f. tt; every = tt } in
     let p : Parts first_library (λ v. second_library >>= (λ w. third_library)) s new u = parts first_library (λ v. second_library >>= (λ w. third_library)) s new u is in
     let q : Parts second_library (λ w. third_library) p.between new u = parts second_library (λ w. third_library) p.between new u p.second in
     third_names s q.between new u (second_names s p.between q.between q.answer (first_names s s p.between p.answer begin p.first) q.first) q.second

@@ -1,13 +1,11 @@
 -- Both walks define the same functions: after a walk the table of those that are defined is told by their names alone.
-use Rattle.std.proofs.Common.{◌≡◌, ℕ, zero, suc, ◌+◌, ◌≤◌, ◌<◌, min, Bool, true, false, if◌then◌else◌, refl, ap, sym, ◌∙◌, List, [], ◌∷◌, ◌++◌, length, Option, Some, None, is_some, Ok, slice_get, arith, bytes_eq, append-nil}
-use Rattle.std.proofs.lemmas.Bool.Decides.{nat_tests}
+use Rattle.std.proofs.Common.{◌≡◌, ℕ, zero, suc, ◌+◌, ◌≤◌, ◌<◌, min, Bool, true, false, if◌then◌else◌, refl, ap, sym, ◌∙◌, subst, List, [], ◌∷◌, ◌++◌, length, Option, Some, None, is_some, Ok, slice_get, arith, bytes_eq, append-nil}
 use Rattle.std.proofs.lemmas.Slice.Eq.{bytes_eq-Decides}
 use Rattle.c_types.specs.declared.names.Meaning.{Meaning}
 use Rattle.c_types.specs.Scopes.{Name, Scope, Scopes, in_scope, find, innermost, declared}
 use Rattle.check_tables.specs.declared.functions.Functions.{Functions}
 use Rattle.check_tables.specs.declared.functions.Prototype.{Prototype}
 use Rattle.check_tables.specs.Functions.{define, defined_by, next, number, number_by, is_defined, meaning, lacking, undefined}
-use Rattle.wf_invariant.specs.Known.{is_number}
 use Rattle.wf_types.proofs.Walks.{pure_same}
 
 -- the number of the function that so many stand before
@@ -38,30 +36,39 @@ define_gives line name s new u sc one is = defined_case line name s new u sc (in
 
 -- ---- the numbers
 
-abbrev pub EachNumber : ℕ → Scope → Type 0
-EachNumber many [] = Unit {0}
-EachNumber many (e ∷ es) = (is_number many e.1.index ≡ true) × EachNumber many es
+-- among functions of these names, this is the number of the one of this name
+pub record HasNumber (ns : List Name) (name : Name) (n : ℕ) : Type 0 where
+  pub place : ℕ
+  pub is : slice_get ns place ≡ Some name
+  pub number : n ≡ number_at place
 
-each_more : (many : ℕ) (sc : Scope) (e : Name × Meaning) → EachNumber many sc → is_number many e.1.index ≡ true → EachNumber many (sc ++ e ∷ [])
-each_more many [] e h k = (k, tt)
-each_more many (x ∷ sc) e h k = (h.0, each_more many sc e h.1 k)
+abbrev pub EachNumber : List Name → Scope → Type 0
+EachNumber ns [] = Unit {0}
+EachNumber ns (e ∷ es) = HasNumber ns e.0 e.1.index × EachNumber ns es
 
-pub is_number_at : (many n : ℕ) → n < many → is_number many (number_at n) ≡ true
-is_number_at many n h = grind (arith, nat_tests)
+each_more : (ns : List Name) (sc : Scope) (e : Name × Meaning) → EachNumber ns sc → HasNumber ns e.0 e.1.index → EachNumber ns (sc ++ e ∷ [])
+each_more ns [] e h k = (k, tt)
+each_more ns (x ∷ sc) e h k = (h.0, each_more ns sc e h.1 k)
 
-pub numbered : (many n : ℕ) (xs : List Name) (sc : Scope) → n + length xs ≤ many → EachNumber many sc → EachNumber many (with_names n xs sc)
-numbered many n [] sc h k = k
-numbered many n (x ∷ xs) sc h k =
-    numbered many (suc n) xs (with_name n x sc) (omega arith) (each_more many sc (x, meaning (number_at n)) k (is_number_at many n (omega arith)))
+pub numbered : (ns : List Name) (n : ℕ) (xs : List Name) (sc : Scope) → ((i : ℕ) (x : Name) → slice_get xs i ≡ Some x → slice_get ns (n + i) ≡ Some x)
+    → EachNumber ns sc → EachNumber ns (with_names n xs sc)
+numbered ns n [] sc h k = k
+numbered ns n (x ∷ xs) sc h k =
+    let at : slice_get ns n ≡ Some x = ap (λ (i : ℕ). slice_get ns i) (let e : n ≡ n + 0 = omega arith in e) ∙ h 0 x refl in
+    numbered ns (suc n) xs (with_name n x sc)
+    (λ i y is. ap (λ (j : ℕ). slice_get ns j) (let e : suc n + i ≡ n + suc i = omega arith in e) ∙ h (suc i) y is)
+    (each_more ns sc (x, meaning (number_at n)) k (record { place = n; is = at; number = refl }))
 
-found_case : (many : ℕ) (e : Name × Meaning) (sc : Scope) (name : Name) (m : Meaning) (b : Bool) → is_number many e.1.index ≡ true
-    → (in_scope sc name ≡ Some m → is_number many m.index ≡ true) → (if b then Some e.1 else in_scope sc name) ≡ Some m → is_number many m.index ≡ true
-found_case many e sc name m true h k is = let same : e.1 ≡ m = cc in ap (λ (x : Meaning). is_number many x.index) (sym same) ∙ h
-found_case many e sc name m false h k is = k is
+found_case : (ns : List Name) (e : Name × Meaning) (sc : Scope) (name : Name) (m : Meaning) (b : Bool) → (b ≡ true → name ≡ e.0) → HasNumber ns e.0 e.1.index
+    → (in_scope sc name ≡ Some m → HasNumber ns name m.index) → (if b then Some e.1 else in_scope sc name) ≡ Some m → HasNumber ns name m.index
+found_case ns e sc name m true eq h k is =
+    let same : e.1 ≡ m = cc in
+    record { place = h.place; is = h.is ∙ ap Some (sym (eq refl)); number = ap (λ (x : Meaning). x.index) (sym same) ∙ h.number }
+found_case ns e sc name m false eq h k is = k is
 
-found_number : (many : ℕ) (sc : Scope) (name : Name) (m : Meaning) → EachNumber many sc → in_scope sc name ≡ Some m → is_number many m.index ≡ true
-found_number many [] name m h is = absurd (cc)
-found_number many (e ∷ sc) name m h is = found_case many e sc name m (bytes_eq name e.0) h.0 (found_number many sc name m h.1) is
+found_number : (ns : List Name) (sc : Scope) (name : Name) (m : Meaning) → EachNumber ns sc → in_scope sc name ≡ Some m → HasNumber ns name m.index
+found_number ns [] name m h is = absurd (cc)
+found_number ns (e ∷ sc) name m h is = found_case ns e sc name m (bytes_eq name e.0) (bytes_eq-Decides name e.0).0 h.0 (found_number ns sc name m h.1) is
 
 -- ---- prototypes
 
@@ -74,18 +81,18 @@ none_lacks [] s is i p at = absurd (cc)
 none_lacks (q ∷ ps) s is zero p at = let same : q ≡ p = cc in ap (λ (x : Prototype). is_defined x.name s) (sym same) ∙ (lacks_case q ps s (is_defined q.name s) is).0
 none_lacks (q ∷ ps) s is (suc i) p at = none_lacks ps s (lacks_case q ps s (is_defined q.name s) is).1 i p at
 
-is_some_found : (many : ℕ) (sc : Scope) (name : Name) (o : Option Meaning) → EachNumber many sc → in_scope sc name ≡ o → is_some o ≡ true → is_number many (number_by o) ≡ true
-is_some_found many sc name None h is some = absurd (cc)
-is_some_found many sc name (Some m) h is some = found_number many sc name m h is
+is_some_found : (ns : List Name) (sc : Scope) (name : Name) (o : Option Meaning) → EachNumber ns sc → in_scope sc name ≡ o → is_some o ≡ true → HasNumber ns name (number_by o)
+is_some_found ns sc name None h is some = absurd (cc)
+is_some_found ns sc name (Some m) h is some = found_number ns sc name m h is
 
 -- each prototype has the number of a function
-pub prototypes_numbered : (many : ℕ) (s : Functions) (sc : Scope) → s.defined ≡ sc ∷ [] → s.earlier ≡ sc ∷ [] → EachNumber many sc → undefined s ≡ None
-    → (i : ℕ) (p : Prototype) → slice_get s.prototypes i ≡ Some p → is_number many (number p.name s) ≡ true
+pub prototypes_numbered : (ns : List Name) (s : Functions) (sc : Scope) → s.defined ≡ sc ∷ [] → s.earlier ≡ sc ∷ [] → EachNumber ns sc → undefined s ≡ None
+    → (i : ℕ) (p : Prototype) → slice_get s.prototypes i ≡ Some p → HasNumber ns p.name (number p.name s)
 unfolding undefined
-prototypes_numbered many s sc one two h none i p at =
+prototypes_numbered ns s sc one two h none i p at =
     let is : is_defined p.name s ≡ true = none_lacks s.prototypes s none i p at in
     let some : is_some (find (sc ∷ []) p.name) ≡ true = ap (λ (d : Scopes). is_some (find d p.name)) (sym one) ∙ is in
-    ap (λ (d : Scopes). is_number many (number_by (find d p.name))) two ∙ is_some_found many sc p.name (in_scope sc p.name) h refl some
+    subst (λ (d : Scopes). HasNumber ns p.name (number_by (find d p.name))) (sym two) (is_some_found ns sc p.name (in_scope sc p.name) h refl some)
 
 -- ---- the names
 

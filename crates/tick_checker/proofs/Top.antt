@@ -21,12 +21,13 @@ use Rattle.wf_invariant.specs.Steps.{EachTick, TickStands}
 use Rattle.wf_types.proofs.Fronts.{starts_refl}
 use Rattle.tick_checker.proofs.Bools.{true_le}
 use Rattle.tick_checker.proofs.Bounds.{Bounded, image_small}
+use Rattle.tick_checker.proofs.Counted.{EndNames, end_names}
 use Rattle.tick_checker.proofs.Ends.{AllFit, AllFixed, ImageKept, walk_image, walks_end}
 use Rattle.tick_checker.proofs.Checked.{Ran, ran}
-use Rattle.tick_checker.proofs.Files.{many, End, AtFile, EachLinked, names_of, round}
+use Rattle.tick_checker.proofs.Files.{whole, many, End, AtFile, EachLinked, names_of, round}
 use Rattle.tick_checker.proofs.Finish.{Finished, finished_gives, limits, tick_fit, words_small}
 use Rattle.tick_checker.proofs.Main.{HasMain, main_found}
-use Rattle.tick_checker.proofs.Second.{EachFunction, Walked, walked}
+use Rattle.tick_checker.proofs.Second.{EachFunction, Walked, file_at_end, walked}
 use Rattle.tick_checker.proofs.Starts.{Library, started, begun_again}
 use Rattle.tick_checker.proofs.Tables.{with_names, numbered, prototypes_numbered}
 use Rattle.tick_checker.proofs.Walk.{EachGood, functions_in, Grew, walk_grew, count_grew}
@@ -40,12 +41,12 @@ pub record Tabled (ns : List Name) (e : State) : Type 0 where
   pub names : names_of e.functions.all ≡ ns
   pub count : length e.functions.all ≡ length ns
 
-first_table : (xs : List External) (p : TypedParts) → EachGood 0 xs → (r : Ran xs p) → r.first.1.functions.defined ≡ with_names 0 (functions_in xs) [] ∷ []
+first_table : (xs : List External) (p : TypedParts) → EachGood [] xs → (r : Ran xs p) → r.first.1.functions.defined ≡ with_names 0 (functions_in xs) [] ∷ []
 first_table xs p good r =
     let l : Library empty r.begin.1 = started r.begin.1 r.begin.0 r.one in
     let fs : r.begin.1.functions ≡ tables.new = ap (λ (z : State). z.functions) l.is in
     let g : Grew (functions_in xs) r.begin.1 r.first.1 []
-    = walk_grew 0 xs r.begin.1 r.first.1 r.first.0 l.scope [] good (ap (λ (z : State). z.scopes) l.is) (ap (λ (f : Functions). f.defined) fs) r.two in
+    = walk_grew [] xs r.begin.1 r.first.1 r.first.0 l.scope [] good (ap (λ (z : State). z.scopes) l.is) (ap (λ (f : Functions). f.defined) fs) r.two in
     g.defined ∙ ap (λ (f : Functions). with_names (length f.all) (functions_in xs) [] ∷ []) fs
 
 pub record Begun (s new : State) : Type 1 where
@@ -59,11 +60,11 @@ second_begun xs p r =
     let l : Library (emptied r.first.1) r.middle.1 = begun_again r.first.1 r.middle.1 r.middle.0 r.three in
     record { library = l; one = ap (λ (z : State). z.scopes) l.is; functions = ap (λ (z : State). z.functions) l.is; ticks = ap (λ (z : State). z.ticks.all) l.is }
 
-tabled : (xs : List External) (p : TypedParts) → EachGood 0 xs → (r : Ran xs p) → Tabled (functions_in xs) r.last.1
+tabled : (xs : List External) (p : TypedParts) → EachGood [] xs → (r : Ran xs p) → Tabled (functions_in xs) r.last.1
 tabled xs p good r =
     let b : Begun r.first.1 r.middle.1 = second_begun xs p r in
     let g : Grew (functions_in xs) r.middle.1 r.last.1 []
-    = walk_grew 0 xs r.middle.1 r.last.1 r.last.0 b.library.scope [] good b.one (ap (λ (f : Functions). f.defined) b.functions) r.four in
+    = walk_grew [] xs r.middle.1 r.last.1 r.last.0 b.library.scope [] good b.one (ap (λ (f : Functions). f.defined) b.functions) r.four in
     let n : length r.last.1.functions.all ≡ length r.middle.1.functions.all + length (functions_in xs) = count_grew (functions_in xs) r.middle.1 r.last.1 [] g in
     let z : length r.middle.1.functions.all ≡ 0 = ap (λ (f : Functions). length f.all) b.functions in
     record {
@@ -76,15 +77,16 @@ tabled xs p good r =
 ended : (ns : List Name) (e : State) (p : TypedParts) → Tabled ns e → Finished e p → End e
 ended ns e p t f = record {
   limits = limits e f.fits;
-  numbers = prototypes_numbered (many e) e.functions (with_names 0 ns []) t.defined t.earlier
-      (numbered (many e) 0 ns [] (let c : length e.functions.all ≡ length ns = t.count in omega arith) tt) f.prototypes;
+  numbers = prototypes_numbered (whole e) e.functions (with_names 0 ns []) t.defined t.earlier
+      (numbered (whole e) 0 ns [] (λ i x at. ap (λ (j : ℕ). slice_get (whole e) j) (let z : 0 + i ≡ i = omega arith in z) ∙ ap (λ l. slice_get l i) t.names ∙ at) tt) f.prototypes;
 }
 
 begun_file : (e s new : State) → Begun s new → AtFile e new
 begun_file e s new b = record {
   scope = b.library.scope;
   one = b.one;
-  names = b.library.names (many e) new.functions;
+  names = b.library.names (whole e) new.functions;
+  found = b.library.every;
   table = [];
   defined = ap (λ (f : Functions). f.defined) b.functions;
   linked = subst (λ (f : Functions). EachLinked b.library.scope f.all) (sym b.functions) tt;
@@ -135,7 +137,7 @@ is_accepted s e p ns t f end w none no_ticks bytes =
 
 -- ---- the image
 
-image_few : (xs : List External) (p : TypedParts) → AllFit → EachGood 0 xs → AllFixed xs → (r : Ran xs p) → Finished r.last.1 p → length (image r.last.1.image) ≤ 4194304
+image_few : (xs : List External) (p : TypedParts) → AllFit → EachGood [] xs → AllFixed xs → (r : Ran xs p) → Finished r.last.1 p → length (image r.last.1.image) ≤ 4194304
 image_few xs p fit good fixed r f =
     let l : Library empty r.begin.1 = started r.begin.1 r.begin.0 r.one in
     let b : Begun r.first.1 r.middle.1 = second_begun xs p r in
@@ -152,14 +154,16 @@ image_few xs p fit good fixed r f =
     (k.bounded (subst Bounded (sym second) (λ h. omega arith))) (limits r.last.1 f.fits).image
 
 -- given the parts
-pub program_accepted : (t : Tree) (p : TypedParts) → AllFit → ((n : ℕ) → EachGood n t.items) → AllFixed t.items → checked t ≡ Ok p → accepted.IsAccepted p
+pub program_accepted : (t : Tree) (p : TypedParts) → AllFit → ((counts : List ℕ) → EachGood counts t.items) → AllFixed t.items → checked t ≡ Ok p → accepted.IsAccepted p
 program_accepted t p fit good fixed is =
     let r : Ran t.items p = ran t p is in
     let b : Begun r.first.1 r.middle.1 = second_begun t.items p r in
-    let tb : Tabled (functions_in t.items) r.last.1 = tabled t.items p (good 0) r in
+    let tb : Tabled (functions_in t.items) r.last.1 = tabled t.items p (good []) r in
     let f : Finished r.last.1 p = finished_gives r.last.1 p r.five in
     let end : End r.last.1 = ended (functions_in t.items) r.last.1 p tb f in
+    let ends : EndNames r.last.1
+    = end_names r.last.1 end (file_at_end r.last.1 t.items r.middle.1 r.last.0 (good (many r.last.1)) (begun_file r.last.1 r.first.1 r.middle.1 b) r.four) in
     let w : Walked r.last.1 [] r.middle.1
-    = walked r.last.1 t.items [] r.middle.1 r.last.0 end (good (many r.last.1)) (begun_file r.last.1 r.first.1 r.middle.1 b) (ap length (sym b.ticks)) r.four in
+    = walked r.last.1 t.items [] r.middle.1 r.last.0 end ends (good (many r.last.1)) (begun_file r.last.1 r.first.1 r.middle.1 b) (ap length (sym b.ticks)) r.four in
     subst (λ (q : TypedParts). accepted.IsAccepted q) (sym f.is)
-    (is_accepted r.middle.1 r.last.1 p (functions_in t.items) tb f end w (ap (λ (g : Functions). g.all) b.functions) b.ticks (image_few t.items p fit (good 0) fixed r f))
+    (is_accepted r.middle.1 r.last.1 p (functions_in t.items) tb f end w (ap (λ (g : Functions). g.all) b.functions) b.ticks (image_few t.items p fit (good []) fixed r f))

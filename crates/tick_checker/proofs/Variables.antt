@@ -3,7 +3,7 @@ use Rattle.std.proofs.Common.{◌≡◌, ℕ, Bool, true, false, not, ◌||◌, 
 use Rattle.c_types.specs.declared.ctype.CType.{CType}
 use Rattle.c_types.specs.declared.names.Meaning.{Meaning}
 use Rattle.c_types.specs.declared.names.MeaningKind.TheVariants as kind
-use Rattle.c_types.specs.Scopes.{Name, Scope, find}
+use Rattle.c_types.specs.Scopes.{Name, Scope, in_scope, find}
 use Rattle.c_types.specs.Types.{same, limited_size}
 use Rattle.check_tables.specs.Functions as functions
 use Rattle.check_tables.specs.Images as images
@@ -24,6 +24,7 @@ next_global t s = meaning kind.Global t (names.address (images.place s.image))
 pub record NamedVariable (name : Name) (t : CType) (s new : State) (at : ℕ) (sc : Scope) : Type 0 where
   pub is : new ≡ record s { scopes = (sc ++ (name, next_global t s) ∷ []) ∷ []; image = images.with_global (names.size_by (limited_size t)) s.image }
   pub place : at ≡ images.place s.image
+  pub fresh : in_scope sc name ≡ None
 
 first_variable : (line : ℕ) (name : Name) (t : CType) (s new : State) (at : ℕ) (sc : Scope) → s.scopes ≡ sc ∷ []
     → names.first_variable line name t s ≡ Ok (at, new) → NamedVariable name t s new at sc
@@ -35,6 +36,7 @@ first_variable line name t s new at sc one is =
     record {
       is = sym (pure_same (images.place s.image) at p.between new p.second) ∙ d.is;
       place = sym (pure_value (images.place s.image) at p.between new p.second);
+      fresh = d.fresh;
     }
 
 variable_some : (d : Bool) (line : ℕ) (name : Name) (t : CType) (s new : State) (at : ℕ) (sc : Scope) (m : Meaning)

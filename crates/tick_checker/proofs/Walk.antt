@@ -1,6 +1,7 @@
 -- The walk over a program: what both walks leave of the functions.
-use Rattle.std.proofs.Common.{◌≡◌, ℕ, suc, ◌+◌, refl, ap, sym, ◌∙◌, subst, List, [], ◌∷◌, ◌++◌, length, map, Ok, arith, append-nil, append_assoc}
-use Rattle.c_types.specs.Scopes.{Name, Scope}
+use Rattle.std.proofs.Common.{◌≡◌, ℕ, suc, ◌+◌, refl, ap, sym, ◌∙◌, subst, List, [], ◌∷◌, ◌++◌, length, map, Some, Ok, arith, append-nil, append_assoc}
+use Rattle.c_types.specs.declared.names.Meaning.{Meaning}
+use Rattle.c_types.specs.Scopes.{Name, Scope, Scopes, in_scope, find}
 use Rattle.tick_tree.specs.declared.base.Base.{Base}
 use Rattle.tick_tree.specs.declared.syntax.External.{External}
 use Rattle.tick_tree.specs.declared.syntax.External.TheVariants as ext
@@ -26,11 +27,11 @@ use Rattle.tick_checker.proofs.Tables.{with_name, with_names}
 
 -- ---- what is asked of the items of a program
 
-abbrev pub GoodExternal : ℕ → External → Type 0
+abbrev pub GoodExternal : List ℕ → External → Type 0
 GoodExternal many (ext.Function line b d items) = GoodFunction many (shape d) (parameters_of d) (map item items)
 GoodExternal many (ext.Declaration d) = EachInit (declaration d).inits
 
-abbrev pub EachGood : ℕ → List External → Type 0
+abbrev pub EachGood : List ℕ → List External → Type 0
 EachGood many [] = Unit {0}
 EachGood many (x ∷ xs) = GoodExternal many x × EachGood many xs
 
@@ -49,12 +50,18 @@ pub record Grew (ns : List Name) (s new : State) (table : Scope) : Type 0 where
   pub one : new.scopes ≡ scope ∷ []
   pub defined : new.functions.defined ≡ with_names (length s.functions.all) ns table ∷ []
   pub names : names_of new.functions.all ≡ names_of s.functions.all ++ ns
+  -- a name that is found stays found
+  pub keeps : (n : Name) (m : Meaning) → find s.scopes n ≡ Some m → find new.scopes n ≡ Some m
+
+kept_in : (sc scope : Scope) (s new : State) → s.scopes ≡ sc ∷ [] → new.scopes ≡ scope ∷ [] → (n : Name) (m : Meaning) → (in_scope sc n ≡ Some m → in_scope scope n ≡ Some m)
+    → find s.scopes n ≡ Some m → find new.scopes n ≡ Some m
+kept_in sc scope s new one two n m keeps h = ap (λ (z : Scopes). find z n) two ∙ keeps (ap (λ (z : Scopes). find z n) (sym one) ∙ h)
 
 names_last : (fs : List Function) (f : Function) → names_of (fs ++ f ∷ []) ≡ names_of fs ++ f.name ∷ []
 names_last [] f = refl
 names_last (g ∷ fs) f = ap (λ ns. g.name ∷ ns) (names_last fs f)
 
-pub function_grew : (many line : ℕ) (b : Base) (d : Shape) (gs : List Given) (items : List Item) (s new : State) (r : FunctionRan line b d gs items s new) (sc table : Scope)
+pub function_grew : (many : List ℕ) (line : ℕ) (b : Base) (d : Shape) (gs : List Given) (items : List Item) (s new : State) (r : FunctionRan line b d gs items s new) (sc table : Scope)
     → GoodFunction many d gs items → s.scopes ≡ sc ∷ [] → s.functions.defined ≡ table ∷ [] → Grew (name_by d.declared.name ∷ []) s new table
 function_grew many line b d gs items s new r sc table good one two =
     let p : PartsOf line b d gs items s new r sc table = parts_of many line b d gs items s new r sc table good one two in
@@ -66,27 +73,29 @@ function_grew many line b d gs items s new r sc table good one two =
       defined = ap (λ (z : State). z.functions.defined) made ∙ ap (λ (f : Functions). f.defined) p.grown.functions;
       names = ap (λ (z : State). names_of z.functions.all) made ∙ names_last r.third.last.functions.all (made_function line d r.type r.named r.third.last r.third.nodes)
           ∙ ap (λ (f : Functions). names_of f.all ++ name_by d.declared.name ∷ []) p.grown.functions;
+      keeps = λ n m h. kept_in sc p.name.scope s new one (ap (λ (z : State). z.scopes) made ∙ p.grown.scopes) n m (p.name.keeps n m) h;
     }
 
-global_grew : (many : ℕ) (s new : State) (sc table : Scope) → GlobalDone many s new sc → s.functions.defined ≡ table ∷ [] → Grew [] s new table
-global_grew many s new sc table g two = record {
+global_grew : (s new : State) (sc table : Scope) → s.scopes ≡ sc ∷ [] → GlobalDone [] s new sc → s.functions.defined ≡ table ∷ [] → Grew [] s new table
+global_grew s new sc table one g two = record {
   towards = record { earlier = g.later.earlier; prototypes = g.later.prototypes; all = starts_same s.functions.all new.functions.all g.all; ticks = starts_same s.ticks.all new.ticks.all g.ticks };
   scope = g.scope;
   one = g.one;
   defined = g.defined ∙ two;
   names = ap names_of g.all ∙ sym (append-nil (names_of s.functions.all));
+  keeps = λ n m h. kept_in sc g.scope s new one g.one n m (g.keeps n m) h;
 }
 
 abbrev names_in : External → List Name
 names_in (ext.Function line b d items) = name_by (shape d).declared.name ∷ []
 names_in (ext.Declaration d) = []
 
-pub external_grew : (many : ℕ) (x : External) (s new : State) (u : Unit {0}) (sc table : Scope) → GoodExternal many x → s.scopes ≡ sc ∷ [] → s.functions.defined ≡ table ∷ []
+pub external_grew : (many : List ℕ) (x : External) (s new : State) (u : Unit {0}) (sc table : Scope) → GoodExternal many x → s.scopes ≡ sc ∷ [] → s.functions.defined ≡ table ∷ []
     → program.external x s ≡ Ok (u, new) → Grew (names_in x) s new table
 external_grew many (ext.Function line b d items) s new u sc table good one two is =
     function_grew many line b (shape d) (parameters_of d) (map item items) s new (function_ran line b (shape d) (parameters_of d) (map item items) s new u is) sc table good one two
 external_grew many (ext.Declaration d) s new u sc table good one two is =
-    global_grew many s new sc table (globals_done many (declaration d).line (declaration d).base (declaration d).inits s new u sc good one is) two
+    global_grew s new sc table one (globals_done [] (declaration d).line (declaration d).base (declaration d).inits s new u sc good one is) two
 
 -- ---- the walk
 
@@ -120,6 +129,7 @@ grew_more xs ys s m new table p q = record {
   defined = q.defined ∙ ap (λ (i : ℕ). with_names i ys (with_names (length s.functions.all) xs table) ∷ []) (count_grew xs s m table p)
       ∙ ap (λ sc. sc ∷ []) (sym (both_names (length s.functions.all) xs ys table));
   names = q.names ∙ ap (λ ns. ns ++ ys) p.names ∙ append_assoc (names_of s.functions.all) xs ys;
+  keeps = λ n x h. q.keeps n x (p.keeps n x h);
 }
 
 grew_same : (s : State) (sc table : Scope) → s.scopes ≡ sc ∷ [] → s.functions.defined ≡ table ∷ [] → Grew [] s s table
@@ -129,6 +139,7 @@ grew_same s sc table one two = record {
   one = one;
   defined = two;
   names = sym (append-nil (names_of s.functions.all));
+  keeps = λ n m h. h;
 }
 
 names_first : (x : External) (xs : List External) → names_in x ++ functions_in xs ≡ functions_in (x ∷ xs)
@@ -136,7 +147,7 @@ names_first (ext.Function line b d items) xs = refl
 names_first (ext.Declaration d) xs = refl
 
 -- either walk
-pub walk_grew : (many : ℕ) (xs : List External) (s new : State) (u : Unit {0}) (sc table : Scope) → EachGood many xs → s.scopes ≡ sc ∷ [] → s.functions.defined ≡ table ∷ []
+pub walk_grew : (many : List ℕ) (xs : List External) (s new : State) (u : Unit {0}) (sc table : Scope) → EachGood many xs → s.scopes ≡ sc ∷ [] → s.functions.defined ≡ table ∷ []
     → program.walk xs s ≡ Ok (u, new) → Grew (functions_in xs) s new table
 walk_grew many [] s new u sc table good one two is = subst (λ (z : State). Grew [] s z table) (pure_same tt u s new is) (grew_same s sc table one two)
 walk_grew many (x ∷ xs) s new u sc table good one two is =

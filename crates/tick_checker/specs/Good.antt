@@ -16,7 +16,7 @@ use Rattle.wf_induction.specs.Asked.{Asked}
 
 -- ---- what is asked
 
-abbrev pub good : ℕ → Asked
+abbrev pub good : List ℕ → Asked
 good many = record {
   shape = GoodShape;
   node = GoodNode many;

@@ -1,3 +1,4 @@
+pub mod Examples
 pub mod Bools
 pub mod Equations
 pub mod Uses

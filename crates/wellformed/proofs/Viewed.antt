@@ -76,21 +76,25 @@ body_numbered : (b : TickBody) → accepted.IsNumbered b → IsNumbered (body_vi
 body_numbered (body.Expression e) h = tt
 body_numbered (body.Statement s) h = numbers_viewed s h
 
-module _ (p : TypedParts) (all : List (List CaptureKind)) where
-  as_many : length (map function_view p.functions) ≡ length p.functions
-  as_many = length-map p.functions function_view
+pub counts_viewed : (fs : List Function) → program.parameters_of (map function_view fs) ≡ accepted.parameters_of fs
+counts_viewed [] = refl
+counts_viewed (f ∷ fs) = ap (λ ns. f.params ∷ ns) (counts_viewed fs)
 
-  -- round a function of so many, and round a tick
-  abbrev round_body : ℕ → ℕ → Around
+module _ (p : TypedParts) (all : List (List CaptureKind)) where
+  as_many : program.parameters_of (map function_view p.functions) ≡ accepted.parameters_of p.functions
+  as_many = counts_viewed p.functions
+
+  -- round a function of a program of these, and round a tick
+  abbrev round_body : ℕ → List ℕ → Around
   round_body object many = record { variables = []; object = object; functions = many; ticks = all; captures = None; in_loop = false; in_switch = false }
 
-  abbrev round_captured : List CaptureKind → ℕ → Around
+  abbrev round_captured : List CaptureKind → List ℕ → Around
   round_captured kinds many = record { variables = []; object = 0; functions = many; ticks = all; captures = Some kinds; in_loop = false; in_switch = false }
 
   function_viewed : (f : Function) → accepted.IsFunction p all f → IsFunction (program_view p) all (function_view f)
   function_viewed f h = record {
     stands = ap (λ n. program.stands_as_body (stmt_view f.body) f.params (round_body f.object n)) as_many
-        ∙ sym (ap (λ x. x.is_body f.params (round_body f.object (length p.functions))) (act_viewed f.body)) ∙ h.stands;
+        ∙ sym (ap (λ x. x.is_body f.params (round_body f.object (accepted.parameters_of p.functions))) (act_viewed f.body)) ∙ h.stands;
     values = sym (uses_viewed f.body) ∙ h.values;
     objects = λ byte. sym (objects_viewed byte f.body) ∙ h.objects byte;
     numbers = numbers_viewed f.body h.numbers;
@@ -102,7 +106,7 @@ module _ (p : TypedParts) (all : List (List CaptureKind)) where
   tick_viewed : (t : Tick) (kinds : List CaptureKind) → accepted.IsTick p all t kinds → IsTick (program_view p) all (tick_view t) kinds
   tick_viewed t kinds h = record {
     stands = ap (λ n. program.stands_as_tick (body_view t.body) (round_captured kinds n)) as_many
-        ∙ sym (body_stands t.body (round_captured kinds (length p.functions))) ∙ h.stands;
+        ∙ sym (body_stands t.body (round_captured kinds (accepted.parameters_of p.functions))) ∙ h.stands;
     values = sym (body_used t.body) ∙ h.values;
     numbers = body_numbered t.body h.numbers;
     small = subst (λ n. n ≤ 16384) (h.size ∙ body_sized t.body) h.small;

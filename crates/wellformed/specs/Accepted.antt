@@ -15,12 +15,19 @@ use Rattle.wellformed.specs.Values.{uses_values, body_uses_values}
 use Rattle.limits.specs.declared.program.TheConstants.{CHARGE_LIMIT, FRAME_OBJECT_BYTES, FRONT_WORDS, MOST_ARGUMENTS, SIZE_LIMIT, WORDS_OF_A_BODY, WORDS_OF_A_NODE}
 use Rattle.word32.specs.declared.map.TheConstants.{GLOBAL_BYTES}
 
+abbrev pub count_parameters : Function → ℕ
+count_parameters f = f.params
+
+-- how many parameters each function has
+abbrev pub parameters_of : List Function → List ℕ
+parameters_of fs = map (λ f. count_parameters f) fs
+
 -- what is round the body of a function, and round that of a tick
 abbrev pub round_function : TypedParts → List (List CaptureKind) → Function → Around
-round_function p ticks f = record { variables = []; object = f.object; functions = length p.functions; ticks = ticks; captures = None; in_loop = false; in_switch = false }
+round_function p ticks f = record { variables = []; object = f.object; functions = parameters_of p.functions; ticks = ticks; captures = None; in_loop = false; in_switch = false }
 
 abbrev pub round_tick : TypedParts → List (List CaptureKind) → List CaptureKind → Around
-round_tick p ticks kinds = record { variables = []; object = 0; functions = length p.functions; ticks = ticks; captures = Some kinds; in_loop = false; in_switch = false }
+round_tick p ticks kinds = record { variables = []; object = 0; functions = parameters_of p.functions; ticks = ticks; captures = Some kinds; in_loop = false; in_switch = false }
 
 -- each register variable is declared once, and its number is less than the size
 pub record AreNumbered (s : Stmt) : Type 0 where

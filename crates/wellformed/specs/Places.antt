@@ -1,6 +1,6 @@
 -- Where the nodes of a typed tree stand: variables in the scope of their block, `break` and `continue` in what they leave, the
 -- labels of a switch right in its block, what a tick captured in that tick, and what makes specifications in functions alone. These are `C's rules, as far as they concern nodes.
-use Rattle.std.specs.Prelude.{ℕ, ◌+◌, ◌*◌, ◌%◌, ◌==◌, Bool, true, false, not, ◌&&◌, ◌||◌, nat_le, List, [], ◌∷◌, ◌++◌, length, take, drop, slice_get, Option, Some, None}
+use Rattle.std.specs.Prelude.{ℕ, ◌+◌, ◌-◌, ◌*◌, ◌%◌, ◌==◌, Bool, true, false, not, ◌&&◌, ◌||◌, nat_le, List, [], ◌∷◌, ◌++◌, length, take, drop, slice_get, Option, Some, None}
 use Rattle.std.specs.List.{list_any, list_all}
 use Rattle.typed_tree.specs.declared.expression.Answer.{Answer}
 use Rattle.typed_tree.specs.declared.expression.Answer.TheVariants as answer
@@ -25,8 +25,8 @@ pub record Around : Type 0 where
   pub variables : List ℕ
   -- the bytes of the frame objects of its function
   pub object : ℕ
-  -- how many functions the program has
-  pub functions : ℕ
+  -- how many parameters each function of the program has
+  pub functions : List ℕ
   -- what each tick of the program captures
   pub ticks : List (List CaptureKind)
   -- in a tick, what that captures
@@ -126,9 +126,17 @@ abbrev pub kinds_of : List Part → List CaptureKind
 kinds_of [] = []
 kinds_of (p ∷ ps) = p.capture ++ kinds_of ps
 
--- a function of the program
-abbrev pub is_called : ℕ → Around → Bool
-is_called f a = nat_le 1 f && nat_le f a.functions
+-- no call has more arguments
+abbrev pub are_few : ℕ → Bool
+are_few n = nat_le n 8
+
+abbrev pub takes : ℕ → Option ℕ → Bool
+takes n None = false
+takes n (Some count) = n == count
+
+-- a call of a function of the program, by its number from 1 on, with as many arguments as it has parameters
+abbrev pub is_called : ℕ → ℕ → Around → Bool
+is_called f n a = nat_le 1 f && takes n (slice_get a.functions (f - 1)) && are_few n
 
 -- a tick with its captures, which stands in a function
 abbrev pub is_tick : ℕ → List Part → Around → Bool
@@ -159,8 +167,8 @@ expr_rule (Expr-F.Or p q) = node (both p q)
 expr_rule (Expr-F.Cond c p q) = node (λ a. c.stands a && both p q a)
 expr_rule (Expr-F.Comma p q) = node (both p q)
 expr_rule (Expr-F.Void p) = node p.stands
-expr_rule (Expr-F.Call r f ps) = node (λ a. is_called f a && each_stands ps a)
-expr_rule (Expr-F.CallNumber r p ps) = node (λ a. p.stands a && each_stands ps a)
+expr_rule (Expr-F.Call r f ps) = node (λ a. is_called f (length ps) a && each_stands ps a)
+expr_rule (Expr-F.CallNumber r p ps) = node (λ a. p.stands a && are_few (length ps) && each_stands ps a)
 expr_rule Expr-F.Getchar = node anywhere
 expr_rule (Expr-F.Lib f p) = node p.stands
 expr_rule (Expr-F.Tick t ps) = node (is_tick t ps)

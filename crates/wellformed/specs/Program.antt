@@ -50,12 +50,16 @@ abbrev pub IsNumbered : node.TickBody → Type 0
 IsNumbered (Expression e) = Unit {0}
 IsNumbered (Statement s) = AreNumbered s
 
+-- how many parameters each function has
+abbrev pub parameters_of : List node.Function → List ℕ
+parameters_of fs = map (λ f. f.parameters) fs
+
 -- what is round the body of a function, and round that of a tick
 abbrev pub round_function : node.Program → List (List CaptureKind) → node.Function → Around
-round_function p ticks f = record { variables = []; object = f.object; functions = length p.functions; ticks = ticks; captures = None; in_loop = false; in_switch = false }
+round_function p ticks f = record { variables = []; object = f.object; functions = parameters_of p.functions; ticks = ticks; captures = None; in_loop = false; in_switch = false }
 
 abbrev pub round_tick : node.Program → List (List CaptureKind) → List CaptureKind → Around
-round_tick p ticks kinds = record { variables = []; object = 0; functions = length p.functions; ticks = ticks; captures = Some kinds; in_loop = false; in_switch = false }
+round_tick p ticks kinds = record { variables = []; object = 0; functions = parameters_of p.functions; ticks = ticks; captures = Some kinds; in_loop = false; in_switch = false }
 
 -- a function of the program, where its ticks capture this
 pub record IsFunction (p : node.Program) (ticks : List (List CaptureKind)) (f : node.Function) : Type 0 where

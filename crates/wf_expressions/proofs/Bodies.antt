@@ -42,7 +42,7 @@ expression_kept s t k few = record { tables = k.tables; ticks = k.at.0.ticks; ca
 expression_stands : (a : Around) (o : Operand) → Good a o → BodyStands a (body.Expression (value_of o).code)
 expression_stands a o h = let v = good_value a o h in record { stands = v.code; values = v.used.right }
 
-pub expression_does : (many line : ℕ) (a : Node) (g : Stage) → GoodNode many a → Does many g (λ r o. Good (at g r) o) (tick_expression line a g)
+pub expression_does : (many : List ℕ) (line : ℕ) (a : Node) (g : Stage) → GoodNode many a → Does many g (λ r o. Good (at g r) o) (tick_expression line a g)
 unfolding productions.tick_expression
 expression_does many line a stage.Function h b ks s new x known e =
     let w = ran (a.walk stage.Tick) (λ o z. Ok (productions.tick_expression o z)) (tick_entered s) x new e in
@@ -107,7 +107,7 @@ module _ (s t : State) (x : Stmt) (c : Counts stage.Tick s t (x ∷ [])) (e : t.
 abbrev Block : Round → Stmt → Type 0
 Block r x = ((act x).stands (placed tick_around r.tick) ≡ true) × (uses_values x ≡ true)
 
-pub block_does : (many line : ℕ) (items : List Item) (g : Stage) → GoodBlock many tick_around (block items tick_around) → Does many g (λ r o. Good (at g r) o) (tick_block line items g)
+pub block_does : (many : List ℕ) (line : ℕ) (items : List Item) (g : Stage) → GoodBlock many tick_around (block items tick_around) → Does many g (λ r o. Good (at g r) o) (tick_block line items g)
 block_does many line items stage.Function h b ks s new x known e =
     let w = ran (block items tick_around) (λ z y. Ok (productions.tick_block z y)) (tick_entered s) x new e in
     let kept = h.keeps (tick_entered s) w.state w.value w.first in

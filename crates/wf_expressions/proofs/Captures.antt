@@ -98,16 +98,16 @@ pub record Caught (e : Expr) (r : Round) : Type 0 where
   pub stands : Stands r.function e
   pub used : Leaves e
 
-agrees_same : {many : ℕ} {b : Blocks} {ks : List (List CaptureKind)} {s : State} {r : Round} → Agrees many stage.Tick b (ks ++ []) s r → Agrees many stage.Tick b ks s r
+agrees_same : {many : List ℕ} {b : Blocks} {ks : List (List CaptureKind)} {s : State} {r : Round} → Agrees many stage.Tick b (ks ++ []) s r → Agrees many stage.Tick b ks s r
 agrees_same {many} {b} {ks} {s} {r} a = subst (λ l. Agrees many stage.Tick b l s r) (append-nil ks) a
 
-finds : {many : ℕ} {b : Blocks} {ks : List (List CaptureKind)} {s new : State} {k : CaptureKind} {e : Expr} (r : Round) → Catches k e s new → Agrees many stage.Tick b ks new r → Agrees many stage.Tick b ks s r → FindsKind k (ticks.place s.ticks) r
+finds : {many : List ℕ} {b : Blocks} {ks : List (List CaptureKind)} {s new : State} {k : CaptureKind} {e : Expr} (r : Round) → Catches k e s new → Agrees many stage.Tick b ks new r → Agrees many stage.Tick b ks s r → FindsKind k (ticks.place s.ticks) r
 finds {s = s} {new} {k} {e} r c after before p h =
     captured_at p k (kinds s.ticks.captures) r.tick.captures (ticks.place s.ticks)
     (count_small s.ticks.captures before.small.tick.captures ∙ sym (length-map s.ticks.captures one_kind)) h
     (subst (λ l. Captures l r.tick.captures) (ap kinds c.captures ∙ kinds_more s.ticks.captures k e) after.in_tick.1)
 
-pub catch_did : {many : ℕ} {b : Blocks} {ks : List (List CaptureKind)} {s new : State} {k : CaptureKind} {e : Expr} (P : Round → Type 0) → Catches k e s new → Known many stage.Tick b ks s → ((r : Round) → Agrees many stage.Tick b ks s r → Caught e r) → ((r : Round) → Agrees many stage.Tick b ks s r → FindsKind k (ticks.place s.ticks) r → P r) → Did many stage.Tick b ks s new P
+pub catch_did : {many : List ℕ} {b : Blocks} {ks : List (List CaptureKind)} {s new : State} {k : CaptureKind} {e : Expr} (P : Round → Type 0) → Catches k e s new → Known many stage.Tick b ks s → ((r : Round) → Agrees many stage.Tick b ks s r → Caught e r) → ((r : Round) → Agrees many stage.Tick b ks s r → FindsKind k (ticks.place s.ticks) r → P r) → Did many stage.Tick b ks s new P
 catch_did {many} {b} {ks} {s} {new} {k} {e} P c known caught stands =
     let none = λ (made : Starts s.ticks.all new.ticks.all). no_rest c.tick.ticks made in
     record {
@@ -127,14 +127,14 @@ catch_did {many} {b} {ks} {s} {new} {k} {e} P c known caught stands =
 -- ---- answers
 
 -- a step that answers this operand and leaves this state
-abbrev pub Gives : ℕ → Stage → Blocks → List (List CaptureKind) → State → Operand × State → Type 0
+abbrev pub Gives : List ℕ → Stage → Blocks → List (List CaptureKind) → State → Operand × State → Type 0
 Gives many g b ks s p = Did many g b ks s p.1 (λ r. Good (at g r) p.0)
 
-pub given : {many : ℕ} {g : Stage} {b : Blocks} {ks : List (List CaptureKind)} {s new : State} {x : Operand} (p : Operand × State) → Gives many g b ks s p → ◌≡◌ {A = Checked (Operand × State)} (Ok p) (Ok (x, new)) → Did many g b ks s new (λ r. Good (at g r) x)
+pub given : {many : List ℕ} {g : Stage} {b : Blocks} {ks : List (List CaptureKind)} {s new : State} {x : Operand} (p : Operand × State) → Gives many g b ks s p → ◌≡◌ {A = Checked (Operand × State)} (Ok p) (Ok (x, new)) → Did many g b ks s new (λ r. Good (at g r) x)
 given {many} {g} {b} {ks} {s} {new} {x} p d e = subst (λ q. Gives many g b ks s q) (ok_same p (x, new) e) d
 
 -- one that changes nothing
-pub stays : {many : ℕ} {g : Stage} {b : Blocks} {ks : List (List CaptureKind)} {s : State} (o : Operand) → Known many g b ks s → ((r : Round) → Agrees many g b ks s r → Good (at g r) o) → Gives many g b ks s (o, s)
+pub stays : {many : List ℕ} {g : Stage} {b : Blocks} {ks : List (List CaptureKind)} {s : State} (o : Operand) → Known many g b ks s → ((r : Round) → Agrees many g b ks s r → Good (at g r) o) → Gives many g b ks s (o, s)
 stays {g = g} {s = s} o known h = plain_did_by (λ r. Good (at g r) o) (plain_refl g s) known h
 
 -- ---- steps without ticks
@@ -144,7 +144,7 @@ none_of [] h = refl
 none_of (x ∷ xs) h = cc
 
 -- a step that makes no tick, of which this is known where no count is cut
-pub did_small : {many : ℕ} {g : Stage} {b : Blocks} {ks : List (List CaptureKind)} {s new : State} (P : Round → Type 0) → Keeps g s new → new.ticks.all ≡ s.ticks.all → Known many g b ks s → (Small g s → Did many g b ks s new P) → Did many g b ks s new P
+pub did_small : {many : List ℕ} {g : Stage} {b : Blocks} {ks : List (List CaptureKind)} {s new : State} (P : Round → Type 0) → Keeps g s new → new.ticks.all ≡ s.ticks.all → Known many g b ks s → (Small g s → Did many g b ks s new P) → Did many g b ks s new P
 did_small {many} {g} {b} {ks} {s} {new} P k same known h =
     let none = λ (small : Small g new).
     let before = small_back k small in

@@ -68,14 +68,14 @@ parameter_tick : (b : Blocks) (s : State) (n : ℕ) (h : Option Home) → IsPara
 parameter_tick b s n None x = x
 parameter_tick b s n (Some h) x = x
 
-means_dollar : (many : ℕ) (b : Blocks) (s : State) (name : Name) (m : Meaning) (k : MeaningKind) → Means many stage.Tick b s name m k → Means many stage.Dollar b s name m k
+means_dollar : (many : List ℕ) (b : Blocks) (s : State) (name : Name) (m : Meaning) (k : MeaningKind) → Means many stage.Tick b s name m k → Means many stage.Dollar b s name m k
 means_dollar many b s name m kind.Variable x = (variable_dollar b s m.index _ x.0, x.1)
 means_dollar many b s name m kind.Parameter x = (parameter_dollar b s m.index _ x.0, x.1)
 means_dollar many b s name m kind.Global x = x
 means_dollar many b s name m kind.Function x = x
 means_dollar many b s name m kind.Library x = x
 
-means_tick : (many : ℕ) (b : Blocks) (s : State) (name : Name) (m : Meaning) (k : MeaningKind) → Means many stage.Dollar b s name m k → Means many stage.Tick b s name m k
+means_tick : (many : List ℕ) (b : Blocks) (s : State) (name : Name) (m : Meaning) (k : MeaningKind) → Means many stage.Dollar b s name m k → Means many stage.Tick b s name m k
 means_tick many b s name m kind.Variable x = (variable_tick b s m.index _ x.0, x.1)
 means_tick many b s name m kind.Parameter x = (parameter_tick b s m.index _ x.0, x.1)
 means_tick many b s name m kind.Global x = x
@@ -88,7 +88,7 @@ small_tick s x = record { homes = x.homes; object = x.object; ticks = x.ticks; t
 small_dollar : (s : State) → Small stage.Tick s → Small stage.Dollar s
 small_dollar s x = record { homes = x.homes; object = x.object; ticks = x.ticks; tick = x.tick }
 
-module _ {many : ℕ} {b : Blocks} {ks : List (List CaptureKind)} {s : State} where
+module _ {many : List ℕ} {b : Blocks} {ks : List (List CaptureKind)} {s : State} where
   known_dollar : Known many stage.Tick b ks s → Known many stage.Dollar b ks s
   known_dollar known small =
       let x = known (small_tick s small) in
@@ -100,13 +100,13 @@ module _ {many : ℕ} {b : Blocks} {ks : List (List CaptureKind)} {s : State} wh
       record { names = each_scope (λ n m. Means many stage.Dollar b s n m m.kind) (λ n m. Means many stage.Tick b s n m m.kind) (λ n m h. means_tick many b s n m m.kind h) s.scopes x.names; ticks = x.ticks; object = x.object }
 
   agrees_dollar : {r : Round} → Agrees many stage.Tick b ks s r → Agrees many stage.Dollar b ks s r
-  agrees_dollar a = record { small = small_dollar s a.small; visible = a.visible; object = a.object; is_function = a.is_function; functions = a.functions; prototypes = a.prototypes; ticks = a.ticks; in_tick = a.in_tick }
+  agrees_dollar a = record { small = small_dollar s a.small; visible = a.visible; object = a.object; is_function = a.is_function; functions = a.functions; ticks = a.ticks; in_tick = a.in_tick }
 
   agrees_tick : {r : Round} → Agrees many stage.Dollar b ks s r → Agrees many stage.Tick b ks s r
-  agrees_tick a = record { small = small_tick s a.small; visible = a.visible; object = a.object; is_function = a.is_function; functions = a.functions; prototypes = a.prototypes; ticks = a.ticks; in_tick = a.in_tick }
+  agrees_tick a = record { small = small_tick s a.small; visible = a.visible; object = a.object; is_function = a.is_function; functions = a.functions; ticks = a.ticks; in_tick = a.in_tick }
 
 -- what a step under `$` did, it did in the tick
-pub did_dollar : {many : ℕ} {b : Blocks} {ks : List (List CaptureKind)} {s new : State} (P : Round → Type 0) → Keeps stage.Dollar s new → Did many stage.Dollar b ks s new P → Did many stage.Tick b ks s new P
+pub did_dollar : {many : List ℕ} {b : Blocks} {ks : List (List CaptureKind)} {s new : State} (P : Round → Type 0) → Keeps stage.Dollar s new → Did many stage.Dollar b ks s new P → Did many stage.Tick b ks s new P
 did_dollar {s = s} {new} P k d = record {
   more = d.more;
   known = known_tick d.known;
@@ -121,7 +121,7 @@ did_dollar {s = s} {new} P k d = record {
 captured_word : (a : Around) (i : ℕ) → captured (is_word word.Dollar) i a ≡ true → Stands a (ex.Captured word.Dollar i)
 captured_word a i h = ap (λ (p : Part). p.stands a) (part_captured word.Dollar i) ∙ h
 
-module _ {many : ℕ} {b : Blocks} {ks : List (List CaptureKind)} {s : State} (known : Known many stage.Tick b ks s) where
+module _ {many : List ℕ} {b : Blocks} {ks : List (List CaptureKind)} {s : State} (known : Known many stage.Tick b ks s) where
   dollar_by_did : (v : Value) → ((r : Round) → Agrees many stage.Tick b ks s r → CapturedStands r.function v) → Gives many stage.Tick b ks s (productions.dollar_by v s)
   dollar_by_did v h =
       catch_did {k = capture.Dollar} {e = v.code} (λ r. Good r.tick (made (ex.Captured word.Dollar (ticks.place s.ticks)) v.ctype))
@@ -149,7 +149,7 @@ unfolding productions.dollar_node
 dollar_node_keeps line o s new x e = rule_keeps (stages.dollar line (value_of o)) s new x e
 
 -- `$`, in a tick
-pub dollar_goes : {many : ℕ} (line : ℕ) (p : Rule State Operand) → Goes many stage.Dollar (λ r o. Good r.function o) p → Goes many stage.Tick (λ r o. Good r.tick o) (p >>= productions.dollar_node line)
+pub dollar_goes : {many : List ℕ} (line : ℕ) (p : Rule State Operand) → Goes many stage.Dollar (λ r o. Good r.function o) p → Goes many stage.Tick (λ r o. Good r.tick o) (p >>= productions.dollar_node line)
 dollar_goes {many} line p h = record {
   keeps = λ s new x e.
       let w = ran p (productions.dollar_node line) s x new e in
@@ -177,13 +177,13 @@ marked_plain g n s = record {
 }
 
 -- a step that answers this operand and leaves this state
-answered : {many : ℕ} {g : Stage} {b : Blocks} {ks : List (List CaptureKind)} {s new : State} {x : Operand} (P : Round → Operand → Type 0) (p : Operand × State) → Did many g b ks s p.1 (λ r. P r p.0) → ◌≡◌ {A = Checked (Operand × State)} (Ok p) (Ok (x, new)) → Did many g b ks s new (λ r. P r x)
+answered : {many : List ℕ} {g : Stage} {b : Blocks} {ks : List (List CaptureKind)} {s new : State} {x : Operand} (P : Round → Operand → Type 0) (p : Operand × State) → Did many g b ks s p.1 (λ r. P r p.0) → ◌≡◌ {A = Checked (Operand × State)} (Ok p) (Ok (x, new)) → Did many g b ks s new (λ r. P r x)
 answered {many} {g} {b} {ks} {s} {new} {x} P p d e = subst (λ q. Did many g b ks s q.1 (λ r. P r q.0)) (ok_same p (x, new) e) d
 
 abbrev Names : Place → CType → Round → Operand → Type 0
-Names p t r o = RightPlace r.function p → UsedPlace p t → Good r.function o
+Names p t r o = RightPlace r.function p t → UsedPlace p t → Good r.function o
 
-module _ {many : ℕ} {g : Stage} {b : Blocks} {ks : List (List CaptureKind)} {s : State} (known : Known many g b ks s) where
+module _ {many : List ℕ} {g : Stage} {b : Blocks} {ks : List (List CaptureKind)} {s : State} (known : Known many g b ks s) where
   address_by_did : (line : ℕ) (t : CType) (p : Place) (x : Operand) (new : State) → productions.address_by line t p s ≡ Ok (x, new) → Did many g b ks s new (λ r. Names p t r x)
   address_by_did line t (place.Value v) x new e = cc
   address_by_did line t (place.Generated i) x new e = cc
@@ -205,7 +205,7 @@ address_by_keeps g line t (place.Register i) s new x e = gives_keeps g s new (ma
 address_by_keeps g line t (place.Memory v) s new x e = gives_keeps g s new (made v (over layer.Pointer t), s) x e (keeps_refl g s)
 
 -- where a function runs, and under `$`
-address_by_goes : {many : ℕ} (g : Stage) (line : ℕ) (o : Operand) → Goes many g (λ r x. Good r.function o → Good r.function x) (productions.address_by line o.ctype o.place)
+address_by_goes : {many : List ℕ} (g : Stage) (line : ℕ) (o : Operand) → Goes many g (λ r x. Good r.function o → Good r.function x) (productions.address_by line o.ctype o.place)
 address_by_goes g line o = record {
   keeps = address_by_keeps g line o.ctype o.place;
   does = λ b ks s new x known e.
@@ -213,10 +213,10 @@ address_by_goes g line o = record {
       record { more = d.more; known = d.known; back = d.back; ticks = d.ticks; captures = d.captures; stands = λ r a h. d.stands r a h.0 h.1 };
 }
 
-address_in_tick : {many : ℕ} (line : ℕ) (o : Operand) → Goes many stage.Tick (λ r x. Good r.tick o → Good r.tick x) (lift (places.address line o))
+address_in_tick : {many : List ℕ} (line : ℕ) (o : Operand) → Goes many stage.Tick (λ r x. Good r.tick o → Good r.tick x) (lift (places.address line o))
 address_in_tick line o = decides (λ r x. Good r.tick o → Good r.tick x) (places.address line o) (λ r f. by_premise (Good r.tick o) (Good r.tick) (places.address line o) (good_address r.tick line o))
 
-pub address_goes : {many : ℕ} (line : ℕ) (g : Stage) (o : Operand) → Goes many g (λ r x. Good (at g r) o → Good (at g r) x) (productions.address_node line g o)
+pub address_goes : {many : List ℕ} (line : ℕ) (g : Stage) (o : Operand) → Goes many g (λ r x. Good (at g r) o → Good (at g r) x) (productions.address_node line g o)
 unfolding productions.address_node
 address_goes line stage.Function o = address_by_goes stage.Function line o
 address_goes line stage.Tick o = address_in_tick line o

@@ -1,6 +1,6 @@
 -- What each kind of name is where it stands.
-use Rattle.std.proofs.Common.{◌≡◌, ℕ, true, false, ◌&&◌, List, [], refl, sym, ap, ◌∙◌, Option, Some, None, Ok}
-use Rattle.std.specs.Prelude.{slice_get, nat_le}
+use Rattle.std.proofs.Common.{◌≡◌, ℕ, true, false, List, [], refl, sym, ap, subst, Option, Some, None, Ok}
+use Rattle.std.specs.Prelude.{slice_get}
 use Rattle.c_types.specs.declared.ctype.CType.{CType}
 use Rattle.c_types.specs.declared.names.Meaning.{Meaning}
 use Rattle.c_types.specs.declared.names.MeaningKind.{MeaningKind}
@@ -16,8 +16,9 @@ use Rattle.check_env.specs.declared.state.Stage.{Stage}
 use Rattle.check_env.specs.declared.state.Stage.TheVariants as stage
 use Rattle.check_env.specs.declared.state.State.{State}
 use Rattle.check_env.specs.Names.{operand, place_by, in_function, under_dollar, variable, parameter, global, meant, named_by, named}
+use Rattle.wf_scopes.specs.Right.{HasType}
 use Rattle.wf_invariant.specs.Kept.{KeepsStage, Keeps}
-use Rattle.wf_invariant.specs.Known.{Blocks, of_function, HasHome, IsVariable, IsParameter, IsFunction, is_number, IsObject, Means, Small, Known}
+use Rattle.wf_invariant.specs.Known.{Blocks, of_function, HasHome, IsVariable, IsParameter, IsObject, Means, Small, Known}
 use Rattle.wf_invariant.specs.Steps.{Round, at, Agrees, Did, Does}
 use Rattle.wf_invariant.specs.Good.{Good}
 use Rattle.wf_types.proofs.Walks.{pure_same}
@@ -27,7 +28,7 @@ use Rattle.wf_expressions.proofs.Names.{known_name, home_good, room_of}
 use Rattle.wf_expressions.proofs.Named.{in_tick_did, tick_parameter_did, global_right, outer_global_by}
 use Rattle.wf_expressions.proofs.Steps.{Goes}
 
-module _ {many : ℕ} {b : Blocks} {ks : List (List CaptureKind)} {s : State} where
+module _ {many : List ℕ} {b : Blocks} {ks : List (List CaptureKind)} {s : State} where
   -- ---- where a function runs
 
   function_home : (n : ℕ) (h : Home) (t : CType) → Known many stage.Function b ks s → HasHome (of_function stage.Function b s) s.frame.object n h → IsObject t → Gives many stage.Function b ks s (operand (place_by n h) t, s)
@@ -56,21 +57,17 @@ module _ {many : ℕ} {b : Blocks} {ks : List (List CaptureKind)} {s : State} wh
 
 -- ---- functions
 
-functions_at : {many : ℕ} {g : Stage} {b : Blocks} {ks : List (List CaptureKind)} {s : State} {r : Round} (h : Stage) → Agrees many g b ks s r → (at h r).functions ≡ many
+functions_at : {many : List ℕ} {g : Stage} {b : Blocks} {ks : List (List CaptureKind)} {s : State} {r : Round} (h : Stage) → Agrees many g b ks s r → (at h r).functions ≡ many
 functions_at stage.Function a = a.functions.0
 functions_at stage.Tick a = a.functions.1
 functions_at stage.Dollar a = a.functions.0
 
-number_in : {many : ℕ} {g : Stage} {b : Blocks} {ks : List (List CaptureKind)} {s : State} {r : Round} (n : ℕ) → IsFunction many s.functions [] n → Agrees many g b ks s r → is_number many n ≡ true
-number_in n (IsFunction.Numbered h) a = h
-number_in {many = many} n (IsFunction.Declared i p h e) a = ap (is_number many) e ∙ a.prototypes i p h
-
-function_good : {many : ℕ} {g : Stage} {b : Blocks} {ks : List (List CaptureKind)} {s : State} {r : Round} (n : ℕ) (t : CType) → IsFunction many s.functions [] n → is_void t ≡ false → Agrees many g b ks s r → Good (at g r) (operand (place.Function n) t)
-function_good {g = g} n t h v a = (ap (λ m. nat_le 1 n && nat_le n m) (functions_at g a) ∙ number_in n h a, v)
+function_good : {many : List ℕ} {g : Stage} {b : Blocks} {ks : List (List CaptureKind)} {s : State} {r : Round} (n : ℕ) (t : CType) → HasType many n t → is_void t ≡ false → Agrees many g b ks s r → Good (at g r) (operand (place.Function n) t)
+function_good {g = g} n t h v a = (subst (λ (counts : List ℕ). HasType counts n t) (sym (functions_at g a)) h, v)
 
 -- ---- each kind
 
-module _ {many : ℕ} {b : Blocks} {ks : List (List CaptureKind)} {s : State} where
+module _ {many : List ℕ} {b : Blocks} {ks : List (List CaptureKind)} {s : State} where
   variable_did : (line : ℕ) (g : Stage) (n : ℕ) (t : CType) (x : Operand) (new : State) → Known many g b ks s → IsVariable g b s n (slice_get s.frame.homes n) → IsObject t → variable line g n t s ≡ Ok (x, new) → Did many g b ks s new (λ r. Good (at g r) x)
   variable_did line stage.Function n t x new known y k e = function_variable n t (slice_get s.frame.homes n) x new known y k e
   variable_did line stage.Tick n t x new known y k e = in_tick_did known n t (slice_get s.frame.homes n) x new y k e
@@ -109,16 +106,16 @@ meant_ticks line stage.Function m s new x k e = ap (λ (z : State). z.ticks.all)
 meant_ticks line stage.Tick m s new x k e = k.0.ticks
 meant_ticks line stage.Dollar m s new x k e = k.0.ticks
 
-named_by_did : {many : ℕ} {b : Blocks} {ks : List (List CaptureKind)} {s : State} (line : ℕ) (g : Stage) (m : Option Meaning) (x : Operand) (new : State) → Known many g b ks s → Keeps g s new → ((y : Meaning) → m ≡ Some y → Small g s → Means many g b s [] y y.kind) → named_by line g m s ≡ Ok (x, new) → Did many g b ks s new (λ r. Good (at g r) x)
+named_by_did : {many : List ℕ} {b : Blocks} {ks : List (List CaptureKind)} {s : State} (line : ℕ) (g : Stage) (m : Option Meaning) (x : Operand) (new : State) → Known many g b ks s → Keeps g s new → ((y : Meaning) → m ≡ Some y → Small g s → Means many g b s [] y y.kind) → named_by line g m s ≡ Ok (x, new) → Did many g b ks s new (λ r. Good (at g r) x)
 named_by_did line g None x new known k h e = cc
 named_by_did {s = s} line g (Some m) x new known k h e =
     did_small (λ r. Good (at g r) x) k (meant_ticks line g m s new x k.at e) known (λ small. meant_did line g m m.kind x new known (h m refl small) e)
 
-named_did : (many line : ℕ) (g : Stage) (name : Name) → Does many g (λ r o. Good (at g r) o) (named line g name)
+named_did : (many : List ℕ) (line : ℕ) (g : Stage) (name : Name) → Does many g (λ r o. Good (at g r) o) (named line g name)
 unfolding named
 named_did many line g name b ks s new x known e =
     named_by_did line g (find s.scopes name) x new known (named_keeps line g name s new x e)
     (λ y h small. known_name many g b s name y (known small).names h) e
 
-pub name_goes : (many line : ℕ) (g : Stage) (name : Name) → Goes many g (λ r o. Good (at g r) o) (named line g name)
+pub name_goes : (many : List ℕ) (line : ℕ) (g : Stage) (name : Name) → Goes many g (λ r o. Good (at g r) o) (named line g name)
 name_goes many line g name = record { keeps = named_keeps line g name; does = named_did many line g name }

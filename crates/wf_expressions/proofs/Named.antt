@@ -37,7 +37,7 @@ captured_stands a i h = ap (λ (p : Part). p.stands a) (part_captured word.Addre
 pub global_right : (n : ℕ) (t : CType) (a : Around) → IsObject t → Good a (operand (place.Memory (ex.Const n)) t)
 global_right n t a k = (const_stands a n, record { address = nodes_use.constant n; type = k.type })
 
-module _ {many : ℕ} {b : Blocks} {ks : List (List CaptureKind)} {s : State} (known : Known many stage.Tick b ks s) where
+module _ {many : List ℕ} {b : Blocks} {ks : List (List CaptureKind)} {s : State} (known : Known many stage.Tick b ks s) where
   splice_did : (t : CType) (e : Expr) → ((r : Round) → Agrees many stage.Tick b ks s r → Caught e r) → Gives many stage.Tick b ks s (splice t e s)
   splice_did t e caught =
       catch_did {k = capture.Splice (answer_of (inner t))} {e = e} (λ r. Good r.tick (made (ex.Splice (answer_of (inner t)) (ticks.place s.ticks)) (inner t)))

@@ -15,7 +15,6 @@ use Rattle.check_operators.specs.declared.operand.Operand.{Operand}
 use Rattle.check_operators.specs.Operands.{effect, value_of}
 use Rattle.check_tables.specs.declared.frame.Home.{Home}
 use Rattle.check_tables.specs.declared.frame.Home.TheVariants as home
-use Rattle.check_tables.specs.declared.functions.Functions.{Functions}
 use Rattle.check_env.specs.declared.state.Stage.{Stage}
 use Rattle.check_env.specs.declared.state.State.{State}
 use Rattle.check_env.specs.Names.{operand, place_by, address_by}
@@ -26,7 +25,7 @@ use Rattle.wf_scopes.proofs.Nodes.{frame_stands}
 use Rattle.wf_values.specs.Used.{Leaves}
 use Rattle.wf_values.proofs.Nodes.{nodes_use}
 use Rattle.wf_values.proofs.Declared.{types_use}
-use Rattle.wf_invariant.specs.Known.{Blocks, has, of_function, HasHome, IsFunction, IsObject, Means, EachEntry, EachScope}
+use Rattle.wf_invariant.specs.Known.{Blocks, has, of_function, HasHome, IsObject, Means, EachEntry, EachScope}
 use Rattle.wf_invariant.specs.Steps.{Round, Agrees}
 use Rattle.wf_invariant.specs.Good.{Good}
 use Rattle.wf_types.proofs.Knowing.{each_scope}
@@ -52,21 +51,17 @@ of_scope P (s ∷ ss) name m h e =
     either P (find ss name) (said s name) m (λ x k. of_scope P ss name x h.1 k) (λ x k. of_entry P s name x h.0 k) e
 
 -- what a name means doesn't depend on how it is spelled
-function_any : (many : ℕ) (f : Functions) (name other : Name) (n : ℕ) → IsFunction many f name n → IsFunction many f other n
-function_any many f name other n (IsFunction.Numbered h) = IsFunction.Numbered h
-function_any many f name other n (IsFunction.Declared i p h e) = IsFunction.Declared i p h e
-
-abbrev Meant : ℕ → Stage → Blocks → State → Meaning → Type 0
+abbrev Meant : List ℕ → Stage → Blocks → State → Meaning → Type 0
 Meant many g b s m = Means many g b s [] m m.kind
 
-means_any : (many : ℕ) (g : Stage) (b : Blocks) (s : State) (name : Name) (m : Meaning) (k : MeaningKind) → Means many g b s name m k → Means many g b s [] m k
+means_any : (many : List ℕ) (g : Stage) (b : Blocks) (s : State) (name : Name) (m : Meaning) (k : MeaningKind) → Means many g b s name m k → Means many g b s [] m k
 means_any many g b s name m kind.Variable h = h
 means_any many g b s name m kind.Parameter h = h
 means_any many g b s name m kind.Global h = h
-means_any many g b s name m kind.Function h = (function_any many s.functions name [] m.index h.0, h.1)
+means_any many g b s name m kind.Function h = h
 means_any many g b s name m kind.Library h = h
 
-pub known_name : (many : ℕ) (g : Stage) (b : Blocks) (s : State) (name : Name) (m : Meaning) → EachScope (λ n x. Means many g b s n x x.kind) s.scopes → find s.scopes name ≡ Some m → Means many g b s [] m m.kind
+pub known_name : (many : List ℕ) (g : Stage) (b : Blocks) (s : State) (name : Name) (m : Meaning) → EachScope (λ n x. Means many g b s n x x.kind) s.scopes → find s.scopes name ≡ Some m → Means many g b s [] m m.kind
 known_name many g b s name m h e =
     of_scope (λ x. Means many g b s [] x x.kind) s.scopes name m
     (each_scope (λ n x. Means many g b s n x x.kind) (λ n x. Means many g b s [] x x.kind) (λ n x k. means_any many g b s n x x.kind k) s.scopes h) e
@@ -99,7 +94,7 @@ pub address_left : (h : Home) → Leaves (address_by h)
 address_left home.Register = nodes_use.frame 0
 address_left (home.Object off) = nodes_use.frame off
 
-pub room_of : {many : ℕ} {g : Stage} {b : Blocks} {ks : List (List CaptureKind)} {s : State} {r : Round} → Agrees many g b ks s r → HasRoom r.function (of_function g b s) s.frame.object
+pub room_of : {many : List ℕ} {g : Stage} {b : Blocks} {ks : List (List CaptureKind)} {s : State} {r : Round} → Agrees many g b ks s r → HasRoom r.function (of_function g b s) s.frame.object
 room_of a = record { visible = a.visible; object = a.object; function = a.is_function }
 
 -- the value of what isn't void

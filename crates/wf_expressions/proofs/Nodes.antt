@@ -1,6 +1,6 @@
 -- Each production's own rule makes of operands that stand right one that stands right. Here the laws on where nodes stand and on
 -- the values that they use come together.
-use Rattle.std.proofs.Common.{◌≡◌, ℕ, Bool, true, false, ◌&&◌, if◌then◌else◌, Ok, Err}
+use Rattle.std.proofs.Common.{◌≡◌, ℕ, suc, Bool, true, false, ◌&&◌, if◌then◌else◌, refl, ap, List, [], ◌∷◌, length, Ok, Err}
 use Rattle.icode_ops.specs.declared.kind.UnKind.TheVariants as un
 use Rattle.c_types.specs.declared.ctype.CType.{CType}
 use Rattle.tick_tree.specs.declared.base.BinaryOp.{BinaryOp}
@@ -18,7 +18,9 @@ use Rattle.check_operators.specs.Operators as operators
 use Rattle.check_operators.specs.Stages as stages
 use Rattle.check_lvalues.specs.Places as places
 use Rattle.check_lvalues.specs.Calls as calls
+use Rattle.check_lvalues.specs.declared.calls.Argument.{Argument}
 use Rattle.check_lvalues.specs.declared.calls.Arguments.{Arguments}
+use Rattle.typed_tree.specs.declared.expression.Expr.{Expr}
 use Rattle.check_env.specs.declared.state.Stage.{Stage}
 use Rattle.check_expressions.specs.Productions as productions
 use Rattle.check_expressions.specs.Productions.{is_tick, is_specification, answers_specification}
@@ -29,7 +31,7 @@ use Rattle.wf_scopes.proofs.Operators.{operators_stand}
 use Rattle.wf_scopes.proofs.Places.{places_stand}
 use Rattle.wf_scopes.proofs.Calls.{calls_stand}
 use Rattle.wf_values.specs.Used as used
-use Rattle.wf_values.specs.Used.{IsUsedValue, IsUsed, AreUsed, IsLibrary}
+use Rattle.wf_values.specs.Used.{IsUsedValue, IsUsed, EachUsedAs, AreUsed, IsLibrary}
 use Rattle.wf_values.specs.Laws.{IsCaptured}
 use Rattle.wf_values.proofs.Operands.{operands_use, prefixes_use}
 use Rattle.wf_values.proofs.Operators.{operators_use}
@@ -199,6 +201,13 @@ good_argument a list o h k =
 pub good_library : (a : Around) (line n : ℕ) (t : CType) (list : Arguments) → IsLibrary n t → ArgumentsStand a list → Unless (Good a) (calls.library line n t list)
 good_library a line n t list l h = good_unless a (calls.library line n t list) (calls_stand.library a line n t list h.codes) (calls_use.library line n t list l h.used)
 
+-- each argument has its type
+as_many : (as_ : List Argument) (es : List Expr) → EachUsedAs as_ es → length es ≡ length as_
+as_many [] [] h = refl
+as_many [] (e ∷ es) h = absurd h
+as_many (a ∷ as_) [] h = absurd h
+as_many (a ∷ as_) (e ∷ es) h = ap suc (as_many as_ es h.1)
+
 left_of_call : (a : Around) (line : ℕ) (c : Checked Operand) → Unless (Good a) (productions.left_of line c)
 left_of_call a line (Ok o) = tt
 left_of_call a line (Err f) = tt
@@ -211,7 +220,7 @@ pub good_call : (a : Around) (line : ℕ) (g : Stage) (o : Operand) (list : Argu
 unfolding productions.call_node
 good_call a line g o list h k =
     call_by a (is_tick g && answers_specification o.ctype) line (calls.call line o list)
-    (good_unless a (calls.call line o list) (calls_stand.call a line o list h.0 k.codes) (calls_use.call line o list h.1 k.used))
+    (good_unless a (calls.call line o list) (calls_stand.call a line o list h.0 (as_many list.types list.codes k.used) k.codes) (calls_use.call line o list h.1 k.used))
 
 -- ---- what `$` captures
 

@@ -98,14 +98,14 @@ parameter_entered : (b : Blocks) (s : State) (n : ℕ) (h : Option Home) → IsP
 parameter_entered b s n None x = x
 parameter_entered b s n (Some h) x = x
 
-means_entered : (many : ℕ) (b : Blocks) (s : State) (name : Name) (m : Meaning) (what : MeaningKind) → Means many stage.Function b s name m what → Means many stage.Tick (blocks b s) (tick_entered s) name m what
+means_entered : (many : List ℕ) (b : Blocks) (s : State) (name : Name) (m : Meaning) (what : MeaningKind) → Means many stage.Function b s name m what → Means many stage.Tick (blocks b s) (tick_entered s) name m what
 means_entered many b s name m kind.Variable x = (variable_entered b s m.index (slice_get s.frame.homes m.index) x.0, x.1)
 means_entered many b s name m kind.Parameter x = (parameter_entered b s m.index (slice_get s.frame.homes m.index) x.0, x.1)
 means_entered many b s name m kind.Global x = x
 means_entered many b s name m kind.Function x = x
 means_entered many b s name m kind.Library x = x
 
-pub known_entered : {many : ℕ} {b : Blocks} {ks : List (List CaptureKind)} {s : State} → Known many stage.Function b ks s → Known many stage.Tick (blocks b s) ks (tick_entered s)
+pub known_entered : {many : List ℕ} {b : Blocks} {ks : List (List CaptureKind)} {s : State} → Known many stage.Function b ks s → Known many stage.Tick (blocks b s) ks (tick_entered s)
 known_entered {many} {b} {ks} {s} known small =
     let was = known (record { homes = small.homes; object = small.object; ticks = small.ticks; tick = tt }) in
     record {
@@ -154,7 +154,7 @@ small_inside s t body k x = record {
   tick = record { inner = omega (arith, k.inner); captures = omega (arith, k.captures) };
 }
 
-module _ {many : ℕ} {b : Blocks} {ks : List (List CaptureKind)} {s t : State} (body : TickBody) (known : Known many stage.Function b ks s) (k : KeepsBody (tick_entered s) t) (numbered : Small stage.Tick t → IsNumbered body) (P : Round → Type 0) (here : (r : Round) → P (inside r t.ticks.captures) → BodyStands (round_tick r.function (kinds t.ticks.captures)) body) (d : Did many stage.Tick (blocks b s) ks (tick_entered s) t P) where
+module _ {many : List ℕ} {b : Blocks} {ks : List (List CaptureKind)} {s t : State} (body : TickBody) (known : Known many stage.Function b ks s) (k : KeepsBody (tick_entered s) t) (numbered : Small stage.Tick t → IsNumbered body) (P : Round → Type 0) (here : (r : Round) → P (inside r t.ticks.captures) → BodyStands (round_tick r.function (kinds t.ticks.captures)) body) (d : Did many stage.Tick (blocks b s) ks (tick_entered s) t P) where
   -- no tick is made in a tick
   no_more : Small stage.Function (left body t) → d.more ≡ []
   no_more small =
@@ -169,7 +169,6 @@ module _ {many : ℕ} {b : Blocks} {ks : List (List CaptureKind)} {s t : State} 
     object = a.object;
     is_function = a.is_function;
     functions = (a.functions.0, a.functions.0);
-    prototypes = a.prototypes;
     ticks = subst (λ l. Starts l r.function.ticks) (sym (append-nil ks) ∙ ap (λ l. ks ++ l) (sym (no_more a.small))) (starts_front ks (kinds t.ticks.captures ∷ []) a.ticks);
     in_tick = (λ i p. cc, starts_refl (kinds t.ticks.captures));
   }

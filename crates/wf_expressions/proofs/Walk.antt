@@ -36,14 +36,14 @@ string_plain g bytes s = record {
   at = string_stage g bytes s;
 }
 
-string_does : (many : ℕ) (bytes : List ℕ) (g : Stage) → Does many g (Right g) (λ s. Ok (productions.string_node bytes s))
+string_does : (many : List ℕ) (bytes : List ℕ) (g : Stage) → Does many g (Right g) (λ s. Ok (productions.string_node bytes s))
 string_does many bytes g b ks s new x known e =
     given (productions.string_node bytes s)
     (plain_did_by (λ r. Good (at g r) (nodes.string (images.string_place s.image))) (string_plain g bytes s) known (λ r a. good_string (at g r) (images.string_place s.image))) e
 
 -- ---- each node
 
-pub walk_does : {I S D N P : Type 0} (many : ℕ) (x : Expr-F Shape Node I (Option Node) Item S D Shape N P Named) → GoodParts many x → (g : Stage) → Does many g (λ r o. Good (at g r) o) (walk_rule x g)
+pub walk_does : {I S D N P : Type 0} (many : List ℕ) (x : Expr-F Shape Node I (Option Node) Item S D Shape N P Named) → GoodParts many x → (g : Stage) → Does many g (λ r o. Good (at g r) o) (walk_rule x g)
 walk_does many (Expr-F.Expr::Name line name) h g = (name_goes many line g name).does
 walk_does many (Expr-F.Number n unsigned) h g = (answers (Right g) (nodes.number n unsigned) (λ r. good_number (at g r) n unsigned)).does
 walk_does many (Expr-F.Character n) h g = (answers (Right g) (nodes.character n) (λ r. good_character (at g r) n)).does

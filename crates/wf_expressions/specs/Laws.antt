@@ -1,5 +1,5 @@
 -- Each production of an expression, of good parts, makes an operand that stands right.
-use Rattle.std.specs.Prelude.{ℕ, Option}
+use Rattle.std.specs.Prelude.{ℕ, Option, List}
 use Rattle.tick_tree.specs.declared.syntax.Core.TheOpen.{Expr-F}
 use Rattle.check_env.specs.declared.state.Stage.{Stage}
 use Rattle.check_expressions.specs.Rules.{Node, Named, Shape, Item, walk_rule}
@@ -12,4 +12,4 @@ abbrev pub Production : Type 0
 Production = Expr-F Shape Node (Unit {0}) (Option Node) Item (Unit {0}) (Unit {0}) Shape (Unit {0}) (Unit {0}) Named
 
 pub record ExpressionsDo : Type 0 where
-  pub does : (many : ℕ) (x : Production) → GoodParts many x → (g : Stage) → Does many g (λ r o. Good (at g r) o) (walk_rule x g)
+  pub does : (many : List ℕ) (x : Production) → GoodParts many x → (g : Stage) → Does many g (λ r o. Good (at g r) o) (walk_rule x g)

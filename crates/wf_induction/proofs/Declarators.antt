@@ -53,7 +53,7 @@ good_parameter p h = parameter_good p.line (words.base_of p.base) p.declarator h
 
 -- ---- suffixes
 
-pub good_suffix : (many : ℕ) (e : Suffix-W) → GoodSuffixParts many (suffix_of e) → GoodSuffix (suffix_walk e).walk
+pub good_suffix : (many : List ℕ) (e : Suffix-W) → GoodSuffixParts many (suffix_of e) → GoodSuffix (suffix_walk e).walk
 good_suffix many e h = suffix_good many (suffix_of e) h
 
 -- ---- a declaration's initializer gives a length that is absent, and hides none that is computed

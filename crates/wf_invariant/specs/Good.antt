@@ -89,7 +89,7 @@ Anywhere stage.Function o = (a : Around) → Good a o
 Anywhere stage.Tick o = Unit {0}
 Anywhere stage.Dollar o = (a : Around) → Good a o
 
-pub record GoodNode (many : ℕ) (n : Node) : Type 0 where
+pub record GoodNode (many : List ℕ) (n : Node) : Type 0 where
   pub keeps : (g : Stage) → IsKeeping g (n.walk g)
   pub does : (g : Stage) → Does many g (λ r o. Good (at g r) o) (n.walk g)
   -- so does a string, also in parentheses

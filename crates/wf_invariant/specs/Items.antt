@@ -61,7 +61,7 @@ abbrev pub ItemsStand : Standing → Around → List Stmt → Type 0
 ItemsStand a r xs = EachNode (ItemStands a r) xs
 
 -- the same of a whole step
-abbrev pub DoesStand : ℕ → Standing → Rule State (List Stmt) → Type 0
+abbrev pub DoesStand : List ℕ → Standing → Rule State (List Stmt) → Type 0
 DoesStand many a step =
     (b : Blocks) (ks : List (List CaptureKind)) (s new : State) (xs : List Stmt) → InBlock a.stage b → Known many a.stage b ks s → step s ≡ Ok (xs, new)
     → Did many a.stage b ks s new (λ r. ItemsStand a (at a.stage (placed_round a r)) xs)
@@ -109,7 +109,7 @@ abbrev pub IsDeclaring : Stage → Rule State (List Stmt) → Type 0
 IsDeclaring g step = (s new : State) (xs : List Stmt) → step s ≡ Ok (xs, new) → Small g new → (s.frame.object % 4 == 0) ≡ true → Declared g s new
 
 -- the walk over a statement, with this round it
-pub record GoodStatement (many : ℕ) (a : Standing) (step : Rule State (List Stmt)) : Type 0 where
+pub record GoodStatement (many : List ℕ) (a : Standing) (step : Rule State (List Stmt)) : Type 0 where
   pub grows : IsGrowing a.stage step
   pub counts : IsCounting a.stage step
   pub labels : IsLabelling a.is_direct step
@@ -123,7 +123,7 @@ Few s new = (length new.ticks.captures ≤ length s.ticks.captures + 1000000000)
 abbrev pub IsFew : Rule State (List Stmt) → Type 0
 IsFew step = (s new : State) (xs : List Stmt) → step s ≡ Ok (xs, new) → Few s new
 
-pub record GoodItem (many : ℕ) (i : Item) : Type 0 where
+pub record GoodItem (many : List ℕ) (i : Item) : Type 0 where
   pub walk : (a : Standing) → MayStand a.stage → GoodStatement many a (i.walk a)
 
 -- ---- blocks
@@ -134,7 +134,7 @@ pub record KeepsBlock (s new : State) : Type 0 where
   pub nodes : new.frame.nodes ≡ s.frame.nodes
   pub labels : new.labels ≡ s.labels
 
-pub record GoodBlock (many : ℕ) (a : Standing) (step : Rule State Stmt) : Type 0 where
+pub record GoodBlock (many : List ℕ) (a : Standing) (step : Rule State Stmt) : Type 0 where
   pub grows : IsGrowing a.stage step
   pub keeps : (s new : State) (x : Stmt) → step s ≡ Ok (x, new) → KeepsBlock s new
   pub counts : (s new : State) (x : Stmt) → step s ≡ Ok (x, new) → Small a.stage new → Counts a.stage s new (x ∷ [])

@@ -11,14 +11,12 @@ use Rattle.typed_tree.specs.declared.expression.CaptureKind.{CaptureKind}
 use Rattle.typed_tree.specs.declared.expression.Stmt.{Stmt}
 use Rattle.check_tables.specs.declared.frame.Home.{Home}
 use Rattle.check_tables.specs.declared.frame.Home.TheVariants as home
-use Rattle.check_tables.specs.declared.functions.Functions.{Functions}
-use Rattle.check_tables.specs.declared.functions.Prototype.{Prototype}
 use Rattle.check_tables.specs.Frames.{count}
-use Rattle.check_tables.specs.Functions.{number}
 use Rattle.check_env.specs.declared.state.Stage.{Stage}
 use Rattle.check_env.specs.declared.state.Stage.TheVariants as stage
 use Rattle.check_env.specs.declared.state.State.{State}
 use Rattle.wellformed.specs.Places.{act, numbers_of}
+use Rattle.wf_scopes.specs.Right.{HasType}
 use Rattle.wf_values.specs.Used.{IsLibrary}
 use Rattle.limits.specs.declared.program.TheConstants.{FRAME_OBJECT_BYTES}
 
@@ -65,26 +63,17 @@ abbrev pub IsParameter : Stage → Blocks → State → ℕ → Option Home → 
 IsParameter g b s n None = true ≡ false
 IsParameter g b s n (Some h) = HasHome (of_function g b s) s.frame.object n h
 
--- a function of a program of so many
-abbrev pub is_number : ℕ → ℕ → Bool
-is_number many n = nat_le 1 n && nat_le n many
-
-pub data IsFunction (many : ℕ) (f : Functions) (name : Name) (n : ℕ) : Type 0 where
-  Numbered : is_number many n ≡ true → IsFunction many f name n
-  -- a prototype with the number that an earlier walk found
-  Declared : (i : ℕ) (p : Prototype) → slice_get f.prototypes i ≡ Some p → n ≡ number p.name f → IsFunction many f name n
-
 -- a type that a variable may have: it has values, and where it is that of a variable of generated code, so does that
 pub record IsObject (t : CType) : Type 0 where
   pub type : is_void t ≡ false
   pub specified : is_vspec t ≡ true → is_void (inner t) ≡ false
 
--- what a name means in a program of so many functions
-abbrev pub Means : ℕ → Stage → Blocks → State → Name → Meaning → MeaningKind → Type 0
+-- what a name means in a program whose functions have so many parameters
+abbrev pub Means : List ℕ → Stage → Blocks → State → Name → Meaning → MeaningKind → Type 0
 Means many g b s name m kind.Variable = IsVariable g b s m.index (slice_get s.frame.homes m.index) × IsObject m.ctype
 Means many g b s name m kind.Parameter = IsParameter g b s m.index (slice_get s.frame.homes m.index) × IsObject m.ctype
 Means many g b s name m kind.Global = IsObject m.ctype
-Means many g b s name m kind.Function = IsFunction many s.functions name m.index × (is_void m.ctype ≡ false)
+Means many g b s name m kind.Function = HasType many m.index m.ctype × (is_void m.ctype ≡ false)
 Means many g b s name m kind.Library = IsLibrary m.index m.ctype
 
 -- ---- each of them
@@ -116,12 +105,12 @@ pub record Small (g : Stage) (s : State) : Type 0 where
   pub tick : SmallTick g s
 
 -- what is known in a state: `ks` are what the ticks so far capture
-pub record Knows (many : ℕ) (g : Stage) (b : Blocks) (ks : List (List CaptureKind)) (s : State) : Type 0 where
+pub record Knows (many : List ℕ) (g : Stage) (b : Blocks) (ks : List (List CaptureKind)) (s : State) : Type 0 where
   pub names : EachScope (λ name m. Means many g b s name m m.kind) s.scopes
   pub ticks : length ks ≡ length s.ticks.all
   -- frame objects stand at multiples of 4
   pub object : (s.frame.object % 4 == 0) ≡ true
 
 -- what is known, where no count is cut
-abbrev pub Known : ℕ → Stage → Blocks → List (List CaptureKind) → State → Type 0
+abbrev pub Known : List ℕ → Stage → Blocks → List (List CaptureKind) → State → Type 0
 Known many g b ks s = Small g s → Knows many g b ks s

@@ -6,9 +6,6 @@ use Rattle.typed_tree.specs.declared.expression.CaptureKind.TheVariants as captu
 use Rattle.typed_tree.specs.declared.expression.Expr.{Expr}
 use Rattle.typed_tree.specs.declared.program.Tick.{Tick}
 use Rattle.typed_tree.specs.Sizes.{body_size}
-use Rattle.check_tables.specs.declared.functions.Functions.{Functions}
-use Rattle.check_tables.specs.declared.functions.Prototype.{Prototype}
-use Rattle.check_tables.specs.Functions.{number}
 use Rattle.check_tables.specs.Walks.{Rule}
 use Rattle.check_env.specs.declared.state.Stage.{Stage}
 use Rattle.check_env.specs.declared.state.Stage.TheVariants as stage
@@ -17,7 +14,7 @@ use Rattle.wellformed.specs.Places.{Around, in_scope, in_function, part, stands_
 use Rattle.wellformed.specs.Values.{body_uses_values, is_used}
 use Rattle.wellformed.specs.Accepted.{IsNumbered}
 use Rattle.wf_invariant.specs.Kept.{Starts}
-use Rattle.wf_invariant.specs.Known.{Blocks, of_function, of_tick, has, is_number, Small, Known}
+use Rattle.wf_invariant.specs.Known.{Blocks, of_function, of_tick, has, Small, Known}
 
 -- what stands round a step: round the function's part, and in a tick, round the tick's
 pub record Round : Type 0 where
@@ -53,15 +50,13 @@ AgreesTick stage.Function b s r = Unit {0}
 AgreesTick stage.Tick b s r = ((i : ℕ) → has i (of_tick stage.Tick b s) ≡ true → in_scope i r.tick ≡ true) × Captures (kinds s.ticks.captures) r.tick.captures
 AgreesTick stage.Dollar b s r = ((i : ℕ) → has i (of_tick stage.Dollar b s) ≡ true → in_scope i r.tick ≡ true) × Captures (kinds s.ticks.captures) r.tick.captures
 
--- what stands round a step has room for all that the state knows, in a program of so many functions
-pub record Agrees (many : ℕ) (g : Stage) (b : Blocks) (ks : List (List CaptureKind)) (s : State) (r : Round) : Type 0 where
+-- what stands round a step has room for all that the state knows, in a program whose functions have so many parameters
+pub record Agrees (many : List ℕ) (g : Stage) (b : Blocks) (ks : List (List CaptureKind)) (s : State) (r : Round) : Type 0 where
   pub small : Small g s
   pub visible : (i : ℕ) → has i (of_function g b s) ≡ true → in_scope i r.function ≡ true
   pub object : nat_le s.frame.object r.function.object ≡ true
   pub is_function : in_function r.function ≡ true
   pub functions : (r.function.functions ≡ many) × (r.tick.functions ≡ many)
-  -- each function that is declared is defined
-  pub prototypes : (i : ℕ) (p : Prototype) → slice_get s.functions.prototypes i ≡ Some p → is_number many (number p.name s.functions) ≡ true
   pub ticks : Starts ks r.function.ticks
   pub in_tick : AgreesTick g b s r
 
@@ -96,7 +91,7 @@ CapturesStand stage.Dollar s new r = Unit {0}
 -- ---- steps
 
 -- what a step did: what its answer is asked for holds in each surrounding that agrees with the state after it
-pub record Did (many : ℕ) (g : Stage) (b : Blocks) (ks : List (List CaptureKind)) (s new : State) (P : Round → Type 0) : Type 0 where
+pub record Did (many : List ℕ) (g : Stage) (b : Blocks) (ks : List (List CaptureKind)) (s new : State) (P : Round → Type 0) : Type 0 where
   -- what its ticks capture
   pub more : List (List CaptureKind)
   pub known : Known many g b (ks ++ more) new
@@ -106,6 +101,6 @@ pub record Did (many : ℕ) (g : Stage) (b : Blocks) (ks : List (List CaptureKin
   pub stands : (r : Round) → Agrees many g b (ks ++ more) new r → P r
 
 -- a step whose answers stand right
-abbrev pub Does : {A : Type 0} → ℕ → Stage → (Round → A → Type 0) → Rule State A → Type 0
+abbrev pub Does : {A : Type 0} → List ℕ → Stage → (Round → A → Type 0) → Rule State A → Type 0
 Does {A} many g P step =
     (b : Blocks) (ks : List (List CaptureKind)) (s new : State) (x : A) → Known many g b ks s → step s ≡ Ok (x, new) → Did many g b ks s new (λ r. P r x)

@@ -1,2 +1,3 @@
+pub mod Calls
 pub mod Scoped
 pub mod Dense

@@ -10,14 +10,14 @@ use Rattle.typed_tree.specs.declared.expression.CaptureKind.{CaptureKind}
 use Rattle.typed_tree.specs.Nodes as node
 use Rattle.typed_tree.specs.Nodes.{Expr, Args, Stmt, Items, fold_expr, fold_args, fold_stmt, fold_items}
 use Rattle.staged_meaning.specs.Scope.{Scope, no_scope, scope_of, scope_after, IsScoped, AreScoped, IsScopedStmt, AreScopedItems}
-use Rattle.wellformed.specs.Places.{Around, Part, Act, in_function, in_scope, expr_rule, rules, numbers_of, values_of, all_different, all_declare, all_stand, is_label, all_items, are_parameters, within, looped, switched}
+use Rattle.wellformed.specs.Places.{Around, Part, Act, in_function, in_scope, are_few, expr_rule, rules, numbers_of, values_of, all_different, all_declare, all_stand, is_label, all_items, are_parameters, within, looped, switched}
 use Rattle.wellformed.specs.Program.{IsFunction, round_function}
 use Rattle.wellformed.proofs.Bools.{first_true, second_true}
 
-abbrev part : Expr → Part
+abbrev pub part : Expr → Part
 part = fold_expr expr_rule
 
-abbrev act : Stmt → Act
+abbrev pub act : Stmt → Act
 act = fold_stmt rules
 
 -- each variable of these numbers is in scope
@@ -26,7 +26,7 @@ Holds ns scope = (i : ℕ) → list_any (λ n. i == n) ns ≡ true → scope i �
 
 -- ---- expressions
 
-two : (b c : Bool) → (b && c) ≡ true → (b ≡ true) × (c ≡ true)
+pub two : (b c : Bool) → (b && c) ≡ true → (b ≡ true) × (c ≡ true)
 two b c h = (first_true b c h, second_true b c h)
 
 module _ (a : Around) (scope : Scope) (seen : Holds a.variables scope) where
@@ -57,8 +57,8 @@ module _ (a : Around) (scope : Scope) (seen : Holds a.variables scope) where
     expr_scoped (node.Void e) h = expr_scoped e h
     expr_scoped (node.Call r f args) h = args_scoped args (second_true _ (list_all (λ p. p.stands a) (fold_args expr_rule args)) h)
     expr_scoped (node.CallNumber r e args) h =
-        let q = two ((part e).stands a) (list_all (λ p. p.stands a) (fold_args expr_rule args)) h in
-        (expr_scoped e q.0, args_scoped args q.1)
+        let q = two ((part e).stands a && are_few (length (fold_args expr_rule args))) (list_all (λ p. p.stands a) (fold_args expr_rule args)) h in
+        (expr_scoped e (first_true ((part e).stands a) (are_few (length (fold_args expr_rule args))) q.0), args_scoped args q.1)
     expr_scoped node.Getchar h = tt
     expr_scoped (node.Lib f e) h = expr_scoped e h
     expr_scoped (node.Tick t args) h =
@@ -88,14 +88,14 @@ module _ (a : Around) (scope : Scope) (seen : Holds a.variables scope) where
 -- ---- the variables of a block
 
 -- the node of a variable or of a parameter
-abbrev IsHead : Stmt → Type 0
+abbrev pub IsHead : Stmt → Type 0
 IsHead (node.Variable i) = Unit {0}
 IsHead (node.Object off words) = Unit {0}
 IsHead (node.Parameter k w) = Unit {0}
 IsHead (node.ParameterObject k w off) = Unit {0}
 IsHead _ = ⊥
 
-abbrev AreHeads : Items → Type 0
+abbrev pub AreHeads : Items → Type 0
 AreHeads node.NoItem = Unit {0}
 AreHeads (node.Item s items) = IsHead s × AreHeads items
 
@@ -109,14 +109,14 @@ parameter_head a k (node.Parameter n w) h = tt
 parameter_head a k (node.ParameterObject n w off) h = tt
 parameter_head a k _ h = absurd cc
 
-declared_heads : (a : Around) (vs : Items) → all_declare (fold_items rules vs) a ≡ true → AreHeads vs
+pub declared_heads : (a : Around) (vs : Items) → all_declare (fold_items rules vs) a ≡ true → AreHeads vs
 declared_heads a node.NoItem h = tt
 declared_heads a (node.Item s vs) h =
     let q = two ((act s).declares a) (all_declare (fold_items rules vs) a) h in
     (declared_head a s q.0, declared_heads a vs q.1)
 
 -- n parameters stand first
-body_heads : (a : Around) (vs : Items) (n k : ℕ) → are_parameters k (take n (fold_items rules vs)) a ≡ true → all_declare (drop n (fold_items rules vs)) a ≡ true → AreHeads vs
+pub body_heads : (a : Around) (vs : Items) (n k : ℕ) → are_parameters k (take n (fold_items rules vs)) a ≡ true → all_declare (drop n (fold_items rules vs)) a ≡ true → AreHeads vs
 body_heads a node.NoItem n k h d = tt
 body_heads a (node.Item s vs) zero k h d = declared_heads a (node.Item s vs) d
 body_heads a (node.Item s vs) (suc n) k h d =

@@ -1,10 +1,16 @@
 //! A function of an accepted text is one that the lowering takes. This is a law on definitions; there is no code to run here.
 #![tactic(auto)]
 
-ghost use Rattle.wf_ready.specs.Laws.{FunctionsAreReady};
+ghost use Rattle.wf_ready.specs.Laws.{FunctionsAreReady, CallsAreCounted};
 
 /// That a function of an accepted text uses variables in their scope, has at most 16,384 nodes, and numbers its variables below their
 /// count: so it is ready for the lowering once its nodes are of the kinds that are built.
 pub fn functions_are_ready()
     ensures { FunctionsAreReady }
+{}
+
+/// That each static call in an accepted text's functions and ticks has as many arguments as its function has parameters, and that no call
+/// has more than 8.
+pub fn calls_are_counted()
+    ensures { CallsAreCounted }
 {}

@@ -1,5 +1,6 @@
 -- Where the parts of a node stand right, the node does; one law a node.
-use Rattle.std.proofs.Common.{◌≡◌, ℕ, ◌%◌, ◌==◌, Bool, true, false, ◌&&◌, nat_le, if◌then◌else◌, refl, ap, subst, ◌∙◌, List, [], ◌∷◌, map, Option, Some, None, Ok}
+use Rattle.std.proofs.Common.{◌≡◌, ℕ, ◌%◌, ◌==◌, Bool, true, false, ◌&&◌, nat_le, if◌then◌else◌, refl, ap, subst, ◌∙◌, List, [], ◌∷◌, length, map, Option, Some, None, Ok}
+use Rattle.std.proofs.lemmas.List.{length-map}
 use Rattle.word32.specs.declared.width.Width.{Width}
 use Rattle.icode_ops.specs.declared.kind.BinKind.{BinKind}
 use Rattle.icode_ops.specs.declared.kind.UnKind.{UnKind}
@@ -10,7 +11,7 @@ use Rattle.typed_tree.specs.declared.expression.Library.{Library}
 use Rattle.typed_tree.specs.declared.expression.Expr.{Expr}
 use Rattle.typed_tree.specs.declared.expression.Expr.TheVariants as ex
 use Rattle.check_operators.specs.Operands.{by}
-use Rattle.wellformed.specs.Places.{Around, Part, part, in_scope, in_function, captured, is_variable, is_called, each_stands}
+use Rattle.wellformed.specs.Places.{Around, Part, part, in_scope, in_function, captured, is_variable, is_called, are_few, each_stands}
 use Rattle.wellformed.proofs.Equations.{part_const, part_var, part_setvar, part_postvar, part_vget, part_vset, part_vpost, part_frame, part_load, part_store, part_modify, part_post, part_bin, part_un, part_and, part_or, part_cond, part_comma, part_void, part_call, part_callnumber, part_getchar, part_lib, part_compile, part_local, part_paramof}
 use Rattle.wellformed.proofs.Bools.{and_true}
 use Rattle.wf_scopes.specs.Right.{Stands, Unless, EachStands}
@@ -92,11 +93,17 @@ each_true : (a : Around) (es : List Expr) → EachStands a es → each_stands (m
 each_true a [] h = refl
 each_true a (e ∷ es) h = and_true _ _ h.0 (each_true a es h.1)
 
-pub call_stands : (a : Around) (r : Answer) (f : ℕ) (es : List Expr) → is_called f a ≡ true → EachStands a es → Stands a (ex.Call r f es)
-call_stands a r f es h k = along a _ _ (part_call r f es) (and_true _ _ h (each_true a es k))
+as_many : (es : List Expr) → length (map part es) ≡ length es
+as_many es = length-map es part
 
-pub call_number_stands : (a : Around) (r : Answer) (e : Expr) (es : List Expr) → Stands a e → EachStands a es → Stands a (ex.CallNumber r e es)
-call_number_stands a r e es h k = along a _ _ (part_callnumber r e es) (and_true _ _ h (each_true a es k))
+pub call_stands : (a : Around) (r : Answer) (f : ℕ) (es : List Expr) → is_called f (length es) a ≡ true → EachStands a es → Stands a (ex.Call r f es)
+call_stands a r f es h k =
+    along a _ _ (part_call r f es) (and_true _ _ (ap (λ (n : ℕ). is_called f n a) (as_many es) ∙ h) (each_true a es k))
+
+pub call_number_stands : (a : Around) (r : Answer) (e : Expr) (es : List Expr) → Stands a e → are_few (length es) ≡ true → EachStands a es → Stands a (ex.CallNumber r e es)
+call_number_stands a r e es h few k =
+    along a _ _ (part_callnumber r e es)
+    (and_true ((part e).stands a && are_few (length (map part es))) _ (and_true _ _ h (ap are_few (as_many es) ∙ few)) (each_true a es k))
 
 pub getchar_stands : (a : Around) → Stands a ex.Getchar
 getchar_stands a = along a _ _ part_getchar refl
@@ -109,6 +116,11 @@ library_stands a f e h = along a _ _ (part_lib f e) h
 pub unless_by : {A : Type 0} (P : A → Type 0) (line : ℕ) (k : Option FaultKind) (x : A) → P x → Unless P (by line k x)
 unless_by P line None x h = h
 unless_by P line (Some k) x h = tt
+
+-- where it isn't broken
+pub unless_none : {A : Type 0} (P : A → Type 0) (line : ℕ) (k : Option FaultKind) (x : A) → (k ≡ None → P x) → Unless P (by line k x)
+unless_none P line None x h = h refl
+unless_none P line (Some k) x h = tt
 
 pub unless_if : {A : Type 0} (P : A → Type 0) (b : Bool) (r s : Checked A) → Unless P r → Unless P s → Unless P (if b then r else s)
 unless_if P true r s h k = h

@@ -22,7 +22,7 @@ memory_stands : (a : Around) (b : Bool) (w : Width) (e : Expr) → Stands a e �
 memory_stands a true w e h = h
 memory_stands a false w e h = load_stands a w e h
 
-pub code_stands : (a : Around) (p : Place) (t : CType) → RightPlace a p → Stands a (code_of p t)
+pub code_stands : (a : Around) (p : Place) (t : CType) → RightPlace a p t → Stands a (code_of p t)
 code_stands a (place.Value e) t h = h
 code_stands a (place.Register i) t h = var_stands a i h
 code_stands a (place.Generated i) t h = generated_stands a i h

@@ -24,7 +24,7 @@ use Rattle.wf_scopes.proofs.Nodes.{const_stands, var_stands, set_stands, post_va
 use Rattle.wf_scopes.proofs.Operands.{converted_by_stands, converted_stands}
 use Rattle.wf_scopes.proofs.Operators.{scaled_stands, built_stands}
 
-stored_stands : (a : Around) (p : Place) (t : CType) (e : Expr) → RightPlace a p → Stands a e → Stands a (stored p t e)
+stored_stands : (a : Around) (p : Place) (t : CType) (e : Expr) → RightPlace a p t → Stands a e → Stands a (stored p t e)
 stored_stands a (place.Value x) t e h k = k
 stored_stands a (place.Register i) t e h k = set_stands a i e h k
 stored_stands a (place.Generated i) t e h k = set_generated_stands a i e h k
@@ -49,7 +49,7 @@ right_stands a (by_form.ScaledRight k n) e h = scaled_stands a e n h
 right_stands a (by_form.ScaledLeft n) e h = h
 right_stands a (by_form.Divided n) e h = h
 
-changed_stands : (a : Around) (c : Combined) (p : Place) (t : CType) (e : Expr) → RightPlace a p → Stands a e → Stands a (changed c p t e)
+changed_stands : (a : Around) (c : Combined) (p : Place) (t : CType) (e : Expr) → RightPlace a p t → Stands a e → Stands a (changed c p t e)
 changed_stands a c (place.Value x) t e h k = k
 changed_stands a c (place.Register i) t e h k =
     set_stands a i _ h (narrowed_stands a t (built c (ex.Var i) e) (built_stands a c (ex.Var i) e (var_stands a i h) k))
@@ -77,7 +77,7 @@ stepped_stands : (a : Around) (line : ℕ) (s : StepOp) (o : Operand) → IsRigh
 unfolding stepped
 stepped_stands a line s o h = stepped_by_stands a line s o (step_of o.ctype) h
 
-posted_stands : (a : Around) (p : Place) (t : CType) (n : ℕ) → RightPlace a p → Stands a (posted p t n)
+posted_stands : (a : Around) (p : Place) (t : CType) (n : ℕ) → RightPlace a p t → Stands a (posted p t n)
 posted_stands a (place.Value x) t n h = h
 posted_stands a (place.Register i) t n h = post_variable_stands a i (width_of t) n h
 posted_stands a (place.Generated i) t n h = post_generated_stands a i n h
@@ -92,7 +92,7 @@ posting_stands : (a : Around) (line : ℕ) (s : StepOp) (o : Operand) → IsRigh
 unfolding post
 posting_stands a line s o h = post_by_stands a line s o (step_of o.ctype) h
 
-address_of_stands : (a : Around) (line : ℕ) (p : Place) (t : CType) → RightPlace a p → Unless (IsRight a) (address_of line p t)
+address_of_stands : (a : Around) (line : ℕ) (p : Place) (t : CType) → RightPlace a p t → Unless (IsRight a) (address_of line p t)
 address_of_stands a line (place.Value e) t h = tt
 address_of_stands a line (place.Register i) t h = tt
 address_of_stands a line (place.Generated i) t h = tt

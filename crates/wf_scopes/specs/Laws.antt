@@ -1,5 +1,5 @@
 -- Each rule of single nodes makes of parts that stand right a node that stands right.
-use Rattle.std.specs.Prelude.{◌≡◌, ℕ, Bool, true}
+use Rattle.std.specs.Prelude.{◌≡◌, ℕ, Bool, true, length}
 use Rattle.icode_ops.specs.declared.kind.UnKind.{UnKind}
 use Rattle.c_types.specs.declared.ctype.CType.{CType}
 use Rattle.tick_tree.specs.declared.base.BinaryOp.{BinaryOp}
@@ -65,7 +65,7 @@ pub record PlacesStand : Type 0 where
 
 pub record CallsStand : Type 0 where
   pub argument : (a : Around) (list : Arguments) (v : Value) → EachStands a list.codes → Stands a v.code → EachStands a (calls.with_argument list v).codes
-  pub call : (a : Around) (line : ℕ) (o : Operand) (list : Arguments) → IsRight a o → EachStands a list.codes → Unless (IsRight a) (calls.call line o list)
+  pub call : (a : Around) (line : ℕ) (o : Operand) (list : Arguments) → IsRight a o → length list.codes ≡ length list.types → EachStands a list.codes → Unless (IsRight a) (calls.call line o list)
   pub library : (a : Around) (line n : ℕ) (t : CType) (list : Arguments) → EachStands a list.codes → Unless (IsRight a) (calls.library line n t list)
   pub returned : (a : Around) (line : ℕ) (t : CType) (v : Value) → Stands a v.code → Unless (Stands a) (calls.returned line t v)
   pub tick_returned : (a : Around) (line : ℕ) (v : Value) → Stands a v.code → Unless (Stands a) (calls.tick_returned line v)

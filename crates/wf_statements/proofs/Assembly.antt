@@ -37,7 +37,7 @@ use Rattle.wf_statements.proofs.Within.{whole_block_did, for_block_did}
 use Rattle.wf_statements.proofs.Switching.{switch_did, case_did, default_did}
 
 -- a step of which both is known is good
-pub statement_good : {many : ℕ} (a : Standing) (step : Rule State (List Stmt)) → ((s new : State) (xs : List Stmt) → step s ≡ Ok (xs, new) → Makes a.stage a.is_direct s new xs)
+pub statement_good : {many : List ℕ} (a : Standing) (step : Rule State (List Stmt)) → ((s new : State) (xs : List Stmt) → step s ≡ Ok (xs, new) → Makes a.stage a.is_direct s new xs)
     → ((b : Blocks) (ks : List (List CaptureKind)) (s new : State) (xs : List Stmt) → InBlock a.stage b → Known many a.stage b ks s → step s ≡ Ok (xs, new) → DidStand many a b ks s new xs) → GoodStatement many a step
 statement_good a step makes did = record {
   grows = λ s new xs e. (makes s new xs e).made.grows;
@@ -49,7 +49,7 @@ statement_good a step makes did = record {
 
 -- ---- lists and blocks
 
-pub each_good : (many : ℕ) (items : List Item) (a : Standing) → MayStand a.stage → EachPart (GoodItem many) items → GoodStatement many a (each items a)
+pub each_good : (many : List ℕ) (items : List Item) (a : Standing) → MayStand a.stage → EachPart (GoodItem many) items → GoodStatement many a (each items a)
 each_good many items a may h = statement_good a (each items a)
     (λ s new xs e. each_makes many items a may h s new xs e)
     (λ b ks s new xs here known e. each_did many items a b ks s new xs h here known e)
@@ -57,7 +57,7 @@ each_good many items a may h = statement_good a (each items a)
 abbrev pub StoodBlock : Around → Stmt → Type 0
 StoodBlock r x = ((act x).stands r ≡ true) × (uses_values x ≡ true)
 
-pub block_good : {many : ℕ} (items : List Item) (a : Standing) → MayStand a.stage → a.is_direct ≡ false → EachPart (GoodItem many) items → ((s new : State) (x : Stmt) → block items a s ≡ Ok (x, new) → Few s new) → GoodBlock many a (block items a)
+pub block_good : {many : List ℕ} (items : List Item) (a : Standing) → MayStand a.stage → a.is_direct ≡ false → EachPart (GoodItem many) items → ((s new : State) (x : Stmt) → block items a s ≡ Ok (x, new) → Few s new) → GoodBlock many a (block items a)
 block_good {many} items a may direct h few = record {
   grows = λ s new x e. (block_makes many items a may direct h s new x e).made.grows;
   keeps = λ s new x e.
@@ -76,7 +76,7 @@ block_good {many} items a may direct h few = record {
 }
 
 -- a block as a statement
-inner_block : {many : ℕ} (items : List Item) (a : Standing) → MayStand a.stage → EachPart (GoodItem many) items → GoodStatement many a (rules.block_alone items a)
+inner_block : {many : List ℕ} (items : List Item) (a : Standing) → MayStand a.stage → EachPart (GoodItem many) items → GoodStatement many a (rules.block_alone items a)
 inner_block {many} items a may h = statement_good a (rules.block_alone items a)
     (λ s new xs e.
     let w = followed (block items (statements.inside a)) (λ x. statements.one x) s xs new e in
@@ -90,12 +90,12 @@ inner_block {many} items a may h = statement_good a (rules.block_alone items a)
 
 -- ---- single statements
 
-empty_good : {many : ℕ} (a : Standing) → GoodStatement many a (pure rules.empty)
+empty_good : {many : List ℕ} (a : Standing) → GoodStatement many a (pure rules.empty)
 empty_good a = statement_good a (pure rules.empty)
     (λ s new xs e. same_makes a.stage a.is_direct s new xs (st.Block [] []) (pure_same rules.empty xs s new e) (pure_value rules.empty xs s new e) (block_counts [] []) (block_unlabelled [] []))
     (λ b ks s new xs here known e. same_did a b ks s new xs (st.Block [] []) known (pure_same rules.empty xs s new e) (pure_value rules.empty xs s new e) (λ r. list_stood (place_of a r) [] refl refl))
 
-break_good : {many : ℕ} (line : ℕ) (a : Standing) → GoodStatement many a (lift (statements.break_entry line a))
+break_good : {many : List ℕ} (line : ℕ) (a : Standing) → GoodStatement many a (lift (statements.break_entry line a))
 break_good line a = statement_good a (lift (statements.break_entry line a))
     (λ s new xs e. let w = break_ran line a s xs new e in same_makes a.stage a.is_direct s new xs st.Break w.state w.is break_counts break_unlabelled)
     (λ b ks s new xs here known e. let w = break_ran line a s xs new e in same_did a b ks s new xs st.Break known w.state w.is (λ r. break_stood (place_of a r) (jumps a.stage a r ∙ w.right)))
@@ -105,7 +105,7 @@ break_good line a = statement_good a (lift (statements.break_entry line a))
     jumps stage.Tick a r = refl
     jumps stage.Dollar a r = refl
 
-continue_good : {many : ℕ} (line : ℕ) (a : Standing) → GoodStatement many a (lift (statements.continue_entry line a))
+continue_good : {many : List ℕ} (line : ℕ) (a : Standing) → GoodStatement many a (lift (statements.continue_entry line a))
 continue_good line a = statement_good a (lift (statements.continue_entry line a))
     (λ s new xs e. let w = continue_ran line a s xs new e in same_makes a.stage a.is_direct s new xs st.Continue w.state w.is continue_counts continue_unlabelled)
     (λ b ks s new xs here known e. let w = continue_ran line a s xs new e in same_did a b ks s new xs st.Continue known w.state w.is (λ r. continue_stood (place_of a r) (loops a.stage a r ∙ w.right)))
@@ -115,7 +115,7 @@ continue_good line a = statement_good a (lift (statements.continue_entry line a)
     loops stage.Tick a r = refl
     loops stage.Dollar a r = refl
 
-return_good : {many : ℕ} (line : ℕ) (n : Option Node) (a : Standing) → GoodOptional many n → GoodStatement many a (rules.returning line n a)
+return_good : {many : List ℕ} (line : ℕ) (n : Option Node) (a : Standing) → GoodOptional many n → GoodStatement many a (rules.returning line n a)
 return_good line None a h = statement_good a (pure (statements.one st.Return))
     (λ s new xs e. same_makes a.stage a.is_direct s new xs st.Return (pure_same (statements.one st.Return) xs s new e) (pure_value (statements.one st.Return) xs s new e) return_counts return_unlabelled)
     (λ b ks s new xs here known e. same_did a b ks s new xs st.Return known (pure_same (statements.one st.Return) xs s new e) (pure_value (statements.one st.Return) xs s new e) (λ r. return_stood (place_of a r)))
@@ -125,7 +125,7 @@ return_good line (Some n) a h = statement_good a (rules.answered line n a)
 
 -- ---- loops
 
-for_alone_good : {many : ℕ} (line : ℕ) (c step : Option Node) (i : Item) (a : Standing) → MayStand a.stage → GoodOptional many c → GoodOptional many step → GoodItem many i → GoodStatement many a (rules.for_alone line c step i a)
+for_alone_good : {many : List ℕ} (line : ℕ) (c step : Option Node) (i : Item) (a : Standing) → MayStand a.stage → GoodOptional many c → GoodOptional many step → GoodItem many i → GoodStatement many a (rules.for_alone line c step i a)
 for_alone_good {many} line c step i a may hc hs hi = statement_good a (rules.for_alone line c step i a)
     (λ s new xs e.
     let w = followed (rules.for_rest line c step i a) (λ x. statements.one x) s xs new e in
@@ -135,19 +135,19 @@ for_alone_good {many} line c step i a may hc hs hi = statement_good a (rules.for
     did_so (λ r. Stood (place_of a r) w.value) (λ r. ItemsStand a (place_of a r) xs) (for_did line c step i a b ks s new w.value hc hs hi here known (for_ran line c step i a s w.value new w.walk))
     (λ ms r ag p. subst (λ ys. ItemsStand a (place_of a r) ys) w.is (stood_one a (place_of a r) w.value p)))
 
-for_block_good : {many : ℕ} (line : ℕ) (first : Item) (c step : Option Node) (i : Item) (a : Standing) → MayStand a.stage → GoodItem many first → GoodOptional many c → GoodOptional many step → GoodItem many i → GoodStatement many a (rules.for_block line first c step i a)
+for_block_good : {many : List ℕ} (line : ℕ) (first : Item) (c step : Option Node) (i : Item) (a : Standing) → MayStand a.stage → GoodItem many first → GoodOptional many c → GoodOptional many step → GoodItem many i → GoodStatement many a (rules.for_block line first c step i a)
 for_block_good {many} line first c step i a may hf hc hs hi = statement_good a (rules.for_block line first c step i a)
     (λ s new xs e. for_block_makes many line first c step i a may hf hc hs hi s new xs e)
     (λ b ks s new xs here known e. for_block_did many line first c step i a hf hc hs hi b ks s new xs here known e)
 
-for_by : {many : ℕ} (empty : Bool) (line : ℕ) (first : Item) (c step : Option Node) (i : Item) (a : Standing) → MayStand a.stage → GoodItem many first → GoodOptional many c → GoodOptional many step → GoodItem many i
+for_by : {many : List ℕ} (empty : Bool) (line : ℕ) (first : Item) (c step : Option Node) (i : Item) (a : Standing) → MayStand a.stage → GoodItem many first → GoodOptional many c → GoodOptional many step → GoodItem many i
     → GoodStatement many a (if empty then rules.for_alone line c step i a else rules.for_block line first c step i a)
 for_by true line first c step i a may hf hc hs hi = for_alone_good line c step i a may hc hs hi
 for_by false line first c step i a may hf hc hs hi = for_block_good line first c step i a may hf hc hs hi
 
 -- ---- all
 
-pub walk_good : {I S D N P : Type 0} (many : ℕ) (declaration : D → Stage → Rule State (List Stmt)) (s : Stmt-F Shape Node I (Option Node) Item S D Shape N P Named) → GoodStatementParts many declaration s → (a : Standing) → MayStand a.stage → GoodStatement many a (stmt_walk declaration s a)
+pub walk_good : {I S D N P : Type 0} (many : List ℕ) (declaration : D → Stage → Rule State (List Stmt)) (s : Stmt-F Shape Node I (Option Node) Item S D Shape N P Named) → GoodStatementParts many declaration s → (a : Standing) → MayStand a.stage → GoodStatement many a (stmt_walk declaration s a)
 walk_good many declaration Stmt-F.Empty h a may = empty_good a
 walk_good many declaration (Stmt-F.Expr n) h a may = statement_good a (rules.alone n a)
     (λ s new xs e. expr_makes n a h s new xs e)

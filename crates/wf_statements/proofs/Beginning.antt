@@ -49,7 +49,7 @@ use Rattle.wf_statements.proofs.Assembly.{statement_good}
 -- ---- what a variable begins with
 
 -- nothing
-pub nothing_good : (many : ℕ) (a : Standing) (p : Operand) → GoodBegin many a p (pure [])
+pub nothing_good : (many : List ℕ) (a : Standing) (p : Operand) → GoodBegin many a p (pure [])
 nothing_good many a p = record {
   keeps = pure_keeps a.stage [];
   begun = λ s new xs e. Nothing (sym (pure_value [] xs s new e));
@@ -81,7 +81,7 @@ assigned_good r line p o x h k g =
       unless_used IsUsed (places.assign line p (value_of o)) x g (places_use.assign line p (value_of o) h.1 v.used),
     )
 
-pub value_good : (many : ℕ) (a : Standing) (line : ℕ) (p : Operand) (n : Node) (string : Bool) → GoodNode many n → GoodBegin many a p (n.walk a.stage >>= (λ o. lift (from_value line p string o)))
+pub value_good : (many : List ℕ) (a : Standing) (line : ℕ) (p : Operand) (n : Node) (string : Bool) → GoodNode many n → GoodBegin many a p (n.walk a.stage >>= (λ o. lift (from_value line p string o)))
 value_good many a line p n string h = record {
   keeps = bind_keeps a.stage (n.walk a.stage) (λ o. lift (from_value line p string o)) (h.keeps a.stage) (λ o. lift_keeps a.stage (from_value line p string o));
   begun = λ s new xs e.
@@ -105,7 +105,7 @@ list_refused line row sized step s new xs e =
     never : {A : Type 0} (k : FaultKind) (line : ℕ) (xs : List Stmt) → refuse k line ≡ Ok xs → A
     never k line xs e = cc
 
-pub list_good : (many : ℕ) (a : Standing) (line : ℕ) (p : Operand) (row sized : Bool) (step : Rule State (Option FaultKind)) → GoodBegin many a p (step >>= (λ broken. lift (initializers.from_list line row sized broken)))
+pub list_good : (many : List ℕ) (a : Standing) (line : ℕ) (p : Operand) (row sized : Bool) (step : Rule State (Option FaultKind)) → GoodBegin many a p (step >>= (λ broken. lift (initializers.from_list line row sized broken)))
 list_good many a line p row sized step = record {
   keeps = λ s new xs e. list_refused line row sized step s new xs e;
   begun = λ s new xs e. list_refused line row sized step s new xs e;
@@ -124,7 +124,7 @@ begun_made g direct s new xs m l (Effect e is) = record {
   labelled = subst (λ ys. Labelled direct s new ys) (sym is) (labelled_one direct (st.Eval e) l (expr_unlabelled e));
 }
 
-pub declared_good : (many : ℕ) (a : Standing) (line : ℕ) (name : Option (ℕ × Name)) (w : Rule State CType) (begin : Operand → Rule State (List Stmt)) → MayStand a.stage → GoodType a.stage w → ((p : Operand) → GoodBegin many a p (begin p))
+pub declared_good : (many : List ℕ) (a : Standing) (line : ℕ) (name : Option (ℕ × Name)) (w : Rule State CType) (begin : Operand → Rule State (List Stmt)) → MayStand a.stage → GoodType a.stage w → ((p : Operand) → GoodBegin many a p (begin p))
     → GoodStatement many a (declares_one a.stage line name w begin)
 declared_good many a line name w begin may hw hb = statement_good a (declares_one a.stage line name w begin)
     (λ s new xs e.
@@ -153,7 +153,7 @@ declared_good many a line name w begin may hw hb = statement_good a (declares_on
 
 -- ---- several declarators
 
-pub none_good : (many : ℕ) (a : Standing) → GoodStatement many a (pure [])
+pub none_good : (many : List ℕ) (a : Standing) → GoodStatement many a (pure [])
 none_good many a = statement_good a (pure [])
     (λ s new xs e.
     let same = pure_same [] xs s new e in
@@ -165,7 +165,7 @@ none_good many a = statement_good a (pure [])
     (λ b ks s new xs here known e.
     plain_did_by (λ r. ItemsStand a (place_of a r) xs) (plain_same a.stage (pure_same [] xs s new e)) known (λ r ag. subst (λ ys. ItemsStand a (place_of a r) ys) (pure_value [] xs s new e) tt))
 
-pub more_good : (many : ℕ) (a : Standing) (p q : Rule State (List Stmt)) → MayStand a.stage → GoodStatement many a p → GoodStatement many a q → GoodStatement many a (p >>= (λ xs. q >>= (λ ys. pure (xs ++ ys))))
+pub more_good : (many : List ℕ) (a : Standing) (p q : Rule State (List Stmt)) → MayStand a.stage → GoodStatement many a p → GoodStatement many a q → GoodStatement many a (p >>= (λ xs. q >>= (λ ys. pure (xs ++ ys))))
 more_good many a p q may h k = statement_good a (p >>= (λ xs. q >>= (λ ys. pure (xs ++ ys))))
     (λ s new xs e.
     let r = ran p (λ ys. q >>= (λ zs. pure (ys ++ zs))) s xs new e in

@@ -40,7 +40,7 @@ use Rattle.wf_statements.proofs.Joining.{did_only}
 -- ---- names
 
 -- one name more
-names_more : (many : ℕ) (g : Stage) (b : Blocks) (new : State) (ss : Scopes) (name : Name) (m : Meaning) → AllMean many g b new ss → Means many g b new name m m.kind → AllMean many g b new (declared ss name m)
+names_more : (many : List ℕ) (g : Stage) (b : Blocks) (new : State) (ss : Scopes) (name : Name) (m : Meaning) → AllMean many g b new ss → Means many g b new name m m.kind → AllMean many g b new (declared ss name m)
 names_more many g b new ss name m all one =
     scopes_set (λ n k. Means many g b new n k k.kind) ss (length ss - 1) (innermost ss ++ (name, m) ∷ []) all
     (scope_append (λ n k. Means many g b new n k k.kind) (innermost ss) ((name, m) ∷ []) (scope_at (λ n k. Means many g b new n k k.kind) ss (length ss - 1) all) (one, tt))
@@ -55,7 +55,7 @@ has_variable n ns xs =
     (subst (λ l. has n l ≡ true) (sym (numbers_append xs (st.Variable n ∷ [])))
     (has_back n (numbers xs) (numbers (st.Variable n ∷ [])) (subst (λ l. has n l ≡ true) (sym (numbers_variable n)) (has_self n))))
 
-agrees_back : {many : ℕ} {g : Stage} {b : Blocks} {ks : List (List CaptureKind)} {s new : State} {r : Round} → Wider g b s b new → Grows g s new → Agrees many g b ks new r → Agrees many g b ks s r
+agrees_back : {many : List ℕ} {g : Stage} {b : Blocks} {ks : List (List CaptureKind)} {s new : State} {r : Round} → Wider g b s b new → Grows g s new → Agrees many g b ks new r → Agrees many g b ks s r
 agrees_back {many} {g} {b} {ks} {s} {new} {r} w k a = agrees_wider [] w k (subst (λ l. Agrees many g b l new r) (sym (append-nil ks)) a)
 
 -- ---- a variable of the function
@@ -81,7 +81,7 @@ outer_wider b s name t h x object o = record {
 number_is : (s : State) (h : Home) → length (s.frame.homes ++ h ∷ []) ≤ 1000000000 → frames.number s.frame ≡ length s.frame.homes
 number_is s h k = omega (arith, k, length-append s.frame.homes (h ∷ []))
 
-means_new : (many : ℕ) (b : Blocks) (s : State) (name : Name) (t : CType) (h : Home) (x : Stmt) (object : ℕ) → frames.number s.frame ≡ length s.frame.homes → IsObject t
+means_new : (many : List ℕ) (b : Blocks) (s : State) (name : Name) (t : CType) (h : Home) (x : Stmt) (object : ℕ) → frames.number s.frame ≡ length s.frame.homes → IsObject t
     → HasHome (b.function ++ numbers (s.frame.nodes ++ x ∷ [])) object (frames.number s.frame) h
     → Means many stage.Function b (with_home name t h x object s) name (meaning kind.Variable t (frames.number s.frame)) kind.Variable
 means_new many b s name t h x object e o k = (
@@ -90,7 +90,7 @@ means_new many b s name t h x object e o k = (
   o,
 )
 
-outer_did : {many : ℕ} (b : Blocks) {ks : List (List CaptureKind)} (s : State) (name : Name) (t : CType) (h : Home) (x : Stmt) (object : ℕ) (P : Round → Type 0) → IsObject t
+outer_did : {many : List ℕ} (b : Blocks) {ks : List (List CaptureKind)} (s : State) (name : Name) (t : CType) (h : Home) (x : Stmt) (object : ℕ) (P : Round → Type 0) → IsObject t
     → Grows stage.Function s (with_home name t h x object s)
     → (object ≤ 4194304 → s.frame.object ≤ object)
     → (object ≤ 4194304 → (s.frame.object % 4 == 0) ≡ true → (object % 4 == 0) ≡ true)
@@ -111,7 +111,7 @@ outer_did {many} b {ks} s name t h x object P o grows more aligned stands answer
     (λ r a. agrees_back (outer_wider b s name t h x object (more a.small.object)) grows a)
     (λ r a. answer r (known (small_before grows a.small)).object a)
 
-register_did : {many : ℕ} (b : Blocks) {ks : List (List CaptureKind)} (s : State) (name : Name) (t : CType) → IsObject t → Known many stage.Function b ks s
+register_did : {many : List ℕ} (b : Blocks) {ks : List (List CaptureKind)} (s : State) (name : Name) (t : CType) → IsObject t → Known many stage.Function b ks s
     → Did many stage.Function b ks s (with_home name t home.Register (st.Variable (frames.number s.frame)) s.frame.object s) (λ r. Good r.function (operand (place.Register (frames.number s.frame)) t))
 register_did b s name t o known =
     outer_did b s name t home.Register (st.Variable (frames.number s.frame)) s.frame.object (λ r. Good r.function (operand (place.Register (frames.number s.frame)) t)) o
@@ -119,7 +119,7 @@ register_did b s name t o known =
     (λ h. omega arith) (λ h k. k) (λ h k. has_variable (frames.number s.frame) b.function s.frame.nodes)
     (λ r k a. (a.visible (frames.number s.frame) (has_variable (frames.number s.frame) b.function s.frame.nodes), o.type)) known
 
-object_did : {many : ℕ} (b : Blocks) {ks : List (List CaptureKind)} (s : State) (name : Name) (t : CType) (n : ℕ) → IsObject t → Known many stage.Function b ks s
+object_did : {many : List ℕ} (b : Blocks) {ks : List (List CaptureKind)} (s : State) (name : Name) (t : CType) (n : ℕ) → IsObject t → Known many stage.Function b ks s
     → Did many stage.Function b ks s (with_home name t (home.Object s.frame.object) (st.Object s.frame.object n) (after s.frame.object n) s) (λ r. Good r.function (operand (place.Memory (ex.Frame s.frame.object)) t))
 object_did b s name t n o known =
     outer_did b s name t (home.Object s.frame.object) (st.Object s.frame.object n) (after s.frame.object n) (λ r. Good r.function (operand (place.Memory (ex.Frame s.frame.object)) t)) o
@@ -132,13 +132,13 @@ object_did b s name t n o known =
       record { address = nodes_use.frame s.frame.object; type = o.type },
     )) known
 
-variable_by : {many : ℕ} (b : Blocks) {ks : List (List CaptureKind)} (s : State) (name : Name) (t : CType) (c : Bool) → IsObject t → Known many stage.Function b ks s
+variable_by : {many : List ℕ} (b : Blocks) {ks : List (List CaptureKind)} (s : State) (name : Name) (t : CType) (c : Bool) → IsObject t → Known many stage.Function b ks s
     → Did many stage.Function b ks s (record s { scopes = declared s.scopes name (meaning kind.Variable t (frames.number s.frame)); frame = if c then frames.object_variable (frames.words t) s.frame else frames.register_variable s.frame })
     (λ r. Good r.function (operand (place_by (frames.number s.frame) (if c then home.Object s.frame.object else home.Register)) t))
 variable_by b s name t true o known = object_did b s name t (frames.words t) o known
 variable_by b s name t false o known = register_did b s name t o known
 
-variable_did : {many : ℕ} (b : Blocks) {ks : List (List CaptureKind)} (s : State) (name : Name) (t : CType) → IsObject t → Known many stage.Function b ks s
+variable_did : {many : List ℕ} (b : Blocks) {ks : List (List CaptureKind)} (s : State) (name : Name) (t : CType) → IsObject t → Known many stage.Function b ks s
     → Did many stage.Function b ks s (made_outer t (named name (meaning kind.Variable t (frames.number s.frame)) s)).1 (λ r. Good r.function (made_outer t (named name (meaning kind.Variable t (frames.number s.frame)) s)).0)
 unfolding variable
 variable_did b s name t o known = variable_by b s name t (frames.is_object t s.frame) o known
@@ -172,7 +172,7 @@ inner_index s h k = omega (arith, h, k)
 inner_past : (s : State) → length s.frame.homes ≤ 1000000000 → min (s.frame.inner + 1) 4294967295 ≤ 1000000000 → length s.frame.homes ≤ frames.inner_number s.frame
 inner_past s h k = omega (arith, h, k)
 
-means_inner : (many : ℕ) (b : Blocks) (s : State) (name : Name) (t : CType) → b.in_tick ≡ true → length s.frame.homes ≤ 1000000000 → min (s.frame.inner + 1) 4294967295 ≤ 1000000000 → IsObject t
+means_inner : (many : List ℕ) (b : Blocks) (s : State) (name : Name) (t : CType) → b.in_tick ≡ true → length s.frame.homes ≤ 1000000000 → min (s.frame.inner + 1) 4294967295 ≤ 1000000000 → IsObject t
     → Means many stage.Tick b (inner_state name t s) name (meaning kind.Variable t (frames.inner_number s.frame)) kind.Variable
 means_inner many b s name t e h k o = (
   subst (λ m. IsVariable stage.Tick b (inner_state name t s) (frames.inner_number s.frame) m) (sym (slice_get_past s.frame.homes (frames.inner_number s.frame) (inner_past s h k)))
@@ -180,7 +180,7 @@ means_inner many b s name t e h k o = (
   o,
 )
 
-inner_did : {many : ℕ} (b : Blocks) {ks : List (List CaptureKind)} (s : State) (name : Name) (t : CType) → b.in_tick ≡ true → IsObject t → Known many stage.Tick b ks s
+inner_did : {many : List ℕ} (b : Blocks) {ks : List (List CaptureKind)} (s : State) (name : Name) (t : CType) → b.in_tick ≡ true → IsObject t → Known many stage.Tick b ks s
     → Did many stage.Tick b ks s (inner_state name t s) (λ r. Good r.tick (operand (place.Register s.frame.inner) t))
 inner_did {many} b {ks} s name t e o known =
     let new : State = inner_state name t s in
@@ -199,7 +199,7 @@ inner_did {many} b {ks} s name t e o known =
 
 -- ---- the declaration
 
-pub local_did : {many : ℕ} (g : Stage) (b : Blocks) {ks : List (List CaptureKind)} (line : ℕ) (name : Name) (t : CType) (s new : State) (x : Operand) → InBlock g b → IsObject t → Known many g b ks s → local g line name t s ≡ Ok (x, new) → Did many g b ks s new (λ r. Good (at g r) x)
+pub local_did : {many : List ℕ} (g : Stage) (b : Blocks) {ks : List (List CaptureKind)} (line : ℕ) (name : Name) (t : CType) (s new : State) (x : Operand) → InBlock g b → IsObject t → Known many g b ks s → local g line name t s ≡ Ok (x, new) → Did many g b ks s new (λ r. Good (at g r) x)
 local_did {many} stage.Function b {ks} line name t s new x here o known e =
     let is = outer_gives line name t s new x e in
     subst (λ p. Did many stage.Function b ks s p.1 (λ r. Good r.function p.0)) is (variable_did b s name t o known)

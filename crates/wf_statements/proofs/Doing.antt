@@ -117,16 +117,16 @@ may_of stage.Function b h = tt
 may_of stage.Tick b h = tt
 may_of stage.Dollar b h = h
 
-pub node_did : {many : ℕ} {n : Node} {b : Blocks} {ks : List (List CaptureKind)} {s t : State} {o : Operand} → GoodNode many n → (a : Standing) → Known many a.stage b ks s → n.walk a.stage s ≡ Ok (o, t) → Did many a.stage b ks s t (λ r. Good (place_of a r) o)
+pub node_did : {many : List ℕ} {n : Node} {b : Blocks} {ks : List (List CaptureKind)} {s t : State} {o : Operand} → GoodNode many n → (a : Standing) → Known many a.stage b ks s → n.walk a.stage s ≡ Ok (o, t) → Did many a.stage b ks s t (λ r. Good (place_of a r) o)
 node_did {b = b} {ks = ks} {s = s} {t = t} {o = o} h a known e = did_placed a (λ r. Good (at a.stage r) o) (h.does a.stage b ks s t o known e)
 
-pub body_did : {many : ℕ} {i : Item} {b : Blocks} {ks : List (List CaptureKind)} {s new : State} {x : Stmt} → GoodItem many i → (a : Standing) → InBlock a.stage b → a.is_direct ≡ false → Known many a.stage b ks s → BodyRan i a s x new
+pub body_did : {many : List ℕ} {i : Item} {b : Blocks} {ks : List (List CaptureKind)} {s new : State} {x : Stmt} → GoodItem many i → (a : Standing) → InBlock a.stage b → a.is_direct ≡ false → Known many a.stage b ks s → BodyRan i a s x new
     → Did many a.stage b ks s new (λ r. Stood (place_of a r) x)
 body_did {b = b} {ks = ks} {s = s} {new = new} {x = x} h a here d known w =
     did_so (λ r. ItemsStand a (place_of a r) w.value) (λ r. Stood (place_of a r) x) ((h.walk a (may_of a.stage b here)).does b ks s new w.value here known w.walk)
     (λ ms r ag p. subst (λ y. Stood (place_of a r) y) w.is (body_stood a (place_of a r) w.value d p))
 
-pub body_grows : {many : ℕ} {i : Item} {s new : State} {x : Stmt} → GoodItem many i → (a : Standing) → MayStand a.stage → BodyRan i a s x new → Grows a.stage s new
+pub body_grows : {many : List ℕ} {i : Item} {s new : State} {x : Stmt} → GoodItem many i → (a : Standing) → MayStand a.stage → BodyRan i a s x new → Grows a.stage s new
 body_grows {s = s} {new = new} h a may w = (h.walk a may).grows s new w.value w.walk
 
 in_loop : (g : Stage) (a : Standing) (r : Round) → at g (placed_round (statements.looped a) r) ≡ looped (at g (placed_round a r))
@@ -138,12 +138,12 @@ loop_stood : (a : Standing) (r : Round) (x : Stmt) → Stood (place_of (statemen
 loop_stood a r x h = subst (λ z. Stood z x) (in_loop a.stage a r) h
 
 -- what stands at the end
-abbrev pub DidStand : ℕ → Standing → Blocks → List (List CaptureKind) → State → State → List Stmt → Type 0
+abbrev pub DidStand : List ℕ → Standing → Blocks → List (List CaptureKind) → State → State → List Stmt → Type 0
 DidStand many a b ks s new xs = Did many a.stage b ks s new (λ r. ItemsStand a (place_of a r) xs)
 
 -- ---- statements
 
-pub if_did : {many : ℕ} (line : ℕ) (c : Node) (i : Item) (a : Standing) (b : Blocks) (ks : List (List CaptureKind)) (s new : State) (xs : List Stmt) → GoodNode many c → GoodItem many i → InBlock a.stage b → Known many a.stage b ks s → IfRan line c i a s xs new → DidStand many a b ks s new xs
+pub if_did : {many : List ℕ} (line : ℕ) (c : Node) (i : Item) (a : Standing) (b : Blocks) (ks : List (List CaptureKind)) (s new : State) (xs : List Stmt) → GoodNode many c → GoodItem many i → InBlock a.stage b → Known many a.stage b ks s → IfRan line c i a s xs new → DidStand many a b ks s new xs
 if_did line c i a b ks s new xs hc hi here known w =
     let k = hc.keeps a.stage s w.between w.operand w.walk in
     let d = node_did hc a known w.walk in
@@ -153,7 +153,7 @@ if_did line c i a b ks s new xs hc hi here known w =
     (λ ms r ag p. subst (λ ys. ItemsStand a (place_of a r) ys) w.is
     (stood_one a (place_of a r) (st.If w.test w.node) (if_stood (place_of a r) w.test w.node (condition_test (place_of a r) line w.operand w.test p.0 w.gives) p.1)))
 
-pub while_did : {many : ℕ} (line : ℕ) (c : Node) (i : Item) (a : Standing) (b : Blocks) (ks : List (List CaptureKind)) (s new : State) (xs : List Stmt) → GoodNode many c → GoodItem many i → InBlock a.stage b → Known many a.stage b ks s → WhileRan line c i a s xs new → DidStand many a b ks s new xs
+pub while_did : {many : List ℕ} (line : ℕ) (c : Node) (i : Item) (a : Standing) (b : Blocks) (ks : List (List CaptureKind)) (s new : State) (xs : List Stmt) → GoodNode many c → GoodItem many i → InBlock a.stage b → Known many a.stage b ks s → WhileRan line c i a s xs new → DidStand many a b ks s new xs
 while_did line c i a b ks s new xs hc hi here known w =
     let k = hc.keeps a.stage s w.between w.operand w.walk in
     let d = node_did hc a known w.walk in
@@ -163,7 +163,7 @@ while_did line c i a b ks s new xs hc hi here known w =
     (λ ms r ag p. subst (λ ys. ItemsStand a (place_of a r) ys) w.is
     (stood_one a (place_of a r) (st.While w.test w.node) (while_stood (place_of a r) w.test w.node (condition_test (place_of a r) line w.operand w.test p.0 w.gives) (loop_stood a r w.node p.1))))
 
-pub do_did : {many : ℕ} (line : ℕ) (i : Item) (c : Node) (a : Standing) (b : Blocks) (ks : List (List CaptureKind)) (s new : State) (xs : List Stmt) → GoodNode many c → GoodItem many i → InBlock a.stage b → Known many a.stage b ks s → DoRan line i c a s xs new → DidStand many a b ks s new xs
+pub do_did : {many : List ℕ} (line : ℕ) (i : Item) (c : Node) (a : Standing) (b : Blocks) (ks : List (List CaptureKind)) (s new : State) (xs : List Stmt) → GoodNode many c → GoodItem many i → InBlock a.stage b → Known many a.stage b ks s → DoRan line i c a s xs new → DidStand many a b ks s new xs
 do_did line i c a b ks s new xs hc hi here known w =
     let k = hc.keeps a.stage w.between new w.operand w.walk in
     let d = body_did hi (statements.looped a) here refl known w.body in
@@ -173,7 +173,7 @@ do_did line i c a b ks s new xs hc hi here known w =
     (λ ms r ag p. subst (λ ys. ItemsStand a (place_of a r) ys) w.is
     (stood_one a (place_of a r) (st.Do w.node w.test) (do_stood (place_of a r) w.node w.test (loop_stood a r w.node p.0) (condition_test (place_of a r) line w.operand w.test p.1 w.gives))))
 
-pub else_did : {many : ℕ} (line : ℕ) (c : Node) (i j : Item) (a : Standing) (b : Blocks) (ks : List (List CaptureKind)) (s new : State) (xs : List Stmt) → GoodNode many c → GoodItem many i → GoodItem many j → InBlock a.stage b → Known many a.stage b ks s → ElseRan line c i j a s xs new → DidStand many a b ks s new xs
+pub else_did : {many : List ℕ} (line : ℕ) (c : Node) (i j : Item) (a : Standing) (b : Blocks) (ks : List (List CaptureKind)) (s new : State) (xs : List Stmt) → GoodNode many c → GoodItem many i → GoodItem many j → InBlock a.stage b → Known many a.stage b ks s → ElseRan line c i j a s xs new → DidStand many a b ks s new xs
 else_did line c i j a b ks s new xs hc hi hj here known w =
     let may = may_of a.stage b here in
     let k = keeps_grows (hc.keeps a.stage s w.first w.operand w.walk) in
@@ -188,12 +188,12 @@ else_did line c i j a b ks s new xs hc hi hj here known w =
     (λ ms r ag p. subst (λ ys. ItemsStand a (place_of a r) ys) w.is
     (stood_one a (place_of a r) (st.IfElse w.test w.one w.two) (if_else_stood (place_of a r) w.test w.one w.two (condition_test (place_of a r) line w.operand w.test p.0.0 w.gives) p.0.1 p.1)))
 
-optional_did : (many : ℕ) (c : Option Node) (a : Standing) (b : Blocks) (ks : List (List CaptureKind)) (s t : State) (o : Option Operand) → GoodOptional many c → Known many a.stage b ks s → OptionalRan c a.stage s o t → Did many a.stage b ks s t (λ r. GoodOption (place_of a r) o)
+optional_did : (many : List ℕ) (c : Option Node) (a : Standing) (b : Blocks) (ks : List (List CaptureKind)) (s t : State) (o : Option Operand) → GoodOptional many c → Known many a.stage b ks s → OptionalRan c a.stage s o t → Did many a.stage b ks s t (λ r. GoodOption (place_of a r) o)
 optional_did many None a b ks s t o h known w = plain_did_by (λ r. GoodOption (place_of a r) o) (plain_same a.stage w.1) known (λ r ag. subst (λ z. GoodOption (place_of a r) z) (sym w.0) tt)
 optional_did many (Some n) a b ks s t o h known w =
     did_so (λ r. Good (place_of a r) w.value) (λ r. GoodOption (place_of a r) o) (node_did h a known w.walk) (λ ms r ag p. subst (λ z. GoodOption (place_of a r) z) w.is p)
 
-pub for_did : {many : ℕ} (line : ℕ) (c step : Option Node) (i : Item) (a : Standing) (b : Blocks) (ks : List (List CaptureKind)) (s new : State) (x : Stmt) → GoodOptional many c → GoodOptional many step → GoodItem many i → InBlock a.stage b → Known many a.stage b ks s → ForRan line c step i a s x new
+pub for_did : {many : List ℕ} (line : ℕ) (c step : Option Node) (i : Item) (a : Standing) (b : Blocks) (ks : List (List CaptureKind)) (s new : State) (x : Stmt) → GoodOptional many c → GoodOptional many step → GoodItem many i → InBlock a.stage b → Known many a.stage b ks s → ForRan line c step i a s x new
     → Did many a.stage b ks s new (λ r. Stood (place_of a r) x)
 for_did {many} line c step i a b ks s new x hc hs hi here known w =
     let k = keeps_grows (optional_keeps many c a.stage s w.first w.test hc w.tested) in
@@ -208,26 +208,26 @@ for_did {many} line c step i a b ks s new x hc hs hi here known w =
     (λ ms r ag p. subst (λ y. Stood (place_of a r) y) w.is
     (for_stood (place_of a r) w.condition w.next w.node (for_test (place_of a r) line w.test w.condition p.0.0 w.gives) (option_effect (place_of a r) w.next p.0.1) (loop_stood a r w.node p.1)))
 
-pub expr_did : {many : ℕ} (n : Node) (a : Standing) (b : Blocks) (ks : List (List CaptureKind)) (s new : State) (xs : List Stmt) → GoodNode many n → Known many a.stage b ks s → rules.alone n a s ≡ Ok (xs, new) → DidStand many a b ks s new xs
+pub expr_did : {many : List ℕ} (n : Node) (a : Standing) (b : Blocks) (ks : List (List CaptureKind)) (s new : State) (xs : List Stmt) → GoodNode many n → Known many a.stage b ks s → rules.alone n a s ≡ Ok (xs, new) → DidStand many a b ks s new xs
 expr_did n a b ks s new xs h known e =
     let w = followed (n.walk a.stage) statements.alone s xs new e in
     did_so (λ r. Good (place_of a r) w.value) (λ r. ItemsStand a (place_of a r) xs) (node_did h a known w.walk)
     (λ ms r ag p. subst (λ ys. ItemsStand a (place_of a r) ys) w.is (stood_one a (place_of a r) (st.Eval (effect w.value)) (expr_stood (place_of a r) (effect w.value) (good_effect (place_of a r) w.value p))))
 
-pub answer_did : {many : ℕ} (line : ℕ) (n : Node) (a : Standing) (b : Blocks) (ks : List (List CaptureKind)) (s new : State) (xs : List Stmt) → GoodNode many n → Known many a.stage b ks s → AnswerRan line n a s xs new → DidStand many a b ks s new xs
+pub answer_did : {many : List ℕ} (line : ℕ) (n : Node) (a : Standing) (b : Blocks) (ks : List (List CaptureKind)) (s new : State) (xs : List Stmt) → GoodNode many n → Known many a.stage b ks s → AnswerRan line n a s xs new → DidStand many a b ks s new xs
 answer_did line n a b ks s new xs h known w =
     did_so (λ r. Good (place_of a r) w.operand) (λ r. ItemsStand a (place_of a r) xs) (node_did h a known w.walk)
     (λ ms r ag p. subst (λ ys. ItemsStand a (place_of a r) ys) w.is
     (stood_one a (place_of a r) (st.ReturnValue w.code) (answer_stood (place_of a r) w.code (returned_test (place_of a r) line a.stage w.operand new w.code p w.gives))))
 
 -- where nothing is changed
-pub same_did : {many : ℕ} (a : Standing) (b : Blocks) (ks : List (List CaptureKind)) (s new : State) (xs : List Stmt) (x : Stmt) → Known many a.stage b ks s → s ≡ new → x ∷ [] ≡ xs → ((r : Round) → Stood (place_of a r) x) → DidStand many a b ks s new xs
+pub same_did : {many : List ℕ} (a : Standing) (b : Blocks) (ks : List (List CaptureKind)) (s new : State) (xs : List Stmt) (x : Stmt) → Known many a.stage b ks s → s ≡ new → x ∷ [] ≡ xs → ((r : Round) → Stood (place_of a r) x) → DidStand many a b ks s new xs
 same_did a b ks s new xs x known e is h =
     plain_did_by (λ r. ItemsStand a (place_of a r) xs) (plain_same a.stage e) known (λ r ag. subst (λ ys. ItemsStand a (place_of a r) ys) is (stood_one a (place_of a r) x (h r)))
 
 -- ---- lists
 
-pub each_did : (many : ℕ) (items : List Item) (a : Standing) (b : Blocks) (ks : List (List CaptureKind)) (s new : State) (xs : List Stmt) → EachPart (GoodItem many) items → InBlock a.stage b → Known many a.stage b ks s → each items a s ≡ Ok (xs, new) → DidStand many a b ks s new xs
+pub each_did : (many : List ℕ) (items : List Item) (a : Standing) (b : Blocks) (ks : List (List CaptureKind)) (s new : State) (xs : List Stmt) → EachPart (GoodItem many) items → InBlock a.stage b → Known many a.stage b ks s → each items a s ≡ Ok (xs, new) → DidStand many a b ks s new xs
 each_did many [] a b ks s new xs h here known e =
     plain_did_by (λ r. ItemsStand a (place_of a r) xs) (plain_same a.stage (pure_same [] xs s new e)) known
     (λ r ag. subst (λ ys. ItemsStand a (place_of a r) ys) (pure_value [] xs s new e) tt)

@@ -51,7 +51,7 @@ small_entered stage.Function s x = record { homes = x.homes; object = x.object; 
 small_entered stage.Tick s x = record { homes = x.homes; object = x.object; ticks = x.ticks; tick = record { inner = x.tick.inner; captures = x.tick.captures } }
 small_entered stage.Dollar s x = record { homes = x.homes; object = x.object; ticks = x.ticks; tick = record { inner = x.tick.inner; captures = x.tick.captures } }
 
-pub known_inside : (many : ℕ) (g : Stage) (b : Blocks) (ks : List (List CaptureKind)) (s : State) → Known many g b ks s → Known many g (entered g b s) ks (inside s)
+pub known_inside : (many : List ℕ) (g : Stage) (b : Blocks) (ks : List (List CaptureKind)) (s : State) → Known many g b ks s → Known many g (entered g b s) ks (inside s)
 known_inside many g b ks s known small =
     let k = known (small_entered g s small) in
     record {
@@ -88,7 +88,7 @@ back_wider g b s t may p small = record {
   functions = p.tables.functions;
 }
 
-pub known_back : (many : ℕ) (g : Stage) (b : Blocks) (ks ms : List (List CaptureKind)) (s t : State) → MayStand g → Grows g (inside s) t → Known many g b ks s → Known many g (entered g b s) ms t → Known many g b ms (back s t)
+pub known_back : (many : List ℕ) (g : Stage) (b : Blocks) (ks ms : List (List CaptureKind)) (s t : State) → MayStand g → Grows g (inside s) t → Known many g b ks s → Known many g (entered g b s) ms t → Known many g b ms (back s t)
 known_back many g b ks ms s t may p known after small =
     let in_block = small_inside g s t small in
     let k = known (small_before (grows_back g s t p) small) in
@@ -130,14 +130,13 @@ object_in stage.Function vs n r h = h
 object_in stage.Tick vs n r h = h
 object_in stage.Dollar vs n r h = h
 
-pub agrees_in : {many : ℕ} {g : Stage} {b : Blocks} {ks : List (List CaptureKind)} (s t : State) {r : Round} → Agrees many g b ks (back s t) r → Agrees many g (entered g b s) ks t (in_block g t.frame.nodes r)
+pub agrees_in : {many : List ℕ} {g : Stage} {b : Blocks} {ks : List (List CaptureKind)} (s t : State) {r : Round} → Agrees many g b ks (back s t) r → Agrees many g (entered g b s) ks t (in_block g t.frame.nodes r)
 agrees_in {g = stage.Function} {b = b} s t {r = r} a = record {
   small = small_inside stage.Function s t a.small;
   visible = visible_in stage.Function b s t r a.visible;
   object = a.object;
   is_function = a.is_function;
   functions = a.functions;
-  prototypes = a.prototypes;
   ticks = a.ticks;
   in_tick = tt;
 }
@@ -147,7 +146,6 @@ agrees_in {g = stage.Tick} {b = b} s t {r = r} a = record {
   object = a.object;
   is_function = a.is_function;
   functions = a.functions;
-  prototypes = a.prototypes;
   ticks = a.ticks;
   in_tick = tick_in stage.Tick b s t r a.in_tick;
 }
@@ -157,7 +155,6 @@ agrees_in {g = stage.Dollar} {b = b} s t {r = r} a = record {
   object = a.object;
   is_function = a.is_function;
   functions = a.functions;
-  prototypes = a.prototypes;
   ticks = a.ticks;
   in_tick = tick_in stage.Dollar b s t r a.in_tick;
 }
@@ -180,7 +177,7 @@ captures_out stage.Tick s t vs r h = h
 captures_out stage.Dollar s t vs r h = tt
 
 -- what the steps in a block did, seen from outside
-pub did_block : {many : ℕ} {g : Stage} {b : Blocks} {ks : List (List CaptureKind)} (s t : State) (Q : Round → Type 0) → MayStand g → Grows g (inside s) t → Known many g b ks s → Did many g (entered g b s) ks (inside s) t Q
+pub did_block : {many : List ℕ} {g : Stage} {b : Blocks} {ks : List (List CaptureKind)} (s t : State) (Q : Round → Type 0) → MayStand g → Grows g (inside s) t → Known many g b ks s → Did many g (entered g b s) ks (inside s) t Q
     → Did many g b ks s (back s t) (λ r. Q (in_block g t.frame.nodes r))
 did_block {many} {g} {b} {ks} s t Q may p known d = record {
   more = d.more;

@@ -24,7 +24,7 @@ captures_more stage.Tick s t new r h k p q =
 captures_more stage.Dollar s t new r h k p q = tt
 
 -- what two steps did: the first one's answer stands as well
-pub did_both : {many : ℕ} {g : Stage} {b : Blocks} {ks : List (List CaptureKind)} {s t new : State} (P Q : Round → Type 0) → Grows g s t → Grows g t new → (d : Did many g b ks s t P) → Did many g b (ks ++ d.more) t new Q → Did many g b ks s new (λ r. P r × Q r)
+pub did_both : {many : List ℕ} {g : Stage} {b : Blocks} {ks : List (List CaptureKind)} {s t new : State} (P Q : Round → Type 0) → Grows g s t → Grows g t new → (d : Did many g b ks s t P) → Did many g b (ks ++ d.more) t new Q → Did many g b ks s new (λ r. P r × Q r)
 did_both {many} {g} {b} {ks} {s} {t} {new} P Q h k d e =
     let joined = append_assoc ks d.more e.more in
     let back = λ (r : Round) (a : Agrees many g b (ks ++ (d.more ++ e.more)) new r). subst (λ l. Agrees many g b l new r) (sym joined) a in
@@ -42,7 +42,7 @@ did_both {many} {g} {b} {ks} {s} {t} {new} P Q h k d e =
     }
 
 -- what follows of what stands
-pub did_so : {many : ℕ} {g : Stage} {b : Blocks} {ks : List (List CaptureKind)} {s new : State} (P Q : Round → Type 0) → Did many g b ks s new P → ((ms : List (List CaptureKind)) (r : Round) → Agrees many g b ms new r → P r → Q r) → Did many g b ks s new Q
+pub did_so : {many : List ℕ} {g : Stage} {b : Blocks} {ks : List (List CaptureKind)} {s new : State} (P Q : Round → Type 0) → Did many g b ks s new P → ((ms : List (List CaptureKind)) (r : Round) → Agrees many g b ms new r → P r → Q r) → Did many g b ks s new Q
 did_so {ks = ks} P Q d f = record {
   more = d.more;
   known = d.known;
@@ -59,19 +59,18 @@ tick_placed stage.Function b s a r x = tt
 tick_placed stage.Tick b s a r x = (x.0, x.1)
 tick_placed stage.Dollar b s a r x = (x.0, x.1)
 
-pub agrees_placed : {many : ℕ} {g : Stage} {b : Blocks} {ks : List (List CaptureKind)} {s : State} (a : Standing) {r : Round} → Agrees many g b ks s r → Agrees many g b ks s (placed_round a r)
+pub agrees_placed : {many : List ℕ} {g : Stage} {b : Blocks} {ks : List (List CaptureKind)} {s : State} (a : Standing) {r : Round} → Agrees many g b ks s r → Agrees many g b ks s (placed_round a r)
 agrees_placed {many} {g} {b} {ks} {s} a {r} x = record {
   small = x.small;
   visible = x.visible;
   object = x.object;
   is_function = x.is_function;
   functions = x.functions;
-  prototypes = x.prototypes;
   ticks = x.ticks;
   in_tick = tick_placed g b s a r x.in_tick;
 }
 
-pub did_placed : {many : ℕ} {g : Stage} {b : Blocks} {ks : List (List CaptureKind)} {s new : State} (a : Standing) (P : Round → Type 0) → Did many g b ks s new P → Did many g b ks s new (λ r. P (placed_round a r))
+pub did_placed : {many : List ℕ} {g : Stage} {b : Blocks} {ks : List (List CaptureKind)} {s new : State} (a : Standing) (P : Round → Type 0) → Did many g b ks s new P → Did many g b ks s new (λ r. P (placed_round a r))
 did_placed a P d = record {
   more = d.more;
   known = d.known;
@@ -92,7 +91,7 @@ no_captures stage.Tick s new r e = λ more. subst (λ es. EachCapture r.function
 no_captures stage.Dollar s new r e = tt
 
 -- a step that makes no ticks and captures nothing
-pub did_only : {many : ℕ} {g : Stage} {b : Blocks} {ks : List (List CaptureKind)} {s new : State} (P : Round → Type 0) → new.ticks.all ≡ s.ticks.all → new.ticks.captures ≡ s.ticks.captures → Known many g b ks new
+pub did_only : {many : List ℕ} {g : Stage} {b : Blocks} {ks : List (List CaptureKind)} {s new : State} (P : Round → Type 0) → new.ticks.all ≡ s.ticks.all → new.ticks.captures ≡ s.ticks.captures → Known many g b ks new
     → ((r : Round) → Agrees many g b ks new r → Agrees many g b ks s r) → ((r : Round) → Agrees many g b ks new r → P r) → Did many g b ks s new P
 did_only {many} {g} {b} {ks} {s} {new} P all captures known back stands =
     let same = append-nil ks in

@@ -52,7 +52,7 @@ round_in stage.Function may vs a r = refl
 round_in stage.Tick may vs a r = refl
 round_in stage.Dollar may vs a r = cc
 
-pub parts_did : {many : ℕ} (a : Standing) (b : Blocks) {ks : List (List CaptureKind)} (s t : State) (xs : List Stmt) → MayStand a.stage → Made a.stage (inside s) t xs → Known many a.stage b ks s
+pub parts_did : {many : List ℕ} (a : Standing) (b : Blocks) {ks : List (List CaptureKind)} (s t : State) (xs : List Stmt) → MayStand a.stage → Made a.stage (inside s) t xs → Known many a.stage b ks s
     → Did many a.stage (entered a.stage b s) ks (inside s) t (λ r. ItemsStand (statements.switched a) (place_of (statements.switched a) r) xs) → Did many a.stage b ks s (back s t) (λ r. Parts (place_of a r) t.frame.nodes xs)
 parts_did {many} a b {ks} s t xs may m known d =
     did_so (λ r. ItemsStand (statements.switched a) (place_of (statements.switched a) (in_block a.stage t.frame.nodes r)) xs) (λ r. Parts (place_of a r) t.frame.nodes xs)
@@ -79,7 +79,7 @@ captures_from stage.Function l s t r h = tt
 captures_from stage.Tick l s t r h = h
 captures_from stage.Dollar l s t r h = tt
 
-did_from : {many : ℕ} {g : Stage} {b : Blocks} {ks : List (List CaptureKind)} (l : Labels) (s t : State) (P : Round → Type 0) → Did many g b ks (with_labels l s) t P → Did many g b ks s t P
+did_from : {many : List ℕ} {g : Stage} {b : Blocks} {ks : List (List CaptureKind)} (l : Labels) (s t : State) (P : Round → Type 0) → Did many g b ks (with_labels l s) t P → Did many g b ks s t P
 did_from {g = g} l s t P d = record {
   more = d.more;
   known = d.known;
@@ -89,7 +89,7 @@ did_from {g = g} l s t P d = record {
   stands = d.stands;
 }
 
-pub switch_did : {many : ℕ} (line : ℕ) (c : Node) (items : List Item) (a : Standing) (b : Blocks) (ks : List (List CaptureKind)) (s new : State) (xs : List Stmt) → GoodNode many c → EachPart (GoodItem many) items → InBlock a.stage b → Known many a.stage b ks s → SwitchRan line c items a s xs new → DidStand many a b ks s new xs
+pub switch_did : {many : List ℕ} (line : ℕ) (c : Node) (items : List Item) (a : Standing) (b : Blocks) (ks : List (List CaptureKind)) (s new : State) (xs : List Stmt) → GoodNode many c → EachPart (GoodItem many) items → InBlock a.stage b → Known many a.stage b ks s → SwitchRan line c items a s xs new → DidStand many a b ks s new xs
 switch_did {many} line c items a b ks s new xs hc h here known w =
     let may = may_of a.stage b here in
     let k = hc.keeps a.stage s w.first w.operand w.walk in
@@ -117,14 +117,14 @@ switch_did {many} line c items a b ks s new xs hc h here known w =
 
 -- ---- labels
 
-pub case_did : {many : ℕ} (n : Node) (a : Standing) (b : Blocks) (ks : List (List CaptureKind)) (s new : State) (xs : List Stmt) → GoodNode many n → Known many a.stage b ks s → CaseRan n a s xs new → DidStand many a b ks s new xs
+pub case_did : {many : List ℕ} (n : Node) (a : Standing) (b : Blocks) (ks : List (List CaptureKind)) (s new : State) (xs : List Stmt) → GoodNode many n → Known many a.stage b ks s → CaseRan n a s xs new → DidStand many a b ks s new xs
 case_did {many} n a b ks s new xs h known w =
     let l = w.label in
     let d = did_so (λ r. Good (place_of a r) w.operand) (λ r. ItemsStand a (place_of a r) xs) (node_did h a known w.walk)
     (λ ms r ag p. subst (λ zs. ItemsStand a (place_of a r) zs) l.is (case_item a (place_of a r) l.value w.direct, tt)) in
     subst (λ z. DidStand many a b ks s z xs) l.state (did_relabelled (with_value l.value w.between).labels s w.between (λ r. ItemsStand a (place_of a r) xs) d)
 
-pub default_did : {many : ℕ} (a : Standing) (b : Blocks) (ks : List (List CaptureKind)) (s new : State) (xs : List Stmt) → Known many a.stage b ks s → DefaultRan a s xs new → DidStand many a b ks s new xs
+pub default_did : {many : List ℕ} (a : Standing) (b : Blocks) (ks : List (List CaptureKind)) (s new : State) (xs : List Stmt) → Known many a.stage b ks s → DefaultRan a s xs new → DidStand many a b ks s new xs
 default_did {many} a b ks s new xs known w =
     let d = plain_did_by (λ r. ItemsStand a (place_of a r) xs) (plain_same a.stage refl) known (λ r ag. subst (λ zs. ItemsStand a (place_of a r) zs) w.is (default_item a (place_of a r) w.direct, tt)) in
     subst (λ z. DidStand many a b ks s z xs) w.state (did_relabelled (with_default s).labels s s (λ r. ItemsStand a (place_of a r) xs) d)

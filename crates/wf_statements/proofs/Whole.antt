@@ -48,7 +48,7 @@ pub record BlockMakes (g : Stage) (s new : State) (x : Stmt) : Type 0 where
   pub made : Made g s new (x ∷ [])
   pub labels : new.labels ≡ s.labels
 
-pub block_makes : (many : ℕ) (items : List Item) (a : Standing) → MayStand a.stage → a.is_direct ≡ false → EachPart (GoodItem many) items → (s new : State) (x : Stmt) → block items a s ≡ Ok (x, new) → BlockMakes a.stage s new x
+pub block_makes : (many : List ℕ) (items : List Item) (a : Standing) → MayStand a.stage → a.is_direct ≡ false → EachPart (GoodItem many) items → (s new : State) (x : Stmt) → block items a s ≡ Ok (x, new) → BlockMakes a.stage s new x
 block_makes many items a may d h s new x e =
     let w = enclosed (each items a) blocked s x new e in
     let m = each_makes many items a may h (inside s) w.state w.value w.walk in
@@ -105,7 +105,7 @@ relabelled g l m s t xs p = record {
 }
 
 -- behind the value of the switch
-pub switch_made : (many : ℕ) (line : ℕ) (c : Node) (items : List Item) (a : Standing) → MayStand a.stage → EachPart (GoodItem many) items → (s new : State) (xs : List Stmt) → (w : SwitchRan line c items a s xs new) → Made a.stage w.first new (st.Switch w.test w.body.state.frame.nodes w.body.value ∷ [])
+pub switch_made : (many : List ℕ) (line : ℕ) (c : Node) (items : List Item) (a : Standing) → MayStand a.stage → EachPart (GoodItem many) items → (s new : State) (xs : List Stmt) → (w : SwitchRan line c items a s xs new) → Made a.stage w.first new (st.Switch w.test w.body.state.frame.nodes w.body.value ∷ [])
 switch_made many line c items a may h s new xs w =
     let m = each_makes many items (statements.switched a) may h (inside (with_labels labels.new w.first)) w.body.state w.body.value w.body.walk in
     let x : Stmt = st.Switch w.test w.body.state.frame.nodes w.body.value in
@@ -113,7 +113,7 @@ switch_made many line c items a may h s new xs w =
     enclosed_made x w.body (switch_counts w.test w.body.state.frame.nodes w.body.value) m.made in
     subst (λ z. Made a.stage w.first z (x ∷ [])) w.state (relabelled a.stage labels.new w.first.labels w.first w.last (x ∷ []) in_switch)
 
-pub switch_makes : {many : ℕ} (line : ℕ) (c : Node) (items : List Item) (a : Standing) → MayStand a.stage → GoodNode many c → EachPart (GoodItem many) items → (s new : State) (xs : List Stmt) → SwitchRan line c items a s xs new → Makes a.stage a.is_direct s new xs
+pub switch_makes : {many : List ℕ} (line : ℕ) (c : Node) (items : List Item) (a : Standing) → MayStand a.stage → GoodNode many c → EachPart (GoodItem many) items → (s new : State) (xs : List Stmt) → SwitchRan line c items a s xs new → Makes a.stage a.is_direct s new xs
 switch_makes {many} line c items a may hc h s new xs w =
     let k = hc.keeps a.stage s w.first w.operand w.walk in
     let x : Stmt = st.Switch w.test w.body.state.frame.nodes w.body.value in
@@ -126,13 +126,13 @@ switch_makes {many} line c items a may hc h s new xs w =
 
 -- ---- statements without bodies
 
-pub expr_makes : {many : ℕ} (n : Node) (a : Standing) → GoodNode many n → (s new : State) (xs : List Stmt) → rules.alone n a s ≡ Ok (xs, new) → Makes a.stage a.is_direct s new xs
+pub expr_makes : {many : List ℕ} (n : Node) (a : Standing) → GoodNode many n → (s new : State) (xs : List Stmt) → rules.alone n a s ≡ Ok (xs, new) → Makes a.stage a.is_direct s new xs
 expr_makes n a h s new xs e =
     let w = followed (n.walk a.stage) statements.alone s xs new e in
     let k = h.keeps a.stage s new w.value w.walk in
     one_node a.is_direct xs (st.Eval (effect w.value)) w.is (expr_counts (effect w.value)) (expr_unlabelled (effect w.value)) (made_kept k) k.tables.labels
 
-pub answer_makes : {many : ℕ} (line : ℕ) (n : Node) (a : Standing) → GoodNode many n → (s new : State) (xs : List Stmt) → AnswerRan line n a s xs new → Makes a.stage a.is_direct s new xs
+pub answer_makes : {many : List ℕ} (line : ℕ) (n : Node) (a : Standing) → GoodNode many n → (s new : State) (xs : List Stmt) → AnswerRan line n a s xs new → Makes a.stage a.is_direct s new xs
 answer_makes line n a h s new xs w =
     let k = h.keeps a.stage s new w.operand w.walk in
     one_node a.is_direct xs (st.ReturnValue w.code) w.is (answer_counts w.code) (answer_unlabelled w.code) (made_kept k) k.tables.labels
@@ -191,7 +191,7 @@ default_labels s h = record {
   kept = λ d. cc;
 }
 
-pub case_makes : {many : ℕ} (n : Node) (a : Standing) → GoodNode many n → (s new : State) (xs : List Stmt) → CaseRan n a s xs new → Makes a.stage a.is_direct s new xs
+pub case_makes : {many : List ℕ} (n : Node) (a : Standing) → GoodNode many n → (s new : State) (xs : List Stmt) → CaseRan n a s xs new → Makes a.stage a.is_direct s new xs
 case_makes n a h s new xs w =
     let k = h.keeps a.stage s w.between w.operand w.walk in
     let l = w.label in
@@ -214,7 +214,7 @@ default_makes a s new xs w =
 
 -- ---- a `for` with a first part
 
-pub for_block_makes : (many : ℕ) (line : ℕ) (first : Item) (c step : Option Node) (i : Item) (a : Standing) → MayStand a.stage → GoodItem many first → GoodOptional many c → GoodOptional many step → GoodItem many i
+pub for_block_makes : (many : List ℕ) (line : ℕ) (first : Item) (c step : Option Node) (i : Item) (a : Standing) → MayStand a.stage → GoodItem many first → GoodOptional many c → GoodOptional many step → GoodItem many i
     → (s new : State) (xs : List Stmt) → rules.for_block line first c step i a s ≡ Ok (xs, new) → Makes a.stage a.is_direct s new xs
 for_block_makes many line first c step i a may hf hc hs hi s new xs e =
     let w = enclosed (rules.for_items line first c step i a) (λ ys vs. statements.one (st.Block vs ys)) s xs new e in

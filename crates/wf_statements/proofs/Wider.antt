@@ -8,7 +8,6 @@ use Rattle.c_types.specs.Scopes.{Name, Scopes}
 use Rattle.typed_tree.specs.declared.expression.CaptureKind.{CaptureKind}
 use Rattle.check_tables.specs.declared.frame.Home.{Home}
 use Rattle.check_tables.specs.declared.frame.Home.TheVariants as home
-use Rattle.check_tables.specs.declared.functions.Prototype.{Prototype}
 use Rattle.check_tables.specs.Frames.{count}
 use Rattle.check_tables.specs.Functions.{number}
 use Rattle.check_env.specs.declared.state.Stage.{Stage}
@@ -16,7 +15,7 @@ use Rattle.check_env.specs.declared.state.Stage.TheVariants as stage
 use Rattle.check_env.specs.declared.state.State.{State}
 use Rattle.wellformed.proofs.Bools.{first_true, second_true, and_true, le_less, le_more}
 use Rattle.wf_invariant.specs.Kept.{GrowsStage, Grows}
-use Rattle.wf_invariant.specs.Known.{Blocks, of_function, of_tick, has, HasHome, IsVariable, IsParameter, IsFunction, is_number, Means, EachScope}
+use Rattle.wf_invariant.specs.Known.{Blocks, of_function, of_tick, has, HasHome, IsVariable, IsParameter, Means, EachScope}
 use Rattle.wf_invariant.specs.Steps.{Round, AgreesTick, Agrees}
 use Rattle.wf_types.proofs.Fronts.{starts_front}
 use Rattle.wf_types.proofs.Knowing.{each_scope, captures_back}
@@ -49,18 +48,18 @@ parameter_wider : {g : Stage} {b : Blocks} {s : State} {c : Blocks} {new : State
 parameter_wider w n None e x = cc
 parameter_wider {g} {b} {s} {c} {new} w n (Some h) e x = subst (λ k. IsParameter g c new n k) (sym (w.homes n h e)) (home_wider w n h x)
 
-means_wider : (many : ℕ) {g : Stage} {b : Blocks} {s : State} {c : Blocks} {new : State} → Wider g b s c new → (name : Name) (m : Meaning) (what : MeaningKind) → Means many g b s name m what → Means many g c new name m what
+means_wider : (many : List ℕ) {g : Stage} {b : Blocks} {s : State} {c : Blocks} {new : State} → Wider g b s c new → (name : Name) (m : Meaning) (what : MeaningKind) → Means many g b s name m what → Means many g c new name m what
 means_wider many {s = s} w name m kind.Variable x = (variable_wider w m.index (slice_get s.frame.homes m.index) refl x.0, x.1)
 means_wider many {s = s} w name m kind.Parameter x = (parameter_wider w m.index (slice_get s.frame.homes m.index) refl x.0, x.1)
 means_wider many w name m kind.Global x = x
-means_wider many w name m kind.Function x = (subst (λ f. IsFunction many f name m.index) (sym w.functions) x.0, x.1)
+means_wider many w name m kind.Function x = x
 means_wider many w name m kind.Library x = x
 
 -- what the names of these scopes mean
-abbrev pub AllMean : ℕ → Stage → Blocks → State → Scopes → Type 0
+abbrev pub AllMean : List ℕ → Stage → Blocks → State → Scopes → Type 0
 AllMean many g b s ss = EachScope (λ name m. Means many g b s name m m.kind) ss
 
-pub names_wider : (many : ℕ) {g : Stage} {b : Blocks} {s : State} {c : Blocks} {new : State} → Wider g b s c new → (ss : Scopes) → AllMean many g b s ss → AllMean many g c new ss
+pub names_wider : (many : List ℕ) {g : Stage} {b : Blocks} {s : State} {c : Blocks} {new : State} → Wider g b s c new → (ss : Scopes) → AllMean many g b s ss → AllMean many g c new ss
 names_wider many {g} {b} {s} {c} {new} w ss x =
     each_scope (λ name m. Means many g b s name m m.kind) (λ name m. Means many g c new name m m.kind) (λ name m h. means_wider many w name m m.kind h) ss x
 
@@ -71,14 +70,13 @@ tick_wider stage.Function b s c new r w k x = tt
 tick_wider stage.Tick b s c new r w k x = (λ i p. x.0 i (w.tick i p), captures_back s.ticks.captures new.ticks.captures r.tick.captures k.captures x.1)
 tick_wider stage.Dollar b s c new r w k x = (λ i p. x.0 i (w.tick i p), captures_back s.ticks.captures new.ticks.captures r.tick.captures k.captures x.1)
 
-pub agrees_wider : {many : ℕ} {g : Stage} {b : Blocks} {ks : List (List CaptureKind)} {s : State} {c : Blocks} {new : State} {r : Round} (more : List (List CaptureKind)) → Wider g b s c new → Grows g s new → Agrees many g c (ks ++ more) new r → Agrees many g b ks s r
+pub agrees_wider : {many : List ℕ} {g : Stage} {b : Blocks} {ks : List (List CaptureKind)} {s : State} {c : Blocks} {new : State} {r : Round} (more : List (List CaptureKind)) → Wider g b s c new → Grows g s new → Agrees many g c (ks ++ more) new r → Agrees many g b ks s r
 agrees_wider {many} {g} {b} {ks} {s} {c} {new} {r} more w k a = record {
   small = small_before k a.small;
   visible = λ i p. a.visible i (w.function i p);
   object = le_less s.frame.object new.frame.object r.function.object w.object a.object;
   is_function = a.is_function;
   functions = a.functions;
-  prototypes = subst (λ f. (i : ℕ) (p : Prototype) → slice_get f.prototypes i ≡ Some p → is_number many (number p.name f) ≡ true) w.functions a.prototypes;
   ticks = starts_front ks more a.ticks;
   in_tick = tick_wider g b s c new r w k.at a.in_tick;
 }

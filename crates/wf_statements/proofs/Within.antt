@@ -75,7 +75,7 @@ in_entered stage.Dollar b s may = may
 -- ---- blocks
 
 -- the node of a block
-pub block_did : {many : ℕ} (a : Standing) (b : Blocks) {ks : List (List CaptureKind)} (s t : State) (xs : List Stmt) → MayStand a.stage → a.is_direct ≡ false → Made a.stage (inside s) t xs → Known many a.stage b ks s
+pub block_did : {many : List ℕ} (a : Standing) (b : Blocks) {ks : List (List CaptureKind)} (s t : State) (xs : List Stmt) → MayStand a.stage → a.is_direct ≡ false → Made a.stage (inside s) t xs → Known many a.stage b ks s
     → Did many a.stage (entered a.stage b s) ks (inside s) t (λ r. ItemsStand a (place_of a r) xs) → Did many a.stage b ks s (back s t) (λ r. Stood (place_of a r) (st.Block t.frame.nodes xs))
 block_did {many} a b {ks} s t xs may direct m known d =
     did_so (λ r. ItemsStand a (place_of a (in_block a.stage t.frame.nodes r)) xs) (λ r. Stood (place_of a r) (st.Block t.frame.nodes xs))
@@ -91,7 +91,7 @@ block_did {many} a b {ks} s t xs may direct m known d =
     (all_of a (within (map act t.frame.nodes) (place_of a r)) xs direct items)
     (values_of_items a (within (map act t.frame.nodes) (place_of a r)) xs items))
 
-pub whole_block_did : (many : ℕ) (items : List Item) (a : Standing) → MayStand a.stage → a.is_direct ≡ false → EachPart (GoodItem many) items → (b : Blocks) (ks : List (List CaptureKind)) (s new : State) (x : Stmt) → Known many a.stage b ks s → block items a s ≡ Ok (x, new)
+pub whole_block_did : (many : List ℕ) (items : List Item) (a : Standing) → MayStand a.stage → a.is_direct ≡ false → EachPart (GoodItem many) items → (b : Blocks) (ks : List (List CaptureKind)) (s new : State) (x : Stmt) → Known many a.stage b ks s → block items a s ≡ Ok (x, new)
     → Did many a.stage b ks s new (λ r. Stood (place_of a r) x)
 whole_block_did many items a may direct h b ks s new x known e =
     let w = enclosed (each items a) blocked s x new e in
@@ -102,7 +102,7 @@ whole_block_did many items a may direct h b ks s new x known e =
 
 -- ---- a `for` with a first part
 
-pub for_block_did : (many : ℕ) (line : ℕ) (first : Item) (c step : Option Node) (i : Item) (a : Standing) → GoodItem many first → GoodOptional many c → GoodOptional many step → GoodItem many i
+pub for_block_did : (many : List ℕ) (line : ℕ) (first : Item) (c step : Option Node) (i : Item) (a : Standing) → GoodItem many first → GoodOptional many c → GoodOptional many step → GoodItem many i
     → (b : Blocks) (ks : List (List CaptureKind)) (s new : State) (xs : List Stmt) → InBlock a.stage b → Known many a.stage b ks s → rules.for_block line first c step i a s ≡ Ok (xs, new) → DidStand many a b ks s new xs
 for_block_did many line first c step i a hf hc hs hi b ks s new xs here known e =
     let may = may_of a.stage b here in
@@ -148,7 +148,7 @@ labels_wider g b l s = record {
   functions = refl;
 }
 
-pub known_relabelled : {many : ℕ} {g : Stage} {b : Blocks} {ks : List (List CaptureKind)} (l : Labels) (s : State) → Known many g b ks s → Known many g b ks (with_labels l s)
+pub known_relabelled : {many : List ℕ} {g : Stage} {b : Blocks} {ks : List (List CaptureKind)} (l : Labels) (s : State) → Known many g b ks s → Known many g b ks (with_labels l s)
 known_relabelled {many} {g} {b} {ks} l s known small =
     let k = known (small_without g l s small) in
     record { names = names_wider many (labels_wider g b l s) s.scopes k.names; ticks = k.ticks; object = k.object }
@@ -158,14 +158,13 @@ tick_relabelled stage.Function b l s r x = tt
 tick_relabelled stage.Tick b l s r x = (x.0, x.1)
 tick_relabelled stage.Dollar b l s r x = (x.0, x.1)
 
-pub agrees_unlabelled : {many : ℕ} {g : Stage} {b : Blocks} {ks : List (List CaptureKind)} (l : Labels) (s : State) {r : Round} → Agrees many g b ks (with_labels l s) r → Agrees many g b ks s r
+pub agrees_unlabelled : {many : List ℕ} {g : Stage} {b : Blocks} {ks : List (List CaptureKind)} (l : Labels) (s : State) {r : Round} → Agrees many g b ks (with_labels l s) r → Agrees many g b ks s r
 agrees_unlabelled {many} {g} {b} {ks} l s {r} x = record {
   small = small_without g l s x.small;
   visible = λ i h. x.visible i (ap (λ ns. has i ns) (of_function_relabelled g b l s) ∙ h);
   object = x.object;
   is_function = x.is_function;
   functions = x.functions;
-  prototypes = x.prototypes;
   ticks = x.ticks;
   in_tick = tick_relabelled g b l s r x.in_tick;
 }
@@ -176,7 +175,7 @@ captures_relabelled stage.Tick l s t r h = h
 captures_relabelled stage.Dollar l s t r h = tt
 
 -- the labels behind a step are others
-pub did_relabelled : {many : ℕ} {g : Stage} {b : Blocks} {ks : List (List CaptureKind)} (l : Labels) (s t : State) (P : Round → Type 0) → Did many g b ks s t P → Did many g b ks s (with_labels l t) P
+pub did_relabelled : {many : List ℕ} {g : Stage} {b : Blocks} {ks : List (List CaptureKind)} (l : Labels) (s t : State) (P : Round → Type 0) → Did many g b ks s t P → Did many g b ks s (with_labels l t) P
 did_relabelled {g = g} l s t P d = record {
   more = d.more;
   known = known_relabelled l t d.known;

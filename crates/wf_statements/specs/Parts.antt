@@ -22,11 +22,11 @@ use Rattle.wf_types.specs.Parts.{EachPart, GoodOptional}
 -- ---- statements
 
 -- the walk over a declaration, wherever it stands in a block
-abbrev pub GoodDeclaration : ℕ → (Stage → Rule State (List Stmt)) → Type 0
+abbrev pub GoodDeclaration : List ℕ → (Stage → Rule State (List Stmt)) → Type 0
 GoodDeclaration many d = (a : Standing) → MayStand a.stage → GoodStatement many a (d a.stage)
 
 -- the parts of a statement are good
-abbrev pub GoodStatementParts : {I S D N P : Type 0} → ℕ → (D → Stage → Rule State (List Stmt)) → Stmt-F Shape Node I (Option Node) Item S D Shape N P Named → Type 0
+abbrev pub GoodStatementParts : {I S D N P : Type 0} → List ℕ → (D → Stage → Rule State (List Stmt)) → Stmt-F Shape Node I (Option Node) Item S D Shape N P Named → Type 0
 GoodStatementParts many declaration Stmt-F.Empty = Unit {0}
 GoodStatementParts many declaration (Stmt-F.Expr e) = GoodNode many e
 GoodStatementParts many declaration (Stmt-F.Block items) = EachPart (GoodItem many) items
@@ -55,7 +55,7 @@ pub data Begun (xs : List Stmt) : Type 0 where
   Effect : (e : Expr) → xs ≡ st.Eval e ∷ [] → Begun xs
 
 -- a variable begins so
-pub record GoodBegin (many : ℕ) (a : Standing) (p : Operand) (step : Rule State (List Stmt)) : Type 0 where
+pub record GoodBegin (many : List ℕ) (a : Standing) (p : Operand) (step : Rule State (List Stmt)) : Type 0 where
   pub keeps : IsKeeping a.stage step
   pub begun : (s new : State) (xs : List Stmt) → step s ≡ Ok (xs, new) → Begun xs
   -- where the variable stands right

@@ -1,5 +1,5 @@
 -- An expression with the form of a constant names nothing and captures only what stands anywhere, and so does its value.
-use Rattle.std.proofs.Common.{◌≡◌, ℕ, Bool, true, false, [], ◌∷◌, ◌++◌, ap, subst, Option, None, Ok, Err}
+use Rattle.std.proofs.Common.{◌≡◌, ℕ, Bool, true, false, [], ◌∷◌, ◌++◌, ap, subst, Option, None, Ok, Err, List}
 use Rattle.c_types.specs.declared.ctype.CType.{CType}
 use Rattle.tick_tree.specs.declared.base.BinaryOp.{BinaryOp}
 use Rattle.tick_tree.specs.declared.base.StepOp.TheVariants as step_op
@@ -74,7 +74,7 @@ anywhere_two stage.Dollar f h o p x y = everywhere (f o p) (λ a. h a o p (x a) 
 
 -- nothing is in scope round nothing
 abbrev nowhere : Around
-nowhere = record { variables = []; object = 0; functions = 0; ticks = []; captures = None; in_loop = false; in_switch = false }
+nowhere = record { variables = []; object = 0; functions = []; ticks = []; captures = None; in_loop = false; in_switch = false }
 
 -- ---- parts
 
@@ -178,7 +178,7 @@ unary_plain line unary_op.Decrement a g k = one_plain a g (Productions.step_node
 
 -- ---- the walk over an expression with the form of a constant
 
-pub constant_plain : {I S D N P : Type 0} (many : ℕ) (e : Expr-F Shape Node I (Option Node) Item S D Shape N P Named) → GoodParts many e → HasForm e → (g : Stage) → IsPlain g (Anywhere g) (walk_rule e g)
+pub constant_plain : {I S D N P : Type 0} (many : List ℕ) (e : Expr-F Shape Node I (Option Node) Item S D Shape N P Named) → GoodParts many e → HasForm e → (g : Stage) → IsPlain g (Anywhere g) (walk_rule e g)
 constant_plain many (Expr-F.Number n unsigned) h f g = pure_plain g (Anywhere g) (nodes.number n unsigned) (anywhere g (nodes.number n unsigned) (λ a. good_number a n unsigned))
 constant_plain many (Expr-F.Character n) h f g = pure_plain g (Anywhere g) (nodes.character n) (anywhere g (nodes.character n) (λ a. good_character a n))
 constant_plain many (Expr-F.Expr::Paren a) h f g = h.constant f g

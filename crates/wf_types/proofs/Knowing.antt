@@ -8,14 +8,13 @@ use Rattle.c_types.specs.Scopes.{Name, Scope, Scopes}
 use Rattle.typed_tree.specs.declared.expression.CaptureKind.{CaptureKind}
 use Rattle.typed_tree.specs.declared.expression.Expr.{Expr}
 use Rattle.check_tables.specs.declared.frame.Home.{Home}
-use Rattle.check_tables.specs.declared.functions.Prototype.{Prototype}
 use Rattle.check_tables.specs.Frames.{count}
 use Rattle.check_tables.specs.Functions.{number}
 use Rattle.check_env.specs.declared.state.Stage.{Stage}
 use Rattle.check_env.specs.declared.state.Stage.TheVariants as stage
 use Rattle.check_env.specs.declared.state.State.{State}
 use Rattle.wf_invariant.specs.Kept.{Starts, KeepsTables, KeepsTick, KeepsStage, Keeps}
-use Rattle.wf_invariant.specs.Known.{Blocks, of_function, of_tick, has, numbers, HasHome, IsVariable, IsParameter, IsFunction, is_number, Means, EachEntry, EachScope, Small, SmallInner, SmallTick, Known}
+use Rattle.wf_invariant.specs.Known.{Blocks, of_function, of_tick, has, numbers, HasHome, IsVariable, IsParameter, Means, EachEntry, EachScope, Small, SmallInner, SmallTick, Known}
 use Rattle.wf_invariant.specs.Steps.{Round, Captures, one_kind, kinds, AgreesTick, Agrees}
 use Rattle.wf_types.proofs.Fronts.{starts_same, starts_front, starts_length}
 
@@ -47,13 +46,13 @@ parameter_kept : (g : Stage) (b : Blocks) {s new : State} → KeepsTables s new 
 parameter_kept g b k n None x = x
 parameter_kept g b k n (Some h) x = home_kept g b k n h x
 
-pub means_kept : (many : ℕ) (g : Stage) (b : Blocks) {s new : State} → KeepsTables s new → (name : Name) (m : Meaning) (what : MeaningKind) → Means many g b s name m what → Means many g b new name m what
+pub means_kept : (many : List ℕ) (g : Stage) (b : Blocks) {s new : State} → KeepsTables s new → (name : Name) (m : Meaning) (what : MeaningKind) → Means many g b s name m what → Means many g b new name m what
 means_kept many g b {s} {new} k name m kind.Variable x =
     (subst (λ hs. IsVariable g b new m.index (slice_get hs m.index)) (sym k.homes) (variable_kept g b k m.index (slice_get s.frame.homes m.index) x.0), x.1)
 means_kept many g b {s} {new} k name m kind.Parameter x =
     (subst (λ hs. IsParameter g b new m.index (slice_get hs m.index)) (sym k.homes) (parameter_kept g b k m.index (slice_get s.frame.homes m.index) x.0), x.1)
 means_kept many g b k name m kind.Global x = x
-means_kept many g b k name m kind.Function x = (subst (λ f. IsFunction many f name m.index) (sym k.functions) x.0, x.1)
+means_kept many g b k name m kind.Function x = x
 means_kept many g b k name m kind.Library x = x
 
 pub each_entry : (P Q : Name → Meaning → Type 0) → ((n : Name) (m : Meaning) → P n m → Q n m) → (es : Scope) → EachEntry P es → EachEntry Q es
@@ -64,7 +63,7 @@ pub each_scope : (P Q : Name → Meaning → Type 0) → ((n : Name) (m : Meanin
 each_scope P Q f [] x = tt
 each_scope P Q f (s ∷ ss) x = (each_entry P Q f s x.0, each_scope P Q f ss x.1)
 
-pub names_kept : (many : ℕ) (g : Stage) (b : Blocks) {s new : State} → KeepsTables s new → EachScope (λ name m. Means many g b s name m m.kind) s.scopes → EachScope (λ name m. Means many g b new name m m.kind) new.scopes
+pub names_kept : (many : List ℕ) (g : Stage) (b : Blocks) {s new : State} → KeepsTables s new → EachScope (λ name m. Means many g b s name m m.kind) s.scopes → EachScope (λ name m. Means many g b new name m m.kind) new.scopes
 names_kept many g b {s} {new} k x =
     subst (λ ss. EachScope (λ name m. Means many g b new name m m.kind) ss) (sym k.scopes)
     (each_scope (λ name m. Means many g b s name m m.kind) (λ name m. Means many g b new name m m.kind) (λ name m h. means_kept many g b k name m m.kind h) s.scopes x)
@@ -95,7 +94,7 @@ small_back {g} {s} {new} k x =
     }
 
 -- what is known behind it, where its ticks are as many as their lists of captures
-pub known_kept : {many : ℕ} {g : Stage} {b : Blocks} {ks : List (List CaptureKind)} {s new : State} (more : List (List CaptureKind)) → Keeps g s new → ((made : Starts s.ticks.all new.ticks.all) → length more ≡ length made.rest) → Known many g b ks s → Known many g b (ks ++ more) new
+pub known_kept : {many : List ℕ} {g : Stage} {b : Blocks} {ks : List (List CaptureKind)} {s new : State} (more : List (List CaptureKind)) → Keeps g s new → ((made : Starts s.ticks.all new.ticks.all) → length more ≡ length made.rest) → Known many g b ks s → Known many g b (ks ++ more) new
 known_kept {many} {g} {b} {ks} {s} {new} more k each known small =
     let was = known (small_back k small) in
     let made = keeps_ticks g s new k.at in
@@ -129,14 +128,13 @@ agrees_tick_back stage.Dollar b s new r k h x = (
   captures_back s.ticks.captures new.ticks.captures r.tick.captures (starts_same s.ticks.captures new.ticks.captures h.1) x.1,
 )
 
-pub agrees_back : {many : ℕ} {g : Stage} {b : Blocks} {ks : List (List CaptureKind)} {s new : State} {r : Round} (more : List (List CaptureKind)) → Keeps g s new → Agrees many g b (ks ++ more) new r → Agrees many g b ks s r
+pub agrees_back : {many : List ℕ} {g : Stage} {b : Blocks} {ks : List (List CaptureKind)} {s new : State} {r : Round} (more : List (List CaptureKind)) → Keeps g s new → Agrees many g b (ks ++ more) new r → Agrees many g b ks s r
 agrees_back {many} {g} {b} {ks} {s} {new} {r} more k a = record {
   small = small_back k a.small;
   visible = λ i p. a.visible i (subst (λ ns. has i ns ≡ true) (sym (of_function_kept g b k.tables)) p);
   object = subst (λ o. nat_le o r.function.object ≡ true) k.tables.object a.object;
   is_function = a.is_function;
   functions = a.functions;
-  prototypes = subst (λ f. (i : ℕ) (p : Prototype) → slice_get f.prototypes i ≡ Some p → is_number many (number p.name f) ≡ true) k.tables.functions a.prototypes;
   ticks = starts_front ks more a.ticks;
   in_tick = agrees_tick_back g b s new r k.tables k.at a.in_tick;
 }

@@ -136,7 +136,7 @@ no_ticks : (g : Stage) (s new : State) (r : Round) → PlainStage g s new → (m
 no_ticks g s new r p made = subst (λ ts. EachTick r.function ts []) (sym (no_rest (plain_ticks g s new p) made)) tt
 
 -- what it did, where its answer stands in each surrounding that agrees
-pub plain_did_by : {many : ℕ} {g : Stage} {b : Blocks} {ks : List (List CaptureKind)} {s new : State} (P : Round → Type 0) → Plain g s new → Known many g b ks s → ((r : Round) → Agrees many g b ks s r → P r) → Did many g b ks s new P
+pub plain_did_by : {many : List ℕ} {g : Stage} {b : Blocks} {ks : List (List CaptureKind)} {s new : State} (P : Round → Type 0) → Plain g s new → Known many g b ks s → ((r : Round) → Agrees many g b ks s r → P r) → Did many g b ks s new P
 plain_did_by {many} {g} {b} {ks} {s} {new} P p known stands = record {
   more = [];
   known = known_kept [] (plain_keeps p) (λ made. sym (ap length (no_rest (plain_ticks g s new p.at) made))) known;
@@ -146,5 +146,5 @@ plain_did_by {many} {g} {b} {ks} {s} {new} P p known stands = record {
   stands = λ r a. stands r (agrees_back [] (plain_keeps p) a);
 }
 
-pub plain_did : {many : ℕ} {g : Stage} {b : Blocks} {ks : List (List CaptureKind)} {s new : State} (P : Round → Type 0) → Plain g s new → Known many g b ks s → ((r : Round) → P r) → Did many g b ks s new P
+pub plain_did : {many : List ℕ} {g : Stage} {b : Blocks} {ks : List (List CaptureKind)} {s new : State} (P : Round → Type 0) → Plain g s new → Known many g b ks s → ((r : Round) → P r) → Did many g b ks s new P
 plain_did P p known stands = plain_did_by P p known (λ r a. stands r)

@@ -56,29 +56,29 @@ both_keeps a b g h k =
 both_node : (a b : Node) (g : Stage) (f : Operand → Operand → Checked Operand) → KeepsNode a → KeepsNode b → IsKeeping g (both a b g >>= (λ p. lift (f p.0 p.1)))
 both_node a b g f h k = bind_keeps g (both a b g) (λ p. lift (f p.0 p.1)) (both_keeps a b g h k) (λ p. lift_keeps g (f p.0 p.1))
 
-arguments_keeps : (many : ℕ) (list : List Node) (xs : Arguments) (g : Stage) → EachPart (GoodNode many) list → IsKeeping g (arguments list xs g)
+arguments_keeps : (many : List ℕ) (list : List Node) (xs : Arguments) (g : Stage) → EachPart (GoodNode many) list → IsKeeping g (arguments list xs g)
 arguments_keeps many [] xs g h = pure_keeps g xs
 arguments_keeps many (a ∷ rest) xs g h =
     bind_keeps g (a.walk g) (λ x. arguments rest (Productions.argument xs x) g) (h.0.keeps g) (λ x. arguments_keeps many rest (Productions.argument xs x) g h.1)
 
 -- ---- calls
 
-library_call_keeps : (many line n : ℕ) (t : CType) (list : List Node) (g : Stage) → EachPart (GoodNode many) list → IsKeeping g (library_call line n t list g)
+library_call_keeps : (many : List ℕ) (line n : ℕ) (t : CType) (list : List Node) (g : Stage) → EachPart (GoodNode many) list → IsKeeping g (library_call line n t list g)
 library_call_keeps many line n t list g h =
     bind_keeps g (arguments list calls.no_arguments g) (λ xs. lift (calls.library line n t xs)) (arguments_keeps many list calls.no_arguments g h)
     (λ xs. lift_keeps g (calls.library line n t xs))
 
-plain_call_keeps : (many line : ℕ) (f : Node) (list : List Node) (g : Stage) → KeepsNode f → EachPart (GoodNode many) list → IsKeeping g (plain_call line f list g)
+plain_call_keeps : (many : List ℕ) (line : ℕ) (f : Node) (list : List Node) (g : Stage) → KeepsNode f → EachPart (GoodNode many) list → IsKeeping g (plain_call line f list g)
 plain_call_keeps many line f list g k h =
     bind_keeps g (f.walk g) (λ o. arguments list calls.no_arguments g >>= (λ xs. lift (Productions.call_node line g o xs))) (k g)
     (λ o. bind_keeps g (arguments list calls.no_arguments g) (λ xs. lift (Productions.call_node line g o xs)) (arguments_keeps many list calls.no_arguments g h)
     (λ xs. lift_keeps g (Productions.call_node line g o xs)))
 
-call_of_keeps : (many line : ℕ) (f : Node) (list : List Node) (g : Stage) (l : Option (ℕ × CType)) → KeepsNode f → EachPart (GoodNode many) list → IsKeeping g (call_of line f list g l)
+call_of_keeps : (many : List ℕ) (line : ℕ) (f : Node) (list : List Node) (g : Stage) (l : Option (ℕ × CType)) → KeepsNode f → EachPart (GoodNode many) list → IsKeeping g (call_of line f list g l)
 call_of_keeps many line f list g (Some l) k h = library_call_keeps many line l.0 l.1 list g h
 call_of_keeps many line f list g None k h = plain_call_keeps many line f list g k h
 
-call_keeps : (many line : ℕ) (f : Node) (list : List Node) (g : Stage) → KeepsNode f → EachPart (GoodNode many) list → IsKeeping g (call line f list g)
+call_keeps : (many : List ℕ) (line : ℕ) (f : Node) (list : List Node) (g : Stage) → KeepsNode f → EachPart (GoodNode many) list → IsKeeping g (call line f list g)
 call_keeps many line f list g k h s new x e = call_of_keeps many line f list g (library_of f.written.name s) k h s new x e
 
 -- ---- specifications
@@ -107,7 +107,7 @@ block_keeps b s z h k = record {
   at = record { rest = ticks.tick_of (body.Statement b) ∷ []; is = ap (λ l. l ++ ticks.tick_of (body.Statement b) ∷ []) h.at.ticks };
 }
 
-tick_block_keeps : (many line : ℕ) (items : List Item) (g : Stage) → GoodBlock many tick_around (block items tick_around) → IsKeeping g (tick_block line items g)
+tick_block_keeps : (many : List ℕ) (line : ℕ) (items : List Item) (g : Stage) → GoodBlock many tick_around (block items tick_around) → IsKeeping g (tick_block line items g)
 tick_block_keeps many line items stage.Function k s new x e =
     let r = ran (block items tick_around) (λ b z. Ok (Productions.tick_block b z)) (Productions.tick_entered s) x new e in
     gives_keeps stage.Function s new (Productions.tick_block r.value r.state) x r.next
@@ -200,7 +200,7 @@ comma_keeps a b g h k = bind_keeps g (both a b g) (λ p. pure (Productions.comma
 
 -- ---- the walk over a node
 
-pub walk_keeps : {I S D N P : Type 0} (many : ℕ) (e : Expr-F Shape Node I (Option Node) Item S D Shape N P Named) → GoodParts many e → (g : Stage) → IsKeeping g (walk_rule e g)
+pub walk_keeps : {I S D N P : Type 0} (many : List ℕ) (e : Expr-F Shape Node I (Option Node) Item S D Shape N P Named) → GoodParts many e → (g : Stage) → IsKeeping g (walk_rule e g)
 walk_keeps many (Expr-F.Expr::Name line name) h g = named_keeps line g name
 walk_keeps many (Expr-F.Number n unsigned) h g = pure_keeps g (nodes.number n unsigned)
 walk_keeps many (Expr-F.Character n) h g = pure_keeps g (nodes.character n)

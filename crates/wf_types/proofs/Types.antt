@@ -37,14 +37,14 @@ use Rattle.wf_types.proofs.Blocks.{inside, back}
 
 -- ---- lengths
 
-computed_good : (many : ℕ) (e : Node) → GoodNode many e → GoodSuffix (λ g. computed_step e g)
+computed_good : (many : List ℕ) (e : Node) → GoodNode many e → GoodSuffix (λ g. computed_step e g)
 computed_good many e h g s new x is c =
     let r = ran (e.walk g) (λ o. pure (step.Array (length_of e.written.constant o))) s x new is in
     let v = pure_value (step.Array (length_of e.written.constant r.value)) x r.state new r.next in
     let f = has_form e.written.constant r.value (ap is_computed_step v ∙ c) in
     plain_more (h.constant f g s r.state r.value r.first).0 (plain_same g (pure_same (step.Array (length_of e.written.constant r.value)) x r.state new r.next))
 
-pub length_good : (many : ℕ) (e : Option Node) → GoodOptional many e → GoodSuffix (λ g. length_step e g)
+pub length_good : (many : List ℕ) (e : Option Node) → GoodOptional many e → GoodSuffix (λ g. length_step e g)
 length_good many None h g s new x is c = plain_same g (pure_same _ x s new is)
 length_good many (Some e) h g s new x is c = computed_good many e h g s new x is c
 
@@ -137,7 +137,7 @@ list_good ps h g s new x is =
 
 -- ---- suffixes
 
-pub suffix_good : {I D N : Type 0} (many : ℕ) (e : Suffix-F Shape Node I (Option Node) Item (Stage → Rule State Step) D Shape N (Stage → Rule State CType) Named) → GoodSuffixParts many e → GoodSuffix (suffix_rule e)
+pub suffix_good : {I D N : Type 0} (many : List ℕ) (e : Suffix-F Shape Node I (Option Node) Item (Stage → Rule State Step) D Shape N (Stage → Rule State CType) Named) → GoodSuffixParts many e → GoodSuffix (suffix_rule e)
 suffix_good many (Suffix-F.Array e) h g s new x is c = length_good many e h g s new x is c
 suffix_good many Suffix-F.Unlisted h g s new x is c = plain_same g (pure_same _ x s new is)
 suffix_good many Suffix-F.Nothing h g s new x is c = plain_same g (pure_same _ x s new is)

@@ -1,5 +1,5 @@
 -- What the walk over types and expressions keeps, and what is known of expressions that have the form of a constant.
-use Rattle.std.specs.Prelude.{◌≡◌, ℕ, Option, Ok}
+use Rattle.std.specs.Prelude.{◌≡◌, ℕ, Option, Ok, List}
 use Rattle.tick_tree.specs.declared.syntax.Core.TheOpen.{Expr-F, Suffix-F}
 use Rattle.c_types.specs.declared.ctype.CType.{CType}
 use Rattle.check_declarators.specs.declared.steps.Step.{Step}
@@ -31,18 +31,18 @@ Expr-W = Expr-F Shape Node (Unit {0}) (Option Node) Item (Unit {0}) (Unit {0}) S
 
 -- the walk over an expression keeps what the walks over its parts keep
 abbrev pub ExpressionsKeep : Type 0
-ExpressionsKeep = (many : ℕ) (e : Expr-W) → GoodParts many e → (g : Stage) → IsKeeping g (walk_rule e g)
+ExpressionsKeep = (many : List ℕ) (e : Expr-W) → GoodParts many e → (g : Stage) → IsKeeping g (walk_rule e g)
 
 -- one with the form of a constant names nothing, captures only what stands anywhere, and so does its value
 abbrev pub ConstantsArePlain : Type 0
 ConstantsArePlain =
-    (many : ℕ) (e : Expr-W) → GoodParts many e → HasForm e → (g : Stage) (s new : State) (o : Operand) → walk_rule e g s ≡ Ok (o, new)
+    (many : List ℕ) (e : Expr-W) → GoodParts many e → HasForm e → (g : Stage) (s new : State) (o : Operand) → walk_rule e g s ≡ Ok (o, new)
     → Plain g s new × Anywhere g o
 
 -- and a string captures nothing
 abbrev pub StringsArePlain : Type 0
 StringsArePlain =
-    (many : ℕ) (e : Expr-W) → GoodParts many e → IsString e → (g : Stage) (s new : State) (o : Operand) → walk_rule e g s ≡ Ok (o, new) → Plain g s new
+    (many : List ℕ) (e : Expr-W) → GoodParts many e → IsString e → (g : Stage) (s new : State) (o : Operand) → walk_rule e g s ≡ Ok (o, new) → Plain g s new
 
 -- ---- types
 
@@ -51,7 +51,7 @@ Suffix-W = Suffix-F Shape Node (Unit {0}) (Option Node) Item (Stage → Rule Sta
 
 -- a suffix of a declarator names nothing, or has a length that isn't constant
 abbrev pub SuffixesAreGood : Type 0
-SuffixesAreGood = (many : ℕ) (e : Suffix-W) → GoodSuffixParts many e → GoodSuffix (suffix_rule e)
+SuffixesAreGood = (many : List ℕ) (e : Suffix-W) → GoodSuffixParts many e → GoodSuffix (suffix_rule e)
 
 -- ---- what doesn't depend on what is known
 

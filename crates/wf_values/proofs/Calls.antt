@@ -53,7 +53,7 @@ each_value (a ∷ as_) (e ∷ es) n h =
 
 none_void_at : (as_ : List Argument) (l : Opened) → called_breaks_at as_ l ≡ None → any_void as_ ≡ false
 none_void_at as_ (Layer-F.Function ts) h =
-    no_fault (any_void as_) fault.VoidValue None
+    no_fault (any_void as_) fault.VoidValue _
     (no_other (any_mismatches as_ ts) fault.TypeMismatch _ (no_first (length as_ == length ts) fault.ArgumentCount _ h))
 none_void_at as_ Layer-F.Unlisted h = no_fault (any_void as_) fault.VoidValue _ h
 none_void_at as_ Layer-F.Pointer h = cc
