@@ -226,6 +226,15 @@ def wellformed():
         uses, used)
 
 
+def captures():
+    names = list(expression_equations("names", "expr_rule", "names"))
+    named = list(statement_equations("names_of", "statement_rule", "rules", "names_of", "names", "names names_of"))
+    instances("crates/captures/proofs/Equations.antt", "-- What the nodes of a tree name of captures, one a node.",
+        "use Rattle.captures.specs.Captures.{names, expr_rule, names_of, statement_rule, rules}\n",
+        names + [ruleset("expressions", names)], named + [ruleset("statements", named)])
+
+
 generic()
 typed_tree()
 wellformed()
+captures()

@@ -152,10 +152,6 @@ walk_again xs s = again s >>>= (λ r. second_walk xs r.1)
 abbrev pub first_walk : List External → State → Checked TypedParts
 first_walk xs s = walk xs s >>>= (λ r. walk_again xs r.1)
 
--- the parts of the typed program of these items, or their first fault
-unfoldable pub checked_items : List External → Checked TypedParts
-checked_items xs = start >>>= (λ r. first_walk xs r.1)
-
--- those of a tree
+-- the parts of the typed program of a tree, or its first fault
 unfoldable pub checked : Tree → Checked TypedParts
-checked t = checked_items t.items
+checked t = start >>>= (λ r. first_walk t.items r.1)

@@ -5,4 +5,4 @@ mod parameters;
 mod program;
 mod walks;
 
-pub use walks::check_items;
+pub use walks::check_parts;

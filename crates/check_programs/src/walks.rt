@@ -7,7 +7,7 @@ use crate::program::walk;
 use check_env::State;
 use check_globals::finished;
 use std::alloc::Global;
-use tick_tree::{Deny, External};
+use tick_tree::{Deny, External, Tree};
 use typed_tree::TypedParts;
 
 fn second(alloc: Global, state: State, list: &[External]) -> Result<TypedParts, Deny>
@@ -43,11 +43,11 @@ fn first(alloc: Global, state: State, list: &[External]) -> Result<TypedParts, D
     }
 }
 
-/// The parts of the typed program of these items, or their first static fault from Undeclared on.
-#[tactic(auto, unfolding(crate::specs::Program::checked_items))]
-pub fn check_items(alloc: Global, list: &[External]) -> Result<TypedParts, Deny>
-    ensures { Checks result (spec.checked_items list.now) }
+/// The parts of the typed program of a tree, or its first static fault from Undeclared on.
+#[tactic(auto, unfolding(crate::specs::Program::checked))]
+pub fn check_parts(alloc: Global, tree: &Tree) -> Result<TypedParts, Deny>
+    ensures { Checks result (spec.checked tree.now) }
 {
     let state = State::new(alloc)?;
-    first(alloc, state, list)
+    first(alloc, state, tree.items())
 }

@@ -21,6 +21,7 @@ pub struct Label {
 impl Model for Label {
     ghost use Rattle.std.specs.Prelude.{ℕ, ◌≤◌};
     ghost use Rattle.mips_text.specs.LabelPlace.{LabelPlace};
+    ghost use Rattle.limits.specs.declared.text.TheConstants.{LONGEST_TEXT};
 
     ghost Value = { LabelPlace };
 

@@ -6,7 +6,7 @@ use Rattle.typed_tree.specs.declared.program.TypedParts.{TypedParts}
 use Rattle.check_env.specs.declared.state.State.{State}
 use Rattle.check_env.specs.Starts.{start, again}
 use Rattle.check_globals.specs.Programs.{finished}
-use Rattle.check_programs.specs.Program.{walk, first_walk, walk_again, second_walk, checked, checked_items}
+use Rattle.check_programs.specs.Program.{walk, first_walk, walk_again, second_walk, checked}
 use Rattle.tick_checker.proofs.Steps.{Then, then_by}
 
 pub record Ran (xs : List External) (p : TypedParts) : Type 0 where
@@ -21,7 +21,7 @@ pub record Ran (xs : List External) (p : TypedParts) : Type 0 where
   pub five : finished last.1 ≡ Ok p
 
 pub ran : (t : Tree) (p : TypedParts) → checked t ≡ Ok p → Ran t.items p
-unfolding checked checked_items
+unfolding checked
 ran t p is =
     let a : Then start (λ r. first_walk t.items r.1) p = then_by start (λ r. first_walk t.items r.1) p is in
     let b : Then (walk t.items a.answer.1) (λ r. walk_again t.items r.1) p = then_by (walk t.items a.answer.1) (λ r. walk_again t.items r.1) p a.second in

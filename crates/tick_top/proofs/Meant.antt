@@ -4,7 +4,7 @@ use Rattle.host_edge.specs.declared.ending.Ending.TheVariants as ending
 use Rattle.history.specs.Events.{Item, End, Input, output}
 use Rattle.history.specs.Events as event
 use Rattle.image_file.specs.Image.{ImageParts}
-use Rattle.pace.specs.Pace.{Seen, IsPrefix}
+use Rattle.pace.specs.Pace.{Seen, IsPrefix, instructions_of_a_unit, instructions_besides}
 use Rattle.pace.proofs.Runs.{later_prefix, later_same, prefix_trans}
 use Rattle.mips_model.specs.Run.{runs, IsDefined}
 use Rattle.mips_model.proofs.Runs.{grows}
@@ -52,7 +52,7 @@ module _ (program : Program) (image : ImageParts) (headline : Headline program i
   -- what is meant is done in time
   done_in_time : (n units : ℕ) → allowed units ≤ n → IsPrefix (meaning units).history (machine n).history
   done_in_time n units le =
-      let back : (allowed units - 4096) / 512 ≡ units = omega arith in
+      let back : (allowed units - instructions_besides) / instructions_of_a_unit ≡ units = omega arith in
       prefix_trans (meaning units).history (machine (allowed units)).history (machine n).history
       (subst (λ m. IsPrefix (meaning m).history (machine (allowed units)).history) back
       ((headline.faithful input choices).keeps_pace (allowed units) (defined (allowed units)) (omega arith)))

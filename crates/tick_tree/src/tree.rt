@@ -40,9 +40,15 @@ impl Tree {
 
     /// Its items, from first to last.
     pub fn items(&self) -> &[External]
-        ensures items { result.now ≡ self.now.items }
-        ensures text { IsText self.now.items }
+        ensures { result.now ≡ self.now.items }
     {
         self.items.as_slice()
+    }
+
+    /// That its items are those of a text.
+    pub fn keeps_law(&self)
+        ensures { IsText self.now.items }
+    {
+        let _ = &self.items;
     }
 }

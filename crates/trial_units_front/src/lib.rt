@@ -6,6 +6,8 @@ mod c_lexer_calls;
 #[cfg(test)]
 mod c_types_calls;
 #[cfg(test)]
+mod captures_calls;
+#[cfg(test)]
 mod check_constants_calls;
 #[cfg(test)]
 mod check_declarators_calls;

@@ -94,7 +94,7 @@ start_by xs (Ok x) = first_by xs (program.walk xs x.1)
 start_by xs (Err f) = tt
 
 checked_few : (t : Tree) → FewTicks (total (map item_weight t.items)) (program.checked t)
-unfolding program.checked program.checked_items
+unfolding program.checked
 checked_few t = start_by t.items starts.start
 
 ok_typed : (q p : TypedParts) → ◌≡◌ {A = Checked TypedParts} (Ok q) (Ok p) → q ≡ p

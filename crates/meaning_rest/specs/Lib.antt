@@ -1,0 +1,5 @@
+pub mod Pending
+pub mod Rest
+pub mod Moves
+pub mod Burden
+pub mod Kept
