@@ -1,5 +1,6 @@
 -- No word is longer than its line, so the digits of data are not either.
-use Rattle.std.proofs.Common.{◌≡◌, ℕ, suc, ◌≤◌, Bool, true, false, ◌==◌, ◌||◌, cond, List, [], ◌∷◌, length, Option, Some, None, option_and_then, refl, arith, codes}
+use Rattle.std.proofs.Common.{◌≡◌, ℕ, suc, ◌≤◌, Bool, true, false, ◌==◌, ◌||◌, cond, List, [], ◌∷◌, length, Option}
+use Rattle.std.proofs.Common.{Some, None, option_and_then, refl, arith, codes}
 use Rattle.std.specs.Str.{bytes_eq}
 use Rattle.asm_words.specs.declared.operation.Operation.{Operation}
 use Rattle.asm_words.specs.Names.{is_name}
@@ -15,7 +16,8 @@ use Rattle.asm_lines.specs.declared.line.Statement.{Statement}
 use Rattle.asm_lines.specs.Pieces.{class_of, Split, closed_by, closed, split_by, split, pieces, word_in, is_colon}
 use Rattle.asm_lines.specs.Operands.{operands_of, target_of}
 use Rattle.asm_lines.specs.Drafts.{drafted}
-use Rattle.asm_lines.specs.Lines.{entry, function, data_bytes, plain_word, instruction, statement_by, statement_of, labelled, unlabelled, line_in, line_of, digits_of, HasDigits}
+use Rattle.asm_lines.specs.Lines.{entry, function, data_bytes, plain_word, instruction, statement_by, statement_of}
+use Rattle.asm_lines.specs.Lines.{labelled, unlabelled, line_in, line_of, digits_of, HasDigits}
 
 abbrev pub word_len : Piece → ℕ
 word_len (piece.Word w) = length w
@@ -61,12 +63,18 @@ mark_len b =
 abbrev Split-within : ℕ → Split → Type 0
 Split-within n s = (length s.word ≤ n) × Within n s.more
 
-split_by_within : (n b : ℕ) (c : Class) (s : Split) → class_len c ≡ 0 → Split-within n s → Split-within (suc n) (split_by b c s)
+split_by_within : (n b : ℕ) (c : Class) (s : Split) → class_len c ≡ 0 → Split-within n s →
+    Split-within (suc n) (split_by b c s)
 split_by_within n b class.Blank s e w =
     (omega arith, within_more n (suc n) (closed s) (omega arith) (closed_within n s.word s.more w.0 w.1))
 split_by_within n b class.Comment s e w = (omega arith, tt)
-split_by_within n b (class.Mark p) s e w =
-    (omega arith, (omega (arith, e), within_more n (suc n) (closed s) (omega arith) (closed_within n s.word s.more w.0 w.1)))
+split_by_within n b (class.Mark p) s e w = (
+  omega arith,
+  (
+    omega (arith, e),
+    within_more n (suc n) (closed s) (omega arith) (closed_within n s.word s.more w.0 w.1),
+  ),
+)
 split_by_within n b class.Part s e w =
     let first = w.0 in
     (omega (arith, first), within_more n (suc n) s.more (omega arith) w.1)
@@ -92,7 +100,8 @@ few_if : (n : ℕ) (t : Bool) {x y : Option Statement} → Few n x → Few n y �
 few_if n true f g = f
 few_if n false f g = g
 
-few_then : {A : Type 0} (n : ℕ) (o : Option A) {f : A → Option Statement} → ((x : A) → Few n (f x)) → Few n (option_and_then f o)
+few_then : {A : Type 0} (n : ℕ) (o : Option A) {f : A → Option Statement} → ((x : A) → Few n (f x)) →
+    Few n (option_and_then f o)
 few_then n None h = record { few = tt }
 few_then n (Some x) h = h x
 
@@ -151,7 +160,8 @@ statement_few n (a ∷ z) h = few_then n (word_in a) (λ w. by_few n w z h.1)
 pub record FewOn (n : ℕ) (o : Option Line) : Type 0 where
   pub few : HasDigits n o
 
-line_then : {A : Type 0} (n : ℕ) (o : Option A) {f : A → Option Line} → ((x : A) → FewOn n (f x)) → FewOn n (option_and_then f o)
+line_then : {A : Type 0} (n : ℕ) (o : Option A) {f : A → Option Line} → ((x : A) → FewOn n (f x)) →
+    FewOn n (option_and_then f o)
 line_then n None h = record { few = tt }
 line_then n (Some x) h = h x
 

@@ -1,5 +1,6 @@
 -- The word at the front of a line: the bytes of a word, and then what is no part of it.
-use Rattle.std.proofs.Common.{◌≡◌, ℕ, suc, ◌+◌, ◌<◌, ◌≤◌, Bool, true, false, ◌&&◌, cond, List, [], ◌∷◌, ◌++◌, length, take, drop, get_or, refl, sym, ap, ◌∙◌, arith, take-append-drop}
+use Rattle.std.proofs.Common.{◌≡◌, ℕ, suc, ◌+◌, ◌<◌, ◌≤◌, Bool, true, false, ◌&&◌, cond, List, [], ◌∷◌, ◌++◌, length}
+use Rattle.std.proofs.Common.{take, drop, get_or, refl, sym, ap, ◌∙◌, arith, take-append-drop}
 use Rattle.std.specs.List.{prefix_len, list_all}
 use Rattle.std.proofs.lemmas.List.{append-nil}
 use Rattle.asm_lines.specs.declared.piece.Piece.{Piece}
@@ -73,7 +74,8 @@ pub no_word : (z : List ℕ) → (split (drop (prefix_len is_part z) z)).word �
 no_word [] = refl
 no_word (b ∷ z) = no_word_by b z (is_part b) refl (no_word z)
 
-all_parts_by : (b : ℕ) (z : List ℕ) (t : Bool) → is_part b ≡ t → list_all is_part (take (prefix_len is_part z) z) ≡ true →
+all_parts_by : (b : ℕ) (z : List ℕ) (t : Bool) → is_part b ≡ t →
+    list_all is_part (take (prefix_len is_part z) z) ≡ true →
     list_all is_part (take (prefix_len is_part (b ∷ z)) (b ∷ z)) ≡ true
 all_parts_by b z true e rest =
     let n : prefix_len is_part (b ∷ z) ≡ suc (prefix_len is_part z) =

@@ -1,5 +1,6 @@
 -- Fronts of what is written in pieces: lines one after another, and the lines of a list up to a place.
-use Rattle.std.proofs.Common.{◌≡◌, ℕ, suc, ◌+◌, ◌<◌, ◌≤◌, List, [], ◌∷◌, ◌++◌, length, length-append, take, drop, Option, arith, ap, sym, ◌∙◌, subst, take-append-drop, get_or, Result, Ok, Err, OnErr}
+use Rattle.std.proofs.Common.{◌≡◌, ℕ, suc, ◌+◌, ◌<◌, ◌≤◌, List, [], ◌∷◌, ◌++◌, length, length-append, take, drop}
+use Rattle.std.proofs.Common.{Option, arith, ap, sym, ◌∙◌, subst, take-append-drop, get_or, Result, Ok, Err, OnErr}
 use Rattle.std.specs.Io.KnownBytes.{Appends}
 use Rattle.std.proofs.KnownBytes.{Appends-trans}
 use Rattle.std.proofs.lemmas.List.{take-append-le, take_more, flat_map_more}
@@ -24,7 +25,8 @@ pub front_second : (a b c : Option (List ℕ)) (xs ys : List ℕ) →
 front_second a b c xs ys p t = record {
   count = length xs + t.count;
   short = let e = length-append xs ys in let h = t.short in omega arith;
-  taken = subst (Appends a c) (sym (take-append-add xs ys t.count)) (Appends-trans a b c xs (take t.count ys) p t.taken);
+  taken = subst (Appends a c) (sym (take-append-add xs ys t.count))
+      (Appends-trans a b c xs (take t.count ys) p t.taken);
 }
 
 -- The lines of a list: those before a place, the one at it, and those after it.

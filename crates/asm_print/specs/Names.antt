@@ -1,7 +1,8 @@
 -- The names of operations in assembly text: the names of the MIPS R2000 architecture manual in lower case.
 use Rattle.std.specs.Prelude.{ℕ, List, codes}
 use Rattle.mips_encoder.specs.declared.instruction.ArithmeticOp.{ArithmeticOp}
-use Rattle.mips_encoder.specs.declared.instruction.ArithmeticOp.TheVariants.{Add, Addu, Sub, Subu, And, Or, Xor, Nor, Slt, Sltu}
+use Rattle.mips_encoder.specs.declared.instruction.ArithmeticOp.TheVariants.{Add, Addu, Sub, Subu, And, Or, Xor, Nor}
+use Rattle.mips_encoder.specs.declared.instruction.ArithmeticOp.TheVariants.{Slt, Sltu}
 use Rattle.mips_encoder.specs.declared.instruction.ShiftOp.{ShiftOp}
 use Rattle.mips_encoder.specs.declared.instruction.ShiftOp.TheVariants.{Sll, Srl, Sra}
 use Rattle.mips_encoder.specs.declared.instruction.ShiftVariableOp.{ShiftVariableOp}

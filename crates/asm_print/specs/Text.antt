@@ -43,4 +43,5 @@ word_line w = line_of w (instr_of w)
 
 -- The text of an image.
 abbrev pub text_of : ImageParts → List ℕ
-text_of i = entry_line i.entry ++ (flat_map function_line i.functions ++ (data_lines i.bytes ++ flat_map word_line i.text))
+text_of i = entry_line i.entry ++
+    (flat_map function_line i.functions ++ (data_lines i.bytes ++ flat_map word_line i.text))

@@ -14,5 +14,6 @@ place_from at (x ∷ xs) w = if bytes_eq x w then Some at else place_from (at + 
 unfoldable pub register_of : List ℕ → Option ℕ
 register_of w =
     if slice_index w 0 == 36
-    then option_or (place_from 0 (map (λ k. k.now) NUMBERS) (drop 1 w)) (place_from 0 (map (λ k. k.now) USUAL_NAMES) (drop 1 w))
+    then option_or (place_from 0 (map (λ k. k.now) NUMBERS) (drop 1 w))
+    (place_from 0 (map (λ k. k.now) USUAL_NAMES) (drop 1 w))
     else None

@@ -1,8 +1,10 @@
--- Which typed programs run so far, and the function that each of them is: a program of one function, without ticks, globals
+-- Which typed programs run so far, and the function that each of them is: a program of one function, without ticks,
+-- globals
 -- and strings, whose nodes are all of the list below. The list is this project's own, and grows with the backend.
 --   expressions: words, register variables and their setting, sums, differences and `<` on signed words, putchar
 --   statements: expressions, blocks of register variables, `if`, `while`, `return` with a value
-use Rattle.std.specs.Prelude.{ℕ, Bool, true, false, ◌&&◌, nat_eq, nat_lt, if◌then◌else◌, List, [], ◌∷◌, Option, Some, None}
+use Rattle.std.specs.Prelude.{ℕ, Bool, true, false, ◌&&◌, nat_eq, nat_lt, if◌then◌else◌, List, [], ◌∷◌, Option, Some}
+use Rattle.std.specs.Prelude.{None}
 use Rattle.icode_ops.specs.declared.kind.BinKind.{BinKind}
 use Rattle.icode_ops.specs.declared.kind.BinKind.TheVariants as kind
 use Rattle.typed_tree.specs.declared.program.Function.{Function}

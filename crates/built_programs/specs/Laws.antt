@@ -12,4 +12,5 @@ pub record MeetsBackend (function : Function) : Type 0 where
   pub parameters : function.parameters ≤ 8
 
 abbrev pub BuiltIsStatic : Type 0
-BuiltIsStatic = (program : Typed) (function : Function) → IsWellFormed program → built program ≡ Some function → MeetsBackend function
+BuiltIsStatic = (program : Typed) (function : Function) → IsWellFormed program → built program ≡ Some function →
+    MeetsBackend function

@@ -1,7 +1,11 @@
--- The tokens of a text: at each place the longest token, with blanks and comments skipped, or the first fault in text order
--- with its line. The token classes are C's, cut to this project's language; the order of the faults and the limit on tokens
+-- The tokens of a text: at each place the longest token, with blanks and comments skipped, or the first fault in text
+-- order
+-- with its line. The token classes are C's, cut to this project's language; the order of the faults and the limit on
+-- tokens
 -- are this project's own rules.
-use Rattle.std.specs.Prelude.{◌≡◌, ◌≤◌, ℕ, zero, suc, ◌+◌, ◌-◌, Bool, not, ◌&&◌, ◌||◌, if◌then◌else◌, ◌==◌, nat_le, nat_lt, List, [], ◌∷◌, length, take, drop, slice_index, Option, Some, None, option_map, is_some, Result, Ok, Err}
+use Rattle.std.specs.Prelude.{◌≡◌, ◌≤◌, ℕ, zero, suc, ◌+◌, ◌-◌, Bool, not, ◌&&◌, ◌||◌, if◌then◌else◌, ◌==◌, nat_le}
+use Rattle.std.specs.Prelude.{nat_lt, List, [], ◌∷◌, length, take, drop, slice_index, Option, Some, None, option_map}
+use Rattle.std.specs.Prelude.{is_some, Result, Ok, Err}
 use Rattle.std.specs.Char.{is_ascii_digit, is_ascii_alphabetic, is_ascii_alphanumeric}
 use Rattle.std.specs.List.{prefix_len, count_by}
 use Rattle.lex_words.specs.Words.{keyword_of, sign_at, spelling}
@@ -25,7 +29,8 @@ use Rattle.limits.specs.declared.text.TheConstants.{MAX_TOKENS}
 abbrev pub Text : Type 0
 Text = List ℕ
 
--- ---- classes of bytes: blanks are 32 and 9 to 13; a name goes on with letters, digits and `_`; a line up to its line feed
+-- ---- classes of bytes: blanks are 32 and 9 to 13; a name goes on with letters, digits and `_`; a line up to its line
+-- feed
 
 abbrev pub is_in : Class → ℕ → Bool
 is_in class.Blank b = b == 32 || (nat_le 9 b && nat_le b 13)
@@ -41,7 +46,8 @@ past c z at = at + prefix_len (is_in c) (drop at z)
 
 -- a keyword or a name
 abbrev pub word : Text → Piece
-word z = let end = past class.Name z 0 in Taken (if is_some (keyword_of (take end z)) then kind.Keyword else kind.Name) end
+word z = let end = past class.Name z 0 in
+    Taken (if is_some (keyword_of (take end z)) then kind.Keyword else kind.Name) end
 
 abbrev pub number : Numeral → Piece
 number n = if is_some n.value then Taken kind.Number n.len else Bad fault.BigLiteral
@@ -52,7 +58,8 @@ string (Closed end chars) = Taken kind.String (end + 1)
 string Open = Bad fault.OpenLiteral
 string (Wrong chars) = Bad fault.BadEscape
 
--- A character literal, which has exactly one character. Behind its first character no other is looked at, and no escape.
+-- A character literal, which has exactly one character. Behind its first character no other is looked at, and no
+-- escape.
 abbrev pub character : Closing → Piece
 character (Closed end chars) = if chars == 1 then Taken kind.Character (end + 1) else Bad fault.OpenLiteral
 character Open = Bad fault.OpenLiteral
@@ -108,7 +115,8 @@ before t (Err f) = Err f
 abbrev pub max_tokens : ℕ
 max_tokens = MAX_TOKENS
 
--- What follows a piece at the place `at`, where `count` tokens stand before it and `goes` gives the tokens after the piece,
+-- What follows a piece at the place `at`, where `count` tokens stand before it and `goes` gives the tokens after the
+-- piece,
 -- from their count so far and the bytes of the piece that are still to pass.
 abbrev pub by_piece : Text → ℕ → ℕ → (ℕ → ℕ → Lexed) → Piece → Lexed
 by_piece text count at goes (Gap n) = goes count (n - 1)

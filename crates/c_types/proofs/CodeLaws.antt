@@ -1,5 +1,6 @@
 -- Two lists of layers have the same code just where they are the same.
-use Rattle.std.proofs.Common.{◌≡◌, ℕ, ◌<◌, Bool, true, false, ◌&&◌, List, [], ◌∷◌, ◌++◌, map, nat_eq, ◌/◌, ◌%◌, refl, sym, ap, ◌∙◌, subst, arith}
+use Rattle.std.proofs.Common.{◌≡◌, ℕ, ◌<◌, Bool, true, false, ◌&&◌, List, [], ◌∷◌, ◌++◌, map, nat_eq, ◌/◌, ◌%◌, refl}
+use Rattle.std.proofs.Common.{sym, ap, ◌∙◌, subst, arith}
 use lib.Pointwise.{pointwise}
 use Rattle.std.specs.Prelude.{◌==◌}
 use Rattle.std.proofs.lemmas.List.{append_assoc}
@@ -10,15 +11,18 @@ use Rattle.c_types.specs.declared.ctype.Base.TheVariants as base
 use Rattle.c_types.specs.declared.ctype.CType.{CType, roll-CType}
 use Rattle.c_types.specs.declared.ctype.Layer.{Layer, out-Layer, roll-Layer}
 use Rattle.c_types.specs.declared.ctype.Layer.TheOpen.{Layer-F, CType-F}
-use Rattle.c_types.specs.declared.ctype.Layer.TheFolds.{fold-roll-Layer, fold-roll-CType, fold_out-Layer, fold_out-CType, ind-Layer, map-Layer, map-CType}
-use Rattle.c_types.specs.Types.{Opened, same, same_layer, same_layers, same_integer, same_base, base_of, layers_of, each_holds, same_at, same_layer_rule, same_rule}
+use Rattle.c_types.specs.declared.ctype.Layer.TheFolds.{fold-roll-Layer, fold-roll-CType, fold_out-Layer}
+use Rattle.c_types.specs.declared.ctype.Layer.TheFolds.{fold_out-CType, ind-Layer, map-Layer, map-CType}
+use Rattle.c_types.specs.Types.{Opened, same, same_layer, same_layers, same_integer, same_base, base_of, layers_of}
+use Rattle.c_types.specs.Types.{each_holds, same_at, same_layer_rule, same_rule}
 use Rattle.c_types.specs.Codes.{kind_code, base_code, joined, layer_rule, type_rule, layer_code, type_code, codes}
 
 -- ---- one code after another
 
 -- a code that is followed by others tells the thing that it is of
 abbrev Tells : {A : Type 0} → (A → List ℕ) → (A → A → Bool) → A → Type 0
-Tells {A} code same x = (y : A) (s t : List ℕ) → pointwise nat_eq (code x ++ s) (code y ++ t) ≡ (same x y && pointwise nat_eq s t)
+Tells {A} code same x = (y : A) (s t : List ℕ) →
+    pointwise nat_eq (code x ++ s) (code y ++ t) ≡ (same x y && pointwise nat_eq s t)
 
 -- a code that begins with something else than the mark at the end
 abbrev Begins : List ℕ → Type 0
@@ -54,7 +58,9 @@ module _ {A : Type 0} (code : A → List ℕ) (same : A → A → Bool) (begins 
   Known = (x : A) × Tells code same x
 
   -- lists with a mark behind each
-  listed : (ks : List Known) (ys : List A) (s t : List ℕ) → pointwise nat_eq (joined (map code (map (λ k. k.0) ks)) ++ 255 ∷ s) (joined (map code ys) ++ 255 ∷ t) ≡ (each_holds (map same (map (λ k. k.0) ks)) ys && pointwise nat_eq s t)
+  listed : (ks : List Known) (ys : List A) (s t : List ℕ) →
+      pointwise nat_eq (joined (map code (map (λ k. k.0) ks)) ++ 255 ∷ s) (joined (map code ys) ++ 255 ∷ t) ≡
+      (each_holds (map same (map (λ k. k.0) ks)) ys && pointwise nat_eq s t)
   listed [] [] s t = refl
   listed [] (y ∷ ys) s t =
       ap (λ c. pointwise nat_eq (255 ∷ s) c) (append_assoc (code y) (joined (map code ys)) (255 ∷ t))
@@ -65,7 +71,8 @@ module _ {A : Type 0} (code : A → List ℕ) (same : A → A → Bool) (begins 
   listed (k ∷ ks) (y ∷ ys) s t =
       let xs = joined (map code (map (λ k. k.0) ks)) in
       ap (λ c. pointwise nat_eq c ((code y ++ joined (map code ys)) ++ 255 ∷ t)) (append_assoc (code k.0) xs (255 ∷ s))
-      ∙ ap (λ c. pointwise nat_eq (code k.0 ++ (xs ++ 255 ∷ s)) c) (append_assoc (code y) (joined (map code ys)) (255 ∷ t))
+      ∙ ap (λ c. pointwise nat_eq (code k.0 ++ (xs ++ 255 ∷ s)) c)
+      (append_assoc (code y) (joined (map code ys)) (255 ∷ t))
       ∙ k.1 y (xs ++ 255 ∷ s) (joined (map code ys) ++ 255 ∷ t)
       ∙ ap (λ b. same k.0 y && b) (listed ks ys s t)
       ∙ and_assoc (same k.0 y) (each_holds (map same (map (λ k. k.0) ks)) ys) (pointwise nat_eq s t)
@@ -82,9 +89,14 @@ bases (base.Integer k) (base.Integer j) = kinds k j
 by_byte : (n m : ℕ) (r : Bool) → (nat_eq (n % 256) (m % 256) && (nat_eq (n / 256) (m / 256) && r)) ≡ ((n == m) && r)
 by_byte n m r = grind (arith)
 
-counts : (n m : ℕ) (r : Bool) → (nat_eq (n % 256) (m % 256) && (nat_eq (n / 256 % 256) (m / 256 % 256) && (nat_eq (n / 256 / 256 % 256) (m / 256 / 256 % 256) && (nat_eq (n / 256 / 256 / 256) (m / 256 / 256 / 256) && r)))) ≡ ((n == m) && r)
+counts : (n m : ℕ) (r : Bool) →
+    (nat_eq (n % 256) (m % 256) &&
+    (nat_eq (n / 256 % 256) (m / 256 % 256) &&
+    (nat_eq (n / 256 / 256 % 256) (m / 256 / 256 % 256) && (nat_eq (n / 256 / 256 / 256) (m / 256 / 256 / 256) && r)))) ≡
+    ((n == m) && r)
 counts n m r =
-    ap (λ b. nat_eq (n % 256) (m % 256) && (nat_eq (n / 256 % 256) (m / 256 % 256) && b)) (by_byte (n / 256 / 256) (m / 256 / 256) r)
+    ap (λ b. nat_eq (n % 256) (m % 256) && (nat_eq (n / 256 % 256) (m / 256 % 256) && b))
+    (by_byte (n / 256 / 256) (m / 256 / 256) r)
     ∙ ap (λ b. nat_eq (n % 256) (m % 256) && b) (by_byte (n / 256) (m / 256) r)
     ∙ by_byte n m r
 
@@ -104,7 +116,8 @@ coded o = map-Layer Layer CType (List ℕ) (List ℕ) layer_code type_code o
 
 layer_begins : (l : Layer) → Begins (layer_code l)
 unfolding layer_code type_code
-layer_begins l = subst Begins (sym (fold_out-Layer (List ℕ) (List ℕ) layer_rule type_rule l)) (begins_at (coded (out-Layer l)))
+layer_begins l = subst Begins (sym (fold_out-Layer (List ℕ) (List ℕ) layer_rule type_rule l))
+    (begins_at (coded (out-Layer l)))
 
 base_begins : (b : Base) → base_code b < 255
 base_begins base.Void = omega arith
@@ -134,10 +147,14 @@ abbrev asked : Opened → Layer-F (Layer → Bool) (CType → Bool)
 asked o = map-Layer Layer CType (Layer → Bool) (CType → Bool) same_layer same o
 
 -- layers of known parts
-opened : (y : Layer-F KnownLayer KnownType) (b : Opened) (s t : List ℕ) → pointwise nat_eq (layer_rule (coded (plain y)) ++ s) (layer_rule (coded b) ++ t) ≡ (same_at (asked (plain y)) b && pointwise nat_eq s t)
+opened : (y : Layer-F KnownLayer KnownType) (b : Opened) (s t : List ℕ) →
+    pointwise nat_eq (layer_rule (coded (plain y)) ++ s) (layer_rule (coded b) ++ t) ≡
+    (same_at (asked (plain y)) b && pointwise nat_eq s t)
 opened (Layer-F.Function ks) (Layer-F.Function ys) s t =
-    ap (λ c. pointwise nat_eq c ((joined (map type_code ys) ++ 255 ∷ []) ++ t)) (append_assoc (joined (map type_code (map (λ k. k.0) ks))) (255 ∷ []) s)
-    ∙ ap (λ c. pointwise nat_eq (joined (map type_code (map (λ k. k.0) ks)) ++ 255 ∷ s) c) (append_assoc (joined (map type_code ys)) (255 ∷ []) t)
+    ap (λ c. pointwise nat_eq c ((joined (map type_code ys) ++ 255 ∷ []) ++ t))
+    (append_assoc (joined (map type_code (map (λ k. k.0) ks))) (255 ∷ []) s)
+    ∙ ap (λ c. pointwise nat_eq (joined (map type_code (map (λ k. k.0) ks)) ++ 255 ∷ s) c)
+    (append_assoc (joined (map type_code ys)) (255 ∷ []) t)
     ∙ listed type_code same type_begins ks ys s t
 opened (Layer-F.Array n) (Layer-F.Array m) s t = counts n m (pointwise nat_eq s t)
 opened Layer-F.Pointer Layer-F.Pointer s t = refl
@@ -183,31 +200,47 @@ known_type y = map-CType KnownLayer KnownType Layer CType (λ k. k.0) (λ k. k.0
 layer_step : (y : Layer-F KnownLayer KnownType) → Tells layer_code same_layer (roll-Layer (plain y))
 unfolding layer_code type_code same_layer same
 layer_step y b s t =
-    ap (λ c. pointwise nat_eq (c ++ s) (layer_code b ++ t)) (fold-roll-Layer (List ℕ) (List ℕ) layer_rule type_rule (plain y))
-    ∙ ap (λ c. pointwise nat_eq (layer_rule (coded (plain y)) ++ s) (c ++ t)) (fold_out-Layer (List ℕ) (List ℕ) layer_rule type_rule b)
+    ap (λ c. pointwise nat_eq (c ++ s) (layer_code b ++ t))
+    (fold-roll-Layer (List ℕ) (List ℕ) layer_rule type_rule (plain y))
+    ∙ ap (λ c. pointwise nat_eq (layer_rule (coded (plain y)) ++ s) (c ++ t))
+    (fold_out-Layer (List ℕ) (List ℕ) layer_rule type_rule b)
     ∙ opened y (out-Layer b) s t
-    ∙ ap (λ f. f b && pointwise nat_eq s t) (sym (fold-roll-Layer (Layer → Bool) (CType → Bool) same_layer_rule same_rule (plain y)))
+    ∙ ap (λ f. f b && pointwise nat_eq s t)
+    (sym (fold-roll-Layer (Layer → Bool) (CType → Bool) same_layer_rule same_rule (plain y)))
 
-type_opened : (y : CType-F KnownLayer KnownType) (b : CType) (s t : List ℕ) → pointwise nat_eq ((base_code y.base ∷ (joined (map layer_code (map (λ k. k.0) y.layers)) ++ 255 ∷ [])) ++ s) ((base_code (base_of b) ∷ (joined (map layer_code (layers_of b)) ++ 255 ∷ [])) ++ t) ≡ ((same_base y.base (base_of b) && each_holds (map same_layer (map (λ k. k.0) y.layers)) (layers_of b)) && pointwise nat_eq s t)
+type_opened : (y : CType-F KnownLayer KnownType) (b : CType) (s t : List ℕ) →
+    pointwise nat_eq ((base_code y.base ∷ (joined (map layer_code (map (λ k. k.0) y.layers)) ++ 255 ∷ [])) ++ s)
+    ((base_code (base_of b) ∷ (joined (map layer_code (layers_of b)) ++ 255 ∷ [])) ++ t) ≡
+    ((same_base y.base (base_of b) && each_holds (map same_layer (map (λ k. k.0) y.layers)) (layers_of b)) && pointwise
+    nat_eq s t)
 type_opened y b s t =
     let xs = joined (map layer_code (map (λ k. k.0) y.layers)) in
     let ys = joined (map layer_code (layers_of b)) in
-    ap (λ c. nat_eq (base_code y.base) (base_code (base_of b)) && pointwise nat_eq c ((ys ++ 255 ∷ []) ++ t)) (append_assoc xs (255 ∷ []) s)
-    ∙ ap (λ c. nat_eq (base_code y.base) (base_code (base_of b)) && pointwise nat_eq (xs ++ 255 ∷ s) c) (append_assoc ys (255 ∷ []) t)
+    ap (λ c. nat_eq (base_code y.base) (base_code (base_of b)) && pointwise nat_eq c ((ys ++ 255 ∷ []) ++ t))
+    (append_assoc xs (255 ∷ []) s)
+    ∙ ap (λ c. nat_eq (base_code y.base) (base_code (base_of b)) && pointwise nat_eq (xs ++ 255 ∷ s) c)
+    (append_assoc ys (255 ∷ []) t)
     ∙ ap (λ c. c && pointwise nat_eq (xs ++ 255 ∷ s) (ys ++ 255 ∷ t)) (bases y.base (base_of b))
     ∙ ap (λ c. same_base y.base (base_of b) && c) (listed layer_code same_layer layer_begins y.layers (layers_of b) s t)
-    ∙ and_assoc (same_base y.base (base_of b)) (each_holds (map same_layer (map (λ k. k.0) y.layers)) (layers_of b)) (pointwise nat_eq s t)
+    ∙ and_assoc (same_base y.base (base_of b)) (each_holds (map same_layer (map (λ k. k.0) y.layers)) (layers_of b))
+    (pointwise nat_eq s t)
 
 type_step : (y : CType-F KnownLayer KnownType) → Tells type_code same (roll-CType (known_type y))
 unfolding layer_code type_code same_layer same
 type_step y b s t =
-    ap (λ c. pointwise nat_eq (c ++ s) (type_code b ++ t)) (fold-roll-CType (List ℕ) (List ℕ) layer_rule type_rule (known_type y))
-    ∙ ap (λ c. pointwise nat_eq (type_rule (map-CType Layer CType (List ℕ) (List ℕ) layer_code type_code (known_type y)) ++ s) (c ++ t)) (fold_out-CType (List ℕ) (List ℕ) layer_rule type_rule b)
+    ap (λ c. pointwise nat_eq (c ++ s) (type_code b ++ t))
+    (fold-roll-CType (List ℕ) (List ℕ) layer_rule type_rule (known_type y))
+    ∙ ap (λ c. pointwise nat_eq
+    (type_rule (map-CType Layer CType (List ℕ) (List ℕ) layer_code type_code (known_type y)) ++ s) (c ++ t))
+    (fold_out-CType (List ℕ) (List ℕ) layer_rule type_rule b)
     ∙ type_opened y b s t
-    ∙ ap (λ f. f b && pointwise nat_eq s t) (sym (fold-roll-CType (Layer → Bool) (CType → Bool) same_layer_rule same_rule (known_type y)))
+    ∙ ap (λ f. f b && pointwise nat_eq s t)
+    (sym (fold-roll-CType (Layer → Bool) (CType → Bool) same_layer_rule same_rule (known_type y)))
 
 layer_tells : (l : Layer) → Tells layer_code same_layer l
-layer_tells = ind-Layer (Tells layer_code same_layer) (Tells type_code same) (λ x y is. subst (λ z. Tells layer_code same_layer (roll-Layer z)) is (layer_step y)) (λ x y is. subst (λ z. Tells type_code same (roll-CType z)) is (type_step y))
+layer_tells = ind-Layer (Tells layer_code same_layer) (Tells type_code same)
+    (λ x y is. subst (λ z. Tells layer_code same_layer (roll-Layer z)) is (layer_step y))
+    (λ x y is. subst (λ z. Tells type_code same (roll-CType z)) is (type_step y))
 
 -- the codes are the same just where the layers are
 pub codes_same : (xs ys : List Layer) → pointwise nat_eq (codes xs) (codes ys) ≡ same_layers xs ys

@@ -1,5 +1,6 @@
 -- The extents of layers are their sizes.
-use Rattle.std.proofs.Common.{◌≡◌, ℕ, zero, suc, ◌+◌, ◌*◌, ◌-◌, ◌<◌, ◌≤◌, Bool, true, false, ◌&&◌, List, [], ◌∷◌, ◌++◌, length, take, Some, None, refl, ap, ◌∙◌, arith}
+use Rattle.std.proofs.Common.{◌≡◌, ℕ, zero, suc, ◌+◌, ◌*◌, ◌-◌, ◌<◌, ◌≤◌, Bool, true, false, ◌&&◌, List, [], ◌∷◌, ◌++◌}
+use Rattle.std.proofs.Common.{length, take, Some, None, refl, ap, ◌∙◌, arith}
 use Rattle.std.proofs.lemmas.List.{length-append}
 use Rattle.std.specs.Prelude.{min, nat_le, slice_get, if◌then◌else◌}
 use Rattle.c_types.specs.declared.ctype.Integer.TheVariants as kind
@@ -8,11 +9,13 @@ use Rattle.c_types.specs.declared.ctype.Base.TheVariants as base
 use Rattle.c_types.specs.declared.ctype.Layer.{Layer, out-Layer}
 use Rattle.c_types.specs.declared.ctype.Layer.TheOpen.{Layer-F}
 use Rattle.c_types.specs.declared.extents.Extent.{Extent}
-use Rattle.c_types.specs.Types.{Opened, base_size, is_integer_base, size_at, size_under, under, is_sized_at, is_sized_under, limited_parts}
+use Rattle.c_types.specs.Types.{Opened, base_size, is_integer_base, size_at, size_under, under, is_sized_at}
+use Rattle.c_types.specs.Types.{is_sized_under, limited_parts}
 use Rattle.c_types.specs.Extents.{start, grown_at, grown, after, extents, limited}
 
 -- over the first layers
-pub found : (e : Extent) (ls : List Layer) (n : ℕ) → n ≤ length ls → slice_get (extents e ls) n ≡ Some (after e (take n ls))
+pub found : (e : Extent) (ls : List Layer) (n : ℕ) → n ≤ length ls →
+    slice_get (extents e ls) n ≡ Some (after e (take n ls))
 found e [] zero h = refl
 found e [] (suc n) h = absurd (omega (arith, h))
 found e (l ∷ ls) zero h = refl
@@ -49,7 +52,8 @@ step s b Layer-F.Vspec = refl
 
 over : (s : ℕ) (b : Bool) (ls : List Layer) → after (extent s b) ls ≡ extent (size_under s ls) (is_sized_under b ls)
 over s b [] = refl
-over s b (l ∷ ls) = ap (λ e. after e ls) (step s b (out-Layer l)) ∙ over (size_at s (out-Layer l)) (is_sized_at b (out-Layer l)) ls
+over s b (l ∷ ls) = ap (λ e. after e ls) (step s b (out-Layer l)) ∙
+    over (size_at s (out-Layer l)) (is_sized_at b (out-Layer l)) ls
 
 begun : (b : Base) → start b ≡ extent (base_size b) (is_integer_base b)
 begun base.Void = refl
@@ -61,10 +65,12 @@ begun (base.Integer kind.Int) = refl
 begun (base.Integer kind.Unsigned) = refl
 
 -- the size and whether there is one
-counted : (b : Base) (ls : List Layer) → after (start b) ls ≡ extent (size_under (base_size b) ls) (is_sized_under (is_integer_base b) ls)
+counted : (b : Base) (ls : List Layer) →
+    after (start b) ls ≡ extent (size_under (base_size b) ls) (is_sized_under (is_integer_base b) ls)
 counted b ls = ap (λ e. after e ls) (begun b) ∙ over (base_size b) (is_integer_base b) ls
 
-fits : (s : ℕ) → (if nat_le (min s 4194305) 4194304 then Some (min s 4194305) else None) ≡ (if nat_le s 4194304 then Some s else None)
+fits : (s : ℕ) → (if nat_le (min s 4194305) 4194304 then Some (min s 4194305) else None) ≡
+    (if nat_le s 4194304 then Some s else None)
 fits s = grind (arith)
 
 cut : (s : ℕ) (b : Bool) → limited (extent s b) ≡ (if b && nat_le s 4194304 then Some s else None)
@@ -74,8 +80,10 @@ cut s true = fits s
 pub limits : (b : Base) (ls : List Layer) → limited (after (start b) ls) ≡ limited_parts b ls
 limits b ls = ap limited (counted b ls) ∙ cut (size_under (base_size b) ls) (is_sized_under (is_integer_base b) ls)
 
-pub whole : (b : Base) (ls : List Layer) → size_under (base_size b) ls ≤ 4194304 → (after (start b) ls).size ≡ size_under (base_size b) ls
-whole b ls h = let e : (after (start b) ls).size ≡ min (size_under (base_size b) ls) 4194305 = ap (λ e. e.size) (counted b ls) in e ∙ omega (arith, h)
+pub whole : (b : Base) (ls : List Layer) → size_under (base_size b) ls ≤ 4194304 →
+    (after (start b) ls).size ≡ size_under (base_size b) ls
+whole b ls h = let e : (after (start b) ls).size ≡ min (size_under (base_size b) ls) 4194305 =
+    ap (λ e. e.size) (counted b ls) in e ∙ omega (arith, h)
 
 pub same_extent : (x y : Extent) → Some x ≡ Some y → x ≡ y
 same_extent x y h = cc

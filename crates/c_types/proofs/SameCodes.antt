@@ -1,5 +1,6 @@
 -- Two lists of layers are the same where the codes of their first layers are, and the others one by one.
-use Rattle.std.proofs.Common.{◌≡◌, ℕ, zero, suc, ◌+◌, ◌≤◌, Bool, true, false, ◌&&◌, List, [], ◌∷◌, ◌++◌, length, take, drop, nat_eq, refl, sym, ap, ◌∙◌, arith, add-one, not, Some, None}
+use Rattle.std.proofs.Common.{◌≡◌, ℕ, zero, suc, ◌+◌, ◌≤◌, Bool, true, false, ◌&&◌, List, [], ◌∷◌, ◌++◌, length, take}
+use Rattle.std.proofs.Common.{drop, nat_eq, refl, sym, ap, ◌∙◌, arith, add-one, not, Some, None}
 use lib.Pointwise.{pointwise}
 use Rattle.std.specs.Prelude.{min, slice_get}
 use Rattle.std.proofs.lemmas.List.{take-append-le, length-append, drop_all}
@@ -12,7 +13,8 @@ use Rattle.c_types.proofs.CodeLaws.{codes_same}
 use Rattle.c_types.proofs.Coded.{first_coded}
 
 -- the first and the others
-pub split : (k : ℕ) (xs ys : List Layer) → k ≤ length xs → length xs ≡ length ys → same_layers xs ys ≡ (same_layers (take k xs) (take k ys) && same_layers (drop k xs) (drop k ys))
+pub split : (k : ℕ) (xs ys : List Layer) → k ≤ length xs → length xs ≡ length ys →
+    same_layers xs ys ≡ (same_layers (take k xs) (take k ys) && same_layers (drop k xs) (drop k ys))
 split zero xs ys h e = refl
 split (suc k) [] ys h e = absurd (omega (arith, h))
 split (suc k) (x ∷ xs) [] h e = absurd (omega (arith, e))
@@ -28,7 +30,10 @@ is_so : (b : Bool) → false ≡ not b → b ≡ true
 is_so true h = refl
 is_so false h = h
 
-module _ (ra ma rb mb as_ bs : List Layer) (ca cb ea eb : List ℕ) (la lb : List (List Code)) (k : ℕ) (ha : AreLent ra ca ea la) (hb : AreLent rb cb eb lb) (va : ra ++ ma ≡ as_) (vb : rb ++ mb ≡ bs) (both : k ≡ min (length ra) (length rb)) (fa fb : List ℕ) (sa : fa ≡ take (end_of ea k) ca) (sb : fb ≡ take (end_of eb k) cb) (long : length as_ ≡ length bs) where
+module _ (ra ma rb mb as_ bs : List Layer) (ca cb ea eb : List ℕ) (la lb : List (List Code)) (k : ℕ)
+    (ha : AreLent ra ca ea la) (hb : AreLent rb cb eb lb) (va : ra ++ ma ≡ as_) (vb : rb ++ mb ≡ bs)
+    (both : k ≡ min (length ra) (length rb)) (fa fb : List ℕ) (sa : fa ≡ take (end_of ea k) ca)
+    (sb : fb ≡ take (end_of eb k) cb) (long : length as_ ≡ length bs) where
   within : k ≤ length as_
   within =
       let all : length ra + length ma ≡ length as_ = sym (length-append ra ma) ∙ ap length va in
@@ -37,7 +42,8 @@ module _ (ra ma rb mb as_ bs : List Layer) (ca cb ea eb : List ℕ) (la lb : Lis
   first_same : pointwise nat_eq fa fb ≡ same_layers (take k as_) (take k bs)
   first_same =
       ap (λ c. pointwise nat_eq c fb) (sa ∙ first_coded ra ca ea k ha.coded ha.ended (omega (arith, both)))
-      ∙ ap (λ c. pointwise nat_eq (codes (take k ra)) c) (sb ∙ first_coded rb cb eb k hb.coded hb.ended (omega (arith, both)))
+      ∙ ap (λ c. pointwise nat_eq (codes (take k ra)) c)
+      (sb ∙ first_coded rb cb eb k hb.coded hb.ended (omega (arith, both)))
       ∙ codes_same (take k ra) (take k rb)
       ∙ ap (λ l. same_layers l (take k rb)) (sym (take-append-le k ra ma (omega (arith, both))) ∙ ap (take k) va)
       ∙ ap (λ l. same_layers (take k as_) l) (sym (take-append-le k rb mb (omega (arith, both))) ∙ ap (take k) vb)
@@ -58,16 +64,21 @@ same_item x y h = cc
 no_item : (x : Layer) → None ≡ Some x → ⊥
 no_item x h = cc
 
-after_item : (i : ℕ) (xs ys : List Layer) (u v : Layer) → slice_get xs i ≡ Some u → slice_get ys i ≡ Some v → same_layers (drop i xs) (drop i ys) ≡ (same_layer u v && same_layers (drop (suc i) xs) (drop (suc i) ys))
+after_item : (i : ℕ) (xs ys : List Layer) (u v : Layer) → slice_get xs i ≡ Some u → slice_get ys i ≡ Some v →
+    same_layers (drop i xs) (drop i ys) ≡ (same_layer u v && same_layers (drop (suc i) xs) (drop (suc i) ys))
 after_item i [] ys u v h e = absurd (no_item u h)
 after_item i (x ∷ xs) [] u v h e = absurd (no_item v e)
 after_item zero (x ∷ xs) (y ∷ ys) u v h e =
-    ap (λ l. same_layer l y && same_layers xs ys) (same_item x u h) ∙ ap (λ l. same_layer u l && same_layers xs ys) (same_item y v e)
+    ap (λ l. same_layer l y && same_layers xs ys) (same_item x u h) ∙
+    ap (λ l. same_layer u l && same_layers xs ys) (same_item y v e)
 after_item (suc i) (x ∷ xs) (y ∷ ys) u v h e = after_item i xs ys u v h e
 
 -- one layer further
-pub further : (i : ℕ) (xs ys : List Layer) (u v : Layer) (b : Bool) → slice_get xs i ≡ Some u → slice_get ys i ≡ Some v → b ≡ same_layer u v → same_layers (drop i xs) (drop i ys) ≡ (b && same_layers (drop (i + 1) xs) (drop (i + 1) ys))
+pub further : (i : ℕ) (xs ys : List Layer) (u v : Layer) (b : Bool) → slice_get xs i ≡ Some u →
+    slice_get ys i ≡ Some v → b ≡ same_layer u v →
+    same_layers (drop i xs) (drop i ys) ≡ (b && same_layers (drop (i + 1) xs) (drop (i + 1) ys))
 further i xs ys u v b h e s = rw (add-one i, s) (after_item i xs ys u v h e)
 
-pub at_the_end : (i : ℕ) (xs ys : List Layer) → length xs ≤ i → length xs ≡ length ys → same_layers (drop i xs) (drop i ys) ≡ true
+pub at_the_end : (i : ℕ) (xs ys : List Layer) → length xs ≤ i → length xs ≡ length ys →
+    same_layers (drop i xs) (drop i ys) ≡ true
 at_the_end i xs ys h e = rw (drop_all i xs h, drop_all i ys (omega (arith, h, e))) refl

@@ -1,4 +1,5 @@
--- A byte code of layers, with those in the lists of functions. Two lists of layers have the same code just where they are the
+-- A byte code of layers, with those in the lists of functions. Two lists of layers have the same code just where they
+-- are the
 -- same layers.
 use Rattle.std.specs.Prelude.{ℕ, ◌+◌, ◌/◌, ◌%◌, List, [], ◌∷◌, ◌++◌, length, map, get_or, nat_eq, ◌-◌, if◌then◌else◌}
 use Rattle.c_types.specs.declared.ctype.Integer.{Integer}

@@ -1,6 +1,8 @@
--- The rules on types: sizes, which types are the same, promotion, the common type, and which values convert to which type.
+-- The rules on types: sizes, which types are the same, promotion, the common type, and which values convert to which
+-- type.
 -- They are C's, cut to this project's language: a scalar is at most one 32-bit word, and `long` is int.
-use Rattle.std.specs.Prelude.{ℕ, ◌*◌, ◌-◌, Bool, true, false, not, ◌&&◌, ◌||◌, ◌==◌, List, [], ◌∷◌, length, take, slice_get, nat_le, if◌then◌else◌, Option, Some, None}
+use Rattle.std.specs.Prelude.{ℕ, ◌*◌, ◌-◌, Bool, true, false, not, ◌&&◌, ◌||◌, ◌==◌, List, [], ◌∷◌, length, take}
+use Rattle.std.specs.Prelude.{slice_get, nat_le, if◌then◌else◌, Option, Some, None}
 use Rattle.c_types.specs.declared.ctype.Integer.{Integer}
 use Rattle.c_types.specs.declared.ctype.Integer.TheVariants as kind
 use Rattle.c_types.specs.declared.ctype.Base.{Base}
@@ -237,8 +239,10 @@ serves_function a as_ b bs =
 abbrev pub serves : Base → List Layer → Base → List Layer → Bool
 serves a as_ b bs = is_void a as_ || is_void b bs || serves_function a as_ b bs
 
--- Whether a value of these layers over its base converts to a type: both are integers, or the same; or it is the literal 0
--- and a pointer is wanted; or both are pointers, one of them to void, or both to functions with the same result, of which
+-- Whether a value of these layers over its base converts to a type: both are integers, or the same; or it is the
+-- literal 0
+-- and a pointer is wanted; or both are pointers, one of them to void, or both to functions with the same result, of
+-- which
 -- one takes any arguments.
 abbrev pub converts_parts : Base → List Layer → Base → List Layer → Bool → Bool
 converts_parts a as_ b bs zero =

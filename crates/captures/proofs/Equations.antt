@@ -10,10 +10,15 @@ use Rattle.typed_tree.specs.declared.expression.CapturedWord.{CapturedWord}
 use Rattle.typed_tree.specs.declared.expression.Expr.{Expr}
 use Rattle.typed_tree.specs.declared.expression.Expr.TheOpen.{Expr-F}
 use Rattle.typed_tree.specs.declared.expression.Expr.TheVariants as e
-use Rattle.typed_tree.proofs.At.{at_const, at_captured, at_var, at_setvar, at_postvar, at_vget, at_vset, at_vpost, at_frame, at_load, at_store, at_modify, at_post, at_bin, at_un, at_and, at_or, at_cond, at_comma, at_void, at_call, at_callnumber, at_getchar, at_lib, at_tick, at_capture, at_splice, at_compile, at_local, at_paramof}
+use Rattle.typed_tree.proofs.At.{at_const, at_captured, at_var, at_setvar, at_postvar, at_vget, at_vset, at_vpost}
+use Rattle.typed_tree.proofs.At.{at_frame, at_load, at_store, at_modify, at_post, at_bin, at_un, at_and, at_or, at_cond}
+use Rattle.typed_tree.proofs.At.{at_comma, at_void, at_call, at_callnumber, at_getchar, at_lib, at_tick, at_capture}
+use Rattle.typed_tree.proofs.At.{at_splice, at_compile, at_local, at_paramof}
 use Rattle.typed_tree.specs.declared.expression.Stmt.{Stmt}
 use Rattle.typed_tree.specs.declared.expression.Stmt.TheVariants as st
-use Rattle.typed_tree.proofs.At.{on_eval, on_block, on_variable, on_object, on_parameter, on_parameterobject, on_if, on_ifelse, on_while, on_do, on_for, on_forstep, on_switch, on_case, on_default, on_break, on_continue, on_return, on_returnvalue}
+use Rattle.typed_tree.proofs.At.{on_eval, on_block, on_variable, on_object, on_parameter, on_parameterobject, on_if}
+use Rattle.typed_tree.proofs.At.{on_ifelse, on_while, on_do, on_for, on_forstep, on_switch, on_case, on_default}
+use Rattle.typed_tree.proofs.At.{on_break, on_continue, on_return, on_returnvalue}
 use Rattle.typed_tree.specs.Folds as parts
 use Rattle.captures.specs.Captures.{names, expr_rule, names_of, statement_rule, rules}
 
@@ -57,11 +62,13 @@ pub names_load : (a : Width) (b : Expr) → names (e.Load a b) ≡ expr_rule (Ex
 unfolding names
 names_load a b = at_load expr_rule a b
 
-pub names_store : (a : Width) (b : Expr) (c : Expr) → names (e.Store a b c) ≡ expr_rule (Expr-F.Store a (names b) (names c))
+pub names_store : (a : Width) (b : Expr) (c : Expr) →
+    names (e.Store a b c) ≡ expr_rule (Expr-F.Store a (names b) (names c))
 unfolding names
 names_store a b c = at_store expr_rule a b c
 
-pub names_modify : (a : Width) (b : BinKind) (c : Expr) (d : Expr) → names (e.Modify a b c d) ≡ expr_rule (Expr-F.Modify a b (names c) (names d))
+pub names_modify : (a : Width) (b : BinKind) (c : Expr) (d : Expr) →
+    names (e.Modify a b c d) ≡ expr_rule (Expr-F.Modify a b (names c) (names d))
 unfolding names
 names_modify a b c d = at_modify expr_rule a b c d
 
@@ -85,7 +92,8 @@ pub names_or : (a : Expr) (b : Expr) → names (e.Or a b) ≡ expr_rule (Expr-F.
 unfolding names
 names_or a b = at_or expr_rule a b
 
-pub names_cond : (a : Expr) (b : Expr) (c : Expr) → names (e.Cond a b c) ≡ expr_rule (Expr-F.Cond (names a) (names b) (names c))
+pub names_cond : (a : Expr) (b : Expr) (c : Expr) →
+    names (e.Cond a b c) ≡ expr_rule (Expr-F.Cond (names a) (names b) (names c))
 unfolding names
 names_cond a b c = at_cond expr_rule a b c
 
@@ -101,7 +109,8 @@ pub names_call : (a : Answer) (b : ℕ) (c : List Expr) → names (e.Call a b c)
 unfolding names
 names_call a b c = at_call expr_rule a b c
 
-pub names_callnumber : (a : Answer) (b : Expr) (c : List Expr) → names (e.CallNumber a b c) ≡ expr_rule (Expr-F.CallNumber a (names b) (map names c))
+pub names_callnumber : (a : Answer) (b : Expr) (c : List Expr) →
+    names (e.CallNumber a b c) ≡ expr_rule (Expr-F.CallNumber a (names b) (map names c))
 unfolding names
 names_callnumber a b c = at_callnumber expr_rule a b c
 
@@ -137,13 +146,45 @@ pub names_paramof : (a : Expr) → names (e.ParamOf a) ≡ expr_rule (Expr-F.Par
 unfolding names
 names_paramof a = at_paramof expr_rule a
 
-pub ruleset expressions = (names_const, names_captured, names_var, names_setvar, names_postvar, names_vget, names_vset, names_vpost, names_frame, names_load, names_store, names_modify, names_post, names_bin, names_un, names_and, names_or, names_cond, names_comma, names_void, names_call, names_callnumber, names_getchar, names_lib, names_tick, names_capture, names_splice, names_compile, names_local, names_paramof)
+pub ruleset expressions = (
+  names_const,
+  names_captured,
+  names_var,
+  names_setvar,
+  names_postvar,
+  names_vget,
+  names_vset,
+  names_vpost,
+  names_frame,
+  names_load,
+  names_store,
+  names_modify,
+  names_post,
+  names_bin,
+  names_un,
+  names_and,
+  names_or,
+  names_cond,
+  names_comma,
+  names_void,
+  names_call,
+  names_callnumber,
+  names_getchar,
+  names_lib,
+  names_tick,
+  names_capture,
+  names_splice,
+  names_compile,
+  names_local,
+  names_paramof,
+)
 
 pub names_of_eval : (a : Expr) → names_of (st.Eval a) ≡ statement_rule (parts.Eval (names a))
 unfolding names names_of
 names_of_eval a = on_eval rules a
 
-pub names_of_block : (a : List Stmt) (b : List Stmt) → names_of (st.Block a b) ≡ statement_rule (parts.Block (map names_of a) (map names_of b))
+pub names_of_block : (a : List Stmt) (b : List Stmt) →
+    names_of (st.Block a b) ≡ statement_rule (parts.Block (map names_of a) (map names_of b))
 unfolding names names_of
 names_of_block a b = on_block rules a b
 
@@ -159,7 +200,8 @@ pub names_of_parameter : (a : ℕ) (b : Width) → names_of (st.Parameter a b) �
 unfolding names names_of
 names_of_parameter a b = on_parameter rules a b
 
-pub names_of_parameterobject : (a : ℕ) (b : Width) (c : ℕ) → names_of (st.ParameterObject a b c) ≡ statement_rule (parts.ParameterObject a b c)
+pub names_of_parameterobject : (a : ℕ) (b : Width) (c : ℕ) →
+    names_of (st.ParameterObject a b c) ≡ statement_rule (parts.ParameterObject a b c)
 unfolding names names_of
 names_of_parameterobject a b c = on_parameterobject rules a b c
 
@@ -167,11 +209,13 @@ pub names_of_if : (a : Expr) (b : Stmt) → names_of (st.If a b) ≡ statement_r
 unfolding names names_of
 names_of_if a b = on_if rules a b
 
-pub names_of_ifelse : (a : Expr) (b : Stmt) (c : Stmt) → names_of (st.IfElse a b c) ≡ statement_rule (parts.IfElse (names a) (names_of b) (names_of c))
+pub names_of_ifelse : (a : Expr) (b : Stmt) (c : Stmt) →
+    names_of (st.IfElse a b c) ≡ statement_rule (parts.IfElse (names a) (names_of b) (names_of c))
 unfolding names names_of
 names_of_ifelse a b c = on_ifelse rules a b c
 
-pub names_of_while : (a : Expr) (b : Stmt) → names_of (st.While a b) ≡ statement_rule (parts.While (names a) (names_of b))
+pub names_of_while : (a : Expr) (b : Stmt) →
+    names_of (st.While a b) ≡ statement_rule (parts.While (names a) (names_of b))
 unfolding names names_of
 names_of_while a b = on_while rules a b
 
@@ -183,11 +227,13 @@ pub names_of_for : (a : Expr) (b : Stmt) → names_of (st.For a b) ≡ statement
 unfolding names names_of
 names_of_for a b = on_for rules a b
 
-pub names_of_forstep : (a : Expr) (b : Expr) (c : Stmt) → names_of (st.ForStep a b c) ≡ statement_rule (parts.ForStep (names a) (names b) (names_of c))
+pub names_of_forstep : (a : Expr) (b : Expr) (c : Stmt) →
+    names_of (st.ForStep a b c) ≡ statement_rule (parts.ForStep (names a) (names b) (names_of c))
 unfolding names names_of
 names_of_forstep a b c = on_forstep rules a b c
 
-pub names_of_switch : (a : Expr) (b : List Stmt) (c : List Stmt) → names_of (st.Switch a b c) ≡ statement_rule (parts.Switch (names a) (map names_of b) (map names_of c))
+pub names_of_switch : (a : Expr) (b : List Stmt) (c : List Stmt) →
+    names_of (st.Switch a b c) ≡ statement_rule (parts.Switch (names a) (map names_of b) (map names_of c))
 unfolding names names_of
 names_of_switch a b c = on_switch rules a b c
 
@@ -215,4 +261,24 @@ pub names_of_returnvalue : (a : Expr) → names_of (st.ReturnValue a) ≡ statem
 unfolding names names_of
 names_of_returnvalue a = on_returnvalue rules a
 
-pub ruleset statements = (names_of_eval, names_of_block, names_of_variable, names_of_object, names_of_parameter, names_of_parameterobject, names_of_if, names_of_ifelse, names_of_while, names_of_do, names_of_for, names_of_forstep, names_of_switch, names_of_case, names_of_default, names_of_break, names_of_continue, names_of_return, names_of_returnvalue)
+pub ruleset statements = (
+  names_of_eval,
+  names_of_block,
+  names_of_variable,
+  names_of_object,
+  names_of_parameter,
+  names_of_parameterobject,
+  names_of_if,
+  names_of_ifelse,
+  names_of_while,
+  names_of_do,
+  names_of_for,
+  names_of_forstep,
+  names_of_switch,
+  names_of_case,
+  names_of_default,
+  names_of_break,
+  names_of_continue,
+  names_of_return,
+  names_of_returnvalue,
+)

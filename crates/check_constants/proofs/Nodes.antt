@@ -20,7 +20,8 @@ constant_const a = ap constant (sym (e.rolls-Const a)) ∙ fold-roll-Expr (Optio
 
 pub constant_captured : (a : CapturedWord) (b : ℕ) → constant (e.Captured a b) ≡ constant_rule (Expr-F.Captured a b)
 unfolding constant
-constant_captured a b = ap constant (sym (e.rolls-Captured a b)) ∙ fold-roll-Expr (Option ℕ) constant_rule (Expr-F.Captured a b)
+constant_captured a b = ap constant (sym (e.rolls-Captured a b)) ∙
+    fold-roll-Expr (Option ℕ) constant_rule (Expr-F.Captured a b)
 
 pub constant_var : (a : ℕ) → constant (e.Var a) ≡ constant_rule (Expr-F.Var a)
 unfolding constant
@@ -28,11 +29,13 @@ constant_var a = ap constant (sym (e.rolls-Var a)) ∙ fold-roll-Expr (Option �
 
 pub constant_setvar : (a : ℕ) (b : Expr) → constant (e.SetVar a b) ≡ constant_rule (Expr-F.SetVar a (constant b))
 unfolding constant
-constant_setvar a b = ap constant (sym (e.rolls-SetVar a b)) ∙ fold-roll-Expr (Option ℕ) constant_rule (Expr-F.SetVar a b)
+constant_setvar a b = ap constant (sym (e.rolls-SetVar a b)) ∙
+    fold-roll-Expr (Option ℕ) constant_rule (Expr-F.SetVar a b)
 
 pub constant_postvar : (a : ℕ) (b : Width) (c : ℕ) → constant (e.PostVar a b c) ≡ constant_rule (Expr-F.PostVar a b c)
 unfolding constant
-constant_postvar a b c = ap constant (sym (e.rolls-PostVar a b c)) ∙ fold-roll-Expr (Option ℕ) constant_rule (Expr-F.PostVar a b c)
+constant_postvar a b c = ap constant (sym (e.rolls-PostVar a b c)) ∙
+    fold-roll-Expr (Option ℕ) constant_rule (Expr-F.PostVar a b c)
 
 pub constant_vget : (a : ℕ) → constant (e.VGet a) ≡ constant_rule (Expr-F.VGet a)
 unfolding constant
@@ -54,19 +57,26 @@ pub constant_load : (a : Width) (b : Expr) → constant (e.Load a b) ≡ constan
 unfolding constant
 constant_load a b = ap constant (sym (e.rolls-Load a b)) ∙ fold-roll-Expr (Option ℕ) constant_rule (Expr-F.Load a b)
 
-pub constant_store : (a : Width) (b : Expr) (c : Expr) → constant (e.Store a b c) ≡ constant_rule (Expr-F.Store a (constant b) (constant c))
+pub constant_store : (a : Width) (b : Expr) (c : Expr) →
+    constant (e.Store a b c) ≡ constant_rule (Expr-F.Store a (constant b) (constant c))
 unfolding constant
-constant_store a b c = ap constant (sym (e.rolls-Store a b c)) ∙ fold-roll-Expr (Option ℕ) constant_rule (Expr-F.Store a b c)
+constant_store a b c = ap constant (sym (e.rolls-Store a b c)) ∙
+    fold-roll-Expr (Option ℕ) constant_rule (Expr-F.Store a b c)
 
-pub constant_modify : (a : Width) (b : BinKind) (c : Expr) (d : Expr) → constant (e.Modify a b c d) ≡ constant_rule (Expr-F.Modify a b (constant c) (constant d))
+pub constant_modify : (a : Width) (b : BinKind) (c : Expr) (d : Expr) →
+    constant (e.Modify a b c d) ≡ constant_rule (Expr-F.Modify a b (constant c) (constant d))
 unfolding constant
-constant_modify a b c d = ap constant (sym (e.rolls-Modify a b c d)) ∙ fold-roll-Expr (Option ℕ) constant_rule (Expr-F.Modify a b c d)
+constant_modify a b c d =
+    ap constant (sym (e.rolls-Modify a b c d)) ∙ fold-roll-Expr (Option ℕ) constant_rule (Expr-F.Modify a b c d)
 
-pub constant_post : (a : Width) (b : ℕ) (c : Expr) → constant (e.Post a b c) ≡ constant_rule (Expr-F.Post a b (constant c))
+pub constant_post : (a : Width) (b : ℕ) (c : Expr) →
+    constant (e.Post a b c) ≡ constant_rule (Expr-F.Post a b (constant c))
 unfolding constant
-constant_post a b c = ap constant (sym (e.rolls-Post a b c)) ∙ fold-roll-Expr (Option ℕ) constant_rule (Expr-F.Post a b c)
+constant_post a b c = ap constant (sym (e.rolls-Post a b c)) ∙
+    fold-roll-Expr (Option ℕ) constant_rule (Expr-F.Post a b c)
 
-pub constant_bin : (a : BinKind) (b : Expr) (c : Expr) → constant (e.Bin a b c) ≡ constant_rule (Expr-F.Bin a (constant b) (constant c))
+pub constant_bin : (a : BinKind) (b : Expr) (c : Expr) →
+    constant (e.Bin a b c) ≡ constant_rule (Expr-F.Bin a (constant b) (constant c))
 unfolding constant
 constant_bin a b c = ap constant (sym (e.rolls-Bin a b c)) ∙ fold-roll-Expr (Option ℕ) constant_rule (Expr-F.Bin a b c)
 
@@ -82,11 +92,14 @@ pub constant_or : (a : Expr) (b : Expr) → constant (e.Or a b) ≡ constant_rul
 unfolding constant
 constant_or a b = ap constant (sym (e.rolls-Or a b)) ∙ fold-roll-Expr (Option ℕ) constant_rule (Expr-F.Or a b)
 
-pub constant_cond : (a : Expr) (b : Expr) (c : Expr) → constant (e.Cond a b c) ≡ constant_rule (Expr-F.Cond (constant a) (constant b) (constant c))
+pub constant_cond : (a : Expr) (b : Expr) (c : Expr) →
+    constant (e.Cond a b c) ≡ constant_rule (Expr-F.Cond (constant a) (constant b) (constant c))
 unfolding constant
-constant_cond a b c = ap constant (sym (e.rolls-Cond a b c)) ∙ fold-roll-Expr (Option ℕ) constant_rule (Expr-F.Cond a b c)
+constant_cond a b c = ap constant (sym (e.rolls-Cond a b c)) ∙
+    fold-roll-Expr (Option ℕ) constant_rule (Expr-F.Cond a b c)
 
-pub constant_comma : (a : Expr) (b : Expr) → constant (e.Comma a b) ≡ constant_rule (Expr-F.Comma (constant a) (constant b))
+pub constant_comma : (a : Expr) (b : Expr) →
+    constant (e.Comma a b) ≡ constant_rule (Expr-F.Comma (constant a) (constant b))
 unfolding constant
 constant_comma a b = ap constant (sym (e.rolls-Comma a b)) ∙ fold-roll-Expr (Option ℕ) constant_rule (Expr-F.Comma a b)
 
@@ -94,13 +107,17 @@ pub constant_void : (a : Expr) → constant (e.Void a) ≡ constant_rule (Expr-F
 unfolding constant
 constant_void a = ap constant (sym (e.rolls-Void a)) ∙ fold-roll-Expr (Option ℕ) constant_rule (Expr-F.Void a)
 
-pub constant_call : (a : Answer) (b : ℕ) (c : List Expr) → constant (e.Call a b c) ≡ constant_rule (Expr-F.Call a b (map constant c))
+pub constant_call : (a : Answer) (b : ℕ) (c : List Expr) →
+    constant (e.Call a b c) ≡ constant_rule (Expr-F.Call a b (map constant c))
 unfolding constant
-constant_call a b c = ap constant (sym (e.rolls-Call a b c)) ∙ fold-roll-Expr (Option ℕ) constant_rule (Expr-F.Call a b c)
+constant_call a b c = ap constant (sym (e.rolls-Call a b c)) ∙
+    fold-roll-Expr (Option ℕ) constant_rule (Expr-F.Call a b c)
 
-pub constant_callnumber : (a : Answer) (b : Expr) (c : List Expr) → constant (e.CallNumber a b c) ≡ constant_rule (Expr-F.CallNumber a (constant b) (map constant c))
+pub constant_callnumber : (a : Answer) (b : Expr) (c : List Expr) →
+    constant (e.CallNumber a b c) ≡ constant_rule (Expr-F.CallNumber a (constant b) (map constant c))
 unfolding constant
-constant_callnumber a b c = ap constant (sym (e.rolls-CallNumber a b c)) ∙ fold-roll-Expr (Option ℕ) constant_rule (Expr-F.CallNumber a b c)
+constant_callnumber a b c =
+    ap constant (sym (e.rolls-CallNumber a b c)) ∙ fold-roll-Expr (Option ℕ) constant_rule (Expr-F.CallNumber a b c)
 
 pub constant_getchar : constant e.Getchar ≡ constant_rule Expr-F.Getchar
 unfolding constant
@@ -114,13 +131,16 @@ pub constant_tick : (a : ℕ) (b : List Expr) → constant (e.Tick a b) ≡ cons
 unfolding constant
 constant_tick a b = ap constant (sym (e.rolls-Tick a b)) ∙ fold-roll-Expr (Option ℕ) constant_rule (Expr-F.Tick a b)
 
-pub constant_capture : (a : CaptureKind) (b : Expr) → constant (e.Capture a b) ≡ constant_rule (Expr-F.Capture a (constant b))
+pub constant_capture : (a : CaptureKind) (b : Expr) →
+    constant (e.Capture a b) ≡ constant_rule (Expr-F.Capture a (constant b))
 unfolding constant
-constant_capture a b = ap constant (sym (e.rolls-Capture a b)) ∙ fold-roll-Expr (Option ℕ) constant_rule (Expr-F.Capture a b)
+constant_capture a b = ap constant (sym (e.rolls-Capture a b)) ∙
+    fold-roll-Expr (Option ℕ) constant_rule (Expr-F.Capture a b)
 
 pub constant_splice : (a : Answer) (b : ℕ) → constant (e.Splice a b) ≡ constant_rule (Expr-F.Splice a b)
 unfolding constant
-constant_splice a b = ap constant (sym (e.rolls-Splice a b)) ∙ fold-roll-Expr (Option ℕ) constant_rule (Expr-F.Splice a b)
+constant_splice a b = ap constant (sym (e.rolls-Splice a b)) ∙
+    fold-roll-Expr (Option ℕ) constant_rule (Expr-F.Splice a b)
 
 pub constant_compile : (a : Expr) → constant (e.Compile a) ≡ constant_rule (Expr-F.Compile (constant a))
 unfolding constant
@@ -134,4 +154,35 @@ pub constant_paramof : (a : Expr) → constant (e.ParamOf a) ≡ constant_rule (
 unfolding constant
 constant_paramof a = ap constant (sym (e.rolls-ParamOf a)) ∙ fold-roll-Expr (Option ℕ) constant_rule (Expr-F.ParamOf a)
 
-pub ruleset constants = (constant_const, constant_captured, constant_var, constant_setvar, constant_postvar, constant_vget, constant_vset, constant_vpost, constant_frame, constant_load, constant_store, constant_modify, constant_post, constant_bin, constant_un, constant_and, constant_or, constant_cond, constant_comma, constant_void, constant_call, constant_callnumber, constant_getchar, constant_lib, constant_tick, constant_capture, constant_splice, constant_compile, constant_local, constant_paramof)
+pub ruleset constants = (
+  constant_const,
+  constant_captured,
+  constant_var,
+  constant_setvar,
+  constant_postvar,
+  constant_vget,
+  constant_vset,
+  constant_vpost,
+  constant_frame,
+  constant_load,
+  constant_store,
+  constant_modify,
+  constant_post,
+  constant_bin,
+  constant_un,
+  constant_and,
+  constant_or,
+  constant_cond,
+  constant_comma,
+  constant_void,
+  constant_call,
+  constant_callnumber,
+  constant_getchar,
+  constant_lib,
+  constant_tick,
+  constant_capture,
+  constant_splice,
+  constant_compile,
+  constant_local,
+  constant_paramof,
+)

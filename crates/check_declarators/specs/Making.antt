@@ -1,8 +1,12 @@
--- The type that a declaration gives to a name, or the first rule on types that it breaks. The rules are C's, cut to this
--- project's language, with its specifications: a cspec is of void or a word type, a vspec of a word type, a type has at most
--- 4,194,304 bytes, and a list has at most 8 parameters. All the rules stand at one node, the declaration: its line is the
+-- The type that a declaration gives to a name, or the first rule on types that it breaks. The rules are C's, cut to
+-- this
+-- project's language, with its specifications: a cspec is of void or a word type, a vspec of a word type, a type has at
+-- most
+-- 4,194,304 bytes, and a list has at most 8 parameters. All the rules stand at one node, the declaration: its line is
+-- the
 -- fault's, and of several broken rules the one of the lowest number counts.
-use Rattle.std.specs.Prelude.{ℕ, ◌*◌, Bool, true, false, ◌&&◌, ◌||◌, nat_lt, nat_le, if◌then◌else◌, List, [], ◌∷◌, ◌++◌, length, Option, Some, None, Result, Ok, Err}
+use Rattle.std.specs.Prelude.{ℕ, ◌*◌, Bool, true, false, ◌&&◌, ◌||◌, nat_lt, nat_le, if◌then◌else◌, List, [], ◌∷◌, ◌++◌}
+use Rattle.std.specs.Prelude.{length, Option, Some, None, Result, Ok, Err}
 use Rattle.c_types.specs.declared.ctype.Integer.TheVariants as kind
 use Rattle.c_types.specs.declared.ctype.Base.{Base}
 use Rattle.c_types.specs.declared.ctype.Base.TheVariants as base
@@ -11,7 +15,8 @@ use Rattle.c_types.specs.declared.ctype.Layer.TheVariants as layer
 use Rattle.c_types.specs.declared.ctype.Layer.TheOpen.{Layer-F}
 use Rattle.c_types.specs.declared.ctype.CType.{CType}
 pub use Rattle.c_types.specs.Types.{ctype}
-use Rattle.c_types.specs.Types.{Opened, base_size, size_under, outermost, under, is_void, is_pointer, base_of, layers_of}
+use Rattle.c_types.specs.Types.{Opened, base_size, size_under, outermost, under, is_void, is_pointer, base_of}
+use Rattle.c_types.specs.Types.{layers_of}
 use Rattle.tick_tree.specs.declared.fault.Fault.{Fault}
 use Rattle.tick_tree.specs.declared.fault.FaultKind.{FaultKind}
 use Rattle.tick_tree.specs.declared.fault.FaultKind.TheVariants.{TypeMismatch, VoidValue, BadArray, TooManyParameters}
@@ -84,7 +89,8 @@ length_breaks len.Void size = Some VoidValue
 length_breaks (len.Counted n) size = None
 
 abbrev pub array_breaks : Length → Base → List Layer → Option FaultKind
-array_breaks n b ls = if is_function ls then Some TypeMismatch else (if is_void b ls then Some VoidValue else length_breaks n (bytes b ls))
+array_breaks n b ls = if is_function ls then Some TypeMismatch else
+    (if is_void b ls then Some VoidValue else length_breaks n (bytes b ls))
 
 abbrev pub prefix_breaks : Prefix → Base → List Layer → Option FaultKind
 prefix_breaks prefix.Star b ls = None
@@ -96,7 +102,8 @@ abbrev pub result_breaks : List Layer → Option FaultKind
 result_breaks ls = if is_function ls || is_array ls then Some TypeMismatch else None
 
 abbrev pub function_breaks : ℕ → List Layer → Option FaultKind
-function_breaks count ls = if is_function ls || is_array ls then Some TypeMismatch else unless (nat_le count 8) TooManyParameters
+function_breaks count ls =
+    if is_function ls || is_array ls then Some TypeMismatch else unless (nat_le count 8) TooManyParameters
 
 -- the rule of the lowest number that is broken where this step is taken on these layers over their base
 abbrev pub breaks : Step → Base → List Layer → Option FaultKind
@@ -140,7 +147,8 @@ role_breaks role.Parameter b ls = void_breaks b ls
 
 -- an array becomes a pointer to its element, and a function one to itself
 abbrev pub decayed_layers : List Layer → List Layer
-decayed_layers ls = if is_array ls then under ls ++ layer.Pointer ∷ [] else (if is_function ls then ls ++ layer.Pointer ∷ [] else ls)
+decayed_layers ls = if is_array ls then under ls ++ layer.Pointer ∷ [] else
+    (if is_function ls then ls ++ layer.Pointer ∷ [] else ls)
 
 -- the type that a value has whose place has this type
 unfoldable pub decayed : CType → CType

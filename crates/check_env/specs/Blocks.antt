@@ -13,6 +13,7 @@ depth s = Ok (length s.scopes, s)
 unfoldable pub enter : Rule State (List Stmt)
 enter s = Ok (s.frame.nodes, record s { scopes = s.scopes ++ [] ∷ []; frame = frames.entered s.frame })
 
--- back to the block that so many scopes are open in and whose variables have these nodes; those of the block that is left
+-- back to the block that so many scopes are open in and whose variables have these nodes; those of the block that is
+-- left
 unfoldable pub leave : ℕ → List Stmt → Rule State (List Stmt)
 leave n outer s = Ok (s.frame.nodes, record s { scopes = take n s.scopes; frame = frames.left outer s.frame })

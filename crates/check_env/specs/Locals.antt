@@ -25,18 +25,23 @@ abbrev pub next_home : CType → Frame → Home
 next_home t f = if frames.is_object t f then home.Object f.object else home.Register
 
 abbrev pub made_outer : CType → State → Operand × State
-made_outer t s = (operand (place_by (frames.number s.frame) (next_home t s.frame)) t, record s { frame = frames.variable t s.frame })
+made_outer t s = (
+  operand (place_by (frames.number s.frame) (next_home t s.frame)) t,
+  record s { frame = frames.variable t s.frame },
+)
 
 abbrev pub made_inner : CType → State → Operand × State
 made_inner t s = (operand (place.Register s.frame.inner) t, record s { frame = frames.inner_variable s.frame })
 
 -- a variable of a block of the function
 unfoldable pub outer_local : ℕ → Name → CType → Rule State Operand
-outer_local line name t s = (declare line name (meaning kind.Variable t (frames.number s.frame)) >>= (λ u z. Ok (made_outer t z))) s
+outer_local line name t s =
+    (declare line name (meaning kind.Variable t (frames.number s.frame)) >>= (λ u z. Ok (made_outer t z))) s
 
 -- a variable of a block of the tick
 unfoldable pub inner_local : ℕ → Name → CType → Rule State Operand
-inner_local line name t s = (declare line name (meaning kind.Variable t (frames.inner_number s.frame)) >>= (λ u z. Ok (made_inner t z))) s
+inner_local line name t s =
+    (declare line name (meaning kind.Variable t (frames.inner_number s.frame)) >>= (λ u z. Ok (made_inner t z))) s
 
 -- a variable of a block
 abbrev pub local : Stage → ℕ → Name → CType → Rule State Operand
@@ -49,11 +54,13 @@ with_parameter t s = record s { frame = frames.parameter t s.frame }
 
 -- a parameter of the function, which has a name
 unfoldable pub parameter : ℕ → Name → CType → Rule State (Unit {0})
-parameter line name t s = (declare line name (meaning kind.Parameter t (frames.number s.frame)) >>= (λ u z. Ok (tt, with_parameter t z))) s
+parameter line name t s =
+    (declare line name (meaning kind.Parameter t (frames.number s.frame)) >>= (λ u z. Ok (tt, with_parameter t z))) s
 
 -- ---- parameters of a list
 
--- A parameter of a list is visible in the lengths behind it, and is never a variable. In a tick it counts as one of the tick's
+-- A parameter of a list is visible in the lengths behind it, and is never a variable. In a tick it counts as one of the
+-- tick's
 -- own, and elsewhere as a parameter of the function; its number is that of the next variable, which doesn't stand yet.
 abbrev pub list_meaning : Stage → CType → Frame → Meaning
 list_meaning stage.Function t f = meaning kind.Parameter t (frames.number f)

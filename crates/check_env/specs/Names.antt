@@ -1,5 +1,7 @@
--- What a name is where it stands. In a tick, outside `$`, a name of the function round it is captured: a specification by its
--- number, and every other variable by the address that it needs then. Under `$` a variable of the tick isn't visible. These
+-- What a name is where it stands. In a tick, outside `$`, a name of the function round it is captured: a specification
+-- by its
+-- number, and every other variable by the address that it needs then. Under `$` a variable of the tick isn't visible.
+-- These
 -- are `C's rules; a declaration in an inner scope hides one outside, as in C.
 use Rattle.std.specs.Prelude.{◌≡◌, ℕ, ◌-◌, false, if◌then◌else◌, slice_get, Option, Some, None, Result, Ok, Err}
 use Rattle.c_types.specs.declared.ctype.CType.{CType}
@@ -72,7 +74,10 @@ answer_of t = if is_void t then answer.Void else answer.Value
 
 -- a specification that is spliced in
 abbrev pub splice : CType → Expr → State → Operand × State
-splice t e s = (made (ex.Splice (answer_of (inner t)) (ticks.place s.ticks)) (inner t), captured (capture.Splice (answer_of (inner t))) e s)
+splice t e s = (
+  made (ex.Splice (answer_of (inner t)) (ticks.place s.ticks)) (inner t),
+  captured (capture.Splice (answer_of (inner t))) e s,
+)
 
 -- a variable of generated code
 abbrev pub generated : CType → Expr → State → Operand × State

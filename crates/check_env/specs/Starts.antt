@@ -1,5 +1,7 @@
--- What the walk knows before all items: the library functions have their names at file scope. The whole program is walked
--- twice by the same definition. The second walk knows what the first one found: which variables need an address, where the
+-- What the walk knows before all items: the library functions have their names at file scope. The whole program is
+-- walked
+-- twice by the same definition. The second walk knows what the first one found: which variables need an address, where
+-- the
 -- globals end, and the numbers of the functions. The library is this project's own.
 use Rattle.std.specs.Prelude.{◌≡◌, ℕ, List, [], ◌∷◌, codes, Result, Ok, Err}
 use Rattle.c_types.specs.declared.ctype.CType.{CType}
@@ -41,13 +43,15 @@ add_library name n t = declare 1 name (library_meaning n t)
 
 -- int getchar(void) and int putchar(int)
 unfoldable pub first_library : Rule State (Unit {0})
-first_library = add_library (codes "getchar") 0 (function int []) >>= (λ u. add_library (codes "putchar") 1 (function int (int ∷ [])))
+first_library = add_library (codes "getchar") 0 (function int []) >>=
+    (λ u. add_library (codes "putchar") 1 (function int (int ∷ [])))
 
 -- void putint(int) and void *malloc(unsigned)
 unfoldable pub second_library : Rule State (Unit {0})
 second_library =
     add_library (codes "putint") 2 (function void (int ∷ []))
-    >>= (λ u. add_library (codes "malloc") 3 (function (over layer.Pointer void) (shapes.integer integer.Unsigned ∷ [])))
+    >>= (λ u. add_library (codes "malloc") 3
+    (function (over layer.Pointer void) (shapes.integer integer.Unsigned ∷ [])))
 
 -- void exit(int)
 unfoldable pub third_library : Rule State (Unit {0})

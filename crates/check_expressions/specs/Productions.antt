@@ -1,5 +1,7 @@
--- What each node is by its parts. Of its rules those on types stand in the crates of single nodes; here an operand is given to
--- them as a value, or as a place where the node changes it, and in a tick no specification is left over but a plain name. These
+-- What each node is by its parts. Of its rules those on types stand in the crates of single nodes; here an operand is
+-- given to
+-- them as a value, or as a place where the node changes it, and in a tick no specification is left over but a plain
+-- name. These
 -- are `C's rules.
 use Rattle.std.specs.Prelude.{ℕ, Bool, true, false, ◌&&◌, ◌||◌, nat_lt, if◌then◌else◌, List, Ok, Err}
 use Rattle.icode_ops.specs.declared.kind.UnKind.TheVariants as un
@@ -128,7 +130,10 @@ unfoldable pub address_node : ℕ → Stage → Operand → Rule State Operand
 address_node line g o s = address_at line g o s
 
 abbrev pub dollar_by : Value → State → Operand × State
-dollar_by v s = (made (ex.Captured captured_word.Dollar (ticks.place s.ticks)) v.ctype, captured capture.Dollar v.code s)
+dollar_by v s = (
+  made (ex.Captured captured_word.Dollar (ticks.place s.ticks)) v.ctype,
+  captured capture.Dollar v.code s,
+)
 
 -- `$`: the value is captured as the tick is evaluated
 unfoldable pub dollar_node : ℕ → Operand → Rule State Operand
@@ -167,7 +172,10 @@ call_node line g o list =
 
 -- a string, which takes its place behind the strings so far
 abbrev pub string_node : List ℕ → State → Operand × State
-string_node bytes s = (nodes.string (images.string_place s.image), record s { image = images.with_string bytes s.image })
+string_node bytes s = (
+  nodes.string (images.string_place s.image),
+  record s { image = images.with_string bytes s.image },
+)
 
 -- in a tick
 abbrev pub tick_entered : State → State

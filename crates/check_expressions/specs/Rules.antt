@@ -1,5 +1,7 @@
--- The walk over expressions: what each node is by the walks over its parts. The parts come in the order of the text, then the
--- node itself; what is checked as a node is entered comes before its parts. The order is this project's own rule: it decides
+-- The walk over expressions: what each node is by the walks over its parts. The parts come in the order of the text,
+-- then the
+-- node itself; what is checked as a node is entered comes before its parts. The order is this project's own rule: it
+-- decides
 -- which fault is the first.
 use Rattle.std.specs.Prelude.{ℕ, Bool, false, List, [], ◌∷◌, ◌++◌, Option, Some, None, Ok}
 use Rattle.c_types.specs.declared.ctype.CType.{CType}
@@ -44,7 +46,8 @@ pub record Shape : Type 0 where
   pub declared : Declared
   pub walk : Stage → Rule State (List Step)
 
--- a statement: whether it is a `;` alone, and the walk over it. A statement gives one node, a declaration as many as it has
+-- a statement: whether it is a `;` alone, and the walk over it. A statement gives one node, a declaration as many as it
+-- has
 -- initializers.
 pub record Item : Type 0 where
   pub is_empty : Bool
@@ -58,7 +61,8 @@ each (w ∷ ws) a = w.walk a >>= (λ x. each ws a >>= (λ xs. pure (x ++ xs)))
 
 -- a block, with the nodes of its variables
 abbrev pub block : List Item → Around → Rule State Stmt
-block items a = depth >>= (λ n. enter >>= (λ outer. each items a >>= (λ xs. leave n outer >>= (λ vs. pure (st.Block vs xs)))))
+block items a = depth >>=
+    (λ n. enter >>= (λ outer. each items a >>= (λ xs. leave n outer >>= (λ vs. pure (st.Block vs xs)))))
 
 -- what stands round the items of a tick's block
 abbrev pub tick_around : Around
@@ -85,7 +89,8 @@ library_call line n t list g = arguments list calls.no_arguments g >>= (λ xs. l
 
 -- every other call: what is called, then the arguments
 abbrev pub plain_call : ℕ → Node → List Node → Stage → Rule State Operand
-plain_call line f list g = f.walk g >>= (λ o. arguments list calls.no_arguments g >>= (λ xs. lift (Productions.call_node line g o xs)))
+plain_call line f list g =
+    f.walk g >>= (λ o. arguments list calls.no_arguments g >>= (λ xs. lift (Productions.call_node line g o xs)))
 
 abbrev pub call_of : ℕ → Node → List Node → Stage → Option (ℕ × CType) → Rule State Operand
 call_of line f list g (Some l) = library_call line l.0 l.1 list g
@@ -97,19 +102,25 @@ call line f list g = λ s. call_of line f list g (library_of f.written.name s) s
 -- ---- specifications
 
 abbrev pub tick_expression : ℕ → Node → Stage → Rule State Operand
-tick_expression line a g = lift (tick_entry line g) >>= (λ u s. (a.walk stage.Tick >>= (λ o z. Ok (Productions.tick_expression o z))) (Productions.tick_entered s))
+tick_expression line a g =
+    lift (tick_entry line g) >>=
+    (λ u s. (a.walk stage.Tick >>= (λ o z. Ok (Productions.tick_expression o z))) (Productions.tick_entered s))
 
 abbrev pub tick_block : ℕ → List Item → Stage → Rule State Operand
-tick_block line items g = lift (tick_entry line g) >>= (λ u s. (block items tick_around >>= (λ b z. Ok (Productions.tick_block b z))) (Productions.tick_entered s))
+tick_block line items g =
+    lift (tick_entry line g) >>=
+    (λ u s. (block items tick_around >>= (λ b z. Ok (Productions.tick_block b z))) (Productions.tick_entered s))
 
 abbrev pub compile : ℕ → Node → Named → Stage → Rule State Operand
-compile line a t g = lift (staging_entry line g) >>= (λ u. a.walk g >>= (λ o. t.walk line g >>= (λ ty. lift (Productions.compile_node line ty o))))
+compile line a t g = lift (staging_entry line g) >>=
+    (λ u. a.walk g >>= (λ o. t.walk line g >>= (λ ty. lift (Productions.compile_node line ty o))))
 
 abbrev pub local : ℕ → Named → Stage → Rule State Operand
 local line t g = lift (staging_entry line g) >>= (λ u. t.walk line g >>= (λ ty. lift (stages.local line ty)))
 
 abbrev pub parameter : ℕ → Named → Node → Stage → Rule State Operand
-parameter line t a g = lift (staging_entry line g) >>= (λ u. t.walk line g >>= (λ ty. a.walk g >>= (λ o. lift (Productions.parameter_node line ty o))))
+parameter line t a g = lift (staging_entry line g) >>=
+    (λ u. t.walk line g >>= (λ ty. a.walk g >>= (λ o. lift (Productions.parameter_node line ty o))))
 
 -- ---- the walk over a node
 
@@ -143,7 +154,8 @@ modify line op a b g = both a b g >>= (λ p. lift (Productions.modify_node line 
 abbrev pub comma : Node → Node → Stage → Rule State Operand
 comma a b g = both a b g >>= (λ p. pure (Productions.comma_node p.0 p.1))
 
-abbrev pub walk_rule : {I S D N P : Type 0} → Expr-F Shape Node I (Option Node) Item S D Shape N P Named → Stage → Rule State Operand
+abbrev pub walk_rule : {I S D N P : Type 0} → Expr-F Shape Node I (Option Node) Item S D Shape N P Named → Stage →
+    Rule State Operand
 walk_rule (Expr-F.Expr::Name line name) g = named line g name
 walk_rule (Expr-F.Number n unsigned) g = pure (nodes.number n unsigned)
 walk_rule (Expr-F.Character n) g = pure (nodes.character n)

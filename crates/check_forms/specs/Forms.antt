@@ -1,5 +1,7 @@
--- What the rules of a node ask of the way in which a part of it is written: whether it has the form of a constant expression,
--- whether it is a plain name or a string, which name a declarator declares, and whether a cspec or vspec is written in it.
+-- What the rules of a node ask of the way in which a part of it is written: whether it has the form of a constant
+-- expression,
+-- whether it is a plain name or a string, which name a declarator declares, and whether a cspec or vspec is written in
+-- it.
 use Rattle.std.specs.Prelude.{ℕ, Bool, true, false, ◌&&◌, ◌||◌, List, [], ◌∷◌, Option, Some, None}
 use denote.Ref.{Bor}
 use Rattle.tick_tree.specs.declared.base.Base.{Base}
@@ -14,8 +16,11 @@ use Rattle.tick_tree.specs.declared.syntax.Core.{Core}
 use Rattle.tick_tree.specs.declared.syntax.Suffix.{Suffix}
 use Rattle.tick_tree.specs.declared.syntax.Parameter.{Parameter}
 use Rattle.tick_tree.specs.declared.syntax.Typename.{Typename}
-use Rattle.tick_tree.specs.declared.syntax.Core.TheFolds.{fold-Core, fold-Expr, fold-Declarator, fold-Suffix, fold-Parameter, fold-Typename}
-use Rattle.tick_tree.specs.declared.syntax.Core.TheOpen.{Expr-F, OptionalExpr-F, Typename-F, Declarator-F, Core-F, Suffix-F, Parameter-F, Initializer-F, Init-F, Declaration-F, Stmt-F}
+use Rattle.tick_tree.specs.declared.syntax.Core.TheFolds.{fold-Core, fold-Expr, fold-Declarator, fold-Suffix}
+use Rattle.tick_tree.specs.declared.syntax.Core.TheFolds.{fold-Parameter, fold-Typename}
+use Rattle.tick_tree.specs.declared.syntax.Core.TheOpen.{Expr-F, OptionalExpr-F, Typename-F, Declarator-F, Core-F}
+use Rattle.tick_tree.specs.declared.syntax.Core.TheOpen.{Suffix-F, Parameter-F, Initializer-F, Init-F, Declaration-F}
+use Rattle.tick_tree.specs.declared.syntax.Core.TheOpen.{Stmt-F}
 pub use Rattle.tick_tree.specs.Named.{is_nil}
 
 abbrev pub Name : Type 0
@@ -33,14 +38,16 @@ is_strict op.And = false
 is_strict op.Or = false
 is_strict _ = true
 
--- what is asked of an expression: whether it has the form of a constant expression (numbers, characters, `sizeof`, casts to
+-- what is asked of an expression: whether it has the form of a constant expression (numbers, characters, `sizeof`,
+-- casts to
 -- integers, unary and binary operators but `&&`, `||` and `,`), the plain name that it is, and the string that it is
 pub record Written : Type 0 where
   pub constant : Bool
   pub name : Option Name
   pub string : Option (List ℕ)
 
--- what is asked of a declarator: whether it changes nothing of its base, the name that it declares, with its line, and whether
+-- what is asked of a declarator: whether it changes nothing of its base, the name that it declares, with its line, and
+-- whether
 -- a cspec or vspec is written in it, in its lists of parameters too
 pub record Declared : Type 0 where
   pub plain : Bool
@@ -55,13 +62,15 @@ abbrev pub Expr-W : Type 0
 Expr-W = Expr-F Declared Written (Unit {0}) (Unit {0}) (Unit {0}) Bool (Unit {0}) Declared (Unit {0}) Bool Bool
 
 abbrev pub Declarator-W : Type 0
-Declarator-W = Declarator-F Declared Written (Unit {0}) (Unit {0}) (Unit {0}) Bool (Unit {0}) Declared (Unit {0}) Bool Bool
+Declarator-W = Declarator-F Declared Written (Unit {0}) (Unit {0}) (Unit {0}) Bool (Unit {0}) Declared (Unit {0}) Bool
+    Bool
 
 abbrev pub Suffix-W : Type 0
 Suffix-W = Suffix-F Declared Written (Unit {0}) (Unit {0}) (Unit {0}) Bool (Unit {0}) Declared (Unit {0}) Bool Bool
 
 abbrev pub Parameter-W : Type 0
-Parameter-W = Parameter-F Declared Written (Unit {0}) (Unit {0}) (Unit {0}) Bool (Unit {0}) Declared (Unit {0}) Bool Bool
+Parameter-W = Parameter-F Declared Written (Unit {0}) (Unit {0}) (Unit {0}) Bool (Unit {0}) Declared (Unit {0}) Bool
+    Bool
 
 abbrev pub Typename-W : Type 0
 Typename-W = Typename-F Declared Written (Unit {0}) (Unit {0}) (Unit {0}) Bool (Unit {0}) Declared (Unit {0}) Bool Bool
@@ -136,22 +145,33 @@ abbrev pub nothing : {A : Type 0} → A → Unit {0}
 nothing x = tt
 
 unfoldable pub written : Expr → Written
-written = fold-Expr Declared Written (Unit {0}) (Unit {0}) (Unit {0}) Bool (Unit {0}) Declared (Unit {0}) Bool Bool core_rule expr_rule nothing nothing nothing suffix_rule nothing declarator_rule nothing parameter_rule typename_rule
+written = fold-Expr Declared Written (Unit {0}) (Unit {0}) (Unit {0}) Bool (Unit {0}) Declared (Unit {0}) Bool Bool
+    core_rule expr_rule nothing nothing nothing suffix_rule nothing declarator_rule nothing parameter_rule typename_rule
 
 unfoldable pub declared : Declarator → Declared
-declared = fold-Declarator Declared Written (Unit {0}) (Unit {0}) (Unit {0}) Bool (Unit {0}) Declared (Unit {0}) Bool Bool core_rule expr_rule nothing nothing nothing suffix_rule nothing declarator_rule nothing parameter_rule typename_rule
+declared = fold-Declarator Declared Written (Unit {0}) (Unit {0}) (Unit {0}) Bool (Unit {0}) Declared (Unit {0}) Bool
+    Bool core_rule expr_rule nothing nothing nothing suffix_rule nothing declarator_rule nothing parameter_rule
+    typename_rule
 
 unfoldable pub declared_core : Core → Declared
-declared_core = fold-Core Declared Written (Unit {0}) (Unit {0}) (Unit {0}) Bool (Unit {0}) Declared (Unit {0}) Bool Bool core_rule expr_rule nothing nothing nothing suffix_rule nothing declarator_rule nothing parameter_rule typename_rule
+declared_core = fold-Core Declared Written (Unit {0}) (Unit {0}) (Unit {0}) Bool (Unit {0}) Declared (Unit {0}) Bool
+    Bool core_rule expr_rule nothing nothing nothing suffix_rule nothing declarator_rule nothing parameter_rule
+    typename_rule
 
 unfoldable pub is_staged_suffix : Suffix → Bool
-is_staged_suffix = fold-Suffix Declared Written (Unit {0}) (Unit {0}) (Unit {0}) Bool (Unit {0}) Declared (Unit {0}) Bool Bool core_rule expr_rule nothing nothing nothing suffix_rule nothing declarator_rule nothing parameter_rule typename_rule
+is_staged_suffix = fold-Suffix Declared Written (Unit {0}) (Unit {0}) (Unit {0}) Bool (Unit {0}) Declared (Unit {0})
+    Bool Bool core_rule expr_rule nothing nothing nothing suffix_rule nothing declarator_rule nothing parameter_rule
+    typename_rule
 
 unfoldable pub is_staged_parameter : Parameter → Bool
-is_staged_parameter = fold-Parameter Declared Written (Unit {0}) (Unit {0}) (Unit {0}) Bool (Unit {0}) Declared (Unit {0}) Bool Bool core_rule expr_rule nothing nothing nothing suffix_rule nothing declarator_rule nothing parameter_rule typename_rule
+is_staged_parameter = fold-Parameter Declared Written (Unit {0}) (Unit {0}) (Unit {0}) Bool (Unit {0}) Declared
+    (Unit {0}) Bool Bool core_rule expr_rule nothing nothing nothing suffix_rule nothing declarator_rule nothing
+    parameter_rule typename_rule
 
 unfoldable pub is_integer_name : Typename → Bool
-is_integer_name = fold-Typename Declared Written (Unit {0}) (Unit {0}) (Unit {0}) Bool (Unit {0}) Declared (Unit {0}) Bool Bool core_rule expr_rule nothing nothing nothing suffix_rule nothing declarator_rule nothing parameter_rule typename_rule
+is_integer_name = fold-Typename Declared Written (Unit {0}) (Unit {0}) (Unit {0}) Bool (Unit {0}) Declared (Unit {0})
+    Bool Bool core_rule expr_rule nothing nothing nothing suffix_rule nothing declarator_rule nothing parameter_rule
+    typename_rule
 
 -- the expression has the form of a constant expression
 abbrev pub has_form : Expr → Bool

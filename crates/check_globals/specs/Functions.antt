@@ -1,4 +1,5 @@
--- The definition of a function: its name, which may have a prototype of the same type; then its parameters, in the scope of its
+-- The definition of a function: its name, which may have a prototype of the same type; then its parameters, in the
+-- scope of its
 -- outermost block; then its body. These are this project's own rules, after C's.
 use Rattle.std.specs.Prelude.{ℕ, min, List, [], ◌∷◌, length, Option, Some, None, Ok, Err}
 use Rattle.c_types.specs.declared.ctype.CType.{CType}
@@ -38,7 +39,8 @@ abbrev pub define : ℕ → Name → Rule State (Unit {0})
 define line name s = with_functions s (functions.define line name s.functions)
 
 abbrev pub first_function : ℕ → Name → CType → Rule State (Unit {0})
-first_function line name t s = (declare line name (meaning kind.Function t (functions.next s.functions)) >>= (λ u. define line name)) s
+first_function line name t s =
+    (declare line name (meaning kind.Function t (functions.next s.functions)) >>= (λ u. define line name)) s
 
 abbrev pub function_by : Before → ℕ → Name → CType → Rule State (Unit {0})
 function_by before.Nothing line name t s = first_function line name t s
@@ -109,4 +111,11 @@ function line name t body s = record {
 -- after a function of this type, whose body has this node
 unfoldable pub ended : ℕ → Option (ℕ × Name) → CType → Stmt → Rule State (Unit {0})
 ended line name t body s =
-    Ok (tt, record s { functions = functions.with_function (function line name t body s) s.functions; frame = frames.ended s.frame })
+    Ok (
+      tt,
+      record s {
+        functions = functions.with_function (function line name t body s) s.functions;
+        frame =
+            frames.ended s.frame;
+      },
+    )

@@ -1,7 +1,10 @@
--- Names at file scope. A prototype may precede its function, and may stand again with the same type; every other name stands once.
--- In a declaration the type comes first, then the name, then the initializer. `()` behind the name of a function means that it has
+-- Names at file scope. A prototype may precede its function, and may stand again with the same type; every other name
+-- stands once.
+-- In a declaration the type comes first, then the name, then the initializer. `()` behind the name of a function means
+-- that it has
 -- no parameters. These are this project's own rules, after C's.
-use Rattle.std.specs.Prelude.{ℕ, ◌+◌, min, Bool, true, false, not, ◌||◌, if◌then◌else◌, List, [], ◌∷◌, Option, Some, None, Ok}
+use Rattle.std.specs.Prelude.{ℕ, ◌+◌, min, Bool, true, false, not, ◌||◌, if◌then◌else◌, List, [], ◌∷◌, Option, Some}
+use Rattle.std.specs.Prelude.{None, Ok}
 use Rattle.c_types.specs.declared.ctype.CType.{CType}
 use Rattle.c_types.specs.declared.names.Meaning.{Meaning}
 use Rattle.c_types.specs.declared.names.MeaningKind.{MeaningKind}
@@ -61,7 +64,8 @@ abbrev pub note : ℕ → Name → Rule State (Unit {0})
 note line name s = Ok (tt, record s { functions = functions.with_prototype line name s.functions })
 
 abbrev pub first_prototype : ℕ → Name → CType → Rule State (Unit {0})
-first_prototype line name t s = (declare line name (meaning kind.Function t (functions.number name s.functions)) >>= (λ u. note line name)) s
+first_prototype line name t s =
+    (declare line name (meaning kind.Function t (functions.number name s.functions)) >>= (λ u. note line name)) s
 
 abbrev pub prototype_by : Before → ℕ → Name → CType → Rule State (Unit {0})
 prototype_by before.Nothing line name t s = first_prototype line name t s
@@ -88,7 +92,8 @@ with_global t s = record s { image = images.with_global (size_by (limited_size t
 
 abbrev pub first_variable : ℕ → Name → CType → Rule State ℕ
 first_variable line name t s =
-    (declare line name (meaning kind.Global t (address (images.place s.image))) >>= (λ u z. Ok (images.place s.image, z))) (with_global t s)
+    (declare line name (meaning kind.Global t (address (images.place s.image))) >>=
+    (λ u z. Ok (images.place s.image, z))) (with_global t s)
 
 abbrev pub variable_by : Before → ℕ → Name → CType → Rule State ℕ
 variable_by before.Nothing line name t s = first_variable line name t s

@@ -1,7 +1,10 @@
--- What is checked after the walk, in this order: each prototype has a function (Undeclared at the first that hasn't); there is a
--- function `main` without parameters that answers int (NoMain); the program isn't TooLarge. Then the typed tree stands. These are
+-- What is checked after the walk, in this order: each prototype has a function (Undeclared at the first that hasn't);
+-- there is a
+-- function `main` without parameters that answers int (NoMain); the program isn't TooLarge. Then the typed tree stands.
+-- These are
 -- this project's own rules.
-use Rattle.std.specs.Prelude.{ℕ, ◌+◌, ◌*◌, Bool, true, false, ◌&&◌, ◌==◌, nat_le, if◌then◌else◌, List, [], ◌∷◌, ◌++◌, length, sum_by, codes, Option, Some, None, Ok}
+use Rattle.std.specs.Prelude.{ℕ, ◌+◌, ◌*◌, Bool, true, false, ◌&&◌, ◌==◌, nat_le, if◌then◌else◌, List, [], ◌∷◌, ◌++◌}
+use Rattle.std.specs.Prelude.{length, sum_by, codes, Option, Some, None, Ok}
 use Rattle.c_types.specs.declared.ctype.Base.{Base}
 use Rattle.c_types.specs.declared.ctype.Base.TheVariants as base
 use Rattle.c_types.specs.declared.ctype.CType.{CType}
@@ -23,7 +26,8 @@ use Rattle.check_tables.specs.Functions as functions
 use Rattle.check_tables.specs.Images as images
 use Rattle.check_env.specs.declared.state.State.{State}
 use Rattle.check_globals.specs.Names.{is_function}
-use Rattle.limits.specs.declared.program.TheConstants.{CHARGE_LIMIT, FRAME_OBJECT_BYTES, FRONT_WORDS, SIZE_LIMIT, WORDS_OF_A_BODY, WORDS_OF_A_NODE}
+use Rattle.limits.specs.declared.program.TheConstants.{CHARGE_LIMIT, FRAME_OBJECT_BYTES, FRONT_WORDS, SIZE_LIMIT}
+use Rattle.limits.specs.declared.program.TheConstants.{WORDS_OF_A_BODY, WORDS_OF_A_NODE}
 use Rattle.word32.specs.declared.map.TheConstants.{GLOBAL_BYTES}
 
 -- ---- main
@@ -102,7 +106,8 @@ abbrev pub typed : State → TypedParts
 typed s = record { functions = s.functions.all; ticks = s.ticks.all; image = image s.image }
 
 abbrev pub finished_by : Option Prototype → State → Checked TypedParts
-finished_by None s = if has_main s then (if fits s then Ok (typed s) else refuse fault.TooLarge 1) else refuse fault.NoMain 1
+finished_by None s = if has_main s then (if fits s then Ok (typed s) else refuse fault.TooLarge 1) else
+    refuse fault.NoMain 1
 finished_by (Some p) s = refuse fault.Undeclared p.line
 
 -- the typed tree of a program after its walk, or the first fault that is found then

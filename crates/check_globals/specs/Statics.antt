@@ -1,9 +1,14 @@
--- Initializers at file scope. They are constant expressions, strings for `char *`, lists of these for an array, and a string for an
--- array of char, which stands in the array itself with its zero byte. A value breaks VoidValue alone, else TypeMismatch where it
--- doesn't convert, else BadOperand where it is of another form or has no value. Of several rules that a list breaks, the lowest
--- number counts. Whether an array that has its length from its initializer is too large is asked behind the initializer's
+-- Initializers at file scope. They are constant expressions, strings for `char *`, lists of these for an array, and a
+-- string for an
+-- array of char, which stands in the array itself with its zero byte. A value breaks VoidValue alone, else TypeMismatch
+-- where it
+-- doesn't convert, else BadOperand where it is of another form or has no value. Of several rules that a list breaks,
+-- the lowest
+-- number counts. Whether an array that has its length from its initializer is too large is asked behind the
+-- initializer's
 -- expressions, and before its own rules: BadArray. These are this project's own rules.
-use Rattle.std.specs.Prelude.{ℕ, ◌/◌, ◌%◌, Bool, not, ◌&&◌, ◌||◌, ◌==◌, nat_lt, if◌then◌else◌, List, [], ◌∷◌, ◌++◌, length, Option, Some, None, Result, Ok, Err}
+use Rattle.std.specs.Prelude.{ℕ, ◌/◌, ◌%◌, Bool, not, ◌&&◌, ◌||◌, ◌==◌, nat_lt, if◌then◌else◌, List, [], ◌∷◌, ◌++◌}
+use Rattle.std.specs.Prelude.{length, Option, Some, None, Result, Ok, Err}
 use Rattle.word32.specs.declared.width.Width.{Width}
 use Rattle.word32.specs.declared.width.Width.TheVariants as width
 use Rattle.c_types.specs.declared.ctype.CType.{CType}
@@ -56,7 +61,8 @@ abbrev pub word_by : Option FaultKind → Bool → Value → Result ℕ FaultKin
 word_by None allowed v = formed allowed v
 word_by (Some k) allowed v = Err k
 
--- the word of a static value, or what it breaks; whether it has the form of a constant and whether it is a string are said
+-- the word of a static value, or what it breaks; whether it has the form of a constant and whether it is a string are
+-- said
 abbrev pub static_word : Bool → Bool → Value → CType → Result ℕ FaultKind
 static_word form string v t = word_by (value_breaks v t) (form || string && is_text_pointer t) v
 

@@ -1,5 +1,7 @@
--- Calls and returns. A call of a static function by its plain name has its number; each other one goes through a pointer.
-use Rattle.std.specs.Prelude.{ℕ, slice_get, Bool, true, false, not, ◌&&◌, ◌||◌, ◌==◌, nat_le, if◌then◌else◌, List, [], ◌∷◌, ◌++◌, length, Option, Some, None, Result, Ok, Err}
+-- Calls and returns. A call of a static function by its plain name has its number; each other one goes through a
+-- pointer.
+use Rattle.std.specs.Prelude.{ℕ, slice_get, Bool, true, false, not, ◌&&◌, ◌||◌, ◌==◌, nat_le, if◌then◌else◌, List, []}
+use Rattle.std.specs.Prelude.{◌∷◌, ◌++◌, length, Option, Some, None, Result, Ok, Err}
 use Rattle.std.specs.List.{list_any, zip}
 use Rattle.c_types.specs.declared.ctype.CType.{CType}
 use Rattle.c_types.specs.declared.ctype.Integer.{Integer}
@@ -54,7 +56,8 @@ any_void as_ = list_any (λ a. is_void a.ctype) as_
 
 -- what arguments break by themselves: none is void, and no call has more than 8
 abbrev pub arguments_break : List Argument → Option FaultKind
-arguments_break as_ = if any_void as_ then Some fault.VoidValue else (if nat_le (length as_) 8 then None else Some fault.TooManyParameters)
+arguments_break as_ = if any_void as_ then Some fault.VoidValue else
+    (if nat_le (length as_) 8 then None else Some fault.TooManyParameters)
 
 -- what arguments break against a declared list
 abbrev pub listed_breaks : List Argument → List CType → Option FaultKind
@@ -90,7 +93,8 @@ unfoldable pub called : ℕ → Callee → CType → Arguments → Checked Opera
 called line f t list = by line (called_breaks t list.types) (made (call_node f (inner t) list.codes) (inner t))
 
 abbrev pub through : ℕ → Value → Arguments → Checked Operand
-through line v list = if is_pointer v.ctype then called line (callee.Number v.code) (inner v.ctype) list else refuse fault.NotFunction line
+through line v list = if is_pointer v.ctype then called line (callee.Number v.code) (inner v.ctype) list else
+    refuse fault.NotFunction line
 
 abbrev pub static_number : Place → Option ℕ
 static_number (place.Value e) = None
@@ -126,7 +130,8 @@ library_node (Some k) (Some e) = ex.Lib k e
 
 -- a call of a library function by its number, which has this type
 unfoldable pub library : ℕ → ℕ → CType → Arguments → Checked Operand
-library line n t list = by line (called_breaks t list.types) (made (library_node (library_kind n) (slice_get list.codes 0)) (inner t))
+library line n t list = by line (called_breaks t list.types)
+    (made (library_node (library_kind n) (slice_get list.codes 0)) (inner t))
 
 -- ---- returns
 

@@ -1,6 +1,8 @@
--- What changes a place, and what takes its address. Of several rules that one node breaks, the lowest number counts: a value
+-- What changes a place, and what takes its address. Of several rules that one node breaks, the lowest number counts: a
+-- value
 -- that doesn't convert, then what is no place, then operand types, then a void value.
-use Rattle.std.specs.Prelude.{ℕ, ◌-◌, ◌==◌, Bool, true, false, not, ◌&&◌, ◌||◌, if◌then◌else◌, Option, Some, None, Result, Ok, Err}
+use Rattle.std.specs.Prelude.{ℕ, ◌-◌, ◌==◌, Bool, true, false, not, ◌&&◌, ◌||◌, if◌then◌else◌, Option, Some, None}
+use Rattle.std.specs.Prelude.{Result, Ok, Err}
 use Rattle.icode_ops.specs.declared.kind.BinKind.{BinKind}
 use Rattle.icode_ops.specs.declared.kind.BinKind.TheVariants as bin
 use Rattle.c_types.specs.declared.ctype.CType.{CType}
@@ -89,7 +91,8 @@ comes_back (by_form.Divided size) = false
 
 -- the rule that is broken where the operator doesn't take the types
 abbrev pub modify_fault : Operand → Value → FaultKind
-modify_fault o v = if is_place o.place then (if is_void v.ctype then fault.VoidValue else fault.BadOperand) else fault.NotPlace
+modify_fault o v = if is_place o.place then (if is_void v.ctype then fault.VoidValue else fault.BadOperand) else
+    fault.NotPlace
 
 -- the rule that is broken where it does
 abbrev pub combined_breaks : Operand → Combined → Option FaultKind
@@ -208,7 +211,8 @@ address_of line (place.Generated i) t = refuse fault.AddressOfRegister line
 address_of line (place.Memory a) t = Ok (made a (over layer.Pointer t))
 address_of line (place.Function f) t = refuse fault.NotPlace line
 
--- `&o` of what isn't settled: an array is a place here. A register variable of a function is none any more once its address
+-- `&o` of what isn't settled: an array is a place here. A register variable of a function is none any more once its
+-- address
 -- is taken, so what is a register here is one of generated code.
 unfoldable pub address : ℕ → Operand → Checked Operand
 address line o = address_of line o.place o.ctype

@@ -1,6 +1,8 @@
--- What an expression is: its type, what it names, and its value. An array or a function stands for a pointer wherever its
+-- What an expression is: its type, what it names, and its value. An array or a function stands for a pointer wherever
+-- its
 -- value is used, as in C, and a narrow value is loaded by its width.
-use Rattle.std.specs.Prelude.{ℕ, Bool, true, false, not, ◌&&◌, ◌||◌, ◌==◌, if◌then◌else◌, List, [], ◌∷◌, ◌++◌, Option, Some, None, Result, Ok, Err}
+use Rattle.std.specs.Prelude.{ℕ, Bool, true, false, not, ◌&&◌, ◌||◌, ◌==◌, if◌then◌else◌, List, [], ◌∷◌, ◌++◌, Option}
+use Rattle.std.specs.Prelude.{Some, None, Result, Ok, Err}
 use Rattle.icode_ops.specs.declared.kind.UnKind.{UnKind}
 use Rattle.icode_ops.specs.declared.kind.UnKind.TheVariants as un
 use Rattle.c_types.specs.declared.ctype.CType.{CType}
@@ -9,7 +11,8 @@ use Rattle.c_types.specs.declared.ctype.Integer.TheVariants as kind
 use Rattle.c_types.specs.declared.ctype.Layer.TheVariants as layer
 use Rattle.c_types.specs.Types.{converts, limited_size}
 use Rattle.check_declarators.specs.Making.{decayed}
-use Rattle.check_types.specs.Shapes.{integer, void, over, inner, promoted, decays, is_void, is_word, is_scalar, is_integer, is_pointer, points_to_void, width_of, conversion}
+use Rattle.check_types.specs.Shapes.{integer, void, over, inner, promoted, decays, is_void, is_word, is_scalar}
+use Rattle.check_types.specs.Shapes.{is_integer, is_pointer, points_to_void, width_of, conversion}
 use Rattle.tick_tree.specs.declared.fault.FaultKind.{FaultKind}
 use Rattle.tick_tree.specs.declared.fault.FaultKind.TheVariants as fault
 use Rattle.tick_tree.specs.Faults.{Checked, ◌>>=◌, refuse}

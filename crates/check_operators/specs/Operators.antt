@@ -1,13 +1,16 @@
--- Operators between two values. Integers are brought to their common type; a pointer and an integer scale by the size of what
+-- Operators between two values. Integers are brought to their common type; a pointer and an integer scale by the size
+-- of what
 -- the pointer points to; pointers compare as unsigned words. These are C's rules, on words of 32 bits.
-use Rattle.std.specs.Prelude.{ℕ, Bool, true, false, ◌&&◌, ◌||◌, ◌==◌, if◌then◌else◌, Option, Some, None, Result, Ok, Err}
+use Rattle.std.specs.Prelude.{ℕ, Bool, true, false, ◌&&◌, ◌||◌, ◌==◌, if◌then◌else◌, Option, Some, None, Result, Ok}
+use Rattle.std.specs.Prelude.{Err}
 use Rattle.icode_ops.specs.declared.kind.BinKind.{BinKind}
 use Rattle.icode_ops.specs.declared.kind.BinKind.TheVariants as bin
 use Rattle.c_types.specs.declared.ctype.CType.{CType}
 use Rattle.c_types.specs.declared.ctype.Integer.{Integer}
 use Rattle.c_types.specs.declared.ctype.Integer.TheVariants as kind
 use Rattle.c_types.specs.Types.{common, promoted, same, converts, pointed_size}
-use Rattle.check_types.specs.Shapes.{integer, integer_of, inner, is_void, is_integer, is_scalar, is_pointer, points_to_void, void}
+use Rattle.check_types.specs.Shapes.{integer, integer_of, inner, is_void, is_integer, is_scalar, is_pointer}
+use Rattle.check_types.specs.Shapes.{points_to_void, void}
 use Rattle.tick_tree.specs.declared.base.BinaryOp.{BinaryOp}
 use Rattle.tick_tree.specs.declared.base.BinaryOp.TheVariants as op
 use Rattle.tick_tree.specs.declared.fault.FaultKind.{FaultKind}
@@ -164,10 +167,12 @@ binary_by line a b (Some c) = Ok (combination c a b)
 
 -- an operator other than `&&` and `||`
 unfoldable pub arithmetic : ℕ → BinaryOp → Value → Value → Checked Operand
-arithmetic line o a b = if is_void a.ctype || is_void b.ctype then refuse fault.VoidValue line else binary_by line a b (combine o a.ctype a.zero b.ctype b.zero)
+arithmetic line o a b = if is_void a.ctype || is_void b.ctype then refuse fault.VoidValue line else
+    binary_by line a b (combine o a.ctype a.zero b.ctype b.zero)
 
 abbrev pub logic_breaks : Value → Value → Option FaultKind
-logic_breaks a b = if is_void a.ctype || is_void b.ctype then Some fault.VoidValue else unless_kind (is_scalar a.ctype && is_scalar b.ctype) fault.BadOperand
+logic_breaks a b = if is_void a.ctype || is_void b.ctype then Some fault.VoidValue else
+    unless_kind (is_scalar a.ctype && is_scalar b.ctype) fault.BadOperand
 
 unfoldable pub both : ℕ → Value → Value → Checked Operand
 both line a b = by line (logic_breaks a b) (made (ex.And a.code b.code) (integer kind.Int))

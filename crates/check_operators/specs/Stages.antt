@@ -1,4 +1,5 @@
--- Specifications: what a backquote, `$`, `compile`, `local` and `param` take and make. These are `C's rules, cut to word types.
+-- Specifications: what a backquote, `$`, `compile`, `local` and `param` take and make. These are `C's rules, cut to
+-- word types.
 use Rattle.std.specs.Prelude.{ℕ, Bool, true, false, not, ◌&&◌, ◌||◌, if◌then◌else◌, Option, Some, None, Result, Ok, Err}
 use Rattle.c_types.specs.declared.ctype.CType.{CType}
 use Rattle.c_types.specs.declared.ctype.Layer.TheVariants as layer
@@ -49,7 +50,8 @@ unfoldable pub local : ℕ → CType → Checked Operand
 local line t = by line (unless_kind (is_word t) fault.TypeMismatch) (made ex.Local (over layer.Vspec t))
 
 abbrev pub parameter_breaks : CType → Value → Option FaultKind
-parameter_breaks t v = if is_word t then unless_void v (unless_kind (is_integer v.ctype) fault.BadOperand) else Some fault.TypeMismatch
+parameter_breaks t v = if is_word t then unless_void v (unless_kind (is_integer v.ctype) fault.BadOperand) else
+    Some fault.TypeMismatch
 
 abbrev pub making_parameter : CType → Expr → Operand
 making_parameter t e = made (ex.ParamOf e) (over layer.Vspec t)

@@ -9,11 +9,13 @@ use Rattle.check_walk.specs.Walk.{declaration, shape, init, initializer}
 use Rattle.check_programs.specs.Program as program
 
 pub global_by_init : (line : ℕ) (b : Base) (x : Init) (s : State)
-    → program.global line b (init x) s ≡ program.global_parts line b (shape (out-Init x).declarator) (initializer (out-Init x).value) s
+    → program.global line b (init x) s ≡ program.global_parts line b (shape (out-Init x).declarator)
+    (initializer (out-Init x).value) s
 global_by_init line b x s = ap (λ i. program.global line b i s) (at_init x)
 
 pub declared_by_parts : (x : Declaration) (s : State)
-    → program.declared (declaration x) s ≡ program.globals (out-Declaration x).line (out-Declaration x).base (map init (out-Declaration x).inits) s
+    → program.declared (declaration x) s ≡ program.globals (out-Declaration x).line (out-Declaration x).base
+    (map init (out-Declaration x).inits) s
 declared_by_parts x s = ap (λ d. program.declared d s) (at_declaration x)
 
 pub ruleset globals = (global_by_init, declared_by_parts)

@@ -1,4 +1,5 @@
--- The parameters of the function that a declarator declares, as they are written: the list that stands first behind its name.
+-- The parameters of the function that a declarator declares, as they are written: the list that stands first behind its
+-- name.
 use Rattle.std.specs.Prelude.{ℕ, List, [], ◌∷◌, Option, Some, None}
 use Rattle.check_forms.specs.Forms.{Name}
 use Rattle.tick_tree.specs.declared.syntax.Core.{Core}
@@ -21,16 +22,20 @@ pub record Inner : Type 0 where
 
 -- a layer of the tree, with what is known of its parts in their places
 abbrev pub Core-P : Type 0
-Core-P = Core-F Inner (Unit {0}) (Unit {0}) (Unit {0}) (Unit {0}) (List Given) (Unit {0}) Head (Unit {0}) Given (Unit {0})
+Core-P = Core-F Inner (Unit {0}) (Unit {0}) (Unit {0}) (Unit {0}) (List Given) (Unit {0}) Head (Unit {0}) Given
+    (Unit {0})
 
 abbrev pub Declarator-P : Type 0
-Declarator-P = Declarator-F Inner (Unit {0}) (Unit {0}) (Unit {0}) (Unit {0}) (List Given) (Unit {0}) Head (Unit {0}) Given (Unit {0})
+Declarator-P = Declarator-F Inner (Unit {0}) (Unit {0}) (Unit {0}) (Unit {0}) (List Given) (Unit {0}) Head (Unit {0})
+    Given (Unit {0})
 
 abbrev pub Suffix-P : Type 0
-Suffix-P = Suffix-F Inner (Unit {0}) (Unit {0}) (Unit {0}) (Unit {0}) (List Given) (Unit {0}) Head (Unit {0}) Given (Unit {0})
+Suffix-P = Suffix-F Inner (Unit {0}) (Unit {0}) (Unit {0}) (Unit {0}) (List Given) (Unit {0}) Head (Unit {0}) Given
+    (Unit {0})
 
 abbrev pub Parameter-P : Type 0
-Parameter-P = Parameter-F Inner (Unit {0}) (Unit {0}) (Unit {0}) (Unit {0}) (List Given) (Unit {0}) Head (Unit {0}) Given (Unit {0})
+Parameter-P = Parameter-F Inner (Unit {0}) (Unit {0}) (Unit {0}) (Unit {0}) (List Given) (Unit {0}) Head (Unit {0})
+    Given (Unit {0})
 
 abbrev pub nothing : {A : Type 0} → A → Unit {0}
 nothing x = tt
@@ -61,16 +66,20 @@ abbrev pub given_rule : Parameter-P → Given
 given_rule p = (p.line, p.declarator.name)
 
 unfoldable pub inner : Core → Inner
-inner = fold-Core Inner (Unit {0}) (Unit {0}) (Unit {0}) (Unit {0}) (List Given) (Unit {0}) Head (Unit {0}) Given (Unit {0}) inner_rule nothing nothing nothing nothing list_rule nothing head_rule nothing given_rule nothing
+inner = fold-Core Inner (Unit {0}) (Unit {0}) (Unit {0}) (Unit {0}) (List Given) (Unit {0}) Head (Unit {0}) Given
+    (Unit {0}) inner_rule nothing nothing nothing nothing list_rule nothing head_rule nothing given_rule nothing
 
 unfoldable pub head : Declarator → Head
-head = fold-Declarator Inner (Unit {0}) (Unit {0}) (Unit {0}) (Unit {0}) (List Given) (Unit {0}) Head (Unit {0}) Given (Unit {0}) inner_rule nothing nothing nothing nothing list_rule nothing head_rule nothing given_rule nothing
+head = fold-Declarator Inner (Unit {0}) (Unit {0}) (Unit {0}) (Unit {0}) (List Given) (Unit {0}) Head (Unit {0}) Given
+    (Unit {0}) inner_rule nothing nothing nothing nothing list_rule nothing head_rule nothing given_rule nothing
 
 unfoldable pub list : Suffix → List Given
-list = fold-Suffix Inner (Unit {0}) (Unit {0}) (Unit {0}) (Unit {0}) (List Given) (Unit {0}) Head (Unit {0}) Given (Unit {0}) inner_rule nothing nothing nothing nothing list_rule nothing head_rule nothing given_rule nothing
+list = fold-Suffix Inner (Unit {0}) (Unit {0}) (Unit {0}) (Unit {0}) (List Given) (Unit {0}) Head (Unit {0}) Given
+    (Unit {0}) inner_rule nothing nothing nothing nothing list_rule nothing head_rule nothing given_rule nothing
 
 unfoldable pub written : Parameter → Given
-written = fold-Parameter Inner (Unit {0}) (Unit {0}) (Unit {0}) (Unit {0}) (List Given) (Unit {0}) Head (Unit {0}) Given (Unit {0}) inner_rule nothing nothing nothing nothing list_rule nothing head_rule nothing given_rule nothing
+written = fold-Parameter Inner (Unit {0}) (Unit {0}) (Unit {0}) (Unit {0}) (List Given) (Unit {0}) Head (Unit {0}) Given
+    (Unit {0}) inner_rule nothing nothing nothing nothing list_rule nothing head_rule nothing given_rule nothing
 
 -- the parameters of the function that a declarator declares
 abbrev pub parameters_of : Declarator → List Given

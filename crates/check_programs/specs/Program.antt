@@ -1,8 +1,12 @@
--- The walk over a program, whose items stand at file scope: declarations of variables and prototypes, and functions. A program is
--- walked twice, by the same definition: the second walk knows from the first which variables need an address, where the globals
--- end and which functions there are. What is checked of the whole program comes after both walks. These are this project's own
+-- The walk over a program, whose items stand at file scope: declarations of variables and prototypes, and functions. A
+-- program is
+-- walked twice, by the same definition: the second walk knows from the first which variables need an address, where the
+-- globals
+-- end and which functions there are. What is checked of the whole program comes after both walks. These are this
+-- project's own
 -- rules; what may stand at file scope is C's.
-use Rattle.std.specs.Prelude.{◌≡◌, ℕ, Bool, true, false, ◌&&◌, if◌then◌else◌, List, [], ◌∷◌, length, map, Option, Some, None, is_some, Result, Ok, Err}
+use Rattle.std.specs.Prelude.{◌≡◌, ℕ, Bool, true, false, ◌&&◌, if◌then◌else◌, List, [], ◌∷◌, length, map, Option, Some}
+use Rattle.std.specs.Prelude.{None, is_some, Result, Ok, Err}
 use Rattle.c_types.specs.declared.ctype.CType.{CType}
 use Rattle.check_declarators.specs.declared.steps.Role.TheVariants as role
 use Rattle.check_declarators.specs.declared.steps.Step.{Step}
@@ -36,19 +40,22 @@ use Rattle.check_globals.specs.Names as names
 use Rattle.check_globals.specs.Programs.{finished}
 use Rattle.check_globals.specs.Statics as statics
 use Rattle.check_programs.specs.Parameters.{parameters_of}
-use Rattle.check_walk.specs.Walk.{Start, Nothing, Value, Values, InitParts, Declarations, declaration, with_start, shape, item}
+use Rattle.check_walk.specs.Walk.{Start, Nothing, Value, Values, InitParts, Declarations, declaration, with_start}
+use Rattle.check_walk.specs.Walk.{shape, item}
 
 -- ---- variables and prototypes
 
 -- the type of a name at file scope
 abbrev pub global_type : ℕ → Base → Shape → Start → Rule State CType
 global_type line b d start =
-    d.walk stage.Function >>= (λ ss. lift (declared_type role.FileScope line (words.base_of b) (with_start start (names.named_steps ss))))
+    d.walk stage.Function >>=
+    (λ ss. lift (declared_type role.FileScope line (words.base_of b) (with_start start (names.named_steps ss))))
 
 -- the values of a list, by the type of an element, behind those so far
 abbrev pub row : List Node → CType → Row → Rule State Row
 row [] t r = pure r
-row (e ∷ es) t r = e.walk stage.Function >>= (λ o. row es t (statics.row_more t e.written.constant (is_some e.written.string) o r))
+row (e ∷ es) t r = e.walk stage.Function >>=
+    (λ o. row es t (statics.row_more t e.written.constant (is_some e.written.string) o r))
 
 abbrev pub static_list : ℕ → ℕ → CType → List Node → Rule State (Unit {0})
 static_list line at t es = row es (inner t) (statics.row_begun t) >>= (λ r. statics.static_list line at t (length es) r)
@@ -60,7 +67,8 @@ static_walked line at t e =
 -- a string for an array of char stands in the array itself; every other value is walked
 abbrev pub static_by : ℕ → ℕ → CType → Node → Option (List ℕ) → Rule State (Unit {0})
 static_by line at t e None = static_walked line at t e
-static_by line at t e (Some bytes) = if is_text t then statics.static_text line at t bytes else static_walked line at t e
+static_by line at t e (Some bytes) =
+    if is_text t then statics.static_text line at t bytes else static_walked line at t e
 
 -- the global at this place has this type and begins with this
 abbrev pub static_begin : ℕ → ℕ → CType → Start → Rule State (Unit {0})
@@ -128,7 +136,8 @@ function_rest line t d gs items = body t gs items >>= (λ x. functions.ended lin
 
 abbrev pub function : ℕ → Base → Shape → List Given → List Item → Rule State (Unit {0})
 function line b d gs items =
-    function_type line b d >>= (λ t. functions.named line (name_by d.declared.name) t >>= (λ u. function_rest line t d gs items))
+    function_type line b d >>=
+    (λ t. functions.named line (name_by d.declared.name) t >>= (λ u. function_rest line t d gs items))
 
 -- ---- programs
 

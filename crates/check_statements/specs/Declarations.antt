@@ -1,7 +1,10 @@
--- Declarations in a block: what is checked as one is entered (in a tick no cspec or vspec is written in it); the type, in a
--- tick with its own rule (no array); then the name; and the lengths of arrays. Of several rules that a type breaks, the lowest
+-- Declarations in a block: what is checked as one is entered (in a tick no cspec or vspec is written in it); the type,
+-- in a
+-- tick with its own rule (no array); then the name; and the lengths of arrays. Of several rules that a type breaks, the
+-- lowest
 -- number counts. The rules are C's with this project's specifications; their order is its own.
-use Rattle.std.specs.Prelude.{ℕ, ◌+◌, min, Bool, true, false, nat_lt, if◌then◌else◌, List, [], ◌∷◌, length, Option, Some, None, Ok, Err}
+use Rattle.std.specs.Prelude.{ℕ, ◌+◌, min, Bool, true, false, nat_lt, if◌then◌else◌, List, [], ◌∷◌, length, Option}
+use Rattle.std.specs.Prelude.{Some, None, Ok, Err}
 use Rattle.c_types.specs.declared.ctype.Base.{Base}
 use Rattle.c_types.specs.declared.ctype.CType.{CType}
 use Rattle.check_declarators.specs.declared.steps.Length.{Length}
@@ -74,7 +77,8 @@ length_by (Some n) = len.Constant n
 
 -- the length that an expression gives an array: it has the form of a constant, or not; what is void isn't a value
 unfoldable pub length_of : Bool → Operand → Length
-length_of form o = if form then length_by (constant (effect o)) else (if is_void o.ctype then len.Void else len.Computed)
+length_of form o = if form then length_by (constant (effect o)) else
+    (if is_void o.ctype then len.Void else len.Computed)
 
 -- how many elements a value gives an array that lacks its length: a string's are its bytes with the zero byte
 abbrev pub value_count : Option (List ℕ) → ℕ

@@ -1,8 +1,12 @@
--- Initializers in a block. A variable that is no array takes one value, by assignment; a brace list initializes no such variable,
--- and an array of a block takes no initializer at all. Whether an array that has its length from its initializer is too large is
--- asked behind the initializer's expressions, and before its own rules. Of several rules that are broken, by the values of a list too, the lowest
+-- Initializers in a block. A variable that is no array takes one value, by assignment; a brace list initializes no such
+-- variable,
+-- and an array of a block takes no initializer at all. Whether an array that has its length from its initializer is too
+-- large is
+-- asked behind the initializer's expressions, and before its own rules. Of several rules that are broken, by the values
+-- of a list too, the lowest
 -- number counts. A void value breaks VoidValue alone. These are this project's own rules.
-use Rattle.std.specs.Prelude.{ℕ, Bool, true, false, not, ◌&&◌, ◌||◌, ◌==◌, nat_lt, if◌then◌else◌, List, [], ◌∷◌, length, Option, Some, None, Ok}
+use Rattle.std.specs.Prelude.{ℕ, Bool, true, false, not, ◌&&◌, ◌||◌, ◌==◌, nat_lt, if◌then◌else◌, List, [], ◌∷◌, length}
+use Rattle.std.specs.Prelude.{Option, Some, None, Ok}
 use Rattle.c_types.specs.declared.ctype.Base.{Base}
 use Rattle.c_types.specs.declared.ctype.Base.TheVariants as base
 use Rattle.c_types.specs.declared.ctype.CType.{CType}
@@ -43,7 +47,8 @@ has_size t = is_size (limited_size t)
 
 -- what a value breaks as an initializer of this type
 abbrev pub value_breaks : Value → CType → Option FaultKind
-value_breaks v t = if is_void v.ctype then Some fault.VoidValue else (if converts v.ctype t v.zero then None else Some fault.TypeMismatch)
+value_breaks v t = if is_void v.ctype then Some fault.VoidValue else
+    (if converts v.ctype t v.zero then None else Some fault.TypeMismatch)
 
 -- the rule of the lower number, of one that may be broken and one that is
 abbrev pub lowest : Option FaultKind → FaultKind → FaultKind
@@ -52,7 +57,8 @@ lowest (Some b) k = if nat_lt (number k) (number b) then k else b
 
 -- what a value breaks as the initializer of an array of a block; whether it is a string is said
 abbrev pub array_breaks : Bool → Value → CType → FaultKind
-array_breaks string v t = if not (has_size t) || string && is_text t then fault.BadArray else lowest (value_breaks v t) fault.BadArray
+array_breaks string v t =
+    if not (has_size t) || string && is_text t then fault.BadArray else lowest (value_breaks v t) fault.BadArray
 
 -- a variable that is no array begins with this value: an assignment
 unfoldable pub initialized : ℕ → Operand → Operand → Checked (List Stmt)
@@ -69,7 +75,8 @@ element o t broken = lower broken (value_breaks (value_of o) t)
 
 -- what a list breaks, for an array or not, that has a size or not, whose values break this
 abbrev pub list_breaks : Bool → Bool → Option FaultKind → FaultKind
-list_breaks is_row sized broken = if is_row && sized then lowest broken fault.BadArray else (if is_row then fault.BadArray else fault.TypeMismatch)
+list_breaks is_row sized broken =
+    if is_row && sized then lowest broken fault.BadArray else (if is_row then fault.BadArray else fault.TypeMismatch)
 
 -- a variable begins with a list of values, which break this
 abbrev pub from_list : ℕ → Bool → Bool → Option FaultKind → Checked (List Stmt)

@@ -1,5 +1,7 @@
--- The walk over statements and declarations: what each is by the walks over its parts, in the order of the text. A test is
--- checked after all parts of its statement, and what is checked as a statement is entered comes before them. The order is this
+-- The walk over statements and declarations: what each is by the walks over its parts, in the order of the text. A test
+-- is
+-- checked after all parts of its statement, and what is checked as a statement is entered comes before them. The order
+-- is this
 -- project's own rule: it decides which fault is the first.
 use Rattle.std.specs.Prelude.{ℕ, if◌then◌else◌, List, [], ◌∷◌, ◌++◌, Option, Some, None, Ok}
 use Rattle.c_types.specs.declared.ctype.CType.{CType}
@@ -33,55 +35,67 @@ abbrev pub alone : Node → Around → Rule State (List Stmt)
 alone e a = e.walk a.stage >>= (λ o. pure (Statements.alone o))
 
 abbrev pub if_then : ℕ → Node → Item → Around → Rule State (List Stmt)
-if_then line c i a = c.walk a.stage >>= (λ o. body i (Statements.inside a) >>= (λ x. lift (Statements.if_node line o x)))
+if_then line c i a = c.walk a.stage >>=
+    (λ o. body i (Statements.inside a) >>= (λ x. lift (Statements.if_node line o x)))
 
 abbrev pub bodies : Item → Item → Around → Rule State (Stmt × Stmt)
 bodies i j a = body i a >>= (λ x. body j a >>= (λ y. pure (x, y)))
 
 abbrev pub if_else : ℕ → Node → Item → Item → Around → Rule State (List Stmt)
-if_else line c i j a = c.walk a.stage >>= (λ o. bodies i j (Statements.inside a) >>= (λ p. lift (Statements.if_else_node line o p.0 p.1)))
+if_else line c i j a = c.walk a.stage >>=
+    (λ o. bodies i j (Statements.inside a) >>= (λ p. lift (Statements.if_else_node line o p.0 p.1)))
 
 abbrev pub while_loop : ℕ → Node → Item → Around → Rule State (List Stmt)
-while_loop line c i a = c.walk a.stage >>= (λ o. body i (Statements.looped a) >>= (λ x. lift (Statements.while_node line o x)))
+while_loop line c i a = c.walk a.stage >>=
+    (λ o. body i (Statements.looped a) >>= (λ x. lift (Statements.while_node line o x)))
 
 abbrev pub do_loop : ℕ → Item → Node → Around → Rule State (List Stmt)
-do_loop line i c a = body i (Statements.looped a) >>= (λ x. c.walk a.stage >>= (λ o. lift (Statements.do_node line x o)))
+do_loop line i c a = body i (Statements.looped a) >>=
+    (λ x. c.walk a.stage >>= (λ o. lift (Statements.do_node line x o)))
 
 abbrev pub test_and_step : Option Node → Option Node → Around → Rule State (Option Operand × Option Operand)
 test_and_step c s a = optional c a.stage >>= (λ o. optional s a.stage >>= (λ p. pure (o, p)))
 
 -- a `for` behind its first part
 abbrev pub for_rest : ℕ → Option Node → Option Node → Item → Around → Rule State Stmt
-for_rest line c s i a = test_and_step c s a >>= (λ p. body i (Statements.looped a) >>= (λ x. lift (Statements.for_node line p.0 p.1 x)))
+for_rest line c s i a = test_and_step c s a >>=
+    (λ p. body i (Statements.looped a) >>= (λ x. lift (Statements.for_node line p.0 p.1 x)))
 
 abbrev pub for_alone : ℕ → Option Node → Option Node → Item → Around → Rule State (List Stmt)
 for_alone line c s i a = for_rest line c s i a >>= (λ x. pure (Statements.one x))
 
 -- the first part and the rest
 abbrev pub for_items : ℕ → Item → Option Node → Option Node → Item → Around → Rule State (List Stmt)
-for_items line first c s i a = first.walk (Statements.inside a) >>= (λ xs. for_rest line c s i a >>= (λ x. pure (xs ++ x ∷ [])))
+for_items line first c s i a =
+    first.walk (Statements.inside a) >>= (λ xs. for_rest line c s i a >>= (λ x. pure (xs ++ x ∷ [])))
 
 -- with a first part, a block of it and the rest
 abbrev pub for_block : ℕ → Item → Option Node → Option Node → Item → Around → Rule State (List Stmt)
 for_block line first c s i a =
-    depth >>= (λ n. enter >>= (λ outer. for_items line first c s i a >>= (λ xs. leave n outer >>= (λ vs. pure (Statements.one (st.Block vs xs))))))
+    depth >>= (λ n. enter >>=
+    (λ outer. for_items line first c s i a >>=
+    (λ xs. leave n outer >>= (λ vs. pure (Statements.one (st.Block vs xs))))))
 
 abbrev pub for_loop : ℕ → Item → Option Node → Option Node → Item → Around → Rule State (List Stmt)
 for_loop line first c s i a = if first.is_empty then for_alone line c s i a else for_block line first c s i a
 
 -- the variables and the items of a switch's block
 abbrev pub switch_block : List Item → Around → Rule State (List Stmt × List Stmt)
-switch_block items a = depth >>= (λ n. enter >>= (λ outer. each items (Statements.switched a) >>= (λ xs. leave n outer >>= (λ vs. pure (vs, xs)))))
+switch_block items a = depth >>=
+    (λ n. enter >>= (λ outer. each items (Statements.switched a) >>= (λ xs. leave n outer >>= (λ vs. pure (vs, xs)))))
 
 -- with labels of its own
 abbrev pub labelled_block : List Item → Around → Rule State (List Stmt × List Stmt)
-labelled_block items a = Statements.switch_entered >>= (λ outer. switch_block items a >>= (λ p s. Ok (p, Statements.with_labels outer s)))
+labelled_block items a = Statements.switch_entered >>=
+    (λ outer. switch_block items a >>= (λ p s. Ok (p, Statements.with_labels outer s)))
 
 abbrev pub switch : ℕ → Node → List Item → Around → Rule State (List Stmt)
-switch line e items a = e.walk a.stage >>= (λ o. labelled_block items a >>= (λ p. lift (Statements.switch_node line o p.0 p.1)))
+switch line e items a = e.walk a.stage >>=
+    (λ o. labelled_block items a >>= (λ p. lift (Statements.switch_node line o p.0 p.1)))
 
 abbrev pub case : ℕ → Node → Around → Rule State (List Stmt)
-case line e a = lift (Statements.case_entry line e.written.constant a) >>= (λ u. e.walk a.stage >>= (λ o. Statements.case_node line o))
+case line e a = lift (Statements.case_entry line e.written.constant a) >>=
+    (λ u. e.walk a.stage >>= (λ o. Statements.case_node line o))
 
 abbrev pub answered : ℕ → Node → Around → Rule State (List Stmt)
 answered line e a = e.walk a.stage >>= (λ o s. lift (Statements.return_node line a.stage o s) s)
@@ -98,7 +112,8 @@ abbrev pub block_alone : List Item → Around → Rule State (List Stmt)
 block_alone items a = block items (Statements.inside a) >>= (λ x. pure (Statements.one x))
 
 -- the walk over a statement; `declaration` is that over a declaration in a block
-abbrev pub stmt_walk : {I S D N P : Type 0} → (D → Stage → Rule State (List Stmt)) → Stmt-F Shape Node I (Option Node) Item S D Shape N P Named → Around → Rule State (List Stmt)
+abbrev pub stmt_walk : {I S D N P : Type 0} → (D → Stage → Rule State (List Stmt)) →
+    Stmt-F Shape Node I (Option Node) Item S D Shape N P Named → Around → Rule State (List Stmt)
 stmt_walk declaration Stmt-F.Empty a = pure empty
 stmt_walk declaration (Stmt-F.Expr e) a = alone e a
 stmt_walk declaration (Stmt-F.Block items) a = block_alone items a
@@ -130,9 +145,12 @@ each_type [] g = pure []
 each_type (p ∷ ps) g = p g >>= (λ t. each_type ps g >>= (λ ts. pure (t ∷ ts)))
 
 abbrev pub list_step : List (Stage → Rule State CType) → Stage → Rule State Step
-list_step ps g = depth >>= (λ n. enter >>= (λ outer. each_type ps g >>= (λ ts. leave n outer >>= (λ vs. pure (step.Function ts)))))
+list_step ps g = depth >>=
+    (λ n. enter >>= (λ outer. each_type ps g >>= (λ ts. leave n outer >>= (λ vs. pure (step.Function ts)))))
 
-abbrev pub suffix_rule : {I D N : Type 0} → Suffix-F Shape Node I (Option Node) Item (Stage → Rule State Step) D Shape N (Stage → Rule State CType) Named → Stage → Rule State Step
+abbrev pub suffix_rule : {I D N : Type 0} →
+    Suffix-F Shape Node I (Option Node) Item (Stage → Rule State Step) D Shape N (Stage → Rule State CType) Named →
+    Stage → Rule State Step
 suffix_rule (Suffix-F.Array e) g = length_step e g
 suffix_rule Suffix-F.Unlisted g = pure step.Unlisted
 suffix_rule Suffix-F.Nothing g = pure (step.Function [])

@@ -1,7 +1,10 @@
--- What each statement is by its parts, and what is checked as it is entered: `break` and `continue` in a loop of the same
--- function or tick (for `break` also in a switch), `case` and `default` directly in a switch's block. A test comes after all parts
+-- What each statement is by its parts, and what is checked as it is entered: `break` and `continue` in a loop of the
+-- same
+-- function or tick (for `break` also in a switch), `case` and `default` directly in a switch's block. A test comes
+-- after all parts
 -- of its statement. These are C's rules; the order is this project's own. A statement gives a list of one node.
-use Rattle.std.specs.Prelude.{ℕ, Bool, true, false, ◌&&◌, ◌||◌, if◌then◌else◌, List, [], ◌∷◌, Option, Some, None, Ok, Err}
+use Rattle.std.specs.Prelude.{ℕ, Bool, true, false, ◌&&◌, ◌||◌, if◌then◌else◌, List, [], ◌∷◌, Option, Some, None, Ok}
+use Rattle.std.specs.Prelude.{Err}
 use Rattle.tick_tree.specs.declared.fault.FaultKind.TheVariants as fault
 use Rattle.tick_tree.specs.Faults.{Checked, refuse, ◌>>=◌}
 use Rattle.typed_tree.specs.declared.expression.Expr.{Expr}
@@ -81,7 +84,8 @@ unfoldable pub case_node : ℕ → Operand → Rule State (List Stmt)
 case_node line o s = case_by line (constant (effect o)) s
 
 unfoldable pub default_node : ℕ → Around → Rule State (List Stmt)
-default_node line a s = if a.is_direct then labelled st.Default s (labels.default line s.labels) else refuse fault.BadCase line
+default_node line a s = if a.is_direct then labelled st.Default s (labels.default line s.labels) else
+    refuse fault.BadCase line
 
 -- into a switch, which has no labels yet; those of the switch round it
 unfoldable pub switch_entered : Rule State Labels

@@ -1,7 +1,10 @@
--- What the walk knows of the function that it is in. A variable is a frame object where its type is an array, or where an
--- earlier walk saw that it needs an address; every other one is a register variable of its own number. Frame objects stand
+-- What the walk knows of the function that it is in. A variable is a frame object where its type is an array, or where
+-- an
+-- earlier walk saw that it needs an address; every other one is a register variable of its own number. Frame objects
+-- stand
 -- one after the other, each a multiple of 4 bytes long. These are this project's own rules.
-use Rattle.std.specs.Prelude.{ℕ, ◌+◌, ◌*◌, ◌/◌, min, Bool, true, false, ◌||◌, nat_lt, if◌then◌else◌, List, [], ◌∷◌, ◌++◌, length, slice_get, slice_set, Option, Some, None}
+use Rattle.std.specs.Prelude.{ℕ, ◌+◌, ◌*◌, ◌/◌, min, Bool, true, false, ◌||◌, nat_lt, if◌then◌else◌, List, [], ◌∷◌}
+use Rattle.std.specs.Prelude.{◌++◌, length, slice_get, slice_set, Option, Some, None}
 use Rattle.c_types.specs.declared.ctype.CType.{CType}
 use Rattle.c_types.specs.Types.{layers_of, limited_size}
 use Rattle.check_declarators.specs.Making.{is_array}

@@ -1,7 +1,9 @@
 -- The functions of the program. A function has the number of the functions before it and one more, by the place of its
--- definition; where it is called before that, an earlier walk says its number. Each prototype has a function somewhere in the
+-- definition; where it is called before that, an earlier walk says its number. Each prototype has a function somewhere
+-- in the
 -- text. These are this project's own rules.
-use Rattle.std.specs.Prelude.{ℕ, ◌+◌, min, Bool, true, false, if◌then◌else◌, List, [], ◌∷◌, ◌++◌, Option, Some, None, is_some, Result, Ok, Err}
+use Rattle.std.specs.Prelude.{ℕ, ◌+◌, min, Bool, true, false, if◌then◌else◌, List, [], ◌∷◌, ◌++◌, Option, Some, None}
+use Rattle.std.specs.Prelude.{is_some, Result, Ok, Err}
 use Rattle.c_types.specs.declared.names.Meaning.{Meaning}
 use Rattle.c_types.specs.declared.names.MeaningKind.TheVariants as kind
 use Rattle.c_types.specs.Scopes.{Name, Scopes, find, in_scope, innermost, declared}

@@ -1,7 +1,10 @@
--- The bytes of globals and of strings. Globals stand in the order of the text from 0x10000000 on, then strings in the order
--- of the text, each from a multiple of 4 on. An earlier walk says where the globals end, and so where the strings begin.
+-- The bytes of globals and of strings. Globals stand in the order of the text from 0x10000000 on, then strings in the
+-- order
+-- of the text, each from a multiple of 4 on. An earlier walk says where the globals end, and so where the strings
+-- begin.
 -- These are this project's own rules.
-use Rattle.std.specs.Prelude.{ℕ, ◌+◌, ◌-◌, ◌*◌, ◌/◌, ◌%◌, min, nat_le, if◌then◌else◌, List, [], ◌∷◌, ◌++◌, length, replicate}
+use Rattle.std.specs.Prelude.{ℕ, ◌+◌, ◌-◌, ◌*◌, ◌/◌, ◌%◌, min, nat_le, if◌then◌else◌, List, [], ◌∷◌, ◌++◌, length}
+use Rattle.std.specs.Prelude.{replicate}
 use Rattle.check_tables.specs.declared.image.Image.{Image}
 use Rattle.word32.specs.declared.map.TheConstants.{GLOBAL_BYTES, OBJECTS}
 use Rattle.limits.specs.declared.program.TheConstants.{PLACE_TOP}

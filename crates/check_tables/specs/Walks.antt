@@ -1,4 +1,5 @@
--- A step of the walk over a tree takes what the walk knows to an answer and to what the walk knows then, or to the first
+-- A step of the walk over a tree takes what the walk knows to an answer and to what the walk knows then, or to the
+-- first
 -- fault. Steps follow one another in the order of the text, which is this project's own order of faults.
 use Rattle.std.specs.Prelude.{◌≡◌, Result, Ok, Err}
 use Rattle.tick_tree.specs.Faults.{Checked, ◌>>=◌ as ◌>>>=◌}

@@ -1,6 +1,8 @@
--- What the rules on expressions ask of a type: whether it is an integer, a pointer or a word type, what its values convert to,
+-- What the rules on expressions ask of a type: whether it is an integer, a pointer or a word type, what its values
+-- convert to,
 -- and which types are made of it. The words are C's.
-use Rattle.std.specs.Prelude.{ℕ, Bool, true, false, not, ◌&&◌, ◌||◌, if◌then◌else◌, List, [], ◌∷◌, ◌++◌, Option, Some, None}
+use Rattle.std.specs.Prelude.{ℕ, Bool, true, false, not, ◌&&◌, ◌||◌, if◌then◌else◌, List, [], ◌∷◌, ◌++◌, Option, Some}
+use Rattle.std.specs.Prelude.{None}
 use Rattle.word32.specs.declared.width.Width.{Width}
 use Rattle.word32.specs.declared.width.Width.TheVariants as width
 use Rattle.icode_ops.specs.declared.kind.UnKind.{UnKind}

@@ -1,6 +1,8 @@
--- One turn more of each loop over a list of parts: what is defined for the parts that are left is what is defined for those behind
+-- One turn more of each loop over a list of parts: what is defined for the parts that are left is what is defined for
+-- those behind
 -- the next one, after it; or the fault of the next one.
-use Rattle.std.proofs.Common.{◌≡◌, ℕ, ◌+◌, ◌<◌, min, suc, List, [], ◌∷◌, ◌++◌, length, get_or, drop, map, Option, refl, ap, sym, ◌∙◌, append_assoc, Result, Ok, Err}
+use Rattle.std.proofs.Common.{◌≡◌, ℕ, ◌+◌, ◌<◌, min, suc, List, [], ◌∷◌, ◌++◌, length, get_or, drop, map, Option, refl}
+use Rattle.std.proofs.Common.{ap, sym, ◌∙◌, append_assoc, Result, Ok, Err}
 use Rattle.std.proofs.lemmas.List.{at_drop_more}
 use Rattle.c_types.specs.declared.ctype.CType.{CType}
 use Rattle.check_declarators.specs.declared.steps.Step.{Step}
@@ -49,64 +51,88 @@ front x (Ok r) = refl
 front x (Err f) = refl
 
 -- a function of what is left, one step on
-pub next : {A Y : Type 0} (F : List A → Y) (xs : List A) (i : ℕ) (x : A) → i < length xs → x ≡ get_or xs i x → F (drop i xs) ≡ F (x ∷ drop (i + 1) xs)
+pub next : {A Y : Type 0} (F : List A → Y) (xs : List A) (i : ℕ) (x : A) → i < length xs → x ≡ get_or xs i x →
+    F (drop i xs) ≡ F (x ∷ drop (i + 1) xs)
 next F xs i x h is = at_drop_more F xs i x h ∙ ap (λ z. F (z ∷ drop (i + 1) xs)) (sym is)
 
 -- ---- arguments
 
-pub argument_more : (xs : List Expr) (i : ℕ) (e : Expr) (found : Arguments) (g : Stage) (s z : State) (o : Operand) → i < length xs → e ≡ get_or xs i e
+pub argument_more : (xs : List Expr) (i : ℕ) (e : Expr) (found : Arguments) (g : Stage) (s z : State) (o : Operand) →
+    i < length xs → e ≡ get_or xs i e
     → (walks.node e).walk g s ≡ Ok (o, z)
     → walks.arguments (drop i xs) found g s ≡ walks.arguments (drop (i + 1) xs) (argument found o) g z
 argument_more xs i e found g s z o h is was =
-    next (λ es. walks.arguments es found g s) xs i e h is ∙ ap (λ r. r >>>= (λ p. walks.arguments (drop (i + 1) xs) (argument found p.0) g p.1)) was
+    next (λ es. walks.arguments es found g s) xs i e h is ∙
+    ap (λ r. r >>>= (λ p. walks.arguments (drop (i + 1) xs) (argument found p.0) g p.1)) was
 
-pub argument_fails : (xs : List Expr) (i : ℕ) (e : Expr) (found : Arguments) (g : Stage) (s : State) (f : Fault) → i < length xs → e ≡ get_or xs i e
+pub argument_fails : (xs : List Expr) (i : ℕ) (e : Expr) (found : Arguments) (g : Stage) (s : State) (f : Fault) →
+    i < length xs → e ≡ get_or xs i e
     → (walks.node e).walk g s ≡ Err f → walks.arguments (drop i xs) found g s ≡ Err f
 argument_fails xs i e found g s f h is was =
-    next (λ es. walks.arguments es found g s) xs i e h is ∙ ap (λ r. r >>>= (λ p. walks.arguments (drop (i + 1) xs) (argument found p.0) g p.1)) was
+    next (λ es. walks.arguments es found g s) xs i e h is ∙
+    ap (λ r. r >>>= (λ p. walks.arguments (drop (i + 1) xs) (argument found p.0) g p.1)) was
 
 -- ---- suffixes
 
-pub suffix_more : (xs : List Suffix) (i : ℕ) (e : Suffix) (found : List Step) (g : Stage) (s z : State) (o : Step) → i < length xs → e ≡ get_or xs i e
+pub suffix_more : (xs : List Suffix) (i : ℕ) (e : Suffix) (found : List Step) (g : Stage) (s z : State) (o : Step) →
+    i < length xs → e ≡ get_or xs i e
     → (walks.suffix e).walk g s ≡ Ok (o, z)
-    → statements.each_step (walks.suffix_walks (map walks.suffix (drop i xs))) found g s ≡ statements.each_step (walks.suffix_walks (map walks.suffix (drop (i + 1) xs))) (found ++ o ∷ []) g z
+    → statements.each_step (walks.suffix_walks (map walks.suffix (drop i xs))) found g s ≡ statements.each_step
+    (walks.suffix_walks (map walks.suffix (drop (i + 1) xs))) (found ++ o ∷ []) g z
 suffix_more xs i e found g s z o h is was =
     next (λ es. statements.each_step (walks.suffix_walks (map walks.suffix es)) found g s) xs i e h is
-    ∙ ap (λ r. r >>>= (λ p. statements.each_step (walks.suffix_walks (map walks.suffix (drop (i + 1) xs))) (found ++ p.0 ∷ []) g p.1)) was
+    ∙ ap (λ r. r >>>= (λ p. statements.each_step (walks.suffix_walks (map walks.suffix (drop (i + 1) xs)))
+    (found ++ p.0 ∷ []) g p.1)) was
 
-pub suffix_fails : (xs : List Suffix) (i : ℕ) (e : Suffix) (found : List Step) (g : Stage) (s : State) (f : Fault) → i < length xs → e ≡ get_or xs i e
-    → (walks.suffix e).walk g s ≡ Err f → statements.each_step (walks.suffix_walks (map walks.suffix (drop i xs))) found g s ≡ Err f
+pub suffix_fails : (xs : List Suffix) (i : ℕ) (e : Suffix) (found : List Step) (g : Stage) (s : State) (f : Fault) →
+    i < length xs → e ≡ get_or xs i e
+    → (walks.suffix e).walk g s ≡ Err f →
+    statements.each_step (walks.suffix_walks (map walks.suffix (drop i xs))) found g s ≡ Err f
 suffix_fails xs i e found g s f h is was =
     next (λ es. statements.each_step (walks.suffix_walks (map walks.suffix es)) found g s) xs i e h is
-    ∙ ap (λ r. r >>>= (λ p. statements.each_step (walks.suffix_walks (map walks.suffix (drop (i + 1) xs))) (found ++ p.0 ∷ []) g p.1)) was
+    ∙ ap (λ r. r >>>= (λ p. statements.each_step (walks.suffix_walks (map walks.suffix (drop (i + 1) xs)))
+    (found ++ p.0 ∷ []) g p.1)) was
 
 -- ---- parameters of a list
 
-pub type_more : (xs : List Parameter) (i : ℕ) (e : Parameter) (found : List CType) (g : Stage) (s z : State) (o : CType) → i < length xs → e ≡ get_or xs i e
+pub type_more : (xs : List Parameter) (i : ℕ) (e : Parameter) (found : List CType) (g : Stage) (s z : State) (o : CType)
+    → i < length xs → e ≡ get_or xs i e
     → (walks.parameter e).walk g s ≡ Ok (o, z)
-    → after found (statements.each_type (walks.type_walks (map walks.parameter (drop i xs))) g s) ≡ after (found ++ o ∷ []) (statements.each_type (walks.type_walks (map walks.parameter (drop (i + 1) xs))) g z)
+    → after found (statements.each_type (walks.type_walks (map walks.parameter (drop i xs))) g s) ≡ after
+    (found ++ o ∷ []) (statements.each_type (walks.type_walks (map walks.parameter (drop (i + 1) xs))) g z)
 type_more xs i e found g s z o h is was =
     next (λ es. after found (statements.each_type (walks.type_walks (map walks.parameter es)) g s)) xs i e h is
-    ∙ ap (λ r. after found (r >>>= (λ p. statements.each_type (walks.type_walks (map walks.parameter (drop (i + 1) xs))) g p.1 >>>= (λ q. Ok (p.0 ∷ q.0, q.1))))) was
-    ∙ ap (λ r. after found r) (front o (statements.each_type (walks.type_walks (map walks.parameter (drop (i + 1) xs))) g z))
-    ∙ sym (after_both found (o ∷ []) (statements.each_type (walks.type_walks (map walks.parameter (drop (i + 1) xs))) g z))
+    ∙ ap (λ r. after found (r >>>=
+    (λ p. statements.each_type (walks.type_walks (map walks.parameter (drop (i + 1) xs))) g p.1 >>>=
+    (λ q. Ok (p.0 ∷ q.0, q.1))))) was
+    ∙ ap (λ r. after found r)
+    (front o (statements.each_type (walks.type_walks (map walks.parameter (drop (i + 1) xs))) g z))
+    ∙ sym (after_both found (o ∷ [])
+    (statements.each_type (walks.type_walks (map walks.parameter (drop (i + 1) xs))) g z))
 
-pub type_fails : (xs : List Parameter) (i : ℕ) (e : Parameter) (found : List CType) (g : Stage) (s : State) (f : Fault) → i < length xs → e ≡ get_or xs i e
-    → (walks.parameter e).walk g s ≡ Err f → after found (statements.each_type (walks.type_walks (map walks.parameter (drop i xs))) g s) ≡ Err f
+pub type_fails : (xs : List Parameter) (i : ℕ) (e : Parameter) (found : List CType) (g : Stage) (s : State) (f : Fault)
+    → i < length xs → e ≡ get_or xs i e
+    → (walks.parameter e).walk g s ≡ Err f →
+    after found (statements.each_type (walks.type_walks (map walks.parameter (drop i xs))) g s) ≡ Err f
 type_fails xs i e found g s f h is was =
     next (λ es. after found (statements.each_type (walks.type_walks (map walks.parameter es)) g s)) xs i e h is
-    ∙ ap (λ r. after found (r >>>= (λ p. statements.each_type (walks.type_walks (map walks.parameter (drop (i + 1) xs))) g p.1 >>>= (λ q. Ok (p.0 ∷ q.0, q.1))))) was
+    ∙ ap (λ r. after found (r >>>=
+    (λ p. statements.each_type (walks.type_walks (map walks.parameter (drop (i + 1) xs))) g p.1 >>>=
+    (λ q. Ok (p.0 ∷ q.0, q.1))))) was
 
 -- ---- values of a list
 
-pub element_more : (xs : List Expr) (i : ℕ) (e : Expr) (t : CType) (broken : Option FaultKind) (g : Stage) (s z : State) (o : Operand) → i < length xs → e ≡ get_or xs i e
+pub element_more : (xs : List Expr) (i : ℕ) (e : Expr) (t : CType) (broken : Option FaultKind) (g : Stage) (s z : State)
+    (o : Operand) → i < length xs → e ≡ get_or xs i e
     → (walks.node e).walk g s ≡ Ok (o, z)
-    → walks.elements (map walks.node (drop i xs)) t broken g s ≡ walks.elements (map walks.node (drop (i + 1) xs)) t (element o t broken) g z
+    → walks.elements (map walks.node (drop i xs)) t broken g s ≡ walks.elements (map walks.node (drop (i + 1) xs)) t
+    (element o t broken) g z
 element_more xs i e t broken g s z o h is was =
     next (λ es. walks.elements (map walks.node es) t broken g s) xs i e h is
     ∙ ap (λ r. r >>>= (λ p. walks.elements (map walks.node (drop (i + 1) xs)) t (element p.0 t broken) g p.1)) was
 
-pub element_fails : (xs : List Expr) (i : ℕ) (e : Expr) (t : CType) (broken : Option FaultKind) (g : Stage) (s : State) (f : Fault) → i < length xs → e ≡ get_or xs i e
+pub element_fails : (xs : List Expr) (i : ℕ) (e : Expr) (t : CType) (broken : Option FaultKind) (g : Stage) (s : State)
+    (f : Fault) → i < length xs → e ≡ get_or xs i e
     → (walks.node e).walk g s ≡ Err f → walks.elements (map walks.node (drop i xs)) t broken g s ≡ Err f
 element_fails xs i e t broken g s f h is was =
     next (λ es. walks.elements (map walks.node es) t broken g s) xs i e h is
@@ -114,7 +140,8 @@ element_fails xs i e t broken g s f h is was =
 
 -- ---- items of a block
 
-pub item_more : (xs : List Stmt) (i : ℕ) (e : Stmt) (found : List Act) (a : Around) (s z : State) (o : List Act) → i < length xs → e ≡ get_or xs i e
+pub item_more : (xs : List Stmt) (i : ℕ) (e : Stmt) (found : List Act) (a : Around) (s z : State) (o : List Act) →
+    i < length xs → e ≡ get_or xs i e
     → (walks.item e).walk a s ≡ Ok (o, z)
     → after found (walks.items (drop i xs) a s) ≡ after (found ++ o) (walks.items (drop (i + 1) xs) a z)
 item_more xs i e found a s z o h is was =
@@ -123,7 +150,8 @@ item_more xs i e found a s z o h is was =
     ∙ ap (λ r. after found r) (behind o (walks.items (drop (i + 1) xs) a z))
     ∙ sym (after_both found o (walks.items (drop (i + 1) xs) a z))
 
-pub item_fails : (xs : List Stmt) (i : ℕ) (e : Stmt) (found : List Act) (a : Around) (s : State) (f : Fault) → i < length xs → e ≡ get_or xs i e
+pub item_fails : (xs : List Stmt) (i : ℕ) (e : Stmt) (found : List Act) (a : Around) (s : State) (f : Fault) →
+    i < length xs → e ≡ get_or xs i e
     → (walks.item e).walk a s ≡ Err f → after found (walks.items (drop i xs) a s) ≡ Err f
 item_fails xs i e found a s f h is was =
     next (λ es. after found (walks.items es a s)) xs i e h is
@@ -131,20 +159,26 @@ item_fails xs i e found a s f h is was =
 
 -- ---- declarators of a declaration
 
-pub local_more : (xs : List Init) (i : ℕ) (e : Init) (found : List Act) (line : ℕ) (b : Base) (g : Stage) (s z : State) (o : List Act) → i < length xs → e ≡ get_or xs i e
+pub local_more : (xs : List Init) (i : ℕ) (e : Init) (found : List Act) (line : ℕ) (b : Base) (g : Stage) (s z : State)
+    (o : List Act) → i < length xs → e ≡ get_or xs i e
     → walks.declare_one line b g (walks.init e) s ≡ Ok (o, z)
-    → after found (walks.declare_each line b g (map walks.init (drop i xs)) s) ≡ after (found ++ o) (walks.declare_each line b g (map walks.init (drop (i + 1) xs)) z)
+    → after found (walks.declare_each line b g (map walks.init (drop i xs)) s) ≡ after (found ++ o)
+    (walks.declare_each line b g (map walks.init (drop (i + 1) xs)) z)
 local_more xs i e found line b g s z o h is was =
     next (λ es. after found (walks.declare_each line b g (map walks.init es) s)) xs i e h is
-    ∙ ap (λ r. after found (r >>>= (λ p. walks.declare_each line b g (map walks.init (drop (i + 1) xs)) p.1 >>>= (λ q. Ok (p.0 ++ q.0, q.1))))) was
+    ∙ ap (λ r. after found (r >>>=
+    (λ p. walks.declare_each line b g (map walks.init (drop (i + 1) xs)) p.1 >>>= (λ q. Ok (p.0 ++ q.0, q.1))))) was
     ∙ ap (λ r. after found r) (behind o (walks.declare_each line b g (map walks.init (drop (i + 1) xs)) z))
     ∙ sym (after_both found o (walks.declare_each line b g (map walks.init (drop (i + 1) xs)) z))
 
-pub local_fails : (xs : List Init) (i : ℕ) (e : Init) (found : List Act) (line : ℕ) (b : Base) (g : Stage) (s : State) (f : Fault) → i < length xs → e ≡ get_or xs i e
-    → walks.declare_one line b g (walks.init e) s ≡ Err f → after found (walks.declare_each line b g (map walks.init (drop i xs)) s) ≡ Err f
+pub local_fails : (xs : List Init) (i : ℕ) (e : Init) (found : List Act) (line : ℕ) (b : Base) (g : Stage) (s : State)
+    (f : Fault) → i < length xs → e ≡ get_or xs i e
+    → walks.declare_one line b g (walks.init e) s ≡ Err f →
+    after found (walks.declare_each line b g (map walks.init (drop i xs)) s) ≡ Err f
 local_fails xs i e found line b g s f h is was =
     next (λ es. after found (walks.declare_each line b g (map walks.init es) s)) xs i e h is
-    ∙ ap (λ r. after found (r >>>= (λ p. walks.declare_each line b g (map walks.init (drop (i + 1) xs)) p.1 >>>= (λ q. Ok (p.0 ++ q.0, q.1))))) was
+    ∙ ap (λ r. after found (r >>>=
+    (λ p. walks.declare_each line b g (map walks.init (drop (i + 1) xs)) p.1 >>>= (λ q. Ok (p.0 ++ q.0, q.1))))) was
 
 -- ---- lengths
 

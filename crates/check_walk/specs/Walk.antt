@@ -1,6 +1,8 @@
--- The walk over a tree: the rules of the productions, tied by the fold over the types of the tree. Each value of the tree becomes
+-- The walk over a tree: the rules of the productions, tied by the fold over the types of the tree. Each value of the
+-- tree becomes
 -- what its parent asks of it: how it is written, and the walk over it.
-use Rattle.std.specs.Prelude.{◌≡◌, ℕ, ◌+◌, min, Bool, true, false, ◌&&◌, ◌||◌, if◌then◌else◌, List, [], ◌∷◌, ◌++◌, length, map, Option, Some, None, is_some, Result, Ok, Err}
+use Rattle.std.specs.Prelude.{◌≡◌, ℕ, ◌+◌, min, Bool, true, false, ◌&&◌, ◌||◌, if◌then◌else◌, List, [], ◌∷◌, ◌++◌}
+use Rattle.std.specs.Prelude.{length, map, Option, Some, None, is_some, Result, Ok, Err}
 use Rattle.c_types.specs.declared.ctype.CType.{CType}
 use Rattle.check_declarators.specs.declared.steps.Role.TheVariants as role
 use Rattle.check_declarators.specs.declared.steps.Step.{Step}
@@ -22,8 +24,12 @@ use Rattle.tick_tree.specs.declared.syntax.Parameter.{Parameter}
 use Rattle.tick_tree.specs.declared.syntax.Stmt.{Stmt}
 use Rattle.tick_tree.specs.declared.syntax.Suffix.{Suffix}
 use Rattle.tick_tree.specs.declared.syntax.Typename.{Typename}
-use Rattle.tick_tree.specs.declared.syntax.Core.TheOpen.{Core-F, Declaration-F, Declarator-F, Expr-F, Init-F, Initializer-F, OptionalExpr-F, Parameter-F, Stmt-F, Suffix-F, Typename-F}
-use Rattle.tick_tree.specs.declared.syntax.Core.TheFolds.{fold-Core, fold-Declaration, fold-Declarator, fold-Expr, fold-Init, fold-Initializer, fold-OptionalExpr, fold-Parameter, fold-Stmt, fold-Suffix, fold-Typename}
+use Rattle.tick_tree.specs.declared.syntax.Core.TheOpen.{Core-F, Declaration-F, Declarator-F, Expr-F, Init-F}
+use Rattle.tick_tree.specs.declared.syntax.Core.TheOpen.{Initializer-F, OptionalExpr-F, Parameter-F, Stmt-F, Suffix-F}
+use Rattle.tick_tree.specs.declared.syntax.Core.TheOpen.{Typename-F}
+use Rattle.tick_tree.specs.declared.syntax.Core.TheFolds.{fold-Core, fold-Declaration, fold-Declarator, fold-Expr}
+use Rattle.tick_tree.specs.declared.syntax.Core.TheFolds.{fold-Init, fold-Initializer, fold-OptionalExpr}
+use Rattle.tick_tree.specs.declared.syntax.Core.TheFolds.{fold-Parameter, fold-Stmt, fold-Suffix, fold-Typename}
 use Rattle.tick_tree.specs.declared.fault.FaultKind.{FaultKind}
 use Rattle.tick_tree.specs.Faults.{Checked, refuse, ◌>>=◌ as ◌>>>=◌}
 use Rattle.check_types.specs.Shapes.{inner}
@@ -97,7 +103,8 @@ abbrev pub Initializer-W : Type 0
 Initializer-W = Initializer-F Shape Node Start (Option Node) Item SuffixWalk Declarations Shape InitParts TypeWalk Named
 
 abbrev pub OptionalExpr-W : Type 0
-OptionalExpr-W = OptionalExpr-F Shape Node Start (Option Node) Item SuffixWalk Declarations Shape InitParts TypeWalk Named
+OptionalExpr-W = OptionalExpr-F Shape Node Start (Option Node) Item SuffixWalk Declarations Shape InitParts TypeWalk
+    Named
 
 abbrev pub Stmt-W : Type 0
 Stmt-W = Stmt-F Shape Node Start (Option Node) Item SuffixWalk Declarations Shape InitParts TypeWalk Named
@@ -126,12 +133,15 @@ abbrev pub nothing : Rule State (List Step)
 nothing = pure []
 
 abbrev pub core_rule : Core-W → Shape
-core_rule Core-F.Core::Absent = record { declared = record { plain = true; name = None; staged = false }; walk = λ g. nothing }
-core_rule (Core-F.Core::Name n text) = record { declared = record { plain = true; name = Some (n, text); staged = false }; walk = λ g. nothing }
+core_rule Core-F.Core::Absent =
+    record { declared = record { plain = true; name = None; staged = false }; walk = λ g. nothing }
+core_rule (Core-F.Core::Name n text) =
+    record { declared = record { plain = true; name = Some (n, text); staged = false }; walk = λ g. nothing }
 core_rule (Core-F.Core::Paren d) = d
 
 abbrev pub declarator_walk : Shape → List SuffixWalk → List Prefix → Stage → Rule State (List Step)
-declarator_walk core suffixes prefixes g = core.walk g >>= (λ ss. each_step (suffix_walks suffixes) ss g >>= (λ all. pure (prefixed prefixes all)))
+declarator_walk core suffixes prefixes g =
+    core.walk g >>= (λ ss. each_step (suffix_walks suffixes) ss g >>= (λ all. pure (prefixed prefixes all)))
 
 -- a declarator by its parts
 abbrev pub declarator_of : Shape → List SuffixWalk → List Prefix → Shape
@@ -217,7 +227,9 @@ begin_value line g p e = e.walk g >>= (λ o. lift (initializers.from_value line 
 
 abbrev pub begin_list : ℕ → Stage → Operand → List Node → Rule State (List Act)
 begin_list line g p es =
-    elements es (inner p.ctype) None g >>= (λ broken. lift (initializers.from_list line (initializers.is_array p.ctype) (initializers.has_size p.ctype) broken))
+    elements es (inner p.ctype) None g >>=
+    (λ broken. lift (initializers.from_list line (initializers.is_array p.ctype) (initializers.has_size p.ctype)
+    broken))
 
 -- a variable begins with this
 abbrev pub begin : ℕ → Stage → Operand → Start → Rule State (List Act)
@@ -227,7 +239,8 @@ begin line g p (Values es) = begin_list line g p es
 
 -- the type of a declared variable, after the lengths and lists of its declarator
 abbrev pub local_type : ℕ → Base → Stage → Shape → Start → Rule State CType
-local_type line b g d start = d.walk g >>= (λ ss. lift (declarations.declared_in g line (words.base_of b) (with_start start ss)))
+local_type line b g d start =
+    d.walk g >>= (λ ss. lift (declarations.declared_in g line (words.base_of b) (with_start start ss)))
 
 -- its type, its name, its initializer
 abbrev pub declare_parts : ℕ → Base → Stage → Shape → Start → Rule State (List Act)
@@ -236,7 +249,8 @@ declare_parts line b g d start =
 
 -- what is checked as it is entered comes before
 abbrev pub declare_by : ℕ → Base → Stage → Shape → Start → Rule State (List Act)
-declare_by line b g d start = lift (declarations.entered g line d.declared.staged) >>= (λ u. declare_parts line b g d start)
+declare_by line b g d start =
+    lift (declarations.entered g line d.declared.staged) >>= (λ u. declare_parts line b g d start)
 
 -- one declarator of a declaration
 abbrev pub declare_one : ℕ → Base → Stage → InitParts → Rule State (List Act)
@@ -267,7 +281,9 @@ is_staged_suffix Suffix-F.Nothing = false
 is_staged_suffix (Suffix-F.Listed ps) = any_parameter ps
 
 -- a suffix with the walks over its parts alone
-abbrev pub suffix_of : Suffix-W → Suffix-F Shape Node Start (Option Node) Item (Stage → Rule State Step) Declarations Shape InitParts (Stage → Rule State CType) Named
+abbrev pub suffix_of : Suffix-W →
+    Suffix-F Shape Node Start (Option Node) Item (Stage → Rule State Step) Declarations Shape InitParts
+    (Stage → Rule State CType) Named
 suffix_of (Suffix-F.Array e) = Suffix-F.Array e
 suffix_of Suffix-F.Unlisted = Suffix-F.Unlisted
 suffix_of Suffix-F.Nothing = Suffix-F.Nothing
@@ -282,37 +298,59 @@ suffix_walk s = record { staged = is_staged_suffix s; walk = suffix_steps s }
 -- ---- the walk over each type of the tree
 
 unfoldable pub core : Core → Shape
-core = fold-Core Shape Node Start (Option Node) Item SuffixWalk Declarations Shape InitParts TypeWalk Named core_rule expr_rule start_rule optional_rule stmt_rule suffix_walk declaration_rule declarator_rule init_rule parameter_rule typename_rule
+core = fold-Core Shape Node Start (Option Node) Item SuffixWalk Declarations Shape InitParts TypeWalk Named core_rule
+    expr_rule start_rule optional_rule stmt_rule suffix_walk declaration_rule declarator_rule init_rule parameter_rule
+    typename_rule
 
 unfoldable pub node : Expr → Node
-node = fold-Expr Shape Node Start (Option Node) Item SuffixWalk Declarations Shape InitParts TypeWalk Named core_rule expr_rule start_rule optional_rule stmt_rule suffix_walk declaration_rule declarator_rule init_rule parameter_rule typename_rule
+node = fold-Expr Shape Node Start (Option Node) Item SuffixWalk Declarations Shape InitParts TypeWalk Named core_rule
+    expr_rule start_rule optional_rule stmt_rule suffix_walk declaration_rule declarator_rule init_rule parameter_rule
+    typename_rule
 
 unfoldable pub optional : OptionalExpr → Option Node
-optional = fold-OptionalExpr Shape Node Start (Option Node) Item SuffixWalk Declarations Shape InitParts TypeWalk Named core_rule expr_rule start_rule optional_rule stmt_rule suffix_walk declaration_rule declarator_rule init_rule parameter_rule typename_rule
+optional = fold-OptionalExpr Shape Node Start (Option Node) Item SuffixWalk Declarations Shape InitParts TypeWalk Named
+    core_rule expr_rule start_rule optional_rule stmt_rule suffix_walk declaration_rule declarator_rule init_rule
+    parameter_rule typename_rule
 
 unfoldable pub item : Stmt → Item
-item = fold-Stmt Shape Node Start (Option Node) Item SuffixWalk Declarations Shape InitParts TypeWalk Named core_rule expr_rule start_rule optional_rule stmt_rule suffix_walk declaration_rule declarator_rule init_rule parameter_rule typename_rule
+item = fold-Stmt Shape Node Start (Option Node) Item SuffixWalk Declarations Shape InitParts TypeWalk Named core_rule
+    expr_rule start_rule optional_rule stmt_rule suffix_walk declaration_rule declarator_rule init_rule parameter_rule
+    typename_rule
 
 unfoldable pub suffix : Suffix → SuffixWalk
-suffix = fold-Suffix Shape Node Start (Option Node) Item SuffixWalk Declarations Shape InitParts TypeWalk Named core_rule expr_rule start_rule optional_rule stmt_rule suffix_walk declaration_rule declarator_rule init_rule parameter_rule typename_rule
+suffix = fold-Suffix Shape Node Start (Option Node) Item SuffixWalk Declarations Shape InitParts TypeWalk Named
+    core_rule expr_rule start_rule optional_rule stmt_rule suffix_walk declaration_rule declarator_rule init_rule
+    parameter_rule typename_rule
 
 unfoldable pub declaration : Declaration → Declarations
-declaration = fold-Declaration Shape Node Start (Option Node) Item SuffixWalk Declarations Shape InitParts TypeWalk Named core_rule expr_rule start_rule optional_rule stmt_rule suffix_walk declaration_rule declarator_rule init_rule parameter_rule typename_rule
+declaration = fold-Declaration Shape Node Start (Option Node) Item SuffixWalk Declarations Shape InitParts TypeWalk
+    Named core_rule expr_rule start_rule optional_rule stmt_rule suffix_walk declaration_rule declarator_rule init_rule
+    parameter_rule typename_rule
 
 unfoldable pub shape : Declarator → Shape
-shape = fold-Declarator Shape Node Start (Option Node) Item SuffixWalk Declarations Shape InitParts TypeWalk Named core_rule expr_rule start_rule optional_rule stmt_rule suffix_walk declaration_rule declarator_rule init_rule parameter_rule typename_rule
+shape = fold-Declarator Shape Node Start (Option Node) Item SuffixWalk Declarations Shape InitParts TypeWalk Named
+    core_rule expr_rule start_rule optional_rule stmt_rule suffix_walk declaration_rule declarator_rule init_rule
+    parameter_rule typename_rule
 
 unfoldable pub init : Init → InitParts
-init = fold-Init Shape Node Start (Option Node) Item SuffixWalk Declarations Shape InitParts TypeWalk Named core_rule expr_rule start_rule optional_rule stmt_rule suffix_walk declaration_rule declarator_rule init_rule parameter_rule typename_rule
+init = fold-Init Shape Node Start (Option Node) Item SuffixWalk Declarations Shape InitParts TypeWalk Named core_rule
+    expr_rule start_rule optional_rule stmt_rule suffix_walk declaration_rule declarator_rule init_rule parameter_rule
+    typename_rule
 
 unfoldable pub initializer : Initializer → Start
-initializer = fold-Initializer Shape Node Start (Option Node) Item SuffixWalk Declarations Shape InitParts TypeWalk Named core_rule expr_rule start_rule optional_rule stmt_rule suffix_walk declaration_rule declarator_rule init_rule parameter_rule typename_rule
+initializer = fold-Initializer Shape Node Start (Option Node) Item SuffixWalk Declarations Shape InitParts TypeWalk
+    Named core_rule expr_rule start_rule optional_rule stmt_rule suffix_walk declaration_rule declarator_rule init_rule
+    parameter_rule typename_rule
 
 unfoldable pub parameter : Parameter → TypeWalk
-parameter = fold-Parameter Shape Node Start (Option Node) Item SuffixWalk Declarations Shape InitParts TypeWalk Named core_rule expr_rule start_rule optional_rule stmt_rule suffix_walk declaration_rule declarator_rule init_rule parameter_rule typename_rule
+parameter = fold-Parameter Shape Node Start (Option Node) Item SuffixWalk Declarations Shape InitParts TypeWalk Named
+    core_rule expr_rule start_rule optional_rule stmt_rule suffix_walk declaration_rule declarator_rule init_rule
+    parameter_rule typename_rule
 
 unfoldable pub named : Typename → Named
-named = fold-Typename Shape Node Start (Option Node) Item SuffixWalk Declarations Shape InitParts TypeWalk Named core_rule expr_rule start_rule optional_rule stmt_rule suffix_walk declaration_rule declarator_rule init_rule parameter_rule typename_rule
+named = fold-Typename Shape Node Start (Option Node) Item SuffixWalk Declarations Shape InitParts TypeWalk Named
+    core_rule expr_rule start_rule optional_rule stmt_rule suffix_walk declaration_rule declarator_rule init_rule
+    parameter_rule typename_rule
 
 -- ---- lists of these
 

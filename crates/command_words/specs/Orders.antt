@@ -1,7 +1,8 @@
 -- The words of a command line: which command they give, or which word is the first that can't continue one. Word 0 is
 -- the name of the program and word 1 that of the command; behind them stand, in any order, the operands in their order
 -- and the options, each option at most once. The grammar is the product's own.
-use Rattle.std.specs.Prelude.{ℕ, ◌+◌, ◌-◌, Bool, true, false, ◌&&◌, not, ◌==◌, nat_lt, nat_le, if◌then◌else◌, List, [], ◌∷◌, length, Option, Some, None, Result, Ok, Err, codes}
+use Rattle.std.specs.Prelude.{ℕ, ◌+◌, ◌-◌, Bool, true, false, ◌&&◌, not, ◌==◌, nat_lt, nat_le, if◌then◌else◌, List, []}
+use Rattle.std.specs.Prelude.{◌∷◌, length, Option, Some, None, Result, Ok, Err, codes}
 use Rattle.std.specs.Str.{bytes_eq}
 use Rattle.std.specs.Char.{is_ascii_digit}
 use Rattle.std.specs.List.{list_all}
@@ -135,7 +136,8 @@ wanted operands steps = record { operands = operands; steps = steps; number = fa
 
 -- the words behind a command's name, of which the first has place 2; `end` is the number of all words
 abbrev pub stepped : (Word → ℕ → Order) → (end : ℕ) → List Word → Result Order ℕ
-stepped order end words = and_then (arguments (wanted 1 true) 2 words) (λ given. one_stepped order end given.steps given.operands)
+stepped order end words =
+    and_then (arguments (wanted 1 true) 2 words) (λ given. one_stepped order end given.steps given.operands)
 
 abbrev pub single : (Word → Order) → (end : ℕ) → List Word → Result Order ℕ
 single order end words = and_then (arguments (wanted 1 false) 2 words) (λ given. one_of order end given.operands)

@@ -2,7 +2,9 @@
 -- the memory map, and definitions see the lists as spaces.
 use Rattle.std.specs.Prelude.{◌≡◌, ℕ, ◌≤◌, ◌/◌, List, length}
 use Rattle.word32.specs.Space.{words_from}
-use Rattle.word32.specs.declared.map.TheConstants.{OBJECTS, CLOSURES, SPEC_ROWS, CELLS, EMIT_STACK, STACK, CELL_BYTES, CLOSURE_BYTES, EMIT_STACK_BYTES, OBJECT_BYTES, SPEC_ROW_BYTES, STACK_BYTES, TEXT_WORDS}
+use Rattle.word32.specs.declared.map.TheConstants.{OBJECTS, CLOSURES, SPEC_ROWS, CELLS, EMIT_STACK, STACK, CELL_BYTES}
+use Rattle.word32.specs.declared.map.TheConstants.{CLOSURE_BYTES, EMIT_STACK_BYTES, OBJECT_BYTES, SPEC_ROW_BYTES}
+use Rattle.word32.specs.declared.map.TheConstants.{STACK_BYTES, TEXT_WORDS}
 use Rattle.flat_memory.specs.Spaces.{Spaces, text_of}
 
 pub record Regions : Type 0 where

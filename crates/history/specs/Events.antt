@@ -1,12 +1,14 @@
 -- The events of a run, its endings and its input, on the source's side and on the machine's alike.
 -- A history is a list of events in the order in which they took place. These are this project's own
 -- definitions; that both sides use one type makes their agreement an equation.
-use Rattle.std.specs.Prelude.{ℕ, ◌-◌, ◌%◌, Bool, true, false, nat_lt, if◌then◌else◌, List, [], ◌∷◌, ◌++◌, codes, decimal}
+use Rattle.std.specs.Prelude.{ℕ, ◌-◌, ◌%◌, Bool, true, false, nat_lt, if◌then◌else◌, List, [], ◌∷◌, ◌++◌, codes}
+use Rattle.std.specs.Prelude.{decimal}
 use Rattle.host_edge.specs.declared.ending.Ending.{Ending}
 use Rattle.host_edge.specs.declared.ending.MachineKind.{MachineKind}
 use Rattle.history.specs.Syntax.{Syntax}
 
--- A byte was put out; the input was asked for a byte and answered this word; a function of this number was compiled from
+-- A byte was put out; the input was asked for a byte and answered this word; a function of this number was compiled
+-- from
 -- this syntax; or the compiled function of this number was entered.
 pub data Item : Type 0 where
   Out : ℕ → Item

@@ -1,5 +1,6 @@
 -- A table of the places that are used, filled place by place, and read in rising order.
-use Rattle.std.proofs.Common.{ℕ, zero, suc, ◌≡◌, ◌≢◌, ◌+◌, ◌<◌, ◌≤◌, Bool, true, false, cond, ◌||◌, nat_eq, List, [], ◌∷◌, ◌++◌, length, get_or, set, take, refl, ap, sym, ◌∙◌, arith}
+use Rattle.std.proofs.Common.{ℕ, zero, suc, ◌≡◌, ◌≢◌, ◌+◌, ◌<◌, ◌≤◌, Bool, true, false, cond, ◌||◌, nat_eq, List, []}
+use Rattle.std.proofs.Common.{◌∷◌, ◌++◌, length, get_or, set, take, refl, ap, sym, ◌∙◌, arith}
 use Rattle.std.specs.List.{filter}
 use Rattle.std.proofs.lemmas.List.Elements.{filter-append}
 use Rattle.std.proofs.lemmas.List.{get_or-set_same, get_or-set_other, take_more, append-nil}
@@ -35,7 +36,8 @@ abbrev pub Marks : List Bool → List ℕ → Type 0
 Marks table ps = (p : ℕ) → p < 12 → get_or table p false ≡ has ps p
 
 marks_one : (table : List Bool) (ps : List ℕ) (q p : ℕ) → q < length table → (get_or table p false ≡ has ps p)
-    → (nat_eq p q ≡ true → p ≡ q) → (b : Bool) → nat_eq p q ≡ b → get_or (set table q true) p false ≡ has (ps ++ q ∷ []) p
+    → (nat_eq p q ≡ true → p ≡ q) → (b : Bool) → nat_eq p q ≡ b →
+    get_or (set table q true) p false ≡ has (ps ++ q ∷ []) p
 marks_one table ps q p l h t true e =
     rw (t e, get_or-set_same table q true false l, has-append ps q q, nat_eq-same q) refl
 marks_one table ps q p l h t false e =
@@ -44,8 +46,10 @@ marks_one table ps q p l h t false e =
     rw (get_or-set_other table q p true false n, has-append ps q p, nat_eq-other q p n') h
 
 -- a place below 12 is marked
-pub marks_more : (table : List Bool) (ps : List ℕ) (q : ℕ) → q < length table → Marks table ps → Marks (set table q true) (ps ++ q ∷ [])
-marks_more table ps q l h p b = marks_one table ps q p l (h p b) (λ (e : nat_eq p q ≡ true). grind (arith, nat_tests, e)) (nat_eq p q) refl
+pub marks_more : (table : List Bool) (ps : List ℕ) (q : ℕ) → q < length table → Marks table ps →
+    Marks (set table q true) (ps ++ q ∷ [])
+marks_more table ps q l h p b =
+    marks_one table ps q p l (h p b) (λ (e : nat_eq p q ≡ true). grind (arith, nat_tests, e)) (nat_eq p q) refl
 
 -- another place isn't
 pub marks_still : (table : List Bool) (ps : List ℕ) (q : ℕ) → 12 ≤ q → Marks table ps → Marks table (ps ++ q ∷ [])
@@ -66,8 +70,25 @@ filter_same f g h (x ∷ xs) a = rw (h x a.0, filter_same f g h xs a.1) refl
 pub marks_are : (table : List Bool) (ps : List ℕ) → Marks table ps → marked table ≡ saved ps
 unfolding AllLow marked saved
 marks_are table ps h =
-    filter_same (λ (p : ℕ). get_or table p false) (has ps) h register_places
-    (omega arith, (omega arith, (omega arith, (omega arith, (omega arith, (omega arith, (omega arith, (omega arith, (omega arith, (omega arith, (omega arith, (omega arith, tt))))))))))))
+    filter_same (λ (p : ℕ). get_or table p false) (has ps) h register_places (
+      omega arith,
+      (
+        omega arith,
+        (
+          omega arith,
+          (
+            omega arith,
+            (
+              omega arith,
+              (
+                omega arith,
+                (omega arith, (omega arith, (omega arith, (omega arith, (omega arith, (omega arith, tt)))))),
+              ),
+            ),
+          ),
+        ),
+      ),
+    )
 
 at_place : (p : ℕ) → p < 12 → get_or register_places p 0 ≡ p
 at_place zero h = refl
@@ -93,7 +114,8 @@ saves-append (x ∷ xs) ys = ap (λ (is : List Instr). sw (place_register x) (sa
 
 restores-append : (xs ys : List ℕ) → restores (xs ++ ys) ≡ restores xs ++ restores ys
 restores-append [] ys = refl
-restores-append (x ∷ xs) ys = ap (λ (is : List Instr). lw (place_register x) (save_offset x) sp ∷ is) (restores-append xs ys)
+restores-append (x ∷ xs) ys =
+    ap (λ (is : List Instr). lw (place_register x) (save_offset x) sp ∷ is) (restores-append xs ys)
 
 abbrev pub so_far : List Bool → ℕ → List ℕ
 so_far table p = filter (λ q. get_or table q false) (take p register_places)
@@ -102,12 +124,14 @@ pub so_far_all : (table : List Bool) → so_far table 12 ≡ marked table
 unfolding marked
 so_far_all table = refl
 
-one : (table : List Bool) (p : ℕ) → p < 12 → (b : Bool) → get_or table p false ≡ b → so_far table (p + 1) ≡ so_far table p ++ cond b (p ∷ []) []
+one : (table : List Bool) (p : ℕ) → p < 12 → (b : Bool) → get_or table p false ≡ b →
+    so_far table (p + 1) ≡ so_far table p ++ cond b (p ∷ []) []
 one table p h b e =
     rw (next_place p h, filter-append (λ (q : ℕ). get_or table q false) (take p register_places) (p ∷ []), e) refl
 
 pub saves_more : (table : List Bool) (p : ℕ) → p < 12 → get_or table p false ≡ true
-    → words (saves (so_far table (p + 1))) ≡ words (saves (so_far table p)) ++ word_of (sw (place_register p) (save_offset p) sp) ∷ []
+    → words (saves (so_far table (p + 1))) ≡ words (saves (so_far table p)) ++ word_of
+    (sw (place_register p) (save_offset p) sp) ∷ []
 saves_more table p h e = rw (one table p h true e, saves-append, words_append) refl
 
 pub saves_still : (table : List Bool) (p : ℕ) → p < 12 → get_or table p false ≡ false
@@ -115,7 +139,8 @@ pub saves_still : (table : List Bool) (p : ℕ) → p < 12 → get_or table p fa
 saves_still table p h e = rw (one table p h false e) (rw (saves-append, words_append) (append-nil _))
 
 pub restores_more : (table : List Bool) (p : ℕ) → p < 12 → get_or table p false ≡ true
-    → words (restores (so_far table (p + 1))) ≡ words (restores (so_far table p)) ++ word_of (lw (place_register p) (save_offset p) sp) ∷ []
+    → words (restores (so_far table (p + 1))) ≡ words (restores (so_far table p)) ++ word_of
+    (lw (place_register p) (save_offset p) sp) ∷ []
 restores_more table p h e = rw (one table p h true e, restores-append, words_append) refl
 
 pub restores_still : (table : List Bool) (p : ℕ) → p < 12 → get_or table p false ≡ false

@@ -1,5 +1,7 @@
 -- The table of labels' addresses, filled op by op.
-use Rattle.std.proofs.Common.{ℕ, zero, suc, ◌≡◌, ◌≢◌, ◌+◌, ◌*◌, ◌<◌, ◌≤◌, Bool, true, false, Option, Some, None, nat_lt, List, [], ◌∷◌, length, get_or, take, set, refl, ap, sym, ◌∙◌, subst, arith, length-append, below_more}
+use Rattle.std.proofs.Common.{ℕ, zero, suc, ◌≡◌, ◌≢◌, ◌+◌, ◌*◌, ◌<◌, ◌≤◌, Bool, true, false, Option, Some, None, nat_lt}
+use Rattle.std.proofs.Common.{List, [], ◌∷◌, length, get_or, take, set, refl, ap, sym, ◌∙◌, subst, arith, length-append}
+use Rattle.std.proofs.Common.{below_more}
 use Rattle.std.proofs.Math.Seq.{take-nil}
 use Rattle.std.proofs.lemmas.List.{get_or-set_same, get_or-set_other, get_or_past}
 use Rattle.std.proofs.lemmas.Bool.Decides.{nat_tests}
@@ -17,19 +19,22 @@ use Rattle.icode_expand.proofs.Lengths.{past_is, templates_part, aim_to}
 abbrev pub address_at : Layout → ℕ → List Op → ℕ → ℕ
 address_at l start ops p = start + 4 * length (templates l nowhere (take p ops))
 
-pub op_address_is : (l : Layout) (start : ℕ) (ops : List Op) (p : ℕ) → op_address l start ops p ≡ address_at l start ops p
+pub op_address_is : (l : Layout) (start : ℕ) (ops : List Op) (p : ℕ) →
+    op_address l start ops p ≡ address_at l start ops p
 op_address_is l start [] p = rw (take-nil {A = Op} p) (omega arith)
 op_address_is l start (x ∷ xs) zero = omega arith
 op_address_is l start (x ∷ xs) (suc p) =
     op_address_is l (past start (template l nowhere x)) xs p
-    ∙ rw (past_is start (template l nowhere x), length-append (template l nowhere x) (templates l nowhere (take p xs))) (omega arith)
+    ∙ rw (past_is start (template l nowhere x), length-append (template l nowhere x) (templates l nowhere (take p xs)))
+    (omega arith)
 
 -- the labels of the first i ops have their addresses in the table
 abbrev pub Placed : Layout → ℕ → List Op → ℕ → List ℕ → Type 0
 Placed l start ops i labels =
     (p : ℕ) → p < i → (x : ℕ) → label_of (op_at ops p) ≡ Some x → get_or labels x 0 ≡ address_at l start ops p
 
-more_by : (l : Layout) (start : ℕ) (ops : List Op) (n i : ℕ) (labels : List ℕ) → IsFinished ops n → Placed l start ops i labels
+more_by : (l : Layout) (start : ℕ) (ops : List Op) (n i : ℕ) (labels : List ℕ) → IsFinished ops n →
+    Placed l start ops i labels
     → (o : Option ℕ) → label_of (op_at ops i) ≡ o → Below (length labels) o
     → Placed l start ops (i + 1) (with_label o (address_at l start ops i) labels)
 more_by l start ops n i labels f h None e b =
@@ -37,7 +42,8 @@ more_by l start ops n i labels f h None e b =
     (λ (x : ℕ) (s : label_of (op_at ops i) ≡ Some x). cc)
 more_by l start ops n i labels f h (Some y) e b =
     let A : ℕ = address_at l start ops i in
-    below_more (λ (p : ℕ). (x : ℕ) → label_of (op_at ops p) ≡ Some x → get_or (set labels y A) x 0 ≡ address_at l start ops p) i
+    below_more (λ (p : ℕ). (x : ℕ) → label_of (op_at ops p) ≡ Some x →
+    get_or (set labels y A) x 0 ≡ address_at l start ops p) i
     (λ (p : ℕ) (q : p < i) (x : ℕ) (s : label_of (op_at ops p) ≡ Some x).
     let ne : x ≢ y = λ (t : x ≡ y).
     let s' : label_of (op_at ops p) ≡ Some y = cc in
@@ -53,7 +59,8 @@ pub placed_more : (l : Layout) (start : ℕ) (ops : List Op) (n i : ℕ) (labels
     → Placed l start ops (i + 1) (with_label (label_of (op_at ops i)) (address_at l start ops i) labels)
 placed_more l start ops n i labels f b h = more_by l start ops n i labels f h (label_of (op_at ops i)) refl b
 
-in_list : (ops : List Op) (q x : ℕ) → label_of (op_at ops q) ≡ Some x → (b : Bool) → nat_lt q (length ops) ≡ b → q < length ops
+in_list : (ops : List Op) (q x : ℕ) → label_of (op_at ops q) ≡ Some x → (b : Bool) → nat_lt q (length ops) ≡ b →
+    q < length ops
 in_list ops q x e true t = grind (arith, nat_tests, t)
 in_list ops q x e false t =
     let h : length ops ≤ q = grind (arith, nat_tests, t) in
@@ -75,14 +82,16 @@ index_by x op ops true e h = rw e (holds_some x (label_of op) e)
 index_by x op ops false e h = rw e (h refl)
 
 -- the label stands at its index
-pub index_is : (ops : List Op) (x q : ℕ) → label_of (op_at ops q) ≡ Some x → label_of (op_at ops (label_index ops x)) ≡ Some x
+pub index_is : (ops : List Op) (x q : ℕ) → label_of (op_at ops q) ≡ Some x →
+    label_of (op_at ops (label_index ops x)) ≡ Some x
 index_is [] x q e =
     let g : op_at [] q ≡ ReturnZero = get_or_past [] q ReturnZero (omega arith) in
     let k : None ≡ Some x = sym (ap label_of g) ∙ e in
     absurd cc
 index_is (op ∷ ops) x zero e =
     index_by x op ops (holds x (label_of op)) refl
-    (λ (n : holds x (label_of op) ≡ false). let t : holds x (label_of op) ≡ true = holds_of x (label_of op) e in absurd cc)
+    (λ (n : holds x (label_of op) ≡ false). let t : holds x (label_of op) ≡ true = holds_of x (label_of op) e in
+    absurd cc)
 index_is (op ∷ ops) x (suc q) e =
     index_by x op ops (holds x (label_of op)) refl (λ (n : holds x (label_of op) ≡ false). index_is ops x q e)
 
@@ -107,7 +116,8 @@ table_made l start ops n labels end f b h e = record {
   at_end = e ∙ sym (past_is start (templates l nowhere ops));
 }
 
-pub placed_step : (l : Layout) (start : ℕ) (ops : List Op) (n i : ℕ) (o : Op) (end : ℕ) (labels labels' : List ℕ) → IsFinished ops n
+pub placed_step : (l : Layout) (start : ℕ) (ops : List Op) (n i : ℕ) (o : Op) (end : ℕ) (labels labels' : List ℕ) →
+    IsFinished ops n
     → op_at ops i ≡ o → Below (length labels) (label_of (op_at ops i)) → end ≡ address_at l start ops i
     → labels' ≡ with_label (label_of o) end labels → Placed l start ops i labels → Placed l start ops (i + 1) labels'
 placed_step l start ops n i o end labels labels' f e b d k h =

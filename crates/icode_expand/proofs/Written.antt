@@ -1,5 +1,6 @@
 -- The words of a function, written part by part.
-use Rattle.std.proofs.Common.{ℕ, ◌≡◌, ◌+◌, ◌-◌, ◌*◌, ◌/◌, ◌<◌, ◌≤◌, Bool, List, ◌++◌, length, take, drop, ap, sym, ◌∙◌, arith, append_assoc, length-append, zero-add}
+use Rattle.std.proofs.Common.{ℕ, ◌≡◌, ◌+◌, ◌-◌, ◌*◌, ◌/◌, ◌<◌, ◌≤◌, Bool, List, ◌++◌, length, take, drop, ap, sym, ◌∙◌}
+use Rattle.std.proofs.Common.{arith, append_assoc, length-append, zero-add}
 use Rattle.mips_encoder.specs.declared.instruction.Instr.{Instr}
 use Rattle.icode_ops.specs.Flow.{goes_to, op_at}
 use Rattle.icode_ops.specs.declared.op.Op.{Op}
@@ -33,7 +34,8 @@ write_step l a ops labels leave i o v out0 out out' filled end t h e ev room ee 
     ∙ ap (λ (op : Op). words (templates l a (take i ops)) ++ words (template l a op)) e) in
     eo'
     ∙ (ap (λ (d : List ℕ). spliced d end (words (template l (λ aim. v) o))) eo
-    ∙ (ap (λ (is : List Instr). spliced (spliced out0 filled (words (templates l a (take i ops)))) end (words is)) (template_at l a o v there)
+    ∙ (ap (λ (is : List Instr). spliced (spliced out0 filled (words (templates l a (take i ops)))) end (words is))
+    (template_at l a o v there)
     ∙ (spliced_more out0 filled (words (templates l a (take i ops))) (words (template l a o)) end room long
     ∙ ap (spliced out0 filled) (sym one))))
 
@@ -44,7 +46,8 @@ quarter a n e h = omega arith
 pub whole_length : (ops : List Op) (places : List ℕ) (at_address frame object : ℕ) (compiled : Bool)
     → length (expanded ops places at_address frame object compiled)
     ≡ length (words (prologue frame object (saved places) compiled))
-    + (length (templates (laid places frame object) nowhere ops) + length (words (epilogue frame object (saved places) compiled)))
+    + (length (templates (laid places frame object) nowhere ops) + length
+    (words (epilogue frame object (saved places) compiled)))
 whole_length ops places at_address frame object compiled =
     let P : List Instr = prologue frame object (saved places) compiled in
     let E : List Instr = epilogue frame object (saved places) compiled in
@@ -58,15 +61,20 @@ whole_length ops places at_address frame object compiled =
     ∙ ap (λ (n : ℕ). n + length (words E)) (length_words (templates l a ops) ∙ templates_length l a nowhere ops))))
 
 -- what stands in the end
-pub whole_written : (ops : List Op) (places : List ℕ) (at_address frame object : ℕ) (compiled : Bool) (out out1 out2 out3 first last : List ℕ)
+pub whole_written : (ops : List Op) (places : List ℕ) (at_address frame object : ℕ) (compiled : Bool)
+    (out out1 out2 out3 first last : List ℕ)
     (start n1 n2 : ℕ)
-    → first ≡ words (prologue frame object (saved places) compiled) → last ≡ words (epilogue frame object (saved places) compiled)
-    → start ≡ at_address + 4 * length first → n1 ≡ length first → n2 ≡ n1 + length (templates (laid places frame object) nowhere ops)
+    → first ≡ words (prologue frame object (saved places) compiled) →
+    last ≡ words (epilogue frame object (saved places) compiled)
+    → start ≡ at_address + 4 * length first → n1 ≡ length first →
+    n2 ≡ n1 + length (templates (laid places frame object) nowhere ops)
     → out1 ≡ spliced out 0 first
-    → out2 ≡ spliced out1 n1 (words (templates (laid places frame object) (aims (laid places frame object) start ops) ops))
+    → out2 ≡ spliced out1 n1 (words
+    (templates (laid places frame object) (aims (laid places frame object) start ops) ops))
     → out3 ≡ spliced out2 n2 last
     → out3 ≡ expanded ops places at_address frame object compiled ++ drop (n2 + length last) out
-whole_written ops places at_address frame object compiled out out1 out2 out3 first last start n1 n2 ef el es e1 e2 o1 o2 o3 =
+whole_written ops places at_address frame object compiled out out1 out2 out3 first last start n1 n2 ef el es e1 e2 o1 o2
+    o3 =
     let P : List Instr = prologue frame object (saved places) compiled in
     let E : List Instr = epilogue frame object (saved places) compiled in
     let l : Layout = laid places frame object in
@@ -74,10 +82,15 @@ whole_written ops places at_address frame object compiled out out1 out2 out3 fir
     es ∙ (ap (λ (n : ℕ). at_address + 4 * n) (ap length ef ∙ length_words P) ∙ sym (past_is at_address P)) in
     let B : List ℕ = words (templates l (aims l start ops) ops) in
     let long : n2 ≡ length (first ++ B) =
-    rw (length-append first B, length_words (templates l (aims l start ops) ops), templates_length l (aims l start ops) nowhere ops)
+    rw (
+      length-append first B,
+      length_words (templates l (aims l start ops) ops),
+      templates_length l (aims l start ops) nowhere ops,
+    )
     (omega arith) in
     let two : out2 ≡ spliced out 0 (first ++ B) =
-    o2 ∙ (ap (λ (d : List ℕ). spliced d n1 B) o1 ∙ spliced_more out 0 first B n1 (omega arith) (rw (zero-add (length first)) e1)) in
+    o2 ∙ (ap (λ (d : List ℕ). spliced d n1 B) o1 ∙
+    spliced_more out 0 first B n1 (omega arith) (rw (zero-add (length first)) e1)) in
     let three : out3 ≡ spliced out 0 ((first ++ B) ++ last) =
     o3 ∙ (ap (λ (d : List ℕ). spliced d n2 last) two
     ∙ spliced_more out 0 (first ++ B) last n2 (omega arith) (rw (zero-add (length (first ++ B))) long)) in
@@ -91,4 +104,5 @@ whole_written ops places at_address frame object compiled out out1 out2 out3 fir
     let size : length ((first ++ B) ++ last) ≡ n2 + length last =
     length-append (first ++ B) last ∙ ap (λ (n : ℕ). n + length last) (sym long) in
     three ∙ (spliced_front out ((first ++ B) ++ last)
-    ∙ (ap (λ (n : ℕ). ((first ++ B) ++ last) ++ drop n out) size ∙ ap (λ (w : List ℕ). w ++ drop (n2 + length last) out) is))
+    ∙ (ap (λ (n : ℕ). ((first ++ B) ++ last) ++ drop n out) size ∙
+    ap (λ (w : List ℕ). w ++ drop (n2 + length last) out) is))

@@ -1,11 +1,15 @@
--- The prologue and the epilogue of a function. The prologue takes the frame from the stack and traps where the stack ends,
--- saves the address to return to and the registers of the places that the function has, and takes the bytes of the frame's
--- objects and traps where their region ends; the epilogue undoes this and returns. A compiled function has no objects, and
+-- The prologue and the epilogue of a function. The prologue takes the frame from the stack and traps where the stack
+-- ends,
+-- saves the address to return to and the registers of the places that the function has, and takes the bytes of the
+-- frame's
+-- objects and traps where their region ends; the epilogue undoes this and returns. A compiled function has no objects,
+-- and
 -- counts its active calls in a cell below $gp. These are the project's own rules.
 use Rattle.std.specs.Prelude.{ℕ, ◌+◌, ◌*◌, Bool, true, false, ◌||◌, nat_eq, if◌then◌else◌, List, [], ◌∷◌, ◌++◌}
 use Rattle.std.specs.List.{filter}
 use Rattle.mips_encoder.specs.declared.instruction.Instr.{Instr}
-use Rattle.icode_templates.specs.Assembly.{scratch, t8, t9, gp, sp, fp, ra, addu, subu, sltu, addiu, lui, lw, sw, jr, nop, constant}
+use Rattle.icode_templates.specs.Assembly.{scratch, t8, t9, gp, sp, fp, ra, addu, subu, sltu, addiu, lui, lw, sw, jr}
+use Rattle.icode_templates.specs.Assembly.{nop, constant}
 use Rattle.icode_templates.specs.Layout.{place_register}
 use Rattle.icode_templates.specs.Templates.{trap_unless_zero}
 
@@ -58,7 +62,8 @@ free_frame frame = constant scratch frame ++ addu sp sp scratch ∷ jr ra ∷ no
 -- the objects are taken; a trap where they end above the objects' region
 abbrev pub take_objects : ℕ → List Instr
 take_objects bytes =
-    if nat_eq bytes 0 then [] else (constant t8 bytes ++ (addu fp fp t8 ∷ lui t8 4352 ∷ sltu t9 t8 fp ∷ trap_unless_zero t9 21))
+    if nat_eq bytes 0 then [] else
+    (constant t8 bytes ++ (addu fp fp t8 ∷ lui t8 4352 ∷ sltu t9 t8 fp ∷ trap_unless_zero t9 21))
 
 abbrev pub free_objects : ℕ → List Instr
 free_objects bytes = if nat_eq bytes 0 then [] else (constant t8 bytes ++ subu fp fp t8 ∷ [])

@@ -1,6 +1,7 @@
 -- How the addresses of labels are kept while a list of ops is expanded, in a table with a word for each label; and how
 -- words are written over a part of a list.
-use Rattle.std.specs.Prelude.{ℕ, ◌+◌, ◌≡◌, ◌<◌, ◌≤◌, List, ◌++◌, Option, Some, None, length, take, drop, slice_index, slice_set}
+use Rattle.std.specs.Prelude.{ℕ, ◌+◌, ◌≡◌, ◌<◌, ◌≤◌, List, ◌++◌, Option, Some, None, length, take, drop, slice_index}
+use Rattle.std.specs.Prelude.{slice_set}
 use Rattle.icode_ops.specs.Flow.{goes_to, op_at}
 use Rattle.icode_ops.specs.declared.op.Op.{Op}
 use Rattle.icode_templates.specs.Templates.{Aim, ToLabel, ToEpilogue}
@@ -9,7 +10,8 @@ use Rattle.icode_templates.specs.Templates.{Aim, ToLabel, ToEpilogue}
 pub record IsTable (address : Aim → ℕ) (ops : List Op) (labels : List ℕ) (epilogue : ℕ) : Type 0 where
   pub at_labels :
       (p label : ℕ) → goes_to (op_at ops p) ≡ Some label →
-      (label < length labels) × (slice_index labels label ≡ address (ToLabel label)) × (slice_index labels label ≤ epilogue)
+      (label < length labels) × (slice_index labels label ≡ address (ToLabel label)) ×
+      (slice_index labels label ≤ epilogue)
   pub at_end : epilogue ≡ address ToEpilogue
 
 -- the table with the address of one more label

@@ -1,4 +1,5 @@
--- What callers need to know of an expansion besides its words: how many words there are at most, that their number doesn't
+-- What callers need to know of an expansion besides its words: how many words there are at most, that their number
+-- doesn't
 -- depend on the addresses of labels, and which places are saved.
 use Rattle.std.specs.Prelude.{ℕ, suc, ◌≡◌, ◌+◌, ◌*◌, ◌<◌, ◌≤◌, Bool, true, List, [], ◌∷◌, length}
 use Rattle.icode_ops.specs.declared.op.Op.{Op}

@@ -1,5 +1,7 @@
 -- What one op more makes of the tables of the ops.
-use Rattle.std.proofs.Common.{ℕ, zero, suc, ◌+◌, ◌*◌, ◌/◌, ◌≡◌, ◌≢◌, ◌<◌, ◌≤◌, ◌⊎◌, ◌||◌, inl, inr, Bool, true, false, eqb, List, [], ◌∷◌, Option, Some, None, length, get_or, refl, sym, ◌∙◌, ap, subst, arith, get_or-set_other, get_or-set_same}
+use Rattle.std.proofs.Common.{ℕ, zero, suc, ◌+◌, ◌*◌, ◌/◌, ◌≡◌, ◌≢◌, ◌<◌, ◌≤◌, ◌⊎◌, ◌||◌, inl, inr, Bool, true, false}
+use Rattle.std.proofs.Common.{eqb, List, [], ◌∷◌, Option, Some, None, length, get_or, refl, sym, ◌∙◌, ap, subst, arith}
+use Rattle.std.proofs.Common.{get_or-set_other, get_or-set_same}
 use Rattle.std.proofs.Math.ListN.{length-set}
 use Rattle.std.proofs.lemmas.Bool.Decides.{nat_tests}
 use Rattle.std.proofs.lemmas.Bool.{cases_lt}
@@ -164,7 +166,8 @@ mentions-more ops n bs range t =
     at-n : (b p : ℕ) → p ≡ n → mentions b (op_at ops n) ≡ true → MentionedAt ops (n + 1) b p
     at-n b p e h = (omega arith, subst (λ z. mentions b (op_at ops z) ≡ true) (sym e) h)
 
-    to : (b p : ℕ) → Or (Or (Or (MentionedAt ops n) (defined (op_at ops n)) (3 * n)) (first_use (op_at ops n)) (3 * n + 1)) (second_use (op_at ops n)) (3 * n + 2) b p
+    to : (b p : ℕ) → Or (Or (Or (MentionedAt ops n) (defined (op_at ops n)) (3 * n)) (first_use (op_at ops n))
+        (3 * n + 1)) (second_use (op_at ops n)) (3 * n + 2) b p
         → MentionedAt ops (n + 1) b p
     to b p (inl (inl (inl h))) = (omega (arith, h.0), h.1)
     to b p (inl (inl (inr h))) = at-n b p (omega (arith, h.1)) (mentioned b (inl h.0))

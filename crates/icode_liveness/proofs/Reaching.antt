@@ -1,5 +1,6 @@
 -- What the search has found when no place is left to look at.
-use Rattle.std.proofs.Common.{ℕ, ◌+◌, ◌/◌, ◌≡◌, ◌<◌, ◌≤◌, ◌⊎◌, ◌↔◌, ◌||◌, inl, inr, Bool, true, false, not, List, [], Option, Some, None, length, get_or, refl, sym, ◌∙◌, ap, subst, arith, length-append}
+use Rattle.std.proofs.Common.{ℕ, ◌+◌, ◌/◌, ◌≡◌, ◌<◌, ◌≤◌, ◌⊎◌, ◌↔◌, ◌||◌, inl, inr, Bool, true, false, not, List, []}
+use Rattle.std.proofs.Common.{Option, Some, None, length, get_or, refl, sym, ◌∙◌, ap, subst, arith, length-append}
 use Rattle.std.proofs.lemmas.List.{get_or_append_left, get_or_past}
 use Rattle.std.proofs.lemmas.Bool.{cases_lt}
 use Rattle.std.proofs.lemmas.Bool.Decides.{nat_tests}
@@ -12,7 +13,8 @@ use Rattle.icode_liveness.specs.declared.sought.Sought.TheVariants.{Use, Definit
 use Rattle.icode_liveness.specs.Lists.{In, Each, Extends}
 use Rattle.icode_liveness.specs.Search.{is_sought, SoughtIn, HasSought, Passing, AreOps}
 use Rattle.icode_liveness.specs.Tables.{MentionedAt, GoesFrom, IsTable}
-use Rattle.icode_liveness.proofs.Lists.{Each-weaker, Each-In, Each-append, Each-each, In-get_or, position, extends-In, extends-twice}
+use Rattle.icode_liveness.proofs.Lists.{Each-weaker, Each-In, Each-append, Each-each, In-get_or, position, extends-In}
+use Rattle.icode_liveness.proofs.Lists.{extends-twice}
 
 -- how far the search has come: each place that was found is right, the uses are found, and what leads to one of
 -- the first i

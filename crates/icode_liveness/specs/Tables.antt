@@ -1,7 +1,8 @@
 -- Tables of the ops: for each register the ops that mention it, for each label the ops that go to
 -- it. Three slots belong to each op, 3 times its place and the two numbers after it, so that an op
 -- may stand in the lists of the register that it defines and of the two that it uses.
-use Rattle.std.specs.Prelude.{ℕ, ◌+◌, ◌≡◌, ◌<◌, ◌/◌, ◌||◌, Bool, true, List, [], Option, None, Some, length, slice_index_or}
+use Rattle.std.specs.Prelude.{ℕ, ◌+◌, ◌≡◌, ◌<◌, ◌/◌, ◌||◌, Bool, true, List, [], Option, None, Some, length}
+use Rattle.std.specs.Prelude.{slice_index_or}
 use Rattle.icode_ops.specs.declared.op.Op.{Op}
 use Rattle.icode_ops.specs.Flow.{defined, first_use, second_use, defines, uses, goes_to, label_of, op_at}
 use Rattle.collections.specs.Contents.{with_slot}

@@ -6,7 +6,8 @@ use Rattle.host_edge.specs.declared.ending.Ending.TheVariants.{Done, Trap}
 use Rattle.host_edge.specs.declared.ending.TrapKind.TheVariants.{BadCall}
 use Rattle.history.specs.Events.{Out, outs, Ended}
 use Rattle.icode_ops.specs.declared.op.Op.{Op}
-use Rattle.icode_ops.specs.declared.op.Op.TheVariants.{Const, Clear, Argument, GetParameter, Call, CallNumber, Result, Return, Sys, Run}
+use Rattle.icode_ops.specs.declared.op.Op.TheVariants.{Const, Clear, Argument, GetParameter, Call, CallNumber, Result}
+use Rattle.icode_ops.specs.declared.op.Op.TheVariants.{Return, Sys, Run}
 use Rattle.icode_ops.specs.declared.kind.SysKind.TheVariants.{PutInteger}
 use Rattle.icode_ops.specs.declared.kind.RunKind.TheVariants.{Malloc}
 use Rattle.meaning_state.specs.Shared.{Shared}
@@ -29,7 +30,8 @@ at_first = record {
 }
 
 abbrev function_of : (address : ℕ) → List Op → (object : ℕ) → Function
-function_of address ops object = record { address = address; ops = ops; charge = 128; object = object; compiled = false }
+function_of address ops object =
+    record { address = address; ops = ops; charge = 128; object = object; compiled = false }
 
 -- a program of two functions: its second has one parameter, and answers it
 abbrev identity : Function
@@ -39,7 +41,8 @@ abbrev after : ℕ → List Op → (object : ℕ) → State
 after steps ops object =
     let main = function_of 4198144 ops object in
     iterate
-    (advance (program_of (record { function = main; parameters = 0 } ∷ record { function = identity; parameters = 1 } ∷ [])))
+    (advance (program_of (record { function = main; parameters = 0 } ∷ record { function = identity; parameters = 1 } ∷
+    [])))
     steps (first main at_first)
 
 -- two words of the frame are set to 0: a step for the loop's setup, and one for each word
@@ -81,7 +84,8 @@ other_count : (see (after 3 (by_number 2 0) 0)).ending ≡ Some (Ended (Trap Bad
 other_count = refl
 
 -- a number is put out in decimal, as a signed one
-minus_five_is_written : (see (after 2 (Const 0 4294967291 ∷ Sys PutInteger 1 0 ∷ []) 0)).history ≡ Out 45 ∷ outs (decimal 5)
+minus_five_is_written : (see (after 2 (Const 0 4294967291 ∷ Sys PutInteger 1 0 ∷ []) 0)).history ≡ Out 45 ∷ outs
+    (decimal 5)
 minus_five_is_written = refl
 
 -- a place of the heap, and none where it has no room

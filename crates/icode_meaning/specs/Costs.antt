@@ -4,9 +4,13 @@
 -- is proved of them. A label costs nothing.
 use Rattle.std.specs.Prelude.{ℕ, ◌+◌, ◌*◌}
 use Rattle.icode_ops.specs.declared.op.Op.{Op}
-use Rattle.icode_ops.specs.declared.op.Op.TheVariants.{Const, Move, Bin, CheckDivision, CheckZero, Un, FrameAddress, Load, Store, Clear, Label, Jump, BranchZero, BranchNonzero, Argument, GetParameter, Call, CallNumber, Result, Return, ReturnZero, Sys, Run, New, Put}
+use Rattle.icode_ops.specs.declared.op.Op.TheVariants.{Const, Move, Bin, CheckDivision, CheckZero, Un, FrameAddress}
+use Rattle.icode_ops.specs.declared.op.Op.TheVariants.{Load, Store, Clear, Label, Jump, BranchZero, BranchNonzero}
+use Rattle.icode_ops.specs.declared.op.Op.TheVariants.{Argument, GetParameter, Call, CallNumber, Result, Return}
+use Rattle.icode_ops.specs.declared.op.Op.TheVariants.{ReturnZero, Sys, Run, New, Put}
 
--- An operand from a register takes 1 instruction, and so does a result. An op that traps, or ends the run, pays too, so the
+-- An operand from a register takes 1 instruction, and so does a result. An op that traps, or ends the run, pays too, so
+-- the
 -- least of a check, an access, a call or a service is that of its shortest way to its trap or end.
 abbrev pub least_of : Op → ℕ
 least_of (Const to word) = 3

@@ -1,6 +1,7 @@
 -- The steps of the staged machine: one op each, and one for each word that a Clear sets. A machine that has ended stays
 -- so, and so does one that is stuck. Ticks and compile are still to come; their ops are stuck until then.
-use Rattle.std.specs.Prelude.{ℕ, zero, suc, ◌+◌, ◌%◌, Bool, true, false, ◌&&◌, List, [], ◌∷◌, Option, Some, None, nat_eq, if◌then◌else◌, slice_get}
+use Rattle.std.specs.Prelude.{ℕ, zero, suc, ◌+◌, ◌%◌, Bool, true, false, ◌&&◌, List, [], ◌∷◌, Option, Some, None}
+use Rattle.std.specs.Prelude.{nat_eq, if◌then◌else◌, slice_get}
 use Rattle.word32.specs.Words.{wrap}
 use Rattle.word32.specs.Space.{update}
 use Rattle.host_edge.specs.declared.ending.Ending.TheVariants.{Done, Trap}
@@ -8,15 +9,21 @@ use Rattle.host_edge.specs.declared.ending.TrapKind.{TrapKind}
 use Rattle.host_edge.specs.declared.ending.TrapKind.TheVariants.{BadCall}
 use Rattle.history.specs.Events.{Ended, ReadFault}
 use Rattle.icode_ops.specs.declared.op.Op.{Op}
-use Rattle.icode_ops.specs.declared.op.Op.TheVariants.{Const, Move, Bin, CheckDivision, CheckZero, Un, FrameAddress, Load, Store, Clear, Label, Jump, BranchZero, BranchNonzero, Argument, GetParameter, Call, CallNumber, Result, Return, ReturnZero, Sys, Run}
+use Rattle.icode_ops.specs.declared.op.Op.TheVariants.{Const, Move, Bin, CheckDivision, CheckZero, Un, FrameAddress}
+use Rattle.icode_ops.specs.declared.op.Op.TheVariants.{Load, Store, Clear, Label, Jump, BranchZero, BranchNonzero}
+use Rattle.icode_ops.specs.declared.op.Op.TheVariants.{Argument, GetParameter, Call, CallNumber, Result, Return}
+use Rattle.icode_ops.specs.declared.op.Op.TheVariants.{ReturnZero, Sys, Run}
 use Rattle.icode_ops.specs.declared.kind.SysKind.TheVariants.{PutInteger, PutByte, GetByte, Exit}
 use Rattle.icode_ops.specs.declared.kind.RunKind.TheVariants as run
 use Rattle.icode_ops.specs.Flow.{first_use, second_use, label_of, holds}
 use Rattle.meaning_state.specs.Operators.{bin_value, un_value, signed_trap, zero_trap}
-use Rattle.meaning_state.specs.Shared.{Shared, Specification, Local, Param, byte_answer, put_byte, put_number, malloc_answer, malloc, Read, Got, Failed, get_byte, access_trap, loaded, stored, are_objects, zeroed, frame_start, limit_trap, charged, discharged}
+use Rattle.meaning_state.specs.Shared.{Shared, Specification, Local, Param, byte_answer, put_byte, put_number}
+use Rattle.meaning_state.specs.Shared.{malloc_answer, malloc, Read, Got, Failed, get_byte, access_trap, loaded, stored}
+use Rattle.meaning_state.specs.Shared.{are_objects, zeroed, frame_start, limit_trap, charged, discharged}
 use Rattle.meaning_state.specs.Rows.{closure_trap, index_trap, next_number, specified}
 use Rattle.icode_meaning.specs.Costs.{least_of, most_of, word_cost}
-use Rattle.icode_meaning.specs.State.{Function, Program, Frame, Log, State, Running, Zeroing, Halted, Stuck, nothing, argued}
+use Rattle.icode_meaning.specs.State.{Function, Program, Frame, Log, State, Running, Zeroing, Halted, Stuck, nothing}
+use Rattle.icode_meaning.specs.State.{argued}
 
 -- the place of a label: the first op that is it
 abbrev pub label_index : ℕ → List Op → ℕ

@@ -1,9 +1,13 @@
 -- What an op defines and uses, and where control goes from it.
 -- An op defines one register at most and uses two at most. Control goes on to the next op from all ops but a jump and
 -- the two returns, so it goes on from the service that ends the program too. These are the project's own rules.
-use Rattle.std.specs.Prelude.{ℕ, ◌+◌, ◌≡◌, ◌<◌, ◌==◌, ◌||◌, ◌⊎◌, Bool, true, false, List, Option, Some, None, length, slice_index_or}
+use Rattle.std.specs.Prelude.{ℕ, ◌+◌, ◌≡◌, ◌<◌, ◌==◌, ◌||◌, ◌⊎◌, Bool, true, false, List, Option, Some, None, length}
+use Rattle.std.specs.Prelude.{slice_index_or}
 use Rattle.icode_ops.specs.declared.op.Op.{Op}
-use Rattle.icode_ops.specs.declared.op.Op.TheVariants.{Const, Move, Bin, CheckDivision, CheckZero, Un, FrameAddress, Load, Store, Label, Jump, BranchZero, BranchNonzero, Argument, GetParameter, CallNumber, Result, Return, ReturnZero, Sys, Run, New, Put}
+use Rattle.icode_ops.specs.declared.op.Op.TheVariants.{Const, Move, Bin, CheckDivision, CheckZero, Un, FrameAddress}
+use Rattle.icode_ops.specs.declared.op.Op.TheVariants.{Load, Store, Label, Jump, BranchZero, BranchNonzero, Argument}
+use Rattle.icode_ops.specs.declared.op.Op.TheVariants.{GetParameter, CallNumber, Result, Return, ReturnZero, Sys, Run}
+use Rattle.icode_ops.specs.declared.op.Op.TheVariants.{New, Put}
 
 -- the register that an op defines
 abbrev pub defined : Op → Option ℕ

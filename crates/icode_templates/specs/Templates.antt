@@ -1,5 +1,6 @@
 -- The instructions of each op. A template brings the op's operands to $t8 and $t9, works there, and brings what the op
--- defines from $t8 to its spot; an instruction that waits for a load, or stands behind a jump, is a nop. No register but
+-- defines from $t8 to its spot; an instruction that waits for a load, or stands behind a jump, is a nop. No register
+-- but
 -- those of the places keeps a value from one op to the next. These are the project's own rules, in the manner of the
 -- templates of ICODE and VCODE (Poletto, Hsieh, Engler and Kaashoek, TOPLAS 1999).
 use Rattle.std.specs.Prelude.{ℕ, ◌+◌, ◌*◌, ◌/◌, ◌%◌, true, false, List, [], ◌∷◌, ◌++◌}
@@ -13,8 +14,14 @@ use Rattle.icode_ops.specs.declared.kind.UnKind.{UnKind}
 use Rattle.icode_ops.specs.declared.kind.BinKind.TheVariants as bin
 use Rattle.icode_ops.specs.declared.kind.UnKind.TheVariants as un
 use Rattle.icode_ops.specs.declared.op.Op.{Op}
-use Rattle.icode_ops.specs.declared.op.Op.TheVariants.{Const, Move, Bin, CheckDivision, CheckZero, Un, FrameAddress, Load, Store, Clear, Label, Jump, BranchZero, BranchNonzero, Argument, GetParameter, Call, CallNumber, Result, Return, ReturnZero, Sys, Run, New, Put}
-use Rattle.icode_templates.specs.Assembly.{scratch, v0, a0, a1, a2, t8, t9, gp, sp, fp, ra, addu, subu, and, or, xor, nor, slt, sltu, sll, srl, sra, sllv, srlv, srav, mult, div, divu, mflo, mfhi, addiu, sltiu, andi, ori, xori, lui, lb, lbu, lh, lhu, lw, sb, sh, sw, beq, bne, j, jal, jalr, syscall, trap, nop, constant}
+use Rattle.icode_ops.specs.declared.op.Op.TheVariants.{Const, Move, Bin, CheckDivision, CheckZero, Un, FrameAddress}
+use Rattle.icode_ops.specs.declared.op.Op.TheVariants.{Load, Store, Clear, Label, Jump, BranchZero, BranchNonzero}
+use Rattle.icode_ops.specs.declared.op.Op.TheVariants.{Argument, GetParameter, Call, CallNumber, Result, Return}
+use Rattle.icode_ops.specs.declared.op.Op.TheVariants.{ReturnZero, Sys, Run, New, Put}
+use Rattle.icode_templates.specs.Assembly.{scratch, v0, a0, a1, a2, t8, t9, gp, sp, fp, ra, addu, subu, and, or, xor}
+use Rattle.icode_templates.specs.Assembly.{nor, slt, sltu, sll, srl, sra, sllv, srlv, srav, mult, div, divu, mflo, mfhi}
+use Rattle.icode_templates.specs.Assembly.{addiu, sltiu, andi, ori, xori, lui, lb, lbu, lh, lhu, lw, sb, sh, sw, beq}
+use Rattle.icode_templates.specs.Assembly.{bne, j, jal, jalr, syscall, trap, nop, constant}
 use Rattle.icode_templates.specs.Layout.{Spot, InRegister, InSlot, Layout, parameter_spot}
 use Rattle.word32.specs.declared.map.TheConstants.{ROUTINE_BYTES, START}
 
@@ -134,7 +141,8 @@ object_address layout t offset = constant t (below_end layout offset) ++ addu t 
 abbrev pub clear_loop : List Instr
 clear_loop = sw 0 0 t8 ∷ addiu t8 t8 4 ∷ bne t8 t9 65533 ∷ nop ∷ []
 
--- the row of the function that has the number in $t8: its address to $t8, and its count of parameters to $t9. The rows of
+-- the row of the function that has the number in $t8: its address to $t8, and its count of parameters to $t9. The rows
+-- of
 -- the function table stand from $gp up; a number above 65,535 has none, and goes to the trap of the check
 abbrev pub number_row : List Instr
 number_row =

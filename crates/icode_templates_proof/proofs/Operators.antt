@@ -1,5 +1,6 @@
 -- What the instructions of an operator do with $t8 and $t9.
-use Rattle.std.proofs.Common.{◌≡◌, ◌≢◌, inl, inr, ℕ, ◌/◌, ◌%◌, ◌<◌, ◌^◌, Bool, true, false, not, List, refl, sym, ap, ◌∙◌, arith, nat_eq, nat_lt, bit_and, bit_or, bit_xor, ◌-◌, if◌then◌else◌}
+use Rattle.std.proofs.Common.{◌≡◌, ◌≢◌, inl, inr, ℕ, ◌/◌, ◌%◌, ◌<◌, ◌^◌, Bool, true, false, not, List, refl, sym, ap}
+use Rattle.std.proofs.Common.{◌∙◌, arith, nat_eq, nat_lt, bit_and, bit_or, bit_xor, ◌-◌, if◌then◌else◌}
 use Rattle.std.proofs.lemmas.Bool.{cases_eq, cases_lt, ne_eqb, eq-eqb}
 use Rattle.std.proofs.lemmas.Bool.Decides.{nat_tests}
 use Rattle.std.proofs.lemmas.Nat.{or_of_32, xor_of_32, and_le_l, and_le_r}
@@ -52,14 +53,18 @@ xor_none a b e = let s = xor_add_and a b in let l = and_le_l a b in let r = and_
 
 is_equal : (a b : ℕ) → bit (nat_lt (bit_xor a b) 1) ≡ truth (nat_eq a b)
 is_equal a b = elim (cases_eq a b) [
-  | inl e ↦ let t : nat_eq a b ≡ true = eq-eqb a b e in let x : bit_xor a b ≡ 0 = ap (bit_xor a) (sym e) ∙ xor_self a in rw (t, x) refl
-  | inr ne ↦ let t : nat_eq a b ≡ false = ne_eqb a b ne in let x : bit_xor a b ≢ 0 = λ e. ne (xor_none a b e) in let f : nat_lt (bit_xor a b) 1 ≡ false = grind (arith, nat_tests, x) in rw (t, f) refl
+  | inl e ↦ let t : nat_eq a b ≡ true = eq-eqb a b e in let x : bit_xor a b ≡ 0 = ap (bit_xor a) (sym e) ∙ xor_self a in
+      rw (t, x) refl
+  | inr ne ↦ let t : nat_eq a b ≡ false = ne_eqb a b ne in let x : bit_xor a b ≢ 0 = λ e. ne (xor_none a b e) in
+      let f : nat_lt (bit_xor a b) 1 ≡ false = grind (arith, nat_tests, x) in rw (t, f) refl
 ]
 
 is_unequal : (a b : ℕ) → bit (nat_lt 0 (bit_xor a b)) ≡ truth (not (nat_eq a b))
 is_unequal a b = elim (cases_eq a b) [
-  | inl e ↦ let t : nat_eq a b ≡ true = eq-eqb a b e in let x : bit_xor a b ≡ 0 = ap (bit_xor a) (sym e) ∙ xor_self a in rw (t, x) refl
-  | inr ne ↦ let t : nat_eq a b ≡ false = ne_eqb a b ne in let x : bit_xor a b ≢ 0 = λ e. ne (xor_none a b e) in let f : nat_lt 0 (bit_xor a b) ≡ true = grind (arith, nat_tests, x) in rw (t, f) refl
+  | inl e ↦ let t : nat_eq a b ≡ true = eq-eqb a b e in let x : bit_xor a b ≡ 0 = ap (bit_xor a) (sym e) ∙ xor_self a in
+      rw (t, x) refl
+  | inr ne ↦ let t : nat_eq a b ≡ false = ne_eqb a b ne in let x : bit_xor a b ≢ 0 = λ e. ne (xor_none a b e) in
+      let f : nat_lt 0 (bit_xor a b) ≡ true = grind (arith, nat_tests, x) in rw (t, f) refl
 ]
 
 -- a value is computed by one instruction, or by two
@@ -69,7 +74,8 @@ by_one v x d leaves e = record { after = one v d; leaves = leaves; keeps = keeps
 by_two : {is : List Instr} (v v' x : ℕ) (d : Data) → Leaves is 0 d 0 (two v v' d) → v' ≡ x → Core is x d
 by_two v v' x d leaves e = record { after = two v v' d; leaves = leaves; keeps = keeps_t8_twice v v' d; result = e }
 
-pub core_of : (kind : BinKind) (d : Data) → IsStraight kind → Core (bin_core kind) (bin_value kind (d.registers 24) (d.registers 25)) d
+pub core_of : (kind : BinKind) (d : Data) → IsStraight kind →
+    Core (bin_core kind) (bin_value kind (d.registers 24) (d.registers 25)) d
 core_of bin.Add d s = by_one (sum (d.registers 24) (d.registers 25)) _ d (λ rest. refl) refl
 core_of bin.Subtract d s = by_one (difference (d.registers 24) (d.registers 25)) _ d (λ rest. refl) refl
 core_of bin.Multiply d s = absurd s
@@ -81,7 +87,8 @@ core_of bin.And d s = by_one (bit_and (d.registers 24) (d.registers 25)) _ d (λ
 core_of bin.Or d s = by_one (bit_or (d.registers 24) (d.registers 25)) _ d (λ rest. refl) refl
 core_of bin.Xor d s = by_one (bit_xor (d.registers 24) (d.registers 25)) _ d (λ rest. refl) refl
 core_of bin.ShiftLeft d s = by_one (shifted_left (d.registers 24) (d.registers 25)) _ d (λ rest. refl) refl
-core_of bin.ShiftRightSigned d s = by_one (shifted_right_signed (d.registers 24) (d.registers 25)) _ d (λ rest. refl) refl
+core_of bin.ShiftRightSigned d s =
+    by_one (shifted_right_signed (d.registers 24) (d.registers 25)) _ d (λ rest. refl) refl
 core_of bin.ShiftRightUnsigned d s = by_one (shifted_right (d.registers 24) (d.registers 25)) _ d (λ rest. refl) refl
 core_of bin.Equal d s =
     let v = bit_xor (d.registers 24) (d.registers 25) in
@@ -94,17 +101,21 @@ core_of bin.LessSigned d s =
 core_of bin.LessUnsigned d s =
     let b = nat_lt (d.registers 24) (d.registers 25) in by_one (bit b) _ d (λ rest. refl) (bit_truth b)
 core_of bin.LessOrEqualSigned d s =
-    let b = is_less_signed (d.registers 25) (d.registers 24) in by_two (bit b) (bit_xor (bit b) 1) _ d (λ rest. refl) (bit_turned b)
+    let b = is_less_signed (d.registers 25) (d.registers 24) in
+    by_two (bit b) (bit_xor (bit b) 1) _ d (λ rest. refl) (bit_turned b)
 core_of bin.LessOrEqualUnsigned d s =
-    let b = nat_lt (d.registers 25) (d.registers 24) in by_two (bit b) (bit_xor (bit b) 1) _ d (λ rest. refl) (bit_turned b)
+    let b = nat_lt (d.registers 25) (d.registers 24) in
+    by_two (bit b) (bit_xor (bit b) 1) _ d (λ rest. refl) (bit_turned b)
 core_of bin.GreaterSigned d s =
     let b = is_less_signed (d.registers 25) (d.registers 24) in by_one (bit b) _ d (λ rest. refl) (bit_truth b)
 core_of bin.GreaterUnsigned d s =
     let b = nat_lt (d.registers 25) (d.registers 24) in by_one (bit b) _ d (λ rest. refl) (bit_truth b)
 core_of bin.GreaterOrEqualSigned d s =
-    let b = is_less_signed (d.registers 24) (d.registers 25) in by_two (bit b) (bit_xor (bit b) 1) _ d (λ rest. refl) (bit_turned b)
+    let b = is_less_signed (d.registers 24) (d.registers 25) in
+    by_two (bit b) (bit_xor (bit b) 1) _ d (λ rest. refl) (bit_turned b)
 core_of bin.GreaterOrEqualUnsigned d s =
-    let b = nat_lt (d.registers 24) (d.registers 25) in by_two (bit b) (bit_xor (bit b) 1) _ d (λ rest. refl) (bit_turned b)
+    let b = nat_lt (d.registers 24) (d.registers 25) in
+    by_two (bit b) (bit_xor (bit b) 1) _ d (λ rest. refl) (bit_turned b)
 
 pub core_between : (kind : BinKind) → Between 1 (bin_core kind) 2
 core_between bin.Add = record { over = omega arith; under = omega arith }
@@ -138,14 +149,16 @@ truth_range false = omega arith
 right_range : (a n : ℕ) → a < 4294967296 → a / 2 ^ n < 4294967296
 right_range a n h = grind (arith, h)
 
-signed_right_range : (a n : ℕ) → a < 4294967296 → (if nat_lt a 2147483648 then a / 2 ^ n else (4294967295 - (4294967295 - a) / 2 ^ n)) < 4294967296
+signed_right_range : (a n : ℕ) → a < 4294967296 →
+    (if nat_lt a 2147483648 then a / 2 ^ n else (4294967295 - (4294967295 - a) / 2 ^ n)) < 4294967296
 signed_right_range a n h = elim (cases_lt a 2147483648) [
   | inl l ↦ let t : nat_lt a 2147483648 ≡ true = grind (arith, nat_tests) in rw t (right_range a n h)
   | inr l ↦ let t : nat_lt a 2147483648 ≡ false = grind (arith, nat_tests) in rw t (omega arith)
 ]
 
 -- an operator on words gives a word
-pub bin_range : (kind : BinKind) (a b : ℕ) → IsStraight kind → a < 4294967296 → b < 4294967296 → bin_value kind a b < 4294967296
+pub bin_range : (kind : BinKind) (a b : ℕ) → IsStraight kind → a < 4294967296 → b < 4294967296 →
+    bin_value kind a b < 4294967296
 bin_range bin.Add a b s u v = omega arith
 bin_range bin.Subtract a b s u v = omega arith
 bin_range bin.Multiply a b s u v = absurd s

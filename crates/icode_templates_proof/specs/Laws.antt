@@ -1,4 +1,5 @@
--- What the instructions of ops do, under any spots of their registers, and in how many instructions. The frame lies in the
+-- What the instructions of ops do, under any spots of their registers, and in how many instructions. The frame lies in
+-- the
 -- stack's region, and each spot is one that its code can reach.
 use Rattle.std.specs.Prelude.{◌≡◌, ◌≢◌, ℕ, ◌+◌, ◌%◌, ◌<◌, List, [], ◌∷◌, ◌++◌}
 use Rattle.mips_encoder.specs.declared.instruction.Instr.{Instr}
@@ -43,7 +44,8 @@ OperatorsAreApplied =
     → (c : Code) (a bytes : ℕ) (d : Data) (w v z : Spot) → Framed (pointer d) bytes
     → Usable bytes w → Usable bytes v → Usable bytes z → value d v < 4294967296 → value d z < 4294967296
     → HasAt c a (in_two_code v z ++ (bin_core kind ++ out_code w))
-    → Writes w (bin_value kind (value d v) (value d z)) 4 12 (at c a 0 d) c (past a (in_two_code v z ++ (bin_core kind ++ out_code w))) d
+    → Writes w (bin_value kind (value d v) (value d z)) 4 12 (at c a 0 d) c
+    (past a (in_two_code v z ++ (bin_core kind ++ out_code w))) d
 
 -- a byte is put out, and it is the answer
 abbrev pub said : ℕ → Data → Data
@@ -53,7 +55,8 @@ abbrev pub BytesArePutOut : Type 0
 BytesArePutOut =
     (c : Code) (a bytes : ℕ) (d : Data) (w v : Spot) → Framed (pointer d) bytes → Usable bytes w → Usable bytes v
     → value d v < 4294967296 → HasAt c a (in_code v ++ (service_code 11 ++ out_code w))
-    → Writes w (value d v % 256) 6 11 (at c a 0 d) c (past a (in_code v ++ (service_code 11 ++ out_code w))) (said (value d v) d)
+    → Writes w (value d v % 256) 6 11 (at c a 0 d) c (past a (in_code v ++ (service_code 11 ++ out_code w)))
+    (said (value d v) d)
 
 -- a branch on 0, and one on other numbers, over the jump to the label
 abbrev pub zero_code : ℕ → List Instr
@@ -84,4 +87,5 @@ abbrev pub ZeroPasses : Type 0
 ZeroPasses =
     (c : Code) (a bytes target : ℕ) (d : Data) (v : Spot) → past a (in_code v) + 12 < 268435456
     → Framed (pointer d) bytes → Usable bytes v → value d v ≡ 0
-    → HasAt c a (in_code v ++ nonzero_code target) → Comes 3 6 (at c a 0 d) c (past a (in_code v ++ nonzero_code target)) d
+    → HasAt c a (in_code v ++ nonzero_code target) →
+    Comes 3 6 (at c a 0 d) c (past a (in_code v ++ nonzero_code target)) d

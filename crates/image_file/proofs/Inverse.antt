@@ -178,11 +178,13 @@ spelling-parts_in bytes small s =
     let from0 = joined bytes 0 4 20 4 24 _ _ w0 from4 refl refl in
     let text : flat_map word_bytes (words_in bytes 24 n) ≡ take (4 * n) (drop 24 bytes)
     = words_in-bytes bytes 24 n small (omega arith) in
-    let functions : flat_map function_bytes (functions_in bytes (functions_at bytes) f) ≡ take (8 * f) (drop (functions_at bytes) bytes)
+    let functions : flat_map function_bytes (functions_in bytes (functions_at bytes) f) ≡ take (8 * f)
+    (drop (functions_at bytes) bytes)
     = functions_in-bytes bytes (functions_at bytes) f small (omega arith) in
     let from_data
     = joined bytes (data_at bytes) d (8 * f) (functions_at bytes) (d + 8 * f) _ _ refl functions refl refl in
-    let from24 = joined bytes 24 (4 * n) (d + 8 * f) (data_at bytes) (4 * n + (d + 8 * f)) _ _ text from_data refl refl in
+    let from24 = joined bytes 24 (4 * n) (d + 8 * f) (data_at bytes) (4 * n + (d + 8 * f)) _ _ text from_data refl refl
+    in
     joined bytes 0 24 (4 * n + (d + 8 * f)) 24 (length bytes) _ _ from0 from24 refl (omega arith) ∙ take-length bytes
 
 pub spelling-parsed : (bytes : List ℕ) (i : ImageParts) → ((k : ℕ) → slice_index bytes k < 256) → parsed bytes ≡ Ok i
@@ -230,7 +232,13 @@ parsed-spelling i h =
     let at_functions : functions_at b ≡ 24 + 4 * n + d = omega arith in
     let at_end : end_at b ≡ 24 + 4 * n + d + 8 * f = omega arith in
     let long : length b ≡ 24 + 4 * n + d + 8 * f
-    = omega (arith, length-append F (i.bytes ++ G), length-append i.bytes G, length-words i.text, length-functions i.functions) in
+    = omega (
+      arith,
+      length-append F (i.bytes ++ G),
+      length-append i.bytes G,
+      length-words i.text,
+      length-functions i.functions,
+    ) in
     let entry_is : word_in b 8 ≡ i.entry = omega arith in
     let text_is : words_in b 24 (word_in b 12) ≡ i.text
     = ap (words_in b 24) w12 ∙ words_in-at (header i) i.text (i.bytes ++ G) 24 h.each_word_fits refl in
@@ -250,12 +258,14 @@ parsed-spelling i h =
     let functions_are : functions_in b (functions_at b) (word_in b 20) ≡ i.functions
     = ap (functions_in b (functions_at b)) w20
     ∙ (ap (λ l. functions_in l (functions_at b) f) (sym split_last)
-    ∙ functions_in-at before i.functions [] (functions_at b) n h.text_is_small good (before_functions ∙ sym at_functions)) in
+    ∙ functions_in-at before i.functions [] (functions_at b) n h.text_is_small good
+    (before_functions ∙ sym at_functions)) in
     let parts_are : parts_in b ≡ i = parts_eq entry_is text_is bytes_are functions_are in
     let none : fault_of b ≡ None
     = all_seven _ _ _ _ _ _ _ Short Magic Version Counts Short Entry Trailing
     (nat_le-true 24 (length b) (omega arith)) refl refl
-    (small_counts b (omega (arith, h.text_is_small)) (omega (arith, h.bytes_are_few)) (omega (arith, h.functions_are_few)))
+    (small_counts b (omega (arith, h.text_is_small)) (omega (arith, h.bytes_are_few))
+    (omega (arith, h.functions_are_few)))
     (nat_le-true (end_at b) (length b) (omega arith))
     (ap has_good_entries parts_are ∙ h.entries_are_good)
     (nat_le-true (length b) (end_at b) (omega arith)) in
@@ -314,6 +324,7 @@ parts_in-image bytes small s = record {
       (λ j. drop_small bytes (data_at bytes) j 256 (lit< tt) small);
   text_is_small = omega (arith, s.text_is_small, length_words_in bytes 24 (word_in bytes 12));
   bytes_are_few = omega (arith, s.bytes_are_few, length-take (word_in bytes 16) (drop (data_at bytes) bytes));
-  functions_are_few = omega (arith, s.functions_are_few, length-functions_in bytes (functions_at bytes) (word_in bytes 20));
+  functions_are_few = omega
+      (arith, s.functions_are_few, length-functions_in bytes (functions_at bytes) (word_in bytes 20));
   entries_are_good = s.entries_are_good;
 }

@@ -88,7 +88,8 @@ pub word_in-at : (pre : List ℕ) (w : ℕ) (post : List ℕ) (at : ℕ) → w <
 word_in-at pre w post at h e =
     let all : List ℕ = pre ++ (word_bytes w ++ post) in
     let here : (n : ℕ) → slice_index all (at + n) ≡ slice_index (word_bytes w ++ post) n
-    = λ n. subst (λ k. slice_index all (k + n) ≡ slice_index (word_bytes w ++ post) n) e (get_or-append-add pre (word_bytes w ++ post) n 0) in
+    = λ n. subst (λ k. slice_index all (k + n) ≡ slice_index (word_bytes w ++ post) n) e
+    (get_or-append-add pre (word_bytes w ++ post) n 0) in
     let e0 : slice_index all at ≡ w / 16777216 = subst (λ k. slice_index all k ≡ w / 16777216) (add-zero at) (here 0) in
     let e1 : slice_index all (at + 1) ≡ w / 65536 % 256 = here 1 in
     let e2 : slice_index all (at + 2) ≡ w / 256 % 256 = here 2 in
@@ -113,7 +114,8 @@ words_in-suc bytes at zero = ap (λ k. word_in bytes k ∷ []) (let e : at ≡ a
 words_in-suc bytes at (suc n) =
     ap (λ l. word_in bytes at ∷ l)
     (words_in-suc bytes (at + 4) n
-    ∙ ap (λ k. words_in bytes (at + 4) n ++ word_in bytes k ∷ []) (let e : (at + 4) + 4 * n ≡ at + 4 * suc n = omega arith in e))
+    ∙ ap (λ k. words_in bytes (at + 4) n ++ word_in bytes k ∷ [])
+    (let e : (at + 4) + 4 * n ≡ at + 4 * suc n = omega arith in e))
 
 pub words_in_more : (bytes : List ℕ) (at n : ℕ) →
     words_in bytes at (n + 1) ≡ words_in bytes at n ++ word_in bytes (at + 4 * n) ∷ []
@@ -125,7 +127,8 @@ functions_in-suc bytes at zero = ap (λ k. function_in bytes k ∷ []) (let e : 
 functions_in-suc bytes at (suc n) =
     ap (λ l. function_in bytes at ∷ l)
     (functions_in-suc bytes (at + 8) n
-    ∙ ap (λ k. functions_in bytes (at + 8) n ++ function_in bytes k ∷ []) (let e : (at + 8) + 8 * n ≡ at + 8 * suc n = omega arith in e))
+    ∙ ap (λ k. functions_in bytes (at + 8) n ++ function_in bytes k ∷ [])
+    (let e : (at + 8) + 8 * n ≡ at + 8 * suc n = omega arith in e))
 
 pub functions_in_more : (bytes : List ℕ) (at n : ℕ) →
     functions_in bytes at (n + 1) ≡ functions_in bytes at n ++ function_in bytes (at + 8 * n) ∷ []
@@ -150,7 +153,8 @@ words_in-bytes bytes at (suc n) small h =
     = words_in-bytes bytes (at + 4) n small (omega arith) in
     joined bytes at 4 (4 * n) (at + 4) (4 * suc n) _ _ first rest refl (omega arith)
 
-pub functions_in-bytes : (bytes : List ℕ) (at n : ℕ) → ((k : ℕ) → slice_index bytes k < 256) → at + 8 * n ≤ length bytes →
+pub functions_in-bytes : (bytes : List ℕ) (at n : ℕ) → ((k : ℕ) → slice_index bytes k < 256) →
+    at + 8 * n ≤ length bytes →
     flat_map function_bytes (functions_in bytes at n) ≡ take (8 * n) (drop at bytes)
 functions_in-bytes bytes at zero small h = refl
 functions_in-bytes bytes at (suc n) small h =
@@ -178,7 +182,8 @@ and-true true = refl
 and-true false = refl
 
 -- an address in the text and a count of arguments are words
-address_fits : (words : ℕ) (f : FunctionEntry) → words ≤ 15728640 → is_function_in words f ≡ true → f.address < 4294967296
+address_fits : (words : ℕ) (f : FunctionEntry) → words ≤ 15728640 → is_function_in words f ≡ true →
+    f.address < 4294967296
 address_fits words f few good = grind arith
 
 count_fits : (words : ℕ) (f : FunctionEntry) → is_function_in words f ≡ true → f.count < 4294967296
@@ -197,7 +202,8 @@ pub all_functions_more : (words : ℕ) (bytes : List ℕ) (at n : ℕ) →
 all_functions_more words bytes at n =
     ap (list_all (is_function_in words)) (functions_in_more bytes at n)
     ∙ (list_all-append (is_function_in words) (functions_in bytes at n) (function_in bytes (at + 8 * n) ∷ [])
-    ∙ ap (λ b. list_all (is_function_in words) (functions_in bytes at n) && b) (and-true (is_function_in words (function_in bytes (at + 8 * n)))))
+    ∙ ap (λ b. list_all (is_function_in words) (functions_in bytes at n) && b)
+    (and-true (is_function_in words (function_in bytes (at + 8 * n)))))
 
 -- what is read of the bytes of words and of functions
 pub words_in-at : (pre ws post : List ℕ) (at : ℕ) → ((k : ℕ) → slice_index ws k < 4294967296) → length pre ≡ at →
@@ -236,7 +242,8 @@ functions_in-at pre (f ∷ fs) post at words few good e =
     let count_there : word_in ((pre ++ word_bytes f.address) ++ (word_bytes f.count ++ rest)) (at + 4) ≡ f.count
     = word_in-at (pre ++ word_bytes f.address) f.count rest (at + 4) (count_fits words f good_first) past_address in
     let count : word_in all (at + 4) ≡ f.count
-    = ap (λ l. word_in l (at + 4)) (sym (append_assoc pre (word_bytes f.address) (word_bytes f.count ++ rest))) ∙ count_there in
+    = ap (λ l. word_in l (at + 4)) (sym (append_assoc pre (word_bytes f.address) (word_bytes f.count ++ rest))) ∙
+    count_there in
     let long : length (pre ++ function_bytes f) ≡ at + 8 = length-append pre (function_bytes f) ∙ ap (λ n. n + 8) e in
     let later : functions_in ((pre ++ function_bytes f) ++ rest) (at + 8) (length fs) ≡ fs
     = functions_in-at (pre ++ function_bytes f) fs post (at + 8) words few good_rest long in
@@ -254,7 +261,8 @@ length-words (w ∷ ws) = omega (arith, length-append (word_bytes w) (flat_map w
 
 pub length-functions : (fs : List FunctionEntry) → length (flat_map function_bytes fs) ≡ 8 * length fs
 length-functions [] = refl
-length-functions (f ∷ fs) = omega (arith, length-append (function_bytes f) (flat_map function_bytes fs), length-functions fs)
+length-functions (f ∷ fs) =
+    omega (arith, length-append (function_bytes f) (flat_map function_bytes fs), length-functions fs)
 
 -- a part behind others
 pub part_at : (pre x post : List ℕ) (at n : ℕ) → length pre ≡ at → length x ≡ n

@@ -94,7 +94,8 @@ parts_in bytes = record {
 -- Whether the header's counts are within the limits.
 abbrev pub has_small_counts : List ℕ → Bool
 has_small_counts bytes =
-    (nat_le (word_in bytes 12) TEXT_WORDS && nat_le (word_in bytes 16) GLOBAL_BYTES) && nat_le (word_in bytes 20) MOST_FUNCTIONS
+    (nat_le (word_in bytes 12) TEXT_WORDS && nat_le (word_in bytes 16) GLOBAL_BYTES) && nat_le (word_in bytes 20)
+    MOST_FUNCTIONS
 
 -- This fault where the rule doesn't hold, else what the later rules say.
 abbrev pub rule : Bool → ImageFault → Option ImageFault → Option ImageFault

@@ -1,5 +1,7 @@
 -- Laws of the definitions.
-use Rattle.std.proofs.Common.{◌≡◌, ℕ, zero, suc, ◌+◌, ◌-◌, ◌*◌, ◌<◌, ◌≤◌, true, false, List, [], ◌∷◌, ◌++◌, length, drop, get_or, length-drop, add-zero, add-one, refl, sym, ap, ◌∙◌, arith, drop-cons, append_assoc}
+use Rattle.std.proofs.Common.{◌≡◌, ℕ, zero, suc, ◌+◌, ◌-◌, ◌*◌, ◌<◌, ◌≤◌, true, false, List, [], ◌∷◌, ◌++◌, length}
+use Rattle.std.proofs.Common.{drop, get_or, length-drop, add-zero, add-one, refl, sym, ap, ◌∙◌, arith, drop-cons}
+use Rattle.std.proofs.Common.{append_assoc}
 use Rattle.std.specs.Prelude.{◌==◌, slice_index, Some, None}
 use Rattle.std.proofs.Math.Nat.{mul-le-mul_left}
 use Rattle.std.proofs.lemmas.List.{drop-drop, get_or-drop}
@@ -16,7 +18,8 @@ value_of_grows base n (b ∷ z) h =
     omega (arith, rest, m)
 
 -- one digit on
-pub value_of_at : (base n i : ℕ) (z : Text) → i < length z → value_of base n (drop i z) ≡ value_of base (n * base + digit_value (get_or z i 0)) (drop (i + 1) z)
+pub value_of_at : (base n i : ℕ) (z : Text) → i < length z →
+    value_of base n (drop i z) ≡ value_of base (n * base + digit_value (get_or z i 0)) (drop (i + 1) z)
 value_of_at base n i z h = rw (add-one, drop-cons z i 0 h) refl
 
 -- ---- the front of a text at a place
@@ -41,7 +44,9 @@ closes_passes quote chars (suc n) at (b ∷ z) =
     let e : at + 1 + n ≡ at + suc n = omega arith in
     closes_passes quote chars n (at + 1) z ∙ ap (λ k. closes quote chars 0 k (drop n z)) e
 
-closes_goes : (quote chars at : ℕ) (z : Text) (c : Character) → 0 < length z → (slice_index z 0 == quote) ≡ false → (slice_index z 0 == 10) ≡ false → character_at z ≡ Some c → 1 ≤ c.len → closes quote chars 0 at z ≡ closes quote (chars + 1) 0 (at + c.len) (drop c.len z)
+closes_goes : (quote chars at : ℕ) (z : Text) (c : Character) → 0 < length z → (slice_index z 0 == quote) ≡ false →
+    (slice_index z 0 == 10) ≡ false → character_at z ≡ Some c → 1 ≤ c.len →
+    closes quote chars 0 at z ≡ closes quote (chars + 1) 0 (at + c.len) (drop c.len z)
 closes_goes quote chars at [] c some other same_line e h = absurd (omega (arith, some))
 closes_goes quote chars at (b ∷ z) c some other same_line e h =
     let passed : at + 1 + (c.len - 1) ≡ at + c.len = omega arith in
@@ -51,19 +56,25 @@ closes_goes quote chars at (b ∷ z) c some other same_line e h =
     ∙ ap (λ y. closes quote (chars + 1) 0 (at + c.len) y) (drop_pred c.len b z h))
 
 -- one character on
-pub closes_goes_at : (quote chars at : ℕ) (z : Text) (c : Character) → at < length z → (get_or z at 0 == quote) ≡ false → (get_or z at 0 == 10) ≡ false → character_at (drop at z) ≡ Some c → 1 ≤ c.len → closes quote chars 0 at (drop at z) ≡ closes quote (chars + 1) 0 (at + c.len) (drop (at + c.len) z)
+pub closes_goes_at : (quote chars at : ℕ) (z : Text) (c : Character) → at < length z →
+    (get_or z at 0 == quote) ≡ false → (get_or z at 0 == 10) ≡ false → character_at (drop at z) ≡ Some c → 1 ≤ c.len →
+    closes quote chars 0 at (drop at z) ≡ closes quote (chars + 1) 0 (at + c.len) (drop (at + c.len) z)
 closes_goes_at quote chars at z c some other same_line e h =
-    closes_goes quote chars at (drop at z) c (some_left z at some) (ap (λ x. x == quote) (front z at) ∙ other) (ap (λ x. x == 10) (front z at) ∙ same_line) e h
+    closes_goes quote chars at (drop at z) c (some_left z at some) (ap (λ x. x == quote) (front z at) ∙ other)
+    (ap (λ x. x == 10) (front z at) ∙ same_line) e h
     ∙ ap (λ y. closes quote (chars + 1) 0 (at + c.len) y) (drop-drop c.len at z)
 
-closes_wrong : (quote chars at : ℕ) (z : Text) → 0 < length z → (slice_index z 0 == quote) ≡ false → (slice_index z 0 == 10) ≡ false → character_at z ≡ None → closes quote chars 0 at z ≡ Wrong chars
+closes_wrong : (quote chars at : ℕ) (z : Text) → 0 < length z → (slice_index z 0 == quote) ≡ false →
+    (slice_index z 0 == 10) ≡ false → character_at z ≡ None → closes quote chars 0 at z ≡ Wrong chars
 closes_wrong quote chars at [] some other same_line e = absurd (omega (arith, some))
 closes_wrong quote chars at (b ∷ z) some other same_line e = rw (other, same_line, e) refl
 
 -- a wrong escape
-pub closes_wrong_at : (quote chars at : ℕ) (z : Text) → at < length z → (get_or z at 0 == quote) ≡ false → (get_or z at 0 == 10) ≡ false → character_at (drop at z) ≡ None → closes quote chars 0 at (drop at z) ≡ Wrong chars
+pub closes_wrong_at : (quote chars at : ℕ) (z : Text) → at < length z → (get_or z at 0 == quote) ≡ false →
+    (get_or z at 0 == 10) ≡ false → character_at (drop at z) ≡ None → closes quote chars 0 at (drop at z) ≡ Wrong chars
 closes_wrong_at quote chars at z some other same_line e =
-    closes_wrong quote chars at (drop at z) (some_left z at some) (ap (λ x. x == quote) (front z at) ∙ other) (ap (λ x. x == 10) (front z at) ∙ same_line) e
+    closes_wrong quote chars at (drop at z) (some_left z at some) (ap (λ x. x == quote) (front z at) ∙ other)
+    (ap (λ x. x == 10) (front z at) ∙ same_line) e
 
 -- ---- the bytes of a string
 
@@ -72,15 +83,19 @@ bytes_pass zero z = refl
 bytes_pass (suc n) [] = refl
 bytes_pass (suc n) (b ∷ z) = bytes_pass n z
 
-bytes_go : (z : Text) (c : Character) → 0 < length z → (slice_index z 0 == 34) ≡ false → character_at z ≡ Some c → 1 ≤ c.len → bytes_from 0 z ≡ c.value ∷ bytes_from 0 (drop c.len z)
+bytes_go : (z : Text) (c : Character) → 0 < length z → (slice_index z 0 == 34) ≡ false → character_at z ≡ Some c →
+    1 ≤ c.len → bytes_from 0 z ≡ c.value ∷ bytes_from 0 (drop c.len z)
 bytes_go [] c some other e h = absurd (omega (arith, some))
 bytes_go (b ∷ z) c some other e h =
     rw (other, e) (ap (λ y. c.value ∷ y) (bytes_pass (c.len - 1) z ∙ ap (bytes_from 0) (drop_pred c.len b z h)))
 
 -- one character on
-pub bytes_go_at : (front_bytes : List ℕ) (at : ℕ) (z : Text) (c : Character) → at < length z → (get_or z at 0 == 34) ≡ false → character_at (drop at z) ≡ Some c → 1 ≤ c.len → front_bytes ++ bytes_from 0 (drop at z) ≡ (front_bytes ++ c.value ∷ []) ++ bytes_from 0 (drop (at + c.len) z)
+pub bytes_go_at : (front_bytes : List ℕ) (at : ℕ) (z : Text) (c : Character) → at < length z →
+    (get_or z at 0 == 34) ≡ false → character_at (drop at z) ≡ Some c → 1 ≤ c.len →
+    front_bytes ++ bytes_from 0 (drop at z) ≡ (front_bytes ++ c.value ∷ []) ++ bytes_from 0 (drop (at + c.len) z)
 bytes_go_at front_bytes at z c some other e h =
-    ap (λ y. front_bytes ++ y) (bytes_go (drop at z) c (some_left z at some) (ap (λ x. x == 34) (front z at) ∙ other) e h)
+    ap (λ y. front_bytes ++ y)
+    (bytes_go (drop at z) c (some_left z at some) (ap (λ x. x == 34) (front z at) ∙ other) e h)
     ∙ ap (λ y. front_bytes ++ c.value ∷ bytes_from 0 y) (drop-drop c.len at z)
     ∙ sym (append_assoc front_bytes (c.value ∷ []) (bytes_from 0 (drop (at + c.len) z)))
 
@@ -95,5 +110,7 @@ bytes_wrong : (z : Text) → 0 < length z → (slice_index z 0 == 34) ≡ false 
 bytes_wrong [] some other e = refl
 bytes_wrong (b ∷ z) some other e = rw (other, e) refl
 
-pub bytes_wrong_at : (at : ℕ) (z : Text) → at < length z → (get_or z at 0 == 34) ≡ false → character_at (drop at z) ≡ None → bytes_from 0 (drop at z) ≡ []
-bytes_wrong_at at z some other e = bytes_wrong (drop at z) (some_left z at some) (ap (λ x. x == 34) (front z at) ∙ other) e
+pub bytes_wrong_at : (at : ℕ) (z : Text) → at < length z → (get_or z at 0 == 34) ≡ false →
+    character_at (drop at z) ≡ None → bytes_from 0 (drop at z) ≡ []
+bytes_wrong_at at z some other e =
+    bytes_wrong (drop at z) (some_left z at some) (ap (λ x. x == 34) (front z at) ∙ other) e

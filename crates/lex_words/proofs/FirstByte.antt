@@ -8,13 +8,17 @@ pub at_v : (w : Text) → slice_index w 0 ≡ 118 → spelt (word.Void ∷ word.
 at_v [] e = refl
 at_v (b ∷ w) e = subst (λ a. spelt (word.Void ∷ word.Vspec ∷ []) (a ∷ w) ≡ spelt keywords (a ∷ w)) (sym e) refl
 
-pub at_c : (w : Text) → slice_index w 0 ≡ 99 → spelt (word.Char ∷ word.Case ∷ word.Continue ∷ word.Cspec ∷ word.Compile ∷ []) w ≡ spelt keywords w
+pub at_c : (w : Text) → slice_index w 0 ≡ 99 →
+    spelt (word.Char ∷ word.Case ∷ word.Continue ∷ word.Cspec ∷ word.Compile ∷ []) w ≡ spelt keywords w
 at_c [] e = refl
-at_c (b ∷ w) e = subst (λ a. spelt (word.Char ∷ word.Case ∷ word.Continue ∷ word.Cspec ∷ word.Compile ∷ []) (a ∷ w) ≡ spelt keywords (a ∷ w)) (sym e) refl
+at_c (b ∷ w) e = subst (λ a. spelt (word.Char ∷ word.Case ∷ word.Continue ∷ word.Cspec ∷ word.Compile ∷ []) (a ∷ w) ≡
+    spelt keywords (a ∷ w)) (sym e) refl
 
-pub at_s : (w : Text) → slice_index w 0 ≡ 115 → spelt (word.Short ∷ word.Signed ∷ word.Switch ∷ word.Sizeof ∷ []) w ≡ spelt keywords w
+pub at_s : (w : Text) → slice_index w 0 ≡ 115 →
+    spelt (word.Short ∷ word.Signed ∷ word.Switch ∷ word.Sizeof ∷ []) w ≡ spelt keywords w
 at_s [] e = refl
-at_s (b ∷ w) e = subst (λ a. spelt (word.Short ∷ word.Signed ∷ word.Switch ∷ word.Sizeof ∷ []) (a ∷ w) ≡ spelt keywords (a ∷ w)) (sym e) refl
+at_s (b ∷ w) e = subst (λ a. spelt (word.Short ∷ word.Signed ∷ word.Switch ∷ word.Sizeof ∷ []) (a ∷ w) ≡ spelt keywords
+    (a ∷ w)) (sym e) refl
 
 pub at_i : (w : Text) → slice_index w 0 ≡ 105 → spelt (word.Int ∷ word.If ∷ []) w ≡ spelt keywords w
 at_i [] e = refl
@@ -72,4 +76,5 @@ pub elsewhere : (w : Text)
     → (slice_index w 0 == 112) ≡ false
     → None ≡ spelt keywords w
 elsewhere [] e0 e1 e2 e3 e4 e5 e6 e7 e8 e9 e10 e11 e12 = refl
-elsewhere (b ∷ w) e0 e1 e2 e3 e4 e5 e6 e7 e8 e9 e10 e11 e12 = rw (e0, e1, e2, e3, e4, e5, e6, e7, e8, e9, e10, e11, e12) refl
+elsewhere (b ∷ w) e0 e1 e2 e3 e4 e5 e6 e7 e8 e9 e10 e11 e12 =
+    rw (e0, e1, e2, e3, e4, e5, e6, e7, e8, e9, e10, e11, e12) refl

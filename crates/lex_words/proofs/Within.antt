@@ -77,7 +77,8 @@ stands_within (b ∷ w) z at h n s =
     let more = stands_within w z (at + 1) (omega (arith, read_within z at b here.0 whole.0)) whole.1 here.1 in
     omega (arith, more)
 
-chosen_within : (n : ℕ) (t : Sign) (o : Option Sign) (b : Bool) → (b ≡ true → length (spelling t) ≤ n) → IfSome o (λ s. length (spelling s) ≤ n) → IfSome (if b then Some t else o) (λ s. length (spelling s) ≤ n)
+chosen_within : (n : ℕ) (t : Sign) (o : Option Sign) (b : Bool) → (b ≡ true → length (spelling t) ≤ n) →
+    IfSome o (λ s. length (spelling s) ≤ n) → IfSome (if b then Some t else o) (λ s. length (spelling s) ≤ n)
 chosen_within n t o true f g = f refl
 chosen_within n t o false f g = g
 
@@ -87,7 +88,8 @@ first_within (t ∷ ss) z =
     chosen_within (length z) t (first ss z) (stands (spelling t) z 0)
     (λ e. omega (arith, stands_within (spelling t) z 0 (omega arith) (spelt_solid t) e)) (first_within ss z)
 
-either_within : (n : ℕ) (a b : Option Sign) → IfSome a (λ s. length (spelling s) ≤ n) → IfSome b (λ s. length (spelling s) ≤ n) → IfSome (option_or a b) (λ s. length (spelling s) ≤ n)
+either_within : (n : ℕ) (a b : Option Sign) → IfSome a (λ s. length (spelling s) ≤ n) →
+    IfSome b (λ s. length (spelling s) ≤ n) → IfSome (option_or a b) (λ s. length (spelling s) ≤ n)
 either_within n None b f g = g
 either_within n (Some s) b f g = f
 

@@ -1,7 +1,10 @@
--- The words and signs of the language: how each is spelt, the keyword that a word is, and the longest sign that begins a
--- text. The lists are C's, cut to this project's language, with `C's `cspec`, `vspec`, `compile`, `local`, `param`, `$` and the
+-- The words and signs of the language: how each is spelt, the keyword that a word is, and the longest sign that begins
+-- a
+-- text. The lists are C's, cut to this project's language, with `C's `cspec`, `vspec`, `compile`, `local`, `param`, `$`
+-- and the
 -- backquote.
-use Rattle.std.specs.Prelude.{ℕ, ◌+◌, Bool, true, ◌&&◌, if◌then◌else◌, ◌==◌, List, [], ◌∷◌, slice_index, Option, Some, None, codes}
+use Rattle.std.specs.Prelude.{ℕ, ◌+◌, Bool, true, ◌&&◌, if◌then◌else◌, ◌==◌, List, [], ◌∷◌, slice_index, Option, Some}
+use Rattle.std.specs.Prelude.{None, codes}
 use Rattle.std.specs.Option.{option_or}
 use Rattle.std.specs.Str.{bytes_eq}
 use Rattle.lex_words.specs.declared.keywords.Keyword.{Keyword}

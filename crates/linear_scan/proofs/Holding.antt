@@ -1,5 +1,7 @@
 -- What the steps of the scan make of the row, the owners and the places.
-use Rattle.std.proofs.Common.{ℕ, suc, ◌≡◌, ◌≢◌, ◌<◌, ◌≤◌, ◌⊎◌, inl, inr, Bool, true, false, cond, eqb, ltb, leb, List, [], ◌∷◌, length, get_or, set, Some, None, refl, sym, ◌∙◌, ap, subst, arith, get_or-set_other, get_or-set_same}
+use Rattle.std.proofs.Common.{ℕ, suc, ◌≡◌, ◌≢◌, ◌<◌, ◌≤◌, ◌⊎◌, inl, inr, Bool, true, false, cond, eqb, ltb, leb, List}
+use Rattle.std.proofs.Common.{[], ◌∷◌, length, get_or, set, Some, None, refl, sym, ◌∙◌, ap, subst, arith}
+use Rattle.std.proofs.Common.{get_or-set_other, get_or-set_same}
 use Rattle.std.proofs.Math.ListN.{length-set}
 use Rattle.std.proofs.lemmas.Bool.Decides.{nat_tests}
 use Rattle.std.specs.List.{list_any, IsDistinct, AllByRecursion}
@@ -8,9 +10,12 @@ use Rattle.std.proofs.lemmas.Bool.{cases_lt}
 use Rattle.linked_row.specs.Sorted.{SortedList, has, without, insert as insert_entry}
 use Rattle.linked_row.specs.Sorted.{last_of as last_pair}
 use Rattle.icode_ops.specs.declared.interval.Interval.{Interval}
-use Rattle.linear_scan_spec.specs.Scan.{Keeper, ScanState, alive, insert, numbers, least_free, last_of, but_last, keep, visit, place}
+use Rattle.linear_scan_spec.specs.Scan.{Keeper, ScanState, alive, insert, numbers, least_free, last_of, but_last, keep}
+use Rattle.linear_scan_spec.specs.Scan.{visit, place}
 use Rattle.linear_scan_spec.specs.Lists.{Each, Pairs}
-use Rattle.linear_scan_spec.proofs.Keepers.{Each-weaker, Each-both, Each-alive, Each-insert, Each-but_last, Each-last, Pairs-alive, Pairs-but_last, Pairs-insert, Ordered, Ordered-insert, length-alive, length-insert, length-but_last}
+use Rattle.linear_scan_spec.proofs.Keepers.{Each-weaker, Each-both, Each-alive, Each-insert, Each-but_last, Each-last}
+use Rattle.linear_scan_spec.proofs.Keepers.{Pairs-alive, Pairs-but_last, Pairs-insert, Ordered, Ordered-insert}
+use Rattle.linear_scan_spec.proofs.Keepers.{length-alive, length-insert, length-but_last}
 use Rattle.linear_scan_spec.proofs.Free.{least_free-free, is-free}
 use Rattle.linear_scan.specs.Held.{ids, from_end, ApartIds, pairs, Holds, IsFresh}
 use Rattle.linear_scan.proofs.Pairs.{without-first, has-ids}
@@ -25,7 +30,9 @@ put-pairs k [] = refl
 put-pairs k (u ∷ us) = by-case (ltb k.interval.end u.interval.end) (put-pairs k us)
   where
     by-case : (b : Bool) → insert_entry (k.number, k.interval.end) (pairs us) ≡ pairs (insert k us)
-        → cond b ((k.number, k.interval.end) ∷ pairs (u ∷ us)) ((u.number, u.interval.end) ∷ insert_entry (k.number, k.interval.end) (pairs us)) ≡ pairs (cond b (k ∷ u ∷ us) (u ∷ insert k us))
+        → cond b ((k.number, k.interval.end) ∷ pairs (u ∷ us))
+        ((u.number, u.interval.end) ∷ insert_entry (k.number, k.interval.end) (pairs us)) ≡ pairs
+        (cond b (k ∷ u ∷ us) (u ∷ insert k us))
     by-case true r = refl
     by-case false r = ap (λ zs. (u.number, u.interval.end) ∷ zs) r
 
@@ -59,7 +66,8 @@ apart-pairs (k ∷ ks) d = (each ks d.0, apart-pairs ks d.1)
 -- after the pairs that end early are gone
 pub alive-holds : (start : ℕ) (s : ScanState) (row : SortedList) (owners places : List ℕ)
     → Holds s row owners places
-    → Holds (record { keepers = alive start s.keepers; numbered = s.numbered; spilled = s.spilled }) (record { room = row.room; items = from_end start row.items }) owners places
+    → Holds (record { keepers = alive start s.keepers; numbered = s.numbered; spilled = s.spilled })
+    (record { room = row.room; items = from_end start row.items }) owners places
 alive-holds start s row owners places h =
     record {
       room = h.room;
@@ -108,7 +116,8 @@ free-number s row owners places n h few e =
 pub keep-holds : (x : Interval) (s : ScanState) (row : SortedList) (owners places : List ℕ) (n : ℕ)
     → Holds s row owners places → length s.keepers < 12 → IsFresh x s → x.reg < length places → n
     ≡ least_free 12 0 (ids row.items)
-    → Holds (keep x s.keepers s.numbered s.spilled) (record { room = row.room; items = insert_entry (n, x.end) row.items }) (set owners n x.reg) (set places x.reg n)
+    → Holds (keep x s.keepers s.numbered s.spilled)
+    (record { room = row.room; items = insert_entry (n, x.end) row.items }) (set owners n x.reg) (set places x.reg n)
 keep-holds x s row owners places n h few f lt e =
     let g = free-number s row owners places n h few e in
     let k : Keeper = record { number = least_free 12 0 (numbers s.keepers); interval = x } in
@@ -194,7 +203,8 @@ dropping s w =
 
 pub drop-holds : (s : ScanState) (w : Keeper) (row : SortedList) (owners places : List ℕ)
     → Holds s row owners places → last_of s.keepers ≡ Some w
-    → Holds (dropping s w) (record { room = row.room; items = without w.number row.items }) owners (set places w.interval.reg 12)
+    → Holds (dropping s w) (record { room = row.room; items = without w.number row.items }) owners
+    (set places w.interval.reg 12)
 drop-holds s w row owners places h e =
     record {
       room = h.room;
@@ -222,7 +232,8 @@ drop-holds s w row owners places h e =
 
 pub pass-holds : (x : Interval) (s : ScanState) (row : SortedList) (owners places : List ℕ)
     → Holds s row owners places
-    → Holds (record { keepers = s.keepers; numbered = s.numbered; spilled = x ∷ s.spilled }) row owners (set places x.reg 12)
+    → Holds (record { keepers = s.keepers; numbered = s.numbered; spilled = x ∷ s.spilled }) row owners
+    (set places x.reg 12)
 pass-holds x s row owners places h =
     record {
       room = h.room;

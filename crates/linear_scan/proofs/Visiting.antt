@@ -1,9 +1,11 @@
 -- The loop over all intervals.
-use Rattle.std.proofs.Common.{ℕ, ◌≡◌, ◌≢◌, ◌<◌, ◌≤◌, Bool, true, false, cond, not, eqb, ltb, List, [], ◌∷◌, length, drop, get_or, Option, Some, None, refl, sym, ◌∙◌, ap, subst, arith}
+use Rattle.std.proofs.Common.{ℕ, ◌≡◌, ◌≢◌, ◌<◌, ◌≤◌, Bool, true, false, cond, not, eqb, ltb, List, [], ◌∷◌, length}
+use Rattle.std.proofs.Common.{drop, get_or, Option, Some, None, refl, sym, ◌∙◌, ap, subst, arith}
 use Rattle.std.proofs.lemmas.Bool.Decides.{nat_tests}
 use Rattle.linked_row.specs.Sorted.{SortedList, without, first_of}
 use Rattle.icode_ops.specs.declared.interval.Interval.{Interval}
-use Rattle.linear_scan_spec.specs.Scan.{Keeper, ScanState, alive, last_of, but_last, keep, crowd, visit, visit_all, scan, place, places_of}
+use Rattle.linear_scan_spec.specs.Scan.{Keeper, ScanState, alive, last_of, but_last, keep, crowd, visit, visit_all}
+use Rattle.linear_scan_spec.specs.Scan.{scan, place, places_of}
 use Rattle.linear_scan_spec.specs.Lists.{Each}
 use Rattle.linear_scan_spec.proofs.Keepers.{Each-In, Each-both, Each-insert}
 use Rattle.linear_scan.specs.Held.{Holds, IsFresh}
@@ -42,7 +44,9 @@ fresh-visit y x s f n = by-few (ltb (length live) 12)
     by-crowd None e = fresh-keep y x (living x.start s) g n
     by-crowd (Some w) e = by-end (ltb x.end w.interval.end)
       where
-        by-end : (b : Bool) → IsFresh y (cond b (keep x (but_last live) s.numbered (w.interval ∷ s.spilled)) (record { keepers = live; numbered = s.numbered; spilled = x ∷ s.spilled }))
+        by-end : (b : Bool) → IsFresh y
+            (cond b (keep x (but_last live) s.numbered (w.interval ∷ s.spilled))
+            (record { keepers = live; numbered = s.numbered; spilled = x ∷ s.spilled }))
         by-end true = fresh-keep y x (dropping (living x.start s) w)
             (fresh-dropping y (living x.start s) w e g) n
         by-end false = let t : eqb y.reg x.reg ≡ false = grind (arith, nat_tests) in record
@@ -96,7 +100,10 @@ visiting-start row owners places xs a b c d e f =
     all [] = tt
     all (y ∷ ys) = (record { keepers = tt; spilled = refl }, all ys)
 
-pub visiting-step : (row new : SortedList) (owners places owners' places' : List ℕ) (x : Interval) (rest : List Interval) (whole : ScanState) → length places' ≡ length places → (v : Visiting row owners places (x ∷ rest) whole) → Holds (visit v.s x) new owners' places' → Visiting new owners' places' rest whole
+pub visiting-step : (row new : SortedList) (owners places owners' places' : List ℕ) (x : Interval)
+    (rest : List Interval) (whole : ScanState) → length places' ≡ length places →
+    (v : Visiting row owners places (x ∷ rest) whole) → Holds (visit v.s x) new owners' places' →
+    Visiting new owners' places' rest whole
 visiting-step row new owners places owners' places' x rest whole l v h =
     record {
       s = visit v.s x;

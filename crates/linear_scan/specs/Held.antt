@@ -1,6 +1,7 @@
 -- How the scanner's tables hold the state of the scan: a row of numbers by their intervals' ends, the register that
 -- owns each number, and the places as far as they are known. These are this crate's own invariants.
-use Rattle.std.specs.Prelude.{ℕ, ◌≡◌, ◌≢◌, ◌<◌, ◌≤◌, nat_lt, List, [], ◌∷◌, length, map, slice_index, false, ◌==◌, if◌then◌else◌}
+use Rattle.std.specs.Prelude.{ℕ, ◌≡◌, ◌≢◌, ◌<◌, ◌≤◌, nat_lt, List, [], ◌∷◌, length, map, slice_index, false, ◌==◌}
+use Rattle.std.specs.Prelude.{if◌then◌else◌}
 use Rattle.std.specs.List.{list_any}
 use Rattle.linked_row.specs.Sorted.{SortedList}
 use Rattle.icode_ops.specs.declared.interval.Interval.{Interval}

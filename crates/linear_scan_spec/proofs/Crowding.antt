@@ -1,10 +1,12 @@
 -- An interval whose register has a slot was spilled: each interval is spilled or given a number below 12.
-use Rattle.std.proofs.Common.{ℕ, ◌≡◌, ◌<◌, ◌⊎◌, inl, inr, Bool, true, false, cond, eqb, ltb, List, [], ◌∷◌, length, Option, Some, None, refl, sym, ◌∙◌, ap, subst, arith}
+use Rattle.std.proofs.Common.{ℕ, ◌≡◌, ◌<◌, ◌⊎◌, inl, inr, Bool, true, false, cond, eqb, ltb, List, [], ◌∷◌, length}
+use Rattle.std.proofs.Common.{Option, Some, None, refl, sym, ◌∙◌, ap, subst, arith}
 use Rattle.std.proofs.lemmas.Bool.Decides.{nat_tests}
 use Rattle.std.specs.List.{list_any}
 use Rattle.icode_ops.specs.declared.interval.Interval.{Interval}
 use Rattle.linear_scan_spec.specs.Lists.{In, Each}
-use Rattle.linear_scan_spec.specs.Scan.{Keeper, ScanState, alive, last_of, but_last, keep, crowd, visit, visit_all, scan, number_of}
+use Rattle.linear_scan_spec.specs.Scan.{Keeper, ScanState, alive, last_of, but_last, keep, crowd, visit, visit_all}
+use Rattle.linear_scan_spec.specs.Scan.{scan, number_of}
 use Rattle.linear_scan_spec.specs.Laws.{IsCrowded, SpillsAreCrowded}
 use Rattle.linear_scan_spec.proofs.Order.{InOrder, in-order, in-any}
 use Rattle.linear_scan_spec.proofs.Keepers.{Each-In}

@@ -1,14 +1,17 @@
 -- The keepers stand by their ends, and those with equal ends in the order of their visits.
-use Rattle.std.proofs.Common.{◌≡◌, ◌<◌, ◌≤◌, ◌⊎◌, inl, inr, Bool, true, false, cond, ltb, List, [], ◌∷◌, length, Option, Some, None, refl, arith}
+use Rattle.std.proofs.Common.{◌≡◌, ◌<◌, ◌≤◌, ◌⊎◌, inl, inr, Bool, true, false, cond, ltb, List, [], ◌∷◌, length, Option}
+use Rattle.std.proofs.Common.{Some, None, refl, arith}
 use Rattle.std.proofs.lemmas.Bool.{cases_lt}
 use Rattle.std.proofs.lemmas.Bool.Decides.{nat_tests}
 use Rattle.icode_ops.specs.declared.interval.Interval.{Interval}
 use Rattle.icode_ops.specs.Live.{Before, Sorted}
 use Rattle.linear_scan_spec.specs.Lists.{Each, Pairs}
-use Rattle.linear_scan_spec.specs.Scan.{Keeper, ScanState, alive, insert, last_of, but_last, keep, crowd, visit, visit_all}
+use Rattle.linear_scan_spec.specs.Scan.{Keeper, ScanState, alive, insert, last_of, but_last, keep, crowd, visit}
+use Rattle.linear_scan_spec.specs.Scan.{visit_all}
 use Rattle.linear_scan_spec.specs.Laws.{EndsBefore, KeepersAreByEnd}
 use Rattle.linear_scan_spec.proofs.Order.{each-any}
-use Rattle.linear_scan_spec.proofs.Keepers.{Each-weaker, Each-alive, Each-insert, Each-but_last, Pairs-alive, Pairs-but_last}
+use Rattle.linear_scan_spec.proofs.Keepers.{Each-weaker, Each-alive, Each-insert, Each-but_last, Pairs-alive}
+use Rattle.linear_scan_spec.proofs.Keepers.{Pairs-but_last}
 
 -- k was visited before an interval
 abbrev Earlier : Interval → Keeper → Type 0

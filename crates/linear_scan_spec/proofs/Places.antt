@@ -1,13 +1,16 @@
 -- Two intervals with one place below 12 do not overlap.
-use Rattle.std.proofs.Common.{ℕ, suc, ◌≡◌, ◌≢◌, ◌<◌, ◌≤◌, ◌⊎◌, inl, inr, Bool, true, false, cond, eqb, ltb, leb, List, [], ◌∷◌, length, Option, Some, None, refl, sym, ◌∙◌, ap, subst, arith}
+use Rattle.std.proofs.Common.{ℕ, suc, ◌≡◌, ◌≢◌, ◌<◌, ◌≤◌, ◌⊎◌, inl, inr, Bool, true, false, cond, eqb, ltb, leb, List}
+use Rattle.std.proofs.Common.{[], ◌∷◌, length, Option, Some, None, refl, sym, ◌∙◌, ap, subst, arith}
 use Rattle.std.proofs.lemmas.Bool.Decides.{nat_tests}
 use Rattle.std.specs.List.{list_any}
-use Rattle.linear_scan_spec.specs.Scan.{Keeper, ScanState, alive, insert, numbers, least_free, last_of, but_last, keep, crowd, visit, visit_all, scan, number_of, place}
+use Rattle.linear_scan_spec.specs.Scan.{Keeper, ScanState, alive, insert, numbers, least_free, last_of, but_last, keep}
+use Rattle.linear_scan_spec.specs.Scan.{crowd, visit, visit_all, scan, number_of, place}
 use Rattle.icode_ops.specs.declared.interval.Interval.{Interval}
 use Rattle.linear_scan_spec.specs.Lists.{In, Each, Pairs}
 use Rattle.linear_scan_spec.specs.Laws.{PlacesAreApart}
 use Rattle.linear_scan_spec.proofs.Order.{InOrder, in-order, in-any}
-use Rattle.linear_scan_spec.proofs.Keepers.{Each-weaker, Each-In, Pairs-alive, Pairs-but_last, Pairs-insert, length-alive, length-insert, length-but_last, some-last}
+use Rattle.linear_scan_spec.proofs.Keepers.{Each-weaker, Each-In, Pairs-alive, Pairs-but_last, Pairs-insert}
+use Rattle.linear_scan_spec.proofs.Keepers.{length-alive, length-insert, length-but_last, some-last}
 use Rattle.linear_scan_spec.proofs.Free.{least_free-free}
 
 pub In-alive : (s : ℕ) (ks : List Keeper) (k : Keeper) → In k ks → In k (alive s ks)
@@ -205,7 +208,9 @@ module _ (all : List Interval) (x : Interval) (xs : List Interval) (seen : In x 
   crowd-spread s live p n d leave None e = absurd (omega (arith, some-last live e))
   crowd-spread s live p n d leave (Some w) e = by-case (ltb x.end w.interval.end)
     where
-      by-case : (b : Bool) → Spread all (cond b (keep x (but_last live) s.numbered (w.interval ∷ s.spilled)) (record { keepers = live; numbered = s.numbered; spilled = x ∷ s.spilled })) xs
+      by-case : (b : Bool) → Spread all
+          (cond b (keep x (but_last live) s.numbered (w.interval ∷ s.spilled))
+          (record { keepers = live; numbered = s.numbered; spilled = x ∷ s.spilled })) xs
       by-case true =
           let few : length (but_last live) < 12 = omega (arith, length-but_last live w e) in
           keep-spread s (but_last live) (w.interval ∷ s.spilled) p few

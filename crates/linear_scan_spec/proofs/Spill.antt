@@ -1,13 +1,18 @@
 -- A spilled interval has a point that twelve others have too.
-use Rattle.std.proofs.Common.{ℕ, suc, ◌≡◌, ◌≢◌, ◌<◌, ◌≤◌, inl, inr, Bool, true, false, cond, ltb, List, [], ◌∷◌, length, map, Option, Some, None, refl, sym, ◌∙◌, ap, arith}
+use Rattle.std.proofs.Common.{ℕ, suc, ◌≡◌, ◌≢◌, ◌<◌, ◌≤◌, inl, inr, Bool, true, false, cond, ltb, List, [], ◌∷◌, length}
+use Rattle.std.proofs.Common.{map, Option, Some, None, refl, sym, ◌∙◌, ap, arith}
 use Rattle.std.proofs.lemmas.Bool.Decides.{nat_tests}
-use Rattle.linear_scan_spec.specs.Scan.{Keeper, ScanState, alive, numbers, least_free, last_of, but_last, keep, crowd, visit, visit_all, scan}
+use Rattle.linear_scan_spec.specs.Scan.{Keeper, ScanState, alive, numbers, least_free, last_of, but_last, keep, crowd}
+use Rattle.linear_scan_spec.specs.Scan.{visit, visit_all, scan}
 use Rattle.icode_ops.specs.declared.interval.Interval.{Interval}
 use Rattle.icode_ops.specs.Live.{In as InIntervals}
 use Rattle.linear_scan_spec.specs.Lists.{In, Each, Pairs}
 use Rattle.linear_scan_spec.specs.Laws.{Apart as ApartIntervals, Covers, IsCrowded}
 use Rattle.linear_scan_spec.proofs.Order.{InOrder, in-intervals, each-interval}
-use Rattle.linear_scan_spec.proofs.Keepers.{Each-weaker, Each-both, Each-alive, alive-ends, Each-insert, Each-but_last, Each-last, Pairs-alive, Pairs-but_last, Pairs-insert, Ordered, Ordered-insert, Ordered-last, length-alive, length-insert, length-but_last, some-last, Pairs-last}
+use Rattle.linear_scan_spec.proofs.Keepers.{Each-weaker, Each-both, Each-alive, alive-ends, Each-insert, Each-but_last}
+use Rattle.linear_scan_spec.proofs.Keepers.{Each-last, Pairs-alive, Pairs-but_last, Pairs-insert, Ordered}
+use Rattle.linear_scan_spec.proofs.Keepers.{Ordered-insert, Ordered-last, length-alive, length-insert, length-but_last}
+use Rattle.linear_scan_spec.proofs.Keepers.{some-last, Pairs-last}
 
 abbrev Apart : List Interval → Type 0
 Apart [] = Unit {0}
@@ -160,7 +165,8 @@ module _ (all : List Interval) (x : Interval) (xs : List Interval) (seen : In x 
   full live s n o d h c (Some w) e = by-case (ltb x.end w.interval.end) refl
     where
       by-case : (b : Bool) → ltb x.end w.interval.end ≡ b
-          → Spilling all (cond b (keep x (but_last live) s.numbered (w.interval ∷ s.spilled)) (record { keepers = live; numbered = s.numbered; spilled = x ∷ s.spilled })) xs
+          → Spilling all (cond b (keep x (but_last live) s.numbered (w.interval ∷ s.spilled))
+          (record { keepers = live; numbered = s.numbered; spilled = x ∷ s.spilled })) xs
       by-case true t =
           let few : length (but_last live) < 12 = omega (arith, length-but_last live w e) in
           kept-spilling (but_last live) s.numbered (w.interval ∷ s.spilled) few

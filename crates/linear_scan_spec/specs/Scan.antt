@@ -3,7 +3,8 @@
 -- The scan is that of Poletto and Sarkar (Linear Scan Register Allocation, TOPLAS 21(5), 1999), who spill the interval
 -- that ends last. That of equal ends the one visited last is spilled, that an interval holds its number up to and
 -- with its last op, and that a new one takes the least number that is free, are this project's own rules.
-use Rattle.std.specs.Prelude.{ℕ, zero, suc, ◌==◌, nat_lt, nat_le, List, [], ◌∷◌, ◌++◌, Option, Some, None, length, if◌then◌else◌, map, filter}
+use Rattle.std.specs.Prelude.{ℕ, zero, suc, ◌==◌, nat_lt, nat_le, List, [], ◌∷◌, ◌++◌, Option, Some, None, length}
+use Rattle.std.specs.Prelude.{if◌then◌else◌, map, filter}
 use Rattle.std.specs.List.{list_any}
 use Rattle.icode_ops.specs.declared.interval.Interval.{Interval}
 

@@ -1,6 +1,7 @@
 -- A step that spends no unit leaves less behind than there was: what is done next, with the frames that are pushed,
 -- weighs less than what was done, with the frame that was taken off.
-use Rattle.std.proofs.Common.{◌≡◌, ℕ, suc, ◌+◌, ◌<◌, List, [], ◌∷◌, ◌++◌, Option, Some, None, slice_get, zero, refl, ap, ◌∙◌, arith}
+use Rattle.std.proofs.Common.{◌≡◌, ℕ, suc, ◌+◌, ◌<◌, List, [], ◌∷◌, ◌++◌, Option, Some, None, slice_get, zero, refl, ap}
+use Rattle.std.proofs.Common.{◌∙◌, arith}
 use Rattle.word32.specs.declared.width.Width.{Width}
 use Rattle.history.specs.Syntax.{Syntax, Ticked, Captures, NoCapture, Word, Named, Spliced}
 use Rattle.staged_meaning.specs.Program.{Tick}
@@ -14,7 +15,8 @@ use Rattle.typed_tree.specs.Nodes.{Expr, Args, NoArg, Arg, Stmt, Items, NoItem, 
 use Rattle.meaning_rest.specs.Pending as pending
 use Rattle.meaning_rest.specs.Pending.{Frame, Target}
 use Rattle.meaning_rest.specs.Rest.{Place, under, below}
-use Rattle.meaning_rest.specs.Burden.{weight_of, weight_of_stmt, weight_of_tick, weight, load, code_weight, capture_weight, weights}
+use Rattle.meaning_rest.specs.Burden.{weight_of, weight_of_stmt, weight_of_tick, weight, load, code_weight}
+use Rattle.meaning_rest.specs.Burden.{capture_weight, weights}
 use Rattle.meaning_rest.proofs.Laws.{below_push}
 use Rattle.meaning_rest.specs.Moves.{syntax_at}
 

@@ -13,11 +13,16 @@ use Rattle.typed_tree.specs.Nodes as node
 use Rattle.typed_tree.specs.Nodes.{Expr, Stmt, Function}
 use Rattle.staged_meaning.specs.Size.{size_of, charge_of}
 use Rattle.staged_meaning.specs.Expressions.{left_by}
-use Rattle.staged_meaning.specs.Meaning.{Tick, OfExpression, OfStatement, Program, Callee, Static, Generated, callee_at, Context, eval, exec, answer, leaves, entered, charging, call_body, tick_value, apart, syntax_value, spliced_value, returned, generated_body, around, call_callee, call_at}
-use Rattle.staged_meaning.specs.World.{World, Result, Gives, Returns, Ends, Stops, Flow, Normal, then_do, spend, spend_from, spend_all, unless}
+use Rattle.staged_meaning.specs.Meaning.{Tick, OfExpression, OfStatement, Program, Callee, Static, Generated, callee_at}
+use Rattle.staged_meaning.specs.Meaning.{Context, eval, exec, answer, leaves, entered, charging, call_body, tick_value}
+use Rattle.staged_meaning.specs.Meaning.{apart, syntax_value, spliced_value, returned, generated_body, around}
+use Rattle.staged_meaning.specs.Meaning.{call_callee, call_at}
+use Rattle.staged_meaning.specs.World.{World, Result, Gives, Returns, Ends, Stops, Flow, Normal, then_do, spend}
+use Rattle.staged_meaning.specs.World.{spend_from, spend_all, unless}
 use Rattle.meaning_rest.specs.Pending as pending
 use Rattle.meaning_rest.specs.Pending.{Now, Body, Target, Frame}
-use Rattle.meaning_rest.specs.Rest.{Signal, Value, valued, left, on_answer, on_end, under, through, Place, outside, context_at, targeted, resumed, body_of, after, ticked, once, spent}
+use Rattle.meaning_rest.specs.Rest.{Signal, Value, valued, left, on_answer, on_end, under, through, Place, outside}
+use Rattle.meaning_rest.specs.Rest.{context_at, targeted, resumed, body_of, after, ticked, once, spent}
 use Rattle.meaning_rest.specs.Moves.{in_function, in_code, at_entry, code_charge, passed_to, entry_units, syntax_at}
 use Rattle.meaning_rest.proofs.Laws.{do_both, through_push}
 

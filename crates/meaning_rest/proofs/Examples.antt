@@ -9,7 +9,8 @@ use Rattle.icode_ops.specs.declared.kind.BinKind.TheVariants.{Add, DivideSigned}
 use Rattle.pace.specs.Pace.{Seen}
 use Rattle.typed_tree.specs.declared.expression.Answer.TheVariants as answer
 use Rattle.typed_tree.specs.declared.expression.Library.TheVariants.{Putchar}
-use Rattle.typed_tree.specs.Nodes.{Const, Var, Bin, Call, Lib, NoArg, Arg, Eval, Block, Parameter, ReturnValue, NoItem, Item, Function}
+use Rattle.typed_tree.specs.Nodes.{Const, Var, Bin, Call, Lib, NoArg, Arg, Eval, Block, Parameter, ReturnValue, NoItem}
+use Rattle.typed_tree.specs.Nodes.{Item, Function}
 use Rattle.staged_meaning.specs.Meaning.{Program, meant}
 use Rattle.staged_meaning.specs.World.{Normal}
 use Rattle.meaning_rest.specs.Pending as pending

@@ -9,7 +9,8 @@ use Rattle.typed_tree.specs.declared.expression.CaptureKind.TheVariants as kind
 use Rattle.staged_meaning.specs.Expressions.{word_of, key_of}
 use Rattle.staged_meaning.specs.Program.{Program, captures_size, syntax_size}
 use Rattle.staged_meaning.specs.Specifications.{captures_of, key_in, syntax_in}
-use Rattle.meaning_rest.specs.Kept.{Kept, Word, Key, Number, Row, captures_kept, row_kept, rows_behind, rows_kept, all_kept, word_kept, key_kept, splice_kept, size_kept, parameters_kept}
+use Rattle.meaning_rest.specs.Kept.{Kept, Word, Key, Number, Row, captures_kept, row_kept, rows_behind, rows_kept}
+use Rattle.meaning_rest.specs.Kept.{all_kept, word_kept, key_kept, splice_kept, size_kept, parameters_kept}
 use Rattle.meaning_rest.specs.Moves.{syntax_at}
 
 -- a row more

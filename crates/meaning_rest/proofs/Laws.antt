@@ -14,7 +14,8 @@ use Rattle.staged_meaning.specs.Specifications.{kinds_of}
 use Rattle.staged_meaning.specs.World.{World, Result, Gives, Returns, Ends, Stops, Flow, then_do, spend_from, spend}
 use Rattle.meaning_rest.specs.Pending as pending
 use Rattle.meaning_rest.specs.Pending.{Now, Body, Target, Frame}
-use Rattle.meaning_rest.specs.Rest.{Signal, Value, valued, left, on_value, on_flow, Place, truth, targeted, after, under, below, through, spent}
+use Rattle.meaning_rest.specs.Rest.{Signal, Value, valued, left, on_value, on_flow, Place, truth, targeted, after}
+use Rattle.meaning_rest.specs.Rest.{under, below, through, spent}
 
 -- ---- frames on frames
 

@@ -9,7 +9,8 @@ use Rattle.meaning_state.specs.Shared.{happens}
 use Rattle.meaning_state.specs.Rows.{locals_of}
 use Rattle.staged_meaning.specs.Size.{size_of, charge_of}
 use Rattle.staged_meaning.specs.Meaning.{Program, syntax_size, entered, keys_at_entry, begins}
-use Rattle.staged_meaning.specs.World.{World, Result, Gives, Returns, Ends, Stops, Flow, Normal, then_do, spend, spend_all, with_shared}
+use Rattle.staged_meaning.specs.World.{World, Result, Gives, Returns, Ends, Stops, Flow, Normal, then_do, spend}
+use Rattle.staged_meaning.specs.World.{spend_all, with_shared}
 use Rattle.meaning_rest.specs.Pending as pending
 use Rattle.meaning_rest.specs.Pending.{Frame}
 use Rattle.meaning_rest.specs.Rest.{Signal, value_of, Place}

@@ -7,15 +7,19 @@ use Rattle.history.specs.Syntax.{Captures}
 use Rattle.history.specs.Events.{Ended}
 use Rattle.icode_ops.specs.declared.kind.BinKind.{BinKind}
 use Rattle.meaning_state.specs.Operators.{bin_value, bin_trap, un_value}
-use Rattle.meaning_state.specs.Shared.{Shared, access_trap, loaded, byte_answer, put_byte, put_number, malloc_answer, malloc, discharged}
+use Rattle.meaning_state.specs.Shared.{Shared, access_trap, loaded, byte_answer, put_byte, put_number, malloc_answer}
+use Rattle.meaning_state.specs.Shared.{malloc, discharged}
 use Rattle.typed_tree.specs.declared.expression.Library.{Library}
 use Rattle.typed_tree.specs.declared.expression.Library.TheVariants.{Putchar, Putint, Exit, Malloc}
 use Rattle.typed_tree.specs.Nodes.{Expr, Stmt, Items}
 use Rattle.staged_meaning.specs.Expressions.{load_at, store_at, modify_at, post_at, left_by, call_numbered, key_of}
-use Rattle.staged_meaning.specs.Meaning.{Tick, OfExpression, OfStatement, Program, Context, eval, eval_args, exec, exec_items, call_at, around, spliced_value, then_next, turn_end, turns, round_end, rounds, stepped}
+use Rattle.staged_meaning.specs.Meaning.{Tick, OfExpression, OfStatement, Program, Context, eval, eval_args, exec}
+use Rattle.staged_meaning.specs.Meaning.{exec_items, call_at, around, spliced_value, then_next, turn_end, turns}
+use Rattle.staged_meaning.specs.Meaning.{round_end, rounds, stepped}
 use Rattle.staged_meaning.specs.Specifications.{specify_tick, specify_parameter, compile_number}
 use Rattle.staged_meaning.specs.Statements.{exec_cases, exec_default, switch_end}
-use Rattle.staged_meaning.specs.World.{World, Result, Gives, Returns, Ends, Stops, Flow, Normal, then_do, spend, with_variable, with_generated, with_shared, unless, at_zero}
+use Rattle.staged_meaning.specs.World.{World, Result, Gives, Returns, Ends, Stops, Flow, Normal, then_do, spend}
+use Rattle.staged_meaning.specs.World.{with_variable, with_generated, with_shared, unless, at_zero}
 use Rattle.meaning_rest.specs.Pending as pending
 use Rattle.meaning_rest.specs.Pending.{Now, Body, Target, Frame}
 

@@ -1,8 +1,10 @@
 -- The values of operators on words, and the traps of divisions. They are those of C on 32-bit words that wrap: a
 -- comparison gives 1 or 0, a shift uses the low five bits of its count, and a quotient truncates toward zero. That a
 -- division without an answer is a trap is this project's own rule.
-use Rattle.std.specs.Prelude.{ℕ, ◌-◌, ◌/◌, ◌%◌, Bool, true, false, not, nat_lt, nat_eq, if◌then◌else◌, Option, Some, None, Result, Ok, Err, bit_and, bit_or, bit_xor}
-use Rattle.word32.specs.Words.{sum, difference, product, is_less_signed, shifted_left, shifted_right, shifted_right_signed}
+use Rattle.std.specs.Prelude.{ℕ, ◌-◌, ◌/◌, ◌%◌, Bool, true, false, not, nat_lt, nat_eq, if◌then◌else◌, Option, Some}
+use Rattle.std.specs.Prelude.{None, Result, Ok, Err, bit_and, bit_or, bit_xor}
+use Rattle.word32.specs.Words.{sum, difference, product, is_less_signed, shifted_left, shifted_right}
+use Rattle.word32.specs.Words.{shifted_right_signed}
 use Rattle.word32.specs.Division.{quotient, remainder, div_s}
 use Rattle.word32.specs.Parts.{narrowed}
 use Rattle.word32.specs.declared.division.DivFault.{DivFault}

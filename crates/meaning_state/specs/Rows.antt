@@ -1,6 +1,8 @@
--- The rows of specifications and of compiled functions: what stands in them, how they grow, and their limits. A closure has
+-- The rows of specifications and of compiled functions: what stands in them, how they grow, and their limits. A closure
+-- has
 -- sixteen bytes and four for each capture. These are this project's own rules.
-use Rattle.std.specs.Prelude.{ℕ, zero, suc, ◌+◌, ◌*◌, Bool, true, false, nat_eq, nat_le, nat_lt, if◌then◌else◌, max, List, [], ◌∷◌, ◌++◌, length, slice_get, Option, Some, None}
+use Rattle.std.specs.Prelude.{ℕ, zero, suc, ◌+◌, ◌*◌, Bool, true, false, nat_eq, nat_le, nat_lt, if◌then◌else◌, max}
+use Rattle.std.specs.Prelude.{List, [], ◌∷◌, ◌++◌, length, slice_get, Option, Some, None}
 use Rattle.host_edge.specs.declared.ending.TrapKind.{TrapKind}
 use Rattle.host_edge.specs.declared.ending.TrapKind.TheVariants.{BadParam, SpecLimit, SizeLimit, TableLimit, ArenaLimit}
 use Rattle.history.specs.Syntax.{Syntax, Ticked, Captures, NoCapture, Word, Named, Spliced}
@@ -66,7 +68,8 @@ abbrev pub closure_bytes : ℕ → ℕ
 closure_bytes captures = CLOSURE_HEAD_BYTES + CAPTURE_BYTES * captures
 
 abbrev pub closure_trap : (captures : ℕ) → Shared → Option TrapKind
-closure_trap captures shared = if nat_le (shared.closures + closure_bytes captures) CLOSURE_BYTES then None else Some SpecLimit
+closure_trap captures shared =
+    if nat_le (shared.closures + closure_bytes captures) CLOSURE_BYTES then None else Some SpecLimit
 
 -- the size of a new specification
 abbrev pub size_trap : (size : ℕ) → Option TrapKind

@@ -1,8 +1,11 @@
 -- The state that outlives a call, on the source's side and on the staged machine's alike: the events so far, the input
--- that is left, the objects with addresses, the next place of the heap, what the active calls are charged, and the rows of
--- specifications and of compiled functions with their charges. How it changes is told once: here, and of the rows in `Rows`.
+-- that is left, the objects with addresses, the next place of the heap, what the active calls are charged, and the rows
+-- of
+-- specifications and of compiled functions with their charges. How it changes is told once: here, and of the rows in
+-- `Rows`.
 -- The addresses of the parts of the object space are this project's own.
-use Rattle.std.specs.Prelude.{ℕ, ◌+◌, ◌-◌, ◌*◌, ◌/◌, ◌%◌, Bool, false, nat_eq, nat_le, if◌then◌else◌, List, [], ◌∷◌, ◌++◌, Option, Some, None}
+use Rattle.std.specs.Prelude.{ℕ, ◌+◌, ◌-◌, ◌*◌, ◌/◌, ◌%◌, Bool, false, nat_eq, nat_le, if◌then◌else◌, List, [], ◌∷◌}
+use Rattle.std.specs.Prelude.{◌++◌, Option, Some, None}
 use Rattle.word32.specs.Parts.{is_aligned}
 use Rattle.word32.specs.Space as space
 use Rattle.word32.specs.declared.width.Width.{Width}
@@ -70,7 +73,8 @@ get_byte shared = read (next_byte shared.input) shared
 -- the trap of an access: an address that is no object's, and then one that isn't aligned
 abbrev pub access_trap : ℕ → Width → Option TrapKind
 access_trap at width =
-    if nat_eq (at / OBJECT_BYTES) (OBJECTS / OBJECT_BYTES) then (if is_aligned at width then None else Some Misaligned) else Some Range
+    if nat_eq (at / OBJECT_BYTES) (OBJECTS / OBJECT_BYTES) then
+    (if is_aligned at width then None else Some Misaligned) else Some Range
 
 abbrev pub loaded : ℕ → Width → Shared → ℕ
 loaded at width shared = space.load shared.objects at width
@@ -86,7 +90,8 @@ are_objects at words =
 -- so many words from an address on are set to 0
 abbrev pub zeroed : ℕ → ℕ → Shared → Shared
 zeroed at words shared = record shared {
-  objects = λ n. if nat_le (at / 4) n then (if nat_le (at / 4 + words) n then shared.objects n else 0) else shared.objects n;
+  objects = λ n. if nat_le (at / 4) n then (if nat_le (at / 4 + words) n then shared.objects n else 0) else
+      shared.objects n;
 }
 
 -- where the frame objects of the newest call begin, which have so many bytes
@@ -106,7 +111,8 @@ charged charge object shared = record shared { used = shared.used + charge; fram
 abbrev pub discharged : ℕ → ℕ → Shared → Shared
 discharged charge object shared = record shared { used = shared.used - charge; frames = shared.frames - object }
 
--- malloc answers 0 where the rest of the heap is smaller than its argument, and else the next place of the heap, which moves
+-- malloc answers 0 where the rest of the heap is smaller than its argument, and else the next place of the heap, which
+-- moves
 -- on in multiples of 8
 abbrev pub is_room : ℕ → Shared → Bool
 is_room bytes shared = nat_le bytes (FRAMES - shared.heap)
@@ -115,4 +121,5 @@ abbrev pub malloc_answer : ℕ → Shared → ℕ
 malloc_answer bytes shared = if is_room bytes shared then shared.heap else 0
 
 abbrev pub malloc : ℕ → Shared → Shared
-malloc bytes shared = if is_room bytes shared then (record shared { heap = shared.heap + (bytes + 7) / 8 * 8 }) else shared
+malloc bytes shared = if is_room bytes shared then (record shared { heap = shared.heap + (bytes + 7) / 8 * 8 }) else
+    shared

@@ -18,7 +18,8 @@ goes_none k = record { ran = λ o. refl; alive = λ o m lt. absurd (none m lt) }
     none : (m : ℕ) → m < 0 → ⊥
     none m lt = omega (arith, lt)
 
-pub goes_more : {count : ℕ} {old mid new : CoreKept} → GoesOn count old mid → mid.stopped ≡ None → is_at_service (state_of mid) ≡ false
+pub goes_more : {count : ℕ} {old mid new : CoreKept} → GoesOn count old mid → mid.stopped ≡ None →
+    is_at_service (state_of mid) ≡ false
     → world_of new ≡ step (world_of mid) → GoesOn (count + 1) old new
 goes_more {count} {old} {mid} {new} f on service is = record {
   ran = λ o.
@@ -29,7 +30,8 @@ goes_more {count} {old} {mid} {new} f on service is = record {
   alive = λ o m lt. ⊎_elim
       (λ le. f.alive o m le)
       (λ le. let e : m ≡ count = omega (arith, lt, le) in
-      ap (λ k. (iterate step k (beside o (world_of old))).ending) e ∙ ap (λ (w : World). w.ending) (f.ran o) ∙ ap ending_from on)
+      ap (λ k. (iterate step k (beside o (world_of old))).ending) e ∙ ap (λ (w : World). w.ending) (f.ran o) ∙
+      ap ending_from on)
       (cases_lt m count);
 }
 
@@ -47,7 +49,8 @@ zero_at n r =
 abbrev pub with : (ℕ → ℕ) → ℕ → State → State
 with f next s = record s { next = next; d = record s.d { registers = f } }
 
-pub begun_with : (s : State) (next : ℕ) → s.d.registers ≡ (λ r. 0) → next ≡ s.next → with (slice_index (replicate 32 0)) next s ≡ s
+pub begun_with : (s : State) (next : ℕ) → s.d.registers ≡ (λ r. 0) → next ≡ s.next →
+    with (slice_index (replicate 32 0)) next s ≡ s
 begun_with s next zeros is =
     ap {A = ℕ} {B = State} (λ n. with (slice_index (replicate 32 0)) n s) is
     ∙ ap {A = ℕ → ℕ} {B = State} (λ f. with f s.next s) ((λ i r. zero_at 32 r i) ∙ sym zeros)

@@ -1,6 +1,7 @@
 -- What the code keeps of the machine's state, in lists, and the state that it stands for. What passes between a run and
 -- the outside is kept by nobody: here the state has none of it, and whoever runs the core says what it is.
-use Rattle.std.specs.Prelude.{zero, suc, ◌≢◌, ◌⊎◌, ⊤, ◌≡◌, ℕ, ◌+◌, ◌-◌, ◌<◌, Bool, true, false, ◌||◌, nat_eq, nat_lt, Result, Err, if◌then◌else◌, List, [], Option, Some, None, slice_index}
+use Rattle.std.specs.Prelude.{zero, suc, ◌≢◌, ◌⊎◌, ⊤, ◌≡◌, ℕ, ◌+◌, ◌-◌, ◌<◌, Bool, true, false, ◌||◌, nat_eq, nat_lt}
+use Rattle.std.specs.Prelude.{Result, Err, if◌then◌else◌, List, [], Option, Some, None, slice_index}
 use Rattle.std.specs.Fn.{iterate}
 use Rattle.flat_memory.specs.Spaces.{Spaces}
 use Rattle.code_arena.specs.Arena.{Arena}
@@ -106,7 +107,10 @@ wrote r v w = record w { state = record w.state { d = set_register r v w.state.d
 
 abbrev pub moved : (next : ℕ) (slot : Bool) → World → World
 moved next slot w =
-    record w { state = record w.state { pc = w.state.next; next = next; loaded = 0; recent = w.state.recent - 1; slot = slot } }
+    record w {
+      state = record w.state
+          { pc = w.state.next; next = next; loaded = 0; recent = w.state.recent - 1; slot = slot };
+    }
 
 abbrev pub with_loaded : ℕ → World → World
 with_loaded r w = record w { state = record w.state { loaded = r } }

@@ -1,7 +1,9 @@
--- The two directions of the table are inverse: `instr_of-word_of` reads each instruction that fits back from its word, and
+-- The two directions of the table are inverse: `instr_of-word_of` reads each instruction that fits back from its word,
+-- and
 -- `word_of-instr_of` gives back each word that is read. Both are for every crate that makes or reads words.
 -- A word's fields are found first, as a record of equations on numbers; the row of the table follows from them.
-use Rattle.std.proofs.Common.{◌≡◌, ◌≢◌, ℕ, ◌+◌, ◌*◌, ◌/◌, ◌%◌, ◌<◌, Bool, true, false, Option, Some, None, cond, arith, refl, sym, ap, subst, ◌∙◌, lit<}
+use Rattle.std.proofs.Common.{◌≡◌, ◌≢◌, ℕ, ◌+◌, ◌*◌, ◌/◌, ◌%◌, ◌<◌, Bool, true, false, Option, Some, None, cond, arith}
+use Rattle.std.proofs.Common.{refl, sym, ap, subst, ◌∙◌, lit<}
 use Rattle.std.proofs.lemmas.Bool.{cond_both, eqb-true}
 use Rattle.std.specs.Prelude.{◌==◌, IfSome}
 use Rattle.mips_encoder.specs.declared.instruction.Instr.{Instr}
@@ -178,7 +180,8 @@ move_to_code_small : (op : HiLo) → move_to_code op < 64
 move_to_code_small Hi = lit< tt
 move_to_code_small Lo = lit< tt
 
-move_to_at : (op : HiLo) (w rs : ℕ) → SpecialFields w rs 0 0 0 (move_to_code op) → decoded.instr_of w ≡ Some (MoveTo op rs)
+move_to_at : (op : HiLo) (w rs : ℕ) → SpecialFields w rs 0 0 0 (move_to_code op) →
+    decoded.instr_of w ≡ Some (MoveTo op rs)
 move_to_at Hi w rs h = grind arith
 move_to_at Lo w rs h = grind arith
 
@@ -338,7 +341,8 @@ instr_of-word_of (ImmediateArithmetic op rt rs immediate) (hrt, hrs, hlow) =
     immediate_arithmetic_at op _ rt rs immediate
     (immediate_fields (immediate_code op) rs rt immediate (immediate_code_small op) hrs hrt hlow)
 instr_of-word_of (Memory op rt immediate rs) (hrt, hlow, hrs) =
-    memory_at op _ rt immediate rs (immediate_fields (memory_code op) rs rt immediate (memory_code_small op) hrs hrt hlow)
+    memory_at op _ rt immediate rs
+    (immediate_fields (memory_code op) rs rt immediate (memory_code_small op) hrs hrt hlow)
 instr_of-word_of (BranchOnSign op rs immediate) (a, b) =
     branch_on_sign_at op _ rs immediate
     (immediate_fields 1 rs (sign_code op) immediate (lit< tt) a (omega (arith, sign_code_small op)) b)
@@ -363,7 +367,8 @@ back_row w code n x y f g = cond_both (code == n) x y (Back w) (λ h. f (eqb-tru
 
 arithmetic_back : (op : ArithmeticOp) (w : ℕ) → field.opcode w ≡ 0 → field.funct w ≡ arithmetic_code op
     → Back w (decoded.arithmetic op w)
-arithmetic_back op w a b = back_only w _ _ (λ h. let k : (field.shamt w) ≡ 0 = eqb-true (field.shamt w) 0 h in omega arith)
+arithmetic_back op w a b =
+    back_only w _ _ (λ h. let k : (field.shamt w) ≡ 0 = eqb-true (field.shamt w) 0 h in omega arith)
 
 shift_back : (op : ShiftOp) (w : ℕ) → field.opcode w ≡ 0 → field.funct w ≡ shift_code op → Back w (decoded.shift op w)
 shift_back op w a b = back_only w _ _ (λ h. let k : (field.rs w) ≡ 0 = eqb-true (field.rs w) 0 h in omega arith)
@@ -378,8 +383,10 @@ move_from_back : (op : HiLo) (w : ℕ) → field.opcode w ≡ 0 → field.funct 
 move_from_back op w a b =
     back_only w _ _ (λ h. let k : (w / 65536 ≡ 0) × (field.shamt w ≡ 0) = grind (arith, h) in omega arith)
 
-move_to_back : (op : HiLo) (w : ℕ) → field.opcode w ≡ 0 → field.funct w ≡ move_to_code op → Back w (decoded.move_to op w)
-move_to_back op w a b = back_only w _ _ (λ h. let k : (w / 64 % 32768) ≡ 0 = eqb-true (w / 64 % 32768) 0 h in omega arith)
+move_to_back : (op : HiLo) (w : ℕ) → field.opcode w ≡ 0 → field.funct w ≡ move_to_code op →
+    Back w (decoded.move_to op w)
+move_to_back op w a b = back_only w _ _
+    (λ h. let k : (w / 64 % 32768) ≡ 0 = eqb-true (w / 64 % 32768) 0 h in omega arith)
 
 multiply_divide_back : (op : MultiplyDivideOp) (w : ℕ) → field.opcode w ≡ 0
     → field.funct w ≡ multiply_divide_code op → Back w (decoded.multiply_divide op w)
@@ -411,13 +418,15 @@ branch_on_sign_and_link_back op w a b =
     cond_both (field.rs w == 31) None (Some (BranchOnSignAndLink op (field.rs w) (field.immediate w))) (Back w)
     (λ h. tt) (λ h. omega arith)
 
-jump_and_link_register_back : (w : ℕ) → field.opcode w ≡ 0 → field.funct w ≡ 9 → Back w (decoded.jump_and_link_register w)
+jump_and_link_register_back : (w : ℕ) → field.opcode w ≡ 0 → field.funct w ≡ 9 →
+    Back w (decoded.jump_and_link_register w)
 jump_and_link_register_back w a b = cond_both (field.rd w == field.rs w) None _ (Back w) (λ h. tt)
     (λ h. back_only w _ _ (λ t. let k : (field.rt w ≡ 0) × (field.shamt w ≡ 0) = grind (arith, t) in omega arith))
 
 jump_register_back : (w : ℕ) → field.opcode w ≡ 0 → field.funct w ≡ 8
     → Back w (decoded.only (w / 64 % 32768 == 0) (JumpRegister (field.rs w)))
-jump_register_back w a b = back_only w _ _ (λ h. let k : w / 64 % 32768 ≡ 0 = eqb-true (w / 64 % 32768) 0 h in omega arith)
+jump_register_back w a b =
+    back_only w _ _ (λ h. let k : w / 64 % 32768 ≡ 0 = eqb-true (w / 64 % 32768) 0 h in omega arith)
 
 break_back : (w : ℕ) → field.opcode w ≡ 0 → field.funct w ≡ 13 → Back w (Some (Break (w / 64 % 1048576)))
 break_back w a b = omega arith

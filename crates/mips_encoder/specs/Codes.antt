@@ -1,8 +1,10 @@
--- The numbers of the operations, as the MIPS R2000 architecture manual gives them: the opcode of an instruction with an opcode of its own,
+-- The numbers of the operations, as the MIPS R2000 architecture manual gives them: the opcode of an instruction with an
+-- opcode of its own,
 -- the function field of one with opcode 0 (SPECIAL), and the field rt of one with opcode 1 (REGIMM).
 use Rattle.std.specs.Prelude.{ℕ}
 use Rattle.mips_encoder.specs.declared.instruction.ArithmeticOp.{ArithmeticOp}
-use Rattle.mips_encoder.specs.declared.instruction.ArithmeticOp.TheVariants.{Add, Addu, Sub, Subu, And, Or, Xor, Nor, Slt, Sltu}
+use Rattle.mips_encoder.specs.declared.instruction.ArithmeticOp.TheVariants.{Add, Addu, Sub, Subu, And, Or, Xor, Nor}
+use Rattle.mips_encoder.specs.declared.instruction.ArithmeticOp.TheVariants.{Slt, Sltu}
 use Rattle.mips_encoder.specs.declared.instruction.ShiftOp.{ShiftOp}
 use Rattle.mips_encoder.specs.declared.instruction.ShiftOp.TheVariants.{Sll, Srl, Sra}
 use Rattle.mips_encoder.specs.declared.instruction.ShiftVariableOp.{ShiftVariableOp}

@@ -1,7 +1,10 @@
--- The table of instructions read from the words: for each word its instruction, or None where the table has no instruction with this word.
--- The source is the MIPS R2000 architecture manual: the opcode chooses a row, or a second table by the function field (SPECIAL)
+-- The table of instructions read from the words: for each word its instruction, or None where the table has no
+-- instruction with this word.
+-- The source is the MIPS R2000 architecture manual: the opcode chooses a row, or a second table by the function field
+-- (SPECIAL)
 -- or by the field rt (REGIMM), and each field that the chosen form doesn't name must be 0.
--- `decode` gives this instruction. By its clauses it is the inverse of `word_of` in Table.antt, so that page alone needs to be believed.
+-- `decode` gives this instruction. By its clauses it is the inverse of `word_of` in Table.antt, so that page alone
+-- needs to be believed.
 use Rattle.std.specs.Prelude.{ℕ, ◌/◌, ◌%◌, List, [], ◌∷◌, Bool, ◌==◌, ◌&&◌, Option, Some, None, cond}
 use Rattle.mips_encoder.specs.Fields.{opcode, rs, rt, rd, shamt, funct, immediate}
 use Rattle.mips_encoder.specs.declared.instruction.Instr.{Instr}
@@ -25,7 +28,8 @@ use Rattle.mips_encoder.specs.declared.instruction.Instr.TheVariants.{
   LoadUpperImmediate,
   Memory,
 }
-use Rattle.mips_encoder.specs.declared.instruction.ArithmeticOp.TheVariants.{Add, Addu, Sub, Subu, And, Or, Xor, Nor, Slt, Sltu}
+use Rattle.mips_encoder.specs.declared.instruction.ArithmeticOp.TheVariants.{Add, Addu, Sub, Subu, And, Or, Xor, Nor}
+use Rattle.mips_encoder.specs.declared.instruction.ArithmeticOp.TheVariants.{Slt, Sltu}
 use Rattle.mips_encoder.specs.declared.instruction.ShiftOp.TheVariants.{Sll, Srl, Sra}
 use Rattle.mips_encoder.specs.declared.instruction.ShiftVariableOp.TheVariants.{Sllv, Srlv, Srav}
 use Rattle.mips_encoder.specs.declared.instruction.HiLo.TheVariants.{Hi, Lo}

@@ -1,4 +1,5 @@
--- The fields of a word, as the MIPS R2000 architecture manual draws them. From the highest bit down they are opcode (6 bits),
+-- The fields of a word, as the MIPS R2000 architecture manual draws them. From the highest bit down they are opcode (6
+-- bits),
 -- rs, rt, rd, shamt (5 bits each) and funct (6 bits); the last three may be one immediate of 16 bits.
 -- A field is the word divided by the weight of the field's lowest bit, cut to the field's width.
 use Rattle.std.specs.Prelude.{ℕ, ◌/◌, ◌%◌}

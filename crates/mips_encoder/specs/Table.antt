@@ -1,6 +1,9 @@
--- The table of instructions read from the instructions: `word_of` gives the word of each, with 0 in the fields that its form doesn't name,
--- and `Fits` says which operands a form takes. The source is the MIPS R2000 architecture manual, which also excludes that
--- JALR, BLTZAL and BGEZAL read the register that they link. A word is in the table exactly where it is the word of an instruction that fits.
+-- The table of instructions read from the instructions: `word_of` gives the word of each, with 0 in the fields that its
+-- form doesn't name,
+-- and `Fits` says which operands a form takes. The source is the MIPS R2000 architecture manual, which also excludes
+-- that
+-- JALR, BLTZAL and BGEZAL read the register that they link. A word is in the table exactly where it is the word of an
+-- instruction that fits.
 use Rattle.std.specs.Prelude.{ℕ, ◌+◌, ◌*◌, ◌<◌, ◌≢◌}
 use Rattle.mips_encoder.specs.declared.instruction.Instr.{Instr}
 use Rattle.mips_encoder.specs.declared.instruction.Instr.TheVariants.{

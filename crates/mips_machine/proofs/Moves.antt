@@ -1,5 +1,6 @@
 -- A service that puts bytes out, and the one that reads a byte, as runs of one instruction.
-use Rattle.std.proofs.Common.{◌≡◌, inl, inr, ℕ, ◌<◌, nat_eq, true, false, List, [], ◌∷◌, ◌++◌, Option, None, Some, refl, sym, ap, ◌∙◌, subst, arith, append-nil}
+use Rattle.std.proofs.Common.{◌≡◌, inl, inr, ℕ, ◌<◌, nat_eq, true, false, List, [], ◌∷◌, ◌++◌, Option, None, Some, refl}
+use Rattle.std.proofs.Common.{sym, ap, ◌∙◌, subst, arith, append-nil}
 use Rattle.std.specs.Io.KnownBytes.{Appends, IsAtEnd}
 use Rattle.std.proofs.KnownBytes.{Consumes-nil, Appends-nil, Consumes-kept}
 use Rattle.std.proofs.lemmas.Bool.{false≢true}
@@ -32,7 +33,8 @@ one_read b lt = let e : nat_eq b 4294967295 ≡ false = grind (arith, nat_tests,
 
 -- what a service does that puts bytes out and answers v
 abbrev IsPut : Progress → List ℕ → ℕ → Type 0
-IsPut old bytes v = (rest : Input) (said : List Item) → step (world old rest said None) ≡ world (answered v old) rest (said ++ outs bytes) None
+IsPut old bytes v = (rest : Input) (said : List Item) →
+    step (world old rest said None) ≡ world (answered v old) rest (said ++ outs bytes) None
 
 pub put_ran : (old new : Progress) (left taken told : Option (List ℕ)) (stop : Stop) (bytes : List ℕ) (v : ℕ)
     → IsPut old bytes v → new ≡ answered v old → Puts stop taken told bytes → Ran 1 old new left left taken told stop
@@ -82,7 +84,12 @@ put_ran old new left taken told WriteFault bytes v is same puts = record {
       ∙ ap (λ (o : List Item). world new rest (o ++ outs bytes) None) (sym (append-nil said));
   alive = λ rest said m. alive_one (world old rest said None) refl;
   unended = λ r. absurd (cc);
-  earlier = λ w. (0, refl, λ rest said m. ap (λ (v : World). v.state.d.outside.history) (run_0 (world old rest said None)) ∙ sym (append-nil said));
+  earlier = λ w. (
+    0,
+    refl,
+    λ rest said m. ap (λ (v : World). v.state.d.outside.history)
+        (run_0 (world old rest said None)) ∙ sym (append-nil said),
+  );
 }
 put_ran old new left taken told (Ended e) bytes v is same puts = absurd puts
 put_ran old new left taken told (Fault k at) bytes v is same puts = absurd puts
@@ -99,13 +106,17 @@ pub record IsGet (old : Progress) : Type 0 where
   pub ended : (rest : Input) (said : List Item) → (is_at_end old ≡ false → rest ≡ no_input)
       → step (world old rest said None) ≡ world (input_ended old) rest (said ++ In 4294967295 ∷ []) None
   pub failed : is_at_end old ≡ false → (said : List Item)
-      → step (world old (record { bytes = []; failing = true }) said None) ≡ world (counted old) (record { bytes = []; failing = true }) said (Some event.ReadFault)
+      → step (world old (record { bytes = []; failing = true }) said None) ≡ world (counted old)
+      (record { bytes = []; failing = true }) said (Some event.ReadFault)
 
-said_one : (new next : Progress) (rest : Input) (said : List Item) (v : ℕ) → new ≡ next → world next rest (said ++ In v ∷ []) None ≡ world new rest ((said ++ In v ∷ []) ++ []) None
+said_one : (new next : Progress) (rest : Input) (said : List Item) (v : ℕ) → new ≡ next →
+    world next rest (said ++ In v ∷ []) None ≡ world new rest ((said ++ In v ∷ []) ++ []) None
 said_one new next rest said v same =
-    ap (λ (p : Progress). world p rest (said ++ In v ∷ []) None) (sym same) ∙ ap (λ (o : List Item). world new rest o None) (sym (append-nil (said ++ In v ∷ [])))
+    ap (λ (p : Progress). world p rest (said ++ In v ∷ []) None) (sym same) ∙
+    ap (λ (o : List Item). world new rest o None) (sym (append-nil (said ++ In v ∷ [])))
 
-pub get_ran : (old new : Progress) (left later taken : Option (List ℕ)) (stop : Stop) → IsGet old → Takes stop old new left later → Ran 1 old new left later taken taken stop
+pub get_ran : (old new : Progress) (left later taken : Option (List ℕ)) (stop : Stop) → IsGet old →
+    Takes stop old new left later → Ran 1 old new left later taken taken stop
 get_ran old new left later taken Steps g (inl took) = record {
   count = 1;
   within = omega arith;

@@ -1,5 +1,6 @@
 -- A service that neither reads nor writes, as a run of one instruction.
-use Rattle.std.proofs.Common.{◌≡◌, ◌≢◌, ℕ, ◌+◌, ◌<◌, List, [], ◌++◌, Option, None, refl, sym, ap, ◌∙◌, arith, append-nil}
+use Rattle.std.proofs.Common.{◌≡◌, ◌≢◌, ℕ, ◌+◌, ◌<◌, List, [], ◌++◌, Option, None, refl, sym, ap, ◌∙◌, arith}
+use Rattle.std.proofs.Common.{append-nil}
 use Rattle.std.proofs.KnownBytes.{Consumes-nil, Appends-nil}
 use Rattle.std.proofs.lemmas.Bool.{false≢true}
 use Rattle.history.specs.Events.{Item, End, Input}
@@ -11,12 +12,15 @@ use Rattle.mips_machine.specs.declared.stop.Stop.TheVariants.{ReadFault, WriteFa
 use Rattle.mips_machine.specs.Progress.{Progress, is_at_end, world}
 use Rattle.mips_machine.specs.Ran.{Ran, ending_of}
 
-pub said_all : (new : Progress) (rest : Input) (said : List Item) (e : Option End) → world new rest said e ≡ world new rest ((said ++ []) ++ []) e
-said_all new rest said e = sym (ap (λ o. world new rest (o ++ []) e) (append-nil said) ∙ ap (λ o. world new rest o e) (append-nil said))
+pub said_all : (new : Progress) (rest : Input) (said : List Item) (e : Option End) →
+    world new rest said e ≡ world new rest ((said ++ []) ++ []) e
+said_all new rest said e =
+    sym (ap (λ o. world new rest (o ++ []) e) (append-nil said) ∙ ap (λ o. world new rest o e) (append-nil said))
 
 -- before a single instruction the run had not ended
 pub alive_one : (w : World) → w.ending ≡ None → (m : ℕ) → m < 1 → (run m w).ending ≡ None
-alive_one w is m lt = let e : m ≡ 0 = omega (arith, lt) in ap (λ k. (run k w).ending) e ∙ ap (λ (v : World). v.ending) (run_0 w) ∙ is
+alive_one w is m lt = let e : m ≡ 0 = omega (arith, lt) in
+    ap (λ k. (run k w).ending) e ∙ ap (λ (v : World). v.ending) (run_0 w) ∙ is
 
 pub quiet_ran : (old new : Progress) (left taken : Option (List ℕ)) (stop : Stop) → stop ≢ ReadFault → stop ≢ WriteFault
     → new.steps ≡ old.steps + 1 → is_at_end new ≡ is_at_end old

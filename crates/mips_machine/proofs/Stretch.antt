@@ -27,16 +27,21 @@ pub record Stays (count : ℕ) (old new : Held) : Type 0 where
 abbrev with : Held → Input → List Item → Outside
 with h input history = record { input = input; at_end = h.at_end; history = history; flushes = h.flushes }
 
-world_is : (h : Held) (input : Input) (history : List Item) (e : Option End) → ending_from h.core.stopped ≡ e → beside (with h input history) (world_of h.core) ≡ world (progress_of h) input history e
-world_is h input history e is = ap (λ (x : Option End). record { state = beside_state (with h input history) (state_of h.core); ending = x }) is
+world_is : (h : Held) (input : Input) (history : List Item) (e : Option End) → ending_from h.core.stopped ≡ e →
+    beside (with h input history) (world_of h.core) ≡ world (progress_of h) input history e
+world_is h input history e is =
+    ap (λ (x : Option End). record { state = beside_state (with h input history) (state_of h.core); ending = x }) is
 
-same_outside : {count : ℕ} {old new : Held} → Stays count old new → (input : Input) (history : List Item) → with old input history ≡ with new input history
+same_outside : {count : ℕ} {old new : Held} → Stays count old new → (input : Input) (history : List Item) →
+    with old input history ≡ with new input history
 same_outside {count} {old} {new} s input history =
     ap (λ b. record { input = input; at_end = b; history = history; flushes = old.flushes }) (sym s.at_end)
     ∙ ap (λ n. record { input = input; at_end = new.at_end; history = history; flushes = n }) (sym s.flushes)
 
-pub stretch_ran : (count : ℕ) (old new : Held) (left taken : Option (List ℕ)) (stop : Stop) → stop ≢ ReadFault → stop ≢ WriteFault
-    → old.core.stopped ≡ None → GoesOn count old.core new.core → Stays count old new → ending_from new.core.stopped ≡ ending_of stop
+pub stretch_ran : (count : ℕ) (old new : Held) (left taken : Option (List ℕ)) (stop : Stop) → stop ≢ ReadFault →
+    stop ≢ WriteFault
+    → old.core.stopped ≡ None → GoesOn count old.core new.core → Stays count old new →
+    ending_from new.core.stopped ≡ ending_of stop
     → Ran count (progress_of old) (progress_of new) left left taken taken stop
 unfolding run
 stretch_ran count old new left taken stop no_read no_write on g s is = record {
@@ -82,17 +87,21 @@ never_write (halt.Ended e) is = absurd cc
 never_write (halt.Fault k at) is = absurd cc
 
 -- the stretch ends the run
-pub halted_ran : (count : ℕ) (old new : Held) (left taken : Option (List ℕ)) (stop : Stop) (h : Halt) → stop ≡ stop_of h → new.core.stopped ≡ Some h
+pub halted_ran : (count : ℕ) (old new : Held) (left taken : Option (List ℕ)) (stop : Stop) (h : Halt) →
+    stop ≡ stop_of h → new.core.stopped ≡ Some h
     → old.core.stopped ≡ None → GoesOn count old.core new.core → Stays count old new
     → Ran count (progress_of old) (progress_of new) left left taken taken stop
 halted_ran count old new left taken stop h same stopped on g s =
-    stretch_ran count old new left taken stop (λ e. never_read h (sym same ∙ e)) (λ e. never_write h (sym same ∙ e)) on g s
+    stretch_ran count old new left taken stop (λ e. never_read h (sym same ∙ e)) (λ e. never_write h (sym same ∙ e)) on
+    g s
     (ap ending_from stopped ∙ ended_is h ∙ ap ending_of (sym same))
 
 -- or it doesn't
-pub paused_ran : (count : ℕ) (old new : Held) (left taken : Option (List ℕ)) (o : Option Stop) → o ≡ None → new.core.stopped ≡ None
+pub paused_ran : (count : ℕ) (old new : Held) (left taken : Option (List ℕ)) (o : Option Stop) → o ≡ None →
+    new.core.stopped ≡ None
     → old.core.stopped ≡ None → GoesOn count old.core new.core → Stays count old new
     → Ran count (progress_of old) (progress_of new) left left taken taken (stop_from o)
 paused_ran count old new left taken o none stopped on g s =
-    subst (λ (x : Option Stop). Ran count (progress_of old) (progress_of new) left left taken taken (stop_from x)) (sym none)
+    subst (λ (x : Option Stop). Ran count (progress_of old) (progress_of new) left left taken taken (stop_from x))
+    (sym none)
     (stretch_ran count old new left taken Steps (λ e. absurd cc) (λ e. absurd cc) on g s (ap ending_from stopped))

@@ -1,7 +1,8 @@
 -- What one call of a machine did: the bytes that it took and gave, and how far the run has come. The same record speaks
 -- of one service, of a stretch without services, of a loop, of a call and of two calls in a row. The machine stores no
 -- history, so it speaks for all that was said before and all that may still come.
-use Rattle.std.specs.Prelude.{◌≡◌, ◌≢◌, ℕ, ◌+◌, ◌≤◌, ◌<◌, true, false, List, [], ◌∷◌, ◌++◌, length, take, Option, Some, None, nat_eq, if◌then◌else◌, ⊤}
+use Rattle.std.specs.Prelude.{◌≡◌, ◌≢◌, ℕ, ◌+◌, ◌≤◌, ◌<◌, true, false, List, [], ◌∷◌, ◌++◌, length, take, Option, Some}
+use Rattle.std.specs.Prelude.{None, nat_eq, if◌then◌else◌, ⊤}
 use Rattle.std.specs.Io.KnownBytes.{Appends, Consumes, IsAtEnd}
 use Rattle.host_edge.specs.Causes.{Rose}
 use Rattle.history.specs.Events.{Item, Out, In, Made, Entered, End, Input, output, outs}
@@ -70,7 +71,8 @@ pub record Ran (n : ℕ) (old new : Progress) (left later taken told : Option (L
   pub at_end : is_at_end new ≡ true → is_at_end old ≡ false → EndsFrom left later
   pub unended : stop ≡ ReadFault → is_at_end new ≡ false
   pub ran : (rest : Input) (said : List Item) → MayFollow old new stop rest
-      → run count (world old (before given rest) said None) ≡ world new rest (said ++ events ++ outs last) (ending_of stop)
+      → run count (world old (before given rest) said None) ≡ world new rest (said ++ events ++ outs last)
+      (ending_of stop)
   pub alive : (rest : Input) (said : List Item) → MayFollow old new stop rest
       → (m : ℕ) → m < count → (run m (world old (before given rest) said None)).ending ≡ None
   pub earlier : stop ≡ WriteFault → (m : ℕ) × (count ≡ m + 1)

@@ -48,7 +48,8 @@ flushed_outside o = record o { flushes = o.flushes + 1 }
 
 abbrev pub flushed_at : ℕ → ℕ → Progress → Progress
 flushed_at at count p =
-    after (Changes (flushed (arena_word at) count) (answer 0 (with_outside (flushed_outside p.state.d.outside) p.state.d))) p
+    after (Changes (flushed (arena_word at) count)
+    (answer 0 (with_outside (flushed_outside p.state.d.outside) p.state.d))) p
 
 -- the arguments of a service, and its number
 abbrev pub argument : Progress → ℕ
@@ -71,7 +72,8 @@ Puts ReadFault taken told bytes = ⊥
 -- the answer is the next byte, or the end, or the read failed
 abbrev pub Takes : Stop → Progress → Progress → Option (List ℕ) → Option (List ℕ) → Type 0
 Takes Steps old new left later =
-    ((is_at_end old ≡ false) × ((byte : ℕ) × (byte < 256) × (new ≡ answered byte old) × Consumes left later (byte ∷ [])))
+    ((is_at_end old ≡ false) ×
+    ((byte : ℕ) × (byte < 256) × (new ≡ answered byte old) × Consumes left later (byte ∷ [])))
     ⊎ ((new ≡ input_ended old) × Keeps left later × (is_at_end old ≡ false → IsAtEnd later))
 Takes ReadFault old new left later = (is_at_end old ≡ false) × (new ≡ counted old) × Keeps left later
 Takes (Ended e) old new left later = ⊥

@@ -1,5 +1,7 @@
 -- A run by instructions is one run after another, stays as it is once it has ended, and only adds to its history.
-use Rattle.std.proofs.Common.{◌≡◌, inl, inr, ℕ, zero, suc, ◌+◌, ◌-◌, ◌%◌, Bool, true, false, List, [], ◌∷◌, Option, None, Some, Result, Ok, Err, refl, sym, ap, ◌∙◌, subst, arith, append-nil, if◌then◌else◌, is_some}
+use Rattle.std.proofs.Common.{◌≡◌, inl, inr, ℕ, zero, suc, ◌+◌, ◌-◌, ◌%◌, Bool, true, false, List, [], ◌∷◌, Option}
+use Rattle.std.proofs.Common.{None, Some, Result, Ok, Err, refl, sym, ap, ◌∙◌, subst, arith, append-nil, if◌then◌else◌}
+use Rattle.std.proofs.Common.{is_some}
 use Rattle.std.proofs.lemmas.Bool.{false≢true, cases_Bool}
 use Rattle.std.proofs.lemmas.Bool.Decides.{nat_tests}
 use Rattle.pace.specs.Pace.{IsPrefix}
@@ -54,7 +56,8 @@ events w = w.state.d.outside.history
 abbrev same : (l : List Item) → IsPrefix l l
 same l = ([], append-nil l)
 
-read_grows : (next : Next) (recent : ℕ) (s : State) → IsPrefix s.d.outside.history (events (apply (read next s.d) recent s))
+read_grows : (next : Next) (recent : ℕ) (s : State) →
+    IsPrefix s.d.outside.history (events (apply (read next s.d) recent s))
 read_grows (Given b rest) recent s = (In b ∷ [], refl)
 read_grows AtEnd recent s = (In 4294967295 ∷ [], refl)
 read_grows Failing recent s = same s.d.outside.history
@@ -62,18 +65,26 @@ read_grows Failing recent s = same s.d.outside.history
 get_grows : (recent : ℕ) (s : State) → IsPrefix s.d.outside.history (events (apply (get s.d) recent s))
 get_grows recent s = by s.d.outside.at_end
   where
-    by : (b : Bool) → IsPrefix s.d.outside.history (events (apply (if b then got 4294967295 true s.d.outside.input s.d else read (next_byte s.d.outside.input) s.d) recent s))
+    by : (b : Bool) → IsPrefix s.d.outside.history
+        (events (apply (if b then got 4294967295 true s.d.outside.input s.d else read (next_byte s.d.outside.input) s.d)
+        recent s))
     by true = (In 4294967295 ∷ [], refl)
     by false = read_grows (next_byte s.d.outside.input) recent s
 
-flush_grows : (at count recent : ℕ) (s : State) → IsPrefix s.d.outside.history (events (apply (flush at count s.d) recent s))
+flush_grows : (at count recent : ℕ) (s : State) →
+    IsPrefix s.d.outside.history (events (apply (flush at count s.d) recent s))
 flush_grows at count recent s = by (is_arena_range at count)
   where
-    by : (b : Bool) → IsPrefix s.d.outside.history (events (apply (if b then Changes (flushed (arena_word at) count) (answer 0 (with_outside (record s.d.outside { flushes = s.d.outside.flushes + 1 }) s.d)) else Faults kind.BadService) recent s))
+    by : (b : Bool) → IsPrefix s.d.outside.history
+        (events (apply (if b then
+        Changes (flushed (arena_word at) count)
+        (answer 0 (with_outside (record s.d.outside { flushes = s.d.outside.flushes + 1 }) s.d)) else
+        Faults kind.BadService) recent s))
     by true = same s.d.outside.history
     by false = same s.d.outside.history
 
-serve_grows : (o : Option Service) (recent : ℕ) (s : State) → IsPrefix s.d.outside.history (events (apply (serve o s.d) recent s))
+serve_grows : (o : Option Service) (recent : ℕ) (s : State) →
+    IsPrefix s.d.outside.history (events (apply (serve o s.d) recent s))
 serve_grows None recent s = same s.d.outside.history
 serve_grows (Some PutInt) recent s = (outs (number_bytes (register 4 s.d)), refl)
 serve_grows (Some Exit) recent s = same s.d.outside.history
@@ -88,7 +99,8 @@ syscall_grows s = by (is_hazard Syscall s)
     by true = same s.d.outside.history
     by false = serve_grows (service_of (register 2 s.d)) (s.recent - 1) s
 
-found_grows : (x : Result ℕ MachineKind) (s : State) → is_service x ≡ true → IsPrefix s.d.outside.history (events (execute (found x) s))
+found_grows : (x : Result ℕ MachineKind) (s : State) → is_service x ≡ true →
+    IsPrefix s.d.outside.history (events (execute (found x) s))
 found_grows (Err k) s is = absurd (false≢true is)
 found_grows (Ok w) s is =
     let e : 12 ≡ w = grind (arith, nat_tests, is) in

@@ -7,7 +7,8 @@ use Rattle.word32.specs.Parts.{is_aligned, loaded_part, stored_part}
 use Rattle.word32.specs.Space as space
 use Rattle.word32.specs.declared.width.Width.{Width}
 use Rattle.word32.specs.declared.map.TheConstants.{ARENA, FUNCTION_TABLE}
-use Rattle.flat_memory.specs.Map.{Region, InText, InArena, InObjects, InClosures, InSpecRows, InCells, InFunctionTable, InEmitStack, InStack, Nowhere, region_of}
+use Rattle.flat_memory.specs.Map.{Region, InText, InArena, InObjects, InClosures, InSpecRows, InCells, InFunctionTable}
+use Rattle.flat_memory.specs.Map.{InEmitStack, InStack, Nowhere, region_of}
 use Rattle.code_arena.specs.Arena.{Arena, written}
 use Rattle.host_edge.specs.declared.ending.Ending.{Ending}
 use Rattle.host_edge.specs.declared.ending.Ending.TheVariants.{Trap}
@@ -75,10 +76,12 @@ store_in InText at width w d = StoresText at width
 store_in InArena at width w d = aligned at width (Changes (stored_in_arena at width w) d)
 store_in InObjects at width w d = aligned at width (Plain (record d { objects = space.store at width w d.objects }))
 store_in InClosures at width w d = aligned at width (Plain (record d { closures = space.store at width w d.closures }))
-store_in InSpecRows at width w d = aligned at width (Plain (record d { spec_rows = space.store at width w d.spec_rows }))
+store_in InSpecRows at width w d =
+    aligned at width (Plain (record d { spec_rows = space.store at width w d.spec_rows }))
 store_in InCells at width w d = aligned at width (Plain (record d { cells = space.store at width w d.cells }))
 store_in InFunctionTable at width w d = aligned at width (Ends (Trap trap.Range))
-store_in InEmitStack at width w d = aligned at width (Plain (record d { emit_stack = space.store at width w d.emit_stack }))
+store_in InEmitStack at width w d =
+    aligned at width (Plain (record d { emit_stack = space.store at width w d.emit_stack }))
 store_in InStack at width w d = aligned at width (Plain (record d { stack = space.store at width w d.stack }))
 store_in Nowhere at width w d = Ends (Trap trap.Range)
 

@@ -1,12 +1,15 @@
 -- What the instructions of the MIPS R2000 compute from one or two registers, as its architecture manual gives it. A
 -- sum or difference that must fit and doesn't is None. Products and quotients are pairs, HI before LO.
-use Rattle.std.specs.Prelude.{ℕ, ◌+◌, ◌-◌, ◌*◌, ◌/◌, ◌%◌, Bool, not, true, false, ◌&&◌, ◌||◌, nat_eq, nat_lt, nat_le, if◌then◌else◌, Option, Some, None, Result, Ok, Err, bit_and, bit_or, bit_xor}
-use Rattle.word32.specs.Words.{sum, difference, sign_turned, is_less_signed, shifted_left, shifted_right, shifted_right_signed, widened_half}
+use Rattle.std.specs.Prelude.{ℕ, ◌+◌, ◌-◌, ◌*◌, ◌/◌, ◌%◌, Bool, not, true, false, ◌&&◌, ◌||◌, nat_eq, nat_lt, nat_le}
+use Rattle.std.specs.Prelude.{if◌then◌else◌, Option, Some, None, Result, Ok, Err, bit_and, bit_or, bit_xor}
+use Rattle.word32.specs.Words.{sum, difference, sign_turned, is_less_signed, shifted_left, shifted_right}
+use Rattle.word32.specs.Words.{shifted_right_signed, widened_half}
 use Rattle.word32.specs.Division.{div_s, div_u}
 use Rattle.word32.specs.declared.division.DivFault.{DivFault}
 use Rattle.word32.specs.declared.division.DivFault.TheVariants.{Zero, Overflow}
 use Rattle.mips_encoder.specs.declared.instruction.ArithmeticOp.{ArithmeticOp}
-use Rattle.mips_encoder.specs.declared.instruction.ArithmeticOp.TheVariants.{Add, Addu, Sub, Subu, And, Or, Xor, Nor, Slt, Sltu}
+use Rattle.mips_encoder.specs.declared.instruction.ArithmeticOp.TheVariants.{Add, Addu, Sub, Subu, And, Or, Xor, Nor}
+use Rattle.mips_encoder.specs.declared.instruction.ArithmeticOp.TheVariants.{Slt, Sltu}
 use Rattle.mips_encoder.specs.declared.instruction.ShiftOp.{ShiftOp}
 use Rattle.mips_encoder.specs.declared.instruction.ShiftOp.TheVariants.{Sll, Srl, Sra}
 use Rattle.mips_encoder.specs.declared.instruction.ShiftVariableOp.{ShiftVariableOp}

@@ -8,7 +8,12 @@ use Rattle.host_edge.specs.declared.ending.MachineKind.TheVariants as kind
 use Rattle.host_edge.specs.declared.ending.TrapKind.{TrapKind}
 use Rattle.host_edge.specs.declared.ending.TrapKind.TheVariants as trap
 use Rattle.mips_encoder.specs.declared.instruction.Instr.{Instr}
-use Rattle.mips_encoder.specs.declared.instruction.Instr.TheVariants.{Arithmetic, Shift, ShiftVariable, JumpRegister, JumpAndLinkRegister, Syscall, Break, MoveFrom, MoveTo, MultiplyDivide, BranchOnSign, BranchOnSignAndLink, Jump, BranchOnEquality, BranchOnZero, ImmediateArithmetic, LoadUpperImmediate, Memory}
+use Rattle.mips_encoder.specs.declared.instruction.Instr.TheVariants.{Arithmetic, Shift, ShiftVariable, JumpRegister}
+use Rattle.mips_encoder.specs.declared.instruction.Instr.TheVariants.{JumpAndLinkRegister, Syscall, Break, MoveFrom}
+use Rattle.mips_encoder.specs.declared.instruction.Instr.TheVariants.{MoveTo, MultiplyDivide, BranchOnSign}
+use Rattle.mips_encoder.specs.declared.instruction.Instr.TheVariants.{BranchOnSignAndLink, Jump, BranchOnEquality}
+use Rattle.mips_encoder.specs.declared.instruction.Instr.TheVariants.{BranchOnZero, ImmediateArithmetic}
+use Rattle.mips_encoder.specs.declared.instruction.Instr.TheVariants.{LoadUpperImmediate, Memory}
 use Rattle.mips_encoder.specs.declared.instruction.HiLo.{HiLo}
 use Rattle.mips_encoder.specs.declared.instruction.HiLo.TheVariants.{Hi, Lo}
 use Rattle.mips_encoder.specs.declared.instruction.JumpOp.{JumpOp}
@@ -16,8 +21,10 @@ use Rattle.mips_encoder.specs.declared.instruction.JumpOp.TheVariants.{J, Jal}
 use Rattle.mips_encoder.specs.declared.instruction.MemoryOp.{MemoryOp}
 use Rattle.mips_encoder.specs.declared.instruction.MemoryOp.TheVariants.{Lb, Lh, Lw, Lbu, Lhu, Sb, Sh, Sw}
 use Rattle.mips_model.specs.State.{Data, register, set_register}
-use Rattle.mips_model.specs.Arithmetic.{arithmetic, immediate, shifted, by_number, multiply_divide, equality, zero_comparison, sign_test}
-use Rattle.mips_model.specs.Accesses.{Effect, Plain, Branches, BranchesLinking, Jumps, JumpsLinking, Goes, GoesLinking, Ends, Faults, load, store}
+use Rattle.mips_model.specs.Arithmetic.{arithmetic, immediate, shifted, by_number, multiply_divide, equality}
+use Rattle.mips_model.specs.Arithmetic.{zero_comparison, sign_test}
+use Rattle.mips_model.specs.Accesses.{Effect, Plain, Branches, BranchesLinking, Jumps, JumpsLinking, Goes, GoesLinking}
+use Rattle.mips_model.specs.Accesses.{Ends, Faults, load, store}
 use Rattle.mips_model.specs.Services.{service_of, serve}
 
 -- the trap of a BREAK, by its code
@@ -73,7 +80,8 @@ access Sw r at d = store at Word (register r d) d
 abbrev pub effect : Instr → Data → Effect
 effect (Arithmetic op rd rs rt) d = gives rd (arithmetic op (register rs d) (register rt d)) d
 effect (Shift op rd rt shamt) d = Plain (set_register rd (shifted op (register rt d) shamt) d)
-effect (ShiftVariable op rd rt rs) d = Plain (set_register rd (shifted (by_number op) (register rt d) (register rs d)) d)
+effect (ShiftVariable op rd rt rs) d =
+    Plain (set_register rd (shifted (by_number op) (register rt d) (register rs d)) d)
 effect (JumpRegister rs) d = Jumps (register rs d)
 effect (JumpAndLinkRegister p) d = JumpsLinking p.rd (register p.rs d)
 effect Syscall d = serve (service_of (register 2 d)) d

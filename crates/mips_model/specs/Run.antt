@@ -1,6 +1,7 @@
 -- The run of an image: its first state, and what is seen of so many instructions of it on an input. An image is what
 -- this project's compiler and assembler make; a run of one is this project's own, on the machine of the other pages.
-use Rattle.std.specs.Prelude.{◌≡◌, ◌≢◌, ◌⊎◌, ℕ, zero, suc, ◌+◌, ◌*◌, ◌/◌, ◌%◌, ◌<◌, ◌≤◌, false, List, [], map, Some, None, is_some, if◌then◌else◌, ⊤}
+use Rattle.std.specs.Prelude.{◌≡◌, ◌≢◌, ◌⊎◌, ℕ, zero, suc, ◌+◌, ◌*◌, ◌/◌, ◌%◌, ◌<◌, ◌≤◌, false, List, [], map, Some}
+use Rattle.std.specs.Prelude.{None, is_some, if◌then◌else◌, ⊤}
 use Rattle.pace.specs.Pace.{Seen}
 use Rattle.history.specs.Events.{Item, End, Input}
 use Rattle.word32.specs.declared.map.TheConstants.{ARENA, ARENA_WORDS}
@@ -21,7 +22,8 @@ first_outside input = record { input = input; at_end = false; history = []; flus
 abbrev pub row_of : FunctionEntry → ℕ × ℕ
 row_of f = (f.address, f.count)
 
--- Registers, HI and LO are 0. The text is the image's, the objects begin with its bytes, its functions are the rows from
+-- Registers, HI and LO are 0. The text is the image's, the objects begin with its bytes, its functions are the rows
+-- from
 -- 1 on, in their order, and everything else is 0; no word of the arena is written, and no other function published.
 abbrev pub first_data : List ℕ → List FunctionEntry → Input → Data
 first_data bytes functions input = record {

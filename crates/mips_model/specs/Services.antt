@@ -1,7 +1,8 @@
 -- The services that SYSCALL offers: its number is in register 2 ($v0), its arguments in registers 4 to 6 ($a0 to $a2),
 -- and its answer goes to register 2. They are this project's own; those with numbers 1 to 12 follow SPIM's. A service
 -- that is not in the table, or that refuses its arguments, is a fault of the machine.
-use Rattle.std.specs.Prelude.{ℕ, ◌+◌, ◌*◌, ◌%◌, ◌-◌, Bool, true, false, ◌&&◌, nat_eq, nat_lt, nat_le, if◌then◌else◌, List, [], ◌∷◌, ◌++◌, Option, Some, None}
+use Rattle.std.specs.Prelude.{ℕ, ◌+◌, ◌*◌, ◌%◌, ◌-◌, Bool, true, false, ◌&&◌, nat_eq, nat_lt, nat_le, if◌then◌else◌}
+use Rattle.std.specs.Prelude.{List, [], ◌∷◌, ◌++◌, Option, Some, None}
 use Rattle.word32.specs.declared.map.TheConstants.{ARENA, ARENA_BYTES}
 use Rattle.code_arena.specs.Arena.{flushed}
 use Rattle.host_edge.specs.declared.ending.Ending.TheVariants.{Done}
@@ -38,7 +39,8 @@ put bytes v d = Plain (answer v (with_outside (says bytes d.outside) d))
 -- service 12 answers the next byte, or -1 at the end of the input; once the end was read it reads no further
 abbrev pub got : ℕ → Bool → Input → Data → Effect
 got v at_end input d =
-    Plain (answer v (with_outside (record d.outside { input = input; at_end = at_end; history = d.outside.history ++ In v ∷ [] }) d))
+    Plain (answer v (with_outside
+    (record d.outside { input = input; at_end = at_end; history = d.outside.history ++ In v ∷ [] }) d))
 
 abbrev pub read : Next → Data → Effect
 read (Given b rest) d = got b false rest d
@@ -51,13 +53,15 @@ get d = if d.outside.at_end then got 4294967295 true d.outside.input d else read
 -- so many words from an address on are in the arena, and the address is that of one
 abbrev pub is_arena_range : ℕ → ℕ → Bool
 is_arena_range at count =
-    nat_eq (at % 4) 0 && (nat_le ARENA at && (nat_lt at (ARENA + ARENA_BYTES) && nat_le (at + 4 * count) (ARENA + ARENA_BYTES)))
+    nat_eq (at % 4) 0 && (nat_le ARENA at &&
+    (nat_lt at (ARENA + ARENA_BYTES) && nat_le (at + 4 * count) (ARENA + ARENA_BYTES)))
 
 -- service 67 flushes so many words from an address on
 abbrev pub flush : ℕ → ℕ → Data → Effect
 flush at count d =
     if is_arena_range at count
-    then Changes (flushed (arena_word at) count) (answer 0 (with_outside (record d.outside { flushes = d.outside.flushes + 1 }) d))
+    then Changes (flushed (arena_word at) count)
+    (answer 0 (with_outside (record d.outside { flushes = d.outside.flushes + 1 }) d))
     else Faults kind.BadService
 
 abbrev pub serve : Option Service → Data → Effect

@@ -3,7 +3,8 @@
 -- such word, Hazard, and then what the instruction itself refuses. A branch or jump acts after the instruction behind
 -- it, its delay slot, whether it is taken or not. The delays and hazards are those of the MIPS R2000 architecture
 -- manual, made faults here.
-use Rattle.std.specs.Prelude.{ℕ, ◌+◌, ◌-◌, ◌*◌, ◌/◌, ◌%◌, Bool, true, false, ◌&&◌, ◌||◌, ◌==◌, nat_eq, nat_lt, if◌then◌else◌, Option, Some, None, is_some, Result, Ok, Err}
+use Rattle.std.specs.Prelude.{ℕ, ◌+◌, ◌-◌, ◌*◌, ◌/◌, ◌%◌, Bool, true, false, ◌&&◌, ◌||◌, ◌==◌, nat_eq, nat_lt}
+use Rattle.std.specs.Prelude.{if◌then◌else◌, Option, Some, None, is_some, Result, Ok, Err}
 use Rattle.std.specs.Fn.{iterate}
 use Rattle.word32.specs.Words.{wrap, widened_half}
 use Rattle.word32.specs.Parts.{is_aligned, loaded_part}
@@ -20,7 +21,9 @@ use Rattle.history.specs.Events.{End, Ended, ReadFault, Fault}
 use Rattle.mips_encoder.specs.Decoded.{instr_of}
 use Rattle.mips_encoder.specs.declared.instruction.Instr.{Instr}
 use Rattle.mips_model.specs.State.{Code, Data, State, World, set_register}
-use Rattle.mips_model.specs.Accesses.{Effect, Plain, Loads, Changes, ReadsText, ReadsArena, StoresText, Branches, BranchesLinking, Jumps, JumpsLinking, Goes, GoesLinking, Ends, Faults, InputFails, arena_word}
+use Rattle.mips_model.specs.Accesses.{Effect, Plain, Loads, Changes, ReadsText, ReadsArena, StoresText, Branches}
+use Rattle.mips_model.specs.Accesses.{BranchesLinking, Jumps, JumpsLinking, Goes, GoesLinking, Ends, Faults, InputFails}
+use Rattle.mips_model.specs.Accesses.{arena_word}
 use Rattle.mips_model.specs.Effects.{effect, touches, jumps, reads_hilo, sets_hilo}
 
 -- What is found at an address: an instruction, or why none is executed there.

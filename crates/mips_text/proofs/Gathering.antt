@@ -1,5 +1,7 @@
 -- What the lines of a text give, one after another, and what stays true of it.
-use Rattle.std.proofs.Common.{rules, inl, inr, get_or, ◌≡◌, ℕ, ◌+◌, ◌<◌, ◌≤◌, ◌≢◌, Bool, true, false, ◌&&◌, cond, IsTrue, List, [], ◌∷◌, ◌++◌, length, Option, Some, None, unwrap_or, Result, Ok, Err, refl, sym, ap, ◌∙◌, arith, subst, append_assoc}
+use Rattle.std.proofs.Common.{rules, inl, inr, get_or, ◌≡◌, ℕ, ◌+◌, ◌<◌, ◌≤◌, ◌≢◌, Bool, true, false, ◌&&◌, cond}
+use Rattle.std.proofs.Common.{IsTrue, List, [], ◌∷◌, ◌++◌, length, Option, Some, None, unwrap_or, Result, Ok, Err, refl}
+use Rattle.std.proofs.Common.{sym, ap, ◌∙◌, arith, subst, append_assoc}
 use Rattle.std.specs.Option.{option_or}
 use Rattle.std.specs.List.{flat_map, list_all}
 use Rattle.std.proofs.lemmas.Bool.{ne_eqb, cases_lt}
@@ -33,7 +35,8 @@ before_ok g line i (Err f) = refl
 
 pub next_item : (k : Known) (g : Gathered) (p : Position) (rest line more : List ℕ) (i : Item) →
     lines rest ≡ line ∷ lines more → given k p (first_of p line) ≡ Ok i →
-    gathered (with g i) (collected k (rest_of (behind p (first_of p line)) more)) ≡ gathered g (collected k (rest_of p rest))
+    gathered (with g i) (collected k (rest_of (behind p (first_of p line)) more)) ≡ gathered g
+    (collected k (rest_of p rest))
 next_item k g p rest line more i e here =
     let later = collected k (rest_of (behind p (first_of p line)) more) in
     sym (before_ok g p.line i later)
@@ -69,9 +72,12 @@ with_parts g is = record {
 parts_nil : (g : Gathered) → g ≡ with_parts g []
 parts_nil g =
     ap (λ e. record { entry = e; text = g.text; bytes = g.bytes; functions = g.functions }) (sym (or_none g.entry))
-    ∙ ap (λ t. record { entry = option_or g.entry None; text = t; bytes = g.bytes; functions = g.functions }) (sym (append-nil g.text))
-    ∙ ap (λ b. record { entry = option_or g.entry None; text = g.text ++ []; bytes = b; functions = g.functions }) (sym (append-nil g.bytes))
-    ∙ ap (λ f. record { entry = option_or g.entry None; text = g.text ++ []; bytes = g.bytes ++ []; functions = f }) (sym (append-nil g.functions))
+    ∙ ap (λ t. record { entry = option_or g.entry None; text = t; bytes = g.bytes; functions = g.functions })
+    (sym (append-nil g.text))
+    ∙ ap (λ b. record { entry = option_or g.entry None; text = g.text ++ []; bytes = b; functions = g.functions })
+    (sym (append-nil g.bytes))
+    ∙ ap (λ f. record { entry = option_or g.entry None; text = g.text ++ []; bytes = g.bytes ++ []; functions = f })
+    (sym (append-nil g.functions))
 
 parts_cons : (g : Gathered) (i : Item) (is : List Item) → with_parts (with g i) is ≡ with_parts g (i ∷ is)
 parts_cons g i is =
@@ -145,7 +151,8 @@ good_functions words p (item.Function f) good = all_and (is_function_in words f)
 good_functions words p (item.Data d) good = refl
 good_functions words p (item.Word w) good = refl
 
-functions_stay : (words : ℕ) (p : Position) (g : Gathered) (i : Item) → IsTrue (list_all (is_function_in words) g.functions) →
+functions_stay : (words : ℕ) (p : Position) (g : Gathered) (i : Item) →
+    IsTrue (list_all (is_function_in words) g.functions) →
     IsGood words p i → IsTrue (list_all (is_function_in words) (g.functions ++ functions_of i))
 functions_stay words p g i h good =
     subst IsTrue (sym (list_all-append (is_function_in words) g.functions (functions_of i)))
@@ -189,7 +196,8 @@ counted_digits n p (Some l) h = digits_if n (p.entered && is_entry l.statement) 
 
 -- ---- an image of it
 
-entry_good : (words : ℕ) (o : Option ℕ) → 0 < words → IsEntry words o → IsTrue (is_in_text words (unwrap_or o 0x00400000))
+entry_good : (words : ℕ) (o : Option ℕ) → 0 < words → IsEntry words o →
+    IsTrue (is_in_text words (unwrap_or o 0x00400000))
 entry_good words (Some a) some h = h
 entry_good words None some h = search rules
 
@@ -197,7 +205,8 @@ pub entries_good : (words : ℕ) (o : Option ℕ) (fs : List FunctionEntry) → 
     IsTrue (list_all (is_function_in words) fs) →
     IsTrue (is_in_text words (unwrap_or o 0x00400000) && list_all (is_function_in words) fs)
 entries_good words o fs some h all =
-    all_and (is_in_text words (unwrap_or o 0x00400000)) (list_all (is_function_in words) fs) (entry_good words o some h) all
+    all_and (is_in_text words (unwrap_or o 0x00400000)) (list_all (is_function_in words) fs) (entry_good words o some h)
+    all
 
 -- A text with words, of which something was gathered from all lines.
 pub assembled_ok : (ps : List Placed) (n : ℕ) (k : Known) (g : Gathered) → n ≢ 0 → n ≡ k.words → k ≡ known ps →
@@ -205,11 +214,13 @@ pub assembled_ok : (ps : List Placed) (n : ℕ) (k : Known) (g : Gathered) → n
 assembled_ok ps n k g some is e gives =
     let count : words ps ≡ k.words = ap (λ k. k.words) (sym e) in
     let not_none : words ps ≢ 0 = λ z. some (is ∙ sym count ∙ z) in
-    ap (λ t. cond t (Err (record { kind = BadLine; line = 1 })) (image_by (collected (known ps) ps))) (ne_eqb (words ps) 0 not_none)
+    ap (λ t. cond t (Err (record { kind = BadLine; line = 1 })) (image_by (collected (known ps) ps)))
+    (ne_eqb (words ps) 0 not_none)
     ∙ image_ok (collected (known ps) ps) g (ap (λ k. gathered none (collected k ps)) (sym e) ∙ gives)
 
 -- Numbers that are below a limit at each place of a list are so behind its end too, where they are 0.
-pub each_fits : (xs : List ℕ) (n : ℕ) → 0 < n → ((k : ℕ) → k < length xs → get_or xs k 0 < n) → (k : ℕ) → get_or xs k 0 < n
+pub each_fits : (xs : List ℕ) (n : ℕ) → 0 < n → ((k : ℕ) → k < length xs → get_or xs k 0 < n) → (k : ℕ) →
+    get_or xs k 0 < n
 each_fits xs n some h k =
     elim (cases_lt k (length xs)) [
       | inl lt ↦ h k lt

@@ -1,5 +1,6 @@
 -- The labels as a list of names and as a map, and what is found after one more.
-use Rattle.std.proofs.Common.{◌≡◌, ℕ, Bool, true, false, cond, List, [], ◌∷◌, ◌++◌, map, Option, Some, None, is_some, refl, ap, sym, ◌∙◌, Vec, Global}
+use Rattle.std.proofs.Common.{◌≡◌, ℕ, Bool, true, false, cond, List, [], ◌∷◌, ◌++◌, map, Option, Some, None, is_some}
+use Rattle.std.proofs.Common.{refl, ap, sym, ◌∙◌, Vec, Global}
 use mathlib.Core.Path.{fun_ext}
 use Rattle.std.specs.Str.{bytes_eq}
 use Rattle.std.specs.Map.{lookup}
@@ -11,7 +12,8 @@ use Rattle.mips_text.specs.Labels.{Names, find}
 abbrev pub entries : List (Vec ℕ Global × LabelPlace) → Names
 entries es = map (λ e. (e.0.items, e.1)) es
 
-pub found : (es : List (Vec ℕ Global × LabelPlace)) (name : List ℕ) → lookup (λ k. bytes_eq name k.items) es ≡ find (entries es) name
+pub found : (es : List (Vec ℕ Global × LabelPlace)) (name : List ℕ) →
+    lookup (λ k. bytes_eq name k.items) es ≡ find (entries es) name
 found [] name = refl
 found (e ∷ es) name = ap (λ o. cond (bytes_eq name e.0.items) (Some e.1) o) (found es name)
 
@@ -19,7 +21,8 @@ pub none_of : (o : Option LabelPlace) → is_some o ≡ false → o ≡ None
 none_of None h = refl
 none_of (Some x) h = cc
 
-pub entries_more : (es : List (Vec ℕ Global × LabelPlace)) (e : Vec ℕ Global × LabelPlace) → entries (es ++ e ∷ []) ≡ entries es ++ (e.0.items, e.1) ∷ []
+pub entries_more : (es : List (Vec ℕ Global × LabelPlace)) (e : Vec ℕ Global × LabelPlace) →
+    entries (es ++ e ∷ []) ≡ entries es ++ (e.0.items, e.1) ∷ []
 entries_more [] e = refl
 entries_more (x ∷ es) e = ap (λ l. (x.0.items, x.1) ∷ l) (entries_more es e)
 
@@ -39,7 +42,8 @@ find_append (x ∷ xs) ys name =
 -- Names that find the same find the same with more behind them.
 pub find_same : (xs ys zs : Names) → find xs ≡ find ys → find (xs ++ zs) ≡ find (ys ++ zs)
 find_same xs ys zs e =
-    fun_ext (λ name. find_append xs zs name ∙ ap (λ f. option_or (f name) (find zs name)) e ∙ sym (find_append ys zs name))
+    fun_ext (λ name. find_append xs zs name ∙ ap (λ f. option_or (f name) (find zs name)) e ∙
+    sym (find_append ys zs name))
 
 some_or : (o p : Option LabelPlace) → is_some o ≡ true → o ≡ option_or o p
 some_or None p h = cc

@@ -55,7 +55,8 @@ image_by (Ok is) = Ok (image is)
 image_by (Err f) = Err f
 
 abbrev pub assembled_in : List Placed → Result ImageParts AsmFault
-assembled_in ps = if words ps == 0 then Err (record { kind = BadLine; line = 1 }) else image_by (collected (known ps) ps)
+assembled_in ps = if words ps == 0 then Err (record { kind = BadLine; line = 1 }) else
+    image_by (collected (known ps) ps)
 
 -- The image that a text is, or its first fault.
 unfoldable pub assembled : List ℕ → Result ImageParts AsmFault

@@ -1,5 +1,6 @@
 -- An instruction, written with its operands as numbers, is this instruction again.
-use Rattle.std.proofs.Common.{◌≡◌, ℕ, ◌*◌, ◌/◌, ◌%◌, ◌<◌, ◌==◌, true, ◌&&◌, nat_lt, cond, Some, None, Ok, refl, ap, ◌∙◌, arith, lt-ltb}
+use Rattle.std.proofs.Common.{◌≡◌, ℕ, ◌*◌, ◌/◌, ◌%◌, ◌<◌, ◌==◌, true, ◌&&◌, nat_lt, cond, Some, None, Ok, refl, ap, ◌∙◌}
+use Rattle.std.proofs.Common.{arith, lt-ltb}
 use Rattle.std.proofs.lemmas.Bool.{ne_eqb}
 use Rattle.mips_encoder.specs.declared.instruction.Instr.{Instr}
 use Rattle.mips_encoder.specs.declared.instruction.Instr.TheVariants as instr
@@ -66,26 +67,34 @@ index_again n h =
 pub again : (find : Find) (at : ℕ) (i : Instr) → Fits i → instruction_of find at (draft_of i) ≡ Ok i
 unfolding instruction_of
 again find at (instr.Arithmetic op rd rs rt) h = refl
-again find at (instr.Shift op rd rt shamt) h = ap (λ r. r >>= (λ n. pure (instr.Shift op rd rt n))) (below_fits 32 shamt h.2)
+again find at (instr.Shift op rd rt shamt) h =
+    ap (λ r. r >>= (λ n. pure (instr.Shift op rd rt n))) (below_fits 32 shamt h.2)
 again find at (instr.ShiftVariable op rd rt rs) h = refl
 again find at (instr.JumpRegister rs) h = refl
 again find at (instr.JumpAndLinkRegister p) h =
-    ap (λ t. fitting (cond t None (Some (record { rd = p.rd; rs = p.rs }))) >>= (λ r. pure (instr.JumpAndLinkRegister r)))
+    ap (λ t. fitting (cond t None (Some (record { rd = p.rd; rs = p.rs }))) >>=
+    (λ r. pure (instr.JumpAndLinkRegister r)))
     (ne_eqb p.rd p.rs h.2)
 again find at instr.Syscall h = refl
 again find at (instr.Break code) h = ap (λ r. r >>= (λ n. pure (instr.Break n))) (below_fits 1048576 code h)
 again find at (instr.MoveFrom source rd) h = refl
 again find at (instr.MoveTo to rs) h = refl
 again find at (instr.MultiplyDivide op rs rt) h = refl
-again find at (instr.BranchOnSign test rs offset) h = ap (λ r. r >>= (λ n. pure (instr.BranchOnSign test rs n))) (signed_fits offset h.1)
+again find at (instr.BranchOnSign test rs offset) h =
+    ap (λ r. r >>= (λ n. pure (instr.BranchOnSign test rs n))) (signed_fits offset h.1)
 again find at (instr.BranchOnSignAndLink test rs offset) h =
-    ap (λ t. fitting (cond t (Some rs) None) >>= (λ s. signed (half offset) >>= (λ n. pure (instr.BranchOnSignAndLink test s n)))) (lt-ltb rs 31 h.0)
+    ap (λ t. fitting (cond t (Some rs) None) >>=
+    (λ s. signed (half offset) >>= (λ n. pure (instr.BranchOnSignAndLink test s n)))) (lt-ltb rs 31 h.0)
     ∙ ap (λ r. r >>= (λ n. pure (instr.BranchOnSignAndLink test rs n))) (signed_fits offset h.1)
 again find at (instr.Jump op index) h =
     ap (λ o. fitting o >>= (λ n. pure (instr.Jump op n))) (index_again index h)
-again find at (instr.BranchOnEquality op rs rt offset) h = ap (λ r. r >>= (λ n. pure (instr.BranchOnEquality op rs rt n))) (signed_fits offset h.2)
-again find at (instr.BranchOnZero op rs offset) h = ap (λ r. r >>= (λ n. pure (instr.BranchOnZero op rs n))) (signed_fits offset h.1)
+again find at (instr.BranchOnEquality op rs rt offset) h =
+    ap (λ r. r >>= (λ n. pure (instr.BranchOnEquality op rs rt n))) (signed_fits offset h.2)
+again find at (instr.BranchOnZero op rs offset) h =
+    ap (λ r. r >>= (λ n. pure (instr.BranchOnZero op rs n))) (signed_fits offset h.1)
 again find at (instr.ImmediateArithmetic op rt rs imm) h =
     ap (λ r. r >>= (λ n. pure (instr.ImmediateArithmetic op rt rs n))) (immediate_fits op imm h.2)
-again find at (instr.LoadUpperImmediate rt imm) h = ap (λ r. r >>= (λ n. pure (instr.LoadUpperImmediate rt n))) (below_fits 65536 imm h.1)
-again find at (instr.Memory op rt offset rs) h = ap (λ r. r >>= (λ n. pure (instr.Memory op rt n rs))) (signed_fits offset h.1)
+again find at (instr.LoadUpperImmediate rt imm) h =
+    ap (λ r. r >>= (λ n. pure (instr.LoadUpperImmediate rt n))) (below_fits 65536 imm h.1)
+again find at (instr.Memory op rt offset rs) h =
+    ap (λ r. r >>= (λ n. pure (instr.Memory op rt n rs))) (signed_fits offset h.1)

@@ -1,5 +1,6 @@
 -- What lines without labels give.
-use Rattle.std.proofs.Common.{◌≡◌, ◌+◌, Bool, true, false, ◌&&◌, cond, List, [], ◌∷◌, ◌++◌, map, Option, None, Ok, refl, sym, ap, ◌∙◌}
+use Rattle.std.proofs.Common.{◌≡◌, ◌+◌, Bool, true, false, ◌&&◌, cond, List, [], ◌∷◌, ◌++◌, map, Option, None, Ok, refl}
+use Rattle.std.proofs.Common.{sym, ap, ◌∙◌}
 use Rattle.std.specs.List.{count_by}
 use Rattle.std.proofs.lemmas.List.Sums.{sum_by-cons}
 use Rattle.asm_lines.specs.declared.line.Line.{Line}
@@ -50,12 +51,14 @@ gives_more k s ss i is e here rest = record {
 }
 
 -- A statement for each item of a list, before others.
-pub gives_all : {X : Type 0} (k : Known) (f : X → Statement) (g : X → Item) (xs : List X) (ss : List Statement) (is : List Item) →
+pub gives_all : {X : Type 0} (k : Known) (f : X → Statement) (g : X → Item) (xs : List X) (ss : List Statement)
+    (is : List Item) →
     ((x : X) → is_entry (f x) ≡ false) → ((x : X) (p : Position) → item_of k p (f x) ≡ Ok (g x)) → Gives k ss is →
     Gives k (map f xs ++ ss) (map g xs ++ is)
 gives_all k f g [] ss is free each rest = rest
 gives_all k f g (x ∷ xs) ss is free each rest =
-    gives_more k (f x) (map f xs ++ ss) (g x) (map g xs ++ is) (free x) (each x) (gives_all k f g xs ss is free each rest)
+    gives_more k (f x) (map f xs ++ ss) (g x) (map g xs ++ is) (free x) (each x)
+    (gives_all k f g xs ss is free each rest)
 
 -- ---- labels and words
 
@@ -76,10 +79,12 @@ NoEntry [] = Unit {0}
 NoEntry (s ∷ ss) = (is_entry s ≡ false) × NoEntry ss
 
 -- The words of statements are counted one by one.
-pub words_plain : (p : Position) (ss : List Statement) → NoEntry ss → words (placed p (map plain ss)) ≡ count_by is_word ss
+pub words_plain : (p : Position) (ss : List Statement) → NoEntry ss →
+    words (placed p (map plain ss)) ≡ count_by is_word ss
 words_plain p [] h = refl
 words_plain p (s ∷ ss) h =
     ap words (placed_plain p s (map plain ss) h.0)
-    ∙ sum_by-cons (λ q. cond (gives_word_in q.line) 1 0) (record { at = p; line = plain s }) (placed (behind p (plain s)) (map plain ss))
+    ∙ sum_by-cons (λ q. cond (gives_word_in q.line) 1 0) (record { at = p; line = plain s })
+    (placed (behind p (plain s)) (map plain ss))
     ∙ ap (λ n. cond (is_word s) 1 0 + n) (words_plain (behind p (plain s)) ss h.1)
     ∙ sym (sum_by-cons (λ s. cond (is_word s) 1 0) s ss)

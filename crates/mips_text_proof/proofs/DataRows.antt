@@ -1,5 +1,6 @@
 -- A line of data, what it says and the bytes that it gives.
-use Rattle.std.proofs.Common.{◌≡◌, ℕ, ◌+◌, ◌*◌, ◌/◌, ◌%◌, ◌<◌, ◌==◌, Bool, true, false, ◌&&◌, nat_lt, cond, List, [], ◌∷◌, ◌++◌, length, None, refl, ap, ◌∙◌, arith, codes, lt-ltb}
+use Rattle.std.proofs.Common.{◌≡◌, ℕ, ◌+◌, ◌*◌, ◌/◌, ◌%◌, ◌<◌, ◌==◌, Bool, true, false, ◌&&◌, nat_lt, cond, List, []}
+use Rattle.std.proofs.Common.{◌∷◌, ◌++◌, length, None, refl, ap, ◌∙◌, arith, codes, lt-ltb}
 use Rattle.std.specs.Char.{is_ascii_hexdigit}
 use Rattle.std.specs.List.{list_all, flat_map}
 use Rattle.asm_print.specs.Numbers.{hex_digit, hex_byte}
@@ -25,12 +26,16 @@ both false b g h = g
 hexes_all : (c : List ℕ) → list_all is_ascii_hexdigit (hexes c) ≡ true
 hexes_all [] = refl
 hexes_all (b ∷ c) =
-    both (is_ascii_hexdigit (hex_digit (b / 16 % 16))) (is_ascii_hexdigit (hex_digit (b % 16)) && list_all is_ascii_hexdigit (hexes c)) (hex_test (b / 16 % 16) (omega arith))
-    (both (is_ascii_hexdigit (hex_digit (b % 16))) (list_all is_ascii_hexdigit (hexes c)) (hex_test (b % 16) (omega arith)) (hexes_all c))
+    both (is_ascii_hexdigit (hex_digit (b / 16 % 16)))
+    (is_ascii_hexdigit (hex_digit (b % 16)) && list_all is_ascii_hexdigit (hexes c))
+    (hex_test (b / 16 % 16) (omega arith))
+    (both (is_ascii_hexdigit (hex_digit (b % 16))) (list_all is_ascii_hexdigit (hexes c))
+    (hex_test (b % 16) (omega arith)) (hexes_all c))
 
 pub wordy_hexes : (c : List ℕ) → Wordy (hexes c)
 wordy_hexes [] = wordy_nothing
-wordy_hexes (b ∷ c) = wordy_hex (b / 16 % 16) (hex_digit (b % 16) ∷ hexes c) (wordy_hex (b % 16) (hexes c) (wordy_hexes c))
+wordy_hexes (b ∷ c) = wordy_hex (b / 16 % 16) (hex_digit (b % 16) ∷ hexes c)
+    (wordy_hex (b % 16) (hexes c) (wordy_hexes c))
 
 pub length_hexes : (c : List ℕ) → length (hexes c) ≡ 2 * length c
 length_hexes [] = omega arith
@@ -47,7 +52,8 @@ bytes_again (b ∷ c) h =
     let v1 = hex_value (b / 16 % 16) (omega arith) in
     let v2 = hex_value (b % 16) (omega arith) in
     let small : b < 256 = h.0 in
-    let e : digit_value (hex_digit (b / 16 % 16)) * 16 + digit_value (hex_digit (b % 16)) ≡ b = omega (arith, v1, v2, small) in
+    let e : digit_value (hex_digit (b / 16 % 16)) * 16 + digit_value (hex_digit (b % 16)) ≡ b =
+    omega (arith, v1, v2, small) in
     ap (λ x. x ∷ bytes_of (hexes c)) e ∙ ap (λ z. b ∷ z) (bytes_again c h.1)
 
 pairs : (c : List ℕ) → 0 < length c → are_pairs (hexes c) ≡ true
@@ -56,7 +62,8 @@ pairs c some =
     let long : 0 < length (hexes c) = omega (arith, len, some) in
     let even : length (hexes c) % 2 ≡ 0 = omega (arith, len) in
     both (are_digits Hexadecimal (hexes c)) (length (hexes c) % 2 == 0)
-    (both (nat_lt 0 (length (hexes c))) (list_all is_ascii_hexdigit (hexes c)) (lt-ltb 0 (length (hexes c)) long) (hexes_all c))
+    (both (nat_lt 0 (length (hexes c))) (list_all is_ascii_hexdigit (hexes c)) (lt-ltb 0 (length (hexes c)) long)
+    (hexes_all c))
     (ap (λ m. m == 0) even)
 
 data_pieces : (z : List ℕ) → pieces (codes ".data " ++ z) ≡ piece.Word (codes ".data") ∷ pieces z
@@ -68,5 +75,6 @@ unfolding line_of statement_of
 data_row c some =
     let len = length_hexes c in
     let long : 0 < length (hexes c) = omega (arith, len, some) in
-    ap line_in (data_pieces (hexes c) ∙ ap (λ ps. piece.Word (codes ".data") ∷ ps) (one_word (hexes c) (wordy_hexes c) long))
+    ap line_in (data_pieces (hexes c) ∙
+    ap (λ ps. piece.Word (codes ".data") ∷ ps) (one_word (hexes c) (wordy_hexes c) long))
     ∙ ap (λ t. cond t (pure (statement.Data (hexes c))) None >>= (λ s. plain s)) (pairs c some)

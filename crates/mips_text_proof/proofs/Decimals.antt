@@ -1,5 +1,6 @@
 -- Decimal numbers, as they are written and read.
-use Rattle.std.proofs.Common.{◌≡◌, ℕ, ◌+◌, ◌*◌, ◌-◌, ◌<◌, ◌≤◌, ◌^◌, ◌==◌, Bool, true, false, ◌&&◌, nat_lt, cond, List, [], ◌∷◌, length, drop, Option, Some, None, refl, ap, ◌∙◌, arith, lt-ltb}
+use Rattle.std.proofs.Common.{◌≡◌, ℕ, ◌+◌, ◌*◌, ◌-◌, ◌<◌, ◌≤◌, ◌^◌, ◌==◌, Bool, true, false, ◌&&◌, nat_lt, cond, List}
+use Rattle.std.proofs.Common.{[], ◌∷◌, length, drop, Option, Some, None, refl, ap, ◌∙◌, arith, lt-ltb}
 use Rattle.std.specs.Prelude.{decimal, slice_index}
 use Rattle.std.specs.Char.{is_ascii_digit}
 use Rattle.std.specs.Char.{digit_value as std_value}
@@ -65,7 +66,8 @@ number_digits (c ∷ cs) h small =
     let low : 48 ≤ c = r.0 in
     let w : List ℕ = c ∷ cs in
     let no_minus : c == 45 ≡ false = ne_eqb c 45 (λ e. omega (arith, e, low)) in
-    let digits : are_digits Decimal w ≡ true = both (nat_lt 0 (length w)) (list_all is_ascii_digit w) (lt-ltb 0 (length w) h.0) (all_digits w h.1) in
+    let digits : are_digits Decimal w ≡ true =
+    both (nat_lt 0 (length w)) (list_all is_ascii_digit w) (lt-ltb 0 (length w) h.0) (all_digits w h.1) in
     let minus : Option Number = number_in true Decimal cs in
     let prefixed : Option Number = number_in false Hexadecimal (drop 2 w) in
     let plain : Option Number = number_in false Decimal w in
@@ -75,7 +77,8 @@ number_digits (c ∷ cs) h small =
     ∙ ap (λ n. Some (record { negative = false; magnitude = fitting n })) (same_value 0 w h.1)
     ∙ ap (λ m. Some (record { negative = false; magnitude = m })) (fits (parse.digits_value 10 w) small)
 
-pub number_decimal : (n : ℕ) → n < 4294967296 → number_of (decimal n) ≡ Some (record { negative = false; magnitude = Some n })
+pub number_decimal : (n : ℕ) → n < 4294967296 →
+    number_of (decimal n) ≡ Some (record { negative = false; magnitude = Some n })
 number_decimal n h =
     let wide : n < 2 ^ 64 = omega arith in
     let d = decimal_is_IsNumeral n wide in
@@ -84,7 +87,8 @@ number_decimal n h =
     ∙ ap (λ m. Some (record { negative = false; magnitude = Some m })) d.1
 
 -- Behind a minus they are a negative number.
-pub negative_decimal : (n : ℕ) → n < 4294967296 → number_of (45 ∷ decimal n) ≡ Some (record { negative = true; magnitude = Some n })
+pub negative_decimal : (n : ℕ) → n < 4294967296 →
+    number_of (45 ∷ decimal n) ≡ Some (record { negative = true; magnitude = Some n })
 unfolding number_of
 negative_decimal n h =
     let wide : n < 2 ^ 64 = omega arith in

@@ -1,5 +1,6 @@
 -- Lines one after another.
-use Rattle.std.proofs.Common.{◌≡◌, ℕ, Bool, true, false, not, ◌==◌, ◌&&◌, cond, List, [], ◌∷◌, ◌++◌, map, Option, Some, None, refl, sym, ap, ◌∙◌, append_assoc}
+use Rattle.std.proofs.Common.{◌≡◌, ℕ, Bool, true, false, not, ◌==◌, ◌&&◌, cond, List, [], ◌∷◌, ◌++◌, map, Option, Some}
+use Rattle.std.proofs.Common.{None, refl, sym, ap, ◌∙◌, append_assoc}
 use Rattle.std.proofs.lemmas.List.{append-nil}
 use Rattle.std.specs.List.{list_all, flat_map}
 use Rattle.asm_lines.specs.declared.line.Line.{Line}
@@ -27,7 +28,8 @@ not_true false h = refl
 pub lines_line : (l z : List ℕ) → list_all in_line l ≡ true → lines (l ++ 10 ∷ z) ≡ l ∷ lines z
 lines_line [] z h = refl
 lines_line (b ∷ l) z h =
-    ap (λ t. cond t ([] ∷ lines (l ++ 10 ∷ z)) (front b (lines (l ++ 10 ∷ z)))) (not_true (b == 10) (both_left (in_line b) (list_all in_line l) h))
+    ap (λ t. cond t ([] ∷ lines (l ++ 10 ∷ z)) (front b (lines (l ++ 10 ∷ z))))
+    (not_true (b == 10) (both_left (in_line b) (list_all in_line l) h))
     ∙ ap (front b) (lines_line l z (both_right (in_line b) (list_all in_line l) h))
 
 -- A line without a label.
@@ -41,7 +43,8 @@ pub record Says (t : List ℕ) (ss : List Statement) : Type 0 where
 pub says_nothing : Says [] []
 says_nothing = record { says = λ z. refl }
 
-pub says_line : (l : List ℕ) (s : Statement) → list_all in_line l ≡ true → line_of l ≡ plain s → Says (l ++ 10 ∷ []) (s ∷ [])
+pub says_line : (l : List ℕ) (s : Statement) → list_all in_line l ≡ true → line_of l ≡ plain s →
+    Says (l ++ 10 ∷ []) (s ∷ [])
 says_line l s h e = record {
   says = λ z.
       ap (λ t. map line_of (lines t)) (append_assoc l (10 ∷ []) z)

@@ -1,5 +1,6 @@
 -- Words in hexadecimal, as they are written and read.
-use Rattle.std.proofs.Common.{◌≡◌, ℕ, ◌+◌, ◌*◌, ◌/◌, ◌%◌, ◌<◌, Bool, true, false, ◌&&◌, cond, Some, None, refl, ap, ◌∙◌, arith}
+use Rattle.std.proofs.Common.{◌≡◌, ℕ, ◌+◌, ◌*◌, ◌/◌, ◌%◌, ◌<◌, Bool, true, false, ◌&&◌, cond, Some, None, refl, ap, ◌∙◌}
+use Rattle.std.proofs.Common.{arith}
 use Rattle.std.specs.Char.{is_ascii_hexdigit}
 use Rattle.std.specs.List.{list_all}
 use Rattle.std.proofs.lemmas.Bool.Decides.{nat_tests}
@@ -37,14 +38,22 @@ hex_all w =
 
 hex_number : (w : ℕ) → w < 4294967296 → value_of 16 0 (hex_word w) ≡ w
 hex_number w h =
-    let e1 : 0 * 16 + digit_value (hex_digit (w / 268435456 % 16)) ≡ w / 268435456 = next_digit 0 (w / 268435456 % 16) (w / 268435456) (omega arith) (omega arith) in
-    let e2 : w / 268435456 * 16 + digit_value (hex_digit (w / 16777216 % 16)) ≡ w / 16777216 = next_digit (w / 268435456) (w / 16777216 % 16) (w / 16777216) (omega arith) (omega arith) in
-    let e3 : w / 16777216 * 16 + digit_value (hex_digit (w / 1048576 % 16)) ≡ w / 1048576 = next_digit (w / 16777216) (w / 1048576 % 16) (w / 1048576) (omega arith) (omega arith) in
-    let e4 : w / 1048576 * 16 + digit_value (hex_digit (w / 65536 % 16)) ≡ w / 65536 = next_digit (w / 1048576) (w / 65536 % 16) (w / 65536) (omega arith) (omega arith) in
-    let e5 : w / 65536 * 16 + digit_value (hex_digit (w / 4096 % 16)) ≡ w / 4096 = next_digit (w / 65536) (w / 4096 % 16) (w / 4096) (omega arith) (omega arith) in
-    let e6 : w / 4096 * 16 + digit_value (hex_digit (w / 256 % 16)) ≡ w / 256 = next_digit (w / 4096) (w / 256 % 16) (w / 256) (omega arith) (omega arith) in
-    let e7 : w / 256 * 16 + digit_value (hex_digit (w / 16 % 16)) ≡ w / 16 = next_digit (w / 256) (w / 16 % 16) (w / 16) (omega arith) (omega arith) in
-    let e8 : w / 16 * 16 + digit_value (hex_digit (w % 16)) ≡ w = next_digit (w / 16) (w % 16) w (omega arith) (omega arith) in
+    let e1 : 0 * 16 + digit_value (hex_digit (w / 268435456 % 16)) ≡ w / 268435456 =
+    next_digit 0 (w / 268435456 % 16) (w / 268435456) (omega arith) (omega arith) in
+    let e2 : w / 268435456 * 16 + digit_value (hex_digit (w / 16777216 % 16)) ≡ w / 16777216 =
+    next_digit (w / 268435456) (w / 16777216 % 16) (w / 16777216) (omega arith) (omega arith) in
+    let e3 : w / 16777216 * 16 + digit_value (hex_digit (w / 1048576 % 16)) ≡ w / 1048576 =
+    next_digit (w / 16777216) (w / 1048576 % 16) (w / 1048576) (omega arith) (omega arith) in
+    let e4 : w / 1048576 * 16 + digit_value (hex_digit (w / 65536 % 16)) ≡ w / 65536 =
+    next_digit (w / 1048576) (w / 65536 % 16) (w / 65536) (omega arith) (omega arith) in
+    let e5 : w / 65536 * 16 + digit_value (hex_digit (w / 4096 % 16)) ≡ w / 4096 =
+    next_digit (w / 65536) (w / 4096 % 16) (w / 4096) (omega arith) (omega arith) in
+    let e6 : w / 4096 * 16 + digit_value (hex_digit (w / 256 % 16)) ≡ w / 256 =
+    next_digit (w / 4096) (w / 256 % 16) (w / 256) (omega arith) (omega arith) in
+    let e7 : w / 256 * 16 + digit_value (hex_digit (w / 16 % 16)) ≡ w / 16 =
+    next_digit (w / 256) (w / 16 % 16) (w / 16) (omega arith) (omega arith) in
+    let e8 : w / 16 * 16 + digit_value (hex_digit (w % 16)) ≡ w =
+    next_digit (w / 16) (w % 16) w (omega arith) (omega arith) in
     let d2 = digit_value (hex_digit (w / 16777216 % 16)) in
     let d3 = digit_value (hex_digit (w / 1048576 % 16)) in
     let d4 = digit_value (hex_digit (w / 65536 % 16)) in
@@ -61,9 +70,11 @@ hex_number w h =
     ∙ ap (λ n. n * 16 + d8) e7
     ∙ e8
 
-pub number_word : (w : ℕ) → w < 4294967296 → number_of (prefixed_word w) ≡ Some (record { negative = false; magnitude = Some w })
+pub number_word : (w : ℕ) → w < 4294967296 →
+    number_of (prefixed_word w) ≡ Some (record { negative = false; magnitude = Some w })
 unfolding number_of
 number_word w h =
-    ap (λ t. cond t (Some (record { negative = false; magnitude = fitting (value_of 16 0 (hex_word w)) })) None) (hex_all w)
+    ap (λ t. cond t (Some (record { negative = false; magnitude = fitting (value_of 16 0 (hex_word w)) })) None)
+    (hex_all w)
     ∙ ap (λ n. Some (record { negative = false; magnitude = fitting n })) (hex_number w h)
     ∙ ap (λ m. Some (record { negative = false; magnitude = m })) (fits w h)

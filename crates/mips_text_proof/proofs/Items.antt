@@ -37,7 +37,8 @@ none_of : {X A : Type 0} (h : Item → List A) (g : X → Item) (xs : List X) (i
 none_of h g [] is e = refl
 none_of h g (x ∷ xs) is e = ap (λ l. l ++ flat_map h (map g xs ++ is)) (e x) ∙ none_of h g xs is e
 
-none_last : {X A : Type 0} (h : Item → List A) (g : X → Item) (xs : List X) → ((x : X) → h (g x) ≡ []) → flat_map h (map g xs) ≡ []
+none_last : {X A : Type 0} (h : Item → List A) (g : X → Item) (xs : List X) → ((x : X) → h (g x) ≡ []) →
+    flat_map h (map g xs) ≡ []
 none_last h g [] e = refl
 none_last h g (x ∷ xs) e = ap (λ l. l ++ flat_map h (map g xs)) (e x) ∙ none_last h g xs e
 
@@ -50,7 +51,8 @@ functions_again : (fs : List FunctionEntry) (is : List Item) → flat_map functi
 functions_again [] is e = e
 functions_again (f ∷ fs) is e = ap (λ l. f ∷ l) (functions_again fs is e)
 
-data_each : (bs ks : List ℕ) (is : List Item) → ((k : ℕ) → bytes_of (hexes (chunk_at bs k)) ≡ chunk_at bs k) → flat_map data_of is ≡ [] →
+data_each : (bs ks : List ℕ) (is : List Item) → ((k : ℕ) → bytes_of (hexes (chunk_at bs k)) ≡ chunk_at bs k) →
+    flat_map data_of is ≡ [] →
     flat_map data_of (map (data_item bs) ks ++ is) ≡ flat_map (chunk_at bs) ks
 data_each bs [] is again e = e
 data_each bs (k ∷ ks) is again e =
@@ -91,16 +93,19 @@ image_again i h =
 gives_words : (k : Known) (ws : List ℕ) → Gives k (map word_statement ws) (map item.Word ws)
 gives_words k [] = gives_nothing k
 gives_words k (w ∷ ws) =
-    gives_more k (word_statement w) (map word_statement ws) (item.Word w) (map item.Word ws) (word_no_entry w) (λ p. gives_word k p w) (gives_words k ws)
+    gives_more k (word_statement w) (map word_statement ws) (item.Word w) (map item.Word ws) (word_no_entry w)
+    (λ p. gives_word k p w) (gives_words k ws)
 
 pub gives_later : (k : Known) (i : ImageParts) → Gives k (later i) (later_items i)
 gives_later k i =
-    gives_all k (data_statement i.bytes) (data_item i.bytes) (places i.bytes) (map word_statement i.text) (map item.Word i.text)
+    gives_all k (data_statement i.bytes) (data_item i.bytes) (places i.bytes) (map word_statement i.text)
+    (map item.Word i.text)
     (λ k. refl) (λ k p. refl) (gives_words k i.text)
 
 -- ---- no entry, and as many words as the text has
 
-no_entries : {X : Type 0} (f : X → Statement) (xs : List X) (ss : List Statement) → ((x : X) → is_entry (f x) ≡ false) → NoEntry ss →
+no_entries : {X : Type 0} (f : X → Statement) (xs : List X) (ss : List Statement) → ((x : X) → is_entry (f x) ≡ false) →
+    NoEntry ss →
     NoEntry (map f xs ++ ss)
 no_entries f [] ss free h = h
 no_entries f (x ∷ xs) ss free h = (free x, no_entries f xs ss free h)
@@ -112,7 +117,8 @@ no_entries_words (w ∷ ws) = (word_no_entry w, no_entries_words ws)
 pub rest_no_entry : (i : ImageParts) → NoEntry (rest i)
 rest_no_entry i =
     no_entries function_statement i.functions (later i) (λ f. refl)
-    (no_entries (data_statement i.bytes) (places i.bytes) (map word_statement i.text) (λ k. refl) (no_entries_words i.text))
+    (no_entries (data_statement i.bytes) (places i.bytes) (map word_statement i.text) (λ k. refl)
+    (no_entries_words i.text))
 
 no_words : {X : Type 0} (f : X → Statement) (xs : List X) (ss : List Statement) → ((x : X) → is_word (f x) ≡ false) →
     count_by is_word (map f xs ++ ss) ≡ count_by is_word ss

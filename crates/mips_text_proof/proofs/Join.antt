@@ -29,8 +29,10 @@ knows i = known_by [] (length i.text)
 image_words_are : (i : ImageParts) → words (lines_at i) ≡ length i.text
 image_words_are i =
     let p : Position = behind start (plain (entry_statement i.entry)) in
-    let one = sum_by-cons (λ q. cond (gives_word_in q.line) 1 0) (record { at = start; line = plain (entry_statement i.entry) }) (placed p (map plain (rest i))) in
-    let more : words (placed p (map plain (rest i))) ≡ length i.text = words_plain p (rest i) (rest_no_entry i) ∙ rest_words i in
+    let one = sum_by-cons (λ q. cond (gives_word_in q.line) 1 0)
+    (record { at = start; line = plain (entry_statement i.entry) }) (placed p (map plain (rest i))) in
+    let more : words (placed p (map plain (rest i))) ≡ length i.text =
+    words_plain p (rest i) (rest_no_entry i) ∙ rest_words i in
     omega (arith, one, more)
 
 image_known : (i : ImageParts) → known (lines_at i) ≡ knows i
@@ -38,7 +40,8 @@ image_known i =
     ap (λ l. known_by l (words (lines_at i))) (labels_none start (entry_statement i.entry ∷ rest i))
     ∙ ap (λ n. known_by [] n) (image_words_are i)
 
-entry_again : (i : ImageParts) (p : Position) → IsImage i → given (knows i) p (plain (entry_statement i.entry)) ≡ Ok (item.Entry i.entry)
+entry_again : (i : ImageParts) (p : Position) → IsImage i →
+    given (knows i) p (plain (entry_statement i.entry)) ≡ Ok (item.Entry i.entry)
 unfolding given
 entry_again i p h =
     ap (λ r. r >>= (λ a. pure (item.Entry a)) >>= (λ i. Ok i)) (address_again (knows i) i.entry (entry_in i h))
@@ -49,14 +52,16 @@ image_collected i h =
     let few = h.functions_are_few in
     ap (λ r. before 1 r (collected (knows i) (placed p (map plain (rest i))))) (entry_again i start h)
     ∙ ap (before 1 (Ok (item.Entry i.entry)))
-    (gives_functions (knows i) i.functions (later i) (later_items i) p (omega (arith, few)) (image_functions i h) (gives_later (knows i) i))
+    (gives_functions (knows i) i.functions (later i) (later_items i) p (omega (arith, few)) (image_functions i h)
+    (gives_later (knows i) i))
 
 image_assembled : (i : ImageParts) → IsImage i → assembled_in (lines_at i) ≡ Ok i
 image_assembled i h =
     let n = image_words_are i in
     let some = (inside (length i.text) i.entry h.text_is_small (entry_in i h)).some in
     let nonzero : words (lines_at i) == 0 ≡ false = ne_eqb (words (lines_at i)) 0 (λ e. omega (arith, e, n, some)) in
-    ap (λ t. cond t (Err (record { kind = BadLine; line = 1 })) (image_by (collected (known (lines_at i)) (lines_at i)))) nonzero
+    ap (λ t. cond t (Err (record { kind = BadLine; line = 1 }))
+    (image_by (collected (known (lines_at i)) (lines_at i)))) nonzero
     ∙ ap (λ k. image_by (collected k (lines_at i))) (image_known i)
     ∙ ap image_by (image_collected i h)
     ∙ ap Ok (image_again i h)
@@ -64,5 +69,6 @@ image_assembled i h =
 pub text_reads_back : (i : ImageParts) → IsImage i → assembled (text_of i) ≡ Ok i
 unfolding assembled
 text_reads_back i h =
-    ap (λ ls. assembled_in (placed start ls)) (says_whole (text_of i) (entry_statement i.entry ∷ rest i) (says_image i h))
+    ap (λ ls. assembled_in (placed start ls))
+    (says_whole (text_of i) (entry_statement i.entry ∷ rest i) (says_image i h))
     ∙ image_assembled i h

@@ -22,7 +22,8 @@ use Rattle.asm_words.specs.declared.operation.Operation.TheVariants.{
   Memory,
   NoOperation,
 }
-use Rattle.mips_encoder.specs.declared.instruction.ArithmeticOp.TheVariants.{Add, Addu, Sub, Subu, And, Or, Xor, Nor, Slt, Sltu}
+use Rattle.mips_encoder.specs.declared.instruction.ArithmeticOp.TheVariants.{Add, Addu, Sub, Subu, And, Or, Xor, Nor}
+use Rattle.mips_encoder.specs.declared.instruction.ArithmeticOp.TheVariants.{Slt, Sltu}
 use Rattle.mips_encoder.specs.declared.instruction.ShiftOp.TheVariants.{Sll, Srl, Sra}
 use Rattle.mips_encoder.specs.declared.instruction.ShiftVariableOp.TheVariants.{Sllv, Srlv, Srav}
 use Rattle.mips_encoder.specs.declared.instruction.HiLo.TheVariants.{Hi, Lo}
@@ -152,7 +153,8 @@ some_name (Memory Sh) = omega arith
 some_name (Memory Sw) = omega arith
 some_name NoOperation = omega arith
 
-pub by_name : (op : Operation) (z : List Piece) → statement_by (operation_name op) z ≡ instruction (operation_of (operation_name op)) z
+pub by_name : (op : Operation) (z : List Piece) →
+    statement_by (operation_name op) z ≡ instruction (operation_of (operation_name op)) z
 by_name (Arithmetic Add) z = refl
 by_name (Arithmetic Addu) z = refl
 by_name (Arithmetic Sub) z = refl

@@ -1,5 +1,6 @@
 -- What the rules of images say of the parts one by one.
-use Rattle.std.proofs.Common.{◌≡◌, ℕ, ◌+◌, ◌*◌, ◌%◌, ◌<◌, ◌≤◌, ◌==◌, true, ◌&&◌, nat_lt, nat_le, List, [], ◌∷◌, length, ltb-true, leb-true, arith}
+use Rattle.std.proofs.Common.{◌≡◌, ℕ, ◌+◌, ◌*◌, ◌%◌, ◌<◌, ◌≤◌, ◌==◌, true, ◌&&◌, nat_lt, nat_le, List, [], ◌∷◌, length}
+use Rattle.std.proofs.Common.{ltb-true, leb-true, arith}
 use Rattle.std.specs.List.{list_all}
 use Rattle.image_file.specs.declared.image.FunctionEntry.{FunctionEntry}
 use Rattle.image_file.specs.Image.{ImageParts, IsImage, is_in_text, is_function_in}
@@ -15,8 +16,10 @@ pub inside : (words a : ℕ) → words ≤ 15728640 → is_in_text words a ≡ t
 inside words a small h =
     let bounds : (nat_le 4194304 a && nat_lt a (4194304 + 4 * words)) ≡ true =
     both_left (nat_le 4194304 a && nat_lt a (4194304 + 4 * words)) (a % 4 == 0) h in
-    let begin : 4194304 ≤ a = leb-true 4194304 a (both_left (nat_le 4194304 a) (nat_lt a (4194304 + 4 * words)) bounds) in
-    let end : a < 4194304 + 4 * words = ltb-true a (4194304 + 4 * words) (both_right (nat_le 4194304 a) (nat_lt a (4194304 + 4 * words)) bounds) in
+    let begin : 4194304 ≤ a =
+    leb-true 4194304 a (both_left (nat_le 4194304 a) (nat_lt a (4194304 + 4 * words)) bounds) in
+    let end : a < 4194304 + 4 * words =
+    ltb-true a (4194304 + 4 * words) (both_right (nat_le 4194304 a) (nat_lt a (4194304 + 4 * words)) bounds) in
     record { low = omega (arith, end, small); some = omega (arith, begin, end) }
 
 -- A function that is in the text, whose numbers are words.
@@ -29,7 +32,8 @@ function_in words f h =
     let few : f.count ≤ 8 = leb-true f.count 8 (both_right (is_in_text words f.address) (nat_le f.count 8) h) in
     record { inside = both_left (is_in_text words f.address) (nat_le f.count 8) h; few = omega (arith, few) }
 
-pub functions_in : (words : ℕ) (fs : List FunctionEntry) → list_all (is_function_in words) fs ≡ true → Each (IsFunction words) fs
+pub functions_in : (words : ℕ) (fs : List FunctionEntry) → list_all (is_function_in words) fs ≡ true →
+    Each (IsFunction words) fs
 functions_in words [] h = tt
 functions_in words (f ∷ fs) h = (
   function_in words f (both_left (is_function_in words f) (list_all (is_function_in words) fs) h),
@@ -41,17 +45,20 @@ written_in words f small h =
     let few = h.few in
     record { address = (inside words f.address small h.inside).low; count = omega (arith, few) }
 
-pub functions_written : (words : ℕ) (fs : List FunctionEntry) → words ≤ 15728640 → Each (IsFunction words) fs → Each (IsWritten words) fs
+pub functions_written : (words : ℕ) (fs : List FunctionEntry) → words ≤ 15728640 → Each (IsFunction words) fs →
+    Each (IsWritten words) fs
 functions_written words [] small h = tt
 functions_written words (f ∷ fs) small h = (written_in words f small h.0, functions_written words fs small h.1)
 
 pub entry_in : (i : ImageParts) → IsImage i → is_in_text (length i.text) i.entry ≡ true
-entry_in i h = both_left (is_in_text (length i.text) i.entry) (list_all (is_function_in (length i.text)) i.functions) h.entries_are_good
+entry_in i h = both_left (is_in_text (length i.text) i.entry) (list_all (is_function_in (length i.text)) i.functions)
+    h.entries_are_good
 
 pub image_functions : (i : ImageParts) → IsImage i → Each (IsFunction (length i.text)) i.functions
 image_functions i h =
     functions_in (length i.text) i.functions
-    (both_right (is_in_text (length i.text) i.entry) (list_all (is_function_in (length i.text)) i.functions) h.entries_are_good)
+    (both_right (is_in_text (length i.text) i.entry) (list_all (is_function_in (length i.text)) i.functions)
+    h.entries_are_good)
 
 pub image_words : (i : ImageParts) → IsImage i → Each (λ w. w < 4294967296) i.text
 image_words i h = each_from (λ w. w < 4294967296) i.text 0 (λ k lt. h.each_word_fits k)

@@ -1,5 +1,6 @@
 -- Registers, as they are written and read.
-use Rattle.std.proofs.Common.{◌≡◌, ℕ, ◌<◌, ◌==◌, Bool, true, false, List, ◌++◌, Option, Some, None, refl, ap, ◌∙◌, arith, codes, length, get_or, subst}
+use Rattle.std.proofs.Common.{◌≡◌, ℕ, ◌<◌, ◌==◌, Bool, true, false, List, ◌++◌, Option, Some, None, refl, ap, ◌∙◌}
+use Rattle.std.proofs.Common.{arith, codes, length, get_or, subst}
 use Rattle.std.specs.Prelude.{decimal}
 use Rattle.std.specs.Fmt.{digits}
 use Rattle.std.specs.List.{list_all, range_with_len}
@@ -17,7 +18,8 @@ all_read : list_all (λ n. is_read n (register_of (codes "$" ++ decimal n))) (ra
 unfolding register_of digits
 all_read = refl
 
-read_at : (xs : List ℕ) (k : ℕ) → list_all (λ n. is_read n (register_of (codes "$" ++ decimal n))) xs ≡ true → k < length xs →
+read_at : (xs : List ℕ) (k : ℕ) → list_all (λ n. is_read n (register_of (codes "$" ++ decimal n))) xs ≡ true →
+    k < length xs →
     is_read (get_or xs k 0) (register_of (codes "$" ++ decimal (get_or xs k 0))) ≡ true
 read_at xs k h lt = AllPass-from_list_all (λ n. is_read n (register_of (codes "$" ++ decimal n))) xs h k 0 lt
 
@@ -32,4 +34,5 @@ register_again n h =
     let inside : n < length (range_with_len 0 32) = omega arith in
     let item : get_or (range_with_len 0 32) n 0 ≡ n = get_or-range_with_len 0 32 n 0 h ∙ (omega arith) in
     read_is n (register_of (codes "$" ++ decimal n))
-    (subst (λ m. is_read m (register_of (codes "$" ++ decimal m)) ≡ true) item (read_at (range_with_len 0 32) n all_read inside))
+    (subst (λ m. is_read m (register_of (codes "$" ++ decimal m)) ≡ true) item
+    (read_at (range_with_len 0 32) n all_read inside))

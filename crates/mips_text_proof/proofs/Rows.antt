@@ -23,7 +23,8 @@ entry_pieces : (w : List ℕ) → pieces (codes ".entry " ++ w) ≡ piece.Word (
 unfolding pieces
 entry_pieces w = refl
 
-pub entry_row : (a : ℕ) → a < 4294967296 → line_of (codes ".entry " ++ prefixed_word a) ≡ plain (statement.Entry (target.Number (written a)))
+pub entry_row : (a : ℕ) → a < 4294967296 →
+    line_of (codes ".entry " ++ prefixed_word a) ≡ plain (statement.Entry (target.Number (written a)))
 unfolding line_of statement_of
 entry_row a h =
     let w : List ℕ = prefixed_word a in
@@ -36,7 +37,8 @@ unfolding pieces
 function_pieces z = refl
 
 pub function_row : (a c : ℕ) → a < 4294967296 → c < 4294967296 →
-    line_of (codes ".fn " ++ (prefixed_word a ++ 32 ∷ decimal c)) ≡ plain (statement.Function (target.Number (written a)) (written c))
+    line_of (codes ".fn " ++ (prefixed_word a ++ 32 ∷ decimal c)) ≡ plain
+    (statement.Function (target.Number (written a)) (written c))
 unfolding line_of statement_of
 function_row a c h k =
     let w : List ℕ = prefixed_word a in
@@ -44,15 +46,19 @@ function_row a c h k =
     ap line_in
     (function_pieces (w ++ 32 ∷ decimal c)
     ∙ ap (λ ps. piece.Word (codes ".fn") ∷ ps)
-    (word_blank w (decimal c) (wordy_word a) some ∙ ap (λ ps. piece.Word w ∷ ps) (one_word (decimal c) (wordy_decimal c k) (some_decimal c k))))
-    ∙ ap (λ o. target_by w o >>= (λ t. number_of (decimal c) >>= (λ n. pure (statement.Function t n))) >>= (λ s. plain s)) (number_word a h)
-    ∙ ap (λ o. o >>= (λ n. pure (statement.Function (target.Number (written a)) n)) >>= (λ s. plain s)) (number_decimal c k)
+    (word_blank w (decimal c) (wordy_word a) some ∙
+    ap (λ ps. piece.Word w ∷ ps) (one_word (decimal c) (wordy_decimal c k) (some_decimal c k))))
+    ∙ ap (λ o. target_by w o >>= (λ t. number_of (decimal c) >>= (λ n. pure (statement.Function t n))) >>=
+    (λ s. plain s)) (number_word a h)
+    ∙ ap (λ o. o >>= (λ n. pure (statement.Function (target.Number (written a)) n)) >>= (λ s. plain s))
+    (number_decimal c k)
 
 word_pieces : (z : List ℕ) → pieces (codes ".word " ++ z) ≡ piece.Word (codes ".word") ∷ pieces z
 unfolding pieces
 word_pieces z = refl
 
-pub word_row : (n : ℕ) → n < 4294967296 → line_of (codes ".word " ++ prefixed_word n) ≡ plain (statement.Word (written n))
+pub word_row : (n : ℕ) → n < 4294967296 →
+    line_of (codes ".word " ++ prefixed_word n) ≡ plain (statement.Word (written n))
 unfolding line_of statement_of
 word_row n h =
     let w : List ℕ = prefixed_word n in

@@ -15,10 +15,12 @@ use Rattle.asm_lines.specs.Drafts.{drafted}
 use Rattle.asm_lines.specs.Lines.{instruction, statement_by, line_of, line_in, statement_of}
 use Rattle.mips_text_proof.proofs.Feeds.{plain}
 use Rattle.mips_text_proof.proofs.Names.{wordy_name, some_name, by_name}
-use Rattle.mips_text_proof.proofs.Wordy.{Wordy, pieces_one, pieces_two, pieces_three, word_blank, word_comma, word_opens, word_closes}
+use Rattle.mips_text_proof.proofs.Wordy.{Wordy, pieces_one, pieces_two, pieces_three, word_blank, word_comma}
+use Rattle.mips_text_proof.proofs.Wordy.{word_opens, word_closes}
 
 -- The statement of an operation with operands that are a draft.
-said : (op : Operation) (z : List Piece) (os : Operands) (d : Draft) → operands_of z ≡ Some os → drafted op os ≡ Some d →
+said : (op : Operation) (z : List Piece) (os : Operands) (d : Draft) → operands_of z ≡ Some os →
+    drafted op os ≡ Some d →
     statement_by (operation_name op) z ≡ Some (statement.Instruction d)
 said op z os d e f =
     by_name op z
@@ -33,7 +35,8 @@ statement_line : (op : Operation) (a : List ℕ) (z : List Piece) (os : Operands
 unfolding statement_of
 statement_line op a z os d e f = ap (λ o. o >>= (λ s. plain s)) (said op (piece.Word a ∷ z) os d e f)
 
-pub row_one : (op : Operation) (a : List ℕ) (d : Draft) → Wordy a → 0 < length a → drafted op (operands.One a) ≡ Some d →
+pub row_one : (op : Operation) (a : List ℕ) (d : Draft) → Wordy a → 0 < length a →
+    drafted op (operands.One a) ≡ Some d →
     line_of (operation_name op ++ 32 ∷ a) ≡ plain (statement.Instruction d)
 unfolding line_of
 row_one op a d h h' e =
@@ -41,7 +44,8 @@ row_one op a d h h' e =
     ∙ statement_line op a [] (operands.One a) d refl e
 
 pub row_two : (op : Operation) (a b : List ℕ) (d : Draft) → Wordy a → 0 < length a → Wordy b → 0 < length b →
-    drafted op (operands.Two a b) ≡ Some d → line_of (operation_name op ++ 32 ∷ (a ++ 44 ∷ b)) ≡ plain (statement.Instruction d)
+    drafted op (operands.Two a b) ≡ Some d →
+    line_of (operation_name op ++ 32 ∷ (a ++ 44 ∷ b)) ≡ plain (statement.Instruction d)
 unfolding line_of
 row_two op a b d h h' i i' e =
     ap line_in (pieces_two (operation_name op) a b (wordy_name op) (some_name op) h h' i i')
@@ -72,4 +76,5 @@ pub row_based : (op : Operation) (a b c : List ℕ) (d : Draft) → Wordy a → 
 unfolding line_of
 row_based op a b c d h h' i i' j j' e =
     ap line_in (based_pieces (operation_name op) a b c (wordy_name op) (some_name op) h h' i i' j j')
-    ∙ statement_line op a (piece.Comma ∷ piece.Word b ∷ piece.Open ∷ piece.Word c ∷ piece.Close ∷ []) (operands.Based a b c) d refl e
+    ∙ statement_line op a (piece.Comma ∷ piece.Word b ∷ piece.Open ∷ piece.Word c ∷ piece.Close ∷ [])
+    (operands.Based a b c) d refl e

@@ -1,5 +1,6 @@
 -- What the line of an instruction says.
-use Rattle.std.proofs.Common.{◌≡◌, ℕ, ◌<◌, Bool, true, false, ◌&&◌, List, [], ◌∷◌, ◌++◌, length, Option, Some, refl, ap, ◌∙◌, subst, arith, codes, append_assoc}
+use Rattle.std.proofs.Common.{◌≡◌, ℕ, ◌<◌, Bool, true, false, ◌&&◌, List, [], ◌∷◌, ◌++◌, length, Option, Some, refl, ap}
+use Rattle.std.proofs.Common.{◌∙◌, subst, arith, codes, append_assoc}
 use Rattle.std.specs.Prelude.{decimal}
 use Rattle.std.specs.List.{list_all}
 use Rattle.std.proofs.lemmas.List.Folds.{list_all-append}
@@ -35,14 +36,17 @@ some_reg n = omega arith
 
 -- ---- operands that are read
 
-pub one_is : {A R : Type 0} (f : List ℕ → Option A) (r : A → R) (a : List ℕ) (x : A) → f a ≡ Some x → one f r (operands.One a) ≡ Some (r x)
+pub one_is : {A R : Type 0} (f : List ℕ → Option A) (r : A → R) (a : List ℕ) (x : A) → f a ≡ Some x →
+    one f r (operands.One a) ≡ Some (r x)
 one_is f r a x e = ap (λ o. o >>= (λ x. pure (r x))) e
 
-pub two_is : {A B R : Type 0} (f : List ℕ → Option A) (g : List ℕ → Option B) (r : A → B → R) (a b : List ℕ) (x : A) (y : B) →
+pub two_is : {A B R : Type 0} (f : List ℕ → Option A) (g : List ℕ → Option B) (r : A → B → R) (a b : List ℕ) (x : A)
+    (y : B) →
     f a ≡ Some x → g b ≡ Some y → two f g r (operands.Two a b) ≡ Some (r x y)
 two_is f g r a b x y e h = ap (λ o. o >>= (λ x. g b >>= (λ y. pure (r x y)))) e ∙ ap (λ o. o >>= (λ y. pure (r x y))) h
 
-pub three_is : {A B C R : Type 0} (f : List ℕ → Option A) (g : List ℕ → Option B) (k : List ℕ → Option C) (r : A → B → C → R)
+pub three_is : {A B C R : Type 0} (f : List ℕ → Option A) (g : List ℕ → Option B) (k : List ℕ → Option C)
+    (r : A → B → C → R)
     (a b c : List ℕ) (x : A) (y : B) (z : C) → f a ≡ Some x → g b ≡ Some y → k c ≡ Some z →
     three f g k r (operands.Three a b c) ≡ Some (r x y z)
 three_is f g k r a b c x y z e h i =
@@ -50,7 +54,8 @@ three_is f g k r a b c x y z e h i =
     ∙ ap (λ o. o >>= (λ y. k c >>= (λ z. pure (r x y z)))) h
     ∙ ap (λ o. o >>= (λ z. pure (r x y z))) i
 
-pub based_is : {A B C R : Type 0} (f : List ℕ → Option A) (g : List ℕ → Option B) (k : List ℕ → Option C) (r : A → B → C → R)
+pub based_is : {A B C R : Type 0} (f : List ℕ → Option A) (g : List ℕ → Option B) (k : List ℕ → Option C)
+    (r : A → B → C → R)
     (a b c : List ℕ) (x : A) (y : B) (z : C) → f a ≡ Some x → g b ≡ Some y → k c ≡ Some z →
     based f g k r (operands.Based a b c) ≡ Some (r x y z)
 based_is f g k r a b c x y z e h i =
@@ -60,30 +65,36 @@ based_is f g k r a b c x y z e h i =
 
 -- ---- lines by their shapes
 
-pub says_one : (op : Operation) (a : List ℕ) (d : Draft) → Wordy a → 0 < length a → drafted op (operands.One a) ≡ Some d →
+pub says_one : (op : Operation) (a : List ℕ) (d : Draft) → Wordy a → 0 < length a →
+    drafted op (operands.One a) ≡ Some d →
     Says (operation_name op ++ codes " " ++ a ++ codes "\n") (statement.Instruction d ∷ [])
 says_one op a d h h' e =
     let n : List ℕ = operation_name op in
     let same : (n ++ 32 ∷ a) ++ 10 ∷ [] ≡ n ++ codes " " ++ a ++ codes "\n" = simp append_assoc in
     subst (λ t. Says t (statement.Instruction d ∷ [])) same
-    (says_line (n ++ 32 ∷ a) (statement.Instruction d) (feeds_join n (32 ∷ a) (wordy_name op).feeds h.feeds) (row_one op a d h h' e))
+    (says_line (n ++ 32 ∷ a) (statement.Instruction d) (feeds_join n (32 ∷ a) (wordy_name op).feeds h.feeds)
+    (row_one op a d h h' e))
 
 pub says_two : (op : Operation) (a b : List ℕ) (d : Draft) → Wordy a → 0 < length a → Wordy b → 0 < length b →
     drafted op (operands.Two a b) ≡ Some d →
     Says (operation_name op ++ codes " " ++ a ++ codes "," ++ b ++ codes "\n") (statement.Instruction d ∷ [])
 says_two op a b d h h' i i' e =
     let n : List ℕ = operation_name op in
-    let same : (n ++ 32 ∷ (a ++ 44 ∷ b)) ++ 10 ∷ [] ≡ n ++ codes " " ++ a ++ codes "," ++ b ++ codes "\n" = simp append_assoc in
+    let same : (n ++ 32 ∷ (a ++ 44 ∷ b)) ++ 10 ∷ [] ≡ n ++ codes " " ++ a ++ codes "," ++ b ++ codes "\n" =
+    simp append_assoc in
     subst (λ t. Says t (statement.Instruction d ∷ [])) same
     (says_line (n ++ 32 ∷ (a ++ 44 ∷ b)) (statement.Instruction d)
-    (feeds_join n (32 ∷ (a ++ 44 ∷ b)) (wordy_name op).feeds (feeds_join a (44 ∷ b) h.feeds i.feeds)) (row_two op a b d h h' i i' e))
+    (feeds_join n (32 ∷ (a ++ 44 ∷ b)) (wordy_name op).feeds (feeds_join a (44 ∷ b) h.feeds i.feeds))
+    (row_two op a b d h h' i i' e))
 
 pub says_three : (op : Operation) (a b c : List ℕ) (d : Draft) → Wordy a → 0 < length a → Wordy b → 0 < length b →
     Wordy c → 0 < length c → drafted op (operands.Three a b c) ≡ Some d →
-    Says (operation_name op ++ codes " " ++ a ++ codes "," ++ b ++ codes "," ++ c ++ codes "\n") (statement.Instruction d ∷ [])
+    Says (operation_name op ++ codes " " ++ a ++ codes "," ++ b ++ codes "," ++ c ++ codes "\n")
+    (statement.Instruction d ∷ [])
 says_three op a b c d h h' i i' j j' e =
     let n : List ℕ = operation_name op in
-    let same : (n ++ 32 ∷ (a ++ 44 ∷ (b ++ 44 ∷ c))) ++ 10 ∷ [] ≡ n ++ codes " " ++ a ++ codes "," ++ b ++ codes "," ++ c ++ codes "\n" = simp append_assoc in
+    let same : (n ++ 32 ∷ (a ++ 44 ∷ (b ++ 44 ∷ c))) ++ 10 ∷ [] ≡ n ++ codes " " ++ a ++ codes "," ++ b ++ codes "," ++
+    c ++ codes "\n" = simp append_assoc in
     subst (λ t. Says t (statement.Instruction d ∷ [])) same
     (says_line (n ++ 32 ∷ (a ++ 44 ∷ (b ++ 44 ∷ c))) (statement.Instruction d)
     (feeds_join n (32 ∷ (a ++ 44 ∷ (b ++ 44 ∷ c))) (wordy_name op).feeds
@@ -92,13 +103,16 @@ says_three op a b c d h h' i i' j j' e =
 
 pub says_based : (op : Operation) (a b c : List ℕ) (d : Draft) → Wordy a → 0 < length a → Wordy b → 0 < length b →
     Wordy c → 0 < length c → drafted op (operands.Based a b c) ≡ Some d →
-    Says (operation_name op ++ codes " " ++ a ++ codes "," ++ b ++ codes "(" ++ c ++ codes ")\n") (statement.Instruction d ∷ [])
+    Says (operation_name op ++ codes " " ++ a ++ codes "," ++ b ++ codes "(" ++ c ++ codes ")\n")
+    (statement.Instruction d ∷ [])
 says_based op a b c d h h' i i' j j' e =
     let n : List ℕ = operation_name op in
     let l : List ℕ = n ++ 32 ∷ (a ++ 44 ∷ (b ++ 40 ∷ (c ++ 41 ∷ []))) in
-    let same : l ++ 10 ∷ [] ≡ n ++ codes " " ++ a ++ codes "," ++ b ++ codes "(" ++ c ++ codes ")\n" = simp append_assoc in
+    let same : l ++ 10 ∷ [] ≡ n ++ codes " " ++ a ++ codes "," ++ b ++ codes "(" ++ c ++ codes ")\n" =
+    simp append_assoc in
     subst (λ t. Says t (statement.Instruction d ∷ [])) same
     (says_line l (statement.Instruction d)
     (feeds_join n (32 ∷ (a ++ 44 ∷ (b ++ 40 ∷ (c ++ 41 ∷ [])))) (wordy_name op).feeds
-    (feeds_join a (44 ∷ (b ++ 40 ∷ (c ++ 41 ∷ []))) h.feeds (feeds_join b (40 ∷ (c ++ 41 ∷ [])) i.feeds (feeds_join c (41 ∷ []) j.feeds refl))))
+    (feeds_join a (44 ∷ (b ++ 40 ∷ (c ++ 41 ∷ []))) h.feeds
+    (feeds_join b (40 ∷ (c ++ 41 ∷ [])) i.feeds (feeds_join c (41 ∷ []) j.feeds refl))))
     (row_based op a b c d h h' i i' j j' e))

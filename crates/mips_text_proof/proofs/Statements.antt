@@ -41,10 +41,12 @@ rest i = map function_statement i.functions ++ later i
 says_entry : (a : ℕ) → a < 4294967296 → Says (entry_line a) (entry_statement a ∷ [])
 says_entry a h = says_line (codes ".entry " ++ prefixed_word a) (entry_statement a) (wordy_word a).feeds (entry_row a h)
 
-function_feeds : (a c : ℕ) → c < 4294967296 → list_all in_line (codes ".fn " ++ (prefixed_word a ++ 32 ∷ decimal c)) ≡ true
+function_feeds : (a c : ℕ) → c < 4294967296 →
+    list_all in_line (codes ".fn " ++ (prefixed_word a ++ 32 ∷ decimal c)) ≡ true
 function_feeds a c h =
     list_all-append in_line (prefixed_word a) (32 ∷ decimal c)
-    ∙ both (list_all in_line (prefixed_word a)) (list_all in_line (decimal c)) (wordy_word a).feeds (wordy_decimal c h).feeds
+    ∙ both (list_all in_line (prefixed_word a)) (list_all in_line (decimal c)) (wordy_word a).feeds
+    (wordy_decimal c h).feeds
 
 says_function : (words : ℕ) (f : FunctionEntry) → IsWritten words f → Says (function_line f) (function_statement f ∷ [])
 says_function words f h =
@@ -58,7 +60,8 @@ says_data bs k h =
 
 says_later : (i : ImageParts) → IsImage i → Says (data_lines i.bytes ++ flat_map word_line i.text) (later i)
 says_later i h =
-    says_append (data_lines i.bytes) (flat_map word_line i.text) (map (data_statement i.bytes) (places i.bytes)) (map word_statement i.text)
+    says_append (data_lines i.bytes) (flat_map word_line i.text) (map (data_statement i.bytes) (places i.bytes))
+    (map word_statement i.text)
     (says_each (λ k. k < div_ceil (length i.bytes) 32) (data_line_at i.bytes) (data_statement i.bytes) (places i.bytes)
     (each_place (div_ceil (length i.bytes) 32)) (λ k lt. says_data i.bytes k lt))
     (says_each (λ w. w < 4294967296) word_line word_statement i.text (image_words i h) (λ w lt. says_word w lt))
@@ -66,13 +69,17 @@ says_later i h =
 says_rest : (i : ImageParts) → IsImage i →
     Says (flat_map function_line i.functions ++ (data_lines i.bytes ++ flat_map word_line i.text)) (rest i)
 says_rest i h =
-    says_append (flat_map function_line i.functions) (data_lines i.bytes ++ flat_map word_line i.text) (map function_statement i.functions) (later i)
+    says_append (flat_map function_line i.functions) (data_lines i.bytes ++ flat_map word_line i.text)
+    (map function_statement i.functions) (later i)
     (says_each (IsWritten (length i.text)) function_line function_statement i.functions
-    (functions_written (length i.text) i.functions h.text_is_small (image_functions i h)) (λ f w. says_function (length i.text) f w))
+    (functions_written (length i.text) i.functions h.text_is_small (image_functions i h))
+    (λ f w. says_function (length i.text) f w))
     (says_later i h)
 
 pub says_image : (i : ImageParts) → IsImage i → Says (text_of i) (entry_statement i.entry ∷ rest i)
 says_image i h =
-    says_append (entry_line i.entry) (flat_map function_line i.functions ++ (data_lines i.bytes ++ flat_map word_line i.text)) (entry_statement i.entry ∷ []) (rest i)
+    says_append (entry_line i.entry)
+    (flat_map function_line i.functions ++ (data_lines i.bytes ++ flat_map word_line i.text))
+    (entry_statement i.entry ∷ []) (rest i)
     (says_entry i.entry (inside (length i.text) i.entry h.text_is_small (entry_in i h)).low)
     (says_rest i h)

@@ -29,14 +29,16 @@ abbrev pub word_statement : ℕ → Statement
 word_statement w = statement_by w (instr_of w)
 
 says_by : (w : ℕ) (o : Option Instr) → w < 4294967296 → instr_of w ≡ o → Says (text.line_of w o) (statement_by w o ∷ [])
-says_by w None h e = says_line (codes ".word " ++ prefixed_word w) (statement.Word (written w)) (wordy_word w).feeds (word_row w h)
+says_by w None h e = says_line (codes ".word " ++ prefixed_word w) (statement.Word (written w)) (wordy_word w).feeds
+    (word_row w h)
 says_by w (Some i) h e = says_instr i (fits_back w i e)
 
 pub says_word : (w : ℕ) → w < 4294967296 → Says (text.word_line w) (word_statement w ∷ [])
 unfolding text.word_line
 says_word w h = says_by w (instr_of w) h refl
 
-gives_by : (k : Known) (p : Position) (w : ℕ) (o : Option Instr) → instr_of w ≡ o → item_of k p (statement_by w o) ≡ Ok (item.Word w)
+gives_by : (k : Known) (p : Position) (w : ℕ) (o : Option Instr) → instr_of w ≡ o →
+    item_of k p (statement_by w o) ≡ Ok (item.Word w)
 gives_by k p w None e = refl
 gives_by k p w (Some i) e =
     ap (λ r. r >>= (λ i. pure (item.Word (word_of i)))) (again k.find p.words i (fits_back w i e))

@@ -1,5 +1,6 @@
 -- Texts that are one word of a line.
-use Rattle.std.proofs.Common.{◌≡◌, ◌≢◌, ℕ, ◌+◌, ◌/◌, ◌%◌, ◌<◌, ◌≤◌, ◌^◌, ◌==◌, Bool, true, false, not, ◌&&◌, ◌||◌, cond, List, [], ◌∷◌, ◌++◌, length, refl, sym, ap, ◌∙◌, arith, inl, inr, lt-ltb}
+use Rattle.std.proofs.Common.{◌≡◌, ◌≢◌, ℕ, ◌+◌, ◌/◌, ◌%◌, ◌<◌, ◌≤◌, ◌^◌, ◌==◌, Bool, true, false, not, ◌&&◌, ◌||◌, cond}
+use Rattle.std.proofs.Common.{List, [], ◌∷◌, ◌++◌, length, refl, sym, ap, ◌∙◌, arith, inl, inr, lt-ltb}
 use Rattle.std.specs.Prelude.{decimal}
 use Rattle.std.specs.List.{list_all}
 use Rattle.std.specs.Str.Parse as parse
@@ -75,7 +76,8 @@ wordy_digits (c ∷ cs) h =
     wordy_more c cs low (λ e. omega (arith, e, high)) (wordy_digits cs h.1)
 
 pub wordy_decimal : (n : ℕ) → n < 4294967296 → Wordy (decimal n)
-wordy_decimal n h = let wide : n < 2 ^ 64 = omega arith in let d = decimal_is_IsNumeral n wide in wordy_digits (decimal n) d.0.1
+wordy_decimal n h = let wide : n < 2 ^ 64 = omega arith in let d = decimal_is_IsNumeral n wide in
+    wordy_digits (decimal n) d.0.1
 
 pub some_decimal : (n : ℕ) → n < 4294967296 → 0 < length (decimal n)
 some_decimal n h = let wide : n < 2 ^ 64 = omega arith in let d = decimal_is_IsNumeral n wide in d.0.0
@@ -86,8 +88,10 @@ hex_low d = grind (arith, nat_tests)
 hex_no_colon : (d : ℕ) → hex_digit d ≢ 58
 hex_no_colon d e =
     elim (cases_lt d 10) [
-      | inl lt ↦ (let v : hex_digit d ≡ d + 48 = ap (λ t. cond t (d + 48) (d + 87)) (lt-ltb d 10 lt) in absurd (omega (arith, e, v, lt)))
-      | inr le ↦ (let v : hex_digit d ≡ d + 87 = ap (λ t. cond t (d + 48) (d + 87)) (le-ltb d 10 le) in absurd (omega (arith, e, v, le)))
+      | inl lt ↦ (let v : hex_digit d ≡ d + 48 = ap (λ t. cond t (d + 48) (d + 87)) (lt-ltb d 10 lt) in
+          absurd (omega (arith, e, v, lt)))
+      | inr le ↦ (let v : hex_digit d ≡ d + 87 = ap (λ t. cond t (d + 48) (d + 87)) (le-ltb d 10 le) in
+          absurd (omega (arith, e, v, le)))
     ]
 
 pub wordy_hex : (d : ℕ) (w : List ℕ) → Wordy w → Wordy (hex_digit d ∷ w)
@@ -136,7 +140,8 @@ pieces_two name a b n n' h h' i i' =
     ∙ ap (λ ps. piece.Word name ∷ ps) (word_comma a b h h')
     ∙ ap (λ ps. piece.Word name ∷ piece.Word a ∷ piece.Comma ∷ ps) (one_word b i i')
 
-pub pieces_three : (name a b c : List ℕ) → Wordy name → 0 < length name → Wordy a → 0 < length a → Wordy b → 0 < length b →
+pub pieces_three : (name a b c : List ℕ) → Wordy name → 0 < length name → Wordy a → 0 < length a → Wordy b →
+    0 < length b →
     Wordy c → 0 < length c →
     pieces (name ++ 32 ∷ (a ++ 44 ∷ (b ++ 44 ∷ c)))
     ≡ piece.Word name ∷ piece.Word a ∷ piece.Comma ∷ piece.Word b ∷ piece.Comma ∷ piece.Word c ∷ []

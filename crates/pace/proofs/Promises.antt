@@ -1,5 +1,6 @@
 -- The four promises follow from the one claim.
-use Rattle.std.proofs.Common.{◌≡◌, ℕ, ◌+◌, ◌*◌, ◌-◌, ◌/◌, ◌<◌, ◌≤◌, Option, Some, None, refl, sym, ap, ◌∙◌, subst, ⊎_elim, arith}
+use Rattle.std.proofs.Common.{◌≡◌, ℕ, ◌+◌, ◌*◌, ◌-◌, ◌/◌, ◌<◌, ◌≤◌, Option, Some, None, refl, sym, ap, ◌∙◌, subst}
+use Rattle.std.proofs.Common.{⊎_elim, arith}
 use Rattle.std.proofs.lemmas.Bool.{cases_lt}
 use Rattle.pace.specs.Pace.{Seen, IsPrefix, EndsAs, Always, FourParts}
 use Rattle.pace.specs.Claims.{Grows, FollowsAtPace, IsCovered}
@@ -12,7 +13,8 @@ by_ending P (Some e) f g = g e refl
 none_some : {A End : Type 0} (o : Option End) (e : End) → o ≡ None → o ≡ Some e → A
 none_some o e p q = absurd cc
 
-module _ {Item End : Type 0} (each besides : ℕ) (meaning run : ℕ → Seen Item End) (positive : 0 < each) (grows : Grows run) (claim : FollowsAtPace each besides meaning run) where
+module _ {Item End : Type 0} (each besides : ℕ) (meaning run : ℕ → Seen Item End) (positive : 0 < each)
+    (grows : Grows run) (claim : FollowsAtPace each besides meaning run) where
   follows : (n : ℕ) → IsPrefix (run n).history (meaning n).history
   follows n =
       by_ending
@@ -79,7 +81,8 @@ module _ {Item End : Type 0} (each besides : ℕ) (meaning run : ℕ → Seen It
   }
 
 -- what holds of a run that is defined always holds, up to n, of one that does the same there
-module _ {Item End : Type 0} (each besides : ℕ) (meaning run : ℕ → Seen Item End) (Defined : ℕ → Type 0) (positive : 0 < each) (covered : (n : ℕ) → Defined n → IsCovered each besides meaning run n) where
+module _ {Item End : Type 0} (each besides : ℕ) (meaning run : ℕ → Seen Item End) (Defined : ℕ → Type 0)
+    (positive : 0 < each) (covered : (n : ℕ) → Defined n → IsCovered each besides meaning run n) where
   pub four_parts_where_defined : FourParts Defined meaning run each besides
   four_parts_where_defined = record {
     follows = λ n d.

@@ -22,43 +22,69 @@ through each besides start meaning upper run least most f p = record {
 
 -- A lower machine that simulates an upper one step by step pays for what its steps cost. The premises: related
 -- states look alike, an ended upper state stays, and each step of a running one is simulated.
-module _ {Upper Lower Item End : Type 0} (upper_step : Upper → Upper) (lower_step : Lower → Lower) (least most : Upper → ℕ) (see : Upper → Seen Item End) (look : Lower → Seen Item End) (Related : Upper → Lower → Type 0) (same : (a : Upper) (b : Lower) → Related a b → see a ≡ look b) (halts : (a : Upper) (e : End) → (see a).ending ≡ Some e → upper_step a ≡ a) (simulates : (a : Upper) (b : Lower) → (see a).ending ≡ None → Related a b → SimulatesStep upper_step lower_step least most Related a b) (start : ℕ) where
+module _ {Upper Lower Item End : Type 0} (upper_step : Upper → Upper) (lower_step : Lower → Lower)
+    (least most : Upper → ℕ) (see : Upper → Seen Item End) (look : Lower → Seen Item End)
+    (Related : Upper → Lower → Type 0) (same : (a : Upper) (b : Lower) → Related a b → see a ≡ look b)
+    (halts : (a : Upper) (e : End) → (see a).ending ≡ Some e → upper_step a ≡ a)
+    (simulates : (a : Upper) (b : Lower) → (see a).ending ≡ None → Related a b →
+    SimulatesStep upper_step lower_step least most Related a b) (start : ℕ) where
   record IsPaid (a : Upper) (b : Lower) (done : ℕ) : Type 0 where
     count : ℕ
     from : least a ≤ done + count
     to : done + count ≤ most a + start
     related : Related a (iterate lower_step count b)
 
-  by_step : (a : Upper) (b : Lower) (o : Option End) → (see a).ending ≡ o → Related a b → SimulatesStep upper_step lower_step least most Related a b
+  by_step : (a : Upper) (b : Lower) (o : Option End) → (see a).ending ≡ o → Related a b →
+      SimulatesStep upper_step lower_step least most Related a b
   by_step a b None e r = simulates a b e r
   by_step a b (Some x) e r =
       let h = halts a x e in
-      record { count = 0; from = rw h (omega arith); to = rw h (omega arith); related = subst (λ z. Related z b) (sym h) r }
+      record {
+        count = 0;
+        from = rw h (omega arith);
+        to = rw h (omega arith);
+        related =
+            subst (λ z. Related z b) (sym h) r;
+      }
 
-  pays : (i : ℕ) (a : Upper) (b : Lower) (done : ℕ) → least a ≤ done → done ≤ most a + start → Related a b → IsPaid (iterate upper_step i a) b done
+  pays : (i : ℕ) (a : Upper) (b : Lower) (done : ℕ) → least a ≤ done → done ≤ most a + start → Related a b →
+      IsPaid (iterate upper_step i a) b done
   pays zero a b done low high r = record { count = 0; from = omega arith; to = omega arith; related = r }
   pays (suc i) a b done low high r =
       let f = by_step a b (see a).ending refl r in
-      let p = pays i (upper_step a) (iterate lower_step f.count b) (done + f.count) (omega (arith, f.from)) (omega (arith, f.to)) f.related in
+      let p = pays i (upper_step a) (iterate lower_step f.count b) (done + f.count) (omega (arith, f.from))
+      (omega (arith, f.to)) f.related in
       record {
         count = f.count + p.count;
         from = omega (arith, p.from);
         to = omega (arith, p.to);
-        related = subst (Related (iterate upper_step i (upper_step a))) (sym (iterate_add lower_step f.count p.count b)) p.related;
+        related = subst (Related (iterate upper_step i (upper_step a))) (sym (iterate_add lower_step f.count p.count b))
+            p.related;
       }
 
   -- from states that are related once the lower machine has made its first steps
-  pub pays_for : (a : Upper) (b : Lower) (first : ℕ) → Related a (iterate lower_step first b) → least a ≤ first → first ≤ most a + start
-      → PaysFor start (λ i. see (iterate upper_step i a)) (λ i. least (iterate upper_step i a)) (λ i. most (iterate upper_step i a)) (λ n. look (iterate lower_step n b))
+  pub pays_for : (a : Upper) (b : Lower) (first : ℕ) → Related a (iterate lower_step first b) → least a ≤ first →
+      first ≤ most a + start
+      → PaysFor start (λ i. see (iterate upper_step i a)) (λ i. least (iterate upper_step i a))
+      (λ i. most (iterate upper_step i a)) (λ n. look (iterate lower_step n b))
   pays_for a b first r low high = record {
     goes_on = λ i running.
         let p = pays i a (iterate lower_step first b) first low high r in
         let is = same _ _ p.related in
-        let stands = iterate_add lower_step first p.count b in
-        (first + p.count, p.from, p.to, ap (λ z. (look z).ending) stands ∙ sym (ap (λ z. z.ending) is) ∙ running, ap (λ z. z.history) is ∙ sym (ap (λ z. (look z).history) stands));
+        let stands = iterate_add lower_step first p.count b in (
+          first + p.count,
+          p.from,
+          p.to,
+          ap (λ z. (look z).ending) stands ∙ sym (ap (λ z. z.ending) is) ∙ running,
+          ap (λ z. z.history) is ∙ sym (ap (λ z. (look z).history) stands),
+        );
     ends = λ i e ended.
         let p = pays i a (iterate lower_step first b) first low high r in
         let is = same _ _ p.related in
-        let stands = iterate_add lower_step first p.count b in
-        (first + p.count, p.to, ap (λ z. (look z).ending) stands ∙ sym (ap (λ z. z.ending) is) ∙ ended, ap (λ z. z.history) is ∙ sym (ap (λ z. (look z).history) stands));
+        let stands = iterate_add lower_step first p.count b in (
+          first + p.count,
+          p.to,
+          ap (λ z. (look z).ending) stands ∙ sym (ap (λ z. z.ending) is) ∙ ended,
+          ap (λ z. z.history) is ∙ sym (ap (λ z. (look z).history) stands),
+        );
   }

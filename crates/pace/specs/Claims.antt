@@ -20,14 +20,16 @@ pub record FollowsAtPace {Item End : Type 0} (each besides : ℕ) (meaning run :
       × ((run n).ending ≡ Some e) × ((meaning m).history ≡ (run n).history)
 
 -- The upper seam: the same claim on a machine whose steps have costs, `least i` and `most i` for its first i.
-pub record FollowsAtCost {Item End : Type 0} (each besides : ℕ) (meaning run : ℕ → Seen Item End) (least most : ℕ → ℕ) : Type 0 where
+pub record FollowsAtCost {Item End : Type 0} (each besides : ℕ) (meaning run : ℕ → Seen Item End) (least most : ℕ → ℕ) :
+    Type 0 where
   pub goes_on : (m : ℕ) → (meaning m).ending ≡ None → (i : ℕ) × (m ≤ least i) × (most i ≤ each * m + besides)
       × ((run i).ending ≡ None) × ((meaning m).history ≡ (run i).history)
   pub ends : (m : ℕ) (e : End) → (meaning m).ending ≡ Some e → (i : ℕ) × (most i ≤ each * m + besides)
       × ((run i).ending ≡ Some e) × ((meaning m).history ≡ (run i).history)
 
 -- The lower seam: a machine pays for each of the upper one's steps what it costs, and `start` at most besides.
-pub record PaysFor {Item End : Type 0} (start : ℕ) (upper : ℕ → Seen Item End) (least most : ℕ → ℕ) (run : ℕ → Seen Item End) : Type 0 where
+pub record PaysFor {Item End : Type 0} (start : ℕ) (upper : ℕ → Seen Item End) (least most : ℕ → ℕ)
+    (run : ℕ → Seen Item End) : Type 0 where
   pub goes_on : (i : ℕ) → (upper i).ending ≡ None → (n : ℕ) × (least i ≤ n) × (n ≤ most i + start)
       × ((run n).ending ≡ None) × ((upper i).history ≡ (run n).history)
   pub ends : (i : ℕ) (e : End) → (upper i).ending ≡ Some e → (n : ℕ) × (n ≤ most i + start)
@@ -35,7 +37,8 @@ pub record PaysFor {Item End : Type 0} (start : ℕ) (upper : ℕ → Seen Item 
 
 -- What the lower machine does in `count` steps for one step of the upper one: the states are related again, and
 -- the count lies between the growths of the two clocks.
-pub record SimulatesStep {Upper Lower : Type 0} (upper_step : Upper → Upper) (lower_step : Lower → Lower) (least most : Upper → ℕ) (Related : Upper → Lower → Type 0) (a : Upper) (b : Lower) : Type 0 where
+pub record SimulatesStep {Upper Lower : Type 0} (upper_step : Upper → Upper) (lower_step : Lower → Lower)
+    (least most : Upper → ℕ) (Related : Upper → Lower → Type 0) (a : Upper) (b : Lower) : Type 0 where
   pub count : ℕ
   pub from : least (upper_step a) ≤ least a + count
   pub to : most a + count ≤ most (upper_step a)

@@ -1,5 +1,6 @@
 -- One step of the walks that need no room.
-use Rattle.std.proofs.Common.{◌≡◌, ℕ, ◌<◌, ◌+◌, Bool, true, false, [], ◌∷◌, ◌++◌, length, List, refl, ap, sym, ◌∙◌, arith, cond}
+use Rattle.std.proofs.Common.{◌≡◌, ℕ, ◌<◌, ◌+◌, Bool, true, false, [], ◌∷◌, ◌++◌, length, List, refl, ap, sym, ◌∙◌}
+use Rattle.std.proofs.Common.{arith, cond}
 use Rattle.std.specs.Prelude.{Ok, Option, Some, None}
 use Rattle.tick_tree.specs.declared.base.Prefix.{Prefix}
 use Rattle.parse_grammar.specs.declared.kind.Kind.TheVariants as k
@@ -16,7 +17,8 @@ no_prefix : (p : Prefix) → prefix_of k.End ≡ Some p → ⊥
 unfolding prefix_of
 no_prefix p h = cc
 
-pub prefix_goes : (found : List Prefix) (p : Prefix) (i : Input) → prefix_of (kind i) ≡ Some p → prefixes found i ≡ prefixes (found ++ p ∷ []) (next i)
+pub prefix_goes : (found : List Prefix) (p : Prefix) (i : Input) → prefix_of (kind i) ≡ Some p →
+    prefixes found i ≡ prefixes (found ++ p ∷ []) (next i)
 unfolding kind next
 prefix_goes found p [] h = absurd (no_prefix p h)
 prefix_goes found p (t ∷ i) h = ap (λ o. prefixes_by o found (t ∷ i) (λ more. prefixes more i)) h

@@ -24,7 +24,8 @@ pub none : {X : Type 0} (f : Room → X) (n : ℕ) → n ≡ 0 → f (room_of n)
 none f n e = ap (λ m. f (room_of m)) e ∙ ap f room_of-zero
 
 -- a chain ends where no operator comes
-pub chain_stops : {Op : Type 0} (op : Kind → Option Op) (step : Inner → Room → Op → ℕ → Expr → Parser Expr) (rs : Room) (left : Expr) (i : Input) → op (kind i) ≡ None → chain op step rs left i ≡ Ok (left, i)
+pub chain_stops : {Op : Type 0} (op : Kind → Option Op) (step : Inner → Room → Op → ℕ → Expr → Parser Expr) (rs : Room)
+    (left : Expr) (i : Input) → op (kind i) ≡ None → chain op step rs left i ≡ Ok (left, i)
 chain_stops op step [] left i h = ap (λ o. ends_by o left i) h
 chain_stops op step (r ∷ rs) left i h = ap (λ o. chain_by o left (step r rs) (chain op step rs) i) h
 

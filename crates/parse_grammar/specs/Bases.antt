@@ -1,5 +1,6 @@
 -- The words that begin a declaration or a type name:
--- `void`, a `char`, `short`, `long` or `int` that a sign may stand before, `int` behind `short` or `long`, or a sign alone.
+-- `void`, a `char`, `short`, `long` or `int` that a sign may stand before, `int` behind `short` or `long`, or a sign
+-- alone.
 use Rattle.std.specs.Prelude.{Bool, true, false, if◌then◌else◌, Option, Some, None, Ok}
 use Rattle.tick_tree.specs.declared.base.Base.{Base}
 use Rattle.tick_tree.specs.declared.base.Base.TheVariants as b

@@ -1,6 +1,8 @@
--- Declarators: prefixes, then a name or an inner declarator in parentheses, then suffixes. One without a name is that of a
+-- Declarators: prefixes, then a name or an inner declarator in parentheses, then suffixes. One without a name is that
+-- of a
 -- type name; a parameter's may have a name or none. An inner declarator and each suffix is a level until it is closed.
-use Rattle.std.specs.Prelude.{ℕ, Bool, true, false, ◌||◌, ◌&&◌, if◌then◌else◌, List, [], ◌∷◌, ◌++◌, Option, Some, None, Ok}
+use Rattle.std.specs.Prelude.{ℕ, Bool, true, false, ◌||◌, ◌&&◌, if◌then◌else◌, List, [], ◌∷◌, ◌++◌, Option, Some, None}
+use Rattle.std.specs.Prelude.{Ok}
 use Rattle.tick_tree.specs.declared.base.Prefix.{Prefix}
 use Rattle.tick_tree.specs.declared.base.Prefix.TheVariants as prefix
 use Rattle.tick_tree.specs.declared.base.BinaryOp.TheVariants as op
@@ -16,7 +18,8 @@ use Rattle.parse_grammar.specs.declared.kind.Kind.TheVariants as k
 use Rattle.parse_grammar.specs.declared.kind.Mark.TheVariants as m
 use Rattle.parse_grammar.specs.declared.grammar.Mode.{Mode}
 use Rattle.parse_grammar.specs.declared.grammar.Mode.TheVariants as mode_of
-use Rattle.parse_grammar.specs.Input.{Input, Outcome, Parser, ◌>>=◌, ◌>>◌, ◌<$>◌, pure, refuse, peek, peek_second, at_line, take_token, sees, is_mark, eat, expect, kind, line, text, next}
+use Rattle.parse_grammar.specs.Input.{Input, Outcome, Parser, ◌>>=◌, ◌>>◌, ◌<$>◌, pure, refuse, peek, peek_second}
+use Rattle.parse_grammar.specs.Input.{at_line, take_token, sees, is_mark, eat, expect, kind, line, text, next}
 use Rattle.parse_grammar.specs.Steps.{Inner, Room, within, optional, separated, many}
 use Rattle.parse_grammar.specs.Bases.{base, is_void}
 
@@ -26,7 +29,8 @@ prefix_of k.Cspec = Some prefix.Cspec
 prefix_of k.Vspec = Some prefix.Vspec
 prefix_of _ = None
 
-abbrev pub prefixes_by : Option Prefix → List Prefix → Input → (List Prefix → Outcome (List Prefix)) → Outcome (List Prefix)
+abbrev pub prefixes_by : Option Prefix → List Prefix → Input → (List Prefix → Outcome (List Prefix)) →
+    Outcome (List Prefix)
 prefixes_by None found here goes = Ok (found, here)
 prefixes_by (Some p) found here goes = goes (found ++ p ∷ [])
 
@@ -69,7 +73,8 @@ abbrev pub core_by : Mode → Room → Kind → Parser Core
 core_by mode_of.Nameless room k.Name = pure core_of.Absent
 core_by mode_of.Named room k.Name = named
 core_by mode_of.Either room k.Name = named
-core_by mode room (k.Mark m.ParenOpen) = peek_second >>= (λ kind. if opens mode kind then inner_declarator mode room else unnamed mode)
+core_by mode room (k.Mark m.ParenOpen) =
+    peek_second >>= (λ kind. if opens mode kind then inner_declarator mode room else unnamed mode)
 core_by mode room _ = unnamed mode
 
 unfoldable pub core : Mode → Room → Parser Core
@@ -98,7 +103,8 @@ listed r = do
 
 -- behind the `(` of a parameter list
 unfoldable pub parameters : Inner → Parser Suffix
-parameters r = λ i. if sees m.ParenClose i then (take_token >> pure suffix_of.Unlisted) i else (if is_nothing i then (take_token >> take_token >> pure suffix_of.Nothing) i else listed r i)
+parameters r = λ i. if sees m.ParenClose i then (take_token >> pure suffix_of.Unlisted) i else
+    (if is_nothing i then (take_token >> take_token >> pure suffix_of.Nothing) i else listed r i)
 
 unfoldable pub list : Room → Parser Suffix
 list room = within room parameters

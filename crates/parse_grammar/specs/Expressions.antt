@@ -1,7 +1,10 @@
--- Expressions, one function for each level of precedence. Unary, assignment and `?` operators are levels of nesting until
--- their expression ends; so are the binary, comma and postfix operators that were read in a chain. A call or an index counts
+-- Expressions, one function for each level of precedence. Unary, assignment and `?` operators are levels of nesting
+-- until
+-- their expression ends; so are the binary, comma and postfix operators that were read in a chain. A call or an index
+-- counts
 -- as its bracket until that is closed, a cast as its bracket and then as a unary operator.
-use Rattle.std.specs.Prelude.{ℕ, zero, suc, ◌==◌, Bool, true, false, if◌then◌else◌, List, [], ◌∷◌, ◌++◌, Option, Some, None, Ok}
+use Rattle.std.specs.Prelude.{ℕ, zero, suc, ◌==◌, Bool, true, false, if◌then◌else◌, List, [], ◌∷◌, ◌++◌, Option, Some}
+use Rattle.std.specs.Prelude.{None, Ok}
 use Rattle.tick_tree.specs.declared.base.UnaryOp.{UnaryOp}
 use Rattle.tick_tree.specs.declared.base.UnaryOp.TheVariants as unary_op
 use Rattle.tick_tree.specs.declared.base.BinaryOp.{BinaryOp}
@@ -20,7 +23,9 @@ use Rattle.parse_grammar.specs.declared.grammar.Part.{Part}
 use Rattle.parse_grammar.specs.declared.grammar.Part.TheVariants as part
 use Rattle.parse_grammar.specs.declared.grammar.Postfix.{Postfix}
 use Rattle.parse_grammar.specs.declared.grammar.Postfix.TheVariants as postfix_of
-use Rattle.parse_grammar.specs.Input.{Input, Outcome, Parser, ◌>>=◌, ◌>>◌, ◌<$>◌, pure, refuse, peek, peek_second, at_line, take_token, sees, eat, expect, kind, line, value, unsigned, text, next, is_mark}
+use Rattle.parse_grammar.specs.Input.{Input, Outcome, Parser, ◌>>=◌, ◌>>◌, ◌<$>◌, pure, refuse, peek, peek_second}
+use Rattle.parse_grammar.specs.Input.{at_line, take_token, sees, eat, expect, kind, line, value, unsigned, text, next}
+use Rattle.parse_grammar.specs.Input.{is_mark}
 use Rattle.parse_grammar.specs.Steps.{Inner, Room, within, from, enter, in_parens, separated, closed, chain}
 use Rattle.parse_grammar.specs.Bases.{is_base}
 use Rattle.parse_grammar.specs.Declarators.{typename}
@@ -157,7 +162,8 @@ primary room = peek >>= primary_by room
 
 -- behind the `(` of a call
 unfoldable pub arguments : Parser Expr → Parser (List Expr)
-arguments item = λ i. if sees m.ParenClose i then (take_token >> pure []) i else (separated item >>= (λ found. expect m.ParenClose >> pure found)) i
+arguments item = λ i. if sees m.ParenClose i then (take_token >> pure []) i else
+    (separated item >>= (λ found. expect m.ParenClose >> pure found)) i
 
 -- behind the `[` of an index
 unfoldable pub indexed : ℕ → Expr → Inner → Parser Expr

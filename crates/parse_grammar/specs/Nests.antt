@@ -23,13 +23,17 @@ pub record Nests (limit : ℕ)
     (pre_declarator : Global → MutBor Input → ℕ → Mode → Type 0)
     (post_declarator : Global → MutBor Input → ℕ → Mode → Result Declarator Stop → MutBor Input → Type 0) : Type 0 where
   pub callable : (alloc : Global) (old : MutBor Input) (room : ℕ) (part : Part) → room < limit → pre alloc old room part
-  pub reads : (alloc : Global) (old new : MutBor Input) (room : ℕ) (part : Part) (r : Result Expr Stop) → room < limit → post alloc old room part r new
+  pub reads : (alloc : Global) (old new : MutBor Input) (room : ℕ) (part : Part) (r : Result Expr Stop) → room < limit →
+      post alloc old room part r new
       → Reads (at part (room_of room) old.now) r new.now
   pub callable_stmt : (alloc : Global) (old : MutBor Input) (room : ℕ) → room < limit → pre_stmt alloc old room
-  pub reads_stmt : (alloc : Global) (old new : MutBor Input) (room : ℕ) (r : Result Stmt Stop) → room < limit → post_stmt alloc old room r new
+  pub reads_stmt : (alloc : Global) (old new : MutBor Input) (room : ℕ) (r : Result Stmt Stop) → room < limit →
+      post_stmt alloc old room r new
       → Reads (stmt (room_of room) old.now) r new.now
-  pub callable_declarator : (alloc : Global) (old : MutBor Input) (room : ℕ) (mode : Mode) → room < limit → pre_declarator alloc old room mode
-  pub reads_declarator : (alloc : Global) (old new : MutBor Input) (room : ℕ) (mode : Mode) (r : Result Declarator Stop) → room < limit
+  pub callable_declarator : (alloc : Global) (old : MutBor Input) (room : ℕ) (mode : Mode) → room < limit →
+      pre_declarator alloc old room mode
+  pub reads_declarator : (alloc : Global) (old new : MutBor Input) (room : ℕ) (mode : Mode) (r : Result Declarator Stop)
+      → room < limit
       → post_declarator alloc old room mode r new → Reads (declarator mode (room_of room) old.now) r new.now
 
 -- what a step to the next level ensures: it says exactly whether there is room

@@ -1,6 +1,8 @@
--- Statements, declarations and programs. A statement that is no item of a block is a level of nesting, and so is the brace of a
+-- Statements, declarations and programs. A statement that is no item of a block is a level of nesting, and so is the
+-- brace of a
 -- block; the block of a function, of a `switch` or of a backquote is no statement of its own.
-use Rattle.std.specs.Prelude.{ℕ, zero, suc, Bool, true, false, ◌||◌, ◌&&◌, if◌then◌else◌, List, [], ◌∷◌, ◌++◌, length, Option, Some, None, Ok}
+use Rattle.std.specs.Prelude.{ℕ, zero, suc, Bool, true, false, ◌||◌, ◌&&◌, if◌then◌else◌, List, [], ◌∷◌, ◌++◌, length}
+use Rattle.std.specs.Prelude.{Option, Some, None, Ok}
 use Rattle.tick_tree.specs.declared.base.Base.{Base}
 use Rattle.tick_tree.specs.declared.base.BinaryOp.TheVariants as op
 use Rattle.tick_tree.specs.declared.syntax.Declaration.{Declaration, roll-Declaration}
@@ -21,7 +23,8 @@ use Rattle.parse_grammar.specs.declared.kind.Mark.TheVariants as m
 use Rattle.parse_grammar.specs.declared.kind.Word.{Word}
 use Rattle.parse_grammar.specs.declared.kind.Word.TheVariants as w
 use Rattle.parse_grammar.specs.declared.grammar.Mode.TheVariants as mode_of
-use Rattle.parse_grammar.specs.Input.{Input, Parser, ◌>>=◌, ◌>>◌, ◌<$>◌, pure, refuse, peek, at_line, take_token, sees, eat, expect, expect_word, kind}
+use Rattle.parse_grammar.specs.Input.{Input, Parser, ◌>>=◌, ◌>>◌, ◌<$>◌, pure, refuse, peek, at_line, take_token, sees}
+use Rattle.parse_grammar.specs.Input.{eat, expect, expect_word, kind}
 use Rattle.parse_grammar.specs.Steps.{Inner, Room, descend, within, enter_paren, optional, following, separated}
 use Rattle.parse_grammar.specs.Bases.{base, is_base}
 use Rattle.parse_grammar.specs.Declarators.{declarator, declares_function}
@@ -36,14 +39,16 @@ elements_from item (suc n) found = do
   x ← item
   comma ← eat m.Comma
   is_closed ← eat m.BraceClose
-  if is_closed then pure (initializer_of.List (found ++ x ∷ []) comma) else (if comma then elements_from item n (found ++ x ∷ []) else refuse)
+  if is_closed then pure (initializer_of.List (found ++ x ∷ []) comma) else
+      (if comma then elements_from item n (found ++ x ∷ []) else refuse)
 
 unfoldable pub elements : Parser Expr → Parser Initializer
 elements item = λ i. elements_from item (length i) [] i
 
 -- behind the `=`
 unfoldable pub initial : Room → Parser Initializer
-initial room = λ i. if sees m.BraceOpen i then within room (λ r. elements r.assign) i else (initializer_of.Value <$> assign room) i
+initial room = λ i. if sees m.BraceOpen i then within room (λ r. elements r.assign) i else
+    (initializer_of.Value <$> assign room) i
 
 unfoldable pub initializer : Room → Parser Initializer
 initializer room = λ i. if sees m.Assign i then (take_token >> initial room) i else pure initializer_of.Absent i
@@ -103,7 +108,8 @@ part room = peek >>= (λ kind. if begins_stmt kind then descend room >>= (λ p. 
 
 -- an `else` belongs to the nearest `if`
 unfoldable pub else_rest : ℕ → Room → Expr → Stmt → Parser Stmt
-else_rest n room test first = λ i. if sees m.Else i then (take_token >> s.IfElse n test first <$> part room) i else pure (s.If n test first) i
+else_rest n room test first =
+    λ i. if sees m.Else i then (take_token >> s.IfElse n test first <$> part room) i else pure (s.If n test first) i
 
 unfoldable pub if_rest : ℕ → Room → Parser Stmt
 if_rest n room = do
@@ -194,7 +200,14 @@ stmt room = peek >>= stmt_by room
 -- ---- room for n levels
 
 abbrev pub inner : Room → Inner
-inner room = record { expr = expr room; assign = assign room; cond = cond room; unary = unary room; stmt = stmt room; declarator = λ mode. declarator mode room }
+inner room = record {
+  expr = expr room;
+  assign = assign room;
+  cond = cond room;
+  unary = unary room;
+  stmt = stmt room;
+  declarator = λ mode. declarator mode room;
+}
 
 unfoldable pub room_of : ℕ → Room
 room_of zero = []
@@ -211,17 +224,21 @@ variables room n words d = do
 
 -- a `{` behind the first declarator is taken only where its name is followed at once by a parameter list
 abbrev pub function_or_variables : Room → ℕ → Base → Bool → Declarator → Parser External
-function_or_variables room n words is_function d = λ i. if is_function && sees m.BraceOpen i then (external_of.Function n words d <$> block room) i else variables room n words d i
+function_or_variables room n words is_function d =
+    λ i. if is_function && sees m.BraceOpen i then (external_of.Function n words d <$> block room) i else
+    variables room n words d i
 
 unfoldable pub first_declared : Room → ℕ → Base → Parser External
-first_declared room n words = λ i. (declarator mode_of.Named room >>= function_or_variables room n words (declares_function i)) i
+first_declared room n words =
+    λ i. (declarator mode_of.Named room >>= function_or_variables room n words (declares_function i)) i
 
 unfoldable pub external : Room → Parser External
 external room = do
   n ← at_line
   words ← base
   is_empty ← eat m.Semicolon
-  if is_empty then pure (external_of.Declaration (roll-Declaration (record { line = n; base = words; inits = [] }))) else first_declared room n words
+  if is_empty then pure (external_of.Declaration (roll-Declaration (record { line = n; base = words; inits = [] })))
+      else first_declared room n words
 
 unfoldable pub at_end : Input → Bool
 at_end [] = true
@@ -229,7 +246,8 @@ at_end (t ∷ i) = false
 
 unfoldable pub program_from : Parser External → ℕ → List External → Parser (List External)
 program_from item zero found = λ i. if at_end i then pure found i else refuse i
-program_from item (suc n) found = λ i. if at_end i then pure found i else (item >>= (λ x. program_from item n (found ++ x ∷ []))) i
+program_from item (suc n) found =
+    λ i. if at_end i then pure found i else (item >>= (λ x. program_from item n (found ++ x ∷ []))) i
 
 unfoldable pub program : Room → Parser (List External)
 program room = λ i. program_from (external room) (length i) [] i

@@ -17,7 +17,8 @@ unfolding kind
 string_stops found [] h = refl
 string_stops found (t ∷ i) h = ap (λ b. cond b (strings (found ++ string_bytes t.text) i) (Ok (found, t ∷ i))) h
 
-pub string_goes : (found : List ℕ) (i : Input) → is_string (kind i) ≡ true → strings found i ≡ strings (found ++ string_bytes (text i)) (next i)
+pub string_goes : (found : List ℕ) (i : Input) → is_string (kind i) ≡ true →
+    strings found i ≡ strings (found ++ string_bytes (text i)) (next i)
 unfolding kind next text is_string
 string_goes found [] h = let q : ⊥ = cc in absurd q
 string_goes found (t ∷ i) h = ap (λ b. cond b (strings (found ++ string_bytes t.text) i) (Ok (found, t ∷ i))) h
@@ -32,17 +33,20 @@ pub ruleset string_steps = (string_stops, string_goes, string_shortens)
 -- ---- chains
 
 -- an operator of a chain takes a level, and then the rest of the room goes on
-pub chain_goes : {Op : Type 0} (op : Kind → Option Op) (step : Inner → Room → Op → ℕ → Expr → Parser Expr) (o : Op) (room : Room) (left : Expr) (i : Input) → op (kind i) ≡ Some o
+pub chain_goes : {Op : Type 0} (op : Kind → Option Op) (step : Inner → Room → Op → ℕ → Expr → Parser Expr) (o : Op)
+    (room : Room) (left : Expr) (i : Input) → op (kind i) ≡ Some o
     → chain op step room left i ≡ and_then (enter room i) (λ p. step p.0 p.1 o (line i) left >>= chain op step p.1)
 unfolding enter descend
 chain_goes op step o [] left i h = ap (λ q. ends_by q left i) h
 chain_goes op step o (r ∷ rs) left i h = ap (λ q. chain_by q left (step r rs) (chain op step rs) i) h
 
 pub postfix_goes : (o : Postfix) (room : Room) (left : Expr) (i : Input) → postfix_kind (kind i) ≡ Some o
-    → chain postfix_kind postfix_step room left i ≡ and_then (enter room i) (λ p. postfix_step p.0 p.1 o (line i) left >>= chain postfix_kind postfix_step p.1)
+    → chain postfix_kind postfix_step room left i ≡ and_then (enter room i)
+    (λ p. postfix_step p.0 p.1 o (line i) left >>= chain postfix_kind postfix_step p.1)
 postfix_goes o room left i h = chain_goes postfix_kind postfix_step o room left i h
 
-pub postfix_stops : (room : Room) (left : Expr) (i : Input) → postfix_kind (kind i) ≡ None → chain postfix_kind postfix_step room left i ≡ Ok (left, i)
+pub postfix_stops : (room : Room) (left : Expr) (i : Input) → postfix_kind (kind i) ≡ None →
+    chain postfix_kind postfix_step room left i ≡ Ok (left, i)
 postfix_stops room left i h = chain_stops postfix_kind postfix_step room left i h
 
 pub ruleset postfix_steps = (postfix_goes, postfix_stops)

@@ -10,7 +10,8 @@ use Rattle.parse_grammar.specs.declared.kind.Kind.TheVariants as k
 use Rattle.parse_grammar.specs.declared.kind.Mark.{Mark}
 use Rattle.parse_grammar.specs.declared.kind.Word.{Word as Keyword}
 use Rattle.parse_grammar.specs.declared.stop.Stop.{Stop}
-use Rattle.parse_grammar.specs.Input.{Input, Outcome, Parser, and_then, kind, next, text, value, unsigned, sees, is_mark, is_word, same_mark, same_word, expect, expect_word}
+use Rattle.parse_grammar.specs.Input.{Input, Outcome, Parser, and_then, kind, next, text, value, unsigned, sees}
+use Rattle.parse_grammar.specs.Input.{is_mark, is_word, same_mark, same_word, expect, expect_word}
 use Rattle.tick_tree.specs.declared.base.UnaryOp.{UnaryOp}
 use Rattle.parse_spelling.specs.Words.{Words, sign_kind, Plain, Name, Number, Character, word_by, join, words}
 use Rattle.parse_spelling.specs.Spelling.{Spelling, mark, keyword_word}
@@ -31,21 +32,25 @@ pub refused : {A : Type 0} (s : Stop) (Q : A → Input → Type 0) → Gives (Er
 unfolding Gives
 refused s Q = tt
 
-pub after : {A B : Type 0} (o : Outcome A) (Q : A → Input → Type 0) (f : A → Parser B) (R : B → Input → Type 0) → Gives o Q → ((a : A) (j : Input) → Q a j → Gives (f a j) R) → Gives (and_then o f) R
+pub after : {A B : Type 0} (o : Outcome A) (Q : A → Input → Type 0) (f : A → Parser B) (R : B → Input → Type 0) →
+    Gives o Q → ((a : A) (j : Input) → Q a j → Gives (f a j) R) → Gives (and_then o f) R
 unfolding Gives
 after (Ok p) Q f R h go = go p.0 p.1 h
 after (Err s) Q f R h go = tt
 
-pub choose : {A : Type 0} (b : Bool) (o p : Outcome A) (Q : A → Input → Type 0) → (b ≡ true → Gives o Q) → (b ≡ false → Gives p Q) → Gives (cond b o p) Q
+pub choose : {A : Type 0} (b : Bool) (o p : Outcome A) (Q : A → Input → Type 0) → (b ≡ true → Gives o Q) →
+    (b ≡ false → Gives p Q) → Gives (cond b o p) Q
 choose true o p Q yes_goes no_goes = yes_goes refl
 choose false o p Q yes_goes no_goes = no_goes refl
 
 -- the same for a choice between parsers
-pub choose_parser : {A : Type 0} (b : Bool) (p q : Parser A) (i : Input) (Q : A → Input → Type 0) → (b ≡ true → Gives (p i) Q) → (b ≡ false → Gives (q i) Q) → Gives ((cond b p q) i) Q
+pub choose_parser : {A : Type 0} (b : Bool) (p q : Parser A) (i : Input) (Q : A → Input → Type 0) →
+    (b ≡ true → Gives (p i) Q) → (b ≡ false → Gives (q i) Q) → Gives ((cond b p q) i) Q
 choose_parser true p q i Q yes_goes no_goes = yes_goes refl
 choose_parser false p q i Q yes_goes no_goes = no_goes refl
 
-pub guard : {A : Type 0} (b : Bool) (o : Outcome A) (s : Stop) (Q : A → Input → Type 0) → (b ≡ true → Gives o Q) → Gives (cond b o (Err s)) Q
+pub guard : {A : Type 0} (b : Bool) (o : Outcome A) (s : Stop) (Q : A → Input → Type 0) → (b ≡ true → Gives o Q) →
+    Gives (cond b o (Err s)) Q
 guard b o s Q goes = choose b o (Err s) Q goes (λ _. refused s Q)
 
 -- what a parser reads is spelled so
@@ -116,9 +121,11 @@ pub expect_says : (x : Mark) → Says (λ _. mark x) (expect x)
 expect_says x i = guard (sees x i) _ _ _ (λ h. given _ _ _ (taken_mark x i h))
 
 pub expect_word_says : (x : Keyword) → Says (λ _. keyword_word x) (expect_word x)
-expect_word_says x i = guard (is_word x (kind i)) _ _ _ (λ h. given _ _ _ (taken (k.Word x) i refl (worded x (kind i) h)))
+expect_word_says x i = guard (is_word x (kind i)) _ _ _
+    (λ h. given _ _ _ (taken (k.Word x) i refl (worded x (kind i) h)))
 
-pub weaken : {A : Type 0} (o : Outcome A) (Q R : A → Input → Type 0) → Gives o Q → ((a : A) (j : Input) → Q a j → R a j) → Gives o R
+pub weaken : {A : Type 0} (o : Outcome A) (Q R : A → Input → Type 0) → Gives o Q →
+    ((a : A) (j : Input) → Q a j → R a j) → Gives o R
 unfolding Gives
 weaken (Ok p) Q R h go = go p.0 p.1 h
 weaken (Err s) Q R h go = tt

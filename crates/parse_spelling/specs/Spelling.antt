@@ -11,8 +11,12 @@ use Rattle.tick_tree.specs.declared.base.UnaryOp.{UnaryOp}
 use Rattle.tick_tree.specs.declared.syntax.Declaration.{Declaration}
 use Rattle.tick_tree.specs.declared.syntax.Declarator.{Declarator}
 use Rattle.tick_tree.specs.declared.syntax.Expr.{Expr}
-use Rattle.tick_tree.specs.declared.syntax.Core.TheFolds.{fold-Expr, fold-OptionalExpr, fold-Typename, fold-Declarator, fold-Core, fold-Suffix, fold-Parameter, fold-Initializer, fold-Init, fold-Declaration, fold-Stmt}
-use Rattle.tick_tree.specs.declared.syntax.Core.TheOpen.{Expr-F, OptionalExpr-F, Typename-F, Declarator-F, Core-F, Suffix-F, Parameter-F, Initializer-F, Init-F, Declaration-F, Stmt-F}
+use Rattle.tick_tree.specs.declared.syntax.Core.TheFolds.{fold-Expr, fold-OptionalExpr, fold-Typename, fold-Declarator}
+use Rattle.tick_tree.specs.declared.syntax.Core.TheFolds.{fold-Core, fold-Suffix, fold-Parameter, fold-Initializer}
+use Rattle.tick_tree.specs.declared.syntax.Core.TheFolds.{fold-Init, fold-Declaration, fold-Stmt}
+use Rattle.tick_tree.specs.declared.syntax.Core.TheOpen.{Expr-F, OptionalExpr-F, Typename-F, Declarator-F, Core-F}
+use Rattle.tick_tree.specs.declared.syntax.Core.TheOpen.{Suffix-F, Parameter-F, Initializer-F, Init-F, Declaration-F}
+use Rattle.tick_tree.specs.declared.syntax.Core.TheOpen.{Stmt-F}
 use Rattle.tick_tree.specs.declared.syntax.OptionalExpr.{OptionalExpr}
 use Rattle.tick_tree.specs.declared.syntax.Typename.{Typename}
 use Rattle.tick_tree.specs.declared.syntax.Core.{Core}
@@ -100,7 +104,8 @@ braced xs w = mark m.BraceOpen (in_turn xs (mark m.BraceClose w))
 
 -- ---- one layer of a tree, with the words of its parts in their places
 
-abbrev pub expr_rule : Expr-F Spelling Spelling Spelling Spelling Spelling Spelling Spelling Spelling Spelling Spelling Spelling → Spelling
+abbrev pub expr_rule : Expr-F Spelling Spelling Spelling Spelling Spelling Spelling Spelling Spelling Spelling Spelling
+    Spelling → Spelling
 expr_rule (Expr-F.Expr::Name n text) w = Name text ∷ w
 expr_rule (Expr-F.Number value unsigned) w = Number value unsigned ∷ w
 expr_rule (Expr-F.Character value) w = Character value ∷ w
@@ -123,52 +128,68 @@ expr_rule (Expr-F.Assign n p) w = p.0 (mark m.Assign (p.1 w))
 expr_rule (Expr-F.Modify n o p) w = p.0 (Plain (k.Modify o) ∷ p.1 w)
 expr_rule (Expr-F.Comma n p) w = p.0 (mark m.Comma (p.1 w))
 
-abbrev pub optional_rule : OptionalExpr-F Spelling Spelling Spelling Spelling Spelling Spelling Spelling Spelling Spelling Spelling Spelling → Spelling
+abbrev pub optional_rule : OptionalExpr-F Spelling Spelling Spelling Spelling Spelling Spelling Spelling Spelling
+    Spelling Spelling Spelling → Spelling
 optional_rule OptionalExpr-F.OptionalExpr::Absent w = w
 optional_rule (OptionalExpr-F.Present a) w = a w
 
-abbrev pub typename_rule : Typename-F Spelling Spelling Spelling Spelling Spelling Spelling Spelling Spelling Spelling Spelling Spelling → Spelling
+abbrev pub typename_rule : Typename-F Spelling Spelling Spelling Spelling Spelling Spelling Spelling Spelling Spelling
+    Spelling Spelling → Spelling
 typename_rule t w = base_words t.base (t.declarator w)
 
-abbrev pub declarator_rule : Declarator-F Spelling Spelling Spelling Spelling Spelling Spelling Spelling Spelling Spelling Spelling Spelling → Spelling
+abbrev pub declarator_rule : Declarator-F Spelling Spelling Spelling Spelling Spelling Spelling Spelling Spelling
+    Spelling Spelling Spelling → Spelling
 declarator_rule d w = prefix_words d.prefixes (d.core (in_turn d.suffixes w))
 
-abbrev pub core_rule : Core-F Spelling Spelling Spelling Spelling Spelling Spelling Spelling Spelling Spelling Spelling Spelling → Spelling
+abbrev pub core_rule : Core-F Spelling Spelling Spelling Spelling Spelling Spelling Spelling Spelling Spelling Spelling
+    Spelling → Spelling
 core_rule Core-F.Core::Absent w = w
 core_rule (Core-F.Core::Name n text) w = Name text ∷ w
 core_rule (Core-F.Core::Paren d) w = mark m.ParenOpen (d (mark m.ParenClose w))
 
-abbrev pub suffix_rule : Suffix-F Spelling Spelling Spelling Spelling Spelling Spelling Spelling Spelling Spelling Spelling Spelling → Spelling
+abbrev pub suffix_rule : Suffix-F Spelling Spelling Spelling Spelling Spelling Spelling Spelling Spelling Spelling
+    Spelling Spelling → Spelling
 suffix_rule (Suffix-F.Array a) w = mark m.BracketOpen (a (mark m.BracketClose w))
 suffix_rule Suffix-F.Unlisted w = mark m.ParenOpen (mark m.ParenClose w)
 suffix_rule Suffix-F.Nothing w = mark m.ParenOpen (Plain (k.Base base_word.Void) ∷ mark m.ParenClose w)
 suffix_rule (Suffix-F.Listed ps) w = mark m.ParenOpen (with_commas ps (mark m.ParenClose w))
 
-abbrev pub parameter_rule : Parameter-F Spelling Spelling Spelling Spelling Spelling Spelling Spelling Spelling Spelling Spelling Spelling → Spelling
+abbrev pub parameter_rule : Parameter-F Spelling Spelling Spelling Spelling Spelling Spelling Spelling Spelling Spelling
+    Spelling Spelling → Spelling
 parameter_rule p w = base_words p.base (p.declarator w)
 
-abbrev pub initializer_rule : Initializer-F Spelling Spelling Spelling Spelling Spelling Spelling Spelling Spelling Spelling Spelling Spelling → Spelling
+abbrev pub initializer_rule : Initializer-F Spelling Spelling Spelling Spelling Spelling Spelling Spelling Spelling
+    Spelling Spelling Spelling → Spelling
 initializer_rule Initializer-F.Initializer::Absent w = w
 initializer_rule (Initializer-F.Value a) w = mark m.Assign (a w)
-initializer_rule (Initializer-F.List xs comma) w = mark m.Assign (mark m.BraceOpen (with_commas xs (optional_comma comma (mark m.BraceClose w))))
+initializer_rule (Initializer-F.List xs comma) w =
+    mark m.Assign (mark m.BraceOpen (with_commas xs (optional_comma comma (mark m.BraceClose w))))
 
-abbrev pub init_rule : Init-F Spelling Spelling Spelling Spelling Spelling Spelling Spelling Spelling Spelling Spelling Spelling → Spelling
+abbrev pub init_rule : Init-F Spelling Spelling Spelling Spelling Spelling Spelling Spelling Spelling Spelling Spelling
+    Spelling → Spelling
 init_rule x w = x.declarator (x.value w)
 
-abbrev pub declaration_rule : Declaration-F Spelling Spelling Spelling Spelling Spelling Spelling Spelling Spelling Spelling Spelling Spelling → Spelling
+abbrev pub declaration_rule : Declaration-F Spelling Spelling Spelling Spelling Spelling Spelling Spelling Spelling
+    Spelling Spelling Spelling → Spelling
 declaration_rule d w = base_words d.base (with_commas d.inits (mark m.Semicolon w))
 
-abbrev pub stmt_rule : Stmt-F Spelling Spelling Spelling Spelling Spelling Spelling Spelling Spelling Spelling Spelling Spelling → Spelling
+abbrev pub stmt_rule : Stmt-F Spelling Spelling Spelling Spelling Spelling Spelling Spelling Spelling Spelling Spelling
+    Spelling → Spelling
 stmt_rule Stmt-F.Empty w = mark m.Semicolon w
 stmt_rule (Stmt-F.Expr a) w = a (mark m.Semicolon w)
 stmt_rule (Stmt-F.Block items) w = braced items w
 stmt_rule (Stmt-F.Stmt::Local d) w = d w
 stmt_rule (Stmt-F.If n a x) w = keyword_word keyword.If (mark m.ParenOpen (a (mark m.ParenClose (x w))))
-stmt_rule (Stmt-F.IfElse n a x y) w = keyword_word keyword.If (mark m.ParenOpen (a (mark m.ParenClose (x (mark m.Else (y w))))))
+stmt_rule (Stmt-F.IfElse n a x y) w =
+    keyword_word keyword.If (mark m.ParenOpen (a (mark m.ParenClose (x (mark m.Else (y w))))))
 stmt_rule (Stmt-F.While n a x) w = keyword_word keyword.While (mark m.ParenOpen (a (mark m.ParenClose (x w))))
-stmt_rule (Stmt-F.Do n x a) w = keyword_word keyword.Do (x (keyword_word keyword.While (mark m.ParenOpen (a (mark m.ParenClose (mark m.Semicolon w))))))
-stmt_rule (Stmt-F.For n first test step x) w = keyword_word keyword.For (mark m.ParenOpen (first (test (mark m.Semicolon (step (mark m.ParenClose (x w)))))))
-stmt_rule (Stmt-F.Switch n a items) w = keyword_word keyword.Switch (mark m.ParenOpen (a (mark m.ParenClose (braced items w))))
+stmt_rule (Stmt-F.Do n x a) w =
+    keyword_word keyword.Do (x
+    (keyword_word keyword.While (mark m.ParenOpen (a (mark m.ParenClose (mark m.Semicolon w))))))
+stmt_rule (Stmt-F.For n first test step x) w =
+    keyword_word keyword.For (mark m.ParenOpen (first (test (mark m.Semicolon (step (mark m.ParenClose (x w)))))))
+stmt_rule (Stmt-F.Switch n a items) w =
+    keyword_word keyword.Switch (mark m.ParenOpen (a (mark m.ParenClose (braced items w))))
 stmt_rule (Stmt-F.Case n a) w = keyword_word keyword.Case (a (mark m.Colon w))
 stmt_rule (Stmt-F.Default n) w = keyword_word keyword.Default (mark m.Colon w)
 stmt_rule (Stmt-F.Break n) w = keyword_word keyword.Break (mark m.Semicolon w)
@@ -178,40 +199,63 @@ stmt_rule (Stmt-F.Return n a) w = keyword_word keyword.Return (a (mark m.Semicol
 -- ---- the whole
 
 unfoldable pub spells_expr : Expr → Spelling
-spells_expr = fold-Expr Spelling Spelling Spelling Spelling Spelling Spelling Spelling Spelling Spelling Spelling Spelling core_rule expr_rule initializer_rule optional_rule stmt_rule suffix_rule declaration_rule declarator_rule init_rule parameter_rule typename_rule
+spells_expr = fold-Expr Spelling Spelling Spelling Spelling Spelling Spelling Spelling Spelling Spelling Spelling
+    Spelling core_rule expr_rule initializer_rule optional_rule stmt_rule suffix_rule declaration_rule declarator_rule
+    init_rule parameter_rule typename_rule
 
 unfoldable pub spells_optional : OptionalExpr → Spelling
-spells_optional = fold-OptionalExpr Spelling Spelling Spelling Spelling Spelling Spelling Spelling Spelling Spelling Spelling Spelling core_rule expr_rule initializer_rule optional_rule stmt_rule suffix_rule declaration_rule declarator_rule init_rule parameter_rule typename_rule
+spells_optional = fold-OptionalExpr Spelling Spelling Spelling Spelling Spelling Spelling Spelling Spelling Spelling
+    Spelling Spelling core_rule expr_rule initializer_rule optional_rule stmt_rule suffix_rule declaration_rule
+    declarator_rule init_rule parameter_rule typename_rule
 
 unfoldable pub spells_typename : Typename → Spelling
-spells_typename = fold-Typename Spelling Spelling Spelling Spelling Spelling Spelling Spelling Spelling Spelling Spelling Spelling core_rule expr_rule initializer_rule optional_rule stmt_rule suffix_rule declaration_rule declarator_rule init_rule parameter_rule typename_rule
+spells_typename = fold-Typename Spelling Spelling Spelling Spelling Spelling Spelling Spelling Spelling Spelling
+    Spelling Spelling core_rule expr_rule initializer_rule optional_rule stmt_rule suffix_rule declaration_rule
+    declarator_rule init_rule parameter_rule typename_rule
 
 unfoldable pub spells_declarator : Declarator → Spelling
-spells_declarator = fold-Declarator Spelling Spelling Spelling Spelling Spelling Spelling Spelling Spelling Spelling Spelling Spelling core_rule expr_rule initializer_rule optional_rule stmt_rule suffix_rule declaration_rule declarator_rule init_rule parameter_rule typename_rule
+spells_declarator = fold-Declarator Spelling Spelling Spelling Spelling Spelling Spelling Spelling Spelling Spelling
+    Spelling Spelling core_rule expr_rule initializer_rule optional_rule stmt_rule suffix_rule declaration_rule
+    declarator_rule init_rule parameter_rule typename_rule
 
 unfoldable pub spells_core : Core → Spelling
-spells_core = fold-Core Spelling Spelling Spelling Spelling Spelling Spelling Spelling Spelling Spelling Spelling Spelling core_rule expr_rule initializer_rule optional_rule stmt_rule suffix_rule declaration_rule declarator_rule init_rule parameter_rule typename_rule
+spells_core = fold-Core Spelling Spelling Spelling Spelling Spelling Spelling Spelling Spelling Spelling Spelling
+    Spelling core_rule expr_rule initializer_rule optional_rule stmt_rule suffix_rule declaration_rule declarator_rule
+    init_rule parameter_rule typename_rule
 
 unfoldable pub spells_suffix : Suffix → Spelling
-spells_suffix = fold-Suffix Spelling Spelling Spelling Spelling Spelling Spelling Spelling Spelling Spelling Spelling Spelling core_rule expr_rule initializer_rule optional_rule stmt_rule suffix_rule declaration_rule declarator_rule init_rule parameter_rule typename_rule
+spells_suffix = fold-Suffix Spelling Spelling Spelling Spelling Spelling Spelling Spelling Spelling Spelling Spelling
+    Spelling core_rule expr_rule initializer_rule optional_rule stmt_rule suffix_rule declaration_rule declarator_rule
+    init_rule parameter_rule typename_rule
 
 unfoldable pub spells_parameter : Parameter → Spelling
-spells_parameter = fold-Parameter Spelling Spelling Spelling Spelling Spelling Spelling Spelling Spelling Spelling Spelling Spelling core_rule expr_rule initializer_rule optional_rule stmt_rule suffix_rule declaration_rule declarator_rule init_rule parameter_rule typename_rule
+spells_parameter = fold-Parameter Spelling Spelling Spelling Spelling Spelling Spelling Spelling Spelling Spelling
+    Spelling Spelling core_rule expr_rule initializer_rule optional_rule stmt_rule suffix_rule declaration_rule
+    declarator_rule init_rule parameter_rule typename_rule
 
 unfoldable pub spells_initializer : Initializer → Spelling
-spells_initializer = fold-Initializer Spelling Spelling Spelling Spelling Spelling Spelling Spelling Spelling Spelling Spelling Spelling core_rule expr_rule initializer_rule optional_rule stmt_rule suffix_rule declaration_rule declarator_rule init_rule parameter_rule typename_rule
+spells_initializer = fold-Initializer Spelling Spelling Spelling Spelling Spelling Spelling Spelling Spelling Spelling
+    Spelling Spelling core_rule expr_rule initializer_rule optional_rule stmt_rule suffix_rule declaration_rule
+    declarator_rule init_rule parameter_rule typename_rule
 
 unfoldable pub spells_init : Init → Spelling
-spells_init = fold-Init Spelling Spelling Spelling Spelling Spelling Spelling Spelling Spelling Spelling Spelling Spelling core_rule expr_rule initializer_rule optional_rule stmt_rule suffix_rule declaration_rule declarator_rule init_rule parameter_rule typename_rule
+spells_init = fold-Init Spelling Spelling Spelling Spelling Spelling Spelling Spelling Spelling Spelling Spelling
+    Spelling core_rule expr_rule initializer_rule optional_rule stmt_rule suffix_rule declaration_rule declarator_rule
+    init_rule parameter_rule typename_rule
 
 unfoldable pub spells_declaration : Declaration → Spelling
-spells_declaration = fold-Declaration Spelling Spelling Spelling Spelling Spelling Spelling Spelling Spelling Spelling Spelling Spelling core_rule expr_rule initializer_rule optional_rule stmt_rule suffix_rule declaration_rule declarator_rule init_rule parameter_rule typename_rule
+spells_declaration = fold-Declaration Spelling Spelling Spelling Spelling Spelling Spelling Spelling Spelling Spelling
+    Spelling Spelling core_rule expr_rule initializer_rule optional_rule stmt_rule suffix_rule declaration_rule
+    declarator_rule init_rule parameter_rule typename_rule
 
 unfoldable pub spells_stmt : Stmt → Spelling
-spells_stmt = fold-Stmt Spelling Spelling Spelling Spelling Spelling Spelling Spelling Spelling Spelling Spelling Spelling core_rule expr_rule initializer_rule optional_rule stmt_rule suffix_rule declaration_rule declarator_rule init_rule parameter_rule typename_rule
+spells_stmt = fold-Stmt Spelling Spelling Spelling Spelling Spelling Spelling Spelling Spelling Spelling Spelling
+    Spelling core_rule expr_rule initializer_rule optional_rule stmt_rule suffix_rule declaration_rule declarator_rule
+    init_rule parameter_rule typename_rule
 
 abbrev pub spells_external : External → Spelling
-spells_external (external_of.Function n words d items) w = base_words words (spells_declarator d (braced (map spells_stmt items) w))
+spells_external (external_of.Function n words d items) w =
+    base_words words (spells_declarator d (braced (map spells_stmt items) w))
 spells_external (external_of.Declaration d) w = spells_declaration d w
 
 -- the words of a program

@@ -3,7 +3,8 @@ use Rattle.std.proofs.Common.{◌≡◌, [], ◌∷◌, Some, None, false, refl}
 use Rattle.host_edge.specs.declared.ending.Ending.TheVariants.{Done}
 use Rattle.icode_ops.specs.declared.kind.BinKind.TheVariants.{Add, LessSigned, Subtract}
 use Rattle.history.specs.Events.{Out, Ended, Input}
-use Rattle.typed_tree.specs.Nodes.{Const, Var, SetVar, Bin, Lib, Stmt, Eval, Block, Variable, IfElse, While, ReturnValue, Items, NoItem, Item, Function}
+use Rattle.typed_tree.specs.Nodes.{Const, Var, SetVar, Bin, Lib, Stmt, Eval, Block, Variable, IfElse, While}
+use Rattle.typed_tree.specs.Nodes.{ReturnValue, Items, NoItem, Item, Function}
 use Rattle.typed_tree.specs.declared.expression.Library.TheVariants.{Putchar}
 use Rattle.staged_meaning.specs.Size.{size_of}
 use Rattle.staged_meaning.specs.Meaning.{Program, meant}
@@ -12,19 +13,22 @@ no_input : Input
 no_input = record { bytes = []; failing = false }
 
 abbrev main_of : Stmt → Program
-main_of body = let main : Function = record { parameters = 0; object = 0; body = body } in record { main = main; functions = main ∷ []; ticks = []; image = [] }
+main_of body = let main : Function = record { parameters = 0; object = 0; body = body } in
+    record { main = main; functions = main ∷ []; ticks = []; image = [] }
 
 abbrev two : Stmt → Stmt → Items
 two a b = Item a (Item b NoItem)
 
 -- int main(){putchar(72);putchar(10);return 3;}
 abbrev hello : Program
-hello = main_of (Block NoItem (Item (Eval (Lib Putchar (Const 72))) (two (Eval (Lib Putchar (Const 10))) (ReturnValue (Const 3)))))
+hello = main_of (Block NoItem
+    (Item (Eval (Lib Putchar (Const 72))) (two (Eval (Lib Putchar (Const 10))) (ReturnValue (Const 3)))))
 
 hello_has_nine_nodes : size_of hello.main ≡ 9
 hello_has_nine_nodes = refl
 
-hello_ends_with_three : meant hello no_input 6 ≡ record { history = Out 72 ∷ Out 10 ∷ []; ending = Some (Ended (Done 3)) }
+hello_ends_with_three : meant hello no_input 6 ≡ record
+    { history = Out 72 ∷ Out 10 ∷ []; ending = Some (Ended (Done 3)) }
 hello_ends_with_three = refl
 
 hello_stops_with_five : meant hello no_input 5 ≡ record { history = Out 72 ∷ Out 10 ∷ []; ending = None }
@@ -45,7 +49,8 @@ counting =
     (two (Eval (Lib Putchar (Bin Add (Const 65) (Var 0)))) (Eval (SetVar 0 (Bin Add (Var 0) (Const 1)))))))
     (ReturnValue (Var 0)))))
 
-counting_ends_with_three : meant counting no_input 100 ≡ record { history = Out 65 ∷ Out 66 ∷ Out 67 ∷ []; ending = Some (Ended (Done 3)) }
+counting_ends_with_three : meant counting no_input 100 ≡ record
+    { history = Out 65 ∷ Out 66 ∷ Out 67 ∷ []; ending = Some (Ended (Done 3)) }
 counting_ends_with_three = refl
 
 -- int main(){int i;if(i<1){putchar(65);}else{putchar(66);}return 0-1;}
@@ -57,5 +62,6 @@ choosing =
     (IfElse (Bin LessSigned (Var 0) (Const 1)) (Eval (Lib Putchar (Const 65))) (Eval (Lib Putchar (Const 66))))
     (ReturnValue (Bin Subtract (Const 0) (Const 1)))))
 
-choosing_ends_with_255 : meant choosing no_input 100 ≡ record { history = Out 65 ∷ []; ending = Some (Ended (Done 255)) }
+choosing_ends_with_255 : meant choosing no_input 100 ≡ record
+    { history = Out 65 ∷ []; ending = Some (Ended (Done 255)) }
 choosing_ends_with_255 = refl

@@ -1,4 +1,5 @@
--- The value of an expression, by cases on typed nodes: operands from left to right, a place before the value that it gets,
+-- The value of an expression, by cases on typed nodes: operands from left to right, a place before the value that it
+-- gets,
 -- and a unit of work for each node but Comma, Void and Splice, once its thing has been done; that of a Capture is the
 -- capture's. These are this project's own rules on the order of evaluation and on work; what the operators do is C's.
 use Rattle.std.specs.Prelude.{ℕ, zero, suc, ◌+◌, ◌%◌, List, [], ◌∷◌, length}
@@ -10,18 +11,23 @@ use Rattle.history.specs.Syntax.{Captures, Word, Named, Spliced}
 use Rattle.history.specs.Events.{Ended, ReadFault}
 use Rattle.icode_ops.specs.declared.kind.BinKind.{BinKind}
 use Rattle.meaning_state.specs.Operators.{bin_value, bin_trap, un_value}
-use Rattle.meaning_state.specs.Shared.{Local, byte_answer, put_byte, put_number, Read, Got, Failed, get_byte, access_trap, loaded, stored, frame_start, malloc_answer, malloc}
+use Rattle.meaning_state.specs.Shared.{Local, byte_answer, put_byte, put_number, Read, Got, Failed, get_byte}
+use Rattle.meaning_state.specs.Shared.{access_trap, loaded, stored, frame_start, malloc_answer, malloc}
 use Rattle.typed_tree.specs.declared.expression.Answer.{Answer}
 use Rattle.typed_tree.specs.declared.expression.Answer.TheVariants as answer
 use Rattle.typed_tree.specs.declared.expression.Library.TheVariants.{Putchar, Putint, Exit, Malloc}
 use Rattle.typed_tree.specs.Nodes as node
-use Rattle.typed_tree.specs.Nodes.{Expr, Const, Captured, Var, SetVar, PostVar, VGet, VSet, VPost, Frame, Load, Store, Modify, Post, Bin, Un, And, Or, Cond, Comma, Void, Call, CallNumber, Getchar, Lib, Tick, Capture, Splice, Compile, ParamOf, Args, NoArg, Arg}
+use Rattle.typed_tree.specs.Nodes.{Expr, Const, Captured, Var, SetVar, PostVar, VGet, VSet, VPost, Frame, Load, Store}
+use Rattle.typed_tree.specs.Nodes.{Modify, Post, Bin, Un, And, Or, Cond, Comma, Void, Call, CallNumber, Getchar, Lib}
+use Rattle.typed_tree.specs.Nodes.{Tick, Capture, Splice, Compile, ParamOf, Args, NoArg, Arg}
 use Rattle.staged_meaning.specs.Program.{Program, callee_at, call_trap}
 use Rattle.staged_meaning.specs.Specifications.{kinds_of, specify, specify_tick, specify_parameter, compile_number}
-use Rattle.staged_meaning.specs.World.{World, Result, Gives, Ends, then_do, spend, with_variable, with_generated, with_shared, unless, at_zero}
+use Rattle.staged_meaning.specs.World.{World, Result, Gives, Ends, then_do, spend, with_variable, with_generated}
+use Rattle.staged_meaning.specs.World.{with_shared, unless, at_zero}
 
 -- What stands round an evaluation: the program; the calls of live functions by their numbers; how many turns a loop may
--- have, which is more than there are units; the bytes of the active function's frame objects; and in generated code what the
+-- have, which is more than there are units; the bytes of the active function's frame objects; and in generated code
+-- what the
 -- captures of its tick stand for, and the syntax that is spliced in by each.
 pub record Context : Type 0 where
   pub program : Program
@@ -108,10 +114,12 @@ abbrev mutual
   eval c (Store width a b) w = then_do (eval c a w) (λ at w. then_do (eval c b w) (store_at width at))
   eval c (Modify width kind a b) w =
       then_do (eval c a w)
-      (λ at w. unless (access_trap at width) w (then_do (eval c b w) (modify_at width kind at (loaded at width w.shared))))
+      (λ at w. unless (access_trap at width) w
+      (then_do (eval c b w) (modify_at width kind at (loaded at width w.shared))))
   eval c (Post width step a) w = then_do (eval c a w) (post_at width step)
   eval c (Bin kind a b) w =
-      then_do (eval c a w) (λ x w. then_do (eval c b w) (λ y w. unless (bin_trap kind x y) w (spend (bin_value kind x y) w)))
+      then_do (eval c a w) (λ x w. then_do (eval c b w)
+      (λ y w. unless (bin_trap kind x y) w (spend (bin_value kind x y) w)))
   eval c (Un kind a) w = then_do (eval c a w) (λ x w. spend (un_value kind x) w)
   eval c (And a b) w =
       then_do (eval c a w)

@@ -1,5 +1,7 @@
--- The meaning of a program: a big-step evaluation by cases on typed nodes, with units of work as fuel. Here are calls, of the
--- functions of the text and of those that were compiled; generated code, in which each spliced body has variables of its
+-- The meaning of a program: a big-step evaluation by cases on typed nodes, with units of work as fuel. Here are calls,
+-- of the
+-- functions of the text and of those that were compiled; generated code, in which each spliced body has variables of
+-- its
 -- own; and a whole run, with its history and its ending. These are this project's own rules.
 use Rattle.std.specs.Prelude.{ℕ, zero, suc, ◌/◌, ◌%◌, nat_lt, if◌then◌else◌, List, [], Option, Some, None, slice_get}
 use Rattle.word32.specs.Space.{bytes_from}
@@ -13,10 +15,31 @@ use Rattle.meaning_state.specs.Shared.{Shared, happens, limit_trap, charged, dis
 use Rattle.meaning_state.specs.Rows.{locals_of}
 use Rattle.typed_tree.specs.Nodes.{Function}
 use Rattle.staged_meaning.specs.Size.{size_of, charge_of}
-use Rattle.staged_meaning.specs.World.{World, Result, Gives, Returns, Ends, Stops, Flow, Normal, then_do, spend, spend_all, with_shared, unless}
-pub use Rattle.staged_meaning.specs.Program.{Tick, OfExpression, OfStatement, Program, Callee, Static, Generated, callee_at, syntax_size}
+use Rattle.staged_meaning.specs.World.{World, Result, Gives, Returns, Ends, Stops, Flow, Normal, then_do, spend}
+use Rattle.staged_meaning.specs.World.{spend_all, with_shared, unless}
+pub use Rattle.staged_meaning.specs.Program.{
+  Tick,
+  OfExpression,
+  OfStatement,
+  Program,
+  Callee,
+  Static,
+  Generated,
+  callee_at,
+  syntax_size,
+}
 pub use Rattle.staged_meaning.specs.Expressions.{Context, eval, eval_args}
-pub use Rattle.staged_meaning.specs.Statements.{argument, exec, exec_items, then_next, turn_end, turns, round_end, rounds, stepped}
+pub use Rattle.staged_meaning.specs.Statements.{
+  argument,
+  exec,
+  exec_items,
+  then_next,
+  turn_end,
+  turns,
+  round_end,
+  rounds,
+  stepped,
+}
 use Rattle.word32.specs.declared.map.TheConstants.{HEAP, OBJECTS}
 
 -- ---- calls
@@ -127,7 +150,8 @@ around program turns call object = record {
 }
 
 -- a call of what a number stands for
-abbrev pub call_callee : Program → (turns : ℕ) → (call : ℕ → List ℕ → World → Result ℕ) → (number : ℕ) → Option Callee → List ℕ → World → Result ℕ
+abbrev pub call_callee : Program → (turns : ℕ) → (call : ℕ → List ℕ → World → Result ℕ) → (number : ℕ) → Option Callee →
+    List ℕ → World → Result ℕ
 call_callee program turns call number None arguments w = Ends (Ended (Trap BadCall)) w.shared
 call_callee program turns call number (Some (Static function)) arguments w =
     call_function (around program turns call function.object) function arguments w
@@ -146,7 +170,8 @@ call_at program turns (suc d) number arguments w =
 abbrev pub finish : ℕ → World → Result ℕ
 finish v w = Ends (Ended (Done (v % 256))) w.shared
 
--- What outlives a call, as a run begins: nothing happened yet, no call is active, and the heap and the rows are empty. The
+-- What outlives a call, as a run begins: nothing happened yet, no call is active, and the heap and the rows are empty.
+-- The
 -- globals and strings stand from the first address of the object space on.
 abbrev pub at_start : Program → Input → Shared
 at_start program input = record {
@@ -181,7 +206,8 @@ main_context program units =
 abbrev pub run_program : Program → Input → ℕ → Result ℕ
 run_program program input units =
     then_do
-    (charging (charge_of (size_of program.main)) program.main.object (call_body (main_context program units) program.main []) (begins program input units))
+    (charging (charge_of (size_of program.main)) program.main.object
+    (call_body (main_context program units) program.main []) (begins program input units))
     finish
 
 -- what is seen of it

@@ -1,7 +1,10 @@
--- A program as it has a meaning: its functions, its ticks, and the bytes of its globals and strings; what its numbers stand
--- for, and the sizes of generated code. A splice counts one, and the size of the specification that it stands for besides.
+-- A program as it has a meaning: its functions, its ticks, and the bytes of its globals and strings; what its numbers
+-- stand
+-- for, and the sizes of generated code. A splice counts one, and the size of the specification that it stands for
+-- besides.
 -- These are this project's own rules.
-use Rattle.std.specs.Prelude.{ℕ, ◌+◌, ◌-◌, Bool, false, nat_eq, nat_le, if◌then◌else◌, List, length, slice_get, Option, Some, None}
+use Rattle.std.specs.Prelude.{ℕ, ◌+◌, ◌-◌, Bool, false, nat_eq, nat_le, if◌then◌else◌, List, length, slice_get, Option}
+use Rattle.std.specs.Prelude.{Some, None}
 use Rattle.host_edge.specs.declared.ending.TrapKind.{TrapKind}
 use Rattle.host_edge.specs.declared.ending.TrapKind.TheVariants.{BadCall}
 use Rattle.history.specs.Syntax.{Syntax, Ticked, Captures, NoCapture, Word, Named, Spliced}
@@ -14,7 +17,8 @@ pub data Tick : Type 0 where
   OfExpression : Expr → Tick
   OfStatement : Stmt → Tick
 
--- the function main, the functions in the order of the text, main among them, the ticks, and the bytes of the globals and
+-- the function main, the functions in the order of the text, main among them, the ticks, and the bytes of the globals
+-- and
 -- of the strings
 pub record Program : Type 0 where
   pub main : Function

@@ -1,8 +1,12 @@
--- Which variables are in scope: those of the blocks that are entered. A checked tree uses no other. And which nodes have
+-- Which variables are in scope: those of the blocks that are entered. A checked tree uses no other. And which nodes
+-- have
 -- a meaning so far: further kinds join as further cases.
 use Rattle.std.specs.Prelude.{ℕ, ◌≡◌, ◌≤◌, Bool, true, false}
 use Rattle.word32.specs.Space.{update}
-use Rattle.typed_tree.specs.Nodes.{Expr, Const, Var, SetVar, PostVar, VSet, Load, Store, Modify, Post, Bin, Un, And, Or, Cond, Comma, Void, Call, CallNumber, Lib, Tick, Capture, Compile, ParamOf, Args, NoArg, Arg, Stmt, Eval, Block, Variable, Parameter, If, IfElse, While, Do, For, ForStep, Switch, ReturnValue, Items, NoItem, Item, Function}
+use Rattle.typed_tree.specs.Nodes.{Expr, Const, Var, SetVar, PostVar, VSet, Load, Store, Modify, Post, Bin, Un, And, Or}
+use Rattle.typed_tree.specs.Nodes.{Cond, Comma, Void, Call, CallNumber, Lib, Tick, Capture, Compile, ParamOf, Args}
+use Rattle.typed_tree.specs.Nodes.{NoArg, Arg, Stmt, Eval, Block, Variable, Parameter, If, IfElse, While, Do, For}
+use Rattle.typed_tree.specs.Nodes.{ForStep, Switch, ReturnValue, Items, NoItem, Item, Function}
 use Rattle.typed_tree.specs.declared.expression.Library.TheVariants.{Putchar}
 use Rattle.staged_meaning.specs.Size.{size_of, variables_in}
 use Rattle.limits.specs.declared.program.TheConstants.{SIZE_LIMIT}

@@ -1,14 +1,17 @@
--- Making specifications and compiling them. The captures of a tick are evaluated first; here they are checked and become a
+-- Making specifications and compiling them. The captures of a tick are evaluated first; here they are checked and
+-- become a
 -- row. The order of the limits is this project's own, and the stages are those of Poletto, Hsieh, Engler and Kaashoek
 -- (TOPLAS 21(2), 1999).
-use Rattle.std.specs.Prelude.{ℕ, ◌+◌, Bool, true, false, if◌then◌else◌, List, [], ◌∷◌, length, slice_get, Option, Some, None}
+use Rattle.std.specs.Prelude.{ℕ, ◌+◌, Bool, true, false, if◌then◌else◌, List, [], ◌∷◌, length, slice_get, Option, Some}
+use Rattle.std.specs.Prelude.{None}
 use Rattle.host_edge.specs.declared.ending.TrapKind.{TrapKind}
 use Rattle.host_edge.specs.declared.ending.TrapKind.TheVariants.{BadSpec}
 use Rattle.host_edge.specs.declared.ending.Ending.TheVariants.{Trap}
 use Rattle.history.specs.Events.{Ended}
 use Rattle.history.specs.Syntax.{Syntax, Ticked, Captures, NoCapture, Word, Named, Spliced}
 use Rattle.meaning_state.specs.Shared.{Specification, Expression, Statement, Local, Param}
-use Rattle.meaning_state.specs.Rows.{numbered, closure_trap, size_trap, index_trap, next_number, specified, table_trap, arena_trap, next_function, made}
+use Rattle.meaning_state.specs.Rows.{numbered, closure_trap, size_trap, index_trap, next_number, specified, table_trap}
+use Rattle.meaning_state.specs.Rows.{arena_trap, next_function, made}
 use Rattle.typed_tree.specs.declared.expression.CaptureKind.{CaptureKind}
 use Rattle.typed_tree.specs.declared.expression.CaptureKind.TheVariants as kind
 use Rattle.typed_tree.specs.declared.expression.Answer.TheVariants as answer

@@ -1,13 +1,18 @@
--- What a statement does: variables are set to 0 as their block is entered, at a unit a variable and a word of an object; a
--- loop's turn spends a unit at its end; and the labels of a switch are compared in the order of the text, at a unit each, up
+-- What a statement does: variables are set to 0 as their block is entered, at a unit a variable and a word of an
+-- object; a
+-- loop's turn spends a unit at its end; and the labels of a switch are compared in the order of the text, at a unit
+-- each, up
 -- to the one that matches. These are this project's own rules; what the statements do is C's.
 use Rattle.std.specs.Prelude.{ℕ, zero, suc, ◌+◌, nat_eq, if◌then◌else◌, List, [], ◌∷◌, Option, Some, None}
 use Rattle.word32.specs.Parts.{narrowed}
 use Rattle.word32.specs.declared.width.Width.{Width}
 use Rattle.meaning_state.specs.Shared.{stored, frame_start}
-use Rattle.typed_tree.specs.Nodes.{Stmt, Eval, Block, Variable, Object, Parameter, ParameterObject, If, IfElse, While, Do, For, ForStep, Switch, Case, Default, Break, Continue, Return, ReturnValue, Items, NoItem, Item}
+use Rattle.typed_tree.specs.Nodes.{Stmt, Eval, Block, Variable, Object, Parameter, ParameterObject, If, IfElse, While}
+use Rattle.typed_tree.specs.Nodes.{Do, For, ForStep, Switch, Case, Default, Break, Continue, Return, ReturnValue, Items}
+use Rattle.typed_tree.specs.Nodes.{NoItem, Item}
 use Rattle.staged_meaning.specs.Expressions.{Context, eval}
-use Rattle.staged_meaning.specs.World.{World, Result, Gives, Returns, Stops, Flow, Normal, Broke, Continued, then_do, spend, with_variable, with_shared, at_zero, clear_words}
+use Rattle.staged_meaning.specs.World.{World, Result, Gives, Returns, Stops, Flow, Normal, Broke, Continued, then_do}
+use Rattle.staged_meaning.specs.World.{spend, with_variable, with_shared, at_zero, clear_words}
 
 -- goes on after a statement that was left by its end
 abbrev pub then_next : (World → Result Flow) → Flow → World → Result Flow

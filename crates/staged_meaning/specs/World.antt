@@ -1,4 +1,5 @@
--- What an evaluation changes, and what may come of it. A thing first takes place and then spends its unit of work; where
+-- What an evaluation changes, and what may come of it. A thing first takes place and then spends its unit of work;
+-- where
 -- no unit is left the evaluation stops, and what the thing did stands. These are this project's own rules.
 use Rattle.std.specs.Prelude.{ℕ, zero, suc, ◌+◌, List, Option, Some, None}
 use Rattle.word32.specs.Space.{update}
@@ -69,7 +70,8 @@ at_zero (suc n) on_zero on_other = on_other
 abbrev pub clear_words : (words address : ℕ) → World → Result Flow
 clear_words zero address w = Gives Normal w
 clear_words (suc words) address w =
-    then_do {A = Flow} (spend Normal (with_shared (zeroed address 1 w.shared) w)) (λ flow w. clear_words words (address + 4) w)
+    then_do {A = Flow} (spend Normal (with_shared (zeroed address 1 w.shared) w))
+    (λ flow w. clear_words words (address + 4) w)
 
 -- several units are spent, one after the other, and nothing is done
 abbrev pub spend_all : (units : ℕ) → World → Result Flow

@@ -15,7 +15,9 @@ use Rattle.tick_lower_proof.specs.Laws.{registers_of}
 use Rattle.static_image.specs.Layout.{addresses, ops_of, front, IsChoice, image_of}
 use Rattle.static_backend.specs.Scanned.{IsScanned}
 
-module _ (function : Function) (ops : List Op) (places text : List ℕ) (registers frame : ℕ) (op : ops ≡ ops_of function) (rs : registers ≡ registers_of addresses function) (fr : frame ≡ charge_of (size_of function)) (ts : text ≡ front FUNCTIONS 1 ++ expanded ops places FUNCTIONS frame function.object false) where
+module _ (function : Function) (ops : List Op) (places text : List ℕ) (registers frame : ℕ) (op : ops ≡ ops_of function)
+    (rs : registers ≡ registers_of addresses function) (fr : frame ≡ charge_of (size_of function))
+    (ts : text ≡ front FUNCTIONS 1 ++ expanded ops places FUNCTIONS frame function.object false) where
   parts : text ≡ (image_of function places).text
   parts =
       ts ∙ ap (λ z. front FUNCTIONS 1 ++ expanded z places FUNCTIONS frame function.object false) op
@@ -25,14 +27,17 @@ module _ (function : Function) (ops : List Op) (places text : List ℕ) (registe
   same_image = ap (λ z. file.image_of START z [] []) parts
 
   pub is_choice : IsLegal ops registers places → IsChoice function places
-  is_choice legal = subst (λ n. IsLegal (ops_of function) n places) rs (subst (λ z. IsLegal z registers places) op legal)
+  is_choice legal = subst (λ n. IsLegal (ops_of function) n places) rs
+      (subst (λ z. IsLegal z registers places) op legal)
 
   pub is_image : IsImage (image_of function places) → IsImage (file.image_of START text [] [])
   is_image h = subst IsImage (sym same_image) h
 
-  pub is_scanned : ((xs : List Interval) × AreIntervals ops xs × (places ≡ places_of registers xs)) → IsLegal ops registers places → (made : ImageParts) → made ≡ file.image_of START text [] [] → IsScanned function made
+  pub is_scanned : ((xs : List Interval) × AreIntervals ops xs × (places ≡ places_of registers xs)) →
+      IsLegal ops registers places → (made : ImageParts) → made ≡ file.image_of START text [] [] → IsScanned function made
   is_scanned found legal made is =
-      let by : places ≡ places_of (registers_of addresses function) found.0 = found.2 ∙ ap (λ n. places_of n found.0) rs in
+      let by : places ≡ places_of (registers_of addresses function) found.0 =
+      found.2 ∙ ap (λ n. places_of n found.0) rs in
       record {
         intervals = found.0;
         found = subst (λ z. AreIntervals z found.0) op found.1;

@@ -1,4 +1,5 @@
--- The image of a function under the places that linear scan gives to its registers, by the intervals in which they live.
+-- The image of a function under the places that linear scan gives to its registers, by the intervals in which they
+-- live.
 use Rattle.std.specs.Prelude.{◌≡◌, List}
 use Rattle.image_file.specs.Image.{ImageParts}
 use Rattle.icode_ops.specs.declared.interval.Interval.{Interval}

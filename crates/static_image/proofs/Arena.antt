@@ -1,5 +1,7 @@
--- No step makes a word of the arena unwritten again. So while no word is written or flushed, what is executed is the text's.
-use Rattle.std.proofs.Common.{◌≡◌, ℕ, zero, suc, ◌+◌, ◌/◌, ◌%◌, ◌==◌, Bool, true, false, ◌&&◌, Option, None, Some, Err, refl, sym, ap, ◌∙◌, arith, nat_eq, nat_lt, nat_le, if◌then◌else◌, is_some}
+-- No step makes a word of the arena unwritten again. So while no word is written or flushed, what is executed is the
+-- text's.
+use Rattle.std.proofs.Common.{◌≡◌, ℕ, zero, suc, ◌+◌, ◌/◌, ◌%◌, ◌==◌, Bool, true, false, ◌&&◌, Option, None, Some, Err}
+use Rattle.std.proofs.Common.{refl, sym, ap, ◌∙◌, arith, nat_eq, nat_lt, nat_le, if◌then◌else◌, is_some}
 use Rattle.std.specs.Fn.{iterate}
 use Rattle.std.proofs.lemmas.Bool.Decides.{nat_tests}
 use Rattle.word32.specs.Words.{wrap, widened_half}
@@ -8,7 +10,8 @@ use Rattle.word32.specs.Space as space
 use Rattle.word32.specs.declared.map.TheConstants.{ARENA}
 use Rattle.word32.specs.declared.width.Width.{Width}
 use Rattle.word32.specs.declared.width.Width.TheVariants.{SignedByte, Byte, SignedHalf, Half, Word}
-use Rattle.flat_memory.specs.Map.{Region, InText, InArena, InObjects, InClosures, InSpecRows, InCells, InFunctionTable, InEmitStack, InStack, Nowhere, region_of}
+use Rattle.flat_memory.specs.Map.{Region, InText, InArena, InObjects, InClosures, InSpecRows, InCells, InFunctionTable}
+use Rattle.flat_memory.specs.Map.{InEmitStack, InStack, Nowhere, region_of}
 use Rattle.flat_memory.specs.Spaces.{text_of}
 use Rattle.code_arena.specs.Arena.{Arena, written, flushed, fetched}
 use Rattle.code_arena.specs.Arena as arena
@@ -21,7 +24,12 @@ use Rattle.host_edge.specs.declared.ending.Ending.TheVariants.{Trap}
 use Rattle.history.specs.Events.{Ended, Next, Given, AtEnd, Failing, next_byte}
 use Rattle.image_file.specs.Image.{ImageParts}
 use Rattle.mips_encoder.specs.declared.instruction.Instr.{Instr}
-use Rattle.mips_encoder.specs.declared.instruction.Instr.TheVariants.{Arithmetic, Shift, ShiftVariable, JumpRegister, JumpAndLinkRegister, Syscall, Break, MoveFrom, MoveTo, MultiplyDivide, BranchOnSign, BranchOnSignAndLink, Jump, BranchOnEquality, BranchOnZero, ImmediateArithmetic, LoadUpperImmediate, Memory}
+use Rattle.mips_encoder.specs.declared.instruction.Instr.TheVariants.{Arithmetic, Shift, ShiftVariable, JumpRegister}
+use Rattle.mips_encoder.specs.declared.instruction.Instr.TheVariants.{JumpAndLinkRegister, Syscall, Break, MoveFrom}
+use Rattle.mips_encoder.specs.declared.instruction.Instr.TheVariants.{MoveTo, MultiplyDivide, BranchOnSign}
+use Rattle.mips_encoder.specs.declared.instruction.Instr.TheVariants.{BranchOnSignAndLink, Jump, BranchOnEquality}
+use Rattle.mips_encoder.specs.declared.instruction.Instr.TheVariants.{BranchOnZero, ImmediateArithmetic}
+use Rattle.mips_encoder.specs.declared.instruction.Instr.TheVariants.{LoadUpperImmediate, Memory}
 use Rattle.mips_encoder.specs.declared.instruction.JumpOp.{JumpOp}
 use Rattle.mips_encoder.specs.declared.instruction.JumpOp.TheVariants.{J, Jal}
 use Rattle.mips_encoder.specs.declared.instruction.MemoryOp.{MemoryOp}
@@ -30,10 +38,14 @@ use Rattle.mips_model.specs.declared.service.Service.{Service}
 use Rattle.mips_model.specs.declared.service.Service.TheVariants.{PutInt, Exit, PutByte, GetByte, Flush}
 use Rattle.mips_model.specs.State.{Code, Data, State, World, register, set_register}
 use Rattle.mips_model.specs.Arithmetic.{arithmetic, immediate}
-use Rattle.mips_model.specs.Accesses.{Effect, Plain, Loads, Changes, ReadsText, ReadsArena, StoresText, Branches, BranchesLinking, Jumps, JumpsLinking, Goes, GoesLinking, Ends, Faults, InputFails, aligned, load_in, store_in, table_word_at, arena_word, stored_in_arena}
+use Rattle.mips_model.specs.Accesses.{Effect, Plain, Loads, Changes, ReadsText, ReadsArena, StoresText, Branches}
+use Rattle.mips_model.specs.Accesses.{BranchesLinking, Jumps, JumpsLinking, Goes, GoesLinking, Ends, Faults, InputFails}
+use Rattle.mips_model.specs.Accesses.{aligned, load_in, store_in, table_word_at, arena_word, stored_in_arena}
 use Rattle.mips_model.specs.Services.{service_of, serve, get, got, read, flush, is_arena_range, answer, with_outside}
 use Rattle.mips_model.specs.Effects.{gives, breaks, trap_of, goes, access, effect}
-use Rattle.mips_model.specs.Steps.{Fetched, Is, Refused, fetch, found, from_text, text_word, from_arena, is_arena_word, word_in_arena, onward, ended, reads, stores_text, faulted, apply, act, is_hazard, recent_behind, execute, step}
+use Rattle.mips_model.specs.Steps.{Fetched, Is, Refused, fetch, found, from_text, text_word, from_arena, is_arena_word}
+use Rattle.mips_model.specs.Steps.{word_in_arena, onward, ended, reads, stores_text, faulted, apply, act, is_hazard}
+use Rattle.mips_model.specs.Steps.{recent_behind, execute, step}
 use Rattle.mips_model.specs.Run.{IsTextWord}
 
 -- a change after which a word is unwritten only where it was before
@@ -71,24 +83,36 @@ aligned_safe at width e safe = by (is_aligned at width)
 load_safe : (g : Region) (r at : ℕ) (width : Width) (d : Data) → IsSafe (load_in g r at width d)
 load_safe InText r at width d = tt
 load_safe InArena r at width d = tt
-load_safe InObjects r at width d = aligned_safe at width (Loads r (set_register r (loaded_part (d.objects (at / 4)) at width) d)) tt
-load_safe InClosures r at width d = aligned_safe at width (Loads r (set_register r (loaded_part (d.closures (at / 4)) at width) d)) tt
-load_safe InSpecRows r at width d = aligned_safe at width (Loads r (set_register r (loaded_part (d.spec_rows (at / 4)) at width) d)) tt
-load_safe InCells r at width d = aligned_safe at width (Loads r (set_register r (loaded_part (d.cells (at / 4)) at width) d)) tt
-load_safe InFunctionTable r at width d = aligned_safe at width (Loads r (set_register r (loaded_part (table_word_at d.table at) at width) d)) tt
-load_safe InEmitStack r at width d = aligned_safe at width (Loads r (set_register r (loaded_part (d.emit_stack (at / 4)) at width) d)) tt
-load_safe InStack r at width d = aligned_safe at width (Loads r (set_register r (loaded_part (d.stack (at / 4)) at width) d)) tt
+load_safe InObjects r at width d =
+    aligned_safe at width (Loads r (set_register r (loaded_part (d.objects (at / 4)) at width) d)) tt
+load_safe InClosures r at width d =
+    aligned_safe at width (Loads r (set_register r (loaded_part (d.closures (at / 4)) at width) d)) tt
+load_safe InSpecRows r at width d =
+    aligned_safe at width (Loads r (set_register r (loaded_part (d.spec_rows (at / 4)) at width) d)) tt
+load_safe InCells r at width d =
+    aligned_safe at width (Loads r (set_register r (loaded_part (d.cells (at / 4)) at width) d)) tt
+load_safe InFunctionTable r at width d =
+    aligned_safe at width (Loads r (set_register r (loaded_part (table_word_at d.table at) at width) d)) tt
+load_safe InEmitStack r at width d =
+    aligned_safe at width (Loads r (set_register r (loaded_part (d.emit_stack (at / 4)) at width) d)) tt
+load_safe InStack r at width d =
+    aligned_safe at width (Loads r (set_register r (loaded_part (d.stack (at / 4)) at width) d)) tt
 load_safe Nowhere r at width d = tt
 
 store_safe : (g : Region) (at : ℕ) (width : Width) (w : ℕ) (d : Data) → IsSafe (store_in g at width w d)
 store_safe InText at width w d = tt
-store_safe InArena at width w d = aligned_safe at width (Changes (stored_in_arena at width w) d) (stored_marks at width w)
-store_safe InObjects at width w d = aligned_safe at width (Plain (record d { objects = space.store at width w d.objects })) tt
-store_safe InClosures at width w d = aligned_safe at width (Plain (record d { closures = space.store at width w d.closures })) tt
-store_safe InSpecRows at width w d = aligned_safe at width (Plain (record d { spec_rows = space.store at width w d.spec_rows })) tt
+store_safe InArena at width w d =
+    aligned_safe at width (Changes (stored_in_arena at width w) d) (stored_marks at width w)
+store_safe InObjects at width w d =
+    aligned_safe at width (Plain (record d { objects = space.store at width w d.objects })) tt
+store_safe InClosures at width w d =
+    aligned_safe at width (Plain (record d { closures = space.store at width w d.closures })) tt
+store_safe InSpecRows at width w d =
+    aligned_safe at width (Plain (record d { spec_rows = space.store at width w d.spec_rows })) tt
 store_safe InCells at width w d = aligned_safe at width (Plain (record d { cells = space.store at width w d.cells })) tt
 store_safe InFunctionTable at width w d = aligned_safe at width (Ends (Trap trap.Range)) tt
-store_safe InEmitStack at width w d = aligned_safe at width (Plain (record d { emit_stack = space.store at width w d.emit_stack })) tt
+store_safe InEmitStack at width w d =
+    aligned_safe at width (Plain (record d { emit_stack = space.store at width w d.emit_stack })) tt
 store_safe InStack at width w d = aligned_safe at width (Plain (record d { stack = space.store at width w d.stack })) tt
 store_safe Nowhere at width w d = tt
 
@@ -129,7 +153,9 @@ get_safe d = by d.outside.at_end
 flush_safe : (at count : ℕ) (d : Data) → IsSafe (flush at count d)
 flush_safe at count d = by (is_arena_range at count)
   where
-    by : (b : Bool) → IsSafe (if b then Changes (flushed (arena_word at) count) (answer 0 (with_outside (record d.outside { flushes = d.outside.flushes + 1 }) d)) else Faults kind.BadService)
+    by : (b : Bool) → IsSafe (if b then
+        Changes (flushed (arena_word at) count)
+        (answer 0 (with_outside (record d.outside { flushes = d.outside.flushes + 1 }) d)) else Faults kind.BadService)
     by true = flushed_marks (arena_word at) count
     by false = tt
 
@@ -168,11 +194,14 @@ Clear w k = w.state.code.arena.states k ≡ Unwritten
 abbrev Was : State → ℕ → Type 0
 Was s k = s.code.arena.states k ≡ Unwritten
 
-read_clear : (x : Option ℕ) (r at : ℕ) (width : Width) (recent k : ℕ) (s : State) → Clear (reads x r at width recent s) k → Was s k
+read_clear : (x : Option ℕ) (r at : ℕ) (width : Width) (recent k : ℕ) (s : State) →
+    Clear (reads x r at width recent s) k → Was s k
 read_clear None r at width recent k s e = e
 read_clear (Some w) r at width recent k s e = by (is_aligned at width) e
   where
-    by : (b : Bool) → Clear (if b then onward (s.next + 4) r recent false s.code (set_register r (loaded_part w at width) s.d) s else ended (Ended (Trap trap.Misaligned)) s) k → Was s k
+    by : (b : Bool) → Clear (if b then
+        onward (s.next + 4) r recent false s.code (set_register r (loaded_part w at width) s.d) s else
+        ended (Ended (Trap trap.Misaligned)) s) k → Was s k
     by true e = e
     by false e = e
 
@@ -185,7 +214,8 @@ apply_clear (Plain d) recent k s safe e = e
 apply_clear (Loads r d) recent k s safe e = e
 apply_clear (Changes f d) recent k s safe e = safe s.code.arena k e
 apply_clear (ReadsText r at width) recent k s safe e = read_clear (s.code.text (at / 4)) r at width recent k s e
-apply_clear (ReadsArena r at width) recent k s safe e = read_clear (Some (s.code.arena.words (arena_word at))) r at width recent k s e
+apply_clear (ReadsArena r at width) recent k s safe e =
+    read_clear (Some (s.code.arena.words (arena_word at))) r at width recent k s e
 apply_clear (StoresText at width) recent k s safe e = store_clear (s.code.text (at / 4)) at width k s e
 apply_clear (Branches taken offset) recent k s safe e = e
 apply_clear (BranchesLinking taken offset) recent k s safe e = e
@@ -212,27 +242,34 @@ step_clear w k e = by (is_some w.ending) e
     by true e = e
     by false e = execute_clear (fetch w.state.code w.state.pc) k w.state e
 
-pub run_clear : (n : ℕ) (w : World) (k : ℕ) → (iterate step n w).state.code.arena.states k ≡ Unwritten → w.state.code.arena.states k ≡ Unwritten
+pub run_clear : (n : ℕ) (w : World) (k : ℕ) → (iterate step n w).state.code.arena.states k ≡ Unwritten →
+    w.state.code.arena.states k ≡ Unwritten
 run_clear zero w k e = e
 run_clear (suc n) w k e = step_clear w k (run_clear n (step w) k e)
 
 -- while no word of the arena is flushed, an instruction is fetched from the text alone
-module _ (image : ImageParts) (c : Code) (same : c.text ≡ text_of image.text) (clear : (k : ℕ) → c.arena.states k ≡ Unwritten) (a : ℕ) (i : Instr) where
-  in_text : (even : Bool) (o : Option ℕ) → (a % 4 == 0) ≡ even → c.text (a / 4) ≡ o → found (from_text (if even then o else None)) ≡ Is i → IsTextWord image a
+module _ (image : ImageParts) (c : Code) (same : c.text ≡ text_of image.text)
+    (clear : (k : ℕ) → c.arena.states k ≡ Unwritten) (a : ℕ) (i : Instr) where
+  in_text : (even : Bool) (o : Option ℕ) → (a % 4 == 0) ≡ even → c.text (a / 4) ≡ o →
+      found (from_text (if even then o else None)) ≡ Is i → IsTextWord image a
   in_text false o even is fetches = let x : ⊥ = cc in absurd x
   in_text true None even is fetches = let x : ⊥ = cc in absurd x
-  in_text true (Some w) even is fetches = (grind (arith, nat_tests, even), (w, sym (ap (λ (f : ℕ → Option ℕ). f (a / 4)) same) ∙ is))
+  in_text true (Some w) even is fetches =
+      (grind (arith, nat_tests, even), (w, sym (ap (λ (f : ℕ → Option ℕ). f (a / 4)) same) ∙ is))
 
-  from_state : (state : WordState) (word : ℕ) → c.arena.states (arena_word a) ≡ state → found (from_arena (fetched state word)) ≡ Is i → ⊥
+  from_state : (state : WordState) (word : ℕ) → c.arena.states (arena_word a) ≡ state →
+      found (from_arena (fetched state word)) ≡ Is i → ⊥
   from_state Unwritten word is fetches = cc
   from_state Written word is fetches = cc
   from_state Flushed word is fetches = let e = clear (arena_word a) in let x : Unwritten ≡ Flushed = sym e ∙ is in cc
 
-  in_arena : (is_word : Bool) → found (if is_word then from_arena (arena.fetch (arena_word a) c.arena) else Err kind.Fetch) ≡ Is i → ⊥
+  in_arena : (is_word : Bool) →
+      found (if is_word then from_arena (arena.fetch (arena_word a) c.arena) else Err kind.Fetch) ≡ Is i → ⊥
   in_arena true fetches = from_state (c.arena.states (arena_word a)) (c.arena.words (arena_word a)) refl fetches
   in_arena false fetches = cc
 
-  by_region : (low : Bool) → found (if low then from_text (text_word c a) else word_in_arena c a) ≡ Is i → IsTextWord image a
+  by_region : (low : Bool) → found (if low then from_text (text_word c a) else word_in_arena c a) ≡ Is i →
+      IsTextWord image a
   by_region true fetches = in_text (a % 4 == 0) (c.text (a / 4)) refl refl fetches
   by_region false fetches = absurd (in_arena (is_arena_word a) fetches)
 

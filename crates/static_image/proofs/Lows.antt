@@ -2,9 +2,16 @@
 use Rattle.std.proofs.Common.{ℕ, zero, suc, ◌<◌, List, [], ◌∷◌, arith}
 use Rattle.std.specs.Prelude.{slice_index}
 use Rattle.mips_encoder.specs.Table.{Fits, word_of}
-use Rattle.mips_encoder.specs.Codes.{arithmetic_code, shift_code, shift_variable_code, move_from_code, move_to_code, multiply_divide_code, sign_code, jump_code, equality_code, zero_comparison_code, immediate_code, memory_code}
+use Rattle.mips_encoder.specs.Codes.{arithmetic_code, shift_code, shift_variable_code, move_from_code, move_to_code}
+use Rattle.mips_encoder.specs.Codes.{multiply_divide_code, sign_code, jump_code, equality_code, zero_comparison_code}
+use Rattle.mips_encoder.specs.Codes.{immediate_code, memory_code}
 use Rattle.mips_encoder.specs.declared.instruction.Instr.{Instr}
-use Rattle.mips_encoder.specs.declared.instruction.Instr.TheVariants.{Arithmetic, Shift, ShiftVariable, JumpRegister, JumpAndLinkRegister, Syscall, Break, MoveFrom, MoveTo, MultiplyDivide, BranchOnSign, BranchOnSignAndLink, Jump, BranchOnEquality, BranchOnZero, ImmediateArithmetic, LoadUpperImmediate, Memory}
+use Rattle.mips_encoder.specs.declared.instruction.Instr.TheVariants.{Arithmetic, Shift, ShiftVariable, JumpRegister}
+use Rattle.mips_encoder.specs.declared.instruction.Instr.TheVariants.{JumpAndLinkRegister, Syscall, Break, MoveFrom}
+use Rattle.mips_encoder.specs.declared.instruction.Instr.TheVariants.{MoveTo, MultiplyDivide, BranchOnSign}
+use Rattle.mips_encoder.specs.declared.instruction.Instr.TheVariants.{BranchOnSignAndLink, Jump, BranchOnEquality}
+use Rattle.mips_encoder.specs.declared.instruction.Instr.TheVariants.{BranchOnZero, ImmediateArithmetic}
+use Rattle.mips_encoder.specs.declared.instruction.Instr.TheVariants.{LoadUpperImmediate, Memory}
 use Rattle.mips_encoder.specs.declared.instruction.ArithmeticOp.{ArithmeticOp}
 use Rattle.mips_encoder.specs.declared.instruction.ArithmeticOp.TheVariants as arithmetic
 use Rattle.mips_encoder.specs.declared.instruction.ShiftOp.{ShiftOp}

@@ -1,5 +1,6 @@
 -- The image of a function keeps the rules of images.
-use Rattle.std.proofs.Common.{◌≡◌, ℕ, zero, suc, ◌+◌, ◌-◌, ◌*◌, ◌<◌, ◌≤◌, true, List, ◌++◌, length, refl, arith, length-append, nat_lt, replicate}
+use Rattle.std.proofs.Common.{◌≡◌, ℕ, zero, suc, ◌+◌, ◌-◌, ◌*◌, ◌<◌, ◌≤◌, true, List, ◌++◌, length, refl, arith}
+use Rattle.std.proofs.Common.{length-append, nat_lt, replicate}
 use Rattle.std.proofs.lemmas.Bool.Decides.{nat_tests}
 use Rattle.word32.specs.declared.map.TheConstants.{FUNCTIONS}
 use Rattle.image_file.specs.Image.{IsImage, has_good_entries}
@@ -24,46 +25,51 @@ same_words : (n w : ℕ) → w < 4294967296 → AreWords (replicate n w)
 same_words zero w low = tt
 same_words (suc n) w low = (low, same_words n w low)
 
-module _ (function : node.Function) (places : List ℕ) (static : IsStatic function) (choice : IsChoice function places) where
-  abbrev text : List ℕ
-  text = front FUNCTIONS 1 ++ main_words function places
+module _ (function : node.Function) (places : List ℕ) (static : IsStatic function) (choice : IsChoice function places)
+  where
+    abbrev text : List ℕ
+    text = front FUNCTIONS 1 ++ main_words function places
 
-  front_words : AreWords (front FUNCTIONS 1)
-  front_words =
-      Each-append (λ w. w < 4294967296) (words (start_code FUNCTIONS 1)) (replicate (1024 - length (words (start_code FUNCTIONS 1))) (word_of nop))
-      (words_low (start_code FUNCTIONS 1) start_fits) (same_words (1024 - length (words (start_code FUNCTIONS 1))) (word_of nop) (omega arith))
+    front_words : AreWords (front FUNCTIONS 1)
+    front_words =
+        Each-append (λ w. w < 4294967296) (words (start_code FUNCTIONS 1))
+        (replicate (1024 - length (words (start_code FUNCTIONS 1))) (word_of nop))
+        (words_low (start_code FUNCTIONS 1) start_fits)
+        (same_words (1024 - length (words (start_code FUNCTIONS 1))) (word_of nop) (omega arith))
 
-  all_words : AreWords text
-  all_words =
-      Each-append (λ w. w < 4294967296) (front FUNCTIONS 1) (main_words function places) front_words
-      (words_low (code_of (main_of function) places)
-      (code_fits (main_of function) places (suits function places static choice) (fits_below function places static choice)
-      (ops_served addresses function static)))
+    all_words : AreWords text
+    all_words =
+        Each-append (λ w. w < 4294967296) (front FUNCTIONS 1) (main_words function places) front_words
+        (words_low (code_of (main_of function) places)
+        (code_fits (main_of function) places (suits function places static choice)
+        (fits_below function places static choice)
+        (ops_served addresses function static)))
 
-  long : length text ≡ 1024 + length (code_of (main_of function) places)
-  long =
-      let a = length-append (front FUNCTIONS 1) (main_words function places) in
-      let b = length_words (code_of (main_of function) places) in
-      let f = front_length function places static choice in
-      omega (arith, a, b, f)
+    long : length text ≡ 1024 + length (code_of (main_of function) places)
+    long =
+        let a = length-append (front FUNCTIONS 1) (main_words function places) in
+        let b = length_words (code_of (main_of function) places) in
+        let f = front_length function places static choice in
+        omega (arith, a, b, f)
 
-  short : length text ≤ 15728640
-  short =
-      let most = words_most (main_of function).ops places FUNCTIONS (main_of function).charge (main_of function).object (main_of function).compiled in
-      let few = (sizes.small addresses function static.ready).few_ops in
-      omega (arith, long, most, few, static.ready.small)
+    short : length text ≤ 15728640
+    short =
+        let most = words_most (main_of function).ops places FUNCTIONS (main_of function).charge (main_of function).object
+        (main_of function).compiled in
+        let few = (sizes.small addresses function static.ready).few_ops in
+        omega (arith, long, most, few, static.ready.small)
 
-  good : has_good_entries (image_of function places) ≡ true
-  good =
-      let t : nat_lt 4194304 (4194304 + 4 * length text) ≡ true = grind (arith, nat_tests, long) in
-      rw t refl
+    good : has_good_entries (image_of function places) ≡ true
+    good =
+        let t : nat_lt 4194304 (4194304 + 4 * length text) ≡ true = grind (arith, nat_tests, long) in
+        rw t refl
 
-  pub rules : IsImage (image_of function places)
-  rules = record {
-    each_word_fits = λ k. word_at text k all_words;
-    each_byte_fits = λ k. omega arith;
-    text_is_small = short;
-    bytes_are_few = omega arith;
-    functions_are_few = omega arith;
-    entries_are_good = good;
-  }
+    pub rules : IsImage (image_of function places)
+    rules = record {
+      each_word_fits = λ k. word_at text k all_words;
+      each_byte_fits = λ k. omega arith;
+      text_is_small = short;
+      bytes_are_few = omega arith;
+      functions_are_few = omega arith;
+      entries_are_good = good;
+    }

@@ -1,6 +1,7 @@
 -- The headline: what is promised of the image of a program, for every input, every number of units and of instructions
 -- and every legal choice of register places. The machine's history follows the meaning's and keeps pace with it; the
--- machine ends in time, and ends only so; it never stops with a fault of the machine; and no word is executed that isn't
+-- machine ends in time, and ends only so; it never stops with a fault of the machine; and no word is executed that
+-- isn't
 -- the image's, or that wasn't flushed after it was written.
 use Rattle.std.specs.Prelude.{◌≢◌, ℕ, List, Some}
 use Rattle.host_edge.specs.declared.ending.MachineKind.{MachineKind}
@@ -12,7 +13,9 @@ use Rattle.mips_model.specs.Run.{runs, IsDefined, IsClean}
 
 pub record Headline (program : Program) (image : ImageParts) : Type 0 where
   pub faithful : (input : Input) (choices : List ℕ)
-      → FourParts (IsDefined image input choices) (meant program input) (runs image input choices) instructions_of_a_unit instructions_besides
-  pub clean : (input : Input) (choices : List ℕ) (n : ℕ) → IsDefined image input choices n → IsClean image input choices n
+      → FourParts (IsDefined image input choices) (meant program input) (runs image input choices)
+      instructions_of_a_unit instructions_besides
+  pub clean : (input : Input) (choices : List ℕ) (n : ℕ) → IsDefined image input choices n →
+      IsClean image input choices n
   pub faultless : (input : Input) (choices : List ℕ) (n : ℕ) → IsDefined image input choices n
       → (kind : MachineKind) (at : ℕ) → (runs image input choices n).ending ≢ Some (Fault kind at)

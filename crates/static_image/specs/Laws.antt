@@ -8,7 +8,8 @@ use Rattle.static_image.specs.Served.{IsStatic}
 use Rattle.static_image.specs.Headline.{Headline}
 
 abbrev pub ImagesKeepRules : Type 0
-ImagesKeepRules = (function : Function) (places : List ℕ) → IsStatic function → IsChoice function places → IsImage (image_of function places)
+ImagesKeepRules = (function : Function) (places : List ℕ) → IsStatic function → IsChoice function places →
+    IsImage (image_of function places)
 
 abbrev pub HeadlineHolds : Type 0
 HeadlineHolds =

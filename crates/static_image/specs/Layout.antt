@@ -1,8 +1,10 @@
--- The image of a program of one function, main. It is entered at the start, which sets the pointers and the cells of the
+-- The image of a program of one function, main. It is entered at the start, which sets the pointers and the cells of
+-- the
 -- run-time routines, calls main and exits with its answer. The start and each routine have a block of 64 words, and the
 -- functions follow the blocks. These are the project's own rules.
 use Rattle.std.specs.Prelude.{ℕ, ◌+◌, ◌-◌, ◌/◌, false, List, [], ◌∷◌, ◌++◌, length, replicate}
-use Rattle.word32.specs.declared.map.TheConstants.{ARENA, CLOSURES, FRAMES, FUNCTIONS, GLOBAL_POINTER, HEAP, STACK_TOP, START}
+use Rattle.word32.specs.declared.map.TheConstants.{ARENA, CLOSURES, FRAMES, FUNCTIONS, GLOBAL_POINTER, HEAP, STACK_TOP}
+use Rattle.word32.specs.declared.map.TheConstants.{START}
 use Rattle.image_file.specs.Image.{ImageParts}
 use Rattle.mips_encoder.specs.Table.{word_of}
 use Rattle.mips_encoder.specs.declared.instruction.Instr.{Instr}

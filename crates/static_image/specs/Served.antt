@@ -1,7 +1,8 @@
 -- The functions of which an image is made so far.
 use Rattle.std.specs.Prelude.{◌≡◌, ◌<◌}
 use Rattle.icode_templates_proof.specs.Laws.{IsStraight}
-use Rattle.typed_tree.specs.Nodes.{Expr, Const, Var, SetVar, Bin, Lib, Stmt, Eval, Block, Variable, If, IfElse, While, ReturnValue, Items, NoItem, Item, Function}
+use Rattle.typed_tree.specs.Nodes.{Expr, Const, Var, SetVar, Bin, Lib, Stmt, Eval, Block, Variable, If, IfElse, While}
+use Rattle.typed_tree.specs.Nodes.{ReturnValue, Items, NoItem, Item, Function}
 use Rattle.typed_tree.specs.declared.expression.Library.TheVariants.{Putchar}
 use Rattle.staged_meaning.specs.Scope.{IsReady}
 

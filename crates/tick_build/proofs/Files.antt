@@ -33,12 +33,20 @@ spelling_short image is =
     let r = length-functions image.functions in
     omega (arith, a, b, c, h, t, r, is.text_is_small, is.bytes_are_few, is.functions_are_few)
 
-pub file_of : (image : ImageParts) (bytes : List ℕ) → IsImage image → bytes ≡ spelling image → parsed bytes ≡ Ok image → IsFileOf image bytes
+pub file_of : (image : ImageParts) (bytes : List ℕ) → IsImage image → bytes ≡ spelling image → parsed bytes ≡ Ok image →
+    IsFileOf image bytes
 file_of image bytes is spelt back =
-    record { spelt = spelt; read_back = back; short = subst (λ (b : List ℕ). length b ≤ 83886080) (sym spelt) (spelling_short image is) }
+    record {
+      spelt = spelt;
+      read_back = back;
+      short =
+          subst (λ (b : List ℕ). length b ≤ 83886080) (sym spelt) (spelling_short image is);
+    }
 
-pub saves : (text bytes : List ℕ) (image : ImageParts) → Builds text image → bytes ≡ spelling image → parsed bytes ≡ Ok image → Saves text bytes
-saves text bytes image builds spelt back = record { image = image; builds = builds; file = file_of image bytes builds.rules spelt back }
+pub saves : (text bytes : List ℕ) (image : ImageParts) → Builds text image → bytes ≡ spelling image →
+    parsed bytes ≡ Ok image → Saves text bytes
+saves text bytes image builds spelt back =
+    record { image = image; builds = builds; file = file_of image bytes builds.rules spelt back }
 
 pub headline_of : (text bytes : List ℕ) → (s : Saves text bytes) → HeadlineOfBytes s.builds.program bytes
 headline_of text bytes s = record { image = s.image; file = s.file; headline = s.builds.headline }
@@ -52,7 +60,8 @@ one_image : (E : Type 0) (a b : ImageParts) (r : Result ImageParts E) → r ≡ 
 unfolding image_or
 one_image E a b r is also = ap (image_or E a) (sym is ∙ also)
 
-pub read_headline : (program : Program) (bytes : List ℕ) (image : ImageParts) → HeadlineOfBytes program bytes → parsed bytes ≡ Ok image → Headline program image
+pub read_headline : (program : Program) (bytes : List ℕ) (image : ImageParts) → HeadlineOfBytes program bytes →
+    parsed bytes ≡ Ok image → Headline program image
 read_headline program bytes image h read =
     subst (Headline program) (one_image ImageFault h.image image (parsed bytes) h.file.read_back read) h.headline
 
@@ -68,16 +77,19 @@ one_function r f g is also = ap (λ r. (program_or (program_of f) r).main) (sym 
 -- and one image
 one_scan : (f : Function) (a b : ImageParts) → IsScanned f a → IsScanned f b → a ≡ b
 one_scan f a b s t =
-    s.same ∙ ap (λ (xs : List Interval). image_of f (places_of (registers_of addresses f) xs)) (one_list (ops_of f) s.intervals t.intervals s.found t.found) ∙ sym t.same
+    s.same ∙ ap (λ (xs : List Interval). image_of f (places_of (registers_of addresses f) xs))
+    (one_list (ops_of f) s.intervals t.intervals s.found t.found) ∙ sym t.same
 
 pub one_lowered : (text : List ℕ) (a b : ImageParts) → Lowered text a → Lowered text b → a ≡ b
 one_lowered text a b s t =
-    one_scan t.function a b (subst (λ (f : Function). IsScanned f a) (one_function (typed text) s.function t.function s.accepted t.accepted) s.scanned) t.scanned
+    one_scan t.function a b (subst (λ (f : Function). IsScanned f a)
+    (one_function (typed text) s.function t.function s.accepted t.accepted) s.scanned) t.scanned
 
 pub one_file : (text one other : List ℕ) → Saves text one → Saves text other → one ≡ other
 one_file text one other a b =
     a.file.spelt ∙ ap spelling (one_lowered text a.image b.image a.builds.lowering b.builds.lowering) ∙ sym b.file.spelt
 
-pub built_file : (text bytes : List ℕ) (image : ImageParts) → Saves text bytes → Builds text image → IsFileOf image bytes
+pub built_file : (text bytes : List ℕ) (image : ImageParts) → Saves text bytes → Builds text image →
+    IsFileOf image bytes
 built_file text bytes image s b =
     subst (λ (i : ImageParts). IsFileOf i bytes) (one_lowered text s.image image s.builds.lowering b.lowering) s.file

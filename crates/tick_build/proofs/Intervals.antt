@@ -17,7 +17,8 @@ interval r s e = record { reg = r; start = s; end = e }
 
 same_interval : (x y : Interval) → x.reg ≡ y.reg → x.start ≡ y.start → x.end ≡ y.end → x ≡ y
 same_interval x y r s e =
-    ap (λ (v : ℕ). interval v x.start x.end) r ∙ (ap (λ (v : ℕ). interval y.reg v x.end) s ∙ ap (λ (v : ℕ). interval y.reg y.start v) e)
+    ap (λ (v : ℕ). interval v x.start x.end) r ∙
+    (ap (λ (v : ℕ). interval y.reg v x.end) s ∙ ap (λ (v : ℕ). interval y.reg y.start v) e)
 
 each_in : (P : Interval → Type 0) (xs : List Interval) (x : Interval) → Each P xs → In x xs → P x
 each_in P [] x all i = absurd i
@@ -25,12 +26,14 @@ each_in P (y ∷ ys) x all (inl same) = subst P (sym same) all.0
 each_in P (y ∷ ys) x all (inr i) = each_in P ys x all.1 i
 
 -- what one list has, any other has
-found : (ops : List Op) (xs ys : List Interval) → AreIntervals ops xs → AreIntervals ops ys → (x : Interval) → In x xs → In x ys
+found : (ops : List Op) (xs ys : List Interval) → AreIntervals ops xs → AreIntervals ops ys → (x : Interval) → In x xs →
+    In x ys
 found ops xs ys a b x i =
     let here = each_in (λ (x : Interval). IsInterval ops x.reg x.start x.end) xs x a.each i in
     let other = b.all x.reg x.start here.first in
     let there = each_in (λ (x : Interval). IsInterval ops x.reg x.start x.end) ys other.0 b.each other.1 in
-    let ends = same_ends ops x.reg x.start x.end other.0.start other.0.end here (subst (λ (v : ℕ). IsInterval ops v other.0.start other.0.end) other.2 there) in
+    let ends = same_ends ops x.reg x.start x.end other.0.start other.0.end here
+    (subst (λ (v : ℕ). IsInterval ops v other.0.start other.0.end) other.2 there) in
     subst (λ (z : Interval). In z ys) (same_interval other.0 x other.2 (sym ends.0) (sym ends.1)) other.1
 
 not_both : (x y : Interval) → Before x y → Before y x → ⊥
@@ -39,10 +42,12 @@ not_both x y (inl a) (inr b) = omega (arith, a, b.0)
 not_both x y (inr a) (inl b) = omega (arith, a.0, b)
 not_both x y (inr a) (inr b) = omega (arith, a.1, b.1)
 
-same_head : (x y : Interval) (xs ys : List Interval) → Each (Before x) xs → Each (Before y) ys → In x (y ∷ ys) → In y (x ∷ xs) → x ≡ y
+same_head : (x y : Interval) (xs ys : List Interval) → Each (Before x) xs → Each (Before y) ys → In x (y ∷ ys) →
+    In y (x ∷ xs) → x ≡ y
 same_head x y xs ys s t (inl e) back = e
 same_head x y xs ys s t (inr i) (inl e) = sym e
-same_head x y xs ys s t (inr i) (inr j) = absurd (not_both x y (each_in (Before x) xs y s j) (each_in (Before y) ys x t i))
+same_head x y xs ys s t (inr i) (inr j) =
+    absurd (not_both x y (each_in (Before x) xs y s j) (each_in (Before y) ys x t i))
 
 in_tail : (x y z : Interval) (xs ys : List Interval) → x ≡ y → Each (Before x) xs → In z xs → In z (y ∷ ys) → In z ys
 in_tail x y z xs ys same s i (inl e) =
@@ -50,7 +55,8 @@ in_tail x y z xs ys same s i (inl e) =
     absurd (not_both x x before before)
 in_tail x y z xs ys same s i (inr j) = j
 
-sorted_once : (xs ys : List Interval) → Sorted xs → Sorted ys → ((x : Interval) → In x xs → In x ys) → ((x : Interval) → In x ys → In x xs) → xs ≡ ys
+sorted_once : (xs ys : List Interval) → Sorted xs → Sorted ys → ((x : Interval) → In x xs → In x ys) →
+    ((x : Interval) → In x ys → In x xs) → xs ≡ ys
 sorted_once [] [] s t to back = refl
 sorted_once [] (y ∷ ys) s t to back = absurd (back y (inl refl))
 sorted_once (x ∷ xs) [] s t to back = absurd (to x (inl refl))

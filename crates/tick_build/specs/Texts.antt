@@ -46,7 +46,8 @@ from_typed (Ok program) = or_unbuilt (built program)
 unfoldable pub typed : List ℕ → Result Program Fault
 typed text = from_typed (typed_tree text)
 
--- The image that is built of a text: the image of its function, under the places that linear scan gives to its registers.
+-- The image that is built of a text: the image of its function, under the places that linear scan gives to its
+-- registers.
 -- A text has one such image.
 pub record Lowered (text : List ℕ) (image : ImageParts) : Type 0 where
   pub function : Function
@@ -55,7 +56,8 @@ pub record Lowered (text : List ℕ) (image : ImageParts) : Type 0 where
 
 -- the headline holds for the image of a function under every legal choice of places of its registers
 abbrev pub HoldsForChoices : Program → Type 0
-HoldsForChoices program = (places : List ℕ) → IsChoice program.main places → Headline program (image_of program.main places)
+HoldsForChoices program = (places : List ℕ) → IsChoice program.main places →
+    Headline program (image_of program.main places)
 
 -- the image of an accepted text: it keeps the rules of images, and the headline holds for it, as for each image of the
 -- program's function under legal places

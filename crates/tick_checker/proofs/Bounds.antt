@@ -1,5 +1,6 @@
 -- The bytes of the globals end where the globals do, and both walks end them at one place.
-use Rattle.std.proofs.Common.{◌≡◌, ℕ, ◌+◌, ◌≤◌, min, Bool, true, false, if◌then◌else◌, ap, sym, ◌∙◌, subst, List, length, arith, add-sub_of_le}
+use Rattle.std.proofs.Common.{◌≡◌, ℕ, ◌+◌, ◌≤◌, min, Bool, true, false, if◌then◌else◌, ap, sym, ◌∙◌, subst, List}
+use Rattle.std.proofs.Common.{length, arith, add-sub_of_le}
 use Rattle.std.proofs.Math.ListN.{length-append}
 use Rattle.c_types.specs.declared.ctype.CType.{CType}
 use Rattle.check_forms.specs.Forms.{is_nil}
@@ -25,7 +26,8 @@ below_aligned : (n : ℕ) → images.aligned n ≤ 4194304 → n ≤ images.alig
 below_aligned n h = omega arith
 
 -- a global's beginning keeps the bytes in bounds
-pub fill_bounded : (size at : ℕ) (old m new : State) → at ≡ images.place old.image → m.image ≡ images.with_global size old.image → Filled at size m new → Bounded old.image → Bounded new.image
+pub fill_bounded : (size at : ℕ) (old m new : State) → at ≡ images.place old.image →
+    m.image ≡ images.with_global size old.image → Filled at size m new → Bounded old.image → Bounded new.image
 fill_bounded size at old m new place is f h few =
     let e : new.image.end ≡ min (images.aligned old.image.end + size) 4194308 = f.end ∙ ap (λ (i : Image). i.end) is in
     let g : length m.image.globals ≡ length old.image.globals = ap (λ (i : Image). length i.globals) is in
@@ -33,7 +35,8 @@ fill_bounded size at old m new place is f h few =
     let a : images.aligned old.image.end ≤ 4194304 = omega arith in
     let b : old.image.end ≤ images.aligned old.image.end = below_aligned old.image.end a in
     let c : length old.image.globals ≤ old.image.end = h (omega arith) in
-    let d : length new.image.globals ≤ images.aligned old.image.end + size = f.globals (images.aligned old.image.end) (omega arith) (omega arith) in
+    let d : length new.image.globals ≤ images.aligned old.image.end + size =
+    f.globals (images.aligned old.image.end) (omega arith) (omega arith) in
     omega arith
 
 pub kept_bounded : (s new : State) → KeepsGlobals s new → Bounded s.image → Bounded new.image
@@ -48,13 +51,16 @@ kept_bounded s new k h few =
 up_to_length : (n : ℕ) (bytes : List ℕ) → length bytes ≤ n → length (images.up_to n bytes) ≡ n
 up_to_length n bytes h = up_to_is n bytes ∙ add-sub_of_le h
 
-image_length : (i : Image) → length i.globals ≤ strings_begin i → strings_begin i + length i.strings ≤ 4194304 → length (image i) ≤ 4194304
+image_length : (i : Image) → length i.globals ≤ strings_begin i → strings_begin i + length i.strings ≤ 4194304 →
+    length (image i) ≤ 4194304
 image_length i h few =
     let whole : length (image i) ≡ strings_begin i + length i.strings
-    = length-append (images.up_to (strings_begin i) i.globals) i.strings ∙ ap (λ (n : ℕ). n + length i.strings) (up_to_length (strings_begin i) i.globals h) in
+    = length-append (images.up_to (strings_begin i) i.globals) i.strings ∙
+    ap (λ (n : ℕ). n + length i.strings) (up_to_length (strings_begin i) i.globals h) in
     subst (λ (n : ℕ). n ≤ 4194304) (sym whole) few
 
-begin_case : (i : Image) (b : Bool) (end : ℕ) → i.strings_at ≡ images.aligned end → i.end ≡ end → Bounded i → begin_by b i ≤ 4194304 → length i.globals ≤ begin_by b i
+begin_case : (i : Image) (b : Bool) (end : ℕ) → i.strings_at ≡ images.aligned end → i.end ≡ end → Bounded i →
+    begin_by b i ≤ 4194304 → length i.globals ≤ begin_by b i
 begin_case i true end at e h few = let z : length i.globals ≤ i.end = h few in z
 begin_case i false end at e h few =
     let s : i.strings_at ≤ 4194304 = few in
@@ -63,7 +69,10 @@ begin_case i false end at e h few =
     let z : length i.globals ≤ i.strings_at = omega arith in z
 
 -- where the globals end in both walks at one place, the image is not too long
-pub image_small : (i : Image) (end : ℕ) → i.strings_at ≡ images.aligned end → i.end ≡ end → Bounded i → image_fits i ≡ true → length (image i) ≤ 4194304
+pub image_small : (i : Image) (end : ℕ) → i.strings_at ≡ images.aligned end → i.end ≡ end → Bounded i →
+    image_fits i ≡ true → length (image i) ≤ 4194304
 image_small i end at e h fits =
-    let few : strings_begin i + length i.strings ≤ 4194304 = true_le (strings_begin i + length i.strings) 4194304 fits in
-    image_length i (begin_case i (is_nil i.strings) end at e h (let z : strings_begin i ≤ 4194304 = omega arith in z)) few
+    let few : strings_begin i + length i.strings ≤ 4194304 =
+    true_le (strings_begin i + length i.strings) 4194304 fits in
+    image_length i (begin_case i (is_nil i.strings) end at e h (let z : strings_begin i ≤ 4194304 = omega arith in z))
+    few

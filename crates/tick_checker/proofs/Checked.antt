@@ -24,7 +24,20 @@ pub ran : (t : Tree) (p : TypedParts) → checked t ≡ Ok p → Ran t.items p
 unfolding checked
 ran t p is =
     let a : Then start (λ r. first_walk t.items r.1) p = then_by start (λ r. first_walk t.items r.1) p is in
-    let b : Then (walk t.items a.answer.1) (λ r. walk_again t.items r.1) p = then_by (walk t.items a.answer.1) (λ r. walk_again t.items r.1) p a.second in
-    let c : Then (again b.answer.1) (λ r. second_walk t.items r.1) p = then_by (again b.answer.1) (λ r. second_walk t.items r.1) p b.second in
-    let d : Then (walk t.items c.answer.1) (λ r. finished r.1) p = then_by (walk t.items c.answer.1) (λ r. finished r.1) p c.second in
-    record { begin = a.answer; one = a.first; first = b.answer; two = b.first; middle = c.answer; three = c.first; last = d.answer; four = d.first; five = d.second }
+    let b : Then (walk t.items a.answer.1) (λ r. walk_again t.items r.1) p =
+    then_by (walk t.items a.answer.1) (λ r. walk_again t.items r.1) p a.second in
+    let c : Then (again b.answer.1) (λ r. second_walk t.items r.1) p =
+    then_by (again b.answer.1) (λ r. second_walk t.items r.1) p b.second in
+    let d : Then (walk t.items c.answer.1) (λ r. finished r.1) p =
+    then_by (walk t.items c.answer.1) (λ r. finished r.1) p c.second in
+    record {
+      begin = a.answer;
+      one = a.first;
+      first = b.answer;
+      two = b.first;
+      middle = c.answer;
+      three = c.first;
+      last = d.answer;
+      four = d.first;
+      five = d.second;
+    }

@@ -1,6 +1,7 @@
 -- At the end of the walk each name at file scope that is a function has the number of a function with as many
 -- parameters as its type's list has. What is found of a name stays found, so this is known of each earlier state too.
-use Rattle.std.proofs.Common.{◌≡◌, ℕ, zero, suc, ◌+◌, ◌-◌, ◌≤◌, ◌<◌, min, true, ◌&&◌, nat_le, refl, ap, sym, ◌∙◌, subst, List, [], ◌∷◌, length, slice_get, Option, Some, None, ◌⊎◌, inl, inr, arith}
+use Rattle.std.proofs.Common.{◌≡◌, ℕ, zero, suc, ◌+◌, ◌-◌, ◌≤◌, ◌<◌, min, true, ◌&&◌, nat_le, refl, ap, sym, ◌∙◌, subst}
+use Rattle.std.proofs.Common.{List, [], ◌∷◌, length, slice_get, Option, Some, None, ◌⊎◌, inl, inr, arith}
 use Rattle.std.specs.Prelude.{option_map}
 use Rattle.std.proofs.lemmas.Option.{slice_get-map}
 use Rattle.c_types.specs.declared.ctype.CType.{CType}
@@ -10,7 +11,8 @@ use Rattle.c_types.specs.declared.names.Meaning.{Meaning}
 use Rattle.c_types.specs.declared.names.MeaningKind.{MeaningKind}
 use Rattle.c_types.specs.declared.names.MeaningKind.TheVariants as kind
 use Rattle.c_types.specs.Scopes.{Name, Scopes, in_scope, find}
-use Rattle.c_types.specs.Types.{Opened, base_of, layers_of, outermost, same, same_base, same_layers, same_layer, same_lists}
+use Rattle.c_types.specs.Types.{Opened, base_of, layers_of, outermost, same, same_base, same_layers, same_layer}
+use Rattle.c_types.specs.Types.{same_lists}
 use Rattle.c_types.proofs.SameLaws.{by_parts, by_layer, opened_same}
 use Rattle.typed_tree.specs.declared.program.Function.{Function}
 use Rattle.check_env.specs.declared.state.State.{State}
@@ -21,7 +23,8 @@ use Rattle.wf_scopes.specs.Right.{listed_at, listed_by, listed, HasType}
 use Rattle.tick_checker.proofs.Files.{whole, many, End, AtFile, Linked, linked_at}
 use Rattle.tick_checker.proofs.Finish.{few_functions}
 use Rattle.tick_checker.proofs.Main.{Placed, placed_at, same_some}
-use Rattle.tick_checker.proofs.Scopes.{IsFunction, Numbered, Declared, IsCallable, FileName, FileMeans, TopName, TopMeans, found_entry}
+use Rattle.tick_checker.proofs.Scopes.{IsFunction, Numbered, Declared, IsCallable, FileName, FileMeans, TopName}
+use Rattle.tick_checker.proofs.Scopes.{TopMeans, found_entry}
 use Rattle.tick_checker.proofs.Tables.{HasNumber, number_at}
 
 -- ---- types with the same lists

@@ -15,7 +15,9 @@ use Rattle.check_tables.specs.Walks.{Rule, ◌>>=◌, lift}
 use Rattle.check_expressions.specs.Rules.{Shape}
 use Rattle.check_statements.specs.Declarations as declarations
 use Rattle.check_statements.specs.Initializers as initializers
-use Rattle.check_walk.specs.Walk.{Start, Nothing, Value, Values, InitParts, Declarations, Stmt-W, with_start, elements, begin, local_type, declare_parts, declare_one, declare_each, declaration_walk, stmt_rule}
+use Rattle.check_walk.specs.Walk.{Start, Nothing, Value, Values, InitParts, Declarations, Stmt-W, with_start, elements}
+use Rattle.check_walk.specs.Walk.{begin, local_type, declare_parts, declare_one, declare_each, declaration_walk}
+use Rattle.check_walk.specs.Walk.{stmt_rule}
 use Rattle.wf_invariant.specs.Good.{GoodShape, any_computed}
 use Rattle.wf_invariant.specs.Items.{MayStand, GoodStatement, GoodItem}
 use Rattle.wf_types.specs.Parts.{EachPart}
@@ -32,12 +34,16 @@ computed_start Nothing ss h = h
 computed_start (Value e) ss h = computed_filled (declarations.value_count e.written.string) ss h
 computed_start (Values es) ss h = computed_filled (declarations.list_count es) ss h
 
-begin_good : (many : List ℕ) (a : Standing) (line : ℕ) (p : Operand) (i : Start) → GoodStart many i → GoodBegin many a p (begin line a.stage p i)
+begin_good : (many : List ℕ) (a : Standing) (line : ℕ) (p : Operand) (i : Start) → GoodStart many i →
+    GoodBegin many a p (begin line a.stage p i)
 begin_good many a line p Nothing h = nothing_good many a p
 begin_good many a line p (Value e) h = value_good many a line p e (is_some e.written.string) h
-begin_good many a line p (Values es) h = list_good many a line p (initializers.is_array p.ctype) (initializers.has_size p.ctype) (elements es (inner p.ctype) None a.stage)
+begin_good many a line p (Values es) h =
+    list_good many a line p (initializers.is_array p.ctype) (initializers.has_size p.ctype)
+    (elements es (inner p.ctype) None a.stage)
 
-parts_good : (many : List ℕ) (a : Standing) (line : ℕ) (b : Base) (d : Shape) (i : Start) → MayStand a.stage → GoodShape d → GoodStart many i → GoodStatement many a (declare_parts line b a.stage d i)
+parts_good : (many : List ℕ) (a : Standing) (line : ℕ) (b : Base) (d : Shape) (i : Start) → MayStand a.stage →
+    GoodShape d → GoodStart many i → GoodStatement many a (declare_parts line b a.stage d i)
 parts_good many a line b d i may h k =
     declared_good many a line d.declared.name (local_type line b a.stage d i) (λ p. begin line a.stage p i) may
     (type_good a.stage line (words.base_of b) d (with_start i) h (computed_start i))
@@ -47,19 +53,25 @@ no_answer : {A B : Type 0} (f : Fault) (x : A) → ◌≡◌ {A = Checked A} (Er
 no_answer f x e = cc
 
 -- what is checked as a declarator is entered comes before
-entered_good : (many : List ℕ) (a : Standing) (r : Checked (Unit {0})) (p : Rule State (List Act)) → GoodStatement many a p → GoodStatement many a (lift r >>= (λ u. p))
+entered_good : (many : List ℕ) (a : Standing) (r : Checked (Unit {0})) (p : Rule State (List Act)) →
+    GoodStatement many a p → GoodStatement many a (lift r >>= (λ u. p))
 entered_good many a (Ok u) p h = h
-entered_good many a (Err f) p h = statement_good a (◌>>=◌ {A = Unit {0}} (lift (Err f)) (λ u. p)) (λ s new xs e. no_answer f (xs, new) e) (λ b ks s new xs here known e. no_answer f (xs, new) e)
+entered_good many a (Err f) p h =
+    statement_good a (◌>>=◌ {A = Unit {0}} (lift (Err f)) (λ u. p)) (λ s new xs e. no_answer f (xs, new) e)
+    (λ b ks s new xs here known e. no_answer f (xs, new) e)
 
-each_good : (many : List ℕ) (a : Standing) (line : ℕ) (b : Base) (is : List InitParts) → MayStand a.stage → EachPart (GoodInit many) is → GoodStatement many a (declare_each line b a.stage is)
+each_good : (many : List ℕ) (a : Standing) (line : ℕ) (b : Base) (is : List InitParts) → MayStand a.stage →
+    EachPart (GoodInit many) is → GoodStatement many a (declare_each line b a.stage is)
 each_good many a line b [] may h = none_good many a
 each_good many a line b (i ∷ is) may h =
     more_good many a (declare_one line b a.stage i) (declare_each line b a.stage is) may
-    (entered_good many a (declarations.entered a.stage line i.shape.declared.staged) (declare_parts line b a.stage i.shape i.start)
+    (entered_good many a (declarations.entered a.stage line i.shape.declared.staged)
+    (declare_parts line b a.stage i.shape i.start)
     (parts_good many a line b i.shape i.start may h.0.shape h.0.start))
     (each_good many a line b is may h.1)
 
-pub declaration_good : (many : List ℕ) (d : Declarations) → GoodDeclarators many d → GoodDeclaration many (declaration_walk d)
+pub declaration_good : (many : List ℕ) (d : Declarations) → GoodDeclarators many d →
+    GoodDeclaration many (declaration_walk d)
 declaration_good many d h a may = each_good many a d.line d.base d.inits may h
 
 pub item_good : (many : List ℕ) (s : Stmt-W) → GoodStatementParts many declaration_walk s → GoodItem many (stmt_rule s)

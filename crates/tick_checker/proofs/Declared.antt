@@ -1,5 +1,6 @@
 -- The type of a name at file scope: no length of it is computed, it isn't void, and a function's list is short.
-use Rattle.std.proofs.Common.{◌≡◌, ℕ, suc, ◌-◌, ◌≤◌, Bool, true, false, ◌||◌, nat_le, if◌then◌else◌, refl, ap, ◌∙◌, List, [], ◌∷◌, ◌++◌, length, slice_get, Option, Some, None, Ok, arith}
+use Rattle.std.proofs.Common.{◌≡◌, ℕ, suc, ◌-◌, ◌≤◌, Bool, true, false, ◌||◌, nat_le, if◌then◌else◌, refl, ap, ◌∙◌}
+use Rattle.std.proofs.Common.{List, [], ◌∷◌, ◌++◌, length, slice_get, Option, Some, None, Ok, arith}
 use Rattle.c_types.specs.declared.ctype.Base.{Base}
 use Rattle.c_types.specs.declared.ctype.CType.{CType, out-roll-CType}
 use Rattle.c_types.specs.declared.ctype.Layer.{Layer, out-Layer}
@@ -10,7 +11,8 @@ use Rattle.check_declarators.specs.declared.steps.Length.TheVariants as len
 use Rattle.check_declarators.specs.declared.steps.Role.TheVariants as role
 use Rattle.check_declarators.specs.declared.steps.Step.{Step}
 use Rattle.check_declarators.specs.declared.steps.Step.TheVariants as step
-use Rattle.check_declarators.specs.Making.{declared_type, answer, lower, worst, made, breaks, unless, void_breaks, ctype, is_function, is_array}
+use Rattle.check_declarators.specs.Making.{declared_type, answer, lower, worst, made, breaks, unless, void_breaks}
+use Rattle.check_declarators.specs.Making.{ctype, is_function, is_array}
 use Rattle.check_declarators.specs.Steps.{layer_of, prefix_layer, filled}
 use Rattle.check_types.specs.Shapes as shapes
 use Rattle.tick_tree.specs.declared.base.Prefix.{Prefix}
@@ -56,12 +58,14 @@ void_case : (b : Bool) → (if b then Some VoidValue else None) ≡ None → b �
 void_case true is = absurd (cc)
 void_case false is = refl
 
-pub file_type : (line : ℕ) (b : Base) (ss : List Step) (t : CType) → declared_type role.FileScope line b ss ≡ Ok t → FileType b ss t
+pub file_type : (line : ℕ) (b : Base) (ss : List Step) (t : CType) → declared_type role.FileScope line b ss ≡ Ok t →
+    FileType b ss t
 unfolding declared_type
 file_type line b ss t is =
     let a : (lower (worst ss b []) (void_breaks b (made ss [])) ≡ None) × (t ≡ ctype b (made ss []))
     = answer_ok line (ctype b (made ss [])) t (lower (worst ss b []) (void_breaks b (made ss []))) is in
-    let n : (worst ss b [] ≡ None) × (void_breaks b (made ss []) ≡ None) = none_lower (worst ss b []) (void_breaks b (made ss [])) a.0 in
+    let n : (worst ss b [] ≡ None) × (void_breaks b (made ss []) ≡ None) =
+    none_lower (worst ss b []) (void_breaks b (made ss [])) a.0 in
     record { is = a.1; worst = n.0; value = void_case (is_void b (made ss [])) n.1 }
 
 pub file_value : (b : Base) (ss : List Step) (t : CType) → FileType b ss t → shapes.is_void t ≡ false
@@ -121,7 +125,8 @@ step_types step.Unlisted = ap types_at layer.outs-Unlisted
 
 last_one : {A : Type 0} (xs : List A) (x : A) → slice_get (xs ++ x ∷ []) (length (xs ++ x ∷ []) - 1) ≡ Some x
 last_one xs x =
-    let e : length (xs ++ x ∷ []) - 1 ≡ length xs = (let l : length (xs ++ x ∷ []) ≡ suc (length xs) = length_last xs x in omega arith) in
+    let e : length (xs ++ x ∷ []) - 1 ≡ length xs =
+    (let l : length (xs ++ x ∷ []) ≡ suc (length xs) = length_last xs x in omega arith) in
     ap (λ n. slice_get (xs ++ x ∷ []) n) e ∙ get_last xs x
 
 made_types : (ss : List Step) → types_by (outermost (made ss [])) ≡ first_list ss
@@ -129,7 +134,8 @@ made_types [] = refl
 made_types (s ∷ ss) = ap types_by (last_one (made ss []) (layer_of s)) ∙ step_types s
 
 pub first_types : (b : Base) (ss : List Step) (t : CType) → FileType b ss t → types_of t ≡ first_list ss
-first_types b ss t f = ap types_of f.is ∙ ap (λ ls. types_by (outermost ls)) (layers_made b (made ss [])) ∙ made_types ss
+first_types b ss t f = ap types_of f.is ∙ ap (λ ls. types_by (outermost ls)) (layers_made b (made ss [])) ∙
+    made_types ss
 
 -- ---- a list that takes any arguments
 
@@ -156,8 +162,10 @@ made_open : (ss : List Step) → is_unlisted (outermost (made ss [])) ≡ first_
 made_open [] = refl
 made_open (s ∷ ss) = ap is_unlisted (last_one (made ss []) (layer_of s)) ∙ step_open s
 
-pub open_type : (b : Base) (ss : List Step) (t : CType) → FileType b ss t → is_unlisted (outermost (layers_of t)) ≡ first_open ss
-open_type b ss t f = ap (λ u. is_unlisted (outermost (layers_of u))) f.is ∙ ap (λ ls. is_unlisted (outermost ls)) (layers_made b (made ss [])) ∙ made_open ss
+pub open_type : (b : Base) (ss : List Step) (t : CType) → FileType b ss t →
+    is_unlisted (outermost (layers_of t)) ≡ first_open ss
+open_type b ss t f = ap (λ u. is_unlisted (outermost (layers_of u))) f.is ∙
+    ap (λ ls. is_unlisted (outermost ls)) (layers_made b (made ss [])) ∙ made_open ss
 
 -- at the name of a function an open list is an empty one
 pub named_open : (ss : List Step) → first_open (named_steps ss) ≡ false

@@ -1,5 +1,6 @@
 -- A function of the program stands right, and what it leaves for the items behind it: the walk over it, put together.
-use Rattle.std.proofs.Common.{◌≡◌, ℕ, ◌≤◌, min, true, nat_le, ap, sym, ◌∙◌, subst, List, [], ◌∷◌, ◌++◌, length, slice_get, Some, arith}
+use Rattle.std.proofs.Common.{◌≡◌, ℕ, ◌≤◌, min, true, nat_le, ap, sym, ◌∙◌, subst, List, [], ◌∷◌, ◌++◌, length}
+use Rattle.std.proofs.Common.{slice_get, Some, arith}
 use Rattle.c_types.specs.declared.ctype.CType.{CType}
 use Rattle.c_types.specs.Scopes.{Name, Scope}
 use Rattle.tick_tree.specs.declared.base.Base.{Base}
@@ -39,7 +40,8 @@ made_function line d t named last xs = functions.function line d.declared.name t
 abbrev pub made_state : ℕ → Shape → CType → State → State → List Stmt → State
 made_state line d t named last xs = ended line d.declared.name t (body_of last xs) (back named last)
 
-pub is_made : (line : ℕ) (b : Base) (d : Shape) (gs : List Given) (items : List Item) (s new : State) (r : FunctionRan line b d gs items s new)
+pub is_made : (line : ℕ) (b : Base) (d : Shape) (gs : List Given) (items : List Item) (s new : State)
+    (r : FunctionRan line b d gs items s new)
     → new ≡ made_state line d r.type r.named r.third.last r.third.nodes
 is_made line b d gs items s new r =
     r.is ∙ ap (λ (x : Stmt). ended line d.declared.name r.type x r.bodied) r.third.node
@@ -47,7 +49,8 @@ is_made line b d gs items s new r =
 
 -- ---- what a function does
 
-pub record FunctionDone (e : State) (name : Name) (ks : List (List CaptureKind)) (s new : State) (table : Scope) : Type 0 where
+pub record FunctionDone (e : State) (name : Name) (ks : List (List CaptureKind)) (s new : State) (table : Scope) : Type
+    0 where
   pub file : AtFile e new
   pub defined : new.functions.defined ≡ with_name (length s.functions.all) name table ∷ []
   pub function : Function
@@ -56,31 +59,38 @@ pub record FunctionDone (e : State) (name : Name) (ks : List (List CaptureKind))
   pub more : List (List CaptureKind)
   pub counted : length (ks ++ more) ≡ length new.ticks.all
   pub stands : (all : List (List CaptureKind)) → Starts (ks ++ more) all → accepted.IsFunction (typed e) all function
-  pub ticks : (all : List (List CaptureKind)) → Starts (ks ++ more) all → (made : Starts s.ticks.all new.ticks.all) → EachTick (round e all [] 0) made.rest more
+  pub ticks : (all : List (List CaptureKind)) → Starts (ks ++ more) all → (made : Starts s.ticks.all new.ticks.all) →
+      EachTick (round e all [] 0) made.rest more
 
 -- the functions after the name
 abbrev pub with_defined : ℕ → Name → Scope → Functions → Functions
 with_defined n name table f = record f { defined = with_name n name table ∷ [] }
 
-pub get_rest : {A : Type 0} (xs : List A) (x : A) (ys zs : List A) → zs ≡ (xs ++ x ∷ []) ++ ys → slice_get zs (length xs) ≡ Some x
+pub get_rest : {A : Type 0} (xs : List A) (x : A) (ys zs : List A) → zs ≡ (xs ++ x ∷ []) ++ ys →
+    slice_get zs (length xs) ≡ Some x
 get_rest xs x ys zs e = ap (λ l. slice_get l (length xs)) e ∙ get_front (xs ++ x ∷ []) ys (length xs) x (get_last xs x)
 
 -- ---- the function is right
 
-pub is_right : (e : State) (ks all : List (List CaptureKind)) (line : ℕ) (d : Shape) (t : CType) (named given last : State) (xs : List Stmt)
+pub is_right : (e : State) (ks all : List (List CaptureKind)) (line : ℕ) (d : Shape) (t : CType)
+    (named given last : State) (xs : List Stmt)
     → length (types_of t) ≤ 8 → function_fits (made_function line d t named last xs) ≡ true
     → (inner : Inside e ks (length (types_of t)) given last xs) → Starts (ks ++ inner.more) all
     → accepted.IsFunction (typed e) all (made_function line d t named last xs)
 is_right e ks all line d t named given last xs few fits inner starts =
     let count : count_of t ≡ length (types_of t) = omega arith in
-    let size : min (statement_size (body_of last xs)) 65536 ≤ 16384 = true_le _ _ (first_true (nat_le (min (statement_size (body_of last xs)) 65536) 16384) (nat_le last.frame.object 4194304) fits) in
+    let size : min (statement_size (body_of last xs)) 65536 ≤ 16384 =
+    true_le _ _ (first_true (nat_le (min (statement_size (body_of last xs)) 65536) 16384)
+    (nat_le last.frame.object 4194304) fits) in
     record {
-      stands = subst (λ (n : ℕ). stands_as_body (body_of last xs) n (round e all [] last.frame.object) ≡ true) (sym count) (inner.stands all starts);
+      stands = subst (λ (n : ℕ). stands_as_body (body_of last xs) n (round e all [] last.frame.object) ≡ true)
+          (sym count) (inner.stands all starts);
       values = inner.values;
       size = omega arith;
       objects = inner.objects;
       numbers = inner.numbers;
       few = omega arith;
       small = size;
-      short = true_le _ _ (second_true (nat_le (min (statement_size (body_of last xs)) 65536) 16384) (nat_le last.frame.object 4194304) fits);
+      short = true_le _ _ (second_true (nat_le (min (statement_size (body_of last xs)) 65536) 16384)
+          (nat_le last.frame.object 4194304) fits);
     }

@@ -21,7 +21,9 @@ light_few : (w : ℕ) (s new : State) → w ≤ 1000000000 → Light w s new →
 light_few w s new h l = (omega (arith, l.captures), omega (arith, l.inner))
 
 few_block : (xs : List Stmt) → total (map statement_weight xs) ≤ 1000000000 → FewBlock (map item xs)
-few_block xs h s new x e = light_few (total (map statement_weight xs)) s new h ((block_light (map item xs) tick_around (items_light xs)).light s new x e)
+few_block xs h s new x e =
+    light_few (total (map statement_weight xs)) s new h
+    ((block_light (map item xs) tick_around (items_light xs)).light s new x e)
 
 few_parts : (x : Expr-T) → expr_nodes (weighed-Expr x) ≤ 1000000000 → FewParts (walkedExpr x)
 few_parts (Expr-F.TickBlock line xs) h = few_block xs (omega arith)

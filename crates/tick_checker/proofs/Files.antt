@@ -1,5 +1,6 @@
 -- What is known between the items of a program, and at the end of its walk.
-use Rattle.std.proofs.Common.{◌≡◌, ℕ, zero, suc, ◌≤◌, true, false, ◌∙◌, subst, List, [], ◌∷◌, ◌++◌, length, slice_get, Some, None, ◌⊎◌}
+use Rattle.std.proofs.Common.{◌≡◌, ℕ, zero, suc, ◌≤◌, true, false, ◌∙◌, subst, List, [], ◌∷◌, ◌++◌, length, slice_get}
+use Rattle.std.proofs.Common.{Some, None, ◌⊎◌}
 use Rattle.c_types.specs.declared.ctype.CType.{CType}
 use Rattle.c_types.specs.declared.names.Meaning.{Meaning}
 use Rattle.c_types.specs.Scopes.{Name, Scope, in_scope}
@@ -36,7 +37,8 @@ many e = parameters_of e.functions.all
 -- what is checked at the end of the walk
 pub record End (e : State) : Type 0 where
   pub limits : Limits e
-  pub numbers : (i : ℕ) (p : Prototype) → slice_get e.functions.prototypes i ≡ Some p → HasNumber (whole e) p.name (number p.name e.functions)
+  pub numbers : (i : ℕ) (p : Prototype) → slice_get e.functions.prototypes i ≡ Some p →
+      HasNumber (whole e) p.name (number p.name e.functions)
 
 -- a state on the way to the end
 pub record Towards (s e : State) : Type 0 where
@@ -48,7 +50,8 @@ pub record Towards (s e : State) : Type 0 where
 pub towards_more : (s m e : State) → Towards s m → Towards m e → Towards s e
 towards_more s m e p q = record {
   earlier = q.earlier ∙ p.earlier;
-  prototypes = starts_trans s.functions.prototypes m.functions.prototypes e.functions.prototypes p.prototypes q.prototypes;
+  prototypes = starts_trans s.functions.prototypes m.functions.prototypes e.functions.prototypes p.prototypes
+      q.prototypes;
   all = starts_trans s.functions.all m.functions.all e.functions.all p.all q.all;
   ticks = starts_trans s.ticks.all m.ticks.all e.ticks.all p.ticks q.ticks;
 }
@@ -68,16 +71,29 @@ abbrev pub EachLinked : Scope → List Function → Type 0
 EachLinked sc [] = Unit {0}
 EachLinked sc (f ∷ fs) = Linked sc f × EachLinked sc fs
 
-pub linked_later : (sc new : Scope) (fs : List Function) → ((n : Name) (m : Meaning) → in_scope sc n ≡ Some m → in_scope new n ≡ Some m) → EachLinked sc fs → EachLinked new fs
+pub linked_later : (sc new : Scope) (fs : List Function) →
+    ((n : Name) (m : Meaning) → in_scope sc n ≡ Some m → in_scope new n ≡ Some m) → EachLinked sc fs → EachLinked new fs
 linked_later sc new [] h l = tt
-linked_later sc new (f ∷ fs) h l =
-    (record { what = l.0.what; found = h f.name l.0.what l.0.found; type = l.0.type; same = l.0.same; params = l.0.params; few = l.0.few }, linked_later sc new fs h l.1)
+linked_later sc new (f ∷ fs) h l = (
+  record {
+    what = l.0.what;
+    found = h f.name l.0.what l.0.found;
+    type = l.0.type;
+    same = l.0.same;
+    params =
+        l.0.params;
+    few = l.0.few;
+  },
+  linked_later sc new fs h l.1,
+)
 
-pub linked_last : (sc : Scope) (fs : List Function) (f : Function) → EachLinked sc fs → Linked sc f → EachLinked sc (fs ++ f ∷ [])
+pub linked_last : (sc : Scope) (fs : List Function) (f : Function) → EachLinked sc fs → Linked sc f →
+    EachLinked sc (fs ++ f ∷ [])
 linked_last sc [] f h l = (l, tt)
 linked_last sc (g ∷ fs) f h l = (h.0, linked_last sc fs f h.1 l)
 
-pub linked_at : (sc : Scope) (fs : List Function) (n : ℕ) (f : Function) → EachLinked sc fs → slice_get fs n ≡ Some f → Linked sc f
+pub linked_at : (sc : Scope) (fs : List Function) (n : ℕ) (f : Function) → EachLinked sc fs → slice_get fs n ≡ Some f →
+    Linked sc f
 linked_at sc [] n f h at = absurd (cc)
 linked_at sc (g ∷ fs) zero f h at = let e : g ≡ f = cc in subst (λ (x : Function). Linked sc x) e h.0
 linked_at sc (g ∷ fs) (suc n) f h at = linked_at sc fs n f h.1 at
@@ -95,4 +111,13 @@ pub record AtFile (e s : State) : Type 0 where
 
 -- what is round a function at the end of the walk, whose ticks capture this
 abbrev pub round : State → List (List CaptureKind) → List ℕ → ℕ → Around
-round e all vs object = record { variables = vs; object = object; functions = many e; ticks = all; captures = None; in_loop = false; in_switch = false }
+round e all vs object = record {
+  variables = vs;
+  object = object;
+  functions = many e;
+  ticks = all;
+  captures = None;
+  in_loop = false;
+  in_switch =
+      false;
+}

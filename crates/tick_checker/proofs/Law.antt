@@ -55,22 +55,27 @@ static_start many (Values es) h = static_each many es h
 
 inits_good : (many : List ℕ) (is : List InitParts) → EachPart (GoodLocal many) is → EachInit is
 inits_good many [] h = tt
-inits_good many (i ∷ is) h = (record { shape = h.0.shape; start = static_start many i.start h.0.start }, inits_good many is h.1)
+inits_good many (i ∷ is) h =
+    (record { shape = h.0.shape; start = static_start many i.start h.0.start }, inits_good many is h.1)
 
 -- ---- functions
 
-items_good : (many : List ℕ) (ss : List Written) → total (map statement_weight ss) ≤ 1000000000 → EachPart (GoodItem many) (map item ss)
+items_good : (many : List ℕ) (ss : List Written) → total (map statement_weight ss) ≤ 1000000000 →
+    EachPart (GoodItem many) (map item ss)
 items_good many [] h = tt
 items_good many (s ∷ ss) h = ((small_are_good many).item s (omega arith), items_good many ss (omega arith))
 
-few_homes : (ss : List Written) (s new : State) (xs : List Stmt) → total (map statement_weight ss) ≤ 900000000 → rules.each (map item ss) around s ≡ Ok (xs, new)
+few_homes : (ss : List Written) (s new : State) (xs : List Stmt) → total (map statement_weight ss) ≤ 900000000 →
+    rules.each (map item ss) around s ≡ Ok (xs, new)
     → length new.frame.homes ≤ length s.frame.homes + 900000000
 few_homes ss s new xs h is =
-    let l : Light (total (map statement_weight ss)) s new = (each_light (map item ss) around (items_light ss)).light s new xs is in
+    let l : Light (total (map statement_weight ss)) s new =
+    (each_light (map item ss) around (items_light ss)).light s new xs is in
     let k : length new.frame.homes ≤ length s.frame.homes + total (map statement_weight ss) = l.homes in
     omega arith
 
-external_good : (many : List ℕ) (x : External) (xs : List External) → EachNamed (x ∷ xs) → item_weight x ≤ 900000000 → GoodExternal many x
+external_good : (many : List ℕ) (x : External) (xs : List External) → EachNamed (x ∷ xs) → item_weight x ≤ 900000000 →
+    GoodExternal many x
 external_good many (ext.Function line b d ss) xs named few = record {
   shape = (small_are_good many).shape d (omega arith);
   objects = list_objects d;
@@ -78,20 +83,24 @@ external_good many (ext.Function line b d ss) xs named few = record {
   walks = each_good many (map item ss) around tt (items_good many ss (omega arith));
   few = λ s new ys is. few_homes ss s new ys (omega arith) is;
 }
-external_good many (ext.Declaration d) xs named few = inits_good many (declaration d).inits ((small_are_good many).declaration d (omega arith))
+external_good many (ext.Declaration d) xs named few =
+    inits_good many (declaration d).inits ((small_are_good many).declaration d (omega arith))
 
 rest_named : (x : External) (xs : List External) → EachNamed (x ∷ xs) → EachNamed xs
 rest_named (ext.Function line b d ss) xs h = h.1
 rest_named (ext.Declaration d) xs h = h
 
-each_external : (many : List ℕ) (xs : List External) → EachNamed xs → total (map item_weight xs) ≤ 900000000 → EachGood many xs
+each_external : (many : List ℕ) (xs : List External) → EachNamed xs → total (map item_weight xs) ≤ 900000000 →
+    EachGood many xs
 each_external many [] named few = tt
-each_external many (x ∷ xs) named few = (external_good many x xs named (omega arith), each_external many xs (rest_named x xs named) (omega arith))
+each_external many (x ∷ xs) named few =
+    (external_good many x xs named (omega arith), each_external many xs (rest_named x xs named) (omega arith))
 
 -- ---- both walks
 
 init_fixed : (x : Init) → FixedShape (init x).shape
-init_fixed x = subst (λ (i : InitParts). FixedShape i.shape) (sym (at_init x)) (walks_fixed.declarators (out-Init x).declarator)
+init_fixed x = subst (λ (i : InitParts). FixedShape i.shape) (sym (at_init x))
+    (walks_fixed.declarators (out-Init x).declarator)
 
 inits_fixed : (xs : List Init) → EachFixed (map init xs)
 inits_fixed [] = tt
@@ -100,9 +109,14 @@ inits_fixed (x ∷ xs) = (init_fixed x, inits_fixed xs)
 all_fixed : (xs : List External) → AllFixed xs
 all_fixed [] = tt
 all_fixed (ext.Function line b d ss ∷ xs) = (tt, all_fixed xs)
-all_fixed (ext.Declaration d ∷ xs) = (subst (λ (z : Declarations). EachFixed z.inits) (sym (at_declaration d)) (inits_fixed (out-Declaration d).inits), all_fixed xs)
+all_fixed (ext.Declaration d ∷ xs) = (
+  subst (λ (z : Declarations). EachFixed z.inits) (sym (at_declaration d)) (inits_fixed (out-Declaration d).inits),
+  all_fixed xs,
+)
 
 -- ---- the law
 
 pub well_formed_law : CheckedIsWellFormed
-well_formed_law t p h is = well_formed p (program_accepted t p all_fit (λ n. each_external n t.items h.named (omega (arith, h.small))) (all_fixed t.items) is)
+well_formed_law t p h is =
+    well_formed p (program_accepted t p all_fit (λ n. each_external n t.items h.named (omega (arith, h.small)))
+    (all_fixed t.items) is)

@@ -1,5 +1,7 @@
 -- The parameters of a function: each is a node at the head of its block, and is known with its home.
-use Rattle.std.proofs.Common.{◌≡◌, ℕ, suc, ◌+◌, ◌*◌, ◌%◌, ◌≤◌, ◌==◌, Bool, true, false, ◌&&◌, nat_le, nat_lt, if◌then◌else◌, refl, ap, sym, ◌∙◌, List, [], ◌∷◌, ◌++◌, length, map, sum, slice_get, Some, arith}
+use Rattle.std.proofs.Common.{◌≡◌, ℕ, suc, ◌+◌, ◌*◌, ◌%◌, ◌≤◌, ◌==◌, Bool, true, false, ◌&&◌, nat_le, nat_lt}
+use Rattle.std.proofs.Common.{if◌then◌else◌, refl, ap, sym, ◌∙◌, List, [], ◌∷◌, ◌++◌, length, map, sum, slice_get, Some}
+use Rattle.std.proofs.Common.{arith}
 use Rattle.word32.specs.declared.width.Width.{Width}
 use Rattle.c_types.specs.declared.ctype.CType.{CType}
 use Rattle.check_types.specs.Shapes.{width_of}
@@ -14,11 +16,14 @@ use Rattle.check_tables.specs.Frames as frames
 use Rattle.wellformed.specs.Counts.{one_if, is_in, objects_at, declarations_of}
 use Rattle.wellformed.specs.Places.{Around, Act, act, in_function, are_parameters, is_object}
 use Rattle.wellformed.specs.Values.{uses_values, all_true}
-use Rattle.wellformed.proofs.Equations.{act_parameter, act_parameterobject, objects_at_parameter, objects_at_parameterobject, declarations_of_parameter, declarations_of_parameterobject}
+use Rattle.wellformed.proofs.Equations.{act_parameter, act_parameterobject, objects_at_parameter}
+use Rattle.wellformed.proofs.Equations.{objects_at_parameterobject, declarations_of_parameter}
+use Rattle.wellformed.proofs.Equations.{declarations_of_parameterobject}
 use Rattle.wellformed.proofs.Bools.{and_true, same_number, le_less}
 use Rattle.wf_invariant.specs.Known.{numbers, HasHome}
 use Rattle.tick_checker.proofs.Bools.{length_last, length_map}
-use Rattle.tick_checker.proofs.Sums.{map_both, sum_map_both, all_map_both, parameters_more, bytes_more, number_more, number_same, values_parameter, values_object}
+use Rattle.tick_checker.proofs.Sums.{map_both, sum_map_both, all_map_both, parameters_more, bytes_more, number_more}
+use Rattle.tick_checker.proofs.Sums.{number_same, values_parameter, values_object}
 
 -- so many parameters stand in a function that has nothing else yet
 pub record FrameAt (k : ℕ) (f : Frame) : Type 0 where
@@ -26,7 +31,8 @@ pub record FrameAt (k : ℕ) (f : Frame) : Type 0 where
   pub nodes : length f.nodes ≡ k
   pub small : f.object ≤ 4 * k
   pub aligned : f.object % 4 ≡ 0
-  pub stand : (a : Around) → in_function a ≡ true → nat_le f.object a.object ≡ true → are_parameters 0 (map act f.nodes) a ≡ true
+  pub stand : (a : Around) → in_function a ≡ true → nat_le f.object a.object ≡ true →
+      are_parameters 0 (map act f.nodes) a ≡ true
   pub values : all_true (map uses_values f.nodes) ≡ true
   pub objects : (byte : ℕ) → sum (map (objects_at byte) f.nodes) ≡ one_if (nat_lt byte f.object)
   pub declared : (i : ℕ) → sum (map (declarations_of i) f.nodes) ≤ one_if (nat_lt i k)
@@ -41,14 +47,17 @@ pub record PlacedAt (f : Frame) (n : ℕ) : Type 0 where
 -- ---- the node of a parameter
 
 is_register : (k : ℕ) (w : Width) (a : Around) → in_function a ≡ true → (act (st.Parameter k w)).is_parameter k a ≡ true
-is_register k w a h = ap (λ (x : Act). x.is_parameter k a) (act_parameter k w) ∙ and_true (k == k) (in_function a) (same_number k) h
+is_register k w a h = ap (λ (x : Act). x.is_parameter k a) (act_parameter k w) ∙
+    and_true (k == k) (in_function a) (same_number k) h
 
-is_object_parameter : (k : ℕ) (w : Width) (off : ℕ) (a : Around) → in_function a ≡ true → nat_le (off + 4) a.object ≡ true → off % 4 ≡ 0
+is_object_parameter : (k : ℕ) (w : Width) (off : ℕ) (a : Around) → in_function a ≡ true →
+    nat_le (off + 4) a.object ≡ true → off % 4 ≡ 0
     → (act (st.ParameterObject k w off)).is_parameter k a ≡ true
 is_object_parameter k w off a h within aligned =
     ap (λ (x : Act). x.is_parameter k a) (act_parameterobject k w off)
     ∙ and_true (k == k) (is_object off 1 a) (same_number k)
-    (and_true (in_function a && nat_le (off + 4 * 1) a.object) (off % 4 == 0) (and_true (in_function a) (nat_le (off + 4 * 1) a.object) h within)
+    (and_true (in_function a && nat_le (off + 4 * 1) a.object) (off % 4 == 0)
+    (and_true (in_function a) (nat_le (off + 4 * 1) a.object) h within)
     (ap (λ (n : ℕ). n == 0) aligned))
 
 -- ---- one more
@@ -59,23 +68,29 @@ count_small xs k e h = omega arith
 at_place : {A : Type 0} (k n : ℕ) (g : Stmt → A) (vs : List Stmt) → n ≡ k → length vs ≡ k → n ≡ 0 + length (map g vs)
 at_place k n g vs e h = let m : length (map g vs) ≡ length vs = length_map g vs in omega arith
 
-register_declared : (i k n : ℕ) (w : Width) (vs : List Stmt) → n ≡ k → sum (map (declarations_of i) vs) ≤ one_if (nat_lt i k)
+register_declared : (i k n : ℕ) (w : Width) (vs : List Stmt) → n ≡ k →
+    sum (map (declarations_of i) vs) ≤ one_if (nat_lt i k)
     → sum (map (declarations_of i) (vs ++ st.Parameter n w ∷ [])) ≤ one_if (nat_lt i (suc k))
 register_declared i k n w vs e h =
-    let more : sum (map (declarations_of i) (vs ++ st.Parameter n w ∷ [])) ≡ sum (map (declarations_of i) vs) + sum (map (declarations_of i) (st.Parameter n w ∷ []))
+    let more : sum (map (declarations_of i) (vs ++ st.Parameter n w ∷ [])) ≡ sum (map (declarations_of i) vs) + sum
+    (map (declarations_of i) (st.Parameter n w ∷ []))
     = sum_map_both (declarations_of i) vs (st.Parameter n w ∷ []) in
     let one : declarations_of i (st.Parameter n w) ≡ one_if (i == n) = declarations_of_parameter i n w in
     let same : one_if (i == n) ≡ one_if (i == k) = ap (λ (m : ℕ). one_if (i == m)) e in
-    let b : sum (map (declarations_of i) vs) + one_if (i == k) ≤ one_if (nat_lt i (suc k)) = number_more i k (sum (map (declarations_of i) vs)) h in
+    let b : sum (map (declarations_of i) vs) + one_if (i == k) ≤ one_if (nat_lt i (suc k)) =
+    number_more i k (sum (map (declarations_of i) vs)) h in
     omega arith
 
-object_declared : (i k n : ℕ) (w : Width) (off : ℕ) (vs : List Stmt) → sum (map (declarations_of i) vs) ≤ one_if (nat_lt i k)
+object_declared : (i k n : ℕ) (w : Width) (off : ℕ) (vs : List Stmt) →
+    sum (map (declarations_of i) vs) ≤ one_if (nat_lt i k)
     → sum (map (declarations_of i) (vs ++ st.ParameterObject n w off ∷ [])) ≤ one_if (nat_lt i (suc k))
 object_declared i k n w off vs h =
-    let more : sum (map (declarations_of i) (vs ++ st.ParameterObject n w off ∷ [])) ≡ sum (map (declarations_of i) vs) + sum (map (declarations_of i) (st.ParameterObject n w off ∷ []))
+    let more : sum (map (declarations_of i) (vs ++ st.ParameterObject n w off ∷ [])) ≡ sum (map (declarations_of i) vs)
+    + sum (map (declarations_of i) (st.ParameterObject n w off ∷ []))
     = sum_map_both (declarations_of i) vs (st.ParameterObject n w off ∷ []) in
     let none : declarations_of i (st.ParameterObject n w off) ≡ 0 = declarations_of_parameterobject i n w off in
-    let b : sum (map (declarations_of i) vs) ≤ one_if (nat_lt i (suc k)) = number_same i k (sum (map (declarations_of i) vs)) h in
+    let b : sum (map (declarations_of i) vs) ≤ one_if (nat_lt i (suc k)) =
+    number_same i k (sum (map (declarations_of i) vs)) h in
     omega arith
 
 register_at : (k : ℕ) (t : CType) (f : Frame) → k ≤ 7 → FrameAt k f → FrameAt (suc k) (frames.register_parameter t f)
@@ -90,15 +105,19 @@ register_at k t f few at =
       stand = λ a h within.
           ap (λ vs. are_parameters 0 vs a) (map_both act f.nodes (st.Parameter (frames.number f) (width_of t) ∷ []))
           ∙ parameters_more 0 (frames.number f) (map act f.nodes) (act (st.Parameter (frames.number f) (width_of t))) a
-          (at_place k (frames.number f) act f.nodes number at.nodes) (at.stand a h within) (is_register (frames.number f) (width_of t) a h);
+          (at_place k (frames.number f) act f.nodes number at.nodes) (at.stand a h within)
+          (is_register (frames.number f) (width_of t) a h);
       values = all_map_both uses_values f.nodes (st.Parameter (frames.number f) (width_of t) ∷ []) at.values
-          (and_true (uses_values (st.Parameter (frames.number f) (width_of t))) true (values_parameter (frames.number f) (width_of t)) refl);
+          (and_true (uses_values (st.Parameter (frames.number f) (width_of t))) true
+          (values_parameter (frames.number f) (width_of t)) refl);
       objects = λ byte. sum_map_both (objects_at byte) f.nodes (st.Parameter (frames.number f) (width_of t) ∷ [])
-          ∙ (let o : objects_at byte (st.Parameter (frames.number f) (width_of t)) ≡ 0 = objects_at_parameter byte (frames.number f) (width_of t) in
+          ∙ (let o : objects_at byte (st.Parameter (frames.number f) (width_of t)) ≡ 0 =
+          objects_at_parameter byte (frames.number f) (width_of t) in
           let s : sum (map (objects_at byte) f.nodes) ≡ one_if (nat_lt byte f.object) = at.objects byte in omega arith);
       declared = λ i. register_declared i k (frames.number f) (width_of t) f.nodes number (at.declared i);
       size = sum_map_both statement_size f.nodes (st.Parameter (frames.number f) (width_of t) ∷ [])
-          ∙ (let o : statement_size (st.Parameter (frames.number f) (width_of t)) ≡ 1 = statement_size_parameter (frames.number f) (width_of t) in
+          ∙ (let o : statement_size (st.Parameter (frames.number f) (width_of t)) ≡ 1 =
+          statement_size_parameter (frames.number f) (width_of t) in
           let s : sum (map statement_size f.nodes) ≡ k = at.size in omega arith);
     }
 
@@ -116,19 +135,28 @@ object_at k t f few at =
       small = omega arith;
       aligned = ap (λ (n : ℕ). n % 4) after ∙ aligned_more f.object at.aligned;
       stand = λ a h within.
-          ap (λ vs. are_parameters 0 vs a) (map_both act f.nodes (st.ParameterObject (frames.number f) (width_of t) f.object ∷ []))
-          ∙ parameters_more 0 (frames.number f) (map act f.nodes) (act (st.ParameterObject (frames.number f) (width_of t) f.object)) a
+          ap (λ vs. are_parameters 0 vs a)
+          (map_both act f.nodes (st.ParameterObject (frames.number f) (width_of t) f.object ∷ []))
+          ∙ parameters_more 0 (frames.number f) (map act f.nodes)
+          (act (st.ParameterObject (frames.number f) (width_of t) f.object)) a
           (at_place k (frames.number f) act f.nodes number at.nodes)
           (at.stand a h (le_less f.object (frames.after f.object 1) a.object (omega arith) within))
-          (is_object_parameter (frames.number f) (width_of t) f.object a h (ap (λ (n : ℕ). nat_le n a.object) (sym after) ∙ within) at.aligned);
-      values = all_map_both uses_values f.nodes (st.ParameterObject (frames.number f) (width_of t) f.object ∷ []) at.values
-          (and_true (uses_values (st.ParameterObject (frames.number f) (width_of t) f.object)) true (values_object (frames.number f) (width_of t) f.object) refl);
-      objects = λ byte. sum_map_both (objects_at byte) f.nodes (st.ParameterObject (frames.number f) (width_of t) f.object ∷ [])
-          ∙ (let o : objects_at byte (st.ParameterObject (frames.number f) (width_of t) f.object) ≡ one_if (is_in byte f.object 1)
+          (is_object_parameter (frames.number f) (width_of t) f.object a h
+          (ap (λ (n : ℕ). nat_le n a.object) (sym after) ∙ within) at.aligned);
+      values = all_map_both uses_values f.nodes (st.ParameterObject (frames.number f) (width_of t) f.object ∷ [])
+          at.values
+          (and_true (uses_values (st.ParameterObject (frames.number f) (width_of t) f.object)) true
+          (values_object (frames.number f) (width_of t) f.object) refl);
+      objects = λ byte. sum_map_both (objects_at byte) f.nodes
+          (st.ParameterObject (frames.number f) (width_of t) f.object ∷ [])
+          ∙ (let o : objects_at byte (st.ParameterObject (frames.number f) (width_of t) f.object) ≡ one_if
+          (is_in byte f.object 1)
           = objects_at_parameterobject byte (frames.number f) (width_of t) f.object in
           let s : sum (map (objects_at byte) f.nodes) ≡ one_if (nat_lt byte f.object) = at.objects byte in
-          let b : one_if (nat_lt byte f.object) + one_if (is_in byte f.object 1) ≡ one_if (nat_lt byte (f.object + 4)) = bytes_more byte f.object in
-          let e : one_if (nat_lt byte (f.object + 4)) ≡ one_if (nat_lt byte (frames.after f.object 1)) = ap (λ (n : ℕ). one_if (nat_lt byte n)) (sym after) in
+          let b : one_if (nat_lt byte f.object) + one_if (is_in byte f.object 1) ≡ one_if (nat_lt byte (f.object + 4)) =
+          bytes_more byte f.object in
+          let e : one_if (nat_lt byte (f.object + 4)) ≡ one_if (nat_lt byte (frames.after f.object 1)) =
+          ap (λ (n : ℕ). one_if (nat_lt byte n)) (sym after) in
           omega arith);
       declared = λ i. object_declared i k (frames.number f) (width_of t) f.object f.nodes (at.declared i);
       size = sum_map_both statement_size f.nodes (st.ParameterObject (frames.number f) (width_of t) f.object ∷ [])
@@ -137,7 +165,8 @@ object_at k t f few at =
           let s : sum (map statement_size f.nodes) ≡ k = at.size in omega arith);
     }
 
-either_at : (k : ℕ) (t : CType) (f : Frame) (b : Bool) → k ≤ 7 → FrameAt k f → FrameAt (suc k) (if b then frames.object_parameter t f else frames.register_parameter t f)
+either_at : (k : ℕ) (t : CType) (f : Frame) (b : Bool) → k ≤ 7 → FrameAt k f →
+    FrameAt (suc k) (if b then frames.object_parameter t f else frames.register_parameter t f)
 either_at k t f true few at = object_at k t f few at
 either_at k t f false few at = register_at k t f few at
 

@@ -1,8 +1,12 @@
 -- Each rule of the walk makes of good parts a good whole.
 use Rattle.std.proofs.Common.{ℕ, refl, List}
-use Rattle.tick_tree.specs.declared.syntax.Core.TheOpen.{Core-F, Expr-F, Initializer-F, OptionalExpr-F, Stmt-F, Suffix-F}
+use Rattle.tick_tree.specs.declared.syntax.Core.TheOpen.{Core-F, Expr-F, Initializer-F, OptionalExpr-F, Stmt-F}
+use Rattle.tick_tree.specs.declared.syntax.Core.TheOpen.{Suffix-F}
 use Rattle.check_expressions.specs.Rules.{tick_around}
-use Rattle.check_walk.specs.Walk.{Core-W, Expr-W, Initializer-W, OptionalExpr-W, Stmt-W, Suffix-W, Declarator-W, Declaration-W, Init-W, Parameter-W, Typename-W, core_rule, expr_rule, start_rule, optional_rule, suffix_walk, suffix_of, declarator_rule, declaration_rule, init_rule, parameter_rule, typename_rule, stmt_rule, declaration_walk}
+use Rattle.check_walk.specs.Walk.{Core-W, Expr-W, Initializer-W, OptionalExpr-W, Stmt-W, Suffix-W, Declarator-W}
+use Rattle.check_walk.specs.Walk.{Declaration-W, Init-W, Parameter-W, Typename-W, core_rule, expr_rule, start_rule}
+use Rattle.check_walk.specs.Walk.{optional_rule, suffix_walk, suffix_of, declarator_rule, declaration_rule, init_rule}
+use Rattle.check_walk.specs.Walk.{parameter_rule, typename_rule, stmt_rule, declaration_walk}
 use Rattle.wf_invariant.specs.Good.{GoodNode, GoodShape, GoodSuffix, GoodParameter, GoodNamed}
 use Rattle.wf_invariant.specs.Items.{GoodItem}
 use Rattle.wf_expressions.proofs.Walk.{walk_does}
@@ -14,8 +18,11 @@ use Rattle.wf_types.specs.Parts.{GoodOptional, GoodParts, GoodSuffixParts}
 use Rattle.wf_types.proofs.Constants.{constant_plain}
 use Rattle.wf_types.proofs.Productions.{walk_keeps}
 use Rattle.wf_types.proofs.Strings.{string_plain}
-use Rattle.wf_induction.specs.Asked.{EveryCore, EveryExpr, EveryInitializer, EveryOptionalExpr, EveryStmt, EverySuffix, EveryDeclarator, EveryDeclaration, EveryInit, EveryParameter, EveryTypename}
-use Rattle.wf_induction.proofs.Declarators.{each_parameter, good_core as core_of, good_declarator as declarator_of, good_typename as typename_of, good_parameter as parameter_of, good_suffix as suffix_is_good}
+use Rattle.wf_induction.specs.Asked.{EveryCore, EveryExpr, EveryInitializer, EveryOptionalExpr, EveryStmt, EverySuffix}
+use Rattle.wf_induction.specs.Asked.{EveryDeclarator, EveryDeclaration, EveryInit, EveryParameter, EveryTypename}
+use Rattle.wf_induction.proofs.Declarators.{each_parameter, good_core as core_of, good_declarator as declarator_of}
+use Rattle.wf_induction.proofs.Declarators.{good_typename as typename_of, good_parameter as parameter_of}
+use Rattle.wf_induction.proofs.Declarators.{good_suffix as suffix_is_good}
 use Rattle.wf_induction.proofs.Forms.{form_of, string_of}
 use Rattle.tick_checker.specs.Good.{good, FewParts, FewExpr}
 
@@ -55,11 +62,13 @@ good_expr many e h f =
       constant = λ is g s new o r. constant_plain many e p (form_of e is) g s new o r;
     }
 
-pub good_optional : (many : List ℕ) (x : OptionalExpr-W) → EveryOptionalExpr (good many) x → GoodOptional many (optional_rule x)
+pub good_optional : (many : List ℕ) (x : OptionalExpr-W) → EveryOptionalExpr (good many) x →
+    GoodOptional many (optional_rule x)
 good_optional many OptionalExpr-F.OptionalExpr::Absent h = tt
 good_optional many (OptionalExpr-F.Present e) h = h
 
-pub good_initializer : (many : List ℕ) (x : Initializer-W) → EveryInitializer (good many) x → GoodStart many (start_rule x)
+pub good_initializer : (many : List ℕ) (x : Initializer-W) → EveryInitializer (good many) x →
+    GoodStart many (start_rule x)
 good_initializer many Initializer-F.Initializer::Absent h = tt
 good_initializer many (Initializer-F.Value e) h = h
 good_initializer many (Initializer-F.List es comma) h = h
@@ -83,7 +92,8 @@ good_suffix many x h = suffix_is_good many x (suffix_parts many x h)
 pub good_declarator : (many : List ℕ) (x : Declarator-W) → EveryDeclarator (good many) x → GoodShape (declarator_rule x)
 good_declarator many x h = declarator_of x h.0 h.1
 
-pub good_parameter : (many : List ℕ) (x : Parameter-W) → EveryParameter (good many) x → GoodParameter (parameter_rule x).walk
+pub good_parameter : (many : List ℕ) (x : Parameter-W) → EveryParameter (good many) x →
+    GoodParameter (parameter_rule x).walk
 good_parameter many x h = parameter_of x h
 
 pub good_typename : (many : List ℕ) (x : Typename-W) → EveryTypename (good many) x → GoodNamed (typename_rule x)
@@ -94,7 +104,8 @@ good_typename many x h = typename_of x h
 pub good_init : (many : List ℕ) (x : Init-W) → EveryInit (good many) x → GoodInit many (init_rule x)
 good_init many x h = record { shape = h.0; start = h.1 }
 
-pub good_declaration : (many : List ℕ) (x : Declaration-W) → EveryDeclaration (good many) x → GoodDeclarators many (declaration_rule x)
+pub good_declaration : (many : List ℕ) (x : Declaration-W) → EveryDeclaration (good many) x →
+    GoodDeclarators many (declaration_rule x)
 good_declaration many x h = h
 
 statement_parts : (many : List ℕ) (x : Stmt-W) → EveryStmt (good many) x → GoodStatementParts many declaration_walk x

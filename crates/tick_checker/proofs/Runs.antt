@@ -36,11 +36,14 @@ pub record BodyRan (t : CType) (gs : List Given) (items : List Item) (s new : St
   pub is : new ≡ behind (length s.scopes) s.frame.nodes last
   pub node : x ≡ st.Block last.frame.nodes nodes
 
-pub body_ran : (t : CType) (gs : List Given) (items : List Item) (s new : State) (x : Stmt) → program.body t gs items s ≡ Ok (x, new) → BodyRan t gs items s new x
+pub body_ran : (t : CType) (gs : List Given) (items : List Item) (s new : State) (x : Stmt) →
+    program.body t gs items s ≡ Ok (x, new) → BodyRan t gs items s new x
 unfolding enter leave
 body_ran t gs items s new x is =
-    let p : Parts (program.begun t gs items) (λ xs. leave (length s.scopes) s.frame.nodes >>= (λ vs. pure (st.Block vs xs))) (inside s) new x
-    = parts (program.begun t gs items) (λ xs. leave (length s.scopes) s.frame.nodes >>= (λ vs. pure (st.Block vs xs))) (inside s) new x is in
+    let p : Parts (program.begun t gs items)
+    (λ xs. leave (length s.scopes) s.frame.nodes >>= (λ vs. pure (st.Block vs xs))) (inside s) new x
+    = parts (program.begun t gs items) (λ xs. leave (length s.scopes) s.frame.nodes >>= (λ vs. pure (st.Block vs xs)))
+    (inside s) new x is in
     let q : Parts (functions.begun t gs) (λ v. rules.each items program.around) (inside s) p.between p.answer
     = parts (functions.begun t gs) (λ v. rules.each items program.around) (inside s) p.between p.answer p.first in
     record {
@@ -50,15 +53,19 @@ body_ran t gs items s new x is =
       last = p.between;
       nodes = p.answer;
       walked = q.second;
-      is = sym (pure_same (st.Block p.between.frame.nodes p.answer) x (behind (length s.scopes) s.frame.nodes p.between) new p.second);
-      node = sym (pure_value (st.Block p.between.frame.nodes p.answer) x (behind (length s.scopes) s.frame.nodes p.between) new p.second);
+      is = sym (pure_same (st.Block p.between.frame.nodes p.answer) x (behind (length s.scopes) s.frame.nodes p.between)
+          new p.second);
+      node = sym (pure_value (st.Block p.between.frame.nodes p.answer) x
+          (behind (length s.scopes) s.frame.nodes p.between) new p.second);
     }
 
 -- after a function
 abbrev pub ended : ℕ → Option (ℕ × Name) → CType → Stmt → State → State
-ended line name t x s = record s { functions = tables.with_function (functions.function line name t x s) s.functions; frame = frames.ended s.frame }
+ended line name t x s = record s
+    { functions = tables.with_function (functions.function line name t x s) s.functions; frame = frames.ended s.frame }
 
-ended_is : (line : ℕ) (name : Option (ℕ × Name)) (t : CType) (x : Stmt) (s new : State) (u : Unit {0}) → functions.ended line name t x s ≡ Ok (u, new) → new ≡ ended line name t x s
+ended_is : (line : ℕ) (name : Option (ℕ × Name)) (t : CType) (x : Stmt) (s new : State) (u : Unit {0}) →
+    functions.ended line name t x s ≡ Ok (u, new) → new ≡ ended line name t x s
 unfolding functions.ended
 ended_is line name t x s new u is = sym (pure_same tt u (ended line name t x s) new is)
 
@@ -67,34 +74,47 @@ pub record TypeRan (line : ℕ) (b : Base) (d : Shape) (s new : State) (t : CTyp
   pub walked : d.walk stage.Function s ≡ Ok (steps, new)
   pub typed : declared_type role.FileScope line (words.base_of b) (names.named_steps steps) ≡ Ok t
 
-pub type_ran : (line : ℕ) (b : Base) (d : Shape) (s new : State) (t : CType) → program.function_type line b d s ≡ Ok (t, new) → TypeRan line b d s new t
+pub type_ran : (line : ℕ) (b : Base) (d : Shape) (s new : State) (t : CType) →
+    program.function_type line b d s ≡ Ok (t, new) → TypeRan line b d s new t
 type_ran line b d s new t is =
-    let p : Parts (d.walk stage.Function) (λ ss. lift (declared_type role.FileScope line (words.base_of b) (names.named_steps ss))) s new t
-    = parts (d.walk stage.Function) (λ ss. lift (declared_type role.FileScope line (words.base_of b) (names.named_steps ss))) s new t is in
+    let p : Parts (d.walk stage.Function)
+    (λ ss. lift (declared_type role.FileScope line (words.base_of b) (names.named_steps ss))) s new t
+    = parts (d.walk stage.Function)
+    (λ ss. lift (declared_type role.FileScope line (words.base_of b) (names.named_steps ss))) s new t is in
     let l : Lifted (declared_type role.FileScope line (words.base_of b) (names.named_steps p.answer)) p.between new t
-    = lifted (declared_type role.FileScope line (words.base_of b) (names.named_steps p.answer)) p.between new t p.second in
+    = lifted (declared_type role.FileScope line (words.base_of b) (names.named_steps p.answer)) p.between new t p.second
+    in
     record { steps = p.answer; walked = p.first ∙ ap (λ (z : State). Ok (p.answer, z)) (sym l.same); typed = l.gave }
 
-pub record FunctionRan (line : ℕ) (b : Base) (d : Shape) (gs : List Given) (items : List Item) (s new : State) : Type 0 where
-  pub typed : State
-  pub type : CType
-  pub first : TypeRan line b d s typed type
-  pub named : State
-  pub u : Unit {0}
-  pub second : functions.named line (name_by d.declared.name) type typed ≡ Ok (u, named)
-  pub bodied : State
-  pub node : Stmt
-  pub third : BodyRan type gs items named bodied node
-  pub is : new ≡ ended line d.declared.name type node bodied
+pub record FunctionRan (line : ℕ) (b : Base) (d : Shape) (gs : List Given) (items : List Item) (s new : State) : Type 0
+  where
+    pub typed : State
+    pub type : CType
+    pub first : TypeRan line b d s typed type
+    pub named : State
+    pub u : Unit {0}
+    pub second : functions.named line (name_by d.declared.name) type typed ≡ Ok (u, named)
+    pub bodied : State
+    pub node : Stmt
+    pub third : BodyRan type gs items named bodied node
+    pub is : new ≡ ended line d.declared.name type node bodied
 
-pub function_ran : (line : ℕ) (b : Base) (d : Shape) (gs : List Given) (items : List Item) (s new : State) (u : Unit {0}) → program.function line b d gs items s ≡ Ok (u, new) → FunctionRan line b d gs items s new
+pub function_ran : (line : ℕ) (b : Base) (d : Shape) (gs : List Given) (items : List Item) (s new : State)
+    (u : Unit {0}) → program.function line b d gs items s ≡ Ok (u, new) → FunctionRan line b d gs items s new
 function_ran line b d gs items s new u is =
-    let a : Parts (program.function_type line b d) (λ t. functions.named line (name_by d.declared.name) t >>= (λ v. program.function_rest line t d gs items)) s new u
-    = parts (program.function_type line b d) (λ t. functions.named line (name_by d.declared.name) t >>= (λ v. program.function_rest line t d gs items)) s new u is in
-    let n : Parts (functions.named line (name_by d.declared.name) a.answer) (λ v. program.function_rest line a.answer d gs items) a.between new u
-    = parts (functions.named line (name_by d.declared.name) a.answer) (λ v. program.function_rest line a.answer d gs items) a.between new u a.second in
-    let r : Parts (program.body a.answer gs items) (λ x. functions.ended line d.declared.name a.answer x) n.between new u
-    = parts (program.body a.answer gs items) (λ x. functions.ended line d.declared.name a.answer x) n.between new u n.second in
+    let a : Parts (program.function_type line b d)
+    (λ t. functions.named line (name_by d.declared.name) t >>= (λ v. program.function_rest line t d gs items)) s new u
+    = parts (program.function_type line b d)
+    (λ t. functions.named line (name_by d.declared.name) t >>= (λ v. program.function_rest line t d gs items)) s new u
+    is in
+    let n : Parts (functions.named line (name_by d.declared.name) a.answer)
+    (λ v. program.function_rest line a.answer d gs items) a.between new u
+    = parts (functions.named line (name_by d.declared.name) a.answer)
+    (λ v. program.function_rest line a.answer d gs items) a.between new u a.second in
+    let r : Parts (program.body a.answer gs items) (λ x. functions.ended line d.declared.name a.answer x) n.between new
+    u
+    = parts (program.body a.answer gs items) (λ x. functions.ended line d.declared.name a.answer x) n.between new u
+    n.second in
     record {
       typed = a.between;
       type = a.answer;

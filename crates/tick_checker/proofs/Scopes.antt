@@ -1,5 +1,6 @@
 -- Names at file scope: what each means, and that a name that is found stays found.
-use Rattle.std.proofs.Common.{◌≡◌, ℕ, Bool, true, false, if◌then◌else◌, refl, ap, sym, ◌∙◌, subst, [], ◌∷◌, ◌++◌, Option, Some, None, Ok, slice_get, bytes_eq, List}
+use Rattle.std.proofs.Common.{◌≡◌, ℕ, Bool, true, false, if◌then◌else◌, refl, ap, sym, ◌∙◌, subst, [], ◌∷◌, ◌++◌}
+use Rattle.std.proofs.Common.{Option, Some, None, Ok, slice_get, bytes_eq, List}
 use Rattle.std.proofs.lemmas.Slice.Eq.{bytes_eq-Decides}
 use Rattle.c_types.specs.declared.ctype.CType.{CType}
 use Rattle.c_types.specs.Types.{is_unlisted, outermost, layers_of}
@@ -28,7 +29,8 @@ use Rattle.tick_checker.proofs.Tables.{HasNumber}
 pub data IsFunction (whole : List Name) (f : Functions) (name : Name) (n : ℕ) : Type 0 where
   Numbered : HasNumber whole name n → IsFunction whole f name n
   -- a prototype with the number that an earlier walk found
-  Declared : (i : ℕ) (p : Prototype) → slice_get f.prototypes i ≡ Some p → p.name ≡ name → n ≡ number p.name f → IsFunction whole f name n
+  Declared : (i : ℕ) (p : Prototype) → slice_get f.prototypes i ≡ Some p → p.name ≡ name → n ≡ number p.name f →
+      IsFunction whole f name n
 
 -- the type of a function: it isn't void, and doesn't take any arguments
 pub record IsCallable (t : CType) : Type 0 where
@@ -57,18 +59,21 @@ TopMeans many m kind.Library = IsLibrary m.index m.ctype
 abbrev pub TopName : List ℕ → Name → Meaning → Type 0
 TopName many name m = TopMeans many m m.kind
 
-pub means : (many : List ℕ) (g : Stage) (b : Blocks) (s : State) (name : Name) (m : Meaning) (k : MeaningKind) → TopMeans many m k → Means many g b s name m k
+pub means : (many : List ℕ) (g : Stage) (b : Blocks) (s : State) (name : Name) (m : Meaning) (k : MeaningKind) →
+    TopMeans many m k → Means many g b s name m k
 means many g b s name m kind.Variable h = absurd (cc)
 means many g b s name m kind.Parameter h = absurd (cc)
 means many g b s name m kind.Global h = h
 means many g b s name m kind.Function h = h
 means many g b s name m kind.Library h = h
 
-pub each_map : (P Q : Name → Meaning → Type 0) (sc : Scope) → ((name : Name) (m : Meaning) → P name m → Q name m) → EachEntry P sc → EachEntry Q sc
+pub each_map : (P Q : Name → Meaning → Type 0) (sc : Scope) → ((name : Name) (m : Meaning) → P name m → Q name m) →
+    EachEntry P sc → EachEntry Q sc
 each_map P Q [] f h = tt
 each_map P Q (e ∷ es) f h = (f e.0 e.1 h.0, each_map P Q es f h.1)
 
-pub each_more : (P : Name → Meaning → Type 0) (sc : Scope) (name : Name) (m : Meaning) → EachEntry P sc → P name m → EachEntry P (sc ++ (name, m) ∷ [])
+pub each_more : (P : Name → Meaning → Type 0) (sc : Scope) (name : Name) (m : Meaning) → EachEntry P sc → P name m →
+    EachEntry P (sc ++ (name, m) ∷ [])
 each_more P [] name m h p = (p, tt)
 each_more P (e ∷ es) name m h p = (h.0, each_more P es name m h.1 p)
 
@@ -79,7 +84,8 @@ pub record Later (f new : Functions) : Type 0 where
   pub earlier : new.earlier ≡ f.earlier
   pub prototypes : Starts f.prototypes new.prototypes
 
-pub function_later : (whole : List Name) (f new : Functions) (name : Name) (n : ℕ) → Later f new → IsFunction whole f name n → IsFunction whole new name n
+pub function_later : (whole : List Name) (f new : Functions) (name : Name) (n : ℕ) → Later f new →
+    IsFunction whole f name n → IsFunction whole new name n
 function_later whole f new name n l (Numbered h) = Numbered h
 function_later whole f new name n l (Declared i p at same is) =
     Declared i p
@@ -87,32 +93,38 @@ function_later whole f new name n l (Declared i p at same is) =
     same
     (is ∙ ap (λ (d : Scopes). number_by (find d p.name)) (sym l.earlier))
 
-file_later_at : (whole : List Name) (f new : Functions) (name : Name) (m : Meaning) (k : MeaningKind) → Later f new → FileMeans whole f name m k → FileMeans whole new name m k
+file_later_at : (whole : List Name) (f new : Functions) (name : Name) (m : Meaning) (k : MeaningKind) → Later f new →
+    FileMeans whole f name m k → FileMeans whole new name m k
 file_later_at whole f new name m kind.Variable l h = h
 file_later_at whole f new name m kind.Parameter l h = h
 file_later_at whole f new name m kind.Global l h = h
 file_later_at whole f new name m kind.Function l h = (function_later whole f new name m.index l h.0, h.1)
 file_later_at whole f new name m kind.Library l h = h
 
-pub file_later : (whole : List Name) (f new : Functions) (sc : Scope) → Later f new → EachEntry (FileName whole f) sc → EachEntry (FileName whole new) sc
-file_later whole f new sc l h = each_map (FileName whole f) (FileName whole new) sc (λ name m k. file_later_at whole f new name m m.kind l k) h
+pub file_later : (whole : List Name) (f new : Functions) (sc : Scope) → Later f new → EachEntry (FileName whole f) sc →
+    EachEntry (FileName whole new) sc
+file_later whole f new sc l h =
+    each_map (FileName whole f) (FileName whole new) sc (λ name m k. file_later_at whole f new name m m.kind l k) h
 
 -- ---- look-ups
 
 front_case : (x e : Name × Meaning) (sc : Scope) (name : Name) (m : Meaning) (b : Bool)
     → (in_scope sc name ≡ Some m → in_scope (sc ++ e ∷ []) name ≡ Some m)
-    → (if b then Some x.1 else in_scope sc name) ≡ Some m → (if b then Some x.1 else in_scope (sc ++ e ∷ []) name) ≡ Some m
+    → (if b then Some x.1 else in_scope sc name) ≡ Some m →
+    (if b then Some x.1 else in_scope (sc ++ e ∷ []) name) ≡ Some m
 front_case x e sc name m true h is = is
 front_case x e sc name m false h is = h is
 
 -- a name that is found stays found
-pub found_front : (sc : Scope) (e : Name × Meaning) (name : Name) (m : Meaning) → in_scope sc name ≡ Some m → in_scope (sc ++ e ∷ []) name ≡ Some m
+pub found_front : (sc : Scope) (e : Name × Meaning) (name : Name) (m : Meaning) → in_scope sc name ≡ Some m →
+    in_scope (sc ++ e ∷ []) name ≡ Some m
 found_front [] e name m is = absurd (cc)
 found_front (x ∷ sc) e name m is = front_case x e sc name m (bytes_eq name x.0) (found_front sc e name m) is
 
 new_case : (x e : Name × Meaning) (sc : Scope) (name : Name) (m : Meaning) (b : Bool)
     → (in_scope sc name ≡ None → in_scope (sc ++ e ∷ []) name ≡ Some m)
-    → (if b then Some x.1 else in_scope sc name) ≡ None → (if b then Some x.1 else in_scope (sc ++ e ∷ []) name) ≡ Some m
+    → (if b then Some x.1 else in_scope sc name) ≡ None →
+    (if b then Some x.1 else in_scope (sc ++ e ∷ []) name) ≡ Some m
 new_case x e sc name m true h is = absurd (cc)
 new_case x e sc name m false h is = h is
 
@@ -120,7 +132,8 @@ same_name : (name : Name) → bytes_eq name name ≡ true
 same_name name = (bytes_eq-Decides name name).1 refl
 
 -- a new name is found
-pub found_new : (sc : Scope) (name : Name) (m : Meaning) → in_scope sc name ≡ None → in_scope (sc ++ (name, m) ∷ []) name ≡ Some m
+pub found_new : (sc : Scope) (name : Name) (m : Meaning) → in_scope sc name ≡ None →
+    in_scope (sc ++ (name, m) ∷ []) name ≡ Some m
 found_new [] name m is = ap (λ b. if b then Some m else None) (same_name name)
 found_new (x ∷ sc) name m is = new_case x (name, m) sc name m (bytes_eq name x.0) (found_new sc name m) is
 
@@ -128,13 +141,16 @@ found_new (x ∷ sc) name m is = new_case x (name, m) sc name m (bytes_eq name x
 abbrev pub AllFound : Scope → Type 0
 AllFound sc = EachEntry (λ name m. in_scope sc name ≡ Some m) sc
 
-pub all_found_more : (sc : Scope) (name : Name) (m : Meaning) → in_scope sc name ≡ None → AllFound sc → AllFound (sc ++ (name, m) ∷ [])
+pub all_found_more : (sc : Scope) (name : Name) (m : Meaning) → in_scope sc name ≡ None → AllFound sc →
+    AllFound (sc ++ (name, m) ∷ [])
 all_found_more sc name m fresh h =
     each_more (λ n x. in_scope (sc ++ (name, m) ∷ []) n ≡ Some x) sc name m
-    (each_map (λ n x. in_scope sc n ≡ Some x) (λ n x. in_scope (sc ++ (name, m) ∷ []) n ≡ Some x) sc (λ n x k. found_front sc (name, m) n x k) h)
+    (each_map (λ n x. in_scope sc n ≡ Some x) (λ n x. in_scope (sc ++ (name, m) ∷ []) n ≡ Some x) sc
+    (λ n x k. found_front sc (name, m) n x k) h)
     (found_new sc name m fresh)
 
-found_entry_by : (P : Name → Meaning → Type 0) (e : Name × Meaning) (sc : Scope) (name : Name) (m : Meaning) (b : Bool) → (b ≡ true → name ≡ e.0) → P e.0 e.1
+found_entry_by : (P : Name → Meaning → Type 0) (e : Name × Meaning) (sc : Scope) (name : Name) (m : Meaning) (b : Bool)
+    → (b ≡ true → name ≡ e.0) → P e.0 e.1
     → (in_scope sc name ≡ Some m → P name m) → (if b then Some e.1 else in_scope sc name) ≡ Some m → P name m
 found_entry_by P e sc name m true eq h k is =
     let same : e.1 ≡ m = cc in
@@ -142,9 +158,11 @@ found_entry_by P e sc name m true eq h k is =
 found_entry_by P e sc name m false eq h k is = k is
 
 -- what holds of each name holds of the one that is found
-pub found_entry : (P : Name → Meaning → Type 0) (sc : Scope) (name : Name) (m : Meaning) → EachEntry P sc → in_scope sc name ≡ Some m → P name m
+pub found_entry : (P : Name → Meaning → Type 0) (sc : Scope) (name : Name) (m : Meaning) → EachEntry P sc →
+    in_scope sc name ≡ Some m → P name m
 found_entry P [] name m h is = absurd (cc)
-found_entry P (e ∷ sc) name m h is = found_entry_by P e sc name m (bytes_eq name e.0) (bytes_eq-Decides name e.0).0 h.0 (found_entry P sc name m h.1) is
+found_entry P (e ∷ sc) name m h is =
+    found_entry_by P e sc name m (bytes_eq name e.0) (bytes_eq-Decides name e.0).0 h.0 (found_entry P sc name m h.1) is
 
 -- ---- declarations
 
@@ -152,22 +170,26 @@ pub record Declares (name : Name) (what : Meaning) (s new : State) (inner : Scop
   pub fresh : in_scope inner name ≡ None
   pub is : new ≡ record s { scopes = declared s.scopes name what }
 
-declare_case : (line : ℕ) (name : Name) (what : Meaning) (s new : State) (u : Unit {0}) (inner : Scope) (o : Option Meaning) → in_scope inner name ≡ o
+declare_case : (line : ℕ) (name : Name) (what : Meaning) (s new : State) (u : Unit {0}) (inner : Scope)
+    (o : Option Meaning) → in_scope inner name ≡ o
     → declared_by line name what s o ≡ Ok (u, new) → Declares name what s new inner
 declare_case line name what s new u inner None none is =
     record { fresh = none; is = sym (pure_same tt u (record s { scopes = declared s.scopes name what }) new is) }
 declare_case line name what s new u inner (Some m) none is = absurd (cc)
 
-pub declare_gives : (line : ℕ) (name : Name) (what : Meaning) (s new : State) (u : Unit {0}) → declare line name what s ≡ Ok (u, new) → Declares name what s new (innermost s.scopes)
+pub declare_gives : (line : ℕ) (name : Name) (what : Meaning) (s new : State) (u : Unit {0}) →
+    declare line name what s ≡ Ok (u, new) → Declares name what s new (innermost s.scopes)
 unfolding declare
-declare_gives line name what s new u is = declare_case line name what s new u (innermost s.scopes) (in_scope (innermost s.scopes) name) refl is
+declare_gives line name what s new u is =
+    declare_case line name what s new u (innermost s.scopes) (in_scope (innermost s.scopes) name) refl is
 
 -- in the scope of the file
 pub record DeclaresFirst (name : Name) (what : Meaning) (s new : State) (sc : Scope) : Type 0 where
   pub fresh : in_scope sc name ≡ None
   pub is : new ≡ record s { scopes = (sc ++ (name, what) ∷ []) ∷ [] }
 
-pub declare_first : (line : ℕ) (name : Name) (what : Meaning) (s new : State) (u : Unit {0}) (sc : Scope) → s.scopes ≡ sc ∷ []
+pub declare_first : (line : ℕ) (name : Name) (what : Meaning) (s new : State) (u : Unit {0}) (sc : Scope) →
+    s.scopes ≡ sc ∷ []
     → declare line name what s ≡ Ok (u, new) → DeclaresFirst name what s new sc
 declare_first line name what s new u sc one is =
     let d : Declares name what s new (innermost s.scopes) = declare_gives line name what s new u is in
@@ -181,7 +203,8 @@ pub record DeclaresSecond (name : Name) (what : Meaning) (s new : State) (top sc
   pub fresh : in_scope sc name ≡ None
   pub is : new ≡ record s { scopes = top ∷ (sc ++ (name, what) ∷ []) ∷ [] }
 
-pub declare_second : (line : ℕ) (name : Name) (what : Meaning) (s new : State) (u : Unit {0}) (top sc : Scope) → s.scopes ≡ top ∷ sc ∷ []
+pub declare_second : (line : ℕ) (name : Name) (what : Meaning) (s new : State) (u : Unit {0}) (top sc : Scope) →
+    s.scopes ≡ top ∷ sc ∷ []
     → declare line name what s ≡ Ok (u, new) → DeclaresSecond name what s new top sc
 declare_second line name what s new u top sc two is =
     let d : Declares name what s new (innermost s.scopes) = declare_gives line name what s new u is in

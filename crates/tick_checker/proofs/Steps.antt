@@ -16,7 +16,8 @@ parts_by : {S A B : Type 0} (p : Rule S A) (f : A → Rule S B) (s new : S) (x :
 parts_by p f s new x (Ok r) e is = record { answer = r.0; between = r.1; first = e; second = is }
 parts_by p f s new x (Err k) e is = absurd (cc)
 
-pub parts : {S A B : Type 0} (p : Rule S A) (f : A → Rule S B) (s new : S) (x : B) → (p >>= f) s ≡ Ok (x, new) → Parts p f s new x
+pub parts : {S A B : Type 0} (p : Rule S A) (f : A → Rule S B) (s new : S) (x : B) → (p >>= f) s ≡ Ok (x, new) →
+    Parts p f s new x
 parts p f s new x is = parts_by p f s new x (p s) refl is
 
 -- a step that only its own rule decides
@@ -44,4 +45,5 @@ pub starts_more : {A : Type 0} (xs ys more : List A) → ys ≡ xs ++ more → S
 starts_more xs ys more is = record { rest = more; is = is }
 
 pub starts_trans : {A : Type 0} (xs ys zs : List A) → Starts xs ys → Starts ys zs → Starts xs zs
-starts_trans xs ys zs a b = record { rest = a.rest ++ b.rest; is = b.is ∙ ap (λ l. l ++ b.rest) a.is ∙ append_assoc xs a.rest b.rest }
+starts_trans xs ys zs a b =
+    record { rest = a.rest ++ b.rest; is = b.is ∙ ap (λ l. l ++ b.rest) a.is ∙ append_assoc xs a.rest b.rest }

@@ -1,5 +1,6 @@
 -- Lists with one more at the end, and the equations of what is asked of the nodes of parameters.
-use Rattle.std.proofs.Common.{◌≡◌, ℕ, zero, suc, ◌+◌, ◌≤◌, ◌==◌, Bool, true, false, ◌&&◌, nat_lt, refl, ap, sym, ◌∙◌, List, [], ◌∷◌, ◌++◌, length, map, sum, sum_by, arith, take, drop}
+use Rattle.std.proofs.Common.{◌≡◌, ℕ, zero, suc, ◌+◌, ◌≤◌, ◌==◌, Bool, true, false, ◌&&◌, nat_lt, refl, ap, sym, ◌∙◌}
+use Rattle.std.proofs.Common.{List, [], ◌∷◌, ◌++◌, length, map, sum, sum_by, arith, take, drop}
 use Rattle.std.proofs.lemmas.Bool.Decides.{nat_tests}
 use Rattle.std.proofs.lemmas.List.Sums.{sum-map, sum_by-append}
 use Rattle.word32.specs.declared.width.Width.{Width}
@@ -27,7 +28,8 @@ all_both [] ys h k = k
 all_both (true ∷ xs) ys h k = all_both xs ys h k
 all_both (false ∷ xs) ys h k = absurd (cc)
 
-pub all_map_both : {A : Type 0} (f : A → Bool) (xs ys : List A) → all_true (map f xs) ≡ true → all_true (map f ys) ≡ true → all_true (map f (xs ++ ys)) ≡ true
+pub all_map_both : {A : Type 0} (f : A → Bool) (xs ys : List A) → all_true (map f xs) ≡ true →
+    all_true (map f ys) ≡ true → all_true (map f (xs ++ ys)) ≡ true
 all_map_both f xs ys h k = ap all_true (map_both f xs ys) ∙ all_both (map f xs) (map f ys) h k
 
 -- ---- register variables
@@ -42,10 +44,13 @@ one_by : (b : Bool) → b ≡ true → (b && true) ≡ true
 one_by true h = refl
 one_by false h = h
 
-pub parameters_more : (j n : ℕ) (vs : List Act) (v : Act) (a : Around) → n ≡ j + length vs → are_parameters j vs a ≡ true → v.is_parameter n a ≡ true → are_parameters j (vs ++ v ∷ []) a ≡ true
-parameters_more j n [] v a e h k = one_by (v.is_parameter j a) (ap (λ i. v.is_parameter i a) (let z : j ≡ n = omega arith in z) ∙ k)
+pub parameters_more : (j n : ℕ) (vs : List Act) (v : Act) (a : Around) → n ≡ j + length vs →
+    are_parameters j vs a ≡ true → v.is_parameter n a ≡ true → are_parameters j (vs ++ v ∷ []) a ≡ true
+parameters_more j n [] v a e h k =
+    one_by (v.is_parameter j a) (ap (λ i. v.is_parameter i a) (let z : j ≡ n = omega arith in z) ∙ k)
 parameters_more j n (x ∷ vs) v a e h k =
-    parameters_by (x.is_parameter j a) (are_parameters (j + 1) vs a) (are_parameters (j + 1) (vs ++ v ∷ []) a) (λ p. parameters_more (j + 1) n vs v a (omega arith) p k) h
+    parameters_by (x.is_parameter j a) (are_parameters (j + 1) vs a) (are_parameters (j + 1) (vs ++ v ∷ []) a)
+    (λ p. parameters_more (j + 1) n vs v a (omega arith) p k) h
 
 -- ---- bytes and numbers
 
@@ -66,7 +71,8 @@ values_parameter k w = uses_values_parameter k w
 pub values_object : (k : ℕ) (w : Width) (off : ℕ) → uses_values (st.ParameterObject k w off) ≡ true
 values_object k w off = uses_values_parameterobject k w off
 
-pub values_block : (vs xs : List Stmt) → uses_values (st.Block vs xs) ≡ (all_true (map uses_values vs) && all_true (map uses_values xs))
+pub values_block : (vs xs : List Stmt) →
+    uses_values (st.Block vs xs) ≡ (all_true (map uses_values vs) && all_true (map uses_values xs))
 values_block vs xs = uses_values_block vs xs
 
 -- ---- the front of a list

@@ -1,4 +1,5 @@
--- What is asked of the walk over each part of a tree, and what is given of each layer of a small one: that its captures, and the
+-- What is asked of the walk over each part of a tree, and what is given of each layer of a small one: that its
+-- captures, and the
 -- variables of its ticks, are few.
 use Rattle.std.specs.Prelude.{◌≡◌, ℕ, ◌+◌, ◌≤◌, List, length, Ok}
 use Rattle.tick_tree.specs.declared.syntax.Core.TheOpen.{Expr-F}
@@ -41,5 +42,6 @@ FewParts (Expr-F.TickBlock line items) = FewBlock items
 FewParts _ = Unit {0}
 
 pub record FewExpr (e : Expr-W) : Type 0 where
-  pub walk : (g : Stage) (s new : State) (o : Operand) → walk_rule e g s ≡ Ok (o, new) → length new.ticks.captures ≤ length s.ticks.captures + 1000000000
+  pub walk : (g : Stage) (s new : State) (o : Operand) → walk_rule e g s ≡ Ok (o, new) →
+      length new.ticks.captures ≤ length s.ticks.captures + 1000000000
   pub parts : FewParts e

@@ -9,5 +9,6 @@ use Rattle.staged_meaning.specs.Size.{size_of}
 use Rattle.staged_meaning.specs.Scope.{IsReady}
 
 -- b is what the code has for the body
-pub counted : (f : Function) (b : Stmt) (n : ℕ) → IsReady (function_view f) → b ≡ f.body → n ≡ min (statement_size b) 65536 → n ≡ size_of (function_view f)
+pub counted : (f : Function) (b : Stmt) (n : ℕ) → IsReady (function_view f) → b ≡ f.body →
+    n ≡ min (statement_size b) 65536 → n ≡ size_of (function_view f)
 counted f b n ready at e = omega (arith, e, ap statement_size at, statement_size_viewed f.body, ready.small)

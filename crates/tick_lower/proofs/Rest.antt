@@ -10,7 +10,8 @@ use Rattle.typed_tree.specs.View.{stmt_view, items_of}
 abbrev pub rest : ℕ → List Stmt → node.Items
 rest i ss = items_of (map stmt_view (drop i ss))
 
-pub one_more : (i : ℕ) (ss : List Stmt) (s : Stmt) → i < length ss → s ≡ get_or ss i s → rest i ss ≡ node.Item (stmt_view s) (rest (i + 1) ss)
+pub one_more : (i : ℕ) (ss : List Stmt) (s : Stmt) → i < length ss → s ≡ get_or ss i s →
+    rest i ss ≡ node.Item (stmt_view s) (rest (i + 1) ss)
 one_more i ss s h at =
     ap (λ xs. items_of (map stmt_view xs)) (drop-cons ss i s h)
     ∙ ap (λ j. node.Item (stmt_view (get_or ss i s)) (rest j ss)) (sym (add-one i))

@@ -1,5 +1,6 @@
 -- The builder takes a body's lowering, op by op, and then holds what the lowering issues.
-use Rattle.std.proofs.Common.{◌≡◌, ℕ, ◌+◌, ◌≤◌, ◌≢◌, false, List, [], ◌∷◌, ◌++◌, length, Option, Some, None, refl, sym, ap, ◌∙◌, subst, arith, append_assoc}
+use Rattle.std.proofs.Common.{◌≡◌, ℕ, ◌+◌, ◌≤◌, ◌≢◌, false, List, [], ◌∷◌, ◌++◌, length, Option, Some, None, refl, sym}
+use Rattle.std.proofs.Common.{ap, ◌∙◌, subst, arith, append_assoc}
 use Rattle.std.specs.Prelude.{◌||◌}
 use Rattle.std.proofs.lemmas.List.Folds.{list_any-append}
 use Rattle.icode_ops.specs.declared.op.Op.{Op}
@@ -8,11 +9,13 @@ use Rattle.icode_ops.specs.declared.kind.BinKind.{BinKind}
 use Rattle.icode_ops.specs.Flow.{holds}
 use Rattle.icode_ops.specs.Flow as flow
 use Rattle.icode_ir.specs.declared.build_op.BuildOp.{BuildOp}
-use Rattle.icode_ir.specs.declared.build_op.BuildOp.TheVariants.{Const, Bin, GetVariable, SetVariable, Drop, Label, Jump, BranchZero, Return, Sys}
+use Rattle.icode_ir.specs.declared.build_op.BuildOp.TheVariants.{Const, Bin, GetVariable, SetVariable, Drop, Label}
+use Rattle.icode_ir.specs.declared.build_op.BuildOp.TheVariants.{Jump, BranchZero, Return, Sys}
 use Rattle.icode_ir.specs.Build.{Build, stands, label}
 use Rattle.icode_ir.specs.Rules.{effect}
 use Rattle.icode_ir.specs.Runs.{run_ops, AreTaken}
-use Rattle.tick_lower_proof.proofs.Builder.{View, inner, top, below, Check, NoCheck, SignedCheck, ZeroCheck, check_of, check_ops, issued, after_op, after_ops}
+use Rattle.tick_lower_proof.proofs.Builder.{View, inner, top, below, Check, NoCheck, SignedCheck, ZeroCheck, check_of}
+use Rattle.tick_lower_proof.proofs.Builder.{check_ops, issued, after_op, after_ops}
 use Rattle.tick_lower_proof.proofs.Takes.{Matches, Takes, IsFresh, label_is}
 use Rattle.tick_lower_proof.proofs.Taken.{took}
 use Rattle.tick_lower_proof.proofs.Deep.{DeepTo, total, place_is, height_of, still_tall, bodies_same}
@@ -32,7 +35,8 @@ pub record Accepted (os : List BuildOp) (h' : ℕ) (b : Build) (v : View) : Type
   pub bodies : (after_ops os v).bodies ≡ v.bodies
 
 module _ (n m L : ℕ) where
-  fresh_of : (o : BuildOp) (b : Build) (v : View) → Matches b v → (inner v.bodies).first_label ≡ L → OnLabel (λ i. stands (L + i) b.ops ≡ false) (label_of o) → IsFresh o b
+  fresh_of : (o : BuildOp) (b : Build) (v : View) → Matches b v → (inner v.bodies).first_label ≡ L →
+      OnLabel (λ i. stands (L + i) b.ops ≡ false) (label_of o) → IsFresh o b
   fresh_of (Label i) b v is e on =
       let at : label i b ≡ L + i = label_is b v is i ∙ ap (λ z. z + i) e in
       subst (λ z. stands z b.ops ≡ false) (sym at) on
@@ -44,9 +48,11 @@ module _ (n m L : ℕ) where
   bin_stands kind SignedCheck r x y z = refl
   bin_stands kind ZeroCheck r x y z = refl
 
-  not_issued : (o : BuildOp) (h : ℕ) (v : View) (i : ℕ) → (inner v.bodies).first_label ≡ L → Takes n m o h → OnLabel (λ k. i ≢ k) (label_of o) → stands (L + i) (issued o v) ≡ false
+  not_issued : (o : BuildOp) (h : ℕ) (v : View) (i : ℕ) → (inner v.bodies).first_label ≡ L → Takes n m o h →
+      OnLabel (λ k. i ≢ k) (label_of o) → stands (L + i) (issued o v) ≡ false
   not_issued (Const word) h v i e ok ne = refl
-  not_issued (Bin kind) h v i e ok ne = bin_stands kind (check_of kind) v.next (top (below v.operands)) (top v.operands) (L + i)
+  not_issued (Bin kind) h v i e ok ne =
+      bin_stands kind (check_of kind) v.next (top (below v.operands)) (top v.operands) (L + i)
   not_issued (GetVariable k) h v i e ok ne = refl
   not_issued (SetVariable k) h v i e ok ne = refl
   not_issued Drop h v i e ok ne = refl
@@ -60,7 +66,8 @@ module _ (n m L : ℕ) where
   not_issued _ h v i e ok ne = absurd ok
 
   -- the labels of what is still to come do not stand behind an op
-  both : (P Q R : ℕ → Type 0) → ((i : ℕ) → P i → Q i → R i) → (os : List BuildOp) → Every label_of P os → Every label_of Q os → Every label_of R os
+  both : (P Q R : ℕ → Type 0) → ((i : ℕ) → P i → Q i → R i) → (os : List BuildOp) → Every label_of P os →
+      Every label_of Q os → Every label_of R os
   both P Q R f [] p q = tt
   both P Q R f (o ∷ os) p q = (on_both (label_of o) p.0 q.0, both P Q R f os p.1 q.1)
     where
@@ -68,9 +75,13 @@ module _ (n m L : ℕ) where
       on_both None p q = tt
       on_both (Some i) p q = f i p q
 
-  still_fresh : (o : BuildOp) (os : List BuildOp) (h : ℕ) (b : Build) (v : View) (now : List Op) → (inner v.bodies).first_label ≡ L → Takes n m o h → now ≡ b.ops ++ issued o v → OnLabel (λ k. Every label_of (λ j. j ≢ k) os) (label_of o) → Every label_of (λ i. stands (L + i) b.ops ≡ false) os → Every label_of (λ i. stands (L + i) now ≡ false) os
+  still_fresh : (o : BuildOp) (os : List BuildOp) (h : ℕ) (b : Build) (v : View) (now : List Op) →
+      (inner v.bodies).first_label ≡ L → Takes n m o h → now ≡ b.ops ++ issued o v →
+      OnLabel (λ k. Every label_of (λ j. j ≢ k) os) (label_of o) → Every label_of (λ i. stands (L + i) b.ops ≡ false) os →
+      Every label_of (λ i. stands (L + i) now ≡ false) os
   still_fresh o os h b v now e ok is apart fresh =
-      both (λ i. OnLabel (λ k. i ≢ k) (label_of o)) (λ i. stands (L + i) b.ops ≡ false) (λ i. stands (L + i) now ≡ false)
+      both (λ i. OnLabel (λ k. i ≢ k) (label_of o)) (λ i. stands (L + i) b.ops ≡ false)
+      (λ i. stands (L + i) now ≡ false)
       (λ i ne f.
       ap (stands (L + i)) is
       ∙ list_any-append (λ x. holds (L + i) (flow.label_of x)) b.ops (issued o v)
@@ -78,7 +89,8 @@ module _ (n m L : ℕ) where
       ∙ not_issued o h v i e ok ne)
       os (turn (label_of o) apart) fresh
     where
-      turn : (x : Option ℕ) → OnLabel (λ k. Every label_of (λ j. j ≢ k) os) x → Every label_of (λ i. OnLabel (λ k. i ≢ k) x) os
+      turn : (x : Option ℕ) → OnLabel (λ k. Every label_of (λ j. j ≢ k) os) x →
+          Every label_of (λ i. OnLabel (λ k. i ≢ k) x) os
       turn None a = all os
         where
           all : (os : List BuildOp) → Every label_of (λ i. Unit {0}) os
@@ -90,7 +102,10 @@ module _ (n m L : ℕ) where
               some (Some i) = tt
       turn (Some k) a = a
 
-  pub accepts : (os : List BuildOp) (h' : ℕ) (b : Build) (v : View) → Matches b v → length v.operands ≤ v.place → (inner v.bodies).variables ≡ n → (inner v.bodies).labels ≡ m → (inner v.bodies).first_label ≡ L → DeepTo n m os (length v.operands) h' → Every label_of (λ i. stands (L + i) b.ops ≡ false) os → Distinct label_of os → v.place + total os ≤ 196608 → Accepted os h' b v
+  pub accepts : (os : List BuildOp) (h' : ℕ) (b : Build) (v : View) → Matches b v → length v.operands ≤ v.place →
+      (inner v.bodies).variables ≡ n → (inner v.bodies).labels ≡ m → (inner v.bodies).first_label ≡ L →
+      DeepTo n m os (length v.operands) h' → Every label_of (λ i. stands (L + i) b.ops ≡ false) os →
+      Distinct label_of os → v.place + total os ≤ 196608 → Accepted os h' b v
   accepts [] h' b v is tall en em eL deep fresh apart room =
       record { taken = tt; matches = is; ops = sym (append_none b.ops); height = deep; bodies = refl }
   accepts (o ∷ os) h' b v is tall en em eL deep fresh apart room =
@@ -99,13 +114,17 @@ module _ (n m L : ℕ) where
       let hs = height_of n m o h v deep.0 in
       let same = bodies_same n m o h v deep.0 in
       let t = took n m b v is tall en em o deep.0 (fresh_of o b v is eL fresh.0) (omega (arith, at, room)) in
-      let more = accepts os h' (effect o b) (after_op o v) t.matches (omega (arith, hs, at, still_tall n m o h v.place deep.0 tall))
-      (ap (λ z. (inner z).variables) same ∙ en) (ap (λ z. (inner z).labels) same ∙ em) (ap (λ z. (inner z).first_label) same ∙ eL)
-      (subst (λ z. DeepTo n m os z h') (sym hs) deep.1) (still_fresh o os h b v (effect o b).ops eL deep.0 t.ops apart.0 fresh.1) apart.1 (omega (arith, at, room)) in
+      let more = accepts os h' (effect o b) (after_op o v) t.matches
+      (omega (arith, hs, at, still_tall n m o h v.place deep.0 tall))
+      (ap (λ z. (inner z).variables) same ∙ en) (ap (λ z. (inner z).labels) same ∙ em)
+      (ap (λ z. (inner z).first_label) same ∙ eL)
+      (subst (λ z. DeepTo n m os z h') (sym hs) deep.1)
+      (still_fresh o os h b v (effect o b).ops eL deep.0 t.ops apart.0 fresh.1) apart.1 (omega (arith, at, room)) in
       record {
         taken = (t.fault, more.taken);
         matches = more.matches;
-        ops = more.ops ∙ ap (λ z. z ++ issue os (after_op o v)) t.ops ∙ append_assoc b.ops (issued o v) (issue os (after_op o v));
+        ops = more.ops ∙ ap (λ z. z ++ issue os (after_op o v)) t.ops ∙
+            append_assoc b.ops (issued o v) (issue os (after_op o v));
         height = more.height;
         bodies = more.bodies ∙ same;
       }

@@ -8,7 +8,10 @@ use Rattle.icode_ops.specs.declared.kind.BinKind.{BinKind}
 use Rattle.icode_ops.specs.declared.kind.BinKind.TheVariants as bin
 use Rattle.icode_ir.specs.declared.body.Body.{Body}
 use Rattle.icode_ir.specs.declared.build_op.BuildOp.{BuildOp}
-use Rattle.icode_ir.specs.declared.build_op.BuildOp.TheVariants.{Const, Bin, Un, Enter, Leave, GetVariable, SetVariable, Drop, Pick, Nip, Load, Store, Label, Jump, BranchZero, BranchNonzero, Return, ReturnZero, Sys, Run, FrameAddress, Clear, Parameter, Call}
+use Rattle.icode_ir.specs.declared.build_op.BuildOp.TheVariants.{Const, Bin, Un, Enter, Leave, GetVariable, SetVariable}
+use Rattle.icode_ir.specs.declared.build_op.BuildOp.TheVariants.{Drop, Pick, Nip, Load, Store, Label, Jump, BranchZero}
+use Rattle.icode_ir.specs.declared.build_op.BuildOp.TheVariants.{BranchNonzero, Return, ReturnZero, Sys, Run}
+use Rattle.icode_ir.specs.declared.build_op.BuildOp.TheVariants.{FrameAddress, Clear, Parameter, Call}
 
 pub record View : Type 0 where
   pub place : ℕ
@@ -140,7 +143,8 @@ after_op (BranchZero i) v = with_operands (below v.operands) v
 after_op Return v = with_operands (below v.operands) v
 after_op (Sys kind) v = pushed v.place (below v.operands) v
 after_op (Enter n m) v = record v {
-  bodies = (let body : Body = record { first_variable = v.next; variables = n; first_label = v.labels; labels = m } in body) ∷ v.bodies;
+  bodies = (let body : Body = record { first_variable = v.next; variables = n; first_label = v.labels; labels = m } in
+      body) ∷ v.bodies;
   next = v.next + n;
   labels = v.labels + m;
 }
@@ -165,7 +169,8 @@ pub stands_front : (code : List Op) (xs ys : List BuildOp) (v : View) → Stands
 stands_front code [] ys v h = tt
 stands_front code (o ∷ xs) ys v h = (h.0, stands_front code xs ys (after_op o v) h.1)
 
-pub stands_back : (code : List Op) (xs ys : List BuildOp) (v : View) → Stands code (xs ++ ys) v → Stands code ys (after_ops xs v)
+pub stands_back : (code : List Op) (xs ys : List BuildOp) (v : View) → Stands code (xs ++ ys) v →
+    Stands code ys (after_ops xs v)
 stands_back code [] ys v h = h
 stands_back code (o ∷ xs) ys v h = stands_back code xs ys (after_op o v) h.1
 
@@ -195,7 +200,8 @@ same_on a b c x y =
     record { operands = y.operands ∙ x.operands; bodies = y.bodies ∙ x.bodies; next = omega (arith, x.next, y.next) }
 
 -- an operand is taken away
-pub same_drop : (a b c : View) → c.operands ≡ below b.operands → c.bodies ≡ b.bodies → c.next ≡ b.next → Pushes a b → Same a c
+pub same_drop : (a b c : View) → c.operands ≡ below b.operands → c.bodies ≡ b.bodies → c.next ≡ b.next → Pushes a b →
+    Same a c
 same_drop a b c o e n p =
     record { operands = o ∙ ap below p.operands; bodies = e ∙ p.bodies; next = omega (arith, n, p.fresh, p.used) }
 
@@ -206,12 +212,21 @@ same_here a b c x y n p = record { operands = p.operands ∙ x; bodies = p.bodie
 pub same_there : (a b c : View) → c.operands ≡ b.operands → c.bodies ≡ b.bodies → c.next ≡ b.next → Same a b → Same a c
 same_there a b c x y n p = record { operands = x ∙ p.operands; bodies = y ∙ p.bodies; next = omega (arith, n, p.next) }
 
-pub push_keeps : (a b c : View) → c.operands ≡ b.operands → c.next ≡ b.next → c.bodies ≡ b.bodies → Pushes a b → Pushes a c
+pub push_keeps : (a b c : View) → c.operands ≡ b.operands → c.next ≡ b.next → c.bodies ≡ b.bodies → Pushes a b →
+    Pushes a c
 push_keeps a b c e n x p =
-    record { operand = p.operand; operands = e ∙ p.operands; fresh = p.fresh; used = omega (arith, n, p.used); bodies = x ∙ p.bodies }
+    record {
+      operand = p.operand;
+      operands = e ∙ p.operands;
+      fresh = p.fresh;
+      used = omega (arith, n, p.used);
+      bodies =
+          x ∙ p.bodies;
+    }
 
 -- one operand becomes another, and two become one
-pub push_one : (a b c : View) → c.operands ≡ b.next ∷ below b.operands → c.next ≡ b.next + 1 → c.bodies ≡ b.bodies → Pushes a b → Pushes a c
+pub push_one : (a b c : View) → c.operands ≡ b.next ∷ below b.operands → c.next ≡ b.next + 1 → c.bodies ≡ b.bodies →
+    Pushes a b → Pushes a c
 push_one a b c e n x p = record {
   operand = b.next;
   operands = e ∙ ap (λ l. b.next ∷ below l) p.operands;
@@ -220,7 +235,8 @@ push_one a b c e n x p = record {
   bodies = x ∙ p.bodies;
 }
 
-pub push_two : (a b1 b2 c : View) → c.operands ≡ b2.next ∷ below (below b2.operands) → c.next ≡ b2.next + 1 → c.bodies ≡ b2.bodies → Pushes a b1 → Pushes b1 b2 → Pushes a c
+pub push_two : (a b1 b2 c : View) → c.operands ≡ b2.next ∷ below (below b2.operands) → c.next ≡ b2.next + 1 →
+    c.bodies ≡ b2.bodies → Pushes a b1 → Pushes b1 b2 → Pushes a c
 push_two a b1 b2 c e n x p q = record {
   operand = b2.next;
   operands = e ∙ ap (λ l. b2.next ∷ below (below l)) q.operands ∙ ap (λ l. b2.next ∷ below l) p.operands;

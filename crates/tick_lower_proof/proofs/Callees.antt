@@ -1,6 +1,8 @@
--- The call of a function of the text, from behind its caller's op to its return: the limits are tested, its body runs, and
+-- The call of a function of the text, from behind its caller's op to its return: the limits are tested, its body runs,
+-- and
 -- the caller's variables are back.
-use Rattle.std.proofs.Common.{◌≡◌, ℕ, suc, length, ◌+◌, ◌-◌, ◌*◌, ◌%◌, ◌<◌, ◌≤◌, List, [], ◌∷◌, Option, Some, None, Bool, true, false, refl, sym, ap, ◌∙◌, subst, arith}
+use Rattle.std.proofs.Common.{◌≡◌, ℕ, suc, length, ◌+◌, ◌-◌, ◌*◌, ◌%◌, ◌<◌, ◌≤◌, List, [], ◌∷◌, Option, Some, None}
+use Rattle.std.proofs.Common.{Bool, true, false, refl, sym, ap, ◌∙◌, subst, arith}
 use Rattle.std.specs.Prelude.{nat_le, if◌then◌else◌}
 use Rattle.std.proofs.lemmas.Bool.{leb-true}
 use Rattle.host_edge.specs.declared.ending.TrapKind.{TrapKind}
@@ -13,7 +15,8 @@ use Rattle.staged_meaning.specs.Size.{size_of, charge_of}
 use Rattle.staged_meaning.specs.Scope.{no_scope}
 use Rattle.staged_meaning.specs.World.{World, Result}
 use Rattle.staged_meaning.specs.World as meaning
-use Rattle.staged_meaning.specs.Meaning.{Context, exec, exec_items, answer, call_body, call_function, charging, entered, leaves}
+use Rattle.staged_meaning.specs.Meaning.{Context, exec, exec_items, answer, call_body, call_function, charging, entered}
+use Rattle.staged_meaning.specs.Meaning.{leaves}
 use Rattle.icode_meaning.specs.State.{Function, Program, Frame, Log}
 use Rattle.icode_meaning.specs.Steps.{paid, moved_on, goes_on, begun, call_at, left}
 use Rattle.icode_meaning.specs.Steps as machine
@@ -28,15 +31,20 @@ use Rattle.tick_lower_proof.proofs.Entries.{Passed, AreGiven, function, behind_h
 use Rattle.tick_lower_proof.proofs.Callers.{Answered}
 
 -- a call within the limits leaves the frame objects within theirs
-within_frames : (charge object : ℕ) (shared : Shared) → limit_trap charge object shared ≡ None → shared.frames + object ≤ 4194304
-within_frames charge object shared e = by (nat_le (shared.used + charge) 16777216) (nat_le (shared.frames + object) 4194304) refl e
+within_frames : (charge object : ℕ) (shared : Shared) → limit_trap charge object shared ≡ None →
+    shared.frames + object ≤ 4194304
+within_frames charge object shared e =
+    by (nat_le (shared.used + charge) 16777216) (nat_le (shared.frames + object) 4194304) refl e
   where
-    by : (a b : Bool) → nat_le (shared.frames + object) 4194304 ≡ b → (if a then (if b then None else Some FrameLimit) else Some StackLimit) ≡ None → shared.frames + object ≤ 4194304
+    by : (a b : Bool) → nat_le (shared.frames + object) 4194304 ≡ b →
+        (if a then (if b then None else Some FrameLimit) else Some StackLimit) ≡ None → shared.frames + object ≤ 4194304
     by true true q h = leb-true (shared.frames + object) 4194304 q
     by true false q h = absurd cc
     by false b q h = absurd cc
 
-module _ (P : Program) (c : Context) (d : Addresses) (frame : Frame) (waiting : List Frame) (fn : Function) (function : node.Function) (arguments : List ℕ) (parameters : ℕ → Option ℕ) (code : IsCode d function fn.ops) (charge_is : fn.charge ≡ charge_of (size_of function)) (object_is : fn.object ≡ function.object) where
+module _ (P : Program) (c : Context) (d : Addresses) (frame : Frame) (waiting : List Frame) (fn : Function)
+    (function : node.Function) (arguments : List ℕ) (parameters : ℕ → Option ℕ) (code : IsCode d function fn.ops)
+    (charge_is : fn.charge ≡ charge_of (size_of function)) (object_is : fn.object ≡ function.object) where
   abbrev pub callee : Here
   callee = record { function = fn; parameters = parameters; waiting = moved_on frame ∷ waiting }
 
@@ -52,45 +60,76 @@ module _ (P : Program) (c : Context) (d : Addresses) (frame : Frame) (waiting : 
   -- what is asked of the function's body, behind the unit of the call
   abbrev pub BodyRuns : World → Type 0
   BodyRuns w =
-      (later : From) (w1 : World) → later.units < c.turns → w1.arguments ≡ arguments → w1.shared ≡ charged charge object w.shared → limit_trap charge object w.shared ≡ None → At within later no_scope 0 [] 0 head_credit 0 w1 →
+      (later : From) (w1 : World) → later.units < c.turns → w1.arguments ≡ arguments →
+      w1.shared ≡ charged charge object w.shared → limit_trap charge object w.shared ≡ None →
+      At within later no_scope 0 [] 0 head_credit 0 w1 →
       Follows P later (IsBack within later) (λ x w2. ⊥) (answer (exec c function.body w1))
 
   -- the frame of a call within the limits, where the frame objects so far are whole words
-  pub framed : (w : World) (shared : Shared) → c.object ≡ fn.object → w.shared.frames % 4 ≡ 0 → limit_trap charge object w.shared ≡ None → shared ≡ charged charge object w.shared → IsFramed within shared
+  pub framed : (w : World) (shared : Shared) → c.object ≡ fn.object → w.shared.frames % 4 ≡ 0 →
+      limit_trap charge object w.shared ≡ None → shared ≡ charged charge object w.shared → IsFramed within shared
   framed w shared same even fits e =
       let few = within_frames charge object w.shared fits in
       let f : shared.frames ≡ w.shared.frames + object = ap (λ h. h.frames) e in
-      record { object_is = same; within = omega (arith, f, object_is); few = omega (arith, f, few); even = omega (arith, f, object_is, even) }
+      record {
+        object_is = same;
+        within = omega (arith, f, object_is);
+        few = omega (arith, f, few);
+        even =
+            omega (arith, f, object_is, even);
+      }
 
-  pub callee_run : (from : From) (w : World) (g : Log) (address : ℕ) → w.units ≤ c.turns → g.shared ≡ w.shared → Goes P from.state (call_at (op.Call address) (Some fn) frame parameters waiting g) → w.units ≤ from.units → from.units + from.log.least + 1 ≤ w.units + g.least + 10 → g.most + 36 + 512 * w.units ≤ from.log.most + 512 * from.units + 128 → BodyRuns w → Follows P from (Answered P from (moved_on frame ∷ waiting) w) (λ x w1. ⊥) (call_function c function arguments w)
+  pub callee_run : (from : From) (w : World) (g : Log) (address : ℕ) → w.units ≤ c.turns → g.shared ≡ w.shared →
+      Goes P from.state (call_at (op.Call address) (Some fn) frame parameters waiting g) → w.units ≤ from.units →
+      from.units + from.log.least + 1 ≤ w.units + g.least + 10 →
+      g.most + 36 + 512 * w.units ≤ from.log.most + 512 * from.units + 128 → BodyRuns w →
+      Follows P from (Answered P from (moved_on frame ∷ waiting) w) (λ x w1. ⊥) (call_function c function arguments w)
   callee_run from w g address lt o go few low high body =
       let g0 = paid (op.Call address) g in
-      let same : limit_trap fn.charge fn.object g.shared ≡ limit_trap charge object w.shared = ap (λ x. limit_trap x fn.object g.shared) charge_is ∙ ap (λ x. limit_trap charge x g.shared) object_is ∙ ap (limit_trap charge object) o in
+      let same : limit_trap fn.charge fn.object g.shared ≡ limit_trap charge object w.shared =
+      ap (λ x. limit_trap x fn.object g.shared) charge_is ∙ ap (λ x. limit_trap charge x g.shared) object_is ∙
+      ap (limit_trap charge object) o in
       by (limit_trap charge object w.shared) refl
-      (subst (λ t. Goes P from.state (machine.unless t g0 (goes_on (begun fn parameters) (moved_on frame ∷ waiting) (machine.entered fn g0)))) same go)
+      (subst (λ t. Goes P from.state
+      (machine.unless t g0 (goes_on (begun fn parameters) (moved_on frame ∷ waiting) (machine.entered fn g0)))) same
+      go)
     where
-      by : (trap : Option TrapKind) → limit_trap charge object w.shared ≡ trap → Goes P from.state (machine.unless trap (paid (op.Call address) g) (goes_on (begun fn parameters) (moved_on frame ∷ waiting) (machine.entered fn (paid (op.Call address) g)))) → Follows P from (Answered P from (moved_on frame ∷ waiting) w) (λ x w1. ⊥) (meaning.unless trap w (charging charge object (call_body c function arguments) w))
-      by (Some kind) e go1 = record { log = paid (op.Call address) g; goes = go1; shared_is = o; high = omega (arith, high, few) }
+      by : (trap : Option TrapKind) → limit_trap charge object w.shared ≡ trap →
+          Goes P from.state (machine.unless trap (paid (op.Call address) g)
+          (goes_on (begun fn parameters) (moved_on frame ∷ waiting) (machine.entered fn (paid (op.Call address) g)))) →
+          Follows P from (Answered P from (moved_on frame ∷ waiting) w) (λ x w1. ⊥)
+          (meaning.unless trap w (charging charge object (call_body c function arguments) w))
+      by (Some kind) e go1 = record
+          { log = paid (op.Call address) g; goes = go1; shared_is = o; high = omega (arith, high, few) }
       by None e go1 =
           let g1 = machine.entered fn (paid (op.Call address) g) in
-          let shared_same : g1.shared ≡ charged charge object w.shared = ap (λ x. charged x fn.object g.shared) charge_is ∙ ap (λ x. charged charge x g.shared) object_is ∙ ap (charged charge object) o in
-          follows_then P from (IsBack within from) (Answered P from (moved_on frame ∷ waiting) w) (λ x w1. ⊥) (call_body c function arguments (entered charge object w)) (leaves charge object w)
-          (enter_run P c d callee function code arguments from g1 (entered charge object w) lt shared_same go1 few (omega arith) (omega arith) (λ later w1 less e1 e2 z. body later w1 less e1 e2 e z))
+          let shared_same : g1.shared ≡ charged charge object w.shared =
+          ap (λ x. charged x fn.object g.shared) charge_is ∙ ap (λ x. charged charge x g.shared) object_is ∙
+          ap (charged charge object) o in
+          follows_then P from (IsBack within from) (Answered P from (moved_on frame ∷ waiting) w) (λ x w1. ⊥)
+          (call_body c function arguments (entered charge object w)) (leaves charge object w)
+          (enter_run P c d callee function code arguments from g1 (entered charge object w) lt shared_same go1 few
+          (omega arith) (omega arith) (λ later w1 less e1 e2 z. body later w1 less e1 e2 e z))
           (λ x w1 h. record {
             log = left fn h.log;
             goes = h.goes;
-            shared_is = ap (λ y. discharged y fn.object h.log.shared) charge_is ∙ ap (λ y. discharged charge y h.log.shared) object_is ∙ ap (discharged charge object) h.shared_is;
+            shared_is = ap (λ y. discharged y fn.object h.log.shared) charge_is ∙
+                ap (λ y. discharged charge y h.log.shared) object_is ∙ ap (discharged charge object) h.shared_is;
             variables_are = refl;
             fewer = h.fewer;
             low = omega (arith, h.low);
             high = omega (arith, h.high);
           })
 
--- A function whose parameters, eight at most, are objects of its frame, with one more object behind them of any size: so of
+-- A function whose parameters, eight at most, are objects of its frame, with one more object behind them of any size:
+-- so of
 -- eight `char` parameters whose addresses are taken, and an array of 4 MB.
-module _ (P : Program) (c : Context) (d : Addresses) (frame : Frame) (waiting : List Frame) (fn : Function) (count : ℕ) (ps : List Passed) (few : length ps ≤ 8) (offset more : ℕ) (items : Items) (arguments : List ℕ) (parameters : ℕ → Option ℕ) where
+module _ (P : Program) (c : Context) (d : Addresses) (frame : Frame) (waiting : List Frame) (fn : Function) (count : ℕ)
+    (ps : List Passed) (few : length ps ≤ 8) (offset more : ℕ) (items : Items) (arguments : List ℕ)
+    (parameters : ℕ → Option ℕ) where
   abbrev pub wide : node.Function
-  wide = function P c d (record { function = fn; parameters = parameters; waiting = moved_on frame ∷ waiting }) count fn.object ps few offset more items
+  wide = function P c d (record { function = fn; parameters = parameters; waiting = moved_on frame ∷ waiting }) count
+      fn.object ps few offset more items
 
   module _ (code : IsCode d wide fn.ops) (charge_is : fn.charge ≡ charge_of (size_of wide)) where
     abbrev pub site_of : Site
@@ -99,9 +138,18 @@ module _ (P : Program) (c : Context) (d : Addresses) (frame : Frame) (waiting : 
     abbrev pub to : Here
     to = callee P c d frame waiting fn wide arguments parameters code charge_is refl
 
-    pub wide_run : c.object ≡ fn.object → AreGiven site_of arguments ps → IsObject site_of offset (4 * suc more) → Runs site_of no_scope no_scope [] (exec_items c items) (behind_head P c d to count fn.object ps few offset more items code).place (behind_body P c d to count fn.object ps few offset more items code).place None None → (from : From) (w : World) (g : Log) (address : ℕ) → w.shared.frames % 4 ≡ 0 → w.units ≤ c.turns → g.shared ≡ w.shared → Goes P from.state (call_at (op.Call address) (Some fn) frame parameters waiting g) → w.units ≤ from.units → from.units + from.log.least + 1 ≤ w.units + g.least + 10 → g.most + 36 + 512 * w.units ≤ from.log.most + 512 * from.units + 128 → Follows P from (Answered P from (moved_on frame ∷ waiting) w) (λ x w1. ⊥) (call_function c wide arguments w)
+    pub wide_run : c.object ≡ fn.object → AreGiven site_of arguments ps → IsObject site_of offset (4 * suc more) →
+        Runs site_of no_scope no_scope [] (exec_items c items)
+        (behind_head P c d to count fn.object ps few offset more items code).place
+        (behind_body P c d to count fn.object ps few offset more items code).place None None →
+        (from : From) (w : World) (g : Log) (address : ℕ) → w.shared.frames % 4 ≡ 0 → w.units ≤ c.turns →
+        g.shared ≡ w.shared → Goes P from.state (call_at (op.Call address) (Some fn) frame parameters waiting g) →
+        w.units ≤ from.units → from.units + from.log.least + 1 ≤ w.units + g.least + 10 →
+        g.most + 36 + 512 * w.units ≤ from.log.most + 512 * from.units + 128 →
+        Follows P from (Answered P from (moved_on frame ∷ waiting) w) (λ x w1. ⊥) (call_function c wide arguments w)
     wide_run same given is runs from w g address even lt o go less low high =
-        callee_run P c d frame waiting fn wide arguments parameters code charge_is refl from w g address lt o go less low high
+        callee_run P c d frame waiting fn wide arguments parameters code charge_is refl from w g address lt o go less
+        low high
         (λ later w1 under e1 e2 fits z.
         large_body P c d to count fn.object ps few offset more items code arguments given is runs later w1 under e1
         (framed P c d frame waiting fn wide arguments parameters code charge_is refl w w1.shared same even fits e2) z)

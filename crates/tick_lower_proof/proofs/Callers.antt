@@ -1,5 +1,6 @@
 -- The machine follows the call of a function of the text, where the calls that are nested less deep are followed.
-use Rattle.std.proofs.Common.{◌≡◌, ℕ, suc, ◌+◌, ◌*◌, ◌<◌, ◌≤◌, List, [], ◌∷◌, ◌++◌, length, Option, Some, None, Bool, true, false, refl, sym, ap, ◌∙◌, subst, arith}
+use Rattle.std.proofs.Common.{◌≡◌, ℕ, suc, ◌+◌, ◌*◌, ◌<◌, ◌≤◌, List, [], ◌∷◌, ◌++◌, length, Option, Some, None, Bool}
+use Rattle.std.proofs.Common.{true, false, refl, sym, ap, ◌∙◌, subst, arith}
 use Rattle.std.specs.Prelude.{slice_get, ◌&&◌, if◌then◌else◌}
 use Rattle.std.proofs.lemmas.List.{append-nil}
 use Rattle.icode_ops.specs.declared.op.Op.{Op}
@@ -18,11 +19,13 @@ use Rattle.icode_meaning.specs.State.{Program, Frame, State, Running, Stuck, Log
 use Rattle.icode_meaning.specs.Steps.{paid, moved_on, uses_on, act, checked, call_at, back}
 use Rattle.tick_lower_proof.specs.Lower.{Addresses, expr_ops, args_ops, dropping_call}
 use Rattle.tick_lower_proof.proofs.Machine.{Goes, goes_more, Here, Regs, frame_at, at_op, put, put_same, IsSet}
-use Rattle.tick_lower_proof.proofs.Builder.{View, top, taken, dropped, passed_ops, after_op, after_ops, after_append, Has, Stands, stands_front, stands_back}
+use Rattle.tick_lower_proof.proofs.Builder.{View, top, taken, dropped, passed_ops, after_op, after_ops, after_append}
+use Rattle.tick_lower_proof.proofs.Builder.{Has, Stands, stands_front, stands_back}
 use Rattle.tick_lower_proof.proofs.Pushes.{valued_brings}
 use Rattle.tick_lower_proof.proofs.Follow.{From, Later, Follows, follows_then, then_follows, follows_from}
 use Rattle.tick_lower_proof.proofs.Registers.{AreVars, Within, AreHeld, put_vars, held_above}
-use Rattle.tick_lower_proof.proofs.Standing.{base_of, Site, floor_of, Fits, At, IsBack, Leaves, ExprRuns, Part, at_less, at_from, back_from, later_at, stands_at, spend_run, value_run}
+use Rattle.tick_lower_proof.proofs.Standing.{base_of, Site, floor_of, Fits, At, IsBack, Leaves, ExprRuns, Part, at_less}
+use Rattle.tick_lower_proof.proofs.Standing.{at_from, back_from, later_at, stands_at, spend_run, value_run}
 use Rattle.tick_lower_proof.proofs.Exprs.{one_run}
 
 -- operands that were pushed in this order lie on others, and so do values in their registers
@@ -34,7 +37,8 @@ abbrev pub paired : (registers values : List ℕ) → List (ℕ × ℕ) → List
 paired (r ∷ rs) (x ∷ xs) stack = paired rs xs ((r, x) ∷ stack)
 paired _ _ stack = stack
 
-taken_onto : (rs operands others : List ℕ) (n : ℕ) → taken (length rs + n) (onto rs operands) others ≡ taken n operands (rs ++ others)
+taken_onto : (rs operands others : List ℕ) (n : ℕ) →
+    taken (length rs + n) (onto rs operands) others ≡ taken n operands (rs ++ others)
 taken_onto [] operands others n = let e : 0 + n ≡ n = omega arith in ap (λ m. taken m operands others) e
 taken_onto (r ∷ rs) operands others n =
     let e : suc (length rs) + n ≡ length rs + suc n = omega arith in
@@ -73,46 +77,78 @@ held_under r [] xs stack h = h
 held_under r (a ∷ rs) [] stack h = h
 held_under r (a ∷ rs) (x ∷ xs) stack h = (held_under r rs xs ((a, x) ∷ stack) h).1
 
-held_set : (r : Regs) (rs xs : List ℕ) (stack : List (ℕ × ℕ)) → length xs ≡ length rs → AreHeld r (paired rs xs stack) → AreSet r rs xs
+held_set : (r : Regs) (rs xs : List ℕ) (stack : List (ℕ × ℕ)) → length xs ≡ length rs → AreHeld r (paired rs xs stack) →
+    AreSet r rs xs
 held_set r [] xs stack e h = tt
 held_set r (a ∷ rs) [] stack e h = absurd (omega (arith, e))
 held_set r (a ∷ rs) (x ∷ xs) stack e h =
     ((held_under r rs xs ((a, x) ∷ stack) h).0, held_set r rs xs ((a, x) ∷ stack) (omega (arith, e)) h)
 
 -- one op, whatever was passed and answered before it
-any_op : {P : Program} {s : State} (f : Here) (p : ℕ) (r : Regs) (arguments : ℕ → Option ℕ) (answer : Option ℕ) (g : Log) (o : Op) → Goes P s (Running (frame_at f p r) arguments answer f.waiting g) → slice_get f.function.ops p ≡ Some o → uses_on o r.on ≡ true → Goes P s (act P o (frame_at f p r) arguments answer f.waiting g)
+any_op : {P : Program} {s : State} (f : Here) (p : ℕ) (r : Regs) (arguments : ℕ → Option ℕ) (answer : Option ℕ)
+    (g : Log) (o : Op) → Goes P s (Running (frame_at f p r) arguments answer f.waiting g) →
+    slice_get f.function.ops p ≡ Some o → uses_on o r.on ≡ true →
+    Goes P s (act P o (frame_at f p r) arguments answer f.waiting g)
 any_op {P} f p r arguments answer g o a h e = goes_more a (record {
   steps = 1;
-  comes = ap (λ x. checked P x (frame_at f p r) arguments answer f.waiting g) h ∙ ap (λ b. if b then act P o (frame_at f p r) arguments answer f.waiting g else Stuck g) e;
+  comes = ap (λ x. checked P x (frame_at f p r) arguments answer f.waiting g) h ∙
+      ap (λ b. if b then act P o (frame_at f p r) arguments answer f.waiting g else Stuck g) e;
 })
 
 -- the arguments were passed
-record Passing (P : Program) (s : State) (f : Here) (p : ℕ) (r : Regs) (arguments : ℕ → Option ℕ) (g : Log) (n : ℕ) : Type 0 where
+record Passing (P : Program) (s : State) (f : Here) (p : ℕ) (r : Regs) (arguments : ℕ → Option ℕ) (g : Log) (n : ℕ) :
+    Type 0 where
   log : Log
   goes : Goes P s (Running (frame_at f p r) arguments None f.waiting log)
   shared_is : log.shared ≡ g.shared
   low : g.least ≤ log.least
   high : log.most ≤ g.most + 5 * n
 
-pass_all : (P : Program) (s : State) (f : Here) (r : Regs) (rest : List Op) (rs xs : List ℕ) (k p : ℕ) (arguments : ℕ → Option ℕ) (g : Log) → AreSet r rs xs → length xs ≡ length rs → Has f.function.ops p (passed_ops k rs ++ rest) → Goes P s (Running (frame_at f p r) arguments None f.waiting g) → Passing P s f (p + length rs) r (argued_all k xs arguments) g (length rs) × Has f.function.ops (p + length rs) rest
+pass_all : (P : Program) (s : State) (f : Here) (r : Regs) (rest : List Op) (rs xs : List ℕ) (k p : ℕ)
+    (arguments : ℕ → Option ℕ) (g : Log) → AreSet r rs xs → length xs ≡ length rs →
+    Has f.function.ops p (passed_ops k rs ++ rest) → Goes P s (Running (frame_at f p r) arguments None f.waiting g) →
+    Passing P s f (p + length rs) r (argued_all k xs arguments) g (length rs) × Has f.function.ops (p + length rs) rest
 pass_all P s f r rest [] [] k p arguments g set e has go =
-    let q : p ≡ p + 0 = omega arith in
-    (record { log = g; goes = subst (λ z. Goes P s (Running (frame_at f z r) arguments None f.waiting g)) q go; shared_is = refl; low = omega arith; high = omega arith }, subst (λ z. Has f.function.ops z rest) q has)
+    let q : p ≡ p + 0 = omega arith in (
+      record {
+        log = g;
+        goes = subst (λ z. Goes P s (Running (frame_at f z r) arguments None f.waiting g)) q go;
+        shared_is = refl;
+        low = omega arith;
+        high = omega arith;
+      },
+      subst (λ z. Has f.function.ops z rest) q has,
+    )
 pass_all P s f r rest [] (x ∷ xs) k p arguments g set e has go = absurd (omega (arith, e))
 pass_all P s f r rest (a ∷ rs) [] k p arguments g set e has go = absurd set
 pass_all P s f r rest (a ∷ rs) (x ∷ xs) k p arguments g set e has go =
     let o = op.Argument k a in
     let g1 = paid o g in
     let go1 = any_op f p r arguments None g o go has.0 (ap (λ b. b && true) set.0.on) in
-    let go2 = subst (λ y. Goes P s (Running (frame_at f (suc p) r) (argued k y arguments) None f.waiting g1)) set.0.value go1 in
-    let more = pass_all P s f r rest rs xs (suc k) (suc p) (argued k x arguments) g1 set.1 (omega (arith, e)) has.1 go2 in
+    let go2 = subst (λ y. Goes P s (Running (frame_at f (suc p) r) (argued k y arguments) None f.waiting g1))
+    set.0.value go1 in
+    let more = pass_all P s f r rest rs xs (suc k) (suc p) (argued k x arguments) g1 set.1 (omega (arith, e)) has.1 go2
+    in
     let q : suc p + length rs ≡ p + suc (length rs) = omega arith in
     let m = more.0 in
-    let there : Goes P s (Running (frame_at f (p + suc (length rs)) r) (argued_all (suc k) xs (argued k x arguments)) None f.waiting m.log) = subst (λ z. Goes P s (Running (frame_at f z r) (argued_all (suc k) xs (argued k x arguments)) None f.waiting m.log)) q m.goes in
-    (record { log = m.log; goes = there; shared_is = m.shared_is; low = omega (arith, m.low); high = omega (arith, m.high) }, subst (λ z. Has f.function.ops z rest) q more.1)
+    let there : Goes P s (Running (frame_at f (p + suc (length rs)) r) (argued_all (suc k) xs (argued k x arguments))
+    None f.waiting m.log) = subst
+    (λ z. Goes P s (Running (frame_at f z r) (argued_all (suc k) xs (argued k x arguments)) None f.waiting m.log)) q
+    m.goes in (
+      record {
+        log = m.log;
+        goes = there;
+        shared_is = m.shared_is;
+        low = omega (arith, m.low);
+        high =
+            omega (arith, m.high);
+      },
+      subst (λ z. Has f.function.ops z rest) q more.1,
+    )
 
 -- what was pushed for arguments: registers in order, which hold the values of a list
-pub record ArgsLeave (site : Site) (from : From) (scope : Scope) (v v1 : View) (stack : List (ℕ × ℕ)) (spare credit n : ℕ) (vs : List ℕ) (w : World) : Type 0 where
+pub record ArgsLeave (site : Site) (from : From) (scope : Scope) (v v1 : View) (stack : List (ℕ × ℕ))
+    (spare credit n : ℕ) (vs : List ℕ) (w : World) : Type 0 where
   pub registers : List ℕ
   pub many : length registers ≡ n
   pub values : length vs ≡ n
@@ -123,15 +159,30 @@ pub record ArgsLeave (site : Site) (from : From) (scope : Scope) (v v1 : View) (
 -- what it is to follow arguments
 abbrev pub ArgsRun : Site → Scope → Args → Type 0
 ArgsRun site scope args =
-    AreScoped scope args → (l t : ℕ) → site.named ≤ t → t + temps_in_args args ≤ site.size → (v : View) (stack : List (ℕ × ℕ)) → Fits site v stack → Stands site.call.function.ops (args_ops site.addresses args l t) v → (from : From) (spare credit : ℕ) (w : World) → from.units < site.context.turns → At site from scope v.place stack spare credit 0 w →
-    Follows site.machine from (ArgsLeave site from scope v (after_ops (args_ops site.addresses args l t) v) stack spare credit (count args)) (IsBack site from) (eval_args site.context args w)
+    AreScoped scope args → (l t : ℕ) → site.named ≤ t → t + temps_in_args args ≤ site.size →
+    (v : View) (stack : List (ℕ × ℕ)) → Fits site v stack →
+    Stands site.call.function.ops (args_ops site.addresses args l t) v →
+    (from : From) (spare credit : ℕ) (w : World) → from.units < site.context.turns →
+    At site from scope v.place stack spare credit 0 w →
+    Follows site.machine from
+    (ArgsLeave site from scope v (after_ops (args_ops site.addresses args l t) v) stack spare credit (count args))
+    (IsBack site from) (eval_args site.context args w)
 
 module _ (site : Site) (scope : Scope) (inside : Within scope site.named) where
   pub no_args : ArgsRun site scope NoArg
   no_args ok l t st tn v stack fits at from spare credit w lt z =
-      record { registers = []; many = refl; values = refl; operands = refl; fits = fits; at = at_less site from scope v.place stack spare credit 0 spare (credit + 128 * 0) 0 w (omega arith) (omega arith) z }
+      record {
+        registers = [];
+        many = refl;
+        values = refl;
+        operands = refl;
+        fits = fits;
+        at =
+            at_less site from scope v.place stack spare credit 0 spare (credit + 128 * 0) 0 w (omega arith) (omega arith) z;
+      }
 
-  pub more_args : (a : Expr) (args : Args) → Part site scope a → has_value a ≡ true → ArgsRun site scope args → ArgsRun site scope (Arg a args)
+  pub more_args : (a : Expr) (args : Args) → Part site scope a → has_value a ≡ true → ArgsRun site scope args →
+      ArgsRun site scope (Arg a args)
   more_args a args part is run ok l t st tn v stack fits at from spare credit w lt z =
       let code = site.call.function.ops in
       let ao = expr_ops site.addresses a l t in
@@ -144,18 +195,23 @@ module _ (site : Site) (scope : Scope) (inside : Within scope site.named) where
       let pushed_is : v1.operands ≡ r ∷ v.operands = p.operands ∙ ap (λ o. o ∷ v.operands) (sym (ap top p.operands)) in
       let B = IsBack site from in
       let V = ArgsLeave site from scope v v2 stack spare credit (suc n) in
-      subst (λ y. Follows site.machine from (ArgsLeave site from scope v y stack spare credit (suc n)) B (eval_args site.context (Arg a args) w)) (sym (after_append ao ro v))
-      (one_run site scope inside a part is ok.0 l t st (omega arith) v stack fits (stands_front code ao ro v at) from spare credit w lt z V _
+      subst (λ y. Follows site.machine from (ArgsLeave site from scope v y stack spare credit (suc n)) B
+      (eval_args site.context (Arg a args) w)) (sym (after_append ao ro v))
+      (one_run site scope inside a part is ok.0 l t st (omega arith) v stack fits (stands_front code ao ro v at) from
+      spare credit w lt z V _
       (λ x w1 fits1 h.
-      follows_then site.machine from (ArgsLeave site from scope v1 v2 ((r, x) ∷ stack) (spare + 1) (credit + 128) n) V B (eval_args site.context args w1) _
-      (run ok.1 (l + labels_in a) (t + temps_in a) (omega arith) (omega arith) v1 ((r, x) ∷ stack) fits1 (stands_back code ao ro v at) from (spare + 1) (credit + 128) w1 lt h)
+      follows_then site.machine from (ArgsLeave site from scope v1 v2 ((r, x) ∷ stack) (spare + 1) (credit + 128) n) V B
+      (eval_args site.context args w1) _
+      (run ok.1 (l + labels_in a) (t + temps_in a) (omega arith) (omega arith) v1 ((r, x) ∷ stack) fits1
+      (stands_back code ao ro v at) from (spare + 1) (credit + 128) w1 lt h)
       (λ vs w2 y. record {
         registers = r ∷ y.registers;
         many = ap suc y.many;
         values = ap suc y.values;
         operands = y.operands ∙ ap (onto y.registers) pushed_is;
         fits = record { bodies_are = y.fits.bodies_are; free = y.fits.free; below = y.fits.below.2 };
-        at = at_less site from scope v2.place (paired y.registers vs ((r, x) ∷ stack)) (spare + 1) (credit + 128 + 128 * n) 0 spare (credit + 128 * suc n) 0 w2 (omega arith) (omega arith) y.at;
+        at = at_less site from scope v2.place (paired y.registers vs ((r, x) ∷ stack)) (spare + 1)
+            (credit + 128 + 128 * n) 0 spare (credit + 128 * suc n) 0 w2 (omega arith) (omega arith) y.at;
       })))
 
 -- a call's answer goes back to the newest call that waits, in the caller's world but for what is shared
@@ -168,32 +224,66 @@ pub record Answered (P : Program) (from : From) (waiting : List Frame) (w0 : Wor
   pub low : from.units + from.log.least + 1 ≤ w.units + log.least
   pub high : log.most + 512 * w.units ≤ from.log.most + 512 * from.units + 64
 
--- Calls of functions of the text with fewer units than turns are followed, from the state behind their op: an instruction
+-- Calls of functions of the text with fewer units than turns are followed, from the state behind their op: an
+-- instruction
 -- of it stands for the call's unit, and it may have cost 128 beyond what the units so far allow.
 pub record CallsFollow (P : Program) (d : Addresses) (call : ℕ → List ℕ → World → Result ℕ) (turns : ℕ) : Type 0 where
-  pub by : (from : From) (number : ℕ) (vs : List ℕ) (w : World) (frame : Frame) (waiting : List Frame) (g : Log) → w.units < turns → g.shared ≡ w.shared → Goes P from.state (call_at (op.Call (d.function_at number)) (P.function_at (d.function_at number)) frame (argued_all 0 vs nothing) waiting g) → w.units ≤ from.units → from.units + from.log.least + 1 ≤ w.units + g.least + 10 → g.most + 36 + 512 * w.units ≤ from.log.most + 512 * from.units + 128 → Follows P from (Answered P from (moved_on frame ∷ waiting) w) (λ x w1. ⊥) (call number vs w)
+  pub by : (from : From) (number : ℕ) (vs : List ℕ) (w : World) (frame : Frame) (waiting : List Frame) (g : Log) →
+      w.units < turns → g.shared ≡ w.shared →
+      Goes P from.state (call_at (op.Call (d.function_at number)) (P.function_at (d.function_at number)) frame
+      (argued_all 0 vs nothing) waiting g) → w.units ≤ from.units →
+      from.units + from.log.least + 1 ≤ w.units + g.least + 10 →
+      g.most + 36 + 512 * w.units ≤ from.log.most + 512 * from.units + 128 →
+      Follows P from (Answered P from (moved_on frame ∷ waiting) w) (λ x w1. ⊥) (call number vs w)
 
-module _ (site : Site) (scope : Scope) (inside : Within scope site.named) (calls : CallsFollow site.machine site.addresses site.context.call site.context.turns) where
+module _ (site : Site) (scope : Scope) (inside : Within scope site.named)
+    (calls : CallsFollow site.machine site.addresses site.context.call site.context.turns) where
   -- behind the call its answer is taken, and the node's unit is spent
-  answer_run : (from : From) (a : Answer) (p d x : ℕ) (v : View) (stack : List (ℕ × ℕ)) (w : World) → v.place ≡ suc p → top v.operands ≡ d → At site from scope (suc p) ((d, x) ∷ stack) 3 0 68 w → Follows site.machine from (Leaves (rule.is_value a) site from scope (after_ops (dropping_call a) v) stack 0 0) (IsBack site from) (spend (left_by a x) w)
+  answer_run : (from : From) (a : Answer) (p d x : ℕ) (v : View) (stack : List (ℕ × ℕ)) (w : World) → v.place ≡ suc p →
+      top v.operands ≡ d → At site from scope (suc p) ((d, x) ∷ stack) 3 0 68 w →
+      Follows site.machine from (Leaves (rule.is_value a) site from scope (after_ops (dropping_call a) v) stack 0 0)
+      (IsBack site from) (spend (left_by a x) w)
   answer_run from answer.Value p d x v stack w e f z =
-      subst (λ q. Follows site.machine from (λ y w1. At site from scope q ((top v.operands, y) ∷ stack) (0 + 1) (0 + 128) 0 w1) (IsBack site from) (spend x w)) (sym e)
-      (subst (λ r. Follows site.machine from (λ y w1. At site from scope (suc p) ((r, y) ∷ stack) (0 + 1) (0 + 128) 0 w1) (IsBack site from) (spend x w)) (sym f)
+      subst (λ q. Follows site.machine from
+      (λ y w1. At site from scope q ((top v.operands, y) ∷ stack) (0 + 1) (0 + 128) 0 w1) (IsBack site from)
+      (spend x w)) (sym e)
+      (subst (λ r. Follows site.machine from
+      (λ y w1. At site from scope (suc p) ((r, y) ∷ stack) (0 + 1) (0 + 128) 0 w1) (IsBack site from) (spend x w))
+      (sym f)
       (value_run site from scope x (suc p) d stack 3 0 68 0 0 w z (omega arith) (omega arith) (omega arith)))
   answer_run from answer.Void p d x v stack w e f z =
-      let under : At site from scope (suc p) stack 3 0 68 w = record { regs = z.regs; log = z.log; goes = z.goes; vars = z.vars; held = z.held.1; shared_is = z.shared_is; fewer = z.fewer; low = z.low; high = z.high } in
+      let under : At site from scope (suc p) stack 3 0 68 w =
+      record {
+        regs = z.regs;
+        log = z.log;
+        goes = z.goes;
+        vars = z.vars;
+        held = z.held.1;
+        shared_is = z.shared_is;
+        fewer = z.fewer;
+        low = z.low;
+        high = z.high;
+      } in
       let none : ℕ = 0 in
-      subst (λ q. Follows {A = ℕ} site.machine from (λ y w1. At site from scope q stack 0 0 0 w1) (IsBack site from) (spend none w)) (sym e)
-      (spend_run site from scope (λ y w1. At site from scope (suc p) stack 0 0 0 w1) none (suc p) stack 3 0 68 0 0 0 w under (omega arith) (omega arith) (omega arith) (λ w1 fewer h. h))
+      subst (λ q. Follows {A = ℕ} site.machine from (λ y w1. At site from scope q stack 0 0 0 w1) (IsBack site from)
+      (spend none w)) (sym e)
+      (spend_run site from scope (λ y w1. At site from scope (suc p) stack 0 0 0 w1) none (suc p) stack 3 0 68 0 0 0 w
+      under (omega arith) (omega arith) (omega arith) (λ w1 fewer h. h))
 
   -- what an expression leaves, seen from an earlier place
-  leaves_before : (b : Bool) (from later : From) (spare credit : ℕ) (l : Later site.machine from later spare credit) (v : View) (stack : List (ℕ × ℕ)) (x : ℕ) (w : World) → Leaves b site later scope v stack 0 0 x w → Leaves b site from scope v stack spare credit x w
+  leaves_before : (b : Bool) (from later : From) (spare credit : ℕ) (l : Later site.machine from later spare credit)
+      (v : View) (stack : List (ℕ × ℕ)) (x : ℕ) (w : World) → Leaves b site later scope v stack 0 0 x w →
+      Leaves b site from scope v stack spare credit x w
   leaves_before true from later spare credit l v stack x w z =
-      at_less site from scope v.place ((top v.operands, x) ∷ stack) (spare + (0 + 1)) (credit + (0 + 128)) 0 (spare + 1) (credit + 128) 0 w (omega arith) (omega arith) (at_from site from later spare credit l scope v.place ((top v.operands, x) ∷ stack) (0 + 1) (0 + 128) 0 w z)
+      at_less site from scope v.place ((top v.operands, x) ∷ stack) (spare + (0 + 1)) (credit + (0 + 128)) 0 (spare + 1)
+      (credit + 128) 0 w (omega arith) (omega arith)
+      (at_from site from later spare credit l scope v.place ((top v.operands, x) ∷ stack) (0 + 1) (0 + 128) 0 w z)
   leaves_before false from later spare credit l v stack x w z =
-      at_less site from scope v.place stack (spare + 0) (credit + 0) 0 spare credit 0 w (omega arith) (omega arith) (at_from site from later spare credit l scope v.place stack 0 0 0 w z)
+      at_less site from scope v.place stack (spare + 0) (credit + 0) 0 spare credit 0 w (omega arith) (omega arith)
+      (at_from site from later spare credit l scope v.place stack 0 0 0 w z)
 
-  pub call_node : (a : Answer) (number : ℕ) (args : Args) → ArgsRun site scope args → ExprRuns site scope (Call a number args)
+  pub call_node : (a : Answer) (number : ℕ) (args : Args) → ArgsRun site scope args →
+      ExprRuns site scope (Call a number args)
   call_node a number args run ok l t st tn v stack fits at from spare credit w lt z =
       let P = site.machine in
       let c = site.context in
@@ -211,15 +301,26 @@ module _ (site : Site) (scope : Scope) (inside : Within scope site.named) (calls
       let b = rule.is_value a in
       let end = after_ops (dropping_call a) v2 in
       let V = Leaves b site later scope end stack 0 0 in
-      subst (λ y. Follows P from (Leaves b site from scope y stack spare credit) (IsBack site from) (eval c (Call a number args) w)) (sym (after_append ao co v))
-      (follows_from P from V (Leaves b site from scope end stack spare credit) (IsBack site later) (IsBack site from) later spare credit (eval c (Call a number args) w) l1
+      subst (λ y. Follows P from (Leaves b site from scope y stack spare credit) (IsBack site from)
+      (eval c (Call a number args) w)) (sym (after_append ao co v))
+      (follows_from P from V (Leaves b site from scope end stack spare credit) (IsBack site later) (IsBack site from)
+      later spare credit (eval c (Call a number args) w) l1
       (leaves_before b from later spare credit l1 end stack)
       (back_from site from later spare credit l1)
-      (follows_then P later (ArgsLeave site later scope v v1 stack 0 0 n) V (IsBack site later) (eval_args c args w) (λ vs w1. then_do (c.call number vs w1) (λ x w2. spend (left_by a x) w2))
+      (follows_then P later (ArgsLeave site later scope v v1 stack 0 0 n) V (IsBack site later) (eval_args c args w)
+      (λ vs w1. then_do (c.call number vs w1) (λ x w2. spend (left_by a x) w2))
       (run ok l t st tn v stack fits (stands_front code ao co v at) later 0 0 w lt1 z0)
       (λ vs w1 y. called later n address v v1 vs w1 lt1 (stands_back code ao co v at).0 y)))
     where
-      called : (later : From) (n address : ℕ) (v v1 : View) (vs : List ℕ) (w1 : World) → later.units < site.context.turns → Has site.call.function.ops v1.place (passed_ops 0 (taken n v1.operands []) ++ op.Call (site.addresses.function_at number) ∷ op.Result v1.next ∷ []) → ArgsLeave site later scope v v1 stack 0 0 n vs w1 → Follows site.machine later (Leaves (rule.is_value a) site later scope (after_ops (dropping_call a) (after_op (build.Call (site.addresses.function_at number) n) v1)) stack 0 0) (IsBack site later) (then_do (site.context.call number vs w1) (λ x w2. spend (left_by a x) w2))
+      called : (later : From) (n address : ℕ) (v v1 : View) (vs : List ℕ) (w1 : World) →
+          later.units < site.context.turns →
+          Has site.call.function.ops v1.place
+          (passed_ops 0 (taken n v1.operands []) ++ op.Call (site.addresses.function_at number) ∷ op.Result v1.next ∷ [])
+          → ArgsLeave site later scope v v1 stack 0 0 n vs w1 →
+          Follows site.machine later
+          (Leaves (rule.is_value a) site later scope
+          (after_ops (dropping_call a) (after_op (build.Call (site.addresses.function_at number) n) v1)) stack 0 0)
+          (IsBack site later) (then_do (site.context.call number vs w1) (λ x w2. spend (left_by a x) w2))
       called later n address v v1 vs w1 lt1 has y =
           let P = site.machine in
           let c = site.context in
@@ -230,29 +331,37 @@ module _ (site : Site) (scope : Scope) (inside : Within scope site.named) (calls
           let rs = y.registers in
           let regs = y.at.regs in
           let rest = op.Call to ∷ op.Result v1.next ∷ [] in
-          let taken_is : taken n v1.operands [] ≡ rs = ap (λ os. taken n os []) y.operands ∙ taken_all n rs v.operands y.many in
+          let taken_is : taken n v1.operands [] ≡ rs =
+          ap (λ os. taken n os []) y.operands ∙ taken_all n rs v.operands y.many in
           let here = subst (λ xs. Has code v1.place (passed_ops 0 xs ++ rest)) taken_is has in
           let same : length vs ≡ length rs = y.values ∙ sym y.many in
-          let pass = pass_all P later.state f regs rest rs vs 0 v1.place nothing y.at.log (held_set regs rs vs stack same y.at.held) same here y.at.goes in
+          let pass = pass_all P later.state f regs rest rs vs 0 v1.place nothing y.at.log
+          (held_set regs rs vs stack same y.at.held) same here y.at.goes in
           let m = pass.0 in
           let p2 = v1.place + length rs in
           let frame = frame_at f p2 regs in
           let go2 = any_op f p2 regs (argued_all 0 vs nothing) None m.log (op.Call to) m.goes pass.1.0 refl in
           let W = Answered P later (moved_on frame ∷ f.waiting) w1 in
           let v2 = after_op (build.Call to n) v1 in
-          then_follows P later W (Leaves (rule.is_value a) site later scope (after_ops (dropping_call a) v2) stack 0 0) (λ x w. ⊥) (IsBack site later) (c.call number vs w1) (λ x w2. spend (left_by a x) w2)
-          (calls.by later number vs w1 frame f.waiting m.log (omega (arith, y.at.fewer)) (m.shared_is ∙ y.at.shared_is) go2 y.at.fewer (omega (arith, y.at.low, m.low)) (omega (arith, y.at.high, m.high, y.many)))
+          then_follows P later W (Leaves (rule.is_value a) site later scope (after_ops (dropping_call a) v2) stack 0 0)
+          (λ x w. ⊥) (IsBack site later) (c.call number vs w1) (λ x w2. spend (left_by a x) w2)
+          (calls.by later number vs w1 frame f.waiting m.log (omega (arith, y.at.fewer)) (m.shared_is ∙ y.at.shared_is)
+          go2 y.at.fewer (omega (arith, y.at.low, m.low)) (omega (arith, y.at.high, m.high, y.many)))
           (λ x w2 no'. absurd no')
           (λ x w2 b.
           let sn = site.few in
           let go3 = any_op f (suc p2) regs nothing (Some x) b.log (op.Result v1.next) b.goes pass.1.1.0 refl in
-          let vars2 : AreVars base scope regs w2.variables = subst (AreVars base scope regs) (sym b.variables_are) y.at.vars in
+          let vars2 : AreVars base scope regs w2.variables =
+          subst (AreVars base scope regs) (sym b.variables_are) y.at.vars in
           let back : At site later scope (suc (suc p2)) ((v1.next, x) ∷ stack) 3 0 68 w2 = record {
             regs = put v1.next x regs;
             log = paid (op.Result v1.next) b.log;
             goes = go3;
             vars = put_vars v1.next x base site.named scope regs w2.variables inside (omega (arith, y.fits.free)) vars2;
-            held = (put_same v1.next x regs, held_above v1.next x (floor_of site) regs stack y.fits.below (held_under regs rs vs stack y.at.held));
+            held = (
+              put_same v1.next x regs,
+              held_above v1.next x (floor_of site) regs stack y.fits.below (held_under regs rs vs stack y.at.held),
+            );
             shared_is = b.shared_is;
             fewer = b.fewer;
             low = omega (arith, b.low);

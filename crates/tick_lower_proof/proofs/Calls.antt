@@ -1,5 +1,6 @@
 -- The machine follows a call of a function, from its first op to its return, and so the whole of a run.
-use Rattle.std.proofs.Common.{◌≡◌, ℕ, ◌+◌, ◌*◌, ◌<◌, ◌≤◌, List, [], ◌∷◌, Some, None, true, false, refl, sym, ◌∙◌, subst, arith}
+use Rattle.std.proofs.Common.{◌≡◌, ℕ, ◌+◌, ◌*◌, ◌<◌, ◌≤◌, List, [], ◌∷◌, Some, None, true, false, refl, sym, ◌∙◌, subst}
+use Rattle.std.proofs.Common.{arith}
 use Rattle.std.specs.Prelude.{slice_get}
 use Rattle.icode_ops.specs.declared.op.Op.{Op}
 use Rattle.icode_ops.specs.declared.op.Op.TheVariants as op
@@ -7,14 +8,16 @@ use Rattle.icode_ir.specs.declared.build_op.BuildOp.TheVariants as build
 use Rattle.typed_tree.specs.Nodes as node
 use Rattle.staged_meaning.specs.Size.{labels, temps, variables_in}
 use Rattle.staged_meaning.specs.Scope.{no_scope, IsReady, scope_of}
-use Rattle.staged_meaning.specs.World.{World, Result, Gives, Returns, Ends, Stops, Flow, Normal, Broke, Continued, spend}
+use Rattle.staged_meaning.specs.World.{World, Result, Gives, Returns, Ends, Stops, Flow, Normal, Broke, Continued}
+use Rattle.staged_meaning.specs.World.{spend}
 use Rattle.staged_meaning.specs.Meaning.{Context, exec, answer, call_body}
 use Rattle.icode_meaning.specs.State.{Program, Log}
 use Rattle.icode_meaning.specs.Steps.{paid}
 use Rattle.tick_lower_proof.specs.Lower.{Addresses, stmt_ops, nowhere, function_ops}
 use Rattle.tick_lower_proof.proofs.Machine.{Goes, goes_none, then_op, Here, Regs, at_op}
 use Rattle.tick_lower_proof.proofs.Builder.{View, after_op, after_ops, after_append, Stands, stands_front}
-use Rattle.tick_lower_proof.proofs.Follow.{From, Later, Follows, follows_then, follows_less, follows_from, spend_follows}
+use Rattle.tick_lower_proof.proofs.Follow.{From, Later, Follows, follows_then, follows_less, follows_from}
+use Rattle.tick_lower_proof.proofs.Follow.{spend_follows}
 use Rattle.tick_lower_proof.proofs.Registers.{AreVars, Within}
 use Rattle.tick_lower_proof.proofs.Standing.{Site, At, IsBack, at_narrow, back_from}
 use Rattle.tick_lower_proof.proofs.Ways.{Labelled, Left, Runs, left_on}
@@ -39,7 +42,8 @@ pub record IsCode (d : Addresses) (function : node.Function) (code : List Op) : 
 abbrev pub head_credit : ℕ
 head_credit = 280
 
-module _ (P : Program) (c : Context) (d : Addresses) (f : Here) (function : node.Function) (code : IsCode d function f.function.ops) where
+module _ (P : Program) (c : Context) (d : Addresses) (f : Here) (function : node.Function)
+    (code : IsCode d function f.function.ops) where
   abbrev pub src : ℕ
   src = variables_in function.body
 
@@ -54,12 +58,24 @@ module _ (P : Program) (c : Context) (d : Addresses) (f : Here) (function : node
   closed = after_ops (stmt_ops d function.body nowhere 0 src) opened
 
   abbrev pub site : Site
-  site = record { machine = P; context = c; addresses = d; call = f; bodies = opened.bodies; named = src; size = many; few = omega arith }
+  site = record {
+    machine = P;
+    context = c;
+    addresses = d;
+    call = f;
+    bodies = opened.bodies;
+    named = src;
+    size = many;
+    few = omega arith;
+  }
 
   -- a body that runs off its end returns 0
-  pub end_run : (from : From) (spare credit : ℕ) (w : World) → At site from no_scope closed.place [] spare credit 0 w → IsBack site from 0 w
+  pub end_run : (from : From) (spare credit : ℕ) (w : World) → At site from no_scope closed.place [] spare credit 0 w →
+      IsBack site from 0 w
   end_run from spare credit w z =
-      let here : slice_get f.function.ops closed.place ≡ Some op.ReturnZero = subst (λ v. slice_get f.function.ops v.place ≡ Some op.ReturnZero) (after_append (stmt_ops d function.body nowhere 0 src) (build.Leave ∷ []) opened) code.last in
+      let here : slice_get f.function.ops closed.place ≡ Some op.ReturnZero =
+      subst (λ v. slice_get f.function.ops v.place ≡ Some op.ReturnZero)
+      (after_append (stmt_ops d function.body nowhere 0 src) (build.Leave ∷ []) opened) code.last in
       record {
         log = paid op.ReturnZero z.log;
         goes = then_op f closed.place z.regs z.log op.ReturnZero z.goes here refl;
@@ -69,7 +85,9 @@ module _ (P : Program) (c : Context) (d : Addresses) (f : Here) (function : node
         high = omega (arith, z.high);
       }
 
-  pub answer_run : (from : From) (spare credit : ℕ) (o : Result Flow) → Follows P from (Left site from no_scope no_scope [] spare credit closed.place None None) (IsBack site from) o → Follows P from (IsBack site from) (λ x w. ⊥) (answer o)
+  pub answer_run : (from : From) (spare credit : ℕ) (o : Result Flow) →
+      Follows P from (Left site from no_scope no_scope [] spare credit closed.place None None) (IsBack site from) o →
+      Follows P from (IsBack site from) (λ x w. ⊥) (answer o)
   answer_run from spare credit (Gives Normal w) h = end_run from spare credit w h
   answer_run from spare credit (Gives Broke w) h = absurd h
   answer_run from spare credit (Gives Continued w) h = absurd h
@@ -84,26 +102,52 @@ module _ (P : Program) (c : Context) (d : Addresses) (f : Here) (function : node
   none_vars : (vars : ℕ → ℕ) → AreVars 0 no_scope blank vars
   none_vars vars = record { at = λ i h. absurd cc }
 
-  -- A call that was entered: its unit, and its body. The way of the body is measured from its first op, since it has one
+  -- A call that was entered: its unit, and its body. The way of the body is measured from its first op, since it has
+  -- one
   -- turn less than the caller; what the unit has left over for the head is paid in advance.
-  pub enter_run : (arguments : List ℕ) (from : From) (g : Log) (w : World) → w.units ≤ c.turns → g.shared ≡ w.shared → Goes P from.state (at_op f 0 blank g) → w.units ≤ from.units → from.units + from.log.least + 1 ≤ w.units + g.least → g.most + 512 * w.units ≤ from.log.most + 512 * from.units + 128 → ((later : From) (w1 : World) → later.units < c.turns → w1.arguments ≡ arguments → w1.shared ≡ w.shared → At site later no_scope 0 [] 0 head_credit 0 w1 → Follows P later (IsBack site later) (λ x w. ⊥) (answer (exec c function.body w1))) → Follows P from (IsBack site from) (λ x w. ⊥) (call_body c function arguments w)
+  pub enter_run : (arguments : List ℕ) (from : From) (g : Log) (w : World) → w.units ≤ c.turns → g.shared ≡ w.shared →
+      Goes P from.state (at_op f 0 blank g) → w.units ≤ from.units → from.units + from.log.least + 1 ≤ w.units + g.least →
+      g.most + 512 * w.units ≤ from.log.most + 512 * from.units + 128 →
+      ((later : From) (w1 : World) → later.units < c.turns → w1.arguments ≡ arguments → w1.shared ≡ w.shared →
+      At site later no_scope 0 [] 0 head_credit 0 w1 →
+      Follows P later (IsBack site later) (λ x w. ⊥) (answer (exec c function.body w1))) →
+      Follows P from (IsBack site from) (λ x w. ⊥) (call_body c function arguments w)
   enter_run arguments from g w lt o go few low high body =
       let w0 : World = record w { variables = λ i. 0; arguments = arguments } in
-      let V : Flow → World → Type 0 = λ a w1. (w1.units < c.turns) × (g.shared ≡ w1.shared) × (w1.units ≤ from.units) × (from.units + from.log.least ≤ w1.units + g.least) × (g.most + 512 * w1.units + 384 ≤ from.log.most + 512 * from.units) × (w1.arguments ≡ arguments) in
+      let V : Flow → World → Type 0 =
+      λ a w1. (w1.units < c.turns) × (g.shared ≡ w1.shared) × (w1.units ≤ from.units) ×
+      (from.units + from.log.least ≤ w1.units + g.least) ×
+      (g.most + 512 * w1.units + 384 ≤ from.log.most + 512 * from.units) × (w1.arguments ≡ arguments) in
       follows_then P from V (IsBack site from) (λ x w. ⊥) (spend Normal w0) (λ a w1. answer (exec c function.body w1))
       (spend_follows P from V (λ x w. ⊥) (at_op f 0 blank g) w.units Normal w0 go tt o low (omega arith)
       (λ k e. (omega (arith, e), o, omega (arith, e), omega (arith, e), omega (arith, e), refl)))
       (λ a w1 h.
       let g1 : Log = record g { most = g.most + head_credit } in
       let later : From = record { state = at_op f 0 blank g; units = w1.units; log = g1 } in
-      let l : Later P from later 0 0 = record { goes = go; fewer = h.2; low = omega (arith, h.3); high = omega (arith, h.4) } in
-      let z : At site later no_scope 0 [] 0 head_credit 0 w1 = record { regs = blank; log = g; goes = goes_none P (at_op f 0 blank g); vars = none_vars w1.variables; held = tt; shared_is = h.1; fewer = omega arith; low = omega arith; high = omega arith } in
-      follows_from P from (IsBack site later) (IsBack site from) (λ x w. ⊥) (λ x w. ⊥) later 0 0 (answer (exec c function.body w1)) l (back_from site from later 0 0 l) (λ x w no'. no')
+      let l : Later P from later 0 0 =
+      record { goes = go; fewer = h.2; low = omega (arith, h.3); high = omega (arith, h.4) } in
+      let z : At site later no_scope 0 [] 0 head_credit 0 w1 =
+      record {
+        regs = blank;
+        log = g;
+        goes = goes_none P (at_op f 0 blank g);
+        vars = none_vars w1.variables;
+        held =
+            tt;
+        shared_is = h.1;
+        fewer = omega arith;
+        low = omega arith;
+        high = omega arith;
+      } in
+      follows_from P from (IsBack site later) (IsBack site from) (λ x w. ⊥) (λ x w. ⊥) later 0 0
+      (answer (exec c function.body w1)) l (back_from site from later 0 0 l) (λ x w no'. no')
       (body later w1 h.0 h.5 (sym h.1 ∙ o) z))
 
   module _ (ready : IsReady function) where
     -- a body, once the call's unit is spent
-    body_run : (from : From) (spare credit : ℕ) (w : World) → from.units < c.turns → At site from no_scope 0 [] spare credit 0 w → Follows P from (IsBack site from) (λ x w. ⊥) (answer (exec c function.body w))
+    body_run : (from : From) (spare credit : ℕ) (w : World) → from.units < c.turns →
+        At site from no_scope 0 [] spare credit 0 w →
+        Follows P from (IsBack site from) (λ x w. ⊥) (answer (exec c function.body w))
     unfolding Runs
     body_run from spare credit w lt z =
         let so = stmt_ops d function.body nowhere 0 src in
@@ -111,11 +155,22 @@ module _ (P : Program) (c : Context) (d : Addresses) (f : Here) (function : node
         let xs = scope_of function.body no_scope in
         let out : (i : ℕ) → no_scope i ≡ true → xs i ≡ true = λ i h. absurd cc in
         answer_run from spare credit (exec c function.body w)
-        (follows_less P from (Left site from no_scope xs [] spare credit closed.place None None) (Left site from no_scope no_scope [] spare credit closed.place None None) (IsBack site from) (exec c function.body w)
-        (left_on site from no_scope xs no_scope no_scope (λ i h. h) [] spare credit spare credit closed.place closed.place None None (λ w1 y. at_narrow site from xs no_scope closed.place [] spare credit 0 w1 out y))
-        (stmt_run site code.labelled no_scope inside function.body ready.built ready.scoped (omega arith) [] None None nowhere (record { on_break = λ p e. absurd cc; on_continue = λ p e. absurd cc }) 0 src (omega arith) (omega arith) opened (record { bodies_are = refl; free = omega arith; below = tt }) at from spare credit w lt z))
+        (follows_less P from (Left site from no_scope xs [] spare credit closed.place None None)
+        (Left site from no_scope no_scope [] spare credit closed.place None None) (IsBack site from)
+        (exec c function.body w)
+        (left_on site from no_scope xs no_scope no_scope (λ i h. h) [] spare credit spare credit closed.place
+        closed.place None None (λ w1 y. at_narrow site from xs no_scope closed.place [] spare credit 0 w1 out y))
+        (stmt_run site code.labelled no_scope inside function.body ready.built ready.scoped (omega arith) [] None None
+        nowhere (record { on_break = λ p e. absurd cc; on_continue = λ p e. absurd cc }) 0 src (omega arith)
+        (omega arith) opened (record { bodies_are = refl; free = omega arith; below = tt }) at from spare credit w lt
+        z))
 
     -- a call of a function of the kinds that are built
-    pub call_run : (arguments : List ℕ) (from : From) (g : Log) (w : World) → w.units ≤ c.turns → g.shared ≡ w.shared → Goes P from.state (at_op f 0 blank g) → w.units ≤ from.units → from.units + from.log.least + 1 ≤ w.units + g.least → g.most + 512 * w.units ≤ from.log.most + 512 * from.units + 128 → Follows P from (IsBack site from) (λ x w. ⊥) (call_body c function arguments w)
+    pub call_run : (arguments : List ℕ) (from : From) (g : Log) (w : World) → w.units ≤ c.turns → g.shared ≡ w.shared →
+        Goes P from.state (at_op f 0 blank g) → w.units ≤ from.units →
+        from.units + from.log.least + 1 ≤ w.units + g.least →
+        g.most + 512 * w.units ≤ from.log.most + 512 * from.units + 128 →
+        Follows P from (IsBack site from) (λ x w. ⊥) (call_body c function arguments w)
     call_run arguments from g w lt o go few low high =
-        enter_run arguments from g w lt o go few low high (λ later w1 less e1 e2 z. body_run later 0 head_credit w1 less z)
+        enter_run arguments from g w lt o go few low high
+        (λ later w1 less e1 e2 z. body_run later 0 head_credit w1 less z)

@@ -1,16 +1,21 @@
 -- A tree's ops keep the discipline of the operand stack, name the body's variables and labels alone, and issue twelve
 -- ops a node at most.
-use Rattle.std.proofs.Common.{◌≡◌, ℕ, zero, suc, ◌+◌, ◌*◌, ◌≤◌, List, [], ◌∷◌, ◌++◌, length, refl, sym, ap, ◌∙◌, subst, arith}
+use Rattle.std.proofs.Common.{◌≡◌, ℕ, zero, suc, ◌+◌, ◌*◌, ◌≤◌, List, [], ◌∷◌, ◌++◌, length, refl, sym, ap, ◌∙◌, subst}
+use Rattle.std.proofs.Common.{arith}
 use Rattle.icode_ops.specs.declared.kind.SysKind.TheVariants as sys
 use Rattle.icode_ir.specs.declared.build_op.BuildOp.{BuildOp}
-use Rattle.icode_ir.specs.declared.build_op.BuildOp.TheVariants.{Const, Bin, GetVariable, SetVariable, Drop, Label, Jump, BranchZero, Return, Sys}
+use Rattle.icode_ir.specs.declared.build_op.BuildOp.TheVariants.{Const, Bin, GetVariable, SetVariable, Drop, Label}
+use Rattle.icode_ir.specs.declared.build_op.BuildOp.TheVariants.{Jump, BranchZero, Return, Sys}
 use Rattle.typed_tree.specs.Nodes as node
 use Rattle.typed_tree.specs.declared.expression.Library.TheVariants as library
 use Rattle.typed_tree.specs.Nodes.{Expr, Stmt, Items, has_value}
-use Rattle.staged_meaning.specs.Size.{size_of_expr, size_of_stmt, size_of_items, labels_in, labels, labels_of, temps_in, temps, temps_of, variables_in, variables_of}
-use Rattle.staged_meaning.specs.Scope.{Scope, scope_of, scope_after, IsScoped, IsScopedStmt, AreScopedItems, IsBuilt, IsBuiltStmt, AreBuiltItems}
+use Rattle.staged_meaning.specs.Size.{size_of_expr, size_of_stmt, size_of_items, labels_in, labels, labels_of, temps_in}
+use Rattle.staged_meaning.specs.Size.{temps, temps_of, variables_in, variables_of}
+use Rattle.staged_meaning.specs.Scope.{Scope, scope_of, scope_after, IsScoped, IsScopedStmt, AreScopedItems, IsBuilt}
+use Rattle.staged_meaning.specs.Scope.{IsBuiltStmt, AreBuiltItems}
 use Rattle.tick_lower_proof.specs.Lower.{Addresses, expr_ops, Targets, stmt_ops, items_ops, dropping}
-use Rattle.tick_lower_proof.proofs.Builder.{View, below, Check, NoCheck, SignedCheck, ZeroCheck, check_of, past_check, after_op}
+use Rattle.tick_lower_proof.proofs.Builder.{View, below, Check, NoCheck, SignedCheck, ZeroCheck, check_of, past_check}
+use Rattle.tick_lower_proof.proofs.Builder.{after_op}
 use Rattle.tick_lower_proof.proofs.Pushes.{built_value}
 use Rattle.tick_lower_proof.proofs.Registers.{Within}
 use Rattle.tick_lower_proof.proofs.Stmts.{max_left, max_right, within_stmt, within_items}
@@ -36,7 +41,8 @@ abbrev pub DeepTo : (n m : ℕ) → List BuildOp → (h h' : ℕ) → Type 0
 DeepTo n m [] h h' = h ≡ h'
 DeepTo n m (o ∷ os) h h' = Takes n m o h × DeepTo n m os (height o h) h'
 
-pub deep_append : (n m : ℕ) (xs ys : List BuildOp) (h h1 h2 : ℕ) → DeepTo n m xs h h1 → DeepTo n m ys h1 h2 → DeepTo n m (xs ++ ys) h h2
+pub deep_append : (n m : ℕ) (xs ys : List BuildOp) (h h1 h2 : ℕ) → DeepTo n m xs h h1 → DeepTo n m ys h1 h2 →
+    DeepTo n m (xs ++ ys) h h2
 deep_append n m [] ys h h1 h2 p q = subst (λ z. DeepTo n m ys z h2) (sym p) q
 deep_append n m (o ∷ xs) ys h h1 h2 p q = (p.0, deep_append n m xs ys (height o h) h1 h2 p.1 q)
 
@@ -94,7 +100,8 @@ length_below : (xs : List ℕ) → length (below xs) ≡ less (length xs)
 length_below [] = refl
 length_below (x ∷ xs) = refl
 
-pub height_of : (n m : ℕ) (o : BuildOp) (h : ℕ) (v : View) → Takes n m o h → length (after_op o v).operands ≡ height o (length v.operands)
+pub height_of : (n m : ℕ) (o : BuildOp) (h : ℕ) (v : View) → Takes n m o h →
+    length (after_op o v).operands ≡ height o (length v.operands)
 height_of n m (Const word) h v ok = refl
 height_of n m (Bin kind) h v ok = ap suc (length_below (below v.operands) ∙ ap less (length_below v.operands))
 height_of n m (GetVariable i) h v ok = refl
@@ -139,104 +146,189 @@ bodies_same n m (Sys kind) h v ok = refl
 bodies_same n m _ h v ok = absurd ok
 
 module _ (d : Addresses) (src n m : ℕ) (sn : src ≤ n) where
-  pub expr_deep : (scope : Scope) → Within scope src → (e : Expr) → IsBuilt e → IsScoped scope e → (l t : ℕ) → t + temps_in e ≤ n → l + labels_in e ≤ m → (h : ℕ) → DeepTo n m (expr_ops d e l t) h (suc h)
+  pub expr_deep : (scope : Scope) → Within scope src → (e : Expr) → IsBuilt e → IsScoped scope e → (l t : ℕ) →
+      t + temps_in e ≤ n → l + labels_in e ≤ m → (h : ℕ) → DeepTo n m (expr_ops d e l t) h (suc h)
   expr_deep scope inside (node.Const w) built ok l t tn lm h = (tt, refl)
   expr_deep scope inside (node.Var i) built ok l t tn lm h = (omega (arith, inside.at i ok), refl)
   expr_deep scope inside (node.SetVar i a) built ok l t tn lm h =
-      deep_append n m (expr_ops d a l t) (SetVariable i ∷ []) h (suc h) (suc h) (expr_deep scope inside a built ok.1 l t tn lm h) ((omega arith, omega (arith, inside.at i ok.0)), refl)
+      deep_append n m (expr_ops d a l t) (SetVariable i ∷ []) h (suc h) (suc h)
+      (expr_deep scope inside a built ok.1 l t tn lm h) ((omega arith, omega (arith, inside.at i ok.0)), refl)
   expr_deep scope inside (node.Lib library.Putchar a) built ok l t tn lm h =
-      deep_append n m (expr_ops d a l t) (Sys sys.PutByte ∷ []) h (suc h) (suc h) (expr_deep scope inside a built ok l t tn lm h) (omega arith, refl)
+      deep_append n m (expr_ops d a l t) (Sys sys.PutByte ∷ []) h (suc h) (suc h)
+      (expr_deep scope inside a built ok l t tn lm h) (omega arith, refl)
   expr_deep scope inside (node.Bin k x y) built ok l t tn lm h =
       let yo = expr_ops d y (l + labels_in x) (t + temps_in x) in
-      deep_append n m (expr_ops d x l t) (yo ++ Bin k ∷ []) h (suc h) (suc h) (expr_deep scope inside x built.0 ok.0 l t (omega arith) (omega arith) h)
-      (deep_append n m yo (Bin k ∷ []) (suc h) (suc (suc h)) (suc h) (expr_deep scope inside y built.1 ok.1 (l + labels_in x) (t + temps_in x) (omega arith) (omega arith) (suc h)) (omega arith, refl))
+      deep_append n m (expr_ops d x l t) (yo ++ Bin k ∷ []) h (suc h) (suc h)
+      (expr_deep scope inside x built.0 ok.0 l t (omega arith) (omega arith) h)
+      (deep_append n m yo (Bin k ∷ []) (suc h) (suc (suc h)) (suc h)
+      (expr_deep scope inside y built.1 ok.1 (l + labels_in x) (t + temps_in x) (omega arith) (omega arith) (suc h))
+      (omega arith, refl))
   expr_deep scope inside _ built ok l t tn lm h = absurd built
 
-  eval_deep : (scope : Scope) → Within scope src → (e : Expr) → IsBuilt e → IsScoped scope e → (l t : ℕ) → t + temps_in e ≤ n → l + labels_in e ≤ m → (h : ℕ) → DeepTo n m (expr_ops d e l t ++ dropping (has_value e)) h h
+  eval_deep : (scope : Scope) → Within scope src → (e : Expr) → IsBuilt e → IsScoped scope e → (l t : ℕ) →
+      t + temps_in e ≤ n → l + labels_in e ≤ m → (h : ℕ) → DeepTo n m (expr_ops d e l t ++ dropping (has_value e)) h h
   eval_deep scope inside e built ok l t tn lm h =
       subst (λ z. DeepTo n m (expr_ops d e l t ++ dropping z) h h) (sym (built_value d e built))
-      (deep_append n m (expr_ops d e l t) (Drop ∷ []) h (suc h) h (expr_deep scope inside e built ok l t tn lm h) (omega arith, refl))
+      (deep_append n m (expr_ops d e l t) (Drop ∷ []) h (suc h) h (expr_deep scope inside e built ok l t tn lm h)
+      (omega arith, refl))
 
   mutual
-    pub stmt_deep : (scope : Scope) → Within scope src → (s : Stmt) → IsBuiltStmt s → IsScopedStmt scope s → variables_in s ≤ src → (to : Targets) (l t : ℕ) → t + temps s ≤ n → l + labels s ≤ m → (h : ℕ) → DeepTo n m (stmt_ops d s to l t) h h
+    pub stmt_deep : (scope : Scope) → Within scope src → (s : Stmt) → IsBuiltStmt s → IsScopedStmt scope s →
+        variables_in s ≤ src → (to : Targets) (l t : ℕ) → t + temps s ≤ n → l + labels s ≤ m → (h : ℕ) →
+        DeepTo n m (stmt_ops d s to l t) h h
     stmt_deep scope inside (node.Eval e) built ok vs to l t tn lm h = eval_deep scope inside e built ok l t tn lm h
     stmt_deep scope inside (node.Block vars items) built ok vs to l t tn lm h =
         deep_append n m (items_ops d vars to l t) _ h h h
-        (items_deep scope inside vars built.0 ok.0 (max_left (variables_of vars) (variables_of items) src vs) to l t (omega arith) (omega arith) h)
-        (items_deep (scope_after vars scope) (within_items vars scope src (max_left (variables_of vars) (variables_of items) src vs) inside) items built.1 ok.1 (max_right (variables_of vars) (variables_of items) src vs) to (l + labels_of vars) (t + temps_of vars) (omega arith) (omega arith) h)
-    stmt_deep scope inside (node.Variable i) built ok vs to l t tn lm h = (tt, ((omega arith, omega arith), (omega arith, refl)))
+        (items_deep scope inside vars built.0 ok.0 (max_left (variables_of vars) (variables_of items) src vs) to l t
+        (omega arith) (omega arith) h)
+        (items_deep (scope_after vars scope)
+        (within_items vars scope src (max_left (variables_of vars) (variables_of items) src vs) inside) items built.1
+        ok.1 (max_right (variables_of vars) (variables_of items) src vs) to (l + labels_of vars) (t + temps_of vars)
+        (omega arith) (omega arith) h)
+    stmt_deep scope inside (node.Variable i) built ok vs to l t tn lm h =
+        (tt, ((omega arith, omega arith), (omega arith, refl)))
     stmt_deep scope inside (node.If e s) built ok vs to l t tn lm h =
         let so = stmt_ops d s to (l + 1 + labels_in e) (t + temps_in e) in
-        deep_append n m (expr_ops d e (l + 1) t) (BranchZero l ∷ (so ++ Label l ∷ [])) h (suc h) h (expr_deep scope inside e built.0 ok.0 (l + 1) t (omega arith) (omega arith) h)
-        ((omega arith, omega arith), deep_append n m so (Label l ∷ []) h h h (stmt_deep scope inside s built.1 ok.1 vs to (l + 1 + labels_in e) (t + temps_in e) (omega arith) (omega arith) h) (omega arith, refl))
+        deep_append n m (expr_ops d e (l + 1) t) (BranchZero l ∷ (so ++ Label l ∷ [])) h (suc h) h
+        (expr_deep scope inside e built.0 ok.0 (l + 1) t (omega arith) (omega arith) h) (
+          (omega arith, omega arith),
+          deep_append n m so (Label l ∷ []) h h h
+              (stmt_deep scope inside s built.1 ok.1 vs to (l + 1 + labels_in e) (t + temps_in e) (omega arith)
+              (omega arith) h) (omega arith, refl),
+        )
     stmt_deep scope inside (node.IfElse e s r) built ok vs to l t tn lm h =
         let l2 = l + 2 + labels_in e in
         let t2 = t + temps_in e in
         let so = stmt_ops d s to l2 t2 in
         let ro = stmt_ops d r to (l2 + labels s) (t2 + temps s) in
         let tail = Jump (l + 1) ∷ Label l ∷ (ro ++ Label (l + 1) ∷ []) in
-        deep_append n m (expr_ops d e (l + 2) t) (BranchZero l ∷ (so ++ tail)) h (suc h) h (expr_deep scope inside e built.0 ok.0 (l + 2) t (omega arith) (omega arith) h) (
+        deep_append n m (expr_ops d e (l + 2) t) (BranchZero l ∷ (so ++ tail)) h (suc h) h
+        (expr_deep scope inside e built.0 ok.0 (l + 2) t (omega arith) (omega arith) h) (
           (omega arith, omega arith),
-          deep_append n m so tail h h h (stmt_deep scope inside s built.1 ok.1 (max_left (variables_in s) (variables_in r) src vs) to l2 t2 (omega arith) (omega arith) h)
-              (omega arith, (omega arith, deep_append n m ro (Label (l + 1) ∷ []) h h h (stmt_deep scope inside r built.2 ok.2 (max_right (variables_in s) (variables_in r) src vs) to (l2 + labels s) (t2 + temps s) (omega arith) (omega arith) h) (omega arith, refl))),
+          deep_append n m so tail h h h
+              (stmt_deep scope inside s built.1 ok.1 (max_left (variables_in s) (variables_in r) src vs) to l2 t2
+              (omega arith) (omega arith) h) (
+                omega arith,
+                (
+                  omega arith,
+                  deep_append n m ro (Label (l + 1) ∷ []) h h h
+                      (stmt_deep scope inside r built.2 ok.2 (max_right (variables_in s) (variables_in r) src vs) to
+                      (l2 + labels s) (t2 + temps s) (omega arith) (omega arith) h) (omega arith, refl),
+                ),
+              ),
         )
     stmt_deep scope inside (node.While e s) built ok vs to l t tn lm h =
         let to2 : Targets = record { on_break = l; on_continue = l + 1 } in
         let so = stmt_ops d s to2 (l + 2 + labels_in e) (t + temps_in e) in
         let end = Jump (l + 1) ∷ Label l ∷ [] in (
           omega arith,
-          deep_append n m (expr_ops d e (l + 2) t) (BranchZero l ∷ (so ++ end)) h (suc h) h (expr_deep scope inside e built.0 ok.0 (l + 2) t (omega arith) (omega arith) h)
-              ((omega arith, omega arith), deep_append n m so end h h h (stmt_deep scope inside s built.1 ok.1 vs to2 (l + 2 + labels_in e) (t + temps_in e) (omega arith) (omega arith) h) (omega arith, (omega arith, refl))),
+          deep_append n m (expr_ops d e (l + 2) t) (BranchZero l ∷ (so ++ end)) h (suc h) h
+              (expr_deep scope inside e built.0 ok.0 (l + 2) t (omega arith) (omega arith) h) (
+                (omega arith, omega arith),
+                deep_append n m so end h h h
+                    (stmt_deep scope inside s built.1 ok.1 vs to2 (l + 2 + labels_in e) (t + temps_in e) (omega arith)
+                    (omega arith) h) (omega arith, (omega arith, refl)),
+              ),
         )
     stmt_deep scope inside (node.ReturnValue e) built ok vs to l t tn lm h =
-        deep_append n m (expr_ops d e l t) (Return ∷ []) h (suc h) h (expr_deep scope inside e built ok l t tn lm h) (omega arith, refl)
+        deep_append n m (expr_ops d e l t) (Return ∷ []) h (suc h) h (expr_deep scope inside e built ok l t tn lm h)
+        (omega arith, refl)
     stmt_deep scope inside _ built ok vs to l t tn lm h = absurd built
 
-    pub items_deep : (scope : Scope) → Within scope src → (is : Items) → AreBuiltItems is → AreScopedItems scope is → variables_of is ≤ src → (to : Targets) (l t : ℕ) → t + temps_of is ≤ n → l + labels_of is ≤ m → (h : ℕ) → DeepTo n m (items_ops d is to l t) h h
+    pub items_deep : (scope : Scope) → Within scope src → (is : Items) → AreBuiltItems is → AreScopedItems scope is →
+        variables_of is ≤ src → (to : Targets) (l t : ℕ) → t + temps_of is ≤ n → l + labels_of is ≤ m → (h : ℕ) →
+        DeepTo n m (items_ops d is to l t) h h
     items_deep scope inside node.NoItem built ok vs to l t tn lm h = refl
     items_deep scope inside (node.Item s is) built ok vs to l t tn lm h =
         deep_append n m (stmt_ops d s to l t) _ h h h
-        (stmt_deep scope inside s built.0 ok.0 (max_left (variables_in s) (variables_of is) src vs) to l t (omega arith) (omega arith) h)
-        (items_deep (scope_of s scope) (within_stmt s scope src (max_left (variables_in s) (variables_of is) src vs) inside) is built.1 ok.1 (max_right (variables_in s) (variables_of is) src vs) to (l + labels s) (t + temps s) (omega arith) (omega arith) h)
+        (stmt_deep scope inside s built.0 ok.0 (max_left (variables_in s) (variables_of is) src vs) to l t (omega arith)
+        (omega arith) h)
+        (items_deep (scope_of s scope)
+        (within_stmt s scope src (max_left (variables_in s) (variables_of is) src vs) inside) is built.1 ok.1
+        (max_right (variables_in s) (variables_of is) src vs) to (l + labels s) (t + temps s) (omega arith)
+        (omega arith) h)
 
 module _ (d : Addresses) where
   pub expr_total : (e : Expr) → IsBuilt e → (l t : ℕ) → total (expr_ops d e l t) ≤ 12 * size_of_expr e
   expr_total (node.Const w) built l t = omega arith
   expr_total (node.Var i) built l t = omega arith
-  expr_total (node.SetVar i a) built l t = omega (arith, expr_total a built l t, total_append (expr_ops d a l t) (SetVariable i ∷ []))
-  expr_total (node.Lib library.Putchar a) built l t = omega (arith, expr_total a built l t, total_append (expr_ops d a l t) (Sys sys.PutByte ∷ []))
+  expr_total (node.SetVar i a) built l t =
+      omega (arith, expr_total a built l t, total_append (expr_ops d a l t) (SetVariable i ∷ []))
+  expr_total (node.Lib library.Putchar a) built l t =
+      omega (arith, expr_total a built l t, total_append (expr_ops d a l t) (Sys sys.PutByte ∷ []))
   expr_total (node.Bin k x y) built l t =
       let yo = expr_ops d y (l + labels_in x) (t + temps_in x) in
-      omega (arith, expr_total x built.0 l t, expr_total y built.1 (l + labels_in x) (t + temps_in x), total_append (expr_ops d x l t) (yo ++ Bin k ∷ []), total_append yo (Bin k ∷ []), few_checks (check_of k))
+      omega (
+        arith,
+        expr_total x built.0 l t,
+        expr_total y built.1 (l + labels_in x) (t + temps_in x),
+        total_append (expr_ops d x l t) (yo ++ Bin k ∷ []),
+        total_append yo (Bin k ∷ []),
+        few_checks (check_of k),
+      )
   expr_total _ built l t = absurd built
 
   mutual
-    pub stmt_total : (s : Stmt) → IsBuiltStmt s → (to : Targets) (l t : ℕ) → total (stmt_ops d s to l t) ≤ 12 * size_of_stmt s
+    pub stmt_total : (s : Stmt) → IsBuiltStmt s → (to : Targets) (l t : ℕ) →
+        total (stmt_ops d s to l t) ≤ 12 * size_of_stmt s
     stmt_total (node.Eval e) built to l t =
-        subst (λ z. total (expr_ops d e l t ++ dropping z) ≤ 12 * size_of_stmt (node.Eval e)) (sym (built_value d e built))
+        subst (λ z. total (expr_ops d e l t ++ dropping z) ≤ 12 * size_of_stmt (node.Eval e))
+        (sym (built_value d e built))
         (omega (arith, expr_total e built l t, total_append (expr_ops d e l t) (Drop ∷ [])))
     stmt_total (node.Block vars items) built to l t =
-        omega (arith, items_total vars built.0 to l t, items_total items built.1 to (l + labels_of vars) (t + temps_of vars), total_append (items_ops d vars to l t) (items_ops d items to (l + labels_of vars) (t + temps_of vars)))
+        omega (
+          arith,
+          items_total vars built.0 to l t,
+          items_total items built.1 to (l + labels_of vars) (t + temps_of vars),
+          total_append (items_ops d vars to l t) (items_ops d items to (l + labels_of vars) (t + temps_of vars)),
+        )
     stmt_total (node.Variable i) built to l t = omega arith
     stmt_total (node.If e s) built to l t =
         let so = stmt_ops d s to (l + 1 + labels_in e) (t + temps_in e) in
-        omega (arith, expr_total e built.0 (l + 1) t, stmt_total s built.1 to (l + 1 + labels_in e) (t + temps_in e), total_append (expr_ops d e (l + 1) t) (BranchZero l ∷ (so ++ Label l ∷ [])), total_append so (Label l ∷ []))
+        omega (
+          arith,
+          expr_total e built.0 (l + 1) t,
+          stmt_total s built.1 to (l + 1 + labels_in e) (t + temps_in e),
+          total_append (expr_ops d e (l + 1) t) (BranchZero l ∷ (so ++ Label l ∷ [])),
+          total_append so (Label l ∷ []),
+        )
     stmt_total (node.IfElse e s r) built to l t =
         let l2 = l + 2 + labels_in e in
         let t2 = t + temps_in e in
         let so = stmt_ops d s to l2 t2 in
         let ro = stmt_ops d r to (l2 + labels s) (t2 + temps s) in
         let tail = Jump (l + 1) ∷ Label l ∷ (ro ++ Label (l + 1) ∷ []) in
-        omega (arith, expr_total e built.0 (l + 2) t, stmt_total s built.1 to l2 t2, stmt_total r built.2 to (l2 + labels s) (t2 + temps s), total_append (expr_ops d e (l + 2) t) (BranchZero l ∷ (so ++ tail)), total_append so tail, total_append ro (Label (l + 1) ∷ []))
+        omega (
+          arith,
+          expr_total e built.0 (l + 2) t,
+          stmt_total s built.1 to l2 t2,
+          stmt_total r built.2 to (l2 + labels s) (t2 + temps s),
+          total_append (expr_ops d e (l + 2) t) (BranchZero l ∷ (so ++ tail)),
+          total_append so tail,
+          total_append ro (Label (l + 1) ∷ []),
+        )
     stmt_total (node.While e s) built to l t =
         let to2 : Targets = record { on_break = l; on_continue = l + 1 } in
         let so = stmt_ops d s to2 (l + 2 + labels_in e) (t + temps_in e) in
         let end = Jump (l + 1) ∷ Label l ∷ [] in
-        omega (arith, expr_total e built.0 (l + 2) t, stmt_total s built.1 to2 (l + 2 + labels_in e) (t + temps_in e), total_append (expr_ops d e (l + 2) t) (BranchZero l ∷ (so ++ end)), total_append so end)
-    stmt_total (node.ReturnValue e) built to l t = omega (arith, expr_total e built l t, total_append (expr_ops d e l t) (Return ∷ []))
+        omega (
+          arith,
+          expr_total e built.0 (l + 2) t,
+          stmt_total s built.1 to2 (l + 2 + labels_in e) (t + temps_in e),
+          total_append (expr_ops d e (l + 2) t) (BranchZero l ∷ (so ++ end)),
+          total_append so end,
+        )
+    stmt_total (node.ReturnValue e) built to l t =
+        omega (arith, expr_total e built l t, total_append (expr_ops d e l t) (Return ∷ []))
     stmt_total _ built to l t = absurd built
 
-    pub items_total : (is : Items) → AreBuiltItems is → (to : Targets) (l t : ℕ) → total (items_ops d is to l t) ≤ 12 * size_of_items is
+    pub items_total : (is : Items) → AreBuiltItems is → (to : Targets) (l t : ℕ) →
+        total (items_ops d is to l t) ≤ 12 * size_of_items is
     items_total node.NoItem built to l t = omega arith
     items_total (node.Item s is) built to l t =
-        omega (arith, stmt_total s built.0 to l t, items_total is built.1 to (l + labels s) (t + temps s), total_append (stmt_ops d s to l t) (items_ops d is to (l + labels s) (t + temps s)))
+        omega (
+          arith,
+          stmt_total s built.0 to l t,
+          items_total is built.1 to (l + labels s) (t + temps s),
+          total_append (stmt_ops d s to l t) (items_ops d is to (l + labels s) (t + temps s)),
+        )

@@ -1,5 +1,6 @@
 -- A function's code: the builder takes its lowering, and what comes of it is what the lowering issues.
-use Rattle.std.proofs.Common.{◌≡◌, ℕ, ◌+◌, ◌-◌, ◌≤◌, ◌≢◌, Bool, true, false, List, [], ◌∷◌, ◌++◌, length, Option, Some, None, refl, sym, ap, ◌∙◌, subst, arith, append_assoc}
+use Rattle.std.proofs.Common.{◌≡◌, ℕ, ◌+◌, ◌-◌, ◌≤◌, ◌≢◌, Bool, true, false, List, [], ◌∷◌, ◌++◌, length, Option, Some}
+use Rattle.std.proofs.Common.{None, refl, sym, ap, ◌∙◌, subst, arith, append_assoc}
 use Rattle.std.specs.Prelude.{slice_get, take, nat_le, not, ◌&&◌, ◌||◌, ◌==◌, if◌then◌else◌}
 use Rattle.std.specs.List.{list_any}
 use Rattle.std.proofs.lemmas.Bool.{le-leb}
@@ -24,9 +25,11 @@ use Rattle.tick_lower_proof.proofs.Uprights.{upright, upright_length}
 use Rattle.tick_lower_proof.proofs.Takes.{Matches}
 use Rattle.tick_lower_proof.proofs.Registers.{Within}
 use Rattle.tick_lower_proof.proofs.Deep.{DeepTo, stmt_deep, stmt_total}
-use Rattle.tick_lower_proof.proofs.Labels.{OnLabel, Every, every_weaken, Distinct, distinct_append, label_of, stmt_numbered}
+use Rattle.tick_lower_proof.proofs.Labels.{OnLabel, Every, every_weaken, Distinct, distinct_append, label_of}
+use Rattle.tick_lower_proof.proofs.Labels.{stmt_numbered}
 use Rattle.tick_lower_proof.proofs.Aims.{aim_of, HasLabel, stmt_aims}
-use Rattle.tick_lower_proof.proofs.Issues.{issue, place_all, stands_all, last_stands, issue_labels, issue_aims, issue_distinct, issue_stands, all_labelled}
+use Rattle.tick_lower_proof.proofs.Issues.{issue, place_all, stands_all, last_stands, issue_labels, issue_aims}
+use Rattle.tick_lower_proof.proofs.Issues.{issue_distinct, issue_stands, all_labelled}
 use Rattle.tick_lower_proof.proofs.Accepts.{Accepted, accepts}
 use Rattle.tick_lower_proof.proofs.Counts.{few_temps, few_labels}
 use Rattle.tick_lower_proof.proofs.Calls.{start, IsCode}
@@ -63,7 +66,8 @@ nothing_stands (o ∷ os) L = (on (label_of o), nothing_stands os L)
     on (Some i) = refl
 
 -- where each jump's label stands, no label is open
-closed_any : (body : Body) (all ops : List Op) → Every goes_to (λ l. stands l all ≡ true) ops → list_any (λ o. is_open body all (goes_to o)) ops ≡ false
+closed_any : (body : Body) (all ops : List Op) → Every goes_to (λ l. stands l all ≡ true) ops →
+    list_any (λ o. is_open body all (goes_to o)) ops ≡ false
 closed_any body all [] h = refl
 closed_any body all (o ∷ ops) h =
     ap (λ z. z || list_any (λ o. is_open body all (goes_to o)) ops) (one (goes_to o) h.0) ∙ closed_any body all ops h.1
@@ -104,7 +108,8 @@ module _ (d : Addresses) (function : node.Function) (ready : IsReady function) w
       let small_n : 0 + n ≤ 196608 = omega (arith, ready.small, ready.dense, few_temps function.body) in
       let small_m : 0 + m ≤ 196608 = omega (arith, ready.small, few_labels function.body) in
       let room : has_body_room n m b0 ≡ true =
-      ap (λ z. nat_le 1 196608 && (z && nat_le (0 + m) 196608)) (le-leb (0 + n) 196608 small_n) ∙ le-leb (0 + m) 196608 small_m in
+      ap (λ z. nat_le 1 196608 && (z && nat_le (0 + m) 196608)) (le-leb (0 + n) 196608 small_n) ∙
+      le-leb (0 + m) 196608 small_m in
       ap (λ z. if z then None else Some Full) room
 
   entered_matches : Matches b1 opened
@@ -114,7 +119,8 @@ module _ (d : Addresses) (function : node.Function) (ready : IsReady function) w
   inside = record { at = λ i h. absurd cc }
 
   deep : DeepTo n m body_ops 0 0
-  deep = stmt_deep d src n m (omega arith) no_scope inside function.body ready.built ready.scoped (omega arith) nowhere 0 src (omega arith) (omega arith) 0
+  deep = stmt_deep d src n m (omega arith) no_scope inside function.body ready.built ready.scoped (omega arith) nowhere
+      0 src (omega arith) (omega arith) 0
 
   body_taken : Accepted body_ops 0 b1 opened
   body_taken =
@@ -148,7 +154,8 @@ module _ (d : Addresses) (function : node.Function) (ready : IsReady function) w
 
   leave_ok : fault_of Leave b2 ≡ None
   leave_ok =
-      let closed_all : has_open (innermost b2) b2.ops ≡ false = ap (has_open (innermost b2)) b2_ops ∙ closed_any (innermost b2) issues issues aims_stand in
+      let closed_all : has_open (innermost b2) b2.ops ≡ false =
+      ap (has_open (innermost b2)) b2_ops ∙ closed_any (innermost b2) issues issues aims_stand in
       ap (λ z. if z then Some BadLabel else (if length b2.bodies == 0 then Some BadVariable else None)) closed_all
       ∙ ap (λ z. if length z == 0 then Some BadVariable else None) b2_bodies
 
@@ -162,7 +169,8 @@ module _ (d : Addresses) (function : node.Function) (ready : IsReady function) w
   pub accepted : IsAccepted d function
   accepted = record {
     taken = (entered_ok, taken_append body_ops (Leave ∷ []) b1 body_taken.taken (leave_ok, tt));
-    no_operands = ap (λ z. z.operands) whole_is ∙ no_list b2.operands (ap length body_taken.matches.operands ∙ upright_length closed.operands ∙ body_taken.height);
+    no_operands = ap (λ z. z.operands) whole_is ∙
+        no_list b2.operands (ap length body_taken.matches.operands ∙ upright_length closed.operands ∙ body_taken.height);
     no_bodies = ap (λ z. z.bodies) whole_is ∙ ap (λ z. take (length z - 1) z) b2_bodies;
   }
 
@@ -175,12 +183,15 @@ module _ (d : Addresses) (function : node.Function) (ready : IsReady function) w
 
   issued_apart : Distinct flow.label_of (issue (body_ops ++ Leave ∷ []) opened ++ op.ReturnZero ∷ [])
   issued_apart =
-      let same : issue (body_ops ++ Leave ∷ []) opened ≡ issues = issue_append body_ops (Leave ∷ []) opened ∙ no_more issues in
+      let same : issue (body_ops ++ Leave ∷ []) opened ≡ issues =
+      issue_append body_ops (Leave ∷ []) opened ∙ no_more issues in
       subst (λ z. Distinct flow.label_of (z ++ op.ReturnZero ∷ [])) (sym same)
       (distinct_append flow.label_of issues (op.ReturnZero ∷ [])
-      (issue_distinct n m 0 body_ops 0 0 opened refl deep (stmt_numbered d function.body ready.built nowhere 0 src).distinct)
+      (issue_distinct n m 0 body_ops 0 0 opened refl deep
+      (stmt_numbered d function.body ready.built nowhere 0 src).distinct)
       (tt, tt)
-      (issue_labels n m 0 (λ l. Every flow.label_of (λ k. k ≢ l) (op.ReturnZero ∷ [])) body_ops 0 0 opened refl deep (every_one body_ops)))
+      (issue_labels n m 0 (λ l. Every flow.label_of (λ k. k ≢ l) (op.ReturnZero ∷ [])) body_ops 0 0 opened refl deep
+      (every_one body_ops)))
     where
       every_one : (os : List BuildOp) → Every label_of (λ i. Unit {0} × Unit {0}) os
       every_one [] = tt
@@ -197,6 +208,7 @@ module _ (d : Addresses) (function : node.Function) (ready : IsReady function) w
       subst (IsCode d function) (sym code_is)
       (record {
         stands = (tt, stands_all os opened [] (op.ReturnZero ∷ []) refl);
-        last = let e : length I ≡ (after_ops os opened).place = omega (arith, place_all os opened) in subst (λ z. slice_get (I ++ op.ReturnZero ∷ []) z ≡ Some op.ReturnZero) e (last_stands I op.ReturnZero);
+        last = let e : length I ≡ (after_ops os opened).place = omega (arith, place_all os opened) in
+            subst (λ z. slice_get (I ++ op.ReturnZero ∷ []) z ≡ Some op.ReturnZero) e (last_stands I op.ReturnZero);
         labelled = all_labelled (I ++ op.ReturnZero ∷ []) issued_apart;
       })

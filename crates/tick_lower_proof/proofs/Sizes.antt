@@ -1,12 +1,14 @@
 -- How many ops and registers the lowering of a function has.
-use Rattle.std.proofs.Common.{◌≡◌, ℕ, ◌+◌, ◌*◌, ◌≤◌, List, [], ◌∷◌, ◌++◌, length, refl, sym, subst, arith, length-append}
+use Rattle.std.proofs.Common.{◌≡◌, ℕ, ◌+◌, ◌*◌, ◌≤◌, List, [], ◌∷◌, ◌++◌, length, refl, sym, subst, arith}
+use Rattle.std.proofs.Common.{length-append}
 use Rattle.icode_ops.specs.declared.op.Op.{Op}
 use Rattle.icode_ops.specs.declared.op.Op.TheVariants as op
 use Rattle.icode_ops.specs.declared.kind.BinKind.{BinKind}
 use Rattle.icode_ops.specs.declared.kind.BinKind.TheVariants as bin
 use Rattle.icode_ops.specs.declared.kind.SysKind.TheVariants as sys
 use Rattle.icode_ir.specs.declared.build_op.BuildOp.{BuildOp}
-use Rattle.icode_ir.specs.declared.build_op.BuildOp.TheVariants.{Const, Bin, Enter, Leave, GetVariable, SetVariable, Drop, Label, Jump, BranchZero, Return, Sys}
+use Rattle.icode_ir.specs.declared.build_op.BuildOp.TheVariants.{Const, Bin, Enter, Leave, GetVariable, SetVariable}
+use Rattle.icode_ir.specs.declared.build_op.BuildOp.TheVariants.{Drop, Label, Jump, BranchZero, Return, Sys}
 use Rattle.icode_ir.specs.Build.{Build, empty, operand, finished}
 use Rattle.icode_ir.specs.Rules.{effect}
 use Rattle.icode_ir.specs.Runs.{run_ops}
@@ -16,9 +18,11 @@ use Rattle.icode_ir.proofs.Wholes.{whole}
 use Rattle.typed_tree.specs.Nodes as node
 use Rattle.typed_tree.specs.declared.expression.Library.TheVariants as library
 use Rattle.typed_tree.specs.Nodes.{Expr, Stmt, Items, has_value}
-use Rattle.staged_meaning.specs.Size.{size_of, size_of_expr, size_of_stmt, size_of_items, labels, labels_in, labels_of, temps, temps_in, temps_of, variables_in}
+use Rattle.staged_meaning.specs.Size.{size_of, size_of_expr, size_of_stmt, size_of_items, labels, labels_in, labels_of}
+use Rattle.staged_meaning.specs.Size.{temps, temps_in, temps_of, variables_in}
 use Rattle.staged_meaning.specs.Scope.{no_scope, IsBuilt, IsBuiltStmt, AreBuiltItems, IsReady}
-use Rattle.tick_lower_proof.specs.Lower.{Addresses, expr_ops, Targets, stmt_ops, items_ops, nowhere, function_ops, dropping}
+use Rattle.tick_lower_proof.specs.Lower.{Addresses, expr_ops, Targets, stmt_ops, items_ops, nowhere, function_ops}
+use Rattle.tick_lower_proof.specs.Lower.{dropping}
 use Rattle.tick_lower_proof.specs.Laws.{IsSmall}
 use Rattle.tick_lower_proof.proofs.Takes.{Takes}
 use Rattle.tick_lower_proof.proofs.Pushes.{built_value}
@@ -54,25 +58,79 @@ one_more : (ops : List Op) (o : Op) → length (ops ++ o ∷ []) ≡ length ops 
 one_more ops o = length-append ops (o ∷ [])
 
 bin_adds : (kind : BinKind) (b : Build) → Adds (Bin kind) b (effect (Bin kind) b)
-bin_adds bin.DivideSigned b = record { ops = omega (arith, one_more (b.ops ++ op.CheckDivision (operand 1 b) (operand 0 b) ∷ []) (op.Bin bin.DivideSigned b.registers (operand 1 b) (operand 0 b)), one_more b.ops (op.CheckDivision (operand 1 b) (operand 0 b))); registers = refl }
-bin_adds bin.DivideUnsigned b = record { ops = omega (arith, one_more (b.ops ++ op.CheckZero (operand 0 b) ∷ []) (op.Bin bin.DivideUnsigned b.registers (operand 1 b) (operand 0 b)), one_more b.ops (op.CheckZero (operand 0 b))); registers = refl }
-bin_adds bin.RemainderSigned b = record { ops = omega (arith, one_more (b.ops ++ op.CheckDivision (operand 1 b) (operand 0 b) ∷ []) (op.Bin bin.RemainderSigned b.registers (operand 1 b) (operand 0 b)), one_more b.ops (op.CheckDivision (operand 1 b) (operand 0 b))); registers = refl }
-bin_adds bin.RemainderUnsigned b = record { ops = omega (arith, one_more (b.ops ++ op.CheckZero (operand 0 b) ∷ []) (op.Bin bin.RemainderUnsigned b.registers (operand 1 b) (operand 0 b)), one_more b.ops (op.CheckZero (operand 0 b))); registers = refl }
-bin_adds kind b = record { ops = omega (arith, one_more b.ops (op.Bin kind b.registers (operand 1 b) (operand 0 b))); registers = refl }
+bin_adds bin.DivideSigned b =
+    record {
+      ops = omega (
+        arith,
+        one_more (b.ops ++ op.CheckDivision (operand 1 b) (operand 0 b) ∷ [])
+            (op.Bin bin.DivideSigned b.registers (operand 1 b) (operand 0 b)),
+        one_more b.ops (op.CheckDivision (operand 1 b) (operand 0 b)),
+      );
+      registers = refl;
+    }
+bin_adds bin.DivideUnsigned b =
+    record {
+      ops = omega (
+        arith,
+        one_more (b.ops ++ op.CheckZero (operand 0 b) ∷ [])
+            (op.Bin bin.DivideUnsigned b.registers (operand 1 b) (operand 0 b)),
+        one_more b.ops (op.CheckZero (operand 0 b)),
+      );
+      registers = refl;
+    }
+bin_adds bin.RemainderSigned b =
+    record {
+      ops = omega (
+        arith,
+        one_more (b.ops ++ op.CheckDivision (operand 1 b) (operand 0 b) ∷ [])
+            (op.Bin bin.RemainderSigned b.registers (operand 1 b) (operand 0 b)),
+        one_more b.ops (op.CheckDivision (operand 1 b) (operand 0 b)),
+      );
+      registers = refl;
+    }
+bin_adds bin.RemainderUnsigned b =
+    record {
+      ops = omega (
+        arith,
+        one_more (b.ops ++ op.CheckZero (operand 0 b) ∷ [])
+            (op.Bin bin.RemainderUnsigned b.registers (operand 1 b) (operand 0 b)),
+        one_more b.ops (op.CheckZero (operand 0 b)),
+      );
+      registers = refl;
+    }
+bin_adds kind b = record {
+  ops = omega (arith, one_more b.ops (op.Bin kind b.registers (operand 1 b) (operand 0 b)));
+  registers = refl;
+}
 
 adds : (o : BuildOp) (b : Build) → IsUsed o → Adds o b (effect o b)
 adds (Const word) b used = record { ops = omega (arith, one_more b.ops (op.Const b.registers word)); registers = refl }
 adds (Bin kind) b used = bin_adds kind b
 adds (Enter n m) b used = record { ops = omega arith; registers = refl }
 adds Leave b used = record { ops = omega arith; registers = omega arith }
-adds (GetVariable i) b used = record { ops = omega (arith, one_more b.ops (op.Move b.registers (Rattle.icode_ir.specs.Build.variable i b))); registers = refl }
-adds (SetVariable i) b used = record { ops = omega (arith, one_more b.ops (op.Move (Rattle.icode_ir.specs.Build.variable i b) (operand 0 b))); registers = omega arith }
+adds (GetVariable i) b used =
+    record {
+      ops = omega (arith, one_more b.ops (op.Move b.registers (Rattle.icode_ir.specs.Build.variable i b)));
+      registers = refl;
+    }
+adds (SetVariable i) b used =
+    record {
+      ops = omega (arith, one_more b.ops (op.Move (Rattle.icode_ir.specs.Build.variable i b) (operand 0 b)));
+      registers = omega arith;
+    }
 adds Drop b used = record { ops = omega arith; registers = omega arith }
-adds (Label i) b used = record { ops = omega (arith, one_more b.ops (op.Label (Rattle.icode_ir.specs.Build.label i b))); registers = omega arith }
-adds (Jump i) b used = record { ops = omega (arith, one_more b.ops (op.Jump (Rattle.icode_ir.specs.Build.label i b))); registers = omega arith }
-adds (BranchZero i) b used = record { ops = omega (arith, one_more b.ops (op.BranchZero (operand 0 b) (Rattle.icode_ir.specs.Build.label i b))); registers = omega arith }
+adds (Label i) b used = record
+    { ops = omega (arith, one_more b.ops (op.Label (Rattle.icode_ir.specs.Build.label i b))); registers = omega arith }
+adds (Jump i) b used = record
+    { ops = omega (arith, one_more b.ops (op.Jump (Rattle.icode_ir.specs.Build.label i b))); registers = omega arith }
+adds (BranchZero i) b used =
+    record {
+      ops = omega (arith, one_more b.ops (op.BranchZero (operand 0 b) (Rattle.icode_ir.specs.Build.label i b)));
+      registers = omega arith;
+    }
 adds Return b used = record { ops = omega (arith, one_more b.ops (op.Return (operand 0 b))); registers = omega arith }
-adds (Sys kind) b used = record { ops = omega (arith, one_more b.ops (op.Sys kind b.registers (operand 0 b))); registers = refl }
+adds (Sys kind) b used = record
+    { ops = omega (arith, one_more b.ops (op.Sys kind b.registers (operand 0 b))); registers = refl }
 adds _ b used = absurd used
 
 pub record AddsAll (os : List BuildOp) (b : Build) : Type 0 where
@@ -102,18 +160,27 @@ used_of n m _ h ok = absurd ok
 
 all_used : (n m : ℕ) (os : List BuildOp) (h h' : ℕ) → DeepTo n m os h h' → Each IsUsed os
 all_used n m [] h h' deep = tt
-all_used n m (o ∷ os) h h' deep = (used_of n m o h deep.0, all_used n m os (Rattle.tick_lower_proof.proofs.Deep.height o h) h' deep.1)
+all_used n m (o ∷ os) h h' deep =
+    (used_of n m o h deep.0, all_used n m os (Rattle.tick_lower_proof.proofs.Deep.height o h) h' deep.1)
 
 -- at most one register a node, beside the variables
 module _ (d : Addresses) where
   expr_made : (e : Expr) → IsBuilt e → (l t : ℕ) → made (expr_ops d e l t) ≤ size_of_expr e
   expr_made (node.Const w) built l t = omega arith
   expr_made (node.Var i) built l t = omega arith
-  expr_made (node.SetVar i a) built l t = omega (arith, expr_made a built l t, made_append (expr_ops d a l t) (SetVariable i ∷ []))
-  expr_made (node.Lib library.Putchar a) built l t = omega (arith, expr_made a built l t, made_append (expr_ops d a l t) (Sys sys.PutByte ∷ []))
+  expr_made (node.SetVar i a) built l t =
+      omega (arith, expr_made a built l t, made_append (expr_ops d a l t) (SetVariable i ∷ []))
+  expr_made (node.Lib library.Putchar a) built l t =
+      omega (arith, expr_made a built l t, made_append (expr_ops d a l t) (Sys sys.PutByte ∷ []))
   expr_made (node.Bin k x y) built l t =
       let yo = expr_ops d y (l + labels_in x) (t + temps_in x) in
-      omega (arith, expr_made x built.0 l t, expr_made y built.1 (l + labels_in x) (t + temps_in x), made_append (expr_ops d x l t) (yo ++ Bin k ∷ []), made_append yo (Bin k ∷ []))
+      omega (
+        arith,
+        expr_made x built.0 l t,
+        expr_made y built.1 (l + labels_in x) (t + temps_in x),
+        made_append (expr_ops d x l t) (yo ++ Bin k ∷ []),
+        made_append yo (Bin k ∷ []),
+      )
   expr_made _ built l t = absurd built
 
   mutual
@@ -122,30 +189,62 @@ module _ (d : Addresses) where
         subst (λ z. made (expr_ops d e l t ++ dropping z) ≤ size_of_stmt (node.Eval e)) (sym (built_value d e built))
         (omega (arith, expr_made e built l t, made_append (expr_ops d e l t) (Drop ∷ [])))
     stmt_made (node.Block vars items) built to l t =
-        omega (arith, items_made vars built.0 to l t, items_made items built.1 to (l + labels_of vars) (t + temps_of vars), made_append (items_ops d vars to l t) (items_ops d items to (l + labels_of vars) (t + temps_of vars)))
+        omega (
+          arith,
+          items_made vars built.0 to l t,
+          items_made items built.1 to (l + labels_of vars) (t + temps_of vars),
+          made_append (items_ops d vars to l t) (items_ops d items to (l + labels_of vars) (t + temps_of vars)),
+        )
     stmt_made (node.Variable i) built to l t = omega arith
     stmt_made (node.If e s) built to l t =
         let so = stmt_ops d s to (l + 1 + labels_in e) (t + temps_in e) in
-        omega (arith, expr_made e built.0 (l + 1) t, stmt_made s built.1 to (l + 1 + labels_in e) (t + temps_in e), made_append (expr_ops d e (l + 1) t) (BranchZero l ∷ (so ++ Label l ∷ [])), made_append so (Label l ∷ []))
+        omega (
+          arith,
+          expr_made e built.0 (l + 1) t,
+          stmt_made s built.1 to (l + 1 + labels_in e) (t + temps_in e),
+          made_append (expr_ops d e (l + 1) t) (BranchZero l ∷ (so ++ Label l ∷ [])),
+          made_append so (Label l ∷ []),
+        )
     stmt_made (node.IfElse e s r) built to l t =
         let l2 = l + 2 + labels_in e in
         let t2 = t + temps_in e in
         let so = stmt_ops d s to l2 t2 in
         let ro = stmt_ops d r to (l2 + labels s) (t2 + temps s) in
         let tail = Jump (l + 1) ∷ Label l ∷ (ro ++ Label (l + 1) ∷ []) in
-        omega (arith, expr_made e built.0 (l + 2) t, stmt_made s built.1 to l2 t2, stmt_made r built.2 to (l2 + labels s) (t2 + temps s), made_append (expr_ops d e (l + 2) t) (BranchZero l ∷ (so ++ tail)), made_append so tail, made_append ro (Label (l + 1) ∷ []))
+        omega (
+          arith,
+          expr_made e built.0 (l + 2) t,
+          stmt_made s built.1 to l2 t2,
+          stmt_made r built.2 to (l2 + labels s) (t2 + temps s),
+          made_append (expr_ops d e (l + 2) t) (BranchZero l ∷ (so ++ tail)),
+          made_append so tail,
+          made_append ro (Label (l + 1) ∷ []),
+        )
     stmt_made (node.While e s) built to l t =
         let to2 : Targets = record { on_break = l; on_continue = l + 1 } in
         let so = stmt_ops d s to2 (l + 2 + labels_in e) (t + temps_in e) in
         let end = Jump (l + 1) ∷ Label l ∷ [] in
-        omega (arith, expr_made e built.0 (l + 2) t, stmt_made s built.1 to2 (l + 2 + labels_in e) (t + temps_in e), made_append (expr_ops d e (l + 2) t) (BranchZero l ∷ (so ++ end)), made_append so end)
-    stmt_made (node.ReturnValue e) built to l t = omega (arith, expr_made e built l t, made_append (expr_ops d e l t) (Return ∷ []))
+        omega (
+          arith,
+          expr_made e built.0 (l + 2) t,
+          stmt_made s built.1 to2 (l + 2 + labels_in e) (t + temps_in e),
+          made_append (expr_ops d e (l + 2) t) (BranchZero l ∷ (so ++ end)),
+          made_append so end,
+        )
+    stmt_made (node.ReturnValue e) built to l t =
+        omega (arith, expr_made e built l t, made_append (expr_ops d e l t) (Return ∷ []))
     stmt_made _ built to l t = absurd built
 
-    items_made : (is : Items) → AreBuiltItems is → (to : Targets) (l t : ℕ) → made (items_ops d is to l t) ≤ size_of_items is
+    items_made : (is : Items) → AreBuiltItems is → (to : Targets) (l t : ℕ) →
+        made (items_ops d is to l t) ≤ size_of_items is
     items_made node.NoItem built to l t = omega arith
     items_made (node.Item s is) built to l t =
-        omega (arith, stmt_made s built.0 to l t, items_made is built.1 to (l + labels s) (t + temps s), made_append (stmt_ops d s to l t) (items_ops d is to (l + labels s) (t + temps s)))
+        omega (
+          arith,
+          stmt_made s built.0 to l t,
+          items_made is built.1 to (l + labels s) (t + temps s),
+          made_append (stmt_ops d s to l t) (items_ops d is to (l + labels s) (t + temps s)),
+        )
 
 module _ (d : Addresses) (function : node.Function) (ready : IsReady function) where
   abbrev n : ℕ
@@ -165,7 +264,8 @@ module _ (d : Addresses) (function : node.Function) (ready : IsReady function) w
     tt,
     Each-append IsUsed body_ops (Leave ∷ [])
         (all_used n (labels function.body) body_ops 0 0
-        (stmt_deep d (variables_in function.body) n (labels function.body) (omega arith) no_scope inside function.body ready.built ready.scoped (omega arith) nowhere 0 (variables_in function.body) (omega arith) (omega arith) 0))
+        (stmt_deep d (variables_in function.body) n (labels function.body) (omega arith) no_scope inside function.body
+        ready.built ready.scoped (omega arith) nowhere 0 (variables_in function.body) (omega arith) (omega arith) 0))
         (tt, tt),
   )
 
@@ -173,14 +273,31 @@ module _ (d : Addresses) (function : node.Function) (ready : IsReady function) w
   counts = adds_all (function_ops d function) (empty function.parameters) used
 
   few_total : total (function_ops d function) ≤ 12 * size_of function
-  few_total = omega (arith, stmt_total d function.body ready.built nowhere 0 (variables_in function.body), total_append body_ops (Leave ∷ []))
+  few_total = omega (
+    arith,
+    stmt_total d function.body ready.built nowhere 0 (variables_in function.body),
+    total_append body_ops (Leave ∷ []),
+  )
 
   few_made : made (function_ops d function) ≤ 12 * size_of function
-  few_made = omega (arith, stmt_made d function.body ready.built nowhere 0 (variables_in function.body), made_append body_ops (Leave ∷ []), ready.dense, few_temps function.body)
+  few_made = omega (
+    arith,
+    stmt_made d function.body ready.built nowhere 0 (variables_in function.body),
+    made_append body_ops (Leave ∷ []),
+    ready.dense,
+    few_temps function.body,
+  )
 
   pub small : IsSmall d function
   small = record {
-    finished = whole built (run_sound (function_ops d function) (empty function.parameters) used (accepted d function ready).taken (empty_sound function.parameters)) (accepted d function ready).no_bodies;
-    few_ops = omega (arith, length-append (built.prelude ++ built.ops) (op.ReturnZero ∷ []), length-append built.prelude built.ops, counts.ops, few_total);
+    finished = whole built (run_sound (function_ops d function) (empty function.parameters) used
+        (accepted d function ready).taken (empty_sound function.parameters)) (accepted d function ready).no_bodies;
+    few_ops = omega (
+      arith,
+      length-append (built.prelude ++ built.ops) (op.ReturnZero ∷ []),
+      length-append built.prelude built.ops,
+      counts.ops,
+      few_total,
+    );
     few_registers = omega (arith, counts.registers, few_made);
   }

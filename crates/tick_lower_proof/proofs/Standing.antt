@@ -47,7 +47,8 @@ pub record Fits (site : Site) (v : View) (stack : List (ℕ × ℕ)) : Type 0 wh
 
 -- The machine stands at a place of the call. The registers of `stack` hold its values. `spare` instructions were paid
 -- that stand for no unit yet, `credit` of its units' instructions are left over, and `debt` were paid beyond them.
-pub record At (site : Site) (from : From) (scope : Scope) (place : ℕ) (stack : List (ℕ × ℕ)) (spare credit debt : ℕ) (w : World) : Type 0 where
+pub record At (site : Site) (from : From) (scope : Scope) (place : ℕ) (stack : List (ℕ × ℕ)) (spare credit debt : ℕ)
+    (w : World) : Type 0 where
   pub regs : Regs
   pub log : Log
   pub goes : Goes site.machine from.state (at_op site.call place regs log)
@@ -78,8 +79,10 @@ Leaves false site from scope v stack spare credit x w = At site from scope v.pla
 abbrev pub ExprRuns : Site → Scope → Expr → Type 0
 ExprRuns site scope e =
     IsScoped scope e → (l t : ℕ) → site.named ≤ t → t + temps_in e ≤ site.size →
-    (v : View) (stack : List (ℕ × ℕ)) → Fits site v stack → Stands site.call.function.ops (expr_ops site.addresses e l t) v →
-    (from : From) (spare credit : ℕ) (w : World) → from.units < site.context.turns → At site from scope v.place stack spare credit 0 w →
+    (v : View) (stack : List (ℕ × ℕ)) → Fits site v stack →
+    Stands site.call.function.ops (expr_ops site.addresses e l t) v →
+    (from : From) (spare credit : ℕ) (w : World) → from.units < site.context.turns →
+    At site from scope v.place stack spare credit 0 w →
     Follows site.machine from
     (Leaves (has_value e) site from scope (after_ops (expr_ops site.addresses e l t) v) stack spare credit)
     (IsBack site from) (eval site.context e w)
@@ -90,18 +93,24 @@ pub record Part (site : Site) (scope : Scope) (e : Expr) : Type 0 where
   pub runs : ExprRuns site scope e
 
 -- behind an expression with a value
-pub fits_pushed : (site : Site) (v v1 : View) (stack : List (ℕ × ℕ)) (x : ℕ) → Pushes v v1 → Fits site v stack → Fits site v1 ((top v1.operands, x) ∷ stack)
+pub fits_pushed : (site : Site) (v v1 : View) (stack : List (ℕ × ℕ)) (x : ℕ) → Pushes v v1 → Fits site v stack →
+    Fits site v1 ((top v1.operands, x) ∷ stack)
 fits_pushed site v v1 stack x p fits =
     let is : top v1.operands ≡ p.operand = ap top p.operands in
     let on : v.next ≤ v1.next = omega (arith, p.fresh, p.used) in
     record {
       bodies_are = p.bodies ∙ fits.bodies_are;
       free = omega (arith, fits.free);
-      below = (omega (arith, is, p.fresh, fits.free), omega (arith, is, p.used), between_more (floor_of site) v.next v1.next stack on fits.below);
+      below = (
+        omega (arith, is, p.fresh, fits.free),
+        omega (arith, is, p.used),
+        between_more (floor_of site) v.next v1.next stack on fits.below,
+      );
     }
 
 -- with no register fewer
-pub fits_on : (site : Site) (v v1 : View) (stack : List (ℕ × ℕ)) → v1.bodies ≡ v.bodies → v.next ≤ v1.next → Fits site v stack → Fits site v1 stack
+pub fits_on : (site : Site) (v v1 : View) (stack : List (ℕ × ℕ)) → v1.bodies ≡ v.bodies → v.next ≤ v1.next →
+    Fits site v stack → Fits site v1 stack
 fits_on site v v1 stack e le fits = record {
   bodies_are = e ∙ fits.bodies_are;
   free = omega (arith, fits.free);
@@ -109,48 +118,137 @@ fits_on site v v1 stack e le fits = record {
 }
 
 -- the machine stands where it stands
-pub stands_at : (site : Site) (scope : Scope) (place : ℕ) (stack : List (ℕ × ℕ)) (r : Regs) (log : Log) (w : World) → AreVars (base_of site.bodies) scope r w.variables → AreHeld r stack → log.shared ≡ w.shared → At site (record { state = at_op site.call place r log; units = w.units; log = log }) scope place stack 0 0 0 w
+pub stands_at : (site : Site) (scope : Scope) (place : ℕ) (stack : List (ℕ × ℕ)) (r : Regs) (log : Log) (w : World) →
+    AreVars (base_of site.bodies) scope r w.variables → AreHeld r stack → log.shared ≡ w.shared →
+    At site (record { state = at_op site.call place r log; units = w.units; log = log }) scope place stack 0 0 0 w
 stands_at site scope place stack r log w are held o =
-    record { regs = r; log = log; goes = goes_none site.machine (at_op site.call place r log); vars = are; held = held; shared_is = o; fewer = omega arith; low = omega arith; high = omega arith }
+    record {
+      regs = r;
+      log = log;
+      goes = goes_none site.machine (at_op site.call place r log);
+      vars = are;
+      held = held;
+      shared_is = o;
+      fewer = omega arith;
+      low = omega arith;
+      high = omega arith;
+    }
 
 module _ (site : Site) (from : From) where
   -- numbers that promise less
-  pub at_less : (scope : Scope) (place : ℕ) (stack : List (ℕ × ℕ)) (spare credit debt spare' credit' debt' : ℕ) (w : World) → spare' ≤ spare → credit' + debt ≤ credit + debt' → At site from scope place stack spare credit debt w → At site from scope place stack spare' credit' debt' w
+  pub at_less : (scope : Scope) (place : ℕ) (stack : List (ℕ × ℕ)) (spare credit debt spare' credit' debt' : ℕ)
+      (w : World) → spare' ≤ spare → credit' + debt ≤ credit + debt' →
+      At site from scope place stack spare credit debt w → At site from scope place stack spare' credit' debt' w
   at_less scope place stack spare credit debt spare' credit' debt' w few enough z =
-      record { regs = z.regs; log = z.log; goes = z.goes; vars = z.vars; held = z.held; shared_is = z.shared_is; fewer = z.fewer; low = omega (arith, z.low); high = omega (arith, z.high) }
+      record {
+        regs = z.regs;
+        log = z.log;
+        goes = z.goes;
+        vars = z.vars;
+        held = z.held;
+        shared_is = z.shared_is;
+        fewer =
+            z.fewer;
+        low = omega (arith, z.low);
+        high = omega (arith, z.high);
+      }
 
   -- fewer variables in scope
-  pub at_narrow : (xs ys : Scope) (place : ℕ) (stack : List (ℕ × ℕ)) (spare credit debt : ℕ) (w : World) → ((i : ℕ) → ys i ≡ true → xs i ≡ true) → At site from xs place stack spare credit debt w → At site from ys place stack spare credit debt w
+  pub at_narrow : (xs ys : Scope) (place : ℕ) (stack : List (ℕ × ℕ)) (spare credit debt : ℕ) (w : World) →
+      ((i : ℕ) → ys i ≡ true → xs i ≡ true) → At site from xs place stack spare credit debt w →
+      At site from ys place stack spare credit debt w
   at_narrow xs ys place stack spare credit debt w wider z =
-      record { regs = z.regs; log = z.log; goes = z.goes; vars = fewer_vars (base_of site.bodies) ys xs z.regs w.variables wider z.vars; held = z.held; shared_is = z.shared_is; fewer = z.fewer; low = z.low; high = z.high }
+      record {
+        regs = z.regs;
+        log = z.log;
+        goes = z.goes;
+        vars =
+            fewer_vars (base_of site.bodies) ys xs z.regs w.variables wider z.vars;
+        held = z.held;
+        shared_is = z.shared_is;
+        fewer = z.fewer;
+        low = z.low;
+        high = z.high;
+      }
 
   -- what was left by an expression that has a value
-  pub has_left : (b : Bool) → b ≡ true → (scope : Scope) (v : View) (stack : List (ℕ × ℕ)) (spare credit : ℕ) (o : Result ℕ) → Follows site.machine from (Leaves b site from scope v stack spare credit) (IsBack site from) o → Follows site.machine from (Leaves true site from scope v stack spare credit) (IsBack site from) o
+  pub has_left : (b : Bool) → b ≡ true →
+      (scope : Scope) (v : View) (stack : List (ℕ × ℕ)) (spare credit : ℕ) (o : Result ℕ) →
+      Follows site.machine from (Leaves b site from scope v stack spare credit) (IsBack site from) o →
+      Follows site.machine from (Leaves true site from scope v stack spare credit) (IsBack site from) o
   has_left b is scope v stack spare credit o h =
       subst (λ z. Follows site.machine from (Leaves z site from scope v stack spare credit) (IsBack site from) o) is h
 
   -- a unit is spent, for which an instruction is spare
-  pub spend_run : {A : Type 0} (scope : Scope) (V : A → World → Type 0) (a : A) (place : ℕ) (stack : List (ℕ × ℕ)) (spare credit debt spare' credit' debt' : ℕ) (w : World) → At site from scope place stack spare credit debt w → spare' + 1 ≤ spare → debt ≤ 2048 → credit' + debt ≤ credit + 512 + debt' → ((w1 : World) → w1.units < w.units → At site from scope place stack spare' credit' debt' w1 → V a w1) → Follows site.machine from V (IsBack site from) (spend a w)
+  pub spend_run : {A : Type 0} (scope : Scope) (V : A → World → Type 0) (a : A) (place : ℕ) (stack : List (ℕ × ℕ))
+      (spare credit debt spare' credit' debt' : ℕ) (w : World) → At site from scope place stack spare credit debt w →
+      spare' + 1 ≤ spare → debt ≤ 2048 → credit' + debt ≤ credit + 512 + debt' →
+      ((w1 : World) → w1.units < w.units → At site from scope place stack spare' credit' debt' w1 → V a w1) →
+      Follows site.machine from V (IsBack site from) (spend a w)
   spend_run scope V a place stack spare credit debt spare' credit' debt' w z few small enough next =
-      spend_follows site.machine from V (IsBack site from) (at_op site.call place z.regs z.log) w.units a w z.goes tt z.shared_is (omega (arith, z.low)) (omega (arith, z.high))
-      (λ m e. next (record w { units = m }) (omega (arith, e)) (record { regs = z.regs; log = z.log; goes = z.goes; vars = z.vars; held = z.held; shared_is = z.shared_is; fewer = omega (arith, e, z.fewer); low = omega (arith, e, z.low); high = omega (arith, e, z.high) }))
+      spend_follows site.machine from V (IsBack site from) (at_op site.call place z.regs z.log) w.units a w z.goes tt
+      z.shared_is (omega (arith, z.low)) (omega (arith, z.high))
+      (λ m e. next (record w { units = m }) (omega (arith, e))
+      (record {
+        regs = z.regs;
+        log = z.log;
+        goes = z.goes;
+        vars = z.vars;
+        held = z.held;
+        shared_is = z.shared_is;
+        fewer = omega (arith, e, z.fewer);
+        low = omega (arith, e, z.low);
+        high = omega (arith, e, z.high);
+      }))
 
   -- the end of each expression with a value
-  pub value_run : (scope : Scope) (x place register : ℕ) (stack : List (ℕ × ℕ)) (spare credit debt spare' credit' : ℕ) (w : World) → At site from scope place ((register, x) ∷ stack) spare credit debt w → spare' + 2 ≤ spare → debt ≤ 2048 → credit' + debt ≤ credit + 384 → Follows site.machine from (λ y w1. At site from scope place ((register, y) ∷ stack) (spare' + 1) (credit' + 128) 0 w1) (IsBack site from) (spend x w)
+  pub value_run : (scope : Scope) (x place register : ℕ) (stack : List (ℕ × ℕ)) (spare credit debt spare' credit' : ℕ)
+      (w : World) → At site from scope place ((register, x) ∷ stack) spare credit debt w → spare' + 2 ≤ spare →
+      debt ≤ 2048 → credit' + debt ≤ credit + 384 →
+      Follows site.machine from
+      (λ y w1. At site from scope place ((register, y) ∷ stack) (spare' + 1) (credit' + 128) 0 w1) (IsBack site from)
+      (spend x w)
   value_run scope x place register stack spare credit debt spare' credit' w z few small enough =
-      spend_run scope (λ y w1. At site from scope place ((register, y) ∷ stack) (spare' + 1) (credit' + 128) 0 w1) x place ((register, x) ∷ stack) spare credit debt (spare' + 1) (credit' + 128) 0 w z (omega arith) small (omega arith) (λ w1 lt h. h)
+      spend_run scope (λ y w1. At site from scope place ((register, y) ∷ stack) (spare' + 1) (credit' + 128) 0 w1) x
+      place ((register, x) ∷ stack) spare credit debt (spare' + 1) (credit' + 128) 0 w z (omega arith) small
+      (omega arith) (λ w1 lt h. h)
 
 -- what is seen from a later place is seen from here
 module _ (site : Site) (from later : From) (lead rest : ℕ) (l : Later site.machine from later lead rest) where
-  pub at_from : (scope : Scope) (place : ℕ) (stack : List (ℕ × ℕ)) (spare credit debt : ℕ) (w : World) → At site later scope place stack spare credit debt w → At site from scope place stack (lead + spare) (rest + credit) debt w
+  pub at_from : (scope : Scope) (place : ℕ) (stack : List (ℕ × ℕ)) (spare credit debt : ℕ) (w : World) →
+      At site later scope place stack spare credit debt w →
+      At site from scope place stack (lead + spare) (rest + credit) debt w
   at_from scope place stack spare credit debt w z =
-      record { regs = z.regs; log = z.log; goes = goes_more l.goes z.goes; vars = z.vars; held = z.held; shared_is = z.shared_is; fewer = omega (arith, z.fewer, l.fewer); low = omega (arith, z.low, l.low); high = omega (arith, z.high, l.high) }
+      record {
+        regs = z.regs;
+        log = z.log;
+        goes = goes_more l.goes z.goes;
+        vars = z.vars;
+        held = z.held;
+        shared_is =
+            z.shared_is;
+        fewer = omega (arith, z.fewer, l.fewer);
+        low = omega (arith, z.low, l.low);
+        high =
+            omega (arith, z.high, l.high);
+      }
 
   pub back_from : (x : ℕ) (w : World) → IsBack site later x w → IsBack site from x w
   back_from x w z =
-      record { log = z.log; goes = goes_more l.goes z.goes; shared_is = z.shared_is; fewer = omega (arith, z.fewer, l.fewer); low = omega (arith, z.low, l.low); high = omega (arith, z.high, l.high) }
+      record {
+        log = z.log;
+        goes = goes_more l.goes z.goes;
+        shared_is = z.shared_is;
+        fewer =
+            omega (arith, z.fewer, l.fewer);
+        low = omega (arith, z.low, l.low);
+        high = omega (arith, z.high, l.high);
+      }
 
 -- where the machine stands, as a later place
-pub later_at : (site : Site) (from : From) (scope : Scope) (place : ℕ) (stack : List (ℕ × ℕ)) (spare credit : ℕ) (w : World) (z : At site from scope place stack spare credit 0 w) → Later site.machine from (record { state = at_op site.call place z.regs z.log; units = w.units; log = z.log }) spare credit
+pub later_at : (site : Site) (from : From) (scope : Scope) (place : ℕ) (stack : List (ℕ × ℕ)) (spare credit : ℕ)
+    (w : World) (z : At site from scope place stack spare credit 0 w) →
+    Later site.machine from (record { state = at_op site.call place z.regs z.log; units = w.units; log = z.log }) spare
+    credit
 later_at site from scope place stack spare credit w z =
     record { goes = z.goes; fewer = z.fewer; low = z.low; high = omega (arith, z.high) }

@@ -1,10 +1,12 @@
 -- The machine follows every tree of the kinds that are built.
-use Rattle.std.proofs.Common.{◌≡◌, ℕ, suc, ◌+◌, ◌<◌, ◌≤◌, List, [], ◌∷◌, ◌++◌, Option, Some, true, refl, sym, ap, subst, arith}
+use Rattle.std.proofs.Common.{◌≡◌, ℕ, suc, ◌+◌, ◌<◌, ◌≤◌, List, [], ◌∷◌, ◌++◌, Option, Some, true, refl, sym, ap, subst}
+use Rattle.std.proofs.Common.{arith}
 use Rattle.std.specs.Prelude.{slice_get, max, ◌&&◌}
 use Rattle.word32.specs.Space.{update}
 use Rattle.icode_ops.specs.declared.op.Op.TheVariants as op
 use Rattle.icode_ir.specs.declared.build_op.BuildOp.TheVariants as build
-use Rattle.typed_tree.specs.Nodes.{Expr, Const, Var, SetVar, Bin, Lib, Stmt, Eval, Variable, Parameter, ReturnValue, Items, NoItem, Item, has_value}
+use Rattle.typed_tree.specs.Nodes.{Expr, Const, Var, SetVar, Bin, Lib, Stmt, Eval, Variable, Parameter, ReturnValue}
+use Rattle.typed_tree.specs.Nodes.{Items, NoItem, Item, has_value}
 use Rattle.typed_tree.specs.declared.expression.Library.TheVariants.{Putchar}
 use Rattle.staged_meaning.specs.Size.{temps_in, variables_in, variables_of}
 use Rattle.staged_meaning.specs.Scope.{Scope, scope_of, scope_after, IsScoped, IsBuilt}
@@ -39,12 +41,14 @@ wider_items NoItem scope j h = h
 wider_items (Item s is) scope j h = wider_items is (scope_of s scope) j (wider_stmt s scope j h)
 
 -- and the variables in scope are below the bound
-pub within_stmt : (s : Stmt) (scope : Scope) (src : ℕ) → variables_in s ≤ src → Within scope src → Within (scope_of s scope) src
+pub within_stmt : (s : Stmt) (scope : Scope) (src : ℕ) → variables_in s ≤ src → Within scope src →
+    Within (scope_of s scope) src
 within_stmt (Variable i) scope src le h = within_more i src scope (omega arith) h
 within_stmt (Parameter k w) scope src le h = within_more k src scope (omega arith) h
 within_stmt _ scope src le h = h
 
-pub within_items : (is : Items) (scope : Scope) (src : ℕ) → variables_of is ≤ src → Within scope src → Within (scope_after is scope) src
+pub within_items : (is : Items) (scope : Scope) (src : ℕ) → variables_of is ≤ src → Within scope src →
+    Within (scope_after is scope) src
 within_items NoItem scope src le h = h
 within_items (Item s is) scope src le h =
     within_items is (scope_of s scope) src (max_right (variables_in s) (variables_of is) src le)
@@ -58,43 +62,69 @@ module _ (site : Site) where
   pub expr_run : (scope : Scope) → Within scope site.named → (e : Expr) → IsBuilt e → ExprRuns site scope e
   expr_run scope inside (Const x) built = const_run site scope inside x
   expr_run scope inside (Var i) built = var_run site scope inside i
-  expr_run scope inside (SetVar i a) built = set_node site scope inside i a (part_of scope a built (expr_run scope inside a built)) (built_value site.addresses a built)
-  expr_run scope inside (Bin k x y) built = bin_node site scope inside k x y (part_of scope x built.0 (expr_run scope inside x built.0)) (part_of scope y built.1 (expr_run scope inside y built.1)) (built_value site.addresses x built.0) (built_value site.addresses y built.1)
-  expr_run scope inside (Lib Putchar a) built = putchar_node site scope inside a (part_of scope a built (expr_run scope inside a built)) (built_value site.addresses a built)
+  expr_run scope inside (SetVar i a) built =
+      set_node site scope inside i a (part_of scope a built (expr_run scope inside a built))
+      (built_value site.addresses a built)
+  expr_run scope inside (Bin k x y) built =
+      bin_node site scope inside k x y (part_of scope x built.0 (expr_run scope inside x built.0))
+      (part_of scope y built.1 (expr_run scope inside y built.1)) (built_value site.addresses x built.0)
+      (built_value site.addresses y built.1)
+  expr_run scope inside (Lib Putchar a) built =
+      putchar_node site scope inside a (part_of scope a built (expr_run scope inside a built))
+      (built_value site.addresses a built)
   expr_run scope inside _ built = absurd built
 
   -- an expression whose value, if there is one, is not used
-  pub eval_run : (scope : Scope) → Within scope site.named → (stack : List (ℕ × ℕ)) (e : Expr) → IsBuilt e → IsScoped scope e → (l t : ℕ) → site.named ≤ t → t + temps_in e ≤ site.size → (v : View) (br co : Option ℕ) → Fits site v stack → Stands site.call.function.ops (expr_ops site.addresses e l t ++ dropping (has_value e)) v → Runs site scope scope stack (exec site.context (Eval e)) v.place (after_ops (expr_ops site.addresses e l t ++ dropping (has_value e)) v).place br co
+  pub eval_run : (scope : Scope) → Within scope site.named → (stack : List (ℕ × ℕ)) (e : Expr) → IsBuilt e →
+      IsScoped scope e → (l t : ℕ) → site.named ≤ t → t + temps_in e ≤ site.size → (v : View) (br co : Option ℕ) →
+      Fits site v stack → Stands site.call.function.ops (expr_ops site.addresses e l t ++ dropping (has_value e)) v →
+      Runs site scope scope stack (exec site.context (Eval e)) v.place
+      (after_ops (expr_ops site.addresses e l t ++ dropping (has_value e)) v).place br co
   unfolding Runs
   eval_run scope inside stack e built ok l t st tn v br co fits at from spare credit w lt z =
       let eo = expr_ops site.addresses e l t in
       let d = dropping (has_value e) in
       let v1 = after_ops eo v in
-      subst (λ v2. Follows site.machine from (Left site from scope scope stack spare credit v2.place br co) (IsBack site from) (exec site.context (Eval e) w)) (sym (after_append eo d v))
-      (follows_then site.machine from (Leaves (has_value e) site from scope v1 stack spare credit) (Left site from scope scope stack spare credit (after_ops d v1).place br co) (IsBack site from) (eval site.context e w) (λ x w1. Gives Normal w1)
-      (expr_run scope inside e built ok l t st tn v stack fits (stands_front site.call.function.ops eo d v at) from spare credit w lt z)
+      subst (λ v2. Follows site.machine from (Left site from scope scope stack spare credit v2.place br co)
+      (IsBack site from) (exec site.context (Eval e) w)) (sym (after_append eo d v))
+      (follows_then site.machine from (Leaves (has_value e) site from scope v1 stack spare credit)
+      (Left site from scope scope stack spare credit (after_ops d v1).place br co) (IsBack site from)
+      (eval site.context e w) (λ x w1. Gives Normal w1)
+      (expr_run scope inside e built ok l t st tn v stack fits (stands_front site.call.function.ops eo d v at) from
+      spare credit w lt z)
       (λ x w1 h. drop_run site scope inside from (has_value e) v1 stack spare credit x w1 h))
 
-  pub return_run : (scope : Scope) → Within scope site.named → (stack : List (ℕ × ℕ)) (e : Expr) → IsBuilt e → IsScoped scope e → (l t : ℕ) → site.named ≤ t → t + temps_in e ≤ site.size → (v : View) (e' : ℕ) (br co : Option ℕ) → Fits site v stack → Stands site.call.function.ops (expr_ops site.addresses e l t ++ build.Return ∷ []) v → Runs site scope scope stack (exec site.context (ReturnValue e)) v.place e' br co
+  pub return_run : (scope : Scope) → Within scope site.named → (stack : List (ℕ × ℕ)) (e : Expr) → IsBuilt e →
+      IsScoped scope e → (l t : ℕ) → site.named ≤ t → t + temps_in e ≤ site.size →
+      (v : View) (e' : ℕ) (br co : Option ℕ) → Fits site v stack →
+      Stands site.call.function.ops (expr_ops site.addresses e l t ++ build.Return ∷ []) v →
+      Runs site scope scope stack (exec site.context (ReturnValue e)) v.place e' br co
   unfolding Runs
   return_run scope inside stack e built ok l t st tn v e' br co fits at from spare credit w lt z =
       let code = site.call.function.ops in
       let eo = expr_ops site.addresses e l t in
       let v1 = after_ops eo v in
       let here = (stands_back code eo (build.Return ∷ []) v at).0.0 in
-      one_run site scope inside e (part_of scope e built (expr_run scope inside e built)) (built_value site.addresses e built) ok l t st tn v stack fits (stands_front code eo (build.Return ∷ []) v at) from spare credit w lt z (Left site from scope scope stack spare credit e' br co) (λ x w1. Returns x w1)
+      one_run site scope inside e (part_of scope e built (expr_run scope inside e built))
+      (built_value site.addresses e built) ok l t st tn v stack fits (stands_front code eo (build.Return ∷ []) v at)
+      from spare credit w lt z (Left site from scope scope stack spare credit e' br co) (λ x w1. Returns x w1)
       (λ x w1 fits1 h.
       let o1 = op.Return (top v1.operands) in
       record {
         log = paid o1 h.log;
-        goes = subst (λ y. Goes site.machine from.state (back y site.call.waiting (left site.call.function (paid o1 h.log)))) h.held.0.value (then_op site.call v1.place h.regs h.log o1 h.goes here (ap (λ b. b && true) h.held.0.on));
+        goes = subst (λ y. Goes site.machine from.state
+            (back y site.call.waiting (left site.call.function (paid o1 h.log)))) h.held.0.value
+            (then_op site.call v1.place h.regs h.log o1 h.goes here (ap (λ b. b && true) h.held.0.on));
         shared_is = h.shared_is;
         fewer = h.fewer;
         low = omega (arith, h.low);
         high = omega (arith, h.high);
       })
 
-  pub variable_run : (scope : Scope) → Within scope site.named → (stack : List (ℕ × ℕ)) (i : ℕ) → i < site.named → (v : View) (br co : Option ℕ) → Fits site v stack → Stands site.call.function.ops (build.Const 0 ∷ build.SetVariable i ∷ build.Drop ∷ []) v → Runs site scope (update i true scope) stack (exec site.context (Variable i)) v.place (suc (suc v.place)) br co
+  pub variable_run : (scope : Scope) → Within scope site.named → (stack : List (ℕ × ℕ)) (i : ℕ) → i < site.named →
+      (v : View) (br co : Option ℕ) → Fits site v stack →
+      Stands site.call.function.ops (build.Const 0 ∷ build.SetVariable i ∷ build.Drop ∷ []) v →
+      Runs site scope (update i true scope) stack (exec site.context (Variable i)) v.place (suc (suc v.place)) br co
   unfolding Runs
   variable_run scope inside stack i small v br co fits at from spare credit w lt z =
       let base = base_of site.bodies in
@@ -103,12 +133,16 @@ module _ (site : Site) where
       let y = z.regs.values n in
       let lower : base + i < floor_of site = omega arith in
       let go1 = then_op site.call v.place z.regs z.log (op.Const n 0) z.goes at.0.0 refl in
-      let z1 = op_put site scope inside from v.place (suc v.place) n 0 stack stack spare credit 0 w z fits.free fits.below z.held (paid (op.Const n 0) z.log) w.shared go1 z.shared_is 3 5 (omega arith) (omega arith) in
+      let z1 = op_put site scope inside from v.place (suc v.place) n 0 stack stack spare credit 0 w z fits.free
+      fits.below z.held (paid (op.Const n 0) z.log) w.shared go1 z.shared_is 3 5 (omega arith) (omega arith) in
       let o2 = op.Move (base + i) n in
-      let here = subst (λ b. slice_get site.call.function.ops (suc v.place) ≡ Some (op.Move (base_of b + i) n)) fits.bodies_are at.1.0.0 in
+      let here = subst (λ b. slice_get site.call.function.ops (suc v.place) ≡ Some (op.Move (base_of b + i) n))
+      fits.bodies_are at.1.0.0 in
       let x = z1.regs.values n in
       let go2 = then_op site.call (suc v.place) z1.regs z1.log o2 z1.goes here (ap (λ b. b && true) z1.held.0.on) in
-      spend_run site from (update i true scope) (Left site from scope (update i true scope) stack spare credit (suc (suc v.place)) br co) Normal (suc (suc v.place)) stack (spare + 5) credit 12 spare credit 0 (with_variable i 0 w)
+      spend_run site from (update i true scope)
+      (Left site from scope (update i true scope) stack spare credit (suc (suc v.place)) br co) Normal
+      (suc (suc v.place)) stack (spare + 5) credit 12 spare credit 0 (with_variable i 0 w)
       (record {
         regs = put (base + i) x z1.regs;
         log = paid o2 z1.log;

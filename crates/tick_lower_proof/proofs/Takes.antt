@@ -1,10 +1,12 @@
 -- The builder takes an op, and what it makes of it is what its view says.
-use Rattle.std.proofs.Common.{◌≡◌, ℕ, ◌+◌, ◌-◌, ◌<◌, ◌≤◌, true, false, List, [], ◌∷◌, ◌++◌, length, Option, Some, None, refl, ap, ◌∙◌, arith}
+use Rattle.std.proofs.Common.{◌≡◌, ℕ, ◌+◌, ◌-◌, ◌<◌, ◌≤◌, true, false, List, [], ◌∷◌, ◌++◌, length, Option, Some, None}
+use Rattle.std.proofs.Common.{refl, ap, ◌∙◌, arith}
 use Rattle.std.specs.Prelude.{slice_index, slice_index_or, take, nat_le, ◌&&◌, if◌then◌else◌}
 use Rattle.std.proofs.lemmas.Bool.{le-leb, lt-ltb, le-ltb}
 use Rattle.icode_ir.specs.declared.body.Body.{Body}
 use Rattle.icode_ir.specs.declared.build_op.BuildOp.{BuildOp}
-use Rattle.icode_ir.specs.declared.build_op.BuildOp.TheVariants.{Const, Bin, GetVariable, SetVariable, Drop, Label, Jump, BranchZero, Return, Sys}
+use Rattle.icode_ir.specs.declared.build_op.BuildOp.TheVariants.{Const, Bin, GetVariable, SetVariable, Drop, Label}
+use Rattle.icode_ir.specs.declared.build_op.BuildOp.TheVariants.{Jump, BranchZero, Return, Sys}
 use Rattle.icode_ir.specs.declared.build_op.BuildFault.{BuildFault}
 use Rattle.icode_ir.specs.declared.build_op.BuildFault.TheVariants.{Underflow, BadLabel, BadVariable, Full}
 use Rattle.icode_ir.specs.Build.{Build, innermost, no_body, operand, variable, label, stands, add, yield}
@@ -60,7 +62,8 @@ module _ (b : Build) (v : View) (is : Matches b v) where
   second_of (r ∷ []) le = absurd (omega arith)
   second_of (r ∷ q ∷ rs) le = second_is (upright rs) q r 0
 
-  two_below_of : (xs : List ℕ) → 2 ≤ length xs → take (length (upright xs) - 2) (upright xs) ≡ upright (below (below xs))
+  two_below_of : (xs : List ℕ) → 2 ≤ length xs →
+      take (length (upright xs) - 2) (upright xs) ≡ upright (below (below xs))
   two_below_of [] le = absurd (omega arith)
   two_below_of (r ∷ []) le = absurd (omega arith)
   two_below_of (r ∷ q ∷ rs) le = front_two (upright rs) q r 0
@@ -94,7 +97,9 @@ module _ (b : Build) (v : View) (is : Matches b v) where
   pub fits_ok : (more operands : ℕ) → v.place + more ≤ 196608 → operands ≤ 196608 → fits more operands b ≡ None
   fits_ok more operands few low =
       let sum : length b.prelude + length b.ops + more ≤ 196608 = omega (arith, ap length is.prelude, is.place) in
-      let room : has_room more operands b ≡ true = ap (λ z. z && nat_le operands 196608) (le-leb (length b.prelude + length b.ops + more) 196608 sum) ∙ le-leb operands 196608 low in
+      let room : has_room more operands b ≡ true =
+      ap (λ z. z && nat_le operands 196608) (le-leb (length b.prelude + length b.ops + more) 196608 sum) ∙
+      le-leb operands 196608 low in
       ap (λ z. if z then None else Some Full) room
 
   pub needs_ok : (n : ℕ) (x : Option BuildFault) → n ≤ length v.operands → needs n b x ≡ x

@@ -9,8 +9,10 @@ use Rattle.staged_meaning.specs.Size.{size_of, charge_of}
 use Rattle.staged_meaning.specs.Scope.{IsReady}
 use Rattle.staged_meaning.specs.World.{World, Result, Gives, Returns, Ends, Stops}
 use Rattle.staged_meaning.specs.Meaning as meaning
-use Rattle.staged_meaning.specs.Meaning.{call_body, entered, leaves, charging, finish, main_context, at_start, begins, run_program, seen, meant}
-use Rattle.icode_meaning.specs.State.{Function, Program, State, Running, Zeroing, Halted, Stuck, Log, nothing, log_of, ending_of, see, least_at, most_at}
+use Rattle.staged_meaning.specs.Meaning.{call_body, entered, leaves, charging, finish, main_context, at_start, begins}
+use Rattle.staged_meaning.specs.Meaning.{run_program, seen, meant}
+use Rattle.icode_meaning.specs.State.{Function, Program, State, Running, Zeroing, Halted, Stuck, Log, nothing, log_of}
+use Rattle.icode_meaning.specs.State.{ending_of, see, least_at, most_at}
 use Rattle.icode_meaning.specs.Steps.{left, advance, first, counted}
 use Rattle.tick_lower_proof.specs.Lower.{Addresses}
 use Rattle.tick_lower_proof.proofs.Machine.{Goes, goes_none, Here}
@@ -18,7 +20,9 @@ use Rattle.tick_lower_proof.proofs.Follow.{From, Follows, EndsAt, IsRunning, fol
 use Rattle.tick_lower_proof.proofs.Standing.{IsBack}
 use Rattle.tick_lower_proof.proofs.Calls.{IsCode, site, call_run}
 
-module _ (P : Program) (d : Addresses) (program : meaning.Program) (input : Input) (main : Function) (ready : IsReady program.main) (code : IsCode d program.main main.ops) (charge_is : main.charge ≡ charge_of (size_of program.main)) (object_is : main.object ≡ program.main.object) where
+module _ (P : Program) (d : Addresses) (program : meaning.Program) (input : Input) (main : Function)
+    (ready : IsReady program.main) (code : IsCode d program.main main.ops)
+    (charge_is : main.charge ≡ charge_of (size_of program.main)) (object_is : main.object ≡ program.main.object) where
   abbrev start : State
   start = first main (at_start program input)
 
@@ -27,10 +31,18 @@ module _ (P : Program) (d : Addresses) (program : meaning.Program) (input : Inpu
   here = record { function = main; parameters = nothing; waiting = [] }
 
   abbrev log_at : ℕ → Log
-  log_at least = record { shared = charged main.charge main.object (at_start program input); active = counted main.compiled 1 0; least = least; most = 1 }
+  log_at least = record {
+    shared = charged main.charge main.object (at_start program input);
+    active =
+        counted main.compiled 1 0;
+    least = least;
+    most = 1;
+  }
 
-  charge_same : charged main.charge main.object (at_start program input) ≡ charged (charge_of (size_of program.main)) program.main.object (at_start program input)
-  charge_same = ap (λ x. charged x main.object (at_start program input)) charge_is ∙ ap (λ x. charged (charge_of (size_of program.main)) x (at_start program input)) object_is
+  charge_same : charged main.charge main.object (at_start program input) ≡ charged (charge_of (size_of program.main))
+      program.main.object (at_start program input)
+  charge_same = ap (λ x. charged x main.object (at_start program input)) charge_is ∙
+      ap (λ x. charged (charge_of (size_of program.main)) x (at_start program input)) object_is
 
   -- the start, with m units
   abbrev begun : ℕ → From
@@ -45,12 +57,16 @@ module _ (P : Program) (d : Addresses) (program : meaning.Program) (input : Inpu
       let object = program.main.object in
       let V : ℕ → World → Type 0 = λ v w1. EndsAt P from (Ended (Done (v % 256))) w1.shared in
       follows_then P from V (λ v w. ⊥) (λ v w. ⊥) (charging charge object (call_body c program.main []) w) finish
-      (follows_then P from (IsBack (site P c d here program.main code) from) V (λ v w. ⊥) (call_body c program.main [] (entered charge object w)) (leaves charge object w)
-      (call_run P c d here program.main code ready [] from (log_at 1) (entered charge object w) (omega arith) charge_same (goes_none P start) (omega arith) (omega arith) (omega arith))
+      (follows_then P from (IsBack (site P c d here program.main code) from) V (λ v w. ⊥)
+      (call_body c program.main [] (entered charge object w)) (leaves charge object w)
+      (call_run P c d here program.main code ready [] from (log_at 1) (entered charge object w) (omega arith)
+      charge_same (goes_none P start) (omega arith) (omega arith) (omega arith))
       (λ v w1 h. record {
         log = left main h.log;
         goes = h.goes;
-        shared_is = ap (discharged main.charge main.object) h.shared_is ∙ ap (λ x. discharged x main.object w1.shared) charge_is ∙ ap (λ x. discharged (charge_of (size_of program.main)) x w1.shared) object_is;
+        shared_is = ap (discharged main.charge main.object) h.shared_is ∙
+            ap (λ x. discharged x main.object w1.shared) charge_is ∙
+            ap (λ x. discharged (charge_of (size_of program.main)) x w1.shared) object_is;
         high = omega (arith, h.high);
       }))
       (λ v w1 h. h)
@@ -58,14 +74,26 @@ module _ (P : Program) (d : Addresses) (program : meaning.Program) (input : Inpu
   abbrev after : ℕ → State
   after i = iterate (advance P) i start
 
-  going : (m : ℕ) (o : Result ℕ) → Follows P (begun m) (λ v w. ⊥) (λ v w. ⊥) o → (seen o).ending ≡ None → (i : ℕ) × (m ≤ least_at (after i)) × (most_at (after i) ≤ 512 * m + 4000) × ((see (after i)).ending ≡ None) × ((seen o).history ≡ (see (after i)).history)
+  going : (m : ℕ) (o : Result ℕ) → Follows P (begun m) (λ v w. ⊥) (λ v w. ⊥) o → (seen o).ending ≡ None →
+      (i : ℕ) × (m ≤ least_at (after i)) × (most_at (after i) ≤ 512 * m + 4000) × ((see (after i)).ending ≡ None) ×
+      ((seen o).history ≡ (see (after i)).history)
   going m (Gives v w) h n = absurd h
   going m (Returns v w) h n = absurd h
   going m (Ends e sh) h n = absurd cc
-  going m (Stops sh) h n = at h.state h.goes h.on (ap (λ z. z.history) h.shared_is) (omega (arith, h.low)) (omega (arith, h.high))
+  going m (Stops sh) h n = at h.state h.goes h.on (ap (λ z. z.history) h.shared_is) (omega (arith, h.low))
+      (omega (arith, h.high))
     where
-      at : (s : State) → Goes P start s → IsRunning s → (log_of s).shared.history ≡ sh.history → m ≤ (log_of s).least → (log_of s).most ≤ 512 * m + 4000 → (i : ℕ) × (m ≤ least_at (after i)) × (most_at (after i) ≤ 512 * m + 4000) × ((see (after i)).ending ≡ None) × (sh.history ≡ (see (after i)).history)
-      at s go on o low high = (go.steps, rw go.comes low, rw go.comes high, ap ending_of go.comes ∙ none s on, sym o ∙ sym (ap (λ t. (log_of t).shared.history) go.comes))
+      at : (s : State) → Goes P start s → IsRunning s → (log_of s).shared.history ≡ sh.history → m ≤ (log_of s).least →
+          (log_of s).most ≤ 512 * m + 4000 →
+          (i : ℕ) × (m ≤ least_at (after i)) × (most_at (after i) ≤ 512 * m + 4000) × ((see (after i)).ending ≡ None) ×
+          (sh.history ≡ (see (after i)).history)
+      at s go on o low high = (
+        go.steps,
+        rw go.comes low,
+        rw go.comes high,
+        ap ending_of go.comes ∙ none s on,
+        sym o ∙ sym (ap (λ t. (log_of t).shared.history) go.comes),
+      )
         where
           none : (s : State) → IsRunning s → ending_of s ≡ None
           none (Running frame arguments answer waiting g) on = refl
@@ -73,15 +101,22 @@ module _ (P : Program) (d : Addresses) (program : meaning.Program) (input : Inpu
           none (Halted e g) on = absurd on
           none (Stuck g) on = refl
 
-  ending : (m : ℕ) (e : End) (o : Result ℕ) → Follows P (begun m) (λ v w. ⊥) (λ v w. ⊥) o → (seen o).ending ≡ Some e → (i : ℕ) × (most_at (after i) ≤ 512 * m + 4000) × ((see (after i)).ending ≡ Some e) × ((seen o).history ≡ (see (after i)).history)
+  ending : (m : ℕ) (e : End) (o : Result ℕ) → Follows P (begun m) (λ v w. ⊥) (λ v w. ⊥) o → (seen o).ending ≡ Some e →
+      (i : ℕ) × (most_at (after i) ≤ 512 * m + 4000) × ((see (after i)).ending ≡ Some e) ×
+      ((seen o).history ≡ (see (after i)).history)
   ending m e (Gives v w) h is = absurd h
   ending m e (Returns v w) h is = absurd h
   ending m e (Stops sh) h is = absurd cc
   ending m e (Ends e' sh) h is =
-      let go = h.goes in
-      (go.steps, rw go.comes (omega (arith, h.high)), ap ending_of go.comes ∙ is, sym (ap (λ z. z.history) h.shared_is) ∙ sym (ap (λ t. (log_of t).shared.history) go.comes))
+      let go = h.goes in (
+        go.steps,
+        rw go.comes (omega (arith, h.high)),
+        ap ending_of go.comes ∙ is,
+        sym (ap (λ z. z.history) h.shared_is) ∙ sym (ap (λ t. (log_of t).shared.history) go.comes),
+      )
 
-  pub follows_at_cost : FollowsAtCost 512 4000 (meant program input) (λ i. see (after i)) (λ i. least_at (after i)) (λ i. most_at (after i))
+  pub follows_at_cost : FollowsAtCost 512 4000 (meant program input) (λ i. see (after i)) (λ i. least_at (after i))
+      (λ i. most_at (after i))
   follows_at_cost = record {
     goes_on = λ m n. going m (run_program program input m) (whole_run m) n;
     ends = λ m e is. ending m e (run_program program input m) (whole_run m) is;

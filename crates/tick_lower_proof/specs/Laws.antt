@@ -30,13 +30,15 @@ pub record IsAccepted (addresses : Addresses) (function : node.Function) : Type 
   pub no_bodies : (run_ops (function_ops addresses function) (empty function.parameters)).bodies ≡ []
 
 abbrev pub LoweringIsAccepted : Type 0
-LoweringIsAccepted = (addresses : Addresses) (function : node.Function) → IsReady function → IsAccepted addresses function
+LoweringIsAccepted = (addresses : Addresses) (function : node.Function) → IsReady function →
+    IsAccepted addresses function
 
 -- how many registers the ops have
 abbrev pub registers_of : Addresses → node.Function → ℕ
 registers_of addresses function = (run_ops (function_ops addresses function) (empty function.parameters)).registers
 
--- The ops are a finished list, of twelve ops a node at most besides the last return, and of twelve registers a node. So a
+-- The ops are a finished list, of twelve ops a node at most besides the last return, and of twelve registers a node. So
+-- a
 -- frame of 128 bytes and 48 a node has a word for each register.
 pub record IsSmall (addresses : Addresses) (function : node.Function) : Type 0 where
   pub finished : IsFinished (code_of addresses function) (registers_of addresses function)
@@ -61,5 +63,6 @@ abbrev pub LoweringFollows : Type 0
 LoweringFollows =
     (machine : Program) (addresses : Addresses) (program : meaning.Program) (input : Input) (main : Function) →
     IsReady program.main → Stands addresses program.main main →
-    FollowsAtCost UNIT_INSTRUCTIONS START_OPS_INSTRUCTIONS (meant program input) (λ i. see (state_at machine program input main i))
+    FollowsAtCost UNIT_INSTRUCTIONS START_OPS_INSTRUCTIONS (meant program input)
+    (λ i. see (state_at machine program input main i))
     (λ i. least_at (state_at machine program input main i)) (λ i. most_at (state_at machine program input main i))

@@ -11,7 +11,11 @@ use Rattle.icode_ops.specs.declared.kind.SysKind.TheVariants as sys
 use Rattle.icode_ops.specs.declared.kind.RunKind.TheVariants as run
 use Rattle.icode_ir.specs.declared.build_op.BuildOp.{BuildOp}
 use Rattle.icode_ir.specs.declared.build_op.BuildOp.TheVariants as build
-use Rattle.typed_tree.specs.Nodes.{Expr, Const, Var, SetVar, PostVar, Frame, Load, Store, Modify, Post, Bin, Un, And, Or, Cond, Comma, Void, Call, CallNumber, Getchar, Lib, Capture, Compile, Local, ParamOf, Args, NoArg, Arg, Stmt, Eval, Block, Variable, Object, Parameter, ParameterObject, If, IfElse, While, Do, For, ForStep, Switch, Case, Default, Break, Continue, Return, ReturnValue, Items, NoItem, Item, has_value, count, Function}
+use Rattle.typed_tree.specs.Nodes.{Expr, Const, Var, SetVar, PostVar, Frame, Load, Store, Modify, Post, Bin, Un, And}
+use Rattle.typed_tree.specs.Nodes.{Or, Cond, Comma, Void, Call, CallNumber, Getchar, Lib, Capture, Compile, Local}
+use Rattle.typed_tree.specs.Nodes.{ParamOf, Args, NoArg, Arg, Stmt, Eval, Block, Variable, Object, Parameter}
+use Rattle.typed_tree.specs.Nodes.{ParameterObject, If, IfElse, While, Do, For, ForStep, Switch, Case, Default, Break}
+use Rattle.typed_tree.specs.Nodes.{Continue, Return, ReturnValue, Items, NoItem, Item, has_value, count, Function}
 use Rattle.typed_tree.specs.declared.expression.Answer.{Answer}
 use Rattle.typed_tree.specs.Sizes.{is_value}
 use Rattle.typed_tree.specs.declared.expression.Library.TheVariants.{Putchar, Putint, Exit, Malloc}
@@ -109,7 +113,8 @@ module _ (addresses : Addresses) where
         expr_ops a l t
         ++ build.Pick 0
         ∷ build.Load width
-        ∷ (expr_ops b (l + labels_in a) (t + temps_in a) ++ build.Bin kind ∷ (narrowing width ++ build.Store width ∷ []))
+        ∷ (expr_ops b (l + labels_in a) (t + temps_in a) ++ build.Bin kind ∷
+        (narrowing width ++ build.Store width ∷ []))
     expr_ops (Post width step a) l t =
         expr_ops a l t
         ++ build.Pick 0
@@ -219,7 +224,8 @@ module _ (addresses : Addresses) where
         ∷ (items_ops variables to (l + 1 + labels_in e) (t + 1 + temps_in e)
         ++ (test_ops items (l + 1 + labels_in e + labels_of variables) t
         ++ build.Jump (default_label items (l + 1 + labels_in e + labels_of variables) l)
-        ∷ (items_ops items (record { on_break = l; on_continue = to.on_continue }) (l + 1 + labels_in e + labels_of variables) (t + 1 + temps_in e + temps_of variables)
+        ∷ (items_ops items (record { on_break = l; on_continue = to.on_continue })
+        (l + 1 + labels_in e + labels_of variables) (t + 1 + temps_in e + temps_of variables)
         ++ build.Label l
         ∷ [])))
     stmt_ops (Case value) to l t = build.Label l ∷ []

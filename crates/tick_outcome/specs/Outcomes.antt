@@ -8,7 +8,9 @@ use Rattle.image_file.specs.Format.{fault_number}
 use Rattle.image_file.specs.declared.fault.ImageFault.{ImageFault}
 use Rattle.image_file.specs.declared.fault.ImageFault.TheVariants.{Short, Magic, Version, Counts, Entry, Trailing}
 use Rattle.tick_outcome.specs.declared.outcome.Outcome.{Outcome}
-use Rattle.tick_outcome.specs.declared.outcome.Outcome.TheVariants.{Done, BadWords, Refused, AsmRefused, LoadFault, TooLong, BadImage, Trap, MachineFault, OutOfSteps, WriteFault, ReadFault, SaveFault}
+use Rattle.tick_outcome.specs.declared.outcome.Outcome.TheVariants.{Done, BadWords, Refused, AsmRefused, LoadFault}
+use Rattle.tick_outcome.specs.declared.outcome.Outcome.TheVariants.{TooLong, BadImage, Trap, MachineFault, OutOfSteps}
+use Rattle.tick_outcome.specs.declared.outcome.Outcome.TheVariants.{WriteFault, ReadFault, SaveFault}
 
 -- the exit status of an outcome
 abbrev pub status_of : Outcome → ℕ
@@ -39,11 +41,16 @@ image_fault_name Trailing = codes "Trailing"
 abbrev pub line_of : Outcome → List ℕ
 line_of (Done s) = []
 line_of (BadWords place) = codes "tick: bad words at " ++ decimal place ++ codes "\n"
-line_of (Refused fault) = codes "tick: line " ++ decimal fault.line ++ codes ": " ++ decimal (number fault.kind) ++ codes " " ++ name fault.kind ++ codes "\n"
-line_of (AsmRefused fault) = codes "tick: line " ++ decimal fault.line ++ codes ": asm " ++ decimal (asm.number fault.kind) ++ codes " " ++ asm.name fault.kind ++ codes "\n"
+line_of (Refused fault) =
+    codes "tick: line " ++ decimal fault.line ++ codes ": " ++ decimal (number fault.kind) ++ codes " " ++ name fault.kind
+    ++ codes "\n"
+line_of (AsmRefused fault) =
+    codes "tick: line " ++ decimal fault.line ++ codes ": asm " ++ decimal (asm.number fault.kind) ++ codes " " ++
+    asm.name fault.kind ++ codes "\n"
 line_of LoadFault = codes "tick: cannot load\n"
 line_of TooLong = codes "tick: too long\n"
-line_of (BadImage fault) = codes "tick: image " ++ decimal (fault_number fault) ++ codes " " ++ image_fault_name fault ++ codes "\n"
+line_of (BadImage fault) =
+    codes "tick: image " ++ decimal (fault_number fault) ++ codes " " ++ image_fault_name fault ++ codes "\n"
 line_of (Trap k) = codes "tick: trap " ++ trap_name k ++ codes "\n"
 line_of (MachineFault k at) = codes "tick: machine " ++ machine_name k ++ codes " at " ++ prefixed_word at ++ codes "\n"
 line_of (OutOfSteps n) = codes "tick: out of " ++ decimal n ++ codes " steps\n"

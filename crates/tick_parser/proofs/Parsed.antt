@@ -1,5 +1,6 @@
 -- The tree that the grammar reads from tokens has few nodes, and names its functions.
-use Rattle.std.proofs.Common.{◌≡◌, ℕ, ◌+◌, ◌*◌, ◌≤◌, List, [], ◌∷◌, length, map, refl, ap, sym, subst, ◌∙◌, Result, Ok, Err, arith}
+use Rattle.std.proofs.Common.{◌≡◌, ℕ, ◌+◌, ◌*◌, ◌≤◌, List, [], ◌∷◌, length, map, refl, ap, sym, subst, ◌∙◌, Result, Ok}
+use Rattle.std.proofs.Common.{Err, arith}
 use Rattle.std.proofs.lemmas.List.{length-map}
 use Rattle.tick_tree.specs.declared.fault.Fault.{Fault}
 use Rattle.tick_tree.specs.declared.syntax.External.{External}
@@ -10,7 +11,8 @@ use Rattle.parse_grammar.specs.declared.stop.Stop.{Stop}
 use Rattle.parse_grammar.specs.Input.{Input, Outcome}
 use Rattle.parse_grammar.specs.Statements.{room_of, program}
 use Rattle.parse_spelling.specs.Spelling.{spells_program}
-use Rattle.parse_spelling.specs.Words.{Word, Words, Plain, Name, Number, Character, String, word_by, join_strings, join, words}
+use Rattle.parse_spelling.specs.Words.{Word, Words, Plain, Name, Number, Character, String, word_by, join_strings, join}
+use Rattle.parse_spelling.specs.Words.{words}
 use Rattle.parse_spelling.proofs.Gives.{Gives, taken_from}
 use Rattle.parse_spelling.proofs.Stated.{program_says}
 use Rattle.tick_parser.specs.Items.{Text, items_of, item_of}
@@ -52,10 +54,12 @@ same_items xs ys e = cc
 same_tree : (t z : Tree) → ◌≡◌ {A = Result Tree Fault} (Ok t) (Ok z) → t ≡ z
 same_tree t z e = cc
 
-few_items : (i : List Item) (xs : List External) → words i ≡ spells_program xs [] → 1 + total (map item_weight xs) ≤ 4 * length i + 1
+few_items : (i : List Item) (xs : List External) → words i ≡ spells_program xs [] →
+    1 + total (map item_weight xs) ≤ 4 * length i + 1
 few_items i xs e = omega (arith, program_few xs [], words_few i, ap length e)
 
-given_named : (r : Outcome (List External)) (xs : List External) → Gives r (λ found j. EachNamed found) → items_or_stop r ≡ Ok xs → EachNamed xs
+given_named : (r : Outcome (List External)) (xs : List External) → Gives r (λ found j. EachNamed found) →
+    items_or_stop r ≡ Ok xs → EachNamed xs
 given_named (Ok p) xs g e = subst EachNamed (same_items p.0 xs e) (taken_from p.0 p.1 (λ found j. EachNamed found) g)
 given_named (Err k) xs g e = absurd (cc)
 
@@ -63,8 +67,11 @@ outcome_named : (i : Input) (xs : List External) → outcome i ≡ Ok xs → Eac
 unfolding outcome
 outcome_named i xs e = given_named (program (room_of max_nesting) i) xs (program_named max_nesting i) e
 
-program_spells : (i : Input) (r : Outcome (List External)) (xs : List External) → Gives r (λ found j. words i ≡ spells_program found []) → items_or_stop r ≡ Ok xs → words i ≡ spells_program xs []
-program_spells i (Ok p) xs g e = taken_from p.0 p.1 (λ found j. words i ≡ spells_program found []) g ∙ ap (λ l. spells_program l []) (same_items p.0 xs e)
+program_spells : (i : Input) (r : Outcome (List External)) (xs : List External) →
+    Gives r (λ found j. words i ≡ spells_program found []) → items_or_stop r ≡ Ok xs → words i ≡ spells_program xs []
+program_spells i (Ok p) xs g e =
+    taken_from p.0 p.1 (λ found j. words i ≡ spells_program found []) g ∙
+    ap (λ l. spells_program l []) (same_items p.0 xs e)
 program_spells i (Err k) xs g e = absurd (cc)
 
 outcome_spells : (i : Input) (xs : List External) → outcome i ≡ Ok xs → words i ≡ spells_program xs []
@@ -73,16 +80,22 @@ outcome_spells i xs e = program_spells i (program (room_of max_nesting) i) xs (p
 
 -- what the grammar reads of so few tokens
 pub outcome_is_text : (i : List Item) (xs : List External) → length i ≤ 262144 → outcome i ≡ Ok xs → IsText xs
-outcome_is_text i xs few e = record { named = outcome_named i xs e; small = omega (arith, few, few_items i xs (outcome_spells i xs e)) }
+outcome_is_text i xs few e =
+    record { named = outcome_named i xs e; small = omega (arith, few, few_items i xs (outcome_spells i xs e)) }
 
 items_few : (text : Text) (tokens : List Token) → length tokens ≤ 262144 → length (items_of text tokens) ≤ 262144
 items_few text tokens few = subst (λ n. n ≤ 262144) (sym (length-map tokens (item_of text))) few
 
-pub is_text : (text : Text) (tokens : List Token) (i : List Item) (xs : List External) → length tokens ≤ 262144 → i ≡ items_of text tokens → outcome i ≡ Ok xs → IsText xs
-is_text text tokens i xs few same e = outcome_is_text i xs (subst (λ (j : List Item). length j ≤ 262144) (sym same) (items_few text tokens few)) e
+pub is_text : (text : Text) (tokens : List Token) (i : List Item) (xs : List External) → length tokens ≤ 262144 →
+    i ≡ items_of text tokens → outcome i ≡ Ok xs → IsText xs
+is_text text tokens i xs few same e =
+    outcome_is_text i xs (subst (λ (j : List Item). length j ≤ 262144) (sym same) (items_few text tokens few)) e
 
-judged_is_text : (text : Text) (tokens : List Token) (r : Result (List External) Stop) (t : Tree) → length tokens ≤ 262144 → outcome (items_of text tokens) ≡ r → judged text tokens r ≡ Ok t → IsText t.items
-judged_is_text text tokens (Ok xs) t few o e = subst (λ (z : Tree). IsText z.items) (same_tree (record { items = xs }) t e) (is_text text tokens (items_of text tokens) xs few refl o)
+judged_is_text : (text : Text) (tokens : List Token) (r : Result (List External) Stop) (t : Tree) →
+    length tokens ≤ 262144 → outcome (items_of text tokens) ≡ r → judged text tokens r ≡ Ok t → IsText t.items
+judged_is_text text tokens (Ok xs) t few o e =
+    subst (λ (z : Tree). IsText z.items) (same_tree (record { items = xs }) t e)
+    (is_text text tokens (items_of text tokens) xs few refl o)
 judged_is_text text tokens (Err k) t few o e = absurd (cc)
 
 pub parsed_is_text : ParsedAreTexts

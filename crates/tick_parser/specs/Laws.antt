@@ -8,4 +8,5 @@ use Rattle.tick_parser.specs.Trees.{parsed}
 
 -- the tree that is read of so few tokens names its functions and is small
 abbrev pub ParsedAreTexts : Type 0
-ParsedAreTexts = (text : Text) (tokens : List Token) (t : Tree) → length tokens ≤ 262144 → parsed text tokens ≡ Ok t → IsText t.items
+ParsedAreTexts = (text : Text) (tokens : List Token) (t : Tree) → length tokens ≤ 262144 → parsed text tokens ≡ Ok t →
+    IsText t.items

@@ -1,4 +1,5 @@
--- The tree of a text, by its tokens, or the first token that is wrong: Syntax where the grammar takes no such token there,
+-- The tree of a text, by its tokens, or the first token that is wrong: Syntax where the grammar takes no such token
+-- there,
 -- TooDeep where it nests over 200 levels. The end of the text counts as a token, on the line behind the last byte.
 use Rattle.std.specs.Prelude.{ℕ, ◌+◌, ◌-◌, ◌==◌, ◌≡◌, ◌≢◌, List, [], ◌∷◌, length, drop, Result, Ok, Err}
 use Rattle.std.specs.List.{count_by}

@@ -1,5 +1,6 @@
 -- What a whole call shows of the run of its image, and of the meaning of its text.
-use Rattle.std.proofs.Common.{◌≡◌, ◌≢◌, ◌⊎◌, inl, inr, ℕ, ◌+◌, Bool, true, false, List, length, Option, Some, None, Result, Ok, Err, nat_lt, if◌then◌else◌, refl, sym, ap, ◌∙◌, subst}
+use Rattle.std.proofs.Common.{◌≡◌, ◌≢◌, ◌⊎◌, inl, inr, ℕ, ◌+◌, Bool, true, false, List, length, Option, Some, None}
+use Rattle.std.proofs.Common.{Result, Ok, Err, nat_lt, if◌then◌else◌, refl, sym, ap, ◌∙◌, subst}
 use Rattle.std.proofs.lemmas.Bool.{false≢true}
 use Rattle.std.proofs.lemmas.List.{append_cancel_right}
 use Rattle.host_edge.specs.Files.{Loads}
@@ -23,7 +24,8 @@ use Rattle.tick_top.specs.Answers.{IsBare}
 use Rattle.tick_top.specs.Does.{Runs}
 use Rattle.tick_top.specs.Top.{Reports}
 use Rattle.tick_top.specs.Seen.{EndsBehind, IsInput, ShowsRun}
-use Rattle.tick_top.specs.Rows.{file_of, longest_of, content_refusal, refusal, text_refusal, assembly_refusal, image_refusal}
+use Rattle.tick_top.specs.Rows.{file_of, longest_of, content_refusal, refusal, text_refusal, assembly_refusal}
+use Rattle.tick_top.specs.Rows.{image_refusal}
 use Rattle.tick_top.proofs.Came.{Performed, Came}
 use Rattle.tick_top.proofs.Outcomes.{is_refusal, refusal_no_machine, is_of_machine, reported}
 use Rattle.tick_top.proofs.Runs.{shows_run}
@@ -51,7 +53,8 @@ image_kind (Err fault) o e = ap is_refusal (some_is e)
     some_is : ◌≡◌ {A = Option Outcome} (Some (outcome.BadImage fault)) (Some o) → o ≡ outcome.BadImage fault
     some_is q = cc
 
-content_kind : (order : Order) (bytes : List ℕ) (o : Outcome) → content_refusal order bytes ≡ Some o → is_refusal o ≡ true
+content_kind : (order : Order) (bytes : List ℕ) (o : Outcome) → content_refusal order bytes ≡ Some o →
+    is_refusal o ≡ true
 content_kind (run file steps) bytes o e = text_kind (typed bytes) o e
 content_kind (build file path) bytes o e = text_kind (typed bytes) o e
 content_kind (exec file steps) bytes o e = image_kind (parsed bytes) o e
@@ -69,10 +72,12 @@ refusal_kind order bytes o e = by (nat_lt (longest_of order) (length bytes)) e
     by false q = content_kind order bytes o q
 
 -- bytes that aren't refused aren't too many
-pub short_enough : (order : Order) (bytes : List ℕ) → refusal order bytes ≡ None → nat_lt (longest_of order) (length bytes) ≡ false
+pub short_enough : (order : Order) (bytes : List ℕ) → refusal order bytes ≡ None →
+    nat_lt (longest_of order) (length bytes) ≡ false
 short_enough order bytes e = by (nat_lt (longest_of order) (length bytes)) refl e
   where
-    by : (b : Bool) → nat_lt (longest_of order) (length bytes) ≡ b → (if b then Some outcome.TooLong else content_refusal order bytes) ≡ None
+    by : (b : Bool) → nat_lt (longest_of order) (length bytes) ≡ b →
+        (if b then Some outcome.TooLong else content_refusal order bytes) ≡ None
         → nat_lt (longest_of order) (length bytes) ≡ false
     by true is q = absurd (none_is q)
       where
@@ -101,45 +106,55 @@ pub record IsDone (order : Order) (old new : Outside) (e : code.Ended) : Type 0 
   pub fine : refusal order bytes ≡ None
   pub done : Performed order old new e bytes
 
-pub is_done : (order : Order) (old new : Outside) (e : code.Ended) → IsRun e → Came order old new e → IsDone order old new e
+pub is_done : (order : Order) (old new : Outside) (e : code.Ended) → IsRun e → Came order old new e →
+    IsDone order old new e
 is_done order old new e is (inl failed) = absurd (is outcome.LoadFault failed refl)
 is_done order old new e is (inr (bytes, loads, inl (o, refused, bare))) =
     absurd (is o bare (refusal_no_machine o (refusal_kind order bytes o refused)))
-is_done order old new e is (inr (bytes, loads, inr (fine, done))) = record { bytes = bytes; loads = loads; fine = fine; done = done }
+is_done order old new e is (inr (bytes, loads, inr (fine, done))) =
+    record { bytes = bytes; loads = loads; fine = fine; done = done }
 
 -- a machine ran: what is shown of its run
 pub shows : (steps : ℕ) (old new : Outside) (e : code.Ended) (image : ImageParts) → Runs steps old new e image
     → ShowsRun steps image e.choices.items old.left new.left old.taken new.taken e.outcome
 shows steps old new e image (files, r) =
-    subst (ShowsRun steps image e.choices.items old.left new.left old.taken new.taken) (sym r.outcome) (shows_run steps image r.final old.left new.left old.taken new.taken e.choices.items r.stop r.ran)
+    subst (ShowsRun steps image e.choices.items old.left new.left old.taken new.taken) (sym r.outcome)
+    (shows_run steps image r.final old.left new.left old.taken new.taken e.choices.items r.stop r.ran)
 
 -- one that also holds where standard error failed
 unsaid_shows : (n : ℕ) (image : ImageParts) (choices : List ℕ) (left later taken told : Option (List ℕ)) (status : ℕ)
-    → ShowsRun n image choices left later taken told (outcome.Done status) → ShowsRun n image choices left later taken told outcome.WriteFault
+    → ShowsRun n image choices left later taken told (outcome.Done status) →
+    ShowsRun n image choices left later taken told outcome.WriteFault
 unsaid_shows n image choices left later taken told status s = record {
   input = s.input;
   is_input = s.is_input;
   seen = record {
     bytes = output (runs image s.input choices n).history;
     put_out = s.seen.1.put_out;
-    front = to_prefix (output (runs image s.input choices n).history) (output (runs image s.input choices n).history) refl;
+    front = to_prefix (output (runs image s.input choices n).history) (output (runs image s.input choices n).history)
+        refl;
   };
 }
 
-pub shows_reported : (n : ℕ) (image : ImageParts) (choices : List ℕ) (left later taken told said said' : Option (List ℕ)) (first last : Outcome) (old new : ℕ)
-    → Reports first last said said' old new → ShowsRun n image choices left later taken told first → ShowsRun n image choices left later taken told last
+pub shows_reported : (n : ℕ) (image : ImageParts) (choices : List ℕ)
+    (left later taken told said said' : Option (List ℕ)) (first last : Outcome) (old new : ℕ)
+    → Reports first last said said' old new → ShowsRun n image choices left later taken told first →
+    ShowsRun n image choices left later taken told last
 shows_reported n image choices left later taken told said said' first last old new reports s =
     by (reported first last said said' old new reports)
   where
-    by : (last ≡ first) ⊎ ((status : ℕ) × (first ≡ outcome.Done status) × (last ≡ outcome.WriteFault)) → ShowsRun n image choices left later taken told last
+    by : (last ≡ first) ⊎ ((status : ℕ) × (first ≡ outcome.Done status) × (last ≡ outcome.WriteFault)) →
+        ShowsRun n image choices left later taken told last
     by (inl same) = subst (ShowsRun n image choices left later taken told) (sym same) s
     by (inr (status, done, fault)) =
         subst (ShowsRun n image choices left later taken told) (sym fault)
-        (unsaid_shows n image choices left later taken told status (subst (ShowsRun n image choices left later taken told) done s))
+        (unsaid_shows n image choices left later taken told status
+        (subst (ShowsRun n image choices left later taken told) done s))
 
 -- ---- the input
 
-pub input_ends : (left later : Option (List ℕ)) (o : Outcome) (input : Input) → o ≢ outcome.ReadFault → IsInput left later o input → EndsBehind left input
+pub input_ends : (left later : Option (List ℕ)) (o : Outcome) (input : Input) → o ≢ outcome.ReadFault →
+    IsInput left later o input → EndsBehind left input
 input_ends left later (outcome.Done s) input other h = h
 input_ends left later (outcome.BadWords p) input other h = h
 input_ends left later (outcome.Refused fault) input other h = h
@@ -154,14 +169,17 @@ input_ends left later outcome.WriteFault input other h = h
 input_ends left later outcome.ReadFault input other h = absurd (other refl)
 input_ends left later outcome.SaveFault input other h = h
 
-one_failing : (bytes : List ℕ) (later : Option (List ℕ)) (a b : Input) → IsInput (Some bytes) later outcome.ReadFault a → IsInput (Some bytes) later outcome.ReadFault b → a ≡ b
+one_failing : (bytes : List ℕ) (later : Option (List ℕ)) (a b : Input) →
+    IsInput (Some bytes) later outcome.ReadFault a → IsInput (Some bytes) later outcome.ReadFault b → a ≡ b
 one_failing bytes None a b p q = absurd p.0
 one_failing bytes (Some rest) a b p q =
-    ap (λ (l : List ℕ). record { bytes = l; failing = a.failing }) (append_cancel_right a.bytes b.bytes rest (sym p.0 ∙ q.0))
+    ap (λ (l : List ℕ). record { bytes = l; failing = a.failing })
+    (append_cancel_right a.bytes b.bytes rest (sym p.0 ∙ q.0))
     ∙ ap (λ f. record { bytes = b.bytes; failing = f }) (p.1 ∙ sym q.1)
 
 -- a told input is one
-pub one_input : (bytes : List ℕ) (later : Option (List ℕ)) (o : Outcome) (a b : Input) → IsInput (Some bytes) later o a → IsInput (Some bytes) later o b → a ≡ b
+pub one_input : (bytes : List ℕ) (later : Option (List ℕ)) (o : Outcome) (a b : Input) →
+    IsInput (Some bytes) later o a → IsInput (Some bytes) later o b → a ≡ b
 one_input bytes later (outcome.Done s) a b p q = p ∙ sym q
 one_input bytes later (outcome.BadWords x) a b p q = p ∙ sym q
 one_input bytes later (outcome.Refused fault) a b p q = p ∙ sym q

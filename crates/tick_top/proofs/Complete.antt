@@ -1,5 +1,6 @@
 -- Where nothing outside failed, a command whose file isn't refused is done.
-use Rattle.std.proofs.Common.{◌≡◌, ◌≢◌, ◌⊎◌, inl, inr, ℕ, ◌+◌, ◌<◌, ◌≤◌, false, arith, lt-ltb, List, length, take, Option, Some, None, Result, Ok, nat_lt, refl, sym, ap, ◌∙◌, subst}
+use Rattle.std.proofs.Common.{◌≡◌, ◌≢◌, ◌⊎◌, inl, inr, ℕ, ◌+◌, ◌<◌, ◌≤◌, false, arith, lt-ltb, List, length, take}
+use Rattle.std.proofs.Common.{Option, Some, None, Result, Ok, nat_lt, refl, sym, ap, ◌∙◌, subst}
 use Rattle.std.proofs.lemmas.Bool.{false≢true, cases_lt}
 use Rattle.std.proofs.lemmas.List.{take_all}
 use Rattle.host_edge.specs.Files.{Loads}
@@ -30,7 +31,9 @@ use Rattle.tick_top.proofs.Meant.{in_time}
 use Rattle.tick_top.proofs.Outcomes.{seen_whole}
 use Rattle.tick_top.proofs.Rows.{performed, refused_front}
 
-module _ (words : List (List ℕ)) (old new : Outside) (before now : Failures) (taken said : Option (List ℕ)) (err_before err_now : ℕ) (e : code.Ended) (did : Ticked words old new before now taken said err_before err_now e) (fine : Unfailed before now err_before err_now) where
+module _ (words : List (List ℕ)) (old new : Outside) (before now : Failures) (taken said : Option (List ℕ))
+    (err_before err_now : ℕ) (e : code.Ended) (did : Ticked words old new before now taken said err_before err_now e)
+    (fine : Unfailed before now err_before err_now) where
   abbrev first : Outcome
   first = did.0
 
@@ -63,11 +66,14 @@ module _ (words : List (List ℕ)) (old new : Outside) (before now : Failures) (
 
   -- ---- a told file that isn't refused
 
-  module _ (order : Order) (file : List ℕ) (ordered : order_of words ≡ Ok order) (is_told : old.file (file_of order) ≡ Some (Some file)) (accepted : refusal order file ≡ None) where
-    loaded : (bytes : List ℕ) → Loads (old.file (file_of order)) (longest_of order + 1) bytes → bytes ≡ take (longest_of order + 1) file
+  module _ (order : Order) (file : List ℕ) (ordered : order_of words ≡ Ok order)
+      (is_told : old.file (file_of order) ≡ Some (Some file)) (accepted : refusal order file ≡ None) where
+    loaded : (bytes : List ℕ) → Loads (old.file (file_of order)) (longest_of order + 1) bytes →
+        bytes ≡ take (longest_of order + 1) file
     loaded bytes loads = subst (λ t. Loads t (longest_of order + 1) bytes) is_told loads
 
-    not_refused : (bytes : List ℕ) → Loads (old.file (file_of order)) (longest_of order + 1) bytes → refusal order bytes ≡ None
+    not_refused : (bytes : List ℕ) → Loads (old.file (file_of order)) (longest_of order + 1) bytes →
+        refusal order bytes ≡ None
     not_refused bytes loads = ap (refusal order) (loaded bytes loads) ∙ refused_front order file ∙ accepted
 
     pub done : IsDone order old new at_first
@@ -85,10 +91,12 @@ module _ (words : List (List ℕ)) (old new : Outside) (before now : Failures) (
     saved_done path bytes a b (inl s) = s.0.outcome
     saved_done path bytes a b (inr s) = absurd (no_save_fault s.0.outcome)
 
-    order_done : (o : Order) (bytes : List ℕ) → most_steps o ≡ None → Performed o old new at_first bytes → first ≡ outcome.Done 0
+    order_done : (o : Order) (bytes : List ℕ) → most_steps o ≡ None → Performed o old new at_first bytes →
+        first ≡ outcome.Done 0
     order_done (run path steps) bytes none d = absurd cc
     order_done (exec path steps) bytes none d = absurd cc
-    order_done (build path image) bytes none (program, is, s) = saved_done image s.saves.bytes old.file new.file s.saves.saved
+    order_done (build path image) bytes none (program, is, s) =
+        saved_done image s.saves.bytes old.file new.file s.saves.saved
     order_done (asm path image) bytes none (parts, is, s) = saved_done image s.bytes old.file new.file s.saved
     order_done (dis path) bytes none (parts, is, inl p) = p.0.outcome
     order_done (dis path) bytes none (parts, is, inr p) = absurd (no_write_fault p.0.outcome)
@@ -102,39 +110,52 @@ module _ (words : List (List ℕ)) (old new : Outside) (before now : Failures) (
         → (first ≡ outcome_at steps (runs image (told bytes) e.choices.items steps).ending)
         × Moves old.left new.left old.taken new.taken (runs image (told bytes) e.choices.items steps).history
     told_run steps bytes image left s =
-        let input : s.input ≡ told bytes = subst (λ l. EndsBehind l s.input) left (input_ends old.left new.left first s.input no_read_fault s.is_input) in
+        let input : s.input ≡ told bytes =
+        subst (λ l. EndsBehind l s.input) left (input_ends old.left new.left first s.input no_read_fault s.is_input)
+        in
         subst
-        (λ i. (first ≡ outcome_at steps (runs image i e.choices.items steps).ending) × Moves old.left new.left old.taken new.taken (runs image i e.choices.items steps).history)
+        (λ i. (first ≡ outcome_at steps (runs image i e.choices.items steps).ending) ×
+        Moves old.left new.left old.taken new.taken (runs image i e.choices.items steps).history)
         input
-        (seen_whole steps old.left new.left old.taken new.taken first (runs image s.input e.choices.items steps) no_write_fault s.seen)
+        (seen_whole steps old.left new.left old.taken new.taken first (runs image s.input e.choices.items steps)
+        no_write_fault s.seen)
 
     pub ends_so : (steps : ℕ) (bytes : List ℕ) → most_steps order ≡ Some steps → old.left ≡ Some bytes
-        → (image : ImageParts) × (e.image ≡ Some image) × (e.outcome ≡ outcome_at steps (runs image (told bytes) e.choices.items steps).ending)
+        → (image : ImageParts) × (e.image ≡ Some image) ×
+        (e.outcome ≡ outcome_at steps (runs image (told bytes) e.choices.items steps).ending)
     ends_so steps bytes most left =
         let s = order_shows order steps old new at_first done.bytes most done.done in
         (s.image, s.handed_back, said_first ∙ (told_run steps bytes s.image left s.shown).0)
 
   -- ---- a told text that is accepted
 
-  accepted_is : (file text : List ℕ) (steps : ℕ) (program : Program) → nat_lt longest_text (length text) ≡ false → typed text ≡ Ok program → refusal (run file steps) text ≡ None
+  accepted_is : (file text : List ℕ) (steps : ℕ) (program : Program) → nat_lt longest_text (length text) ≡ false →
+      typed text ≡ Ok program → refusal (run file steps) text ≡ None
   accepted_is file text steps program short is = rw short (rw is refl)
 
   one_program : (r : Result Program Fault) (a b : Program) → r ≡ Ok a → r ≡ Ok b → a ≡ b
   one_program r a b p q = cc
 
   pub completes : (file text : List ℕ) (steps : ℕ) (program : Program) (bytes : List ℕ) (units : ℕ) (end : Ending)
-      → order_of words ≡ Ok (run file steps) → old.file file ≡ Some (Some text) → nat_lt longest_text (length text) ≡ false → typed text ≡ Ok program
+      → order_of words ≡ Ok (run file steps) → old.file file ≡ Some (Some text) →
+      nat_lt longest_text (length text) ≡ false → typed text ≡ Ok program
       → old.left ≡ Some bytes → (meant program (told bytes) units).ending ≡ Some (Ended end) → allowed units ≤ steps
-      → (e.outcome ≡ outcome_at steps (Some (Ended end))) × Moves old.left new.left old.taken new.taken (meant program (told bytes) units).history
+      → (e.outcome ≡ outcome_at steps (Some (Ended end))) ×
+      Moves old.left new.left old.taken new.taken (meant program (told bytes) units).history
   completes file text steps program bytes units end ordered is_told short is left ends le =
       let accepted = accepted_is file text steps program short is in
       let d = done (run file steps) text ordered is_told accepted in
       let r = d.done.2 in
-      let shown = told_run (run file steps) text ordered is_told accepted steps bytes r.image left (shows steps old new at_first r.image r.runs) in
-      let whole : d.bytes ≡ text = loaded (run file steps) text ordered is_told accepted d.bytes d.loads ∙ all_of text short in
+      let shown = told_run (run file steps) text ordered is_told accepted steps bytes r.image left
+      (shows steps old new at_first r.image r.runs) in
+      let whole : d.bytes ≡ text =
+      loaded (run file steps) text ordered is_told accepted d.bytes d.loads ∙ all_of text short in
       let same = one_program (typed text) d.done.0 program (ap typed (sym whole) ∙ d.done.1) is in
-      let there = in_time program r.image (subst (λ p. Headline p r.image) same r.headline) e.choices.items (told bytes) steps units (Ended end) ends le in
-      (said_first ∙ shown.0 ∙ ap (outcome_at steps) there.0, subst (Moves old.left new.left old.taken new.taken) there.1 shown.1)
+      let there = in_time program r.image (subst (λ p. Headline p r.image) same r.headline) e.choices.items (told bytes)
+      steps units (Ended end) ends le in (
+        said_first ∙ shown.0 ∙ ap (outcome_at steps) there.0,
+        subst (Moves old.left new.left old.taken new.taken) there.1 shown.1,
+      )
     where
       all_of : (text : List ℕ) → nat_lt longest_text (length text) ≡ false → take (longest_text + 1) text ≡ text
       all_of text short = take_all (longest_text + 1) text (within (cases_lt longest_text (length text)))

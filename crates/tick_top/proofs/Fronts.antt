@@ -1,5 +1,6 @@
 -- From what came of a file to what a command did with it.
-use Rattle.std.proofs.Common.{◌≡◌, ℕ, ◌+◌, List, length, Option, Result, Ok, Err, IfOk, nat_lt, inl, inr, false, subst, sym}
+use Rattle.std.proofs.Common.{◌≡◌, ℕ, ◌+◌, List, length, Option, Result, Ok, Err, IfOk, nat_lt, inl, inr, false, subst}
+use Rattle.std.proofs.Common.{sym}
 use Rattle.host_edge.specs.Files.{Loads}
 use Rattle.image_file.specs.Image.{ImageParts}
 use Rattle.mips_text.specs.Assembly.{assembled}
@@ -12,7 +13,8 @@ use Rattle.tick_top.specs.declared.ended.Ended.{Ended}
 use Rattle.command_words.specs.Orders.{Order, build}
 use Rattle.tick_top.specs.Outside.{Files, Outside, Still, SameFiles}
 use Rattle.tick_top.specs.Answers.{IsFront, longest_text, IsBuilt, IsRefused, IsAssembled, IsAsmRefused}
-use Rattle.tick_top.specs.Does.{WithFile, WithProgram, WithAssembled, Unsaved, SavesImage, SavesProgram, AssemblesFile, BuildsFile, Does}
+use Rattle.tick_top.specs.Does.{WithFile, WithProgram, WithAssembled, Unsaved, SavesImage, SavesProgram, AssemblesFile}
+use Rattle.tick_top.specs.Does.{BuildsFile, Does}
 use Rattle.tick_top.proofs.Saved.{saves_on}
 
 pub if_ok : {T E : Type 0} {P Q : T → Type 0} (r : Result T E) → ((x : T) → P x → Q x) → IfOk r P → IfOk r Q
@@ -21,24 +23,29 @@ if_ok (Err e) f p = p
 
 module _ (answers : Outcome → Type 0) where
   in_file : (told : Option (Option (List ℕ))) (longest : ℕ) (next : List ℕ → Type 0) (bytes : List ℕ)
-      → Loads told (longest + 1) bytes → nat_lt longest (length bytes) ≡ false → next bytes → WithFile told longest answers next
+      → Loads told (longest + 1) bytes → nat_lt longest (length bytes) ≡ false → next bytes →
+      WithFile told longest answers next
   in_file told longest next bytes loads short n = inr (bytes, loads, rw short n)
 
   pub found : (told : Option (Option (List ℕ))) (longest : ℕ) (good : List ℕ → ImageParts → Type 0)
       (bad : List ℕ → Outcome → Type 0) (next : List ℕ → Type 0) (image : ImageParts)
       → ((bytes : List ℕ) → good bytes image → next bytes)
-      → (f : (bytes : List ℕ) × Loads told (longest + 1) bytes × (nat_lt longest (length bytes) ≡ false) × good bytes image)
+      → (f : (bytes : List ℕ) × Loads told (longest + 1) bytes × (nat_lt longest (length bytes) ≡ false) ×
+      good bytes image)
       → WithFile told longest answers next
   found told longest good bad next image then (bytes, loads, short, g) =
       in_file told longest next bytes loads short (then bytes g)
 
-  pub program : (next : List ℕ → Program → Type 0) (text : List ℕ) (p : Program) → typed text ≡ Ok p → next text p → WithProgram answers next text
+  pub program : (next : List ℕ → Program → Type 0) (text : List ℕ) (p : Program) → typed text ≡ Ok p → next text p →
+      WithProgram answers next text
   program next text p accepted n = rw accepted n
 
-  pub assembled_to : (next : ImageParts → Type 0) (text : List ℕ) (i : ImageParts) → assembled text ≡ Ok i → next i → WithAssembled answers next text
+  pub assembled_to : (next : ImageParts → Type 0) (text : List ℕ) (i : ImageParts) → assembled text ≡ Ok i → next i →
+      WithAssembled answers next text
   assembled_to next text i e n = rw e n
 
-  pub refused : (next : List ℕ → Program → Type 0) (text : List ℕ) (o : Outcome) → IsRefused text o → answers o → WithProgram answers next text
+  pub refused : (next : List ℕ → Program → Type 0) (text : List ℕ) (o : Outcome) → IsRefused text o → answers o →
+      WithProgram answers next text
   refused next text (outcome.Refused fault) e a = rw e a
   refused next text (outcome.Done s) e a = absurd e
   refused next text (outcome.BadWords p) e a = absurd e
@@ -54,28 +61,45 @@ module _ (answers : Outcome → Type 0) where
   refused next text outcome.SaveFault e a = absurd e
 
 -- the whole of `asm` and of `build`, for files before a load, behind it and behind a save
-module _ (file path : List ℕ) (old mid new : Files) (e : Ended) (image : ImageParts) (same : SameFiles old mid) (s : SavesImage path mid new e image) where
-  pub assembles : IsFront (old file) longest_text IsAssembled IsAsmRefused (Found image) → AssemblesFile file path old new e
-  assembles f = found (Unsaved old new e) (old file) longest_text IsAssembled IsAsmRefused (WithAssembled (Unsaved old new e) (SavesImage path old new e)) image
-      (λ text a. assembled_to (Unsaved old new e) (SavesImage path old new e) text image a (saves_on path old mid new e image same s)) f
+module _ (file path : List ℕ) (old mid new : Files) (e : Ended) (image : ImageParts) (same : SameFiles old mid)
+    (s : SavesImage path mid new e image) where
+  pub assembles : IsFront (old file) longest_text IsAssembled IsAsmRefused (Found image) →
+      AssemblesFile file path old new e
+  assembles f = found (Unsaved old new e) (old file) longest_text IsAssembled IsAsmRefused
+      (WithAssembled (Unsaved old new e) (SavesImage path old new e)) image
+      (λ text a. assembled_to (Unsaved old new e) (SavesImage path old new e) text image a
+      (saves_on path old mid new e image same s)) f
 
-  saves_program : (text : List ℕ) → IsBuilt text image → WithProgram (Unsaved old new e) (SavesProgram path old new e) text
-  saves_program text (p, accepted, headline, choices, lowering) = program (Unsaved old new e) (SavesProgram path old new e) text p accepted
-      (record { image = image; lowering = lowering; headline = headline; choices = choices; saves = saves_on path old mid new e image same s })
+  saves_program : (text : List ℕ) → IsBuilt text image →
+      WithProgram (Unsaved old new e) (SavesProgram path old new e) text
+  saves_program text (p, accepted, headline, choices, lowering) =
+      program (Unsaved old new e) (SavesProgram path old new e) text p accepted
+      (record {
+        image = image;
+        lowering = lowering;
+        headline = headline;
+        choices = choices;
+        saves =
+            saves_on path old mid new e image same s;
+      })
 
   pub builds : IsFront (old file) longest_text IsBuilt IsRefused (Found image) → BuildsFile file path old new e
-  builds f = found (Unsaved old new e) (old file) longest_text IsBuilt IsRefused (WithProgram (Unsaved old new e) (SavesProgram path old new e)) image saves_program f
+  builds f = found (Unsaved old new e) (old file) longest_text IsBuilt IsRefused
+      (WithProgram (Unsaved old new e) (SavesProgram path old new e)) image saves_program f
 
 -- where there is no image
 module _ (file path : List ℕ) (old new : Files) (e : Ended) where
   refuses : (o : Outcome) → Unsaved old new e o
-      → (f : (bytes : List ℕ) × Loads (old file) (longest_text + 1) bytes × (nat_lt longest_text (length bytes) ≡ false) × IsRefused bytes o)
+      → (f : (bytes : List ℕ) × Loads (old file) (longest_text + 1) bytes ×
+      (nat_lt longest_text (length bytes) ≡ false) × IsRefused bytes o)
       → BuildsFile file path old new e
   refuses o a (bytes, loads, short, r) =
-      in_file (Unsaved old new e) (old file) longest_text (WithProgram (Unsaved old new e) (SavesProgram path old new e)) bytes loads short
+      in_file (Unsaved old new e) (old file) longest_text
+      (WithProgram (Unsaved old new e) (SavesProgram path old new e)) bytes loads short
       (refused (Unsaved old new e) (SavesProgram path old new e) bytes o r a)
 
-  pub builds_nothing : (o : Outcome) → Unsaved old new e o → IsFront (old file) longest_text IsBuilt IsRefused (Instead o) → BuildsFile file path old new e
+  pub builds_nothing : (o : Outcome) → Unsaved old new e o →
+      IsFront (old file) longest_text IsBuilt IsRefused (Instead o) → BuildsFile file path old new e
   builds_nothing outcome.LoadFault a f = inl a
   builds_nothing outcome.TooLong a (bytes, loads, long) = inr (bytes, loads, rw long a)
   builds_nothing (outcome.Refused fault) a f = refuses (outcome.Refused fault) a f
@@ -91,7 +115,8 @@ module _ (file path : List ℕ) (old new : Files) (e : Ended) where
   builds_nothing outcome.SaveFault a f = refuses outcome.SaveFault a f
 
 -- what the order to build does, where nothing was read or written
-pub ordered_build : {F : Type 0} (file path : List ℕ) (order : Order) (old new : Outside) (r : Result Ended F) → order ≡ build file path → Still old new
+pub ordered_build : {F : Type 0} (file path : List ℕ) (order : Order) (old new : Outside) (r : Result Ended F) →
+    order ≡ build file path → Still old new
     → IfOk r (BuildsFile file path old.file new.file) → IfOk r (Does order old new)
 ordered_build file path order old new r is still h =
     subst (λ o. IfOk r (Does o old new)) (sym is) (if_ok r (λ e b. (still, b)) h)

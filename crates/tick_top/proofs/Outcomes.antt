@@ -1,5 +1,6 @@
 -- Kinds of outcomes: which are refusals, which ending one tells of, and what standard error makes of one.
-use Rattle.std.proofs.Common.{◌≡◌, ◌≢◌, ◌⊎◌, inl, inr, ℕ, Bool, true, false, List, Option, Some, None, refl, sym, ap, ◌∙◌}
+use Rattle.std.proofs.Common.{◌≡◌, ◌≢◌, ◌⊎◌, inl, inr, ℕ, Bool, true, false, List, Option, Some, None, refl, sym, ap}
+use Rattle.std.proofs.Common.{◌∙◌}
 use Rattle.std.proofs.lemmas.Bool.{false≢true}
 use Rattle.host_edge.specs.declared.ending.Ending.TheVariants as ending
 use Rattle.history.specs.Events.{Item, End, Input}
@@ -124,7 +125,8 @@ ending_machine outcome.WriteFault r = absurd cc
 ending_machine outcome.SaveFault r = absurd cc
 
 -- what is seen, where no write failed
-pub seen_whole : (n : ℕ) (left later taken told : Option (List ℕ)) (o : Outcome) (seen : Seen Item End) → o ≢ outcome.WriteFault
+pub seen_whole : (n : ℕ) (left later taken told : Option (List ℕ)) (o : Outcome) (seen : Seen Item End) →
+    o ≢ outcome.WriteFault
     → IsSeen n left later taken told o seen → (o ≡ outcome_at n seen.ending) × Moves left later taken told seen.history
 seen_whole n left later taken told (outcome.Done s) seen other h = h
 seen_whole n left later taken told (outcome.BadWords p) seen other h = h
@@ -158,16 +160,19 @@ unsaid_is outcome.ReadFault = inl refl
 unsaid_is outcome.SaveFault = inl refl
 
 -- the outcome that is reported is the first one, but where standard error failed after Done
-pub reported : (first last : Outcome) (taken told : Option (List ℕ)) (old new : ℕ) → Reports first last taken told old new
+pub reported : (first last : Outcome) (taken told : Option (List ℕ)) (old new : ℕ) →
+    Reports first last taken told old new
     → (last ≡ first) ⊎ ((status : ℕ) × (first ≡ outcome.Done status) × (last ≡ outcome.WriteFault))
 reported first last taken told old new (inl r) = inl r.0
 reported first last taken told old new (inr r) = by (unsaid_is first)
   where
-    by : (unsaid first ≡ first) ⊎ ((status : ℕ) × (first ≡ outcome.Done status)) → (last ≡ first) ⊎ ((status : ℕ) × (first ≡ outcome.Done status) × (last ≡ outcome.WriteFault))
+    by : (unsaid first ≡ first) ⊎ ((status : ℕ) × (first ≡ outcome.Done status)) →
+        (last ≡ first) ⊎ ((status : ℕ) × (first ≡ outcome.Done status) × (last ≡ outcome.WriteFault))
     by (inl same) = inl (r.0 ∙ same)
     by (inr d) = inr (d.0, d.1, r.0 ∙ ap unsaid d.1)
 
-pub stays : (first last : Outcome) (taken told : Option (List ℕ)) (old new : ℕ) → Reports first last taken told old new → last ≢ outcome.WriteFault → last ≡ first
+pub stays : (first last : Outcome) (taken told : Option (List ℕ)) (old new : ℕ) →
+    Reports first last taken told old new → last ≢ outcome.WriteFault → last ≡ first
 stays first last taken told old new r other = by (reported first last taken told old new r)
   where
     by : (last ≡ first) ⊎ ((status : ℕ) × (first ≡ outcome.Done status) × (last ≡ outcome.WriteFault)) → last ≡ first

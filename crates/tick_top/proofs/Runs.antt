@@ -1,5 +1,6 @@
 -- What a call shows of the run of its image, from what the machine did.
-use Rattle.std.proofs.Common.{◌≡◌, ◌≢◌, ℕ, zero, suc, true, false, List, [], ◌++◌, take, Option, None, Some, refl, sym, ap, ◌∙◌, subst, append_assoc, append-nil}
+use Rattle.std.proofs.Common.{◌≡◌, ◌≢◌, ℕ, zero, suc, true, false, List, [], ◌++◌, take, Option, None, Some, refl, sym}
+use Rattle.std.proofs.Common.{ap, ◌∙◌, subst, append_assoc, append-nil}
 use Rattle.std.specs.Io.KnownBytes.{Appends, Consumes}
 use Rattle.std.proofs.lemmas.Bool.{false≢true}
 use Rattle.std.proofs.lemmas.List.{take-append-drop}
@@ -29,7 +30,8 @@ record IsBegun (final : Progress) (image : ImageParts) (given : List ℕ) (s : S
   is_input : is (before given rest)
 
 -- of told bytes the end comes behind all that were left
-to_end : (n : ℕ) (image : ImageParts) (final : Progress) (left later taken told : Option (List ℕ)) (s : Stop) → s ≢ stop.ReadFault
+to_end : (n : ℕ) (image : ImageParts) (final : Progress) (left later taken told : Option (List ℕ)) (s : Stop) →
+    s ≢ stop.ReadFault
     → (f : Ran n (first_progress image) final left later taken told s) → IsBegun final image f.given s (EndsBehind left)
 to_end n image final None later taken told s fine f = record {
   rest = no_input;
@@ -50,7 +52,8 @@ abbrev FailsBehind : Option (List ℕ) → Option (List ℕ) → Input → Type 
 FailsBehind left later input = Consumes left later input.bytes × (input.failing ≡ true)
 
 to_fault : (n : ℕ) (image : ImageParts) (final : Progress) (left later taken told : Option (List ℕ))
-    → (f : Ran n (first_progress image) final left later taken told stop.ReadFault) → IsBegun final image f.given stop.ReadFault (FailsBehind left later)
+    → (f : Ran n (first_progress image) final left later taken told stop.ReadFault) →
+    IsBegun final image f.given stop.ReadFault (FailsBehind left later)
 to_fault n image final left later taken told f = record {
   rest = record { bytes = []; failing = true };
   follows = record { ended = λ e o. absurd (false≢true (sym (f.unended refl) ∙ e)); failed = λ e. refl };
@@ -76,7 +79,8 @@ at_ending n stop.Steps other = refl
 at_ending n stop.ReadFault other = refl
 at_ending n stop.WriteFault other = absurd (other refl)
 
-module _ (n : ℕ) (image : ImageParts) (final : Progress) (left later taken told : Option (List ℕ)) (choices : List ℕ) (s : Stop) (f : Ran n (first_progress image) final left later taken told s) where
+module _ (n : ℕ) (image : ImageParts) (final : Progress) (left later taken told : Option (List ℕ)) (choices : List ℕ)
+    (s : Stop) (f : Ran n (first_progress image) final left later taken told s) where
   put_all : s ≢ stop.WriteFault → Appends taken told (output f.events)
   put_all other =
       subst (Appends taken told)
@@ -89,7 +93,8 @@ module _ (n : ℕ) (image : ImageParts) (final : Progress) (left later taken tol
   moved other = record { read = subst (Consumes left later) (sym f.taken_in) f.consumed; put_out = put_all other }
 
   module _ (rest : Input) (follows : MayFollow (first_progress image) final s rest) where
-    sees : s ≢ stop.WriteFault → runs image (before f.given rest) choices n ≡ record { history = f.events; ending = ending_of s }
+    sees : s ≢ stop.WriteFault →
+        runs image (before f.given rest) choices n ≡ record { history = f.events; ending = ending_of s }
     sees other = ap see (runs_all s other f rest [] follows).0
 
     -- the run, where no write failed
@@ -120,27 +125,63 @@ module _ (n : ℕ) (image : ImageParts) (final : Progress) (left later taken tol
       front =
           prefix_trans (output f.events ++ take f.front f.last) (output (f.events ++ outs f.last))
           (output (runs image (before f.given rest) choices n).history) front_output
-          (output_prefix (f.events ++ outs f.last) (runs image (before f.given rest) choices n).history (subst (λ l. IsPrefix l (runs image (before f.given rest) choices n).history) cut_history
-          (later_prefix (runs image (before f.given rest) choices) (grows image (before f.given rest) choices) f.count n f.within)));
+          (output_prefix (f.events ++ outs f.last) (runs image (before f.given rest) choices n).history
+          (subst (λ l. IsPrefix l (runs image (before f.given rest) choices n).history) cut_history
+          (later_prefix (runs image (before f.given rest) choices) (grows image (before f.given rest) choices) f.count n
+          f.within)));
     }
 
-pub shows_run : (n : ℕ) (image : ImageParts) (final : Progress) (left later taken told : Option (List ℕ)) (choices : List ℕ) (s : Stop)
-    → Ran n (first_progress image) final left later taken told s → ShowsRun n image choices left later taken told (outcome_of n s)
+pub shows_run : (n : ℕ) (image : ImageParts) (final : Progress) (left later taken told : Option (List ℕ))
+    (choices : List ℕ) (s : Stop)
+    → Ran n (first_progress image) final left later taken told s →
+    ShowsRun n image choices left later taken told (outcome_of n s)
 shows_run n image final left later taken told choices (stop.Ended (ending.Done x)) f =
     let b = to_end n image final left later taken told (stop.Ended (ending.Done x)) (λ e. absurd cc) f in
-    record { input = before f.given b.rest; is_input = b.is_input; seen = whole_run n image final left later taken told choices (stop.Ended (ending.Done x)) f b.rest b.follows (λ e. absurd cc) }
+    record {
+      input = before f.given b.rest;
+      is_input = b.is_input;
+      seen =
+          whole_run n image final left later taken told choices (stop.Ended (ending.Done x)) f b.rest b.follows
+          (λ e. absurd cc);
+    }
 shows_run n image final left later taken told choices (stop.Ended (ending.Trap k)) f =
     let b = to_end n image final left later taken told (stop.Ended (ending.Trap k)) (λ e. absurd cc) f in
-    record { input = before f.given b.rest; is_input = b.is_input; seen = whole_run n image final left later taken told choices (stop.Ended (ending.Trap k)) f b.rest b.follows (λ e. absurd cc) }
+    record {
+      input = before f.given b.rest;
+      is_input = b.is_input;
+      seen =
+          whole_run n image final left later taken told choices (stop.Ended (ending.Trap k)) f b.rest b.follows
+          (λ e. absurd cc);
+    }
 shows_run n image final left later taken told choices (stop.Fault k at) f =
     let b = to_end n image final left later taken told (stop.Fault k at) (λ e. absurd cc) f in
-    record { input = before f.given b.rest; is_input = b.is_input; seen = whole_run n image final left later taken told choices (stop.Fault k at) f b.rest b.follows (λ e. absurd cc) }
+    record {
+      input = before f.given b.rest;
+      is_input = b.is_input;
+      seen =
+          whole_run n image final left later taken told choices (stop.Fault k at) f b.rest b.follows (λ e. absurd cc);
+    }
 shows_run n image final left later taken told choices stop.Steps f =
     let b = to_end n image final left later taken told stop.Steps (λ e. absurd cc) f in
-    record { input = before f.given b.rest; is_input = b.is_input; seen = whole_run n image final left later taken told choices stop.Steps f b.rest b.follows (λ e. absurd cc) }
+    record {
+      input = before f.given b.rest;
+      is_input = b.is_input;
+      seen =
+          whole_run n image final left later taken told choices stop.Steps f b.rest b.follows (λ e. absurd cc);
+    }
 shows_run n image final left later taken told choices stop.ReadFault f =
     let b = to_fault n image final left later taken told f in
-    record { input = before f.given b.rest; is_input = b.is_input; seen = whole_run n image final left later taken told choices stop.ReadFault f b.rest b.follows (λ e. absurd cc) }
+    record {
+      input = before f.given b.rest;
+      is_input = b.is_input;
+      seen =
+          whole_run n image final left later taken told choices stop.ReadFault f b.rest b.follows (λ e. absurd cc);
+    }
 shows_run n image final left later taken told choices stop.WriteFault f =
     let b = to_end n image final left later taken told stop.WriteFault (λ e. absurd cc) f in
-    record { input = before f.given b.rest; is_input = b.is_input; seen = cut_run n image final left later taken told choices stop.WriteFault f b.rest b.follows }
+    record {
+      input = before f.given b.rest;
+      is_input = b.is_input;
+      seen =
+          cut_run n image final left later taken told choices stop.WriteFault f b.rest b.follows;
+    }

@@ -5,7 +5,8 @@ use Rattle.tick_top.specs.declared.ended.Ended.{Ended}
 use Rattle.tick_top.specs.Outside.{Files, SameFiles}
 use Rattle.tick_top.specs.Does.{SavedAt, SavesImage}
 
-saved_on : (path bytes : List ℕ) (old mid new : Files) (e : Ended) → mid path ≡ old path → SavedAt path bytes mid new e → SavedAt path bytes old new e
+saved_on : (path bytes : List ℕ) (old mid new : Files) (e : Ended) → mid path ≡ old path →
+    SavedAt path bytes mid new e → SavedAt path bytes old new e
 saved_on path bytes old mid new e same saved = rw (sym same) saved
 
 pub saves_on : (path : List ℕ) (old mid new : Files) (e : Ended) (image : ImageParts)

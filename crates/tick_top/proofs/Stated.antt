@@ -8,7 +8,8 @@ use Rattle.tick_top.specs.declared.ended.Ended.{Ended}
 use Rattle.tick_top.specs.Outside.{Outside, Failures}
 use Rattle.tick_top.specs.Does.{Cause}
 use Rattle.tick_top.specs.Top.{Ticked}
-use Rattle.tick_top.specs.Rows.{RefusedRow, AsmRefusedRow, TooLongRow, BadImageRow, TrapRow, MachineFaultRow, OutOfStepsRow}
+use Rattle.tick_top.specs.Rows.{RefusedRow, AsmRefusedRow, TooLongRow, BadImageRow, TrapRow, MachineFaultRow}
+use Rattle.tick_top.specs.Rows.{OutOfStepsRow}
 use Rattle.tick_top.specs.Laws.{IsOfRun, RunMeans, RunCompletes, ShowsRuns, CommandsComplete}
 use Rattle.tick_top.proofs.Outcomes.{is_of_machine}
 use Rattle.tick_top.proofs.Rows.{refusal_row, is_first}
@@ -17,36 +18,44 @@ use Rattle.tick_top.proofs.Complete as complete
 
 -- ---- the rows
 
-module _ (words : List (List ℕ)) (old new : Outside) (before now : Failures) (taken told : Option (List ℕ)) (err_before err_now : ℕ) (e : Ended) (did : Ticked words old new before now taken told err_before err_now e) where
+module _ (words : List (List ℕ)) (old new : Outside) (before now : Failures) (taken told : Option (List ℕ))
+    (err_before err_now : ℕ) (e : Ended) (did : Ticked words old new before now taken told err_before err_now e) where
   pub refused_row : RefusedRow words old e
-  refused_row fault = refusal_row words old new before now taken told err_before err_now e did (outcome.Refused fault) refl
+  refused_row fault = refusal_row words old new before now taken told err_before err_now e did (outcome.Refused fault)
+      refl
 
   pub asm_refused_row : AsmRefusedRow words old e
-  asm_refused_row fault = refusal_row words old new before now taken told err_before err_now e did (outcome.AsmRefused fault) refl
+  asm_refused_row fault = refusal_row words old new before now taken told err_before err_now e did
+      (outcome.AsmRefused fault) refl
 
   pub too_long_row : TooLongRow words old e
   too_long_row = refusal_row words old new before now taken told err_before err_now e did outcome.TooLong refl
 
   pub bad_image_row : BadImageRow words old e
-  bad_image_row fault = refusal_row words old new before now taken told err_before err_now e did (outcome.BadImage fault) refl
+  bad_image_row fault = refusal_row words old new before now taken told err_before err_now e did
+      (outcome.BadImage fault) refl
 
   pub trap_row : TrapRow words old new e
   trap_row kind =
-      endings.ending_row words old new before now taken told err_before err_now e did (λ steps. outcome.Trap kind) (Some (event.Ended (ending.Trap kind)))
+      endings.ending_row words old new before now taken told err_before err_now e did (λ steps. outcome.Trap kind)
+      (Some (event.Ended (ending.Trap kind)))
       (λ n. refl) (λ n. refl)
 
   pub machine_fault_row : MachineFaultRow words old new e
   machine_fault_row kind at = (
     endings.fault_of_exec words old new before now taken told err_before err_now e did kind at,
-    endings.ending_row words old new before now taken told err_before err_now e did (λ steps. outcome.MachineFault kind at) (Some (event.Fault kind at))
+    endings.ending_row words old new before now taken told err_before err_now e did
+        (λ steps. outcome.MachineFault kind at) (Some (event.Fault kind at))
         (λ n. refl) (λ n. refl),
   )
 
   pub cause_row : e.outcome ≢ outcome.WriteFault → Cause e.outcome before now
-  cause_row other = subst (λ o. Cause o before now) (sym (is_first words old new before now taken told err_before err_now e did other)) did.2
+  cause_row other = subst (λ o. Cause o before now)
+      (sym (is_first words old new before now taken told err_before err_now e did other)) did.2
 
   pub out_of_steps_row : OutOfStepsRow words old new e
-  out_of_steps_row = endings.ending_row words old new before now taken told err_before err_now e did outcome.OutOfSteps None (λ n. refl) (λ n. refl)
+  out_of_steps_row = endings.ending_row words old new before now taken told err_before err_now e did outcome.OutOfSteps
+      None (λ n. refl) (λ n. refl)
 
 -- ---- the laws
 
@@ -67,18 +76,23 @@ of_machine outcome.SaveFault is = absurd is
 
 pub run_means : RunMeans
 run_means c file steps o did ordered same is =
-    endings.run_means c.words c.old c.new c.before c.now c.said_before c.said_now c.err_before c.err_now c.ended did file steps o ordered same (of_machine o is)
+    endings.run_means c.words c.old c.new c.before c.now c.said_before c.said_now c.err_before c.err_now c.ended did
+    file steps o ordered same (of_machine o is)
 
 pub run_completes : RunCompletes
 run_completes c file text steps program bytes units end did fine =
-    complete.completes c.words c.old c.new c.before c.now c.said_before c.said_now c.err_before c.err_now c.ended did fine file text steps program bytes units end
+    complete.completes c.words c.old c.new c.before c.now c.said_before c.said_now c.err_before c.err_now c.ended did
+    fine file text steps program bytes units end
 
 pub shows_runs : ShowsRuns
 shows_runs c order steps image did =
-    endings.machine_call c.words c.old c.new c.before c.now c.said_before c.said_now c.err_before c.err_now c.ended did order steps image
+    endings.machine_call c.words c.old c.new c.before c.now c.said_before c.said_now c.err_before c.err_now c.ended did
+    order steps image
 
 pub commands_complete : CommandsComplete
 commands_complete c order file did fine ordered told accepted = (
-  complete.is_done_so c.words c.old c.new c.before c.now c.said_before c.said_now c.err_before c.err_now c.ended did fine order file ordered told accepted,
-  complete.ends_so c.words c.old c.new c.before c.now c.said_before c.said_now c.err_before c.err_now c.ended did fine order file ordered told accepted,
+  complete.is_done_so c.words c.old c.new c.before c.now c.said_before c.said_now c.err_before c.err_now c.ended did
+      fine order file ordered told accepted,
+  complete.ends_so c.words c.old c.new c.before c.now c.said_before c.said_now c.err_before c.err_now c.ended did fine
+      order file ordered told accepted,
 )

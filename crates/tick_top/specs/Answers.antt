@@ -15,7 +15,9 @@ use Rattle.staged_meaning.specs.Meaning.{Program}
 use Rattle.tick_build.specs.Texts.{typed, Lowered, HoldsForChoices}
 use Rattle.static_image.specs.Headline.{Headline}
 use Rattle.tick_outcome.specs.declared.outcome.Outcome.{Outcome}
-use Rattle.tick_outcome.specs.declared.outcome.Outcome.TheVariants.{Done, Refused, AsmRefused, LoadFault, TooLong, BadImage, Trap, MachineFault, OutOfSteps, ReadFault, WriteFault}
+use Rattle.tick_outcome.specs.declared.outcome.Outcome.TheVariants.{Done, Refused, AsmRefused, LoadFault, TooLong}
+use Rattle.tick_outcome.specs.declared.outcome.Outcome.TheVariants.{BadImage, Trap, MachineFault, OutOfSteps, ReadFault}
+use Rattle.tick_outcome.specs.declared.outcome.Outcome.TheVariants.{WriteFault}
 use Rattle.tick_top.specs.declared.ended.Ended.{Ended}
 use Rattle.tick_top.specs.declared.ended.Front.{Front}
 use Rattle.tick_top.specs.declared.ended.Front.TheVariants.{Found, Instead}
@@ -33,7 +35,8 @@ longest_image = LONGEST_IMAGE
 -- what came of a told or an untold file that may have so many bytes
 abbrev pub IsLoaded : Option (Option (List ℕ)) → (longest : ℕ) → Loaded → Type 0
 IsLoaded told longest (Whole v) = Loads told (longest + 1) v.items × (nat_lt longest (length v.items) ≡ false)
-IsLoaded told longest TooLongFile = (bytes : List ℕ) × Loads told (longest + 1) bytes × (nat_lt longest (length bytes) ≡ true)
+IsLoaded told longest TooLongFile =
+    (bytes : List ℕ) × Loads told (longest + 1) bytes × (nat_lt longest (length bytes) ≡ true)
 IsLoaded told longest FailedFile = ⊤
 
 abbrev pub LoadCause : ℕ → ℕ → Loaded → Type 0
@@ -43,7 +46,8 @@ LoadCause old new FailedFile = Rose old new
 
 -- The image that came of a file: what `good` says of bytes and image holds, or there is an outcome in its place: the
 -- file can't be loaded, or is too long, or `bad` says that its bytes are refused so.
-abbrev pub IsFront : Option (Option (List ℕ)) → (longest : ℕ) → (List ℕ → ImageParts → Type 0) → (List ℕ → Outcome → Type 0) → Front → Type 0
+abbrev pub IsFront : Option (Option (List ℕ)) → (longest : ℕ) → (List ℕ → ImageParts → Type 0) →
+    (List ℕ → Outcome → Type 0) → Front → Type 0
 IsFront told longest good bad (Found image) =
     (bytes : List ℕ) × Loads told (longest + 1) bytes × (nat_lt longest (length bytes) ≡ false) × good bytes image
 IsFront told longest good bad (Instead LoadFault) = ⊤
@@ -59,7 +63,8 @@ FrontCause old new (Found image) = new ≡ old
 
 -- a text of the language, and the image that was built of it
 abbrev pub IsBuilt : List ℕ → ImageParts → Type 0
-IsBuilt text image = (program : Program) × (typed text ≡ Ok program) × Headline program image × HoldsForChoices program × Lowered text image
+IsBuilt text image = (program : Program) × (typed text ≡ Ok program) × Headline program image ×
+    HoldsForChoices program × Lowered text image
 
 abbrev pub IsRefused : List ℕ → Outcome → Type 0
 IsRefused text (Refused fault) = typed text ≡ Err fault

@@ -1,4 +1,5 @@
--- What each command reads, writes, saves and answers, and the cause of each outcome. The order of refusals (words, load,
+-- What each command reads, writes, saves and answers, and the cause of each outcome. The order of refusals (words,
+-- load,
 -- length, content, run or save) is in the definitions themselves; they are the product's own rules.
 use Rattle.std.specs.Prelude.{◌≡◌, ◌⊎◌, ℕ, ◌+◌, List, length, Option, Ok, MatchResult, MatchBool, nat_lt, ⊤}
 use Rattle.std.specs.Io.KnownBytes.{Keeps, Appends}
@@ -14,14 +15,17 @@ use Rattle.tick_build.specs.Texts.{typed, Lowered, HoldsForChoices}
 use Rattle.static_image.specs.Headline.{Headline}
 use Rattle.command_words.specs.Orders.{Order, run, build, exec, asm, dis}
 use Rattle.tick_outcome.specs.declared.outcome.Outcome.{Outcome}
-use Rattle.tick_outcome.specs.declared.outcome.Outcome.TheVariants.{Done, BadWords, Refused, AsmRefused, LoadFault, TooLong, BadImage, Trap, MachineFault, OutOfSteps, ReadFault, WriteFault, SaveFault}
+use Rattle.tick_outcome.specs.declared.outcome.Outcome.TheVariants.{Done, BadWords, Refused, AsmRefused, LoadFault}
+use Rattle.tick_outcome.specs.declared.outcome.Outcome.TheVariants.{TooLong, BadImage, Trap, MachineFault, OutOfSteps}
+use Rattle.tick_outcome.specs.declared.outcome.Outcome.TheVariants.{ReadFault, WriteFault, SaveFault}
 use Rattle.tick_top.specs.declared.ended.Ended.{Ended}
 use Rattle.tick_top.specs.Outside.{Files, Outside, Failures, SameFiles, SameOtherFiles, Silent, Still}
 use Rattle.tick_top.specs.Answers.{IsBare, RanImage, longest_text, longest_image}
 
 -- The file is loaded, and isn't longer than it may be; `next` says what then is done with its bytes, and `answers` what
 -- an answer in place of it is.
-abbrev pub WithFile : Option (Option (List ℕ)) → (longest : ℕ) → (answers : Outcome → Type 0) → (next : List ℕ → Type 0) → Type 0
+abbrev pub WithFile : Option (Option (List ℕ)) → (longest : ℕ) → (answers : Outcome → Type 0) →
+    (next : List ℕ → Type 0) → Type 0
 WithFile told longest answers next =
     answers LoadFault
     ⊎ ((bytes : List ℕ) × Loads told (longest + 1) bytes
@@ -59,7 +63,8 @@ pub record RunsProgram (steps : ℕ) (old new : Outside) (e : Ended) (text : Lis
 
 abbrev pub RunsFile : List ℕ → (steps : ℕ) → Outside → Outside → Ended → Type 0
 RunsFile file steps old new e =
-    WithFile (old.file file) longest_text (Answered old new e) (WithProgram (Answered old new e) (RunsProgram steps old new e))
+    WithFile (old.file file) longest_text (Answered old new e)
+    (WithProgram (Answered old new e) (RunsProgram steps old new e))
 
 abbrev pub ExecutesFile : List ℕ → (steps : ℕ) → Outside → Outside → Ended → Type 0
 ExecutesFile file steps old new e =
@@ -74,7 +79,8 @@ Unsaved old new e outcome = IsBare e outcome × SameFiles old new
 -- the bytes were saved at a path, or the save failed and a told path holds a front part of them
 abbrev pub SavedAt : List ℕ → List ℕ → Files → Files → Ended → Type 0
 SavedAt path bytes old new e =
-    (IsBare e (Done 0) × Saves (old path) (new path) bytes) ⊎ (IsBare e SaveFault × SavesFront (old path) (new path) bytes)
+    (IsBare e (Done 0) × Saves (old path) (new path) bytes) ⊎
+    (IsBare e SaveFault × SavesFront (old path) (new path) bytes)
 
 -- the one spelling of an image was saved at a path, and reads back as the image; no other file is another than before
 pub record SavesImage (path : List ℕ) (old new : Files) (e : Ended) (image : ImageParts) : Type 0 where
@@ -110,7 +116,8 @@ Unprinted taken told e outcome = IsBare e outcome × Keeps taken told
 -- the text of the image was written, or the sink failed and has taken a front part of it
 abbrev pub PrintsText : Option (List ℕ) → Option (List ℕ) → Ended → ImageParts → Type 0
 PrintsText taken told e image =
-    (IsBare e (Done 0) × Appends taken told (text_of image)) ⊎ (IsBare e WriteFault × TakesFront taken told (text_of image))
+    (IsBare e (Done 0) × Appends taken told (text_of image)) ⊎
+    (IsBare e WriteFault × TakesFront taken told (text_of image))
 
 abbrev pub PrintsFile : Option (Option (List ℕ)) → Option (List ℕ) → Option (List ℕ) → Ended → Type 0
 PrintsFile file taken told e =

@@ -1,5 +1,7 @@
--- Laws of a whole call: what the outcome of `run` tells of the meaning of its text; that a run gives the ending that its
--- machine has, and the meaning's where it comes within what the instructions allow; and that every other command, where its
+-- Laws of a whole call: what the outcome of `run` tells of the meaning of its text; that a run gives the ending that
+-- its
+-- machine has, and the meaning's where it comes within what the instructions allow; and that every other command, where
+-- its
 -- file isn't refused and nothing outside failed, is done.
 use Rattle.std.specs.Prelude.{◌≡◌, ℕ, ◌≤◌, false, List, length, Option, Some, None, Ok, nat_lt}
 use Rattle.host_edge.specs.declared.ending.Ending.{Ending}
@@ -10,7 +12,8 @@ use Rattle.staged_meaning.specs.Meaning.{Program, meant}
 use Rattle.tick_build.specs.Texts.{typed}
 use Rattle.command_words.specs.Orders.{Order, run, order_of}
 use Rattle.tick_outcome.specs.declared.outcome.Outcome.{Outcome}
-use Rattle.tick_outcome.specs.declared.outcome.Outcome.TheVariants.{Done, Trap, MachineFault, OutOfSteps, ReadFault, WriteFault}
+use Rattle.tick_outcome.specs.declared.outcome.Outcome.TheVariants.{Done, Trap, MachineFault, OutOfSteps, ReadFault}
+use Rattle.tick_outcome.specs.declared.outcome.Outcome.TheVariants.{WriteFault}
 use Rattle.tick_top.specs.declared.ended.Ended as code
 use Rattle.tick_top.specs.Outside.{Outside, Failures}
 use Rattle.tick_top.specs.Answers.{longest_text}
@@ -72,11 +75,13 @@ RunCompletes =
 -- what a call shows of the image that it hands back is the image's run under the choices that are handed back
 abbrev pub ShowsRuns : Type 0
 ShowsRuns =
-    (c : Call) (order : Order) (steps : ℕ) (image : ImageParts) → Did c → order_of c.words ≡ Ok order → most_steps order ≡ Some steps
+    (c : Call) (order : Order) (steps : ℕ) (image : ImageParts) → Did c → order_of c.words ≡ Ok order →
+    most_steps order ≡ Some steps
     → c.ended.image ≡ Some image
     → ShowsRun steps image c.ended.choices.items c.old.left c.new.left c.old.taken c.new.taken c.ended.outcome
 
--- Where the file is told and isn't refused and nothing outside fails, a command that runs no machine is done, and one that
+-- Where the file is told and isn't refused and nothing outside fails, a command that runs no machine is done, and one
+-- that
 -- runs one hands the image back and, on told input, gives the ending that the run has within the instructions.
 abbrev pub CommandsComplete : Type 0
 CommandsComplete =
@@ -84,4 +89,5 @@ CommandsComplete =
     → c.old.file (file_of order) ≡ Some (Some file) → refusal order file ≡ None
     → (most_steps order ≡ None → c.ended.outcome ≡ Done 0)
     × ((steps : ℕ) (bytes : List ℕ) → most_steps order ≡ Some steps → c.old.left ≡ Some bytes → (image : ImageParts)
-    × (c.ended.image ≡ Some image) × (c.ended.outcome ≡ outcome_at steps (runs image (told bytes) c.ended.choices.items steps).ending))
+    × (c.ended.image ≡ Some image) ×
+    (c.ended.outcome ≡ outcome_at steps (runs image (told bytes) c.ended.choices.items steps).ending))

@@ -1,5 +1,7 @@
--- What the outcome of `run` tells of the meaning of its text. Where the run ended, the meaning ends alike, and the bytes
--- that were read and put out are the meaning's; where it hadn't ended, neither has the meaning within what the instructions
+-- What the outcome of `run` tells of the meaning of its text. Where the run ended, the meaning ends alike, and the
+-- bytes
+-- that were read and put out are the meaning's; where it hadn't ended, neither has the meaning within what the
+-- instructions
 -- allow; and no outcome is a fault of the machine.
 use Rattle.std.specs.Prelude.{◌≡◌, ℕ, ◌+◌, ◌*◌, ◌≤◌, List, length, Some, None, Ok, nat_lt, false}
 use Rattle.std.specs.Io.KnownBytes.{Appends}
@@ -26,7 +28,8 @@ pub record MeaningEnds (program : Program) (input : Input) (units : ℕ) (old ne
   pub ending : (meant program input units).ending ≡ Some end
   pub moves : Moves old.left new.left old.taken new.taken (meant program input units).history
 
--- The meaning hasn't ended within what n instructions allow. What was put out is a front part of what it puts out, and has
+-- The meaning hasn't ended within what n instructions allow. What was put out is a front part of what it puts out, and
+-- has
 -- all that it puts out within what n instructions allow.
 pub record MeaningGoesOn (program : Program) (input : Input) (n : ℕ) (old new : Outside) : Type 0 where
   pub unended : (units : ℕ) → allowed units ≤ n → (meant program input units).ending ≡ None
@@ -37,7 +40,8 @@ pub record MeaningGoesOn (program : Program) (input : Input) (n : ℕ) (old new 
 
 -- by the outcome of a run of at most n instructions; the machine takes at least an instruction for a unit
 abbrev pub TellsMeaning : (program : Program) (input : Input) (n : ℕ) (old new : Outside) → Outcome → Type 0
-TellsMeaning program input n old new (Done status) = MeaningEnds program input n old new (event.Ended (ending.Done status))
+TellsMeaning program input n old new (Done status) =
+    MeaningEnds program input n old new (event.Ended (ending.Done status))
 TellsMeaning program input n old new (Trap kind) = MeaningEnds program input n old new (event.Ended (ending.Trap kind))
 TellsMeaning program input n old new ReadFault = MeaningEnds program input n old new event.ReadFault
 TellsMeaning program input n old new (OutOfSteps steps) = (steps ≡ n) × MeaningGoesOn program input n old new

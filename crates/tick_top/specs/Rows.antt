@@ -1,6 +1,7 @@
 -- When each outcome comes: a refusal exactly where the file's bytes are refused so, and an ending exactly where the
 -- machine's run of the image ends so. The order of refusals (words, load, length, content) is the product's own.
-use Rattle.std.specs.Prelude.{◌≡◌, ◌≢◌, ◌↔◌, ℕ, ◌+◌, List, length, Option, Some, None, Result, Ok, Err, nat_lt, if◌then◌else◌}
+use Rattle.std.specs.Prelude.{◌≡◌, ◌≢◌, ◌↔◌, ℕ, ◌+◌, List, length, Option, Some, None, Result, Ok, Err, nat_lt}
+use Rattle.std.specs.Prelude.{if◌then◌else◌}
 use Rattle.host_edge.specs.Files.{Loads}
 use Rattle.host_edge.specs.declared.ending.Ending.TheVariants as ending
 use Rattle.host_edge.specs.declared.ending.MachineKind.{MachineKind}
@@ -18,7 +19,8 @@ use Rattle.tick_tree.specs.declared.fault.Fault.{Fault}
 use Rattle.tick_build.specs.Texts.{typed}
 use Rattle.command_words.specs.Orders.{Order, run, build, exec, asm, dis, order_of}
 use Rattle.tick_outcome.specs.declared.outcome.Outcome.{Outcome}
-use Rattle.tick_outcome.specs.declared.outcome.Outcome.TheVariants.{Refused, AsmRefused, LoadFault, TooLong, BadImage, Trap, MachineFault, OutOfSteps, WriteFault}
+use Rattle.tick_outcome.specs.declared.outcome.Outcome.TheVariants.{Refused, AsmRefused, LoadFault, TooLong, BadImage}
+use Rattle.tick_outcome.specs.declared.outcome.Outcome.TheVariants.{Trap, MachineFault, OutOfSteps, WriteFault}
 use Rattle.tick_top.specs.declared.ended.Ended.{Ended}
 use Rattle.tick_top.specs.Outside.{Files, Outside}
 use Rattle.tick_top.specs.Answers.{longest_text, longest_image}
@@ -53,7 +55,8 @@ abbrev pub image_refusal : Result ImageParts ImageFault → Option Outcome
 image_refusal (Ok image) = None
 image_refusal (Err fault) = Some (BadImage fault)
 
--- why the bytes of a file aren't what an order takes, if they aren't: `run` and `build` take a text of the language, `asm`
+-- why the bytes of a file aren't what an order takes, if they aren't: `run` and `build` take a text of the language,
+-- `asm`
 -- an assembly text, `exec` and `dis` an image
 abbrev pub content_refusal : Order → List ℕ → Option Outcome
 content_refusal (run file steps) bytes = text_refusal (typed bytes)
@@ -73,7 +76,8 @@ pub record Refuses (words : List (List ℕ)) (files : Files) (outcome : Outcome)
   pub loads : Loads (files (file_of order)) (longest_of order + 1) bytes
   pub refused : refusal order bytes ≡ Some outcome
 
--- An outcome is a refusal: it comes only of bytes that are refused so, and where the file is told and was loaded, exactly
+-- An outcome is a refusal: it comes only of bytes that are refused so, and where the file is told and was loaded,
+-- exactly
 -- then.
 pub record IsRefusal (words : List (List ℕ)) (files : Files) (last outcome : Outcome) : Type 0 where
   pub only : last ≡ outcome → Refuses words files outcome
@@ -102,8 +106,10 @@ pub record RunEnds (words : List (List ℕ)) (old new : Outside) (e : Ended) (st
 
 -- An outcome, given by the most instructions, is that of an ending: it comes only of a run that ends so, and where the
 -- input is told and no write failed, always.
-pub record IsOfEnding (words : List (List ℕ)) (old new : Outside) (e : Ended) (outcome : ℕ → Outcome) (end : Option End) : Type 0 where
-  pub only : (n : ℕ) → e.outcome ≡ outcome n → (steps : ℕ) × (outcome steps ≡ outcome n) × RunEnds words old new e steps end
+pub record IsOfEnding (words : List (List ℕ)) (old new : Outside) (e : Ended) (outcome : ℕ → Outcome) (end : Option End)
+    : Type 0 where
+  pub only : (n : ℕ) → e.outcome ≡ outcome n →
+      (steps : ℕ) × (outcome steps ≡ outcome n) × RunEnds words old new e steps end
   pub always : (steps : ℕ) (bytes : List ℕ) → old.left ≡ Some bytes → RunEnds words old new e steps end
       → e.outcome ≢ WriteFault → e.outcome ≡ outcome steps
 
@@ -126,7 +132,8 @@ abbrev pub BadImageRow : List (List ℕ) → Outside → Ended → Type 0
 BadImageRow words old e = (fault : ImageFault) → IsRefusal words old.file e.outcome (BadImage fault)
 
 abbrev pub TrapRow : List (List ℕ) → Outside → Outside → Ended → Type 0
-TrapRow words old new e = (kind : TrapKind) → IsOfEnding words old new e (λ steps. Trap kind) (Some (event.Ended (ending.Trap kind)))
+TrapRow words old new e = (kind : TrapKind) →
+    IsOfEnding words old new e (λ steps. Trap kind) (Some (event.Ended (ending.Trap kind)))
 
 -- a fault of the machine comes of `exec` alone
 abbrev pub MachineFaultRow : List (List ℕ) → Outside → Outside → Ended → Type 0

@@ -11,7 +11,8 @@ use Rattle.pace.specs.Pace.{Seen, IsPrefix}
 use Rattle.mips_model.specs.Run.{runs}
 use Rattle.mips_machine.specs.Ran.{bytes_read}
 use Rattle.tick_outcome.specs.declared.outcome.Outcome.{Outcome}
-use Rattle.tick_outcome.specs.declared.outcome.Outcome.TheVariants.{Done, Trap, MachineFault, OutOfSteps, ReadFault, WriteFault}
+use Rattle.tick_outcome.specs.declared.outcome.Outcome.TheVariants.{Done, Trap, MachineFault, OutOfSteps, ReadFault}
+use Rattle.tick_outcome.specs.declared.outcome.Outcome.TheVariants.{WriteFault}
 
 -- the bytes that are told, and then the end
 abbrev pub EndsBehind : Option (List ℕ) → Input → Type 0
@@ -47,9 +48,11 @@ pub record PutsFront (taken told : Option (List ℕ)) (history : List Item) : Ty
 -- failed write leaves a front part of what the run puts out.
 abbrev pub IsSeen : (n : ℕ) → (left later taken told : Option (List ℕ)) → Outcome → Seen Item End → Type 0
 IsSeen n left later taken told WriteFault seen = PutsFront taken told seen.history
-IsSeen n left later taken told outcome seen = (outcome ≡ outcome_at n seen.ending) × Moves left later taken told seen.history
+IsSeen n left later taken told outcome seen =
+    (outcome ≡ outcome_at n seen.ending) × Moves left later taken told seen.history
 
-pub record ShowsRun (n : ℕ) (image : ImageParts) (choices : List ℕ) (left later taken told : Option (List ℕ)) (outcome : Outcome) : Type 0 where
+pub record ShowsRun (n : ℕ) (image : ImageParts) (choices : List ℕ) (left later taken told : Option (List ℕ))
+    (outcome : Outcome) : Type 0 where
   pub input : Input
   pub is_input : IsInput left later outcome input
   pub seen : IsSeen n left later taken told outcome (runs image input choices n)

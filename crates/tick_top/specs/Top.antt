@@ -14,7 +14,9 @@ use Rattle.tick_top.specs.Does.{Answered, Does, IsOfCommand, Cause}
 
 -- by the words
 abbrev pub Performs : List (List ℕ) → Outside → Outside → Ended → Type 0
-Performs words old new e = MatchResult (order_of words) (λ order. Does order old new e × IsOfCommand e.outcome) (λ place. Answered old new e (BadWords place))
+Performs words old new e =
+    MatchResult (order_of words) (λ order. Does order old new e × IsOfCommand e.outcome)
+    (λ place. Answered old new e (BadWords place))
 
 -- where standard error fails, Done becomes WriteFault, and any other outcome stays
 abbrev pub unsaid : Outcome → Outcome
@@ -28,6 +30,8 @@ Reports first last taken told old new =
     ⊎ ((last ≡ unsaid first) × TakesFront taken told (line_of first) × Rose old new)
 
 -- a whole call: an outcome of the command, its cause, and what is said of it
-abbrev pub Ticked : List (List ℕ) → Outside → Outside → Failures → Failures → Option (List ℕ) → Option (List ℕ) → ℕ → ℕ → Ended → Type 0
+abbrev pub Ticked : List (List ℕ) → Outside → Outside → Failures → Failures → Option (List ℕ) → Option (List ℕ) → ℕ →
+    ℕ → Ended → Type 0
 Ticked words old new before now taken told err_before err_now e =
-    (first : Outcome) × Performs words old new (record e { outcome = first }) × Cause first before now × Reports first e.outcome taken told err_before err_now
+    (first : Outcome) × Performs words old new (record e { outcome = first }) × Cause first before now ×
+    Reports first e.outcome taken told err_before err_now

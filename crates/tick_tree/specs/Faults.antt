@@ -2,7 +2,13 @@
 -- it is defined to. The list of faults, in this order, is this project's own rule.
 use Rattle.std.specs.Prelude.{◌≡◌, ℕ, List, Result, Ok, Err, codes}
 use Rattle.tick_tree.specs.declared.fault.FaultKind.{FaultKind}
-use Rattle.tick_tree.specs.declared.fault.FaultKind.TheVariants.{Unbuilt, BadByte, OpenComment, OpenLiteral, BadEscape, BigLiteral, TooManyTokens, Syntax, TooDeep, Undeclared, Duplicate, NotFunction, ArgumentCount, TypeMismatch, NotPlace, BadOperand, VoidValue, BreakOutside, ContinueOutside, BadReturn, BadArray, DollarOutside, NestedTick, StageInTick, AddressOfRegister, NoMain, BadCase, DuplicateCase, TooManyParameters, TooLarge}
+use Rattle.tick_tree.specs.declared.fault.FaultKind.TheVariants.{Unbuilt, BadByte, OpenComment, OpenLiteral, BadEscape}
+use Rattle.tick_tree.specs.declared.fault.FaultKind.TheVariants.{BigLiteral, TooManyTokens, Syntax, TooDeep, Undeclared}
+use Rattle.tick_tree.specs.declared.fault.FaultKind.TheVariants.{Duplicate, NotFunction, ArgumentCount, TypeMismatch}
+use Rattle.tick_tree.specs.declared.fault.FaultKind.TheVariants.{NotPlace, BadOperand, VoidValue, BreakOutside}
+use Rattle.tick_tree.specs.declared.fault.FaultKind.TheVariants.{ContinueOutside, BadReturn, BadArray, DollarOutside}
+use Rattle.tick_tree.specs.declared.fault.FaultKind.TheVariants.{NestedTick, StageInTick, AddressOfRegister, NoMain}
+use Rattle.tick_tree.specs.declared.fault.FaultKind.TheVariants.{BadCase, DuplicateCase, TooManyParameters, TooLarge}
 use Rattle.tick_tree.specs.declared.fault.Fault.{Fault}
 use Rattle.tick_tree.specs.declared.fault.Deny.{Deny}
 use Rattle.tick_tree.specs.declared.fault.Deny.TheVariants.{Refused, NoMemory}

@@ -10,4 +10,5 @@ pub record TreeItems : Type 0 where
 
 -- they are stored as their list
 abbrev pub items_code : Coded TreeItems
-items_code = code_by (List External) (coded_list external.the_row.coded) (λ t. t.items) (λ xs. record { items = xs }) (λ _. refl)
+items_code = code_by (List External) (coded_list external.the_row.coded) (λ t. t.items) (λ xs. record { items = xs })
+    (λ _. refl)

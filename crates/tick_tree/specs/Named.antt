@@ -1,4 +1,5 @@
--- The functions of a text: behind the name of each stands a list of parameters at once, not even a parenthesis between them. The grammar
+-- The functions of a text: behind the name of each stands a list of parameters at once, not even a parenthesis between
+-- them. The grammar
 -- takes a body nowhere else.
 use Rattle.std.specs.Prelude.{◌≡◌, Bool, true, false, not, List, [], ◌∷◌}
 use Rattle.tick_tree.specs.declared.syntax.Core.{Core}
@@ -8,13 +9,16 @@ use Rattle.tick_tree.specs.declared.syntax.External.TheVariants as ext
 use Rattle.tick_tree.specs.declared.syntax.Core.TheOpen.{Core-F, Declarator-F}
 use Rattle.tick_tree.specs.declared.syntax.Core.TheFolds.{fold-Core, fold-Declarator}
 
--- a layer of the tree, with what is asked of its parts in their places: of the inner part of a declarator, by whether a suffix
+-- a layer of the tree, with what is asked of its parts in their places: of the inner part of a declarator, by whether a
+-- suffix
 -- stands behind it
 abbrev pub Core-L : Type 0
-Core-L = Core-F (Bool → Bool) (Unit {0}) (Unit {0}) (Unit {0}) (Unit {0}) (Unit {0}) (Unit {0}) Bool (Unit {0}) (Unit {0}) (Unit {0})
+Core-L = Core-F (Bool → Bool) (Unit {0}) (Unit {0}) (Unit {0}) (Unit {0}) (Unit {0}) (Unit {0}) Bool (Unit {0})
+    (Unit {0}) (Unit {0})
 
 abbrev pub Declarator-L : Type 0
-Declarator-L = Declarator-F (Bool → Bool) (Unit {0}) (Unit {0}) (Unit {0}) (Unit {0}) (Unit {0}) (Unit {0}) Bool (Unit {0}) (Unit {0}) (Unit {0})
+Declarator-L = Declarator-F (Bool → Bool) (Unit {0}) (Unit {0}) (Unit {0}) (Unit {0}) (Unit {0}) (Unit {0}) Bool
+    (Unit {0}) (Unit {0}) (Unit {0})
 
 abbrev pub is_nil : {A : Type 0} → List A → Bool
 is_nil [] = true
@@ -33,10 +37,14 @@ declarator_rule d = d.core (not (is_nil d.suffixes))
 
 -- whether a suffix stands at once behind the name that a declarator declares
 unfoldable pub is_listed : Declarator → Bool
-is_listed = fold-Declarator (Bool → Bool) (Unit {0}) (Unit {0}) (Unit {0}) (Unit {0}) (Unit {0}) (Unit {0}) Bool (Unit {0}) (Unit {0}) (Unit {0}) core_rule nothing nothing nothing nothing nothing nothing declarator_rule nothing nothing nothing
+is_listed = fold-Declarator (Bool → Bool) (Unit {0}) (Unit {0}) (Unit {0}) (Unit {0}) (Unit {0}) (Unit {0}) Bool
+    (Unit {0}) (Unit {0}) (Unit {0}) core_rule nothing nothing nothing nothing nothing nothing declarator_rule nothing
+    nothing nothing
 
 unfoldable pub is_listed_core : Core → Bool → Bool
-is_listed_core = fold-Core (Bool → Bool) (Unit {0}) (Unit {0}) (Unit {0}) (Unit {0}) (Unit {0}) (Unit {0}) Bool (Unit {0}) (Unit {0}) (Unit {0}) core_rule nothing nothing nothing nothing nothing nothing declarator_rule nothing nothing nothing
+is_listed_core = fold-Core (Bool → Bool) (Unit {0}) (Unit {0}) (Unit {0}) (Unit {0}) (Unit {0}) (Unit {0}) Bool
+    (Unit {0}) (Unit {0}) (Unit {0}) core_rule nothing nothing nothing nothing nothing nothing declarator_rule nothing
+    nothing nothing
 
 abbrev pub EachNamed : List External → Type 0
 EachNamed [] = Unit {0}

@@ -1,5 +1,7 @@
--- What is known of each syntax tree, since it is read from a text: the grammar takes a body only behind a list of parameters at the
--- name of its function, and a text of at most 262,144 tokens has a tree of at most four nodes a token, and its root. These are this
+-- What is known of each syntax tree, since it is read from a text: the grammar takes a body only behind a list of
+-- parameters at the
+-- name of its function, and a text of at most 262,144 tokens has a tree of at most four nodes a token, and its root.
+-- These are this
 -- project's own rules.
 use Rattle.std.specs.Prelude.{◌+◌, ◌≤◌, List, map}
 use Rattle.tick_tree.specs.declared.syntax.External.{External}

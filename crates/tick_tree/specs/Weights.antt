@@ -1,4 +1,5 @@
--- The weight of a part of a tree: the number of its nodes, where a prefix of a declarator is none. The counts that the checker's walk
+-- The weight of a part of a tree: the number of its nodes, where a prefix of a declarator is none. The counts that the
+-- checker's walk
 -- keeps grow by at most the weight of what is walked. Written by tools/checker/weights.py.
 use Rattle.std.specs.Prelude.{ℕ, ◌+◌, List, [], ◌∷◌, map}
 use Rattle.tick_tree.specs.declared.syntax.Core.{Core}
@@ -15,8 +16,12 @@ use Rattle.tick_tree.specs.declared.syntax.Typename.{Typename}
 use Rattle.tick_tree.specs.declared.syntax.External.{External}
 use Rattle.tick_tree.specs.declared.syntax.External.TheVariants as ext
 use Rattle.tick_tree.specs.Items.{TreeItems}
-use Rattle.tick_tree.specs.declared.syntax.Core.TheOpen.{Core-F, Expr-F, Initializer-F, OptionalExpr-F, Stmt-F, Suffix-F, Declaration-F, Declarator-F, Init-F, Parameter-F, Typename-F}
-use Rattle.tick_tree.specs.declared.syntax.Core.TheFolds.{fold-Core, fold-Expr, fold-Initializer, fold-OptionalExpr, fold-Stmt, fold-Suffix, fold-Declaration, fold-Declarator, fold-Init, fold-Parameter, fold-Typename}
+use Rattle.tick_tree.specs.declared.syntax.Core.TheOpen.{Core-F, Expr-F, Initializer-F, OptionalExpr-F, Stmt-F}
+use Rattle.tick_tree.specs.declared.syntax.Core.TheOpen.{Suffix-F, Declaration-F, Declarator-F, Init-F, Parameter-F}
+use Rattle.tick_tree.specs.declared.syntax.Core.TheOpen.{Typename-F}
+use Rattle.tick_tree.specs.declared.syntax.Core.TheFolds.{fold-Core, fold-Expr, fold-Initializer, fold-OptionalExpr}
+use Rattle.tick_tree.specs.declared.syntax.Core.TheFolds.{fold-Stmt, fold-Suffix, fold-Declaration, fold-Declarator}
+use Rattle.tick_tree.specs.declared.syntax.Core.TheFolds.{fold-Init, fold-Parameter, fold-Typename}
 
 abbrev pub total : List ℕ → ℕ
 total [] = 0
@@ -135,37 +140,48 @@ typename_nodes t = 1 + t.declarator
 -- ---- the weight of each type of the tree
 
 unfoldable pub core_weight : Core → ℕ
-core_weight = fold-Core ℕ ℕ ℕ ℕ ℕ ℕ ℕ ℕ ℕ ℕ ℕ core_nodes expr_nodes initializer_nodes optional_nodes statement_nodes suffix_nodes declaration_nodes declarator_nodes init_nodes parameter_nodes typename_nodes
+core_weight = fold-Core ℕ ℕ ℕ ℕ ℕ ℕ ℕ ℕ ℕ ℕ ℕ core_nodes expr_nodes initializer_nodes optional_nodes statement_nodes
+    suffix_nodes declaration_nodes declarator_nodes init_nodes parameter_nodes typename_nodes
 
 unfoldable pub weight : Expr → ℕ
-weight = fold-Expr ℕ ℕ ℕ ℕ ℕ ℕ ℕ ℕ ℕ ℕ ℕ core_nodes expr_nodes initializer_nodes optional_nodes statement_nodes suffix_nodes declaration_nodes declarator_nodes init_nodes parameter_nodes typename_nodes
+weight = fold-Expr ℕ ℕ ℕ ℕ ℕ ℕ ℕ ℕ ℕ ℕ ℕ core_nodes expr_nodes initializer_nodes optional_nodes statement_nodes
+    suffix_nodes declaration_nodes declarator_nodes init_nodes parameter_nodes typename_nodes
 
 unfoldable pub initializer_weight : Initializer → ℕ
-initializer_weight = fold-Initializer ℕ ℕ ℕ ℕ ℕ ℕ ℕ ℕ ℕ ℕ ℕ core_nodes expr_nodes initializer_nodes optional_nodes statement_nodes suffix_nodes declaration_nodes declarator_nodes init_nodes parameter_nodes typename_nodes
+initializer_weight = fold-Initializer ℕ ℕ ℕ ℕ ℕ ℕ ℕ ℕ ℕ ℕ ℕ core_nodes expr_nodes initializer_nodes optional_nodes
+    statement_nodes suffix_nodes declaration_nodes declarator_nodes init_nodes parameter_nodes typename_nodes
 
 unfoldable pub optional_weight : OptionalExpr → ℕ
-optional_weight = fold-OptionalExpr ℕ ℕ ℕ ℕ ℕ ℕ ℕ ℕ ℕ ℕ ℕ core_nodes expr_nodes initializer_nodes optional_nodes statement_nodes suffix_nodes declaration_nodes declarator_nodes init_nodes parameter_nodes typename_nodes
+optional_weight = fold-OptionalExpr ℕ ℕ ℕ ℕ ℕ ℕ ℕ ℕ ℕ ℕ ℕ core_nodes expr_nodes initializer_nodes optional_nodes
+    statement_nodes suffix_nodes declaration_nodes declarator_nodes init_nodes parameter_nodes typename_nodes
 
 unfoldable pub statement_weight : Stmt → ℕ
-statement_weight = fold-Stmt ℕ ℕ ℕ ℕ ℕ ℕ ℕ ℕ ℕ ℕ ℕ core_nodes expr_nodes initializer_nodes optional_nodes statement_nodes suffix_nodes declaration_nodes declarator_nodes init_nodes parameter_nodes typename_nodes
+statement_weight = fold-Stmt ℕ ℕ ℕ ℕ ℕ ℕ ℕ ℕ ℕ ℕ ℕ core_nodes expr_nodes initializer_nodes optional_nodes
+    statement_nodes suffix_nodes declaration_nodes declarator_nodes init_nodes parameter_nodes typename_nodes
 
 unfoldable pub suffix_weight : Suffix → ℕ
-suffix_weight = fold-Suffix ℕ ℕ ℕ ℕ ℕ ℕ ℕ ℕ ℕ ℕ ℕ core_nodes expr_nodes initializer_nodes optional_nodes statement_nodes suffix_nodes declaration_nodes declarator_nodes init_nodes parameter_nodes typename_nodes
+suffix_weight = fold-Suffix ℕ ℕ ℕ ℕ ℕ ℕ ℕ ℕ ℕ ℕ ℕ core_nodes expr_nodes initializer_nodes optional_nodes statement_nodes
+    suffix_nodes declaration_nodes declarator_nodes init_nodes parameter_nodes typename_nodes
 
 unfoldable pub declaration_weight : Declaration → ℕ
-declaration_weight = fold-Declaration ℕ ℕ ℕ ℕ ℕ ℕ ℕ ℕ ℕ ℕ ℕ core_nodes expr_nodes initializer_nodes optional_nodes statement_nodes suffix_nodes declaration_nodes declarator_nodes init_nodes parameter_nodes typename_nodes
+declaration_weight = fold-Declaration ℕ ℕ ℕ ℕ ℕ ℕ ℕ ℕ ℕ ℕ ℕ core_nodes expr_nodes initializer_nodes optional_nodes
+    statement_nodes suffix_nodes declaration_nodes declarator_nodes init_nodes parameter_nodes typename_nodes
 
 unfoldable pub declarator_weight : Declarator → ℕ
-declarator_weight = fold-Declarator ℕ ℕ ℕ ℕ ℕ ℕ ℕ ℕ ℕ ℕ ℕ core_nodes expr_nodes initializer_nodes optional_nodes statement_nodes suffix_nodes declaration_nodes declarator_nodes init_nodes parameter_nodes typename_nodes
+declarator_weight = fold-Declarator ℕ ℕ ℕ ℕ ℕ ℕ ℕ ℕ ℕ ℕ ℕ core_nodes expr_nodes initializer_nodes optional_nodes
+    statement_nodes suffix_nodes declaration_nodes declarator_nodes init_nodes parameter_nodes typename_nodes
 
 unfoldable pub init_weight : Init → ℕ
-init_weight = fold-Init ℕ ℕ ℕ ℕ ℕ ℕ ℕ ℕ ℕ ℕ ℕ core_nodes expr_nodes initializer_nodes optional_nodes statement_nodes suffix_nodes declaration_nodes declarator_nodes init_nodes parameter_nodes typename_nodes
+init_weight = fold-Init ℕ ℕ ℕ ℕ ℕ ℕ ℕ ℕ ℕ ℕ ℕ core_nodes expr_nodes initializer_nodes optional_nodes statement_nodes
+    suffix_nodes declaration_nodes declarator_nodes init_nodes parameter_nodes typename_nodes
 
 unfoldable pub parameter_weight : Parameter → ℕ
-parameter_weight = fold-Parameter ℕ ℕ ℕ ℕ ℕ ℕ ℕ ℕ ℕ ℕ ℕ core_nodes expr_nodes initializer_nodes optional_nodes statement_nodes suffix_nodes declaration_nodes declarator_nodes init_nodes parameter_nodes typename_nodes
+parameter_weight = fold-Parameter ℕ ℕ ℕ ℕ ℕ ℕ ℕ ℕ ℕ ℕ ℕ core_nodes expr_nodes initializer_nodes optional_nodes
+    statement_nodes suffix_nodes declaration_nodes declarator_nodes init_nodes parameter_nodes typename_nodes
 
 unfoldable pub typename_weight : Typename → ℕ
-typename_weight = fold-Typename ℕ ℕ ℕ ℕ ℕ ℕ ℕ ℕ ℕ ℕ ℕ core_nodes expr_nodes initializer_nodes optional_nodes statement_nodes suffix_nodes declaration_nodes declarator_nodes init_nodes parameter_nodes typename_nodes
+typename_weight = fold-Typename ℕ ℕ ℕ ℕ ℕ ℕ ℕ ℕ ℕ ℕ ℕ core_nodes expr_nodes initializer_nodes optional_nodes
+    statement_nodes suffix_nodes declaration_nodes declarator_nodes init_nodes parameter_nodes typename_nodes
 
 -- ---- programs
 

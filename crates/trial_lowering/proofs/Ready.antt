@@ -10,5 +10,6 @@ use Rattle.built_programs.specs.Laws.{BuiltIsStatic}
 pub ready : BuiltIsStatic → (program : Typed) (f : Function) → IsWellFormed program → built program ≡ Some f → IsReady f
 ready law program f h e = (law program f h e).static.ready
 
-pub few_parameters : BuiltIsStatic → (program : Typed) (f : Function) → IsWellFormed program → built program ≡ Some f → f.parameters ≤ 8
+pub few_parameters : BuiltIsStatic → (program : Typed) (f : Function) → IsWellFormed program → built program ≡ Some f →
+    f.parameters ≤ 8
 few_parameters law program f h e = (law program f h e).parameters

@@ -20,18 +20,24 @@ with_body f b = record { parameters = f.params; object = f.object; body = b }
 static_return : (f : Function) → ReturnsThree f → IsStatic (function_view f)
 unfolding with_body
 static_return f h =
-    let body : stmt_view f.body ≡ node.ReturnValue (node.Const 3) = ap stmt_view h.0 ∙ stmt_view_returnvalue (e.Const 3) ∙ ap node.ReturnValue (view_const 3) in
+    let body : stmt_view f.body ≡ node.ReturnValue (node.Const 3) =
+    ap stmt_view h.0 ∙ stmt_view_returnvalue (e.Const 3) ∙ ap node.ReturnValue (view_const 3) in
     subst (λ b. IsStatic (with_body f b)) (sym body) (record {
       ready = record { built = tt; scoped = tt; small = lit≤ tt; dense = lit≤ tt };
       served = lit< tt;
       plain = h.2;
     })
 
-pub static_item : (list : List Function) (i : ℕ) (f : Function) → i < length list → f ≡ get_or list i f → All ReturnsThree list → IsStatic (function_view f)
-static_item list i f h is all = subst (λ g. IsStatic (function_view g)) (sym is) (static_return (get_or list i f) (All-get_or ReturnsThree list i f h all))
+pub static_item : (list : List Function) (i : ℕ) (f : Function) → i < length list → f ≡ get_or list i f →
+    All ReturnsThree list → IsStatic (function_view f)
+static_item list i f h is all =
+    subst (λ g. IsStatic (function_view g)) (sym is)
+    (static_return (get_or list i f) (All-get_or ReturnsThree list i f h all))
 
-pub few_parameters : (list : List Function) (i : ℕ) (f : Function) → i < length list → f ≡ get_or list i f → All ReturnsThree list → f.params ≡ 0
+pub few_parameters : (list : List Function) (i : ℕ) (f : Function) → i < length list → f ≡ get_or list i f →
+    All ReturnsThree list → f.params ≡ 0
 few_parameters list i f h is all = ap (λ g. g.params) is ∙ (All-get_or ReturnsThree list i f h all).1
 
-pub ready_item : (list : List Function) (i : ℕ) (f : Function) → i < length list → f ≡ get_or list i f → All ReturnsThree list → IsReady (function_view f)
+pub ready_item : (list : List Function) (i : ℕ) (f : Function) → i < length list → f ≡ get_or list i f →
+    All ReturnsThree list → IsReady (function_view f)
 ready_item list i f h is all = (static_item list i f h is all).ready

@@ -1,4 +1,5 @@
--- A fold over the code's tree by some rules is the fold over its view by the same rules. So what a rule defines may be said of
+-- A fold over the code's tree by some rules is the fold over its view by the same rules. So what a rule defines may be
+-- said of
 -- either tree.
 use Rattle.std.proofs.Common.{◌≡◌, ap, sym, subst, refl, ◌∙◌, List, [], ◌∷◌, map}
 use Rattle.typed_tree.specs.declared.expression.Expr.{Expr, roll-Expr}
@@ -19,7 +20,8 @@ view_open : (x : Expr-F Expr) → expr_view (roll-Expr x) ≡ expr_rule (map-Exp
 unfolding expr_view
 view_open x = fold-roll-Expr node.Expr expr_rule x
 
-stmt_view_open : (x : Stmt-F Stmt) → stmt_view (roll-Stmt x) ≡ stmt_rule (parts_of expr_view (map-Stmt Stmt node.Stmt stmt_view x))
+stmt_view_open : (x : Stmt-F Stmt) →
+    stmt_view (roll-Stmt x) ≡ stmt_rule (parts_of expr_view (map-Stmt Stmt node.Stmt stmt_view x))
 unfolding expr_view stmt_view
 stmt_view_open x = fold-roll-Stmt node.Stmt (layer view_rules) x
 
@@ -33,18 +35,23 @@ module _ {E : Type 0} (r : Expr-F E → E) where
   abbrev whole : Known → Expr
   whole k = k.0
 
-  args_agree : (ks : List Known) → map (fold-Expr E r) (map whole ks) ≡ fold_args r (args_of (map expr_view (map whole ks)))
+  args_agree : (ks : List Known) →
+      map (fold-Expr E r) (map whole ks) ≡ fold_args r (args_of (map expr_view (map whole ks)))
   args_agree [] = refl
-  args_agree (k ∷ ks) = ap (λ x. x ∷ map (fold-Expr E r) (map whole ks)) k.1 ∙ ap (λ xs. fold_expr r (expr_view k.0) ∷ xs) (args_agree ks)
+  args_agree (k ∷ ks) = ap (λ x. x ∷ map (fold-Expr E r) (map whole ks)) k.1 ∙
+      ap (λ xs. fold_expr r (expr_view k.0) ∷ xs) (args_agree ks)
 
   one : (f : E → E) (a : Known) → f (fold-Expr E r a.0) ≡ f (fold_expr r (expr_view a.0))
   one f a = ap f a.1
 
-  two : (f : E → E → E) (a b : Known) → f (fold-Expr E r a.0) (fold-Expr E r b.0) ≡ f (fold_expr r (expr_view a.0)) (fold_expr r (expr_view b.0))
+  two : (f : E → E → E) (a b : Known) →
+      f (fold-Expr E r a.0) (fold-Expr E r b.0) ≡ f (fold_expr r (expr_view a.0)) (fold_expr r (expr_view b.0))
   two f a b = ap (λ x. f x (fold-Expr E r b.0)) a.1 ∙ ap (f (fold_expr r (expr_view a.0))) b.1
 
   -- a layer whose parts agree
-  layer_agrees : (y : Expr-F Known) → r (map-Expr Expr E (fold-Expr E r) (map-Expr Known Expr whole y)) ≡ fold_expr r (expr_rule (map-Expr Expr node.Expr expr_view (map-Expr Known Expr whole y)))
+  layer_agrees : (y : Expr-F Known) →
+      r (map-Expr Expr E (fold-Expr E r) (map-Expr Known Expr whole y)) ≡ fold_expr r
+      (expr_rule (map-Expr Expr node.Expr expr_view (map-Expr Known Expr whole y)))
   layer_agrees (Expr-F.Const w) = refl
   layer_agrees (Expr-F.Captured k i) = refl
   layer_agrees (Expr-F.Var i) = refl
@@ -62,11 +69,15 @@ module _ {E : Type 0} (r : Expr-F E → E) where
   layer_agrees (Expr-F.Un k a) = one (λ x. r (Expr-F.Un k x)) a
   layer_agrees (Expr-F.And a b) = two (λ x y. r (Expr-F.And x y)) a b
   layer_agrees (Expr-F.Or a b) = two (λ x y. r (Expr-F.Or x y)) a b
-  layer_agrees (Expr-F.Cond c a b) = one (λ x. r (Expr-F.Cond x (fold-Expr E r a.0) (fold-Expr E r b.0))) c ∙ two (λ x y. r (Expr-F.Cond (fold_expr r (expr_view c.0)) x y)) a b
+  layer_agrees (Expr-F.Cond c a b) =
+      one (λ x. r (Expr-F.Cond x (fold-Expr E r a.0) (fold-Expr E r b.0))) c ∙
+      two (λ x y. r (Expr-F.Cond (fold_expr r (expr_view c.0)) x y)) a b
   layer_agrees (Expr-F.Comma a b) = two (λ x y. r (Expr-F.Comma x y)) a b
   layer_agrees (Expr-F.Void a) = one (λ x. r (Expr-F.Void x)) a
   layer_agrees (Expr-F.Call q f ks) = ap (λ xs. r (Expr-F.Call q f xs)) (args_agree ks)
-  layer_agrees (Expr-F.CallNumber q a ks) = one (λ x. r (Expr-F.CallNumber q x (map (fold-Expr E r) (map whole ks)))) a ∙ ap (λ xs. r (Expr-F.CallNumber q (fold_expr r (expr_view a.0)) xs)) (args_agree ks)
+  layer_agrees (Expr-F.CallNumber q a ks) =
+      one (λ x. r (Expr-F.CallNumber q x (map (fold-Expr E r) (map whole ks)))) a ∙
+      ap (λ xs. r (Expr-F.CallNumber q (fold_expr r (expr_view a.0)) xs)) (args_agree ks)
   layer_agrees Expr-F.Getchar = refl
   layer_agrees (Expr-F.Lib f a) = one (λ x. r (Expr-F.Lib f x)) a
   layer_agrees (Expr-F.Tick t ks) = ap (λ xs. r (Expr-F.Tick t xs)) (args_agree ks)
@@ -78,7 +89,9 @@ module _ {E : Type 0} (r : Expr-F E → E) where
 
   pub fusion : (e : Expr) → fold-Expr E r e ≡ fold_expr r (expr_view e)
   fusion = ind-Expr Agrees (λ x y is.
-      subst (λ z. Agrees (roll-Expr z)) is (fold-roll-Expr E r (map-Expr Known Expr whole y) ∙ layer_agrees y ∙ sym (ap (fold_expr r) (view_open (map-Expr Known Expr whole y)))))
+      subst (λ z. Agrees (roll-Expr z)) is
+      (fold-roll-Expr E r (map-Expr Known Expr whole y) ∙ layer_agrees y ∙
+      sym (ap (fold_expr r) (view_open (map-Expr Known Expr whole y)))))
 
 module _ {E S : Type 0} (r : Rules E S) where
   abbrev Follows : Stmt → Type 0
@@ -99,18 +112,25 @@ module _ {E S : Type 0} (r : Rules E S) where
   same : (e : Expr) → of e ≡ at e
   same = fusion r.expr
 
-  items_agree : (ms : List Met) → map (fold_statement r) (map plain ms) ≡ fold_items r (items_of (map stmt_view (map plain ms)))
+  items_agree : (ms : List Met) →
+      map (fold_statement r) (map plain ms) ≡ fold_items r (items_of (map stmt_view (map plain ms)))
   items_agree [] = refl
-  items_agree (m ∷ ms) = ap (λ x. x ∷ map (fold_statement r) (map plain ms)) m.1 ∙ ap (λ xs. fold_stmt r (stmt_view m.0) ∷ xs) (items_agree ms)
+  items_agree (m ∷ ms) = ap (λ x. x ∷ map (fold_statement r) (map plain ms)) m.1 ∙
+      ap (λ xs. fold_stmt r (stmt_view m.0) ∷ xs) (items_agree ms)
 
   -- an expression and a statement, and a block
   both : (f : E → S → S) (e : Expr) (m : Met) → f (of e) (fold_statement r m.0) ≡ f (at e) (fold_stmt r (stmt_view m.0))
   both f e m = ap (λ x. f x (fold_statement r m.0)) (same e) ∙ ap (f (at e)) m.1
 
-  block : (f : List S → List S → S) (vs ms : List Met) → f (map (fold_statement r) (map plain vs)) (map (fold_statement r) (map plain ms)) ≡ f (fold_items r (items_of (map stmt_view (map plain vs)))) (fold_items r (items_of (map stmt_view (map plain ms))))
-  block f vs ms = ap (λ x. f x (map (fold_statement r) (map plain ms))) (items_agree vs) ∙ ap (f (fold_items r (items_of (map stmt_view (map plain vs))))) (items_agree ms)
+  block : (f : List S → List S → S) (vs ms : List Met) →
+      f (map (fold_statement r) (map plain vs)) (map (fold_statement r) (map plain ms)) ≡ f
+      (fold_items r (items_of (map stmt_view (map plain vs)))) (fold_items r (items_of (map stmt_view (map plain ms))))
+  block f vs ms = ap (λ x. f x (map (fold_statement r) (map plain ms))) (items_agree vs) ∙
+      ap (f (fold_items r (items_of (map stmt_view (map plain vs))))) (items_agree ms)
 
-  stmt_agrees : (y : Stmt-F Met) → layer r (map-Stmt Stmt S (fold_statement r) (map-Stmt Met Stmt plain y)) ≡ fold_stmt r (stmt_rule (parts_of expr_view (map-Stmt Stmt node.Stmt stmt_view (map-Stmt Met Stmt plain y))))
+  stmt_agrees : (y : Stmt-F Met) →
+      layer r (map-Stmt Stmt S (fold_statement r) (map-Stmt Met Stmt plain y)) ≡ fold_stmt r
+      (stmt_rule (parts_of expr_view (map-Stmt Stmt node.Stmt stmt_view (map-Stmt Met Stmt plain y))))
   stmt_agrees (Stmt-F.Eval e) = ap (λ x. r.stmt (parts.Eval x)) (same e)
   stmt_agrees (Stmt-F.Block vs ms) = block (λ x y. r.stmt (parts.Block x y)) vs ms
   stmt_agrees (Stmt-F.Variable i) = refl
@@ -118,12 +138,18 @@ module _ {E S : Type 0} (r : Rules E S) where
   stmt_agrees (Stmt-F.Parameter k w) = refl
   stmt_agrees (Stmt-F.ParameterObject k w o) = refl
   stmt_agrees (Stmt-F.If e a) = both (λ x y. r.stmt (parts.If x y)) e a
-  stmt_agrees (Stmt-F.IfElse e a b) = both (λ x y. r.stmt (parts.IfElse x y (fold_statement r b.0))) e a ∙ ap (λ y. r.stmt (parts.IfElse (at e) (fold_stmt r (stmt_view a.0)) y)) b.1
+  stmt_agrees (Stmt-F.IfElse e a b) =
+      both (λ x y. r.stmt (parts.IfElse x y (fold_statement r b.0))) e a ∙
+      ap (λ y. r.stmt (parts.IfElse (at e) (fold_stmt r (stmt_view a.0)) y)) b.1
   stmt_agrees (Stmt-F.While e a) = both (λ x y. r.stmt (parts.While x y)) e a
   stmt_agrees (Stmt-F.Do a e) = both (λ x y. r.stmt (parts.Do y x)) e a
   stmt_agrees (Stmt-F.For e a) = both (λ x y. r.stmt (parts.For x y)) e a
-  stmt_agrees (Stmt-F.ForStep e f a) = ap (λ x. r.stmt (parts.ForStep x (of f) (fold_statement r a.0))) (same e) ∙ both (λ x y. r.stmt (parts.ForStep (at e) x y)) f a
-  stmt_agrees (Stmt-F.Switch e vs ms) = ap (λ x. r.stmt (parts.Switch x (map (fold_statement r) (map plain vs)) (map (fold_statement r) (map plain ms)))) (same e) ∙ block (λ x y. r.stmt (parts.Switch (at e) x y)) vs ms
+  stmt_agrees (Stmt-F.ForStep e f a) =
+      ap (λ x. r.stmt (parts.ForStep x (of f) (fold_statement r a.0))) (same e) ∙
+      both (λ x y. r.stmt (parts.ForStep (at e) x y)) f a
+  stmt_agrees (Stmt-F.Switch e vs ms) =
+      ap (λ x. r.stmt (parts.Switch x (map (fold_statement r) (map plain vs)) (map (fold_statement r) (map plain ms))))
+      (same e) ∙ block (λ x y. r.stmt (parts.Switch (at e) x y)) vs ms
   stmt_agrees (Stmt-F.Case c) = refl
   stmt_agrees Stmt-F.Default = refl
   stmt_agrees Stmt-F.Break = refl
@@ -133,7 +159,9 @@ module _ {E S : Type 0} (r : Rules E S) where
 
   pub statement_fusion : (s : Stmt) → fold_statement r s ≡ fold_stmt r (stmt_view s)
   statement_fusion = ind-Stmt Follows (λ x y is.
-      subst (λ z. Follows (roll-Stmt z)) is (fold-roll-Stmt S (layer r) (map-Stmt Met Stmt plain y) ∙ stmt_agrees y ∙ sym (ap (fold_stmt r) (stmt_view_open (map-Stmt Met Stmt plain y)))))
+      subst (λ z. Follows (roll-Stmt z)) is
+      (fold-roll-Stmt S (layer r) (map-Stmt Met Stmt plain y) ∙ stmt_agrees y ∙
+      sym (ap (fold_stmt r) (stmt_view_open (map-Stmt Met Stmt plain y)))))
 
 -- ---- the definitions
 

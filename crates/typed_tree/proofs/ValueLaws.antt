@@ -10,7 +10,10 @@ use Rattle.typed_tree.specs.declared.expression.CapturedWord.{CapturedWord}
 use Rattle.typed_tree.specs.declared.expression.Expr.{Expr}
 use Rattle.typed_tree.specs.declared.expression.Expr.TheOpen.{Expr-F}
 use Rattle.typed_tree.specs.declared.expression.Expr.TheVariants as e
-use Rattle.typed_tree.proofs.At.{at_const, at_captured, at_var, at_setvar, at_postvar, at_vget, at_vset, at_vpost, at_frame, at_load, at_store, at_modify, at_post, at_bin, at_un, at_and, at_or, at_cond, at_comma, at_void, at_call, at_callnumber, at_getchar, at_lib, at_tick, at_capture, at_splice, at_compile, at_local, at_paramof}
+use Rattle.typed_tree.proofs.At.{at_const, at_captured, at_var, at_setvar, at_postvar, at_vget, at_vset, at_vpost}
+use Rattle.typed_tree.proofs.At.{at_frame, at_load, at_store, at_modify, at_post, at_bin, at_un, at_and, at_or, at_cond}
+use Rattle.typed_tree.proofs.At.{at_comma, at_void, at_call, at_callnumber, at_getchar, at_lib, at_tick, at_capture}
+use Rattle.typed_tree.proofs.At.{at_splice, at_compile, at_local, at_paramof}
 use Rattle.typed_tree.specs.Sizes.{has_value, value_rule}
 
 pub value_const : (a : ℕ) → has_value (e.Const a) ≡ value_rule (Expr-F.Const a)
@@ -53,11 +56,13 @@ pub value_load : (a : Width) (b : Expr) → has_value (e.Load a b) ≡ value_rul
 unfolding has_value
 value_load a b = at_load value_rule a b
 
-pub value_store : (a : Width) (b : Expr) (c : Expr) → has_value (e.Store a b c) ≡ value_rule (Expr-F.Store a (has_value b) (has_value c))
+pub value_store : (a : Width) (b : Expr) (c : Expr) →
+    has_value (e.Store a b c) ≡ value_rule (Expr-F.Store a (has_value b) (has_value c))
 unfolding has_value
 value_store a b c = at_store value_rule a b c
 
-pub value_modify : (a : Width) (b : BinKind) (c : Expr) (d : Expr) → has_value (e.Modify a b c d) ≡ value_rule (Expr-F.Modify a b (has_value c) (has_value d))
+pub value_modify : (a : Width) (b : BinKind) (c : Expr) (d : Expr) →
+    has_value (e.Modify a b c d) ≡ value_rule (Expr-F.Modify a b (has_value c) (has_value d))
 unfolding has_value
 value_modify a b c d = at_modify value_rule a b c d
 
@@ -65,7 +70,8 @@ pub value_post : (a : Width) (b : ℕ) (c : Expr) → has_value (e.Post a b c) �
 unfolding has_value
 value_post a b c = at_post value_rule a b c
 
-pub value_bin : (a : BinKind) (b : Expr) (c : Expr) → has_value (e.Bin a b c) ≡ value_rule (Expr-F.Bin a (has_value b) (has_value c))
+pub value_bin : (a : BinKind) (b : Expr) (c : Expr) →
+    has_value (e.Bin a b c) ≡ value_rule (Expr-F.Bin a (has_value b) (has_value c))
 unfolding has_value
 value_bin a b c = at_bin value_rule a b c
 
@@ -81,11 +87,13 @@ pub value_or : (a : Expr) (b : Expr) → has_value (e.Or a b) ≡ value_rule (Ex
 unfolding has_value
 value_or a b = at_or value_rule a b
 
-pub value_cond : (a : Expr) (b : Expr) (c : Expr) → has_value (e.Cond a b c) ≡ value_rule (Expr-F.Cond (has_value a) (has_value b) (has_value c))
+pub value_cond : (a : Expr) (b : Expr) (c : Expr) →
+    has_value (e.Cond a b c) ≡ value_rule (Expr-F.Cond (has_value a) (has_value b) (has_value c))
 unfolding has_value
 value_cond a b c = at_cond value_rule a b c
 
-pub value_comma : (a : Expr) (b : Expr) → has_value (e.Comma a b) ≡ value_rule (Expr-F.Comma (has_value a) (has_value b))
+pub value_comma : (a : Expr) (b : Expr) →
+    has_value (e.Comma a b) ≡ value_rule (Expr-F.Comma (has_value a) (has_value b))
 unfolding has_value
 value_comma a b = at_comma value_rule a b
 
@@ -93,11 +101,13 @@ pub value_void : (a : Expr) → has_value (e.Void a) ≡ value_rule (Expr-F.Void
 unfolding has_value
 value_void a = at_void value_rule a
 
-pub value_call : (a : Answer) (b : ℕ) (c : List Expr) → has_value (e.Call a b c) ≡ value_rule (Expr-F.Call a b (map has_value c))
+pub value_call : (a : Answer) (b : ℕ) (c : List Expr) →
+    has_value (e.Call a b c) ≡ value_rule (Expr-F.Call a b (map has_value c))
 unfolding has_value
 value_call a b c = at_call value_rule a b c
 
-pub value_callnumber : (a : Answer) (b : Expr) (c : List Expr) → has_value (e.CallNumber a b c) ≡ value_rule (Expr-F.CallNumber a (has_value b) (map has_value c))
+pub value_callnumber : (a : Answer) (b : Expr) (c : List Expr) →
+    has_value (e.CallNumber a b c) ≡ value_rule (Expr-F.CallNumber a (has_value b) (map has_value c))
 unfolding has_value
 value_callnumber a b c = at_callnumber value_rule a b c
 
@@ -113,7 +123,8 @@ pub value_tick : (a : ℕ) (b : List Expr) → has_value (e.Tick a b) ≡ value_
 unfolding has_value
 value_tick a b = at_tick value_rule a b
 
-pub value_capture : (a : CaptureKind) (b : Expr) → has_value (e.Capture a b) ≡ value_rule (Expr-F.Capture a (has_value b))
+pub value_capture : (a : CaptureKind) (b : Expr) →
+    has_value (e.Capture a b) ≡ value_rule (Expr-F.Capture a (has_value b))
 unfolding has_value
 value_capture a b = at_capture value_rule a b
 
@@ -133,4 +144,35 @@ pub value_paramof : (a : Expr) → has_value (e.ParamOf a) ≡ value_rule (Expr-
 unfolding has_value
 value_paramof a = at_paramof value_rule a
 
-pub ruleset values = (value_const, value_captured, value_var, value_setvar, value_postvar, value_vget, value_vset, value_vpost, value_frame, value_load, value_store, value_modify, value_post, value_bin, value_un, value_and, value_or, value_cond, value_comma, value_void, value_call, value_callnumber, value_getchar, value_lib, value_tick, value_capture, value_splice, value_compile, value_local, value_paramof)
+pub ruleset values = (
+  value_const,
+  value_captured,
+  value_var,
+  value_setvar,
+  value_postvar,
+  value_vget,
+  value_vset,
+  value_vpost,
+  value_frame,
+  value_load,
+  value_store,
+  value_modify,
+  value_post,
+  value_bin,
+  value_un,
+  value_and,
+  value_or,
+  value_cond,
+  value_comma,
+  value_void,
+  value_call,
+  value_callnumber,
+  value_getchar,
+  value_lib,
+  value_tick,
+  value_capture,
+  value_splice,
+  value_compile,
+  value_local,
+  value_paramof,
+)

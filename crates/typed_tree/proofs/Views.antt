@@ -10,10 +10,15 @@ use Rattle.typed_tree.specs.declared.expression.CapturedWord.{CapturedWord}
 use Rattle.typed_tree.specs.declared.expression.Expr.{Expr}
 use Rattle.typed_tree.specs.declared.expression.Expr.TheOpen.{Expr-F}
 use Rattle.typed_tree.specs.declared.expression.Expr.TheVariants as e
-use Rattle.typed_tree.proofs.At.{at_const, at_captured, at_var, at_setvar, at_postvar, at_vget, at_vset, at_vpost, at_frame, at_load, at_store, at_modify, at_post, at_bin, at_un, at_and, at_or, at_cond, at_comma, at_void, at_call, at_callnumber, at_getchar, at_lib, at_tick, at_capture, at_splice, at_compile, at_local, at_paramof}
+use Rattle.typed_tree.proofs.At.{at_const, at_captured, at_var, at_setvar, at_postvar, at_vget, at_vset, at_vpost}
+use Rattle.typed_tree.proofs.At.{at_frame, at_load, at_store, at_modify, at_post, at_bin, at_un, at_and, at_or, at_cond}
+use Rattle.typed_tree.proofs.At.{at_comma, at_void, at_call, at_callnumber, at_getchar, at_lib, at_tick, at_capture}
+use Rattle.typed_tree.proofs.At.{at_splice, at_compile, at_local, at_paramof}
 use Rattle.typed_tree.specs.declared.expression.Stmt.{Stmt}
 use Rattle.typed_tree.specs.declared.expression.Stmt.TheVariants as st
-use Rattle.typed_tree.proofs.At.{on_eval, on_block, on_variable, on_object, on_parameter, on_parameterobject, on_if, on_ifelse, on_while, on_do, on_for, on_forstep, on_switch, on_case, on_default, on_break, on_continue, on_return, on_returnvalue}
+use Rattle.typed_tree.proofs.At.{on_eval, on_block, on_variable, on_object, on_parameter, on_parameterobject, on_if}
+use Rattle.typed_tree.proofs.At.{on_ifelse, on_while, on_do, on_for, on_forstep, on_switch, on_case, on_default}
+use Rattle.typed_tree.proofs.At.{on_break, on_continue, on_return, on_returnvalue}
 use Rattle.typed_tree.specs.Folds as parts
 use Rattle.typed_tree.specs.View.{expr_view, expr_rule, stmt_view, stmt_rule, view_rules}
 
@@ -57,11 +62,13 @@ pub view_load : (a : Width) (b : Expr) → expr_view (e.Load a b) ≡ expr_rule 
 unfolding expr_view
 view_load a b = at_load expr_rule a b
 
-pub view_store : (a : Width) (b : Expr) (c : Expr) → expr_view (e.Store a b c) ≡ expr_rule (Expr-F.Store a (expr_view b) (expr_view c))
+pub view_store : (a : Width) (b : Expr) (c : Expr) →
+    expr_view (e.Store a b c) ≡ expr_rule (Expr-F.Store a (expr_view b) (expr_view c))
 unfolding expr_view
 view_store a b c = at_store expr_rule a b c
 
-pub view_modify : (a : Width) (b : BinKind) (c : Expr) (d : Expr) → expr_view (e.Modify a b c d) ≡ expr_rule (Expr-F.Modify a b (expr_view c) (expr_view d))
+pub view_modify : (a : Width) (b : BinKind) (c : Expr) (d : Expr) →
+    expr_view (e.Modify a b c d) ≡ expr_rule (Expr-F.Modify a b (expr_view c) (expr_view d))
 unfolding expr_view
 view_modify a b c d = at_modify expr_rule a b c d
 
@@ -69,7 +76,8 @@ pub view_post : (a : Width) (b : ℕ) (c : Expr) → expr_view (e.Post a b c) �
 unfolding expr_view
 view_post a b c = at_post expr_rule a b c
 
-pub view_bin : (a : BinKind) (b : Expr) (c : Expr) → expr_view (e.Bin a b c) ≡ expr_rule (Expr-F.Bin a (expr_view b) (expr_view c))
+pub view_bin : (a : BinKind) (b : Expr) (c : Expr) →
+    expr_view (e.Bin a b c) ≡ expr_rule (Expr-F.Bin a (expr_view b) (expr_view c))
 unfolding expr_view
 view_bin a b c = at_bin expr_rule a b c
 
@@ -85,7 +93,8 @@ pub view_or : (a : Expr) (b : Expr) → expr_view (e.Or a b) ≡ expr_rule (Expr
 unfolding expr_view
 view_or a b = at_or expr_rule a b
 
-pub view_cond : (a : Expr) (b : Expr) (c : Expr) → expr_view (e.Cond a b c) ≡ expr_rule (Expr-F.Cond (expr_view a) (expr_view b) (expr_view c))
+pub view_cond : (a : Expr) (b : Expr) (c : Expr) →
+    expr_view (e.Cond a b c) ≡ expr_rule (Expr-F.Cond (expr_view a) (expr_view b) (expr_view c))
 unfolding expr_view
 view_cond a b c = at_cond expr_rule a b c
 
@@ -97,11 +106,13 @@ pub view_void : (a : Expr) → expr_view (e.Void a) ≡ expr_rule (Expr-F.Void (
 unfolding expr_view
 view_void a = at_void expr_rule a
 
-pub view_call : (a : Answer) (b : ℕ) (c : List Expr) → expr_view (e.Call a b c) ≡ expr_rule (Expr-F.Call a b (map expr_view c))
+pub view_call : (a : Answer) (b : ℕ) (c : List Expr) →
+    expr_view (e.Call a b c) ≡ expr_rule (Expr-F.Call a b (map expr_view c))
 unfolding expr_view
 view_call a b c = at_call expr_rule a b c
 
-pub view_callnumber : (a : Answer) (b : Expr) (c : List Expr) → expr_view (e.CallNumber a b c) ≡ expr_rule (Expr-F.CallNumber a (expr_view b) (map expr_view c))
+pub view_callnumber : (a : Answer) (b : Expr) (c : List Expr) →
+    expr_view (e.CallNumber a b c) ≡ expr_rule (Expr-F.CallNumber a (expr_view b) (map expr_view c))
 unfolding expr_view
 view_callnumber a b c = at_callnumber expr_rule a b c
 
@@ -137,13 +148,45 @@ pub view_paramof : (a : Expr) → expr_view (e.ParamOf a) ≡ expr_rule (Expr-F.
 unfolding expr_view
 view_paramof a = at_paramof expr_rule a
 
-pub ruleset expressions = (view_const, view_captured, view_var, view_setvar, view_postvar, view_vget, view_vset, view_vpost, view_frame, view_load, view_store, view_modify, view_post, view_bin, view_un, view_and, view_or, view_cond, view_comma, view_void, view_call, view_callnumber, view_getchar, view_lib, view_tick, view_capture, view_splice, view_compile, view_local, view_paramof)
+pub ruleset expressions = (
+  view_const,
+  view_captured,
+  view_var,
+  view_setvar,
+  view_postvar,
+  view_vget,
+  view_vset,
+  view_vpost,
+  view_frame,
+  view_load,
+  view_store,
+  view_modify,
+  view_post,
+  view_bin,
+  view_un,
+  view_and,
+  view_or,
+  view_cond,
+  view_comma,
+  view_void,
+  view_call,
+  view_callnumber,
+  view_getchar,
+  view_lib,
+  view_tick,
+  view_capture,
+  view_splice,
+  view_compile,
+  view_local,
+  view_paramof,
+)
 
 pub stmt_view_eval : (a : Expr) → stmt_view (st.Eval a) ≡ stmt_rule (parts.Eval (expr_view a))
 unfolding expr_view stmt_view
 stmt_view_eval a = on_eval view_rules a
 
-pub stmt_view_block : (a : List Stmt) (b : List Stmt) → stmt_view (st.Block a b) ≡ stmt_rule (parts.Block (map stmt_view a) (map stmt_view b))
+pub stmt_view_block : (a : List Stmt) (b : List Stmt) →
+    stmt_view (st.Block a b) ≡ stmt_rule (parts.Block (map stmt_view a) (map stmt_view b))
 unfolding expr_view stmt_view
 stmt_view_block a b = on_block view_rules a b
 
@@ -159,7 +202,8 @@ pub stmt_view_parameter : (a : ℕ) (b : Width) → stmt_view (st.Parameter a b)
 unfolding expr_view stmt_view
 stmt_view_parameter a b = on_parameter view_rules a b
 
-pub stmt_view_parameterobject : (a : ℕ) (b : Width) (c : ℕ) → stmt_view (st.ParameterObject a b c) ≡ stmt_rule (parts.ParameterObject a b c)
+pub stmt_view_parameterobject : (a : ℕ) (b : Width) (c : ℕ) →
+    stmt_view (st.ParameterObject a b c) ≡ stmt_rule (parts.ParameterObject a b c)
 unfolding expr_view stmt_view
 stmt_view_parameterobject a b c = on_parameterobject view_rules a b c
 
@@ -167,11 +211,13 @@ pub stmt_view_if : (a : Expr) (b : Stmt) → stmt_view (st.If a b) ≡ stmt_rule
 unfolding expr_view stmt_view
 stmt_view_if a b = on_if view_rules a b
 
-pub stmt_view_ifelse : (a : Expr) (b : Stmt) (c : Stmt) → stmt_view (st.IfElse a b c) ≡ stmt_rule (parts.IfElse (expr_view a) (stmt_view b) (stmt_view c))
+pub stmt_view_ifelse : (a : Expr) (b : Stmt) (c : Stmt) →
+    stmt_view (st.IfElse a b c) ≡ stmt_rule (parts.IfElse (expr_view a) (stmt_view b) (stmt_view c))
 unfolding expr_view stmt_view
 stmt_view_ifelse a b c = on_ifelse view_rules a b c
 
-pub stmt_view_while : (a : Expr) (b : Stmt) → stmt_view (st.While a b) ≡ stmt_rule (parts.While (expr_view a) (stmt_view b))
+pub stmt_view_while : (a : Expr) (b : Stmt) →
+    stmt_view (st.While a b) ≡ stmt_rule (parts.While (expr_view a) (stmt_view b))
 unfolding expr_view stmt_view
 stmt_view_while a b = on_while view_rules a b
 
@@ -183,11 +229,13 @@ pub stmt_view_for : (a : Expr) (b : Stmt) → stmt_view (st.For a b) ≡ stmt_ru
 unfolding expr_view stmt_view
 stmt_view_for a b = on_for view_rules a b
 
-pub stmt_view_forstep : (a : Expr) (b : Expr) (c : Stmt) → stmt_view (st.ForStep a b c) ≡ stmt_rule (parts.ForStep (expr_view a) (expr_view b) (stmt_view c))
+pub stmt_view_forstep : (a : Expr) (b : Expr) (c : Stmt) →
+    stmt_view (st.ForStep a b c) ≡ stmt_rule (parts.ForStep (expr_view a) (expr_view b) (stmt_view c))
 unfolding expr_view stmt_view
 stmt_view_forstep a b c = on_forstep view_rules a b c
 
-pub stmt_view_switch : (a : Expr) (b : List Stmt) (c : List Stmt) → stmt_view (st.Switch a b c) ≡ stmt_rule (parts.Switch (expr_view a) (map stmt_view b) (map stmt_view c))
+pub stmt_view_switch : (a : Expr) (b : List Stmt) (c : List Stmt) →
+    stmt_view (st.Switch a b c) ≡ stmt_rule (parts.Switch (expr_view a) (map stmt_view b) (map stmt_view c))
 unfolding expr_view stmt_view
 stmt_view_switch a b c = on_switch view_rules a b c
 
@@ -215,4 +263,24 @@ pub stmt_view_returnvalue : (a : Expr) → stmt_view (st.ReturnValue a) ≡ stmt
 unfolding expr_view stmt_view
 stmt_view_returnvalue a = on_returnvalue view_rules a
 
-pub ruleset statements = (stmt_view_eval, stmt_view_block, stmt_view_variable, stmt_view_object, stmt_view_parameter, stmt_view_parameterobject, stmt_view_if, stmt_view_ifelse, stmt_view_while, stmt_view_do, stmt_view_for, stmt_view_forstep, stmt_view_switch, stmt_view_case, stmt_view_default, stmt_view_break, stmt_view_continue, stmt_view_return, stmt_view_returnvalue)
+pub ruleset statements = (
+  stmt_view_eval,
+  stmt_view_block,
+  stmt_view_variable,
+  stmt_view_object,
+  stmt_view_parameter,
+  stmt_view_parameterobject,
+  stmt_view_if,
+  stmt_view_ifelse,
+  stmt_view_while,
+  stmt_view_do,
+  stmt_view_for,
+  stmt_view_forstep,
+  stmt_view_switch,
+  stmt_view_case,
+  stmt_view_default,
+  stmt_view_break,
+  stmt_view_continue,
+  stmt_view_return,
+  stmt_view_returnvalue,
+)

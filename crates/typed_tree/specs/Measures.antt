@@ -1,10 +1,12 @@
--- What is counted in the pure tree: nodes, which limits and charges are stated in, and the labels and variables of their own
+-- What is counted in the pure tree: nodes, which limits and charges are stated in, and the labels and variables of
+-- their own
 -- that nodes take in the code. These are this project's own rules.
 use Rattle.std.specs.Prelude.{ℕ, ◌+◌, max}
 use Rattle.typed_tree.specs.declared.expression.Expr.TheOpen.{Expr-F}
 use Rattle.typed_tree.specs.Folds.{Parts, Rules, total, greatest}
 use Rattle.typed_tree.specs.Folds as parts
-use Rattle.typed_tree.specs.Nodes.{Expr, Args, Stmt, Items, TickBody, Expression, Statement, fold_expr, fold_args, fold_stmt, fold_items}
+use Rattle.typed_tree.specs.Nodes.{Expr, Args, Stmt, Items, TickBody, Expression, Statement, fold_expr, fold_args}
+use Rattle.typed_tree.specs.Nodes.{fold_stmt, fold_items}
 use Rattle.typed_tree.specs.Sizes.{size_rule, size_rules}
 
 -- ---- sizes

@@ -103,7 +103,8 @@ pub data TickBody : Type 0 where
   Expression : Expr → TickBody
   Statement : Stmt → TickBody
 
--- a program: its functions, of which the first has the number 1, its ticks, and the bytes that the object space begins with
+-- a program: its functions, of which the first has the number 1, its ticks, and the bytes that the object space begins
+-- with
 pub record Program : Type 0 where
   pub functions : List Function
   pub ticks : List TickBody
@@ -164,7 +165,8 @@ module _ {E S : Type 0} (r : Rules E S) where
     fold_stmt (Do s c) = r.stmt (parts.Do (fold_stmt s) (fold_expr r.expr c))
     fold_stmt (For c s) = r.stmt (parts.For (fold_expr r.expr c) (fold_stmt s))
     fold_stmt (ForStep c step s) = r.stmt (parts.ForStep (fold_expr r.expr c) (fold_expr r.expr step) (fold_stmt s))
-    fold_stmt (Switch e variables items) = r.stmt (parts.Switch (fold_expr r.expr e) (fold_items variables) (fold_items items))
+    fold_stmt (Switch e variables items) =
+        r.stmt (parts.Switch (fold_expr r.expr e) (fold_items variables) (fold_items items))
     fold_stmt (Case value) = r.stmt (parts.Case value)
     fold_stmt Default = r.stmt parts.Default
     fold_stmt Break = r.stmt parts.Break

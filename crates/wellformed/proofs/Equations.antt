@@ -10,13 +10,19 @@ use Rattle.typed_tree.specs.declared.expression.CapturedWord.{CapturedWord}
 use Rattle.typed_tree.specs.declared.expression.Expr.{Expr}
 use Rattle.typed_tree.specs.declared.expression.Expr.TheOpen.{Expr-F}
 use Rattle.typed_tree.specs.declared.expression.Expr.TheVariants as e
-use Rattle.typed_tree.proofs.At.{at_const, at_captured, at_var, at_setvar, at_postvar, at_vget, at_vset, at_vpost, at_frame, at_load, at_store, at_modify, at_post, at_bin, at_un, at_and, at_or, at_cond, at_comma, at_void, at_call, at_callnumber, at_getchar, at_lib, at_tick, at_capture, at_splice, at_compile, at_local, at_paramof}
+use Rattle.typed_tree.proofs.At.{at_const, at_captured, at_var, at_setvar, at_postvar, at_vget, at_vset, at_vpost}
+use Rattle.typed_tree.proofs.At.{at_frame, at_load, at_store, at_modify, at_post, at_bin, at_un, at_and, at_or, at_cond}
+use Rattle.typed_tree.proofs.At.{at_comma, at_void, at_call, at_callnumber, at_getchar, at_lib, at_tick, at_capture}
+use Rattle.typed_tree.proofs.At.{at_splice, at_compile, at_local, at_paramof}
 use Rattle.typed_tree.specs.declared.expression.Stmt.{Stmt}
 use Rattle.typed_tree.specs.declared.expression.Stmt.TheVariants as st
-use Rattle.typed_tree.proofs.At.{on_eval, on_block, on_variable, on_object, on_parameter, on_parameterobject, on_if, on_ifelse, on_while, on_do, on_for, on_forstep, on_switch, on_case, on_default, on_break, on_continue, on_return, on_returnvalue}
+use Rattle.typed_tree.proofs.At.{on_eval, on_block, on_variable, on_object, on_parameter, on_parameterobject, on_if}
+use Rattle.typed_tree.proofs.At.{on_ifelse, on_while, on_do, on_for, on_forstep, on_switch, on_case, on_default}
+use Rattle.typed_tree.proofs.At.{on_break, on_continue, on_return, on_returnvalue}
 use Rattle.typed_tree.specs.Folds as parts
 use Rattle.wellformed.specs.Places.{part, expr_rule, act, stmt_rule, rules}
-use Rattle.wellformed.specs.Counts.{objects_at, object_rule, object_rules, declarations_of, declaration_rule, declaration_rules}
+use Rattle.wellformed.specs.Counts.{objects_at, object_rule, object_rules, declarations_of, declaration_rule}
+use Rattle.wellformed.specs.Counts.{declaration_rules}
 
 pub part_const : (a : ℕ) → part (e.Const a) ≡ expr_rule (Expr-F.Const a)
 unfolding part
@@ -62,7 +68,8 @@ pub part_store : (a : Width) (b : Expr) (c : Expr) → part (e.Store a b c) ≡ 
 unfolding part
 part_store a b c = at_store expr_rule a b c
 
-pub part_modify : (a : Width) (b : BinKind) (c : Expr) (d : Expr) → part (e.Modify a b c d) ≡ expr_rule (Expr-F.Modify a b (part c) (part d))
+pub part_modify : (a : Width) (b : BinKind) (c : Expr) (d : Expr) →
+    part (e.Modify a b c d) ≡ expr_rule (Expr-F.Modify a b (part c) (part d))
 unfolding part
 part_modify a b c d = at_modify expr_rule a b c d
 
@@ -86,7 +93,8 @@ pub part_or : (a : Expr) (b : Expr) → part (e.Or a b) ≡ expr_rule (Expr-F.Or
 unfolding part
 part_or a b = at_or expr_rule a b
 
-pub part_cond : (a : Expr) (b : Expr) (c : Expr) → part (e.Cond a b c) ≡ expr_rule (Expr-F.Cond (part a) (part b) (part c))
+pub part_cond : (a : Expr) (b : Expr) (c : Expr) →
+    part (e.Cond a b c) ≡ expr_rule (Expr-F.Cond (part a) (part b) (part c))
 unfolding part
 part_cond a b c = at_cond expr_rule a b c
 
@@ -102,7 +110,8 @@ pub part_call : (a : Answer) (b : ℕ) (c : List Expr) → part (e.Call a b c) �
 unfolding part
 part_call a b c = at_call expr_rule a b c
 
-pub part_callnumber : (a : Answer) (b : Expr) (c : List Expr) → part (e.CallNumber a b c) ≡ expr_rule (Expr-F.CallNumber a (part b) (map part c))
+pub part_callnumber : (a : Answer) (b : Expr) (c : List Expr) →
+    part (e.CallNumber a b c) ≡ expr_rule (Expr-F.CallNumber a (part b) (map part c))
 unfolding part
 part_callnumber a b c = at_callnumber expr_rule a b c
 
@@ -158,7 +167,8 @@ pub act_parameter : (a : ℕ) (b : Width) → act (st.Parameter a b) ≡ stmt_ru
 unfolding part act
 act_parameter a b = on_parameter rules a b
 
-pub act_parameterobject : (a : ℕ) (b : Width) (c : ℕ) → act (st.ParameterObject a b c) ≡ stmt_rule (parts.ParameterObject a b c)
+pub act_parameterobject : (a : ℕ) (b : Width) (c : ℕ) →
+    act (st.ParameterObject a b c) ≡ stmt_rule (parts.ParameterObject a b c)
 unfolding part act
 act_parameterobject a b c = on_parameterobject rules a b c
 
@@ -166,7 +176,8 @@ pub act_if : (a : Expr) (b : Stmt) → act (st.If a b) ≡ stmt_rule (parts.If (
 unfolding part act
 act_if a b = on_if rules a b
 
-pub act_ifelse : (a : Expr) (b : Stmt) (c : Stmt) → act (st.IfElse a b c) ≡ stmt_rule (parts.IfElse (part a) (act b) (act c))
+pub act_ifelse : (a : Expr) (b : Stmt) (c : Stmt) →
+    act (st.IfElse a b c) ≡ stmt_rule (parts.IfElse (part a) (act b) (act c))
 unfolding part act
 act_ifelse a b c = on_ifelse rules a b c
 
@@ -182,11 +193,13 @@ pub act_for : (a : Expr) (b : Stmt) → act (st.For a b) ≡ stmt_rule (parts.Fo
 unfolding part act
 act_for a b = on_for rules a b
 
-pub act_forstep : (a : Expr) (b : Expr) (c : Stmt) → act (st.ForStep a b c) ≡ stmt_rule (parts.ForStep (part a) (part b) (act c))
+pub act_forstep : (a : Expr) (b : Expr) (c : Stmt) →
+    act (st.ForStep a b c) ≡ stmt_rule (parts.ForStep (part a) (part b) (act c))
 unfolding part act
 act_forstep a b c = on_forstep rules a b c
 
-pub act_switch : (a : Expr) (b : List Stmt) (c : List Stmt) → act (st.Switch a b c) ≡ stmt_rule (parts.Switch (part a) (map act b) (map act c))
+pub act_switch : (a : Expr) (b : List Stmt) (c : List Stmt) →
+    act (st.Switch a b c) ≡ stmt_rule (parts.Switch (part a) (map act b) (map act c))
 unfolding part act
 act_switch a b c = on_switch rules a b c
 
@@ -218,7 +231,8 @@ pub objects_at_eval : (x : ℕ) (a : Expr) → objects_at x (st.Eval a) ≡ obje
 unfolding objects_at
 objects_at_eval x a = on_eval (object_rules x) a
 
-pub objects_at_block : (x : ℕ) (a : List Stmt) (b : List Stmt) → objects_at x (st.Block a b) ≡ object_rule x (parts.Block (map (objects_at x) a) (map (objects_at x) b))
+pub objects_at_block : (x : ℕ) (a : List Stmt) (b : List Stmt) →
+    objects_at x (st.Block a b) ≡ object_rule x (parts.Block (map (objects_at x) a) (map (objects_at x) b))
 unfolding objects_at
 objects_at_block x a b = on_block (object_rules x) a b
 
@@ -230,39 +244,48 @@ pub objects_at_object : (x : ℕ) (a : ℕ) (b : ℕ) → objects_at x (st.Objec
 unfolding objects_at
 objects_at_object x a b = on_object (object_rules x) a b
 
-pub objects_at_parameter : (x : ℕ) (a : ℕ) (b : Width) → objects_at x (st.Parameter a b) ≡ object_rule x (parts.Parameter a b)
+pub objects_at_parameter : (x : ℕ) (a : ℕ) (b : Width) →
+    objects_at x (st.Parameter a b) ≡ object_rule x (parts.Parameter a b)
 unfolding objects_at
 objects_at_parameter x a b = on_parameter (object_rules x) a b
 
-pub objects_at_parameterobject : (x : ℕ) (a : ℕ) (b : Width) (c : ℕ) → objects_at x (st.ParameterObject a b c) ≡ object_rule x (parts.ParameterObject a b c)
+pub objects_at_parameterobject : (x : ℕ) (a : ℕ) (b : Width) (c : ℕ) →
+    objects_at x (st.ParameterObject a b c) ≡ object_rule x (parts.ParameterObject a b c)
 unfolding objects_at
 objects_at_parameterobject x a b c = on_parameterobject (object_rules x) a b c
 
-pub objects_at_if : (x : ℕ) (a : Expr) (b : Stmt) → objects_at x (st.If a b) ≡ object_rule x (parts.If tt (objects_at x b))
+pub objects_at_if : (x : ℕ) (a : Expr) (b : Stmt) →
+    objects_at x (st.If a b) ≡ object_rule x (parts.If tt (objects_at x b))
 unfolding objects_at
 objects_at_if x a b = on_if (object_rules x) a b
 
-pub objects_at_ifelse : (x : ℕ) (a : Expr) (b : Stmt) (c : Stmt) → objects_at x (st.IfElse a b c) ≡ object_rule x (parts.IfElse tt (objects_at x b) (objects_at x c))
+pub objects_at_ifelse : (x : ℕ) (a : Expr) (b : Stmt) (c : Stmt) →
+    objects_at x (st.IfElse a b c) ≡ object_rule x (parts.IfElse tt (objects_at x b) (objects_at x c))
 unfolding objects_at
 objects_at_ifelse x a b c = on_ifelse (object_rules x) a b c
 
-pub objects_at_while : (x : ℕ) (a : Expr) (b : Stmt) → objects_at x (st.While a b) ≡ object_rule x (parts.While tt (objects_at x b))
+pub objects_at_while : (x : ℕ) (a : Expr) (b : Stmt) →
+    objects_at x (st.While a b) ≡ object_rule x (parts.While tt (objects_at x b))
 unfolding objects_at
 objects_at_while x a b = on_while (object_rules x) a b
 
-pub objects_at_do : (x : ℕ) (a : Stmt) (b : Expr) → objects_at x (st.Do a b) ≡ object_rule x (parts.Do (objects_at x a) tt)
+pub objects_at_do : (x : ℕ) (a : Stmt) (b : Expr) →
+    objects_at x (st.Do a b) ≡ object_rule x (parts.Do (objects_at x a) tt)
 unfolding objects_at
 objects_at_do x a b = on_do (object_rules x) a b
 
-pub objects_at_for : (x : ℕ) (a : Expr) (b : Stmt) → objects_at x (st.For a b) ≡ object_rule x (parts.For tt (objects_at x b))
+pub objects_at_for : (x : ℕ) (a : Expr) (b : Stmt) →
+    objects_at x (st.For a b) ≡ object_rule x (parts.For tt (objects_at x b))
 unfolding objects_at
 objects_at_for x a b = on_for (object_rules x) a b
 
-pub objects_at_forstep : (x : ℕ) (a : Expr) (b : Expr) (c : Stmt) → objects_at x (st.ForStep a b c) ≡ object_rule x (parts.ForStep tt tt (objects_at x c))
+pub objects_at_forstep : (x : ℕ) (a : Expr) (b : Expr) (c : Stmt) →
+    objects_at x (st.ForStep a b c) ≡ object_rule x (parts.ForStep tt tt (objects_at x c))
 unfolding objects_at
 objects_at_forstep x a b c = on_forstep (object_rules x) a b c
 
-pub objects_at_switch : (x : ℕ) (a : Expr) (b : List Stmt) (c : List Stmt) → objects_at x (st.Switch a b c) ≡ object_rule x (parts.Switch tt (map (objects_at x) b) (map (objects_at x) c))
+pub objects_at_switch : (x : ℕ) (a : Expr) (b : List Stmt) (c : List Stmt) →
+    objects_at x (st.Switch a b c) ≡ object_rule x (parts.Switch tt (map (objects_at x) b) (map (objects_at x) c))
 unfolding objects_at
 objects_at_switch x a b c = on_switch (object_rules x) a b c
 
@@ -294,51 +317,65 @@ pub declarations_of_eval : (x : ℕ) (a : Expr) → declarations_of x (st.Eval a
 unfolding declarations_of
 declarations_of_eval x a = on_eval (declaration_rules x) a
 
-pub declarations_of_block : (x : ℕ) (a : List Stmt) (b : List Stmt) → declarations_of x (st.Block a b) ≡ declaration_rule x (parts.Block (map (declarations_of x) a) (map (declarations_of x) b))
+pub declarations_of_block : (x : ℕ) (a : List Stmt) (b : List Stmt) →
+    declarations_of x (st.Block a b) ≡ declaration_rule x
+    (parts.Block (map (declarations_of x) a) (map (declarations_of x) b))
 unfolding declarations_of
 declarations_of_block x a b = on_block (declaration_rules x) a b
 
-pub declarations_of_variable : (x : ℕ) (a : ℕ) → declarations_of x (st.Variable a) ≡ declaration_rule x (parts.Variable a)
+pub declarations_of_variable : (x : ℕ) (a : ℕ) →
+    declarations_of x (st.Variable a) ≡ declaration_rule x (parts.Variable a)
 unfolding declarations_of
 declarations_of_variable x a = on_variable (declaration_rules x) a
 
-pub declarations_of_object : (x : ℕ) (a : ℕ) (b : ℕ) → declarations_of x (st.Object a b) ≡ declaration_rule x (parts.Object a b)
+pub declarations_of_object : (x : ℕ) (a : ℕ) (b : ℕ) →
+    declarations_of x (st.Object a b) ≡ declaration_rule x (parts.Object a b)
 unfolding declarations_of
 declarations_of_object x a b = on_object (declaration_rules x) a b
 
-pub declarations_of_parameter : (x : ℕ) (a : ℕ) (b : Width) → declarations_of x (st.Parameter a b) ≡ declaration_rule x (parts.Parameter a b)
+pub declarations_of_parameter : (x : ℕ) (a : ℕ) (b : Width) →
+    declarations_of x (st.Parameter a b) ≡ declaration_rule x (parts.Parameter a b)
 unfolding declarations_of
 declarations_of_parameter x a b = on_parameter (declaration_rules x) a b
 
-pub declarations_of_parameterobject : (x : ℕ) (a : ℕ) (b : Width) (c : ℕ) → declarations_of x (st.ParameterObject a b c) ≡ declaration_rule x (parts.ParameterObject a b c)
+pub declarations_of_parameterobject : (x : ℕ) (a : ℕ) (b : Width) (c : ℕ) →
+    declarations_of x (st.ParameterObject a b c) ≡ declaration_rule x (parts.ParameterObject a b c)
 unfolding declarations_of
 declarations_of_parameterobject x a b c = on_parameterobject (declaration_rules x) a b c
 
-pub declarations_of_if : (x : ℕ) (a : Expr) (b : Stmt) → declarations_of x (st.If a b) ≡ declaration_rule x (parts.If tt (declarations_of x b))
+pub declarations_of_if : (x : ℕ) (a : Expr) (b : Stmt) →
+    declarations_of x (st.If a b) ≡ declaration_rule x (parts.If tt (declarations_of x b))
 unfolding declarations_of
 declarations_of_if x a b = on_if (declaration_rules x) a b
 
-pub declarations_of_ifelse : (x : ℕ) (a : Expr) (b : Stmt) (c : Stmt) → declarations_of x (st.IfElse a b c) ≡ declaration_rule x (parts.IfElse tt (declarations_of x b) (declarations_of x c))
+pub declarations_of_ifelse : (x : ℕ) (a : Expr) (b : Stmt) (c : Stmt) →
+    declarations_of x (st.IfElse a b c) ≡ declaration_rule x (parts.IfElse tt (declarations_of x b) (declarations_of x c))
 unfolding declarations_of
 declarations_of_ifelse x a b c = on_ifelse (declaration_rules x) a b c
 
-pub declarations_of_while : (x : ℕ) (a : Expr) (b : Stmt) → declarations_of x (st.While a b) ≡ declaration_rule x (parts.While tt (declarations_of x b))
+pub declarations_of_while : (x : ℕ) (a : Expr) (b : Stmt) →
+    declarations_of x (st.While a b) ≡ declaration_rule x (parts.While tt (declarations_of x b))
 unfolding declarations_of
 declarations_of_while x a b = on_while (declaration_rules x) a b
 
-pub declarations_of_do : (x : ℕ) (a : Stmt) (b : Expr) → declarations_of x (st.Do a b) ≡ declaration_rule x (parts.Do (declarations_of x a) tt)
+pub declarations_of_do : (x : ℕ) (a : Stmt) (b : Expr) →
+    declarations_of x (st.Do a b) ≡ declaration_rule x (parts.Do (declarations_of x a) tt)
 unfolding declarations_of
 declarations_of_do x a b = on_do (declaration_rules x) a b
 
-pub declarations_of_for : (x : ℕ) (a : Expr) (b : Stmt) → declarations_of x (st.For a b) ≡ declaration_rule x (parts.For tt (declarations_of x b))
+pub declarations_of_for : (x : ℕ) (a : Expr) (b : Stmt) →
+    declarations_of x (st.For a b) ≡ declaration_rule x (parts.For tt (declarations_of x b))
 unfolding declarations_of
 declarations_of_for x a b = on_for (declaration_rules x) a b
 
-pub declarations_of_forstep : (x : ℕ) (a : Expr) (b : Expr) (c : Stmt) → declarations_of x (st.ForStep a b c) ≡ declaration_rule x (parts.ForStep tt tt (declarations_of x c))
+pub declarations_of_forstep : (x : ℕ) (a : Expr) (b : Expr) (c : Stmt) →
+    declarations_of x (st.ForStep a b c) ≡ declaration_rule x (parts.ForStep tt tt (declarations_of x c))
 unfolding declarations_of
 declarations_of_forstep x a b c = on_forstep (declaration_rules x) a b c
 
-pub declarations_of_switch : (x : ℕ) (a : Expr) (b : List Stmt) (c : List Stmt) → declarations_of x (st.Switch a b c) ≡ declaration_rule x (parts.Switch tt (map (declarations_of x) b) (map (declarations_of x) c))
+pub declarations_of_switch : (x : ℕ) (a : Expr) (b : List Stmt) (c : List Stmt) →
+    declarations_of x (st.Switch a b c) ≡ declaration_rule x
+    (parts.Switch tt (map (declarations_of x) b) (map (declarations_of x) c))
 unfolding declarations_of
 declarations_of_switch x a b c = on_switch (declaration_rules x) a b c
 
@@ -362,6 +399,7 @@ pub declarations_of_return : (x : ℕ) → declarations_of x st.Return ≡ decla
 unfolding declarations_of
 declarations_of_return x = on_return (declaration_rules x)
 
-pub declarations_of_returnvalue : (x : ℕ) (a : Expr) → declarations_of x (st.ReturnValue a) ≡ declaration_rule x (parts.ReturnValue tt)
+pub declarations_of_returnvalue : (x : ℕ) (a : Expr) →
+    declarations_of x (st.ReturnValue a) ≡ declaration_rule x (parts.ReturnValue tt)
 unfolding declarations_of
 declarations_of_returnvalue x a = on_returnvalue (declaration_rules x) a

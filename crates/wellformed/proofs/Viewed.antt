@@ -1,5 +1,6 @@
 -- What is known of the code's typed tree is known of its view: each definition is a fold, and folds agree by fusion.
-use Rattle.std.proofs.Common.{◌≡◌, ℕ, zero, suc, ◌≤◌, ◌<◌, List, [], ◌∷◌, length, map, sum, slice_get, Option, Some, None, refl, sym, ap, subst, ◌∙◌, arith}
+use Rattle.std.proofs.Common.{◌≡◌, ℕ, zero, suc, ◌≤◌, ◌<◌, List, [], ◌∷◌, length, map, sum, slice_get, Option, Some}
+use Rattle.std.proofs.Common.{None, refl, sym, ap, subst, ◌∙◌, arith}
 use Rattle.std.specs.Prelude.{option_map, false}
 use Rattle.std.proofs.lemmas.List.{length-map}
 use Rattle.std.proofs.lemmas.Option.{slice_get-map}
@@ -57,7 +58,8 @@ declarations_viewed i = statement_fusion (declaration_rules i)
 numbers_viewed : (s : Stmt) → accepted.AreNumbered s → AreNumbered (stmt_view s)
 numbers_viewed s h = record {
   once = λ i. subst (λ n. n ≤ 1) (declarations_viewed i s) (h.once i);
-  dense = λ i at. subst (λ n. i < n) (statement_size_viewed s) (h.dense i (subst (λ n. 0 < n) (sym (declarations_viewed i s)) at));
+  dense = λ i at. subst (λ n. i < n) (statement_size_viewed s)
+      (h.dense i (subst (λ n. 0 < n) (sym (declarations_viewed i s)) at));
 }
 
 pub body_sized : (b : TickBody) → body_size b ≡ size_of_body (body_view b)
@@ -86,15 +88,34 @@ module _ (p : TypedParts) (all : List (List CaptureKind)) where
 
   -- round a function of a program of these, and round a tick
   abbrev round_body : ℕ → List ℕ → Around
-  round_body object many = record { variables = []; object = object; functions = many; ticks = all; captures = None; in_loop = false; in_switch = false }
+  round_body object many = record {
+    variables = [];
+    object = object;
+    functions = many;
+    ticks = all;
+    captures = None;
+    in_loop = false;
+    in_switch =
+        false;
+  }
 
   abbrev round_captured : List CaptureKind → List ℕ → Around
-  round_captured kinds many = record { variables = []; object = 0; functions = many; ticks = all; captures = Some kinds; in_loop = false; in_switch = false }
+  round_captured kinds many =
+      record {
+        variables = [];
+        object = 0;
+        functions = many;
+        ticks = all;
+        captures = Some kinds;
+        in_loop = false;
+        in_switch = false;
+      }
 
   function_viewed : (f : Function) → accepted.IsFunction p all f → IsFunction (program_view p) all (function_view f)
   function_viewed f h = record {
     stands = ap (λ n. program.stands_as_body (stmt_view f.body) f.params (round_body f.object n)) as_many
-        ∙ sym (ap (λ x. x.is_body f.params (round_body f.object (accepted.parameters_of p.functions))) (act_viewed f.body)) ∙ h.stands;
+        ∙ sym (ap (λ x. x.is_body f.params (round_body f.object (accepted.parameters_of p.functions)))
+        (act_viewed f.body)) ∙ h.stands;
     values = sym (uses_viewed f.body) ∙ h.values;
     objects = λ byte. sym (objects_viewed byte f.body) ∙ h.objects byte;
     numbers = numbers_viewed f.body h.numbers;
@@ -103,7 +124,8 @@ module _ (p : TypedParts) (all : List (List CaptureKind)) where
     short = h.short;
   }
 
-  tick_viewed : (t : Tick) (kinds : List CaptureKind) → accepted.IsTick p all t kinds → IsTick (program_view p) all (tick_view t) kinds
+  tick_viewed : (t : Tick) (kinds : List CaptureKind) → accepted.IsTick p all t kinds →
+      IsTick (program_view p) all (tick_view t) kinds
   tick_viewed t kinds h = record {
     stands = ap (λ n. program.stands_as_tick (body_view t.body) (round_captured kinds n)) as_many
         ∙ sym (body_stands t.body (round_captured kinds (accepted.parameters_of p.functions))) ∙ h.stands;
@@ -120,14 +142,18 @@ module _ {A B : Type 0} (v : A → B) where
   found P None y at h = absurd cc
   found P (Some x) y at h = let same : v x ≡ y = cc in subst P same (h x refl)
 
-  at_view : (P : B → Type 0) (xs : List A) (n : ℕ) (y : B) → slice_get (map v xs) n ≡ Some y → ((x : A) → slice_get xs n ≡ Some x → P (v x)) → P y
+  at_view : (P : B → Type 0) (xs : List A) (n : ℕ) (y : B) → slice_get (map v xs) n ≡ Some y →
+      ((x : A) → slice_get xs n ≡ Some x → P (v x)) → P y
   at_view P xs n y at h = found P (slice_get xs n) y (sym (slice_get-map v xs n) ∙ at) h
 
-  same_numbers : (g : B → ℕ) (h : A → ℕ) (xs : List A) → ((n : ℕ) (x : A) → slice_get xs n ≡ Some x → h x ≡ g (v x)) → map h xs ≡ map g (map v xs)
+  same_numbers : (g : B → ℕ) (h : A → ℕ) (xs : List A) → ((n : ℕ) (x : A) → slice_get xs n ≡ Some x → h x ≡ g (v x)) →
+      map h xs ≡ map g (map v xs)
   same_numbers g h [] e = refl
-  same_numbers g h (x ∷ xs) e = ap (λ m. m ∷ map h xs) (e zero x refl) ∙ ap (λ ms. g (v x) ∷ ms) (same_numbers g h xs (λ n y at. e (suc n) y at))
+  same_numbers g h (x ∷ xs) e =
+      ap (λ m. m ∷ map h xs) (e zero x refl) ∙ ap (λ ms. g (v x) ∷ ms) (same_numbers g h xs (λ n y at. e (suc n) y at))
 
-beside : {A B : Type 0} (xs : List A) (ys : List B) (n : ℕ) (x : A) → length xs ≡ length ys → slice_get xs n ≡ Some x → (y : B) × (slice_get ys n ≡ Some y)
+beside : {A B : Type 0} (xs : List A) (ys : List B) (n : ℕ) (x : A) → length xs ≡ length ys → slice_get xs n ≡ Some x →
+    (y : B) × (slice_get ys n ≡ Some y)
 beside [] ys n x e at = absurd cc
 beside (a ∷ xs) [] n x e at = absurd (omega (arith, e))
 beside (a ∷ xs) (b ∷ ys) zero x e at = (b, refl)
@@ -144,18 +170,23 @@ module _ (p : TypedParts) (h : IsAccepted p) where
       let k = beside p.ticks h.captures n t (sym h.each) at in
       (h.ticks n t k.0 at k.1).size ∙ body_sized t.body
 
-  function_charges : map (λ f. charge (size_of_function f)) p.functions ≡ map (λ f. charge (size_of_stmt f.body)) (map function_view p.functions)
-  function_charges = same_numbers function_view (λ f. charge (size_of_stmt f.body)) (λ f. charge (size_of_function f)) p.functions (λ n f at. ap charge (function_sized n f at))
+  function_charges : map (λ f. charge (size_of_function f)) p.functions ≡ map (λ f. charge (size_of_stmt f.body))
+      (map function_view p.functions)
+  function_charges = same_numbers function_view (λ f. charge (size_of_stmt f.body)) (λ f. charge (size_of_function f))
+      p.functions (λ n f at. ap charge (function_sized n f at))
 
   tick_charges : map (λ t. charge (size_of_tick t)) p.ticks ≡ map (λ t. charge (size_of_body t)) (map tick_view p.ticks)
-  tick_charges = same_numbers tick_view (λ t. charge (size_of_body t)) (λ t. charge (size_of_tick t)) p.ticks (λ n t at. ap charge (tick_sized n t at))
+  tick_charges = same_numbers tick_view (λ t. charge (size_of_body t)) (λ t. charge (size_of_tick t)) p.ticks
+      (λ n t at. ap charge (tick_sized n t at))
 
   program_viewed : IsProgram (program_view p)
   program_viewed = record {
     captures = h.captures;
     each = h.each ∙ sym (length-map p.ticks tick_view);
-    functions = λ n f at. at_view function_view (IsFunction (program_view p) h.captures) p.functions n f at (λ x k. function_viewed p h.captures x (h.functions n x k));
-    ticks = λ n t kinds at k. at_view tick_view (λ u. IsTick (program_view p) h.captures u kinds) p.ticks n t at (λ x l. tick_viewed p h.captures x kinds (h.ticks n x kinds l k));
+    functions = λ n f at. at_view function_view (IsFunction (program_view p) h.captures) p.functions n f at
+        (λ x k. function_viewed p h.captures x (h.functions n x k));
+    ticks = λ n t kinds at k. at_view tick_view (λ u. IsTick (program_view p) h.captures u kinds) p.ticks n t at
+        (λ x l. tick_viewed p h.captures x kinds (h.ticks n x kinds l k));
     image = h.image;
     small = omega (arith, h.small, ap sum function_charges, ap sum tick_charges);
   }

@@ -1,6 +1,8 @@
--- What is known of the typed tree of an accepted text: its nodes stand right, its sizes and its frame objects are those of
+-- What is known of the typed tree of an accepted text: its nodes stand right, its sizes and its frame objects are those
+-- of
 -- its functions and ticks, and it is not too large. These are this project's own rules.
-use Rattle.std.specs.Prelude.{◌≡◌, ℕ, ◌+◌, ◌*◌, ◌<◌, ◌≤◌, IsTrue, false, nat_lt, List, [], length, map, sum, codes, slice_get, Some, None}
+use Rattle.std.specs.Prelude.{◌≡◌, ℕ, ◌+◌, ◌*◌, ◌<◌, ◌≤◌, IsTrue, false, nat_lt, List, [], length, map, sum, codes}
+use Rattle.std.specs.Prelude.{slice_get, Some, None}
 use Rattle.typed_tree.specs.declared.expression.CaptureKind.{CaptureKind}
 use Rattle.typed_tree.specs.declared.expression.Stmt.{Stmt}
 use Rattle.typed_tree.specs.declared.program.Function.{Function}
@@ -12,7 +14,8 @@ use Rattle.typed_tree.specs.Sizes.{statement_size, body_size}
 use Rattle.wellformed.specs.Counts.{one_if, objects_at, declarations_of}
 use Rattle.wellformed.specs.Places.{Around, stands_as_body, stands_as_tick}
 use Rattle.wellformed.specs.Values.{uses_values, body_uses_values}
-use Rattle.limits.specs.declared.program.TheConstants.{CHARGE_LIMIT, FRAME_OBJECT_BYTES, FRONT_WORDS, MOST_ARGUMENTS, SIZE_LIMIT, WORDS_OF_A_BODY, WORDS_OF_A_NODE}
+use Rattle.limits.specs.declared.program.TheConstants.{CHARGE_LIMIT, FRAME_OBJECT_BYTES, FRONT_WORDS, MOST_ARGUMENTS}
+use Rattle.limits.specs.declared.program.TheConstants.{SIZE_LIMIT, WORDS_OF_A_BODY, WORDS_OF_A_NODE}
 use Rattle.word32.specs.declared.map.TheConstants.{GLOBAL_BYTES}
 
 abbrev pub count_parameters : Function → ℕ
@@ -24,10 +27,28 @@ parameters_of fs = map (λ f. count_parameters f) fs
 
 -- what is round the body of a function, and round that of a tick
 abbrev pub round_function : TypedParts → List (List CaptureKind) → Function → Around
-round_function p ticks f = record { variables = []; object = f.object; functions = parameters_of p.functions; ticks = ticks; captures = None; in_loop = false; in_switch = false }
+round_function p ticks f =
+    record {
+      variables = [];
+      object = f.object;
+      functions = parameters_of p.functions;
+      ticks = ticks;
+      captures = None;
+      in_loop = false;
+      in_switch = false;
+    }
 
 abbrev pub round_tick : TypedParts → List (List CaptureKind) → List CaptureKind → Around
-round_tick p ticks kinds = record { variables = []; object = 0; functions = parameters_of p.functions; ticks = ticks; captures = Some kinds; in_loop = false; in_switch = false }
+round_tick p ticks kinds =
+    record {
+      variables = [];
+      object = 0;
+      functions = parameters_of p.functions;
+      ticks = ticks;
+      captures = Some kinds;
+      in_loop = false;
+      in_switch = false;
+    }
 
 -- each register variable is declared once, and its number is less than the size
 pub record AreNumbered (s : Stmt) : Type 0 where
@@ -51,12 +72,13 @@ pub record IsFunction (p : TypedParts) (ticks : List (List CaptureKind)) (f : Fu
   pub short : f.object ≤ FRAME_OBJECT_BYTES
 
 -- a tick of the program that captures this
-pub record IsTick (p : TypedParts) (ticks : List (List CaptureKind)) (t : Tick) (kinds : List CaptureKind) : Type 0 where
-  pub stands : IsTrue (stands_as_tick t.body (round_tick p ticks kinds))
-  pub values : IsTrue (body_uses_values t.body)
-  pub size : t.size ≡ body_size t.body
-  pub numbers : IsNumbered t.body
-  pub small : t.size ≤ SIZE_LIMIT
+pub record IsTick (p : TypedParts) (ticks : List (List CaptureKind)) (t : Tick) (kinds : List CaptureKind) : Type 0
+  where
+    pub stands : IsTrue (stands_as_tick t.body (round_tick p ticks kinds))
+    pub values : IsTrue (body_uses_values t.body)
+    pub size : t.size ≡ body_size t.body
+    pub numbers : IsNumbered t.body
+    pub small : t.size ≤ SIZE_LIMIT
 
 -- the words that are charged for a function or a tick of this size
 abbrev pub charge : ℕ → ℕ
@@ -69,7 +91,8 @@ abbrev pub size_of_tick : Tick → ℕ
 size_of_tick t = t.size
 
 abbrev pub words : TypedParts → ℕ
-words p = FRONT_WORDS + sum (map (λ f. charge (size_of_function f)) p.functions) + sum (map (λ t. charge (size_of_tick t)) p.ticks)
+words p = FRONT_WORDS + sum (map (λ f. charge (size_of_function f)) p.functions) + sum
+    (map (λ t. charge (size_of_tick t)) p.ticks)
 
 -- the typed tree of an accepted text
 pub record IsAccepted (p : TypedParts) : Type 0 where
@@ -77,7 +100,8 @@ pub record IsAccepted (p : TypedParts) : Type 0 where
   pub captures : List (List CaptureKind)
   pub each : length captures ≡ length p.ticks
   pub functions : (n : ℕ) (f : Function) → slice_get p.functions n ≡ Some f → IsFunction p captures f
-  pub ticks : (n : ℕ) (t : Tick) (kinds : List CaptureKind) → slice_get p.ticks n ≡ Some t → slice_get captures n ≡ Some kinds → IsTick p captures t kinds
+  pub ticks : (n : ℕ) (t : Tick) (kinds : List CaptureKind) → slice_get p.ticks n ≡ Some t →
+      slice_get captures n ≡ Some kinds → IsTick p captures t kinds
   -- `main` is one of the functions
   pub main : ℕ
   pub main_function : Function

@@ -1,6 +1,9 @@
--- Where the nodes of a typed tree stand: variables in the scope of their block, `break` and `continue` in what they leave, the
--- labels of a switch right in its block, what a tick captured in that tick, and what makes specifications in functions alone. These are `C's rules, as far as they concern nodes.
-use Rattle.std.specs.Prelude.{ℕ, ◌+◌, ◌-◌, ◌*◌, ◌%◌, ◌==◌, Bool, true, false, not, ◌&&◌, ◌||◌, nat_le, List, [], ◌∷◌, ◌++◌, length, take, drop, slice_get, Option, Some, None}
+-- Where the nodes of a typed tree stand: variables in the scope of their block, `break` and `continue` in what they
+-- leave, the
+-- labels of a switch right in its block, what a tick captured in that tick, and what makes specifications in functions
+-- alone. These are `C's rules, as far as they concern nodes.
+use Rattle.std.specs.Prelude.{ℕ, ◌+◌, ◌-◌, ◌*◌, ◌%◌, ◌==◌, Bool, true, false, not, ◌&&◌, ◌||◌, nat_le, List, [], ◌∷◌}
+use Rattle.std.specs.Prelude.{◌++◌, length, take, drop, slice_get, Option, Some, None}
 use Rattle.std.specs.List.{list_any, list_all}
 use Rattle.typed_tree.specs.declared.expression.Answer.{Answer}
 use Rattle.typed_tree.specs.declared.expression.Answer.TheVariants as answer
@@ -204,7 +207,15 @@ never a = false
 
 -- a statement that declares nothing and is no label
 abbrev pub plain : (Around → Bool) → Act
-plain stands = record { stands = stands; declares = never; number = []; is_parameter = λ k. never; values = []; defaults = 0; is_body = λ n. never }
+plain stands = record {
+  stands = stands;
+  declares = never;
+  number = [];
+  is_parameter = λ k. never;
+  values = [];
+  defaults = 0;
+  is_body = λ n. never;
+}
 
 abbrev pub numbers_of : List Act → List ℕ
 numbers_of [] = []
@@ -279,7 +290,8 @@ stmt_rule (parts.Do s c) = plain (λ a. s.stands (looped a) && c.stands a)
 stmt_rule (parts.For c s) = plain (λ a. c.stands a && s.stands (looped a))
 stmt_rule (parts.ForStep c step s) = plain (λ a. c.stands a && step.stands a && s.stands (looped a))
 stmt_rule (parts.Switch e vs ss) =
-    plain (λ a. e.stands a && all_declare vs a && all_items ss (switched (within vs a)) && all_different (values_of ss) && nat_le (defaults_of ss) 1)
+    plain (λ a. e.stands a && all_declare vs a && all_items ss (switched (within vs a)) && all_different (values_of ss)
+    && nat_le (defaults_of ss) 1)
 stmt_rule (parts.Case c) = record (plain never) { values = c ∷ [] }
 stmt_rule parts.Default = record (plain never) { defaults = 1 }
 stmt_rule parts.Break = plain (λ a. a.in_loop || a.in_switch)

@@ -1,6 +1,8 @@
--- What is known of the typed tree of an accepted text, said of its view: the tree that has a meaning. Its nodes stand right, its
+-- What is known of the typed tree of an accepted text, said of its view: the tree that has a meaning. Its nodes stand
+-- right, its
 -- frame objects are those of its functions, and it is not too large. These are this project's own rules.
-use Rattle.std.specs.Prelude.{◌≡◌, ℕ, ◌+◌, ◌≤◌, ◌<◌, Bool, IsTrue, false, nat_lt, List, [], length, map, sum, codes, slice_get, Some, None}
+use Rattle.std.specs.Prelude.{◌≡◌, ℕ, ◌+◌, ◌≤◌, ◌<◌, Bool, IsTrue, false, nat_lt, List, [], length, map, sum, codes}
+use Rattle.std.specs.Prelude.{slice_get, Some, None}
 use Rattle.typed_tree.specs.declared.expression.CaptureKind.{CaptureKind}
 use Rattle.typed_tree.specs.declared.program.Function.{Function}
 use Rattle.typed_tree.specs.declared.program.Tick.{Tick}
@@ -14,7 +16,8 @@ use Rattle.wellformed.specs.Counts.{one_if, object_rules, declaration_rules}
 use Rattle.wellformed.specs.Places as places
 use Rattle.wellformed.specs.Places.{Around}
 use Rattle.wellformed.specs.Values as values
-use Rattle.limits.specs.declared.program.TheConstants.{CHARGE_LIMIT, FRAME_OBJECT_BYTES, FRONT_WORDS, MOST_ARGUMENTS, SIZE_LIMIT}
+use Rattle.limits.specs.declared.program.TheConstants.{CHARGE_LIMIT, FRAME_OBJECT_BYTES, FRONT_WORDS, MOST_ARGUMENTS}
+use Rattle.limits.specs.declared.program.TheConstants.{SIZE_LIMIT}
 use Rattle.word32.specs.declared.map.TheConstants.{GLOBAL_BYTES}
 
 -- the body of a function of so many parameters stands right
@@ -56,10 +59,28 @@ parameters_of fs = map (λ f. f.parameters) fs
 
 -- what is round the body of a function, and round that of a tick
 abbrev pub round_function : node.Program → List (List CaptureKind) → node.Function → Around
-round_function p ticks f = record { variables = []; object = f.object; functions = parameters_of p.functions; ticks = ticks; captures = None; in_loop = false; in_switch = false }
+round_function p ticks f =
+    record {
+      variables = [];
+      object = f.object;
+      functions = parameters_of p.functions;
+      ticks = ticks;
+      captures = None;
+      in_loop = false;
+      in_switch = false;
+    }
 
 abbrev pub round_tick : node.Program → List (List CaptureKind) → List CaptureKind → Around
-round_tick p ticks kinds = record { variables = []; object = 0; functions = parameters_of p.functions; ticks = ticks; captures = Some kinds; in_loop = false; in_switch = false }
+round_tick p ticks kinds =
+    record {
+      variables = [];
+      object = 0;
+      functions = parameters_of p.functions;
+      ticks = ticks;
+      captures = Some kinds;
+      in_loop = false;
+      in_switch = false;
+    }
 
 -- a function of the program, where its ticks capture this
 pub record IsFunction (p : node.Program) (ticks : List (List CaptureKind)) (f : node.Function) : Type 0 where
@@ -73,7 +94,8 @@ pub record IsFunction (p : node.Program) (ticks : List (List CaptureKind)) (f : 
   pub short : f.object ≤ FRAME_OBJECT_BYTES
 
 -- a tick of the program that captures this
-pub record IsTick (p : node.Program) (ticks : List (List CaptureKind)) (t : node.TickBody) (kinds : List CaptureKind) : Type 0 where
+pub record IsTick (p : node.Program) (ticks : List (List CaptureKind)) (t : node.TickBody) (kinds : List CaptureKind) :
+    Type 0 where
   pub stands : IsTrue (stands_as_tick t (round_tick p ticks kinds))
   pub values : IsTrue (body_uses_values t)
   pub numbers : IsNumbered t
@@ -81,7 +103,8 @@ pub record IsTick (p : node.Program) (ticks : List (List CaptureKind)) (t : node
 
 -- the words that are charged for a program
 abbrev pub words : node.Program → ℕ
-words p = FRONT_WORDS + sum (map (λ f. charge (size_of_stmt f.body)) p.functions) + sum (map (λ t. charge (size_of_body t)) p.ticks)
+words p = FRONT_WORDS + sum (map (λ f. charge (size_of_stmt f.body)) p.functions) + sum
+    (map (λ t. charge (size_of_body t)) p.ticks)
 
 -- a program as the meaning has it
 pub record IsProgram (p : node.Program) : Type 0 where
@@ -89,7 +112,8 @@ pub record IsProgram (p : node.Program) : Type 0 where
   pub captures : List (List CaptureKind)
   pub each : length captures ≡ length p.ticks
   pub functions : (n : ℕ) (f : node.Function) → slice_get p.functions n ≡ Some f → IsFunction p captures f
-  pub ticks : (n : ℕ) (t : node.TickBody) (kinds : List CaptureKind) → slice_get p.ticks n ≡ Some t → slice_get captures n ≡ Some kinds → IsTick p captures t kinds
+  pub ticks : (n : ℕ) (t : node.TickBody) (kinds : List CaptureKind) → slice_get p.ticks n ≡ Some t →
+      slice_get captures n ≡ Some kinds → IsTick p captures t kinds
   -- no limit is met
   pub image : length p.image ≤ GLOBAL_BYTES
   pub small : words p ≤ CHARGE_LIMIT
@@ -98,7 +122,8 @@ pub record IsProgram (p : node.Program) : Type 0 where
 pub record IsWellFormed (p : TypedParts) : Type 0 where
   pub program : IsProgram (program_view p)
   -- the sizes that the tree keeps are counts of nodes
-  pub function_sizes : (n : ℕ) (f : Function) → slice_get p.functions n ≡ Some f → f.size ≡ size_of_stmt (function_view f).body
+  pub function_sizes : (n : ℕ) (f : Function) → slice_get p.functions n ≡ Some f →
+      f.size ≡ size_of_stmt (function_view f).body
   pub tick_sizes : (n : ℕ) (t : Tick) → slice_get p.ticks n ≡ Some t → t.size ≡ size_of_body (body_view t.body)
   -- `main` is one of the functions
   pub main : ℕ

@@ -1,5 +1,6 @@
 -- The two bodies of a tick: an expression, and a block, whose variables are numbered from 0 on.
-use Rattle.std.proofs.Common.{◌≡◌, ℕ, ◌+◌, ◌≤◌, ◌<◌, Bool, true, false, ◌&&◌, List, [], ◌∷◌, length, map, sum, refl, ap, ◌∙◌, arith, Ok}
+use Rattle.std.proofs.Common.{◌≡◌, ℕ, ◌+◌, ◌≤◌, ◌<◌, Bool, true, false, ◌&&◌, List, [], ◌∷◌, length, map, sum, refl, ap}
+use Rattle.std.proofs.Common.{◌∙◌, arith, Ok}
 use Rattle.std.specs.Prelude.{nat_le, nat_lt}
 use Rattle.std.proofs.lemmas.Bool.{ltb-true}
 use Rattle.std.proofs.lemmas.List.Sums.{sum-map, sum_by-cons}
@@ -36,17 +37,21 @@ use Rattle.wf_expressions.proofs.Ticks.{KeepsBody, BodyStands, blocks, known_ent
 
 -- ---- an expression
 
-expression_kept : (s t : State) → Keeps stage.Tick s t → length t.ticks.captures ≤ length s.ticks.captures + 1000000000 → KeepsBody s t
-expression_kept s t k few = record { tables = k.tables; ticks = k.at.0.ticks; captures = few; inner = omega (arith, k.at.0.inner) }
+expression_kept : (s t : State) → Keeps stage.Tick s t →
+    length t.ticks.captures ≤ length s.ticks.captures + 1000000000 → KeepsBody s t
+expression_kept s t k few =
+    record { tables = k.tables; ticks = k.at.0.ticks; captures = few; inner = omega (arith, k.at.0.inner) }
 
 expression_stands : (a : Around) (o : Operand) → Good a o → BodyStands a (body.Expression (value_of o).code)
 expression_stands a o h = let v = good_value a o h in record { stands = v.code; values = v.used.right }
 
-pub expression_does : (many : List ℕ) (line : ℕ) (a : Node) (g : Stage) → GoodNode many a → Does many g (λ r o. Good (at g r) o) (tick_expression line a g)
+pub expression_does : (many : List ℕ) (line : ℕ) (a : Node) (g : Stage) → GoodNode many a →
+    Does many g (λ r o. Good (at g r) o) (tick_expression line a g)
 unfolding productions.tick_expression
 expression_does many line a stage.Function h b ks s new x known e =
     let w = ran (a.walk stage.Tick) (λ o z. Ok (productions.tick_expression o z)) (tick_entered s) x new e in
-    let k = expression_kept (tick_entered s) w.state (h.keeps stage.Tick (tick_entered s) w.state w.value w.first) (h.few stage.Tick (tick_entered s) w.state w.value w.first) in
+    let k = expression_kept (tick_entered s) w.state (h.keeps stage.Tick (tick_entered s) w.state w.value w.first)
+    (h.few stage.Tick (tick_entered s) w.state w.value w.first) in
     let d = h.does stage.Tick (blocks b s) ks (tick_entered s) w.state w.value (known_entered known) w.first in
     given (productions.tick_expression w.value w.state)
     (tick_did (body.Expression (value_of w.value).code) known k (λ small. tt) (λ r. Good r.tick w.value)
@@ -59,7 +64,17 @@ expression_does many line a stage.Dollar h b ks s new x known e = cc
 
 block_kept : (s t : State) → Grows stage.Tick s t → KeepsBlock s t → Few s t → KeepsBody s t
 block_kept s t h k few = record {
-  tables = record { scopes = k.scopes; result = h.tables.result; homes = h.at.homes; nodes = k.nodes; object = h.at.object; labels = k.labels; functions = h.tables.functions; image = h.tables.image };
+  tables = record {
+    scopes = k.scopes;
+    result = h.tables.result;
+    homes = h.at.homes;
+    nodes = k.nodes;
+    object =
+        h.at.object;
+    labels = k.labels;
+    functions = h.tables.functions;
+    image = h.tables.image;
+  };
   ticks = h.at.ticks;
   captures = few.0;
   inner = few.1;
@@ -95,27 +110,32 @@ module _ (s t : State) (x : Stmt) (c : Counts stage.Tick s t (x ∷ [])) (e : t.
   is_below i h =
       let p = each_declared i in
       let q : 0 < between s.frame.inner t.frame.inner i = omega (arith, h, p) in
-      ltb-true i t.frame.inner (second_true (nat_le s.frame.inner i) (nat_lt i t.frame.inner) (is_so (nat_le s.frame.inner i && nat_lt i t.frame.inner) q))
+      ltb-true i t.frame.inner (second_true (nat_le s.frame.inner i) (nat_lt i t.frame.inner)
+      (is_so (nat_le s.frame.inner i && nat_lt i t.frame.inner) q))
 
   -- where no variable stood before it
   numbered : s.frame.inner ≡ 0 → AreNumbered x
   numbered z = record {
-    once = λ i. let p = each_declared i in let q = one_at_most (nat_le s.frame.inner i && nat_lt i t.frame.inner) in omega (arith, p, q);
+    once = λ i. let p = each_declared i in let q = one_at_most (nat_le s.frame.inner i && nat_lt i t.frame.inner) in
+        omega (arith, p, q);
     dense = λ i h. let p = is_below i h in let q = few_declared in omega (arith, p, q, z);
   }
 
 abbrev Block : Round → Stmt → Type 0
 Block r x = ((act x).stands (placed tick_around r.tick) ≡ true) × (uses_values x ≡ true)
 
-pub block_does : (many : List ℕ) (line : ℕ) (items : List Item) (g : Stage) → GoodBlock many tick_around (block items tick_around) → Does many g (λ r o. Good (at g r) o) (tick_block line items g)
+pub block_does : (many : List ℕ) (line : ℕ) (items : List Item) (g : Stage) →
+    GoodBlock many tick_around (block items tick_around) → Does many g (λ r o. Good (at g r) o) (tick_block line items g)
 block_does many line items stage.Function h b ks s new x known e =
     let w = ran (block items tick_around) (λ z y. Ok (productions.tick_block z y)) (tick_entered s) x new e in
     let kept = h.keeps (tick_entered s) w.state w.value w.first in
-    let k = block_kept (tick_entered s) w.state (h.grows (tick_entered s) w.state w.value w.first) kept (h.few (tick_entered s) w.state w.value w.first) in
+    let k = block_kept (tick_entered s) w.state (h.grows (tick_entered s) w.state w.value w.first) kept
+    (h.few (tick_entered s) w.state w.value w.first) in
     let d = h.does (blocks b s) ks (tick_entered s) w.state w.value (known_entered known) w.first in
     given (productions.tick_block w.value w.state)
     (tick_did (body.Statement w.value) known k
-    (λ small. numbered (tick_entered s) w.state w.value (h.counts (tick_entered s) w.state w.value w.first small) kept.nodes refl)
+    (λ small. numbered (tick_entered s) w.state w.value (h.counts (tick_entered s) w.state w.value w.first small)
+    kept.nodes refl)
     (λ r. Block r w.value) (λ r q. record { stands = q.0; values = q.1 }) d
     (over layer.Cspec void) (types_use.layer layer.Cspec void)) w.next
 block_does many line items stage.Tick h b ks s new x known e = cc

@@ -12,4 +12,5 @@ abbrev pub Production : Type 0
 Production = Expr-F Shape Node (Unit {0}) (Option Node) Item (Unit {0}) (Unit {0}) Shape (Unit {0}) (Unit {0}) Named
 
 pub record ExpressionsDo : Type 0 where
-  pub does : (many : List ℕ) (x : Production) → GoodParts many x → (g : Stage) → Does many g (λ r o. Good (at g r) o) (walk_rule x g)
+  pub does : (many : List ℕ) (x : Production) → GoodParts many x → (g : Stage) →
+      Does many g (λ r o. Good (at g r) o) (walk_rule x g)

@@ -15,7 +15,9 @@ use Rattle.wf_growth_rules.proofs.Few.{items_light}
 use Rattle.wf_growth_rules.proofs.Tree.{declarator_light, declaration_light}
 
 pub external_light : (x : External) → Bounded (item_weight x) (program.external x)
-external_light (ext.Function line b d xs) = weak _ (function_light line b (shape d) (parameters_of d) (map item xs) (declarator_light d) (parameters_few d) (items_light xs)) (omega arith)
+external_light (ext.Function line b d xs) =
+    weak _ (function_light line b (shape d) (parameters_of d) (map item xs) (declarator_light d) (parameters_few d)
+    (items_light xs)) (omega arith)
 external_light (ext.Declaration d) = weak _ (declared_light (declaration d) (declaration_light d)) (omega arith)
 
 pub walk_light : (xs : List External) → Bounded (total (map item_weight xs)) (program.walk xs)

@@ -1,4 +1,5 @@
--- The walk over a program makes nothing grow by more than its weight, and a program has no more ticks than its tree has nodes.
+-- The walk over a program makes nothing grow by more than its weight, and a program has no more ticks than its tree has
+-- nodes.
 use Rattle.std.specs.Prelude.{◌≡◌, ℕ, ◌≤◌, List, map, length, Ok}
 use Rattle.c_types.specs.declared.ctype.CType.{CType}
 use Rattle.tick_tree.specs.declared.syntax.Declarator.{Declarator}
@@ -22,7 +23,8 @@ pub record ProgramsAreLight : Type 0 where
   -- a function begins with its parameters as its variables, which are no more than the nodes of its declarator
   pub parameters : (t : CType) (gs : List Given) → Fresh (length gs) 0 (functions.begun t gs)
   pub given : (d : Declarator) → length (parameters_of d) ≤ declarator_weight d
-  pub body : (w : ℕ) (t : CType) (gs : List Given) (items : List Item) → Each LightItem w items → Fresh (length gs) w (program.begun t gs items)
+  pub body : (w : ℕ) (t : CType) (gs : List Given) (items : List Item) → Each LightItem w items →
+      Fresh (length gs) w (program.begun t gs items)
   pub items : (xs : List Stmt) → Each LightItem (total (map statement_weight xs)) (map item xs)
   pub external : (x : External) → Bounded (item_weight x) (program.external x)
   pub walk : (xs : List External) → Bounded (total (map item_weight xs)) (program.walk xs)

@@ -1,5 +1,6 @@
 -- What the steps on the state make grow.
-use Rattle.std.proofs.Common.{◌≡◌, ℕ, ◌+◌, ◌≤◌, Bool, true, false, if◌then◌else◌, List, [], ◌∷◌, ◌++◌, length, refl, Option, Some, None, Ok, Err, slice_get, length-append, arith}
+use Rattle.std.proofs.Common.{◌≡◌, ℕ, ◌+◌, ◌≤◌, Bool, true, false, if◌then◌else◌, List, [], ◌∷◌, ◌++◌, length, refl}
+use Rattle.std.proofs.Common.{Option, Some, None, Ok, Err, slice_get, length-append, arith}
 use Rattle.c_types.specs.declared.ctype.CType.{CType}
 use Rattle.c_types.specs.declared.names.Meaning.{Meaning}
 use Rattle.c_types.specs.declared.names.MeaningKind.{MeaningKind}
@@ -39,8 +40,10 @@ use Rattle.wf_growth_rules.proofs.Walks.{light_refl, weak, by_after, after, lift
 -- ---- tables
 
 -- where the counted tables stay, whatever else changes
-pub same_light : (w : ℕ) (s new : State) → new.ticks.captures ≡ s.ticks.captures → new.frame.inner ≡ s.frame.inner → new.frame.homes ≡ s.frame.homes → new.ticks.all ≡ s.ticks.all → Light w s new
-same_light w s new a b c d = record { captures = rw a (omega arith); inner = omega arith; homes = rw c (omega arith); ticks = rw d (omega arith) }
+pub same_light : (w : ℕ) (s new : State) → new.ticks.captures ≡ s.ticks.captures → new.frame.inner ≡ s.frame.inner →
+    new.frame.homes ≡ s.frame.homes → new.ticks.all ≡ s.ticks.all → Light w s new
+same_light w s new a b c d =
+    record { captures = rw a (omega arith); inner = omega arith; homes = rw c (omega arith); ticks = rw d (omega arith) }
 
 pub one_more : {A : Type 0} (xs : List A) (x : A) → length (xs ++ x ∷ []) ≤ length xs + 1
 one_more xs x = simp length-append (omega arith)
@@ -50,7 +53,8 @@ captured_light k e s = record { captures = one_more _ _; inner = omega arith; ho
 
 -- ---- names
 
-variable_by : (b c : Bool) (s : State) (x y z : Operand × State) → Light 1 s x.1 → Light 1 s y.1 → Light 1 s z.1 → Light 1 s (if◌then◌else◌ {A = Operand × State} b x (if◌then◌else◌ {A = Operand × State} c y z)).1
+variable_by : (b c : Bool) (s : State) (x y z : Operand × State) → Light 1 s x.1 → Light 1 s y.1 → Light 1 s z.1 →
+    Light 1 s (if◌then◌else◌ {A = Operand × State} b x (if◌then◌else◌ {A = Operand × State} c y z)).1
 variable_by true c s x y z k l m = k
 variable_by false true s x y z k l m = l
 variable_by false false s x y z k l m = m
@@ -59,16 +63,19 @@ object_light : (n : ℕ) (h : Home) (t : CType) (s : State) → Light 1 s (names
 object_light n h t s = record { captures = one_more _ _; inner = omega arith; homes = omega arith; ticks = omega arith }
 
 outer_variable_light : (n : ℕ) (h : Home) (t : CType) (s : State) → Light 1 s (names.outer_variable n h t s).1
-outer_variable_light n h t s = variable_by (is_cspec t) (is_vspec t) s _ _ _ (captured_light _ _ s) (captured_light _ _ s) (object_light n h t s)
+outer_variable_light n h t s =
+    variable_by (is_cspec t) (is_vspec t) s _ _ _ (captured_light _ _ s) (captured_light _ _ s) (object_light n h t s)
 
 outer_global_light : (n : ℕ) (t : CType) (s : State) → Light 1 s (names.outer_global n t s).1
-outer_global_light n t s = variable_by (is_cspec t) (is_vspec t) s _ _ _ (captured_light _ _ s) (captured_light _ _ s) (light_refl 1 s)
+outer_global_light n t s =
+    variable_by (is_cspec t) (is_vspec t) s _ _ _ (captured_light _ _ s) (captured_light _ _ s) (light_refl 1 s)
 
 in_tick_light : (n : ℕ) (t : CType) (h : Option Home) (s : State) → After 1 s (names.in_tick n t h s)
 in_tick_light n t None s = light_refl 1 s
 in_tick_light n t (Some h) s = outer_variable_light n h t s
 
-under_dollar_light : (line n : ℕ) (t : CType) (h : Option Home) (s : State) → After 1 s (names.under_dollar line n t h s)
+under_dollar_light : (line n : ℕ) (t : CType) (h : Option Home) (s : State) →
+    After 1 s (names.under_dollar line n t h s)
 under_dollar_light line n t None s = tt
 under_dollar_light line n t (Some h) s = light_refl 1 s
 
@@ -87,7 +94,8 @@ global_light stage.Function n t s = light_refl 1 s
 global_light stage.Tick n t s = outer_global_light n t s
 global_light stage.Dollar n t s = light_refl 1 s
 
-meant_light : (line : ℕ) (g : Stage) (k : MeaningKind) (n : ℕ) (t : CType) (s : State) → After 1 s (names.meant line g k n t s)
+meant_light : (line : ℕ) (g : Stage) (k : MeaningKind) (n : ℕ) (t : CType) (s : State) →
+    After 1 s (names.meant line g k n t s)
 meant_light line g kind.Variable n t s = variable_light line g n t s
 meant_light line g kind.Parameter n t s = any_parameter_light g n t s
 meant_light line g kind.Global n t s = global_light g n t s
@@ -104,7 +112,8 @@ named_light line g name = by_after (λ s. named_by_light line g (find s.scopes n
 
 -- ---- declarations
 
-declared_by_light : (line : ℕ) (name : Name) (what : Meaning) (s : State) (m : Option Meaning) → After 0 s (names.declared_by line name what s m)
+declared_by_light : (line : ℕ) (name : Name) (what : Meaning) (s : State) (m : Option Meaning) →
+    After 0 s (names.declared_by line name what s m)
 declared_by_light line name what s None = same_light 0 s _ refl refl refl refl
 declared_by_light line name what s (Some m) = tt
 
@@ -113,12 +122,15 @@ unfolding names.declare
 declare_light line name what = by_after (λ s. declared_by_light line name what s (in_scope (innermost s.scopes) name))
 
 -- a name, and then the thing itself
-declared_more : {A : Type 0} {w : ℕ} (line : ℕ) (name : Name) (what : Meaning) (s : State) (r : Rule State A) → Bounded w r → After w s ((names.declare line name what >>= (λ u. r)) s)
-declared_more {w = w} line name what s r b = after (weak w (bind_light (declare_light line name what) (λ u. b)) (omega arith)) s
+declared_more : {A : Type 0} {w : ℕ} (line : ℕ) (name : Name) (what : Meaning) (s : State) (r : Rule State A) →
+    Bounded w r → After w s ((names.declare line name what >>= (λ u. r)) s)
+declared_more {w = w} line name what s r b =
+    after (weak w (bind_light (declare_light line name what) (λ u. b)) (omega arith)) s
 
 -- ---- variables
 
-pub variable_homes : (b : Bool) (x y : Frame) (n : ℕ) → length x.homes ≤ n → length y.homes ≤ n → length (if b then x else y).homes ≤ n
+pub variable_homes : (b : Bool) (x y : Frame) (n : ℕ) → length x.homes ≤ n → length y.homes ≤ n →
+    length (if b then x else y).homes ≤ n
 variable_homes true x y n h k = h
 variable_homes false x y n h k = k
 
@@ -149,11 +161,13 @@ with_parameter_light t s = record {
 
 outer_local_light : (line : ℕ) (name : Name) (t : CType) → Bounded 1 (locals.outer_local line name t)
 unfolding locals.outer_local
-outer_local_light line name t = by_after (λ s. declared_more line name _ s (λ z. Ok (locals.made_outer t z)) (by_after (made_outer_light t)))
+outer_local_light line name t =
+    by_after (λ s. declared_more line name _ s (λ z. Ok (locals.made_outer t z)) (by_after (made_outer_light t)))
 
 inner_local_light : (line : ℕ) (name : Name) (t : CType) → Bounded 1 (locals.inner_local line name t)
 unfolding locals.inner_local
-inner_local_light line name t = by_after (λ s. declared_more line name _ s (λ z. Ok (locals.made_inner t z)) (by_after (made_inner_light t)))
+inner_local_light line name t =
+    by_after (λ s. declared_more line name _ s (λ z. Ok (locals.made_inner t z)) (by_after (made_inner_light t)))
 
 -- a variable of a block
 pub local_light : (g : Stage) (line : ℕ) (name : Name) (t : CType) → Bounded 1 (locals.local g line name t)
@@ -164,10 +178,13 @@ local_light stage.Dollar line name t = outer_local_light line name t
 -- a parameter of the function
 pub parameter_light : (line : ℕ) (name : Name) (t : CType) → Bounded 1 (locals.parameter line name t)
 unfolding locals.parameter
-parameter_light line name t = by_after (λ s. declared_more line name _ s (λ z. Ok (tt, locals.with_parameter t z)) (by_after (with_parameter_light t)))
+parameter_light line name t =
+    by_after (λ s. declared_more line name _ s (λ z. Ok (tt, locals.with_parameter t z))
+    (by_after (with_parameter_light t)))
 
 -- a parameter of a list
-pub list_parameter_light : (g : Stage) (line : ℕ) (name : Name) (t : CType) → Bounded 0 (locals.list_parameter g line name t)
+pub list_parameter_light : (g : Stage) (line : ℕ) (name : Name) (t : CType) →
+    Bounded 0 (locals.list_parameter g line name t)
 unfolding locals.list_parameter
 list_parameter_light g line name t = by_after (λ s. after (declare_light line name (locals.list_meaning g t s.frame)) s)
 
@@ -211,7 +228,8 @@ unfolding productions.dollar_node
 dollar_node_light line o = by_after (λ s. dollar_after (stages.dollar line (value_of o)) s)
 
 -- an operator before its operand
-pub unary_node_light : (line : ℕ) (op : UnaryOp) (g : Stage) (o : Operand) → Bounded 1 (productions.unary_node line op g o)
+pub unary_node_light : (line : ℕ) (op : UnaryOp) (g : Stage) (o : Operand) →
+    Bounded 1 (productions.unary_node line op g o)
 unary_node_light line unary_op.Plus g o = weak 1 (lift_light _) (omega arith)
 unary_node_light line unary_op.Minus g o = weak 1 (lift_light _) (omega arith)
 unary_node_light line unary_op.Complement g o = weak 1 (lift_light _) (omega arith)
@@ -230,12 +248,14 @@ pub entered_light : (s : State) → Light 0 s (productions.tick_entered s)
 entered_light s = record { captures = omega arith; inner = omega arith; homes = omega arith; ticks = omega arith }
 
 tick_left_light : (b : TickBody) (t : CType) (s : State) → Light 1 s (productions.tick_left b t s).1
-tick_left_light b t s = record { captures = omega arith; inner = omega arith; homes = omega arith; ticks = one_more _ _ }
+tick_left_light b t s = record
+    { captures = omega arith; inner = omega arith; homes = omega arith; ticks = one_more _ _ }
 
 -- after a tick of an expression
 pub expression_light : (o : Operand) → Bounded 1 (λ z. Ok (productions.tick_expression o z))
 unfolding productions.tick_expression
-expression_light o = by_after (λ s. tick_left_light (body.Expression (value_of o).code) (stages.specification (value_of o).ctype) s)
+expression_light o = by_after
+    (λ s. tick_left_light (body.Expression (value_of o).code) (stages.specification (value_of o).ctype) s)
 
 -- after a tick of a block
 pub left_light : (b : Stmt) → Bounded 1 (λ z. Ok (productions.tick_block b z))

@@ -1,5 +1,7 @@
--- How much a step of the walk can make grow: what the innermost tick captures, the variables of that tick, the variables of the
--- function, and the ticks of the program. These are counts that the walk keeps up to what a word counts; that a program is far
+-- How much a step of the walk can make grow: what the innermost tick captures, the variables of that tick, the
+-- variables of the
+-- function, and the ticks of the program. These are counts that the walk keeps up to what a word counts; that a program
+-- is far
 -- smaller than that follows from the size of its tree.
 use Rattle.std.specs.Prelude.{◌≡◌, ℕ, ◌+◌, ◌≤◌, List, [], ◌∷◌, length, Option, Some, None, Ok, Err}
 use Rattle.c_types.specs.declared.ctype.CType.{CType}

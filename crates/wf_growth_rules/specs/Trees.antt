@@ -11,7 +11,8 @@ use Rattle.check_env.specs.declared.state.Around.{Around}
 use Rattle.check_env.specs.declared.state.Stage.{Stage}
 use Rattle.check_walk.specs.Walk.{declaration, declaration_walk, item, named, node, parameter, shape, suffix}
 use Rattle.wf_growth_rules.specs.Light.{Bounded}
-use Rattle.tick_tree.specs.Weights.{weight, statement_weight, declarator_weight, declaration_weight, parameter_weight, suffix_weight, typename_weight}
+use Rattle.tick_tree.specs.Weights.{weight, statement_weight, declarator_weight, declaration_weight, parameter_weight}
+use Rattle.tick_tree.specs.Weights.{suffix_weight, typename_weight}
 
 pub record PartsAreLight : Type 0 where
   pub expression : (e : Expr) (g : Stage) → Bounded (weight e) ((node e).walk g)

@@ -10,7 +10,9 @@ use Rattle.check_env.specs.declared.state.Stage.{Stage}
 use Rattle.check_env.specs.declared.state.State.{State}
 use Rattle.check_tables.specs.Walks.{Rule}
 use Rattle.check_statements.specs.Declarations as declarations
-use Rattle.check_walk.specs.Walk.{Start, Nothing, Value, Values, Core-W, Declarator-W, Suffix-W, Typename-W, Parameter-W, core_rule, declarator_rule, suffix_walk, suffix_of, SuffixWalk, TypeWalk, suffix_walks, type_walks, typename_rule, parameter_rule, with_start}
+use Rattle.check_walk.specs.Walk.{Start, Nothing, Value, Values, Core-W, Declarator-W, Suffix-W, Typename-W}
+use Rattle.check_walk.specs.Walk.{Parameter-W, core_rule, declarator_rule, suffix_walk, suffix_of, SuffixWalk, TypeWalk}
+use Rattle.check_walk.specs.Walk.{suffix_walks, type_walks, typename_rule, parameter_rule, with_start}
 use Rattle.wf_invariant.specs.Good.{any_computed, GoodShape, GoodNamed, GoodParameter, GoodSuffix}
 use Rattle.wf_types.specs.Parts.{EachPart, GoodSuffixParts}
 use Rattle.wf_types.proofs.Lengths.{computed_filled, type_not_computed}
@@ -31,22 +33,27 @@ good_core (Core-F.Core::Name n text) h g s new xs e k = plain_same g (pure_same 
 good_core (Core-F.Core::Paren d) h g s new xs e k = h g s new xs e k
 
 -- what is asked of the walks is asked of each
-pub each_suffix : (P : (Stage → Rule State Step) → Type 0) (ss : List SuffixWalk) → EachPart (λ w. P w.walk) ss → EachPart P (suffix_walks ss)
+pub each_suffix : (P : (Stage → Rule State Step) → Type 0) (ss : List SuffixWalk) → EachPart (λ w. P w.walk) ss →
+    EachPart P (suffix_walks ss)
 each_suffix P [] h = tt
 each_suffix P (s ∷ ss) h = (h.0, each_suffix P ss h.1)
 
-pub each_parameter : (P : (Stage → Rule State CType) → Type 0) (ps : List TypeWalk) → EachPart (λ w. P w.walk) ps → EachPart P (type_walks ps)
+pub each_parameter : (P : (Stage → Rule State CType) → Type 0) (ps : List TypeWalk) → EachPart (λ w. P w.walk) ps →
+    EachPart P (type_walks ps)
 each_parameter P [] h = tt
 each_parameter P (p ∷ ps) h = (h.0, each_parameter P ps h.1)
 
-pub good_declarator : (d : Declarator-W) → GoodShape d.core → EachPart (λ w. GoodSuffix w.walk) d.suffixes → GoodShape (declarator_rule d)
-good_declarator d h k = declarator_good d.core (suffix_walks d.suffixes) d.prefixes h (each_suffix GoodSuffix d.suffixes k)
+pub good_declarator : (d : Declarator-W) → GoodShape d.core → EachPart (λ w. GoodSuffix w.walk) d.suffixes →
+    GoodShape (declarator_rule d)
+good_declarator d h k = declarator_good d.core (suffix_walks d.suffixes) d.prefixes h
+    (each_suffix GoodSuffix d.suffixes k)
 
 -- ---- type names and parameters
 
 pub good_typename : (t : Typename-W) → GoodShape t.declarator → GoodNamed (typename_rule t)
 good_typename t h line =
-    typed_good t.declarator (declared_type role.Typename line (words.base_of t.base)) h (λ ss x e. type_not_computed role.Typename line (words.base_of t.base) ss x e)
+    typed_good t.declarator (declared_type role.Typename line (words.base_of t.base)) h
+    (λ ss x e. type_not_computed role.Typename line (words.base_of t.base) ss x e)
 
 pub good_parameter : (p : Parameter-W) → GoodShape p.declarator → GoodParameter (parameter_rule p).walk
 good_parameter p h = parameter_good p.line (words.base_of p.base) p.declarator h

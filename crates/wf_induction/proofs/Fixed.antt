@@ -4,10 +4,13 @@ use Rattle.check_declarators.specs.declared.steps.Role.TheVariants as role
 use Rattle.check_declarators.specs.Making.{declared_type}
 use Rattle.check_declarators.specs.Words as words
 use Rattle.tick_tree.specs.declared.syntax.Core.TheOpen.{Core-F, Expr-F, Suffix-F, OptionalExpr-F}
-use Rattle.check_walk.specs.Walk.{Core-W, Expr-W, OptionalExpr-W, Suffix-W, core_rule, expr_rule, optional_rule, suffix_walk, suffix_of, suffix_walks}
-use Rattle.wf_types.specs.Parts.{FixedNode, FixedNamed, FixedShape, FixedSuffix, FixedParameter, FixedOptional, FixedParts, FixedSuffixParts}
+use Rattle.check_walk.specs.Walk.{Core-W, Expr-W, OptionalExpr-W, Suffix-W, core_rule, expr_rule, optional_rule}
+use Rattle.check_walk.specs.Walk.{suffix_walk, suffix_of, suffix_walks}
+use Rattle.wf_types.specs.Parts.{FixedNode, FixedNamed, FixedShape, FixedSuffix, FixedParameter, FixedOptional}
+use Rattle.wf_types.specs.Parts.{FixedParts, FixedSuffixParts}
 use Rattle.wf_types.proofs.Lengths.{type_not_computed}
-use Rattle.wf_types.proofs.Fixed.{pure_fixed, constant_fixed, suffix_fixed, declarator_fixed, typed_fixed, parameter_fixed}
+use Rattle.wf_types.proofs.Fixed.{pure_fixed, constant_fixed, suffix_fixed, declarator_fixed, typed_fixed}
+use Rattle.wf_types.proofs.Fixed.{parameter_fixed}
 use Rattle.wf_induction.specs.Asked.{Asked, EveryCore, EveryExpr, EveryOptionalExpr, EverySuffix, RulesKeep}
 use Rattle.wf_induction.specs.Laws.{WalksAreFixed}
 use Rattle.wf_induction.proofs.Declarators.{each_suffix, each_parameter}
@@ -81,11 +84,18 @@ rules_fix = record {
   stmt = λ x h. tt;
   suffix = fixed_suffix;
   declaration = λ x h. tt;
-  declarator = λ d h. declarator_fixed d.core (suffix_walks d.suffixes) d.prefixes h.0 (each_suffix FixedSuffix d.suffixes h.1);
+  declarator = λ d h. declarator_fixed d.core (suffix_walks d.suffixes) d.prefixes h.0
+      (each_suffix FixedSuffix d.suffixes h.1);
   init = λ x h. tt;
   parameter = λ p h. parameter_fixed p.line (words.base_of p.base) p.declarator h;
-  typename = λ t h line. typed_fixed t.declarator (declared_type role.Typename line (words.base_of t.base)) (λ ss x e. type_not_computed role.Typename line (words.base_of t.base) ss x e) h;
+  typename = λ t h line. typed_fixed t.declarator (declared_type role.Typename line (words.base_of t.base))
+      (λ ss x e. type_not_computed role.Typename line (words.base_of t.base) ss x e) h;
 }
 
 pub walks_fixed : WalksAreFixed
-walks_fixed = record { constants = holds_expr fixed rules_fix; declarators = holds_declarator fixed rules_fix; names = holds_typename fixed rules_fix }
+walks_fixed = record {
+  constants = holds_expr fixed rules_fix;
+  declarators = holds_declarator fixed rules_fix;
+  names =
+      holds_typename fixed rules_fix;
+}

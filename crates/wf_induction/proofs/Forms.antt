@@ -18,7 +18,8 @@ form_of (Expr-F.Unary line op a) h = h
 form_of (Expr-F.Cast line t a) h = second_true t.integer a.written.constant h
 form_of (Expr-F.Sizeof line t) h = tt
 form_of (Expr-F.Binary line op ab) h = (
-  second_true (is_strict op) ab.0.written.constant (first_true (is_strict op && ab.0.written.constant) ab.1.written.constant h),
+  second_true (is_strict op) ab.0.written.constant
+      (first_true (is_strict op && ab.0.written.constant) ab.1.written.constant h),
   second_true (is_strict op && ab.0.written.constant) ab.1.written.constant h,
 )
 form_of (Expr-F.Expr::Name line name) h = never h

@@ -1,4 +1,5 @@
--- What a statement counts: the frame objects of a byte, the declarations of a register variable, and the nodes; among the nodes of the
+-- What a statement counts: the frame objects of a byte, the declarations of a register variable, and the nodes; among
+-- the nodes of the
 -- block's variables and those of the statement together.
 use Rattle.std.specs.Prelude.{◌≡◌, ℕ, ◌+◌, ◌≤◌, ◌&&◌, nat_le, nat_lt, List, length, map, sum}
 use Rattle.typed_tree.specs.declared.expression.Stmt.{Stmt}
@@ -27,8 +28,13 @@ variables stage.Dollar s = s.frame.inner
 -- what these nodes count, and those of the variables that were declared with them
 pub record Counts (g : Stage) (s new : State) (xs : List Stmt) : Type 0 where
   -- each byte of the new frame objects belongs to one of them
-  pub objects : (byte : ℕ) → objects_in byte new.frame.nodes + objects_in byte xs ≡ objects_in byte s.frame.nodes + between s.frame.object new.frame.object byte
+  pub objects : (byte : ℕ) →
+      objects_in byte new.frame.nodes + objects_in byte xs ≡ objects_in byte s.frame.nodes + between s.frame.object
+      new.frame.object byte
   -- each new register variable is declared once at most
-  pub declarations : (i : ℕ) → declarations_in i new.frame.nodes + declarations_in i xs ≤ declarations_in i s.frame.nodes + between (variables g s) (variables g new) i
+  pub declarations : (i : ℕ) →
+      declarations_in i new.frame.nodes + declarations_in i xs ≤ declarations_in i s.frame.nodes + between (variables g s)
+      (variables g new) i
   -- there are as many nodes as new variables
-  pub sizes : statements_size s.frame.nodes + variables g new ≤ statements_size new.frame.nodes + statements_size xs + variables g s
+  pub sizes : statements_size s.frame.nodes + variables g new ≤ statements_size new.frame.nodes + statements_size xs +
+      variables g s

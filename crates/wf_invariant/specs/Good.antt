@@ -1,4 +1,5 @@
--- What is asked of the walks over the parts of a tree: each rule of the walk that is given such parts makes such a part again.
+-- What is asked of the walks over the parts of a tree: each rule of the walk that is given such parts makes such a part
+-- again.
 use Rattle.std.specs.Prelude.{◌≡◌, ℕ, ◌+◌, ◌-◌, ◌≤◌, Bool, true, false, ◌||◌, List, [], ◌∷◌, length, is_some, Ok}
 use Rattle.c_types.specs.declared.ctype.CType.{CType}
 use Rattle.check_declarators.specs.declared.steps.Length.{Length}
@@ -20,7 +21,8 @@ use Rattle.wf_invariant.specs.Steps.{at, EachCapture, Does}
 
 -- ---- types
 
--- What a type, or an expression with the form of a constant, does, whatever is known: it names nothing, and captures only what stands
+-- What a type, or an expression with the form of a constant, does, whatever is known: it names nothing, and captures
+-- only what stands
 -- anywhere.
 abbrev pub PlainStage : Stage → State → State → Type 0
 PlainStage stage.Function s new = new.ticks.all ≡ s.ticks.all
@@ -68,7 +70,8 @@ abbrev pub GoodSuffix : (Stage → Rule State Step) → Type 0
 GoodSuffix w = (g : Stage) (s new : State) (x : Step) → w g s ≡ Ok (x, new) → is_computed_step x ≡ false → Plain g s new
 
 abbrev pub GoodShape : Shape → Type 0
-GoodShape d = (g : Stage) (s new : State) (xs : List Step) → d.walk g s ≡ Ok (xs, new) → any_computed xs ≡ false → Plain g s new
+GoodShape d = (g : Stage) (s new : State) (xs : List Step) → d.walk g s ≡ Ok (xs, new) → any_computed xs ≡ false →
+    Plain g s new
 
 abbrev pub GoodNamed : Named → Type 0
 GoodNamed t = (line : ℕ) (g : Stage) (s new : State) (x : CType) → t.walk line g s ≡ Ok (x, new) → Plain g s new
@@ -93,7 +96,10 @@ pub record GoodNode (many : List ℕ) (n : Node) : Type 0 where
   pub keeps : (g : Stage) → IsKeeping g (n.walk g)
   pub does : (g : Stage) → Does many g (λ r o. Good (at g r) o) (n.walk g)
   -- so does a string, also in parentheses
-  pub string : is_some n.written.string ≡ true → (g : Stage) (s new : State) (o : Operand) → n.walk g s ≡ Ok (o, new) → Plain g s new
+  pub string : is_some n.written.string ≡ true → (g : Stage) (s new : State) (o : Operand) → n.walk g s ≡ Ok (o, new) →
+      Plain g s new
   -- the captures of a walk are few, whatever is known
-  pub few : (g : Stage) (s new : State) (o : Operand) → n.walk g s ≡ Ok (o, new) → length new.ticks.captures ≤ length s.ticks.captures + 1000000000
-  pub constant : n.written.constant ≡ true → (g : Stage) (s new : State) (o : Operand) → n.walk g s ≡ Ok (o, new) → Plain g s new × Anywhere g o
+  pub few : (g : Stage) (s new : State) (o : Operand) → n.walk g s ≡ Ok (o, new) →
+      length new.ticks.captures ≤ length s.ticks.captures + 1000000000
+  pub constant : n.written.constant ≡ true → (g : Stage) (s new : State) (o : Operand) → n.walk g s ≡ Ok (o, new) →
+      Plain g s new × Anywhere g o

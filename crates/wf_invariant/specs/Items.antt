@@ -1,5 +1,6 @@
 -- What is asked of the walk over a statement or a declaration, and of that over a block.
-use Rattle.std.specs.Prelude.{◌≡◌, ℕ, ◌+◌, ◌≤◌, ◌%◌, ◌==◌, Bool, true, false, ◌||◌, nat_le, List, [], ◌∷◌, ◌++◌, length, map, Ok}
+use Rattle.std.specs.Prelude.{◌≡◌, ℕ, ◌+◌, ◌≤◌, ◌%◌, ◌==◌, Bool, true, false, ◌||◌, nat_le, List, [], ◌∷◌, ◌++◌, length}
+use Rattle.std.specs.Prelude.{map, Ok}
 use Rattle.typed_tree.specs.declared.expression.CaptureKind.{CaptureKind}
 use Rattle.typed_tree.specs.declared.expression.Stmt.{Stmt}
 use Rattle.check_env.specs.declared.state.Around.{Around as Standing}
@@ -30,7 +31,8 @@ InBlock stage.Dollar b = true ≡ false
 
 -- the blocks round the innermost one, in a block that is entered in this state
 abbrev pub entered : Stage → Blocks → State → Blocks
-entered stage.Function b s = record { function = b.function ++ numbers s.frame.nodes; tick = b.tick; in_tick = b.in_tick }
+entered stage.Function b s =
+    record { function = b.function ++ numbers s.frame.nodes; tick = b.tick; in_tick = b.in_tick }
 entered stage.Tick b s = record { function = b.function; tick = of_tick stage.Tick b s; in_tick = true }
 entered stage.Dollar b s = record { function = b.function; tick = of_tick stage.Dollar b s; in_tick = true }
 
@@ -63,7 +65,8 @@ ItemsStand a r xs = EachNode (ItemStands a r) xs
 -- the same of a whole step
 abbrev pub DoesStand : List ℕ → Standing → Rule State (List Stmt) → Type 0
 DoesStand many a step =
-    (b : Blocks) (ks : List (List CaptureKind)) (s new : State) (xs : List Stmt) → InBlock a.stage b → Known many a.stage b ks s → step s ≡ Ok (xs, new)
+    (b : Blocks) (ks : List (List CaptureKind)) (s new : State) (xs : List Stmt) → InBlock a.stage b →
+    Known many a.stage b ks s → step s ≡ Ok (xs, new)
     → Did many a.stage b ks s new (λ r. ItemsStand a (at a.stage (placed_round a r)) xs)
 
 -- ---- labels
@@ -106,7 +109,8 @@ abbrev pub IsLabelling : Bool → Rule State (List Stmt) → Type 0
 IsLabelling direct step = (s new : State) (xs : List Stmt) → step s ≡ Ok (xs, new) → Labelled direct s new xs
 
 abbrev pub IsDeclaring : Stage → Rule State (List Stmt) → Type 0
-IsDeclaring g step = (s new : State) (xs : List Stmt) → step s ≡ Ok (xs, new) → Small g new → (s.frame.object % 4 == 0) ≡ true → Declared g s new
+IsDeclaring g step = (s new : State) (xs : List Stmt) → step s ≡ Ok (xs, new) → Small g new →
+    (s.frame.object % 4 == 0) ≡ true → Declared g s new
 
 -- the walk over a statement, with this round it
 pub record GoodStatement (many : List ℕ) (a : Standing) (step : Rule State (List Stmt)) : Type 0 where
@@ -118,7 +122,8 @@ pub record GoodStatement (many : List ℕ) (a : Standing) (step : Rule State (Li
 
 -- it captures and declares few things, whatever stands round it
 abbrev pub Few : State → State → Type 0
-Few s new = (length new.ticks.captures ≤ length s.ticks.captures + 1000000000) × (new.frame.inner ≤ s.frame.inner + 1000000000)
+Few s new = (length new.ticks.captures ≤ length s.ticks.captures + 1000000000) ×
+    (new.frame.inner ≤ s.frame.inner + 1000000000)
 
 abbrev pub IsFew : Rule State (List Stmt) → Type 0
 IsFew step = (s new : State) (xs : List Stmt) → step s ≡ Ok (xs, new) → Few s new
@@ -138,6 +143,8 @@ pub record GoodBlock (many : List ℕ) (a : Standing) (step : Rule State Stmt) :
   pub grows : IsGrowing a.stage step
   pub keeps : (s new : State) (x : Stmt) → step s ≡ Ok (x, new) → KeepsBlock s new
   pub counts : (s new : State) (x : Stmt) → step s ≡ Ok (x, new) → Small a.stage new → Counts a.stage s new (x ∷ [])
-  pub aligned : (s new : State) (x : Stmt) → step s ≡ Ok (x, new) → Small a.stage new → (s.frame.object % 4 == 0) ≡ true → (new.frame.object % 4 == 0) ≡ true
+  pub aligned : (s new : State) (x : Stmt) → step s ≡ Ok (x, new) → Small a.stage new →
+      (s.frame.object % 4 == 0) ≡ true → (new.frame.object % 4 == 0) ≡ true
   pub few : (s new : State) (x : Stmt) → step s ≡ Ok (x, new) → Few s new
-  pub does : Does many a.stage (λ r x. ((act x).stands (at a.stage (placed_round a r)) ≡ true) × (uses_values x ≡ true)) step
+  pub does : Does many a.stage (λ r x. ((act x).stands (at a.stage (placed_round a r)) ≡ true) × (uses_values x ≡ true))
+      step

@@ -1,4 +1,5 @@
--- What a step of the walk leaves as it was, and what grows, whatever stands round it. An expression or a type leaves the names, the
+-- What a step of the walk leaves as it was, and what grows, whatever stands round it. An expression or a type leaves
+-- the names, the
 -- variables and the functions; it may capture, make ticks, take strings and mark variables. A statement may declare.
 use Rattle.std.specs.Prelude.{◌≡◌, ℕ, ◌-◌, ◌≤◌, List, [], ◌∷◌, ◌++◌, length, take, Ok}
 use Rattle.c_types.specs.Scopes.{Scopes}
@@ -58,7 +59,8 @@ IsKeeping {A} g r = (s new : State) (x : A) → r s ≡ Ok (x, new) → Keeps g 
 abbrev pub outer : Scopes → Scopes
 outer ss = take (length ss - 1) ss
 
--- what a statement or a declaration leaves: as many scopes are open, those round the innermost one are as they were, and the
+-- what a statement or a declaration leaves: as many scopes are open, those round the innermost one are as they were,
+-- and the
 -- variables so far stay
 pub record GrowsTables (s new : State) : Type 0 where
   pub depth : length new.scopes ≡ length s.scopes

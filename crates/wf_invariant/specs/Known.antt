@@ -1,5 +1,7 @@
--- What is known on the way of the walk: each visible name means something that stands, and each tick so far has its captures.
-use Rattle.std.specs.Prelude.{◌≡◌, ℕ, ◌-◌, ◌%◌, ◌==◌, ◌≤◌, Bool, true, false, ◌&&◌, nat_le, if◌then◌else◌, List, [], ◌∷◌, ◌++◌, length, map, slice_get, Option, Some, None}
+-- What is known on the way of the walk: each visible name means something that stands, and each tick so far has its
+-- captures.
+use Rattle.std.specs.Prelude.{◌≡◌, ℕ, ◌-◌, ◌%◌, ◌==◌, ◌≤◌, Bool, true, false, ◌&&◌, nat_le, if◌then◌else◌, List, []}
+use Rattle.std.specs.Prelude.{◌∷◌, ◌++◌, length, map, slice_get, Option, Some, None}
 use Rattle.std.specs.List.{list_any}
 use Rattle.c_types.specs.declared.ctype.CType.{CType}
 use Rattle.c_types.specs.declared.names.Meaning.{Meaning}
@@ -20,7 +22,8 @@ use Rattle.wf_scopes.specs.Right.{HasType}
 use Rattle.wf_values.specs.Used.{IsLibrary}
 use Rattle.limits.specs.declared.program.TheConstants.{FRAME_OBJECT_BYTES}
 
--- the numbers of the register variables of the blocks round the innermost one: those of the function, and those of the tick; and
+-- the numbers of the register variables of the blocks round the innermost one: those of the function, and those of the
+-- tick; and
 -- whether the innermost block is the tick's
 pub record Blocks : Type 0 where
   pub function : List ℕ

@@ -1,5 +1,6 @@
 -- What a step of the walk makes stands right in each surrounding that agrees with the state after it.
-use Rattle.std.specs.Prelude.{◌≡◌, ℕ, min, ◌≤◌, Bool, true, false, nat_le, List, [], ◌∷◌, ◌++◌, length, map, slice_get, Option, Some, None, Ok}
+use Rattle.std.specs.Prelude.{◌≡◌, ℕ, min, ◌≤◌, Bool, true, false, nat_le, List, [], ◌∷◌, ◌++◌, length, map, slice_get}
+use Rattle.std.specs.Prelude.{Option, Some, None, Ok}
 use Rattle.std.specs.List.{list_all}
 use Rattle.typed_tree.specs.declared.expression.CaptureKind.{CaptureKind}
 use Rattle.typed_tree.specs.declared.expression.CaptureKind.TheVariants as capture
@@ -47,11 +48,16 @@ Captures ks (Some all) = Starts ks all
 
 abbrev pub AgreesTick : Stage → Blocks → State → Round → Type 0
 AgreesTick stage.Function b s r = Unit {0}
-AgreesTick stage.Tick b s r = ((i : ℕ) → has i (of_tick stage.Tick b s) ≡ true → in_scope i r.tick ≡ true) × Captures (kinds s.ticks.captures) r.tick.captures
-AgreesTick stage.Dollar b s r = ((i : ℕ) → has i (of_tick stage.Dollar b s) ≡ true → in_scope i r.tick ≡ true) × Captures (kinds s.ticks.captures) r.tick.captures
+AgreesTick stage.Tick b s r =
+    ((i : ℕ) → has i (of_tick stage.Tick b s) ≡ true → in_scope i r.tick ≡ true) ×
+    Captures (kinds s.ticks.captures) r.tick.captures
+AgreesTick stage.Dollar b s r =
+    ((i : ℕ) → has i (of_tick stage.Dollar b s) ≡ true → in_scope i r.tick ≡ true) ×
+    Captures (kinds s.ticks.captures) r.tick.captures
 
 -- what stands round a step has room for all that the state knows, in a program whose functions have so many parameters
-pub record Agrees (many : List ℕ) (g : Stage) (b : Blocks) (ks : List (List CaptureKind)) (s : State) (r : Round) : Type 0 where
+pub record Agrees (many : List ℕ) (g : Stage) (b : Blocks) (ks : List (List CaptureKind)) (s : State) (r : Round) : Type
+    0 where
   pub small : Small g s
   pub visible : (i : ℕ) → has i (of_function g b s) ≡ true → in_scope i r.function ≡ true
   pub object : nat_le s.frame.object r.function.object ≡ true
@@ -64,7 +70,15 @@ pub record Agrees (many : List ℕ) (g : Stage) (b : Blocks) (ks : List (List Ca
 
 -- what is round the body of a tick that captures this
 abbrev pub round_tick : Around → List CaptureKind → Around
-round_tick a ks = record { variables = []; object = 0; functions = a.functions; ticks = a.ticks; captures = Some ks; in_loop = false; in_switch = false }
+round_tick a ks = record {
+  variables = [];
+  object = 0;
+  functions = a.functions;
+  ticks = a.ticks;
+  captures = Some ks;
+  in_loop = false;
+  in_switch = false;
+}
 
 pub record TickStands (a : Around) (t : Tick) (ks : List CaptureKind) : Type 0 where
   pub stands : stands_as_tick t.body (round_tick a ks) ≡ true
@@ -85,22 +99,26 @@ EachCapture a (e ∷ es) = ((part e).is_capture a ≡ true) × (is_used e ≡ tr
 -- the captures that a step in a tick made
 abbrev pub CapturesStand : Stage → State → State → Round → Type 0
 CapturesStand stage.Function s new r = Unit {0}
-CapturesStand stage.Tick s new r = (more : Starts s.ticks.captures new.ticks.captures) → EachCapture r.function more.rest
+CapturesStand stage.Tick s new r = (more : Starts s.ticks.captures new.ticks.captures) →
+    EachCapture r.function more.rest
 CapturesStand stage.Dollar s new r = Unit {0}
 
 -- ---- steps
 
 -- what a step did: what its answer is asked for holds in each surrounding that agrees with the state after it
-pub record Did (many : List ℕ) (g : Stage) (b : Blocks) (ks : List (List CaptureKind)) (s new : State) (P : Round → Type 0) : Type 0 where
+pub record Did (many : List ℕ) (g : Stage) (b : Blocks) (ks : List (List CaptureKind)) (s new : State)
+    (P : Round → Type 0) : Type 0 where
   -- what its ticks capture
   pub more : List (List CaptureKind)
   pub known : Known many g b (ks ++ more) new
   pub back : (r : Round) → Agrees many g b (ks ++ more) new r → Agrees many g b ks s r
-  pub ticks : (r : Round) → Agrees many g b (ks ++ more) new r → (made : Starts s.ticks.all new.ticks.all) → EachTick r.function made.rest more
+  pub ticks : (r : Round) → Agrees many g b (ks ++ more) new r → (made : Starts s.ticks.all new.ticks.all) →
+      EachTick r.function made.rest more
   pub captures : (r : Round) → Agrees many g b (ks ++ more) new r → CapturesStand g s new r
   pub stands : (r : Round) → Agrees many g b (ks ++ more) new r → P r
 
 -- a step whose answers stand right
 abbrev pub Does : {A : Type 0} → List ℕ → Stage → (Round → A → Type 0) → Rule State A → Type 0
 Does {A} many g P step =
-    (b : Blocks) (ks : List (List CaptureKind)) (s new : State) (x : A) → Known many g b ks s → step s ≡ Ok (x, new) → Did many g b ks s new (λ r. P r x)
+    (b : Blocks) (ks : List (List CaptureKind)) (s new : State) (x : A) → Known many g b ks s → step s ≡ Ok (x, new) →
+    Did many g b ks s new (λ r. P r x)

@@ -1,5 +1,7 @@
 -- Each call in an accepted text's functions and ticks has as many arguments as its function has parameters.
-use Rattle.std.proofs.Common.{◌≡◌, ℕ, zero, suc, ◌+◌, ◌-◌, ◌==◌, ◌≤◌, Bool, true, false, ◌&&◌, ◌||◌, nat_eq, nat_le, List, [], ◌∷◌, length, map, take, drop, refl, sym, ap, subst, ◌∙◌, slice_get, Option, Some, None, arith}
+use Rattle.std.proofs.Common.{◌≡◌, ℕ, zero, suc, ◌+◌, ◌-◌, ◌==◌, ◌≤◌, Bool, true, false, ◌&&◌, ◌||◌, nat_eq, nat_le}
+use Rattle.std.proofs.Common.{List, [], ◌∷◌, length, map, take, drop, refl, sym, ap, subst, ◌∙◌, slice_get, Option}
+use Rattle.std.proofs.Common.{Some, None, arith}
 use Rattle.std.specs.Prelude.{option_map}
 use Rattle.std.specs.List.{list_all}
 use Rattle.std.proofs.lemmas.Bool.Decides.{nat_tests}
@@ -8,7 +10,9 @@ use Rattle.meaning_state.specs.Rows.{numbered}
 use Rattle.typed_tree.specs.declared.expression.CaptureKind.{CaptureKind}
 use Rattle.typed_tree.specs.Nodes as node
 use Rattle.typed_tree.specs.Nodes.{Expr, Args, Stmt, Items, Function, fold_args, fold_items, count}
-use Rattle.wellformed.specs.Places.{Around, in_function, are_few, takes, is_called, expr_rule, rules, values_of, all_different, all_declare, all_stand, is_label, all_items, are_parameters, within, looped, switched}
+use Rattle.wellformed.specs.Places.{Around, in_function, are_few, takes, is_called, expr_rule, rules, values_of}
+use Rattle.wellformed.specs.Places.{all_different, all_declare, all_stand, is_label, all_items, are_parameters, within}
+use Rattle.wellformed.specs.Places.{looped, switched}
 use Rattle.wellformed.specs.Program.{IsFunction, IsTick, parameters_of, round_function, round_tick}
 use Rattle.wellformed.proofs.Bools.{first_true, second_true}
 use Rattle.wf_ready.specs.Calls.{IsCallee, HasCalls, HaveCalls, HasCallsStmt, HaveCallsItems, HasCallsBody}
@@ -97,7 +101,8 @@ module _ (fs : List Function) where
     expr_calls a is (node.Lib f e) h = expr_calls a is e h
     expr_calls a is (node.Tick t args) h =
         captures_calls a is args
-        (second_true (in_function a) (all_captured_in a args) (first_true (in_function a && all_captured_in a args) _ h))
+        (second_true (in_function a) (all_captured_in a args)
+        (first_true (in_function a && all_captured_in a args) _ h))
     expr_calls a is (node.Capture k e) h = absurd cc
     expr_calls a is (node.Compile e) h = expr_calls a is e (second_true _ ((part e).stands a) h)
     expr_calls a is (node.ParamOf e) h = expr_calls a is e (second_true _ ((part e).stands a) h)

@@ -1,5 +1,7 @@
 -- The variables that stand in scope by the numbers of the blocks round them are in scope for the meaning.
-use Rattle.std.proofs.Common.{◌≡◌, ℕ, zero, suc, ◌+◌, ◌==◌, Bool, true, false, ◌&&◌, ◌||◌, nat_eq, nat_le, if◌then◌else◌, List, [], ◌∷◌, ◌++◌, length, take, drop, refl, sym, subst, ◌∙◌, append_assoc, arith}
+use Rattle.std.proofs.Common.{◌≡◌, ℕ, zero, suc, ◌+◌, ◌==◌, Bool, true, false, ◌&&◌, ◌||◌, nat_eq, nat_le}
+use Rattle.std.proofs.Common.{if◌then◌else◌, List, [], ◌∷◌, ◌++◌, length, take, drop, refl, sym, subst, ◌∙◌}
+use Rattle.std.proofs.Common.{append_assoc, arith}
 use Rattle.std.specs.List.{list_any, list_all}
 use Rattle.std.proofs.lemmas.Bool.Decides.{nat_tests}
 use Rattle.std.proofs.lemmas.List.{append-nil}
@@ -9,8 +11,11 @@ use Rattle.word32.proofs.SpaceLaws.{update_same}
 use Rattle.typed_tree.specs.declared.expression.CaptureKind.{CaptureKind}
 use Rattle.typed_tree.specs.Nodes as node
 use Rattle.typed_tree.specs.Nodes.{Expr, Args, Stmt, Items, fold_expr, fold_args, fold_stmt, fold_items}
-use Rattle.staged_meaning.specs.Scope.{Scope, no_scope, scope_of, scope_after, IsScoped, AreScoped, IsScopedStmt, AreScopedItems}
-use Rattle.wellformed.specs.Places.{Around, Part, Act, in_function, in_scope, are_few, expr_rule, rules, numbers_of, values_of, all_different, all_declare, all_stand, is_label, all_items, are_parameters, within, looped, switched}
+use Rattle.staged_meaning.specs.Scope.{Scope, no_scope, scope_of, scope_after, IsScoped, AreScoped, IsScopedStmt}
+use Rattle.staged_meaning.specs.Scope.{AreScopedItems}
+use Rattle.wellformed.specs.Places.{Around, Part, Act, in_function, in_scope, are_few, expr_rule, rules, numbers_of}
+use Rattle.wellformed.specs.Places.{values_of, all_different, all_declare, all_stand, is_label, all_items}
+use Rattle.wellformed.specs.Places.{are_parameters, within, looped, switched}
 use Rattle.wellformed.specs.Program.{IsFunction, round_function}
 use Rattle.wellformed.proofs.Bools.{first_true, second_true}
 
@@ -35,34 +40,46 @@ module _ (a : Around) (scope : Scope) (seen : Holds a.variables scope) where
     expr_scoped (node.Const w) h = tt
     expr_scoped (node.Captured k i) h = tt
     expr_scoped (node.Var i) h = seen i h
-    expr_scoped (node.SetVar i e) h = let q = two (in_scope i a) ((part e).stands a) h in (seen i q.0, expr_scoped e q.1)
+    expr_scoped (node.SetVar i e) h = let q = two (in_scope i a) ((part e).stands a) h in
+        (seen i q.0, expr_scoped e q.1)
     expr_scoped (node.PostVar i w step) h = seen i h
     expr_scoped (node.VGet i) h = tt
     expr_scoped (node.VSet i e) h = expr_scoped e (second_true _ ((part e).stands a) h)
     expr_scoped (node.VPost i step) h = tt
     expr_scoped (node.Frame off) h = tt
     expr_scoped (node.Load w e) h = expr_scoped e h
-    expr_scoped (node.Store w e f) h = let q = two ((part e).stands a) ((part f).stands a) h in (expr_scoped e q.0, expr_scoped f q.1)
-    expr_scoped (node.Modify w k e f) h = let q = two ((part e).stands a) ((part f).stands a) h in (expr_scoped e q.0, expr_scoped f q.1)
+    expr_scoped (node.Store w e f) h = let q = two ((part e).stands a) ((part f).stands a) h in
+        (expr_scoped e q.0, expr_scoped f q.1)
+    expr_scoped (node.Modify w k e f) h = let q = two ((part e).stands a) ((part f).stands a) h in
+        (expr_scoped e q.0, expr_scoped f q.1)
     expr_scoped (node.Post w step e) h = expr_scoped e h
-    expr_scoped (node.Bin k e f) h = let q = two ((part e).stands a) ((part f).stands a) h in (expr_scoped e q.0, expr_scoped f q.1)
+    expr_scoped (node.Bin k e f) h = let q = two ((part e).stands a) ((part f).stands a) h in
+        (expr_scoped e q.0, expr_scoped f q.1)
     expr_scoped (node.Un k e) h = expr_scoped e h
-    expr_scoped (node.And e f) h = let q = two ((part e).stands a) ((part f).stands a) h in (expr_scoped e q.0, expr_scoped f q.1)
-    expr_scoped (node.Or e f) h = let q = two ((part e).stands a) ((part f).stands a) h in (expr_scoped e q.0, expr_scoped f q.1)
+    expr_scoped (node.And e f) h = let q = two ((part e).stands a) ((part f).stands a) h in
+        (expr_scoped e q.0, expr_scoped f q.1)
+    expr_scoped (node.Or e f) h = let q = two ((part e).stands a) ((part f).stands a) h in
+        (expr_scoped e q.0, expr_scoped f q.1)
     expr_scoped (node.Cond c e f) h =
         let q = two ((part c).stands a) ((part e).stands a && (part f).stands a) h in
         let r = two ((part e).stands a) ((part f).stands a) q.1 in
         (expr_scoped c q.0, expr_scoped e r.0, expr_scoped f r.1)
-    expr_scoped (node.Comma e f) h = let q = two ((part e).stands a) ((part f).stands a) h in (expr_scoped e q.0, expr_scoped f q.1)
+    expr_scoped (node.Comma e f) h = let q = two ((part e).stands a) ((part f).stands a) h in
+        (expr_scoped e q.0, expr_scoped f q.1)
     expr_scoped (node.Void e) h = expr_scoped e h
-    expr_scoped (node.Call r f args) h = args_scoped args (second_true _ (list_all (λ p. p.stands a) (fold_args expr_rule args)) h)
+    expr_scoped (node.Call r f args) h =
+        args_scoped args (second_true _ (list_all (λ p. p.stands a) (fold_args expr_rule args)) h)
     expr_scoped (node.CallNumber r e args) h =
-        let q = two ((part e).stands a && are_few (length (fold_args expr_rule args))) (list_all (λ p. p.stands a) (fold_args expr_rule args)) h in
-        (expr_scoped e (first_true ((part e).stands a) (are_few (length (fold_args expr_rule args))) q.0), args_scoped args q.1)
+        let q = two ((part e).stands a && are_few (length (fold_args expr_rule args)))
+        (list_all (λ p. p.stands a) (fold_args expr_rule args)) h in (
+          expr_scoped e (first_true ((part e).stands a) (are_few (length (fold_args expr_rule args))) q.0),
+          args_scoped args q.1,
+        )
     expr_scoped node.Getchar h = tt
     expr_scoped (node.Lib f e) h = expr_scoped e h
     expr_scoped (node.Tick t args) h =
-        captures_scoped args (second_true (in_function a) (list_all (λ p. p.is_capture a) (fold_args expr_rule args)) (first_true (in_function a && list_all (λ p. p.is_capture a) (fold_args expr_rule args)) _ h))
+        captures_scoped args (second_true (in_function a) (list_all (λ p. p.is_capture a) (fold_args expr_rule args))
+        (first_true (in_function a && list_all (λ p. p.is_capture a) (fold_args expr_rule args)) _ h))
     expr_scoped (node.Capture k e) h = absurd cc
     expr_scoped (node.Splice r i) h = tt
     expr_scoped (node.Compile e) h = expr_scoped e (second_true _ ((part e).stands a) h)
@@ -79,7 +96,8 @@ module _ (a : Around) (scope : Scope) (seen : Holds a.variables scope) where
     capture_scoped (node.Capture k e) h = expr_scoped e h
     capture_scoped _ h = absurd cc
 
-    captures_scoped : (args : Args) → list_all (λ p. p.is_capture a) (fold_args expr_rule args) ≡ true → AreScoped scope args
+    captures_scoped : (args : Args) → list_all (λ p. p.is_capture a) (fold_args expr_rule args) ≡ true →
+        AreScoped scope args
     captures_scoped node.NoArg h = tt
     captures_scoped (node.Arg e args) h =
         let q = two ((part e).is_capture a) (list_all (λ p. p.is_capture a) (fold_args expr_rule args)) h in
@@ -116,7 +134,8 @@ declared_heads a (node.Item s vs) h =
     (declared_head a s q.0, declared_heads a vs q.1)
 
 -- n parameters stand first
-pub body_heads : (a : Around) (vs : Items) (n k : ℕ) → are_parameters k (take n (fold_items rules vs)) a ≡ true → all_declare (drop n (fold_items rules vs)) a ≡ true → AreHeads vs
+pub body_heads : (a : Around) (vs : Items) (n k : ℕ) → are_parameters k (take n (fold_items rules vs)) a ≡ true →
+    all_declare (drop n (fold_items rules vs)) a ≡ true → AreHeads vs
 body_heads a node.NoItem n k h d = tt
 body_heads a (node.Item s vs) zero k h d = declared_heads a (node.Item s vs) d
 body_heads a (node.Item s vs) (suc n) k h d =
@@ -161,18 +180,22 @@ added k ns scope h i at =
 same_holds : (ns ms : List ℕ) (scope : Scope) → ns ≡ ms → Holds ns scope → Holds ms scope
 same_holds ns ms scope e h = subst (λ l. Holds l scope) e h
 
-head_holds : (ns : List ℕ) (scope : Scope) (s : Stmt) → IsHead s → Holds ns scope → Holds (ns ++ (act s).number) (scope_of s scope)
+head_holds : (ns : List ℕ) (scope : Scope) (s : Stmt) → IsHead s → Holds ns scope →
+    Holds (ns ++ (act s).number) (scope_of s scope)
 head_holds ns scope (node.Variable i) t h = added i ns scope h
 head_holds ns scope (node.Object off words) t h = same_holds ns (ns ++ []) scope (sym (append-nil ns)) h
 head_holds ns scope (node.Parameter k w) t h = added k ns scope h
 head_holds ns scope (node.ParameterObject k w off) t h = same_holds ns (ns ++ []) scope (sym (append-nil ns)) h
 head_holds ns scope _ t h = absurd t
 
-heads_hold : (ns : List ℕ) (scope : Scope) (vs : Items) → AreHeads vs → Holds ns scope → Holds (ns ++ numbers_of (fold_items rules vs)) (scope_after vs scope)
+heads_hold : (ns : List ℕ) (scope : Scope) (vs : Items) → AreHeads vs → Holds ns scope →
+    Holds (ns ++ numbers_of (fold_items rules vs)) (scope_after vs scope)
 heads_hold ns scope node.NoItem t h = same_holds ns (ns ++ []) scope (sym (append-nil ns)) h
 heads_hold ns scope (node.Item s vs) t h =
-    same_holds ((ns ++ (act s).number) ++ numbers_of (fold_items rules vs)) (ns ++ ((act s).number ++ numbers_of (fold_items rules vs))) (scope_after vs (scope_of s scope))
-    (append_assoc ns (act s).number (numbers_of (fold_items rules vs))) (heads_hold (ns ++ (act s).number) (scope_of s scope) vs t.1 (head_holds ns scope s t.0 h))
+    same_holds ((ns ++ (act s).number) ++ numbers_of (fold_items rules vs))
+    (ns ++ ((act s).number ++ numbers_of (fold_items rules vs))) (scope_after vs (scope_of s scope))
+    (append_assoc ns (act s).number (numbers_of (fold_items rules vs)))
+    (heads_hold (ns ++ (act s).number) (scope_of s scope) vs t.1 (head_holds ns scope s t.0 h))
 
 -- ---- statements
 
@@ -182,23 +205,30 @@ same_scope a scope (node.Parameter k w) h = absurd cc
 same_scope a scope _ h = refl
 
 -- a label, or a statement that stands right
-label_or : (a : Around) (scope : Scope) (s : Stmt) → (is_label (act s) || (act s).stands a) ≡ true → ((act s).stands a ≡ true → IsScopedStmt scope s) → IsScopedStmt scope s
+label_or : (a : Around) (scope : Scope) (s : Stmt) → (is_label (act s) || (act s).stands a) ≡ true →
+    ((act s).stands a ≡ true → IsScopedStmt scope s) → IsScopedStmt scope s
 label_or a scope (node.Case v) h f = tt
 label_or a scope node.Default h f = tt
 label_or a scope _ h f = f h
 
-label_same : (a : Around) (scope : Scope) (s : Stmt) → (is_label (act s) || (act s).stands a) ≡ true → scope_of s scope ≡ scope
+label_same : (a : Around) (scope : Scope) (s : Stmt) → (is_label (act s) || (act s).stands a) ≡ true →
+    scope_of s scope ≡ scope
 label_same a scope (node.Variable i) h = absurd cc
 label_same a scope (node.Parameter k w) h = absurd cc
 label_same a scope _ h = refl
 
 mutual
-  stmt_scoped : (a : Around) (scope : Scope) → Holds a.variables scope → (s : Stmt) → (act s).stands a ≡ true → IsScopedStmt scope s
+  stmt_scoped : (a : Around) (scope : Scope) → Holds a.variables scope → (s : Stmt) → (act s).stands a ≡ true →
+      IsScopedStmt scope s
   stmt_scoped a scope seen (node.Eval e) h = expr_scoped a scope seen e h
   stmt_scoped a scope seen (node.Block vs is) h =
-      let q = two (all_declare (fold_items rules vs) a) (all_stand (fold_items rules is) (within (fold_items rules vs) a)) h in
-      let t = declared_heads a vs q.0 in
-      (heads_scoped scope vs t, items_scoped (within (fold_items rules vs) a) (scope_after vs scope) (heads_hold a.variables scope vs t seen) is q.1)
+      let q = two (all_declare (fold_items rules vs) a)
+      (all_stand (fold_items rules is) (within (fold_items rules vs) a)) h in
+      let t = declared_heads a vs q.0 in (
+        heads_scoped scope vs t,
+        items_scoped (within (fold_items rules vs) a) (scope_after vs scope) (heads_hold a.variables scope vs t seen) is
+            q.1,
+      )
   stmt_scoped a scope seen (node.If e s) h =
       let q = two ((part e).stands a) ((act s).stands a) h in
       (expr_scoped a scope seen e q.0, stmt_scoped a scope seen s q.1)
@@ -234,23 +264,29 @@ mutual
   stmt_scoped a scope seen (node.ReturnValue e) h = expr_scoped a scope seen e h
   stmt_scoped a scope seen _ h = tt
 
-  items_scoped : (a : Around) (scope : Scope) → Holds a.variables scope → (is : Items) → all_stand (fold_items rules is) a ≡ true → AreScopedItems scope is
+  items_scoped : (a : Around) (scope : Scope) → Holds a.variables scope → (is : Items) →
+      all_stand (fold_items rules is) a ≡ true → AreScopedItems scope is
   items_scoped a scope seen node.NoItem h = tt
   items_scoped a scope seen (node.Item s is) h =
-      let q = two ((act s).stands a) (all_stand (fold_items rules is) a) h in
-      (stmt_scoped a scope seen s q.0, subst (λ (x : Scope). AreScopedItems x is) (sym (same_scope a scope s q.0)) (items_scoped a scope seen is q.1))
+      let q = two ((act s).stands a) (all_stand (fold_items rules is) a) h in (
+        stmt_scoped a scope seen s q.0,
+        subst (λ (x : Scope). AreScopedItems x is) (sym (same_scope a scope s q.0)) (items_scoped a scope seen is q.1),
+      )
 
-  labelled_scoped : (a : Around) (scope : Scope) → Holds a.variables scope → (is : Items) → all_items (fold_items rules is) a ≡ true → AreScopedItems scope is
+  labelled_scoped : (a : Around) (scope : Scope) → Holds a.variables scope → (is : Items) →
+      all_items (fold_items rules is) a ≡ true → AreScopedItems scope is
   labelled_scoped a scope seen node.NoItem h = tt
   labelled_scoped a scope seen (node.Item s is) h =
       let q = two (is_label (act s) || (act s).stands a) (all_items (fold_items rules is) a) h in (
         label_or a scope s q.0 (λ k. stmt_scoped a scope seen s k),
-        subst (λ (x : Scope). AreScopedItems x is) (sym (label_same a scope s q.0)) (labelled_scoped a scope seen is q.1),
+        subst (λ (x : Scope). AreScopedItems x is) (sym (label_same a scope s q.0))
+            (labelled_scoped a scope seen is q.1),
       )
 
 -- ---- functions
 
-by_body : (a : Around) → Holds a.variables no_scope → (s : Stmt) (n : ℕ) → (act s).is_body n a ≡ true → IsScopedStmt no_scope s
+by_body : (a : Around) → Holds a.variables no_scope → (s : Stmt) (n : ℕ) → (act s).is_body n a ≡ true →
+    IsScopedStmt no_scope s
 by_body a seen (node.Block vs is) n h =
     let heads : Bool = all_declare (drop n (fold_items rules vs)) a in
     let rest : Bool = all_stand (fold_items rules is) (within (fold_items rules vs) a) in
@@ -258,9 +294,13 @@ by_body a seen (node.Block vs is) n h =
     let many : Bool = nat_le n (length (fold_items rules vs)) in
     let q = two (many && first && heads) rest h in
     let r = two (many && first) heads q.0 in
-    let t = body_heads a vs n 0 (second_true many first r.0) r.1 in
-    (heads_scoped no_scope vs t, items_scoped (within (fold_items rules vs) a) (scope_after vs no_scope) (heads_hold a.variables no_scope vs t seen) is q.1)
+    let t = body_heads a vs n 0 (second_true many first r.0) r.1 in (
+      heads_scoped no_scope vs t,
+      items_scoped (within (fold_items rules vs) a) (scope_after vs no_scope)
+          (heads_hold a.variables no_scope vs t seen) is q.1,
+    )
 by_body a seen _ n h = absurd cc
 
-pub body_scoped : (p : node.Program) (ticks : List (List CaptureKind)) (f : node.Function) → IsFunction p ticks f → IsScopedStmt no_scope f.body
+pub body_scoped : (p : node.Program) (ticks : List (List CaptureKind)) (f : node.Function) → IsFunction p ticks f →
+    IsScopedStmt no_scope f.body
 body_scoped p ticks f h = by_body (round_function p ticks f) (λ i e. absurd cc) f.body f.parameters h.stands

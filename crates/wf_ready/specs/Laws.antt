@@ -7,9 +7,13 @@ use Rattle.wellformed.specs.Program.{IsFunction, IsTick}
 use Rattle.wf_ready.specs.Calls.{HasCallsStmt, HasCallsBody}
 
 abbrev pub FunctionsAreReady : Type 0
-FunctionsAreReady = (p : Program) (ticks : List (List CaptureKind)) (f : Function) → IsFunction p ticks f → IsBuiltStmt f.body → IsReady f
+FunctionsAreReady = (p : Program) (ticks : List (List CaptureKind)) (f : Function) → IsFunction p ticks f →
+    IsBuiltStmt f.body → IsReady f
 
--- a static call in a function, or in a tick, has as many arguments as its function has parameters, and no call has more than 8
+-- a static call in a function, or in a tick, has as many arguments as its function has parameters, and no call has more
+-- than 8
 pub record CallsAreCounted : Type 0 where
-  pub functions : (p : Program) (ticks : List (List CaptureKind)) (f : Function) → IsFunction p ticks f → HasCallsStmt p.functions f.body
-  pub ticks : (p : Program) (ticks : List (List CaptureKind)) (t : TickBody) (kinds : List CaptureKind) → IsTick p ticks t kinds → HasCallsBody p.functions t
+  pub functions : (p : Program) (ticks : List (List CaptureKind)) (f : Function) → IsFunction p ticks f →
+      HasCallsStmt p.functions f.body
+  pub ticks : (p : Program) (ticks : List (List CaptureKind)) (t : TickBody) (kinds : List CaptureKind) →
+      IsTick p ticks t kinds → HasCallsBody p.functions t

@@ -1,5 +1,6 @@
 -- Where the parts of a node stand right, the node does; one law a node.
-use Rattle.std.proofs.Common.{◌≡◌, ℕ, ◌%◌, ◌==◌, Bool, true, false, ◌&&◌, nat_le, if◌then◌else◌, refl, ap, subst, ◌∙◌, List, [], ◌∷◌, length, map, Option, Some, None, Ok}
+use Rattle.std.proofs.Common.{◌≡◌, ℕ, ◌%◌, ◌==◌, Bool, true, false, ◌&&◌, nat_le, if◌then◌else◌, refl, ap, subst, ◌∙◌}
+use Rattle.std.proofs.Common.{List, [], ◌∷◌, length, map, Option, Some, None, Ok}
 use Rattle.std.proofs.lemmas.List.{length-map}
 use Rattle.word32.specs.declared.width.Width.{Width}
 use Rattle.icode_ops.specs.declared.kind.BinKind.{BinKind}
@@ -11,8 +12,12 @@ use Rattle.typed_tree.specs.declared.expression.Library.{Library}
 use Rattle.typed_tree.specs.declared.expression.Expr.{Expr}
 use Rattle.typed_tree.specs.declared.expression.Expr.TheVariants as ex
 use Rattle.check_operators.specs.Operands.{by}
-use Rattle.wellformed.specs.Places.{Around, Part, part, in_scope, in_function, captured, is_variable, is_called, are_few, each_stands}
-use Rattle.wellformed.proofs.Equations.{part_const, part_var, part_setvar, part_postvar, part_vget, part_vset, part_vpost, part_frame, part_load, part_store, part_modify, part_post, part_bin, part_un, part_and, part_or, part_cond, part_comma, part_void, part_call, part_callnumber, part_getchar, part_lib, part_compile, part_local, part_paramof}
+use Rattle.wellformed.specs.Places.{Around, Part, part, in_scope, in_function, captured, is_variable, is_called}
+use Rattle.wellformed.specs.Places.{are_few, each_stands}
+use Rattle.wellformed.proofs.Equations.{part_const, part_var, part_setvar, part_postvar, part_vget, part_vset}
+use Rattle.wellformed.proofs.Equations.{part_vpost, part_frame, part_load, part_store, part_modify, part_post, part_bin}
+use Rattle.wellformed.proofs.Equations.{part_un, part_and, part_or, part_cond, part_comma, part_void, part_call}
+use Rattle.wellformed.proofs.Equations.{part_callnumber, part_getchar, part_lib, part_compile, part_local, part_paramof}
 use Rattle.wellformed.proofs.Bools.{and_true}
 use Rattle.wf_scopes.specs.Right.{Stands, Unless, EachStands}
 
@@ -34,16 +39,19 @@ post_variable_stands a i w n h = along a _ _ (part_postvar i w n) h
 pub generated_stands : (a : Around) (i : ℕ) → captured is_variable i a ≡ true → Stands a (ex.VGet i)
 generated_stands a i h = along a _ _ (part_vget i) h
 
-pub set_generated_stands : (a : Around) (i : ℕ) (e : Expr) → captured is_variable i a ≡ true → Stands a e → Stands a (ex.VSet i e)
+pub set_generated_stands : (a : Around) (i : ℕ) (e : Expr) → captured is_variable i a ≡ true → Stands a e →
+    Stands a (ex.VSet i e)
 set_generated_stands a i e h k = along a _ _ (part_vset i e) (and_true _ _ h k)
 
 pub post_generated_stands : (a : Around) (i n : ℕ) → captured is_variable i a ≡ true → Stands a (ex.VPost i n)
 post_generated_stands a i n h = along a _ _ (part_vpost i n) h
 
-pub frame_stands : (a : Around) (off : ℕ) → in_function a ≡ true → nat_le off a.object ≡ true → (off % 4 == 0) ≡ true → Stands a (ex.Frame off)
+pub frame_stands : (a : Around) (off : ℕ) → in_function a ≡ true → nat_le off a.object ≡ true → (off % 4 == 0) ≡ true →
+    Stands a (ex.Frame off)
 frame_stands a off f h k =
     along a _ _ (part_frame off)
-    (and_true (in_function a && nat_le off a.object) (off % 4 == 0) (and_true (in_function a) (nat_le off a.object) f h) k)
+    (and_true (in_function a && nat_le off a.object) (off % 4 == 0) (and_true (in_function a) (nat_le off a.object) f h)
+    k)
 
 pub load_stands : (a : Around) (w : Width) (e : Expr) → Stands a e → Stands a (ex.Load w e)
 load_stands a w e h = along a _ _ (part_load w e) h
@@ -51,7 +59,8 @@ load_stands a w e h = along a _ _ (part_load w e) h
 pub store_stands : (a : Around) (w : Width) (x y : Expr) → Stands a x → Stands a y → Stands a (ex.Store w x y)
 store_stands a w x y h k = along a _ _ (part_store w x y) (and_true _ _ h k)
 
-pub modify_stands : (a : Around) (w : Width) (b : BinKind) (x y : Expr) → Stands a x → Stands a y → Stands a (ex.Modify w b x y)
+pub modify_stands : (a : Around) (w : Width) (b : BinKind) (x y : Expr) → Stands a x → Stands a y →
+    Stands a (ex.Modify w b x y)
 modify_stands a w b x y h k = along a _ _ (part_modify w b x y) (and_true _ _ h k)
 
 pub post_stands : (a : Around) (w : Width) (n : ℕ) (e : Expr) → Stands a e → Stands a (ex.Post w n e)
@@ -96,14 +105,17 @@ each_true a (e ∷ es) h = and_true _ _ h.0 (each_true a es h.1)
 as_many : (es : List Expr) → length (map part es) ≡ length es
 as_many es = length-map es part
 
-pub call_stands : (a : Around) (r : Answer) (f : ℕ) (es : List Expr) → is_called f (length es) a ≡ true → EachStands a es → Stands a (ex.Call r f es)
+pub call_stands : (a : Around) (r : Answer) (f : ℕ) (es : List Expr) → is_called f (length es) a ≡ true →
+    EachStands a es → Stands a (ex.Call r f es)
 call_stands a r f es h k =
     along a _ _ (part_call r f es) (and_true _ _ (ap (λ (n : ℕ). is_called f n a) (as_many es) ∙ h) (each_true a es k))
 
-pub call_number_stands : (a : Around) (r : Answer) (e : Expr) (es : List Expr) → Stands a e → are_few (length es) ≡ true → EachStands a es → Stands a (ex.CallNumber r e es)
+pub call_number_stands : (a : Around) (r : Answer) (e : Expr) (es : List Expr) → Stands a e →
+    are_few (length es) ≡ true → EachStands a es → Stands a (ex.CallNumber r e es)
 call_number_stands a r e es h few k =
     along a _ _ (part_callnumber r e es)
-    (and_true ((part e).stands a && are_few (length (map part es))) _ (and_true _ _ h (ap are_few (as_many es) ∙ few)) (each_true a es k))
+    (and_true ((part e).stands a && are_few (length (map part es))) _ (and_true _ _ h (ap are_few (as_many es) ∙ few))
+    (each_true a es k))
 
 pub getchar_stands : (a : Around) → Stands a ex.Getchar
 getchar_stands a = along a _ _ part_getchar refl
@@ -118,11 +130,13 @@ unless_by P line None x h = h
 unless_by P line (Some k) x h = tt
 
 -- where it isn't broken
-pub unless_none : {A : Type 0} (P : A → Type 0) (line : ℕ) (k : Option FaultKind) (x : A) → (k ≡ None → P x) → Unless P (by line k x)
+pub unless_none : {A : Type 0} (P : A → Type 0) (line : ℕ) (k : Option FaultKind) (x : A) → (k ≡ None → P x) →
+    Unless P (by line k x)
 unless_none P line None x h = h refl
 unless_none P line (Some k) x h = tt
 
-pub unless_if : {A : Type 0} (P : A → Type 0) (b : Bool) (r s : Checked A) → Unless P r → Unless P s → Unless P (if b then r else s)
+pub unless_if : {A : Type 0} (P : A → Type 0) (b : Bool) (r s : Checked A) → Unless P r → Unless P s →
+    Unless P (if b then r else s)
 unless_if P true r s h k = h
 unless_if P false r s h k = k
 

@@ -11,12 +11,15 @@ use Rattle.check_operators.specs.declared.operand.Operand.{Operand}
 use Rattle.check_operators.specs.declared.operand.Place.{Place}
 use Rattle.check_operators.specs.declared.operand.Place.TheVariants as place
 use Rattle.check_operators.specs.declared.operand.Value.{Value}
-use Rattle.check_operators.specs.Operands.{code_of, value_of, as_operand, settled, converted, converted_by, number, character, string, size_by, condition, switched, plus, on_integer, dereferenced, negated, cast}
+use Rattle.check_operators.specs.Operands.{code_of, value_of, as_operand, settled, converted, converted_by, number}
+use Rattle.check_operators.specs.Operands.{character, string, size_by, condition, switched, plus, on_integer}
+use Rattle.check_operators.specs.Operands.{dereferenced, negated, cast}
 use Rattle.check_operators.specs.Stages as stages
 use Rattle.wellformed.specs.Places.{Around, in_function}
 use Rattle.wf_scopes.specs.Right.{Stands, RightPlace, IsRight, Unless}
 use Rattle.wf_scopes.specs.Laws.{OperandsStand, PrefixesStand, StagesStand}
-use Rattle.wf_scopes.proofs.Nodes.{const_stands, var_stands, generated_stands, load_stands, un_stands, void_stands, compile_stands, local_stands, parameter_stands, unless_by, unless_if}
+use Rattle.wf_scopes.proofs.Nodes.{const_stands, var_stands, generated_stands, load_stands, un_stands, void_stands}
+use Rattle.wf_scopes.proofs.Nodes.{compile_stands, local_stands, parameter_stands, unless_by, unless_if}
 
 memory_stands : (a : Around) (b : Bool) (w : Width) (e : Expr) → Stands a e → Stands a (if b then e else ex.Load w e)
 memory_stands a true w e h = h
@@ -88,7 +91,8 @@ plus_stands : (a : Around) (line : ℕ) (v : Value) → Stands a v.code → Unle
 unfolding plus
 plus_stands a line v h = unless_by (IsRight a) line _ _ h
 
-on_integer_stands : (a : Around) (line : ℕ) (k : UnKind) (v : Value) → Stands a v.code → Unless (IsRight a) (on_integer line k v)
+on_integer_stands : (a : Around) (line : ℕ) (k : UnKind) (v : Value) → Stands a v.code →
+    Unless (IsRight a) (on_integer line k v)
 unfolding on_integer
 on_integer_stands a line k v h = unless_by (IsRight a) line _ _ (un_stands a k v.code h)
 
@@ -103,7 +107,8 @@ negated_stands a line v h = unless_by (IsRight a) line _ _ (un_stands a _ v.code
 cast_stands : (a : Around) (line : ℕ) (t : CType) (v : Value) → Stands a v.code → Unless (IsRight a) (cast line t v)
 unfolding cast
 cast_stands a line t v h =
-    unless_if (IsRight a) (is_void t) _ _ (void_stands a v.code h) (unless_by (IsRight a) line _ _ (converted_stands a v t h))
+    unless_if (IsRight a) (is_void t) _ _ (void_stands a v.code h)
+    (unless_by (IsRight a) line _ _ (converted_stands a v t h))
 
 pub prefixes_stand : PrefixesStand
 prefixes_stand = record {
@@ -116,19 +121,23 @@ prefixes_stand = record {
   cast = cast_stands;
 }
 
-compiling_stands : (a : Around) (line : ℕ) (t : CType) (v : Value) → in_function a ≡ true → Stands a v.code → Unless (IsRight a) (stages.compile line t v)
+compiling_stands : (a : Around) (line : ℕ) (t : CType) (v : Value) → in_function a ≡ true → Stands a v.code →
+    Unless (IsRight a) (stages.compile line t v)
 unfolding stages.compile
 compiling_stands a line t v h k = unless_by (IsRight a) line _ _ (compile_stands a v.code h k)
 
-making_local_stands : (a : Around) (line : ℕ) (t : CType) → in_function a ≡ true → Unless (IsRight a) (stages.local line t)
+making_local_stands : (a : Around) (line : ℕ) (t : CType) → in_function a ≡ true →
+    Unless (IsRight a) (stages.local line t)
 unfolding stages.local
 making_local_stands a line t h = unless_by (IsRight a) line _ _ (local_stands a h)
 
-making_parameter_stands : (a : Around) (line : ℕ) (t : CType) (v : Value) → in_function a ≡ true → Stands a v.code → Unless (IsRight a) (stages.parameter line t v)
+making_parameter_stands : (a : Around) (line : ℕ) (t : CType) (v : Value) → in_function a ≡ true → Stands a v.code →
+    Unless (IsRight a) (stages.parameter line t v)
 unfolding stages.parameter
 making_parameter_stands a line t v h k = unless_by (IsRight a) line _ _ (parameter_stands a v.code h k)
 
-dollar_stands : (a : Around) (line : ℕ) (v : Value) → Stands a v.code → Unless (λ w. Stands a w.code) (stages.dollar line v)
+dollar_stands : (a : Around) (line : ℕ) (v : Value) → Stands a v.code →
+    Unless (λ w. Stands a w.code) (stages.dollar line v)
 unfolding stages.dollar
 dollar_stands a line v h = unless_by (λ (w : Value). Stands a w.code) line _ _ h
 

@@ -16,25 +16,32 @@ use Rattle.check_operators.specs.declared.operators.Combined.{Combined}
 use Rattle.check_operators.specs.declared.operators.Combined.TheVariants as by_form
 use Rattle.check_operators.specs.Operators.{combine, built}
 use Rattle.check_operators.specs.Operands.{converted}
-use Rattle.check_lvalues.specs.Places.{stored, assign, operator_of, narrowing_of, narrowed, kind_in, right_in, changed, modified, modify_by, modify, step_of, step_kind, stepped_by, stepped, amount, posted, post_by, post, address_of, address}
+use Rattle.check_lvalues.specs.Places.{stored, assign, operator_of, narrowing_of, narrowed, kind_in, right_in, changed}
+use Rattle.check_lvalues.specs.Places.{modified, modify_by, modify, step_of, step_kind, stepped_by, stepped, amount}
+use Rattle.check_lvalues.specs.Places.{posted, post_by, post, address_of, address}
 use Rattle.wellformed.specs.Places.{Around}
 use Rattle.wf_scopes.specs.Right.{Stands, RightPlace, IsRight, Unless}
 use Rattle.wf_scopes.specs.Laws.{PlacesStand}
-use Rattle.wf_scopes.proofs.Nodes.{const_stands, var_stands, set_stands, post_variable_stands, generated_stands, set_generated_stands, post_generated_stands, store_stands, modify_stands, post_stands, unless_by}
+use Rattle.wf_scopes.proofs.Nodes.{const_stands, var_stands, set_stands, post_variable_stands, generated_stands}
+use Rattle.wf_scopes.proofs.Nodes.{set_generated_stands, post_generated_stands, store_stands, modify_stands}
+use Rattle.wf_scopes.proofs.Nodes.{post_stands, unless_by}
 use Rattle.wf_scopes.proofs.Operands.{converted_by_stands, converted_stands}
 use Rattle.wf_scopes.proofs.Operators.{scaled_stands, built_stands}
 
-stored_stands : (a : Around) (p : Place) (t : CType) (e : Expr) → RightPlace a p t → Stands a e → Stands a (stored p t e)
+stored_stands : (a : Around) (p : Place) (t : CType) (e : Expr) → RightPlace a p t → Stands a e →
+    Stands a (stored p t e)
 stored_stands a (place.Value x) t e h k = k
 stored_stands a (place.Register i) t e h k = set_stands a i e h k
 stored_stands a (place.Generated i) t e h k = set_generated_stands a i e h k
 stored_stands a (place.Memory x) t e h k = store_stands a (width_of t) x e h k
 stored_stands a (place.Function f) t e h k = k
 
-assign_stands : (a : Around) (line : ℕ) (o : Operand) (v : Value) → IsRight a o → Stands a v.code → Unless (IsRight a) (assign line o v)
+assign_stands : (a : Around) (line : ℕ) (o : Operand) (v : Value) → IsRight a o → Stands a v.code →
+    Unless (IsRight a) (assign line o v)
 unfolding assign
 assign_stands a line o v h k =
-    unless_by (IsRight a) line _ _ (stored_stands a o.place o.ctype (converted v o.ctype) h (converted_stands a v o.ctype k))
+    unless_by (IsRight a) line _ _
+    (stored_stands a o.place o.ctype (converted v o.ctype) h (converted_stands a v o.ctype k))
 
 narrowing_stands : (a : Around) (k : Option Integer) (e : Expr) → Stands a e → Stands a (narrowing_of k e)
 narrowing_stands a None e h = h
@@ -49,31 +56,40 @@ right_stands a (by_form.ScaledRight k n) e h = scaled_stands a e n h
 right_stands a (by_form.ScaledLeft n) e h = h
 right_stands a (by_form.Divided n) e h = h
 
-changed_stands : (a : Around) (c : Combined) (p : Place) (t : CType) (e : Expr) → RightPlace a p t → Stands a e → Stands a (changed c p t e)
+changed_stands : (a : Around) (c : Combined) (p : Place) (t : CType) (e : Expr) → RightPlace a p t → Stands a e →
+    Stands a (changed c p t e)
 changed_stands a c (place.Value x) t e h k = k
 changed_stands a c (place.Register i) t e h k =
     set_stands a i _ h (narrowed_stands a t (built c (ex.Var i) e) (built_stands a c (ex.Var i) e (var_stands a i h) k))
 changed_stands a c (place.Generated i) t e h k =
     set_generated_stands a i _ h (built_stands a c (ex.VGet i) e (generated_stands a i h) k)
-changed_stands a c (place.Memory x) t e h k = modify_stands a (width_of t) (kind_in c) x (right_in c e) h (right_stands a c e k)
+changed_stands a c (place.Memory x) t e h k =
+    modify_stands a (width_of t) (kind_in c) x (right_in c e) h (right_stands a c e k)
 changed_stands a c (place.Function f) t e h k = k
 
-modified_stands : (a : Around) (line : ℕ) (c : Combined) (o : Operand) (e : Expr) → IsRight a o → Stands a e → Unless (IsRight a) (modified line c o e)
+modified_stands : (a : Around) (line : ℕ) (c : Combined) (o : Operand) (e : Expr) → IsRight a o → Stands a e →
+    Unless (IsRight a) (modified line c o e)
 modified_stands a line c o e h k = unless_by (IsRight a) line _ _ (changed_stands a c o.place o.ctype e h k)
 
-modify_by_stands : (a : Around) (line : ℕ) (o : Operand) (v : Value) (c : Option Combined) → IsRight a o → Stands a v.code → Unless (IsRight a) (modify_by line o v c)
+modify_by_stands : (a : Around) (line : ℕ) (o : Operand) (v : Value) (c : Option Combined) → IsRight a o →
+    Stands a v.code → Unless (IsRight a) (modify_by line o v c)
 modify_by_stands a line o v None h k = tt
 modify_by_stands a line o v (Some c) h k = modified_stands a line c o v.code h k
 
-changing_stands : (a : Around) (line : ℕ) (m : ModifyOp) (o : Operand) (v : Value) → IsRight a o → Stands a v.code → Unless (IsRight a) (modify line m o v)
+changing_stands : (a : Around) (line : ℕ) (m : ModifyOp) (o : Operand) (v : Value) → IsRight a o → Stands a v.code →
+    Unless (IsRight a) (modify line m o v)
 unfolding modify
-changing_stands a line m o v h k = modify_by_stands a line o v (combine (operator_of m) o.ctype false v.ctype v.zero) h k
+changing_stands a line m o v h k =
+    modify_by_stands a line o v (combine (operator_of m) o.ctype false v.ctype v.zero) h k
 
-stepped_by_stands : (a : Around) (line : ℕ) (s : StepOp) (o : Operand) (n : Option ℕ) → IsRight a o → Unless (IsRight a) (stepped_by line s o n)
+stepped_by_stands : (a : Around) (line : ℕ) (s : StepOp) (o : Operand) (n : Option ℕ) → IsRight a o →
+    Unless (IsRight a) (stepped_by line s o n)
 stepped_by_stands a line s o None h = tt
-stepped_by_stands a line s o (Some n) h = modified_stands a line (by_form.Words (step_kind s) kind.Int) o (ex.Const n) h (const_stands a n)
+stepped_by_stands a line s o (Some n) h =
+    modified_stands a line (by_form.Words (step_kind s) kind.Int) o (ex.Const n) h (const_stands a n)
 
-stepped_stands : (a : Around) (line : ℕ) (s : StepOp) (o : Operand) → IsRight a o → Unless (IsRight a) (stepped line s o)
+stepped_stands : (a : Around) (line : ℕ) (s : StepOp) (o : Operand) → IsRight a o →
+    Unless (IsRight a) (stepped line s o)
 unfolding stepped
 stepped_stands a line s o h = stepped_by_stands a line s o (step_of o.ctype) h
 
@@ -84,7 +100,8 @@ posted_stands a (place.Generated i) t n h = post_generated_stands a i n h
 posted_stands a (place.Memory x) t n h = post_stands a (width_of t) n x h
 posted_stands a (place.Function f) t n h = const_stands a f
 
-post_by_stands : (a : Around) (line : ℕ) (s : StepOp) (o : Operand) (n : Option ℕ) → IsRight a o → Unless (IsRight a) (post_by line s o n)
+post_by_stands : (a : Around) (line : ℕ) (s : StepOp) (o : Operand) (n : Option ℕ) → IsRight a o →
+    Unless (IsRight a) (post_by line s o n)
 post_by_stands a line s o None h = tt
 post_by_stands a line s o (Some n) h = unless_by (IsRight a) line _ _ (posted_stands a o.place o.ctype (amount s n) h)
 
@@ -92,7 +109,8 @@ posting_stands : (a : Around) (line : ℕ) (s : StepOp) (o : Operand) → IsRigh
 unfolding post
 posting_stands a line s o h = post_by_stands a line s o (step_of o.ctype) h
 
-address_of_stands : (a : Around) (line : ℕ) (p : Place) (t : CType) → RightPlace a p t → Unless (IsRight a) (address_of line p t)
+address_of_stands : (a : Around) (line : ℕ) (p : Place) (t : CType) → RightPlace a p t →
+    Unless (IsRight a) (address_of line p t)
 address_of_stands a line (place.Value e) t h = tt
 address_of_stands a line (place.Register i) t h = tt
 address_of_stands a line (place.Generated i) t h = tt

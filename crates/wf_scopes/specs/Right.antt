@@ -1,5 +1,6 @@
 -- What stands right: an expression, and an operand, whose place names what is there.
-use Rattle.std.specs.Prelude.{◌≡◌, ℕ, ◌-◌, true, false, nat_le, List, [], ◌∷◌, length, slice_get, Option, Some, None, Ok, Err}
+use Rattle.std.specs.Prelude.{◌≡◌, ℕ, ◌-◌, true, false, nat_le, List, [], ◌∷◌, length, slice_get, Option, Some, None}
+use Rattle.std.specs.Prelude.{Ok, Err}
 use Rattle.c_types.specs.declared.ctype.CType.{CType}
 use Rattle.c_types.specs.declared.ctype.Layer.{Layer, out-Layer}
 use Rattle.c_types.specs.declared.ctype.Layer.TheOpen.{Layer-F}
@@ -30,7 +31,8 @@ listed_by (Some l) = listed_at (out-Layer l)
 abbrev pub listed : CType → Option ℕ
 listed t = listed_by (outermost (layers_of t))
 
--- where the functions of the program have so many parameters, the one of this number has as many as the list of this type; a type
+-- where the functions of the program have so many parameters, the one of this number has as many as the list of this
+-- type; a type
 -- that takes any arguments is none of a function of the program
 pub record HasType (counts : List ℕ) (f : ℕ) (t : CType) : Type 0 where
   pub first : nat_le 1 f ≡ true

@@ -36,7 +36,8 @@ use Rattle.wf_statements.specs.Laws.{declares_one}
 use Rattle.wf_statements.specs.Parts.{GoodType, Begun, Nothing, Effect, GoodBegin}
 use Rattle.wf_statements.proofs.Growing.{keeps_grows, grows_more}
 use Rattle.wf_statements.proofs.Nodes.{expr_counts, expr_unlabelled}
-use Rattle.wf_statements.proofs.Making.{Made, made_kept, made_behind, made_before, made_more, made_as, labelled_more, labelled_none, labelled_one, each_append}
+use Rattle.wf_statements.proofs.Making.{Made, made_kept, made_behind, made_before, made_more, made_as, labelled_more}
+use Rattle.wf_statements.proofs.Making.{labelled_none, labelled_one, each_append}
 use Rattle.wf_statements.proofs.Locals.{local_made, local_labels}
 use Rattle.wf_statements.proofs.Runs.{gave, followed, judged}
 use Rattle.wf_statements.proofs.Makes.{Makes, makes_of}
@@ -54,7 +55,8 @@ nothing_good many a p = record {
   keeps = pure_keeps a.stage [];
   begun = λ s new xs e. Nothing (sym (pure_value [] xs s new e));
   does = λ b ks s new xs known e.
-      plain_did_by (λ r. Good (place_of a r) p → ItemsStand a (place_of a r) xs) (plain_same a.stage (pure_same [] xs s new e)) known
+      plain_did_by (λ r. Good (place_of a r) p → ItemsStand a (place_of a r) xs)
+      (plain_same a.stage (pure_same [] xs s new e)) known
       (λ r ag h. subst (λ ys. ItemsStand a (place_of a r) ys) (pure_value [] xs s new e) tt);
 }
 
@@ -64,26 +66,34 @@ record Assigned (line : ℕ) (p o : Operand) (xs : List Stmt) : Type 0 where
   gives : places.assign line p (value_of o) ≡ Ok value
   is : st.Eval (effect value) ∷ [] ≡ xs
 
-assigned_by : (b : Bool) (k : FaultKind) (line : ℕ) (p o : Operand) (xs : List Stmt) → (if b then refuse k line else (places.assign line p (value_of o) >>>= (λ r. Ok (st.Eval (effect r) ∷ [])))) ≡ Ok xs → Assigned line p o xs
+assigned_by : (b : Bool) (k : FaultKind) (line : ℕ) (p o : Operand) (xs : List Stmt) →
+    (if b then refuse k line else (places.assign line p (value_of o) >>>= (λ r. Ok (st.Eval (effect r) ∷ [])))) ≡ Ok xs →
+    Assigned line p o xs
 assigned_by true k line p o xs e = cc
 assigned_by false k line p o xs e =
     let g = gave (places.assign line p (value_of o)) (λ r. st.Eval (effect r) ∷ []) xs e in
     record { value = g.value; gives = g.gives; is = g.is }
 
-assigned : (line : ℕ) (p : Operand) (string : Bool) (o : Operand) (xs : List Stmt) → from_value line p string o ≡ Ok xs → Assigned line p o xs
+assigned : (line : ℕ) (p : Operand) (string : Bool) (o : Operand) (xs : List Stmt) →
+    from_value line p string o ≡ Ok xs → Assigned line p o xs
 unfolding from_value initialized
-assigned line p string o xs e = assigned_by (initializers.is_array p.ctype) (initializers.array_breaks string (value_of o) p.ctype) line p o xs e
+assigned line p string o xs e =
+    assigned_by (initializers.is_array p.ctype) (initializers.array_breaks string (value_of o) p.ctype) line p o xs e
 
-assigned_good : (r : Around) (line : ℕ) (p o x : Operand) → Good r p → Good r o → places.assign line p (value_of o) ≡ Ok x → Good r x
+assigned_good : (r : Around) (line : ℕ) (p o x : Operand) → Good r p → Good r o →
+    places.assign line p (value_of o) ≡ Ok x → Good r x
 assigned_good r line p o x h k g =
     let v = good_value r o k in (
-      unless_ok (IsRight r) (places.assign line p (value_of o)) x g (places_stand.assign r line p (value_of o) h.0 v.stands),
+      unless_ok (IsRight r) (places.assign line p (value_of o)) x g
+          (places_stand.assign r line p (value_of o) h.0 v.stands),
       unless_used IsUsed (places.assign line p (value_of o)) x g (places_use.assign line p (value_of o) h.1 v.used),
     )
 
-pub value_good : (many : List ℕ) (a : Standing) (line : ℕ) (p : Operand) (n : Node) (string : Bool) → GoodNode many n → GoodBegin many a p (n.walk a.stage >>= (λ o. lift (from_value line p string o)))
+pub value_good : (many : List ℕ) (a : Standing) (line : ℕ) (p : Operand) (n : Node) (string : Bool) → GoodNode many n →
+    GoodBegin many a p (n.walk a.stage >>= (λ o. lift (from_value line p string o)))
 value_good many a line p n string h = record {
-  keeps = bind_keeps a.stage (n.walk a.stage) (λ o. lift (from_value line p string o)) (h.keeps a.stage) (λ o. lift_keeps a.stage (from_value line p string o));
+  keeps = bind_keeps a.stage (n.walk a.stage) (λ o. lift (from_value line p string o)) (h.keeps a.stage)
+      (λ o. lift_keeps a.stage (from_value line p string o));
   begun = λ s new xs e.
       let j = judged (n.walk a.stage) (λ o. from_value line p string o) s xs new e in
       let w = assigned line p string j.value xs j.gives in
@@ -91,13 +101,17 @@ value_good many a line p n string h = record {
   does = λ b ks s new xs known e.
       let j = judged (n.walk a.stage) (λ o. from_value line p string o) s xs new e in
       let w = assigned line p string j.value xs j.gives in
-      did_so (λ r. Good (place_of a r) j.value) (λ r. Good (place_of a r) p → ItemsStand a (place_of a r) xs) (node_did h a known j.walk)
+      did_so (λ r. Good (place_of a r) j.value) (λ r. Good (place_of a r) p → ItemsStand a (place_of a r) xs)
+      (node_did h a known j.walk)
       (λ ms r ag k q. subst (λ ys. ItemsStand a (place_of a r) ys) w.is
-      (stood_one a (place_of a r) (st.Eval (effect w.value)) (expr_stood (place_of a r) (effect w.value) (good_effect (place_of a r) w.value (assigned_good (place_of a r) line p j.value w.value q k w.gives)))));
+      (stood_one a (place_of a r) (st.Eval (effect w.value))
+      (expr_stood (place_of a r) (effect w.value)
+      (good_effect (place_of a r) w.value (assigned_good (place_of a r) line p j.value w.value q k w.gives)))));
 }
 
 -- a list, which no variable takes
-pub list_refused : {A : Type 0} (line : ℕ) (row sized : Bool) (step : Rule State (Option FaultKind)) (s new : State) (xs : List Stmt) → (step >>= (λ broken. lift (initializers.from_list line row sized broken))) s ≡ Ok (xs, new) → A
+pub list_refused : {A : Type 0} (line : ℕ) (row sized : Bool) (step : Rule State (Option FaultKind)) (s new : State)
+    (xs : List Stmt) → (step >>= (λ broken. lift (initializers.from_list line row sized broken))) s ≡ Ok (xs, new) → A
 list_refused line row sized step s new xs e =
     let j = judged step (λ broken. initializers.from_list line row sized broken) s xs new e in
     never (initializers.list_breaks row sized j.value) line xs j.gives
@@ -105,7 +119,9 @@ list_refused line row sized step s new xs e =
     never : {A : Type 0} (k : FaultKind) (line : ℕ) (xs : List Stmt) → refuse k line ≡ Ok xs → A
     never k line xs e = cc
 
-pub list_good : (many : List ℕ) (a : Standing) (line : ℕ) (p : Operand) (row sized : Bool) (step : Rule State (Option FaultKind)) → GoodBegin many a p (step >>= (λ broken. lift (initializers.from_list line row sized broken)))
+pub list_good : (many : List ℕ) (a : Standing) (line : ℕ) (p : Operand) (row sized : Bool)
+    (step : Rule State (Option FaultKind)) →
+    GoodBegin many a p (step >>= (λ broken. lift (initializers.from_list line row sized broken)))
 list_good many a line p row sized step = record {
   keeps = λ s new xs e. list_refused line row sized step s new xs e;
   begun = λ s new xs e. list_refused line row sized step s new xs e;
@@ -114,7 +130,8 @@ list_good many a line p row sized step = record {
 
 -- ---- a declarator
 
-begun_made : (g : Stage) (direct : Bool) (s new : State) (xs : List Stmt) → Made g s new [] → new.labels ≡ s.labels → Begun xs → Makes g direct s new xs
+begun_made : (g : Stage) (direct : Bool) (s new : State) (xs : List Stmt) → Made g s new [] → new.labels ≡ s.labels →
+    Begun xs → Makes g direct s new xs
 begun_made g direct s new xs m l (Nothing is) = record {
   made = subst (λ ys. Made g s new ys) (sym is) m;
   labelled = subst (λ ys. Labelled direct s new ys) (sym is) (labelled_none direct l);
@@ -124,7 +141,9 @@ begun_made g direct s new xs m l (Effect e is) = record {
   labelled = subst (λ ys. Labelled direct s new ys) (sym is) (labelled_one direct (st.Eval e) l (expr_unlabelled e));
 }
 
-pub declared_good : (many : List ℕ) (a : Standing) (line : ℕ) (name : Option (ℕ × Name)) (w : Rule State CType) (begin : Operand → Rule State (List Stmt)) → MayStand a.stage → GoodType a.stage w → ((p : Operand) → GoodBegin many a p (begin p))
+pub declared_good : (many : List ℕ) (a : Standing) (line : ℕ) (name : Option (ℕ × Name)) (w : Rule State CType)
+    (begin : Operand → Rule State (List Stmt)) → MayStand a.stage → GoodType a.stage w →
+    ((p : Operand) → GoodBegin many a p (begin p))
     → GoodStatement many a (declares_one a.stage line name w begin)
 declared_good many a line name w begin may hw hb = statement_good a (declares_one a.stage line name w begin)
     (λ s new xs e.
@@ -133,7 +152,9 @@ declared_good many a line name w begin may hw hb = statement_good a (declares_on
     let k = plain_keeps (hw s r.state r.value r.first).0 in
     let l = (hb q.value).keeps q.state new xs q.next in
     let m = local_made a.stage may line (declarations.name_by name) r.value r.state q.state q.value q.first in
-    begun_made a.stage a.is_direct s new xs (made_behind k (made_before m l)) (l.tables.labels ∙ local_labels a.stage may line (declarations.name_by name) r.value r.state q.state q.value q.first ∙ k.tables.labels)
+    begun_made a.stage a.is_direct s new xs (made_behind k (made_before m l))
+    (l.tables.labels ∙ local_labels a.stage may line (declarations.name_by name) r.value r.state q.state q.value
+    q.first ∙ k.tables.labels)
     ((hb q.value).begun q.state new xs q.next))
     (λ b ks s new xs here known e.
     let r = ran w (λ t. declarations.declare a.stage line name t >>= (λ p. begin p)) s xs new e in
@@ -144,11 +165,14 @@ declared_good many a line name w begin may hw hb = statement_good a (declares_on
     let m = local_made a.stage may line (declarations.name_by name) r.value r.state q.state q.value q.first in
     let d : Did many a.stage b ks s r.state (λ z. Unit {0}) = plain_did_by (λ z. Unit {0}) t.0 known (λ z ag. tt) in
     let f : Did many a.stage b (ks ++ d.more) r.state q.state (λ z. Good (place_of a z) q.value) =
-    did_placed a (λ z. Good (at a.stage z) q.value) (local_did a.stage b line (declarations.name_by name) r.value r.state q.state q.value here t.1 d.known q.first) in
+    did_placed a (λ z. Good (at a.stage z) q.value)
+    (local_did a.stage b line (declarations.name_by name) r.value r.state q.state q.value here t.1 d.known q.first) in
     let two = did_both (λ z. Unit {0}) (λ z. Good (place_of a z) q.value) k m.grows d f in
     let g = (hb q.value).does b (ks ++ two.more) q.state new xs two.known q.next in
-    did_so (λ z. (Unit {0} × Good (place_of a z) q.value) × (Good (place_of a z) q.value → ItemsStand a (place_of a z) xs)) (λ z. ItemsStand a (place_of a z) xs)
-    (did_both (λ z. Unit {0} × Good (place_of a z) q.value) (λ z. Good (place_of a z) q.value → ItemsStand a (place_of a z) xs) (grows_more k m.grows) l two g)
+    did_so (λ z. (Unit {0} × Good (place_of a z) q.value) ×
+    (Good (place_of a z) q.value → ItemsStand a (place_of a z) xs)) (λ z. ItemsStand a (place_of a z) xs)
+    (did_both (λ z. Unit {0} × Good (place_of a z) q.value)
+    (λ z. Good (place_of a z) q.value → ItemsStand a (place_of a z) xs) (grows_more k m.grows) l two g)
     (λ ms z ag p. p.1 p.0.1))
 
 -- ---- several declarators
@@ -160,12 +184,15 @@ none_good many a = statement_good a (pure [])
     let none = pure_value [] xs s new e in
     record {
       made = subst (λ zs. Made a.stage s new zs) none (made_kept (plain_keeps (plain_same a.stage same)));
-      labelled = subst (λ zs. Labelled a.is_direct s new zs) none (labelled_none a.is_direct (ap (λ z. z.labels) (sym same)));
+      labelled = subst (λ zs. Labelled a.is_direct s new zs) none
+          (labelled_none a.is_direct (ap (λ z. z.labels) (sym same)));
     })
     (λ b ks s new xs here known e.
-    plain_did_by (λ r. ItemsStand a (place_of a r) xs) (plain_same a.stage (pure_same [] xs s new e)) known (λ r ag. subst (λ ys. ItemsStand a (place_of a r) ys) (pure_value [] xs s new e) tt))
+    plain_did_by (λ r. ItemsStand a (place_of a r) xs) (plain_same a.stage (pure_same [] xs s new e)) known
+    (λ r ag. subst (λ ys. ItemsStand a (place_of a r) ys) (pure_value [] xs s new e) tt))
 
-pub more_good : (many : List ℕ) (a : Standing) (p q : Rule State (List Stmt)) → MayStand a.stage → GoodStatement many a p → GoodStatement many a q → GoodStatement many a (p >>= (λ xs. q >>= (λ ys. pure (xs ++ ys))))
+pub more_good : (many : List ℕ) (a : Standing) (p q : Rule State (List Stmt)) → MayStand a.stage →
+    GoodStatement many a p → GoodStatement many a q → GoodStatement many a (p >>= (λ xs. q >>= (λ ys. pure (xs ++ ys))))
 more_good many a p q may h k = statement_good a (p >>= (λ xs. q >>= (λ ys. pure (xs ++ ys))))
     (λ s new xs e.
     let r = ran p (λ ys. q >>= (λ zs. pure (ys ++ zs))) s xs new e in
@@ -181,6 +208,9 @@ more_good many a p q may h k = statement_good a (p >>= (λ xs. q >>= (λ ys. pur
     let f = followed q (λ zs. r.value ++ zs) r.state xs new r.next in
     let d = h.does b ks s r.state r.value here known r.first in
     let rest = k.does b (ks ++ d.more) r.state new f.value here d.known f.walk in
-    did_so (λ z. ItemsStand a (place_of a z) r.value × ItemsStand a (place_of a z) f.value) (λ z. ItemsStand a (place_of a z) xs)
-    (did_both (λ z. ItemsStand a (place_of a z) r.value) (λ z. ItemsStand a (place_of a z) f.value) (h.grows s r.state r.value r.first) (k.grows r.state new f.value f.walk) d rest)
-    (λ ms z ag w. subst (λ ys. ItemsStand a (place_of a z) ys) f.is (each_append (ItemStands a (place_of a z)) r.value f.value w.0 w.1)))
+    did_so (λ z. ItemsStand a (place_of a z) r.value × ItemsStand a (place_of a z) f.value)
+    (λ z. ItemsStand a (place_of a z) xs)
+    (did_both (λ z. ItemsStand a (place_of a z) r.value) (λ z. ItemsStand a (place_of a z) f.value)
+    (h.grows s r.state r.value r.first) (k.grows r.state new f.value f.walk) d rest)
+    (λ ms z ag w. subst (λ ys. ItemsStand a (place_of a z) ys) f.is
+    (each_append (ItemStands a (place_of a z)) r.value f.value w.0 w.1)))

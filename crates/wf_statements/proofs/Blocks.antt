@@ -1,5 +1,6 @@
 -- What a block makes of what its items make: it has a scope and variables of its own.
-use Rattle.std.proofs.Common.{◌≡◌, ◌+◌, ◌-◌, ◌≤◌, List, [], ◌∷◌, ◌++◌, length, take, refl, sym, ap, subst, ◌∙◌, length-append, arith}
+use Rattle.std.proofs.Common.{◌≡◌, ◌+◌, ◌-◌, ◌≤◌, List, [], ◌∷◌, ◌++◌, length, take, refl, sym, ap, subst, ◌∙◌}
+use Rattle.std.proofs.Common.{length-append, arith}
 use Rattle.std.proofs.Math.Seq.{take-append_seam}
 use Rattle.c_types.specs.Scopes.{Scopes}
 use Rattle.typed_tree.specs.declared.expression.Stmt.{Stmt}
@@ -33,8 +34,10 @@ scopes_back g s t p =
 
 stage_back : (g : Stage) (s t : State) → GrowsStage g (inside s) t → GrowsStage g s (back s t)
 stage_back stage.Function s t p = record { homes = p.homes; object = p.object; ticks = p.ticks }
-stage_back stage.Tick s t p = record { homes = p.homes; object = p.object; inner = p.inner; ticks = p.ticks; captures = p.captures }
-stage_back stage.Dollar s t p = record { homes = p.homes; object = p.object; inner = p.inner; ticks = p.ticks; captures = p.captures }
+stage_back stage.Tick s t p =
+    record { homes = p.homes; object = p.object; inner = p.inner; ticks = p.ticks; captures = p.captures }
+stage_back stage.Dollar s t p =
+    record { homes = p.homes; object = p.object; inner = p.inner; ticks = p.ticks; captures = p.captures }
 
 pub grows_back : (g : Stage) (s t : State) → Grows g (inside s) t → Grows g s (back s t)
 grows_back g s t p = record {
@@ -68,19 +71,47 @@ variables_back stage.Tick s t = refl
 variables_back stage.Dollar s t = refl
 
 -- a node that counts as the block's variables and items do
-pub counts_back : (g : Stage) (s t : State) (xs : List Stmt) (x : Stmt) → CountsAs x (t.frame.nodes ++ xs) → Counts g (inside s) t xs → Counts g s (back s t) (x ∷ [])
+pub counts_back : (g : Stage) (s t : State) (xs : List Stmt) (x : Stmt) → CountsAs x (t.frame.nodes ++ xs) →
+    Counts g (inside s) t xs → Counts g s (back s t) (x ∷ [])
 counts_back g s t xs x k c = record {
-  objects = λ byte. omega (arith, sum_one (objects_at byte) x, k.objects byte, objects_append byte t.frame.nodes xs, c.objects byte);
+  objects = λ byte. omega (
+    arith,
+    sum_one (objects_at byte) x,
+    k.objects byte,
+    objects_append byte t.frame.nodes xs,
+    c.objects byte,
+  );
   declarations = λ i.
-      subst (λ m. declarations_in i s.frame.nodes + declarations_in i (x ∷ []) ≤ declarations_in i s.frame.nodes + between m (variables g (back s t)) i) (variables_inside g s)
-      (subst (λ m. declarations_in i s.frame.nodes + declarations_in i (x ∷ []) ≤ declarations_in i s.frame.nodes + between (variables g (inside s)) m i) (sym (variables_back g s t))
-      (omega (arith, sum_one (declarations_of i) x, k.declarations i, declarations_append i t.frame.nodes xs, c.declarations i)));
-  sizes = omega (arith, sum_one statement_size x, k.size, sizes_append t.frame.nodes xs, c.sizes, variables_inside g s, variables_back g s t);
+      subst (λ m. declarations_in i s.frame.nodes + declarations_in i (x ∷ []) ≤ declarations_in i s.frame.nodes +
+      between m (variables g (back s t)) i) (variables_inside g s)
+      (subst (λ m. declarations_in i s.frame.nodes + declarations_in i (x ∷ []) ≤ declarations_in i s.frame.nodes +
+      between (variables g (inside s)) m i) (sym (variables_back g s t))
+      (omega (
+        arith,
+        sum_one (declarations_of i) x,
+        k.declarations i,
+        declarations_append i t.frame.nodes xs,
+        c.declarations i,
+      )));
+  sizes = omega (
+    arith,
+    sum_one statement_size x,
+    k.size,
+    sizes_append t.frame.nodes xs,
+    c.sizes,
+    variables_inside g s,
+    variables_back g s t,
+  );
 }
 
-pub made_back : (g : Stage) (s t : State) (xs : List Stmt) (x : Stmt) → CountsAs x (t.frame.nodes ++ xs) → Made g (inside s) t xs → Made g s (back s t) (x ∷ [])
+pub made_back : (g : Stage) (s t : State) (xs : List Stmt) (x : Stmt) → CountsAs x (t.frame.nodes ++ xs) →
+    Made g (inside s) t xs → Made g s (back s t) (x ∷ [])
 made_back g s t xs x k m = record {
   grows = grows_back g s t m.grows;
   counts = λ small. counts_back g s t xs x k (m.counts (small_inside g s t small));
-  declares = λ small h. record { aligned = (m.declares (small_inside g s t small) h).aligned; nodes = λ more. subst (λ ys. EachNode (DeclaresAt g t.frame.object) ys) (sym (no_rest refl more)) tt };
+  declares = λ small h. record {
+    aligned = (m.declares (small_inside g s t small) h).aligned;
+    nodes =
+        λ more. subst (λ ys. EachNode (DeclaresAt g t.frame.object) ys) (sym (no_rest refl more)) tt;
+  };
 }

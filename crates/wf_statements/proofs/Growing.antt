@@ -3,7 +3,8 @@ use Rattle.std.proofs.Common.{◌≡◌, ℕ, ◌≤◌, length, ap, ◌∙◌, 
 use Rattle.check_env.specs.declared.state.Stage.{Stage}
 use Rattle.check_env.specs.declared.state.Stage.TheVariants as stage
 use Rattle.check_env.specs.declared.state.State.{State}
-use Rattle.wf_invariant.specs.Kept.{Starts, KeepsTables, KeepsTick, KeepsStage, Keeps, outer, GrowsTables, GrowsFunction, GrowsTick, GrowsStage, Grows}
+use Rattle.wf_invariant.specs.Kept.{Starts, KeepsTables, KeepsTick, KeepsStage, Keeps, outer, GrowsTables}
+use Rattle.wf_invariant.specs.Kept.{GrowsFunction, GrowsTick, GrowsStage, Grows}
 use Rattle.wf_invariant.specs.Known.{Small, SmallTick, SmallInner}
 use Rattle.wf_invariant.specs.Counts.{variables}
 use Rattle.wf_types.proofs.Fronts.{starts_same, starts_more, starts_length}
@@ -44,14 +45,16 @@ stage_more stage.Tick s t new p q = tick_more p q
 stage_more stage.Dollar s t new p q = tick_more p q
 
 pub grows_more : {g : Stage} {s t new : State} → Grows g s t → Grows g t new → Grows g s new
-grows_more {g} {s} {t} {new} p q = record { tables = tables_more p.tables q.tables; at = stage_more g s t new p.at q.at }
+grows_more {g} {s} {t} {new} p q =
+    record { tables = tables_more p.tables q.tables; at = stage_more g s t new p.at q.at }
 
 -- ---- expressions
 
 same_order : (m n : ℕ) → n ≡ m → m ≤ n
 same_order m n e = omega arith
 
-tick_grows : {s new : State} → KeepsTables s new → KeepsTick s new → Starts s.ticks.captures new.ticks.captures → GrowsTick s new
+tick_grows : {s new : State} → KeepsTables s new → KeepsTick s new → Starts s.ticks.captures new.ticks.captures →
+    GrowsTick s new
 tick_grows {s} {new} k t c = record {
   homes = k.homes;
   object = k.object;
@@ -87,7 +90,11 @@ keeps_grows {g} {s} {new} k = record {
 inner_back : {s new : State} → GrowsTick s new → SmallInner new → SmallInner s
 inner_back {s} {new} k x =
     let l = starts_length k.captures in
-    record { inner = let i : s.frame.inner ≤ new.frame.inner = k.inner x.inner in omega (arith, i, x.inner); captures = omega (arith, l, x.captures) }
+    record {
+      inner = let i : s.frame.inner ≤ new.frame.inner = k.inner x.inner in omega (arith, i, x.inner);
+      captures =
+          omega (arith, l, x.captures);
+    }
 
 small_tick : (g : Stage) (s new : State) → GrowsStage g s new → SmallTick g new → SmallTick g s
 small_tick stage.Function s new k x = tt
@@ -99,7 +106,8 @@ homes_grow stage.Function s new k = k.homes
 homes_grow stage.Tick s new k = starts_same s.frame.homes new.frame.homes k.homes
 homes_grow stage.Dollar s new k = starts_same s.frame.homes new.frame.homes k.homes
 
-pub object_grows : (g : Stage) (s new : State) → GrowsStage g s new → new.frame.object ≤ 4194304 → s.frame.object ≤ new.frame.object
+pub object_grows : (g : Stage) (s new : State) → GrowsStage g s new → new.frame.object ≤ 4194304 →
+    s.frame.object ≤ new.frame.object
 object_grows stage.Function s new k h = k.object h
 object_grows stage.Tick s new k h = same_order s.frame.object new.frame.object k.object
 object_grows stage.Dollar s new k h = same_order s.frame.object new.frame.object k.object
@@ -109,7 +117,8 @@ ticks_grow stage.Function s new k = k.ticks
 ticks_grow stage.Tick s new k = starts_same s.ticks.all new.ticks.all k.ticks
 ticks_grow stage.Dollar s new k = starts_same s.ticks.all new.ticks.all k.ticks
 
-pub variables_grow : (g : Stage) (s new : State) → GrowsStage g s new → SmallTick g new → variables g s ≤ variables g new
+pub variables_grow : (g : Stage) (s new : State) → GrowsStage g s new → SmallTick g new →
+    variables g s ≤ variables g new
 variables_grow stage.Function s new k h = starts_length k.homes
 variables_grow stage.Tick s new k h = k.inner h.inner
 variables_grow stage.Dollar s new k h = k.inner h.inner

@@ -17,17 +17,22 @@ use Rattle.wf_statements.proofs.Growing.{ticks_grow}
 
 -- ---- two steps
 
-captures_more : (g : Stage) (s t new : State) (r : Round) → GrowsStage g s t → GrowsStage g t new → CapturesStand g s t r → CapturesStand g t new r → CapturesStand g s new r
+captures_more : (g : Stage) (s t new : State) (r : Round) → GrowsStage g s t → GrowsStage g t new →
+    CapturesStand g s t r → CapturesStand g t new r → CapturesStand g s new r
 captures_more stage.Function s t new r h k p q = tt
 captures_more stage.Tick s t new r h k p q =
-    λ more. subst (λ es. EachCapture r.function es) (same_rest (starts_more h.captures k.captures) more) (each_capture r.function h.captures.rest k.captures.rest (p h.captures) (q k.captures))
+    λ more. subst (λ es. EachCapture r.function es) (same_rest (starts_more h.captures k.captures) more)
+    (each_capture r.function h.captures.rest k.captures.rest (p h.captures) (q k.captures))
 captures_more stage.Dollar s t new r h k p q = tt
 
 -- what two steps did: the first one's answer stands as well
-pub did_both : {many : List ℕ} {g : Stage} {b : Blocks} {ks : List (List CaptureKind)} {s t new : State} (P Q : Round → Type 0) → Grows g s t → Grows g t new → (d : Did many g b ks s t P) → Did many g b (ks ++ d.more) t new Q → Did many g b ks s new (λ r. P r × Q r)
+pub did_both : {many : List ℕ} {g : Stage} {b : Blocks} {ks : List (List CaptureKind)} {s t new : State}
+    (P Q : Round → Type 0) → Grows g s t → Grows g t new → (d : Did many g b ks s t P) →
+    Did many g b (ks ++ d.more) t new Q → Did many g b ks s new (λ r. P r × Q r)
 did_both {many} {g} {b} {ks} {s} {t} {new} P Q h k d e =
     let joined = append_assoc ks d.more e.more in
-    let back = λ (r : Round) (a : Agrees many g b (ks ++ (d.more ++ e.more)) new r). subst (λ l. Agrees many g b l new r) (sym joined) a in
+    let back = λ (r : Round) (a : Agrees many g b (ks ++ (d.more ++ e.more)) new r). subst
+    (λ l. Agrees many g b l new r) (sym joined) a in
     let first = ticks_grow g s t h.at in
     let next = ticks_grow g t new k.at in
     record {
@@ -36,13 +41,17 @@ did_both {many} {g} {b} {ks} {s} {t} {new} P Q h k d e =
       back = λ r a. d.back r (e.back r (back r a));
       ticks = λ r a made.
           subst (λ ts. EachTick r.function ts (d.more ++ e.more)) (same_rest (starts_more first next) made)
-          (each_tick r.function first.rest next.rest d.more e.more (d.ticks r (e.back r (back r a)) first) (e.ticks r (back r a) next));
-      captures = λ r a. captures_more g s t new r h.at k.at (d.captures r (e.back r (back r a))) (e.captures r (back r a));
+          (each_tick r.function first.rest next.rest d.more e.more (d.ticks r (e.back r (back r a)) first)
+          (e.ticks r (back r a) next));
+      captures = λ r a. captures_more g s t new r h.at k.at (d.captures r (e.back r (back r a)))
+          (e.captures r (back r a));
       stands = λ r a. (d.stands r (e.back r (back r a)), e.stands r (back r a));
     }
 
 -- what follows of what stands
-pub did_so : {many : List ℕ} {g : Stage} {b : Blocks} {ks : List (List CaptureKind)} {s new : State} (P Q : Round → Type 0) → Did many g b ks s new P → ((ms : List (List CaptureKind)) (r : Round) → Agrees many g b ms new r → P r → Q r) → Did many g b ks s new Q
+pub did_so : {many : List ℕ} {g : Stage} {b : Blocks} {ks : List (List CaptureKind)} {s new : State}
+    (P Q : Round → Type 0) → Did many g b ks s new P →
+    ((ms : List (List CaptureKind)) (r : Round) → Agrees many g b ms new r → P r → Q r) → Did many g b ks s new Q
 did_so {ks = ks} P Q d f = record {
   more = d.more;
   known = d.known;
@@ -54,12 +63,14 @@ did_so {ks = ks} P Q d f = record {
 
 -- ---- surroundings with loops and switches
 
-tick_placed : (g : Stage) (b : Blocks) (s : State) (a : Standing) (r : Round) → AgreesTick g b s r → AgreesTick g b s (placed_round a r)
+tick_placed : (g : Stage) (b : Blocks) (s : State) (a : Standing) (r : Round) → AgreesTick g b s r →
+    AgreesTick g b s (placed_round a r)
 tick_placed stage.Function b s a r x = tt
 tick_placed stage.Tick b s a r x = (x.0, x.1)
 tick_placed stage.Dollar b s a r x = (x.0, x.1)
 
-pub agrees_placed : {many : List ℕ} {g : Stage} {b : Blocks} {ks : List (List CaptureKind)} {s : State} (a : Standing) {r : Round} → Agrees many g b ks s r → Agrees many g b ks s (placed_round a r)
+pub agrees_placed : {many : List ℕ} {g : Stage} {b : Blocks} {ks : List (List CaptureKind)} {s : State} (a : Standing)
+    {r : Round} → Agrees many g b ks s r → Agrees many g b ks s (placed_round a r)
 agrees_placed {many} {g} {b} {ks} {s} a {r} x = record {
   small = x.small;
   visible = x.visible;
@@ -70,7 +81,8 @@ agrees_placed {many} {g} {b} {ks} {s} a {r} x = record {
   in_tick = tick_placed g b s a r x.in_tick;
 }
 
-pub did_placed : {many : List ℕ} {g : Stage} {b : Blocks} {ks : List (List CaptureKind)} {s new : State} (a : Standing) (P : Round → Type 0) → Did many g b ks s new P → Did many g b ks s new (λ r. P (placed_round a r))
+pub did_placed : {many : List ℕ} {g : Stage} {b : Blocks} {ks : List (List CaptureKind)} {s new : State} (a : Standing)
+    (P : Round → Type 0) → Did many g b ks s new P → Did many g b ks s new (λ r. P (placed_round a r))
 did_placed a P d = record {
   more = d.more;
   known = d.known;
@@ -91,8 +103,10 @@ no_captures stage.Tick s new r e = λ more. subst (λ es. EachCapture r.function
 no_captures stage.Dollar s new r e = tt
 
 -- a step that makes no ticks and captures nothing
-pub did_only : {many : List ℕ} {g : Stage} {b : Blocks} {ks : List (List CaptureKind)} {s new : State} (P : Round → Type 0) → new.ticks.all ≡ s.ticks.all → new.ticks.captures ≡ s.ticks.captures → Known many g b ks new
-    → ((r : Round) → Agrees many g b ks new r → Agrees many g b ks s r) → ((r : Round) → Agrees many g b ks new r → P r) → Did many g b ks s new P
+pub did_only : {many : List ℕ} {g : Stage} {b : Blocks} {ks : List (List CaptureKind)} {s new : State}
+    (P : Round → Type 0) → new.ticks.all ≡ s.ticks.all → new.ticks.captures ≡ s.ticks.captures → Known many g b ks new
+    → ((r : Round) → Agrees many g b ks new r → Agrees many g b ks s r) →
+    ((r : Round) → Agrees many g b ks new r → P r) → Did many g b ks s new P
 did_only {many} {g} {b} {ks} {s} {new} P all captures known back stands =
     let same = append-nil ks in
     let there = λ (r : Round) (a : Agrees many g b (ks ++ []) new r). subst (λ l. Agrees many g b l new r) same a in

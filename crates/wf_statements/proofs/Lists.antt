@@ -1,5 +1,6 @@
 -- Lists that grow: what stands in them still does.
-use Rattle.std.proofs.Common.{◌≡◌, ℕ, zero, suc, Bool, true, false, ◌||◌, List, [], ◌∷◌, ◌++◌, length, refl, sym, ap, subst, ◌∙◌, append_assoc, Some}
+use Rattle.std.proofs.Common.{◌≡◌, ℕ, zero, suc, Bool, true, false, ◌||◌, List, [], ◌∷◌, ◌++◌, length, refl, sym, ap}
+use Rattle.std.proofs.Common.{subst, ◌∙◌, append_assoc, Some}
 use Rattle.std.specs.Prelude.{◌==◌, ◌⊎◌, slice_get, slice_set, slice_index_or}
 use Rattle.std.proofs.Common.{inl, inr}
 use Rattle.typed_tree.specs.declared.expression.Stmt.{Stmt}
@@ -12,7 +13,8 @@ use Rattle.wf_invariant.specs.Known.{numbers, has, EachEntry, EachScope}
 
 -- ---- places of a list
 
-pub get_front : {A : Type 0} (xs ys : List A) (i : ℕ) (x : A) → slice_get xs i ≡ Some x → slice_get (xs ++ ys) i ≡ Some x
+pub get_front : {A : Type 0} (xs ys : List A) (i : ℕ) (x : A) → slice_get xs i ≡ Some x →
+    slice_get (xs ++ ys) i ≡ Some x
 get_front [] ys i x is = cc
 get_front (y ∷ xs) ys zero x is = is
 get_front (y ∷ xs) ys (suc i) x is = get_front xs ys i x is
@@ -21,7 +23,8 @@ pub get_last : {A : Type 0} (xs : List A) (x : A) → slice_get (xs ++ x ∷ [])
 get_last [] x = refl
 get_last (y ∷ xs) x = get_last xs x
 
-pub get_starts : {A : Type 0} {xs ys : List A} → Starts xs ys → (i : ℕ) (x : A) → slice_get xs i ≡ Some x → slice_get ys i ≡ Some x
+pub get_starts : {A : Type 0} {xs ys : List A} → Starts xs ys → (i : ℕ) (x : A) → slice_get xs i ≡ Some x →
+    slice_get ys i ≡ Some x
 get_starts {xs = xs} s i x e = ap (λ l. slice_get l i) s.is ∙ get_front xs s.rest i x e
 
 -- ---- numbers
@@ -50,30 +53,37 @@ has_none i h = cc
 
 pub numbers_append : (xs ys : List Stmt) → numbers (xs ++ ys) ≡ numbers xs ++ numbers ys
 numbers_append [] ys = refl
-numbers_append (x ∷ xs) ys = ap (λ l. (act x).number ++ l) (numbers_append xs ys) ∙ sym (append_assoc (act x).number (numbers xs) (numbers ys))
+numbers_append (x ∷ xs) ys =
+    ap (λ l. (act x).number ++ l) (numbers_append xs ys) ∙ sym (append_assoc (act x).number (numbers xs) (numbers ys))
 
-pub has_starts : {xs ys : List Stmt} → Starts xs ys → (i : ℕ) (ns : List ℕ) → has i (ns ++ numbers xs) ≡ true → has i (ns ++ numbers ys) ≡ true
+pub has_starts : {xs ys : List Stmt} → Starts xs ys → (i : ℕ) (ns : List ℕ) → has i (ns ++ numbers xs) ≡ true →
+    has i (ns ++ numbers ys) ≡ true
 has_starts {xs} {ys} s i ns h =
     subst (λ l. has i (ns ++ l) ≡ true) (sym (ap numbers s.is ∙ numbers_append xs s.rest))
-    (subst (λ l. has i l ≡ true) (append_assoc ns (numbers xs) (numbers s.rest)) (has_front i (ns ++ numbers xs) (numbers s.rest) h))
+    (subst (λ l. has i l ≡ true) (append_assoc ns (numbers xs) (numbers s.rest))
+    (has_front i (ns ++ numbers xs) (numbers s.rest) h))
 
 -- ---- scopes
 
-pub scope_append : (P : Name → Meaning → Type 0) (xs ys : Scope) → EachEntry P xs → EachEntry P ys → EachEntry P (xs ++ ys)
+pub scope_append : (P : Name → Meaning → Type 0) (xs ys : Scope) → EachEntry P xs → EachEntry P ys →
+    EachEntry P (xs ++ ys)
 scope_append P [] ys p q = q
 scope_append P (x ∷ xs) ys p q = (p.0, scope_append P xs ys p.1 q)
 
-pub scopes_append : (P : Name → Meaning → Type 0) (xs ys : Scopes) → EachScope P xs → EachScope P ys → EachScope P (xs ++ ys)
+pub scopes_append : (P : Name → Meaning → Type 0) (xs ys : Scopes) → EachScope P xs → EachScope P ys →
+    EachScope P (xs ++ ys)
 scopes_append P [] ys p q = q
 scopes_append P (x ∷ xs) ys p q = (p.0, scopes_append P xs ys p.1 q)
 
-pub scope_at : (P : Name → Meaning → Type 0) (ss : Scopes) (i : ℕ) → EachScope P ss → EachEntry P (slice_index_or ss i [])
+pub scope_at : (P : Name → Meaning → Type 0) (ss : Scopes) (i : ℕ) → EachScope P ss →
+    EachEntry P (slice_index_or ss i [])
 scope_at P [] zero p = tt
 scope_at P [] (suc i) p = tt
 scope_at P (s ∷ ss) zero p = p.0
 scope_at P (s ∷ ss) (suc i) p = scope_at P ss i p.1
 
-pub scopes_set : (P : Name → Meaning → Type 0) (ss : Scopes) (i : ℕ) (s : Scope) → EachScope P ss → EachEntry P s → EachScope P (slice_set ss i s)
+pub scopes_set : (P : Name → Meaning → Type 0) (ss : Scopes) (i : ℕ) (s : Scope) → EachScope P ss → EachEntry P s →
+    EachScope P (slice_set ss i s)
 scopes_set P [] zero s p q = tt
 scopes_set P [] (suc i) s p q = tt
 scopes_set P (x ∷ ss) zero s p q = (q, p.1)

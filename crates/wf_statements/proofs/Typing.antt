@@ -20,20 +20,29 @@ use Rattle.wf_types.proofs.Lengths.{local_not_computed, lowered_ok}
 use Rattle.wf_statements.specs.Parts.{GoodType}
 
 -- in a tick it is the type as well
-declared_local : (g : Stage) (line : ℕ) (b : Base) (ss : List Step) (x : CType) → declared_in g line b ss ≡ Ok x → declared_type role.Local line b ss ≡ Ok x
+declared_local : (g : Stage) (line : ℕ) (b : Base) (ss : List Step) (x : CType) → declared_in g line b ss ≡ Ok x →
+    declared_type role.Local line b ss ≡ Ok x
 unfolding declared_in
 declared_local stage.Function line b ss x h = h
 declared_local stage.Tick line b ss x h = lowered_ok line (tick_breaks ss) (declared_type role.Local line b ss) x h
 declared_local stage.Dollar line b ss x h = h
 
-object_type : (line : ℕ) (b : Base) (ss : List Step) (x : CType) → declared_type role.Local line b ss ≡ Ok x → IsObject x
-object_type line b ss x h = record { type = types_use.declared role.Local line b ss x refl h; specified = λ v. types_use.vspec role.Local line b ss x h v }
+object_type : (line : ℕ) (b : Base) (ss : List Step) (x : CType) → declared_type role.Local line b ss ≡ Ok x →
+    IsObject x
+object_type line b ss x h =
+    record {
+      type = types_use.declared role.Local line b ss x refl h;
+      specified =
+          λ v. types_use.vspec role.Local line b ss x h v;
+    }
 
-pub type_good : (g : Stage) (line : ℕ) (b : Base) (d : Shape) (f : List Step → List Step) → GoodShape d → ((ss : List Step) → any_computed (f ss) ≡ false → any_computed ss ≡ false)
+pub type_good : (g : Stage) (line : ℕ) (b : Base) (d : Shape) (f : List Step → List Step) → GoodShape d →
+    ((ss : List Step) → any_computed (f ss) ≡ false → any_computed ss ≡ false)
     → GoodType g (d.walk g >>= (λ ss. lift (declared_in g line b (f ss))))
 type_good g line b d f h k s new t e =
     let r = ran (d.walk g) (λ ss. lift (declared_in g line b (f ss))) s t new e in
     let l = lifted (declared_in g line b (f r.value)) r.state t new r.next in (
-      plain_more (h g s r.state r.value r.first (k r.value (local_not_computed g line b (f r.value) t l.value))) (plain_same g l.state),
+      plain_more (h g s r.state r.value r.first (k r.value (local_not_computed g line b (f r.value) t l.value)))
+          (plain_same g l.state),
       object_type line b (f r.value) t (declared_local g line b (f r.value) t l.value),
     )

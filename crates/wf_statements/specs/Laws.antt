@@ -26,36 +26,48 @@ use Rattle.wf_statements.specs.Parts.{GoodStatementParts, GoodType, GoodBegin}
 
 -- a layer of a statement; of a declaration the walk over it stands there
 abbrev pub Stmt-W : Type 0
-Stmt-W = Stmt-F Shape Node (Unit {0}) (Option Node) Item (Unit {0}) (Stage → Rule State (List Stmt)) Shape (Unit {0}) (Unit {0}) Named
+Stmt-W = Stmt-F Shape Node (Unit {0}) (Option Node) Item (Unit {0}) (Stage → Rule State (List Stmt)) Shape (Unit {0})
+    (Unit {0}) Named
 
 abbrev pub StatementsAreGood : Type 0
-StatementsAreGood = (many : List ℕ) (s : Stmt-W) → GoodStatementParts many (λ d. d) s → (a : Standing) → MayStand a.stage → GoodStatement many a (stmt_walk (λ d. d) s a)
+StatementsAreGood = (many : List ℕ) (s : Stmt-W) → GoodStatementParts many (λ d. d) s → (a : Standing) →
+    MayStand a.stage → GoodStatement many a (stmt_walk (λ d. d) s a)
 
 -- the items of a block, one after the other
 abbrev pub ListsAreGood : Type 0
-ListsAreGood = (many : List ℕ) (items : List Item) (a : Standing) → MayStand a.stage → EachPart (GoodItem many) items → GoodStatement many a (each items a)
+ListsAreGood = (many : List ℕ) (items : List Item) (a : Standing) → MayStand a.stage → EachPart (GoodItem many) items →
+    GoodStatement many a (each items a)
 
 abbrev pub BlocksAreGood : Type 0
 BlocksAreGood =
-    (many : List ℕ) (items : List Item) (a : Standing) → MayStand a.stage → a.is_direct ≡ false → EachPart (GoodItem many) items
+    (many : List ℕ) (items : List Item) (a : Standing) → MayStand a.stage → a.is_direct ≡ false →
+    EachPart (GoodItem many) items
     → ((s new : State) (x : Stmt) → block items a s ≡ Ok (x, new) → Few s new) → GoodBlock many a (block items a)
 
 -- ---- declarations
 
 -- one declarator: the walk over its type, its name, and what it begins with
-abbrev pub declares_one : Stage → ℕ → Option (ℕ × Name) → Rule State CType → (Operand → Rule State (List Stmt)) → Rule State (List Stmt)
+abbrev pub declares_one : Stage → ℕ → Option (ℕ × Name) → Rule State CType → (Operand → Rule State (List Stmt)) →
+    Rule State (List Stmt)
 declares_one g line name w begin = w >>= (λ t. declarations.declare g line name t >>= (λ p. begin p))
 
 pub record DeclarationsAreGood : Type 0 where
   -- the type of a variable, whose steps an initializer may complete
-  pub type : (g : Stage) (line : ℕ) (b : Base) (d : Shape) (f : List Step → List Step) → GoodShape d → ((ss : List Step) → any_computed (f ss) ≡ false → any_computed ss ≡ false)
+  pub type : (g : Stage) (line : ℕ) (b : Base) (d : Shape) (f : List Step → List Step) → GoodShape d →
+      ((ss : List Step) → any_computed (f ss) ≡ false → any_computed ss ≡ false)
       → GoodType g (d.walk g >>= (λ ss. lift (declared_in g line b (f ss))))
   -- it begins with nothing, with a value, or with a list
   pub nothing : (many : List ℕ) (a : Standing) (p : Operand) → GoodBegin many a p (pure [])
-  pub value : (many : List ℕ) (a : Standing) (line : ℕ) (p : Operand) (n : Node) (string : Bool) → GoodNode many n → GoodBegin many a p (n.walk a.stage >>= (λ o. lift (initializers.from_value line p string o)))
-  pub list : (many : List ℕ) (a : Standing) (line : ℕ) (p : Operand) (row sized : Bool) (step : Rule State (Option FaultKind)) → GoodBegin many a p (step >>= (λ broken. lift (initializers.from_list line row sized broken)))
+  pub value : (many : List ℕ) (a : Standing) (line : ℕ) (p : Operand) (n : Node) (string : Bool) → GoodNode many n →
+      GoodBegin many a p (n.walk a.stage >>= (λ o. lift (initializers.from_value line p string o)))
+  pub list : (many : List ℕ) (a : Standing) (line : ℕ) (p : Operand) (row sized : Bool)
+      (step : Rule State (Option FaultKind)) →
+      GoodBegin many a p (step >>= (λ broken. lift (initializers.from_list line row sized broken)))
   -- one declarator, and several
-  pub one : (many : List ℕ) (a : Standing) (line : ℕ) (name : Option (ℕ × Name)) (w : Rule State CType) (begin : Operand → Rule State (List Stmt)) → MayStand a.stage → GoodType a.stage w → ((p : Operand) → GoodBegin many a p (begin p))
+  pub one : (many : List ℕ) (a : Standing) (line : ℕ) (name : Option (ℕ × Name)) (w : Rule State CType)
+      (begin : Operand → Rule State (List Stmt)) → MayStand a.stage → GoodType a.stage w →
+      ((p : Operand) → GoodBegin many a p (begin p))
       → GoodStatement many a (declares_one a.stage line name w begin)
   pub none : (many : List ℕ) (a : Standing) → GoodStatement many a (pure [])
-  pub more : (many : List ℕ) (a : Standing) (p q : Rule State (List Stmt)) → MayStand a.stage → GoodStatement many a p → GoodStatement many a q → GoodStatement many a (p >>= (λ xs. q >>= (λ ys. pure (xs ++ ys))))
+  pub more : (many : List ℕ) (a : Standing) (p q : Rule State (List Stmt)) → MayStand a.stage → GoodStatement many a p →
+      GoodStatement many a q → GoodStatement many a (p >>= (λ xs. q >>= (λ ys. pure (xs ++ ys))))

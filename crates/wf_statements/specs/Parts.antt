@@ -26,7 +26,8 @@ abbrev pub GoodDeclaration : List ℕ → (Stage → Rule State (List Stmt)) →
 GoodDeclaration many d = (a : Standing) → MayStand a.stage → GoodStatement many a (d a.stage)
 
 -- the parts of a statement are good
-abbrev pub GoodStatementParts : {I S D N P : Type 0} → List ℕ → (D → Stage → Rule State (List Stmt)) → Stmt-F Shape Node I (Option Node) Item S D Shape N P Named → Type 0
+abbrev pub GoodStatementParts : {I S D N P : Type 0} → List ℕ → (D → Stage → Rule State (List Stmt)) →
+    Stmt-F Shape Node I (Option Node) Item S D Shape N P Named → Type 0
 GoodStatementParts many declaration Stmt-F.Empty = Unit {0}
 GoodStatementParts many declaration (Stmt-F.Expr e) = GoodNode many e
 GoodStatementParts many declaration (Stmt-F.Block items) = EachPart (GoodItem many) items
@@ -35,7 +36,8 @@ GoodStatementParts many declaration (Stmt-F.If line c i) = GoodNode many c × Go
 GoodStatementParts many declaration (Stmt-F.IfElse line c i j) = GoodNode many c × GoodItem many i × GoodItem many j
 GoodStatementParts many declaration (Stmt-F.While line c i) = GoodNode many c × GoodItem many i
 GoodStatementParts many declaration (Stmt-F.Do line i c) = GoodItem many i × GoodNode many c
-GoodStatementParts many declaration (Stmt-F.For line first c s i) = GoodItem many first × GoodOptional many c × GoodOptional many s × GoodItem many i
+GoodStatementParts many declaration (Stmt-F.For line first c s i) =
+    GoodItem many first × GoodOptional many c × GoodOptional many s × GoodItem many i
 GoodStatementParts many declaration (Stmt-F.Switch line e items) = GoodNode many e × EachPart (GoodItem many) items
 GoodStatementParts many declaration (Stmt-F.Case line e) = GoodNode many e
 GoodStatementParts many declaration (Stmt-F.Default line) = Unit {0}
@@ -59,5 +61,7 @@ pub record GoodBegin (many : List ℕ) (a : Standing) (p : Operand) (step : Rule
   pub keeps : IsKeeping a.stage step
   pub begun : (s new : State) (xs : List Stmt) → step s ≡ Ok (xs, new) → Begun xs
   -- where the variable stands right
-  pub does : (b : Blocks) (ks : List (List CaptureKind)) (s new : State) (xs : List Stmt) → Known many a.stage b ks s → step s ≡ Ok (xs, new)
-      → Did many a.stage b ks s new (λ r. Good (at a.stage (placed_round a r)) p → ItemsStand a (at a.stage (placed_round a r)) xs)
+  pub does : (b : Blocks) (ks : List (List CaptureKind)) (s new : State) (xs : List Stmt) → Known many a.stage b ks s →
+      step s ≡ Ok (xs, new)
+      → Did many a.stage b ks s new
+      (λ r. Good (at a.stage (placed_round a r)) p → ItemsStand a (at a.stage (placed_round a r)) xs)

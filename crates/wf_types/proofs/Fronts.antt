@@ -1,5 +1,6 @@
 -- Lists that begin with the same.
-use Rattle.std.proofs.Common.{◌≡◌, ◌≤◌, List, [], ◌++◌, length, refl, sym, ap, ◌∙◌, append_assoc, append-nil, length-append, arith}
+use Rattle.std.proofs.Common.{◌≡◌, ◌≤◌, List, [], ◌++◌, length, refl, sym, ap, ◌∙◌, append_assoc, append-nil}
+use Rattle.std.proofs.Common.{length-append, arith}
 use Rattle.std.proofs.lemmas.List.{append_cancel_left}
 use Rattle.wf_invariant.specs.Kept.{Starts}
 
@@ -13,7 +14,8 @@ abbrev pub starts_behind : {A : Type 0} (xs ys : List A) → Starts xs (xs ++ ys
 starts_behind xs ys = record { rest = ys; is = refl }
 
 abbrev pub starts_more : {A : Type 0} {xs ys zs : List A} → Starts xs ys → Starts ys zs → Starts xs zs
-starts_more {xs = xs} p q = record { rest = p.rest ++ q.rest; is = q.is ∙ ap (λ l. l ++ q.rest) p.is ∙ append_assoc xs p.rest q.rest }
+starts_more {xs = xs} p q =
+    record { rest = p.rest ++ q.rest; is = q.is ∙ ap (λ l. l ++ q.rest) p.is ∙ append_assoc xs p.rest q.rest }
 
 abbrev pub starts_front : {A : Type 0} (xs ys : List A) {zs : List A} → Starts (xs ++ ys) zs → Starts xs zs
 starts_front xs ys p = record { rest = ys ++ p.rest; is = p.is ∙ append_assoc xs ys p.rest }

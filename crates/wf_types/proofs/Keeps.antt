@@ -16,7 +16,16 @@ pub globals_more : {s t new : State} → KeepsGlobals s t → KeepsGlobals t new
 globals_more p q = record { end = q.end ∙ p.end; globals = q.globals ∙ p.globals; at = q.at ∙ p.at }
 
 pub tables_refl : (s : State) → KeepsTables s s
-tables_refl s = record { scopes = refl; result = refl; homes = refl; nodes = refl; object = refl; labels = refl; functions = refl; image = globals_refl s }
+tables_refl s = record {
+  scopes = refl;
+  result = refl;
+  homes = refl;
+  nodes = refl;
+  object = refl;
+  labels = refl;
+  functions = refl;
+  image = globals_refl s;
+}
 
 pub tables_more : {s t new : State} → KeepsTables s t → KeepsTables t new → KeepsTables s new
 tables_more p q = record {
@@ -50,7 +59,8 @@ pub keeps_refl : (g : Stage) (s : State) → Keeps g s s
 keeps_refl g s = record { tables = tables_refl s; at = stage_refl g s }
 
 pub keeps_more : {g : Stage} {s t new : State} → Keeps g s t → Keeps g t new → Keeps g s new
-keeps_more {g} {s} {t} {new} p q = record { tables = tables_more p.tables q.tables; at = stage_more g s t new p.at q.at }
+keeps_more {g} {s} {t} {new} p q =
+    record { tables = tables_more p.tables q.tables; at = stage_more g s t new p.at q.at }
 
 -- where nothing changed
 pub keeps_same : (g : Stage) {s new : State} → s ≡ new → Keeps g s new
@@ -58,7 +68,8 @@ keeps_same g {s} e = subst (λ z. Keeps g s z) e (keeps_refl g s)
 
 -- what stands under `$` stands in a tick
 pub keeps_dollar : {s new : State} → Keeps stage.Dollar s new → Keeps stage.Tick s new
-keeps_dollar {s} {new} k = record { tables = k.tables; at = (k.at.0, starts_same s.ticks.captures new.ticks.captures k.at.1) }
+keeps_dollar {s} {new} k =
+    record { tables = k.tables; at = (k.at.0, starts_same s.ticks.captures new.ticks.captures k.at.1) }
 
 -- ---- walks
 
@@ -68,7 +79,8 @@ pure_keeps g x s new y e = keeps_same g (pure_same x y s new e)
 pub lift_keeps : {A : Type 0} (g : Stage) (r : Checked A) → IsKeeping g (lift {S = State} r)
 lift_keeps g r s new x e = keeps_same g (lifted r s x new e).state
 
-pub bind_keeps : {A B : Type 0} (g : Stage) (p : Rule State A) (f : A → Rule State B) → IsKeeping g p → ((x : A) → IsKeeping g (f x)) → IsKeeping g (p >>= f)
+pub bind_keeps : {A B : Type 0} (g : Stage) (p : Rule State A) (f : A → Rule State B) → IsKeeping g p →
+    ((x : A) → IsKeeping g (f x)) → IsKeeping g (p >>= f)
 bind_keeps g p f h k s new y e =
     let r = ran p f s y new e in
     keeps_more (h s r.state r.value r.first) (k r.value r.state new y r.next)

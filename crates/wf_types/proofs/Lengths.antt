@@ -1,5 +1,6 @@
 -- No type is made of steps with a length that isn't constant, and what is done with steps hides none.
-use Rattle.std.proofs.Common.{◌≡◌, ℕ, Bool, true, false, if◌then◌else◌, List, [], ◌∷◌, ◌++◌, refl, sym, Option, Some, None, Ok, Err}
+use Rattle.std.proofs.Common.{◌≡◌, ℕ, Bool, true, false, if◌then◌else◌, List, [], ◌∷◌, ◌++◌, refl, sym, Option, Some}
+use Rattle.std.proofs.Common.{None, Ok, Err}
 use Rattle.c_types.specs.declared.ctype.CType.{CType}
 use Rattle.c_types.specs.declared.ctype.Base.{Base}
 use Rattle.c_types.specs.declared.ctype.Layer.{Layer}
@@ -10,7 +11,8 @@ use Rattle.check_declarators.specs.declared.steps.Role.TheVariants as role
 use Rattle.check_declarators.specs.declared.steps.Step.{Step}
 use Rattle.check_declarators.specs.declared.steps.Step.TheVariants as step
 use Rattle.check_declarators.specs.Steps.{prefixed, lacks, with_length, filled}
-use Rattle.check_declarators.specs.Making.{is_function, breaks, made, worst, role_breaks, finished, taken_as, declared_type}
+use Rattle.check_declarators.specs.Making.{is_function, breaks, made, worst, role_breaks, finished, taken_as}
+use Rattle.check_declarators.specs.Making.{declared_type}
 use Rattle.tick_tree.specs.declared.base.Prefix.{Prefix}
 use Rattle.tick_tree.specs.declared.fault.FaultKind.{FaultKind}
 use Rattle.tick_tree.specs.declared.fault.FaultKind.TheVariants.{TypeMismatch, VoidValue, BadArray}
@@ -36,7 +38,8 @@ pub computed_rest : (ss ts : List Step) → any_computed (ss ++ ts) ≡ false �
 computed_rest [] ts h = h
 computed_rest (s ∷ ss) ts h = computed_rest ss ts (second_false (is_computed_step s) (any_computed (ss ++ ts)) h)
 
-pub computed_prefixed : (ps : List Prefix) (ss : List Step) → any_computed (prefixed ps ss) ≡ false → any_computed ss ≡ false
+pub computed_prefixed : (ps : List Prefix) (ss : List Step) → any_computed (prefixed ps ss) ≡ false →
+    any_computed ss ≡ false
 computed_prefixed [] ss h = h
 computed_prefixed (p ∷ ps) ss h = computed_prefixed ps ss (computed_front (prefixed ps ss) (step.Prefix p ∷ []) h)
 
@@ -51,7 +54,8 @@ lacking (step.Prefix p) h = refl
 lacking (step.Function list) h = refl
 lacking step.Unlisted h = refl
 
-filled_by : (b : Bool) (count : ℕ) (s : Step) (ss : List Step) → (b ≡ true → is_computed_step s ≡ false) → any_computed (if b then with_length count (s ∷ ss) else (s ∷ ss)) ≡ false → any_computed (s ∷ ss) ≡ false
+filled_by : (b : Bool) (count : ℕ) (s : Step) (ss : List Step) → (b ≡ true → is_computed_step s ≡ false) →
+    any_computed (if b then with_length count (s ∷ ss) else (s ∷ ss)) ≡ false → any_computed (s ∷ ss) ≡ false
 filled_by true count s ss k h = both_false (is_computed_step s) (any_computed ss) (k refl) h
 filled_by false count s ss k h = h
 
@@ -61,7 +65,8 @@ computed_filled count (s ∷ ss) h = filled_by (lacks s) count s ss (lacking s) 
 
 -- ---- types
 
-array_case : (a c : Bool) (k : FaultKind) → (if a then Some TypeMismatch else (if c then Some VoidValue else Some k)) ≡ None → true ≡ false
+array_case : (a c : Bool) (k : FaultKind) →
+    (if a then Some TypeMismatch else (if c then Some VoidValue else Some k)) ≡ None → true ≡ false
 array_case true c k is = cc
 array_case false true k is = cc
 array_case false false k is = cc
@@ -90,11 +95,13 @@ computed_taken role.FileScope ss h = h
 computed_taken role.Local ss h = h
 computed_taken role.Parameter ss h = computed_filled 1 ss h
 
-pub type_not_computed : (r : Role) (line : ℕ) (b : Base) (ss : List Step) (x : CType) → declared_type r line b ss ≡ Ok x → any_computed ss ≡ false
+pub type_not_computed : (r : Role) (line : ℕ) (b : Base) (ss : List Step) (x : CType) →
+    declared_type r line b ss ≡ Ok x → any_computed ss ≡ false
 unfolding declared_type
 type_not_computed r line b ss x h =
     let ts : List Step = taken_as r ss in
-    computed_taken r ss (none_computed ts b [] (first_none (worst ts b []) (role_breaks r b (made ts [])) (unbroken line (finished r b (made ts [])) x _ h)))
+    computed_taken r ss (none_computed ts b []
+    (first_none (worst ts b []) (role_breaks r b (made ts [])) (unbroken line (finished r b (made ts [])) x _ h)))
 
 pub lowered_ok : (line : ℕ) (k : Option FaultKind) (t : Checked CType) (x : CType) → lowered line k t ≡ Ok x → t ≡ Ok x
 lowered_ok line None t x h = h
@@ -102,10 +109,12 @@ lowered_ok line (Some k) (Ok t) x h = cc
 lowered_ok line (Some k) (Err f) x h = cc
 
 -- the type of a variable of a block
-pub local_not_computed : (g : Stage) (line : ℕ) (b : Base) (ss : List Step) (x : CType) → declared_in g line b ss ≡ Ok x → any_computed ss ≡ false
+pub local_not_computed : (g : Stage) (line : ℕ) (b : Base) (ss : List Step) (x : CType) →
+    declared_in g line b ss ≡ Ok x → any_computed ss ≡ false
 unfolding declared_in
 local_not_computed stage.Function line b ss x h = type_not_computed role.Local line b ss x h
-local_not_computed stage.Tick line b ss x h = type_not_computed role.Local line b ss x (lowered_ok line (tick_breaks ss) (declared_type role.Local line b ss) x h)
+local_not_computed stage.Tick line b ss x h =
+    type_not_computed role.Local line b ss x (lowered_ok line (tick_breaks ss) (declared_type role.Local line b ss) x h)
 local_not_computed stage.Dollar line b ss x h = type_not_computed role.Local line b ss x h
 
 -- ---- lengths

@@ -1,5 +1,6 @@
 -- What a name, an address, a string and a tick leave of the state: the names, the variables and the functions.
-use Rattle.std.proofs.Common.{◌≡◌, ℕ, Bool, true, false, if◌then◌else◌, List, [], ◌∷◌, ◌++◌, refl, ap, subst, Option, Some, None, Ok}
+use Rattle.std.proofs.Common.{◌≡◌, ℕ, Bool, true, false, if◌then◌else◌, List, [], ◌∷◌, ◌++◌, refl, ap, subst, Option}
+use Rattle.std.proofs.Common.{Some, None, Ok}
 use Rattle.std.specs.Prelude.{slice_get}
 use Rattle.c_types.specs.declared.ctype.CType.{CType}
 use Rattle.c_types.specs.declared.names.Meaning.{Meaning}
@@ -17,7 +18,8 @@ use Rattle.check_tables.specs.Ticks as ticks
 use Rattle.check_env.specs.declared.state.Stage.{Stage}
 use Rattle.check_env.specs.declared.state.Stage.TheVariants as stage
 use Rattle.check_env.specs.declared.state.State.{State}
-use Rattle.check_env.specs.Names.{captured, addressed, outer_variable, in_tick, under_dollar, variable, parameter, global, meant, named_by, named}
+use Rattle.check_env.specs.Names.{captured, addressed, outer_variable, in_tick, under_dollar, variable, parameter}
+use Rattle.check_env.specs.Names.{global, meant, named_by, named}
 use Rattle.check_expressions.specs.Productions.{string_node, tick_entered, tick_left}
 use Rattle.wf_invariant.specs.Kept.{KeepsStage, Keeps, IsKeeping}
 use Rattle.wf_types.proofs.Fronts.{starts_refl, starts_behind}
@@ -25,14 +27,25 @@ use Rattle.wf_types.proofs.Walks.{ok_same}
 use Rattle.wf_types.proofs.Keeps.{keeps_refl, keeps_more}
 
 -- a step that answers this
-pub gives_keeps : {A : Type 0} (g : Stage) (s new : State) (p : A × State) (x : A) → ◌≡◌ {A = Checked (A × State)} (Ok p) (Ok (x, new)) → Keeps g s p.1 → Keeps g s new
+pub gives_keeps : {A : Type 0} (g : Stage) (s new : State) (p : A × State) (x : A) →
+    ◌≡◌ {A = Checked (A × State)} (Ok p) (Ok (x, new)) → Keeps g s p.1 → Keeps g s new
 gives_keeps g s new p x e k = subst (λ z. Keeps g s z) (ap (λ r. r.1) (ok_same p (x, new) e)) k
 
 -- ---- captures and marks
 
 pub captured_keeps : (k : CaptureKind) (e : Expr) (s : State) → Keeps stage.Tick s (captured k e s)
 captured_keeps k e s = record {
-  tables = record { scopes = refl; result = refl; homes = refl; nodes = refl; object = refl; labels = refl; functions = refl; image = record { end = refl; globals = refl; at = refl } };
+  tables = record {
+    scopes = refl;
+    result = refl;
+    homes = refl;
+    nodes = refl;
+    object = refl;
+    labels = refl;
+    functions =
+        refl;
+    image = record { end = refl; globals = refl; at = refl };
+  };
   at = (record { inner = refl; ticks = refl }, starts_behind s.ticks.captures (ex.Capture k e ∷ []));
 }
 
@@ -43,7 +56,17 @@ marked_stage stage.Dollar n s = (record { inner = refl; ticks = refl }, refl)
 
 pub addressed_keeps : (g : Stage) (n : ℕ) (s : State) → Keeps g s (addressed n s)
 addressed_keeps g n s = record {
-  tables = record { scopes = refl; result = refl; homes = refl; nodes = refl; object = refl; labels = refl; functions = refl; image = record { end = refl; globals = refl; at = refl } };
+  tables = record {
+    scopes = refl;
+    result = refl;
+    homes = refl;
+    nodes = refl;
+    object = refl;
+    labels = refl;
+    functions =
+        refl;
+    image = record { end = refl; globals = refl; at = refl };
+  };
   at = marked_stage g n s;
 }
 
@@ -54,20 +77,32 @@ string_stage stage.Dollar bytes s = (record { inner = refl; ticks = refl }, refl
 
 pub string_keeps : (g : Stage) (bytes : List ℕ) (s : State) → Keeps g s (string_node bytes s).1
 string_keeps g bytes s = record {
-  tables = record { scopes = refl; result = refl; homes = refl; nodes = refl; object = refl; labels = refl; functions = refl; image = record { end = refl; globals = refl; at = refl } };
+  tables = record {
+    scopes = refl;
+    result = refl;
+    homes = refl;
+    nodes = refl;
+    object = refl;
+    labels = refl;
+    functions =
+        refl;
+    image = record { end = refl; globals = refl; at = refl };
+  };
   at = string_stage g bytes s;
 }
 
 -- ---- names
 
-choice_keeps : {A : Type 0} (g : Stage) (b : Bool) (s : State) (x y : A × State) → Keeps g s x.1 → Keeps g s y.1 → Keeps g s (if b then x else y).1
+choice_keeps : {A : Type 0} (g : Stage) (b : Bool) (s : State) (x y : A × State) → Keeps g s x.1 → Keeps g s y.1 →
+    Keeps g s (if b then x else y).1
 choice_keeps g true s x y h k = h
 choice_keeps g false s x y h k = k
 
 outer_keeps : (n : ℕ) (h : Home) (t : CType) (s : State) → Keeps stage.Tick s (outer_variable n h t s).1
 outer_keeps n h t s =
     choice_keeps stage.Tick (is_cspec t) s _ _ (captured_keeps _ _ s)
-    (choice_keeps stage.Tick (is_vspec t) s _ _ (captured_keeps _ _ s) (keeps_more (addressed_keeps stage.Tick n s) (captured_keeps _ _ (addressed n s))))
+    (choice_keeps stage.Tick (is_vspec t) s _ _ (captured_keeps _ _ s)
+    (keeps_more (addressed_keeps stage.Tick n s) (captured_keeps _ _ (addressed n s))))
 
 in_tick_keeps : (n : ℕ) (t : CType) (h : Option Home) → IsKeeping stage.Tick (in_tick n t h)
 in_tick_keeps n t None s new x e = gives_keeps stage.Tick s new _ x e (keeps_refl stage.Tick s)
@@ -112,7 +147,8 @@ named_keeps line g name s new x e = named_by_keeps line g (find s.scopes name) s
 -- ---- ticks
 
 -- into a tick, a walk in it that keeps what an expression keeps, and out of it
-pub tick_keeps : (b : TickBody) (t : CType) (s z : State) → Keeps stage.Tick (tick_entered s) z → Keeps stage.Function s (tick_left b t z).1
+pub tick_keeps : (b : TickBody) (t : CType) (s z : State) → Keeps stage.Tick (tick_entered s) z →
+    Keeps stage.Function s (tick_left b t z).1
 tick_keeps b t s z k = record {
   tables = record {
     scopes = k.tables.scopes;

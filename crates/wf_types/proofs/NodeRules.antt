@@ -1,4 +1,5 @@
--- The rules of single nodes that constants are made of: of good operands they make a good one. This is the one place here where the
+-- The rules of single nodes that constants are made of: of good operands they make a good one. This is the one place
+-- here where the
 -- laws on single nodes are cited.
 use Rattle.std.proofs.Common.{◌≡◌, ℕ, Bool, true, false, ◌&&◌, if◌then◌else◌, [], ◌∷◌, ap, ◌∙◌, Ok, Err}
 use Rattle.icode_ops.specs.declared.kind.UnKind.{UnKind}
@@ -51,7 +52,8 @@ together : (a : Around) (r : Checked Operand) → Unless (IsRight a) r → Unles
 together a (Ok o) h k = (h, k)
 together a (Err f) h k = tt
 
-pub unless_next : {A B : Type 0} (P : A → Type 0) (Q : B → Type 0) (r : Checked A) (f : A → Checked B) → Unless P r → ((x : A) → P x → Unless Q (f x)) → Unless Q (r >>= f)
+pub unless_next : {A B : Type 0} (P : A → Type 0) (Q : B → Type 0) (r : Checked A) (f : A → Checked B) → Unless P r →
+    ((x : A) → P x → Unless Q (f x)) → Unless Q (r >>= f)
 unless_next P Q (Ok x) f h k = k x h
 unless_next P Q (Err e) f h k = tt
 
@@ -74,8 +76,10 @@ good_size a line t = together a _ (operands_stand.size a line t) (operands_use.s
 
 -- ---- prefixes
 
-good_on_integer : (a : Around) (line : ℕ) (k : UnKind) (v : Value) → GoodValue a v → Unless (Good a) (nodes.on_integer line k v)
-good_on_integer a line k v h = together a _ (prefixes_stand.on_integer a line k v h.stands) (prefixes_use.on_integer line k v h.used)
+good_on_integer : (a : Around) (line : ℕ) (k : UnKind) (v : Value) → GoodValue a v →
+    Unless (Good a) (nodes.on_integer line k v)
+good_on_integer a line k v h =
+    together a _ (prefixes_stand.on_integer a line k v h.stands) (prefixes_use.on_integer line k v h.used)
 
 good_negated : (a : Around) (line : ℕ) (v : Value) → GoodValue a v → Unless (Good a) (nodes.negated line v)
 good_negated a line v h = together a _ (prefixes_stand.negated a line v h.stands) (prefixes_use.negated line v h.used)
@@ -84,9 +88,11 @@ good_plus : (a : Around) (line : ℕ) (v : Value) → GoodValue a v → Unless (
 good_plus a line v h = together a _ (prefixes_stand.plus a line v h.stands) (prefixes_use.plus line v h.used)
 
 good_dereferenced : (a : Around) (line : ℕ) (v : Value) → GoodValue a v → Unless (Good a) (nodes.dereferenced line v)
-good_dereferenced a line v h = together a _ (prefixes_stand.dereferenced a line v h.stands) (prefixes_use.dereferenced line v h.used)
+good_dereferenced a line v h =
+    together a _ (prefixes_stand.dereferenced a line v h.stands) (prefixes_use.dereferenced line v h.used)
 
-pub good_signed : (a : Around) (line : ℕ) (op : UnaryOp) (o : Operand) → Good a o → Unless (Good a) (Productions.signed_node line op o)
+pub good_signed : (a : Around) (line : ℕ) (op : UnaryOp) (o : Operand) → Good a o →
+    Unless (Good a) (Productions.signed_node line op o)
 good_signed a line unary_op.Minus o h = good_on_integer a line un.Negate (value_of o) (good_value a o h)
 good_signed a line unary_op.Complement o h = good_on_integer a line un.Complement (value_of o) (good_value a o h)
 good_signed a line unary_op.Not o h = good_negated a line (value_of o) (good_value a o h)
@@ -97,26 +103,32 @@ good_signed a line unary_op.Dollar o h = good_plus a line (value_of o) (good_val
 good_signed a line unary_op.Increment o h = good_plus a line (value_of o) (good_value a o h)
 good_signed a line unary_op.Decrement o h = good_plus a line (value_of o) (good_value a o h)
 
-left_if : (P : Operand → Type 0) (b : Bool) (r : Checked Operand) (o : Operand) → P o → Unless P r → Unless P (if b then r else Ok o)
+left_if : (P : Operand → Type 0) (b : Bool) (r : Checked Operand) (o : Operand) → P o → Unless P r →
+    Unless P (if b then r else Ok o)
 left_if P true r o h k = k
 left_if P false r o h k = h
 
 good_left : (a : Around) (line : ℕ) (g : Stage) (o : Operand) → Good a o → Unless (Good a) (Productions.left line g o)
 unfolding Productions.left
-good_left a line g o h = left_if (Good a) (Productions.is_tick g && Productions.is_specification o.ctype) (refuse fault.StageInTick line) o h tt
+good_left a line g o h = left_if (Good a) (Productions.is_tick g && Productions.is_specification o.ctype)
+    (refuse fault.StageInTick line) o h tt
 
-pub good_star : (a : Around) (line : ℕ) (g : Stage) (o : Operand) → Good a o → Unless (Good a) (Productions.star_node line g o)
+pub good_star : (a : Around) (line : ℕ) (g : Stage) (o : Operand) → Good a o →
+    Unless (Good a) (Productions.star_node line g o)
 unfolding Productions.star_node
 good_star a line g o h =
-    unless_next (Good a) (Good a) (nodes.dereferenced line (value_of o)) (Productions.left line g) (good_dereferenced a line (value_of o) (good_value a o h)) (λ x k. good_left a line g x k)
+    unless_next (Good a) (Good a) (nodes.dereferenced line (value_of o)) (Productions.left line g)
+    (good_dereferenced a line (value_of o) (good_value a o h)) (λ x k. good_left a line g x k)
 
-pub good_cast : (a : Around) (line : ℕ) (t : CType) (o : Operand) → Good a o → Unless (Good a) (Productions.cast_node line t o)
+pub good_cast : (a : Around) (line : ℕ) (t : CType) (o : Operand) → Good a o →
+    Unless (Good a) (Productions.cast_node line t o)
 unfolding Productions.cast_node
 good_cast a line t o h =
     let v = good_value a o h in
     together a _ (prefixes_stand.cast a line t (value_of o) v.stands) (prefixes_use.cast line t (value_of o) v.used)
 
-pub good_step : (a : Around) (line : ℕ) (s : StepOp) (o : Operand) → Good a o → Unless (Good a) (Productions.step_node line s o)
+pub good_step : (a : Around) (line : ℕ) (s : StepOp) (o : Operand) → Good a o →
+    Unless (Good a) (Productions.step_node line s o)
 unfolding Productions.step_node
 good_step a line s o h =
     let k = good_settled a o h in
@@ -124,12 +136,14 @@ good_step a line s o h =
 
 -- ---- operators
 
-pub good_binary : (a : Around) (line : ℕ) (op : BinaryOp) (o p : Operand) → Good a o → Good a p → Unless (Good a) (Productions.binary_node line op o p)
+pub good_binary : (a : Around) (line : ℕ) (op : BinaryOp) (o p : Operand) → Good a o → Good a p →
+    Unless (Good a) (Productions.binary_node line op o p)
 unfolding Productions.binary_node nodes.values
 good_binary a line op o p h k =
     let v = good_value a o h in
     let w = good_value a p k in
-    together a _ (operators_stand.binary a line op (value_of o) (value_of p) v.stands w.stands) (operators_use.binary line op (value_of o) (value_of p) v.used w.used)
+    together a _ (operators_stand.binary a line op (value_of o) (value_of p) v.stands w.stands)
+    (operators_use.binary line op (value_of o) (value_of p) v.used w.used)
 
 -- ---- addresses
 
@@ -139,7 +153,8 @@ in_memory e t = record { place = place.Memory e; ctype = t; zero = false }
 
 pub good_address : (a : Around) (e : Expr) (t : CType) → Good a (in_memory e t) → Good a (made e (over layer.Pointer t))
 unfolding places.address
-good_address a e t h = together a (places.address 0 (in_memory e t)) (places_stand.address a 0 (in_memory e t) h.0) (places_use.address 0 (in_memory e t) h.1)
+good_address a e t h = together a (places.address 0 (in_memory e t)) (places_stand.address a 0 (in_memory e t) h.0)
+    (places_use.address 0 (in_memory e t) h.1)
 
 -- ---- captures
 
@@ -147,15 +162,18 @@ pub record GoodCapture (a : Around) (v : Value) : Type 0 where
   pub stands : Stands a v.code
   pub captured : IsCaptured v
 
-captures : (a : Around) (r : Checked Value) → Unless (λ v. Stands a v.code) r → UnlessUsed IsCaptured r → Unless (GoodCapture a) r
+captures : (a : Around) (r : Checked Value) → Unless (λ v. Stands a v.code) r → UnlessUsed IsCaptured r →
+    Unless (GoodCapture a) r
 captures a (Ok v) h k = record { stands = h; captured = k }
 captures a (Err f) h k = tt
 
-pub good_dollar : (a : Around) (line : ℕ) (o : Operand) → Good a o → Unless (GoodCapture a) (stages.dollar line (value_of o))
+pub good_dollar : (a : Around) (line : ℕ) (o : Operand) → Good a o →
+    Unless (GoodCapture a) (stages.dollar line (value_of o))
 good_dollar a line o h =
     let v = good_value a o h in
     captures a _ (stages_stand.dollar a line (value_of o) v.stands) (stages_use.dollar line (value_of o) v.used)
 
 -- one capture
-pub one_capture : (a : Around) (k : CaptureKind) (e : Expr) → Stands a e → is_used e ≡ true → EachCapture a (ex.Capture k e ∷ [])
+pub one_capture : (a : Around) (k : CaptureKind) (e : Expr) → Stands a e → is_used e ≡ true →
+    EachCapture a (ex.Capture k e ∷ [])
 one_capture a k e h u = (ap (λ p. p.is_capture a) (part_capture k e) ∙ h, nodes_use.capture k e u, tt)

@@ -19,12 +19,14 @@ unless_so P r x h e = subst (λ c. Unless P c) e h
 pub pure_plain : {A : Type 0} (g : Stage) (P : A → Type 0) (x : A) → P x → IsPlain g P (pure {S = State} x)
 pure_plain g P x h s new y e = (plain_same g (pure_same x y s new e), subst P (pure_value x y s new e) h)
 
-pub lift_plain : {A : Type 0} (g : Stage) (P : A → Type 0) (r : Checked A) → Unless P r → IsPlain g P (lift {S = State} r)
+pub lift_plain : {A : Type 0} (g : Stage) (P : A → Type 0) (r : Checked A) → Unless P r →
+    IsPlain g P (lift {S = State} r)
 lift_plain g P r h s new x e =
     let l = lifted r s x new e in
     (plain_same g l.state, unless_so P r x h l.value)
 
-pub bind_plain : {A B : Type 0} (g : Stage) (P : A → Type 0) (Q : B → Type 0) (p : Rule State A) (f : A → Rule State B) → IsPlain g P p → ((x : A) → P x → IsPlain g Q (f x)) → IsPlain g Q (p >>= f)
+pub bind_plain : {A B : Type 0} (g : Stage) (P : A → Type 0) (Q : B → Type 0) (p : Rule State A) (f : A → Rule State B)
+    → IsPlain g P p → ((x : A) → P x → IsPlain g Q (f x)) → IsPlain g Q (p >>= f)
 bind_plain g P Q p f h k s new y e =
     let r = ran p f s y new e in
     let a = h s r.state r.value r.first in
@@ -39,7 +41,8 @@ IsPlainList {A} g r = (s new : State) (x : A) → r s ≡ Ok (x, new) → PlainL
 pub pure_plain_list : {A : Type 0} (g : Stage) (x : A) → IsPlainList g (pure {S = State} x)
 pure_plain_list g x s new y e = plain_list_same g (pure_same x y s new e)
 
-pub bind_plain_list : {A B : Type 0} (g : Stage) (p : Rule State A) (f : A → Rule State B) → IsPlainList g p → ((x : A) → IsPlainList g (f x)) → IsPlainList g (p >>= f)
+pub bind_plain_list : {A B : Type 0} (g : Stage) (p : Rule State A) (f : A → Rule State B) → IsPlainList g p →
+    ((x : A) → IsPlainList g (f x)) → IsPlainList g (p >>= f)
 bind_plain_list g p f h k s new y e =
     let r = ran p f s y new e in
     plain_list_more (h s r.state r.value r.first) (k r.value r.state new y r.next)

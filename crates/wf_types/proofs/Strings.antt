@@ -20,7 +20,17 @@ string_stage stage.Dollar bytes s = (record { inner = refl; ticks = refl }, refl
 
 string_node_plain : (g : Stage) (bytes : List ℕ) (s : State) → Plain g s (string_node bytes s).1
 string_node_plain g bytes s = record {
-  tables = record { scopes = refl; result = refl; homes = refl; nodes = refl; object = refl; labels = refl; functions = refl; image = record { end = refl; globals = refl; at = refl } };
+  tables = record {
+    scopes = refl;
+    result = refl;
+    homes = refl;
+    nodes = refl;
+    object = refl;
+    labels = refl;
+    functions =
+        refl;
+    image = record { end = refl; globals = refl; at = refl };
+  };
   captures = starts_refl s.ticks.captures;
   at = string_stage g bytes s;
 }
@@ -31,8 +41,11 @@ no_string A h = absurd (never h)
     never : true ≡ false → ⊥
     never e = cc
 
-pub string_plain : {I S D N P : Type 0} (many : List ℕ) (e : Expr-F Shape Node I (Option Node) Item S D Shape N P Named) → GoodParts many e → IsString e → (g : Stage) (s new : State) (o : Operand) → walk_rule e g s ≡ Ok (o, new) → Plain g s new
-string_plain many (Expr-F.String bytes) h f g s new o e = subst (λ z. Plain g s z) (ap (λ r. r.1) (ok_same (string_node bytes s) (o, new) e)) (string_node_plain g bytes s)
+pub string_plain : {I S D N P : Type 0} (many : List ℕ) (e : Expr-F Shape Node I (Option Node) Item S D Shape N P Named)
+    → GoodParts many e → IsString e → (g : Stage) (s new : State) (o : Operand) → walk_rule e g s ≡ Ok (o, new) →
+    Plain g s new
+string_plain many (Expr-F.String bytes) h f g s new o e =
+    subst (λ z. Plain g s z) (ap (λ r. r.1) (ok_same (string_node bytes s) (o, new) e)) (string_node_plain g bytes s)
 string_plain many (Expr-F.Expr::Paren a) h f g s new o e = h.string f g s new o e
 string_plain many (Expr-F.Number n unsigned) h f g s new o e = no_string _ f
 string_plain many (Expr-F.Character n) h f g s new o e = no_string _ f

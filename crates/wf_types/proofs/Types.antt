@@ -1,5 +1,6 @@
 -- Types name nothing and capture only what stands anywhere, as their arrays' lengths have the form of a constant.
-use Rattle.std.proofs.Common.{◌≡◌, ℕ, ◌-◌, false, List, [], ◌∷◌, ◌++◌, length, take, refl, sym, ap, subst, ◌∙◌, length-append, arith, Option, Some, None, Ok}
+use Rattle.std.proofs.Common.{◌≡◌, ℕ, ◌-◌, false, List, [], ◌∷◌, ◌++◌, length, take, refl, sym, ap, subst, ◌∙◌}
+use Rattle.std.proofs.Common.{length-append, arith, Option, Some, None, Ok}
 use Rattle.std.proofs.lemmas.List.{length-set, take-set}
 use Rattle.std.proofs.Math.Seq.{take-append_seam}
 use Rattle.c_types.specs.declared.ctype.Base.{Base}
@@ -26,7 +27,8 @@ use Rattle.check_statements.specs.Declarations.{length_of, declare_parameter}
 use Rattle.check_statements.specs.Rules.{computed_step, length_step, each_type, list_step, suffix_rule, each_step}
 use Rattle.wellformed.proofs.Bools.{first_false}
 use Rattle.wf_invariant.specs.Kept.{outer}
-use Rattle.wf_invariant.specs.Good.{PlainStage, Plain, PlainList, is_computed_step, any_computed, GoodSuffix, GoodShape, GoodParameter, GoodNode}
+use Rattle.wf_invariant.specs.Good.{PlainStage, Plain, PlainList, is_computed_step, any_computed, GoodSuffix, GoodShape}
+use Rattle.wf_invariant.specs.Good.{GoodParameter, GoodNode}
 use Rattle.wf_types.specs.Parts.{EachPart, GoodOptional, GoodSuffixParts}
 use Rattle.wf_types.proofs.Fronts.{starts_refl}
 use Rattle.wf_types.proofs.Walks.{ok_same, ran, pure_same, pure_value, lifted}
@@ -42,7 +44,8 @@ computed_good many e h g s new x is c =
     let r = ran (e.walk g) (λ o. pure (step.Array (length_of e.written.constant o))) s x new is in
     let v = pure_value (step.Array (length_of e.written.constant r.value)) x r.state new r.next in
     let f = has_form e.written.constant r.value (ap is_computed_step v ∙ c) in
-    plain_more (h.constant f g s r.state r.value r.first).0 (plain_same g (pure_same (step.Array (length_of e.written.constant r.value)) x r.state new r.next))
+    plain_more (h.constant f g s r.state r.value r.first).0
+    (plain_same g (pure_same (step.Array (length_of e.written.constant r.value)) x r.state new r.next))
 
 pub length_good : (many : List ℕ) (e : Option Node) → GoodOptional many e → GoodSuffix (λ g. length_step e g)
 length_good many None h g s new x is c = plain_same g (pure_same _ x s new is)
@@ -56,12 +59,14 @@ declared_outer ss name what =
     ap (λ k. take (k - 1) (declared ss name what)) (length-set ss (length ss - 1) (innermost ss ++ (name, what) ∷ []))
     ∙ take-set ss (length ss - 1) (innermost ss ++ (name, what) ∷ [])
 
-declared_stage : (g : Stage) (name : Name) (what : Meaning) (s : State) → PlainStage g s (record s { scopes = declared s.scopes name what })
+declared_stage : (g : Stage) (name : Name) (what : Meaning) (s : State) →
+    PlainStage g s (record s { scopes = declared s.scopes name what })
 declared_stage stage.Function name what s = refl
 declared_stage stage.Tick name what s = (record { inner = refl; ticks = refl }, (plain_stage_refl stage.Tick s).1)
 declared_stage stage.Dollar name what s = (record { inner = refl; ticks = refl }, refl)
 
-declared_list : (g : Stage) (name : Name) (what : Meaning) (s : State) → PlainList g s (record s { scopes = declared s.scopes name what })
+declared_list : (g : Stage) (name : Name) (what : Meaning) (s : State) →
+    PlainList g s (record s { scopes = declared s.scopes name what })
 declared_list g name what s = record {
   tables = record {
     depth = length-set s.scopes (length s.scopes - 1) (innermost s.scopes ++ (name, what) ∷ []);
@@ -78,30 +83,39 @@ declared_list g name what s = record {
   at = declared_stage g name what s;
 }
 
-declare_by_list : (g : Stage) (line : ℕ) (name : Name) (what : Meaning) (s new : State) (x : Unit {0}) (m : Option Meaning) → declared_by line name what s m ≡ Ok (x, new) → PlainList g s new
-declare_by_list g line name what s new x None e = subst (λ z. PlainList g s z) (ap (λ r. r.1) (ok_same (tt, record s { scopes = declared s.scopes name what }) (x, new) e)) (declared_list g name what s)
+declare_by_list : (g : Stage) (line : ℕ) (name : Name) (what : Meaning) (s new : State) (x : Unit {0})
+    (m : Option Meaning) → declared_by line name what s m ≡ Ok (x, new) → PlainList g s new
+declare_by_list g line name what s new x None e =
+    subst (λ z. PlainList g s z)
+    (ap (λ r. r.1) (ok_same (tt, record s { scopes = declared s.scopes name what }) (x, new) e))
+    (declared_list g name what s)
 declare_by_list g line name what s new x (Some m) e = cc
 
 declare_list : (g : Stage) (line : ℕ) (name : Name) (what : Meaning) → IsPlainList g (declare line name what)
 unfolding declare
-declare_list g line name what s new x e = declare_by_list g line name what s new x (in_scope (innermost s.scopes) name) e
+declare_list g line name what s new x e =
+    declare_by_list g line name what s new x (in_scope (innermost s.scopes) name) e
 
 list_parameter_list : (g : Stage) (line : ℕ) (name : Name) (t : CType) → IsPlainList g (list_parameter g line name t)
 unfolding list_parameter
 list_parameter_list g line name t s new x e = declare_list g line name (list_meaning g t s.frame) s new x e
 
-pub parameter_declared : (g : Stage) (line : ℕ) (name : Option (ℕ × Name)) (t : CType) → IsPlainList g (declare_parameter g line name t)
+pub parameter_declared : (g : Stage) (line : ℕ) (name : Option (ℕ × Name)) (t : CType) →
+    IsPlainList g (declare_parameter g line name t)
 parameter_declared g line None t = pure_plain_list g tt
 parameter_declared g line (Some p) t = list_parameter_list g line p.1 t
 
-each_type_list : (ps : List (Stage → Rule State CType)) (g : Stage) → EachPart GoodParameter ps → IsPlainList g (each_type ps g)
+each_type_list : (ps : List (Stage → Rule State CType)) (g : Stage) → EachPart GoodParameter ps →
+    IsPlainList g (each_type ps g)
 each_type_list [] g h = pure_plain_list g []
 each_type_list (p ∷ ps) g h =
     bind_plain_list g (p g) (λ t. each_type ps g >>= (λ ts. pure (t ∷ ts))) (h.0 g)
-    (λ t. bind_plain_list g (each_type ps g) (λ ts. pure (t ∷ ts)) (each_type_list ps g h.1) (λ ts. pure_plain_list g (t ∷ ts)))
+    (λ t. bind_plain_list g (each_type ps g) (λ ts. pure (t ∷ ts)) (each_type_list ps g h.1)
+    (λ ts. pure_plain_list g (t ∷ ts)))
 
 -- the scopes that were open
-scopes_back : (ss zs : Scopes) (x : Scope) → length zs ≡ length (ss ++ x ∷ []) → outer zs ≡ outer (ss ++ x ∷ []) → take (length ss) zs ≡ ss
+scopes_back : (ss zs : Scopes) (x : Scope) → length zs ≡ length (ss ++ x ∷ []) → outer zs ≡ outer (ss ++ x ∷ []) →
+    take (length ss) zs ≡ ss
 scopes_back ss zs x d o =
     let e : length (ss ++ x ∷ []) - 1 ≡ length ss = omega (arith, length-append ss (x ∷ [])) in
     let f : length zs - 1 ≡ length ss = ap (λ n. n - 1) d ∙ e in
@@ -129,15 +143,20 @@ list_left g s z p = record {
   at = list_stage g s z p.at;
 }
 
-list_good : (ps : List (Stage → Rule State CType)) → EachPart GoodParameter ps → (g : Stage) (s new : State) (x : Step) → list_step ps g s ≡ Ok (x, new) → Plain g s new
+list_good : (ps : List (Stage → Rule State CType)) → EachPart GoodParameter ps →
+    (g : Stage) (s new : State) (x : Step) → list_step ps g s ≡ Ok (x, new) → Plain g s new
 unfolding enter leave
 list_good ps h g s new x is =
-    let r = ran (each_type ps g) (λ ts. leave (length s.scopes) s.frame.nodes >>= (λ vs. pure (step.Function ts))) (inside s) x new is in
-    subst (λ z. Plain g s z) (pure_same (step.Function r.value) x (back s r.state) new r.next) (list_left g s r.state (each_type_list ps g h (inside s) r.state r.value r.first))
+    let r = ran (each_type ps g) (λ ts. leave (length s.scopes) s.frame.nodes >>= (λ vs. pure (step.Function ts)))
+    (inside s) x new is in
+    subst (λ z. Plain g s z) (pure_same (step.Function r.value) x (back s r.state) new r.next)
+    (list_left g s r.state (each_type_list ps g h (inside s) r.state r.value r.first))
 
 -- ---- suffixes
 
-pub suffix_good : {I D N : Type 0} (many : List ℕ) (e : Suffix-F Shape Node I (Option Node) Item (Stage → Rule State Step) D Shape N (Stage → Rule State CType) Named) → GoodSuffixParts many e → GoodSuffix (suffix_rule e)
+pub suffix_good : {I D N : Type 0} (many : List ℕ)
+    (e : Suffix-F Shape Node I (Option Node) Item (Stage → Rule State Step) D Shape N (Stage → Rule State CType) Named) →
+    GoodSuffixParts many e → GoodSuffix (suffix_rule e)
 suffix_good many (Suffix-F.Array e) h g s new x is c = length_good many e h g s new x is c
 suffix_good many Suffix-F.Unlisted h g s new x is c = plain_same g (pure_same _ x s new is)
 suffix_good many Suffix-F.Nothing h g s new x is c = plain_same g (pure_same _ x s new is)
@@ -148,28 +167,41 @@ pub record Taken (g : Stage) (s new : State) (ss : List Step) : Type 0 where
   pub before : any_computed ss ≡ false
 
 -- all of them, behind the steps so far
-pub each_good : (rs : List (Stage → Rule State Step)) → EachPart GoodSuffix rs → (ss : List Step) (g : Stage) (s new : State) (xs : List Step) → each_step rs ss g s ≡ Ok (xs, new) → any_computed xs ≡ false → Taken g s new ss
-each_good [] h ss g s new xs is c = record { plain = plain_same g (pure_same ss xs s new is); before = ap any_computed (pure_value ss xs s new is) ∙ c }
+pub each_good : (rs : List (Stage → Rule State Step)) → EachPart GoodSuffix rs →
+    (ss : List Step) (g : Stage) (s new : State) (xs : List Step) → each_step rs ss g s ≡ Ok (xs, new) →
+    any_computed xs ≡ false → Taken g s new ss
+each_good [] h ss g s new xs is c =
+    record { plain = plain_same g (pure_same ss xs s new is); before = ap any_computed (pure_value ss xs s new is) ∙ c }
 each_good (r ∷ rs) h ss g s new xs is c =
     let q = ran (r g) (λ x. each_step rs (ss ++ x ∷ []) g) s xs new is in
     let t = each_good rs h.1 (ss ++ q.value ∷ []) g q.state new xs q.next c in
     let own = first_false (is_computed_step q.value) false (computed_rest ss (q.value ∷ []) t.before) in
-    record { plain = plain_more (h.0 g s q.state q.value q.first own) t.plain; before = computed_front ss (q.value ∷ []) t.before }
+    record {
+      plain = plain_more (h.0 g s q.state q.value q.first own) t.plain;
+      before =
+          computed_front ss (q.value ∷ []) t.before;
+    }
 
 -- ---- declarators and what they declare
 
 -- a declarator by its parts, as the walk over declarators has it
-pub declarator_good : (core : Shape) (suffixes : List (Stage → Rule State Step)) (prefixes : List Prefix) → GoodShape core → EachPart GoodSuffix suffixes
-    → (g : Stage) (s new : State) (xs : List Step) → (core.walk g >>= (λ ss. each_step suffixes ss g >>= (λ all. pure (prefixed prefixes all)))) s ≡ Ok (xs, new) → any_computed xs ≡ false → Plain g s new
+pub declarator_good : (core : Shape) (suffixes : List (Stage → Rule State Step)) (prefixes : List Prefix) →
+    GoodShape core → EachPart GoodSuffix suffixes
+    → (g : Stage) (s new : State) (xs : List Step) →
+    (core.walk g >>= (λ ss. each_step suffixes ss g >>= (λ all. pure (prefixed prefixes all)))) s ≡ Ok (xs, new) →
+    any_computed xs ≡ false → Plain g s new
 declarator_good core suffixes prefixes h k g s new xs is c =
     let q = ran (core.walk g) (λ ss. each_step suffixes ss g >>= (λ all. pure (prefixed prefixes all))) s xs new is in
     let r = ran (each_step suffixes q.value g) (λ all. pure (prefixed prefixes all)) q.state xs new q.next in
     let v = pure_value (prefixed prefixes r.value) xs r.state new r.next in
-    let t = each_good suffixes k q.value g q.state r.state r.value r.first (computed_prefixed prefixes r.value (ap any_computed v ∙ c)) in
-    plain_more (h g s q.state q.value q.first t.before) (plain_more t.plain (plain_same g (pure_same (prefixed prefixes r.value) xs r.state new r.next)))
+    let t = each_good suffixes k q.value g q.state r.state r.value r.first
+    (computed_prefixed prefixes r.value (ap any_computed v ∙ c)) in
+    plain_more (h g s q.state q.value q.first t.before)
+    (plain_more t.plain (plain_same g (pure_same (prefixed prefixes r.value) xs r.state new r.next)))
 
 -- a type that no computed length gives
-pub typed_good : (d : Shape) (f : List Step → Checked CType) → GoodShape d → ((ss : List Step) (t : CType) → f ss ≡ Ok t → any_computed ss ≡ false)
+pub typed_good : (d : Shape) (f : List Step → Checked CType) → GoodShape d →
+    ((ss : List Step) (t : CType) → f ss ≡ Ok t → any_computed ss ≡ false)
     → (g : Stage) (s new : State) (x : CType) → (d.walk g >>= (λ ss. lift (f ss))) s ≡ Ok (x, new) → Plain g s new
 typed_good d f h k g s new x is =
     let q = ran (d.walk g) (λ ss. lift (f ss)) s x new is in
@@ -178,11 +210,17 @@ typed_good d f h k g s new x is =
 
 -- a parameter of a list, which gets its name
 pub parameter_good : (line : ℕ) (b : Base) (d : Shape) → GoodShape d
-    → (g : Stage) → IsPlainList g (d.walk g >>= (λ ss. lift (declared_type role.Parameter line b ss) >>= (λ t. declare_parameter g line d.declared.name t >>= (λ u. pure t))))
+    → (g : Stage) → IsPlainList g
+    (d.walk g >>= (λ ss. lift (declared_type role.Parameter line b ss) >>=
+    (λ t. declare_parameter g line d.declared.name t >>= (λ u. pure t))))
 parameter_good line b d h g s new x is =
-    let q = ran (d.walk g) (λ ss. lift (declared_type role.Parameter line b ss) >>= (λ t. declare_parameter g line d.declared.name t >>= (λ u. pure t))) s x new is in
-    let r = ran (lift (declared_type role.Parameter line b q.value)) (λ t. declare_parameter g line d.declared.name t >>= (λ u. pure t)) q.state x new q.next in
+    let q = ran (d.walk g) (λ ss. lift (declared_type role.Parameter line b ss) >>=
+    (λ t. declare_parameter g line d.declared.name t >>= (λ u. pure t))) s x new is in
+    let r = ran (lift (declared_type role.Parameter line b q.value))
+    (λ t. declare_parameter g line d.declared.name t >>= (λ u. pure t)) q.state x new q.next in
     let l = lifted (declared_type role.Parameter line b q.value) q.state r.value r.state r.first in
-    let p = plain_more (h g s q.state q.value q.first (type_not_computed role.Parameter line b q.value r.value l.value)) (plain_same g l.state) in
-    let n = bind_plain_list g (declare_parameter g line d.declared.name r.value) (λ u. pure r.value) (parameter_declared g line d.declared.name r.value) (λ u. pure_plain_list g r.value) r.state new x r.next in
+    let p = plain_more (h g s q.state q.value q.first (type_not_computed role.Parameter line b q.value r.value l.value))
+    (plain_same g l.state) in
+    let n = bind_plain_list g (declare_parameter g line d.declared.name r.value) (λ u. pure r.value)
+    (parameter_declared g line d.declared.name r.value) (λ u. pure_plain_list g r.value) r.state new x r.next in
     plain_list_more (plain_is_list p) n

@@ -10,11 +10,13 @@ pub record Ran {S A B : Type 0} (p : Rule S A) (f : A → Rule S B) (s : S) (y :
   pub first : p s ≡ Ok (value, state)
   pub next : f value state ≡ Ok (y, new)
 
-ran_by : {S A B : Type 0} (p : Rule S A) (f : A → Rule S B) (s : S) (y : B) (new : S) (r : Checked (A × S)) → p s ≡ r → (r >>>= (λ x. f x.0 x.1)) ≡ Ok (y, new) → Ran p f s y new
+ran_by : {S A B : Type 0} (p : Rule S A) (f : A → Rule S B) (s : S) (y : B) (new : S) (r : Checked (A × S)) → p s ≡ r →
+    (r >>>= (λ x. f x.0 x.1)) ≡ Ok (y, new) → Ran p f s y new
 ran_by p f s y new (Ok x) h e = record { value = x.0; state = x.1; first = h; next = e }
 ran_by p f s y new (Err k) h e = cc
 
-pub ran : {S A B : Type 0} (p : Rule S A) (f : A → Rule S B) (s : S) (y : B) (new : S) → (p >>= f) s ≡ Ok (y, new) → Ran p f s y new
+pub ran : {S A B : Type 0} (p : Rule S A) (f : A → Rule S B) (s : S) (y : B) (new : S) → (p >>= f) s ≡ Ok (y, new) →
+    Ran p f s y new
 ran p f s y new e = ran_by p f s y new (p s) refl e
 
 pub ok_same : {A : Type 0} (x y : A) → ◌≡◌ {A = Checked A} (Ok x) (Ok y) → x ≡ y

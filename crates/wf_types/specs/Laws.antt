@@ -12,7 +12,8 @@ use Rattle.check_expressions.specs.Rules.{Node, Named, Shape, Item, walk_rule}
 use Rattle.check_statements.specs.Rules.{suffix_rule}
 use Rattle.wf_invariant.specs.Kept.{Keeps, IsKeeping}
 use Rattle.wf_invariant.specs.Good.{Plain, Anywhere, GoodSuffix}
-use Rattle.wf_types.specs.Parts.{GoodParts, HasForm, IsString, GoodSuffixParts, IsFixed, FixedParts, FixedSuffix, FixedSuffixParts}
+use Rattle.wf_types.specs.Parts.{GoodParts, HasForm, IsString, GoodSuffixParts, IsFixed, FixedParts, FixedSuffix}
+use Rattle.wf_types.specs.Parts.{FixedSuffixParts}
 
 -- ---- steps that name nothing, and capture only what stands anywhere
 
@@ -36,18 +37,21 @@ ExpressionsKeep = (many : List ℕ) (e : Expr-W) → GoodParts many e → (g : S
 -- one with the form of a constant names nothing, captures only what stands anywhere, and so does its value
 abbrev pub ConstantsArePlain : Type 0
 ConstantsArePlain =
-    (many : List ℕ) (e : Expr-W) → GoodParts many e → HasForm e → (g : Stage) (s new : State) (o : Operand) → walk_rule e g s ≡ Ok (o, new)
+    (many : List ℕ) (e : Expr-W) → GoodParts many e → HasForm e → (g : Stage) (s new : State) (o : Operand) →
+    walk_rule e g s ≡ Ok (o, new)
     → Plain g s new × Anywhere g o
 
 -- and a string captures nothing
 abbrev pub StringsArePlain : Type 0
 StringsArePlain =
-    (many : List ℕ) (e : Expr-W) → GoodParts many e → IsString e → (g : Stage) (s new : State) (o : Operand) → walk_rule e g s ≡ Ok (o, new) → Plain g s new
+    (many : List ℕ) (e : Expr-W) → GoodParts many e → IsString e → (g : Stage) (s new : State) (o : Operand) →
+    walk_rule e g s ≡ Ok (o, new) → Plain g s new
 
 -- ---- types
 
 abbrev pub Suffix-W : Type 0
-Suffix-W = Suffix-F Shape Node (Unit {0}) (Option Node) Item (Stage → Rule State Step) (Unit {0}) Shape (Unit {0}) (Stage → Rule State CType) Named
+Suffix-W = Suffix-F Shape Node (Unit {0}) (Option Node) Item (Stage → Rule State Step) (Unit {0}) Shape (Unit {0})
+    (Stage → Rule State CType) Named
 
 -- a suffix of a declarator names nothing, or has a length that isn't constant
 abbrev pub SuffixesAreGood : Type 0

@@ -16,7 +16,8 @@ EachPart P [] = Unit {0}
 EachPart P (x ∷ xs) = P x × EachPart P xs
 
 -- the parts of an expression are good
-abbrev pub GoodParts : {I S D N P : Type 0} → List ℕ → Expr-F Shape Node I (Option Node) Item S D Shape N P Named → Type 0
+abbrev pub GoodParts : {I S D N P : Type 0} → List ℕ → Expr-F Shape Node I (Option Node) Item S D Shape N P Named →
+    Type 0
 GoodParts many (Expr-F.Expr::Name line name) = Unit {0}
 GoodParts many (Expr-F.Number n unsigned) = Unit {0}
 GoodParts many (Expr-F.Character n) = Unit {0}
@@ -63,7 +64,8 @@ GoodOptional many None = Unit {0}
 GoodOptional many (Some e) = GoodNode many e
 
 -- the parts of a suffix are good
-abbrev pub GoodSuffixParts : {I D N : Type 0} → List ℕ → Suffix-F Shape Node I (Option Node) Item (Stage → Rule State Step) D Shape N (Stage → Rule State CType) Named → Type 0
+abbrev pub GoodSuffixParts : {I D N : Type 0} → List ℕ →
+    Suffix-F Shape Node I (Option Node) Item (Stage → Rule State Step) D Shape N (Stage → Rule State CType) Named → Type 0
 GoodSuffixParts many (Suffix-F.Array e) = GoodOptional many e
 GoodSuffixParts many Suffix-F.Unlisted = Unit {0}
 GoodSuffixParts many Suffix-F.Nothing = Unit {0}
@@ -108,7 +110,8 @@ FixedParts (Expr-F.Sizeof line t) = FixedNamed t
 FixedParts (Expr-F.Binary line op ab) = FixedNode ab.0 × FixedNode ab.1
 FixedParts _ = Unit {0}
 
-abbrev pub FixedSuffixParts : {I D N : Type 0} → Suffix-F Shape Node I (Option Node) Item (Stage → Rule State Step) D Shape N (Stage → Rule State CType) Named → Type 0
+abbrev pub FixedSuffixParts : {I D N : Type 0} →
+    Suffix-F Shape Node I (Option Node) Item (Stage → Rule State Step) D Shape N (Stage → Rule State CType) Named → Type 0
 FixedSuffixParts (Suffix-F.Array e) = FixedOptional e
 FixedSuffixParts Suffix-F.Unlisted = Unit {0}
 FixedSuffixParts Suffix-F.Nothing = Unit {0}

@@ -9,11 +9,13 @@ use Rattle.check_operators.specs.Operands.{by, unless_void}
 use Rattle.wf_values.specs.Used.{Leaves, IsUsedValue, Unless}
 use Rattle.wf_values.proofs.Nodes.{left_of}
 
-pub unless_by : {A : Type 0} (P : A → Type 0) (line : ℕ) (k : Option FaultKind) (x : A) → (k ≡ None → P x) → Unless P (by line k x)
+pub unless_by : {A : Type 0} (P : A → Type 0) (line : ℕ) (k : Option FaultKind) (x : A) → (k ≡ None → P x) →
+    Unless P (by line k x)
 unless_by P line None x h = h refl
 unless_by P line (Some k) x h = tt
 
-pub unless_if : {A : Type 0} (P : A → Type 0) (b : Bool) (r s : Checked A) → (b ≡ true → Unless P r) → (b ≡ false → Unless P s) → Unless P (if b then r else s)
+pub unless_if : {A : Type 0} (P : A → Type 0) (b : Bool) (r s : Checked A) → (b ≡ true → Unless P r) →
+    (b ≡ false → Unless P s) → Unless P (if b then r else s)
 unless_if P true r s h k = h refl
 unless_if P false r s h k = k refl
 

@@ -1,5 +1,6 @@
 -- The rules on calls and returns.
-use Rattle.std.proofs.Common.{◌≡◌, ℕ, Bool, true, false, not, ◌==◌, refl, List, [], ◌∷◌, ◌++◌, length, Option, Some, None, arith}
+use Rattle.std.proofs.Common.{◌≡◌, ℕ, Bool, true, false, not, ◌==◌, refl, List, [], ◌∷◌, ◌++◌, length, Option, Some}
+use Rattle.std.proofs.Common.{None, arith}
 use Rattle.std.proofs.lemmas.Bool.{eqb-true}
 use Rattle.std.specs.Prelude.{slice_get}
 use Rattle.c_types.specs.declared.ctype.CType.{CType}
@@ -21,9 +22,12 @@ use Rattle.check_lvalues.specs.declared.calls.Arguments.{Arguments}
 use Rattle.check_lvalues.specs.declared.calls.Callee.{Callee}
 use Rattle.check_lvalues.specs.declared.calls.Callee.TheVariants as callee
 use Rattle.check_lvalues.specs.Places.{narrowing_of, narrowed}
-use Rattle.check_lvalues.specs.Calls.{with_argument, any_mismatches, any_void, called_breaks_at, called_breaks_by, called_breaks, call_node, called, through, static_number, call_by, call, library_kind, library_node, library, returned, tick_returned}
+use Rattle.check_lvalues.specs.Calls.{with_argument, any_mismatches, any_void, called_breaks_at, called_breaks_by}
+use Rattle.check_lvalues.specs.Calls.{called_breaks, call_node, called, through, static_number, call_by, call}
+use Rattle.check_lvalues.specs.Calls.{library_kind, library_node, library, returned, tick_returned}
 use Rattle.wellformed.proofs.Bools.{first_false, second_false}
-use Rattle.wf_values.specs.Used.{Leaves, EachLeaves, UsedAs, IsUsedValue, IsUsed, EachUsedAs, AreUsed, library_answers, takes_one_at, takes_one_by, IsLibrary, Unless}
+use Rattle.wf_values.specs.Used.{Leaves, EachLeaves, UsedAs, IsUsedValue, IsUsed, EachUsedAs, AreUsed, library_answers}
+use Rattle.wf_values.specs.Used.{takes_one_at, takes_one_by, IsLibrary, Unless}
 use Rattle.wf_values.specs.Laws.{CallsUse}
 use Rattle.wf_values.proofs.Broken.{unless_by, unless_if, no_fault, no_other, is_so, no_first}
 use Rattle.wf_values.proofs.Nodes.{as_used, left_of, getchar_left, call_used, call_number_used, library_used}
@@ -32,7 +36,8 @@ use Rattle.wf_values.proofs.Types.{integer_not_void, pointer_not_void}
 
 -- ---- arguments
 
-one_more : (as_ : List Argument) (es : List Expr) (a : Argument) (e : Expr) → EachUsedAs as_ es → UsedAs a.ctype e → EachUsedAs (as_ ++ a ∷ []) (es ++ e ∷ [])
+one_more : (as_ : List Argument) (es : List Expr) (a : Argument) (e : Expr) → EachUsedAs as_ es → UsedAs a.ctype e →
+    EachUsedAs (as_ ++ a ∷ []) (es ++ e ∷ [])
 one_more [] [] a e h k = (k, tt)
 one_more [] (x ∷ es) a e h k = absurd h
 one_more (b ∷ as_) [] a e h k = absurd h
@@ -46,8 +51,10 @@ each_value : (as_ : List Argument) (es : List Expr) → any_void as_ ≡ false �
 each_value [] [] n h = tt
 each_value [] (e ∷ es) n h = absurd h
 each_value (a ∷ as_) [] n h = absurd h
-each_value (a ∷ as_) (e ∷ es) n h =
-    (left_of a.ctype e h.0 (first_false (is_void a.ctype) (any_void as_) n), each_value as_ es (second_false (is_void a.ctype) (any_void as_) n) h.1)
+each_value (a ∷ as_) (e ∷ es) n h = (
+  left_of a.ctype e h.0 (first_false (is_void a.ctype) (any_void as_) n),
+  each_value as_ es (second_false (is_void a.ctype) (any_void as_) n) h.1,
+)
 
 -- ---- what a call takes
 
@@ -65,15 +72,18 @@ none_void_by : (as_ : List Argument) (l : Option Layer) → called_breaks_by as_
 none_void_by as_ None h = cc
 none_void_by as_ (Some l) h = none_void_at as_ (out-Layer l) h
 
-arguments_left : (t : CType) (list : Arguments) → AreUsed list → called_breaks t list.types ≡ None → EachLeaves list.codes
+arguments_left : (t : CType) (list : Arguments) → AreUsed list → called_breaks t list.types ≡ None →
+    EachLeaves list.codes
 arguments_left t list h k = each_value list.types list.codes (none_void_by list.types (outermost (layers_of t)) k) h
 
 -- ---- calls
 
-narrowing_used : (t : CType) (k : Option Integer) (e : Expr) → integer_of t ≡ k → UsedAs t e → UsedAs t (narrowing_of k e)
+narrowing_used : (t : CType) (k : Option Integer) (e : Expr) → integer_of t ≡ k → UsedAs t e →
+    UsedAs t (narrowing_of k e)
 narrowing_used t None e q h = h
 narrowing_used t (Some k) e q h =
-    let n : is_void t ≡ false = integer_not_void t k q in as_used t _ (converted_by_left (narrowing k) e (left_of t e h n)) n
+    let n : is_void t ≡ false = integer_not_void t k q in
+    as_used t _ (converted_by_left (narrowing k) e (left_of t e h n)) n
 
 narrowed_used : (t : CType) (e : Expr) → UsedAs t e → UsedAs t (narrowed t e)
 narrowed_used t e h = narrowing_used t (integer_of t) e refl h
@@ -86,17 +96,21 @@ node_used : (f : Callee) (t : CType) (es : List Expr) → UsedCallee f → EachL
 node_used (callee.Static f) t es h k = call_used t f es k
 node_used (callee.Number e) t es h k = narrowed_used t _ (call_number_used t e es h k)
 
-called_used : (line : ℕ) (f : Callee) (t : CType) (list : Arguments) → UsedCallee f → AreUsed list → Unless IsUsed (called line f t list)
+called_used : (line : ℕ) (f : Callee) (t : CType) (list : Arguments) → UsedCallee f → AreUsed list →
+    Unless IsUsed (called line f t list)
 unfolding called
 called_used line f t list h u =
     unless_by IsUsed line _ _ (λ k. node_used f (inner t) list.codes h (arguments_left t list u k))
 
-through_used : (line : ℕ) (v : Value) (list : Arguments) → IsUsedValue v → AreUsed list → Unless IsUsed (through line v list)
+through_used : (line : ℕ) (v : Value) (list : Arguments) → IsUsedValue v → AreUsed list →
+    Unless IsUsed (through line v list)
 through_used line v list h u =
     unless_if IsUsed (is_pointer v.ctype) _ _
-    (λ p. called_used line (callee.Number v.code) (inner v.ctype) list (left_of v.ctype v.code h (pointer_not_void v.ctype p)) u) (λ p. tt)
+    (λ p. called_used line (callee.Number v.code) (inner v.ctype) list
+    (left_of v.ctype v.code h (pointer_not_void v.ctype p)) u) (λ p. tt)
 
-placed_call_used : (line : ℕ) (p : Place) (o : Operand) (list : Arguments) → IsUsed o → AreUsed list → Unless IsUsed (call_by line o list (static_number p))
+placed_call_used : (line : ℕ) (p : Place) (o : Operand) (list : Arguments) → IsUsed o → AreUsed list →
+    Unless IsUsed (call_by line o list (static_number p))
 placed_call_used line (place.Value e) o list h u = through_used line (value_of o) list (value_used o h) u
 placed_call_used line (place.Register i) o list h u = through_used line (value_of o) list (value_used o h) u
 placed_call_used line (place.Generated i) o list h u = through_used line (value_of o) list (value_used o h) u
@@ -112,7 +126,8 @@ calling_used line o list h u = placed_call_used line o.place o list h u
 -- what takes an argument is not called with none
 taken_at : (l : Opened) → takes_one_at l ≡ true → called_breaks_at [] l ≡ None → ⊥
 taken_at (Layer-F.Function []) h k = cc
-taken_at (Layer-F.Function (t ∷ ts)) h k = let e : 0 ≡ length (t ∷ ts) = eqb-true 0 (length (t ∷ ts)) (is_so (0 == length (t ∷ ts)) fault.ArgumentCount _ k) in omega arith
+taken_at (Layer-F.Function (t ∷ ts)) h k = let e : 0 ≡ length (t ∷ ts) =
+    eqb-true 0 (length (t ∷ ts)) (is_so (0 == length (t ∷ ts)) fault.ArgumentCount _ k) in omega arith
 taken_at Layer-F.Unlisted h k = cc
 taken_at Layer-F.Pointer h k = cc
 taken_at (Layer-F.Array n) h k = cc
@@ -132,13 +147,17 @@ answers_value : (b : Bool) → true ≡ not b → b ≡ false
 answers_value true h = cc
 answers_value false h = refl
 
-library_node_used : (n : ℕ) (t : CType) (f : Option Library) (as_ : List Argument) (es : List Expr) → IsLibrary n t → library_answers f ≡ not (is_void (inner t)) → EachUsedAs as_ es → called_breaks t as_ ≡ None → EachLeaves es → UsedAs (inner t) (library_node f (slice_get es 0))
+library_node_used : (n : ℕ) (t : CType) (f : Option Library) (as_ : List Argument) (es : List Expr) → IsLibrary n t →
+    library_answers f ≡ not (is_void (inner t)) → EachUsedAs as_ es → called_breaks t as_ ≡ None → EachLeaves es →
+    UsedAs (inner t) (library_node f (slice_get es 0))
 library_node_used n t None as_ es l a u k h = as_used (inner t) _ getchar_left (answers_value (is_void (inner t)) a)
-library_node_used n t (Some f) [] [] l a u k h = as_used (inner t) _ getchar_left (without (is_void (inner t)) t n refl l k)
+library_node_used n t (Some f) [] [] l a u k h =
+    as_used (inner t) _ getchar_left (without (is_void (inner t)) t n refl l k)
 library_node_used n t (Some f) (x ∷ as_) [] l a u k h = absurd u
 library_node_used n t (Some f) as_ (e ∷ es) l a u k h = library_used (inner t) f e a h.0
 
-library_call_used : (line n : ℕ) (t : CType) (list : Arguments) → IsLibrary n t → AreUsed list → Unless IsUsed (library line n t list)
+library_call_used : (line n : ℕ) (t : CType) (list : Arguments) → IsLibrary n t → AreUsed list →
+    Unless IsUsed (library line n t list)
 unfolding library
 library_call_used line n t list l u =
     unless_by IsUsed line _ _
@@ -149,7 +168,8 @@ library_call_used line n t list l u =
 returned_left : (line : ℕ) (t : CType) (v : Value) → IsUsedValue v → Unless Leaves (returned line t v)
 unfolding returned
 returned_left line t v h =
-    unless_by Leaves line _ _ (λ k. converted_left v t (left_of v.ctype v.code h (no_fault (is_void v.ctype) fault.VoidValue _ k)))
+    unless_by Leaves line _ _
+    (λ k. converted_left v t (left_of v.ctype v.code h (no_fault (is_void v.ctype) fault.VoidValue _ k)))
 
 tick_returned_left : (line : ℕ) (v : Value) → IsUsedValue v → Unless Leaves (tick_returned line v)
 unfolding tick_returned

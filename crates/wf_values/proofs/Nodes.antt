@@ -1,5 +1,6 @@
 -- Where the parts of a node are used right, the node leaves its value; one law a node.
-use Rattle.std.proofs.Common.{◌≡◌, ℕ, Bool, true, false, not, if◌then◌else◌, refl, ap, sym, ◌∙◌, List, [], ◌∷◌, ◌++◌, map}
+use Rattle.std.proofs.Common.{◌≡◌, ℕ, Bool, true, false, not, if◌then◌else◌, refl, ap, sym, ◌∙◌, List, [], ◌∷◌, ◌++◌}
+use Rattle.std.proofs.Common.{map}
 use Rattle.word32.specs.declared.width.Width.{Width}
 use Rattle.icode_ops.specs.declared.kind.BinKind.{BinKind}
 use Rattle.icode_ops.specs.declared.kind.UnKind.{UnKind}
@@ -14,7 +15,13 @@ use Rattle.typed_tree.specs.declared.expression.Expr.TheVariants as ex
 use Rattle.typed_tree.specs.Sizes.{is_value, answers}
 use Rattle.check_lvalues.specs.Calls.{answer_of}
 use Rattle.wellformed.specs.Values.{Use, used, all_used, same, value_use, is_right}
-use Rattle.wellformed.proofs.Uses.{value_use_const, value_use_captured, value_use_var, value_use_setvar, value_use_postvar, value_use_vget, value_use_vset, value_use_vpost, value_use_frame, value_use_load, value_use_store, value_use_modify, value_use_post, value_use_bin, value_use_un, value_use_and, value_use_or, value_use_cond, value_use_comma, value_use_void, value_use_call, value_use_callnumber, value_use_getchar, value_use_lib, value_use_tick, value_use_capture, value_use_splice, value_use_compile, value_use_local, value_use_paramof}
+use Rattle.wellformed.proofs.Uses.{value_use_const, value_use_captured, value_use_var, value_use_setvar}
+use Rattle.wellformed.proofs.Uses.{value_use_postvar, value_use_vget, value_use_vset, value_use_vpost, value_use_frame}
+use Rattle.wellformed.proofs.Uses.{value_use_load, value_use_store, value_use_modify, value_use_post, value_use_bin}
+use Rattle.wellformed.proofs.Uses.{value_use_un, value_use_and, value_use_or, value_use_cond, value_use_comma}
+use Rattle.wellformed.proofs.Uses.{value_use_void, value_use_call, value_use_callnumber, value_use_getchar}
+use Rattle.wellformed.proofs.Uses.{value_use_lib, value_use_tick, value_use_capture, value_use_splice}
+use Rattle.wellformed.proofs.Uses.{value_use_compile, value_use_local, value_use_paramof}
 use Rattle.wellformed.proofs.Bools.{and_true, first_true, second_true}
 use Rattle.wf_values.specs.Used.{Leaves, EachLeaves, UsedAs}
 use Rattle.wf_values.specs.Laws.{NodesUse}
@@ -28,7 +35,11 @@ pub right_of : (e : Expr) → Leaves e → is_right e ≡ true
 right_of e h = second_true (value_use e).value (value_use e).right h
 
 pub as_used : (t : CType) (e : Expr) → Leaves e → is_void t ≡ false → UsedAs t e
-as_used t e h n = record { right = right_of e h; value = first_true (value_use e).value (value_use e).right h ∙ sym (ap not n) }
+as_used t e h n = record {
+  right = right_of e h;
+  value =
+      first_true (value_use e).value (value_use e).right h ∙ sym (ap not n);
+}
 
 pub left_of : (t : CType) (e : Expr) → UsedAs t e → is_void t ≡ false → Leaves e
 left_of t e h n = and_true _ _ (h.value ∙ ap not n) h.right
@@ -135,10 +146,12 @@ same_values false false d p q = refl
 same_values true false d p q = cc
 same_values false true d p q = cc
 
-pub choice_used : (r s t : CType) (c x y : Expr) → is_void s ≡ is_void r → is_void t ≡ is_void r → Leaves c → UsedAs s x → UsedAs t y → UsedAs r (ex.Cond c x y)
+pub choice_used : (r s t : CType) (c x y : Expr) → is_void s ≡ is_void r → is_void t ≡ is_void r → Leaves c →
+    UsedAs s x → UsedAs t y → UsedAs r (ex.Cond c x y)
 choice_used r s t c x y m n h k l =
     by_use r _ _ (value_use_cond c x y)
-    (and_true _ _ (and_true _ _ (and_true _ _ h k.right) l.right) (same_values _ _ _ (k.value ∙ ap not m) (l.value ∙ ap not n)))
+    (and_true _ _ (and_true _ _ (and_true _ _ h k.right) l.right)
+    (same_values _ _ _ (k.value ∙ ap not m) (l.value ∙ ap not n)))
     (k.value ∙ ap not m)
 
 answered : (b : Bool) → is_value (if b then answer.Void else answer.Value) ≡ not b
@@ -148,7 +161,8 @@ answered false = refl
 pub call_used : (t : CType) (f : ℕ) (es : List Expr) → EachLeaves es → UsedAs t (ex.Call (answer_of t) f es)
 call_used t f es h = by_use t _ _ (value_use_call (answer_of t) f es) (each_left es h) (answered (is_void t))
 
-pub call_number_used : (t : CType) (e : Expr) (es : List Expr) → Leaves e → EachLeaves es → UsedAs t (ex.CallNumber (answer_of t) e es)
+pub call_number_used : (t : CType) (e : Expr) (es : List Expr) → Leaves e → EachLeaves es →
+    UsedAs t (ex.CallNumber (answer_of t) e es)
 call_number_used t e es h k =
     by_use t _ _ (value_use_callnumber (answer_of t) e es) (and_true _ _ h (each_left es k)) (answered (is_void t))
 

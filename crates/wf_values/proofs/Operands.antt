@@ -8,7 +8,8 @@ use Rattle.c_types.specs.declared.ctype.Layer.TheVariants as layer
 use Rattle.c_types.specs.Types as types
 use Rattle.c_types.specs.Types.{limited_size, base_of, layers_of, under}
 use Rattle.check_declarators.specs.Making.{decayed}
-use Rattle.check_types.specs.Shapes.{integer, inner, decays, width_of, conversion, is_void, is_pointer, points_to_void, promoted}
+use Rattle.check_types.specs.Shapes.{integer, inner, decays, width_of, conversion, is_void, is_pointer, points_to_void}
+use Rattle.check_types.specs.Shapes.{promoted}
 use Rattle.tick_tree.specs.declared.fault.FaultKind.TheVariants as fault
 use Rattle.typed_tree.specs.declared.expression.Expr.{Expr}
 use Rattle.typed_tree.specs.declared.expression.Expr.TheVariants as ex
@@ -16,12 +17,15 @@ use Rattle.check_operators.specs.declared.operand.Operand.{Operand}
 use Rattle.check_operators.specs.declared.operand.Place.{Place}
 use Rattle.check_operators.specs.declared.operand.Place.TheVariants as place
 use Rattle.check_operators.specs.declared.operand.Value.{Value}
-use Rattle.check_operators.specs.Operands.{code_of, value_of, as_operand, at_address, settled, converted, converted_by, number, number_kind, character, string, size_by, condition, switched, plus, on_integer, pointer_breaks, dereferenced, negated, cast, effect, unless_kind}
+use Rattle.check_operators.specs.Operands.{code_of, value_of, as_operand, at_address, settled, converted, converted_by}
+use Rattle.check_operators.specs.Operands.{number, number_kind, character, string, size_by, condition, switched, plus}
+use Rattle.check_operators.specs.Operands.{on_integer, pointer_breaks, dereferenced, negated, cast, effect, unless_kind}
 use Rattle.wellformed.specs.Values.{is_right}
 use Rattle.wf_values.specs.Used.{Leaves, UsedAs, IsUsedValue, InMemory, UsedPlace, IsUsed, Unless}
 use Rattle.wf_values.specs.Laws.{OperandsUse, PrefixesUse}
 use Rattle.wf_values.proofs.Broken.{unless_by, unless_if, no_other, is_so, not_void, value_left, but_not}
-use Rattle.wf_values.proofs.Nodes.{as_used, retyped, const_left, var_left, generated_left, load_left, un_left, void_used}
+use Rattle.wf_values.proofs.Nodes.{as_used, retyped, const_left, var_left, generated_left, load_left, un_left}
+use Rattle.wf_values.proofs.Nodes.{void_used}
 use Rattle.wf_values.proofs.Types.{integer_type, layer_type, inner_type, decayed_type, promoted_type}
 
 memory_left : (b : Bool) (w : Width) (e : Expr) → Leaves e → Leaves (if b then e else ex.Load w e)
@@ -32,7 +36,8 @@ code_used : (p : Place) (t : CType) → UsedPlace p t → UsedAs (decayed t) (co
 code_used (place.Value e) t h = retyped t (decayed t) e h (decayed_type t)
 code_used (place.Register i) t h = as_used (decayed t) (ex.Var i) (var_left i) (decayed_type t ∙ h)
 code_used (place.Generated i) t h = as_used (decayed t) (ex.VGet i) (generated_left i) (decayed_type t ∙ h)
-code_used (place.Memory e) t h = as_used (decayed t) _ (memory_left (decays t) (width_of t) e h.address) (decayed_type t ∙ h.type)
+code_used (place.Memory e) t h =
+    as_used (decayed t) _ (memory_left (decays t) (width_of t) e h.address) (decayed_type t ∙ h.type)
 code_used (place.Function f) t h = as_used (decayed t) (ex.Const f) (const_left f) (decayed_type t ∙ h)
 
 pub value_used : (o : Operand) → IsUsed o → IsUsedValue (value_of o)
@@ -98,15 +103,19 @@ switched_left line v h = unless_by Leaves line _ v.code (λ k. value_left v _ h 
 
 plus_used : (line : ℕ) (v : Value) → IsUsedValue v → Unless IsUsed (plus line v)
 unfolding plus
-plus_used line v h = unless_by IsUsed line _ _ (λ k. retyped v.ctype (promoted v.ctype) v.code h (promoted_type v.ctype))
+plus_used line v h = unless_by IsUsed line _ _
+    (λ k. retyped v.ctype (promoted v.ctype) v.code h (promoted_type v.ctype))
 
 on_integer_used : (line : ℕ) (u : UnKind) (v : Value) → IsUsedValue v → Unless IsUsed (on_integer line u v)
 unfolding on_integer
 on_integer_used line u v h =
-    unless_by IsUsed line _ _ (λ k. as_used (promoted v.ctype) _ (un_left u v.code (value_left v _ h k)) (promoted_type v.ctype ∙ not_void v _ k))
+    unless_by IsUsed line _ _
+    (λ k. as_used (promoted v.ctype) _ (un_left u v.code (value_left v _ h k))
+    (promoted_type v.ctype ∙ not_void v _ k))
 
 -- what a pointer that isn't one to void points to
-pointed_value : (v : Value) → pointer_breaks v ≡ None → types.is_void (base_of v.ctype) (under (layers_of v.ctype)) ≡ false
+pointed_value : (v : Value) → pointer_breaks v ≡ None →
+    types.is_void (base_of v.ctype) (under (layers_of v.ctype)) ≡ false
 pointed_value v k =
     but_not (is_pointer v.ctype) _ (is_so _ fault.BadOperand None (no_other (is_void v.ctype) fault.VoidValue _ k))
 
@@ -123,7 +132,8 @@ dereferenced_used line v h =
 
 negated_used : (line : ℕ) (v : Value) → IsUsedValue v → Unless IsUsed (negated line v)
 unfolding negated
-negated_used line v h = unless_by IsUsed line _ _ (λ k. as_used _ _ (un_left _ v.code (value_left v _ h k)) (integer_type kind.Int))
+negated_used line v h = unless_by IsUsed line _ _
+    (λ k. as_used _ _ (un_left _ v.code (value_left v _ h k)) (integer_type kind.Int))
 
 cast_used : (line : ℕ) (t : CType) (v : Value) → IsUsedValue v → Unless IsUsed (cast line t v)
 unfolding cast

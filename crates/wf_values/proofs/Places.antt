@@ -18,11 +18,15 @@ use Rattle.check_operators.specs.declared.operators.Combined.{Combined}
 use Rattle.check_operators.specs.declared.operators.Combined.TheVariants as by_form
 use Rattle.check_operators.specs.Operands.{converted}
 use Rattle.check_operators.specs.Operators.{built, combine}
-use Rattle.check_lvalues.specs.Places.{is_place, place_breaks, void_breaks, mismatches, assign_breaks, stored, assign, operator_of, comes_back, narrowing_of, narrowed, kind_in, right_in, changed, modified, modify_by, modify, step_of, step_kind, stepped_by, stepped, amount, posted, post_by, post, address_of, address}
+use Rattle.check_lvalues.specs.Places.{is_place, place_breaks, void_breaks, mismatches, assign_breaks, stored, assign}
+use Rattle.check_lvalues.specs.Places.{operator_of, comes_back, narrowing_of, narrowed, kind_in, right_in, changed}
+use Rattle.check_lvalues.specs.Places.{modified, modify_by, modify, step_of, step_kind, stepped_by, stepped, amount}
+use Rattle.check_lvalues.specs.Places.{posted, post_by, post, address_of, address}
 use Rattle.wf_values.specs.Used.{Leaves, IsUsedValue, UsedPlace, IsUsed, Unless}
 use Rattle.wf_values.specs.Laws.{PlacesUse}
 use Rattle.wf_values.proofs.Broken.{unless_by, no_fault, no_other, is_so, no_first}
-use Rattle.wf_values.proofs.Nodes.{as_used, left_of, const_left, var_left, generated_left, set_left, set_generated_left, post_variable_left, post_generated_left, store_left, modify_left, post_left}
+use Rattle.wf_values.proofs.Nodes.{as_used, left_of, const_left, var_left, generated_left, set_left, set_generated_left}
+use Rattle.wf_values.proofs.Nodes.{post_variable_left, post_generated_left, store_left, modify_left, post_left}
 use Rattle.wf_values.proofs.Operands.{converted_by_left, converted_left}
 use Rattle.wf_values.proofs.Combining.{value_of_operator}
 use Rattle.wf_values.proofs.Operators.{scaled_left, built_left}
@@ -53,8 +57,10 @@ unfolding assign
 assign_used line o v h u =
     unless_by IsUsed line _ _
     (λ k. let p : place_breaks o (void_breaks v) ≡ None = assigned_place o v k in
-    let n : is_void v.ctype ≡ false = no_fault (is_void v.ctype) fault.VoidValue None (no_first (is_place o.place) fault.NotPlace _ p) in
-    as_used o.ctype _ (stored_left o.place o.ctype (converted v o.ctype) h (converted_left v o.ctype (left_of v.ctype v.code u n)))
+    let n : is_void v.ctype ≡ false =
+    no_fault (is_void v.ctype) fault.VoidValue None (no_first (is_place o.place) fault.NotPlace _ p) in
+    as_used o.ctype _ (stored_left o.place o.ctype (converted v o.ctype) h
+    (converted_left v o.ctype (left_of v.ctype v.code u n)))
     (place_type o.place o.ctype (is_so (is_place o.place) fault.NotPlace _ p) h))
 
 -- ---- `op=`
@@ -77,20 +83,25 @@ changed_left c (place.Value x) t e h k = k
 changed_left c (place.Register i) t e h k =
     set_left i _ (narrowed_left t (built c (ex.Var i) e) (built_left c (ex.Var i) e (var_left i) k))
 changed_left c (place.Generated i) t e h k = set_generated_left i _ (built_left c (ex.VGet i) e (generated_left i) k)
-changed_left c (place.Memory x) t e h k = modify_left (width_of t) (kind_in c) x (right_in c e) h.address (right_left c e k)
+changed_left c (place.Memory x) t e h k =
+    modify_left (width_of t) (kind_in c) x (right_in c e) h.address (right_left c e k)
 changed_left c (place.Function f) t e h k = k
 
-modified_used : (line : ℕ) (c : Combined) (o : Operand) (e : Expr) → IsUsed o → (comes_back c ≡ true → Leaves e) → Unless IsUsed (modified line c o e)
+modified_used : (line : ℕ) (c : Combined) (o : Operand) (e : Expr) → IsUsed o → (comes_back c ≡ true → Leaves e) →
+    Unless IsUsed (modified line c o e)
 modified_used line c o e h k =
     unless_by IsUsed line _ _
     (λ b. as_used o.ctype _ (changed_left c o.place o.ctype e h (k (is_so (comes_back c) fault.TypeMismatch _ b)))
-    (place_type o.place o.ctype (is_so (is_place o.place) fault.NotPlace None (no_first (comes_back c) fault.TypeMismatch _ b)) h))
+    (place_type o.place o.ctype
+    (is_so (is_place o.place) fault.NotPlace None (no_first (comes_back c) fault.TypeMismatch _ b)) h))
 
-modify_by_used : (line : ℕ) (o : Operand) (v : Value) (c : Option Combined) → ((d : Combined) → c ≡ Some d → comes_back d ≡ true → Leaves v.code) → IsUsed o → Unless IsUsed (modify_by line o v c)
+modify_by_used : (line : ℕ) (o : Operand) (v : Value) (c : Option Combined) →
+    ((d : Combined) → c ≡ Some d → comes_back d ≡ true → Leaves v.code) → IsUsed o → Unless IsUsed (modify_by line o v c)
 modify_by_used line o v None k h = tt
 modify_by_used line o v (Some c) k h = modified_used line c o v.code h (k c refl)
 
-modify_used : (line : ℕ) (m : ModifyOp) (o : Operand) (v : Value) → IsUsed o → IsUsedValue v → Unless IsUsed (modify line m o v)
+modify_used : (line : ℕ) (m : ModifyOp) (o : Operand) (v : Value) → IsUsed o → IsUsedValue v →
+    Unless IsUsed (modify line m o v)
 unfolding modify
 modify_used line m o v h u =
     modify_by_used line o v (combine (operator_of m) o.ctype false v.ctype v.zero)
@@ -98,9 +109,11 @@ modify_used line m o v h u =
 
 -- ---- `++` and `--`
 
-stepped_by_used : (line : ℕ) (s : StepOp) (o : Operand) (n : Option ℕ) → IsUsed o → Unless IsUsed (stepped_by line s o n)
+stepped_by_used : (line : ℕ) (s : StepOp) (o : Operand) (n : Option ℕ) → IsUsed o →
+    Unless IsUsed (stepped_by line s o n)
 stepped_by_used line s o None h = tt
-stepped_by_used line s o (Some n) h = modified_used line (by_form.Words (step_kind s) kind.Int) o (ex.Const n) h (λ b. const_left n)
+stepped_by_used line s o (Some n) h =
+    modified_used line (by_form.Words (step_kind s) kind.Int) o (ex.Const n) h (λ b. const_left n)
 
 stepped_used : (line : ℕ) (s : StepOp) (o : Operand) → IsUsed o → Unless IsUsed (stepped line s o)
 unfolding stepped

@@ -19,7 +19,8 @@ compile_used : (line : ℕ) (t : CType) (v : Value) → IsUsedValue v → Unless
 unfolding compile
 compile_used line t v h =
     unless_by IsUsed line _ _
-    (λ k. as_used _ _ (compile_left v.code (value_left v _ h (no_other (not (compiles_to t)) fault.TypeMismatch _ k))) (layer_type layer.Pointer _))
+    (λ k. as_used _ _ (compile_left v.code (value_left v _ h (no_other (not (compiles_to t)) fault.TypeMismatch _ k)))
+    (layer_type layer.Pointer _))
 
 local_used : (line : ℕ) (t : CType) → Unless IsUsed (local line t)
 unfolding local
@@ -29,12 +30,14 @@ parameter_used : (line : ℕ) (t : CType) (v : Value) → IsUsedValue v → Unle
 unfolding parameter
 parameter_used line t v h =
     unless_by IsUsed line _ _
-    (λ k. as_used _ _ (parameter_left v.code (value_left v _ h (no_first (is_word t) fault.TypeMismatch _ k))) (layer_type layer.Vspec t))
+    (λ k. as_used _ _ (parameter_left v.code (value_left v _ h (no_first (is_word t) fault.TypeMismatch _ k)))
+    (layer_type layer.Vspec t))
 
 dollar_used : (line : ℕ) (v : Value) → IsUsedValue v → Unless IsCaptured (dollar line v)
 unfolding dollar
 dollar_used line v h =
-    unless_by IsCaptured line _ _ (λ k. record { code = value_left v _ h k; type = promoted_type v.ctype ∙ not_void v _ k })
+    unless_by IsCaptured line _ _
+    (λ k. record { code = value_left v _ h k; type = promoted_type v.ctype ∙ not_void v _ k })
 
 pub stages_use : StagesUse
 stages_use = record {

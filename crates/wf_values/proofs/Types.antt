@@ -1,5 +1,6 @@
 -- Which types are void: the one without layers over no integer.
-use Rattle.std.proofs.Common.{◌≡◌, ℕ, Bool, true, false, if◌then◌else◌, refl, sym, ◌∙◌, List, [], ◌∷◌, ◌++◌, Option, Some, None}
+use Rattle.std.proofs.Common.{◌≡◌, ℕ, Bool, true, false, if◌then◌else◌, refl, sym, ◌∙◌, List, [], ◌∷◌, ◌++◌, Option}
+use Rattle.std.proofs.Common.{Some, None}
 use Rattle.c_types.specs.declared.ctype.Base.{Base}
 use Rattle.c_types.specs.declared.ctype.Base.TheVariants as base
 use Rattle.c_types.specs.declared.ctype.Integer.{Integer}
@@ -9,7 +10,8 @@ use Rattle.c_types.specs.declared.ctype.CType.{CType}
 use Rattle.c_types.specs.Types as types
 use Rattle.c_types.specs.Types.{base_of, layers_of, outermost, under, limited_parts, pointed_size}
 use Rattle.check_declarators.specs.Making.{decayed, decayed_layers, is_array, is_function, ctype}
-use Rattle.check_types.specs.Shapes.{integer_parts, integer_of, is_void, is_pointer, integer, void, over, inner, promoted_by, promoted}
+use Rattle.check_types.specs.Shapes.{integer_parts, integer_of, is_void, is_pointer, integer, void, over, inner}
+use Rattle.check_types.specs.Shapes.{promoted_by, promoted}
 
 -- ---- by the base and the layers
 
@@ -31,7 +33,8 @@ layered_value : (b : Base) (ls : List Layer) (l : Layer) → types.is_void b (ls
 layered_value b [] l = refl
 layered_value b (x ∷ ls) l = refl
 
-one_of : (b : Base) (l p : Layer) (ls ms : List Layer) (x y : Bool) → types.is_void b (if x then ms ++ p ∷ [] else (if y then (l ∷ ls) ++ p ∷ [] else (l ∷ ls))) ≡ false
+one_of : (b : Base) (l p : Layer) (ls ms : List Layer) (x y : Bool) →
+    types.is_void b (if x then ms ++ p ∷ [] else (if y then (l ∷ ls) ++ p ∷ [] else (l ∷ ls))) ≡ false
 one_of b l p ls ms true y = layered_value b ms p
 one_of b l p ls ms false true = refl
 one_of b l p ls ms false false = refl
@@ -74,10 +77,12 @@ promoted_by_type t (Some k) h = integer_type (types.promoted k) ∙ sym (integer
 pub promoted_type : (t : CType) → is_void (promoted t) ≡ is_void t
 promoted_type t = promoted_by_type t (integer_of t) refl
 
-sized_by : (b : Base) (ls : List Layer) (n : ℕ) (x : Bool) → (if x then limited_parts b ls else None) ≡ Some n → types.is_void b ls ≡ false
+sized_by : (b : Base) (ls : List Layer) (n : ℕ) (x : Bool) → (if x then limited_parts b ls else None) ≡ Some n →
+    types.is_void b ls ≡ false
 sized_by b ls n true h = limited_value b ls n h
 sized_by b ls n false h = cc
 
 pub pointed_type : (t : CType) (n : ℕ) → pointed_size t ≡ Some n → is_void (inner t) ≡ false
 unfolding pointed_size
-pointed_type t n h = inner_type t ∙ sized_by (base_of t) (under (layers_of t)) n (types.is_pointer (outermost (layers_of t))) h
+pointed_type t n h = inner_type t ∙
+    sized_by (base_of t) (under (layers_of t)) n (types.is_pointer (outermost (layers_of t))) h

@@ -36,8 +36,10 @@ pub record TypesUse : Type 0 where
   -- a value's type is void where its place's is
   pub decayed : (t : CType) → is_void (decayed t) ≡ is_void t
   -- the type of a declared name isn't void, and that of a variable of generated code isn't either
-  pub declared : (r : Role) (line : ℕ) (b : Base) (ss : List Step) (t : CType) → declares r ≡ true → declared_type r line b ss ≡ Ok t → is_void t ≡ false
-  pub vspec : (r : Role) (line : ℕ) (b : Base) (ss : List Step) (t : CType) → declared_type r line b ss ≡ Ok t → is_vspec t ≡ true → is_void (inner t) ≡ false
+  pub declared : (r : Role) (line : ℕ) (b : Base) (ss : List Step) (t : CType) → declares r ≡ true →
+      declared_type r line b ss ≡ Ok t → is_void t ≡ false
+  pub vspec : (r : Role) (line : ℕ) (b : Base) (ss : List Step) (t : CType) → declared_type r line b ss ≡ Ok t →
+      is_vspec t ≡ true → is_void (inner t) ≡ false
 
 -- the types of the library functions, by their numbers
 pub record LibraryUses : Type 0 where
@@ -87,9 +89,11 @@ pub record PrefixesUse : Type 0 where
 
 pub record OperatorsUse : Type 0 where
   pub comma : (v w : Value) → IsUsedValue v → IsUsedValue w → IsUsed (nodes.comma v w)
-  pub binary : (line : ℕ) (o : BinaryOp) (v w : Value) → IsUsedValue v → IsUsedValue w → Unless IsUsed (operators.binary line o v w)
+  pub binary : (line : ℕ) (o : BinaryOp) (v w : Value) → IsUsedValue v → IsUsedValue w →
+      Unless IsUsed (operators.binary line o v w)
   pub index : (line : ℕ) (v w : Value) → IsUsedValue v → IsUsedValue w → Unless IsUsed (operators.index line v w)
-  pub choice : (line : ℕ) (c v w : Value) → IsUsedValue c → IsUsedValue v → IsUsedValue w → Unless IsUsed (operators.choice line c v w)
+  pub choice : (line : ℕ) (c v w : Value) → IsUsedValue c → IsUsedValue v → IsUsedValue w →
+      Unless IsUsed (operators.choice line c v w)
 
 -- ---- specifications
 
@@ -109,7 +113,8 @@ pub record StagesUse : Type 0 where
 
 pub record PlacesUse : Type 0 where
   pub assign : (line : ℕ) (o : Operand) (v : Value) → IsUsed o → IsUsedValue v → Unless IsUsed (places.assign line o v)
-  pub modify : (line : ℕ) (m : ModifyOp) (o : Operand) (v : Value) → IsUsed o → IsUsedValue v → Unless IsUsed (places.modify line m o v)
+  pub modify : (line : ℕ) (m : ModifyOp) (o : Operand) (v : Value) → IsUsed o → IsUsedValue v →
+      Unless IsUsed (places.modify line m o v)
   pub stepped : (line : ℕ) (s : StepOp) (o : Operand) → IsUsed o → Unless IsUsed (places.stepped line s o)
   pub post : (line : ℕ) (s : StepOp) (o : Operand) → IsUsed o → Unless IsUsed (places.post line s o)
   pub address : (line : ℕ) (o : Operand) → IsUsed o → Unless IsUsed (places.address line o)
@@ -119,8 +124,10 @@ pub record PlacesUse : Type 0 where
 pub record CallsUse : Type 0 where
   pub none : AreUsed calls.no_arguments
   pub argument : (list : Arguments) (v : Value) → AreUsed list → IsUsedValue v → AreUsed (calls.with_argument list v)
-  pub call : (line : ℕ) (o : Operand) (list : Arguments) → IsUsed o → AreUsed list → Unless IsUsed (calls.call line o list)
-  pub library : (line n : ℕ) (t : CType) (list : Arguments) → IsLibrary n t → AreUsed list → Unless IsUsed (calls.library line n t list)
+  pub call : (line : ℕ) (o : Operand) (list : Arguments) → IsUsed o → AreUsed list →
+      Unless IsUsed (calls.call line o list)
+  pub library : (line n : ℕ) (t : CType) (list : Arguments) → IsLibrary n t → AreUsed list →
+      Unless IsUsed (calls.library line n t list)
   pub returned : (line : ℕ) (t : CType) (v : Value) → IsUsedValue v → Unless Leaves (calls.returned line t v)
   pub tick_returned : (line : ℕ) (v : Value) → IsUsedValue v → Unless Leaves (calls.tick_returned line v)
 

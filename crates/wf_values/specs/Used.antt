@@ -1,4 +1,5 @@
--- What is used right: an expression of a type, which leaves a value exactly where the type isn't void, and an operand, whose
+-- What is used right: an expression of a type, which leaves a value exactly where the type isn't void, and an operand,
+-- whose
 -- place has a value of its type.
 use Rattle.std.specs.Prelude.{◌≡◌, ℕ, Bool, true, false, not, List, [], ◌∷◌, Option, Some, None, Ok, Err}
 use Rattle.c_types.specs.declared.ctype.CType.{CType}

@@ -36,7 +36,8 @@ pub half_same : (word at w b : ℕ) → b % 4 / 2 ≡ at % 4 / 2 → half_of (wi
 unfolding half_of with_half
 half_same word at w b e = grind (arith, nat_tests)
 
-pub half_other : (word at w b : ℕ) → word < 4294967296 → at % 4 / 2 ≢ b % 4 / 2 → half_of (with_half word at w) b ≡ half_of word b
+pub half_other : (word at w b : ℕ) → word < 4294967296 → at % 4 / 2 ≢ b % 4 / 2 →
+    half_of (with_half word at w) b ≡ half_of word b
 unfolding half_of with_half
 half_other word at w b h d = grind (arith, nat_tests)
 
@@ -54,7 +55,8 @@ loaded_range word at Half h = omega (arith, half_range word at h)
 loaded_range word at Word h = h
 
 pub stored_range :
-    (word at : ℕ) (width : Width) (w : ℕ) → word < 4294967296 → w < 4294967296 → stored_part word at width w < 4294967296
+    (word at : ℕ) (width : Width) (w : ℕ) → word < 4294967296 → w < 4294967296 →
+    stored_part word at width w < 4294967296
 stored_range word at SignedByte w h k = with_byte_range word at w h
 stored_range word at Byte w h k = with_byte_range word at w h
 stored_range word at SignedHalf w h k = with_half_range word at w h
@@ -62,7 +64,8 @@ stored_range word at Half w h k = with_half_range word at w h
 stored_range word at Word w h k = k
 
 -- what was stored is read back, converted to the width
-pub stored_loaded : (word at : ℕ) (width : Width) (w : ℕ) → loaded_part (stored_part word at width w) at width ≡ narrowed width w
+pub stored_loaded : (word at : ℕ) (width : Width) (w : ℕ) →
+    loaded_part (stored_part word at width w) at width ≡ narrowed width w
 stored_loaded word at SignedByte w = ap widened_byte (byte_same word at w at refl)
 stored_loaded word at Byte w = byte_same word at w at refl
 stored_loaded word at SignedHalf w = ap widened_half (half_same word at w at refl)

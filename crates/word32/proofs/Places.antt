@@ -55,7 +55,8 @@ abbrev pub at_side : ℕ → ℕ → ℕ
 at_side word t = if (t == 0) then (word / 65536) else (word % 65536)
 
 -- the bytes of the half that changed
-pub side_same : (word w t r : ℕ) → t < 2 → r < 4 → r / 2 ≡ t → at_place (with_side word t w) r ≡ w / 256 ^ (1 - r % 2) % 256
+pub side_same : (word w t r : ℕ) → t < 2 → r < 4 → r / 2 ≡ t →
+    at_place (with_side word t w) r ≡ w / 256 ^ (1 - r % 2) % 256
 side_same word w zero zero h k e = omega arith
 side_same word w zero (suc zero) h k e = omega arith
 side_same word w zero (suc (suc zero)) h k e = omega arith
@@ -69,7 +70,8 @@ side_same word w (suc zero) (suc (suc (suc (suc r)))) h k e = absurd (omega arit
 side_same word w (suc (suc t)) r h k e = absurd (omega arith)
 
 -- the bytes of the other half
-pub side_other : (word w t r : ℕ) → word < 4294967296 → t < 2 → r < 4 → r / 2 ≢ t → at_place (with_side word t w) r ≡ at_place word r
+pub side_other : (word w t r : ℕ) → word < 4294967296 → t < 2 → r < 4 → r / 2 ≢ t →
+    at_place (with_side word t w) r ≡ at_place word r
 side_other word w zero zero l h k d = absurd (d refl)
 side_other word w zero (suc zero) l h k d = absurd (d refl)
 side_other word w zero (suc (suc zero)) l h k d = omega arith
@@ -83,7 +85,8 @@ side_other word w (suc zero) (suc (suc (suc (suc r)))) l h k d = absurd (omega a
 side_other word w (suc (suc t)) r l h k d = absurd (omega arith)
 
 -- a half is its two bytes
-pub side_bytes : (word t : ℕ) → word < 4294967296 → t < 2 → at_side word t ≡ 256 * at_place word (2 * t) + at_place word (2 * t + 1)
+pub side_bytes : (word t : ℕ) → word < 4294967296 → t < 2 →
+    at_side word t ≡ 256 * at_place word (2 * t) + at_place word (2 * t + 1)
 side_bytes word zero l h = omega arith
 side_bytes word (suc zero) l h = omega arith
 side_bytes word (suc (suc t)) l h = absurd (omega arith)

@@ -1,11 +1,13 @@
 -- Laws of a space of words under loads and stores: what was stored is read back, all else stays, and a load and a
 -- store are those of the bytes by address.
-use Rattle.std.proofs.Common.{◌≡◌, ◌≢◌, ◌⊎◌, inl, inr, ℕ, zero, suc, ◌+◌, ◌*◌, ◌/◌, ◌%◌, ◌-◌, ◌<◌, ◌≤◌, ◌^◌, refl, ap, sym, ◌∙◌, subst, arith}
+use Rattle.std.proofs.Common.{◌≡◌, ◌≢◌, ◌⊎◌, inl, inr, ℕ, zero, suc, ◌+◌, ◌*◌, ◌/◌, ◌%◌, ◌-◌, ◌<◌, ◌≤◌, ◌^◌, refl, ap}
+use Rattle.std.proofs.Common.{sym, ◌∙◌, subst, arith}
 use Rattle.std.specs.Prelude.{nat_eq, ◌==◌, true, false}
 use Rattle.std.proofs.lemmas.Bool.{ne_eqb, eq-eqb, cases_eq}
 use Rattle.std.proofs.lemmas.Bool.Decides.{nat_tests}
 use Rattle.word32.specs.Words.{widened_byte, widened_half}
-use Rattle.word32.specs.Parts.{is_aligned, byte_of, half_of, with_byte, with_half, loaded_part, stored_part, narrowed, size}
+use Rattle.word32.specs.Parts.{is_aligned, byte_of, half_of, with_byte, with_half, loaded_part, stored_part, narrowed}
+use Rattle.word32.specs.Parts.{size}
 use Rattle.word32.specs.Space.{update, load, store, byte_at, number_at, AreWords}
 use Rattle.word32.specs.declared.width.Width.{Width}
 use Rattle.word32.specs.declared.width.Width.TheVariants.{SignedByte, Byte, SignedHalf, Half, Word}
@@ -21,7 +23,8 @@ update_other k v f n d = let t : nat_eq n k ≡ false = ne_eqb n k d in rw t ref
 pub load_same :
     (space : ℕ → ℕ) (at : ℕ) (width : Width) (w : ℕ) → load (store at width w space) at width ≡ narrowed width w
 load_same space at width w =
-    ap (λ x. loaded_part x at width) (update_same (at / 4) (stored_part (space (at / 4)) at width w) space (at / 4) refl)
+    ap (λ x. loaded_part x at width)
+    (update_same (at / 4) (stored_part (space (at / 4)) at width w) space (at / 4) refl)
     ∙ stored_loaded (space (at / 4)) at width w
 
 -- an aligned word elsewhere
@@ -30,7 +33,8 @@ pub word_other :
 word_other space at w b h = update_other (at / 4) w space (b / 4) (λ e. absurd (grind arith))
 
 pub store_words :
-    (space : ℕ → ℕ) (at : ℕ) (width : Width) (w : ℕ) → AreWords space → w < 4294967296 → AreWords (store at width w space)
+    (space : ℕ → ℕ) (at : ℕ) (width : Width) (w : ℕ) → AreWords space → w < 4294967296 →
+    AreWords (store at width w space)
 store_words space at width w all h n =
     let P : ℕ → Type 0 = λ x. x < 4294967296 in
     let stored = stored_part (space (at / 4)) at width w in
@@ -70,9 +74,11 @@ pub store_inside :
     (space : ℕ → ℕ) (at : ℕ) (width : Width) (w i : ℕ) → is_aligned at width ≡ true → i < size width →
     byte_at (store at width w space) (at + i) ≡ w / 256 ^ (size width - 1 - i) % 256
 store_inside space at SignedByte w i ok h =
-    byte_in space (at / 4) (with_byte (space (at / 4)) at w) (at + i) (omega arith) ∙ one_byte_in (space (at / 4)) at w i h
+    byte_in space (at / 4) (with_byte (space (at / 4)) at w) (at + i) (omega arith) ∙
+    one_byte_in (space (at / 4)) at w i h
 store_inside space at Byte w i ok h =
-    byte_in space (at / 4) (with_byte (space (at / 4)) at w) (at + i) (omega arith) ∙ one_byte_in (space (at / 4)) at w i h
+    byte_in space (at / 4) (with_byte (space (at / 4)) at w) (at + i) (omega arith) ∙
+    one_byte_in (space (at / 4)) at w i h
 store_inside space at SignedHalf w i ok h =
     let e = even at ok in
     byte_in space (at / 4) (with_half (space (at / 4)) at w) (at + i) (omega arith)
@@ -85,7 +91,8 @@ store_inside space at Word w i ok h =
     let e = fourth at ok in
     byte_in space (at / 4) w (at + i) (omega arith) ∙ word_byte_in at w i e h
 
-half_byte_other : (word at w b : ℕ) → word < 4294967296 → b % 4 / 2 ≢ at % 4 / 2 → byte_of (with_half word at w) b ≡ byte_of word b
+half_byte_other : (word at w b : ℕ) → word < 4294967296 → b % 4 / 2 ≢ at % 4 / 2 →
+    byte_of (with_half word at w) b ≡ byte_of word b
 unfolding byte_of with_half
 half_byte_other word at w b l d = side_other word w (at % 4 / 2) (b % 4) l (omega arith) (omega arith) d
 
@@ -121,7 +128,8 @@ byte_number : (space : ℕ → ℕ) (at : ℕ) → number_at space at 1 ≡ byte
 byte_number space at = omega (arith, byte_moved space (at + 0) at (omega arith))
 
 half_number :
-    (space : ℕ → ℕ) (at : ℕ) → space (at / 4) < 4294967296 → at % 2 ≡ 0 → number_at space at 2 ≡ half_of (space (at / 4)) at
+    (space : ℕ → ℕ) (at : ℕ) → space (at / 4) < 4294967296 → at % 2 ≡ 0 →
+    number_at space at 2 ≡ half_of (space (at / 4)) at
 unfolding half_of byte_of
 half_number space at l e =
     let word = space (at / 4) in

@@ -7,7 +7,8 @@ use Rattle.std.proofs.lemmas.List.{get_or-set_same, get_or-set_other}
 use Rattle.word32.specs.Space.{update, words_from, AreWords}
 use Rattle.word32.proofs.SpaceLaws.{update_same, update_other}
 
-pub words_from_inside : (first : ℕ) (words : List ℕ) (n : ℕ) → first ≤ n → words_from first words n ≡ slice_index words (n - first)
+pub words_from_inside : (first : ℕ) (words : List ℕ) (n : ℕ) → first ≤ n →
+    words_from first words n ≡ slice_index words (n - first)
 words_from_inside first words n h = grind (arith, nat_tests)
 
 -- the word at a place of the list

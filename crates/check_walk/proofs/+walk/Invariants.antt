@@ -18,13 +18,23 @@ abbrev pub decreases-expressions::arguments : goal.decreases-expressions::argume
 decreases-expressions::arguments l = 8 * (goal.size-expressions::arguments l) + 1
 
 abbrev pub decreases-expressions::library_call : goal.decreases-expressions::library_call
-decreases-expressions::library_call l = 8 * (goal.size-expressions::arguments (record { the-lifetimes = ([], ([], tt {0})); alloc = l.alloc; state = l.state; stage = l.stage; list = l.list })) + 2
+decreases-expressions::library_call l =
+    8 * (goal.size-expressions::arguments
+    (record { the-lifetimes = ([], ([], tt {0})); alloc = l.alloc; state = l.state; stage = l.stage; list = l.list })) + 2
 
 abbrev pub decreases-expressions::plain_call : goal.decreases-expressions::plain_call
-decreases-expressions::plain_call l = 8 * (max (size-Expr l.f.now) (goal.size-expressions::arguments (record { the-lifetimes = ([], ([], tt {0})); alloc = l.alloc; state = l.state; stage = l.stage; list = l.list }))) + 2
+decreases-expressions::plain_call l =
+    8 * (max (size-Expr l.f.now)
+    (goal.size-expressions::arguments
+    (record { the-lifetimes = ([], ([], tt {0})); alloc = l.alloc; state = l.state; stage = l.stage; list = l.list }))) +
+    2
 
 abbrev pub decreases-expressions::call : goal.decreases-expressions::call
-decreases-expressions::call l = 8 * (max (size-Expr l.f.now) (goal.size-expressions::arguments (record { the-lifetimes = ([], ([], tt {0})); alloc = l.alloc; state = l.state; stage = l.stage; list = l.list }))) + 3
+decreases-expressions::call l =
+    8 * (max (size-Expr l.f.now)
+    (goal.size-expressions::arguments
+    (record { the-lifetimes = ([], ([], tt {0})); alloc = l.alloc; state = l.state; stage = l.stage; list = l.list }))) +
+    3
 
 abbrev pub decreases-expressions::tick_expression : goal.decreases-expressions::tick_expression
 decreases-expressions::tick_expression l = 8 * (goal.size-expressions::tick_expression l) + 1
@@ -33,19 +43,50 @@ abbrev pub decreases-expressions::tick_block : goal.decreases-expressions::tick_
 decreases-expressions::tick_block l = 8 * (goal.size-expressions::tick_block l) + 3
 
 abbrev pub decreases-expressions::compile : goal.decreases-expressions::compile
-decreases-expressions::compile l = 8 * (max (size-Expr l.a.now) (goal.size-types::typename (record { the-lifetimes = ([], ([], tt {0})); alloc = l.alloc; state = l.state; line = l.line; stage = l.stage; t = l.t }))) + 4
+decreases-expressions::compile l =
+    8 * (max (size-Expr l.a.now)
+    (goal.size-types::typename
+    (record {
+      the-lifetimes = ([], ([], tt {0}));
+      alloc = l.alloc;
+      state = l.state;
+      line = l.line;
+      stage = l.stage;
+      t =
+          l.t;
+    }))) + 4
 
 abbrev pub decreases-expressions::local_specification : goal.decreases-expressions::local_specification
 decreases-expressions::local_specification l = 8 * (goal.size-expressions::local_specification l) + 4
 
 abbrev pub decreases-expressions::parameter_specification : goal.decreases-expressions::parameter_specification
-decreases-expressions::parameter_specification l = 8 * (max (goal.size-types::typename (record { the-lifetimes = ([], ([], tt {0})); alloc = l.alloc; state = l.state; line = l.line; stage = l.stage; t = l.t })) (size-Expr l.a.now)) + 4
+decreases-expressions::parameter_specification l =
+    8 * (max (goal.size-types::typename
+    (record {
+      the-lifetimes = ([], ([], tt {0}));
+      alloc = l.alloc;
+      state = l.state;
+      line = l.line;
+      stage = l.stage;
+      t =
+          l.t;
+    })) (size-Expr l.a.now)) + 4
 
 abbrev pub decreases-expressions::unary : goal.decreases-expressions::unary
 decreases-expressions::unary l = 8 * (goal.size-expressions::unary l) + 1
 
 abbrev pub decreases-expressions::cast : goal.decreases-expressions::cast
-decreases-expressions::cast l = 8 * (max (goal.size-types::typename (record { the-lifetimes = ([], ([], tt {0})); alloc = l.alloc; state = l.state; line = l.line; stage = l.stage; t = l.t })) (size-Expr l.a.now)) + 4
+decreases-expressions::cast l =
+    8 * (max (goal.size-types::typename
+    (record {
+      the-lifetimes = ([], ([], tt {0}));
+      alloc = l.alloc;
+      state = l.state;
+      line = l.line;
+      stage = l.stage;
+      t =
+          l.t;
+    })) (size-Expr l.a.now)) + 4
 
 abbrev pub decreases-expressions::choice : goal.decreases-expressions::choice
 decreases-expressions::choice l = 8 * (max (size-Expr l.c.now) (max (size-Expr l.a.now) (size-Expr l.b.now))) + 2
@@ -111,10 +152,14 @@ abbrev pub decreases-declarations::begin_value : goal.decreases-declarations::be
 decreases-declarations::begin_value l = 8 * (goal.size-declarations::begin_value l) + 1
 
 abbrev pub decreases-declarations::elements : goal.decreases-declarations::elements
-decreases-declarations::elements l = 8 * (goal.size-expressions::arguments (record { the-lifetimes = ([], ([], tt {0})); alloc = l.alloc; state = l.state; stage = l.stage; list = l.list })) + 1
+decreases-declarations::elements l =
+    8 * (goal.size-expressions::arguments
+    (record { the-lifetimes = ([], ([], tt {0})); alloc = l.alloc; state = l.state; stage = l.stage; list = l.list })) + 1
 
 abbrev pub decreases-declarations::begin_list : goal.decreases-declarations::begin_list
-decreases-declarations::begin_list l = 8 * (goal.size-expressions::arguments (record { the-lifetimes = ([], ([], tt {0})); alloc = l.alloc; state = l.state; stage = l.stage; list = l.list })) + 2
+decreases-declarations::begin_list l =
+    8 * (goal.size-expressions::arguments
+    (record { the-lifetimes = ([], ([], tt {0})); alloc = l.alloc; state = l.state; stage = l.stage; list = l.list })) + 2
 
 abbrev pub decreases-declarations::begin : goal.decreases-declarations::begin
 decreases-declarations::begin l = 8 * (goal.size-declarations::begin l)
@@ -123,7 +168,10 @@ abbrev pub decreases-declarations::local_type : goal.decreases-declarations::loc
 decreases-declarations::local_type l = 8 * (goal.size-declarations::local_type l) + 3
 
 abbrev pub decreases-declarations::declared_parts : goal.decreases-declarations::declared_parts
-decreases-declarations::declared_parts l = 8 * (max (goal.size-types::declarator (record { the-lifetimes = ([], ([], tt {0})); alloc = l.alloc; state = l.state; stage = l.stage; d = l.d })) (size-Initializer l.value.now)) + 4
+decreases-declarations::declared_parts l =
+    8 * (max (goal.size-types::declarator
+    (record { the-lifetimes = ([], ([], tt {0})); alloc = l.alloc; state = l.state; stage = l.stage; d = l.d }))
+    (size-Initializer l.value.now)) + 4
 
 abbrev pub decreases-declarations::declared_local : goal.decreases-declarations::declared_local
 decreases-declarations::declared_local l = 8 * (goal.size-declarations::declared_local l) + 5
@@ -168,19 +216,27 @@ abbrev pub decreases-statements::test_and_step : goal.decreases-statements::test
 decreases-statements::test_and_step l = 8 * (max (size-OptionalExpr l.c.now) (size-OptionalExpr l.s.now)) + 1
 
 abbrev pub decreases-statements::for_rest : goal.decreases-statements::for_rest
-decreases-statements::for_rest l = 8 * (max (size-OptionalExpr l.c.now) (max (size-OptionalExpr l.s.now) (size-Stmt l.a.now))) + 2
+decreases-statements::for_rest l =
+    8 * (max (size-OptionalExpr l.c.now) (max (size-OptionalExpr l.s.now) (size-Stmt l.a.now))) + 2
 
 abbrev pub decreases-statements::for_alone : goal.decreases-statements::for_alone
-decreases-statements::for_alone l = 8 * (max (size-OptionalExpr l.c.now) (max (size-OptionalExpr l.s.now) (size-Stmt l.a.now))) + 3
+decreases-statements::for_alone l =
+    8 * (max (size-OptionalExpr l.c.now) (max (size-OptionalExpr l.s.now) (size-Stmt l.a.now))) + 3
 
 abbrev pub decreases-statements::for_items : goal.decreases-statements::for_items
-decreases-statements::for_items l = 8 * (max (size-Stmt l.first.now) (max (size-OptionalExpr l.c.now) (max (size-OptionalExpr l.s.now) (size-Stmt l.a.now)))) + 3
+decreases-statements::for_items l =
+    8 * (max (size-Stmt l.first.now)
+    (max (size-OptionalExpr l.c.now) (max (size-OptionalExpr l.s.now) (size-Stmt l.a.now)))) + 3
 
 abbrev pub decreases-statements::for_block : goal.decreases-statements::for_block
-decreases-statements::for_block l = 8 * (max (size-Stmt l.first.now) (max (size-OptionalExpr l.c.now) (max (size-OptionalExpr l.s.now) (size-Stmt l.a.now)))) + 4
+decreases-statements::for_block l =
+    8 * (max (size-Stmt l.first.now)
+    (max (size-OptionalExpr l.c.now) (max (size-OptionalExpr l.s.now) (size-Stmt l.a.now)))) + 4
 
 abbrev pub decreases-statements::for_all : goal.decreases-statements::for_all
-decreases-statements::for_all l = 8 * (max (size-Stmt l.first.now) (max (size-OptionalExpr l.c.now) (max (size-OptionalExpr l.s.now) (size-Stmt l.a.now)))) + 5
+decreases-statements::for_all l =
+    8 * (max (size-Stmt l.first.now)
+    (max (size-OptionalExpr l.c.now) (max (size-OptionalExpr l.s.now) (size-Stmt l.a.now)))) + 5
 
 abbrev pub decreases-statements::switch_block : goal.decreases-statements::switch_block
 decreases-statements::switch_block l = 8 * (goal.size-statements::switch_block l) + 2
@@ -189,7 +245,11 @@ abbrev pub decreases-statements::labelled_block : goal.decreases-statements::lab
 decreases-statements::labelled_block l = 8 * (goal.size-statements::labelled_block l) + 3
 
 abbrev pub decreases-statements::switch : goal.decreases-statements::switch
-decreases-statements::switch l = 8 * (max (size-Expr l.e.now) (goal.size-statements::items (record { the-lifetimes = ([], ([], tt {0})); alloc = l.alloc; state = l.state; around = l.around; list = l.list }))) + 4
+decreases-statements::switch l =
+    8 * (max (size-Expr l.e.now)
+    (goal.size-statements::items
+    (record { the-lifetimes = ([], ([], tt {0})); alloc = l.alloc; state = l.state; around = l.around; list = l.list })))
+    + 4
 
 abbrev pub decreases-statements::case : goal.decreases-statements::case
 decreases-statements::case l = 8 * (goal.size-statements::case l) + 1
@@ -206,22 +266,28 @@ decreases-statements::statement l = 8 * (goal.size-statements::statement l)
 -- the parts so far, and those to come
 
 abbrev pub invariant-expressions::arguments-loop-e : goal.invariant-expressions::arguments-loop-e
-invariant-expressions::arguments-loop-e l = spec.arguments (drop l.e-index l.list) l.found l.stage l.state ≡ spec.arguments l.list calls.no_arguments l.stage l.fn.state
+invariant-expressions::arguments-loop-e l =
+    spec.arguments (drop l.e-index l.list) l.found l.stage l.state ≡ spec.arguments l.list calls.no_arguments l.stage
+    l.fn.state
 
 abbrev pub invariant-types::suffixes-loop-s : goal.invariant-types::suffixes-loop-s
 invariant-types::suffixes-loop-s l =
-    statements.each_step (spec.suffix_walks (map spec.suffix (drop l.s-index l.list))) l.steps l.stage l.state ≡ statements.each_step (spec.suffix_walks (map spec.suffix l.list)) l.fn.steps l.stage l.fn.state
+    statements.each_step (spec.suffix_walks (map spec.suffix (drop l.s-index l.list))) l.steps l.stage l.state ≡
+    statements.each_step (spec.suffix_walks (map spec.suffix l.list)) l.fn.steps l.stage l.fn.state
 
 abbrev pub invariant-types::each_parameter-loop-p : goal.invariant-types::each_parameter-loop-p
 invariant-types::each_parameter-loop-p l =
-    after l.types (statements.each_type (spec.type_walks (map spec.parameter (drop l.p-index l.list))) l.stage l.state) ≡ statements.each_type (spec.type_walks (map spec.parameter l.list)) l.stage l.fn.state
+    after l.types (statements.each_type (spec.type_walks (map spec.parameter (drop l.p-index l.list))) l.stage l.state)
+    ≡ statements.each_type (spec.type_walks (map spec.parameter l.list)) l.stage l.fn.state
 
 abbrev pub invariant-declarations::elements-loop-e : goal.invariant-declarations::elements-loop-e
 invariant-declarations::elements-loop-e l =
-    spec.elements (map spec.node (drop l.e-index l.list)) l.t l.broken l.stage l.state ≡ spec.elements (map spec.node l.list) l.t None l.stage l.fn.state
+    spec.elements (map spec.node (drop l.e-index l.list)) l.t l.broken l.stage l.state ≡ spec.elements
+    (map spec.node l.list) l.t None l.stage l.fn.state
 
 abbrev pub invariant-statements::items-loop-s : goal.invariant-statements::items-loop-s
-invariant-statements::items-loop-s l = after l.nodes (spec.items (drop l.s-index l.list) l.around l.state) ≡ spec.items l.list l.around l.fn.state
+invariant-statements::items-loop-s l =
+    after l.nodes (spec.items (drop l.s-index l.list) l.around l.state) ≡ spec.items l.list l.around l.fn.state
 
 abbrev pub invariant-declarations::locals-loop-init : goal.invariant-declarations::locals-loop-init
 invariant-declarations::locals-loop-init l =

@@ -4,7 +4,9 @@ use Rattle.linked_row.specs.Sorted.{last_of as last_pair}
 use Rattle.linear_scan_spec.specs.Scan.{Keeper, ScanState, last_of, but_last}
 use Rattle.linear_scan_spec.proofs.Keepers.{length-but_last}
 use Rattle.linear_scan.specs.Held.{from_end, ApartIds, Holds}
-use Rattle.linear_scan.proofs.Holding.{apart-pairs, alive-holds, living, dropping, few-keepers, twelve-keepers, fresh-living, fresh-dropping, last-pairs, last-none, visit-few, visit-last, visit-pass, pass-holds}
+use Rattle.linear_scan.proofs.Holding.{apart-pairs, alive-holds, living, dropping, few-keepers, twelve-keepers}
+use Rattle.linear_scan.proofs.Holding.{fresh-living, fresh-dropping, last-pairs, last-none, visit-few, visit-last}
+use Rattle.linear_scan.proofs.Holding.{visit-pass, pass-holds}
 use Rattle.linear_scan.proofs.visit.Goals as goal
 
 -- after the row has let go of what ends early

@@ -5,4 +5,5 @@ use Rattle.trial_lowering.proofs.finished_builder.Goals as goal
 
 pub builder_of-requires-clause-ready : goal.builder_of-requires-clause-ready
 builder_of-requires-clause-ready c =
-    ready c.built_is_static.ensures c.args.program.now (function_view c.in-Some.function.now) c.keeps_law.ensures (search rules)
+    ready c.built_is_static.ensures c.args.program.now (function_view c.in-Some.function.now) c.keeps_law.ensures
+    (search rules)

@@ -1,4 +1,5 @@
-use Rattle.wf_growth_rules.proofs.Expressions.{block_light, call_light, tick_light, tick_block_light, unary_light, binary_light, cast_light}
+use Rattle.wf_growth_rules.proofs.Expressions.{block_light, call_light, tick_light, tick_block_light, unary_light}
+use Rattle.wf_growth_rules.proofs.Expressions.{binary_light, cast_light}
 use Rattle.wf_growth_rules.proofs.expressions_are_light.Goals as goal
 
 pub returns : goal.returns

@@ -1,6 +1,7 @@
 use Rattle.check_walk.specs.Walk.{declaration}
 use Rattle.wf_growth_rules.proofs.Declarations as d
-use Rattle.wf_growth_rules.proofs.Tree.{expr_light, stmt_light, suffix_light, declaration_light, declarator_light, parameter_light, typename_light}
+use Rattle.wf_growth_rules.proofs.Tree.{expr_light, stmt_light, suffix_light, declaration_light, declarator_light}
+use Rattle.wf_growth_rules.proofs.Tree.{parameter_light, typename_light}
 use Rattle.wf_growth_rules.proofs.parts_are_light.Goals as goal
 
 pub returns : goal.returns

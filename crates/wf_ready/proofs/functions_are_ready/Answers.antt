@@ -3,4 +3,5 @@ use Rattle.wf_ready.proofs.Dense.{variables_few}
 use Rattle.wf_ready.proofs.functions_are_ready.Goals as goal
 
 pub returns : goal.returns
-returns c = λ p ticks f h built. record { built = built; scoped = body_scoped p ticks f h; small = h.small; dense = variables_few f.body h.numbers }
+returns c = λ p ticks f h built. record
+    { built = built; scoped = body_scoped p ticks f h; small = h.small; dense = variables_few f.body h.numbers }

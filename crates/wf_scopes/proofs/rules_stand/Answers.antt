@@ -5,4 +5,12 @@ use Rattle.wf_scopes.proofs.Places.{places_stand}
 use Rattle.wf_scopes.proofs.rules_stand.Goals as goal
 
 pub returns : goal.returns
-returns c = record { operands = operands_stand; prefixes = prefixes_stand; operators = operators_stand; stages = stages_stand; places = places_stand; calls = calls_stand }
+returns c = record {
+  operands = operands_stand;
+  prefixes = prefixes_stand;
+  operators = operators_stand;
+  stages =
+      stages_stand;
+  places = places_stand;
+  calls = calls_stand;
+}

@@ -3,4 +3,13 @@ use Rattle.wf_statements.proofs.Typing.{type_good}
 use Rattle.wf_statements.proofs.declarations_are_good.Goals as goal
 
 pub returns : goal.returns
-returns c = record { type = type_good; nothing = nothing_good; value = value_good; list = list_good; one = declared_good; none = none_good; more = more_good }
+returns c = record {
+  type = type_good;
+  nothing = nothing_good;
+  value = value_good;
+  list = list_good;
+  one =
+      declared_good;
+  none = none_good;
+  more = more_good;
+}

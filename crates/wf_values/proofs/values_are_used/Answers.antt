@@ -8,4 +8,14 @@ use Rattle.wf_values.proofs.Stages.{stages_use}
 use Rattle.wf_values.proofs.values_are_used.Goals as goal
 
 pub returns : goal.returns
-returns c = record { types = types_use; libraries = libraries_use; nodes = nodes_use; operands = operands_use; prefixes = prefixes_use; operators = operators_use; stages = stages_use; places = places_use; calls = calls_use }
+returns c = record {
+  types = types_use;
+  libraries = libraries_use;
+  nodes = nodes_use;
+  operands = operands_use;
+  prefixes = prefixes_use;
+  operators = operators_use;
+  stages = stages_use;
+  places = places_use;
+  calls = calls_use;
+}

@@ -15,9 +15,11 @@ returns-in_err-write_whole-clause-front g c =
     let below : c.loop-k.k < n = subst (λ m. c.loop-k.k < m) c.div_ceil-k-end.ensures c.loop-k-test.true in
     let inside : c.loop-k.k < length (range_with_len 0 n) = let e = length-range_with_len 0 n in omega arith in
     at_error c.from_residual.result
-    (front_turn _ _ _ (spec.data_line_at c.args.bytes.now) (range_with_len 0 n) c.loop-k.k 0 c.as_bytes.result.now inside
+    (front_turn _ _ _ (spec.data_line_at c.args.bytes.now) (range_with_len 0 n) c.loop-k.k 0 c.as_bytes.result.now
+    inside
     c.loop-k.invariant.taken
-    (c.as_bytes.ensures ∙ c.data_line.ensures ∙ data_at c.args.bytes.now c.loop-k.k n c.min-end.result below c.min-end.ensures)
+    (c.as_bytes.ensures ∙ c.data_line.ensures ∙
+    data_at c.args.bytes.now c.loop-k.k n c.min-end.result below c.min-end.ensures)
     c.in_err-write_whole.ensures.front)
 
 pub loop-k-preserved : goal.loop-k-preserved
@@ -27,9 +29,11 @@ loop-k-preserved g c =
     let inside : c.loop-k.k < length (range_with_len 0 n) = let e = length-range_with_len 0 n in omega arith in
     record {
       taken =
-          whole_turn _ _ _ (spec.data_line_at c.args.bytes.now) (range_with_len 0 n) c.loop-k.k 0 c.as_bytes.result.now inside
+          whole_turn _ _ _ (spec.data_line_at c.args.bytes.now) (range_with_len 0 n) c.loop-k.k 0 c.as_bytes.result.now
+          inside
           c.loop-k.invariant.taken
-          (c.as_bytes.ensures ∙ c.data_line.ensures ∙ data_at c.args.bytes.now c.loop-k.k n c.min-end.result below c.min-end.ensures)
+          (c.as_bytes.ensures ∙ c.data_line.ensures ∙
+          data_at c.args.bytes.now c.loop-k.k n c.min-end.result below c.min-end.ensures)
           c.in_ok-write_whole.ensures.whole;
       faults = c.in_ok-write_whole.ensures.cause.ok ∙ c.loop-k.invariant.faults;
     }
@@ -39,6 +43,7 @@ returns-clause-whole g c =
     let n : ℕ = div_ceil (length c.args.bytes.now) 32 in
     let len = length-range_with_len 0 n in
     let whole : take c.loop-k.k (range_with_len 0 n) ≡ range_with_len 0 n =
-    take_all c.loop-k.k (range_with_len 0 n) (let d = c.div_ceil-k-end.ensures in let e = c.loop-k-test.false in omega arith) in
+    take_all c.loop-k.k (range_with_len 0 n)
+    (let d = c.div_ceil-k-end.ensures in let e = c.loop-k-test.false in omega arith) in
     subst (Appends (g.O.Sink.taken c.args.out.now) (g.O.Sink.taken c.loop-k.out))
     (ap (flat_map (spec.data_line_at c.args.bytes.now)) whole) c.loop-k.invariant.taken

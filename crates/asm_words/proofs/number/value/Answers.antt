@@ -13,5 +13,6 @@ returns-then-n-gt4294967295-clause-none c =
     ap (λ d. value_of by (c.loop-b.n * by + d) (drop (c.loop-b.b-index + 1) z)) (c.from.ensures ∙ c.digit_value.ensures)
     ∙ sym (value_of_at by c.loop-b.n c.loop-b.b-index z c.loop-b-test.true)
     ∙ c.loop-b.invariant.same in
-    let whole : value_of by 0 z ≡ value_of (radix c.args.base) 0 z = ap (λ r. value_of r 0 z) c.radix-radix.ensures.value in
+    let whole : value_of by 0 z ≡ value_of (radix c.args.base) 0 z =
+    ap (λ r. value_of r 0 z) c.radix-radix.ensures.value in
     omega (arith, same, grows, whole)

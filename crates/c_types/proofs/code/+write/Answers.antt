@@ -8,20 +8,29 @@ use Rattle.c_types.proofs.Coded.{of_layer}
 use Rattle.c_types.proofs.code.+write.Goals as goal
 
 pub write_layer-returns-in_ok-push-in-Pointer : goal.write_layer-returns-in_ok-push-in-Pointer
-write_layer-returns-in_ok-push-in-Pointer t c = of_layer c.args.layer.now Layer-F.Pointer c.args.code.now c.push.new.self (ap out-Layer c.in-Pointer.is ∙ layer.outs-Pointer) c.in_ok-push-in-Pointer.ensures.ok
+write_layer-returns-in_ok-push-in-Pointer t c =
+    of_layer c.args.layer.now Layer-F.Pointer c.args.code.now c.push.new.self
+    (ap out-Layer c.in-Pointer.is ∙ layer.outs-Pointer) c.in_ok-push-in-Pointer.ensures.ok
 
 pub write_layer-returns-in_ok-push-in-Unlisted : goal.write_layer-returns-in_ok-push-in-Unlisted
-write_layer-returns-in_ok-push-in-Unlisted t c = of_layer c.args.layer.now Layer-F.Unlisted c.args.code.now c.push-in-Unlisted.new.self (ap out-Layer c.in-Unlisted.is ∙ layer.outs-Unlisted) c.in_ok-push-in-Unlisted.ensures.ok
+write_layer-returns-in_ok-push-in-Unlisted t c =
+    of_layer c.args.layer.now Layer-F.Unlisted c.args.code.now c.push-in-Unlisted.new.self
+    (ap out-Layer c.in-Unlisted.is ∙ layer.outs-Unlisted) c.in_ok-push-in-Unlisted.ensures.ok
 
 pub write_layer-returns-in_ok-push-in-Cspec : goal.write_layer-returns-in_ok-push-in-Cspec
-write_layer-returns-in_ok-push-in-Cspec t c = of_layer c.args.layer.now Layer-F.Cspec c.args.code.now c.push-in-Cspec.new.self (ap out-Layer c.in-Cspec.is ∙ layer.outs-Cspec) c.in_ok-push-in-Cspec.ensures.ok
+write_layer-returns-in_ok-push-in-Cspec t c =
+    of_layer c.args.layer.now Layer-F.Cspec c.args.code.now c.push-in-Cspec.new.self
+    (ap out-Layer c.in-Cspec.is ∙ layer.outs-Cspec) c.in_ok-push-in-Cspec.ensures.ok
 
 pub write_layer-returns-in_ok-push-in-Vspec : goal.write_layer-returns-in_ok-push-in-Vspec
-write_layer-returns-in_ok-push-in-Vspec t c = of_layer c.args.layer.now Layer-F.Vspec c.args.code.now c.push-in-Vspec.new.self (ap out-Layer c.in-Vspec.is ∙ layer.outs-Vspec) c.in_ok-push-in-Vspec.ensures.ok
+write_layer-returns-in_ok-push-in-Vspec t c =
+    of_layer c.args.layer.now Layer-F.Vspec c.args.code.now c.push-in-Vspec.new.self
+    (ap out-Layer c.in-Vspec.is ∙ layer.outs-Vspec) c.in_ok-push-in-Vspec.ensures.ok
 
 pub write_layer-returns-in_ok-write_list-in-Function : goal.write_layer-returns-in_ok-write_list-in-Function
 write_layer-returns-in_ok-write_list-in-Function t c =
-    of_layer c.args.layer.now (Layer-F.Function c.in-Function.list) c.args.code.now c.write_list.new.code (ap out-Layer c.in-Function.is ∙ layer.outs-Function c.in-Function.list)
+    of_layer c.args.layer.now (Layer-F.Function c.in-Function.list) c.args.code.now c.write_list.new.code
+    (ap out-Layer c.in-Function.is ∙ layer.outs-Function c.in-Function.list)
     (c.in_ok-write_list-in-Function.ensures
     ∙ ap (λ code. code ++ list_code c.as_slice.result.now) c.in_ok-push-in-Function.ensures.ok
     ∙ ap (λ list. (c.args.code.now ++ 4 ∷ []) ++ list_code list) c.as_slice.ensures
@@ -29,7 +38,8 @@ write_layer-returns-in_ok-write_list-in-Function t c =
 
 pub write_layer-returns-in_ok-write_count-in-Array : goal.write_layer-returns-in_ok-write_count-in-Array
 write_layer-returns-in_ok-write_count-in-Array t c =
-    of_layer c.args.layer.now (Layer-F.Array c.in-Array.count) c.args.code.now c.write_count.new.code (ap out-Layer c.in-Array.is ∙ layer.outs-Array c.in-Array.count)
+    of_layer c.args.layer.now (Layer-F.Array c.in-Array.count) c.args.code.now c.write_count.new.code
+    (ap out-Layer c.in-Array.is ∙ layer.outs-Array c.in-Array.count)
     (c.in_ok-write_count-in-Array.ensures
     ∙ ap (λ code. code ++ digits c.in-Array.count) c.in_ok-push-in-Array.ensures.ok
     ∙ append_assoc c.args.code.now (5 ∷ []) (digits c.in-Array.count))

@@ -12,7 +12,11 @@ loop-step-preserved c =
     let ls = c.loop-step.layers in
     let next = c.push.new.self in
     record {
-      layers = step_made c.loop-step.steps ss s l ls next (spec.made c.args.steps []) c.in-Some.ensures c.layer_of-layer.ensures c.in_ok-push.ensures.ok c.loop-step.invariant.layers;
-      worst = step_worst c.loop-step.steps ss s b l ls c.as_slice.result.now next c.loop-step.worst c.breaks.result c.lower-worst.result (spec.worst c.args.steps b []) c.in-Some.ensures c.layer_of-layer.ensures c.as_slice.ensures c.breaks.ensures c.lower-worst.ensures c.in_ok-push.ensures.ok c.loop-step.invariant.worst;
-      size = step_size b l ls c.as_slice-in-Some.result.now next c.grown-size.result c.as_slice-in-Some.ensures c.grown-size.ensures c.in_ok-push.ensures.ok;
+      layers = step_made c.loop-step.steps ss s l ls next (spec.made c.args.steps []) c.in-Some.ensures
+          c.layer_of-layer.ensures c.in_ok-push.ensures.ok c.loop-step.invariant.layers;
+      worst = step_worst c.loop-step.steps ss s b l ls c.as_slice.result.now next c.loop-step.worst c.breaks.result
+          c.lower-worst.result (spec.worst c.args.steps b []) c.in-Some.ensures c.layer_of-layer.ensures
+          c.as_slice.ensures c.breaks.ensures c.lower-worst.ensures c.in_ok-push.ensures.ok c.loop-step.invariant.worst;
+      size = step_size b l ls c.as_slice-in-Some.result.now next c.grown-size.result c.as_slice-in-Some.ensures
+          c.grown-size.ensures c.in_ok-push.ensures.ok;
     }

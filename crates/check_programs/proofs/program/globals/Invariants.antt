@@ -6,4 +6,5 @@ use Rattle.check_programs.proofs.program.globals.Given as goal
 -- the declarators so far, and those to come
 abbrev pub invariant-loop-init : goal.invariant-loop-init
 invariant-loop-init l =
-    spec.globals l.line l.base (map walks.init (drop l.init-index l.list)) l.state ≡ spec.globals l.line l.base (map walks.init l.list) l.fn.state
+    spec.globals l.line l.base (map walks.init (drop l.init-index l.list)) l.state ≡ spec.globals l.line l.base
+    (map walks.init l.list) l.fn.state

@@ -5,4 +5,5 @@ use Rattle.check_programs.proofs.program.row.Given as goal
 
 -- the values so far, and those to come
 abbrev pub invariant-loop-e : goal.invariant-loop-e
-invariant-loop-e l = spec.row (map walks.node (drop l.e-index l.list)) l.t l.row l.state ≡ spec.row (map walks.node l.list) l.t l.fn.start l.fn.state
+invariant-loop-e l = spec.row (map walks.node (drop l.e-index l.list)) l.t l.row l.state ≡ spec.row
+    (map walks.node l.list) l.t l.fn.start l.fn.state

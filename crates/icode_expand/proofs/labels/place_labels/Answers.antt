@@ -17,10 +17,18 @@ loop-op-preserved c =
     let ops : List Op = c.args.ops.now in
     let e : op_at ops i ≡ c.op-item.result = op_at-read ops i c.op-item.result c.loop-op-test.true c.op-item.is in
     let B : ℕ → Type 0 = λ n. Below n (label_of (op_at ops i)) in
-    let b : Below (length c.loop-op.labels) (label_of (op_at ops i)) = subst B (sym c.loop-op.invariant.3) (c.requires.labels i) in (
-      omega (arith, length_more l nowhere ops i c.op-item.result c.loop-op-test.true e, c.place_op-end.ensures.address, c.loop-op.invariant.0),
+    let b : Below (length c.loop-op.labels) (label_of (op_at ops i)) =
+    subst B (sym c.loop-op.invariant.3) (c.requires.labels i) in (
+      omega (
+        arith,
+        length_more l nowhere ops i c.op-item.result c.loop-op-test.true e,
+        c.place_op-end.ensures.address,
+        c.loop-op.invariant.0,
+      ),
       omega (arith, c.place_op-end.ensures.most, c.loop-op.invariant.1),
-      placed_step l c.args.start ops c.requires.finished.0 i c.op-item.result c.loop-op.end c.loop-op.labels c.place_op-end.new.labels c.requires.finished.1 e b c.loop-op.invariant.0 c.place_op-end.ensures.labels c.loop-op.invariant.2,
+      placed_step l c.args.start ops c.requires.finished.0 i c.op-item.result c.loop-op.end c.loop-op.labels
+          c.place_op-end.new.labels c.requires.finished.1 e b c.loop-op.invariant.0 c.place_op-end.ensures.labels
+          c.loop-op.invariant.2,
       c.place_op-end.auto.labels ∙ c.loop-op.invariant.3,
     )
 
@@ -31,9 +39,11 @@ returns-clause-table c =
     let k : c.loop-op.op-index ≡ length ops = omega arith in
     let P : ℕ → Type 0 = λ i. Placed l c.args.start ops i c.loop-op.labels in
     let B : (p : ℕ) → Below (length c.loop-op.labels) (label_of (op_at ops p)) =
-    λ p. let Q : ℕ → Type 0 = λ n. Below n (label_of (op_at ops p)) in subst Q (sym c.loop-op.invariant.3) (c.requires.labels p) in
+    λ p. let Q : ℕ → Type 0 = λ n. Below n (label_of (op_at ops p)) in
+    subst Q (sym c.loop-op.invariant.3) (c.requires.labels p) in
     let e : c.loop-op.end ≡ c.args.start + 4 * length (templates l nowhere ops) =
     c.loop-op.invariant.0
     ∙ (ap (address_at l c.args.start ops) k
     ∙ ap (λ (xs : List Op). c.args.start + 4 * length (templates l nowhere xs)) (take-length ops)) in
-    table_made l c.args.start ops c.requires.finished.0 c.loop-op.labels c.loop-op.end c.requires.finished.1 B (subst P k c.loop-op.invariant.2) e
+    table_made l c.args.start ops c.requires.finished.0 c.loop-op.labels c.loop-op.end c.requires.finished.1 B
+    (subst P k c.loop-op.invariant.2) e

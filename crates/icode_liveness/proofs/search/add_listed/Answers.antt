@@ -3,7 +3,8 @@ use Rattle.std.specs.Prelude.{IfSome}
 use Rattle.icode_ops.specs.declared.op.Op.{Op}
 use Rattle.icode_liveness.specs.declared.sought.Sought.{Sought}
 use Rattle.icode_liveness.proofs.Lists.{Each-In}
-use Rattle.icode_liveness.proofs.Listing.{Listing, Standing, listing-at, slots_left, within-weaker, left-falls, one-sought}
+use Rattle.icode_liveness.proofs.Listing.{Listing, Standing, listing-at, slots_left, within-weaker, left-falls}
+use Rattle.icode_liveness.proofs.Listing.{one-sought}
 use Rattle.icode_liveness.proofs.search.add_listed.Goals as goal
 
 standing : (ops : List Op) (sought : Sought) (v : ℕ) (slots : List ℕ) (at : Option ℕ) (s : ℕ) (old now : List ℕ)

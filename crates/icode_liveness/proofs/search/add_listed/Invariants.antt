@@ -7,7 +7,8 @@ invariant-loop-at l =
     record {
       room : l.found.room ≡ l.fn.found.room;
       within : IfSome l.at (λ s. s < l.table.slot_room);
-      listing : Listing l.ops l.sought l.register (slice_index_or l.table.buckets l.bucket []) l.at l.fn.found.members l.found.members;
+      listing : Listing l.ops l.sought l.register (slice_index_or l.table.buckets l.bucket []) l.at l.fn.found.members
+          l.found.members;
     }
 
 abbrev pub decreases-loop-at : goal.decreases-loop-at

@@ -14,13 +14,16 @@ new-requires c =
     = parts_in-image c.args.bytes.now small (sound c.args.bytes.now c.requires) in
     let text : c.in_ok-text.text.items ≡ words_in c.args.bytes.now 24 (word_in c.args.bytes.now 12)
     = search rules in
-    let long : ((24 + 4 * c.be_read.result) + c.be_read-2.result) - (24 + 4 * c.be_read.result) ≡ c.be_read-2.result = omega arith in
-    let bytes : c.in_ok-data.data.items ≡ take (word_in c.args.bytes.now 16) (drop (data_at c.args.bytes.now) c.args.bytes.now)
+    let long : ((24 + 4 * c.be_read.result) + c.be_read-2.result) - (24 + 4 * c.be_read.result) ≡ c.be_read-2.result =
+    omega arith in
+    let bytes : c.in_ok-data.data.items ≡ take (word_in c.args.bytes.now 16)
+    (drop (data_at c.args.bytes.now) c.args.bytes.now)
     = c.in_ok-data.ensures.items
     ∙ (ap (λ k. take k (drop (24 + 4 * c.be_read.result) c.args.bytes.now)) long
     ∙ (ap (λ k. take c.be_read-2.result (drop (24 + 4 * k) c.args.bytes.now)) c.be_read.ensures
     ∙ ap (λ k. take k (drop (data_at c.args.bytes.now) c.args.bytes.now)) c.be_read-2.ensures)) in
-    let functions : c.in_ok-functions.functions.items ≡ functions_in c.args.bytes.now (functions_at c.args.bytes.now) (word_in c.args.bytes.now 20)
+    let functions : c.in_ok-functions.functions.items ≡ functions_in c.args.bytes.now (functions_at c.args.bytes.now)
+    (word_in c.args.bytes.now 20)
     = c.in_ok-functions.ensures
     ∙ (ap (λ k. functions_in c.args.bytes.now ((24 + 4 * k) + c.be_read-2.result) c.be_read-4.result) c.be_read.ensures
     ∙ (ap (λ k. functions_in c.args.bytes.now (data_at c.args.bytes.now + k) c.be_read-4.result) c.be_read-2.ensures

@@ -9,11 +9,14 @@ pub loop-at-preserved : goal.loop-at-preserved
 loop-at-preserved c =
     let z = c.args.text.now in
     let at = c.loop-at.at in
-    let e : character_at (drop at z) ≡ Some c.in-Some.c = sym (c.in-Some.ensures.value ∙ ap character_at (take_rest z at)) in
-    let within = c.in-Some.ensures.within (omega (arith, ap length (take_rest z at), length-drop at z, c.loop-at-test.true)) in
+    let e : character_at (drop at z) ≡ Some c.in-Some.c =
+    sym (c.in-Some.ensures.value ∙ ap character_at (take_rest z at)) in
+    let within = c.in-Some.ensures.within
+    (omega (arith, ap length (take_rest z at), length-drop at z, c.loop-at-test.true)) in
     record {
       same =
-          sym (closes_goes_at c.args.quote c.loop-at.chars at z c.in-Some.c c.loop-at-test.true (ne_eqb _ _ c.if-b-quote.false) (ne_eqb _ _ c.if-b-eq10.false) e within.0)
+          sym (closes_goes_at c.args.quote c.loop-at.chars at z c.in-Some.c c.loop-at-test.true
+          (ne_eqb _ _ c.if-b-quote.false) (ne_eqb _ _ c.if-b-eq10.false) e within.0)
           ∙ c.loop-at.invariant.same;
       within = omega (arith, ap length (take_rest z at), length-drop at z, within);
       few = omega (arith, within.0, c.loop-at.invariant.few);

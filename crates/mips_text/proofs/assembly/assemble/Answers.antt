@@ -10,6 +10,7 @@ unfolding assembled
 returns c =
     let n : ℕ = c.in_ok-survey.survey.words in
     let some : n ≢ 0 = λ e. c.if-survey-eq0.false e in
-    assembled_ok (placed_lines c.args.text.now) n (known_by c.in_ok-survey.survey.labels n) (parts_of c.in_ok-parts.parts) some
+    assembled_ok (placed_lines c.args.text.now) n (known_by c.in_ok-survey.survey.labels n)
+    (parts_of c.in_ok-parts.parts) some
     refl c.in_ok-survey.ensures c.in_ok-parts.ensures.gives
     ∙ ap Ok (sym c.image_of.ensures)

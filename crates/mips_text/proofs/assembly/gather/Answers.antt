@@ -18,7 +18,8 @@ loop-rest-preserved c =
     let k : Known = known_by c.args.survey.now.labels c.args.survey.now.words in
     let g : Gathered = parts_of c.loop-rest.parts in
     let i = c.in-Ok.item in
-    let here : c.counted-line.result ≡ first_of p line = c.counted-line.ensures ∙ ap (counted p) c.in_ok-line_of.ensures.line in
+    let here : c.counted-line.result ≡ first_of p line =
+    c.counted-line.ensures ∙ ap (counted p) c.in_ok-line_of.ensures.line in
     let next : c.behind-next.result ≡ behind p (first_of p line) = c.behind-next.ensures ∙ ap (behind p) here in
     let gives : given k p (first_of p line) ≡ Ok i = sym (c.in-Ok.ensures.value ∙ ap (given k p) here) in
     let few : HasDigits (length line) c.counted-line.result =

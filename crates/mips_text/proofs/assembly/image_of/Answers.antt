@@ -15,7 +15,9 @@ new-requires c =
       functions_are_few = sound.few;
       entries_are_good =
           subst
-          (λ e. IsTrue (is_in_text (length c.args.text.items) e && list_all (is_function_in (length c.args.text.items)) c.args.functions.items))
+          (λ e. IsTrue (is_in_text (length c.args.text.items) e && list_all (is_function_in (length c.args.text.items))
+          c.args.functions.items))
           (sym c.unwrap_or.ensures)
-          (entries_good (length c.args.text.items) c.args.entry c.args.functions.items c.requires.some sound.entry sound.functions);
+          (entries_good (length c.args.text.items) c.args.entry c.args.functions.items c.requires.some sound.entry
+          sound.functions);
     }

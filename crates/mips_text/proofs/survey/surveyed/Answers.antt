@@ -10,7 +10,8 @@ loop-rest-preserved c =
     let rest : List ℕ = c.loop-rest.rest.now in
     let line : List ℕ = c.first_line.result.0.now in
     let more : List ℕ = c.first_line.result.1.now in
-    let here : c.counted-line.result ≡ first_of p line = c.counted-line.ensures ∙ ap (counted p) c.in_ok-line_of.ensures.line in
+    let here : c.counted-line.result ≡ first_of p line =
+    c.counted-line.ensures ∙ ap (counted p) c.in_ok-line_of.ensures.line in
     let next : c.behind-at.result ≡ behind p (first_of p line) = c.behind-at.ensures ∙ ap (behind p) here in
     let noted : find c.note_line.new.self ≡ find (c.loop-rest.labels ++ label_in p (first_of p line)) =
     c.in_ok-note_line.ensures ∙ ap (λ m. find (c.loop-rest.labels ++ label_in p m)) here in

@@ -24,13 +24,19 @@ new-requires-3 c =
     let second : c.ops-2.result.now ≡ ops_of f = c.ops-2.ensures.ops ∙ ap finished build in
     let registers : c.registers.result ≡ registers_of addresses f = c.registers.ensures ∙ ap (λ b. b.registers) build in
     let frame : 128 + 48 * c.size.result ≡ charge_of (size_of f) = ap (λ n. 128 + 48 * n) c.size.ensures in
-    let text : c.in_ok-text.text.items ≡ front FUNCTIONS 1 ++ expanded c.ops-2.result.now c.in_ok-places.places.items FUNCTIONS (128 + 48 * c.size.result) f.object false =
-    c.in_ok-text.ensures ∙ ap (λ z. front FUNCTIONS 1 ++ expanded c.ops-2.result.now z FUNCTIONS (128 + 48 * c.size.result) f.object false) c.deref.ensures.value in
+    let text : c.in_ok-text.text.items ≡ front FUNCTIONS 1 ++ expanded c.ops-2.result.now c.in_ok-places.places.items
+    FUNCTIONS (128 + 48 * c.size.result) f.object false =
+    c.in_ok-text.ensures ∙ ap
+    (λ z. front FUNCTIONS 1 ++ expanded c.ops-2.result.now z FUNCTIONS (128 + 48 * c.size.result) f.object false)
+    c.deref.ensures.value in
     let choice : IsChoice f c.in_ok-places.places.items =
-    is_choice f c.ops-2.result.now c.in_ok-places.places.items c.in_ok-text.text.items c.registers.result (128 + 48 * c.size.result) second registers frame text
-    (subst (λ z. IsLegal z c.registers.result c.in_ok-places.places.items) (first ∙ sym second) c.in_ok-places.ensures.legal) in
+    is_choice f c.ops-2.result.now c.in_ok-places.places.items c.in_ok-text.text.items c.registers.result
+    (128 + 48 * c.size.result) second registers frame text
+    (subst (λ z. IsLegal z c.registers.result c.in_ok-places.places.items) (first ∙ sym second)
+    c.in_ok-places.ensures.legal) in
     let good : IsImage (file.image_of START c.in_ok-text.text.items [] []) =
-    is_image f c.ops-2.result.now c.in_ok-places.places.items c.in_ok-text.text.items c.registers.result (128 + 48 * c.size.result) second registers frame text
+    is_image f c.ops-2.result.now c.in_ok-places.places.items c.in_ok-text.text.items c.registers.result
+    (128 + 48 * c.size.result) second registers frame text
     (c.images_keep_rules.ensures f c.in_ok-places.places.items c.requires.served choice) in
     subst (λ z. IsImage (file.image_of START c.in_ok-text.text.items z c.new-2.result.items)) (sym c.new.ensures.items)
     (subst (λ z. IsImage (file.image_of START c.in_ok-text.text.items [] z)) (sym c.new-2.ensures.items) good)
@@ -43,12 +49,19 @@ returns c =
     let second : c.ops-2.result.now ≡ ops_of f = c.ops-2.ensures.ops ∙ ap finished build in
     let registers : c.registers.result ≡ registers_of addresses f = c.registers.ensures ∙ ap (λ b. b.registers) build in
     let frame : 128 + 48 * c.size.result ≡ charge_of (size_of f) = ap (λ n. 128 + 48 * n) c.size.ensures in
-    let text : c.in_ok-text.text.items ≡ front FUNCTIONS 1 ++ expanded c.ops-2.result.now c.in_ok-places.places.items FUNCTIONS (128 + 48 * c.size.result) f.object false =
-    c.in_ok-text.ensures ∙ ap (λ z. front FUNCTIONS 1 ++ expanded c.ops-2.result.now z FUNCTIONS (128 + 48 * c.size.result) f.object false) c.deref.ensures.value in
+    let text : c.in_ok-text.text.items ≡ front FUNCTIONS 1 ++ expanded c.ops-2.result.now c.in_ok-places.places.items
+    FUNCTIONS (128 + 48 * c.size.result) f.object false =
+    c.in_ok-text.ensures ∙ ap
+    (λ z. front FUNCTIONS 1 ++ expanded c.ops-2.result.now z FUNCTIONS (128 + 48 * c.size.result) f.object false)
+    c.deref.ensures.value in
     let same = first ∙ sym second in
-    let found : (xs : List Interval) × AreIntervals c.ops-2.result.now xs × (c.in_ok-places.places.items ≡ places_of c.registers.result xs) =
-    subst (λ (z : List Op). (xs : List Interval) × AreIntervals z xs × (c.in_ok-places.places.items ≡ places_of c.registers.result xs)) same c.in_ok-places.ensures.scanned in
-    is_scanned f c.ops-2.result.now c.in_ok-places.places.items c.in_ok-text.text.items c.registers.result (128 + 48 * c.size.result) second registers frame text
-    found (subst (λ z. IsLegal z c.registers.result c.in_ok-places.places.items) same c.in_ok-places.ensures.legal) c.new-3.result
+    let found : (xs : List Interval) × AreIntervals c.ops-2.result.now xs ×
+    (c.in_ok-places.places.items ≡ places_of c.registers.result xs) =
+    subst (λ (z : List Op). (xs : List Interval) × AreIntervals z xs ×
+    (c.in_ok-places.places.items ≡ places_of c.registers.result xs)) same c.in_ok-places.ensures.scanned in
+    is_scanned f c.ops-2.result.now c.in_ok-places.places.items c.in_ok-text.text.items c.registers.result
+    (128 + 48 * c.size.result) second registers frame text
+    found (subst (λ z. IsLegal z c.registers.result c.in_ok-places.places.items) same c.in_ok-places.ensures.legal)
+    c.new-3.result
     (c.new-3.ensures ∙ ap (λ z. file.image_of START c.in_ok-text.text.items z c.new-2.result.items) c.new.ensures.items
     ∙ ap (λ z. file.image_of START c.in_ok-text.text.items [] z) c.new-2.ensures.items)

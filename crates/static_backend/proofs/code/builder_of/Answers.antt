@@ -11,5 +11,7 @@ unreachable-requires c =
     let function = function_view c.args.function.now in
     let accepted = c.lowering_is_accepted.ensures addresses function c.requires.ready in
     let built : c.lower.new.builder.build ≡ run_ops (function_ops addresses function) (empty function.parameters) =
-    c.in_ok-lower.ensures.taken addresses ∙ ap (λ b. run_ops (function_ops addresses function) b.build) c.begin.ensures in
-    c.in-Err.ensures.0 (ap (λ b. b.operands) built ∙ accepted.no_operands) (ap (λ b. b.bodies) built ∙ accepted.no_bodies)
+    c.in_ok-lower.ensures.taken addresses ∙
+    ap (λ b. run_ops (function_ops addresses function) b.build) c.begin.ensures in
+    c.in-Err.ensures.0 (ap (λ b. b.operands) built ∙ accepted.no_operands)
+    (ap (λ b. b.bodies) built ∙ accepted.no_bodies)

@@ -11,4 +11,5 @@ returns-clause-legal c =
     let legal : IsLegal c.args.ops.now c.args.registers new =
     subst (λ n. IsLegal c.args.ops.now n new) (same ∙ c.in_ok-made.ensures) c.scan_places.ensures.legal in
     subst (IsLegal c.args.ops.now c.args.registers)
-    (sym (whole new old c.in_ok-made.made.len (legal.one_each ∙ sym c.in_ok-made.ensures) (omega (arith, same, c.deref_mut-2.ensures.len)))) legal
+    (sym (whole new old c.in_ok-made.made.len (legal.one_each ∙ sym c.in_ok-made.ensures)
+    (omega (arith, same, c.deref_mut-2.ensures.len)))) legal

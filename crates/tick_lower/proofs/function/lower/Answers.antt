@@ -19,7 +19,8 @@ unreachable-requires c =
     let same : os ≡ function_ops anywhere function = c.as_slice.ensures ∙ c.in_ok-ops.ensures anywhere in
     let begun : b ≡ empty c.args.function.now.params = ap (λ x. x.build) c.requires.begun in
     let first : AreTaken os (empty c.args.function.now.params) =
-    subst (λ xs. AreTaken xs (empty c.args.function.now.params)) (sym same) (c.lowering_is_accepted.ensures anywhere function c.requires.ready).taken in
+    subst (λ xs. AreTaken xs (empty c.args.function.now.params)) (sym same)
+    (c.lowering_is_accepted.ensures anywhere function c.requires.ready).taken in
     let taken : AreTaken os b = subst (AreTaken os) (sym begun) first in
     let refused : IsRefused os b c.emit_all.new.self.build f =
     subst (λ r. EmitsAll os b c.emit_all.new.self.build r) c.in-Err.is c.emit_all.ensures.emits in

@@ -9,7 +9,8 @@ use Rattle.tick_lower.proofs.statements.+lower_statement.Given as goal
 abbrev pub invariant-lower_statements-loop-s : goal.invariant-lower_statements-loop-s
 invariant-lower_statements-loop-s l = record {
   built : AreBuiltItems (rest l.s-index l.list);
-  ops : (addresses : Addresses) (to : Targets) → l.out.list ++ items_ops addresses (rest l.s-index l.list) to l.out.label l.out.variable
+  ops : (addresses : Addresses) (to : Targets) →
+      l.out.list ++ items_ops addresses (rest l.s-index l.list) to l.out.label l.out.variable
       ≡ l.fn.out.list ++ items_ops addresses (rest 0 l.list) to l.fn.out.label l.fn.out.variable;
   label : l.out.label + labels_of (rest l.s-index l.list) ≡ l.fn.out.label + labels_of (rest 0 l.list);
   variable : l.out.variable + temps_of (rest l.s-index l.list) ≡ l.fn.out.variable + temps_of (rest 0 l.list);

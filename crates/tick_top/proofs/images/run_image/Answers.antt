@@ -10,7 +10,9 @@ returns-clause-ran g c = record {
   final = progress_of c.run-stop.new.self;
   stop = c.run-stop.result;
   ran =
-      subst (λ (p : Progress). Ran c.args.steps p (progress_of c.run-stop.new.self) (g.I.Source.left c.args.input.now) (g.I.Source.left c.run-stop.new.input) (g.O.Sink.taken c.args.out.now) (g.O.Sink.taken c.run-stop.new.out) c.run-stop.result)
+      subst (λ (p : Progress). Ran c.args.steps p (progress_of c.run-stop.new.self) (g.I.Source.left c.args.input.now)
+      (g.I.Source.left c.run-stop.new.input) (g.O.Sink.taken c.args.out.now) (g.O.Sink.taken c.run-stop.new.out)
+      c.run-stop.result)
       c.in_ok-machine.ensures.state (c.run-stop.ensures.ran c.in_ok-machine.ensures.fresh);
   steps = search rules;
   counts = search rules;

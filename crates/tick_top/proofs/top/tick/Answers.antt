@@ -2,7 +2,8 @@ use Rattle.std.proofs.Common.{map}
 use Rattle.std.specs.Prelude.{string_bytes}
 use Rattle.tick_top.specs.Outside.{outside, failures}
 use Rattle.tick_top.proofs.Fronts.{if_ok}
-use Rattle.tick_top.proofs.Stated.{refused_row, asm_refused_row, too_long_row, bad_image_row, trap_row, machine_fault_row, out_of_steps_row, cause_row}
+use Rattle.tick_top.proofs.Stated.{refused_row, asm_refused_row, too_long_row, bad_image_row, trap_row}
+use Rattle.tick_top.proofs.Stated.{machine_fault_row, out_of_steps_row, cause_row}
 use Rattle.tick_top.proofs.top.tick.Goals as goal
 
 pub returns-clause-refused : goal.returns-clause-refused
@@ -12,8 +13,10 @@ returns-clause-refused g c =
     (outside (g.S.Store.file c.args.store.now) (g.I.Source.left c.args.input.now) (g.O.Sink.taken c.args.out.now))
     (outside (g.S.Store.file c.whole.new.store) (g.I.Source.left c.whole.new.input) (g.O.Sink.taken c.whole.new.out))
     (failures (g.S.Store.faults c.args.store.now) (g.I.Source.faults c.args.input.now) (g.O.Sink.faults c.args.out.now))
-    (failures (g.S.Store.faults c.whole.new.store) (g.I.Source.faults c.whole.new.input) (g.O.Sink.faults c.whole.new.out))
-    (g.E.Sink.taken c.args.err.now) (g.E.Sink.taken c.whole.new.err) (g.E.Sink.faults c.args.err.now) (g.E.Sink.faults c.whole.new.err))
+    (failures (g.S.Store.faults c.whole.new.store) (g.I.Source.faults c.whole.new.input)
+    (g.O.Sink.faults c.whole.new.out))
+    (g.E.Sink.taken c.args.err.now) (g.E.Sink.taken c.whole.new.err) (g.E.Sink.faults c.args.err.now)
+    (g.E.Sink.faults c.whole.new.err))
     c.whole.ensures.did
 
 pub returns-clause-asm_refused : goal.returns-clause-asm_refused
@@ -23,8 +26,10 @@ returns-clause-asm_refused g c =
     (outside (g.S.Store.file c.args.store.now) (g.I.Source.left c.args.input.now) (g.O.Sink.taken c.args.out.now))
     (outside (g.S.Store.file c.whole.new.store) (g.I.Source.left c.whole.new.input) (g.O.Sink.taken c.whole.new.out))
     (failures (g.S.Store.faults c.args.store.now) (g.I.Source.faults c.args.input.now) (g.O.Sink.faults c.args.out.now))
-    (failures (g.S.Store.faults c.whole.new.store) (g.I.Source.faults c.whole.new.input) (g.O.Sink.faults c.whole.new.out))
-    (g.E.Sink.taken c.args.err.now) (g.E.Sink.taken c.whole.new.err) (g.E.Sink.faults c.args.err.now) (g.E.Sink.faults c.whole.new.err))
+    (failures (g.S.Store.faults c.whole.new.store) (g.I.Source.faults c.whole.new.input)
+    (g.O.Sink.faults c.whole.new.out))
+    (g.E.Sink.taken c.args.err.now) (g.E.Sink.taken c.whole.new.err) (g.E.Sink.faults c.args.err.now)
+    (g.E.Sink.faults c.whole.new.err))
     c.whole.ensures.did
 
 pub returns-clause-too_long : goal.returns-clause-too_long
@@ -34,8 +39,10 @@ returns-clause-too_long g c =
     (outside (g.S.Store.file c.args.store.now) (g.I.Source.left c.args.input.now) (g.O.Sink.taken c.args.out.now))
     (outside (g.S.Store.file c.whole.new.store) (g.I.Source.left c.whole.new.input) (g.O.Sink.taken c.whole.new.out))
     (failures (g.S.Store.faults c.args.store.now) (g.I.Source.faults c.args.input.now) (g.O.Sink.faults c.args.out.now))
-    (failures (g.S.Store.faults c.whole.new.store) (g.I.Source.faults c.whole.new.input) (g.O.Sink.faults c.whole.new.out))
-    (g.E.Sink.taken c.args.err.now) (g.E.Sink.taken c.whole.new.err) (g.E.Sink.faults c.args.err.now) (g.E.Sink.faults c.whole.new.err))
+    (failures (g.S.Store.faults c.whole.new.store) (g.I.Source.faults c.whole.new.input)
+    (g.O.Sink.faults c.whole.new.out))
+    (g.E.Sink.taken c.args.err.now) (g.E.Sink.taken c.whole.new.err) (g.E.Sink.faults c.args.err.now)
+    (g.E.Sink.faults c.whole.new.err))
     c.whole.ensures.did
 
 pub returns-clause-bad_image : goal.returns-clause-bad_image
@@ -45,8 +52,10 @@ returns-clause-bad_image g c =
     (outside (g.S.Store.file c.args.store.now) (g.I.Source.left c.args.input.now) (g.O.Sink.taken c.args.out.now))
     (outside (g.S.Store.file c.whole.new.store) (g.I.Source.left c.whole.new.input) (g.O.Sink.taken c.whole.new.out))
     (failures (g.S.Store.faults c.args.store.now) (g.I.Source.faults c.args.input.now) (g.O.Sink.faults c.args.out.now))
-    (failures (g.S.Store.faults c.whole.new.store) (g.I.Source.faults c.whole.new.input) (g.O.Sink.faults c.whole.new.out))
-    (g.E.Sink.taken c.args.err.now) (g.E.Sink.taken c.whole.new.err) (g.E.Sink.faults c.args.err.now) (g.E.Sink.faults c.whole.new.err))
+    (failures (g.S.Store.faults c.whole.new.store) (g.I.Source.faults c.whole.new.input)
+    (g.O.Sink.faults c.whole.new.out))
+    (g.E.Sink.taken c.args.err.now) (g.E.Sink.taken c.whole.new.err) (g.E.Sink.faults c.args.err.now)
+    (g.E.Sink.faults c.whole.new.err))
     c.whole.ensures.did
 
 pub returns-clause-trap : goal.returns-clause-trap
@@ -56,8 +65,10 @@ returns-clause-trap g c =
     (outside (g.S.Store.file c.args.store.now) (g.I.Source.left c.args.input.now) (g.O.Sink.taken c.args.out.now))
     (outside (g.S.Store.file c.whole.new.store) (g.I.Source.left c.whole.new.input) (g.O.Sink.taken c.whole.new.out))
     (failures (g.S.Store.faults c.args.store.now) (g.I.Source.faults c.args.input.now) (g.O.Sink.faults c.args.out.now))
-    (failures (g.S.Store.faults c.whole.new.store) (g.I.Source.faults c.whole.new.input) (g.O.Sink.faults c.whole.new.out))
-    (g.E.Sink.taken c.args.err.now) (g.E.Sink.taken c.whole.new.err) (g.E.Sink.faults c.args.err.now) (g.E.Sink.faults c.whole.new.err))
+    (failures (g.S.Store.faults c.whole.new.store) (g.I.Source.faults c.whole.new.input)
+    (g.O.Sink.faults c.whole.new.out))
+    (g.E.Sink.taken c.args.err.now) (g.E.Sink.taken c.whole.new.err) (g.E.Sink.faults c.args.err.now)
+    (g.E.Sink.faults c.whole.new.err))
     c.whole.ensures.did
 
 pub returns-clause-machine_fault : goal.returns-clause-machine_fault
@@ -67,8 +78,10 @@ returns-clause-machine_fault g c =
     (outside (g.S.Store.file c.args.store.now) (g.I.Source.left c.args.input.now) (g.O.Sink.taken c.args.out.now))
     (outside (g.S.Store.file c.whole.new.store) (g.I.Source.left c.whole.new.input) (g.O.Sink.taken c.whole.new.out))
     (failures (g.S.Store.faults c.args.store.now) (g.I.Source.faults c.args.input.now) (g.O.Sink.faults c.args.out.now))
-    (failures (g.S.Store.faults c.whole.new.store) (g.I.Source.faults c.whole.new.input) (g.O.Sink.faults c.whole.new.out))
-    (g.E.Sink.taken c.args.err.now) (g.E.Sink.taken c.whole.new.err) (g.E.Sink.faults c.args.err.now) (g.E.Sink.faults c.whole.new.err))
+    (failures (g.S.Store.faults c.whole.new.store) (g.I.Source.faults c.whole.new.input)
+    (g.O.Sink.faults c.whole.new.out))
+    (g.E.Sink.taken c.args.err.now) (g.E.Sink.taken c.whole.new.err) (g.E.Sink.faults c.args.err.now)
+    (g.E.Sink.faults c.whole.new.err))
     c.whole.ensures.did
 
 pub returns-clause-out_of_steps : goal.returns-clause-out_of_steps
@@ -78,8 +91,10 @@ returns-clause-out_of_steps g c =
     (outside (g.S.Store.file c.args.store.now) (g.I.Source.left c.args.input.now) (g.O.Sink.taken c.args.out.now))
     (outside (g.S.Store.file c.whole.new.store) (g.I.Source.left c.whole.new.input) (g.O.Sink.taken c.whole.new.out))
     (failures (g.S.Store.faults c.args.store.now) (g.I.Source.faults c.args.input.now) (g.O.Sink.faults c.args.out.now))
-    (failures (g.S.Store.faults c.whole.new.store) (g.I.Source.faults c.whole.new.input) (g.O.Sink.faults c.whole.new.out))
-    (g.E.Sink.taken c.args.err.now) (g.E.Sink.taken c.whole.new.err) (g.E.Sink.faults c.args.err.now) (g.E.Sink.faults c.whole.new.err))
+    (failures (g.S.Store.faults c.whole.new.store) (g.I.Source.faults c.whole.new.input)
+    (g.O.Sink.faults c.whole.new.out))
+    (g.E.Sink.taken c.args.err.now) (g.E.Sink.taken c.whole.new.err) (g.E.Sink.faults c.args.err.now)
+    (g.E.Sink.faults c.whole.new.err))
     c.whole.ensures.did
 
 pub returns-clause-cause : goal.returns-clause-cause
@@ -89,6 +104,8 @@ returns-clause-cause g c =
     (outside (g.S.Store.file c.args.store.now) (g.I.Source.left c.args.input.now) (g.O.Sink.taken c.args.out.now))
     (outside (g.S.Store.file c.whole.new.store) (g.I.Source.left c.whole.new.input) (g.O.Sink.taken c.whole.new.out))
     (failures (g.S.Store.faults c.args.store.now) (g.I.Source.faults c.args.input.now) (g.O.Sink.faults c.args.out.now))
-    (failures (g.S.Store.faults c.whole.new.store) (g.I.Source.faults c.whole.new.input) (g.O.Sink.faults c.whole.new.out))
-    (g.E.Sink.taken c.args.err.now) (g.E.Sink.taken c.whole.new.err) (g.E.Sink.faults c.args.err.now) (g.E.Sink.faults c.whole.new.err))
+    (failures (g.S.Store.faults c.whole.new.store) (g.I.Source.faults c.whole.new.input)
+    (g.O.Sink.faults c.whole.new.out))
+    (g.E.Sink.taken c.args.err.now) (g.E.Sink.taken c.whole.new.err) (g.E.Sink.faults c.args.err.now)
+    (g.E.Sink.faults c.whole.new.err))
     c.whole.ensures.did

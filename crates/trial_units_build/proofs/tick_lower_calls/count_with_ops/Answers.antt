@@ -2,4 +2,5 @@ use Rattle.trial_units_build.proofs.ReturnLists.{ready_item}
 use Rattle.trial_units_build.proofs.tick_lower_calls.count_with_ops.Goals as goal
 
 pub lower-requires-clause-ready : goal.lower-requires-clause-ready
-lower-requires-clause-ready c = ready_item c.args.list.now c.loop-f.f-index c.f-item.result c.loop-f-test.true c.f-item.is c.requires
+lower-requires-clause-ready c =
+    ready_item c.args.list.now c.loop-f.f-index c.f-item.result c.loop-f-test.true c.f-item.is c.requires

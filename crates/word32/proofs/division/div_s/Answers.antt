@@ -1,6 +1,7 @@
 use Rattle.std.proofs.Common.{◌≢◌, ◌⊎◌, inl, inr}
 use Rattle.word32.proofs.Signs.{quotient_is, remainder_is, divides}
-use Rattle.word32.proofs.division.div_s.Goals.{else-a-eq2147483648-via-then-a-eq2147483648+else-b-eq4294967295, else-a-eq2147483648-via-else-a-eq2147483648}
+use Rattle.word32.proofs.division.div_s.Goals.{else-a-eq2147483648-via-then-a-eq2147483648+else-b-eq4294967295}
+use Rattle.word32.proofs.division.div_s.Goals.{else-a-eq2147483648-via-else-a-eq2147483648}
 use Rattle.word32.proofs.division.div_s.Goals as goal
 
 pub returns : goal.returns

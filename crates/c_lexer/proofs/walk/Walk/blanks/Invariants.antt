@@ -7,7 +7,8 @@ use Rattle.c_lexer.proofs.walk.Walk.blanks.Given as goal
 abbrev pub invariant-loop-at : goal.invariant-loop-at
 invariant-loop-at l = record {
   line : l.line ≡ line_at l.text l.at;
-  past : l.at + prefix_len (is_in class.Blank) (drop l.at l.text) ≡ past class.Blank l.initial.self.text.now l.initial.self.at;
+  past : l.at + prefix_len (is_in class.Blank) (drop l.at l.text) ≡ past class.Blank l.initial.self.text.now
+      l.initial.self.at;
   within : l.at ≤ length l.text;
 }
 

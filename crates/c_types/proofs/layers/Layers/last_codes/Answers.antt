@@ -10,5 +10,7 @@ returns-then-self-below c =
     let place = length l.row.now - 1 in
     let kept = get_or l.lists.now place c.index-self-below.result in
     let found : kept ≡ get_or l.lists.now place kept = ap (λ d. get_or l.lists.now place d) c.index-self-below.is in
-    let all : CodesOf (outermost (l.row.now ++ l.more.now)) kept = last_list l.row.now l.more.now l.lists.now kept (omega (arith, c.if-on_top-eq0.true)) (omega (arith, c.if-below-gt0.true)) (omega (arith, c.if-self-below.true)) c.self.invariant.listed found in
+    let all : CodesOf (outermost (l.row.now ++ l.more.now)) kept =
+    last_list l.row.now l.more.now l.lists.now kept (omega (arith, c.if-on_top-eq0.true))
+    (omega (arith, c.if-below-gt0.true)) (omega (arith, c.if-self-below.true)) c.self.invariant.listed found in
     rw (← c.self.view_is, c.as_slice.ensures) all

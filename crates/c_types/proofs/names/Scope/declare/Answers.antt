@@ -9,19 +9,26 @@ use Rattle.c_types.proofs.names.Scope.declare.Goals as goal
 pub returns-then-contains_key-clause-taken : goal.returns-then-contains_key-clause-taken
 returns-then-contains_key-clause-taken c _ =
     let f = found c.self.inside.names.entries c.args.name.now ∙ ap (λ s. in_scope s c.args.name.now) c.self.view_is in
-    let there : is_some (in_scope c.args.self.now c.args.name.now) ≡ true = ap is_some (sym f) ∙ sym c.contains_key.ensures ∙ c.if-contains_key.true in
+    let there : is_some (in_scope c.args.self.now c.args.name.now) ≡ true =
+    ap is_some (sym f) ∙ sym c.contains_key.ensures ∙ c.if-contains_key.true in
     some_of (in_scope c.args.self.now c.args.name.now) there
 
 pub returns-clause-free : goal.returns-clause-free
 returns-clause-free c =
     let f = found c.self.inside.names.entries c.args.name.now ∙ ap (λ s. in_scope s c.args.name.now) c.self.view_is in
-    let no : is_some (in_scope c.args.self.now c.args.name.now) ≡ false = ap is_some (sym f) ∙ sym c.contains_key.ensures ∙ c.if-contains_key.false in
+    let no : is_some (in_scope c.args.self.now c.args.name.now) ≡ false =
+    ap is_some (sym f) ∙ sym c.contains_key.ensures ∙ c.if-contains_key.false in
     none_of (in_scope c.args.self.now c.args.name.now) no
 
 pub returns-clause-ok : goal.returns-clause-ok
 returns-clause-ok c =
-    let no : is_some (lookup (λ k. bytes_eq c.args.name.now k.items) c.self.inside.names.entries) ≡ false = sym c.contains_key.ensures ∙ c.if-contains_key.false in
+    let no : is_some (lookup (λ k. bytes_eq c.args.name.now k.items) c.self.inside.names.entries) ≡ false =
+    sym c.contains_key.ensures ∙ c.if-contains_key.false in
     let k = c.in_ok-key.ensures.items in
-    let none : lookup (λ k. bytes_eq c.in_ok-key.key.items k.items) c.self.inside.names.entries ≡ None = rw k (none_of _ no) in
-    let es = c.in_ok-insert.ensures.entries ∙ insert_entry-new (λ a b. bytes_eq a.items b.items) c.self.inside.names c.in_ok-key.key c.args.what none in
-    ap entries es ∙ entries_more c.self.inside.names.entries (c.in_ok-key.key, c.args.what) ∙ ap (λ n. entries c.self.inside.names.entries ++ (n, c.args.what) ∷ []) k ∙ ap (λ s. s ++ (c.args.name.now, c.args.what) ∷ []) c.self.view_is
+    let none : lookup (λ k. bytes_eq c.in_ok-key.key.items k.items) c.self.inside.names.entries ≡ None =
+    rw k (none_of _ no) in
+    let es = c.in_ok-insert.ensures.entries ∙
+    insert_entry-new (λ a b. bytes_eq a.items b.items) c.self.inside.names c.in_ok-key.key c.args.what none in
+    ap entries es ∙ entries_more c.self.inside.names.entries (c.in_ok-key.key, c.args.what) ∙
+    ap (λ n. entries c.self.inside.names.entries ++ (n, c.args.what) ∷ []) k ∙
+    ap (λ s. s ++ (c.args.name.now, c.args.what) ∷ []) c.self.view_is

@@ -4,4 +4,5 @@ use Rattle.c_types.proofs.Lookups.{found}
 use Rattle.c_types.proofs.names.Scope.find.Goals as goal
 
 pub returns : goal.returns
-returns c = c.get.ensures.value ∙ found c.self.inside.names.entries c.args.name.now ∙ ap (λ s. in_scope s c.args.name.now) c.self.view_is
+returns c = c.get.ensures.value ∙ found c.self.inside.names.entries c.args.name.now ∙
+    ap (λ s. in_scope s c.args.name.now) c.self.view_is

@@ -10,7 +10,8 @@ pub returns : goal.returns
 unfolding outer_local
 returns c =
     let s = c.args.self.now in
-    let what : c.in_ok-what.what ≡ meaning kind.Variable c.args.t (frames.number s.frame) = c.in_ok-what.ensures ∙ ap (meaning kind.Variable c.args.t) c.number.ensures in
+    let what : c.in_ok-what.what ≡ meaning kind.Variable c.args.t (frames.number s.frame) =
+    c.in_ok-what.ensures ∙ ap (meaning kind.Variable c.args.t) c.number.ensures in
     ap (λ m. declare c.args.line c.args.name.now m s >>= (λ r. Ok (made_outer c.args.t r.1))) (sym what)
     ∙ ap (λ r. r >>= (λ r. Ok (made_outer c.args.t r.1))) (c.in_ok-declare.ensures)
     ∙ ap Ok (c.in_ok-made_outer.ensures)

@@ -3,4 +3,5 @@ use Rattle.check_tables.specs.Functions as spec
 use Rattle.check_tables.proofs.functions.Functions.undefined.Given as goal
 
 abbrev pub invariant-loop-prototype : goal.invariant-loop-prototype
-invariant-loop-prototype l = spec.lacking (drop l.prototype-index l.self.prototypes) l.self ≡ spec.lacking l.self.prototypes l.self
+invariant-loop-prototype l =
+    spec.lacking (drop l.prototype-index l.self.prototypes) l.self ≡ spec.lacking l.self.prototypes l.self

@@ -6,4 +6,5 @@ use Rattle.icode_expand.proofs.saved.Saved.restore.Given as goal
 
 abbrev pub invariant-loop-place : goal.invariant-loop-place
 invariant-loop-place l =
-    (l.code ≡ l.fn.code ++ words (restores (so_far l.self-inside.used l.place))) × (length l.code ≤ length l.fn.code + l.place)
+    (l.code ≡ l.fn.code ++ words (restores (so_far l.self-inside.used l.place))) ×
+    (length l.code ≤ length l.fn.code + l.place)

@@ -9,8 +9,15 @@ pub loop-place-preserved : goal.loop-place-preserved
 loop-place-preserved c =
     elim c.if-self-place.branch [
       | then-self-place w ↦ (
-        simp
-            (w.code-is, w.push.ensures.words, w.sw.ensures, w.place_register.ensures, c.loop-place.invariant.0, saves_more _ _ c.loop-place-test.true w.if-self-place.true, append_assoc),
+        simp (
+          w.code-is,
+          w.push.ensures.words,
+          w.sw.ensures,
+          w.place_register.ensures,
+          c.loop-place.invariant.0,
+          saves_more _ _ c.loop-place-test.true w.if-self-place.true,
+          append_assoc,
+        ),
         rw w.code-is (omega arith),
       )
       | else-self-place w ↦ (

@@ -19,10 +19,12 @@ invariant_of-self c =
       | then-jumped w ↦
           let t = sym c.contains-jumped.ensures ∙ w.if-jumped.true in
           let one = counted-one i.jumped i.placed i.unplaced c.args.label c.self.invariant f t in
-          label-placed i.jumped i.placed c.insert.new.self i.unplaced c.if-jumped.self c.args.label c.self.invariant f c.insert.ensures
+          label-placed i.jumped i.placed c.insert.new.self i.unplaced c.if-jumped.self c.args.label c.self.invariant f
+          c.insert.ensures
           (omega (arith, one, w.self-is, ap {B = ℕ} (λ b. cond b 1 0) t))
       | else-jumped w ↦
           let t = sym c.contains-jumped.ensures ∙ w.if-jumped.false in
-          label-placed i.jumped i.placed c.insert.new.self i.unplaced c.if-jumped.self c.args.label c.self.invariant f c.insert.ensures
+          label-placed i.jumped i.placed c.insert.new.self i.unplaced c.if-jumped.self c.args.label c.self.invariant f
+          c.insert.ensures
           (omega (arith, w.self-is, ap {B = ℕ} (λ b. cond b 1 0) t))
     ]

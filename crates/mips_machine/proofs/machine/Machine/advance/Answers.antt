@@ -19,8 +19,11 @@ none_of (Some s) is = absurd (false≢true (sym is))
 
 pub returns-clause-ran : goal.returns-clause-ran
 returns-clause-ran g c =
-    let on = ap (λ (h : Held). h.stopped) (sym c.self.view_is) ∙ none_of c.self.inside.stopped (sym c.is_some.ensures ∙ c.if-is_some.false) in
+    let on = ap (λ (h : Held). h.stopped) (sym c.self.view_is) ∙
+    none_of c.self.inside.stopped (sym c.is_some.ensures ∙ c.if-is_some.false) in
     let some = c.if-left-eq0.false in
     let left = c.compute-left.ensures.within in
     ran_count (omega (arith, some, left))
-    (ran_more (ran_stop (ap stop_from on) (c.compute-left.ensures.ran (g.I.Source.left c.args.input.now) (g.O.Sink.taken c.args.out.now))) c.serve.ensures.ran)
+    (ran_more (ran_stop (ap stop_from on)
+    (c.compute-left.ensures.ran (g.I.Source.left c.args.input.now) (g.O.Sink.taken c.args.out.now)))
+    c.serve.ensures.ran)

@@ -19,7 +19,8 @@ loop-left-init g c = record {
   fresh = c.requires.fresh;
   within = omega arith;
   steps = omega arith;
-  ran = ran_count (omega arith) (ran_none (progress_of c.args.self.now) (g.I.Source.left c.args.input.now) (g.O.Sink.taken c.args.out.now));
+  ran = ran_count (omega arith)
+      (ran_none (progress_of c.args.self.now) (g.I.Source.left c.args.input.now) (g.O.Sink.taken c.args.out.now));
   read = refl;
   write = refl;
 }
@@ -33,7 +34,8 @@ returns-in-Some-clause-ran g c =
 
 pub returns-in-Some-clause-stopped : goal.returns-in-Some-clause-stopped
 returns-in-Some-clause-stopped g c =
-    ap (λ (h : Held). h.stopped) (sym c.self.view_is) ∙ c.in-Some.is ∙ kept_is c.in-Some.stop (λ e. c.self.invariant.0.stays (c.in-Some.is ∙ ap Some e))
+    ap (λ (h : Held). h.stopped) (sym c.self.view_is) ∙ c.in-Some.is ∙
+    kept_is c.in-Some.stop (λ e. c.self.invariant.0.stays (c.in-Some.is ∙ ap Some e))
 
 pub loop-left-preserved : goal.loop-left-preserved
 loop-left-preserved g c =
@@ -44,8 +46,12 @@ loop-left-preserved g c =
     let within = c.loop-left.invariant.within in
     let less = c.advance-left.ensures.within in
     let steps = c.loop-left.invariant.steps in
-    let read : g.I.Source.faults c.advance-left.new.input ≡ g.I.Source.faults c.loop-left.input = subst (λ s. ReadCause s (g.I.Source.faults c.loop-left.input) (g.I.Source.faults c.advance-left.new.input)) (ap stop_from fresh) c.advance-left.ensures.read in
-    let write : g.O.Sink.faults c.advance-left.new.out ≡ g.O.Sink.faults c.loop-left.out = subst (λ s. WriteCause s (g.O.Sink.faults c.loop-left.out) (g.O.Sink.faults c.advance-left.new.out)) (ap stop_from fresh) c.advance-left.ensures.write in
+    let read : g.I.Source.faults c.advance-left.new.input ≡ g.I.Source.faults c.loop-left.input =
+    subst (λ s. ReadCause s (g.I.Source.faults c.loop-left.input) (g.I.Source.faults c.advance-left.new.input))
+    (ap stop_from fresh) c.advance-left.ensures.read in
+    let write : g.O.Sink.faults c.advance-left.new.out ≡ g.O.Sink.faults c.loop-left.out =
+    subst (λ s. WriteCause s (g.O.Sink.faults c.loop-left.out) (g.O.Sink.faults c.advance-left.new.out))
+    (ap stop_from fresh) c.advance-left.ensures.write in
     record {
       fresh = fresh;
       within = omega (arith, within, less);

@@ -9,7 +9,8 @@ invariant-loop-left g l = record {
   fresh : l.self.stopped ≡ None;
   within : l.left ≤ l.fn.n;
   steps : l.self.steps + l.left ≡ l.fn.self.steps + l.fn.n;
-  ran : Ran (l.fn.n - l.left) (progress_of l.fn.self) (progress_of l.self) (g.I.Source.left l.fn.input) (g.I.Source.left l.input) (g.O.Sink.taken l.fn.out) (g.O.Sink.taken l.out) Steps;
+  ran : Ran (l.fn.n - l.left) (progress_of l.fn.self) (progress_of l.self) (g.I.Source.left l.fn.input)
+      (g.I.Source.left l.input) (g.O.Sink.taken l.fn.out) (g.O.Sink.taken l.out) Steps;
   read : g.I.Source.faults l.input ≡ g.I.Source.faults l.fn.input;
   write : g.O.Sink.faults l.out ≡ g.O.Sink.faults l.fn.out;
 }

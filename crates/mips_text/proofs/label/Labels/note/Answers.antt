@@ -18,7 +18,8 @@ returns c =
     let no : is_some (lookup (λ k. bytes_eq c.args.name.now k.items) c.self.inside.names.entries) ≡ false =
     sym c.contains_key.ensures ∙ c.if-contains_key.false in
     let k = c.in_ok-key.ensures.items in
-    let none : lookup (λ k. bytes_eq c.in_ok-key.key.items k.items) c.self.inside.names.entries ≡ None = rw k (none_of _ no) in
+    let none : lookup (λ k. bytes_eq c.in_ok-key.key.items k.items) c.self.inside.names.entries ≡ None =
+    rw k (none_of _ no) in
     let es = c.in_ok-insert.ensures.entries
     ∙ insert_entry-new (λ a b. bytes_eq a.items b.items) c.self.inside.names c.in_ok-key.key c.args.label none in
     ap find

@@ -5,7 +5,8 @@ use Rattle.mips_text.specs.Instructions.{◌>>=◌, pure}
 use Rattle.mips_text.specs.Values as spec
 use Rattle.mips_text.proofs.survey.Survey.item_of.Goals as goal
 
-pub returns-in_ok-instruction_of-in-Instruction-clause-value : goal.returns-in_ok-instruction_of-in-Instruction-clause-value
+pub returns-in_ok-instruction_of-in-Instruction-clause-value :
+    goal.returns-in_ok-instruction_of-in-Instruction-clause-value
 returns-in_ok-instruction_of-in-Instruction-clause-value c =
     ap (λ w. Ok (item.Word w)) c.encode.ensures.word
     ∙ ap (λ r. r >>= (λ i. pure (item.Word (word_of i)))) c.in_ok-instruction_of-in-Instruction.ensures

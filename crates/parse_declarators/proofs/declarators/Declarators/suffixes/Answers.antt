@@ -9,11 +9,13 @@ use Rattle.parse_declarators.proofs.declarators.Declarators.suffixes.Goals as go
 pub returns-in_err-suffix : goal.returns-in_err-suffix
 unfolding many_from
 returns-in_err-suffix g c =
-    let e = one_more (λ n. many_from begins_suffix (suffix (room_of c.args.room)) n c.loop-turn.found c.loop-turn.tokens) _ c.loop-turn._turn c.loop-turn-test.true c.loop-turn.invariant in
+    let e = one_more (λ n. many_from begins_suffix (suffix (room_of c.args.room)) n c.loop-turn.found
+    c.loop-turn.tokens) _ c.loop-turn._turn c.loop-turn-test.true c.loop-turn.invariant in
     first_of (search rules, grind (arith, common_steps))
 
 pub loop-turn-preserved : goal.loop-turn-preserved
 unfolding many_from
 loop-turn-preserved g c =
-    let e = one_more (λ n. many_from begins_suffix (suffix (room_of c.args.room)) n c.loop-turn.found c.loop-turn.tokens) _ c.loop-turn._turn c.loop-turn-test.true c.loop-turn.invariant in
+    let e = one_more (λ n. many_from begins_suffix (suffix (room_of c.args.room)) n c.loop-turn.found
+    c.loop-turn.tokens) _ c.loop-turn._turn c.loop-turn-test.true c.loop-turn.invariant in
     first_of (search rules, grind (arith, common_steps))

@@ -40,11 +40,13 @@ level-loop-next-init g t c =
 pub level-returns-in_err-left-2 : goal.level-returns-in_err-left-2
 level-returns-in_err-left-2 g t c =
     let h : loosely c.loop-next.least c.args.level (operator_of (kind c.loop-next.tokens)) ≡ Some c.in-Some.next = cc in
-    let e = climb_goes c.loop-next.least c.args.level c.in-Some.next (room_of c.args.room) c.loop-next.left c.loop-next.tokens c.loop-next.invariant.least h in
+    let e = climb_goes c.loop-next.least c.args.level c.in-Some.next (room_of c.args.room) c.loop-next.left
+    c.loop-next.tokens c.loop-next.invariant.least h in
     first_of (search rules, grind (arith, common_steps))
 
 pub level-loop-next-preserved : goal.level-loop-next-preserved
 level-loop-next-preserved g t c =
     let h : loosely c.loop-next.least c.args.level (operator_of (kind c.loop-next.tokens)) ≡ Some c.in-Some.next = cc in
-    let e = climb_goes c.loop-next.least c.args.level c.in-Some.next (room_of c.args.room) c.loop-next.left c.loop-next.tokens c.loop-next.invariant.least h in
+    let e = climb_goes c.loop-next.least c.args.level c.in-Some.next (room_of c.args.room) c.loop-next.left
+    c.loop-next.tokens c.loop-next.invariant.least h in
     first_of (search rules, grind (arith, common_steps))

@@ -7,7 +7,8 @@ use Rattle.parse_expressions.proofs.expressions.Expressions.+level.Given as goal
 
 abbrev pub invariant-chain-loop-op : goal.invariant-chain-loop-op
 invariant-chain-loop-op g l = record {
-  same : chain_at l.level (room_of l.fn.room) l.fn.first l.fn.tokens ≡ chain_at l.level (room_of l.room) l.left l.tokens;
+  same : chain_at l.level (room_of l.fn.room) l.fn.first l.fn.tokens ≡ chain_at l.level (room_of l.room) l.left
+      l.tokens;
   room : l.room ≤ l.fn.room;
 }
 

@@ -4,4 +4,6 @@ use Rattle.parse_grammar.specs.Steps.{closed, closed_from}
 use Rattle.parse_operands.proofs.operands.Operands.closed.Given as goal
 
 abbrev pub invariant-loop-turn : goal.invariant-loop-turn
-invariant-loop-turn g l = closed (stmt (room_of l.room)) l.fn.tokens ≡ closed_from (stmt (room_of l.room)) (l._turn-end - l._turn) l.found l.tokens
+invariant-loop-turn g l =
+    closed (stmt (room_of l.room)) l.fn.tokens ≡ closed_from (stmt (room_of l.room)) (l._turn-end - l._turn) l.found
+    l.tokens

@@ -5,4 +5,6 @@ use Rattle.parse_grammar.specs.Steps.{separated, following_from}
 use Rattle.parse_operands.proofs.operands.Operands.separated.Given as goal
 
 abbrev pub invariant-loop-turn : goal.invariant-loop-turn
-invariant-loop-turn g l = separated (assign (room_of l.room)) l.fn.tokens ≡ following_from (assign (room_of l.room)) (l._turn-end - l._turn) l.found l.tokens
+invariant-loop-turn g l =
+    separated (assign (room_of l.room)) l.fn.tokens ≡ following_from (assign (room_of l.room)) (l._turn-end - l._turn)
+    l.found l.tokens
