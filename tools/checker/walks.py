@@ -80,7 +80,7 @@ for t in TYPES: text+=f"use Rattle.tick_tree.specs.declared.syntax.{t}.{{{t}, ro
 text+="use Rattle.tick_tree.specs.declared.syntax.Core.TheOpen.{%s}\n"%", ".join(t+"-F" for t in TYPES)
 text+="use Rattle.tick_tree.specs.declared.syntax.Core.TheFolds.{%s}\n"%", ".join([f"ind-{t}" for t in TYPES]+[f"map-{t}" for t in TYPES]+[f"fold-roll-{t}" for t in TYPES])
 text+="use Rattle.check_expressions.specs.Rules.{Node, Named, Shape, Item}\n"
-text+="use Rattle.check_walk.specs.Walk.{Start, InitParts, Declarations, SuffixWalk, TypeWalk, %s, %s, %s}\n"%(", ".join(t+"-W" for t in TYPES),", ".join(RULE_OF[t] for t in TYPES),", ".join(WALK_OF[t] for t in TYPES))
+text+="use Rattle.check_walk_spec.specs.Walk.{Start, InitParts, Declarations, SuffixWalk, TypeWalk, %s, %s, %s}\n"%(", ".join(t+"-W" for t in TYPES),", ".join(RULE_OF[t] for t in TYPES),", ".join(WALK_OF[t] for t in TYPES))
 text+="use Rattle.wf_types.specs.Parts.{EachPart}\n"
 text+="use Rattle.wf_induction.specs.Asked.{Asked, %s, RulesKeep}\n"%", ".join("Every"+t for t in TYPES)
 text+="\n-- ---- a tree of which what is asked holds\n\n"
@@ -128,7 +128,7 @@ definitions = """-- What is asked of each value that the walk makes of a part of
 use Rattle.std.specs.Prelude.{ℕ, List, Option}
 use Rattle.tick_tree.specs.declared.syntax.Core.TheOpen.{%s}
 use Rattle.check_expressions.specs.Rules.{Node, Named, Shape, Item}
-use Rattle.check_walk.specs.Walk.{Start, InitParts, Declarations, SuffixWalk, TypeWalk, %s, %s}
+use Rattle.check_walk_spec.specs.Walk.{Start, InitParts, Declarations, SuffixWalk, TypeWalk, %s, %s}
 use Rattle.wf_types.specs.Parts.{EachPart}
 
 pub record Asked : Type 1 where
@@ -162,7 +162,7 @@ text = """-- The law on small trees: an induction over their parts, each of whic
 use Rattle.std.proofs.Common.{◌≡◌, ℕ, ◌≤◌, List}
 """
 for t in TYPES: text+=f"use Rattle.tick_tree.specs.declared.syntax.{t}.{{{t}, roll-{t}}}\n"
-text+="use Rattle.check_walk.specs.Walk.{%s}\n"%", ".join(WALK_OF[t] for t in TYPES)
+text+="use Rattle.check_walk_spec.specs.Walk.{%s}\n"%", ".join(WALK_OF[t] for t in TYPES)
 text+="use Rattle.tick_tree.specs.Weights.{%s}\n"%", ".join(WEIGHT_OF[t] for t in TYPES)
 text+="use Rattle.syntax_size.proofs.Small.{%s}\n"%", ".join(SMALL_OF[t] for t in TYPES)
 text+="use Rattle.wf_induction.proofs.Induction.{%s, %s, %s, %s}\n"%(", ".join(t+"-T" for t in TYPES),", ".join(t+"-K" for t in TYPES),", ".join("first"+t for t in TYPES),", ".join("step_"+LAW_OF[t] for t in TYPES))

@@ -170,7 +170,7 @@ use Rattle.std.proofs.Common.{◌≡◌}
 use Rattle.std.specs.Prelude.{Option}
 """ + ROLLS + f"""use Rattle.tick_tree.specs.declared.syntax.Core.TheFolds.{{{", ".join("map-" + t for t in T)}, {", ".join("fold-roll-" + t for t in T)}}}
 use Rattle.check_expressions.specs.Rules.{{Node, Named, Shape, Item}}
-use Rattle.check_walk.specs.Walk.{{Start, InitParts, Declarations, SuffixWalk, TypeWalk, {", ".join(t + "-W" for t in T)}, {", ".join(WRULE[t] for t in T)}, {", ".join(WALK[t] for t in T)}}}
+use Rattle.check_walk_spec.specs.Walk.{{Start, InitParts, Declarations, SuffixWalk, TypeWalk, {", ".join(t + "-W" for t in T)}, {", ".join(WRULE[t] for t in T)}, {", ".join(WALK[t] for t in T)}}}
 use {LAYERS}
 
 """ + "\n".join(f"""abbrev pub walked-{t} : {t}-T → {t}-W
@@ -197,7 +197,7 @@ use Rattle.std.proofs.Common.{◌≡◌, ℕ, ◌+◌, ◌≤◌, List, [], ◌�
 use Rattle.tick_tree.specs.declared.syntax.Core.TheFolds.{{{", ".join("map-" + t for t in T)}, {", ".join("ind-" + t for t in T)}}}
 use Rattle.check_operators.specs.Operands as nodes
 use Rattle.check_statements.specs.Rules as statement_rules
-use Rattle.check_walk.specs.Walk.{{{", ".join(WRULE[t] for t in T)}, {", ".join(WALK[t] for t in T)}}}
+use Rattle.check_walk_spec.specs.Walk.{{{", ".join(WRULE[t] for t in T)}, {", ".join(WALK[t] for t in T)}}}
 use Rattle.wf_growth_rules.specs.Light.{{LightNode, LightShape, LightItem, LightSuffix, LightType, LightNamed, LightOptional, absent, present, Each, none, more}}
 use Rattle.wf_growth_rules.proofs.Walks.{{weak, pure_light, lift_light}}
 use Rattle.wf_growth_rules.proofs.States.{{named_light}}

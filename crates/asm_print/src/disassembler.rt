@@ -3,6 +3,7 @@
 ghost use Rattle.std.specs.Prelude.{◌≡◌, ◌≤◌, length, OnOk, OnErr};
 ghost use Rattle.std.specs.List.{flat_map};
 ghost use Rattle.std.specs.Io.KnownBytes.{Appends};
+ghost use Rattle.word32.specs.declared.map.TheConstants.{GLOBAL_BYTES};
 ghost use Rattle.host_edge.specs.Causes.{HasCause};
 ghost use Rattle.host_edge.specs.Moves.{TakesFront};
 ghost use Rattle.asm_print.specs.Text as spec;
@@ -81,7 +82,7 @@ fn write_functions<O: Sink>(functions: &[FunctionEntry], out: &mut O) -> Result<
 }
 
 fn write_data<O: Sink>(bytes: &[u8], out: &mut O) -> Result<(), Failed>
-    requires { length bytes.now ≤ 4194304 }
+    requires { length bytes.now ≤ GLOBAL_BYTES }
     ensures whole { OnOk result (Appends (O.taken out.old) (O.taken out.new) (spec.data_lines bytes.now)) }
     ensures front { OnErr result (TakesFront (O.taken out.old) (O.taken out.new) (spec.data_lines bytes.now)) }
     ensures cause { HasCause (O.faults out.old) (O.faults out.new) result }

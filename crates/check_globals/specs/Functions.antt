@@ -2,6 +2,7 @@
 -- scope of its
 -- outermost block; then its body. These are this project's own rules, after C's.
 use Rattle.std.specs.Prelude.{ℕ, min, List, [], ◌∷◌, length, Option, Some, None, Ok, Err}
+use Rattle.limits.specs.declared.program.TheConstants.{NODE_TOP}
 use Rattle.c_types.specs.declared.ctype.CType.{CType}
 use Rattle.c_types.specs.declared.ctype.Layer.{Layer, out-Layer}
 use Rattle.c_types.specs.declared.ctype.Layer.TheOpen.{Layer-F}
@@ -104,7 +105,7 @@ function line name t body s = record {
   line = line_by line name;
   params = count_of t;
   object = s.frame.object;
-  size = min (statement_size body) 65536;
+  size = min (statement_size body) NODE_TOP;
   body = body;
 }
 

@@ -17,9 +17,9 @@ use Rattle.check_globals.specs.Statics.{row_more}
 use Rattle.check_env.specs.declared.state.Stage.TheVariants as stage
 use Rattle.check_env.specs.declared.state.State.{State}
 use Rattle.check_programs.specs.Program as spec
-use Rattle.check_walk.specs.Walk as walks
-use Rattle.check_walk.proofs.Loops.{next}
-use Rattle.check_walk.proofs.Written.{expr_agrees}
+use Rattle.check_walk_spec.specs.Walk as walks
+use Rattle.check_walk_spec.proofs.Loops.{next}
+use Rattle.check_walk_spec.proofs.Written.{expr_agrees}
 
 pub row_goes : (xs : List Expr) (i : ℕ) (e : Expr) (t : CType) (r : Row) (s z : State) (o : Operand) → i < length xs →
     e ≡ get_or xs i e

@@ -40,8 +40,8 @@ use Rattle.check_globals.specs.Names as names
 use Rattle.check_globals.specs.Programs.{finished}
 use Rattle.check_globals.specs.Statics as statics
 use Rattle.check_programs.specs.Parameters.{parameters_of}
-use Rattle.check_walk.specs.Walk.{Start, Nothing, Value, Values, InitParts, Declarations, declaration, with_start}
-use Rattle.check_walk.specs.Walk.{shape, item}
+use Rattle.check_walk_spec.specs.Walk.{Start, Nothing, Value, Values, InitParts, Declarations, declaration, with_start}
+use Rattle.check_walk_spec.specs.Walk.{shape, item}
 
 -- ---- variables and prototypes
 

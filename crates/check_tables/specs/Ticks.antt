@@ -1,7 +1,7 @@
 -- What a tick captures, in the order of the text, one capture for each occurrence; and the ticks of the program so far.
--- A
--- tick has the number of the ticks before it. These are this project's own rules.
+-- A tick has the number of the ticks before it. These are this project's own rules.
 use Rattle.std.specs.Prelude.{ℕ, min, List, [], ◌∷◌, ◌++◌}
+use Rattle.limits.specs.declared.program.TheConstants.{NODE_TOP}
 use Rattle.typed_tree.specs.declared.expression.CaptureKind.{CaptureKind}
 use Rattle.typed_tree.specs.declared.expression.Expr.{Expr}
 use Rattle.typed_tree.specs.declared.expression.Expr.TheVariants as ex
@@ -27,7 +27,7 @@ abbrev pub entered : Ticks → Ticks
 entered s = record s { captures = [] }
 
 abbrev pub tick_of : TickBody → Tick
-tick_of b = record { size = min (body_size b) 65536; body = b }
+tick_of b = record { size = min (body_size b) NODE_TOP; body = b }
 
 -- the node that makes a specification of the tick that ends
 abbrev pub node : Ticks → Expr

@@ -6,6 +6,7 @@ ghost use Rattle.check_tables.specs.Images as spec;
 use limits::program::PLACE_TOP;
 use sqlite_items::Items;
 use std::alloc::{AllocError, Global};
+use word32::map;
 
 /// What the walk knows of the bytes that a program begins with. After an error it is not to be used any more.
 #[derive(Drop)]
@@ -82,8 +83,8 @@ impl Image {
     {
         let strings = std::mem::replace(&mut self.strings, Items::new(alloc));
         let mut strings = padded(alloc, strings)?;
-        let at = strings.len().min(4294967295) as u64;
-        let address = word(268435456 + u64::from(self.strings_at) + at);
+        let at = strings.len().min(u32::MAX as usize) as u64;
+        let address = word(u64::from(map::OBJECTS) + u64::from(self.strings_at) + at);
         let mut own = Items::from_slice(alloc, bytes)?;
         own.push(0)?;
         strings.append(own)?;
@@ -105,7 +106,7 @@ impl Image {
     pub fn fill(&mut self, alloc: Global, at: u32, bytes: Items<u8>) -> Result<(), AllocError>
         ensures { OnOk result (self.new ≡ spec.with_bytes at bytes self.old) }
     {
-        if at > 4194304 {
+        if at > map::GLOBAL_BYTES {
             return Ok(());
         }
         let globals = std::mem::replace(&mut self.globals, Items::new(alloc));

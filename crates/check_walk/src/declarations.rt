@@ -2,9 +2,11 @@
 
 ghost use Rattle.std.specs.Prelude.{◌≡◌, None, map};
 ghost use Rattle.check_tables.specs.Walks.{Reads};
-ghost use Rattle.check_walk.specs.Walk as spec;
+ghost use Rattle.check_types.specs.Shapes.{inner};
+ghost use Rattle.check_walk_spec.specs.Walk as spec;
 
 use crate::expressions::expression;
+use crate::lists::appended;
 use crate::types::declarator;
 use c_types::TypeRef;
 use check_declarators::{Step, base_of};
@@ -21,7 +23,7 @@ use tick_tree::{Base, Declaration, Declarator, Deny, Expr, FaultKind, Init, Init
 use typed_tree::Stmt;
 
 /// The steps with the count of an initializer's values, where the array lacks a length.
-#[tactic(auto, using(crate::proofs::Equations::initializers, crate::proofs::Written::forms_of, crate::proofs::Loops::same_count))]
+#[tactic(auto, using(check_walk_spec::proofs::Equations::initializers, check_walk_spec::proofs::Written::forms_of, check_walk_spec::proofs::Loops::same_count))]
 pub fn with_start(steps: Items<Step>, value: &Initializer) -> Items<Step>
     ensures { result ≡ spec.with_start (spec.initializer value.now) steps }
 {
@@ -33,7 +35,7 @@ pub fn with_start(steps: Items<Step>, value: &Initializer) -> Items<Step>
 }
 
 #[cycle(walk)]
-#[tactic(auto, using(crate::proofs::Written::forms_of))]
+#[tactic(auto, using(check_walk_spec::proofs::Written::forms_of))]
 fn begin_value(
     alloc: Global,
     state: &mut State,
@@ -44,8 +46,13 @@ fn begin_value(
 ) -> Result<Items<Stmt>, Deny>
     ensures { Reads (spec.begin_value line stage place (spec.node e.now) state.old) result state.new }
 {
-    let o = expression(alloc, state, stage, e)?;
-    from_value(alloc, line, place, is_string(e), o)
+    match expression(alloc, state, stage, e) {
+        Ok(o) => from_value(alloc, line, place, is_string(e), o),
+        Err(why) => {
+            drop(place);
+            Err(why)
+        }
+    }
 }
 
 // What the values of a list break as elements of this type.
@@ -67,6 +74,19 @@ fn elements(
     Ok(broken)
 }
 
+// The type of the elements of a place.
+fn inner_of(place: Operand) -> TypeRef
+    ensures { result ≡ inner place.ctype }
+{
+    let Operand {
+        place: at,
+        ctype,
+        zero: _,
+    } = place;
+    drop(at);
+    inner(ctype)
+}
+
 #[cycle(walk)]
 fn begin_list(
     alloc: Global,
@@ -80,14 +100,14 @@ fn begin_list(
 {
     let is_row = is_array(&place.ctype);
     let is_sized = has_size(&place.ctype);
-    let t = inner(place.ctype);
+    let t = inner_of(place);
     let broken = elements(alloc, state, stage, &t, list)?;
     from_list(line, is_row, is_sized, broken)
 }
 
 // A variable begins with its initializer.
 #[cycle(walk)]
-#[tactic(auto, using(crate::proofs::Equations::initializers))]
+#[tactic(auto, using(check_walk_spec::proofs::Equations::initializers))]
 fn begin(
     alloc: Global,
     state: &mut State,
@@ -99,7 +119,10 @@ fn begin(
     ensures { Reads (spec.begin line stage place (spec.initializer value.now) state.old) result state.new }
 {
     match value {
-        Initializer::Absent => Ok(Items::new(alloc)),
+        Initializer::Absent => {
+            drop(place);
+            Ok(Items::new(alloc))
+        }
         Initializer::Value(e) => begin_value(alloc, state, stage, line, place, e),
         Initializer::List(list, _) => {
             begin_list(alloc, state, stage, line, place, list.as_slice())
@@ -126,7 +149,7 @@ fn local_type(
 
 // Its type, its name, its initializer.
 #[cycle(walk)]
-#[tactic(auto, using(crate::proofs::Written::forms_of))]
+#[tactic(auto, using(check_walk_spec::proofs::Written::forms_of))]
 fn declared_parts(
     alloc: Global,
     state: &mut State,
@@ -144,7 +167,7 @@ fn declared_parts(
 }
 
 #[cycle(walk)]
-#[tactic(auto, using(crate::proofs::Equations::types, crate::proofs::Written::forms_of))]
+#[tactic(auto, using(check_walk_spec::proofs::Equations::types, check_walk_spec::proofs::Written::forms_of))]
 fn declared_local(
     alloc: Global,
     state: &mut State,
@@ -181,15 +204,20 @@ fn locals(
 {
     let mut nodes = Items::new(alloc);
     for init in list {
-        let found = declared_local(alloc, state, stage, line, base, init)?;
-        nodes.append(found)?;
+        match declared_local(alloc, state, stage, line, base, init) {
+            Ok(found) => nodes = appended(nodes, found)?,
+            Err(why) => {
+                drop(nodes);
+                return Err(why);
+            }
+        }
     }
     Ok(nodes)
 }
 
 /// The nodes of the initializers of a declaration in a block.
 #[cycle(walk)]
-#[tactic(auto, using(crate::proofs::Equations::types))]
+#[tactic(auto, using(check_walk_spec::proofs::Equations::types))]
 pub fn declaration(
     alloc: Global,
     state: &mut State,

@@ -5,7 +5,7 @@ ghost use Rattle.check_lvalues.specs.Calls as calls;
 ghost use Rattle.check_expressions.specs.Rules as rules;
 ghost use Rattle.check_statements.specs.Rules as statements;
 ghost use Rattle.check_tables.specs.Walks.{Reads};
-ghost use Rattle.check_walk.specs.Walk as spec;
+ghost use Rattle.check_walk_spec.specs.Walk as spec;
 
 use crate::statements::block;
 use crate::types::typename;
@@ -33,8 +33,13 @@ fn both(
     ensures { Reads (rules.both (spec.node a.now) (spec.node b.now) stage state.old) result state.new }
 {
     let x = expression(alloc, state, stage, a)?;
-    let y = expression(alloc, state, stage, b)?;
-    Ok((x, y))
+    match expression(alloc, state, stage, b) {
+        Ok(y) => Ok((x, y)),
+        Err(why) => {
+            drop(x);
+            Err(why)
+        }
+    }
 }
 
 // The arguments of a call.
@@ -49,8 +54,13 @@ fn arguments(
 {
     let mut found = Arguments::new(alloc);
     for e in list {
-        let o = expression(alloc, state, stage, e)?;
-        found = argument(alloc, found, o)?;
+        match expression(alloc, state, stage, e) {
+            Ok(o) => found = argument(alloc, found, o)?,
+            Err(why) => {
+                drop(found);
+                return Err(why);
+            }
+        }
     }
     Ok(found)
 }
@@ -83,12 +93,17 @@ fn plain_call(
     ensures { Reads (rules.plain_call line (spec.node f.now) (map spec.node list.now) stage state.old) result state.new }
 {
     let o = expression(alloc, state, stage, f)?;
-    let found = arguments(alloc, state, stage, list)?;
-    call_node(alloc, line, stage, o, found)
+    match arguments(alloc, state, stage, list) {
+        Ok(found) => call_node(alloc, line, stage, o, found),
+        Err(why) => {
+            drop(o);
+            Err(why)
+        }
+    }
 }
 
 #[cycle(walk)]
-#[tactic(auto, using(crate::proofs::Written::forms_of))]
+#[tactic(auto, using(check_walk_spec::proofs::Written::forms_of))]
 fn call(
     alloc: Global,
     state: &mut State,
@@ -150,8 +165,13 @@ fn compile(
 {
     staging_entry(line, stage)?;
     let o = expression(alloc, state, stage, a)?;
-    let t = typename(alloc, state, line, stage, t)?;
-    compile_node(alloc, line, t, o)
+    match typename(alloc, state, line, stage, t) {
+        Ok(t) => compile_node(alloc, line, t, o),
+        Err(why) => {
+            drop(o);
+            Err(why)
+        }
+    }
 }
 
 #[cycle(walk)]
@@ -231,8 +251,13 @@ fn choice(
     ensures { Reads (rules.choice line (spec.node c.now) (spec.node a.now) (spec.node b.now) stage state.old) result state.new }
 {
     let test = expression(alloc, state, stage, c)?;
-    let p = both(alloc, state, stage, a, b)?;
-    choice_node(alloc, line, test, p.0, p.1)
+    match both(alloc, state, stage, a, b) {
+        Ok(p) => choice_node(alloc, line, test, p.0, p.1),
+        Err(why) => {
+            drop(test);
+            Err(why)
+        }
+    }
 }
 
 #[cycle(walk)]
@@ -342,7 +367,7 @@ fn comma(
 
 /// What an expression that may be absent is.
 #[cycle(walk)]
-#[tactic(auto, using(crate::proofs::Equations::optionals))]
+#[tactic(auto, using(check_walk_spec::proofs::Equations::optionals))]
 pub fn optional(
     alloc: Global,
     state: &mut State,
@@ -359,7 +384,7 @@ pub fn optional(
 
 /// What an expression is, or the first fault.
 #[cycle(walk)]
-#[tactic(auto, using(crate::proofs::Equations::expressions))]
+#[tactic(auto, using(check_walk_spec::proofs::Equations::expressions))]
 pub fn expression(alloc: Global, state: &mut State, stage: Stage, e: &Expr) -> Result<Operand, Deny>
     ensures { Reads ((spec.node e.now).walk stage state.old) result state.new }
 {

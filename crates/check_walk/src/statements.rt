@@ -4,10 +4,11 @@ ghost use Rattle.std.specs.Prelude.{◌≡◌, Ok, map};
 ghost use Rattle.tick_tree.specs.Faults.{Checks};
 ghost use Rattle.check_statements.specs.Rules as statements;
 ghost use Rattle.check_tables.specs.Walks.{Reads};
-ghost use Rattle.check_walk.specs.Walk as spec;
+ghost use Rattle.check_walk_spec.specs.Walk as spec;
 
 use crate::declarations::declaration;
 use crate::expressions::{expression, optional};
+use crate::lists::{appended, pushed};
 use check_env::{Around, State};
 use check_forms::has_form;
 use check_operators::Operand;
@@ -33,8 +34,13 @@ pub fn items(
 {
     let mut nodes = Items::new(alloc);
     for s in list {
-        let found = statement(alloc, state, around, s)?;
-        nodes.append(found)?;
+        match statement(alloc, state, around, s) {
+            Ok(found) => nodes = appended(nodes, found)?,
+            Err(why) => {
+                drop(nodes);
+                return Err(why);
+            }
+        }
     }
     Ok(nodes)
 }
@@ -51,9 +57,20 @@ pub fn block(
 {
     let depth = state.depth();
     let outer = state.enter(alloc)?;
-    let nodes = items(alloc, state, around, list)?;
-    let variables = state.leave(depth, outer)?;
-    Ok(Boxed::new(alloc, Stmt::Block(variables, nodes))?)
+    let nodes = match items(alloc, state, around, list) {
+        Ok(nodes) => nodes,
+        Err(why) => {
+            drop(outer);
+            return Err(why);
+        }
+    };
+    match state.leave(depth, outer) {
+        Ok(variables) => Ok(Boxed::new(alloc, Stmt::Block(variables, nodes))?),
+        Err(why) => {
+            drop(nodes);
+            Err(why)
+        }
+    }
 }
 
 // The body of a statement, which is one node.
@@ -103,8 +120,13 @@ fn branch(
     ensures { Reads (statements.if_then line (spec.node c.now) (spec.item a.now) around state.old) result state.new }
 {
     let o = expression(alloc, state, around.stage, c)?;
-    let x = body_of(alloc, state, inside(around), a)?;
-    if_node(alloc, line, o, x)
+    match body_of(alloc, state, inside(around), a) {
+        Ok(x) => if_node(alloc, line, o, x),
+        Err(why) => {
+            drop(o);
+            Err(why)
+        }
+    }
 }
 
 // The bodies of `if` and `else`.
@@ -119,8 +141,13 @@ fn bodies(
     ensures { Reads (statements.bodies (spec.item a.now) (spec.item b.now) around state.old) result state.new }
 {
     let x = body_of(alloc, state, around, a)?;
-    let y = body_of(alloc, state, around, b)?;
-    Ok((x, y))
+    match body_of(alloc, state, around, b) {
+        Ok(y) => Ok((x, y)),
+        Err(why) => {
+            drop(x);
+            Err(why)
+        }
+    }
 }
 
 #[cycle(walk)]
@@ -136,8 +163,13 @@ fn branches(
     ensures { Reads (statements.if_else line (spec.node c.now) (spec.item a.now) (spec.item b.now) around state.old) result state.new }
 {
     let o = expression(alloc, state, around.stage, c)?;
-    let p = bodies(alloc, state, inside(around), a, b)?;
-    if_else_node(alloc, line, o, p.0, p.1)
+    match bodies(alloc, state, inside(around), a, b) {
+        Ok(p) => if_else_node(alloc, line, o, p.0, p.1),
+        Err(why) => {
+            drop(o);
+            Err(why)
+        }
+    }
 }
 
 #[cycle(walk)]
@@ -152,8 +184,13 @@ fn repeated(
     ensures { Reads (statements.while_loop line (spec.node c.now) (spec.item a.now) around state.old) result state.new }
 {
     let o = expression(alloc, state, around.stage, c)?;
-    let x = body_of(alloc, state, looped(around), a)?;
-    while_node(alloc, line, o, x)
+    match body_of(alloc, state, looped(around), a) {
+        Ok(x) => while_node(alloc, line, o, x),
+        Err(why) => {
+            drop(o);
+            Err(why)
+        }
+    }
 }
 
 #[cycle(walk)]
@@ -168,8 +205,13 @@ fn done_first(
     ensures { Reads (statements.do_loop line (spec.item a.now) (spec.node c.now) around state.old) result state.new }
 {
     let x = body_of(alloc, state, looped(around), a)?;
-    let o = expression(alloc, state, around.stage, c)?;
-    do_node(alloc, line, x, o)
+    match expression(alloc, state, around.stage, c) {
+        Ok(o) => do_node(alloc, line, x, o),
+        Err(why) => {
+            drop(x);
+            Err(why)
+        }
+    }
 }
 
 // The test and the step of a `for`.
@@ -184,8 +226,13 @@ fn test_and_step(
     ensures { Reads (statements.test_and_step (spec.optional c.now) (spec.optional s.now) around state.old) result state.new }
 {
     let x = optional(alloc, state, around.stage, c)?;
-    let y = optional(alloc, state, around.stage, s)?;
-    Ok((x, y))
+    match optional(alloc, state, around.stage, s) {
+        Ok(y) => Ok((x, y)),
+        Err(why) => {
+            drop(x);
+            Err(why)
+        }
+    }
 }
 
 // A `for` behind its first part.
@@ -202,8 +249,13 @@ fn for_rest(
     ensures { Reads (statements.for_rest line (spec.optional c.now) (spec.optional s.now) (spec.item a.now) around state.old) result state.new }
 {
     let p = test_and_step(alloc, state, around, c, s)?;
-    let x = body_of(alloc, state, looped(around), a)?;
-    for_node(alloc, line, p.0, p.1, x)
+    match body_of(alloc, state, looped(around), a) {
+        Ok(x) => for_node(alloc, line, p.0, p.1, x),
+        Err(why) => {
+            drop(p);
+            Err(why)
+        }
+    }
 }
 
 #[cycle(walk)]
@@ -236,10 +288,14 @@ fn for_items(
 ) -> Result<Items<Stmt>, Deny>
     ensures { Reads (statements.for_items line (spec.item first.now) (spec.optional c.now) (spec.optional s.now) (spec.item a.now) around state.old) result state.new }
 {
-    let mut nodes = statement(alloc, state, inside(around), first)?;
-    let node = for_rest(alloc, state, line, around, c, s, a)?;
-    nodes.push(node.into_inner())?;
-    Ok(nodes)
+    let nodes = statement(alloc, state, inside(around), first)?;
+    match for_rest(alloc, state, line, around, c, s, a) {
+        Ok(node) => Ok(pushed(nodes, node)?),
+        Err(why) => {
+            drop(nodes);
+            Err(why)
+        }
+    }
 }
 
 // A `for` with a first part: a block of it and the rest.
@@ -258,12 +314,23 @@ fn for_block(
 {
     let depth = state.depth();
     let outer = state.enter(alloc)?;
-    let nodes = for_items(alloc, state, line, around, first, c, s, a)?;
-    let variables = state.leave(depth, outer)?;
-    Ok(one(alloc, Stmt::Block(variables, nodes))?)
+    let nodes = match for_items(alloc, state, line, around, first, c, s, a) {
+        Ok(nodes) => nodes,
+        Err(why) => {
+            drop(outer);
+            return Err(why);
+        }
+    };
+    match state.leave(depth, outer) {
+        Ok(variables) => Ok(one(alloc, Stmt::Block(variables, nodes))?),
+        Err(why) => {
+            drop(nodes);
+            Err(why)
+        }
+    }
 }
 
-#[tactic(auto, using(crate::proofs::Equations::empties))]
+#[tactic(auto, using(check_walk_spec::proofs::Equations::empties))]
 fn is_empty(s: &syntax::Stmt) -> bool
     ensures { result ≡ (spec.item s.now).is_empty }
 {
@@ -310,9 +377,20 @@ fn switch_block(
 {
     let depth = state.depth();
     let outer = state.enter(alloc)?;
-    let nodes = items(alloc, state, switched(around), list)?;
-    let variables = state.leave(depth, outer)?;
-    Ok((variables, nodes))
+    let nodes = match items(alloc, state, switched(around), list) {
+        Ok(nodes) => nodes,
+        Err(why) => {
+            drop(outer);
+            return Err(why);
+        }
+    };
+    match state.leave(depth, outer) {
+        Ok(variables) => Ok((variables, nodes)),
+        Err(why) => {
+            drop(nodes);
+            Err(why)
+        }
+    }
 }
 
 // The block of a switch, with labels of its own.
@@ -326,9 +404,16 @@ fn labelled_block(
     ensures { Reads (statements.labelled_block (map spec.item list.now) around state.old) result state.new }
 {
     let outer = switch_entered(alloc, state)?;
-    let p = switch_block(alloc, state, around, list)?;
-    state.labels = outer;
-    Ok(p)
+    match switch_block(alloc, state, around, list) {
+        Ok(p) => {
+            state.labels = outer;
+            Ok(p)
+        }
+        Err(why) => {
+            drop(outer);
+            Err(why)
+        }
+    }
 }
 
 #[cycle(walk)]
@@ -343,12 +428,17 @@ fn switch(
     ensures { Reads (statements.switch line (spec.node e.now) (map spec.item list.now) around state.old) result state.new }
 {
     let o = expression(alloc, state, around.stage, e)?;
-    let p = labelled_block(alloc, state, around, list)?;
-    switch_node(alloc, line, o, p.0, p.1)
+    match labelled_block(alloc, state, around, list) {
+        Ok(p) => switch_node(alloc, line, o, p.0, p.1),
+        Err(why) => {
+            drop(o);
+            Err(why)
+        }
+    }
 }
 
 #[cycle(walk)]
-#[tactic(auto, using(crate::proofs::Written::forms_of))]
+#[tactic(auto, using(check_walk_spec::proofs::Written::forms_of))]
 fn case(
     alloc: Global,
     state: &mut State,
@@ -378,7 +468,7 @@ fn answered(
 }
 
 #[cycle(walk)]
-#[tactic(auto, using(crate::proofs::Equations::optionals))]
+#[tactic(auto, using(check_walk_spec::proofs::Equations::optionals))]
 fn returned(
     alloc: Global,
     state: &mut State,
@@ -402,7 +492,7 @@ fn empty(alloc: Global) -> Result<Items<Stmt>, Deny>
 
 /// The nodes of a statement, one but for a declaration, or the first fault.
 #[cycle(walk)]
-#[tactic(auto, using(crate::proofs::Equations::statements))]
+#[tactic(auto, using(check_walk_spec::proofs::Equations::statements))]
 pub fn statement(
     alloc: Global,
     state: &mut State,

@@ -3,9 +3,10 @@
 ghost use Rattle.std.specs.Prelude.{◌≡◌, [], map};
 ghost use Rattle.check_statements.specs.Rules as statements;
 ghost use Rattle.check_tables.specs.Walks.{Reads};
-ghost use Rattle.check_walk.specs.Walk as spec;
+ghost use Rattle.check_walk_spec.specs.Walk as spec;
 
 use crate::expressions::expression;
+use crate::lists::{with_step, with_type};
 use c_types::{CType, TypeRef};
 use check_declarators::{Length, Role, Step, base_of, declared_type, push_prefixes};
 use check_env::{Stage, State};
@@ -17,7 +18,7 @@ use tick_tree::{Core, Declarator, Deny, Expr, OptionalExpr, Parameter, Suffix, T
 
 /// The type that a type name names, with the line of the node that it is in.
 #[cycle(walk)]
-#[tactic(auto, using(crate::proofs::Equations::types))]
+#[tactic(auto, using(check_walk_spec::proofs::Equations::types))]
 pub fn typename(
     alloc: Global,
     state: &mut State,
@@ -34,7 +35,7 @@ pub fn typename(
 
 /// The steps from a base to the type that a declarator declares.
 #[cycle(walk)]
-#[tactic(auto, using(crate::proofs::Equations::types))]
+#[tactic(auto, using(check_walk_spec::proofs::Equations::types))]
 pub fn declarator(
     alloc: Global,
     state: &mut State,
@@ -49,7 +50,7 @@ pub fn declarator(
 }
 
 #[cycle(walk)]
-#[tactic(auto, using(crate::proofs::Equations::cores))]
+#[tactic(auto, using(check_walk_spec::proofs::Equations::cores))]
 fn core(alloc: Global, state: &mut State, stage: Stage, c: &Core) -> Result<Items<Step>, Deny>
     ensures { Reads ((spec.core c.now).walk stage state.old) result state.new }
 {
@@ -72,14 +73,19 @@ fn suffixes(
 {
     let mut steps = steps;
     for s in list {
-        let step = suffix(alloc, state, stage, s)?;
-        steps.push(step)?;
+        match suffix(alloc, state, stage, s) {
+            Ok(step) => steps = with_step(steps, step)?,
+            Err(why) => {
+                drop(steps);
+                return Err(why);
+            }
+        }
     }
     Ok(steps)
 }
 
 #[cycle(walk)]
-#[tactic(auto, using(crate::proofs::Equations::suffixes))]
+#[tactic(auto, using(check_walk_spec::proofs::Equations::suffixes))]
 fn suffix(alloc: Global, state: &mut State, stage: Stage, s: &Suffix) -> Result<Step, Deny>
     ensures { Reads ((spec.suffix s.now).walk stage state.old) result state.new }
 {
@@ -93,7 +99,7 @@ fn suffix(alloc: Global, state: &mut State, stage: Stage, s: &Suffix) -> Result<
 
 // The step of an array, by its length.
 #[cycle(walk)]
-#[tactic(auto, using(crate::proofs::Equations::optionals))]
+#[tactic(auto, using(check_walk_spec::proofs::Equations::optionals))]
 fn length(alloc: Global, state: &mut State, stage: Stage, e: &OptionalExpr) -> Result<Step, Deny>
     ensures { Reads (statements.length_step (spec.optional e.now) stage state.old) result state.new }
 {
@@ -104,7 +110,7 @@ fn length(alloc: Global, state: &mut State, stage: Stage, e: &OptionalExpr) -> R
 }
 
 #[cycle(walk)]
-#[tactic(auto, using(crate::proofs::Written::forms_of))]
+#[tactic(auto, using(check_walk_spec::proofs::Written::forms_of))]
 fn computed_length(alloc: Global, state: &mut State, stage: Stage, e: &Expr) -> Result<Step, Deny>
     ensures { Reads (statements.computed_step (spec.node e.now) stage state.old) result state.new }
 {
@@ -124,9 +130,23 @@ fn parameters(
 {
     let depth = state.depth();
     let outer = state.enter(alloc)?;
-    let types = each_parameter(alloc, state, stage, list)?;
-    state.leave(depth, outer)?;
-    Ok(Step::Function(types))
+    let types = match each_parameter(alloc, state, stage, list) {
+        Ok(types) => types,
+        Err(why) => {
+            drop(outer);
+            return Err(why);
+        }
+    };
+    match state.leave(depth, outer) {
+        Ok(variables) => {
+            drop(variables);
+            Ok(Step::Function(types))
+        }
+        Err(why) => {
+            drop(types);
+            Err(why)
+        }
+    }
 }
 
 #[cycle(walk)]
@@ -140,19 +160,29 @@ fn each_parameter(
 {
     let mut types = Items::new(alloc);
     for p in list {
-        let t = parameter(alloc, state, stage, p)?;
-        types.push(t)?;
+        match parameter(alloc, state, stage, p) {
+            Ok(t) => types = with_type(types, t)?,
+            Err(why) => {
+                drop(types);
+                return Err(why);
+            }
+        }
     }
     Ok(types)
 }
 
 #[cycle(walk)]
-#[tactic(auto, using(crate::proofs::Equations::types, crate::proofs::Written::forms_of))]
+#[tactic(auto, using(check_walk_spec::proofs::Equations::types, check_walk_spec::proofs::Written::forms_of))]
 fn parameter(alloc: Global, state: &mut State, stage: Stage, p: &Parameter) -> Result<CType, Deny>
     ensures { Reads ((spec.parameter p.now).walk stage state.old) result state.new }
 {
     let steps = declarator(alloc, state, stage, &p.declarator)?;
     let t = declared_type(alloc, Role::Parameter, p.line, base_of(p.base), steps)?;
-    declare_parameter(alloc, state, stage, p.line, &p.declarator, &t)?;
-    Ok(t)
+    match declare_parameter(alloc, state, stage, p.line, &p.declarator, &t) {
+        Ok(()) => Ok(t),
+        Err(why) => {
+            drop(t);
+            Err(why)
+        }
+    }
 }

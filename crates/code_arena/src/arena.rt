@@ -1,6 +1,7 @@
 //! The words of the arena, and whether each is written and flushed.
 
 ghost use Rattle.std.specs.Prelude.{◌≡◌, ◌+◌, ℕ, ◌<◌, ◌≤◌, IfOk, Ok, Err, length, slice_index, slice_index_or, nat_le, nat_lt, ◌&&◌, if◌then◌else◌};
+ghost use Rattle.word32.specs.declared.map.TheConstants.{ARENA_WORDS};
 ghost use Rattle.code_arena.specs.Arena as spec;
 ghost use Rattle.code_arena.specs.Kept.{arena_of};
 
@@ -25,7 +26,7 @@ pub enum WordState {
 #[error("a word of the arena isn't flushed")]
 pub struct Stale;
 
-/// The arena: 8,388,608 words, by their numbers from 0.
+/// The arena: `ARENA_WORDS` words, by their numbers from 0.
 #[derive(Drop)]
 pub struct CodeArena {
     words: Vec<u32>,
@@ -86,7 +87,7 @@ impl CodeArena {
     /// Writes word i, which is then written and not flushed.
     #[inline]
     pub fn write(&mut self, i: u32, w: u32)
-        requires { i < 8388608 }
+        requires { i < ARENA_WORDS }
         ensures { arena_of self.new ≡ spec.written i w (arena_of self.old) }
     {
         self.words[i as usize] = w;
@@ -95,7 +96,7 @@ impl CodeArena {
 
     /// Flushes `count` words from word `first` on, unwritten ones too.
     pub fn flush(&mut self, first: u32, count: u32)
-        requires { first + count ≤ 8388608 }
+        requires { first + count ≤ ARENA_WORDS }
         ensures { arena_of self.new ≡ spec.flushed first count (arena_of self.old) }
     {
         mark_flushed(&mut self.states, first as usize, count as usize);
@@ -104,7 +105,7 @@ impl CodeArena {
     /// Word i, whatever its state.
     #[inline(always)]
     pub fn read(&self, i: u32) -> u32
-        requires { i < 8388608 }
+        requires { i < ARENA_WORDS }
         ensures { result ≡ (arena_of self.now).words i }
     {
         self.words[i as usize]
@@ -116,7 +117,7 @@ impl CodeArena {
     /// `Stale` exactly where the word isn't flushed.
     #[inline(always)]
     pub fn fetch(&self, i: u32) -> Result<u32, Stale>
-        requires { i < 8388608 }
+        requires { i < ARENA_WORDS }
         ensures { result ≡ spec.fetch i (arena_of self.now) }
     {
         match self.states[i as usize] {

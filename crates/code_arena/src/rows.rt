@@ -1,6 +1,7 @@
 //! The rows of the function table.
 
 ghost use Rattle.std.specs.Prelude.{◌≡◌, ℕ, ◌<◌, List, IfOk, Ok, Err, length, slice_index_or};
+ghost use Rattle.word32.specs.declared.map.TheConstants.{FUNCTION_ROWS};
 ghost use Rattle.code_arena.specs.Rows as spec;
 ghost use Rattle.code_arena.specs.Kept.{rows_of};
 
@@ -8,7 +9,7 @@ use std::alloc::{AllocError, Global};
 use std::marker::Model;
 use word32::map;
 
-/// The 65,536 rows of the function table: an address and a count of parameters for each function number.
+/// The `FUNCTION_ROWS` rows of the function table: an address and a count of parameters for each function number.
 #[derive(Drop)]
 pub struct FunctionRows {
     rows: Vec<(u32, u32)>,
@@ -16,12 +17,13 @@ pub struct FunctionRows {
 
 impl Model for FunctionRows {
     ghost use Rattle.std.specs.Prelude.{◌≡◌, ℕ, List, length};
+    ghost use Rattle.word32.specs.declared.map.TheConstants.{FUNCTION_ROWS};
 
     ghost Value = { List (ℕ × ℕ) };
 
     ghost view = { λ r. r.rows.items };
 
-    ghost invariant = { λ r. length r.rows.items ≡ 65536 };
+    ghost invariant = { λ r. length r.rows.items ≡ FUNCTION_ROWS };
 }
 
 /// So many rows that aren't published.
@@ -48,7 +50,7 @@ impl FunctionRows {
     /// Publishes a row. The others stay as they are.
     #[inline]
     pub fn set(&mut self, row: u32, address: u32, count: u32)
-        requires { row < 65536 }
+        requires { row < FUNCTION_ROWS }
         ensures { rows_of self.new ≡ spec.published row address count (rows_of self.old) }
     {
         self.rows[row as usize] = (address, count);
@@ -57,7 +59,7 @@ impl FunctionRows {
     /// Address and count of a row.
     #[inline]
     pub fn get(&self, row: u32) -> (u32, u32)
-        requires { row < 65536 }
+        requires { row < FUNCTION_ROWS }
         ensures { result ≡ rows_of self.now row }
     {
         self.rows[row as usize]

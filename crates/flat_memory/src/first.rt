@@ -2,6 +2,7 @@
 
 ghost use Rattle.std.specs.Prelude.{◌≡◌, ◌+◌, ◌*◌, ◌/◌, ◌%◌, ◌-◌, ℕ, ◌<◌, ◌≤◌, length, slice_index, IfOk, Ok, Err};
 ghost use Rattle.word32.specs.Bytes.{word_in};
+ghost use Rattle.word32.specs.declared.map.TheConstants.{GLOBAL_BYTES, OBJECT_BYTES};
 
 use std::alloc::{AllocError, Global};
 use word32::{be_read, map};
@@ -47,8 +48,8 @@ fn fill(words: &mut [u32], bytes: &[u8])
 
 /// The words of the objects, which begin with these bytes; all else is 0.
 pub fn object_words(alloc: Global, bytes: &[u8]) -> Result<Vec<u32>, AllocError>
-    requires { length bytes.now ≤ 4194304 }
-    ensures length { IfOk result (λ v. length v.items ≡ 4194304) }
+    requires { length bytes.now ≤ GLOBAL_BYTES }
+    ensures length { IfOk result (λ v. length v.items ≡ OBJECT_BYTES / 4) }
     ensures words { IfOk result (λ v. (i : ℕ) → slice_index v.items i ≡ word_in bytes.now (4 * i)) }
 {
     let mut words = zero_words(alloc, (map::OBJECT_BYTES / 4) as usize)?;

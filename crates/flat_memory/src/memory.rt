@@ -4,6 +4,7 @@ ghost use Rattle.std.specs.Prelude.{◌≡◌, ◌+◌, ◌*◌, ◌/◌, ◌%�
 ghost use Rattle.word32.specs.Space.{words_from, bytes_from};
 ghost use Rattle.word32.specs.Space as space;
 ghost use Rattle.word32.specs.Parts as parts;
+ghost use Rattle.word32.specs.declared.map.TheConstants.{ARENA, GLOBAL_BYTES, TEXT_WORDS};
 ghost use Rattle.flat_memory.specs.Map as maps;
 ghost use Rattle.flat_memory.specs.Spaces as spaces;
 ghost use Rattle.flat_memory.specs.Regions.{spaces_of};
@@ -98,8 +99,8 @@ impl Memory {
     /// # Errors
     /// Where memory is wanting; nothing was made then.
     pub fn new(alloc: Global, text: &[u32], bytes: &[u8]) -> Result<Self, AllocError>
-        requires text_fits { length text.now ≤ 15728640 }
-        requires bytes_fit { length bytes.now ≤ 4194304 }
+        requires text_fits { length text.now ≤ TEXT_WORDS }
+        requires bytes_fit { length bytes.now ≤ GLOBAL_BYTES }
         ensures { IfOk result (λ m. spaces_of m ≡ spaces.first text.now bytes.now) }
     {
         let mut words = Vec::new(alloc);
@@ -235,7 +236,7 @@ impl Memory {
     #[inline(always)]
     pub fn fetch(&self, at: u32) -> Option<u32>
         ensures word { result ≡ spaces.fetch (spaces_of self.now) at }
-        ensures below { IfSome result (λ w. at < 67108864) }
+        ensures below { IfSome result (λ w. at < ARENA) }
     {
         let from = at.wrapping_sub(map::TEXT);
         let i = (from / 4 + from % 4 * 0x4000_0000) as usize;

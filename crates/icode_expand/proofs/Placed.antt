@@ -5,6 +5,7 @@ use Rattle.std.proofs.Common.{below_more}
 use Rattle.std.proofs.Math.Seq.{take-nil}
 use Rattle.std.proofs.lemmas.List.{get_or-set_same, get_or-set_other, get_or_past}
 use Rattle.std.proofs.lemmas.Bool.Decides.{nat_tests}
+use Rattle.limits.specs.declared.ops.TheConstants.{MOST_SLOTS}
 use Rattle.icode_ops.specs.Finished.{Below, InRange, IsFinished}
 use Rattle.icode_ops.specs.Flow.{goes_to, label_of, op_at, holds, defined, first_use, second_use}
 use Rattle.icode_ops.specs.declared.op.Op.{Op}
@@ -132,15 +133,15 @@ below_more_room n m h None b = tt
 below_more_room n m h (Some r) b = omega arith
 
 -- the registers of an op of a finished list are low
-pub low_registers : (ops : List Op) (n i : ℕ) (o : Op) → IsFinished ops n → op_at ops i ≡ o → InRange 1048576 o
+pub low_registers : (ops : List Op) (n i : ℕ) (o : Op) → IsFinished ops n → op_at ops i ≡ o → InRange MOST_SLOTS o
 low_registers ops n i o f e =
-    let P : Op → Type 0 = λ op. InRange 1048576 op in
+    let P : Op → Type 0 = λ op. InRange MOST_SLOTS op in
     let r : InRange n (op_at ops i) = f.in_range i in
-    let m : n ≤ 1048576 = omega (arith, f.few_registers) in
+    let m : n ≤ MOST_SLOTS = omega (arith, f.few_registers) in
     subst P e (
-      below_more_room n 1048576 m (defined (op_at ops i)) r.0,
-      below_more_room n 1048576 m (first_use (op_at ops i)) r.1,
-      below_more_room n 1048576 m (second_use (op_at ops i)) r.2,
+      below_more_room n MOST_SLOTS m (defined (op_at ops i)) r.0,
+      below_more_room n MOST_SLOTS m (first_use (op_at ops i)) r.1,
+      below_more_room n MOST_SLOTS m (second_use (op_at ops i)) r.2,
     )
 
 -- where an op goes by the table

@@ -1,6 +1,8 @@
 //! The addresses of labels.
 
 ghost use Rattle.std.specs.Prelude.{◌≡◌, ℕ, ◌+◌, ◌*◌, ◌<◌, ◌≤◌, length, slice_index, Some};
+ghost use Rattle.limits.specs.declared.ops.TheConstants.{MOST_SLOTS};
+ghost use Rattle.word32.specs.declared.map.TheConstants.{OBJECT_BYTES, STACK_BYTES};
 ghost use Rattle.icode_ops.specs.Finished.{InRange, Below, IsFinished};
 ghost use Rattle.icode_ops.specs.Flow.{goes_to, label_of, op_at};
 ghost use Rattle.icode_templates.specs.Layout.{laid};
@@ -14,9 +16,9 @@ use icode_templates::{Layout, Snippet};
 // How many bytes the template of an op has.
 #[tactic(auto, using(crate::proofs::Lengths::length_words))]
 fn op_bytes(op: Op, layout: &Layout) -> u32
-    requires registers { InRange 1048576 op }
-    requires frame { layout.now.frame ≤ 16777216 }
-    requires objects { layout.now.objects ≤ 16777216 }
+    requires registers { InRange MOST_SLOTS op }
+    requires frame { layout.now.frame ≤ STACK_BYTES }
+    requires objects { layout.now.objects ≤ OBJECT_BYTES }
     ensures bytes { result ≡
         4 * length (template (laid layout.now.places.now layout.now.frame layout.now.objects) nowhere op) }
     ensures most { result ≤ 64 }
@@ -28,9 +30,9 @@ fn op_bytes(op: Op, layout: &Layout) -> u32
 
 // Notes the address of an op where it is a label, and gives the address behind the op.
 fn place_op(op: &Op, layout: &Layout, address: u32, labels: &mut [u32]) -> u32
-    requires registers { InRange 1048576 op.now }
-    requires frame { layout.now.frame ≤ 16777216 }
-    requires objects { layout.now.objects ≤ 16777216 }
+    requires registers { InRange MOST_SLOTS op.now }
+    requires frame { layout.now.frame ≤ STACK_BYTES }
+    requires objects { layout.now.objects ≤ OBJECT_BYTES }
     requires label { Below (length labels.old) (label_of op.now) }
     requires address { address ≤ 4000000000 }
     ensures labels { labels.new ≡ with_label (label_of op.now) address labels.old }
@@ -49,8 +51,8 @@ fn place_op(op: &Op, layout: &Layout, address: u32, labels: &mut [u32]) -> u32
 pub(crate) fn place_labels(ops: &[Op], layout: &Layout, start: u32, labels: &mut [u32]) -> u32
     requires finished { (n : ℕ) × IsFinished ops.now n }
     requires labels { (p : ℕ) → Below (length labels.old) (label_of (op_at ops.now p)) }
-    requires frame { layout.now.frame ≤ 16777216 }
-    requires objects { layout.now.objects ≤ 16777216 }
+    requires frame { layout.now.frame ≤ STACK_BYTES }
+    requires objects { layout.now.objects ≤ OBJECT_BYTES }
     requires start { start ≤ 300000000 }
     ensures table { IsTable
         (aims (laid layout.now.places.now layout.now.frame layout.now.objects) start ops.now) ops.now labels.new result }

@@ -3,6 +3,7 @@
 #![tactic(auto)]
 
 ghost use Rattle.std.specs.Prelude.{◌≡◌, ℕ, ◌+◌, ◌*◌, ◌++◌, ◌<◌, ◌≤◌, length, drop, MatchResult};
+ghost use Rattle.word32.specs.declared.map.TheConstants.{OBJECT_BYTES, SEGMENT_BYTES, STACK_BYTES};
 ghost use Rattle.icode_ops.specs.Finished.{Below, IsFinished};
 ghost use Rattle.icode_ops.specs.Flow.{label_of, op_at};
 ghost use Rattle.icode_expand.specs.Expansion.{expanded};
@@ -50,9 +51,9 @@ pub fn expand(
 ) -> Result<usize, Short>
     requires finished { (n : ℕ) × IsFinished ops.now n }
     requires labels { (p : ℕ) → Below (length labels.old) (label_of (op_at ops.now p)) }
-    requires range { at + 4 * length out.old ≤ 268435456 }
-    requires frame { frame ≤ 16777216 }
-    requires object { object ≤ 16777216 }
+    requires range { at + 4 * length out.old ≤ SEGMENT_BYTES }
+    requires frame { frame ≤ STACK_BYTES }
+    requires object { object ≤ OBJECT_BYTES }
     ensures { let words = expanded ops.now places.now at frame object compiled in MatchResult result
         (λ n. (n ≡ length words) × (n ≤ length out.old) × (out.new ≡ words ++ drop n out.old))
         (λ _. (length out.old < length words) × (out.new ≡ out.old)) }

@@ -1,6 +1,8 @@
 //! The words of a list of ops, one behind another.
 
 ghost use Rattle.std.specs.Prelude.{◌≡◌, ℕ, ◌+◌, ◌<◌, ◌≤◌, length};
+ghost use Rattle.limits.specs.declared.ops.TheConstants.{MOST_SLOTS};
+ghost use Rattle.word32.specs.declared.map.TheConstants.{OBJECT_BYTES, SEGMENT_BYTES, STACK_BYTES};
 ghost use Rattle.icode_ops.specs.Finished.{InRange, IsFinished};
 ghost use Rattle.icode_templates.specs.Layout.{laid};
 ghost use Rattle.icode_templates.specs.Templates.{template, Aim};
@@ -26,10 +28,10 @@ pub(crate) fn append(out: &mut [u32], filled: usize, words: &[u32]) -> usize
 // Writes the template of an op that goes to an address.
 #[tactic(auto, using(crate::proofs::Lengths::length_words, crate::proofs::Lengths::template_length))]
 fn write_op(op: Op, layout: &Layout, address: u32, out: &mut [u32], filled: usize) -> usize
-    requires registers { InRange 1048576 op }
-    requires frame { layout.now.frame ≤ 16777216 }
-    requires objects { layout.now.objects ≤ 16777216 }
-    requires address { address < 268435456 }
+    requires registers { InRange MOST_SLOTS op }
+    requires frame { layout.now.frame ≤ STACK_BYTES }
+    requires objects { layout.now.objects ≤ OBJECT_BYTES }
+    requires address { address < SEGMENT_BYTES }
     requires room { filled +
         length (template (laid layout.now.places.now layout.now.frame layout.now.objects) nowhere op) ≤ length out.old }
     ensures words { out.new ≡ spliced out.old filled
@@ -54,9 +56,9 @@ pub(crate) fn write_ops(
 ) -> usize
     requires finished { (n : ℕ) × IsFinished ops.now n }
     requires table { (address : Aim → ℕ) × IsTable address ops.now labels.now epilogue }
-    requires frame { layout.now.frame ≤ 16777216 }
-    requires objects { layout.now.objects ≤ 16777216 }
-    requires epilogue { epilogue < 268435456 }
+    requires frame { layout.now.frame ≤ STACK_BYTES }
+    requires objects { layout.now.objects ≤ OBJECT_BYTES }
+    requires epilogue { epilogue < SEGMENT_BYTES }
     requires room { filled +
         length (templates (laid layout.now.places.now layout.now.frame layout.now.objects) nowhere ops.now)
         ≤ length out.old }

@@ -15,6 +15,7 @@ use Rattle.icode_expand.specs.Expansion.{op_address, aims, expansion}
 use Rattle.icode_expand.specs.Expansion as expanded
 use Rattle.icode_meaning.specs.State.{Function}
 use Rattle.limits.specs.declared.run.TheConstants.{STACK_OF_A_CALL}
+use Rattle.word32.specs.declared.map.TheConstants.{SEGMENT_BYTES}
 
 -- the spots of a function's registers, and the code before its ops and behind them
 abbrev pub layout_of : Function → List ℕ → Layout
@@ -42,7 +43,7 @@ abbrev pub leave_at : Function → List ℕ → ℕ
 leave_at f places = aims (layout_of f places) (ops_at f places) f.ops ToEpilogue
 
 -- The function suits the places: they are legal, its frame has a word for each register, in whole words, and its code
--- lies in the first 256 megabytes, where jumps reach. Its charge and its frame objects have a gigabyte each at most.
+-- lies in the first segment, where jumps reach. Its charge and its frame objects have a gigabyte each at most.
 pub record Suits (f : Function) (places : List ℕ) : Type 0 where
   pub in_range : (p : ℕ) → InRange (length places) (op_at f.ops p)
   pub legal : IsLegal f.ops (length places) places
@@ -51,7 +52,7 @@ pub record Suits (f : Function) (places : List ℕ) : Type 0 where
   pub small : f.charge ≤ 1073741824
   pub few : f.object ≤ 1073741824
   pub even : f.address % 4 ≡ 0
-  pub low : past f.address (code_of f places) < 268435456
+  pub low : past f.address (code_of f places) < SEGMENT_BYTES
 
 -- and its instructions stand in the code
 pub record Stands (c : Code) (f : Function) (places : List ℕ) : Type 0 where

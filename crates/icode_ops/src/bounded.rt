@@ -1,10 +1,16 @@
 //! Numbers with the bounds that the code's templates need.
 
 ghost use Rattle.std.specs.Prelude.{◌≡◌, ◌<◌, ◌≤◌, ◌%◌, MatchOption};
+ghost use Rattle.limits.specs.declared.ops.TheConstants.{MOST_CAPTURES};
+ghost use Rattle.limits.specs.declared.program.TheConstants.{MOST_ARGUMENTS};
+ghost use Rattle.word32.specs.declared.map.TheConstants.{SEGMENT_BYTES};
 
+use limits::ops::MOST_CAPTURES;
+use limits::program::MOST_ARGUMENTS;
 use std::marker::Model;
+use word32::map::SEGMENT_BYTES;
 
-/// How many arguments a call passes: at most 8.
+/// How many arguments a call passes: at most `MOST_ARGUMENTS`.
 #[derive(Clone, Copy, Debug, PartialEq, Eq)]
 pub struct ArgumentCount {
     count: u32,
@@ -12,38 +18,39 @@ pub struct ArgumentCount {
 
 impl Model for ArgumentCount {
     ghost use Rattle.std.specs.Prelude.{ℕ, ◌≤◌};
+    ghost use Rattle.limits.specs.declared.program.TheConstants.{MOST_ARGUMENTS};
 
     ghost Value = { ℕ };
 
     ghost view = { λ a. a.count };
 
-    ghost invariant = { λ a. a.count ≤ 8 };
+    ghost invariant = { λ a. a.count ≤ MOST_ARGUMENTS };
 
     ghost inverse = { λ n. record { count = n } };
 }
 
 impl ArgumentCount {
-    /// The count, or None where it is over 8.
+    /// The count, or None where it is over `MOST_ARGUMENTS`.
     pub fn new(count: u32) -> Option<ArgumentCount>
-        ensures { MatchOption result (8 < count) (λ n. (n ≡ count) × (count ≤ 8)) }
+        ensures { MatchOption result (MOST_ARGUMENTS < count) (λ n. (n ≡ count) × (count ≤ MOST_ARGUMENTS)) }
     {
-        if count <= 8 {
+        if count <= MOST_ARGUMENTS {
             Some(ArgumentCount { count })
         } else {
             None
         }
     }
 
-    /// The number, which is at most 8.
+    /// The number, which is at most `MOST_ARGUMENTS`.
     pub fn get(self) -> u32
         ensures same { result ≡ self }
-        ensures bound { self ≤ 8 }
+        ensures bound { self ≤ MOST_ARGUMENTS }
     {
         self.count
     }
 }
 
-/// Which argument of a call, or which parameter of a function, counted from 0: below 8.
+/// Which argument of a call, or which parameter of a function, counted from 0: below `MOST_ARGUMENTS`.
 #[derive(Clone, Copy, Debug, PartialEq, Eq)]
 pub struct ArgumentIndex {
     index: u32,
@@ -51,38 +58,39 @@ pub struct ArgumentIndex {
 
 impl Model for ArgumentIndex {
     ghost use Rattle.std.specs.Prelude.{ℕ, ◌<◌};
+    ghost use Rattle.limits.specs.declared.program.TheConstants.{MOST_ARGUMENTS};
 
     ghost Value = { ℕ };
 
     ghost view = { λ a. a.index };
 
-    ghost invariant = { λ a. a.index < 8 };
+    ghost invariant = { λ a. a.index < MOST_ARGUMENTS };
 
     ghost inverse = { λ n. record { index = n } };
 }
 
 impl ArgumentIndex {
-    /// The index, or None where it is not below 8.
+    /// The index, or None where it is not below `MOST_ARGUMENTS`.
     pub fn new(index: u32) -> Option<ArgumentIndex>
-        ensures { MatchOption result (8 ≤ index) (λ n. (n ≡ index) × (index < 8)) }
+        ensures { MatchOption result (MOST_ARGUMENTS ≤ index) (λ n. (n ≡ index) × (index < MOST_ARGUMENTS)) }
     {
-        if index < 8 {
+        if index < MOST_ARGUMENTS {
             Some(ArgumentIndex { index })
         } else {
             None
         }
     }
 
-    /// The number, which is below 8.
+    /// The number, which is below `MOST_ARGUMENTS`.
     pub fn get(self) -> u32
         ensures same { result ≡ self }
-        ensures bound { self < 8 }
+        ensures bound { self < MOST_ARGUMENTS }
     {
         self.index
     }
 }
 
-/// Which captured word of a closure, counted from 0: below 32,768.
+/// Which captured word of a closure, counted from 0: below `MOST_CAPTURES`.
 #[derive(Clone, Copy, Debug, PartialEq, Eq)]
 pub struct CaptureIndex {
     index: u32,
@@ -90,38 +98,39 @@ pub struct CaptureIndex {
 
 impl Model for CaptureIndex {
     ghost use Rattle.std.specs.Prelude.{ℕ, ◌<◌};
+    ghost use Rattle.limits.specs.declared.ops.TheConstants.{MOST_CAPTURES};
 
     ghost Value = { ℕ };
 
     ghost view = { λ a. a.index };
 
-    ghost invariant = { λ a. a.index < 32768 };
+    ghost invariant = { λ a. a.index < MOST_CAPTURES };
 
     ghost inverse = { λ n. record { index = n } };
 }
 
 impl CaptureIndex {
-    /// The index, or None where it is not below 32,768.
+    /// The index, or None where it is not below `MOST_CAPTURES`.
     pub fn new(index: u32) -> Option<CaptureIndex>
-        ensures { MatchOption result (32768 ≤ index) (λ n. (n ≡ index) × (index < 32768)) }
+        ensures { MatchOption result (MOST_CAPTURES ≤ index) (λ n. (n ≡ index) × (index < MOST_CAPTURES)) }
     {
-        if index < 32_768 {
+        if index < MOST_CAPTURES {
             Some(CaptureIndex { index })
         } else {
             None
         }
     }
 
-    /// The number, which is below 32,768.
+    /// The number, which is below `MOST_CAPTURES`.
     pub fn get(self) -> u32
         ensures same { result ≡ self }
-        ensures bound { self < 32768 }
+        ensures bound { self < MOST_CAPTURES }
     {
         self.index
     }
 }
 
-/// The address of a function that is called by a jump: a multiple of 4 below 0x10000000 (268,435,456), in bytes.
+/// The address of a function that is called by a jump: a multiple of 4 below `SEGMENT_BYTES`, in bytes.
 #[derive(Clone, Copy, Debug, PartialEq, Eq)]
 pub struct CallAddress {
     address: u32,
@@ -129,34 +138,35 @@ pub struct CallAddress {
 
 impl Model for CallAddress {
     ghost use Rattle.std.specs.Prelude.{ℕ, ◌<◌, ◌≡◌, ◌%◌};
+    ghost use Rattle.word32.specs.declared.map.TheConstants.{SEGMENT_BYTES};
 
     ghost Value = { ℕ };
 
     ghost view = { λ a. a.address };
 
-    ghost invariant = { λ a. (a.address < 268435456) × (a.address % 4 ≡ 0) };
+    ghost invariant = { λ a. (a.address < SEGMENT_BYTES) × (a.address % 4 ≡ 0) };
 
     ghost inverse = { λ n. record { address = n } };
 }
 
 impl CallAddress {
-    /// The address, or None where it is no multiple of 4 below 0x10000000.
+    /// The address, or None where it is no multiple of 4 below `SEGMENT_BYTES`.
     pub fn new(address: u32) -> Option<CallAddress>
         ensures { MatchOption result
-            ((address < 268435456) × (address % 4 ≡ 0) → ⊥)
-            (λ n. (n ≡ address) × (address < 268435456) × (address % 4 ≡ 0)) }
+            ((address < SEGMENT_BYTES) × (address % 4 ≡ 0) → ⊥)
+            (λ n. (n ≡ address) × (address < SEGMENT_BYTES) × (address % 4 ≡ 0)) }
     {
-        if address < 0x1000_0000 && address % 4 == 0 {
+        if address < SEGMENT_BYTES && address % 4 == 0 {
             Some(CallAddress { address })
         } else {
             None
         }
     }
 
-    /// The address, a multiple of 4 below 0x10000000.
+    /// The address, a multiple of 4 below `SEGMENT_BYTES`.
     pub fn get(self) -> u32
         ensures same { result ≡ self }
-        ensures bound { self < 268435456 }
+        ensures bound { self < SEGMENT_BYTES }
         ensures aligned { self % 4 ≡ 0 }
     {
         self.address

@@ -23,7 +23,7 @@ use Rattle.icode_templates.specs.Assembly.{nor, slt, sltu, sll, srl, sra, sllv, 
 use Rattle.icode_templates.specs.Assembly.{addiu, sltiu, andi, ori, xori, lui, lb, lbu, lh, lhu, lw, sb, sh, sw, beq}
 use Rattle.icode_templates.specs.Assembly.{bne, j, jal, jalr, syscall, trap, nop, constant}
 use Rattle.icode_templates.specs.Layout.{Spot, InRegister, InSlot, Layout, parameter_spot}
-use Rattle.word32.specs.declared.map.TheConstants.{ROUTINE_BYTES, START}
+use Rattle.word32.specs.declared.map.TheConstants.{ROUTINE_BYTES, RT_NEW, START}
 
 -- an offset in two halves, where the lower one is taken with its sign
 abbrev pub upper : ℕ → ℕ
@@ -162,7 +162,7 @@ routine_address number = START + ROUTINE_BYTES * number
 
 -- the routine that makes closures
 abbrev pub new_address : ℕ
-new_address = 4197632
+new_address = RT_NEW
 
 -- a service of the machine, with $t8 as its argument and for its answer
 abbrev pub service_code : ℕ → List Instr

@@ -2,6 +2,7 @@
 //! 16 bits, and the addresses of jumps are in bytes.
 
 ghost use Rattle.std.specs.Prelude.{◌≡◌, ◌<◌};
+ghost use Rattle.word32.specs.declared.map.TheConstants.{SEGMENT_BYTES};
 ghost use Rattle.icode_templates.specs.Assembly as assembly;
 
 use mips_encoder::{
@@ -160,7 +161,7 @@ pub fn bne(s: Register, t: Register, offset: u32) -> Instr
 /// `j address`
 #[inline]
 pub fn j(address: u32) -> Instr
-    requires { address < 268435456 }
+    requires { address < SEGMENT_BYTES }
     ensures { result ≡ assembly.j address }
 {
     Instr::Jump(JumpOp::J, JumpTarget::new(address / 4))
@@ -169,7 +170,7 @@ pub fn j(address: u32) -> Instr
 /// `jal address`
 #[inline]
 pub fn jal(address: u32) -> Instr
-    requires { address < 268435456 }
+    requires { address < SEGMENT_BYTES }
     ensures { result ≡ assembly.jal address }
 {
     Instr::Jump(JumpOp::Jal, JumpTarget::new(address / 4))

@@ -1,6 +1,7 @@
 //! Ops that go elsewhere: jumps, branches, calls with their arguments, and returns.
 
 ghost use Rattle.std.specs.Prelude.{◌≡◌, ◌+◌, ◌*◌, ◌++◌, ◌<◌, ◌≤◌, ◌∷◌, [], length};
+ghost use Rattle.word32.specs.declared.map.TheConstants.{SEGMENT_BYTES};
 ghost use Rattle.icode_templates.specs.Assembly as assembly;
 ghost use Rattle.icode_templates.specs.Templates.{in_code, out_code, number_row, count_check, number_call};
 ghost use Rattle.icode_templates.specs.Words.{words};
@@ -27,7 +28,7 @@ impl Snippet {
     /// Goes to an address.
     pub(crate) fn go_to(&mut self, address: u32)
         requires room { length self.old ≤ 30 }
-        requires address { address < 268435456 }
+        requires address { address < SEGMENT_BYTES }
         ensures words { self.new ≡ self.old ++ words (assembly.j address ∷ assembly.nop ∷ []) }
         ensures len { length self.new ≡ length self.old + 2 }
     {
@@ -38,7 +39,7 @@ impl Snippet {
     /// Goes to an address where the value is 0.
     pub(crate) fn go_if_zero(&mut self, test: &Spot, address: u32)
         requires room { length self.old ≤ 16 }
-        requires address { address < 268435456 }
+        requires address { address < SEGMENT_BYTES }
         ensures words { self.new ≡ self.old ++
             words (in_code (spot_seen test.now) ++
             assembly.bne assembly.t8 0 3 ∷ assembly.nop ∷ assembly.j address ∷ assembly.nop ∷ []) }
@@ -53,7 +54,7 @@ impl Snippet {
     /// Goes to an address where the value isn't 0.
     pub(crate) fn go_unless_zero(&mut self, test: &Spot, address: u32)
         requires room { length self.old ≤ 16 }
-        requires address { address < 268435456 }
+        requires address { address < SEGMENT_BYTES }
         ensures words { self.new ≡ self.old ++
             words (in_code (spot_seen test.now) ++
             assembly.beq assembly.t8 0 3 ∷ assembly.nop ∷ assembly.j address ∷ assembly.nop ∷ []) }
@@ -79,7 +80,7 @@ impl Snippet {
     // A call of an address.
     fn link_to(&mut self, address: u32)
         requires room { length self.old ≤ 30 }
-        requires address { address < 268435456 }
+        requires address { address < SEGMENT_BYTES }
         ensures words { self.new ≡ self.old ++ words (assembly.jal address ∷ assembly.nop ∷ []) }
         ensures len { length self.new ≡ length self.old + 2 }
     {
@@ -99,7 +100,7 @@ impl Snippet {
     /// Calls a routine of the run-time library, which has its answer in `$v0`.
     pub(crate) fn call_routine(&mut self, address: u32)
         requires room { length self.old ≤ 29 }
-        requires address { address < 268435456 }
+        requires address { address < SEGMENT_BYTES }
         ensures words { self.new ≡ self.old ++
             words (assembly.jal address ∷ assembly.nop ∷ assembly.addu assembly.t8 assembly.v0 0 ∷ []) }
         ensures len { length self.new ≡ length self.old + 3 }
@@ -159,7 +160,7 @@ impl Snippet {
     /// Returns a value, by way of the epilogue at an address.
     pub(crate) fn leave_with(&mut self, from: &Spot, epilogue: u32)
         requires room { length self.old ≤ 16 }
-        requires address { epilogue < 268435456 }
+        requires address { epilogue < SEGMENT_BYTES }
         ensures words { self.new ≡ self.old ++
             words (in_code (spot_seen from.now) ++
             assembly.addu assembly.v0 assembly.t8 0 ∷ assembly.j epilogue ∷ assembly.nop ∷ []) }
@@ -173,7 +174,7 @@ impl Snippet {
     /// Returns 0, by way of the epilogue at an address.
     pub(crate) fn leave_with_zero(&mut self, epilogue: u32)
         requires room { length self.old ≤ 16 }
-        requires address { epilogue < 268435456 }
+        requires address { epilogue < SEGMENT_BYTES }
         ensures words { self.new ≡ self.old ++
             words (assembly.addu assembly.v0 0 0 ∷ assembly.j epilogue ∷ assembly.nop ∷ []) }
         ensures len { length self.new ≡ length self.old + 3 }

@@ -1,6 +1,7 @@
 //! Ops on memory: addresses of the frame's objects, loads, stores, zeros, and captured words of closures.
 
 ghost use Rattle.std.specs.Prelude.{◌≡◌, ◌+◌, ◌*◌, ◌++◌, ◌<◌, ◌≤◌, ◌∷◌, [], length};
+ghost use Rattle.word32.specs.declared.map.TheConstants.{OBJECT_BYTES};
 ghost use Rattle.icode_templates.specs.Assembly as assembly;
 ghost use Rattle.icode_templates.specs.Layout.{laid};
 ghost use Rattle.icode_templates.specs.Templates.{in_code, in_two_code, out_code, clear_loop, range_check as range_checking};
@@ -76,7 +77,7 @@ impl Snippet {
     /// The address that is `offset` bytes into the frame's objects.
     pub(crate) fn frame_address(&mut self, layout: &Layout, to: &Spot, offset: u32)
         requires room { length self.old ≤ 16 }
-        requires objects { layout.now.objects ≤ 16777216 }
+        requires objects { layout.now.objects ≤ OBJECT_BYTES }
         ensures words { self.new ≡ self.old ++
             words (address_of_object (laid layout.now.places.now layout.now.frame layout.now.objects) assembly.t8 offset ++
             out_code (spot_seen to.now)) }
@@ -129,7 +130,7 @@ impl Snippet {
     /// Sets words of the frame's objects to 0, from `offset` bytes on.
     pub(crate) fn clear_objects(&mut self, layout: &Layout, offset: u32, count: u32)
         requires room { length self.old ≤ 16 }
-        requires objects { layout.now.objects ≤ 16777216 }
+        requires objects { layout.now.objects ≤ OBJECT_BYTES }
         ensures words { self.new ≡ self.old ++
             words (address_of_object (laid layout.now.places.now layout.now.frame layout.now.objects) assembly.t8 offset ++
             (address_of_object (laid layout.now.places.now layout.now.frame layout.now.objects) assembly.t9

@@ -12,6 +12,7 @@ use crate::snippet::Snippet;
 use crate::spot::Spot;
 use icode_ops::{ClosureKind, RunKind, SysKind};
 use mips_encoder::{Instr, Register};
+use word32::map;
 
 const T8: Register = Register::T8;
 
@@ -20,11 +21,6 @@ const V0: Register = Register::V0;
 const A0: Register = Register::A0;
 
 const ZERO: Register = Register::ZERO;
-
-/// The run-time library: blocks of 64 words from the beginning of the text, by the number of the routine.
-const ROUTINES: u32 = 0x0040_0000;
-/// The routine that makes closures.
-const NEW_ROUTINE: u32 = 0x0040_0d00;
 
 #[tactic(auto, using(crate::proofs::Appended::words_append))]
 impl Snippet {
@@ -59,7 +55,7 @@ impl Snippet {
         ensures len { length self.new ≡ length self.old + 4 }
     {
         self.push(addu(A0, T8, ZERO));
-        self.call_routine(ROUTINES + 256 * kind.number());
+        self.call_routine(map::START + map::ROUTINE_BYTES * kind.number());
     }
 
     /// Calls a routine of the run-time library.
@@ -87,7 +83,7 @@ impl Snippet {
         self.constant(A0, code);
         self.push(ori(Register::A1, ZERO, kind.number()));
         self.constant(Register::A2, captures);
-        self.call_routine(NEW_ROUTINE);
+        self.call_routine(map::RT_NEW);
         self.bring_out(to);
     }
 }

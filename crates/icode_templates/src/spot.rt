@@ -1,10 +1,14 @@
 //! Where the values of virtual registers stand.
 
 ghost use Rattle.std.specs.Prelude.{◌≡◌, ◌+◌, ◌*◌, ◌<◌, ◌≤◌};
+ghost use Rattle.limits.specs.declared.ops.TheConstants.{MOST_SLOTS};
+ghost use Rattle.limits.specs.declared.program.TheConstants.{MOST_ARGUMENTS};
+ghost use Rattle.word32.specs.declared.map.TheConstants.{OBJECT_BYTES, STACK_BYTES};
 ghost use Rattle.icode_templates.specs.Layout.{laid, parameter_spot};
 ghost use Rattle.icode_templates.specs.Templates.{below_end as offset_below_end};
 ghost use Rattle.icode_templates.specs.Seen.{spot_seen};
 
+use limits::run::STACK_OF_A_CALL;
 use mips_encoder::Register;
 use std::marker::Model;
 
@@ -68,7 +72,7 @@ pub struct Layout<'a> {
 impl Layout<'_> {
     /// Where the virtual register stands.
     pub(crate) fn spot(&self, register: u32) -> Spot
-        requires { register < 1048576 }
+        requires { register < MOST_SLOTS }
         ensures { spot_seen result ≡ (laid self.now.places.now self.now.frame self.now.objects).spot register }
     {
         let place = match self.places.get(register as usize) {
@@ -80,14 +84,14 @@ impl Layout<'_> {
         } else if place < 12 {
             Spot::InRegister(Register::new(place))
         } else {
-            Spot::InSlot(SlotOffset::new(128 + 4 * register))
+            Spot::InSlot(SlotOffset::new(STACK_OF_A_CALL + 4 * register))
         }
     }
 
     /// Where the parameter stands, in the frame of the caller.
     pub(crate) fn parameter(&self, index: u32) -> Spot
-        requires index { index < 8 }
-        requires frame { self.now.frame ≤ 16777216 }
+        requires index { index < MOST_ARGUMENTS }
+        requires frame { self.now.frame ≤ STACK_BYTES }
         ensures { spot_seen result ≡ parameter_spot (laid self.now.places.now self.now.frame self.now.objects) index }
     {
         Spot::InSlot(SlotOffset::new(self.frame + 4 * index))
@@ -95,7 +99,7 @@ impl Layout<'_> {
 
     /// What is added to `$fp` for the address that is this many bytes into the frame's objects.
     pub(crate) fn below_end(&self, offset: u32) -> u32
-        requires { self.now.objects ≤ 16777216 }
+        requires { self.now.objects ≤ OBJECT_BYTES }
         ensures { result ≡ offset_below_end (laid self.now.places.now self.now.frame self.now.objects) offset }
     {
         offset.wrapping_sub(self.objects)

@@ -1,6 +1,8 @@
 //! The template of each op.
 
 ghost use Rattle.std.specs.Prelude.{◌≡◌, ◌+◌, ◌++◌, ◌<◌, ◌≤◌, length};
+ghost use Rattle.limits.specs.declared.ops.TheConstants.{MOST_SLOTS};
+ghost use Rattle.word32.specs.declared.map.TheConstants.{OBJECT_BYTES, SEGMENT_BYTES, STACK_BYTES};
 ghost use Rattle.icode_ops.specs.Finished.{InRange};
 ghost use Rattle.icode_templates.specs.Layout.{laid};
 ghost use Rattle.icode_templates.specs.Templates.{template};
@@ -18,10 +20,10 @@ impl Snippet {
     #[tactic(auto, using(crate::proofs::Appended::words_append))]
     pub fn add_op(&mut self, op: Op, layout: &Layout, address: u32)
         requires room { length self.old ≤ 16 }
-        requires registers { InRange 1048576 op }
-        requires frame { layout.now.frame ≤ 16777216 }
-        requires objects { layout.now.objects ≤ 16777216 }
-        requires address { address < 268435456 }
+        requires registers { InRange MOST_SLOTS op }
+        requires frame { layout.now.frame ≤ STACK_BYTES }
+        requires objects { layout.now.objects ≤ OBJECT_BYTES }
+        requires address { address < SEGMENT_BYTES }
         ensures words { self.new ≡ self.old ++
             words (template (laid layout.now.places.now layout.now.frame layout.now.objects) (λ aim. address) op) }
         ensures most { length self.new ≤ length self.old + 16 }

@@ -1,6 +1,6 @@
 -- When a function stands in memory under places of its registers: its words stand in the text, and the places suit.
 use Rattle.std.specs.Prelude.{◌≡◌, ℕ, ◌+◌, ◌*◌, ◌%◌, ◌<◌, ◌≤◌, List, length}
-use Rattle.word32.specs.declared.map.TheConstants.{ARENA}
+use Rattle.word32.specs.declared.map.TheConstants.{ARENA, SEGMENT_BYTES}
 use Rattle.mips_model.specs.State.{Code}
 use Rattle.icode_ops.specs.Flow.{op_at}
 use Rattle.icode_ops.specs.Finished.{IsFinished}
@@ -25,4 +25,4 @@ abbrev pub LegalPlacesSuit : Type 0
 LegalPlacesSuit =
     (f : Function) (registers : ℕ) (places : List ℕ) → IsFinished f.ops registers → IsLegal f.ops registers places
     → STACK_OF_A_CALL + 4 * registers ≤ f.charge → f.charge % 4 ≡ 0 → f.charge ≤ 1073741824 → f.object ≤ 1073741824
-    → f.address % 4 ≡ 0 → f.address + 4 * (OP_WORDS * length f.ops + FRAME_WORDS) < 268435456 → Suits f places
+    → f.address % 4 ≡ 0 → f.address + 4 * (OP_WORDS * length f.ops + FRAME_WORDS) < SEGMENT_BYTES → Suits f places

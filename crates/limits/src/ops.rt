@@ -13,6 +13,14 @@ pub const MOST_LABELS: u32 = OP_LIMIT as u32;
 /// The most virtual registers of a function: one for each op, and one for each variable.
 pub const MOST_REGISTERS: u32 = 2 * OP_LIMIT as u32;
 
+/// The most slots of a frame, a word each, that templates address: the number of a virtual register that they are given
+/// is below it. It is over `MOST_REGISTERS`.
+pub const MOST_SLOTS: u32 = 1_048_576;
+
+/// The most captured words of a closure that an op addresses: the index of one, counted from 0, is below it. It is over
+/// `SIZE_LIMIT`, so no tick has as many.
+pub const MOST_CAPTURES: u32 = 32_768;
+
 /// The keys of captured values: one for each parameter of a function, and one for each specification. A key is below it.
 pub const KEYS: u32 = 262_152;
 

@@ -1,6 +1,7 @@
 //! Loads and stores.
 
 ghost use Rattle.std.specs.Prelude.{◌≡◌, ◌≢◌, ◌+◌, ◌-◌, ◌*◌, ◌/◌, ◌%◌, ◌<◌, ◌≤◌, ℕ, true, false, None, Some, Ok, Err};
+ghost use Rattle.word32.specs.declared.map.TheConstants.{ARENA, ARENA_BYTES, FUNCTION_TABLE, FUNCTION_TABLE_BYTES};
 ghost use Rattle.mips_encoder.specs.Decoded as table;
 ghost use Rattle.flat_memory.specs.Spaces as flat;
 ghost use Rattle.flat_memory.specs.Regions.{spaces_of};
@@ -20,14 +21,14 @@ use word32::{Width, is_aligned, loaded_part, map, stored_part};
 
 #[inline]
 fn is_in_arena(at: u32) -> bool
-    ensures { result ≡ is_within 67108864 33554432 at }
+    ensures { result ≡ is_within ARENA ARENA_BYTES at }
 {
     at >= map::ARENA && at < map::ARENA + map::ARENA_BYTES
 }
 
 #[inline]
 fn is_in_table(at: u32) -> bool
-    ensures { result ≡ is_within 542179328 524288 at }
+    ensures { result ≡ is_within FUNCTION_TABLE FUNCTION_TABLE_BYTES at }
 {
     at >= map::FUNCTION_TABLE && at < map::FUNCTION_TABLE + map::FUNCTION_TABLE_BYTES
 }
@@ -63,8 +64,8 @@ impl Core {
 
     /// A word of the function table.
     fn table_word(&self, at: u32) -> u32
-        requires from { 542179328 ≤ at }
-        requires to { at < 542703616 }
+        requires from { FUNCTION_TABLE ≤ at }
+        requires to { at < FUNCTION_TABLE + FUNCTION_TABLE_BYTES }
         ensures { result ≡ accesses.table_word_at (data_of self.now).table at }
     {
         let n = at / 4 - map::FUNCTION_TABLE / 4;

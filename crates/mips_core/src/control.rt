@@ -1,11 +1,13 @@
 //! How the run goes on: delay slots, and what must not follow what.
 
 ghost use Rattle.std.specs.Prelude.{◌≡◌, ◌+◌, ◌-◌, ◌*◌, ◌/◌, ◌%◌, ◌<◌, ◌≤◌, ◌||◌, ℕ, true, false};
+ghost use Rattle.word32.specs.declared.map.TheConstants.{SEGMENT_BYTES};
 ghost use Rattle.mips_core.specs.Core as spec;
 ghost use Rattle.mips_core.specs.Core.{world_of};
 
 use crate::core_state::Core;
 use mips_encoder::Register;
+use word32::map::SEGMENT_BYTES;
 
 impl Core {
     /// The address of the instruction behind the next.
@@ -149,14 +151,14 @@ impl Core {
         self.behind().wrapping_add(offset.wrapping_mul(4))
     }
 
-    /// The address of a word of the 256 megabytes that the delay slot stands in.
+    /// The address of a word of the segment that the delay slot stands in.
     #[inline(always)]
     pub(crate) fn segment_target(&self, word: u32) -> u32
         requires next { self.now.next < 4294967296 }
         requires slot { self.now.slot ≡ false }
         requires word { word < 67108864 }
-        ensures { result ≡ self.now.next / 268435456 * 268435456 + 4 * word }
+        ensures { result ≡ self.now.next / SEGMENT_BYTES * SEGMENT_BYTES + 4 * word }
     {
-        self.behind() / 268435456 * 268435456 + 4 * word
+        self.behind() / SEGMENT_BYTES * SEGMENT_BYTES + 4 * word
     }
 }

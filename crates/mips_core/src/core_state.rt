@@ -1,6 +1,7 @@
 //! The registers, the memory and the control of a machine.
 
 ghost use Rattle.std.specs.Prelude.{◌≡◌, ◌+◌, ◌-◌, ◌*◌, ◌/◌, ◌%◌, ◌<◌, ◌≤◌, ℕ, true, false, length, map, IfOk, IfSome, Ok, Err, None, Some, []};
+ghost use Rattle.limits.specs.declared.program.TheConstants.{MOST_FUNCTIONS};
 ghost use Rattle.flat_memory.specs.Regions.{spaces_of};
 ghost use Rattle.code_arena.specs.Kept.{arena_of, rows_of};
 ghost use Rattle.code_arena.specs.Rows as rows;
@@ -82,7 +83,7 @@ impl Model for Core {
 /// # Errors
 /// Where memory is wanting.
 fn numbered(alloc: Global, functions: &[FunctionEntry]) -> Result<FunctionRows, AllocError>
-    requires { length functions.now ≤ 65535 }
+    requires { length functions.now ≤ MOST_FUNCTIONS }
     ensures { IfOk result (λ t. rows_of t ≡ rows.numbered (map row_of functions.now)) }
 {
     let mut table = FunctionRows::new(alloc)?;

@@ -9,7 +9,7 @@ use Rattle.std.specs.Fn.{iterate}
 use Rattle.word32.specs.Words.{wrap, widened_half}
 use Rattle.word32.specs.Parts.{is_aligned, loaded_part}
 use Rattle.word32.specs.declared.width.Width.{Width}
-use Rattle.word32.specs.declared.map.TheConstants.{ARENA, ARENA_BYTES}
+use Rattle.word32.specs.declared.map.TheConstants.{ARENA, ARENA_BYTES, SEGMENT_BYTES}
 use Rattle.code_arena.specs.Arena as arena
 use Rattle.code_arena.specs.Arena.{Arena}
 use Rattle.code_arena.specs.declared.arena.Stale.{Stale}
@@ -97,7 +97,7 @@ abbrev pub branch_target : Bool → ℕ → State → ℕ
 branch_target taken offset s = if taken then wrap (s.next + 4 * widened_half offset) else (s.next + 4)
 
 abbrev pub segment_target : ℕ → State → ℕ
-segment_target word s = s.next / 268435456 * 268435456 + 4 * word
+segment_target word s = s.next / SEGMENT_BYTES * SEGMENT_BYTES + 4 * word
 
 abbrev pub link : ℕ → State → Data
 link r s = set_register r (wrap (s.next + 4)) s.d

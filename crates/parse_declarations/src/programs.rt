@@ -9,7 +9,7 @@ ghost use Rattle.parse_grammar.specs.Nests.{Nests};
 use crate::declarations::Declarations;
 use parse_declarators::{Declarators, declares_function};
 use parse_grammar::{Mark, Mode, Part, Stop, Tokens, base};
-use parse_operands::Operands;
+use parse_primaries::Primaries;
 use sqlite_items::Items;
 use std::alloc::Global;
 use tick_tree::{Base, Declaration, Declarator, Expr, External, Init, Stmt};
@@ -64,10 +64,10 @@ impl<
         ensures { Reads (spec.function_or_variables (room_of room) line base is_function declarator tokens.old) result tokens.new }
     {
         if is_function && tokens.sees(Mark::BraceOpen) {
-            let operands = Operands {
+            let primaries = Primaries {
                 grammar: self.grammar,
             };
-            let items = operands.block(tokens, room)?;
+            let items = primaries.block(tokens, room)?;
             return Ok(External::Function(line, base, declarator, items));
         }
         self.variables(tokens, room, line, base, declarator)

@@ -1,11 +1,8 @@
-//! The operands of expressions, read from tokens: primary expressions, what stands behind and before them, and lists in
-//! brackets.
+//! The operands of expressions, read from tokens: primary expressions, and what stands behind and before them.
 #![tactic(auto)]
 
-mod leaves;
 mod nodes;
-mod operands;
 mod operators;
 mod postfixes;
 
-pub use operands::Operands;
+pub use postfixes::Operands;

@@ -6,12 +6,6 @@ use sqlite_items::{Boxed, Items};
 use std::alloc::{AllocError, Global};
 use tick_tree::{Expr, StepOp, UnaryOp};
 
-pub fn paren(alloc: Global, inner: Expr) -> Result<Expr, AllocError>
-    ensures { IfOk result (λ e. e ≡ Expr.Paren inner) }
-{
-    Ok(Expr::Paren(Boxed::new(alloc, inner)?))
-}
-
 pub fn index(alloc: Global, line: u32, left: Expr, at: Expr) -> Result<Expr, AllocError>
     ensures { IfOk result (λ e. e ≡ Expr.Index line (left, at)) }
 {

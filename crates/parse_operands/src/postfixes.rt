@@ -7,12 +7,19 @@ ghost use Rattle.parse_grammar.specs.Statements.{inner, room_of};
 ghost use Rattle.parse_grammar.specs.Nests.{Nests};
 
 use crate::nodes;
-use crate::operands::Operands;
 use crate::operators::{postfix_kind, unary_of};
-use parse_grammar::{Kind, Mark, Mode, Part, Postfix, Stop, Tokens, enter, is_base};
+use parse_grammar::{Grammar, Kind, Mark, Mode, Part, Postfix, Stop, Tokens, enter, is_base};
+use parse_primaries::Primaries;
 use parse_typenames::Typenames;
 use std::alloc::Global;
 use tick_tree::{Declarator, Expr, Stmt, UnaryOp};
+
+/// The productions of operands. Each takes the number of levels that may still open.
+#[derive(Clone, Copy)]
+pub struct Operands<F, S, D> {
+    /// Reads what stands deeper.
+    pub grammar: Grammar<F, S, D>,
+}
 
 impl<
     F: Fn(Global, &mut Tokens<'_>, usize, Part) -> Result<Expr, Stop> + Copy,
@@ -50,7 +57,10 @@ impl<
         requires room { room < self.now.grammar.limit }
         ensures { Reads (spec.called line left (inner (room_of room)) tokens.old) result tokens.new }
     {
-        let arguments = self.arguments(tokens, room)?;
+        let primaries = Primaries {
+            grammar: self.grammar,
+        };
+        let arguments = primaries.arguments(tokens, room)?;
         Ok(nodes::call(self.grammar.alloc, line, left, arguments)?)
     }
 
@@ -80,7 +90,10 @@ impl<
         requires room { room ≤ self.now.grammar.limit }
         ensures { Reads (spec.postfix (room_of room) tokens.old) result tokens.new }
     {
-        let mut left = self.primary(tokens, room)?;
+        let primaries = Primaries {
+            grammar: self.grammar,
+        };
+        let mut left = primaries.primary(tokens, room)?;
         let mut room = room;
         while let Some(op) = postfix_kind(tokens.peek()) {
             let line = tokens.line();
@@ -98,7 +111,10 @@ impl<
         ensures { Reads (spec.ticked line (inner (room_of room)) (room_of room) tokens.old) result tokens.new }
     {
         if tokens.sees(Mark::BraceOpen) {
-            return Ok(Expr::TickBlock(line, self.block(tokens, room)?));
+            let primaries = Primaries {
+                grammar: self.grammar,
+            };
+            return Ok(Expr::TickBlock(line, primaries.block(tokens, room)?));
         }
         let operand = self.grammar.inner(tokens, room, Part::Unary)?;
         Ok(nodes::tick(self.grammar.alloc, line, operand)?)

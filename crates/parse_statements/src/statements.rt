@@ -13,6 +13,7 @@ use parse_declarations::Declarations;
 use parse_expressions::Expressions;
 use parse_grammar::{Grammar, Kind, Mark, Mode, Part, Stop, Tokens, Word, descend, enter_paren};
 use parse_operands::Operands;
+use parse_primaries::Primaries;
 use sqlite_items::Boxed;
 use std::alloc::Global;
 use tick_tree::{Declarator, Expr, OptionalExpr, Stmt};
@@ -79,10 +80,10 @@ impl<
         requires room { room ≤ self.now.grammar.limit }
         ensures { Reads (spec.if_rest line (room_of room) tokens.old) result tokens.new }
     {
-        let operands = Operands {
+        let primaries = Primaries {
             grammar: self.grammar,
         };
-        let test = operands.parenthesized(tokens, room)?;
+        let test = primaries.parenthesized(tokens, room)?;
         let first = self.part(tokens, room)?;
         self.else_rest(tokens, room, line, test, first)
     }
@@ -93,10 +94,10 @@ impl<
         requires room { room ≤ self.now.grammar.limit }
         ensures { Reads (spec.while_rest line (room_of room) tokens.old) result tokens.new }
     {
-        let operands = Operands {
+        let primaries = Primaries {
             grammar: self.grammar,
         };
-        let test = operands.parenthesized(tokens, room)?;
+        let test = primaries.parenthesized(tokens, room)?;
         let body = self.part(tokens, room)?;
         Ok(Stmt::While(line, test, body))
     }
@@ -109,10 +110,10 @@ impl<
     {
         let body = self.part(tokens, room)?;
         tokens.expect_word(Word::While)?;
-        let operands = Operands {
+        let primaries = Primaries {
             grammar: self.grammar,
         };
-        let test = operands.parenthesized(tokens, room)?;
+        let test = primaries.parenthesized(tokens, room)?;
         tokens.expect(Mark::Semicolon)?;
         Ok(Stmt::Do(line, body, test))
     }
@@ -219,11 +220,11 @@ impl<
         requires room { room ≤ self.now.grammar.limit }
         ensures { Reads (spec.switch_rest line (room_of room) tokens.old) result tokens.new }
     {
-        let operands = Operands {
+        let primaries = Primaries {
             grammar: self.grammar,
         };
-        let test = operands.parenthesized(tokens, room)?;
-        let items = operands.block(tokens, room)?;
+        let test = primaries.parenthesized(tokens, room)?;
+        let items = primaries.block(tokens, room)?;
         Ok(Stmt::Switch(line, test, items))
     }
 
@@ -329,10 +330,10 @@ impl<
         requires room { room ≤ self.now.grammar.limit }
         ensures { Reads (and_then (expressions.block (room_of room) tokens.old) (λ items. pure (Stmt.Block items))) result tokens.new }
     {
-        let operands = Operands {
+        let primaries = Primaries {
             grammar: self.grammar,
         };
-        Ok(Stmt::Block(operands.block(tokens, room)?))
+        Ok(Stmt::Block(primaries.block(tokens, room)?))
     }
 
     // A declaration in a block.

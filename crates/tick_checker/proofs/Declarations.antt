@@ -15,9 +15,10 @@ use Rattle.check_tables.specs.Walks.{Rule, ◌>>=◌, lift}
 use Rattle.check_expressions.specs.Rules.{Shape}
 use Rattle.check_statements.specs.Declarations as declarations
 use Rattle.check_statements.specs.Initializers as initializers
-use Rattle.check_walk.specs.Walk.{Start, Nothing, Value, Values, InitParts, Declarations, Stmt-W, with_start, elements}
-use Rattle.check_walk.specs.Walk.{begin, local_type, declare_parts, declare_one, declare_each, declaration_walk}
-use Rattle.check_walk.specs.Walk.{stmt_rule}
+use Rattle.check_walk_spec.specs.Walk.{Start, Nothing, Value, Values, InitParts, Declarations, Stmt-W, with_start}
+use Rattle.check_walk_spec.specs.Walk.{elements}
+use Rattle.check_walk_spec.specs.Walk.{begin, local_type, declare_parts, declare_one, declare_each, declaration_walk}
+use Rattle.check_walk_spec.specs.Walk.{stmt_rule}
 use Rattle.wf_invariant.specs.Good.{GoodShape, any_computed}
 use Rattle.wf_invariant.specs.Items.{MayStand, GoodStatement, GoodItem}
 use Rattle.wf_types.specs.Parts.{EachPart}

@@ -24,7 +24,7 @@ use Rattle.check_globals.specs.Functions.{Given}
 use Rattle.check_globals.specs.Names as names
 use Rattle.check_programs.specs.Parameters.{parameters_of}
 use Rattle.check_programs.specs.Program as program
-use Rattle.check_walk.specs.Walk.{Start, Nothing, Value, Values, InitParts, with_start, declaration, shape, item}
+use Rattle.check_walk_spec.specs.Walk.{Start, Nothing, Value, Values, InitParts, with_start, declaration, shape, item}
 use Rattle.wf_types.specs.Parts.{FixedShape}
 use Rattle.wf_invariant.specs.Good.{any_computed}
 use Rattle.wf_invariant.specs.Kept.{KeepsGlobals}

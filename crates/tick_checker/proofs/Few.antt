@@ -5,7 +5,7 @@ use Rattle.tick_tree.specs.declared.syntax.Stmt.{Stmt}
 use Rattle.tick_tree.specs.declared.syntax.Core.TheOpen.{Expr-F}
 use Rattle.check_env.specs.declared.state.State.{State}
 use Rattle.check_expressions.specs.Rules.{tick_around}
-use Rattle.check_walk.specs.Walk.{item}
+use Rattle.check_walk_spec.specs.Walk.{item}
 use Rattle.wf_growth_rules.specs.Light.{Light, LightNode}
 use Rattle.wf_growth_rules.proofs.Expressions.{block_light}
 use Rattle.tick_tree.specs.Weights.{total, weight, statement_weight, expr_nodes}

@@ -24,7 +24,7 @@ use Rattle.check_statements.specs.Initializers.{is_text, is_array, has_size}
 use Rattle.check_globals.specs.declared.statics.Row.{Row}
 use Rattle.check_globals.specs.Names.{size_by}
 use Rattle.check_globals.specs.Statics as statics
-use Rattle.check_walk.specs.Walk.{Start, Nothing, Value as One, Values}
+use Rattle.check_walk_spec.specs.Walk.{Start, Nothing, Value as One, Values}
 use Rattle.check_programs.specs.Program as program
 use Rattle.wf_invariant.specs.Kept.{KeepsGlobals}
 use Rattle.wf_types.proofs.Walks.{pure_same, pure_value}

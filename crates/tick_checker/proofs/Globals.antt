@@ -21,7 +21,7 @@ use Rattle.check_expressions.specs.Rules.{Shape}
 use Rattle.check_statements.specs.Declarations.{name_by}
 use Rattle.check_globals.specs.Names as names
 use Rattle.check_programs.specs.Program as program
-use Rattle.check_walk.specs.Walk.{Start, Nothing, Value, Values, InitParts, with_start}
+use Rattle.check_walk_spec.specs.Walk.{Start, Nothing, Value, Values, InitParts, with_start}
 use Rattle.wf_values.proofs.Declared.{types_use}
 use Rattle.wf_invariant.specs.Good.{any_computed, GoodShape}
 use Rattle.wf_invariant.specs.Kept.{KeepsGlobals}

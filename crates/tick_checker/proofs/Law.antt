@@ -11,8 +11,8 @@ use Rattle.check_env.specs.declared.state.State.{State}
 use Rattle.check_expressions.specs.Rules as rules
 use Rattle.check_expressions.specs.Rules.{Node, Shape, Item}
 use Rattle.check_programs.specs.Program.{around}
-use Rattle.check_walk.specs.Walk.{Start, Nothing, Value, Values, InitParts, Declarations, declaration, item, init}
-use Rattle.check_walk.proofs.Equations.{at_init, at_declaration}
+use Rattle.check_walk_spec.specs.Walk.{Start, Nothing, Value, Values, InitParts, Declarations, declaration, item, init}
+use Rattle.check_walk_spec.proofs.Equations.{at_init, at_declaration}
 use Rattle.wf_growth_rules.specs.Light.{Light}
 use Rattle.wf_growth_rules.proofs.Expressions.{each_light}
 use Rattle.wellformed.proofs.Viewed.{well_formed}

@@ -31,9 +31,10 @@ use Rattle.check_statements.specs.Rules.{each_step, each_type}
 use Rattle.check_globals.specs.Functions.{Given}
 use Rattle.check_programs.specs.Parameters.{Head, Inner, nothing, inner_rule, head_rule, first_of, list_rule}
 use Rattle.check_programs.specs.Parameters.{given_rule, inner, head, list, written, parameters_of}
-use Rattle.check_walk.specs.Walk.{SuffixWalk, TypeWalk, suffix_walks, type_walks, declarator_walk, core, shape, suffix}
-use Rattle.check_walk.specs.Walk.{parameter, optional}
-use Rattle.check_walk.proofs.Equations.{at_suffix_array, at_suffix_unlisted, at_suffix_nothing, at_suffix_listed}
+use Rattle.check_walk_spec.specs.Walk.{SuffixWalk, TypeWalk, suffix_walks, type_walks, declarator_walk, core, shape}
+use Rattle.check_walk_spec.specs.Walk.{suffix}
+use Rattle.check_walk_spec.specs.Walk.{parameter, optional}
+use Rattle.check_walk_spec.proofs.Equations.{at_suffix_array, at_suffix_unlisted, at_suffix_nothing, at_suffix_listed}
 use Rattle.check_programs.proofs.Heads.{list_listed}
 use Rattle.wf_types.proofs.Walks.{pure_value}
 use Rattle.wf_induction.proofs.Induction.{Core-T, Declarator-T, Suffix-T, walk_core, walk_declarator}

@@ -20,8 +20,8 @@ use Rattle.check_expressions.specs.Rules.{Node, Shape}
 use Rattle.check_statements.specs.Declarations as declarations
 use Rattle.check_statements.specs.Declarations.{length_of}
 use Rattle.check_statements.specs.Rules.{each_step, each_type, list_step, length_step}
-use Rattle.check_walk.specs.Walk.{SuffixWalk, TypeWalk, Core-W, Suffix-W, core_rule, suffix_walk, suffix_walks}
-use Rattle.check_walk.specs.Walk.{type_walks, declarator_walk, parameter_walk, shape}
+use Rattle.check_walk_spec.specs.Walk.{SuffixWalk, TypeWalk, Core-W, Suffix-W, core_rule, suffix_walk, suffix_walks}
+use Rattle.check_walk_spec.specs.Walk.{type_walks, declarator_walk, parameter_walk, shape}
 use Rattle.wf_types.specs.Parts.{EachPart}
 use Rattle.wf_types.proofs.Walks.{pure_value}
 use Rattle.wf_induction.specs.Asked.{Asked, RulesKeep, EveryCore, EverySuffix}

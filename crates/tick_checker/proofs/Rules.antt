@@ -3,10 +3,11 @@ use Rattle.std.proofs.Common.{ℕ, refl, List}
 use Rattle.tick_tree.specs.declared.syntax.Core.TheOpen.{Core-F, Expr-F, Initializer-F, OptionalExpr-F, Stmt-F}
 use Rattle.tick_tree.specs.declared.syntax.Core.TheOpen.{Suffix-F}
 use Rattle.check_expressions.specs.Rules.{tick_around}
-use Rattle.check_walk.specs.Walk.{Core-W, Expr-W, Initializer-W, OptionalExpr-W, Stmt-W, Suffix-W, Declarator-W}
-use Rattle.check_walk.specs.Walk.{Declaration-W, Init-W, Parameter-W, Typename-W, core_rule, expr_rule, start_rule}
-use Rattle.check_walk.specs.Walk.{optional_rule, suffix_walk, suffix_of, declarator_rule, declaration_rule, init_rule}
-use Rattle.check_walk.specs.Walk.{parameter_rule, typename_rule, stmt_rule, declaration_walk}
+use Rattle.check_walk_spec.specs.Walk.{Core-W, Expr-W, Initializer-W, OptionalExpr-W, Stmt-W, Suffix-W, Declarator-W}
+use Rattle.check_walk_spec.specs.Walk.{Declaration-W, Init-W, Parameter-W, Typename-W, core_rule, expr_rule, start_rule}
+use Rattle.check_walk_spec.specs.Walk.{optional_rule, suffix_walk, suffix_of, declarator_rule, declaration_rule}
+use Rattle.check_walk_spec.specs.Walk.{init_rule}
+use Rattle.check_walk_spec.specs.Walk.{parameter_rule, typename_rule, stmt_rule, declaration_walk}
 use Rattle.wf_invariant.specs.Good.{GoodNode, GoodShape, GoodSuffix, GoodParameter, GoodNamed}
 use Rattle.wf_invariant.specs.Items.{GoodItem}
 use Rattle.wf_expressions.proofs.Walk.{walk_does}

@@ -13,7 +13,7 @@ use Rattle.check_statements.specs.Declarations.{name_by}
 use Rattle.check_globals.specs.Programs.{typed}
 use Rattle.check_programs.specs.Parameters.{parameters_of}
 use Rattle.check_programs.specs.Program as program
-use Rattle.check_walk.specs.Walk.{declaration, shape, item}
+use Rattle.check_walk_spec.specs.Walk.{declaration, shape, item}
 use Rattle.wellformed.specs.Accepted as accepted
 use Rattle.wf_invariant.specs.Kept.{Starts}
 use Rattle.wf_invariant.specs.Steps.{EachTick}

@@ -18,7 +18,7 @@ use Rattle.check_expressions.specs.Rules.{Node}
 use Rattle.check_statements.specs.Initializers.{is_text, has_size, value_breaks}
 use Rattle.check_globals.specs.declared.statics.Row.{Row}
 use Rattle.check_globals.specs.Statics as statics
-use Rattle.check_walk.specs.Walk.{Start, Nothing, Value as One, Values}
+use Rattle.check_walk_spec.specs.Walk.{Start, Nothing, Value as One, Values}
 use Rattle.check_programs.specs.Program as program
 use Rattle.wf_invariant.specs.Good.{Plain}
 use Rattle.wf_types.proofs.Walks.{pure_same, pure_value}

@@ -11,8 +11,9 @@ use Rattle.tick_tree.specs.declared.syntax.Declarator.{Declarator, roll-Declarat
 use Rattle.tick_tree.specs.declared.syntax.Init.{roll-Init}
 use Rattle.tick_tree.specs.declared.syntax.Parameter.{roll-Parameter}
 use Rattle.tick_tree.specs.declared.syntax.Typename.{roll-Typename}
-use Rattle.check_walk.specs.Walk.{core, node, initializer, optional, item, suffix, declaration, shape, init, parameter}
-use Rattle.check_walk.specs.Walk.{named}
+use Rattle.check_walk_spec.specs.Walk.{core, node, initializer, optional, item, suffix, declaration, shape, init}
+use Rattle.check_walk_spec.specs.Walk.{parameter}
+use Rattle.check_walk_spec.specs.Walk.{named}
 use Rattle.tick_tree.specs.Weights.{core_weight, weight, initializer_weight, optional_weight, statement_weight}
 use Rattle.tick_tree.specs.Weights.{suffix_weight, declaration_weight, declarator_weight, init_weight, parameter_weight}
 use Rattle.tick_tree.specs.Weights.{typename_weight}

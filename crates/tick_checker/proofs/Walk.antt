@@ -14,7 +14,7 @@ use Rattle.check_statements.specs.Declarations.{name_by}
 use Rattle.check_globals.specs.Functions.{Given}
 use Rattle.check_programs.specs.Parameters.{parameters_of}
 use Rattle.check_programs.specs.Program as program
-use Rattle.check_walk.specs.Walk.{declaration, shape, item}
+use Rattle.check_walk_spec.specs.Walk.{declaration, shape, item}
 use Rattle.wf_types.proofs.Walks.{pure_same}
 use Rattle.wf_types.proofs.Fronts.{starts_same}
 use Rattle.tick_checker.proofs.Done.{made_function, made_state, is_made}

@@ -8,7 +8,7 @@ use Rattle.check_operators.specs.declared.operand.Operand.{Operand}
 use Rattle.check_env.specs.declared.state.Stage.{Stage}
 use Rattle.check_env.specs.declared.state.State.{State}
 use Rattle.check_expressions.specs.Rules.{Item, block, tick_around, walk_rule}
-use Rattle.check_walk.specs.Walk.{Expr-W}
+use Rattle.check_walk_spec.specs.Walk.{Expr-W}
 use Rattle.wf_invariant.specs.Good.{GoodNode, GoodShape, GoodSuffix, GoodParameter, GoodNamed}
 use Rattle.wf_invariant.specs.Items.{GoodItem, Few}
 use Rattle.wf_types.specs.Parts.{GoodOptional}

@@ -1,6 +1,6 @@
 -- What is asked of the declarators of a declaration in a block.
 use Rattle.std.specs.Prelude.{ℕ, List}
-use Rattle.check_walk.specs.Walk.{Start, Nothing, Value, Values, InitParts, Declarations}
+use Rattle.check_walk_spec.specs.Walk.{Start, Nothing, Value, Values, InitParts, Declarations}
 use Rattle.wf_invariant.specs.Good.{GoodNode, GoodShape}
 use Rattle.wf_types.specs.Parts.{EachPart}
 

@@ -2,6 +2,7 @@
 use Rattle.std.proofs.Common.{◌≡◌, ℕ, ◌+◌, ◌*◌, ◌≤◌, List, [], ◌∷◌, length, map, refl, ap, sym, subst, ◌∙◌, Result, Ok}
 use Rattle.std.proofs.Common.{Err, arith}
 use Rattle.std.proofs.lemmas.List.{length-map}
+use Rattle.limits.specs.declared.text.TheConstants.{MAX_TOKENS}
 use Rattle.tick_tree.specs.declared.fault.Fault.{Fault}
 use Rattle.tick_tree.specs.declared.syntax.External.{External}
 use Rattle.tick_tree.specs.declared.tree.Tree.{Tree}
@@ -79,20 +80,21 @@ unfolding outcome
 outcome_spells i xs e = program_spells i (program (room_of max_nesting) i) xs (program_says max_nesting i) e
 
 -- what the grammar reads of so few tokens
-pub outcome_is_text : (i : List Item) (xs : List External) → length i ≤ 262144 → outcome i ≡ Ok xs → IsText xs
+pub outcome_is_text : (i : List Item) (xs : List External) → length i ≤ MAX_TOKENS → outcome i ≡ Ok xs → IsText xs
 outcome_is_text i xs few e =
     record { named = outcome_named i xs e; small = omega (arith, few, few_items i xs (outcome_spells i xs e)) }
 
-items_few : (text : Text) (tokens : List Token) → length tokens ≤ 262144 → length (items_of text tokens) ≤ 262144
-items_few text tokens few = subst (λ n. n ≤ 262144) (sym (length-map tokens (item_of text))) few
+items_few : (text : Text) (tokens : List Token) → length tokens ≤ MAX_TOKENS →
+    length (items_of text tokens) ≤ MAX_TOKENS
+items_few text tokens few = subst (λ n. n ≤ MAX_TOKENS) (sym (length-map tokens (item_of text))) few
 
-pub is_text : (text : Text) (tokens : List Token) (i : List Item) (xs : List External) → length tokens ≤ 262144 →
+pub is_text : (text : Text) (tokens : List Token) (i : List Item) (xs : List External) → length tokens ≤ MAX_TOKENS →
     i ≡ items_of text tokens → outcome i ≡ Ok xs → IsText xs
 is_text text tokens i xs few same e =
-    outcome_is_text i xs (subst (λ (j : List Item). length j ≤ 262144) (sym same) (items_few text tokens few)) e
+    outcome_is_text i xs (subst (λ (j : List Item). length j ≤ MAX_TOKENS) (sym same) (items_few text tokens few)) e
 
 judged_is_text : (text : Text) (tokens : List Token) (r : Result (List External) Stop) (t : Tree) →
-    length tokens ≤ 262144 → outcome (items_of text tokens) ≡ r → judged text tokens r ≡ Ok t → IsText t.items
+    length tokens ≤ MAX_TOKENS → outcome (items_of text tokens) ≡ r → judged text tokens r ≡ Ok t → IsText t.items
 judged_is_text text tokens (Ok xs) t few o e =
     subst (λ (z : Tree). IsText z.items) (same_tree (record { items = xs }) t e)
     (is_text text tokens (items_of text tokens) xs few refl o)

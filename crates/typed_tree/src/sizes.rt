@@ -1,23 +1,25 @@
 //! How many nodes an expression or a statement has, and whether an expression leaves a value.
 
 ghost use Rattle.std.specs.Prelude.{◌≡◌, ◌+◌, min};
+ghost use Rattle.limits.specs.declared.program.TheConstants.{NODE_TOP};
 ghost use Rattle.typed_tree.specs.Sizes as spec;
 
 use crate::expression::{Answer, Expr, Library, Stmt};
 use crate::program::TickBody;
+use limits::program::NODE_TOP;
 
-// The sum, or 65,536 where it is more.
+// The sum, or `NODE_TOP` where it is more.
 fn plus(a: u32, b: u32) -> u32
-    ensures { result ≡ min (a + b) 65536 }
+    ensures { result ≡ min (a + b) NODE_TOP }
 {
-    (u64::from(a) + u64::from(b)).min(65536) as u32
+    (u64::from(a) + u64::from(b)).min(u64::from(NODE_TOP)) as u32
 }
 
-/// How many nodes an expression has, or 65,536 where it has more. A limit on sizes is far below.
+/// How many nodes an expression has, or `NODE_TOP` where it has more.
 #[cycle(size)]
 #[tactic(auto, using(crate::proofs::SizeLaws::expressions))]
 pub fn size(e: &Expr) -> u32
-    ensures { result ≡ min (spec.size e.now) 65536 }
+    ensures { result ≡ min (spec.size e.now) NODE_TOP }
 {
     match e {
         Expr::Const(_) | Expr::Captured(_, _) | Expr::Var(_) | Expr::PostVar(_, _, _) => 1,
@@ -45,11 +47,11 @@ pub fn size(e: &Expr) -> u32
     }
 }
 
-// How many nodes these expressions have together, or 65,536 where they have more.
+// How many nodes these expressions have together, or `NODE_TOP` where they have more.
 #[cycle(size)]
 #[tactic(auto, using(crate::proofs::Totals::one_more))]
 fn list_size(list: &[Expr]) -> u32
-    ensures { result ≡ min (spec.size_list list.now) 65536 }
+    ensures { result ≡ min (spec.size_list list.now) NODE_TOP }
 {
     let mut found = 0;
     for e in list {
@@ -58,11 +60,11 @@ fn list_size(list: &[Expr]) -> u32
     found
 }
 
-/// How many nodes a statement has, or 65,536 where it has more.
+/// How many nodes a statement has, or `NODE_TOP` where it has more.
 #[cycle(statement_size)]
 #[tactic(auto, using(crate::proofs::SizeLaws::statements))]
 pub fn statement_size(s: &Stmt) -> u32
-    ensures { result ≡ min (spec.statement_size s.now) 65536 }
+    ensures { result ≡ min (spec.statement_size s.now) NODE_TOP }
 {
     match s {
         Stmt::Variable(_) | Stmt::Object(_, _) | Stmt::Parameter(_, _) => 1,
@@ -94,11 +96,11 @@ pub fn statement_size(s: &Stmt) -> u32
     }
 }
 
-// How many nodes these statements have together, or 65,536 where they have more.
+// How many nodes these statements have together, or `NODE_TOP` where they have more.
 #[cycle(statement_size)]
 #[tactic(auto, using(crate::proofs::Totals::one_statement_more))]
 fn statements_size(list: &[Stmt]) -> u32
-    ensures { result ≡ min (spec.statements_size list.now) 65536 }
+    ensures { result ≡ min (spec.statements_size list.now) NODE_TOP }
 {
     let mut found = 0;
     for s in list {
@@ -107,9 +109,9 @@ fn statements_size(list: &[Stmt]) -> u32
     found
 }
 
-/// How many nodes the body of a tick has, or 65,536 where it has more.
+/// How many nodes the body of a tick has, or `NODE_TOP` where it has more.
 pub fn body_size(body: &TickBody) -> u32
-    ensures { result ≡ min (spec.body_size body.now) 65536 }
+    ensures { result ≡ min (spec.body_size body.now) NODE_TOP }
 {
     match body {
         TickBody::Expression(e) => size(e.get()),

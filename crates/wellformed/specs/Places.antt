@@ -1,10 +1,10 @@
 -- Where the nodes of a typed tree stand: variables in the scope of their block, `break` and `continue` in what they
--- leave, the
--- labels of a switch right in its block, what a tick captured in that tick, and what makes specifications in functions
--- alone. These are `C's rules, as far as they concern nodes.
+-- leave, the labels of a switch right in its block, what a tick captured in that tick, and what makes specifications in
+-- functions alone. These are `C's rules, as far as they concern nodes.
 use Rattle.std.specs.Prelude.{ℕ, ◌+◌, ◌-◌, ◌*◌, ◌%◌, ◌==◌, Bool, true, false, not, ◌&&◌, ◌||◌, nat_le, List, [], ◌∷◌}
 use Rattle.std.specs.Prelude.{◌++◌, length, take, drop, slice_get, Option, Some, None}
 use Rattle.std.specs.List.{list_any, list_all}
+use Rattle.limits.specs.declared.program.TheConstants.{MOST_ARGUMENTS}
 use Rattle.typed_tree.specs.declared.expression.Answer.{Answer}
 use Rattle.typed_tree.specs.declared.expression.Answer.TheVariants as answer
 use Rattle.typed_tree.specs.declared.expression.CaptureKind.{CaptureKind}
@@ -131,7 +131,7 @@ kinds_of (p ∷ ps) = p.capture ++ kinds_of ps
 
 -- no call has more arguments
 abbrev pub are_few : ℕ → Bool
-are_few n = nat_le n 8
+are_few n = nat_le n MOST_ARGUMENTS
 
 abbrev pub takes : ℕ → Option ℕ → Bool
 takes n None = false

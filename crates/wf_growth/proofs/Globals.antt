@@ -26,7 +26,7 @@ use Rattle.check_globals.specs.declared.statics.Row.{Row}
 use Rattle.check_globals.specs.Names as names
 use Rattle.check_globals.specs.Statics as statics
 use Rattle.check_programs.specs.Program as program
-use Rattle.check_walk.specs.Walk.{Start, Nothing, Value, Values, InitParts, Declarations}
+use Rattle.check_walk_spec.specs.Walk.{Start, Nothing, Value, Values, InitParts, Declarations}
 use Rattle.wf_growth_rules.specs.Light.{Light, After, Bounded, LightNode, Each, none, more}
 use Rattle.wf_growth_rules.proofs.Walks.{weak, by_after, after, pure_light, lift_light, bind_light, light_first}
 use Rattle.wf_growth_rules.proofs.States.{same_light, declare_light}

@@ -14,7 +14,7 @@ use Rattle.check_env.specs.declared.state.State.{State}
 use Rattle.check_env.specs.Starts as starts
 use Rattle.check_programs.specs.Parameters.{parameters_of}
 use Rattle.check_programs.specs.Program as program
-use Rattle.check_walk.specs.Walk.{item}
+use Rattle.check_walk_spec.specs.Walk.{item}
 use Rattle.wf_growth_rules.specs.Light.{After, Bounded, LightItem, Each}
 use Rattle.wf_growth.specs.Fresh.{Fresh}
 use Rattle.tick_tree.specs.Weights.{total, weight, statement_weight, declarator_weight, item_weight, tree_weight}

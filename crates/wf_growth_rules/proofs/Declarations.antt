@@ -11,8 +11,8 @@ use Rattle.check_env.specs.declared.state.Stage.{Stage}
 use Rattle.check_expressions.specs.Rules.{Node, Shape}
 use Rattle.check_statements.specs.Declarations as declarations
 use Rattle.check_statements.specs.Initializers as initializers
-use Rattle.check_walk.specs.Walk as walk
-use Rattle.check_walk.specs.Walk.{Start, Nothing, Value, Values, InitParts, Declarations, SuffixWalk, TypeWalk}
+use Rattle.check_walk_spec.specs.Walk as walk
+use Rattle.check_walk_spec.specs.Walk.{Start, Nothing, Value, Values, InitParts, Declarations, SuffixWalk, TypeWalk}
 use Rattle.wf_growth_rules.specs.Light.{Bounded, LightNode, LightShape, LightSuffix, LightNamed, LightType, Each, none}
 use Rattle.wf_growth_rules.specs.Light.{more}
 use Rattle.wf_growth_rules.proofs.Walks.{weak, pure_light, lift_light, bind_light}

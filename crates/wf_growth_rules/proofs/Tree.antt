@@ -24,9 +24,12 @@ use Rattle.tick_tree.specs.declared.syntax.Core.TheFolds.{ind-Declaration, ind-D
 use Rattle.tick_tree.specs.declared.syntax.Core.TheFolds.{ind-Typename}
 use Rattle.check_operators.specs.Operands as nodes
 use Rattle.check_statements.specs.Rules as statement_rules
-use Rattle.check_walk.specs.Walk.{core_rule, expr_rule, start_rule, optional_rule, stmt_rule, suffix_walk, type_walks}
-use Rattle.check_walk.specs.Walk.{declaration_rule, declarator_rule, init_rule, parameter_rule, typename_rule, core}
-use Rattle.check_walk.specs.Walk.{node, initializer, optional, item, suffix, declaration, shape, init, parameter, named}
+use Rattle.check_walk_spec.specs.Walk.{core_rule, expr_rule, start_rule, optional_rule, stmt_rule, suffix_walk}
+use Rattle.check_walk_spec.specs.Walk.{type_walks}
+use Rattle.check_walk_spec.specs.Walk.{declaration_rule, declarator_rule, init_rule, parameter_rule, typename_rule}
+use Rattle.check_walk_spec.specs.Walk.{core}
+use Rattle.check_walk_spec.specs.Walk.{node, initializer, optional, item, suffix, declaration, shape, init, parameter}
+use Rattle.check_walk_spec.specs.Walk.{named}
 use Rattle.wf_growth_rules.specs.Light.{LightNode, LightShape, LightItem, LightNamed, LightOptional, absent, present}
 use Rattle.wf_growth_rules.specs.Light.{Each, none, more}
 use Rattle.wf_growth_rules.proofs.Walks.{weak, pure_light, lift_light}

@@ -10,9 +10,10 @@ use Rattle.check_env.specs.declared.state.Stage.{Stage}
 use Rattle.check_env.specs.declared.state.State.{State}
 use Rattle.check_tables.specs.Walks.{Rule}
 use Rattle.check_statements.specs.Declarations as declarations
-use Rattle.check_walk.specs.Walk.{Start, Nothing, Value, Values, Core-W, Declarator-W, Suffix-W, Typename-W}
-use Rattle.check_walk.specs.Walk.{Parameter-W, core_rule, declarator_rule, suffix_walk, suffix_of, SuffixWalk, TypeWalk}
-use Rattle.check_walk.specs.Walk.{suffix_walks, type_walks, typename_rule, parameter_rule, with_start}
+use Rattle.check_walk_spec.specs.Walk.{Start, Nothing, Value, Values, Core-W, Declarator-W, Suffix-W, Typename-W}
+use Rattle.check_walk_spec.specs.Walk.{Parameter-W, core_rule, declarator_rule, suffix_walk, suffix_of, SuffixWalk}
+use Rattle.check_walk_spec.specs.Walk.{TypeWalk}
+use Rattle.check_walk_spec.specs.Walk.{suffix_walks, type_walks, typename_rule, parameter_rule, with_start}
 use Rattle.wf_invariant.specs.Good.{any_computed, GoodShape, GoodNamed, GoodParameter, GoodSuffix}
 use Rattle.wf_types.specs.Parts.{EachPart, GoodSuffixParts}
 use Rattle.wf_types.proofs.Lengths.{computed_filled, type_not_computed}

@@ -4,8 +4,8 @@ use Rattle.check_declarators.specs.declared.steps.Role.TheVariants as role
 use Rattle.check_declarators.specs.Making.{declared_type}
 use Rattle.check_declarators.specs.Words as words
 use Rattle.tick_tree.specs.declared.syntax.Core.TheOpen.{Core-F, Expr-F, Suffix-F, OptionalExpr-F}
-use Rattle.check_walk.specs.Walk.{Core-W, Expr-W, OptionalExpr-W, Suffix-W, core_rule, expr_rule, optional_rule}
-use Rattle.check_walk.specs.Walk.{suffix_walk, suffix_of, suffix_walks}
+use Rattle.check_walk_spec.specs.Walk.{Core-W, Expr-W, OptionalExpr-W, Suffix-W, core_rule, expr_rule, optional_rule}
+use Rattle.check_walk_spec.specs.Walk.{suffix_walk, suffix_of, suffix_walks}
 use Rattle.wf_types.specs.Parts.{FixedNode, FixedNamed, FixedShape, FixedSuffix, FixedParameter, FixedOptional}
 use Rattle.wf_types.specs.Parts.{FixedParts, FixedSuffixParts}
 use Rattle.wf_types.proofs.Lengths.{type_not_computed}

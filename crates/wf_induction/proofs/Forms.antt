@@ -3,7 +3,7 @@ use Rattle.std.proofs.Common.{◌≡◌, true, false}
 use Rattle.std.specs.Prelude.{◌&&◌, is_some}
 use Rattle.check_forms.specs.Forms.{is_strict}
 use Rattle.tick_tree.specs.declared.syntax.Core.TheOpen.{Expr-F}
-use Rattle.check_walk.specs.Walk.{Expr-W, written_rule}
+use Rattle.check_walk_spec.specs.Walk.{Expr-W, written_rule}
 use Rattle.wellformed.proofs.Bools.{first_true, second_true}
 use Rattle.wf_types.specs.Parts.{HasForm, IsString}
 

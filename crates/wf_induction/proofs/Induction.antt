@@ -26,11 +26,16 @@ use Rattle.tick_tree.specs.declared.syntax.Core.TheFolds.{fold-roll-Initializer,
 use Rattle.tick_tree.specs.declared.syntax.Core.TheFolds.{fold-roll-Suffix, fold-roll-Declaration, fold-roll-Declarator}
 use Rattle.tick_tree.specs.declared.syntax.Core.TheFolds.{fold-roll-Init, fold-roll-Parameter, fold-roll-Typename}
 use Rattle.check_expressions.specs.Rules.{Node, Named, Shape, Item}
-use Rattle.check_walk.specs.Walk.{Start, InitParts, Declarations, SuffixWalk, TypeWalk, Core-W, Expr-W, Initializer-W}
-use Rattle.check_walk.specs.Walk.{OptionalExpr-W, Stmt-W, Suffix-W, Declaration-W, Declarator-W, Init-W, Parameter-W}
-use Rattle.check_walk.specs.Walk.{Typename-W, core_rule, expr_rule, start_rule, optional_rule, stmt_rule, suffix_walk}
-use Rattle.check_walk.specs.Walk.{declaration_rule, declarator_rule, init_rule, parameter_rule, typename_rule, core}
-use Rattle.check_walk.specs.Walk.{node, initializer, optional, item, suffix, declaration, shape, init, parameter, named}
+use Rattle.check_walk_spec.specs.Walk.{Start, InitParts, Declarations, SuffixWalk, TypeWalk, Core-W, Expr-W}
+use Rattle.check_walk_spec.specs.Walk.{Initializer-W}
+use Rattle.check_walk_spec.specs.Walk.{OptionalExpr-W, Stmt-W, Suffix-W, Declaration-W, Declarator-W, Init-W}
+use Rattle.check_walk_spec.specs.Walk.{Parameter-W}
+use Rattle.check_walk_spec.specs.Walk.{Typename-W, core_rule, expr_rule, start_rule, optional_rule, stmt_rule}
+use Rattle.check_walk_spec.specs.Walk.{suffix_walk}
+use Rattle.check_walk_spec.specs.Walk.{declaration_rule, declarator_rule, init_rule, parameter_rule, typename_rule}
+use Rattle.check_walk_spec.specs.Walk.{core}
+use Rattle.check_walk_spec.specs.Walk.{node, initializer, optional, item, suffix, declaration, shape, init, parameter}
+use Rattle.check_walk_spec.specs.Walk.{named}
 use Rattle.wf_types.specs.Parts.{EachPart}
 use Rattle.wf_induction.specs.Asked.{Asked, EveryCore, EveryExpr, EveryInitializer, EveryOptionalExpr, EveryStmt}
 use Rattle.wf_induction.specs.Asked.{EverySuffix, EveryDeclaration, EveryDeclarator, EveryInit, EveryParameter}

@@ -3,10 +3,13 @@ use Rattle.std.specs.Prelude.{Option}
 use Rattle.tick_tree.specs.declared.syntax.Core.TheOpen.{Core-F, Expr-F, Initializer-F, OptionalExpr-F, Stmt-F}
 use Rattle.tick_tree.specs.declared.syntax.Core.TheOpen.{Suffix-F}
 use Rattle.check_expressions.specs.Rules.{Node, Named, Shape, Item}
-use Rattle.check_walk.specs.Walk.{Start, InitParts, Declarations, SuffixWalk, TypeWalk, Core-W, Expr-W, Initializer-W}
-use Rattle.check_walk.specs.Walk.{OptionalExpr-W, Stmt-W, Suffix-W, Declaration-W, Declarator-W, Init-W, Parameter-W}
-use Rattle.check_walk.specs.Walk.{Typename-W, core_rule, expr_rule, start_rule, optional_rule, stmt_rule, suffix_walk}
-use Rattle.check_walk.specs.Walk.{declaration_rule, declarator_rule, init_rule, parameter_rule, typename_rule}
+use Rattle.check_walk_spec.specs.Walk.{Start, InitParts, Declarations, SuffixWalk, TypeWalk, Core-W, Expr-W}
+use Rattle.check_walk_spec.specs.Walk.{Initializer-W}
+use Rattle.check_walk_spec.specs.Walk.{OptionalExpr-W, Stmt-W, Suffix-W, Declaration-W, Declarator-W, Init-W}
+use Rattle.check_walk_spec.specs.Walk.{Parameter-W}
+use Rattle.check_walk_spec.specs.Walk.{Typename-W, core_rule, expr_rule, start_rule, optional_rule, stmt_rule}
+use Rattle.check_walk_spec.specs.Walk.{suffix_walk}
+use Rattle.check_walk_spec.specs.Walk.{declaration_rule, declarator_rule, init_rule, parameter_rule, typename_rule}
 use Rattle.wf_types.specs.Parts.{EachPart}
 
 pub record Asked : Type 1 where

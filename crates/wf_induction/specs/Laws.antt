@@ -4,7 +4,7 @@
 use Rattle.tick_tree.specs.declared.syntax.Declarator.{Declarator}
 use Rattle.tick_tree.specs.declared.syntax.Expr.{Expr}
 use Rattle.tick_tree.specs.declared.syntax.Typename.{Typename}
-use Rattle.check_walk.specs.Walk.{node, shape, named}
+use Rattle.check_walk_spec.specs.Walk.{node, shape, named}
 use Rattle.wf_types.specs.Parts.{FixedNode, FixedNamed, FixedShape}
 
 pub record WalksAreFixed : Type 0 where

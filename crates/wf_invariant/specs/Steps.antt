@@ -2,6 +2,7 @@
 use Rattle.std.specs.Prelude.{◌≡◌, ℕ, min, ◌≤◌, Bool, true, false, nat_le, List, [], ◌∷◌, ◌++◌, length, map, slice_get}
 use Rattle.std.specs.Prelude.{Option, Some, None, Ok}
 use Rattle.std.specs.List.{list_all}
+use Rattle.limits.specs.declared.program.TheConstants.{NODE_TOP}
 use Rattle.typed_tree.specs.declared.expression.CaptureKind.{CaptureKind}
 use Rattle.typed_tree.specs.declared.expression.CaptureKind.TheVariants as capture
 use Rattle.typed_tree.specs.declared.expression.Expr.{Expr}
@@ -84,7 +85,7 @@ pub record TickStands (a : Around) (t : Tick) (ks : List CaptureKind) : Type 0 w
   pub stands : stands_as_tick t.body (round_tick a ks) ≡ true
   pub values : body_uses_values t.body ≡ true
   pub numbers : IsNumbered t.body
-  pub size : t.size ≡ min (body_size t.body) 65536
+  pub size : t.size ≡ min (body_size t.body) NODE_TOP
 
 abbrev pub EachTick : Around → List Tick → List (List CaptureKind) → Type 0
 EachTick a [] [] = Unit {0}

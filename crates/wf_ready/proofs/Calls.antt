@@ -6,6 +6,7 @@ use Rattle.std.specs.Prelude.{option_map}
 use Rattle.std.specs.List.{list_all}
 use Rattle.std.proofs.lemmas.Bool.Decides.{nat_tests}
 use Rattle.std.proofs.lemmas.Option.{slice_get-map}
+use Rattle.limits.specs.declared.program.TheConstants.{MOST_ARGUMENTS}
 use Rattle.meaning_state.specs.Rows.{numbered}
 use Rattle.typed_tree.specs.declared.expression.CaptureKind.{CaptureKind}
 use Rattle.typed_tree.specs.Nodes as node
@@ -22,7 +23,7 @@ as_many : (args : Args) → length (fold_args expr_rule args) ≡ count args
 as_many node.NoArg = refl
 as_many (node.Arg e args) = ap suc (as_many args)
 
-few_of : (n : ℕ) → are_few n ≡ true → n ≤ 8
+few_of : (n : ℕ) → are_few n ≡ true → n ≤ MOST_ARGUMENTS
 few_of n h = grind (arith, nat_tests)
 
 -- ---- the function of a number

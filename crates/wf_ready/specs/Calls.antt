@@ -1,5 +1,7 @@
--- The calls in a body: a static call has as many arguments as its function has parameters, and no call has more than 8.
+-- The calls in a body: a static call has as many arguments as its function has parameters, and no call has more than
+-- `MOST_ARGUMENTS`.
 use Rattle.std.specs.Prelude.{◌≡◌, ℕ, ◌≤◌, List, Some}
+use Rattle.limits.specs.declared.program.TheConstants.{MOST_ARGUMENTS}
 use Rattle.meaning_state.specs.Rows.{numbered}
 use Rattle.typed_tree.specs.Nodes as node
 use Rattle.typed_tree.specs.Nodes.{Expr, Args, Stmt, Items, Function, TickBody, count}
@@ -9,7 +11,7 @@ pub record IsCallee (fs : List Function) (f arguments : ℕ) : Type 0 where
   pub function : Function
   pub is : numbered f fs ≡ Some function
   pub parameters : function.parameters ≡ arguments
-  pub few : arguments ≤ 8
+  pub few : arguments ≤ MOST_ARGUMENTS
 
 abbrev mutual
   -- each call in an expression is such a one
@@ -28,7 +30,7 @@ abbrev mutual
   HasCalls fs (node.Comma e f) = HasCalls fs e × HasCalls fs f
   HasCalls fs (node.Void e) = HasCalls fs e
   HasCalls fs (node.Call r f args) = IsCallee fs f (count args) × HaveCalls fs args
-  HasCalls fs (node.CallNumber r e args) = (count args ≤ 8) × HasCalls fs e × HaveCalls fs args
+  HasCalls fs (node.CallNumber r e args) = (count args ≤ MOST_ARGUMENTS) × HasCalls fs e × HaveCalls fs args
   HasCalls fs (node.Lib f e) = HasCalls fs e
   HasCalls fs (node.Tick t args) = HaveCalls fs args
   HasCalls fs (node.Capture k e) = HasCalls fs e

@@ -3,6 +3,10 @@
 //! Addresses and lengths are in bytes, unless a name says words. All of them are multiples of 4, so an aligned access
 //! that begins in a region ends in it.
 
+/// The bytes of a segment, 256 MB. A jump goes to an address of the segment in which its delay slot stands, after the
+/// MIPS R2000 architecture manual. All code stands in the first segment, so a jump reaches all of it.
+pub const SEGMENT_BYTES: u32 = 0x1000_0000;
+
 /// The text: the image's words. It is loaded and executed, and a store to it is refused.
 pub const TEXT: u32 = 0x0040_0000;
 /// The most bytes that the text has.

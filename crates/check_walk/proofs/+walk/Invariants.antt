@@ -6,8 +6,8 @@ use Rattle.tick_tree.specs.declared.syntax.Initializer.{size-Initializer}
 use Rattle.tick_tree.specs.declared.syntax.OptionalExpr.{size-OptionalExpr}
 use Rattle.tick_tree.specs.declared.syntax.Stmt.{size-Stmt}
 use Rattle.check_statements.specs.Rules as statements
-use Rattle.check_walk.specs.Walk as spec
-use Rattle.check_walk.proofs.Loops.{after}
+use Rattle.check_walk_spec.specs.Walk as spec
+use Rattle.check_walk_spec.proofs.Loops.{after}
 use Rattle.check_walk.proofs.+walk.Given as goal
 
 -- each function takes the parts of a value, or passes a value on to one of a lower rank

@@ -1,6 +1,6 @@
 use Rattle.std.proofs.Common.{◌≡◌, drop, map}
 use Rattle.check_programs.specs.Program as spec
-use Rattle.check_walk.specs.Walk as walks
+use Rattle.check_walk_spec.specs.Walk as walks
 use Rattle.check_programs.proofs.program.globals.Given as goal
 
 -- the declarators so far, and those to come

@@ -1,6 +1,6 @@
 use Rattle.std.proofs.Common.{◌≡◌, drop, map}
 use Rattle.check_programs.specs.Program as spec
-use Rattle.check_walk.specs.Walk as walks
+use Rattle.check_walk_spec.specs.Walk as walks
 use Rattle.check_programs.proofs.program.walked.Given as goal
 
 -- the values so far, and those to come

@@ -2,7 +2,7 @@ use Rattle.std.proofs.Common.{◌≡◌, ◌≤◌}
 use Rattle.parse_grammar.specs.Expressions.{postfix, postfix_kind, postfix_step}
 use Rattle.parse_grammar.specs.Statements.{room_of}
 use Rattle.parse_grammar.specs.Steps.{chain}
-use Rattle.parse_operands.proofs.operands.Operands.postfix.Given as goal
+use Rattle.parse_operands.proofs.postfixes.Operands.postfix.Given as goal
 
 abbrev pub invariant-loop-op : goal.invariant-loop-op
 invariant-loop-op g l = record {

@@ -15,9 +15,9 @@ use sqlite_items::Items;
 use std::alloc::Global;
 use tick_tree::{Declarator, Expr, Stmt};
 
-/// The productions of operands. Each takes the number of levels that may still open.
+/// The productions of primary expressions, and of the lists in brackets. Each takes the number of levels that may still open.
 #[derive(Clone, Copy)]
-pub struct Operands<F, S, D> {
+pub struct Primaries<F, S, D> {
     /// Reads what stands deeper.
     pub grammar: Grammar<F, S, D>,
 }
@@ -26,7 +26,7 @@ impl<
     F: Fn(Global, &mut Tokens<'_>, usize, Part) -> Result<Expr, Stop> + Copy,
     S: Fn(Global, &mut Tokens<'_>, usize) -> Result<Stmt, Stop> + Copy,
     D: Fn(Global, &mut Tokens<'_>, usize, Mode) -> Result<Declarator, Stop> + Copy,
-> Operands<F, S, D> {
+> Primaries<F, S, D> {
     #[tactic(auto, unfolding(parse_grammar::specs::Steps::separated, parse_grammar::specs::Steps::following_from))]
     fn separated(&self, tokens: &mut Tokens<'_>, room: usize) -> Result<Items<Expr>, Stop>
         requires nests { Nests self.now.grammar.limit (F.pre self.now.grammar.expr) (F.post self.now.grammar.expr) (S.pre self.now.grammar.stmt) (S.post self.now.grammar.stmt) (D.pre self.now.grammar.declarator) (D.post self.now.grammar.declarator) }
@@ -44,13 +44,11 @@ impl<
         Ok(found)
     }
 
-    // Behind the opening parenthesis of a call.
+    /// The arguments of a call, from behind its opening parenthesis on.
+    ///
+    /// Syntax or TooDeep exactly at the first token that the production doesn't take, or that nests too deep.
     #[tactic(auto, unfolding(parse_grammar::specs::Expressions::arguments))]
-    pub(crate) fn arguments(
-        &self,
-        tokens: &mut Tokens<'_>,
-        room: usize,
-    ) -> Result<Items<Expr>, Stop>
+    pub fn arguments(&self, tokens: &mut Tokens<'_>, room: usize) -> Result<Items<Expr>, Stop>
         requires nests { Nests self.now.grammar.limit (F.pre self.now.grammar.expr) (F.post self.now.grammar.expr) (S.pre self.now.grammar.stmt) (S.post self.now.grammar.stmt) (D.pre self.now.grammar.declarator) (D.post self.now.grammar.declarator) }
         requires room { room < self.now.grammar.limit }
         ensures { Reads (spec.arguments (spec.assign (room_of room)) tokens.old) result tokens.new }
@@ -121,8 +119,11 @@ impl<
         Ok(nodes::paren(self.grammar.alloc, inner)?)
     }
 
+    /// A primary expression.
+    ///
+    /// Syntax or TooDeep exactly at the first token that the production doesn't take, or that nests too deep.
     #[tactic(auto, unfolding(parse_grammar::specs::Expressions::primary))]
-    pub(crate) fn primary(&self, tokens: &mut Tokens<'_>, room: usize) -> Result<Expr, Stop>
+    pub fn primary(&self, tokens: &mut Tokens<'_>, room: usize) -> Result<Expr, Stop>
         requires nests { Nests self.now.grammar.limit (F.pre self.now.grammar.expr) (F.post self.now.grammar.expr) (S.pre self.now.grammar.stmt) (S.post self.now.grammar.stmt) (D.pre self.now.grammar.declarator) (D.post self.now.grammar.declarator) }
         requires room { room ≤ self.now.grammar.limit }
         ensures { Reads (spec.primary (room_of room) tokens.old) result tokens.new }

@@ -3,7 +3,7 @@ use Rattle.std.proofs.lemmas.Grind.{common_steps}
 use Rattle.parse_grammar.specs.Statements.{room_of, stmt}
 use Rattle.parse_grammar.specs.Steps.{closed_from}
 use Rattle.parse_grammar.proofs.Rooms.{one_more, no_more}
-use Rattle.parse_operands.proofs.operands.Operands.closed.Goals as goal
+use Rattle.parse_primaries.proofs.primaries.Primaries.closed.Goals as goal
 
 pub returns-in_err-inner_stmt : goal.returns-in_err-inner_stmt
 unfolding closed_from

@@ -33,12 +33,16 @@ use Rattle.check_env.specs.declared.state.Around.{Around}
 use Rattle.check_env.specs.declared.state.Stage.{Stage}
 use Rattle.check_env.specs.declared.state.State.{State}
 use Rattle.check_expressions.specs.Rules.{Node, Named, Shape, Item}
-use Rattle.check_walk.specs.Walk.{Start, InitParts, Declarations, SuffixWalk, TypeWalk, core_rule, expr_rule}
-use Rattle.check_walk.specs.Walk.{start_rule, optional_rule, stmt_rule, declaration_rule, declarator_rule, init_rule}
-use Rattle.check_walk.specs.Walk.{parameter_rule, typename_rule, declaration_walk, declare_one, declare_by}
-use Rattle.check_walk.specs.Walk.{declare_each, suffix_walk, suffix_steps, expr_walk, statement_walk, declarator_of}
-use Rattle.check_walk.specs.Walk.{typename_of, typename_walk, parameter_walk as parameter_steps, declarator_walk, core}
-use Rattle.check_walk.specs.Walk.{node, optional, item, suffix, declaration, shape, init, initializer, parameter, named}
+use Rattle.check_walk_spec.specs.Walk.{Start, InitParts, Declarations, SuffixWalk, TypeWalk, core_rule, expr_rule}
+use Rattle.check_walk_spec.specs.Walk.{start_rule, optional_rule, stmt_rule, declaration_rule, declarator_rule}
+use Rattle.check_walk_spec.specs.Walk.{init_rule}
+use Rattle.check_walk_spec.specs.Walk.{parameter_rule, typename_rule, declaration_walk, declare_one, declare_by}
+use Rattle.check_walk_spec.specs.Walk.{declare_each, suffix_walk, suffix_steps, expr_walk, statement_walk}
+use Rattle.check_walk_spec.specs.Walk.{declarator_of}
+use Rattle.check_walk_spec.specs.Walk.{typename_of, typename_walk, parameter_walk as parameter_steps, declarator_walk}
+use Rattle.check_walk_spec.specs.Walk.{core}
+use Rattle.check_walk_spec.specs.Walk.{node, optional, item, suffix, declaration, shape, init, initializer, parameter}
+use Rattle.check_walk_spec.specs.Walk.{named}
 
 pub at_node_name : (a : ℕ) (b : (List ℕ)) → node (e.Name a b) ≡ expr_rule (Expr-F.Expr::Name a b)
 unfolding core node optional item suffix declaration shape init initializer parameter named

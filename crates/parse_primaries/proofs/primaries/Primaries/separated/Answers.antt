@@ -4,7 +4,7 @@ use Rattle.parse_grammar.specs.Expressions.{assign}
 use Rattle.parse_grammar.specs.Statements.{room_of}
 use Rattle.parse_grammar.specs.Steps.{following_from}
 use Rattle.parse_grammar.proofs.Rooms.{one_more}
-use Rattle.parse_operands.proofs.operands.Operands.separated.Goals as goal
+use Rattle.parse_primaries.proofs.primaries.Primaries.separated.Goals as goal
 
 pub returns-then-not-eat : goal.returns-then-not-eat
 unfolding following_from

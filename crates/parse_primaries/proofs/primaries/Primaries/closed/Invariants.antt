@@ -1,7 +1,7 @@
 use Rattle.std.proofs.Common.{◌≡◌, ◌-◌}
 use Rattle.parse_grammar.specs.Statements.{room_of, stmt}
 use Rattle.parse_grammar.specs.Steps.{closed, closed_from}
-use Rattle.parse_operands.proofs.operands.Operands.closed.Given as goal
+use Rattle.parse_primaries.proofs.primaries.Primaries.closed.Given as goal
 
 abbrev pub invariant-loop-turn : goal.invariant-loop-turn
 invariant-loop-turn g l =

@@ -30,11 +30,14 @@ use Rattle.tick_tree.specs.declared.syntax.Declarator.{roll-Declarator}
 use Rattle.tick_tree.specs.declared.syntax.Parameter.{roll-Parameter}
 use Rattle.tick_tree.specs.declared.syntax.Typename.{roll-Typename}
 use Rattle.check_expressions.specs.Rules.{Node, Named, Shape, Item}
-use Rattle.check_walk.specs.Walk.{Start, InitParts, Declarations, SuffixWalk, TypeWalk, core_rule, expr_rule}
-use Rattle.check_walk.specs.Walk.{start_rule, optional_rule, stmt_rule, suffix_walk, declaration_rule, declarator_rule}
-use Rattle.check_walk.specs.Walk.{init_rule, parameter_rule, typename_rule, written_rule, any_suffix, any_parameter}
-use Rattle.check_walk.specs.Walk.{core, node, initializer, optional, item, suffix, declaration, shape, init, parameter}
-use Rattle.check_walk.specs.Walk.{named}
+use Rattle.check_walk_spec.specs.Walk.{Start, InitParts, Declarations, SuffixWalk, TypeWalk, core_rule, expr_rule}
+use Rattle.check_walk_spec.specs.Walk.{start_rule, optional_rule, stmt_rule, suffix_walk, declaration_rule}
+use Rattle.check_walk_spec.specs.Walk.{declarator_rule}
+use Rattle.check_walk_spec.specs.Walk.{init_rule, parameter_rule, typename_rule, written_rule, any_suffix}
+use Rattle.check_walk_spec.specs.Walk.{any_parameter}
+use Rattle.check_walk_spec.specs.Walk.{core, node, initializer, optional, item, suffix, declaration, shape, init}
+use Rattle.check_walk_spec.specs.Walk.{parameter}
+use Rattle.check_walk_spec.specs.Walk.{named}
 
 abbrev CoreAgrees : Core → Type 0
 CoreAgrees c = (core c).declared ≡ forms.declared_core c

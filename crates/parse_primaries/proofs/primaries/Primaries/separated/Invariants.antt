@@ -2,7 +2,7 @@ use Rattle.std.proofs.Common.{◌≡◌, ◌-◌}
 use Rattle.parse_grammar.specs.Expressions.{assign}
 use Rattle.parse_grammar.specs.Statements.{room_of}
 use Rattle.parse_grammar.specs.Steps.{separated, following_from}
-use Rattle.parse_operands.proofs.operands.Operands.separated.Given as goal
+use Rattle.parse_primaries.proofs.primaries.Primaries.separated.Given as goal
 
 abbrev pub invariant-loop-turn : goal.invariant-loop-turn
 invariant-loop-turn g l =

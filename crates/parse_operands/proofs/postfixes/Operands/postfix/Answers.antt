@@ -5,7 +5,7 @@ use Rattle.parse_grammar.specs.Expressions.{postfix_kind}
 use Rattle.parse_grammar.specs.Input.{kind}
 use Rattle.parse_grammar.specs.Statements.{room_of}
 use Rattle.parse_operands.proofs.Steps.{postfix_goes}
-use Rattle.parse_operands.proofs.operands.Operands.postfix.Goals as goal
+use Rattle.parse_operands.proofs.postfixes.Operands.postfix.Goals as goal
 
 pub returns-in_err-enter : goal.returns-in_err-enter
 returns-in_err-enter g c =

@@ -27,7 +27,7 @@ use Rattle.check_expressions.specs.Rules as rules
 use Rattle.check_statements.specs.Declarations.{list_count}
 use Rattle.check_statements.specs.Initializers.{element}
 use Rattle.check_statements.specs.Rules as statements
-use Rattle.check_walk.specs.Walk as walks
+use Rattle.check_walk_spec.specs.Walk as walks
 
 -- the answer behind those so far
 abbrev pub after : {A : Type 0} → List A → Checked (List A × State) → Checked (List A × State)

@@ -1,0 +1,65 @@
+//! Lists with more behind them. A list that finds no memory is dropped.
+
+ghost use Rattle.std.specs.Prelude.{◌≡◌, [], ◌∷◌, ◌++◌, IfOk};
+
+use c_types::CType;
+use check_declarators::Step;
+use sqlite_items::{Boxed, Items};
+use std::alloc::AllocError;
+use typed_tree::Stmt;
+
+/// The nodes, and these behind them.
+pub fn appended(nodes: Items<Stmt>, found: Items<Stmt>) -> Result<Items<Stmt>, AllocError>
+    ensures { IfOk result (λ all. all ≡ nodes ++ found) }
+{
+    let mut nodes = nodes;
+    match nodes.append(found) {
+        Ok(()) => Ok(nodes),
+        Err(why) => {
+            drop(nodes);
+            Err(why)
+        }
+    }
+}
+
+/// The nodes, and this one behind them.
+pub fn pushed(nodes: Items<Stmt>, node: Boxed<Stmt>) -> Result<Items<Stmt>, AllocError>
+    ensures { IfOk result (λ all. all ≡ nodes ++ node ∷ []) }
+{
+    let mut nodes = nodes;
+    match nodes.push(node.into_inner()) {
+        Ok(()) => Ok(nodes),
+        Err(why) => {
+            drop(nodes);
+            Err(why)
+        }
+    }
+}
+
+/// The steps, and this one behind them.
+pub fn with_step(steps: Items<Step>, step: Step) -> Result<Items<Step>, AllocError>
+    ensures { IfOk result (λ all. all ≡ steps ++ step ∷ []) }
+{
+    let mut steps = steps;
+    match steps.push(step) {
+        Ok(()) => Ok(steps),
+        Err(why) => {
+            drop(steps);
+            Err(why)
+        }
+    }
+}
+
+/// The types, and this one behind them.
+pub fn with_type(types: Items<CType>, t: CType) -> Result<Items<CType>, AllocError>
+    ensures { IfOk result (λ all. all ≡ types ++ t ∷ []) }
+{
+    let mut types = types;
+    match types.push(t) {
+        Ok(()) => Ok(types),
+        Err(why) => {
+            drop(types);
+            Err(why)
+        }
+    }
+}
