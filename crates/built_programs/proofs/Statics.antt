@@ -1,6 +1,9 @@
--- A function that is built is one that the backend makes the image of.
-use Rattle.std.proofs.Common.{◌≡◌, ℕ, ◌<◌, Bool, true, false, ◌&&◌, nat_eq, nat_lt, if◌then◌else◌, List, [], ◌∷◌, map}
-use Rattle.std.proofs.Common.{slice_get, Some, None, refl, sym, subst, arith}
+-- A program that is built is one that the backend makes the image of.
+use Rattle.std.proofs.Common.{◌≡◌, ℕ, suc, ◌+◌, ◌<◌, ◌≤◌, Bool, true, false, ◌&&◌, nat_eq, nat_lt, if◌then◌else◌}
+use Rattle.std.proofs.Common.{List, [], ◌∷◌, ◌++◌, length, map, sum, codes, slice_get, Option, Some, None, refl, sym}
+use Rattle.std.proofs.Common.{ap, ◌∙◌, subst, arith, append_assoc, length-append}
+use Rattle.std.specs.List.{fold}
+use Rattle.std.specs.Str.{bytes_eq}
 use Rattle.std.proofs.lemmas.Bool.{and_parts}
 use Rattle.std.proofs.lemmas.Bool.Decides.{nat_tests}
 use Rattle.icode_ops.specs.declared.kind.BinKind.{BinKind}
@@ -12,14 +15,19 @@ use Rattle.typed_tree.specs.declared.program.Tick.{Tick}
 use Rattle.typed_tree.specs.Nodes as node
 use Rattle.typed_tree.specs.declared.expression.Library.TheVariants as library
 use Rattle.staged_meaning.specs.Scope.{IsBuilt, IsBuiltStmt, AreBuiltItems}
+use Rattle.staged_meaning.specs.Size.{size_of}
 use Rattle.typed_tree.specs.View.{function_view, program_view}
 use Rattle.wellformed.specs.declared.typed.Typed.{Typed}
-use Rattle.wellformed.specs.Program.{IsFunction, IsWellFormed}
+use Rattle.wellformed.specs.Program.{IsFunction, IsWellFormed, words}
+use Rattle.limits.specs.declared.program.TheConstants.{CHARGE_LIMIT}
 use Rattle.wf_ready.specs.Laws.{FunctionsAreReady}
-use Rattle.static_image.specs.Served.{IsServed, IsServedStmt, AreServedItems}
-use Rattle.built_programs.specs.Built.{is_operator, is_listed_expr, is_listed_stmt, are_listed, is_listed, accepted}
-use Rattle.built_programs.specs.Built.{of_parts, built}
-use Rattle.built_programs.specs.Laws.{MeetsBackend, BuiltIsStatic}
+use Rattle.static_image.specs.Served.{IsServed, IsServedStmt, AreServedItems, IsStatic, most_words, AreStatic}
+use Rattle.icode_ir.specs.Sound.{Each}
+use Rattle.meaning_state.specs.Rows.{numbered}
+use Rattle.wellformed.specs.Accepted.{charge}
+use Rattle.built_programs.specs.Built.{is_operator, is_listed_expr, is_listed_stmt, are_listed, is_listed}
+use Rattle.built_programs.specs.Built.{are_functions_listed, Main, main_from, of_parts, built}
+use Rattle.built_programs.specs.Laws.{BuiltIsStatic}
 
 three_parts : (a b c : Bool) → (a && b && c) ≡ true → (a ≡ true) × (b ≡ true) × (c ≡ true)
 three_parts a b c h = let two = and_parts (a && b) c h in let first = and_parts a b two.0 in (first.0, first.1, two.1)
@@ -112,44 +120,95 @@ mutual
 -- ---- functions
 
 -- a function of an accepted text whose nodes are of the list is one that the backend takes
-meets : FunctionsAreReady → (p : node.Program) (ticks : List (List CaptureKind)) (f : node.Function) →
-    IsFunction p ticks f → is_listed f ≡ true → MeetsBackend f
-meets ready p ticks f is h =
+function_static : FunctionsAreReady → (p : node.Program) (ticks : List (List CaptureKind)) (f : node.Function) →
+    IsFunction p ticks f → is_listed f ≡ true → IsStatic f
+function_static ready p ticks f is h =
     let l = three_parts (nat_eq f.parameters 0) (nat_eq f.object 0) (is_listed_stmt f.body) h in
-    let none : f.parameters ≡ 0 = is_number f.parameters 0 l.0 in
     record {
-      static = record {
-        ready = ready p ticks f is (stmt_built f.body l.2);
-        served = stmt_served f.body l.2;
-        plain = is_number f.object 0 l.1;
-      };
-      parameters = omega (arith, none);
+      ready = ready p ticks f is (stmt_built f.body l.2);
+      served = stmt_served f.body l.2;
+      plain = is_number f.object 0 l.1;
+      few = is.few;
     }
 
-chosen : (b : Bool) (g f : node.Function) → (if b then Some g else None) ≡ Some f → (b ≡ true) × (g ≡ f)
-chosen true g f e = (refl, cc)
-chosen false g f e = absurd cc
+each_static : FunctionsAreReady → (p : node.Program) (ticks : List (List CaptureKind)) (fs : List Function)
+    → ((n : ℕ) (f : node.Function) → slice_get (map function_view fs) n ≡ Some f → IsFunction p ticks f) →
+    are_functions_listed fs ≡ true
+    → Each IsStatic (map function_view fs)
+each_static ready p ticks [] is e = tt
+each_static ready p ticks (f ∷ fs) is e =
+    let both = and_parts (is_listed (function_view f)) (are_functions_listed fs) e in (
+      function_static ready p ticks (function_view f) (is 0 (function_view f) refl) both.0,
+      each_static ready p ticks fs (λ n g at. is (suc n) g at) both.1,
+    )
 
-of_accepted : FunctionsAreReady → (p : node.Program) (ticks : List (List CaptureKind)) (g f : node.Function) →
-    IsFunction p ticks g → accepted g ≡ Some f → MeetsBackend f
-of_accepted ready p ticks g f is e =
-    let two = chosen (is_listed g) g f e in
-    subst MeetsBackend two.1 (meets ready p ticks g is two.0)
+sum_from : (n : ℕ) (ns : List ℕ) → fold ◌+◌ n ns ≡ n + sum ns
+sum_from n [] = omega arith
+sum_from n (m ∷ ns) = omega (arith, sum_from (n + m) ns, sum_from (0 + m) ns)
 
--- the one function of a program is its first
-first_function : (fs : List Function) (g : Function) → fs ≡ g ∷ [] →
-    slice_get (map function_view fs) 0 ≡ Some (function_view g)
-first_function fs g same =
-    subst (λ (xs : List Function). slice_get (map function_view xs) 0 ≡ Some (function_view g)) (sym same) refl
+-- the words that functions are charged for are the most that they have
+charges_are_words : (fs : List node.Function) → most_words fs ≡ sum (map (λ f. charge (size_of f)) fs)
+charges_are_words [] = refl
+charges_are_words (f ∷ fs) =
+    omega (arith, charges_are_words fs, sum_from (0 + charge (size_of f)) (map (λ f. charge (size_of f)) fs))
 
-of_program : FunctionsAreReady → (p : Typed) → IsWellFormed p →
-    (f : node.Function) (fs : List Function) (ts : List Tick) (image : List ℕ) → p.functions ≡ fs →
-    of_parts fs ts image ≡ Some f → MeetsBackend f
-of_program ready p h f (g ∷ []) [] [] same e =
-    of_accepted ready (program_view p) h.program.captures (function_view g) f
-    (h.program.functions 0 (function_view g) (first_function p.functions g same)) e
-of_program ready p h f _ _ _ same e = absurd cc
+all_static : FunctionsAreReady → (p : Typed) → IsWellFormed p → are_functions_listed p.functions ≡ true →
+    AreStatic (program_view p).functions
+all_static ready p h e =
+    let small : words (program_view p) ≤ CHARGE_LIMIT = h.program.small in
+    record {
+      each = each_static ready (program_view p) h.program.captures p.functions h.program.functions e;
+      room = omega (arith, small, charges_are_words (program_view p).functions);
+    }
+
+-- ---- main
+
+get_behind : (xs : List node.Function) (w : node.Function) (rest : List node.Function) →
+    slice_get (xs ++ w ∷ rest) (length xs) ≡ Some w
+get_behind [] w rest = refl
+get_behind (x ∷ xs) w rest = get_behind xs w rest
+
+-- main is the function of its number, where others stand in front
+main_is : (before : List node.Function) (fs : List Function) (m : Main) → main_from (suc (length before)) fs ≡ Some m
+    → numbered m.number (before ++ map function_view fs) ≡ Some m.function
+main_is before [] m e = absurd cc
+main_is before (f ∷ fs) m e =
+    by (bytes_eq f.name (codes "main"))
+    (λ later. subst (λ (gs : List node.Function). numbered m.number gs ≡ Some m.function)
+    (append_assoc before (function_view f ∷ []) (map function_view fs))
+    (main_is (before ++ function_view f ∷ []) fs m (ap (λ n. main_from n fs) (sym next) ∙ later))) e
+  where
+    here : record { number = suc (length before); function = function_view f } ≡ m →
+        numbered m.number (before ++ map function_view (f ∷ fs)) ≡ Some m.function
+    here is = subst (λ (n : Main). numbered n.number (before ++ map function_view (f ∷ fs)) ≡ Some n.function) is
+        (get_behind before (function_view f) (map function_view fs))
+
+    next : suc (length before) + 1 ≡ suc (length (before ++ function_view f ∷ []))
+    next = omega (arith, length-append before (function_view f ∷ []))
+
+    by : (b : Bool) → (main_from (suc (length before) + 1) fs ≡ Some m →
+        numbered m.number (before ++ map function_view (f ∷ fs)) ≡ Some m.function)
+        → (if b then Some (record { number = suc (length before); function = function_view f }) else
+        main_from (suc (length before) + 1) fs) ≡ Some m
+        → numbered m.number (before ++ map function_view (f ∷ fs)) ≡ Some m.function
+    by true other e = here cc
+    by false other e = other e
+
+chosen : (b : Bool) (found : Option Main) (m : Main) → (if b then found else None) ≡ Some m →
+    (b ≡ true) × (found ≡ Some m)
+chosen true found m e = (refl, e)
+chosen false found m e = absurd cc
+
+-- ---- programs
+
+-- which parts a program that is built has
+parts : (fs : List Function) (ts : List Tick) (image : List ℕ) (m : Main) → of_parts fs ts image ≡ Some m
+    → (are_functions_listed fs ≡ true) × (main_from 1 fs ≡ Some m) × (image ≡ [])
+parts fs [] [] m e = let both = chosen (are_functions_listed fs) (main_from 1 fs) m e in (both.0, both.1, refl)
+parts fs _ _ m e = absurd cc
 
 pub built_static : FunctionsAreReady → BuiltIsStatic
 unfolding built
-built_static ready p f h e = of_program ready p h f p.functions p.ticks p.image refl e
+built_static ready p m h e =
+    let of = parts p.functions p.ticks p.image m e in
+    record { static = all_static ready p h of.0; main_is = main_is [] p.functions m of.1; no_image = of.2 }

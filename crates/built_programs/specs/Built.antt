@@ -1,10 +1,10 @@
--- Which typed programs run so far, and the function that each of them is: a program of one function, without ticks,
--- globals
--- and strings, whose nodes are all of the list below. The list is this project's own, and grows with the backend.
+-- Which typed programs run so far: those without ticks, globals and strings, whose functions have no nodes but those of
+-- the list below. They have no calls, so main alone runs. The list is this project's own, and grows with the backend.
 --   expressions: words, register variables and their setting, sums, differences and `<` on signed words, putchar
 --   statements: expressions, blocks of register variables, `if`, `while`, `return` with a value
-use Rattle.std.specs.Prelude.{ℕ, Bool, true, false, ◌&&◌, nat_eq, nat_lt, if◌then◌else◌, List, [], ◌∷◌, Option, Some}
-use Rattle.std.specs.Prelude.{None}
+use Rattle.std.specs.Prelude.{ℕ, ◌+◌, Bool, true, false, ◌&&◌, nat_eq, nat_lt, if◌then◌else◌, List, [], ◌∷◌, codes}
+use Rattle.std.specs.Prelude.{Option, Some, None}
+use Rattle.std.specs.Str.{bytes_eq}
 use Rattle.icode_ops.specs.declared.kind.BinKind.{BinKind}
 use Rattle.icode_ops.specs.declared.kind.BinKind.TheVariants as kind
 use Rattle.typed_tree.specs.declared.program.Function.{Function}
@@ -61,13 +61,27 @@ is_listed function = nat_eq function.parameters 0 && nat_eq function.object 0 &&
 
 -- ---- programs
 
-abbrev pub accepted : node.Function → Option node.Function
-accepted function = if is_listed function then Some function else None
+-- each function of a program is of the list's nodes
+abbrev pub are_functions_listed : List Function → Bool
+are_functions_listed [] = true
+are_functions_listed (f ∷ fs) = is_listed (function_view f) && are_functions_listed fs
 
-abbrev pub of_parts : List Function → List Tick → (image : List ℕ) → Option node.Function
-of_parts (f ∷ []) [] [] = accepted (function_view f)
+-- the function main, and its number in the text
+pub record Main : Type 0 where
+  pub number : ℕ
+  pub function : node.Function
+
+-- main among functions of which the first has this number
+abbrev pub main_from : (number : ℕ) → List Function → Option Main
+main_from number [] = None
+main_from number (f ∷ fs) =
+    if bytes_eq f.name (codes "main") then Some (record { number = number; function = function_view f })
+    else main_from (number + 1) fs
+
+abbrev pub of_parts : List Function → List Tick → (image : List ℕ) → Option Main
+of_parts fs [] [] = if are_functions_listed fs then main_from 1 fs else None
 of_parts _ _ _ = None
 
--- the function of a program, or none where the program doesn't run so far
-unfoldable pub built : Typed → Option node.Function
+-- main of a program, or none where the program doesn't run so far
+unfoldable pub built : Typed → Option Main
 built program = of_parts program.functions program.ticks program.image

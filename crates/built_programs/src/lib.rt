@@ -1,7 +1,7 @@
-//! Which typed programs run so far, and the function that each of them is.
+//! Which typed programs run so far, and the function main of each.
 #![tactic(auto)]
 
 mod listed;
 mod program;
 
-pub use program::{built_is_static, function_of};
+pub use program::{built_is_static, main_of};

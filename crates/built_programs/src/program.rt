@@ -1,9 +1,9 @@
-//! The function that a program is, where it runs so far.
+//! The function main of a program that runs so far.
 
 ghost use Rattle.std.specs.Prelude.{◌≡◌};
-ghost use Rattle.std.specs.Option.{option_map, option_copied};
-ghost use Rattle.typed_tree.specs.View.{function_view};
-ghost use Rattle.built_programs.specs.Built.{accepted as accepted_of, built};
+ghost use Rattle.std.specs.Option.{option_map};
+ghost use Rattle.built_programs.specs.Built as spec;
+ghost use Rattle.built_programs.specs.Built.{built};
 ghost use Rattle.built_programs.specs.Laws.{BuiltIsStatic};
 
 use crate::listed::is_listed;
@@ -11,32 +11,48 @@ use typed_tree::Function;
 use wellformed::Typed;
 use wf_ready::functions_are_ready;
 
-// A function, where it is one that runs so far.
-fn accepted(function: &Function) -> Option<&Function>
-    ensures { option_map function_view (option_copied result) ≡ accepted_of (function_view function.now) }
+// Whether each node of each function is of the list.
+fn are_functions_listed(functions: &[Function]) -> bool
+    ensures { result ≡ spec.are_functions_listed functions.now }
 {
-    if is_listed(function) {
-        Some(function)
+    for function in functions {
+        if !is_listed(function) {
+            return false;
+        }
+    }
+    true
+}
+
+// The number of main, counted from 1.
+fn main_number(functions: &[Function]) -> Option<usize>
+    ensures { result ≡ option_map (λ main. main.number) (spec.main_from 1 functions.now) }
+{
+    for (at, function) in functions.iter().enumerate() {
+        if function.name.as_slice() == b"main".as_slice() {
+            return Some(at + 1);
+        }
+    }
+    None
+}
+
+/// The number of a program's function main, counted from 1, or `None` where the program doesn't run so far: exactly where
+/// it has a tick, a global, a string or a node that isn't of the list.
+#[tactic(auto, unfolding(crate::specs::Built::built))]
+pub fn main_of(program: &Typed) -> Option<usize>
+    ensures { result ≡ option_map (λ main. main.number) (built program.now) }
+{
+    if !program.ticks().is_empty() || !program.image().is_empty() {
+        return None;
+    }
+    let functions = program.functions();
+    if are_functions_listed(functions) {
+        main_number(functions)
     } else {
         None
     }
 }
 
-/// The function that a program is, or `None` where the program doesn't run so far: exactly where it hasn't just one
-/// function, or has a tick, a global, a string or a node that isn't of the list.
-#[tactic(auto, unfolding(crate::specs::Built::built))]
-pub fn function_of(program: &Typed) -> Option<&Function>
-    ensures { option_map function_view (option_copied result) ≡ built program.now }
-{
-    match program.functions() {
-        [function] if program.ticks().is_empty() && program.image().is_empty() => {
-            accepted(function)
-        }
-        _ => None,
-    }
-}
-
-/// The backend makes the image of each function that is built, since the law on accepted texts holds of its program.
+/// The backend makes the image of each program that is built, since the law on accepted texts holds of it.
 pub fn built_is_static()
     ensures { BuiltIsStatic }
 {

@@ -151,9 +151,10 @@ epilogue_most frame objects ps compiled =
     simp (length-append, restores_length)
     (omega (arith, saved_most ps, leave_most compiled, free_objects_most objects (nat_eq objects 0) refl))
 
-pub words_most : (ops : List Op) (places : List ℕ) (address frame objects : ℕ) (compiled : Bool)
-    → length (expansion ops places address frame objects compiled) ≤ 16 * length ops + 64
-words_most ops places address frame objects compiled =
+-- prologue and epilogue have 59 words at most, so there is room for a last return
+pub code_most : (ops : List Op) (places : List ℕ) (address frame objects : ℕ) (compiled : Bool)
+    → length (expansion ops places address frame objects compiled) ≤ 16 * length ops + 59
+code_most ops places address frame objects compiled =
     let P : List Instr = prologue frame objects (saved places) compiled in
     let E : List Instr = epilogue frame objects (saved places) compiled in
     let l : Layout = laid places frame objects in
@@ -165,3 +166,8 @@ words_most ops places address frame objects compiled =
       epilogue_most frame objects places compiled,
       templates_most l a ops,
     ))
+
+pub words_most : (ops : List Op) (places : List ℕ) (address frame objects : ℕ) (compiled : Bool)
+    → length (expansion ops places address frame objects compiled) ≤ 16 * length ops + 64
+words_most ops places address frame objects compiled =
+    omega (arith, code_most ops places address frame objects compiled)

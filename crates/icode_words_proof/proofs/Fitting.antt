@@ -40,7 +40,6 @@ use Rattle.icode_frames_spec.proofs.Places.{place_bounds, spot_usable, slot_usab
 use Rattle.icode_steps_proof.proofs.Liveness.{op_found}
 use Rattle.icode_steps_proof.specs.Served.{IsServed}
 use Rattle.icode_words_proof.specs.Laws.{WordsSuffice}
-use Rattle.icode_words_proof.proofs.Suiting.{code_ends}
 
 -- instructions that have words stand where their words stand
 pub words_stand : (c : Code) (a : ℕ) (is : List Instr) → AllFit is → a % 4 ≡ 0 → past a is ≤ ARENA
@@ -220,7 +219,7 @@ address_within pl a (o ∷ os) (suc i) =
     subst (λ n. op_address pl a (o ∷ os) (suc i) ≤ n) e ih
 
 module _ (f : Function) (places : List ℕ) (st : Suits f places)
-    (short : f.address + 4 * (16 * length f.ops + 64) ≤ ARENA) where
+    (short : past f.address (code_of f places) ≤ ARENA) where
   abbrev pl : Layout
   pl = layout_of f places
 
@@ -248,7 +247,7 @@ module _ (f : Function) (places : List ℕ) (st : Suits f places)
       let e4 = past_templates pl nowhere lab start f.ops in
       let e5 = ap (λ b. past b is) e3 in
       let r = past_rises (past (past f.address (front_code f places)) is) (back_code f places) in
-      omega (arith, e1, e2, e4, e5, r, code_ends f places, short)
+      omega (arith, e1, e2, e4, e5, r, short)
 
   aim_low : (aim : Aim) → lab aim / 4 < 67108864
   aim_low (ToLabel label) = let w = address_within pl start f.ops (expansion.label_index f.ops label) in omega
@@ -408,10 +407,7 @@ module _ (f : Function) (places : List ℕ) (st : Suits f places)
 
 -- so a function whose words stand in the text stands there
 pub function_stands : WordsSuffice
-function_stands c f places st served short at =
-    let ends = code_ends f places in
-    record {
-      suits = st;
-      code = words_stand c f.address (code_of f places) (code_fits f places st short served) st.even
-          (omega (arith, ends, short)) at;
-    }
+function_stands c f places st served short at = record {
+  suits = st;
+  code = words_stand c f.address (code_of f places) (code_fits f places st short served) st.even short at;
+}

@@ -1,2 +1,3 @@
 pub mod Slices
-pub mod Whole
+pub mod Grown
+pub mod Loops

@@ -1,31 +1,30 @@
-//! The image of a function.
+//! The image of a program.
 
-ghost use Rattle.std.specs.Prelude.{◌≤◌, IfOk};
-ghost use Rattle.static_image.specs.Served.{IsStatic};
-ghost use Rattle.static_backend.specs.Scanned.{IsScanned};
+ghost use Rattle.std.specs.Prelude.{IfOk, map};
+ghost use Rattle.static_image.specs.Served.{AreStatic};
+ghost use Rattle.static_backend.specs.Scanned.{HasMain, IsScanned};
 ghost use Rattle.typed_tree.specs.View.{function_view};
 
-use crate::code::builder_of;
-use crate::places::scanned_places;
-use crate::text::text_words;
+use crate::functions::functions_code;
+use crate::text::front_words;
 use image_file::Image;
 use static_image::images_keep_rules;
 use std::alloc::{AllocError, Global};
-use tick_lower::size;
 use typed_tree::Function;
 use word32::map::START;
 
-/// The image of the program that consists of a function: the start, and the function under the places that linear scan
-/// gives to its registers. The only error is want of memory.
-pub fn image(alloc: Global, function: &Function) -> Result<Image, AllocError>
-    requires served { IsStatic (function_view function.now) }
-    requires parameters { function.now.params ≤ 8 }
-    ensures { IfOk result (λ made. IsScanned (function_view function.now) made) }
+/// The image of a program of these functions, whose function main has a number, counted from 1: the start, and the
+/// functions in their order, each under the places that linear scan gives to its registers, and with a row. The only error
+/// is want of memory.
+pub fn image(alloc: Global, functions: &[Function], main: usize) -> Result<Image, AllocError>
+    requires functions { AreStatic (map function_view functions.now) }
+    requires main { HasMain main (map function_view functions.now) }
+    ensures { IfOk result (λ made. IsScanned (map function_view functions.now) main made) }
 {
-    let builder = builder_of(alloc, function)?;
-    let places = scanned_places(alloc, builder.ops(), builder.registers())?;
-    let frame = 128 + 48 * size(function);
-    let text = text_words(alloc, builder.ops(), &places, frame, function.object)?;
+    let code = functions_code(alloc, functions)?;
+    let row = code.rows[main - 1];
+    let mut text = front_words(alloc, row.address, functions.len() as u32)?;
+    text.extend_from_slice(&code.words)?;
     images_keep_rules();
-    Ok(Image::new(START, text, Vec::new(alloc), Vec::new(alloc)))
+    Ok(Image::new(START, text, Vec::new(alloc), code.rows))
 }

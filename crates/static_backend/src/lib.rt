@@ -1,11 +1,13 @@
-//! From a function's typed tree to the image of the program that it is: the ops of the intermediate code, the places of
-//! their registers by linear scan, their expansion, and the words in front of it.
+//! From a typed program to its image: the ops of the intermediate code of each function, the places of their registers by
+//! linear scan, their expansion, and the words in front of them.
 #![tactic(auto)]
 
 mod backend;
 mod code;
+mod functions;
 mod places;
+mod tables;
 mod text;
 
 pub use backend::image;
-pub use code::builder_of;
+pub use code::build_ops;

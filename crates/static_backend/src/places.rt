@@ -53,15 +53,19 @@ fn scan_places(
 }
 
 /// The places that linear scan gives to the registers of a finished list of ops. The only error is want of memory.
-pub fn scanned_places(alloc: Global, ops: &[Op], registers: u32) -> Result<Vec<u8>, AllocError>
+pub fn scanned_places(
+    alloc: Global,
+    live: &mut Live,
+    scanner: &mut Scanner,
+    ops: &[Op],
+    registers: u32,
+) -> Result<Vec<u8>, AllocError>
     requires { IsFinished ops.now registers }
     ensures scanned { IfOk result (λ made. (xs : List SpecInterval) × AreIntervals ops.now xs × (made.items ≡ places_of registers xs)) }
     ensures legal { IfOk result (λ made. IsLegal ops.now registers made.items) }
 {
-    let mut live = Live::new(alloc)?;
-    let mut scanner = Scanner::new(alloc)?;
     let mut out = intervals_room(alloc, registers)?;
     let mut made = places_room(alloc, registers)?;
-    scan_places(&mut live, &mut scanner, ops, &mut out, &mut made);
+    scan_places(live, scanner, ops, &mut out, &mut made);
     Ok(made)
 }

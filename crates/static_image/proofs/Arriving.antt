@@ -1,30 +1,34 @@
 -- The start brings a run of an image to main, with the stack empty and the cells set, and waits with its exit.
-use Rattle.std.proofs.Common.{◌≡◌, ℕ, zero, suc, ◌+◌, ◌-◌, ◌*◌, ◌/◌, ◌<◌, ◌≤◌, Bool, true, false, List, [], ◌∷◌, ◌++◌}
-use Rattle.std.proofs.Common.{length, Option, None, Some, refl, sym, ◌∙◌, subst, arith, append_assoc, append-nil}
-use Rattle.std.proofs.Common.{length-append, nat_lt, if◌then◌else◌, slice_get, replicate}
+use Rattle.std.proofs.Common.{◌≡◌, ℕ, ◌+◌, ◌-◌, ◌*◌, ◌/◌, ◌%◌, ◌<◌, ◌≤◌, Bool, true, false, List, [], ◌∷◌}
+use Rattle.std.proofs.Common.{◌++◌, length, Option, None, Some, refl, sym, ap, map, ◌∙◌, subst, arith, append_assoc}
+use Rattle.std.proofs.Common.{append-nil, length-append, nat_lt, if◌then◌else◌, slice_get, replicate}
 use Rattle.std.specs.Fn.{iterate}
 use Rattle.std.proofs.lemmas.List.{length-replicate}
 use Rattle.std.proofs.lemmas.Bool.Decides.{nat_tests}
-use Rattle.word32.specs.declared.map.TheConstants.{TEXT, ARENA, CLOSURES, FUNCTIONS, HEAP, OBJECTS, UNPUBLISHED}
+use Rattle.word32.specs.declared.map.TheConstants.{TEXT, ARENA, CLOSURES, HEAP, OBJECTS}
 use Rattle.word32.specs.Bytes.{word_in}
 use Rattle.word32.specs.Space.{bytes_from}
 use Rattle.flat_memory.specs.Spaces.{text_of}
+use Rattle.code_arena.specs.Rows.{numbered}
+use Rattle.image_file.specs.declared.image.FunctionEntry.{FunctionEntry}
 use Rattle.history.specs.Events.{Input}
 use Rattle.mips_encoder.specs.Table.{word_of}
 use Rattle.mips_model.specs.State.{Code, Data, set_register}
 use Rattle.mips_model.specs.Steps.{step, going}
 use Rattle.mips_model.specs.Run as machine
+use Rattle.mips_model.specs.Run.{row_of}
 use Rattle.mips_model.specs.Laws.{HasAt, past, at, Reaches}
 use Rattle.mips_model.proofs.Loaded.{AllFit, all_fit_append, loaded}
 use Rattle.mips_model.proofs.Reach.{through, through_runs, reaches_on, step_acts, front, back}
 use Rattle.icode_templates.specs.Assembly.{jal, nop}
-use Rattle.icode_templates_proof.proofs.Jumps.{slot_runs}
+use Rattle.icode_templates_proof.proofs.Jumps.{in_slot, slot_runs}
 use Rattle.icode_frames_spec.specs.Standing.{WordsAt, exit_code}
+use Rattle.icode_frames_spec.specs.Settings.{Published}
 use Rattle.icode_frames_spec.specs.Relation.{MemoryAgrees, ExtentsAgree}
 use Rattle.icode_meaning.specs.State.{Program}
-use Rattle.typed_tree.specs.Nodes as node
+use Rattle.staged_meaning.specs.Program as meaning
 use Rattle.staged_meaning.specs.Meaning.{at_start}
-use Rattle.static_image.specs.Layout.{set_cell, set_up, start_code, exit_with_answer, filled, program_of}
+use Rattle.static_image.specs.Layout.{set_cell, set_up, start_code, exit_with_answer, filled}
 
 -- words stand behind those that are in front of them in a text
 get_behind : (xs : List ℕ) (w : ℕ) (rest : List ℕ) → slice_get (xs ++ w ∷ rest) (length xs) ≡ Some w
@@ -75,34 +79,36 @@ cell_fits below word some small = (
   ((omega arith, omega arith, omega arith), ((omega arith, omega (arith, some), omega arith), tt)),
 )
 
-set_up_fits : AllFit (set_up 1)
-set_up_fits = (
+set_up_fits : (functions : ℕ) → functions ≤ 65535 → AllFit (set_up functions)
+set_up_fits n few = (
   (omega arith, omega arith),
   (
     (omega arith, omega arith),
     (
       (omega arith, omega arith),
-      all_fit_append (set_cell 4 HEAP) (set_cell 8 CLOSURES ++ (set_cell 16 2 ++ set_cell 20 ARENA))
+      all_fit_append (set_cell 4 HEAP) (set_cell 8 CLOSURES ++ (set_cell 16 (n + 1) ++ set_cell 20 ARENA))
           (cell_fits 4 HEAP (omega arith) (omega arith))
-          (all_fit_append (set_cell 8 CLOSURES) (set_cell 16 2 ++ set_cell 20 ARENA)
+          (all_fit_append (set_cell 8 CLOSURES) (set_cell 16 (n + 1) ++ set_cell 20 ARENA)
           (cell_fits 8 CLOSURES (omega arith) (omega arith))
-          (all_fit_append (set_cell 16 2) (set_cell 20 ARENA) (cell_fits 16 2 (omega arith) (omega arith))
+          (all_fit_append (set_cell 16 (n + 1)) (set_cell 20 ARENA)
+          (cell_fits 16 (n + 1) (omega arith) (omega (arith, few)))
           (cell_fits 20 ARENA (omega arith) (omega arith)))),
     ),
   ),
 )
 
-call_fits : AllFit (jal FUNCTIONS ∷ nop ∷ exit_with_answer)
-call_fits = (
-  omega arith,
+call_fits : (main : ℕ) → main < 268435456 → AllFit (jal main ∷ nop ∷ exit_with_answer)
+call_fits main low = (
+  omega (arith, low),
   (
     (omega arith, omega arith, omega arith),
     ((omega arith, omega arith, omega arith), ((omega arith, omega arith, omega arith), (tt, tt))),
   ),
 )
 
-pub start_fits : AllFit (start_code FUNCTIONS 1)
-start_fits = all_fit_append (set_up 1) (jal FUNCTIONS ∷ nop ∷ exit_with_answer) set_up_fits call_fits
+pub start_fits : (main functions : ℕ) → main < 268435456 → functions ≤ 65535 → AllFit (start_code main functions)
+start_fits main n low few =
+    all_fit_append (set_up n) (jal main ∷ nop ∷ exit_with_answer) (set_up_fits n few) (call_fits main low)
 
 -- the data behind straight code that runs through
 abbrev pub data_of : Option (ℕ × Data) → Data → Data
@@ -124,55 +130,56 @@ call_at = past 4194304 (set_up 1)
 abbrev pub exit_at : ℕ
 exit_at = call_at + 8
 
-module _ (c : Code) (input : Input) (h : HasAt c 4194304 (start_code FUNCTIONS 1)) where
+-- main stands in the first 256 megabytes, and there are so many functions, each of which has a row
+module _ (main functions : ℕ) (even : main % 4 ≡ 0) (low : main < 268435456) (rows : List FunctionEntry) (c : Code)
+    (input : Input) (h : HasAt c 4194304 (start_code main functions)) where
   abbrev pub first : Data
-  first = machine.first_data [] [] input
+  first = machine.first_data [] rows input
 
   abbrev pub set : Data
-  set = data_of (through (set_up 1) 0 first) first
+  set = data_of (through (set_up functions) 0 first) first
 
-  sets_up : Reaches (length (set_up 1)) (at c 4194304 0 first) (at c call_at 0 set)
-  sets_up = through_runs (set_up 1) c 0 4194304 first (0, set) refl
-      (front c 4194304 (set_up 1) (jal FUNCTIONS ∷ nop ∷ exit_with_answer) h)
+  sets_up : Reaches (length (set_up functions)) (at c 4194304 0 first) (at c call_at 0 set)
+  sets_up = through_runs (set_up functions) c 0 4194304 first (0, set) refl
+      (front c 4194304 (set_up functions) (jal main ∷ nop ∷ exit_with_answer) h)
 
-  rest : HasAt c call_at (jal FUNCTIONS ∷ nop ∷ exit_with_answer)
-  rest = back c 4194304 (set_up 1) (jal FUNCTIONS ∷ nop ∷ exit_with_answer) h
+  rest : HasAt c call_at (jal main ∷ nop ∷ exit_with_answer)
+  rest = back c 4194304 (set_up functions) (jal main ∷ nop ∷ exit_with_answer) h
 
   -- main is called
   abbrev pub called : Data
   called = set_register 31 exit_at set
 
-  calls : Reaches 2 (at c call_at 0 set) (at c FUNCTIONS 0 called)
-  calls = slot_runs c call_at 0 FUNCTIONS set called (step_acts (jal FUNCTIONS) (at c call_at 0 set) rest.0 refl)
+  target : (call_at + 4) / 268435456 * 268435456 + 4 * (main / 4) ≡ main
+  target = omega (arith, even, low)
+
+  calls : Reaches 2 (at c call_at 0 set) (at c main 0 called)
+  calls =
+      slot_runs c call_at 0 main set called
+      (step_acts (jal main) (at c call_at 0 set) rest.0 refl ∙ ap (λ t. going (in_slot c call_at t called)) target)
       rest.1.0
 
-  pub comes : iterate step 17 (going (at c 4194304 0 first)) ≡ going (at c FUNCTIONS 0 called)
+  pub comes : iterate step 17 (going (at c 4194304 0 first)) ≡ going (at c main 0 called)
   comes = (reaches_on sets_up calls).by
 
   pub waits : HasAt c exit_at exit_code
   waits = rest.1.1
 
-  unpublished : (n : ℕ) → (called.table n).1 ≡ UNPUBLISHED
-  unpublished zero = refl
-  unpublished (suc n) = refl
-
-  -- no function has a row, and nothing was read or put out
-  pub agrees : (program : Program) (function : node.Function) → ((n : ℕ) → program.row n ≡ None)
-      → MemoryAgrees program (at_start (program_of function) input) 0 called
-  agrees program function none = record {
+  -- the rows are the image's, and nothing was read or put out
+  pub agrees : (machine : Program) (program : meaning.Program) → program.image ≡ []
+      → Published machine (numbered (map row_of rows))
+      → MemoryAgrees machine (at_start program input) 0 called
+  agrees machine program none published = record {
     history = refl;
     input = refl;
     at_end = λ e. absurd cc;
-    objects = refl;
-    object_words = no_bytes;
+    objects = ap (λ bytes. bytes_from 67108864 bytes) (sym none);
+    object_words = λ n. rw none (no_bytes n);
     heap = refl;
     active_calls = refl;
     active_word = omega arith;
-    table = record {
-      rows = λ n a k e. (let z : None ≡ Some (a, k) = sym (none n) ∙ e in absurd cc);
-      others = λ n l e. unpublished n;
-    };
+    table = published;
   }
 
-  pub extents : (function : node.Function) → ExtentsAgree (at_start (program_of function) input) called
-  extents function = record { used = refl; frames = refl }
+  pub extents : (program : meaning.Program) → ExtentsAgree (at_start program input) called
+  extents program = record { used = refl; frames = refl }

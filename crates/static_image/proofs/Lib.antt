@@ -3,6 +3,9 @@ pub mod Arena
 pub mod Faultless
 pub mod Arriving
 pub mod Serving
+pub mod Unaddressed
+pub mod Placing
+pub mod Tables
 pub mod Lows
 pub mod Front
 pub mod Whole

@@ -1,75 +1,107 @@
--- The image of a function keeps the rules of images.
-use Rattle.std.proofs.Common.{◌≡◌, ℕ, zero, suc, ◌+◌, ◌-◌, ◌*◌, ◌<◌, ◌≤◌, true, List, ◌++◌, length, refl, arith}
-use Rattle.std.proofs.Common.{length-append, nat_lt, replicate}
+-- The image of a program keeps the rules of images.
+use Rattle.std.proofs.Common.{◌≡◌, ℕ, zero, suc, ◌+◌, ◌-◌, ◌*◌, ◌%◌, ◌<◌, ◌≤◌, ◌==◌, true, List, [], ◌∷◌, ◌++◌, length}
+use Rattle.std.proofs.Common.{refl, ap, arith, length-append, nat_lt, nat_le, replicate}
+use Rattle.std.specs.List.{list_all}
 use Rattle.std.proofs.lemmas.Bool.Decides.{nat_tests}
-use Rattle.word32.specs.declared.map.TheConstants.{FUNCTIONS}
-use Rattle.image_file.specs.Image.{IsImage, has_good_entries}
+use Rattle.word32.specs.declared.map.TheConstants.{ARENA, FUNCTIONS}
+use Rattle.image_file.specs.Image.{IsImage, has_good_entries, is_function_in}
 use Rattle.mips_encoder.specs.Table.{word_of}
+use Rattle.icode_ir.specs.Sound.{Each}
 use Rattle.icode_ir.proofs.Sounds.{Each-append}
 use Rattle.icode_templates.specs.Assembly.{nop}
 use Rattle.icode_templates.specs.Words.{words}
-use Rattle.icode_expand.proofs.Lengths.{length_words}
-use Rattle.icode_expand.proofs.Most.{words_most}
-use Rattle.typed_tree.specs.Nodes as node
-use Rattle.tick_lower_proof.proofs.Sizes as sizes
 use Rattle.icode_frames_spec.specs.Standing.{code_of}
 use Rattle.icode_words_proof.proofs.Fitting.{code_fits}
-use Rattle.static_image.specs.Layout.{start_code, front, addresses, IsChoice, main_words, image_of}
-use Rattle.static_image.specs.Served.{IsStatic}
+use Rattle.staged_meaning.specs.Program.{Program}
+use Rattle.tick_lower_proof.specs.Lower.{Addresses}
+use Rattle.static_image.specs.Layout.{Placed, start_code, front, words_of, behind, rows_of, words_from, addresses_of}
+use Rattle.static_image.specs.Layout.{IsLegalChoice, IsChoice, image_of}
+use Rattle.static_image.specs.Served.{IsImaged}
 use Rattle.static_image.proofs.Lows.{AreWords, words_low, word_at}
-use Rattle.static_image.proofs.Arriving.{start_fits}
 use Rattle.static_image.proofs.Serving.{ops_served}
-use Rattle.static_image.proofs.Whole.{main_of, suits, fits_below, front_length}
+use Rattle.static_image.proofs.Placing.{Static, ends, ends_rise, ends_at, some_words, staged, suits, code_behind}
+use Rattle.static_image.proofs.Whole as whole
 
 same_words : (n w : ℕ) → w < 4294967296 → AreWords (replicate n w)
 same_words zero w low = tt
 same_words (suc n) w low = (low, same_words n w low)
 
-module _ (function : node.Function) (places : List ℕ) (static : IsStatic function) (choice : IsChoice function places)
-  where
-    abbrev text : List ℕ
-    text = front FUNCTIONS 1 ++ main_words function places
+-- the words of functions that stand one behind another
+module _ (d : Addresses) where
+  pub are_words : (at : ℕ) (xs : List Placed) → Each Static xs → Each (IsLegalChoice d) xs → at % 4 ≡ 0 →
+      ends at xs ≤ ARENA → AreWords (words_from d at xs)
+  are_words at [] static legal even low = tt
+  are_words at (x ∷ xs) static legal even low =
+      let f = staged d at x in
+      let rise = ends_rise (behind at x) xs in
+      let st = suits d at x static.0 legal.0 even (omega (arith, rise, low)) in
+      let is = code_of f x.places in
+      let end = code_behind d at x static.0 in
+      Each-append (λ w. w < 4294967296) (words_of d at x) (words_from d (behind at x) xs)
+      (words_low is (code_fits f x.places st (omega (arith, end, rise, low)) (ops_served d x.function static.0)))
+      (are_words (behind at x) xs static.1 legal.1 (omega (arith, even)) low)
 
-    front_words : AreWords (front FUNCTIONS 1)
-    front_words =
-        Each-append (λ w. w < 4294967296) (words (start_code FUNCTIONS 1))
-        (replicate (1024 - length (words (start_code FUNCTIONS 1))) (word_of nop))
-        (words_low (start_code FUNCTIONS 1) start_fits)
-        (same_words (1024 - length (words (start_code FUNCTIONS 1))) (word_of nop) (omega arith))
+-- the rows of functions
+rows_good : (at n : ℕ) (xs : List Placed) → Each Static xs → at % 4 ≡ 0 → 4194304 ≤ at → ends at xs ≤ 4194304 + 4 * n
+    → list_all (is_function_in n) (rows_of at xs) ≡ true
+rows_good at n [] static even from to = refl
+rows_good at n (x ∷ xs) static even from to =
+    let rise = ends_rise (behind at x) xs in
+    let some = some_words x in
+    let a : nat_le 4194304 at ≡ true = grind (arith, nat_tests, from) in
+    let b : nat_lt at (4194304 + 4 * n) ≡ true = grind (arith, nat_tests, rise, some, to) in
+    let e : (at % 4 == 0) ≡ true = grind (arith, nat_tests, even) in
+    let k : nat_le x.function.parameters 8 ≡ true = grind (arith, nat_tests, static.0.few) in
+    rw (a, b, e, k) (rows_good (behind at x) n xs static.1 (omega (arith, even)) (omega (arith, from)) to)
 
-    all_words : AreWords text
-    all_words =
-        Each-append (λ w. w < 4294967296) (front FUNCTIONS 1) (main_words function places) front_words
-        (words_low (code_of (main_of function) places)
-        (code_fits (main_of function) places (suits function places static choice)
-        (fits_below function places static choice)
-        (ops_served addresses function static)))
+length_rows : (at : ℕ) (xs : List Placed) → length (rows_of at xs) ≡ length xs
+length_rows at [] = refl
+length_rows at (x ∷ xs) = ap suc (length_rows (behind at x) xs)
 
-    long : length text ≡ 1024 + length (code_of (main_of function) places)
-    long =
-        let a = length-append (front FUNCTIONS 1) (main_words function places) in
-        let b = length_words (code_of (main_of function) places) in
-        let f = front_length function places static choice in
-        omega (arith, a, b, f)
+module _ (program : Program) (number : ℕ) (xs : List Placed) (imaged : IsImaged program number)
+    (choice : IsChoice program.functions xs) where
+  abbrev d : Addresses
+  d = addresses_of xs
 
-    short : length text ≤ 15728640
-    short =
-        let most = words_most (main_of function).ops places FUNCTIONS (main_of function).charge (main_of function).object
-        (main_of function).compiled in
-        let few = (sizes.small addresses function static.ready).few_ops in
-        omega (arith, long, most, few, static.ready.small)
+  abbrev main_at : ℕ
+  main_at = d.function_at number
 
-    good : has_good_entries (image_of function places) ≡ true
-    good =
-        let t : nat_lt 4194304 (4194304 + 4 * length text) ≡ true = grind (arith, nat_tests, long) in
-        rw t refl
+  abbrev text : List ℕ
+  text = front main_at (length xs) ++ words_from d FUNCTIONS xs
 
-    pub rules : IsImage (image_of function places)
-    rules = record {
-      each_word_fits = λ k. word_at text k all_words;
-      each_byte_fits = λ k. omega arith;
-      text_is_small = short;
-      bytes_are_few = omega arith;
-      functions_are_few = omega arith;
-      entries_are_good = good;
-    }
+  abbrev start : List ℕ
+  start = words (start_code main_at (length xs))
+
+  all_words : AreWords text
+  all_words =
+      Each-append (λ w. w < 4294967296) (front main_at (length xs)) (words_from d FUNCTIONS xs)
+      (Each-append (λ w. w < 4294967296) start (replicate (1024 - length start) (word_of nop))
+      (words_low (start_code main_at (length xs)) (whole.fits program number xs imaged choice))
+      (same_words (1024 - length start) (word_of nop) (omega arith)))
+      (are_words d FUNCTIONS xs (whole.static program number xs imaged choice) choice.legal refl
+      (whole.room program number xs imaged choice))
+
+  long : ends FUNCTIONS xs ≡ 4194304 + 4 * length text
+  long =
+      let a = length-append (front main_at (length xs)) (words_from d FUNCTIONS xs) in
+      let b = ends_at d FUNCTIONS xs (whole.static program number xs imaged choice) in
+      let f = whole.front_length program number xs imaged choice in
+      omega (arith, a, b, f)
+
+  good : has_good_entries (image_of number xs) ≡ true
+  good =
+      let rows = rows_good FUNCTIONS (length text) xs (whole.static program number xs imaged choice) refl (omega arith)
+      (omega (arith, long)) in
+      let some : 1 ≤ length text = omega (arith, long, ends_rise FUNCTIONS xs) in
+      let t : nat_lt 4194304 (4194304 + 4 * length text) ≡ true = grind (arith, nat_tests, some) in
+      rw (t, rows) refl
+
+  pub rules : IsImage (image_of number xs)
+  rules = record {
+    each_word_fits = λ k. word_at text k all_words;
+    each_byte_fits = λ k. omega arith;
+    text_is_small = omega (arith, long, whole.room program number xs imaged choice);
+    bytes_are_few = omega arith;
+    functions_are_few = omega (arith, length_rows FUNCTIONS xs, whole.few program number xs imaged choice);
+    entries_are_good = good;
+  }

@@ -1,8 +1,7 @@
 -- The headline: what is promised of the image of a program, for every input, every number of units and of instructions
 -- and every legal choice of register places. The machine's history follows the meaning's and keeps pace with it; the
 -- machine ends in time, and ends only so; it never stops with a fault of the machine; and no word is executed that
--- isn't
--- the image's, or that wasn't flushed after it was written.
+-- isn't the image's, or that wasn't flushed after it was written.
 use Rattle.std.specs.Prelude.{◌≢◌, ℕ, List, Some}
 use Rattle.host_edge.specs.declared.ending.MachineKind.{MachineKind}
 use Rattle.pace.specs.Pace.{FourParts, instructions_of_a_unit, instructions_besides}

@@ -1,22 +1,22 @@
--- The image of a program of one function, main. It is entered at the start, which sets the pointers and the cells of
--- the
--- run-time routines, calls main and exits with its answer. The start and each routine have a block of 64 words, and the
--- functions follow the blocks. These are the project's own rules.
-use Rattle.std.specs.Prelude.{ℕ, ◌+◌, ◌-◌, ◌/◌, false, List, [], ◌∷◌, ◌++◌, length, replicate}
+-- The image of a program. It is entered at the start, which sets the pointers and the cells of the run-time routines,
+-- calls main and exits with its answer. The start and each routine have a block of 64 words, and the functions follow
+-- the blocks, in the order of the text. These are the project's own rules.
+use Rattle.std.specs.Prelude.{◌≡◌, ℕ, ◌+◌, ◌-◌, ◌*◌, ◌/◌, false, List, [], ◌∷◌, ◌++◌, length, map, replicate}
 use Rattle.word32.specs.declared.map.TheConstants.{ARENA, CLOSURES, FRAMES, FUNCTIONS, GLOBAL_POINTER, HEAP, STACK_TOP}
 use Rattle.word32.specs.declared.map.TheConstants.{START}
 use Rattle.image_file.specs.Image.{ImageParts}
+use Rattle.image_file.specs.declared.image.FunctionEntry.{FunctionEntry}
 use Rattle.mips_encoder.specs.Table.{word_of}
 use Rattle.mips_encoder.specs.declared.instruction.Instr.{Instr}
 use Rattle.icode_ops.specs.declared.op.Op.{Op}
 use Rattle.icode_ops.specs.Places.{IsLegal}
+use Rattle.icode_ir.specs.Sound.{Each}
 use Rattle.icode_templates.specs.Assembly.{v0, a0, t8, gp, sp, fp, addu, ori, lui, sw, jal, syscall, nop, constant}
 use Rattle.icode_templates.specs.Words.{words}
 use Rattle.icode_expand.specs.Expansion.{expanded}
 use Rattle.typed_tree.specs.Nodes as node
 use Rattle.staged_meaning.specs.Size.{size_of, charge_of}
-use Rattle.staged_meaning.specs.Meaning.{Program}
-use Rattle.tick_lower_proof.specs.Lower.{Addresses}
+use Rattle.tick_lower_proof.specs.Lower.{Addresses, listed}
 use Rattle.tick_lower_proof.specs.Laws.{code_of, registers_of}
 use Rattle.limits.specs.declared.program.TheConstants.{FRONT_WORDS}
 
@@ -60,32 +60,75 @@ front_words = FRONT_WORDS
 abbrev pub front : (main functions : ℕ) → List ℕ
 front main functions = filled front_words (words (start_code main functions))
 
--- main stands behind the blocks, and no function is called
-abbrev pub addresses : Addresses
-addresses = record { function_at = λ f. FUNCTIONS }
+-- ---- functions
 
--- the ops of the function
-abbrev pub ops_of : node.Function → List Op
-ops_of function = code_of addresses function
+-- a function of a program, and the places of its registers
+pub record Placed : Type 0 where
+  pub function : node.Function
+  pub places : List ℕ
 
--- a legal choice of places for the registers of the function
-abbrev pub IsChoice : node.Function → List ℕ → Type 0
-IsChoice function places = IsLegal (ops_of function) (registers_of addresses function) places
+-- its ops, and how many registers they have, where calls go to these addresses
+abbrev pub ops_of : Addresses → Placed → List Op
+ops_of addresses x = code_of addresses x.function
 
--- the program that the function is
-abbrev pub program_of : node.Function → Program
-program_of function = record { main = function; functions = function ∷ []; ticks = []; image = [] }
+abbrev pub registers_in : Addresses → Placed → ℕ
+registers_in addresses x = registers_of addresses x.function
 
--- the words of the function, under a choice of places of its registers
-abbrev pub main_words : node.Function → List ℕ → List ℕ
-main_words function places =
-    expanded (ops_of function) places FUNCTIONS (charge_of (size_of function)) function.object false
+-- its words, from an address on
+abbrev pub words_of : Addresses → (at : ℕ) → Placed → List ℕ
+words_of addresses at x =
+    expanded (ops_of addresses x) x.places at (charge_of (size_of x.function)) x.function.object false
 
--- the image of the function; no address of a function is taken, so none has a row
-abbrev pub image_of : node.Function → List ℕ → ImageParts
-image_of function places = record {
+-- no address is known yet
+abbrev pub unknown : Addresses
+unknown = listed []
+
+-- How many words it has. Wherever functions stand, they have as many words, so these are counted before any address is
+-- known.
+abbrev pub length_of : Placed → ℕ
+length_of x = length (words_of unknown FUNCTIONS x)
+
+-- the address behind a function
+abbrev pub behind : (at : ℕ) → Placed → ℕ
+behind at x = at + 4 * length_of x
+
+-- Functions stand one behind another from an address on: the address of each, the row of each, which has its address
+-- and how many parameters it takes, and the words of all.
+abbrev pub starts : (at : ℕ) → List Placed → List ℕ
+starts at [] = []
+starts at (x ∷ xs) = at ∷ starts (behind at x) xs
+
+abbrev pub rows_of : (at : ℕ) → List Placed → List FunctionEntry
+rows_of at [] = []
+rows_of at (x ∷ xs) = record { address = at; count = x.function.parameters } ∷ rows_of (behind at x) xs
+
+abbrev pub words_from : Addresses → (at : ℕ) → List Placed → List ℕ
+words_from addresses at [] = []
+words_from addresses at (x ∷ xs) = words_of addresses at x ++ words_from addresses (behind at x) xs
+
+-- those of a program stand behind the blocks, in the order of the text
+abbrev pub addresses_of : List Placed → Addresses
+addresses_of xs = listed (starts FUNCTIONS xs)
+
+-- The image of a program whose function main has this number, counted from 1: the start, the blocks, and the functions,
+-- each of which has a row.
+abbrev pub image_of : (main : ℕ) → List Placed → ImageParts
+image_of main xs = record {
   entry = START;
-  text = front FUNCTIONS 1 ++ main_words function places;
+  text = front ((addresses_of xs).function_at main) (length xs) ++ words_from (addresses_of xs) FUNCTIONS xs;
   bytes = [];
-  functions = [];
+  functions = rows_of FUNCTIONS xs;
 }
+
+-- ---- choices of places
+
+abbrev pub functions_of : List Placed → List node.Function
+functions_of xs = map (λ x. x.function) xs
+
+abbrev pub IsLegalChoice : Addresses → Placed → Type 0
+IsLegalChoice addresses x = IsLegal (ops_of addresses x) (registers_in addresses x) x.places
+
+-- the functions of a program with a legal choice of places for the registers of each
+pub record IsChoice (functions : List node.Function) (xs : List Placed) : Type 0 where
+  pub same : functions_of xs ≡ functions
+  pub legal : Each (IsLegalChoice (addresses_of xs)) xs

@@ -1,4 +1,4 @@
-//! The image of a program of one function: the start, the blocks of the run-time routines, and the function's words; and
+//! The image of a program: the start, the blocks of the run-time routines, and the words and rows of its functions; and
 //! the laws of it.
 #![tactic(auto)]
 

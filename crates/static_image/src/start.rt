@@ -2,6 +2,7 @@
 
 ghost use Rattle.std.specs.Prelude.{◌≡◌, ◌+◌, ◌++◌, ◌<◌, ◌≤◌, length};
 ghost use Rattle.icode_templates.specs.Words.{words};
+ghost use Rattle.limits.specs.declared.program.TheConstants.{MOST_FUNCTIONS};
 ghost use Rattle.static_image.specs.Layout as layout;
 
 use icode_templates::Snippet;
@@ -32,7 +33,7 @@ fn set_cell(code: &mut Snippet, below: u32, word: u32)
 #[tactic(auto, using(crate::proofs::Appended::more))]
 fn set_up(code: &mut Snippet, functions: u32)
     requires room { length code.old ≤ 25 }
-    requires functions { functions ≤ 65535 }
+    requires functions { functions ≤ MOST_FUNCTIONS }
     ensures words { code.new ≡ code.old ++ words (layout.set_up functions) }
     ensures len { length code.new ≡ length code.old + 15 }
 {
@@ -62,7 +63,7 @@ fn exit_with_answer(code: &mut Snippet)
 pub fn write_front(out: &mut [u32], main: u32, functions: u32)
     requires room { length out.old ≡ layout.front_words }
     requires main { main < 268435456 }
-    requires functions { functions ≤ 65535 }
+    requires functions { functions ≤ MOST_FUNCTIONS }
     ensures { out.new ≡ layout.front main functions }
 {
     let mut code = Snippet::new();

@@ -1,5 +1,6 @@
--- The function of an accepted text is one that the backend serves, and so the headline holds for its image.
-use Rattle.std.proofs.Common.{◌≡◌, ℕ, ◌≤◌, List, Option, Some, None, Ok, Err, IfOk, refl, sym, ap, ◌∙◌, subst}
+-- The functions of an accepted text are such as the backend serves, and so the headline holds for its image.
+use Rattle.std.proofs.Common.{◌≡◌, ℕ, List, Option, Some, None, Ok, Err, IfOk, refl, sym, ap, ◌∙◌, subst}
+use Rattle.std.specs.Option.{option_map}
 use Rattle.std.specs.declared.result.Result.{Result}
 use Rattle.tick_tree.specs.declared.fault.Deny.{Deny}
 use Rattle.tick_tree.specs.declared.fault.Deny.TheVariants as deny
@@ -7,61 +8,96 @@ use Rattle.tick_tree.specs.declared.fault.Fault.{Fault}
 use Rattle.tick_tree.specs.Faults.{Checks}
 use Rattle.wellformed.specs.declared.typed.Typed.{Typed}
 use Rattle.wellformed.specs.Program.{IsWellFormed}
-use Rattle.typed_tree.specs.Nodes.{Function}
-use Rattle.staged_meaning.specs.Meaning.{Program}
+use Rattle.typed_tree.specs.View.{program_view}
+use Rattle.meaning_state.specs.Rows.{numbered}
 use Rattle.image_file.specs.Image.{ImageParts, IsImage}
-use Rattle.built_programs.specs.Built.{built}
+use Rattle.built_programs.specs.Built.{Main, built}
 use Rattle.built_programs.specs.Laws.{BuiltIsStatic}
-use Rattle.static_image.specs.Served.{IsStatic}
-use Rattle.static_image.specs.Layout.{program_of}
+use Rattle.static_image.specs.Served.{AreStatic, IsImaged}
 use Rattle.static_image.specs.Laws.{ImagesKeepRules, HeadlineHolds}
 use Rattle.static_image.specs.Headline.{Headline}
-use Rattle.static_backend.specs.Scanned.{IsScanned}
-use Rattle.tick_build.specs.Texts.{unbuilt, or_unbuilt, from_typed, typed_tree, typed, Builds, Refuses, Backs}
+use Rattle.static_backend.specs.Scanned.{HasMain, IsScanned}
+use Rattle.tick_build.specs.Texts.{program_of, or_unbuilt, from_typed, typed_tree, typed, Builds, Refuses}
+use Rattle.tick_build.specs.Texts.{Backs}
 
-pub is_static : BuiltIsStatic → (program : Typed) (f : Function) → IsWellFormed program → built program ≡ Some f →
-    IsStatic f
-is_static law program f h e = (law program f h e).static
+-- main, where its number is known
+pub record IsMain (tree : Typed) (n : ℕ) : Type 0 where
+  pub main : Main
+  pub is_built : built tree ≡ Some main
+  pub number : main.number ≡ n
 
-pub has_few_parameters : BuiltIsStatic → (program : Typed) (f : Function) → IsWellFormed program →
-    built program ≡ Some f → f.parameters ≤ 8
-has_few_parameters law program f h e = (law program f h e).parameters
+pub main_found : (tree : Typed) (n : ℕ) → Some n ≡ option_map (λ (m : Main). m.number) (built tree) → IsMain tree n
+main_found tree n e = by (built tree) refl e
+  where
+    by : (o : Option Main) → built tree ≡ o → Some n ≡ option_map (λ (m : Main). m.number) o → IsMain tree n
+    by None is e = absurd cc
+    by (Some m) is e = record { main = m; is_built = is; number = cc }
 
--- a text whose typed tree is this program
-typed_by : (text : List ℕ) (program : Typed) → typed_tree text ≡ Ok program → typed text ≡ or_unbuilt (built program)
+pub not_found : (tree : Typed) → None ≡ option_map (λ (m : Main). m.number) (built tree) → built tree ≡ None
+not_found tree e = by (built tree) refl e
+  where
+    by : (o : Option Main) → built tree ≡ o → None ≡ option_map (λ (m : Main). m.number) o → built tree ≡ None
+    by None is e = is
+    by (Some m) is e = absurd cc
+
+pub are_static : BuiltIsStatic → (tree : Typed) (n : ℕ) → IsWellFormed tree →
+    Some n ≡ option_map (λ (m : Main). m.number) (built tree) → AreStatic (program_view tree).functions
+are_static law tree n h e = let f = main_found tree n e in (law tree f.main h f.is_built).static
+
+pub has_main : BuiltIsStatic → (tree : Typed) (n : ℕ) → IsWellFormed tree →
+    Some n ≡ option_map (λ (m : Main). m.number) (built tree) → HasMain n (program_view tree).functions
+has_main law tree n h e =
+    let f = main_found tree n e in (
+      f.main.function,
+      subst (λ (k : ℕ). numbered k (program_view tree).functions ≡ Some f.main.function) f.number
+          (law tree f.main h f.is_built).main_is,
+    )
+
+pub backs : (tree : Typed) (n : ℕ) (image : ImageParts) → Some n ≡ option_map (λ (m : Main). m.number) (built tree) →
+    IsScanned (program_view tree).functions n image
+    → (main : Main) × (built tree ≡ Some main) × IsScanned (program_view tree).functions main.number image
+backs tree n image e scanned =
+    let f = main_found tree n e in
+    (f.main, f.is_built, subst (λ (k : ℕ). IsScanned (program_view tree).functions k image) (sym f.number) scanned)
+
+-- a text whose typed tree is this
+typed_by : (text : List ℕ) (tree : Typed) → typed_tree text ≡ Ok tree → typed text ≡ or_unbuilt tree (built tree)
 unfolding typed
-typed_by text program e = ap from_typed e
+typed_by text tree e = ap from_typed e
 
--- the image of a function whose program is accepted
-builds_function : BuiltIsStatic → HeadlineHolds → ImagesKeepRules →
-    (text : List ℕ) (program : Typed) (f : Function) (image : ImageParts)
-    → IsWellFormed program → typed_tree text ≡ Ok program → built program ≡ Some f → IsScanned f image →
-    Builds text image
-builds_function law holds keep text program f image h tree is scanned =
-    let static = is_static law program f h is in
-    let places = scanned.legal in
-    let accepted : typed text ≡ Ok (program_of f) = typed_by text program tree ∙ ap or_unbuilt is in
+-- the image of a program that is accepted
+builds_program : BuiltIsStatic → HeadlineHolds → ImagesKeepRules →
+    (text : List ℕ) (tree : Typed) (main : Main) (image : ImageParts)
+    → IsWellFormed tree → typed_tree text ≡ Ok tree → built tree ≡ Some main →
+    IsScanned (program_view tree).functions main.number image → Builds text image
+builds_program law holds keep text tree main image h is_tree is scanned =
+    let program = program_of tree main in
+    let meets = law tree main h is in
+    let imaged : IsImaged program main.number =
+    record { main_is = meets.main_is; static = meets.static; no_image = refl } in
     record {
-      program = program_of f;
-      accepted = accepted;
-      lowering = record { function = f; accepted = accepted; scanned = scanned };
-      rules = subst IsImage (sym scanned.same) (keep f _ static places);
-      headline = subst (Headline (program_of f)) (sym scanned.same) (holds f _ static places);
-      choices = λ p legal. holds f p static legal;
+      program = program;
+      accepted = typed_by text tree is_tree ∙ ap (or_unbuilt tree) is;
+      lowering = record { tree = tree; is_typed = is_tree; main = main; is_built = is; scanned = scanned };
+      rules = subst IsImage (sym scanned.same) (keep program main.number scanned.placed imaged scanned.choice);
+      headline = subst (Headline program) (sym scanned.same)
+          (holds program main.number scanned.placed imaged scanned.choice);
+      choices = λ n xs main_is choice. holds program n xs
+          (record { main_is = main_is; static = meets.static; no_image = refl }) choice;
     }
 
 pub builds : BuiltIsStatic → HeadlineHolds → ImagesKeepRules →
     (text : List ℕ) (program : Typed) (r : Result ImageParts Deny)
-    → IsWellFormed program → typed_tree text ≡ Ok program → Backs (built program) r → IfOk r (Builds text)
-builds law holds keep text program (Ok image) h tree (f, is, scanned) =
-    builds_function law holds keep text program f image h tree is scanned
+    → IsWellFormed program → typed_tree text ≡ Ok program → Backs program r → IfOk r (Builds text)
+builds law holds keep text program (Ok image) h tree (m, is, scanned) =
+    builds_program law holds keep text program m image h tree is scanned
 builds law holds keep text program (Err d) h tree b = tt
 
 pub refuses : (text : List ℕ) (program : Typed) (r : Result ImageParts Deny) → typed_tree text ≡ Ok program →
-    Backs (built program) r → Refuses (typed text) r
+    Backs program r → Refuses (typed text) r
 refuses text program (Ok image) tree b = tt
 refuses text program (Err (deny.Refused fault)) tree (none, is) =
-    typed_by text program tree ∙ ap or_unbuilt none ∙ ap Err (sym is)
+    typed_by text program tree ∙ ap (or_unbuilt program) none ∙ ap Err (sym is)
 refuses text program (Err deny.NoMemory) tree b = tt
 
 refuses_tree : (text : List ℕ) (fault : Fault) → typed_tree text ≡ Err fault → typed text ≡ Err fault

@@ -1,5 +1,5 @@
 -- Which texts are accepted, and the typed program of each: a text is refused exactly for its first static fault.
-use Rattle.std.specs.Prelude.{◌≡◌, ℕ, List, Option, Some, None, Result, Ok, Err}
+use Rattle.std.specs.Prelude.{◌≡◌, ℕ, List, [], Option, Some, None, Result, Ok, Err}
 use Rattle.tick_tree.specs.declared.fault.Fault.{Fault}
 use Rattle.tick_tree.specs.declared.fault.FaultKind.TheVariants.{Unbuilt}
 use Rattle.tick_tree.specs.declared.fault.Deny.{Deny}
@@ -10,11 +10,12 @@ use Rattle.c_lexer.specs.Lex.{tokens}
 use Rattle.tick_parser.specs.Trees.{parsed}
 use Rattle.wellformed.specs.declared.typed.Typed.{Typed}
 use Rattle.check_programs.specs.Program.{checked}
-use Rattle.built_programs.specs.Built.{built}
-use Rattle.typed_tree.specs.Nodes.{Function}
+use Rattle.built_programs.specs.Built.{Main, built}
+use Rattle.typed_tree.specs.View.{program_view}
+use Rattle.meaning_state.specs.Rows.{numbered}
 use Rattle.staged_meaning.specs.Meaning.{Program}
 use Rattle.image_file.specs.Image.{ImageParts, IsImage}
-use Rattle.static_image.specs.Layout.{IsChoice, program_of, image_of}
+use Rattle.static_image.specs.Layout.{Placed, IsChoice, image_of}
 use Rattle.static_image.specs.Headline.{Headline}
 use Rattle.static_backend.specs.Scanned.{IsScanned}
 
@@ -22,9 +23,14 @@ use Rattle.static_backend.specs.Scanned.{IsScanned}
 abbrev pub unbuilt : Fault
 unbuilt = record { kind = Unbuilt; line = 1; token = 0 }
 
-abbrev pub or_unbuilt : Option Function → Result Program Fault
-or_unbuilt None = Err unbuilt
-or_unbuilt (Some function) = Ok (program_of function)
+-- the program of a typed tree that runs so far, with its function main
+abbrev pub program_of : Typed → Main → Program
+program_of tree main = record
+    { main = main.function; functions = (program_view tree).functions; ticks = []; image = [] }
+
+abbrev pub or_unbuilt : Typed → Option Main → Result Program Fault
+or_unbuilt tree None = Err unbuilt
+or_unbuilt tree (Some main) = Ok (program_of tree main)
 
 abbrev pub from_tree : Result Tree Fault → Result Typed Fault
 from_tree (Err fault) = Err fault
@@ -40,27 +46,29 @@ typed_tree text = from_tokens text (tokens text)
 
 abbrev pub from_typed : Result Typed Fault → Result Program Fault
 from_typed (Err fault) = Err fault
-from_typed (Ok program) = or_unbuilt (built program)
+from_typed (Ok tree) = or_unbuilt tree (built tree)
 
 -- the program of a text, or its first static fault, or that it uses what isn't built yet
 unfoldable pub typed : List ℕ → Result Program Fault
 typed text = from_typed (typed_tree text)
 
--- The image that is built of a text: the image of its function, under the places that linear scan gives to its
--- registers.
--- A text has one such image.
+-- The image that is built of a text: the image of its functions, under the places that linear scan gives to the
+-- registers of each. A text has one such image.
 pub record Lowered (text : List ℕ) (image : ImageParts) : Type 0 where
-  pub function : Function
-  pub accepted : typed text ≡ Ok (program_of function)
-  pub scanned : IsScanned function image
+  pub tree : Typed
+  pub is_typed : typed_tree text ≡ Ok tree
+  pub main : Main
+  pub is_built : built tree ≡ Some main
+  pub scanned : IsScanned (program_view tree).functions main.number image
 
--- the headline holds for the image of a function under every legal choice of places of its registers
+-- the headline holds for the image of a program under every legal choice of places of its functions' registers
 abbrev pub HoldsForChoices : Program → Type 0
-HoldsForChoices program = (places : List ℕ) → IsChoice program.main places →
-    Headline program (image_of program.main places)
+HoldsForChoices program =
+    (main : ℕ) (xs : List Placed) → numbered main program.functions ≡ Some program.main → IsChoice program.functions xs
+    → Headline program (image_of main xs)
 
 -- the image of an accepted text: it keeps the rules of images, and the headline holds for it, as for each image of the
--- program's function under legal places
+-- program under legal places
 pub record Builds (text : List ℕ) (image : ImageParts) : Type 0 where
   pub program : Program
   pub accepted : typed text ≡ Ok program
@@ -75,8 +83,9 @@ Refuses found (Ok a) = Unit {0}
 Refuses found (Err (deny.Refused fault)) = found ≡ Err fault
 Refuses found (Err deny.NoMemory) = Unit {0}
 
--- the image of the function that a program is, or that the program is none that is built; want of memory is free
-abbrev pub Backs : Option Function → Result ImageParts Deny → Type 0
-Backs found (Ok image) = (function : Function) × (found ≡ Some function) × IsScanned function image
-Backs found (Err (deny.Refused fault)) = (found ≡ None) × (fault ≡ unbuilt)
-Backs found (Err deny.NoMemory) = Unit {0}
+-- the image of a program's functions, or that it is none that is built; want of memory is free
+abbrev pub Backs : Typed → Result ImageParts Deny → Type 0
+Backs tree (Ok image) = (main : Main) × (built tree ≡ Some main) ×
+    IsScanned (program_view tree).functions main.number image
+Backs tree (Err (deny.Refused fault)) = (built tree ≡ None) × (fault ≡ unbuilt)
+Backs tree (Err deny.NoMemory) = Unit {0}

@@ -1,12 +1,11 @@
 //! The image of a text.
 ghost use Rattle.std.specs.Prelude.{◌≡◌, ◌≤◌, length, IfOk};
 ghost use Rattle.tick_tree.specs.Faults.{Checks};
-ghost use Rattle.built_programs.specs.Built.{built};
 ghost use Rattle.tick_build.specs.Texts as spec;
 ghost use Rattle.tick_build.specs.Texts.{Builds};
 ghost use Rattle.limits.specs.declared.text.TheConstants.{LONGEST_TEXT};
 
-use built_programs::{built_is_static, function_of};
+use built_programs::{built_is_static, main_of};
 use c_lexer::tokens;
 use image_file::Image;
 use static_image::{headline_holds, images_keep_rules};
@@ -39,14 +38,14 @@ fn from_text(alloc: Global, text: &[u8]) -> Result<Typed, Deny>
 }
 
 // The image of a program, where it is one that is built.
-#[tactic(auto, using(crate::proofs::Mains::is_static, crate::proofs::Mains::has_few_parameters))]
+#[tactic(auto, using(crate::proofs::Mains::are_static, crate::proofs::Mains::has_main, crate::proofs::Mains::backs, crate::proofs::Mains::not_found))]
 fn from_program(alloc: Global, program: &Typed) -> Result<Image, Deny>
-    ensures { spec.Backs (built program.now) result }
+    ensures { spec.Backs program.now result }
 {
     built_is_static();
     program.keeps_law();
-    match function_of(program) {
-        Some(function) => match static_backend::image(alloc, function) {
+    match main_of(program) {
+        Some(main) => match static_backend::image(alloc, program.functions(), main) {
             Ok(image) => Ok(image),
             Err(_) => Err(Deny::NoMemory),
         },

@@ -2,7 +2,7 @@
 -- its own variables from `t` on, and a child's behind those of the children before it; so `labels_in` and `temps_in` of
 -- the tree say which numbers it takes. An expression leaves its value as one operand, a void one leaves none.
 -- This is the project's own rule; the docs have it as a table.
-use Rattle.std.specs.Prelude.{ℕ, ◌+◌, Bool, true, false, if◌then◌else◌, List, [], ◌∷◌, ◌++◌}
+use Rattle.std.specs.Prelude.{ℕ, ◌+◌, ◌-◌, Bool, true, false, if◌then◌else◌, List, [], ◌∷◌, ◌++◌, slice_index}
 use Rattle.word32.specs.declared.width.Width.{Width}
 use Rattle.word32.specs.declared.width.Width.TheVariants as width
 use Rattle.icode_ops.specs.declared.kind.BinKind.TheVariants.{Add, NotEqual}
@@ -24,6 +24,10 @@ use Rattle.staged_meaning.specs.Size.{labels_in, labels, labels_of, temps_in, te
 -- where the image has its static functions, by their numbers
 pub record Addresses : Type 0 where
   pub function_at : ℕ → ℕ
+
+-- a list of them, in the order of the text; the first function has the number 1
+abbrev pub listed : List ℕ → Addresses
+listed starts = record { function_at = λ number. slice_index starts (number - 1) }
 
 -- a conversion to a width; a word is none
 abbrev pub narrowing : Width → List BuildOp

@@ -6,7 +6,7 @@ ghost use Rattle.std.specs.Prelude.{◌≡◌, ℕ, ◌≤◌, length, IfOk, IfS
 ghost use Rattle.icode_ir.specs.declared.builder.Phase.TheVariants.{Finished};
 ghost use Rattle.icode_ops.specs.Finished.{IsFinished};
 
-use built_programs::{built_is_static, function_of};
+use built_programs::{built_is_static, main_of};
 use c_lexer::tokens;
 use icode_expand::expand;
 use icode_ir::Builder;
@@ -14,7 +14,7 @@ use icode_liveness::Live;
 use icode_ops::{Interval, Op};
 use limits::ops::OP_LIMIT;
 use limits::text::LONGEST_TEXT;
-use static_backend::builder_of;
+use static_backend::build_ops;
 use std::alloc::{AllocError, Global};
 use std::io;
 use tick_checker::check;
@@ -69,15 +69,19 @@ fn print_expansion<R: Print + AllocGlobal>(rt: &R, ops: &[Op]) -> io::Result<()>
     }
 }
 
-// A finished builder that has the ops of a program's function, where it is one that runs so far.
-#[tactic(auto, using(crate::proofs::Ready::ready, crate::proofs::Ready::few_parameters))]
+// A finished builder that has the ops of a program's main, where it is one that runs so far.
+#[tactic(auto, using(crate::proofs::Ready::in_range))]
 fn finished_builder(alloc: Global, program: &Typed) -> Result<Option<Builder>, AllocError>
     ensures { IfOk result (λ found. IfSome found (λ b. b.phase ≡ Finished)) }
 {
     built_is_static();
     program.keeps_law();
-    match function_of(program) {
-        Some(function) => Ok(Some(builder_of(alloc, function)?)),
+    match main_of(program) {
+        Some(main) => {
+            let mut builder = Builder::new(alloc)?;
+            build_ops(alloc, &mut builder, &program.functions()[main - 1])?;
+            Ok(Some(builder))
+        }
         None => Ok(None),
     }
 }

@@ -1,5 +1,6 @@
 -- A function that returns 3 is ready to be lowered, and has an image.
-use Rattle.std.proofs.Common.{◌≡◌, ℕ, ◌<◌, List, length, get_or, ap, sym, ◌∙◌, subst, lit<, lit≤}
+use Rattle.std.proofs.Common.{◌≡◌, ℕ, ◌<◌, List, length, get_or, ap, sym, ◌∙◌, subst, ◌≤◌, [], ◌∷◌}
+use Rattle.std.proofs.Common.{map, refl, arith, lit<, lit≤}
 use Rattle.std.specs.List.{All}
 use Rattle.std.proofs.lemmas.List.Elements.{All-get_or}
 use Rattle.typed_tree.specs.declared.expression.Expr.TheVariants as e
@@ -9,7 +10,9 @@ use Rattle.typed_tree.specs.Nodes as node
 use Rattle.typed_tree.specs.View.{stmt_view, function_view}
 use Rattle.typed_tree.proofs.Views.{view_const, stmt_view_returnvalue}
 use Rattle.staged_meaning.specs.Scope.{IsReady}
-use Rattle.static_image.specs.Served.{IsStatic}
+use Rattle.staged_meaning.specs.Size.{size_of}
+use Rattle.static_image.specs.Served.{IsStatic, AreStatic}
+use Rattle.static_backend.specs.Scanned.{HasMain}
 
 abbrev pub ReturnsThree : Function → Type 0
 ReturnsThree f = (f.body ≡ st.ReturnValue (e.Const 3)) × (f.params ≡ 0) × (f.object ≡ 0)
@@ -26,6 +29,7 @@ static_return f h =
       ready = record { built = tt; scoped = tt; small = lit≤ tt; dense = lit≤ tt };
       served = lit< tt;
       plain = h.2;
+      few = omega (arith, h.1);
     })
 
 pub static_item : (list : List Function) (i : ℕ) (f : Function) → i < length list → f ≡ get_or list i f →
@@ -41,3 +45,30 @@ few_parameters list i f h is all = ap (λ g. g.params) is ∙ (All-get_or Return
 pub ready_item : (list : List Function) (i : ℕ) (f : Function) → i < length list → f ≡ get_or list i f →
     All ReturnsThree list → IsReady (function_view f)
 ready_item list i f h is all = (static_item list i f h is all).ready
+
+-- two of them are such as an image is made of
+size_two : (f : Function) → ReturnsThree f → size_of (function_view f) ≡ 2
+unfolding with_body
+size_two f h =
+    let body : stmt_view f.body ≡ node.ReturnValue (node.Const 3) =
+    ap stmt_view h.0 ∙ stmt_view_returnvalue (e.Const 3) ∙ ap node.ReturnValue (view_const 3) in
+    ap (λ b. size_of (with_body f b)) body
+
+pub are_static : (fs : List Function) → All ReturnsThree fs → length fs ≡ 2 → AreStatic (map function_view fs)
+are_static (f ∷ g ∷ []) all two =
+    let here = All-get_or ReturnsThree (f ∷ g ∷ []) 0 f (omega arith) all in
+    let there = All-get_or ReturnsThree (f ∷ g ∷ []) 1 g (omega arith) all in
+    record {
+      each = (static_return f here, (static_return g there, tt));
+      room =
+          omega (arith, size_two f here, size_two g there);
+    }
+are_static [] all two = absurd (omega (arith, two))
+are_static (f ∷ []) all two = absurd (omega (arith, two))
+are_static (f ∷ g ∷ h ∷ fs) all two = absurd (omega (arith, two))
+
+pub has_second : (fs : List Function) → length fs ≡ 2 → HasMain 2 (map function_view fs)
+has_second (f ∷ g ∷ []) two = (function_view g, refl)
+has_second [] two = absurd (omega (arith, two))
+has_second (f ∷ []) two = absurd (omega (arith, two))
+has_second (f ∷ g ∷ h ∷ fs) two = absurd (omega (arith, two))

@@ -1,6 +1,6 @@
 //! The function that returns 3, made by hand.
 
-ghost use Rattle.std.specs.Prelude.{◌≡◌, IfOk};
+ghost use Rattle.std.specs.Prelude.{◌≡◌, IfOk, length};
 ghost use Rattle.std.specs.List.{All};
 
 use sqlite_items::{Boxed, Items};
@@ -9,7 +9,8 @@ use typed_tree::{Expr, Function, Stmt};
 
 /// A list of `int main() { return 3; }`.
 pub fn listed(alloc: Global) -> Result<Items<Function>, AllocError>
-    ensures { IfOk result (λ list. All (λ f. (f.body ≡ Stmt.ReturnValue (Expr.Const 3)) × (f.params ≡ 0) × (f.object ≡ 0)) list) }
+    ensures returns { IfOk result (λ list. All (λ f. (f.body ≡ Stmt.ReturnValue (Expr.Const 3)) × (f.params ≡ 0) × (f.object ≡ 0)) list) }
+    ensures one { IfOk result (λ list. length list ≡ 1) }
 {
     let three = Boxed::new(alloc, Expr::Const(3))?;
     let body = Boxed::new(alloc, Stmt::ReturnValue(three))?;

@@ -1,0 +1,31 @@
+-- The rows of the image's functions are published as a run begins, and no others.
+use Rattle.std.proofs.Common.{◌≡◌, ℕ, zero, suc, ◌<◌, ◌≤◌, List, [], ◌∷◌, length, Option, None, Some, refl}
+use Rattle.std.proofs.Common.{ap, arith, slice_get, slice_index_or}
+use Rattle.word32.specs.declared.map.TheConstants.{FUNCTION_ROWS, UNPUBLISHED}
+use Rattle.code_arena.specs.Rows as table
+use Rattle.meaning_state.specs.Rows.{numbered}
+use Rattle.icode_meaning.specs.State.{Function}
+use Rattle.icode_frames_spec.specs.Settings.{Published}
+
+there : (rs : List (ℕ × ℕ)) (m : ℕ) (r z : ℕ × ℕ) → slice_get rs m ≡ Some r →
+    (m < length rs) × (slice_index_or rs m z ≡ r)
+there [] m r z e = absurd cc
+there (s ∷ rs) zero r z e = (omega arith, cc)
+there (s ∷ rs) (suc m) r z e = let h = there rs m r z e in (omega (arith, h.0), h.1)
+
+not_there : (rs : List (ℕ × ℕ)) (m : ℕ) (z : ℕ × ℕ) → slice_get rs m ≡ None → slice_index_or rs m z ≡ z
+not_there [] m z e = refl
+not_there (s ∷ rs) zero z e = absurd cc
+not_there (s ∷ rs) (suc m) z e = not_there rs m z e
+
+module _ (rs : List (ℕ × ℕ)) (few : length rs ≤ 65535) (function_at : ℕ → Option Function) where
+  published_row : (n a k : ℕ) → numbered n rs ≡ Some (a, k) → (n < FUNCTION_ROWS) × (table.numbered rs n ≡ (a, k))
+  published_row zero a k e = absurd cc
+  published_row (suc m) a k e = let h = there rs m (a, k) (table.first (suc m)) e in (omega (arith, h.0, few), h.1)
+
+  other_row : (n : ℕ) → n < FUNCTION_ROWS → numbered n rs ≡ None → (table.numbered rs n).1 ≡ UNPUBLISHED
+  other_row zero low e = refl
+  other_row (suc m) low e = ap (λ (r : ℕ × ℕ). r.1) (not_there rs m (table.first (suc m)) e)
+
+  pub published : Published (record { function_at = function_at; row = λ n. numbered n rs }) (table.numbered rs)
+  published = record { rows = published_row; others = other_row }
