@@ -6,9 +6,6 @@ use Rattle.std.specs.List.{fold}
 use Rattle.std.specs.Str.{bytes_eq}
 use Rattle.std.proofs.lemmas.Bool.{and_parts}
 use Rattle.std.proofs.lemmas.Bool.Decides.{nat_tests}
-use Rattle.icode_ops.specs.declared.kind.BinKind.{BinKind}
-use Rattle.icode_ops.specs.declared.kind.BinKind.TheVariants as kind
-use Rattle.icode_templates_proof.specs.Laws.{IsStraight}
 use Rattle.typed_tree.specs.declared.expression.CaptureKind.{CaptureKind}
 use Rattle.typed_tree.specs.declared.program.Function.{Function}
 use Rattle.typed_tree.specs.declared.program.Tick.{Tick}
@@ -21,11 +18,12 @@ use Rattle.wellformed.specs.declared.typed.Typed.{Typed}
 use Rattle.wellformed.specs.Program.{IsFunction, IsWellFormed, words}
 use Rattle.limits.specs.declared.program.TheConstants.{CHARGE_LIMIT}
 use Rattle.wf_ready.specs.Laws.{FunctionsAreReady}
-use Rattle.static_image.specs.Served.{IsServed, IsServedStmt, AreServedItems, IsStatic, most_words, AreStatic}
+use Rattle.static_image.specs.Served.{IsStatic, most_words, AreStatic}
+use Rattle.static_image.specs.Words.{HasWords, HasWordsStmt, HaveWords}
 use Rattle.icode_ir.specs.Sound.{Each}
 use Rattle.meaning_state.specs.Rows.{numbered}
 use Rattle.wellformed.specs.Accepted.{charge}
-use Rattle.built_programs.specs.Built.{is_operator, is_listed_expr, is_listed_stmt, are_listed, is_listed}
+use Rattle.built_programs.specs.Built.{is_listed_expr, is_listed_stmt, are_listed, is_listed}
 use Rattle.built_programs.specs.Built.{are_functions_listed, Main, main_from, of_parts, built}
 use Rattle.built_programs.specs.Laws.{BuiltIsStatic}
 
@@ -39,83 +37,101 @@ is_number : (a b : ℕ) → nat_eq a b ≡ true → a ≡ b
 is_number a b h = grind (arith, nat_tests)
 
 -- the parts of a node of the list
-listed_bin : (k : BinKind) (a b : node.Expr) → is_listed_expr (node.Bin k a b) ≡ true →
-    (is_operator k ≡ true) × (is_listed_expr a ≡ true) × (is_listed_expr b ≡ true)
-listed_bin k a b h = three_parts (is_operator k) (is_listed_expr a) (is_listed_expr b) h
+listed_two : (a b : node.Expr) → (is_listed_expr a && is_listed_expr b) ≡ true →
+    (is_listed_expr a ≡ true) × (is_listed_expr b ≡ true)
+listed_two a b h = and_parts (is_listed_expr a) (is_listed_expr b) h
 
-listed_block : (vs is : node.Items) → is_listed_stmt (node.Block vs is) ≡ true →
+listed_three : (c a b : node.Expr) → (is_listed_expr c && is_listed_expr a && is_listed_expr b) ≡ true →
+    (is_listed_expr c ≡ true) × (is_listed_expr a ≡ true) × (is_listed_expr b ≡ true)
+listed_three c a b h = three_parts (is_listed_expr c) (is_listed_expr a) (is_listed_expr b) h
+
+listed_block : (vs is : node.Items) → (are_listed vs && are_listed is) ≡ true →
     (are_listed vs ≡ true) × (are_listed is ≡ true)
 listed_block vs is h = and_parts (are_listed vs) (are_listed is) h
 
--- of an `if` and of a `while`
-listed_if : (e : node.Expr) (s : node.Stmt) → is_listed_stmt (node.If e s) ≡ true →
+-- of an `if`, and of a loop
+listed_if : (e : node.Expr) (s : node.Stmt) → (is_listed_expr e && is_listed_stmt s) ≡ true →
     (is_listed_expr e ≡ true) × (is_listed_stmt s ≡ true)
 listed_if e s h = and_parts (is_listed_expr e) (is_listed_stmt s) h
 
-listed_choice : (e : node.Expr) (s t : node.Stmt) → is_listed_stmt (node.IfElse e s t) ≡ true →
+listed_do : (s : node.Stmt) (e : node.Expr) → (is_listed_stmt s && is_listed_expr e) ≡ true →
+    (is_listed_stmt s ≡ true) × (is_listed_expr e ≡ true)
+listed_do s e h = and_parts (is_listed_stmt s) (is_listed_expr e) h
+
+listed_choice : (e : node.Expr) (s t : node.Stmt) → (is_listed_expr e && is_listed_stmt s && is_listed_stmt t) ≡ true →
     (is_listed_expr e ≡ true) × (is_listed_stmt s ≡ true) × (is_listed_stmt t ≡ true)
 listed_choice e s t h = three_parts (is_listed_expr e) (is_listed_stmt s) (is_listed_stmt t) h
+
+listed_step : (e f : node.Expr) (s : node.Stmt) → (is_listed_expr e && is_listed_expr f && is_listed_stmt s) ≡ true →
+    (is_listed_expr e ≡ true) × (is_listed_expr f ≡ true) × (is_listed_stmt s ≡ true)
+listed_step e f s h = three_parts (is_listed_expr e) (is_listed_expr f) (is_listed_stmt s) h
+
+listed_switch : (e : node.Expr) (vs is : node.Items) → (is_listed_expr e && are_listed vs && are_listed is) ≡ true →
+    (is_listed_expr e ≡ true) × (are_listed vs ≡ true) × (are_listed is ≡ true)
+listed_switch e vs is h = three_parts (is_listed_expr e) (are_listed vs) (are_listed is) h
 
 listed_item : (s : node.Stmt) (is : node.Items) → are_listed (node.Item s is) ≡ true →
     (is_listed_stmt s ≡ true) × (are_listed is ≡ true)
 listed_item s is h = and_parts (is_listed_stmt s) (are_listed is) h
 
--- ---- the nodes of the list
+-- ---- the nodes of the list are built, and their numbers are words
 
-operator_straight : (k : BinKind) → is_operator k ≡ true → IsStraight k
-operator_straight kind.Add h = tt
-operator_straight kind.Subtract h = tt
-operator_straight kind.LessSigned h = tt
-operator_straight _ h = absurd cc
+-- what holds of parts, of each at once
+pair : {A B C D : Type 0} → A × B → C × D → (A × C) × (B × D)
+pair x y = ((x.0, y.0), (x.1, y.1))
 
-expr_built : (e : node.Expr) → is_listed_expr e ≡ true → IsBuilt e
-expr_built (node.Const w) h = tt
-expr_built (node.Var i) h = tt
+triple : {A B C D E F : Type 0} → A × B → C × D → E × F → (A × C × E) × (B × D × F)
+triple x y z = ((x.0, y.0, z.0), (x.1, y.1, z.1))
+
+expr_built : (e : node.Expr) → is_listed_expr e ≡ true → IsBuilt e × HasWords e
+expr_built (node.Const w) h = (tt, below w 4294967296 h)
+expr_built (node.Var i) h = (tt, tt)
 expr_built (node.SetVar i a) h = expr_built a h
-expr_built (node.Bin k a b) h = let p = listed_bin k a b h in (expr_built a p.1, expr_built b p.2)
+expr_built (node.PostVar i w step) h = (tt, below step 4294967296 h)
+expr_built (node.Bin k a b) h = let p = listed_two a b h in pair (expr_built a p.0) (expr_built b p.1)
+expr_built (node.Un k a) h = expr_built a h
+expr_built (node.And a b) h = let p = listed_two a b h in pair (expr_built a p.0) (expr_built b p.1)
+expr_built (node.Or a b) h = let p = listed_two a b h in pair (expr_built a p.0) (expr_built b p.1)
+expr_built (node.Cond c a b) h =
+    let p = listed_three c a b h in
+    triple (expr_built c p.0) (expr_built a p.1) (expr_built b p.2)
+expr_built (node.Comma a b) h = let p = listed_two a b h in pair (expr_built a p.0) (expr_built b p.1)
+expr_built (node.Void a) h = expr_built a h
+expr_built node.Getchar h = (tt, tt)
 expr_built (node.Lib library.Putchar a) h = expr_built a h
+expr_built (node.Lib library.Putint a) h = expr_built a h
+expr_built (node.Lib library.Exit a) h = expr_built a h
 expr_built _ h = absurd cc
 
-expr_served : (e : node.Expr) → is_listed_expr e ≡ true → IsServed e
-expr_served (node.Const w) h = below w 4294967296 h
-expr_served (node.Var i) h = tt
-expr_served (node.SetVar i a) h = expr_served a h
-expr_served (node.Bin k a b) h = let p = listed_bin k a b h in
-    (operator_straight k p.0, expr_served a p.1, expr_served b p.2)
-expr_served (node.Lib library.Putchar a) h = expr_served a h
-expr_served _ h = absurd cc
-
 mutual
-  stmt_built : (s : node.Stmt) → is_listed_stmt s ≡ true → IsBuiltStmt s
+  stmt_built : (s : node.Stmt) → is_listed_stmt s ≡ true → IsBuiltStmt s × HasWordsStmt s
   stmt_built (node.Eval e) h = expr_built e h
-  stmt_built (node.Block vs is) h = let p = listed_block vs is h in (items_built vs p.0, items_built is p.1)
-  stmt_built (node.Variable i) h = tt
-  stmt_built (node.If e s) h = let p = listed_if e s h in (expr_built e p.0, stmt_built s p.1)
-  stmt_built (node.IfElse e s t) h = let p = listed_choice e s t h in
-      (expr_built e p.0, stmt_built s p.1, stmt_built t p.2)
-  stmt_built (node.While e s) h = let p = listed_if e s h in (expr_built e p.0, stmt_built s p.1)
+  stmt_built (node.Block vs is) h = let p = listed_block vs is h in pair (items_built vs p.0) (items_built is p.1)
+  stmt_built (node.Variable i) h = (tt, tt)
+  stmt_built (node.If e s) h = let p = listed_if e s h in pair (expr_built e p.0) (stmt_built s p.1)
+  stmt_built (node.IfElse e s t) h =
+      let p = listed_choice e s t h in
+      triple (expr_built e p.0) (stmt_built s p.1) (stmt_built t p.2)
+  stmt_built (node.While e s) h = let p = listed_if e s h in pair (expr_built e p.0) (stmt_built s p.1)
+  stmt_built (node.Do s e) h = let p = listed_do s e h in pair (stmt_built s p.0) (expr_built e p.1)
+  stmt_built (node.For e s) h = let p = listed_if e s h in pair (expr_built e p.0) (stmt_built s p.1)
+  stmt_built (node.ForStep e step s) h =
+      let p = listed_step e step s h in
+      triple (expr_built e p.0) (expr_built step p.1) (stmt_built s p.2)
+  stmt_built (node.Switch e vs is) h =
+      let p = listed_switch e vs is h in
+      triple (expr_built e p.0) (items_built vs p.1) (items_built is p.2)
+  stmt_built (node.Case value) h = (tt, below value 4294967296 h)
+  stmt_built node.Default h = (tt, tt)
+  stmt_built node.Break h = (tt, tt)
+  stmt_built node.Continue h = (tt, tt)
+  stmt_built node.Return h = (tt, tt)
   stmt_built (node.ReturnValue e) h = expr_built e h
   stmt_built _ h = absurd cc
 
-  items_built : (is : node.Items) → are_listed is ≡ true → AreBuiltItems is
-  items_built node.NoItem h = tt
-  items_built (node.Item s is) h = let p = listed_item s is h in (stmt_built s p.0, items_built is p.1)
-
-mutual
-  stmt_served : (s : node.Stmt) → is_listed_stmt s ≡ true → IsServedStmt s
-  stmt_served (node.Eval e) h = expr_served e h
-  stmt_served (node.Block vs is) h = let p = listed_block vs is h in (items_served vs p.0, items_served is p.1)
-  stmt_served (node.Variable i) h = tt
-  stmt_served (node.If e s) h = let p = listed_if e s h in (expr_served e p.0, stmt_served s p.1)
-  stmt_served (node.IfElse e s t) h = let p = listed_choice e s t h in
-      (expr_served e p.0, stmt_served s p.1, stmt_served t p.2)
-  stmt_served (node.While e s) h = let p = listed_if e s h in (expr_served e p.0, stmt_served s p.1)
-  stmt_served (node.ReturnValue e) h = expr_served e h
-  stmt_served _ h = absurd cc
-
-  items_served : (is : node.Items) → are_listed is ≡ true → AreServedItems is
-  items_served node.NoItem h = tt
-  items_served (node.Item s is) h = let p = listed_item s is h in (stmt_served s p.0, items_served is p.1)
+  items_built : (is : node.Items) → are_listed is ≡ true → AreBuiltItems is × HaveWords is
+  items_built node.NoItem h = (tt, tt)
+  items_built (node.Item s is) h = let p = listed_item s is h in pair (stmt_built s p.0) (items_built is p.1)
 
 -- ---- functions
 
@@ -124,9 +140,10 @@ function_static : FunctionsAreReady → (p : node.Program) (ticks : List (List C
     IsFunction p ticks f → is_listed f ≡ true → IsStatic f
 function_static ready p ticks f is h =
     let l = three_parts (nat_eq f.parameters 0) (nat_eq f.object 0) (is_listed_stmt f.body) h in
+    let body = stmt_built f.body l.2 in
     record {
-      ready = ready p ticks f is (stmt_built f.body l.2);
-      served = stmt_served f.body l.2;
+      ready = ready p ticks f is body.0;
+      words = body.1;
       plain = is_number f.object 0 l.1;
       few = is.few;
     }

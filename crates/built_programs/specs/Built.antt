@@ -1,12 +1,11 @@
 -- Which typed programs run so far: those without ticks, globals and strings, whose functions have no nodes but those of
 -- the list below. They have no calls, so main alone runs. The list is this project's own, and grows with the backend.
---   expressions: words, register variables and their setting, sums, differences and `<` on signed words, putchar
---   statements: expressions, blocks of register variables, `if`, `while`, `return` with a value
+--   expressions: words, register variables, their setting and steps, all operators, conversions, `&&`, `||`, `?:`, comma,
+--     void, getchar, putchar, putint, exit
+--   statements: all, over blocks of register variables
 use Rattle.std.specs.Prelude.{ℕ, ◌+◌, Bool, true, false, ◌&&◌, nat_eq, nat_lt, if◌then◌else◌, List, [], ◌∷◌, codes}
 use Rattle.std.specs.Prelude.{Option, Some, None}
 use Rattle.std.specs.Str.{bytes_eq}
-use Rattle.icode_ops.specs.declared.kind.BinKind.{BinKind}
-use Rattle.icode_ops.specs.declared.kind.BinKind.TheVariants as kind
 use Rattle.typed_tree.specs.declared.program.Function.{Function}
 use Rattle.typed_tree.specs.declared.program.Tick.{Tick}
 use Rattle.typed_tree.specs.Nodes as node
@@ -17,15 +16,10 @@ use Rattle.wellformed.specs.declared.typed.Typed.{Typed}
 
 -- ---- the nodes of the list
 
-abbrev pub is_operator : BinKind → Bool
-is_operator kind.Add = true
-is_operator kind.Subtract = true
-is_operator kind.LessSigned = true
-is_operator _ = false
-
-abbrev pub is_putchar : Library → Bool
-is_putchar library.Putchar = true
-is_putchar _ = false
+-- malloc's objects are in memory
+abbrev pub is_without_memory : Library → Bool
+is_without_memory library.Malloc = false
+is_without_memory _ = true
 
 abbrev pub is_word : ℕ → Bool
 is_word n = nat_lt n 4294967296
@@ -35,8 +29,16 @@ abbrev pub is_listed_expr : node.Expr → Bool
 is_listed_expr (node.Const word) = is_word word
 is_listed_expr (node.Var i) = true
 is_listed_expr (node.SetVar i a) = is_listed_expr a
-is_listed_expr (node.Bin k a b) = is_operator k && is_listed_expr a && is_listed_expr b
-is_listed_expr (node.Lib library a) = is_putchar library && is_listed_expr a
+is_listed_expr (node.PostVar i width step) = is_word step
+is_listed_expr (node.Bin k a b) = is_listed_expr a && is_listed_expr b
+is_listed_expr (node.Un k a) = is_listed_expr a
+is_listed_expr (node.And a b) = is_listed_expr a && is_listed_expr b
+is_listed_expr (node.Or a b) = is_listed_expr a && is_listed_expr b
+is_listed_expr (node.Cond c a b) = is_listed_expr c && is_listed_expr a && is_listed_expr b
+is_listed_expr (node.Comma a b) = is_listed_expr a && is_listed_expr b
+is_listed_expr (node.Void a) = is_listed_expr a
+is_listed_expr node.Getchar = true
+is_listed_expr (node.Lib library a) = is_without_memory library && is_listed_expr a
 is_listed_expr _ = false
 
 -- the same of a statement, and of a list of them
@@ -48,6 +50,15 @@ abbrev mutual
   is_listed_stmt (node.If e s) = is_listed_expr e && is_listed_stmt s
   is_listed_stmt (node.IfElse e s t) = is_listed_expr e && is_listed_stmt s && is_listed_stmt t
   is_listed_stmt (node.While e s) = is_listed_expr e && is_listed_stmt s
+  is_listed_stmt (node.Do s e) = is_listed_stmt s && is_listed_expr e
+  is_listed_stmt (node.For e s) = is_listed_expr e && is_listed_stmt s
+  is_listed_stmt (node.ForStep e step s) = is_listed_expr e && is_listed_expr step && is_listed_stmt s
+  is_listed_stmt (node.Switch e variables items) = is_listed_expr e && are_listed variables && are_listed items
+  is_listed_stmt (node.Case value) = is_word value
+  is_listed_stmt node.Default = true
+  is_listed_stmt node.Break = true
+  is_listed_stmt node.Continue = true
+  is_listed_stmt node.Return = true
   is_listed_stmt (node.ReturnValue e) = is_listed_expr e
   is_listed_stmt _ = false
 

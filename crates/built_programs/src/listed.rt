@@ -4,19 +4,21 @@ ghost use Rattle.std.specs.Prelude.{◌≡◌, map};
 ghost use Rattle.typed_tree.specs.View.{expr_view, stmt_view, items_of, function_view};
 ghost use Rattle.built_programs.specs.Built as spec;
 
-use icode_ops::BinKind;
 use typed_tree::{Expr, Function, Library, Stmt};
 
-fn is_operator(kind: BinKind) -> bool
-    ensures { result ≡ spec.is_operator kind }
+// Whether a function of the library makes no objects in memory.
+fn is_without_memory(function: Library) -> bool
+    ensures { result ≡ spec.is_without_memory function }
 {
-    matches!(kind, BinKind::Add | BinKind::Subtract | BinKind::LessSigned)
+    !matches!(function, Library::Malloc)
 }
 
-fn is_putchar(function: Library) -> bool
-    ensures { result ≡ spec.is_putchar function }
+// A number of the tree is a word: its type says so, and reading it is what tells the proof.
+fn is_word(number: &u32) -> bool
+    ensures { result ≡ spec.is_word number.now }
 {
-    matches!(function, Library::Putchar)
+    let _word = *number;
+    true
 }
 
 // Whether each node of an expression is of the list.
@@ -25,23 +27,22 @@ fn is_listed_expression(e: &Expr) -> bool
     ensures { result ≡ spec.is_listed_expr (expr_view e.now) }
 {
     match e {
-        Expr::Const(word) => {
-            // Its type says that it is a word; reading it is what tells the proof.
-            let _word = *word;
-            true
+        Expr::Const(number) | Expr::PostVar(_, _, number) => is_word(number),
+        Expr::Var(_) | Expr::Getchar => true,
+        Expr::SetVar(_, a) | Expr::Un(_, a) | Expr::Void(a) => is_listed_expression(a.get()),
+        Expr::Bin(_, a, b) | Expr::And(a, b) | Expr::Or(a, b) | Expr::Comma(a, b) => {
+            is_listed_expression(a.get()) && is_listed_expression(b.get())
         }
-        Expr::Var(_) => true,
-        Expr::SetVar(_, a) => is_listed_expression(a.get()),
-        Expr::Bin(kind, a, b) => {
-            is_operator(*kind) && is_listed_expression(a.get()) && is_listed_expression(b.get())
+        Expr::Cond(test, a, b) => {
+            is_listed_expression(test.get())
+                && is_listed_expression(a.get())
+                && is_listed_expression(b.get())
         }
-        Expr::Lib(function, a) => is_putchar(*function) && is_listed_expression(a.get()),
-        Expr::Captured(_, _) | Expr::PostVar(_, _, _) | Expr::VGet(_) => false,
-        Expr::VSet(_, _) | Expr::VPost(_, _) | Expr::Frame(_) => false,
-        Expr::Load(_, _) | Expr::Store(_, _, _) | Expr::Modify(_, _, _, _) => false,
-        Expr::Post(_, _, _) | Expr::Un(_, _) | Expr::And(_, _) | Expr::Or(_, _) => false,
-        Expr::Cond(_, _, _) | Expr::Comma(_, _) | Expr::Void(_) => false,
-        Expr::Call(_, _, _) | Expr::CallNumber(_, _, _) | Expr::Getchar => false,
+        Expr::Lib(function, a) => is_without_memory(*function) && is_listed_expression(a.get()),
+        Expr::Captured(_, _) | Expr::VGet(_) | Expr::VSet(_, _) | Expr::VPost(_, _) => false,
+        Expr::Frame(_) | Expr::Load(_, _) | Expr::Store(_, _, _) => false,
+        Expr::Modify(_, _, _, _) | Expr::Post(_, _, _) => false,
+        Expr::Call(_, _, _) | Expr::CallNumber(_, _, _) => false,
         Expr::Tick(_, _) | Expr::Capture(_, _) | Expr::Splice(_, _) => false,
         Expr::Compile(_) | Expr::Local | Expr::ParamOf(_) => false,
     }
@@ -58,8 +59,7 @@ fn is_listed_statement(s: &Stmt) -> bool
         Stmt::Block(variables, items) => {
             are_listed(variables.as_slice()) && are_listed(items.as_slice())
         }
-        Stmt::Variable(_) => true,
-        Stmt::If(test, a) | Stmt::While(test, a) => {
+        Stmt::If(test, a) | Stmt::While(test, a) | Stmt::For(test, a) => {
             is_listed_expression(test.get()) && is_listed_statement(a.get())
         }
         Stmt::IfElse(test, a, b) => {
@@ -67,11 +67,21 @@ fn is_listed_statement(s: &Stmt) -> bool
                 && is_listed_statement(a.get())
                 && is_listed_statement(b.get())
         }
-        Stmt::Object(_, _) | Stmt::Parameter(_, _) => false,
-        Stmt::ParameterObject(_, _, _) | Stmt::Do(_, _) | Stmt::For(_, _) => false,
-        Stmt::ForStep(_, _, _) | Stmt::Switch(_, _, _) => false,
-        Stmt::Case(_) | Stmt::Default => false,
-        Stmt::Break | Stmt::Continue | Stmt::Return => false,
+        Stmt::Do(a, test) => is_listed_statement(a.get()) && is_listed_expression(test.get()),
+        Stmt::ForStep(test, step, a) => {
+            is_listed_expression(test.get())
+                && is_listed_expression(step.get())
+                && is_listed_statement(a.get())
+        }
+        Stmt::Switch(value, variables, items) => {
+            is_listed_expression(value.get())
+                && are_listed(variables.as_slice())
+                && are_listed(items.as_slice())
+        }
+        Stmt::Case(value) => is_word(value),
+        Stmt::Variable(_) | Stmt::Default => true,
+        Stmt::Break | Stmt::Continue | Stmt::Return => true,
+        Stmt::Object(_, _) | Stmt::Parameter(_, _) | Stmt::ParameterObject(_, _, _) => false,
     }
 }
 

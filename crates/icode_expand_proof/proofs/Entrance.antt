@@ -22,7 +22,7 @@ use Rattle.icode_meaning.specs.State.{Function, Frame, Log, Halted, nothing}
 use Rattle.icode_meaning.specs.Steps.{paid, moved_on, begun, entered, enter}
 use Rattle.icode_meaning.specs.Costs.{least_of, most_of}
 use Rattle.icode_templates_proof.specs.Spots.{pointer, frame_word, Framed}
-use Rattle.icode_templates_proof.specs.Moves.{Runs}
+use Rattle.icode_templates_proof.specs.Moves.{Runs, EndsIn}
 use Rattle.icode_templates_proof.proofs.Leaves.{runs_on}
 use Rattle.icode_frames_spec.specs.Frames.{CallersWait, unwound}
 use Rattle.icode_frames_spec.specs.Relation.{MemoryAgrees, ExtentsAgree, Holds, Pays}
@@ -31,7 +31,6 @@ use Rattle.icode_frames_spec.specs.Standing.{op_stands_at, Stands}
 use Rattle.icode_frames_spec.proofs.Codes.{front_stands}
 use Rattle.icode_frames_spec.proofs.Frames.{stacked_alike}
 use Rattle.icode_frames_proof.proofs.Beginning.{begins, overflows}
-use Rattle.icode_frames_proof.specs.Runs.{EndsIn}
 use Rattle.icode_frames_proof.proofs.Prologue.{frame_end}
 use Rattle.icode_steps_proof.proofs.Paying.{none_passed, runs_pay, memory_entered, extents_entered}
 

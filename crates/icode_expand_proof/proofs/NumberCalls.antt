@@ -15,7 +15,7 @@ use Rattle.icode_templates.specs.Templates.{in_code, number_call}
 use Rattle.icode_meaning.specs.State.{Function, Frame, Log, Halted}
 use Rattle.icode_meaning.specs.Steps.{uses_on, paid, call_at, call_row}
 use Rattle.icode_templates_proof.specs.Spots.{SameWorld, KeepsSpots}
-use Rattle.icode_templates_proof.specs.Moves.{Runs}
+use Rattle.icode_templates_proof.specs.Moves.{Runs, EndsIn}
 use Rattle.icode_templates_proof.proofs.Memory.{update_same, update_other}
 use Rattle.icode_templates_proof.proofs.Leaves.{leaves_run, runs_within, runs_on}
 use Rattle.icode_templates_proof.proofs.Operands.{one_in, in_leaves, keeps_one, load_gives, in_between}
@@ -26,7 +26,6 @@ use Rattle.icode_frames_spec.specs.Standing.{layout_of, op_stands_at, Stands}
 use Rattle.icode_frames_spec.proofs.Codes.{op_code, one_stands, code_low, next_at}
 use Rattle.icode_frames_spec.proofs.Frames.{spots, keeps_alike, alike_on}
 use Rattle.icode_frames_proof.proofs.Numbers.{row_data, set, none_ends, other_ends, row_goes}
-use Rattle.icode_frames_proof.specs.Runs.{EndsIn}
 use Rattle.icode_steps_proof.proofs.Liveness.{both_true}
 use Rattle.icode_steps_proof.proofs.Paying.{first_operand, stuck_pays}
 use Rattle.icode_expand_proof.proofs.Calls.{call_enters}

@@ -1,8 +1,7 @@
 -- Each step of the staged machine is simulated, whatever calls wait.
-use Rattle.std.proofs.Common.{◌≡◌, ◌⊎◌, inl, inr, nat_eq, ℕ, zero, suc, ◌+◌, ◌*◌, ◌≤◌, Bool, true, false, List, [], ◌∷◌}
-use Rattle.std.proofs.Common.{◌++◌}
-use Rattle.std.proofs.Common.{Option, Some, None, refl, sym, ap, ◌∙◌, subst, arith, slice_get, if◌then◌else◌}
-use Rattle.std.proofs.Common.{append_assoc}
+use Rattle.std.proofs.Common.{◌≡◌, ◌⊎◌, inl, inr, nat_eq, ℕ, zero, suc, ◌+◌, ◌*◌, ◌≤◌, Bool, true, false, List, []}
+use Rattle.std.proofs.Common.{◌∷◌, ◌++◌, Option, Some, None, refl, sym, ap, ◌∙◌, subst, arith, slice_get}
+use Rattle.std.proofs.Common.{if◌then◌else◌, append_assoc}
 use Rattle.std.specs.Fn.{iterate}
 use Rattle.pace.specs.Claims.{PaysFor, SimulatesStep}
 use Rattle.pace.proofs.Runs.{iterate_add}
@@ -19,12 +18,11 @@ use Rattle.mips_model.specs.Steps.{Is, fetch, step, run}
 use Rattle.mips_model.specs.Run as machine
 use Rattle.mips_model.specs.Laws.{HasAt, at}
 use Rattle.icode_ops.specs.declared.op.Op.{Op}
-use Rattle.icode_ops.specs.declared.op.Op.TheVariants.{Const, Move, Bin, FrameAddress, Clear, Label, Jump, BranchZero}
-use Rattle.icode_ops.specs.declared.op.Op.TheVariants.{BranchNonzero}
-use Rattle.icode_ops.specs.declared.op.Op.TheVariants.{Sys}
-use Rattle.icode_ops.specs.declared.op.Op.TheVariants.{Argument, GetParameter, Call, CallNumber, Result, Return}
-use Rattle.icode_ops.specs.declared.op.Op.TheVariants.{ReturnZero}
-use Rattle.icode_ops.specs.declared.kind.SysKind.TheVariants.{PutByte}
+use Rattle.icode_ops.specs.declared.op.Op.TheVariants.{Const, Move, Bin, FrameAddress, Load, Store, Clear, Label}
+use Rattle.icode_ops.specs.declared.op.Op.TheVariants.{Jump, BranchZero, BranchNonzero, Sys, Argument, GetParameter}
+use Rattle.icode_ops.specs.declared.op.Op.TheVariants.{Call, CallNumber, Result, Return, ReturnZero, CheckDivision}
+use Rattle.icode_ops.specs.declared.op.Op.TheVariants.{CheckZero, Un}
+use Rattle.icode_ops.specs.declared.kind.BinKind.{BinKind}
 use Rattle.icode_ops.specs.Flow.{first_use}
 use Rattle.icode_templates.specs.Layout.{parameter_spot}
 use Rattle.icode_templates.specs.Templates.{load_code}
@@ -32,21 +30,26 @@ use Rattle.icode_meaning.specs.State as staged
 use Rattle.icode_meaning.specs.State.{Function, Frame, Log, Running, Zeroing, Halted, Stuck, nothing, see, least_at}
 use Rattle.icode_meaning.specs.State.{most_at}
 use Rattle.icode_meaning.specs.Steps.{uses_on, act, checked, advance, first, paid, left, back, begun, entered, unless}
-use Rattle.icode_meaning.specs.Steps.{zeroing, address_of, goes_on, moved_on, call_at, call_row, set_from}
-use Rattle.meaning_state.specs.Shared.{Shared, limit_trap, are_objects}
+use Rattle.icode_meaning.specs.Steps.{zeroing, address_of, goes_on, moved_on, call_at, call_row, set_from, set}
+use Rattle.icode_meaning.specs.Steps.{untrapped}
+use Rattle.meaning_state.specs.Shared.{Shared, limit_trap, are_objects, access_trap}
+use Rattle.meaning_state.specs.Operators.{bin_value, bin_trap, signed_trap, zero_trap}
 use Rattle.icode_templates_proof.specs.Spots.{Framed}
-use Rattle.icode_frames_spec.specs.Relation.{Holds, Related, behind, Pays}
+use Rattle.icode_templates_proof.specs.Moves.{behind}
+use Rattle.icode_frames_spec.specs.Relation.{Holds, Related, Pays}
 use Rattle.icode_frames_spec.specs.Settings.{Setting, places_of, Standing}
 use Rattle.icode_frames_spec.specs.Standing.{layout_of, op_stands_at, Stands}
 use Rattle.icode_frames_spec.proofs.Codes.{op_code, one_stands}
 use Rattle.icode_frames_spec.proofs.Frames.{spots}
 use Rattle.icode_frames_spec.proofs.Places.{slot_usable}
+use Rattle.icode_steps_proof.proofs.Accesses.{access_least, load_pays, store_pays}
 use Rattle.icode_steps_proof.proofs.Liveness.{op_found, both_true}
 use Rattle.icode_steps_proof.proofs.ObjectAddresses.{address_pays}
-use Rattle.icode_steps_proof.proofs.Ops.{const_pays, move_pays, bin_pays, put_pays, jump_pays, zero_pays, nonzero_pays}
-use Rattle.icode_steps_proof.proofs.Ops.{label_pays}
+use Rattle.icode_steps_proof.proofs.Operators.{un_pays, bin_pays, zero_check_pays, division_check_pays}
+use Rattle.icode_steps_proof.proofs.Ops.{const_pays, move_pays, jump_pays, zero_pays, nonzero_pays, label_pays}
 use Rattle.icode_steps_proof.proofs.Paying.{first_operand}
 use Rattle.icode_steps_proof.proofs.Recent.{IsOnward, IsGentle, head_gentle, load_gentle, at_any}
+use Rattle.icode_steps_proof.proofs.SystemCalls.{service_pays, service_least}
 use Rattle.icode_steps_proof.proofs.Zeroing.{round_pays, clear_pays}
 use Rattle.icode_steps_proof.specs.Served.{IsServed, Serving}
 use Rattle.icode_expand_proof.specs.Laws.{Arrives, ProgramIsSimulated, ProgramKeepsCode}
@@ -65,6 +68,11 @@ enter_least : (t : Option TrapKind) (f : Function) (arguments : ℕ → Option �
     → least_at (unless t log (goes_on (begun f arguments) waiting (entered f log))) ≡ log.least
 enter_least None f arguments waiting log = refl
 enter_least (Some k) f arguments waiting log = refl
+
+unless_least : (t : Option TrapKind) (x : staged.State) (log : Log) → log.least ≤ least_at x
+    → log.least ≤ least_at (unless t log x)
+unless_least None x log le = le
+unless_least (Some k) x log le = omega arith
 
 zeroing_least : (n address : ℕ) (w : Frame) (waiting : List Frame) (log : Log)
     → least_at (zeroing n address w waiting log) ≡ log.least
@@ -218,6 +226,19 @@ module _ (s : Setting) (st : Standing s) (sv : Serving s) where
         (head (Clear offset words) _ (one_stands s.code f places stands w.index (Clear offset words) i).0 refl tt)
         (omega (arith, least)) (clear_pays s st w waiting offset words i arguments answer log d h e)
 
+    applied_pays : (kind : BinKind) (to left right : ℕ) → slice_get f.ops w.index ≡ Some (Bin kind to left right)
+        → uses_on (Bin kind to left right) w.on ≡ true → (trap : Option TrapKind)
+        → bin_trap kind (w.values left) (w.values right) ≡ trap
+        → Pays s (untrapped trap log (goes_on (set to (bin_value kind (w.values left) (w.values right)) w) waiting
+        (paid (Bin kind to left right) log))) log (behind s.code a q d)
+    applied_pays kind to left right i u None e =
+        begun_at (goes_on (set to (bin_value kind (w.values left) (w.values right)) w) waiting
+        (paid (Bin kind to left right) log))
+        (operand_gentle (Bin kind to left right) left _ i refl (both_true (w.on left) (w.on right) u).0
+        (append_assoc (load_code 24 ((layout_of f places).spot left)) _ _)) (omega arith)
+        (bin_pays s st w arguments answer waiting log d h kind to left right i u None e)
+    applied_pays kind to left right i u (Some k) e = stuck_any log q a d h.memory.history
+
     op_pays : (o : Op) → slice_get f.ops w.index ≡ Some o → uses_on o w.on ≡ true → IsServed o
         → Pays s (act s.program o w arguments answer waiting log) log (behind s.code a q d)
     op_pays (Const to word) i u z = begun_at (act s.program (Const to word) w arguments answer waiting log)
@@ -228,15 +249,46 @@ module _ (s : Setting) (st : Standing s) (sv : Serving s) where
         (append_assoc (load_code 24 ((layout_of f places).spot from)) _ _)) (omega arith)
         (move_pays s st w arguments answer waiting log d h to from i u)
     op_pays (Bin kind to left right) i u z =
-        begun_at (act s.program (Bin kind to left right) w arguments answer waiting log)
-        (operand_gentle (Bin kind to left right) left _ i refl (both_true (w.on left) (w.on right) u).0
-        (append_assoc (load_code 24 ((layout_of f places).spot left)) _ _)) (omega arith)
-        (bin_pays s st w arguments answer waiting log d h kind to left right i u z)
+        applied_pays kind to left right i u (bin_trap kind (w.values left) (w.values right)) refl
+    op_pays (CheckDivision left right) i u z =
+        let trap = signed_trap (w.values left) (w.values right) in
+        let o = CheckDivision left right in
+        let least = unless_least trap (goes_on (moved_on w) waiting (paid o log)) (paid o log) (omega arith) in
+        begun_at (act s.program o w arguments answer waiting log)
+        (operand_gentle o left _ i refl (both_true (w.on left) (w.on right) u).0
+        (append_assoc (load_code 24 ((layout_of f places).spot left)) _ _)) (omega (arith, least))
+        (division_check_pays s st w arguments answer waiting log d h left right i u trap refl)
+    op_pays (CheckZero divisor) i u z =
+        let trap = zero_trap (w.values divisor) in
+        let o = CheckZero divisor in
+        let least = unless_least trap (goes_on (moved_on w) waiting (paid o log)) (paid o log) (omega arith) in
+        begun_at (act s.program o w arguments answer waiting log)
+        (operand_gentle o divisor _ i refl (both_true (w.on divisor) true u).0
+        (append_assoc (load_code 24 ((layout_of f places).spot divisor)) _ _)) (omega (arith, least))
+        (zero_check_pays s st w arguments answer waiting log d h divisor i u trap refl)
+    op_pays (Un kind to from) i u z = begun_at (act s.program (Un kind to from) w arguments answer waiting log)
+        (operand_gentle (Un kind to from) from _ i refl (both_true (w.on from) true u).0
+        (append_assoc (load_code 24 ((layout_of f places).spot from)) _ _)) (omega arith)
+        (un_pays s st w arguments answer waiting log d h kind to from i u)
     op_pays (FrameAddress to offset) i u z =
         begun_at (act s.program (FrameAddress to offset) w arguments answer waiting log)
         (head (FrameAddress to offset) _ (one_stands s.code f places stands w.index (FrameAddress to offset) i).0 refl
         tt)
         (omega arith) (address_pays s st w arguments answer waiting log d h to offset i)
+    op_pays (Load kind to from) i u z =
+        begun_at (act s.program (Load kind to from) w arguments answer waiting log)
+        (operand_gentle (Load kind to from) from _ i refl (both_true (w.on from) true u).0
+        (append_assoc (load_code 24 ((layout_of f places).spot from)) _ _))
+        (access_least (access_trap (w.values from) kind) log (paid (Load kind to from) log) _ (omega arith)
+        (omega arith))
+        (load_pays s st w arguments answer waiting log d h kind to from i u)
+    op_pays (Store kind to from) i u z =
+        begun_at (act s.program (Store kind to from) w arguments answer waiting log)
+        (operand_gentle (Store kind to from) to _ i refl (both_true (w.on to) (w.on from) u).0
+        (append_assoc (load_code 24 ((layout_of f places).spot to)) _ _))
+        (access_least (access_trap (w.values to) kind) log (paid (Store kind to from) log) _ (omega arith)
+        (omega arith))
+        (store_pays s st w arguments answer waiting log d h kind to from i u)
     op_pays (Clear offset words) i u z =
         cleared_pays offset words (are_objects (address_of offset w log) words) refl i
     op_pays (Label label) i u z = label_pays s st w arguments answer waiting log d h q label le i
@@ -272,10 +324,11 @@ module _ (s : Setting) (st : Standing s) (sv : Serving s) where
         begun_at (act s.program ReturnZero w arguments answer waiting log)
         (head ReturnZero _ (one_stands s.code f places stands w.index ReturnZero i).0 refl tt)
         (omega (arith, least)) (zero_return_pays s st w arguments answer waiting log d i h)
-    op_pays (Sys PutByte to from) i u z = begun_at (act s.program (Sys PutByte to from) w arguments answer waiting log)
-        (operand_gentle (Sys PutByte to from) from _ i refl (both_true (w.on from) true u).0
-        (append_assoc (load_code 24 ((layout_of f places).spot from)) _ _)) (omega arith)
-        (put_pays s st w arguments answer waiting log d h to from i u)
+    op_pays (Sys kind to from) i u z = begun_at (act s.program (Sys kind to from) w arguments answer waiting log)
+        (operand_gentle (Sys kind to from) from _ i refl (both_true (w.on from) true u).0
+        (append_assoc (load_code 24 ((layout_of f places).spot from)) _ _))
+        (service_least s.program kind to from w arguments answer waiting log)
+        (service_pays s st w arguments answer waiting log d h kind to from i u)
     op_pays o i u z = absurd z
 
     used_pays : (b : Bool) (o : Op) → slice_get f.ops w.index ≡ Some o → uses_on o w.on ≡ b → IsServed o

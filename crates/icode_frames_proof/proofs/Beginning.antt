@@ -17,7 +17,7 @@ use Rattle.icode_expand.specs.Laws.{AllPlaces}
 use Rattle.icode_expand.proofs.Kept.{saved_are}
 use Rattle.icode_meaning.specs.State.{Function}
 use Rattle.icode_templates_proof.specs.Spots.{pointer, frame_word}
-use Rattle.icode_templates_proof.specs.Moves.{Runs}
+use Rattle.icode_templates_proof.specs.Moves.{Runs, EndsIn}
 use Rattle.icode_templates_proof.proofs.Keeping.{with_registers}
 use Rattle.icode_frames_spec.specs.Frames.{place_number, unwound_register, counted_cells}
 use Rattle.icode_frames_spec.specs.Standing.{front_code, Stands}
@@ -25,7 +25,7 @@ use Rattle.icode_frames_spec.proofs.Addresses.{past_rises}
 use Rattle.icode_frames_spec.proofs.Codes.{front_stands, front_low, start_at}
 use Rattle.icode_frames_spec.proofs.Frames.{by_register, found_other}
 use Rattle.icode_frames_spec.proofs.Places.{place_bounds, few_places, register_of_number, has_low}
-use Rattle.icode_frames_proof.specs.Runs.{EndsIn, Beginning}
+use Rattle.icode_frames_proof.specs.Runs.{Beginning}
 use Rattle.icode_frames_proof.specs.Laws.{FunctionsBegin, StackLimitTraps, FrameLimitTraps}
 use Rattle.icode_frames_proof.proofs.Counts.{CountRun, enter_run}
 use Rattle.icode_frames_proof.proofs.Entering.{Entered, charged, enters_with, behind_test, prologue_reaches}

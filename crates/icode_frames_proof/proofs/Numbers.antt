@@ -22,7 +22,7 @@ use Rattle.mips_model.specs.Steps.{ended}
 use Rattle.std.specs.Int.Bits.{xor_add_and, xor_self}
 use Rattle.std.proofs.lemmas.Nat.{and_le_l, and_le_r}
 use Rattle.icode_frames_proof.proofs.Prologue.{ends_in, ends_late}
-use Rattle.icode_frames_proof.specs.Runs.{EndsIn}
+use Rattle.icode_templates_proof.specs.Moves.{EndsIn}
 use Rattle.icode_templates_proof.proofs.Keeping.{with_registers}
 use Rattle.icode_templates_proof.proofs.Leaves.{Leaves, leaves_on, leaves_run}
 use Rattle.icode_templates_proof.proofs.Jumps.{in_slot, slot_runs, branch_reaches}

@@ -27,7 +27,7 @@ use Rattle.icode_templates_proof.proofs.Leaves.{Leaves, leaves_run}
 use Rattle.icode_templates_proof.proofs.Keeping.{with_registers}
 use Rattle.icode_templates_proof.proofs.Jumps.{branch_reaches}
 use Rattle.icode_templates_proof.proofs.Templates.{constant_parts}
-use Rattle.icode_frames_proof.specs.Runs.{EndsIn}
+use Rattle.icode_templates_proof.specs.Moves.{EndsIn}
 use Rattle.icode_frames_proof.proofs.Entering.{test_code, charged, frame_tests}
 
 pub ends_in : (k : ℕ) (end : End) (s : State) (c : Code) (a : ℕ) (d : Data) → iterate step k (going s) ≡ ended end

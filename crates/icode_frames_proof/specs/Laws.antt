@@ -8,8 +8,9 @@ use Rattle.mips_model.specs.State.{Code, Data}
 use Rattle.mips_model.specs.Laws.{at}
 use Rattle.icode_meaning.specs.State.{Function}
 use Rattle.icode_templates_proof.specs.Spots.{pointer, Framed}
+use Rattle.icode_templates_proof.specs.Moves.{EndsIn}
 use Rattle.icode_frames_spec.specs.Standing.{Stands}
-use Rattle.icode_frames_proof.specs.Runs.{EndsIn, Beginning, Leaving}
+use Rattle.icode_frames_proof.specs.Runs.{Beginning, Leaving}
 
 -- the frame and its objects are within the limits
 abbrev pub FunctionsBegin : Type 0

@@ -1,24 +1,12 @@
 -- The run from a function's first instruction to its first op, and from its epilogue back to its caller.
-use Rattle.std.specs.Prelude.{◌≡◌, ℕ, ◌+◌, ◌-◌, ◌≤◌, List, Some}
-use Rattle.std.specs.Fn.{iterate}
-use Rattle.history.specs.Events.{Item, End}
-use Rattle.mips_model.specs.State.{Code, Data, State}
-use Rattle.mips_model.specs.Steps.{step, going}
+use Rattle.std.specs.Prelude.{◌≡◌, ℕ, ◌+◌, ◌-◌, List}
+use Rattle.mips_model.specs.State.{Code, Data}
 use Rattle.mips_model.specs.Laws.{at}
 use Rattle.icode_meaning.specs.State.{Function}
 use Rattle.icode_templates_proof.specs.Spots.{pointer, frame_word}
 use Rattle.icode_templates_proof.specs.Moves.{Runs}
 use Rattle.icode_frames_spec.specs.Standing.{op_stands_at, leave_at}
 use Rattle.icode_frames_spec.specs.Frames.{Alike, Counted, unwound}
-
--- the run ends within so many instructions, at least and at most, with this history and with the code as it was
-pub record EndsIn (least most : ℕ) (end : End) (s : State) (c : Code) (history : List Item) : Type 0 where
-  pub count : ℕ
-  pub over : least ≤ count
-  pub under : count ≤ most
-  pub ending : (iterate step count (going s)).ending ≡ Some end
-  pub history_is : (iterate step count (going s)).state.d.outside.history ≡ history
-  pub code_is : (iterate step count (going s)).state.code ≡ c
 
 -- The function has begun: its frame and its frame's objects are taken, its caller will find again what it left, the
 -- return address stands in the frame, and the call is counted where the function is compiled.

@@ -15,6 +15,7 @@ use Rattle.meaning_state.specs.Shared.{Shared}
 use Rattle.icode_meaning.specs.State.{Program, Frame, Log, State, Running, Zeroing, Halted, Stuck, nothing, see}
 use Rattle.icode_meaning.specs.State.{least_at, most_at}
 use Rattle.icode_templates_proof.specs.Spots.{pointer, frame_word}
+use Rattle.icode_templates_proof.specs.Moves.{behind}
 use Rattle.icode_frames_spec.specs.Standing.{op_stands_at}
 use Rattle.icode_frames_spec.specs.Settings.{Setting, places_of, Standing, Published}
 use Rattle.icode_frames_spec.specs.Frames.{FrameAgrees, CallersWait, unwound}
@@ -57,10 +58,6 @@ pub record Holds (s : Setting) (w : Frame) (arguments : ℕ → Option ℕ) (ans
   pub passed : ArgumentsAgree arguments d
   pub answered : AnswerAgrees answer d
   pub waits : CallersWait s waiting (unwound w.function (places_of s w.function) d) (frame_word d 80)
-
--- a state at an address, where HI and LO must not be set for so many instructions
-abbrev pub behind : Code → ℕ → ℕ → Data → machine.State
-behind c a recent d = record { pc = a; next = a + 4; loaded = 0; recent = recent; slot = false; code = c; d = d }
 
 -- the world stands at the running call's next op
 pub record StandsAt (s : Setting) (w : Frame) (arguments : ℕ → Option ℕ) (answer : Option ℕ) (waiting : List Frame)

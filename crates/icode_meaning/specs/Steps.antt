@@ -16,7 +16,7 @@ use Rattle.icode_ops.specs.declared.op.Op.TheVariants.{ReturnZero, Sys, Run}
 use Rattle.icode_ops.specs.declared.kind.SysKind.TheVariants.{PutInteger, PutByte, GetByte, Exit}
 use Rattle.icode_ops.specs.declared.kind.RunKind.TheVariants as run
 use Rattle.icode_ops.specs.Flow.{first_use, second_use, label_of, holds}
-use Rattle.meaning_state.specs.Operators.{bin_value, un_value, signed_trap, zero_trap}
+use Rattle.meaning_state.specs.Operators.{bin_value, un_value, bin_trap, signed_trap, zero_trap}
 use Rattle.meaning_state.specs.Shared.{Shared, Specification, Local, Param, byte_answer, put_byte, put_number}
 use Rattle.meaning_state.specs.Shared.{malloc_answer, malloc, Read, Got, Failed, get_byte, access_trap, loaded, stored}
 use Rattle.meaning_state.specs.Shared.{are_objects, zeroed, frame_start, limit_trap, charged, discharged}
@@ -73,6 +73,11 @@ goes_on frame waiting log = Running frame nothing None waiting log
 abbrev pub unless : Option TrapKind → Log → State → State
 unless None log s = s
 unless (Some kind) log s = Halted (Ended (Trap kind)) log
+
+-- an operator has a value where it has no trap; one whose trap was not checked for is stuck
+abbrev pub untrapped : Option TrapKind → Log → State → State
+untrapped None log s = s
+untrapped (Some kind) log s = Stuck log
 
 -- a call begins: none of its registers is set
 abbrev pub begun : Function → (ℕ → Option ℕ) → Frame
@@ -165,7 +170,8 @@ act program (Const to word) frame arguments answer waiting log =
 act program (Move to from) frame arguments answer waiting log =
     goes_on (set to (frame.values from) frame) waiting (paid (Move to from) log)
 act program (Bin kind to a b) frame arguments answer waiting log =
-    goes_on (set to (bin_value kind (frame.values a) (frame.values b)) frame) waiting (paid (Bin kind to a b) log)
+    untrapped (bin_trap kind (frame.values a) (frame.values b)) log
+    (goes_on (set to (bin_value kind (frame.values a) (frame.values b)) frame) waiting (paid (Bin kind to a b) log))
 act program (CheckDivision a b) frame arguments answer waiting log =
     unless (signed_trap (frame.values a) (frame.values b)) (paid (CheckDivision a b) log)
     (goes_on (moved_on frame) waiting (paid (CheckDivision a b) log))

@@ -8,3 +8,6 @@ pub mod Zeroing
 pub mod ObjectAddresses
 pub mod Ops
 pub mod Growing
+pub mod SystemCalls
+pub mod Accesses
+pub mod Operators

@@ -5,31 +5,28 @@ use Rattle.history.specs.Events.{Item, Out}
 use Rattle.mips_model.specs.State.{Code, Data, Outside}
 use Rattle.mips_model.specs.Laws.{past, at}
 use Rattle.mips_model.proofs.Reach.{past_append}
-use Rattle.icode_ops.specs.declared.op.Op.TheVariants.{Const, Move, Bin, Jump, Label, BranchZero, BranchNonzero, Sys}
-use Rattle.icode_ops.specs.declared.kind.BinKind.{BinKind}
+use Rattle.icode_ops.specs.declared.op.Op.TheVariants.{Const, Move, Jump, Label, BranchZero, BranchNonzero, Sys}
 use Rattle.icode_ops.specs.declared.kind.SysKind.TheVariants.{PutByte}
 use Rattle.icode_templates.specs.Templates.{ToLabel, in_code}
 use Rattle.icode_expand.specs.Expansion.{op_address}
 use Rattle.icode_meaning.specs.State.{Function, Frame, Log, Running, nothing}
 use Rattle.icode_meaning.specs.Steps.{uses_on, paid, sharing, moved, set, label_index, branch}
-use Rattle.meaning_state.specs.Operators.{bin_value}
 use Rattle.meaning_state.specs.Shared.{put_byte, byte_answer}
 use Rattle.icode_templates_proof.specs.Spots.{value, frame_word}
-use Rattle.icode_templates_proof.specs.Moves.{Writes}
-use Rattle.icode_templates_proof.specs.Laws.{IsStraight, zero_code, nonzero_code, said}
-use Rattle.icode_templates_proof.proofs.Operators.{bin_range}
-use Rattle.icode_templates_proof.proofs.Templates.{const_writes, move_writes, bin_writes, jump_comes, zero_goes}
+use Rattle.icode_templates_proof.specs.Moves.{Writes, behind}
+use Rattle.icode_templates_proof.specs.Laws.{zero_code, nonzero_code, said}
+use Rattle.icode_templates_proof.proofs.Templates.{const_writes, move_writes, jump_comes, zero_goes}
 use Rattle.icode_templates_proof.proofs.Templates.{zero_passes, nonzero_goes, nonzero_passes}
 use Rattle.icode_templates_proof.proofs.Services.{put_writes}
 use Rattle.icode_frames_spec.specs.Frames.{Alike}
-use Rattle.icode_frames_spec.specs.Relation.{Holds, Pays, behind}
+use Rattle.icode_frames_spec.specs.Relation.{Holds, Pays}
 use Rattle.icode_frames_spec.specs.Settings.{Setting, places_of, Standing}
 use Rattle.icode_frames_spec.specs.Standing.{layout_of, ops_at, op_stands_at, Stands}
 use Rattle.icode_frames_spec.proofs.Addresses.{label_is, address_even}
 use Rattle.icode_frames_spec.proofs.Codes.{aims_of, op_code, one_stands, code_low, ops_even, next_at}
 use Rattle.icode_frames_spec.proofs.Frames.{spots, suits_known, ready_alike, stacked_alike, unwound_alike}
 use Rattle.icode_steps_proof.proofs.Liveness.{next_follows, label_follows, live_before, both_true}
-use Rattle.icode_steps_proof.proofs.Paying.{first_operand, second_operand, none_passed}
+use Rattle.icode_steps_proof.proofs.Paying.{first_operand, none_passed}
 use Rattle.icode_steps_proof.proofs.Within.{holds_next, keeps_within}
 use Rattle.icode_steps_proof.proofs.Writes.{defined_inside, write_pays, come_pays}
 use Rattle.mips_model.specs.Steps.{going}
@@ -111,28 +108,6 @@ module _ (s : Setting) (st : Standing s) where
         (move_writes s.code a f.charge d (spot to) (spot from) h.ready.framed
         (spots f places to stands.suits (defined_inside s st w o to h.known i refl))
         (spots f places from stands.suits x.inside) x.word (one_stands s.code f places stands w.index o i)))
-
-    pub bin_pays : (kind : BinKind) (to left right : ℕ) → slice_get f.ops w.index ≡ Some (Bin kind to left right)
-        → uses_on (Bin kind to left right) w.on ≡ true → IsStraight kind
-        → Pays s (Running (set to (bin_value kind (w.values left) (w.values right)) w) nothing None waiting
-        (paid (Bin kind to left right) log)) log (at s.code a 0 d)
-    bin_pays kind to left right i u straight =
-        let o = Bin kind to left right in
-        let q = both_true (w.on left) (w.on right) u in
-        let x = first_operand s st w d o left h.known h.ready i refl q.0 in
-        let y = second_operand s st w d o right h.known h.ready i refl q.1 in
-        let spot = (layout_of f places).spot in
-        let e = ap (λ z. bin_value kind z (value d (spot right))) x.value_is ∙ ap (bin_value kind (w.values left))
-        y.value_is in
-        write_pays s st w arguments answer waiting log log (at s.code a 0 d) o to
-        (bin_value kind (w.values left) (w.values right)) 4 12 d i refl refl
-        (bin_range kind (w.values left) (w.values right) straight (h.ready.words left) (h.ready.words right))
-        (omega arith) (omega arith) (omega arith) (omega arith) h
-        (subst (λ z. Writes (spot to) z 4 12 (at s.code a 0 d) s.code (past a (op_code f places o)) d) e
-        (bin_writes kind straight s.code a f.charge d (spot to) (spot left) (spot right) h.ready.framed
-        (spots f places to stands.suits (defined_inside s st w o to h.known i refl))
-        (spots f places left stands.suits x.inside) (spots f places right stands.suits y.inside) x.word y.word
-        (one_stands s.code f places stands w.index o i)))
 
     pub put_pays : (to from : ℕ) → slice_get f.ops w.index ≡ Some (Sys PutByte to from) → uses_on (Sys PutByte to from)
         w.on ≡ true

@@ -16,8 +16,9 @@ use Rattle.icode_templates.specs.Layout.{Spot, InRegister, InSlot}
 use Rattle.icode_templates.specs.Assembly.{lw}
 use Rattle.icode_templates.specs.Templates.{load_code}
 use Rattle.icode_templates_proof.specs.Spots.{pointer, Framed, Usable}
+use Rattle.icode_templates_proof.specs.Moves.{behind}
 use Rattle.icode_meaning.specs.State.{Log, State, least_at}
-use Rattle.icode_frames_spec.specs.Relation.{behind, Related, Pays}
+use Rattle.icode_frames_spec.specs.Relation.{Related, Pays}
 use Rattle.icode_frames_spec.specs.Settings.{Setting}
 
 -- the run goes on behind the effect

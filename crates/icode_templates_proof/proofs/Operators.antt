@@ -1,11 +1,14 @@
 -- What the instructions of an operator do with $t8 and $t9.
 use Rattle.std.proofs.Common.{◌≡◌, ◌≢◌, inl, inr, ℕ, ◌/◌, ◌%◌, ◌<◌, ◌^◌, Bool, true, false, not, List, refl, sym, ap}
 use Rattle.std.proofs.Common.{◌∙◌, arith, nat_eq, nat_lt, bit_and, bit_or, bit_xor, ◌-◌, if◌then◌else◌}
+use Rattle.std.proofs.Common.{ℤ, pos, negsuc, int_div, int_rem}
 use Rattle.std.proofs.lemmas.Bool.{cases_eq, cases_lt, ne_eqb, eq-eqb}
 use Rattle.std.proofs.lemmas.Bool.Decides.{nat_tests}
 use Rattle.std.proofs.lemmas.Nat.{or_of_32, xor_of_32, and_le_l, and_le_r}
+use Rattle.std.proofs.Math.Nat.{div-le_self, mod-le}
 use Rattle.std.specs.Int.Bits.{xor_add_and, xor_self}
 use Rattle.word32.specs.Words.{sum, difference, is_less_signed, shifted_left, shifted_right, shifted_right_signed}
+use Rattle.word32.specs.Words.{signed, word_of}
 use Rattle.word32.specs.Space.{update}
 use Rattle.mips_encoder.specs.declared.instruction.Instr.{Instr}
 use Rattle.mips_model.specs.State.{Data}
@@ -14,11 +17,19 @@ use Rattle.icode_ops.specs.declared.kind.BinKind.{BinKind}
 use Rattle.icode_ops.specs.declared.kind.BinKind.TheVariants as bin
 use Rattle.meaning_state.specs.Operators.{bin_value, truth}
 use Rattle.icode_templates.specs.Templates.{bin_core}
-use Rattle.icode_templates_proof.specs.Laws.{IsStraight}
 use Rattle.icode_templates_proof.specs.Spots.{KeepsSpots}
 use Rattle.icode_templates_proof.proofs.Leaves.{Leaves}
 use Rattle.icode_templates_proof.proofs.Keeping.{with_registers, keeps_on, keeps_write, not_24}
 use Rattle.icode_templates_proof.proofs.Operands.{Between}
+
+-- the kinds that use neither HI nor LO
+abbrev pub IsStraight : BinKind → Type 0
+IsStraight bin.Multiply = ⊥
+IsStraight bin.DivideSigned = ⊥
+IsStraight bin.DivideUnsigned = ⊥
+IsStraight bin.RemainderSigned = ⊥
+IsStraight bin.RemainderUnsigned = ⊥
+IsStraight kind = Unit {0}
 
 -- the operator's instructions leave its value in $t8, and keep all spots
 pub record Core (is : List Instr) (x : ℕ) (d : Data) : Type 0 where
@@ -68,10 +79,10 @@ is_unequal a b = elim (cases_eq a b) [
 ]
 
 -- a value is computed by one instruction, or by two
-by_one : {is : List Instr} (v x : ℕ) (d : Data) → Leaves is 0 d 0 (one v d) → v ≡ x → Core is x d
+pub by_one : {is : List Instr} (v x : ℕ) (d : Data) → Leaves is 0 d 0 (one v d) → v ≡ x → Core is x d
 by_one v x d leaves e = record { after = one v d; leaves = leaves; keeps = keeps_t8 v d; result = e }
 
-by_two : {is : List Instr} (v v' x : ℕ) (d : Data) → Leaves is 0 d 0 (two v v' d) → v' ≡ x → Core is x d
+pub by_two : {is : List Instr} (v v' x : ℕ) (d : Data) → Leaves is 0 d 0 (two v v' d) → v' ≡ x → Core is x d
 by_two v v' x d leaves e = record { after = two v v' d; leaves = leaves; keeps = keeps_t8_twice v v' d; result = e }
 
 pub core_of : (kind : BinKind) (d : Data) → IsStraight kind →
@@ -142,7 +153,7 @@ core_between bin.GreaterUnsigned = record { over = omega arith; under = omega ar
 core_between bin.GreaterOrEqualSigned = record { over = omega arith; under = omega arith }
 core_between bin.GreaterOrEqualUnsigned = record { over = omega arith; under = omega arith }
 
-truth_range : (b : Bool) → truth b < 4294967296
+pub truth_range : (b : Bool) → truth b < 4294967296
 truth_range true = omega arith
 truth_range false = omega arith
 
@@ -156,29 +167,33 @@ signed_right_range a n h = elim (cases_lt a 2147483648) [
   | inr l ↦ let t : nat_lt a 2147483648 ≡ false = grind (arith, nat_tests) in rw t (omega arith)
 ]
 
+pub word_range : (z : ℤ) → word_of z < 4294967296
+word_range (pos n) = omega arith
+word_range (negsuc n) = omega arith
+
 -- an operator on words gives a word
-pub bin_range : (kind : BinKind) (a b : ℕ) → IsStraight kind → a < 4294967296 → b < 4294967296 →
+pub bin_range : (kind : BinKind) (a b : ℕ) → a < 4294967296 → b < 4294967296 →
     bin_value kind a b < 4294967296
-bin_range bin.Add a b s u v = omega arith
-bin_range bin.Subtract a b s u v = omega arith
-bin_range bin.Multiply a b s u v = absurd s
-bin_range bin.DivideSigned a b s u v = absurd s
-bin_range bin.DivideUnsigned a b s u v = absurd s
-bin_range bin.RemainderSigned a b s u v = absurd s
-bin_range bin.RemainderUnsigned a b s u v = absurd s
-bin_range bin.And a b s u v = omega (arith, and_le_l a b, u)
-bin_range bin.Or a b s u v = or_of_32 a b u v
-bin_range bin.Xor a b s u v = xor_of_32 a b u v
-bin_range bin.ShiftLeft a b s u v = omega arith
-bin_range bin.ShiftRightSigned a b s u v = signed_right_range a (b % 32) u
-bin_range bin.ShiftRightUnsigned a b s u v = right_range a (b % 32) u
-bin_range bin.Equal a b s u v = truth_range (nat_eq a b)
-bin_range bin.NotEqual a b s u v = truth_range (not (nat_eq a b))
-bin_range bin.LessSigned a b s u v = truth_range (is_less_signed a b)
-bin_range bin.LessUnsigned a b s u v = truth_range (nat_lt a b)
-bin_range bin.LessOrEqualSigned a b s u v = truth_range (not (is_less_signed b a))
-bin_range bin.LessOrEqualUnsigned a b s u v = truth_range (not (nat_lt b a))
-bin_range bin.GreaterSigned a b s u v = truth_range (is_less_signed b a)
-bin_range bin.GreaterUnsigned a b s u v = truth_range (nat_lt b a)
-bin_range bin.GreaterOrEqualSigned a b s u v = truth_range (not (is_less_signed a b))
-bin_range bin.GreaterOrEqualUnsigned a b s u v = truth_range (not (nat_lt a b))
+bin_range bin.Add a b u v = omega arith
+bin_range bin.Subtract a b u v = omega arith
+bin_range bin.Multiply a b u v = omega arith
+bin_range bin.DivideSigned a b u v = word_range (int_div (signed a) (signed b))
+bin_range bin.DivideUnsigned a b u v = omega (arith, div-le_self a b, u)
+bin_range bin.RemainderSigned a b u v = word_range (int_rem (signed a) (signed b))
+bin_range bin.RemainderUnsigned a b u v = omega (arith, mod-le a b, u)
+bin_range bin.And a b u v = omega (arith, and_le_l a b, u)
+bin_range bin.Or a b u v = or_of_32 a b u v
+bin_range bin.Xor a b u v = xor_of_32 a b u v
+bin_range bin.ShiftLeft a b u v = omega arith
+bin_range bin.ShiftRightSigned a b u v = signed_right_range a (b % 32) u
+bin_range bin.ShiftRightUnsigned a b u v = right_range a (b % 32) u
+bin_range bin.Equal a b u v = truth_range (nat_eq a b)
+bin_range bin.NotEqual a b u v = truth_range (not (nat_eq a b))
+bin_range bin.LessSigned a b u v = truth_range (is_less_signed a b)
+bin_range bin.LessUnsigned a b u v = truth_range (nat_lt a b)
+bin_range bin.LessOrEqualSigned a b u v = truth_range (not (is_less_signed b a))
+bin_range bin.LessOrEqualUnsigned a b u v = truth_range (not (nat_lt b a))
+bin_range bin.GreaterSigned a b u v = truth_range (is_less_signed b a)
+bin_range bin.GreaterUnsigned a b u v = truth_range (nat_lt b a)
+bin_range bin.GreaterOrEqualSigned a b u v = truth_range (not (is_less_signed a b))
+bin_range bin.GreaterOrEqualUnsigned a b u v = truth_range (not (nat_lt a b))

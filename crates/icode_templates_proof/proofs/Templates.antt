@@ -20,8 +20,8 @@ use Rattle.icode_templates_proof.proofs.Keeping.{puts_after}
 use Rattle.icode_templates_proof.proofs.Operands.{one_in, two_in, in_leaves, in_two_leaves, keeps_one, keeps_two}
 use Rattle.icode_templates_proof.proofs.Operands.{load_gives, first_given, second_given, put_out, out_leaves, out_puts}
 use Rattle.icode_templates_proof.proofs.Operands.{Between, between_on, in_between, in_two_between, out_between}
-use Rattle.icode_templates_proof.specs.Laws.{IsStraight, zero_code, nonzero_code}
-use Rattle.icode_templates_proof.proofs.Operators.{core_of, core_between, bin_range}
+use Rattle.icode_templates_proof.specs.Laws.{zero_code, nonzero_code}
+use Rattle.icode_templates_proof.proofs.Operators.{IsStraight, core_of, core_between, bin_range}
 use Rattle.icode_templates_proof.proofs.Jumps.{jump_reaches, bne_over, bne_to, beq_over, beq_to}
 
 -- $t8 holds the value, and its template ends with bringing it out
@@ -89,7 +89,7 @@ bin_writes kind straight c a bytes d w v z f u uv uz bv bz h =
     ap (bin_value kind (value d v)) (second_given bytes v z d uz) in
     finish (in_two_code v z ++ (bin_core kind ++ out_code w)) is 3 9 c a bytes d d core.after w
     (bin_value kind (value d v) (value d z)) (sym (append_assoc (in_two_code v z) (bin_core kind) (out_code w)))
-    f u (bin_range kind (value d v) (value d z) straight bv bz)
+    f u (bin_range kind (value d v) (value d z) bv bz)
     (between_on (in_two_code v z) (bin_core kind) (in_two_between v z) (core_between kind))
     (leaves_on (in_two_code v z) (bin_core kind) 0 0 0 d mid core.after (in_two_leaves d bytes v z f uv uz bv bz)
     core.leaves)

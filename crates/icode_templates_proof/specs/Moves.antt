@@ -1,6 +1,6 @@
 -- Runs of the machine between two counts of instructions: to an address, with a value put to a spot, or with all spots
 -- kept; and to the run's end.
-use Rattle.std.specs.Prelude.{◌≡◌, ℕ, ◌≤◌, List, Some}
+use Rattle.std.specs.Prelude.{◌≡◌, ℕ, ◌+◌, ◌≤◌, false, List, Some}
 use Rattle.std.specs.Fn.{iterate}
 use Rattle.history.specs.Events.{Item, End}
 use Rattle.mips_model.specs.State.{Code, Data, State}
@@ -28,9 +28,23 @@ pub record Comes (least most : ℕ) (s : State) (c : Code) (a : ℕ) (d : Data) 
   pub runs : Runs least most s (at c a 0 after)
   pub keeps : KeepsSpots d after
 
--- the run ends within so many instructions, with this history
-pub record EndsWithin (most : ℕ) (end : End) (s : State) (history : List Item) : Type 0 where
+-- a state at an address, where HI and LO must not be set for so many instructions
+abbrev pub behind : Code → ℕ → ℕ → Data → State
+behind c a recent d = record { pc = a; next = a + 4; loaded = 0; recent = recent; slot = false; code = c; d = d }
+
+-- to this address of the code, with the value put to the spot; HI or LO may have been read by the last but one
+pub record Computes (spot : Spot) (x least most : ℕ) (s : State) (c : Code) (a : ℕ) (d : Data) : Type 0 where
+  pub after : Data
+  pub recent : ℕ
+  pub few : recent ≤ 1
+  pub runs : Runs least most s (behind c a recent after)
+  pub puts : PutsTo spot x d after
+
+-- the run ends within so many instructions, at least and at most, with this history and with the code as it was
+pub record EndsIn (least most : ℕ) (end : End) (s : State) (c : Code) (history : List Item) : Type 0 where
   pub count : ℕ
+  pub over : least ≤ count
   pub under : count ≤ most
   pub ending : (iterate step count (going s)).ending ≡ Some end
   pub history_is : (iterate step count (going s)).state.d.outside.history ≡ history
+  pub code_is : (iterate step count (going s)).state.code ≡ c

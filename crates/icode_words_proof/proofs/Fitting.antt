@@ -10,22 +10,25 @@ use Rattle.mips_model.specs.Laws.{HasAt, past}
 use Rattle.mips_model.proofs.Reach.{fetch_text, past_append}
 use Rattle.mips_model.proofs.Loaded.{AllFit, all_fit_append}
 use Rattle.icode_ops.specs.declared.op.Op.{Op}
-use Rattle.icode_ops.specs.declared.op.Op.TheVariants.{Const, Move, Bin, FrameAddress, Clear, Label, Jump, BranchZero}
-use Rattle.icode_ops.specs.declared.op.Op.TheVariants.{BranchNonzero}
-use Rattle.icode_ops.specs.declared.op.Op.TheVariants.{Argument}
-use Rattle.icode_ops.specs.declared.op.Op.TheVariants.{GetParameter, Call, CallNumber, Result, Return, ReturnZero, Sys}
+use Rattle.icode_ops.specs.declared.op.Op.TheVariants.{Const, Move, Bin, FrameAddress, Load, Store, Clear, Label}
+use Rattle.icode_ops.specs.declared.op.Op.TheVariants.{Jump, BranchZero, BranchNonzero, CheckDivision, CheckZero, Un}
+use Rattle.icode_ops.specs.declared.op.Op.TheVariants.{Argument, GetParameter, Call, CallNumber, Result, Return}
+use Rattle.icode_ops.specs.declared.op.Op.TheVariants.{ReturnZero, Sys}
 use Rattle.icode_ops.specs.declared.kind.BinKind.{BinKind}
 use Rattle.icode_ops.specs.declared.kind.BinKind.TheVariants as bin
-use Rattle.icode_ops.specs.declared.kind.SysKind.TheVariants.{PutByte}
+use Rattle.icode_ops.specs.declared.kind.UnKind.{UnKind}
+use Rattle.icode_ops.specs.declared.kind.UnKind.TheVariants as un
 use Rattle.icode_ops.specs.Flow.{op_at}
+use Rattle.icode_ops.specs.Kinds.{sys_number}
 use Rattle.icode_ops.specs.Finished.{InRange}
 use Rattle.icode_ops.specs.Places.{place_of}
 use Rattle.icode_templates.specs.Assembly.{addu, subu, sltu, lui, bne, beq, j, nop, trap, constant}
 use Rattle.icode_templates.specs.Words.{words}
 use Rattle.icode_templates.specs.Layout.{Spot, InRegister, InSlot, Layout, parameter_spot}
 use Rattle.icode_templates.specs.Templates.{Aim, ToLabel, ToEpilogue, load_code, wait_code, in_code, in_two_code}
-use Rattle.icode_templates.specs.Templates.{out_code, bin_core}
-use Rattle.icode_templates.specs.Templates.{object_address, clear_loop, service_code, number_call, template}
+use Rattle.icode_templates.specs.Templates.{out_code, bin_core, range_check, load_instruction, store_instruction}
+use Rattle.icode_templates.specs.Templates.{un_core, trap_if_zero, division_check, object_address, clear_loop}
+use Rattle.icode_templates.specs.Templates.{service_code, number_call, template}
 use Rattle.icode_expand.specs.Frames.{saved, saves, restores, take_frame, free_frame, take_objects, free_objects}
 use Rattle.icode_expand.specs.Frames.{enter_count, leave_count}
 use Rattle.icode_expand.specs.Laws.{AllPlaces}
@@ -40,6 +43,8 @@ use Rattle.icode_frames_spec.proofs.Places.{place_bounds, spot_usable, slot_usab
 use Rattle.icode_steps_proof.proofs.Liveness.{op_found}
 use Rattle.icode_steps_proof.specs.Served.{IsServed}
 use Rattle.icode_words_proof.specs.Laws.{WordsSuffice}
+use Rattle.icode_words_proof.proofs.Suiting.{code_ends}
+use Rattle.icode_words_proof.proofs.Accesses.{service_fits, range_fits, load_word, store_word}
 
 -- instructions that have words stand where their words stand
 pub words_stand : (c : Code) (a : ℕ) (is : List Instr) → AllFit is → a % 4 ≡ 0 → past a is ≤ ARENA
@@ -109,11 +114,47 @@ core_fits bin.GreaterOrEqualSigned =
 core_fits bin.GreaterOrEqualUnsigned =
     ((omega arith, omega arith, omega arith), ((omega arith, omega arith, omega arith), tt))
 
+core_of_one_fits : (kind : UnKind) → AllFit (un_core kind)
+core_of_one_fits un.Negate = ((omega arith, omega arith, omega arith), tt)
+core_of_one_fits un.Complement = ((omega arith, omega arith, omega arith), tt)
+core_of_one_fits un.IsZero = ((omega arith, omega arith, omega arith), tt)
+core_of_one_fits un.Byte = ((omega arith, omega arith, omega arith), tt)
+core_of_one_fits un.Half = ((omega arith, omega arith, omega arith), tt)
+core_of_one_fits un.SignedByte =
+    ((omega arith, omega arith, omega arith), ((omega arith, omega arith, omega arith), tt))
+core_of_one_fits un.SignedHalf =
+    ((omega arith, omega arith, omega arith), ((omega arith, omega arith, omega arith), tt))
+
 constant_fits : (t x : ℕ) → t < 32 → x < 4294967296 → AllFit (constant t x)
 constant_fits t x h word = ((h, omega (arith, word)), ((h, h, omega arith), tt))
 
 nop_fits : Fits nop
 nop_fits = (omega arith, omega arith, omega arith)
+
+-- the checks of divisions
+zero_check_fits : AllFit (trap_if_zero 24 7)
+zero_check_fits = ((omega arith, omega arith, omega arith), (nop_fits, (omega arith, tt)))
+
+division_check_fits : AllFit division_check
+division_check_fits = (
+  (omega arith, omega arith, omega arith),
+  (
+    nop_fits,
+    (
+      omega arith,
+      (
+        (omega arith, omega arith, omega arith),
+        (
+          (omega arith, omega arith, omega arith),
+          (
+            (omega arith, omega arith),
+            ((omega arith, omega arith, omega arith), (nop_fits, (omega arith, tt))),
+          ),
+        ),
+      ),
+    ),
+  ),
+)
 
 -- a call by a number
 number_call_fits : (count : ℕ) → count ≤ 8 → AllFit (number_call count)
@@ -276,9 +317,31 @@ module _ (f : Function) (places : List ℕ) (st : Suits f places)
       (in_two_fits f.charge (pl.spot left) (pl.spot right) small (usable left r.1) (usable right r.2))
       (all_fit_append (bin_core kind) (out_code (pl.spot to)) (core_fits kind)
       (out_fits f.charge (pl.spot to) small (usable to r.0)))
+  template_fits (CheckDivision left right) s r =
+      all_fit_append (in_two_code (pl.spot left) (pl.spot right)) division_check
+      (in_two_fits f.charge (pl.spot left) (pl.spot right) small (usable left r.1) (usable right r.2))
+      division_check_fits
+  template_fits (CheckZero divisor) s r =
+      all_fit_append (in_code (pl.spot divisor)) (trap_if_zero 24 7)
+      (in_fits f.charge (pl.spot divisor) small (usable divisor r.1)) zero_check_fits
+  template_fits (Un kind to from) s r =
+      all_fit_append (in_code (pl.spot from)) (un_core kind ++ out_code (pl.spot to))
+      (in_fits f.charge (pl.spot from) small (usable from r.1))
+      (all_fit_append (un_core kind) (out_code (pl.spot to)) (core_of_one_fits kind)
+      (out_fits f.charge (pl.spot to) small (usable to r.0)))
   template_fits (FrameAddress to offset) s r =
       all_fit_append (object_address pl 24 offset) (out_code (pl.spot to)) (address_fits 24 offset (omega arith))
       (out_fits f.charge (pl.spot to) small (usable to r.0))
+  template_fits (Load kind to from) s r =
+      all_fit_append (in_code (pl.spot from)) (range_check 25 ++ load_instruction kind ∷ nop ∷ out_code (pl.spot to))
+      (in_fits f.charge (pl.spot from) small (usable from r.1))
+      (all_fit_append (range_check 25) (load_instruction kind ∷ nop ∷ out_code (pl.spot to))
+      (range_fits 25 (omega arith))
+      ((load_word kind).0, (nop_fits, out_fits f.charge (pl.spot to) small (usable to r.0))))
+  template_fits (Store kind to from) s r =
+      all_fit_append (in_two_code (pl.spot to) (pl.spot from)) (range_check 1 ++ store_instruction kind ∷ [])
+      (in_two_fits f.charge (pl.spot to) (pl.spot from) small (usable to r.1) (usable from r.2))
+      (all_fit_append (range_check 1) (store_instruction kind ∷ []) (range_fits 1 (omega arith)) (store_word kind))
   template_fits (Clear offset words) s r =
       all_fit_append (object_address pl 24 offset) (object_address pl 25 (offset + 4 * words) ++ clear_loop)
       (address_fits 24 offset (omega arith))
@@ -302,13 +365,10 @@ module _ (f : Function) (places : List ℕ) (st : Suits f places)
       all_fit_append (in_code (pl.spot from)) _ (in_fits f.charge (pl.spot from) small (usable from r.1))
       ((omega arith, omega arith, omega arith), (aim_low ToEpilogue, (nop_fits, tt)))
   template_fits ReturnZero s r = ((omega arith, omega arith, omega arith), (aim_low ToEpilogue, (nop_fits, tt)))
-  template_fits (Sys PutByte to from) s r =
-      all_fit_append (in_code (pl.spot from)) (service_code 11 ++ out_code (pl.spot to))
+  template_fits (Sys kind to from) s r =
+      all_fit_append (in_code (pl.spot from)) (service_code (sys_number kind) ++ out_code (pl.spot to))
       (in_fits f.charge (pl.spot from) small (usable from r.1))
-      (all_fit_append (service_code 11) (out_code (pl.spot to)) (
-        (omega arith, omega arith, omega arith),
-        ((omega arith, omega arith, omega arith), (tt, ((omega arith, omega arith, omega arith), tt))),
-      )
+      (all_fit_append (service_code (sys_number kind)) (out_code (pl.spot to)) (service_fits kind)
       (out_fits f.charge (pl.spot to) small (usable to r.0)))
   template_fits (Argument index from) s r =
       all_fit_append (in_code (pl.spot from)) _ (in_fits f.charge (pl.spot from) small (usable from r.1))

@@ -1,2 +1,3 @@
 pub mod Suiting
 pub mod Fitting
+pub mod Accesses

@@ -1,5 +1,5 @@
 -- One step of a chain of operators behind an operand.
-use Rattle.std.proofs.Common.{◌≡◌, ℕ, refl, ap}
+use Rattle.std.proofs.Common.{◌≡◌, ℕ, [], ◌∷◌, refl, ap}
 use Rattle.std.specs.Prelude.{Ok, Option, Some, None}
 use Rattle.tick_tree.specs.declared.syntax.Expr.{Expr}
 use Rattle.parse_grammar.specs.declared.kind.Kind.{Kind}

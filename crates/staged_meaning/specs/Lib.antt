@@ -1,4 +1,6 @@
 pub mod Size
+pub mod Values
+pub mod Placed
 pub mod Scope
 pub mod World
 pub mod Program

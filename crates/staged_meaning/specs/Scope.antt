@@ -6,9 +6,12 @@ use Rattle.word32.specs.Space.{update}
 use Rattle.typed_tree.specs.Nodes.{Expr, Const, Var, SetVar, PostVar, VSet, Load, Store, Modify, Post, Bin, Un, And, Or}
 use Rattle.typed_tree.specs.Nodes.{Cond, Comma, Void, Call, CallNumber, Lib, Tick, Capture, Compile, ParamOf, Args}
 use Rattle.typed_tree.specs.Nodes.{NoArg, Arg, Stmt, Eval, Block, Variable, Parameter, If, IfElse, While, Do, For}
-use Rattle.typed_tree.specs.Nodes.{ForStep, Switch, ReturnValue, Items, NoItem, Item, Function}
-use Rattle.typed_tree.specs.declared.expression.Library.TheVariants.{Putchar}
+use Rattle.typed_tree.specs.Nodes.{ForStep, Switch, Case, Default, Break, Continue, Return, ReturnValue, Getchar}
+use Rattle.typed_tree.specs.Nodes.{Items, NoItem, Item, Function}
+use Rattle.typed_tree.specs.declared.expression.Library.TheVariants.{Putchar, Putint, Exit}
 use Rattle.staged_meaning.specs.Size.{size_of, variables_in}
+use Rattle.staged_meaning.specs.Placed.{IsPlaced, outside}
+use Rattle.staged_meaning.specs.Values.{UsesValuesStmt}
 use Rattle.limits.specs.declared.program.TheConstants.{SIZE_LIMIT}
 
 -- true at the variables that are in scope
@@ -84,8 +87,18 @@ abbrev pub IsBuilt : Expr → Type 0
 IsBuilt (Const word) = Unit {0}
 IsBuilt (Var i) = Unit {0}
 IsBuilt (SetVar i a) = IsBuilt a
+IsBuilt (PostVar i width step) = Unit {0}
 IsBuilt (Bin k a b) = IsBuilt a × IsBuilt b
+IsBuilt (Un k a) = IsBuilt a
+IsBuilt (And a b) = IsBuilt a × IsBuilt b
+IsBuilt (Or a b) = IsBuilt a × IsBuilt b
+IsBuilt (Cond c a b) = IsBuilt c × IsBuilt a × IsBuilt b
+IsBuilt (Comma a b) = IsBuilt a × IsBuilt b
+IsBuilt (Void a) = IsBuilt a
+IsBuilt Getchar = Unit {0}
 IsBuilt (Lib Putchar a) = IsBuilt a
+IsBuilt (Lib Putint a) = IsBuilt a
+IsBuilt (Lib Exit a) = IsBuilt a
 IsBuilt _ = ⊥
 
 abbrev mutual
@@ -96,6 +109,15 @@ abbrev mutual
   IsBuiltStmt (If e s) = IsBuilt e × IsBuiltStmt s
   IsBuiltStmt (IfElse e s t) = IsBuilt e × IsBuiltStmt s × IsBuiltStmt t
   IsBuiltStmt (While e s) = IsBuilt e × IsBuiltStmt s
+  IsBuiltStmt (Do s e) = IsBuiltStmt s × IsBuilt e
+  IsBuiltStmt (For e s) = IsBuilt e × IsBuiltStmt s
+  IsBuiltStmt (ForStep e step s) = IsBuilt e × IsBuilt step × IsBuiltStmt s
+  IsBuiltStmt (Switch e variables items) = IsBuilt e × AreBuiltItems variables × AreBuiltItems items
+  IsBuiltStmt (Case value) = Unit {0}
+  IsBuiltStmt Default = Unit {0}
+  IsBuiltStmt Break = Unit {0}
+  IsBuiltStmt Continue = Unit {0}
+  IsBuiltStmt Return = Unit {0}
   IsBuiltStmt (ReturnValue e) = IsBuilt e
   IsBuiltStmt _ = ⊥
 
@@ -103,10 +125,13 @@ abbrev mutual
   AreBuiltItems NoItem = Unit {0}
   AreBuiltItems (Item s items) = IsBuiltStmt s × AreBuiltItems items
 
--- A function whose nodes are built and use the variables that are in scope. It has at most so many nodes as a program
+-- A function whose nodes are built, use the variables that are in scope and the values that are left, and stand where they
+-- may. It has at most so many nodes as a program
 -- that is accepted may have in a function, and its variables are numbered from 0, each declared by a node.
 pub record IsReady (function : Function) : Type 0 where
   pub built : IsBuiltStmt function.body
   pub scoped : IsScopedStmt no_scope function.body
+  pub values : UsesValuesStmt function.body
+  pub placed : IsPlaced outside function.body
   pub small : size_of function ≤ SIZE_LIMIT
   pub dense : variables_in function.body ≤ size_of function

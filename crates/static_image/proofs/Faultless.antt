@@ -14,14 +14,14 @@ use Rattle.icode_ops.specs.declared.op.Op.TheVariants.{Argument, GetParameter, C
 use Rattle.icode_ops.specs.declared.op.Op.TheVariants.{ReturnZero, Sys, Run}
 use Rattle.icode_ops.specs.declared.kind.SysKind.TheVariants.{PutByte, GetByte, Exit}
 use Rattle.icode_ops.specs.declared.kind.RunKind.TheVariants as run
-use Rattle.meaning_state.specs.Operators.{signed_trap, zero_trap}
+use Rattle.meaning_state.specs.Operators.{bin_value, bin_trap, signed_trap, zero_trap}
 use Rattle.meaning_state.specs.Shared.{Specification, Local, Param, Read, Got, Failed, get_byte, access_trap, loaded}
 use Rattle.meaning_state.specs.Shared.{stored, are_objects, zeroed, limit_trap}
 use Rattle.meaning_state.specs.Rows.{closure_trap, index_trap, next_number, specified}
 use Rattle.icode_meaning.specs.State.{Function, Program, Frame, Log, State, Running, Zeroing, Halted, Stuck, see}
 use Rattle.icode_meaning.specs.Steps.{uses_on, paid, sharing, moved_on, set, goes_on, unless, begun, entered, call_at}
 use Rattle.icode_meaning.specs.Steps.{call_row, set_from, left, back, take, address_of, act, checked, advance, zeroing}
-use Rattle.icode_meaning.specs.Steps.{zeroed_on, word_zeroed, specifies}
+use Rattle.icode_meaning.specs.Steps.{zeroed_on, word_zeroed, specifies, untrapped}
 
 abbrev pub IsNoFault : End → Type 0
 IsNoFault (Ended e) = Unit {0}
@@ -37,6 +37,10 @@ IsFaultless (Stuck log) = Unit {0}
 unless_is : (trap : Option TrapKind) (log : Log) (s : State) → IsFaultless s → IsFaultless (unless trap log s)
 unless_is None log s h = h
 unless_is (Some k) log s h = tt
+
+untrapped_is : (trap : Option TrapKind) (log : Log) (s : State) → IsFaultless s → IsFaultless (untrapped trap log s)
+untrapped_is None log s h = h
+untrapped_is (Some k) log s h = tt
 
 call_at_is : (o : Op) (f : Option Function) (frame : Frame) (arguments : ℕ → Option ℕ) (waiting : List Frame)
     (log : Log) → IsFaultless (call_at o f frame arguments waiting log)
@@ -92,7 +96,9 @@ module _ (program : Program) where
       IsFaultless (act program o frame arguments answer waiting log)
   act_is (Const to word) frame arguments answer waiting log = tt
   act_is (Move to from) frame arguments answer waiting log = tt
-  act_is (Bin kind to a b) frame arguments answer waiting log = tt
+  act_is (Bin kind to a b) frame arguments answer waiting log =
+      untrapped_is (bin_trap kind (frame.values a) (frame.values b)) log
+      (goes_on (set to (bin_value kind (frame.values a) (frame.values b)) frame) waiting (paid (Bin kind to a b) log)) tt
   act_is (CheckDivision a b) frame arguments answer waiting log =
       unless_is (signed_trap (frame.values a) (frame.values b)) (paid (CheckDivision a b) log)
       (goes_on (moved_on frame) waiting (paid (CheckDivision a b) log)) tt

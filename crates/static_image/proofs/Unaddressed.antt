@@ -17,9 +17,27 @@ module _ (d e : Addresses) where
   expr_same (node.Const word) built l t = refl
   expr_same (node.Var i) built l t = refl
   expr_same (node.SetVar i a) built l t = rw (expr_same a built l t) refl
-  expr_same (node.Lib library.Putchar a) built l t = rw (expr_same a built l t) refl
+  expr_same (node.PostVar i width step) built l t = refl
+  expr_same (node.Un k a) built l t = rw (expr_same a built l t) refl
   expr_same (node.Bin k a b) built l t =
       rw (expr_same a built.0 l t, expr_same b built.1 (l + labels_in a) (t + temps_in a)) refl
+  expr_same (node.And a b) built l t =
+      rw (expr_same a built.0 (l + 2) (t + 1), expr_same b built.1 (l + 2 + labels_in a) (t + 1 + temps_in a)) refl
+  expr_same (node.Or a b) built l t =
+      rw (expr_same a built.0 (l + 2) (t + 1), expr_same b built.1 (l + 2 + labels_in a) (t + 1 + temps_in a)) refl
+  expr_same (node.Cond c a b) built l t =
+      rw (
+        expr_same c built.0 (l + 2) (t + 1),
+        expr_same a built.1 (l + 2 + labels_in c) (t + 1 + temps_in c),
+        expr_same b built.2 (l + 2 + labels_in c + labels_in a) (t + 1 + temps_in c + temps_in a),
+      ) refl
+  expr_same (node.Comma a b) built l t =
+      rw (expr_same a built.0 l t, expr_same b built.1 (l + labels_in a) (t + temps_in a)) refl
+  expr_same (node.Void a) built l t = rw (expr_same a built l t) refl
+  expr_same node.Getchar built l t = refl
+  expr_same (node.Lib library.Putchar a) built l t = rw (expr_same a built l t) refl
+  expr_same (node.Lib library.Putint a) built l t = rw (expr_same a built l t) refl
+  expr_same (node.Lib library.Exit a) built l t = rw (expr_same a built l t) refl
   expr_same _ built l t = absurd built
 
   mutual
@@ -42,6 +60,38 @@ module _ (d e : Addresses) where
           stmt_same s built.1 (record { on_break = l; on_continue = l + 1 }) (l + 2 + labels_in a) (t + temps_in a),
         )
         refl
+    stmt_same (node.Do s a) built to l t =
+        rw (
+          stmt_same s built.0 (record { on_break = l; on_continue = l + 2 }) (l + 3) t,
+          expr_same a built.1 (l + 3 + labels s) (t + temps s),
+        )
+        refl
+    stmt_same (node.For a s) built to l t =
+        rw (
+          expr_same a built.0 (l + 3) t,
+          stmt_same s built.1 (record { on_break = l; on_continue = l + 2 }) (l + 3 + labels_in a) (t + temps_in a),
+        )
+        refl
+    stmt_same (node.ForStep a step s) built to l t =
+        rw (
+          expr_same a built.0 (l + 3) t,
+          stmt_same s built.2 (record { on_break = l; on_continue = l + 2 }) (l + 3 + labels_in a) (t + temps_in a),
+          expr_same step built.1 (l + 3 + labels_in a + labels s) (t + temps_in a + temps s),
+        )
+        refl
+    stmt_same (node.Switch a vars items) built to l t =
+        rw (
+          expr_same a built.0 (l + 1) (t + 1),
+          items_same vars built.1 to (l + 1 + labels_in a) (t + 1 + temps_in a),
+          items_same items built.2 (record { on_break = l; on_continue = to.on_continue })
+              (l + 1 + labels_in a + labels_of vars) (t + 1 + temps_in a + temps_of vars),
+        )
+        refl
+    stmt_same (node.Case value) built to l t = refl
+    stmt_same node.Default built to l t = refl
+    stmt_same node.Break built to l t = refl
+    stmt_same node.Continue built to l t = refl
+    stmt_same node.Return built to l t = refl
     stmt_same (node.ReturnValue a) built to l t = rw (expr_same a built l t) refl
     stmt_same _ built to l t = absurd built
 

@@ -66,6 +66,15 @@ some_node (node.Variable i) built = omega arith
 some_node (node.If e s) built = omega arith
 some_node (node.IfElse e s r) built = omega arith
 some_node (node.While e s) built = omega arith
+some_node (node.Do s e) built = omega arith
+some_node (node.For e s) built = omega arith
+some_node (node.ForStep e step s) built = omega arith
+some_node (node.Switch e vars items) built = omega arith
+some_node (node.Case value) built = omega arith
+some_node node.Default built = omega arith
+some_node node.Break built = omega arith
+some_node node.Continue built = omega arith
+some_node node.Return built = omega arith
 some_node (node.ReturnValue e) built = omega arith
 some_node _ built = absurd built
 

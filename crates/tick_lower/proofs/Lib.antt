@@ -1,5 +1,13 @@
 pub mod Exprs
+pub mod Fits
+pub mod Seen
 pub mod Stmts
+pub mod Defaults
 pub mod Rest
+pub mod StmtSeen
+pub mod StmtFits
+pub mod Items
+pub mod Made
+pub mod Bodies
 pub mod Taken
 pub mod Counted

@@ -1,149 +1,135 @@
--- The ops of a statement, by its node in the code's tree; and that the parts of what is built are built.
-use Rattle.std.proofs.Common.{◌≡◌, ℕ, ◌+◌, List, [], ◌∷◌, ◌++◌, map, ap, sym, ◌∙◌, subst, append_assoc}
+-- The ops of a statement's parts, one after the other, are the ops of the statement.
+use Rattle.std.proofs.Common.{◌≡◌, ℕ, ◌+◌, Bool, List, [], ◌∷◌, ◌++◌, refl, append_assoc, arith}
 use Rattle.icode_ir.specs.declared.build_op.BuildOp.{BuildOp}
 use Rattle.icode_ir.specs.declared.build_op.BuildOp.TheVariants as build
-use Rattle.typed_tree.specs.declared.expression.Expr.{Expr}
-use Rattle.typed_tree.specs.declared.expression.Stmt.{Stmt}
-use Rattle.typed_tree.specs.declared.expression.Stmt.TheVariants as st
 use Rattle.typed_tree.specs.Nodes as node
-use Rattle.staged_meaning.specs.Size.{labels_in, labels, labels_of, temps_in, temps, temps_of}
-use Rattle.staged_meaning.specs.Scope.{IsBuilt, IsBuiltStmt, AreBuiltItems}
-use Rattle.tick_lower_proof.specs.Lower.{Addresses, Targets, expr_ops, stmt_ops, items_ops}
-use Rattle.typed_tree.specs.View.{expr_view, stmt_view, items_of}
-use Rattle.typed_tree.proofs.Views.{stmt_view_block, stmt_view_if, stmt_view_ifelse, stmt_view_while}
+use Rattle.typed_tree.specs.Nodes.{has_value}
+use Rattle.staged_meaning.specs.Size.{labels, labels_of, temps, temps_of}
+use Rattle.tick_lower_proof.specs.Lower.{Addresses, Targets, dropping, test_ops, default_label}
+use Rattle.tick_lower.specs.declared.ops.Ops.{Ops}
+use Rattle.tick_lower.specs.Steps.{add, add_expr, add_stmt, add_items, add_selector, add_switch}
+use Rattle.tick_lower.proofs.Exprs.{same_ops}
 
-module _ (x : Stmt) where
-  pub block_built : (a b : List Stmt) → x ≡ st.Block a b → IsBuiltStmt (stmt_view x) →
-      AreBuiltItems (items_of (map stmt_view a)) × AreBuiltItems (items_of (map stmt_view b))
-  block_built a b is h = subst IsBuiltStmt (ap stmt_view is ∙ stmt_view_block a b) h
+module _ (d : Addresses) (to : Targets) (o : Ops) where
+  pub eval_step : (e : node.Expr) → add (dropping (has_value e)) (add_expr d e o) ≡ add_stmt d to (node.Eval e) o
+  unfolding add_expr add_stmt
+  eval_step e = same_ops o _ _ _ _ _ _ (simp append_assoc) refl refl
 
-  pub if_built : (c : Expr) (a : Stmt) → x ≡ st.If c a → IsBuiltStmt (stmt_view x) →
-      IsBuilt (expr_view c) × IsBuiltStmt (stmt_view a)
-  if_built c a is h = subst IsBuiltStmt (ap stmt_view is ∙ stmt_view_if c a) h
+  pub block_step : (vs is : node.Items)
+      → add_items d to is (add_items d to vs o) ≡ add_stmt d to (node.Block vs is) o
+  unfolding add_items add_stmt
+  block_step vs is = same_ops o _ _ _ _ _ _ (simp append_assoc) (omega arith) (omega arith)
 
-  pub choice_built : (c : Expr) (a b : Stmt) → x ≡ st.IfElse c a b → IsBuiltStmt (stmt_view x) →
-      IsBuilt (expr_view c) × IsBuiltStmt (stmt_view a) × IsBuiltStmt (stmt_view b)
-  choice_built c a b is h = subst IsBuiltStmt (ap stmt_view is ∙ stmt_view_ifelse c a b) h
+  pub variable_step : (i : ℕ)
+      → add (build.Const 0 ∷ build.SetVariable i ∷ build.Drop ∷ []) o ≡ add_stmt d to (node.Variable i) o
+  unfolding add_stmt
+  variable_step i = same_ops o _ _ _ _ _ _ refl (omega arith) (omega arith)
 
-  pub while_built : (c : Expr) (a : Stmt) → x ≡ st.While c a → IsBuiltStmt (stmt_view x) →
-      IsBuilt (expr_view c) × IsBuiltStmt (stmt_view a)
-  while_built c a is h = subst IsBuiltStmt (ap stmt_view is ∙ stmt_view_while c a) h
+  pub break_step : add (build.Jump to.on_break ∷ []) o ≡ add_stmt d to node.Break o
+  unfolding add_stmt
+  break_step = same_ops o _ _ _ _ _ _ refl (omega arith) (omega arith)
 
-  pub block_labels : (a b : List Stmt) → x ≡ st.Block a b →
-      labels (stmt_view x) ≡ labels_of (items_of (map stmt_view a)) + labels_of (items_of (map stmt_view b))
-  block_labels a b is = ap labels (ap stmt_view is ∙ stmt_view_block a b)
+  pub continue_step : add (build.Jump to.on_continue ∷ []) o ≡ add_stmt d to node.Continue o
+  unfolding add_stmt
+  continue_step = same_ops o _ _ _ _ _ _ refl (omega arith) (omega arith)
 
-  pub if_labels : (c : Expr) (a : Stmt) → x ≡ st.If c a →
-      labels (stmt_view x) ≡ 1 + labels_in (expr_view c) + labels (stmt_view a)
-  if_labels c a is = ap labels (ap stmt_view is ∙ stmt_view_if c a)
+  pub return_step : add (build.ReturnZero ∷ []) o ≡ add_stmt d to node.Return o
+  unfolding add_stmt
+  return_step = same_ops o _ _ _ _ _ _ refl (omega arith) (omega arith)
 
-  pub choice_labels : (c : Expr) (a b : Stmt) → x ≡ st.IfElse c a b →
-      labels (stmt_view x) ≡ 2 + labels_in (expr_view c) + labels (stmt_view a) + labels (stmt_view b)
-  choice_labels c a b is = ap labels (ap stmt_view is ∙ stmt_view_ifelse c a b)
+  pub answer_step : (e : node.Expr)
+      → add (build.Return ∷ []) (add_expr d e o) ≡ add_stmt d to (node.ReturnValue e) o
+  unfolding add_expr add_stmt
+  answer_step e = same_ops o _ _ _ _ _ _ (simp append_assoc) refl refl
 
-  pub while_labels : (c : Expr) (a : Stmt) → x ≡ st.While c a →
-      labels (stmt_view x) ≡ 2 + labels_in (expr_view c) + labels (stmt_view a)
-  while_labels c a is = ap labels (ap stmt_view is ∙ stmt_view_while c a)
+  -- with so many labels of a node's own
+  abbrev pub labelled : ℕ → Ops
+  labelled n = record o { label = o.label + n }
 
--- p is what the code has for the part
-pub same_built : (a p : Stmt) → p ≡ a → IsBuiltStmt (stmt_view a) → IsBuiltStmt (stmt_view p)
-same_built a p at h = subst (λ z. IsBuiltStmt (stmt_view z)) (sym at) h
+  pub case_step : (word : ℕ) → add (build.Label o.label ∷ []) (labelled 1) ≡ add_stmt d to (node.Case word) o
+  unfolding add_stmt
+  case_step word = same_ops o _ _ _ _ _ _ refl refl (omega arith)
 
-pub same_items_built : (a p : List Stmt) → p ≡ a → AreBuiltItems (items_of (map stmt_view a)) →
-    AreBuiltItems (items_of (map stmt_view p))
-same_items_built a p at h = subst (λ z. AreBuiltItems (items_of (map stmt_view z))) (sym at) h
+  pub default_step : add (build.Label o.label ∷ []) (labelled 1) ≡ add_stmt d to node.Default o
+  unfolding add_stmt
+  default_step = same_ops o _ _ _ _ _ _ refl refl (omega arith)
 
-if_joined : (s x y z : List BuildOp) (b : BuildOp) → ((s ++ (x ++ b ∷ [])) ++ y) ++ z ≡ s ++ (x ++ b ∷ (y ++ z))
-if_joined s x y z b = simp append_assoc
+  -- an expression and the branch behind it
+  abbrev pub branched : BuildOp → node.Expr → Ops → Ops
+  branched branch e p = add (branch ∷ []) (add_expr d e p)
 
-choice_joined : (s x y z w : List BuildOp) (b j k : BuildOp) →
-    ((((s ++ (x ++ b ∷ [])) ++ y) ++ j ∷ k ∷ []) ++ z) ++ w ≡ s ++ (x ++ b ∷ (y ++ j ∷ k ∷ (z ++ w)))
-choice_joined s x y z w b j k = simp append_assoc
+  pub if_step : (e : node.Expr) (s : node.Stmt)
+      → add (build.Label o.label ∷ []) (add_stmt d to s (branched (build.BranchZero o.label) e (labelled 1)))
+      ≡ add_stmt d to (node.If e s) o
+  unfolding add_expr add_stmt
+  if_step e s = same_ops o _ _ _ _ _ _ (simp append_assoc) (omega arith) (omega arith)
 
-while_joined : (s x y w : List BuildOp) (a b : BuildOp) →
-    (((s ++ a ∷ []) ++ (x ++ b ∷ [])) ++ y) ++ w ≡ s ++ a ∷ (x ++ b ∷ (y ++ w))
-while_joined s x y w a b = simp append_assoc
+  pub choice_step : (e : node.Expr) (s r : node.Stmt)
+      → add (build.Label (o.label + 1) ∷ []) (add_stmt d to r
+      (add (build.Jump (o.label + 1) ∷ build.Label o.label ∷ [])
+      (add_stmt d to s (branched (build.BranchZero o.label) e (labelled 2))))) ≡ add_stmt d to (node.IfElse e s r) o
+  unfolding add_expr add_stmt
+  choice_step e s r = same_ops o _ _ _ _ _ _ (simp append_assoc) (omega arith) (omega arith)
 
-module _ (d : Addresses) (to : Targets) (x : Stmt) (l t : ℕ) where
-  pub block_ops : (a b p q : List Stmt) (l2 t2 : ℕ) (start mid late : List BuildOp) → x ≡ st.Block a b → p ≡ a → q ≡ b
-      → mid ≡ start ++ items_ops d (items_of (map stmt_view p)) to l t
-      → l2 ≡ l + labels_of (items_of (map stmt_view p)) → t2 ≡ t + temps_of (items_of (map stmt_view p))
-      → late ≡ mid ++ items_ops d (items_of (map stmt_view q)) to l2 t2
-      → late ≡ start ++ stmt_ops d (stmt_view x) to l t
-  block_ops a b p q l2 t2 start mid late is pa qb first ls ts second =
-      let xo = items_ops d (items_of (map stmt_view p)) to l t in
-      let yo = items_ops d (items_of (map stmt_view q)) to l2 t2 in
-      let v : List Stmt → node.Items = λ ss. items_of (map stmt_view ss) in
-      let whole : stmt_ops d (stmt_view x) to l t ≡ items_ops d (v a) to l t ++ items_ops d (v b) to
-      (l + labels_of (v a)) (t + temps_of (v a)) =
-      ap (λ z. stmt_ops d z to l t) (ap stmt_view is ∙ stmt_view_block a b) in
-      second ∙ ap (λ z. z ++ yo) first ∙ append_assoc start xo yo
-      ∙ ap (λ z. start ++ (items_ops d (v z) to l t ++ yo)) pa
-      ∙ ap (λ z. start ++ (items_ops d (v a) to l t ++ items_ops d (v z) to l2 t2)) qb
-      ∙ ap (λ n. start ++ (items_ops d (v a) to l t ++ items_ops d (v b) to n t2))
-      (ls ∙ ap (λ z. l + labels_of (v z)) pa)
-      ∙ ap (λ n. start ++ (items_ops d (v a) to l t ++ items_ops d (v b) to (l + labels_of (v a)) n))
-      (ts ∙ ap (λ z. t + temps_of (v z)) pa)
-      ∙ sym (ap (λ z. start ++ z) whole)
+  -- in a loop: where a break and a continue go
+  abbrev pub around : ℕ → Targets
+  around next = record { on_break = o.label; on_continue = next }
 
-  -- the ops behind the test, and behind the body
-  pub if_ops : (c : Expr) (a p : Stmt) (past l1 t1 l2 t2 : ℕ) (start before mid late : List BuildOp) → x ≡ st.If c a →
-      p ≡ a
-      → past ≡ l → l1 ≡ l + 1 → t1 ≡ t → before ≡ start
-      → mid ≡ before ++ (expr_ops d (expr_view c) l1 t1 ++ build.BranchZero past ∷ [])
-      → l2 ≡ l1 + labels_in (expr_view c) → t2 ≡ t1 + temps_in (expr_view c)
-      → late ≡ mid ++ stmt_ops d (stmt_view p) to l2 t2
-      → late ++ build.Label past ∷ [] ≡ start ++ stmt_ops d (stmt_view x) to l t
-  if_ops c a p past l1 t1 l2 t2 start before mid late is pa ps e1 e2 bs tested e3 e4 body =
-      let whole : stmt_ops d (stmt_view x) to l t ≡ expr_ops d (expr_view c) (l + 1) t ++ build.BranchZero l ∷
-      (stmt_ops d (stmt_view a) to (l + 1 + labels_in (expr_view c)) (t + temps_in (expr_view c)) ++ build.Label l ∷
-      []) =
-      ap (λ z. stmt_ops d z to l t) (ap stmt_view is ∙ stmt_view_if c a) in
-      let joined = if_joined before (expr_ops d (expr_view c) l1 t1) (stmt_ops d (stmt_view p) to l2 t2)
-      (build.Label past ∷ []) (build.BranchZero past) in
-      cc
+  pub while_step : (e : node.Expr) (s : node.Stmt)
+      → add (build.Jump (o.label + 1) ∷ build.Label o.label ∷ []) (add_stmt d (around (o.label + 1)) s
+      (branched (build.BranchZero o.label) e (add (build.Label (o.label + 1) ∷ []) (labelled 2))))
+      ≡ add_stmt d to (node.While e s) o
+  unfolding add_expr add_stmt
+  while_step e s = same_ops o _ _ _ _ _ _ (simp append_assoc) (omega arith) (omega arith)
 
-  pub choice_ops : (c : Expr) (a b p q : Stmt) (past end l1 t1 l2 t2 l3 t3 : ℕ)
-      (start before mid late turned more : List BuildOp) → x ≡ st.IfElse c a b → p ≡ a → q ≡ b
-      → past ≡ l → end ≡ l + 1 → l1 ≡ l + 2 → t1 ≡ t → before ≡ start
-      → mid ≡ before ++ (expr_ops d (expr_view c) l1 t1 ++ build.BranchZero past ∷ [])
-      → l2 ≡ l1 + labels_in (expr_view c) → t2 ≡ t1 + temps_in (expr_view c)
-      → late ≡ mid ++ stmt_ops d (stmt_view p) to l2 t2
-      → l3 ≡ l2 + labels (stmt_view p) → t3 ≡ t2 + temps (stmt_view p)
-      → turned ≡ late ++ build.Jump end ∷ build.Label past ∷ []
-      → more ≡ turned ++ stmt_ops d (stmt_view q) to l3 t3
-      → more ++ build.Label end ∷ [] ≡ start ++ stmt_ops d (stmt_view x) to l t
-  choice_ops c a b p q past end l1 t1 l2 t2 l3 t3 start before mid late turned more is pa qb e0 e1 e2 e3 bs tested e4 e5
-      body e6 e7 turn other =
-      let whole : stmt_ops d (stmt_view x) to l t ≡ expr_ops d (expr_view c) (l + 2) t ++ build.BranchZero l ∷
-      (stmt_ops d (stmt_view a) to (l + 2 + labels_in (expr_view c)) (t + temps_in (expr_view c))
-      ++ build.Jump (l + 1) ∷ build.Label l ∷
-      (stmt_ops d (stmt_view b) to (l + 2 + labels_in (expr_view c) + labels (stmt_view a))
-      (t + temps_in (expr_view c) + temps (stmt_view a)) ++ build.Label (l + 1) ∷ [])) =
-      ap (λ z. stmt_ops d z to l t) (ap stmt_view is ∙ stmt_view_ifelse c a b) in
-      let joined = choice_joined before (expr_ops d (expr_view c) l1 t1) (stmt_ops d (stmt_view p) to l2 t2)
-      (stmt_ops d (stmt_view q) to l3 t3) (build.Label end ∷ [])
-      (build.BranchZero past) (build.Jump end) (build.Label past) in
-      cc
+  pub do_step : (s : node.Stmt) (e : node.Expr)
+      → add (build.Label o.label ∷ []) (branched (build.BranchNonzero (o.label + 1)) e
+      (add (build.Label (o.label + 2) ∷ [])
+      (add_stmt d (around (o.label + 2)) s (add (build.Label (o.label + 1) ∷ []) (labelled 3)))))
+      ≡ add_stmt d to (node.Do s e) o
+  unfolding add_expr add_stmt
+  do_step s e = same_ops o _ _ _ _ _ _ (simp append_assoc) (omega arith) (omega arith)
 
-  -- where a break and a continue of the loop go
-  abbrev pub of_loop : Targets
-  of_loop = record { on_break = l; on_continue = l + 1 }
+  -- the head and the body of a loop with a place of its own for `continue`
+  abbrev pub turned : node.Expr → node.Stmt → Ops
+  turned e s =
+      add (build.Label (o.label + 2) ∷ []) (add_stmt d (around (o.label + 2)) s
+      (branched (build.BranchZero o.label) e (add (build.Label (o.label + 1) ∷ []) (labelled 3))))
 
-  pub while_ops : (c : Expr) (a p : Stmt) (end begin l1 t1 l2 t2 : ℕ) (start before begun mid late : List BuildOp) →
-      x ≡ st.While c a → p ≡ a
-      → end ≡ l → begin ≡ l + 1 → l1 ≡ l + 2 → t1 ≡ t → before ≡ start
-      → begun ≡ before ++ build.Label begin ∷ []
-      → mid ≡ begun ++ (expr_ops d (expr_view c) l1 t1 ++ build.BranchZero end ∷ [])
-      → l2 ≡ l1 + labels_in (expr_view c) → t2 ≡ t1 + temps_in (expr_view c)
-      → late ≡ mid ++ stmt_ops d (stmt_view p) of_loop l2 t2
-      → late ++ build.Jump begin ∷ build.Label end ∷ [] ≡ start ++ stmt_ops d (stmt_view x) to l t
-  while_ops c a p end begin l1 t1 l2 t2 start before begun mid late is pa e0 e1 e2 e3 bs at_begin tested e4 e5 body =
-      let whole : stmt_ops d (stmt_view x) to l t ≡ build.Label (l + 1) ∷
-      (expr_ops d (expr_view c) (l + 2) t ++ build.BranchZero l ∷
-      (stmt_ops d (stmt_view a) of_loop (l + 2 + labels_in (expr_view c)) (t + temps_in (expr_view c))
-      ++ build.Jump (l + 1) ∷ build.Label l ∷ [])) =
-      ap (λ z. stmt_ops d z to l t) (ap stmt_view is ∙ stmt_view_while c a) in
-      let joined = while_joined before (expr_ops d (expr_view c) l1 t1) (stmt_ops d (stmt_view p) of_loop l2 t2)
-      (build.Jump begin ∷ build.Label end ∷ []) (build.Label begin) (build.BranchZero end) in
-      cc
+  pub for_step : (e : node.Expr) (s : node.Stmt)
+      → add (build.Jump (o.label + 1) ∷ build.Label o.label ∷ []) (turned e s) ≡ add_stmt d to (node.For e s) o
+  unfolding add_expr add_stmt
+  for_step e s = same_ops o _ _ _ _ _ _ (simp append_assoc) (omega arith) (omega arith)
+
+  pub for_step_step : (e step : node.Expr) (s : node.Stmt)
+      → add (build.Jump (o.label + 1) ∷ build.Label o.label ∷ [])
+      (add (dropping (has_value step)) (add_expr d step (turned e s))) ≡ add_stmt d to (node.ForStep e step s) o
+  unfolding add_expr add_stmt
+  for_step_step e step s = same_ops o _ _ _ _ _ _ (simp append_assoc) (omega arith) (omega arith)
+
+  pub selector_step : (e : node.Expr)
+      → add (build.Drop ∷ []) (branched (build.SetVariable o.variable) e
+      (let p : Ops = record o { label = o.label + 1; variable = o.variable + 1 } in p)) ≡ add_selector d e o
+  unfolding add_expr add_selector
+  selector_step e = same_ops o _ _ _ _ _ _ (simp append_assoc) refl refl
+
+  -- the items of a switch stand apart at first
+  abbrev pub inside : node.Items → Ops
+  inside is = add_items d to is (let p : Ops = record o { list = [] } in p)
+
+  pub cases_step : (is : node.Items) (value : ℕ)
+      → (let p : Ops = record o {
+        list =
+            (((o.list ++ test_ops is o.label value) ++ build.Jump (default_label is o.label to.on_break) ∷ [])
+            ++ (inside is).list) ++ build.Label to.on_break ∷ [];
+        label = (inside is).label;
+        variable = (inside is).variable;
+      } in p) ≡ add_switch d to value is o
+  unfolding add_items add_switch
+  cases_step is value = same_ops o _ _ _ _ _ _ (simp append_assoc) refl refl
+
+  pub switch_step : (e : node.Expr) (vs is : node.Items)
+      → add_switch d (around to.on_continue) o.variable is (add_items d to vs (add_selector d e o))
+      ≡ add_stmt d to (node.Switch e vs is) o
+  unfolding add_stmt add_items add_selector add_switch
+  switch_step e vs is = same_ops o _ _ _ _ _ _ (simp append_assoc) (omega arith) (omega arith)

@@ -1,75 +1,155 @@
 //! The ops of an expression.
 
-ghost use Rattle.std.specs.Prelude.{◌≡◌, ◌+◌, ◌++◌, ◌∷◌, [], OnOk};
-ghost use Rattle.staged_meaning.specs.Size.{labels_in, temps_in};
-ghost use Rattle.staged_meaning.specs.Scope.{IsBuilt};
-ghost use Rattle.tick_lower_proof.specs.Lower.{Addresses, expr_ops};
+ghost use Rattle.std.specs.Prelude.{◌≡◌, ◌∷◌, [], OnOk};
+ghost use Rattle.tick_lower.specs.Steps.{Fits, add, add_expr, library_ops};
+ghost use Rattle.tick_lower_proof.specs.Lower.{Addresses, dropping};
+ghost use Rattle.typed_tree.specs.Nodes as node;
 ghost use Rattle.typed_tree.specs.View.{expr_view};
 
 use crate::ops::Ops;
 use icode_ir::BuildOp;
-use icode_ops::SysKind;
+use icode_ops::{RunKind, SysKind};
 use sqlite_items::Boxed;
 use std::alloc::AllocError;
-use typed_tree::{Expr, Library};
+use typed_tree::{Expr, Library, has_value};
 
-// The op of a library function, which takes its argument and leaves its answer. Of the library only putchar is built.
-fn library_op(function: Library) -> BuildOp
-    requires { function ≡ Library.Putchar }
-    ensures { result ≡ BuildOp.Sys SysKind.PutByte }
+// The ops of a library function, which take its argument and leave its answer, where it has one. The only error is want
+// of memory.
+fn push_library(function: Library, out: &mut Ops) -> Result<(), AllocError>
+    ensures { OnOk result (out.new ≡ add (library_ops function) out.old) }
 {
     match function {
-        Library::Putchar => BuildOp::Sys {
+        Library::Putchar => out.push(BuildOp::Sys {
             kind: SysKind::PutByte,
-        },
-        Library::Putint | Library::Exit | Library::Malloc => unreachable!(),
+        }),
+        Library::Putint => out.push_all(&[
+            BuildOp::Sys {
+                kind: SysKind::PutInteger,
+            },
+            BuildOp::Drop,
+        ]),
+        Library::Exit => out.push_all(&[
+            BuildOp::Sys {
+                kind: SysKind::Exit,
+            },
+            BuildOp::Drop,
+        ]),
+        Library::Malloc => out.push(BuildOp::Run {
+            routine: RunKind::Malloc,
+        }),
     }
 }
 
-/// Adds the ops of an expression, which leave its value as one operand more. The only error is want of memory.
+/// Adds the ops of an expression, which leave its value as one operand more, if it has one. The only error is want of
+/// memory.
+#[cycle(lower_expression)]
 #[tactic(auto, using(typed_tree::proofs::Views::expressions))]
 pub fn lower_expression(e: &Expr, out: &mut Ops) -> Result<(), AllocError>
-    requires { IsBuilt (expr_view e.now) }
-    ensures ops { OnOk result ((addresses : Addresses) →
-        out.new.list ≡ out.old.list ++ expr_ops addresses (expr_view e.now) out.old.label out.old.variable) }
-    ensures label { OnOk result (out.new.label ≡ out.old.label + labels_in (expr_view e.now)) }
-    ensures variable { OnOk result (out.new.variable ≡ out.old.variable + temps_in (expr_view e.now)) }
+    requires { Fits (expr_view e.now) out.old }
+    ensures { OnOk result ((addresses : Addresses) → out.new ≡ add_expr addresses (expr_view e.now) out.old) }
 {
     match e {
         Expr::Const(word) => out.push(BuildOp::Const { word: *word }),
         Expr::Var(i) => out.push(BuildOp::GetVariable { variable: *i }),
-        Expr::SetVar(i, a) => {
-            lower_expression(a.get(), out)?;
-            out.push(BuildOp::SetVariable { variable: *i })
-        }
+        Expr::SetVar(i, a) => lower_then(a.get(), BuildOp::SetVariable { variable: *i }, out),
+        Expr::PostVar(i, width, step) => out.push_step(*i, *width, *step),
+        Expr::Un(kind, a) => lower_then(a.get(), BuildOp::Un { kind: *kind }, out),
         Expr::Bin(kind, a, b) => {
             lower_expression(a.get(), out)?;
-            lower_expression(b.get(), out)?;
-            out.push(BuildOp::Bin { kind: *kind })
+            lower_then(b.get(), BuildOp::Bin { kind: *kind }, out)
         }
+        Expr::And(a, b) => lower_and(a.get(), b.get(), out),
+        Expr::Or(a, b) => lower_or(a.get(), b.get(), out),
+        Expr::Cond(test, a, b) => lower_choice(test.get(), a.get(), b.get(), out),
+        Expr::Comma(a, b) => {
+            lower_effect(a.get(), out)?;
+            lower_expression(b.get(), out)
+        }
+        Expr::Void(a) => lower_effect(a.get(), out),
+        Expr::Getchar => out.push_all(&[
+            BuildOp::Const { word: 0 },
+            BuildOp::Sys {
+                kind: SysKind::GetByte,
+            },
+        ]),
         Expr::Lib(function, a) => {
             lower_expression(a.get(), out)?;
-            out.push(library_op(*function))
+            push_library(*function, out)
         }
-        Expr::Captured(_, _) | Expr::PostVar(_, _, _) | Expr::VGet(_) => unreachable!(),
-        Expr::VSet(_, _) | Expr::VPost(_, _) | Expr::Frame(_) => unreachable!(),
-        Expr::Load(_, _) | Expr::Store(_, _, _) | Expr::Modify(_, _, _, _) => unreachable!(),
-        Expr::Post(_, _, _) | Expr::Un(_, _) | Expr::And(_, _) | Expr::Or(_, _) => unreachable!(),
-        Expr::Cond(_, _, _) | Expr::Comma(_, _) | Expr::Void(_) => unreachable!(),
-        Expr::Call(_, _, _) | Expr::CallNumber(_, _, _) | Expr::Getchar => unreachable!(),
+        Expr::Captured(_, _) | Expr::VGet(_) | Expr::VSet(_, _) | Expr::VPost(_, _) =>
+            unreachable!(),
+        Expr::Frame(_) | Expr::Load(_, _) | Expr::Store(_, _, _) => unreachable!(),
+        Expr::Modify(_, _, _, _) | Expr::Post(_, _, _) => unreachable!(),
+        Expr::Call(_, _, _) | Expr::CallNumber(_, _, _) => unreachable!(),
         Expr::Tick(_, _) | Expr::Capture(_, _) | Expr::Splice(_, _) => unreachable!(),
         Expr::Compile(_) | Expr::Local | Expr::ParamOf(_) => unreachable!(),
     }
 }
 
 /// Adds the ops of an expression, and one that takes or keeps its value. The only error is want of memory.
-pub fn lower_then(e: &Boxed<Expr>, op: BuildOp, out: &mut Ops) -> Result<(), AllocError>
-    requires { IsBuilt (expr_view e.now) }
-    ensures ops { OnOk result ((addresses : Addresses) → out.new.list
-        ≡ out.old.list ++ (expr_ops addresses (expr_view e.now) out.old.label out.old.variable ++ op ∷ [])) }
-    ensures label { OnOk result (out.new.label ≡ out.old.label + labels_in (expr_view e.now)) }
-    ensures variable { OnOk result (out.new.variable ≡ out.old.variable + temps_in (expr_view e.now)) }
+#[cycle(lower_expression)]
+pub fn lower_then(e: &Expr, op: BuildOp, out: &mut Ops) -> Result<(), AllocError>
+    requires { Fits (expr_view e.now) out.old }
+    ensures { OnOk result ((addresses : Addresses) →
+        out.new ≡ add (op ∷ []) (add_expr addresses (expr_view e.now) out.old)) }
 {
-    lower_expression(e.get(), out)?;
+    lower_expression(e, out)?;
     out.push(op)
+}
+
+/// Adds the ops of an expression for its effects: its value, if it has one, is taken away. The only error is want of
+/// memory.
+#[cycle(lower_expression)]
+pub fn lower_effect(e: &Expr, out: &mut Ops) -> Result<(), AllocError>
+    requires { Fits (expr_view e.now) out.old }
+    ensures { OnOk result ((addresses : Addresses) →
+        out.new ≡ add (dropping (node.has_value (expr_view e.now))) (add_expr addresses (expr_view e.now) out.old)) }
+{
+    lower_expression(e, out)?;
+    out.push_dropping(has_value(e))
+}
+
+// The ops of `a && b`.
+#[cycle(lower_expression)]
+fn lower_and(a: &Expr, b: &Expr, out: &mut Ops) -> Result<(), AllocError>
+    requires { Fits (node.And (expr_view a.now) (expr_view b.now)) out.old }
+    ensures { OnOk result ((addresses : Addresses) →
+        out.new ≡ add_expr addresses (node.And (expr_view a.now) (expr_view b.now)) out.old) }
+{
+    let join = out.take_join();
+    lower_then(a, BuildOp::BranchZero { label: join.other }, out)?;
+    lower_then(b, BuildOp::BranchZero { label: join.other }, out)?;
+    out.push_joins(1, 0, join)
+}
+
+// The ops of `a || b`.
+#[cycle(lower_expression)]
+fn lower_or(a: &Expr, b: &Expr, out: &mut Ops) -> Result<(), AllocError>
+    requires { Fits (node.Or (expr_view a.now) (expr_view b.now)) out.old }
+    ensures { OnOk result ((addresses : Addresses) →
+        out.new ≡ add_expr addresses (node.Or (expr_view a.now) (expr_view b.now)) out.old) }
+{
+    let join = out.take_join();
+    lower_then(a, BuildOp::BranchNonzero { label: join.other }, out)?;
+    lower_then(b, BuildOp::BranchNonzero { label: join.other }, out)?;
+    out.push_joins(0, 1, join)
+}
+
+// The ops of `test ? a : b`.
+#[cycle(lower_expression)]
+fn lower_choice(test: &Expr, a: &Expr, b: &Expr, out: &mut Ops) -> Result<(), AllocError>
+    requires { Fits (node.Cond (expr_view test.now) (expr_view a.now) (expr_view b.now)) out.old }
+    ensures { OnOk result ((addresses : Addresses) →
+        out.new ≡ add_expr addresses (node.Cond (expr_view test.now) (expr_view a.now) (expr_view b.now)) out.old) }
+{
+    let join = out.take_join();
+    let left = has_value(a);
+    lower_then(test, BuildOp::BranchZero { label: join.other }, out)?;
+    lower_expression(a, out)?;
+    out.push_keeping(left, join.value)?;
+    out.push_turn(join.end, join.other)?;
+    lower_expression(b, out)?;
+    out.push_keeping(left, join.value)?;
+    out.push(BuildOp::Label { label: join.end })?;
+    out.push_kept(left, join.value)
 }

@@ -7,7 +7,7 @@ ghost use Rattle.staged_meaning.specs.Scope.{IsReady};
 ghost use Rattle.tick_lower_proof.specs.Lower.{Addresses, function_ops as ops_of};
 ghost use Rattle.typed_tree.specs.View.{function_view};
 
-use crate::ops::Ops;
+use crate::ops::{Exits, Ops};
 use crate::statements::lower_statement;
 use crate::variables::variables;
 use icode_ir::{BuildOp, Builder, Phase};
@@ -22,18 +22,24 @@ fn function_ops(alloc: Global, function: &Function) -> Result<Items<BuildOp>, Al
     ensures { IfOk result (λ ops. (addresses : Addresses) → ops ≡ ops_of addresses (function_view function.now)) }
 {
     let mut ops = Ops {
+        alloc,
         list: Items::new(alloc),
         label: 0,
         variable: variables(function.body.get()),
     };
     // how many labels the body has is known behind it
     ops.push(BuildOp::Leave)?;
-    lower_statement(function.body.get(), &mut ops)?;
+    let nowhere = Exits {
+        on_break: 0,
+        on_continue: 0,
+    };
+    lower_statement(function.body.get(), nowhere, &mut ops)?;
     ops.push(BuildOp::Leave)?;
     let Ops {
         mut list,
         label,
         variable,
+        ..
     } = ops;
     list.set(
         0,

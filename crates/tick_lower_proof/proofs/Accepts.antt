@@ -9,16 +9,18 @@ use Rattle.icode_ops.specs.declared.kind.BinKind.{BinKind}
 use Rattle.icode_ops.specs.Flow.{holds}
 use Rattle.icode_ops.specs.Flow as flow
 use Rattle.icode_ir.specs.declared.build_op.BuildOp.{BuildOp}
-use Rattle.icode_ir.specs.declared.build_op.BuildOp.TheVariants.{Const, Bin, GetVariable, SetVariable, Drop, Label}
-use Rattle.icode_ir.specs.declared.build_op.BuildOp.TheVariants.{Jump, BranchZero, Return, Sys}
+use Rattle.icode_ir.specs.declared.build_op.BuildOp.TheVariants.{Const, Bin, Un, GetVariable, SetVariable, Drop, Pick}
+use Rattle.icode_ir.specs.declared.build_op.BuildOp.TheVariants.{Label, Jump, BranchZero, BranchNonzero, Return}
+use Rattle.icode_ir.specs.declared.build_op.BuildOp.TheVariants.{ReturnZero, Sys}
 use Rattle.icode_ir.specs.Build.{Build, stands, label}
 use Rattle.icode_ir.specs.Rules.{effect}
 use Rattle.icode_ir.specs.Runs.{run_ops, AreTaken}
+use Rattle.limits.specs.declared.ops.TheConstants.{OP_LIMIT}
 use Rattle.tick_lower_proof.proofs.Builder.{View, inner, top, below, Check, NoCheck, SignedCheck, ZeroCheck, check_of}
 use Rattle.tick_lower_proof.proofs.Builder.{check_ops, issued, after_op, after_ops}
 use Rattle.tick_lower_proof.proofs.Takes.{Matches, Takes, IsFresh, label_is}
 use Rattle.tick_lower_proof.proofs.Taken.{took}
-use Rattle.tick_lower_proof.proofs.Deep.{DeepTo, total, place_is, height_of, still_tall, bodies_same}
+use Rattle.tick_lower_proof.proofs.Deep.{DeepTo, cost, total, place_is, height_of, still_tall, bodies_same}
 use Rattle.tick_lower_proof.proofs.Labels.{OnLabel, Every, Distinct, label_of}
 use Rattle.tick_lower_proof.proofs.Issues.{issue, other_label}
 
@@ -54,14 +56,18 @@ module _ (n m L : ℕ) where
   not_issued (Bin kind) h v i e ok ne =
       bin_stands kind (check_of kind) v.next (top (below v.operands)) (top v.operands) (L + i)
   not_issued (GetVariable k) h v i e ok ne = refl
+  not_issued (Un kind) h v i e ok ne = refl
   not_issued (SetVariable k) h v i e ok ne = refl
   not_issued Drop h v i e ok ne = refl
+  not_issued (Pick k) h v i e ok ne = refl
   not_issued (Label k) h v i e ok ne =
       let apart : L + i ≢ (inner v.bodies).first_label + k = omega arith in
       ap (λ z. z || false) (other_label (L + i) ((inner v.bodies).first_label + k) apart)
   not_issued (Jump k) h v i e ok ne = refl
   not_issued (BranchZero k) h v i e ok ne = refl
+  not_issued (BranchNonzero k) h v i e ok ne = refl
   not_issued Return h v i e ok ne = refl
+  not_issued ReturnZero h v i e ok ne = refl
   not_issued (Sys kind) h v i e ok ne = refl
   not_issued _ h v i e ok ne = absurd ok
 
@@ -102,24 +108,25 @@ module _ (n m L : ℕ) where
               some (Some i) = tt
       turn (Some k) a = a
 
-  pub accepts : (os : List BuildOp) (h' : ℕ) (b : Build) (v : View) → Matches b v → length v.operands ≤ v.place →
-      (inner v.bodies).variables ≡ n → (inner v.bodies).labels ≡ m → (inner v.bodies).first_label ≡ L →
+  -- c counts the ops so far, and the operands that were copied
+  pub accepts : (os : List BuildOp) (h' : ℕ) (b : Build) (v : View) (c : ℕ) → Matches b v → length v.operands ≤ c →
+      v.place ≤ c → (inner v.bodies).variables ≡ n → (inner v.bodies).labels ≡ m → (inner v.bodies).first_label ≡ L →
       DeepTo n m os (length v.operands) h' → Every label_of (λ i. stands (L + i) b.ops ≡ false) os →
-      Distinct label_of os → v.place + total os ≤ 196608 → Accepted os h' b v
-  accepts [] h' b v is tall en em eL deep fresh apart room =
+      Distinct label_of os → c + total os ≤ OP_LIMIT → Accepted os h' b v
+  accepts [] h' b v c is tall low en em eL deep fresh apart room =
       record { taken = tt; matches = is; ops = sym (append_none b.ops); height = deep; bodies = refl }
-  accepts (o ∷ os) h' b v is tall en em eL deep fresh apart room =
+  accepts (o ∷ os) h' b v c is tall low en em eL deep fresh apart room =
       let h = length v.operands in
       let at = place_is n m o h v deep.0 in
       let hs = height_of n m o h v deep.0 in
       let same = bodies_same n m o h v deep.0 in
-      let t = took n m b v is tall en em o deep.0 (fresh_of o b v is eL fresh.0) (omega (arith, at, room)) in
-      let more = accepts os h' (effect o b) (after_op o v) t.matches
-      (omega (arith, hs, at, still_tall n m o h v.place deep.0 tall))
+      let t = took n m b v c is tall low en em o deep.0 (fresh_of o b v is eL fresh.0) (omega (arith, room)) in
+      let more = accepts os h' (effect o b) (after_op o v) (c + cost o) t.matches
+      (omega (arith, hs, still_tall n m o h c deep.0 tall)) (omega (arith, at, low))
       (ap (λ z. (inner z).variables) same ∙ en) (ap (λ z. (inner z).labels) same ∙ em)
       (ap (λ z. (inner z).first_label) same ∙ eL)
       (subst (λ z. DeepTo n m os z h') (sym hs) deep.1)
-      (still_fresh o os h b v (effect o b).ops eL deep.0 t.ops apart.0 fresh.1) apart.1 (omega (arith, at, room)) in
+      (still_fresh o os h b v (effect o b).ops eL deep.0 t.ops apart.0 fresh.1) apart.1 (omega (arith, room)) in
       record {
         taken = (t.fault, more.taken);
         matches = more.matches;

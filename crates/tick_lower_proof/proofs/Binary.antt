@@ -109,7 +109,8 @@ module _ (site : Site) (scope : Scope) (inside : Within scope site.named) where
       let second = h.held.0 in
       let p3 = suc (past_check check v2.place) in
       let g3 = paid_check P site.call s h.regs k v2.next ra rb first.on second.on check h.log in
-      let go0 = check_goes P site.call s h.regs k v2.next ra rb first.on second.on check v2.place h.log h.goes at2.0 in
+      let go0 = check_goes P site.call s h.regs k v2.next ra rb first.on second.on check v2.place h.log h.goes at2.0
+      (trap_is k (h.regs.values ra) (h.regs.values rb)) in
       let G : ℕ → ℕ → Type 0 = λ i j. Goes P s
       (machine.unless (trap_by check i j) g3
       (at_op site.call p3 (put v2.next (bin_value k i j) h.regs) (paid (op.Bin k v2.next ra rb) g3))) in

@@ -8,6 +8,7 @@ use Rattle.icode_ir.specs.declared.build_op.BuildOp.TheVariants as build
 use Rattle.typed_tree.specs.Nodes as node
 use Rattle.staged_meaning.specs.Size.{labels, temps, variables_in}
 use Rattle.staged_meaning.specs.Scope.{no_scope, IsReady, scope_of}
+use Rattle.staged_meaning.specs.Placed.{outside}
 use Rattle.staged_meaning.specs.World.{World, Result, Gives, Returns, Ends, Stops, Flow, Normal, Broke, Continued}
 use Rattle.staged_meaning.specs.World.{spend}
 use Rattle.staged_meaning.specs.Meaning.{Context, exec, answer, call_body}
@@ -37,10 +38,10 @@ pub record IsCode (d : Addresses) (function : node.Function) (code : List Op) : 
   pub last : slice_get code (after_ops (function_ops d function) start).place ≡ Some op.ReturnZero
   pub labelled : Labelled code
 
--- What the unit of a call has left over for the parameters at the head of its function: eight at most, at 35
--- instructions each.
+-- What the unit of a call has left over for the parameters at the head of its function, eight at most, at 35
+-- instructions each, and for the statements behind them.
 abbrev pub head_credit : ℕ
-head_credit = 280
+head_credit = 296
 
 module _ (P : Program) (c : Context) (d : Addresses) (f : Here) (function : node.Function)
     (code : IsCode d function f.function.ops) where
@@ -145,11 +146,11 @@ module _ (P : Program) (c : Context) (d : Addresses) (f : Here) (function : node
 
   module _ (ready : IsReady function) where
     -- a body, once the call's unit is spent
-    body_run : (from : From) (spare credit : ℕ) (w : World) → from.units < c.turns →
+    body_run : (from : From) (spare credit : ℕ) (w : World) → from.units < c.turns → 16 ≤ credit →
         At site from no_scope 0 [] spare credit 0 w →
         Follows P from (IsBack site from) (λ x w. ⊥) (answer (exec c function.body w))
     unfolding Runs
-    body_run from spare credit w lt z =
+    body_run from spare credit w lt enough z =
         let so = stmt_ops d function.body nowhere 0 src in
         let at = stands_front f.function.ops so (build.Leave ∷ []) opened code.stands.1 in
         let xs = scope_of function.body no_scope in
@@ -160,10 +161,11 @@ module _ (P : Program) (c : Context) (d : Addresses) (f : Here) (function : node
         (exec c function.body w)
         (left_on site from no_scope xs no_scope no_scope (λ i h. h) [] spare credit spare credit closed.place
         closed.place None None (λ w1 y. at_narrow site from xs no_scope closed.place [] spare credit 0 w1 out y))
-        (stmt_run site code.labelled no_scope inside function.body ready.built ready.scoped (omega arith) [] None None
-        nowhere (record { on_break = λ p e. absurd cc; on_continue = λ p e. absurd cc }) 0 src (omega arith)
+        (stmt_run site code.labelled no_scope inside function.body ready.built ready.values ready.scoped
+        outside ready.placed (omega arith) [] None None nowhere
+        (record { on_break = λ e. absurd cc; on_continue = λ e. absurd cc }) 0 src (omega arith)
         (omega arith) opened (record { bodies_are = refl; free = omega arith; below = tt }) at from spare credit w lt
-        z))
+        enough z))
 
     -- a call of a function of the kinds that are built
     pub call_run : (arguments : List ℕ) (from : From) (g : Log) (w : World) → w.units ≤ c.turns → g.shared ≡ w.shared →
@@ -173,4 +175,4 @@ module _ (P : Program) (c : Context) (d : Addresses) (f : Here) (function : node
         Follows P from (IsBack site from) (λ x w. ⊥) (call_body c function arguments w)
     call_run arguments from g w lt o go few low high =
         enter_run arguments from g w lt o go few low high
-        (λ later w1 less e1 e2 z. body_run later 0 head_credit w1 less z)
+        (λ later w1 less e1 e2 z. body_run later 0 head_credit w1 less (omega arith) z)

@@ -1,24 +1,25 @@
--- A tree's ops keep the discipline of the operand stack, name the body's variables and labels alone, and issue twelve
--- ops a node at most.
-use Rattle.std.proofs.Common.{◌≡◌, ℕ, zero, suc, ◌+◌, ◌*◌, ◌≤◌, List, [], ◌∷◌, ◌++◌, length, refl, sym, ap, ◌∙◌, subst}
-use Rattle.std.proofs.Common.{arith}
+-- An expression's ops keep the discipline of the operand stack, name the body's variables and labels alone, and issue
+-- twelve ops a node at most.
+use Rattle.std.proofs.Common.{◌≡◌, ℕ, zero, suc, ◌+◌, ◌*◌, ◌<◌, ◌≤◌, List, [], ◌∷◌, ◌++◌, length, Bool, true, false}
+use Rattle.std.proofs.Common.{refl, sym, ap, ◌∙◌, subst, arith}
+use Rattle.word32.specs.declared.width.Width.{Width}
+use Rattle.word32.specs.declared.width.Width.TheVariants as width
 use Rattle.icode_ops.specs.declared.kind.SysKind.TheVariants as sys
 use Rattle.icode_ir.specs.declared.build_op.BuildOp.{BuildOp}
-use Rattle.icode_ir.specs.declared.build_op.BuildOp.TheVariants.{Const, Bin, GetVariable, SetVariable, Drop, Label}
-use Rattle.icode_ir.specs.declared.build_op.BuildOp.TheVariants.{Jump, BranchZero, Return, Sys}
+use Rattle.icode_ir.specs.declared.build_op.BuildOp.TheVariants.{Const, Bin, Un, GetVariable, SetVariable, Drop, Pick}
+use Rattle.icode_ir.specs.declared.build_op.BuildOp.TheVariants.{Label, Jump, BranchZero, BranchNonzero, Return}
+use Rattle.icode_ir.specs.declared.build_op.BuildOp.TheVariants.{ReturnZero, Sys}
 use Rattle.typed_tree.specs.Nodes as node
 use Rattle.typed_tree.specs.declared.expression.Library.TheVariants as library
-use Rattle.typed_tree.specs.Nodes.{Expr, Stmt, Items, has_value}
-use Rattle.staged_meaning.specs.Size.{size_of_expr, size_of_stmt, size_of_items, labels_in, labels, labels_of, temps_in}
-use Rattle.staged_meaning.specs.Size.{temps, temps_of, variables_in, variables_of}
-use Rattle.staged_meaning.specs.Scope.{Scope, scope_of, scope_after, IsScoped, IsScopedStmt, AreScopedItems, IsBuilt}
-use Rattle.staged_meaning.specs.Scope.{IsBuiltStmt, AreBuiltItems}
-use Rattle.tick_lower_proof.specs.Lower.{Addresses, expr_ops, Targets, stmt_ops, items_ops, dropping}
+use Rattle.typed_tree.specs.Nodes.{Expr, has_value}
+use Rattle.staged_meaning.specs.Size.{size_of_expr, labels_in, temps_in}
+use Rattle.staged_meaning.specs.Scope.{Scope, IsScoped, IsBuilt}
+use Rattle.staged_meaning.specs.Values.{Leaves, UsesValues}
+use Rattle.tick_lower_proof.specs.Lower.{Addresses, expr_ops, dropping, keeping, kept}
+use Rattle.tick_lower_proof.specs.Lower.{narrowing, joins}
 use Rattle.tick_lower_proof.proofs.Builder.{View, below, Check, NoCheck, SignedCheck, ZeroCheck, check_of, past_check}
 use Rattle.tick_lower_proof.proofs.Builder.{after_op}
-use Rattle.tick_lower_proof.proofs.Pushes.{built_value}
 use Rattle.tick_lower_proof.proofs.Registers.{Within}
-use Rattle.tick_lower_proof.proofs.Stmts.{max_left, max_right, within_stmt, within_items}
 use Rattle.tick_lower_proof.proofs.Takes.{Takes}
 
 abbrev pub less : ℕ → ℕ
@@ -29,9 +30,12 @@ less (suc h) = h
 abbrev pub height : BuildOp → ℕ → ℕ
 height (Const word) h = suc h
 height (Bin kind) h = suc (less (less h))
+height (Un kind) h = suc (less h)
 height (GetVariable i) h = suc h
 height Drop h = less h
+height (Pick i) h = suc h
 height (BranchZero i) h = less h
+height (BranchNonzero i) h = less h
 height Return h = less h
 height (Sys kind) h = suc (less h)
 height _ h = h
@@ -46,7 +50,7 @@ pub deep_append : (n m : ℕ) (xs ys : List BuildOp) (h h1 h2 : ℕ) → DeepTo 
 deep_append n m [] ys h h1 h2 p q = subst (λ z. DeepTo n m ys z h2) (sym p) q
 deep_append n m (o ∷ xs) ys h h1 h2 p q = (p.0, deep_append n m xs ys (height o h) h1 h2 p.1 q)
 
--- the ops that are issued
+-- The ops that are issued, at most: a copy of an operand is counted too, so that there are no more operands than ops.
 abbrev pub checks_by : Check → ℕ
 checks_by NoCheck = 0
 checks_by SignedCheck = 1
@@ -55,12 +59,16 @@ checks_by ZeroCheck = 1
 abbrev pub cost : BuildOp → ℕ
 cost (Const word) = 1
 cost (Bin kind) = checks_by (check_of kind) + 1
+cost (Un kind) = 1
 cost (GetVariable i) = 1
 cost (SetVariable i) = 1
+cost (Pick i) = 1
 cost (Label i) = 1
 cost (Jump i) = 1
 cost (BranchZero i) = 1
+cost (BranchNonzero i) = 1
 cost Return = 1
+cost ReturnZero = 1
 cost (Sys kind) = 1
 cost _ = 0
 
@@ -83,16 +91,20 @@ past_is SignedCheck p = omega arith
 past_is ZeroCheck p = omega arith
 
 -- where the builder is behind an op
-pub place_is : (n m : ℕ) (o : BuildOp) (h : ℕ) (v : View) → Takes n m o h → (after_op o v).place ≡ v.place + cost o
+pub place_is : (n m : ℕ) (o : BuildOp) (h : ℕ) (v : View) → Takes n m o h → (after_op o v).place ≤ v.place + cost o
 place_is n m (Const word) h v ok = omega arith
 place_is n m (Bin kind) h v ok = omega (arith, past_is (check_of kind) v.place)
+place_is n m (Un kind) h v ok = omega arith
 place_is n m (GetVariable i) h v ok = omega arith
 place_is n m (SetVariable i) h v ok = omega arith
 place_is n m Drop h v ok = omega arith
+place_is n m (Pick i) h v ok = omega arith
 place_is n m (Label i) h v ok = omega arith
 place_is n m (Jump i) h v ok = omega arith
 place_is n m (BranchZero i) h v ok = omega arith
+place_is n m (BranchNonzero i) h v ok = omega arith
 place_is n m Return h v ok = omega arith
+place_is n m ReturnZero h v ok = omega arith
 place_is n m (Sys kind) h v ok = omega arith
 place_is n m _ h v ok = absurd ok
 
@@ -104,13 +116,17 @@ pub height_of : (n m : ℕ) (o : BuildOp) (h : ℕ) (v : View) → Takes n m o h
     length (after_op o v).operands ≡ height o (length v.operands)
 height_of n m (Const word) h v ok = refl
 height_of n m (Bin kind) h v ok = ap suc (length_below (below v.operands) ∙ ap less (length_below v.operands))
+height_of n m (Un kind) h v ok = ap suc (length_below v.operands)
 height_of n m (GetVariable i) h v ok = refl
 height_of n m (SetVariable i) h v ok = refl
 height_of n m Drop h v ok = length_below v.operands
+height_of n m (Pick i) h v ok = refl
 height_of n m (Label i) h v ok = refl
 height_of n m (Jump i) h v ok = refl
 height_of n m (BranchZero i) h v ok = length_below v.operands
+height_of n m (BranchNonzero i) h v ok = length_below v.operands
 height_of n m Return h v ok = length_below v.operands
+height_of n m ReturnZero h v ok = refl
 height_of n m (Sys kind) h v ok = ap suc (length_below v.operands)
 height_of n m _ h v ok = absurd ok
 
@@ -122,131 +138,228 @@ less_le (suc h) = omega arith
 pub still_tall : (n m : ℕ) (o : BuildOp) (h p : ℕ) → Takes n m o h → h ≤ p → height o h ≤ p + cost o
 still_tall n m (Const word) h p ok le = omega arith
 still_tall n m (Bin kind) h p ok le = omega (arith, less_le (less h), less_le h)
+still_tall n m (Un kind) h p ok le = omega (arith, less_le h)
 still_tall n m (GetVariable i) h p ok le = omega arith
 still_tall n m (SetVariable i) h p ok le = omega arith
 still_tall n m Drop h p ok le = omega (arith, less_le h)
+still_tall n m (Pick i) h p ok le = omega arith
 still_tall n m (Label i) h p ok le = omega arith
 still_tall n m (Jump i) h p ok le = omega arith
 still_tall n m (BranchZero i) h p ok le = omega (arith, less_le h)
+still_tall n m (BranchNonzero i) h p ok le = omega (arith, less_le h)
 still_tall n m Return h p ok le = omega (arith, less_le h)
+still_tall n m ReturnZero h p ok le = omega arith
 still_tall n m (Sys kind) h p ok le = omega (arith, less_le h)
 still_tall n m _ h p ok le = absurd ok
 
 pub bodies_same : (n m : ℕ) (o : BuildOp) (h : ℕ) (v : View) → Takes n m o h → (after_op o v).bodies ≡ v.bodies
 bodies_same n m (Const word) h v ok = refl
 bodies_same n m (Bin kind) h v ok = refl
+bodies_same n m (Un kind) h v ok = refl
 bodies_same n m (GetVariable i) h v ok = refl
 bodies_same n m (SetVariable i) h v ok = refl
 bodies_same n m Drop h v ok = refl
+bodies_same n m (Pick i) h v ok = refl
 bodies_same n m (Label i) h v ok = refl
 bodies_same n m (Jump i) h v ok = refl
 bodies_same n m (BranchZero i) h v ok = refl
+bodies_same n m (BranchNonzero i) h v ok = refl
 bodies_same n m Return h v ok = refl
+bodies_same n m ReturnZero h v ok = refl
 bodies_same n m (Sys kind) h v ok = refl
 bodies_same n m _ h v ok = absurd ok
 
+-- one operand more where there is a value
+abbrev pub risen : Bool → ℕ → ℕ
+risen true h = suc h
+risen false h = h
+
+module _ (n m : ℕ) where
+  pub valued_deep : (os : List BuildOp) (b : Bool) (h : ℕ) → b ≡ true → DeepTo n m os h (risen b h) →
+      DeepTo n m os h (suc h)
+  valued_deep os b h is deep = subst (λ z. DeepTo n m os h (risen z h)) is deep
+
+  pub dropped_deep : (b : Bool) (h : ℕ) → DeepTo n m (dropping b) (risen b h) h
+  dropped_deep true h = (omega arith, refl)
+  dropped_deep false h = refl
+
+  kept_deep : (b : Bool) (t h : ℕ) → t < n → DeepTo n m (keeping b t) (risen b h) h
+  kept_deep true t h lt = ((omega arith, lt), (omega arith, refl))
+  kept_deep false t h lt = refl
+
+  fetched_deep : (b : Bool) (t h : ℕ) → t < n → DeepTo n m (kept b t) h (risen b h)
+  fetched_deep true t h lt = (lt, refl)
+  fetched_deep false t h lt = refl
+
+  narrowed_deep : (width : Width) (h : ℕ) → DeepTo n m (narrowing width) (suc h) (suc h)
+  narrowed_deep width.SignedByte h = (omega arith, refl)
+  narrowed_deep width.Byte h = (omega arith, refl)
+  narrowed_deep width.SignedHalf h = (omega arith, refl)
+  narrowed_deep width.Half h = (omega arith, refl)
+  narrowed_deep width.Word h = refl
+
+  joined_deep : (first other l k t h : ℕ) → l < m → k < m → t < n → DeepTo n m (joins first other l k t) h (suc h)
+  joined_deep first other l k t h ll kk lt =
+      (tt, ((omega arith, lt), (omega arith, (kk, (ll, (tt, ((omega arith, lt), (omega arith, (kk, (lt, refl))))))))))
+
 module _ (d : Addresses) (src n m : ℕ) (sn : src ≤ n) where
-  pub expr_deep : (scope : Scope) → Within scope src → (e : Expr) → IsBuilt e → IsScoped scope e → (l t : ℕ) →
-      t + temps_in e ≤ n → l + labels_in e ≤ m → (h : ℕ) → DeepTo n m (expr_ops d e l t) h (suc h)
-  expr_deep scope inside (node.Const w) built ok l t tn lm h = (tt, refl)
-  expr_deep scope inside (node.Var i) built ok l t tn lm h = (omega (arith, inside.at i ok), refl)
-  expr_deep scope inside (node.SetVar i a) built ok l t tn lm h =
+  pub expr_deep : (scope : Scope) → Within scope src → (e : Expr) → IsBuilt e → UsesValues e → IsScoped scope e →
+      (l t : ℕ) → t + temps_in e ≤ n → l + labels_in e ≤ m → (h : ℕ) →
+      DeepTo n m (expr_ops d e l t) h (risen (has_value e) h)
+  expr_deep scope inside (node.Const w) built uses ok l t tn lm h = (tt, refl)
+  expr_deep scope inside (node.Var i) built uses ok l t tn lm h = (omega (arith, inside.at i ok), refl)
+  expr_deep scope inside (node.SetVar i a) built uses ok l t tn lm h =
       deep_append n m (expr_ops d a l t) (SetVariable i ∷ []) h (suc h) (suc h)
-      (expr_deep scope inside a built ok.1 l t tn lm h) ((omega arith, omega (arith, inside.at i ok.0)), refl)
-  expr_deep scope inside (node.Lib library.Putchar a) built ok l t tn lm h =
-      deep_append n m (expr_ops d a l t) (Sys sys.PutByte ∷ []) h (suc h) (suc h)
-      (expr_deep scope inside a built ok l t tn lm h) (omega arith, refl)
-  expr_deep scope inside (node.Bin k x y) built ok l t tn lm h =
-      let yo = expr_ops d y (l + labels_in x) (t + temps_in x) in
-      deep_append n m (expr_ops d x l t) (yo ++ Bin k ∷ []) h (suc h) (suc h)
-      (expr_deep scope inside x built.0 ok.0 l t (omega arith) (omega arith) h)
-      (deep_append n m yo (Bin k ∷ []) (suc h) (suc (suc h)) (suc h)
-      (expr_deep scope inside y built.1 ok.1 (l + labels_in x) (t + temps_in x) (omega arith) (omega arith) (suc h))
-      (omega arith, refl))
-  expr_deep scope inside _ built ok l t tn lm h = absurd built
-
-  eval_deep : (scope : Scope) → Within scope src → (e : Expr) → IsBuilt e → IsScoped scope e → (l t : ℕ) →
-      t + temps_in e ≤ n → l + labels_in e ≤ m → (h : ℕ) → DeepTo n m (expr_ops d e l t ++ dropping (has_value e)) h h
-  eval_deep scope inside e built ok l t tn lm h =
-      subst (λ z. DeepTo n m (expr_ops d e l t ++ dropping z) h h) (sym (built_value d e built))
-      (deep_append n m (expr_ops d e l t) (Drop ∷ []) h (suc h) h (expr_deep scope inside e built ok l t tn lm h)
-      (omega arith, refl))
-
-  mutual
-    pub stmt_deep : (scope : Scope) → Within scope src → (s : Stmt) → IsBuiltStmt s → IsScopedStmt scope s →
-        variables_in s ≤ src → (to : Targets) (l t : ℕ) → t + temps s ≤ n → l + labels s ≤ m → (h : ℕ) →
-        DeepTo n m (stmt_ops d s to l t) h h
-    stmt_deep scope inside (node.Eval e) built ok vs to l t tn lm h = eval_deep scope inside e built ok l t tn lm h
-    stmt_deep scope inside (node.Block vars items) built ok vs to l t tn lm h =
-        deep_append n m (items_ops d vars to l t) _ h h h
-        (items_deep scope inside vars built.0 ok.0 (max_left (variables_of vars) (variables_of items) src vs) to l t
-        (omega arith) (omega arith) h)
-        (items_deep (scope_after vars scope)
-        (within_items vars scope src (max_left (variables_of vars) (variables_of items) src vs) inside) items built.1
-        ok.1 (max_right (variables_of vars) (variables_of items) src vs) to (l + labels_of vars) (t + temps_of vars)
-        (omega arith) (omega arith) h)
-    stmt_deep scope inside (node.Variable i) built ok vs to l t tn lm h =
-        (tt, ((omega arith, omega arith), (omega arith, refl)))
-    stmt_deep scope inside (node.If e s) built ok vs to l t tn lm h =
-        let so = stmt_ops d s to (l + 1 + labels_in e) (t + temps_in e) in
-        deep_append n m (expr_ops d e (l + 1) t) (BranchZero l ∷ (so ++ Label l ∷ [])) h (suc h) h
-        (expr_deep scope inside e built.0 ok.0 (l + 1) t (omega arith) (omega arith) h) (
-          (omega arith, omega arith),
-          deep_append n m so (Label l ∷ []) h h h
-              (stmt_deep scope inside s built.1 ok.1 vs to (l + 1 + labels_in e) (t + temps_in e) (omega arith)
-              (omega arith) h) (omega arith, refl),
-        )
-    stmt_deep scope inside (node.IfElse e s r) built ok vs to l t tn lm h =
-        let l2 = l + 2 + labels_in e in
-        let t2 = t + temps_in e in
-        let so = stmt_ops d s to l2 t2 in
-        let ro = stmt_ops d r to (l2 + labels s) (t2 + temps s) in
-        let tail = Jump (l + 1) ∷ Label l ∷ (ro ++ Label (l + 1) ∷ []) in
-        deep_append n m (expr_ops d e (l + 2) t) (BranchZero l ∷ (so ++ tail)) h (suc h) h
-        (expr_deep scope inside e built.0 ok.0 (l + 2) t (omega arith) (omega arith) h) (
-          (omega arith, omega arith),
-          deep_append n m so tail h h h
-              (stmt_deep scope inside s built.1 ok.1 (max_left (variables_in s) (variables_in r) src vs) to l2 t2
-              (omega arith) (omega arith) h) (
-                omega arith,
-                (
-                  omega arith,
-                  deep_append n m ro (Label (l + 1) ∷ []) h h h
-                      (stmt_deep scope inside r built.2 ok.2 (max_right (variables_in s) (variables_in r) src vs) to
-                      (l2 + labels s) (t2 + temps s) (omega arith) (omega arith) h) (omega arith, refl),
-                ),
-              ),
-        )
-    stmt_deep scope inside (node.While e s) built ok vs to l t tn lm h =
-        let to2 : Targets = record { on_break = l; on_continue = l + 1 } in
-        let so = stmt_ops d s to2 (l + 2 + labels_in e) (t + temps_in e) in
-        let end = Jump (l + 1) ∷ Label l ∷ [] in (
+      (valued_deep n m (expr_ops d a l t) (has_value a) h uses.0 (expr_deep scope inside a built uses.1 ok.1 l t tn lm h))
+      ((omega arith, omega (arith, inside.at i ok.0)), refl)
+  expr_deep scope inside (node.PostVar i width step) built uses ok l t tn lm h =
+      let small : i < n = omega (arith, inside.at i ok) in (
+        small,
+        (
           omega arith,
-          deep_append n m (expr_ops d e (l + 2) t) (BranchZero l ∷ (so ++ end)) h (suc h) h
-              (expr_deep scope inside e built.0 ok.0 (l + 2) t (omega arith) (omega arith) h) (
-                (omega arith, omega arith),
-                deep_append n m so end h h h
-                    (stmt_deep scope inside s built.1 ok.1 vs to2 (l + 2 + labels_in e) (t + temps_in e) (omega arith)
-                    (omega arith) h) (omega arith, (omega arith, refl)),
+          (
+            tt,
+            (
+              omega arith,
+              deep_append n m (narrowing width) (SetVariable i ∷ Drop ∷ []) (suc (suc h)) (suc (suc h)) (suc h)
+                  (narrowed_deep n m width (suc h)) ((omega arith, small), (omega arith, refl)),
+            ),
+          ),
+        ),
+      )
+  expr_deep scope inside (node.Bin k x y) built uses ok l t tn lm h =
+      let xo = expr_ops d x l t in
+      let yo = expr_ops d y (l + labels_in x) (t + temps_in x) in
+      deep_append n m xo (yo ++ Bin k ∷ []) h (suc h) (suc h)
+      (valued_deep n m xo (has_value x) h uses.0
+      (expr_deep scope inside x built.0 uses.1 ok.0 l t (omega arith) (omega arith) h))
+      (deep_append n m yo (Bin k ∷ []) (suc h) (suc (suc h)) (suc h)
+      (valued_deep n m yo (has_value y) (suc h) uses.2
+      (expr_deep scope inside y built.1 uses.3 ok.1 (l + labels_in x) (t + temps_in x) (omega arith) (omega arith)
+      (suc h))) (omega arith, refl))
+  expr_deep scope inside (node.Un k a) built uses ok l t tn lm h =
+      deep_append n m (expr_ops d a l t) (Un k ∷ []) h (suc h) (suc h)
+      (valued_deep n m (expr_ops d a l t) (has_value a) h uses.0 (expr_deep scope inside a built uses.1 ok l t tn lm h))
+      (omega arith, refl)
+  expr_deep scope inside (node.And a b) built uses ok l t tn lm h =
+      let ao = expr_ops d a (l + 2) (t + 1) in
+      let bo = expr_ops d b (l + 2 + labels_in a) (t + 1 + temps_in a) in
+      let J = joins 1 0 l (l + 1) t in
+      deep_append n m ao (BranchZero l ∷ (bo ++ BranchZero l ∷ J)) h (suc h) (suc h)
+      (valued_deep n m ao (has_value a) h uses.0
+      (expr_deep scope inside a built.0 uses.1 ok.0 (l + 2) (t + 1) (omega arith) (omega arith) h)) (
+        (omega arith, omega arith),
+        deep_append n m bo (BranchZero l ∷ J) h (suc h) (suc h)
+            (valued_deep n m bo (has_value b) h uses.2
+            (expr_deep scope inside b built.1 uses.3 ok.1 (l + 2 + labels_in a) (t + 1 + temps_in a) (omega arith)
+            (omega arith) h))
+            ((omega arith, omega arith), joined_deep n m 1 0 l (l + 1) t h (omega arith) (omega arith) (omega arith)),
+      )
+  expr_deep scope inside (node.Or a b) built uses ok l t tn lm h =
+      let ao = expr_ops d a (l + 2) (t + 1) in
+      let bo = expr_ops d b (l + 2 + labels_in a) (t + 1 + temps_in a) in
+      let J = joins 0 1 l (l + 1) t in
+      deep_append n m ao (BranchNonzero l ∷ (bo ++ BranchNonzero l ∷ J)) h (suc h) (suc h)
+      (valued_deep n m ao (has_value a) h uses.0
+      (expr_deep scope inside a built.0 uses.1 ok.0 (l + 2) (t + 1) (omega arith) (omega arith) h)) (
+        (omega arith, omega arith),
+        deep_append n m bo (BranchNonzero l ∷ J) h (suc h) (suc h)
+            (valued_deep n m bo (has_value b) h uses.2
+            (expr_deep scope inside b built.1 uses.3 ok.1 (l + 2 + labels_in a) (t + 1 + temps_in a) (omega arith)
+            (omega arith) h))
+            ((omega arith, omega arith), joined_deep n m 0 1 l (l + 1) t h (omega arith) (omega arith) (omega arith)),
+      )
+  expr_deep scope inside (node.Cond c a b) built uses ok l t tn lm h =
+      let has = has_value a in
+      let la = l + 2 + labels_in c in
+      let ta = t + 1 + temps_in c in
+      let co = expr_ops d c (l + 2) (t + 1) in
+      let ao = expr_ops d a la ta in
+      let bo = expr_ops d b (la + labels_in a) (ta + temps_in a) in
+      let K = keeping has t in
+      let rest5 = Label (l + 1) ∷ kept has t in
+      let rest3 = bo ++ (K ++ rest5) in
+      let rest2 = Jump (l + 1) ∷ Label l ∷ rest3 in
+      let low : t < n = omega arith in
+      deep_append n m co (BranchZero l ∷ (ao ++ (K ++ rest2))) h (suc h) (risen has h)
+      (valued_deep n m co (has_value c) h uses.0
+      (expr_deep scope inside c built.0 uses.1 ok.0 (l + 2) (t + 1) (omega arith) (omega arith) h)) (
+        (omega arith, omega arith),
+        deep_append n m ao (K ++ rest2) h (risen has h) (risen has h)
+            (expr_deep scope inside a built.1 uses.2 ok.1 la ta (omega arith) (omega arith) h)
+            (deep_append n m K rest2 (risen has h) h (risen has h) (kept_deep n m has t h low) (
+              omega arith,
+              (
+                omega arith,
+                deep_append n m bo (K ++ rest5) h (risen has h) (risen has h)
+                    (subst (λ z. DeepTo n m bo h (risen z h)) uses.4
+                    (expr_deep scope inside b built.2 uses.3 ok.2 (la + labels_in a) (ta + temps_in a) (omega arith)
+                    (omega arith) h))
+                    (deep_append n m K rest5 (risen has h) h (risen has h) (kept_deep n m has t h low)
+                    (omega arith, fetched_deep n m has t h low)),
               ),
-        )
-    stmt_deep scope inside (node.ReturnValue e) built ok vs to l t tn lm h =
-        deep_append n m (expr_ops d e l t) (Return ∷ []) h (suc h) h (expr_deep scope inside e built ok l t tn lm h)
-        (omega arith, refl)
-    stmt_deep scope inside _ built ok vs to l t tn lm h = absurd built
+            )),
+      )
+  expr_deep scope inside (node.Comma a b) built uses ok l t tn lm h =
+      let ao = expr_ops d a l t in
+      let D = dropping (has_value a) in
+      let bo = expr_ops d b (l + labels_in a) (t + temps_in a) in
+      deep_append n m ao (D ++ bo) h (risen (has_value a) h) (risen (has_value b) h)
+      (expr_deep scope inside a built.0 uses.0 ok.0 l t (omega arith) (omega arith) h)
+      (deep_append n m D bo (risen (has_value a) h) h (risen (has_value b) h) (dropped_deep n m (has_value a) h)
+      (expr_deep scope inside b built.1 uses.1 ok.1 (l + labels_in a) (t + temps_in a) (omega arith) (omega arith) h))
+  expr_deep scope inside (node.Void a) built uses ok l t tn lm h =
+      deep_append n m (expr_ops d a l t) (dropping (has_value a)) h (risen (has_value a) h) h
+      (expr_deep scope inside a built uses ok l t tn lm h) (dropped_deep n m (has_value a) h)
+  expr_deep scope inside node.Getchar built uses ok l t tn lm h = (tt, (omega arith, refl))
+  expr_deep scope inside (node.Lib library.Putchar a) built uses ok l t tn lm h =
+      deep_append n m (expr_ops d a l t) (Sys sys.PutByte ∷ []) h (suc h) (suc h)
+      (valued_deep n m (expr_ops d a l t) (has_value a) h uses.0 (expr_deep scope inside a built uses.1 ok l t tn lm h))
+      (omega arith, refl)
+  expr_deep scope inside (node.Lib library.Putint a) built uses ok l t tn lm h =
+      deep_append n m (expr_ops d a l t) (Sys sys.PutInteger ∷ Drop ∷ []) h (suc h) h
+      (valued_deep n m (expr_ops d a l t) (has_value a) h uses.0 (expr_deep scope inside a built uses.1 ok l t tn lm h))
+      (omega arith, (omega arith, refl))
+  expr_deep scope inside (node.Lib library.Exit a) built uses ok l t tn lm h =
+      deep_append n m (expr_ops d a l t) (Sys sys.Exit ∷ Drop ∷ []) h (suc h) h
+      (valued_deep n m (expr_ops d a l t) (has_value a) h uses.0 (expr_deep scope inside a built uses.1 ok l t tn lm h))
+      (omega arith, (omega arith, refl))
+  expr_deep scope inside _ built uses ok l t tn lm h = absurd built
 
-    pub items_deep : (scope : Scope) → Within scope src → (is : Items) → AreBuiltItems is → AreScopedItems scope is →
-        variables_of is ≤ src → (to : Targets) (l t : ℕ) → t + temps_of is ≤ n → l + labels_of is ≤ m → (h : ℕ) →
-        DeepTo n m (items_ops d is to l t) h h
-    items_deep scope inside node.NoItem built ok vs to l t tn lm h = refl
-    items_deep scope inside (node.Item s is) built ok vs to l t tn lm h =
-        deep_append n m (stmt_ops d s to l t) _ h h h
-        (stmt_deep scope inside s built.0 ok.0 (max_left (variables_in s) (variables_of is) src vs) to l t (omega arith)
-        (omega arith) h)
-        (items_deep (scope_of s scope)
-        (within_stmt s scope src (max_left (variables_in s) (variables_of is) src vs) inside) is built.1 ok.1
-        (max_right (variables_in s) (variables_of is) src vs) to (l + labels s) (t + temps s) (omega arith)
-        (omega arith) h)
+  -- of one that has a value
+  pub value_deep : (scope : Scope) → Within scope src → (e : Expr) → IsBuilt e → UsesValues e → Leaves e →
+      IsScoped scope e → (l t : ℕ) → t + temps_in e ≤ n → l + labels_in e ≤ m → (h : ℕ) →
+      DeepTo n m (expr_ops d e l t) h (suc h)
+  value_deep scope inside e built uses is ok l t tn lm h =
+      valued_deep n m (expr_ops d e l t) (has_value e) h is (expr_deep scope inside e built uses ok l t tn lm h)
+
+  -- of one whose value, if there is one, is taken away
+  pub eval_deep : (scope : Scope) → Within scope src → (e : Expr) → IsBuilt e → UsesValues e → IsScoped scope e →
+      (l t : ℕ) → t + temps_in e ≤ n → l + labels_in e ≤ m → (h : ℕ) →
+      DeepTo n m (expr_ops d e l t ++ dropping (has_value e)) h h
+  eval_deep scope inside e built uses ok l t tn lm h =
+      deep_append n m (expr_ops d e l t) (dropping (has_value e)) h (risen (has_value e) h) h
+      (expr_deep scope inside e built uses ok l t tn lm h) (dropped_deep n m (has_value e) h)
+
+-- what a choice and a conversion add
+pub few_dropping : (b : Bool) → total (dropping b) ≡ 0
+few_dropping true = refl
+few_dropping false = refl
+
+few_keeping : (b : Bool) (t : ℕ) → total (keeping b t) ≤ 1
+few_keeping true t = omega arith
+few_keeping false t = omega arith
+
+few_kept : (b : Bool) (t : ℕ) → total (kept b t) ≤ 1
+few_kept true t = omega arith
+few_kept false t = omega arith
+
+few_narrowing : (width : Width) → total (narrowing width) ≤ 1
+few_narrowing width.SignedByte = omega arith
+few_narrowing width.Byte = omega arith
+few_narrowing width.SignedHalf = omega arith
+few_narrowing width.Half = omega arith
+few_narrowing width.Word = omega arith
 
 module _ (d : Addresses) where
   pub expr_total : (e : Expr) → IsBuilt e → (l t : ℕ) → total (expr_ops d e l t) ≤ 12 * size_of_expr e
@@ -254,8 +367,8 @@ module _ (d : Addresses) where
   expr_total (node.Var i) built l t = omega arith
   expr_total (node.SetVar i a) built l t =
       omega (arith, expr_total a built l t, total_append (expr_ops d a l t) (SetVariable i ∷ []))
-  expr_total (node.Lib library.Putchar a) built l t =
-      omega (arith, expr_total a built l t, total_append (expr_ops d a l t) (Sys sys.PutByte ∷ []))
+  expr_total (node.PostVar i width step) built l t =
+      omega (arith, few_narrowing width, total_append (narrowing width) (SetVariable i ∷ Drop ∷ []))
   expr_total (node.Bin k x y) built l t =
       let yo = expr_ops d y (l + labels_in x) (t + temps_in x) in
       omega (
@@ -266,69 +379,87 @@ module _ (d : Addresses) where
         total_append yo (Bin k ∷ []),
         few_checks (check_of k),
       )
+  expr_total (node.Un k a) built l t =
+      omega (arith, expr_total a built l t, total_append (expr_ops d a l t) (Un k ∷ []))
+  expr_total (node.And a b) built l t =
+      let ao = expr_ops d a (l + 2) (t + 1) in
+      let bo = expr_ops d b (l + 2 + labels_in a) (t + 1 + temps_in a) in
+      let rest = BranchZero l ∷ joins 1 0 l (l + 1) t in
+      omega (
+        arith,
+        expr_total a built.0 (l + 2) (t + 1),
+        expr_total b built.1 (l + 2 + labels_in a) (t + 1 + temps_in a),
+        total_append ao (BranchZero l ∷ (bo ++ rest)),
+        total_append bo rest,
+      )
+  expr_total (node.Or a b) built l t =
+      let ao = expr_ops d a (l + 2) (t + 1) in
+      let bo = expr_ops d b (l + 2 + labels_in a) (t + 1 + temps_in a) in
+      let rest = BranchNonzero l ∷ joins 0 1 l (l + 1) t in
+      omega (
+        arith,
+        expr_total a built.0 (l + 2) (t + 1),
+        expr_total b built.1 (l + 2 + labels_in a) (t + 1 + temps_in a),
+        total_append ao (BranchNonzero l ∷ (bo ++ rest)),
+        total_append bo rest,
+      )
+  expr_total (node.Cond c a b) built l t =
+      let has = has_value a in
+      let la = l + 2 + labels_in c in
+      let ta = t + 1 + temps_in c in
+      let co = expr_ops d c (l + 2) (t + 1) in
+      let ao = expr_ops d a la ta in
+      let bo = expr_ops d b (la + labels_in a) (ta + temps_in a) in
+      let K = keeping has t in
+      let rest5 = Label (l + 1) ∷ kept has t in
+      let rest2 = Jump (l + 1) ∷ Label l ∷ (bo ++ (K ++ rest5)) in
+      omega (
+        arith,
+        expr_total c built.0 (l + 2) (t + 1),
+        expr_total a built.1 la ta,
+        expr_total b built.2 (la + labels_in a) (ta + temps_in a),
+        few_keeping has t,
+        few_kept has t,
+        total_append co (BranchZero l ∷ (ao ++ (K ++ rest2))),
+        total_append ao (K ++ rest2),
+        total_append K rest2,
+        total_append bo (K ++ rest5),
+        total_append K rest5,
+      )
+  expr_total (node.Comma a b) built l t =
+      let D = dropping (has_value a) in
+      let bo = expr_ops d b (l + labels_in a) (t + temps_in a) in
+      omega (
+        arith,
+        expr_total a built.0 l t,
+        expr_total b built.1 (l + labels_in a) (t + temps_in a),
+        few_dropping (has_value a),
+        total_append (expr_ops d a l t) (D ++ bo),
+        total_append D bo,
+      )
+  expr_total (node.Void a) built l t =
+      omega (
+        arith,
+        expr_total a built l t,
+        few_dropping (has_value a),
+        total_append (expr_ops d a l t) (dropping (has_value a)),
+      )
+  expr_total node.Getchar built l t = omega arith
+  expr_total (node.Lib library.Putchar a) built l t =
+      omega (arith, expr_total a built l t, total_append (expr_ops d a l t) (Sys sys.PutByte ∷ []))
+  expr_total (node.Lib library.Putint a) built l t =
+      omega (arith, expr_total a built l t, total_append (expr_ops d a l t) (Sys sys.PutInteger ∷ Drop ∷ []))
+  expr_total (node.Lib library.Exit a) built l t =
+      omega (arith, expr_total a built l t, total_append (expr_ops d a l t) (Sys sys.Exit ∷ Drop ∷ []))
   expr_total _ built l t = absurd built
 
-  mutual
-    pub stmt_total : (s : Stmt) → IsBuiltStmt s → (to : Targets) (l t : ℕ) →
-        total (stmt_ops d s to l t) ≤ 12 * size_of_stmt s
-    stmt_total (node.Eval e) built to l t =
-        subst (λ z. total (expr_ops d e l t ++ dropping z) ≤ 12 * size_of_stmt (node.Eval e))
-        (sym (built_value d e built))
-        (omega (arith, expr_total e built l t, total_append (expr_ops d e l t) (Drop ∷ [])))
-    stmt_total (node.Block vars items) built to l t =
-        omega (
-          arith,
-          items_total vars built.0 to l t,
-          items_total items built.1 to (l + labels_of vars) (t + temps_of vars),
-          total_append (items_ops d vars to l t) (items_ops d items to (l + labels_of vars) (t + temps_of vars)),
-        )
-    stmt_total (node.Variable i) built to l t = omega arith
-    stmt_total (node.If e s) built to l t =
-        let so = stmt_ops d s to (l + 1 + labels_in e) (t + temps_in e) in
-        omega (
-          arith,
-          expr_total e built.0 (l + 1) t,
-          stmt_total s built.1 to (l + 1 + labels_in e) (t + temps_in e),
-          total_append (expr_ops d e (l + 1) t) (BranchZero l ∷ (so ++ Label l ∷ [])),
-          total_append so (Label l ∷ []),
-        )
-    stmt_total (node.IfElse e s r) built to l t =
-        let l2 = l + 2 + labels_in e in
-        let t2 = t + temps_in e in
-        let so = stmt_ops d s to l2 t2 in
-        let ro = stmt_ops d r to (l2 + labels s) (t2 + temps s) in
-        let tail = Jump (l + 1) ∷ Label l ∷ (ro ++ Label (l + 1) ∷ []) in
-        omega (
-          arith,
-          expr_total e built.0 (l + 2) t,
-          stmt_total s built.1 to l2 t2,
-          stmt_total r built.2 to (l2 + labels s) (t2 + temps s),
-          total_append (expr_ops d e (l + 2) t) (BranchZero l ∷ (so ++ tail)),
-          total_append so tail,
-          total_append ro (Label (l + 1) ∷ []),
-        )
-    stmt_total (node.While e s) built to l t =
-        let to2 : Targets = record { on_break = l; on_continue = l + 1 } in
-        let so = stmt_ops d s to2 (l + 2 + labels_in e) (t + temps_in e) in
-        let end = Jump (l + 1) ∷ Label l ∷ [] in
-        omega (
-          arith,
-          expr_total e built.0 (l + 2) t,
-          stmt_total s built.1 to2 (l + 2 + labels_in e) (t + temps_in e),
-          total_append (expr_ops d e (l + 2) t) (BranchZero l ∷ (so ++ end)),
-          total_append so end,
-        )
-    stmt_total (node.ReturnValue e) built to l t =
-        omega (arith, expr_total e built l t, total_append (expr_ops d e l t) (Return ∷ []))
-    stmt_total _ built to l t = absurd built
-
-    pub items_total : (is : Items) → AreBuiltItems is → (to : Targets) (l t : ℕ) →
-        total (items_ops d is to l t) ≤ 12 * size_of_items is
-    items_total node.NoItem built to l t = omega arith
-    items_total (node.Item s is) built to l t =
-        omega (
-          arith,
-          stmt_total s built.0 to l t,
-          items_total is built.1 to (l + labels s) (t + temps s),
-          total_append (stmt_ops d s to l t) (items_ops d is to (l + labels s) (t + temps s)),
-        )
+  -- of one whose value, if there is one, is taken away
+  pub eval_total : (e : Expr) → IsBuilt e → (l t : ℕ) →
+      total (expr_ops d e l t ++ dropping (has_value e)) ≤ 12 * size_of_expr e
+  eval_total e built l t =
+      omega (
+        arith,
+        expr_total e built l t,
+        few_dropping (has_value e),
+        total_append (expr_ops d e l t) (dropping (has_value e)),
+      )

@@ -151,19 +151,19 @@ module _ (P : Program) (c : Context) (d : Addresses) (f : Here) (count object : 
     unfolding Runs
     large_body arguments given is runs later w1 under e1 framed1 z =
         let at = stands_front f.function.ops (head_ops ++ body_ops) (build.Leave ∷ []) begin code.stands.1 in
-        let Q = Left here later no_scope no_scope [] 0 0 behind_head.place None None in
-        let R = Left here later no_scope no_scope [] 0 0 behind_body.place None None in
+        let Q = Left here later no_scope no_scope [] 0 16 behind_head.place None None in
+        let R = Left here later no_scope no_scope [] 0 16 behind_body.place None None in
         let within = inside P c d f function code in
-        answer_run P c d f function code later 0 0 (exec c function.body w1)
-        (subst (λ v. Follows P later (Left here later no_scope no_scope [] 0 0 v.place None None) (IsBack here later)
+        answer_run P c d f function code later 0 16 (exec c function.body w1)
+        (subst (λ v. Follows P later (Left here later no_scope no_scope [] 0 16 v.place None None) (IsBack here later)
         (exec c function.body w1)) (sym (after_append head_ops body_ops begin))
         (follows_then P later Q R (IsBack here later) (exec_items c (headed ps large) w1)
         (then_next (exec_items c items))
-        (head_run here arguments no_scope within later Q 0 0 behind_head.place large nowhere
+        (head_run here arguments no_scope within later Q 0 16 behind_head.place large nowhere
         (λ l t v w2 framed2 fits at2 ends z2. object_behind later l t v w2 framed2 at2 ends z2)
         ps 0 here.named begin w1 e1 given framed1 (record { bodies_are = refl; free = omega arith; below = tt })
         (stands_front f.function.ops head_ops body_ops begin at) refl
-        (at_less here later no_scope 0 [] 0 head_credit 0 0 (0 + parameter_cost * length ps) 0 w1 (omega arith)
+        (at_less here later no_scope 0 [] 0 head_credit 0 0 (16 + parameter_cost * length ps) 0 w1 (omega arith)
         (omega arith) z))
         (on_flow later under)))
       where
@@ -171,31 +171,31 @@ module _ (P : Program) (c : Context) (d : Addresses) (f : Here) (count object : 
         object_behind : (later : From) (l t : ℕ) (v : View) (w2 : World) → IsFramed here w2.shared →
             Stands f.function.ops (items_ops d large nowhere l t) v →
             (after_ops (items_ops d large nowhere l t) v).place ≡ behind_head.place →
-            At here later no_scope v.place [] 0 0 0 w2 →
-            Follows P later (Left here later no_scope no_scope [] 0 0 behind_head.place None None) (IsBack here later)
+            At here later no_scope v.place [] 0 16 0 w2 →
+            Follows P later (Left here later no_scope no_scope [] 0 16 behind_head.place None None) (IsBack here later)
             (exec_items c large w2)
         object_behind later l t v w2 framed2 at2 ends z2 =
             let within = inside P c d f function code in
-            let Q : ℕ → Flow → World → Type 0 = λ p. Left here later no_scope no_scope [] 0 0 p None None in
+            let Q : ℕ → Flow → World → Type 0 = λ p. Left here later no_scope no_scope [] 0 16 p None None in
             subst (λ p. Follows P later (Q p) (IsBack here later) (exec_items c large w2)) ends
             (follows_then P later (Q (suc v.place)) (Q (suc v.place)) (IsBack here later)
             (exec c (Object offset (suc more)) w2) (then_next (exec_items c NoItem))
-            (object_run here no_scope within later offset more v [] 0 0 None None w2 at2 framed2 is z2)
+            (object_run here no_scope within later offset more v [] 0 16 None None w2 at2 framed2 is z2)
             (none_next later (suc v.place)))
           where
             none_next : (later : From) (p : ℕ) (fl : Flow) (w3 : World) →
-                Left here later no_scope no_scope [] 0 0 p None None fl w3 →
-                Follows P later (Left here later no_scope no_scope [] 0 0 p None None) (IsBack here later)
+                Left here later no_scope no_scope [] 0 16 p None None fl w3 →
+                Follows P later (Left here later no_scope no_scope [] 0 16 p None None) (IsBack here later)
                 (then_next (exec_items c NoItem) fl w3)
             none_next later p Normal w3 h = h
             none_next later p Broke w3 h = absurd h
             none_next later p Continued w3 h = absurd h
 
         on_flow : (later : From) → later.units < c.turns → (fl : Flow) (w3 : World) →
-            Left here later no_scope no_scope [] 0 0 behind_head.place None None fl w3 →
-            Follows P later (Left here later no_scope no_scope [] 0 0 behind_body.place None None) (IsBack here later)
+            Left here later no_scope no_scope [] 0 16 behind_head.place None None fl w3 →
+            Follows P later (Left here later no_scope no_scope [] 0 16 behind_body.place None None) (IsBack here later)
             (then_next (exec_items c items) fl w3)
-        on_flow later under Normal w3 h = runs later 0 0 w3 under h
+        on_flow later under Normal w3 h = runs later 0 16 w3 under (omega arith) h
         on_flow later under Broke w3 h = absurd h
         on_flow later under Continued w3 h = absurd h
 

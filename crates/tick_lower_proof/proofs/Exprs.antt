@@ -58,8 +58,12 @@ module _ (P : Program) (f : Here) (s : State) (r : Regs) (k : BinKind) (d a b : 
       (at_op f (suc p) (put d (bin_value k (r.values a) (r.values b)) r) (paid (op.Bin k d a b) g1)))
 
   bin_goes : (p : ℕ) (g : Log) → Goes P s (at_op f p r g) → slice_get f.function.ops p ≡ Some (op.Bin k d a b) →
+      bin_trap k (r.values a) (r.values b) ≡ None →
       Goes P s (at_op f (suc p) (put d (bin_value k (r.values a) (r.values b)) r) (paid (op.Bin k d a b) g))
-  bin_goes p g go here = then_op f p r g (op.Bin k d a b) go here (both_on r.on a b on_a on_b)
+  bin_goes p g go here none =
+      subst (λ t. Goes P s (machine.untrapped t g
+      (at_op f (suc p) (put d (bin_value k (r.values a) (r.values b)) r) (paid (op.Bin k d a b) g)))) none
+      (then_op f p r g (op.Bin k d a b) go here (both_on r.on a b on_a on_b))
 
   -- what was paid for a check
   abbrev pub paid_check : Check → Log → Log
@@ -68,20 +72,22 @@ module _ (P : Program) (f : Here) (s : State) (r : Regs) (k : BinKind) (d a b : 
   paid_check ZeroCheck g = paid (op.CheckZero b) g
 
   after_check : (trap : Option TrapKind) (p : ℕ) (g : Log) → Goes P s (machine.unless trap g (at_op f (suc p) r g)) →
-      slice_get f.function.ops (suc p) ≡ Some (op.Bin k d a b) → Checked trap (suc p) g g
-  after_check None p g go here = bin_goes (suc p) g go here
-  after_check (Some kind) p g go here = go
+      slice_get f.function.ops (suc p) ≡ Some (op.Bin k d a b) → trap ≡ bin_trap k (r.values a) (r.values b) →
+      Checked trap (suc p) g g
+  after_check None p g go here same = bin_goes (suc p) g go here (sym same)
+  after_check (Some kind) p g go here same = go
 
   pub check_goes : (c : Check) (p : ℕ) (g : Log) → Goes P s (at_op f p r g) →
       Has f.function.ops p (check_ops c a b (op.Bin k d a b ∷ [])) →
+      trap_by c (r.values a) (r.values b) ≡ bin_trap k (r.values a) (r.values b) →
       Checked (trap_by c (r.values a) (r.values b)) (past_check c p) (paid_check c g) (paid_check c g)
-  check_goes NoCheck p g go has = bin_goes p g go has.0
-  check_goes SignedCheck p g go has =
+  check_goes NoCheck p g go has same = bin_goes p g go has.0 (sym same)
+  check_goes SignedCheck p g go has same =
       after_check (signed_trap (r.values a) (r.values b)) p (paid (op.CheckDivision a b) g)
-      (then_op f p r g (op.CheckDivision a b) go has.0 (both_on r.on a b on_a on_b)) has.1.0
-  check_goes ZeroCheck p g go has =
+      (then_op f p r g (op.CheckDivision a b) go has.0 (both_on r.on a b on_a on_b)) has.1.0 same
+  check_goes ZeroCheck p g go has same =
       after_check (zero_trap (r.values b)) p (paid (op.CheckZero b) g)
-      (then_op f p r g (op.CheckZero b) go has.0 (ap (λ z. z && true) on_b)) has.1.0
+      (then_op f p r g (op.CheckZero b) go has.0 (ap (λ z. z && true) on_b)) has.1.0 same
 
   pub check_shared : (c : Check) (g : Log) → (paid_check c g).shared ≡ g.shared
   check_shared NoCheck g = refl

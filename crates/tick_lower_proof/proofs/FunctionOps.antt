@@ -15,16 +15,19 @@ use Rattle.icode_ir.specs.declared.build_op.BuildFault.TheVariants.{BadLabel, Ba
 use Rattle.icode_ir.specs.Build.{Build, empty, innermost, of_body, is_open, has_open, stands, finished}
 use Rattle.icode_ir.specs.Rules.{has_body_room, fault_of, effect}
 use Rattle.icode_ir.specs.Runs.{run_ops, AreTaken}
+use Rattle.limits.specs.declared.ops.TheConstants.{OP_LIMIT}
 use Rattle.typed_tree.specs.Nodes as node
 use Rattle.staged_meaning.specs.Size.{labels, temps, variables_in}
 use Rattle.staged_meaning.specs.Scope.{no_scope, IsReady}
+use Rattle.staged_meaning.specs.Placed.{outside}
 use Rattle.tick_lower_proof.specs.Lower.{Addresses, stmt_ops, nowhere, function_ops}
 use Rattle.tick_lower_proof.specs.Laws.{code_of, IsAccepted}
 use Rattle.tick_lower_proof.proofs.Builder.{View, issued, after_op, after_ops}
 use Rattle.tick_lower_proof.proofs.Uprights.{upright, upright_length}
 use Rattle.tick_lower_proof.proofs.Takes.{Matches}
 use Rattle.tick_lower_proof.proofs.Registers.{Within}
-use Rattle.tick_lower_proof.proofs.Deep.{DeepTo, stmt_deep, stmt_total}
+use Rattle.tick_lower_proof.proofs.Deep.{DeepTo}
+use Rattle.tick_lower_proof.proofs.StmtDepths.{stmt_deep, stmt_total}
 use Rattle.tick_lower_proof.proofs.Labels.{OnLabel, Every, every_weaken, Distinct, distinct_append, label_of}
 use Rattle.tick_lower_proof.proofs.Labels.{stmt_numbered}
 use Rattle.tick_lower_proof.proofs.Aims.{aim_of, HasLabel, stmt_aims}
@@ -105,11 +108,11 @@ module _ (d : Addresses) (function : node.Function) (ready : IsReady function) w
   -- the body may be entered
   entered_ok : fault_of (Enter n m) b0 ≡ None
   entered_ok =
-      let small_n : 0 + n ≤ 196608 = omega (arith, ready.small, ready.dense, few_temps function.body) in
-      let small_m : 0 + m ≤ 196608 = omega (arith, ready.small, few_labels function.body) in
+      let small_n : 0 + n ≤ OP_LIMIT = omega (arith, ready.small, ready.dense, few_temps function.body) in
+      let small_m : 0 + m ≤ OP_LIMIT = omega (arith, ready.small, few_labels function.body) in
       let room : has_body_room n m b0 ≡ true =
-      ap (λ z. nat_le 1 196608 && (z && nat_le (0 + m) 196608)) (le-leb (0 + n) 196608 small_n) ∙
-      le-leb (0 + m) 196608 small_m in
+      ap (λ z. nat_le 1 OP_LIMIT && (z && nat_le (0 + m) OP_LIMIT)) (le-leb (0 + n) OP_LIMIT small_n) ∙
+      le-leb (0 + m) OP_LIMIT small_m in
       ap (λ z. if z then None else Some Full) room
 
   entered_matches : Matches b1 opened
@@ -119,12 +122,14 @@ module _ (d : Addresses) (function : node.Function) (ready : IsReady function) w
   inside = record { at = λ i h. absurd cc }
 
   deep : DeepTo n m body_ops 0 0
-  deep = stmt_deep d src n m (omega arith) no_scope inside function.body ready.built ready.scoped (omega arith) nowhere
-      0 src (omega arith) (omega arith) 0
+  deep = stmt_deep d src n m (omega arith) no_scope inside function.body ready.built ready.values ready.scoped outside
+      ready.placed (omega arith) nowhere (record { on_break = λ e. absurd cc; on_continue = λ e. absurd cc }) 0 src
+      (omega arith) (omega arith) 0
 
   body_taken : Accepted body_ops 0 b1 opened
   body_taken =
-      accepts n m 0 body_ops 0 b1 opened entered_matches (omega arith) refl refl refl deep (nothing_stands body_ops 0)
+      accepts n m 0 body_ops 0 b1 opened 0 entered_matches (omega arith) (omega arith) refl refl refl deep
+      (nothing_stands body_ops 0)
       (stmt_numbered d function.body ready.built nowhere 0 src).distinct
       (omega (arith, ready.small, stmt_total d function.body ready.built nowhere 0 src))
 
@@ -144,7 +149,8 @@ module _ (d : Addresses) (function : node.Function) (ready : IsReady function) w
       issue_aims n m 0 (λ l. stands l issues ≡ true) body_ops 0 0 opened refl deep
       (every_weaken aim_of (λ i. HasLabel i body_ops) (λ i. stands (0 + i) issues ≡ true) body_ops
       (λ i has. issue_stands n m 0 body_ops 0 0 opened i refl deep has)
-      (stmt_aims d body_ops function.body ready.built nowhere 0 src (λ i h. h)))
+      (stmt_aims d body_ops function.body ready.built outside ready.placed nowhere
+      (record { on_break = λ e. absurd cc; on_continue = λ e. absurd cc }) 0 src (λ i h. h)))
 
   b2_ops : b2.ops ≡ issues
   b2_ops = body_taken.ops

@@ -128,7 +128,7 @@ module _ (site : Site) (scope : Scope) (inside : Within scope site.named) (from 
       (omega arith)))
 
   -- a conversion to a width
-  narrow_run : (width : Width) (v : View) (stack : List (ℕ × ℕ)) (spare credit debt x : ℕ) (w : World) →
+  pub narrow_run : (width : Width) (v : View) (stack : List (ℕ × ℕ)) (spare credit debt x : ℕ) (w : World) →
       Fits site v ((top v.operands, x) ∷ stack) → Stands site.call.function.ops (narrowing width) v →
       At site from scope v.place ((top v.operands, x) ∷ stack) spare credit debt w →
       At site from scope (after_ops (narrowing width) v).place
@@ -146,7 +146,7 @@ module _ (site : Site) (scope : Scope) (inside : Within scope site.named) (from 
       (omega arith) (omega arith) z
 
   -- the operand below a converted one
-  under_narrow : (width : Width) (v : View) →
+  pub under_narrow : (width : Width) (v : View) →
       top (below (after_ops (narrowing width) v).operands) ≡ top (below v.operands)
   under_narrow width.SignedByte v = refl
   under_narrow width.Byte v = refl

@@ -13,8 +13,9 @@ use Rattle.icode_ops.specs.declared.kind.BinKind.{BinKind}
 use Rattle.icode_ops.specs.Flow.{holds, goes_to}
 use Rattle.icode_ops.specs.Flow as flow
 use Rattle.icode_ir.specs.declared.build_op.BuildOp.{BuildOp}
-use Rattle.icode_ir.specs.declared.build_op.BuildOp.TheVariants.{Const, Bin, GetVariable, SetVariable, Drop, Label}
-use Rattle.icode_ir.specs.declared.build_op.BuildOp.TheVariants.{Jump, BranchZero, Return, Sys, Call}
+use Rattle.icode_ir.specs.declared.build_op.BuildOp.TheVariants.{Const, Bin, Un, GetVariable, SetVariable, Drop, Pick}
+use Rattle.icode_ir.specs.declared.build_op.BuildOp.TheVariants.{Label, Jump, BranchZero, BranchNonzero, Return}
+use Rattle.icode_ir.specs.declared.build_op.BuildOp.TheVariants.{ReturnZero, Sys, Call}
 use Rattle.icode_ir.specs.Build.{stands}
 use Rattle.icode_meaning.specs.Steps.{label_index}
 use Rattle.tick_lower_proof.proofs.Builder.{View, inner, top, below, taken, passed_ops, Check, NoCheck, SignedCheck}
@@ -118,12 +119,16 @@ module _ (n m L : ℕ) where
   one_labels P (Bin kind) h v e ok on =
       bin_every flow.label_of P kind (check_of kind) v.next (top (below v.operands)) (top v.operands) refl refl refl
   one_labels P (GetVariable i) h v e ok on = (tt, tt)
+  one_labels P (Un kind) h v e ok on = (tt, tt)
   one_labels P (SetVariable i) h v e ok on = (tt, tt)
   one_labels P Drop h v e ok on = tt
+  one_labels P (Pick i) h v e ok on = tt
   one_labels P (Label i) h v e ok on = (subst (λ z. P (z + i)) (sym e) on, tt)
   one_labels P (Jump i) h v e ok on = (tt, tt)
   one_labels P (BranchZero i) h v e ok on = (tt, tt)
+  one_labels P (BranchNonzero i) h v e ok on = (tt, tt)
   one_labels P Return h v e ok on = (tt, tt)
+  one_labels P ReturnZero h v e ok on = (tt, tt)
   one_labels P (Sys kind) h v e ok on = (tt, tt)
   one_labels P _ h v e ok on = absurd ok
 
@@ -133,12 +138,16 @@ module _ (n m L : ℕ) where
   one_aims P (Bin kind) h v e ok on =
       bin_every goes_to P kind (check_of kind) v.next (top (below v.operands)) (top v.operands) refl refl refl
   one_aims P (GetVariable i) h v e ok on = (tt, tt)
+  one_aims P (Un kind) h v e ok on = (tt, tt)
   one_aims P (SetVariable i) h v e ok on = (tt, tt)
   one_aims P Drop h v e ok on = tt
+  one_aims P (Pick i) h v e ok on = tt
   one_aims P (Label i) h v e ok on = (tt, tt)
   one_aims P (Jump i) h v e ok on = (subst (λ z. P (z + i)) (sym e) on, tt)
   one_aims P (BranchZero i) h v e ok on = (subst (λ z. P (z + i)) (sym e) on, tt)
+  one_aims P (BranchNonzero i) h v e ok on = (subst (λ z. P (z + i)) (sym e) on, tt)
   one_aims P Return h v e ok on = (tt, tt)
+  one_aims P ReturnZero h v e ok on = (tt, tt)
   one_aims P (Sys kind) h v e ok on = (tt, tt)
   one_aims P _ h v e ok on = absurd ok
 
@@ -171,12 +180,16 @@ module _ (n m L : ℕ) where
   one_distinct (Const word) h v ok = (tt, tt)
   one_distinct (Bin kind) h v ok = bin_distinct kind (check_of kind) v.next (top (below v.operands)) (top v.operands)
   one_distinct (GetVariable i) h v ok = (tt, tt)
+  one_distinct (Un kind) h v ok = (tt, tt)
   one_distinct (SetVariable i) h v ok = (tt, tt)
   one_distinct Drop h v ok = tt
+  one_distinct (Pick i) h v ok = tt
   one_distinct (Label i) h v ok = (tt, tt)
   one_distinct (Jump i) h v ok = (tt, tt)
   one_distinct (BranchZero i) h v ok = (tt, tt)
+  one_distinct (BranchNonzero i) h v ok = (tt, tt)
   one_distinct Return h v ok = (tt, tt)
+  one_distinct ReturnZero h v ok = (tt, tt)
   one_distinct (Sys kind) h v ok = (tt, tt)
   one_distinct _ h v ok = absurd ok
 

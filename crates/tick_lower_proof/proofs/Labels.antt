@@ -1,5 +1,8 @@
 -- Each label stands once in a function's code, and each jump's label stands.
-use Rattle.std.proofs.Common.{ℕ, ◌+◌, ◌<◌, ◌≤◌, ◌≢◌, List, [], ◌∷◌, ◌++◌, ◌⊎◌, Option, Some, None, sym, subst, ⊎_elim}
+use Rattle.std.proofs.Common.{◌≡◌, ℕ, ◌+◌, ◌<◌, ◌≤◌, ◌≢◌, Bool, true, false, List, [], ◌∷◌, ◌++◌, ◌⊎◌, Option}
+use Rattle.std.proofs.Common.{Some, None, refl, sym, subst, ⊎_elim}
+use Rattle.word32.specs.declared.width.Width.{Width}
+use Rattle.word32.specs.declared.width.Width.TheVariants as width
 use Rattle.std.proofs.Common.{inl, inr, arith, append_assoc}
 use Rattle.icode_ir.specs.declared.build_op.BuildOp.{BuildOp}
 use Rattle.icode_ir.specs.declared.build_op.BuildOp.TheVariants as build
@@ -8,8 +11,9 @@ use Rattle.typed_tree.specs.declared.expression.Library.TheVariants as library
 use Rattle.typed_tree.specs.Nodes.{Expr, Stmt, Items, has_value}
 use Rattle.staged_meaning.specs.Size.{labels_in, labels, labels_of, temps_in, temps, temps_of}
 use Rattle.staged_meaning.specs.Scope.{IsBuilt, IsBuiltStmt, AreBuiltItems}
-use Rattle.tick_lower_proof.specs.Lower.{Addresses, expr_ops, Targets, stmt_ops, items_ops, dropping}
-use Rattle.tick_lower_proof.proofs.Pushes.{built_value}
+use Rattle.tick_lower_proof.specs.Lower.{Addresses, expr_ops, Targets, stmt_ops, items_ops, dropping, keeping, kept}
+use Rattle.tick_lower_proof.specs.Lower.{narrowing, joins}
+use Rattle.tick_lower_proof.specs.Lower.{test_ops, default_label}
 
 abbrev pub OnLabel : (ℕ → Type 0) → Option ℕ → Type 0
 OnLabel P None = Unit {0}
@@ -135,33 +139,250 @@ numbered_hole a lo hi b xs ys la lb h i out = record {
       (λ m o. ⊎_elim (λ x. let z : m ≢ l = omega arith in z) (λ y. let z : m ≢ l = omega arith in z) o) out) h.each);
 }
 
+-- ops without labels before others
+pub numbered_behind : (a b : ℕ) (xs ys : List BuildOp) → a ≤ b → Every label_of (λ l. ⊥) xs → Numbered a b ys →
+    Numbered a b (xs ++ ys)
+numbered_behind a b xs ys le none i = numbered_append a a b xs ys (omega arith) le (numbered_none a xs none) i
+
+-- a label, and others of a later range
+pub numbered_first : (l b : ℕ) (xs : List BuildOp) → l + 1 ≤ b → Numbered (l + 1) b xs →
+    Numbered l b (build.Label l ∷ xs)
+numbered_first l b xs le h =
+    numbered_skip l b l xs (omega arith) (omega arith) (widen (l + 1) l b b xs (omega arith) (omega arith) h)
+    (not_in (l + 1) b l xs (inl (omega arith)) h)
+
+-- labels of a range are outside of another one
+pub out_above : (lo hi a b : ℕ) (xs : List BuildOp) → hi ≤ a → Numbered a b xs →
+    Every label_of (λ m. (m < lo) ⊎ (hi ≤ m)) xs
+out_above lo hi a b xs le h = every_weaken label_of (λ l. (a ≤ l) × (l < b)) (λ m. (m < lo) ⊎ (hi ≤ m)) xs
+    (λ m p. let z : hi ≤ m = omega (arith, p.0) in inr z) h.each
+
+pub out_below : (lo hi a b : ℕ) (xs : List BuildOp) → b ≤ lo → Numbered a b xs →
+    Every label_of (λ m. (m < lo) ⊎ (hi ≤ m)) xs
+out_below lo hi a b xs le h = every_weaken label_of (λ l. (a ≤ l) × (l < b)) (λ m. (m < lo) ⊎ (hi ≤ m)) xs
+    (λ m p. let z : m < lo = omega (arith, p.1) in inl z) h.each
+
+dropping_none : (P : ℕ → Type 0) (b : Bool) → Every label_of P (dropping b)
+dropping_none P true = (tt, tt)
+dropping_none P false = tt
+
+keeping_none : (P : ℕ → Type 0) (b : Bool) (t : ℕ) → Every label_of P (keeping b t)
+keeping_none P true t = (tt, (tt, tt))
+keeping_none P false t = tt
+
+kept_none : (P : ℕ → Type 0) (b : Bool) (t : ℕ) → Every label_of P (kept b t)
+kept_none P true t = (tt, tt)
+kept_none P false t = tt
+
+narrowing_none : (P : ℕ → Type 0) (width : Width) → Every label_of P (narrowing width)
+narrowing_none P width.SignedByte = (tt, tt)
+narrowing_none P width.Byte = (tt, tt)
+narrowing_none P width.SignedHalf = (tt, tt)
+narrowing_none P width.Half = (tt, tt)
+narrowing_none P width.Word = tt
+
+-- the labels at which the two ways of `&&` and `||` begin and meet
+joins_numbered : (first other l t : ℕ) → Numbered l (l + 2) (joins first other l (l + 1) t)
+joins_numbered first other l t = record {
+  each = (tt, (tt, (tt, (tt, ((omega arith, omega arith), (tt, (tt, (tt, ((omega arith, omega arith), (tt, tt))))))))));
+  distinct =
+      let other : Every label_of (λ m. m ≢ l)
+      (build.Const other ∷ build.SetVariable t ∷ build.Drop ∷ build.Label (l + 1) ∷ build.GetVariable t ∷ []) =
+      (tt, (tt, (tt, ((λ e. omega (arith, e)), (tt, tt))))) in
+      (tt, (tt, (tt, (tt, (other, (tt, (tt, (tt, ((tt, tt), (tt, tt))))))))));
+}
+
+-- A loop's ops: label l + 1, the ops of the turn, label l + 2, those behind it, and what has label l at the end.
+pub numbered_round : (l a b c : ℕ) (xs ys end : List BuildOp) → l + 3 ≤ a → a ≤ b → b ≤ c → Numbered a b xs →
+    Numbered b c ys → Numbered l (l + 1) end →
+    Numbered l c (build.Label (l + 1) ∷ (xs ++ build.Label (l + 2) ∷ (ys ++ end)))
+numbered_round l a b c xs ys end la ab bc hx hy he =
+    let rest = ys ++ end in
+    let tail = build.Label (l + 2) ∷ rest in
+    let hr : Numbered l c rest =
+    numbered_swap l (l + 1) c ys end (omega arith) (omega arith)
+    (widen b (l + 1) c c ys (omega arith) (omega arith) hy) he in
+    let ht : Numbered l c tail =
+    numbered_skip l c (l + 2) rest (omega arith) (omega arith) hr
+    (every_append label_of (λ k. k ≢ l + 2) ys end (not_in b c (l + 2) ys (inl (omega arith)) hy)
+    (not_in l (l + 1) (l + 2) end (inr (omega arith)) he)) in
+    let out : Every label_of (λ k. (k < a) ⊎ (b ≤ k)) tail = (
+      inl (omega arith),
+      every_append label_of (λ k. (k < a) ⊎ (b ≤ k)) ys end (out_above a b b c ys (omega arith) hy)
+          (out_below a b l (l + 1) end (omega arith) he),
+    ) in
+    let all : Numbered l c (xs ++ tail) =
+    numbered_hole l a b c xs tail (omega arith) (omega arith) hx ht out in
+    let apart : l + 2 ≢ l + 1 = omega arith in
+    numbered_skip l c (l + 1) (xs ++ tail) (omega arith) (omega arith) all
+    (every_append label_of (λ k. k ≢ l + 1) xs tail (not_in a b (l + 1) xs (inl (omega arith)) hx) (
+      apart,
+      every_append label_of (λ k. k ≢ l + 1) ys end (not_in b c (l + 1) ys (inl (omega arith)) hy)
+          (not_in l (l + 1) (l + 1) end (inr (omega arith)) he),
+    ))
+
+-- the tests of a switch have no label
+test_none : (P : ℕ → Type 0) (is : Items) (l t : ℕ) → Every label_of P (test_ops is l t)
+test_none P node.NoItem l t = tt
+test_none P (node.Item (node.Case value) is) l t =
+    (tt, (tt, (tt, (tt, test_none P is (l + labels (node.Case value)) t))))
+test_none P (node.Item s is) l t = test_none P is (l + labels s) t
+
 module _ (d : Addresses) where
-  pub expr_none : (P : ℕ → Type 0) (e : Expr) → IsBuilt e → (l t : ℕ) → Every label_of P (expr_ops d e l t)
-  expr_none P (node.Const w) built l t = (tt, tt)
-  expr_none P (node.Var i) built l t = (tt, tt)
-  expr_none P (node.SetVar i a) built l t =
-      every_append label_of P (expr_ops d a l t) _ (expr_none P a built l t) (tt, tt)
-  expr_none P (node.Lib library.Putchar a) built l t =
-      every_append label_of P (expr_ops d a l t) _ (expr_none P a built l t) (tt, tt)
-  expr_none P (node.Bin k x y) built l t =
-      every_append label_of P (expr_ops d x l t) _ (expr_none P x built.0 l t)
-      (every_append label_of P (expr_ops d y (l + labels_in x) (t + temps_in x)) _
-      (expr_none P y built.1 (l + labels_in x) (t + temps_in x)) (tt, tt))
-  expr_none P _ built l t = absurd built
+  -- two tests, and the two ways behind them
+  logic_numbered : (l x hi : ℕ) (test1 test2 : BuildOp) (ao bo J : List BuildOp) → label_of test1 ≡ None →
+      label_of test2 ≡ None → l + 2 ≤ x → x ≤ hi → Numbered (l + 2) x ao → Numbered x hi bo → Numbered l (l + 2) J →
+      Numbered l hi (ao ++ test1 ∷ (bo ++ test2 ∷ J))
+  logic_numbered l x hi test1 test2 ao bo J e1 e2 le1 le2 ha hb hj =
+      let none1 : OnLabel (λ k. ⊥) (label_of test1) = subst (OnLabel (λ k. ⊥)) (sym e1) tt in
+      let none2 : OnLabel (λ k. ⊥) (label_of test2) = subst (OnLabel (λ k. ⊥)) (sym e2) tt in
+      let j : Numbered l (l + 2) (test2 ∷ J) =
+      numbered_behind l (l + 2) (test2 ∷ []) J (omega arith) (none2, tt) hj in
+      let inner : Numbered l hi (bo ++ test2 ∷ J) =
+      numbered_swap l (l + 2) hi bo (test2 ∷ J) (omega arith) (omega arith)
+      (widen x (l + 2) hi hi bo le1 (omega arith) hb) j in
+      let out : Every label_of (λ m. (m < l + 2) ⊎ (x ≤ m)) (bo ++ test2 ∷ J) =
+      every_append label_of (λ m. (m < l + 2) ⊎ (x ≤ m)) bo (test2 ∷ J)
+      (out_above (l + 2) x x hi bo (omega arith) hb) (out_below (l + 2) x l (l + 2) (test2 ∷ J) (omega arith) j) in
+      numbered_hole l (l + 2) x hi ao (test1 ∷ (bo ++ test2 ∷ J)) (omega arith) le2 ha
+      (numbered_behind l hi (test1 ∷ []) (bo ++ test2 ∷ J) (omega arith) (none1, tt) inner)
+      (on_weaken (λ k. ⊥) (λ m. (m < l + 2) ⊎ (x ≤ m)) (label_of test1) (λ k no. absurd no) none1, out)
 
-  expr_numbered : (e : Expr) → IsBuilt e → (l t n : ℕ) → Numbered n n (expr_ops d e l t)
-  expr_numbered e built l t n = numbered_none n (expr_ops d e l t) (expr_none (λ l. ⊥) e built l t)
+  pub expr_numbered : (e : Expr) → IsBuilt e → (l t : ℕ) → Numbered l (l + labels_in e) (expr_ops d e l t)
+  expr_numbered (node.Const w) built l t = record { each = (tt, tt); distinct = (tt, tt) }
+  expr_numbered (node.Var i) built l t = record { each = (tt, tt); distinct = (tt, tt) }
+  expr_numbered (node.SetVar i a) built l t =
+      numbered_end l (l + labels_in a) (expr_ops d a l t) _ (omega arith) (expr_numbered a built l t) (tt, tt)
+  expr_numbered (node.PostVar i width step) built l t =
+      widen l l l (l + 0) _ (omega arith) (omega arith)
+      (numbered_none l (expr_ops d (node.PostVar i width step) l t) (
+        tt,
+        (
+          tt,
+          (
+            tt,
+            (
+              tt,
+              every_append label_of (λ l. ⊥) (narrowing width) _ (narrowing_none (λ l. ⊥) width)
+                  (tt, (tt, tt)),
+            ),
+          ),
+        ),
+      ))
+  expr_numbered (node.Bin k x y) built l t =
+      let mid = l + labels_in x in
+      let yo = expr_ops d y mid (t + temps_in x) in
+      let hi = l + (labels_in x + labels_in y) in
+      numbered_append l mid hi (expr_ops d x l t) (yo ++ build.Bin k ∷ []) (omega arith) (omega arith)
+      (expr_numbered x built.0 l t)
+      (numbered_end mid hi yo (build.Bin k ∷ []) (omega arith)
+      (widen mid mid (mid + labels_in y) hi yo (omega arith) (omega arith) (expr_numbered y built.1 mid (t + temps_in x)))
+      (tt, tt))
+  expr_numbered (node.Un k a) built l t =
+      numbered_end l (l + labels_in a) (expr_ops d a l t) _ (omega arith) (expr_numbered a built l t) (tt, tt)
+  expr_numbered (node.And a b) built l t =
+      let x = l + 2 + labels_in a in
+      let hi = l + (2 + labels_in a + labels_in b) in
+      let bo = expr_ops d b x (t + 1 + temps_in a) in
+      logic_numbered l x hi (build.BranchZero l) (build.BranchZero l) (expr_ops d a (l + 2) (t + 1)) bo
+      (joins 1 0 l (l + 1) t) refl refl (omega arith) (omega arith) (expr_numbered a built.0 (l + 2) (t + 1))
+      (widen x x (x + labels_in b) hi bo (omega arith) (omega arith) (expr_numbered b built.1 x (t + 1 + temps_in a)))
+      (joins_numbered 1 0 l t)
+  expr_numbered (node.Or a b) built l t =
+      let x = l + 2 + labels_in a in
+      let hi = l + (2 + labels_in a + labels_in b) in
+      let bo = expr_ops d b x (t + 1 + temps_in a) in
+      logic_numbered l x hi (build.BranchNonzero l) (build.BranchNonzero l) (expr_ops d a (l + 2) (t + 1)) bo
+      (joins 0 1 l (l + 1) t) refl refl (omega arith) (omega arith) (expr_numbered a built.0 (l + 2) (t + 1))
+      (widen x x (x + labels_in b) hi bo (omega arith) (omega arith) (expr_numbered b built.1 x (t + 1 + temps_in a)))
+      (joins_numbered 0 1 l t)
+  expr_numbered (node.Cond c a b) built l t =
+      let has = has_value a in
+      let la = l + 2 + labels_in c in
+      let ta = t + 1 + temps_in c in
+      let lb = la + labels_in a in
+      let hi = l + (2 + labels_in c + labels_in a + labels_in b) in
+      let co = expr_ops d c (l + 2) (t + 1) in
+      let ao = expr_ops d a la ta in
+      let bo = expr_ops d b lb (ta + temps_in a) in
+      let K = keeping has t in
+      let end = build.Label (l + 1) ∷ kept has t in
+      let none : Every label_of (λ k. ⊥) K = keeping_none (λ k. ⊥) has t in
+      let ha : Numbered la lb ao = expr_numbered a built.1 la ta in
+      let hb : Numbered lb hi bo =
+      widen lb lb (lb + labels_in b) hi bo (omega arith) (omega arith) (expr_numbered b built.2 lb (ta + temps_in a)) in
+      let meet : Numbered (l + 1) (l + 2) (K ++ end) =
+      numbered_behind (l + 1) (l + 2) K end (omega arith) none
+      (widen (l + 1) (l + 1) (l + 1 + 1) (l + 2) end (omega arith) (omega arith)
+      (numbered_end (l + 1) (l + 1 + 1) (build.Label (l + 1) ∷ []) (kept has t) (omega arith) (numbered_one (l + 1))
+      (kept_none (λ k. ⊥) has t))) in
+      let second : Numbered (l + 1) hi (bo ++ (K ++ end)) =
+      numbered_swap (l + 1) (l + 2) hi bo (K ++ end) (omega arith) (omega arith)
+      (widen lb (l + 2) hi hi bo (omega arith) (omega arith) hb) meet in
+      let rest2 = build.Jump (l + 1) ∷ build.Label l ∷ (bo ++ (K ++ end)) in
+      let tail : Numbered l hi (K ++ rest2) =
+      numbered_behind l hi K rest2 (omega arith) none
+      (numbered_behind l hi (build.Jump (l + 1) ∷ []) (build.Label l ∷ (bo ++ (K ++ end))) (omega arith) (tt, tt)
+      (numbered_first l hi (bo ++ (K ++ end)) (omega arith) second)) in
+      let out_of_a : Every label_of (λ m. (m < la) ⊎ (lb ≤ m)) (K ++ rest2) =
+      every_append label_of (λ m. (m < la) ⊎ (lb ≤ m)) K rest2 (keeping_none (λ m. (m < la) ⊎ (lb ≤ m)) has t) (
+        tt,
+        (
+          inl (omega arith),
+          every_append label_of (λ m. (m < la) ⊎ (lb ≤ m)) bo (K ++ end) (out_above la lb lb hi bo (omega arith) hb)
+              (out_below la lb (l + 1) (l + 2) (K ++ end) (omega arith) meet),
+        ),
+      ) in
+      let ways : Numbered l hi (ao ++ (K ++ rest2)) =
+      numbered_hole l la lb hi ao (K ++ rest2) (omega arith) (omega arith) ha tail out_of_a in
+      let out_of_c : Every label_of (λ m. (m < l + 2) ⊎ (la ≤ m)) (ao ++ (K ++ rest2)) =
+      every_append label_of (λ m. (m < l + 2) ⊎ (la ≤ m)) ao (K ++ rest2)
+      (out_above (l + 2) la la lb ao (omega arith) ha)
+      (every_append label_of (λ m. (m < l + 2) ⊎ (la ≤ m)) K rest2 (keeping_none (λ m. (m < l + 2) ⊎ (la ≤ m)) has t) (
+        tt,
+        (
+          inl (omega arith),
+          every_append label_of (λ m. (m < l + 2) ⊎ (la ≤ m)) bo (K ++ end)
+              (out_above (l + 2) la lb hi bo (omega arith) hb)
+              (out_below (l + 2) la (l + 1) (l + 2) (K ++ end) (omega arith) meet),
+        ),
+      )) in
+      numbered_hole l (l + 2) la hi co (build.BranchZero l ∷ (ao ++ (K ++ rest2))) (omega arith) (omega arith)
+      (expr_numbered c built.0 (l + 2) (t + 1))
+      (numbered_behind l hi (build.BranchZero l ∷ []) (ao ++ (K ++ rest2)) (omega arith) (tt, tt) ways) (tt, out_of_c)
+  expr_numbered (node.Comma a b) built l t =
+      let mid = l + labels_in a in
+      let hi = l + (labels_in a + labels_in b) in
+      let D = dropping (has_value a) in
+      let bo = expr_ops d b mid (t + temps_in a) in
+      numbered_append l mid hi (expr_ops d a l t) (D ++ bo) (omega arith) (omega arith) (expr_numbered a built.0 l t)
+      (numbered_behind mid hi D bo (omega arith) (dropping_none (λ k. ⊥) (has_value a))
+      (widen mid mid (mid + labels_in b) hi bo (omega arith) (omega arith)
+      (expr_numbered b built.1 mid (t + temps_in a))))
+  expr_numbered (node.Void a) built l t =
+      numbered_end l (l + labels_in a) (expr_ops d a l t) (dropping (has_value a)) (omega arith)
+      (expr_numbered a built l t) (dropping_none (λ k. ⊥) (has_value a))
+  expr_numbered node.Getchar built l t = record { each = (tt, (tt, tt)); distinct = (tt, (tt, tt)) }
+  expr_numbered (node.Lib library.Putchar a) built l t =
+      numbered_end l (l + labels_in a) (expr_ops d a l t) _ (omega arith) (expr_numbered a built l t) (tt, tt)
+  expr_numbered (node.Lib library.Putint a) built l t =
+      numbered_end l (l + labels_in a) (expr_ops d a l t) _ (omega arith) (expr_numbered a built l t) (tt, (tt, tt))
+  expr_numbered (node.Lib library.Exit a) built l t =
+      numbered_end l (l + labels_in a) (expr_ops d a l t) _ (omega arith) (expr_numbered a built l t) (tt, (tt, tt))
+  expr_numbered _ built l t = absurd built
 
-  eval_numbered : (e : Expr) → IsBuilt e → (l t n : ℕ) → Numbered n n (expr_ops d e l t ++ dropping (has_value e))
-  eval_numbered e built l t n =
-      subst (λ z. Numbered n n (expr_ops d e l t ++ dropping z)) (sym (built_value d e built))
-      (numbered_end n n (expr_ops d e l t) (build.Drop ∷ []) (omega arith) (expr_numbered e built l t n) (tt, tt))
+  -- of one whose value, if there is one, is taken away
+  pub eval_numbered : (e : Expr) → IsBuilt e → (l t : ℕ) →
+      Numbered l (l + labels_in e) (expr_ops d e l t ++ dropping (has_value e))
+  eval_numbered e built l t =
+      numbered_end l (l + labels_in e) (expr_ops d e l t) (dropping (has_value e)) (omega arith)
+      (expr_numbered e built l t) (dropping_none (λ k. ⊥) (has_value e))
 
   mutual
     pub stmt_numbered : (s : Stmt) → IsBuiltStmt s → (to : Targets) (l t : ℕ) →
         Numbered l (l + labels s) (stmt_ops d s to l t)
     stmt_numbered (node.Eval e) built to l t =
-        widen l l l (l + labels_in e) _ (omega arith) (omega arith) (eval_numbered e built l t l)
+        eval_numbered e built l t
     stmt_numbered (node.Block vars items) built to l t =
         widen l l (l + labels_of vars + labels_of items) (l + (labels_of vars + labels_of items)) _ (omega arith)
         (omega arith)
@@ -181,7 +402,7 @@ module _ (d : Addresses) where
         in
         let x : Numbered (l + 1) hi (eo ++ build.BranchZero l ∷ so) =
         numbered_append (l + 1) lo hi eo (build.BranchZero l ∷ so) (omega arith) (omega arith)
-        (widen lo (l + 1) lo lo eo (omega arith) (omega arith) (expr_numbered e built.0 (l + 1) t lo))
+        (expr_numbered e built.0 (l + 1) t)
         (record { each = (tt, i.each); distinct = (tt, i.distinct) }) in
         subst (Numbered l hi) (append_assoc eo (build.BranchZero l ∷ so) (build.Label l ∷ []))
         (numbered_swap l (l + 1) hi (eo ++ build.BranchZero l ∷ so) (build.Label l ∷ []) (omega arith) (omega arith) x
@@ -217,15 +438,29 @@ module _ (d : Addresses) where
           (
             inl (omega arith),
             every_append label_of (λ k. (k < l + 2) ⊎ (l3 ≤ k)) ro end
-                (every_weaken label_of (λ k. (l3 ≤ k) × (k < hi)) (λ k. (k < l + 2) ⊎ (l3 ≤ k)) ro (λ k p. inr p.0) ir.each)
+                (every_weaken label_of (λ k. (l3 ≤ k) × (k < hi)) (λ k. (k < l + 2) ⊎ (l3 ≤ k)) ro
+                (λ k p. inr p.0) ir.each)
                 (inl (omega arith), tt),
           ),
         ) in
         let y : Numbered l hi (so ++ build.Jump (l + 1) ∷ build.Label l ∷ (ro ++ end)) =
         numbered_hole l (l + 2) l3 hi so _ (omega arith) (omega arith) is tail out in
-        numbered_append l l hi eo (build.BranchZero l ∷ (so ++ build.Jump (l + 1) ∷ build.Label l ∷ (ro ++ end)))
-        (omega arith) (omega arith) (expr_numbered e built.0 (l + 2) t l)
-        (record { each = (tt, y.each); distinct = (tt, y.distinct) })
+        let out_of_test : Every label_of (λ k. (k < l + 2) ⊎ (l2 ≤ k))
+        (so ++ build.Jump (l + 1) ∷ build.Label l ∷ (ro ++ end)) =
+        every_append label_of (λ k. (k < l + 2) ⊎ (l2 ≤ k)) so (build.Jump (l + 1) ∷ build.Label l ∷ (ro ++ end))
+        (out_above (l + 2) l2 l2 l3 so (omega arith) (stmt_numbered s built.1 to l2 t2)) (
+          tt,
+          (
+            inl (omega arith),
+            every_append label_of (λ k. (k < l + 2) ⊎ (l2 ≤ k)) ro end
+                (out_above (l + 2) l2 l3 hi ro (omega arith) ir)
+                (out_below (l + 2) l2 (l + 1) (l + 2) end (omega arith) one),
+          ),
+        ) in
+        numbered_hole l (l + 2) l2 hi eo
+        (build.BranchZero l ∷ (so ++ build.Jump (l + 1) ∷ build.Label l ∷ (ro ++ end))) (omega arith) (omega arith)
+        (expr_numbered e built.0 (l + 2) t) (record { each = (tt, y.each); distinct = (tt, y.distinct) })
+        (tt, out_of_test)
     stmt_numbered (node.While e s) built to l t =
         let to2 : Targets = record { on_break = l; on_continue = l + 1 } in
         let lo = l + 2 + labels_in e in
@@ -240,7 +475,7 @@ module _ (d : Addresses) where
         (stmt_numbered s built.1 to2 lo (t + temps_in e)) in
         let x : Numbered (l + 2) hi (eo ++ build.BranchZero l ∷ so) =
         numbered_append (l + 2) lo hi eo (build.BranchZero l ∷ so) (omega arith) (omega arith)
-        (widen lo (l + 2) lo lo eo (omega arith) (omega arith) (expr_numbered e built.0 (l + 2) t lo))
+        (expr_numbered e built.0 (l + 2) t)
         (record { each = (tt, i.each); distinct = (tt, i.distinct) }) in
         let not_first : Every label_of (λ k. k ≢ l + 1) ((eo ++ build.BranchZero l ∷ so) ++ end) =
         every_append label_of (λ k. k ≢ l + 1) (eo ++ build.BranchZero l ∷ so) end
@@ -251,8 +486,111 @@ module _ (d : Addresses) where
         subst (λ os. Numbered l hi (build.Label (l + 1) ∷ os)) (append_assoc eo (build.BranchZero l ∷ so) end)
         (numbered_skip l hi (l + 1) _ (omega arith) (omega arith) y not_first)
     stmt_numbered (node.ReturnValue e) built to l t =
-        widen l l l (l + labels_in e) _ (omega arith) (omega arith)
-        (numbered_end l l (expr_ops d e l t) (build.Return ∷ []) (omega arith) (expr_numbered e built l t l) (tt, tt))
+        numbered_end l (l + labels_in e) (expr_ops d e l t) (build.Return ∷ []) (omega arith)
+        (expr_numbered e built l t) (tt, tt)
+    stmt_numbered (node.Do s e) built to l t =
+        let to2 : Targets = record { on_break = l; on_continue = l + 2 } in
+        let l4 = l + 3 + labels s in
+        let hi = l + (3 + labels s + labels_in e) in
+        let so = stmt_ops d s to2 (l + 3) t in
+        let eo = expr_ops d e l4 (t + temps s) in
+        let end = build.BranchNonzero (l + 1) ∷ build.Label l ∷ [] in
+        let ne : Numbered l (l + 1) end =
+        record { each = (tt, (numbered_one l).each); distinct = (tt, (numbered_one l).distinct) } in
+        numbered_round l (l + 3) l4 hi so eo end (omega arith) (omega arith) (omega arith)
+        (stmt_numbered s built.0 to2 (l + 3) t)
+        (widen l4 l4 (l4 + labels_in e) hi eo (omega arith) (omega arith) (expr_numbered e built.1 l4 (t + temps s))) ne
+    stmt_numbered (node.For e s) built to l t =
+        let to2 : Targets = record { on_break = l; on_continue = l + 2 } in
+        let l3 = l + 3 + labels_in e in
+        let hi = l + (3 + labels_in e + labels s) in
+        let so = stmt_ops d s to2 l3 (t + temps_in e) in
+        let eo = expr_ops d e (l + 3) t in
+        let end = build.Jump (l + 1) ∷ build.Label l ∷ [] in
+        let ne : Numbered l (l + 1) end =
+        record { each = (tt, (numbered_one l).each); distinct = (tt, (numbered_one l).distinct) } in
+        let i : Numbered l3 hi so =
+        widen l3 l3 (l3 + labels s) hi so (omega arith) (omega arith) (stmt_numbered s built.1 to2 l3 (t + temps_in e))
+        in
+        let x : Numbered (l + 3) hi (eo ++ build.BranchZero l ∷ so) =
+        numbered_append (l + 3) l3 hi eo (build.BranchZero l ∷ so) (omega arith) (omega arith)
+        (expr_numbered e built.0 (l + 3) t) (record { each = (tt, i.each); distinct = (tt, i.distinct) }) in
+        subst (λ os. Numbered l hi (build.Label (l + 1) ∷ os))
+        (append_assoc eo (build.BranchZero l ∷ so) (build.Label (l + 2) ∷ end))
+        (numbered_round l (l + 3) hi hi (eo ++ build.BranchZero l ∷ so) [] end (omega arith) (omega arith) (omega arith)
+        x (numbered_none hi [] tt) ne)
+    stmt_numbered (node.ForStep e step s) built to l t =
+        let to2 : Targets = record { on_break = l; on_continue = l + 2 } in
+        let l3 = l + 3 + labels_in e in
+        let l4 = l3 + labels s in
+        let t3 = t + temps_in e in
+        let hi = l + (3 + labels_in e + labels s + labels_in step) in
+        let so = stmt_ops d s to2 l3 t3 in
+        let eo = expr_ops d e (l + 3) t in
+        let po = expr_ops d step l4 (t3 + temps s) in
+        let drop = dropping (has_value step) in
+        let end = build.Jump (l + 1) ∷ build.Label l ∷ [] in
+        let ne : Numbered l (l + 1) end =
+        record { each = (tt, (numbered_one l).each); distinct = (tt, (numbered_one l).distinct) } in
+        let i : Numbered l3 l4 so = stmt_numbered s built.2 to2 l3 t3 in
+        let x : Numbered (l + 3) l4 (eo ++ build.BranchZero l ∷ so) =
+        numbered_append (l + 3) l3 l4 eo (build.BranchZero l ∷ so) (omega arith) (omega arith)
+        (expr_numbered e built.0 (l + 3) t) (record { each = (tt, i.each); distinct = (tt, i.distinct) }) in
+        subst (λ os. Numbered l hi (build.Label (l + 1) ∷ os))
+        (append_assoc eo (build.BranchZero l ∷ so) (build.Label (l + 2) ∷ (po ++ (drop ++ end))))
+        (numbered_round l (l + 3) l4 hi (eo ++ build.BranchZero l ∷ so) po (drop ++ end) (omega arith) (omega arith)
+        (omega arith) x
+        (widen l4 l4 (l4 + labels_in step) hi po (omega arith) (omega arith)
+        (expr_numbered step built.1 l4 (t3 + temps s)))
+        (numbered_behind l (l + 1) drop end (omega arith) (dropping_none (λ k. ⊥) (has_value step)) ne))
+    stmt_numbered (node.Switch e vars items) built to l t =
+        let to2 : Targets = record { on_break = l; on_continue = to.on_continue } in
+        let lv = l + 1 + labels_in e in
+        let li = lv + labels_of vars in
+        let tv = t + 1 + temps_in e in
+        let ti = tv + temps_of vars in
+        let hi = l + (1 + labels_in e + labels_of vars + labels_of items) in
+        let eo = expr_ops d e (l + 1) (t + 1) in
+        let vo = items_ops d vars to lv tv in
+        let tests = test_ops items li t in
+        let io = items_ops d items to2 li ti in
+        let end = build.Label l ∷ [] in
+        let rest3 = build.Jump (default_label items li l) ∷ (io ++ end) in
+        let hv = items_numbered vars built.1 to lv tv in
+        let hio : Numbered li hi io =
+        widen li li (li + labels_of items) hi io (omega arith) (omega arith) (items_numbered items built.2 to2 li ti) in
+        let r1 : Numbered l hi (io ++ end) =
+        numbered_swap l (l + 1) hi io end (omega arith) (omega arith)
+        (widen li (l + 1) hi hi io (omega arith) (omega arith) hio) (numbered_one l) in
+        let r3 : Numbered l hi (tests ++ rest3) =
+        numbered_behind l hi tests rest3 (omega arith) (test_none (λ k. ⊥) items li t)
+        (record { each = (tt, r1.each); distinct = (tt, r1.distinct) }) in
+        let out3 : Every label_of (λ k. (k < lv) ⊎ (li ≤ k)) (tests ++ rest3) =
+        every_append label_of (λ k. (k < lv) ⊎ (li ≤ k)) tests rest3
+        (test_none (λ k. (k < lv) ⊎ (li ≤ k)) items li t) (
+          tt,
+          every_append label_of (λ k. (k < lv) ⊎ (li ≤ k)) io end (out_above lv li li hi io (omega arith) hio)
+              (inl (omega arith), tt),
+        ) in
+        let r4 : Numbered l hi (vo ++ (tests ++ rest3)) =
+        numbered_hole l lv li hi vo (tests ++ rest3) (omega arith) (omega arith) hv r3 out3 in
+        let out4 : Every label_of (λ k. (k < l + 1) ⊎ (lv ≤ k)) (vo ++ (tests ++ rest3)) =
+        every_append label_of (λ k. (k < l + 1) ⊎ (lv ≤ k)) vo (tests ++ rest3)
+        (out_above (l + 1) lv lv li vo (omega arith) hv)
+        (every_append label_of (λ k. (k < l + 1) ⊎ (lv ≤ k)) tests rest3
+        (test_none (λ k. (k < l + 1) ⊎ (lv ≤ k)) items li t) (
+          tt,
+          every_append label_of (λ k. (k < l + 1) ⊎ (lv ≤ k)) io end
+              (out_above (l + 1) lv li hi io (omega arith) hio) (inl (omega arith), tt),
+        )) in
+        numbered_hole l (l + 1) lv hi eo (build.SetVariable t ∷ build.Drop ∷ (vo ++ (tests ++ rest3))) (omega arith)
+        (omega arith) (expr_numbered e built.0 (l + 1) (t + 1))
+        (record { each = (tt, (tt, r4.each)); distinct = (tt, (tt, r4.distinct)) }) (tt, (tt, out4))
+    stmt_numbered (node.Case value) built to l t = numbered_one l
+    stmt_numbered node.Default built to l t = numbered_one l
+    stmt_numbered node.Break built to l t = record { each = (tt, tt); distinct = (tt, tt) }
+    stmt_numbered node.Continue built to l t = record { each = (tt, tt); distinct = (tt, tt) }
+    stmt_numbered node.Return built to l t = record { each = (tt, tt); distinct = (tt, tt) }
     stmt_numbered _ built to l t = absurd built
 
     pub items_numbered : (is : Items) → AreBuiltItems is → (to : Targets) (l t : ℕ) →

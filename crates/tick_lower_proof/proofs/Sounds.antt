@@ -11,8 +11,9 @@ use Rattle.icode_ops.specs.declared.kind.BinKind.TheVariants as bin
 use Rattle.icode_ops.specs.Finished.{InRange}
 use Rattle.icode_ir.specs.declared.body.Body.{Body}
 use Rattle.icode_ir.specs.declared.build_op.BuildOp.{BuildOp}
-use Rattle.icode_ir.specs.declared.build_op.BuildOp.TheVariants.{Const, Bin, Enter, Leave, GetVariable, SetVariable}
-use Rattle.icode_ir.specs.declared.build_op.BuildOp.TheVariants.{Drop, Label, Jump, BranchZero, Return, Sys}
+use Rattle.icode_ir.specs.declared.build_op.BuildOp.TheVariants.{Const, Bin, Un, Enter, Leave, GetVariable}
+use Rattle.icode_ir.specs.declared.build_op.BuildOp.TheVariants.{SetVariable, Drop, Pick, Label, Jump, BranchZero}
+use Rattle.icode_ir.specs.declared.build_op.BuildOp.TheVariants.{BranchNonzero, Return, ReturnZero, Sys}
 use Rattle.icode_ir.specs.declared.build_op.BuildFault.{BuildFault}
 use Rattle.icode_ir.specs.declared.build_op.BuildFault.TheVariants.{Underflow, BadLabel, BadVariable, Full}
 use Rattle.icode_ir.specs.Build.{Build, empty, no_body, innermost, operand, variable, label, stands, of_body, has_open}
@@ -21,6 +22,7 @@ use Rattle.icode_ir.specs.Rules.{needs, labelled, owned, has_room, fits, has_bod
 use Rattle.icode_ir.specs.Rules.{effect}
 use Rattle.icode_ir.specs.Runs.{run_ops, AreTaken}
 use Rattle.icode_ir.specs.Sound.{Each, IsPlain, IsBody, IsSound}
+use Rattle.limits.specs.declared.ops.TheConstants.{OP_LIMIT}
 use Rattle.icode_ir.proofs.Sounds.{Each-at, grown, cut, pushed, jump-sound, label-sound}
 use Rattle.icode_ir.proofs.Enclosing.{enter-sound, leave-sound}
 
@@ -30,14 +32,14 @@ both_true true b h = (refl, h)
 both_true false b h = absurd cc
 
 pub room_of : (more operands : ℕ) (b : Build) → fits more operands b ≡ None →
-    (length b.prelude + length b.ops + more ≤ 196608) × (operands ≤ 196608)
+    (length b.prelude + length b.ops + more ≤ OP_LIMIT) × (operands ≤ OP_LIMIT)
 room_of more operands b e = by (has_room more operands b) refl e
   where
     by : (t : Bool) → has_room more operands b ≡ t → (if t then None else Some Full) ≡ None →
-        (length b.prelude + length b.ops + more ≤ 196608) × (operands ≤ 196608)
+        (length b.prelude + length b.ops + more ≤ OP_LIMIT) × (operands ≤ OP_LIMIT)
     by false is e = absurd cc
     by true is e =
-        let two = both_true (nat_le (length b.prelude + length b.ops + more) 196608) (nat_le operands 196608) is in
+        let two = both_true (nat_le (length b.prelude + length b.ops + more) OP_LIMIT) (nat_le operands OP_LIMIT) is in
         let here = two.0 in
         let there = two.1 in
         (grind (arith, nat_tests, here), grind (arith, nat_tests, there))
@@ -90,8 +92,8 @@ module _ (b : Build) (i : IsSound b) where
   label_inside k lt = grind (arith, nat_tests, lt)
 
   -- what the ops do
-  pub yield_sound : (o : Op) (n : ℕ) → IsPlain (b.registers + 1) o → length b.prelude + length b.ops + 1 ≤ 196608 →
-      length (take (length b.operands - n) b.operands) < 196608 → IsSound (yield o n b)
+  pub yield_sound : (o : Op) (n : ℕ) → IsPlain (b.registers + 1) o → length b.prelude + length b.ops + 1 ≤ OP_LIMIT →
+      length (take (length b.operands - n) b.operands) < OP_LIMIT → IsSound (yield o n b)
   yield_sound o n plain room few =
       let b1 : Build = record b { ops = b.ops ++ o ∷ []; registers = b.registers + 1 } in
       let s1 : IsSound b1 = grown b (o ∷ []) (b.registers + 1) i (omega arith) (omega arith) (plain, tt)
@@ -99,15 +101,15 @@ module _ (b : Build) (i : IsSound b) where
       let s2 = cut b1 (length b.operands - n) s1 (omega (arith, few)) in
       pushed (record b1 { operands = take (length b.operands - n) b.operands }) b.registers s2 (omega arith) few
 
-  pub add_sound : (o : Op) → IsPlain b.registers o → length b.prelude + length b.ops + 1 ≤ 196608 → IsSound (add o b)
+  pub add_sound : (o : Op) → IsPlain b.registers o → length b.prelude + length b.ops + 1 ≤ OP_LIMIT → IsSound (add o b)
   add_sound o plain room = grown b (o ∷ []) b.registers i (omega arith) (omega arith) (plain, tt) (omega (arith, room))
 
   pub without_sound : (n : ℕ) → IsSound (without n b)
   without_sound n = cut b (length b.operands - n) i
       (omega (arith, length-take (length b.operands - n) b.operands, i.few_operands))
 
-  pub left_few : (n k : ℕ) → length b.operands - n + 1 ≤ k → k ≤ 196608 →
-      length (take (length b.operands - n) b.operands) < 196608
+  pub left_few : (n k : ℕ) → length b.operands - n + 1 ≤ k → k ≤ OP_LIMIT →
+      length (take (length b.operands - n) b.operands) < OP_LIMIT
   left_few n k le low = omega (arith, length-take (length b.operands - n) b.operands, le, low)
 
 -- an op that names registers alone
@@ -118,7 +120,7 @@ plain_op r o low no_label no_jump = record { registers_low = low; no_label = no_
 -- an operator, with its check before it
 module _ (b : Build) (i : IsSound b) (left right : ℕ) (l : left < b.registers) (r : right < b.registers) where
   bin_after : (kind : BinKind) (c : Build) → IsSound c → c.registers ≡ b.registers → c.operands ≡ b.operands →
-      length c.prelude + length c.ops + 1 ≤ 196608 → length (take (length c.operands - 2) c.operands) < 196608
+      length c.prelude + length c.ops + 1 ≤ OP_LIMIT → length (take (length c.operands - 2) c.operands) < OP_LIMIT
       → IsSound (yield (op.Bin kind c.registers left right) 2 c)
   bin_after kind c s same operands room few =
       yield_sound c s (op.Bin kind c.registers left right) 2
@@ -126,7 +128,7 @@ module _ (b : Build) (i : IsSound b) (left right : ℕ) (l : left < b.registers)
       (omega arith, omega (arith, l, same), omega (arith, r, same)) refl refl) room few
 
   checked_first : (kind : BinKind) (check : Op) → IsPlain b.registers check →
-      length b.prelude + length b.ops + 2 ≤ 196608 → length (take (length b.operands - 2) b.operands) < 196608
+      length b.prelude + length b.ops + 2 ≤ OP_LIMIT → length (take (length b.operands - 2) b.operands) < OP_LIMIT
       → IsSound (yield (op.Bin kind b.registers left right) 2 (add check b))
   checked_first kind check plain room few =
       let n = Rattle.std.proofs.lemmas.List.length-append b.ops (check ∷ []) in
@@ -139,8 +141,8 @@ module _ (b : Build) (i : IsSound b) (left right : ℕ) (l : left < b.registers)
   zero_check : IsPlain b.registers (op.CheckZero right)
   zero_check = plain_op b.registers (op.CheckZero right) (tt, r, tt) refl refl
 
-  pub bin_sound : (kind : BinKind) → length b.prelude + length b.ops + (checks kind + 1) ≤ 196608 →
-      length (take (length b.operands - 2) b.operands) < 196608
+  pub bin_sound : (kind : BinKind) → length b.prelude + length b.ops + (checks kind + 1) ≤ OP_LIMIT →
+      length (take (length b.operands - 2) b.operands) < OP_LIMIT
       → IsSound (yield (op.Bin kind b.registers left right) 2 (checked kind left right b))
   bin_sound bin.DivideSigned room few =
       checked_first bin.DivideSigned (op.CheckDivision left right) signed_check (omega (arith, room)) few
@@ -156,33 +158,37 @@ module _ (b : Build) (i : IsSound b) (left right : ℕ) (l : left < b.registers)
 abbrev pub IsUsed : BuildOp → Type 0
 IsUsed (Const word) = Unit {0}
 IsUsed (Bin kind) = Unit {0}
+IsUsed (Un kind) = Unit {0}
 IsUsed (Enter n m) = Unit {0}
 IsUsed Leave = Unit {0}
 IsUsed (GetVariable i) = Unit {0}
 IsUsed (SetVariable i) = Unit {0}
 IsUsed Drop = Unit {0}
+IsUsed (Pick i) = Unit {0}
 IsUsed (Label i) = Unit {0}
 IsUsed (Jump i) = Unit {0}
 IsUsed (BranchZero i) = Unit {0}
+IsUsed (BranchNonzero i) = Unit {0}
 IsUsed Return = Unit {0}
+IsUsed ReturnZero = Unit {0}
 IsUsed (Sys kind) = Unit {0}
 IsUsed _ = ⊥
 
 body_room : (n m : ℕ) (b : Build) → fault_of (Enter n m) b ≡ None →
-    (length b.bodies < 196608) × (b.variables + n ≤ 196608) × (b.labels + m ≤ 196608)
+    (length b.bodies < OP_LIMIT) × (b.variables + n ≤ OP_LIMIT) × (b.labels + m ≤ OP_LIMIT)
 body_room n m b e = by (has_body_room n m b) refl e
   where
     by : (t : Bool) → has_body_room n m b ≡ t → (if t then None else Some Full) ≡ None →
-        (length b.bodies < 196608) × (b.variables + n ≤ 196608) × (b.labels + m ≤ 196608)
+        (length b.bodies < OP_LIMIT) × (b.variables + n ≤ OP_LIMIT) × (b.labels + m ≤ OP_LIMIT)
     by false is e = absurd cc
     by true is e =
-        let first = both_true (nat_le (length b.bodies + 1) 196608 && nat_le (b.variables + n) 196608)
-        (nat_le (b.labels + m) 196608) is in
-        let second = both_true (nat_le (length b.bodies + 1) 196608) (nat_le (b.variables + n) 196608) first.0 in
+        let first = both_true (nat_le (length b.bodies + 1) OP_LIMIT && nat_le (b.variables + n) OP_LIMIT)
+        (nat_le (b.labels + m) OP_LIMIT) is in
+        let second = both_true (nat_le (length b.bodies + 1) OP_LIMIT) (nat_le (b.variables + n) OP_LIMIT) first.0 in
         let x = second.0 in
         let y = second.1 in
         let z = first.1 in
-        let few : length b.bodies + 1 ≤ 196608 = grind (arith, nat_tests, x) in
+        let few : length b.bodies + 1 ≤ OP_LIMIT = grind (arith, nat_tests, x) in
         (omega (arith, few), grind (arith, nat_tests, y), grind (arith, nat_tests, z))
 
 leave_room : (b : Build) → fault_of Leave b ≡ None → (0 < length b.bodies) × (has_open (innermost b) b.ops ≡ false)
@@ -236,6 +242,10 @@ effect_sound (SetVariable k) b used i e =
     (plain_op b.registers (op.Move (variable k b) (operand 0 b))
     (variable_low b i k own.0, operand_low b i 0 (omega (arith, one.0)), tt) refl refl) room.0
 effect_sound Drop b used i e = without_sound b i 1
+effect_sound (Pick k) b used i e =
+    let some = needs_of (k + 1) b (fits 0 (length b.operands + 1) b) e in
+    let room = room_of 0 (length b.operands + 1) b some.1 in
+    pushed b (operand k b) i (operand_low b i k some.0) (omega (arith, room.1))
 effect_sound (Label k) b used i e =
     let own = labelled_of k b (if stands (label k b) b.ops then Some BadLabel else fits 1 (length b.operands) b) e in
     let new = label_room k b own.1 in
@@ -254,12 +264,31 @@ effect_sound (BranchZero k) b used i e =
     without_sound (add o b)
     (jump-sound b o (label k b) i (tt, operand_low b i 0 (omega (arith, one.0)), tt) refl refl
     (label_inside b i k own.0) (omega (arith, room.0))) 1
+effect_sound (BranchNonzero k) b used i e =
+    let one = needs_of 1 b (labelled k b (fits 1 (length b.operands - 1) b)) e in
+    let own = labelled_of k b (fits 1 (length b.operands - 1) b) one.1 in
+    let room = room_of 1 (length b.operands - 1) b own.1 in
+    let o = op.BranchNonzero (operand 0 b) (label k b) in
+    without_sound (add o b)
+    (jump-sound b o (label k b) i (tt, operand_low b i 0 (omega (arith, one.0)), tt) refl refl
+    (label_inside b i k own.0) (omega (arith, room.0))) 1
+effect_sound ReturnZero b used i e =
+    let room = room_of 1 (length b.operands) b e in
+    add_sound b i op.ReturnZero (plain_op b.registers op.ReturnZero (tt, tt, tt) refl refl) room.0
 effect_sound Return b used i e =
     let one = needs_of 1 b (fits 1 (length b.operands - 1) b) e in
     let room = room_of 1 (length b.operands - 1) b one.1 in
     let o = op.Return (operand 0 b) in
     without_sound (add o b) (add_sound b i o
     (plain_op b.registers o (tt, operand_low b i 0 (omega (arith, one.0)), tt) refl refl) room.0) 1
+effect_sound (Un kind) b used i e =
+    let one = needs_of 1 b (fits 1 (length b.operands) b) e in
+    let room = room_of 1 (length b.operands) b one.1 in
+    let low = operand_low b i 0 (omega (arith, one.0)) in
+    yield_sound b i (op.Un kind b.registers (operand 0 b)) 1
+    (plain_op (b.registers + 1) (op.Un kind b.registers (operand 0 b)) (omega arith, omega (arith, low), tt) refl
+    refl) room.0
+    (left_few b i 1 (length b.operands) (omega (arith, one.0)) room.1)
 effect_sound (Sys kind) b used i e =
     let one = needs_of 1 b (fits 1 (length b.operands) b) e in
     let room = room_of 1 (length b.operands) b one.1 in

@@ -1,28 +1,30 @@
--- The machine follows every tree of the kinds that are built.
-use Rattle.std.proofs.Common.{◌≡◌, ℕ, suc, ◌+◌, ◌<◌, ◌≤◌, List, [], ◌∷◌, ◌++◌, Option, Some, true, refl, sym, ap, subst}
-use Rattle.std.proofs.Common.{arith}
+-- The machine follows the statements that are one expression, or set a variable to 0; and which variables they leave in
+-- scope.
+use Rattle.std.proofs.Common.{◌≡◌, ℕ, suc, ◌+◌, ◌<◌, ◌≤◌, List, [], ◌∷◌, ◌++◌, Option, Some, true, false, refl, sym, ap}
+use Rattle.std.proofs.Common.{subst, arith}
 use Rattle.std.specs.Prelude.{slice_get, max, ◌&&◌}
 use Rattle.word32.specs.Space.{update}
 use Rattle.icode_ops.specs.declared.op.Op.TheVariants as op
 use Rattle.icode_ir.specs.declared.build_op.BuildOp.TheVariants as build
-use Rattle.typed_tree.specs.Nodes.{Expr, Const, Var, SetVar, Bin, Lib, Stmt, Eval, Variable, Parameter, ReturnValue}
+use Rattle.typed_tree.specs.Nodes.{Expr, Stmt, Eval, Variable, Object, Parameter, ParameterObject, ReturnValue}
 use Rattle.typed_tree.specs.Nodes.{Items, NoItem, Item, has_value}
-use Rattle.typed_tree.specs.declared.expression.Library.TheVariants.{Putchar}
 use Rattle.staged_meaning.specs.Size.{temps_in, variables_in, variables_of}
+use Rattle.staged_meaning.specs.Values.{Leaves, UsesValues}
+use Rattle.staged_meaning.specs.Placed.{Allowed, AreDeclarations, ArePlaced}
 use Rattle.staged_meaning.specs.Scope.{Scope, scope_of, scope_after, IsScoped, IsBuilt}
-use Rattle.staged_meaning.specs.World.{Gives, Returns, Normal, with_variable}
+use Rattle.staged_meaning.specs.World.{World, Gives, Returns, Normal, with_variable}
 use Rattle.staged_meaning.specs.Meaning.{eval, exec}
 use Rattle.icode_meaning.specs.Steps.{paid, back, left}
 use Rattle.tick_lower_proof.specs.Lower.{expr_ops, dropping}
 use Rattle.tick_lower_proof.proofs.Machine.{Goes, then_op, put}
 use Rattle.tick_lower_proof.proofs.Builder.{View, top, after_ops, after_append, Stands, stands_front, stands_back}
-use Rattle.tick_lower_proof.proofs.Pushes.{built_value, expr_brings}
-use Rattle.tick_lower_proof.proofs.Follow.{Follows, follows_then}
+use Rattle.tick_lower_proof.proofs.Follow.{From, Follows, follows_then, follows_less}
 use Rattle.tick_lower_proof.proofs.Registers.{Within, set_vars, in_wider, within_more, held_below}
-use Rattle.tick_lower_proof.proofs.Standing.{base_of, Site, floor_of, Fits, IsBack, Leaves, ExprRuns, Part, spend_run}
-use Rattle.tick_lower_proof.proofs.Exprs.{op_put, const_run, var_run, one_run, drop_run, set_node, putchar_node}
-use Rattle.tick_lower_proof.proofs.Binary.{bin_node}
-use Rattle.tick_lower_proof.proofs.Ways.{Left, Runs}
+use Rattle.tick_lower_proof.proofs.Standing.{base_of, Site, floor_of, Fits, At, IsBack, spend_run}
+use Rattle.tick_lower_proof.proofs.Standing as standing
+use Rattle.tick_lower_proof.proofs.Exprs.{op_put, one_run, drop_run}
+use Rattle.tick_lower_proof.proofs.Ways.{Labelled, Left, Runs}
+use Rattle.tick_lower_proof.proofs.Expressions.{part_of, expr_run}
 
 pub max_left : (a b c : ℕ) → max a b ≤ c → a ≤ c
 max_left a b c h = omega (arith, h)
@@ -54,60 +56,71 @@ within_items (Item s is) scope src le h =
     within_items is (scope_of s scope) src (max_right (variables_in s) (variables_of is) src le)
     (within_stmt s scope src (max_left (variables_in s) (variables_of is) src le) h)
 
-module _ (site : Site) where
-  -- what a node asks of an expression in it
-  pub part_of : (scope : Scope) (e : Expr) → IsBuilt e → ExprRuns site scope e → Part site scope e
-  part_of scope e built run = record { brings = expr_brings site.addresses e built; runs = run }
+-- declarations may stand where no label may
+pub declarations_placed : (is : Items) (a : Allowed) → a.labels ≡ false → AreDeclarations is → ArePlaced a is
+declarations_placed NoItem a e h = tt
+declarations_placed (Item (Variable i) is) a e h = (e, declarations_placed is a e h.1)
+declarations_placed (Item (Object offset words) is) a e h = (tt, declarations_placed is a e h.1)
+declarations_placed (Item (Parameter k width) is) a e h = (e, declarations_placed is a e h.1)
+declarations_placed (Item (ParameterObject k width offset) is) a e h = (tt, declarations_placed is a e h.1)
+declarations_placed (Item s is) a e h = absurd h.0
 
-  pub expr_run : (scope : Scope) → Within scope site.named → (e : Expr) → IsBuilt e → ExprRuns site scope e
-  expr_run scope inside (Const x) built = const_run site scope inside x
-  expr_run scope inside (Var i) built = var_run site scope inside i
-  expr_run scope inside (SetVar i a) built =
-      set_node site scope inside i a (part_of scope a built (expr_run scope inside a built))
-      (built_value site.addresses a built)
-  expr_run scope inside (Bin k x y) built =
-      bin_node site scope inside k x y (part_of scope x built.0 (expr_run scope inside x built.0))
-      (part_of scope y built.1 (expr_run scope inside y built.1)) (built_value site.addresses x built.0)
-      (built_value site.addresses y built.1)
-  expr_run scope inside (Lib Putchar a) built =
-      putchar_node site scope inside a (part_of scope a built (expr_run scope inside a built))
-      (built_value site.addresses a built)
-  expr_run scope inside _ built = absurd built
-
+module _ (site : Site) (labelled : Labelled site.call.function.ops) where
   -- an expression whose value, if there is one, is not used
   pub eval_run : (scope : Scope) → Within scope site.named → (stack : List (ℕ × ℕ)) (e : Expr) → IsBuilt e →
-      IsScoped scope e → (l t : ℕ) → site.named ≤ t → t + temps_in e ≤ site.size → (v : View) (br co : Option ℕ) →
-      Fits site v stack → Stands site.call.function.ops (expr_ops site.addresses e l t ++ dropping (has_value e)) v →
+      UsesValues e → IsScoped scope e → (l t : ℕ) → site.named ≤ t → t + temps_in e ≤ site.size → (v : View)
+      (br co : Option ℕ) → Fits site v stack →
+      Stands site.call.function.ops (expr_ops site.addresses e l t ++ dropping (has_value e)) v →
       Runs site scope scope stack (exec site.context (Eval e)) v.place
       (after_ops (expr_ops site.addresses e l t ++ dropping (has_value e)) v).place br co
   unfolding Runs
-  eval_run scope inside stack e built ok l t st tn v br co fits at from spare credit w lt z =
+  eval_run scope inside stack e built uses ok l t st tn v br co fits at from spare credit w lt enough z =
       let eo = expr_ops site.addresses e l t in
       let d = dropping (has_value e) in
       let v1 = after_ops eo v in
       subst (λ v2. Follows site.machine from (Left site from scope scope stack spare credit v2.place br co)
       (IsBack site from) (exec site.context (Eval e) w)) (sym (after_append eo d v))
-      (follows_then site.machine from (Leaves (has_value e) site from scope v1 stack spare credit)
+      (follows_then site.machine from (standing.Leaves (has_value e) site from scope v1 stack spare credit)
       (Left site from scope scope stack spare credit (after_ops d v1).place br co) (IsBack site from)
       (eval site.context e w) (λ x w1. Gives Normal w1)
-      (expr_run scope inside e built ok l t st tn v stack fits (stands_front site.call.function.ops eo d v at) from
-      spare credit w lt z)
+      (expr_run site labelled scope inside e built uses ok l t st tn v stack fits
+      (stands_front site.call.function.ops eo d v at) from spare credit w lt z)
       (λ x w1 h. drop_run site scope inside from (has_value e) v1 stack spare credit x w1 h))
 
+  -- the same, from each place at which the machine comes to it
+  pub dropped_run : (scope : Scope) → Within scope site.named → (stack : List (ℕ × ℕ)) (e : Expr) → IsBuilt e →
+      UsesValues e → IsScoped scope e → (l t : ℕ) → site.named ≤ t → t + temps_in e ≤ site.size → (v : View) →
+      Fits site v stack → Stands site.call.function.ops (expr_ops site.addresses e l t) v →
+      (from : From) (spare credit : ℕ) (w : World) → from.units < site.context.turns →
+      At site from scope v.place stack spare credit 0 w →
+      Follows site.machine from
+      (λ x w1. At site from scope
+      (after_ops (dropping (has_value e)) (after_ops (expr_ops site.addresses e l t) v)).place stack spare credit 0 w1)
+      (IsBack site from) (eval site.context e w)
+  dropped_run scope inside stack e built uses ok l t st tn v fits at from spare credit w lt z =
+      let v1 = after_ops (expr_ops site.addresses e l t) v in
+      follows_less site.machine from (standing.Leaves (has_value e) site from scope v1 stack spare credit)
+      (λ x w1. At site from scope (after_ops (dropping (has_value e)) v1).place stack spare credit 0 w1)
+      (IsBack site from) (eval site.context e w)
+      (λ x w1 h. drop_run site scope inside from (has_value e) v1 stack spare credit x w1 h)
+      (expr_run site labelled scope inside e built uses ok l t st tn v stack fits at from spare credit w lt z)
+
   pub return_run : (scope : Scope) → Within scope site.named → (stack : List (ℕ × ℕ)) (e : Expr) → IsBuilt e →
+      UsesValues e → Leaves e →
       IsScoped scope e → (l t : ℕ) → site.named ≤ t → t + temps_in e ≤ site.size →
       (v : View) (e' : ℕ) (br co : Option ℕ) → Fits site v stack →
       Stands site.call.function.ops (expr_ops site.addresses e l t ++ build.Return ∷ []) v →
       Runs site scope scope stack (exec site.context (ReturnValue e)) v.place e' br co
   unfolding Runs
-  return_run scope inside stack e built ok l t st tn v e' br co fits at from spare credit w lt z =
+  return_run scope inside stack e built uses is ok l t st tn v e' br co fits at from spare credit w lt enough z =
       let code = site.call.function.ops in
       let eo = expr_ops site.addresses e l t in
       let v1 = after_ops eo v in
       let here = (stands_back code eo (build.Return ∷ []) v at).0.0 in
-      one_run site scope inside e (part_of scope e built (expr_run scope inside e built))
-      (built_value site.addresses e built) ok l t st tn v stack fits (stands_front code eo (build.Return ∷ []) v at)
-      from spare credit w lt z (Left site from scope scope stack spare credit e' br co) (λ x w1. Returns x w1)
+      one_run site scope inside e
+      (part_of site labelled scope inside e built uses (expr_run site labelled scope inside e built uses)) is ok l t st
+      tn v stack fits (stands_front code eo (build.Return ∷ []) v at) from spare credit w lt z
+      (Left site from scope scope stack spare credit e' br co) (λ x w1. Returns x w1)
       (λ x w1 fits1 h.
       let o1 = op.Return (top v1.operands) in
       record {
@@ -121,12 +134,13 @@ module _ (site : Site) where
         high = omega (arith, h.high);
       })
 
+module _ (site : Site) where
   pub variable_run : (scope : Scope) → Within scope site.named → (stack : List (ℕ × ℕ)) (i : ℕ) → i < site.named →
       (v : View) (br co : Option ℕ) → Fits site v stack →
       Stands site.call.function.ops (build.Const 0 ∷ build.SetVariable i ∷ build.Drop ∷ []) v →
       Runs site scope (update i true scope) stack (exec site.context (Variable i)) v.place (suc (suc v.place)) br co
   unfolding Runs
-  variable_run scope inside stack i small v br co fits at from spare credit w lt z =
+  variable_run scope inside stack i small v br co fits at from spare credit w lt enough z =
       let base = base_of site.bodies in
       let sn = site.few in
       let n = v.next in

@@ -1,19 +1,22 @@
 -- The builder takes an op, and what it makes of it is what its view says.
-use Rattle.std.proofs.Common.{◌≡◌, ℕ, ◌+◌, ◌-◌, ◌<◌, ◌≤◌, true, false, List, [], ◌∷◌, ◌++◌, length, Option, Some, None}
-use Rattle.std.proofs.Common.{refl, ap, ◌∙◌, arith}
+use Rattle.std.proofs.Common.{◌≡◌, ℕ, zero, suc, ◌+◌, ◌-◌, ◌<◌, ◌≤◌, true, false, List, [], ◌∷◌, ◌++◌, length, Option}
+use Rattle.std.proofs.Common.{Some, None, refl, ap, ◌∙◌, arith}
 use Rattle.std.specs.Prelude.{slice_index, slice_index_or, take, nat_le, ◌&&◌, if◌then◌else◌}
 use Rattle.std.proofs.lemmas.Bool.{le-leb, lt-ltb, le-ltb}
 use Rattle.icode_ir.specs.declared.body.Body.{Body}
 use Rattle.icode_ir.specs.declared.build_op.BuildOp.{BuildOp}
-use Rattle.icode_ir.specs.declared.build_op.BuildOp.TheVariants.{Const, Bin, GetVariable, SetVariable, Drop, Label}
-use Rattle.icode_ir.specs.declared.build_op.BuildOp.TheVariants.{Jump, BranchZero, Return, Sys}
+use Rattle.icode_ir.specs.declared.build_op.BuildOp.TheVariants.{Const, Bin, Un, GetVariable, SetVariable, Drop, Pick}
+use Rattle.icode_ir.specs.declared.build_op.BuildOp.TheVariants.{Label, Jump, BranchZero, BranchNonzero, Return}
+use Rattle.icode_ir.specs.declared.build_op.BuildOp.TheVariants.{ReturnZero, Sys}
 use Rattle.icode_ir.specs.declared.build_op.BuildFault.{BuildFault}
 use Rattle.icode_ir.specs.declared.build_op.BuildFault.TheVariants.{Underflow, BadLabel, BadVariable, Full}
 use Rattle.icode_ir.specs.Build.{Build, innermost, no_body, operand, variable, label, stands, add, yield}
 use Rattle.icode_ir.specs.Build as built
 use Rattle.icode_ir.specs.Rules.{needs, labelled, owned, has_room, fits, fault_of, effect}
-use Rattle.tick_lower_proof.proofs.Builder.{View, inner, top, below, issued, after_op}
-use Rattle.tick_lower_proof.proofs.Uprights.{upright, upright_length, last_is, front_is, second_is, front_two, take_all}
+use Rattle.limits.specs.declared.ops.TheConstants.{OP_LIMIT}
+use Rattle.tick_lower_proof.proofs.Builder.{View, inner, top, below, picked, issued, after_op}
+use Rattle.tick_lower_proof.proofs.Uprights.{upright, upright_length, last_is, front_is, under_is, second_is, front_two}
+use Rattle.tick_lower_proof.proofs.Uprights.{take_all}
 
 -- the view is the builder's
 pub record Matches (b : Build) (v : View) : Type 0 where
@@ -33,13 +36,17 @@ pub record Took (o : BuildOp) (b : Build) (v : View) : Type 0 where
 abbrev pub Takes : (n m : ℕ) → BuildOp → ℕ → Type 0
 Takes n m (Const word) h = Unit {0}
 Takes n m (Bin kind) h = 2 ≤ h
+Takes n m (Un kind) h = 1 ≤ h
 Takes n m (GetVariable i) h = i < n
 Takes n m (SetVariable i) h = (1 ≤ h) × (i < n)
 Takes n m Drop h = 1 ≤ h
+Takes n m (Pick i) h = i + 1 ≤ h
 Takes n m (Label i) h = i < m
 Takes n m (Jump i) h = i < m
 Takes n m (BranchZero i) h = (1 ≤ h) × (i < m)
+Takes n m (BranchNonzero i) h = (1 ≤ h) × (i < m)
 Takes n m Return h = 1 ≤ h
+Takes n m ReturnZero h = Unit {0}
 Takes n m (Sys kind) h = 1 ≤ h
 Takes n m _ h = ⊥
 
@@ -71,6 +78,17 @@ module _ (b : Build) (v : View) (is : Matches b v) where
   pub operand_top : 1 ≤ length v.operands → operand 0 b ≡ top v.operands
   operand_top le = ap (λ z. slice_index z (length z - 1)) is.operands ∙ top_of v.operands le
 
+  -- an operand that is so many below the top
+  picked_of : (i : ℕ) (xs : List ℕ) → i + 1 ≤ length xs →
+      slice_index (upright xs) (length (upright xs) - (i + 1)) ≡ picked i xs
+  picked_of i [] le = absurd (omega arith)
+  picked_of zero (r ∷ rs) le = last_is (upright rs) r 0
+  picked_of (suc i) (r ∷ rs) le =
+      under_is (upright rs) r 0 i (omega (arith, upright_length rs)) ∙ picked_of i rs (omega arith)
+
+  pub operand_picked : (i : ℕ) → i + 1 ≤ length v.operands → operand i b ≡ picked i v.operands
+  operand_picked i le = ap (λ z. slice_index z (length z - (i + 1))) is.operands ∙ picked_of i v.operands le
+
   pub operand_second : 2 ≤ length v.operands → operand 1 b ≡ top (below v.operands)
   operand_second le = ap (λ z. slice_index z (length z - 2)) is.operands ∙ second_of v.operands le
 
@@ -94,12 +112,12 @@ module _ (b : Build) (v : View) (is : Matches b v) where
   innermost_is = ap (λ z. slice_index_or z (length z - 1) no_body) is.bodies ∙ inner_of v.bodies
 
   -- the tests of a refusal
-  pub fits_ok : (more operands : ℕ) → v.place + more ≤ 196608 → operands ≤ 196608 → fits more operands b ≡ None
+  pub fits_ok : (more operands : ℕ) → v.place + more ≤ OP_LIMIT → operands ≤ OP_LIMIT → fits more operands b ≡ None
   fits_ok more operands few low =
-      let sum : length b.prelude + length b.ops + more ≤ 196608 = omega (arith, ap length is.prelude, is.place) in
+      let sum : length b.prelude + length b.ops + more ≤ OP_LIMIT = omega (arith, ap length is.prelude, is.place) in
       let room : has_room more operands b ≡ true =
-      ap (λ z. z && nat_le operands 196608) (le-leb (length b.prelude + length b.ops + more) 196608 sum) ∙
-      le-leb operands 196608 low in
+      ap (λ z. z && nat_le operands OP_LIMIT) (le-leb (length b.prelude + length b.ops + more) OP_LIMIT sum) ∙
+      le-leb operands OP_LIMIT low in
       ap (λ z. if z then None else Some Full) room
 
   pub needs_ok : (n : ℕ) (x : Option BuildFault) → n ≤ length v.operands → needs n b x ≡ x

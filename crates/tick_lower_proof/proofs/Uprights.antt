@@ -1,5 +1,6 @@
 -- The ends of a list, and lists that stand the other way up.
-use Rattle.std.proofs.Common.{◌≡◌, suc, ◌-◌, ◌<◌, ◌≤◌, List, [], ◌∷◌, ◌++◌, length, refl, ap, ◌∙◌, arith, length-append}
+use Rattle.std.proofs.Common.{◌≡◌, ℕ, suc, ◌+◌, ◌-◌, ◌<◌, ◌≤◌, List, [], ◌∷◌, ◌++◌, length, refl, ap, ◌∙◌, arith}
+use Rattle.std.proofs.Common.{length-append}
 use Rattle.std.specs.Prelude.{slice_index_or, take}
 use Rattle.std.proofs.Math.Seq.{get_or-append_seam, take-append_seam, take-length}
 use Rattle.std.proofs.lemmas.List.{get_or_append_left, take-append-le}
@@ -22,6 +23,14 @@ module _ {A : Type 0} (xs : List A) (x d : A) where
 
   pub last_is : slice_index_or (xs ++ x ∷ []) (length (xs ++ x ∷ []) - 1) d ≡ x
   last_is = ap (λ n. slice_index_or (xs ++ x ∷ []) n d) place_last ∙ get_or-append_seam xs x [] d
+
+  -- an element below the last
+  pub under_is : (i : ℕ) → i + 1 ≤ length xs →
+      slice_index_or (xs ++ x ∷ []) (length (xs ++ x ∷ []) - (suc i + 1)) d ≡ slice_index_or xs (length xs - (i + 1)) d
+  under_is i le =
+      let at : length (xs ++ x ∷ []) - (suc i + 1) ≡ length xs - (i + 1) = omega (arith, one_more xs x) in
+      let inside : length xs - (i + 1) < length xs = omega (arith, le) in
+      ap (λ n. slice_index_or (xs ++ x ∷ []) n d) at ∙ get_or_append_left xs (x ∷ []) d (length xs - (i + 1)) inside
 
   pub front_is : take (length (xs ++ x ∷ []) - 1) (xs ++ x ∷ []) ≡ xs
   front_is = ap (λ n. take n (xs ++ x ∷ [])) place_last ∙ take-append_seam xs (x ∷ [])

@@ -1,5 +1,6 @@
 -- What it is to follow a statement, and the ways through statements: labels, jumps, tests, one after another.
-use Rattle.std.proofs.Common.{◌≡◌, ℕ, zero, suc, ◌+◌, ◌<◌, List, ◌∷◌, Option, Some, None, true, refl, ap, subst, arith}
+use Rattle.std.proofs.Common.{◌≡◌, ℕ, zero, suc, ◌+◌, ◌<◌, ◌≤◌, List, ◌∷◌, Option, Some, None, true, refl, ap, subst}
+use Rattle.std.proofs.Common.{arith}
 use Rattle.std.specs.Prelude.{slice_get, ◌&&◌}
 use Rattle.icode_ops.specs.declared.op.Op.{Op}
 use Rattle.icode_ops.specs.declared.op.Op.TheVariants as op
@@ -15,10 +16,11 @@ use Rattle.tick_lower_proof.proofs.Standing.{Site, At, IsBack, at_less, at_narro
 pub record Labelled (code : List Op) : Type 0 where
   pub at : (p l : ℕ) → slice_get code p ≡ Some (op.Label l) → label_index l code ≡ p
 
--- a break or a continue, outside of which there is no loop, comes to no place; in one the turn's unit is paid for
+-- a break or a continue, outside of which there is no loop, comes to no place; in one an instruction is spare for the
+-- turn's unit
 abbrev pub LeftAt : Site → From → Scope → List (ℕ × ℕ) → Option ℕ → World → Type 0
 LeftAt site from scope stack None w = ⊥
-LeftAt site from scope stack (Some place) w = At site from scope place stack 1 0 16 w
+LeftAt site from scope stack (Some place) w = At site from scope place stack 1 0 0 w
 
 -- a statement was left: by its end, where more variables may be in scope, or to the loop's end, or to its next turn
 abbrev pub Left : Site → From → (scope scope' : Scope) → List (ℕ × ℕ) → (spare credit on_end : ℕ) →
@@ -30,11 +32,12 @@ Left site from scope scope' stack spare credit on_end on_break on_continue Broke
 Left site from scope scope' stack spare credit on_end on_break on_continue Continued w =
     LeftAt site from scope stack on_continue w
 
--- a statement's way, from each place at which the machine comes to its first op
+-- A statement's way, from each place at which the machine comes to its first op with 16 instructions over: a break and
+-- a continue pay their jumps from these.
 unfoldable pub Runs : Site → (scope scope' : Scope) → List (ℕ × ℕ) → (World → Result Flow) → (p e : ℕ) →
     (br co : Option ℕ) → Type 0
 Runs site scope scope' stack act p e br co =
-    (from : From) (spare credit : ℕ) (w : World) → from.units < site.context.turns →
+    (from : From) (spare credit : ℕ) (w : World) → from.units < site.context.turns → 16 ≤ credit →
     At site from scope p stack spare credit 0 w →
     Follows site.machine from (Left site from scope scope' stack spare credit e br co) (IsBack site from) (act w)
 
@@ -98,6 +101,28 @@ module _ (site : Site) (from : From) where
         high = omega (arith, z.high);
       }
 
+  -- a branch behind a value, to label l where it is not 0
+  pub tested_last : (scope : Scope) (p l a : ℕ) (stack : List (ℕ × ℕ)) (spare credit x : ℕ) (w : World) →
+      slice_get site.call.function.ops p ≡ Some (op.BranchNonzero a l) →
+      At site from scope p ((a, x) ∷ stack) (spare + 1) (credit + 128) 0 w →
+      At site from scope (branch x (suc p) (label_index l site.call.function.ops)) stack (spare + 4) (credit + 120) 0 w
+  tested_last scope p l a stack spare credit x w here z =
+      let o = op.BranchNonzero a l in
+      let code = site.call.function.ops in
+      record {
+        regs = z.regs;
+        log = paid o z.log;
+        goes = subst (λ y. Goes site.machine from.state
+            (at_op site.call (branch y (suc p) (label_index l code)) z.regs (paid o z.log))) z.held.0.value
+            (then_op site.call p z.regs z.log o z.goes here (ap (λ b. b && true) z.held.0.on));
+        vars = z.vars;
+        held = z.held.1;
+        shared_is = z.shared_is;
+        fewer = z.fewer;
+        low = omega (arith, z.low);
+        high = omega (arith, z.high);
+      }
+
   -- one of two ways, by a value
   pub choose : {A : Type 0} (scope : Scope) (Q : A → World → Type 0) (p l a : ℕ) (stack : List (ℕ × ℕ))
       (spare credit : ℕ) → slice_get site.call.function.ops p ≡ Some (op.BranchZero a l) → (X Y : World → Result A) →
@@ -113,10 +138,10 @@ module _ (site : Site) (from : From) where
       on_other w1 (tested scope p l a stack spare credit (suc x) w1 here z)
 
   -- a break or a continue is seen from a wider scope
-  left_at : (xs ys : Scope) → ((i : ℕ) → ys i ≡ true → xs i ≡ true) →
+  pub left_at : (xs ys : Scope) → ((i : ℕ) → ys i ≡ true → xs i ≡ true) →
       (stack : List (ℕ × ℕ)) (to : Option ℕ) (w : World) → LeftAt site from xs stack to w → LeftAt site from ys stack to w
   left_at xs ys wider stack None w h = h
-  left_at xs ys wider stack (Some place) w h = at_narrow site from xs ys place stack 1 0 16 w wider h
+  left_at xs ys wider stack (Some place) w h = at_narrow site from xs ys place stack 1 0 0 w wider h
 
   pub left_on : (xs xs' ys ys' : Scope) → ((i : ℕ) → ys i ≡ true → xs i ≡ true) →
       (stack : List (ℕ × ℕ)) (spare credit spare' credit' e e' : ℕ) (br co : Option ℕ) →
@@ -135,33 +160,34 @@ module _ (site : Site) (from later : From) (lead rest : ℕ) (l : Later site.mac
       LeftAt site from scope stack to w
   at_before scope stack None w h = h
   at_before scope stack (Some place) w h =
-      at_less site from scope place stack (lead + 1) (rest + 0) 16 1 0 16 w (omega arith) (omega arith)
-      (at_from site from later lead rest l scope place stack 1 0 16 w h)
+      at_less site from scope place stack (lead + 1) (rest + 0) 0 1 0 0 w (omega arith) (omega arith)
+      (at_from site from later lead rest l scope place stack 1 0 0 w h)
 
-  pub left_before : (xs xs' : Scope) (stack : List (ℕ × ℕ)) (e : ℕ) (br co : Option ℕ) (fl : Flow) (w : World) →
-      Left site later xs xs' stack 0 0 e br co fl w → Left site from xs xs' stack lead rest e br co fl w
-  left_before xs xs' stack e br co Normal w h =
-      at_less site from xs' e stack (lead + 0) (rest + 0) 0 lead rest 0 w (omega arith) (omega arith)
-      (at_from site from later lead rest l xs' e stack 0 0 0 w h)
-  left_before xs xs' stack e br co Broke w h = at_before xs stack br w h
-  left_before xs xs' stack e br co Continued w h = at_before xs stack co w h
+  pub left_before : (xs xs' : Scope) (stack : List (ℕ × ℕ)) (more credit e : ℕ) (br co : Option ℕ) →
+      credit ≤ rest + more → (fl : Flow) (w : World) → Left site later xs xs' stack 0 more e br co fl w →
+      Left site from xs xs' stack lead credit e br co fl w
+  left_before xs xs' stack more credit e br co le Normal w h =
+      at_less site from xs' e stack (lead + 0) (rest + more) 0 lead credit 0 w (omega arith) (omega arith)
+      (at_from site from later lead rest l xs' e stack 0 more 0 w h)
+  left_before xs xs' stack more credit e br co le Broke w h = at_before xs stack br w h
+  left_before xs xs' stack more credit e br co le Continued w h = at_before xs stack co w h
 
 module _ (site : Site) (stack : List (ℕ × ℕ)) where
   -- nothing is done
   pub stay_run : (scope : Scope) (p : ℕ) (br co : Option ℕ) →
       Runs site scope scope stack (λ w. Gives Normal w) p p br co
   unfolding Runs
-  stay_run scope p br co from spare credit w lt z = z
+  stay_run scope p br co from spare credit w lt enough z = z
 
   -- one item after another
   pub items_next : (xs ys zs : Scope) → ((i : ℕ) → xs i ≡ true → ys i ≡ true) →
       (act next : World → Result Flow) (p e e' : ℕ) (br co : Option ℕ) → Runs site xs ys stack act p e br co →
       Runs site ys zs stack next e e' br co → Runs site xs zs stack (λ w. then_do (act w) (then_next next)) p e' br co
   unfolding Runs
-  items_next xs ys zs wider act next p e e' br co first rest from spare credit w lt z =
+  items_next xs ys zs wider act next p e e' br co first rest from spare credit w lt enough z =
       follows_then site.machine from (Left site from xs ys stack spare credit e br co)
       (Left site from xs zs stack spare credit e' br co) (IsBack site from) (act w) (then_next next)
-      (first from spare credit w lt z) on_flow
+      (first from spare credit w lt enough z) on_flow
     where
       on_flow : (fl : Flow) (w1 : World) → Left site from xs ys stack spare credit e br co fl w1 →
           Follows site.machine from (Left site from xs zs stack spare credit e' br co) (IsBack site from)
@@ -170,7 +196,7 @@ module _ (site : Site) (stack : List (ℕ × ℕ)) where
           follows_less site.machine from (Left site from ys zs stack spare credit e' br co)
           (Left site from xs zs stack spare credit e' br co) (IsBack site from) (next w1)
           (left_on site from ys zs xs zs wider stack spare credit spare credit e' e' br co (λ w2 y. y))
-          (rest from spare credit w1 lt h)
+          (rest from spare credit w1 lt enough h)
       on_flow Broke w1 h = h
       on_flow Continued w1 h = h
 
@@ -179,8 +205,8 @@ module _ (site : Site) (stack : List (ℕ × ℕ)) where
       (act : World → Result Flow) (p e : ℕ) (br co : Option ℕ) → Runs site xs ys stack act p e br co →
       Runs site xs xs stack act p e br co
   unfolding Runs
-  narrow_run xs ys wider act p e br co runs from spare credit w lt z =
+  narrow_run xs ys wider act p e br co runs from spare credit w lt enough z =
       follows_less site.machine from (Left site from xs ys stack spare credit e br co)
       (Left site from xs xs stack spare credit e br co) (IsBack site from) (act w)
       (left_on site from xs ys xs xs (λ i x. x) stack spare credit spare credit e e br co
-      (λ w1 y. at_narrow site from ys xs e stack spare credit 0 w1 wider y)) (runs from spare credit w lt z)
+      (λ w1 y. at_narrow site from ys xs e stack spare credit 0 w1 wider y)) (runs from spare credit w lt enough z)

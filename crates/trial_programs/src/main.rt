@@ -1,5 +1,6 @@
 //! Programs under `run`, and under `build` and then `exec`: of both the status and what was written, a line each. Before
-//! each program stands a line `%% STEPS`, with the most instructions of each run.
+//! each program stands a line `%% STEPS INPUT`, with the most instructions of each run and the bytes that it may read,
+//! without blanks; where there are none the line is `%% STEPS`.
 #![tactic(auto)]
 
 use host_edge::{MemSink, MemSource, MemStore};
@@ -38,8 +39,13 @@ struct Seen {
     err: Vec<u8>,
 }
 
-fn call(alloc: Global, words: &[String], store: &mut MemStore) -> Result<Seen, AllocError> {
-    let mut input = MemSource::new(alloc, b"", &[])?;
+fn call(
+    alloc: Global,
+    words: &[String],
+    store: &mut MemStore,
+    given: &[u8],
+) -> Result<Seen, AllocError> {
+    let mut input = MemSource::new(alloc, given, &[])?;
     let mut out = MemSink::new(alloc, ROOM, &[])?;
     let mut err = MemSink::new(alloc, ROOM, &[])?;
     let ended = tick(alloc, words, store, &mut input, &mut out, &mut err)?;
@@ -57,25 +63,31 @@ fn show<R: Print + AllocGlobal>(rt: &R, name: &str, seen: &Seen) -> io::Result<(
 }
 
 // A program under `run`, and under `build` and then `exec`, on a store of its own.
-fn report<R: Print + AllocGlobal>(rt: &R, steps: &str, text: &[u8]) -> io::Result<()> {
+fn report<R: Print + AllocGlobal>(rt: &R, head: &[u8], text: &[u8]) -> io::Result<()> {
     let alloc = rt.alloc();
+    let mut words = head.split(|b| *b == b' ');
+    let steps = str::from_utf8(words.next().unwrap_or(b"")).unwrap_or("?");
+    let given = words.next().unwrap_or(b"");
     let mut store = MemStore::new(alloc, &[])?;
     store.put("text", text)?;
     let ran = call(
         alloc,
         &words_of(alloc, "tick run", steps, "text")?,
         &mut store,
+        given,
     )?;
     show(rt, "run", &ran)?;
     call(
         alloc,
         &words_of(alloc, "tick build text image", "", "")?,
         &mut store,
+        b"",
     )?;
     let executed = call(
         alloc,
         &words_of(alloc, "tick exec", steps, "image")?,
         &mut store,
+        given,
     )?;
     show(rt, "exec", &executed)
 }
@@ -83,19 +95,19 @@ fn report<R: Print + AllocGlobal>(rt: &R, steps: &str, text: &[u8]) -> io::Resul
 fn main(rt: HostRuntime) -> io::Result<()> {
     let mut cases = Vec::new(rt.alloc());
     rt.reader().read_to_end(&mut cases)?;
-    let mut steps: &[u8] = b"";
+    let mut head: &[u8] = b"";
     let mut text = Vec::new(rt.alloc());
     for line in cases.split(|b| *b == b'\n') {
         if let Some(next) = line.strip_prefix(b"%% ") {
             if !text.is_empty() {
-                report(&rt, str::from_utf8(steps).unwrap_or("?"), &text)?;
+                report(&rt, head, &text)?;
             }
-            steps = next;
+            head = next;
             text.clear();
         } else {
             text.extend_from_slice(line)?;
             text.push(b'\n')?;
         }
     }
-    report(&rt, str::from_utf8(steps).unwrap_or("?"), &text)
+    report(&rt, head, &text)
 }

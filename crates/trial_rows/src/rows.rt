@@ -76,7 +76,7 @@ fn other_texts_are_refused(rt: HostRuntime) -> Result<(), Fail> {
     let unbuilt = seen_after(
         rt.alloc(),
         "tick run text",
-        "int main(){return getchar();}",
+        "int g;int main(){return g;}",
         &[],
     )?;
     assert_eq!(rt; unbuilt.status, 65);

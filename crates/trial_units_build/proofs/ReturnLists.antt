@@ -26,8 +26,15 @@ static_return f h =
     let body : stmt_view f.body ≡ node.ReturnValue (node.Const 3) =
     ap stmt_view h.0 ∙ stmt_view_returnvalue (e.Const 3) ∙ ap node.ReturnValue (view_const 3) in
     subst (λ b. IsStatic (with_body f b)) (sym body) (record {
-      ready = record { built = tt; scoped = tt; small = lit≤ tt; dense = lit≤ tt };
-      served = lit< tt;
+      ready = record {
+        built = tt;
+        scoped = tt;
+        values = (refl, tt);
+        placed = tt;
+        small = lit≤ tt;
+        dense = lit≤ tt;
+      };
+      words = lit< tt;
       plain = h.2;
       few = omega (arith, h.1);
     })

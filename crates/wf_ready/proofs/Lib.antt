@@ -1,3 +1,5 @@
 pub mod Calls
 pub mod Scoped
 pub mod Dense
+pub mod Used
+pub mod Placed

@@ -3,7 +3,8 @@
 
 ghost use Rattle.wf_ready.specs.Laws.{FunctionsAreReady, CallsAreCounted};
 
-/// That a function of an accepted text uses variables in their scope, has at most 16,384 nodes, and numbers its variables below their
+/// That a function of an accepted text uses variables in their scope and values that are left, that its breaks, continues
+/// and labels stand where they may, that it has at most 16,384 nodes, and that it numbers its variables below their
 /// count: so it is ready for the lowering once its nodes are of the kinds that are built.
 pub fn functions_are_ready()
     ensures { FunctionsAreReady }

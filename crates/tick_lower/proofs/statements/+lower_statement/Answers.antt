@@ -1,175 +1,577 @@
-use Rattle.std.proofs.Common.{rules, ◌≡◌, ◌+◌, map, ap, ◌∙◌, arith}
+use Rattle.std.proofs.Common.{rules, ◌≡◌, ◌+◌, ◌<◌, ◌≤◌, length, refl, ap, sym, subst, ◌∙◌, arith}
 use Rattle.std.proofs.lemmas.Result.{on_ok_weaker}
-use Rattle.typed_tree.specs.declared.expression.Stmt.{the_lemmas}
-use Rattle.staged_meaning.specs.Size.{labels, labels_of}
-use Rattle.typed_tree.specs.View.{stmt_view, items_of}
-use Rattle.tick_lower.proofs.Stmts.{block_built, if_built, choice_built, while_built, block_labels, if_labels}
-use Rattle.tick_lower.proofs.Stmts.{choice_labels, while_labels, same_built, same_items_built, block_ops, if_ops}
-use Rattle.tick_lower.proofs.Stmts.{choice_ops, while_ops, of_loop}
+use Rattle.typed_tree.specs.declared.expression.Stmt.{size-Stmt, the_lemmas}
+use Rattle.tick_lower_proof.specs.Lower.{Targets}
+use Rattle.tick_lower.specs.declared.ops.Exits.{Exits}
+use Rattle.tick_lower.specs.Steps.{FitItems, add_switch, targets_of}
+use Rattle.tick_lower.proofs.Exprs.{anywhere}
+use Rattle.tick_lower.proofs.Fits.{label_past, variable_past}
+use Rattle.tick_lower.proofs.StmtFits.{eval_fits, answer_fits, block_fits, block_fits_behind, if_fits, choice_fits}
+use Rattle.tick_lower.proofs.StmtFits.{while_fits, do_fits, for_fits, for_step_fits, switch_fits, variables_fit}
+use Rattle.tick_lower.proofs.StmtFits.{items_fit, stmt_labels, stmt_temps}
+use Rattle.tick_lower.proofs.StmtSeen.{eval_seen, answer_seen, block_seen, variable_seen, break_seen, continue_seen}
+use Rattle.tick_lower.proofs.StmtSeen.{return_seen, case_seen, default_seen, if_seen, choice_seen, while_seen, do_seen}
+use Rattle.tick_lower.proofs.StmtSeen.{for_seen, for_step_seen, switch_seen, view_of}
+use Rattle.tick_lower.proofs.Made.{if_made, choice_made, while_made, do_made, for_made, for_step_made, switch_made}
+use Rattle.tick_lower.proofs.Made.{two_labels}
+use Rattle.tick_lower.proofs.Items.{this_fits, others_fit_behind, one_done, one_tested, one_named, none_left}
+use Rattle.tick_lower.proofs.Items.{none_untested, none_unnamed}
 use Rattle.tick_lower.proofs.statements.+lower_statement.Goals as goal
+
+pub lower_statement-lower_effect-requires : goal.lower_statement-lower_effect-requires
+lower_statement-lower_effect-requires t c =
+    eval_fits _ _ c.requires _ _ c.in-Eval.is c.get.ensures
+
+pub lower_statement-lower_then-requires : goal.lower_statement-lower_then-requires
+lower_statement-lower_then-requires t c =
+    answer_fits _ _ c.requires _ _ c.in-ReturnValue.is c.get-in-ReturnValue.ensures
 
 pub lower_statement-lower_statements-requires : goal.lower_statement-lower_statements-requires
 lower_statement-lower_statements-requires t c = (
   search (rules, the_lemmas),
-  (
-    same_items_built _ _ c.as_slice.ensures (block_built _ _ _ c.in-Block.is c.requires.built).0,
-    omega (
-      arith,
-      c.requires.room,
-      block_labels _ _ _ c.in-Block.is,
-      ap (λ z. labels_of (items_of (map stmt_view z))) c.as_slice.ensures,
-    ),
-  ),
+  block_fits _ _ c.requires _ _ _ c.in-Block.is c.as_slice.ensures,
 )
 
 pub lower_statement-lower_statements-requires-in-Block : goal.lower_statement-lower_statements-requires-in-Block
 lower_statement-lower_statements-requires-in-Block t c = (
   search (rules, the_lemmas),
-  (
-    same_items_built _ _ c.as_slice-in-Block.ensures (block_built _ _ _ c.in-Block.is c.requires.built).1,
-    omega (
-      arith,
-      c.requires.room,
-      block_labels _ _ _ c.in-Block.is,
-      c.in_ok-lower_statements-in-Block.ensures.label,
-      ap (λ z. labels_of (items_of (map stmt_view z))) c.as_slice.ensures,
-      ap (λ z. labels_of (items_of (map stmt_view z))) c.as_slice-in-Block.ensures,
-    ),
-  ),
+  block_fits_behind _ _ c.requires (targets_of c.args.exits) _ _ _ _ _ c.in-Block.is c.as_slice.ensures
+      c.as_slice-in-Block.ensures c.in_ok-lower_statements-in-Block.ensures,
 )
 
-pub lower_statement-lower_statement-requires : goal.lower_statement-lower_statement-requires
-lower_statement-lower_statement-requires t c = (
-  search (rules, the_lemmas),
-  (
-    same_built _ _ c.get.ensures (if_built _ _ _ c.in-If.is c.requires.built).1,
-    omega (
-      arith,
-      c.requires.room,
-      if_labels _ _ _ c.in-If.is,
-      ap (λ o. o.label) c.take_label-past.ensures.next,
-      c.in_ok-lower_then-in-If.ensures.label,
-      ap (λ z. labels (stmt_view z)) c.get.ensures,
-    ),
-  ),
-)
+pub lower_statement-lower_if-requires : goal.lower_statement-lower_if-requires
+lower_statement-lower_if-requires t c =
+    let s0 : size-Stmt c.get-in-If-2.result.now < size-Stmt c.args.s.now = search (rules, the_lemmas) in (
+      omega (arith, s0, c.decreases),
+      if_fits _ _ c.requires _ _ _ _ c.in-If.is c.get-in-If.ensures c.get-in-If-2.ensures,
+    )
 
-pub lower_statement-lower_statement-requires-in-IfElse : goal.lower_statement-lower_statement-requires-in-IfElse
-lower_statement-lower_statement-requires-in-IfElse t c = (
-  search (rules, the_lemmas),
-  (
-    same_built _ _ c.get-in-IfElse.ensures (choice_built _ _ _ _ c.in-IfElse.is c.requires.built).1,
-    omega (
-      arith,
-      c.requires.room,
-      choice_labels _ _ _ _ c.in-IfElse.is,
-      ap (λ o. o.label) c.take_label-zero.ensures.next,
-      ap (λ o. o.label) c.take_label-end.ensures.next,
-      c.in_ok-lower_then-in-IfElse.ensures.label,
-      ap (λ z. labels (stmt_view z)) c.get-in-IfElse.ensures,
-    ),
-  ),
-)
+pub lower_statement-lower_if_else-requires : goal.lower_statement-lower_if_else-requires
+lower_statement-lower_if_else-requires t c =
+    let s0 : size-Stmt c.get-in-IfElse-2.result.now < size-Stmt c.args.s.now = search (rules, the_lemmas) in
+    let s1 : size-Stmt c.get-in-IfElse-3.result.now < size-Stmt c.args.s.now = search (rules, the_lemmas) in (
+      omega (arith, s0, s1, c.decreases),
+      choice_fits _ _ c.requires _ _ _ _ _ _ c.in-IfElse.is c.get-in-IfElse.ensures c.get-in-IfElse-2.ensures
+          c.get-in-IfElse-3.ensures,
+    )
 
-pub lower_statement-lower_statement-requires-in-IfElse-2 : goal.lower_statement-lower_statement-requires-in-IfElse-2
-lower_statement-lower_statement-requires-in-IfElse-2 t c = (
-  search (rules, the_lemmas),
-  (
-    same_built _ _ c.get-in-IfElse-2.ensures (choice_built _ _ _ _ c.in-IfElse.is c.requires.built).2,
-    omega (
-      arith,
-      c.requires.room,
-      choice_labels _ _ _ _ c.in-IfElse.is,
-      ap (λ o. o.label) c.take_label-zero.ensures.next,
-      ap (λ o. o.label) c.take_label-end.ensures.next,
-      c.in_ok-lower_then-in-IfElse.ensures.label,
-      c.in_ok-lower_statement-in-IfElse.ensures.label,
-      ap (λ o. o.label) c.in_ok-push_turn-in-IfElse.ensures,
-      ap (λ z. labels (stmt_view z)) c.get-in-IfElse.ensures,
-      ap (λ z. labels (stmt_view z)) c.get-in-IfElse-2.ensures,
-    ),
-  ),
-)
+pub lower_statement-lower_while-requires : goal.lower_statement-lower_while-requires
+lower_statement-lower_while-requires t c =
+    let s0 : size-Stmt c.get-in-While-2.result.now < size-Stmt c.args.s.now = search (rules, the_lemmas) in (
+      omega (arith, s0, c.decreases),
+      while_fits _ _ c.requires _ _ _ _ c.in-While.is c.get-in-While.ensures c.get-in-While-2.ensures,
+    )
 
-pub lower_statement-lower_statement-requires-in-While : goal.lower_statement-lower_statement-requires-in-While
-lower_statement-lower_statement-requires-in-While t c = (
-  search (rules, the_lemmas),
-  (
-    same_built _ _ c.get-in-While.ensures (while_built _ _ _ c.in-While.is c.requires.built).1,
-    omega (
-      arith,
-      c.requires.room,
-      while_labels _ _ _ c.in-While.is,
-      ap (λ o. o.label) c.take_label-end-in-While.ensures.next,
-      ap (λ o. o.label) c.take_label-start.ensures.next,
-      ap (λ o. o.label) c.in_ok-push-in-While.ensures,
-      c.in_ok-lower_then-in-While.ensures.label,
-      ap (λ z. labels (stmt_view z)) c.get-in-While.ensures,
-    ),
-  ),
-)
+pub lower_statement-lower_do-requires : goal.lower_statement-lower_do-requires
+lower_statement-lower_do-requires t c =
+    let s0 : size-Stmt c.get-in-Do.result.now < size-Stmt c.args.s.now = search (rules, the_lemmas) in (
+      omega (arith, s0, c.decreases),
+      do_fits _ _ c.requires _ _ _ _ c.in-Do.is c.get-in-Do.ensures c.get-in-Do-2.ensures,
+    )
 
-pub lower_statement-returns-in_ok-lower_statements-in-Block-clause-ops :
-    goal.lower_statement-returns-in_ok-lower_statements-in-Block-clause-ops
-lower_statement-returns-in_ok-lower_statements-in-Block-clause-ops t c =
+pub lower_statement-lower_for-requires : goal.lower_statement-lower_for-requires
+lower_statement-lower_for-requires t c =
+    let s0 : size-Stmt c.get-in-For-2.result.now < size-Stmt c.args.s.now = search (rules, the_lemmas) in (
+      omega (arith, s0, c.decreases),
+      for_fits _ _ c.requires _ _ _ _ c.in-For.is c.get-in-For.ensures c.get-in-For-2.ensures,
+    )
+
+pub lower_statement-lower_for_step-requires : goal.lower_statement-lower_for_step-requires
+lower_statement-lower_for_step-requires t c =
+    let s0 : size-Stmt c.get-in-ForStep-3.result.now < size-Stmt c.args.s.now = search (rules, the_lemmas) in (
+      omega (arith, s0, c.decreases),
+      for_step_fits _ _ c.requires _ _ _ _ _ _ c.in-ForStep.is c.get-in-ForStep.ensures
+          c.get-in-ForStep-2.ensures c.get-in-ForStep-3.ensures,
+    )
+
+pub lower_statement-lower_selector-requires : goal.lower_statement-lower_selector-requires
+lower_statement-lower_selector-requires t c =
+    let whole
+    = switch_fits _ _ c.requires _ _ _ _ _ _ c.in-Switch.is c.get-in-Switch.ensures refl refl in
+    record {
+      built = whole.built.0;
+      labels = omega (arith, whole.labels);
+      variables = omega (arith, whole.variables);
+    }
+
+pub lower_statement-lower_statements-requires-in-Switch : goal.lower_statement-lower_statements-requires-in-Switch
+lower_statement-lower_statements-requires-in-Switch t c =
+    let whole
+    = switch_fits _ _ c.requires _ _ _ _ _ _ c.in-Switch.is c.get-in-Switch.ensures
+    c.as_slice-in-Switch.ensures refl in (
+      search (rules, the_lemmas),
+      variables_fit _ _ _ (targets_of c.args.exits) _ _ whole c.in_ok-selector-in-Switch.ensures.ops,
+    )
+
+pub lower_statement-lower_switch-requires : goal.lower_statement-lower_switch-requires
+lower_statement-lower_switch-requires t c =
+    let whole
+    = switch_fits _ _ c.requires _ _ _ _ _ _ c.in-Switch.is c.get-in-Switch.ensures c.as_slice-in-Switch.ensures
+    c.as_slice-in-Switch-2.ensures in (
+      search (rules, the_lemmas),
+      items_fit _ _ _ (targets_of c.args.exits) _ _ whole c.in_ok-selector-in-Switch.ensures.ops _
+          c.in_ok-lower_statements-in-Switch.ensures,
+    )
+
+pub lower_statement-returns-in-Eval : goal.lower_statement-returns-in-Eval
+lower_statement-returns-in-Eval t c =
+    on_ok_weaker c.lower_effect.result (λ made d. eval_seen d (targets_of c.args.exits) _ _ _ _ _ c.in-Eval.is
+    c.get.ensures (made d))
+    c.lower_effect.ensures
+
+pub lower_statement-returns-in-ReturnValue : goal.lower_statement-returns-in-ReturnValue
+lower_statement-returns-in-ReturnValue t c =
+    on_ok_weaker c.lower_then.result (λ made d. answer_seen d (targets_of c.args.exits) _ _ _ _ _ c.in-ReturnValue.is
+    c.get-in-ReturnValue.ensures (made d))
+    c.lower_then.ensures
+
+pub lower_statement-returns-in-Variable : goal.lower_statement-returns-in-Variable
+lower_statement-returns-in-Variable t c =
+    on_ok_weaker c.push_zero.result (λ made d. variable_seen d (targets_of c.args.exits) _ _ _ _ c.in-Variable.is made)
+    c.push_zero.ensures
+
+pub lower_statement-returns-in_ok-lower_statements-in-Block :
+    goal.lower_statement-returns-in_ok-lower_statements-in-Block
+lower_statement-returns-in_ok-lower_statements-in-Block t c =
     on_ok_weaker c.lower_statements-in-Block.result
-    (λ made d to. block_ops d to _ _ _ _ _ _ _ _ _ _ _ _ c.in-Block.is c.as_slice.ensures c.as_slice-in-Block.ensures
-    (c.in_ok-lower_statements-in-Block.ensures.ops d to) c.in_ok-lower_statements-in-Block.ensures.label
-    c.in_ok-lower_statements-in-Block.ensures.variable
-    (made d to))
-    c.lower_statements-in-Block.ensures.ops
+    (λ made d. block_seen d (targets_of c.args.exits) _ _ _ _ _ _ _ _ c.in-Block.is c.as_slice.ensures
+    c.as_slice-in-Block.ensures (c.in_ok-lower_statements-in-Block.ensures d) (made d))
+    c.lower_statements-in-Block.ensures
 
-pub lower_statement-returns-in_ok-lower_statement-in-If-clause-ops :
-    goal.lower_statement-returns-in_ok-lower_statement-in-If-clause-ops
-lower_statement-returns-in_ok-lower_statement-in-If-clause-ops t c =
-    let next = c.take_label-past.ensures.next in
-    let tested = c.in_ok-lower_then-in-If.ensures in
-    on_ok_weaker c.push.result
-    (λ made d to. ap (λ o. o.list) made ∙ if_ops d to _ _ _ _ _ _ _ _ _ _ _ _ _ _ _ c.in-If.is c.get.ensures
-    c.take_label-past.ensures.label (ap (λ o. o.label) next) (ap (λ o. o.variable) next) (ap (λ o. o.list) next)
-    (tested.ops d) tested.label tested.variable (c.in_ok-lower_statement-in-If.ensures.ops d to))
+pub lower_statement-returns-in-If : goal.lower_statement-returns-in-If
+lower_statement-returns-in-If t c =
+    on_ok_weaker c.lower_if.result (λ made d. if_seen d (targets_of c.args.exits) _ _ _ _ _ _ _ c.in-If.is
+    c.get-in-If.ensures c.get-in-If-2.ensures (made d))
+    c.lower_if.ensures
+
+pub lower_statement-returns-in-IfElse : goal.lower_statement-returns-in-IfElse
+lower_statement-returns-in-IfElse t c =
+    on_ok_weaker c.lower_if_else.result (λ made d. choice_seen d (targets_of c.args.exits) _ _ _ _ _ _ _ _ _
+    c.in-IfElse.is c.get-in-IfElse.ensures
+    c.get-in-IfElse-2.ensures c.get-in-IfElse-3.ensures (made d))
+    c.lower_if_else.ensures
+
+pub lower_statement-returns-in-While : goal.lower_statement-returns-in-While
+lower_statement-returns-in-While t c =
+    on_ok_weaker c.lower_while.result (λ made d. while_seen d (targets_of c.args.exits) _ _ _ _ _ _ _ c.in-While.is
+    c.get-in-While.ensures
+    c.get-in-While-2.ensures (made d (targets_of c.args.exits)))
+    c.lower_while.ensures
+
+pub lower_statement-returns-in-Do : goal.lower_statement-returns-in-Do
+lower_statement-returns-in-Do t c =
+    on_ok_weaker c.lower_do.result (λ made d. do_seen d (targets_of c.args.exits) _ _ _ _ _ _ _ c.in-Do.is
+    c.get-in-Do.ensures
+    c.get-in-Do-2.ensures (made d (targets_of c.args.exits)))
+    c.lower_do.ensures
+
+pub lower_statement-returns-in-For : goal.lower_statement-returns-in-For
+lower_statement-returns-in-For t c =
+    on_ok_weaker c.lower_for.result (λ made d. for_seen d (targets_of c.args.exits) _ _ _ _ _ _ _ c.in-For.is
+    c.get-in-For.ensures
+    c.get-in-For-2.ensures (made d (targets_of c.args.exits)))
+    c.lower_for.ensures
+
+pub lower_statement-returns-in-ForStep : goal.lower_statement-returns-in-ForStep
+lower_statement-returns-in-ForStep t c =
+    on_ok_weaker c.lower_for_step.result (λ made d. for_step_seen d (targets_of c.args.exits) _ _ _ _ _ _ _ _ _
+    c.in-ForStep.is c.get-in-ForStep.ensures
+    c.get-in-ForStep-2.ensures c.get-in-ForStep-3.ensures (made d (targets_of c.args.exits)))
+    c.lower_for_step.ensures
+
+pub lower_statement-returns-in_ok-lower_statements-in-Switch :
+    goal.lower_statement-returns-in_ok-lower_statements-in-Switch
+lower_statement-returns-in_ok-lower_statements-in-Switch t c =
+    on_ok_weaker c.lower_switch.result
+    (λ made d. switch_seen d (targets_of c.args.exits) _ _ _ _ _ _ _ _ _ _ _ c.in-Switch.is c.get-in-Switch.ensures
+    c.as_slice-in-Switch.ensures c.as_slice-in-Switch-2.ensures (c.in_ok-selector-in-Switch.ensures.ops d)
+    (c.in_ok-lower_statements-in-Switch.ensures d)
+    (made d
+    ∙ ap (λ z. add_switch d (let y : Targets = record { on_break = z.end; on_continue = c.args.exits.on_continue } in y)
+    z.value (view_of c.as_slice-in-Switch-2.result.now) c.lower_statements-in-Switch.new.out)
+    c.in_ok-selector-in-Switch.ensures.selector))
+    c.lower_switch.ensures
+
+pub lower_statement-returns-in-Case : goal.lower_statement-returns-in-Case
+lower_statement-returns-in-Case t c =
+    on_ok_weaker c.push_label.result (λ made d. case_seen d (targets_of c.args.exits) _ _ _ _ c.in-Case.is made)
+    c.push_label.ensures
+
+pub lower_statement-returns-in-Default : goal.lower_statement-returns-in-Default
+lower_statement-returns-in-Default t c =
+    on_ok_weaker c.push_label-in-Default.result (λ made d. default_seen d (targets_of c.args.exits) _ _ _
+    c.in-Default.is made)
+    c.push_label-in-Default.ensures
+
+pub lower_statement-returns-in-Break : goal.lower_statement-returns-in-Break
+lower_statement-returns-in-Break t c =
+    on_ok_weaker c.push.result (λ made d. break_seen d (targets_of c.args.exits) _ _ _ c.in-Break.is made)
     c.push.ensures
 
-pub lower_statement-returns-in_ok-lower_statement-in-IfElse-2-clause-ops :
-    goal.lower_statement-returns-in_ok-lower_statement-in-IfElse-2-clause-ops
-lower_statement-returns-in_ok-lower_statement-in-IfElse-2-clause-ops t c =
-    let first = c.take_label-zero.ensures in
-    let second = c.take_label-end.ensures in
-    let tested = c.in_ok-lower_then-in-IfElse.ensures in
-    let body = c.in_ok-lower_statement-in-IfElse.ensures in
-    let turn = c.in_ok-push_turn-in-IfElse.ensures in
-    let other = c.in_ok-lower_statement-in-IfElse-2.ensures in
-    let end : c.take_label-end.result ≡ c.args.out.now.label + 1 = second.label ∙ ap (λ o. o.label) first.next in
-    let labels : c.take_label-end.new.self.label ≡ c.args.out.now.label + 2 =
-    omega (arith, ap (λ o. o.label) second.next, ap (λ o. o.label) first.next) in
-    on_ok_weaker c.push-in-IfElse.result
-    (λ made d to. ap (λ o. o.list) made ∙
-    choice_ops d to _ _ _ _ _ _ _ _ _ _ _ _ _ _ _ _ _ _ _ _ _ _ c.in-IfElse.is c.get-in-IfElse.ensures
-    c.get-in-IfElse-2.ensures
-    first.label end labels (ap (λ o. o.variable) second.next ∙ ap (λ o. o.variable) first.next)
-    (ap (λ o. o.list) second.next ∙ ap (λ o. o.list) first.next)
-    (tested.ops d) tested.label tested.variable (body.ops d to)
-    (ap (λ o. o.label) turn ∙ body.label) (ap (λ o. o.variable) turn ∙ body.variable) (ap (λ o. o.list) turn)
-    (other.ops d to))
-    c.push-in-IfElse.ensures
+pub lower_statement-returns-in-Continue : goal.lower_statement-returns-in-Continue
+lower_statement-returns-in-Continue t c =
+    on_ok_weaker c.push-in-Continue.result (λ made d. continue_seen d (targets_of c.args.exits) _ _ _
+    c.in-Continue.is made)
+    c.push-in-Continue.ensures
 
-pub lower_statement-returns-in_ok-lower_statement-in-While-clause-ops :
-    goal.lower_statement-returns-in_ok-lower_statement-in-While-clause-ops
-lower_statement-returns-in_ok-lower_statement-in-While-clause-ops t c =
-    let first = c.take_label-end-in-While.ensures in
+pub lower_statement-returns-in-Return : goal.lower_statement-returns-in-Return
+lower_statement-returns-in-Return t c =
+    on_ok_weaker c.push-in-Return.result (λ made d. return_seen d (targets_of c.args.exits) _ _ _ c.in-Return.is made)
+    c.push-in-Return.ensures
+
+pub lower_if-lower_statement-requires : goal.lower_if-lower_statement-requires
+lower_if-lower_statement-requires t c = (
+  search (rules, the_lemmas),
+  record {
+    built = c.requires.built.1;
+    labels =
+        omega (
+          arith,
+          c.requires.labels,
+          ap (λ z. z.label) c.take_label-past.ensures.next,
+          label_past _ _ _ _ (c.in_ok-lower_then.ensures anywhere),
+        );
+    variables =
+        omega (
+          arith,
+          c.requires.variables,
+          ap (λ z. z.variable) c.take_label-past.ensures.next,
+          variable_past _ _ _ _ (c.in_ok-lower_then.ensures anywhere),
+        );
+  },
+)
+
+pub lower_if-returns : goal.lower_if-returns
+lower_if-returns t c =
+    on_ok_weaker c.push.result
+    (λ made d. if_made d (targets_of c.args.exits) _ _ _ _ _ _ _ _ c.take_label-past.ensures.label
+    c.take_label-past.ensures.next
+    (c.in_ok-lower_then.ensures d) (c.in_ok-lower_statement.ensures d) made) c.push.ensures
+
+pub lower_if_else-lower_statement-requires : goal.lower_if_else-lower_statement-requires
+lower_if_else-lower_statement-requires t c = (
+  search (rules, the_lemmas),
+  record {
+    built = c.requires.built.1;
+    labels =
+        omega (
+          arith,
+          c.requires.labels,
+          ap (λ z. z.label) c.take_label-other.ensures.next,
+          ap (λ z. z.label) c.take_label-end.ensures.next,
+          label_past _ _ _ _ (c.in_ok-lower_then.ensures anywhere),
+        );
+    variables =
+        omega (
+          arith,
+          c.requires.variables,
+          ap (λ z. z.variable) c.take_label-other.ensures.next,
+          ap (λ z. z.variable) c.take_label-end.ensures.next,
+          variable_past _ _ _ _ (c.in_ok-lower_then.ensures anywhere),
+        );
+  },
+)
+
+pub lower_if_else-returns : goal.lower_if_else-returns
+lower_if_else-returns t c =
+    let first = c.take_label-other.ensures in
+    let second = c.take_label-end.ensures in
+    let end : c.take_label-end.result ≡ c.args.out.now.label + 1 = second.label ∙ ap (λ z. z.label) first.next in
+    on_ok_weaker c.push.result
+    (λ made d. choice_made d (targets_of c.args.exits) c.args.out.now c.take_label-end.new.self _ _ _ _ _ _ _ _ _
+    _ first.label end
+    (two_labels d (targets_of c.args.exits) _ _ _ first.next second.next) (c.in_ok-lower_then.ensures d)
+    (c.in_ok-lower_statement.ensures d) c.in_ok-push_turn.ensures (c.in_ok-lower_statement-2.ensures d) made)
+    c.push.ensures
+
+pub lower_while-lower_statement-requires : goal.lower_while-lower_statement-requires
+lower_while-lower_statement-requires t c = (
+  search (rules, the_lemmas),
+  record {
+    built = c.requires.built.1;
+    labels =
+        omega (
+          arith,
+          c.requires.labels,
+          ap (λ z. z.label) c.take_label-end.ensures.next,
+          ap (λ z. z.label) c.take_label-start.ensures.next,
+          ap (λ z. z.label) c.in_ok-push.ensures,
+          label_past _ _ _ _ (c.in_ok-lower_then.ensures anywhere),
+        );
+    variables =
+        omega (
+          arith,
+          c.requires.variables,
+          ap (λ z. z.variable) c.take_label-end.ensures.next,
+          ap (λ z. z.variable) c.take_label-start.ensures.next,
+          ap (λ z. z.variable) c.in_ok-push.ensures,
+          variable_past _ _ _ _ (c.in_ok-lower_then.ensures anywhere),
+        );
+  },
+)
+
+pub lower_while-returns : goal.lower_while-returns
+lower_while-returns t c =
+    let first = c.take_label-end.ensures in
     let second = c.take_label-start.ensures in
-    let placed = c.in_ok-push-in-While.ensures in
-    let tested = c.in_ok-lower_then-in-While.ensures in
-    let body = c.in_ok-lower_statement-in-While.ensures in
-    let begin : c.take_label-start.result ≡ c.args.out.now.label + 1 = second.label ∙ ap (λ o. o.label) first.next in
-    let labels : c.push-in-While.new.self.label ≡ c.args.out.now.label + 2 =
-    omega (arith, ap (λ o. o.label) placed, ap (λ o. o.label) second.next, ap (λ o. o.label) first.next) in
-    on_ok_weaker c.push_turn-in-While.result
-    (λ made d to. ap (λ o. o.list) made ∙
-    while_ops d to _ _ _ _ _ _ _ _ _ _ _ _ _ _ _ _ _ c.in-While.is c.get-in-While.ensures
-    first.label begin labels (ap (λ o. o.variable) placed ∙ ap (λ o. o.variable) second.next ∙
-    ap (λ o. o.variable) first.next)
-    (ap (λ o. o.list) second.next ∙ ap (λ o. o.list) first.next) (ap (λ o. o.list) placed)
-    (tested.ops d) tested.label tested.variable
-    (body.ops d (of_loop d to c.args.s.now c.args.out.now.label c.args.out.now.variable)))
-    c.push_turn-in-While.ensures
+    let start : c.take_label-start.result ≡ c.args.out.now.label + 1 = second.label ∙ ap (λ z. z.label) first.next in
+    on_ok_weaker c.push_turn.result
+    (λ made d to. while_made d to c.args.out.now c.take_label-start.new.self _ _ _ _ _ _ _ _ _ first.label start refl
+    (two_labels d to _ _ _ first.next second.next) c.in_ok-push.ensures (c.in_ok-lower_then.ensures d)
+    (c.in_ok-lower_statement.ensures d) made)
+    c.push_turn.ensures
+
+pub lower_do-lower_statement-requires : goal.lower_do-lower_statement-requires
+lower_do-lower_statement-requires t c = (
+  search (rules, the_lemmas),
+  record {
+    built = c.requires.built.0;
+    labels =
+        omega (
+          arith,
+          c.requires.labels,
+          ap (λ z. z.label) c.take_turn-turn.ensures.next,
+          ap (λ z. z.label) c.in_ok-push.ensures,
+        );
+    variables =
+        omega (
+          arith,
+          c.requires.variables,
+          ap (λ z. z.variable) c.take_turn-turn.ensures.next,
+          ap (λ z. z.variable) c.in_ok-push.ensures,
+        );
+  },
+)
+
+pub lower_do-returns : goal.lower_do-returns
+lower_do-returns t c =
+    on_ok_weaker c.push-3.result
+    (λ made d to. do_made d to _ _ _ _ _ c.take_turn-turn.ensures.turn c.exits.ensures c.take_turn-turn.ensures.next
+    _ _ _ _ _ _
+    c.in_ok-push.ensures (c.in_ok-lower_statement.ensures d) c.in_ok-push-2.ensures (c.in_ok-lower_then.ensures d) made)
+    c.push-3.ensures
+
+pub lower_for-lower_statement-requires : goal.lower_for-lower_statement-requires
+lower_for-lower_statement-requires t c = (
+  search (rules, the_lemmas),
+  record {
+    built = c.requires.built.1;
+    labels =
+        omega (
+          arith,
+          c.requires.labels,
+          ap (λ z. z.label) c.take_turn-turn.ensures.next,
+          ap (λ z. z.label) c.in_ok-push.ensures,
+          label_past _ _ _ _ (c.in_ok-lower_then.ensures anywhere),
+        );
+    variables =
+        omega (
+          arith,
+          c.requires.variables,
+          ap (λ z. z.variable) c.take_turn-turn.ensures.next,
+          ap (λ z. z.variable) c.in_ok-push.ensures,
+          variable_past _ _ _ _ (c.in_ok-lower_then.ensures anywhere),
+        );
+  },
+)
+
+pub lower_for-returns : goal.lower_for-returns
+lower_for-returns t c =
+    on_ok_weaker c.push_turn.result
+    (λ made d to. for_made d to _ _ _ _ _ c.take_turn-turn.ensures.turn c.exits.ensures c.take_turn-turn.ensures.next
+    _ _ _ _ _ _
+    c.in_ok-push.ensures (c.in_ok-lower_then.ensures d) (c.in_ok-lower_statement.ensures d) c.in_ok-push-2.ensures made)
+    c.push_turn.ensures
+
+pub lower_for_step-lower_statement-requires : goal.lower_for_step-lower_statement-requires
+lower_for_step-lower_statement-requires t c = (
+  search (rules, the_lemmas),
+  record {
+    built = c.requires.built.2;
+    labels =
+        omega (
+          arith,
+          c.requires.labels,
+          ap (λ z. z.label) c.take_turn-turn.ensures.next,
+          ap (λ z. z.label) c.in_ok-push.ensures,
+          label_past _ _ _ _ (c.in_ok-lower_then.ensures anywhere),
+        );
+    variables =
+        omega (
+          arith,
+          c.requires.variables,
+          ap (λ z. z.variable) c.take_turn-turn.ensures.next,
+          ap (λ z. z.variable) c.in_ok-push.ensures,
+          variable_past _ _ _ _ (c.in_ok-lower_then.ensures anywhere),
+        );
+  },
+)
+
+pub lower_for_step-returns : goal.lower_for_step-returns
+lower_for_step-returns t c =
+    on_ok_weaker c.push_turn.result
+    (λ made d to. for_step_made d to _ _ _ _ _ c.take_turn-turn.ensures.turn c.exits.ensures
+    c.take_turn-turn.ensures.next _ _ _ _ _ _ _ _
+    c.in_ok-push.ensures (c.in_ok-lower_then.ensures d) (c.in_ok-lower_statement.ensures d) c.in_ok-push-2.ensures
+    (c.in_ok-lower_effect.ensures d) made)
+    c.push_turn.ensures
+
+pub lower_if_else-lower_statement-requires-2 : goal.lower_if_else-lower_statement-requires-2
+lower_if_else-lower_statement-requires-2 t c = (
+  search (rules, the_lemmas),
+  record {
+    built = c.requires.built.2;
+    labels =
+        omega (
+          arith,
+          c.requires.labels,
+          ap (λ z. z.label) c.take_label-other.ensures.next,
+          ap (λ z. z.label) c.take_label-end.ensures.next,
+          label_past _ _ _ _ (c.in_ok-lower_then.ensures anywhere),
+          stmt_labels anywhere (targets_of c.args.exits) _ _ _ (c.in_ok-lower_statement.ensures anywhere),
+          ap (λ z. z.label) c.in_ok-push_turn.ensures,
+        );
+    variables =
+        omega (
+          arith,
+          c.requires.variables,
+          ap (λ z. z.variable) c.take_label-other.ensures.next,
+          ap (λ z. z.variable) c.take_label-end.ensures.next,
+          variable_past _ _ _ _ (c.in_ok-lower_then.ensures anywhere),
+          stmt_temps anywhere (targets_of c.args.exits) _ _ _ (c.in_ok-lower_statement.ensures anywhere),
+          ap (λ z. z.variable) c.in_ok-push_turn.ensures,
+        );
+  },
+)
+
+pub lower_do-lower_then-requires : goal.lower_do-lower_then-requires
+lower_do-lower_then-requires t c =
+    record {
+      built = c.requires.built.1;
+      labels =
+          omega (
+            arith,
+            c.requires.labels,
+            ap (λ z. z.label) c.take_turn-turn.ensures.next,
+            ap (λ z. z.label) c.in_ok-push.ensures,
+            stmt_labels anywhere (targets_of c.exits.result) _ _ _ (c.in_ok-lower_statement.ensures anywhere),
+            ap (λ z. z.label) c.in_ok-push-2.ensures,
+          );
+      variables =
+          omega (
+            arith,
+            c.requires.variables,
+            ap (λ z. z.variable) c.take_turn-turn.ensures.next,
+            ap (λ z. z.variable) c.in_ok-push.ensures,
+            stmt_temps anywhere (targets_of c.exits.result) _ _ _ (c.in_ok-lower_statement.ensures anywhere),
+            ap (λ z. z.variable) c.in_ok-push-2.ensures,
+          );
+    }
+
+pub lower_for_step-lower_effect-requires : goal.lower_for_step-lower_effect-requires
+lower_for_step-lower_effect-requires t c =
+    record {
+      built = c.requires.built.1;
+      labels =
+          omega (
+            arith,
+            c.requires.labels,
+            ap (λ z. z.label) c.take_turn-turn.ensures.next,
+            ap (λ z. z.label) c.in_ok-push.ensures,
+            label_past _ _ _ _ (c.in_ok-lower_then.ensures anywhere),
+            stmt_labels anywhere (targets_of c.exits.result) _ _ _ (c.in_ok-lower_statement.ensures anywhere),
+            ap (λ z. z.label) c.in_ok-push-2.ensures,
+          );
+      variables =
+          omega (
+            arith,
+            c.requires.variables,
+            ap (λ z. z.variable) c.take_turn-turn.ensures.next,
+            ap (λ z. z.variable) c.in_ok-push.ensures,
+            variable_past _ _ _ _ (c.in_ok-lower_then.ensures anywhere),
+            stmt_temps anywhere (targets_of c.exits.result) _ _ _ (c.in_ok-lower_statement.ensures anywhere),
+            ap (λ z. z.variable) c.in_ok-push-2.ensures,
+          );
+    }
+
+pub lower_switch-lower_cases-requires : goal.lower_switch-lower_cases-requires
+lower_switch-lower_cases-requires t c = (
+  search (rules, the_lemmas),
+  subst (λ z. FitItems (view_of c.args.items.now) z) (sym c.apart-inside.ensures)
+      (record { built = c.requires.built; labels = c.requires.labels; variables = c.requires.variables }),
+)
+
+pub lower_switch-returns : goal.lower_switch-returns
+lower_switch-returns t c =
+    on_ok_weaker c.push-2.result
+    (λ made d. switch_made d _ _ _ (let y : Exits
+    = record { on_break = c.args.selector.end; on_continue = c.args.exits.on_continue } in y) _ _ _ _ _ _ _
+    c.apart-inside.ensures c.in_ok-label.ensures.label c.in_ok-label.ensures.tests (c.in_ok-label.ensures.ops d)
+    c.in_ok-push.ensures c.in_ok-append.ensures made)
+    c.push-2.ensures
+
+pub lower_cases-lower_statement-requires : goal.lower_cases-lower_statement-requires
+lower_cases-lower_statement-requires t c = (
+  search (rules, the_lemmas),
+  this_fits (targets_of c.args.exits) _ _ _ _ c.loop-s-test.true c.s-item.is c.loop-s.invariant.fit,
+)
+
+pub lower_cases-loop-s-preserved : goal.lower_cases-loop-s-preserved
+lower_cases-loop-s-preserved t c =
+    record {
+      fit =
+          others_fit_behind (targets_of c.args.exits) _ _ _ _ c.loop-s-test.true c.s-item.is _ c.loop-s.invariant.fit
+          c.in_ok-lower_statement.ensures;
+      tests =
+          one_tested (targets_of c.args.exits) _ _ _ _ c.loop-s-test.true c.s-item.is _ _ _ _ _ c.loop-s.invariant.tests
+          c.in_ok-push_test.ensures c.in_ok-lower_statement.ensures;
+      label =
+          one_named (targets_of c.args.exits) _ _ _ _ c.loop-s-test.true c.s-item.is _ _ _ _ _ _
+          c.loop-s.invariant.label
+          c.default_at.ensures c.or-default.ensures c.in_ok-lower_statement.ensures;
+      ops =
+          λ d. one_done (targets_of c.args.exits) _ _ _ _ c.loop-s-test.true c.s-item.is d _ _
+          (c.loop-s.invariant.ops d)
+          (c.in_ok-lower_statement.ensures d);
+    }
+
+pub lower_cases-returns : goal.lower_cases-returns
+lower_cases-returns t c =
+    let past : length c.args.items.now ≤ c.loop-s.s-index = omega (arith, c.loop-s-test.false) in
+    record {
+      label = c.unwrap_or.ensures ∙ none_unnamed c.loop-s.s-index c.args.items.now c.loop-s.default c.loop-s.inside.label
+          c.args.exits.on_break _ past c.loop-s.invariant.label;
+      tests = none_untested c.loop-s.s-index c.args.items.now c.loop-s.inside.label c.args.value c.loop-s.out _ past c.loop-s.invariant.tests;
+      ops = λ d. none_left d (targets_of c.args.exits) c.loop-s.s-index c.args.items.now c.loop-s.inside _ past (c.loop-s.invariant.ops d);
+    }
+
+pub lower_cases-loop-s-init : goal.lower_cases-loop-s-init
+lower_cases-loop-s-init t c =
+    record { fit = c.requires; tests = refl; label = refl; ops = λ d. refl }
+
+pub lower_statements-lower_statement-requires : goal.lower_statements-lower_statement-requires
+lower_statements-lower_statement-requires t c = (
+  search (rules, the_lemmas),
+  this_fits (targets_of c.args.exits) _ _ _ _ c.loop-s-test.true c.s-item.is c.loop-s.invariant.fit,
+)
+
+pub lower_statements-loop-s-init : goal.lower_statements-loop-s-init
+lower_statements-loop-s-init t c =
+    record { fit = c.requires; ops = λ d. refl }
+
+pub lower_statements-loop-s-preserved : goal.lower_statements-loop-s-preserved
+lower_statements-loop-s-preserved t c =
+    record {
+      fit =
+          others_fit_behind (targets_of c.args.exits) _ _ _ _ c.loop-s-test.true c.s-item.is _ c.loop-s.invariant.fit
+          c.in_ok-lower_statement.ensures;
+      ops =
+          λ d. one_done (targets_of c.args.exits) _ _ _ _ c.loop-s-test.true c.s-item.is d _ _
+          (c.loop-s.invariant.ops d)
+          (c.in_ok-lower_statement.ensures d);
+    }
+
+pub lower_statements-returns : goal.lower_statements-returns
+lower_statements-returns t c =
+    λ d. none_left d (targets_of c.args.exits) c.loop-s.s-index c.args.list.now c.loop-s.out _
+    (omega (arith, c.loop-s-test.false)) (c.loop-s.invariant.ops d)

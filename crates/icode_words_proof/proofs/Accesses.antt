@@ -1,0 +1,45 @@
+-- The instructions of services, loads and stores have words.
+use Rattle.std.proofs.Common.{ℕ, [], ◌∷◌, ◌<◌, arith}
+use Rattle.word32.specs.declared.width.Width.{Width}
+use Rattle.word32.specs.declared.width.Width.TheVariants as width
+use Rattle.mips_model.proofs.Loaded.{AllFit}
+use Rattle.icode_ops.specs.Kinds.{sys_number}
+use Rattle.icode_ops.specs.declared.kind.SysKind.{SysKind}
+use Rattle.icode_ops.specs.declared.kind.SysKind.TheVariants as sys
+use Rattle.icode_templates.specs.Templates.{service_code, range_check, load_instruction, store_instruction}
+
+service_low : (kind : SysKind) → sys_number kind < 65536
+service_low sys.PutInteger = omega arith
+service_low sys.Exit = omega arith
+service_low sys.PutByte = omega arith
+service_low sys.GetByte = omega arith
+
+pub service_fits : (kind : SysKind) → AllFit (service_code (sys_number kind))
+service_fits kind =
+    let low = service_low kind in (
+      (omega arith, omega arith, omega arith),
+      ((omega arith, omega arith, omega (arith, low)), (tt, ((omega arith, omega arith, omega arith), tt))),
+    )
+
+pub range_fits : (r : ℕ) → r < 32 → AllFit (range_check r)
+range_fits r h = (
+  (omega (arith, h), omega arith, omega arith),
+  (
+    (omega (arith, h), omega (arith, h), omega arith),
+    ((omega (arith, h), omega arith, omega arith), ((omega arith, omega arith, omega arith), (omega arith, tt))),
+  ),
+)
+
+pub load_word : (kind : Width) → AllFit (load_instruction kind ∷ [])
+load_word width.SignedByte = ((omega arith, omega arith, omega arith), tt)
+load_word width.Byte = ((omega arith, omega arith, omega arith), tt)
+load_word width.SignedHalf = ((omega arith, omega arith, omega arith), tt)
+load_word width.Half = ((omega arith, omega arith, omega arith), tt)
+load_word width.Word = ((omega arith, omega arith, omega arith), tt)
+
+pub store_word : (kind : Width) → AllFit (store_instruction kind ∷ [])
+store_word width.SignedByte = ((omega arith, omega arith, omega arith), tt)
+store_word width.Byte = ((omega arith, omega arith, omega arith), tt)
+store_word width.SignedHalf = ((omega arith, omega arith, omega arith), tt)
+store_word width.Half = ((omega arith, omega arith, omega arith), tt)
+store_word width.Word = ((omega arith, omega arith, omega arith), tt)
