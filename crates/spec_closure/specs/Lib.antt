@@ -1,0 +1,2 @@
+pub mod Malloc
+pub mod Laws
