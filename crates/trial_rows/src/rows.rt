@@ -123,13 +123,11 @@ fn a_failing_save_leaves_a_front_part(rt: HostRuntime) -> Result<(), Fail> {
     Ok(())
 }
 
-// `exec` of an image that reads a byte and ends with it, on an input that fails at its first read.
-fn status_of_a_failing_read(alloc: Global) -> Result<u8, AllocError> {
-    let image =
-        b"TICK\x00\x00\x00\x01\x00\x40\x00\x00\x00\x00\x00\x02\x00\x00\x00\x00\x00\x00\x00\x00\x34\x02\x00\x0c\x00\x00\x00\x0c";
-    let words = words_of(alloc, "tick exec image")?;
+// A call on a file, with an input that fails at its first read.
+fn status_of_a_failing_read(alloc: Global, line: &str, file: &[u8]) -> Result<u8, AllocError> {
+    let words = words_of(alloc, line)?;
     let mut store = MemStore::new(alloc, &[])?;
-    store.put("image", image)?;
+    store.put("file", file)?;
     let mut input = MemSource::new(alloc, b"A", &[0])?;
     let mut out = MemSink::new(alloc, ROOM, &[])?;
     let mut err = MemSink::new(alloc, ROOM, &[])?;
@@ -139,7 +137,44 @@ fn status_of_a_failing_read(alloc: Global) -> Result<u8, AllocError> {
 
 #[test]
 fn a_failing_input_is_a_read_fault(rt: HostRuntime) -> Result<(), Fail> {
-    assert_eq!(rt; status_of_a_failing_read(rt.alloc())?, 74);
+    // an image that reads a byte and ends with it, and a text that does so
+    let image =
+        b"TICK\x00\x00\x00\x01\x00\x40\x00\x00\x00\x00\x00\x02\x00\x00\x00\x00\x00\x00\x00\x00\x34\x02\x00\x0c\x00\x00\x00\x0c";
+    let text = b"int main(){return getchar();}";
+    assert_eq!(rt;
+        status_of_a_failing_read(rt.alloc(), "tick exec file", image)?,
+        74
+    );
+    assert_eq!(rt;
+        status_of_a_failing_read(rt.alloc(), "tick run file", text)?,
+        74
+    );
+    Ok(())
+}
+
+// A program that writes without an end: the status, and what the sink took, which fails at the listed calls.
+fn written_without_end(alloc: Global, fails: &[u64]) -> Result<(u8, Vec<u8>), AllocError> {
+    let words = words_of(alloc, "tick run --steps 100000 text")?;
+    let mut store = MemStore::new(alloc, &[])?;
+    store.put("text", b"int main(){for(;;)putchar(97);}")?;
+    let mut out = MemSink::new(alloc, 100000, fails)?;
+    let mut err = MemSink::new(alloc, ROOM, &[])?;
+    let status = status_of(alloc, &words, &mut store, &mut out, &mut err)?;
+    Ok((status, out.taken().to_vec(alloc)?))
+}
+
+#[test]
+fn a_run_without_end_meets_the_limit_of_steps(rt: HostRuntime) -> Result<(), Fail> {
+    let (status, taken) = written_without_end(rt.alloc(), &[])?;
+    assert_eq!(rt; status, 72);
+    // 187 units are within the steps, and a turn has four of them
+    assert!(rt; taken.len() >= 47);
+    for byte in &taken {
+        assert_eq!(rt; *byte, b'a');
+    }
+    let (failed, left) = written_without_end(rt.alloc(), &[1])?;
+    assert_eq!(rt; failed, 73);
+    assert_eq!(rt; left.as_slice(), b"a".as_slice());
     Ok(())
 }
 
