@@ -1,4 +1,7 @@
-/* Writes stairs of three steps, and ends with 6. */
+/* Two loops, one in the other, write stairs of three steps.
+   A variable is 0 as its block is entered, so the first loop needs no beginning.
+   The status tells what the variables were at the end: 3 and 3.
+   Stage: basics. Status: 6. */
 int main() {
     int i;
     int j;

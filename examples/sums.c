@@ -1,4 +1,7 @@
-/* Sums wrap: this writes "Hi" and a line feed, and ends with status 0. */
+/* Sums of words wrap, so twice the greatest number and 2 is 0.
+   Arguments and results are expressions, and a comment may stand anywhere between tokens.
+   It writes "Hi" and a line feed.
+   Stage: basics. Status: 0. */
 int main(){
   putchar(60+12);
   putchar(100+5); // the byte of i

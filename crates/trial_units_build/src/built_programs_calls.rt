@@ -29,10 +29,19 @@ fn a_difference_runs(rt: HostRuntime) {
 }
 
 #[test]
-fn a_product_does_not_run(rt: HostRuntime) {
+fn a_product_runs(rt: HostRuntime) {
     let found = main_in(
         rt.alloc(),
         b"int main(void) { int i; i = 3; return i * 2; }",
+    );
+    assert!(rt; matches!(found, Ok(Some(1))));
+}
+
+#[test]
+fn a_call_does_not_run(rt: HostRuntime) {
+    let found = main_in(
+        rt.alloc(),
+        b"int f(void) { return 3; } int main(void) { return f(); }",
     );
     assert!(rt; matches!(found, Ok(None)));
 }
@@ -62,10 +71,10 @@ fn main_is_the_second_function(rt: HostRuntime) {
 }
 
 #[test]
-fn a_product_behind_main_does_not_run(rt: HostRuntime) {
+fn a_parameter_behind_main_does_not_run(rt: HostRuntime) {
     let found = main_in(
         rt.alloc(),
-        b"int main(void) { return 0; } int f(void) { int i; i = 3; return i * 2; }",
+        b"int main(void) { return 0; } int f(int i) { return i * 2; }",
     );
     assert!(rt; matches!(found, Ok(None)));
 }
