@@ -1,45 +1,53 @@
--- Which typed programs run so far: those without ticks, globals and strings, whose functions have no nodes but those of
--- the list below. They have no calls, so main alone runs. The list is this project's own, and grows with the backend.
---   expressions: words, register variables, their setting and steps, all operators, conversions, `&&`, `||`, `?:`, comma,
---     void, getchar, putchar, putint, exit
---   statements: all, over blocks of register variables
-use Rattle.std.specs.Prelude.{ℕ, ◌+◌, Bool, true, false, ◌&&◌, nat_eq, nat_lt, if◌then◌else◌, List, [], ◌∷◌, codes}
+-- Which typed programs run so far: those without ticks, whose functions have no nodes but those of the list below. The
+-- list is this project's own, and grows with the backend. All nodes of the plain language are of it. What is missing are
+-- those that make specifications or stand in them: ticks with their captures, what names a capture, and compile, local
+-- and param.
+use Rattle.std.specs.Prelude.{ℕ, ◌+◌, Bool, true, false, ◌&&◌, nat_le, nat_lt, if◌then◌else◌, List, [], ◌∷◌, codes}
 use Rattle.std.specs.Prelude.{Option, Some, None}
 use Rattle.std.specs.Str.{bytes_eq}
 use Rattle.typed_tree.specs.declared.program.Function.{Function}
 use Rattle.typed_tree.specs.declared.program.Tick.{Tick}
 use Rattle.typed_tree.specs.Nodes as node
-use Rattle.typed_tree.specs.declared.expression.Library.{Library}
-use Rattle.typed_tree.specs.declared.expression.Library.TheVariants as library
 use Rattle.typed_tree.specs.View.{function_view}
 use Rattle.wellformed.specs.declared.typed.Typed.{Typed}
 
 -- ---- the nodes of the list
 
--- malloc's objects are in memory
-abbrev pub is_without_memory : Library → Bool
-is_without_memory library.Malloc = false
-is_without_memory _ = true
-
 abbrev pub is_word : ℕ → Bool
 is_word n = nat_lt n 4294967296
 
--- each node of an expression is of the list
-abbrev pub is_listed_expr : node.Expr → Bool
-is_listed_expr (node.Const word) = is_word word
-is_listed_expr (node.Var i) = true
-is_listed_expr (node.SetVar i a) = is_listed_expr a
-is_listed_expr (node.PostVar i width step) = is_word step
-is_listed_expr (node.Bin k a b) = is_listed_expr a && is_listed_expr b
-is_listed_expr (node.Un k a) = is_listed_expr a
-is_listed_expr (node.And a b) = is_listed_expr a && is_listed_expr b
-is_listed_expr (node.Or a b) = is_listed_expr a && is_listed_expr b
-is_listed_expr (node.Cond c a b) = is_listed_expr c && is_listed_expr a && is_listed_expr b
-is_listed_expr (node.Comma a b) = is_listed_expr a && is_listed_expr b
-is_listed_expr (node.Void a) = is_listed_expr a
-is_listed_expr node.Getchar = true
-is_listed_expr (node.Lib library a) = is_without_memory library && is_listed_expr a
-is_listed_expr _ = false
+-- an object has a word at least
+abbrev pub has_words : ℕ → Bool
+has_words words = nat_le 1 words
+
+-- each node of an expression is of the list, and of each argument
+abbrev mutual
+  pub is_listed_expr : node.Expr → Bool
+  is_listed_expr (node.Const word) = is_word word
+  is_listed_expr (node.Var i) = true
+  is_listed_expr (node.SetVar i a) = is_listed_expr a
+  is_listed_expr (node.PostVar i width step) = is_word step
+  is_listed_expr (node.Frame offset) = true
+  is_listed_expr (node.Load width a) = is_listed_expr a
+  is_listed_expr (node.Store width a b) = is_listed_expr a && is_listed_expr b
+  is_listed_expr (node.Modify width k a b) = is_listed_expr a && is_listed_expr b
+  is_listed_expr (node.Post width step a) = is_word step && is_listed_expr a
+  is_listed_expr (node.Bin k a b) = is_listed_expr a && is_listed_expr b
+  is_listed_expr (node.Un k a) = is_listed_expr a
+  is_listed_expr (node.And a b) = is_listed_expr a && is_listed_expr b
+  is_listed_expr (node.Or a b) = is_listed_expr a && is_listed_expr b
+  is_listed_expr (node.Cond c a b) = is_listed_expr c && is_listed_expr a && is_listed_expr b
+  is_listed_expr (node.Comma a b) = is_listed_expr a && is_listed_expr b
+  is_listed_expr (node.Void a) = is_listed_expr a
+  is_listed_expr (node.Call answer f args) = are_listed_args args
+  is_listed_expr (node.CallNumber answer a args) = is_listed_expr a && are_listed_args args
+  is_listed_expr node.Getchar = true
+  is_listed_expr (node.Lib library a) = is_listed_expr a
+  is_listed_expr _ = false
+
+  pub are_listed_args : node.Args → Bool
+  are_listed_args node.NoArg = true
+  are_listed_args (node.Arg a args) = is_listed_expr a && are_listed_args args
 
 -- the same of a statement, and of a list of them
 abbrev mutual
@@ -47,6 +55,9 @@ abbrev mutual
   is_listed_stmt (node.Eval e) = is_listed_expr e
   is_listed_stmt (node.Block variables items) = are_listed variables && are_listed items
   is_listed_stmt (node.Variable i) = true
+  is_listed_stmt (node.Object offset words) = has_words words
+  is_listed_stmt (node.Parameter k width) = true
+  is_listed_stmt (node.ParameterObject k width offset) = true
   is_listed_stmt (node.If e s) = is_listed_expr e && is_listed_stmt s
   is_listed_stmt (node.IfElse e s t) = is_listed_expr e && is_listed_stmt s && is_listed_stmt t
   is_listed_stmt (node.While e s) = is_listed_expr e && is_listed_stmt s
@@ -60,15 +71,13 @@ abbrev mutual
   is_listed_stmt node.Continue = true
   is_listed_stmt node.Return = true
   is_listed_stmt (node.ReturnValue e) = is_listed_expr e
-  is_listed_stmt _ = false
 
   pub are_listed : node.Items → Bool
   are_listed node.NoItem = true
   are_listed (node.Item s items) = is_listed_stmt s && are_listed items
 
--- a function of the list's nodes has no parameters and no frame objects
 abbrev pub is_listed : node.Function → Bool
-is_listed function = nat_eq function.parameters 0 && nat_eq function.object 0 && is_listed_stmt function.body
+is_listed function = is_listed_stmt function.body
 
 -- ---- programs
 
@@ -76,6 +85,11 @@ is_listed function = nat_eq function.parameters 0 && nat_eq function.object 0 &&
 abbrev pub are_functions_listed : List Function → Bool
 are_functions_listed [] = true
 are_functions_listed (f ∷ fs) = is_listed (function_view f) && are_functions_listed fs
+
+-- globals and strings are of bytes
+abbrev pub are_bytes : List ℕ → Bool
+are_bytes [] = true
+are_bytes (b ∷ bs) = nat_lt b 256 && are_bytes bs
 
 -- the function main, and its number in the text
 pub record Main : Type 0 where
@@ -90,8 +104,8 @@ main_from number (f ∷ fs) =
     else main_from (number + 1) fs
 
 abbrev pub of_parts : List Function → List Tick → (image : List ℕ) → Option Main
-of_parts fs [] [] = if are_functions_listed fs then main_from 1 fs else None
-of_parts _ _ _ = None
+of_parts fs [] image = if are_bytes image && are_functions_listed fs then main_from 1 fs else None
+of_parts fs (t ∷ ts) image = None
 
 -- main of a program, or none where the program doesn't run so far
 unfoldable pub built : Typed → Option Main

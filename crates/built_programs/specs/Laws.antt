@@ -1,17 +1,20 @@
 -- What is known of each program that is built: the backend makes its image.
-use Rattle.std.specs.Prelude.{◌≡◌, [], Some}
+use Rattle.std.specs.Prelude.{◌≡◌, ℕ, ◌<◌, ◌≤◌, length, slice_index, Some}
 use Rattle.meaning_state.specs.Rows.{numbered}
 use Rattle.typed_tree.specs.View.{program_view}
 use Rattle.static_image.specs.Served.{AreStatic}
 use Rattle.wellformed.specs.declared.typed.Typed.{Typed}
 use Rattle.wellformed.specs.Program.{IsWellFormed}
+use Rattle.word32.specs.declared.map.TheConstants.{GLOBAL_BYTES}
 use Rattle.built_programs.specs.Built.{Main, built}
 
--- what the backend asks of a program's functions, and of main
+-- what the backend asks of a program's functions, of main, and of the bytes of globals and strings
 pub record MeetsBackend (program : Typed) (main : Main) : Type 0 where
   pub static : AreStatic (program_view program).functions
   pub main_is : numbered main.number (program_view program).functions ≡ Some main.function
-  pub no_image : program.image ≡ []
+  pub no_parameters : main.function.parameters ≡ 0
+  pub each_byte_fits : (k : ℕ) → slice_index program.image k < 256
+  pub bytes_are_few : length program.image ≤ GLOBAL_BYTES
 
 abbrev pub BuiltIsStatic : Type 0
 BuiltIsStatic = (program : Typed) (main : Main) → IsWellFormed program → built program ≡ Some main →

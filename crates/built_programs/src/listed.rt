@@ -1,17 +1,10 @@
 //! Whether each node is one of those that run so far.
 
 ghost use Rattle.std.specs.Prelude.{◌≡◌, map};
-ghost use Rattle.typed_tree.specs.View.{expr_view, stmt_view, items_of, function_view};
+ghost use Rattle.typed_tree.specs.View.{expr_view, args_of, stmt_view, items_of, function_view};
 ghost use Rattle.built_programs.specs.Built as spec;
 
-use typed_tree::{Expr, Function, Library, Stmt};
-
-// Whether a function of the library makes no objects in memory.
-fn is_without_memory(function: Library) -> bool
-    ensures { result ≡ spec.is_without_memory function }
-{
-    !matches!(function, Library::Malloc)
-}
+use typed_tree::{Expr, Function, Stmt};
 
 // A number of the tree is a word: its type says so, and reading it is what tells the proof.
 fn is_word(number: &u32) -> bool
@@ -22,15 +15,20 @@ fn is_word(number: &u32) -> bool
 }
 
 // Whether each node of an expression is of the list.
+#[cycle(is_listed_expression)]
 #[tactic(auto, using(typed_tree::proofs::Views::expressions))]
 fn is_listed_expression(e: &Expr) -> bool
     ensures { result ≡ spec.is_listed_expr (expr_view e.now) }
 {
     match e {
         Expr::Const(number) | Expr::PostVar(_, _, number) => is_word(number),
-        Expr::Var(_) | Expr::Getchar => true,
-        Expr::SetVar(_, a) | Expr::Un(_, a) | Expr::Void(a) => is_listed_expression(a.get()),
-        Expr::Bin(_, a, b) | Expr::And(a, b) | Expr::Or(a, b) | Expr::Comma(a, b) => {
+        Expr::Var(_) | Expr::Frame(_) | Expr::Getchar => true,
+        Expr::SetVar(_, a) | Expr::Load(_, a) => is_listed_expression(a.get()),
+        Expr::Un(_, a) | Expr::Void(a) | Expr::Lib(_, a) => is_listed_expression(a.get()),
+        Expr::Store(_, a, b) | Expr::Modify(_, _, a, b) | Expr::Bin(_, a, b) => {
+            is_listed_expression(a.get()) && is_listed_expression(b.get())
+        }
+        Expr::And(a, b) | Expr::Or(a, b) | Expr::Comma(a, b) => {
             is_listed_expression(a.get()) && is_listed_expression(b.get())
         }
         Expr::Cond(test, a, b) => {
@@ -38,14 +36,35 @@ fn is_listed_expression(e: &Expr) -> bool
                 && is_listed_expression(a.get())
                 && is_listed_expression(b.get())
         }
-        Expr::Lib(function, a) => is_without_memory(*function) && is_listed_expression(a.get()),
+        Expr::Post(_, step, a) => is_word(step) && is_listed_expression(a.get()),
+        Expr::Call(_, _, arguments) => are_arguments_listed(arguments.as_slice()),
+        Expr::CallNumber(_, a, arguments) => {
+            is_listed_expression(a.get()) && are_arguments_listed(arguments.as_slice())
+        }
         Expr::Captured(_, _) | Expr::VGet(_) | Expr::VSet(_, _) | Expr::VPost(_, _) => false,
-        Expr::Frame(_) | Expr::Load(_, _) | Expr::Store(_, _, _) => false,
-        Expr::Modify(_, _, _, _) | Expr::Post(_, _, _) => false,
-        Expr::Call(_, _, _) | Expr::CallNumber(_, _, _) => false,
         Expr::Tick(_, _) | Expr::Capture(_, _) | Expr::Splice(_, _) => false,
         Expr::Compile(_) | Expr::Local | Expr::ParamOf(_) => false,
     }
+}
+
+// The same of each of these arguments.
+#[cycle(is_listed_expression)]
+fn are_arguments_listed(list: &[Expr]) -> bool
+    ensures { result ≡ spec.are_listed_args (args_of (map expr_view list.now)) }
+{
+    for e in list {
+        if !is_listed_expression(e) {
+            return false;
+        }
+    }
+    true
+}
+
+// An object has a word at least.
+fn has_words(words: u32) -> bool
+    ensures { result ≡ spec.has_words words }
+{
+    words >= 1
 }
 
 // Whether each node of a statement is of the list.
@@ -79,9 +98,9 @@ fn is_listed_statement(s: &Stmt) -> bool
                 && are_listed(items.as_slice())
         }
         Stmt::Case(value) => is_word(value),
-        Stmt::Variable(_) | Stmt::Default => true,
-        Stmt::Break | Stmt::Continue | Stmt::Return => true,
-        Stmt::Object(_, _) | Stmt::Parameter(_, _) | Stmt::ParameterObject(_, _, _) => false,
+        Stmt::Object(_, words) => has_words(*words),
+        Stmt::Variable(_) | Stmt::Parameter(_, _) | Stmt::ParameterObject(_, _, _) => true,
+        Stmt::Default | Stmt::Break | Stmt::Continue | Stmt::Return => true,
     }
 }
 
@@ -98,9 +117,9 @@ fn are_listed(list: &[Stmt]) -> bool
     true
 }
 
-/// Whether a function has no parameters, no frame objects and no nodes but those that run so far.
+/// Whether a function has no nodes but those that run so far.
 pub fn is_listed(function: &Function) -> bool
     ensures { result ≡ spec.is_listed (function_view function.now) }
 {
-    function.params == 0 && function.object == 0 && is_listed_statement(function.body.get())
+    is_listed_statement(function.body.get())
 }

@@ -9,7 +9,7 @@ ghost use Rattle.built_programs.specs.Laws.{BuiltIsStatic};
 use crate::listed::is_listed;
 use typed_tree::Function;
 use wellformed::Typed;
-use wf_ready::functions_are_ready;
+use wf_ready::functions_are_ready_in;
 
 // Whether each node of each function is of the list.
 fn are_functions_listed(functions: &[Function]) -> bool
@@ -20,6 +20,14 @@ fn are_functions_listed(functions: &[Function]) -> bool
             return false;
         }
     }
+    true
+}
+
+// Globals and strings are of bytes: their type says so.
+fn are_bytes(image: &[u8]) -> bool
+    ensures { result ≡ spec.are_bytes image.now }
+{
+    let _length = image.len();
     true
 }
 
@@ -35,17 +43,17 @@ fn main_number(functions: &[Function]) -> Option<usize>
     None
 }
 
-/// The number of a program's function main, counted from 1, or `None` where the program doesn't run so far: exactly where
-/// it has a tick, a global, a string or a node that isn't of the list.
+/// The number of a program's function main, counted from 1, or `None` where the program doesn't run so far: exactly
+/// where it has a tick, or a function with a node that isn't of the list.
 #[tactic(auto, unfolding(crate::specs::Built::built))]
 pub fn main_of(program: &Typed) -> Option<usize>
     ensures { result ≡ option_map (λ main. main.number) (built program.now) }
 {
-    if !program.ticks().is_empty() || !program.image().is_empty() {
+    if !program.ticks().is_empty() {
         return None;
     }
     let functions = program.functions();
-    if are_functions_listed(functions) {
+    if are_bytes(program.image()) && are_functions_listed(functions) {
         main_number(functions)
     } else {
         None
@@ -56,5 +64,5 @@ pub fn main_of(program: &Typed) -> Option<usize>
 pub fn built_is_static()
     ensures { BuiltIsStatic }
 {
-    functions_are_ready();
+    functions_are_ready_in();
 }

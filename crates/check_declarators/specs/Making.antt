@@ -30,7 +30,7 @@ use Rattle.check_declarators.specs.declared.steps.Role.TheVariants as role
 use Rattle.check_declarators.specs.declared.steps.Step.{Step}
 use Rattle.check_declarators.specs.declared.steps.Step.TheVariants as step
 use Rattle.check_declarators.specs.Steps.{layer_of, filled}
-use Rattle.limits.specs.declared.program.TheConstants.{MAX_SIZE}
+use Rattle.limits.specs.declared.program.TheConstants.{MAX_SIZE, MOST_ARGUMENTS}
 
 -- ---- tests of a type, by its base and the layers over it
 
@@ -103,7 +103,7 @@ result_breaks ls = if is_function ls || is_array ls then Some TypeMismatch else 
 
 abbrev pub function_breaks : ℕ → List Layer → Option FaultKind
 function_breaks count ls =
-    if is_function ls || is_array ls then Some TypeMismatch else unless (nat_le count 8) TooManyParameters
+    if is_function ls || is_array ls then Some TypeMismatch else unless (nat_le count MOST_ARGUMENTS) TooManyParameters
 
 -- the rule of the lowest number that is broken where this step is taken on these layers over their base
 abbrev pub breaks : Step → Base → List Layer → Option FaultKind

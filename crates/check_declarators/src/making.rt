@@ -7,7 +7,7 @@ ghost use Rattle.tick_tree.specs.Faults.{Answers};
 
 use crate::steps::{Length, Role, Step, fill_length, layer_of};
 use c_types::{Base, CType, Integer, Layer, Layers, TypeRef};
-use limits::program::{MAX_SIZE, SIZE_TOP};
+use limits::program::{MAX_SIZE, MOST_ARGUMENTS, SIZE_TOP};
 use sqlite_items::Items;
 use std::alloc::{AllocError, Global};
 use tick_tree::{Deny, Fault, FaultKind, Prefix};
@@ -116,7 +116,10 @@ fn function_breaks(count: usize, layers: &[Layer]) -> Option<FaultKind>
     if is_function(layers) || is_array(layers) {
         return Some(FaultKind::TypeMismatch);
     }
-    unless(count <= 8, FaultKind::TooManyParameters)
+    unless(
+        count <= MOST_ARGUMENTS as usize,
+        FaultKind::TooManyParameters,
+    )
 }
 
 // The rule of the lowest number that is broken where the step is taken on these layers, which have `size` bytes, or more than

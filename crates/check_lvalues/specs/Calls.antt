@@ -31,6 +31,7 @@ use Rattle.check_lvalues.specs.declared.calls.Callee.{Callee}
 use Rattle.check_lvalues.specs.declared.calls.Callee.TheVariants as callee
 use Rattle.check_operators.specs.Operands.{made, by, value_of, converted}
 use Rattle.check_lvalues.specs.Places.{narrowed}
+use Rattle.limits.specs.declared.program.TheConstants.{MOST_ARGUMENTS}
 
 -- ---- arguments
 
@@ -57,7 +58,7 @@ any_void as_ = list_any (λ a. is_void a.ctype) as_
 -- what arguments break by themselves: none is void, and no call has more than 8
 abbrev pub arguments_break : List Argument → Option FaultKind
 arguments_break as_ = if any_void as_ then Some fault.VoidValue else
-    (if nat_le (length as_) 8 then None else Some fault.TooManyParameters)
+    (if nat_le (length as_) MOST_ARGUMENTS then None else Some fault.TooManyParameters)
 
 -- what arguments break against a declared list
 abbrev pub listed_breaks : List Argument → List CType → Option FaultKind

@@ -9,6 +9,7 @@ use crate::places::narrowed;
 use c_types::{Layer, Layers, Parameter, Parameters, TypeRef, converts, converts_to};
 use check_operators::{Operand, Place, Value, converted, made, value_of};
 use check_types::{inner, is_pointer, is_void};
+use limits::program::MOST_ARGUMENTS;
 use sqlite_items::{Boxed, Items};
 use std::alloc::{AllocError, Global};
 use tick_tree::{Deny, FaultKind, refused};
@@ -101,7 +102,7 @@ fn arguments_break(list: &[Argument]) -> Option<FaultKind>
     if any_void(list) {
         return Some(FaultKind::VoidValue);
     }
-    if list.len() <= 8 {
+    if list.len() <= MOST_ARGUMENTS as usize {
         None
     } else {
         Some(FaultKind::TooManyParameters)

@@ -21,7 +21,8 @@ use Rattle.icode_ops.specs.declared.op.Op.{Op}
 use Rattle.icode_ops.specs.declared.op.Op.TheVariants.{Const, Move, Bin, FrameAddress, Load, Store, Clear, Label}
 use Rattle.icode_ops.specs.declared.op.Op.TheVariants.{Jump, BranchZero, BranchNonzero, Sys, Argument, GetParameter}
 use Rattle.icode_ops.specs.declared.op.Op.TheVariants.{Call, CallNumber, Result, Return, ReturnZero, CheckDivision}
-use Rattle.icode_ops.specs.declared.op.Op.TheVariants.{CheckZero, Un}
+use Rattle.icode_ops.specs.declared.op.Op.TheVariants.{CheckZero, Un, Run}
+use Rattle.icode_ops.specs.declared.kind.RunKind.TheVariants.{Malloc}
 use Rattle.icode_ops.specs.declared.kind.BinKind.{BinKind}
 use Rattle.icode_ops.specs.Flow.{first_use}
 use Rattle.icode_templates.specs.Layout.{parameter_spot}
@@ -52,6 +53,7 @@ use Rattle.icode_steps_proof.proofs.Recent.{IsOnward, IsGentle, head_gentle, loa
 use Rattle.icode_steps_proof.proofs.SystemCalls.{service_pays, service_least}
 use Rattle.icode_steps_proof.proofs.Zeroing.{round_pays, clear_pays}
 use Rattle.icode_steps_proof.specs.Served.{IsServed, Serving}
+use Rattle.icode_steps_proof.proofs.Allocating.{malloc_pays}
 use Rattle.icode_expand_proof.specs.Laws.{Arrives, ProgramIsSimulated, ProgramKeepsCode}
 use Rattle.icode_expand_proof.proofs.Arguments.{argument_pays, result_pays, parameter_pays}
 use Rattle.icode_expand_proof.proofs.Calls.{found_pays}
@@ -329,6 +331,11 @@ module _ (s : Setting) (st : Standing s) (sv : Serving s) where
         (append_assoc (load_code 24 ((layout_of f places).spot from)) _ _))
         (service_least s.program kind to from w arguments answer waiting log)
         (service_pays s st w arguments answer waiting log d h kind to from i u)
+    op_pays (Run Malloc to from) i u z =
+        begun_at (act s.program (Run Malloc to from) w arguments answer waiting log)
+        (operand_gentle (Run Malloc to from) from _ i refl (both_true (w.on from) true u).0
+        (append_assoc (load_code 24 ((layout_of f places).spot from)) _ _)) (omega arith)
+        (malloc_pays s st w arguments answer waiting log d h to from i u)
     op_pays o i u z = absurd z
 
     used_pays : (b : Bool) (o : Op) → slice_get f.ops w.index ≡ Some o → uses_on o w.on ≡ b → IsServed o

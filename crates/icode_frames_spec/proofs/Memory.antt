@@ -11,7 +11,7 @@ use Rattle.icode_templates_proof.specs.Spots.{SameWorld}
 use Rattle.icode_templates_proof.proofs.Memory.{update_same, update_other}
 use Rattle.icode_frames_spec.specs.Settings.{Published}
 use Rattle.icode_frames_spec.specs.Frames.{Counted, counted_cells}
-use Rattle.icode_frames_spec.specs.Relation.{MemoryAgrees}
+use Rattle.icode_frames_spec.specs.Relation.{MemoryAgrees, IsHeapPlace}
 
 count_is : (counts : Bool) (by : ℕ) (cells : ℕ → ℕ)
     → counted_cells counts by cells (ACTIVE_CALLS_CELL / 4) ≡ counted counts by (cells (ACTIVE_CALLS_CELL / 4))
@@ -55,6 +55,7 @@ memory_counted program shared shared' active counts by d after eh ei eo ep n h =
   objects = n.objects ∙ h.objects ∙ sym eo;
   object_words = subst (λ (m : ℕ → ℕ). (k : ℕ) → m k < 4294967296) (sym eo) h.object_words;
   heap = ap (λ (c : ℕ → ℕ). c (NEXT_HEAP_CELL / 4)) n.cells ∙ heap_stays counts by d.cells ∙ h.heap ∙ sym ep;
+  heap_place = subst IsHeapPlace (sym ep) h.heap_place;
   active_calls =
       ap (λ (c : ℕ → ℕ). c (ACTIVE_CALLS_CELL / 4)) n.cells ∙ count_is counts by d.cells
       ∙ ap (λ x. counted counts by x) h.active_calls;

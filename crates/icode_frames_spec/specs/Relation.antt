@@ -19,6 +19,11 @@ use Rattle.icode_templates_proof.specs.Moves.{behind}
 use Rattle.icode_frames_spec.specs.Standing.{op_stands_at}
 use Rattle.icode_frames_spec.specs.Settings.{Setting, places_of, Standing, Published}
 use Rattle.icode_frames_spec.specs.Frames.{FrameAgrees, CallersWait, unwound}
+use Rattle.limits.specs.declared.program.TheConstants.{MOST_ARGUMENTS}
+
+-- a next place of the heap: a multiple of 8, and none behind the heap's end
+abbrev pub IsHeapPlace : ℕ → Type 0
+IsHeapPlace heap = (heap ≤ FRAMES) × (heap % 8 ≡ 0)
 
 -- What outlives a call and is in no register agrees: the events, the input and whether its end was read, the objects,
 -- the cells, and the function table.
@@ -29,6 +34,7 @@ pub record MemoryAgrees (program : Program) (shared : Shared) (active : ℕ) (d 
   pub objects : d.objects ≡ shared.objects
   pub object_words : (n : ℕ) → shared.objects n < 4294967296
   pub heap : d.cells (NEXT_HEAP_CELL / 4) ≡ shared.heap
+  pub heap_place : IsHeapPlace shared.heap
   pub active_calls : d.cells (ACTIVE_CALLS_CELL / 4) ≡ active
   pub active_word : active < 4294967296
   pub table : Published program d.table
@@ -40,7 +46,7 @@ pub record ExtentsAgree (shared : Shared) (d : Data) : Type 0 where
 
 -- the arguments that the next op finds, at the stack pointer
 pub record ArgumentsAgree (arguments : ℕ → Option ℕ) (d : Data) : Type 0 where
-  pub known : (k x : ℕ) → arguments k ≡ Some x → (x < 4294967296) × (k < 8)
+  pub known : (k x : ℕ) → arguments k ≡ Some x → (x < 4294967296) × (k < MOST_ARGUMENTS)
   pub stand : (k x : ℕ) → arguments k ≡ Some x → frame_word d (4 * k) ≡ x
 
 -- and the answer, in $v0

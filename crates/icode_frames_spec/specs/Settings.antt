@@ -1,10 +1,14 @@
 -- What stands in memory while a program runs: the code, the functions at their addresses and the published numbers, the
--- places of each function's registers, and the exit that the start waits with. Code, functions and numbers may be added
--- during the run. The rules are this project's own.
+-- places of each function's registers, the routines of the run-time library, and the exit that the start waits with.
+-- Code, functions and numbers may be added during the run. The rules are this project's own.
 use Rattle.std.specs.Prelude.{◌≡◌, ℕ, ◌<◌, List, Some, None}
 use Rattle.word32.specs.declared.map.TheConstants.{FUNCTION_ROWS, UNPUBLISHED}
 use Rattle.mips_model.specs.State.{Code}
 use Rattle.mips_model.specs.Laws.{HasAt, Grows}
+use Rattle.icode_ops.specs.Kinds.{run_number}
+use Rattle.icode_ops.specs.declared.kind.RunKind.TheVariants.{Malloc}
+use Rattle.icode_templates.specs.Templates.{routine_address}
+use Rattle.spec_closure.specs.Malloc.{malloc_code}
 use Rattle.icode_meaning.specs.State.{Function, Program}
 use Rattle.icode_frames_spec.specs.Standing.{Stands, exit_code}
 
@@ -18,10 +22,12 @@ pub record Setting : Type 0 where
 abbrev pub places_of : Setting → Function → List ℕ
 places_of s f = s.places_at f.address
 
--- each function stands at its address, under its places, and the start's exit stands in the code
+-- each function stands at its address, under its places, each routine that ops call stands at its block, and the
+-- start's exit stands in the code
 pub record Standing (s : Setting) : Type 0 where
   pub functions :
       (a : ℕ) (f : Function) → s.program.function_at a ≡ Some f → (f.address ≡ a) × Stands s.code f (s.places_at a)
+  pub routines : HasAt s.code (routine_address (run_number Malloc)) malloc_code
   pub exits : HasAt s.code s.exit exit_code
 
 -- the function table has the published numbers, and no others

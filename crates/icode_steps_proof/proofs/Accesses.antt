@@ -64,6 +64,7 @@ module _ (s : Setting) (st : Standing s) where
           objects = ap (store address kind x) h.memory.objects;
           object_words = store_words log.shared.objects address kind x h.memory.object_words word;
           heap = h.memory.heap;
+          heap_place = h.memory.heap_place;
           active_calls = h.memory.active_calls;
           active_word = h.memory.active_word;
           table = h.memory.table;

@@ -9,5 +9,6 @@ pub mod ObjectAddresses
 pub mod Ops
 pub mod Growing
 pub mod SystemCalls
+pub mod Allocating
 pub mod Accesses
 pub mod Operators

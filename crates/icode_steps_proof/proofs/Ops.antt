@@ -62,6 +62,7 @@ module _ (s : Setting) (st : Standing s) where
           objects = h.memory.objects;
           object_words = h.memory.object_words;
           heap = h.memory.heap;
+          heap_place = h.memory.heap_place;
           active_calls = h.memory.active_calls;
           active_word = h.memory.active_word;
           table = h.memory.table;

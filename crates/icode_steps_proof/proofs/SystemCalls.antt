@@ -24,7 +24,7 @@ use Rattle.icode_templates_proof.proofs.Numbers.{number_writes}
 use Rattle.icode_templates_proof.proofs.Inputs.{byte_given, byte_reads, end_reads, failure_ends}
 use Rattle.icode_templates_proof.proofs.Exits.{exit_ends}
 use Rattle.icode_frames_spec.specs.Frames.{Alike}
-use Rattle.icode_frames_spec.specs.Relation.{Holds, Pays}
+use Rattle.icode_frames_spec.specs.Relation.{Holds, IsHeapPlace, Pays}
 use Rattle.icode_frames_spec.specs.Settings.{Setting, places_of, Standing}
 use Rattle.icode_frames_spec.specs.Standing.{layout_of, op_stands_at, Stands}
 use Rattle.icode_frames_spec.proofs.Codes.{op_code, one_stands}
@@ -97,6 +97,7 @@ module _ (s : Setting) (st : Standing s) where
           objects = h.memory.objects ∙ sym eo;
           object_words = subst (λ (m : ℕ → ℕ). (k : ℕ) → m k < 4294967296) (sym eo) h.memory.object_words;
           heap = h.memory.heap ∙ sym ep;
+          heap_place = subst IsHeapPlace (sym ep) h.memory.heap_place;
           active_calls = h.memory.active_calls;
           active_word = h.memory.active_word;
           table = h.memory.table;

@@ -89,6 +89,7 @@ memory_round program shared active address d h = record {
       subst (λ (m : ℕ → ℕ). (n : ℕ) → m n < 4294967296) (same_words (address / 4) shared.objects)
       (zero_word (address / 4) shared.objects h.object_words);
   heap = h.heap;
+  heap_place = h.heap_place;
   active_calls = h.active_calls;
   active_word = h.active_word;
   table = h.table;

@@ -4,7 +4,8 @@ use Rattle.icode_ops.specs.declared.op.Op.{Op}
 use Rattle.icode_ops.specs.declared.op.Op.TheVariants.{Const, Move, Bin, FrameAddress, Load, Store, Clear, Label}
 use Rattle.icode_ops.specs.declared.op.Op.TheVariants.{Jump, BranchZero, BranchNonzero, CheckDivision, CheckZero, Un}
 use Rattle.icode_ops.specs.declared.op.Op.TheVariants.{Argument, GetParameter, Call, CallNumber, Result, Return}
-use Rattle.icode_ops.specs.declared.op.Op.TheVariants.{ReturnZero, Sys}
+use Rattle.icode_ops.specs.declared.op.Op.TheVariants.{ReturnZero, Sys, Run}
+use Rattle.icode_ops.specs.declared.kind.RunKind.TheVariants.{Malloc}
 use Rattle.icode_ops.specs.Flow.{op_at}
 use Rattle.icode_meaning.specs.State.{Function}
 use Rattle.icode_frames_spec.specs.Settings.{Setting}
@@ -33,6 +34,7 @@ IsServed (Result to) = Unit {0}
 IsServed (Return from) = Unit {0}
 IsServed ReturnZero = Unit {0}
 IsServed (Sys kind to from) = Unit {0}
+IsServed (Run Malloc to from) = Unit {0}
 IsServed op = ⊥
 
 -- each op of each function is served

@@ -1,12 +1,14 @@
--- The instructions of services, loads and stores have words.
+-- The instructions of services, of the routine's call, of loads and of stores have words.
 use Rattle.std.proofs.Common.{ℕ, [], ◌∷◌, ◌<◌, arith}
 use Rattle.word32.specs.declared.width.Width.{Width}
 use Rattle.word32.specs.declared.width.Width.TheVariants as width
 use Rattle.mips_model.proofs.Loaded.{AllFit}
-use Rattle.icode_ops.specs.Kinds.{sys_number}
+use Rattle.icode_ops.specs.Kinds.{sys_number, run_number}
 use Rattle.icode_ops.specs.declared.kind.SysKind.{SysKind}
 use Rattle.icode_ops.specs.declared.kind.SysKind.TheVariants as sys
-use Rattle.icode_templates.specs.Templates.{service_code, range_check, load_instruction, store_instruction}
+use Rattle.icode_ops.specs.declared.kind.RunKind.TheVariants.{Malloc}
+use Rattle.icode_templates.specs.Templates.{service_code, routine_code, range_check}
+use Rattle.icode_templates.specs.Templates.{load_instruction, store_instruction}
 
 service_low : (kind : SysKind) → sys_number kind < 65536
 service_low sys.PutInteger = omega arith
@@ -20,6 +22,12 @@ service_fits kind =
       (omega arith, omega arith, omega arith),
       ((omega arith, omega arith, omega (arith, low)), (tt, ((omega arith, omega arith, omega arith), tt))),
     )
+
+pub routine_fits : AllFit (routine_code (run_number Malloc))
+routine_fits = (
+  (omega arith, omega arith, omega arith),
+  (omega arith, ((omega arith, omega arith, omega arith), ((omega arith, omega arith, omega arith), tt))),
+)
 
 pub range_fits : (r : ℕ) → r < 32 → AllFit (range_check r)
 range_fits r h = (

@@ -13,13 +13,14 @@ use Rattle.icode_ops.specs.declared.op.Op.{Op}
 use Rattle.icode_ops.specs.declared.op.Op.TheVariants.{Const, Move, Bin, FrameAddress, Load, Store, Clear, Label}
 use Rattle.icode_ops.specs.declared.op.Op.TheVariants.{Jump, BranchZero, BranchNonzero, CheckDivision, CheckZero, Un}
 use Rattle.icode_ops.specs.declared.op.Op.TheVariants.{Argument, GetParameter, Call, CallNumber, Result, Return}
-use Rattle.icode_ops.specs.declared.op.Op.TheVariants.{ReturnZero, Sys}
+use Rattle.icode_ops.specs.declared.op.Op.TheVariants.{ReturnZero, Sys, Run}
+use Rattle.icode_ops.specs.declared.kind.RunKind.TheVariants.{Malloc}
 use Rattle.icode_ops.specs.declared.kind.BinKind.{BinKind}
 use Rattle.icode_ops.specs.declared.kind.BinKind.TheVariants as bin
 use Rattle.icode_ops.specs.declared.kind.UnKind.{UnKind}
 use Rattle.icode_ops.specs.declared.kind.UnKind.TheVariants as un
 use Rattle.icode_ops.specs.Flow.{op_at}
-use Rattle.icode_ops.specs.Kinds.{sys_number}
+use Rattle.icode_ops.specs.Kinds.{sys_number, run_number}
 use Rattle.icode_ops.specs.Finished.{InRange}
 use Rattle.icode_ops.specs.Places.{place_of}
 use Rattle.icode_templates.specs.Assembly.{addu, subu, sltu, lui, bne, beq, j, nop, trap, constant}
@@ -28,7 +29,7 @@ use Rattle.icode_templates.specs.Layout.{Spot, InRegister, InSlot, Layout, param
 use Rattle.icode_templates.specs.Templates.{Aim, ToLabel, ToEpilogue, load_code, wait_code, in_code, in_two_code}
 use Rattle.icode_templates.specs.Templates.{out_code, bin_core, range_check, load_instruction, store_instruction}
 use Rattle.icode_templates.specs.Templates.{un_core, trap_if_zero, division_check, object_address, clear_loop}
-use Rattle.icode_templates.specs.Templates.{service_code, number_call, template}
+use Rattle.icode_templates.specs.Templates.{service_code, routine_code, number_call, template}
 use Rattle.icode_expand.specs.Frames.{saved, saves, restores, take_frame, free_frame, take_objects, free_objects}
 use Rattle.icode_expand.specs.Frames.{enter_count, leave_count}
 use Rattle.icode_expand.specs.Laws.{AllPlaces}
@@ -44,7 +45,7 @@ use Rattle.icode_steps_proof.proofs.Liveness.{op_found}
 use Rattle.icode_steps_proof.specs.Served.{IsServed}
 use Rattle.icode_words_proof.specs.Laws.{WordsSuffice}
 use Rattle.icode_words_proof.proofs.Suiting.{code_ends}
-use Rattle.icode_words_proof.proofs.Accesses.{service_fits, range_fits, load_word, store_word}
+use Rattle.icode_words_proof.proofs.Accesses.{service_fits, routine_fits, range_fits, load_word, store_word}
 
 -- instructions that have words stand where their words stand
 pub words_stand : (c : Code) (a : ℕ) (is : List Instr) → AllFit is → a % 4 ≡ 0 → past a is ≤ ARENA
@@ -369,6 +370,11 @@ module _ (f : Function) (places : List ℕ) (st : Suits f places)
       all_fit_append (in_code (pl.spot from)) (service_code (sys_number kind) ++ out_code (pl.spot to))
       (in_fits f.charge (pl.spot from) small (usable from r.1))
       (all_fit_append (service_code (sys_number kind)) (out_code (pl.spot to)) (service_fits kind)
+      (out_fits f.charge (pl.spot to) small (usable to r.0)))
+  template_fits (Run Malloc to from) s r =
+      all_fit_append (in_code (pl.spot from)) (routine_code (run_number Malloc) ++ out_code (pl.spot to))
+      (in_fits f.charge (pl.spot from) small (usable from r.1))
+      (all_fit_append (routine_code (run_number Malloc)) (out_code (pl.spot to)) routine_fits
       (out_fits f.charge (pl.spot to) small (usable to r.0)))
   template_fits (Argument index from) s r =
       all_fit_append (in_code (pl.spot from)) _ (in_fits f.charge (pl.spot from) small (usable from r.1))

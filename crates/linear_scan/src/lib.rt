@@ -105,14 +105,14 @@ fn free_number(keepers: &Row) -> u32
     12
 }
 
-// The interval becomes a keeper.
-fn admit(keepers: &mut Row, owners: &mut [u32], places: &mut [u8], x: Interval)
+// The interval becomes a keeper, and holds the least number that is free.
+fn admit(keepers: &mut Row, owners: &mut [u32], places: &mut [u8], x: Interval, number: u32)
     requires held { (s : ScanState) × Holds s keepers.old owners.old places.old × (length s.keepers < 12) }
     requires reg { x.reg < length places.old }
+    requires free { number ≡ least_free 12 0 (ids keepers.old.items) }
     ensures { (s : ScanState) → Holds s keepers.old owners.old places.old → length s.keepers < 12 → IsFresh x s →
         Holds (keep x s.keepers s.numbered s.spilled) keepers.new owners.new places.new }
 {
-    let number = free_number(keepers);
     keepers.insert_sorted(number, x.end);
     owners[number as usize] = x.reg;
     places[x.reg as usize] = number as u8;
@@ -140,16 +140,18 @@ fn visit(keepers: &mut Row, owners: &mut [u32], places: &mut [u8], x: Interval)
         Holds (visit s x) keepers.new owners.new places.new }
 {
     expire(keepers, x.start);
-    if free_number(keepers) < 12 {
-        admit(keepers, owners, places, x);
+    let number = free_number(keepers);
+    if number < 12 {
+        admit(keepers, owners, places, x, number);
         return;
     }
     match keepers.last() {
         None => {}
-        Some((number, end)) => {
+        Some((last, end)) => {
             if x.end < end {
-                spill_last(keepers, owners, places, number);
-                admit(keepers, owners, places, x);
+                spill_last(keepers, owners, places, last);
+                let freed = free_number(keepers);
+                admit(keepers, owners, places, x, freed);
             } else {
                 places[x.reg as usize] = SLOT;
             }

@@ -8,7 +8,7 @@ use Rattle.host_edge.specs.declared.ending.TrapKind.TheVariants.{BadParam, SpecL
 use Rattle.history.specs.Syntax.{Syntax, Ticked, Captures, NoCapture, Word, Named, Spliced}
 use Rattle.history.specs.Events.{Made}
 use Rattle.meaning_state.specs.Shared.{Shared, Specification, happens}
-use Rattle.limits.specs.declared.program.TheConstants.{SIZE_LIMIT, WORDS_OF_A_BODY, WORDS_OF_A_NODE}
+use Rattle.limits.specs.declared.program.TheConstants.{MOST_ARGUMENTS, SIZE_LIMIT, WORDS_OF_A_BODY, WORDS_OF_A_NODE}
 use Rattle.limits.specs.declared.run.TheConstants.{CAPTURE_BYTES, CLOSURE_HEAD_BYTES}
 use Rattle.word32.specs.declared.map.TheConstants.{ARENA_WORDS, CLOSURE_BYTES, FUNCTION_ROWS}
 
@@ -24,7 +24,7 @@ specification_at number shared = numbered number shared.specifications
 
 -- the parameters of a function: one more than the greatest index that its code names
 abbrev pub key_parameters : ℕ → ℕ
-key_parameters key = if nat_lt key 8 then suc key else 0
+key_parameters key = if nat_lt key MOST_ARGUMENTS then suc key else 0
 
 abbrev mutual
   pub parameters_of : Syntax → ℕ
@@ -55,7 +55,7 @@ is_among key (k ∷ keys) = if nat_eq key k then true else is_among key keys
 abbrev pub count_locals : List ℕ → ℕ
 count_locals [] = 0
 count_locals (key ∷ keys) =
-    if nat_lt key 8 then count_locals keys
+    if nat_lt key MOST_ARGUMENTS then count_locals keys
     else (if is_among key keys then count_locals keys else suc (count_locals keys))
 
 abbrev pub locals_of : Syntax → ℕ

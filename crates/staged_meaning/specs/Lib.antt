@@ -1,6 +1,8 @@
 pub mod Size
 pub mod Values
 pub mod Placed
+pub mod Calls
+pub mod Frames
 pub mod Scope
 pub mod World
 pub mod Program

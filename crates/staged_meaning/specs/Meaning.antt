@@ -41,6 +41,7 @@ pub use Rattle.staged_meaning.specs.Statements.{
   stepped,
 }
 use Rattle.word32.specs.declared.map.TheConstants.{HEAP, OBJECTS}
+use Rattle.limits.specs.declared.program.TheConstants.{MOST_ARGUMENTS}
 
 -- ---- calls
 
@@ -119,7 +120,7 @@ returned (Stops shared) = Stops shared
 
 -- the variables of generated code as a function is entered: its parameters have its arguments, and the others are 0
 abbrev pub keys_at_entry : List ℕ → ℕ → ℕ
-keys_at_entry arguments key = if nat_lt key 8 then argument arguments key else 0
+keys_at_entry arguments key = if nat_lt key MOST_ARGUMENTS then argument arguments key else 0
 
 -- a compiled function's body runs once the call has spent its unit, and one for each local variable of its code
 abbrev pub generated_body : Context → Syntax → List ℕ → World → Result ℕ

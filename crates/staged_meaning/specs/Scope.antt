@@ -1,18 +1,18 @@
 -- Which variables are in scope: those of the blocks that are entered. A checked tree uses no other. And which nodes
--- have
--- a meaning so far: further kinds join as further cases.
-use Rattle.std.specs.Prelude.{ℕ, ◌≡◌, ◌≤◌, Bool, true, false}
+-- have a meaning so far: further kinds join as further cases.
+use Rattle.std.specs.Prelude.{ℕ, ◌≡◌, ◌%◌, ◌≤◌, Bool, true, false, List}
 use Rattle.word32.specs.Space.{update}
 use Rattle.typed_tree.specs.Nodes.{Expr, Const, Var, SetVar, PostVar, VSet, Load, Store, Modify, Post, Bin, Un, And, Or}
 use Rattle.typed_tree.specs.Nodes.{Cond, Comma, Void, Call, CallNumber, Lib, Tick, Capture, Compile, ParamOf, Args}
 use Rattle.typed_tree.specs.Nodes.{NoArg, Arg, Stmt, Eval, Block, Variable, Parameter, If, IfElse, While, Do, For}
 use Rattle.typed_tree.specs.Nodes.{ForStep, Switch, Case, Default, Break, Continue, Return, ReturnValue, Getchar}
-use Rattle.typed_tree.specs.Nodes.{Items, NoItem, Item, Function}
-use Rattle.typed_tree.specs.declared.expression.Library.TheVariants.{Putchar, Putint, Exit}
+use Rattle.typed_tree.specs.Nodes.{Frame, Object, ParameterObject, Items, NoItem, Item, Function}
 use Rattle.staged_meaning.specs.Size.{size_of, variables_in}
-use Rattle.staged_meaning.specs.Placed.{IsPlaced, outside}
+use Rattle.staged_meaning.specs.Calls.{HasCallsStmt}
+use Rattle.staged_meaning.specs.Frames.{HasFramesStmt}
+use Rattle.staged_meaning.specs.Placed.{IsPlaced, IsHeaded, outside}
 use Rattle.staged_meaning.specs.Values.{UsesValuesStmt}
-use Rattle.limits.specs.declared.program.TheConstants.{SIZE_LIMIT}
+use Rattle.limits.specs.declared.program.TheConstants.{FRAME_OBJECT_BYTES, MOST_ARGUMENTS, SIZE_LIMIT}
 
 -- true at the variables that are in scope
 abbrev pub Scope : Type 0
@@ -83,29 +83,43 @@ abbrev mutual
   AreScopedItems scope (Item s items) = IsScopedStmt scope s × AreScopedItems (scope_of s scope) items
 
 -- the nodes of a tree are of the kinds that are built so far
-abbrev pub IsBuilt : Expr → Type 0
-IsBuilt (Const word) = Unit {0}
-IsBuilt (Var i) = Unit {0}
-IsBuilt (SetVar i a) = IsBuilt a
-IsBuilt (PostVar i width step) = Unit {0}
-IsBuilt (Bin k a b) = IsBuilt a × IsBuilt b
-IsBuilt (Un k a) = IsBuilt a
-IsBuilt (And a b) = IsBuilt a × IsBuilt b
-IsBuilt (Or a b) = IsBuilt a × IsBuilt b
-IsBuilt (Cond c a b) = IsBuilt c × IsBuilt a × IsBuilt b
-IsBuilt (Comma a b) = IsBuilt a × IsBuilt b
-IsBuilt (Void a) = IsBuilt a
-IsBuilt Getchar = Unit {0}
-IsBuilt (Lib Putchar a) = IsBuilt a
-IsBuilt (Lib Putint a) = IsBuilt a
-IsBuilt (Lib Exit a) = IsBuilt a
-IsBuilt _ = ⊥
+abbrev mutual
+  pub IsBuilt : Expr → Type 0
+  IsBuilt (Const word) = Unit {0}
+  IsBuilt (Var i) = Unit {0}
+  IsBuilt (SetVar i a) = IsBuilt a
+  IsBuilt (PostVar i width step) = Unit {0}
+  IsBuilt (Frame offset) = Unit {0}
+  IsBuilt (Load width a) = IsBuilt a
+  IsBuilt (Store width a b) = IsBuilt a × IsBuilt b
+  IsBuilt (Modify width k a b) = IsBuilt a × IsBuilt b
+  IsBuilt (Post width step a) = IsBuilt a
+  IsBuilt (Bin k a b) = IsBuilt a × IsBuilt b
+  IsBuilt (Un k a) = IsBuilt a
+  IsBuilt (And a b) = IsBuilt a × IsBuilt b
+  IsBuilt (Or a b) = IsBuilt a × IsBuilt b
+  IsBuilt (Cond c a b) = IsBuilt c × IsBuilt a × IsBuilt b
+  IsBuilt (Comma a b) = IsBuilt a × IsBuilt b
+  IsBuilt (Void a) = IsBuilt a
+  IsBuilt (Call answer f args) = AreBuilt args
+  IsBuilt (CallNumber answer a args) = IsBuilt a × AreBuilt args
+  IsBuilt Getchar = Unit {0}
+  IsBuilt (Lib library a) = IsBuilt a
+  IsBuilt _ = ⊥
+
+  pub AreBuilt : Args → Type 0
+  AreBuilt NoArg = Unit {0}
+  AreBuilt (Arg a args) = IsBuilt a × AreBuilt args
 
 abbrev mutual
   pub IsBuiltStmt : Stmt → Type 0
   IsBuiltStmt (Eval e) = IsBuilt e
   IsBuiltStmt (Block variables items) = AreBuiltItems variables × AreBuiltItems items
   IsBuiltStmt (Variable i) = Unit {0}
+  -- an object has a word at least
+  IsBuiltStmt (Object offset words) = 1 ≤ words
+  IsBuiltStmt (Parameter k width) = Unit {0}
+  IsBuiltStmt (ParameterObject k width offset) = Unit {0}
   IsBuiltStmt (If e s) = IsBuilt e × IsBuiltStmt s
   IsBuiltStmt (IfElse e s t) = IsBuilt e × IsBuiltStmt s × IsBuiltStmt t
   IsBuiltStmt (While e s) = IsBuilt e × IsBuiltStmt s
@@ -119,15 +133,14 @@ abbrev mutual
   IsBuiltStmt Continue = Unit {0}
   IsBuiltStmt Return = Unit {0}
   IsBuiltStmt (ReturnValue e) = IsBuilt e
-  IsBuiltStmt _ = ⊥
 
   pub AreBuiltItems : Items → Type 0
   AreBuiltItems NoItem = Unit {0}
   AreBuiltItems (Item s items) = IsBuiltStmt s × AreBuiltItems items
 
--- A function whose nodes are built, use the variables that are in scope and the values that are left, and stand where they
--- may. It has at most so many nodes as a program
--- that is accepted may have in a function, and its variables are numbered from 0, each declared by a node.
+-- A function whose nodes are built, use the variables that are in scope and the values that are left, and stand where
+-- they may. It has at most so many nodes as a program that is accepted may have in a function, and its variables are
+-- numbered from 0, each declared by a node.
 pub record IsReady (function : Function) : Type 0 where
   pub built : IsBuiltStmt function.body
   pub scoped : IsScopedStmt no_scope function.body
@@ -135,3 +148,14 @@ pub record IsReady (function : Function) : Type 0 where
   pub placed : IsPlaced outside function.body
   pub small : size_of function ≤ SIZE_LIMIT
   pub dense : variables_in function.body ≤ size_of function
+
+-- Such a function among these: its calls fit them, its objects lie in its frame, which is of whole words, and its
+-- parameters are declared at its head.
+pub record IsReadyIn (functions : List Function) (function : Function) : Type 0 where
+  pub ready : IsReady function
+  pub calls : HasCallsStmt functions function.body
+  pub frames : HasFramesStmt function.object function.body
+  pub headed : IsHeaded function.parameters function.body
+  pub few : function.parameters ≤ MOST_ARGUMENTS
+  pub short : function.object ≤ FRAME_OBJECT_BYTES
+  pub whole : function.object % 4 ≡ 0

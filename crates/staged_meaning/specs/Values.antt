@@ -1,5 +1,5 @@
--- Which values are used, and that the nodes that are to give them do: a void expression leaves none. A checked tree keeps
--- this. These are C's rules on void, as far as they concern nodes.
+-- Which values are used, and that the nodes that are to give them do: a void expression leaves none. A checked tree
+-- keeps this. These are C's rules on void, as far as they concern nodes.
 use Rattle.std.specs.Prelude.{◌≡◌, true}
 use Rattle.typed_tree.specs.Nodes.{Expr, SetVar, VSet, Load, Store, Modify, Post, Bin, Un, And, Or, Cond, Comma, Void}
 use Rattle.typed_tree.specs.Nodes.{Call, CallNumber, Lib, Tick, Capture, Compile, ParamOf, Args, NoArg, Arg, has_value}

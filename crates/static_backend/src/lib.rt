@@ -6,6 +6,7 @@ mod backend;
 mod code;
 mod functions;
 mod places;
+mod plan;
 mod tables;
 mod text;
 

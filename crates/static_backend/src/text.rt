@@ -6,6 +6,7 @@ ghost use Rattle.icode_expand.specs.Expansion.{expanded};
 ghost use Rattle.static_image.specs.Layout.{front};
 ghost use Rattle.limits.specs.declared.ops.TheConstants.{OP_LIMIT as LABELS};
 ghost use Rattle.limits.specs.declared.program.TheConstants.{MOST_FUNCTIONS};
+ghost use Rattle.word32.specs.declared.map.TheConstants.{ARENA, OBJECT_BYTES, SEGMENT_BYTES, STACK_BYTES};
 
 use icode_expand::{expand, words_are_few};
 use icode_ops::Op;
@@ -25,7 +26,7 @@ pub fn zeros(alloc: Global, count: usize) -> Result<Vec<u32>, AllocError>
 /// The words in front of the functions, with the address of main's first word and how many functions there are. The only
 /// error is want of memory.
 pub fn front_words(alloc: Global, main: u32, functions: u32) -> Result<Vec<u32>, AllocError>
-    requires main { main < 268435456 }
+    requires main { main < SEGMENT_BYTES }
     requires functions { functions ≤ MOST_FUNCTIONS }
     ensures { IfOk result (λ made. made.items ≡ front main functions) }
 {
@@ -48,9 +49,9 @@ pub fn function_words(
 ) -> Result<Vec<u32>, AllocError>
     requires labels { length labels.old ≡ LABELS }
     requires finished { (n : ℕ) × IsFinished ops.now n }
-    requires low { at ≤ 67108864 }
-    requires frame { frame ≤ 16777216 }
-    requires object { object ≤ 16777216 }
+    requires low { at ≤ ARENA }
+    requires frame { frame ≤ STACK_BYTES }
+    requires object { object ≤ OBJECT_BYTES }
     ensures { IfOk result (λ made. made.items ≡ expanded ops.now places.now at frame object false) }
 {
     let mut words = zeros(alloc, OP_WORDS * ops.len() + FRAME_WORDS)?;

@@ -1,7 +1,7 @@
 -- The start brings a run of an image to main, with the stack empty and the cells set, and waits with its exit.
 use Rattle.std.proofs.Common.{◌≡◌, ℕ, ◌+◌, ◌-◌, ◌*◌, ◌/◌, ◌%◌, ◌<◌, ◌≤◌, Bool, true, false, List, [], ◌∷◌}
 use Rattle.std.proofs.Common.{◌++◌, length, Option, None, Some, refl, sym, ap, map, ◌∙◌, subst, arith, append_assoc}
-use Rattle.std.proofs.Common.{append-nil, length-append, nat_lt, if◌then◌else◌, slice_get, replicate}
+use Rattle.std.proofs.Common.{append-nil, length-append, nat_lt, if◌then◌else◌, slice_get, slice_index, replicate}
 use Rattle.std.specs.Fn.{iterate}
 use Rattle.std.proofs.lemmas.List.{length-replicate}
 use Rattle.std.proofs.lemmas.Bool.Decides.{nat_tests}
@@ -115,13 +115,17 @@ abbrev pub data_of : Option (ℕ × Data) → Data → Data
 data_of None d = d
 data_of (Some r) d = r.1
 
--- no object has bytes yet
-no_bytes : (n : ℕ) → bytes_from (OBJECTS / 4) [] n < 4294967296
-no_bytes n = by (nat_lt n (OBJECTS / 4))
+-- the objects begin with words that bytes make
+word_small : (bytes : List ℕ) → ((k : ℕ) → slice_index bytes k < 256) → (at : ℕ) → word_in bytes at < 4294967296
+word_small bytes small at = omega (arith, small at, small (at + 1), small (at + 2), small (at + 3))
+
+bytes_small : (bytes : List ℕ) → ((k : ℕ) → slice_index bytes k < 256) → (n : ℕ) →
+    bytes_from (OBJECTS / 4) bytes n < 4294967296
+bytes_small bytes small n = by (nat_lt n (OBJECTS / 4))
   where
-    by : (b : Bool) → (if b then 0 else word_in [] (4 * (n - OBJECTS / 4))) < 4294967296
+    by : (b : Bool) → (if b then 0 else word_in bytes (4 * (n - OBJECTS / 4))) < 4294967296
     by true = omega arith
-    by false = omega arith
+    by false = word_small bytes small (4 * (n - OBJECTS / 4))
 
 -- where main is called, and where the start waits with its exit
 abbrev pub call_at : ℕ
@@ -130,11 +134,12 @@ call_at = past 4194304 (set_up 1)
 abbrev pub exit_at : ℕ
 exit_at = call_at + 8
 
--- main stands in the first 256 megabytes, and there are so many functions, each of which has a row
-module _ (main functions : ℕ) (even : main % 4 ≡ 0) (low : main < 268435456) (rows : List FunctionEntry) (c : Code)
-    (input : Input) (h : HasAt c 4194304 (start_code main functions)) where
+-- main stands in the first 256 megabytes, there are so many functions, each of which has a row, and the objects begin
+-- with these bytes
+module _ (main functions : ℕ) (even : main % 4 ≡ 0) (low : main < 268435456) (bytes : List ℕ)
+    (rows : List FunctionEntry) (c : Code) (input : Input) (h : HasAt c 4194304 (start_code main functions)) where
   abbrev pub first : Data
-  first = machine.first_data [] rows input
+  first = machine.first_data bytes rows input
 
   abbrev pub set : Data
   set = data_of (through (set_up functions) 0 first) first
@@ -165,17 +170,18 @@ module _ (main functions : ℕ) (even : main % 4 ≡ 0) (low : main < 268435456)
   pub waits : HasAt c exit_at exit_code
   waits = rest.1.1
 
-  -- the rows are the image's, and nothing was read or put out
-  pub agrees : (machine : Program) (program : meaning.Program) → program.image ≡ []
-      → Published machine (numbered (map row_of rows))
+  -- the rows and the bytes are the image's, and nothing was read or put out
+  pub agrees : (machine : Program) (program : meaning.Program) → program.image ≡ bytes
+      → ((k : ℕ) → slice_index bytes k < 256) → Published machine (numbered (map row_of rows))
       → MemoryAgrees machine (at_start program input) 0 called
-  agrees machine program none published = record {
+  agrees machine program same small published = record {
     history = refl;
     input = refl;
     at_end = λ e. absurd cc;
-    objects = ap (λ bytes. bytes_from 67108864 bytes) (sym none);
-    object_words = λ n. rw none (no_bytes n);
+    objects = ap (λ (bs : List ℕ). bytes_from (OBJECTS / 4) bs) (sym same);
+    object_words = λ n. rw same (bytes_small bytes small n);
     heap = refl;
+    heap_place = (omega arith, refl);
     active_calls = refl;
     active_word = omega arith;
     table = published;

@@ -16,7 +16,7 @@ use Rattle.icode_ops.specs.declared.kind.SysKind.TheVariants.{PutByte, GetByte, 
 use Rattle.icode_ops.specs.declared.kind.RunKind.TheVariants as run
 use Rattle.meaning_state.specs.Operators.{bin_value, bin_trap, signed_trap, zero_trap}
 use Rattle.meaning_state.specs.Shared.{Specification, Local, Param, Read, Got, Failed, get_byte, access_trap, loaded}
-use Rattle.meaning_state.specs.Shared.{stored, are_objects, zeroed, limit_trap}
+use Rattle.meaning_state.specs.Shared.{stored, are_objects, limit_trap}
 use Rattle.meaning_state.specs.Rows.{closure_trap, index_trap, next_number, specified}
 use Rattle.icode_meaning.specs.State.{Function, Program, Frame, Log, State, Running, Zeroing, Halted, Stuck, see}
 use Rattle.icode_meaning.specs.Steps.{uses_on, paid, sharing, moved_on, set, goes_on, unless, begun, entered, call_at}
@@ -98,7 +98,8 @@ module _ (program : Program) where
   act_is (Move to from) frame arguments answer waiting log = tt
   act_is (Bin kind to a b) frame arguments answer waiting log =
       untrapped_is (bin_trap kind (frame.values a) (frame.values b)) log
-      (goes_on (set to (bin_value kind (frame.values a) (frame.values b)) frame) waiting (paid (Bin kind to a b) log)) tt
+      (goes_on (set to (bin_value kind (frame.values a) (frame.values b)) frame) waiting (paid (Bin kind to a b) log))
+      tt
   act_is (CheckDivision a b) frame arguments answer waiting log =
       unless_is (signed_trap (frame.values a) (frame.values b)) (paid (CheckDivision a b) log)
       (goes_on (moved_on frame) waiting (paid (CheckDivision a b) log)) tt

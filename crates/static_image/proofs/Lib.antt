@@ -4,6 +4,7 @@ pub mod Faultless
 pub mod Arriving
 pub mod Serving
 pub mod Unaddressed
+pub mod Anywhere
 pub mod Placing
 pub mod Tables
 pub mod Lows

@@ -1,5 +1,5 @@
 -- Functions one behind another: how long they are, and that each stands at its address in the text.
-use Rattle.std.proofs.Common.{◌≡◌, ℕ, zero, suc, ◌+◌, ◌-◌, ◌*◌, ◌%◌, ◌≤◌, Bool, true, false, List, []}
+use Rattle.std.proofs.Common.{◌≡◌, ℕ, zero, suc, ◌+◌, ◌*◌, ◌%◌, ◌≤◌, Bool, true, false, List, []}
 use Rattle.std.proofs.Common.{◌∷◌, ◌++◌, length}
 use Rattle.std.proofs.Common.{Option, None, Some, refl, sym, ap, ◌∙◌, subst, arith, append_assoc}
 use Rattle.std.proofs.Common.{length-append, nat_eq, if◌then◌else◌, slice_get, slice_index}
@@ -39,24 +39,26 @@ use Rattle.static_image.specs.Layout.{Placed, ops_of, registers_in, words_of, un
 use Rattle.static_image.specs.Layout.{words_from, functions_of, IsLegalChoice}
 use Rattle.static_image.specs.Served.{IsStatic, most_words}
 use Rattle.static_image.proofs.Arriving as start
-use Rattle.static_image.proofs.Serving.{ops_served}
-use Rattle.static_image.proofs.Unaddressed.{code_same}
+use Rattle.static_image.proofs.Serving.{AreLow, ops_served}
+use Rattle.static_image.proofs.Unaddressed.{code_length}
 
-abbrev pub Static : Placed → Type 0
-Static x = IsStatic x.function
+abbrev pub Static : List node.Function → Placed → Type 0
+Static fs x = IsStatic fs x.function
 
-pub each_static : (xs : List Placed) → Each IsStatic (functions_of xs) → Each Static xs
-each_static [] h = tt
-each_static (x ∷ xs) h = (h.0, each_static xs h.1)
+pub each_static : (fs : List node.Function) (xs : List Placed) → Each (IsStatic fs) (functions_of xs) →
+    Each (Static fs) xs
+each_static fs [] h = tt
+each_static fs (x ∷ xs) h = (h.0, each_static fs xs h.1)
 
--- a function's words are as many wherever it stands
-pub length_is : (d : Addresses) (at : ℕ) (x : Placed) → Static x → length (words_of d at x) ≡ length_of x
-length_is d at x static =
+-- a function's words are as many wherever it and those that it calls stand
+pub length_is : (d : Addresses) (at : ℕ) (x : Placed) → length (words_of d at x) ≡ length_of x
+length_is d at x =
     let charge = charge_of (size_of x.function) in
     let object = x.function.object in
-    ap (λ os. length (expanded os x.places at charge object false)) (code_same d unknown x.function static.ready.built)
-    ∙ whole_length (ops_of unknown x) x.places at charge object false
-    ∙ sym (whole_length (ops_of unknown x) x.places FUNCTIONS charge object false)
+    let here = whole_length (ops_of d x) x.places at charge object false in
+    let there = whole_length (ops_of unknown x) x.places FUNCTIONS charge object false in
+    let same = code_length d unknown x.function (laid x.places charge object) expansion.nowhere in
+    omega (arith, here, there, same)
 
 -- the code with a last return
 last_more : (os : List Op) (places : List ℕ) (at charge object : ℕ)
@@ -71,8 +73,9 @@ last_more os places at charge object =
     omega (arith, whole, part, a, b)
 
 -- at most so many words a node, and so many besides
-pub few_words : (x : Placed) → Static x → length_of x ≤ WORDS_OF_A_NODE * size_of x.function + WORDS_OF_A_BODY
-few_words x static =
+pub few_words : (fs : List node.Function) (x : Placed) → Static fs x →
+    length_of x ≤ WORDS_OF_A_NODE * size_of x.function + WORDS_OF_A_BODY
+few_words fs x static =
     let charge = charge_of (size_of x.function) in
     let object = x.function.object in
     let b : Build = run_ops (function_ops unknown x.function) (empty x.function.parameters) in
@@ -80,7 +83,7 @@ few_words x static =
     let more = last_more os x.places FUNCTIONS charge object in
     let most = code_most os x.places FUNCTIONS charge object false in
     let same = length_words (expansion.expansion os x.places FUNCTIONS charge object false) in
-    let few = (sizes.small unknown x.function static.ready).few_ops in
+    let few = (sizes.small unknown x.function static.ready.ready).few_ops in
     let one = length-append os (op.ReturnZero ∷ []) in
     omega (arith, more, most, same, few, one)
 
@@ -99,20 +102,27 @@ abbrev pub ends : (at : ℕ) → List Placed → ℕ
 ends at [] = at
 ends at (x ∷ xs) = ends (behind at x) xs
 
-pub ends_most : (at : ℕ) (xs : List Placed) → Each Static xs → ends at xs ≤ at + 4 * most_words (functions_of xs)
-ends_most at [] h = omega arith
-ends_most at (x ∷ xs) h = omega (arith, ends_most (behind at x) xs h.1, few_words x h.0)
+pub ends_most : (fs : List node.Function) (at : ℕ) (xs : List Placed) → Each (Static fs) xs →
+    ends at xs ≤ at + 4 * most_words (functions_of xs)
+ends_most fs at [] h = omega arith
+ends_most fs at (x ∷ xs) h = omega (arith, ends_most fs (behind at x) xs h.1, few_words fs x h.0)
 
 pub ends_rise : (at : ℕ) (xs : List Placed) → at ≤ ends at xs
 ends_rise at [] = omega arith
 ends_rise at (x ∷ xs) = omega (arith, ends_rise (behind at x) xs)
 
-pub ends_at : (d : Addresses) (at : ℕ) (xs : List Placed) → Each Static xs →
+-- the address of each is none behind that
+pub starts_low : (at : ℕ) (xs : List Placed) (k : ℕ) → slice_index (starts at xs) k ≤ ends at xs
+starts_low at [] k = omega arith
+starts_low at (x ∷ xs) zero = ends_rise at (x ∷ xs)
+starts_low at (x ∷ xs) (suc k) = starts_low (behind at x) xs k
+
+pub ends_at : (d : Addresses) (at : ℕ) (xs : List Placed) →
     ends at xs ≡ at + 4 * length (words_from d at xs)
-ends_at d at [] h = omega arith
-ends_at d at (x ∷ xs) h =
-    let rest = ends_at d (behind at x) xs h.1 in
-    let one = length_is d at x h.0 in
+ends_at d at [] = omega arith
+ends_at d at (x ∷ xs) =
+    let rest = ends_at d (behind at x) xs in
+    let one = length_is d at x in
     let two = length-append (words_of d at x) (words_from d (behind at x) xs) in
     omega (arith, rest, one, two)
 
@@ -141,38 +151,41 @@ pub record IsThere (c : Code) (a : ℕ) (f : Function) (places : List ℕ) : Typ
   pub address : f.address ≡ a
   pub stands : Stands c f places
   pub served : (p : ℕ) → IsServed (op_at f.ops p)
+  pub whole : f.object % 4 ≡ 0
 
-module _ (d : Addresses) where
-  pub suits : (at : ℕ) (x : Placed) → Static x → IsLegalChoice d x → at % 4 ≡ 0 → at + 4 * length_of x ≤ ARENA →
+module _ (fs : List node.Function) (d : Addresses) (low_calls : AreLow d) where
+  pub suits : (at : ℕ) (x : Placed) → Static fs x → IsLegalChoice d x → at % 4 ≡ 0 → at + 4 * length_of x ≤ ARENA →
       Suits (staged d at x) x.places
   suits at x static legal even low =
-      let small = sizes.small d x.function static.ready in
+      let ready = static.ready.ready in
+      let small = sizes.small d x.function ready in
       suit (staged d at x) (registers_in d x) x.places small.finished legal (omega (arith, small.few_registers))
       (omega arith)
-      (omega (arith, static.ready.small)) (omega (arith, static.plain)) even
-      (omega (arith, small.few_ops, static.ready.small, low))
+      (omega (arith, ready.small)) (omega (arith, static.ready.short)) even
+      (omega (arith, small.few_ops, ready.small, low))
 
   -- its code ends where its words end
-  pub code_behind : (at : ℕ) (x : Placed) → Static x → past at (standing.code_of (staged d at x) x.places) ≡ behind at x
-  code_behind at x static =
+  pub code_behind : (at : ℕ) (x : Placed) → past at (standing.code_of (staged d at x) x.places) ≡ behind at x
+  code_behind at x =
       let is = standing.code_of (staged d at x) x.places in
       let a = sym (past_is at is) ∙ lengths.past_is at is in
       let b = length_words is in
-      let n = length_is d at x static in
+      let n = length_is d at x in
       omega (arith, a, b, n)
 
-  one_stands : (pre rest : List ℕ) (at : ℕ) (x : Placed) → at ≡ 4194304 + 4 * length pre → Static x →
+  one_stands : (pre rest : List ℕ) (at : ℕ) (x : Placed) → at ≡ 4194304 + 4 * length pre → Static fs x →
       IsLegalChoice d x → behind at x ≤ ARENA
       → IsThere (loaded (pre ++ (words_of d at x ++ rest))) at (staged d at x) x.places
   one_stands pre rest at x is static legal low =
-      let served = ops_served d x.function static in
-      let ends = code_behind at x static in
+      let served = ops_served fs d low_calls x.function static in
+      let ends = code_behind at x in
       record {
         address = refl;
         stands = function_stands (loaded (pre ++ (words_of d at x ++ rest))) (staged d at x) x.places
             (suits at x static legal (omega (arith, is)) low) served (omega (arith, ends, low))
             (start.words_there pre (words_of d at x) rest at is);
         served = served;
+        whole = static.ready.whole;
       }
 
   -- whether the first of functions has the address settles which one is found
@@ -192,14 +205,14 @@ module _ (d : Addresses) where
       by false t e = there e
 
   -- each function that is found at an address stands there
-  pub all_stand : (pre : List ℕ) (at : ℕ) (xs : List Placed) → at ≡ 4194304 + 4 * length pre → Each Static xs →
+  pub all_stand : (pre : List ℕ) (at : ℕ) (xs : List Placed) → at ≡ 4194304 + 4 * length pre → Each (Static fs) xs →
       Each (IsLegalChoice d) xs → ends at xs ≤ ARENA
       → (a : ℕ) (f : Function) → function_in d at xs a ≡ Some f →
       IsThere (loaded (pre ++ words_from d at xs)) a f (places_in at xs a)
   all_stand pre at [] is static legal low a f e = absurd cc
   all_stand pre at (x ∷ xs) is static legal low a f e =
       let rest = words_from d (behind at x) xs in
-      let n = length_is d at x static.0 in
+      let n = length_is d at x in
       let l = length-append pre (words_of d at x) in
       let next : behind at x ≡ 4194304 + 4 * length (pre ++ words_of d at x) = omega (arith, n, l, is) in
       by_first (loaded (pre ++ (words_of d at x ++ rest))) at x a f (function_in d (behind at x) xs a)
@@ -209,6 +222,7 @@ module _ (d : Addresses) where
       (append_assoc pre (words_of d at x) rest)
       (all_stand (pre ++ words_of d at x) (behind at x) xs next static.1 legal.1 low a f later)) e
 
+module _ (d : Addresses) where
   -- the function of a number is found at its address
   pub record IsFound (at : ℕ) (xs : List Placed) (k : ℕ) (g : node.Function) : Type 0 where
     pub placed : Placed

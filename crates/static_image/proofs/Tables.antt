@@ -1,11 +1,31 @@
--- The rows of the image's functions are published as a run begins, and no others.
-use Rattle.std.proofs.Common.{◌≡◌, ℕ, zero, suc, ◌<◌, ◌≤◌, List, [], ◌∷◌, length, Option, None, Some, refl}
-use Rattle.std.proofs.Common.{ap, arith, slice_get, slice_index_or}
+-- The rows of the image's functions are published as a run begins, and no others; each has the address of its function,
+-- and how many parameters it has.
+use Rattle.std.proofs.Common.{◌≡◌, ℕ, zero, suc, ◌-◌, ◌<◌, ◌≤◌, List, [], ◌∷◌, length, map, Option, None, Some, refl}
+use Rattle.std.proofs.Common.{ap, ◌∙◌, arith, slice_get, slice_index, slice_index_or}
 use Rattle.word32.specs.declared.map.TheConstants.{FUNCTION_ROWS, UNPUBLISHED}
 use Rattle.code_arena.specs.Rows as table
 use Rattle.meaning_state.specs.Rows.{numbered}
 use Rattle.icode_meaning.specs.State.{Function}
 use Rattle.icode_frames_spec.specs.Settings.{Published}
+use Rattle.mips_model.specs.Run.{row_of}
+use Rattle.tick_lower_proof.specs.Laws.{row_for}
+use Rattle.static_image.specs.Layout.{Placed, behind, starts, rows_of, functions_of}
+
+row_there : (at : ℕ) (xs : List Placed) (k : ℕ) →
+    slice_get (map row_of (rows_of at xs)) k ≡ row_for (slice_index (starts at xs) k) (slice_get (functions_of xs) k)
+row_there at [] k = refl
+row_there at (x ∷ xs) zero = refl
+row_there at (x ∷ xs) (suc k) = row_there (behind at x) xs k
+
+-- the row of a number
+pub row_is : (at : ℕ) (xs : List Placed) (number : ℕ) →
+    numbered number (map row_of (rows_of at xs)) ≡
+    row_for (slice_index (starts at xs) (number - 1)) (numbered number (functions_of xs))
+row_is at xs zero = refl
+row_is at xs (suc k) =
+    let same : k ≡ suc k - 1 = omega arith in
+    row_there at xs k
+    ∙ ap (λ (n : ℕ). row_for (slice_index (starts at xs) n) (slice_get (functions_of xs) k)) same
 
 there : (rs : List (ℕ × ℕ)) (m : ℕ) (r z : ℕ × ℕ) → slice_get rs m ≡ Some r →
     (m < length rs) × (slice_index_or rs m z ≡ r)

@@ -1,117 +1,416 @@
--- The ops of nodes that are built so far name no address of a function, so they are the same under any addresses.
-use Rattle.std.proofs.Common.{◌≡◌, ℕ, ◌+◌, [], ◌∷◌, ◌++◌, refl, ap}
+-- The ops of a function under two lists of addresses differ in the addresses of its calls alone, so their templates are
+-- as long.
+use Rattle.std.proofs.Common.{◌≡◌, ℕ, ◌+◌, ◌-◌, List, [], ◌∷◌, ◌++◌, Bool, true, false, Option, Some, None, refl, sym}
+use Rattle.std.proofs.Common.{ap, ◌∙◌, map, length, drop, length-append, arith, if◌then◌else◌}
+use Rattle.std.proofs.lemmas.List.{map-append}
+use Rattle.word32.specs.declared.width.Width.{Width}
+use Rattle.word32.specs.declared.width.Width.TheVariants as width
+use Rattle.icode_ops.specs.declared.op.Op.{Op}
+use Rattle.icode_ops.specs.declared.op.Op.TheVariants as op
+use Rattle.icode_ops.specs.declared.kind.BinKind.{BinKind}
+use Rattle.icode_ops.specs.declared.kind.BinKind.TheVariants as bin
+use Rattle.icode_ir.specs.declared.build_op.BuildOp.{BuildOp}
 use Rattle.icode_ir.specs.declared.build_op.BuildOp.TheVariants as build
-use Rattle.icode_ir.specs.Build.{empty, finished}
+use Rattle.icode_ir.specs.Build.{Build, empty, operand, variable, label, arguments, finished, find, mention, mentioned}
+use Rattle.icode_ir.specs.Build.{key_register, yield, pass}
+use Rattle.icode_ir.specs.Rules.{effect, checked}
 use Rattle.icode_ir.specs.Runs.{run_ops}
+use Rattle.icode_templates.specs.Layout.{Layout}
+use Rattle.icode_templates.specs.Templates.{Aim, template}
+use Rattle.icode_expand.specs.Expansion.{templates}
 use Rattle.typed_tree.specs.Nodes as node
-use Rattle.typed_tree.specs.Nodes.{Expr, Stmt, Items, has_value}
+use Rattle.typed_tree.specs.Nodes.{Expr, Args, Stmt, Items, has_value, count}
+use Rattle.typed_tree.specs.declared.expression.Answer.{Answer}
 use Rattle.typed_tree.specs.declared.expression.Library.TheVariants as library
+use Rattle.typed_tree.specs.Sizes.{is_value}
 use Rattle.staged_meaning.specs.Size.{labels_in, labels, labels_of, temps_in, temps, temps_of, variables_in}
-use Rattle.staged_meaning.specs.Scope.{IsBuilt, IsBuiltStmt, AreBuiltItems}
-use Rattle.tick_lower_proof.specs.Lower.{Addresses, expr_ops, Targets, stmt_ops, items_ops, nowhere, function_ops}
-use Rattle.tick_lower_proof.specs.Lower.{dropping}
+use Rattle.tick_lower_proof.specs.Lower.{Addresses, expr_ops, args_ops, Targets, stmt_ops, items_ops, nowhere}
+use Rattle.tick_lower_proof.specs.Lower.{function_ops, dropping, dropping_call, keeping, kept, narrowing}
+use Rattle.tick_lower_proof.specs.Lower.{case_ops, test_ops, default_label}
 use Rattle.tick_lower_proof.specs.Laws.{code_of, registers_of}
 
-module _ (d e : Addresses) where
-  expr_same : (a : Expr) → IsBuilt a → (l t : ℕ) → expr_ops d a l t ≡ expr_ops e a l t
-  expr_same (node.Const word) built l t = refl
-  expr_same (node.Var i) built l t = refl
-  expr_same (node.SetVar i a) built l t = rw (expr_same a built l t) refl
-  expr_same (node.PostVar i width step) built l t = refl
-  expr_same (node.Un k a) built l t = rw (expr_same a built l t) refl
-  expr_same (node.Bin k a b) built l t =
-      rw (expr_same a built.0 l t, expr_same b built.1 (l + labels_in a) (t + temps_in a)) refl
-  expr_same (node.And a b) built l t =
-      rw (expr_same a built.0 (l + 2) (t + 1), expr_same b built.1 (l + 2 + labels_in a) (t + 1 + temps_in a)) refl
-  expr_same (node.Or a b) built l t =
-      rw (expr_same a built.0 (l + 2) (t + 1), expr_same b built.1 (l + 2 + labels_in a) (t + 1 + temps_in a)) refl
-  expr_same (node.Cond c a b) built l t =
-      rw (
-        expr_same c built.0 (l + 2) (t + 1),
-        expr_same a built.1 (l + 2 + labels_in c) (t + 1 + temps_in c),
-        expr_same b built.2 (l + 2 + labels_in c + labels_in a) (t + 1 + temps_in c + temps_in a),
-      ) refl
-  expr_same (node.Comma a b) built l t =
-      rw (expr_same a built.0 l t, expr_same b built.1 (l + labels_in a) (t + temps_in a)) refl
-  expr_same (node.Void a) built l t = rw (expr_same a built l t) refl
-  expr_same node.Getchar built l t = refl
-  expr_same (node.Lib library.Putchar a) built l t = rw (expr_same a built l t) refl
-  expr_same (node.Lib library.Putint a) built l t = rw (expr_same a built l t) refl
-  expr_same (node.Lib library.Exit a) built l t = rw (expr_same a built l t) refl
-  expr_same _ built l t = absurd built
+-- a builder's op, and an op, where each call goes to address 0
+abbrev pub aimless : BuildOp → BuildOp
+aimless (build.Call address n) = build.Call 0 n
+aimless o = o
+
+abbrev pub aimless_op : Op → Op
+aimless_op (op.Call address) = op.Call 0
+aimless_op o = o
+
+abbrev All : List BuildOp → List BuildOp
+All os = map aimless os
+
+both : (xs ys xs' ys' : List BuildOp) → All xs ≡ xs' → All ys ≡ ys' → All (xs ++ ys) ≡ xs' ++ ys'
+both xs ys xs' ys' ex ey =
+    map-append aimless xs ys ∙ ap (λ os. os ++ All ys) ex ∙ ap (λ os. xs' ++ os) ey
+
+-- ---- lists of ops that name no function
+
+narrowing_same : (w : Width) → All (narrowing w) ≡ narrowing w
+narrowing_same width.SignedByte = refl
+narrowing_same width.Byte = refl
+narrowing_same width.SignedHalf = refl
+narrowing_same width.Half = refl
+narrowing_same width.Word = refl
+
+dropping_same : (b : Bool) → All (dropping b) ≡ dropping b
+dropping_same true = refl
+dropping_same false = refl
+
+dropping_call_same : (a : Answer) → All (dropping_call a) ≡ dropping_call a
+dropping_call_same a = by (is_value a)
+  where
+    by : (b : Bool) → All (if b then [] else (build.Drop ∷ [])) ≡ (if b then [] else (build.Drop ∷ []))
+    by true = refl
+    by false = refl
+
+keeping_same : (b : Bool) (t : ℕ) → All (keeping b t) ≡ keeping b t
+keeping_same true t = refl
+keeping_same false t = refl
+
+kept_same : (b : Bool) (t : ℕ) → All (kept b t) ≡ kept b t
+kept_same true t = refl
+kept_same false t = refl
+
+case_same : (s : Stmt) (l t : ℕ) → All (case_ops s l t) ≡ case_ops s l t
+case_same (node.Case value) l t = refl
+case_same _ l t = refl
+
+test_same : (is : Items) (l t : ℕ) → All (test_ops is l t) ≡ test_ops is l t
+test_same node.NoItem l t = refl
+test_same (node.Item s is) l t = both (case_ops s l t) (test_ops is (l + labels s) t) _ _ (case_same s l t)
+    (test_same is (l + labels s) t)
+
+-- ---- trees
+
+-- where each function has address 0
+abbrev pub at_zero : Addresses
+at_zero = record { function_at = λ number. 0 }
+
+module _ (d : Addresses) where
+  mutual
+    expr_same : (e : Expr) (l t : ℕ) → All (expr_ops d e l t) ≡ expr_ops at_zero e l t
+    expr_same (node.SetVar i a) l t = both (expr_ops d a l t) _ _ _ (expr_same a l t) refl
+    expr_same (node.PostVar i w step) l t =
+        ap (λ os. build.GetVariable i ∷ build.Pick 0 ∷ build.Const step ∷ build.Bin bin.Add ∷ os)
+        (both (narrowing w) _ _ _ (narrowing_same w) refl)
+    expr_same (node.Load w a) l t = both (expr_ops d a l t) _ _ _ (expr_same a l t) refl
+    expr_same (node.Store w a b) l t =
+        both (expr_ops d a l t) _ _ _ (expr_same a l t)
+        (both (expr_ops d b (l + labels_in a) (t + temps_in a)) _ _ _ (expr_same b (l + labels_in a) (t + temps_in a))
+        refl)
+    expr_same (node.Modify w k a b) l t =
+        both (expr_ops d a l t) _ _ _ (expr_same a l t)
+        (ap (λ os. build.Pick 0 ∷ build.Load w ∷ os)
+        (both (expr_ops d b (l + labels_in a) (t + temps_in a)) _ _ _ (expr_same b (l + labels_in a) (t + temps_in a))
+        (ap (λ os. build.Bin k ∷ os) (both (narrowing w) _ _ _ (narrowing_same w) refl))))
+    expr_same (node.Post w step a) l t =
+        both (expr_ops d a l t) _ _ _ (expr_same a l t)
+        (ap (λ os. build.Pick 0 ∷ build.Load w ∷ build.Pick 1 ∷ build.Pick 1 ∷ build.Const step ∷ build.Bin bin.Add ∷
+        os)
+        (both (narrowing w) _ _ _ (narrowing_same w) refl))
+    expr_same (node.Bin k a b) l t =
+        both (expr_ops d a l t) _ _ _ (expr_same a l t)
+        (both (expr_ops d b (l + labels_in a) (t + temps_in a)) _ _ _ (expr_same b (l + labels_in a) (t + temps_in a))
+        refl)
+    expr_same (node.Un k a) l t = both (expr_ops d a l t) _ _ _ (expr_same a l t) refl
+    expr_same (node.And a b) l t =
+        both (expr_ops d a (l + 2) (t + 1)) _ _ _ (expr_same a (l + 2) (t + 1))
+        (ap (λ os. build.BranchZero l ∷ os)
+        (both (expr_ops d b (l + 2 + labels_in a) (t + 1 + temps_in a)) _ _ _
+        (expr_same b (l + 2 + labels_in a) (t + 1 + temps_in a)) refl))
+    expr_same (node.Or a b) l t =
+        both (expr_ops d a (l + 2) (t + 1)) _ _ _ (expr_same a (l + 2) (t + 1))
+        (ap (λ os. build.BranchNonzero l ∷ os)
+        (both (expr_ops d b (l + 2 + labels_in a) (t + 1 + temps_in a)) _ _ _
+        (expr_same b (l + 2 + labels_in a) (t + 1 + temps_in a)) refl))
+    expr_same (node.Cond c a b) l t =
+        let la = l + 2 + labels_in c in
+        let ta = t + 1 + temps_in c in
+        let v = has_value a in
+        both (expr_ops d c (l + 2) (t + 1)) _ _ _ (expr_same c (l + 2) (t + 1))
+        (ap (λ os. build.BranchZero l ∷ os)
+        (both (expr_ops d a la ta) _ _ _ (expr_same a la ta)
+        (both (keeping v t) _ _ _ (keeping_same v t)
+        (ap (λ os. build.Jump (l + 1) ∷ build.Label l ∷ os)
+        (both (expr_ops d b (la + labels_in a) (ta + temps_in a)) _ _ _
+        (expr_same b (la + labels_in a) (ta + temps_in a))
+        (both (keeping v t) _ _ _ (keeping_same v t)
+        (ap (λ os. build.Label (l + 1) ∷ os) (kept_same v t))))))))
+    expr_same (node.Comma a b) l t =
+        both (expr_ops d a l t) _ _ _ (expr_same a l t)
+        (both (dropping (has_value a)) _ _ _ (dropping_same (has_value a))
+        (expr_same b (l + labels_in a) (t + temps_in a)))
+    expr_same (node.Void a) l t =
+        both (expr_ops d a l t) _ _ _ (expr_same a l t) (dropping_same (has_value a))
+    expr_same (node.Call answer f args) l t =
+        both (args_ops d args l t) _ _ _ (args_same args l t)
+        (ap (λ os. build.Call 0 (count args) ∷ os) (dropping_call_same answer))
+    expr_same (node.CallNumber answer a args) l t =
+        both (expr_ops d a l t) _ _ _ (expr_same a l t)
+        (both (args_ops d args (l + labels_in a) (t + temps_in a)) _ _ _
+        (args_same args (l + labels_in a) (t + temps_in a))
+        (ap (λ os. build.CallNumber (count args) ∷ os) (dropping_call_same answer)))
+    expr_same (node.Lib library.Putchar a) l t = both (expr_ops d a l t) _ _ _ (expr_same a l t) refl
+    expr_same (node.Lib library.Putint a) l t = both (expr_ops d a l t) _ _ _ (expr_same a l t) refl
+    expr_same (node.Lib library.Exit a) l t = both (expr_ops d a l t) _ _ _ (expr_same a l t) refl
+    expr_same (node.Lib library.Malloc a) l t = both (expr_ops d a l t) _ _ _ (expr_same a l t) refl
+    expr_same (node.Capture kind a) l t = expr_same a l t
+    expr_same (node.Compile a) l t = both (expr_ops d a l t) _ _ _ (expr_same a l t) refl
+    expr_same (node.ParamOf a) l t = both (expr_ops d a l t) _ _ _ (expr_same a l t) refl
+    expr_same _ l t = refl
+
+    args_same : (args : Args) (l t : ℕ) → All (args_ops d args l t) ≡ args_ops at_zero args l t
+    args_same node.NoArg l t = refl
+    args_same (node.Arg a args) l t =
+        both (expr_ops d a l t) _ _ _ (expr_same a l t) (args_same args (l + labels_in a) (t + temps_in a))
 
   mutual
-    stmt_same : (s : Stmt) → IsBuiltStmt s → (to : Targets) (l t : ℕ) → stmt_ops d s to l t ≡ stmt_ops e s to l t
-    stmt_same (node.Eval a) built to l t = ap (λ os. os ++ dropping (has_value a)) (expr_same a built l t)
-    stmt_same (node.Block vars items) built to l t =
-        rw (items_same vars built.0 to l t, items_same items built.1 to (l + labels_of vars) (t + temps_of vars)) refl
-    stmt_same (node.Variable i) built to l t = refl
-    stmt_same (node.If a s) built to l t =
-        rw (expr_same a built.0 (l + 1) t, stmt_same s built.1 to (l + 1 + labels_in a) (t + temps_in a)) refl
-    stmt_same (node.IfElse a s r) built to l t =
-        rw (
-          expr_same a built.0 (l + 2) t,
-          stmt_same s built.1 to (l + 2 + labels_in a) (t + temps_in a),
-          stmt_same r built.2 to (l + 2 + labels_in a + labels s) (t + temps_in a + temps s),
-        ) refl
-    stmt_same (node.While a s) built to l t =
-        rw (
-          expr_same a built.0 (l + 2) t,
-          stmt_same s built.1 (record { on_break = l; on_continue = l + 1 }) (l + 2 + labels_in a) (t + temps_in a),
-        )
-        refl
-    stmt_same (node.Do s a) built to l t =
-        rw (
-          stmt_same s built.0 (record { on_break = l; on_continue = l + 2 }) (l + 3) t,
-          expr_same a built.1 (l + 3 + labels s) (t + temps s),
-        )
-        refl
-    stmt_same (node.For a s) built to l t =
-        rw (
-          expr_same a built.0 (l + 3) t,
-          stmt_same s built.1 (record { on_break = l; on_continue = l + 2 }) (l + 3 + labels_in a) (t + temps_in a),
-        )
-        refl
-    stmt_same (node.ForStep a step s) built to l t =
-        rw (
-          expr_same a built.0 (l + 3) t,
-          stmt_same s built.2 (record { on_break = l; on_continue = l + 2 }) (l + 3 + labels_in a) (t + temps_in a),
-          expr_same step built.1 (l + 3 + labels_in a + labels s) (t + temps_in a + temps s),
-        )
-        refl
-    stmt_same (node.Switch a vars items) built to l t =
-        rw (
-          expr_same a built.0 (l + 1) (t + 1),
-          items_same vars built.1 to (l + 1 + labels_in a) (t + 1 + temps_in a),
-          items_same items built.2 (record { on_break = l; on_continue = to.on_continue })
-              (l + 1 + labels_in a + labels_of vars) (t + 1 + temps_in a + temps_of vars),
-        )
-        refl
-    stmt_same (node.Case value) built to l t = refl
-    stmt_same node.Default built to l t = refl
-    stmt_same node.Break built to l t = refl
-    stmt_same node.Continue built to l t = refl
-    stmt_same node.Return built to l t = refl
-    stmt_same (node.ReturnValue a) built to l t = rw (expr_same a built l t) refl
-    stmt_same _ built to l t = absurd built
+    stmt_same : (s : Stmt) (to : Targets) (l t : ℕ) → All (stmt_ops d s to l t) ≡ stmt_ops at_zero s to l t
+    stmt_same (node.Eval e) to l t =
+        both (expr_ops d e l t) _ _ _ (expr_same e l t) (dropping_same (has_value e))
+    stmt_same (node.Block vs is) to l t =
+        both (items_ops d vs to l t) _ _ _ (items_same vs to l t)
+        (items_same is to (l + labels_of vs) (t + temps_of vs))
+    stmt_same (node.Parameter k w) to l t =
+        ap (λ os. build.Parameter k ∷ os) (both (narrowing w) _ _ _ (narrowing_same w) refl)
+    stmt_same (node.ParameterObject k w offset) to l t =
+        ap (λ os. build.FrameAddress offset ∷ build.Parameter k ∷ os)
+        (both (narrowing w) _ _ _ (narrowing_same w) refl)
+    stmt_same (node.If e s) to l t =
+        let l1 = l + 1 + labels_in e in
+        let t1 = t + temps_in e in
+        both (expr_ops d e (l + 1) t) _ _ _ (expr_same e (l + 1) t)
+        (ap (λ os. build.BranchZero l ∷ os) (both (stmt_ops d s to l1 t1) _ _ _ (stmt_same s to l1 t1) refl))
+    stmt_same (node.IfElse e s r) to l t =
+        let l2 = l + 2 + labels_in e in
+        let t2 = t + temps_in e in
+        both (expr_ops d e (l + 2) t) _ _ _ (expr_same e (l + 2) t)
+        (ap (λ os. build.BranchZero l ∷ os)
+        (both (stmt_ops d s to l2 t2) _ _ _ (stmt_same s to l2 t2)
+        (ap (λ os. build.Jump (l + 1) ∷ build.Label l ∷ os)
+        (both (stmt_ops d r to (l2 + labels s) (t2 + temps s)) _ _ _
+        (stmt_same r to (l2 + labels s) (t2 + temps s)) refl))))
+    stmt_same (node.While e s) to l t =
+        let in_loop : Targets = record { on_break = l; on_continue = l + 1 } in
+        let l2 = l + 2 + labels_in e in
+        let t2 = t + temps_in e in
+        ap (λ os. build.Label (l + 1) ∷ os)
+        (both (expr_ops d e (l + 2) t) _ _ _ (expr_same e (l + 2) t)
+        (ap (λ os. build.BranchZero l ∷ os)
+        (both (stmt_ops d s in_loop l2 t2) _ _ _ (stmt_same s in_loop l2 t2) refl)))
+    stmt_same (node.Do s e) to l t =
+        let in_loop : Targets = record { on_break = l; on_continue = l + 2 } in
+        ap (λ os. build.Label (l + 1) ∷ os)
+        (both (stmt_ops d s in_loop (l + 3) t) _ _ _ (stmt_same s in_loop (l + 3) t)
+        (ap (λ os. build.Label (l + 2) ∷ os)
+        (both (expr_ops d e (l + 3 + labels s) (t + temps s)) _ _ _ (expr_same e (l + 3 + labels s) (t + temps s))
+        refl)))
+    stmt_same (node.For e s) to l t =
+        let in_loop : Targets = record { on_break = l; on_continue = l + 2 } in
+        let l3 = l + 3 + labels_in e in
+        let t3 = t + temps_in e in
+        ap (λ os. build.Label (l + 1) ∷ os)
+        (both (expr_ops d e (l + 3) t) _ _ _ (expr_same e (l + 3) t)
+        (ap (λ os. build.BranchZero l ∷ os)
+        (both (stmt_ops d s in_loop l3 t3) _ _ _ (stmt_same s in_loop l3 t3) refl)))
+    stmt_same (node.ForStep e step s) to l t =
+        let in_loop : Targets = record { on_break = l; on_continue = l + 2 } in
+        let l3 = l + 3 + labels_in e in
+        let t3 = t + temps_in e in
+        let ls = l3 + labels s in
+        let ts = t3 + temps s in
+        ap (λ os. build.Label (l + 1) ∷ os)
+        (both (expr_ops d e (l + 3) t) _ _ _ (expr_same e (l + 3) t)
+        (ap (λ os. build.BranchZero l ∷ os)
+        (both (stmt_ops d s in_loop l3 t3) _ _ _ (stmt_same s in_loop l3 t3)
+        (ap (λ os. build.Label (l + 2) ∷ os)
+        (both (expr_ops d step ls ts) _ _ _ (expr_same step ls ts)
+        (both (dropping (has_value step)) _ _ _ (dropping_same (has_value step)) refl))))))
+    stmt_same (node.Switch e vs is) to l t =
+        let l1 = l + 1 + labels_in e in
+        let t1 = t + 1 + temps_in e in
+        let l2 = l1 + labels_of vs in
+        let t2 = t1 + temps_of vs in
+        let in_switch : Targets = record { on_break = l; on_continue = to.on_continue } in
+        both (expr_ops d e (l + 1) (t + 1)) _ _ _ (expr_same e (l + 1) (t + 1))
+        (ap (λ os. build.SetVariable t ∷ build.Drop ∷ os)
+        (both (items_ops d vs to l1 t1) _ _ _ (items_same vs to l1 t1)
+        (both (test_ops is l2 t) _ _ _ (test_same is l2 t)
+        (ap (λ os. build.Jump (default_label is l2 l) ∷ os)
+        (both (items_ops d is in_switch l2 t2) _ _ _ (items_same is in_switch l2 t2) refl)))))
+    stmt_same (node.ReturnValue e) to l t = both (expr_ops d e l t) _ _ _ (expr_same e l t) refl
+    stmt_same _ to l t = refl
 
-    items_same : (is : Items) → AreBuiltItems is → (to : Targets) (l t : ℕ) →
-        items_ops d is to l t ≡ items_ops e is to l t
-    items_same node.NoItem built to l t = refl
-    items_same (node.Item s is) built to l t =
-        rw (stmt_same s built.0 to l t, items_same is built.1 to (l + labels s) (t + temps s)) refl
+    items_same : (is : Items) (to : Targets) (l t : ℕ) → All (items_ops d is to l t) ≡ items_ops at_zero is to l t
+    items_same node.NoItem to l t = refl
+    items_same (node.Item s is) to l t =
+        both (stmt_ops d s to l t) _ _ _ (stmt_same s to l t) (items_same is to (l + labels s) (t + temps s))
 
-  pub ops_same : (function : node.Function) → IsBuiltStmt function.body →
-      function_ops d function ≡ function_ops e function
-  ops_same function built =
-      ap (λ os. build.Enter (variables_in function.body + temps function.body) (labels function.body) ∷
-      (os ++ build.Leave ∷ []))
-      (stmt_same function.body built nowhere 0 (variables_in function.body))
+  ops_same : (f : node.Function) → All (function_ops d f) ≡ function_ops at_zero f
+  ops_same f =
+      ap (λ os. build.Enter (variables_in f.body + temps f.body) (labels f.body) ∷ os)
+      (both (stmt_ops d f.body nowhere 0 (variables_in f.body)) _ _ _
+      (stmt_same f.body nowhere 0 (variables_in f.body)) refl)
 
-  pub code_same : (function : node.Function) → IsBuiltStmt function.body → code_of d function ≡ code_of e function
-  code_same function built = ap (λ os. finished (run_ops os (empty function.parameters))) (ops_same function built)
+-- ---- the builder
 
-  pub registers_same : (function : node.Function) → IsBuiltStmt function.body →
-      registers_of d function ≡ registers_of e function
-  registers_same function built =
-      ap (λ os. (run_ops os (empty function.parameters)).registers) (ops_same function built)
+abbrev cleared : Build → Build
+cleared b = record b { ops = map aimless_op b.ops }
+
+yield_same : (o : Op) (n : ℕ) (b : Build) → yield (aimless_op o) n (cleared b) ≡ cleared (yield o n b)
+yield_same o n b =
+    ap (λ (os : List Op). record (yield o n b) { ops = os }) (sym (map-append aimless_op b.ops (o ∷ [])))
+
+added : (o : Op) (b after : Build) →
+    record after { ops = map aimless_op b.ops ++ aimless_op o ∷ [] } ≡ cleared (record after { ops = b.ops ++ o ∷ [] })
+added o b after =
+    ap (λ (os : List Op). record after { ops = os }) (sym (map-append aimless_op b.ops (o ∷ [])))
+
+checked_same : (kind : BinKind) (l r : ℕ) (b : Build) → checked kind l r (cleared b) ≡ cleared (checked kind l r b)
+checked_same bin.DivideSigned l r b = added (op.CheckDivision l r) b b
+checked_same bin.DivideUnsigned l r b = added (op.CheckZero r) b b
+checked_same bin.RemainderSigned l r b = added (op.CheckDivision l r) b b
+checked_same bin.RemainderUnsigned l r b = added (op.CheckZero r) b b
+checked_same kind l r b = refl
+
+arguments_same : (k : ℕ) (rs : List ℕ) → map aimless_op (arguments k rs) ≡ arguments k rs
+arguments_same k [] = refl
+arguments_same k (r ∷ rs) = ap (λ os. op.Argument k r ∷ os) (arguments_same (k + 1) rs)
+
+pass_same : (n : ℕ) (b : Build) → pass n (cleared b) ≡ cleared (pass n b)
+pass_same n b =
+    let rs = drop (length b.operands - n) b.operands in
+    ap (λ (os : List Op). record (pass n b) { ops = os })
+    (ap (λ os. map aimless_op b.ops ++ os) (sym (arguments_same 0 rs)) ∙
+    sym (map-append aimless_op b.ops (arguments 0 rs)))
+
+mention_same : (o : Option ℕ) (key : ℕ) (b : Build) → mention o key (cleared b) ≡ cleared (mention o key b)
+mention_same (Some r) key b = refl
+mention_same None key b = refl
+
+mentioned_same : (key : ℕ) (b : Build) → mentioned key (cleared b) ≡ cleared (mentioned key b)
+mentioned_same key b = mention_same (find key b.keys) key b
+
+effect_same : (o : BuildOp) (b : Build) → effect (aimless o) (cleared b) ≡ cleared (effect o b)
+effect_same (build.Const word) b = yield_same (op.Const b.registers word) 0 b
+effect_same (build.Bin kind) b =
+    ap (λ (c : Build). yield (op.Bin kind b.registers (operand 1 b) (operand 0 b)) 2 c)
+    (checked_same kind (operand 1 b) (operand 0 b) b)
+    ∙ yield_same (op.Bin kind b.registers (operand 1 b) (operand 0 b)) 2
+    (checked kind (operand 1 b) (operand 0 b) b)
+effect_same (build.Un kind) b = yield_same (op.Un kind b.registers (operand 0 b)) 1 b
+effect_same (build.Enter n m) b = refl
+effect_same build.Leave b = refl
+effect_same (build.GetVariable i) b = yield_same (op.Move b.registers (variable i b)) 0 b
+effect_same (build.SetVariable i) b = added (op.Move (variable i b) (operand 0 b)) b b
+effect_same build.Drop b = refl
+effect_same (build.Pick i) b = refl
+effect_same build.Nip b = refl
+effect_same (build.Load w) b = yield_same (op.Load w b.registers (operand 0 b)) 1 b
+effect_same (build.Store w) b =
+    added (op.Store w (operand 1 b) (operand 0 b)) b (record (effect (build.Store w) b) { ops = b.ops })
+effect_same (build.Label i) b = added (op.Label (label i b)) b b
+effect_same (build.Jump i) b = added (op.Jump (label i b)) b b
+effect_same (build.BranchZero i) b =
+    added (op.BranchZero (operand 0 b) (label i b)) b (record (effect (build.BranchZero i) b) { ops = b.ops })
+effect_same (build.BranchNonzero i) b =
+    added (op.BranchNonzero (operand 0 b) (label i b)) b (record (effect (build.BranchNonzero i) b) { ops = b.ops })
+effect_same (build.Call address n) b =
+    let c = pass n b in
+    ap (λ (x : Build). yield (op.Result b.registers) 0 (record x { ops = x.ops ++ op.Call 0 ∷ [] })) (pass_same n b)
+    ∙ ap (λ (x : Build). yield (op.Result b.registers) 0 x) (added (op.Call address) c c)
+    ∙ yield_same (op.Result b.registers) 0 (record c { ops = c.ops ++ op.Call address ∷ [] })
+effect_same (build.CallNumber n) b =
+    let c = pass n b in
+    let o = op.CallNumber (operand n b) n in
+    ap (λ (x : Build). yield (op.Result b.registers) 1 (record x { ops = x.ops ++ o ∷ [] })) (pass_same n b)
+    ∙ ap (λ (x : Build). yield (op.Result b.registers) 1 x) (added o c c)
+    ∙ yield_same (op.Result b.registers) 1 (record c { ops = c.ops ++ o ∷ [] })
+effect_same build.Return b =
+    added (op.Return (operand 0 b)) b (record (effect build.Return b) { ops = b.ops })
+effect_same build.ReturnZero b = added op.ReturnZero b b
+effect_same (build.GetSpec key) b =
+    ap (λ (x : Build). yield (op.Move x.registers (key_register key b)) 0 x) (mentioned_same key b)
+    ∙ yield_same (op.Move (mentioned key b).registers (key_register key b)) 0 (mentioned key b)
+effect_same (build.SetSpec key) b =
+    let o = op.Move (key_register key b) (operand 0 b) in
+    ap (λ (x : Build). record x { ops = x.ops ++ o ∷ [] }) (mentioned_same key b)
+    ∙ added o (mentioned key b) (mentioned key b)
+effect_same (build.Sys kind) b = yield_same (op.Sys kind b.registers (operand 0 b)) 1 b
+effect_same (build.Run routine) b = yield_same (op.Run routine b.registers (operand 0 b)) 1 b
+effect_same (build.FrameAddress offset) b = yield_same (op.FrameAddress b.registers offset) 0 b
+effect_same (build.Clear offset words) b = added (op.Clear offset words) b b
+effect_same (build.New address kind captures) b = yield_same (op.New b.registers address kind captures) 0 b
+effect_same (build.Put i) b =
+    added (op.Put i (operand 0 b)) b (record (effect (build.Put i) b) { ops = b.ops })
+effect_same (build.Parameter k) b = yield_same (op.GetParameter b.registers k) 0 b
+
+run_same : (os : List BuildOp) (b : Build) → run_ops (All os) (cleared b) ≡ cleared (run_ops os b)
+run_same [] b = refl
+run_same (o ∷ os) b = ap (run_ops (All os)) (effect_same o b) ∙ run_same os (effect o b)
+
+-- ---- lengths
+
+aimless_length : (l : Layout) (a : Aim → ℕ) (o : Op) → length (template l a (aimless_op o)) ≡ length (template l a o)
+aimless_length l a (op.Call address) = refl
+aimless_length l a o = refl
+
+aimless_lengths : (l : Layout) (a : Aim → ℕ) (os : List Op) →
+    length (templates l a (map aimless_op os)) ≡ length (templates l a os)
+aimless_lengths l a [] = refl
+aimless_lengths l a (o ∷ os) =
+    let x = length-append (template l a (aimless_op o)) (templates l a (map aimless_op os)) in
+    let y = length-append (template l a o) (templates l a os) in
+    omega (arith, x, y, aimless_length l a o, aimless_lengths l a os)
+
+aimless_twice : (os : List Op) → map aimless_op (map aimless_op os) ≡ map aimless_op os
+aimless_twice [] = refl
+aimless_twice (o ∷ os) =
+    ap (λ (z : Op). z ∷ map aimless_op (map aimless_op os)) (once o)
+    ∙ ap (λ (zs : List Op). aimless_op o ∷ zs) (aimless_twice os)
+  where
+    once : (o : Op) → aimless_op (aimless_op o) ≡ aimless_op o
+    once (op.Call address) = refl
+    once o = refl
+
+finished_same : (b : Build) → map aimless_op (finished (cleared b)) ≡ map aimless_op (finished b)
+finished_same b =
+    let last = op.ReturnZero ∷ [] in
+    let es = map aimless_op b.ops in
+    let ps = map aimless_op b.prelude in
+    map-append aimless_op (b.prelude ++ es) last
+    ∙ ap (λ (zs : List Op). zs ++ last)
+    (map-append aimless_op b.prelude es ∙ ap (λ (zs : List Op). ps ++ zs) (aimless_twice b.ops)
+    ∙ sym (map-append aimless_op b.prelude b.ops))
+    ∙ sym (map-append aimless_op (b.prelude ++ b.ops) last)
+
+module _ (d : Addresses) (f : node.Function) where
+  built : run_ops (function_ops at_zero f) (empty f.parameters) ≡ cleared
+      (run_ops (function_ops d f) (empty f.parameters))
+  built =
+      ap (λ os. run_ops os (empty f.parameters)) (sym (ops_same d f))
+      ∙ run_same (function_ops d f) (empty f.parameters)
+
+  code_at_zero : map aimless_op (code_of d f) ≡ map aimless_op (code_of at_zero f)
+  code_at_zero =
+      sym (finished_same (run_ops (function_ops d f) (empty f.parameters)))
+      ∙ ap (λ b. map aimless_op (finished b)) (sym built)
+
+  registers_at_zero : registers_of d f ≡ registers_of at_zero f
+  registers_at_zero = sym (ap (λ b. b.registers) built)
+
+-- the code is the same wherever functions stand, but for the addresses of calls, and has as many registers
+pub code_same : (d e : Addresses) (f : node.Function) → map aimless_op (code_of d f) ≡ map aimless_op (code_of e f)
+code_same d e f = code_at_zero d f ∙ sym (code_at_zero e f)
+
+pub registers_same : (d e : Addresses) (f : node.Function) → registers_of d f ≡ registers_of e f
+registers_same d e f = registers_at_zero d f ∙ sym (registers_at_zero e f)
+
+-- so it has as many instructions
+pub code_length : (d e : Addresses) (f : node.Function) (l : Layout) (a : Aim → ℕ) →
+    length (templates l a (code_of d f)) ≡ length (templates l a (code_of e f))
+code_length d e f l a =
+    sym (aimless_lengths l a (code_of d f)) ∙ ap (λ os. length (templates l a os)) (code_same d e f)
+    ∙ aimless_lengths l a (code_of e f)

@@ -1,6 +1,6 @@
 -- The headline holds for the image of a program, under any legal places of the registers of its functions.
 use Rattle.std.proofs.Common.{◌≡◌, ◌≢◌, inl, ℕ, zero, suc, ◌+◌, ◌-◌, ◌*◌, ◌%◌, ◌<◌, ◌≤◌, List}
-use Rattle.std.proofs.Common.{[], ◌∷◌, ◌++◌, length, map, Option, None, Some}
+use Rattle.std.proofs.Common.{[], ◌∷◌, ◌++◌, length, map, Option, None, Some, append_assoc, length-append}
 use Rattle.std.proofs.Common.{refl, sym, ap, ◌∙◌, subst, arith, ⊎_elim, slice_get, if◌then◌else◌, is_some, replicate}
 use Rattle.std.specs.Fn.{iterate}
 use Rattle.std.proofs.lemmas.Bool.{cases_lt}
@@ -31,15 +31,16 @@ use Rattle.icode_meaning.specs.Steps.{advance, first}
 use Rattle.meaning_state.specs.Shared.{Shared}
 use Rattle.typed_tree.specs.Nodes as node
 use Rattle.meaning_state.specs.Rows.{numbered}
-use Rattle.staged_meaning.specs.Size.{size_of, size_of_stmt, charge_of}
-use Rattle.staged_meaning.specs.Scope.{IsReady, IsBuiltStmt}
+use Rattle.staged_meaning.specs.Size.{size_of_stmt}
+use Rattle.staged_meaning.specs.Scope.{IsReadyIn, IsBuiltStmt}
 use Rattle.staged_meaning.specs.Program as meaning
 use Rattle.staged_meaning.specs.Meaning.{at_start, meant}
 use Rattle.tick_lower_proof.specs.Lower.{Addresses}
-use Rattle.tick_lower_proof.specs.Laws.{code_of}
-use Rattle.tick_lower_proof.proofs.Calls.{IsCode}
-use Rattle.tick_lower_proof.proofs.FunctionOps.{has_code}
-use Rattle.tick_lower_proof.proofs.Whole as lowering
+use Rattle.tick_lower_proof.specs.Laws.{Stands, row_for, HasFunctions, AreReady}
+use Rattle.tick_lower_proof.proofs.Following.{lowering}
+use Rattle.spec_closure.specs.Malloc.{malloc_code}
+use Rattle.spec_closure.proofs.Fitting.{malloc_fits}
+use Rattle.icode_frames_spec.specs.Standing.{WordsAt}
 use Rattle.icode_frames_spec.specs.Settings.{Setting, Standing}
 use Rattle.icode_steps_proof.specs.Served.{Serving}
 use Rattle.icode_expand_proof.specs.Laws.{Arrives, KeepsCode}
@@ -47,22 +48,28 @@ use Rattle.icode_words_proof.proofs.Fitting.{words_stand}
 use Rattle.icode_expand_proof.proofs.Whole.{simulated, code_kept}
 use Rattle.limits.specs.declared.cost.TheConstants.{START_INSTRUCTIONS, START_OPS_INSTRUCTIONS, UNIT_INSTRUCTIONS}
 use Rattle.limits.specs.declared.program.TheConstants.{FRONT_WORDS, MOST_FUNCTIONS}
-use Rattle.static_image.specs.Layout.{Placed, start_code, front, behind, rows_of, words_from, addresses_of}
+use Rattle.static_image.specs.Layout.{Placed, start_code, start_block, routine_blocks, front, behind, rows_of}
+use Rattle.static_image.specs.Layout.{words_from, addresses_of}
 use Rattle.static_image.specs.Layout.{functions_of, IsChoice, image_of}
 use Rattle.static_image.specs.Served.{IsStatic, most_words, AreStatic, IsImaged}
 use Rattle.static_image.specs.Headline.{Headline}
 use Rattle.static_image.proofs.Arena as arena
 use Rattle.static_image.proofs.Faultless.{stays_faultless, no_fault}
 use Rattle.static_image.proofs.Arriving as start
-use Rattle.static_image.proofs.Placing.{Static, each_static, ends, ends_most, some_words, staged, function_in}
+use Rattle.static_image.proofs.Placing.{Static, each_static, ends, ends_most, starts_low, some_words, staged}
+use Rattle.static_image.proofs.Placing.{function_in}
 use Rattle.static_image.proofs.Placing.{places_in, IsThere, all_stand, IsFound, find}
-use Rattle.static_image.proofs.Tables.{published}
+use Rattle.static_image.proofs.Serving.{AreLow}
+use Rattle.static_image.proofs.Tables.{row_is, published}
 
 -- a statement has a node
 some_node : (s : node.Stmt) → IsBuiltStmt s → 1 ≤ size_of_stmt s
 some_node (node.Eval e) built = omega arith
 some_node (node.Block vars items) built = omega arith
 some_node (node.Variable i) built = omega arith
+some_node (node.Object offset n) built = omega (arith, built)
+some_node (node.Parameter k w) built = omega arith
+some_node (node.ParameterObject k w offset) built = omega arith
 some_node (node.If e s) built = omega arith
 some_node (node.IfElse e s r) built = omega arith
 some_node (node.While e s) built = omega arith
@@ -76,15 +83,14 @@ some_node node.Break built = omega arith
 some_node node.Continue built = omega arith
 some_node node.Return built = omega arith
 some_node (node.ReturnValue e) built = omega arith
-some_node _ built = absurd built
 
 -- so there are not many functions
-few_functions : (fs : List node.Function) → Each IsStatic fs → 256 * length fs ≤ most_words fs
-few_functions [] h = omega arith
-few_functions (f ∷ fs) h = omega (arith, few_functions fs h.1, some_node f.body h.0.ready.built)
+few_functions : (gs fs : List node.Function) → Each (IsStatic gs) fs → 256 * length fs ≤ most_words fs
+few_functions gs [] h = omega arith
+few_functions gs (f ∷ fs) h = omega (arith, few_functions gs fs h.1, some_node f.body h.0.ready.ready.built)
 
 pub are_few : (fs : List node.Function) → AreStatic fs → length fs ≤ MOST_FUNCTIONS
-are_few fs h = omega (arith, few_functions fs h.each, h.room)
+are_few fs h = omega (arith, few_functions fs fs h.each, h.room)
 
 length_functions : (xs : List Placed) → length (functions_of xs) ≡ length xs
 length_functions [] = refl
@@ -95,46 +101,52 @@ length_rows at [] = refl
 length_rows at (x ∷ xs) = ap suc (length_rows (behind at x) xs)
 
 -- what holds of all members holds of the one of a number
-numbered_each : (n : ℕ) (fs : List node.Function) {f : node.Function} → Each IsStatic fs → numbered n fs ≡ Some f →
-    IsStatic f
-numbered_each zero fs h e = absurd cc
-numbered_each (suc k) [] h e = absurd cc
-numbered_each (suc zero) (g ∷ fs) {f} h e = let is : g ≡ f = cc in subst IsStatic is h.0
-numbered_each (suc (suc k)) (g ∷ fs) h e = numbered_each (suc k) fs h.1 e
+numbered_each : (n : ℕ) (gs fs : List node.Function) {f : node.Function} → Each (IsStatic gs) fs →
+    numbered n fs ≡ Some f → IsStatic gs f
+numbered_each zero gs fs h e = absurd cc
+numbered_each (suc k) gs [] h e = absurd cc
+numbered_each (suc zero) gs (g ∷ fs) {f} h e = let is : g ≡ f = cc in subst (IsStatic gs) is h.0
+numbered_each (suc (suc k)) gs (g ∷ fs) h e = numbered_each (suc k) gs fs h.1 e
 
 module _ (program : meaning.Program) (number : ℕ) (xs : List Placed) (imaged : IsImaged program number)
     (choice : IsChoice program.functions xs) where
   abbrev d : Addresses
   d = addresses_of xs
 
+  abbrev fs : List node.Function
+  fs = program.functions
+
   abbrev image : ImageParts
-  image = image_of number xs
+  image = image_of program.image number xs
 
-  pub static : Each Static xs
-  static = each_static xs (subst (Each IsStatic) (sym choice.same) imaged.static.each)
+  pub static : Each (Static fs) xs
+  static = each_static fs xs (subst (Each (IsStatic fs)) (sym choice.same) imaged.static.each)
 
-  most : most_words (functions_of xs) ≡ most_words program.functions
+  most : most_words (functions_of xs) ≡ most_words fs
   most = ap most_words choice.same
 
   pub room : ends FUNCTIONS xs ≤ ARENA
-  room = omega (arith, ends_most FUNCTIONS xs static, most, imaged.static.room)
+  room = omega (arith, ends_most fs FUNCTIONS xs static, most, imaged.static.room)
+
+  pub low : AreLow d
+  low n = omega (arith, starts_low FUNCTIONS xs (n - 1), room)
 
   pub few : length xs ≤ MOST_FUNCTIONS
   few =
       let n = length_functions xs in
       let same = ap length choice.same in
-      omega (arith, n, same, are_few program.functions imaged.static)
+      omega (arith, n, same, are_few fs imaged.static)
 
-  -- main is found at its address
-  main_found : (n : ℕ) → numbered n program.functions ≡ Some program.main → IsFound d FUNCTIONS xs (n - 1) program.main
-  main_found zero e = absurd cc
-  main_found (suc k) e =
+  -- each function is found at its address
+  found_at : (n : ℕ) (f : node.Function) → numbered n fs ≡ Some f → IsFound d FUNCTIONS xs (n - 1) f
+  found_at zero f e = absurd cc
+  found_at (suc k) f e =
       let at : k ≡ suc k - 1 = omega arith in
-      subst (λ (n : ℕ). IsFound d FUNCTIONS xs n program.main) at
-      (find d FUNCTIONS xs k program.main (ap (λ (fs : List node.Function). slice_get fs k) choice.same ∙ e))
+      subst (λ (n : ℕ). IsFound d FUNCTIONS xs n f) at
+      (find d FUNCTIONS xs k f (ap (λ (gs : List node.Function). slice_get gs k) choice.same ∙ e))
 
   pub found : IsFound d FUNCTIONS xs (number - 1) program.main
-  found = main_found number imaged.main_is
+  found = found_at number program.main imaged.main_is
 
   abbrev pub main_at : ℕ
   main_at = d.function_at number
@@ -148,22 +160,22 @@ module _ (program : meaning.Program) (number : ℕ) (xs : List Placed) (imaged :
   pub main_low : main_at < ARENA
   main_low = omega (arith, found.to, room, some_words found.placed)
 
-  main_ready : IsReady program.main
-  main_ready = (numbered_each number program.functions imaged.static.each imaged.main_is).ready
+  all_ready : (n : ℕ) (f : node.Function) → numbered n fs ≡ Some f → IsReadyIn fs f
+  all_ready n f e = (numbered_each n fs fs imaged.static.each e).ready
 
-  main_static : IsStatic program.main
-  main_static = numbered_each number program.functions imaged.static.each imaged.main_is
+  main_ready : IsReadyIn fs program.main
+  main_ready = all_ready number program.main imaged.main_is
 
-  -- main is the program's
-  abbrev main_code : IsCode d program.main main.ops
-  main_code = subst (λ (f : node.Function). IsCode d f (code_of d found.placed.function)) found.function
-      (has_code d found.placed.function (subst IsReady (sym found.function) main_ready))
+  ready : AreReady program
+  ready = record { main = main_ready; no_parameters = imaged.no_parameters; functions = all_ready }
 
-  charge_is : main.charge ≡ charge_of (size_of program.main)
-  charge_is = ap (λ (f : node.Function). charge_of (size_of f)) found.function
+  -- a function that is found is the program's
+  stands_for : (at : ℕ) (x : Placed) (f : node.Function) → x.function ≡ f → Stands d f (staged d at x)
+  stands_for at x f is =
+      subst (λ (g : node.Function). Stands d g (staged d at x)) is (record { ops = refl; charge = refl; object = refl })
 
-  object_is : main.object ≡ program.main.object
-  object_is = ap (λ (f : node.Function). f.object) found.function
+  main_stands : Stands d program.main main
+  main_stands = stands_for main_at found.placed program.main found.function
 
   -- the functions and the rows of the staged machine
   abbrev machine_rows : List (ℕ × ℕ)
@@ -179,7 +191,10 @@ module _ (program : meaning.Program) (number : ℕ) (xs : List Placed) (imaged :
   c = loaded text
 
   pub front_length : length (front main_at (length xs)) ≡ FRONT_WORDS
-  front_length = start.filled_length FRONT_WORDS (words (start_code main_at (length xs))) (omega arith)
+  front_length =
+      let a = start.filled_length 64 (words (start_code main_at (length xs))) (omega arith) in
+      let b = start.filled_length 960 (words malloc_code) (omega arith) in
+      omega (arith, a, b, length-append (start_block main_at (length xs)) routine_blocks)
 
   pub fits : AllFit (start_code main_at (length xs))
   fits = start.start_fits main_at (length xs) (omega (arith, main_low)) few
@@ -187,11 +202,44 @@ module _ (program : meaning.Program) (number : ℕ) (xs : List Placed) (imaged :
   start_stands : HasAt c 4194304 (start_code main_at (length xs))
   start_stands =
       words_stand c 4194304 (start_code main_at (length xs)) fits refl (omega arith)
+      (subst (λ (ws : List ℕ). WordsAt (loaded ws) 4194304 (words (start_code main_at (length xs))))
+      (sym (append_assoc (start_block main_at (length xs)) routine_blocks (words_from d FUNCTIONS xs)))
       (start.first_words (words (start_code main_at (length xs)))
-      (replicate (1024 - length (words (start_code main_at (length xs)))) (word_of nop)) (words_from d FUNCTIONS xs))
+      (replicate (64 - length (words (start_code main_at (length xs)))) (word_of nop))
+      (routine_blocks ++ words_from d FUNCTIONS xs)))
+
+  -- the routine of malloc stands at its block, the first behind the start's
+  malloc_stands : HasAt c 4194560 malloc_code
+  malloc_stands =
+      let a = start.filled_length 64 (words (start_code main_at (length xs))) (omega arith) in
+      let ws = words malloc_code in
+      let more = replicate (960 - length ws) (word_of nop) in
+      words_stand c 4194560 malloc_code malloc_fits refl (omega arith)
+      (subst (λ (text : List ℕ). WordsAt (loaded text) 4194560 ws)
+      (ap (λ (text : List ℕ). start_block main_at (length xs) ++ text)
+      (sym (append_assoc ws more (words_from d FUNCTIONS xs)))
+      ∙ sym (append_assoc (start_block main_at (length xs)) routine_blocks (words_from d FUNCTIONS xs)))
+      (start.words_there (start_block main_at (length xs)) ws (more ++ words_from d FUNCTIONS xs) 4194560
+      (omega (arith, a))))
 
   pub there : (a : ℕ) (f : Function) → machine_of.function_at a ≡ Some f → IsThere c a f (places_in FUNCTIONS xs a)
-  there = all_stand d (front main_at (length xs)) FUNCTIONS xs (omega (arith, front_length)) static choice.legal room
+  there =
+      all_stand fs d low (front main_at (length xs)) FUNCTIONS xs (omega (arith, front_length)) static choice.legal room
+
+  -- each function of the program is one of the staged machine's, and has a row
+  have_functions : HasFunctions machine_of d fs
+  have_functions = record {
+    at = λ n f e. (
+        let x = found_at n f e in
+        record {
+          has = staged d (d.function_at n) x.placed;
+          is = x.found;
+          stands = stands_for (d.function_at n) x.placed f x.function;
+        });
+    rows = λ n. row_is FUNCTIONS xs n ∙
+        ap (λ (gs : List node.Function). row_for (d.function_at n) (numbered n gs)) choice.same;
+    whole = λ a f known. (there a f known).whole;
+  }
 
   abbrev setting : Setting
   setting = record { code = c; program = machine_of; places_at = places_in FUNCTIONS xs; exit = start.exit_at }
@@ -201,14 +249,15 @@ module _ (program : meaning.Program) (number : ℕ) (xs : List Placed) (imaged :
 
   module _ (input : Input) where
     abbrev set : Data
-    set = start.called main_at (length xs) main_even (omega (arith, main_low)) (rows_of FUNCTIONS xs) c input
-        start_stands
+    set = start.called main_at (length xs) main_even (omega (arith, main_low)) program.image (rows_of FUNCTIONS xs) c
+        input start_stands
 
     standing : Standing setting
     standing = record {
       functions = λ a f known. (let h = there a f known in (h.address, h.stands));
-      exits = start.waits main_at (length xs) main_even (omega (arith, main_low)) (rows_of FUNCTIONS xs) c input
-          start_stands;
+      routines = malloc_stands;
+      exits = start.waits main_at (length xs) main_even (omega (arith, main_low)) program.image (rows_of FUNCTIONS xs) c
+          input start_stands;
     }
 
     abbrev begins : World
@@ -220,36 +269,38 @@ module _ (program : meaning.Program) (number : ℕ) (xs : List Placed) (imaged :
     arrives : Arrives setting main shared 17 begins
     arrives = record {
       d = set;
-      arrives = start.comes main_at (length xs) main_even (omega (arith, main_low)) (rows_of FUNCTIONS xs) c input
-          start_stands;
+      arrives = start.comes main_at (length xs) main_even (omega (arith, main_low)) program.image (rows_of FUNCTIONS xs)
+          c input start_stands;
       known = found.found;
       returns_to = refl;
       global = refl;
-      memory = start.agrees main_at (length xs) main_even (omega (arith, main_low)) (rows_of FUNCTIONS xs) c input
-          start_stands machine_of program imaged.no_image
+      memory = start.agrees main_at (length xs) main_even (omega (arith, main_low)) program.image (rows_of FUNCTIONS xs)
+          c input start_stands machine_of program refl imaged.each_byte_fits
           (published machine_rows (omega (arith, few, length_rows FUNCTIONS xs)) (function_in d FUNCTIONS xs));
-      extents = start.extents main_at (length xs) main_even (omega (arith, main_low)) (rows_of FUNCTIONS xs) c input
-          start_stands program;
+      extents = start.extents main_at (length xs) main_even (omega (arith, main_low)) program.image
+          (rows_of FUNCTIONS xs) c input start_stands program;
       unused = refl;
       none = refl;
-      fits = omega (arith, charge_is, main_ready.small);
-      objects_fit = omega (arith, object_is, main_static.plain);
+      fits = omega (arith, main_stands.charge, main_ready.ready.small);
+      objects_fit = omega (arith, main_stands.object, main_ready.short);
     }
 
     abbrev upper : ℕ → State
     upper i = iterate (advance machine_of) i (first main shared)
 
-    follows : FollowsAtCost UNIT_INSTRUCTIONS START_OPS_INSTRUCTIONS (meant program input) (λ i. see (upper i)) (λ i. least_at (upper i))
-        (λ i. most_at (upper i))
-    follows = lowering.follows_at_cost machine_of d program input main main_ready main_code charge_is object_is
+    follows : FollowsAtCost UNIT_INSTRUCTIONS START_OPS_INSTRUCTIONS (meant program input) (λ i. see (upper i))
+        (λ i. least_at (upper i)) (λ i. most_at (upper i))
+    follows = lowering machine_of d program input main ready main_stands have_functions
 
     pays : PaysFor 49 (λ i. see (upper i)) (λ i. least_at (upper i)) (λ i. most_at (upper i))
         (λ k. machine.see (run k begins))
     pays = simulated setting main shared 17 begins standing serving arrives
 
-    pub at_pace : (choices : List ℕ) → FollowsAtPace UNIT_INSTRUCTIONS START_INSTRUCTIONS (meant program input) (runs image input choices)
+    pub at_pace : (choices : List ℕ) →
+        FollowsAtPace UNIT_INSTRUCTIONS START_INSTRUCTIONS (meant program input) (runs image input choices)
     at_pace choices =
-        let f = through UNIT_INSTRUCTIONS START_OPS_INSTRUCTIONS 49 (meant program input) (λ i. see (upper i)) (λ k. machine.see (run k begins))
+        let f = through UNIT_INSTRUCTIONS START_OPS_INSTRUCTIONS 49 (meant program input) (λ i. see (upper i))
+        (λ k. machine.see (run k begins))
         (λ i. least_at (upper i)) (λ i. most_at (upper i)) follows pays in
         record {
           goes_on = λ m none. let a = f.goes_on m none in (a.0, a.1, omega (arith, a.2), a.3, a.4);
@@ -257,7 +308,8 @@ module _ (program : meaning.Program) (number : ℕ) (xs : List Placed) (imaged :
         }
 
     pub faithful : (choices : List ℕ) →
-        FourParts (IsDefined image input choices) (meant program input) (runs image input choices) UNIT_INSTRUCTIONS START_INSTRUCTIONS
+        FourParts (IsDefined image input choices) (meant program input) (runs image input choices) UNIT_INSTRUCTIONS
+        START_INSTRUCTIONS
     faithful choices =
         four_parts UNIT_INSTRUCTIONS START_INSTRUCTIONS (meant program input) (runs image input choices) (omega arith)
         (grows image input choices) (at_pace choices)

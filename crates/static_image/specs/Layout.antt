@@ -14,6 +14,7 @@ use Rattle.icode_ir.specs.Sound.{Each}
 use Rattle.icode_templates.specs.Assembly.{v0, a0, t8, gp, sp, fp, addu, ori, lui, sw, jal, syscall, nop, constant}
 use Rattle.icode_templates.specs.Words.{words}
 use Rattle.icode_expand.specs.Expansion.{expanded}
+use Rattle.spec_closure.specs.Malloc.{malloc_code}
 use Rattle.typed_tree.specs.Nodes as node
 use Rattle.staged_meaning.specs.Size.{size_of, charge_of}
 use Rattle.tick_lower_proof.specs.Lower.{Addresses, listed}
@@ -50,15 +51,23 @@ start_code main functions = set_up functions ++ (jal main ∷ nop ∷ exit_with_
 abbrev pub filled : ℕ → List ℕ → List ℕ
 filled size front = front ++ replicate (size - length front) (word_of nop)
 
--- the words of a block, and of the 16 blocks in front of the functions: those without a routine have none but nop
+-- the words of a block, and of the 16 blocks in front of the functions
 abbrev pub block_words : ℕ
 block_words = 64
 
 abbrev pub front_words : ℕ
 front_words = FRONT_WORDS
 
+-- the block of the start, and behind it those of the routines, of which the first is that of malloc; the blocks without
+-- a routine have none but nop
+abbrev pub start_block : (main functions : ℕ) → List ℕ
+start_block main functions = filled block_words (words (start_code main functions))
+
+abbrev pub routine_blocks : List ℕ
+routine_blocks = filled (front_words - block_words) (words malloc_code)
+
 abbrev pub front : (main functions : ℕ) → List ℕ
-front main functions = filled front_words (words (start_code main functions))
+front main functions = start_block main functions ++ routine_blocks
 
 -- ---- functions
 
@@ -110,13 +119,13 @@ words_from addresses at (x ∷ xs) = words_of addresses at x ++ words_from addre
 abbrev pub addresses_of : List Placed → Addresses
 addresses_of xs = listed (starts FUNCTIONS xs)
 
--- The image of a program whose function main has this number, counted from 1: the start, the blocks, and the functions,
--- each of which has a row.
-abbrev pub image_of : (main : ℕ) → List Placed → ImageParts
-image_of main xs = record {
+-- The image of a program whose globals and strings are these bytes and whose function main has this number, counted
+-- from 1: the start, the blocks, and the functions, each of which has a row.
+abbrev pub image_of : (bytes : List ℕ) (main : ℕ) → List Placed → ImageParts
+image_of bytes main xs = record {
   entry = START;
   text = front ((addresses_of xs).function_at main) (length xs) ++ words_from (addresses_of xs) FUNCTIONS xs;
-  bytes = [];
+  bytes = bytes;
   functions = rows_of FUNCTIONS xs;
 }
 

@@ -1,22 +1,33 @@
 -- Each number in a tree is a word: constants, steps, and the values of a switch's labels.
 use Rattle.std.specs.Prelude.{◌<◌}
-use Rattle.typed_tree.specs.Nodes.{Expr, Const, SetVar, PostVar, Bin, Un, And, Or, Cond, Comma, Void, Lib, Stmt, Eval}
-use Rattle.typed_tree.specs.Nodes.{Block, If, IfElse, While, Do, For, ForStep, Switch, Case, ReturnValue, Items, NoItem}
-use Rattle.typed_tree.specs.Nodes.{Item}
+use Rattle.typed_tree.specs.Nodes.{Expr, Const, SetVar, PostVar, Load, Store, Modify, Post, Bin, Un, And, Or, Cond}
+use Rattle.typed_tree.specs.Nodes.{Comma, Void, Call, CallNumber, Lib, Args, NoArg, Arg, Stmt, Eval, Block, If, IfElse}
+use Rattle.typed_tree.specs.Nodes.{While, Do, For, ForStep, Switch, Case, ReturnValue, Items, NoItem, Item}
 
-abbrev pub HasWords : Expr → Type 0
-HasWords (Const word) = word < 4294967296
-HasWords (SetVar i a) = HasWords a
-HasWords (PostVar i width step) = step < 4294967296
-HasWords (Bin kind a b) = HasWords a × HasWords b
-HasWords (Un kind a) = HasWords a
-HasWords (And a b) = HasWords a × HasWords b
-HasWords (Or a b) = HasWords a × HasWords b
-HasWords (Cond c a b) = HasWords c × HasWords a × HasWords b
-HasWords (Comma a b) = HasWords a × HasWords b
-HasWords (Void a) = HasWords a
-HasWords (Lib library a) = HasWords a
-HasWords _ = Unit {0}
+abbrev mutual
+  pub HasWords : Expr → Type 0
+  HasWords (Const word) = word < 4294967296
+  HasWords (SetVar i a) = HasWords a
+  HasWords (PostVar i width step) = step < 4294967296
+  HasWords (Load width a) = HasWords a
+  HasWords (Store width a b) = HasWords a × HasWords b
+  HasWords (Modify width kind a b) = HasWords a × HasWords b
+  HasWords (Post width step a) = (step < 4294967296) × HasWords a
+  HasWords (Bin kind a b) = HasWords a × HasWords b
+  HasWords (Un kind a) = HasWords a
+  HasWords (And a b) = HasWords a × HasWords b
+  HasWords (Or a b) = HasWords a × HasWords b
+  HasWords (Cond c a b) = HasWords c × HasWords a × HasWords b
+  HasWords (Comma a b) = HasWords a × HasWords b
+  HasWords (Void a) = HasWords a
+  HasWords (Call answer f args) = HaveWordsArgs args
+  HasWords (CallNumber answer a args) = HasWords a × HaveWordsArgs args
+  HasWords (Lib library a) = HasWords a
+  HasWords _ = Unit {0}
+
+  pub HaveWordsArgs : Args → Type 0
+  HaveWordsArgs NoArg = Unit {0}
+  HaveWordsArgs (Arg a args) = HasWords a × HaveWordsArgs args
 
 abbrev mutual
   pub HasWordsStmt : Stmt → Type 0

@@ -98,9 +98,10 @@ one_choice (x ∷ xs) (y ∷ ys) e s t =
     ap (λ (z : Placed). z ∷ xs) (one_placed x y first s.0 t.0) ∙
     ap (λ (zs : List Placed). y ∷ zs) (one_choice xs ys others s.1 t.1)
 
-one_scan : (fs : List Function) (main : ℕ) (a b : ImageParts) → IsScanned fs main a → IsScanned fs main b → a ≡ b
-one_scan fs main a b s t =
-    s.same ∙ ap (image_of main) (one_choice s.placed t.placed (s.choice.same ∙ sym t.choice.same) s.each t.each) ∙
+one_scan : (bytes : List ℕ) (fs : List Function) (main : ℕ) (a b : ImageParts) → IsScanned bytes fs main a →
+    IsScanned bytes fs main b → a ≡ b
+one_scan bytes fs main a b s t =
+    s.same ∙ ap (image_of bytes main) (one_choice s.placed t.placed (s.choice.same ∙ sym t.choice.same) s.each t.each) ∙
     sym t.same
 
 -- a text has one typed tree, and one main
@@ -126,9 +127,10 @@ one_lowered text a b s t =
     let trees = one_tree (typed_tree text) s.tree t.tree s.is_typed t.is_typed in
     let mains = one_main (built t.tree) s.main t.main
     (subst (λ (tree : Typed). built tree ≡ Some s.main) trees s.is_built) t.is_built in
-    let moved = subst (λ (tree : Typed). IsScanned (program_view tree).functions s.main.number a) trees s.scanned in
-    one_scan (program_view t.tree).functions t.main.number a b
-    (subst (λ (m : Main). IsScanned (program_view t.tree).functions m.number a) mains moved) t.scanned
+    let moved =
+    subst (λ (tree : Typed). IsScanned tree.image (program_view tree).functions s.main.number a) trees s.scanned in
+    one_scan t.tree.image (program_view t.tree).functions t.main.number a b
+    (subst (λ (m : Main). IsScanned t.tree.image (program_view t.tree).functions m.number a) mains moved) t.scanned
 
 pub one_file : (text one other : List ℕ) → Saves text one → Saves text other → one ≡ other
 one_file text one other a b =

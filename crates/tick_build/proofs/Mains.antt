@@ -1,5 +1,5 @@
 -- The functions of an accepted text are such as the backend serves, and so the headline holds for its image.
-use Rattle.std.proofs.Common.{◌≡◌, ℕ, List, Option, Some, None, Ok, Err, IfOk, refl, sym, ap, ◌∙◌, subst}
+use Rattle.std.proofs.Common.{◌≡◌, ℕ, ◌≤◌, List, length, Option, Some, None, Ok, Err, IfOk, refl, sym, ap, ◌∙◌, subst}
 use Rattle.std.specs.Option.{option_map}
 use Rattle.std.specs.declared.result.Result.{Result}
 use Rattle.tick_tree.specs.declared.fault.Deny.{Deny}
@@ -16,6 +16,7 @@ use Rattle.built_programs.specs.Laws.{BuiltIsStatic}
 use Rattle.static_image.specs.Served.{AreStatic, IsImaged}
 use Rattle.static_image.specs.Laws.{ImagesKeepRules, HeadlineHolds}
 use Rattle.static_image.specs.Headline.{Headline}
+use Rattle.word32.specs.declared.map.TheConstants.{GLOBAL_BYTES}
 use Rattle.static_backend.specs.Scanned.{HasMain, IsScanned}
 use Rattle.tick_build.specs.Texts.{program_of, or_unbuilt, from_typed, typed_tree, typed, Builds, Refuses}
 use Rattle.tick_build.specs.Texts.{Backs}
@@ -47,18 +48,26 @@ are_static law tree n h e = let f = main_found tree n e in (law tree f.main h f.
 pub has_main : BuiltIsStatic → (tree : Typed) (n : ℕ) → IsWellFormed tree →
     Some n ≡ option_map (λ (m : Main). m.number) (built tree) → HasMain n (program_view tree).functions
 has_main law tree n h e =
-    let f = main_found tree n e in (
+    let f = main_found tree n e in
+    let meets = law tree f.main h f.is_built in (
       f.main.function,
-      subst (λ (k : ℕ). numbered k (program_view tree).functions ≡ Some f.main.function) f.number
-          (law tree f.main h f.is_built).main_is,
+      subst (λ (k : ℕ). numbered k (program_view tree).functions ≡ Some f.main.function) f.number meets.main_is,
+      meets.no_parameters,
     )
 
+pub bytes_fit : BuiltIsStatic → (tree : Typed) (n : ℕ) → IsWellFormed tree →
+    Some n ≡ option_map (λ (m : Main). m.number) (built tree) → length tree.image ≤ GLOBAL_BYTES
+bytes_fit law tree n h e = let f = main_found tree n e in (law tree f.main h f.is_built).bytes_are_few
+
 pub backs : (tree : Typed) (n : ℕ) (image : ImageParts) → Some n ≡ option_map (λ (m : Main). m.number) (built tree) →
-    IsScanned (program_view tree).functions n image
-    → (main : Main) × (built tree ≡ Some main) × IsScanned (program_view tree).functions main.number image
+    IsScanned tree.image (program_view tree).functions n image
+    → (main : Main) × (built tree ≡ Some main) × IsScanned tree.image (program_view tree).functions main.number image
 backs tree n image e scanned =
-    let f = main_found tree n e in
-    (f.main, f.is_built, subst (λ (k : ℕ). IsScanned (program_view tree).functions k image) (sym f.number) scanned)
+    let f = main_found tree n e in (
+      f.main,
+      f.is_built,
+      subst (λ (k : ℕ). IsScanned tree.image (program_view tree).functions k image) (sym f.number) scanned,
+    )
 
 -- a text whose typed tree is this
 typed_by : (text : List ℕ) (tree : Typed) → typed_tree text ≡ Ok tree → typed text ≡ or_unbuilt tree (built tree)
@@ -69,21 +78,26 @@ typed_by text tree e = ap from_typed e
 builds_program : BuiltIsStatic → HeadlineHolds → ImagesKeepRules →
     (text : List ℕ) (tree : Typed) (main : Main) (image : ImageParts)
     → IsWellFormed tree → typed_tree text ≡ Ok tree → built tree ≡ Some main →
-    IsScanned (program_view tree).functions main.number image → Builds text image
+    IsScanned tree.image (program_view tree).functions main.number image → Builds text image
 builds_program law holds keep text tree main image h is_tree is scanned =
     let program = program_of tree main in
     let meets = law tree main h is in
-    let imaged : IsImaged program main.number =
-    record { main_is = meets.main_is; static = meets.static; no_image = refl } in
+    let imaged : (n : ℕ) → numbered n program.functions ≡ Some program.main → IsImaged program n =
+    λ n main_is. record {
+      main_is = main_is;
+      no_parameters = meets.no_parameters;
+      static = meets.static;
+      each_byte_fits = meets.each_byte_fits;
+      bytes_are_few = meets.bytes_are_few;
+    } in
     record {
       program = program;
       accepted = typed_by text tree is_tree ∙ ap (or_unbuilt tree) is;
       lowering = record { tree = tree; is_typed = is_tree; main = main; is_built = is; scanned = scanned };
-      rules = subst IsImage (sym scanned.same) (keep program main.number scanned.placed imaged scanned.choice);
+      rules = subst IsImage (sym scanned.same) (keep program main.number scanned.placed (imaged main.number meets.main_is) scanned.choice);
       headline = subst (Headline program) (sym scanned.same)
-          (holds program main.number scanned.placed imaged scanned.choice);
-      choices = λ n xs main_is choice. holds program n xs
-          (record { main_is = main_is; static = meets.static; no_image = refl }) choice;
+          (holds program main.number scanned.placed (imaged main.number meets.main_is) scanned.choice);
+      choices = λ n xs main_is choice. holds program n xs (imaged n main_is) choice;
     }
 
 pub builds : BuiltIsStatic → HeadlineHolds → ImagesKeepRules →

@@ -23,10 +23,10 @@ use Rattle.static_backend.specs.Scanned.{IsScanned}
 abbrev pub unbuilt : Fault
 unbuilt = record { kind = Unbuilt; line = 1; token = 0 }
 
--- the program of a typed tree that runs so far, with its function main
+-- the program of a typed tree that runs so far, with its function main, and the bytes of its globals and strings
 abbrev pub program_of : Typed → Main → Program
 program_of tree main = record
-    { main = main.function; functions = (program_view tree).functions; ticks = []; image = [] }
+    { main = main.function; functions = (program_view tree).functions; ticks = []; image = tree.image }
 
 abbrev pub or_unbuilt : Typed → Option Main → Result Program Fault
 or_unbuilt tree None = Err unbuilt
@@ -52,20 +52,20 @@ from_typed (Ok tree) = or_unbuilt tree (built tree)
 unfoldable pub typed : List ℕ → Result Program Fault
 typed text = from_typed (typed_tree text)
 
--- The image that is built of a text: the image of its functions, under the places that linear scan gives to the
--- registers of each. A text has one such image.
+-- The image that is built of a text: the image of its functions and of the bytes of its globals and strings, under the
+-- places that linear scan gives to the registers of each function. A text has one such image.
 pub record Lowered (text : List ℕ) (image : ImageParts) : Type 0 where
   pub tree : Typed
   pub is_typed : typed_tree text ≡ Ok tree
   pub main : Main
   pub is_built : built tree ≡ Some main
-  pub scanned : IsScanned (program_view tree).functions main.number image
+  pub scanned : IsScanned tree.image (program_view tree).functions main.number image
 
 -- the headline holds for the image of a program under every legal choice of places of its functions' registers
 abbrev pub HoldsForChoices : Program → Type 0
 HoldsForChoices program =
     (main : ℕ) (xs : List Placed) → numbered main program.functions ≡ Some program.main → IsChoice program.functions xs
-    → Headline program (image_of main xs)
+    → Headline program (image_of program.image main xs)
 
 -- the image of an accepted text: it keeps the rules of images, and the headline holds for it, as for each image of the
 -- program under legal places
@@ -83,9 +83,9 @@ Refuses found (Ok a) = Unit {0}
 Refuses found (Err (deny.Refused fault)) = found ≡ Err fault
 Refuses found (Err deny.NoMemory) = Unit {0}
 
--- the image of a program's functions, or that it is none that is built; want of memory is free
+-- the image of a program, or that it is none that is built; want of memory is free
 abbrev pub Backs : Typed → Result ImageParts Deny → Type 0
 Backs tree (Ok image) = (main : Main) × (built tree ≡ Some main) ×
-    IsScanned (program_view tree).functions main.number image
+    IsScanned tree.image (program_view tree).functions main.number image
 Backs tree (Err (deny.Refused fault)) = (built tree ≡ None) × (fault ≡ unbuilt)
 Backs tree (Err deny.NoMemory) = Unit {0}

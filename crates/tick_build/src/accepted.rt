@@ -38,14 +38,19 @@ fn from_text(alloc: Global, text: &[u8]) -> Result<Typed, Deny>
 }
 
 // The image of a program, where it is one that is built.
-#[tactic(auto, using(crate::proofs::Mains::are_static, crate::proofs::Mains::has_main, crate::proofs::Mains::backs, crate::proofs::Mains::not_found))]
+#[tactic(auto, using(crate::proofs::Mains::are_static, crate::proofs::Mains::has_main, crate::proofs::Mains::bytes_fit, crate::proofs::Mains::backs, crate::proofs::Mains::not_found))]
 fn from_program(alloc: Global, program: &Typed) -> Result<Image, Deny>
     ensures { spec.Backs program.now result }
 {
     built_is_static();
     program.keeps_law();
     match main_of(program) {
-        Some(main) => match static_backend::image(alloc, program.functions(), main) {
+        Some(main) => match static_backend::image(
+            alloc,
+            program.functions(),
+            program.image(),
+            main,
+        ) {
             Ok(image) => Ok(image),
             Err(_) => Err(Deny::NoMemory),
         },

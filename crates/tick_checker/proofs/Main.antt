@@ -1,4 +1,4 @@
--- `main` is one of the functions, and has no parameters.
+-- `main` is one of the functions, and none of that name has parameters.
 use Rattle.std.proofs.Common.{◌≡◌, ℕ, zero, suc, min, ◌==◌, true, ◌&&◌, refl, ap, sym, ◌∙◌, subst, List, [], ◌∷◌}
 use Rattle.std.proofs.Common.{length, codes, slice_get, Option, Some, None, is_some, ◌⊎◌, inl, inr}
 use Rattle.c_types.specs.declared.ctype.CType.{CType}
@@ -93,7 +93,7 @@ pub record HasMain (fs : List Function) : Type 0 where
   pub function : Function
   pub is : slice_get fs place ≡ Some function
   pub name : function.name ≡ codes "main"
-  pub none : function.params ≡ 0
+  pub none : (n : ℕ) (f : Function) → slice_get fs n ≡ Some f → f.name ≡ codes "main" → f.params ≡ 0
 
 record Meant (s : State) : Type 0 where
   what : Meaning
@@ -142,17 +142,18 @@ main_found e ns file defined names h =
     let at : slice_get (names_of e.functions.all) key.place ≡ Some (codes "main") =
     ap (λ l. slice_get l key.place) (names ∙ sym (keys_of 0 ns [])) ∙ key.is in
     let p : Placed e.functions.all key.place (codes "main") = placed_at e.functions.all key.place (codes "main") at in
-    let l : Linked file.scope p.function = linked_at file.scope e.functions.all key.place p.function file.linked p.is in
     let here : in_scope file.scope (codes "main") ≡ Some m.what =
     ap (λ (ss : Scopes). find ss (codes "main")) (sym file.one) ∙ m.found in
-    let there : in_scope file.scope (codes "main") ≡ Some l.what =
-    ap (λ (n : Name). in_scope file.scope n) (sym p.named) ∙ l.found in
-    let same : m.what ≡ l.what = same_some m.what l.what (sym here ∙ there) in
     record {
       place = key.place;
       function = p.function;
       is = p.is;
       name = p.named;
-      none = l.params ∙ no_count l.type
+      none = λ n f is named.
+          let l : Linked file.scope f = linked_at file.scope e.functions.all n f file.linked is in
+          let there : in_scope file.scope (codes "main") ≡ Some l.what =
+          ap (λ (k : Name). in_scope file.scope k) (sym named) ∙ l.found in
+          let same : m.what ≡ l.what = same_some m.what l.what (sym here ∙ there) in
+          l.params ∙ no_count l.type
           (main_list l.what.ctype l.type l.same (ap (λ (w : Meaning). is_main_type w.ctype) (sym same) ∙ m.type));
     }

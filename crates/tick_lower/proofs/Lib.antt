@@ -1,4 +1,6 @@
+pub mod Few
 pub mod Exprs
+pub mod Args
 pub mod Fits
 pub mod Seen
 pub mod Stmts

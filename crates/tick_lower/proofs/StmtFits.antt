@@ -1,6 +1,7 @@
 -- The parts of a statement that fits do so too, where the walk comes to them.
-use Rattle.std.proofs.Common.{◌≡◌, ℕ, ◌+◌, ◌<◌, ◌^◌, List, map, ap, sym, subst, ◌∙◌, arith}
-use Rattle.icode_ir.specs.declared.build_op.BuildOp.{BuildOp}
+use Rattle.std.proofs.Common.{◌≡◌, ℕ, ◌+◌, ◌<◌, List, ap, sym, subst, ◌∙◌, arith}
+use Rattle.limits.specs.declared.program.TheConstants.{MOST_ARGUMENTS}
+use Rattle.word32.specs.declared.width.Width.{Width}
 use Rattle.typed_tree.specs.declared.expression.Expr.{Expr}
 use Rattle.typed_tree.specs.declared.expression.Stmt.{Stmt}
 use Rattle.typed_tree.specs.declared.expression.Stmt.TheVariants as st
@@ -8,44 +9,43 @@ use Rattle.typed_tree.specs.Nodes as node
 use Rattle.typed_tree.specs.View.{expr_view, stmt_view}
 use Rattle.typed_tree.proofs.Views.{stmt_view_eval, stmt_view_block, stmt_view_if, stmt_view_ifelse, stmt_view_while}
 use Rattle.typed_tree.proofs.Views.{stmt_view_do, stmt_view_for, stmt_view_forstep, stmt_view_switch}
-use Rattle.typed_tree.proofs.Views.{stmt_view_returnvalue}
+use Rattle.typed_tree.proofs.Views.{stmt_view_returnvalue, stmt_view_parameter, stmt_view_parameterobject}
 use Rattle.staged_meaning.specs.Size.{labels_in, temps_in, labels, temps, labels_of, temps_of}
-use Rattle.tick_lower_proof.specs.Lower.{Addresses, Targets}
+use Rattle.tick_lower_proof.specs.Lower.{Targets}
 use Rattle.tick_lower.specs.declared.ops.Ops.{Ops}
 use Rattle.tick_lower.specs.Steps.{Fits, FitsStmt, FitItems, add_stmt, add_items, add_selector}
-use Rattle.tick_lower.proofs.Exprs.{anywhere}
 use Rattle.tick_lower.proofs.StmtSeen.{view_of}
 
 -- the numbers behind a statement, behind items, and behind a switch's value
-pub stmt_labels : (d : Addresses) (to : Targets) (s : node.Stmt) (o p : Ops) → p ≡ add_stmt d to s o
+pub stmt_labels : (to : Targets) (s : node.Stmt) (o p : Ops) → p ≡ add_stmt to s o
     → p.label ≡ o.label + labels s
 unfolding add_stmt
-stmt_labels d to s o p h = cc
+stmt_labels to s o p h = cc
 
-pub stmt_temps : (d : Addresses) (to : Targets) (s : node.Stmt) (o p : Ops) → p ≡ add_stmt d to s o
+pub stmt_temps : (to : Targets) (s : node.Stmt) (o p : Ops) → p ≡ add_stmt to s o
     → p.variable ≡ o.variable + temps s
 unfolding add_stmt
-stmt_temps d to s o p h = cc
+stmt_temps to s o p h = cc
 
-pub items_labels : (d : Addresses) (to : Targets) (is : node.Items) (o p : Ops) → p ≡ add_items d to is o
+pub items_labels : (to : Targets) (is : node.Items) (o p : Ops) → p ≡ add_items to is o
     → p.label ≡ o.label + labels_of is
 unfolding add_items
-items_labels d to is o p h = cc
+items_labels to is o p h = cc
 
-pub items_temps : (d : Addresses) (to : Targets) (is : node.Items) (o p : Ops) → p ≡ add_items d to is o
+pub items_temps : (to : Targets) (is : node.Items) (o p : Ops) → p ≡ add_items to is o
     → p.variable ≡ o.variable + temps_of is
 unfolding add_items
-items_temps d to is o p h = cc
+items_temps to is o p h = cc
 
-selector_labels : (d : Addresses) (e : node.Expr) (o p : Ops) → p ≡ add_selector d e o
+selector_labels : (e : node.Expr) (o p : Ops) → p ≡ add_selector e o
     → p.label ≡ o.label + 1 + labels_in e
 unfolding add_selector
-selector_labels d e o p h = cc
+selector_labels e o p h = cc
 
-selector_temps : (d : Addresses) (e : node.Expr) (o p : Ops) → p ≡ add_selector d e o
+selector_temps : (e : node.Expr) (o p : Ops) → p ≡ add_selector e o
     → p.variable ≡ o.variable + 1 + temps_in e
 unfolding add_selector
-selector_temps d e o p h = cc
+selector_temps e o p h = cc
 
 module _ (x : Stmt) (o : Ops) (h : FitsStmt (stmt_view x) o) where
   seen : (n : node.Stmt) → stmt_view x ≡ n → FitsStmt n o
@@ -55,13 +55,20 @@ module _ (x : Stmt) (o : Ops) (h : FitsStmt (stmt_view x) o) where
   eval_fits a p is at =
       let whole = seen (node.Eval (expr_view a)) (ap stmt_view is ∙ stmt_view_eval a) in
       subst (λ z. Fits (expr_view z) o) (sym at)
-      (record { built = whole.built; labels = whole.labels; variables = whole.variables })
+      (record { built = whole.built; few = whole.few; labels = whole.labels; variables = whole.variables })
 
   pub answer_fits : (a p : Expr) → x ≡ st.ReturnValue a → p ≡ a → Fits (expr_view p) o
   answer_fits a p is at =
       let whole = seen (node.ReturnValue (expr_view a)) (ap stmt_view is ∙ stmt_view_returnvalue a) in
       subst (λ z. Fits (expr_view z) o) (sym at)
-      (record { built = whole.built; labels = whole.labels; variables = whole.variables })
+      (record { built = whole.built; few = whole.few; labels = whole.labels; variables = whole.variables })
+
+  pub parameter_few : (k : ℕ) (w : Width) → x ≡ st.Parameter k w → k < MOST_ARGUMENTS
+  parameter_few k w is = (seen (node.Parameter k w) (ap stmt_view is ∙ stmt_view_parameter k w)).few
+
+  pub parameter_object_few : (k : ℕ) (w : Width) (offset : ℕ) → x ≡ st.ParameterObject k w offset → k < MOST_ARGUMENTS
+  parameter_object_few k w offset is =
+      (seen (node.ParameterObject k w offset) (ap stmt_view is ∙ stmt_view_parameterobject k w offset)).few
 
   pub block_fits : (a b p : List Stmt) → x ≡ st.Block a b → p ≡ a → FitItems (view_of p) o
   block_fits a b p is at =
@@ -69,29 +76,31 @@ module _ (x : Stmt) (o : Ops) (h : FitsStmt (stmt_view x) o) where
       subst (λ z. FitItems (view_of z) o) (sym at)
       (record {
         built = whole.built.0;
+        few = whole.few.0;
         labels = omega (arith, whole.labels);
         variables = omega (arith, whole.variables);
       })
 
   pub block_fits_behind : (to : Targets) (a b p q : List Stmt) (m : Ops) → x ≡ st.Block a b → p ≡ a → q ≡ b
-      → ((d : Addresses) → m ≡ add_items d to (view_of p) o) → FitItems (view_of q) m
+      → (m ≡ add_items to (view_of p) o) → FitItems (view_of q) m
   block_fits_behind to a b p q m is pa qb done =
       let whole = seen (node.Block (view_of a) (view_of b)) (ap stmt_view is ∙ stmt_view_block a b) in
       subst (λ z. FitItems (view_of z) m) (sym qb)
       (record {
         built = whole.built.1;
+        few = whole.few.1;
         labels =
             omega (
               arith,
               whole.labels,
-              items_labels anywhere to (view_of p) o m (done anywhere),
+              items_labels to (view_of p) o m done,
               ap (λ z. labels_of (view_of z)) pa,
             );
         variables =
             omega (
               arith,
               whole.variables,
-              items_temps anywhere to (view_of p) o m (done anywhere),
+              items_temps to (view_of p) o m done,
               ap (λ z. temps_of (view_of z)) pa,
             );
       })
@@ -146,31 +155,33 @@ module _ (x : Stmt) (o : Ops) (h : FitsStmt (stmt_view x) o) where
 
 -- in a switch: behind its value, and behind its variables
 module _ (e : node.Expr) (vs is : node.Items) (to : Targets) (o m : Ops) (h : FitsStmt (node.Switch e vs is) o)
-    (first : (d : Addresses) → m ≡ add_selector d e o) where
+    (first : m ≡ add_selector e o) where
   pub variables_fit : FitItems vs m
   variables_fit =
       record {
         built = h.built.1;
-        labels = omega (arith, h.labels, selector_labels anywhere e o m (first anywhere));
-        variables = omega (arith, h.variables, selector_temps anywhere e o m (first anywhere));
+        few = h.few.1;
+        labels = omega (arith, h.labels, selector_labels e o m first);
+        variables = omega (arith, h.variables, selector_temps e o m first);
       }
 
-  pub items_fit : (r : Ops) → ((d : Addresses) → r ≡ add_items d to vs m) → FitItems is r
+  pub items_fit : (r : Ops) → (r ≡ add_items to vs m) → FitItems is r
   items_fit r second =
       record {
         built = h.built.2;
+        few = h.few.2;
         labels =
             omega (
               arith,
               h.labels,
-              selector_labels anywhere e o m (first anywhere),
-              items_labels anywhere to vs m r (second anywhere),
+              selector_labels e o m first,
+              items_labels to vs m r second,
             );
         variables =
             omega (
               arith,
               h.variables,
-              selector_temps anywhere e o m (first anywhere),
-              items_temps anywhere to vs m r (second anywhere),
+              selector_temps e o m first,
+              items_temps to vs m r second,
             );
       }

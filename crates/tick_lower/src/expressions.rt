@@ -1,21 +1,24 @@
 //! The ops of an expression.
 
-ghost use Rattle.std.specs.Prelude.{◌≡◌, ◌∷◌, [], OnOk};
-ghost use Rattle.tick_lower.specs.Steps.{Fits, add, add_expr, library_ops};
-ghost use Rattle.tick_lower_proof.specs.Lower.{Addresses, dropping};
+ghost use Rattle.std.specs.Prelude.{◌≡◌, ◌∷◌, [], map, OnOk};
+ghost use Rattle.tick_lower.specs.Steps.{Fits, FitArgs, add, add_expr, add_args, library_ops};
+ghost use Rattle.tick_lower_proof.specs.Lower.{dropping};
 ghost use Rattle.typed_tree.specs.Nodes as node;
-ghost use Rattle.typed_tree.specs.View.{expr_view};
+ghost use Rattle.typed_tree.specs.View.{expr_view, args_of};
 
+use crate::calls::{address_of, count_of};
 use crate::ops::Ops;
+use crate::places::{push_loaded, push_post, push_stored};
 use icode_ir::BuildOp;
-use icode_ops::{RunKind, SysKind};
+use icode_ops::{BinKind, RunKind, SysKind};
 use sqlite_items::Boxed;
 use std::alloc::AllocError;
-use typed_tree::{Expr, Library, has_value};
+use typed_tree::{Answer, Expr, Library, has_value};
+use word32::Width;
 
 // The ops of a library function, which take its argument and leave its answer, where it has one. The only error is want
 // of memory.
-fn push_library(function: Library, out: &mut Ops) -> Result<(), AllocError>
+fn push_library(function: Library, out: &mut Ops<'_>) -> Result<(), AllocError>
     ensures { OnOk result (out.new ≡ add (library_ops function) out.old) }
 {
     match function {
@@ -44,9 +47,9 @@ fn push_library(function: Library, out: &mut Ops) -> Result<(), AllocError>
 /// memory.
 #[cycle(lower_expression)]
 #[tactic(auto, using(typed_tree::proofs::Views::expressions))]
-pub fn lower_expression(e: &Expr, out: &mut Ops) -> Result<(), AllocError>
+pub fn lower_expression(e: &Expr, out: &mut Ops<'_>) -> Result<(), AllocError>
     requires { Fits (expr_view e.now) out.old }
-    ensures { OnOk result ((addresses : Addresses) → out.new ≡ add_expr addresses (expr_view e.now) out.old) }
+    ensures { OnOk result (out.new ≡ add_expr (expr_view e.now) out.old) }
 {
     match e {
         Expr::Const(word) => out.push(BuildOp::Const { word: *word }),
@@ -76,11 +79,25 @@ pub fn lower_expression(e: &Expr, out: &mut Ops) -> Result<(), AllocError>
             lower_expression(a.get(), out)?;
             push_library(*function, out)
         }
+        Expr::Frame(offset) => out.push(BuildOp::FrameAddress { offset: *offset }),
+        Expr::Load(width, a) => lower_then(a.get(), BuildOp::Load { width: *width }, out),
+        Expr::Store(width, a, b) => {
+            lower_expression(a.get(), out)?;
+            lower_then(b.get(), BuildOp::Store { width: *width }, out)
+        }
+        Expr::Modify(width, kind, a, b) => lower_modify(*width, *kind, a.get(), b.get(), out),
+        Expr::Post(width, step, a) => {
+            lower_expression(a.get(), out)?;
+            push_post(*width, *step, out)
+        }
+        Expr::Call(answer, function, args) => {
+            lower_call(*answer, *function, args.as_slice(), out)
+        }
+        Expr::CallNumber(answer, a, args) => {
+            lower_call_number(*answer, a.get(), args.as_slice(), out)
+        }
         Expr::Captured(_, _) | Expr::VGet(_) | Expr::VSet(_, _) | Expr::VPost(_, _) =>
             unreachable!(),
-        Expr::Frame(_) | Expr::Load(_, _) | Expr::Store(_, _, _) => unreachable!(),
-        Expr::Modify(_, _, _, _) | Expr::Post(_, _, _) => unreachable!(),
-        Expr::Call(_, _, _) | Expr::CallNumber(_, _, _) => unreachable!(),
         Expr::Tick(_, _) | Expr::Capture(_, _) | Expr::Splice(_, _) => unreachable!(),
         Expr::Compile(_) | Expr::Local | Expr::ParamOf(_) => unreachable!(),
     }
@@ -88,10 +105,9 @@ pub fn lower_expression(e: &Expr, out: &mut Ops) -> Result<(), AllocError>
 
 /// Adds the ops of an expression, and one that takes or keeps its value. The only error is want of memory.
 #[cycle(lower_expression)]
-pub fn lower_then(e: &Expr, op: BuildOp, out: &mut Ops) -> Result<(), AllocError>
+pub fn lower_then(e: &Expr, op: BuildOp, out: &mut Ops<'_>) -> Result<(), AllocError>
     requires { Fits (expr_view e.now) out.old }
-    ensures { OnOk result ((addresses : Addresses) →
-        out.new ≡ add (op ∷ []) (add_expr addresses (expr_view e.now) out.old)) }
+    ensures { OnOk result (out.new ≡ add (op ∷ []) (add_expr (expr_view e.now) out.old)) }
 {
     lower_expression(e, out)?;
     out.push(op)
@@ -100,21 +116,89 @@ pub fn lower_then(e: &Expr, op: BuildOp, out: &mut Ops) -> Result<(), AllocError
 /// Adds the ops of an expression for its effects: its value, if it has one, is taken away. The only error is want of
 /// memory.
 #[cycle(lower_expression)]
-pub fn lower_effect(e: &Expr, out: &mut Ops) -> Result<(), AllocError>
+pub fn lower_effect(e: &Expr, out: &mut Ops<'_>) -> Result<(), AllocError>
     requires { Fits (expr_view e.now) out.old }
-    ensures { OnOk result ((addresses : Addresses) →
-        out.new ≡ add (dropping (node.has_value (expr_view e.now))) (add_expr addresses (expr_view e.now) out.old)) }
+    ensures { OnOk result (
+        out.new ≡ add (dropping (node.has_value (expr_view e.now))) (add_expr (expr_view e.now) out.old)) }
 {
     lower_expression(e, out)?;
     out.push_dropping(has_value(e))
 }
 
+// The ops of `a op= b` at an address.
+#[cycle(lower_expression)]
+fn lower_modify(
+    width: Width,
+    kind: BinKind,
+    a: &Expr,
+    b: &Expr,
+    out: &mut Ops<'_>,
+) -> Result<(), AllocError>
+    requires { Fits (node.Modify width kind (expr_view a.now) (expr_view b.now)) out.old }
+    ensures { OnOk result (
+        out.new ≡ add_expr (node.Modify width kind (expr_view a.now) (expr_view b.now)) out.old) }
+{
+    lower_expression(a, out)?;
+    push_loaded(width, out)?;
+    lower_then(b, BuildOp::Bin { kind }, out)?;
+    push_stored(width, out)
+}
+
+// The ops of arguments, one after the other.
+#[cycle(lower_expression)]
+fn lower_args(args: &[Expr], out: &mut Ops<'_>) -> Result<(), AllocError>
+    requires { FitArgs (args_of (map expr_view args.now)) out.old }
+    ensures { OnOk result (out.new ≡ add_args (args_of (map expr_view args.now)) out.old) }
+{
+    for a in args {
+        lower_expression(a, out)?;
+    }
+    Ok(())
+}
+
+// The ops of a call of a static function.
+#[cycle(lower_expression)]
+fn lower_call(
+    answer: Answer,
+    function: u32,
+    args: &[Expr],
+    out: &mut Ops<'_>,
+) -> Result<(), AllocError>
+    requires { Fits (node.Call answer function (args_of (map expr_view args.now))) out.old }
+    ensures { OnOk result (
+        out.new ≡ add_expr (node.Call answer function (args_of (map expr_view args.now))) out.old) }
+{
+    lower_args(args, out)?;
+    let address = address_of(out.starts, function);
+    let count = count_of(args);
+    out.push(BuildOp::Call { address, count })?;
+    out.push_dropping_call(answer)
+}
+
+// The ops of a call of the function whose number is evaluated first.
+#[cycle(lower_expression)]
+fn lower_call_number(
+    answer: Answer,
+    a: &Expr,
+    args: &[Expr],
+    out: &mut Ops<'_>,
+) -> Result<(), AllocError>
+    requires { Fits (node.CallNumber answer (expr_view a.now) (args_of (map expr_view args.now))) out.old }
+    ensures { OnOk result (
+        out.new ≡ add_expr (node.CallNumber answer (expr_view a.now) (args_of (map expr_view args.now))) out.old) }
+{
+    lower_expression(a, out)?;
+    lower_args(args, out)?;
+    let count = count_of(args);
+    out.push(BuildOp::CallNumber { count })?;
+    out.push_dropping_call(answer)
+}
+
 // The ops of `a && b`.
 #[cycle(lower_expression)]
-fn lower_and(a: &Expr, b: &Expr, out: &mut Ops) -> Result<(), AllocError>
+fn lower_and(a: &Expr, b: &Expr, out: &mut Ops<'_>) -> Result<(), AllocError>
     requires { Fits (node.And (expr_view a.now) (expr_view b.now)) out.old }
-    ensures { OnOk result ((addresses : Addresses) →
-        out.new ≡ add_expr addresses (node.And (expr_view a.now) (expr_view b.now)) out.old) }
+    ensures { OnOk result (out.new ≡ add_expr (node.And (expr_view a.now) (expr_view b.now)) out.old) }
 {
     let join = out.take_join();
     lower_then(a, BuildOp::BranchZero { label: join.other }, out)?;
@@ -124,10 +208,9 @@ fn lower_and(a: &Expr, b: &Expr, out: &mut Ops) -> Result<(), AllocError>
 
 // The ops of `a || b`.
 #[cycle(lower_expression)]
-fn lower_or(a: &Expr, b: &Expr, out: &mut Ops) -> Result<(), AllocError>
+fn lower_or(a: &Expr, b: &Expr, out: &mut Ops<'_>) -> Result<(), AllocError>
     requires { Fits (node.Or (expr_view a.now) (expr_view b.now)) out.old }
-    ensures { OnOk result ((addresses : Addresses) →
-        out.new ≡ add_expr addresses (node.Or (expr_view a.now) (expr_view b.now)) out.old) }
+    ensures { OnOk result (out.new ≡ add_expr (node.Or (expr_view a.now) (expr_view b.now)) out.old) }
 {
     let join = out.take_join();
     lower_then(a, BuildOp::BranchNonzero { label: join.other }, out)?;
@@ -137,10 +220,10 @@ fn lower_or(a: &Expr, b: &Expr, out: &mut Ops) -> Result<(), AllocError>
 
 // The ops of `test ? a : b`.
 #[cycle(lower_expression)]
-fn lower_choice(test: &Expr, a: &Expr, b: &Expr, out: &mut Ops) -> Result<(), AllocError>
+fn lower_choice(test: &Expr, a: &Expr, b: &Expr, out: &mut Ops<'_>) -> Result<(), AllocError>
     requires { Fits (node.Cond (expr_view test.now) (expr_view a.now) (expr_view b.now)) out.old }
-    ensures { OnOk result ((addresses : Addresses) →
-        out.new ≡ add_expr addresses (node.Cond (expr_view test.now) (expr_view a.now) (expr_view b.now)) out.old) }
+    ensures { OnOk result (
+        out.new ≡ add_expr (node.Cond (expr_view test.now) (expr_view a.now) (expr_view b.now)) out.old) }
 {
     let join = out.take_join();
     let left = has_value(a);

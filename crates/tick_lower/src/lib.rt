@@ -1,9 +1,11 @@
 //! The lowering of a function's typed tree to builder ops, which a builder takes.
 #![tactic(auto)]
 
+mod calls;
 mod expressions;
 mod function;
 mod ops;
+mod places;
 mod sizes;
 mod statements;
 mod variables;

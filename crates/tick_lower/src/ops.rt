@@ -3,17 +3,20 @@
 ghost use Rattle.std.specs.Prelude.{◌≡◌, ◌+◌, ◌<◌, ◌^◌, ◌++◌, ◌∷◌, [], OnOk};
 ghost use Rattle.icode_ops.specs.declared.kind.BinKind.TheVariants.{Add};
 ghost use Rattle.tick_lower.specs.Steps.{add};
-ghost use Rattle.tick_lower_proof.specs.Lower.{narrowing, dropping, keeping, kept, step_ops, joins};
+ghost use Rattle.tick_lower_proof.specs.Lower.{narrowing, dropping, dropping_call, keeping, kept, step_ops, joins};
 
 use icode_ir::BuildOp;
-use icode_ops::{BinKind, UnKind};
+use icode_ops::{BinKind, CallAddress, UnKind};
 use sqlite_items::Items;
 use std::alloc::{AllocError, Global};
+use typed_tree::Answer;
 use word32::Width;
 
 /// The ops of the nodes so far. A node's labels and its own variables are numbered behind those of the nodes before it.
 #[derive(Drop)]
-pub struct Ops {
+pub struct Ops<'a> {
+    /// Where the static functions are, the first of them first; none where their addresses aren't known yet.
+    pub starts: &'a [CallAddress],
     /// Where the list takes its memory.
     pub alloc: Global,
     /// The ops, in their order.
@@ -76,7 +79,7 @@ impl Turn {
     }
 }
 
-impl Ops {
+impl<'a> Ops<'a> {
     /// One more op. The only error is want of memory.
     pub fn push(&mut self, op: BuildOp) -> Result<(), AllocError>
         ensures { OnOk result (self.new ≡ add (op ∷ []) self.old) }
@@ -107,10 +110,11 @@ impl Ops {
     }
 
     /// No ops, with the numbers that come next here: for nodes whose ops stand apart at first.
-    pub fn apart(&self) -> Ops
+    pub fn apart(&self) -> Ops<'a>
         ensures { result ≡ record self.now { list = [] } }
     {
         Ops {
+            starts: self.starts,
             alloc: self.alloc,
             list: Items::new(self.alloc),
             label: self.label,
@@ -119,11 +123,11 @@ impl Ops {
     }
 
     /// Puts ops that stood apart behind those that are here. The only error is want of memory.
-    pub fn append(&mut self, more: Ops) -> Result<(), AllocError>
+    pub fn append(&mut self, more: Ops<'a>) -> Result<(), AllocError>
         ensures { OnOk result (self.new ≡ record self.old {
-          list = self.old.list ++ more.list;
-          label = more.label;
-          variable = more.variable;
+          list = self.old.list ++ more.entry.list;
+          label = more.entry.label;
+          variable = more.entry.variable;
         }) }
     {
         self.label = more.label;
@@ -228,6 +232,16 @@ impl Ops {
             self.push(BuildOp::Drop)
         } else {
             Ok(())
+        }
+    }
+
+    /// Takes away what a call of a void function leaves. The only error is want of memory.
+    pub fn push_dropping_call(&mut self, answer: Answer) -> Result<(), AllocError>
+        ensures { OnOk result (self.new ≡ add (dropping_call answer) self.old) }
+    {
+        match answer {
+            Answer::Value => Ok(()),
+            Answer::Void => self.push(BuildOp::Drop),
         }
     }
 

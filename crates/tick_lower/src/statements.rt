@@ -4,14 +4,16 @@ ghost use Rattle.std.specs.Prelude.{◌≡◌, ◌+◌, ◌<◌, ◌^◌, map, I
 ghost use Rattle.staged_meaning.specs.Size.{labels_in, temps_in};
 ghost use Rattle.staged_meaning.specs.Scope.{IsBuilt};
 ghost use Rattle.staged_meaning.specs.Statements.{case_of};
+ghost use Rattle.tick_lower.specs.Few.{PassesFew};
 ghost use Rattle.tick_lower.specs.Steps.{FitsStmt, FitItems, add, add_stmt, add_items, add_selector, add_switch};
 ghost use Rattle.tick_lower.specs.Steps.{targets_of, default_of};
-ghost use Rattle.tick_lower_proof.specs.Lower.{Addresses, Targets, case_ops, test_ops, default_label};
+ghost use Rattle.tick_lower_proof.specs.Lower.{Targets, case_ops, test_ops, default_label};
 ghost use Rattle.typed_tree.specs.Nodes as node;
 ghost use Rattle.typed_tree.specs.View.{expr_view, stmt_view, items_of};
 
 use crate::expressions::{lower_effect, lower_then};
 use crate::ops::{Exits, Ops, Selector};
+use crate::places::{push_parameter, push_parameter_object};
 use icode_ir::BuildOp;
 use icode_ops::BinKind;
 use std::alloc::AllocError;
@@ -20,10 +22,9 @@ use typed_tree::{Expr, Stmt};
 /// Adds the ops of a statement, whose breaks and continues go where the exits say. The only error is want of memory.
 #[cycle(lower_statement)]
 #[tactic(auto, using(typed_tree::proofs::Views::statements))]
-pub fn lower_statement(s: &Stmt, exits: Exits, out: &mut Ops) -> Result<(), AllocError>
+pub fn lower_statement(s: &Stmt, exits: Exits, out: &mut Ops<'_>) -> Result<(), AllocError>
     requires { FitsStmt (stmt_view s.now) out.old }
-    ensures { OnOk result ((addresses : Addresses) →
-        out.new ≡ add_stmt addresses (targets_of exits) (stmt_view s.now) out.old) }
+    ensures { OnOk result (out.new ≡ add_stmt (targets_of exits) (stmt_view s.now) out.old) }
 {
     match s {
         Stmt::Eval(e) => lower_effect(e.get(), out),
@@ -53,17 +54,22 @@ pub fn lower_statement(s: &Stmt, exits: Exits, out: &mut Ops) -> Result<(), Allo
         }),
         Stmt::Return => out.push(BuildOp::ReturnZero),
         Stmt::ReturnValue(e) => lower_then(e.get(), BuildOp::Return, out),
-        Stmt::Object(_, _) | Stmt::Parameter(_, _) => unreachable!(),
-        Stmt::ParameterObject(_, _, _) => unreachable!(),
+        Stmt::Object(offset, words) => out.push(BuildOp::Clear {
+            offset: *offset,
+            words: *words,
+        }),
+        Stmt::Parameter(k, width) => push_parameter(*k, *width, out),
+        Stmt::ParameterObject(k, width, offset) => {
+            push_parameter_object(*k, *width, *offset, out)
+        }
     }
 }
 
 // The ops of statements, one after the other.
 #[cycle(lower_statement)]
-fn lower_statements(list: &[Stmt], exits: Exits, out: &mut Ops) -> Result<(), AllocError>
+fn lower_statements(list: &[Stmt], exits: Exits, out: &mut Ops<'_>) -> Result<(), AllocError>
     requires { FitItems (items_of (map stmt_view list.now)) out.old }
-    ensures { OnOk result ((addresses : Addresses) →
-        out.new ≡ add_items addresses (targets_of exits) (items_of (map stmt_view list.now)) out.old) }
+    ensures { OnOk result (out.new ≡ add_items (targets_of exits) (items_of (map stmt_view list.now)) out.old) }
 {
     for s in list {
         lower_statement(s, exits, out)?;
@@ -73,10 +79,10 @@ fn lower_statements(list: &[Stmt], exits: Exits, out: &mut Ops) -> Result<(), Al
 
 // The ops of `if`.
 #[cycle(lower_statement)]
-fn lower_if(test: &Expr, a: &Stmt, exits: Exits, out: &mut Ops) -> Result<(), AllocError>
+fn lower_if(test: &Expr, a: &Stmt, exits: Exits, out: &mut Ops<'_>) -> Result<(), AllocError>
     requires { FitsStmt (node.If (expr_view test.now) (stmt_view a.now)) out.old }
-    ensures { OnOk result ((addresses : Addresses) →
-        out.new ≡ add_stmt addresses (targets_of exits) (node.If (expr_view test.now) (stmt_view a.now)) out.old) }
+    ensures { OnOk result (
+        out.new ≡ add_stmt (targets_of exits) (node.If (expr_view test.now) (stmt_view a.now)) out.old) }
 {
     let past = out.take_label();
     lower_then(test, BuildOp::BranchZero { label: past }, out)?;
@@ -91,10 +97,10 @@ fn lower_if_else(
     a: &Stmt,
     b: &Stmt,
     exits: Exits,
-    out: &mut Ops,
+    out: &mut Ops<'_>,
 ) -> Result<(), AllocError>
     requires { FitsStmt (node.IfElse (expr_view test.now) (stmt_view a.now) (stmt_view b.now)) out.old }
-    ensures { OnOk result ((addresses : Addresses) → out.new ≡ add_stmt addresses (targets_of exits)
+    ensures { OnOk result (out.new ≡ add_stmt (targets_of exits)
         (node.IfElse (expr_view test.now) (stmt_view a.now) (stmt_view b.now)) out.old) }
 {
     let other = out.take_label();
@@ -108,10 +114,10 @@ fn lower_if_else(
 
 // The ops of `while`.
 #[cycle(lower_statement)]
-fn lower_while(test: &Expr, a: &Stmt, out: &mut Ops) -> Result<(), AllocError>
+fn lower_while(test: &Expr, a: &Stmt, out: &mut Ops<'_>) -> Result<(), AllocError>
     requires { FitsStmt (node.While (expr_view test.now) (stmt_view a.now)) out.old }
-    ensures { OnOk result ((addresses : Addresses) (to : Targets) →
-        out.new ≡ add_stmt addresses to (node.While (expr_view test.now) (stmt_view a.now)) out.old) }
+    ensures { OnOk result ((to : Targets) →
+        out.new ≡ add_stmt to (node.While (expr_view test.now) (stmt_view a.now)) out.old) }
 {
     let end = out.take_label();
     let start = out.take_label();
@@ -127,10 +133,10 @@ fn lower_while(test: &Expr, a: &Stmt, out: &mut Ops) -> Result<(), AllocError>
 
 // The ops of `do`.
 #[cycle(lower_statement)]
-fn lower_do(a: &Stmt, test: &Expr, out: &mut Ops) -> Result<(), AllocError>
+fn lower_do(a: &Stmt, test: &Expr, out: &mut Ops<'_>) -> Result<(), AllocError>
     requires { FitsStmt (node.Do (stmt_view a.now) (expr_view test.now)) out.old }
-    ensures { OnOk result ((addresses : Addresses) (to : Targets) →
-        out.new ≡ add_stmt addresses to (node.Do (stmt_view a.now) (expr_view test.now)) out.old) }
+    ensures { OnOk result ((to : Targets) →
+        out.new ≡ add_stmt to (node.Do (stmt_view a.now) (expr_view test.now)) out.old) }
 {
     let turn = out.take_turn();
     out.push(BuildOp::Label { label: turn.start })?;
@@ -142,10 +148,10 @@ fn lower_do(a: &Stmt, test: &Expr, out: &mut Ops) -> Result<(), AllocError>
 
 // The ops of `for` without a step.
 #[cycle(lower_statement)]
-fn lower_for(test: &Expr, a: &Stmt, out: &mut Ops) -> Result<(), AllocError>
+fn lower_for(test: &Expr, a: &Stmt, out: &mut Ops<'_>) -> Result<(), AllocError>
     requires { FitsStmt (node.For (expr_view test.now) (stmt_view a.now)) out.old }
-    ensures { OnOk result ((addresses : Addresses) (to : Targets) →
-        out.new ≡ add_stmt addresses to (node.For (expr_view test.now) (stmt_view a.now)) out.old) }
+    ensures { OnOk result ((to : Targets) →
+        out.new ≡ add_stmt to (node.For (expr_view test.now) (stmt_view a.now)) out.old) }
 {
     let turn = out.take_turn();
     out.push(BuildOp::Label { label: turn.start })?;
@@ -157,9 +163,9 @@ fn lower_for(test: &Expr, a: &Stmt, out: &mut Ops) -> Result<(), AllocError>
 
 // The ops of `for`.
 #[cycle(lower_statement)]
-fn lower_for_step(test: &Expr, step: &Expr, a: &Stmt, out: &mut Ops) -> Result<(), AllocError>
+fn lower_for_step(test: &Expr, step: &Expr, a: &Stmt, out: &mut Ops<'_>) -> Result<(), AllocError>
     requires { FitsStmt (node.ForStep (expr_view test.now) (expr_view step.now) (stmt_view a.now)) out.old }
-    ensures { OnOk result ((addresses : Addresses) (to : Targets) → out.new ≡ add_stmt addresses to
+    ensures { OnOk result ((to : Targets) → out.new ≡ add_stmt to
         (node.ForStep (expr_view test.now) (expr_view step.now) (stmt_view a.now)) out.old) }
 {
     let turn = out.take_turn();
@@ -172,12 +178,13 @@ fn lower_for_step(test: &Expr, step: &Expr, a: &Stmt, out: &mut Ops) -> Result<(
 }
 
 // The value of a switch goes to a variable, which the tests of the cases compare.
-fn lower_selector(e: &Expr, out: &mut Ops) -> Result<Selector, AllocError>
+fn lower_selector(e: &Expr, out: &mut Ops<'_>) -> Result<Selector, AllocError>
     requires built { IsBuilt (expr_view e.now) }
+    requires few { PassesFew (expr_view e.now) }
     requires labels { out.old.label + 1 + labels_in (expr_view e.now) < 2 ^ 32 }
     requires variables { out.old.variable + 1 + temps_in (expr_view e.now) < 2 ^ 32 }
     ensures selector { IfOk result (λ s. s ≡ record { end = out.old.label; value = out.old.variable }) }
-    ensures ops { OnOk result ((addresses : Addresses) → out.new ≡ add_selector addresses (expr_view e.now) out.old) }
+    ensures ops { OnOk result (out.new ≡ add_selector (expr_view e.now) out.old) }
 {
     let end = out.take_label();
     let value = out.take_variable();
@@ -192,10 +199,10 @@ fn lower_switch(
     items: &[Stmt],
     selector: Selector,
     exits: Exits,
-    out: &mut Ops,
+    out: &mut Ops<'_>,
 ) -> Result<(), AllocError>
     requires { FitItems (items_of (map stmt_view items.now)) out.old }
-    ensures { OnOk result ((addresses : Addresses) → out.new ≡ add_switch addresses
+    ensures { OnOk result (out.new ≡ add_switch
         (record { on_break = selector.end; on_continue = exits.on_continue }) selector.value
         (items_of (map stmt_view items.now)) out.old) }
 {
@@ -219,16 +226,16 @@ fn lower_cases(
     items: &[Stmt],
     value: u32,
     exits: Exits,
-    inside: &mut Ops,
-    out: &mut Ops,
+    inside: &mut Ops<'_>,
+    out: &mut Ops<'_>,
 ) -> Result<u32, AllocError>
     requires { FitItems (items_of (map stmt_view items.now)) inside.old }
     ensures label { IfOk result (λ label.
         label ≡ default_label (items_of (map stmt_view items.now)) inside.old.label exits.on_break) }
     ensures tests { OnOk result (out.new ≡ add (test_ops (items_of
         (map stmt_view items.now)) inside.old.label value) out.old) }
-    ensures ops { OnOk result ((addresses : Addresses) →
-        inside.new ≡ add_items addresses (targets_of exits) (items_of (map stmt_view items.now)) inside.old) }
+    ensures ops { OnOk result (
+        inside.new ≡ add_items (targets_of exits) (items_of (map stmt_view items.now)) inside.old) }
 {
     let mut default = None;
     for s in items {
@@ -240,7 +247,7 @@ fn lower_cases(
 }
 
 // The test of a case that stands at this label.
-fn push_test(s: &Stmt, value: u32, label: u32, out: &mut Ops) -> Result<(), AllocError>
+fn push_test(s: &Stmt, value: u32, label: u32, out: &mut Ops<'_>) -> Result<(), AllocError>
     ensures { OnOk result (out.new ≡ add (case_ops (stmt_view s.now) label value) out.old) }
 {
     match case_value(s) {

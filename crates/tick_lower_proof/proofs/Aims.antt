@@ -5,16 +5,18 @@ use Rattle.word32.specs.declared.width.Width.{Width}
 use Rattle.word32.specs.declared.width.Width.TheVariants as width
 use Rattle.icode_ir.specs.declared.build_op.BuildOp.{BuildOp}
 use Rattle.icode_ir.specs.declared.build_op.BuildOp.TheVariants as build
+use Rattle.typed_tree.specs.declared.expression.Answer.TheVariants as answer
 use Rattle.typed_tree.specs.Nodes as node
 use Rattle.typed_tree.specs.declared.expression.Library.TheVariants as library
 use Rattle.typed_tree.specs.Nodes.{Expr, Stmt, Items, has_value}
 use Rattle.staged_meaning.specs.Size.{labels_in, labels, labels_of, temps_in, temps, temps_of}
-use Rattle.staged_meaning.specs.Scope.{IsBuilt, IsBuiltStmt, AreBuiltItems}
+use Rattle.staged_meaning.specs.Scope.{IsBuilt, IsBuiltStmt, AreBuiltItems, AreBuilt}
 use Rattle.staged_meaning.specs.Placed.{Allowed, nested, looped, switched, IsPlaced, ArePlaced}
 use Rattle.tick_lower_proof.specs.Lower.{Addresses, expr_ops, Targets, stmt_ops, items_ops, dropping, keeping, kept}
-use Rattle.tick_lower_proof.specs.Lower.{narrowing, joins, test_ops, default_label}
+use Rattle.tick_lower_proof.specs.Lower.{narrowing, joins, test_ops, default_label, args_ops, dropping_call}
 use Rattle.tick_lower_proof.proofs.Stmts.{declarations_placed}
 use Rattle.tick_lower_proof.proofs.Labels.{OnLabel, Every, every_append, label_of}
+use Rattle.typed_tree.specs.declared.expression.Answer.{Answer}
 
 abbrev pub aim_of : BuildOp → Option ℕ
 aim_of (build.Jump l) = Some l
@@ -87,101 +89,164 @@ module _ (d : Addresses) (W : List BuildOp) where
       every_append aim_of Known ao rest1 ha
       (goes, every_append aim_of Known bo rest2 hb (goes, joins_aims first other l t in_ways))
 
-  pub expr_aims : (e : Expr) → IsBuilt e → (l t : ℕ) → HasThese (expr_ops d e l t) → Aimed (expr_ops d e l t)
-  expr_aims (node.Const w) built l t inc = (tt, tt)
-  expr_aims (node.Var i) built l t inc = (tt, tt)
-  expr_aims (node.SetVar i a) built l t inc =
-      let ao = expr_ops d a l t in
-      every_append aim_of Known ao _ (expr_aims a built l t (λ i h. inc i (has_left i ao _ h))) (tt, tt)
-  expr_aims (node.PostVar i width step) built l t inc =
-      (tt, (tt, (tt, (tt, every_append aim_of Known (narrowing width) _ (narrowing_aims width) (tt, (tt, tt))))))
-  expr_aims (node.Bin k a b) built l t inc =
-      let ao = expr_ops d a l t in
-      let bo = expr_ops d b (l + labels_in a) (t + temps_in a) in
-      let rest = bo ++ build.Bin k ∷ [] in
-      every_append aim_of Known ao rest (expr_aims a built.0 l t (λ i h. inc i (has_left i ao rest h)))
-      (every_append aim_of Known bo (build.Bin k ∷ [])
-      (expr_aims b built.1 (l + labels_in a) (t + temps_in a)
-      (λ i h. inc i (has_right i ao rest (has_left i bo (build.Bin k ∷ []) h)))) (tt, tt))
-  expr_aims (node.Un k a) built l t inc =
-      let ao = expr_ops d a l t in
-      every_append aim_of Known ao _ (expr_aims a built l t (λ i h. inc i (has_left i ao _ h))) (tt, tt)
-  expr_aims (node.And a b) built l t inc =
-      let ao = expr_ops d a (l + 2) (t + 1) in
-      let bo = expr_ops d b (l + 2 + labels_in a) (t + 1 + temps_in a) in
-      let rest2 = build.BranchZero l ∷ joins 1 0 l (l + 1) t in
-      let rest1 = build.BranchZero l ∷ (bo ++ rest2) in
-      logic_aims 1 0 l t (build.BranchZero l) ao bo refl inc
-      (expr_aims a built.0 (l + 2) (t + 1) (λ i h. inc i (has_left i ao rest1 h)))
-      (expr_aims b built.1 (l + 2 + labels_in a) (t + 1 + temps_in a)
-      (λ i h. inc i (has_right i ao rest1 (inr (has_left i bo rest2 h)))))
-  expr_aims (node.Or a b) built l t inc =
-      let ao = expr_ops d a (l + 2) (t + 1) in
-      let bo = expr_ops d b (l + 2 + labels_in a) (t + 1 + temps_in a) in
-      let rest2 = build.BranchNonzero l ∷ joins 0 1 l (l + 1) t in
-      let rest1 = build.BranchNonzero l ∷ (bo ++ rest2) in
-      logic_aims 0 1 l t (build.BranchNonzero l) ao bo refl inc
-      (expr_aims a built.0 (l + 2) (t + 1) (λ i h. inc i (has_left i ao rest1 h)))
-      (expr_aims b built.1 (l + 2 + labels_in a) (t + 1 + temps_in a)
-      (λ i h. inc i (has_right i ao rest1 (inr (has_left i bo rest2 h)))))
-  expr_aims (node.Cond c a b) built l t inc =
-      let has = has_value a in
-      let la = l + 2 + labels_in c in
-      let ta = t + 1 + temps_in c in
-      let co = expr_ops d c (l + 2) (t + 1) in
-      let ao = expr_ops d a la ta in
-      let bo = expr_ops d b (la + labels_in a) (ta + temps_in a) in
-      let K = keeping has t in
-      let rest6 = build.Label (l + 1) ∷ kept has t in
-      let rest5 = K ++ rest6 in
-      let rest3 = build.Jump (l + 1) ∷ build.Label l ∷ (bo ++ rest5) in
-      let rest2 = K ++ rest3 in
-      let rest1 = build.BranchZero l ∷ (ao ++ rest2) in
-      let in2 : HasThese rest2 = λ i h. inc i (has_right i co rest1 (inr (has_right i ao rest2 h))) in
-      let in3 : HasThese rest3 = λ i h. in2 i (has_right i K rest3 h) in
-      let in5 : HasThese rest5 = λ i h. in3 i (inr (inr (has_right i bo rest5 h))) in
-      let other : HasLabel l W = in3 l (inr (inl refl)) in
-      let meet : HasLabel (l + 1) W = in5 (l + 1) (has_right (l + 1) K rest6 (inl refl)) in
-      every_append aim_of Known co rest1
-      (expr_aims c built.0 (l + 2) (t + 1) (λ i h. inc i (has_left i co rest1 h))) (
-        other,
-        every_append aim_of Known ao rest2
-            (expr_aims a built.1 la ta (λ i h. inc i (has_right i co rest1 (inr (has_left i ao rest2 h)))))
-            (every_append aim_of Known K rest3 (keeping_aims has t) (
-              meet,
-              (
-                tt,
-                every_append aim_of Known bo rest5
-                    (expr_aims b built.2 (la + labels_in a) (ta + temps_in a)
-                    (λ i h. in3 i (inr (inr (has_left i bo rest5 h)))))
-                    (every_append aim_of Known K rest6 (keeping_aims has t) (tt, kept_aims has t)),
-              ),
-            )),
-      )
-  expr_aims (node.Comma a b) built l t inc =
-      let ao = expr_ops d a l t in
-      let D = dropping (has_value a) in
-      let bo = expr_ops d b (l + labels_in a) (t + temps_in a) in
-      every_append aim_of Known ao (D ++ bo) (expr_aims a built.0 l t (λ i h. inc i (has_left i ao (D ++ bo) h)))
-      (every_append aim_of Known D bo (dropping_aims (has_value a))
-      (expr_aims b built.1 (l + labels_in a) (t + temps_in a)
-      (λ i h. inc i (has_right i ao (D ++ bo) (has_right i D bo h)))))
-  expr_aims (node.Void a) built l t inc =
-      let ao = expr_ops d a l t in
-      let D = dropping (has_value a) in
-      every_append aim_of Known ao D (expr_aims a built l t (λ i h. inc i (has_left i ao D h)))
-      (dropping_aims (has_value a))
-  expr_aims node.Getchar built l t inc = (tt, (tt, tt))
-  expr_aims (node.Lib library.Putchar a) built l t inc =
-      let ao = expr_ops d a l t in
-      every_append aim_of Known ao _ (expr_aims a built l t (λ i h. inc i (has_left i ao _ h))) (tt, tt)
-  expr_aims (node.Lib library.Putint a) built l t inc =
-      let ao = expr_ops d a l t in
-      every_append aim_of Known ao _ (expr_aims a built l t (λ i h. inc i (has_left i ao _ h))) (tt, (tt, tt))
-  expr_aims (node.Lib library.Exit a) built l t inc =
-      let ao = expr_ops d a l t in
-      every_append aim_of Known ao _ (expr_aims a built l t (λ i h. inc i (has_left i ao _ h))) (tt, (tt, tt))
-  expr_aims _ built l t inc = absurd built
+  calling_aims : (a : Answer) → Aimed (dropping_call a)
+  calling_aims answer.Value = tt
+  calling_aims answer.Void = (tt, tt)
+
+  mutual
+    pub expr_aims : (e : Expr) → IsBuilt e → (l t : ℕ) → HasThese (expr_ops d e l t) → Aimed (expr_ops d e l t)
+    expr_aims (node.Const w) built l t inc = (tt, tt)
+    expr_aims (node.Var i) built l t inc = (tt, tt)
+    expr_aims (node.SetVar i a) built l t inc =
+        let ao = expr_ops d a l t in
+        every_append aim_of Known ao _ (expr_aims a built l t (λ i h. inc i (has_left i ao _ h))) (tt, tt)
+    expr_aims (node.PostVar i width step) built l t inc =
+        (tt, (tt, (tt, (tt, every_append aim_of Known (narrowing width) _ (narrowing_aims width) (tt, (tt, tt))))))
+    expr_aims (node.Bin k a b) built l t inc =
+        let ao = expr_ops d a l t in
+        let bo = expr_ops d b (l + labels_in a) (t + temps_in a) in
+        let rest = bo ++ build.Bin k ∷ [] in
+        every_append aim_of Known ao rest (expr_aims a built.0 l t (λ i h. inc i (has_left i ao rest h)))
+        (every_append aim_of Known bo (build.Bin k ∷ [])
+        (expr_aims b built.1 (l + labels_in a) (t + temps_in a)
+        (λ i h. inc i (has_right i ao rest (has_left i bo (build.Bin k ∷ []) h)))) (tt, tt))
+    expr_aims (node.Un k a) built l t inc =
+        let ao = expr_ops d a l t in
+        every_append aim_of Known ao _ (expr_aims a built l t (λ i h. inc i (has_left i ao _ h))) (tt, tt)
+    expr_aims (node.And a b) built l t inc =
+        let ao = expr_ops d a (l + 2) (t + 1) in
+        let bo = expr_ops d b (l + 2 + labels_in a) (t + 1 + temps_in a) in
+        let rest2 = build.BranchZero l ∷ joins 1 0 l (l + 1) t in
+        let rest1 = build.BranchZero l ∷ (bo ++ rest2) in
+        logic_aims 1 0 l t (build.BranchZero l) ao bo refl inc
+        (expr_aims a built.0 (l + 2) (t + 1) (λ i h. inc i (has_left i ao rest1 h)))
+        (expr_aims b built.1 (l + 2 + labels_in a) (t + 1 + temps_in a)
+        (λ i h. inc i (has_right i ao rest1 (inr (has_left i bo rest2 h)))))
+    expr_aims (node.Or a b) built l t inc =
+        let ao = expr_ops d a (l + 2) (t + 1) in
+        let bo = expr_ops d b (l + 2 + labels_in a) (t + 1 + temps_in a) in
+        let rest2 = build.BranchNonzero l ∷ joins 0 1 l (l + 1) t in
+        let rest1 = build.BranchNonzero l ∷ (bo ++ rest2) in
+        logic_aims 0 1 l t (build.BranchNonzero l) ao bo refl inc
+        (expr_aims a built.0 (l + 2) (t + 1) (λ i h. inc i (has_left i ao rest1 h)))
+        (expr_aims b built.1 (l + 2 + labels_in a) (t + 1 + temps_in a)
+        (λ i h. inc i (has_right i ao rest1 (inr (has_left i bo rest2 h)))))
+    expr_aims (node.Cond c a b) built l t inc =
+        let has = has_value a in
+        let la = l + 2 + labels_in c in
+        let ta = t + 1 + temps_in c in
+        let co = expr_ops d c (l + 2) (t + 1) in
+        let ao = expr_ops d a la ta in
+        let bo = expr_ops d b (la + labels_in a) (ta + temps_in a) in
+        let K = keeping has t in
+        let rest6 = build.Label (l + 1) ∷ kept has t in
+        let rest5 = K ++ rest6 in
+        let rest3 = build.Jump (l + 1) ∷ build.Label l ∷ (bo ++ rest5) in
+        let rest2 = K ++ rest3 in
+        let rest1 = build.BranchZero l ∷ (ao ++ rest2) in
+        let in2 : HasThese rest2 = λ i h. inc i (has_right i co rest1 (inr (has_right i ao rest2 h))) in
+        let in3 : HasThese rest3 = λ i h. in2 i (has_right i K rest3 h) in
+        let in5 : HasThese rest5 = λ i h. in3 i (inr (inr (has_right i bo rest5 h))) in
+        let other : HasLabel l W = in3 l (inr (inl refl)) in
+        let meet : HasLabel (l + 1) W = in5 (l + 1) (has_right (l + 1) K rest6 (inl refl)) in
+        every_append aim_of Known co rest1
+        (expr_aims c built.0 (l + 2) (t + 1) (λ i h. inc i (has_left i co rest1 h))) (
+          other,
+          every_append aim_of Known ao rest2
+              (expr_aims a built.1 la ta (λ i h. inc i (has_right i co rest1 (inr (has_left i ao rest2 h)))))
+              (every_append aim_of Known K rest3 (keeping_aims has t) (
+                meet,
+                (
+                  tt,
+                  every_append aim_of Known bo rest5
+                      (expr_aims b built.2 (la + labels_in a) (ta + temps_in a)
+                      (λ i h. in3 i (inr (inr (has_left i bo rest5 h)))))
+                      (every_append aim_of Known K rest6 (keeping_aims has t) (tt, kept_aims has t)),
+                ),
+              )),
+        )
+    expr_aims (node.Comma a b) built l t inc =
+        let ao = expr_ops d a l t in
+        let D = dropping (has_value a) in
+        let bo = expr_ops d b (l + labels_in a) (t + temps_in a) in
+        every_append aim_of Known ao (D ++ bo) (expr_aims a built.0 l t (λ i h. inc i (has_left i ao (D ++ bo) h)))
+        (every_append aim_of Known D bo (dropping_aims (has_value a))
+        (expr_aims b built.1 (l + labels_in a) (t + temps_in a)
+        (λ i h. inc i (has_right i ao (D ++ bo) (has_right i D bo h)))))
+    expr_aims (node.Void a) built l t inc =
+        let ao = expr_ops d a l t in
+        let D = dropping (has_value a) in
+        every_append aim_of Known ao D (expr_aims a built l t (λ i h. inc i (has_left i ao D h)))
+        (dropping_aims (has_value a))
+    expr_aims node.Getchar built l t inc = (tt, (tt, tt))
+    expr_aims (node.Lib library.Putchar a) built l t inc =
+        let ao = expr_ops d a l t in
+        every_append aim_of Known ao _ (expr_aims a built l t (λ i h. inc i (has_left i ao _ h))) (tt, tt)
+    expr_aims (node.Lib library.Putint a) built l t inc =
+        let ao = expr_ops d a l t in
+        every_append aim_of Known ao _ (expr_aims a built l t (λ i h. inc i (has_left i ao _ h))) (tt, (tt, tt))
+    expr_aims (node.Lib library.Exit a) built l t inc =
+        let ao = expr_ops d a l t in
+        every_append aim_of Known ao _ (expr_aims a built l t (λ i h. inc i (has_left i ao _ h))) (tt, (tt, tt))
+    expr_aims (node.Frame offset) built l t inc = (tt, tt)
+    expr_aims (node.Load width a) built l t inc =
+        let ao = expr_ops d a l t in
+        every_append aim_of Known ao _ (expr_aims a built l t (λ i h. inc i (has_left i ao _ h))) (tt, tt)
+    expr_aims (node.Store width a b) built l t inc =
+        let ao = expr_ops d a l t in
+        let bo = expr_ops d b (l + labels_in a) (t + temps_in a) in
+        let rest = bo ++ build.Store width ∷ [] in
+        every_append aim_of Known ao rest (expr_aims a built.0 l t (λ i h. inc i (has_left i ao rest h)))
+        (every_append aim_of Known bo (build.Store width ∷ [])
+        (expr_aims b built.1 (l + labels_in a) (t + temps_in a)
+        (λ i h. inc i (has_right i ao rest (has_left i bo (build.Store width ∷ []) h)))) (tt, tt))
+    expr_aims (node.Modify width k a b) built l t inc =
+        let ao = expr_ops d a l t in
+        let bo = expr_ops d b (l + labels_in a) (t + temps_in a) in
+        let rest2 = build.Bin k ∷ (narrowing width ++ build.Store width ∷ []) in
+        let rest1 = build.Pick 0 ∷ build.Load width ∷ (bo ++ rest2) in
+        every_append aim_of Known ao rest1 (expr_aims a built.0 l t (λ i h. inc i (has_left i ao rest1 h))) (
+          tt,
+          (
+            tt,
+            every_append aim_of Known bo rest2
+                (expr_aims b built.1 (l + labels_in a) (t + temps_in a)
+                (λ i h. inc i (has_right i ao rest1 (inr (inr (has_left i bo rest2 h))))))
+                (tt, every_append aim_of Known (narrowing width) _ (narrowing_aims width) (tt, tt)),
+          ),
+        )
+    expr_aims (node.Post width step a) built l t inc =
+        let ao = expr_ops d a l t in
+        let rest : Aimed (narrowing width ++ build.Store width ∷ build.Drop ∷ build.Nip ∷ []) =
+        every_append aim_of Known (narrowing width) _ (narrowing_aims width) (tt, (tt, (tt, tt))) in
+        every_append aim_of Known ao _ (expr_aims a built l t (λ i h. inc i (has_left i ao _ h)))
+        (tt, (tt, (tt, (tt, (tt, (tt, rest))))))
+    expr_aims (node.Call answer f args) built l t inc =
+        let ao = args_ops d args l t in
+        every_append aim_of Known ao _ (args_aims args built l t (λ i h. inc i (has_left i ao _ h)))
+        (tt, calling_aims answer)
+    expr_aims (node.CallNumber answer a args) built l t inc =
+        let ao = expr_ops d a l t in
+        let ro = args_ops d args (l + labels_in a) (t + temps_in a) in
+        let rest = build.CallNumber (node.count args) ∷ dropping_call answer in
+        every_append aim_of Known ao (ro ++ rest)
+        (expr_aims a built.0 l t (λ i h. inc i (has_left i ao (ro ++ rest) h)))
+        (every_append aim_of Known ro rest
+        (args_aims args built.1 (l + labels_in a) (t + temps_in a)
+        (λ i h. inc i (has_right i ao (ro ++ rest) (has_left i ro rest h)))) (tt, calling_aims answer))
+    expr_aims (node.Lib library.Malloc a) built l t inc =
+        let ao = expr_ops d a l t in
+        every_append aim_of Known ao _ (expr_aims a built l t (λ i h. inc i (has_left i ao _ h))) (tt, tt)
+    expr_aims _ built l t inc = absurd built
+
+    pub args_aims : (args : node.Args) → AreBuilt args → (l t : ℕ) → HasThese (args_ops d args l t) →
+        Aimed (args_ops d args l t)
+    args_aims node.NoArg built l t inc = tt
+    args_aims (node.Arg a args) built l t inc =
+        let ao = expr_ops d a l t in
+        let ro = args_ops d args (l + labels_in a) (t + temps_in a) in
+        every_append aim_of Known ao ro (expr_aims a built.0 l t (λ i h. inc i (has_left i ao ro h)))
+        (args_aims args built.1 (l + labels_in a) (t + temps_in a) (λ i h. inc i (has_right i ao ro h)))
 
   -- of one whose value, if there is one, is taken away
   pub eval_aims : (e : Expr) → IsBuilt e → (l t : ℕ) → HasThese (expr_ops d e l t ++ dropping (has_value e)) →
@@ -238,6 +303,11 @@ module _ (d : Addresses) (W : List BuildOp) where
         (items_aims items built.1 (nested a) placed.1 to aims (l + labels_of vars) (t + temps_of vars)
         (λ i h. inc i (has_right i vo io h)))
     stmt_aims (node.Variable i) built a placed to aims l t inc = (tt, (tt, (tt, tt)))
+    stmt_aims (node.Object offset words) built a placed to aims l t inc = (tt, tt)
+    stmt_aims (node.Parameter k width) built a placed to aims l t inc =
+        (tt, every_append aim_of (λ i. HasLabel i W) (narrowing width) _ (narrowing_aims width) (tt, (tt, tt)))
+    stmt_aims (node.ParameterObject k width offset) built a placed to aims l t inc =
+        (tt, (tt, every_append aim_of (λ i. HasLabel i W) (narrowing width) _ (narrowing_aims width) (tt, (tt, tt))))
     stmt_aims (node.If e s) built a placed to aims l t inc =
         let eo = expr_ops d e (l + 1) t in
         let so = stmt_ops d s to (l + 1 + labels_in e) (t + temps_in e) in
@@ -415,7 +485,6 @@ module _ (d : Addresses) (W : List BuildOp) where
     stmt_aims node.Break built a placed to aims l t inc = (aims.on_break placed, tt)
     stmt_aims node.Continue built a placed to aims l t inc = (aims.on_continue placed, tt)
     stmt_aims node.Return built a placed to aims l t inc = (tt, tt)
-    stmt_aims _ built a placed to aims l t inc = absurd built
 
     pub items_aims : (is : Items) → AreBuiltItems is → (a : Allowed) → ArePlaced a is → (to : Targets) →
         AimsKnown a.breaks a.continues to → (l t : ℕ) → HasThese (items_ops d is to l t) →

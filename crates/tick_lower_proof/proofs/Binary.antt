@@ -22,7 +22,7 @@ use Rattle.tick_lower_proof.proofs.Builder.{stands_back, check_of, past_check}
 use Rattle.tick_lower_proof.proofs.Pushes.{valued_brings}
 use Rattle.tick_lower_proof.proofs.Follow.{From, Follows}
 use Rattle.tick_lower_proof.proofs.Registers.{Within}
-use Rattle.tick_lower_proof.proofs.Standing.{Site, Fits, At, IsBack, Leaves, ExprRuns, Part, value_run}
+use Rattle.tick_lower_proof.proofs.Standing.{Site, Fits, At, IsBack, Leaves, ExprRuns, Part, value_run, IsOutset}
 use Rattle.tick_lower_proof.proofs.Exprs.{trap_by, trap_is, paid_check, check_goes, check_shared, check_low, check_high}
 use Rattle.tick_lower_proof.proofs.Exprs.{op_put, one_run}
 
@@ -33,7 +33,7 @@ module _ (site : Site) (scope : Scope) (inside : Within scope site.named) where
       t + (temps_in a + temps_in b) ≤ site.size → (v : View) (stack : List (ℕ × ℕ)) → Fits site v stack →
       Stands site.call.function.ops
       (expr_ops site.addresses a l t ++ (expr_ops site.addresses b (l + labels_in a) (t + temps_in a) ++ o ∷ [])) v →
-      (from : From) (spare credit : ℕ) (w : World) → from.units < site.context.turns →
+      (from : From) (spare credit : ℕ) (w : World) → IsOutset site from →
       At site from scope v.place stack spare credit 0 w → (next : ℕ → ℕ → World → Result ℕ) →
       ((v2 : View) → Stands site.call.function.ops (o ∷ []) v2 → (x y : ℕ) (w2 : World) →
       Fits site v2 ((top v2.operands, y) ∷ (top (below v2.operands), x) ∷ stack) →
@@ -43,7 +43,8 @@ module _ (site : Site) (scope : Scope) (inside : Within scope site.named) where
       (next x y w2)) → Follows site.machine from
       (Leaves true site from scope
       (after_ops (expr_ops site.addresses a l t ++
-      (expr_ops site.addresses b (l + labels_in a) (t + temps_in a) ++ o ∷ [])) v) stack spare credit) (IsBack site from)
+      (expr_ops site.addresses b (l + labels_in a) (t + temps_in a) ++ o ∷ [])) v) stack spare credit)
+      (IsBack site from)
       (then_do (eval site.context a w) (λ x w1. then_do (eval site.context b w1) (λ y w2. next x y w2)))
   two_run a b o part_a part_b is_a is_b oka okb l t st tn v stack fits at from spare credit w lt z next last =
       let code = site.call.function.ops in
@@ -74,7 +75,8 @@ module _ (site : Site) (scope : Scope) (inside : Within scope site.named) where
   bin_end : (k : BinKind) (from : From) (v2 : View) (stack : List (ℕ × ℕ)) (spare credit x y : ℕ) (w : World) →
       Fits site v2 ((top v2.operands, y) ∷ (top (below v2.operands), x) ∷ stack) →
       (h : At site from scope v2.place ((top v2.operands, y) ∷ (top (below v2.operands), x) ∷ stack) (spare + 1 + 1)
-      (credit + 128 + 128) 0 w) → (g : Log) → g.shared ≡ h.log.shared → h.log.least ≤ g.least → g.most ≤ h.log.most + 16 →
+      (credit + 128 + 128) 0 w) → (g : Log) → g.shared ≡ h.log.shared → h.log.least ≤ g.least → g.most ≤ h.log.most +
+      16 →
       (trap : Option TrapKind) →
       Goes site.machine from.state
       (machine.unless trap g (at_op site.call (suc (past_check (check_of k) v2.place))

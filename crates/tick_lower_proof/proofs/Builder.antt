@@ -11,7 +11,7 @@ use Rattle.icode_ir.specs.declared.build_op.BuildOp.{BuildOp}
 use Rattle.icode_ir.specs.declared.build_op.BuildOp.TheVariants.{Const, Bin, Un, Enter, Leave, GetVariable, SetVariable}
 use Rattle.icode_ir.specs.declared.build_op.BuildOp.TheVariants.{Drop, Pick, Nip, Load, Store, Label, Jump, BranchZero}
 use Rattle.icode_ir.specs.declared.build_op.BuildOp.TheVariants.{BranchNonzero, Return, ReturnZero, Sys, Run}
-use Rattle.icode_ir.specs.declared.build_op.BuildOp.TheVariants.{FrameAddress, Clear, Parameter, Call}
+use Rattle.icode_ir.specs.declared.build_op.BuildOp.TheVariants.{FrameAddress, Clear, Parameter, Call, CallNumber}
 
 pub record View : Type 0 where
   pub place : ℕ
@@ -76,6 +76,11 @@ abbrev pub dropped : ℕ → List ℕ → List ℕ
 dropped zero operands = operands
 dropped (suc n) operands = dropped n (below operands)
 
+-- an operand that is so many below the top
+abbrev pub picked : ℕ → List ℕ → ℕ
+picked zero operands = top operands
+picked (suc i) operands = picked i (below operands)
+
 -- registers become the arguments k, k + 1 and so on
 abbrev pub passed_ops : ℕ → List ℕ → List Op
 passed_ops k [] = []
@@ -102,6 +107,8 @@ issued (FrameAddress offset) v = op.FrameAddress v.next offset ∷ []
 issued (Clear offset words) v = op.Clear offset words ∷ []
 issued (Parameter k) v = op.GetParameter v.next k ∷ []
 issued (Call address n) v = passed_ops 0 (taken n v.operands []) ++ op.Call address ∷ op.Result v.next ∷ []
+issued (CallNumber n) v =
+    passed_ops 0 (taken n v.operands []) ++ op.CallNumber (picked n v.operands) n ∷ op.Result v.next ∷ []
 issued Return v = op.Return (top v.operands) ∷ []
 issued (Sys kind) v = op.Sys kind v.next (top v.operands) ∷ []
 issued _ v = []
@@ -112,11 +119,6 @@ pushed place rest v = record v { place = suc place; operands = v.next ∷ rest; 
 
 abbrev pub with_operands : List ℕ → View → View
 with_operands rest v = record v { place = suc v.place; operands = rest }
-
--- an operand that is so many below the top
-abbrev pub picked : ℕ → List ℕ → ℕ
-picked zero operands = top operands
-picked (suc i) operands = picked i (below operands)
 
 -- the builder behind an op
 abbrev pub after_op : BuildOp → View → View
@@ -134,6 +136,7 @@ after_op (FrameAddress offset) v = pushed v.place v.operands v
 after_op (Clear offset words) v = with_operands v.operands v
 after_op (Parameter k) v = pushed v.place v.operands v
 after_op (Call address n) v = pushed (v.place + suc n) (dropped n v.operands) v
+after_op (CallNumber n) v = pushed (v.place + suc n) (below (dropped n v.operands)) v
 after_op (GetVariable i) v = pushed v.place v.operands v
 after_op (SetVariable i) v = with_operands v.operands v
 after_op Drop v = record v { operands = below v.operands }
@@ -243,4 +246,32 @@ push_two a b1 b2 c e n x p q = record {
   fresh = omega (arith, p.fresh, p.used, q.fresh, q.used);
   used = omega (arith, n);
   bodies = x ∙ q.bodies ∙ p.bodies;
+}
+
+-- the second of two operands stays, in place of both
+pub push_over : (a b1 b2 c : View) → c.operands ≡ top b2.operands ∷ below (below b2.operands) → c.next ≡ b2.next →
+    c.bodies ≡ b2.bodies → Pushes a b1 → Pushes b1 b2 → Pushes a c
+push_over a b1 b2 c e n x p q = record {
+  operand = q.operand;
+  operands = e ∙ ap (λ l. top l ∷ below (below l)) q.operands ∙ ap (λ l. q.operand ∷ below l) p.operands;
+  fresh = omega (arith, p.fresh, p.used, q.fresh);
+  used = omega (arith, n, q.used);
+  bodies = x ∙ q.bodies ∙ p.bodies;
+}
+
+-- n operands were pushed on what there was
+pub record Piles (n : ℕ) (v v' : View) : Type 0 where
+  pub operands : dropped n v'.operands ≡ v.operands
+  pub bodies : v'.bodies ≡ v.bodies
+  pub next : v.next ≤ v'.next
+
+pub dropped_below : (n : ℕ) (xs : List ℕ) → dropped n (below xs) ≡ below (dropped n xs)
+dropped_below zero xs = refl
+dropped_below (suc n) xs = dropped_below n (below xs)
+
+pub piles_more : (n : ℕ) (v v1 v2 : View) → Pushes v v1 → Piles n v1 v2 → Piles (suc n) v v2
+piles_more n v v1 v2 p q = record {
+  operands = dropped_below n v2.operands ∙ ap below q.operands ∙ ap below p.operands;
+  bodies = q.bodies ∙ p.bodies;
+  next = omega (arith, p.fresh, p.used, q.next);
 }

@@ -7,27 +7,25 @@ use Rattle.std.specs.Prelude.{nat_le, if◌then◌else◌}
 use Rattle.std.proofs.lemmas.Bool.{leb-true}
 use Rattle.host_edge.specs.declared.ending.TrapKind.{TrapKind}
 use Rattle.host_edge.specs.declared.ending.TrapKind.TheVariants.{StackLimit, FrameLimit}
-use Rattle.icode_ops.specs.declared.op.Op.TheVariants as op
+use Rattle.icode_ops.specs.declared.op.Op.{Op}
 use Rattle.meaning_state.specs.Shared.{Shared, limit_trap, charged, discharged}
 use Rattle.typed_tree.specs.Nodes as node
-use Rattle.typed_tree.specs.Nodes.{Items}
 use Rattle.staged_meaning.specs.Size.{size_of, charge_of}
 use Rattle.staged_meaning.specs.Scope.{no_scope}
 use Rattle.staged_meaning.specs.World.{World, Result}
 use Rattle.staged_meaning.specs.World as meaning
 use Rattle.staged_meaning.specs.Meaning.{Context, exec, exec_items, answer, call_body, call_function, charging, entered}
 use Rattle.staged_meaning.specs.Meaning.{leaves}
+use Rattle.icode_meaning.specs.Costs.{least_of, most_of}
 use Rattle.icode_meaning.specs.State.{Function, Program, Frame, Log}
 use Rattle.icode_meaning.specs.Steps.{paid, moved_on, goes_on, begun, call_at, left}
 use Rattle.icode_meaning.specs.Steps as machine
 use Rattle.tick_lower_proof.specs.Lower.{Addresses}
 use Rattle.tick_lower_proof.proofs.Machine.{Goes, Here}
+use Rattle.tick_lower_proof.proofs.Stacks.{IsWhole, IsSound}
 use Rattle.tick_lower_proof.proofs.Follow.{From, Follows, follows_then}
-use Rattle.tick_lower_proof.proofs.Standing.{Site, At, IsBack}
+use Rattle.tick_lower_proof.proofs.Standing.{Site, IsOutset, At, IsBack}
 use Rattle.tick_lower_proof.proofs.Calls.{IsCode, site, head_credit, enter_run}
-use Rattle.tick_lower_proof.proofs.Heads.{IsFramed, IsObject}
-use Rattle.tick_lower_proof.proofs.Ways.{Runs}
-use Rattle.tick_lower_proof.proofs.Entries.{Passed, AreGiven, function, behind_head, behind_body, large_body}
 use Rattle.tick_lower_proof.proofs.Callers.{Answered}
 
 -- a call within the limits leaves the frame objects within theirs
@@ -44,12 +42,13 @@ within_frames charge object shared e =
 
 module _ (P : Program) (c : Context) (d : Addresses) (frame : Frame) (waiting : List Frame) (fn : Function)
     (function : node.Function) (arguments : List ℕ) (parameters : ℕ → Option ℕ) (code : IsCode d function fn.ops)
-    (charge_is : fn.charge ≡ charge_of (size_of function)) (object_is : fn.object ≡ function.object) where
+    (charge_is : fn.charge ≡ charge_of (size_of function)) (object_is : fn.object ≡ function.object) (limit : ℕ)
+    (turning : limit ≤ c.turns) (whole : IsWhole P) where
   abbrev pub callee : Here
   callee = record { function = fn; parameters = parameters; waiting = moved_on frame ∷ waiting }
 
   abbrev pub within : Site
-  within = site P c d callee function code
+  within = site P c d callee function code limit turning
 
   abbrev charge : ℕ
   charge = charge_of (size_of function)
@@ -58,34 +57,20 @@ module _ (P : Program) (c : Context) (d : Addresses) (frame : Frame) (waiting : 
   object = function.object
 
   -- what is asked of the function's body, behind the unit of the call
-  abbrev pub BodyRuns : World → Type 0
-  BodyRuns w =
-      (later : From) (w1 : World) → later.units < c.turns → w1.arguments ≡ arguments →
-      w1.shared ≡ charged charge object w.shared → limit_trap charge object w.shared ≡ None →
+  abbrev pub BodyRuns : Type 0
+  BodyRuns =
+      (later : From) (w1 : World) → IsOutset within later → w1.arguments ≡ arguments →
       At within later no_scope 0 [] 0 head_credit 0 w1 →
       Follows P later (IsBack within later) (λ x w2. ⊥) (answer (exec c function.body w1))
 
-  -- the frame of a call within the limits, where the frame objects so far are whole words
-  pub framed : (w : World) (shared : Shared) → c.object ≡ fn.object → w.shared.frames % 4 ≡ 0 →
-      limit_trap charge object w.shared ≡ None → shared ≡ charged charge object w.shared → IsFramed within shared
-  framed w shared same even fits e =
-      let few = within_frames charge object w.shared fits in
-      let f : shared.frames ≡ w.shared.frames + object = ap (λ h. h.frames) e in
-      record {
-        object_is = same;
-        within = omega (arith, f, object_is);
-        few = omega (arith, f, few);
-        even =
-            omega (arith, f, object_is, even);
-      }
-
-  pub callee_run : (from : From) (w : World) (g : Log) (address : ℕ) → w.units ≤ c.turns → g.shared ≡ w.shared →
-      Goes P from.state (call_at (op.Call address) (Some fn) frame parameters waiting g) → w.units ≤ from.units →
-      from.units + from.log.least + 1 ≤ w.units + g.least + 10 →
-      g.most + 36 + 512 * w.units ≤ from.log.most + 512 * from.units + 128 → BodyRuns w →
+  pub callee_run : (from : From) (w : World) (g : Log) (o : Op) → c.object ≡ fn.object →
+      w.units ≤ limit → IsSound from.state → g.shared ≡ w.shared →
+      Goes P from.state (call_at o (Some fn) frame parameters waiting g) → w.units ≤ from.units →
+      from.units + from.log.least + 1 ≤ w.units + g.least + least_of o →
+      g.most + most_of o + 512 * w.units ≤ from.log.most + 512 * from.units + 128 → BodyRuns →
       Follows P from (Answered P from (moved_on frame ∷ waiting) w) (λ x w1. ⊥) (call_function c function arguments w)
-  callee_run from w g address lt o go few low high body =
-      let g0 = paid (op.Call address) g in
+  callee_run from w g call here lt sound o go few low high body =
+      let g0 = paid call g in
       let same : limit_trap fn.charge fn.object g.shared ≡ limit_trap charge object w.shared =
       ap (λ x. limit_trap x fn.object g.shared) charge_is ∙ ap (λ x. limit_trap charge x g.shared) object_is ∙
       ap (limit_trap charge object) o in
@@ -95,21 +80,27 @@ module _ (P : Program) (c : Context) (d : Addresses) (frame : Frame) (waiting : 
       go)
     where
       by : (trap : Option TrapKind) → limit_trap charge object w.shared ≡ trap →
-          Goes P from.state (machine.unless trap (paid (op.Call address) g)
-          (goes_on (begun fn parameters) (moved_on frame ∷ waiting) (machine.entered fn (paid (op.Call address) g)))) →
+          Goes P from.state (machine.unless trap (paid call g)
+          (goes_on (begun fn parameters) (moved_on frame ∷ waiting) (machine.entered fn (paid call g)))) →
           Follows P from (Answered P from (moved_on frame ∷ waiting) w) (λ x w1. ⊥)
           (meaning.unless trap w (charging charge object (call_body c function arguments) w))
       by (Some kind) e go1 = record
-          { log = paid (op.Call address) g; goes = go1; shared_is = o; high = omega (arith, high, few) }
+          { log = paid call g; goes = go1; shared_is = o; high = omega (arith, high, few) }
       by None e go1 =
-          let g1 = machine.entered fn (paid (op.Call address) g) in
+          let g1 = machine.entered fn (paid call g) in
           let shared_same : g1.shared ≡ charged charge object w.shared =
           ap (λ x. charged x fn.object g.shared) charge_is ∙ ap (λ x. charged charge x g.shared) object_is ∙
           ap (charged charge object) o in
           follows_then P from (IsBack within from) (Answered P from (moved_on frame ∷ waiting) w) (λ x w1. ⊥)
           (call_body c function arguments (entered charge object w)) (leaves charge object w)
-          (enter_run P c d callee function code arguments from g1 (entered charge object w) lt shared_same go1 few
-          (omega arith) (omega arith) (λ later w1 less e1 e2 z. body later w1 less e1 e2 e z))
+          (enter_run P c d callee function code limit turning arguments from g1 (entered charge object w) lt sound
+          (record {
+            object_is = here;
+            few_object = let le = within_frames charge object w.shared e in omega (arith, le, object_is);
+            whole = whole;
+          })
+          shared_same go1 few
+          (omega arith) (omega arith) (λ later w1 less e1 e2 z. body later w1 less e1 z))
           (λ x w1 h. record {
             log = left fn h.log;
             goes = h.goes;
@@ -120,36 +111,3 @@ module _ (P : Program) (c : Context) (d : Addresses) (frame : Frame) (waiting : 
             low = omega (arith, h.low);
             high = omega (arith, h.high);
           })
-
--- A function whose parameters, eight at most, are objects of its frame, with one more object behind them of any size:
--- so of
--- eight `char` parameters whose addresses are taken, and an array of 4 MB.
-module _ (P : Program) (c : Context) (d : Addresses) (frame : Frame) (waiting : List Frame) (fn : Function) (count : ℕ)
-    (ps : List Passed) (few : length ps ≤ 8) (offset more : ℕ) (items : Items) (arguments : List ℕ)
-    (parameters : ℕ → Option ℕ) where
-  abbrev pub wide : node.Function
-  wide = function P c d (record { function = fn; parameters = parameters; waiting = moved_on frame ∷ waiting }) count
-      fn.object ps few offset more items
-
-  module _ (code : IsCode d wide fn.ops) (charge_is : fn.charge ≡ charge_of (size_of wide)) where
-    abbrev pub site_of : Site
-    site_of = within P c d frame waiting fn wide arguments parameters code charge_is refl
-
-    abbrev pub to : Here
-    to = callee P c d frame waiting fn wide arguments parameters code charge_is refl
-
-    pub wide_run : c.object ≡ fn.object → AreGiven site_of arguments ps → IsObject site_of offset (4 * suc more) →
-        Runs site_of no_scope no_scope [] (exec_items c items)
-        (behind_head P c d to count fn.object ps few offset more items code).place
-        (behind_body P c d to count fn.object ps few offset more items code).place None None →
-        (from : From) (w : World) (g : Log) (address : ℕ) → w.shared.frames % 4 ≡ 0 → w.units ≤ c.turns →
-        g.shared ≡ w.shared → Goes P from.state (call_at (op.Call address) (Some fn) frame parameters waiting g) →
-        w.units ≤ from.units → from.units + from.log.least + 1 ≤ w.units + g.least + 10 →
-        g.most + 36 + 512 * w.units ≤ from.log.most + 512 * from.units + 128 →
-        Follows P from (Answered P from (moved_on frame ∷ waiting) w) (λ x w1. ⊥) (call_function c wide arguments w)
-    wide_run same given is runs from w g address even lt o go less low high =
-        callee_run P c d frame waiting fn wide arguments parameters code charge_is refl from w g address lt o go less
-        low high
-        (λ later w1 under e1 e2 fits z.
-        large_body P c d to count fn.object ps few offset more items code arguments given is runs later w1 under e1
-        (framed P c d frame waiting fn wide arguments parameters code charge_is refl w w1.shared same even fits e2) z)

@@ -9,24 +9,31 @@ use Rattle.icode_ir.specs.declared.build_op.BuildOp.TheVariants as build
 use Rattle.typed_tree.specs.declared.expression.Answer.{Answer}
 use Rattle.typed_tree.specs.declared.expression.Answer.TheVariants as answer
 use Rattle.typed_tree.specs.Sizes as rule
+use Rattle.typed_tree.specs.Nodes as node
 use Rattle.typed_tree.specs.Nodes.{Expr, Call, Args, NoArg, Arg, has_value, count}
 use Rattle.staged_meaning.specs.Size.{labels_in, temps_in, temps_in_args}
 use Rattle.staged_meaning.specs.Scope.{Scope, AreScoped}
 use Rattle.staged_meaning.specs.World.{World, Result, then_do, spend}
 use Rattle.staged_meaning.specs.Expressions.{left_by}
 use Rattle.staged_meaning.specs.Meaning.{eval, eval_args}
+use Rattle.meaning_state.specs.Rows.{numbered}
+use Rattle.staged_meaning.specs.Calls.{IsCallee}
+use Rattle.icode_meaning.specs.Costs.{least_of, most_of}
 use Rattle.icode_meaning.specs.State.{Program, Frame, State, Running, Stuck, Log, nothing, argued}
 use Rattle.icode_meaning.specs.Steps.{paid, moved_on, uses_on, act, checked, call_at, back}
+use Rattle.tick_lower_proof.specs.Laws.{row_for}
 use Rattle.tick_lower_proof.specs.Lower.{Addresses, expr_ops, args_ops, dropping_call}
 use Rattle.tick_lower_proof.proofs.Machine.{Goes, goes_more, Here, Regs, frame_at, at_op, put, put_same, IsSet}
+use Rattle.tick_lower_proof.proofs.Stacks.{IsSound}
 use Rattle.tick_lower_proof.proofs.Builder.{View, top, taken, dropped, passed_ops, after_op, after_ops, after_append}
-use Rattle.tick_lower_proof.proofs.Builder.{Has, Stands, stands_front, stands_back}
+use Rattle.tick_lower_proof.proofs.Builder.{Has, Stands, stands_front, stands_back, picked}
 use Rattle.tick_lower_proof.proofs.Pushes.{valued_brings}
 use Rattle.tick_lower_proof.proofs.Follow.{From, Later, Follows, follows_then, then_follows, follows_from}
-use Rattle.tick_lower_proof.proofs.Registers.{AreVars, Within, AreHeld, put_vars, held_above}
+use Rattle.tick_lower_proof.proofs.Registers.{AreVars, Within, AreHeld, put_vars, held_above, AreBetween}
 use Rattle.tick_lower_proof.proofs.Standing.{base_of, Site, floor_of, Fits, At, IsBack, Leaves, ExprRuns, Part, at_less}
-use Rattle.tick_lower_proof.proofs.Standing.{at_from, back_from, later_at, stands_at, spend_run, value_run}
+use Rattle.tick_lower_proof.proofs.Standing.{at_from, back_from, later_at, stands_at, spend_run, value_run, IsOutset}
 use Rattle.tick_lower_proof.proofs.Exprs.{one_run}
+use Rattle.tick_lower_proof.proofs.Standing.{outset_later}
 
 -- operands that were pushed in this order lie on others, and so do values in their registers
 abbrev pub onto : List ℕ → List ℕ → List ℕ
@@ -50,7 +57,7 @@ dropped_onto (r ∷ rs) operands n =
     let e : suc (length rs) + n ≡ length rs + suc n = omega arith in
     ap (λ m. dropped m (onto rs (r ∷ operands))) e ∙ dropped_onto rs (r ∷ operands) (suc n)
 
-taken_all : (n : ℕ) (rs operands : List ℕ) → length rs ≡ n → taken n (onto rs operands) [] ≡ rs
+pub taken_all : (n : ℕ) (rs operands : List ℕ) → length rs ≡ n → taken n (onto rs operands) [] ≡ rs
 taken_all n rs operands e =
     let e' : n ≡ length rs + 0 = omega (arith, e) in
     ap (λ m. taken m (onto rs operands) []) e' ∙ taken_onto rs operands [] 0 ∙ append-nil rs
@@ -60,24 +67,37 @@ dropped_all n rs operands e =
     let e' : n ≡ length rs + 0 = omega (arith, e) in
     ap (λ m. dropped m (onto rs operands)) e' ∙ dropped_onto rs operands 0
 
+picked_onto : (rs operands : List ℕ) (n : ℕ) → picked (length rs + n) (onto rs operands) ≡ picked n operands
+picked_onto [] operands n = let e : 0 + n ≡ n = omega arith in ap (λ m. picked m operands) e
+picked_onto (r ∷ rs) operands n =
+    let e : suc (length rs) + n ≡ length rs + suc n = omega arith in
+    ap (λ m. picked m (onto rs (r ∷ operands))) e ∙ picked_onto rs (r ∷ operands) (suc n)
+
+-- the operand below them
+pub picked_below : (n : ℕ) (rs operands : List ℕ) → length rs ≡ n → picked n (onto rs operands) ≡ top operands
+picked_below n rs operands e =
+    let e' : n ≡ length rs + 0 = omega (arith, e) in
+    ap (λ m. picked m (onto rs operands)) e' ∙ picked_onto rs operands 0
+
 -- what is passed with these arguments from k on
 abbrev pub argued_all : ℕ → List ℕ → (ℕ → Option ℕ) → ℕ → Option ℕ
 argued_all k [] arguments = arguments
 argued_all k (x ∷ xs) arguments = argued_all (suc k) xs (argued k x arguments)
 
 -- registers that hold values, in the order in which they were pushed
-abbrev AreSet : Regs → (registers values : List ℕ) → Type 0
+abbrev pub AreSet : Regs → (registers values : List ℕ) → Type 0
 AreSet r [] xs = Unit {0}
 AreSet r (a ∷ rs) [] = ⊥
 AreSet r (a ∷ rs) (x ∷ xs) = IsSet r a x × AreSet r rs xs
 
 -- of a stack on which they were pushed
-held_under : (r : Regs) (rs xs : List ℕ) (stack : List (ℕ × ℕ)) → AreHeld r (paired rs xs stack) → AreHeld r stack
+pub held_under : (r : Regs) (rs xs : List ℕ) (stack : List (ℕ × ℕ)) → AreHeld r (paired rs xs stack) → AreHeld r stack
 held_under r [] xs stack h = h
 held_under r (a ∷ rs) [] stack h = h
 held_under r (a ∷ rs) (x ∷ xs) stack h = (held_under r rs xs ((a, x) ∷ stack) h).1
 
-held_set : (r : Regs) (rs xs : List ℕ) (stack : List (ℕ × ℕ)) → length xs ≡ length rs → AreHeld r (paired rs xs stack) →
+pub held_set : (r : Regs) (rs xs : List ℕ) (stack : List (ℕ × ℕ)) → length xs ≡ length rs → AreHeld r
+    (paired rs xs stack) →
     AreSet r rs xs
 held_set r [] xs stack e h = tt
 held_set r (a ∷ rs) [] stack e h = absurd (omega (arith, e))
@@ -85,7 +105,7 @@ held_set r (a ∷ rs) (x ∷ xs) stack e h =
     ((held_under r rs xs ((a, x) ∷ stack) h).0, held_set r rs xs ((a, x) ∷ stack) (omega (arith, e)) h)
 
 -- one op, whatever was passed and answered before it
-any_op : {P : Program} {s : State} (f : Here) (p : ℕ) (r : Regs) (arguments : ℕ → Option ℕ) (answer : Option ℕ)
+pub any_op : {P : Program} {s : State} (f : Here) (p : ℕ) (r : Regs) (arguments : ℕ → Option ℕ) (answer : Option ℕ)
     (g : Log) (o : Op) → Goes P s (Running (frame_at f p r) arguments answer f.waiting g) →
     slice_get f.function.ops p ≡ Some o → uses_on o r.on ≡ true →
     Goes P s (act P o (frame_at f p r) arguments answer f.waiting g)
@@ -96,15 +116,15 @@ any_op {P} f p r arguments answer g o a h e = goes_more a (record {
 })
 
 -- the arguments were passed
-record Passing (P : Program) (s : State) (f : Here) (p : ℕ) (r : Regs) (arguments : ℕ → Option ℕ) (g : Log) (n : ℕ) :
-    Type 0 where
-  log : Log
-  goes : Goes P s (Running (frame_at f p r) arguments None f.waiting log)
-  shared_is : log.shared ≡ g.shared
-  low : g.least ≤ log.least
-  high : log.most ≤ g.most + 5 * n
+pub record Passing (P : Program) (s : State) (f : Here) (p : ℕ) (r : Regs) (arguments : ℕ → Option ℕ) (g : Log)
+    (n : ℕ) : Type 0 where
+  pub log : Log
+  pub goes : Goes P s (Running (frame_at f p r) arguments None f.waiting log)
+  pub shared_is : log.shared ≡ g.shared
+  pub low : g.least ≤ log.least
+  pub high : log.most ≤ g.most + 5 * n
 
-pass_all : (P : Program) (s : State) (f : Here) (r : Regs) (rest : List Op) (rs xs : List ℕ) (k p : ℕ)
+pub pass_all : (P : Program) (s : State) (f : Here) (r : Regs) (rest : List Op) (rs xs : List ℕ) (k p : ℕ)
     (arguments : ℕ → Option ℕ) (g : Log) → AreSet r rs xs → length xs ≡ length rs →
     Has f.function.ops p (passed_ops k rs ++ rest) → Goes P s (Running (frame_at f p r) arguments None f.waiting g) →
     Passing P s f (p + length rs) r (argued_all k xs arguments) g (length rs) × Has f.function.ops (p + length rs) rest
@@ -162,7 +182,7 @@ ArgsRun site scope args =
     AreScoped scope args → (l t : ℕ) → site.named ≤ t → t + temps_in_args args ≤ site.size →
     (v : View) (stack : List (ℕ × ℕ)) → Fits site v stack →
     Stands site.call.function.ops (args_ops site.addresses args l t) v →
-    (from : From) (spare credit : ℕ) (w : World) → from.units < site.context.turns →
+    (from : From) (spare credit : ℕ) (w : World) → IsOutset site from →
     At site from scope v.place stack spare credit 0 w →
     Follows site.machine from
     (ArgsLeave site from scope v (after_ops (args_ops site.addresses args l t) v) stack spare credit (count args))
@@ -178,7 +198,8 @@ module _ (site : Site) (scope : Scope) (inside : Within scope site.named) where
         operands = refl;
         fits = fits;
         at =
-            at_less site from scope v.place stack spare credit 0 spare (credit + 128 * 0) 0 w (omega arith) (omega arith) z;
+            at_less site from scope v.place stack spare credit 0 spare (credit + 128 * 0) 0 w (omega arith)
+            (omega arith) z;
       }
 
   pub more_args : (a : Expr) (args : Args) → Part site scope a → has_value a ≡ true → ArgsRun site scope args →
@@ -224,20 +245,22 @@ pub record Answered (P : Program) (from : From) (waiting : List Frame) (w0 : Wor
   pub low : from.units + from.log.least + 1 ≤ w.units + log.least
   pub high : log.most + 512 * w.units ≤ from.log.most + 512 * from.units + 64
 
--- Calls of functions of the text with fewer units than turns are followed, from the state behind their op: an
--- instruction
--- of it stands for the call's unit, and it may have cost 128 beyond what the units so far allow.
-pub record CallsFollow (P : Program) (d : Addresses) (call : ℕ → List ℕ → World → Result ℕ) (turns : ℕ) : Type 0 where
-  pub by : (from : From) (number : ℕ) (vs : List ℕ) (w : World) (frame : Frame) (waiting : List Frame) (g : Log) →
-      w.units < turns → g.shared ≡ w.shared →
-      Goes P from.state (call_at (op.Call (d.function_at number)) (P.function_at (d.function_at number)) frame
-      (argued_all 0 vs nothing) waiting g) → w.units ≤ from.units →
-      from.units + from.log.least + 1 ≤ w.units + g.least + 10 →
-      g.most + 36 + 512 * w.units ≤ from.log.most + 512 * from.units + 128 →
+-- Calls of functions of the text with fewer units than a limit are followed, from the state behind their op: an
+-- instruction of it stands for the call's unit, and it may have cost 128 beyond what the units so far allow. And the
+-- rows of the machine are those of these functions.
+pub record CallsFollow (P : Program) (d : Addresses) (functions : List node.Function)
+    (call : ℕ → List ℕ → World → Result ℕ) (limit : ℕ) : Type 0 where
+  pub by : (from : From) (o : Op) (number : ℕ) (vs : List ℕ) (w : World) (frame : Frame) (waiting : List Frame)
+      (g : Log) → IsCallee functions number (length vs) → w.units < limit → IsSound from.state →
+      g.shared ≡ w.shared →
+      Goes P from.state (call_at o (P.function_at (d.function_at number)) frame (argued_all 0 vs nothing) waiting g) →
+      w.units ≤ from.units → from.units + from.log.least + 1 ≤ w.units + g.least + least_of o →
+      g.most + most_of o + 512 * w.units ≤ from.log.most + 512 * from.units + 128 →
       Follows P from (Answered P from (moved_on frame ∷ waiting) w) (λ x w1. ⊥) (call number vs w)
+  pub rows : (number : ℕ) → P.row number ≡ row_for (d.function_at number) (numbered number functions)
 
 module _ (site : Site) (scope : Scope) (inside : Within scope site.named)
-    (calls : CallsFollow site.machine site.addresses site.context.call site.context.turns) where
+    (calls : CallsFollow site.machine site.addresses site.context.program.functions site.context.call site.limit) where
   -- behind the call its answer is taken, and the node's unit is spent
   answer_run : (from : From) (a : Answer) (p d x : ℕ) (v : View) (stack : List (ℕ × ℕ)) (w : World) → v.place ≡ suc p →
       top v.operands ≡ d → At site from scope (suc p) ((d, x) ∷ stack) 3 0 68 w →
@@ -271,7 +294,7 @@ module _ (site : Site) (scope : Scope) (inside : Within scope site.named)
       under (omega arith) (omega arith) (omega arith) (λ w1 fewer h. h))
 
   -- what an expression leaves, seen from an earlier place
-  leaves_before : (b : Bool) (from later : From) (spare credit : ℕ) (l : Later site.machine from later spare credit)
+  pub leaves_before : (b : Bool) (from later : From) (spare credit : ℕ) (l : Later site.machine from later spare credit)
       (v : View) (stack : List (ℕ × ℕ)) (x : ℕ) (w : World) → Leaves b site later scope v stack 0 0 x w →
       Leaves b site from scope v stack spare credit x w
   leaves_before true from later spare credit l v stack x w z =
@@ -282,9 +305,37 @@ module _ (site : Site) (scope : Scope) (inside : Within scope site.named)
       at_less site from scope v.place stack (spare + 0) (credit + 0) 0 spare credit 0 w (omega arith) (omega arith)
       (at_from site from later spare credit l scope v.place stack 0 0 0 w z)
 
-  pub call_node : (a : Answer) (number : ℕ) (args : Args) → ArgsRun site scope args →
+  -- an answer that came back is taken into register d, and what the answer says is left
+  pub take_answer : (later : From) (a : Answer) (p d x : ℕ) (v : View) (stack : List (ℕ × ℕ)) (regs : Regs)
+      (w1 w2 : World) → slice_get site.call.function.ops (suc p) ≡ Some (op.Result d) → floor_of site ≤ d →
+      AreBetween (floor_of site) d stack → AreHeld regs stack → AreVars (base_of site.bodies) scope regs w1.variables →
+      Answered site.machine later (moved_on (frame_at site.call p regs) ∷ site.call.waiting) w1 x w2 →
+      v.place ≡ suc (suc p) → top v.operands ≡ d →
+      Follows site.machine later (Leaves (rule.is_value a) site later scope (after_ops (dropping_call a) v) stack 0 0)
+      (IsBack site later) (spend (left_by a x) w2)
+  take_answer later a p d x v stack regs w1 w2 here free below held vars b e f =
+      let sn = site.few in
+      let base = base_of site.bodies in
+      let go = any_op site.call (suc p) regs nothing (Some x) b.log (op.Result d) b.goes here refl in
+      let vars2 : AreVars base scope regs w2.variables =
+      subst (AreVars base scope regs) (sym b.variables_are) vars in
+      answer_run later a (suc p) d x v stack w2 e f
+      (record {
+        regs = put d x regs;
+        log = paid (op.Result d) b.log;
+        goes = go;
+        vars = put_vars d x base site.named scope regs w2.variables inside (omega (arith, free)) vars2;
+        held = (put_same d x regs, held_above d x (floor_of site) regs stack below held);
+        shared_is = b.shared_is;
+        fewer = b.fewer;
+        low = omega (arith, b.low);
+        high = omega (arith, b.high);
+      })
+
+  pub call_node : (a : Answer) (number : ℕ) (args : Args) →
+      IsCallee site.context.program.functions number (count args) → ArgsRun site scope args →
       ExprRuns site scope (Call a number args)
-  call_node a number args run ok l t st tn v stack fits at from spare credit w lt z =
+  call_node a number args here_is run ok l t st tn v stack fits at from spare credit w lt z =
       let P = site.machine in
       let c = site.context in
       let code = site.call.function.ops in
@@ -296,7 +347,7 @@ module _ (site : Site) (scope : Scope) (inside : Within scope site.named)
       let v2 = after_op (build.Call address n) v1 in
       let later : From = record { state = at_op site.call v.place z.regs z.log; units = w.units; log = z.log } in
       let l1 = later_at site from scope v.place stack spare credit w z in
-      let lt1 : w.units < c.turns = omega (arith, z.fewer) in
+      let lt1 = outset_later site from later spare credit l1 lt in
       let z0 = stands_at site scope v.place stack z.regs z.log w z.vars z.held z.shared_is in
       let b = rule.is_value a in
       let end = after_ops (dropping_call a) v2 in
@@ -310,18 +361,20 @@ module _ (site : Site) (scope : Scope) (inside : Within scope site.named)
       (follows_then P later (ArgsLeave site later scope v v1 stack 0 0 n) V (IsBack site later) (eval_args c args w)
       (λ vs w1. then_do (c.call number vs w1) (λ x w2. spend (left_by a x) w2))
       (run ok l t st tn v stack fits (stands_front code ao co v at) later 0 0 w lt1 z0)
-      (λ vs w1 y. called later n address v v1 vs w1 lt1 (stands_back code ao co v at).0 y)))
+      (λ vs w1 y. called later n address here_is v v1 vs w1 lt1 (stands_back code ao co v at).0 y)))
     where
-      called : (later : From) (n address : ℕ) (v v1 : View) (vs : List ℕ) (w1 : World) →
-          later.units < site.context.turns →
+      called : (later : From) (n address : ℕ) → IsCallee site.context.program.functions number n → (v v1 : View)
+          (vs : List ℕ) (w1 : World) →
+          IsOutset site later →
           Has site.call.function.ops v1.place
-          (passed_ops 0 (taken n v1.operands []) ++ op.Call (site.addresses.function_at number) ∷ op.Result v1.next ∷ [])
+          (passed_ops 0 (taken n v1.operands []) ++ op.Call (site.addresses.function_at number) ∷ op.Result v1.next ∷
+          [])
           → ArgsLeave site later scope v v1 stack 0 0 n vs w1 →
           Follows site.machine later
           (Leaves (rule.is_value a) site later scope
           (after_ops (dropping_call a) (after_op (build.Call (site.addresses.function_at number) n) v1)) stack 0 0)
           (IsBack site later) (then_do (site.context.call number vs w1) (λ x w2. spend (left_by a x) w2))
-      called later n address v v1 vs w1 lt1 has y =
+      called later n address here_is v v1 vs w1 lt has y =
           let P = site.machine in
           let c = site.context in
           let f = site.call in
@@ -345,27 +398,12 @@ module _ (site : Site) (scope : Scope) (inside : Within scope site.named)
           let v2 = after_op (build.Call to n) v1 in
           then_follows P later W (Leaves (rule.is_value a) site later scope (after_ops (dropping_call a) v2) stack 0 0)
           (λ x w. ⊥) (IsBack site later) (c.call number vs w1) (λ x w2. spend (left_by a x) w2)
-          (calls.by later number vs w1 frame f.waiting m.log (omega (arith, y.at.fewer)) (m.shared_is ∙ y.at.shared_is)
+          (calls.by later (op.Call to) number vs w1 frame f.waiting m.log
+          (subst (IsCallee c.program.functions number) (sym y.values) here_is)
+          (let few = lt.few in omega (arith, y.at.fewer, few)) lt.sound (m.shared_is ∙ y.at.shared_is)
           go2 y.at.fewer (omega (arith, y.at.low, m.low)) (omega (arith, y.at.high, m.high, y.many)))
           (λ x w2 no'. absurd no')
           (λ x w2 b.
-          let sn = site.few in
-          let go3 = any_op f (suc p2) regs nothing (Some x) b.log (op.Result v1.next) b.goes pass.1.1.0 refl in
-          let vars2 : AreVars base scope regs w2.variables =
-          subst (AreVars base scope regs) (sym b.variables_are) y.at.vars in
-          let back : At site later scope (suc (suc p2)) ((v1.next, x) ∷ stack) 3 0 68 w2 = record {
-            regs = put v1.next x regs;
-            log = paid (op.Result v1.next) b.log;
-            goes = go3;
-            vars = put_vars v1.next x base site.named scope regs w2.variables inside (omega (arith, y.fits.free)) vars2;
-            held = (
-              put_same v1.next x regs,
-              held_above v1.next x (floor_of site) regs stack y.fits.below (held_under regs rs vs stack y.at.held),
-            );
-            shared_is = b.shared_is;
-            fewer = b.fewer;
-            low = omega (arith, b.low);
-            high = omega (arith, b.high);
-          } in
           let there : v2.place ≡ suc (suc p2) = omega (arith, y.many) in
-          answer_run later a (suc p2) v1.next x v2 stack w2 there refl back)
+          take_answer later a p2 v1.next x v2 stack regs w1 w2 pass.1.1.0 y.fits.free y.fits.below
+          (held_under regs rs vs stack y.at.held) y.at.vars b there refl)

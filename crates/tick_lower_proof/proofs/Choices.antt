@@ -12,7 +12,7 @@ use Rattle.tick_lower_proof.specs.Lower.{expr_ops}
 use Rattle.tick_lower_proof.proofs.Builder.{View, top, after_ops, Stands}
 use Rattle.tick_lower_proof.proofs.Follow.{From, Follows, follows_less}
 use Rattle.tick_lower_proof.proofs.Registers.{Within}
-use Rattle.tick_lower_proof.proofs.Standing.{Site, Fits, At, IsBack, Part, at_less}
+use Rattle.tick_lower_proof.proofs.Standing.{Site, Fits, At, IsBack, Part, at_less, IsOutset}
 use Rattle.tick_lower_proof.proofs.Exprs.{one_run}
 use Rattle.tick_lower_proof.proofs.Ways.{Labelled, Left, Runs, pass_label, take_jump, at_place, choose, left_on}
 
@@ -35,7 +35,7 @@ module _ (site : Site) (labelled : Labelled site.call.function.ops) (scope : Sco
 
   -- a test and the branch behind it
   pub test_run : {A : Type 0} (from : From) (Q : A → World → Type 0) (e : Expr) (v : View) (l p1 : ℕ) →
-      (t : Test e v l p1) → (spare credit : ℕ) (w : World) → from.units < site.context.turns →
+      (t : Test e v l p1) → (spare credit : ℕ) (w : World) → IsOutset site from →
       At site from scope v.place stack spare credit 0 w → (X Y : World → Result A) →
       ((w1 : World) → At site from scope (label_index l site.call.function.ops) stack (spare + 4) (credit + 120) 0 w1 →
       Follows site.machine from Q (IsBack site from) (X w1)) →

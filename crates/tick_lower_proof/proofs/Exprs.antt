@@ -30,7 +30,7 @@ use Rattle.tick_lower_proof.proofs.Follow.{From, Follows, follows_then}
 use Rattle.tick_lower_proof.proofs.Registers.{Within, AreHeld, AreBetween, put_vars, set_vars, in_wider, fewer_vars}
 use Rattle.tick_lower_proof.proofs.Registers.{held_above, held_below}
 use Rattle.tick_lower_proof.proofs.Standing.{base_of, Site, floor_of, Fits, fits_pushed, At, IsBack, Leaves, ExprRuns}
-use Rattle.tick_lower_proof.proofs.Standing.{Part, has_left, value_run}
+use Rattle.tick_lower_proof.proofs.Standing.{Part, has_left, value_run, IsOutset}
 
 -- the trap of an operator, by the op that checks it
 abbrev pub trap_by : Check → ℕ → ℕ → Option TrapKind
@@ -155,7 +155,7 @@ module _ (site : Site) (scope : Scope) (inside : Within scope site.named) where
   pub one_run : {A : Type 0} (a : Expr) → Part site scope a → has_value a ≡ true → IsScoped scope a → (l t : ℕ) →
       site.named ≤ t → t + temps_in a ≤ site.size → (v : View) (stack : List (ℕ × ℕ)) → Fits site v stack →
       Stands site.call.function.ops (expr_ops site.addresses a l t) v → (from : From) (spare credit : ℕ) (w : World) →
-      from.units < site.context.turns → At site from scope v.place stack spare credit 0 w →
+      IsOutset site from → At site from scope v.place stack spare credit 0 w →
       (V : A → World → Type 0) (next : ℕ → World → Result A) →
       ((x : ℕ) (w1 : World) → Fits site (after_ops (expr_ops site.addresses a l t) v)
       ((top (after_ops (expr_ops site.addresses a l t) v).operands, x) ∷ stack) →
@@ -176,7 +176,7 @@ module _ (site : Site) (scope : Scope) (inside : Within scope site.named) where
   pub one_op : (a : Expr) (o : BuildOp) → Part site scope a → has_value a ≡ true → IsScoped scope a → (l t : ℕ) →
       site.named ≤ t → t + temps_in a ≤ site.size → (v : View) (stack : List (ℕ × ℕ)) → Fits site v stack →
       Stands site.call.function.ops (expr_ops site.addresses a l t ++ o ∷ []) v →
-      (from : From) (spare credit : ℕ) (w : World) → from.units < site.context.turns →
+      (from : From) (spare credit : ℕ) (w : World) → IsOutset site from →
       At site from scope v.place stack spare credit 0 w → (next : ℕ → World → Result ℕ) →
       ((v1 : View) → Stands site.call.function.ops (o ∷ []) v1 → (x : ℕ) (w1 : World) →
       Fits site v1 ((top v1.operands, x) ∷ stack) →

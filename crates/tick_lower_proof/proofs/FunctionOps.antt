@@ -176,7 +176,8 @@ module _ (d : Addresses) (function : node.Function) (ready : IsReady function) w
   accepted = record {
     taken = (entered_ok, taken_append body_ops (Leave ∷ []) b1 body_taken.taken (leave_ok, tt));
     no_operands = ap (λ z. z.operands) whole_is ∙
-        no_list b2.operands (ap length body_taken.matches.operands ∙ upright_length closed.operands ∙ body_taken.height);
+        no_list b2.operands (ap length body_taken.matches.operands ∙ upright_length closed.operands ∙
+        body_taken.height);
     no_bodies = ap (λ z. z.bodies) whole_is ∙ ap (λ z. take (length z - 1) z) b2_bodies;
   }
 

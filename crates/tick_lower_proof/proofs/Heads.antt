@@ -162,8 +162,10 @@ module _ (site : Site) (scope : Scope) (inside : Within scope site.named) (from 
       site.call.parameters k ≡ Some x → (framed : IsFramed site w.shared) → IsObject site offset 4 →
       At site from scope v.place stack spare (credit + parameter_cost) 0 w →
       At site from scope (after_ops
-      (build.FrameAddress offset ∷ build.Parameter k ∷ (narrowing width ++ build.Store width ∷ build.Drop ∷ [])) v).place
-      stack spare credit 0 (with_shared (stored (place_of site w.shared framed offset) width (narrowed width x) w.shared)
+      (build.FrameAddress offset ∷ build.Parameter k ∷ (narrowing width ++ build.Store width ∷ build.Drop ∷ []))
+      v).place
+      stack spare credit 0 (with_shared (stored (place_of site w.shared framed offset) width (narrowed width x)
+      w.shared)
       w)
   parameter_object_run k width offset v stack spare credit x w fits at given framed is z =
       let code = site.call.function.ops in

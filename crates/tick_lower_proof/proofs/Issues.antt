@@ -20,13 +20,15 @@ use Rattle.icode_ir.specs.Build.{stands}
 use Rattle.icode_meaning.specs.Steps.{label_index}
 use Rattle.tick_lower_proof.proofs.Builder.{View, inner, top, below, taken, passed_ops, Check, NoCheck, SignedCheck}
 use Rattle.tick_lower_proof.proofs.Builder.{ZeroCheck, check_of, check_ops, past_check, issued, after_op, after_ops}
-use Rattle.tick_lower_proof.proofs.Builder.{Has, Stands}
+use Rattle.tick_lower_proof.proofs.Builder.{Has, Stands, picked}
 use Rattle.tick_lower_proof.proofs.Takes.{Takes}
 use Rattle.tick_lower_proof.proofs.Deep.{DeepTo, height, bodies_same}
 use Rattle.tick_lower_proof.proofs.Labels.{OnLabel, on_weaken, Every, every_weaken, every_append, Distinct}
 use Rattle.tick_lower_proof.proofs.Labels.{distinct_append, label_of}
 use Rattle.tick_lower_proof.proofs.Aims.{aim_of, HasLabel}
 use Rattle.tick_lower_proof.proofs.Ways.{Labelled}
+use Rattle.icode_ir.specs.declared.build_op.BuildOp.TheVariants.{Nip, Load, Store, CallNumber, Run, FrameAddress, Clear}
+use Rattle.icode_ir.specs.declared.build_op.BuildOp.TheVariants.{Parameter}
 
 abbrev pub issue : List BuildOp → View → List Op
 issue [] v = []
@@ -68,6 +70,14 @@ place_op (Jump i) v = omega arith
 place_op (BranchZero i) v = omega arith
 place_op Return v = omega arith
 place_op (Sys kind) v = omega arith
+place_op (CallNumber k) v =
+    let rs = taken k v.operands [] in
+    omega (
+      arith,
+      length-append (passed_ops 0 rs) (op.CallNumber (picked k v.operands) k ∷ op.Result v.next ∷ []),
+      passed_length 0 rs,
+      taken_length k v.operands [],
+    )
 place_op (Call address n) v =
     let rs = taken n v.operands [] in
     omega (
@@ -111,6 +121,23 @@ bin_every lab P kind NoCheck r a b e1 e2 e3 = (subst (OnLabel P) (sym e3) tt, tt
 bin_every lab P kind SignedCheck r a b e1 e2 e3 = (subst (OnLabel P) (sym e1) tt, (subst (OnLabel P) (sym e3) tt, tt))
 bin_every lab P kind ZeroCheck r a b e1 e2 e3 = (subst (OnLabel P) (sym e2) tt, (subst (OnLabel P) (sym e3) tt, tt))
 
+-- nor does what passes arguments
+passed_all : (lab : Op → Option ℕ) (P : ℕ → Type 0) → ((i r : ℕ) → lab (op.Argument i r) ≡ None) →
+    (i : ℕ) (rs : List ℕ) (rest : List Op) → Every lab P rest → Every lab P (passed_ops i rs ++ rest)
+passed_all lab P none i [] rest h = h
+passed_all lab P none i (r ∷ rs) rest h =
+    (subst (OnLabel P) (sym (none i r)) tt, passed_all lab P none (suc i) rs rest h)
+
+passed_every : (lab : Op → Option ℕ) (P : ℕ → Type 0) (k : ℕ) (v : View) (rest : List Op) →
+    ((i r : ℕ) → lab (op.Argument i r) ≡ None) → Every lab P rest →
+    Every lab P (passed_ops 0 (taken k v.operands []) ++ rest)
+passed_every lab P k v rest none h = passed_all lab P none 0 (taken k v.operands []) rest h
+
+passed_distinct : (i : ℕ) (rs : List ℕ) (rest : List Op) → Distinct flow.label_of rest →
+    Distinct flow.label_of (passed_ops i rs ++ rest)
+passed_distinct i [] rest h = h
+passed_distinct i (r ∷ rs) rest h = (tt, passed_distinct (suc i) rs rest h)
+
 module _ (n m L : ℕ) where
   -- the labels of what an op issues
   one_labels : (P : ℕ → Type 0) (o : BuildOp) (h : ℕ) (v : View) → (inner v.bodies).first_label ≡ L → Takes n m o h →
@@ -130,6 +157,15 @@ module _ (n m L : ℕ) where
   one_labels P Return h v e ok on = (tt, tt)
   one_labels P ReturnZero h v e ok on = (tt, tt)
   one_labels P (Sys kind) h v e ok on = (tt, tt)
+  one_labels P Nip h v e ok on = tt
+  one_labels P (Load width) h v e ok on = (tt, tt)
+  one_labels P (Store width) h v e ok on = (tt, tt)
+  one_labels P (Call address k) h v e ok on = passed_every flow.label_of P k v _ (λ i r. refl) (tt, (tt, tt))
+  one_labels P (CallNumber k) h v e ok on = passed_every flow.label_of P k v _ (λ i r. refl) (tt, (tt, tt))
+  one_labels P (Run routine) h v e ok on = (tt, tt)
+  one_labels P (FrameAddress offset) h v e ok on = (tt, tt)
+  one_labels P (Clear offset words) h v e ok on = (tt, tt)
+  one_labels P (Parameter k) h v e ok on = (tt, tt)
   one_labels P _ h v e ok on = absurd ok
 
   one_aims : (P : ℕ → Type 0) (o : BuildOp) (h : ℕ) (v : View) → (inner v.bodies).first_label ≡ L → Takes n m o h →
@@ -149,6 +185,15 @@ module _ (n m L : ℕ) where
   one_aims P Return h v e ok on = (tt, tt)
   one_aims P ReturnZero h v e ok on = (tt, tt)
   one_aims P (Sys kind) h v e ok on = (tt, tt)
+  one_aims P Nip h v e ok on = tt
+  one_aims P (Load width) h v e ok on = (tt, tt)
+  one_aims P (Store width) h v e ok on = (tt, tt)
+  one_aims P (Call address k) h v e ok on = passed_every goes_to P k v _ (λ i r. refl) (tt, (tt, tt))
+  one_aims P (CallNumber k) h v e ok on = passed_every goes_to P k v _ (λ i r. refl) (tt, (tt, tt))
+  one_aims P (Run routine) h v e ok on = (tt, tt)
+  one_aims P (FrameAddress offset) h v e ok on = (tt, tt)
+  one_aims P (Clear offset words) h v e ok on = (tt, tt)
+  one_aims P (Parameter k) h v e ok on = (tt, tt)
   one_aims P _ h v e ok on = absurd ok
 
   base_next : (o : BuildOp) (h : ℕ) (v : View) → Takes n m o h → (inner v.bodies).first_label ≡ L →
@@ -191,6 +236,15 @@ module _ (n m L : ℕ) where
   one_distinct Return h v ok = (tt, tt)
   one_distinct ReturnZero h v ok = (tt, tt)
   one_distinct (Sys kind) h v ok = (tt, tt)
+  one_distinct Nip h v ok = tt
+  one_distinct (Load width) h v ok = (tt, tt)
+  one_distinct (Store width) h v ok = (tt, tt)
+  one_distinct (Call address k) h v ok = passed_distinct 0 (taken k v.operands []) _ (tt, (tt, tt))
+  one_distinct (CallNumber k) h v ok = passed_distinct 0 (taken k v.operands []) _ (tt, (tt, tt))
+  one_distinct (Run routine) h v ok = (tt, tt)
+  one_distinct (FrameAddress offset) h v ok = (tt, tt)
+  one_distinct (Clear offset words) h v ok = (tt, tt)
+  one_distinct (Parameter k) h v ok = (tt, tt)
   one_distinct _ h v ok = absurd ok
 
   pub issue_distinct : (os : List BuildOp) (h h' : ℕ) (v : View) → (inner v.bodies).first_label ≡ L →

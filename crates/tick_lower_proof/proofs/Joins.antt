@@ -88,7 +88,8 @@ module _ (site : Site) (scope : Scope) (inside : Within scope site.named) where
   keep_run : (b : Bool) (from : From) (t : ℕ) (v : View) (stack : List (ℕ × ℕ)) (spare credit x : ℕ) (w : World) →
       site.named ≤ t → t < site.size → Fits site v stack → Stands site.call.function.ops (keeping b t) v →
       Leaves b site from scope v stack spare credit x w →
-      At site from scope (after_ops (keeping b t) v).place (carried b (base_of site.bodies + t) x stack) spare credit 0 w
+      At site from scope (after_ops (keeping b t) v).place (carried b (base_of site.bodies + t) x stack) spare credit 0
+      w
   keep_run true from t v stack spare credit x w above small fits at z =
       let r = base_of site.bodies + t in
       let a = top v.operands in
@@ -119,7 +120,8 @@ module _ (site : Site) (scope : Scope) (inside : Within scope site.named) where
   meet_run : (b : Bool) (from : From) (t : ℕ) (v : View) (stack : List (ℕ × ℕ)) (spare credit x : ℕ) (w : World) →
       Fits site v stack → Stands site.call.function.ops (kept b t) v →
       At site from scope v.place (carried b (base_of site.bodies + t) x stack) (spare + 4) (credit + 120) 2 w →
-      Follows site.machine from (Leaves b site from scope (after_ops (kept b t) v) stack spare credit) (IsBack site from)
+      Follows site.machine from (Leaves b site from scope (after_ops (kept b t) v) stack spare credit)
+      (IsBack site from)
       (spend x w)
   meet_run true from t v stack spare credit x w fits at z =
       let r = base_of site.bodies + t in

@@ -6,14 +6,16 @@ use Rattle.word32.specs.declared.width.Width.TheVariants as width
 use Rattle.std.proofs.Common.{inl, inr, arith, append_assoc}
 use Rattle.icode_ir.specs.declared.build_op.BuildOp.{BuildOp}
 use Rattle.icode_ir.specs.declared.build_op.BuildOp.TheVariants as build
+use Rattle.typed_tree.specs.declared.expression.Answer.TheVariants as answer
 use Rattle.typed_tree.specs.Nodes as node
 use Rattle.typed_tree.specs.declared.expression.Library.TheVariants as library
 use Rattle.typed_tree.specs.Nodes.{Expr, Stmt, Items, has_value}
-use Rattle.staged_meaning.specs.Size.{labels_in, labels, labels_of, temps_in, temps, temps_of}
-use Rattle.staged_meaning.specs.Scope.{IsBuilt, IsBuiltStmt, AreBuiltItems}
+use Rattle.staged_meaning.specs.Size.{labels_in, labels, labels_of, temps_in, temps, temps_of, labels_in_args}
+use Rattle.staged_meaning.specs.Scope.{IsBuilt, IsBuiltStmt, AreBuiltItems, AreBuilt}
 use Rattle.tick_lower_proof.specs.Lower.{Addresses, expr_ops, Targets, stmt_ops, items_ops, dropping, keeping, kept}
-use Rattle.tick_lower_proof.specs.Lower.{narrowing, joins}
+use Rattle.tick_lower_proof.specs.Lower.{narrowing, joins, args_ops, dropping_call}
 use Rattle.tick_lower_proof.specs.Lower.{test_ops, default_label}
+use Rattle.typed_tree.specs.declared.expression.Answer.{Answer}
 
 abbrev pub OnLabel : (ℕ → Type 0) → Option ℕ → Type 0
 OnLabel P None = Unit {0}
@@ -248,128 +250,192 @@ module _ (d : Addresses) where
       (numbered_behind l hi (test1 ∷ []) (bo ++ test2 ∷ J) (omega arith) (none1, tt) inner)
       (on_weaken (λ k. ⊥) (λ m. (m < l + 2) ⊎ (x ≤ m)) (label_of test1) (λ k no. absurd no) none1, out)
 
-  pub expr_numbered : (e : Expr) → IsBuilt e → (l t : ℕ) → Numbered l (l + labels_in e) (expr_ops d e l t)
-  expr_numbered (node.Const w) built l t = record { each = (tt, tt); distinct = (tt, tt) }
-  expr_numbered (node.Var i) built l t = record { each = (tt, tt); distinct = (tt, tt) }
-  expr_numbered (node.SetVar i a) built l t =
-      numbered_end l (l + labels_in a) (expr_ops d a l t) _ (omega arith) (expr_numbered a built l t) (tt, tt)
-  expr_numbered (node.PostVar i width step) built l t =
-      widen l l l (l + 0) _ (omega arith) (omega arith)
-      (numbered_none l (expr_ops d (node.PostVar i width step) l t) (
-        tt,
-        (
+  calling_none : (P : ℕ → Type 0) (a : Answer) → Every label_of P (dropping_call a)
+  calling_none P answer.Value = tt
+  calling_none P answer.Void = (tt, tt)
+
+  mutual
+    pub expr_numbered : (e : Expr) → IsBuilt e → (l t : ℕ) → Numbered l (l + labels_in e) (expr_ops d e l t)
+    expr_numbered (node.Const w) built l t = record { each = (tt, tt); distinct = (tt, tt) }
+    expr_numbered (node.Var i) built l t = record { each = (tt, tt); distinct = (tt, tt) }
+    expr_numbered (node.SetVar i a) built l t =
+        numbered_end l (l + labels_in a) (expr_ops d a l t) _ (omega arith) (expr_numbered a built l t) (tt, tt)
+    expr_numbered (node.PostVar i width step) built l t =
+        widen l l l (l + 0) _ (omega arith) (omega arith)
+        (numbered_none l (expr_ops d (node.PostVar i width step) l t) (
           tt,
           (
             tt,
             (
               tt,
-              every_append label_of (λ l. ⊥) (narrowing width) _ (narrowing_none (λ l. ⊥) width)
-                  (tt, (tt, tt)),
+              (
+                tt,
+                every_append label_of (λ l. ⊥) (narrowing width) _ (narrowing_none (λ l. ⊥) width)
+                    (tt, (tt, tt)),
+              ),
             ),
           ),
-        ),
-      ))
-  expr_numbered (node.Bin k x y) built l t =
-      let mid = l + labels_in x in
-      let yo = expr_ops d y mid (t + temps_in x) in
-      let hi = l + (labels_in x + labels_in y) in
-      numbered_append l mid hi (expr_ops d x l t) (yo ++ build.Bin k ∷ []) (omega arith) (omega arith)
-      (expr_numbered x built.0 l t)
-      (numbered_end mid hi yo (build.Bin k ∷ []) (omega arith)
-      (widen mid mid (mid + labels_in y) hi yo (omega arith) (omega arith) (expr_numbered y built.1 mid (t + temps_in x)))
-      (tt, tt))
-  expr_numbered (node.Un k a) built l t =
-      numbered_end l (l + labels_in a) (expr_ops d a l t) _ (omega arith) (expr_numbered a built l t) (tt, tt)
-  expr_numbered (node.And a b) built l t =
-      let x = l + 2 + labels_in a in
-      let hi = l + (2 + labels_in a + labels_in b) in
-      let bo = expr_ops d b x (t + 1 + temps_in a) in
-      logic_numbered l x hi (build.BranchZero l) (build.BranchZero l) (expr_ops d a (l + 2) (t + 1)) bo
-      (joins 1 0 l (l + 1) t) refl refl (omega arith) (omega arith) (expr_numbered a built.0 (l + 2) (t + 1))
-      (widen x x (x + labels_in b) hi bo (omega arith) (omega arith) (expr_numbered b built.1 x (t + 1 + temps_in a)))
-      (joins_numbered 1 0 l t)
-  expr_numbered (node.Or a b) built l t =
-      let x = l + 2 + labels_in a in
-      let hi = l + (2 + labels_in a + labels_in b) in
-      let bo = expr_ops d b x (t + 1 + temps_in a) in
-      logic_numbered l x hi (build.BranchNonzero l) (build.BranchNonzero l) (expr_ops d a (l + 2) (t + 1)) bo
-      (joins 0 1 l (l + 1) t) refl refl (omega arith) (omega arith) (expr_numbered a built.0 (l + 2) (t + 1))
-      (widen x x (x + labels_in b) hi bo (omega arith) (omega arith) (expr_numbered b built.1 x (t + 1 + temps_in a)))
-      (joins_numbered 0 1 l t)
-  expr_numbered (node.Cond c a b) built l t =
-      let has = has_value a in
-      let la = l + 2 + labels_in c in
-      let ta = t + 1 + temps_in c in
-      let lb = la + labels_in a in
-      let hi = l + (2 + labels_in c + labels_in a + labels_in b) in
-      let co = expr_ops d c (l + 2) (t + 1) in
-      let ao = expr_ops d a la ta in
-      let bo = expr_ops d b lb (ta + temps_in a) in
-      let K = keeping has t in
-      let end = build.Label (l + 1) ∷ kept has t in
-      let none : Every label_of (λ k. ⊥) K = keeping_none (λ k. ⊥) has t in
-      let ha : Numbered la lb ao = expr_numbered a built.1 la ta in
-      let hb : Numbered lb hi bo =
-      widen lb lb (lb + labels_in b) hi bo (omega arith) (omega arith) (expr_numbered b built.2 lb (ta + temps_in a)) in
-      let meet : Numbered (l + 1) (l + 2) (K ++ end) =
-      numbered_behind (l + 1) (l + 2) K end (omega arith) none
-      (widen (l + 1) (l + 1) (l + 1 + 1) (l + 2) end (omega arith) (omega arith)
-      (numbered_end (l + 1) (l + 1 + 1) (build.Label (l + 1) ∷ []) (kept has t) (omega arith) (numbered_one (l + 1))
-      (kept_none (λ k. ⊥) has t))) in
-      let second : Numbered (l + 1) hi (bo ++ (K ++ end)) =
-      numbered_swap (l + 1) (l + 2) hi bo (K ++ end) (omega arith) (omega arith)
-      (widen lb (l + 2) hi hi bo (omega arith) (omega arith) hb) meet in
-      let rest2 = build.Jump (l + 1) ∷ build.Label l ∷ (bo ++ (K ++ end)) in
-      let tail : Numbered l hi (K ++ rest2) =
-      numbered_behind l hi K rest2 (omega arith) none
-      (numbered_behind l hi (build.Jump (l + 1) ∷ []) (build.Label l ∷ (bo ++ (K ++ end))) (omega arith) (tt, tt)
-      (numbered_first l hi (bo ++ (K ++ end)) (omega arith) second)) in
-      let out_of_a : Every label_of (λ m. (m < la) ⊎ (lb ≤ m)) (K ++ rest2) =
-      every_append label_of (λ m. (m < la) ⊎ (lb ≤ m)) K rest2 (keeping_none (λ m. (m < la) ⊎ (lb ≤ m)) has t) (
-        tt,
-        (
-          inl (omega arith),
-          every_append label_of (λ m. (m < la) ⊎ (lb ≤ m)) bo (K ++ end) (out_above la lb lb hi bo (omega arith) hb)
-              (out_below la lb (l + 1) (l + 2) (K ++ end) (omega arith) meet),
-        ),
-      ) in
-      let ways : Numbered l hi (ao ++ (K ++ rest2)) =
-      numbered_hole l la lb hi ao (K ++ rest2) (omega arith) (omega arith) ha tail out_of_a in
-      let out_of_c : Every label_of (λ m. (m < l + 2) ⊎ (la ≤ m)) (ao ++ (K ++ rest2)) =
-      every_append label_of (λ m. (m < l + 2) ⊎ (la ≤ m)) ao (K ++ rest2)
-      (out_above (l + 2) la la lb ao (omega arith) ha)
-      (every_append label_of (λ m. (m < l + 2) ⊎ (la ≤ m)) K rest2 (keeping_none (λ m. (m < l + 2) ⊎ (la ≤ m)) has t) (
-        tt,
-        (
-          inl (omega arith),
-          every_append label_of (λ m. (m < l + 2) ⊎ (la ≤ m)) bo (K ++ end)
-              (out_above (l + 2) la lb hi bo (omega arith) hb)
-              (out_below (l + 2) la (l + 1) (l + 2) (K ++ end) (omega arith) meet),
-        ),
-      )) in
-      numbered_hole l (l + 2) la hi co (build.BranchZero l ∷ (ao ++ (K ++ rest2))) (omega arith) (omega arith)
-      (expr_numbered c built.0 (l + 2) (t + 1))
-      (numbered_behind l hi (build.BranchZero l ∷ []) (ao ++ (K ++ rest2)) (omega arith) (tt, tt) ways) (tt, out_of_c)
-  expr_numbered (node.Comma a b) built l t =
-      let mid = l + labels_in a in
-      let hi = l + (labels_in a + labels_in b) in
-      let D = dropping (has_value a) in
-      let bo = expr_ops d b mid (t + temps_in a) in
-      numbered_append l mid hi (expr_ops d a l t) (D ++ bo) (omega arith) (omega arith) (expr_numbered a built.0 l t)
-      (numbered_behind mid hi D bo (omega arith) (dropping_none (λ k. ⊥) (has_value a))
-      (widen mid mid (mid + labels_in b) hi bo (omega arith) (omega arith)
-      (expr_numbered b built.1 mid (t + temps_in a))))
-  expr_numbered (node.Void a) built l t =
-      numbered_end l (l + labels_in a) (expr_ops d a l t) (dropping (has_value a)) (omega arith)
-      (expr_numbered a built l t) (dropping_none (λ k. ⊥) (has_value a))
-  expr_numbered node.Getchar built l t = record { each = (tt, (tt, tt)); distinct = (tt, (tt, tt)) }
-  expr_numbered (node.Lib library.Putchar a) built l t =
-      numbered_end l (l + labels_in a) (expr_ops d a l t) _ (omega arith) (expr_numbered a built l t) (tt, tt)
-  expr_numbered (node.Lib library.Putint a) built l t =
-      numbered_end l (l + labels_in a) (expr_ops d a l t) _ (omega arith) (expr_numbered a built l t) (tt, (tt, tt))
-  expr_numbered (node.Lib library.Exit a) built l t =
-      numbered_end l (l + labels_in a) (expr_ops d a l t) _ (omega arith) (expr_numbered a built l t) (tt, (tt, tt))
-  expr_numbered _ built l t = absurd built
+        ))
+    expr_numbered (node.Bin k x y) built l t =
+        let mid = l + labels_in x in
+        let yo = expr_ops d y mid (t + temps_in x) in
+        let hi = l + (labels_in x + labels_in y) in
+        numbered_append l mid hi (expr_ops d x l t) (yo ++ build.Bin k ∷ []) (omega arith) (omega arith)
+        (expr_numbered x built.0 l t)
+        (numbered_end mid hi yo (build.Bin k ∷ []) (omega arith)
+        (widen mid mid (mid + labels_in y) hi yo (omega arith) (omega arith)
+        (expr_numbered y built.1 mid (t + temps_in x)))
+        (tt, tt))
+    expr_numbered (node.Un k a) built l t =
+        numbered_end l (l + labels_in a) (expr_ops d a l t) _ (omega arith) (expr_numbered a built l t) (tt, tt)
+    expr_numbered (node.And a b) built l t =
+        let x = l + 2 + labels_in a in
+        let hi = l + (2 + labels_in a + labels_in b) in
+        let bo = expr_ops d b x (t + 1 + temps_in a) in
+        logic_numbered l x hi (build.BranchZero l) (build.BranchZero l) (expr_ops d a (l + 2) (t + 1)) bo
+        (joins 1 0 l (l + 1) t) refl refl (omega arith) (omega arith) (expr_numbered a built.0 (l + 2) (t + 1))
+        (widen x x (x + labels_in b) hi bo (omega arith) (omega arith) (expr_numbered b built.1 x (t + 1 + temps_in a)))
+        (joins_numbered 1 0 l t)
+    expr_numbered (node.Or a b) built l t =
+        let x = l + 2 + labels_in a in
+        let hi = l + (2 + labels_in a + labels_in b) in
+        let bo = expr_ops d b x (t + 1 + temps_in a) in
+        logic_numbered l x hi (build.BranchNonzero l) (build.BranchNonzero l) (expr_ops d a (l + 2) (t + 1)) bo
+        (joins 0 1 l (l + 1) t) refl refl (omega arith) (omega arith) (expr_numbered a built.0 (l + 2) (t + 1))
+        (widen x x (x + labels_in b) hi bo (omega arith) (omega arith) (expr_numbered b built.1 x (t + 1 + temps_in a)))
+        (joins_numbered 0 1 l t)
+    expr_numbered (node.Cond c a b) built l t =
+        let has = has_value a in
+        let la = l + 2 + labels_in c in
+        let ta = t + 1 + temps_in c in
+        let lb = la + labels_in a in
+        let hi = l + (2 + labels_in c + labels_in a + labels_in b) in
+        let co = expr_ops d c (l + 2) (t + 1) in
+        let ao = expr_ops d a la ta in
+        let bo = expr_ops d b lb (ta + temps_in a) in
+        let K = keeping has t in
+        let end = build.Label (l + 1) ∷ kept has t in
+        let none : Every label_of (λ k. ⊥) K = keeping_none (λ k. ⊥) has t in
+        let ha : Numbered la lb ao = expr_numbered a built.1 la ta in
+        let hb : Numbered lb hi bo =
+        widen lb lb (lb + labels_in b) hi bo (omega arith) (omega arith) (expr_numbered b built.2 lb (ta + temps_in a))
+        in
+        let meet : Numbered (l + 1) (l + 2) (K ++ end) =
+        numbered_behind (l + 1) (l + 2) K end (omega arith) none
+        (widen (l + 1) (l + 1) (l + 1 + 1) (l + 2) end (omega arith) (omega arith)
+        (numbered_end (l + 1) (l + 1 + 1) (build.Label (l + 1) ∷ []) (kept has t) (omega arith) (numbered_one (l + 1))
+        (kept_none (λ k. ⊥) has t))) in
+        let second : Numbered (l + 1) hi (bo ++ (K ++ end)) =
+        numbered_swap (l + 1) (l + 2) hi bo (K ++ end) (omega arith) (omega arith)
+        (widen lb (l + 2) hi hi bo (omega arith) (omega arith) hb) meet in
+        let rest2 = build.Jump (l + 1) ∷ build.Label l ∷ (bo ++ (K ++ end)) in
+        let tail : Numbered l hi (K ++ rest2) =
+        numbered_behind l hi K rest2 (omega arith) none
+        (numbered_behind l hi (build.Jump (l + 1) ∷ []) (build.Label l ∷ (bo ++ (K ++ end))) (omega arith) (tt, tt)
+        (numbered_first l hi (bo ++ (K ++ end)) (omega arith) second)) in
+        let out_of_a : Every label_of (λ m. (m < la) ⊎ (lb ≤ m)) (K ++ rest2) =
+        every_append label_of (λ m. (m < la) ⊎ (lb ≤ m)) K rest2 (keeping_none (λ m. (m < la) ⊎ (lb ≤ m)) has t) (
+          tt,
+          (
+            inl (omega arith),
+            every_append label_of (λ m. (m < la) ⊎ (lb ≤ m)) bo (K ++ end) (out_above la lb lb hi bo (omega arith) hb)
+                (out_below la lb (l + 1) (l + 2) (K ++ end) (omega arith) meet),
+          ),
+        ) in
+        let ways : Numbered l hi (ao ++ (K ++ rest2)) =
+        numbered_hole l la lb hi ao (K ++ rest2) (omega arith) (omega arith) ha tail out_of_a in
+        let out_of_c : Every label_of (λ m. (m < l + 2) ⊎ (la ≤ m)) (ao ++ (K ++ rest2)) =
+        every_append label_of (λ m. (m < l + 2) ⊎ (la ≤ m)) ao (K ++ rest2)
+        (out_above (l + 2) la la lb ao (omega arith) ha)
+        (every_append label_of (λ m. (m < l + 2) ⊎ (la ≤ m)) K rest2
+        (keeping_none (λ m. (m < l + 2) ⊎ (la ≤ m)) has t) (
+          tt,
+          (
+            inl (omega arith),
+            every_append label_of (λ m. (m < l + 2) ⊎ (la ≤ m)) bo (K ++ end)
+                (out_above (l + 2) la lb hi bo (omega arith) hb)
+                (out_below (l + 2) la (l + 1) (l + 2) (K ++ end) (omega arith) meet),
+          ),
+        )) in
+        numbered_hole l (l + 2) la hi co (build.BranchZero l ∷ (ao ++ (K ++ rest2))) (omega arith) (omega arith)
+        (expr_numbered c built.0 (l + 2) (t + 1))
+        (numbered_behind l hi (build.BranchZero l ∷ []) (ao ++ (K ++ rest2)) (omega arith) (tt, tt) ways) (tt, out_of_c)
+    expr_numbered (node.Comma a b) built l t =
+        let mid = l + labels_in a in
+        let hi = l + (labels_in a + labels_in b) in
+        let D = dropping (has_value a) in
+        let bo = expr_ops d b mid (t + temps_in a) in
+        numbered_append l mid hi (expr_ops d a l t) (D ++ bo) (omega arith) (omega arith) (expr_numbered a built.0 l t)
+        (numbered_behind mid hi D bo (omega arith) (dropping_none (λ k. ⊥) (has_value a))
+        (widen mid mid (mid + labels_in b) hi bo (omega arith) (omega arith)
+        (expr_numbered b built.1 mid (t + temps_in a))))
+    expr_numbered (node.Void a) built l t =
+        numbered_end l (l + labels_in a) (expr_ops d a l t) (dropping (has_value a)) (omega arith)
+        (expr_numbered a built l t) (dropping_none (λ k. ⊥) (has_value a))
+    expr_numbered node.Getchar built l t = record { each = (tt, (tt, tt)); distinct = (tt, (tt, tt)) }
+    expr_numbered (node.Lib library.Putchar a) built l t =
+        numbered_end l (l + labels_in a) (expr_ops d a l t) _ (omega arith) (expr_numbered a built l t) (tt, tt)
+    expr_numbered (node.Lib library.Putint a) built l t =
+        numbered_end l (l + labels_in a) (expr_ops d a l t) _ (omega arith) (expr_numbered a built l t) (tt, (tt, tt))
+    expr_numbered (node.Lib library.Exit a) built l t =
+        numbered_end l (l + labels_in a) (expr_ops d a l t) _ (omega arith) (expr_numbered a built l t) (tt, (tt, tt))
+    expr_numbered (node.Frame offset) built l t = record { each = (tt, tt); distinct = (tt, tt) }
+    expr_numbered (node.Load width a) built l t =
+        numbered_end l (l + labels_in a) (expr_ops d a l t) _ (omega arith) (expr_numbered a built l t) (tt, tt)
+    expr_numbered (node.Store width x y) built l t =
+        let mid = l + labels_in x in
+        let yo = expr_ops d y mid (t + temps_in x) in
+        let hi = l + (labels_in x + labels_in y) in
+        numbered_append l mid hi (expr_ops d x l t) (yo ++ build.Store width ∷ []) (omega arith) (omega arith)
+        (expr_numbered x built.0 l t)
+        (numbered_end mid hi yo (build.Store width ∷ []) (omega arith)
+        (widen mid mid (mid + labels_in y) hi yo (omega arith) (omega arith)
+        (expr_numbered y built.1 mid (t + temps_in x)))
+        (tt, tt))
+    expr_numbered (node.Modify width k x y) built l t =
+        let mid = l + labels_in x in
+        let yo = expr_ops d y mid (t + temps_in x) in
+        let hi = l + (labels_in x + labels_in y) in
+        let rest = build.Bin k ∷ (narrowing width ++ build.Store width ∷ []) in
+        numbered_append l mid hi (expr_ops d x l t) (build.Pick 0 ∷ build.Load width ∷ (yo ++ rest)) (omega arith)
+        (omega arith) (expr_numbered x built.0 l t)
+        (numbered_behind mid hi (build.Pick 0 ∷ build.Load width ∷ []) (yo ++ rest) (omega arith) (tt, (tt, tt))
+        (numbered_end mid hi yo rest (omega arith)
+        (widen mid mid (mid + labels_in y) hi yo (omega arith) (omega arith)
+        (expr_numbered y built.1 mid (t + temps_in x)))
+        (tt, every_append label_of (λ l. ⊥) (narrowing width) _ (narrowing_none (λ l. ⊥) width) (tt, tt))))
+    expr_numbered (node.Post width step a) built l t =
+        let rest : Every label_of (λ l. ⊥) (narrowing width ++ build.Store width ∷ build.Drop ∷ build.Nip ∷ []) =
+        every_append label_of (λ l. ⊥) (narrowing width) _ (narrowing_none (λ l. ⊥) width) (tt, (tt, (tt, tt))) in
+        numbered_end l (l + labels_in a) (expr_ops d a l t) _ (omega arith) (expr_numbered a built l t)
+        (tt, (tt, (tt, (tt, (tt, (tt, rest))))))
+    expr_numbered (node.Call answer f args) built l t =
+        numbered_end l (l + labels_in_args args) (args_ops d args l t) _ (omega arith) (args_numbered args built l t)
+        (tt, calling_none (λ l. ⊥) answer)
+    expr_numbered (node.CallNumber answer a args) built l t =
+        let mid = l + labels_in a in
+        let ro = args_ops d args mid (t + temps_in a) in
+        let hi = l + (labels_in a + labels_in_args args) in
+        let rest = build.CallNumber (node.count args) ∷ dropping_call answer in
+        numbered_append l mid hi (expr_ops d a l t) (ro ++ rest) (omega arith) (omega arith)
+        (expr_numbered a built.0 l t)
+        (numbered_end mid hi ro rest (omega arith)
+        (widen mid mid (mid + labels_in_args args) hi ro (omega arith) (omega arith)
+        (args_numbered args built.1 mid (t + temps_in a))) (tt, calling_none (λ l. ⊥) answer))
+    expr_numbered (node.Lib library.Malloc a) built l t =
+        numbered_end l (l + labels_in a) (expr_ops d a l t) _ (omega arith) (expr_numbered a built l t) (tt, tt)
+    expr_numbered _ built l t = absurd built
+
+    pub args_numbered : (args : node.Args) → AreBuilt args → (l t : ℕ) →
+        Numbered l (l + labels_in_args args) (args_ops d args l t)
+    args_numbered node.NoArg built l t = widen l l l (l + 0) [] (omega arith) (omega arith) (numbered_none l [] tt)
+    args_numbered (node.Arg a args) built l t =
+        let mid = l + labels_in a in
+        let ro = args_ops d args mid (t + temps_in a) in
+        let hi = l + (labels_in a + labels_in_args args) in
+        numbered_append l mid hi (expr_ops d a l t) ro (omega arith) (omega arith) (expr_numbered a built.0 l t)
+        (widen mid mid (mid + labels_in_args args) hi ro (omega arith) (omega arith)
+        (args_numbered args built.1 mid (t + temps_in a)))
 
   -- of one whose value, if there is one, is taken away
   pub eval_numbered : (e : Expr) → IsBuilt e → (l t : ℕ) →
@@ -392,6 +458,19 @@ module _ (d : Addresses) where
         (items_numbered items built.1 to (l + labels_of vars) (t + temps_of vars)))
     stmt_numbered (node.Variable i) built to l t =
         record { each = (tt, (tt, (tt, tt))); distinct = (tt, (tt, (tt, tt))) }
+    stmt_numbered (node.Object offset words) built to l t = record { each = (tt, tt); distinct = (tt, tt) }
+    stmt_numbered (node.Parameter k width) built to l t =
+        widen l l l (l + 0) _ (omega arith) (omega arith)
+        (numbered_none l (stmt_ops d (node.Parameter k width) to l t) (
+          tt,
+          every_append label_of (λ i. ⊥) (narrowing width) _ (narrowing_none (λ i. ⊥) width) (tt, (tt, tt)),
+        ))
+    stmt_numbered (node.ParameterObject k width offset) built to l t =
+        widen l l l (l + 0) _ (omega arith) (omega arith)
+        (numbered_none l (stmt_ops d (node.ParameterObject k width offset) to l t) (
+          tt,
+          (tt, every_append label_of (λ i. ⊥) (narrowing width) _ (narrowing_none (λ i. ⊥) width) (tt, (tt, tt))),
+        ))
     stmt_numbered (node.If e s) built to l t =
         let lo = l + 1 + labels_in e in
         let so = stmt_ops d s to lo (t + temps_in e) in
@@ -591,7 +670,6 @@ module _ (d : Addresses) where
     stmt_numbered node.Break built to l t = record { each = (tt, tt); distinct = (tt, tt) }
     stmt_numbered node.Continue built to l t = record { each = (tt, tt); distinct = (tt, tt) }
     stmt_numbered node.Return built to l t = record { each = (tt, tt); distinct = (tt, tt) }
-    stmt_numbered _ built to l t = absurd built
 
     pub items_numbered : (is : Items) → AreBuiltItems is → (to : Targets) (l t : ℕ) →
         Numbered l (l + labels_of is) (items_ops d is to l t)

@@ -86,7 +86,8 @@ module _ (site : Site) (scope : Scope) (inside : Within scope site.named) (from 
 
     pub first_way : (spare credit : ℕ) (w : World) → At site from scope v.place stack (spare + 4) (credit + 120) 0 w →
         Follows site.machine from
-        (Leaves true site from scope (after_ops (joins first other l (l + 1) t) v) stack spare credit) (IsBack site from)
+        (Leaves true site from scope (after_ops (joins first other l (l + 1) t) v) stack spare credit)
+        (IsBack site from)
         (spend first w)
     first_way spare credit w z =
         let code = site.call.function.ops in
@@ -114,7 +115,8 @@ module _ (site : Site) (scope : Scope) (inside : Within scope site.named) (from 
     pub other_way : (spare credit : ℕ) (w : World) →
         At site from scope (label_index (label_at l) site.call.function.ops) stack (spare + 4) (credit + 120) 0 w →
         Follows site.machine from
-        (Leaves true site from scope (after_ops (joins first other l (l + 1) t) v) stack spare credit) (IsBack site from)
+        (Leaves true site from scope (after_ops (joins first other l (l + 1) t) v) stack spare credit)
+        (IsBack site from)
         (spend other w)
     other_way spare credit w z =
         let code = site.call.function.ops in

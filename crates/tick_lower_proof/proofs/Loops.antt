@@ -16,7 +16,7 @@ use Rattle.tick_lower_proof.proofs.Builder.{View, top, after_ops, Stands}
 use Rattle.tick_lower_proof.proofs.Follow.{From, Later, Follows, follows_then, follows_less, follows_from}
 use Rattle.tick_lower_proof.proofs.Registers.{Within, AreVars, AreHeld}
 use Rattle.tick_lower_proof.proofs.Standing.{base_of, Site, Fits, At, IsBack, Part, at_less, at_from, back_from}
-use Rattle.tick_lower_proof.proofs.Standing.{spend_run}
+use Rattle.tick_lower_proof.proofs.Standing.{spend_run, IsOutset, outset_later, fewer_turns}
 use Rattle.tick_lower_proof.proofs.Exprs.{one_run}
 use Rattle.tick_lower_proof.proofs.Ways.{Labelled, Left, LeftAt, Runs, pass_label, take_jump, at_place, tested_last}
 use Rattle.tick_lower_proof.proofs.Ways.{left_before}
@@ -60,19 +60,19 @@ module _ (site : Site) (labelled : Labelled site.call.function.ops) (scope : Sco
   -- what is followed in a turn, behind the test
   abbrev pub Turn : (World → Result Flow) → (place end head : ℕ) → Type 0
   Turn body place end head =
-      (from : From) (w : World) → from.units < site.context.turns → At site from scope place stack 4 120 0 w →
+      (from : From) (w : World) → IsOutset site from → At site from scope place stack 4 120 0 w →
       Follows site.machine from (Turned from end head) (IsBack site from) (body w)
 
   -- the turns of a loop, with fewer than dd units, from its head
   unfoldable pub Turns : (head end : ℕ) (br co : Option ℕ) → ℕ → (World → Result Flow) → Type 0
   Turns head end br co dd act =
-      (from : From) (spare credit : ℕ) (w : World) → from.units < site.context.turns → w.units < dd → 16 ≤ credit →
+      (from : From) (spare credit : ℕ) (w : World) → IsOutset site from → w.units < dd → 16 ≤ credit →
       At site from scope head stack spare credit 0 w →
       Follows site.machine from (Left site from scope scope stack spare credit end br co) (IsBack site from) (act w)
 
   -- the next turn, once this one's unit is spent
   next_turn : (head end : ℕ) (br co : Option ℕ) (dd : ℕ) (next : World → Result Flow) → Turns head end br co dd next →
-      (from : From) (spare credit debt : ℕ) → from.units < site.context.turns → from.units < suc dd → (w : World) →
+      (from : From) (spare credit debt : ℕ) → IsOutset site from → from.units < suc dd → (w : World) →
       debt ≤ 16 → 1 ≤ spare → At site from scope head stack spare credit debt w →
       Follows site.machine from (Left site from scope scope stack 0 16 end br co) (IsBack site from)
       (then_do (spend Normal w) (λ a w. next w))
@@ -112,7 +112,7 @@ module _ (site : Site) (labelled : Labelled site.call.function.ops) (scope : Sco
       (turn : Turn body (suc p1) (label_index l site.call.function.ops) p0) where
     -- the end of a turn, at which its unit is spent
     turn_run : (dd : ℕ) (next : World → Result Flow) → Turns p0 (suc p4) br co dd next → (from : From) →
-        from.units < site.context.turns → from.units < suc dd → (fl : Flow) (w : World) →
+        IsOutset site from → from.units < suc dd → (fl : Flow) (w : World) →
         Turned from (label_index l site.call.function.ops) p0 fl w →
         Follows site.machine from (Left site from scope scope stack 0 16 (suc p4) br co) (IsBack site from)
         (turn_end next fl w)
@@ -132,7 +132,7 @@ module _ (site : Site) (labelled : Labelled site.call.function.ops) (scope : Sco
         let later = ahead site p0 z.regs z.log w.units 16 in
         let rest = credit - 16 in
         let l1 = later_ahead site scope p0 stack from spare credit 16 rest w z (omega (arith, enough)) in
-        let lt1 : w.units < site.context.turns = omega (arith, z.fewer) in
+        let lt1 = outset_later site from later spare rest l1 lt in
         let z0 = stands_ahead site scope p0 stack z.regs z.log 16 w z.vars z.held z.shared_is in
         let z1 = at_place site later scope (suc p0) v.place stack 0 16 0 w (sym begin_is)
         (pass_label site later scope p0 k stack 0 16 0 w at0 z0) in
@@ -161,7 +161,7 @@ module _ (site : Site) (labelled : Labelled site.call.function.ops) (scope : Sco
     pub loop_run : Runs site scope scope stack (turns site.context.turns (eval site.context e) body) p0 (suc p4) br co
     unfolding Runs Turns
     loop_run from spare credit w lt enough z =
-        loop_turns site.context.turns from spare credit w lt (omega (arith, z.fewer)) enough z
+        loop_turns site.context.turns from spare credit w lt (fewer_turns site from w.units z.fewer lt) enough z
 
   -- back to the loop's head
   jump_back : (from : From) (p k p0 spare credit : ℕ) (w : World) →
@@ -222,7 +222,7 @@ module _ (site : Site) (labelled : Labelled site.call.function.ops) (scope : Sco
         slice_get site.call.function.ops p5 ≡ Some (op.Jump k) →
         Runs site scope scope stack act p p3 (Some (label_index l site.call.function.ops))
         (Some (label_index c site.call.function.ops)) →
-        ((from : From) (spare credit : ℕ) (w : World) → from.units < site.context.turns →
+        ((from : From) (spare credit : ℕ) (w : World) → IsOutset site from →
         At site from scope (suc p3) stack spare credit 0 w →
         Follows site.machine from (λ x w1. At site from scope p5 stack spare credit 0 w1) (IsBack site from)
         (eval site.context step w)) →
@@ -231,7 +231,7 @@ module _ (site : Site) (labelled : Labelled site.call.function.ops) (scope : Sco
     step_turn act step c p p3 p5 at3 at5 runs step_runs from w lt z =
         let later = ahead site p z.regs z.log w.units 16 in
         let l1 = later_ahead site scope p stack from 4 120 16 104 w z (omega arith) in
-        let lt1 : w.units < site.context.turns = omega (arith, z.fewer) in
+        let lt1 = outset_later site from later 4 104 l1 lt in
         follows_then site.machine from Behind (Turned from (label_index l site.call.function.ops) p0) (IsBack site from)
         (act w) (stepped (eval site.context step))
         (follows_from site.machine from (Left site later scope scope stack 0 16 p3
@@ -307,7 +307,7 @@ module _ (site : Site) (labelled : Labelled site.call.function.ops) (scope : Sco
 
     -- behind the branch, by the test's value
     round_split : (dd : ℕ) (next : World → Result Flow) → Turns p0 behind br co dd next → (from : From) →
-        from.units < site.context.turns → from.units < suc dd → (x : ℕ) (w : World) →
+        IsOutset site from → from.units < suc dd → (x : ℕ) (w : World) →
         At site from scope (branch x (suc p5) (label_index k site.call.function.ops)) stack 4 120 0 w →
         Follows site.machine from (Left site from scope scope stack 0 16 behind br co) (IsBack site from)
         (then_do (spend Normal w) (λ fl w1. at_zero x (Gives Normal w1) (next w1)))
@@ -325,7 +325,7 @@ module _ (site : Site) (labelled : Labelled site.call.function.ops) (scope : Sco
 
     -- the test, and what is behind it
     round_test : (dd : ℕ) (next : World → Result Flow) → Turns p0 behind br co dd next → (from : From) →
-        from.units < site.context.turns → from.units < suc dd → (w : World) →
+        IsOutset site from → from.units < suc dd → (w : World) →
         At site from scope (suc p3) stack 0 0 0 w →
         Follows site.machine from (Left site from scope scope stack 0 16 behind br co) (IsBack site from)
         (then_do (eval site.context e w)
@@ -343,7 +343,7 @@ module _ (site : Site) (labelled : Labelled site.call.function.ops) (scope : Sco
 
     -- the end of a turn
     round_run : (dd : ℕ) (next : World → Result Flow) → Turns p0 behind br co dd next → (from : From) →
-        from.units < site.context.turns → from.units < suc dd → (fl : Flow) (w : World) →
+        IsOutset site from → from.units < suc dd → (fl : Flow) (w : World) →
         Left site from scope scope stack 0 16 p3 (Some (label_index l site.call.function.ops))
         (Some (label_index c site.call.function.ops)) fl w →
         Follows site.machine from (Left site from scope scope stack 0 16 behind br co) (IsBack site from)
@@ -366,7 +366,7 @@ module _ (site : Site) (labelled : Labelled site.call.function.ops) (scope : Sco
         let later = ahead site p0 z.regs z.log w.units 16 in
         let rest = credit - 16 in
         let l1 = later_ahead site scope p0 stack from spare credit 16 rest w z (omega (arith, enough)) in
-        let lt1 : w.units < site.context.turns = omega (arith, z.fewer) in
+        let lt1 = outset_later site from later spare rest l1 lt in
         let z0 = stands_ahead site scope p0 stack z.regs z.log 16 w z.vars z.held z.shared_is in
         let V = Left site later scope scope stack 0 16 p3 (Some (label_index l site.call.function.ops))
         (Some (label_index c site.call.function.ops)) in
@@ -388,4 +388,4 @@ module _ (site : Site) (labelled : Labelled site.call.function.ops) (scope : Sco
     pub do_run : Runs site scope scope stack (rounds site.context.turns body (eval site.context e)) p0 behind br co
     unfolding Runs Turns
     do_run from spare credit w lt enough z =
-        round_turns site.context.turns from spare credit w lt (omega (arith, z.fewer)) enough z
+        round_turns site.context.turns from spare credit w lt (fewer_turns site from w.units z.fewer lt) enough z

@@ -1,6 +1,10 @@
 -- A statement leaves the builder's operands and bodies as they were.
 use Rattle.std.proofs.Common.{ℕ, ◌+◌, [], ◌∷◌, ◌++◌, refl, sym, ◌∙◌, subst, arith}
 use Rattle.icode_ir.specs.declared.build_op.BuildOp.TheVariants as build
+use Rattle.word32.specs.declared.width.Width.{Width}
+use Rattle.word32.specs.declared.width.Width.TheVariants as width
+use Rattle.tick_lower_proof.specs.Lower.{narrowing}
+use Rattle.typed_tree.specs.Nodes.{Object, Parameter, ParameterObject}
 use Rattle.typed_tree.specs.Nodes.{Stmt, Eval, Block, Variable, If, IfElse, While, Do, For, ForStep, Switch, Case}
 use Rattle.typed_tree.specs.Nodes.{Default, Break, Continue, Return, ReturnValue, Items, NoItem, Item, has_value}
 use Rattle.staged_meaning.specs.Size.{labels_in, labels, labels_of, temps_in, temps, temps_of}
@@ -21,6 +25,25 @@ test_same (Item (Case value) is) l t v =
     (record { operands = refl; bodies = refl; next = omega arith }) (test_same is (l + 1) t v1)
 test_same (Item s is) l t v = test_same is (l + labels s) t v
 
+-- a parameter leaves no operand
+parameter_same : (k : ℕ) (width : Width) (v : View) →
+    Same v (after_ops (build.Parameter k ∷ (narrowing width ++ build.SetVariable k ∷ build.Drop ∷ [])) v)
+parameter_same k width.SignedByte v = record { operands = refl; bodies = refl; next = omega arith }
+parameter_same k width.Byte v = record { operands = refl; bodies = refl; next = omega arith }
+parameter_same k width.SignedHalf v = record { operands = refl; bodies = refl; next = omega arith }
+parameter_same k width.Half v = record { operands = refl; bodies = refl; next = omega arith }
+parameter_same k width.Word v = record { operands = refl; bodies = refl; next = omega arith }
+
+parameter_object_same : (k : ℕ) (width : Width) (offset : ℕ) (v : View) →
+    Same v
+    (after_ops
+    (build.FrameAddress offset ∷ build.Parameter k ∷ (narrowing width ++ build.Store width ∷ build.Drop ∷ [])) v)
+parameter_object_same k width.SignedByte offset v = record { operands = refl; bodies = refl; next = omega arith }
+parameter_object_same k width.Byte offset v = record { operands = refl; bodies = refl; next = omega arith }
+parameter_object_same k width.SignedHalf offset v = record { operands = refl; bodies = refl; next = omega arith }
+parameter_object_same k width.Half offset v = record { operands = refl; bodies = refl; next = omega arith }
+parameter_object_same k width.Word offset v = record { operands = refl; bodies = refl; next = omega arith }
+
 module _ (d : Addresses) where
   mutual
     pub stmt_same : (s : Stmt) → IsBuiltStmt s → UsesValuesStmt s → (to : Targets) (l t : ℕ) (v : View) →
@@ -33,6 +56,9 @@ module _ (d : Addresses) where
         subst (Same v) (sym (after_append vo io v))
         (same_on v v1 (after_ops io v1) (items_same vars ok.0 uses.0 to l t v) (items_same items ok.1 uses.1 to _ _ v1))
     stmt_same (Variable i) ok uses to l t v = record { operands = refl; bodies = refl; next = omega arith }
+    stmt_same (Object offset words) ok uses to l t v = record { operands = refl; bodies = refl; next = omega arith }
+    stmt_same (Parameter k width) ok uses to l t v = parameter_same k width v
+    stmt_same (ParameterObject k width offset) ok uses to l t v = parameter_object_same k width offset v
     stmt_same (If e s) ok uses to l t v =
         let eo = expr_ops d e (l + 1) t in
         let so = stmt_ops d s to (l + 1 + labels_in e) (t + temps_in e) in
@@ -161,7 +187,6 @@ module _ (d : Addresses) where
     stmt_same Break ok uses to l t v = record { operands = refl; bodies = refl; next = omega arith }
     stmt_same Continue ok uses to l t v = record { operands = refl; bodies = refl; next = omega arith }
     stmt_same Return ok uses to l t v = record { operands = refl; bodies = refl; next = omega arith }
-    stmt_same _ ok uses to l t v = absurd ok
 
     pub items_same : (is : Items) → AreBuiltItems is → UseValuesItems is → (to : Targets) (l t : ℕ) (v : View) →
         Same v (after_ops (items_ops d is to l t) v)

@@ -69,7 +69,8 @@ module _ (site : Site) (scope : Scope) (inside : Within scope site.named) where
       let V = Leaves false site from scope (after_ops rest v1) stack spare credit in
       subst (λ v2. Follows site.machine from (Leaves false site from scope v2 stack spare credit) (IsBack site from)
       (eval site.context (Lib Putint a) w)) (sym (after_append ao rest v))
-      (one_run site scope inside a part is ok l t st tn v stack fits (stands_front code ao rest v at) from spare credit w
+      (one_run site scope inside a part is ok l t st tn v stack fits (stands_front code ao rest v at) from spare credit
+      w
       lt z V (λ x w1. spend 0 (with_shared (put_number x w1.shared) w1))
       (λ x w1 fits1 h.
       let a1 = top v1.operands in
@@ -106,7 +107,8 @@ module _ (site : Site) (scope : Scope) (inside : Within scope site.named) where
       let V = Leaves false site from scope (after_ops rest v1) stack spare credit in
       subst (λ v2. Follows site.machine from (Leaves false site from scope v2 stack spare credit) (IsBack site from)
       (eval site.context (Lib Exit a) w)) (sym (after_append ao rest v))
-      (one_run site scope inside a part is ok l t st tn v stack fits (stands_front code ao rest v at) from spare credit w
+      (one_run site scope inside a part is ok l t st tn v stack fits (stands_front code ao rest v at) from spare credit
+      w
       lt z V (λ x w1. Ends (Ended (Done (x % 256))) w1.shared)
       (λ x w1 fits1 h.
       let a1 = top v1.operands in

@@ -1,5 +1,5 @@
 -- How many ops and registers the lowering of a function has.
-use Rattle.std.proofs.Common.{◌≡◌, ℕ, ◌+◌, ◌*◌, ◌≤◌, Bool, true, false, List, [], ◌∷◌, ◌++◌, length, refl, arith}
+use Rattle.std.proofs.Common.{◌≡◌, ℕ, ◌+◌, ◌*◌, ◌≤◌, Bool, true, false, List, [], ◌∷◌, ◌++◌, length, refl, arith, ◌-◌}
 use Rattle.std.proofs.Common.{length-append}
 use Rattle.word32.specs.declared.width.Width.{Width}
 use Rattle.word32.specs.declared.width.Width.TheVariants as width
@@ -12,19 +12,21 @@ use Rattle.icode_ir.specs.declared.build_op.BuildOp.{BuildOp}
 use Rattle.icode_ir.specs.declared.build_op.BuildOp.TheVariants.{Const, Bin, Un, Enter, Leave, GetVariable}
 use Rattle.icode_ir.specs.declared.build_op.BuildOp.TheVariants.{SetVariable, Drop, Pick, Label, Jump, BranchZero}
 use Rattle.icode_ir.specs.declared.build_op.BuildOp.TheVariants.{BranchNonzero, Return, ReturnZero, Sys}
-use Rattle.icode_ir.specs.Build.{Build, empty, operand, finished}
+use Rattle.icode_ir.specs.Build.{Build, empty, operand, finished, arguments}
 use Rattle.icode_ir.specs.Rules.{effect}
 use Rattle.icode_ir.specs.Runs.{run_ops}
 use Rattle.icode_ir.specs.Sound.{Each}
 use Rattle.icode_ir.proofs.Sounds.{Each-append}
 use Rattle.icode_ir.proofs.Wholes.{whole}
+use Rattle.icode_ops.specs.declared.kind.RunKind.TheVariants as run
+use Rattle.typed_tree.specs.declared.expression.Answer.TheVariants as answer
 use Rattle.typed_tree.specs.Nodes as node
 use Rattle.typed_tree.specs.declared.expression.Library.TheVariants as library
 use Rattle.typed_tree.specs.Nodes.{Expr, Stmt, Items, has_value}
 use Rattle.staged_meaning.specs.Size.{size_of, size_of_expr, size_of_stmt, size_of_items, labels, labels_in, labels_of}
-use Rattle.staged_meaning.specs.Size.{temps, temps_in, temps_of, variables_in}
+use Rattle.staged_meaning.specs.Size.{temps, temps_in, temps_of, variables_in, size_of_args}
 use Rattle.staged_meaning.specs.Placed.{outside}
-use Rattle.staged_meaning.specs.Scope.{no_scope, IsBuilt, IsBuiltStmt, AreBuiltItems, IsReady}
+use Rattle.staged_meaning.specs.Scope.{no_scope, IsBuilt, IsBuiltStmt, AreBuiltItems, IsReady, AreBuilt}
 use Rattle.tick_lower_proof.specs.Lower.{Addresses, expr_ops, Targets, stmt_ops, items_ops, nowhere, function_ops}
 use Rattle.tick_lower_proof.specs.Lower.{dropping, keeping, kept, narrowing, joins, test_ops, default_label}
 use Rattle.tick_lower_proof.specs.Laws.{IsSmall}
@@ -35,6 +37,14 @@ use Rattle.tick_lower_proof.proofs.StmtDepths.{stmt_deep, stmt_total}
 use Rattle.tick_lower_proof.proofs.Counts.{few_temps}
 use Rattle.tick_lower_proof.proofs.FunctionOps.{accepted}
 use Rattle.tick_lower_proof.proofs.Sounds.{IsUsed, run_sound, empty_sound}
+use Rattle.icode_ir.specs.declared.build_op.BuildOp.TheVariants.{Nip, Load, Store, Call, CallNumber, Run, FrameAddress}
+use Rattle.icode_ir.specs.declared.build_op.BuildOp.TheVariants.{Clear, Parameter}
+use Rattle.icode_ir.proofs.Passing.{arguments-length}
+use Rattle.std.proofs.lemmas.List.{length-drop}
+use Rattle.std.specs.Prelude.{drop}
+use Rattle.typed_tree.specs.declared.expression.Answer.{Answer}
+use Rattle.tick_lower_proof.specs.Lower.{args_ops, dropping_call}
+use Rattle.icode_ops.specs.declared.kind.BinKind.TheVariants.{Add}
 
 -- the registers that an op makes
 abbrev pub makes : BuildOp → ℕ
@@ -43,6 +53,15 @@ makes (Bin kind) = 1
 makes (Un kind) = 1
 makes (GetVariable i) = 1
 makes (Sys kind) = 1
+makes Nip = 0
+makes (Load width) = 1
+makes (Store width) = 0
+makes (Call address k) = 1
+makes (CallNumber k) = 1
+makes (Run routine) = 1
+makes (FrameAddress offset) = 1
+makes (Clear offset words) = 0
+makes (Parameter k) = 1
 makes (Enter n m) = n
 makes _ = 0
 
@@ -145,6 +164,43 @@ adds Return b used = record { ops = omega (arith, one_more b.ops (op.Return (ope
 adds ReturnZero b used = record { ops = omega (arith, one_more b.ops op.ReturnZero); registers = omega arith }
 adds (Sys kind) b used = record
     { ops = omega (arith, one_more b.ops (op.Sys kind b.registers (operand 0 b))); registers = refl }
+adds Nip b used = record { ops = omega arith; registers = omega arith }
+adds (Load width) b used =
+    record { ops = omega (arith, one_more b.ops (op.Load width b.registers (operand 0 b))); registers = refl }
+adds (Store width) b used =
+    record { ops = omega (arith, one_more b.ops (op.Store width (operand 1 b) (operand 0 b))); registers = omega arith }
+adds (Call address k) b used = record {
+  ops = omega (
+    arith,
+    one_more ((b.ops ++ arguments 0 (drop (length b.operands - k) b.operands)) ++ op.Call address ∷ [])
+        (op.Result b.registers),
+    one_more (b.ops ++ arguments 0 (drop (length b.operands - k) b.operands)) (op.Call address),
+    length-append b.ops (arguments 0 (drop (length b.operands - k) b.operands)),
+    arguments-length 0 (drop (length b.operands - k) b.operands),
+    length-drop (length b.operands - k) b.operands,
+  );
+  registers = refl;
+}
+adds (CallNumber k) b used = record {
+  ops = omega (
+    arith,
+    one_more ((b.ops ++ arguments 0 (drop (length b.operands - k) b.operands)) ++ op.CallNumber (operand k b) k ∷ [])
+        (op.Result b.registers),
+    one_more (b.ops ++ arguments 0 (drop (length b.operands - k) b.operands)) (op.CallNumber (operand k b) k),
+    length-append b.ops (arguments 0 (drop (length b.operands - k) b.operands)),
+    arguments-length 0 (drop (length b.operands - k) b.operands),
+    length-drop (length b.operands - k) b.operands,
+  );
+  registers = refl;
+}
+adds (Run routine) b used =
+    record { ops = omega (arith, one_more b.ops (op.Run routine b.registers (operand 0 b))); registers = refl }
+adds (FrameAddress offset) b used =
+    record { ops = omega (arith, one_more b.ops (op.FrameAddress b.registers offset)); registers = refl }
+adds (Clear offset words) b used =
+    record { ops = omega (arith, one_more b.ops (op.Clear offset words)); registers = omega arith }
+adds (Parameter k) b used =
+    record { ops = omega (arith, one_more b.ops (op.GetParameter b.registers k)); registers = refl }
 adds _ b used = absurd used
 
 pub record AddsAll (os : List BuildOp) (b : Build) : Type 0 where
@@ -174,6 +230,15 @@ used_of n m (BranchNonzero i) h ok = tt
 used_of n m Return h ok = tt
 used_of n m ReturnZero h ok = tt
 used_of n m (Sys kind) h ok = tt
+used_of n m Nip h ok = tt
+used_of n m (Load width) h ok = tt
+used_of n m (Store width) h ok = tt
+used_of n m (Call address k) h ok = tt
+used_of n m (CallNumber k) h ok = tt
+used_of n m (Run routine) h ok = tt
+used_of n m (FrameAddress offset) h ok = tt
+used_of n m (Clear offset words) h ok = tt
+used_of n m (Parameter k) h ok = tt
 used_of n m _ h ok = absurd ok
 
 all_used : (n m : ℕ) (os : List BuildOp) (h h' : ℕ) → DeepTo n m os h h' → Each IsUsed os
@@ -200,97 +265,167 @@ narrowing_made width.SignedHalf = omega arith
 narrowing_made width.Half = omega arith
 narrowing_made width.Word = omega arith
 
+made_calling : (a : Answer) → made (dropping_call a) ≡ 0
+made_calling answer.Value = refl
+made_calling answer.Void = refl
+
 -- at most ten registers a node, beside the variables
 module _ (d : Addresses) where
-  expr_made : (e : Expr) → IsBuilt e → (l t : ℕ) → made (expr_ops d e l t) ≤ 10 * size_of_expr e
-  expr_made (node.Const w) built l t = omega arith
-  expr_made (node.Var i) built l t = omega arith
-  expr_made (node.SetVar i a) built l t =
-      omega (arith, expr_made a built l t, made_append (expr_ops d a l t) (SetVariable i ∷ []))
-  expr_made (node.PostVar i width step) built l t =
-      omega (arith, narrowing_made width, made_append (narrowing width) (SetVariable i ∷ Drop ∷ []))
-  expr_made (node.Bin k x y) built l t =
-      let yo = expr_ops d y (l + labels_in x) (t + temps_in x) in
-      omega (
-        arith,
-        expr_made x built.0 l t,
-        expr_made y built.1 (l + labels_in x) (t + temps_in x),
-        made_append (expr_ops d x l t) (yo ++ Bin k ∷ []),
-        made_append yo (Bin k ∷ []),
-      )
-  expr_made (node.Un k a) built l t =
-      omega (arith, expr_made a built l t, made_append (expr_ops d a l t) (Un k ∷ []))
-  expr_made (node.And a b) built l t =
-      let ao = expr_ops d a (l + 2) (t + 1) in
-      let bo = expr_ops d b (l + 2 + labels_in a) (t + 1 + temps_in a) in
-      let rest = BranchZero l ∷ joins 1 0 l (l + 1) t in
-      omega (
-        arith,
-        expr_made a built.0 (l + 2) (t + 1),
-        expr_made b built.1 (l + 2 + labels_in a) (t + 1 + temps_in a),
-        made_append ao (BranchZero l ∷ (bo ++ rest)),
-        made_append bo rest,
-      )
-  expr_made (node.Or a b) built l t =
-      let ao = expr_ops d a (l + 2) (t + 1) in
-      let bo = expr_ops d b (l + 2 + labels_in a) (t + 1 + temps_in a) in
-      let rest = BranchNonzero l ∷ joins 0 1 l (l + 1) t in
-      omega (
-        arith,
-        expr_made a built.0 (l + 2) (t + 1),
-        expr_made b built.1 (l + 2 + labels_in a) (t + 1 + temps_in a),
-        made_append ao (BranchNonzero l ∷ (bo ++ rest)),
-        made_append bo rest,
-      )
-  expr_made (node.Cond c a b) built l t =
-      let has = has_value a in
-      let la = l + 2 + labels_in c in
-      let ta = t + 1 + temps_in c in
-      let co = expr_ops d c (l + 2) (t + 1) in
-      let ao = expr_ops d a la ta in
-      let bo = expr_ops d b (la + labels_in a) (ta + temps_in a) in
-      let K = keeping has t in
-      let rest5 = Label (l + 1) ∷ kept has t in
-      let rest2 = Jump (l + 1) ∷ Label l ∷ (bo ++ (K ++ rest5)) in
-      omega (
-        arith,
-        expr_made c built.0 (l + 2) (t + 1),
-        expr_made a built.1 la ta,
-        expr_made b built.2 (la + labels_in a) (ta + temps_in a),
-        keeping_made has t,
-        kept_made has t,
-        made_append co (BranchZero l ∷ (ao ++ (K ++ rest2))),
-        made_append ao (K ++ rest2),
-        made_append K rest2,
-        made_append bo (K ++ rest5),
-        made_append K rest5,
-      )
-  expr_made (node.Comma a b) built l t =
-      let D = dropping (has_value a) in
-      let bo = expr_ops d b (l + labels_in a) (t + temps_in a) in
-      omega (
-        arith,
-        expr_made a built.0 l t,
-        expr_made b built.1 (l + labels_in a) (t + temps_in a),
-        dropping_made (has_value a),
-        made_append (expr_ops d a l t) (D ++ bo),
-        made_append D bo,
-      )
-  expr_made (node.Void a) built l t =
-      omega (
-        arith,
-        expr_made a built l t,
-        dropping_made (has_value a),
-        made_append (expr_ops d a l t) (dropping (has_value a)),
-      )
-  expr_made node.Getchar built l t = omega arith
-  expr_made (node.Lib library.Putchar a) built l t =
-      omega (arith, expr_made a built l t, made_append (expr_ops d a l t) (Sys sys.PutByte ∷ []))
-  expr_made (node.Lib library.Putint a) built l t =
-      omega (arith, expr_made a built l t, made_append (expr_ops d a l t) (Sys sys.PutInteger ∷ Drop ∷ []))
-  expr_made (node.Lib library.Exit a) built l t =
-      omega (arith, expr_made a built l t, made_append (expr_ops d a l t) (Sys sys.Exit ∷ Drop ∷ []))
-  expr_made _ built l t = absurd built
+  mutual
+    expr_made : (e : Expr) → IsBuilt e → (l t : ℕ) → made (expr_ops d e l t) ≤ 10 * size_of_expr e
+    expr_made (node.Const w) built l t = omega arith
+    expr_made (node.Var i) built l t = omega arith
+    expr_made (node.SetVar i a) built l t =
+        omega (arith, expr_made a built l t, made_append (expr_ops d a l t) (SetVariable i ∷ []))
+    expr_made (node.PostVar i width step) built l t =
+        omega (arith, narrowing_made width, made_append (narrowing width) (SetVariable i ∷ Drop ∷ []))
+    expr_made (node.Bin k x y) built l t =
+        let yo = expr_ops d y (l + labels_in x) (t + temps_in x) in
+        omega (
+          arith,
+          expr_made x built.0 l t,
+          expr_made y built.1 (l + labels_in x) (t + temps_in x),
+          made_append (expr_ops d x l t) (yo ++ Bin k ∷ []),
+          made_append yo (Bin k ∷ []),
+        )
+    expr_made (node.Un k a) built l t =
+        omega (arith, expr_made a built l t, made_append (expr_ops d a l t) (Un k ∷ []))
+    expr_made (node.And a b) built l t =
+        let ao = expr_ops d a (l + 2) (t + 1) in
+        let bo = expr_ops d b (l + 2 + labels_in a) (t + 1 + temps_in a) in
+        let rest = BranchZero l ∷ joins 1 0 l (l + 1) t in
+        omega (
+          arith,
+          expr_made a built.0 (l + 2) (t + 1),
+          expr_made b built.1 (l + 2 + labels_in a) (t + 1 + temps_in a),
+          made_append ao (BranchZero l ∷ (bo ++ rest)),
+          made_append bo rest,
+        )
+    expr_made (node.Or a b) built l t =
+        let ao = expr_ops d a (l + 2) (t + 1) in
+        let bo = expr_ops d b (l + 2 + labels_in a) (t + 1 + temps_in a) in
+        let rest = BranchNonzero l ∷ joins 0 1 l (l + 1) t in
+        omega (
+          arith,
+          expr_made a built.0 (l + 2) (t + 1),
+          expr_made b built.1 (l + 2 + labels_in a) (t + 1 + temps_in a),
+          made_append ao (BranchNonzero l ∷ (bo ++ rest)),
+          made_append bo rest,
+        )
+    expr_made (node.Cond c a b) built l t =
+        let has = has_value a in
+        let la = l + 2 + labels_in c in
+        let ta = t + 1 + temps_in c in
+        let co = expr_ops d c (l + 2) (t + 1) in
+        let ao = expr_ops d a la ta in
+        let bo = expr_ops d b (la + labels_in a) (ta + temps_in a) in
+        let K = keeping has t in
+        let rest5 = Label (l + 1) ∷ kept has t in
+        let rest2 = Jump (l + 1) ∷ Label l ∷ (bo ++ (K ++ rest5)) in
+        omega (
+          arith,
+          expr_made c built.0 (l + 2) (t + 1),
+          expr_made a built.1 la ta,
+          expr_made b built.2 (la + labels_in a) (ta + temps_in a),
+          keeping_made has t,
+          kept_made has t,
+          made_append co (BranchZero l ∷ (ao ++ (K ++ rest2))),
+          made_append ao (K ++ rest2),
+          made_append K rest2,
+          made_append bo (K ++ rest5),
+          made_append K rest5,
+        )
+    expr_made (node.Comma a b) built l t =
+        let D = dropping (has_value a) in
+        let bo = expr_ops d b (l + labels_in a) (t + temps_in a) in
+        omega (
+          arith,
+          expr_made a built.0 l t,
+          expr_made b built.1 (l + labels_in a) (t + temps_in a),
+          dropping_made (has_value a),
+          made_append (expr_ops d a l t) (D ++ bo),
+          made_append D bo,
+        )
+    expr_made (node.Void a) built l t =
+        omega (
+          arith,
+          expr_made a built l t,
+          dropping_made (has_value a),
+          made_append (expr_ops d a l t) (dropping (has_value a)),
+        )
+    expr_made node.Getchar built l t = omega arith
+    expr_made (node.Lib library.Putchar a) built l t =
+        omega (arith, expr_made a built l t, made_append (expr_ops d a l t) (Sys sys.PutByte ∷ []))
+    expr_made (node.Lib library.Putint a) built l t =
+        omega (arith, expr_made a built l t, made_append (expr_ops d a l t) (Sys sys.PutInteger ∷ Drop ∷ []))
+    expr_made (node.Lib library.Exit a) built l t =
+        omega (arith, expr_made a built l t, made_append (expr_ops d a l t) (Sys sys.Exit ∷ Drop ∷ []))
+    expr_made (node.Frame offset) built l t = omega arith
+    expr_made (node.Load width a) built l t =
+        omega (arith, expr_made a built l t, made_append (expr_ops d a l t) (Load width ∷ []))
+    expr_made (node.Store width x y) built l t =
+        let yo = expr_ops d y (l + labels_in x) (t + temps_in x) in
+        omega (
+          arith,
+          expr_made x built.0 l t,
+          expr_made y built.1 (l + labels_in x) (t + temps_in x),
+          made_append (expr_ops d x l t) (yo ++ Store width ∷ []),
+          made_append yo (Store width ∷ []),
+        )
+    expr_made (node.Modify width k x y) built l t =
+        let yo = expr_ops d y (l + labels_in x) (t + temps_in x) in
+        let rest = Bin k ∷ (narrowing width ++ Store width ∷ []) in
+        omega (
+          arith,
+          expr_made x built.0 l t,
+          expr_made y built.1 (l + labels_in x) (t + temps_in x),
+          narrowing_made width,
+          made_append (expr_ops d x l t) (Pick 0 ∷ Load width ∷ (yo ++ rest)),
+          made_append yo rest,
+          made_append (narrowing width) (Store width ∷ []),
+        )
+    expr_made (node.Post width step a) built l t =
+        let end = Store width ∷ Drop ∷ Nip ∷ [] in
+        omega (
+          arith,
+          expr_made a built l t,
+          narrowing_made width,
+          made_append (expr_ops d a l t)
+              (Pick 0 ∷ Load width ∷ Pick 1 ∷ Pick 1 ∷ Const step ∷ Bin Add ∷ (narrowing width ++ end)),
+          made_append (narrowing width) end,
+        )
+    expr_made (node.Call answer f args) built l t =
+        omega (
+          arith,
+          made_args args built l t,
+          made_calling answer,
+          made_append (args_ops d args l t) (Call (d.function_at f) (node.count args) ∷ dropping_call answer),
+        )
+    expr_made (node.CallNumber answer a args) built l t =
+        let ro = args_ops d args (l + labels_in a) (t + temps_in a) in
+        let rest = CallNumber (node.count args) ∷ dropping_call answer in
+        omega (
+          arith,
+          expr_made a built.0 l t,
+          made_args args built.1 (l + labels_in a) (t + temps_in a),
+          made_calling answer,
+          made_append (expr_ops d a l t) (ro ++ rest),
+          made_append ro rest,
+        )
+    expr_made (node.Lib library.Malloc a) built l t =
+        omega (arith, expr_made a built l t, made_append (expr_ops d a l t) (Run run.Malloc ∷ []))
+    expr_made _ built l t = absurd built
+
+    made_args : (args : node.Args) → AreBuilt args → (l t : ℕ) → made (args_ops d args l t) ≤ 10 * size_of_args args
+    made_args node.NoArg built l t = omega arith
+    made_args (node.Arg a args) built l t =
+        let ro = args_ops d args (l + labels_in a) (t + temps_in a) in
+        omega (
+          arith,
+          expr_made a built.0 l t,
+          made_args args built.1 (l + labels_in a) (t + temps_in a),
+          made_append (expr_ops d a l t) ro,
+        )
 
   -- of one whose value, if there is one, is taken away
   eval_made : (e : Expr) → IsBuilt e → (l t : ℕ) →
@@ -314,6 +449,11 @@ module _ (d : Addresses) where
           made_append (items_ops d vars to l t) (items_ops d items to (l + labels_of vars) (t + temps_of vars)),
         )
     stmt_made (node.Variable i) built to l t = omega arith
+    stmt_made (node.Object offset words) built to l t = omega arith
+    stmt_made (node.Parameter k width) built to l t =
+        omega (arith, narrowing_made width, made_append (narrowing width) (SetVariable k ∷ Drop ∷ []))
+    stmt_made (node.ParameterObject k width offset) built to l t =
+        omega (arith, narrowing_made width, made_append (narrowing width) (Store width ∷ Drop ∷ []))
     stmt_made (node.If e s) built to l t =
         let so = stmt_ops d s to (l + 1 + labels_in e) (t + temps_in e) in
         omega (
@@ -419,7 +559,6 @@ module _ (d : Addresses) where
     stmt_made node.Break built to l t = omega arith
     stmt_made node.Continue built to l t = omega arith
     stmt_made node.Return built to l t = omega arith
-    stmt_made _ built to l t = absurd built
 
     items_made : (is : Items) → AreBuiltItems is → (to : Targets) (l t : ℕ) →
         made (items_ops d is to l t) ≤ 10 * size_of_items is

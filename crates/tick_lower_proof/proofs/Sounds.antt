@@ -1,9 +1,9 @@
 -- A builder keeps what every builder keeps, with each op that it takes.
 use Rattle.std.proofs.Common.{◌≡◌, ℕ, ◌+◌, ◌-◌, ◌<◌, ◌≤◌, Bool, true, false, List, [], ◌∷◌, ◌++◌, length, Option, Some}
 use Rattle.std.proofs.Common.{None, refl, arith}
-use Rattle.std.specs.Prelude.{slice_index_or, nat_lt, nat_le, ◌&&◌, ◌==◌, if◌then◌else◌, take}
+use Rattle.std.specs.Prelude.{slice_index_or, nat_lt, nat_le, ◌&&◌, ◌==◌, if◌then◌else◌, take, drop}
 use Rattle.std.proofs.lemmas.Bool.Decides.{nat_tests}
-use Rattle.std.proofs.lemmas.List.{length-take}
+use Rattle.std.proofs.lemmas.List.{length-take, length-drop, length-append}
 use Rattle.icode_ops.specs.declared.op.Op.{Op}
 use Rattle.icode_ops.specs.declared.op.Op.TheVariants as op
 use Rattle.icode_ops.specs.declared.kind.BinKind.{BinKind}
@@ -17,14 +17,17 @@ use Rattle.icode_ir.specs.declared.build_op.BuildOp.TheVariants.{BranchNonzero, 
 use Rattle.icode_ir.specs.declared.build_op.BuildFault.{BuildFault}
 use Rattle.icode_ir.specs.declared.build_op.BuildFault.TheVariants.{Underflow, BadLabel, BadVariable, Full}
 use Rattle.icode_ir.specs.Build.{Build, empty, no_body, innermost, operand, variable, label, stands, of_body, has_open}
-use Rattle.icode_ir.specs.Build.{add, yield, without}
+use Rattle.icode_ir.specs.Build.{add, yield, without, arguments, pass}
 use Rattle.icode_ir.specs.Rules.{needs, labelled, owned, has_room, fits, has_body_room, checks, checked, fault_of}
 use Rattle.icode_ir.specs.Rules.{effect}
 use Rattle.icode_ir.specs.Runs.{run_ops, AreTaken}
 use Rattle.icode_ir.specs.Sound.{Each, IsPlain, IsBody, IsSound}
 use Rattle.limits.specs.declared.ops.TheConstants.{OP_LIMIT}
-use Rattle.icode_ir.proofs.Sounds.{Each-at, grown, cut, pushed, jump-sound, label-sound}
+use Rattle.icode_ir.proofs.Sounds.{Each-at, grown, cut, pushed, jump-sound, label-sound, Each-drop}
 use Rattle.icode_ir.proofs.Enclosing.{enter-sound, leave-sound}
+use Rattle.icode_ir.specs.declared.build_op.BuildOp.TheVariants.{Nip, Load, Store, Call, CallNumber, Run, FrameAddress}
+use Rattle.icode_ir.specs.declared.build_op.BuildOp.TheVariants.{Clear, Parameter}
+use Rattle.icode_ir.proofs.Passing.{arguments-length, arguments-plain}
 
 -- the tests that a taken op has passed
 pub both_true : (a b : Bool) → (a && b) ≡ true → (a ≡ true) × (b ≡ true)
@@ -154,6 +157,29 @@ module _ (b : Build) (i : IsSound b) (left right : ℕ) (l : left < b.registers)
       checked_first bin.RemainderUnsigned (op.CheckZero right) zero_check (omega (arith, room)) few
   bin_sound kind room few = bin_after kind b i refl refl (omega (arith, room)) few
 
+-- a call, behind its arguments; of what lies below them m operands go too
+call_sound : (b : Build) → IsSound b → (k : ℕ) (o : Op) (m : ℕ) → IsPlain b.registers o → k + m ≤ length b.operands →
+    length b.prelude + length b.ops + (k + 2) ≤ OP_LIMIT → length b.operands - (k + m) + 1 ≤ OP_LIMIT →
+    IsSound (yield (op.Result b.registers) m (add o (pass k b)))
+call_sound b i k o m plain some room few =
+    let n = length b.operands - k in
+    let rs = drop n b.operands in
+    let args = arguments 0 rs in
+    let count : length args ≡ k = omega (arith, arguments-length 0 rs, length-drop n b.operands, some) in
+    let b1 : Build = record b { ops = b.ops ++ args } in
+    let s1 : IsSound b1 = grown b args b.registers i (omega arith) (omega arith)
+    (arguments-plain b.registers 0 rs (Each-drop (λ r. r < b.registers) n b.operands i.operands))
+    (omega (arith, room, count)) in
+    let s2 : IsSound (pass k b) = without_sound b1 s1 k in
+    let n1 = length-append b.ops args in
+    let s3 = add_sound (pass k b) s2 o plain (omega (arith, room, n1, count)) in
+    let b3 = add o (pass k b) in
+    let n3 = length-append (b.ops ++ args) (o ∷ []) in
+    yield_sound b3 s3 (op.Result b.registers) m
+    (plain_op (b.registers + 1) (op.Result b.registers) (omega arith, tt, tt) refl refl)
+    (omega (arith, room, n1, n3, count))
+    (omega (arith, length-take (length b3.operands - m) b3.operands, length-take n b.operands, few, some))
+
 -- the ops of the lowering
 abbrev pub IsUsed : BuildOp → Type 0
 IsUsed (Const word) = Unit {0}
@@ -172,6 +198,15 @@ IsUsed (BranchNonzero i) = Unit {0}
 IsUsed Return = Unit {0}
 IsUsed ReturnZero = Unit {0}
 IsUsed (Sys kind) = Unit {0}
+IsUsed Nip = Unit {0}
+IsUsed (Load width) = Unit {0}
+IsUsed (Store width) = Unit {0}
+IsUsed (Call address k) = Unit {0}
+IsUsed (CallNumber k) = Unit {0}
+IsUsed (Run routine) = Unit {0}
+IsUsed (FrameAddress offset) = Unit {0}
+IsUsed (Clear offset words) = Unit {0}
+IsUsed (Parameter k) = Unit {0}
 IsUsed _ = ⊥
 
 body_room : (n m : ℕ) (b : Build) → fault_of (Enter n m) b ≡ None →
@@ -297,6 +332,61 @@ effect_sound (Sys kind) b used i e =
     (plain_op (b.registers + 1) (op.Sys kind b.registers (operand 0 b)) (omega arith, omega (arith, low), tt) refl
     refl) room.0
     (left_few b i 1 (length b.operands) (omega (arith, one.0)) room.1)
+effect_sound Nip b used i e =
+    let two = needs_of 2 b None e in
+    pushed (without 2 b) (operand 0 b) (without_sound b i 2) (operand_low b i 0 (omega (arith, two.0)))
+    (left_few b i 2 (length b.operands) (omega (arith, two.0)) i.few_operands)
+effect_sound (Load width) b used i e =
+    let one = needs_of 1 b (fits 1 (length b.operands) b) e in
+    let room = room_of 1 (length b.operands) b one.1 in
+    let low = operand_low b i 0 (omega (arith, one.0)) in
+    yield_sound b i (op.Load width b.registers (operand 0 b)) 1
+    (plain_op (b.registers + 1) (op.Load width b.registers (operand 0 b)) (omega arith, omega (arith, low), tt) refl
+    refl) room.0
+    (left_few b i 1 (length b.operands) (omega (arith, one.0)) room.1)
+effect_sound (Store width) b used i e =
+    let two = needs_of 2 b (fits 1 (length b.operands - 1) b) e in
+    let room = room_of 1 (length b.operands - 1) b two.1 in
+    let low = operand_low b i 0 (omega (arith, two.0)) in
+    let o = op.Store width (operand 1 b) (operand 0 b) in
+    let s = add_sound b i o
+    (plain_op b.registers o (tt, operand_low b i 1 (omega (arith, two.0)), low) refl refl) room.0 in
+    pushed (without 2 (add o b)) (operand 0 b) (without_sound (add o b) s 2) low
+    (left_few (add o b) s 2 (length b.operands - 1) (omega (arith, two.0)) room.1)
+effect_sound (Call address k) b used i e =
+    let some = needs_of k b (fits (k + 2) (length b.operands - k + 1) b) e in
+    let room = room_of (k + 2) (length b.operands - k + 1) b some.1 in
+    call_sound b i k (op.Call address) 0 (plain_op b.registers (op.Call address) (tt, tt, tt) refl refl)
+    (omega (arith, some.0)) room.0
+    (omega (arith, room.1))
+effect_sound (CallNumber k) b used i e =
+    let some = needs_of (k + 1) b (fits (k + 2) (length b.operands - k) b) e in
+    let room = room_of (k + 2) (length b.operands - k) b some.1 in
+    let low = operand_low b i k some.0 in
+    call_sound b i k (op.CallNumber (operand k b) k) 1
+    (plain_op b.registers (op.CallNumber (operand k b) k) (tt, low, tt) refl refl) (omega (arith, some.0)) room.0
+    (omega (arith, some.0, room.1))
+effect_sound (Run routine) b used i e =
+    let one = needs_of 1 b (fits 1 (length b.operands) b) e in
+    let room = room_of 1 (length b.operands) b one.1 in
+    let low = operand_low b i 0 (omega (arith, one.0)) in
+    yield_sound b i (op.Run routine b.registers (operand 0 b)) 1
+    (plain_op (b.registers + 1) (op.Run routine b.registers (operand 0 b)) (omega arith, omega (arith, low), tt) refl
+    refl) room.0
+    (left_few b i 1 (length b.operands) (omega (arith, one.0)) room.1)
+effect_sound (FrameAddress offset) b used i e =
+    let room = room_of 1 (length b.operands + 1) b e in
+    yield_sound b i (op.FrameAddress b.registers offset) 0
+    (plain_op (b.registers + 1) (op.FrameAddress b.registers offset) (omega arith, tt, tt) refl refl) room.0
+    (left_few b i 0 (length b.operands + 1) (omega arith) room.1)
+effect_sound (Clear offset words) b used i e =
+    let room = room_of 1 (length b.operands) b e in
+    add_sound b i (op.Clear offset words) (plain_op b.registers (op.Clear offset words) (tt, tt, tt) refl refl) room.0
+effect_sound (Parameter k) b used i e =
+    let room = room_of 1 (length b.operands + 1) b e in
+    yield_sound b i (op.GetParameter b.registers k) 0
+    (plain_op (b.registers + 1) (op.GetParameter b.registers k) (omega arith, tt, tt) refl refl) room.0
+    (left_few b i 0 (length b.operands + 1) (omega arith) room.1)
 effect_sound _ b used i e = absurd used
 
 pub run_sound : (os : List BuildOp) (b : Build) → Each IsUsed os → AreTaken os b → IsSound b → IsSound (run_ops os b)

@@ -1,6 +1,7 @@
 -- Where the machine stands within a call, what it has paid by then, and what it is to follow an expression.
 use Rattle.std.proofs.Common.{◌≡◌, ℕ, ◌+◌, ◌*◌, ◌<◌, ◌≤◌, List, ◌∷◌, Bool, true, false, ap, ◌∙◌, subst, arith}
 use Rattle.icode_ir.specs.declared.body.Body.{Body}
+use Rattle.limits.specs.declared.program.TheConstants.{FRAME_OBJECT_BYTES}
 use Rattle.typed_tree.specs.Nodes.{Expr, has_value}
 use Rattle.staged_meaning.specs.Size.{temps_in}
 use Rattle.staged_meaning.specs.Scope.{Scope, IsScoped}
@@ -10,6 +11,7 @@ use Rattle.icode_meaning.specs.State.{Program, Log}
 use Rattle.icode_meaning.specs.Steps.{back, left, label_index}
 use Rattle.tick_lower_proof.specs.Lower.{Addresses, expr_ops}
 use Rattle.tick_lower_proof.proofs.Machine.{Goes, goes_none, goes_more, Here, Regs, at_op}
+use Rattle.tick_lower_proof.proofs.Stacks.{IsWhole, IsSound, goes_sound}
 use Rattle.tick_lower_proof.proofs.Builder.{View, inner, top, after_ops, Stands, Pushes}
 use Rattle.tick_lower_proof.proofs.Pushes.{Bringing}
 use Rattle.tick_lower_proof.proofs.Follow.{From, Later, Follows, spend_follows}
@@ -34,10 +36,39 @@ pub record Site : Type 0 where
   pub named : ℕ
   pub size : ℕ
   pub few : named ≤ size
+  -- a call has fewer units than this, and no fewer turns
+  pub limit : ℕ
+  pub turning : limit ≤ context.turns
 
 -- the first register that is none of the body's variables
 abbrev pub floor_of : Site → ℕ
 floor_of site = base_of site.bodies + site.size
+
+-- the frame objects of the call are those of the meaning, and within their limit
+pub record IsHoused (site : Site) : Type 0 where
+  pub object_is : site.context.object ≡ site.call.function.object
+  pub few_object : site.call.function.object ≤ FRAME_OBJECT_BYTES
+  pub whole : IsWhole site.machine
+
+-- a way in the site may be measured from here
+pub record IsOutset (site : Site) (from : From) : Type 0 where
+  pub few : from.units < site.limit
+  pub sound : IsSound from.state
+  pub housed : IsHoused site
+
+-- and from a later place
+pub outset_later : (site : Site) (from later : From) (spare credit : ℕ) →
+    Later site.machine from later spare credit → IsOutset site from → IsOutset site later
+outset_later site from later spare credit l on =
+    record {
+      few = omega (arith, l.fewer, on.few);
+      sound = goes_sound on.housed.whole l.goes on.sound;
+      housed = on.housed;
+    }
+
+-- fewer units than turns
+pub fewer_turns : (site : Site) (from : From) (n : ℕ) → n ≤ from.units → IsOutset site from → n < site.context.turns
+fewer_turns site from n le on = let few = on.few in let more = site.turning in omega (arith, le, few, more)
 
 -- the builder is in the site's bodies, and operands that hold values lie below its next register
 pub record Fits (site : Site) (v : View) (stack : List (ℕ × ℕ)) : Type 0 where
@@ -81,7 +112,7 @@ ExprRuns site scope e =
     IsScoped scope e → (l t : ℕ) → site.named ≤ t → t + temps_in e ≤ site.size →
     (v : View) (stack : List (ℕ × ℕ)) → Fits site v stack →
     Stands site.call.function.ops (expr_ops site.addresses e l t) v →
-    (from : From) (spare credit : ℕ) (w : World) → from.units < site.context.turns →
+    (from : From) (spare credit : ℕ) (w : World) → IsOutset site from →
     At site from scope v.place stack spare credit 0 w →
     Follows site.machine from
     (Leaves (has_value e) site from scope (after_ops (expr_ops site.addresses e l t) v) stack spare credit)

@@ -3,7 +3,9 @@
 use Rattle.std.proofs.Common.{◌≡◌, ℕ, suc, ◌+◌, ◌*◌, ◌<◌, ◌≤◌, List, [], ◌∷◌, ◌++◌, Bool, true, false}
 use Rattle.std.proofs.Common.{refl, arith}
 use Rattle.icode_ir.specs.declared.build_op.BuildOp.TheVariants.{SetVariable, Drop, Label, Jump, BranchZero}
-use Rattle.icode_ir.specs.declared.build_op.BuildOp.TheVariants.{BranchNonzero, Return}
+use Rattle.icode_ir.specs.declared.build_op.BuildOp.TheVariants.{BranchNonzero, Return, Store}
+use Rattle.tick_lower_proof.specs.Lower.{narrowing}
+use Rattle.tick_lower_proof.proofs.Deep.{narrowed_deep, few_narrowing}
 use Rattle.typed_tree.specs.Nodes as node
 use Rattle.typed_tree.specs.Nodes.{Stmt, Items, has_value}
 use Rattle.staged_meaning.specs.Size.{size_of_stmt, size_of_items, labels_in, labels, labels_of, temps_in, temps}
@@ -63,6 +65,20 @@ module _ (d : Addresses) (src n m : ℕ) (sn : src ≤ n) where
         (l + labels_of vars) (t + temps_of vars) (omega arith) (omega arith) h)
     stmt_deep scope inside (node.Variable i) built uses ok a placed vs to aims l t tn lm h =
         (tt, ((omega arith, omega arith), (omega arith, refl)))
+    stmt_deep scope inside (node.Object offset words) built uses ok a placed vs to aims l t tn lm h = (tt, refl)
+    stmt_deep scope inside (node.Parameter k width) built uses ok a placed vs to aims l t tn lm h = (
+      tt,
+      deep_append n m (narrowing width) (SetVariable k ∷ Drop ∷ []) (suc h) (suc h) h (narrowed_deep n m width h)
+          ((omega arith, omega arith), (omega arith, refl)),
+    )
+    stmt_deep scope inside (node.ParameterObject k width offset) built uses ok a placed vs to aims l t tn lm h = (
+      tt,
+      (
+        tt,
+        deep_append n m (narrowing width) (Store width ∷ Drop ∷ []) (suc (suc h)) (suc (suc h)) h
+            (narrowed_deep n m width (suc h)) (omega arith, (omega arith, refl)),
+      ),
+    )
     stmt_deep scope inside (node.If e s) built uses ok a placed vs to aims l t tn lm h =
         let so = stmt_ops d s to (l + 1 + labels_in e) (t + temps_in e) in
         deep_append n m (expr_ops d e (l + 1) t) (BranchZero l ∷ (so ++ Label l ∷ [])) h (suc h) h
@@ -212,7 +228,6 @@ module _ (d : Addresses) (src n m : ℕ) (sn : src ≤ n) where
     stmt_deep scope inside node.Break built uses ok a placed vs to aims l t tn lm h = (aims.on_break placed, refl)
     stmt_deep scope inside node.Continue built uses ok a placed vs to aims l t tn lm h = (aims.on_continue placed, refl)
     stmt_deep scope inside node.Return built uses ok a placed vs to aims l t tn lm h = (tt, refl)
-    stmt_deep scope inside _ built uses ok a placed vs to aims l t tn lm h = absurd built
 
     pub items_deep : (scope : Scope) → Within scope src → (is : Items) → AreBuiltItems is → UseValuesItems is →
         AreScopedItems scope is → (a : Allowed) → ArePlaced a is → variables_of is ≤ src → (to : Targets) →
@@ -241,6 +256,11 @@ module _ (d : Addresses) where
           total_append (items_ops d vars to l t) (items_ops d items to (l + labels_of vars) (t + temps_of vars)),
         )
     stmt_total (node.Variable i) built to l t = omega arith
+    stmt_total (node.Object offset words) built to l t = omega arith
+    stmt_total (node.Parameter k width) built to l t =
+        omega (arith, few_narrowing width, total_append (narrowing width) (SetVariable k ∷ Drop ∷ []))
+    stmt_total (node.ParameterObject k width offset) built to l t =
+        omega (arith, few_narrowing width, total_append (narrowing width) (Store width ∷ Drop ∷ []))
     stmt_total (node.If e s) built to l t =
         let so = stmt_ops d s to (l + 1 + labels_in e) (t + temps_in e) in
         omega (
@@ -348,7 +368,6 @@ module _ (d : Addresses) where
     stmt_total node.Break built to l t = omega arith
     stmt_total node.Continue built to l t = omega arith
     stmt_total node.Return built to l t = omega arith
-    stmt_total _ built to l t = absurd built
 
     pub items_total : (is : Items) → AreBuiltItems is → (to : Targets) (l t : ℕ) →
         total (items_ops d is to l t) ≤ 12 * size_of_items is

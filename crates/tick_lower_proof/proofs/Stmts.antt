@@ -20,11 +20,14 @@ use Rattle.tick_lower_proof.proofs.Machine.{Goes, then_op, put}
 use Rattle.tick_lower_proof.proofs.Builder.{View, top, after_ops, after_append, Stands, stands_front, stands_back}
 use Rattle.tick_lower_proof.proofs.Follow.{From, Follows, follows_then, follows_less}
 use Rattle.tick_lower_proof.proofs.Registers.{Within, set_vars, in_wider, within_more, held_below}
-use Rattle.tick_lower_proof.proofs.Standing.{base_of, Site, floor_of, Fits, At, IsBack, spend_run}
+use Rattle.tick_lower_proof.proofs.Standing.{base_of, Site, floor_of, Fits, At, IsBack, spend_run, IsOutset}
 use Rattle.tick_lower_proof.proofs.Standing as standing
 use Rattle.tick_lower_proof.proofs.Exprs.{op_put, one_run, drop_run}
 use Rattle.tick_lower_proof.proofs.Ways.{Labelled, Left, Runs}
-use Rattle.tick_lower_proof.proofs.Expressions.{part_of, expr_run}
+use Rattle.tick_lower_proof.proofs.Expressions.{expr_run, expr_part}
+use Rattle.tick_lower_proof.proofs.Callers.{CallsFollow}
+use Rattle.staged_meaning.specs.Calls.{HasCalls}
+use Rattle.staged_meaning.specs.Frames.{HasFrames}
 
 pub max_left : (a b c : ℕ) → max a b ≤ c → a ≤ c
 max_left a b c h = omega (arith, h)
@@ -61,20 +64,21 @@ pub declarations_placed : (is : Items) (a : Allowed) → a.labels ≡ false → 
 declarations_placed NoItem a e h = tt
 declarations_placed (Item (Variable i) is) a e h = (e, declarations_placed is a e h.1)
 declarations_placed (Item (Object offset words) is) a e h = (tt, declarations_placed is a e h.1)
-declarations_placed (Item (Parameter k width) is) a e h = (e, declarations_placed is a e h.1)
-declarations_placed (Item (ParameterObject k width offset) is) a e h = (tt, declarations_placed is a e h.1)
 declarations_placed (Item s is) a e h = absurd h.0
 
-module _ (site : Site) (labelled : Labelled site.call.function.ops) where
+module _ (site : Site) (labelled : Labelled site.call.function.ops)
+    (calls : CallsFollow site.machine site.addresses site.context.program.functions site.context.call site.limit) where
   -- an expression whose value, if there is one, is not used
   pub eval_run : (scope : Scope) → Within scope site.named → (stack : List (ℕ × ℕ)) (e : Expr) → IsBuilt e →
-      UsesValues e → IsScoped scope e → (l t : ℕ) → site.named ≤ t → t + temps_in e ≤ site.size → (v : View)
+      UsesValues e → HasCalls site.context.program.functions e →
+      HasFrames site.context.object e → IsScoped scope e → (l t : ℕ) → site.named ≤ t → t + temps_in e ≤ site.size →
+      (v : View)
       (br co : Option ℕ) → Fits site v stack →
       Stands site.call.function.ops (expr_ops site.addresses e l t ++ dropping (has_value e)) v →
       Runs site scope scope stack (exec site.context (Eval e)) v.place
       (after_ops (expr_ops site.addresses e l t ++ dropping (has_value e)) v).place br co
   unfolding Runs
-  eval_run scope inside stack e built uses ok l t st tn v br co fits at from spare credit w lt enough z =
+  eval_run scope inside stack e built uses fit lie ok l t st tn v br co fits at from spare credit w lt enough z =
       let eo = expr_ops site.addresses e l t in
       let d = dropping (has_value e) in
       let v1 = after_ops eo v in
@@ -83,42 +87,47 @@ module _ (site : Site) (labelled : Labelled site.call.function.ops) where
       (follows_then site.machine from (standing.Leaves (has_value e) site from scope v1 stack spare credit)
       (Left site from scope scope stack spare credit (after_ops d v1).place br co) (IsBack site from)
       (eval site.context e w) (λ x w1. Gives Normal w1)
-      (expr_run site labelled scope inside e built uses ok l t st tn v stack fits
+      (expr_run site labelled scope inside calls e built uses fit lie ok l t st tn v stack fits
       (stands_front site.call.function.ops eo d v at) from spare credit w lt z)
       (λ x w1 h. drop_run site scope inside from (has_value e) v1 stack spare credit x w1 h))
 
   -- the same, from each place at which the machine comes to it
   pub dropped_run : (scope : Scope) → Within scope site.named → (stack : List (ℕ × ℕ)) (e : Expr) → IsBuilt e →
-      UsesValues e → IsScoped scope e → (l t : ℕ) → site.named ≤ t → t + temps_in e ≤ site.size → (v : View) →
+      UsesValues e → HasCalls site.context.program.functions e →
+      HasFrames site.context.object e → IsScoped scope e → (l t : ℕ) → site.named ≤ t → t + temps_in e ≤ site.size →
+      (v : View) →
       Fits site v stack → Stands site.call.function.ops (expr_ops site.addresses e l t) v →
-      (from : From) (spare credit : ℕ) (w : World) → from.units < site.context.turns →
+      (from : From) (spare credit : ℕ) (w : World) → IsOutset site from →
       At site from scope v.place stack spare credit 0 w →
       Follows site.machine from
       (λ x w1. At site from scope
       (after_ops (dropping (has_value e)) (after_ops (expr_ops site.addresses e l t) v)).place stack spare credit 0 w1)
       (IsBack site from) (eval site.context e w)
-  dropped_run scope inside stack e built uses ok l t st tn v fits at from spare credit w lt z =
+  dropped_run scope inside stack e built uses fit lie ok l t st tn v fits at from spare credit w lt z =
       let v1 = after_ops (expr_ops site.addresses e l t) v in
       follows_less site.machine from (standing.Leaves (has_value e) site from scope v1 stack spare credit)
       (λ x w1. At site from scope (after_ops (dropping (has_value e)) v1).place stack spare credit 0 w1)
       (IsBack site from) (eval site.context e w)
       (λ x w1 h. drop_run site scope inside from (has_value e) v1 stack spare credit x w1 h)
-      (expr_run site labelled scope inside e built uses ok l t st tn v stack fits at from spare credit w lt z)
+      (expr_run site labelled scope inside calls e built uses fit lie ok l t st tn v stack fits at from spare credit w
+      lt z)
 
   pub return_run : (scope : Scope) → Within scope site.named → (stack : List (ℕ × ℕ)) (e : Expr) → IsBuilt e →
-      UsesValues e → Leaves e →
+      UsesValues e → HasCalls site.context.program.functions e →
+      HasFrames site.context.object e → Leaves e →
       IsScoped scope e → (l t : ℕ) → site.named ≤ t → t + temps_in e ≤ site.size →
       (v : View) (e' : ℕ) (br co : Option ℕ) → Fits site v stack →
       Stands site.call.function.ops (expr_ops site.addresses e l t ++ build.Return ∷ []) v →
       Runs site scope scope stack (exec site.context (ReturnValue e)) v.place e' br co
   unfolding Runs
-  return_run scope inside stack e built uses is ok l t st tn v e' br co fits at from spare credit w lt enough z =
+  return_run scope inside stack e built uses fit lie is ok l t st tn v e' br co fits at from spare credit w lt enough z
+      =
       let code = site.call.function.ops in
       let eo = expr_ops site.addresses e l t in
       let v1 = after_ops eo v in
       let here = (stands_back code eo (build.Return ∷ []) v at).0.0 in
       one_run site scope inside e
-      (part_of site labelled scope inside e built uses (expr_run site labelled scope inside e built uses)) is ok l t st
+      (expr_part site labelled scope inside calls e built uses fit lie) is ok l t st
       tn v stack fits (stands_front code eo (build.Return ∷ []) v at) from spare credit w lt z
       (Left site from scope scope stack spare credit e' br co) (λ x w1. Returns x w1)
       (λ x w1 fits1 h.

@@ -22,11 +22,13 @@ use Rattle.icode_meaning.specs.Steps.{paid, branch, label_index}
 use Rattle.tick_lower_proof.specs.Lower.{expr_ops, Targets, items_ops}
 use Rattle.tick_lower_proof.proofs.Machine.{Goes, then_op, at_op, put, put_same}
 use Rattle.tick_lower_proof.proofs.Builder.{View, inner, top, after_ops, Stands, stands_front, stands_back}
-use Rattle.tick_lower_proof.proofs.Follow.{From, Later, Follows, follows_then, follows_from}
+use Rattle.tick_lower_proof.proofs.Follow.{From, Later, Follows, follows_then, follows_less, follows_from}
+use Rattle.tick_lower_proof.proofs.Objects.{object_left}
+use Rattle.staged_meaning.specs.Frames.{HaveFramesItems}
 use Rattle.tick_lower_proof.proofs.Registers.{Within, AreHeld, AreBetween, put_vars, set_vars, held_above, held_below}
 use Rattle.tick_lower_proof.proofs.Registers.{between_more, within_more}
 use Rattle.tick_lower_proof.proofs.Standing.{base_of, Site, floor_of, Fits, At, IsBack, Part, at_less, at_narrow}
-use Rattle.tick_lower_proof.proofs.Standing.{at_from, back_from, spend_run, fits_on}
+use Rattle.tick_lower_proof.proofs.Standing.{at_from, back_from, spend_run, fits_on, IsOutset, outset_later}
 use Rattle.tick_lower_proof.proofs.Exprs.{one_run}
 use Rattle.tick_lower_proof.proofs.Ways.{Labelled, Left, LeftAt, Runs, pass_label, take_jump, at_place, left_at}
 use Rattle.tick_lower_proof.proofs.Ways.{left_before}
@@ -170,7 +172,7 @@ module _ (site : Site) (t : ℕ) (above : site.named ≤ t) (own : t < site.size
     -- what is to follow the tests of a switch whose value is x: 2 instructions are over for the jump behind them
     unfoldable pub CaseRuns : ℕ → (World → Result Flow) → (p e : ℕ) (br co : Option ℕ) → Type 0
     CaseRuns x act p e br co =
-        (from : From) (spare credit : ℕ) (w : World) → from.units < site.context.turns → 16 ≤ credit →
+        (from : From) (spare credit : ℕ) (w : World) → IsOutset site from → 16 ≤ credit →
         At site from scope p (keeps site t x stack) spare (credit + 2) 0 w →
         Follows site.machine from (Left site from scope scope stack spare credit e br co) (IsBack site from) (act w)
 
@@ -189,7 +191,7 @@ module _ (site : Site) (t : ℕ) (above : site.named ≤ t) (own : t < site.size
     -- the unit of a test, and the way by what it found
     case_split : (x lp p4 e : ℕ) (br co : Option ℕ) (behind next : World → Result Flow) →
         Runs site scope scope stack behind lp e br co → CaseRuns x next p4 e br co →
-        (same : Bool) (from : From) (spare credit : ℕ) (w : World) → from.units < site.context.turns → 16 ≤ credit →
+        (same : Bool) (from : From) (spare credit : ℕ) (w : World) → IsOutset site from → 16 ≤ credit →
         At site from scope (branch (truth (not same)) lp p4) (keeps site t x stack) (spare + 12) (credit + 2) 32 w →
         Follows site.machine from (Left site from scope scope stack spare credit e br co) (IsBack site from)
         (then_do (spend Normal w) (λ fl w1. if same then behind w1 else next w1))
@@ -289,7 +291,7 @@ module _ (site : Site) (t : ℕ) (above : site.named ≤ t) (own : t < site.size
       (top (after_ops (expr_ops site.addresses e le te) v).operands)) →
       (declare : World → Result Flow) (cases : ℕ → World → Result Flow) (p2 pe l : ℕ) →
       slice_get site.call.function.ops pe ≡ Some (op.Label l) → (br co : Option ℕ) →
-      ((from : From) (x spare credit : ℕ) (w : World) →
+      ((from : From) (x spare credit : ℕ) (w : World) → IsOutset site from →
       At site from xs (suc (after_ops (expr_ops site.addresses e le te) v).place) (keeps site t x stack) spare credit 0
       w →
       Follows site.machine from (Declared site from ys p2 (keeps site t x stack) spare credit) (IsBack site from)
@@ -311,7 +313,7 @@ module _ (site : Site) (t : ℕ) (above : site.named ≤ t) (own : t < site.size
       (keep_value xs inside from v1 (spare + 1) (credit + 128) x w1 fits1 here h) in
       follows_then site.machine from
       (Declared site from ys p2 (keeps site t x stack) (spare + 3) (credit + 121)) Q (IsBack site from) (declare w1)
-      (then_next (λ w2. then_do (cases x w2) switch_end)) (declared from x (spare + 3) (credit + 121) w1 z1)
+      (then_next (λ w2. then_do (cases x w2) switch_end)) (declared from x (spare + 3) (credit + 121) w1 lt z1)
       (λ fl w2 y. on_flow x fl w2 y))
     where
       lp : ℕ
@@ -362,7 +364,7 @@ module _ (site : Site) (t : ℕ) (above : site.named ≤ t) (own : t < site.size
           let C = keeps site t x stack in
           let later = ahead site p2 y.regs y.log w2.units 18 in
           let l1 = later_ahead site ys p2 C from (spare + 3) (credit + 121) 18 (credit + 103) w2 y (omega arith) in
-          let lt1 : w2.units < site.context.turns = omega (arith, y.fewer) in
+          let lt1 = outset_later site from later (spare + 3) (credit + 103) l1 lt in
           follows_then site.machine from Done (Left site from xs xs stack spare credit (suc pe) br co)
           (IsBack site from)
           (cases x w2) switch_end
@@ -378,7 +380,7 @@ module _ (site : Site) (t : ℕ) (above : site.named ≤ t) (own : t < site.size
 -- what stands among labels declares nothing
 pub kept_scope : (s : Stmt) (scope : Scope) (a : Allowed) → IsPlaced a s → a.labels ≡ true → scope_of s scope ≡ scope
 kept_scope (Variable i) scope a placed here = let no : false ≡ true = sym placed ∙ here in absurd cc
-kept_scope (Parameter k width) scope a placed here = let no : false ≡ true = sym placed ∙ here in absurd cc
+kept_scope (Parameter k width) scope a placed here = let no : false ≡ true = sym placed.0 ∙ here in absurd cc
 kept_scope _ scope a placed here = refl
 
 behind_declared : (site : Site) (from : From) (scope : Scope) (p : ℕ) (C : List (ℕ × ℕ)) (spare credit : ℕ)
@@ -390,19 +392,29 @@ behind_declared site from scope p C spare credit Q next h Normal w y = h w y
 behind_declared site from scope p C spare credit Q next h Broke w y = absurd y
 behind_declared site from scope p C spare credit Q next h Continued w y = absurd y
 
+-- what is left by its end alone
+left_declared : (site : Site) (from : From) (scope : Scope) (p : ℕ) (C : List (ℕ × ℕ)) (spare credit : ℕ) (fl : Flow)
+    (w : World) → Left site from scope scope C spare credit p None None fl w →
+    Declared site from scope p C spare credit fl w
+left_declared site from scope p C spare credit Normal w h = h
+left_declared site from scope p C spare credit Broke w h = h
+left_declared site from scope p C spare credit Continued w h = h
+
 -- declarations, one after another
 module _ (site : Site) (t : ℕ) (above : site.named ≤ t) (own : t < site.size) (stack : List (ℕ × ℕ)) where
   pub declarations_run : (scope : Scope) → Within scope site.named → (is : Items) → AreDeclarations is →
-      AreBuiltItems is → variables_of is ≤ site.named → (to : Targets) (l u : ℕ) (v : View) → Fits site v stack →
+      AreBuiltItems is → HaveFramesItems site.context.object is → variables_of is ≤ site.named →
+      (to : Targets) (l u : ℕ) (v : View) → Fits site v stack →
       Stands site.call.function.ops (items_ops site.addresses is to l u) v →
-      (from : From) (x spare credit : ℕ) (w : World) →
+      (from : From) (x spare credit : ℕ) (w : World) → IsOutset site from →
       At site from scope v.place (keeps site t x stack) spare credit 0 w →
       Follows site.machine from
       (Declared site from (scope_after is scope) (after_ops (items_ops site.addresses is to l u) v).place
       (keeps site t x stack) spare credit)
       (IsBack site from) (exec_items site.context is w)
-  declarations_run scope inside NoItem declares built vs to l u v fits at from x spare credit w z = z
-  declarations_run scope inside (Item (Variable i) is) declares built vs to l u v fits at from x spare credit w z =
+  declarations_run scope inside NoItem declares built lie vs to l u v fits at from x spare credit w on z = z
+  declarations_run scope inside (Item (Variable i) is) declares built lie vs to l u v fits at from x spare credit w on
+      z =
       let code = site.call.function.ops in
       let ops = build.Const 0 ∷ build.SetVariable i ∷ build.Drop ∷ [] in
       let rest = items_ops site.addresses is to (l + labels (Variable i)) (u + temps (Variable i)) in
@@ -419,13 +431,30 @@ module _ (site : Site) (t : ℕ) (above : site.named ≤ t) (own : t < site.size
       (exec_items site.context is)
       (λ w1 y.
       declarations_run (update i true scope) (within_more i site.named scope (omega (arith, vs)) inside) is
-      declares.1 built.1 (omega (arith, vs)) to (l + labels (Variable i)) (u + temps (Variable i)) v1
-      (fits_on site v v1 stack refl (omega arith) fits) (stands_back code ops rest v at) from x spare credit w1 y))
-  declarations_run scope inside (Item (Object offset words) is) declares built vs to l u v fits at from x spare credit w
-      z = absurd built.0
-  declarations_run scope inside (Item (Parameter k width) is) declares built vs to l u v fits at from x spare credit w
-      z = absurd built.0
-  declarations_run scope inside (Item (ParameterObject k width offset) is) declares built vs to l u v fits at from x
-      spare credit w z = absurd built.0
-  declarations_run scope inside (Item s is) declares built vs to l u v fits at from x spare credit w z =
+      declares.1 built.1 lie.1 (omega (arith, vs)) to (l + labels (Variable i)) (u + temps (Variable i)) v1
+      (fits_on site v v1 stack refl (omega arith) fits) (stands_back code ops rest v at) from x spare credit w1 on y))
+  declarations_run scope inside (Item (Object offset words) is) declares built lie vs to l u v fits at from x spare
+      credit w on z =
+      let code = site.call.function.ops in
+      let ops = build.Clear offset words ∷ [] in
+      let rest = items_ops site.addresses is to (l + labels (Object offset words)) (u + temps (Object offset words)) in
+      let v1 = after_ops ops v in
+      let C = keeps site t x stack in
+      follows_then site.machine from
+      (Declared site from scope v1.place C spare credit)
+      (Declared site from (scope_after is scope) (after_ops rest v1).place C spare credit)
+      (IsBack site from) (exec site.context (Object offset words) w) (then_next (exec_items site.context is))
+      (follows_less site.machine from (Left site from scope scope C spare credit v1.place None None)
+      (Declared site from scope v1.place C spare credit) (IsBack site from) (exec site.context (Object offset words) w)
+      (left_declared site from scope v1.place C spare credit)
+      (object_left site scope inside from offset words built.0 lie.0 v C spare credit None None w
+      (stands_front code ops rest v at) on z))
+      (behind_declared site from scope v1.place C spare credit
+      (Declared site from (scope_after is scope) (after_ops rest v1).place C spare credit)
+      (exec_items site.context is)
+      (λ w1 y.
+      declarations_run scope inside is declares.1 built.1 lie.1 (omega (arith, vs)) to
+      (l + labels (Object offset words)) (u + temps (Object offset words)) v1
+      (fits_on site v v1 stack refl (omega arith) fits) (stands_back code ops rest v at) from x spare credit w1 on y))
+  declarations_run scope inside (Item s is) declares built lie vs to l u v fits at from x spare credit w on z =
       absurd declares.0

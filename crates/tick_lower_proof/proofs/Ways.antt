@@ -10,7 +10,7 @@ use Rattle.staged_meaning.specs.Meaning.{then_next}
 use Rattle.icode_meaning.specs.Steps.{paid, branch, label_index}
 use Rattle.tick_lower_proof.proofs.Machine.{Goes, then_op, at_op}
 use Rattle.tick_lower_proof.proofs.Follow.{From, Later, Follows, follows_then, follows_less}
-use Rattle.tick_lower_proof.proofs.Standing.{Site, At, IsBack, at_less, at_narrow, at_from}
+use Rattle.tick_lower_proof.proofs.Standing.{Site, At, IsBack, at_less, at_narrow, at_from, IsOutset}
 
 -- a label is where its place is
 pub record Labelled (code : List Op) : Type 0 where
@@ -37,7 +37,7 @@ Left site from scope scope' stack spare credit on_end on_break on_continue Conti
 unfoldable pub Runs : Site → (scope scope' : Scope) → List (ℕ × ℕ) → (World → Result Flow) → (p e : ℕ) →
     (br co : Option ℕ) → Type 0
 Runs site scope scope' stack act p e br co =
-    (from : From) (spare credit : ℕ) (w : World) → from.units < site.context.turns → 16 ≤ credit →
+    (from : From) (spare credit : ℕ) (w : World) → IsOutset site from → 16 ≤ credit →
     At site from scope p stack spare credit 0 w →
     Follows site.machine from (Left site from scope scope' stack spare credit e br co) (IsBack site from) (act w)
 
@@ -139,7 +139,8 @@ module _ (site : Site) (from : From) where
 
   -- a break or a continue is seen from a wider scope
   pub left_at : (xs ys : Scope) → ((i : ℕ) → ys i ≡ true → xs i ≡ true) →
-      (stack : List (ℕ × ℕ)) (to : Option ℕ) (w : World) → LeftAt site from xs stack to w → LeftAt site from ys stack to w
+      (stack : List (ℕ × ℕ)) (to : Option ℕ) (w : World) → LeftAt site from xs stack to w → LeftAt site from ys stack
+      to w
   left_at xs ys wider stack None w h = h
   left_at xs ys wider stack (Some place) w h = at_narrow site from xs ys place stack 1 0 0 w wider h
 

@@ -1,12 +1,12 @@
 -- The staged machine follows the meaning at a cost of 512 for a unit, and 4,000.
-use Rattle.std.proofs.Common.{◌≡◌, ℕ, ◌+◌, ◌*◌, ◌%◌, ◌≤◌, [], Some, None, refl, sym, ap, ◌∙◌, arith}
+use Rattle.std.proofs.Common.{◌≡◌, ℕ, ◌+◌, ◌*◌, ◌%◌, ◌≤◌, [], Some, None, refl, sym, ap, ◌∙◌, arith, suc}
 use Rattle.std.specs.Fn.{iterate}
 use Rattle.host_edge.specs.declared.ending.Ending.TheVariants.{Done}
 use Rattle.history.specs.Events.{End, Ended, Input}
 use Rattle.pace.specs.Claims.{FollowsAtCost}
 use Rattle.meaning_state.specs.Shared.{charged, discharged}
 use Rattle.staged_meaning.specs.Size.{size_of, charge_of}
-use Rattle.staged_meaning.specs.Scope.{IsReady}
+use Rattle.staged_meaning.specs.Scope.{IsReady, IsReadyIn}
 use Rattle.staged_meaning.specs.World.{World, Result, Gives, Returns, Ends, Stops}
 use Rattle.staged_meaning.specs.Meaning as meaning
 use Rattle.staged_meaning.specs.Meaning.{call_body, entered, leaves, charging, finish, main_context, at_start, begins}
@@ -19,9 +19,11 @@ use Rattle.tick_lower_proof.proofs.Machine.{Goes, goes_none, Here}
 use Rattle.tick_lower_proof.proofs.Follow.{From, Follows, EndsAt, IsRunning, follows_then}
 use Rattle.tick_lower_proof.proofs.Standing.{IsBack}
 use Rattle.tick_lower_proof.proofs.Calls.{IsCode, site, call_run}
+use Rattle.tick_lower_proof.proofs.Depths.{AreHeld, calls_at}
 
 module _ (P : Program) (d : Addresses) (program : meaning.Program) (input : Input) (main : Function)
-    (ready : IsReady program.main) (code : IsCode d program.main main.ops)
+    (ready : IsReadyIn program.functions program.main) (held : AreHeld P d program.functions)
+    (no_parameters : program.main.parameters ≡ 0) (code : IsCode d program.main main.ops)
     (charge_is : main.charge ≡ charge_of (size_of program.main)) (object_is : main.object ≡ program.main.object) where
   abbrev start : State
   start = first main (at_start program input)
@@ -57,10 +59,24 @@ module _ (P : Program) (d : Addresses) (program : meaning.Program) (input : Inpu
       let object = program.main.object in
       let V : ℕ → World → Type 0 = λ v w1. EndsAt P from (Ended (Done (v % 256))) w1.shared in
       follows_then P from V (λ v w. ⊥) (λ v w. ⊥) (charging charge object (call_body c program.main []) w) finish
-      (follows_then P from (IsBack (site P c d here program.main code) from) V (λ v w. ⊥)
+      (follows_then P from (IsBack (site P c d here program.main code m (omega arith)) from) V (λ v w. ⊥)
       (call_body c program.main [] (entered charge object w)) (leaves charge object w)
-      (call_run P c d here program.main code ready [] from (log_at 1) (entered charge object w) (omega arith)
-      charge_same (goes_none P start) (omega arith) (omega arith) (omega arith))
+      (call_run P c d here program.main code m (omega arith) ready ready.frames
+      (calls_at P d program held (suc m) m (omega arith)) []
+      (λ j lt. absurd (omega (arith, lt, no_parameters))) from (log_at 1)
+      (entered charge object w) (omega arith)
+      (record {
+        plain = record { none_compiled = refl; few_frames = omega (arith, object_is, ready.short) };
+        stacked = (
+          (ap (λ x. x % 4) object_is ∙ ready.whole, tt),
+          (let sum : 0 + main.object ≡ main.object + 0 = omega arith in sum),
+        );
+      })
+      (record {
+        object_is = sym object_is;
+        few_object = omega (arith, object_is, ready.short);
+        whole = held.whole;
+      }) charge_same (goes_none P start) (omega arith) (omega arith) (omega arith))
       (λ v w1 h. record {
         log = left main h.log;
         goes = h.goes;

@@ -1,7 +1,7 @@
 -- What is promised of the lowering: the builder takes all of it, and the staged machine runs what comes of it as the
 -- tree means, at a cost of 512 instructions for a unit of work. The expansion of these ops keeps to the same costs, so
 -- both facts together give the headline's pace. These are the project's own.
-use Rattle.std.specs.Prelude.{◌≡◌, ℕ, ◌+◌, ◌*◌, ◌≤◌, [], List, length}
+use Rattle.std.specs.Prelude.{◌≡◌, ℕ, ◌+◌, ◌*◌, ◌%◌, ◌≤◌, [], List, length, Option, Some, None}
 use Rattle.std.specs.Fn.{iterate}
 use Rattle.pace.specs.Claims.{FollowsAtCost}
 use Rattle.history.specs.Events.{Input}
@@ -11,9 +11,10 @@ use Rattle.icode_ir.specs.Build.{empty, finished}
 use Rattle.icode_ir.specs.Runs.{run_ops, AreTaken}
 use Rattle.typed_tree.specs.Nodes as node
 use Rattle.staged_meaning.specs.Size.{size_of, charge_of}
-use Rattle.staged_meaning.specs.Scope.{IsReady}
+use Rattle.staged_meaning.specs.Scope.{IsReady, IsReadyIn}
 use Rattle.staged_meaning.specs.Meaning as meaning
 use Rattle.staged_meaning.specs.Meaning.{at_start, meant}
+use Rattle.meaning_state.specs.Rows.{numbered}
 use Rattle.icode_meaning.specs.State.{Function, Program, State, see, least_at, most_at}
 use Rattle.icode_meaning.specs.Steps.{advance, first}
 use Rattle.tick_lower_proof.specs.Lower.{Addresses, function_ops}
@@ -54,6 +55,32 @@ pub record Stands (addresses : Addresses) (function : node.Function) (main : Fun
   pub charge : main.charge ≡ charge_of (size_of function)
   pub object : main.object ≡ function.object
 
+-- the staged machine has a function of the text at its address
+pub record HasAt (machine : Program) (addresses : Addresses) (number : ℕ) (function : node.Function) : Type 0 where
+  pub has : Function
+  pub is : machine.function_at (addresses.function_at number) ≡ Some has
+  pub stands : Stands addresses function has
+
+-- the row of a number: the address of the function that has it, and how many parameters it has
+abbrev pub row_for : (address : ℕ) → Option node.Function → Option (ℕ × ℕ)
+row_for address None = None
+row_for address (Some function) = Some (address, function.parameters)
+
+-- The staged machine has each of these functions at its address, and a row for it; it has no row else. The frame
+-- objects of all its functions are whole words.
+pub record HasFunctions (machine : Program) (addresses : Addresses) (functions : List node.Function) : Type 0 where
+  pub at : (number : ℕ) (function : node.Function) → numbered number functions ≡ Some function →
+      HasAt machine addresses number function
+  pub rows : (number : ℕ) → machine.row number ≡ row_for (addresses.function_at number) (numbered number functions)
+  pub whole : (address : ℕ) (f : Function) → machine.function_at address ≡ Some f → f.object % 4 ≡ 0
+
+-- a program of functions that are ready, whose main has no parameters
+pub record AreReady (program : meaning.Program) : Type 0 where
+  pub main : IsReadyIn program.functions program.main
+  pub no_parameters : program.main.parameters ≡ 0
+  pub functions : (number : ℕ) (function : node.Function) → numbered number program.functions ≡ Some function →
+      IsReadyIn program.functions function
+
 -- the state after so many ops
 abbrev pub state_at : Program → meaning.Program → Input → Function → ℕ → State
 state_at machine program input main i = iterate (advance machine) i (first main (at_start program input))
@@ -62,7 +89,7 @@ state_at machine program input main i = iterate (advance machine) i (first main 
 abbrev pub LoweringFollows : Type 0
 LoweringFollows =
     (machine : Program) (addresses : Addresses) (program : meaning.Program) (input : Input) (main : Function) →
-    IsReady program.main → Stands addresses program.main main →
+    AreReady program → Stands addresses program.main main → HasFunctions machine addresses program.functions →
     FollowsAtCost UNIT_INSTRUCTIONS START_OPS_INSTRUCTIONS (meant program input)
     (λ i. see (state_at machine program input main i))
     (λ i. least_at (state_at machine program input main i)) (λ i. most_at (state_at machine program input main i))

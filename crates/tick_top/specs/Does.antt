@@ -53,7 +53,7 @@ Answered old new e outcome = IsBare e outcome × Silent old new
 abbrev pub Runs : (steps : ℕ) → Outside → Outside → Ended → ImageParts → Type 0
 Runs steps old new e image = SameFiles old.file new.file × RanImage steps image old.left new.left old.taken new.taken e
 
--- the image of the text ran; the headline holds for it, as under every other legal choice of places of main
+-- the image of the text ran; the headline holds for it, as under every other legal choice of its functions' places
 pub record RunsProgram (steps : ℕ) (old new : Outside) (e : Ended) (text : List ℕ) (program : Program) : Type 0 where
   pub image : ImageParts
   pub lowering : Lowered text image
@@ -91,7 +91,7 @@ pub record SavesImage (path : List ℕ) (old new : Files) (e : Ended) (image : I
   pub others : SameOtherFiles path old new
 
 -- the image of the text, which is the one that runs, was saved; the headline holds for it, as under every other legal
--- choice of places of main
+-- choice of its functions' places
 pub record SavesProgram (path : List ℕ) (old new : Files) (e : Ended) (text : List ℕ) (program : Program) : Type 0 where
   pub image : ImageParts
   pub lowering : Lowered text image

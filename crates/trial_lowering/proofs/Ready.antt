@@ -1,4 +1,4 @@
--- The function main of a program that runs so far is ready to be lowered, and has few parameters.
+-- The function main of a program that runs so far is ready to be lowered.
 use Rattle.std.proofs.Common.{◌≡◌, ℕ, zero, suc, ◌-◌, ◌<◌, ◌≤◌, List, [], ◌∷◌, length, map, get_or, Option, None, Some}
 use Rattle.std.proofs.Common.{refl, subst, sym, arith}
 use Rattle.std.specs.Option.{option_map}
@@ -7,20 +7,19 @@ use Rattle.meaning_state.specs.Rows.{numbered}
 use Rattle.typed_tree.specs.declared.program.Function.{Function}
 use Rattle.wellformed.specs.declared.typed.Typed.{Typed}
 use Rattle.wellformed.specs.Program.{IsWellFormed}
-use Rattle.limits.specs.declared.program.TheConstants.{MOST_ARGUMENTS}
 use Rattle.typed_tree.specs.Nodes as node
 use Rattle.typed_tree.specs.View.{function_view}
-use Rattle.staged_meaning.specs.Scope.{IsReady}
+use Rattle.staged_meaning.specs.Scope.{IsReadyIn}
 use Rattle.static_image.specs.Served.{IsStatic}
 use Rattle.built_programs.specs.Built.{Main, built}
 use Rattle.built_programs.specs.Laws.{MeetsBackend, BuiltIsStatic}
 
 -- a member of a list of functions is such a one
-each_at : (fs : List Function) (k : ℕ) (f : Function) → k < length fs → f ≡ get_or fs k f →
-    Each IsStatic (map function_view fs) → IsStatic (function_view f)
-each_at [] k f low is h = absurd (omega (arith, low))
-each_at (g ∷ fs) zero f low is h = subst (λ (x : Function). IsStatic (function_view x)) (sym is) h.0
-each_at (g ∷ fs) (suc k) f low is h = each_at fs k f (omega (arith, low)) is h.1
+each_at : (gs : List node.Function) (fs : List Function) (k : ℕ) (f : Function) → k < length fs → f ≡ get_or fs k f →
+    Each (IsStatic gs) (map function_view fs) → IsStatic gs (function_view f)
+each_at gs [] k f low is h = absurd (omega (arith, low))
+each_at gs (g ∷ fs) zero f low is h = subst (λ (x : Function). IsStatic gs (function_view x)) (sym is) h.0
+each_at gs (g ∷ fs) (suc k) f low is h = each_at gs fs k f (omega (arith, low)) is h.1
 
 below : (k : ℕ) (fs : List Function) {g : node.Function} → numbered (suc k) (map function_view fs) ≡ Some g →
     k < length fs
@@ -54,17 +53,9 @@ in_range law program n h e =
     subst (λ (k : ℕ). (1 ≤ k) × (k - 1 < length program.functions)) f.number
     (number_in_range f.main.number program.functions f.meets.main_is)
 
-static : BuiltIsStatic → (program : Typed) (n k : ℕ) (f : Function) → IsWellFormed program →
-    Some n ≡ option_map (λ (m : Main). m.number) (built program) → k < length program.functions →
-    f ≡ get_or program.functions k f → IsStatic (function_view f)
-static law program n k f h e low is = each_at program.functions k f low is (found law program n h e).meets.static.each
-
 pub ready : BuiltIsStatic → (program : Typed) (n k : ℕ) (f : Function) → IsWellFormed program →
     Some n ≡ option_map (λ (m : Main). m.number) (built program) → k < length program.functions →
-    f ≡ get_or program.functions k f → IsReady (function_view f)
-ready law program n k f h e low is = (static law program n k f h e low is).ready
-
-pub few_parameters : BuiltIsStatic → (program : Typed) (n k : ℕ) (f : Function) → IsWellFormed program →
-    Some n ≡ option_map (λ (m : Main). m.number) (built program) → k < length program.functions →
-    f ≡ get_or program.functions k f → f.params ≤ MOST_ARGUMENTS
-few_parameters law program n k f h e low is = (static law program n k f h e low is).few
+    f ≡ get_or program.functions k f → (functions : List node.Function) × IsReadyIn functions (function_view f)
+ready law program n k f h e low is =
+    let gs = map function_view program.functions in
+    (gs, (each_at gs program.functions k f low is (found law program n h e).meets.static.each).ready)

@@ -11,7 +11,7 @@ use c_lexer::tokens;
 use icode_expand::expand;
 use icode_ir::Builder;
 use icode_liveness::Live;
-use icode_ops::{Interval, Op};
+use icode_ops::{CallAddress, Interval, Op};
 use limits::ops::OP_LIMIT;
 use limits::text::LONGEST_TEXT;
 use static_backend::build_ops;
@@ -26,6 +26,9 @@ use wellformed::Typed;
 const FIRST: u32 = 0x0040_1000;
 
 const FRAME: u32 = 128;
+
+// How far apart the functions stand for these trials.
+const APART: u32 = 256;
 
 // The program of a text, where it is accepted.
 fn typed(alloc: Global, text: &[u8]) -> Result<Typed, Deny>
@@ -69,9 +72,24 @@ fn print_expansion<R: Print + AllocGlobal>(rt: &R, ops: &[Op]) -> io::Result<()>
     }
 }
 
+// Addresses for the first eight functions. A call of another one goes to 0.
+fn addresses(alloc: Global) -> Result<Vec<CallAddress>, AllocError> {
+    let mut list = Vec::new(alloc);
+    for i in 0..8u32 {
+        if let Some(address) = CallAddress::new(FIRST + APART * i) {
+            list.push(address)?;
+        }
+    }
+    Ok(list)
+}
+
 // A finished builder that has the ops of a program's main, where it is one that runs so far.
 #[tactic(auto, using(crate::proofs::Ready::in_range))]
-fn finished_builder(alloc: Global, program: &Typed) -> Result<Option<Builder>, AllocError>
+fn finished_builder(
+    alloc: Global,
+    starts: &[CallAddress],
+    program: &Typed,
+) -> Result<Option<Builder>, AllocError>
     ensures { IfOk result (λ found. IfSome found (λ b. b.phase ≡ Finished)) }
 {
     built_is_static();
@@ -79,7 +97,7 @@ fn finished_builder(alloc: Global, program: &Typed) -> Result<Option<Builder>, A
     match main_of(program) {
         Some(main) => {
             let mut builder = Builder::new(alloc)?;
-            build_ops(alloc, &mut builder, &program.functions()[main - 1])?;
+            build_ops(alloc, &mut builder, starts, &program.functions()[main - 1])?;
             Ok(Some(builder))
         }
         None => Ok(None),
@@ -104,7 +122,8 @@ fn report_program<R: Print + AllocGlobal>(
     live: &mut Live,
     program: &Typed,
 ) -> io::Result<()> {
-    match finished_builder(rt.alloc(), program)? {
+    let starts = addresses(rt.alloc())?;
+    match finished_builder(rt.alloc(), &starts, program)? {
         Some(builder) => report(rt, live, &builder),
         None => println!(rt; "not built"),
     }

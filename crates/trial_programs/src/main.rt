@@ -1,6 +1,7 @@
-//! Programs under `run`, and under `build` and then `exec`: of both the status and what was written, a line each. Before
-//! each program stands a line `%% STEPS INPUT`, with the most instructions of each run and the bytes that it may read,
-//! without blanks; where there are none the line is `%% STEPS`.
+//! Programs under `run`, and under `build` and then `exec`: of both the status and what was written, a line each.
+//! Before each program stands a line `%% STEPS INPUT NAME`, with the most instructions of each run and the bytes that
+//! it may read, without blanks. The name is for the reader; a line `%% STEPS` or `%% STEPS INPUT` has none. A `!` in
+//! its place says that C leaves open what comes of the program (tools/plain_c).
 #![tactic(auto)]
 
 use host_edge::{MemSink, MemSource, MemStore};

@@ -38,10 +38,19 @@ fn a_product_runs(rt: HostRuntime) {
 }
 
 #[test]
-fn a_call_does_not_run(rt: HostRuntime) {
+fn a_call_runs(rt: HostRuntime) {
     let found = main_in(
         rt.alloc(),
         b"int f(void) { return 3; } int main(void) { return f(); }",
+    );
+    assert!(rt; matches!(found, Ok(Some(2))));
+}
+
+#[test]
+fn a_tick_does_not_run(rt: HostRuntime) {
+    let found = main_in(
+        rt.alloc(),
+        b"int main(void) { int cspec c; c = `1; return 0; }",
     );
     assert!(rt; matches!(found, Ok(None)));
 }
@@ -56,9 +65,9 @@ fn a_block_between_declarations(rt: HostRuntime) {
 }
 
 #[test]
-fn a_global_does_not_run(rt: HostRuntime) {
-    let found = main_in(rt.alloc(), b"int x; int main(void) { return 0; }");
-    assert!(rt; matches!(found, Ok(None)));
+fn a_global_runs(rt: HostRuntime) {
+    let found = main_in(rt.alloc(), b"int x; int main(void) { return x; }");
+    assert!(rt; matches!(found, Ok(Some(1))));
 }
 
 #[test]
@@ -71,10 +80,10 @@ fn main_is_the_second_function(rt: HostRuntime) {
 }
 
 #[test]
-fn a_parameter_behind_main_does_not_run(rt: HostRuntime) {
+fn a_parameter_behind_main_runs(rt: HostRuntime) {
     let found = main_in(
         rt.alloc(),
         b"int main(void) { return 0; } int f(int i) { return i * 2; }",
     );
-    assert!(rt; matches!(found, Ok(None)));
+    assert!(rt; matches!(found, Ok(Some(1))));
 }

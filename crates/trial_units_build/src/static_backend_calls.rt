@@ -1,5 +1,5 @@
 //! The image of a program of two functions that each return a number, worked out by hand: a frame of 128 bytes and 48 for
-//! each of two nodes, and 28 words for each function.
+//! each of two nodes, and 28 words for each function. Its globals are three bytes.
 
 ghost use Rattle.std.specs.Prelude.{◌≡◌, IfOk, length};
 ghost use Rattle.std.specs.List.{All};
@@ -21,11 +21,14 @@ fn two(alloc: Global) -> Result<Items<Function>, AllocError>
     Ok(functions)
 }
 
+// The bytes of its globals and strings.
+const BYTES: [u8; 3] = [7, 0, 255];
+
 // Their image, with the second as main.
 #[tactic(auto, using(crate::proofs::ReturnLists::are_static, crate::proofs::ReturnLists::has_second))]
 fn image_of_two(alloc: Global) -> Result<Image, AllocError> {
     let functions = two(alloc)?;
-    image(alloc, functions.as_slice(), 2)
+    image(alloc, functions.as_slice(), BYTES.as_slice(), 2)
 }
 
 // Whether the start counts two functions and calls the second.
@@ -59,7 +62,8 @@ const ROWS: [FunctionEntry; 2] = [
 fn is_so(alloc: Global) -> Result<bool, AllocError> {
     let made = image_of_two(alloc)?;
     let text = made.text();
-    Ok(calls_the_second(text) && begin_so(text) && made.functions() == ROWS.as_slice())
+    let parts_are = made.functions() == ROWS.as_slice() && made.bytes() == BYTES.as_slice();
+    Ok(calls_the_second(text) && begin_so(text) && parts_are)
 }
 
 #[test]

@@ -1,4 +1,4 @@
-//! The words of the start, worked out by hand from the instruction table.
+//! The words of the start, and the ends of malloc's routine, worked out by hand from the instruction table.
 
 use static_image::write_front;
 use word32::map::FUNCTIONS;
@@ -30,5 +30,6 @@ fn the_start_stands_in_front(rt: HostRuntime) {
         0x0000_000c,
     ];
     assert!(rt; &out[..20] == &start[..]);
-    assert!(rt; out[20] == 0 && out[1023] == 0);
+    assert!(rt; out[20] == 0 && out[63] == 0 && out[1023] == 0);
+    assert!(rt; out[64] == 0x8f83_fffc && out[77] == 0x03e0_0008);
 }

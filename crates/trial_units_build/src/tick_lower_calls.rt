@@ -38,7 +38,7 @@ fn count_with_ops(
     let mut count = 0u32;
     for f in list {
         builder.begin(f.params);
-        lower(alloc, f, builder)?;
+        lower(alloc, &[], f, builder)?;
         if builder.finish().is_ok() && builder.ops() == ops {
             count = count.saturating_add(1);
         }

@@ -102,12 +102,13 @@ pub record IsAccepted (p : TypedParts) : Type 0 where
   pub functions : (n : ℕ) (f : Function) → slice_get p.functions n ≡ Some f → IsFunction p captures f
   pub ticks : (n : ℕ) (t : Tick) (kinds : List CaptureKind) → slice_get p.ticks n ≡ Some t →
       slice_get captures n ≡ Some kinds → IsTick p captures t kinds
-  -- `main` is one of the functions
+  -- `main` is one of the functions, and none of that name has parameters
   pub main : ℕ
   pub main_function : Function
   pub is_main : slice_get p.functions main ≡ Some main_function
   pub name : main_function.name ≡ codes "main"
-  pub no_parameters : main_function.params ≡ 0
+  pub no_parameters : (n : ℕ) (f : Function) → slice_get p.functions n ≡ Some f → f.name ≡ codes "main" →
+      f.params ≡ 0
   -- and no limit is met
   pub image : length p.image ≤ GLOBAL_BYTES
   pub small : words p ≤ CHARGE_LIMIT

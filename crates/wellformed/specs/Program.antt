@@ -125,9 +125,10 @@ pub record IsWellFormed (p : TypedParts) : Type 0 where
   pub function_sizes : (n : ℕ) (f : Function) → slice_get p.functions n ≡ Some f →
       f.size ≡ size_of_stmt (function_view f).body
   pub tick_sizes : (n : ℕ) (t : Tick) → slice_get p.ticks n ≡ Some t → t.size ≡ size_of_body (body_view t.body)
-  -- `main` is one of the functions
+  -- `main` is one of the functions, and none of that name has parameters
   pub main : ℕ
   pub main_function : Function
   pub is_main : slice_get p.functions main ≡ Some main_function
   pub name : main_function.name ≡ codes "main"
-  pub no_parameters : main_function.params ≡ 0
+  pub no_parameters : (n : ℕ) (f : Function) → slice_get p.functions n ≡ Some f → f.name ≡ codes "main" →
+      f.params ≡ 0

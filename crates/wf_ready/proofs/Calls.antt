@@ -16,7 +16,7 @@ use Rattle.wellformed.specs.Places.{all_different, all_declare, all_stand, is_la
 use Rattle.wellformed.specs.Places.{looped, switched}
 use Rattle.wellformed.specs.Program.{IsFunction, IsTick, parameters_of, round_function, round_tick}
 use Rattle.wellformed.proofs.Bools.{first_true, second_true}
-use Rattle.wf_ready.specs.Calls.{IsCallee, HasCalls, HaveCalls, HasCallsStmt, HaveCallsItems, HasCallsBody}
+use Rattle.staged_meaning.specs.Calls.{IsCallee, HasCalls, HaveCalls, HasCallsStmt, HaveCallsItems, HasCallsBody}
 use Rattle.wf_ready.proofs.Scoped.{part, act, two, IsHead, AreHeads, declared_heads, body_heads}
 
 as_many : (args : Args) → length (fold_args expr_rule args) ≡ count args

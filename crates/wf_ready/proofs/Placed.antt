@@ -1,5 +1,6 @@
 -- Statements that leave others stand, in an accepted text's functions, where the meaning has them.
-use Rattle.std.proofs.Common.{◌≡◌, ℕ, Bool, true, false, ◌&&◌, ◌||◌, List, refl, nat_le, length, take, drop}
+use Rattle.std.proofs.Common.{◌≡◌, ℕ, zero, suc, ◌+◌, Bool, true, false, ◌&&◌, ◌||◌, List, refl}
+use Rattle.std.proofs.Common.{nat_le, length, take, drop}
 use Rattle.typed_tree.specs.declared.expression.CaptureKind.{CaptureKind}
 use Rattle.typed_tree.specs.Nodes as node
 use Rattle.typed_tree.specs.Nodes.{Stmt, Items, fold_items}
@@ -9,36 +10,54 @@ use Rattle.wellformed.specs.Places.{Around, rules, values_of, all_different, all
 use Rattle.wellformed.specs.Places.{all_items, are_parameters, within, looped, switched}
 use Rattle.wellformed.specs.Program.{IsFunction, round_function}
 use Rattle.wellformed.proofs.Bools.{first_true, second_true}
-use Rattle.wf_ready.proofs.Scoped.{part, act, two, IsHead, AreHeads, declared_heads, body_heads}
+use Rattle.wf_ready.proofs.Scoped.{part, act, two}
 
 -- what may stand there, by what is round it
-record Agrees (a : Around) (m : Allowed) : Type 0 where
-  breaks : (a.in_loop || a.in_switch) ≡ true → m.breaks ≡ true
-  continues : a.in_loop ≡ true → m.continues ≡ true
+pub record Agrees (a : Around) (m : Allowed) : Type 0 where
+  pub breaks : (a.in_loop || a.in_switch) ≡ true → m.breaks ≡ true
+  pub continues : a.in_loop ≡ true → m.continues ≡ true
 
--- the node of a variable or of a parameter may stand where no label may
-head_placed : (m : Allowed) → m.labels ≡ false → (s : Stmt) → IsHead s → IsPlaced m s
-head_placed m e (node.Variable i) h = e
-head_placed m e (node.Object off words) h = tt
-head_placed m e (node.Parameter k w) h = e
-head_placed m e (node.ParameterObject k w off) h = tt
-head_placed m e _ h = absurd h
+-- the node of a variable or of an object may stand where no label may
+one_declares : (m : Allowed) → m.labels ≡ false → (a : Around) (s : Stmt) → (act s).declares a ≡ true → IsPlaced m s
+one_declares m e a (node.Variable i) h = e
+one_declares m e a (node.Object off words) h = tt
+one_declares m e a _ h = absurd cc
 
-heads_placed : (m : Allowed) → m.labels ≡ false → (vs : Items) → AreHeads vs → ArePlaced m vs
-heads_placed m e node.NoItem h = tt
-heads_placed m e (node.Item s vs) h = (head_placed m e s h.0, heads_placed m e vs h.1)
+pub declared_placed : (m : Allowed) → m.labels ≡ false → (a : Around) (vs : Items) →
+    all_declare (fold_items rules vs) a ≡ true → ArePlaced m vs
+declared_placed m e a node.NoItem h = tt
+declared_placed m e a (node.Item s vs) h =
+    let q = two ((act s).declares a) (all_declare (fold_items rules vs) a) h in
+    (one_declares m e a s q.0, declared_placed m e a vs q.1)
 
--- and it declares what it is for
-head_declares : (s : Stmt) → IsHead s → IsDeclaration s
-head_declares (node.Variable i) h = tt
-head_declares (node.Object off words) h = tt
-head_declares (node.Parameter k w) h = tt
-head_declares (node.ParameterObject k w off) h = tt
-head_declares _ h = absurd h
+-- and declares it
+one_declaration : (a : Around) (s : Stmt) → (act s).declares a ≡ true → IsDeclaration s
+one_declaration a (node.Variable i) h = tt
+one_declaration a (node.Object off words) h = tt
+one_declaration a _ h = absurd cc
 
-heads_declare : (vs : Items) → AreHeads vs → AreDeclarations vs
-heads_declare node.NoItem h = tt
-heads_declare (node.Item s vs) h = (head_declares s h.0, heads_declare vs h.1)
+declared_declare : (a : Around) (vs : Items) → all_declare (fold_items rules vs) a ≡ true → AreDeclarations vs
+declared_declare a node.NoItem h = tt
+declared_declare a (node.Item s vs) h =
+    let q = two ((act s).declares a) (all_declare (fold_items rules vs) a) h in
+    (one_declaration a s q.0, declared_declare a vs q.1)
+
+-- the node of a parameter may stand where parameters may
+one_parameter : (m : Allowed) → m.labels ≡ false → m.parameters ≡ true → (a : Around) (k : ℕ) (s : Stmt) →
+    (act s).is_parameter k a ≡ true → IsPlaced m s
+one_parameter m e p a k (node.Parameter i w) h = (e, p)
+one_parameter m e p a k (node.ParameterObject i w off) h = p
+one_parameter m e p a k _ h = absurd cc
+
+-- n parameters stand first
+heads_placed : (m : Allowed) → m.labels ≡ false → m.parameters ≡ true → (a : Around) (vs : Items) (n k : ℕ) →
+    are_parameters k (take n (fold_items rules vs)) a ≡ true →
+    all_declare (drop n (fold_items rules vs)) a ≡ true → ArePlaced m vs
+heads_placed m e p a vs zero k h d = declared_placed m e a vs d
+heads_placed m e p a node.NoItem (suc n) k h d = tt
+heads_placed m e p a (node.Item s vs) (suc n) k h d =
+    let q = two ((act s).is_parameter k a) (are_parameters (k + 1) (take n (fold_items rules vs)) a) h in
+    (one_parameter m e p a k s q.0, heads_placed m e p a vs n (k + 1) q.1 d)
 
 -- a label may stand where labels may
 label_or : (a : Around) (m : Allowed) (s : Stmt) → m.labels ≡ true → (is_label (act s) || (act s).stands a) ≡ true →
@@ -65,7 +84,7 @@ mutual
   stmt_placed a m g (node.Block vs is) h =
       let q = two (all_declare (fold_items rules vs) a)
       (all_stand (fold_items rules is) (within (fold_items rules vs) a)) h in (
-        heads_placed (nested m) refl vs (declared_heads a vs q.0),
+        declared_placed (nested m) refl a vs q.0,
         items_placed (within (fold_items rules vs) a) (nested m) (in_block a m vs g) is q.1,
       )
   stmt_placed a m g (node.If e s) h =
@@ -90,19 +109,20 @@ mutual
       let whole : Bool = front && all_items (fold_items rules is) inner in
       let apart : Bool = whole && all_different (values_of (fold_items rules is)) in
       let q = two front (all_items (fold_items rules is) inner) (first_true whole _ (first_true apart _ h)) in
-      let t = declared_heads a vs (second_true ((part e).stands a) (all_declare (fold_items rules vs) a) q.0) in (
-        heads_declare vs t,
+      let t = second_true ((part e).stands a) (all_declare (fold_items rules vs) a) q.0 in (
+        declared_declare a vs t,
         labelled_placed inner (may.switched m) (in_switch a m vs g) refl is q.1,
       )
   stmt_placed a m g (node.Variable i) h = absurd cc
   stmt_placed a m g (node.Parameter k w) h = absurd cc
+  stmt_placed a m g (node.ParameterObject k w off) h = absurd cc
   stmt_placed a m g (node.Case v) h = absurd cc
   stmt_placed a m g node.Default h = absurd cc
   stmt_placed a m g node.Break h = g.breaks h
   stmt_placed a m g node.Continue h = g.continues h
   stmt_placed a m g _ h = tt
 
-  items_placed : (a : Around) (m : Allowed) → Agrees a m → (is : Items) → all_stand (fold_items rules is) a ≡ true →
+  pub items_placed : (a : Around) (m : Allowed) → Agrees a m → (is : Items) → all_stand (fold_items rules is) a ≡ true →
       ArePlaced m is
   items_placed a m g node.NoItem h = tt
   items_placed a m g (node.Item s is) h =
@@ -119,22 +139,23 @@ mutual
 
 -- ---- functions
 
-by_body : (a : Around) (m : Allowed) → Agrees a m → (s : Stmt) (n : ℕ) → (act s).is_body n a ≡ true → IsPlaced m s
-by_body a m g (node.Block vs is) n h =
+by_body : (a : Around) (m : Allowed) → Agrees a m → m.parameters ≡ true → (s : Stmt) (n : ℕ) →
+    (act s).is_body n a ≡ true → IsPlaced m s
+by_body a m g p (node.Block vs is) n h =
     let heads : Bool = all_declare (drop n (fold_items rules vs)) a in
     let rest : Bool = all_stand (fold_items rules is) (within (fold_items rules vs) a) in
     let first : Bool = are_parameters 0 (take n (fold_items rules vs)) a in
     let many : Bool = nat_le n (length (fold_items rules vs)) in
     let q = two (many && first && heads) rest h in
-    let r = two (many && first) heads q.0 in
-    let t = body_heads a vs n 0 (second_true many first r.0) r.1 in (
-      heads_placed (nested m) refl vs t,
+    let r = two (many && first) heads q.0 in (
+      heads_placed (nested m) refl p a vs n 0 (second_true many first r.0) r.1,
       items_placed (within (fold_items rules vs) a) (nested m) (in_block a m vs g) is q.1,
     )
-by_body a m g _ n h = absurd cc
+by_body a m g p _ n h = absurd cc
 
 pub body_placed : (p : node.Program) (ticks : List (List CaptureKind)) (f : node.Function) → IsFunction p ticks f →
     IsPlaced outside f.body
 body_placed p ticks f h =
-    by_body (round_function p ticks f) outside (record { breaks = λ e. absurd cc; continues = λ e. absurd cc }) f.body
+    by_body (round_function p ticks f) outside (record { breaks = λ e. absurd cc; continues = λ e. absurd cc }) refl
+    f.body
     f.parameters h.stands

@@ -1,14 +1,20 @@
 -- What an accepted text's typed tree gives the lowering.
-use Rattle.std.specs.Prelude.{List}
+use Rattle.std.specs.Prelude.{◌≡◌, ◌%◌, List}
 use Rattle.typed_tree.specs.declared.expression.CaptureKind.{CaptureKind}
 use Rattle.typed_tree.specs.Nodes.{Program, Function, TickBody}
-use Rattle.staged_meaning.specs.Scope.{IsBuiltStmt, IsReady}
+use Rattle.staged_meaning.specs.Scope.{IsBuiltStmt, IsReady, IsReadyIn}
 use Rattle.wellformed.specs.Program.{IsFunction, IsTick}
-use Rattle.wf_ready.specs.Calls.{HasCallsStmt, HasCallsBody}
+use Rattle.staged_meaning.specs.Calls.{HasCallsStmt, HasCallsBody}
+use Rattle.staged_meaning.specs.Frames.{HasFramesStmt}
 
 abbrev pub FunctionsAreReady : Type 0
 FunctionsAreReady = (p : Program) (ticks : List (List CaptureKind)) (f : Function) → IsFunction p ticks f →
     IsBuiltStmt f.body → IsReady f
+
+-- and one among the functions of its program, whose calls, parameters and frame objects are as they are to be
+abbrev pub FunctionsAreReadyIn : Type 0
+FunctionsAreReadyIn = (p : Program) (ticks : List (List CaptureKind)) (f : Function) → IsFunction p ticks f →
+    IsBuiltStmt f.body → IsReadyIn p.functions f
 
 -- a static call in a function, or in a tick, has as many arguments as its function has parameters, and no call has more
 -- than 8
@@ -17,3 +23,8 @@ pub record CallsAreCounted : Type 0 where
       HasCallsStmt p.functions f.body
   pub ticks : (p : Program) (ticks : List (List CaptureKind)) (t : TickBody) (kinds : List CaptureKind) →
       IsTick p ticks t kinds → HasCallsBody p.functions t
+
+-- each frame object that a function names lies in its frame, which is of whole words
+abbrev pub FramesAreWithin : Type 0
+FramesAreWithin = (p : Program) (ticks : List (List CaptureKind)) (f : Function) → IsFunction p ticks f →
+    HasFramesStmt f.object f.body × (f.object % 4 ≡ 0)

@@ -1,17 +1,30 @@
-//! A function of an accepted text is one that the lowering takes. This is a law on definitions; there is no code to run here.
+//! A function of an accepted text is one that the lowering takes. This is a law on definitions; there is no code to run
+//! here.
 #![tactic(auto)]
 
-ghost use Rattle.wf_ready.specs.Laws.{FunctionsAreReady, CallsAreCounted};
+ghost use Rattle.wf_ready.specs.Laws.{FunctionsAreReady, FunctionsAreReadyIn, CallsAreCounted, FramesAreWithin};
 
-/// That a function of an accepted text uses variables in their scope and values that are left, that its breaks, continues
-/// and labels stand where they may, that it has at most 16,384 nodes, and that it numbers its variables below their
-/// count: so it is ready for the lowering once its nodes are of the kinds that are built.
+/// That a function of an accepted text uses variables in their scope and values that are left, that its breaks,
+/// continues and labels stand where they may, that it has at most 16,384 nodes, and that it numbers its variables below
+/// their count: so it is ready for the lowering once its nodes are of the kinds that are built.
 pub fn functions_are_ready()
     ensures { FunctionsAreReady }
 {}
 
-/// That each static call in an accepted text's functions and ticks has as many arguments as its function has parameters, and that no call
-/// has more than 8.
+/// That such a function is ready among the functions of its program: its calls are counted, its parameters stand at its
+/// head and nowhere else, and its frame objects lie in its frame, which is of whole words.
+pub fn functions_are_ready_in()
+    ensures { FunctionsAreReadyIn }
+{}
+
+/// That each static call in an accepted text's functions and ticks has as many arguments as its function has
+/// parameters, and that no call has more than 8.
 pub fn calls_are_counted()
     ensures { CallsAreCounted }
+{}
+
+/// That each frame object that a function of an accepted text names lies within the bytes of its frame, and that one
+/// that it declares begins at a multiple of 4; and that these bytes are whole words.
+pub fn frames_are_within()
+    ensures { FramesAreWithin }
 {}

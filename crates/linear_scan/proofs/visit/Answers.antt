@@ -36,17 +36,17 @@ admit-requires-clause-held c =
       living c.args.x.start r.0,
       a,
       few-keepers (living c.args.x.start r.0) c.expire.new.keepers
-          c.args.owners.now c.args.places.now c.free_number.result a c.free_number.ensures
-          c.if-free_number-lt12.true,
+          c.args.owners.now c.args.places.now c.free_number-number.result a c.free_number-number.ensures
+          c.if-number-lt12.true,
     )
 
-pub returns-then-free_number-lt12 : goal.returns-then-free_number-lt12
-returns-then-free_number-lt12 c s h f =
+pub returns-then-number-lt12 : goal.returns-then-number-lt12
+returns-then-number-lt12 c s h f =
     let x = c.args.x in
     let a = after x.start s c.args.keepers.now c.expire.new.keepers c.args.owners.now
     c.args.places.now h c.expire.ensures in
     let n = few-keepers (living x.start s) c.expire.new.keepers c.args.owners.now c.args.places.now
-    c.free_number.result a c.free_number.ensures c.if-free_number-lt12.true in
+    c.free_number-number.result a c.free_number-number.ensures c.if-number-lt12.true in
     rw (visit-few s x n) (c.admit.ensures (living x.start s) a n (fresh-living x x.start s f))
 
 pub spill_last-requires : goal.spill_last-requires
@@ -55,7 +55,7 @@ spill_last-requires c =
     let a = after c.args.x.start r.0 c.args.keepers.now c.expire.new.keepers c.args.owners.now
     c.args.places.now r.1 c.expire.ensures in
     let w = last-is (living c.args.x.start r.0) c.expire.new.keepers c.args.owners.now
-    c.args.places.now c.last.result (c.in-Some.number, c.in-Some.end) a c.last.ensures
+    c.args.places.now c.last.result (c.in-Some.last, c.in-Some.end) a c.last.ensures
     c.in-Some.is in
     record { held = (living c.args.x.start r.0, w.0, a, w.1, w.2) }
 
@@ -66,9 +66,9 @@ admit-requires-then-x-end-clause-held c =
     let a = after c.args.x.start r.0 c.args.keepers.now c.expire.new.keepers c.args.owners.now
     c.args.places.now r.1 c.expire.ensures in
     let w = last-is l c.expire.new.keepers c.args.owners.now c.args.places.now c.last.result
-    (c.in-Some.number, c.in-Some.end) a c.last.ensures c.in-Some.is in
+    (c.in-Some.last, c.in-Some.end) a c.last.ensures c.in-Some.is in
     let n = twelve-keepers l c.expire.new.keepers c.args.owners.now c.args.places.now
-    c.free_number.result a c.free_number.ensures c.if-free_number-lt12.false in (
+    c.free_number-number.result a c.free_number-number.ensures c.if-number-lt12.false in (
       dropping l w.0,
       c.spill_last.ensures l w.0 a w.1 w.2,
       omega
@@ -82,7 +82,7 @@ returns-in-None c s h f =
     let a = after x.start s c.args.keepers.now c.expire.new.keepers c.args.owners.now
     c.args.places.now h c.expire.ensures in
     let n = twelve-keepers l c.expire.new.keepers c.args.owners.now c.args.places.now
-    c.free_number.result a c.free_number.ensures c.if-free_number-lt12.false in
+    c.free_number-number.result a c.free_number-number.ensures c.if-number-lt12.false in
     absurd (omega (
       arith,
       n,
@@ -97,9 +97,9 @@ returns-then-x-end c s h f =
     let a = after x.start s c.args.keepers.now c.expire.new.keepers c.args.owners.now
     c.args.places.now h c.expire.ensures in
     let n = twelve-keepers l c.expire.new.keepers c.args.owners.now c.args.places.now
-    c.free_number.result a c.free_number.ensures c.if-free_number-lt12.false in
+    c.free_number-number.result a c.free_number-number.ensures c.if-number-lt12.false in
     let w = last-is l c.expire.new.keepers c.args.owners.now c.args.places.now c.last.result
-    (c.in-Some.number, c.in-Some.end) a c.last.ensures c.in-Some.is in
+    (c.in-Some.last, c.in-Some.end) a c.last.ensures c.in-Some.is in
     let d = c.spill_last.ensures l w.0 a w.1 w.2 in
     let m : length (but_last l.keepers) < 12 = omega (arith, n, length-but_last l.keepers w.0 w.1)
     in
@@ -114,8 +114,8 @@ returns-else-x-end c s h f =
     let a = after x.start s c.args.keepers.now c.expire.new.keepers c.args.owners.now
     c.args.places.now h c.expire.ensures in
     let n = twelve-keepers l c.expire.new.keepers c.args.owners.now c.args.places.now
-    c.free_number.result a c.free_number.ensures c.if-free_number-lt12.false in
+    c.free_number-number.result a c.free_number-number.ensures c.if-number-lt12.false in
     let w = last-is l c.expire.new.keepers c.args.owners.now c.args.places.now c.last.result
-    (c.in-Some.number, c.in-Some.end) a c.last.ensures c.in-Some.is in
+    (c.in-Some.last, c.in-Some.end) a c.last.ensures c.in-Some.is in
     let p = pass-holds x l c.expire.new.keepers c.args.owners.now c.args.places.now a in
     rw (visit-pass s x w.0 n w.1 (omega (arith, w.3, c.if-x-end.false))) p

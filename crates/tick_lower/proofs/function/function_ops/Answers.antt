@@ -1,22 +1,26 @@
-use Rattle.std.proofs.Common.{◌≡◌, ◌+◌, [], ◌∷◌, ◌++◌, ap, sym, ◌∙◌, subst, refl, arith}
+use Rattle.std.proofs.Common.{◌+◌, [], ◌∷◌, ◌++◌, ap, sym, ◌∙◌, subst, refl, arith}
 use Rattle.icode_ir.specs.declared.build_op.BuildOp.TheVariants as build
 use Rattle.staged_meaning.specs.Size.{labels, temps, variables_in}
 use Rattle.staged_meaning.specs.Scope.{IsBuiltStmt}
-use Rattle.tick_lower_proof.specs.Lower.{nowhere, stmt_ops}
+use Rattle.tick_lower_proof.specs.Lower.{listed, nowhere, stmt_ops}
 use Rattle.tick_lower_proof.proofs.Counts.{few_labels, few_temps}
-use Rattle.typed_tree.specs.View.{stmt_view}
+use Rattle.typed_tree.specs.View.{stmt_view, function_view}
+use Rattle.tick_lower.specs.Few.{PassesFewStmt}
+use Rattle.tick_lower.proofs.Few.{passes_few}
 use Rattle.tick_lower.proofs.Bodies.{body_made, has_place}
-use Rattle.tick_lower.proofs.Exprs.{anywhere}
 use Rattle.tick_lower.proofs.function.function_ops.Goals as goal
 
 pub lower_statement-requires : goal.lower_statement-requires
 lower_statement-requires c = record {
-  built = subst (λ z. IsBuiltStmt (stmt_view z)) (sym c.get-2.ensures) c.requires.built;
+  built = subst (λ z. IsBuiltStmt (stmt_view z)) (sym c.get-2.ensures) c.requires.1.ready.built;
+  few =
+      subst (λ z. PassesFewStmt (stmt_view z)) (sym c.get-2.ensures)
+      (passes_few c.requires.0 (function_view c.args.function.now) c.requires.1);
   labels =
       omega (
         arith,
         few_labels (stmt_view c.args.function.now.body),
-        c.requires.small,
+        c.requires.1.ready.small,
         ap (λ o. o.label) c.in_ok-push.ensures,
         ap (λ z. labels (stmt_view z)) c.get-2.ensures,
       );
@@ -24,8 +28,8 @@ lower_statement-requires c = record {
       omega (
         arith,
         few_temps (stmt_view c.args.function.now.body),
-        c.requires.small,
-        c.requires.dense,
+        c.requires.1.ready.small,
+        c.requires.1.ready.dense,
         c.variables.ensures,
         ap (λ o. o.variable) c.in_ok-push.ensures,
         ap (λ z. temps (stmt_view z)) c.get-2.ensures,
@@ -35,14 +39,15 @@ lower_statement-requires c = record {
 
 pub set-requires : goal.set-requires
 set-requires c =
-    has_place anywhere (stmt_view c.get-2.result.now) _ _ _ _ c.in_ok-push.ensures
-    (c.in_ok-lower_statement.ensures anywhere) c.in_ok-push-2.ensures c.new.ensures
+    has_place (stmt_view c.get-2.result.now) _ _ _ _ c.in_ok-push.ensures
+    c.in_ok-lower_statement.ensures c.in_ok-push-2.ensures c.new.ensures
 
 pub returns : goal.returns
-returns c = λ d.
+returns c =
     c.set.ensures
-    ∙ body_made d (stmt_view c.get-2.result.now) _ _ _ _ c.in_ok-push.ensures (c.in_ok-lower_statement.ensures d)
+    ∙ body_made (stmt_view c.get-2.result.now) _ _ _ _ c.in_ok-push.ensures c.in_ok-lower_statement.ensures
     c.in_ok-push-2.ensures c.new.ensures refl
     (c.variables.ensures ∙ ap (λ z. variables_in (stmt_view z)) (c.get.ensures ∙ sym c.get-2.ensures))
     ∙ ap (λ z. build.Enter (variables_in (stmt_view z) + temps (stmt_view z)) (labels (stmt_view z))
-    ∷ (stmt_ops d (stmt_view z) nowhere 0 (variables_in (stmt_view z)) ++ build.Leave ∷ [])) c.get-2.ensures
+    ∷ (stmt_ops (listed c.args.starts.now) (stmt_view z) nowhere 0 (variables_in (stmt_view z)) ++ build.Leave ∷ []))
+    c.get-2.ensures

@@ -4,13 +4,13 @@ use Rattle.typed_tree.specs.declared.expression.Stmt.{size-Stmt, the_lemmas}
 use Rattle.tick_lower_proof.specs.Lower.{Targets}
 use Rattle.tick_lower.specs.declared.ops.Exits.{Exits}
 use Rattle.tick_lower.specs.Steps.{FitItems, add_switch, targets_of}
-use Rattle.tick_lower.proofs.Exprs.{anywhere}
 use Rattle.tick_lower.proofs.Fits.{label_past, variable_past}
 use Rattle.tick_lower.proofs.StmtFits.{eval_fits, answer_fits, block_fits, block_fits_behind, if_fits, choice_fits}
 use Rattle.tick_lower.proofs.StmtFits.{while_fits, do_fits, for_fits, for_step_fits, switch_fits, variables_fit}
-use Rattle.tick_lower.proofs.StmtFits.{items_fit, stmt_labels, stmt_temps}
+use Rattle.tick_lower.proofs.StmtFits.{items_fit, stmt_labels, stmt_temps, parameter_few, parameter_object_few}
 use Rattle.tick_lower.proofs.StmtSeen.{eval_seen, answer_seen, block_seen, variable_seen, break_seen, continue_seen}
 use Rattle.tick_lower.proofs.StmtSeen.{return_seen, case_seen, default_seen, if_seen, choice_seen, while_seen, do_seen}
+use Rattle.tick_lower.proofs.StmtSeen.{object_seen, parameter_seen, parameter_object_seen}
 use Rattle.tick_lower.proofs.StmtSeen.{for_seen, for_step_seen, switch_seen, view_of}
 use Rattle.tick_lower.proofs.Made.{if_made, choice_made, while_made, do_made, for_made, for_step_made, switch_made}
 use Rattle.tick_lower.proofs.Made.{two_labels}
@@ -90,6 +90,7 @@ lower_statement-lower_selector-requires t c =
     = switch_fits _ _ c.requires _ _ _ _ _ _ c.in-Switch.is c.get-in-Switch.ensures refl refl in
     record {
       built = whole.built.0;
+      few = whole.few.0;
       labels = omega (arith, whole.labels);
       variables = omega (arith, whole.variables);
     }
@@ -115,108 +116,131 @@ lower_statement-lower_switch-requires t c =
 
 pub lower_statement-returns-in-Eval : goal.lower_statement-returns-in-Eval
 lower_statement-returns-in-Eval t c =
-    on_ok_weaker c.lower_effect.result (λ made d. eval_seen d (targets_of c.args.exits) _ _ _ _ _ c.in-Eval.is
-    c.get.ensures (made d))
+    on_ok_weaker c.lower_effect.result (λ made. eval_seen (targets_of c.args.exits) _ _ _ _ _ c.in-Eval.is
+    c.get.ensures made)
     c.lower_effect.ensures
 
 pub lower_statement-returns-in-ReturnValue : goal.lower_statement-returns-in-ReturnValue
 lower_statement-returns-in-ReturnValue t c =
-    on_ok_weaker c.lower_then.result (λ made d. answer_seen d (targets_of c.args.exits) _ _ _ _ _ c.in-ReturnValue.is
-    c.get-in-ReturnValue.ensures (made d))
+    on_ok_weaker c.lower_then.result (λ made. answer_seen (targets_of c.args.exits) _ _ _ _ _ c.in-ReturnValue.is
+    c.get-in-ReturnValue.ensures made)
     c.lower_then.ensures
 
 pub lower_statement-returns-in-Variable : goal.lower_statement-returns-in-Variable
 lower_statement-returns-in-Variable t c =
-    on_ok_weaker c.push_zero.result (λ made d. variable_seen d (targets_of c.args.exits) _ _ _ _ c.in-Variable.is made)
+    on_ok_weaker c.push_zero.result (λ made. variable_seen (targets_of c.args.exits) _ _ _ _ c.in-Variable.is made)
     c.push_zero.ensures
+
+pub lower_statement-push_parameter-requires : goal.lower_statement-push_parameter-requires
+lower_statement-push_parameter-requires t c = parameter_few _ _ c.requires _ _ c.in-Parameter.is
+
+pub lower_statement-push_parameter_object-requires : goal.lower_statement-push_parameter_object-requires
+lower_statement-push_parameter_object-requires t c =
+    parameter_object_few _ _ c.requires _ _ _ c.in-ParameterObject.is
+
+pub lower_statement-returns-in-Object : goal.lower_statement-returns-in-Object
+lower_statement-returns-in-Object t c =
+    on_ok_weaker c.push-in-Object.result (λ made. object_seen (targets_of c.args.exits) _ _ _ _ _ c.in-Object.is made)
+    c.push-in-Object.ensures
+
+pub lower_statement-returns-in-Parameter : goal.lower_statement-returns-in-Parameter
+lower_statement-returns-in-Parameter t c =
+    on_ok_weaker c.push_parameter.result
+    (λ made. parameter_seen (targets_of c.args.exits) _ _ _ _ _ c.in-Parameter.is made) c.push_parameter.ensures
+
+pub lower_statement-returns-in-ParameterObject : goal.lower_statement-returns-in-ParameterObject
+lower_statement-returns-in-ParameterObject t c =
+    on_ok_weaker c.push_parameter_object.result
+    (λ made. parameter_object_seen (targets_of c.args.exits) _ _ _ _ _ _ c.in-ParameterObject.is made)
+    c.push_parameter_object.ensures
 
 pub lower_statement-returns-in_ok-lower_statements-in-Block :
     goal.lower_statement-returns-in_ok-lower_statements-in-Block
 lower_statement-returns-in_ok-lower_statements-in-Block t c =
     on_ok_weaker c.lower_statements-in-Block.result
-    (λ made d. block_seen d (targets_of c.args.exits) _ _ _ _ _ _ _ _ c.in-Block.is c.as_slice.ensures
-    c.as_slice-in-Block.ensures (c.in_ok-lower_statements-in-Block.ensures d) (made d))
+    (λ made. block_seen (targets_of c.args.exits) _ _ _ _ _ _ _ _ c.in-Block.is c.as_slice.ensures
+    c.as_slice-in-Block.ensures c.in_ok-lower_statements-in-Block.ensures made)
     c.lower_statements-in-Block.ensures
 
 pub lower_statement-returns-in-If : goal.lower_statement-returns-in-If
 lower_statement-returns-in-If t c =
-    on_ok_weaker c.lower_if.result (λ made d. if_seen d (targets_of c.args.exits) _ _ _ _ _ _ _ c.in-If.is
-    c.get-in-If.ensures c.get-in-If-2.ensures (made d))
+    on_ok_weaker c.lower_if.result (λ made. if_seen (targets_of c.args.exits) _ _ _ _ _ _ _ c.in-If.is
+    c.get-in-If.ensures c.get-in-If-2.ensures made)
     c.lower_if.ensures
 
 pub lower_statement-returns-in-IfElse : goal.lower_statement-returns-in-IfElse
 lower_statement-returns-in-IfElse t c =
-    on_ok_weaker c.lower_if_else.result (λ made d. choice_seen d (targets_of c.args.exits) _ _ _ _ _ _ _ _ _
+    on_ok_weaker c.lower_if_else.result (λ made. choice_seen (targets_of c.args.exits) _ _ _ _ _ _ _ _ _
     c.in-IfElse.is c.get-in-IfElse.ensures
-    c.get-in-IfElse-2.ensures c.get-in-IfElse-3.ensures (made d))
+    c.get-in-IfElse-2.ensures c.get-in-IfElse-3.ensures made)
     c.lower_if_else.ensures
 
 pub lower_statement-returns-in-While : goal.lower_statement-returns-in-While
 lower_statement-returns-in-While t c =
-    on_ok_weaker c.lower_while.result (λ made d. while_seen d (targets_of c.args.exits) _ _ _ _ _ _ _ c.in-While.is
+    on_ok_weaker c.lower_while.result (λ made. while_seen (targets_of c.args.exits) _ _ _ _ _ _ _ c.in-While.is
     c.get-in-While.ensures
-    c.get-in-While-2.ensures (made d (targets_of c.args.exits)))
+    c.get-in-While-2.ensures (made (targets_of c.args.exits)))
     c.lower_while.ensures
 
 pub lower_statement-returns-in-Do : goal.lower_statement-returns-in-Do
 lower_statement-returns-in-Do t c =
-    on_ok_weaker c.lower_do.result (λ made d. do_seen d (targets_of c.args.exits) _ _ _ _ _ _ _ c.in-Do.is
+    on_ok_weaker c.lower_do.result (λ made. do_seen (targets_of c.args.exits) _ _ _ _ _ _ _ c.in-Do.is
     c.get-in-Do.ensures
-    c.get-in-Do-2.ensures (made d (targets_of c.args.exits)))
+    c.get-in-Do-2.ensures (made (targets_of c.args.exits)))
     c.lower_do.ensures
 
 pub lower_statement-returns-in-For : goal.lower_statement-returns-in-For
 lower_statement-returns-in-For t c =
-    on_ok_weaker c.lower_for.result (λ made d. for_seen d (targets_of c.args.exits) _ _ _ _ _ _ _ c.in-For.is
+    on_ok_weaker c.lower_for.result (λ made. for_seen (targets_of c.args.exits) _ _ _ _ _ _ _ c.in-For.is
     c.get-in-For.ensures
-    c.get-in-For-2.ensures (made d (targets_of c.args.exits)))
+    c.get-in-For-2.ensures (made (targets_of c.args.exits)))
     c.lower_for.ensures
 
 pub lower_statement-returns-in-ForStep : goal.lower_statement-returns-in-ForStep
 lower_statement-returns-in-ForStep t c =
-    on_ok_weaker c.lower_for_step.result (λ made d. for_step_seen d (targets_of c.args.exits) _ _ _ _ _ _ _ _ _
+    on_ok_weaker c.lower_for_step.result (λ made. for_step_seen (targets_of c.args.exits) _ _ _ _ _ _ _ _ _
     c.in-ForStep.is c.get-in-ForStep.ensures
-    c.get-in-ForStep-2.ensures c.get-in-ForStep-3.ensures (made d (targets_of c.args.exits)))
+    c.get-in-ForStep-2.ensures c.get-in-ForStep-3.ensures (made (targets_of c.args.exits)))
     c.lower_for_step.ensures
 
 pub lower_statement-returns-in_ok-lower_statements-in-Switch :
     goal.lower_statement-returns-in_ok-lower_statements-in-Switch
 lower_statement-returns-in_ok-lower_statements-in-Switch t c =
     on_ok_weaker c.lower_switch.result
-    (λ made d. switch_seen d (targets_of c.args.exits) _ _ _ _ _ _ _ _ _ _ _ c.in-Switch.is c.get-in-Switch.ensures
-    c.as_slice-in-Switch.ensures c.as_slice-in-Switch-2.ensures (c.in_ok-selector-in-Switch.ensures.ops d)
-    (c.in_ok-lower_statements-in-Switch.ensures d)
-    (made d
-    ∙ ap (λ z. add_switch d (let y : Targets = record { on_break = z.end; on_continue = c.args.exits.on_continue } in y)
+    (λ made. switch_seen (targets_of c.args.exits) _ _ _ _ _ _ _ _ _ _ _ c.in-Switch.is c.get-in-Switch.ensures
+    c.as_slice-in-Switch.ensures c.as_slice-in-Switch-2.ensures c.in_ok-selector-in-Switch.ensures.ops
+    c.in_ok-lower_statements-in-Switch.ensures
+    (made
+    ∙ ap (λ z. add_switch (let y : Targets = record { on_break = z.end; on_continue = c.args.exits.on_continue } in y)
     z.value (view_of c.as_slice-in-Switch-2.result.now) c.lower_statements-in-Switch.new.out)
     c.in_ok-selector-in-Switch.ensures.selector))
     c.lower_switch.ensures
 
 pub lower_statement-returns-in-Case : goal.lower_statement-returns-in-Case
 lower_statement-returns-in-Case t c =
-    on_ok_weaker c.push_label.result (λ made d. case_seen d (targets_of c.args.exits) _ _ _ _ c.in-Case.is made)
+    on_ok_weaker c.push_label.result (λ made. case_seen (targets_of c.args.exits) _ _ _ _ c.in-Case.is made)
     c.push_label.ensures
 
 pub lower_statement-returns-in-Default : goal.lower_statement-returns-in-Default
 lower_statement-returns-in-Default t c =
-    on_ok_weaker c.push_label-in-Default.result (λ made d. default_seen d (targets_of c.args.exits) _ _ _
+    on_ok_weaker c.push_label-in-Default.result (λ made. default_seen (targets_of c.args.exits) _ _ _
     c.in-Default.is made)
     c.push_label-in-Default.ensures
 
 pub lower_statement-returns-in-Break : goal.lower_statement-returns-in-Break
 lower_statement-returns-in-Break t c =
-    on_ok_weaker c.push.result (λ made d. break_seen d (targets_of c.args.exits) _ _ _ c.in-Break.is made)
+    on_ok_weaker c.push.result (λ made. break_seen (targets_of c.args.exits) _ _ _ c.in-Break.is made)
     c.push.ensures
 
 pub lower_statement-returns-in-Continue : goal.lower_statement-returns-in-Continue
 lower_statement-returns-in-Continue t c =
-    on_ok_weaker c.push-in-Continue.result (λ made d. continue_seen d (targets_of c.args.exits) _ _ _
+    on_ok_weaker c.push-in-Continue.result (λ made. continue_seen (targets_of c.args.exits) _ _ _
     c.in-Continue.is made)
     c.push-in-Continue.ensures
 
 pub lower_statement-returns-in-Return : goal.lower_statement-returns-in-Return
 lower_statement-returns-in-Return t c =
-    on_ok_weaker c.push-in-Return.result (λ made d. return_seen d (targets_of c.args.exits) _ _ _ c.in-Return.is made)
+    on_ok_weaker c.push-in-Return.result (λ made. return_seen (targets_of c.args.exits) _ _ _ c.in-Return.is made)
     c.push-in-Return.ensures
 
 pub lower_if-lower_statement-requires : goal.lower_if-lower_statement-requires
@@ -224,19 +248,20 @@ lower_if-lower_statement-requires t c = (
   search (rules, the_lemmas),
   record {
     built = c.requires.built.1;
+    few = c.requires.few.1;
     labels =
         omega (
           arith,
           c.requires.labels,
           ap (λ z. z.label) c.take_label-past.ensures.next,
-          label_past _ _ _ _ (c.in_ok-lower_then.ensures anywhere),
+          label_past _ _ _ _ c.in_ok-lower_then.ensures,
         );
     variables =
         omega (
           arith,
           c.requires.variables,
           ap (λ z. z.variable) c.take_label-past.ensures.next,
-          variable_past _ _ _ _ (c.in_ok-lower_then.ensures anywhere),
+          variable_past _ _ _ _ c.in_ok-lower_then.ensures,
         );
   },
 )
@@ -244,22 +269,23 @@ lower_if-lower_statement-requires t c = (
 pub lower_if-returns : goal.lower_if-returns
 lower_if-returns t c =
     on_ok_weaker c.push.result
-    (λ made d. if_made d (targets_of c.args.exits) _ _ _ _ _ _ _ _ c.take_label-past.ensures.label
+    (λ made. if_made (targets_of c.args.exits) _ _ _ _ _ _ _ _ c.take_label-past.ensures.label
     c.take_label-past.ensures.next
-    (c.in_ok-lower_then.ensures d) (c.in_ok-lower_statement.ensures d) made) c.push.ensures
+    c.in_ok-lower_then.ensures c.in_ok-lower_statement.ensures made) c.push.ensures
 
 pub lower_if_else-lower_statement-requires : goal.lower_if_else-lower_statement-requires
 lower_if_else-lower_statement-requires t c = (
   search (rules, the_lemmas),
   record {
     built = c.requires.built.1;
+    few = c.requires.few.1;
     labels =
         omega (
           arith,
           c.requires.labels,
           ap (λ z. z.label) c.take_label-other.ensures.next,
           ap (λ z. z.label) c.take_label-end.ensures.next,
-          label_past _ _ _ _ (c.in_ok-lower_then.ensures anywhere),
+          label_past _ _ _ _ c.in_ok-lower_then.ensures,
         );
     variables =
         omega (
@@ -267,7 +293,7 @@ lower_if_else-lower_statement-requires t c = (
           c.requires.variables,
           ap (λ z. z.variable) c.take_label-other.ensures.next,
           ap (λ z. z.variable) c.take_label-end.ensures.next,
-          variable_past _ _ _ _ (c.in_ok-lower_then.ensures anywhere),
+          variable_past _ _ _ _ c.in_ok-lower_then.ensures,
         );
   },
 )
@@ -278,10 +304,10 @@ lower_if_else-returns t c =
     let second = c.take_label-end.ensures in
     let end : c.take_label-end.result ≡ c.args.out.now.label + 1 = second.label ∙ ap (λ z. z.label) first.next in
     on_ok_weaker c.push.result
-    (λ made d. choice_made d (targets_of c.args.exits) c.args.out.now c.take_label-end.new.self _ _ _ _ _ _ _ _ _
+    (λ made. choice_made (targets_of c.args.exits) c.args.out.now c.take_label-end.new.self _ _ _ _ _ _ _ _ _
     _ first.label end
-    (two_labels d (targets_of c.args.exits) _ _ _ first.next second.next) (c.in_ok-lower_then.ensures d)
-    (c.in_ok-lower_statement.ensures d) c.in_ok-push_turn.ensures (c.in_ok-lower_statement-2.ensures d) made)
+    (two_labels (targets_of c.args.exits) _ _ _ first.next second.next) c.in_ok-lower_then.ensures
+    c.in_ok-lower_statement.ensures c.in_ok-push_turn.ensures c.in_ok-lower_statement-2.ensures made)
     c.push.ensures
 
 pub lower_while-lower_statement-requires : goal.lower_while-lower_statement-requires
@@ -289,6 +315,7 @@ lower_while-lower_statement-requires t c = (
   search (rules, the_lemmas),
   record {
     built = c.requires.built.1;
+    few = c.requires.few.1;
     labels =
         omega (
           arith,
@@ -296,7 +323,7 @@ lower_while-lower_statement-requires t c = (
           ap (λ z. z.label) c.take_label-end.ensures.next,
           ap (λ z. z.label) c.take_label-start.ensures.next,
           ap (λ z. z.label) c.in_ok-push.ensures,
-          label_past _ _ _ _ (c.in_ok-lower_then.ensures anywhere),
+          label_past _ _ _ _ c.in_ok-lower_then.ensures,
         );
     variables =
         omega (
@@ -305,7 +332,7 @@ lower_while-lower_statement-requires t c = (
           ap (λ z. z.variable) c.take_label-end.ensures.next,
           ap (λ z. z.variable) c.take_label-start.ensures.next,
           ap (λ z. z.variable) c.in_ok-push.ensures,
-          variable_past _ _ _ _ (c.in_ok-lower_then.ensures anywhere),
+          variable_past _ _ _ _ c.in_ok-lower_then.ensures,
         );
   },
 )
@@ -316,9 +343,9 @@ lower_while-returns t c =
     let second = c.take_label-start.ensures in
     let start : c.take_label-start.result ≡ c.args.out.now.label + 1 = second.label ∙ ap (λ z. z.label) first.next in
     on_ok_weaker c.push_turn.result
-    (λ made d to. while_made d to c.args.out.now c.take_label-start.new.self _ _ _ _ _ _ _ _ _ first.label start refl
-    (two_labels d to _ _ _ first.next second.next) c.in_ok-push.ensures (c.in_ok-lower_then.ensures d)
-    (c.in_ok-lower_statement.ensures d) made)
+    (λ made to. while_made to c.args.out.now c.take_label-start.new.self _ _ _ _ _ _ _ _ _ first.label start refl
+    (two_labels to _ _ _ first.next second.next) c.in_ok-push.ensures c.in_ok-lower_then.ensures
+    c.in_ok-lower_statement.ensures made)
     c.push_turn.ensures
 
 pub lower_do-lower_statement-requires : goal.lower_do-lower_statement-requires
@@ -326,6 +353,7 @@ lower_do-lower_statement-requires t c = (
   search (rules, the_lemmas),
   record {
     built = c.requires.built.0;
+    few = c.requires.few.0;
     labels =
         omega (
           arith,
@@ -346,9 +374,9 @@ lower_do-lower_statement-requires t c = (
 pub lower_do-returns : goal.lower_do-returns
 lower_do-returns t c =
     on_ok_weaker c.push-3.result
-    (λ made d to. do_made d to _ _ _ _ _ c.take_turn-turn.ensures.turn c.exits.ensures c.take_turn-turn.ensures.next
+    (λ made to. do_made to _ _ _ _ _ c.take_turn-turn.ensures.turn c.exits.ensures c.take_turn-turn.ensures.next
     _ _ _ _ _ _
-    c.in_ok-push.ensures (c.in_ok-lower_statement.ensures d) c.in_ok-push-2.ensures (c.in_ok-lower_then.ensures d) made)
+    c.in_ok-push.ensures c.in_ok-lower_statement.ensures c.in_ok-push-2.ensures c.in_ok-lower_then.ensures made)
     c.push-3.ensures
 
 pub lower_for-lower_statement-requires : goal.lower_for-lower_statement-requires
@@ -356,13 +384,14 @@ lower_for-lower_statement-requires t c = (
   search (rules, the_lemmas),
   record {
     built = c.requires.built.1;
+    few = c.requires.few.1;
     labels =
         omega (
           arith,
           c.requires.labels,
           ap (λ z. z.label) c.take_turn-turn.ensures.next,
           ap (λ z. z.label) c.in_ok-push.ensures,
-          label_past _ _ _ _ (c.in_ok-lower_then.ensures anywhere),
+          label_past _ _ _ _ c.in_ok-lower_then.ensures,
         );
     variables =
         omega (
@@ -370,7 +399,7 @@ lower_for-lower_statement-requires t c = (
           c.requires.variables,
           ap (λ z. z.variable) c.take_turn-turn.ensures.next,
           ap (λ z. z.variable) c.in_ok-push.ensures,
-          variable_past _ _ _ _ (c.in_ok-lower_then.ensures anywhere),
+          variable_past _ _ _ _ c.in_ok-lower_then.ensures,
         );
   },
 )
@@ -378,9 +407,9 @@ lower_for-lower_statement-requires t c = (
 pub lower_for-returns : goal.lower_for-returns
 lower_for-returns t c =
     on_ok_weaker c.push_turn.result
-    (λ made d to. for_made d to _ _ _ _ _ c.take_turn-turn.ensures.turn c.exits.ensures c.take_turn-turn.ensures.next
+    (λ made to. for_made to _ _ _ _ _ c.take_turn-turn.ensures.turn c.exits.ensures c.take_turn-turn.ensures.next
     _ _ _ _ _ _
-    c.in_ok-push.ensures (c.in_ok-lower_then.ensures d) (c.in_ok-lower_statement.ensures d) c.in_ok-push-2.ensures made)
+    c.in_ok-push.ensures c.in_ok-lower_then.ensures c.in_ok-lower_statement.ensures c.in_ok-push-2.ensures made)
     c.push_turn.ensures
 
 pub lower_for_step-lower_statement-requires : goal.lower_for_step-lower_statement-requires
@@ -388,13 +417,14 @@ lower_for_step-lower_statement-requires t c = (
   search (rules, the_lemmas),
   record {
     built = c.requires.built.2;
+    few = c.requires.few.2;
     labels =
         omega (
           arith,
           c.requires.labels,
           ap (λ z. z.label) c.take_turn-turn.ensures.next,
           ap (λ z. z.label) c.in_ok-push.ensures,
-          label_past _ _ _ _ (c.in_ok-lower_then.ensures anywhere),
+          label_past _ _ _ _ c.in_ok-lower_then.ensures,
         );
     variables =
         omega (
@@ -402,7 +432,7 @@ lower_for_step-lower_statement-requires t c = (
           c.requires.variables,
           ap (λ z. z.variable) c.take_turn-turn.ensures.next,
           ap (λ z. z.variable) c.in_ok-push.ensures,
-          variable_past _ _ _ _ (c.in_ok-lower_then.ensures anywhere),
+          variable_past _ _ _ _ c.in_ok-lower_then.ensures,
         );
   },
 )
@@ -410,10 +440,10 @@ lower_for_step-lower_statement-requires t c = (
 pub lower_for_step-returns : goal.lower_for_step-returns
 lower_for_step-returns t c =
     on_ok_weaker c.push_turn.result
-    (λ made d to. for_step_made d to _ _ _ _ _ c.take_turn-turn.ensures.turn c.exits.ensures
+    (λ made to. for_step_made to _ _ _ _ _ c.take_turn-turn.ensures.turn c.exits.ensures
     c.take_turn-turn.ensures.next _ _ _ _ _ _ _ _
-    c.in_ok-push.ensures (c.in_ok-lower_then.ensures d) (c.in_ok-lower_statement.ensures d) c.in_ok-push-2.ensures
-    (c.in_ok-lower_effect.ensures d) made)
+    c.in_ok-push.ensures c.in_ok-lower_then.ensures c.in_ok-lower_statement.ensures c.in_ok-push-2.ensures
+    c.in_ok-lower_effect.ensures made)
     c.push_turn.ensures
 
 pub lower_if_else-lower_statement-requires-2 : goal.lower_if_else-lower_statement-requires-2
@@ -421,14 +451,15 @@ lower_if_else-lower_statement-requires-2 t c = (
   search (rules, the_lemmas),
   record {
     built = c.requires.built.2;
+    few = c.requires.few.2;
     labels =
         omega (
           arith,
           c.requires.labels,
           ap (λ z. z.label) c.take_label-other.ensures.next,
           ap (λ z. z.label) c.take_label-end.ensures.next,
-          label_past _ _ _ _ (c.in_ok-lower_then.ensures anywhere),
-          stmt_labels anywhere (targets_of c.args.exits) _ _ _ (c.in_ok-lower_statement.ensures anywhere),
+          label_past _ _ _ _ c.in_ok-lower_then.ensures,
+          stmt_labels (targets_of c.args.exits) _ _ _ c.in_ok-lower_statement.ensures,
           ap (λ z. z.label) c.in_ok-push_turn.ensures,
         );
     variables =
@@ -437,8 +468,8 @@ lower_if_else-lower_statement-requires-2 t c = (
           c.requires.variables,
           ap (λ z. z.variable) c.take_label-other.ensures.next,
           ap (λ z. z.variable) c.take_label-end.ensures.next,
-          variable_past _ _ _ _ (c.in_ok-lower_then.ensures anywhere),
-          stmt_temps anywhere (targets_of c.args.exits) _ _ _ (c.in_ok-lower_statement.ensures anywhere),
+          variable_past _ _ _ _ c.in_ok-lower_then.ensures,
+          stmt_temps (targets_of c.args.exits) _ _ _ c.in_ok-lower_statement.ensures,
           ap (λ z. z.variable) c.in_ok-push_turn.ensures,
         );
   },
@@ -448,13 +479,14 @@ pub lower_do-lower_then-requires : goal.lower_do-lower_then-requires
 lower_do-lower_then-requires t c =
     record {
       built = c.requires.built.1;
+      few = c.requires.few.1;
       labels =
           omega (
             arith,
             c.requires.labels,
             ap (λ z. z.label) c.take_turn-turn.ensures.next,
             ap (λ z. z.label) c.in_ok-push.ensures,
-            stmt_labels anywhere (targets_of c.exits.result) _ _ _ (c.in_ok-lower_statement.ensures anywhere),
+            stmt_labels (targets_of c.exits.result) _ _ _ c.in_ok-lower_statement.ensures,
             ap (λ z. z.label) c.in_ok-push-2.ensures,
           );
       variables =
@@ -463,7 +495,7 @@ lower_do-lower_then-requires t c =
             c.requires.variables,
             ap (λ z. z.variable) c.take_turn-turn.ensures.next,
             ap (λ z. z.variable) c.in_ok-push.ensures,
-            stmt_temps anywhere (targets_of c.exits.result) _ _ _ (c.in_ok-lower_statement.ensures anywhere),
+            stmt_temps (targets_of c.exits.result) _ _ _ c.in_ok-lower_statement.ensures,
             ap (λ z. z.variable) c.in_ok-push-2.ensures,
           );
     }
@@ -472,14 +504,15 @@ pub lower_for_step-lower_effect-requires : goal.lower_for_step-lower_effect-requ
 lower_for_step-lower_effect-requires t c =
     record {
       built = c.requires.built.1;
+      few = c.requires.few.1;
       labels =
           omega (
             arith,
             c.requires.labels,
             ap (λ z. z.label) c.take_turn-turn.ensures.next,
             ap (λ z. z.label) c.in_ok-push.ensures,
-            label_past _ _ _ _ (c.in_ok-lower_then.ensures anywhere),
-            stmt_labels anywhere (targets_of c.exits.result) _ _ _ (c.in_ok-lower_statement.ensures anywhere),
+            label_past _ _ _ _ c.in_ok-lower_then.ensures,
+            stmt_labels (targets_of c.exits.result) _ _ _ c.in_ok-lower_statement.ensures,
             ap (λ z. z.label) c.in_ok-push-2.ensures,
           );
       variables =
@@ -488,8 +521,8 @@ lower_for_step-lower_effect-requires t c =
             c.requires.variables,
             ap (λ z. z.variable) c.take_turn-turn.ensures.next,
             ap (λ z. z.variable) c.in_ok-push.ensures,
-            variable_past _ _ _ _ (c.in_ok-lower_then.ensures anywhere),
-            stmt_temps anywhere (targets_of c.exits.result) _ _ _ (c.in_ok-lower_statement.ensures anywhere),
+            variable_past _ _ _ _ c.in_ok-lower_then.ensures,
+            stmt_temps (targets_of c.exits.result) _ _ _ c.in_ok-lower_statement.ensures,
             ap (λ z. z.variable) c.in_ok-push-2.ensures,
           );
     }
@@ -498,15 +531,20 @@ pub lower_switch-lower_cases-requires : goal.lower_switch-lower_cases-requires
 lower_switch-lower_cases-requires t c = (
   search (rules, the_lemmas),
   subst (λ z. FitItems (view_of c.args.items.now) z) (sym c.apart-inside.ensures)
-      (record { built = c.requires.built; labels = c.requires.labels; variables = c.requires.variables }),
+      (record {
+        built = c.requires.built;
+        few = c.requires.few;
+        labels = c.requires.labels;
+        variables = c.requires.variables;
+      }),
 )
 
 pub lower_switch-returns : goal.lower_switch-returns
 lower_switch-returns t c =
     on_ok_weaker c.push-2.result
-    (λ made d. switch_made d _ _ _ (let y : Exits
+    (λ made. switch_made _ _ _ (let y : Exits
     = record { on_break = c.args.selector.end; on_continue = c.args.exits.on_continue } in y) _ _ _ _ _ _ _
-    c.apart-inside.ensures c.in_ok-label.ensures.label c.in_ok-label.ensures.tests (c.in_ok-label.ensures.ops d)
+    c.apart-inside.ensures c.in_ok-label.ensures.label c.in_ok-label.ensures.tests c.in_ok-label.ensures.ops
     c.in_ok-push.ensures c.in_ok-append.ensures made)
     c.push-2.ensures
 
@@ -530,24 +568,30 @@ lower_cases-loop-s-preserved t c =
           c.loop-s.invariant.label
           c.default_at.ensures c.or-default.ensures c.in_ok-lower_statement.ensures;
       ops =
-          λ d. one_done (targets_of c.args.exits) _ _ _ _ c.loop-s-test.true c.s-item.is d _ _
-          (c.loop-s.invariant.ops d)
-          (c.in_ok-lower_statement.ensures d);
+          one_done (targets_of c.args.exits) _ _ _ _ c.loop-s-test.true c.s-item.is _ _
+          c.loop-s.invariant.ops
+          c.in_ok-lower_statement.ensures;
     }
 
 pub lower_cases-returns : goal.lower_cases-returns
 lower_cases-returns t c =
     let past : length c.args.items.now ≤ c.loop-s.s-index = omega (arith, c.loop-s-test.false) in
     record {
-      label = c.unwrap_or.ensures ∙ none_unnamed c.loop-s.s-index c.args.items.now c.loop-s.default c.loop-s.inside.label
+      label =
+          c.unwrap_or.ensures
+          ∙ none_unnamed c.loop-s.s-index c.args.items.now c.loop-s.default c.loop-s.inside.label
           c.args.exits.on_break _ past c.loop-s.invariant.label;
-      tests = none_untested c.loop-s.s-index c.args.items.now c.loop-s.inside.label c.args.value c.loop-s.out _ past c.loop-s.invariant.tests;
-      ops = λ d. none_left d (targets_of c.args.exits) c.loop-s.s-index c.args.items.now c.loop-s.inside _ past (c.loop-s.invariant.ops d);
+      tests =
+          none_untested c.loop-s.s-index c.args.items.now c.loop-s.inside.label c.args.value c.loop-s.out _ past
+          c.loop-s.invariant.tests;
+      ops =
+          none_left (targets_of c.args.exits) c.loop-s.s-index c.args.items.now c.loop-s.inside _ past
+          c.loop-s.invariant.ops;
     }
 
 pub lower_cases-loop-s-init : goal.lower_cases-loop-s-init
 lower_cases-loop-s-init t c =
-    record { fit = c.requires; tests = refl; label = refl; ops = λ d. refl }
+    record { fit = c.requires; tests = refl; label = refl; ops = refl }
 
 pub lower_statements-lower_statement-requires : goal.lower_statements-lower_statement-requires
 lower_statements-lower_statement-requires t c = (
@@ -557,7 +601,7 @@ lower_statements-lower_statement-requires t c = (
 
 pub lower_statements-loop-s-init : goal.lower_statements-loop-s-init
 lower_statements-loop-s-init t c =
-    record { fit = c.requires; ops = λ d. refl }
+    record { fit = c.requires; ops = refl }
 
 pub lower_statements-loop-s-preserved : goal.lower_statements-loop-s-preserved
 lower_statements-loop-s-preserved t c =
@@ -566,12 +610,12 @@ lower_statements-loop-s-preserved t c =
           others_fit_behind (targets_of c.args.exits) _ _ _ _ c.loop-s-test.true c.s-item.is _ c.loop-s.invariant.fit
           c.in_ok-lower_statement.ensures;
       ops =
-          λ d. one_done (targets_of c.args.exits) _ _ _ _ c.loop-s-test.true c.s-item.is d _ _
-          (c.loop-s.invariant.ops d)
-          (c.in_ok-lower_statement.ensures d);
+          one_done (targets_of c.args.exits) _ _ _ _ c.loop-s-test.true c.s-item.is _ _
+          c.loop-s.invariant.ops
+          c.in_ok-lower_statement.ensures;
     }
 
 pub lower_statements-returns : goal.lower_statements-returns
 lower_statements-returns t c =
-    λ d. none_left d (targets_of c.args.exits) c.loop-s.s-index c.args.list.now c.loop-s.out _
-    (omega (arith, c.loop-s-test.false)) (c.loop-s.invariant.ops d)
+    none_left (targets_of c.args.exits) c.loop-s.s-index c.args.list.now c.loop-s.out _
+    (omega (arith, c.loop-s-test.false)) c.loop-s.invariant.ops

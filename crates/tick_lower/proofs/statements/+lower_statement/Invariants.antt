@@ -1,7 +1,7 @@
-use Rattle.std.proofs.Common.{◌≡◌, ℕ, ◌+◌, ◌*◌, ◌++◌, max}
+use Rattle.std.proofs.Common.{◌≡◌, ◌+◌, ◌*◌, max}
 use Rattle.std.specs.Prelude.{unwrap_or}
 use Rattle.typed_tree.specs.declared.expression.Stmt.{size-Stmt}
-use Rattle.tick_lower_proof.specs.Lower.{Addresses, test_ops, default_label}
+use Rattle.tick_lower_proof.specs.Lower.{test_ops, default_label}
 use Rattle.tick_lower.specs.Steps.{FitItems, add, add_items, targets_of}
 use Rattle.tick_lower.proofs.Rest.{rest}
 use Rattle.tick_lower.proofs.statements.+lower_statement.Given as goal
@@ -41,9 +41,8 @@ decreases-lower_cases l = 3 * goal.size-lower_cases l + 1
 abbrev pub invariant-lower_statements-loop-s : goal.invariant-lower_statements-loop-s
 invariant-lower_statements-loop-s l = record {
   fit : FitItems (rest l.s-index l.list) l.out;
-  ops : (d : Addresses) →
-      add_items d (targets_of l.exits) (rest l.s-index l.list) l.out
-      ≡ add_items d (targets_of l.exits) (rest 0 l.list) l.fn.out;
+  ops : add_items (targets_of l.exits) (rest l.s-index l.list) l.out
+      ≡ add_items (targets_of l.exits) (rest 0 l.list) l.fn.out;
 }
 
 abbrev pub invariant-lower_cases-loop-s : goal.invariant-lower_cases-loop-s
@@ -53,7 +52,6 @@ invariant-lower_cases-loop-s l = record {
       ≡ add (test_ops (rest 0 l.items) l.fn.inside.label l.value) l.fn.out;
   label : unwrap_or l.default (default_label (rest l.s-index l.items) l.inside.label l.exits.on_break)
       ≡ default_label (rest 0 l.items) l.fn.inside.label l.exits.on_break;
-  ops : (d : Addresses) →
-      add_items d (targets_of l.exits) (rest l.s-index l.items) l.inside
-      ≡ add_items d (targets_of l.exits) (rest 0 l.items) l.fn.inside;
+  ops : add_items (targets_of l.exits) (rest l.s-index l.items) l.inside
+      ≡ add_items (targets_of l.exits) (rest 0 l.items) l.fn.inside;
 }

@@ -4,5 +4,5 @@ use Rattle.tick_lower.proofs.statements.lower_selector.Goals as goal
 
 pub returns-clause-ops : goal.returns-clause-ops
 returns-clause-ops c =
-    λ d. selector_made d nowhere _ _ _ _ _ _ _ c.take_label-end.ensures.next c.take_variable-value.ensures.next
-    c.take_variable-value.ensures.variable (c.in_ok-lower_then.ensures d) c.in_ok-push.ensures
+    selector_made nowhere _ _ _ _ _ _ _ c.take_label-end.ensures.next c.take_variable-value.ensures.next
+    c.take_variable-value.ensures.variable c.in_ok-lower_then.ensures c.in_ok-push.ensures
