@@ -29,7 +29,7 @@ use Rattle.spec_closure.proofs.Kept.{and_write, allotted_keeps, allotted_registe
 use Rattle.spec_closure.proofs.Answered.{malloc_answered}
 
 -- a call of a routine leaves its return address in $ra
-call_reaches : (c : Code) (a target : ℕ) (d : Data) → a + 4 + 4 < SEGMENT_BYTES → target < SEGMENT_BYTES →
+pub call_reaches : (c : Code) (a target : ℕ) (d : Data) → a + 4 + 4 < SEGMENT_BYTES → target < SEGMENT_BYTES →
     target % 4 ≡ 0 → HasAt c a (jal target ∷ nop ∷ []) →
     Reaches 2 (at c a 0 d) (at c target 0 (linked (a + 4 + 4) d))
 call_reaches c a target d low near even h =
@@ -47,7 +47,7 @@ answer_word x shared h = elim (cases_Bool (nat_le x (FRAMES - shared.heap))) [
 ]
 
 -- an answer from $v0 to $t8
-abbrev brought : Data → Data
+abbrev pub brought : Data → Data
 brought d = with_registers (update 24 ((d.registers 2 + 0) % 4294967296) d.registers) d
 
 module _ (c : Code) (a bytes : ℕ) (shared : Shared) (d : Data) (w v : Spot) (low : past a (in_code v) + 12 <

@@ -4,3 +4,13 @@ pub mod Answered
 pub mod Calls
 pub mod Fitting
 pub mod Rows
+pub mod Skips
+pub mod Accesses
+pub mod Appending
+pub mod Making
+pub mod Checking
+pub mod Standing
+pub mod FittingRoutines
+pub mod RoutineRows
+pub mod Calling
+pub mod Called

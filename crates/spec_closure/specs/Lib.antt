@@ -1,2 +1,5 @@
 pub mod Malloc
 pub mod Laws
+pub mod Closures
+pub mod Routines
+pub mod RoutineLaws
