@@ -1,0 +1,4 @@
+pub mod Reasons
+pub mod Choices
+pub mod Services
+pub mod Laws

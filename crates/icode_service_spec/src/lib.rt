@@ -1,0 +1,9 @@
+//! The services that make code during a run, as definitions, and the reasons for which they are refused.
+//! The code that serves them stands in the crate `icode_service`.
+#![tactic(auto)]
+
+mod bad_service;
+mod laws;
+
+pub use bad_service::BadService;
+pub use laws::choices_are_legal;
