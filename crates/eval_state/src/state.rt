@@ -1,0 +1,162 @@
+//! The state of a run from within.
+
+use crate::parts::Frame;
+use sqlite_items::Items;
+use std::alloc::Global;
+use std::marker::Model;
+use typed_tree::{Answer, Function};
+use wellformed::Typed;
+
+/// The variables of generated code that a function has, by their keys: those that were set, and its arguments.
+#[derive(Drop)]
+pub struct Generated {
+    /// What its call was passed.
+    pub arguments: Items<u32>,
+    /// The keys that were set.
+    pub keys: Items<u32>,
+    /// The value of each.
+    pub values: Items<u32>,
+}
+
+/// The active body.
+#[derive(Drop)]
+pub struct Body {
+    /// Its register variables by their numbers; those that follow are 0.
+    pub variables: Items<u32>,
+    /// What its call was passed.
+    pub arguments: Items<u32>,
+    /// The variables of generated code that its function has.
+    pub generated: Generated,
+    /// The bytes of its frame objects.
+    pub object: u32,
+    /// The number of the specification whose code runs; 0 in a function of the text.
+    pub row: u32,
+}
+
+/// What is kept of a capture.
+#[derive(Clone, Copy)]
+pub enum Kept {
+    /// A word.
+    Word(u32),
+    /// The key of a variable of generated code.
+    Key(u32),
+    /// The number of a specification.
+    Number(u32),
+}
+
+/// What a specification is.
+#[derive(Clone, Copy)]
+pub enum RowKind {
+    /// Of a tick of an expression.
+    Expression,
+    /// Of a tick of a statement.
+    Statement,
+    /// A variable of generated code.
+    Local,
+    /// A parameter of generated code, of this index.
+    Param(u32),
+}
+
+/// A specification.
+#[derive(Drop)]
+pub struct Row {
+    /// What it is.
+    pub kind: RowKind,
+    /// The number of its tick.
+    pub tick: u32,
+    /// Its captures.
+    pub kept: Items<Kept>,
+    /// Its nodes, with those that are spliced in.
+    pub size: u32,
+    /// The parameters of its code.
+    pub parameters: u32,
+}
+
+/// An event.
+#[derive(Clone, Copy)]
+pub enum Event {
+    /// A byte was put out.
+    Out(u8),
+    /// The input was asked for a byte and answered this word.
+    In(u32),
+    /// The function of the first number was compiled from the specification of the second.
+    Made(u32, u32),
+    /// The compiled function of this number was entered.
+    Entered(u32),
+}
+
+/// What is pending, on a value or on the end of a body.
+#[derive(Drop)]
+pub enum Entry<'a> {
+    /// Within a body.
+    Inside(Frame<'a>),
+    /// A call that is charged so much; the caller's body.
+    Called(Answer, u32, Body),
+    /// A specification that is spliced in; the variables, the bytes of frame objects and the specification round it.
+    Spliced(Answer, Items<u32>, u32, u32),
+}
+
+/// The parts of the state.
+#[derive(Drop)]
+pub struct Parts<'a> {
+    /// Where memory comes from.
+    pub alloc: Global,
+    /// The program.
+    pub typed: &'a Typed,
+    /// Its function `main`.
+    pub main: &'a Function,
+    /// How many turns a loop has after its first.
+    pub turns: u64,
+    /// How many calls more may be active.
+    pub depth: u64,
+    /// The units that are left.
+    pub units: u64,
+    /// What is pending, the innermost last.
+    pub entries: Items<Entry<'a>>,
+    /// The active body.
+    pub body: Body,
+    /// What happened.
+    pub events: Items<Event>,
+    /// The input that is left.
+    pub input: &'a [u8],
+    /// Whether a fault comes after it in place of the end.
+    pub failing: bool,
+    /// The words of the object space.
+    pub objects: Vec<u32>,
+    /// The next address of the heap.
+    pub heap: u32,
+    /// The bytes that the active calls are charged.
+    pub used: u32,
+    /// The bytes of the frame objects of the active calls.
+    pub frames: u32,
+    /// The specifications, the first of which has the number 1.
+    pub rows: Items<Row>,
+    /// The bytes of their closures.
+    pub closures: u32,
+    /// The numbers of the specifications that were compiled.
+    pub compiled: Items<u32>,
+    /// The words of the arena that they are charged.
+    pub arena: u32,
+}
+
+/// A run from within, which contracts see by its parts.
+#[derive(Drop)]
+pub struct Machine<'a> {
+    pub(crate) parts: Parts<'a>,
+}
+
+impl<'a> Model for Machine<'a> {
+    ghost use Rattle.eval_state.specs.declared.state.Parts.{Parts};
+    ghost use Rattle.eval_state.specs.contracts.state.Parts as inner;
+    ghost use denote.Signature.{static_lft};
+
+    ghost Value = { Parts };
+
+    ghost coded = { (inner.the_row static_lft).coded };
+
+    ghost use Rattle.eval_state.specs.Sound.{IsSound};
+
+    ghost view = { λ m. m.parts };
+
+    ghost invariant = { λ m. IsSound m.parts };
+}
