@@ -103,82 +103,6 @@ fn other_texts_are_refused(rt: HostRuntime) -> Result<(), Fail> {
     Ok(())
 }
 
-#[test]
-fn the_least_word_is_written(rt: HostRuntime) -> Result<(), Fail> {
-    let text = "int main(){putint(-2147483647-1);return 0;}";
-    let seen = seen_after(rt.alloc(), "tick run text", text, &[])?;
-    assert_eq!(rt; seen.status, 0);
-    assert_eq!(rt; seen.out.as_slice(), b"-2147483648".as_slice());
-    Ok(())
-}
-
-#[test]
-fn the_end_of_the_input_is_minus_one(rt: HostRuntime) -> Result<(), Fail> {
-    let text = "int main(){return getchar();}";
-    let seen = seen_after(rt.alloc(), "tick run text", text, &[])?;
-    assert_eq!(rt; seen.status, 255);
-    Ok(())
-}
-
-#[test]
-fn quotients_trap(rt: HostRuntime) -> Result<(), Fail> {
-    let zero = "int main(){putchar(65);return 1/0;}";
-    let seen = seen_after(rt.alloc(), "tick run text", zero, &[])?;
-    assert_eq!(rt; seen.status, 70);
-    assert_eq!(rt; seen.out.as_slice(), b"A".as_slice());
-    assert_eq!(rt;
-        seen.err.as_slice(),
-        b"tick: trap DivideByZero\n".as_slice()
-    );
-    let least = "int main(){putchar(65);return (-2147483647-1)/-1;}";
-    let seen = seen_after(rt.alloc(), "tick run text", least, &[])?;
-    assert_eq!(rt; seen.status, 70);
-    assert_eq!(rt; seen.out.as_slice(), b"A".as_slice());
-    assert_eq!(rt;
-        seen.err.as_slice(),
-        b"tick: trap DivideOverflow\n".as_slice()
-    );
-    Ok(())
-}
-
-#[test]
-fn a_global_and_a_string_are_read(rt: HostRuntime) -> Result<(), Fail> {
-    let text = "int g[3]={4,5};int main(){char *s=\"ab\";return g[1]*s[1]%100+g[2];}";
-    let seen = seen_after(rt.alloc(), "tick run text", text, &[])?;
-    assert_eq!(rt; seen.status, 90);
-    assert_eq!(rt; seen.err.as_slice(), b"".as_slice());
-    Ok(())
-}
-
-// Whether a text writes nothing under `run` and ends with a trap, which this line says.
-fn traps_so(alloc: Global, text: &str, line: &str) -> Result<bool, AllocError> {
-    let seen = seen_after(alloc, "tick run text", text, &[])?;
-    Ok(seen.status == 70 && seen.out.is_empty() && seen.err.as_slice() == line.as_bytes())
-}
-
-#[test]
-fn an_address_outside_of_the_space_is_out_of_range(rt: HostRuntime) -> Result<(), Fail> {
-    let line = "tick: trap Range\n";
-    let zero = "int main(){return *(int*)0;}";
-    assert!(rt; traps_so(rt.alloc(), zero, line)?);
-    let behind = "int main(){return *(int*)0x20000000;}";
-    assert!(rt; traps_so(rt.alloc(), behind, line)?);
-    // the range counts before the alignment
-    let odd = "int main(){return *(int*)0x20000001;}";
-    assert!(rt; traps_so(rt.alloc(), odd, line)?);
-    Ok(())
-}
-
-#[test]
-fn a_number_of_no_function_is_a_bad_call(rt: HostRuntime) -> Result<(), Fail> {
-    let line = "tick: trap BadCall\n";
-    let zero = "int main(){int (*f)();f=(int(*)())0;return f();}";
-    assert!(rt; traps_so(rt.alloc(), zero, line)?);
-    let high = "int main(){int (*f)();f=(int(*)())999;return f();}";
-    assert!(rt; traps_so(rt.alloc(), high, line)?);
-    Ok(())
-}
-
 // How many dots a text writes under `run`, where it writes nothing else and ends with a trap, which this line says.
 fn dots_before_trap(alloc: Global, text: &str, line: &str) -> Result<Option<usize>, AllocError> {
     let seen = seen_within(alloc, "tick run text", text, 100000, &[])?;
@@ -199,25 +123,6 @@ fn calls_without_end_meet_the_limit_of_the_stack(rt: HostRuntime) -> Result<(), 
     let text = "int f(){putchar(46);return f();}int main(){return f();}";
     let dots = dots_before_trap(rt.alloc(), text, "tick: trap StackLimit\n")?;
     assert_eq!(rt; dots, Some(40329));
-    Ok(())
-}
-
-#[test]
-fn frames_without_end_meet_the_limit_of_frame_objects(rt: HostRuntime) -> Result<(), Fail> {
-    let text = "int f(){int a[1000];putchar(46);return f();}int main(){return f();}";
-    let dots = dots_before_trap(rt.alloc(), text, "tick: trap FrameLimit\n")?;
-    assert_eq!(rt; dots, Some(1048));
-    Ok(())
-}
-
-#[test]
-fn no_memory_beyond_the_heap(rt: HostRuntime) -> Result<(), Fail> {
-    let beyond = "int main(){return malloc(8388609)==0;}";
-    let seen = seen_after(rt.alloc(), "tick run text", beyond, &[])?;
-    assert_eq!(rt; seen.status, 1);
-    let all = "int main(){malloc(8388608);return malloc(1)==0;}";
-    let seen = seen_after(rt.alloc(), "tick run text", all, &[])?;
-    assert_eq!(rt; seen.status, 1);
     Ok(())
 }
 
