@@ -7,5 +7,6 @@ mod first;
 mod memory;
 
 pub use access::Access;
+pub use first::object_words;
 pub use memory::Memory;
 pub use word32::Width;

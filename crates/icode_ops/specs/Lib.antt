@@ -3,3 +3,4 @@ pub mod Flow
 pub mod Live
 pub mod Places
 pub mod Finished
+pub mod Labels

@@ -18,3 +18,7 @@ pub const MOST_STEPS: u64 = 1_099_511_627_776;
 
 /// The instructions that a run takes at most where the command line doesn't say.
 pub const DEFAULT_STEPS: u64 = 1_000_000_000;
+
+/// The most bytes that the code of a function takes for its frame, and for its frame objects: a gigabyte each, so that sums
+/// of addresses and frames stay within 32 bits.
+pub const MOST_FRAME_BYTES: u32 = 1_073_741_824;

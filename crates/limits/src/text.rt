@@ -12,3 +12,6 @@ pub const MAX_TOKENS: usize = 262_144;
 
 /// The most levels of nesting of expressions, statements and brackets in a text. A token that opens one more is TooDeep.
 pub const MAX_NESTING: usize = 200;
+
+/// The largest number of a generated source text.
+pub const LARGEST_SOURCE: u64 = 2_000;

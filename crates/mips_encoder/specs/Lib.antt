@@ -3,3 +3,4 @@ pub mod Codes
 pub mod Fields
 pub mod Table
 pub mod Decoded
+pub mod Addresses
