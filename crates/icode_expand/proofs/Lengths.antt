@@ -3,13 +3,14 @@ use Rattle.std.proofs.Common.{ℕ, ◌≡◌, ◌+◌, ◌*◌, ◌<◌, ◌≤�
 use Rattle.std.proofs.Common.{refl, ap, sym, ◌∙◌, arith, append_assoc, length-append}
 use Rattle.std.proofs.lemmas.List.{take_more, take-append-drop, append-nil}
 use Rattle.mips_encoder.specs.declared.instruction.Instr.{Instr}
+use Rattle.mips_encoder.specs.Addresses.{past}
 use Rattle.icode_ops.specs.Flow.{goes_to, op_at}
 use Rattle.icode_ops.specs.declared.op.Op.{Op}
 use Rattle.icode_ops.specs.declared.op.Op.TheVariants.{Jump, BranchZero, BranchNonzero, Return, ReturnZero}
 use Rattle.icode_templates.specs.Layout.{Layout}
 use Rattle.icode_templates.specs.Templates.{Aim, ToLabel, ToEpilogue, template}
 use Rattle.icode_templates.specs.Words.{words}
-use Rattle.icode_expand.specs.Expansion.{past, templates}
+use Rattle.icode_expand.specs.Expansion.{templates}
 
 pub length_words : (is : List Instr) → length (words is) ≡ length is
 length_words [] = refl

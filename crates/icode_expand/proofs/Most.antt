@@ -3,6 +3,7 @@ use Rattle.std.proofs.Common.{ℕ, ◌≡◌, ◌+◌, ◌*◌, ◌≤◌, Bool,
 use Rattle.std.proofs.Common.{arith, length-append}
 use Rattle.std.specs.List.{filter}
 use Rattle.mips_encoder.specs.declared.instruction.Instr.{Instr}
+use Rattle.mips_encoder.specs.Addresses.{past}
 use Rattle.icode_ops.specs.declared.kind.BinKind.{BinKind}
 use Rattle.icode_ops.specs.declared.kind.UnKind.{UnKind}
 use Rattle.icode_ops.specs.declared.kind.BinKind.TheVariants as bin
@@ -17,7 +18,7 @@ use Rattle.icode_templates.specs.Layout.{Spot, InRegister, InSlot, Layout, laid,
 use Rattle.icode_templates.specs.Templates.{Aim, load_code, wait_code, out_code, bin_core, un_core, template}
 use Rattle.icode_expand.specs.Frames.{has, register_places, saved, saves, restores, enter_count, leave_count}
 use Rattle.icode_expand.specs.Frames.{take_objects, free_objects, prologue, epilogue}
-use Rattle.icode_expand.specs.Expansion.{past, templates, aims, expansion}
+use Rattle.icode_expand.specs.Expansion.{templates, aims, expansion}
 
 load_most : (t : ℕ) (s : Spot) → length (load_code t s) ≤ 3
 load_most t (InRegister r) = omega arith

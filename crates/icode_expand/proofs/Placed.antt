@@ -10,9 +10,11 @@ use Rattle.icode_ops.specs.Finished.{Below, InRange, IsFinished}
 use Rattle.icode_ops.specs.Flow.{goes_to, label_of, op_at, holds, defined, first_use, second_use}
 use Rattle.icode_ops.specs.declared.op.Op.{Op}
 use Rattle.icode_ops.specs.declared.op.Op.TheVariants.{ReturnZero}
+use Rattle.icode_ops.specs.Labels.{label_index}
 use Rattle.icode_templates.specs.Layout.{Layout}
 use Rattle.icode_templates.specs.Templates.{Aim, template}
-use Rattle.icode_expand.specs.Expansion.{past, nowhere, templates, op_address, label_index, aims}
+use Rattle.mips_encoder.specs.Addresses.{past}
+use Rattle.icode_expand.specs.Expansion.{nowhere, templates, op_address, aims}
 use Rattle.icode_expand.specs.Labels.{IsTable, with_label, target_of}
 use Rattle.icode_expand.proofs.Lengths.{past_is, templates_part, aim_to}
 
@@ -77,14 +79,14 @@ holds_of : (x : ℕ) (o : Option ℕ) → o ≡ Some x → holds x o ≡ true
 holds_of x o e = rw e (grind (arith, nat_tests))
 
 index_by : (x : ℕ) (op : Op) (ops : List Op) (b : Bool) → holds x (label_of op) ≡ b
-    → (b ≡ false → label_of (op_at ops (label_index ops x)) ≡ Some x)
-    → label_of (op_at (op ∷ ops) (label_index (op ∷ ops) x)) ≡ Some x
+    → (b ≡ false → label_of (op_at ops (label_index x ops)) ≡ Some x)
+    → label_of (op_at (op ∷ ops) (label_index x (op ∷ ops))) ≡ Some x
 index_by x op ops true e h = rw e (holds_some x (label_of op) e)
 index_by x op ops false e h = rw e (h refl)
 
 -- the label stands at its index
 pub index_is : (ops : List Op) (x q : ℕ) → label_of (op_at ops q) ≡ Some x →
-    label_of (op_at ops (label_index ops x)) ≡ Some x
+    label_of (op_at ops (label_index x ops)) ≡ Some x
 index_is [] x q e =
     let g : op_at [] q ≡ ReturnZero = get_or_past [] q ReturnZero (omega arith) in
     let k : None ≡ Some x = sym (ap label_of g) ∙ e in
@@ -110,8 +112,8 @@ table_made l start ops n labels end f b h e = record {
       let within : label < length labels = subst B s (b q) in
       let there : q < length ops = in_list ops q label s (nat_lt q (length ops)) refl in
       let value : get_or labels label 0 ≡ address_at l start ops q = h q there label s in
-      let same : label_index ops label ≡ q = f.once (label_index ops label) q label (index_is ops label q s) s in
-      let is : op_address l start ops (label_index ops label) ≡ address_at l start ops q =
+      let same : label_index label ops ≡ q = f.once (label_index label ops) q label (index_is ops label q s) s in
+      let is : op_address l start ops (label_index label ops) ≡ address_at l start ops q =
       ap (op_address l start ops) same ∙ op_address_is l start ops q in
       (within, value ∙ sym is, omega (arith, value, e, templates_part l nowhere ops q));
   at_end = e ∙ sym (past_is start (templates l nowhere ops));

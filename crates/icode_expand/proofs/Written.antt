@@ -2,6 +2,7 @@
 use Rattle.std.proofs.Common.{ℕ, ◌≡◌, ◌+◌, ◌-◌, ◌*◌, ◌/◌, ◌<◌, ◌≤◌, Bool, List, ◌++◌, length, take, drop, ap, sym, ◌∙◌}
 use Rattle.std.proofs.Common.{arith, append_assoc, length-append, zero-add}
 use Rattle.mips_encoder.specs.declared.instruction.Instr.{Instr}
+use Rattle.mips_encoder.specs.Addresses.{past}
 use Rattle.icode_ops.specs.Flow.{goes_to, op_at}
 use Rattle.icode_ops.specs.declared.op.Op.{Op}
 use Rattle.icode_templates.specs.Layout.{Layout, laid}
@@ -9,7 +10,7 @@ use Rattle.icode_templates.specs.Templates.{Aim, template}
 use Rattle.icode_templates.specs.Words.{words}
 use Rattle.icode_templates.proofs.Appended.{words_append}
 use Rattle.icode_expand.specs.Frames.{saved, prologue, epilogue}
-use Rattle.icode_expand.specs.Expansion.{past, nowhere, templates, aims, expanded}
+use Rattle.icode_expand.specs.Expansion.{nowhere, templates, aims, expanded}
 use Rattle.icode_expand.specs.Labels.{IsTable, spliced, target_of}
 use Rattle.icode_expand.proofs.Lengths.{length_words, past_is, templates_length, templates_more, template_at, aim_to}
 use Rattle.icode_expand.proofs.Placed.{target_is}

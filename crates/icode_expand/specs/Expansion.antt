@@ -1,19 +1,15 @@
 -- The expansion of a list of ops: the prologue, the templates of the ops one behind another, and the epilogue, with the
 -- address of each label filled in. An instruction has 4 bytes, and how many an op has doesn't depend on the labels'
 -- addresses, so they are found from templates where each address is 0. These are the project's own rules.
-use Rattle.std.specs.Prelude.{ℕ, zero, suc, ◌+◌, Bool, if◌then◌else◌, List, [], ◌∷◌, ◌++◌}
+use Rattle.std.specs.Prelude.{ℕ, zero, suc, Bool, List, [], ◌∷◌, ◌++◌}
 use Rattle.mips_encoder.specs.declared.instruction.Instr.{Instr}
-use Rattle.icode_ops.specs.Flow.{label_of, holds}
+use Rattle.mips_encoder.specs.Addresses.{past}
+use Rattle.icode_ops.specs.Labels.{label_index}
 use Rattle.icode_ops.specs.declared.op.Op.{Op}
 use Rattle.icode_templates.specs.Layout.{Layout, laid}
 use Rattle.icode_templates.specs.Templates.{Aim, ToLabel, ToEpilogue, template}
 use Rattle.icode_templates.specs.Words.{words}
 use Rattle.icode_expand.specs.Frames.{saved, prologue, epilogue}
-
--- the address behind instructions that stand from this address on
-abbrev pub past : ℕ → List Instr → ℕ
-past address [] = address
-past address (i ∷ is) = past (address + 4) is
 
 abbrev pub nowhere : Aim → ℕ
 nowhere aim = 0
@@ -29,14 +25,9 @@ op_address layout start [] i = start
 op_address layout start (op ∷ ops) zero = start
 op_address layout start (op ∷ ops) (suc i) = op_address layout (past start (template layout nowhere op)) ops i
 
--- the index of the op at which the label stands
-abbrev pub label_index : List Op → ℕ → ℕ
-label_index [] label = 0
-label_index (op ∷ ops) label = if holds label (label_of op) then 0 else suc (label_index ops label)
-
 -- the addresses to which ops go: a label's op, or what follows the last op
 abbrev pub aims : Layout → ℕ → List Op → Aim → ℕ
-aims layout start ops (ToLabel label) = op_address layout start ops (label_index ops label)
+aims layout start ops (ToLabel label) = op_address layout start ops (label_index label ops)
 aims layout start ops ToEpilogue = past start (templates layout nowhere ops)
 
 -- the ops from this address on

@@ -3,6 +3,7 @@
 use Rattle.std.proofs.Common.{◌≡◌, ◌≢◌, inl, inr, ℕ, suc, ◌+◌, ◌*◌, ◌/◌, ◌%◌, ◌<◌, Bool, true, false, not, List}
 use Rattle.std.proofs.Common.{[], ◌∷◌, ◌++◌, length, Option, Some, None, refl, sym, ap, ◌∙◌, subst, arith, nat_eq}
 use Rattle.std.proofs.Common.{nat_lt, if◌then◌else◌, slice_get}
+use Rattle.std.proofs.lemmas.Bool.{and_parts}
 use Rattle.std.proofs.lemmas.Bool.{cases_lt, cases_eq, eq-eqb, ne_eqb}
 use Rattle.std.proofs.lemmas.Bool.Decides.{nat_tests}
 use Rattle.word32.specs.Space.{update}
@@ -31,7 +32,7 @@ use Rattle.icode_frames_spec.proofs.Frames.{spots}
 use Rattle.icode_frames_spec.proofs.Memory.{memory_kept}
 use Rattle.icode_frames_spec.proofs.Places.{spot_usable, slot_usable}
 use Rattle.icode_frames_proof.proofs.Saving.{word_put, store_leaves}
-use Rattle.icode_steps_proof.proofs.Liveness.{next_follows, live_before, both_true}
+use Rattle.icode_steps_proof.proofs.Liveness.{next_follows, live_before}
 use Rattle.icode_steps_proof.proofs.Paying.{runs_pay, extents_kept, first_operand, stuck_pays}
 use Rattle.icode_steps_proof.proofs.Within.{Within, holds_next}
 use Rattle.icode_steps_proof.proofs.Writes.{defined_inside, write_pays}
@@ -97,7 +98,7 @@ module _ (s : Setting) (st : Standing s) where
       let o = Argument k from in
       let a = op_stands_at f places w.index in
       let spot = (layout_of f places).spot from in
-      let x = first_operand s st w d o from h.known h.ready i refl (both_true (w.on from) true u).0 in
+      let x = first_operand s st w d o from h.known h.ready i refl (and_parts (w.on from) true u).0 in
       let v = w.values from in
       let mid = one_in spot d in
       let keeps = keeps_one spot d in

@@ -1,13 +1,15 @@
 -- A call by a number pays, and one of a number that has no such row ends the run.
 use Rattle.std.proofs.Common.{◌≡◌, inl, inr, ℕ, suc, ◌+◌, ◌*◌, ◌/◌, ◌<◌, ◌≤◌, true, false, List, ◌++◌, Option, Some}
 use Rattle.std.proofs.Common.{None, refl, sym, ap, ◌∙◌, subst, arith, nat_eq, slice_get, bit_xor}
+use Rattle.std.proofs.lemmas.Bool.{and_parts}
 use Rattle.std.proofs.lemmas.Bool.{cases_lt, cases_eq, eq-eqb, ne_eqb}
 use Rattle.word32.specs.Space.{update}
 use Rattle.host_edge.specs.declared.ending.Ending.TheVariants.{Trap}
 use Rattle.host_edge.specs.declared.ending.TrapKind.TheVariants.{BadCall}
 use Rattle.history.specs.Events.{Ended}
 use Rattle.mips_model.specs.State.{Data, Outside}
-use Rattle.mips_model.specs.Laws.{HasAt, past, at, Reaches}
+use Rattle.mips_encoder.specs.Addresses.{past}
+use Rattle.mips_model.specs.Laws.{HasAt, at, Reaches}
 use Rattle.mips_model.proofs.Reach.{front, back, past_append}
 use Rattle.icode_ops.specs.declared.op.Op.{Op}
 use Rattle.icode_ops.specs.declared.op.Op.TheVariants.{CallNumber}
@@ -26,7 +28,6 @@ use Rattle.icode_frames_spec.specs.Standing.{layout_of, op_stands_at, Stands}
 use Rattle.icode_frames_spec.proofs.Codes.{op_code, one_stands, code_low, next_at}
 use Rattle.icode_frames_spec.proofs.Frames.{spots, keeps_alike, alike_on}
 use Rattle.icode_frames_proof.proofs.Numbers.{row_data, set, none_ends, other_ends, row_goes}
-use Rattle.icode_steps_proof.proofs.Liveness.{both_true}
 use Rattle.icode_steps_proof.proofs.Paying.{first_operand, stuck_pays}
 use Rattle.icode_expand_proof.proofs.Calls.{call_enters}
 use Rattle.icode_expand_proof.proofs.Entrance.{ends_pay, enter_pays}
@@ -77,7 +78,7 @@ module _ (s : Setting) (st : Standing s) (w : Frame) (arguments : ℕ → Option
   keeps = keeps_one ((layout_of f places).spot number) d
 
   operand : Rattle.icode_steps_proof.proofs.Paying.Operand s w d number
-  operand = first_operand s st w d o number h.known h.ready i refl (both_true (w.on number) true u).0
+  operand = first_operand s st w d o number h.known h.ready i refl (and_parts (w.on number) true u).0
 
   is : mid.registers 24 ≡ w.values number
   is = load_gives 24 ((layout_of f places).spot number) d ∙ operand.value_is

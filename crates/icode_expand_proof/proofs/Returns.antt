@@ -1,6 +1,7 @@
 -- A return to the caller that waits, and the outermost call's to the start, which exits.
 use Rattle.std.proofs.Common.{◌≡◌, ℕ, ◌+◌, ◌%◌, ◌<◌, ◌≤◌, true, List, [], ◌∷◌, Option, Some, refl, sym, ap, ◌∙◌, subst}
 use Rattle.std.proofs.Common.{arith, slice_get}
+use Rattle.std.proofs.lemmas.Bool.{and_parts}
 use Rattle.std.specs.Fn.{iterate}
 use Rattle.pace.specs.Pace.{Seen}
 use Rattle.pace.proofs.Runs.{iterate_add}
@@ -11,7 +12,8 @@ use Rattle.mips_model.specs.State as machine
 use Rattle.mips_model.specs.State.{Code, Data, World}
 use Rattle.mips_model.specs.Steps.{step, going}
 use Rattle.mips_model.specs.Run as run
-use Rattle.mips_model.specs.Laws.{past, at}
+use Rattle.mips_encoder.specs.Addresses.{past}
+use Rattle.mips_model.specs.Laws.{at}
 use Rattle.mips_model.proofs.Reach.{front, back, past_append, reaches_on}
 use Rattle.icode_ops.specs.declared.op.Op.{Op}
 use Rattle.icode_ops.specs.declared.op.Op.TheVariants.{Return, ReturnZero}
@@ -37,7 +39,6 @@ use Rattle.icode_frames_spec.proofs.Frames.{alike_on, keeps_alike, unwound_alike
 use Rattle.icode_frames_spec.proofs.Frames.{pointer_alike, held_30}
 use Rattle.icode_frames_proof.proofs.Entering.{exits}
 use Rattle.icode_frames_proof.proofs.Leaving.{leaves_function}
-use Rattle.icode_steps_proof.proofs.Liveness.{both_true}
 use Rattle.icode_steps_proof.proofs.Paying.{none_passed, runs_pay, memory_left, extents_left, extents_kept}
 use Rattle.icode_steps_proof.proofs.Paying.{first_operand}
 use Rattle.icode_expand_proof.specs.Laws.{ReturnsPay}
@@ -133,7 +134,7 @@ module _ (s : Setting) (st : Standing s) where
       let a = op_stands_at f places w.index in
       let goal = leave_at f places in
       let spot = (layout_of f places).spot from in
-      let x = first_operand s st w d o from h.known h.ready i refl (both_true (w.on from) true u).0 in
+      let x = first_operand s st w d o from h.known h.ready i refl (and_parts (w.on from) true u).0 in
       let v = w.values from in
       let mid = one_in spot d in
       let ins = in_leaves d f.charge spot h.ready.framed (spots f places from sf.suits x.inside) x.word in

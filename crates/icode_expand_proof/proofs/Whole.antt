@@ -2,6 +2,7 @@
 use Rattle.std.proofs.Common.{◌≡◌, ◌⊎◌, inl, inr, nat_eq, ℕ, zero, suc, ◌+◌, ◌*◌, ◌≤◌, Bool, true, false, List, []}
 use Rattle.std.proofs.Common.{◌∷◌, ◌++◌, Option, Some, None, refl, sym, ap, ◌∙◌, subst, arith, slice_get}
 use Rattle.std.proofs.Common.{if◌then◌else◌, append_assoc}
+use Rattle.std.proofs.lemmas.Bool.{and_parts}
 use Rattle.std.specs.Fn.{iterate}
 use Rattle.pace.specs.Claims.{PaysFor, SimulatesStep}
 use Rattle.pace.proofs.Runs.{iterate_add}
@@ -44,7 +45,7 @@ use Rattle.icode_frames_spec.proofs.Codes.{op_code, one_stands}
 use Rattle.icode_frames_spec.proofs.Frames.{spots}
 use Rattle.icode_frames_spec.proofs.Places.{slot_usable}
 use Rattle.icode_steps_proof.proofs.Accesses.{access_least, load_pays, store_pays}
-use Rattle.icode_steps_proof.proofs.Liveness.{op_found, both_true}
+use Rattle.icode_steps_proof.proofs.Liveness.{op_found}
 use Rattle.icode_steps_proof.proofs.ObjectAddresses.{address_pays}
 use Rattle.icode_steps_proof.proofs.Operators.{un_pays, bin_pays, zero_check_pays, division_check_pays}
 use Rattle.icode_steps_proof.proofs.Ops.{const_pays, move_pays, jump_pays, zero_pays, nonzero_pays, label_pays}
@@ -209,7 +210,7 @@ module _ (s : Setting) (st : Standing s) (sv : Serving s) where
         elim (row_least s number n (s.program.row (w.values number)) w arguments waiting log) [
           | inl more ↦ begun_at (call_row s.program (CallNumber number n) n (s.program.row (w.values number)) w
               arguments
-              waiting log) (operand_gentle (CallNumber number n) number _ i refl (both_true (w.on number) true u).0
+              waiting log) (operand_gentle (CallNumber number n) number _ i refl (and_parts (w.on number) true u).0
               (append_assoc (load_code 24 ((layout_of f places).spot number)) _ _)) more
               (number_pays s st w arguments answer waiting log number n d few i u h (s.program.row (w.values number))
               refl)
@@ -236,7 +237,7 @@ module _ (s : Setting) (st : Standing s) (sv : Serving s) where
     applied_pays kind to left right i u None e =
         begun_at (goes_on (set to (bin_value kind (w.values left) (w.values right)) w) waiting
         (paid (Bin kind to left right) log))
-        (operand_gentle (Bin kind to left right) left _ i refl (both_true (w.on left) (w.on right) u).0
+        (operand_gentle (Bin kind to left right) left _ i refl (and_parts (w.on left) (w.on right) u).0
         (append_assoc (load_code 24 ((layout_of f places).spot left)) _ _)) (omega arith)
         (bin_pays s st w arguments answer waiting log d h kind to left right i u None e)
     applied_pays kind to left right i u (Some k) e = stuck_any log q a d h.memory.history
@@ -247,7 +248,7 @@ module _ (s : Setting) (st : Standing s) (sv : Serving s) where
         (head (Const to word) _ (one_stands s.code f places stands w.index (Const to word) i).0 refl tt) (omega arith)
         (const_pays s st w arguments answer waiting log d h to word i z)
     op_pays (Move to from) i u z = begun_at (act s.program (Move to from) w arguments answer waiting log)
-        (operand_gentle (Move to from) from _ i refl (both_true (w.on from) true u).0
+        (operand_gentle (Move to from) from _ i refl (and_parts (w.on from) true u).0
         (append_assoc (load_code 24 ((layout_of f places).spot from)) _ _)) (omega arith)
         (move_pays s st w arguments answer waiting log d h to from i u)
     op_pays (Bin kind to left right) i u z =
@@ -257,7 +258,7 @@ module _ (s : Setting) (st : Standing s) (sv : Serving s) where
         let o = CheckDivision left right in
         let least = unless_least trap (goes_on (moved_on w) waiting (paid o log)) (paid o log) (omega arith) in
         begun_at (act s.program o w arguments answer waiting log)
-        (operand_gentle o left _ i refl (both_true (w.on left) (w.on right) u).0
+        (operand_gentle o left _ i refl (and_parts (w.on left) (w.on right) u).0
         (append_assoc (load_code 24 ((layout_of f places).spot left)) _ _)) (omega (arith, least))
         (division_check_pays s st w arguments answer waiting log d h left right i u trap refl)
     op_pays (CheckZero divisor) i u z =
@@ -265,11 +266,11 @@ module _ (s : Setting) (st : Standing s) (sv : Serving s) where
         let o = CheckZero divisor in
         let least = unless_least trap (goes_on (moved_on w) waiting (paid o log)) (paid o log) (omega arith) in
         begun_at (act s.program o w arguments answer waiting log)
-        (operand_gentle o divisor _ i refl (both_true (w.on divisor) true u).0
+        (operand_gentle o divisor _ i refl (and_parts (w.on divisor) true u).0
         (append_assoc (load_code 24 ((layout_of f places).spot divisor)) _ _)) (omega (arith, least))
         (zero_check_pays s st w arguments answer waiting log d h divisor i u trap refl)
     op_pays (Un kind to from) i u z = begun_at (act s.program (Un kind to from) w arguments answer waiting log)
-        (operand_gentle (Un kind to from) from _ i refl (both_true (w.on from) true u).0
+        (operand_gentle (Un kind to from) from _ i refl (and_parts (w.on from) true u).0
         (append_assoc (load_code 24 ((layout_of f places).spot from)) _ _)) (omega arith)
         (un_pays s st w arguments answer waiting log d h kind to from i u)
     op_pays (FrameAddress to offset) i u z =
@@ -279,14 +280,14 @@ module _ (s : Setting) (st : Standing s) (sv : Serving s) where
         (omega arith) (address_pays s st w arguments answer waiting log d h to offset i)
     op_pays (Load kind to from) i u z =
         begun_at (act s.program (Load kind to from) w arguments answer waiting log)
-        (operand_gentle (Load kind to from) from _ i refl (both_true (w.on from) true u).0
+        (operand_gentle (Load kind to from) from _ i refl (and_parts (w.on from) true u).0
         (append_assoc (load_code 24 ((layout_of f places).spot from)) _ _))
         (access_least (access_trap (w.values from) kind) log (paid (Load kind to from) log) _ (omega arith)
         (omega arith))
         (load_pays s st w arguments answer waiting log d h kind to from i u)
     op_pays (Store kind to from) i u z =
         begun_at (act s.program (Store kind to from) w arguments answer waiting log)
-        (operand_gentle (Store kind to from) to _ i refl (both_true (w.on to) (w.on from) u).0
+        (operand_gentle (Store kind to from) to _ i refl (and_parts (w.on to) (w.on from) u).0
         (append_assoc (load_code 24 ((layout_of f places).spot to)) _ _))
         (access_least (access_trap (w.values to) kind) log (paid (Store kind to from) log) _ (omega arith)
         (omega arith))
@@ -299,16 +300,16 @@ module _ (s : Setting) (st : Standing s) (sv : Serving s) where
         (jump_pays s st w arguments answer waiting log d h label i)
     op_pays (BranchZero test label) i u z =
         begun_at (act s.program (BranchZero test label) w arguments answer waiting log)
-        (operand_gentle (BranchZero test label) test _ i refl (both_true (w.on test) true u).0
+        (operand_gentle (BranchZero test label) test _ i refl (and_parts (w.on test) true u).0
         (append_assoc (load_code 24 ((layout_of f places).spot test)) _ _)) (omega arith)
         (zero_pays s st w arguments answer waiting log d h test label i u)
     op_pays (BranchNonzero test label) i u z =
         begun_at (act s.program (BranchNonzero test label) w arguments answer waiting log)
-        (operand_gentle (BranchNonzero test label) test _ i refl (both_true (w.on test) true u).0
+        (operand_gentle (BranchNonzero test label) test _ i refl (and_parts (w.on test) true u).0
         (append_assoc (load_code 24 ((layout_of f places).spot test)) _ _)) (omega arith)
         (nonzero_pays s st w arguments answer waiting log d h test label i u)
     op_pays (Argument k from) i u z = begun_at (act s.program (Argument k from) w arguments answer waiting log)
-        (operand_gentle (Argument k from) from _ i refl (both_true (w.on from) true u).0
+        (operand_gentle (Argument k from) from _ i refl (and_parts (w.on from) true u).0
         (append_assoc (load_code 24 ((layout_of f places).spot from)) _ _)) (omega arith)
         (argument_pays s st w arguments answer waiting log k from d z i u h)
     op_pays (GetParameter to k) i u z = taken_pays to k (w.parameters k) refl i
@@ -318,7 +319,7 @@ module _ (s : Setting) (st : Standing s) (sv : Serving s) where
     op_pays (Return from) i u z =
         let least = back_least (w.values from) waiting (left w.function (paid (Return from) log)) in
         begun_at (act s.program (Return from) w arguments answer waiting log)
-        (operand_gentle (Return from) from _ i refl (both_true (w.on from) true u).0
+        (operand_gentle (Return from) from _ i refl (and_parts (w.on from) true u).0
         (append_assoc (load_code 24 ((layout_of f places).spot from)) _ _)) (omega (arith, least))
         (return_pays s st w arguments answer waiting log d from i u h)
     op_pays ReturnZero i u z =
@@ -327,13 +328,13 @@ module _ (s : Setting) (st : Standing s) (sv : Serving s) where
         (head ReturnZero _ (one_stands s.code f places stands w.index ReturnZero i).0 refl tt)
         (omega (arith, least)) (zero_return_pays s st w arguments answer waiting log d i h)
     op_pays (Sys kind to from) i u z = begun_at (act s.program (Sys kind to from) w arguments answer waiting log)
-        (operand_gentle (Sys kind to from) from _ i refl (both_true (w.on from) true u).0
+        (operand_gentle (Sys kind to from) from _ i refl (and_parts (w.on from) true u).0
         (append_assoc (load_code 24 ((layout_of f places).spot from)) _ _))
         (service_least s.program kind to from w arguments answer waiting log)
         (service_pays s st w arguments answer waiting log d h kind to from i u)
     op_pays (Run Malloc to from) i u z =
         begun_at (act s.program (Run Malloc to from) w arguments answer waiting log)
-        (operand_gentle (Run Malloc to from) from _ i refl (both_true (w.on from) true u).0
+        (operand_gentle (Run Malloc to from) from _ i refl (and_parts (w.on from) true u).0
         (append_assoc (load_code 24 ((layout_of f places).spot from)) _ _)) (omega arith)
         (malloc_pays s st w arguments answer waiting log d h to from i u)
     op_pays o i u z = absurd z

@@ -5,11 +5,12 @@ use Rattle.std.proofs.lemmas.Bool.{cases_Bool}
 use Rattle.word32.specs.Space.{update}
 use Rattle.word32.specs.declared.map.TheConstants.{GLOBAL_POINTER}
 use Rattle.mips_encoder.specs.declared.instruction.Instr.{Instr}
+use Rattle.mips_encoder.specs.Addresses.{past}
 use Rattle.host_edge.specs.declared.ending.Ending.TheVariants.{Trap}
 use Rattle.host_edge.specs.declared.ending.TrapKind.TheVariants.{FrameLimit}
 use Rattle.history.specs.Events.{Ended}
 use Rattle.mips_model.specs.State.{Code, Data, Outside}
-use Rattle.mips_model.specs.Laws.{HasAt, past, at, Reaches}
+use Rattle.mips_model.specs.Laws.{HasAt, at, Reaches}
 use Rattle.mips_model.proofs.Reach.{front, back, past_append, reaches_on}
 use Rattle.icode_templates.specs.Layout.{place_register}
 use Rattle.icode_expand.specs.Frames.{has, saved, save_offset, saves, take_frame, take_objects, enter_count}

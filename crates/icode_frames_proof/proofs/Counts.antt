@@ -5,8 +5,9 @@ use Rattle.word32.specs.Words.{wrap, widened_half}
 use Rattle.word32.specs.Space.{update}
 use Rattle.word32.specs.declared.map.TheConstants.{GLOBAL_POINTER, ACTIVE_CALLS_CELL}
 use Rattle.mips_encoder.specs.declared.instruction.Instr.{Instr}
+use Rattle.mips_encoder.specs.Addresses.{past}
 use Rattle.mips_model.specs.State.{Code, Data}
-use Rattle.mips_model.specs.Laws.{HasAt, past, at, Reaches}
+use Rattle.mips_model.specs.Laws.{HasAt, at, Reaches}
 use Rattle.icode_expand.specs.Frames.{count_code, enter_count, leave_count}
 use Rattle.icode_frames_spec.specs.Frames.{Counted, counted_cells}
 use Rattle.icode_templates_proof.proofs.Memory.{update_other}

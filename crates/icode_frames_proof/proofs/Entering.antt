@@ -9,12 +9,13 @@ use Rattle.word32.specs.Space.{update}
 use Rattle.host_edge.specs.declared.ending.Ending.TheVariants.{Done}
 use Rattle.history.specs.Events.{Ended}
 use Rattle.mips_encoder.specs.declared.instruction.Instr.{Instr}
+use Rattle.mips_encoder.specs.Addresses.{past}
 use Rattle.mips_model.specs.State.{Code, Data}
 use Rattle.mips_model.specs.Arithmetic.{bit}
 use Rattle.mips_model.specs.Accesses.{Branches}
 use Rattle.mips_model.specs.Effects.{effect}
 use Rattle.mips_model.specs.Steps.{step, going, ended}
-use Rattle.mips_model.specs.Laws.{HasAt, past, at, Reaches}
+use Rattle.mips_model.specs.Laws.{HasAt, at, Reaches}
 use Rattle.mips_model.proofs.Reach.{step_acts, reaches_on}
 use Rattle.icode_templates.specs.Assembly.{addu, subu, sltu, ori, lui, sw, beq, jr, syscall, nop, constant}
 use Rattle.icode_expand.specs.Frames.{saves, take_frame}

@@ -6,9 +6,10 @@ use Rattle.std.proofs.lemmas.List.{length-append}
 use Rattle.word32.specs.Words.{difference}
 use Rattle.word32.specs.Space.{update}
 use Rattle.mips_encoder.specs.declared.instruction.Instr.{Instr}
+use Rattle.mips_encoder.specs.Addresses.{past}
 use Rattle.mips_model.specs.State.{Code, Data}
 use Rattle.mips_model.specs.Effects.{touches}
-use Rattle.mips_model.specs.Laws.{HasAt, past, at, Reaches}
+use Rattle.mips_model.specs.Laws.{HasAt, at, Reaches}
 use Rattle.mips_model.proofs.Reach.{front, back, reaches_on}
 use Rattle.icode_templates.specs.Assembly.{subu, lw, jr, nop, constant}
 use Rattle.icode_templates.specs.Layout.{place_register}

@@ -1,7 +1,8 @@
 -- From the epilogue's first instruction to the caller's next op: the caller finds again what it is to find.
 use Rattle.std.proofs.Common.{◌≡◌, ◌≢◌, ℕ, suc, ◌+◌, ◌-◌, ◌*◌, ◌/◌, ◌<◌, ◌≤◌, Bool, List, [], ◌∷◌, ◌++◌, length, refl}
 use Rattle.std.proofs.Common.{sym, ap, ◌∙◌, subst, arith, if◌then◌else◌}
-use Rattle.mips_model.specs.Laws.{HasAt, past, at}
+use Rattle.mips_encoder.specs.Addresses.{past}
+use Rattle.mips_model.specs.Laws.{HasAt, at}
 use Rattle.mips_model.proofs.Reach.{front, back, reaches_on}
 use Rattle.icode_templates.specs.Assembly.{lw}
 use Rattle.icode_expand.specs.Frames.{has, saved, save_offset, restores, free_frame, free_objects, leave_count}

@@ -12,12 +12,13 @@ use Rattle.host_edge.specs.declared.ending.Ending.TheVariants.{Trap}
 use Rattle.host_edge.specs.declared.ending.TrapKind.TheVariants.{StackLimit, FrameLimit}
 use Rattle.history.specs.Events.{Item, End, Ended}
 use Rattle.mips_encoder.specs.declared.instruction.Instr.{Instr}
+use Rattle.mips_encoder.specs.Addresses.{past}
 use Rattle.mips_model.specs.State.{Code, Data, State, World}
 use Rattle.mips_model.specs.Arithmetic.{bit}
 use Rattle.mips_model.specs.Accesses.{Branches}
 use Rattle.mips_model.specs.Effects.{effect}
 use Rattle.mips_model.specs.Steps.{step, going, ended}
-use Rattle.mips_model.specs.Laws.{HasAt, past, at, Reaches}
+use Rattle.mips_model.specs.Laws.{HasAt, at, Reaches}
 use Rattle.mips_model.proofs.Reach.{step_acts, reaches_on}
 use Rattle.icode_templates.specs.Assembly.{addu, sltu, lui, beq, nop, constant, trap}
 use Rattle.icode_expand.specs.Frames.{take_frame, take_objects}

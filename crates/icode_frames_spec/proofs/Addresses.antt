@@ -1,31 +1,19 @@
 -- The address of each op, and that its instructions stand there.
 use Rattle.std.proofs.Common.{◌≡◌, ℕ, zero, suc, ◌+◌, ◌%◌, ◌≤◌, List, [], ◌∷◌, ◌++◌, Some, refl, sym, ap, ◌∙◌, subst}
-use Rattle.std.proofs.Common.{arith, if◌then◌else◌, slice_get}
+use Rattle.std.proofs.Common.{arith, slice_get}
 use Rattle.mips_encoder.specs.declared.instruction.Instr.{Instr}
+use Rattle.mips_encoder.specs.Addresses.{past}
 use Rattle.mips_model.specs.State.{Code}
-use Rattle.mips_model.specs.Laws.{HasAt, past}
+use Rattle.mips_model.specs.Laws.{HasAt}
 use Rattle.mips_model.proofs.Reach.{front, back, past_append}
 use Rattle.icode_ops.specs.declared.op.Op.{Op}
 use Rattle.icode_ops.specs.declared.op.Op.TheVariants.{Const, Move, Bin, CheckDivision, CheckZero, Un, FrameAddress}
 use Rattle.icode_ops.specs.declared.op.Op.TheVariants.{Load, Store, Clear, Label, Jump, BranchZero, BranchNonzero}
 use Rattle.icode_ops.specs.declared.op.Op.TheVariants.{Argument, GetParameter, Call, CallNumber, Result, Return}
 use Rattle.icode_ops.specs.declared.op.Op.TheVariants.{ReturnZero, Sys, Run, New, Put}
-use Rattle.icode_ops.specs.Flow.{label_of, holds}
 use Rattle.icode_templates.specs.Layout.{Layout}
 use Rattle.icode_templates.specs.Templates.{Aim, in_code, template}
 use Rattle.icode_expand.specs.Expansion.{nowhere, templates, op_address, aims}
-use Rattle.icode_expand.specs.Expansion as expansion
-use Rattle.icode_meaning.specs.Steps as staged
-
--- the address behind instructions is the same on both sides
-pub past_is : (a : ℕ) (is : List Instr) → expansion.past a is ≡ past a is
-past_is a [] = refl
-past_is a (i ∷ is) = past_is (a + 4) is
-
--- and so is the place of a label
-pub label_is : (l : ℕ) (ops : List Op) → expansion.label_index ops l ≡ staged.label_index l ops
-label_is l [] = refl
-label_is l (o ∷ ops) = ap (λ n. if holds l (label_of o) then 0 else suc n) (label_is l ops)
 
 -- a template's length doesn't depend on the addresses
 past_behind : (a : ℕ) (is js js' : List Instr) → ((b : ℕ) → past b js ≡ past b js') → past a (is ++ js) ≡ past a
@@ -71,18 +59,14 @@ pub address_zero : (pl : Layout) (a : ℕ) (ops : List Op) → op_address pl a o
 address_zero pl a [] = refl
 address_zero pl a (o ∷ os) = refl
 
-behind_one : (pl : Layout) (f : Aim → ℕ) (a : ℕ) (o : Op) → expansion.past a (template pl nowhere o) ≡ past a
-    (template pl f o)
-behind_one pl f a o = past_is a (template pl nowhere o) ∙ past_template pl nowhere f a o
-
 pub address_next : (pl : Layout) (f : Aim → ℕ) (a : ℕ) (ops : List Op) (i : ℕ) (o : Op) → slice_get ops i ≡ Some o
     → op_address pl a ops (suc i) ≡ past (op_address pl a ops i) (template pl f o)
 address_next pl f a [] i o h = absurd cc
 address_next pl f a (p ∷ os) zero o h =
     let e : p ≡ o = cc in
-    address_zero pl (expansion.past a (template pl nowhere p)) os ∙ behind_one pl f a p
+    address_zero pl (past a (template pl nowhere p)) os ∙ past_template pl nowhere f a p
     ∙ ap (λ x. past a (template pl f x)) e
-address_next pl f a (p ∷ os) (suc i) o h = address_next pl f (expansion.past a (template pl nowhere p)) os i o h
+address_next pl f a (p ∷ os) (suc i) o h = address_next pl f (past a (template pl nowhere p)) os i o h
 
 pub op_stands : (pl : Layout) (f : Aim → ℕ) (c : Code) (a : ℕ) (ops : List Op) (i : ℕ) (o : Op)
     → slice_get ops i ≡ Some o → HasAt c a (templates pl f ops) → HasAt c (op_address pl a ops i) (template pl f o)
@@ -90,8 +74,8 @@ op_stands pl f c a [] i o h has = absurd cc
 op_stands pl f c a (p ∷ os) zero o h has = let e : p ≡ o =
     cc in subst (λ x. HasAt c a (template pl f x)) e (front c a (template pl f p) (templates pl f os) has)
 op_stands pl f c a (p ∷ os) (suc i) o h has =
-    op_stands pl f c (expansion.past a (template pl nowhere p)) os i o h
-    (subst (λ n. HasAt c n (templates pl f os)) (sym (behind_one pl f a p))
+    op_stands pl f c (past a (template pl nowhere p)) os i o h
+    (subst (λ n. HasAt c n (templates pl f os)) (sym (past_template pl nowhere f a p))
     (back c a (template pl f p) (templates pl f os) has))
 
 -- addresses rise by 4
@@ -107,8 +91,8 @@ pub address_even : (pl : Layout) (a : ℕ) (ops : List Op) (i : ℕ) → a % 4 �
 address_even pl a [] i e = e
 address_even pl a (o ∷ os) zero e = e
 address_even pl a (o ∷ os) (suc i) e =
-    address_even pl (expansion.past a (template pl nowhere o)) os i
-    (subst (λ n. n % 4 ≡ 0) (sym (past_is a (template pl nowhere o))) (past_even a (template pl nowhere o) e))
+    address_even pl (past a (template pl nowhere o)) os i
+    (past_even a (template pl nowhere o) e)
 
 -- an op's instructions end before the code of all does
 pub address_low : (pl : Layout) (f : Aim → ℕ) (a : ℕ) (ops : List Op) (i : ℕ) (o : Op) → slice_get ops i ≡ Some o
@@ -120,7 +104,7 @@ address_low pl f a (p ∷ os) zero o h =
     subst (λ x. past a (template pl f x) ≤ past a (templates pl f (p ∷ os))) e
     (subst (λ n. past a (template pl f p) ≤ n) (sym (past_append a (template pl f p) (templates pl f os))) r)
 address_low pl f a (p ∷ os) (suc i) o h =
-    let ih = address_low pl f (expansion.past a (template pl nowhere p)) os i o h in
-    let e = ap (λ b. past b (templates pl f os)) (behind_one pl f a p)
+    let ih = address_low pl f (past a (template pl nowhere p)) os i o h in
+    let e = ap (λ b. past b (templates pl f os)) (past_template pl nowhere f a p)
     ∙ sym (past_append a (template pl f p) (templates pl f os)) in
     subst (λ n. past (op_address pl a (p ∷ os) (suc i)) (template pl f o) ≤ n) e ih

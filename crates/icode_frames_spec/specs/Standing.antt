@@ -2,8 +2,9 @@
 -- this project's own.
 use Rattle.std.specs.Prelude.{◌≡◌, ℕ, ◌+◌, ◌*◌, ◌/◌, ◌%◌, ◌<◌, ◌≤◌, List, [], ◌∷◌, length, Some}
 use Rattle.mips_encoder.specs.declared.instruction.Instr.{Instr}
+use Rattle.mips_encoder.specs.Addresses.{past}
 use Rattle.mips_model.specs.State.{Code}
-use Rattle.mips_model.specs.Laws.{HasAt, past}
+use Rattle.mips_model.specs.Laws.{HasAt}
 use Rattle.icode_ops.specs.Flow.{op_at}
 use Rattle.icode_ops.specs.Finished.{InRange}
 use Rattle.icode_ops.specs.Places.{IsLegal}
@@ -12,7 +13,6 @@ use Rattle.icode_templates.specs.Layout.{Layout, laid}
 use Rattle.icode_templates.specs.Templates.{ToEpilogue}
 use Rattle.icode_expand.specs.Frames.{saved, prologue, epilogue}
 use Rattle.icode_expand.specs.Expansion.{op_address, aims, expansion}
-use Rattle.icode_expand.specs.Expansion as expanded
 use Rattle.icode_meaning.specs.State.{Function}
 use Rattle.limits.specs.declared.run.TheConstants.{STACK_OF_A_CALL}
 use Rattle.word32.specs.declared.map.TheConstants.{SEGMENT_BYTES}
@@ -33,7 +33,7 @@ code_of f places = expansion f.ops places f.address f.charge f.object f.compiled
 
 -- where its ops begin, and where op i stands
 abbrev pub ops_at : Function → List ℕ → ℕ
-ops_at f places = expanded.past f.address (front_code f places)
+ops_at f places = past f.address (front_code f places)
 
 abbrev pub op_stands_at : Function → List ℕ → ℕ → ℕ
 op_stands_at f places i = op_address (layout_of f places) (ops_at f places) f.ops i

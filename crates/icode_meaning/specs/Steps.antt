@@ -15,7 +15,8 @@ use Rattle.icode_ops.specs.declared.op.Op.TheVariants.{Argument, GetParameter, C
 use Rattle.icode_ops.specs.declared.op.Op.TheVariants.{ReturnZero, Sys, Run}
 use Rattle.icode_ops.specs.declared.kind.SysKind.TheVariants.{PutInteger, PutByte, GetByte, Exit}
 use Rattle.icode_ops.specs.declared.kind.RunKind.TheVariants as run
-use Rattle.icode_ops.specs.Flow.{first_use, second_use, label_of, holds}
+use Rattle.icode_ops.specs.Flow.{first_use, second_use}
+use Rattle.icode_ops.specs.Labels.{label_index}
 use Rattle.meaning_state.specs.Operators.{bin_value, un_value, bin_trap, signed_trap, zero_trap}
 use Rattle.meaning_state.specs.Shared.{Shared, Specification, Local, Param, byte_answer, put_byte, put_number}
 use Rattle.meaning_state.specs.Shared.{malloc_answer, malloc, Read, Got, Failed, get_byte, access_trap, loaded, stored}
@@ -24,11 +25,6 @@ use Rattle.meaning_state.specs.Rows.{closure_trap, index_trap, next_number, spec
 use Rattle.icode_meaning.specs.Costs.{least_of, most_of, word_cost}
 use Rattle.icode_meaning.specs.State.{Function, Program, Frame, Log, State, Running, Zeroing, Halted, Stuck, nothing}
 use Rattle.icode_meaning.specs.State.{argued}
-
--- the place of a label: the first op that is it
-abbrev pub label_index : ℕ → List Op → ℕ
-label_index label [] = 0
-label_index label (o ∷ ops) = if holds label (label_of o) then 0 else suc (label_index label ops)
 
 -- each register that an op uses is set
 abbrev pub is_on : Option ℕ → (ℕ → Bool) → Bool

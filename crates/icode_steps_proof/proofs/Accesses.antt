@@ -1,6 +1,7 @@
 -- Loads and stores of objects as ops, with their traps.
 use Rattle.std.proofs.Common.{◌≡◌, ℕ, suc, ◌+◌, ◌/◌, ◌<◌, ◌≤◌, true, List, [], ◌∷◌, ◌++◌, Option, Some, None, refl}
 use Rattle.std.proofs.Common.{sym, ap, ◌∙◌, subst, arith, slice_get}
+use Rattle.std.proofs.lemmas.Bool.{and_parts}
 use Rattle.word32.specs.Space.{load, store, AreWords}
 use Rattle.word32.specs.declared.width.Width.{Width}
 use Rattle.word32.proofs.PartLaws.{loaded_range}
@@ -9,7 +10,8 @@ use Rattle.host_edge.specs.declared.ending.Ending.TheVariants.{Trap}
 use Rattle.host_edge.specs.declared.ending.TrapKind.{TrapKind}
 use Rattle.history.specs.Events.{Ended}
 use Rattle.mips_model.specs.State.{Data}
-use Rattle.mips_model.specs.Laws.{past, at}
+use Rattle.mips_encoder.specs.Addresses.{past}
+use Rattle.mips_model.specs.Laws.{at}
 use Rattle.mips_model.proofs.Reach.{past_append}
 use Rattle.icode_ops.specs.declared.op.Op.TheVariants.{Load, Store}
 use Rattle.icode_templates.specs.Layout.{Spot}
@@ -31,7 +33,7 @@ use Rattle.icode_frames_spec.specs.Standing.{layout_of, op_stands_at, Stands}
 use Rattle.icode_frames_spec.proofs.Addresses.{past_rises}
 use Rattle.icode_frames_spec.proofs.Codes.{op_code, one_stands, code_low, next_at}
 use Rattle.icode_frames_spec.proofs.Frames.{spots, suits_known, ready_alike, stacked_alike, unwound_alike}
-use Rattle.icode_steps_proof.proofs.Liveness.{next_follows, both_true}
+use Rattle.icode_steps_proof.proofs.Liveness.{next_follows}
 use Rattle.icode_steps_proof.proofs.Operators.{end_pays}
 use Rattle.icode_steps_proof.proofs.Paying.{first_operand, second_operand}
 use Rattle.icode_steps_proof.proofs.Writes.{defined_inside, write_pays, come_pays}
@@ -123,7 +125,7 @@ module _ (s : Setting) (st : Standing s) where
         by None e =
             let o = Load kind to from in
             let v = w.values from in
-            let x = first_operand s st w d o from h.known h.ready i refl (both_true (w.on from) true u).0 in
+            let x = first_operand s st w d o from h.known h.ready i refl (and_parts (w.on from) true u).0 in
             let words : AreWords d.objects = subst AreWords (sym h.memory.objects) h.memory.object_words in
             let same : load d.objects (value d (spot from)) kind ≡ loaded v kind log.shared =
             ap (λ n. load d.objects n kind) x.value_is ∙ ap (λ m. load m v kind) h.memory.objects in
@@ -137,7 +139,7 @@ module _ (s : Setting) (st : Standing s) where
             (ap (λ n. access_trap n kind) x.value_is ∙ e)))
         by (Some trap) e =
             let o = Load kind to from in
-            let x = first_operand s st w d o from h.known h.ready i refl (both_true (w.on from) true u).0 in
+            let x = first_operand s st w d o from h.known h.ready i refl (and_parts (w.on from) true u).0 in
             end_pays s log (paid o log) (at s.code a 0 d) 6 9 (Ended (Trap trap)) d.outside.history
             (omega arith) (omega arith) h.memory.history
             (load_ends kind s.code a f.charge d (spot to) (spot from) (load_low kind to from i) h.ready.framed
@@ -159,7 +161,7 @@ module _ (s : Setting) (st : Standing s) where
             (at s.code a 0 d)
         by None e =
             let o = Store kind to from in
-            let q = both_true (w.on to) (w.on from) u in
+            let q = and_parts (w.on to) (w.on from) u in
             let x = first_operand s st w d o to h.known h.ready i refl q.0 in
             let y = second_operand s st w d o from h.known h.ready i refl q.1 in
             let log' = sharing (stored (w.values to) kind (w.values from) log.shared) log in
@@ -180,7 +182,7 @@ module _ (s : Setting) (st : Standing s) where
             record { count = p.count; low = p.low; high = p.high; related = p.related }
         by (Some trap) e =
             let o = Store kind to from in
-            let q = both_true (w.on to) (w.on from) u in
+            let q = and_parts (w.on to) (w.on from) u in
             let x = first_operand s st w d o to h.known h.ready i refl q.0 in
             let y = second_operand s st w d o from h.known h.ready i refl q.1 in
             end_pays s log (paid o log) (at s.code a 0 d) 7 12 (Ended (Trap trap)) d.outside.history

@@ -1,11 +1,13 @@
 -- The routine of malloc as an op.
 use Rattle.std.proofs.Common.{◌≡◌, inl, inr, ℕ, ◌+◌, ◌-◌, ◌*◌, ◌/◌, ◌%◌, ◌<◌, ◌≤◌, true, false, List, ◌++◌, Option}
 use Rattle.std.proofs.Common.{Some, None, refl, sym, ap, ◌∙◌, subst, arith, nat_le, slice_get}
+use Rattle.std.proofs.lemmas.Bool.{and_parts}
 use Rattle.std.proofs.lemmas.Bool.{cases_Bool}
 use Rattle.std.proofs.lemmas.Bool.Decides.{nat_tests}
 use Rattle.word32.specs.declared.map.TheConstants.{FRAMES, NEXT_HEAP_CELL, ACTIVE_CALLS_CELL}
 use Rattle.mips_model.specs.State.{Data}
-use Rattle.mips_model.specs.Laws.{past, at}
+use Rattle.mips_encoder.specs.Addresses.{past}
+use Rattle.mips_model.specs.Laws.{at}
 use Rattle.mips_model.proofs.Reach.{past_append}
 use Rattle.icode_ops.specs.Kinds.{run_number}
 use Rattle.icode_ops.specs.declared.op.Op.TheVariants.{Run}
@@ -29,7 +31,6 @@ use Rattle.icode_frames_spec.proofs.Addresses.{past_rises}
 use Rattle.icode_frames_spec.proofs.Codes.{op_code, one_stands, code_low}
 use Rattle.icode_frames_spec.proofs.Frames.{spots, suits_known, ready_alike, stacked_alike, unwound_alike}
 use Rattle.icode_frames_spec.proofs.Frames.{pointer_alike, held_30}
-use Rattle.icode_steps_proof.proofs.Liveness.{both_true}
 use Rattle.icode_steps_proof.proofs.Paying.{first_operand}
 use Rattle.icode_steps_proof.proofs.Writes.{defined_inside, write_pays}
 
@@ -165,7 +166,7 @@ module _ (s : Setting) (st : Standing s) where
         (sharing (malloc (w.values from) log.shared) (paid (Run Malloc to from) log))) log (at s.code a 0 d)
     malloc_pays to from i u =
         let o = Run Malloc to from in
-        let x = first_operand s st w d o from h.known h.ready i refl (both_true (w.on from) true u).0 in
+        let x = first_operand s st w d o from h.known h.ready i refl (and_parts (w.on from) true u).0 in
         let v = w.values from in
         let shared = malloc v log.shared in
         let back_to = return_address a (spot from) in

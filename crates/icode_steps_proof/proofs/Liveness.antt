@@ -1,5 +1,5 @@
 -- Where registers are live, along the steps of the staged machine.
-use Rattle.std.proofs.Common.{◌≡◌, inl, inr, ℕ, zero, suc, ◌<◌, ◌≤◌, Bool, true, false, ◌&&◌, List, [], ◌∷◌, length}
+use Rattle.std.proofs.Common.{◌≡◌, inl, inr, ℕ, zero, suc, ◌<◌, ◌≤◌, Bool, true, false, List, [], ◌∷◌, length}
 use Rattle.std.proofs.Common.{Option, Some, None, refl, sym, ap, ◌∙◌, subst, arith, slice_get, if◌then◌else◌}
 use Rattle.std.proofs.lemmas.Bool.{cases_lt}
 use Rattle.std.proofs.lemmas.Bool.Decides.{nat_tests}
@@ -8,7 +8,7 @@ use Rattle.icode_ops.specs.declared.op.Op.TheVariants.{ReturnZero}
 use Rattle.icode_ops.specs.Flow.{op_at, Follows, falls, goes_to, label_of, holds, uses, defines}
 use Rattle.icode_ops.specs.Finished.{Below}
 use Rattle.icode_ops.specs.Live.{Live, Used, Passes}
-use Rattle.icode_meaning.specs.Steps.{label_index}
+use Rattle.icode_ops.specs.Labels.{label_index}
 
 pub record Found (ops : List Op) (i : ℕ) (o : Op) : Type 0 where
   pub is : op_at ops i ≡ o
@@ -76,7 +76,3 @@ live_use ops v i o h u = Used i (ap (uses v) (op_found ops i o h).is ∙ u)
 -- what an op names lies below the number of registers
 pub below_some : (n : ℕ) (o : Option ℕ) (r : ℕ) → o ≡ Some r → Below n o → r < n
 below_some n o r e b = subst (Below n) e b
-
-pub both_true : (a b : Bool) → (a && b) ≡ true → (a ≡ true) × (b ≡ true)
-both_true true b h = (refl, h)
-both_true false b h = absurd cc

@@ -1,6 +1,7 @@
 -- Operators on one word and on two, and the checks of divisions.
 use Rattle.std.proofs.Common.{◌≡◌, ℕ, suc, ◌+◌, ◌<◌, ◌≤◌, true, List, Option, Some, None, refl, sym, ap, ◌∙◌}
 use Rattle.std.proofs.Common.{subst, arith, slice_get}
+use Rattle.std.proofs.lemmas.Bool.{and_parts}
 use Rattle.std.specs.Fn.{iterate}
 use Rattle.host_edge.specs.declared.ending.Ending.TheVariants.{Trap}
 use Rattle.host_edge.specs.declared.ending.TrapKind.{TrapKind}
@@ -10,7 +11,8 @@ use Rattle.mips_model.specs.State as machine
 use Rattle.mips_model.specs.State.{Data}
 use Rattle.mips_model.specs.Steps.{step, going}
 use Rattle.mips_model.specs.Run as run
-use Rattle.mips_model.specs.Laws.{past, at}
+use Rattle.mips_encoder.specs.Addresses.{past}
+use Rattle.mips_model.specs.Laws.{at}
 use Rattle.icode_ops.specs.declared.op.Op.{Op}
 use Rattle.icode_ops.specs.declared.op.Op.TheVariants.{Bin, CheckDivision, CheckZero, Un}
 use Rattle.icode_ops.specs.declared.kind.BinKind.{BinKind}
@@ -32,7 +34,7 @@ use Rattle.icode_frames_spec.specs.Settings.{Setting, places_of, Standing}
 use Rattle.icode_frames_spec.specs.Standing.{layout_of, op_stands_at, Stands}
 use Rattle.icode_frames_spec.proofs.Codes.{op_code, one_stands, code_low, next_at}
 use Rattle.icode_frames_spec.proofs.Frames.{spots}
-use Rattle.icode_steps_proof.proofs.Liveness.{next_follows, both_true}
+use Rattle.icode_steps_proof.proofs.Liveness.{next_follows}
 use Rattle.icode_steps_proof.proofs.Paying.{Operand, first_operand, second_operand, stuck_pays}
 use Rattle.icode_steps_proof.proofs.Writes.{defined_inside, holds_set, write_pays, come_pays}
 
@@ -103,7 +105,7 @@ module _ (s : Setting) (st : Standing s) where
         (paid (Un kind to from) log)) log (at s.code a 0 d)
     un_pays kind to from i u =
         let o = Un kind to from in
-        let x = first_operand s st w d o from h.known h.ready i refl (both_true (w.on from) true u).0 in
+        let x = first_operand s st w d o from h.known h.ready i refl (and_parts (w.on from) true u).0 in
         let spot = (layout_of f places).spot in
         write_pays s st w arguments answer waiting log log (at s.code a 0 d) o to (un_value kind (w.values from)) 3 9 d
         i refl refl (un_range kind (w.values from)) (omega arith) (omega arith) (omega arith) (omega arith) h
@@ -119,7 +121,7 @@ module _ (s : Setting) (st : Standing s) where
         (paid (Bin kind to left right) log)) log (at s.code a 0 d)
     bin_goes kind to left right i u none =
         let o = Bin kind to left right in
-        let q = both_true (w.on left) (w.on right) u in
+        let q = and_parts (w.on left) (w.on right) u in
         let x = first_operand s st w d o left h.known h.ready i refl q.0 in
         let y = second_operand s st w d o right h.known h.ready i refl q.1 in
         let spot = (layout_of f places).spot in
@@ -153,7 +155,7 @@ module _ (s : Setting) (st : Standing s) where
     zero_check_pays b i u None e =
         let o = CheckZero b in
         let spot = (layout_of f places).spot b in
-        let x = first_operand s st w d o b h.known h.ready i refl (both_true (w.on b) true u).0 in
+        let x = first_operand s st w d o b h.known h.ready i refl (and_parts (w.on b) true u).0 in
         come_pays s st w arguments answer waiting log (at s.code a 0 d) o (suc w.index) (past a (op_code f places o)) 3
         6 d i refl (λ v live. next_follows f.ops v w.index o i refl live) (omega arith) (omega arith)
         (sym (next_at f places w.index o i)) h
@@ -163,7 +165,7 @@ module _ (s : Setting) (st : Standing s) where
     zero_check_pays b i u (Some kind) e =
         let o = CheckZero b in
         let spot = (layout_of f places).spot b in
-        let x = first_operand s st w d o b h.known h.ready i refl (both_true (w.on b) true u).0 in
+        let x = first_operand s st w d o b h.known h.ready i refl (and_parts (w.on b) true u).0 in
         end_pays s log (paid o log) (at s.code a 0 d) 4 7 (Ended (Trap kind)) d.outside.history (omega arith)
         (omega arith) h.memory.history
         (zero_checks_trap s.code a f.charge d spot kind (code_low s.code f places stands w.index o i) h.ready.framed
@@ -178,7 +180,7 @@ module _ (s : Setting) (st : Standing s) where
     division_check_pays l r i u trap e =
         let o = CheckDivision l r in
         let spot = (layout_of f places).spot in
-        let q = both_true (w.on l) (w.on r) u in
+        let q = and_parts (w.on l) (w.on r) u in
         let x = first_operand s st w d o l h.known h.ready i refl q.0 in
         let y = second_operand s st w d o r h.known h.ready i refl q.1 in
         let t = ap (λ z. signed_trap z (value d (spot r))) x.value_is ∙ ap (signed_trap (w.values l)) y.value_is in

@@ -1,16 +1,19 @@
 -- The ops that stay in their function.
 use Rattle.std.proofs.Common.{◌≡◌, ◌≢◌, ℕ, zero, suc, ◌%◌, ◌<◌, ◌≤◌, true, List, [], ◌∷◌, ◌++◌, Option, Some, None}
 use Rattle.std.proofs.Common.{refl, sym, ap, ◌∙◌, subst, arith, slice_get}
+use Rattle.std.proofs.lemmas.Bool.{and_parts}
 use Rattle.history.specs.Events.{Item, Out}
 use Rattle.mips_model.specs.State.{Code, Data, Outside}
-use Rattle.mips_model.specs.Laws.{past, at}
+use Rattle.mips_encoder.specs.Addresses.{past}
+use Rattle.mips_model.specs.Laws.{at}
 use Rattle.mips_model.proofs.Reach.{past_append}
 use Rattle.icode_ops.specs.declared.op.Op.TheVariants.{Const, Move, Jump, Label, BranchZero, BranchNonzero, Sys}
 use Rattle.icode_ops.specs.declared.kind.SysKind.TheVariants.{PutByte}
+use Rattle.icode_ops.specs.Labels.{label_index}
 use Rattle.icode_templates.specs.Templates.{ToLabel, in_code}
 use Rattle.icode_expand.specs.Expansion.{op_address}
 use Rattle.icode_meaning.specs.State.{Function, Frame, Log, Running, nothing}
-use Rattle.icode_meaning.specs.Steps.{uses_on, paid, sharing, moved, set, label_index, branch}
+use Rattle.icode_meaning.specs.Steps.{uses_on, paid, sharing, moved, set, branch}
 use Rattle.meaning_state.specs.Shared.{put_byte, byte_answer}
 use Rattle.icode_templates_proof.specs.Spots.{value, frame_word}
 use Rattle.icode_templates_proof.specs.Moves.{Writes, behind}
@@ -22,24 +25,20 @@ use Rattle.icode_frames_spec.specs.Frames.{Alike}
 use Rattle.icode_frames_spec.specs.Relation.{Holds, Pays}
 use Rattle.icode_frames_spec.specs.Settings.{Setting, places_of, Standing}
 use Rattle.icode_frames_spec.specs.Standing.{layout_of, ops_at, op_stands_at, Stands}
-use Rattle.icode_frames_spec.proofs.Addresses.{label_is, address_even}
+use Rattle.icode_frames_spec.proofs.Addresses.{address_even}
 use Rattle.icode_frames_spec.proofs.Codes.{aims_of, op_code, one_stands, code_low, ops_even, next_at}
 use Rattle.icode_frames_spec.proofs.Frames.{spots, suits_known, ready_alike, stacked_alike, unwound_alike}
-use Rattle.icode_steps_proof.proofs.Liveness.{next_follows, label_follows, live_before, both_true}
+use Rattle.icode_steps_proof.proofs.Liveness.{next_follows, label_follows, live_before}
 use Rattle.icode_steps_proof.proofs.Paying.{first_operand, none_passed}
 use Rattle.icode_steps_proof.proofs.Within.{holds_next, keeps_within}
 use Rattle.icode_steps_proof.proofs.Writes.{defined_inside, write_pays, come_pays}
 use Rattle.mips_model.specs.Steps.{going}
 use Rattle.icode_templates_proof.proofs.Keeping.{keeps_same}
 
-pub label_at : (f : Function) (places : List ℕ) (label : ℕ) → aims_of f places (ToLabel label) ≡ op_stands_at f places
-    (label_index label f.ops)
-label_at f places label = ap (λ n. op_address (layout_of f places) (ops_at f places) f.ops n) (label_is label f.ops)
-
 label_even : (c : Code) (f : Function) (places : List ℕ) → Stands c f places → (label : ℕ)
     → aims_of f places (ToLabel label) % 4 ≡ 0
-label_even c f places st label = subst (λ n. n % 4 ≡ 0) (sym (label_at f places label))
-    (address_even (layout_of f places) (ops_at f places) f.ops (label_index label f.ops) (ops_even c f places st))
+label_even c f places st label =
+    address_even (layout_of f places) (ops_at f places) f.ops (label_index label f.ops) (ops_even c f places st)
 
 -- more bytes were put out
 outside_alike : (o : Outside) (d : Data) → Alike d (record d { outside = o })
@@ -101,7 +100,7 @@ module _ (s : Setting) (st : Standing s) where
         (at s.code a 0 d)
     move_pays to from i u =
         let o = Move to from in
-        let x = first_operand s st w d o from h.known h.ready i refl (both_true (w.on from) true u).0 in
+        let x = first_operand s st w d o from h.known h.ready i refl (and_parts (w.on from) true u).0 in
         let spot = (layout_of f places).spot in
         write_pays s st w arguments answer waiting log log (at s.code a 0 d) o to (w.values from) 2 7 d i refl refl
         (h.ready.words from) (omega arith) (omega arith) (omega arith) (omega arith) h
@@ -116,7 +115,7 @@ module _ (s : Setting) (st : Standing s) where
         (sharing (put_byte (w.values from) log.shared) (paid (Sys PutByte to from) log))) log (at s.code a 0 d)
     put_pays to from i u =
         let o = Sys PutByte to from in
-        let x = first_operand s st w d o from h.known h.ready i refl (both_true (w.on from) true u).0 in
+        let x = first_operand s st w d o from h.known h.ready i refl (and_parts (w.on from) true u).0 in
         let spot = (layout_of f places).spot in
         let v = w.values from in
         write_pays s st w nothing None waiting log (sharing (put_byte v log.shared) log) (at s.code a 0 d) o to
@@ -137,7 +136,7 @@ module _ (s : Setting) (st : Standing s) where
         come_pays s st w arguments answer waiting log (at s.code a 0 d) o (label_index label f.ops)
         (aims_of f places (ToLabel label)) 2 2 d i refl (λ v live. label_follows f.ops v w.index label o i refl
         live) (omega arith) (omega arith)
-        (label_at f places label) h (jump_comes s.code a (aims_of f places (ToLabel label)) d (omega (arith, low))
+        refl h (jump_comes s.code a (aims_of f places (ToLabel label)) d (omega (arith, low))
         (label_even s.code f places stands label) (one_stands s.code f places stands w.index o i))
 
     pub zero_pays : (test label : ℕ) → slice_get f.ops w.index ≡ Some (BranchZero test label)
@@ -152,12 +151,12 @@ module _ (s : Setting) (st : Standing s) where
             let o = BranchZero test label in
             let goal = aims_of f places (ToLabel label) in
             let spot = (layout_of f places).spot test in
-            let x = first_operand s st w d o test h.known h.ready i refl (both_true (w.on test) true u).0 in
+            let x = first_operand s st w d o test h.known h.ready i refl (and_parts (w.on test) true u).0 in
             let low = code_low s.code f places stands w.index o i in
             let e = past_append a (in_code spot) (zero_code goal) in
             come_pays s st w arguments answer waiting log (at s.code a 0 d) o (label_index label f.ops) goal 5 8 d i
             refl (λ v live. label_follows f.ops v w.index label o i refl live) (omega arith) (omega arith)
-            (label_at f places label) h
+            refl h
             (zero_goes s.code a f.charge goal d spot (omega (arith, low, e)) (label_even s.code f places stands label)
             h.ready.framed (spots f places test stands.suits x.inside) (x.value_is ∙ z)
             (one_stands s.code f places stands w.index o i))
@@ -165,7 +164,7 @@ module _ (s : Setting) (st : Standing s) where
             let o = BranchZero test label in
             let goal = aims_of f places (ToLabel label) in
             let spot = (layout_of f places).spot test in
-            let x = first_operand s st w d o test h.known h.ready i refl (both_true (w.on test) true u).0 in
+            let x = first_operand s st w d o test h.known h.ready i refl (and_parts (w.on test) true u).0 in
             let low = code_low s.code f places stands w.index o i in
             let e = past_append a (in_code spot) (zero_code goal) in
             let ne : value d spot ≢ 0 = λ q. absurd (omega (arith, q, x.value_is, z)) in
@@ -188,7 +187,7 @@ module _ (s : Setting) (st : Standing s) where
             let o = BranchNonzero test label in
             let goal = aims_of f places (ToLabel label) in
             let spot = (layout_of f places).spot test in
-            let x = first_operand s st w d o test h.known h.ready i refl (both_true (w.on test) true u).0 in
+            let x = first_operand s st w d o test h.known h.ready i refl (and_parts (w.on test) true u).0 in
             let low = code_low s.code f places stands w.index o i in
             let e = past_append a (in_code spot) (nonzero_code goal) in
             come_pays s st w arguments answer waiting log (at s.code a 0 d) o (suc w.index)
@@ -202,13 +201,13 @@ module _ (s : Setting) (st : Standing s) where
             let o = BranchNonzero test label in
             let goal = aims_of f places (ToLabel label) in
             let spot = (layout_of f places).spot test in
-            let x = first_operand s st w d o test h.known h.ready i refl (both_true (w.on test) true u).0 in
+            let x = first_operand s st w d o test h.known h.ready i refl (and_parts (w.on test) true u).0 in
             let low = code_low s.code f places stands w.index o i in
             let e = past_append a (in_code spot) (nonzero_code goal) in
             let ne : value d spot ≢ 0 = λ q. absurd (omega (arith, q, x.value_is, z)) in
             come_pays s st w arguments answer waiting log (at s.code a 0 d) o (label_index label f.ops) goal 5 8 d i
             refl (λ v live. label_follows f.ops v w.index label o i refl live) (omega arith) (omega arith)
-            (label_at f places label) h
+            refl h
             (nonzero_goes s.code a f.charge goal d spot (omega (arith, low, e))
             (label_even s.code f places stands label) h.ready.framed (spots f places test stands.suits x.inside)
             x.word ne (one_stands s.code f places stands w.index o i))

@@ -1,6 +1,7 @@
 -- The services of the machine as ops: a number is put out, a byte is read, and the run exits.
 use Rattle.std.proofs.Common.{◌≡◌, inl, inr, ℕ, ◌+◌, ◌%◌, ◌<◌, ◌≤◌, Bool, true, false, List, [], ◌∷◌, ◌++◌, Option}
 use Rattle.std.proofs.Common.{Some, None, refl, sym, ap, ◌∙◌, subst, arith, slice_get, if◌then◌else◌}
+use Rattle.std.proofs.lemmas.Bool.{and_parts}
 use Rattle.std.proofs.lemmas.Bool.{cases_Bool}
 use Rattle.word32.specs.declared.map.TheConstants.{FRAMES}
 use Rattle.host_edge.specs.declared.ending.Ending.TheVariants.{Done}
@@ -8,7 +9,8 @@ use Rattle.history.specs.Events.{Item, In, Ended, ReadFault, Input, Next, Given,
 use Rattle.history.specs.Events.{outs, number_bytes}
 use Rattle.mips_model.specs.State.{Data, Outside}
 use Rattle.mips_model.specs.Services.{with_outside}
-use Rattle.mips_model.specs.Laws.{past, at}
+use Rattle.mips_encoder.specs.Addresses.{past}
+use Rattle.mips_model.specs.Laws.{at}
 use Rattle.icode_ops.specs.declared.op.Op.TheVariants.{Sys}
 use Rattle.icode_ops.specs.declared.kind.SysKind.{SysKind}
 use Rattle.icode_ops.specs.declared.kind.SysKind.TheVariants.{PutInteger, PutByte, GetByte, Exit}
@@ -29,7 +31,6 @@ use Rattle.icode_frames_spec.specs.Settings.{Setting, places_of, Standing}
 use Rattle.icode_frames_spec.specs.Standing.{layout_of, op_stands_at, Stands}
 use Rattle.icode_frames_spec.proofs.Codes.{op_code, one_stands}
 use Rattle.icode_frames_spec.proofs.Frames.{spots, suits_known, ready_alike, stacked_alike, unwound_alike}
-use Rattle.icode_steps_proof.proofs.Liveness.{both_true}
 use Rattle.icode_steps_proof.proofs.Operators.{end_pays}
 use Rattle.icode_steps_proof.proofs.Ops.{put_pays}
 use Rattle.icode_steps_proof.proofs.Paying.{first_operand}
@@ -134,7 +135,7 @@ module _ (s : Setting) (st : Standing s) where
         (sharing (put_number (w.values from) log.shared) (paid (Sys PutInteger to from) log))) log (at s.code a 0 d)
     number_pays to from i u =
         let o = Sys PutInteger to from in
-        let x = first_operand s st w d o from h.known h.ready i refl (both_true (w.on from) true u).0 in
+        let x = first_operand s st w d o from h.known h.ready i refl (and_parts (w.on from) true u).0 in
         let v = w.values from in
         let shared = put_number v log.shared in
         let out : (told v d).outside.history ≡ shared.history =
@@ -154,7 +155,7 @@ module _ (s : Setting) (st : Standing s) where
         → Pays s (Halted (Ended (Done (w.values from % 256))) (paid (Sys Exit to from) log)) log (at s.code a 0 d)
     exit_pays to from i u =
         let o = Sys Exit to from in
-        let x = first_operand s st w d o from h.known h.ready i refl (both_true (w.on from) true u).0 in
+        let x = first_operand s st w d o from h.known h.ready i refl (and_parts (w.on from) true u).0 in
         end_pays s log (paid o log) (at s.code a 0 d) 4 7 (Ended (Done (w.values from % 256))) d.outside.history
         (omega arith) (omega arith) h.memory.history
         (subst (λ y. EndsIn 4 7 (Ended (Done (y % 256))) (at s.code a 0 d) s.code d.outside.history) x.value_is
@@ -198,7 +199,7 @@ module _ (s : Setting) (st : Standing s) where
             → Pays s (take (read n log.shared) to w waiting (paid (Sys GetByte to from) log)) log (at s.code a 0 d)
         by (Given b rest) e =
             let o = Sys GetByte to from in
-            let x = first_operand s st w d o from h.known h.ready i refl (both_true (w.on from) true u).0 in
+            let x = first_operand s st w d o from h.known h.ready i refl (and_parts (w.on from) true u).0 in
             let range = byte_given log.shared.input.bytes log.shared.input.failing b rest e in
             heard_pays to from b false rest i (omega (arith, range)) (λ q. absurd cc)
             (happens (In b) (record log.shared { input = rest })) refl refl refl refl refl refl
@@ -208,7 +209,7 @@ module _ (s : Setting) (st : Standing s) where
             (ap next_byte h.memory.input ∙ e) (one_stands s.code f places stands w.index o i))
         by AtEnd e =
             let o = Sys GetByte to from in
-            let x = first_operand s st w d o from h.known h.ready i refl (both_true (w.on from) true u).0 in
+            let x = first_operand s st w d o from h.known h.ready i refl (and_parts (w.on from) true u).0 in
             let empty = at_its_end log.shared.input.bytes log.shared.input.failing e in
             let left = left_is d.outside log.shared.input h.memory.input empty in
             heard_pays to from 4294967295 true (left_at_end d.outside) i (omega arith)
@@ -220,7 +221,7 @@ module _ (s : Setting) (st : Standing s) where
             (one_stands s.code f places stands w.index o i))
         by Failing e =
             let o = Sys GetByte to from in
-            let x = first_operand s st w d o from h.known h.ready i refl (both_true (w.on from) true u).0 in
+            let x = first_operand s st w d o from h.known h.ready i refl (and_parts (w.on from) true u).0 in
             end_pays s log (paid o log) (at s.code a 0 d) 4 7 ReadFault d.outside.history
             (omega arith) (omega arith) h.memory.history
             (failure_ends s.code a f.charge d (spot to) (spot from) h.ready.framed

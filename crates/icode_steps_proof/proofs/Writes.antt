@@ -7,7 +7,7 @@ use Rattle.std.proofs.lemmas.Bool.Decides.{nat_tests}
 use Rattle.word32.specs.Space.{update}
 use Rattle.mips_model.specs.State as machine
 use Rattle.mips_model.specs.State.{Data}
-use Rattle.mips_model.specs.Laws.{past}
+use Rattle.mips_encoder.specs.Addresses.{past}
 use Rattle.icode_ops.specs.declared.op.Op.{Op}
 use Rattle.icode_ops.specs.Flow.{defined, falls, holds, Follows}
 use Rattle.icode_ops.specs.Finished.{InRange}

@@ -4,12 +4,13 @@ use Rattle.std.proofs.Common.{None, refl, ap, ◌∙◌, arith, nat_eq, if◌the
 use Rattle.std.specs.Fn.{iterate}
 use Rattle.host_edge.specs.declared.ending.MachineKind.TheVariants as kind
 use Rattle.mips_encoder.specs.declared.instruction.Instr.{Instr}
+use Rattle.mips_encoder.specs.Addresses.{past}
 use Rattle.mips_model.specs.State.{Code, Data, State}
 use Rattle.mips_model.specs.Accesses.{Effect, Plain, Loads, Changes, ReadsText, ReadsArena, StoresText, Branches}
 use Rattle.mips_model.specs.Accesses.{BranchesLinking, Jumps, JumpsLinking, Goes, GoesLinking, Ends, Faults, InputFails}
 use Rattle.mips_model.specs.Effects.{effect, jumps, reads_hilo, sets_hilo}
 use Rattle.mips_model.specs.Steps.{faulted, going, apply, act, execute, step, load_hazard, hilo_hazard}
-use Rattle.mips_model.specs.Laws.{HasAt, past}
+use Rattle.mips_model.specs.Laws.{HasAt}
 use Rattle.mips_model.proofs.Reach.{through, carry}
 
 -- a state at an address, where HI and LO must not be set for so many instructions

@@ -12,7 +12,8 @@ use Rattle.mips_model.specs.State.{Code, Data, State}
 use Rattle.mips_model.specs.Accesses.{Branches}
 use Rattle.mips_model.specs.Effects.{effect}
 use Rattle.mips_model.specs.Steps.{Is, fetch, going, ended, step}
-use Rattle.mips_model.specs.Laws.{HasAt, past, at, Reaches}
+use Rattle.mips_encoder.specs.Addresses.{past}
+use Rattle.mips_model.specs.Laws.{HasAt, at, Reaches}
 use Rattle.mips_model.proofs.Reach.{step_acts, reaches_on, past_append, front, back}
 use Rattle.meaning_state.specs.Operators.{zero_trap}
 use Rattle.icode_templates.specs.Assembly.{bne, trap}

@@ -8,11 +8,12 @@ use Rattle.host_edge.specs.declared.ending.TrapKind.{TrapKind}
 use Rattle.host_edge.specs.declared.ending.TrapKind.TheVariants.{DivideByZero, DivideOverflow}
 use Rattle.history.specs.Events.{Ended}
 use Rattle.mips_encoder.specs.declared.instruction.Instr.{Instr}
+use Rattle.mips_encoder.specs.Addresses.{past}
 use Rattle.mips_model.specs.State.{Code, Data}
 use Rattle.mips_model.specs.Accesses.{Branches}
 use Rattle.mips_model.specs.Effects.{effect}
 use Rattle.mips_model.specs.Steps.{Is, fetch, going, apply, is_hazard, recent_behind, step, branch_target}
-use Rattle.mips_model.specs.Laws.{HasAt, past, at, Reaches}
+use Rattle.mips_model.specs.Laws.{HasAt, at, Reaches}
 use Rattle.mips_model.proofs.Reach.{step_acts, reaches_on, past_append, front, back}
 use Rattle.meaning_state.specs.Operators.{signed_trap}
 use Rattle.icode_templates.specs.Assembly.{addiu, bne, lui, nop, trap}

@@ -3,7 +3,8 @@ use Rattle.std.proofs.Common.{◌≡◌, ◌⊎◌, inl, inr, ℕ, ◌%◌, ◌<
 use Rattle.std.proofs.Common.{◌∙◌, arith}
 use Rattle.history.specs.Events.{In, ReadFault, Input, Given, AtEnd, Failing, next_of, next_byte}
 use Rattle.mips_model.specs.State.{Code, Data, Outside}
-use Rattle.mips_model.specs.Laws.{HasAt, past, at}
+use Rattle.mips_encoder.specs.Addresses.{past}
+use Rattle.mips_model.specs.Laws.{HasAt, at}
 use Rattle.mips_model.proofs.Reach.{step_acts}
 use Rattle.icode_templates.specs.Layout.{Spot}
 use Rattle.icode_templates.specs.Assembly.{syscall}

@@ -2,8 +2,9 @@
 use Rattle.std.proofs.Common.{◌≡◌, ℕ, ◌+◌, ◌≤◌, List, [], ◌++◌, length, Some, sym, ap, ◌∙◌, subst, arith, append_assoc}
 use Rattle.std.proofs.Common.{append-nil}
 use Rattle.mips_encoder.specs.declared.instruction.Instr.{Instr}
+use Rattle.mips_encoder.specs.Addresses.{past}
 use Rattle.mips_model.specs.State.{Code, Data, State}
-use Rattle.mips_model.specs.Laws.{HasAt, past, at, Reaches}
+use Rattle.mips_model.specs.Laws.{HasAt, at, Reaches}
 use Rattle.mips_model.proofs.Reach.{through, through_runs, reaches_on}
 use Rattle.icode_templates_proof.specs.Moves.{Runs}
 

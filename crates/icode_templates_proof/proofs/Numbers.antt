@@ -3,7 +3,8 @@ use Rattle.std.proofs.Common.{ℕ, ◌<◌, ◌++◌, refl, ap, subst}
 use Rattle.history.specs.Events.{number_bytes}
 use Rattle.mips_model.specs.State.{Code, Data}
 use Rattle.mips_model.specs.Services.{says}
-use Rattle.mips_model.specs.Laws.{HasAt, past, at}
+use Rattle.mips_encoder.specs.Addresses.{past}
+use Rattle.mips_model.specs.Laws.{HasAt, at}
 use Rattle.icode_templates.specs.Layout.{Spot}
 use Rattle.icode_templates.specs.Templates.{in_code, out_code, service_code}
 use Rattle.icode_templates_proof.specs.Spots.{pointer, value, Framed, Usable}

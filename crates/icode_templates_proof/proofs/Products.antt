@@ -13,11 +13,12 @@ use Rattle.mips_encoder.specs.declared.instruction.HiLo.{HiLo}
 use Rattle.mips_encoder.specs.declared.instruction.HiLo.TheVariants.{Hi, Lo}
 use Rattle.mips_encoder.specs.declared.instruction.MultiplyDivideOp.{MultiplyDivideOp}
 use Rattle.mips_encoder.specs.declared.instruction.MultiplyDivideOp.TheVariants.{Mult}
+use Rattle.mips_encoder.specs.Addresses.{past}
 use Rattle.mips_model.specs.State.{Code, Data}
 use Rattle.mips_model.specs.Arithmetic.{widened_word, multiply_divide}
 use Rattle.mips_model.specs.Effects.{half_of}
 use Rattle.mips_model.specs.Steps.{going, step}
-use Rattle.mips_model.specs.Laws.{HasAt, past, at, Reaches}
+use Rattle.mips_model.specs.Laws.{HasAt, at, Reaches}
 use Rattle.mips_model.proofs.Reach.{through, step_acts, reaches_on, past_append, front, back}
 use Rattle.icode_templates.specs.Layout.{Spot, InRegister, InSlot}
 use Rattle.icode_templates.specs.Templates.{in_two_code, out_code}

@@ -5,7 +5,8 @@ use Rattle.history.specs.Events.{End}
 use Rattle.mips_model.specs.State.{Code, Data, Outside}
 use Rattle.mips_model.specs.Services.{with_outside}
 use Rattle.mips_model.specs.Steps.{going, ended, step}
-use Rattle.mips_model.specs.Laws.{HasAt, past, at}
+use Rattle.mips_encoder.specs.Addresses.{past}
+use Rattle.mips_model.specs.Laws.{HasAt, at}
 use Rattle.mips_model.proofs.Reach.{front, back}
 use Rattle.icode_templates.specs.Layout.{Spot}
 use Rattle.icode_templates.specs.Assembly.{addu, ori, syscall}

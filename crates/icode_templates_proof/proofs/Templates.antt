@@ -4,8 +4,9 @@ use Rattle.std.proofs.Common.{arith, append_assoc, bit_or}
 use Rattle.std.proofs.lemmas.Nat.{or_shifted}
 use Rattle.word32.specs.Space.{update}
 use Rattle.mips_encoder.specs.declared.instruction.Instr.{Instr}
+use Rattle.mips_encoder.specs.Addresses.{past}
 use Rattle.mips_model.specs.State.{Code, Data}
-use Rattle.mips_model.specs.Laws.{HasAt, past, at}
+use Rattle.mips_model.specs.Laws.{HasAt, at}
 use Rattle.mips_model.proofs.Reach.{front, back, past_append}
 use Rattle.icode_ops.specs.declared.kind.BinKind.{BinKind}
 use Rattle.meaning_state.specs.Operators.{bin_value}

@@ -9,8 +9,9 @@ use Rattle.host_edge.specs.declared.ending.Ending.TheVariants.{Done, Trap}
 use Rattle.host_edge.specs.declared.ending.TrapKind.{TrapKind}
 use Rattle.history.specs.Events.{In, Ended, ReadFault, Input, Given, AtEnd, Failing, next_byte, number_bytes}
 use Rattle.mips_encoder.specs.declared.instruction.Instr.{Instr}
+use Rattle.mips_encoder.specs.Addresses.{past}
 use Rattle.mips_model.specs.State.{Code, Data, Outside}
-use Rattle.mips_model.specs.Laws.{HasAt, past, at}
+use Rattle.mips_model.specs.Laws.{HasAt, at}
 use Rattle.mips_model.specs.Services.{says, with_outside}
 use Rattle.icode_ops.specs.declared.kind.BinKind.{BinKind}
 use Rattle.icode_ops.specs.declared.kind.UnKind.{UnKind}

@@ -5,8 +5,9 @@ use Rattle.word32.specs.declared.map.TheConstants.{ARENA}
 use Rattle.mips_encoder.specs.Table.{Fits, word_of}
 use Rattle.mips_encoder.specs.declared.instruction.Instr.{Instr}
 use Rattle.mips_encoder.proofs.Inverse.{instr_of-word_of}
+use Rattle.mips_encoder.specs.Addresses.{past}
 use Rattle.mips_model.specs.State.{Code}
-use Rattle.mips_model.specs.Laws.{HasAt, past}
+use Rattle.mips_model.specs.Laws.{HasAt}
 use Rattle.mips_model.proofs.Reach.{fetch_text, past_append}
 use Rattle.mips_model.proofs.Loaded.{AllFit, all_fit_append}
 use Rattle.icode_ops.specs.declared.op.Op.{Op}
@@ -20,6 +21,7 @@ use Rattle.icode_ops.specs.declared.kind.BinKind.TheVariants as bin
 use Rattle.icode_ops.specs.declared.kind.UnKind.{UnKind}
 use Rattle.icode_ops.specs.declared.kind.UnKind.TheVariants as un
 use Rattle.icode_ops.specs.Flow.{op_at}
+use Rattle.icode_ops.specs.Labels.{label_index}
 use Rattle.icode_ops.specs.Kinds.{sys_number, run_number}
 use Rattle.icode_ops.specs.Finished.{InRange}
 use Rattle.icode_ops.specs.Places.{place_of}
@@ -34,12 +36,11 @@ use Rattle.icode_expand.specs.Frames.{saved, saves, restores, take_frame, free_f
 use Rattle.icode_expand.specs.Frames.{enter_count, leave_count}
 use Rattle.icode_expand.specs.Laws.{AllPlaces}
 use Rattle.icode_expand.specs.Expansion.{nowhere, templates, op_address, aims, body}
-use Rattle.icode_expand.specs.Expansion as expansion
 use Rattle.icode_expand.proofs.Kept.{saved_are}
 use Rattle.icode_meaning.specs.State.{Function}
 use Rattle.icode_templates_proof.specs.Spots.{Usable}
 use Rattle.icode_frames_spec.specs.Standing.{Suits, WordsAt, layout_of, front_code, back_code, code_of}
-use Rattle.icode_frames_spec.proofs.Addresses.{past_is, past_templates, past_rises}
+use Rattle.icode_frames_spec.proofs.Addresses.{past_templates, past_rises}
 use Rattle.icode_frames_spec.proofs.Places.{place_bounds, spot_usable, slot_usable}
 use Rattle.icode_steps_proof.proofs.Liveness.{op_found}
 use Rattle.icode_steps_proof.specs.Served.{IsServed}
@@ -255,9 +256,8 @@ address_within : (pl : Layout) (a : ℕ) (ops : List Op) (i : ℕ) → op_addres
 address_within pl a [] i = omega arith
 address_within pl a (o ∷ os) zero = past_rises a (templates pl nowhere (o ∷ os))
 address_within pl a (o ∷ os) (suc i) =
-    let ih = address_within pl (expansion.past a (template pl nowhere o)) os i in
-    let e = ap (λ b. past b (templates pl nowhere os)) (past_is a (template pl nowhere o))
-    ∙ sym (past_append a (template pl nowhere o) (templates pl nowhere os)) in
+    let ih = address_within pl (past a (template pl nowhere o)) os i in
+    let e = sym (past_append a (template pl nowhere o) (templates pl nowhere os)) in
     subst (λ n. op_address pl a (o ∷ os) (suc i) ≤ n) e ih
 
 module _ (f : Function) (places : List ℕ) (st : Suits f places)
@@ -266,7 +266,7 @@ module _ (f : Function) (places : List ℕ) (st : Suits f places)
   pl = layout_of f places
 
   abbrev start : ℕ
-  start = expansion.past f.address (front_code f places)
+  start = past f.address (front_code f places)
 
   small : f.charge ≤ 2147483648
   small = omega (arith, st.small)
@@ -285,16 +285,14 @@ module _ (f : Function) (places : List ℕ) (st : Suits f places)
       let is = templates pl lab f.ops in
       let e1 = past_append f.address (front_code f places) (is ++ back_code f places) in
       let e2 = past_append (past f.address (front_code f places)) is (back_code f places) in
-      let e3 = past_is f.address (front_code f places) in
       let e4 = past_templates pl nowhere lab start f.ops in
-      let e5 = ap (λ b. past b is) e3 in
       let r = past_rises (past (past f.address (front_code f places)) is) (back_code f places) in
-      omega (arith, e1, e2, e4, e5, r, short)
+      omega (arith, e1, e2, e4, r, short)
 
   aim_low : (aim : Aim) → lab aim / 4 < 67108864
-  aim_low (ToLabel label) = let w = address_within pl start f.ops (expansion.label_index f.ops label) in omega
+  aim_low (ToLabel label) = let w = address_within pl start f.ops (label_index label f.ops) in omega
       (arith, w, ends_low)
-  aim_low ToEpilogue = let e = past_is start (templates pl nowhere f.ops) in omega (arith, e, ends_low)
+  aim_low ToEpilogue = omega (arith, ends_low)
 
   branch_fits : (label : ℕ) → AllFit (bne 24 0 3 ∷ nop ∷ j (lab (ToLabel label)) ∷ nop ∷ [])
   branch_fits label = ((omega arith, omega arith, omega arith), (nop_fits, (aim_low (ToLabel label), (nop_fits, tt))))

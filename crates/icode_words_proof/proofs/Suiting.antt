@@ -1,14 +1,13 @@
 -- What a builder and a choice of places give suits.
 use Rattle.std.proofs.Common.{◌≡◌, ℕ, ◌+◌, ◌*◌, ◌≤◌, List, length, sym, ◌∙◌, subst, arith}
-use Rattle.mips_model.specs.Laws.{past}
+use Rattle.mips_encoder.specs.Addresses.{past}
 use Rattle.icode_ops.specs.Flow.{op_at}
 use Rattle.icode_ops.specs.Finished.{InRange}
 use Rattle.icode_ops.specs.Places.{IsLegal}
-use Rattle.icode_expand.proofs.Lengths as lengths
+use Rattle.icode_expand.proofs.Lengths.{past_is}
 use Rattle.icode_expand.proofs.Most.{words_most}
 use Rattle.icode_meaning.specs.State.{Function}
 use Rattle.icode_frames_spec.specs.Standing.{code_of}
-use Rattle.icode_frames_spec.proofs.Addresses.{past_is}
 use Rattle.icode_words_proof.specs.Laws.{LegalPlacesSuit}
 
 -- the most words that a function has
@@ -17,7 +16,7 @@ pub code_ends : (f : Function) (places : List ℕ)
 code_ends f places =
     let is = code_of f places in
     let most = words_most f.ops places f.address f.charge f.object f.compiled in
-    let behind = sym (past_is f.address is) ∙ lengths.past_is f.address is in
+    let behind = past_is f.address is in
     omega (arith, most, behind)
 
 pub suit : LegalPlacesSuit

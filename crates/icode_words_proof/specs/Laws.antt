@@ -2,7 +2,7 @@
 use Rattle.std.specs.Prelude.{◌≡◌, ℕ, ◌+◌, ◌*◌, ◌%◌, ◌<◌, ◌≤◌, List, length}
 use Rattle.word32.specs.declared.map.TheConstants.{ARENA, SEGMENT_BYTES}
 use Rattle.mips_model.specs.State.{Code}
-use Rattle.mips_model.specs.Laws.{past}
+use Rattle.mips_encoder.specs.Addresses.{past}
 use Rattle.icode_ops.specs.Flow.{op_at}
 use Rattle.icode_ops.specs.Finished.{IsFinished}
 use Rattle.icode_ops.specs.Places.{IsLegal}

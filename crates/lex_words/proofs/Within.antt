@@ -2,6 +2,7 @@
 use Rattle.std.proofs.Common.{◌≡◌, ℕ, ◌+◌, ◌<◌, ◌≤◌, Bool, true, false, List, [], ◌∷◌, length, arith, refl, sym, subst}
 use Rattle.std.specs.Prelude.{not, ◌&&◌, ◌==◌, slice_index, Option, Some, None, if◌then◌else◌, IfSome}
 use Rattle.std.specs.Option.{option_or}
+use Rattle.std.proofs.lemmas.Bool.{and_parts}
 use Rattle.std.proofs.lemmas.List.{get_or_past}
 use Rattle.lex_words.specs.Words.{Text, stands, first, spelling, sign_at, of_three, of_two, of_one}
 use Rattle.lex_words.specs.declared.signs.Sign.{Sign}
@@ -61,10 +62,6 @@ spelt_solid mark.Dot = refl
 spelt_solid mark.Arrow = refl
 spelt_solid mark.Backquote = refl
 
-both_true : (a b : Bool) → (a && b) ≡ true → (a ≡ true) × (b ≡ true)
-both_true true b e = (refl, e)
-both_true false b e = absurd (grind (arith, e))
-
 -- a byte that is read and isn't 0 is within the text
 read_within : (z : Text) (at b : ℕ) → (slice_index z at == b) ≡ true → not (b == 0) ≡ true → at < length z
 read_within z at b e n = grind (arith, get_or_past z at 0)
@@ -72,8 +69,8 @@ read_within z at b e n = grind (arith, get_or_past z at 0)
 stands_within : (w z : Text) (at : ℕ) → at ≤ length z → solid w ≡ true → stands w z at ≡ true → at + length w ≤ length z
 stands_within [] z at h n s = omega (arith, h)
 stands_within (b ∷ w) z at h n s =
-    let here = both_true (slice_index z at == b) (stands w z (at + 1)) s in
-    let whole = both_true (not (b == 0)) (solid w) n in
+    let here = and_parts (slice_index z at == b) (stands w z (at + 1)) s in
+    let whole = and_parts (not (b == 0)) (solid w) n in
     let more = stands_within w z (at + 1) (omega (arith, read_within z at b here.0 whole.0)) whole.1 here.1 in
     omega (arith, more)
 

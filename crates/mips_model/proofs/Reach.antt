@@ -9,13 +9,14 @@ use Rattle.code_arena.specs.declared.arena.WordState.TheVariants.{Flushed}
 use Rattle.host_edge.specs.declared.ending.MachineKind.TheVariants as kind
 use Rattle.mips_encoder.specs.Decoded.{instr_of}
 use Rattle.mips_encoder.specs.declared.instruction.Instr.{Instr}
+use Rattle.mips_encoder.specs.Addresses.{past}
 use Rattle.mips_model.specs.State.{Code, Data, State}
 use Rattle.mips_model.specs.Accesses.{Effect, Plain, Loads, Changes, ReadsText, ReadsArena, StoresText, Branches}
 use Rattle.mips_model.specs.Accesses.{BranchesLinking, Jumps, JumpsLinking, Goes, GoesLinking, Ends, Faults, InputFails}
 use Rattle.mips_model.specs.Accesses.{arena_word}
 use Rattle.mips_model.specs.Effects.{effect, jumps, reads_hilo, sets_hilo}
 use Rattle.mips_model.specs.Steps.{Is, fetch, faulted, going, apply, act, is_hazard, execute, step, load_hazard}
-use Rattle.mips_model.specs.Laws.{HasAt, past, at, Reaches, Grows}
+use Rattle.mips_model.specs.Laws.{HasAt, at, Reaches, Grows}
 
 pub step_acts : (i : Instr) (s : State) → fetch s.code s.pc ≡ Is i → is_hazard i s ≡ false → step (going s) ≡ act i s
 step_acts i s stands quiet =

@@ -8,6 +8,7 @@ use Rattle.host_edge.specs.declared.ending.Ending.TheVariants.{Trap}
 use Rattle.host_edge.specs.declared.ending.TrapKind.TheVariants as trap
 use Rattle.history.specs.Events.{End, Ended}
 use Rattle.mips_encoder.specs.declared.instruction.Instr.{Instr}
+use Rattle.mips_encoder.specs.Addresses.{past}
 use Rattle.word32.specs.Parts.{is_aligned, loaded_part}
 use Rattle.word32.specs.declared.width.Width.{Width}
 use Rattle.mips_model.specs.State.{Code, Data, State, World, set_register}
@@ -17,7 +18,7 @@ use Rattle.mips_model.specs.Accesses.{arena_word}
 use Rattle.mips_model.specs.Effects.{effect, jumps, reads_hilo, sets_hilo}
 use Rattle.mips_model.specs.Steps.{Fetched, Is, Refused, fetch, onward, ended, reads, stores_text, faulted, going}
 use Rattle.mips_model.specs.Steps.{apply, act, is_hazard, recent_behind, execute, step, load_hazard}
-use Rattle.mips_model.specs.Laws.{HasAt, past, at}
+use Rattle.mips_model.specs.Laws.{HasAt, at}
 use Rattle.mips_model.proofs.Runs.{step_stays}
 use Rattle.mips_model.proofs.Reach.{through, carry}
 

@@ -16,11 +16,6 @@ abbrev pub HasAt : Code → ℕ → List Instr → Type 0
 HasAt c at [] = Unit {0}
 HasAt c at (i ∷ is) = (fetch c at ≡ Is i) × HasAt c (at + 4) is
 
--- the address behind them
-abbrev pub past : ℕ → List Instr → ℕ
-past at [] = at
-past at (i ∷ is) = past (at + 4) is
-
 -- a state at an address, where the last instruction loaded a register, or none (0)
 abbrev pub at : Code → ℕ → ℕ → Data → State
 at c a loaded d = record { pc = a; next = a + 4; loaded = loaded; recent = 0; slot = false; code = c; d = d }

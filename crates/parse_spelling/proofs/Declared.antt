@@ -1,6 +1,7 @@
 -- Bases, declarators and type names spell what they read.
 use Rattle.std.proofs.Common.{◌≡◌, Bool, true, false, cond, List, [], ◌∷◌, ◌++◌, refl, ap, sym, ◌∙◌, append_assoc}
 use Rattle.std.proofs.Common.{append-nil}
+use Rattle.std.proofs.lemmas.Bool.{and_parts}
 use Rattle.std.specs.Prelude.{◌&&◌, Option, Some, None}
 use Rattle.tick_tree.specs.declared.base.Prefix.{Prefix}
 use Rattle.tick_tree.specs.declared.base.Prefix.TheVariants as prefix
@@ -186,14 +187,9 @@ unfolding is_void
 void_kind (k.Base w.Void) h = refl
 void_kind _ h = let q : ⊥ = cc in absurd q
 
-both : (a b : Bool) → a && b ≡ true → (a ≡ true) × (b ≡ true)
-both true true h = (refl, refl)
-both true false h = let q : ⊥ = cc in absurd q
-both false b h = let q : ⊥ = cc in absurd q
-
 nothing_says : (i : Input) → is_nothing i ≡ true →
     words i ≡ Plain (k.Base w.Void) ∷ mark m.ParenClose (words (next (next i)))
-nothing_says i h = let c = both (is_void (kind i)) (sees m.ParenClose (next i)) h in
+nothing_says i h = let c = and_parts (is_void (kind i)) (sees m.ParenClose (next i)) h in
     taken (k.Base w.Void) i refl (void_kind (kind i) c.0) ∙
     ap (λ l. Plain (k.Base w.Void) ∷ l) (taken_mark m.ParenClose (next i) c.1)
 

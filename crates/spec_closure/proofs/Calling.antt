@@ -4,8 +4,9 @@ use Rattle.word32.specs.Space.{update}
 use Rattle.word32.specs.declared.map.TheConstants.{SEGMENT_BYTES}
 use Rattle.history.specs.Events.{End}
 use Rattle.mips_encoder.specs.declared.instruction.Instr.{Instr}
+use Rattle.mips_encoder.specs.Addresses.{past}
 use Rattle.mips_model.specs.State.{Code, Data}
-use Rattle.mips_model.specs.Laws.{HasAt, past, at}
+use Rattle.mips_model.specs.Laws.{HasAt, at}
 use Rattle.mips_model.proofs.Reach.{front, back, past_append}
 use Rattle.icode_templates.specs.Layout.{Spot}
 use Rattle.icode_templates.specs.Assembly.{addu}

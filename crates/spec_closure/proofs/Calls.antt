@@ -5,8 +5,9 @@ use Rattle.std.proofs.lemmas.Bool.{cases_Bool}
 use Rattle.word32.specs.Space.{update}
 use Rattle.word32.specs.declared.map.TheConstants.{FRAMES, NEXT_HEAP_CELL, SEGMENT_BYTES}
 use Rattle.mips_encoder.specs.declared.instruction.Instr.{Instr}
+use Rattle.mips_encoder.specs.Addresses.{past}
 use Rattle.mips_model.specs.State.{Code, Data}
-use Rattle.mips_model.specs.Laws.{HasAt, past, at, Reaches}
+use Rattle.mips_model.specs.Laws.{HasAt, at, Reaches}
 use Rattle.mips_model.specs.Steps.{going}
 use Rattle.mips_model.proofs.Reach.{front, back, past_append, step_acts}
 use Rattle.icode_ops.specs.Kinds.{run_number}

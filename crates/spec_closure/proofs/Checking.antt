@@ -13,12 +13,13 @@ use Rattle.host_edge.specs.declared.ending.TrapKind.{TrapKind}
 use Rattle.host_edge.specs.declared.ending.TrapKind.TheVariants.{BadSpec}
 use Rattle.history.specs.Events.{Ended}
 use Rattle.mips_encoder.specs.declared.instruction.Instr.{Instr}
+use Rattle.mips_encoder.specs.Addresses.{past}
 use Rattle.mips_model.specs.State.{Code, Data, set_register}
 use Rattle.mips_model.specs.Accesses.{Loads, Branches}
 use Rattle.mips_model.specs.Arithmetic.{bit}
 use Rattle.mips_model.specs.Effects.{effect}
 use Rattle.mips_model.specs.Steps.{load_hazard}
-use Rattle.mips_model.specs.Laws.{HasAt, past, at, Reaches}
+use Rattle.mips_model.specs.Laws.{HasAt, at, Reaches}
 use Rattle.mips_model.proofs.Reach.{front, back, reaches_on}
 use Rattle.meaning_state.specs.Rows.{numbered}
 use Rattle.icode_templates.specs.Assembly.{scratch, addu, beq, lw, nop, sltu, sw}

@@ -1,5 +1,6 @@
 -- The routines that make specifications have words, and each fits into its block of 64.
 use Rattle.std.proofs.Common.{◌≡◌, ℕ, ◌<◌, ◌≤◌, Bool, true, false, ◌&&◌, List, [], ◌∷◌, length, refl, arith, nat_lt}
+use Rattle.std.proofs.lemmas.Bool.{and_parts}
 use Rattle.std.proofs.lemmas.Bool.Decides.{nat_tests}
 use Rattle.mips_encoder.specs.Table.{Fits}
 use Rattle.mips_encoder.specs.declared.instruction.Instr.{Instr}
@@ -29,17 +30,13 @@ abbrev all_fitting : List Instr → Bool
 all_fitting [] = true
 all_fitting (i ∷ is) = fitting i && all_fitting is
 
-both : (a b : Bool) → (a && b) ≡ true → (a ≡ true) × (b ≡ true)
-both true b e = (refl, e)
-both false b e = let x : ⊥ = cc in absurd x
-
 below : (x n : ℕ) → nat_lt x n ≡ true → x < n
 below x n e = grind (arith, nat_tests, e)
 
 three : (a b c m n o : ℕ) → (nat_lt a m && (nat_lt b n && nat_lt c o)) ≡ true → (a < m) × (b < n) × (c < o)
 three a b c m n o e =
-    let first = both (nat_lt a m) (nat_lt b n && nat_lt c o) e in
-    let rest = both (nat_lt b n) (nat_lt c o) first.1 in
+    let first = and_parts (nat_lt a m) (nat_lt b n && nat_lt c o) e in
+    let rest = and_parts (nat_lt b n) (nat_lt c o) first.1 in
     (below a m first.0, below b n rest.0, below c o rest.1)
 
 fits : (i : Instr) → fitting i ≡ true → Fits i
@@ -50,7 +47,7 @@ fits (Break code) e = below code 1048576 e
 fits (BranchOnEquality op rs rt offset) e = three rs rt offset 32 32 65536 e
 fits (ImmediateArithmetic op rt rs n) e = three rt rs n 32 32 65536 e
 fits (LoadUpperImmediate rt n) e =
-    let x = both (nat_lt rt 32) (nat_lt n 65536) e in (below rt 32 x.0, below n 65536 x.1)
+    let x = and_parts (nat_lt rt 32) (nat_lt n 65536) e in (below rt 32 x.0, below n 65536 x.1)
 fits (Memory op rt offset rs) e = three rt offset rs 32 65536 32 e
 fits (ShiftVariable op rd rt rs) e = let x : ⊥ = cc in absurd x
 fits (JumpAndLinkRegister p) e = let x : ⊥ = cc in absurd x
@@ -65,7 +62,7 @@ fits Syscall e = let x : ⊥ = cc in absurd x
 
 pub all_fit : (is : List Instr) → all_fitting is ≡ true → AllFit is
 all_fit [] e = tt
-all_fit (i ∷ is) e = let x = both (fitting i) (all_fitting is) e in (fits i x.0, all_fit is x.1)
+all_fit (i ∷ is) e = let x = and_parts (fitting i) (all_fitting is) e in (fits i x.0, all_fit is x.1)
 
 pub new_fits : AllFit new_code × (length new_code ≤ 64)
 new_fits = (all_fit new_code refl, omega arith)

@@ -14,9 +14,10 @@ use Rattle.host_edge.specs.declared.ending.TrapKind.{TrapKind}
 use Rattle.host_edge.specs.declared.ending.TrapKind.TheVariants.{SizeLimit, BadParam}
 use Rattle.history.specs.Events.{Ended}
 use Rattle.mips_encoder.specs.declared.instruction.Instr.{Instr}
+use Rattle.mips_encoder.specs.Addresses.{past}
 use Rattle.mips_model.specs.State.{Code, Data, State}
 use Rattle.mips_model.specs.Arithmetic.{bit}
-use Rattle.mips_model.specs.Laws.{HasAt, past, at, Reaches}
+use Rattle.mips_model.specs.Laws.{HasAt, at, Reaches}
 use Rattle.mips_model.proofs.Reach.{front, back, reaches_on}
 use Rattle.meaning_state.specs.Shared.{Shared}
 use Rattle.meaning_state.specs.Rows.{closure_trap, next_number}

@@ -4,7 +4,8 @@ use Rattle.std.specs.Prelude.{◌≡◌, ℕ, ◌+◌, ◌<◌, ◌≤◌, ◌++
 use Rattle.word32.specs.Space.{update}
 use Rattle.word32.specs.declared.map.TheConstants.{FRAMES, GLOBAL_POINTER, SEGMENT_BYTES}
 use Rattle.mips_model.specs.State.{Code, Data, State}
-use Rattle.mips_model.specs.Laws.{HasAt, past, at}
+use Rattle.mips_encoder.specs.Addresses.{past}
+use Rattle.mips_model.specs.Laws.{HasAt, at}
 use Rattle.icode_ops.specs.Kinds.{run_number}
 use Rattle.icode_ops.specs.declared.kind.RunKind.TheVariants.{Malloc}
 use Rattle.meaning_state.specs.Shared.{Shared, malloc_answer}

@@ -11,8 +11,9 @@ use Rattle.host_edge.specs.declared.ending.TrapKind.{TrapKind}
 use Rattle.host_edge.specs.declared.ending.TrapKind.TheVariants.{BadSpec}
 use Rattle.history.specs.Events.{End, Ended}
 use Rattle.mips_encoder.specs.declared.instruction.Instr.{Instr}
+use Rattle.mips_encoder.specs.Addresses.{past}
 use Rattle.mips_model.specs.State.{Code, Data}
-use Rattle.mips_model.specs.Laws.{HasAt, past, at}
+use Rattle.mips_model.specs.Laws.{HasAt, at}
 use Rattle.icode_ops.specs.Kinds.{run_number}
 use Rattle.icode_ops.specs.declared.kind.RunKind.TheVariants.{Local, Parameter, Begin}
 use Rattle.meaning_state.specs.Shared.{Shared}

@@ -13,11 +13,12 @@ use Rattle.code_arena.specs.Rows.{numbered}
 use Rattle.image_file.specs.declared.image.FunctionEntry.{FunctionEntry}
 use Rattle.history.specs.Events.{Input}
 use Rattle.mips_encoder.specs.Table.{word_of}
+use Rattle.mips_encoder.specs.Addresses.{past}
 use Rattle.mips_model.specs.State.{Code, Data, set_register}
 use Rattle.mips_model.specs.Steps.{step, going}
 use Rattle.mips_model.specs.Run as machine
 use Rattle.mips_model.specs.Run.{row_of}
-use Rattle.mips_model.specs.Laws.{HasAt, past, at, Reaches}
+use Rattle.mips_model.specs.Laws.{HasAt, at, Reaches}
 use Rattle.mips_model.proofs.Loaded.{AllFit, all_fit_append, loaded}
 use Rattle.mips_model.proofs.Reach.{through, through_runs, reaches_on, step_acts, front, back}
 use Rattle.icode_templates.specs.Assembly.{jal, nop}

@@ -16,17 +16,15 @@ use Rattle.icode_templates.specs.Words.{words}
 use Rattle.icode_expand.specs.Expansion as expansion
 use Rattle.icode_expand.specs.Expansion.{expanded, templates}
 use Rattle.icode_expand.specs.Frames.{saved, prologue}
-use Rattle.icode_expand.proofs.Lengths as lengths
-use Rattle.icode_expand.proofs.Lengths.{length_words, templates_append}
+use Rattle.icode_expand.proofs.Lengths.{length_words, past_is, templates_append}
 use Rattle.icode_expand.proofs.Most.{code_most}
 use Rattle.icode_expand.proofs.Written.{whole_length}
 use Rattle.mips_model.specs.State.{Code}
-use Rattle.mips_model.specs.Laws.{past}
+use Rattle.mips_encoder.specs.Addresses.{past}
 use Rattle.mips_model.proofs.Loaded.{loaded}
 use Rattle.icode_meaning.specs.State.{Function}
 use Rattle.icode_frames_spec.specs.Standing as standing
 use Rattle.icode_frames_spec.specs.Standing.{Suits, Stands}
-use Rattle.icode_frames_spec.proofs.Addresses.{past_is}
 use Rattle.icode_steps_proof.specs.Served.{IsServed}
 use Rattle.icode_words_proof.proofs.Suiting.{suit}
 use Rattle.icode_words_proof.proofs.Fitting.{function_stands}
@@ -168,7 +166,7 @@ module _ (fs : List node.Function) (d : Addresses) (low_calls : AreLow d) where
   pub code_behind : (at : ℕ) (x : Placed) → past at (standing.code_of (staged d at x) x.places) ≡ behind at x
   code_behind at x =
       let is = standing.code_of (staged d at x) x.places in
-      let a = sym (past_is at is) ∙ lengths.past_is at is in
+      let a = past_is at is in
       let b = length_words is in
       let n = length_is d at x in
       omega (arith, a, b, n)

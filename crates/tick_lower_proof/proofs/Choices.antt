@@ -2,12 +2,12 @@
 use Rattle.std.proofs.Common.{◌≡◌, ℕ, suc, ◌+◌, ◌<◌, ◌≤◌, List, ◌∷◌, Option, Some, true, arith}
 use Rattle.std.specs.Prelude.{slice_get}
 use Rattle.icode_ops.specs.declared.op.Op.TheVariants as op
+use Rattle.icode_ops.specs.Labels.{label_index}
 use Rattle.typed_tree.specs.Nodes.{Expr, has_value}
 use Rattle.staged_meaning.specs.Size.{temps_in}
 use Rattle.staged_meaning.specs.Scope.{Scope, IsScoped}
 use Rattle.staged_meaning.specs.World.{World, Result, Gives, Flow, Normal, then_do, at_zero}
 use Rattle.staged_meaning.specs.Meaning.{eval}
-use Rattle.icode_meaning.specs.Steps.{label_index}
 use Rattle.tick_lower_proof.specs.Lower.{expr_ops}
 use Rattle.tick_lower_proof.proofs.Builder.{View, top, after_ops, Stands}
 use Rattle.tick_lower_proof.proofs.Follow.{From, Follows, follows_less}

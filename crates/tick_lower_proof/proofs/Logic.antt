@@ -2,13 +2,14 @@
 use Rattle.std.proofs.Common.{◌≡◌, ℕ, suc, ◌+◌, ◌<◌, ◌≤◌, List, ◌∷◌, ◌++◌, Some, true, refl, sym, ap, ◌∙◌, subst, arith}
 use Rattle.std.specs.Prelude.{slice_get, ◌&&◌}
 use Rattle.icode_ops.specs.declared.op.Op.TheVariants as op
+use Rattle.icode_ops.specs.Labels.{label_index}
 use Rattle.icode_ir.specs.declared.build_op.BuildOp.TheVariants as build
 use Rattle.typed_tree.specs.Nodes.{Expr, And, Or, has_value}
 use Rattle.staged_meaning.specs.Size.{labels_in, temps_in}
 use Rattle.staged_meaning.specs.Scope.{Scope}
 use Rattle.staged_meaning.specs.World.{World, then_do, spend, at_zero}
 use Rattle.staged_meaning.specs.Meaning.{eval}
-use Rattle.icode_meaning.specs.Steps.{paid, label_index}
+use Rattle.icode_meaning.specs.Steps.{paid}
 use Rattle.tick_lower_proof.specs.Lower.{expr_ops, joins}
 use Rattle.tick_lower_proof.proofs.Machine.{then_op, put, put_same}
 use Rattle.tick_lower_proof.proofs.Builder.{View, inner, top, after_op, after_ops, after_append, Stands, stands_front}

@@ -2,6 +2,7 @@
 use Rattle.std.proofs.Common.{◌≡◌, ℕ, zero, suc, ◌+◌, ◌-◌, ◌<◌, ◌≤◌, List, ◌∷◌, Option, Some, true, sym, arith}
 use Rattle.std.specs.Prelude.{slice_get}
 use Rattle.icode_ops.specs.declared.op.Op.TheVariants as op
+use Rattle.icode_ops.specs.Labels.{label_index}
 use Rattle.typed_tree.specs.Nodes.{Expr, has_value}
 use Rattle.staged_meaning.specs.Size.{temps_in}
 use Rattle.staged_meaning.specs.Scope.{Scope, IsScoped}
@@ -9,7 +10,7 @@ use Rattle.staged_meaning.specs.World.{World, Result, Gives, Flow, Normal, Broke
 use Rattle.staged_meaning.specs.Meaning.{eval}
 use Rattle.staged_meaning.specs.Statements.{turn_end, turns, round_end, rounds, stepped}
 use Rattle.icode_meaning.specs.State.{Log}
-use Rattle.icode_meaning.specs.Steps.{branch, label_index}
+use Rattle.icode_meaning.specs.Steps.{branch}
 use Rattle.tick_lower_proof.specs.Lower.{expr_ops}
 use Rattle.tick_lower_proof.proofs.Machine.{Regs, at_op, goes_none}
 use Rattle.tick_lower_proof.proofs.Builder.{View, top, after_ops, Stands}

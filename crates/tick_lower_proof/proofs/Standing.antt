@@ -8,7 +8,8 @@ use Rattle.staged_meaning.specs.Scope.{Scope, IsScoped}
 use Rattle.staged_meaning.specs.World.{World, Result, spend}
 use Rattle.staged_meaning.specs.Meaning.{Context, eval}
 use Rattle.icode_meaning.specs.State.{Program, Log}
-use Rattle.icode_meaning.specs.Steps.{back, left, label_index}
+use Rattle.icode_ops.specs.Labels.{label_index}
+use Rattle.icode_meaning.specs.Steps.{back, left}
 use Rattle.tick_lower_proof.specs.Lower.{Addresses, expr_ops}
 use Rattle.tick_lower_proof.proofs.Machine.{Goes, goes_none, goes_more, Here, Regs, at_op}
 use Rattle.tick_lower_proof.proofs.Stacks.{IsWhole, IsSound, goes_sound}

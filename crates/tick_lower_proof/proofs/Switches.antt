@@ -6,6 +6,7 @@ use Rattle.std.specs.Prelude.{slice_get, nat_eq, not, ◌&&◌, if◌then◌else
 use Rattle.word32.specs.Space.{update}
 use Rattle.icode_ops.specs.declared.op.Op.TheVariants as op
 use Rattle.icode_ops.specs.declared.kind.BinKind.TheVariants.{NotEqual}
+use Rattle.icode_ops.specs.Labels.{label_index}
 use Rattle.icode_ir.specs.declared.build_op.BuildOp.TheVariants as build
 use Rattle.meaning_state.specs.Operators.{bin_value, truth}
 use Rattle.typed_tree.specs.Nodes.{Expr, Stmt, Variable, Object, Parameter, ParameterObject, Items, NoItem, Item}
@@ -18,7 +19,7 @@ use Rattle.staged_meaning.specs.World.{with_variable}
 use Rattle.staged_meaning.specs.Meaning.{eval, exec, exec_items}
 use Rattle.staged_meaning.specs.Statements.{then_next, on_case, switch_end}
 use Rattle.icode_meaning.specs.State.{Log}
-use Rattle.icode_meaning.specs.Steps.{paid, branch, label_index}
+use Rattle.icode_meaning.specs.Steps.{paid, branch}
 use Rattle.tick_lower_proof.specs.Lower.{expr_ops, Targets, items_ops}
 use Rattle.tick_lower_proof.proofs.Machine.{Goes, then_op, at_op, put, put_same}
 use Rattle.tick_lower_proof.proofs.Builder.{View, inner, top, after_ops, Stands, stands_front, stands_back}

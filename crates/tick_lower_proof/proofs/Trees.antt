@@ -4,6 +4,7 @@ use Rattle.std.proofs.Common.{false, refl, sym, ◌∙◌, subst, arith}
 use Rattle.std.specs.Prelude.{slice_get}
 use Rattle.icode_ops.specs.declared.op.Op.{Op}
 use Rattle.icode_ops.specs.declared.op.Op.TheVariants as op
+use Rattle.icode_ops.specs.Labels.{label_index}
 use Rattle.icode_ir.specs.declared.body.Body.{Body}
 use Rattle.icode_ir.specs.declared.build_op.BuildOp.{BuildOp}
 use Rattle.icode_ir.specs.declared.build_op.BuildOp.TheVariants as build
@@ -20,7 +21,6 @@ use Rattle.staged_meaning.specs.Placed.{Allowed, below, nested, looped, switched
 use Rattle.staged_meaning.specs.World.{World, Result, Gives, Flow, Normal, then_do}
 use Rattle.staged_meaning.specs.Meaning.{eval, exec, exec_items}
 use Rattle.staged_meaning.specs.Statements.{stepped, exec_cases, exec_default}
-use Rattle.icode_meaning.specs.Steps.{label_index}
 use Rattle.tick_lower_proof.specs.Lower.{expr_ops, Targets, stmt_ops, items_ops, dropping, case_ops, test_ops}
 use Rattle.tick_lower_proof.specs.Lower.{default_label}
 use Rattle.tick_lower_proof.proofs.Machine.{Here}
