@@ -28,8 +28,8 @@ fn define(alloc: Global, state: &mut State, line: u32, name: &[u8]) -> Result<()
 fn next(all: &Functions) -> u32
     ensures { result ≡ functions.next all.now }
 {
-    let count = all.all.len().min(4294967295) as u32;
-    (u64::from(count) + 1).min(4294967295) as u32
+    let count = all.all.len().min(u32::MAX as usize) as u32;
+    (u64::from(count) + 1).min(u64::from(u32::MAX)) as u32
 }
 
 fn first_function(
@@ -125,7 +125,7 @@ fn count_of(t: &TypeRef) -> u32
     ensures { result ≡ spec.count_of t.now }
 {
     match t.layers().last() {
-        Some(Layer::Function(types)) => types.len().min(4294967295) as u32,
+        Some(Layer::Function(types)) => types.len().min(u32::MAX as usize) as u32,
         _ => 0,
     }
 }

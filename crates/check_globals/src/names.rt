@@ -15,6 +15,7 @@ use check_forms::declared_name;
 use sqlite_items::Items;
 use std::alloc::Global;
 use tick_tree::{Declarator, Deny, FaultKind, refused};
+use word32::map::OBJECTS;
 
 /// What a name at file scope is already.
 #[derive(Clone, Copy, Debug, PartialEq, Eq)]
@@ -136,7 +137,7 @@ fn size_by(size: Option<u32>) -> u32
 fn address(at: u32) -> u32
     ensures { result ≡ spec.address at }
 {
-    (268435456 + u64::from(at)).min(4294967295) as u32
+    (u64::from(OBJECTS) + u64::from(at)).min(u64::from(u32::MAX)) as u32
 }
 
 fn first_variable(
@@ -178,8 +179,8 @@ fn named_variable(
     }
 }
 
-/// A prototype by its declarator. Refused: Duplicate where its name is a variable, a function that is defined or in the library;
-/// TypeMismatch where a prototype of the name has another type.
+/// A prototype by its declarator. Refused: Duplicate where its name is a variable, a function that is defined or in the
+/// library; TypeMismatch where a prototype of the name has another type.
 pub fn prototype(
     alloc: Global,
     state: &mut State,
@@ -195,8 +196,8 @@ pub fn prototype(
     }
 }
 
-/// A variable by its declarator; its place, in bytes from the first global on. Refused: Duplicate where its name is a variable, a
-/// function that is defined or in the library; TypeMismatch where it has a prototype.
+/// A variable by its declarator; its place, in bytes from the first global on. Refused: Duplicate where its name is a
+/// variable, a function that is defined or in the library; TypeMismatch where it has a prototype.
 pub fn variable(
     alloc: Global,
     state: &mut State,

@@ -1,6 +1,7 @@
 -- A call: the caller waits at its next op.
 use Rattle.std.proofs.Common.{◌≡◌, ℕ, suc, ◌+◌, ◌*◌, ◌/◌, ◌%◌, ◌<◌, ◌≤◌, true, List, [], ◌∷◌, Option, Some, None, refl}
 use Rattle.std.proofs.Common.{sym, ap, ◌∙◌, subst, arith, slice_get}
+use Rattle.word32.specs.declared.map.TheConstants.{OBJECTS_END, SEGMENT_BYTES}
 use Rattle.word32.specs.Space.{update}
 use Rattle.mips_model.specs.State.{Code, Data}
 use Rattle.mips_model.specs.Steps.{going}
@@ -34,10 +35,10 @@ use Rattle.icode_expand_proof.proofs.Entrance.{Enters, enter_pays}
 abbrev pub linked : ℕ → Data → Data
 linked address d = with_registers (update 31 address d.registers) d
 
-call_reaches : (c : Code) (a target : ℕ) (d : Data) → a + 8 < 268435456 → target % 4 ≡ 0
+call_reaches : (c : Code) (a target : ℕ) (d : Data) → a + 8 < SEGMENT_BYTES → target % 4 ≡ 0
     → HasAt c a (jal target ∷ nop ∷ []) → Reaches 2 (at c a 0 d) (at c target 0 (linked (a + 4 + 4) d))
 call_reaches c a target d low even h =
-    let e : (a + 4) / 268435456 * 268435456 + 4 * (target / 4) ≡ target = omega (arith, low, even) in
+    let e : (a + 4) / SEGMENT_BYTES * SEGMENT_BYTES + 4 * (target / 4) ≡ target = omega (arith, low, even) in
     let n : (a + 4 + 4) % 4294967296 ≡ a + 4 + 4 = omega (arith, low) in
     slot_runs c a 0 target d (linked (a + 4 + 4) d)
     (step_acts (jal target) (at c a 0 d) h.0 refl
@@ -93,7 +94,7 @@ module _ (s : Setting) (st : Standing s) where
         from = omega (arith, ptr, fr.from);
         even = subst (λ n. n % 4 ≡ 0) (sym ptr) fr.even;
         global = al.registers 28 held_28 ∙ h.ready.global;
-        objects_to = subst (λ n. n ≤ 285212672) (sym (al.registers 30 held_30)) h.ready.objects_to;
+        objects_to = subst (λ n. n ≤ OBJECTS_END) (sym (al.registers 30 held_30)) h.ready.objects_to;
         reach = λ k x e. let z = h.passed.known k x e in (z.0, omega (arith, ptr, z.1, fr.to, suits.room));
         stand = λ k x e. word_alike (4 * k) al ∙ h.passed.stand k x e;
       }

@@ -3,6 +3,7 @@ use Rattle.std.proofs.Common.{◌≡◌, inl, inr, ℕ, suc, ◌+◌, ◌*◌, �
 use Rattle.std.proofs.Common.{None, refl, sym, ap, ◌∙◌, subst, arith, nat_eq, slice_get, bit_xor}
 use Rattle.std.proofs.lemmas.Bool.{and_parts}
 use Rattle.std.proofs.lemmas.Bool.{cases_lt, cases_eq, eq-eqb, ne_eqb}
+use Rattle.word32.specs.declared.map.TheConstants.{SEGMENT_BYTES}
 use Rattle.word32.specs.Space.{update}
 use Rattle.host_edge.specs.declared.ending.Ending.TheVariants.{Trap}
 use Rattle.host_edge.specs.declared.ending.TrapKind.TheVariants.{BadCall}
@@ -98,7 +99,7 @@ module _ (s : Setting) (st : Standing s) (w : Frame) (arguments : ℕ → Option
   ends : past a (op_code f places o) ≡ past b (number_call n)
   ends = past_append a (in_code ((layout_of f places).spot number)) (number_call n)
 
-  low : b + 48 < 268435456
+  low : b + 48 < SEGMENT_BYTES
   low = let l = code_low s.code f places stands w.index o i in omega (arith, l, ends)
 
   brings : Runs 1 4 (at s.code a 0 d) (at s.code b 0 mid)

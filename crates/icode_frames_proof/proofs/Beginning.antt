@@ -3,7 +3,7 @@ use Rattle.std.proofs.Common.{◌≡◌, ◌≢◌, inl, inr, ℕ, suc, ◌+◌,
 use Rattle.std.proofs.Common.{length, refl, sym, ap, ◌∙◌, subst, arith, if◌then◌else◌, append_assoc}
 use Rattle.std.proofs.lemmas.Bool.{cases_Bool}
 use Rattle.word32.specs.Space.{update}
-use Rattle.word32.specs.declared.map.TheConstants.{GLOBAL_POINTER}
+use Rattle.word32.specs.declared.map.TheConstants.{GLOBAL_POINTER, OBJECTS_END, SEGMENT_BYTES}
 use Rattle.mips_encoder.specs.declared.instruction.Instr.{Instr}
 use Rattle.mips_encoder.specs.Addresses.{past}
 use Rattle.host_edge.specs.declared.ending.Ending.TheVariants.{Trap}
@@ -20,6 +20,7 @@ use Rattle.icode_meaning.specs.State.{Function}
 use Rattle.icode_templates_proof.specs.Spots.{pointer, frame_word}
 use Rattle.icode_templates_proof.specs.Moves.{Runs, EndsIn}
 use Rattle.icode_templates_proof.proofs.Keeping.{with_registers}
+use Rattle.limits.specs.declared.run.TheConstants.{MOST_FRAME_BYTES}
 use Rattle.icode_frames_spec.specs.Frames.{place_number, unwound_register, counted_cells}
 use Rattle.icode_frames_spec.specs.Standing.{front_code, Stands}
 use Rattle.icode_frames_spec.proofs.Addresses.{past_rises}
@@ -78,7 +79,7 @@ module _ (f : Function) (places : List ℕ) (c : Code) (d : Data) (st : Stands c
   ends = ap (past f.address) split ∙ past_append f.address first second ∙ past_append (past f.address first)
       (enter_count f.compiled) (take_objects f.object)
 
-  start_low : f.address < 268435456
+  start_low : f.address < SEGMENT_BYTES
   start_low = let r = past_rises f.address (front_code f places) in omega (arith, r, front_low c f places st)
 
   pub framing : Framing f places c d
@@ -128,11 +129,11 @@ module _ (f : Function) (places : List ℕ) (c : Code) (d : Data) (st : Stands c
       (omega arith)
 
   -- the objects fit
-  module _ (fits : d.registers 30 + f.object ≤ 285212672) where
+  module _ (fits : d.registers 30 + f.object ≤ OBJECTS_END) where
     taking : ObjectsRun f.object c (past (past f.address first) (enter_count f.compiled)) counting.after
     taking = objects_run f.object c (past (past f.address first) (enter_count f.compiled)) counting.after
-        (subst (λ n. n < 268435456) ends (front_low c f places st))
-        (subst (λ n. n + f.object ≤ 285212672) (sym objects_before) fits) objects_stand
+        (subst (λ n. n < SEGMENT_BYTES) ends (front_low c f places st))
+        (subst (λ n. n + f.object ≤ OBJECTS_END) (sym objects_before) fits) objects_stand
 
     abbrev last : Data
     last = taking.after
@@ -207,12 +208,12 @@ module _ (f : Function) (places : List ℕ) (c : Code) (d : Data) (st : Stands c
         }
 
   -- the objects don't fit
-  pub overflows : d.registers 30 ≤ 285212672 → 285212672 < d.registers 30 + f.object
+  pub overflows : d.registers 30 ≤ OBJECTS_END → OBJECTS_END < d.registers 30 + f.object
       → EndsIn 17 33 (Ended (Trap FrameLimit)) (at c f.address 0 d) c d.outside.history
   overflows most more =
       let e1 = objects_end f.object c (past (past f.address first) (enter_count f.compiled)) counting.after stands_few
-      (subst (λ n. n ≤ 285212672) (sym objects_before) most)
-      (subst (λ n. 285212672 < n + f.object) (sym objects_before) more) objects_stand in
+      (subst (λ n. n ≤ OBJECTS_END) (sym objects_before) most)
+      (subst (λ n. OBJECTS_END < n + f.object) (sym objects_before) more) objects_stand in
       let same : counting.after.outside.history ≡ d.outside.history =
       ap (λ (o : Outside). o.history) (counting.world.outside ∙ framing.entered.world.outside) in
       let e2 = subst (EndsIn 8 8 (Ended (Trap FrameLimit)) (at c (past (past f.address first) (enter_count f.compiled))
@@ -229,7 +230,7 @@ module _ (f : Function) (places : List ℕ) (c : Code) (d : Data) (st : Stands c
         code_is = e3.code_is;
       }
     where
-      stands_few : f.object ≤ 1073741824
+      stands_few : f.object ≤ MOST_FRAME_BYTES
       stands_few = st.suits.few
 
 pub function_begins : FunctionsBegin

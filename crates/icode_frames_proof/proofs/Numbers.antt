@@ -21,6 +21,7 @@ use Rattle.history.specs.Events.{Ended}
 use Rattle.mips_model.specs.Steps.{ended}
 use Rattle.std.specs.Int.Bits.{xor_add_and, xor_self}
 use Rattle.std.proofs.lemmas.Nat.{and_le_l, and_le_r}
+use Rattle.word32.specs.declared.map.TheConstants.{OBJECTS, OBJECTS_END, SEGMENT_BYTES}
 use Rattle.icode_frames_proof.proofs.Prologue.{ends_in, ends_late}
 use Rattle.icode_templates_proof.specs.Moves.{EndsIn}
 use Rattle.icode_templates_proof.proofs.Keeping.{with_registers}
@@ -30,8 +31,8 @@ use Rattle.icode_templates_proof.proofs.Jumps.{in_slot, slot_runs, branch_reache
 region_is : (a : ℕ) → 542179328 ≤ a → a < 542703616 → region_of a ≡ InFunctionTable
 region_is a lo hi =
     let t1 : nat_le 2130706432 a ≡ false = grind (arith, nat_tests) in
-    let t2 : nat_le 268435456 a ≡ true = grind (arith, nat_tests) in
-    let t3 : nat_lt a 285212672 ≡ false = grind (arith, nat_tests) in
+    let t2 : nat_le OBJECTS a ≡ true = grind (arith, nat_tests) in
+    let t3 : nat_lt a OBJECTS_END ≡ false = grind (arith, nat_tests) in
     let t4 : nat_le 542175232 a ≡ true = grind (arith, nat_tests) in
     let t5 : nat_lt a 542179328 ≡ false = grind (arith, nat_tests) in
     let t6 : nat_le 536870912 a ≡ true = grind (arith, nat_tests) in
@@ -98,7 +99,7 @@ row_data v n d =
     let d5 = set 24 (d.table v).0 d4 in
     set 25 (bit_xor (d.table v).1 n) d5
 
-module _ (c : Code) (b n : ℕ) (d : Data) (low : b + 48 < 268435456) (global : d.registers 28 ≡ 542179328)
+module _ (c : Code) (b n : ℕ) (d : Data) (low : b + 48 < SEGMENT_BYTES) (global : d.registers 28 ≡ 542179328)
     (word : d.registers 24 < 4294967296) (h : HasAt c b (number_call n)) where
   abbrev v : ℕ
   v = d.registers 24

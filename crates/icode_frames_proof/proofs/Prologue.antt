@@ -5,6 +5,7 @@ use Rattle.std.proofs.Common.{◌++◌, refl, sym, ap, ◌∙◌, subst, arith, 
 use Rattle.std.specs.Fn.{iterate}
 use Rattle.std.proofs.lemmas.Bool.{ne_eqb, cases_eq}
 use Rattle.std.proofs.lemmas.Bool.Decides.{nat_tests}
+use Rattle.word32.specs.declared.map.TheConstants.{OBJECTS_END, SEGMENT_BYTES}
 use Rattle.pace.proofs.Runs.{iterate_add}
 use Rattle.word32.specs.Words.{difference}
 use Rattle.word32.specs.Space.{update}
@@ -29,6 +30,7 @@ use Rattle.icode_templates_proof.proofs.Keeping.{with_registers}
 use Rattle.icode_templates_proof.proofs.Jumps.{branch_reaches}
 use Rattle.icode_templates_proof.proofs.Templates.{constant_parts}
 use Rattle.icode_templates_proof.specs.Moves.{EndsIn}
+use Rattle.limits.specs.declared.run.TheConstants.{MOST_FRAME_BYTES}
 use Rattle.icode_frames_proof.proofs.Entering.{test_code, charged, frame_tests}
 
 pub ends_in : (k : ℕ) (end : End) (s : State) (c : Code) (a : ℕ) (d : Data) → iterate step k (going s) ≡ ended end
@@ -52,8 +54,8 @@ some_objects n = objects_test n ++ (beq 25 0 2 ∷ nop ∷ trap 21 ∷ [])
 abbrev tested : ℕ → ℕ → Data → Data
 tested h x d =
     let y = (d.registers 30 + x) % 4294967296 in
-    with_registers (update 25 (bit (nat_lt 285212672 y))
-    (update 24 285212672 (update 30 y (update 24 x (update 24 h d.registers))))) d
+    with_registers (update 25 (bit (nat_lt OBJECTS_END y))
+    (update 24 OBJECTS_END (update 30 y (update 24 x (update 24 h d.registers))))) d
 
 test_leaves : (n : ℕ) (d : Data) → Leaves (objects_test n) 0 d 0 (tested (n / 65536 * 65536) n d)
 test_leaves n d = subst (λ x. Leaves (objects_test n) 0 d 0 (tested (n / 65536 * 65536) x d)) (constant_parts n)
@@ -76,13 +78,13 @@ tested_other : (h x : ℕ) (d : Data) (r : ℕ) → r ≢ 24 → r ≢ 25 → r 
 tested_other h x d r n24 n25 n30 =
     let y = (d.registers 30 + x) % 4294967296 in
     let f3 = update 30 y (update 24 x (update 24 h d.registers)) in
-    update_other 25 (bit (nat_lt 285212672 y)) (update 24 285212672 f3) r n25 ∙ update_other 24 285212672 f3 r n24
+    update_other 25 (bit (nat_lt OBJECTS_END y)) (update 24 OBJECTS_END f3) r n25 ∙ update_other 24 OBJECTS_END f3 r n24
     ∙ update_other 30 y (update 24 x (update 24 h d.registers)) r n30
     ∙ update_other 24 x (update 24 h d.registers) r n24 ∙ update_other 24 h d.registers r n24
 
 -- they fit
-pub objects_run : (n : ℕ) (c : Code) (a : ℕ) (d : Data) → past a (take_objects n) < 268435456
-    → d.registers 30 + n ≤ 285212672 → HasAt c a (take_objects n) → ObjectsRun n c a d
+pub objects_run : (n : ℕ) (c : Code) (a : ℕ) (d : Data) → past a (take_objects n) < SEGMENT_BYTES
+    → d.registers 30 + n ≤ OBJECTS_END → HasAt c a (take_objects n) → ObjectsRun n c a d
 objects_run n c a d low fits h = elim (cases_eq n 0) [
   | inl e ↦ record {
     after = d;
@@ -109,8 +111,8 @@ objects_run n c a d low fits h = elim (cases_eq n 0) [
       let y = (d.registers 30 + n) % 4294967296 in
       let whole : y ≡ d.registers 30 + n = omega (arith, fits) in
       let b = a + 4 + 4 + 4 + 4 + 4 in
-      let low' : past a (some_objects n) < 268435456 = subst (λ x. past a x < 268435456) is low in
-      let t : nat_lt 285212672 y ≡ false = grind (arith, nat_tests, whole, fits) in
+      let low' : past a (some_objects n) < SEGMENT_BYTES = subst (λ x. past a x < SEGMENT_BYTES) is low in
+      let t : nat_lt OBJECTS_END y ≡ false = grind (arith, nat_tests, whole, fits) in
       let passes : effect (beq 25 0 2) d1 ≡ Branches true 2 = rw t refl in
       let r1 = leaves_run (objects_test n) c 0 0 a d d1 (test_leaves n d)
       (g.0, (g.1.0, (g.1.1.0, (g.1.1.1.0, (g.1.1.1.1.0, tt))))) in
@@ -124,8 +126,8 @@ objects_run n c a d low fits h = elim (cases_eq n 0) [
         few = omega arith;
         reaches = subst (λ x. Reaches 7 (at c a 0 d) (at c (past a x) 0 d1)) (sym is)
             (reaches_on {k = 5} {n = 2} r1 r2);
-        objects_is = update_other 25 (bit (nat_lt 285212672 y)) (update 24 285212672 f3) 30 (omega arith)
-            ∙ update_other 24 285212672 f3 30 (omega arith) ∙ update_same 30 y f2 ∙ whole;
+        objects_is = update_other 25 (bit (nat_lt OBJECTS_END y)) (update 24 OBJECTS_END f3) 30 (omega arith)
+            ∙ update_other 24 OBJECTS_END f3 30 (omega arith) ∙ update_same 30 y f2 ∙ whole;
         registers = λ r m24 m25 m30. tested_other hi n d r m24 m25 m30;
         stack = refl;
         world = record {
@@ -141,8 +143,8 @@ objects_run n c a d low fits h = elim (cases_eq n 0) [
 ]
 
 -- or they don't
-pub objects_end : (n : ℕ) (c : Code) (a : ℕ) (d : Data) → n ≤ 1073741824 → d.registers 30 ≤ 285212672
-    → 285212672 < d.registers 30 + n → HasAt c a (take_objects n)
+pub objects_end : (n : ℕ) (c : Code) (a : ℕ) (d : Data) → n ≤ MOST_FRAME_BYTES → d.registers 30 ≤ OBJECTS_END
+    → OBJECTS_END < d.registers 30 + n → HasAt c a (take_objects n)
     → EndsIn 8 8 (Ended (Trap FrameLimit)) (at c a 0 d) c d.outside.history
 objects_end n c a d small top over h =
     let ne : n ≢ 0 = λ e. omega (arith, e, top, over) in
@@ -151,7 +153,7 @@ objects_end n c a d small top over h =
     let y = (d.registers 30 + n) % 4294967296 in
     let whole : y ≡ d.registers 30 + n = omega (arith, small, top) in
     let b = a + 4 + 4 + 4 + 4 + 4 in
-    let t : nat_lt 285212672 y ≡ true = grind (arith, nat_tests, whole, over) in
+    let t : nat_lt OBJECTS_END y ≡ true = grind (arith, nat_tests, whole, over) in
     let falls : effect (beq 25 0 2) d1 ≡ Branches false 2 = rw t refl in
     let r1 = leaves_run (objects_test n) c 0 0 a d d1 (test_leaves n d)
     (g.0, (g.1.0, (g.1.1.0, (g.1.1.1.0, (g.1.1.1.1.0, tt))))) in
@@ -165,7 +167,7 @@ objects_end n c a d small top over h =
     ∙ ap step all.by ∙ stops)
 
 -- the stack's limit is passed
-pub frame_end : (frame : ℕ) (c : Code) (a : ℕ) (d : Data) → frame ≤ 1073741824 → 2130706432 ≤ pointer d
+pub frame_end : (frame : ℕ) (c : Code) (a : ℕ) (d : Data) → frame ≤ MOST_FRAME_BYTES → 2130706432 ≤ pointer d
     → pointer d ≤ 2147483648 → pointer d < frame + 2130706432 → HasAt c a (take_frame frame)
     → EndsIn 8 8 (Ended (Trap StackLimit)) (at c a 0 d) c d.outside.history
 frame_end frame c a d small from top over h =

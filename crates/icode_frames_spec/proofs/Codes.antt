@@ -1,5 +1,5 @@
 -- Where the parts of a function stand.
-use Rattle.std.proofs.Common.{◌≡◌, ℕ, suc, ◌%◌, ◌<◌, ◌≤◌, List, ◌++◌, Some, sym, ◌∙◌, subst, arith, slice_get}
+use Rattle.std.proofs.Common.{◌≡◌, ℕ, suc, ◌%◌, ◌<◌, List, ◌++◌, Some, sym, subst, arith, slice_get}
 use Rattle.word32.specs.declared.map.TheConstants.{SEGMENT_BYTES}
 use Rattle.mips_encoder.specs.declared.instruction.Instr.{Instr}
 use Rattle.mips_encoder.specs.Addresses.{past}
@@ -8,7 +8,7 @@ use Rattle.mips_model.specs.Laws.{HasAt}
 use Rattle.mips_model.proofs.Reach.{front, back, past_append}
 use Rattle.icode_ops.specs.declared.op.Op.{Op}
 use Rattle.icode_templates.specs.Templates.{Aim, template}
-use Rattle.icode_expand.specs.Expansion.{aims, templates, body, nowhere}
+use Rattle.icode_expand.specs.Expansion.{aims, body, nowhere}
 use Rattle.icode_meaning.specs.State.{Function}
 use Rattle.icode_frames_spec.specs.Standing.{leave_at, layout_of, front_code, back_code, Stands, ops_at, op_stands_at}
 use Rattle.icode_frames_spec.proofs.Addresses.{past_templates, past_even, past_rises, address_next}

@@ -14,7 +14,7 @@ use Rattle.icode_templates.specs.Templates.{ToEpilogue}
 use Rattle.icode_expand.specs.Frames.{saved, prologue, epilogue}
 use Rattle.icode_expand.specs.Expansion.{op_address, aims, expansion}
 use Rattle.icode_meaning.specs.State.{Function}
-use Rattle.limits.specs.declared.run.TheConstants.{STACK_OF_A_CALL}
+use Rattle.limits.specs.declared.run.TheConstants.{MOST_FRAME_BYTES, STACK_OF_A_CALL}
 use Rattle.word32.specs.declared.map.TheConstants.{SEGMENT_BYTES}
 
 -- the spots of a function's registers, and the code before its ops and behind them
@@ -49,8 +49,8 @@ pub record Suits (f : Function) (places : List ℕ) : Type 0 where
   pub legal : IsLegal f.ops (length places) places
   pub room : STACK_OF_A_CALL + 4 * length places ≤ f.charge
   pub whole : f.charge % 4 ≡ 0
-  pub small : f.charge ≤ 1073741824
-  pub few : f.object ≤ 1073741824
+  pub small : f.charge ≤ MOST_FRAME_BYTES
+  pub few : f.object ≤ MOST_FRAME_BYTES
   pub even : f.address % 4 ≡ 0
   pub low : past f.address (code_of f places) < SEGMENT_BYTES
 

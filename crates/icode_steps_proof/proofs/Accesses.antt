@@ -2,6 +2,7 @@
 use Rattle.std.proofs.Common.{◌≡◌, ℕ, suc, ◌+◌, ◌/◌, ◌<◌, ◌≤◌, true, List, [], ◌∷◌, ◌++◌, Option, Some, None, refl}
 use Rattle.std.proofs.Common.{sym, ap, ◌∙◌, subst, arith, slice_get}
 use Rattle.std.proofs.lemmas.Bool.{and_parts}
+use Rattle.word32.specs.declared.map.TheConstants.{SEGMENT_BYTES}
 use Rattle.word32.specs.Space.{load, store, AreWords}
 use Rattle.word32.specs.declared.width.Width.{Width}
 use Rattle.word32.proofs.PartLaws.{loaded_range}
@@ -95,7 +96,7 @@ module _ (s : Setting) (st : Standing s) where
     stands = (st.functions f.address f h.known).1
 
     load_low : (kind : Width) (to from : ℕ) → slice_get f.ops w.index ≡ Some (Load kind to from)
-        → past a (in_code (spot from)) + 20 < 268435456
+        → past a (in_code (spot from)) + 20 < SEGMENT_BYTES
     load_low kind to from i =
         let rest = load_instruction kind ∷ nop ∷ out_code (spot to) in
         let low = code_low s.code f places stands w.index (Load kind to from) i in
@@ -104,7 +105,7 @@ module _ (s : Setting) (st : Standing s) where
         omega (arith, low, e, more)
 
     store_low : (kind : Width) (to from : ℕ) → slice_get f.ops w.index ≡ Some (Store kind to from)
-        → past a (in_two_code (spot to) (spot from)) + 20 < 268435456
+        → past a (in_two_code (spot to) (spot from)) + 20 < SEGMENT_BYTES
     store_low kind to from i =
         let rest = store_instruction kind ∷ [] in
         let low = code_low s.code f places stands w.index (Store kind to from) i in

@@ -4,6 +4,7 @@ use Rattle.std.proofs.Common.{[]}
 use Rattle.std.proofs.Common.{◌∷◌, ◌++◌, refl, sym, ap, ◌∙◌, subst, arith, nat_eq, nat_lt, nat_le, if◌then◌else◌}
 use Rattle.std.proofs.lemmas.Bool.{cases_eq, cases_lt, eq-eqb, ne_eqb}
 use Rattle.std.proofs.lemmas.Bool.Decides.{nat_tests}
+use Rattle.word32.specs.declared.map.TheConstants.{OBJECTS, OBJECTS_END, SEGMENT_BYTES}
 use Rattle.word32.specs.Space.{update}
 use Rattle.word32.specs.declared.width.Width.TheVariants.{Word}
 use Rattle.flat_memory.specs.Map.{InObjects, region_of}
@@ -70,11 +71,11 @@ both_keep x y d =
     (keeps_on (keeps_write 25 g d3 not_25) (keeps_on (keeps_write 25 y d4 not_25)
     (keeps_write 25 ((y + d.registers 30) % 4294967296) d5 not_25)))))
 
-region_is : (a : ℕ) → 268435456 ≤ a → a < 285212672 → region_of a ≡ InObjects
+region_is : (a : ℕ) → OBJECTS ≤ a → a < OBJECTS_END → region_of a ≡ InObjects
 region_is a lo hi =
     let t1 : nat_le 2130706432 a ≡ false = grind (arith, nat_tests) in
-    let t2 : nat_le 268435456 a ≡ true = grind (arith, nat_tests) in
-    let t3 : nat_lt a 285212672 ≡ true = grind (arith, nat_tests) in
+    let t2 : nat_le OBJECTS a ≡ true = grind (arith, nat_tests) in
+    let t3 : nat_lt a OBJECTS_END ≡ true = grind (arith, nat_tests) in
     rw (t1, t2, t3) refl
 
 -- the data behind a word that is set to 0, and behind a round
@@ -85,8 +86,8 @@ abbrev pub round : ℕ → Data → Data
 round address d =
     record d { objects = update (address / 4) 0 d.objects; registers = update 24 (address + 4) d.registers }
 
-stores : (address : ℕ) (d : Data) → d.registers 24 ≡ address → address % 4 ≡ 0 → 268435456 ≤ address
-    → address < 285212672
+stores : (address : ℕ) (d : Data) → d.registers 24 ≡ address → address % 4 ≡ 0 → OBJECTS ≤ address
+    → address < OBJECTS_END
     → effect (sw 0 0 24) d ≡ Plain (cleared address d)
 stores address d is even lo hi =
     let m : (d.registers 24 + 0) % 4294967296 ≡ address = omega (arith, is, hi) in
@@ -97,14 +98,14 @@ store_leaves : (address : ℕ) (d : Data) → effect (sw 0 0 24) d ≡ Plain (cl
     → Leaves (sw 0 0 24 ∷ []) 0 d 0 (cleared address d)
 store_leaves address d e rest = ap (λ x. carry x (through rest)) e
 
-next_leaves : (address : ℕ) (d : Data) → d.registers 24 ≡ address → address < 285212672
+next_leaves : (address : ℕ) (d : Data) → d.registers 24 ≡ address → address < OBJECTS_END
     → Leaves (addiu 24 24 4 ∷ []) 0 d 0 (with_registers (update 24 (address + 4) d.registers) d)
 next_leaves address d is hi rest = let m : (d.registers 24 + 4) % 4294967296 ≡ address + 4 =
     omega (arith, is, hi) in rw m refl
 
-module _ (c : Code) (b address end : ℕ) (d : Data) (low : b < 268435456) (h : HasAt c b clear_loop)
-    (from : d.registers 24 ≡ address) (to : d.registers 25 ≡ end) (even : address % 4 ≡ 0) (lo : 268435456 ≤ address)
-    (hi : address < 285212672) where
+module _ (c : Code) (b address end : ℕ) (d : Data) (low : b < SEGMENT_BYTES) (h : HasAt c b clear_loop)
+    (from : d.registers 24 ≡ address) (to : d.registers 25 ≡ end) (even : address % 4 ≡ 0) (lo : OBJECTS ≤ address)
+    (hi : address < OBJECTS_END) where
   abbrev after : Data
   after = round address d
 

@@ -11,7 +11,6 @@ use Rattle.icode_ops.specs.declared.op.Op.TheVariants.{Const, Move, Jump, Label,
 use Rattle.icode_ops.specs.declared.kind.SysKind.TheVariants.{PutByte}
 use Rattle.icode_ops.specs.Labels.{label_index}
 use Rattle.icode_templates.specs.Templates.{ToLabel, in_code}
-use Rattle.icode_expand.specs.Expansion.{op_address}
 use Rattle.icode_meaning.specs.State.{Function, Frame, Log, Running, nothing}
 use Rattle.icode_meaning.specs.Steps.{uses_on, paid, sharing, moved, set, branch}
 use Rattle.meaning_state.specs.Shared.{put_byte, byte_answer}

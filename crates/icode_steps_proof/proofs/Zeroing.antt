@@ -4,6 +4,7 @@ use Rattle.std.proofs.Common.{Option, Some, None, refl, sym, ap, ◌∙◌, subs
 use Rattle.std.proofs.Common.{slice_get}
 use Rattle.std.specs.Fn.{iterate}
 use Rattle.std.proofs.lemmas.Bool.Decides.{nat_tests}
+use Rattle.word32.specs.declared.map.TheConstants.{OBJECTS, OBJECTS_END, SEGMENT_BYTES}
 use Rattle.word32.specs.Words.{difference}
 use Rattle.word32.specs.Space.{update}
 use Rattle.mips_model.specs.State.{Data, World}
@@ -42,13 +43,13 @@ all_three false b c e = absurd cc
 
 -- words that are objects
 pub record Bounds (address words : ℕ) : Type 0 where
-  pub from : 268435456 ≤ address
-  pub to : address + 4 * words ≤ 285212672
+  pub from : OBJECTS ≤ address
+  pub to : address + 4 * words ≤ OBJECTS_END
   pub even : address % 4 ≡ 0
 
 pub bounds : (address words : ℕ) → are_objects address words ≡ true → Bounds address words
 bounds address words e =
-    let t = all_three (nat_le 268435456 address) (nat_le (address + 4 * words) 285212672) (nat_eq (address % 4) 0) e in
+    let t = all_three (nat_le OBJECTS address) (nat_le (address + 4 * words) OBJECTS_END) (nat_eq (address % 4) 0) e in
     let t0 = t.0 in
     let t1 = t.1 in
     let t2 = t.2 in
@@ -138,7 +139,7 @@ module _ (s : Setting) (st : Standing s) where
       loop : HasAt s.code (a + 24) clear_loop
       loop = subst (λ n. HasAt s.code n clear_loop) loop_is code.1.1.1.1.1.1
 
-      low : a + 24 < 268435456
+      low : a + 24 < SEGMENT_BYTES
       low = let l = code_low s.code f places stands w.index o i in omega (arith, l)
 
       ends : a + 24 + 4 + 4 + 4 + 4 ≡ op_stands_at f places (suc w.index)
@@ -152,8 +153,8 @@ module _ (s : Setting) (st : Standing s) where
 
     -- a round
     pub round_pays : (more address : ℕ) (log : Log) (d : Data) → Holds s w nothing None waiting log d
-        → d.registers 24 ≡ address → d.registers 25 ≡ address + 4 * more + 4 → 268435456 ≤ address
-        → address + 4 * more + 4 ≤ 285212672 → address % 4 ≡ 0
+        → d.registers 24 ≡ address → d.registers 25 ≡ address + 4 * more + 4 → OBJECTS ≤ address
+        → address + 4 * more + 4 ≤ OBJECTS_END → address % 4 ≡ 0
         → Pays s (zeroed_on more address w waiting (word_zeroed address log)) log (at s.code (a + 24) 0 d)
     round_pays zero address log d h from to lo hi even =
         let k = h.known in
@@ -239,7 +240,7 @@ module _ (s : Setting) (st : Standing s) where
       first_is : mid.registers 24 ≡ address
       first_is = omega (arith, h.extents.frames, h.ready.objects_from)
 
-      last_is : address + 4 * words ≤ 285212672 → mid.registers 25 ≡ address + 4 * words
+      last_is : address + 4 * words ≤ OBJECTS_END → mid.registers 25 ≡ address + 4 * words
       last_is top = omega (arith, h.extents.frames, h.ready.objects_from, top)
 
       stuck_seen : see (Stuck (paid o log)) ≡ run.see (iterate step 6 (going (at s.code a 0 d)))

@@ -1,5 +1,6 @@
 -- The ops whose simulation is proved; others join as cases. What each names is bounded as the ops of a builder are.
 use Rattle.std.specs.Prelude.{◌≡◌, ℕ, ◌<◌, ◌≤◌, Some}
+use Rattle.word32.specs.declared.map.TheConstants.{SEGMENT_BYTES}
 use Rattle.icode_ops.specs.declared.op.Op.{Op}
 use Rattle.icode_ops.specs.declared.op.Op.TheVariants.{Const, Move, Bin, FrameAddress, Load, Store, Clear, Label}
 use Rattle.icode_ops.specs.declared.op.Op.TheVariants.{Jump, BranchZero, BranchNonzero, CheckDivision, CheckZero, Un}
@@ -28,7 +29,7 @@ IsServed (BranchZero test label) = Unit {0}
 IsServed (BranchNonzero test label) = Unit {0}
 IsServed (Argument index from) = index < 8
 IsServed (GetParameter to index) = index < 8
-IsServed (Call address) = address < 268435456
+IsServed (Call address) = address < SEGMENT_BYTES
 IsServed (CallNumber number count) = count ≤ 8
 IsServed (Result to) = Unit {0}
 IsServed (Return from) = Unit {0}

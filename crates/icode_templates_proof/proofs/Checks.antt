@@ -3,6 +3,7 @@ use Rattle.std.proofs.Common.{◌≡◌, ◌≢◌, inl, inr, ℕ, ◌+◌, ◌%
 use Rattle.std.proofs.Common.{◌++◌, length, Some, None, refl, sym, ap, ◌∙◌, subst, arith, nat_eq}
 use Rattle.std.specs.Fn.{iterate}
 use Rattle.std.proofs.lemmas.Bool.{cases_eq, ne_eqb}
+use Rattle.word32.specs.declared.map.TheConstants.{SEGMENT_BYTES}
 use Rattle.pace.proofs.Runs.{iterate_add}
 use Rattle.host_edge.specs.declared.ending.Ending.TheVariants.{Trap}
 use Rattle.host_edge.specs.declared.ending.TrapKind.{TrapKind}
@@ -51,11 +52,11 @@ pub breaks_overflow : (c : Code) (a : ℕ) (d : Data) → fetch c a ≡ Is (trap
 breaks_overflow c a d h = step_acts (trap 6) (at c a 0 d) h refl
 
 -- where a branch over a trap goes
-pub over_one : (a : ℕ) → a < 268435456 → (a + 4 + 8) % 4294967296 ≡ a + 4 + 4 + 4
+pub over_one : (a : ℕ) → a < SEGMENT_BYTES → (a + 4 + 8) % 4294967296 ≡ a + 4 + 4 + 4
 over_one a h = omega arith
 
 -- a register other than 0 is tested against 0
-module _ (s code : ℕ) (c : Code) (a : ℕ) (d : Data) (n0 : nat_eq s 0 ≡ false) (low : a < 268435456)
+module _ (s code : ℕ) (c : Code) (a : ℕ) (d : Data) (n0 : nat_eq s 0 ≡ false) (low : a < SEGMENT_BYTES)
     (h : HasAt c a (trap_if_zero s code)) where
   pub other_passes : d.registers s ≢ 0 → Reaches 2 (at c a 0 d) (at c (a + 4 + 4 + 4) 0 d)
   other_passes ne =
@@ -88,7 +89,7 @@ module _ (c : Code) (a bytes : ℕ) (d : Data) (v : Spot) where
   abbrev mid : Data
   mid = one_in v d
 
-  module _ (low : past a (in_code v ++ trap_if_zero 24 7) < 268435456) (f : Framed (pointer d) bytes)
+  module _ (low : past a (in_code v ++ trap_if_zero 24 7) < SEGMENT_BYTES) (f : Framed (pointer d) bytes)
       (u : Usable bytes v) (b : value d v < 4294967296) (h : HasAt c a (in_code v ++ trap_if_zero 24 7)) where
     comes_in : Reaches (length (in_code v)) (at c a 0 d) (at c there 0 mid)
     comes_in = leaves_run (in_code v) c 0 0 a d mid (in_leaves d bytes v f u b) (front c a (in_code v) _ h)

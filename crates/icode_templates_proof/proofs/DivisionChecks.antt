@@ -2,6 +2,7 @@
 use Rattle.std.proofs.Common.{◌≡◌, ◌≢◌, inl, inr, ℕ, ◌+◌, ◌%◌, ◌<◌, ◌≤◌, Bool, true, false, ◌==◌, List, [], ◌∷◌}
 use Rattle.std.proofs.Common.{◌++◌, length, Some, None, refl, sym, ap, ◌∙◌, subst, arith, nat_eq}
 use Rattle.std.proofs.lemmas.Bool.{cases_eq, ne_eqb, eq-eqb}
+use Rattle.word32.specs.declared.map.TheConstants.{SEGMENT_BYTES}
 use Rattle.word32.specs.Space.{update}
 use Rattle.host_edge.specs.declared.ending.Ending.TheVariants.{Trap}
 use Rattle.host_edge.specs.declared.ending.TrapKind.{TrapKind}
@@ -65,7 +66,7 @@ branch_sets i c a offset target taken d quiet rec does goes h slot =
     record { by = ap step first ∙ step_acts (lui 1 32768) (in_slot c a target d) slot refl }
 
 -- where a branch over four instructions goes
-over_four : (a : ℕ) → a < 268435456 → (a + 4 + 16) % 4294967296 ≡ a + 4 + 4 + 4 + 4 + 4
+over_four : (a : ℕ) → a < SEGMENT_BYTES → (a + 4 + 16) % 4294967296 ≡ a + 4 + 4 + 4 + 4 + 4
 over_four a h = omega arith
 
 abbrev ones : Data → Data
@@ -75,7 +76,7 @@ ones d = with_registers (update 1 4294967295 d.registers) d
 abbrev second_check : List Instr
 second_check = addiu 1 0 65535 ∷ bne 25 1 4 ∷ lui 1 32768 ∷ bne 24 1 2 ∷ nop ∷ trap 6 ∷ []
 
-module _ (c : Code) (a : ℕ) (d : Data) (low : a + 24 < 268435456) (h : HasAt c a second_check) where
+module _ (c : Code) (a : ℕ) (d : Data) (low : a + 24 < SEGMENT_BYTES) (h : HasAt c a second_check) where
   ones_in : Reaches 1 (at c a 0 d) (at c (a + 4) 0 (ones d))
   ones_in = leaves_run (addiu 1 0 65535 ∷ []) c 0 0 a d (ones d) (λ rest. refl) (h.0, tt)
 
@@ -116,7 +117,7 @@ scratch_kept : (d : Data) → KeepsSpots d (high_set (ones d))
 scratch_kept d = keeps_on (keeps_write 1 4294967295 d not_1) (keeps_write 1 2147483648 (ones d) not_1)
 
 module _ (c : Code) (a bytes : ℕ) (d : Data) (v z : Spot)
-    (low : past a (in_two_code v z ++ division_check) < 268435456) (f : Framed (pointer d) bytes)
+    (low : past a (in_two_code v z ++ division_check) < SEGMENT_BYTES) (f : Framed (pointer d) bytes)
     (uv : Usable bytes v) (uz : Usable bytes z) (bv : value d v < 4294967296) (bz : value d z < 4294967296)
     (h : HasAt c a (in_two_code v z ++ division_check)) where
   abbrev there : ℕ

@@ -2,6 +2,7 @@
 use Rattle.std.proofs.Common.{◌≡◌, ℕ, ◌+◌, ◌/◌, ◌%◌, ◌<◌, true, false, List, [], ◌∷◌, ◌++◌, refl, sym, ap}
 use Rattle.std.proofs.Common.{◌∙◌, subst, arith, nat_lt, nat_le, Some, None}
 use Rattle.std.proofs.lemmas.Bool.Decides.{nat_tests}
+use Rattle.word32.specs.declared.map.TheConstants.{OBJECTS, OBJECTS_END, SEGMENT_BYTES}
 use Rattle.word32.specs.Parts.{is_aligned}
 use Rattle.word32.specs.Space.{update, load, AreWords}
 use Rattle.word32.specs.declared.width.Width.{Width}
@@ -50,10 +51,10 @@ fetched_leaves kind d b i al = by kind al
     t1 : nat_le 2130706432 (d.registers 24) ≡ false
     t1 = grind (arith, nat_tests, i)
 
-    t2 : nat_le 268435456 (d.registers 24) ≡ true
+    t2 : nat_le OBJECTS (d.registers 24) ≡ true
     t2 = grind (arith, nat_tests, i)
 
-    t3 : nat_lt (d.registers 24) 285212672 ≡ true
+    t3 : nat_lt (d.registers 24) OBJECTS_END ≡ true
     t3 = grind (arith, nat_tests, i)
 
     by : (k : Width) → is_aligned (d.registers 24) k ≡ true
@@ -74,10 +75,10 @@ odd_effect kind d b i al = by kind al
     t1 : nat_le 2130706432 (d.registers 24) ≡ false
     t1 = grind (arith, nat_tests, i)
 
-    t2 : nat_le 268435456 (d.registers 24) ≡ true
+    t2 : nat_le OBJECTS (d.registers 24) ≡ true
     t2 = grind (arith, nat_tests, i)
 
-    t3 : nat_lt (d.registers 24) 285212672 ≡ true
+    t3 : nat_lt (d.registers 24) OBJECTS_END ≡ true
     t3 = grind (arith, nat_tests, i)
 
     by : (k : Width) → is_aligned (d.registers 24) k ≡ false → effect (load_instruction k) d ≡ Ends (Trap Misaligned)
@@ -87,7 +88,7 @@ odd_effect kind d b i al = by kind al
     by width.Half al = rw (e, t1, t2, t3, al) refl
     by width.Word al = rw (e, t1, t2, t3, al) refl
 
-module _ (kind : Width) (c : Code) (a bytes : ℕ) (d : Data) (w v : Spot) (low : past a (in_code v) + 20 < 268435456)
+module _ (kind : Width) (c : Code) (a bytes : ℕ) (d : Data) (w v : Spot) (low : past a (in_code v) + 20 < SEGMENT_BYTES)
     (f : Framed (pointer d) bytes) (u : Usable bytes v) (b : value d v < 4294967296)
     (h : HasAt c a (fetching_code kind v w)) where
   abbrev mid : Data

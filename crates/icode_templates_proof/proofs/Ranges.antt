@@ -4,6 +4,7 @@ use Rattle.std.proofs.Common.{ap, ◌∙◌, arith, nat_eq, bit_xor}
 use Rattle.std.proofs.lemmas.Bool.{ne_eqb, eq-eqb}
 use Rattle.std.proofs.lemmas.Nat.{and_le_l, and_le_r}
 use Rattle.std.specs.Int.Bits.{xor_add_and}
+use Rattle.word32.specs.declared.map.TheConstants.{SEGMENT_BYTES}
 use Rattle.word32.specs.Space.{update}
 use Rattle.host_edge.specs.declared.ending.Ending.TheVariants.{Trap}
 use Rattle.host_edge.specs.declared.ending.TrapKind.TheVariants.{Range}
@@ -54,8 +55,8 @@ test_is : (r : ℕ) (d : Data) → nat_eq r 0 ≡ false → register r (ranged r
 test_is r d n0 = rw n0 (update_same r (bit_xor (highest d) 16) (update r (highest d) d.registers))
 
 -- the address is an object's
-pub range_passes : (r : ℕ) (c : Code) (a : ℕ) (d : Data) (rest : List Instr) → nat_eq r 0 ≡ false → a + 20 < 268435456 →
-    highest d ≡ 16 → HasAt c a (range_check r ++ rest)
+pub range_passes : (r : ℕ) (c : Code) (a : ℕ) (d : Data) (rest : List Instr) → nat_eq r 0 ≡ false →
+    a + 20 < SEGMENT_BYTES → highest d ≡ 16 → HasAt c a (range_check r ++ rest)
     → Reaches 4 (at c a 0 d) (at c (a + 4 + 4 + 4 + 4 + 4) 0 (ranged r d))
 range_passes r c a d rest n0 low e h =
     let d1 = ranged r d in

@@ -2,6 +2,7 @@
 use Rattle.std.proofs.Common.{◌≡◌, ℕ, ◌+◌, ◌/◌, ◌%◌, ◌<◌, true, false, List, [], ◌∷◌, ◌++◌, refl, sym, ap}
 use Rattle.std.proofs.Common.{◌∙◌, subst, arith, nat_lt, nat_le, Some, None}
 use Rattle.std.proofs.lemmas.Bool.Decides.{nat_tests}
+use Rattle.word32.specs.declared.map.TheConstants.{OBJECTS, OBJECTS_END, SEGMENT_BYTES}
 use Rattle.word32.specs.Parts.{is_aligned}
 use Rattle.word32.specs.Space.{store}
 use Rattle.word32.specs.declared.width.Width.{Width}
@@ -44,10 +45,10 @@ module _ (d : Data) (b : d.registers 24 < 4294967296) (i : d.registers 24 / 1677
   below_stack : nat_le 2130706432 (d.registers 24) ≡ false
   below_stack = grind (arith, nat_tests, i)
 
-  from_objects : nat_le 268435456 (d.registers 24) ≡ true
+  from_objects : nat_le OBJECTS (d.registers 24) ≡ true
   from_objects = grind (arith, nat_tests, i)
 
-  to_end : nat_lt (d.registers 24) 285212672 ≡ true
+  to_end : nat_lt (d.registers 24) OBJECTS_END ≡ true
   to_end = grind (arith, nat_tests, i)
 
   put_leaves : (kind : Width) → is_aligned (d.registers 24) kind ≡ true →
@@ -84,9 +85,10 @@ put_keeps kind address x d m e1 e2 k = record {
   };
 }
 
-module _ (kind : Width) (c : Code) (a bytes : ℕ) (d : Data) (v z : Spot) (low : past a (in_two_code v z) + 20 <
-    268435456) (f : Framed (pointer d) bytes) (u : Usable bytes v) (u' : Usable bytes z) (b : value d v < 4294967296)
-    (b' : value d z < 4294967296) (h : HasAt c a (storing_code kind v z)) where
+module _ (kind : Width) (c : Code) (a bytes : ℕ) (d : Data) (v z : Spot)
+    (low : past a (in_two_code v z) + 20 < SEGMENT_BYTES) (f : Framed (pointer d) bytes) (u : Usable bytes v)
+    (u' : Usable bytes z) (b : value d v < 4294967296) (b' : value d z < 4294967296)
+    (h : HasAt c a (storing_code kind v z)) where
   abbrev mid : Data
   mid = two_in v z d
 

@@ -2,6 +2,7 @@
 use Rattle.std.proofs.Common.{◌≡◌, ◌≢◌, ℕ, ◌+◌, ◌*◌, ◌/◌, ◌%◌, ◌<◌, List, [], ◌∷◌, ◌++◌, refl, sym, ap, ◌∙◌, subst}
 use Rattle.std.proofs.Common.{arith, append_assoc, bit_or}
 use Rattle.std.proofs.lemmas.Nat.{or_shifted}
+use Rattle.word32.specs.declared.map.TheConstants.{SEGMENT_BYTES}
 use Rattle.word32.specs.Space.{update}
 use Rattle.mips_encoder.specs.declared.instruction.Instr.{Instr}
 use Rattle.mips_encoder.specs.Addresses.{past}
@@ -97,7 +98,7 @@ bin_writes kind straight c a bytes d w v z f u uv uz bv bz h =
     (keeps_on (keeps_two v z d) core.keeps) e h
 
 -- a jump
-pub jump_comes : (c : Code) (a target : ℕ) (d : Data) → a + 4 < 268435456 → target % 4 ≡ 0 →
+pub jump_comes : (c : Code) (a target : ℕ) (d : Data) → a + 4 < SEGMENT_BYTES → target % 4 ≡ 0 →
     HasAt c a (j target ∷ nop ∷ []) → Comes 2 2 (at c a 0 d) c target d
 jump_comes c a target d low even h =
     record {
@@ -122,7 +123,7 @@ tested l m is c a bytes target d v f u b h go =
     }
 
 -- a branch on 0 goes to the label, and else on
-pub zero_goes : (c : Code) (a bytes target : ℕ) (d : Data) (v : Spot) → past a (in_code v) + 12 < 268435456 →
+pub zero_goes : (c : Code) (a bytes target : ℕ) (d : Data) (v : Spot) → past a (in_code v) + 12 < SEGMENT_BYTES →
     target % 4 ≡ 0 → Framed (pointer d) bytes → Usable bytes v → value d v ≡ 0
     → HasAt c a (in_code v ++ zero_code target) → Comes 5 8 (at c a 0 d) c target d
 zero_goes c a bytes target d v low even f u z h =
@@ -131,7 +132,7 @@ zero_goes c a bytes target d v low even f u z h =
     (bne_to c (past a (in_code v)) target (one_in v d) low even (load_gives 24 v d ∙ z)
     (back c a (in_code v) (zero_code target) h)))
 
-pub zero_passes : (c : Code) (a bytes target : ℕ) (d : Data) (v : Spot) → past a (in_code v) + 12 < 268435456 →
+pub zero_passes : (c : Code) (a bytes target : ℕ) (d : Data) (v : Spot) → past a (in_code v) + 12 < SEGMENT_BYTES →
     Framed (pointer d) bytes → Usable bytes v → value d v < 4294967296 → value d v ≢ 0
     → HasAt c a (in_code v ++ zero_code target) → Comes 3 6 (at c a 0 d) c (past a (in_code v ++ zero_code target)) d
 zero_passes c a bytes target d v low f u b ne h =
@@ -142,7 +143,7 @@ zero_passes c a bytes target d v low f u b ne h =
     (back c a (in_code v) (zero_code target) h))))
 
 -- a branch on other numbers than 0
-pub nonzero_goes : (c : Code) (a bytes target : ℕ) (d : Data) (v : Spot) → past a (in_code v) + 12 < 268435456 →
+pub nonzero_goes : (c : Code) (a bytes target : ℕ) (d : Data) (v : Spot) → past a (in_code v) + 12 < SEGMENT_BYTES →
     target % 4 ≡ 0 → Framed (pointer d) bytes → Usable bytes v → value d v < 4294967296 → value d v ≢ 0
     → HasAt c a (in_code v ++ nonzero_code target) → Comes 5 8 (at c a 0 d) c target d
 nonzero_goes c a bytes target d v low even f u b ne h =
@@ -151,7 +152,7 @@ nonzero_goes c a bytes target d v low even f u b ne h =
     (beq_to c (past a (in_code v)) target (one_in v d) low even (λ e. ne (sym (load_gives 24 v d) ∙ e))
     (back c a (in_code v) (nonzero_code target) h)))
 
-pub nonzero_passes : (c : Code) (a bytes target : ℕ) (d : Data) (v : Spot) → past a (in_code v) + 12 < 268435456 →
+pub nonzero_passes : (c : Code) (a bytes target : ℕ) (d : Data) (v : Spot) → past a (in_code v) + 12 < SEGMENT_BYTES →
     Framed (pointer d) bytes → Usable bytes v → value d v ≡ 0
     → HasAt c a (in_code v ++ nonzero_code target) →
     Comes 3 6 (at c a 0 d) c (past a (in_code v ++ nonzero_code target)) d

@@ -3,6 +3,7 @@
 -- stack's region, and each spot is one that its code can reach.
 use Rattle.std.specs.Prelude.{◌≡◌, ◌≢◌, ◌⊎◌, ℕ, ◌+◌, ◌%◌, ◌<◌, Bool, true, false, List, [], ◌∷◌, ◌++◌, if◌then◌else◌}
 use Rattle.std.specs.Prelude.{Some, None}
+use Rattle.word32.specs.declared.map.TheConstants.{SEGMENT_BYTES}
 use Rattle.word32.specs.Space.{load, store, AreWords}
 use Rattle.word32.specs.declared.width.Width.{Width}
 use Rattle.host_edge.specs.declared.ending.Ending.TheVariants.{Done, Trap}
@@ -76,25 +77,25 @@ nonzero_code target = beq 24 0 3 ∷ nop ∷ j target ∷ nop ∷ []
 
 abbrev pub ZeroGoes : Type 0
 ZeroGoes =
-    (c : Code) (a bytes target : ℕ) (d : Data) (v : Spot) → past a (in_code v) + 12 < 268435456 → target % 4 ≡ 0
+    (c : Code) (a bytes target : ℕ) (d : Data) (v : Spot) → past a (in_code v) + 12 < SEGMENT_BYTES → target % 4 ≡ 0
     → Framed (pointer d) bytes → Usable bytes v → value d v ≡ 0
     → HasAt c a (in_code v ++ zero_code target) → Comes 5 8 (at c a 0 d) c target d
 
 abbrev pub OthersPass : Type 0
 OthersPass =
-    (c : Code) (a bytes target : ℕ) (d : Data) (v : Spot) → past a (in_code v) + 12 < 268435456
+    (c : Code) (a bytes target : ℕ) (d : Data) (v : Spot) → past a (in_code v) + 12 < SEGMENT_BYTES
     → Framed (pointer d) bytes → Usable bytes v → value d v < 4294967296 → value d v ≢ 0
     → HasAt c a (in_code v ++ zero_code target) → Comes 3 6 (at c a 0 d) c (past a (in_code v ++ zero_code target)) d
 
 abbrev pub OthersGo : Type 0
 OthersGo =
-    (c : Code) (a bytes target : ℕ) (d : Data) (v : Spot) → past a (in_code v) + 12 < 268435456 → target % 4 ≡ 0
+    (c : Code) (a bytes target : ℕ) (d : Data) (v : Spot) → past a (in_code v) + 12 < SEGMENT_BYTES → target % 4 ≡ 0
     → Framed (pointer d) bytes → Usable bytes v → value d v < 4294967296 → value d v ≢ 0
     → HasAt c a (in_code v ++ nonzero_code target) → Comes 5 8 (at c a 0 d) c target d
 
 abbrev pub ZeroPasses : Type 0
 ZeroPasses =
-    (c : Code) (a bytes target : ℕ) (d : Data) (v : Spot) → past a (in_code v) + 12 < 268435456
+    (c : Code) (a bytes target : ℕ) (d : Data) (v : Spot) → past a (in_code v) + 12 < SEGMENT_BYTES
     → Framed (pointer d) bytes → Usable bytes v → value d v ≡ 0
     → HasAt c a (in_code v ++ nonzero_code target) →
     Comes 3 6 (at c a 0 d) c (past a (in_code v ++ nonzero_code target)) d
@@ -160,7 +161,7 @@ storing_code kind v z = in_two_code v z ++ (range_check 1 ++ store_instruction k
 -- a part of an object is loaded to a spot
 abbrev pub LoadsAreMade : Type 0
 LoadsAreMade =
-    (kind : Width) (c : Code) (a bytes : ℕ) (d : Data) (w v : Spot) → past a (in_code v) + 20 < 268435456
+    (kind : Width) (c : Code) (a bytes : ℕ) (d : Data) (w v : Spot) → past a (in_code v) + 20 < SEGMENT_BYTES
     → Framed (pointer d) bytes → Usable bytes w → Usable bytes v → value d v < 4294967296 → AreWords d.objects
     → access_trap (value d v) kind ≡ None → HasAt c a (fetching_code kind v w)
     → Writes w (load d.objects (value d v) kind) 8 13 (at c a 0 d) c (past a (fetching_code kind v w)) d
@@ -169,7 +170,7 @@ LoadsAreMade =
 abbrev pub LoadsTrap : Type 0
 LoadsTrap =
     (kind : Width) (trap : TrapKind) (c : Code) (a bytes : ℕ) (d : Data) (w v : Spot)
-    → past a (in_code v) + 20 < 268435456 → Framed (pointer d) bytes → Usable bytes v → value d v < 4294967296
+    → past a (in_code v) + 20 < SEGMENT_BYTES → Framed (pointer d) bytes → Usable bytes v → value d v < 4294967296
     → access_trap (value d v) kind ≡ Some trap → HasAt c a (fetching_code kind v w)
     → EndsIn 6 9 (Ended (Trap trap)) (at c a 0 d) c d.outside.history
 
@@ -179,7 +180,7 @@ stored_in kind address x d = record d { objects = store address kind x d.objects
 
 abbrev pub StoresAreMade : Type 0
 StoresAreMade =
-    (kind : Width) (c : Code) (a bytes : ℕ) (d : Data) (v z : Spot) → past a (in_two_code v z) + 20 < 268435456
+    (kind : Width) (c : Code) (a bytes : ℕ) (d : Data) (v z : Spot) → past a (in_two_code v z) + 20 < SEGMENT_BYTES
     → Framed (pointer d) bytes → Usable bytes v → Usable bytes z → value d v < 4294967296 → value d z < 4294967296
     → access_trap (value d v) kind ≡ None → HasAt c a (storing_code kind v z)
     → Comes 7 12 (at c a 0 d) c (past a (storing_code kind v z)) (stored_in kind (value d v) (value d z) d)
@@ -188,7 +189,7 @@ StoresAreMade =
 abbrev pub StoresTrap : Type 0
 StoresTrap =
     (kind : Width) (trap : TrapKind) (c : Code) (a bytes : ℕ) (d : Data) (v z : Spot)
-    → past a (in_two_code v z) + 20 < 268435456 → Framed (pointer d) bytes → Usable bytes v → Usable bytes z
+    → past a (in_two_code v z) + 20 < SEGMENT_BYTES → Framed (pointer d) bytes → Usable bytes v → Usable bytes z
     → value d v < 4294967296 → value d z < 4294967296
     → access_trap (value d v) kind ≡ Some trap → HasAt c a (storing_code kind v z)
     → EndsIn 7 12 (Ended (Trap trap)) (at c a 0 d) c d.outside.history
@@ -196,14 +197,14 @@ StoresTrap =
 -- a check passes where there is no trap
 abbrev pub ZeroChecksPass : Type 0
 ZeroChecksPass =
-    (c : Code) (a bytes : ℕ) (d : Data) (v : Spot) → past a (in_code v ++ trap_if_zero 24 7) < 268435456
+    (c : Code) (a bytes : ℕ) (d : Data) (v : Spot) → past a (in_code v ++ trap_if_zero 24 7) < SEGMENT_BYTES
     → Framed (pointer d) bytes → Usable bytes v → value d v < 4294967296 → zero_trap (value d v) ≡ None
     → HasAt c a (in_code v ++ trap_if_zero 24 7)
     → Comes 3 6 (at c a 0 d) c (past a (in_code v ++ trap_if_zero 24 7)) d
 
 abbrev pub DivisionChecksPass : Type 0
 DivisionChecksPass =
-    (c : Code) (a bytes : ℕ) (d : Data) (v z : Spot) → past a (in_two_code v z ++ division_check) < 268435456
+    (c : Code) (a bytes : ℕ) (d : Data) (v z : Spot) → past a (in_two_code v z ++ division_check) < SEGMENT_BYTES
     → Framed (pointer d) bytes → Usable bytes v → Usable bytes z → value d v < 4294967296 → value d z < 4294967296
     → signed_trap (value d v) (value d z) ≡ None → HasAt c a (in_two_code v z ++ division_check)
     → Comes 7 14 (at c a 0 d) c (past a (in_two_code v z ++ division_check)) d
@@ -212,7 +213,7 @@ DivisionChecksPass =
 abbrev pub ZeroChecksTrap : Type 0
 ZeroChecksTrap =
     (c : Code) (a bytes : ℕ) (d : Data) (v : Spot) (kind : TrapKind)
-    → past a (in_code v ++ trap_if_zero 24 7) < 268435456
+    → past a (in_code v ++ trap_if_zero 24 7) < SEGMENT_BYTES
     → Framed (pointer d) bytes → Usable bytes v → value d v < 4294967296 → zero_trap (value d v) ≡ Some kind
     → HasAt c a (in_code v ++ trap_if_zero 24 7)
     → EndsIn 4 7 (Ended (Trap kind)) (at c a 0 d) c d.outside.history
@@ -220,7 +221,7 @@ ZeroChecksTrap =
 abbrev pub DivisionChecksTrap : Type 0
 DivisionChecksTrap =
     (c : Code) (a bytes : ℕ) (d : Data) (v z : Spot) (kind : TrapKind)
-    → past a (in_two_code v z ++ division_check) < 268435456
+    → past a (in_two_code v z ++ division_check) < SEGMENT_BYTES
     → Framed (pointer d) bytes → Usable bytes v → Usable bytes z → value d v < 4294967296 → value d z < 4294967296
     → signed_trap (value d v) (value d z) ≡ Some kind → HasAt c a (in_two_code v z ++ division_check)
     → EndsIn 5 15 (Ended (Trap kind)) (at c a 0 d) c d.outside.history

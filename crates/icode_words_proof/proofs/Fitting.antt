@@ -1,6 +1,6 @@
 -- The instructions of an expansion have words, so where its words stand in the text, its instructions stand.
 use Rattle.std.proofs.Common.{◌≡◌, ℕ, zero, suc, ◌+◌, ◌*◌, ◌/◌, ◌%◌, ◌<◌, ◌≤◌, Bool, true, false, List, [], ◌∷◌, ◌++◌}
-use Rattle.std.proofs.Common.{length, Some, refl, sym, ap, ◌∙◌, subst, arith, nat_eq, if◌then◌else◌, slice_get}
+use Rattle.std.proofs.Common.{length, Some, refl, sym, subst, arith, nat_eq, if◌then◌else◌, slice_get}
 use Rattle.word32.specs.declared.map.TheConstants.{ARENA}
 use Rattle.mips_encoder.specs.Table.{Fits, word_of}
 use Rattle.mips_encoder.specs.declared.instruction.Instr.{Instr}
@@ -39,6 +39,7 @@ use Rattle.icode_expand.specs.Expansion.{nowhere, templates, op_address, aims, b
 use Rattle.icode_expand.proofs.Kept.{saved_are}
 use Rattle.icode_meaning.specs.State.{Function}
 use Rattle.icode_templates_proof.specs.Spots.{Usable}
+use Rattle.limits.specs.declared.run.TheConstants.{MOST_FRAME_BYTES}
 use Rattle.icode_frames_spec.specs.Standing.{Suits, WordsAt, layout_of, front_code, back_code, code_of}
 use Rattle.icode_frames_spec.proofs.Addresses.{past_templates, past_rises}
 use Rattle.icode_frames_spec.proofs.Places.{place_bounds, spot_usable, slot_usable}
@@ -216,7 +217,7 @@ leave_count_fits true = (
 )
 leave_count_fits false = tt
 
-take_objects_fit : (n : ℕ) → n ≤ 1073741824 → AllFit (take_objects n)
+take_objects_fit : (n : ℕ) → n ≤ MOST_FRAME_BYTES → AllFit (take_objects n)
 take_objects_fit n few = by (nat_eq n 0)
   where
     by : (b : Bool) → AllFit
@@ -240,7 +241,7 @@ take_objects_fit n few = by (nat_eq n 0)
       ),
     )
 
-free_objects_fit : (n : ℕ) → n ≤ 1073741824 → AllFit (free_objects n)
+free_objects_fit : (n : ℕ) → n ≤ MOST_FRAME_BYTES → AllFit (free_objects n)
 free_objects_fit n few = by (nat_eq n 0)
   where
     by : (b : Bool) → AllFit (if b then [] else (constant 24 n ++ (subu 30 30 24 ∷ [])))

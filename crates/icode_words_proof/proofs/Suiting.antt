@@ -1,5 +1,5 @@
 -- What a builder and a choice of places give suits.
-use Rattle.std.proofs.Common.{◌≡◌, ℕ, ◌+◌, ◌*◌, ◌≤◌, List, length, sym, ◌∙◌, subst, arith}
+use Rattle.std.proofs.Common.{◌≡◌, ℕ, ◌+◌, ◌*◌, ◌≤◌, List, length, sym, subst, arith}
 use Rattle.mips_encoder.specs.Addresses.{past}
 use Rattle.icode_ops.specs.Flow.{op_at}
 use Rattle.icode_ops.specs.Finished.{InRange}

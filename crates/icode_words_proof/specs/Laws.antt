@@ -11,7 +11,7 @@ use Rattle.icode_meaning.specs.State.{Function}
 use Rattle.icode_frames_spec.specs.Standing.{Suits, Stands, WordsAt, code_of}
 use Rattle.icode_steps_proof.specs.Served.{IsServed}
 use Rattle.limits.specs.declared.ops.TheConstants.{FRAME_WORDS, OP_WORDS}
-use Rattle.limits.specs.declared.run.TheConstants.{STACK_OF_A_CALL}
+use Rattle.limits.specs.declared.run.TheConstants.{MOST_FRAME_BYTES, STACK_OF_A_CALL}
 
 -- A function that suits its places, and whose ops are served, stands where the words of its expansion stand in the
 -- text, where they end below the arena.
@@ -25,5 +25,6 @@ WordsSuffice =
 abbrev pub LegalPlacesSuit : Type 0
 LegalPlacesSuit =
     (f : Function) (registers : ℕ) (places : List ℕ) → IsFinished f.ops registers → IsLegal f.ops registers places
-    → STACK_OF_A_CALL + 4 * registers ≤ f.charge → f.charge % 4 ≡ 0 → f.charge ≤ 1073741824 → f.object ≤ 1073741824
-    → f.address % 4 ≡ 0 → f.address + 4 * (OP_WORDS * length f.ops + FRAME_WORDS) < SEGMENT_BYTES → Suits f places
+    → STACK_OF_A_CALL + 4 * registers ≤ f.charge → f.charge % 4 ≡ 0 → f.charge ≤ MOST_FRAME_BYTES
+    → f.object ≤ MOST_FRAME_BYTES → f.address % 4 ≡ 0
+    → f.address + 4 * (OP_WORDS * length f.ops + FRAME_WORDS) < SEGMENT_BYTES → Suits f places

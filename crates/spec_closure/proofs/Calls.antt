@@ -34,7 +34,7 @@ pub call_reaches : (c : Code) (a target : ℕ) (d : Data) → a + 4 + 4 < SEGMEN
     target % 4 ≡ 0 → HasAt c a (jal target ∷ nop ∷ []) →
     Reaches 2 (at c a 0 d) (at c target 0 (linked (a + 4 + 4) d))
 call_reaches c a target d low near even h =
-    let e : (a + 4) / 268435456 * 268435456 + 4 * (target / 4) ≡ target = omega (arith, low, even) in
+    let e : (a + 4) / SEGMENT_BYTES * SEGMENT_BYTES + 4 * (target / 4) ≡ target = omega (arith, low, even) in
     let e' : (a + 4 + 4) % 4294967296 ≡ a + 4 + 4 = omega (arith, low) in
     slot_runs c a 0 target d (linked (a + 4 + 4) d) (step_acts (jal target) (at c a 0 d) h.0 refl
     ∙ ap (λ t. going (in_slot c a t (linked ((a + 4 + 4) % 4294967296) d))) e

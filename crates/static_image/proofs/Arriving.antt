@@ -5,7 +5,7 @@ use Rattle.std.proofs.Common.{append-nil, length-append, nat_lt, if◌then◌els
 use Rattle.std.specs.Fn.{iterate}
 use Rattle.std.proofs.lemmas.List.{length-replicate}
 use Rattle.std.proofs.lemmas.Bool.Decides.{nat_tests}
-use Rattle.word32.specs.declared.map.TheConstants.{TEXT, ARENA, CLOSURES, HEAP, OBJECTS}
+use Rattle.word32.specs.declared.map.TheConstants.{ARENA, CLOSURES, HEAP, OBJECTS, SEGMENT_BYTES, TEXT}
 use Rattle.word32.specs.Bytes.{word_in}
 use Rattle.word32.specs.Space.{bytes_from}
 use Rattle.flat_memory.specs.Spaces.{text_of}
@@ -98,7 +98,7 @@ set_up_fits n few = (
   ),
 )
 
-call_fits : (main : ℕ) → main < 268435456 → AllFit (jal main ∷ nop ∷ exit_with_answer)
+call_fits : (main : ℕ) → main < SEGMENT_BYTES → AllFit (jal main ∷ nop ∷ exit_with_answer)
 call_fits main low = (
   omega (arith, low),
   (
@@ -107,7 +107,7 @@ call_fits main low = (
   ),
 )
 
-pub start_fits : (main functions : ℕ) → main < 268435456 → functions ≤ 65535 → AllFit (start_code main functions)
+pub start_fits : (main functions : ℕ) → main < SEGMENT_BYTES → functions ≤ 65535 → AllFit (start_code main functions)
 start_fits main n low few =
     all_fit_append (set_up n) (jal main ∷ nop ∷ exit_with_answer) (set_up_fits n few) (call_fits main low)
 
@@ -137,7 +137,7 @@ exit_at = call_at + 8
 
 -- main stands in the first 256 megabytes, there are so many functions, each of which has a row, and the objects begin
 -- with these bytes
-module _ (main functions : ℕ) (even : main % 4 ≡ 0) (low : main < 268435456) (bytes : List ℕ)
+module _ (main functions : ℕ) (even : main % 4 ≡ 0) (low : main < SEGMENT_BYTES) (bytes : List ℕ)
     (rows : List FunctionEntry) (c : Code) (input : Input) (h : HasAt c 4194304 (start_code main functions)) where
   abbrev pub first : Data
   first = machine.first_data bytes rows input
@@ -156,7 +156,7 @@ module _ (main functions : ℕ) (even : main % 4 ≡ 0) (low : main < 268435456)
   abbrev pub called : Data
   called = set_register 31 exit_at set
 
-  target : (call_at + 4) / 268435456 * 268435456 + 4 * (main / 4) ≡ main
+  target : (call_at + 4) / SEGMENT_BYTES * SEGMENT_BYTES + 4 * (main / 4) ≡ main
   target = omega (arith, even, low)
 
   calls : Reaches 2 (at c call_at 0 set) (at c main 0 called)

@@ -6,6 +6,7 @@ ghost use Rattle.icode_templates.specs.Words.{words};
 ghost use Rattle.limits.specs.declared.program.TheConstants.{MOST_FUNCTIONS};
 ghost use Rattle.spec_closure.specs.Malloc.{malloc_code};
 ghost use Rattle.static_image.specs.Layout as layout;
+ghost use Rattle.word32.specs.declared.map.TheConstants.{SEGMENT_BYTES};
 
 use icode_templates::Snippet;
 use icode_templates::assembly::{
@@ -114,7 +115,7 @@ fn write_words(out: &mut [u32], from: usize, words: &[u32])
 /// first word, in bytes, and `functions` how many static functions the image has.
 pub fn write_front(out: &mut [u32], main: u32, functions: u32)
     requires room { length out.old ≡ layout.front_words }
-    requires main { main < 268435456 }
+    requires main { main < SEGMENT_BYTES }
     requires functions { functions ≤ MOST_FUNCTIONS }
     ensures { out.new ≡ layout.front main functions }
 {

@@ -6,6 +6,7 @@ use Rattle.std.proofs.Common.{Bool, true, false, refl, sym, ap, ◌∙◌, subst
 use Rattle.std.specs.Prelude.{slice_get, if◌then◌else◌, nat_eq, nat_le, ◌&&◌}
 use Rattle.std.proofs.Math.Nat.{mod-eq_of_lt, div-eq_of_lt-le}
 use Rattle.std.proofs.lemmas.Bool.Decides.{nat_tests}
+use Rattle.word32.specs.declared.map.TheConstants.{OBJECTS, OBJECTS_END}
 use Rattle.word32.specs.Parts.{narrowed, is_aligned}
 use Rattle.word32.specs.Words.{wrap}
 use Rattle.word32.specs.declared.width.Width.{Width}
@@ -59,11 +60,11 @@ module _ (site : Site) (shared : Shared) (framed : IsFramed site shared) where
   place_is offset = ap (λ o. frame_start o shared + offset) framed.object_is
 
   pub in_space : (offset bytes : ℕ) → IsObject site offset bytes →
-      (281018368 ≤ place_of offset) × (place_of offset + bytes ≤ 285212672)
+      (281018368 ≤ place_of offset) × (place_of offset + bytes ≤ OBJECTS_END)
   in_space offset bytes is =
       let e = place_is offset in
       let a : 281018368 ≤ place_of offset = omega (arith, e) in
-      let b : place_of offset + bytes ≤ 285212672 = omega (arith, e, is.0, framed.within, framed.few) in
+      let b : place_of offset + bytes ≤ OBJECTS_END = omega (arith, e, is.0, framed.within, framed.few) in
       (a, b)
 
   -- and in the machine
@@ -81,10 +82,10 @@ module _ (site : Site) (shared : Shared) (framed : IsFramed site shared) where
   pub words_are : (offset words : ℕ) → IsObject site offset (4 * words) → are_objects (place_of offset) words ≡ true
   words_are offset words is =
       let s = in_space offset (4 * words) is in
-      let lo : nat_le 268435456 (place_of offset) ≡ true = grind (arith, nat_tests, s.0) in
-      let hi : nat_le (place_of offset + 4 * words) 285212672 ≡ true = grind (arith, nat_tests, s.1) in
+      let lo : nat_le OBJECTS (place_of offset) ≡ true = grind (arith, nat_tests, s.0) in
+      let hi : nat_le (place_of offset + 4 * words) OBJECTS_END ≡ true = grind (arith, nat_tests, s.1) in
       let e : nat_eq (place_of offset % 4) 0 ≡ true = ap (λ n. nat_eq n 0) (even_place offset (4 * words) is) in
-      ap (λ b. if b then (if nat_le (place_of offset + 4 * words) 285212672 then nat_eq (place_of offset % 4) 0 else
+      ap (λ b. if b then (if nat_le (place_of offset + 4 * words) OBJECTS_END then nat_eq (place_of offset % 4) 0 else
       false) else false) lo
       ∙ ap (λ b. if b then nat_eq (place_of offset % 4) 0 else false) hi
       ∙ e
