@@ -1,5 +1,5 @@
 -- A program that is built is one that the backend makes the image of.
-use Rattle.std.proofs.Common.{◌≡◌, ℕ, zero, suc, ◌+◌, ◌<◌, ◌≤◌, Bool, true, false, ◌&&◌, nat_le, nat_lt}
+use Rattle.std.proofs.Common.{◌≡◌, ℕ, zero, suc, ◌+◌, ◌<◌, ◌≤◌, Bool, true, false, ◌&&◌, nat_lt}
 use Rattle.std.proofs.Common.{if◌then◌else◌, List, [], ◌∷◌, ◌++◌, length, map, sum, codes, slice_get, Option, Some}
 use Rattle.std.proofs.Common.{None, refl, sym, ap, ◌∙◌, subst, arith, append_assoc, length-append}
 use Rattle.std.specs.Prelude.{slice_index}
@@ -36,9 +36,6 @@ below a b h = grind (arith, nat_tests)
 
 above : (a b : ℕ) → a < b → nat_lt a b ≡ true
 above a b h = grind (arith, nat_tests)
-
-at_most : (a b : ℕ) → nat_le a b ≡ true → a ≤ b
-at_most a b h = grind (arith, nat_tests)
 
 -- the parts of a node of the list
 listed_two : (a b : node.Expr) → (is_listed_expr a && is_listed_expr b) ≡ true →
@@ -138,7 +135,7 @@ mutual
   stmt_built (node.Eval e) h = expr_built e h
   stmt_built (node.Block vs is) h = let p = listed_block vs is h in pair (items_built vs p.0) (items_built is p.1)
   stmt_built (node.Variable i) h = (tt, tt)
-  stmt_built (node.Object offset words) h = (at_most 1 words h, tt)
+  stmt_built (node.Object offset words) h = (tt, tt)
   stmt_built (node.Parameter k w) h = (tt, tt)
   stmt_built (node.ParameterObject k w offset) h = (tt, tt)
   stmt_built (node.If e s) h = let p = listed_if e s h in pair (expr_built e p.0) (stmt_built s p.1)

@@ -1,8 +1,8 @@
 -- Which typed programs run so far: those without ticks, whose functions have no nodes but those of the list below. The
--- list is this project's own, and grows with the backend. All nodes of the plain language are of it. What is missing are
--- those that make specifications or stand in them: ticks with their captures, what names a capture, and compile, local
--- and param.
-use Rattle.std.specs.Prelude.{ℕ, ◌+◌, Bool, true, false, ◌&&◌, nat_le, nat_lt, if◌then◌else◌, List, [], ◌∷◌, codes}
+-- list is this project's own, and grows with the backend. All nodes of the plain language are of it. What is missing
+-- are those that make specifications or stand in them: ticks with their captures, what names a capture, and compile,
+-- local and param.
+use Rattle.std.specs.Prelude.{ℕ, ◌+◌, Bool, true, false, ◌&&◌, nat_lt, if◌then◌else◌, List, [], ◌∷◌, codes}
 use Rattle.std.specs.Prelude.{Option, Some, None}
 use Rattle.std.specs.Str.{bytes_eq}
 use Rattle.typed_tree.specs.declared.program.Function.{Function}
@@ -15,10 +15,6 @@ use Rattle.wellformed.specs.declared.typed.Typed.{Typed}
 
 abbrev pub is_word : ℕ → Bool
 is_word n = nat_lt n 4294967296
-
--- an object has a word at least
-abbrev pub has_words : ℕ → Bool
-has_words words = nat_le 1 words
 
 -- each node of an expression is of the list, and of each argument
 abbrev mutual
@@ -55,7 +51,7 @@ abbrev mutual
   is_listed_stmt (node.Eval e) = is_listed_expr e
   is_listed_stmt (node.Block variables items) = are_listed variables && are_listed items
   is_listed_stmt (node.Variable i) = true
-  is_listed_stmt (node.Object offset words) = has_words words
+  is_listed_stmt (node.Object offset words) = true
   is_listed_stmt (node.Parameter k width) = true
   is_listed_stmt (node.ParameterObject k width offset) = true
   is_listed_stmt (node.If e s) = is_listed_expr e && is_listed_stmt s

@@ -60,13 +60,6 @@ fn are_arguments_listed(list: &[Expr]) -> bool
     true
 }
 
-// An object has a word at least.
-fn has_words(words: u32) -> bool
-    ensures { result ≡ spec.has_words words }
-{
-    words >= 1
-}
-
 // Whether each node of a statement is of the list.
 #[cycle(is_listed_statement)]
 #[tactic(auto, using(typed_tree::proofs::Views::statements))]
@@ -98,8 +91,8 @@ fn is_listed_statement(s: &Stmt) -> bool
                 && are_listed(items.as_slice())
         }
         Stmt::Case(value) => is_word(value),
-        Stmt::Object(_, words) => has_words(*words),
-        Stmt::Variable(_) | Stmt::Parameter(_, _) | Stmt::ParameterObject(_, _, _) => true,
+        Stmt::Variable(_) | Stmt::Object(_, _) => true,
+        Stmt::Parameter(_, _) | Stmt::ParameterObject(_, _, _) => true,
         Stmt::Default | Stmt::Break | Stmt::Continue | Stmt::Return => true,
     }
 }

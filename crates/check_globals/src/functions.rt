@@ -58,8 +58,8 @@ fn named(alloc: Global, state: &mut State, line: u32, name: &[u8], t: &TypeRef) 
     }
 }
 
-/// Names a function that is defined, by its declarator. Refused: Duplicate where it is a variable, a function that is defined or in
-/// the library; TypeMismatch where a prototype of the name has another type.
+/// Names a function that is defined, by its declarator. Refused: Duplicate where it is a variable, a function that is
+/// defined or in the library; TypeMismatch where a prototype of the name has another type.
 pub fn name_function(
     alloc: Global,
     state: &mut State,
@@ -107,8 +107,8 @@ fn parameters(
     Ok(())
 }
 
-/// Begins a function of this type, whose parameters are written so: they stand in the scope that is open. Refused where two have one
-/// name: Duplicate.
+/// Begins a function of this type, whose parameters are written so: they stand in the scope that is open. Refused where
+/// two have one name: Duplicate.
 #[tactic(auto, unfolding(crate::specs::Functions::begun))]
 pub fn begin(alloc: Global, state: &mut State, t: &TypeRef, list: &[Parameter]) -> Result<(), Deny>
     ensures { Reads (spec.begun t.now (map spec.given list.now) state.old) result state.new }

@@ -1,5 +1,5 @@
 -- The frame objects that a body names: each lies within the bytes of its function, and one that the body makes begins
--- at a multiple of 4. A checked tree keeps this. These are this project's own rules.
+-- at a multiple of 4 and has a word at least. A checked tree keeps this. These are this project's own rules.
 use Rattle.std.specs.Prelude.{◌≡◌, ℕ, ◌+◌, ◌*◌, ◌%◌, ◌≤◌}
 use Rattle.typed_tree.specs.Nodes as node
 use Rattle.typed_tree.specs.Nodes.{Expr, Args, Stmt, Items}
@@ -42,7 +42,7 @@ abbrev mutual
   pub HasFramesStmt : (object : ℕ) → Stmt → Type 0
   HasFramesStmt object (node.Eval e) = HasFrames object e
   HasFramesStmt object (node.Block variables items) = HaveFramesItems object variables × HaveFramesItems object items
-  HasFramesStmt object (node.Object offset words) = IsWithin object offset (4 * words)
+  HasFramesStmt object (node.Object offset words) = IsWithin object offset (4 * words) × (1 ≤ words)
   HasFramesStmt object (node.ParameterObject k width offset) = IsWithin object offset 4
   HasFramesStmt object (node.If e s) = HasFrames object e × HasFramesStmt object s
   HasFramesStmt object (node.IfElse e s t) = HasFrames object e × HasFramesStmt object s × HasFramesStmt object t

@@ -116,8 +116,7 @@ abbrev mutual
   IsBuiltStmt (Eval e) = IsBuilt e
   IsBuiltStmt (Block variables items) = AreBuiltItems variables × AreBuiltItems items
   IsBuiltStmt (Variable i) = Unit {0}
-  -- an object has a word at least
-  IsBuiltStmt (Object offset words) = 1 ≤ words
+  IsBuiltStmt (Object offset words) = Unit {0}
   IsBuiltStmt (Parameter k width) = Unit {0}
   IsBuiltStmt (ParameterObject k width offset) = Unit {0}
   IsBuiltStmt (If e s) = IsBuilt e × IsBuiltStmt s

@@ -32,7 +32,8 @@ use Rattle.meaning_state.specs.Shared.{Shared}
 use Rattle.typed_tree.specs.Nodes as node
 use Rattle.meaning_state.specs.Rows.{numbered}
 use Rattle.staged_meaning.specs.Size.{size_of_stmt}
-use Rattle.staged_meaning.specs.Scope.{IsReadyIn, IsBuiltStmt}
+use Rattle.staged_meaning.specs.Frames.{HasFramesStmt}
+use Rattle.staged_meaning.specs.Scope.{IsReadyIn}
 use Rattle.staged_meaning.specs.Program as meaning
 use Rattle.staged_meaning.specs.Meaning.{at_start, meant}
 use Rattle.tick_lower_proof.specs.Lower.{Addresses}
@@ -63,31 +64,31 @@ use Rattle.static_image.proofs.Serving.{AreLow}
 use Rattle.static_image.proofs.Tables.{row_is, published}
 
 -- a statement has a node
-some_node : (s : node.Stmt) → IsBuiltStmt s → 1 ≤ size_of_stmt s
-some_node (node.Eval e) built = omega arith
-some_node (node.Block vars items) built = omega arith
-some_node (node.Variable i) built = omega arith
-some_node (node.Object offset n) built = omega (arith, built)
-some_node (node.Parameter k w) built = omega arith
-some_node (node.ParameterObject k w offset) built = omega arith
-some_node (node.If e s) built = omega arith
-some_node (node.IfElse e s r) built = omega arith
-some_node (node.While e s) built = omega arith
-some_node (node.Do s e) built = omega arith
-some_node (node.For e s) built = omega arith
-some_node (node.ForStep e step s) built = omega arith
-some_node (node.Switch e vars items) built = omega arith
-some_node (node.Case value) built = omega arith
-some_node node.Default built = omega arith
-some_node node.Break built = omega arith
-some_node node.Continue built = omega arith
-some_node node.Return built = omega arith
-some_node (node.ReturnValue e) built = omega arith
+some_node : (object : ℕ) (s : node.Stmt) → HasFramesStmt object s → 1 ≤ size_of_stmt s
+some_node object (node.Eval e) h = omega arith
+some_node object (node.Block vars items) h = omega arith
+some_node object (node.Variable i) h = omega arith
+some_node object (node.Object offset n) h = omega (arith, h.1)
+some_node object (node.Parameter k w) h = omega arith
+some_node object (node.ParameterObject k w offset) h = omega arith
+some_node object (node.If e s) h = omega arith
+some_node object (node.IfElse e s r) h = omega arith
+some_node object (node.While e s) h = omega arith
+some_node object (node.Do s e) h = omega arith
+some_node object (node.For e s) h = omega arith
+some_node object (node.ForStep e step s) h = omega arith
+some_node object (node.Switch e vars items) h = omega arith
+some_node object (node.Case value) h = omega arith
+some_node object node.Default h = omega arith
+some_node object node.Break h = omega arith
+some_node object node.Continue h = omega arith
+some_node object node.Return h = omega arith
+some_node object (node.ReturnValue e) h = omega arith
 
 -- so there are not many functions
 few_functions : (gs fs : List node.Function) → Each (IsStatic gs) fs → 256 * length fs ≤ most_words fs
 few_functions gs [] h = omega arith
-few_functions gs (f ∷ fs) h = omega (arith, few_functions gs fs h.1, some_node f.body h.0.ready.ready.built)
+few_functions gs (f ∷ fs) h = omega (arith, few_functions gs fs h.1, some_node f.object f.body h.0.ready.frames)
 
 pub are_few : (fs : List node.Function) → AreStatic fs → length fs ≤ MOST_FUNCTIONS
 are_few fs h = omega (arith, few_functions fs fs h.each, h.room)

@@ -1,6 +1,6 @@
 -- A declaration in a block whose declarators are good is good.
 use Rattle.std.proofs.Common.{◌≡◌, ℕ, List, [], ◌∷◌, None, Ok, Err}
-use Rattle.std.specs.Prelude.{false, is_some}
+use Rattle.std.specs.Prelude.{Bool, true, false, is_some}
 use Rattle.tick_tree.specs.declared.base.Base.{Base}
 use Rattle.check_declarators.specs.declared.steps.Step.{Step}
 use Rattle.check_declarators.specs.Words as words
@@ -19,24 +19,29 @@ use Rattle.check_walk_spec.specs.Walk.{Start, Nothing, Value, Values, InitParts,
 use Rattle.check_walk_spec.specs.Walk.{elements}
 use Rattle.check_walk_spec.specs.Walk.{begin, local_type, declare_parts, declare_one, declare_each, declaration_walk}
 use Rattle.check_walk_spec.specs.Walk.{stmt_rule}
-use Rattle.wf_invariant.specs.Good.{GoodShape, any_computed}
+use Rattle.wf_invariant.specs.Good.{GoodShape, any_counted}
 use Rattle.wf_invariant.specs.Items.{MayStand, GoodStatement, GoodItem}
 use Rattle.wf_types.specs.Parts.{EachPart}
-use Rattle.wf_types.proofs.Lengths.{computed_filled}
+use Rattle.wf_induction.proofs.Declarators.{computed_start}
 use Rattle.wf_statements.specs.Parts.{GoodDeclaration, GoodStatementParts, GoodBegin}
 use Rattle.wf_statements.proofs.Assembly.{walk_good, statement_good}
 use Rattle.wf_statements.proofs.Beginning.{nothing_good, value_good, list_good, declared_good, none_good, more_good}
 use Rattle.wf_statements.proofs.Typing.{type_good}
 use Rattle.tick_checker.specs.Parts.{GoodStart, GoodInit, GoodDeclarators}
 
--- an initializer hides no length that is computed
-computed_start : (i : Start) (ss : List Step) → any_computed (with_start i ss) ≡ false → any_computed ss ≡ false
-computed_start Nothing ss h = h
-computed_start (Value e) ss h = computed_filled (declarations.value_count e.written.string) ss h
-computed_start (Values es) ss h = computed_filled (declarations.list_count es) ss h
+-- a variable without an initializer
+abbrev is_bare : Start → Bool
+is_bare Nothing = true
+is_bare _ = false
+
+counted_start : (i : Start) → is_bare i ≡ true → (ss : List Step) → any_counted ss ≡ false →
+    any_counted (with_start i ss) ≡ false
+counted_start Nothing bare ss h = h
+counted_start (Value e) bare ss h = absurd (cc)
+counted_start (Values es) bare ss h = absurd (cc)
 
 begin_good : (many : List ℕ) (a : Standing) (line : ℕ) (p : Operand) (i : Start) → GoodStart many i →
-    GoodBegin many a p (begin line a.stage p i)
+    GoodBegin many a (is_bare i) p (begin line a.stage p i)
 begin_good many a line p Nothing h = nothing_good many a p
 begin_good many a line p (Value e) h = value_good many a line p e (is_some e.written.string) h
 begin_good many a line p (Values es) h =
@@ -46,8 +51,9 @@ begin_good many a line p (Values es) h =
 parts_good : (many : List ℕ) (a : Standing) (line : ℕ) (b : Base) (d : Shape) (i : Start) → MayStand a.stage →
     GoodShape d → GoodStart many i → GoodStatement many a (declare_parts line b a.stage d i)
 parts_good many a line b d i may h k =
-    declared_good many a line d.declared.name (local_type line b a.stage d i) (λ p. begin line a.stage p i) may
-    (type_good a.stage line (words.base_of b) d (with_start i) h (computed_start i))
+    declared_good many a line d.declared.name (is_bare i) (local_type line b a.stage d i)
+    (λ p. begin line a.stage p i) may
+    (type_good a.stage line (words.base_of b) d (is_bare i) (with_start i) h (computed_start i) (counted_start i))
     (λ p. begin_good many a line p i k)
 
 no_answer : {A B : Type 0} (f : Fault) (x : A) → ◌≡◌ {A = Checked A} (Err f) (Ok x) → B

@@ -73,9 +73,10 @@ function_typed many line b d gs items s new t good r =
     sym (named_computed r.steps) ∙ none_computed (names.named_steps r.steps) (words.base_of b) [] f.worst in
     let types : types_of t ≡ first_list r.steps =
     first_types (words.base_of b) (names.named_steps r.steps) t f ∙ first_named r.steps in
+    let plain = (good.shape stage.Function s new r.steps r.walked computed).0 in
     record {
-      still = plain_still s new (good.shape stage.Function s new r.steps r.walked computed);
-      image = (good.shape stage.Function s new r.steps r.walked computed).tables.image;
+      still = plain_still s new plain;
+      image = plain.tables.image;
       value = file_value (words.base_of b) (names.named_steps r.steps) t f;
       list = open_type (words.base_of b) (names.named_steps r.steps) t f ∙ named_open r.steps;
       few = subst (λ (ts : List CType). length ts ≤ 8)

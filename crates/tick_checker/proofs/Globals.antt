@@ -203,11 +203,11 @@ global_typed line b d start s new t good is =
     let computed : any_computed p.answer ≡ false
     = sym (named_computed p.answer) ∙ sym (started start (names.named_steps p.answer)) ∙
     none_computed (with_start start (names.named_steps p.answer)) (words.base_of b) [] f.worst in
+    let plain = (good stage.Function s p.between p.answer p.first computed).0 in
     record {
       still = subst (λ (z : State). Still s z) (sym l.same)
-          (plain_still s p.between (good stage.Function s p.between p.answer p.first computed));
-      image = subst (λ (z : State). KeepsGlobals s z) (sym l.same)
-          (good stage.Function s p.between p.answer p.first computed).tables.image;
+          (plain_still s p.between plain);
+      image = subst (λ (z : State). KeepsGlobals s z) (sym l.same) plain.tables.image;
       steps = p.answer;
       to = p.between;
       walked = p.first;

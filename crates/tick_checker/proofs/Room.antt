@@ -29,7 +29,6 @@ use Rattle.check_declarators.specs.Steps.{prefix_layer, count_of}
 use Rattle.check_types.specs.Shapes as shapes
 use Rattle.check_types.specs.Shapes.{width_of, inner}
 use Rattle.tick_tree.specs.declared.base.Prefix.{Prefix}
-use Rattle.tick_tree.specs.declared.base.Prefix.TheVariants as prefix
 use Rattle.tick_tree.specs.declared.fault.FaultKind.{FaultKind}
 use Rattle.tick_tree.specs.declared.fault.FaultKind.TheVariants as fault
 use Rattle.check_operators.specs.declared.operand.Operand.{Operand}
@@ -40,20 +39,9 @@ use Rattle.check_globals.specs.Statics as statics
 use Rattle.check_statements.specs.Initializers.{value_breaks, is_size, has_size}
 use Rattle.wellformed.proofs.Bools.{first_true, second_true, le_true}
 use Rattle.wf_values.proofs.Declared.{outermost_last}
+use Rattle.wf_types.proofs.Sized.{size_last, sized_last, prefix_size, prefix_sized}
 use Rattle.tick_checker.proofs.Bools.{true_le, never_both}
 use Rattle.tick_checker.proofs.Fills.{size_of, bytes_in, HasValue}
-
--- ---- sizes under one layer more
-
-size_last : (s : ℕ) (ls : List Layer) (l : Layer) →
-    size_under s (ls ++ l ∷ []) ≡ size_at (size_under s ls) (out-Layer l)
-size_last s [] l = refl
-size_last s (x ∷ ls) l = size_last (size_at s (out-Layer x)) ls l
-
-sized_last : (b : Bool) (ls : List Layer) (l : Layer) →
-    is_sized_under b (ls ++ l ∷ []) ≡ is_sized_at (is_sized_under b ls) (out-Layer l)
-sized_last b [] l = refl
-sized_last b (x ∷ ls) l = sized_last (is_sized_at b (out-Layer x)) ls l
 
 limited_case : (a c : Bool) (n : ℕ) → a ≡ true → c ≡ true → size_by (if a && c then Some n else None) ≡ n
 limited_case true true n h k = refl
@@ -236,17 +224,6 @@ integer_fits kind.Short = omega arith
 integer_fits kind.UnsignedShort = omega arith
 integer_fits kind.Int = omega arith
 integer_fits kind.Unsigned = omega arith
-
--- a pointer or a specification takes a word
-prefix_size : (p : Prefix) (n : ℕ) → size_at n (out-Layer (prefix_layer p)) ≡ 4
-prefix_size prefix.Star n = ap (size_at n) layer.outs-Pointer
-prefix_size prefix.Cspec n = ap (size_at n) layer.outs-Cspec
-prefix_size prefix.Vspec n = ap (size_at n) layer.outs-Vspec
-
-prefix_sized : (p : Prefix) (b : Bool) → is_sized_at b (out-Layer (prefix_layer p)) ≡ true
-prefix_sized prefix.Star b = ap (is_sized_at b) layer.outs-Pointer
-prefix_sized prefix.Cspec b = ap (is_sized_at b) layer.outs-Cspec
-prefix_sized prefix.Vspec b = ap (is_sized_at b) layer.outs-Vspec
 
 prefix_fits : (b : Base) (ms : List Layer) (p : Prefix) →
     bytes_in (ctype b (ms ++ prefix_layer p ∷ [])) ≤ size_of (ctype b (ms ++ prefix_layer p ∷ []))

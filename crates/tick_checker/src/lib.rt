@@ -1,5 +1,5 @@
-//! The checker: from the syntax tree of a text to its typed tree, or to its first static fault; and the law on accepted texts, which
-//! the typed tree keeps in its type.
+//! The checker: from the syntax tree of a text to its typed tree, or to its first static fault; and the law on accepted
+//! texts, which the typed tree keeps in its type.
 #![tactic(auto)]
 
 mod checker;

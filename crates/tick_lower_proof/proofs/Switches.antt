@@ -448,7 +448,7 @@ module _ (site : Site) (t : ℕ) (above : site.named ≤ t) (own : t < site.size
       (follows_less site.machine from (Left site from scope scope C spare credit v1.place None None)
       (Declared site from scope v1.place C spare credit) (IsBack site from) (exec site.context (Object offset words) w)
       (left_declared site from scope v1.place C spare credit)
-      (object_left site scope inside from offset words built.0 lie.0 v C spare credit None None w
+      (object_left site scope inside from offset words lie.0.1 lie.0.0 v C spare credit None None w
       (stands_front code ops rest v at) on z))
       (behind_declared site from scope v1.place C spare credit
       (Declared site from (scope_after is scope) (after_ops rest v1).place C spare credit)

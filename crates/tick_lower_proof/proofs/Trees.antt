@@ -138,7 +138,7 @@ module _ (site : Site) (labelled : Labelled site.call.function.ops)
         variable_run site scope inside stack i (omega arith) v br co fits at
     stmt_run scope inside (Object offset words) built uses fit lie ok a placed vs stack br co to aims l t st tn v
         fits at =
-        object_run site scope inside stack offset words built lie v br co at
+        object_run site scope inside stack offset words lie.1 lie.0 v br co at
     stmt_run scope inside (Parameter k width) built uses fit lie ok a placed vs stack br co to aims l t st tn v fits
         at =
         absurd (not_so placed.1)

@@ -265,9 +265,10 @@ abbrev pub is_body : List Act → List Act → ℕ → Around → Bool
 is_body vs ss n a =
     nat_le n (length vs) && are_parameters 0 (take n vs) a && all_declare (drop n vs) a && all_stand ss (within vs a)
 
--- a frame object at this place, of so many words
+-- a frame object at this place, of so many words, of which there is one at least
 abbrev pub is_object : ℕ → ℕ → Around → Bool
-is_object off words a = in_function a && nat_le (off + 4 * words) a.object && off % 4 == 0
+is_object off words a =
+    nat_le 1 words && in_function a && nat_le (off + 4 * words) a.object && off % 4 == 0
 
 abbrev pub declaration : (Around → Bool) → List ℕ → Act
 declaration declares ns = record (plain never) { declares = declares; number = ns }

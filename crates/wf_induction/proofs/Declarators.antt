@@ -1,5 +1,5 @@
 -- The rules of the walk over declarators, type names and parameters: of good parts they make good ones.
-use Rattle.std.proofs.Common.{◌≡◌, ℕ, false, List, [], ◌∷◌}
+use Rattle.std.proofs.Common.{◌≡◌, ℕ, false, List, [], ◌∷◌, Ok, ap, sym}
 use Rattle.c_types.specs.declared.ctype.CType.{CType}
 use Rattle.check_declarators.specs.declared.steps.Role.TheVariants as role
 use Rattle.check_declarators.specs.declared.steps.Step.{Step}
@@ -8,18 +8,18 @@ use Rattle.check_declarators.specs.Words as words
 use Rattle.tick_tree.specs.declared.syntax.Core.TheOpen.{Core-F}
 use Rattle.check_env.specs.declared.state.Stage.{Stage}
 use Rattle.check_env.specs.declared.state.State.{State}
-use Rattle.check_tables.specs.Walks.{Rule}
+use Rattle.check_tables.specs.Walks.{Rule, pure}
 use Rattle.check_statements.specs.Declarations as declarations
 use Rattle.check_walk_spec.specs.Walk.{Start, Nothing, Value, Values, Core-W, Declarator-W, Suffix-W, Typename-W}
 use Rattle.check_walk_spec.specs.Walk.{Parameter-W, core_rule, declarator_rule, suffix_walk, suffix_of, SuffixWalk}
 use Rattle.check_walk_spec.specs.Walk.{TypeWalk}
 use Rattle.check_walk_spec.specs.Walk.{suffix_walks, type_walks, typename_rule, parameter_rule, with_start}
-use Rattle.wf_invariant.specs.Good.{any_computed, GoodShape, GoodNamed, GoodParameter, GoodSuffix}
+use Rattle.wf_invariant.specs.Good.{Plain, any_computed, any_counted, GoodShape, GoodNamed, GoodParameter, GoodSuffix}
 use Rattle.wf_types.specs.Parts.{EachPart, GoodSuffixParts}
 use Rattle.wf_types.proofs.Lengths.{computed_filled, type_not_computed}
 use Rattle.wf_types.proofs.Plain.{plain_same}
 use Rattle.wf_types.proofs.Types.{suffix_good, declarator_good, typed_good, parameter_good}
-use Rattle.wf_types.proofs.Walks.{pure_same}
+use Rattle.wf_types.proofs.Walks.{pure_same, pure_value}
 
 -- ---- declarators
 
@@ -28,9 +28,14 @@ GoodCore Core-F.Core::Absent = Unit {0}
 GoodCore (Core-F.Core::Name n text) = Unit {0}
 GoodCore (Core-F.Core::Paren d) = GoodShape d
 
+no_steps : (g : Stage) (s new : State) (xs : List Step) → pure [] s ≡ Ok (xs, new) →
+    Plain g s new × (any_counted xs ≡ false)
+no_steps g s new xs e =
+    (plain_same g (pure_same [] xs s new e), ap any_counted (sym (pure_value [] xs s new e)))
+
 pub good_core : (c : Core-W) → GoodCore c → GoodShape (core_rule c)
-good_core Core-F.Core::Absent h g s new xs e k = plain_same g (pure_same _ xs s new e)
-good_core (Core-F.Core::Name n text) h g s new xs e k = plain_same g (pure_same _ xs s new e)
+good_core Core-F.Core::Absent h g s new xs e k = no_steps g s new xs e
+good_core (Core-F.Core::Name n text) h g s new xs e k = no_steps g s new xs e
 good_core (Core-F.Core::Paren d) h g s new xs e k = h g s new xs e k
 
 -- what is asked of the walks is asked of each

@@ -66,12 +66,22 @@ abbrev pub any_computed : List Step → Bool
 any_computed [] = false
 any_computed (s ∷ ss) = is_computed_step s || any_computed ss
 
+-- a length that an initializer counts, which no declarator has
+abbrev pub is_counted_step : Step → Bool
+is_counted_step (step.Array (len.Counted n)) = true
+is_counted_step _ = false
+
+abbrev pub any_counted : List Step → Bool
+any_counted [] = false
+any_counted (s ∷ ss) = is_counted_step s || any_counted ss
+
 abbrev pub GoodSuffix : (Stage → Rule State Step) → Type 0
-GoodSuffix w = (g : Stage) (s new : State) (x : Step) → w g s ≡ Ok (x, new) → is_computed_step x ≡ false → Plain g s new
+GoodSuffix w = (g : Stage) (s new : State) (x : Step) → w g s ≡ Ok (x, new) → is_computed_step x ≡ false →
+    Plain g s new × (is_counted_step x ≡ false)
 
 abbrev pub GoodShape : Shape → Type 0
 GoodShape d = (g : Stage) (s new : State) (xs : List Step) → d.walk g s ≡ Ok (xs, new) → any_computed xs ≡ false →
-    Plain g s new
+    Plain g s new × (any_counted xs ≡ false)
 
 abbrev pub GoodNamed : Named → Type 0
 GoodNamed t = (line : ℕ) (g : Stage) (s new : State) (x : CType) → t.walk line g s ≡ Ok (x, new) → Plain g s new

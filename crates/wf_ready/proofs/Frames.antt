@@ -92,13 +92,15 @@ module _ (object : ℕ) where
 
   -- an object that a node declares
   object_within : (a : Around) → a.object ≡ object → (off words : ℕ) → is_object off words a ≡ true →
-      IsWithin object off (4 * words)
+      IsWithin object off (4 * words) × (1 ≤ words)
   object_within a is off words h =
-      let q = two (in_function a && nat_le (off + 4 * words) a.object) (off % 4 == 0) h in
-      let low = second_true (in_function a) (nat_le (off + 4 * words) a.object) q.0 in
+      let q = two (nat_le 1 words && in_function a && nat_le (off + 4 * words) a.object) (off % 4 == 0) h in
+      let r = two (nat_le 1 words && in_function a) (nat_le (off + 4 * words) a.object) q.0 in
+      let one = first_true (nat_le 1 words) (in_function a) r.0 in
+      let low = r.1 in
       let even = q.1 in
       let fits : off + 4 * words ≤ a.object = grind (arith, nat_tests, low) in
-      (subst (λ o. off + 4 * words ≤ o) is fits, grind (arith, nat_tests, even))
+      ((subst (λ o. off + 4 * words ≤ o) is fits, grind (arith, nat_tests, even)), grind (arith, nat_tests, one))
 
   declared_frames : (a : Around) → a.object ≡ object → (vs : Items) → all_declare (fold_items rules vs) a ≡ true →
       HaveFramesItems object vs
@@ -125,7 +127,7 @@ module _ (object : ℕ) where
       one_frame : (s : Stmt) → (act s).is_parameter k a ≡ true → HasFramesStmt object s
       one_frame (node.Parameter i w) h = tt
       one_frame (node.ParameterObject i w off) h =
-          object_within a is off 1 (second_true (k == i) (is_object off 1 a) h)
+          (object_within a is off 1 (second_true (k == i) (is_object off 1 a) h)).0
       one_frame _ h = absurd cc
 
   -- a label names no object

@@ -63,7 +63,7 @@ module _ (object q r : ℕ) (low : r < 4) where
 
   mutual
     stmt_same : (s : Stmt) → HasFramesStmt object s → objects_at (4 * q + r) s ≡ objects_at (4 * q) s
-    stmt_same (node.Object off words) h = ap one_if (in_same off words q r h.1 low)
+    stmt_same (node.Object off words) h = ap one_if (in_same off words q r h.0.1 low)
     stmt_same (node.ParameterObject k w off) h = ap one_if (in_same off 1 q r h.1 low)
     stmt_same (node.Block vs is) h =
         two_same (objects_of (4 * q + r) vs) (objects_of (4 * q) vs) (objects_of (4 * q + r) is)

@@ -1,6 +1,7 @@
 -- A declaration in a block whose parts are good is good: its type, its name, and what its variable begins with.
-use Rattle.std.proofs.Common.{◌≡◌, ℕ, Bool, true, false, List, [], ◌∷◌, ◌++◌, sym, ap, subst, ◌∙◌, Option, Ok}
-use Rattle.std.specs.Prelude.{if◌then◌else◌}
+use Rattle.std.proofs.Common.{◌≡◌, ℕ, ◌≤◌, Bool, true, false, List, [], ◌∷◌, ◌++◌, refl, sym, ap, subst, ◌∙◌, Option}
+use Rattle.std.proofs.Common.{Ok}
+use Rattle.std.specs.Prelude.{not, if◌then◌else◌}
 use Rattle.c_types.specs.declared.ctype.CType.{CType}
 use Rattle.check_forms.specs.Forms.{Name}
 use Rattle.tick_tree.specs.declared.fault.FaultKind.{FaultKind}
@@ -13,6 +14,8 @@ use Rattle.check_lvalues.specs.Places as places
 use Rattle.check_env.specs.declared.state.Around.{Around as Standing}
 use Rattle.check_env.specs.declared.state.Stage.{Stage}
 use Rattle.check_env.specs.declared.state.State.{State}
+use Rattle.check_env.specs.Locals.{local}
+use Rattle.check_tables.specs.Frames.{words}
 use Rattle.check_tables.specs.Walks.{Rule, ◌>>=◌, pure, lift}
 use Rattle.check_expressions.specs.Rules.{Node}
 use Rattle.check_statements.specs.Declarations as declarations
@@ -33,12 +36,12 @@ use Rattle.wf_types.proofs.Keeps.{pure_keeps, lift_keeps, bind_keeps}
 use Rattle.wf_types.proofs.Plain.{plain_keeps, plain_same, plain_did_by}
 use Rattle.wf_types.proofs.NodeRules.{good_value}
 use Rattle.wf_statements.specs.Laws.{declares_one}
-use Rattle.wf_statements.specs.Parts.{GoodType, Begun, Nothing, Effect, GoodBegin}
+use Rattle.wf_statements.specs.Parts.{TypeGiven, GoodType, may_be, Begun, Nothing, Effect, GoodBegin}
 use Rattle.wf_statements.proofs.Growing.{keeps_grows, grows_more}
 use Rattle.wf_statements.proofs.Nodes.{expr_counts, expr_unlabelled}
 use Rattle.wf_statements.proofs.Making.{Made, made_kept, made_behind, made_before, made_more, made_as, labelled_more}
 use Rattle.wf_statements.proofs.Making.{labelled_none, labelled_one, each_append}
-use Rattle.wf_statements.proofs.Locals.{local_made, local_labels}
+use Rattle.wf_statements.proofs.Locals.{local_made, local_labels, local_type}
 use Rattle.wf_statements.proofs.Runs.{gave, followed, judged}
 use Rattle.wf_statements.proofs.Makes.{Makes, makes_of}
 use Rattle.wf_statements.proofs.Joining.{did_both, did_so, did_placed}
@@ -50,8 +53,9 @@ use Rattle.wf_statements.proofs.Assembly.{statement_good}
 -- ---- what a variable begins with
 
 -- nothing
-pub nothing_good : (many : List ℕ) (a : Standing) (p : Operand) → GoodBegin many a p (pure [])
+pub nothing_good : (many : List ℕ) (a : Standing) (p : Operand) → GoodBegin many a true p (pure [])
 nothing_good many a p = record {
+  may = λ s new xs e. refl;
   keeps = pure_keeps a.stage [];
   begun = λ s new xs e. Nothing (sym (pure_value [] xs s new e));
   does = λ b ks s new xs known e.
@@ -63,22 +67,25 @@ nothing_good many a p = record {
 -- a value, by assignment
 record Assigned (line : ℕ) (p o : Operand) (xs : List Stmt) : Type 0 where
   value : Operand
+  scalar : initializers.is_array p.ctype ≡ false
   gives : places.assign line p (value_of o) ≡ Ok value
   is : st.Eval (effect value) ∷ [] ≡ xs
 
 assigned_by : (b : Bool) (k : FaultKind) (line : ℕ) (p o : Operand) (xs : List Stmt) →
-    (if b then refuse k line else (places.assign line p (value_of o) >>>= (λ r. Ok (st.Eval (effect r) ∷ [])))) ≡ Ok xs →
-    Assigned line p o xs
-assigned_by true k line p o xs e = cc
-assigned_by false k line p o xs e =
+    initializers.is_array p.ctype ≡ b →
+    (if b then refuse k line else (places.assign line p (value_of o) >>>= (λ r. Ok (st.Eval (effect r) ∷ [])))) ≡ Ok xs
+    → Assigned line p o xs
+assigned_by true k line p o xs b e = absurd (cc)
+assigned_by false k line p o xs b e =
     let g = gave (places.assign line p (value_of o)) (λ r. st.Eval (effect r) ∷ []) xs e in
-    record { value = g.value; gives = g.gives; is = g.is }
+    record { value = g.value; scalar = b; gives = g.gives; is = g.is }
 
 assigned : (line : ℕ) (p : Operand) (string : Bool) (o : Operand) (xs : List Stmt) →
     from_value line p string o ≡ Ok xs → Assigned line p o xs
 unfolding from_value initialized
 assigned line p string o xs e =
-    assigned_by (initializers.is_array p.ctype) (initializers.array_breaks string (value_of o) p.ctype) line p o xs e
+    assigned_by (initializers.is_array p.ctype) (initializers.array_breaks string (value_of o) p.ctype) line p o xs refl
+    e
 
 assigned_good : (r : Around) (line : ℕ) (p o x : Operand) → Good r p → Good r o →
     places.assign line p (value_of o) ≡ Ok x → Good r x
@@ -90,8 +97,11 @@ assigned_good r line p o x h k g =
     )
 
 pub value_good : (many : List ℕ) (a : Standing) (line : ℕ) (p : Operand) (n : Node) (string : Bool) → GoodNode many n →
-    GoodBegin many a p (n.walk a.stage >>= (λ o. lift (from_value line p string o)))
+    GoodBegin many a false p (n.walk a.stage >>= (λ o. lift (from_value line p string o)))
 value_good many a line p n string h = record {
+  may = λ s new xs e.
+      let j = judged (n.walk a.stage) (λ o. from_value line p string o) s xs new e in
+      ap not (assigned line p string j.value xs j.gives).scalar;
   keeps = bind_keeps a.stage (n.walk a.stage) (λ o. lift (from_value line p string o)) (h.keeps a.stage)
       (λ o. lift_keeps a.stage (from_value line p string o));
   begun = λ s new xs e.
@@ -121,8 +131,9 @@ list_refused line row sized step s new xs e =
 
 pub list_good : (many : List ℕ) (a : Standing) (line : ℕ) (p : Operand) (row sized : Bool)
     (step : Rule State (Option FaultKind)) →
-    GoodBegin many a p (step >>= (λ broken. lift (initializers.from_list line row sized broken)))
+    GoodBegin many a false p (step >>= (λ broken. lift (initializers.from_list line row sized broken)))
 list_good many a line p row sized step = record {
+  may = λ s new xs e. list_refused line row sized step s new xs e;
   keeps = λ s new xs e. list_refused line row sized step s new xs e;
   begun = λ s new xs e. list_refused line row sized step s new xs e;
   does = λ b ks s new xs known e. list_refused line row sized step s new xs e;
@@ -141,17 +152,27 @@ begun_made g direct s new xs m l (Effect e is) = record {
   labelled = subst (λ ys. Labelled direct s new ys) (sym is) (labelled_one direct (st.Eval e) l (expr_unlabelled e));
 }
 
-pub declared_good : (many : List ℕ) (a : Standing) (line : ℕ) (name : Option (ℕ × Name)) (w : Rule State CType)
-    (begin : Operand → Rule State (List Stmt)) → MayStand a.stage → GoodType a.stage w →
-    ((p : Operand) → GoodBegin many a p (begin p))
+-- the words of an object that is declared, where what it begins with is taken
+begun_words : {many : List ℕ} (a : Standing) (line : ℕ) (name : Name) (bare : Bool) (t : CType) (s m z new : State)
+    (p : Operand) (xs : List Stmt) (step : Rule State (List Stmt)) → MayStand a.stage → TypeGiven a.stage bare s m t
+    → local a.stage line name t m ≡ Ok (p, z) → GoodBegin many a bare p step → step z ≡ Ok (xs, new) → 1 ≤ words t
+begun_words a line name bare t s m z new p xs step may given e begins k =
+    given.words (subst (λ u. may_be bare u ≡ true) (local_type a.stage may line name t m z p e) (begins.may z new xs k))
+
+pub declared_good : (many : List ℕ) (a : Standing) (line : ℕ) (name : Option (ℕ × Name)) (bare : Bool)
+    (w : Rule State CType) (begin : Operand → Rule State (List Stmt)) → MayStand a.stage → GoodType a.stage bare w →
+    ((p : Operand) → GoodBegin many a bare p (begin p))
     → GoodStatement many a (declares_one a.stage line name w begin)
-declared_good many a line name w begin may hw hb = statement_good a (declares_one a.stage line name w begin)
+declared_good many a line name bare w begin may hw hb = statement_good a (declares_one a.stage line name w begin)
     (λ s new xs e.
     let r = ran w (λ t. declarations.declare a.stage line name t >>= (λ p. begin p)) s xs new e in
     let q = ran (declarations.declare a.stage line name r.value) (λ p. begin p) r.state xs new r.next in
-    let k = plain_keeps (hw s r.state r.value r.first).0 in
+    let t = hw s r.state r.value r.first in
+    let k = plain_keeps t.plain in
     let l = (hb q.value).keeps q.state new xs q.next in
-    let m = local_made a.stage may line (declarations.name_by name) r.value r.state q.state q.value q.first in
+    let n = begun_words a line (declarations.name_by name) bare r.value s r.state q.state new q.value xs (begin q.value)
+    may t q.first (hb q.value) q.next in
+    let m = local_made a.stage may line (declarations.name_by name) r.value n r.state q.state q.value q.first in
     begun_made a.stage a.is_direct s new xs (made_behind k (made_before m l))
     (l.tables.labels ∙ local_labels a.stage may line (declarations.name_by name) r.value r.state q.state q.value
     q.first ∙ k.tables.labels)
@@ -160,13 +181,16 @@ declared_good many a line name w begin may hw hb = statement_good a (declares_on
     let r = ran w (λ t. declarations.declare a.stage line name t >>= (λ p. begin p)) s xs new e in
     let q = ran (declarations.declare a.stage line name r.value) (λ p. begin p) r.state xs new r.next in
     let t = hw s r.state r.value r.first in
-    let k = keeps_grows (plain_keeps t.0) in
+    let k = keeps_grows (plain_keeps t.plain) in
     let l = keeps_grows ((hb q.value).keeps q.state new xs q.next) in
-    let m = local_made a.stage may line (declarations.name_by name) r.value r.state q.state q.value q.first in
-    let d : Did many a.stage b ks s r.state (λ z. Unit {0}) = plain_did_by (λ z. Unit {0}) t.0 known (λ z ag. tt) in
+    let n = begun_words a line (declarations.name_by name) bare r.value s r.state q.state new q.value xs (begin q.value)
+    may t q.first (hb q.value) q.next in
+    let m = local_made a.stage may line (declarations.name_by name) r.value n r.state q.state q.value q.first in
+    let d : Did many a.stage b ks s r.state (λ z. Unit {0}) = plain_did_by (λ z. Unit {0}) t.plain known (λ z ag. tt) in
     let f : Did many a.stage b (ks ++ d.more) r.state q.state (λ z. Good (place_of a z) q.value) =
     did_placed a (λ z. Good (at a.stage z) q.value)
-    (local_did a.stage b line (declarations.name_by name) r.value r.state q.state q.value here t.1 d.known q.first) in
+    (local_did a.stage b line (declarations.name_by name) r.value r.state q.state q.value here t.object d.known
+    q.first) in
     let two = did_both (λ z. Unit {0}) (λ z. Good (place_of a z) q.value) k m.grows d f in
     let g = (hb q.value).does b (ks ++ two.more) q.state new xs two.known q.next in
     did_so (λ z. (Unit {0} × Good (place_of a z) q.value) ×

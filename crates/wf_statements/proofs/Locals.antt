@@ -114,11 +114,12 @@ after_grows off n h = omega arith
 pub aligned_after : (off n : ℕ) → (off % 4 == 0) ≡ true → ((off + 4 * n) % 4 == 0) ≡ true
 aligned_after off n h = grind (arith, nat_tests)
 
-declares_object : (off n : ℕ) (r : Around) → (off % 4 == 0) ≡ true → in_function r ≡ true →
+declares_object : (off n : ℕ) (r : Around) → 1 ≤ n → (off % 4 == 0) ≡ true → in_function r ≡ true →
     nat_le (off + 4 * n) r.object ≡ true → is_object off n r ≡ true
-declares_object off n r a f h =
-    and_true (in_function r && nat_le (off + 4 * n) r.object) (off % 4 == 0)
-    (and_true (in_function r) (nat_le (off + 4 * n) r.object) f h) a
+declares_object off n r one a f h =
+    and_true (nat_le 1 n && in_function r && nat_le (off + 4 * n) r.object) (off % 4 == 0)
+    (and_true (nat_le 1 n && in_function r) (nat_le (off + 4 * n) r.object)
+    (and_true (nat_le 1 n) (in_function r) (grind (arith, nat_tests, one)) f) h) a
 
 -- one node more
 pub node_behind : (P : Stmt → Type 0) (xs : List Stmt) (x : Stmt) → P x → (more : Starts xs (xs ++ x ∷ [])) →
@@ -227,20 +228,23 @@ register_declares s ss h = record {
   );
 }
 
-object_declares : (s : State) (ss : Scopes) (n : ℕ) → after s.frame.object n ≡ s.frame.object + 4 * n →
+object_declares : (s : State) (ss : Scopes) (n : ℕ) → 1 ≤ n → after s.frame.object n ≡ s.frame.object + 4 * n →
     (s.frame.object % 4 == 0) ≡ true →
     Declared stage.Function s (record s { scopes = ss; frame = frames.object_variable n s.frame })
-object_declares s ss n e h = record {
+object_declares s ss n one e h = record {
   aligned = ap (λ m. m % 4 == 0) e ∙ aligned_after s.frame.object n h;
   nodes = node_behind (DeclaresAt stage.Function (after s.frame.object n)) s.frame.nodes (st.Object s.frame.object n) (
     λ r f o. ap (λ a. a.declares r) (act_object s.frame.object n) ∙
-        declares_object s.frame.object n r h f (subst (λ m. nat_le m r.object ≡ true) e o),
+        declares_object s.frame.object n r one h f (subst (λ m. nat_le m r.object ≡ true) e o),
     uses_values_object s.frame.object n,
   );
 }
 
 register_made : (s : State) (name : Name) (what : Meaning) →
-    Made stage.Function s (record s { scopes = declared s.scopes name what; frame = frames.register_variable s.frame }) []
+    Made stage.Function s (record s {
+      scopes = declared s.scopes name what;
+      frame = frames.register_variable s.frame;
+    }) []
 register_made s name what = record {
   grows = register_grows s name what;
   counts = λ small. register_counts s (declared s.scopes name what) (few s small.homes);
@@ -251,27 +255,31 @@ register_made s name what = record {
         count s.frame.homes ≡ length s.frame.homes
     few s h = omega (arith, h, length-append s.frame.homes (home.Register ∷ []))
 
-object_made : (s : State) (name : Name) (what : Meaning) (n : ℕ) →
-    Made stage.Function s (record s { scopes = declared s.scopes name what; frame = frames.object_variable n s.frame }) []
-object_made s name what n = record {
+object_made : (s : State) (name : Name) (what : Meaning) (n : ℕ) → 1 ≤ n →
+    Made stage.Function s (record s {
+      scopes = declared s.scopes name what;
+      frame = frames.object_variable n s.frame;
+    }) []
+object_made s name what n one = record {
   grows = object_grows s name what n;
   counts = λ small. object_counts s (declared s.scopes name what) n (after_small s.frame.object n small.object);
-  declares = λ small h. object_declares s (declared s.scopes name what) n (after_small s.frame.object n small.object) h;
+  declares = λ small h. object_declares s (declared s.scopes name what) n one
+      (after_small s.frame.object n small.object) h;
 }
 
-variable_by : (s : State) (name : Name) (what : Meaning) (t : CType) (b : Bool)
+variable_by : (s : State) (name : Name) (what : Meaning) (t : CType) → 1 ≤ frames.words t → (b : Bool)
     → Made stage.Function s (record s {
       scopes = declared s.scopes name what;
       frame =
           if b then frames.object_variable (frames.words t) s.frame else frames.register_variable s.frame;
     }) []
-variable_by s name what t true = object_made s name what (frames.words t)
-variable_by s name what t false = register_made s name what
+variable_by s name what t one true = object_made s name what (frames.words t) one
+variable_by s name what t one false = register_made s name what
 
-outer_made : (s : State) (name : Name) (what : Meaning) (t : CType) →
+outer_made : (s : State) (name : Name) (what : Meaning) (t : CType) → 1 ≤ frames.words t →
     Made stage.Function s (record s { scopes = declared s.scopes name what; frame = frames.variable t s.frame }) []
 unfolding variable
-outer_made s name what t = variable_by s name what t (frames.is_object t s.frame)
+outer_made s name what t one = variable_by s name what t one (frames.is_object t s.frame)
 
 -- ---- a variable of the tick
 
@@ -342,15 +350,23 @@ inner_made s name what = record {
 
 -- ---- the declaration
 
-pub local_made : (g : Stage) → MayStand g → (line : ℕ) (name : Name) (t : CType) (s new : State) (o : Operand) →
-    local g line name t s ≡ Ok (o, new) → Made g s new []
-local_made stage.Function may line name t s new o e =
+pub local_made : (g : Stage) → MayStand g → (line : ℕ) (name : Name) (t : CType) → 1 ≤ frames.words t →
+    (s new : State) (o : Operand) → local g line name t s ≡ Ok (o, new) → Made g s new []
+local_made stage.Function may line name t one s new o e =
     subst (λ z. Made stage.Function s z []) (ap (λ r. r.1) (outer_gives line name t s new o e))
-    (outer_made s name (meaning kind.Variable t (frames.number s.frame)) t)
-local_made stage.Tick may line name t s new o e =
+    (outer_made s name (meaning kind.Variable t (frames.number s.frame)) t one)
+local_made stage.Tick may line name t one s new o e =
     subst (λ z. Made stage.Tick s z []) (ap (λ r. r.1) (inner_gives line name t s new o e))
     (inner_made s name (meaning kind.Variable t (frames.inner_number s.frame)))
-local_made stage.Dollar may line name t s new o e = cc
+local_made stage.Dollar may line name t one s new o e = cc
+
+-- its place has its type
+pub local_type : (g : Stage) → MayStand g → (line : ℕ) (name : Name) (t : CType) (s new : State) (o : Operand) →
+    local g line name t s ≡ Ok (o, new) → o.ctype ≡ t
+local_type stage.Function may line name t s new o e =
+    sym (ap (λ r. r.0.ctype) (outer_gives line name t s new o e))
+local_type stage.Tick may line name t s new o e = sym (ap (λ r. r.0.ctype) (inner_gives line name t s new o e))
+local_type stage.Dollar may line name t s new o e = cc
 
 pub local_labels : (g : Stage) → MayStand g → (line : ℕ) (name : Name) (t : CType) (s new : State) (o : Operand) →
     local g line name t s ≡ Ok (o, new) → new.labels ≡ s.labels

@@ -5,7 +5,7 @@ use Rattle.c_types.specs.declared.ctype.CType.{CType}
 use Rattle.check_declarators.specs.declared.steps.Role.TheVariants as role
 use Rattle.check_declarators.specs.declared.steps.Step.{Step}
 use Rattle.check_declarators.specs.Making.{declared_type}
-use Rattle.std.specs.Prelude.{false}
+use Rattle.std.specs.Prelude.{Bool, true, false}
 use Rattle.check_env.specs.declared.state.Stage.{Stage}
 use Rattle.check_env.specs.declared.state.Stage.TheVariants as stage
 use Rattle.check_tables.specs.Walks.{◌>>=◌, lift}
@@ -13,10 +13,11 @@ use Rattle.check_expressions.specs.Rules.{Shape}
 use Rattle.check_statements.specs.Declarations.{declared_in, tick_breaks}
 use Rattle.wf_values.proofs.Declared.{types_use}
 use Rattle.wf_invariant.specs.Known.{IsObject}
-use Rattle.wf_invariant.specs.Good.{GoodShape, any_computed}
+use Rattle.wf_invariant.specs.Good.{GoodShape, any_computed, any_counted}
 use Rattle.wf_types.proofs.Walks.{ran, lifted}
 use Rattle.wf_types.proofs.Plain.{plain_more, plain_same}
 use Rattle.wf_types.proofs.Lengths.{local_not_computed, lowered_ok}
+use Rattle.wf_types.proofs.Sized.{declared_words}
 use Rattle.wf_statements.specs.Parts.{GoodType}
 
 -- in a tick it is the type as well
@@ -36,13 +37,17 @@ object_type line b ss x h =
           λ v. types_use.vspec role.Local line b ss x h v;
     }
 
-pub type_good : (g : Stage) (line : ℕ) (b : Base) (d : Shape) (f : List Step → List Step) → GoodShape d →
+pub type_good : (g : Stage) (line : ℕ) (b : Base) (d : Shape) (bare : Bool) (f : List Step → List Step) → GoodShape d →
     ((ss : List Step) → any_computed (f ss) ≡ false → any_computed ss ≡ false)
-    → GoodType g (d.walk g >>= (λ ss. lift (declared_in g line b (f ss))))
-type_good g line b d f h k s new t e =
+    → (bare ≡ true → (ss : List Step) → any_counted ss ≡ false → any_counted (f ss) ≡ false)
+    → GoodType g bare (d.walk g >>= (λ ss. lift (declared_in g line b (f ss))))
+type_good g line b d bare f h k m s new t e =
     let r = ran (d.walk g) (λ ss. lift (declared_in g line b (f ss))) s t new e in
-    let l = lifted (declared_in g line b (f r.value)) r.state t new r.next in (
-      plain_more (h g s r.state r.value r.first (k r.value (local_not_computed g line b (f r.value) t l.value)))
-          (plain_same g l.state),
-      object_type line b (f r.value) t (declared_local g line b (f r.value) t l.value),
-    )
+    let l = lifted (declared_in g line b (f r.value)) r.state t new r.next in
+    let good = h g s r.state r.value r.first (k r.value (local_not_computed g line b (f r.value) t l.value)) in
+    let type = declared_local g line b (f r.value) t l.value in
+    record {
+      plain = plain_more good.0 (plain_same g l.state);
+      object = object_type line b (f r.value) t type;
+      words = declared_words line b (f r.value) t bare type (λ i. m i r.value good.1);
+    }

@@ -1,5 +1,5 @@
 -- The walk over a statement of good parts is good, and so are that over a block and that over a declaration in a block.
-use Rattle.std.specs.Prelude.{◌≡◌, ℕ, Bool, false, List, [], ◌++◌, Option, Ok}
+use Rattle.std.specs.Prelude.{◌≡◌, ℕ, Bool, true, false, List, [], ◌++◌, Option, Ok}
 use Rattle.c_types.specs.declared.ctype.Base.{Base}
 use Rattle.c_types.specs.declared.ctype.CType.{CType}
 use Rattle.check_declarators.specs.declared.steps.Step.{Step}
@@ -17,7 +17,7 @@ use Rattle.check_statements.specs.Declarations as declarations
 use Rattle.check_statements.specs.Declarations.{declared_in}
 use Rattle.check_statements.specs.Initializers as initializers
 use Rattle.check_statements.specs.Rules.{stmt_walk}
-use Rattle.wf_invariant.specs.Good.{GoodNode, GoodShape, any_computed}
+use Rattle.wf_invariant.specs.Good.{GoodNode, GoodShape, any_computed, any_counted}
 use Rattle.wf_invariant.specs.Items.{MayStand, GoodStatement, GoodItem, Few, GoodBlock}
 use Rattle.wf_types.specs.Parts.{EachPart}
 use Rattle.wf_statements.specs.Parts.{GoodStatementParts, GoodType, GoodBegin}
@@ -53,20 +53,21 @@ declares_one g line name w begin = w >>= (λ t. declarations.declare g line name
 
 pub record DeclarationsAreGood : Type 0 where
   -- the type of a variable, whose steps an initializer may complete
-  pub type : (g : Stage) (line : ℕ) (b : Base) (d : Shape) (f : List Step → List Step) → GoodShape d →
+  pub type : (g : Stage) (line : ℕ) (b : Base) (d : Shape) (bare : Bool) (f : List Step → List Step) → GoodShape d →
       ((ss : List Step) → any_computed (f ss) ≡ false → any_computed ss ≡ false)
-      → GoodType g (d.walk g >>= (λ ss. lift (declared_in g line b (f ss))))
+      → (bare ≡ true → (ss : List Step) → any_counted ss ≡ false → any_counted (f ss) ≡ false)
+      → GoodType g bare (d.walk g >>= (λ ss. lift (declared_in g line b (f ss))))
   -- it begins with nothing, with a value, or with a list
-  pub nothing : (many : List ℕ) (a : Standing) (p : Operand) → GoodBegin many a p (pure [])
+  pub nothing : (many : List ℕ) (a : Standing) (p : Operand) → GoodBegin many a true p (pure [])
   pub value : (many : List ℕ) (a : Standing) (line : ℕ) (p : Operand) (n : Node) (string : Bool) → GoodNode many n →
-      GoodBegin many a p (n.walk a.stage >>= (λ o. lift (initializers.from_value line p string o)))
+      GoodBegin many a false p (n.walk a.stage >>= (λ o. lift (initializers.from_value line p string o)))
   pub list : (many : List ℕ) (a : Standing) (line : ℕ) (p : Operand) (row sized : Bool)
       (step : Rule State (Option FaultKind)) →
-      GoodBegin many a p (step >>= (λ broken. lift (initializers.from_list line row sized broken)))
+      GoodBegin many a false p (step >>= (λ broken. lift (initializers.from_list line row sized broken)))
   -- one declarator, and several
-  pub one : (many : List ℕ) (a : Standing) (line : ℕ) (name : Option (ℕ × Name)) (w : Rule State CType)
-      (begin : Operand → Rule State (List Stmt)) → MayStand a.stage → GoodType a.stage w →
-      ((p : Operand) → GoodBegin many a p (begin p))
+  pub one : (many : List ℕ) (a : Standing) (line : ℕ) (name : Option (ℕ × Name)) (bare : Bool) (w : Rule State CType)
+      (begin : Operand → Rule State (List Stmt)) → MayStand a.stage → GoodType a.stage bare w →
+      ((p : Operand) → GoodBegin many a bare p (begin p))
       → GoodStatement many a (declares_one a.stage line name w begin)
   pub none : (many : List ℕ) (a : Standing) → GoodStatement many a (pure [])
   pub more : (many : List ℕ) (a : Standing) (p q : Rule State (List Stmt)) → MayStand a.stage → GoodStatement many a p →

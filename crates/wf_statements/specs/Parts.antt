@@ -1,5 +1,5 @@
 -- What is asked of the parts of a statement and of a declaration in a block.
-use Rattle.std.specs.Prelude.{◌≡◌, ℕ, List, [], ◌∷◌, Option, Ok}
+use Rattle.std.specs.Prelude.{◌≡◌, ℕ, ◌≤◌, Bool, true, not, ◌||◌, List, [], ◌∷◌, Option, Ok}
 use Rattle.c_types.specs.declared.ctype.CType.{CType}
 use Rattle.tick_tree.specs.declared.syntax.Core.TheOpen.{Stmt-F}
 use Rattle.typed_tree.specs.declared.expression.CaptureKind.{CaptureKind}
@@ -10,8 +10,10 @@ use Rattle.check_operators.specs.declared.operand.Operand.{Operand}
 use Rattle.check_env.specs.declared.state.Around.{Around as Standing}
 use Rattle.check_env.specs.declared.state.Stage.{Stage}
 use Rattle.check_env.specs.declared.state.State.{State}
+use Rattle.check_tables.specs.Frames.{words}
 use Rattle.check_tables.specs.Walks.{Rule}
 use Rattle.check_expressions.specs.Rules.{Node, Named, Shape, Item}
+use Rattle.check_statements.specs.Initializers.{is_array}
 use Rattle.wf_invariant.specs.Kept.{IsKeeping}
 use Rattle.wf_invariant.specs.Known.{Blocks, IsObject, Known}
 use Rattle.wf_invariant.specs.Steps.{at, Did}
@@ -47,21 +49,33 @@ GoodStatementParts many declaration (Stmt-F.Return line e) = GoodOptional many e
 
 -- ---- declarations
 
--- the walk over the type of a variable: it names nothing, and a variable may have what it answers
-abbrev pub GoodType : Stage → Rule State CType → Type 0
-GoodType g w = (s new : State) (t : CType) → w s ≡ Ok (t, new) → Plain g s new × IsObject t
+-- a variable of this type may stand here: one with an initializer (which isn't bare) is no array
+abbrev pub may_be : Bool → CType → Bool
+may_be bare t = bare || not (is_array t)
+
+-- the walk over the type of a variable: it names nothing, a variable may have what it answers, and an object of it has
+-- a word at least where it may stand
+pub record TypeGiven (g : Stage) (bare : Bool) (s new : State) (t : CType) : Type 0 where
+  pub plain : Plain g s new
+  pub object : IsObject t
+  pub words : may_be bare t ≡ true → 1 ≤ words t
+
+abbrev pub GoodType : Stage → Bool → Rule State CType → Type 0
+GoodType g bare w = (s new : State) (t : CType) → w s ≡ Ok (t, new) → TypeGiven g bare s new t
 
 -- what a variable begins with is one node for its effect, or none
 pub data Begun (xs : List Stmt) : Type 0 where
   Nothing : xs ≡ [] → Begun xs
   Effect : (e : Expr) → xs ≡ st.Eval e ∷ [] → Begun xs
 
--- a variable begins so
-pub record GoodBegin (many : List ℕ) (a : Standing) (p : Operand) (step : Rule State (List Stmt)) : Type 0 where
-  pub keeps : IsKeeping a.stage step
-  pub begun : (s new : State) (xs : List Stmt) → step s ≡ Ok (xs, new) → Begun xs
-  -- where the variable stands right
-  pub does : (b : Blocks) (ks : List (List CaptureKind)) (s new : State) (xs : List Stmt) → Known many a.stage b ks s →
-      step s ≡ Ok (xs, new)
-      → Did many a.stage b ks s new
-      (λ r. Good (at a.stage (placed_round a r)) p → ItemsStand a (at a.stage (placed_round a r)) xs)
+-- a variable begins so, with an initializer or bare
+pub record GoodBegin (many : List ℕ) (a : Standing) (bare : Bool) (p : Operand) (step : Rule State (List Stmt)) : Type 0
+  where
+    pub may : (s new : State) (xs : List Stmt) → step s ≡ Ok (xs, new) → may_be bare p.ctype ≡ true
+    pub keeps : IsKeeping a.stage step
+    pub begun : (s new : State) (xs : List Stmt) → step s ≡ Ok (xs, new) → Begun xs
+    -- where the variable stands right
+    pub does : (b : Blocks) (ks : List (List CaptureKind)) (s new : State) (xs : List Stmt) → Known many a.stage b ks s →
+        step s ≡ Ok (xs, new)
+        → Did many a.stage b ks s new
+        (λ r. Good (at a.stage (placed_round a r)) p → ItemsStand a (at a.stage (placed_round a r)) xs)

@@ -65,7 +65,7 @@ computed_filled count (s ∷ ss) h = filled_by (lacks s) count s ss (lacking s) 
 
 -- ---- types
 
-array_case : (a c : Bool) (k : FaultKind) →
+pub array_case : (a c : Bool) (k : FaultKind) →
     (if a then Some TypeMismatch else (if c then Some VoidValue else Some k)) ≡ None → true ≡ false
 array_case true c k is = cc
 array_case false true k is = cc

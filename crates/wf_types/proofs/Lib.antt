@@ -1,5 +1,6 @@
 pub mod Blocks
 pub mod Constants
+pub mod Counted
 pub mod Fixed
 pub mod Fronts
 pub mod Keeps
@@ -10,6 +11,7 @@ pub mod NodeRules
 pub mod Plain
 pub mod Plainly
 pub mod Productions
+pub mod Sized
 pub mod Strings
 pub mod Types
 pub mod Walks

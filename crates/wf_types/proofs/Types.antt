@@ -8,6 +8,7 @@ use Rattle.c_types.specs.declared.ctype.CType.{CType}
 use Rattle.c_types.specs.declared.names.Meaning.{Meaning}
 use Rattle.c_types.specs.Scopes.{Name, Scope, Scopes, in_scope, innermost, declared}
 use Rattle.check_declarators.specs.declared.steps.Role.TheVariants as role
+use Rattle.check_declarators.specs.declared.steps.Length.TheVariants as len
 use Rattle.check_declarators.specs.declared.steps.Step.{Step}
 use Rattle.check_declarators.specs.declared.steps.Step.TheVariants as step
 use Rattle.check_declarators.specs.Making.{declared_type}
@@ -25,16 +26,17 @@ use Rattle.check_env.specs.Names.{declared_by, declare}
 use Rattle.check_expressions.specs.Rules.{Node, Named, Shape, Item}
 use Rattle.check_statements.specs.Declarations.{length_of, declare_parameter}
 use Rattle.check_statements.specs.Rules.{computed_step, length_step, each_type, list_step, suffix_rule, each_step}
-use Rattle.wellformed.proofs.Bools.{first_false}
+use Rattle.wellformed.proofs.Bools.{first_false, both_false}
 use Rattle.wf_invariant.specs.Kept.{outer}
-use Rattle.wf_invariant.specs.Good.{PlainStage, Plain, PlainList, is_computed_step, any_computed, GoodSuffix, GoodShape}
-use Rattle.wf_invariant.specs.Good.{GoodParameter, GoodNode}
+use Rattle.wf_invariant.specs.Good.{PlainStage, Plain, PlainList, is_computed_step, any_computed, is_counted_step}
+use Rattle.wf_invariant.specs.Good.{any_counted, GoodSuffix, GoodShape, GoodParameter, GoodNode}
 use Rattle.wf_types.specs.Parts.{EachPart, GoodOptional, GoodSuffixParts}
 use Rattle.wf_types.proofs.Fronts.{starts_refl}
 use Rattle.wf_types.proofs.Walks.{ok_same, ran, pure_same, pure_value, lifted}
 use Rattle.wf_types.proofs.Plain.{plain_same, plain_more, plain_stage_refl, plain_list_more, plain_is_list}
 use Rattle.wf_types.proofs.Plainly.{IsPlainList, pure_plain_list, bind_plain_list}
 use Rattle.wf_types.proofs.Lengths.{computed_front, computed_rest, computed_prefixed, type_not_computed, has_form}
+use Rattle.wf_types.proofs.Counted.{counted_append, counted_prefixed, not_counted}
 use Rattle.wf_types.proofs.Blocks.{inside, back}
 
 -- ---- lengths
@@ -43,12 +45,17 @@ computed_good : (many : List ℕ) (e : Node) → GoodNode many e → GoodSuffix 
 computed_good many e h g s new x is c =
     let r = ran (e.walk g) (λ o. pure (step.Array (length_of e.written.constant o))) s x new is in
     let v = pure_value (step.Array (length_of e.written.constant r.value)) x r.state new r.next in
-    let f = has_form e.written.constant r.value (ap is_computed_step v ∙ c) in
-    plain_more (h.constant f g s r.state r.value r.first).0
-    (plain_same g (pure_same (step.Array (length_of e.written.constant r.value)) x r.state new r.next))
+    let f = has_form e.written.constant r.value (ap is_computed_step v ∙ c) in (
+      plain_more (h.constant f g s r.state r.value r.first).0
+          (plain_same g (pure_same (step.Array (length_of e.written.constant r.value)) x r.state new r.next)),
+      ap is_counted_step (sym v) ∙ not_counted e.written.constant r.value,
+    )
 
 pub length_good : (many : List ℕ) (e : Option Node) → GoodOptional many e → GoodSuffix (λ g. length_step e g)
-length_good many None h g s new x is c = plain_same g (pure_same _ x s new is)
+length_good many None h g s new x is c = (
+  plain_same g (pure_same _ x s new is),
+  ap is_counted_step (sym (pure_value (step.Array len.Absent) x s new is)),
+)
 length_good many (Some e) h g s new x is c = computed_good many e h g s new x is c
 
 -- ---- lists of parameters
@@ -144,42 +151,57 @@ list_left g s z p = record {
 }
 
 list_good : (ps : List (Stage → Rule State CType)) → EachPart GoodParameter ps →
-    (g : Stage) (s new : State) (x : Step) → list_step ps g s ≡ Ok (x, new) → Plain g s new
+    (g : Stage) (s new : State) (x : Step) → list_step ps g s ≡ Ok (x, new) →
+    Plain g s new × (is_counted_step x ≡ false)
 unfolding enter leave
 list_good ps h g s new x is =
     let r = ran (each_type ps g) (λ ts. leave (length s.scopes) s.frame.nodes >>= (λ vs. pure (step.Function ts)))
-    (inside s) x new is in
-    subst (λ z. Plain g s z) (pure_same (step.Function r.value) x (back s r.state) new r.next)
-    (list_left g s r.state (each_type_list ps g h (inside s) r.state r.value r.first))
+    (inside s) x new is in (
+      subst (λ z. Plain g s z) (pure_same (step.Function r.value) x (back s r.state) new r.next)
+          (list_left g s r.state (each_type_list ps g h (inside s) r.state r.value r.first)),
+      ap is_counted_step (sym (pure_value (step.Function r.value) x (back s r.state) new r.next)),
+    )
 
 -- ---- suffixes
 
 pub suffix_good : {I D N : Type 0} (many : List ℕ)
-    (e : Suffix-F Shape Node I (Option Node) Item (Stage → Rule State Step) D Shape N (Stage → Rule State CType) Named) →
-    GoodSuffixParts many e → GoodSuffix (suffix_rule e)
+    (e : Suffix-F Shape Node I (Option Node) Item (Stage → Rule State Step) D Shape N (Stage → Rule State CType) Named)
+    → GoodSuffixParts many e → GoodSuffix (suffix_rule e)
 suffix_good many (Suffix-F.Array e) h g s new x is c = length_good many e h g s new x is c
-suffix_good many Suffix-F.Unlisted h g s new x is c = plain_same g (pure_same _ x s new is)
-suffix_good many Suffix-F.Nothing h g s new x is c = plain_same g (pure_same _ x s new is)
+suffix_good many Suffix-F.Unlisted h g s new x is c = (
+  plain_same g (pure_same _ x s new is),
+  ap is_counted_step (sym (pure_value step.Unlisted x s new is)),
+)
+suffix_good many Suffix-F.Nothing h g s new x is c = (
+  plain_same g (pure_same _ x s new is),
+  ap is_counted_step (sym (pure_value (step.Function []) x s new is)),
+)
 suffix_good many (Suffix-F.Listed ps) h g s new x is c = list_good ps h g s new x is
 
-pub record Taken (g : Stage) (s new : State) (ss : List Step) : Type 0 where
+pub record Taken (g : Stage) (s new : State) (ss xs : List Step) : Type 0 where
   pub plain : Plain g s new
   pub before : any_computed ss ≡ false
+  pub counted : any_counted ss ≡ false → any_counted xs ≡ false
 
 -- all of them, behind the steps so far
 pub each_good : (rs : List (Stage → Rule State Step)) → EachPart GoodSuffix rs →
     (ss : List Step) (g : Stage) (s new : State) (xs : List Step) → each_step rs ss g s ≡ Ok (xs, new) →
-    any_computed xs ≡ false → Taken g s new ss
-each_good [] h ss g s new xs is c =
-    record { plain = plain_same g (pure_same ss xs s new is); before = ap any_computed (pure_value ss xs s new is) ∙ c }
+    any_computed xs ≡ false → Taken g s new ss xs
+each_good [] h ss g s new xs is c = record {
+  plain = plain_same g (pure_same ss xs s new is);
+  before = ap any_computed (pure_value ss xs s new is) ∙ c;
+  counted = λ k. ap any_counted (sym (pure_value ss xs s new is)) ∙ k;
+}
 each_good (r ∷ rs) h ss g s new xs is c =
     let q = ran (r g) (λ x. each_step rs (ss ++ x ∷ []) g) s xs new is in
     let t = each_good rs h.1 (ss ++ q.value ∷ []) g q.state new xs q.next c in
     let own = first_false (is_computed_step q.value) false (computed_rest ss (q.value ∷ []) t.before) in
+    let good = h.0 g s q.state q.value q.first own in
     record {
-      plain = plain_more (h.0 g s q.state q.value q.first own) t.plain;
-      before =
-          computed_front ss (q.value ∷ []) t.before;
+      plain = plain_more good.0 t.plain;
+      before = computed_front ss (q.value ∷ []) t.before;
+      counted = λ k.
+          t.counted (counted_append ss (q.value ∷ []) k (both_false (is_counted_step q.value) false good.1 refl));
     }
 
 -- ---- declarators and what they declare
@@ -189,15 +211,18 @@ pub declarator_good : (core : Shape) (suffixes : List (Stage → Rule State Step
     GoodShape core → EachPart GoodSuffix suffixes
     → (g : Stage) (s new : State) (xs : List Step) →
     (core.walk g >>= (λ ss. each_step suffixes ss g >>= (λ all. pure (prefixed prefixes all)))) s ≡ Ok (xs, new) →
-    any_computed xs ≡ false → Plain g s new
+    any_computed xs ≡ false → Plain g s new × (any_counted xs ≡ false)
 declarator_good core suffixes prefixes h k g s new xs is c =
     let q = ran (core.walk g) (λ ss. each_step suffixes ss g >>= (λ all. pure (prefixed prefixes all))) s xs new is in
     let r = ran (each_step suffixes q.value g) (λ all. pure (prefixed prefixes all)) q.state xs new q.next in
     let v = pure_value (prefixed prefixes r.value) xs r.state new r.next in
     let t = each_good suffixes k q.value g q.state r.state r.value r.first
     (computed_prefixed prefixes r.value (ap any_computed v ∙ c)) in
-    plain_more (h g s q.state q.value q.first t.before)
-    (plain_more t.plain (plain_same g (pure_same (prefixed prefixes r.value) xs r.state new r.next)))
+    let good = h g s q.state q.value q.first t.before in (
+      plain_more good.0
+          (plain_more t.plain (plain_same g (pure_same (prefixed prefixes r.value) xs r.state new r.next))),
+      ap any_counted (sym v) ∙ counted_prefixed prefixes r.value (t.counted good.1),
+    )
 
 -- a type that no computed length gives
 pub typed_good : (d : Shape) (f : List Step → Checked CType) → GoodShape d →
@@ -206,7 +231,7 @@ pub typed_good : (d : Shape) (f : List Step → Checked CType) → GoodShape d �
 typed_good d f h k g s new x is =
     let q = ran (d.walk g) (λ ss. lift (f ss)) s x new is in
     let l = lifted (f q.value) q.state x new q.next in
-    plain_more (h g s q.state q.value q.first (k q.value x l.value)) (plain_same g l.state)
+    plain_more (h g s q.state q.value q.first (k q.value x l.value)).0 (plain_same g l.state)
 
 -- a parameter of a list, which gets its name
 pub parameter_good : (line : ℕ) (b : Base) (d : Shape) → GoodShape d
@@ -219,8 +244,8 @@ parameter_good line b d h g s new x is =
     let r = ran (lift (declared_type role.Parameter line b q.value))
     (λ t. declare_parameter g line d.declared.name t >>= (λ u. pure t)) q.state x new q.next in
     let l = lifted (declared_type role.Parameter line b q.value) q.state r.value r.state r.first in
-    let p = plain_more (h g s q.state q.value q.first (type_not_computed role.Parameter line b q.value r.value l.value))
-    (plain_same g l.state) in
+    let good = h g s q.state q.value q.first (type_not_computed role.Parameter line b q.value r.value l.value) in
+    let p = plain_more good.0 (plain_same g l.state) in
     let n = bind_plain_list g (declare_parameter g line d.declared.name r.value) (λ u. pure r.value)
     (parameter_declared g line d.declared.name r.value) (λ u. pure_plain_list g r.value) r.state new x r.next in
     plain_list_more (plain_is_list p) n

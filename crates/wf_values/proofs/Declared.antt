@@ -62,7 +62,7 @@ second_none None b h = h
 second_none (Some a) None h = refl
 second_none (Some a) (Some b) h = let e = one_is_broken (nat_lt (number b) (number a)) a b h in cc
 
-answered : (line : ℕ) (t u : CType) (k : Option FaultKind) → answer line t k ≡ Ok u → t ≡ u
+pub answered : (line : ℕ) (t u : CType) (k : Option FaultKind) → answer line t k ≡ Ok u → t ≡ u
 answered line t u None h = cc
 answered line t u (Some k) h = cc
 
@@ -77,7 +77,8 @@ role_value : (r : Role) (b : Base) (ls : List Layer) → declares r ≡ true →
 role_value role.Typename b ls d k = cc
 role_value role.FileScope b ls d k = made_void b ls ∙ no_fault (types.is_void b ls) fault.VoidValue None k
 role_value role.Local b ls d k =
-    made_void b ls ∙ no_fault (types.is_void b ls) fault.VoidValue None (no_other (is_function ls) fault.TypeMismatch _ k)
+    made_void b ls ∙ no_fault (types.is_void b ls) fault.VoidValue None
+    (no_other (is_function ls) fault.TypeMismatch _ k)
 role_value role.Parameter b ls d k =
     made_void b (decayed_layers ls) ∙ decayed_value b ls ∙ no_fault (types.is_void b ls) fault.VoidValue None k
 
@@ -123,8 +124,9 @@ no_pointer ls = ap is_vspec_layer (outermost_last ls layer.Pointer) ∙ ap is_vs
 decayed_by : (b : Base) (ls ms : List Layer) (x y : Bool) →
     (is_vspec_layer (outermost ls) ≡ true → types.is_void b (under ls) ≡ false) →
     is_vspec_layer (outermost (if x then ms ++ layer.Pointer ∷ [] else (if y then ls ++ layer.Pointer ∷ [] else ls))) ≡
-    true → types.is_void b (under (if x then ms ++ layer.Pointer ∷ [] else (if y then ls ++ layer.Pointer ∷ [] else ls)))
-    ≡ false
+    true →
+    types.is_void b (under (if x then ms ++ layer.Pointer ∷ [] else (if y then ls ++ layer.Pointer ∷ [] else ls))) ≡
+    false
 decayed_by b ls ms true y h v = let n = no_pointer ms in cc
 decayed_by b ls ms false true h v = let n = no_pointer ls in cc
 decayed_by b ls ms false false h v = h v
