@@ -1,13 +1,14 @@
 -- The words of a command line: which command they give, or which word is the first that can't continue one. Word 0 is
 -- the name of the program and word 1 that of the command; behind them stand, in any order, the operands in their order
 -- and the options, each option at most once. The grammar is the product's own.
-use Rattle.std.specs.Prelude.{ℕ, ◌+◌, ◌-◌, Bool, true, false, ◌&&◌, not, ◌==◌, nat_lt, nat_le, if◌then◌else◌, List, []}
-use Rattle.std.specs.Prelude.{◌∷◌, length, Option, Some, None, Result, Ok, Err, codes}
+use Rattle.std.specs.Prelude.{ℕ, ◌+◌, ◌-◌, Bool, true, false, ◌&&◌, ◌||◌, not, ◌==◌, nat_lt, nat_le}
+use Rattle.std.specs.Prelude.{if◌then◌else◌, List, [], ◌∷◌, length, Option, Some, None, Result, Ok, Err, codes}
 use Rattle.std.specs.Str.{bytes_eq}
 use Rattle.std.specs.Char.{is_ascii_digit}
 use Rattle.std.specs.List.{list_all}
 use Rattle.std.specs.Str.Parse.{digits_value}
 use Rattle.command_words.specs.declared.TheConstants.{MOST_DIGITS}
+use Rattle.limits.specs.declared.text.TheConstants.{LARGEST_SOURCE}
 use Rattle.limits.specs.declared.run.TheConstants.{MOST_STEPS, DEFAULT_STEPS}
 use Rattle.command_words.specs.declared.command.Command.{Command}
 use Rattle.command_words.specs.declared.command.Command.TheVariants as code
@@ -23,7 +24,7 @@ use Rattle.command_words.specs.declared.arguments.Wanted.{Wanted}
 abbrev pub Word : Type 0
 Word = List ℕ
 
--- a command, with its operands as bytes and the most instructions of its run
+-- a command on a file, with its operands as bytes and the most instructions of its run
 pub data Order : Type 0 where
   run : (file : Word) (steps : ℕ) → Order
   build : (file image : Word) → Order
@@ -31,20 +32,33 @@ pub data Order : Type 0 where
   asm : (file image : Word) → Order
   dis : (image : Word) → Order
 
+-- what is asked for: a command on a file, or a generated source by its number
+pub data Asked : Type 0 where
+  of_file : (order : Order) → Asked
+  gen : (number : ℕ) → Asked
+
 -- an operand isn't empty and doesn't begin with a dash
 abbrev pub is_operand : Word → Bool
 is_operand [] = false
 is_operand (c ∷ cs) = not (c == 45)
 
--- a number of steps is 1 to 19 decimal digits, and from 1 to 1,099,511,627,776
+-- a number is 1 to 19 decimal digits, and from 1 to the largest that may stand there
 abbrev pub are_digits : Word → Bool
 are_digits w = nat_lt 0 (length w) && nat_le (length w) MOST_DIGITS && list_all is_ascii_digit w
 
-abbrev pub in_range : ℕ → Option ℕ
-in_range n = if nat_lt 0 n && nat_le n MOST_STEPS then Some n else None
+abbrev pub in_range : (most : ℕ) → ℕ → Option ℕ
+in_range most n = if nat_lt 0 n && nat_le n most then Some n else None
 
+abbrev pub number_of : (most : ℕ) → Word → Option ℕ
+number_of most w = if are_digits w then in_range most (digits_value 10 w) else None
+
+-- a number of steps is at most 1,099,511,627,776
 abbrev pub steps_of : Word → Option ℕ
-steps_of w = if are_digits w then in_range (digits_value 10 w) else None
+steps_of w = number_of MOST_STEPS w
+
+-- and that of a generated source at most 2,000
+abbrev pub source_of : Word → Option ℕ
+source_of w = number_of LARGEST_SOURCE w
 
 -- what words gave: the operands in their order, and the number of steps, if no option gives it the usual one
 pub record Given : Type 0 where
@@ -59,9 +73,13 @@ pub data Piece : Type 0 where
   operand : Word → Piece
   option : Piece
   number : ℕ → Piece
+  stats : Piece
 
 abbrev pub is_option : Wanted → Word → Bool
 is_option wanted w = wanted.steps && bytes_eq w (codes "--steps")
+
+abbrev pub is_stats : Wanted → Word → Bool
+is_stats wanted w = wanted.stats && bytes_eq w (codes "--stats")
 
 abbrev pub numbered : Option ℕ → Option Piece
 numbered None = None
@@ -73,31 +91,36 @@ operand_of wanted w = if nat_lt 0 wanted.operands && is_operand w then Some (ope
 abbrev pub piece_of : Wanted → Word → Option Piece
 piece_of wanted w =
     if wanted.number then numbered (steps_of w)
-    else (if is_option wanted w then Some option else operand_of wanted w)
+    else (if is_option wanted w then Some option
+    else (if is_stats wanted w then Some stats else operand_of wanted w))
 
 -- how many operands it gives
 abbrev pub operands_in : Piece → ℕ
 operands_in (operand w) = 1
 operands_in option = 0
 operands_in (number n) = 0
+operands_in stats = 0
 
 -- the number of steps that it gives
 abbrev pub steps_given : Piece → ℕ
 steps_given (operand w) = 0
 steps_given option = 0
 steps_given (number n) = n
+steps_given stats = 0
 
 -- what may come behind it
 abbrev pub behind : Piece → Wanted → Wanted
 behind (operand w) wanted = record wanted { operands = wanted.operands - 1 }
 behind option wanted = record wanted { steps = false; number = true }
 behind (number n) wanted = record wanted { number = false }
+behind stats wanted = record wanted { stats = false }
 
 -- what it gives, in front of what the words behind it give
 abbrev pub joined : Piece → Given → Given
 joined (operand w) given = record given { operands = w ∷ given.operands }
 joined option given = given
 joined (number n) given = record given { steps = n }
+joined stats given = given
 
 abbrev pub and_joined : Piece → Result Given ℕ → Result Given ℕ
 and_joined piece (Err place) = Err place
@@ -115,35 +138,46 @@ arguments wanted place (w ∷ words) =
 
 -- The operands that a command takes: one with a number of steps, one, or two. Words that end too early are bad at
 -- their end.
-abbrev pub one_stepped : (Word → ℕ → Order) → (end steps : ℕ) → List Word → Result Order ℕ
-one_stepped order end steps (a ∷ []) = Ok (order a steps)
+abbrev pub one_stepped : (Word → ℕ → Order) → (end steps : ℕ) → List Word → Result Asked ℕ
+one_stepped order end steps (a ∷ []) = Ok (of_file (order a steps))
 one_stepped order end steps other = Err end
 
-abbrev pub one_of : (Word → Order) → (end : ℕ) → List Word → Result Order ℕ
-one_of order end (a ∷ []) = Ok (order a)
+abbrev pub one_of : (Word → Order) → (end : ℕ) → List Word → Result Asked ℕ
+one_of order end (a ∷ []) = Ok (of_file (order a))
 one_of order end other = Err end
 
-abbrev pub two_of : (Word → Word → Order) → (end : ℕ) → List Word → Result Order ℕ
-two_of order end (a ∷ b ∷ []) = Ok (order a b)
+abbrev pub two_of : (Word → Word → Order) → (end : ℕ) → List Word → Result Asked ℕ
+two_of order end (a ∷ b ∷ []) = Ok (of_file (order a b))
 two_of order end other = Err end
 
-abbrev pub and_then : Result Given ℕ → (Given → Result Order ℕ) → Result Order ℕ
+abbrev pub and_then : Result Given ℕ → (Given → Result Asked ℕ) → Result Asked ℕ
 and_then (Err place) next = Err place
 and_then (Ok given) next = next given
 
-abbrev pub wanted : ℕ → Bool → Wanted
-wanted operands steps = record { operands = operands; steps = steps; number = false }
+-- what a command may have: so many operands, and both options where it runs a machine
+abbrev pub wanted : ℕ → (runs : Bool) → Wanted
+wanted operands runs = record { operands = operands; steps = runs; number = false; stats = runs }
 
 -- the words behind a command's name, of which the first has place 2; `end` is the number of all words
-abbrev pub stepped : (Word → ℕ → Order) → (end : ℕ) → List Word → Result Order ℕ
+abbrev pub stepped : (Word → ℕ → Order) → (end : ℕ) → List Word → Result Asked ℕ
 stepped order end words =
     and_then (arguments (wanted 1 true) 2 words) (λ given. one_stepped order end given.steps given.operands)
 
-abbrev pub single : (Word → Order) → (end : ℕ) → List Word → Result Order ℕ
+abbrev pub single : (Word → Order) → (end : ℕ) → List Word → Result Asked ℕ
 single order end words = and_then (arguments (wanted 1 false) 2 words) (λ given. one_of order end given.operands)
 
-abbrev pub double : (Word → Word → Order) → (end : ℕ) → List Word → Result Order ℕ
+abbrev pub double : (Word → Word → Order) → (end : ℕ) → List Word → Result Asked ℕ
 double order end words = and_then (arguments (wanted 2 false) 2 words) (λ given. two_of order end given.operands)
+
+-- the one word behind `gen`, which is a number
+abbrev pub alone : Option ℕ → List Word → Result Asked ℕ
+alone None words = Err 2
+alone (Some n) [] = Ok (gen n)
+alone (Some n) (w ∷ words) = Err 3
+
+abbrev pub source_behind : List Word → Result Asked ℕ
+source_behind [] = Err 2
+source_behind (w ∷ words) = alone (source_of w) words
 
 abbrev pub name_of : Word → Option Name
 name_of w =
@@ -151,30 +185,43 @@ name_of w =
     else (if bytes_eq w (codes "build") then Some name.Build
     else (if bytes_eq w (codes "exec") then Some name.Exec
     else (if bytes_eq w (codes "asm") then Some name.Asm
-    else (if bytes_eq w (codes "dis") then Some name.Dis else None))))
+    else (if bytes_eq w (codes "dis") then Some name.Dis
+    else (if bytes_eq w (codes "gen") then Some name.Gen else None)))))
 
-abbrev pub by_name : Option Name → (end : ℕ) → List Word → Result Order ℕ
+abbrev pub by_name : Option Name → (end : ℕ) → List Word → Result Asked ℕ
 by_name None end words = Err 1
 by_name (Some name.Run) end words = stepped run end words
 by_name (Some name.Build) end words = double build end words
 by_name (Some name.Exec) end words = stepped exec end words
 by_name (Some name.Asm) end words = double asm end words
 by_name (Some name.Dis) end words = single dis end words
+by_name (Some name.Gen) end words = source_behind words
 
 -- The command that the words give, or the place of the first word that can't continue one, which is the number of
 -- words where they end too early.
-abbrev pub order_of : List Word → Result Order ℕ
+abbrev pub order_of : List Word → Result Asked ℕ
 order_of [] = Err 0
 order_of (program ∷ []) = Err 1
 order_of (program ∷ w ∷ words) = by_name (name_of w) (2 + length words) words
 
+-- Whether words that are a command ask for the line of counts: the option stands behind the command's name. No operand
+-- and no number is spelled so.
+abbrev pub has_stats : List Word → Bool
+has_stats [] = false
+has_stats (w ∷ words) = bytes_eq w (codes "--stats") || has_stats words
+
+abbrev pub asks_counts : List Word → Bool
+asks_counts (program ∷ w ∷ words) = has_stats words
+asks_counts other = false
+
 -- a command of the code, by the bytes of its operands
-abbrev pub ordered : Command → Order
-ordered (code.Run file steps) = run file.now steps
-ordered (code.Build file image) = build file.now image.now
-ordered (code.Exec image steps) = exec image.now steps
-ordered (code.Asm file image) = asm file.now image.now
-ordered (code.Dis image) = dis image.now
+abbrev pub ordered : Command → Asked
+ordered (code.Run file steps) = of_file (run file.now steps)
+ordered (code.Build file image) = of_file (build file.now image.now)
+ordered (code.Exec image steps) = of_file (exec image.now steps)
+ordered (code.Asm file image) = of_file (asm file.now image.now)
+ordered (code.Dis image) = of_file (dis image.now)
+ordered (code.Gen n) = gen n
 
 -- the most instructions that a command of the code asks for
 abbrev pub steps_in : Command → ℕ
@@ -183,6 +230,7 @@ steps_in (code.Build file image) = 0
 steps_in (code.Exec image steps) = steps
 steps_in (code.Asm file image) = 0
 steps_in (code.Dis image) = 0
+steps_in (code.Gen n) = 0
 
 -- what the code read of words, by the bytes of the operands
 abbrev pub operands_of : Operands → List Word
@@ -197,6 +245,7 @@ abbrev pub piece_read : CodePiece → Piece
 piece_read (piece.Operand w) = operand w.now
 piece_read piece.Steps = option
 piece_read (piece.Number n) = number n
+piece_read piece.Stats = stats
 
 abbrev pub pieces_read : Option CodePiece → Option Piece
 pieces_read None = None

@@ -36,6 +36,8 @@ pub struct Wanted {
     pub steps: bool,
     /// The number of that option, right behind it.
     pub number: bool,
+    /// The option `--stats`.
+    pub stats: bool,
 }
 
 // An operand isn't empty and doesn't begin with a dash.
@@ -61,27 +63,27 @@ fn are_digits(word: &[u8]) -> bool
     !word.is_empty() && word.len() <= MOST_DIGITS && has_only_digits(word)
 }
 
-fn in_range(steps: u64) -> Option<u64>
-    ensures value { result ≡ spec.in_range steps }
-    ensures small { IfSome result (λ n. n ≤ 2 ^ 40) }
+fn in_range(number: u64, most: u64) -> Option<u64>
+    ensures value { result ≡ spec.in_range most number }
+    ensures small { IfSome result (λ n. n ≤ most) }
 {
-    if 0 < steps && steps <= MOST_STEPS {
-        Some(steps)
+    if 0 < number && number <= most {
+        Some(number)
     } else {
         None
     }
 }
 
-// The number of steps that a word is.
-fn steps_of(word: &str) -> Option<u64>
-    ensures value { result ≡ spec.steps_of word.now }
-    ensures small { IfSome result (λ n. n ≤ 2 ^ 40) }
+/// The number that a word is, from 1 up to the given one.
+pub fn number_of(word: &str, most: u64) -> Option<u64>
+    ensures value { result ≡ spec.number_of most word.now }
+    ensures small { IfSome result (λ n. n ≤ most) }
 {
     if !are_digits(word.as_bytes()) {
         return None;
     }
     match word.parse::<u64>() {
-        Ok(steps) => in_range(steps),
+        Ok(number) => in_range(number, most),
         Err(_) => None,
     }
 }
@@ -95,6 +97,8 @@ enum Piece<'a> {
     Steps,
     // The number of that option.
     Number(u64),
+    // The option `--stats`.
+    Stats,
 }
 
 fn piece_of(wanted: Wanted, word: &str) -> Option<Piece<'_>>
@@ -102,12 +106,14 @@ fn piece_of(wanted: Wanted, word: &str) -> Option<Piece<'_>>
     ensures small { IfSome result (λ p. spec.steps_given (spec.piece_read p) ≤ 2 ^ 40) }
 {
     if wanted.number {
-        match steps_of(word) {
+        match number_of(word, MOST_STEPS) {
             None => None,
             Some(steps) => Some(Piece::Number(steps)),
         }
     } else if wanted.steps && word == "--steps" {
         Some(Piece::Steps)
+    } else if wanted.stats && word == "--stats" {
+        Some(Piece::Stats)
     } else if wanted.operands > 0 && is_operand(word) {
         Some(Piece::Operand(word))
     } else {
@@ -131,6 +137,10 @@ fn behind(piece: Piece<'_>, wanted: Wanted) -> Wanted
         },
         Piece::Number(_) => Wanted {
             number: false,
+            ..wanted
+        },
+        Piece::Stats => Wanted {
+            stats: false,
             ..wanted
         },
     }
@@ -162,6 +172,7 @@ fn joined<'a>(piece: Piece<'a>, given: Given<'a>) -> Given<'a>
         },
         Piece::Steps => given,
         Piece::Number(steps) => Given { steps, ..given },
+        Piece::Stats => given,
     }
 }
 
@@ -186,5 +197,26 @@ pub fn arguments(wanted: Wanted, place: u64, words: &[String]) -> Result<Given<'
                 Ok(joined(piece, given))
             }
         },
+    }
+}
+
+// Whether the option `--stats` stands among the words behind a command's name.
+fn has_stats(words: &[String]) -> bool
+    ensures { result ≡ spec.has_stats (map string_bytes words.now) }
+{
+    match words {
+        [] => false,
+        [word, rest @ ..] => word.as_str() == "--stats" || has_stats(rest),
+    }
+}
+
+/// Whether the words, which are a command, ask for the line of counts.
+pub fn asks_counts(words: &[String]) -> bool
+    ensures { result ≡ spec.asks_counts (map string_bytes words.now) }
+{
+    match words {
+        [] => false,
+        [_] => false,
+        [_, _, rest @ ..] => has_stats(rest),
     }
 }

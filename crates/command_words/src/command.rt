@@ -2,7 +2,8 @@
 ghost use Rattle.std.specs.Prelude.{◌≡◌, ℕ, List, ◌+◌, ◌<◌, ◌^◌, Ok, Err, map, length, Some, ◌≤◌, IfOk, MatchResult, string_bytes};
 ghost use Rattle.command_words.specs.Orders as spec;
 
-use crate::arguments::{Given, Operands, Wanted, arguments};
+use crate::arguments::{Given, Operands, Wanted, arguments, number_of};
+use limits::text::LARGEST_SOURCE;
 
 /// A command, with its operands.
 #[derive(Clone, Copy, Debug, Drop)]
@@ -17,15 +18,18 @@ pub enum Command<'a> {
     Asm(&'a str, &'a str),
     /// `dis IMAGE`: writes the assembly text of a saved image.
     Dis(&'a str),
+    /// `gen NUMBER`: writes the generated source with this number.
+    Gen(u32),
 }
 
-fn wanted(operands: u32, steps: bool) -> Wanted
-    ensures { result ≡ spec.wanted operands steps }
+fn wanted(operands: u32, runs: bool) -> Wanted
+    ensures { result ≡ spec.wanted operands runs }
 {
     Wanted {
         operands,
-        steps,
+        steps: runs,
         number: false,
+        stats: runs,
     }
 }
 
@@ -33,7 +37,7 @@ fn wanted(operands: u32, steps: bool) -> Wanted
 fn stepped(words: &[String]) -> Result<(&str, u64), u64>
     requires { length words.now < 2 ^ 60 }
     ensures given { MatchResult result
-        (λ a. (order : List ℕ → ℕ → spec.Order) → spec.stepped order (2 + length words.now) (map string_bytes words.now) ≡ Ok (order a.0.now a.1))
+        (λ a. (order : List ℕ → ℕ → spec.Order) → spec.stepped order (2 + length words.now) (map string_bytes words.now) ≡ Ok (spec.of_file (order a.0.now a.1)))
         (λ place. (order : List ℕ → ℕ → spec.Order) → spec.stepped order (2 + length words.now) (map string_bytes words.now) ≡ Err place) }
     ensures steps { IfOk result (λ a. a.1 ≤ 2 ^ 40) }
 {
@@ -48,7 +52,7 @@ fn stepped(words: &[String]) -> Result<(&str, u64), u64>
 fn single(words: &[String]) -> Result<&str, u64>
     requires { length words.now < 2 ^ 60 }
     ensures { MatchResult result
-        (λ a. (order : List ℕ → spec.Order) → spec.single order (2 + length words.now) (map string_bytes words.now) ≡ Ok (order a.now))
+        (λ a. (order : List ℕ → spec.Order) → spec.single order (2 + length words.now) (map string_bytes words.now) ≡ Ok (spec.of_file (order a.now)))
         (λ place. (order : List ℕ → spec.Order) → spec.single order (2 + length words.now) (map string_bytes words.now) ≡ Err place) }
 {
     let given = arguments(wanted(1, false), 2, words)?;
@@ -62,13 +66,39 @@ fn single(words: &[String]) -> Result<&str, u64>
 fn double(words: &[String]) -> Result<(&str, &str), u64>
     requires { length words.now < 2 ^ 60 }
     ensures { MatchResult result
-        (λ a. (order : List ℕ → List ℕ → spec.Order) → spec.double order (2 + length words.now) (map string_bytes words.now) ≡ Ok (order a.0.now a.1.now))
+        (λ a. (order : List ℕ → List ℕ → spec.Order) → spec.double order (2 + length words.now) (map string_bytes words.now) ≡ Ok (spec.of_file (order a.0.now a.1.now)))
         (λ place. (order : List ℕ → List ℕ → spec.Order) → spec.double order (2 + length words.now) (map string_bytes words.now) ≡ Err place) }
 {
     let given = arguments(wanted(2, false), 2, words)?;
     match given.operands {
         Operands::Two(first, second) => Ok((first, second)),
         _ => Err(2 + words.len() as u64),
+    }
+}
+
+// The number of a generated source that a word is.
+fn source_of(word: &str) -> Option<u32>
+    ensures { result ≡ spec.source_of word.now }
+{
+    match number_of(word, LARGEST_SOURCE) {
+        None => None,
+        Some(number) => Some(number as u32),
+    }
+}
+
+// The number of `gen`.
+fn source_behind(words: &[String]) -> Result<u32, u64>
+    ensures { MatchResult result (λ n. spec.source_behind (map string_bytes words.now) ≡ Ok (spec.gen n)) (λ place. spec.source_behind (map string_bytes words.now) ≡ Err place) }
+{
+    match words {
+        [] => Err(2),
+        [word, rest @ ..] => match source_of(word.as_str()) {
+            None => Err(2),
+            Some(number) => match rest {
+                [] => Ok(number),
+                [_, ..] => Err(3),
+            },
+        },
     }
 }
 
@@ -80,6 +110,7 @@ enum Name {
     Exec,
     Asm,
     Dis,
+    Gen,
 }
 
 fn name_of(word: &str) -> Option<Name>
@@ -91,6 +122,7 @@ fn name_of(word: &str) -> Option<Name>
         "exec" => Some(Name::Exec),
         "asm" => Some(Name::Asm),
         "dis" => Some(Name::Dis),
+        "gen" => Some(Name::Gen),
         _ => None,
     }
 }
@@ -121,6 +153,10 @@ fn by_name(name: Name, words: &[String]) -> Result<Command<'_>, u64>
         Name::Dis => {
             let image = single(words)?;
             Ok(Command::Dis(image))
+        }
+        Name::Gen => {
+            let number = source_behind(words)?;
+            Ok(Command::Gen(number))
         }
     }
 }

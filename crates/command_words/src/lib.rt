@@ -4,6 +4,7 @@
 mod arguments;
 mod command;
 
+pub use arguments::asks_counts;
 pub use command::{Command, command_of};
 
 /// The most digits of a number.

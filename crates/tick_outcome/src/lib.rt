@@ -1,8 +1,10 @@
 //! How a call of `tick` ended, and what is said of it: the exit status, and a line on standard error.
 #![tactic(auto)]
 
+mod counts;
 mod outcome;
 mod report;
 
+pub use counts::{counts_end, counts_front};
 pub use outcome::{Outcome, status};
 pub use report::line_of;

@@ -136,12 +136,12 @@ unsaid_shows n image choices left later taken told status s = record {
   };
 }
 
-pub shows_reported : (n : ℕ) (image : ImageParts) (choices : List ℕ)
+pub shows_reported : (text : List ℕ) (n : ℕ) (image : ImageParts) (choices : List ℕ)
     (left later taken told said said' : Option (List ℕ)) (first last : Outcome) (old new : ℕ)
-    → Reports first last said said' old new → ShowsRun n image choices left later taken told first →
+    → Reports text first last said said' old new → ShowsRun n image choices left later taken told first →
     ShowsRun n image choices left later taken told last
-shows_reported n image choices left later taken told said said' first last old new reports s =
-    by (reported first last said said' old new reports)
+shows_reported text n image choices left later taken told said said' first last old new reports s =
+    by (reported text first last said said' old new reports)
   where
     by : (last ≡ first) ⊎ ((status : ℕ) × (first ≡ outcome.Done status) × (last ≡ outcome.WriteFault)) →
         ShowsRun n image choices left later taken told last

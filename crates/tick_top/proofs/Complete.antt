@@ -1,6 +1,7 @@
 -- Where nothing outside failed, a command whose file isn't refused is done.
 use Rattle.std.proofs.Common.{◌≡◌, ◌≢◌, ◌⊎◌, inl, inr, ℕ, ◌+◌, ◌<◌, ◌≤◌, false, arith, lt-ltb, List, length, take}
 use Rattle.std.proofs.Common.{Option, Some, None, Result, Ok, nat_lt, refl, sym, ap, ◌∙◌, subst}
+use Rattle.std.specs.Io.KnownBytes.{Appends}
 use Rattle.std.proofs.lemmas.Bool.{false≢true, cases_lt}
 use Rattle.std.proofs.lemmas.List.{take_all}
 use Rattle.host_edge.specs.Files.{Loads}
@@ -12,13 +13,16 @@ use Rattle.staged_meaning.specs.Meaning.{Program, meant}
 use Rattle.static_image.specs.Headline.{Headline}
 use Rattle.tick_tree.specs.declared.fault.Fault.{Fault}
 use Rattle.tick_build.specs.Texts.{typed}
-use Rattle.command_words.specs.Orders.{Order, run, build, exec, asm, dis, order_of}
+use Rattle.tick_gen.specs.Source.{source}
+use Rattle.command_words.specs.Orders.{Order, run, build, exec, asm, dis, of_file, gen, order_of}
 use Rattle.tick_outcome.specs.declared.outcome.Outcome.{Outcome}
 use Rattle.tick_outcome.specs.declared.outcome.Outcome.TheVariants as outcome
 use Rattle.tick_top.specs.declared.ended.Ended as code
 use Rattle.tick_top.specs.Outside.{Files, Outside, Failures}
 use Rattle.tick_top.specs.Answers.{longest_text}
 use Rattle.tick_top.specs.Does.{SavedAt, Cause}
+use Rattle.tick_top.specs.Generated.{PrintsSource}
+use Rattle.tick_top.specs.Said.{said}
 use Rattle.tick_top.specs.Top.{Reports, Ticked}
 use Rattle.tick_top.specs.Seen.{EndsBehind, outcome_at, Moves, ShowsRun}
 use Rattle.tick_top.specs.Rows.{file_of, longest_of, refusal, most_steps}
@@ -29,10 +33,11 @@ use Rattle.tick_top.proofs.Calls.{IsDone, shows, input_ends}
 use Rattle.tick_top.proofs.Endings.{order_shows}
 use Rattle.tick_top.proofs.Meant.{in_time}
 use Rattle.tick_top.proofs.Outcomes.{seen_whole}
-use Rattle.tick_top.proofs.Rows.{performed, refused_front}
+use Rattle.tick_top.proofs.Rows.{fulfilled, performed, refused_front}
 
-module _ (words : List (List ℕ)) (old new : Outside) (before now : Failures) (taken said : Option (List ℕ))
-    (err_before err_now : ℕ) (e : code.Ended) (did : Ticked words old new before now taken said err_before err_now e)
+module _ (words : List (List ℕ)) (old new : Outside) (before now : Failures) (taken told_err : Option (List ℕ))
+    (err_before err_now : ℕ) (e : code.Ended)
+    (did : Ticked words old new before now taken told_err err_before err_now e)
     (fine : Unfailed before now err_before err_now) where
   abbrev first : Outcome
   first = did.0
@@ -44,7 +49,8 @@ module _ (words : List (List ℕ)) (old new : Outside) (before now : Failures) (
   said_first : e.outcome ≡ first
   said_first = by did.3
     where
-      by : Reports first e.outcome taken said err_before err_now → e.outcome ≡ first
+      by : Reports (said words at_first) first e.outcome taken told_err err_before err_now →
+          e.outcome ≡ first
       by (inl r) = r.0
       by (inr r) = absurd (fine.err r.2)
 
@@ -64,9 +70,20 @@ module _ (words : List (List ℕ)) (old new : Outside) (before now : Failures) (
   no_write_fault : first ≢ outcome.WriteFault
   no_write_fault is = fine.out (caused outcome.WriteFault is)
 
+  -- ---- a generated source
+
+  pub generates : (number : ℕ) → order_of words ≡ Ok (gen number) →
+      (e.outcome ≡ outcome.Done 0) × Appends old.taken new.taken (source number)
+  generates number ordered = by (fulfilled words old new at_first (gen number) ordered did.1).0.1
+    where
+      by : PrintsSource number old.taken new.taken at_first →
+          (e.outcome ≡ outcome.Done 0) × Appends old.taken new.taken (source number)
+      by (inl p) = (said_first ∙ p.0.outcome, p.1)
+      by (inr p) = absurd (no_write_fault p.0.outcome)
+
   -- ---- a told file that isn't refused
 
-  module _ (order : Order) (file : List ℕ) (ordered : order_of words ≡ Ok order)
+  module _ (order : Order) (file : List ℕ) (ordered : order_of words ≡ Ok (of_file order))
       (is_told : old.file (file_of order) ≡ Some (Some file)) (accepted : refusal order file ≡ None) where
     loaded : (bytes : List ℕ) → Loads (old.file (file_of order)) (longest_of order + 1) bytes →
         bytes ≡ take (longest_of order + 1) file
@@ -137,7 +154,7 @@ module _ (words : List (List ℕ)) (old new : Outside) (before now : Failures) (
   one_program r a b p q = cc
 
   pub completes : (file text : List ℕ) (steps : ℕ) (program : Program) (bytes : List ℕ) (units : ℕ) (end : Ending)
-      → order_of words ≡ Ok (run file steps) → old.file file ≡ Some (Some text) →
+      → order_of words ≡ Ok (of_file (run file steps)) → old.file file ≡ Some (Some text) →
       nat_lt longest_text (length text) ≡ false → typed text ≡ Ok program
       → old.left ≡ Some bytes → (meant program (told bytes) units).ending ≡ Some (Ended end) → allowed units ≤ steps
       → (e.outcome ≡ outcome_at steps (Some (Ended end))) ×

@@ -5,12 +5,14 @@ use Rattle.host_edge.specs.declared.ending.MachineKind.{MachineKind}
 use Rattle.history.specs.Events.{End}
 use Rattle.image_file.specs.Image.{ImageParts}
 use Rattle.mips_model.specs.Run.{runs}
-use Rattle.command_words.specs.Orders.{Order, run, build, exec, asm, dis, order_of}
+use Rattle.command_words.specs.Orders.{Order, run, build, exec, asm, dis, Asked, of_file, gen, order_of}
 use Rattle.tick_outcome.specs.declared.outcome.Outcome.{Outcome}
 use Rattle.tick_outcome.specs.declared.outcome.Outcome.TheVariants as outcome
 use Rattle.tick_top.specs.declared.ended.Ended as code
 use Rattle.tick_top.specs.Outside.{Files, Outside, Failures}
-use Rattle.tick_top.specs.Does.{Does, Answered, IsOfCommand, SavedAt}
+use Rattle.tick_top.specs.Does.{Answered, IsOfCommand, SavedAt}
+use Rattle.tick_top.specs.Generated.{PrintsSource, Fulfils}
+use Rattle.tick_top.specs.Said.{said}
 use Rattle.tick_top.specs.Top.{Ticked}
 use Rattle.tick_top.specs.Seen.{IsInput, outcome_at, ShowsRun}
 use Rattle.tick_top.specs.Rows.{most_steps, RunEnds, IsOfEnding, Executes}
@@ -56,6 +58,11 @@ saved_ends : {A : Type 0} (path bytes : List ℕ) (old new : Files) (e : code.En
 saved_ends path bytes old new e is (inl s) = no_ending is s.0.outcome refl
 saved_ends path bytes old new e is (inr s) = no_ending is s.0.outcome refl
 
+source_ends : {A : Type 0} (n : ℕ) (taken told : Option (List ℕ)) (e : code.Ended) →
+    is_ending e.outcome ≡ true → PrintsSource n taken told e → A
+source_ends n taken told e is (inl p) = no_ending is p.0.outcome refl
+source_ends n taken told e is (inr p) = no_ending is p.0.outcome refl
+
 -- only an order that runs a machine comes to an ending
 order_runs : (order : Order) (old new : Outside) (e : code.Ended) (bytes : List ℕ) → is_ending e.outcome ≡ true →
     Performed order old new e bytes
@@ -73,7 +80,7 @@ order_runs (dis file) old new e bytes is (image, read, inr p) = no_ending is p.0
 
 record IsMachineCall (words : List (List ℕ)) (old new : Outside) (e : code.Ended) : Type 0 where
   order : Order
-  ordered : order_of words ≡ Ok order
+  ordered : order_of words ≡ Ok (of_file order)
   steps : ℕ
   most : most_steps order ≡ Some steps
   shown : IsShown steps old new e
@@ -87,8 +94,11 @@ module _ (words : List (List ℕ)) (old new : Outside) (before now : Failures) (
     abbrev at_first : code.Ended
     at_first = record e { outcome = first }
 
+    abbrev text : List ℕ
+    text = said words at_first
+
     by_reported : (P : Outcome → Type 0) → P first → P outcome.WriteFault → P e.outcome
-    by_reported P a b = by (reported first e.outcome taken told err_before err_now did.3)
+    by_reported P a b = by (reported text first e.outcome taken told err_before err_now did.3)
       where
         by : (e.outcome ≡ first) ⊎ ((status : ℕ) × (first ≡ outcome.Done status) × (e.outcome ≡ outcome.WriteFault)) →
             P e.outcome
@@ -96,14 +106,14 @@ module _ (words : List (List ℕ)) (old new : Outside) (before now : Failures) (
         by (inr (status, done, fault)) = subst P (sym fault) b
 
     -- the run of the image that is handed back
-    pub machine_call : (order : Order) (steps : ℕ) (image : ImageParts) → order_of words ≡ Ok order →
+    pub machine_call : (order : Order) (steps : ℕ) (image : ImageParts) → order_of words ≡ Ok (of_file order) →
         most_steps order ≡ Some steps → e.image ≡ Some image
         → ShowsRun steps image e.choices.items old.left new.left old.taken new.taken e.outcome
     machine_call order steps image ordered most handed =
         let d = is_done order old new at_first (run_by_image at_first image handed)
         (performed words old new at_first order ordered did.1) in
         let s = order_shows order steps old new at_first d.bytes most d.done in
-        shows_reported steps image e.choices.items old.left new.left old.taken new.taken taken told first e.outcome
+        shows_reported text steps image e.choices.items old.left new.left old.taken new.taken taken told first e.outcome
         err_before err_now did.3
         (subst (λ i. ShowsRun steps i e.choices.items old.left new.left old.taken new.taken first)
         (one_image s.image s.handed_back) s.shown)
@@ -118,7 +128,7 @@ module _ (words : List (List ℕ)) (old new : Outside) (before now : Failures) (
     ending_call : is_ending first ≡ true → IsMachineCall words old new at_first
     ending_call is = by (order_of words) refl did.1
       where
-        of_order : (order : Order) → order_of words ≡ Ok order → IsMachineCall words old new at_first
+        of_order : (order : Order) → order_of words ≡ Ok (of_file order) → IsMachineCall words old new at_first
         of_order order ordered =
             let d = is_done order old new at_first (run_by_outcome at_first (ending_machine first is))
             (performed words old new at_first order ordered did.1) in
@@ -132,11 +142,12 @@ module _ (words : List (List ℕ)) (old new : Outside) (before now : Failures) (
                   order_shows order m.0 old new at_first d.bytes m.1 d.done;
             }
 
-        by : (r : Result Order ℕ) → order_of words ≡ r
-            → MatchResult r (λ order. Does order old new at_first × IsOfCommand first)
+        by : (r : Result Asked ℕ) → order_of words ≡ r
+            → MatchResult r (λ asked. Fulfils asked old new at_first × IsOfCommand first)
             (λ place. Answered old new at_first (outcome.BadWords place))
             → IsMachineCall words old new at_first
-        by (Ok order) ordered p = of_order order ordered
+        by (Ok (of_file order)) ordered p = of_order order ordered
+        by (Ok (gen n)) ordered p = source_ends n old.taken new.taken at_first is p.0.1
         by (Err place) ordered a = no_ending is a.0.outcome refl
 
     module _ (o : ℕ → Outcome) (end : Option End) (agrees : (n : ℕ) → o n ≡ outcome_at n end)
@@ -144,7 +155,7 @@ module _ (words : List (List ℕ)) (old new : Outside) (before now : Failures) (
       only_ends : (n : ℕ) → e.outcome ≡ o n → (steps : ℕ) × (o steps ≡ o n) × RunEnds words old new e steps end
       only_ends n same =
           let other : e.outcome ≢ outcome.WriteFault = λ w. no_ending (is n) (sym same ∙ w) refl in
-          let is_first = stays first e.outcome taken told err_before err_now did.3 other in
+          let is_first = stays text first e.outcome taken told err_before err_now did.3 other in
           let c = ending_call (subst (λ x. is_ending x ≡ true) (sym same ∙ is_first) (is n)) in
           let s = c.shown in
           let whole = seen_whole c.steps old.left new.left old.taken new.taken first
@@ -183,15 +194,15 @@ module _ (words : List (List ℕ)) (old new : Outside) (before now : Failures) (
       ending_row = record { only = only_ends; always = always_ends }
 
     -- what `run` tells of the meaning
-    pub run_means : (file : List ℕ) (steps : ℕ) (o : Outcome) → order_of words ≡ Ok (run file steps) → e.outcome ≡ o →
-        is_of_machine o ≡ true → RunIsMeant file steps old new o
+    pub run_means : (file : List ℕ) (steps : ℕ) (o : Outcome) → order_of words ≡ Ok (of_file (run file steps)) →
+        e.outcome ≡ o → is_of_machine o ≡ true → RunIsMeant file steps old new o
     run_means file steps o ordered same machine =
         let d = is_done (run file steps) old new at_first (run_by_outcome at_first first_machine)
         (performed words old new at_first (run file steps) ordered did.1) in
         let r = d.done.2 in
         let s = subst (ShowsRun steps r.image e.choices.items old.left new.left old.taken new.taken) same
-        (shows_reported steps r.image e.choices.items old.left new.left old.taken new.taken taken told first e.outcome
-        err_before err_now did.3
+        (shows_reported text steps r.image e.choices.items old.left new.left old.taken new.taken taken told first
+        e.outcome err_before err_now did.3
         (shows steps old new at_first r.image r.runs)) in
         record {
           text = d.bytes;
@@ -205,7 +216,7 @@ module _ (words : List (List ℕ)) (old new : Outside) (before now : Failures) (
         }
       where
         first_machine : is_of_machine first ≡ true
-        first_machine = by (reported first e.outcome taken told err_before err_now did.3)
+        first_machine = by (reported text first e.outcome taken told err_before err_now did.3)
           where
             by : (e.outcome ≡ first) ⊎ ((status : ℕ) × (first ≡ outcome.Done status) × (e.outcome ≡ outcome.WriteFault)) →
                 is_of_machine first ≡ true
@@ -215,12 +226,13 @@ module _ (words : List (List ℕ)) (old new : Outside) (before now : Failures) (
     -- a fault of the machine comes of `exec` alone
     pub fault_of_exec : (kind : MachineKind) (at : ℕ) → e.outcome ≡ outcome.MachineFault kind at → Executes words
     fault_of_exec kind at same =
-        let is_first = stays first e.outcome taken told err_before err_now did.3
+        let is_first = stays text first e.outcome taken told err_before err_now did.3
         (λ w. no_ending {o = outcome.MachineFault kind at} refl (sym same ∙ w) refl) in
         let c = ending_call (ap is_ending (sym is_first ∙ same)) in
         by c.order c.ordered c.steps c.most
       where
-        by : (order : Order) → order_of words ≡ Ok order → (steps : ℕ) → most_steps order ≡ Some steps → Executes words
+        by : (order : Order) → order_of words ≡ Ok (of_file order) → (steps : ℕ) → most_steps order ≡ Some steps →
+            Executes words
         by (exec file n) ordered steps most = (file, n, ordered)
         by (run file n) ordered steps most =
             absurd (run_means file n (outcome.MachineFault kind at) ordered same refl).tells

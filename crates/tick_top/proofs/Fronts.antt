@@ -1,6 +1,7 @@
 -- From what came of a file to what a command did with it.
 use Rattle.std.proofs.Common.{◌≡◌, ℕ, ◌+◌, List, length, Option, Result, Ok, Err, IfOk, nat_lt, inl, inr, false, subst}
 use Rattle.std.proofs.Common.{sym}
+use Rattle.std.specs.Io.KnownBytes.{Keeps}
 use Rattle.host_edge.specs.Files.{Loads}
 use Rattle.image_file.specs.Image.{ImageParts}
 use Rattle.mips_text.specs.Assembly.{assembled}
@@ -10,11 +11,12 @@ use Rattle.tick_outcome.specs.declared.outcome.Outcome.{Outcome}
 use Rattle.tick_outcome.specs.declared.outcome.Outcome.TheVariants as outcome
 use Rattle.tick_top.specs.declared.ended.Front.TheVariants.{Found, Instead}
 use Rattle.tick_top.specs.declared.ended.Ended.{Ended}
-use Rattle.command_words.specs.Orders.{Order, build}
+use Rattle.command_words.specs.Orders.{Asked, of_file, gen, build}
 use Rattle.tick_top.specs.Outside.{Files, Outside, Still, SameFiles}
 use Rattle.tick_top.specs.Answers.{IsFront, longest_text, IsBuilt, IsRefused, IsAssembled, IsAsmRefused}
 use Rattle.tick_top.specs.Does.{WithFile, WithProgram, WithAssembled, Unsaved, SavesImage, SavesProgram, AssemblesFile}
-use Rattle.tick_top.specs.Does.{BuildsFile, Does}
+use Rattle.tick_top.specs.Does.{BuildsFile}
+use Rattle.tick_top.specs.Generated.{PrintsSource, Fulfils}
 use Rattle.tick_top.proofs.Saved.{saves_on}
 
 pub if_ok : {T E : Type 0} {P Q : T → Type 0} (r : Result T E) → ((x : T) → P x → Q x) → IfOk r P → IfOk r Q
@@ -115,8 +117,15 @@ module _ (file path : List ℕ) (old new : Files) (e : Ended) where
   builds_nothing outcome.SaveFault a f = refuses outcome.SaveFault a f
 
 -- what the order to build does, where nothing was read or written
-pub ordered_build : {F : Type 0} (file path : List ℕ) (order : Order) (old new : Outside) (r : Result Ended F) →
-    order ≡ build file path → Still old new
-    → IfOk r (BuildsFile file path old.file new.file) → IfOk r (Does order old new)
-ordered_build file path order old new r is still h =
-    subst (λ o. IfOk r (Does o old new)) (sym is) (if_ok r (λ e b. (still, b)) h)
+pub ordered_build : {F : Type 0} (file path : List ℕ) (asked : Asked) (old new : Outside) (r : Result Ended F) →
+    asked ≡ of_file (build file path) → Still old new
+    → IfOk r (BuildsFile file path old.file new.file) → IfOk r (Fulfils asked old new)
+ordered_build file path asked old new r is still h =
+    subst (λ o. IfOk r (Fulfils o old new)) (sym is) (if_ok r (λ e b. (still, b)) h)
+
+-- what `gen` does, where no file was saved and nothing read
+pub asked_source : {F : Type 0} (n : ℕ) (asked : Asked) (old new : Outside) (r : Result Ended F) → asked ≡ gen n
+    → SameFiles old.file new.file → Keeps old.left new.left → IfOk r (PrintsSource n old.taken new.taken)
+    → IfOk r (Fulfils asked old new)
+asked_source n asked old new r is same kept h =
+    subst (λ o. IfOk r (Fulfils o old new)) (sym is) (if_ok r (λ e p. ((same, kept), p)) h)

@@ -9,3 +9,4 @@ pub mod Calls
 pub mod Endings
 pub mod Complete
 pub mod Stated
+pub mod Spoken

@@ -160,20 +160,20 @@ unsaid_is outcome.ReadFault = inl refl
 unsaid_is outcome.SaveFault = inl refl
 
 -- the outcome that is reported is the first one, but where standard error failed after Done
-pub reported : (first last : Outcome) (taken told : Option (List ℕ)) (old new : ℕ) →
-    Reports first last taken told old new
+pub reported : (text : List ℕ) (first last : Outcome) (taken told : Option (List ℕ)) (old new : ℕ) →
+    Reports text first last taken told old new
     → (last ≡ first) ⊎ ((status : ℕ) × (first ≡ outcome.Done status) × (last ≡ outcome.WriteFault))
-reported first last taken told old new (inl r) = inl r.0
-reported first last taken told old new (inr r) = by (unsaid_is first)
+reported text first last taken told old new (inl r) = inl r.0
+reported text first last taken told old new (inr r) = by (unsaid_is first)
   where
     by : (unsaid first ≡ first) ⊎ ((status : ℕ) × (first ≡ outcome.Done status)) →
         (last ≡ first) ⊎ ((status : ℕ) × (first ≡ outcome.Done status) × (last ≡ outcome.WriteFault))
     by (inl same) = inl (r.0 ∙ same)
     by (inr d) = inr (d.0, d.1, r.0 ∙ ap unsaid d.1)
 
-pub stays : (first last : Outcome) (taken told : Option (List ℕ)) (old new : ℕ) →
-    Reports first last taken told old new → last ≢ outcome.WriteFault → last ≡ first
-stays first last taken told old new r other = by (reported first last taken told old new r)
+pub stays : (text : List ℕ) (first last : Outcome) (taken told : Option (List ℕ)) (old new : ℕ) →
+    Reports text first last taken told old new → last ≢ outcome.WriteFault → last ≡ first
+stays text first last taken told old new r other = by (reported text first last taken told old new r)
   where
     by : (last ≡ first) ⊎ ((status : ℕ) × (first ≡ outcome.Done status) × (last ≡ outcome.WriteFault)) → last ≡ first
     by (inl same) = same

@@ -5,12 +5,14 @@ use Rattle.std.proofs.Common.{◌∙◌, subst, arith}
 use Rattle.std.proofs.lemmas.List.{length-take-le, take_all}
 use Rattle.std.proofs.lemmas.Bool.{cases_lt}
 use Rattle.host_edge.specs.Files.{Loads}
-use Rattle.command_words.specs.Orders.{Order, run, build, exec, asm, dis, order_of}
+use Rattle.command_words.specs.Orders.{Order, run, build, exec, asm, dis, Asked, of_file, gen, order_of}
 use Rattle.tick_outcome.specs.declared.outcome.Outcome.{Outcome}
 use Rattle.tick_outcome.specs.declared.outcome.Outcome.TheVariants as outcome
 use Rattle.tick_top.specs.declared.ended.Ended.{Ended}
 use Rattle.tick_top.specs.Outside.{Files, Outside, Failures}
-use Rattle.tick_top.specs.Does.{Does, Answered, IsOfCommand, SavedAt}
+use Rattle.tick_top.specs.Does.{Answered, IsOfCommand, SavedAt}
+use Rattle.tick_top.specs.Generated.{PrintsSource, Fulfils}
+use Rattle.tick_top.specs.Said.{said}
 use Rattle.tick_top.specs.Top.{Performs, Ticked}
 use Rattle.tick_top.specs.Rows.{file_of, longest_of, content_refusal, refusal, Refuses, IsRefusal}
 use Rattle.tick_top.proofs.Outcomes.{is_refusal, no_refusal, stop_refuses, reported, stays}
@@ -19,18 +21,26 @@ use Rattle.tick_top.proofs.Came.{Performed, Taken, Came, came}
 pub one_order : {A B : Type 0} (r : Result A B) (a b : A) → r ≡ Ok a → r ≡ Ok b → a ≡ b
 one_order r a b p q = cc
 
--- what came of an order that the words give
-pub performed : (words : List (List ℕ)) (old new : Outside) (e : Ended) (order : Order) → order_of words ≡ Ok order →
-    Performs words old new e → Came order old new e
-performed words old new e order is p = came order old new e (rewritten (order_of words) is p).0
+one_file : (a b : Order) → ◌≡◌ {A = Asked} (of_file a) (of_file b) → a ≡ b
+one_file a b q = cc
+
+-- what the words ask for was done
+pub fulfilled : (words : List (List ℕ)) (old new : Outside) (e : Ended) (asked : Asked) → order_of words ≡ Ok asked →
+    Performs words old new e → Fulfils asked old new e × IsOfCommand e.outcome
+fulfilled words old new e asked is p = rewritten (order_of words) is p
   where
-    rewritten : (r : Result Order ℕ) → r ≡ Ok order
-        → MatchResult r (λ order. Does order old new e × IsOfCommand e.outcome)
+    rewritten : (r : Result Asked ℕ) → r ≡ Ok asked
+        → MatchResult r (λ asked. Fulfils asked old new e × IsOfCommand e.outcome)
         (λ place. Answered old new e (outcome.BadWords place))
-        → Does order old new e × IsOfCommand e.outcome
+        → Fulfils asked old new e × IsOfCommand e.outcome
     rewritten (Ok other) q m =
-        subst (λ o. Does o old new e × IsOfCommand e.outcome) (one_order (Ok other) other order refl q) m
+        subst (λ o. Fulfils o old new e × IsOfCommand e.outcome) (one_order (Ok other) other asked refl q) m
     rewritten (Err place) q m = absurd cc
+
+-- what came of an order that the words give
+pub performed : (words : List (List ℕ)) (old new : Outside) (e : Ended) (order : Order) →
+    order_of words ≡ Ok (of_file order) → Performs words old new e → Came order old new e
+performed words old new e order is p = came order old new e (fulfilled words old new e (of_file order) is p).0
 
 -- an order that is done refuses nothing
 saved_refuses : (path bytes : List ℕ) (old new : Files) (e : Ended) → SavedAt path bytes old new e →
@@ -48,6 +58,12 @@ done_refuses (build file path) old new e bytes (program, is, s) =
 done_refuses (asm file path) old new e bytes (image, is, s) = saved_refuses path s.bytes old.file new.file e s.saved
 done_refuses (dis file) old new e bytes (image, is, inl p) = ap is_refusal p.0.outcome
 done_refuses (dis file) old new e bytes (image, is, inr p) = ap is_refusal p.0.outcome
+
+-- nor does `gen`
+source_refuses : (n : ℕ) (taken told : Option (List ℕ)) (e : Ended) → PrintsSource n taken told e →
+    is_refusal e.outcome ≡ false
+source_refuses n taken told e (inl p) = ap is_refusal p.0.outcome
+source_refuses n taken told e (inr p) = ap is_refusal p.0.outcome
 
 -- ---- the first bytes of a file are refused as the whole
 
@@ -75,7 +91,7 @@ module _ (words : List (List ℕ)) (old new : Outside) (e : Ended) (last o : Out
   only_bad : (place : ℕ) → Answered old new e (outcome.BadWords place) → e.outcome ≡ o → Refuses words old.file o
   only_bad place a same = no_refusal is (sym same ∙ a.0.outcome) refl
 
-  only_came : (order : Order) → order_of words ≡ Ok order → Came order old new e → e.outcome ≡ o →
+  only_came : (order : Order) → order_of words ≡ Ok (of_file order) → Came order old new e → e.outcome ≡ o →
       Refuses words old.file o
   only_came order ordered (inl failed) same = no_refusal is (sym same ∙ failed.outcome) refl
   only_came order ordered (inr (bytes, loads, inl (found, at_bytes, bare))) same =
@@ -90,19 +106,23 @@ module _ (words : List (List ℕ)) (old new : Outside) (e : Ended) (last o : Out
   only_came order ordered (inr (bytes, loads, inr (fine, d))) same =
       no_refusal is (sym same) (done_refuses order old new e bytes d)
 
-  only_first : (r : Result Order ℕ) → order_of words ≡ r → Performs words old new e → e.outcome ≡ o →
+  only_first : (r : Result Asked ℕ) → order_of words ≡ r → Performs words old new e → e.outcome ≡ o →
       Refuses words old.file o
-  only_first (Ok order) ordered p same = only_came order ordered (performed words old new e order ordered p) same
+  only_first (Ok (of_file order)) ordered p same =
+      only_came order ordered (performed words old new e order ordered p) same
+  only_first (Ok (gen n)) ordered p same =
+      no_refusal is (sym same)
+      (source_refuses n old.taken new.taken e (fulfilled words old new e (gen n) ordered p).0.1)
   only_first (Err place) ordered p same = only_bad place (rewritten (order_of words) ordered p) same
     where
-      rewritten : (r : Result Order ℕ) → r ≡ Err place
-          → MatchResult r (λ order. Does order old new e × IsOfCommand e.outcome)
+      rewritten : (r : Result Asked ℕ) → r ≡ Err place
+          → MatchResult r (λ asked. Fulfils asked old new e × IsOfCommand e.outcome)
           (λ place. Answered old new e (outcome.BadWords place))
           → Answered old new e (outcome.BadWords place)
       rewritten (Ok other) q m = absurd cc
       rewritten (Err other) q m = subst (λ p. Answered old new e (outcome.BadWords p)) (err_is other q) m
         where
-          err_is : (other : ℕ) → ◌≡◌ {A = Result Order ℕ} (Err other) (Err place) → other ≡ place
+          err_is : (other : ℕ) → ◌≡◌ {A = Result Asked ℕ} (Err other) (Err place) → other ≡ place
           err_is other q = cc
 
   comes : (order : Order) (file : List ℕ) → old.file (file_of order) ≡ Some (Some file) → Came order old new e →
@@ -128,11 +148,12 @@ module _ (words : List (List ℕ)) (old new : Outside) (e : Ended) (last o : Out
           none_is q = cc
 
   -- the refusal of a told file
-  told_refusal : (order : Order) (file : List ℕ) → order_of words ≡ Ok order →
+  told_refusal : (order : Order) (file : List ℕ) → order_of words ≡ Ok (of_file order) →
       old.file (file_of order) ≡ Some (Some file)
       → Refuses words old.file o → refusal order file ≡ Some o
   told_refusal order file ordered told r =
-      let same = one_order (order_of words) r.order order r.ordered ordered in
+      let same = one_file r.order order
+      (one_order (order_of words) (of_file r.order) (of_file order) r.ordered ordered) in
       let loads = subst (λ t. Loads t (longest_of order + 1) r.bytes) told
       (subst (λ k. Loads (old.file (file_of k)) (longest_of k + 1) r.bytes) same r.loads) in
       sym (refused_front order file) ∙ ap (refusal order) (sym loads) ∙ ap (λ k. refusal k r.bytes) (sym same) ∙
@@ -147,11 +168,14 @@ module _ (words : List (List ℕ)) (old new : Outside) (before now : Failures) (
   abbrev pub at_first : Ended
   at_first = record e { outcome = first }
 
+  abbrev pub text : List ℕ
+  text = said words at_first
+
   pub is_first : e.outcome ≢ outcome.WriteFault → e.outcome ≡ first
-  is_first = stays first e.outcome taken told err_before err_now did.3
+  is_first = stays text first e.outcome taken told err_before err_now did.3
 
   first_refusal : (o : Outcome) → is_refusal o ≡ true → first ≡ o → e.outcome ≡ o
-  first_refusal o r same = by (reported first e.outcome taken told err_before err_now did.3)
+  first_refusal o r same = by (reported text first e.outcome taken told err_before err_now did.3)
     where
       by : (e.outcome ≡ first) ⊎ ((status : ℕ) × (first ≡ outcome.Done status) × (e.outcome ≡ outcome.WriteFault)) →
           e.outcome ≡ o
@@ -162,7 +186,7 @@ module _ (words : List (List ℕ)) (old new : Outside) (before now : Failures) (
   last_refusal o r same = sym (is_first (λ w. no_refusal r (sym same ∙ w) refl)) ∙ same
 
   first_loaded : e.outcome ≢ outcome.LoadFault → first ≢ outcome.LoadFault
-  first_loaded other is = by (reported first e.outcome taken told err_before err_now did.3)
+  first_loaded other is = by (reported text first e.outcome taken told err_before err_now did.3)
     where
       by : (e.outcome ≡ first) ⊎ ((status : ℕ) × (first ≡ outcome.Done status) × (e.outcome ≡ outcome.WriteFault)) → ⊥
       by (inl same) = other (same ∙ is)

@@ -10,7 +10,7 @@ use Rattle.tick_top.specs.Does.{Cause}
 use Rattle.tick_top.specs.Top.{Ticked}
 use Rattle.tick_top.specs.Rows.{RefusedRow, AsmRefusedRow, TooLongRow, BadImageRow, TrapRow, MachineFaultRow}
 use Rattle.tick_top.specs.Rows.{OutOfStepsRow}
-use Rattle.tick_top.specs.Laws.{IsOfRun, RunMeans, RunCompletes, ShowsRuns, CommandsComplete}
+use Rattle.tick_top.specs.Laws.{IsOfRun, RunMeans, RunCompletes, ShowsRuns, CommandsComplete, SourcesComplete}
 use Rattle.tick_top.proofs.Outcomes.{is_of_machine}
 use Rattle.tick_top.proofs.Rows.{refusal_row, is_first}
 use Rattle.tick_top.proofs.Endings as endings
@@ -96,3 +96,8 @@ commands_complete c order file did fine ordered told accepted = (
   complete.ends_so c.words c.old c.new c.before c.now c.said_before c.said_now c.err_before c.err_now c.ended did fine
       order file ordered told accepted,
 )
+
+pub sources_complete : SourcesComplete
+sources_complete c number did fine =
+    complete.generates c.words c.old c.new c.before c.now c.said_before c.said_now c.err_before c.err_now c.ended did
+    fine number

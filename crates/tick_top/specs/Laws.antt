@@ -4,13 +4,15 @@
 -- its
 -- file isn't refused and nothing outside failed, is done.
 use Rattle.std.specs.Prelude.{◌≡◌, ℕ, ◌≤◌, false, List, length, Option, Some, None, Ok, nat_lt}
+use Rattle.std.specs.Io.KnownBytes.{Appends}
 use Rattle.host_edge.specs.declared.ending.Ending.{Ending}
 use Rattle.history.specs.Events.{Input, Ended}
 use Rattle.image_file.specs.Image.{ImageParts}
 use Rattle.mips_model.specs.Run.{runs}
 use Rattle.staged_meaning.specs.Meaning.{Program, meant}
 use Rattle.tick_build.specs.Texts.{typed}
-use Rattle.command_words.specs.Orders.{Order, run, order_of}
+use Rattle.tick_gen.specs.Source.{source}
+use Rattle.command_words.specs.Orders.{Order, run, of_file, gen, order_of}
 use Rattle.tick_outcome.specs.declared.outcome.Outcome.{Outcome}
 use Rattle.tick_outcome.specs.declared.outcome.Outcome.TheVariants.{Done, Trap, MachineFault, OutOfSteps, ReadFault}
 use Rattle.tick_outcome.specs.declared.outcome.Outcome.TheVariants.{WriteFault}
@@ -58,7 +60,8 @@ told bytes = record { bytes = bytes; failing = false }
 -- the outcome of `run` is that of the meaning of its text
 abbrev pub RunMeans : Type 0
 RunMeans =
-    (c : Call) (file : List ℕ) (steps : ℕ) (outcome : Outcome) → Did c → order_of c.words ≡ Ok (run file steps)
+    (c : Call) (file : List ℕ) (steps : ℕ) (outcome : Outcome) → Did c
+    → order_of c.words ≡ Ok (of_file (run file steps))
     → c.ended.outcome ≡ outcome → IsOfRun outcome → RunIsMeant file steps c.old c.new outcome
 
 -- Where the file and the input are told, the text is accepted, its meaning ends within what the instructions allow and
@@ -66,7 +69,7 @@ RunMeans =
 abbrev pub RunCompletes : Type 0
 RunCompletes =
     (c : Call) (file text : List ℕ) (steps : ℕ) (program : Program) (bytes : List ℕ) (units : ℕ) (end : Ending)
-    → Did c → NothingFailed c → order_of c.words ≡ Ok (run file steps) → c.old.file file ≡ Some (Some text)
+    → Did c → NothingFailed c → order_of c.words ≡ Ok (of_file (run file steps)) → c.old.file file ≡ Some (Some text)
     → nat_lt longest_text (length text) ≡ false → typed text ≡ Ok program → c.old.left ≡ Some bytes
     → (meant program (told bytes) units).ending ≡ Some (Ended end) → allowed units ≤ steps
     → (c.ended.outcome ≡ outcome_at steps (Some (Ended end)))
@@ -75,7 +78,7 @@ RunCompletes =
 -- what a call shows of the image that it hands back is the image's run under the choices that are handed back
 abbrev pub ShowsRuns : Type 0
 ShowsRuns =
-    (c : Call) (order : Order) (steps : ℕ) (image : ImageParts) → Did c → order_of c.words ≡ Ok order →
+    (c : Call) (order : Order) (steps : ℕ) (image : ImageParts) → Did c → order_of c.words ≡ Ok (of_file order) →
     most_steps order ≡ Some steps
     → c.ended.image ≡ Some image
     → ShowsRun steps image c.ended.choices.items c.old.left c.new.left c.old.taken c.new.taken c.ended.outcome
@@ -85,9 +88,15 @@ ShowsRuns =
 -- runs one hands the image back and, on told input, gives the ending that the run has within the instructions.
 abbrev pub CommandsComplete : Type 0
 CommandsComplete =
-    (c : Call) (order : Order) (file : List ℕ) → Did c → NothingFailed c → order_of c.words ≡ Ok order
+    (c : Call) (order : Order) (file : List ℕ) → Did c → NothingFailed c → order_of c.words ≡ Ok (of_file order)
     → c.old.file (file_of order) ≡ Some (Some file) → refusal order file ≡ None
     → (most_steps order ≡ None → c.ended.outcome ≡ Done 0)
     × ((steps : ℕ) (bytes : List ℕ) → most_steps order ≡ Some steps → c.old.left ≡ Some bytes → (image : ImageParts)
     × (c.ended.image ≡ Some image) ×
     (c.ended.outcome ≡ outcome_at steps (runs image (told bytes) c.ended.choices.items steps).ending))
+
+-- where nothing outside fails, `gen` is done, and has written the source
+abbrev pub SourcesComplete : Type 0
+SourcesComplete =
+    (c : Call) (number : ℕ) → Did c → NothingFailed c → order_of c.words ≡ Ok (gen number)
+    → (c.ended.outcome ≡ Done 0) × Appends c.old.taken c.new.taken (source number)

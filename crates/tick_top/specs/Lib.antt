@@ -1,6 +1,8 @@
 pub mod Outside
 pub mod Answers
 pub mod Does
+pub mod Generated
+pub mod Said
 pub mod Top
 pub mod Seen
 pub mod Rows

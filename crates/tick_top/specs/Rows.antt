@@ -17,7 +17,7 @@ use Rattle.mips_text.specs.declared.fault.AsmFault.{AsmFault}
 use Rattle.staged_meaning.specs.Meaning.{Program}
 use Rattle.tick_tree.specs.declared.fault.Fault.{Fault}
 use Rattle.tick_build.specs.Texts.{typed}
-use Rattle.command_words.specs.Orders.{Order, run, build, exec, asm, dis, order_of}
+use Rattle.command_words.specs.Orders.{Order, run, build, exec, asm, dis, of_file, order_of}
 use Rattle.tick_outcome.specs.declared.outcome.Outcome.{Outcome}
 use Rattle.tick_outcome.specs.declared.outcome.Outcome.TheVariants.{Refused, AsmRefused, LoadFault, TooLong, BadImage}
 use Rattle.tick_outcome.specs.declared.outcome.Outcome.TheVariants.{Trap, MachineFault, OutOfSteps, WriteFault}
@@ -71,7 +71,7 @@ refusal order bytes = if nat_lt (longest_of order) (length bytes) then Some TooL
 -- the outcome is the refusal of the bytes that were loaded from the file of the words' order
 pub record Refuses (words : List (List ℕ)) (files : Files) (outcome : Outcome) : Type 0 where
   pub order : Order
-  pub ordered : order_of words ≡ Ok order
+  pub ordered : order_of words ≡ Ok (of_file order)
   pub bytes : List ℕ
   pub loads : Loads (files (file_of order)) (longest_of order + 1) bytes
   pub refused : refusal order bytes ≡ Some outcome
@@ -81,8 +81,8 @@ pub record Refuses (words : List (List ℕ)) (files : Files) (outcome : Outcome)
 -- then.
 pub record IsRefusal (words : List (List ℕ)) (files : Files) (last outcome : Outcome) : Type 0 where
   pub only : last ≡ outcome → Refuses words files outcome
-  pub exactly : (order : Order) (file : List ℕ) → order_of words ≡ Ok order → files (file_of order) ≡ Some (Some file)
-      → last ≢ LoadFault → (last ≡ outcome) ↔ (refusal order file ≡ Some outcome)
+  pub exactly : (order : Order) (file : List ℕ) → order_of words ≡ Ok (of_file order)
+      → files (file_of order) ≡ Some (Some file) → last ≢ LoadFault → (last ≡ outcome) ↔ (refusal order file ≡ Some outcome)
 
 -- ---- endings
 
@@ -96,7 +96,7 @@ most_steps other = None
 -- them, on the call's input; or hasn't ended.
 pub record RunEnds (words : List (List ℕ)) (old new : Outside) (e : Ended) (steps : ℕ) (end : Option End) : Type 0 where
   pub order : Order
-  pub ordered : order_of words ≡ Ok order
+  pub ordered : order_of words ≡ Ok (of_file order)
   pub most : most_steps order ≡ Some steps
   pub image : ImageParts
   pub handed_back : e.image ≡ Some image
@@ -115,7 +115,7 @@ pub record IsOfEnding (words : List (List ℕ)) (old new : Outside) (e : Ended) 
 
 -- the words execute a saved image
 abbrev pub Executes : List (List ℕ) → Type 0
-Executes words = (file : List ℕ) × (steps : ℕ) × (order_of words ≡ Ok (exec file steps))
+Executes words = (file : List ℕ) × (steps : ℕ) × (order_of words ≡ Ok (of_file (exec file steps)))
 
 -- ---- the rows, each of what a call answered
 

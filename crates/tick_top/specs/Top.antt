@@ -8,14 +8,15 @@ use Rattle.tick_outcome.specs.declared.outcome.Outcome.{Outcome}
 use Rattle.tick_outcome.specs.declared.outcome.Outcome.TheVariants.{Done, BadWords, WriteFault}
 use Rattle.tick_top.specs.declared.ended.Ended.{Ended}
 use Rattle.command_words.specs.Orders.{order_of}
-use Rattle.tick_outcome.specs.Outcomes.{line_of}
 use Rattle.tick_top.specs.Outside.{Outside, Failures}
-use Rattle.tick_top.specs.Does.{Answered, Does, IsOfCommand, Cause}
+use Rattle.tick_top.specs.Does.{Answered, IsOfCommand, Cause}
+use Rattle.tick_top.specs.Generated.{Fulfils}
+use Rattle.tick_top.specs.Said.{said}
 
 -- by the words
 abbrev pub Performs : List (List ℕ) → Outside → Outside → Ended → Type 0
 Performs words old new e =
-    MatchResult (order_of words) (λ order. Does order old new e × IsOfCommand e.outcome)
+    MatchResult (order_of words) (λ asked. Fulfils asked old new e × IsOfCommand e.outcome)
     (λ place. Answered old new e (BadWords place))
 
 -- where standard error fails, Done becomes WriteFault, and any other outcome stays
@@ -23,15 +24,15 @@ abbrev pub unsaid : Outcome → Outcome
 unsaid (Done s) = WriteFault
 unsaid other = other
 
--- the line of the outcome stands on standard error, or a front part of it
-abbrev pub Reports : Outcome → Outcome → Option (List ℕ) → Option (List ℕ) → ℕ → ℕ → Type 0
-Reports first last taken told old new =
-    ((last ≡ first) × Appends taken told (line_of first) × (new ≡ old))
-    ⊎ ((last ≡ unsaid first) × TakesFront taken told (line_of first) × Rose old new)
+-- what is said stands on standard error, or a front part of it
+abbrev pub Reports : (text : List ℕ) → Outcome → Outcome → Option (List ℕ) → Option (List ℕ) → ℕ → ℕ → Type 0
+Reports text first last taken told old new =
+    ((last ≡ first) × Appends taken told text × (new ≡ old))
+    ⊎ ((last ≡ unsaid first) × TakesFront taken told text × Rose old new)
 
 -- a whole call: an outcome of the command, its cause, and what is said of it
 abbrev pub Ticked : List (List ℕ) → Outside → Outside → Failures → Failures → Option (List ℕ) → Option (List ℕ) → ℕ →
     ℕ → Ended → Type 0
 Ticked words old new before now taken told err_before err_now e =
     (first : Outcome) × Performs words old new (record e { outcome = first }) × Cause first before now ×
-    Reports first e.outcome taken told err_before err_now
+    Reports (said words (record e { outcome = first })) first e.outcome taken told err_before err_now

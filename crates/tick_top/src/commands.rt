@@ -3,9 +3,11 @@ ghost use Rattle.std.specs.Prelude.{◌≡◌, ◌≤◌, ◌^◌, ℕ, List, Op
 ghost use Rattle.std.specs.Io.KnownBytes.{Keeps};
 ghost use Rattle.command_words.specs.Orders.{ordered, steps_in};
 ghost use Rattle.tick_top.specs.Outside.{SameFiles, Unwritten, outside, failures};
-ghost use Rattle.tick_top.specs.Does.{IsOfCommand, Does, Cause, RunsFile, ExecutesFile, BuildsFile, AssemblesFile, PrintsFile};
+ghost use Rattle.tick_top.specs.Does.{IsOfCommand, Cause, RunsFile, ExecutesFile, BuildsFile, AssemblesFile, PrintsFile};
+ghost use Rattle.tick_top.specs.Generated.{Fulfils};
 
 use crate::ended::{Ended, Front, bare};
+use crate::generated::write_source;
 use crate::images::{run_image, save_image, write_text};
 use crate::load::{image_of_assembly, image_of_file, image_of_text};
 use command_words::Command;
@@ -118,7 +120,7 @@ pub fn obey<S: Store, I: Source, O: Sink>(
     out: &mut O,
 ) -> Result<Ended, AllocError>
     requires { steps_in command ≤ 2 ^ 40 }
-    ensures does { IfOk result (Does (ordered command.entry) (outside (S.file store.old) (I.left input.old) (O.taken out.old)) (outside (S.file store.new) (I.left input.new) (O.taken out.new))) }
+    ensures does { IfOk result (Fulfils (ordered command.entry) (outside (S.file store.old) (I.left input.old) (O.taken out.old)) (outside (S.file store.new) (I.left input.new) (O.taken out.new))) }
     ensures words { IfOk result (λ e. IsOfCommand e.outcome) }
     ensures cause { IfOk result (λ e. Cause e.outcome (failures (S.faults store.old) (I.faults input.old) (O.faults out.old)) (failures (S.faults store.new) (I.faults input.new) (O.faults out.new))) }
     ensures none { OnErr result (Unwritten (outside (S.file store.old) (I.left input.old) (O.taken out.old)) (outside (S.file store.new) (I.left input.new) (O.taken out.new))) }
@@ -129,5 +131,6 @@ pub fn obey<S: Store, I: Source, O: Sink>(
         Command::Build(file, path) => build_file(alloc, file, path, store),
         Command::Asm(file, path) => assemble_file(alloc, file, path, store),
         Command::Dis(file) => disassemble_file(alloc, file, store, out),
+        Command::Gen(number) => write_source(alloc, number, out),
     }
 }

@@ -1,5 +1,5 @@
 //! Laws of a whole call.
-ghost use Rattle.tick_top.specs.Laws.{RunMeans, RunCompletes, ShowsRuns, CommandsComplete};
+ghost use Rattle.tick_top.specs.Laws.{RunMeans, RunCompletes, ShowsRuns, CommandsComplete, SourcesComplete};
 
 /// What `run` answers is what the text means: where it answers Done, the meaning ends so, and its output was put out.
 pub fn run_means()
@@ -19,4 +19,9 @@ pub fn shows_runs()
 /// A command whose file isn't refused is done, where nothing outside fails.
 pub fn commands_complete()
     ensures { CommandsComplete }
+{}
+
+/// `gen` is done, and has written the source, where nothing outside fails.
+pub fn sources_complete()
+    ensures { SourcesComplete }
 {}

@@ -3,12 +3,14 @@
 
 mod commands;
 mod ended;
+mod generated;
 mod images;
 mod laws;
 mod load;
+mod said;
 mod top;
 
 pub use ended::Ended;
-pub use laws::{commands_complete, run_completes, run_means, shows_runs};
+pub use laws::{commands_complete, run_completes, run_means, shows_runs, sources_complete};
 pub use tick_outcome::{Outcome, status};
 pub use top::tick;

@@ -6,14 +6,15 @@ ghost use Rattle.command_words.specs.Orders.{order_of};
 ghost use Rattle.tick_top.specs.Outside.{Unwritten, outside, failures};
 ghost use Rattle.tick_top.specs.Does.{Cause};
 ghost use Rattle.tick_top.specs.Rows.{RefusedRow, AsmRefusedRow, TooLongRow, BadImageRow, TrapRow, MachineFaultRow, OutOfStepsRow};
-ghost use Rattle.tick_top.specs.Top.{Performs, Reports, Ticked, unsaid};
+ghost use Rattle.tick_top.specs.Top.{Performs, Ticked};
 
 use crate::commands::obey;
 use crate::ended::{Ended, bare};
+use crate::said::report;
 use command_words::command_of;
-use host_edge::{Sink, Source, Store, write_whole};
+use host_edge::{Sink, Source, Store};
 use std::alloc::{AllocError, Global};
-use tick_outcome::{Outcome, line_of};
+use tick_outcome::Outcome;
 
 // Does what the words say.
 fn perform<S: Store, I: Source, O: Sink>(
@@ -30,27 +31,6 @@ fn perform<S: Store, I: Source, O: Sink>(
     match command_of(words) {
         Ok(command) => obey(alloc, command, store, input, out),
         Err(place) => Ok(bare(alloc, Outcome::BadWords(place))),
-    }
-}
-
-// What an outcome becomes where standard error fails.
-fn unsaid(outcome: Outcome) -> Outcome
-    ensures { result ≡ unsaid outcome }
-{
-    match outcome {
-        Outcome::Done(_) => Outcome::WriteFault,
-        other => other,
-    }
-}
-
-// Says the outcome on standard error, and what it then is.
-fn report<E: Sink>(err: &mut E, outcome: Outcome) -> Outcome
-    ensures { Reports outcome result (E.taken err.old) (E.taken err.new) (E.faults err.old) (E.faults err.new) }
-{
-    let line = line_of(&outcome);
-    match write_whole(err, line.as_bytes()) {
-        Ok(()) => outcome,
-        Err(_) => unsaid(outcome),
     }
 }
 
@@ -73,7 +53,7 @@ fn whole<S: Store, I: Source, O: Sink, E: Sink>(
         × Unwritten (outside (S.file store.old) (I.left input.old) (O.taken out.old)) (outside (S.file store.new) (I.left input.new) (O.taken out.new))) }
 {
     let mut ended = perform(alloc, words, store, input, out)?;
-    ended.outcome = report(err, ended.outcome);
+    ended.outcome = report(err, words, &ended);
     Ok(ended)
 }
 

@@ -220,3 +220,50 @@ fn a_missing_file_is_not_loaded(rt: HostRuntime) -> Result<(), Fail> {
     assert_eq!(rt; seen.err.as_slice(), b"tick: cannot load\n".as_slice());
     Ok(())
 }
+
+// A call that asks for the counts, on a standard error that fails at the listed calls: what it left.
+fn counted_call(
+    alloc: Global,
+    line: &str,
+    store: &mut MemStore,
+    fails: &[u64],
+) -> Result<Seen, AllocError> {
+    let words = words_of(alloc, line)?;
+    let mut out = MemSink::new(alloc, ROOM, &[])?;
+    let mut err = MemSink::new(alloc, ROOM, fails)?;
+    let status = status_of(alloc, &words, store, &mut out, &mut err)?;
+    Ok(Seen {
+        status,
+        out: out.taken().to_vec(alloc)?,
+        err: err.taken().to_vec(alloc)?,
+    })
+}
+
+#[test]
+fn counts_that_cannot_be_said_are_a_write_fault(rt: HostRuntime) -> Result<(), Fail> {
+    let mut store = MemStore::new(rt.alloc(), &[])?;
+    store.put("text", HELLO.as_bytes())?;
+    let seen = counted_call(rt.alloc(), "tick run --stats text", &mut store, &[0])?;
+    assert_eq!(rt; seen.status, 73);
+    assert_eq!(rt; seen.out.as_slice(), b"H\n".as_slice());
+    assert_eq!(rt; seen.err.as_slice(), b"".as_slice());
+    Ok(())
+}
+
+#[test]
+fn a_saved_image_has_the_counts_of_its_text(rt: HostRuntime) -> Result<(), Fail> {
+    let alloc = rt.alloc();
+    let mut store = MemStore::new(alloc, &[])?;
+    store.put("text", HELLO.as_bytes())?;
+    let run = counted_call(alloc, "tick run text --stats", &mut store, &[])?;
+    let build = counted_call(alloc, "tick build text image", &mut store, &[])?;
+    let exec = counted_call(alloc, "tick exec image --stats", &mut store, &[])?;
+    assert_eq!(rt; build.status, 0);
+    assert_eq!(rt; exec.status, 3);
+    assert!(rt;
+        run.err
+            .starts_with(b"ops=0 functions=0 words=0 flushes=0 spills=0 steps=")
+    );
+    assert_eq!(rt; exec.err.as_slice(), run.err.as_slice());
+    Ok(())
+}

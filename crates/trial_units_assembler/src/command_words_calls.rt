@@ -1,6 +1,6 @@
 //! The words of whole command lines.
 
-use command_words::{Command, command_of};
+use command_words::{Command, asks_counts, command_of};
 use std::alloc::{AllocError, Global};
 use std::test::Fail;
 
@@ -36,5 +36,27 @@ fn bad_words_have_places(rt: HostRuntime) -> Result<(), Fail> {
     assert_eq!(rt; bad_place(rt.alloc(), "tick run a b")?, 3);
     assert_eq!(rt; bad_place(rt.alloc(), "tick run --steps 0 a")?, 3);
     assert_eq!(rt; bad_place(rt.alloc(), "tick build a --steps 5 b")?, 3);
+    Ok(())
+}
+
+#[test]
+fn a_source_has_a_number_up_to_two_thousand(rt: HostRuntime) -> Result<(), Fail> {
+    let words = words_of(rt.alloc(), "tick gen 0002000")?;
+    assert!(rt; matches!(command_of(&words), Ok(Command::Gen(2000))));
+    assert_eq!(rt; bad_place(rt.alloc(), "tick gen")?, 2);
+    assert_eq!(rt; bad_place(rt.alloc(), "tick gen 0")?, 2);
+    assert_eq!(rt; bad_place(rt.alloc(), "tick gen 2001")?, 2);
+    assert_eq!(rt; bad_place(rt.alloc(), "tick gen 3 4")?, 3);
+    Ok(())
+}
+
+#[test]
+fn runs_may_ask_for_counts_once(rt: HostRuntime) -> Result<(), Fail> {
+    let words = words_of(rt.alloc(), "tick run --steps 9 text --stats")?;
+    assert!(rt; matches!(command_of(&words), Ok(Command::Run("text", 9))));
+    assert!(rt; asks_counts(&words));
+    assert!(rt; !asks_counts(&words_of(rt.alloc(), "tick run text")?));
+    assert_eq!(rt; bad_place(rt.alloc(), "tick run --stats text --stats")?, 4);
+    assert_eq!(rt; bad_place(rt.alloc(), "tick dis --stats image")?, 2);
     Ok(())
 }
