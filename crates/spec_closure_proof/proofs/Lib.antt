@@ -1,0 +1,5 @@
+mod Kept
+mod Checks
+mod News
+mod Puts
+mod Newest
