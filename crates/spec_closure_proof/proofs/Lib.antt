@@ -1,5 +1,5 @@
-mod Kept
-mod Checks
-mod News
-mod Puts
-mod Newest
+pub mod Kept
+pub mod Checks
+pub mod News
+pub mod Puts
+pub mod Newest

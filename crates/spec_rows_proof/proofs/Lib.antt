@@ -1,0 +1,4 @@
+mod Lookups
+mod Checks
+mod Sums
+mod Making
