@@ -1,4 +1,4 @@
-mod Lookups
-mod Checks
-mod Sums
-mod Making
+pub mod Lookups
+pub mod Checks
+pub mod Sums
+pub mod Making

@@ -1,0 +1,7 @@
+pub mod Runs
+pub mod Memory
+pub mod Issuing
+pub mod Splices
+pub mod Found
+pub mod Generating
+pub mod Served

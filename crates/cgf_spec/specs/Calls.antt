@@ -1,0 +1,88 @@
+-- A run of the machine that calls the services which make code. Between two calls it goes by the machine's own steps; at
+-- a call the number of the service is in $v0 and its arguments are in $a0 to $a2, and behind it the answer is in $v0. What
+-- a call does beside is the service's own: here stand the arena's words that it writes or flushes, and the row that it
+-- publishes. These are this project's own rules.
+use Rattle.std.specs.Prelude.{◌≡◌, ℕ, suc, ◌+◌, false, List, [], ◌∷◌, length, map, Some}
+use Rattle.code_arena.specs.Arena.{Arena, flushed}
+use Rattle.code_arena.specs.Rows.{published}
+use Rattle.mips_model.specs.State.{Code, Data, State, register, set_register}
+use Rattle.mips_model.specs.Steps.{Is, fetch, load_hazard}
+use Rattle.mips_model.specs.Laws.{Reaches, at}
+use Rattle.icode_templates.specs.Assembly.{v0, a0, a1, a2, syscall}
+use Rattle.icode_ir.specs.declared.build_op.BuildOp.{BuildOp}
+use Rattle.icode_codes.specs.Decoded.{op_of}
+use Rattle.icode_service_spec.specs.Services.{arena_word, written_from}
+
+-- a call of a service that is obeyed; of one that finishes a function, with the words that it wrote
+pub data Call : Type 0 where
+  Begin : (parameters : ℕ) → Call
+  Emit : BuildOp → Call
+  Finish : (address most frame : ℕ) → (words : List ℕ) → Call
+  Flush : (address count : ℕ) → Call
+  Publish : (row address count : ℕ) → Call
+
+-- the number and the arguments by which it is called; an argument that an op doesn't have may be any
+abbrev pub IsCalled : Call → (number first second third : ℕ) → Type 0
+IsCalled (Begin parameters) number first second third = (number ≡ 64) × (first ≡ parameters)
+IsCalled (Emit op) number first second third = (number ≡ 65) × (op_of first second third ≡ Some op)
+IsCalled (Finish address most frame words) number first second third =
+    (number ≡ 66) × (first ≡ address) × (second ≡ most) × (third ≡ frame)
+IsCalled (Flush address count) number first second third = (number ≡ 67) × (first ≡ address) × (second ≡ count)
+IsCalled (Publish row address count) number first second third =
+    (number ≡ 68) × (first ≡ row) × (second ≡ address) × (third ≡ count)
+
+-- the machine is about to make the call
+pub record Asks (call : Call) (c : Code) (a loaded : ℕ) (d : Data) : Type 0 where
+  pub stands : fetch c a ≡ Is syscall
+  pub quiet : load_hazard loaded syscall ≡ false
+  pub called : IsCalled call (register v0 d) (register a0 d) (register a1 d) (register a2 d)
+
+abbrev pub answer_to : Call → ℕ
+answer_to (Finish address most frame words) = length words
+answer_to _ = 0
+
+-- what it does to the arena, and to the data
+abbrev pub arena_behind : Call → Arena → Arena
+arena_behind (Finish address most frame words) arena = written_from (arena_word address) words arena
+arena_behind (Flush address count) arena = flushed (arena_word address) count arena
+arena_behind _ arena = arena
+
+abbrev pub code_behind : Call → Code → Code
+code_behind call c = record c { arena = arena_behind call c.arena }
+
+abbrev pub noted : Call → Data → Data
+noted (Flush address count) d = record d { outside = record d.outside { flushes = d.outside.flushes + 1 } }
+noted (Publish row address count) d = record d { table = published row address count d.table }
+noted _ d = d
+
+abbrev pub data_behind : Call → Data → Data
+data_behind call d = set_register v0 (answer_to call) (noted call d)
+
+-- it goes on behind the call
+abbrev pub behind_call : Call → Code → (a : ℕ) → Data → State
+behind_call call c a d = at (code_behind call c) (a + 4) 0 (data_behind call d)
+
+-- a call, and then what comes behind it, in so many instructions
+pub record Then (call : Call) (rest : ℕ → State → Type 0) (count : ℕ) (s : State) : Type 0 where
+  pub before : ℕ
+  pub code : Code
+  pub place : ℕ
+  pub loaded : ℕ
+  pub found : Data
+  pub comes : Reaches before s (at code place loaded found)
+  pub asks : Asks call code place loaded found
+  pub left : ℕ
+  pub counted : count ≡ before + suc left
+  pub goes_on : rest left (behind_call call code place found)
+
+abbrev pub IsRun : List Call → (count : ℕ) → State → State → Type 0
+IsRun [] count s after = Reaches count s after
+IsRun (call ∷ calls) count s after = Then call (λ left mid. IsRun calls left mid after) count s
+
+-- from one state to another in exactly so many instructions, with these calls in this order and no others
+pub record RunsWith (calls : List Call) (count : ℕ) (s after : State) : Type 0 where
+  pub by : IsRun calls count s after
+
+-- the calls that issue ops
+abbrev pub issuing : List BuildOp → List Call
+issuing ops = map Emit ops

@@ -1,0 +1,60 @@
+-- What the function that generates a tick's code does on the machine.
+use Rattle.std.specs.Prelude.{◌≡◌, ◌≢◌, ℕ, ◌+◌, ◌*◌, ◌/◌, ◌%◌, ◌<◌, ◌≤◌, List}
+use Rattle.word32.specs.declared.map.TheConstants.{EMIT_STACK, EMIT_STACK_BYTES, SEGMENT_BYTES}
+use Rattle.history.specs.Syntax.{Syntax}
+use Rattle.mips_model.specs.State.{Code, Data}
+use Rattle.mips_model.specs.Laws.{HasAt, past, at}
+use Rattle.meaning_state.specs.Shared.{Shared}
+use Rattle.meaning_state.specs.Rows.{specification_at}
+use Rattle.icode_ir.specs.declared.build_op.BuildOp.{BuildOp}
+use Rattle.spec_closure.specs.Closures.{closure_of}
+use Rattle.spec_rows_proof.specs.Relation.{Text, tick_of, IsOf, HasSpecifications}
+use Rattle.cgf_spec.specs.Calls.{RunsWith, issuing}
+use Rattle.cgf_spec.specs.declared.piece.Piece.{Piece}
+use Rattle.cgf_spec.specs.Pieces.{syntax_ops, IsWhole}
+use Rattle.cgf_spec.specs.Words.{generator_code, syntax_cost, syntax_depth}
+
+-- the functions of so many ticks stand where the text has them
+pub record HasGenerators (text : Text) (pieces : ℕ → List Piece) (ticks : ℕ) (c : Code) : Type 0 where
+  pub stands : (tick : ℕ) → tick < ticks → HasAt c (text.generator_at tick) (generator_code (pieces tick))
+  pub low : (tick : ℕ) → tick < ticks → past (text.generator_at tick) (generator_code (pieces tick)) < SEGMENT_BYTES
+
+-- the registers that the function may leave changed: $at, $v0, $a0 to $a2 and $t9
+abbrev pub IsUntouched : ℕ → Type 0
+IsUntouched r = (r ≢ 1) × (r ≢ 2) × (r ≢ 4) × (r ≢ 5) × (r ≢ 6) × (r ≢ 25)
+
+-- all but registers and emit stack
+abbrev pub others : Data → Data
+others d = record d { registers = λ r. 0; emit_stack = λ n. 0 }
+
+-- what is left as it was: other registers, the emit stack below its top, and all else
+pub record Leaves (top : ℕ) (d after : Data) : Type 0 where
+  pub registers : (r : ℕ) → IsUntouched r → after.registers r ≡ d.registers r
+  pub below : (n : ℕ) → n < top / 4 → after.emit_stack n ≡ d.emit_stack n
+  pub rest : others after ≡ others d
+
+-- the function of a specification is entered: $t4, $t7 and $ra, with room on the emit stack for so many entries
+pub record Enters (number top depth : ℕ) (d : Data) : Type 0 where
+  pub closure : d.registers 12 ≡ closure_of d number
+  pub pointer : d.registers 15 ≡ top
+  pub link : d.registers 31 < 4294967296
+  pub from : EMIT_STACK ≤ top
+  pub to : top + 8 * depth ≤ EMIT_STACK + EMIT_STACK_BYTES
+  pub even : top % 4 ≡ 0
+
+-- it issued these ops, and returned
+pub record Generates (ops : List BuildOp) (count top : ℕ) (c : Code) (a : ℕ) (d : Data) : Type 0 where
+  pub after : Data
+  pub runs : RunsWith (issuing ops) count (at c a 0 d) (at c (d.registers 31) 0 after)
+  pub leaves : Leaves top d after
+
+-- The function of a tick, run on a closure that stands for a specification, issues exactly the ops of that
+-- specification, in order, and leaves all else as it was.
+abbrev pub SpecificationsAreGenerated : Type 0
+SpecificationsAreGenerated =
+    (text : Text) (pieces : ℕ → List Piece) (ticks : ℕ) (c : Code) (shared : Shared) (syntax : Syntax)
+    (number top : ℕ) (d : Data) → HasGenerators text pieces ticks c → HasSpecifications text shared d
+    → IsWhole pieces ticks syntax → IsOf syntax (specification_at number shared)
+    → Enters number top (syntax_depth pieces syntax) d
+    → Generates (syntax_ops pieces syntax) (syntax_cost pieces syntax) top c
+    (text.generator_at (tick_of syntax)) d

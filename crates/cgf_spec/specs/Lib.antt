@@ -1,0 +1,5 @@
+pub mod Calls
+pub mod Pieces
+pub mod Words
+pub mod Served
+pub mod Laws

@@ -1,0 +1,8 @@
+//! The functions that generate the code of ticks: their words, and what they issue. The functions here are laws.
+#![tactic(auto)]
+
+mod laws;
+mod piece;
+
+pub use laws::{calls_are_served, specifications_are_generated};
+pub use piece::Piece;

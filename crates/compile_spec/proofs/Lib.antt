@@ -1,0 +1,6 @@
+pub mod Blocks
+pub mod Tests
+pub mod Traps
+pub mod Finishing
+pub mod Building
+pub mod Compiled

@@ -1,0 +1,79 @@
+//! Prints the captures of the ticks of the texts on its input, a line for each tick: of each capture its kind and the
+//! number of the first node of the tick's body that names it. A text has a line `%% TITLE` before it, and goes up to the
+//! next such line.
+#![tactic(auto)]
+
+ghost use Rattle.std.specs.Prelude.{◌≤◌, length};
+
+use c_lexer::tokens;
+use captures::{Capture, captures};
+use limits::text::LONGEST_TEXT;
+use std::alloc::Global;
+use std::io::{self, Read};
+use tick_checker::check;
+use tick_parser::parse;
+use tick_tree::Deny;
+use trial_cases::cases;
+use typed_tree::{Answer, CaptureKind};
+use wellformed::Typed;
+
+fn typed(alloc: Global, text: &[u8]) -> Result<Typed, Deny>
+    requires { length text.now ≤ LONGEST_TEXT }
+{
+    let found = tokens(alloc, text)?;
+    let tree = parse(alloc, text, &found)?;
+    check(alloc, &tree)
+}
+
+// The name of a kind.
+fn name(kind: CaptureKind) -> &'static str {
+    match kind {
+        CaptureKind::Dollar => "dollar",
+        CaptureKind::Address => "address",
+        CaptureKind::Splice(Answer::Value) => "splice",
+        CaptureKind::Splice(Answer::Void) => "statement",
+        CaptureKind::Variable => "variable",
+    }
+}
+
+// The captures of one tick.
+fn report_captures<R: Print + AllocGlobal>(rt: &R, found: &[Capture]) -> io::Result<()> {
+    for capture in found {
+        print!(rt; " {} {}", name(capture.kind), capture.node)?;
+    }
+    println!(rt; ".")
+}
+
+// Those of the ticks of a program, in the order of the text.
+fn report_ticks<R: Print + AllocGlobal>(rt: &R, title: &str, program: &Typed) -> io::Result<()> {
+    for (number, _) in program.ticks().iter().enumerate() {
+        print!(rt; "{title} {number}:")?;
+        let found = captures(rt.alloc(), program.ticks(), number as u32)?;
+        report_captures(rt, found.as_slice())?;
+    }
+    Ok(())
+}
+
+// The lines of one text.
+fn report<R: Print + AllocGlobal>(rt: &R, title: &[u8], text: &[u8]) -> io::Result<()> {
+    let title = str::from_utf8(title).unwrap_or("?");
+    if LONGEST_TEXT < text.len() {
+        return println!(rt; "{title}: over {LONGEST_TEXT} bytes");
+    }
+    match typed(rt.alloc(), text) {
+        Ok(program) => report_ticks(rt, title, &program),
+        Err(Deny::Refused(fault)) => {
+            println!(rt; "{title}: {} on line {}", fault.kind.name(), fault.line)
+        }
+        Err(Deny::NoMemory) => println!(rt; "{title}: no memory"),
+    }
+}
+
+fn main(rt: HostRuntime) -> io::Result<()> {
+    let mut file = Vec::new(rt.alloc());
+    rt.reader().read_to_end(&mut file)?;
+    for case in &cases(rt.alloc(), &file)? {
+        report(&rt, case.title, &case.text(rt.alloc())?)?;
+    }
+    Ok(())
+}
