@@ -9,7 +9,8 @@ use Rattle.history.specs.Syntax.{Syntax, Ticked, Captures, NoCapture, Word, Name
 use Rattle.mips_encoder.specs.declared.instruction.Instr.{Instr}
 use Rattle.mips_model.specs.State.{Code, Data}
 use Rattle.mips_model.specs.Accesses.{Loads}
-use Rattle.mips_model.specs.Laws.{HasAt, past, at, Reaches}
+use Rattle.mips_model.specs.Laws.{HasAt, at, Reaches}
+use Rattle.mips_encoder.specs.Addresses.{past}
 use Rattle.mips_model.proofs.Reach.{front, back, reaches_on, past_append, step_acts}
 use Rattle.meaning_state.specs.Shared.{Shared, Specification}
 use Rattle.meaning_state.specs.Rows.{numbered, specification_at}
@@ -120,7 +121,8 @@ EmitsFor c text pieces shared syntax =
     → Enters number top (syntax_depth pieces syntax) d
     → Generates (syntax_ops pieces syntax) (syntax_cost pieces syntax) top c (text.generator_at (tick_of syntax)) d
 
-module _ (c : Code) (text : Text) (pieces : ℕ → List Piece) (shared : Shared) (tick : ℕ) (cs : Captures) (number top ra :
+module _ (c : Code) (text : Text) (pieces : ℕ → List Piece) (shared : Shared) (tick : ℕ) (cs : Captures) (number top ra
+    :
     ℕ) (start : Data) (hs : HasSpecifications text shared start) (is : IsOf (Ticked tick cs) (specification_at number
     shared)) (from : EMIT_STACK ≤ top) (even : top % 4 ≡ 0) (ih : (i : ℕ) → IsSplice (capture_at cs i) → EmitsFor c text
     pieces shared (syntax_of (capture_at cs i))) where
@@ -161,7 +163,8 @@ module _ (c : Code) (text : Text) (pieces : ℕ → List Piece) (shared : Shared
       (p : ℕ) (d : Data) → Inside a top ra start d → PieceFits cs x → HasAt c p (piece_code x)
       → past p (piece_code x) < SEGMENT_BYTES
       → top + 8 + 8 * piece_depth (spliced_depth pieces cs) x ≤ EMIT_STACK + EMIT_STACK_BYTES
-      → Goes (piece_ops cs (spliced_ops pieces cs) x) (piece_cost (spliced_cost pieces cs) x) c p (past p (piece_code x))
+      → Goes (piece_ops cs (spliced_ops pieces cs) x) (piece_cost (spliced_cost pieces cs) x) c p (past p (piece_code
+      x))
       a top ra start d
 
   captured_piece : (i : ℕ) → PieceGoes (Captured i)
@@ -223,7 +226,8 @@ module _ (c : Code) (text : Text) (pieces : ℕ → List Piece) (shared : Shared
         to = omega (arith, m.to);
         even = m.even;
       }) m.first from (omega (arith, depth, room)) more even low
-      (λ e o g28 enters. ih i fits k.number (top + 8) e (specifications_stay text shared d e o g28 specs) k.is_of enters)
+      (λ e o g28 enters. ih i fits k.number (top + 8) e (specifications_stay text shared d e o g28 specs) k.is_of
+      enters)
       h in
       subst (λ xs. Goes xs (15 + spliced_cost pieces cs i) c p (past p (splice_code i)) a top ra start d) (sym ops)
       (subst (λ n. Goes (syntax_ops pieces inner) (15 + n) c p (past p (splice_code i)) a top ra start d) (sym cost) g)

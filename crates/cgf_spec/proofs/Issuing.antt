@@ -10,7 +10,8 @@ use Rattle.word32.specs.declared.map.TheConstants.{CLOSURES, CLOSURE_BYTES}
 use Rattle.mips_encoder.specs.declared.instruction.Instr.{Instr}
 use Rattle.mips_model.specs.State.{Code, Data}
 use Rattle.mips_model.specs.Steps.{load_hazard}
-use Rattle.mips_model.specs.Laws.{HasAt, past, at}
+use Rattle.mips_model.specs.Laws.{HasAt, at}
+use Rattle.mips_encoder.specs.Addresses.{past}
 use Rattle.mips_model.proofs.Reach.{front, back}
 use Rattle.icode_ir.specs.declared.build_op.BuildOp.{BuildOp}
 use Rattle.icode_ir.specs.declared.build_op.BuildOp.TheVariants.{Const}
@@ -105,7 +106,8 @@ argument_code op = constant 5 (first_of op) ++ constant 6 (second_of op)
 brings_arguments : (op : BuildOp) (d : Data) → Leaves (argument_code op) 0 d 0 (arguments op d)
 brings_arguments op d rest = refl
 
-pub op_goes : (c : Code) (p : ℕ) (op : BuildOp) {a top ra : ℕ} {start d : Data} → Inside a top ra start d → IsServed op →
+pub op_goes : (c : Code) (p : ℕ) (op : BuildOp) {a top ra : ℕ} {start d : Data} → Inside a top ra start d →
+    IsServed op →
     HasAt c p (op_code op) → Goes (op ∷ []) 7 c p (past p (op_code op)) a top ra start d
 op_goes c p op {a} {top} {ra} {start} {d} i served h =
     let e1 = constant_parts (first_of op) in

@@ -5,3 +5,4 @@ pub mod Splices
 pub mod Found
 pub mod Generating
 pub mod Served
+mod Rows

@@ -42,7 +42,8 @@ is_run_on (x ∷ xs) ys m n s mid after first then = record {
   asks = first.asks;
   left = first.left + n;
   counted = omega (arith, first.counted);
-  goes_on = is_run_on xs ys first.left n (behind_call x first.code first.place first.found) mid after first.goes_on then;
+  goes_on = is_run_on xs ys first.left n (behind_call x first.code first.place first.found) mid after first.goes_on
+      then;
 }
 
 pub runs_on : {xs ys : List Call} {m n : ℕ} {s mid after : State} → RunsWith xs m s mid → RunsWith ys n mid after →

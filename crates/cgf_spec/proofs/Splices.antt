@@ -8,7 +8,8 @@ use Rattle.word32.specs.declared.map.TheConstants.{SEGMENT_BYTES}
 use Rattle.mips_model.specs.State.{Code, Data}
 use Rattle.mips_model.specs.Accesses.{Loads}
 use Rattle.mips_model.specs.Steps.{going}
-use Rattle.mips_model.specs.Laws.{HasAt, past, at, Reaches}
+use Rattle.mips_model.specs.Laws.{HasAt, at, Reaches}
+use Rattle.mips_encoder.specs.Addresses.{past}
 use Rattle.mips_model.proofs.Reach.{front, back, reaches_on, step_acts}
 use Rattle.icode_ir.specs.declared.build_op.BuildOp.{BuildOp}
 use Rattle.icode_codes.specs.Decoded.{op_of}
@@ -119,10 +120,13 @@ key_goes c p code i number key op {a} {top} {ra} {start} {d} s has word is h =
 
 -- ---- a captured specification
 
-module _ (c : Code) (p i number g depth count : ℕ) (ops : List BuildOp) (a top ra : ℕ) (start d : Data) (s : Inside a top
+module _ (c : Code) (p i number g depth count : ℕ) (ops : List BuildOp) (a top ra : ℕ) (start d : Data) (s : Inside a
+    top
     ra start d) (has : HasNumber a i number d) (first : word_at d.closures (closure_of d number) ≡ g) (from : EMIT_STACK
-    ≤ top) (to : top + 8 + 8 * depth ≤ EMIT_STACK + EMIT_STACK_BYTES) (more : 0 < depth) (even : top % 4 ≡ 0) (low : past
-    p (splice_code i) < SEGMENT_BYTES) (callee : (e : Data) → others e ≡ others d → e.registers 28 ≡ d.registers 28 → Enters number (top + 8) depth e →
+    ≤ top) (to : top + 8 + 8 * depth ≤ EMIT_STACK + EMIT_STACK_BYTES) (more : 0 < depth) (even : top % 4 ≡ 0) (low :
+    past
+    p (splice_code i) < SEGMENT_BYTES) (callee : (e : Data) → others e ≡ others d →
+    e.registers 28 ≡ d.registers 28 → Enters number (top + 8) depth e →
     Generates ops count (top + 8) c g e) (h : HasAt c p (splice_code i)) where
   abbrev m1 : Data
   m1 = with_capture 12 i d

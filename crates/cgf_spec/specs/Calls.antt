@@ -1,7 +1,7 @@
--- A run of the machine that calls the services which make code. Between two calls it goes by the machine's own steps; at
--- a call the number of the service is in $v0 and its arguments are in $a0 to $a2, and behind it the answer is in $v0. What
--- a call does beside is the service's own: here stand the arena's words that it writes or flushes, and the row that it
--- publishes. These are this project's own rules.
+-- A run of the machine that calls the services which make code. Between two calls it goes by the machine's own steps;
+-- at a call the number of the service is in $v0 and its arguments are in $a0 to $a2, and behind it the answer is in
+-- $v0. What a call does beside is the service's own: here stand the arena's words that it writes or flushes, and the
+-- row that it publishes. These are this project's own rules.
 use Rattle.std.specs.Prelude.{◌≡◌, ℕ, suc, ◌+◌, false, List, [], ◌∷◌, length, map, Some}
 use Rattle.code_arena.specs.Arena.{Arena, flushed}
 use Rattle.code_arena.specs.Rows.{published}

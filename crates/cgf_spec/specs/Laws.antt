@@ -3,7 +3,8 @@ use Rattle.std.specs.Prelude.{◌≡◌, ◌≢◌, ℕ, ◌+◌, ◌*◌, ◌/�
 use Rattle.word32.specs.declared.map.TheConstants.{EMIT_STACK, EMIT_STACK_BYTES, SEGMENT_BYTES}
 use Rattle.history.specs.Syntax.{Syntax}
 use Rattle.mips_model.specs.State.{Code, Data}
-use Rattle.mips_model.specs.Laws.{HasAt, past, at}
+use Rattle.mips_model.specs.Laws.{HasAt, at}
+use Rattle.mips_encoder.specs.Addresses.{past}
 use Rattle.meaning_state.specs.Shared.{Shared}
 use Rattle.meaning_state.specs.Rows.{specification_at}
 use Rattle.icode_ir.specs.declared.build_op.BuildOp.{BuildOp}

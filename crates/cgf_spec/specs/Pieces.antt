@@ -1,7 +1,7 @@
 -- A tick's lowering with holes for what it captures, and the ops of a whole specification: the words and keys that were
--- captured stand in the holes, and in place of a splice stand the ops of the specification that it stands for. These are
--- this project's own definitions, after the code-generating functions of Poletto, Hsieh, Engler and Kaashoek (TOPLAS
--- 21(2), 1999).
+-- captured stand in the holes, and in place of a splice stand the ops of the specification that it stands for. These
+-- are this project's own definitions, after the code-generating functions of Poletto, Hsieh, Engler and Kaashoek
+-- (TOPLAS 21(2), 1999).
 use Rattle.std.specs.Prelude.{ℕ, zero, suc, ◌<◌, List, [], ◌∷◌, ◌++◌}
 use Rattle.history.specs.Syntax.{Syntax, Ticked, Captures, NoCapture, Word, Named, Spliced}
 use Rattle.icode_ir.specs.declared.build_op.BuildOp.{BuildOp}

@@ -1,15 +1,16 @@
--- The function that generates a tick's code. It is entered with the address of the tick's closure in $t4, the top of the
--- emit stack in $t7 and the address to return to in $ra. It keeps $ra and $t4 on the emit stack, issues the ops of its
--- pieces in order by the service that builds an op, calls the functions of the specifications that are spliced in, and
--- returns with $t4, $t7 and $ra as they were. What adds no op is a nop, so that the function takes at least an instruction
--- for each node. The convention and the code are this project's own.
+-- The function that generates a tick's code. It is entered with the address of the tick's closure in $t4, the top of
+-- the emit stack in $t7 and the address to return to in $ra. It keeps $ra and $t4 on the emit stack, issues the ops of
+-- its pieces in order by the service that builds an op, calls the functions of the specifications that are spliced in,
+-- and returns with $t4, $t7 and $ra as they were. What adds no op is a nop, so that the function takes at least an
+-- instruction for each node. The convention and the code are this project's own.
 use Rattle.std.specs.Prelude.{ℕ, zero, suc, ◌+◌, ◌*◌, ◌/◌, List, [], ◌∷◌, ◌++◌}
 use Rattle.word32.specs.declared.map.TheConstants.{SPEC_ROWS}
 use Rattle.history.specs.Syntax.{Syntax, Ticked, Captures, NoCapture, Word, Named, Spliced}
 use Rattle.mips_encoder.specs.declared.instruction.Instr.{Instr}
 use Rattle.icode_ir.specs.declared.build_op.BuildOp.{BuildOp}
 use Rattle.icode_codes.specs.Codes.{code_of, first_of, second_of}
-use Rattle.icode_templates.specs.Assembly.{scratch, v0, a0, a1, a2, t9, ra, addu, addiu, sll, ori, lui, lw, sw, jr, jalr}
+use Rattle.icode_templates.specs.Assembly.{scratch, v0, a0, a1, a2, t9, ra, addu, addiu, sll, ori, lui, lw, sw, jr}
+use Rattle.icode_templates.specs.Assembly.{jalr}
 use Rattle.icode_templates.specs.Assembly.{syscall, nop, constant}
 use Rattle.icode_templates.specs.Templates.{upper, lower}
 use Rattle.cgf_spec.specs.declared.piece.Piece.{Piece}

@@ -1,5 +1,6 @@
 -- The middle part of the routine: the function is begun, gets its ops, and the value of an expression is returned.
-use Rattle.std.proofs.Common.{◌≡◌, ◌≢◌, ◌⊎◌, append-nil, inl, inr, ℕ, ◌+◌, ◌*◌, ◌/◌, ◌%◌, ◌<◌, ◌≤◌, Bool, true, false, List, []}
+use Rattle.std.proofs.Common.{◌≡◌, ◌≢◌, ◌⊎◌, append-nil, inl, inr, ℕ, ◌+◌, ◌*◌, ◌/◌, ◌%◌, ◌<◌, ◌≤◌, Bool, true, false}
+use Rattle.std.proofs.Common.{List, []}
 use Rattle.std.proofs.Common.{◌∷◌, ◌++◌, refl, sym, ap, ◌∙◌, subst, arith}
 use Rattle.std.proofs.lemmas.Bool.{ne_eqb}
 use Rattle.word32.specs.Words.{wrap}
@@ -44,8 +45,10 @@ pub record Tested (a kind parameters charge g ra : ℕ) (t : Data) : Type 0 wher
   pub to : a + 16 ≤ CLOSURES + CLOSURE_BYTES
   pub even : a % 4 ≡ 0
 
-module _ (c : Code) (p a kind parameters charge g ra number depth cost : ℕ) (ops : List BuildOp) (t : Data) (w : Tested a
-    kind parameters charge g ra t) (low : p + 64 ≤ ARENA) (place : closure_of t number ≡ a) (more : 0 < depth) (room : 8 +
+module _ (c : Code) (p a kind parameters charge g ra number depth cost : ℕ) (ops : List BuildOp) (t : Data) (w : Tested
+    a
+    kind parameters charge g ra t) (low : p + 64 ≤ ARENA) (place : closure_of t number ≡ a) (more : 0 < depth) (room :
+    8 +
     8 * depth ≤ EMIT_STACK_BYTES) (callee : (e : Data) → others e ≡ others t → e.registers 28 ≡ t.registers 28 →
     Enters number (EMIT_STACK + 8) depth e → Generates ops cost (EMIT_STACK + 8) c g e) (h : HasAt c p build_code) where
   abbrev b1 : Data
@@ -311,7 +314,8 @@ module _ (c : Code) (p a kind parameters charge g ra number depth cost : ℕ) (o
         e = l4;
         count = 6 + (2 + cost + 3) + 2;
         under = omega arith;
-        runs = subst (λ (xs : List BuildOp). RunsWith (Begin parameters ∷ issuing xs) (6 + (2 + cost + 3) + 2) (at c p 0 t)
+        runs = subst (λ (xs : List BuildOp). RunsWith (Begin parameters ∷ issuing xs) (6 + (2 + cost + 3) + 2) (at c p
+            0 t)
             (at c p15 0 l4)) (sym (append-nil ops)) (runs_then {m = 6 + (2 + cost + 3)} {k = 2} issues tests);
         closure_is = closure_again;
         charge_there = refl;

@@ -1,5 +1,6 @@
 -- The whole run of the routine.
-use Rattle.std.proofs.Common.{◌≡◌, ◌≢◌, ◌⊎◌, inl, inr, ℕ, zero, suc, ◌+◌, ◌*◌, ◌/◌, ◌%◌, ◌<◌, ◌≤◌, Bool, true, false, List}
+use Rattle.std.proofs.Common.{◌≡◌, ◌≢◌, ◌⊎◌, inl, inr, ℕ, zero, suc, ◌+◌, ◌*◌, ◌/◌, ◌%◌, ◌<◌, ◌≤◌, Bool, true, false}
+use Rattle.std.proofs.Common.{List}
 use Rattle.std.proofs.Common.{◌++◌, length, Option, Some, None, refl, sym, ap, ◌∙◌, subst, arith, nat_lt, nat_le}
 use Rattle.std.proofs.lemmas.Bool.{cases_Bool, lt-ltb, ne_eqb}
 use Rattle.std.proofs.lemmas.Bool.Decides.{nat_tests}
@@ -10,7 +11,8 @@ use Rattle.host_edge.specs.declared.ending.TrapKind.TheVariants.{TableLimit, Are
 use Rattle.history.specs.Syntax.{Syntax, Ticked}
 use Rattle.code_arena.specs.Rows.{published}
 use Rattle.mips_model.specs.State.{Code, Data}
-use Rattle.mips_model.specs.Laws.{HasAt, past, at, Reaches}
+use Rattle.mips_model.specs.Laws.{HasAt, at, Reaches}
+use Rattle.mips_encoder.specs.Addresses.{past}
 use Rattle.mips_model.proofs.Reach.{front, back}
 use Rattle.icode_ops.specs.Kinds.{closure_number}
 use Rattle.icode_ops.specs.declared.kind.ClosureKind.{ClosureKind}
@@ -33,7 +35,8 @@ use Rattle.cgf_spec.proofs.Runs.{runs_on, runs_behind}
 use Rattle.cgf_spec.proofs.Found.{Live, live}
 use Rattle.cgf_spec.proofs.Generating.{generated, specifications_stay}
 use Rattle.compile_spec.specs.Routine.{build_code, make_code, traps_code, compile_code}
-use Rattle.compile_spec.specs.Laws.{HasArena, IsTickOf, return_ops, arena_address, compile_calls, made_data, frame_bytes}
+use Rattle.compile_spec.specs.Laws.{HasArena, IsTickOf, return_ops, arena_address, compile_calls, made_data}
+use Rattle.compile_spec.specs.Laws.{frame_bytes}
 use Rattle.compile_spec.specs.Laws.{KeepsRegister, Compiles}
 use Rattle.compile_spec.proofs.Tests.{less, Sees, p25, at25, m15, passes}
 use Rattle.compile_spec.proofs.Traps.{sees}
@@ -54,11 +57,12 @@ is_of true syntax (Some (Param index)) h = absurd h
 is_of false syntax (Some (Param index)) h = absurd h
 
 -- its closure
-record Tick (text : Text) (shared : Shared) (d : Data) (number : ℕ) (kind : ClosureKind) (syntax : Syntax) : Type 0 where
-  specification : Specification
-  closure : Live text shared d number specification
-  head_is : closure.closure.head ≡ syntax_head text kind syntax
-  small : syntax_size text.program syntax ≤ 16384
+record Tick (text : Text) (shared : Shared) (d : Data) (number : ℕ) (kind : ClosureKind) (syntax : Syntax) : Type 0
+  where
+    specification : Specification
+    closure : Live text shared d number specification
+    head_is : closure.closure.head ≡ syntax_head text kind syntax
+    small : syntax_size text.program syntax ≤ 16384
 
 tick_there : (text : Text) (shared : Shared) (d : Data) (number : ℕ) (is_value : Bool) (syntax : Syntax)
     (o : Option Specification) → HasSpecifications text shared d → specification_at number shared ≡ o →
@@ -136,7 +140,8 @@ built false c p a parameters charge g ra number depth cost ops t w low place mor
     built_statement c p a 2 parameters charge g ra number depth cost ops t w low place more room callee h refl
 
 module _ (text : Text) (pieces : ℕ → List Piece) (ticks functions : ℕ) (c : Code) (entry : ℕ) (shared : Shared)
-    (is_value : Bool) (syntax : Syntax) (words : List ℕ) (d : Data) (low : entry + 256 ≤ ARENA) (has : HasGenerators text
+    (is_value : Bool) (syntax : Syntax) (words : List ℕ) (d : Data) (low : entry + 256 ≤ ARENA) (has : HasGenerators
+    text
     pieces ticks c) (hs : HasSpecifications text shared d) (ha : HasArena functions shared d) (whole : IsWhole pieces
     ticks syntax) (is : IsTickOf is_value syntax (specification_at (d.registers 4) shared)) (b : d.registers 4 <
     4294967296) (room : 8 + 8 * syntax_depth pieces syntax ≤ EMIT_STACK_BYTES) (table : table_trap (next_function
@@ -302,11 +307,13 @@ module _ (text : Text) (pieces : ℕ → List Piece) (ticks functions : ℕ) (c 
   pub compile_answered :
       Compiles (compile_calls function next parameters size (syntax_ops pieces syntax ++ return_ops is_value) words)
       function (made_data function next parameters size d) (61 + syntax_cost pieces syntax) c
-      (code_behind (Flush next (length words)) (code_behind (Finish next (arena_words size) (frame_bytes size) words) c))
+      (code_behind (Flush next (length words)) (code_behind (Finish next (arena_words size) (frame_bytes size) words)
+      c))
       entry d
   compile_answered =
       let p40 = past (p25 c entry h) build_code in
-      let stands = front c p40 make_code traps_code (back c (p25 c entry h) build_code (make_code ++ traps_code) tail) in
+      let stands = front c p40 make_code traps_code (back c (p25 c entry h) build_code (make_code
+      ++ traps_code) tail) in
       let m = make_goes a function next size parameters (d.registers 31) words made.e ready few c p40 stands
       (omega (arith, low)) in
       record {

@@ -9,7 +9,8 @@ use Rattle.mips_encoder.specs.declared.instruction.Instr.{Instr}
 use Rattle.mips_model.specs.State.{Code, Data}
 use Rattle.mips_model.specs.Accesses.{Loads}
 use Rattle.mips_model.specs.Steps.{fetch, step}
-use Rattle.mips_model.specs.Laws.{HasAt, past, at, Reaches}
+use Rattle.mips_model.specs.Laws.{HasAt, at, Reaches}
+use Rattle.mips_encoder.specs.Addresses.{past}
 use Rattle.mips_model.proofs.Reach.{front, back, reaches_on, step_acts}
 use Rattle.meaning_state.specs.Rows.{arena_words}
 use Rattle.icode_templates.specs.Assembly.{lw, sw, srl, addiu, addu, ori, jr, syscall}
@@ -124,7 +125,8 @@ module _ (a function next size parameters ra : ℕ) (words : List ℕ) (e : Data
   publishes =
       let n : (next + 0) % 4294967296 ≡ next = omega (arith, r.near) in
       let m : wrap (e.registers 13 + next) ≡ next + 4 * arena_words size = omega (arith, r.charge, r.near) in
-      leaves_on (addu 5 4 0 ∷ addu 13 13 4 ∷ []) (sw 13 65516 28 ∷ lw 4 65520 28 ∷ lw 6 12 12 ∷ ori 2 0 68 ∷ []) 0 0 0 f5
+      leaves_on (addu 5 4 0 ∷ addu 13 13 4 ∷ []) (sw 13 65516 28 ∷ lw 4 65520 28 ∷ lw 6 12 12 ∷ ori 2 0 68
+      ∷ []) 0 0 0 f5
       f6 f10 (λ rest. rw (n, m) refl)
       (leaves_on (sw 13 65516 28 ∷ []) (lw 4 65520 28 ∷ lw 6 12 12 ∷ ori 2 0 68 ∷ []) 0 0 0 f6 f7 f10
       (one_leaves (sw 13 65516 28) 0 f6 f7 refl refl
@@ -197,7 +199,8 @@ module _ (a function next size parameters ra : ℕ) (words : List ℕ) (e : Data
       let h6 : HasAt (c1 c) p6 rest6 = text_stays finish_call c p6 rest6 low (back c p finish_code rest6 h) in
       let flush : Call = Flush next (length words) in
       let h9 : HasAt (c2 c) p9 rest9 = text_stays flush (c1 c) p9 rest9 low (back (c1 c) p6 flush_code rest9 h6) in
-      let h16 : HasAt (c2 c) p16 (answer_code ++ back_code) = back (c2 c) p9 publish_code (answer_code ++ back_code) h9 in
+      let h16 : HasAt (c2 c) p16 (answer_code ++ back_code) = back (c2 c) p9 publish_code (answer_code
+      ++ back_code) h9 in
       let r1 = runs_call finish_call {k = 5} {a = p + 4 + 4 + 4 + 4 + 4} {l = 0} {c = c} {d = f2} {s = at c p 0 e}
       (leaves_run (lw 4 65516 28 ∷ srl 5 13 2 ∷ srl 6 13 4 ∷ addiu 6 6 112 ∷ ori 2 0 66 ∷ []) c 0 0 p e f2 finishes
       (front c p (lw 4 65516 28 ∷ srl 5 13 2 ∷ srl 6 13 4 ∷ addiu 6 6 112 ∷ ori 2 0 66 ∷ []) (syscall ∷ rest6) h))

@@ -4,3 +4,4 @@ pub mod Traps
 pub mod Finishing
 pub mod Building
 pub mod Compiled
+mod Rows

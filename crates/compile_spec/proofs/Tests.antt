@@ -15,7 +15,8 @@ use Rattle.mips_model.specs.Accesses.{Plain, Loads, Branches}
 use Rattle.mips_model.specs.Arithmetic.{bit}
 use Rattle.mips_model.specs.Effects.{effect, jumps, reads_hilo}
 use Rattle.mips_model.specs.Steps.{Is, fetch, going, apply, is_hazard, recent_behind, step, branch_target}
-use Rattle.mips_model.specs.Laws.{HasAt, past, at, Reaches}
+use Rattle.mips_model.specs.Laws.{HasAt, at, Reaches}
+use Rattle.mips_encoder.specs.Addresses.{past}
 use Rattle.mips_model.proofs.Reach.{front, back, reaches_on, step_acts}
 use Rattle.icode_templates.specs.Assembly.{beq, bne, lui, addu, addiu, lw, sll, srl, sltu, sltiu}
 use Rattle.icode_templates_proof.specs.Moves.{EndsIn}
@@ -245,7 +246,8 @@ module _ (a kind size function next : ℕ) (d : Data) (sees : Sees d a kind size
   charges small near =
       let e1 : wrap (wrap (size * 512 % 4294967296 + size * 256 % 4294967296) + 256) ≡ charge = omega (arith, small) in
       let e2 : wrap (next + charge) ≡ next + charge = omega (arith, small, near) in
-      leaves_on (sll 6 6 8 ∷ addu 5 5 6 ∷ []) (lw 6 65516 28 ∷ addiu 5 5 256 ∷ addu 6 6 5 ∷ lui 1 1536 ∷ sltu 1 1 6 ∷ [])
+      leaves_on (sll 6 6 8 ∷ addu 5 5 6 ∷ []) (lw 6 65516 28 ∷ addiu 5 5 256 ∷ addu 6 6 5 ∷ lui 1 1536
+      ∷ sltu 1 1 6 ∷ [])
       0 0 0 n10 n11 n14 (λ rest. refl)
       (leaves_on (lw 6 65516 28 ∷ []) (addiu 5 5 256 ∷ addu 6 6 5 ∷ lui 1 1536 ∷ sltu 1 1 6 ∷ []) 0 6 0 n11 n12 n14
       (one_loads (lw 6 65516 28) 0 6 n11 n12 refl refl
@@ -257,7 +259,8 @@ module _ (a kind size function next : ℕ) (d : Data) (sees : Sees d a kind size
 -- ---- the tests behind that of the number
 
 module _ (c : Code) (entry : ℕ) (low : entry + 256 ≤ ARENA) (h : HasAt c entry compile_code) (d : Data) (g : d.registers
-    28 ≡ 542179328) (t : nat_lt (less d) (row_count d) ≡ true) (a kind size function next : ℕ) (sees : Sees d a kind size
+    28 ≡ 542179328) (t : nat_lt (less d) (row_count d) ≡ true) (a kind size function next : ℕ) (sees : Sees d a kind
+    size
     function next) where
   abbrev m8 : Data
   m8 = n8 a kind size function next d sees g

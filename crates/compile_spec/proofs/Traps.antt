@@ -1,6 +1,7 @@
 -- The traps of a compile are those of the meaning.
 use Rattle.std.proofs.Common.{◌≡◌, inl, inr, ℕ, zero, suc, ◌+◌, ◌*◌, ◌<◌, ◌≤◌, true, false, List, []}
-use Rattle.std.proofs.Common.{◌∷◌, length, Option, Some, None, refl, sym, ap, ◌∙◌, subst, arith, nat_lt, nat_le, slice_get}
+use Rattle.std.proofs.Common.{◌∷◌, length, Option, Some, None, refl, sym, ap, ◌∙◌, subst, arith, nat_lt, nat_le}
+use Rattle.std.proofs.Common.{slice_get}
 use Rattle.std.proofs.lemmas.Bool.{cases_Bool, lt-ltb}
 use Rattle.std.proofs.lemmas.Bool.Decides.{nat_tests}
 use Rattle.std.proofs.lemmas.Option.{slice_get_past}
@@ -66,7 +67,8 @@ module _ (text : Text) (functions : ℕ) (shared : Shared) (d : Data) (hs : HasS
       let past : row_count d ≤ less d = grind (arith, nat_tests, t) in
       slice_get_past shared.specifications n (omega (arith, past, is, b, counted))
 
-  live_number : (n : ℕ) → number ≡ n → nat_lt (less d) (row_count d) ≡ true → numbered n shared.specifications ≡ None → ⊥
+  live_number : (n : ℕ) → number ≡ n → nat_lt (less d) (row_count d) ≡ true → numbered n shared.specifications ≡ None →
+      ⊥
   live_number zero is t e =
       let below : less d < row_count d = grind (arith, nat_tests, t) in omega (arith, below, is, few_rows)
   live_number (suc n) is t e =
@@ -126,7 +128,8 @@ module _ (text : Text) (functions : ℕ) (shared : Shared) (d : Data) (hs : HasS
             let more : FUNCTION_ROWS ≤ function = grind (arith, nat_tests, past) in
             subst EndsAs (same_trap TableLimit kind (sym is_table ∙ some))
             (ends_wider {l = 17} {m = 17} (omega arith) (omega arith)
-            (table_ends c entry low h d hs.memory.global t (closure_of d number) (closure_number k) size function next seen
+            (table_ends c entry low h d hs.memory.global t (closure_of d number) (closure_number k) size function next
+            seen
             tick (omega (arith, more)))))
       ]
         where
@@ -153,7 +156,8 @@ module _ (text : Text) (functions : ℕ) (shared : Shared) (d : Data) (hs : HasS
     by_specification t (Param index) l some =
         let is = l.stands_for.1 in
         subst EndsAs (same_trap BadSpec kind some)
-        (ends_variable t (Param index) l 4 0 (ap (λ (x : Closure). x.head.kind) is) (ap (λ (x : Closure). x.head.size) is)
+        (ends_variable t (Param index) l 4 0 (ap (λ (x : Closure). x.head.kind) is) (ap (λ (x : Closure). x.head.size)
+        is)
         refl)
 
     by_row : nat_lt (less d) (row_count d) ≡ true → (o : Option Specification) → specification_at number shared ≡ o →

@@ -1,5 +1,6 @@
 -- What the routine that compiles a specification does on the machine.
-use Rattle.std.specs.Prelude.{◌≡◌, ◌⊎◌, ℕ, suc, ◌+◌, ◌*◌, ◌<◌, ◌≤◌, Bool, true, false, List, [], ◌∷◌, ◌++◌, length, Option}
+use Rattle.std.specs.Prelude.{◌≡◌, ◌⊎◌, ℕ, suc, ◌+◌, ◌*◌, ◌<◌, ◌≤◌, Bool, true, false, List, [], ◌∷◌, ◌++◌, length}
+use Rattle.std.specs.Prelude.{Option}
 use Rattle.std.specs.Prelude.{Some, None}
 use Rattle.limits.specs.declared.run.TheConstants.{STACK_OF_A_CALL}
 use Rattle.word32.specs.declared.map.TheConstants.{ARENA, ARENA_WORDS, EMIT_STACK_BYTES, ROUTINE_BYTES}
@@ -13,7 +14,8 @@ use Rattle.code_arena.specs.Rows.{published}
 use Rattle.mips_model.specs.State.{Code, Data}
 use Rattle.mips_model.specs.Laws.{HasAt, at}
 use Rattle.meaning_state.specs.Shared.{Shared, Specification, Expression, Statement}
-use Rattle.meaning_state.specs.Rows.{specification_at, parameters_of, arena_words, table_trap, arena_trap, next_function}
+use Rattle.meaning_state.specs.Rows.{specification_at, parameters_of, arena_words, table_trap, arena_trap}
+use Rattle.meaning_state.specs.Rows.{next_function}
 use Rattle.staged_meaning.specs.Program.{Program, syntax_size}
 use Rattle.icode_templates_proof.specs.Moves.{EndsIn}
 use Rattle.icode_ir.specs.declared.build_op.BuildOp.{BuildOp}

@@ -1,8 +1,8 @@
--- The routine that compiles a specification. The number is in $a0, the answer goes to $v0, and it returns to the address
--- in $ra. It tests the number, the function table and the arena, begins a function, calls the function of the
--- specification's tick, returns the value of an expression, finishes the function at the next place of the arena, flushes
--- its words and publishes it, and moves the cells on. The convention and the code are this project's own; it fills its
--- block of 64 words.
+-- The routine that compiles a specification. The number is in $a0, the answer goes to $v0, and it returns to the
+-- address in $ra. It tests the number, the function table and the arena, begins a function, calls the function of the
+-- specification's tick, returns the value of an expression, finishes the function at the next place of the arena,
+-- flushes its words and publishes it, and moves the cells on. The convention and the code are this project's own; it
+-- fills its block of 64 words.
 use Rattle.std.specs.Prelude.{ℕ, ◌+◌, ◌/◌, List, [], ◌∷◌, ◌++◌}
 use Rattle.word32.specs.declared.map.TheConstants.{SPEC_ROWS, EMIT_STACK, ARENA, ARENA_BYTES}
 use Rattle.mips_encoder.specs.declared.instruction.Instr.{Instr}

@@ -1,5 +1,5 @@
-//! The routine that compiles a specification, as a list of instructions, and what it does on the machine. There is no code
-//! to run here: each function's contract is a law.
+//! The routine that compiles a specification, as a list of instructions, and what it does on the machine. There is no
+//! code to run here: each function's contract is a law.
 #![tactic(auto)]
 
 ghost use Rattle.compile_spec.specs.Laws.{CompileIsAnswered, CompileTraps};
@@ -10,9 +10,9 @@ pub fn compile_limits_trap()
     ensures { CompileTraps }
 {}
 
-/// The specification with the number in `$a0` is compiled: a function is begun, gets exactly the ops of the specification
-/// and of its return, and is finished, flushed and published by the services that are told, in this order. Its number is
-/// the answer, the cells move on by one function and by its charge, and all else is as it was.
+/// The specification with the number in `$a0` is compiled: a function is begun, gets exactly the ops of the
+/// specification and of its return, and is finished, flushed and published by the services that are told, in this
+/// order. Its number is the answer, the cells move on by one function and by its charge, and all else is as it was.
 pub fn specifications_are_compiled()
     ensures { CompileIsAnswered }
 {}

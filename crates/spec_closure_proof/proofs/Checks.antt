@@ -6,7 +6,8 @@ use Rattle.host_edge.specs.declared.ending.TrapKind.{TrapKind}
 use Rattle.history.specs.Events.{Ended}
 use Rattle.mips_encoder.specs.declared.instruction.Instr.{Instr}
 use Rattle.mips_model.specs.State.{Code, Data}
-use Rattle.mips_model.specs.Laws.{HasAt, past, at}
+use Rattle.mips_model.specs.Laws.{HasAt, at}
+use Rattle.mips_encoder.specs.Addresses.{past}
 use Rattle.icode_ops.specs.Kinds.{run_number}
 use Rattle.icode_ops.specs.declared.kind.RunKind.TheVariants.{Local, Parameter}
 use Rattle.meaning_state.specs.Shared.{Shared}

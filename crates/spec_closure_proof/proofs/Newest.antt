@@ -132,7 +132,8 @@ newest_made ks k captures d has room fits =
           omega (arith, o, s.to);
     }
 
-module _ (ks : List Closure) (k : Closure) (i x : ℕ) (d : Data) (has : HasNewest ks k d) (l : i < length k.captured) (b :
+module _ (ks : List Closure) (k : Closure) (i x : ℕ) (d : Data) (has : HasNewest ks k d) (l : i < length k.captured) (b
+    :
     x < 4294967296) where
   abbrev d' : Data
   d' = with_captured i x d

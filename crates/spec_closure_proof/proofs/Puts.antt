@@ -9,7 +9,8 @@ use Rattle.word32.specs.Space.{update}
 use Rattle.word32.specs.declared.map.TheConstants.{CLOSURE_CELL}
 use Rattle.mips_model.specs.State.{Code, Data}
 use Rattle.mips_model.specs.Accesses.{Loads}
-use Rattle.mips_model.specs.Laws.{HasAt, past, at}
+use Rattle.mips_model.specs.Laws.{HasAt, at}
+use Rattle.mips_encoder.specs.Addresses.{past}
 use Rattle.meaning_state.specs.Rows.{closure_bytes}
 use Rattle.icode_templates.specs.Layout.{Spot}
 use Rattle.icode_templates.specs.Assembly.{addu, lui, lw, sw}

@@ -7,7 +7,8 @@ use Rattle.host_edge.specs.declared.ending.TrapKind.{TrapKind}
 use Rattle.history.specs.Events.{Ended}
 use Rattle.mips_encoder.specs.declared.instruction.Instr.{Instr}
 use Rattle.mips_model.specs.State.{Code, Data}
-use Rattle.mips_model.specs.Laws.{HasAt, past, at}
+use Rattle.mips_model.specs.Laws.{HasAt, at}
+use Rattle.mips_encoder.specs.Addresses.{past}
 use Rattle.icode_ops.specs.Kinds.{run_number}
 use Rattle.icode_ops.specs.declared.kind.ClosureKind.{ClosureKind}
 use Rattle.icode_ops.specs.declared.kind.RunKind.TheVariants.{Local, Parameter}
@@ -129,4 +130,5 @@ CapturedWordsArePut =
     (ks : List Closure) (k : Closure) (capture word : ℕ) (d : Data) → HasNewest ks k d
     → capture < length k.captured → word < 4294967296
     → HasPlace capture d
-    × HasNewest ks (record { head = k.head; captured = replaced capture word k.captured }) (with_captured capture word d)
+    × HasNewest ks (record { head = k.head; captured = replaced capture word k.captured }) (with_captured capture word
+    d)

@@ -1,5 +1,5 @@
--- The ops that make a tick's specification, on the machine: an op for each captured number, which calls the routine that
--- checks it; one that makes the closure; and one that puts each captured word into it. The words are those of the
+-- The ops that make a tick's specification, on the machine: an op for each captured number, which calls the routine
+-- that checks it; one that makes the closure; and one that puts each captured word into it. The words are those of the
 -- templates.
 use Rattle.std.specs.Prelude.{◌≡◌, ℕ, zero, suc, ◌+◌, ◌%◌, ◌≤◌, List, [], ◌∷◌, ◌++◌, length, Some, slice_get}
 use Rattle.word32.specs.declared.map.TheConstants.{CLOSURES, CLOSURE_BYTES, CLOSURE_CELL, GLOBAL_POINTER}

@@ -1,5 +1,5 @@
-//! What the ops that make specifications do on the machine, as laws over the routines of `spec_closure`. There is no code
-//! to run here: each function's contract is a law.
+//! What the ops that make specifications do on the machine, as laws over the routines of `spec_closure`. There is no
+//! code to run here: each function's contract is a law.
 #![tactic(auto)]
 
 ghost use Rattle.spec_closure_proof.specs.OpLaws.{

@@ -19,7 +19,8 @@ use Rattle.typed_tree.specs.declared.expression.CaptureKind.{CaptureKind}
 use Rattle.typed_tree.specs.declared.expression.CaptureKind.TheVariants as kind
 use Rattle.typed_tree.specs.declared.expression.Answer.TheVariants as answer
 use Rattle.meaning_state.specs.Shared.{Shared, Specification, Expression, Statement, Local, Param}
-use Rattle.meaning_state.specs.Rows.{numbered, key_parameters, parameters_of, parameters_in, closure_bytes, closure_trap, next_number, specified}
+use Rattle.meaning_state.specs.Rows.{numbered, key_parameters, parameters_of, parameters_in, closure_bytes}
+use Rattle.meaning_state.specs.Rows.{closure_trap, next_number, specified}
 use Rattle.staged_meaning.specs.Program.{is_expression, syntax_size}
 use Rattle.staged_meaning.specs.Specifications.{fits, captures_trap, captures_of, key_in, specification_of}
 use Rattle.staged_meaning.specs.Specifications.{syntax_in}
@@ -180,7 +181,8 @@ pub local_made : (text : Text) (shared : Shared) (d : Data) → HasSpecification
 local_made text shared d h none =
     let few = few_rows text shared d h in
     variable_made text shared Local (local_head (next_number shared)) d
-    (record { first = omega (arith, few); kind = omega arith; size = omega arith; parameters = omega arith }) refl h none
+    (record { first = omega (arith, few); kind = omega arith; size = omega arith; parameters = omega arith }) refl h
+    none
 
 pub parameter_made : (text : Text) (shared : Shared) (index : ℕ) (d : Data) → HasSpecifications text shared d →
     index < MOST_ARGUMENTS → closure_trap 0 shared ≡ None →
@@ -289,7 +291,8 @@ all_put ks k xs i (w ∷ ws) d h same b =
 stands_tick : (text : Text) (rows : List Specification) (is_value : Bool) (syntax : Syntax) (words : List ℕ) →
     AreCaptured rows (suc (length rows)) (captures_of_syntax syntax) words →
     syntax_size text.program syntax ≤ SIZE_LIMIT →
-    StandsFor text (rows ++ specification_of is_value syntax ∷ []) (suc (length rows)) (specification_of is_value syntax)
+    StandsFor text (rows ++ specification_of is_value syntax ∷ []) (suc (length rows)) (specification_of is_value
+    syntax)
     (closure_with (syntax_head text (kind_of_tick is_value) syntax) words)
 stands_tick text rows true syntax words h small = record {
   head = refl;
@@ -355,7 +358,8 @@ module _ (text : Text) (shared : Shared) (tick : ℕ) (kinds : List CaptureKind)
       let new = closure_with k words in
       record {
         closures = h.closures ++ new ∷ [];
-        memory = subst (λ xs. HasClosures (h.closures ++ closure_with k xs ∷ []) (puts 0 words (appended k (length words)
+        memory = subst (λ xs. HasClosures (h.closures ++ closure_with k xs ∷ []) (puts 0 words (appended k (length
+            words)
             d))) all put.closures;
         stand_for = one_more text rows h.closures (specification_of is_value syntax) new h.stand_for
             (stands_tick text rows is_value syntax words (all_captured rows kinds words fit same) small);

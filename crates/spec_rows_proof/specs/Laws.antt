@@ -113,8 +113,8 @@ abbrev pub AreWordsIn : List ℕ → Type 0
 AreWordsIn [] = Unit {0}
 AreWordsIn (x ∷ xs) = (x < 4294967296) × AreWordsIn xs
 
--- A tick's specification, as the meaning makes it: its closure was made with what was added up, and then got its captured
--- words one by one.
+-- A tick's specification, as the meaning makes it: its closure was made with what was added up, and then got its
+-- captured words one by one.
 abbrev pub TicksStandFor : Type 0
 TicksStandFor =
     (text : Text) (shared : Shared) (tick : ℕ) (kinds : List CaptureKind) (words : List ℕ) (d : Data)

@@ -1,6 +1,6 @@
--- Which closure stands for which specification. The closure of a tick has the address of the function that generates its
--- code, and the size and the parameters of the whole specification; its captured words are the values that were captured,
--- and for what is spliced in, the numbers of earlier specifications. The rules are this project's own.
+-- Which closure stands for which specification. The closure of a tick has the address of the function that generates
+-- its code, and the size and the parameters of the whole specification; its captured words are the values that were
+-- captured, and for what is spliced in, the numbers of earlier specifications. The rules are this project's own.
 use Rattle.std.specs.Prelude.{◌≡◌, ℕ, suc, ◌<◌, ◌≤◌, List, [], ◌∷◌, length, slice_get, Option}
 use Rattle.std.specs.Prelude.{Some}
 use Rattle.limits.specs.declared.program.TheConstants.{MOST_ARGUMENTS, SIZE_LIMIT}

@@ -1,6 +1,6 @@
 //! Prints the captures of the ticks of the texts on its input, a line for each tick: of each capture its kind and the
-//! number of the first node of the tick's body that names it. A text has a line `%% TITLE` before it, and goes up to the
-//! next such line.
+//! number of the first node of the tick's body that names it. A text has a line `%% TITLE` before it, and goes up to
+//! the next such line.
 #![tactic(auto)]
 
 ghost use Rattle.std.specs.Prelude.{◌≤◌, length};

@@ -1,0 +1,3 @@
+pub mod TickPieces
+pub mod Filled
+pub mod Laws
