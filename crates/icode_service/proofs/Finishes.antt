@@ -1,5 +1,5 @@
 -- What a call of the service that finishes a function did, in each case.
-use Rattle.std.proofs.Common.{ℕ, ◌+◌, ◌≡◌, ◌≤◌, inl, inr, Bool, true, false, List, Option, Some, None}
+use Rattle.std.proofs.Common.{ℕ, ◌+◌, ◌≡◌, ◌≤◌, inl, inr, Bool, false, List, Option, Some, None}
 use Rattle.std.proofs.Common.{Result, Ok, Err, length, refl, sym, ap, subst, ◌∙◌}
 use Rattle.std.specs.Prelude.{if◌then◌else◌, take}
 use Rattle.std.proofs.lemmas.Option.{none-some}
@@ -13,7 +13,7 @@ use Rattle.icode_service_spec.specs.Services as services
 use Rattle.icode_service_spec.specs.Services.{Generator, Rows, is_done, finish_refusal}
 use Rattle.icode_service.specs.Served.{Did, ChosenFor}
 use Rattle.icode_service.specs.Held.{generator}
-use Rattle.icode_service.specs.Made.{IsMade, IsShort, IsBad}
+use Rattle.icode_service.specs.Made.{IsMade, IsBad}
 use Rattle.icode_service.proofs.Outcomes.{refused, done, no_choice, chosen_none, finish_none, finish_early}
 use Rattle.icode_service.proofs.Outcomes.{finish_short, finish_made}
 

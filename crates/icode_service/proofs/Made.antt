@@ -1,12 +1,12 @@
 -- That words were made and written: what a call of the expansion says, within the room for words and within the arena.
-use Rattle.std.proofs.Common.{ℕ, ◌+◌, ◌*◌, ◌%◌, ◌≡◌, ◌<◌, ◌≤◌, Bool, true, false, List, ◌++◌, Option, Some, None}
-use Rattle.std.proofs.Common.{Result, Ok, Err, length, take, drop, refl, sym, ap, subst, append_assoc, ◌∙◌, arith}
-use Rattle.std.specs.Prelude.{◌&&◌, nat_eq, nat_lt, nat_le, MatchResult, if◌then◌else◌}
-use Rattle.std.proofs.Math.Seq.{take-append_seam}
-use Rattle.std.proofs.lemmas.Bool.{and_parts, eqb-true, ltb-true, leb-true}
+use Rattle.std.proofs.Common.{ℕ, ◌+◌, ◌*◌, ◌%◌, ◌≡◌, ◌<◌, ◌≤◌, Bool, true, false, List, Option, Some, None}
+use Rattle.std.proofs.Common.{length, refl, sym, ap, subst, ◌∙◌, arith}
+use Rattle.std.specs.Prelude.{◌&&◌, nat_eq, nat_le, if◌then◌else◌}
+use Rattle.std.proofs.lemmas.Bool.{and_parts, leb-true}
 use Rattle.std.proofs.lemmas.Option.{none-some}
 use Rattle.limits.specs.declared.ops.TheConstants.{MOST_OPS, OP_WORDS, FRAME_WORDS}
-use Rattle.word32.specs.declared.map.TheConstants.{ARENA, ARENA_BYTES, STACK_BYTES}
+use Rattle.limits.specs.declared.run.TheConstants.{STACK_OF_A_CALL}
+use Rattle.word32.specs.declared.map.TheConstants.{STACK_BYTES}
 use Rattle.code_arena.specs.Arena.{Arena}
 use Rattle.icode_ops.specs.declared.op.Op.{Op}
 use Rattle.icode_ir.specs.Build.{Build, finished}
@@ -20,47 +20,12 @@ use Rattle.icode_service_spec.specs.Services.{is_arena_range, is_frame, is_done,
 use Rattle.icode_service_spec.specs.Services.{arena_word}
 use Rattle.icode_service.specs.Made.{IsMade, IsShort}
 
-pub map_result :
-    {A B : Type 0} → (r : Result A B) (P P' : A → Type 0) (Q Q' : B → Type 0) → ((x : A) → P x → P' x) →
-    ((y : B) → Q y → Q' y) → MatchResult r P Q → MatchResult r P' Q'
-map_result (Ok x) P P' Q Q' f g h = f x h
-map_result (Err y) P P' Q Q' f g h = g y h
-
--- what an address and a count of words of the arena are
-pub record InArena (at count : ℕ) : Type 0 where
-  pub aligned : at % 4 ≡ 0
-  pub first : ARENA ≤ at
-  pub below : at < ARENA + ARENA_BYTES
-  pub last : at + 4 * count ≤ ARENA + ARENA_BYTES
-
-pub in_arena : (at count : ℕ) → is_arena_range at count ≡ true → InArena at count
-in_arena at count h =
-    let a = and_parts (nat_eq (at % 4) 0)
-    (nat_le ARENA at && (nat_lt at (ARENA + ARENA_BYTES) && nat_le (at + 4 * count) (ARENA + ARENA_BYTES))) h in
-    let b = and_parts (nat_le ARENA at)
-    (nat_lt at (ARENA + ARENA_BYTES) && nat_le (at + 4 * count) (ARENA + ARENA_BYTES)) a.1 in
-    let c = and_parts (nat_lt at (ARENA + ARENA_BYTES)) (nat_le (at + 4 * count) (ARENA + ARENA_BYTES)) b.1 in
-    record {
-      aligned = eqb-true (at % 4) 0 a.0;
-      first = leb-true ARENA at b.0;
-      below = ltb-true at (ARENA + ARENA_BYTES) c.0;
-      last = leb-true (at + 4 * count) (ARENA + ARENA_BYTES) c.1;
-    }
-
 -- a frame that is large enough for a call isn't larger than the stack
 pub frame_low : (bytes registers : ℕ) → is_frame bytes registers ≡ true → bytes ≤ STACK_BYTES
 frame_low bytes registers h =
-    let a = and_parts (nat_le (128 + 4 * registers) bytes) (nat_le bytes STACK_BYTES && nat_eq (bytes % 4) 0) h in
+    let a = and_parts (nat_le (STACK_OF_A_CALL + 4 * registers) bytes) (nat_le bytes STACK_BYTES && nat_eq (bytes % 4) 0) h in
     let b = and_parts (nat_le bytes STACK_BYTES) (nat_eq (bytes % 4) 0) a.1 in
     leb-true bytes STACK_BYTES b.0
-
--- the words that were written to the front of a longer list
-pub front_of :
-    (n : ℕ) (words old rest : List ℕ) → n ≡ length words → take n ((words ++ drop n old) ++ rest) ≡ words
-front_of n words old rest e =
-    ap (λ (m : ℕ). take m ((words ++ drop n old) ++ rest)) e
-    ∙ (ap (take (length words)) (append_assoc words (drop n old) rest)
-    ∙ take-append_seam words (drop n old ++ rest))
 
 -- ---- what is known of a finished function
 

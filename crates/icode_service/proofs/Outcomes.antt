@@ -1,17 +1,13 @@
 -- What each service does in each case, and that a call did it.
-use Rattle.std.proofs.Common.{ℕ, ◌+◌, ◌≡◌, ◌<◌, ◌≤◌, Bool, true, false, List, [], ◌∷◌, Option, Some, None}
-use Rattle.std.proofs.Common.{Result, Ok, Err, length, refl, sym, ap, subst, ◌∙◌}
+use Rattle.std.proofs.Common.{ℕ, ◌≡◌, ◌<◌, ◌≤◌, Bool, true, false, List, [], ◌∷◌, Option, Some, None}
+use Rattle.std.proofs.Common.{Ok, Err, length, refl, sym, ap, subst, ◌∙◌}
 use Rattle.std.specs.Prelude.{◌&&◌, is_some, nat_le, nat_lt, take, if◌then◌else◌}
 use Rattle.std.proofs.lemmas.Bool.{lt-ltb, le-ltb, le-leb, lt-leb}
 use Rattle.limits.specs.declared.program.TheConstants.{MOST_ARGUMENTS}
 use Rattle.code_arena.specs.Arena.{Arena}
 use Rattle.icode_ir.specs.declared.body.Body.{Body}
-use Rattle.icode_ir.specs.declared.build_op.BuildOp.{BuildOp}
-use Rattle.icode_ir.specs.declared.build_op.BuildFault.{BuildFault}
 use Rattle.icode_ir.specs.Build.{Build}
 use Rattle.icode_ir.specs.Building.{Building}
-use Rattle.icode_ir.specs.Rules.{fault_of, effect}
-use Rattle.icode_codes.specs.Decoded.{op_of}
 use Rattle.icode_service_spec.specs.declared.bad_service.BadService.{BadService}
 use Rattle.icode_service_spec.specs.declared.bad_service.BadService.TheVariants as reason
 use Rattle.icode_service_spec.specs.Choices.{Choice}
@@ -54,17 +50,7 @@ build_none begun b count places spills g v e =
 abbrev holding : ℕ → List ℕ → ℕ → Build → Generator
 holding count places spills b = record { build = Some b; choices = take count places; spills = spills }
 
--- the builder holds other ops of a function that is begun
-pub rebuilt :
-    (begun : Bool) (b b' : Building) (count : ℕ) (places : List ℕ) (spills : ℕ) (g : Generator) (made : Build) →
-    generator begun b count places spills ≡ g → begun ≡ true → b'.build ≡ made →
-    generator begun b' count places spills ≡ record g { build = Some made }
-rebuilt begun b b' count places spills g made v e m =
-    ap (λ (t : Bool). generator t b' count places spills) e
-    ∙ (ap (holding count places spills) m
-    ∙ ap (λ (x : Generator). let y : Generator = record x { build = Some made } in y) v)
-
--- it holds the same function
+-- the builder holds the same function
 pub unchanged :
     (begun : Bool) (b b' : Building) (count : ℕ) (places : List ℕ) (spills : ℕ) (g : Generator) →
     generator begun b count places spills ≡ g → b'.build ≡ b.build →
@@ -97,40 +83,6 @@ begin_many p g e h = begin_test p g true e (lt-ltb MOST_ARGUMENTS p h)
 pub begin_new :
     (p : ℕ) (g : Generator) → g.build ≡ None → p ≤ MOST_ARGUMENTS → services.begin p g ≡ builds (services.begun p g)
 begin_new p g e h = begin_test p g false e (le-ltb MOST_ARGUMENTS p h)
-
--- ---- emit
-
-pub emit_none :
-    (code first second : ℕ) (g : Generator) → g.build ≡ None →
-    services.emit code first second g ≡ Refused reason.NotBegun
-emit_none code first second g e =
-    ap (λ (o : Option Build). services.emit_in o (op_of code first second) g) e
-
-emit_some :
-    (code first second : ℕ) (g : Generator) (b : Build) (op : Option BuildOp) → g.build ≡ Some b →
-    op_of code first second ≡ op → services.emit code first second g ≡ services.emit_op op b g
-emit_some code first second g b op e q =
-    ap (λ (o : Option Build). services.emit_in o (op_of code first second) g) e
-    ∙ ap (λ (o : Option BuildOp). services.emit_op o b g) q
-
-pub emit_unknown :
-    (code first second : ℕ) (g : Generator) (b : Build) → g.build ≡ Some b → op_of code first second ≡ None →
-    services.emit code first second g ≡ Refused reason.BadArgument
-emit_unknown code first second g b e q = emit_some code first second g b None e q
-
-pub emit_bad :
-    (code first second : ℕ) (g : Generator) (b : Build) (op : BuildOp) (f : BuildFault) → g.build ≡ Some b →
-    op_of code first second ≡ Some op → fault_of op b ≡ Some f →
-    services.emit code first second g ≡ Refused reason.BadOp
-emit_bad code first second g b op f e q h =
-    emit_some code first second g b (Some op) e q ∙ ap (λ (o : Option BuildFault). services.built o op b g) h
-
-pub emit_good :
-    (code first second : ℕ) (g : Generator) (b : Build) (op : BuildOp) → g.build ≡ Some b →
-    op_of code first second ≡ Some op → fault_of op b ≡ None →
-    services.emit code first second g ≡ builds (record g { build = Some (effect op b) })
-emit_good code first second g b op e q h =
-    emit_some code first second g b (Some op) e q ∙ ap (λ (o : Option BuildFault). services.built o op b g) h
 
 -- ---- finish
 

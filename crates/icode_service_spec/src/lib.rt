@@ -6,4 +6,4 @@ mod bad_service;
 mod laws;
 
 pub use bad_service::BadService;
-pub use laws::choices_are_legal;
+pub use laws::{answers_are_small, choices_are_legal, words_stand};

@@ -1,7 +1,6 @@
-use Rattle.std.proofs.Common.{◌≤◌, length, inl, refl, ◌∙◌, arith}
+use Rattle.std.proofs.Common.{inl, refl, ◌∙◌, arith}
 use Rattle.std.proofs.lemmas.List.{length-take-le}
-use Rattle.icode_service_spec.specs.Services as services
-use Rattle.icode_service.proofs.Made.{none_refused, refused_is}
+use Rattle.icode_service.proofs.Made.{refused_is}
 use Rattle.icode_service.proofs.compile.compile.Goals as goal
 
 pub returns-in-Some-clause-made : goal.returns-in-Some-clause-made

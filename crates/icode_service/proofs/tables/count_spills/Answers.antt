@@ -1,4 +1,4 @@
-use Rattle.std.proofs.Common.{◌+◌, ◌<◌, length, arith}
+use Rattle.std.proofs.Common.{◌<◌, length, arith}
 use Rattle.icode_ops.specs.declared.interval.Interval.{Interval}
 use Rattle.icode_service_spec.specs.Choices.{spilled}
 use Rattle.icode_service.proofs.Writes.{each_at, spill_step, spill_end}

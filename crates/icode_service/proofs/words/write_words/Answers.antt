@@ -1,4 +1,4 @@
-use Rattle.std.proofs.Common.{◌+◌, get_or, refl, arith}
+use Rattle.std.proofs.Common.{get_or, refl, arith}
 use Rattle.code_arena.specs.Kept.{arena_of}
 use Rattle.icode_service_spec.specs.Services.{written_from}
 use Rattle.icode_service.proofs.Writes.{write_step, write_end}

@@ -1,4 +1,4 @@
-use Rattle.std.proofs.Common.{◌≢◌, refl, arith}
+use Rattle.std.proofs.Common.{refl, arith}
 use Rattle.code_arena.specs.Kept.{arena_of, rows_of}
 use Rattle.icode_service.proofs.Serving.{as_begin, as_emit, as_finish, as_flush, as_publish, as_none, begin_few, emit_few}
 use Rattle.icode_service.proofs.service.Service.serve.Goals as goal

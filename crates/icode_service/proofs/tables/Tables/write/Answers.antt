@@ -1,4 +1,4 @@
-use Rattle.std.proofs.Common.{◌≤◌, length, ap, arith}
+use Rattle.std.proofs.Common.{length, ap, arith}
 use Rattle.icode_service.proofs.Made.{few_words}
 use Rattle.icode_service.proofs.tables.Tables.write.Goals as goal
 
