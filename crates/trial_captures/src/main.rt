@@ -8,7 +8,8 @@ ghost use Rattle.std.specs.Prelude.{◌≤◌, length};
 use c_lexer::tokens;
 use captures::{Capture, captures};
 use limits::text::LONGEST_TEXT;
-use std::alloc::Global;
+use sqlite_items::Items;
+use std::alloc::{AllocError, Global};
 use std::io::{self, Read};
 use tick_checker::check;
 use tick_parser::parse;
@@ -44,11 +45,35 @@ fn report_captures<R: Print + AllocGlobal>(rt: &R, found: &[Capture]) -> io::Res
     println!(rt; ".")
 }
 
-// Those of the ticks of a program, in the order of the text.
-fn report_ticks<R: Print + AllocGlobal>(rt: &R, title: &str, program: &Typed) -> io::Result<()> {
-    for (number, _) in program.ticks().iter().enumerate() {
+// Those of each tick of a program, in the order of the text.
+fn found_in(alloc: Global, program: &Typed) -> Result<Vec<Items<Capture>>, AllocError> {
+    let mut all = Vec::new(alloc);
+    let count = u32::try_from(program.ticks().len()).unwrap_or(u32::MAX);
+    for number in 0..count {
+        let found = captures(alloc, program.ticks(), number)?;
+        all.push(found)?;
+    }
+    Ok(all)
+}
+
+// Those of each tick of a text, or its first static fault.
+fn found_in_text(alloc: Global, text: &[u8]) -> Result<Vec<Items<Capture>>, Deny>
+    requires { length text.now ≤ LONGEST_TEXT }
+{
+    let program = typed(alloc, text)?;
+    match found_in(alloc, &program) {
+        Ok(found) => Ok(found),
+        Err(_) => Err(Deny::NoMemory),
+    }
+}
+
+fn report_ticks<R: Print + AllocGlobal>(
+    rt: &R,
+    title: &str,
+    ticks: &[Items<Capture>],
+) -> io::Result<()> {
+    for (number, found) in ticks.iter().enumerate() {
         print!(rt; "{title} {number}:")?;
-        let found = captures(rt.alloc(), program.ticks(), number as u32)?;
         report_captures(rt, found.as_slice())?;
     }
     Ok(())
@@ -60,8 +85,8 @@ fn report<R: Print + AllocGlobal>(rt: &R, title: &[u8], text: &[u8]) -> io::Resu
     if LONGEST_TEXT < text.len() {
         return println!(rt; "{title}: over {LONGEST_TEXT} bytes");
     }
-    match typed(rt.alloc(), text) {
-        Ok(program) => report_ticks(rt, title, &program),
+    match found_in_text(rt.alloc(), text) {
+        Ok(ticks) => report_ticks(rt, title, &ticks),
         Err(Deny::Refused(fault)) => {
             println!(rt; "{title}: {} on line {}", fault.kind.name(), fault.line)
         }
