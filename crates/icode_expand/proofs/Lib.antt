@@ -1,4 +1,5 @@
 mod Rows
+pub mod Counted
 pub mod Appended
 pub mod Marked
 pub mod Lengths

@@ -10,23 +10,9 @@ ghost use Rattle.icode_templates.specs.Templates.{template};
 ghost use Rattle.icode_expand.specs.Expansion.{nowhere, templates, aims};
 ghost use Rattle.icode_expand.specs.Labels.{IsTable, with_label, target_of};
 
+use crate::counts::op_words;
 use icode_ops::Op;
-use icode_templates::{Layout, Snippet};
-
-// How many bytes the template of an op has.
-#[tactic(auto, using(crate::proofs::Lengths::length_words))]
-fn op_bytes(op: Op, layout: &Layout) -> u32
-    requires registers { InRange MOST_SLOTS op }
-    requires frame { layout.now.frame ≤ STACK_BYTES }
-    requires objects { layout.now.objects ≤ OBJECT_BYTES }
-    ensures bytes { result ≡
-        4 * length (template (laid layout.now.places.now layout.now.frame layout.now.objects) nowhere op) }
-    ensures most { result ≤ 64 }
-{
-    let mut code = Snippet::new();
-    code.add_op(op, layout, 0);
-    code.len() as u32 * 4
-}
+use icode_templates::Layout;
 
 // Notes the address of an op where it is a label, and gives the address behind the op.
 fn place_op(op: &Op, layout: &Layout, address: u32, labels: &mut [u32]) -> u32
@@ -43,7 +29,7 @@ fn place_op(op: &Op, layout: &Layout, address: u32, labels: &mut [u32]) -> u32
     if let Some(label) = op.label() {
         labels[label as usize] = address;
     }
-    address + op_bytes(*op, layout)
+    address + 4 * op_words(*op, layout)
 }
 
 /// Fills the table with the addresses of the labels of ops that stand from an address on, and gives the address behind

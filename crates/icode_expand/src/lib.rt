@@ -8,12 +8,14 @@ ghost use Rattle.icode_ops.specs.Finished.{Below, IsFinished};
 ghost use Rattle.icode_ops.specs.Flow.{label_of, op_at};
 ghost use Rattle.icode_expand.specs.Expansion.{expanded};
 
+mod counts;
 mod frame;
 mod labels;
 mod laws;
 mod output;
 mod saved;
 
+use crate::counts::ops_words;
 use crate::frame::Frame;
 use crate::labels::place_labels;
 pub use crate::laws::{
@@ -29,6 +31,28 @@ use thiserror::Error;
 #[derive(Clone, Copy, Debug, PartialEq, Eq, Drop, Error)]
 #[error("the words are more than there is room for")]
 pub struct Short;
+
+/// How many words `expand` makes of a function: of these ops, with these places of their registers, bytes of the frame
+/// and bytes of its objects, a compiled one or not. Where it is to stand makes no difference. No memory is taken, and
+/// the cost is linear in the ops and the places.
+pub fn expanded_length(ops: &[Op], places: &[u8], frame: u32, object: u32, compiled: bool) -> usize
+    requires finished { (n : ℕ) × IsFinished ops.now n }
+    requires frame { frame ≤ STACK_BYTES }
+    ensures { (at : ℕ) → result ≡ length (expanded ops.now places.now at frame object compiled) }
+{
+    let layout = Layout {
+        places,
+        frame,
+        objects: object,
+    };
+    let shape = Frame {
+        bytes: frame,
+        objects: object,
+        saved: Saved::of(places),
+        compiled,
+    };
+    shape.prologue().len() + ops_words(ops, &layout) + shape.epilogue().len()
+}
 
 /// Writes the words of a function to the front of `out`, and gives how many they are.
 ///

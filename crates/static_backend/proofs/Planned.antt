@@ -45,15 +45,15 @@ plan_more xs x addresses addresses' places places' end end' n scan legal long a 
       end_is = omega (arith, e, long, plan.end_is, whole, both, one, same);
     }
 
--- the words that were made of a function are as many as it has where it is to stand
-pub as_long : (x : Placed) (at n : ℕ) (words places : List ℕ) (ops : List Op) → n ≡ length words
-    → words ≡ expanded ops places at (charge_of (size_of x.function)) x.function.object false → ops ≡ ops_of unknown x
-    → places ≡ x.places → n ≡ length (words_of unknown at x)
-as_long x at n words places ops many are op place =
+-- what was counted of a function is as many words as it has where it is to stand
+pub as_long : (x : Placed) (at n : ℕ) (places : List ℕ) (ops : List Op)
+    → n ≡ length (expanded ops places at (charge_of (size_of x.function)) x.function.object false)
+    → ops ≡ ops_of unknown x → places ≡ x.places → n ≡ length (words_of unknown at x)
+as_long x at n places ops many op place =
     let charge = charge_of (size_of x.function) in
     let object = x.function.object in
     many ∙ ap length
-    (are ∙ ap (λ (os : List Op). expanded os places at charge object false) op
+    (ap (λ (os : List Op). expanded os places at charge object false) op
     ∙ ap (λ (ps : List ℕ). expanded (ops_of unknown x) ps at charge object false) place)
 
 -- ---- the end

@@ -14,6 +14,7 @@ ghost use Rattle.typed_tree.specs.View.{function_view};
 ghost use Rattle.word32.specs.declared.map.TheConstants.{ARENA};
 
 use crate::text::function_words;
+use icode_expand::expanded_length;
 use icode_ir::Builder;
 use icode_ops::CallAddress;
 use limits::run::{STACK_OF_A_CALL, STACK_OF_A_NODE};
@@ -44,6 +45,17 @@ pub fn build_ops(
         Ok(()) => Ok(()),
         Err(_) => unreachable!(),
     }
+}
+
+/// How many words a function has under these places, wherever it stands, where a finished builder has its ops.
+pub fn built_length(builder: &Builder, function: &Function, places: &[u8]) -> usize
+    requires finished { builder.now.phase ≡ Finished }
+    requires ready { (functions : List node.Function) × IsReadyIn functions (function_view function.now) }
+    ensures { (at : ℕ) → result ≡ length (expanded (finished builder.now.build) places.now at
+        (charge_of (size_of (function_view function.now))) function.now.object false) }
+{
+    let bytes = STACK_OF_A_CALL + STACK_OF_A_NODE * size(function);
+    expanded_length(builder.ops(), places, bytes, function.object, false)
 }
 
 /// The words of a function from an address on, under these places, where a finished builder has its ops. `labels` has

@@ -99,7 +99,7 @@ pub fn functions_code(alloc: Global, functions: &[Function]) -> Result<Code, All
     ensures { IfOk result (λ code. AreCode (map function_view functions.now) code.words.items code.rows.items) }
 {
     let mut tables = Tables::new(alloc)?;
+    let plan = planned(alloc, &mut tables, functions)?;
     let mut labels = zeros(alloc, OP_LIMIT)?;
-    let plan = planned(alloc, &mut tables, &mut labels, functions)?;
     append_all(alloc, &mut tables, &mut labels, functions, &plan)
 }

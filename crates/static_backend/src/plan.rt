@@ -1,11 +1,10 @@
 //! The first pass over a program's functions: the places of their registers, and where they are to stand. No address is
-//! known yet, so calls go nowhere, which changes neither places nor lengths.
+//! known yet, so calls go nowhere, which changes neither places nor lengths; and no words are made, but counted.
 
-ghost use Rattle.std.specs.Prelude.{◌≡◌, ℕ, ◌+◌, ◌*◌, ◌%◌, ◌≤◌, [], ◌∷◌, ◌++◌, IfOk, OnOk, List, length, map};
+ghost use Rattle.std.specs.Prelude.{◌≡◌, ℕ, ◌+◌, ◌*◌, ◌%◌, ◌≤◌, [], ◌∷◌, ◌++◌, IfOk, OnOk, List, map};
 ghost use Rattle.icode_ir.specs.Build.{empty};
 ghost use Rattle.icode_ir.specs.Runs.{run_ops};
 ghost use Rattle.icode_ir.specs.declared.builder.Phase.TheVariants.{Finished};
-ghost use Rattle.limits.specs.declared.ops.TheConstants.{OP_LIMIT as LABELS};
 ghost use Rattle.limits.specs.declared.program.TheConstants.{CHARGE_LIMIT};
 ghost use Rattle.staged_meaning.specs.Scope.{IsReadyIn};
 ghost use Rattle.static_backend.specs.Scanned.{IsScan};
@@ -17,7 +16,7 @@ ghost use Rattle.typed_tree.specs.Nodes as node;
 ghost use Rattle.typed_tree.specs.View.{function_view};
 ghost use Rattle.word32.specs.declared.map.TheConstants.{ARENA};
 
-use crate::code::{build_ops, built_words};
+use crate::code::{build_ops, built_length};
 use crate::places::scanned_places;
 use crate::tables::Tables;
 use icode_ops::CallAddress;
@@ -77,11 +76,9 @@ fn add(plan: &mut Plan, places: Vec<u8>, words: usize) -> Result<(), AllocError>
 fn place(
     alloc: Global,
     tables: &mut Tables,
-    labels: &mut [u32],
     function: &Function,
     plan: &mut Plan,
 ) -> Result<(), AllocError>
-    requires labels { length labels.old ≡ LABELS }
     requires served { (functions : List node.Function) × IsStatic functions (function_view function.now) }
     requires aligned { plan.old.end % 4 ≡ 0 }
     requires low { plan.old.end ≤ ARENA }
@@ -89,19 +86,16 @@ fn place(
         IsPlanOf (before ++ record { function = function_view function.now; places = places } ∷ []) plan.new) }
 {
     let places = scanned(alloc, tables, function)?;
-    let words = built_words(alloc, labels, &tables.builder, function, &places, plan.end)?;
-    add(plan, places, words.len())
+    let words = built_length(&tables.builder, function, &places);
+    add(plan, places, words)
 }
 
-/// The places of all functions of a program, and where they are to stand. `labels` has room for the labels of one. The
-/// only error is want of memory.
+/// The places of all functions of a program, and where they are to stand. The only error is want of memory.
 pub fn planned(
     alloc: Global,
     tables: &mut Tables,
-    labels: &mut [u32],
     functions: &[Function],
 ) -> Result<Plan, AllocError>
-    requires labels { length labels.old ≡ LABELS }
     requires functions { AreStatic (map function_view functions.now) }
     ensures { IfOk result (λ plan.
         (placed : List Placed) × (functions_of placed ≡ map function_view functions.now) × IsPlanOf placed plan) }
@@ -112,7 +106,7 @@ pub fn planned(
         end: FUNCTIONS,
     };
     for function in functions {
-        place(alloc, tables, labels, function, &mut plan)?;
+        place(alloc, tables, function, &mut plan)?;
     }
     Ok(plan)
 }
