@@ -24,11 +24,14 @@ use Rattle.command_words.specs.declared.arguments.Wanted.{Wanted}
 abbrev pub Word : Type 0
 Word = List ℕ
 
--- a command on a file, with its operands as bytes and the most instructions of its run
+-- a command on a file, with its operands as bytes and the most instructions of its run, or the most units of work of
+-- its
+-- evaluation
 pub data Order : Type 0 where
   run : (file : Word) (steps : ℕ) → Order
   build : (file image : Word) → Order
   exec : (image : Word) (steps : ℕ) → Order
+  mean : (file : Word) (units : ℕ) → Order
   asm : (file image : Word) → Order
   dis : (image : Word) → Order
 
@@ -52,7 +55,7 @@ in_range most n = if nat_lt 0 n && nat_le n most then Some n else None
 abbrev pub number_of : (most : ℕ) → Word → Option ℕ
 number_of most w = if are_digits w then in_range most (digits_value 10 w) else None
 
--- a number of steps is at most 1,099,511,627,776
+-- a number of steps, which are instructions of a run or units of an evaluation, is at most 1,099,511,627,776
 abbrev pub steps_of : Word → Option ℕ
 steps_of w = number_of MOST_STEPS w
 
@@ -154,20 +157,20 @@ abbrev pub and_then : Result Given ℕ → (Given → Result Asked ℕ) → Resu
 and_then (Err place) next = Err place
 and_then (Ok given) next = next given
 
--- what a command may have: so many operands, and both options where it runs a machine
-abbrev pub wanted : ℕ → (runs : Bool) → Wanted
-wanted operands runs = record { operands = operands; steps = runs; number = false; stats = runs }
+-- what a command may have: so many operands, and which of the options
+abbrev pub wanted : ℕ → (steps counts : Bool) → Wanted
+wanted operands steps counts = record { operands = operands; steps = steps; number = false; stats = counts }
 
 -- the words behind a command's name, of which the first has place 2; `end` is the number of all words
-abbrev pub stepped : (Word → ℕ → Order) → (end : ℕ) → List Word → Result Asked ℕ
-stepped order end words =
-    and_then (arguments (wanted 1 true) 2 words) (λ given. one_stepped order end given.steps given.operands)
+abbrev pub stepped : (counts : Bool) → (Word → ℕ → Order) → (end : ℕ) → List Word → Result Asked ℕ
+stepped counts order end words =
+    and_then (arguments (wanted 1 true counts) 2 words) (λ given. one_stepped order end given.steps given.operands)
 
 abbrev pub single : (Word → Order) → (end : ℕ) → List Word → Result Asked ℕ
-single order end words = and_then (arguments (wanted 1 false) 2 words) (λ given. one_of order end given.operands)
+single order end words = and_then (arguments (wanted 1 false false) 2 words) (λ given. one_of order end given.operands)
 
 abbrev pub double : (Word → Word → Order) → (end : ℕ) → List Word → Result Asked ℕ
-double order end words = and_then (arguments (wanted 2 false) 2 words) (λ given. two_of order end given.operands)
+double order end words = and_then (arguments (wanted 2 false false) 2 words) (λ given. two_of order end given.operands)
 
 -- the one word behind `gen`, which is a number
 abbrev pub alone : Option ℕ → List Word → Result Asked ℕ
@@ -184,15 +187,17 @@ name_of w =
     if bytes_eq w (codes "run") then Some name.Run
     else (if bytes_eq w (codes "build") then Some name.Build
     else (if bytes_eq w (codes "exec") then Some name.Exec
+    else (if bytes_eq w (codes "mean") then Some name.Mean
     else (if bytes_eq w (codes "asm") then Some name.Asm
     else (if bytes_eq w (codes "dis") then Some name.Dis
-    else (if bytes_eq w (codes "gen") then Some name.Gen else None)))))
+    else (if bytes_eq w (codes "gen") then Some name.Gen else None))))))
 
 abbrev pub by_name : Option Name → (end : ℕ) → List Word → Result Asked ℕ
 by_name None end words = Err 1
-by_name (Some name.Run) end words = stepped run end words
+by_name (Some name.Run) end words = stepped true run end words
 by_name (Some name.Build) end words = double build end words
-by_name (Some name.Exec) end words = stepped exec end words
+by_name (Some name.Exec) end words = stepped true exec end words
+by_name (Some name.Mean) end words = stepped false mean end words
 by_name (Some name.Asm) end words = double asm end words
 by_name (Some name.Dis) end words = single dis end words
 by_name (Some name.Gen) end words = source_behind words
@@ -219,15 +224,17 @@ abbrev pub ordered : Command → Asked
 ordered (code.Run file steps) = of_file (run file.now steps)
 ordered (code.Build file image) = of_file (build file.now image.now)
 ordered (code.Exec image steps) = of_file (exec image.now steps)
+ordered (code.Mean file units) = of_file (mean file.now units)
 ordered (code.Asm file image) = of_file (asm file.now image.now)
 ordered (code.Dis image) = of_file (dis image.now)
 ordered (code.Gen n) = gen n
 
--- the most instructions that a command of the code asks for
+-- the most instructions, or units of work, that a command of the code asks for
 abbrev pub steps_in : Command → ℕ
 steps_in (code.Run file steps) = steps
 steps_in (code.Build file image) = 0
 steps_in (code.Exec image steps) = steps
+steps_in (code.Mean file units) = units
 steps_in (code.Asm file image) = 0
 steps_in (code.Dis image) = 0
 steps_in (code.Gen n) = 0

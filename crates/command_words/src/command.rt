@@ -14,6 +14,8 @@ pub enum Command<'a> {
     Build(&'a str, &'a str),
     /// `exec IMAGE`: runs a saved image on the input, for at most so many instructions.
     Exec(&'a str, u64),
+    /// `mean FILE`: evaluates the text of the file on the input, for at most so many units of work.
+    Mean(&'a str, u64),
     /// `asm FILE IMAGE`: assembles the text of the file and saves the image.
     Asm(&'a str, &'a str),
     /// `dis IMAGE`: writes the assembly text of a saved image.
@@ -22,26 +24,26 @@ pub enum Command<'a> {
     Gen(u32),
 }
 
-fn wanted(operands: u32, runs: bool) -> Wanted
-    ensures { result ≡ spec.wanted operands runs }
+fn wanted(operands: u32, steps: bool, counts: bool) -> Wanted
+    ensures { result ≡ spec.wanted operands steps counts }
 {
     Wanted {
         operands,
-        steps: runs,
+        steps,
         number: false,
-        stats: runs,
+        stats: counts,
     }
 }
 
-// The operands and the number of steps of `run` and `exec`.
-fn stepped(words: &[String]) -> Result<(&str, u64), u64>
+// The operand and the number of steps of `run` and `exec`, which may ask for counts, and of `mean`.
+fn stepped(words: &[String], counts: bool) -> Result<(&str, u64), u64>
     requires { length words.now < 2 ^ 60 }
     ensures given { MatchResult result
-        (λ a. (order : List ℕ → ℕ → spec.Order) → spec.stepped order (2 + length words.now) (map string_bytes words.now) ≡ Ok (spec.of_file (order a.0.now a.1)))
-        (λ place. (order : List ℕ → ℕ → spec.Order) → spec.stepped order (2 + length words.now) (map string_bytes words.now) ≡ Err place) }
+        (λ a. (order : List ℕ → ℕ → spec.Order) → spec.stepped counts order (2 + length words.now) (map string_bytes words.now) ≡ Ok (spec.of_file (order a.0.now a.1)))
+        (λ place. (order : List ℕ → ℕ → spec.Order) → spec.stepped counts order (2 + length words.now) (map string_bytes words.now) ≡ Err place) }
     ensures steps { IfOk result (λ a. a.1 ≤ 2 ^ 40) }
 {
-    let given = arguments(wanted(1, true), 2, words)?;
+    let given = arguments(wanted(1, true, counts), 2, words)?;
     match given.operands {
         Operands::One(operand) => Ok((operand, given.steps)),
         _ => Err(2 + words.len() as u64),
@@ -55,7 +57,7 @@ fn single(words: &[String]) -> Result<&str, u64>
         (λ a. (order : List ℕ → spec.Order) → spec.single order (2 + length words.now) (map string_bytes words.now) ≡ Ok (spec.of_file (order a.now)))
         (λ place. (order : List ℕ → spec.Order) → spec.single order (2 + length words.now) (map string_bytes words.now) ≡ Err place) }
 {
-    let given = arguments(wanted(1, false), 2, words)?;
+    let given = arguments(wanted(1, false, false), 2, words)?;
     match given.operands {
         Operands::One(operand) => Ok(operand),
         _ => Err(2 + words.len() as u64),
@@ -69,7 +71,7 @@ fn double(words: &[String]) -> Result<(&str, &str), u64>
         (λ a. (order : List ℕ → List ℕ → spec.Order) → spec.double order (2 + length words.now) (map string_bytes words.now) ≡ Ok (spec.of_file (order a.0.now a.1.now)))
         (λ place. (order : List ℕ → List ℕ → spec.Order) → spec.double order (2 + length words.now) (map string_bytes words.now) ≡ Err place) }
 {
-    let given = arguments(wanted(2, false), 2, words)?;
+    let given = arguments(wanted(2, false, false), 2, words)?;
     match given.operands {
         Operands::Two(first, second) => Ok((first, second)),
         _ => Err(2 + words.len() as u64),
@@ -108,6 +110,7 @@ enum Name {
     Run,
     Build,
     Exec,
+    Mean,
     Asm,
     Dis,
     Gen,
@@ -120,6 +123,7 @@ fn name_of(word: &str) -> Option<Name>
         "run" => Some(Name::Run),
         "build" => Some(Name::Build),
         "exec" => Some(Name::Exec),
+        "mean" => Some(Name::Mean),
         "asm" => Some(Name::Asm),
         "dis" => Some(Name::Dis),
         "gen" => Some(Name::Gen),
@@ -135,7 +139,7 @@ fn by_name(name: Name, words: &[String]) -> Result<Command<'_>, u64>
 {
     match name {
         Name::Run => {
-            let (file, steps) = stepped(words)?;
+            let (file, steps) = stepped(words, true)?;
             Ok(Command::Run(file, steps))
         }
         Name::Build => {
@@ -143,8 +147,12 @@ fn by_name(name: Name, words: &[String]) -> Result<Command<'_>, u64>
             Ok(Command::Build(file, image))
         }
         Name::Exec => {
-            let (image, steps) = stepped(words)?;
+            let (image, steps) = stepped(words, true)?;
             Ok(Command::Exec(image, steps))
+        }
+        Name::Mean => {
+            let (file, units) = stepped(words, false)?;
+            Ok(Command::Mean(file, units))
         }
         Name::Asm => {
             let (file, image) = double(words)?;

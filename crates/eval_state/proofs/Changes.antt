@@ -95,7 +95,7 @@ pub reads_variable : (p : Parts) (i : ℕ) → (world (run_of p)).variables i �
 unfolding run_of
 reads_variable p i = refl
 
-arguments_are : (vs : List ℕ) (k : ℕ) → argument vs k ≡ get_or vs k 0
+pub arguments_are : (vs : List ℕ) (k : ℕ) → argument vs k ≡ get_or vs k 0
 arguments_are [] k = refl
 arguments_are (v ∷ vs) zero = refl
 arguments_are (v ∷ vs) (suc k) = arguments_are vs k

@@ -8,18 +8,27 @@ use Rattle.history.specs.Events as event
 use Rattle.eval_state.specs.declared.state.Body.{Body}
 use Rattle.eval_state.specs.declared.state.Entry.{Entry}
 use Rattle.eval_state.specs.declared.state.Entry.TheVariants as entry
+use Rattle.eval_state.specs.declared.state.Compiled.{Compiled}
 use Rattle.eval_state.specs.declared.state.Event.{Event}
 use Rattle.eval_state.specs.declared.state.Event.TheVariants as happened
-use Rattle.eval_state.specs.Kept.{variables_of, generated_of, body_view, captures_in, entry_view, event_view, syntax_at}
-use Rattle.eval_state.specs.Sound.{IsNamed, AreNamed, IsKnown, AreKnown, AreWithin, called, calls}
+use Rattle.eval_state.specs.Kept.{variables_of, generated_of, body_view, captures_in, compiled_view, entry_view, event_view}
+use Rattle.eval_state.specs.Specified.{AreMade, IsCode}
+use Rattle.eval_state.specs.Sound.{IsNamed, AreNamed, IsKnown, AreKnown, called, calls}
 use Rattle.staged_meaning.specs.Specifications.{syntax_in}
 
-numbered_more : (n : ℕ) (rows : List Specification) (s : Specification) → n ≤ length rows
+pub numbered_more : (n : ℕ) (rows : List Specification) (s : Specification) → n ≤ length rows
     → numbered n (rows ++ s ∷ []) ≡ numbered n rows
 numbered_more zero rows s h = refl
 numbered_more (suc n) [] s h = absurd (omega (arith, h))
 numbered_more (suc zero) (r ∷ rows) s h = refl
 numbered_more (suc (suc n)) (r ∷ rows) s h = numbered_more (suc n) rows s (omega (arith, h))
+
+-- the number of a specification of a tick is one of a row
+pub code_within : (n : ℕ) (rows : List Specification) → IsCode (numbered n rows) → n ≤ length rows
+code_within zero rows h = absurd h
+code_within (suc n) [] h = absurd h
+code_within (suc zero) (r ∷ rows) h = omega arith
+code_within (suc (suc n)) (r ∷ rows) h = omega (arith, code_within (suc n) rows h)
 
 pub body_more : (b : Body) (rows : List Specification) (s : Specification) → b.row ≤ length rows
     → body_view (rows ++ s ∷ []) b ≡ body_view rows b
@@ -60,12 +69,13 @@ events_more (e ∷ es) rows s h =
     ap (λ f. f ∷ map (event_view (rows ++ s ∷ [])) es) (event_more e rows s h.0)
     ∙ ap (λ fs. event_view rows e ∷ fs) (events_more es rows s h.1)
 
-pub compiled_more : (ns : List ℕ) (rows : List Specification) (s : Specification) → AreWithin (length rows) ns
-    → map (syntax_at (rows ++ s ∷ [])) ns ≡ map (syntax_at rows) ns
+pub compiled_more : (ms : List Compiled) (rows : List Specification) (s : Specification) → AreMade rows ms
+    → map (compiled_view (rows ++ s ∷ [])) ms ≡ map (compiled_view rows) ms
 compiled_more [] rows s h = refl
-compiled_more (n ∷ ns) rows s h =
-    ap (λ o. syntax_in o ∷ map (syntax_at (rows ++ s ∷ [])) ns) (numbered_more n rows s h.0)
-    ∙ ap (λ fs. syntax_at rows n ∷ fs) (compiled_more ns rows s h.1)
+compiled_more (m ∷ ms) rows s h =
+    ap (λ o. syntax_in o ∷ map (compiled_view (rows ++ s ∷ [])) ms)
+    (numbered_more m.row rows s (code_within m.row rows h.0.0))
+    ∙ ap (λ fs. compiled_view rows m ∷ fs) (compiled_more ms rows s h.1)
 
 -- there are as many specifications as are kept
 count_behind : (rows : List Specification) (more : List Row) → length (rows_behind rows more)

@@ -12,13 +12,20 @@ use Rattle.meaning_rest.proofs.Laws.{push_plain, through_push}
 use Rattle.eval_state.specs.Popped.{back_to}
 use Rattle.eval_state.specs.declared.parts.Frame.{Frame}
 use Rattle.eval_state.specs.declared.parts.Frame.TheVariants as frame
+use Rattle.eval_state.specs.declared.parts.ExpressionFrame.TheVariants as expression
+use Rattle.eval_state.specs.declared.parts.StatementFrame.TheVariants as statement
+use Rattle.eval_state.specs.declared.parts.EndFrame.TheVariants as end
 use Rattle.eval_state.specs.Views.{frame_view}
 use Rattle.eval_state.specs.Run.{Run, here, world, leads, outcome, pushed, with_units, in_world}
 
 -- a frame within a body leaves the place as it is
 pub inside_stays : (f : Frame) (p : Place) → under (frame_view f) p ≡ p
-inside_stays (frame.SetVar i) p = refl
-inside_stays _ p = refl
+inside_stays (frame.Expression (expression.SetVar i)) p = refl
+inside_stays (frame.Expression _) p = refl
+inside_stays (frame.Statement statement.Drop) p = refl
+inside_stays (frame.Statement _) p = refl
+inside_stays (frame.End end.SwitchEnd) p = refl
+inside_stays (frame.End _) p = refl
 
 pub push_leads : (r : Run) (f : Frame) (n : Now)
     → outcome n (pushed (frame_view f) r) ≡ leads r (after (here r) (frame_view f) (doing (here r) n (world r)))

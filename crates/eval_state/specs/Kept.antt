@@ -1,5 +1,5 @@
 -- What the code keeps of bodies, specifications and events, as the meaning has it.
-use Rattle.std.specs.Prelude.{ℕ, true, false, List, ◌∷◌, map, get_or, nat_eq, if◌then◌else◌, Option, Some}
+use Rattle.std.specs.Prelude.{ℕ, suc, true, false, List, [], ◌∷◌, map, get_or, nat_eq, if◌then◌else◌, Option, Some}
 use Rattle.history.specs.Syntax.{Syntax, Ticked, Captures, NoCapture}
 use Rattle.history.specs.Events as event
 use Rattle.meaning_state.specs.Rows.{numbered}
@@ -10,12 +10,14 @@ use Rattle.staged_meaning.specs.Specifications.{syntax_in}
 use Rattle.meaning_rest.specs.Kept as kept
 use Rattle.meaning_rest.specs.Pending as pending
 use Rattle.eval_state.specs.declared.state.Generated.{Generated}
+use Rattle.eval_state.specs.declared.state.Setting.{Setting}
 use Rattle.eval_state.specs.declared.state.Body.{Body}
 use Rattle.eval_state.specs.declared.state.Kept.{Kept}
 use Rattle.eval_state.specs.declared.state.Kept.TheVariants as code
 use Rattle.eval_state.specs.declared.state.RowKind.TheVariants as kind
 use Rattle.eval_state.specs.declared.state.Row.{Row}
 use Rattle.eval_state.specs.declared.state.RowKind.{RowKind}
+use Rattle.eval_state.specs.declared.state.Compiled.{Compiled}
 use Rattle.eval_state.specs.declared.state.Event.{Event}
 use Rattle.eval_state.specs.declared.state.Event.TheVariants as happened
 use Rattle.eval_state.specs.declared.state.Entry.{Entry}
@@ -28,12 +30,17 @@ abbrev pub variables_of : List ℕ → ℕ → ℕ
 variables_of variables i = get_or variables i 0
 
 -- the value of a key that was set, and of another one
-abbrev pub set_or : (keys values : List ℕ) → (key other : ℕ) → ℕ
-set_or (k ∷ keys) (v ∷ values) key other = if nat_eq key k then v else set_or keys values key other
-set_or _ _ key other = other
+abbrev pub set_or : List Setting → (key other : ℕ) → ℕ
+set_or [] key other = other
+set_or (v ∷ values) key other = if nat_eq key v.key then v.value else set_or values key other
+
+-- where a key stands among those that were set; their count, where it doesn't
+abbrev pub place_of : List Setting → (key : ℕ) → ℕ
+place_of [] key = 0
+place_of (v ∷ values) key = if nat_eq key v.key then 0 else suc (place_of values key)
 
 abbrev pub generated_of : Generated → ℕ → ℕ
-generated_of g key = set_or g.keys g.values key (keys_at_entry g.arguments key)
+generated_of g key = set_or g.values key (keys_at_entry g.arguments key)
 
 -- ---- specifications
 
@@ -82,6 +89,9 @@ event_view rows (happened.Out b) = event.Out b
 event_view rows (happened.In w) = event.In w
 event_view rows (happened.Made f row) = event.Made f (syntax_at rows row)
 event_view rows (happened.Entered f) = event.Entered f
+
+abbrev pub compiled_view : List Specification → Compiled → Syntax
+compiled_view rows made = syntax_at rows made.row
 
 abbrev pub entry_view : List Specification → Entry → pending.Frame
 entry_view rows (entry.Inside f) = frame_view f

@@ -1,5 +1,12 @@
+pub mod Begins
 pub mod Views
 pub mod Kept
 pub mod Run
+pub mod Steps
+pub mod Library
 pub mod Popped
+pub mod Specified
+pub mod Numbered
+pub mod Grown
 pub mod Sound
+pub mod Less

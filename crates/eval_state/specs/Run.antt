@@ -1,5 +1,5 @@
 -- The code's state as a run from within, and how a run changes.
-use Rattle.std.specs.Prelude.{ℕ, suc, ◌/◌, [], ◌∷◌, ◌++◌, map}
+use Rattle.std.specs.Prelude.{ℕ, suc, false, ◌/◌, [], ◌∷◌, ◌++◌, map}
 use Rattle.word32.specs.Space.{words_from}
 use Rattle.word32.specs.declared.map.TheConstants.{OBJECTS}
 use Rattle.typed_tree.specs.View.{function_view}
@@ -11,7 +11,7 @@ use Rattle.meaning_rest.specs.Pending.{Frame, Now}
 use Rattle.meaning_rest.specs.Rest as rest
 use Rattle.meaning_rest.specs.Rest.{Signal, State, context_at, place_of, world_of}
 use Rattle.eval_state.specs.declared.state.Parts.{Parts}
-use Rattle.eval_state.specs.Kept.{body_view, rows_view, entry_view, event_view, syntax_at}
+use Rattle.eval_state.specs.Kept.{body_view, rows_view, compiled_view, entry_view, event_view}
 
 -- a program with a state of its run
 pub record Run : Type 0 where
@@ -34,14 +34,14 @@ state_of p =
       body = body_view rows p.body;
       shared = record {
         history = map (event_view rows) p.events;
-        input = record { bytes = p.input.now; failing = p.failing };
+        input = record { bytes = p.input.now; failing = false };
         objects = words_from (OBJECTS / 4) p.objects.items;
         heap = p.heap;
         used = p.used;
         frames = p.frames;
         specifications = rows;
         closures = p.closures;
-        compiled = map (syntax_at rows) p.compiled;
+        compiled = map (compiled_view rows) p.compiled;
         arena = p.arena;
       };
       units = p.units;

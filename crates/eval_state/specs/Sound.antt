@@ -7,6 +7,8 @@ use Rattle.eval_state.specs.declared.state.Entry.{Entry}
 use Rattle.eval_state.specs.declared.state.Entry.TheVariants as entry
 use Rattle.eval_state.specs.declared.state.Event.{Event}
 use Rattle.eval_state.specs.declared.state.Event.TheVariants as event
+use Rattle.eval_state.specs.Run.{program_of}
+use Rattle.eval_state.specs.Specified.{HasRows}
 
 -- each specification that is named is among the first n
 abbrev pub IsNamed : ℕ → Entry → Type 0
@@ -26,10 +28,6 @@ abbrev pub AreKnown : ℕ → List Event → Type 0
 AreKnown n [] = Unit {0}
 AreKnown n (e ∷ es) = IsKnown n e × AreKnown n es
 
-abbrev pub AreWithin : ℕ → List ℕ → Type 0
-AreWithin n [] = Unit {0}
-AreWithin n (m ∷ ms) = (m ≤ n) × AreWithin n ms
-
 -- how many of them are calls
 abbrev pub called : Entry → ℕ
 called (entry.Called answer charge caller) = 1
@@ -42,5 +40,6 @@ calls (e ∷ es) = called e + calls es
 abbrev pub IsSound : Parts → Type 0
 IsSound p =
     (p.body.row ≤ length p.rows) × AreNamed (length p.rows) p.entries × AreKnown (length p.rows) p.events
-    × AreWithin (length p.rows) p.compiled × (length p.objects.items ≡ OBJECT_BYTES / 4)
+    × HasRows (program_of p) p.rows p.closures p.compiled p.arena
+    × (length p.objects.items ≡ OBJECT_BYTES / 4)
     × (p.depth + calls p.entries < 2 ^ 64)

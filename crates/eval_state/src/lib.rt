@@ -1,13 +1,23 @@
 //! The state of an evaluation, on a stack of pending work of its own: what the meaning keeps of a run from within, in
 //! vectors, so that no nesting of the program uses the host's stack. It is for code that evaluates a program step by
-//! step: each call says how the run that the state stands for changes. So far there are the units that are left, what
-//! is pushed, and register variables; nothing stands on it yet.
+//! step: each of its calls says how the run that the state stands for changes.
 #![tactic(auto)]
 
+mod begins;
+mod calls;
+mod frames;
+mod generated;
+mod library;
+mod memory;
 mod parts;
 mod pending;
+mod stages;
 mod state;
 mod variables;
 
-pub use parts::{Flow, Frame, Now, Popped, Target};
-pub use state::{Body, Entry, Event, Generated, Kept, Machine, Parts, Row, RowKind};
+pub use parts::{
+    EndFrame, ExpressionFrame, Flow, Frame, Now, Place, Popped, StatementFrame, Target,
+};
+pub use state::{
+    Body, Compiled, Entry, Event, Generated, Kept, Machine, Parts, Row, RowKind, Setting,
+};

@@ -1,5 +1,8 @@
 //! What is done now, and what is pending.
 
+ghost use Rattle.std.specs.Prelude.{◌≡◌, None};
+ghost use Rattle.meaning_state.specs.Shared.{access_trap};
+
 use host_edge::Ending;
 use icode_ops::{BinKind, UnKind};
 use sqlite_items::Items;
@@ -34,8 +37,6 @@ pub enum Now<'a> {
     Returned(u32),
     /// The run ended.
     Ended(Ending),
-    /// The input failed.
-    Failed,
     /// No unit was left.
     Stopped,
 }
@@ -51,9 +52,19 @@ pub enum Target<'a> {
     Specified(u32, &'a [Expr]),
 }
 
-/// Work that is pending on a value or on the end of a statement.
+/// A place in the object space: an access of this width at this address doesn't trap.
+#[derive(Clone, Copy)]
+pub struct Place {
+    /// The address.
+    pub at: u32,
+    /// The width.
+    pub width: Width,
+    pub ghost fits: { access_trap at width ≡ None },
+}
+
+/// Work within an expression, which waits for the value of a part.
 #[derive(Drop)]
-pub enum Frame<'a> {
+pub enum ExpressionFrame<'a> {
     /// Sets a register variable.
     SetVar(u32),
     /// Sets the variable of generated code that a capture names.
@@ -66,8 +77,8 @@ pub enum Frame<'a> {
     StoreValue(Width, u32),
     /// The address of a change.
     ModifyAddress(Width, BinKind, &'a Expr),
-    /// The second operand of a change at an address, and the old value.
-    ModifyValue(Width, BinKind, u32, u32),
+    /// The second operand of a change at a place, and the old value.
+    ModifyValue(Place, BinKind, u32),
     /// Adds a step to the value at an address.
     Post(Width, u32),
     /// The first operand.
@@ -100,6 +111,11 @@ pub enum Frame<'a> {
     Function(Answer, &'a [Expr]),
     /// An argument or a capture is evaluated; those that follow, and the values of those before.
     Argument(Target<'a>, &'a [Expr], Items<u32>),
+}
+
+/// Work within a statement, which waits for the value of an expression.
+#[derive(Drop)]
+pub enum StatementFrame<'a> {
     /// Drops the value of a statement that is an expression.
     Drop,
     /// The test of an `if`.
@@ -116,6 +132,11 @@ pub enum Frame<'a> {
     Switch(&'a [Stmt], &'a [Stmt]),
     /// Returns a value.
     Return,
+}
+
+/// Work that waits for the end of a statement.
+#[derive(Drop)]
+pub enum EndFrame<'a> {
     /// The items that follow.
     Rest(&'a [Stmt]),
     /// The body of a loop.
@@ -126,6 +147,17 @@ pub enum Frame<'a> {
     Chosen(u32, &'a [Stmt]),
     /// The items of a switch.
     SwitchEnd,
+}
+
+/// Work that is pending within a body.
+#[derive(Drop)]
+pub enum Frame<'a> {
+    /// Within an expression.
+    Expression(ExpressionFrame<'a>),
+    /// Within a statement, on a value.
+    Statement(StatementFrame<'a>),
+    /// On the end of a statement.
+    End(EndFrame<'a>),
 }
 
 /// What was taken off, which no longer waits.

@@ -7,15 +7,22 @@ use std::marker::Model;
 use typed_tree::{Answer, Function};
 use wellformed::Typed;
 
+/// A variable of generated code that was set.
+#[derive(Clone, Copy)]
+pub struct Setting {
+    /// Its key.
+    pub key: u32,
+    /// Its value.
+    pub value: u32,
+}
+
 /// The variables of generated code that a function has, by their keys: those that were set, and its arguments.
 #[derive(Drop)]
 pub struct Generated {
     /// What its call was passed.
     pub arguments: Items<u32>,
-    /// The keys that were set.
-    pub keys: Items<u32>,
-    /// The value of each.
-    pub values: Items<u32>,
+    /// Those that were set, a key each.
+    pub values: Items<Setting>,
 }
 
 /// The active body.
@@ -72,6 +79,15 @@ pub struct Row {
     pub parameters: u32,
 }
 
+/// A compiled function.
+#[derive(Clone, Copy)]
+pub struct Compiled {
+    /// The number of the specification that it was compiled from.
+    pub row: u32,
+    /// How many different local variables its code names.
+    pub locals: u64,
+}
+
 /// An event.
 #[derive(Clone, Copy)]
 pub enum Event {
@@ -119,8 +135,6 @@ pub struct Parts<'a> {
     pub events: Items<Event>,
     /// The input that is left.
     pub input: &'a [u8],
-    /// Whether a fault comes after it in place of the end.
-    pub failing: bool,
     /// The words of the object space.
     pub objects: Vec<u32>,
     /// The next address of the heap.
@@ -133,8 +147,8 @@ pub struct Parts<'a> {
     pub rows: Items<Row>,
     /// The bytes of their closures.
     pub closures: u32,
-    /// The numbers of the specifications that were compiled.
-    pub compiled: Items<u32>,
+    /// The functions that were compiled, whose numbers follow those of the text's.
+    pub compiled: Items<Compiled>,
     /// The words of the arena that they are charged.
     pub arena: u32,
 }

@@ -11,7 +11,7 @@ use sqlite_items::Items;
 use std::alloc::AllocError;
 
 // The word at a place, or 0.
-fn at(words: &[u32], i: u32) -> u32
+pub(crate) fn at(words: &[u32], i: u32) -> u32
     ensures { result ≡ get_or words.now i 0 }
 {
     match words.get(i as usize) {

@@ -179,7 +179,7 @@ module _ (c : Context) where
   -- ---- arguments
 
   -- the first of several arguments, and then those behind it
-  args_start : (a : Expr) (more : Args) (w : World) (k : List ℕ → World → Result ℕ)
+  pub args_start : (a : Expr) (more : Args) (w : World) (k : List ℕ → World → Result ℕ)
       → on_value (λ v w. valued (then_do (eval_args c more w) (λ vs w. k (v ∷ vs) w))) (valued (eval c a w))
       ≡ valued (then_do (eval_args c (Arg a more) w) k)
   args_start a more w k =

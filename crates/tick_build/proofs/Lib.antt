@@ -1,3 +1,4 @@
 pub mod Mains
 pub mod Files
 pub mod Intervals
+pub mod Programs

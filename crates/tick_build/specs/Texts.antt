@@ -14,6 +14,7 @@ use Rattle.built_programs.specs.Built.{Main, built}
 use Rattle.typed_tree.specs.View.{program_view}
 use Rattle.meaning_state.specs.Rows.{numbered}
 use Rattle.staged_meaning.specs.Meaning.{Program}
+use Rattle.staged_meaning.specs.Source as source
 use Rattle.image_file.specs.Image.{ImageParts, IsImage}
 use Rattle.static_image.specs.Layout.{Placed, IsChoice, image_of}
 use Rattle.static_image.specs.Headline.{Headline}
@@ -44,6 +45,10 @@ from_tokens text (Ok found) = from_tree (parsed text found)
 unfoldable pub typed_tree : List ℕ → Result Typed Fault
 typed_tree text = from_tokens text (tokens text)
 
+-- the program that a typed tree is in the whole language, whose meaning can be evaluated whether it runs or not
+abbrev pub Means : Typed → Program → Type 0
+Means tree program = source.program_view tree ≡ Some program
+
 abbrev pub from_typed : Result Typed Fault → Result Program Fault
 from_typed (Err fault) = Err fault
 from_typed (Ok tree) = or_unbuilt tree (built tree)
@@ -51,6 +56,12 @@ from_typed (Ok tree) = or_unbuilt tree (built tree)
 -- the program of a text, or its first static fault, or that it uses what isn't built yet
 unfoldable pub typed : List ℕ → Result Program Fault
 typed text = from_typed (typed_tree text)
+
+-- a program that runs is the one that the text is in the whole language, so a run and an evaluation have one meaning
+abbrev pub MeansAsItRuns : Type 0
+MeansAsItRuns =
+    (text : List ℕ) (program : Program) → typed text ≡ Ok program
+    → (tree : Typed) × (typed_tree text ≡ Ok tree) × Means tree program
 
 -- The image that is built of a text: the image of its functions and of the bytes of its globals and strings, under the
 -- places that linear scan gives to the registers of each function. A text has one such image.

@@ -1,6 +1,7 @@
 //! The image of a text.
 ghost use Rattle.std.specs.Prelude.{◌≡◌, ◌≤◌, length, IfOk};
 ghost use Rattle.tick_tree.specs.Faults.{Checks};
+ghost use Rattle.staged_meaning.specs.Meaning.{Program};
 ghost use Rattle.tick_build.specs.Texts as spec;
 ghost use Rattle.tick_build.specs.Texts.{Builds};
 ghost use Rattle.limits.specs.declared.text.TheConstants.{LONGEST_TEXT};
@@ -36,6 +37,24 @@ fn from_text(alloc: Global, text: &[u8]) -> Result<Typed, Deny>
     let tree = parse(alloc, text, &found)?;
     check(alloc, &tree)
 }
+
+/// The typed tree of a text of at most 1,048,576 bytes, or its first static fault. It is a program, which has a meaning
+/// whether it runs so far or not.
+#[tactic(auto, using(crate::proofs::Programs::is_program))]
+pub fn typed_tree(alloc: Global, text: &[u8]) -> Result<Typed, Deny>
+    requires { length text.now ≤ LONGEST_TEXT }
+    ensures tree { Checks result (spec.typed_tree text.now) }
+    ensures program { IfOk result (λ tree. (program : Program) × spec.Means tree program) }
+{
+    let tree = from_text(alloc, text)?;
+    tree.keeps_law();
+    Ok(tree)
+}
+
+/// A program that runs is the one that its text is in the whole language: what is evaluated is what runs.
+pub fn means_as_it_runs()
+    ensures { spec.MeansAsItRuns }
+{}
 
 // The image of a program, where it is one that is built.
 #[tactic(auto, using(crate::proofs::Mains::are_static, crate::proofs::Mains::has_main, crate::proofs::Mains::bytes_fit, crate::proofs::Mains::backs, crate::proofs::Mains::not_found))]

@@ -4,5 +4,5 @@
 mod accepted;
 mod saved;
 
-pub use accepted::build;
+pub use accepted::{build, means_as_it_runs, typed_tree};
 pub use saved::{build_file, lowers_one, reads_headline, saves_built, saves_headline, saves_one};

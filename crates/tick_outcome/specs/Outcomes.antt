@@ -42,7 +42,8 @@ abbrev pub line_of : Outcome → List ℕ
 line_of (Done s) = []
 line_of (BadWords place) = codes "tick: bad words at " ++ decimal place ++ codes "\n"
 line_of (Refused fault) =
-    codes "tick: line " ++ decimal fault.line ++ codes ": " ++ decimal (number fault.kind) ++ codes " " ++ name fault.kind
+    codes "tick: line " ++ decimal fault.line ++ codes ": " ++ decimal (number fault.kind) ++ codes " " ++ name
+      fault.kind
     ++ codes "\n"
 line_of (AsmRefused fault) =
     codes "tick: line " ++ decimal fault.line ++ codes ": asm " ++ decimal (asm.number fault.kind) ++ codes " " ++

@@ -14,8 +14,9 @@ use Rattle.pace.proofs.Runs.{to_prefix}
 use Rattle.mips_model.specs.Run.{runs}
 use Rattle.staged_meaning.specs.Meaning.{Program}
 use Rattle.tick_tree.specs.declared.fault.Fault.{Fault}
-use Rattle.tick_build.specs.Texts.{typed}
-use Rattle.command_words.specs.Orders.{Order, run, build, exec, asm, dis}
+use Rattle.wellformed.specs.declared.typed.Typed.{Typed}
+use Rattle.tick_build.specs.Texts.{typed, typed_tree}
+use Rattle.command_words.specs.Orders.{Order, run, build, exec, mean, asm, dis}
 use Rattle.tick_outcome.specs.declared.outcome.Outcome.{Outcome}
 use Rattle.tick_outcome.specs.declared.outcome.Outcome.TheVariants as outcome
 use Rattle.tick_top.specs.declared.ended.Ended as code
@@ -24,8 +25,8 @@ use Rattle.tick_top.specs.Answers.{IsBare}
 use Rattle.tick_top.specs.Does.{Runs}
 use Rattle.tick_top.specs.Top.{Reports}
 use Rattle.tick_top.specs.Seen.{EndsBehind, IsInput, ShowsRun}
-use Rattle.tick_top.specs.Rows.{file_of, longest_of, content_refusal, refusal, text_refusal, assembly_refusal}
-use Rattle.tick_top.specs.Rows.{image_refusal}
+use Rattle.tick_top.specs.Rows.{file_of, longest_of, content_refusal, refusal, text_refusal, tree_refusal}
+use Rattle.tick_top.specs.Rows.{assembly_refusal, image_refusal}
 use Rattle.tick_top.proofs.Came.{Performed, Came}
 use Rattle.tick_top.proofs.Outcomes.{is_refusal, refusal_no_machine, is_of_machine, reported}
 use Rattle.tick_top.proofs.Runs.{shows_run}
@@ -35,6 +36,13 @@ use Rattle.tick_top.proofs.Runs.{shows_run}
 text_kind : (r : Result Program Fault) (o : Outcome) → text_refusal r ≡ Some o → is_refusal o ≡ true
 text_kind (Ok program) o e = absurd cc
 text_kind (Err fault) o e = ap is_refusal (some_is e)
+  where
+    some_is : ◌≡◌ {A = Option Outcome} (Some (outcome.Refused fault)) (Some o) → o ≡ outcome.Refused fault
+    some_is q = cc
+
+tree_kind : (r : Result Typed Fault) (o : Outcome) → tree_refusal r ≡ Some o → is_refusal o ≡ true
+tree_kind (Ok tree) o e = absurd cc
+tree_kind (Err fault) o e = ap is_refusal (some_is e)
   where
     some_is : ◌≡◌ {A = Option Outcome} (Some (outcome.Refused fault)) (Some o) → o ≡ outcome.Refused fault
     some_is q = cc
@@ -58,6 +66,7 @@ content_kind : (order : Order) (bytes : List ℕ) (o : Outcome) → content_refu
 content_kind (run file steps) bytes o e = text_kind (typed bytes) o e
 content_kind (build file path) bytes o e = text_kind (typed bytes) o e
 content_kind (exec file steps) bytes o e = image_kind (parsed bytes) o e
+content_kind (mean file units) bytes o e = tree_kind (typed_tree bytes) o e
 content_kind (asm file path) bytes o e = assembly_kind (assembled bytes) o e
 content_kind (dis file) bytes o e = image_kind (parsed bytes) o e
 

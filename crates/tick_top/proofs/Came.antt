@@ -9,16 +9,18 @@ use Rattle.mips_text.specs.Assembly.{assembled}
 use Rattle.mips_text.specs.declared.fault.AsmFault.{AsmFault}
 use Rattle.staged_meaning.specs.Meaning.{Program}
 use Rattle.tick_tree.specs.declared.fault.Fault.{Fault}
-use Rattle.tick_build.specs.Texts.{typed}
-use Rattle.command_words.specs.Orders.{Order, run, build, exec, asm, dis}
+use Rattle.wellformed.specs.declared.typed.Typed.{Typed}
+use Rattle.tick_build.specs.Texts.{typed, typed_tree, Means}
+use Rattle.command_words.specs.Orders.{Order, run, build, exec, mean, asm, dis}
 use Rattle.tick_outcome.specs.declared.outcome.Outcome.{Outcome}
 use Rattle.tick_outcome.specs.declared.outcome.Outcome.TheVariants.{Refused, AsmRefused, LoadFault, TooLong, BadImage}
 use Rattle.tick_top.specs.declared.ended.Ended.{Ended}
 use Rattle.tick_top.specs.Outside.{Outside}
 use Rattle.tick_top.specs.Answers.{IsBare, longest_text, longest_image}
-use Rattle.tick_top.specs.Does.{WithFile, WithProgram, WithAssembled, WithImage, Does, Answered, Unsaved, Unprinted}
-use Rattle.tick_top.specs.Does.{Runs, RunsProgram, SavesImage, SavesProgram, PrintsText}
-use Rattle.tick_top.specs.Rows.{file_of, longest_of, text_refusal, assembly_refusal, image_refusal, refusal}
+use Rattle.tick_top.specs.Does.{WithFile, WithProgram, WithTree, WithAssembled, WithImage, Does, Answered, Unsaved}
+use Rattle.tick_top.specs.Does.{Unprinted, Runs, RunsProgram, MeansProgram, SavesImage, SavesProgram, PrintsText}
+use Rattle.tick_top.specs.Rows.{file_of, longest_of, text_refusal, tree_refusal, assembly_refusal, image_refusal}
+use Rattle.tick_top.specs.Rows.{refusal}
 
 -- what an order does with the bytes of its file
 abbrev pub Performed : Order → Outside → Outside → Ended → List ℕ → Type 0
@@ -28,6 +30,9 @@ Performed (build file path) old new e bytes =
     (program : Program) × (typed bytes ≡ Ok program) × SavesProgram path old.file new.file e bytes program
 Performed (exec file steps) old new e bytes =
     (image : ImageParts) × (parsed bytes ≡ Ok image) × Runs steps old new e image
+Performed (mean file units) old new e bytes =
+    (tree : Typed) × (typed_tree bytes ≡ Ok tree) ×
+    ((program : Program) × Means tree program × MeansProgram units old new e program)
 Performed (asm file path) old new e bytes =
     (image : ImageParts) × (assembled bytes ≡ Ok image) × SavesImage path old.file new.file e image
 Performed (dis file) old new e bytes =
@@ -64,6 +69,13 @@ module _ (e : Ended) (answers : Outcome → Type 0) (bare : (o : Outcome) → an
   of_program next found (Ok program) is n = inr (refl, (program, is, n))
   of_program next found (Err fault) is a = inl (Refused fault, refl, bare (Refused fault) a)
 
+  of_tree : (next : Program → Type 0) (found r : Result Typed Fault) → found ≡ r →
+      MatchResult r (λ tree. (program : Program) × Means tree program × next program) (λ fault. answers (Refused fault))
+      → Taken (tree_refusal r) e
+      ((tree : Typed) × (found ≡ Ok tree) × ((program : Program) × Means tree program × next program))
+  of_tree next found (Ok tree) is n = inr (refl, (tree, is, n))
+  of_tree next found (Err fault) is a = inl (Refused fault, refl, bare (Refused fault) a)
+
   of_assembly : (next : ImageParts → Type 0) (found r : Result ImageParts AsmFault) → found ≡ r →
       MatchResult r next (λ fault. answers (AsmRefused fault))
       → Taken (assembly_refusal r) e ((image : ImageParts) × (found ≡ Ok image) × next image)
@@ -86,6 +98,12 @@ came (exec file steps) old new e d =
     from_file e (Answered old new e) (λ o a. a.0) (old.file file) longest_image (λ bytes. image_refusal (parsed bytes))
     (WithImage (Answered old new e) (Runs steps old new e)) (Performed (exec file steps) old new e)
     (λ bytes. of_image e (Answered old new e) (λ o a. a.0) (Runs steps old new e) (parsed bytes) (parsed bytes) refl) d
+came (mean file units) old new e d =
+    from_file e (Answered old new e) (λ o a. a.0) (old.file file) longest_text
+    (λ bytes. tree_refusal (typed_tree bytes))
+    (WithTree (Answered old new e) (MeansProgram units old new e)) (Performed (mean file units) old new e)
+    (λ bytes. of_tree e (Answered old new e) (λ o a. a.0) (MeansProgram units old new e) (typed_tree bytes)
+    (typed_tree bytes) refl) d.1
 came (build file path) old new e d =
     from_file e (Unsaved old.file new.file e) (λ o a. a.0) (old.file file) longest_text
     (λ bytes. text_refusal (typed bytes))

@@ -1,20 +1,21 @@
 -- Where nothing outside failed, a command whose file isn't refused is done.
 use Rattle.std.proofs.Common.{◌≡◌, ◌≢◌, ◌⊎◌, inl, inr, ℕ, ◌+◌, ◌<◌, ◌≤◌, false, arith, lt-ltb, List, length, take}
 use Rattle.std.proofs.Common.{Option, Some, None, Result, Ok, nat_lt, refl, sym, ap, ◌∙◌, subst}
-use Rattle.std.specs.Io.KnownBytes.{Appends}
+use Rattle.std.specs.Io.KnownBytes.{Appends, Consumes}
 use Rattle.std.proofs.lemmas.Bool.{false≢true, cases_lt}
 use Rattle.std.proofs.lemmas.List.{take_all}
 use Rattle.host_edge.specs.Files.{Loads}
 use Rattle.host_edge.specs.declared.ending.Ending.{Ending}
-use Rattle.history.specs.Events.{Ended}
+use Rattle.history.specs.Events.{Ended, output}
 use Rattle.image_file.specs.Image.{ImageParts}
 use Rattle.mips_model.specs.Run.{runs}
 use Rattle.staged_meaning.specs.Meaning.{Program, meant}
 use Rattle.static_image.specs.Headline.{Headline}
 use Rattle.tick_tree.specs.declared.fault.Fault.{Fault}
-use Rattle.tick_build.specs.Texts.{typed}
+use Rattle.wellformed.specs.declared.typed.Typed.{Typed}
+use Rattle.tick_build.specs.Texts.{typed, typed_tree, Means}
 use Rattle.tick_gen.specs.Source.{source}
-use Rattle.command_words.specs.Orders.{Order, run, build, exec, asm, dis, of_file, gen, order_of}
+use Rattle.command_words.specs.Orders.{Order, run, build, exec, mean, asm, dis, of_file, gen, order_of}
 use Rattle.tick_outcome.specs.declared.outcome.Outcome.{Outcome}
 use Rattle.tick_outcome.specs.declared.outcome.Outcome.TheVariants as outcome
 use Rattle.tick_top.specs.declared.ended.Ended as code
@@ -24,13 +25,14 @@ use Rattle.tick_top.specs.Does.{SavedAt, Cause}
 use Rattle.tick_top.specs.Generated.{PrintsSource}
 use Rattle.tick_top.specs.Said.{said}
 use Rattle.tick_top.specs.Top.{Reports, Ticked}
-use Rattle.tick_top.specs.Seen.{EndsBehind, outcome_at, Moves, ShowsRun}
-use Rattle.tick_top.specs.Rows.{file_of, longest_of, refusal, most_steps}
+use Rattle.tick_top.specs.Seen.{told, EndsBehind, outcome_at, Moves, ShowsRun}
+use Rattle.tick_top.specs.Rows.{file_of, longest_of, refusal, most_steps, most_units}
 use Rattle.tick_top.specs.Meant.{allowed, Unfailed}
-use Rattle.tick_top.specs.Laws.{told}
+use Rattle.tick_top.specs.Evaluations.{MeantText}
 use Rattle.tick_top.proofs.Came.{Performed, Came}
 use Rattle.tick_top.proofs.Calls.{IsDone, shows, input_ends}
-use Rattle.tick_top.proofs.Endings.{order_shows}
+use Rattle.tick_top.proofs.Endings.{order_shows, evaluated_at}
+use Rattle.tick_top.proofs.Meanings.{WasMeant, mean_done, one_meant, one_units, long_input, whole_read}
 use Rattle.tick_top.proofs.Meant.{in_time}
 use Rattle.tick_top.proofs.Outcomes.{seen_whole}
 use Rattle.tick_top.proofs.Rows.{fulfilled, performed, refused_front}
@@ -108,18 +110,19 @@ module _ (words : List (List ℕ)) (old new : Outside) (before now : Failures) (
     saved_done path bytes a b (inl s) = s.0.outcome
     saved_done path bytes a b (inr s) = absurd (no_save_fault s.0.outcome)
 
-    order_done : (o : Order) (bytes : List ℕ) → most_steps o ≡ None → Performed o old new at_first bytes →
-        first ≡ outcome.Done 0
-    order_done (run path steps) bytes none d = absurd cc
-    order_done (exec path steps) bytes none d = absurd cc
-    order_done (build path image) bytes none (program, is, s) =
+    order_done : (o : Order) (bytes : List ℕ) → most_steps o ≡ None → most_units o ≡ None →
+        Performed o old new at_first bytes → first ≡ outcome.Done 0
+    order_done (run path steps) bytes none units d = absurd cc
+    order_done (exec path steps) bytes none units d = absurd cc
+    order_done (mean path units) bytes none other d = absurd cc
+    order_done (build path image) bytes none units (program, is, s) =
         saved_done image s.saves.bytes old.file new.file s.saves.saved
-    order_done (asm path image) bytes none (parts, is, s) = saved_done image s.bytes old.file new.file s.saved
-    order_done (dis path) bytes none (parts, is, inl p) = p.0.outcome
-    order_done (dis path) bytes none (parts, is, inr p) = absurd (no_write_fault p.0.outcome)
+    order_done (asm path image) bytes none units (parts, is, s) = saved_done image s.bytes old.file new.file s.saved
+    order_done (dis path) bytes none units (parts, is, inl p) = p.0.outcome
+    order_done (dis path) bytes none units (parts, is, inr p) = absurd (no_write_fault p.0.outcome)
 
-    pub is_done_so : most_steps order ≡ None → e.outcome ≡ outcome.Done 0
-    is_done_so none = said_first ∙ order_done order done.bytes none done.done
+    pub is_done_so : most_steps order ≡ None → most_units order ≡ None → e.outcome ≡ outcome.Done 0
+    is_done_so none units = said_first ∙ order_done order done.bytes none units done.done
 
     -- what is shown of a run on told input
     told_run : (steps : ℕ) (bytes : List ℕ) (image : ImageParts) → old.left ≡ Some bytes
@@ -143,6 +146,14 @@ module _ (words : List (List ℕ)) (old new : Outside) (before now : Failures) (
     ends_so steps bytes most left =
         let s = order_shows order steps old new at_first done.bytes most done.done in
         (s.image, s.handed_back, said_first ∙ (told_run steps bytes s.image left s.shown).0)
+
+  -- a text that isn't too long is loaded whole
+  all_of : (text : List ℕ) → nat_lt longest_text (length text) ≡ false → take (longest_text + 1) text ≡ text
+  all_of text short = take_all (longest_text + 1) text (within (cases_lt longest_text (length text)))
+    where
+      within : (longest_text < length text) ⊎ (length text ≤ longest_text) → length text ≤ longest_text + 1
+      within (inl long) = absurd (false≢true (sym short ∙ lt-ltb longest_text (length text) long))
+      within (inr le) = omega (arith, le)
 
   -- ---- a told text that is accepted
 
@@ -173,10 +184,63 @@ module _ (words : List (List ℕ)) (old new : Outside) (before now : Failures) (
         said_first ∙ shown.0 ∙ ap (outcome_at steps) there.0,
         subst (Moves old.left new.left old.taken new.taken) there.1 shown.1,
       )
+
+  -- ---- a told text whose meaning is evaluated on a told input
+
+  pub means_so : (file text : List ℕ) (units : ℕ) (tree : Typed) (program : Program) (bytes : List ℕ)
+      → order_of words ≡ Ok (of_file (mean file units)) → old.file file ≡ Some (Some text)
+      → nat_lt longest_text (length text) ≡ false → typed_tree text ≡ Ok tree → Means tree program
+      → old.left ≡ Some bytes → nat_lt longest_text (length bytes) ≡ false
+      → (e.outcome ≡ outcome_at units (meant program (told bytes) units).ending)
+      × Appends old.taken new.taken (output (meant program (told bytes) units).history)
+  means_so file text units tree program bytes ordered is_told short is means left few =
+      let fine : refusal (mean file units) text ≡ None = rw short (rw is refl) in
+      let d = done (mean file units) text ordered is_told fine in
+      let m = mean_done words old new at_first file units d.bytes ordered d.loads d.fine d.done in
+      by m.of m.was
     where
-      all_of : (text : List ℕ) → nat_lt longest_text (length text) ≡ false → take (longest_text + 1) text ≡ text
-      all_of text short = take_all (longest_text + 1) text (within (cases_lt longest_text (length text)))
-        where
-          within : (longest_text < length text) ⊎ (length text ≤ longest_text) → length text ≤ longest_text + 1
-          within (inl long) = absurd (false≢true (sym short ∙ lt-ltb longest_text (length text) long))
-          within (inr le) = omega (arith, le)
+      shown : (of : MeantText words old.file) (input : List ℕ)
+          → (of.units ≡ units) × (of.program ≡ program) → bytes ≡ input
+          → (first ≡ outcome_at of.units (meant of.program (told input) of.units).ending)
+          × Appends old.taken new.taken (output (meant of.program (told input) of.units).history)
+          → (e.outcome ≡ outcome_at units (meant program (told bytes) units).ending)
+          × Appends old.taken new.taken (output (meant program (told bytes) units).history)
+      shown of input same whole s =
+          let moved = subst (λ (n : ℕ). (first ≡ outcome_at n (meant of.program (told input) n).ending)
+          × Appends old.taken new.taken (output (meant of.program (told input) n).history)) same.0 s in
+          let placed = subst (λ (p : Program). (first ≡ outcome_at units (meant p (told input) units).ending)
+          × Appends old.taken new.taken (output (meant p (told input) units).history)) same.1 moved in
+          let read = subst (λ (l : List ℕ). (first ≡ outcome_at units (meant program (told l) units).ending)
+          × Appends old.taken new.taken (output (meant program (told l) units).history)) (sym whole) placed in
+          (said_first ∙ read.0, read.1)
+
+      -- the text that the words ask the meaning of
+      asked : MeantText words old.file
+      asked = record {
+        file = file;
+        units = units;
+        ordered = ordered;
+        text = take (longest_text + 1) text;
+        loads = subst (λ t. Loads t (longest_text + 1) (take (longest_text + 1) text)) (sym is_told) refl;
+        short = ap (λ (l : List ℕ). nat_lt longest_text (length l)) (all_of text short) ∙ short;
+        tree = tree;
+        accepted = ap typed_tree (all_of text short) ∙ is;
+        program = program;
+        means = means;
+      }
+
+      by : (of : MeantText words old.file) → WasMeant words old new at_first of
+          → (e.outcome ≡ outcome_at units (meant program (told bytes) units).ending)
+          × Appends old.taken new.taken (output (meant program (told bytes) units).history)
+      by of (inl (long, i)) =
+          absurd (false≢true (sym few ∙ long_input bytes new.left i.input
+          (subst (λ l. Consumes l new.left i.input) left i.read) i.long))
+      by of (inr (inl failed)) = absurd (no_read_fault failed)
+      by of (inr (inr v)) =
+          let input = v.evaluation.input in
+          let whole = whole_read bytes new.left input (subst (λ l. Consumes l new.left input) left v.evaluation.read)
+          v.evaluation.at_end in
+          let units_same = one_units words old.file asked of text is_told in
+          let program_same = one_meant words old.file asked of text is_told in
+          shown of input (sym units_same, sym program_same) whole
+          (evaluated_at of.units of.program old.taken new.taken at_first input v.seen no_write_fault)

@@ -24,7 +24,7 @@ if_ok (Ok x) f p = f x p
 if_ok (Err e) f p = p
 
 module _ (answers : Outcome → Type 0) where
-  in_file : (told : Option (Option (List ℕ))) (longest : ℕ) (next : List ℕ → Type 0) (bytes : List ℕ)
+  pub in_file : (told : Option (Option (List ℕ))) (longest : ℕ) (next : List ℕ → Type 0) (bytes : List ℕ)
       → Loads told (longest + 1) bytes → nat_lt longest (length bytes) ≡ false → next bytes →
       WithFile told longest answers next
   in_file told longest next bytes loads short n = inr (bytes, loads, rw short n)

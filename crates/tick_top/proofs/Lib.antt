@@ -10,3 +10,5 @@ pub mod Endings
 pub mod Complete
 pub mod Stated
 pub mod Spoken
+pub mod Evaluations
+pub mod Meanings

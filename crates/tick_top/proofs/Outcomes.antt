@@ -23,6 +23,26 @@ is_refusal outcome.TooLong = true
 is_refusal (outcome.BadImage fault) = true
 is_refusal other = false
 
+-- a refusal of what a file holds, and not of its length or that of an input
+abbrev pub is_content : Outcome → Bool
+is_content outcome.TooLong = false
+is_content other = is_refusal other
+
+pub content_refusal : (o : Outcome) → is_content o ≡ true → is_refusal o ≡ true
+content_refusal (outcome.Refused fault) r = refl
+content_refusal (outcome.AsmRefused fault) r = refl
+content_refusal (outcome.BadImage fault) r = refl
+content_refusal outcome.TooLong r = absurd cc
+content_refusal (outcome.Done s) r = absurd cc
+content_refusal (outcome.BadWords p) r = absurd cc
+content_refusal outcome.LoadFault r = absurd cc
+content_refusal (outcome.Trap k) r = absurd cc
+content_refusal (outcome.MachineFault k at) r = absurd cc
+content_refusal (outcome.OutOfSteps n) r = absurd cc
+content_refusal outcome.WriteFault r = absurd cc
+content_refusal outcome.ReadFault r = absurd cc
+content_refusal outcome.SaveFault r = absurd cc
+
 pub no_refusal : {A : Type 0} {o x : Outcome} → is_refusal o ≡ true → o ≡ x → is_refusal x ≡ false → A
 no_refusal r e n = absurd (false≢true (sym n ∙ ap is_refusal (sym e) ∙ r))
 
@@ -98,12 +118,11 @@ refusal_no_machine outcome.WriteFault r = absurd cc
 refusal_no_machine outcome.ReadFault r = absurd cc
 refusal_no_machine outcome.SaveFault r = absurd cc
 
--- an outcome that comes of an ending, and of nothing else
+-- an outcome that comes of the ending of a run or of an evaluation, and of nothing else
 abbrev pub is_ending : Outcome → Bool
 is_ending (outcome.Trap k) = true
 is_ending (outcome.MachineFault k at) = true
 is_ending (outcome.OutOfSteps n) = true
-is_ending outcome.ReadFault = true
 is_ending other = false
 
 pub no_ending : {A : Type 0} {o x : Outcome} → is_ending o ≡ true → o ≡ x → is_ending x ≡ false → A
@@ -113,7 +132,7 @@ pub ending_machine : (o : Outcome) → is_ending o ≡ true → is_of_machine o 
 ending_machine (outcome.Trap k) r = refl
 ending_machine (outcome.MachineFault k at) r = refl
 ending_machine (outcome.OutOfSteps n) r = refl
-ending_machine outcome.ReadFault r = refl
+ending_machine outcome.ReadFault r = absurd cc
 ending_machine (outcome.Done s) r = absurd cc
 ending_machine (outcome.BadWords p) r = absurd cc
 ending_machine (outcome.Refused fault) r = absurd cc

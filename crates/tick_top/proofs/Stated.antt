@@ -10,9 +10,10 @@ use Rattle.tick_top.specs.Does.{Cause}
 use Rattle.tick_top.specs.Top.{Ticked}
 use Rattle.tick_top.specs.Rows.{RefusedRow, AsmRefusedRow, TooLongRow, BadImageRow, TrapRow, MachineFaultRow}
 use Rattle.tick_top.specs.Rows.{OutOfStepsRow}
-use Rattle.tick_top.specs.Laws.{IsOfRun, RunMeans, RunCompletes, ShowsRuns, CommandsComplete, SourcesComplete}
+use Rattle.tick_top.specs.Laws.{IsOfRun, RunMeans, RunCompletes, ShowsRuns, MeanMeans, MeanCompletes, CommandsComplete}
+use Rattle.tick_top.specs.Laws.{SourcesComplete}
 use Rattle.tick_top.proofs.Outcomes.{is_of_machine}
-use Rattle.tick_top.proofs.Rows.{refusal_row, is_first}
+use Rattle.tick_top.proofs.Rows.{refusal_row, too_long, is_first}
 use Rattle.tick_top.proofs.Endings as endings
 use Rattle.tick_top.proofs.Complete as complete
 
@@ -28,8 +29,8 @@ module _ (words : List (List ℕ)) (old new : Outside) (before now : Failures) (
   asm_refused_row fault = refusal_row words old new before now taken told err_before err_now e did
       (outcome.AsmRefused fault) refl
 
-  pub too_long_row : TooLongRow words old e
-  too_long_row = refusal_row words old new before now taken told err_before err_now e did outcome.TooLong refl
+  pub too_long_row : TooLongRow words old new e
+  too_long_row = too_long words old new before now taken told err_before err_now e did
 
   pub bad_image_row : BadImageRow words old e
   bad_image_row fault = refusal_row words old new before now taken told err_before err_now e did
@@ -37,7 +38,7 @@ module _ (words : List (List ℕ)) (old new : Outside) (before now : Failures) (
 
   pub trap_row : TrapRow words old new e
   trap_row kind =
-      endings.ending_row words old new before now taken told err_before err_now e did (λ steps. outcome.Trap kind)
+      endings.either_row words old new before now taken told err_before err_now e did (λ steps. outcome.Trap kind)
       (Some (event.Ended (ending.Trap kind)))
       (λ n. refl) (λ n. refl)
 
@@ -45,8 +46,8 @@ module _ (words : List (List ℕ)) (old new : Outside) (before now : Failures) (
   machine_fault_row kind at = (
     endings.fault_of_exec words old new before now taken told err_before err_now e did kind at,
     endings.ending_row words old new before now taken told err_before err_now e did
-        (λ steps. outcome.MachineFault kind at) (Some (event.Fault kind at))
-        (λ n. refl) (λ n. refl),
+        (λ steps. outcome.MachineFault kind at) (Some (event.Fault kind at)) (λ n. refl) (λ n. refl)
+        (endings.meant_faultless words old new before now taken told err_before err_now e did kind at),
   )
 
   pub cause_row : e.outcome ≢ outcome.WriteFault → Cause e.outcome before now
@@ -54,7 +55,7 @@ module _ (words : List (List ℕ)) (old new : Outside) (before now : Failures) (
       (sym (is_first words old new before now taken told err_before err_now e did other)) did.2
 
   pub out_of_steps_row : OutOfStepsRow words old new e
-  out_of_steps_row = endings.ending_row words old new before now taken told err_before err_now e did outcome.OutOfSteps
+  out_of_steps_row = endings.either_row words old new before now taken told err_before err_now e did outcome.OutOfSteps
       None (λ n. refl) (λ n. refl)
 
 -- ---- the laws
@@ -88,6 +89,16 @@ pub shows_runs : ShowsRuns
 shows_runs c order steps image did =
     endings.machine_call c.words c.old c.new c.before c.now c.said_before c.said_now c.err_before c.err_now c.ended did
     order steps image
+
+pub mean_means : MeanMeans
+mean_means c file units outcome did =
+    endings.mean_means c.words c.old c.new c.before c.now c.said_before c.said_now c.err_before c.err_now c.ended did
+    file units outcome
+
+pub mean_completes : MeanCompletes
+mean_completes c file text units tree program bytes did fine =
+    complete.means_so c.words c.old c.new c.before c.now c.said_before c.said_now c.err_before c.err_now c.ended did
+    fine file text units tree program bytes
 
 pub commands_complete : CommandsComplete
 commands_complete c order file did fine ordered told accepted = (

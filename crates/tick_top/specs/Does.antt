@@ -2,7 +2,8 @@
 -- load,
 -- length, content, run or save) is in the definitions themselves; they are the product's own rules.
 use Rattle.std.specs.Prelude.{◌≡◌, ◌⊎◌, ℕ, ◌+◌, List, length, Option, Ok, MatchResult, MatchBool, nat_lt, ⊤}
-use Rattle.std.specs.Io.KnownBytes.{Keeps, Appends}
+use Rattle.std.specs.Option.{option_map}
+use Rattle.std.specs.Io.KnownBytes.{Keeps, Appends, Consumes, IsAtEnd}
 use Rattle.host_edge.specs.Files.{Loads, Saves, SavesFront}
 use Rattle.host_edge.specs.Moves.{TakesFront}
 use Rattle.host_edge.specs.Causes.{Rose}
@@ -10,10 +11,13 @@ use Rattle.image_file.specs.Image.{ImageParts}
 use Rattle.image_file.specs.Format.{spelling, parsed}
 use Rattle.asm_print.specs.Text.{text_of}
 use Rattle.mips_text.specs.Assembly.{assembled}
-use Rattle.staged_meaning.specs.Meaning.{Program}
-use Rattle.tick_build.specs.Texts.{typed, Lowered, HoldsForChoices}
+use Rattle.host_edge.specs.declared.ending.Ending.{Ending}
+use Rattle.history.specs.Events.{output}
+use Rattle.history.specs.Events as event
+use Rattle.staged_meaning.specs.Meaning.{Program, meant}
+use Rattle.tick_build.specs.Texts.{typed, typed_tree, Means, Lowered, HoldsForChoices}
 use Rattle.static_image.specs.Headline.{Headline}
-use Rattle.command_words.specs.Orders.{Order, run, build, exec, asm, dis}
+use Rattle.command_words.specs.Orders.{Order, run, build, exec, mean, asm, dis}
 use Rattle.tick_outcome.specs.declared.outcome.Outcome.{Outcome}
 use Rattle.tick_outcome.specs.declared.outcome.Outcome.TheVariants.{Done, BadWords, Refused, AsmRefused, LoadFault}
 use Rattle.tick_outcome.specs.declared.outcome.Outcome.TheVariants.{TooLong, BadImage, Trap, MachineFault, OutOfSteps}
@@ -21,6 +25,7 @@ use Rattle.tick_outcome.specs.declared.outcome.Outcome.TheVariants.{ReadFault, W
 use Rattle.tick_top.specs.declared.ended.Ended.{Ended}
 use Rattle.tick_top.specs.Outside.{Files, Outside, Failures, SameFiles, SameOtherFiles, Silent, Still}
 use Rattle.tick_top.specs.Answers.{IsBare, RanImage, longest_text, longest_image}
+use Rattle.tick_top.specs.Seen.{told, outcome_at}
 
 -- The file is loaded, and isn't longer than it may be; `next` says what then is done with its bytes, and `answers` what
 -- an answer in place of it is.
@@ -123,11 +128,51 @@ abbrev pub PrintsFile : Option (Option (List ℕ)) → Option (List ℕ) → Opt
 PrintsFile file taken told e =
     WithFile file longest_image (Unprinted taken told e) (WithImage (Unprinted taken told e) (PrintsText taken told e))
 
+-- ---- mean
+
+-- a text of the whole language is accepted, and is a program, or is refused for its first static fault
+abbrev pub WithTree : (answers : Outcome → Type 0) → (next : Program → Type 0) → List ℕ → Type 0
+WithTree answers next text =
+    MatchResult (typed_tree text) (λ tree. (program : Program) × Means tree program × next program)
+    (λ fault. answers (Refused fault))
+
+-- The whole input is read: behind these bytes it is longer than it may be, or it fails, or it ends, and `next` says
+-- what
+-- is then done with them.
+abbrev pub WithInput : Option (List ℕ) → Option (List ℕ) → (answers : Outcome → Type 0) → (next : List ℕ → Type 0) →
+    Type 0
+WithInput left later answers next =
+    (bytes : List ℕ) × Consumes left later bytes
+    × MatchBool (nat_lt longest_text (length bytes)) (answers TooLong)
+    (answers ReadFault ⊎ (IsAtEnd later × next bytes))
+
+-- The meaning of the program on the input was evaluated within so many units of work: it ends by its own doing, or not
+-- within them. All that it puts out was written then, or the sink failed and has taken a front part of it.
+pub record Evaluates (units : ℕ) (program : Program) (taken now : Option (List ℕ)) (e : Ended) (input : List ℕ) :
+    Type 0 where
+  pub ending : Option Ending
+  pub ends : (meant program (told input) units).ending ≡ option_map event.Ended ending
+  pub answers :
+      (IsBare e (outcome_at units (meant program (told input) units).ending)
+      × Appends taken now (output (meant program (told input) units).history))
+      ⊎ (IsBare e WriteFault × TakesFront taken now (output (meant program (told input) units).history))
+
+-- the text of the file is a program, and the input is read and its meaning evaluated
+abbrev pub MeansProgram : (units : ℕ) → Outside → Outside → Ended → Program → Type 0
+MeansProgram units old new e program =
+    WithInput old.left new.left (Unprinted old.taken new.taken e) (Evaluates units program old.taken new.taken e)
+
+abbrev pub MeansFile : List ℕ → (units : ℕ) → Outside → Outside → Ended → Type 0
+MeansFile file units old new e =
+    WithFile (old.file file) longest_text (Answered old new e)
+    (WithTree (Answered old new e) (MeansProgram units old new e))
+
 -- ---- all commands
 
 abbrev pub Does : Order → Outside → Outside → Ended → Type 0
 Does (run file steps) old new e = RunsFile file steps old new e
 Does (exec file steps) old new e = ExecutesFile file steps old new e
+Does (mean file units) old new e = SameFiles old.file new.file × MeansFile file units old new e
 Does (build file path) old new e = Still old new × BuildsFile file path old.file new.file e
 Does (asm file path) old new e = Still old new × AssemblesFile file path old.file new.file e
 Does (dis file) old new e =

@@ -6,13 +6,14 @@
 use Rattle.std.specs.Prelude.{◌≡◌, ℕ, ◌≤◌, false, List, length, Option, Some, None, Ok, nat_lt}
 use Rattle.std.specs.Io.KnownBytes.{Appends}
 use Rattle.host_edge.specs.declared.ending.Ending.{Ending}
-use Rattle.history.specs.Events.{Input, Ended}
+use Rattle.history.specs.Events.{Ended, output}
 use Rattle.image_file.specs.Image.{ImageParts}
 use Rattle.mips_model.specs.Run.{runs}
 use Rattle.staged_meaning.specs.Meaning.{Program, meant}
-use Rattle.tick_build.specs.Texts.{typed}
+use Rattle.wellformed.specs.declared.typed.Typed.{Typed}
+use Rattle.tick_build.specs.Texts.{typed, typed_tree, Means}
 use Rattle.tick_gen.specs.Source.{source}
-use Rattle.command_words.specs.Orders.{Order, run, of_file, gen, order_of}
+use Rattle.command_words.specs.Orders.{Order, run, mean, of_file, gen, order_of}
 use Rattle.tick_outcome.specs.declared.outcome.Outcome.{Outcome}
 use Rattle.tick_outcome.specs.declared.outcome.Outcome.TheVariants.{Done, Trap, MachineFault, OutOfSteps, ReadFault}
 use Rattle.tick_outcome.specs.declared.outcome.Outcome.TheVariants.{WriteFault}
@@ -20,8 +21,9 @@ use Rattle.tick_top.specs.declared.ended.Ended as code
 use Rattle.tick_top.specs.Outside.{Outside, Failures}
 use Rattle.tick_top.specs.Answers.{longest_text}
 use Rattle.tick_top.specs.Top.{Ticked}
-use Rattle.tick_top.specs.Seen.{outcome_at, Moves, ShowsRun}
-use Rattle.tick_top.specs.Rows.{file_of, refusal, most_steps}
+use Rattle.tick_top.specs.Seen.{told, outcome_at, Moves, ShowsRun}
+use Rattle.tick_top.specs.Rows.{file_of, refusal, most_steps, most_units}
+use Rattle.tick_top.specs.Evaluations.{MeanIsMeant}
 use Rattle.tick_top.specs.Meant.{allowed, RunIsMeant, Unfailed}
 
 -- a call: what was told and counted before and after it, and what it answered
@@ -53,10 +55,6 @@ IsOfRun ReadFault = Unit {0}
 IsOfRun WriteFault = Unit {0}
 IsOfRun other = ⊥
 
--- the input that gives these bytes, and then ends
-abbrev pub told : List ℕ → Input
-told bytes = record { bytes = bytes; failing = false }
-
 -- the outcome of `run` is that of the meaning of its text
 abbrev pub RunMeans : Type 0
 RunMeans =
@@ -83,14 +81,41 @@ ShowsRuns =
     → c.ended.image ≡ Some image
     → ShowsRun steps image c.ended.choices.items c.old.left c.new.left c.old.taken c.new.taken c.ended.outcome
 
--- Where the file is told and isn't refused and nothing outside fails, a command that runs no machine is done, and one
--- that
--- runs one hands the image back and, on told input, gives the ending that the run has within the instructions.
+-- an outcome of an evaluation whose input was read
+abbrev pub IsOfEvaluation : Outcome → Type 0
+IsOfEvaluation (Done status) = Unit {0}
+IsOfEvaluation (Trap kind) = Unit {0}
+IsOfEvaluation (OutOfSteps steps) = Unit {0}
+IsOfEvaluation WriteFault = Unit {0}
+IsOfEvaluation other = ⊥
+
+-- the outcome of `mean` is that of the meaning of its text on the whole input, and so is what was written
+abbrev pub MeanMeans : Type 0
+MeanMeans =
+    (c : Call) (file : List ℕ) (units : ℕ) (outcome : Outcome) → Did c
+    → order_of c.words ≡ Ok (of_file (mean file units))
+    → c.ended.outcome ≡ outcome → IsOfEvaluation outcome → MeanIsMeant c.words c.old c.new outcome
+
+-- Where the file and the input are told and neither is too long, the text is accepted and nothing outside fails, `mean`
+-- gives the ending that the meaning has within the units, or that it has none, and has written what is meant.
+abbrev pub MeanCompletes : Type 0
+MeanCompletes =
+    (c : Call) (file text : List ℕ) (units : ℕ) (tree : Typed) (program : Program) (bytes : List ℕ)
+    → Did c → NothingFailed c → order_of c.words ≡ Ok (of_file (mean file units)) → c.old.file file ≡ Some (Some text)
+    → nat_lt longest_text (length text) ≡ false → typed_tree text ≡ Ok tree → Means tree program
+    → c.old.left ≡ Some bytes → nat_lt longest_text (length bytes) ≡ false
+    → (c.ended.outcome ≡ outcome_at units (meant program (told bytes) units).ending)
+    × Appends c.old.taken c.new.taken (output (meant program (told bytes) units).history)
+
+-- Where the file is told and isn't refused and nothing outside fails, a command that runs no machine and evaluates
+-- nothing is done, and one that runs a machine hands the image back and, on told input, gives the ending that the run
+-- has
+-- within the instructions.
 abbrev pub CommandsComplete : Type 0
 CommandsComplete =
     (c : Call) (order : Order) (file : List ℕ) → Did c → NothingFailed c → order_of c.words ≡ Ok (of_file order)
     → c.old.file (file_of order) ≡ Some (Some file) → refusal order file ≡ None
-    → (most_steps order ≡ None → c.ended.outcome ≡ Done 0)
+    → (most_steps order ≡ None → most_units order ≡ None → c.ended.outcome ≡ Done 0)
     × ((steps : ℕ) (bytes : List ℕ) → most_steps order ≡ Some steps → c.old.left ≡ Some bytes → (image : ImageParts)
     × (c.ended.image ≡ Some image) ×
     (c.ended.outcome ≡ outcome_at steps (runs image (told bytes) c.ended.choices.items steps).ending))

@@ -8,3 +8,5 @@ pub mod Seen
 pub mod Rows
 pub mod Meant
 pub mod Laws
+pub mod Inputs
+pub mod Evaluations

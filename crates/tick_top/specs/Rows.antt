@@ -1,7 +1,7 @@
 -- When each outcome comes: a refusal exactly where the file's bytes are refused so, and an ending exactly where the
 -- machine's run of the image ends so. The order of refusals (words, load, length, content) is the product's own.
-use Rattle.std.specs.Prelude.{◌≡◌, ◌≢◌, ◌↔◌, ℕ, ◌+◌, List, length, Option, Some, None, Result, Ok, Err, nat_lt}
-use Rattle.std.specs.Prelude.{if◌then◌else◌}
+use Rattle.std.specs.Prelude.{◌≡◌, ◌≢◌, ◌↔◌, ◌⊎◌, ℕ, ◌+◌, List, length, Option, Some, None, Result, Ok, Err}
+use Rattle.std.specs.Prelude.{nat_lt, true, if◌then◌else◌}
 use Rattle.host_edge.specs.Files.{Loads}
 use Rattle.host_edge.specs.declared.ending.Ending.TheVariants as ending
 use Rattle.host_edge.specs.declared.ending.MachineKind.{MachineKind}
@@ -16,15 +16,18 @@ use Rattle.mips_text.specs.Assembly.{assembled}
 use Rattle.mips_text.specs.declared.fault.AsmFault.{AsmFault}
 use Rattle.staged_meaning.specs.Meaning.{Program}
 use Rattle.tick_tree.specs.declared.fault.Fault.{Fault}
-use Rattle.tick_build.specs.Texts.{typed}
-use Rattle.command_words.specs.Orders.{Order, run, build, exec, asm, dis, of_file, order_of}
+use Rattle.wellformed.specs.declared.typed.Typed.{Typed}
+use Rattle.tick_build.specs.Texts.{typed, typed_tree}
+use Rattle.command_words.specs.Orders.{Order, run, build, exec, mean, asm, dis, of_file, order_of}
 use Rattle.tick_outcome.specs.declared.outcome.Outcome.{Outcome}
 use Rattle.tick_outcome.specs.declared.outcome.Outcome.TheVariants.{Refused, AsmRefused, LoadFault, TooLong, BadImage}
-use Rattle.tick_outcome.specs.declared.outcome.Outcome.TheVariants.{Trap, MachineFault, OutOfSteps, WriteFault}
+use Rattle.tick_outcome.specs.declared.outcome.Outcome.TheVariants.{Trap, MachineFault, OutOfSteps, ReadFault}
+use Rattle.tick_outcome.specs.declared.outcome.Outcome.TheVariants.{WriteFault}
 use Rattle.tick_top.specs.declared.ended.Ended.{Ended}
 use Rattle.tick_top.specs.Outside.{Files, Outside}
 use Rattle.tick_top.specs.Answers.{longest_text, longest_image}
 use Rattle.tick_top.specs.Seen.{IsInput}
+use Rattle.tick_top.specs.Evaluations.{InputTooLong, Evaluation, seen_of, EvaluationEnds}
 
 -- ---- refusals
 
@@ -33,6 +36,7 @@ abbrev pub file_of : Order → List ℕ
 file_of (run file steps) = file
 file_of (build file path) = file
 file_of (exec file steps) = file
+file_of (mean file units) = file
 file_of (asm file path) = file
 file_of (dis file) = file
 
@@ -40,12 +44,17 @@ abbrev pub longest_of : Order → ℕ
 longest_of (run file steps) = longest_text
 longest_of (build file path) = longest_text
 longest_of (exec file steps) = longest_image
+longest_of (mean file units) = longest_text
 longest_of (asm file path) = longest_text
 longest_of (dis file) = longest_image
 
 abbrev pub text_refusal : Result Program Fault → Option Outcome
 text_refusal (Ok program) = None
 text_refusal (Err fault) = Some (Refused fault)
+
+abbrev pub tree_refusal : Result Typed Fault → Option Outcome
+tree_refusal (Ok tree) = None
+tree_refusal (Err fault) = Some (Refused fault)
 
 abbrev pub assembly_refusal : Result ImageParts AsmFault → Option Outcome
 assembly_refusal (Ok image) = None
@@ -55,13 +64,14 @@ abbrev pub image_refusal : Result ImageParts ImageFault → Option Outcome
 image_refusal (Ok image) = None
 image_refusal (Err fault) = Some (BadImage fault)
 
--- why the bytes of a file aren't what an order takes, if they aren't: `run` and `build` take a text of the language,
--- `asm`
--- an assembly text, `exec` and `dis` an image
+-- why the bytes of a file aren't what an order takes, if they aren't: `run` and `build` take a text of the language
+-- that
+-- runs so far, `mean` a text of the whole language, `asm` an assembly text, `exec` and `dis` an image
 abbrev pub content_refusal : Order → List ℕ → Option Outcome
 content_refusal (run file steps) bytes = text_refusal (typed bytes)
 content_refusal (build file path) bytes = text_refusal (typed bytes)
 content_refusal (exec file steps) bytes = image_refusal (parsed bytes)
+content_refusal (mean file units) bytes = tree_refusal (typed_tree bytes)
 content_refusal (asm file path) bytes = assembly_refusal (assembled bytes)
 content_refusal (dis file) bytes = image_refusal (parsed bytes)
 
@@ -82,7 +92,28 @@ pub record Refuses (words : List (List ℕ)) (files : Files) (outcome : Outcome)
 pub record IsRefusal (words : List (List ℕ)) (files : Files) (last outcome : Outcome) : Type 0 where
   pub only : last ≡ outcome → Refuses words files outcome
   pub exactly : (order : Order) (file : List ℕ) → order_of words ≡ Ok (of_file order)
-      → files (file_of order) ≡ Some (Some file) → last ≢ LoadFault → (last ≡ outcome) ↔ (refusal order file ≡ Some outcome)
+      → files (file_of order) ≡ Some (Some file) → last ≢ LoadFault →
+      (last ≡ outcome) ↔ (refusal order file ≡ Some outcome)
+
+-- the most units of work of an order that evaluates the meaning
+abbrev pub most_units : Order → Option ℕ
+most_units (mean file units) = Some units
+most_units other = None
+
+-- A file is too long, or the input of `mean` is. Where the file is told and was loaded the outcome comes exactly where
+-- the file is too long; and with `mean`, whose input is told and didn't fail, where the text is accepted and the input
+-- is
+-- too long.
+pub record IsTooLong (words : List (List ℕ)) (old new : Outside) (last : Outcome) : Type 0 where
+  pub only : last ≡ TooLong → Refuses words old.file TooLong ⊎ InputTooLong words old new
+  pub exactly : (order : Order) (file : List ℕ) → order_of words ≡ Ok (of_file order)
+      → old.file (file_of order) ≡ Some (Some file) → last ≢ LoadFault → most_units order ≡ None →
+      (last ≡ TooLong) ↔ (refusal order file ≡ Some TooLong)
+  pub of_input : (name : List ℕ) (units : ℕ) (file bytes : List ℕ) → order_of words ≡ Ok (of_file (mean name units))
+      → old.file name ≡ Some (Some file) → old.left ≡ Some bytes → last ≢ LoadFault → last ≢ ReadFault →
+      (last ≡ TooLong)
+      ↔ ((refusal (mean name units) file ≡ Some TooLong)
+      ⊎ ((refusal (mean name units) file ≡ None) × (nat_lt longest_text (length bytes) ≡ true)))
 
 -- ---- endings
 
@@ -113,6 +144,19 @@ pub record IsOfEnding (words : List (List ℕ)) (old new : Outside) (e : Ended) 
   pub always : (steps : ℕ) (bytes : List ℕ) → old.left ≡ Some bytes → RunEnds words old new e steps end
       → e.outcome ≢ WriteFault → e.outcome ≡ outcome steps
 
+-- The same of a run or of the meaning that `mean` evaluates: where its file and its input are told and nothing failed,
+-- the outcome comes of it too.
+pub record IsOfEither (words : List (List ℕ)) (old new : Outside) (e : Ended) (outcome : ℕ → Outcome) (end : Option End)
+    : Type 0 where
+  pub only : (n : ℕ) → e.outcome ≡ outcome n →
+      (steps : ℕ) × (outcome steps ≡ outcome n) ×
+      (RunEnds words old new e steps end ⊎ EvaluationEnds words old new steps end)
+  pub always : (steps : ℕ) (bytes : List ℕ) → old.left ≡ Some bytes → RunEnds words old new e steps end
+      → e.outcome ≢ WriteFault → e.outcome ≡ outcome steps
+  pub evaluated : (v : Evaluation words old new) (file bytes : List ℕ) → old.file v.of.file ≡ Some (Some file)
+      → old.left ≡ Some bytes → (seen_of v).ending ≡ end → e.outcome ≢ LoadFault → e.outcome ≢ ReadFault
+      → e.outcome ≢ WriteFault → e.outcome ≡ outcome v.of.units
+
 -- the words execute a saved image
 abbrev pub Executes : List (List ℕ) → Type 0
 Executes words = (file : List ℕ) × (steps : ℕ) × (order_of words ≡ Ok (of_file (exec file steps)))
@@ -125,15 +169,15 @@ RefusedRow words old e = (fault : Fault) → IsRefusal words old.file e.outcome 
 abbrev pub AsmRefusedRow : List (List ℕ) → Outside → Ended → Type 0
 AsmRefusedRow words old e = (fault : AsmFault) → IsRefusal words old.file e.outcome (AsmRefused fault)
 
-abbrev pub TooLongRow : List (List ℕ) → Outside → Ended → Type 0
-TooLongRow words old e = IsRefusal words old.file e.outcome TooLong
+abbrev pub TooLongRow : List (List ℕ) → Outside → Outside → Ended → Type 0
+TooLongRow words old new e = IsTooLong words old new e.outcome
 
 abbrev pub BadImageRow : List (List ℕ) → Outside → Ended → Type 0
 BadImageRow words old e = (fault : ImageFault) → IsRefusal words old.file e.outcome (BadImage fault)
 
 abbrev pub TrapRow : List (List ℕ) → Outside → Outside → Ended → Type 0
 TrapRow words old new e = (kind : TrapKind) →
-    IsOfEnding words old new e (λ steps. Trap kind) (Some (event.Ended (ending.Trap kind)))
+    IsOfEither words old new e (λ steps. Trap kind) (Some (event.Ended (ending.Trap kind)))
 
 -- a fault of the machine comes of `exec` alone
 abbrev pub MachineFaultRow : List (List ℕ) → Outside → Outside → Ended → Type 0
@@ -142,4 +186,4 @@ MachineFaultRow words old new e = (kind : MachineKind) (at : ℕ)
     × IsOfEnding words old new e (λ steps. MachineFault kind at) (Some (event.Fault kind at))
 
 abbrev pub OutOfStepsRow : List (List ℕ) → Outside → Outside → Ended → Type 0
-OutOfStepsRow words old new e = IsOfEnding words old new e OutOfSteps None
+OutOfStepsRow words old new e = IsOfEither words old new e OutOfSteps None

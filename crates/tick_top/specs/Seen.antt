@@ -14,10 +14,14 @@ use Rattle.tick_outcome.specs.declared.outcome.Outcome.{Outcome}
 use Rattle.tick_outcome.specs.declared.outcome.Outcome.TheVariants.{Done, Trap, MachineFault, OutOfSteps, ReadFault}
 use Rattle.tick_outcome.specs.declared.outcome.Outcome.TheVariants.{WriteFault}
 
+-- the input that gives these bytes, and then ends
+abbrev pub told : List ℕ → Input
+told bytes = record { bytes = bytes; failing = false }
+
 -- the bytes that are told, and then the end
 abbrev pub EndsBehind : Option (List ℕ) → Input → Type 0
 EndsBehind None input = input.failing ≡ false
-EndsBehind (Some bytes) input = input ≡ record { bytes = bytes; failing = false }
+EndsBehind (Some bytes) input = input ≡ told bytes
 
 -- the input of a run: of told bytes all that were left, and then the end; but where a read failed, the bytes that were
 -- taken, and then the fault

@@ -10,6 +10,7 @@ use crate::ended::{Ended, Front, bare};
 use crate::generated::write_source;
 use crate::images::{run_image, save_image, write_text};
 use crate::load::{image_of_assembly, image_of_file, image_of_text};
+use crate::means::mean_file;
 use command_words::Command;
 use host_edge::{Sink, Source, Store};
 use std::alloc::{AllocError, Global};
@@ -128,6 +129,7 @@ pub fn obey<S: Store, I: Source, O: Sink>(
     match command {
         Command::Run(file, steps) => run_file(alloc, file, steps, store, input, out),
         Command::Exec(file, steps) => exec_file(alloc, file, steps, store, input, out),
+        Command::Mean(file, units) => mean_file(alloc, file, units, store, input, out),
         Command::Build(file, path) => build_file(alloc, file, path, store),
         Command::Asm(file, path) => assemble_file(alloc, file, path, store),
         Command::Dis(file) => disassemble_file(alloc, file, store, out),

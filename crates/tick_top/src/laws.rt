@@ -1,5 +1,6 @@
 //! Laws of a whole call.
-ghost use Rattle.tick_top.specs.Laws.{RunMeans, RunCompletes, ShowsRuns, CommandsComplete, SourcesComplete};
+ghost use Rattle.tick_top.specs.Laws.{RunMeans, RunCompletes, ShowsRuns, MeanMeans, MeanCompletes};
+ghost use Rattle.tick_top.specs.Laws.{CommandsComplete, SourcesComplete};
 
 /// What `run` answers is what the text means: where it answers Done, the meaning ends so, and its output was put out.
 pub fn run_means()
@@ -14,6 +15,16 @@ pub fn run_completes()
 /// What `run` and `exec` show is the definition's run of the image that they hand back.
 pub fn shows_runs()
     ensures { ShowsRuns }
+{}
+
+/// What `mean` answers and writes is what the text means on the whole input.
+pub fn mean_means()
+    ensures { MeanMeans }
+{}
+
+/// Where file and input are told and may be evaluated and nothing outside fails, `mean` answers as the meaning ends.
+pub fn mean_completes()
+    ensures { MeanCompletes }
 {}
 
 /// A command whose file isn't refused is done, where nothing outside fails.

@@ -7,10 +7,15 @@ mod generated;
 mod images;
 mod laws;
 mod load;
+mod means;
 mod said;
 mod top;
+mod whole_input;
 
 pub use ended::Ended;
-pub use laws::{commands_complete, run_completes, run_means, shows_runs, sources_complete};
+pub use laws::{
+    commands_complete, mean_completes, mean_means, run_completes, run_means, shows_runs,
+    sources_complete,
+};
 pub use tick_outcome::{Outcome, status};
 pub use top::tick;

@@ -24,8 +24,8 @@ pub enum Loaded {
     FailedFile,
 }
 
-// The whole file, which may have so many bytes.
-fn load<S: Store>(
+/// The whole file, which may have so many bytes.
+pub fn load<S: Store>(
     alloc: Global,
     store: &mut S,
     file: &str,

@@ -76,7 +76,9 @@ pub fn tick<S: Store, I: Source, O: Sink, E: Sink>(
     ensures bad_words { IfOk result (λ e. (place : ℕ) → (e.outcome ≡ Outcome.BadWords place) ↔ (order_of (map string_bytes words.now) ≡ Err place)) }
     ensures refused { IfOk result (RefusedRow (map string_bytes words.now) (outside (S.file store.old) (I.left input.old) (O.taken out.old))) }
     ensures asm_refused { IfOk result (AsmRefusedRow (map string_bytes words.now) (outside (S.file store.old) (I.left input.old) (O.taken out.old))) }
-    ensures too_long { IfOk result (TooLongRow (map string_bytes words.now) (outside (S.file store.old) (I.left input.old) (O.taken out.old))) }
+    ensures too_long { IfOk result (TooLongRow (map string_bytes words.now)
+        (outside (S.file store.old) (I.left input.old) (O.taken out.old))
+        (outside (S.file store.new) (I.left input.new) (O.taken out.new))) }
     ensures bad_image { IfOk result (BadImageRow (map string_bytes words.now) (outside (S.file store.old) (I.left input.old) (O.taken out.old))) }
     ensures trap { IfOk result (TrapRow (map string_bytes words.now)
         (outside (S.file store.old) (I.left input.old) (O.taken out.old))

@@ -1,5 +1,5 @@
-//! Runs the texts on its input, each under `run` with an input of its own, and prints of each the status and what was
-//! written, a line each. A text has a line `%% NAME` before it; each of its lines that begins with `%< ` is a line of
+//! Runs the texts on its input, each under `run` and under `mean` with an input of its own, and prints of each call the
+//! status and what was written, a line each. A text has a line `%% NAME` before it; each of its lines that begins with `%< ` is a line of
 //! its input.
 #![tactic(auto)]
 
@@ -19,7 +19,7 @@ fn words_of(alloc: Global, line: &str) -> Result<Vec<String>, AllocError> {
     Ok(all)
 }
 
-// What a run left.
+// What a call left.
 #[derive(Drop)]
 struct Seen {
     status: u8,
@@ -27,10 +27,10 @@ struct Seen {
     err: Vec<u8>,
 }
 
-fn run(alloc: Global, text: &[u8], given: &[u8]) -> Result<Seen, AllocError> {
+fn call(alloc: Global, line: &str, text: &[u8], given: &[u8]) -> Result<Seen, AllocError> {
     let mut store = MemStore::new(alloc, &[])?;
     store.put("text", text)?;
-    let words = words_of(alloc, "tick run text")?;
+    let words = words_of(alloc, line)?;
     let mut input = MemSource::new(alloc, given, &[])?;
     let mut out = MemSink::new(alloc, ROOM, &[])?;
     let mut err = MemSink::new(alloc, ROOM, &[])?;
@@ -42,6 +42,12 @@ fn run(alloc: Global, text: &[u8], given: &[u8]) -> Result<Seen, AllocError> {
     })
 }
 
+fn show<R: Print + AllocGlobal>(rt: &R, name: &str, seen: &Seen) -> io::Result<()> {
+    let out = str::from_utf8(&seen.out).unwrap_or("?");
+    let err = str::from_utf8(&seen.err).unwrap_or("?");
+    println!(rt; "{name}: {}, out {out:?}, err {err:?}", seen.status)
+}
+
 fn report<R: Print + AllocGlobal>(
     rt: &R,
     name: &[u8],
@@ -51,11 +57,10 @@ fn report<R: Print + AllocGlobal>(
     if name.is_empty() {
         return Ok(());
     }
-    let seen = run(rt.alloc(), text, given)?;
-    let name = str::from_utf8(name).unwrap_or("?");
-    let out = str::from_utf8(&seen.out).unwrap_or("?");
-    let err = str::from_utf8(&seen.err).unwrap_or("?");
-    println!(rt; "{name}: {}, out {out:?}, err {err:?}", seen.status)
+    let ran = call(rt.alloc(), "tick run text", text, given)?;
+    show(rt, str::from_utf8(name).unwrap_or("?"), &ran)?;
+    let meant = call(rt.alloc(), "tick mean text", text, given)?;
+    show(rt, "  means", &meant)
 }
 
 fn push_line(into: &mut Vec<u8>, line: &[u8]) -> Result<(), AllocError> {

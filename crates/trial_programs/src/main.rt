@@ -1,6 +1,6 @@
-//! Programs under `run`, and under `build` and then `exec`: of both the status and what was written, a line each.
-//! Before each program stands a line `%% STEPS INPUT NAME`, with the most instructions of each run and the bytes that
-//! it may read, without blanks. The name is for the reader; a line `%% STEPS` or `%% STEPS INPUT` has none. A `!` in
+//! Programs under `run`, under `build` and then `exec`, and under `mean`: of each the status and what was written, a
+//! line each. Before each program stands a line `%% STEPS INPUT NAME`, with the most instructions of each run, which are
+//! the most units of the evaluation too, and the bytes that it may read, without blanks. The name is for the reader; a line `%% STEPS` or `%% STEPS INPUT` has none. A `!` in
 //! its place says that C leaves open what comes of the program (tools/plain_c).
 #![tactic(auto)]
 
@@ -63,7 +63,7 @@ fn show<R: Print + AllocGlobal>(rt: &R, name: &str, seen: &Seen) -> io::Result<(
     println!(rt; "{name}: {}, out {out:?}, err {err:?}", seen.status)
 }
 
-// A program under `run`, and under `build` and then `exec`, on a store of its own.
+// A program under `run`, under `build` and then `exec`, and under `mean`, on a store of its own.
 fn report<R: Print + AllocGlobal>(rt: &R, head: &[u8], text: &[u8]) -> io::Result<()> {
     let alloc = rt.alloc();
     let mut words = head.split(|b| *b == b' ');
@@ -90,7 +90,14 @@ fn report<R: Print + AllocGlobal>(rt: &R, head: &[u8], text: &[u8]) -> io::Resul
         &mut store,
         given,
     )?;
-    show(rt, "exec", &executed)
+    show(rt, "exec", &executed)?;
+    let meant = call(
+        alloc,
+        &words_of(alloc, "tick mean", steps, "text")?,
+        &mut store,
+        given,
+    )?;
+    show(rt, "mean", &meant)
 }
 
 fn main(rt: HostRuntime) -> io::Result<()> {

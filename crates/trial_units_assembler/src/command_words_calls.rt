@@ -60,3 +60,12 @@ fn runs_may_ask_for_counts_once(rt: HostRuntime) -> Result<(), Fail> {
     assert_eq!(rt; bad_place(rt.alloc(), "tick dis --stats image")?, 2);
     Ok(())
 }
+
+#[test]
+fn an_evaluation_has_units_and_no_counts(rt: HostRuntime) -> Result<(), Fail> {
+    let words = words_of(rt.alloc(), "tick mean --steps 9 text")?;
+    assert!(rt; matches!(command_of(&words), Ok(Command::Mean("text", 9))));
+    assert_eq!(rt; bad_place(rt.alloc(), "tick mean text --stats")?, 3);
+    assert_eq!(rt; bad_place(rt.alloc(), "tick mean")?, 2);
+    Ok(())
+}

@@ -1,0 +1,141 @@
+//! Arguments of calls, and the words of captures.
+
+ghost use Rattle.std.specs.Prelude.{◌≡◌, ◌+◌, ◌<◌, ◌≤◌, ◌++◌, IfOk};
+ghost use Rattle.typed_tree.specs.Nodes as node;
+ghost use Rattle.staged_meaning.specs.Meaning.{eval_args};
+ghost use Rattle.staged_meaning.specs.World.{then_do};
+ghost use Rattle.meaning_rest.specs.Pending as pending;
+ghost use Rattle.meaning_rest.specs.Rest.{targeted, valued};
+ghost use Rattle.eval_state.specs.Less.{heft, held, waiting};
+ghost use Rattle.eval_state.specs.Steps.{begun, taken};
+ghost use Rattle.eval_state.specs.Run.{here, leads, outcome, run_of, world};
+ghost use Rattle.eval_state.specs.Views.{args_view, now_view, target_view};
+
+use eval_state::{ExpressionFrame, Frame, Machine, Now, Target};
+use sqlite_items::Items;
+use std::alloc::AllocError;
+use typed_tree::{Answer, Expr};
+
+/// Begins a call of the function of a number.
+#[tactic(auto, unfolding(eval_state::specs::Steps::begun))]
+pub(crate) fn call<'a>(
+    m: &mut Machine<'a>,
+    answer: Answer,
+    f: u32,
+    list: &'a [Expr],
+) -> Result<Now<'a>, AllocError>
+    ensures same { IfOk result (λ n. outcome (now_view n) (run_of m.new)
+        ≡ begun (node.Call answer f (args_view list.entry.now)) (run_of m.old)) }
+    ensures units { IfOk result (λ n. (run_of m.new).state.units ≤ (run_of m.old).state.units) }
+    ensures less { IfOk result (λ n. (run_of m.new).state.units ≡ (run_of m.old).state.units
+        → heft (now_view n) (run_of m.new)
+        < heft (pending.Eval (node.Call answer f (args_view list.entry.now))) (run_of m.old)) }
+{
+    let done = Items::new(m.alloc());
+    next_argument(m, Target::Direct(answer, f), list, done)
+}
+
+/// Begins a specification of the tick of a number.
+#[tactic(auto, unfolding(eval_state::specs::Steps::begun))]
+pub(crate) fn specify<'a>(
+    m: &mut Machine<'a>,
+    tick: u32,
+    list: &'a [Expr],
+) -> Result<Now<'a>, AllocError>
+    ensures same { IfOk result (λ n. outcome (now_view n) (run_of m.new)
+        ≡ begun (node.Tick tick (args_view list.entry.now)) (run_of m.old)) }
+    ensures units { IfOk result (λ n. (run_of m.new).state.units ≤ (run_of m.old).state.units) }
+    ensures less { IfOk result (λ n. (run_of m.new).state.units ≡ (run_of m.old).state.units
+        → heft (now_view n) (run_of m.new)
+        < heft (pending.Eval (node.Tick tick (args_view list.entry.now))) (run_of m.old)) }
+{
+    let done = Items::new(m.alloc());
+    next_argument(m, Target::Specified(tick, list), list, done)
+}
+
+/// The number of a function that is called is there.
+#[tactic(auto, unfolding(eval_state::specs::Steps::taken))]
+pub(crate) fn called_number<'a>(
+    m: &mut Machine<'a>,
+    answer: Answer,
+    f: u32,
+    list: &'a [Expr],
+) -> Result<Now<'a>, AllocError>
+    ensures same { IfOk result (λ n. outcome (now_view n) (run_of m.new)
+        ≡ taken (pending.Function answer (args_view list.entry.now)) f (run_of m.old)) }
+    ensures units { IfOk result (λ n. (run_of m.new).state.units ≤ (run_of m.old).state.units) }
+    ensures less { IfOk result (λ n. (run_of m.new).state.units ≡ (run_of m.old).state.units
+        → heft (now_view n) (run_of m.new)
+        < waiting (pending.Function answer (args_view list.entry.now)) (run_of m.old) + held (run_of m.old)) }
+{
+    let done = Items::new(m.alloc());
+    next_argument(m, Target::Numbered(answer, f), list, done)
+}
+
+/// An argument is there: goes on with the next one, or with what they are for.
+#[tactic(auto, unfolding(eval_state::specs::Steps::taken))]
+pub(crate) fn argument<'a>(
+    m: &mut Machine<'a>,
+    target: Target<'a>,
+    list: &'a [Expr],
+    done: Items<u32>,
+    v: u32,
+) -> Result<Now<'a>, AllocError>
+    ensures same { IfOk result (λ n. outcome (now_view n) (run_of m.new)
+        ≡ taken (pending.Argument (target_view target.entry) (args_view list.entry.now) done) v (run_of m.old)) }
+    ensures units { IfOk result (λ n. (run_of m.new).state.units ≤ (run_of m.old).state.units) }
+    ensures less { IfOk result (λ n. (run_of m.new).state.units ≡ (run_of m.old).state.units
+        → heft (now_view n) (run_of m.new)
+        < waiting (pending.Argument (target_view target.entry) (args_view list.entry.now) done) (run_of m.old)
+        + held (run_of m.old)) }
+{
+    let mut done = done;
+    done.push(v)?;
+    next_argument(m, target, list, done)
+}
+
+// Goes on with the next argument, or with what they are for; `done` has those before.
+fn next_argument<'a>(
+    m: &mut Machine<'a>,
+    target: Target<'a>,
+    list: &'a [Expr],
+    done: Items<u32>,
+) -> Result<Now<'a>, AllocError>
+    ensures same { IfOk result (λ n. outcome (now_view n) (run_of m.new)
+        ≡ leads (run_of m.old) (valued (then_do (eval_args (here (run_of m.old)) (args_view list.entry.now) (world
+        (run_of m.old)))
+        (λ vs w. targeted (here (run_of m.old)) (target_view target.entry) (done ++ vs) w)))) }
+    ensures units { IfOk result (λ n. (run_of m.new).state.units ≤ (run_of m.old).state.units) }
+    ensures less { IfOk result (λ n. (run_of m.new).state.units ≡ (run_of m.old).state.units
+        → heft (now_view n) (run_of m.new) <
+        waiting (pending.Argument (target_view target.entry) (args_view list.entry.now) done) (run_of m.old)
+        + held (run_of m.old)) }
+{
+    match list.split_first() {
+        None => with_arguments(m, target, done),
+        Some((e, more)) => m.push(
+            Frame::Expression(ExpressionFrame::Argument(target, more, done)),
+            Now::Eval(e),
+        ),
+    }
+}
+
+// Does what arguments are for.
+fn with_arguments<'a>(
+    m: &mut Machine<'a>,
+    target: Target<'a>,
+    done: Items<u32>,
+) -> Result<Now<'a>, AllocError>
+    ensures same { IfOk result (λ n. outcome (now_view n) (run_of m.new)
+        ≡ leads (run_of m.old) (valued (targeted (here (run_of m.old)) (target_view target.entry) done (world
+        (run_of m.old))))) }
+    ensures units { IfOk result (λ n. (run_of m.new).state.units ≤ (run_of m.old).state.units) }
+    ensures less { IfOk result (λ n. (run_of m.new).state.units ≡ (run_of m.old).state.units
+        → heft (now_view n) (run_of m.new) ≤ held (run_of m.old)) }
+{
+    match target {
+        Target::Direct(answer, f) => m.call(answer, f, done),
+        Target::Numbered(answer, f) => m.call_number(answer, f, done),
+        Target::Specified(tick, list) => m.specify_tick(tick, list, done),
+    }
+}

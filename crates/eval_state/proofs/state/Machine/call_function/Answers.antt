@@ -1,0 +1,82 @@
+use Rattle.std.proofs.Common.{◌≡◌, ℕ, ◌≤◌, List, [], Some, None, refl, ap, sym, ◌∙◌, arith}
+use Rattle.typed_tree.specs.declared.expression.Stmt.{Stmt}
+use Rattle.typed_tree.specs.View.{function_view, stmt_view}
+use Rattle.meaning_state.specs.Shared.{limit_trap}
+use Rattle.staged_meaning.specs.Size.{charge_of, size_of}
+use Rattle.meaning_rest.specs.Pending as pending
+use Rattle.meaning_rest.specs.Rest.{spent}
+use Rattle.eval_state.specs.declared.state.Body.{Body}
+use Rattle.eval_state.specs.declared.state.Generated.{Generated}
+use Rattle.eval_state.specs.declared.state.Parts.{Parts}
+use Rattle.eval_state.specs.Run.{here, leads, run_of, world}
+use Rattle.eval_state.proofs.Callees.{static_enters, static_limit}
+use Rattle.eval_state.proofs.Codes.{within_limits}
+use Rattle.eval_state.proofs.Lightens.{units_same}
+use Rattle.eval_state.proofs.state.Machine.call_function.Goals as goal
+
+pub returns-in-Some-clause-same : goal.returns-in-Some-clause-same
+returns-in-Some-clause-same c = λ f h.
+    let p = c.args.self.now in
+    let function = c.args.function.now in
+    let charge = c.charge_of-charge.ensures ∙ ap charge_of c.requires.1 in
+    static_limit p c.args.answer f c.args.arguments function c.in-Some.kind c.requires.0 h
+    (ap (λ n. limit_trap n function.object (world (run_of p)).shared) (sym charge) ∙ sym c.in-Some.ensures)
+
+pub enter-requires : goal.enter-requires
+enter-requires c =
+    let none = sym c.in_default.is ∙ c.limit.ensures in
+    let within = within_limits c.args.self.now c.charge_of-charge.result c.args.function.now.object none in
+    (c.requires.0, omega arith, within.0, within.1)
+
+pub returns-clause-same : goal.returns-clause-same
+returns-clause-same c = λ f h.
+    let p = c.args.self.now in
+    let q = c.enter.new.self in
+    let function = c.args.function.now in
+    let none = sym c.in_default.is ∙ c.limit.ensures in
+    let charge = c.charge_of-charge.ensures ∙ ap charge_of c.requires.1 in
+    let generated = c.in_ok-again.ensures ∙ ap (λ (p : Parts). p.body.generated) c.self.view_is in
+    let body : Body = record {
+      variables = c.new.result;
+      arguments = c.arguments.inside.items.items;
+      generated = c.in_ok-again.field-0;
+      object = function.object;
+      row = 0;
+    } in
+    let is = ap (λ (vs : List ℕ). record {
+      variables = vs;
+      arguments = c.arguments.inside.items.items;
+      generated = c.in_ok-again.field-0;
+      object = function.object;
+      row = 0;
+    }) c.new.ensures ∙ ap (λ (vs : List ℕ). record {
+      variables = [];
+      arguments = vs;
+      generated = c.in_ok-again.field-0;
+      object = function.object;
+      row = 0;
+    }) c.arguments.view_is ∙ ap (λ (g : Generated). record {
+      variables = [];
+      arguments = c.args.arguments;
+      generated = g;
+      object = function.object;
+      row = 0;
+    }) generated in
+    c.spend.ensures.same
+    ∙ ap (λ (s : Stmt). leads (run_of q) (spent (here (run_of q)) (world (run_of q)).units (pending.Exec (stmt_view s))
+    (world (run_of q)))) c.get.ensures
+    ∙ static_enters p q c.args.answer f c.charge_of-charge.result c.args.arguments function body c.requires.0 h charge
+    none is c.in_ok-enter.ensures
+
+pub returns-clause-units : goal.returns-clause-units
+returns-clause-units c =
+    let p = c.args.self.now in
+    let at_entry = units_same p c.enter.new.self (ap (λ (q : Parts). q.units) c.in_ok-enter.ensures) in
+    omega (arith, c.spend.ensures.units, at_entry)
+
+pub returns-clause-less : goal.returns-clause-less
+returns-clause-less c = λ same.
+    let p = c.args.self.now in
+    let at_entry = units_same p c.enter.new.self (ap (λ (q : Parts). q.units) c.in_ok-enter.ensures) in
+    let none = c.spend.ensures.less (same ∙ sym at_entry) in
+    omega (arith, none)

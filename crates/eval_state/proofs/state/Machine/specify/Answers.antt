@@ -1,0 +1,45 @@
+use Rattle.std.proofs.Common.{◌≡◌, ◌+◌, ◌<◌, ◌≤◌, length, refl, ap, sym, subst, ◌∙◌, arith}
+use Rattle.word32.specs.declared.map.TheConstants.{CLOSURE_BYTES}
+use Rattle.meaning_state.specs.Rows.{closure_bytes}
+use Rattle.meaning_rest.specs.Pending as pending
+use Rattle.meaning_rest.specs.Rest.{spent}
+use Rattle.eval_state.specs.declared.state.Parts.{Parts}
+use Rattle.eval_state.specs.Grown.{specification_in}
+use Rattle.eval_state.specs.Run.{here, leads, run_of, world}
+use Rattle.eval_state.specs.Sound.{IsSound}
+use Rattle.eval_state.proofs.Lightens.{row_weighs}
+use Rattle.eval_state.proofs.Makes.{makes, no_closure}
+use Rattle.eval_state.proofs.state.Machine.specify.Goals as goal
+
+pub returns-then-saturating_sub-bytes-clause-same : goal.returns-then-saturating_sub-bytes-clause-same
+returns-then-saturating_sub-bytes-clause-same c =
+    let p = c.args.self.now in
+    let same : c.self.inside.parts.closures ≡ p.closures = ap (λ (p : Parts). p.closures) c.self.view_is in
+    no_closure p (specification_in p c.args.row) c.args.captures
+    (omega (arith, same, c.saturating_sub.ensures, c.if-saturating_sub-bytes.true))
+
+pub returns-clause-same : goal.returns-clause-same
+returns-clause-same c =
+    let p = c.args.self.now in
+    let q = c.add_row.new.self in
+    let sound = subst IsSound c.self.view_is c.self.invariant in
+    let same : c.self.inside.parts.closures ≡ p.closures = ap (λ (p : Parts). p.closures) c.self.view_is in
+    let fits : p.closures + closure_bytes c.args.captures ≤ CLOSURE_BYTES =
+    omega (arith, same, c.saturating_sub.ensures, c.if-saturating_sub-bytes.false) in
+    c.spend.ensures.same
+    ∙ ap (λ n. leads (run_of q) (spent (here (run_of q)) (world (run_of q)).units (pending.Value n) (world (run_of q))))
+    c.row_count-number.ensures
+    ∙ makes p q c.args.row c.args.captures sound fits c.in_ok-add_row.ensures
+
+pub returns-clause-units : goal.returns-clause-units
+returns-clause-units c =
+    let still = row_weighs c.args.self.now c.add_row.new.self c.args.row _ (subst IsSound c.self.view_is c.self.invariant)
+    c.in_ok-add_row.ensures in
+    omega (arith, c.spend.ensures.units, still.1)
+
+pub returns-clause-less : goal.returns-clause-less
+returns-clause-less c = λ same.
+    let still = row_weighs c.args.self.now c.add_row.new.self c.args.row _ (subst IsSound c.self.view_is c.self.invariant)
+    c.in_ok-add_row.ensures in
+    let less = c.spend.ensures.less (same ∙ sym still.1) in
+    omega (arith, less, still.0)

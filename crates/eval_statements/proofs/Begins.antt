@@ -1,0 +1,142 @@
+-- The steps of statements.
+use Rattle.std.proofs.Common.{◌≡◌, ◌≢◌, ℕ, zero, suc, Option, None, Some, IfOk, refl, ap, sym, subst, ◌∙◌}
+use Rattle.std.proofs.Common as std
+use Rattle.typed_tree.specs.Nodes as node
+use Rattle.typed_tree.specs.Nodes.{Expr, Stmt}
+use Rattle.staged_meaning.specs.Meaning.{eval, exec}
+use Rattle.staged_meaning.specs.World.{Flow, Normal, Broke, Continued, World, Result, Gives, spend, then_do}
+use Rattle.meaning_rest.specs.Pending.{Now}
+use Rattle.meaning_rest.specs.Pending as pending
+use Rattle.meaning_rest.specs.Rest.{Signal, Left, left, loop_of, valued, after, spent}
+use Rattle.meaning_rest.proofs.Laws as law
+use Rattle.meaning_rest.proofs.Statements as statement
+use Rattle.typed_tree.proofs.Views as view
+use Rattle.eval_state.specs.declared.parts.Now as code
+use Rattle.eval_state.specs.Steps.{executed, taken, ended}
+use Rattle.eval_state.specs.Views.{now_view}
+use Rattle.eval_state.specs.Run.{Run, here, world, leads, outcome, in_world}
+
+-- the end of a statement behind a change of the world, which spends a unit
+pub ends_behind : (r s t : Run) (n : Now) (w : World) (flow : Flow) → s ≡ in_world w r
+    → outcome n t ≡ leads s (spent (here s) (world s).units (pending.Left flow) (world s))
+    → outcome n t ≡ leads r (left (spend flow w))
+ends_behind r s t n w flow h k =
+    k
+    ∙ ap (λ s. leads s (spent (here s) (world s).units (pending.Left flow) (world s))) h
+    ∙ ap (leads r) (law.spent_left (here r) w.units flow w)
+
+-- and without one
+pub ends_now : (r t : Run) (n : Now) (flow : Flow)
+    → outcome n t ≡ leads r (spent (here r) (world r).units (pending.Left flow) (world r))
+    → outcome n t ≡ leads r (left (spend flow (world r)))
+ends_now r t n flow k = k ∙ ap (leads r) (law.spent_left (here r) (world r).units flow (world r))
+
+-- what a call leads to, where that is the same as something else
+pub same_as : {E : Type 0} (result : std.Result code.Now E) (t : Run) (x y : Result Signal)
+    → IfOk result (λ n. outcome (now_view n) t ≡ x) → x ≡ y → IfOk result (λ n. outcome (now_view n) t ≡ y)
+same_as result t x y h k = subst (λ z. IfOk result (λ n. outcome (now_view n) t ≡ z)) k h
+
+-- a statement that ends behind a change of the world, and spends nothing
+pub stands_behind : (r s : Run) (w : World) → s ≡ in_world w r
+    → outcome (pending.Left Normal) s ≡ leads r (left (Gives Normal w))
+stands_behind r s w h = ap (outcome (pending.Left Normal)) h
+
+-- ---- statements without parts
+
+pub case_leaves : (v : ℕ) (r : Run) → outcome (pending.Left Normal) r ≡ executed (node.Case v) r
+unfolding executed
+case_leaves v r = refl
+
+pub default_leaves : (r : Run) → outcome (pending.Left Normal) r ≡ executed node.Default r
+unfolding executed
+default_leaves r = refl
+
+pub break_leaves : (r : Run) → outcome (pending.Left Broke) r ≡ executed node.Break r
+unfolding executed
+break_leaves r = refl
+
+pub continue_leaves : (r : Run) → outcome (pending.Left Continued) r ≡ executed node.Continue r
+unfolding executed
+continue_leaves r = refl
+
+pub return_leaves : (r : Run) → outcome (pending.Returned 0) r ≡ executed node.Return r
+unfolding executed
+return_leaves r = refl
+
+-- ---- values that are dropped or returned
+
+pub drops : (v : ℕ) (r : Run) → outcome (pending.Left Normal) r ≡ taken pending.Drop v r
+unfolding taken
+drops v r = refl
+
+pub returns : (v : ℕ) (r : Run) → outcome (pending.Returned v) r ≡ taken pending.Return v r
+unfolding taken
+returns v r = refl
+
+-- ---- loops
+
+-- a test that held: the body comes next
+pub held : (r : Run) (d : ℕ) (e : Expr) (step : Option Expr) (s : Stmt) (v : ℕ) → v ≢ 0
+    → leads r (after (here r) (pending.Turn d e step s) (left (exec (here r) s (world r))))
+    ≡ taken (pending.Test d e step s) v r
+unfolding taken
+held r d e step s zero h = absurd (h refl)
+held r d e step s (suc v) h = ap (leads r) (statement.test_holds (here r) d e step s v (world r))
+
+-- a loop that a break ends
+pub breaks : (r t : Run) (n : Now) (d : ℕ) (e : Expr) (step : Option Expr) (s : Stmt)
+    → outcome n t ≡ leads r (spent (here r) (world r).units (pending.Left Normal) (world r))
+    → outcome n t ≡ ended (pending.Turn d e step s) Broke r
+unfolding ended
+breaks r t n d e step s h =
+    ends_now r t n Normal h ∙ ap (leads r) (statement.loop_broken (here r) d e step s (world r))
+
+-- a loop whose body was left, and which has a step
+pub steps : (r : Run) (d : ℕ) (e step : Expr) (o : Option Expr) (s : Stmt) → o ≡ Some step
+    → leads r (after (here r) (pending.Step d e step s) (valued (eval (here r) step (world r))))
+    ≡ ended (pending.Turn d e o s) Normal r
+unfolding ended
+steps r d e step o s h =
+    ap (leads r) (statement.step_begins (here r) d e step s (world r))
+    ∙ ap (λ o. leads r (after (here r) (pending.Turn d e o s) (Gives (Left Normal) (world r)))) (sym h)
+
+pub steps_too : (r : Run) (d : ℕ) (e step : Expr) (o : Option Expr) (s : Stmt) → o ≡ Some step
+    → leads r (after (here r) (pending.Step d e step s) (valued (eval (here r) step (world r))))
+    ≡ ended (pending.Turn d e o s) Continued r
+unfolding ended
+steps_too r d e step o s h =
+    ap (leads r) (statement.step_begins_too (here r) d e step s (world r))
+    ∙ ap (λ o. leads r (after (here r) (pending.Turn d e o s) (Gives (Left Continued) (world r)))) (sym h)
+
+-- and one which has none
+pub turns_on : (r : Run) (d : ℕ) (e : Expr) (o : Option Expr) (s : Stmt) → o ≡ None
+    → leads r (left (then_do (spend Normal (world r)) (λ flow w. loop_of (here r) d e None s w)))
+    ≡ ended (pending.Turn d e o s) Normal r
+unfolding ended
+turns_on r d e o s h = ap (λ o. leads r (after (here r) (pending.Turn d e o s) (Gives (Left Normal) (world r)))) (sym h)
+
+pub turns_on_too : (r : Run) (d : ℕ) (e : Expr) (o : Option Expr) (s : Stmt) → o ≡ None
+    → leads r (left (then_do (spend Normal (world r)) (λ flow w. loop_of (here r) d e None s w)))
+    ≡ ended (pending.Turn d e o s) Continued r
+unfolding ended
+turns_on_too r d e o s h =
+    ap (λ o. leads r (after (here r) (pending.Turn d e o s) (Gives (Left Continued) (world r)))) (sym h)
+
+pub ruleset begins = (law.binds, ends_behind, ends_now)
+
+pub ruleset leaves = (
+  view.statements,
+  case_leaves,
+  default_leaves,
+  break_leaves,
+  continue_leaves,
+  return_leaves,
+  drops,
+  returns,
+)
+
+pub ruleset declares = (stands_behind)
+
+pub ruleset tests = (law.binds, held)
+
+pub ruleset turns = (law.binds, ends_now, breaks)

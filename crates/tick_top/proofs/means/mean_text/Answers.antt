@@ -1,0 +1,17 @@
+use Rattle.std.proofs.Common.{rules}
+use Rattle.tick_top.specs.Outside.{outside}
+use Rattle.tick_top.specs.Does.{Answered, MeansProgram}
+use Rattle.tick_top.proofs.Fronts.{if_ok}
+use Rattle.tick_top.proofs.Evaluations.{with_tree}
+use Rattle.tick_top.proofs.means.mean_text.Goals as goal
+
+pub returns-in-Ok-clause-means : goal.returns-in-Ok-clause-means
+returns-in-Ok-clause-means g c =
+    if_ok c.mean_program.result
+    (λ e means old new same. with_tree
+    (Answered (outside old (g.I.Source.left c.args.input.now) (g.O.Sink.taken c.args.out.now))
+    (outside new (g.I.Source.left c.mean_program.new.input) (g.O.Sink.taken c.mean_program.new.out)) e)
+    (MeansProgram c.args.units (outside old (g.I.Source.left c.args.input.now) (g.O.Sink.taken c.args.out.now))
+    (outside new (g.I.Source.left c.mean_program.new.input) (g.O.Sink.taken c.mean_program.new.out)) e)
+    c.args.text.now c.in-Ok.tree (search rules) (search rules) (λ program is. means program is old new))
+    c.mean_program.ensures.means
