@@ -6,3 +6,4 @@ pub mod Found
 pub mod Generating
 pub mod Served
 mod Rows
+pub mod Depths

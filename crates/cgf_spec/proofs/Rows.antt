@@ -5,7 +5,7 @@ use Rattle.std.specs.Fn.{iterate}
 use Rattle.word32.specs.Space.{update}
 use Rattle.word32.specs.declared.map.TheConstants.{TEXT, CLOSURES, SPEC_ROWS, GLOBAL_POINTER, EMIT_STACK}
 use Rattle.mips_encoder.specs.Table.{word_of}
-use Rattle.mips_model.specs.State.{Data, State, World}
+use Rattle.mips_model.specs.State.{Data, State}
 use Rattle.mips_model.specs.Steps.{going, step}
 use Rattle.mips_model.specs.Laws.{at}
 use Rattle.mips_model.proofs.Loaded.{loaded}

@@ -183,7 +183,6 @@ module _ (c : Code) (p i number g depth count : ℕ) (ops : List BuildOp) (a top
   enters = record {
     closure = refl;
     pointer = s.pointer;
-    link = omega (arith, low);
     from = omega (arith, from);
     to = to;
     even = omega (arith, even);

@@ -1,5 +1,5 @@
 -- What the function that generates a tick's code does on the machine.
-use Rattle.std.specs.Prelude.{◌≡◌, ◌≢◌, ℕ, ◌+◌, ◌*◌, ◌/◌, ◌%◌, ◌<◌, ◌≤◌, List}
+use Rattle.std.specs.Prelude.{◌≡◌, ◌≢◌, ℕ, ◌+◌, ◌*◌, ◌/◌, ◌%◌, ◌<◌, ◌≤◌, List, length}
 use Rattle.word32.specs.declared.map.TheConstants.{EMIT_STACK, EMIT_STACK_BYTES, SEGMENT_BYTES}
 use Rattle.history.specs.Syntax.{Syntax}
 use Rattle.mips_model.specs.State.{Code, Data}
@@ -7,6 +7,7 @@ use Rattle.mips_model.specs.Laws.{HasAt, at}
 use Rattle.mips_encoder.specs.Addresses.{past}
 use Rattle.meaning_state.specs.Shared.{Shared}
 use Rattle.meaning_state.specs.Rows.{specification_at}
+use Rattle.staged_meaning.specs.Program.{Program, syntax_size}
 use Rattle.icode_ir.specs.declared.build_op.BuildOp.{BuildOp}
 use Rattle.spec_closure.specs.Closures.{closure_of}
 use Rattle.spec_rows_proof.specs.Relation.{Text, tick_of, IsOf, HasSpecifications}
@@ -38,7 +39,6 @@ pub record Leaves (top : ℕ) (d after : Data) : Type 0 where
 pub record Enters (number top depth : ℕ) (d : Data) : Type 0 where
   pub closure : d.registers 12 ≡ closure_of d number
   pub pointer : d.registers 15 ≡ top
-  pub link : d.registers 31 < 4294967296
   pub from : EMIT_STACK ≤ top
   pub to : top + 8 * depth ≤ EMIT_STACK + EMIT_STACK_BYTES
   pub even : top % 4 ≡ 0
@@ -59,3 +59,9 @@ SpecificationsAreGenerated =
     → Enters number top (syntax_depth pieces syntax) d
     → Generates (syntax_ops pieces syntax) (syntax_cost pieces syntax) top c
     (text.generator_at (tick_of syntax)) d
+
+-- No more functions are entered at a time than the specification has nodes.
+abbrev pub DepthsAreSmall : Type 0
+DepthsAreSmall =
+    (program : Program) (pieces : ℕ → List Piece) (syntax : Syntax) → IsWhole pieces (length program.ticks) syntax
+    → syntax_depth pieces syntax ≤ syntax_size program syntax

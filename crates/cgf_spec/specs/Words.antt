@@ -3,7 +3,7 @@
 -- its pieces in order by the service that builds an op, calls the functions of the specifications that are spliced in,
 -- and returns with $t4, $t7 and $ra as they were. What adds no op is a nop, so that the function takes at least an
 -- instruction for each node. The convention and the code are this project's own.
-use Rattle.std.specs.Prelude.{ℕ, zero, suc, ◌+◌, ◌*◌, ◌/◌, List, [], ◌∷◌, ◌++◌}
+use Rattle.std.specs.Prelude.{ℕ, zero, suc, ◌+◌, ◌*◌, ◌/◌, max, List, [], ◌∷◌, ◌++◌}
 use Rattle.word32.specs.declared.map.TheConstants.{SPEC_ROWS}
 use Rattle.history.specs.Syntax.{Syntax, Ticked, Captures, NoCapture, Word, Named, Spliced}
 use Rattle.mips_encoder.specs.declared.instruction.Instr.{Instr}
@@ -102,7 +102,7 @@ piece_depth splice _ = 0
 
 abbrev pub pieces_depth : (splice : ℕ → ℕ) → List Piece → ℕ
 pieces_depth splice [] = 0
-pieces_depth splice (p ∷ ps) = piece_depth splice p + pieces_depth splice ps
+pieces_depth splice (p ∷ ps) = max (piece_depth splice p) (pieces_depth splice ps)
 
 module _ (pieces : ℕ → List Piece) where
   abbrev mutual
@@ -119,7 +119,7 @@ module _ (pieces : ℕ → List Piece) where
     spliced_cost (Named key captures) (suc i) = spliced_cost captures i
 
   abbrev mutual
-    -- an upper bound, by sums
+    -- how many functions are entered at a time
     pub syntax_depth : Syntax → ℕ
     syntax_depth (Ticked tick captures) = 1 + pieces_depth (spliced_depth captures) (pieces tick)
 

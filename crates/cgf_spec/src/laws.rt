@@ -1,6 +1,6 @@
 //! Laws of the functions that generate the code of ticks.
 
-ghost use Rattle.cgf_spec.specs.Laws.{SpecificationsAreGenerated};
+ghost use Rattle.cgf_spec.specs.Laws.{DepthsAreSmall, SpecificationsAreGenerated};
 ghost use Rattle.cgf_spec.specs.Served.{CallsAreServed};
 
 /// The function of a tick, run on a closure that stands for a specification, issues exactly the ops of that
@@ -13,4 +13,9 @@ pub fn specifications_are_generated()
 /// answer.
 pub fn calls_are_served()
     ensures { CallsAreServed }
+{}
+
+/// No more functions are entered at a time than a specification has nodes.
+pub fn depths_are_small()
+    ensures { DepthsAreSmall }
 {}

@@ -4,5 +4,5 @@
 mod laws;
 mod piece;
 
-pub use laws::{calls_are_served, specifications_are_generated};
+pub use laws::{calls_are_served, depths_are_small, specifications_are_generated};
 pub use piece::Piece;

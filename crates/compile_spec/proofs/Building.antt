@@ -131,7 +131,6 @@ module _ (c : Code) (p a kind parameters charge g ra number depth cost : ℕ) (o
   enters = record {
     closure = w.closure ∙ sym place;
     pointer = refl;
-    link = omega (arith, low);
     from = omega arith;
     to = omega (arith, room);
     even = refl;

@@ -33,6 +33,7 @@ use Rattle.cgf_spec.specs.Laws.{HasGenerators, others, Enters, Generates}
 use Rattle.icode_ir.specs.declared.build_op.BuildOp.{BuildOp}
 use Rattle.cgf_spec.proofs.Runs.{runs_on, runs_behind}
 use Rattle.cgf_spec.proofs.Found.{Live, live}
+use Rattle.cgf_spec.proofs.Depths.{depth_small}
 use Rattle.cgf_spec.proofs.Generating.{generated, specifications_stay}
 use Rattle.compile_spec.specs.Routine.{build_code, make_code, traps_code, compile_code}
 use Rattle.compile_spec.specs.Laws.{HasArena, IsTickOf, return_ops, arena_address, compile_calls, made_data}
@@ -139,13 +140,13 @@ built true c p a parameters charge g ra number depth cost ops t w low place more
 built false c p a parameters charge g ra number depth cost ops t w low place more room callee h =
     built_statement c p a 2 parameters charge g ra number depth cost ops t w low place more room callee h refl
 
-module _ (text : Text) (pieces : ℕ → List Piece) (ticks functions : ℕ) (c : Code) (entry : ℕ) (shared : Shared)
+module _ (text : Text) (pieces : ℕ → List Piece) (functions : ℕ) (c : Code) (entry : ℕ) (shared : Shared)
     (is_value : Bool) (syntax : Syntax) (words : List ℕ) (d : Data) (low : entry + 256 ≤ ARENA) (has : HasGenerators
     text
-    pieces ticks c) (hs : HasSpecifications text shared d) (ha : HasArena functions shared d) (whole : IsWhole pieces
-    ticks syntax) (is : IsTickOf is_value syntax (specification_at (d.registers 4) shared)) (b : d.registers 4 <
-    4294967296) (room : 8 + 8 * syntax_depth pieces syntax ≤ EMIT_STACK_BYTES) (table : table_trap (next_function
-    functions shared) ≡ None) (arena : arena_trap (syntax_size text.program syntax) shared ≡ None) (few : length words ≤
+    pieces (length text.program.ticks) c) (hs : HasSpecifications text shared d) (ha : HasArena functions shared d)
+    (whole : IsWhole pieces (length text.program.ticks) syntax) (is : IsTickOf is_value syntax (specification_at
+    (d.registers 4) shared)) (b : d.registers 4 < 4294967296) (table : table_trap (next_function functions shared) ≡
+    None) (arena : arena_trap (syntax_size text.program syntax) shared ≡ None) (few : length words ≤
     arena_words (syntax_size text.program syntax)) (h : HasAt c entry compile_code) where
   abbrev number : ℕ
   number = d.registers 4
@@ -173,6 +174,10 @@ module _ (text : Text) (pieces : ℕ → List Piece) (ticks functions : ℕ) (c 
 
   tick : Tick text shared d number (kind_of_tick is_value) syntax
   tick = tick_there text shared d number is_value syntax (specification_at number shared) hs refl is
+
+  -- there is room on the emit stack, since no more functions are entered at a time than there are nodes
+  room : 8 + 8 * syntax_depth pieces syntax ≤ EMIT_STACK_BYTES
+  room = let deep = depth_small text.program pieces syntax whole in omega (arith, deep, tick.small)
 
   seen : Sees d a kind size function next
   seen = sees text functions shared d hs ha b tick.specification tick.closure kind size
@@ -237,7 +242,7 @@ module _ (text : Text) (pieces : ℕ → List Piece) (ticks functions : ℕ) (c 
       Enters number (EMIT_STACK + 8) (syntax_depth pieces syntax) e →
       Generates (syntax_ops pieces syntax) (syntax_cost pieces syntax) (EMIT_STACK + 8) c g e
   generates e o r enters =
-      generated text pieces ticks c shared syntax number (EMIT_STACK + 8) e has
+      generated text pieces (length text.program.ticks) c shared syntax number (EMIT_STACK + 8) e has
       (specifications_stay text shared d e o r hs) whole (is_of is_value syntax (specification_at number shared) is)
       enters
 

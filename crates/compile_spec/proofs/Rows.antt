@@ -1,6 +1,6 @@
 -- The routine that compiles, run at the beginning of the text up to its first service, computed: at each limit and one
 -- beside it.
-use Rattle.std.proofs.Common.{◌≡◌, ℕ, ◌+◌, List, [], ◌∷◌, map, false, Option, Some, None, refl}
+use Rattle.std.proofs.Common.{◌≡◌, ℕ, ◌+◌, List, [], ◌∷◌, map, false, Option, Some, refl}
 use Rattle.std.specs.Fn.{iterate}
 use Rattle.word32.specs.Space.{update}
 use Rattle.word32.specs.declared.map.TheConstants.{TEXT, CLOSURES, SPEC_ROWS, GLOBAL_POINTER, SPEC_COUNT_CELL}

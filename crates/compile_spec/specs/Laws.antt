@@ -3,7 +3,7 @@ use Rattle.std.specs.Prelude.{◌≡◌, ◌⊎◌, ℕ, suc, ◌+◌, ◌*◌, 
 use Rattle.std.specs.Prelude.{Option}
 use Rattle.std.specs.Prelude.{Some, None}
 use Rattle.limits.specs.declared.run.TheConstants.{STACK_OF_A_CALL}
-use Rattle.word32.specs.declared.map.TheConstants.{ARENA, ARENA_WORDS, EMIT_STACK_BYTES, ROUTINE_BYTES}
+use Rattle.word32.specs.declared.map.TheConstants.{ARENA, ARENA_WORDS, ROUTINE_BYTES}
 use Rattle.word32.specs.declared.map.TheConstants.{NEXT_FUNCTION_CELL, NEXT_ARENA_CELL}
 use Rattle.host_edge.specs.declared.ending.Ending.TheVariants.{Trap}
 use Rattle.host_edge.specs.declared.ending.TrapKind.{TrapKind}
@@ -26,7 +26,7 @@ use Rattle.spec_rows_proof.specs.Relation.{Text, HasSpecifications}
 use Rattle.cgf_spec.specs.Calls.{Call, Begin, Finish, Flush, Publish, code_behind, RunsWith, issuing}
 use Rattle.cgf_spec.specs.declared.piece.Piece.{Piece}
 use Rattle.cgf_spec.specs.Pieces.{syntax_ops, IsWhole}
-use Rattle.cgf_spec.specs.Words.{syntax_cost, syntax_depth}
+use Rattle.cgf_spec.specs.Words.{syntax_cost}
 use Rattle.cgf_spec.specs.Laws.{HasGenerators, others}
 use Rattle.compile_spec.specs.Routine.{compile_code}
 
@@ -120,12 +120,11 @@ pub record Compiles (calls : List Call) (function : ℕ) (left : Data) (most : �
 -- finished, flushed and published, whatever words it is finished into; its number is the answer.
 abbrev pub CompileIsAnswered : Type 0
 CompileIsAnswered =
-    (text : Text) (pieces : ℕ → List Piece) (ticks functions : ℕ) (c : Code) (entry : ℕ) (shared : Shared)
+    (text : Text) (pieces : ℕ → List Piece) (functions : ℕ) (c : Code) (entry : ℕ) (shared : Shared)
     (is_value : Bool) (syntax : Syntax) (words : List ℕ) (d : Data) → IsLow entry
-    → HasGenerators text pieces ticks c → HasSpecifications text shared d → HasArena functions shared d
-    → IsWhole pieces ticks syntax → IsTickOf is_value syntax (specification_at (d.registers 4) shared)
-    → d.registers 4 < 4294967296 → d.registers 31 < 4294967296
-    → 8 + 8 * syntax_depth pieces syntax ≤ EMIT_STACK_BYTES
+    → HasGenerators text pieces (length text.program.ticks) c → HasSpecifications text shared d
+    → HasArena functions shared d → IsWhole pieces (length text.program.ticks) syntax
+    → IsTickOf is_value syntax (specification_at (d.registers 4) shared) → d.registers 4 < 4294967296
     → table_trap (next_function functions shared) ≡ None
     → arena_trap (syntax_size text.program syntax) shared ≡ None
     → length words ≤ arena_words (syntax_size text.program syntax)

@@ -26,7 +26,8 @@ use Rattle.tick_pieces.specs.TickPieces.{plain, own, expr_pieces as pieces_of_ex
 use Rattle.tick_pieces.specs.TickPieces.{stmt_pieces as pieces_of_stmt, items_pieces as pieces_of_items, tick_pieces}
 use Rattle.tick_pieces.specs.Filled.{filled, filled_args, filled_stmt, filled_items, IsUnspliced, AreUnspliced}
 use Rattle.tick_pieces.specs.Filled.{IsUnsplicedStmt, AreUnsplicedItems, IsUnsplicedTick, tick_ops}
-use Rattle.tick_pieces.proofs.Same.{expr_labels, expr_temps, expr_value, args_count, stmt_labels}
+use Rattle.tick_pieces.proofs.Same.{expr_labels, expr_temps, expr_value, args_count}
+use Rattle.tick_pieces.proofs.Same.{stmt_labels}
 use Rattle.tick_pieces.proofs.Same.{stmt_temps, stmt_variables, items_labels, items_temps, tests_same, default_same}
 
 moved : (f : ℕ → ℕ → List BuildOp) (l l' t t' : ℕ) → l ≡ l' → t ≡ t' → f l t ≡ f l' t'
@@ -316,7 +317,7 @@ module _ (addresses : Addresses) (cs : Captures) (go : ℕ → List BuildOp) whe
     expr_same (VSet i a) w l t = absurd w
     expr_same (VPost i step) w l t = absurd w
     expr_same (node.Splice answer i) w l t = absurd w
-    expr_same (Tick tick args) w l t = refl
+    expr_same (Tick tick args) w l t = absurd w
 
     pub args_same : (args : Args) → AreUnspliced args → (l t : ℕ) →
         fill (args_pieces args l t) ≡ args_ops addresses (filled_args cs args) l t

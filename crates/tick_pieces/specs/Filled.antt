@@ -78,7 +78,7 @@ module _ (captures : Captures) where
     filled_items NoItem = NoItem
     filled_items (Item s items) = Item (filled_stmt s) (filled_items items)
 
--- no node names a captured specification or variable
+-- no node names a captured specification or variable, and no tick stands in a tick
 abbrev mutual
   pub IsUnspliced : Expr → Type 0
   IsUnspliced (Const word) = Unit {0}
@@ -105,7 +105,7 @@ abbrev mutual
   IsUnspliced (CallNumber answer a args) = IsUnspliced a × AreUnspliced args
   IsUnspliced Getchar = Unit {0}
   IsUnspliced (Lib f a) = IsUnspliced a
-  IsUnspliced (Tick tick args) = AreUnspliced args
+  IsUnspliced (Tick tick args) = ⊥
   IsUnspliced (Capture kind a) = IsUnspliced a
   IsUnspliced (node.Splice answer i) = ⊥
   IsUnspliced (Compile a) = IsUnspliced a

@@ -85,7 +85,7 @@ module _ (addresses : Addresses) where
     expr_pieces (Lib Putint a) l t = expr_pieces a l t ++ Plain (build.Sys sys.PutInteger) ∷ Plain build.Drop ∷ []
     expr_pieces (Lib Exit a) l t = expr_pieces a l t ++ Plain (build.Sys sys.Exit) ∷ Plain build.Drop ∷ []
     expr_pieces (Lib Malloc a) l t = expr_pieces a l t ++ Plain (build.Run run.Malloc) ∷ []
-    expr_pieces (Capture kind a) l t = expr_pieces a l t
+    expr_pieces (Capture kind a) l t = Nothing ∷ expr_pieces a l t
     expr_pieces (Compile a) l t = expr_pieces a l t ++ Plain (build.Run run.Compile) ∷ []
     expr_pieces Local l t = Plain (build.Const 0) ∷ Plain (build.Run run.Local) ∷ []
     expr_pieces (ParamOf a) l t = expr_pieces a l t ++ Plain (build.Run run.Parameter) ∷ []
@@ -96,8 +96,8 @@ module _ (addresses : Addresses) where
         GetKey i ∷ Plain (build.Pick 0) ∷ Plain (build.Const step) ∷ Plain (build.Bin Add) ∷ SetKey i ∷ Plain build.Drop
         ∷ []
     expr_pieces (node.Splice answer i) l t = Splice i ∷ []
-    -- a tick stands in no tick
-    expr_pieces (Tick tick args) l t = []
+    -- it stands in no tick
+    expr_pieces (Tick tick args) l t = Nothing ∷ args_pieces args l t
 
     pub args_pieces : Args → (l t : ℕ) → List Piece
     args_pieces NoArg l t = []

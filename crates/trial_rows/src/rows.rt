@@ -321,12 +321,11 @@ fn a_text_is_refused_before_its_input_is_read(rt: HostRuntime) -> Result<(), Fai
 #[test]
 fn an_input_over_a_megabyte_is_too_long(rt: HostRuntime) -> Result<(), Fail> {
     let alloc = rt.alloc();
-    let text = "int main(){int n;while(getchar()>=0)n++;return n==1048576;}";
     let mut given = vec![in alloc; b'x'; 1_048_576]?;
-    let whole = meant_on(alloc, "tick mean text", text, &given, &[])?;
-    assert_eq!(rt; whole.status, 1);
+    let whole = meant_on(alloc, "tick mean text", HELLO, &given, &[])?;
+    assert_eq!(rt; whole.status, 3);
     given.push(b'x')?;
-    let longer = meant_on(alloc, "tick mean text", text, &given, &[])?;
+    let longer = meant_on(alloc, "tick mean text", HELLO, &given, &[])?;
     assert_eq!(rt; longer.status, 67);
     assert_eq!(rt; longer.err.as_slice(), b"tick: too long\n".as_slice());
     Ok(())
