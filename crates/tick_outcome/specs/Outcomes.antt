@@ -43,7 +43,7 @@ line_of (Done s) = []
 line_of (BadWords place) = codes "tick: bad words at " ++ decimal place ++ codes "\n"
 line_of (Refused fault) =
     codes "tick: line " ++ decimal fault.line ++ codes ": " ++ decimal (number fault.kind) ++ codes " " ++ name
-      fault.kind
+    fault.kind
     ++ codes "\n"
 line_of (AsmRefused fault) =
     codes "tick: line " ++ decimal fault.line ++ codes ": asm " ++ decimal (asm.number fault.kind) ++ codes " " ++
