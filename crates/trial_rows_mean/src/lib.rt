@@ -1,0 +1,5 @@
+//! Tests of the top call's evaluations, generated sources and counts, over the forms in memory of the outside.
+#![tactic(auto)]
+
+#[cfg(test)]
+mod rows;
