@@ -8,7 +8,7 @@ use Rattle.typed_tree.specs.declared.expression.Answer.{Answer}
 use Rattle.typed_tree.specs.declared.expression.Expr.{Expr}
 use Rattle.typed_tree.specs.Nodes as node
 use Rattle.typed_tree.specs.View.{expr_view, args_of}
-use Rattle.tick_lower_proof.specs.Lower.{listed, dropping_call}
+use Rattle.tick_lower_spec.specs.Lower.{listed, dropping_call}
 use Rattle.tick_lower.specs.declared.ops.Ops.{Ops}
 use Rattle.tick_lower.specs.Steps.{Fits, FitArgs, add, add_expr, add_args}
 use Rattle.tick_lower.proofs.Exprs.{same_ops, label_behind, variable_behind, call_step, call_number_step}

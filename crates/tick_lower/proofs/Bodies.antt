@@ -4,7 +4,7 @@ use Rattle.icode_ir.specs.declared.build_op.BuildOp.{BuildOp}
 use Rattle.icode_ir.specs.declared.build_op.BuildOp.TheVariants as build
 use Rattle.typed_tree.specs.Nodes as node
 use Rattle.staged_meaning.specs.Size.{labels, temps, variables_in}
-use Rattle.tick_lower_proof.specs.Lower.{listed, nowhere, stmt_ops}
+use Rattle.tick_lower_spec.specs.Lower.{listed, nowhere, stmt_ops}
 use Rattle.tick_lower.specs.declared.ops.Ops.{Ops}
 use Rattle.tick_lower.specs.Steps.{add, add_stmt}
 

@@ -3,7 +3,7 @@ use Rattle.std.proofs.Common.{◌≡◌, ℕ, Option, Some, None, refl}
 use Rattle.std.specs.Prelude.{unwrap_or}
 use Rattle.std.specs.Option.{option_or}
 use Rattle.typed_tree.specs.Nodes as node
-use Rattle.tick_lower_proof.specs.Lower.{default_or}
+use Rattle.tick_lower_spec.specs.Lower.{default_or}
 use Rattle.tick_lower.specs.Steps.{default_of}
 
 first : (s : node.Stmt) (l n : ℕ) → unwrap_or (default_of s l) n ≡ default_or s l n

@@ -13,7 +13,7 @@ use Rattle.typed_tree.specs.declared.expression.Library.TheVariants as library
 use Rattle.typed_tree.specs.Nodes as node
 use Rattle.typed_tree.specs.Nodes.{has_value}
 use Rattle.staged_meaning.specs.Size.{labels_in, temps_in}
-use Rattle.tick_lower_proof.specs.Lower.{listed, narrowing, dropping, dropping_call, keeping, kept, step_ops, joins}
+use Rattle.tick_lower_spec.specs.Lower.{listed, narrowing, dropping, dropping_call, keeping, kept, step_ops, joins}
 use Rattle.tick_lower.specs.declared.ops.Ops.{Ops}
 use Rattle.tick_lower.specs.Steps.{add, add_expr, add_args, library_ops}
 

@@ -8,7 +8,7 @@ use Rattle.typed_tree.specs.declared.expression.Stmt.{Stmt}
 use Rattle.typed_tree.specs.Nodes as node
 use Rattle.typed_tree.specs.View.{stmt_view}
 use Rattle.staged_meaning.specs.Size.{labels}
-use Rattle.tick_lower_proof.specs.Lower.{Targets, case_ops, test_ops, default_label}
+use Rattle.tick_lower_spec.specs.Lower.{Targets, case_ops, test_ops, default_label}
 use Rattle.tick_lower.specs.declared.ops.Ops.{Ops}
 use Rattle.tick_lower.specs.Steps.{FitsStmt, FitItems, add, add_stmt, add_items, default_of}
 use Rattle.tick_lower.proofs.Exprs.{same_ops}

@@ -3,7 +3,7 @@ use Rattle.std.proofs.Common.{◌≡◌, ℕ, ◌+◌, [], ◌∷◌, ◌++◌, 
 use Rattle.icode_ir.specs.declared.build_op.BuildOp.TheVariants as build
 use Rattle.typed_tree.specs.Nodes as node
 use Rattle.typed_tree.specs.Nodes.{has_value}
-use Rattle.tick_lower_proof.specs.Lower.{Targets, dropping, test_ops, default_label}
+use Rattle.tick_lower_spec.specs.Lower.{Targets, dropping, test_ops, default_label}
 use Rattle.tick_lower.specs.declared.ops.Exits.{Exits}
 use Rattle.tick_lower.specs.declared.ops.Ops.{Ops}
 use Rattle.tick_lower.specs.declared.ops.Turn.{Turn}

@@ -15,7 +15,7 @@ use Rattle.typed_tree.specs.View.{expr_view, args_of}
 use Rattle.typed_tree.proofs.Views.{view_const, view_var, view_setvar, view_postvar, view_un, view_bin}
 use Rattle.typed_tree.proofs.Views.{view_comma, view_void, view_getchar, view_lib, view_frame, view_load, view_store}
 use Rattle.typed_tree.proofs.Views.{view_modify, view_post, view_call, view_callnumber}
-use Rattle.tick_lower_proof.specs.Lower.{narrowing, dropping, keeping, kept, joins, step_ops}
+use Rattle.tick_lower_spec.specs.Lower.{narrowing, dropping, keeping, kept, joins, step_ops}
 use Rattle.tick_lower.specs.declared.ops.Join.{Join}
 use Rattle.tick_lower.specs.declared.ops.Ops.{Ops}
 use Rattle.tick_lower.specs.Steps.{add, add_expr, library_ops}

@@ -11,7 +11,7 @@ use Rattle.typed_tree.proofs.Views.{stmt_view_eval, stmt_view_block, stmt_view_i
 use Rattle.typed_tree.proofs.Views.{stmt_view_do, stmt_view_for, stmt_view_forstep, stmt_view_switch}
 use Rattle.typed_tree.proofs.Views.{stmt_view_returnvalue, stmt_view_parameter, stmt_view_parameterobject}
 use Rattle.staged_meaning.specs.Size.{labels_in, temps_in, labels, temps, labels_of, temps_of}
-use Rattle.tick_lower_proof.specs.Lower.{Targets}
+use Rattle.tick_lower_spec.specs.Lower.{Targets}
 use Rattle.tick_lower.specs.declared.ops.Ops.{Ops}
 use Rattle.tick_lower.specs.Steps.{Fits, FitsStmt, FitItems, add_stmt, add_items, add_selector}
 use Rattle.tick_lower.proofs.StmtSeen.{view_of}

@@ -13,7 +13,7 @@ use Rattle.typed_tree.proofs.Views.{stmt_view_ifelse, stmt_view_while, stmt_view
 use Rattle.typed_tree.proofs.Views.{stmt_view_switch, stmt_view_case, stmt_view_default, stmt_view_break}
 use Rattle.typed_tree.proofs.Views.{stmt_view_continue, stmt_view_return, stmt_view_returnvalue, stmt_view_object}
 use Rattle.typed_tree.proofs.Views.{stmt_view_parameter, stmt_view_parameterobject}
-use Rattle.tick_lower_proof.specs.Lower.{Targets, narrowing, dropping}
+use Rattle.tick_lower_spec.specs.Lower.{Targets, narrowing, dropping}
 use Rattle.tick_lower.specs.declared.ops.Ops.{Ops}
 use Rattle.tick_lower.specs.Steps.{add, add_expr, add_stmt, add_items, add_selector, add_switch}
 use Rattle.tick_lower.proofs.Stmts.{eval_step, block_step, variable_step, break_step, continue_step, return_step}

@@ -5,7 +5,7 @@ use Rattle.icode_ir.specs.declared.build_op.BuildOp.TheVariants as build
 use Rattle.word32.specs.declared.width.Width.{Width}
 use Rattle.typed_tree.specs.Nodes as node
 use Rattle.typed_tree.specs.Nodes.{has_value}
-use Rattle.tick_lower_proof.specs.Lower.{Targets, narrowing, dropping, test_ops, default_label}
+use Rattle.tick_lower_spec.specs.Lower.{Targets, narrowing, dropping, test_ops, default_label}
 use Rattle.tick_lower.specs.declared.ops.Ops.{Ops}
 use Rattle.tick_lower.specs.Steps.{add, add_expr, add_stmt, add_items, add_selector, add_switch}
 use Rattle.tick_lower.proofs.Exprs.{same_ops}

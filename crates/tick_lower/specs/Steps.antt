@@ -10,8 +10,8 @@ use Rattle.typed_tree.specs.Nodes.{Expr, Args, Stmt, Items, Default}
 use Rattle.staged_meaning.specs.Size.{labels_in, labels_in_args, labels, labels_of, temps_in, temps_in_args}
 use Rattle.staged_meaning.specs.Size.{temps, temps_of}
 use Rattle.staged_meaning.specs.Scope.{IsBuilt, AreBuilt, IsBuiltStmt, AreBuiltItems}
-use Rattle.tick_lower_proof.specs.Lower.{listed, Targets, expr_ops, args_ops, stmt_ops, items_ops, test_ops}
-use Rattle.tick_lower_proof.specs.Lower.{default_label}
+use Rattle.tick_lower_spec.specs.Lower.{listed, Targets, expr_ops, args_ops, stmt_ops, items_ops, test_ops}
+use Rattle.tick_lower_spec.specs.Lower.{default_label}
 use Rattle.tick_lower.specs.Few.{PassesFew, PassFew, PassesFewStmt, PassFewItems}
 use Rattle.tick_lower.specs.declared.ops.Ops.{Ops}
 use Rattle.tick_lower.specs.declared.ops.Exits.{Exits}

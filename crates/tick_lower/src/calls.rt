@@ -2,7 +2,7 @@
 
 ghost use Rattle.std.specs.Prelude.{◌≡◌, ◌<◌, ◌≤◌, map};
 ghost use Rattle.limits.specs.declared.program.TheConstants.{MOST_ARGUMENTS};
-ghost use Rattle.tick_lower_proof.specs.Lower.{listed};
+ghost use Rattle.tick_lower_spec.specs.Lower.{listed};
 ghost use Rattle.typed_tree.specs.Nodes as node;
 ghost use Rattle.typed_tree.specs.View.{expr_view, args_of};
 

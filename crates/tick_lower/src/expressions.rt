@@ -2,7 +2,7 @@
 
 ghost use Rattle.std.specs.Prelude.{◌≡◌, ◌∷◌, [], map, OnOk};
 ghost use Rattle.tick_lower.specs.Steps.{Fits, FitArgs, add, add_expr, add_args, library_ops};
-ghost use Rattle.tick_lower_proof.specs.Lower.{dropping};
+ghost use Rattle.tick_lower_spec.specs.Lower.{dropping};
 ghost use Rattle.typed_tree.specs.Nodes as node;
 ghost use Rattle.typed_tree.specs.View.{expr_view, args_of};
 

@@ -10,5 +10,7 @@ mod sizes;
 mod statements;
 mod variables;
 
+pub use calls::address_of;
 pub use function::lower;
 pub use sizes::size;
+pub use variables::variables as variable_count;

@@ -3,7 +3,7 @@
 ghost use Rattle.std.specs.Prelude.{◌≡◌, ◌+◌, ◌<◌, ◌^◌, ◌++◌, ◌∷◌, [], OnOk};
 ghost use Rattle.icode_ops.specs.declared.kind.BinKind.TheVariants.{Add};
 ghost use Rattle.tick_lower.specs.Steps.{add};
-ghost use Rattle.tick_lower_proof.specs.Lower.{narrowing, dropping, dropping_call, keeping, kept, step_ops, joins};
+ghost use Rattle.tick_lower_spec.specs.Lower.{narrowing, dropping, dropping_call, keeping, kept, step_ops, joins};
 
 use icode_ir::BuildOp;
 use icode_ops::{BinKind, CallAddress, UnKind};

@@ -4,7 +4,7 @@ ghost use Rattle.std.specs.Prelude.{◌≡◌, ◌<◌, ◌∷◌, [], ◌++◌,
 ghost use Rattle.icode_ops.specs.declared.kind.BinKind.TheVariants.{Add};
 ghost use Rattle.limits.specs.declared.program.TheConstants.{MOST_ARGUMENTS};
 ghost use Rattle.tick_lower.specs.Steps.{add};
-ghost use Rattle.tick_lower_proof.specs.Lower.{narrowing, step_ops};
+ghost use Rattle.tick_lower_spec.specs.Lower.{narrowing, step_ops};
 
 use crate::calls::index_of;
 use crate::ops::Ops;

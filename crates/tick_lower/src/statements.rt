@@ -7,7 +7,7 @@ ghost use Rattle.staged_meaning.specs.Statements.{case_of};
 ghost use Rattle.tick_lower.specs.Few.{PassesFew};
 ghost use Rattle.tick_lower.specs.Steps.{FitsStmt, FitItems, add, add_stmt, add_items, add_selector, add_switch};
 ghost use Rattle.tick_lower.specs.Steps.{targets_of, default_of};
-ghost use Rattle.tick_lower_proof.specs.Lower.{Targets, case_ops, test_ops, default_label};
+ghost use Rattle.tick_lower_spec.specs.Lower.{Targets, case_ops, test_ops, default_label};
 ghost use Rattle.typed_tree.specs.Nodes as node;
 ghost use Rattle.typed_tree.specs.View.{expr_view, stmt_view, items_of};
 

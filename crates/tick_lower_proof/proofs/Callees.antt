@@ -20,7 +20,7 @@ use Rattle.icode_meaning.specs.Costs.{least_of, most_of}
 use Rattle.icode_meaning.specs.State.{Function, Program, Frame, Log}
 use Rattle.icode_meaning.specs.Steps.{paid, moved_on, goes_on, begun, call_at, left}
 use Rattle.icode_meaning.specs.Steps as machine
-use Rattle.tick_lower_proof.specs.Lower.{Addresses}
+use Rattle.tick_lower_spec.specs.Lower.{Addresses}
 use Rattle.tick_lower_proof.proofs.Machine.{Goes, Here}
 use Rattle.tick_lower_proof.proofs.Stacks.{IsWhole, IsSound}
 use Rattle.tick_lower_proof.proofs.Follow.{From, Follows, follows_then}

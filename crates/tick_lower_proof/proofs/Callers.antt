@@ -22,7 +22,7 @@ use Rattle.icode_meaning.specs.Costs.{least_of, most_of}
 use Rattle.icode_meaning.specs.State.{Program, Frame, State, Running, Stuck, Log, nothing, argued}
 use Rattle.icode_meaning.specs.Steps.{paid, moved_on, uses_on, act, checked, call_at, back}
 use Rattle.tick_lower_proof.specs.Laws.{row_for}
-use Rattle.tick_lower_proof.specs.Lower.{Addresses, expr_ops, args_ops, dropping_call}
+use Rattle.tick_lower_spec.specs.Lower.{Addresses, expr_ops, args_ops, dropping_call}
 use Rattle.tick_lower_proof.proofs.Machine.{Goes, goes_more, Here, Regs, frame_at, at_op, put, put_same, IsSet}
 use Rattle.tick_lower_proof.proofs.Stacks.{IsSound}
 use Rattle.tick_lower_proof.proofs.Builder.{View, top, taken, dropped, passed_ops, after_op, after_ops, after_append}

@@ -22,7 +22,7 @@ use Rattle.icode_meaning.specs.Costs.{least_of, most_of}
 use Rattle.icode_meaning.specs.State.{Function, Program, Frame, Log, nothing, argued}
 use Rattle.icode_meaning.specs.Steps.{paid, moved_on, goes_on, begun, entered, unless, call_at}
 use Rattle.tick_lower_proof.specs.Laws.{row_for}
-use Rattle.tick_lower_proof.specs.Lower.{Addresses}
+use Rattle.tick_lower_spec.specs.Lower.{Addresses}
 use Rattle.tick_lower_proof.proofs.Machine.{Goes}
 use Rattle.tick_lower_proof.proofs.Plain.{IsPlainAt, goes_plain}
 use Rattle.tick_lower_proof.proofs.Stacks.{IsWhole, IsSound}

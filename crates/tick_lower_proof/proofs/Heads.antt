@@ -25,7 +25,7 @@ use Rattle.staged_meaning.specs.Meaning.{exec}
 use Rattle.icode_meaning.specs.State.{State}
 use Rattle.icode_meaning.specs.Steps.{paid, sharing, goes_on, moved_on, set_from, address_of}
 use Rattle.icode_meaning.specs.Steps as machine
-use Rattle.tick_lower_proof.specs.Lower.{narrowing}
+use Rattle.tick_lower_spec.specs.Lower.{narrowing}
 use Rattle.tick_lower_proof.proofs.Machine.{Goes, then_op, frame_at}
 use Rattle.tick_lower_proof.proofs.Builder.{View, top, below, after_op, after_ops, after_append, Stands, stands_front}
 use Rattle.tick_lower_proof.proofs.Builder.{stands_back}

@@ -24,7 +24,7 @@ use Rattle.icode_meaning.specs.State.{Frame, State, Log, nothing}
 use Rattle.icode_meaning.specs.Steps.{paid, moved_on, call_at, call_row}
 use Rattle.icode_meaning.specs.Steps as machine
 use Rattle.tick_lower_proof.specs.Laws.{row_for}
-use Rattle.tick_lower_proof.specs.Lower.{expr_ops, args_ops, dropping_call}
+use Rattle.tick_lower_spec.specs.Lower.{expr_ops, args_ops, dropping_call}
 use Rattle.tick_lower_proof.proofs.Machine.{Goes, Regs, frame_at, at_op}
 use Rattle.tick_lower_proof.proofs.Plain.{goes_plain}
 use Rattle.tick_lower_proof.proofs.Builder.{View, top, taken, picked, passed_ops, after_op, after_ops, after_append}

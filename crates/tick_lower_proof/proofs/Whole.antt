@@ -14,7 +14,7 @@ use Rattle.staged_meaning.specs.Meaning.{run_program, seen, meant}
 use Rattle.icode_meaning.specs.State.{Function, Program, State, Running, Zeroing, Halted, Stuck, Log, nothing, log_of}
 use Rattle.icode_meaning.specs.State.{ending_of, see, least_at, most_at}
 use Rattle.icode_meaning.specs.Steps.{left, advance, first, counted}
-use Rattle.tick_lower_proof.specs.Lower.{Addresses}
+use Rattle.tick_lower_spec.specs.Lower.{Addresses}
 use Rattle.tick_lower_proof.proofs.Machine.{Goes, goes_none, Here}
 use Rattle.tick_lower_proof.proofs.Follow.{From, Follows, EndsAt, IsRunning, follows_then}
 use Rattle.tick_lower_proof.proofs.Standing.{IsBack}

@@ -17,7 +17,7 @@ use Rattle.staged_meaning.specs.Meaning.{at_start, meant}
 use Rattle.meaning_state.specs.Rows.{numbered}
 use Rattle.icode_meaning.specs.State.{Function, Program, State, see, least_at, most_at}
 use Rattle.icode_meaning.specs.Steps.{advance, first}
-use Rattle.tick_lower_proof.specs.Lower.{Addresses, function_ops}
+use Rattle.tick_lower_spec.specs.Lower.{Addresses, function_ops}
 use Rattle.limits.specs.declared.cost.TheConstants.{START_OPS_INSTRUCTIONS, UNIT_INSTRUCTIONS}
 
 -- the ops of a function: what a builder hands out that took its lowering and was finished

@@ -17,9 +17,9 @@ use Rattle.staged_meaning.specs.Program.{Tick as TickOf, OfExpression, OfStateme
 use Rattle.staged_meaning.specs.Size.{size_of_expr, size_of_args, size_of_stmt, size_of_items, labels_in, labels}
 use Rattle.staged_meaning.specs.Size.{labels_of}
 use Rattle.staged_meaning.specs.Size.{temps_in, temps, temps_of, variables_in}
-use Rattle.tick_lower_proof.specs.Lower.{Addresses, Targets, narrowing, dropping, dropping_call, keeping, kept}
-use Rattle.tick_lower_proof.specs.Lower.{step_ops}
-use Rattle.tick_lower_proof.specs.Lower.{joins, test_ops, default_label, nowhere}
+use Rattle.tick_lower_spec.specs.Lower.{Addresses, Targets, narrowing, dropping, dropping_call, keeping, kept}
+use Rattle.tick_lower_spec.specs.Lower.{step_ops}
+use Rattle.tick_lower_spec.specs.Lower.{joins, test_ops, default_label, nowhere}
 use Rattle.cgf_spec.specs.declared.piece.Piece.{Piece}
 use Rattle.cgf_spec.specs.declared.piece.Piece.TheVariants.{Plain, SetKey, Nothing}
 use Rattle.tick_pieces.specs.TickPieces.{plain, own, expr_pieces as pieces_of_expr, args_pieces as pieces_of_args}

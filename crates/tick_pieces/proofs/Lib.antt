@@ -1,3 +1,2 @@
-mod Same
 mod Lowered
 mod Counted

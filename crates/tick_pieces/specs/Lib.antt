@@ -1,3 +1,3 @@
 pub mod TickPieces
-pub mod Filled
+pub mod NoTicks
 pub mod Laws

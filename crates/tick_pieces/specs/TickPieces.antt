@@ -18,9 +18,9 @@ use Rattle.typed_tree.specs.Nodes.{Case, Default, Break, Continue, Return, Retur
 use Rattle.typed_tree.specs.Nodes.{has_value, count}
 use Rattle.staged_meaning.specs.Program.{Tick as TickOf, OfExpression, OfStatement}
 use Rattle.staged_meaning.specs.Size.{labels_in, labels, labels_of, temps_in, temps, temps_of, variables_in}
-use Rattle.tick_lower_proof.specs.Lower.{Addresses, Targets, narrowing, dropping, dropping_call, keeping, kept}
-use Rattle.tick_lower_proof.specs.Lower.{step_ops}
-use Rattle.tick_lower_proof.specs.Lower.{joins, test_ops, default_label, nowhere}
+use Rattle.tick_lower_spec.specs.Lower.{Addresses, Targets, narrowing, dropping, dropping_call, keeping, kept}
+use Rattle.tick_lower_spec.specs.Lower.{step_ops}
+use Rattle.tick_lower_spec.specs.Lower.{joins, test_ops, default_label, nowhere}
 use Rattle.cgf_spec.specs.declared.piece.Piece.{Piece}
 use Rattle.cgf_spec.specs.declared.piece.Piece.TheVariants.{Plain, Captured, GetKey, SetKey, Splice, Nothing}
 

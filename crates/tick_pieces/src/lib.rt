@@ -2,11 +2,16 @@
 //! contract is a law.
 #![tactic(auto)]
 
-ghost use Rattle.tick_pieces.specs.Laws.{NodesHavePieces, PiecesAreLowering};
+ghost use Rattle.tick_pieces.specs.Laws.{NodesHavePieces, PiecesAreLowering, SpecificationsAreLowered};
 
-/// The pieces of a tick that captures words alone, with these in their places, are its lowering.
+/// The pieces of a tick, with what was captured in their holes, are its lowering.
 pub fn pieces_are_lowering()
     ensures { PiecesAreLowering }
+{}
+
+/// The ops of a specification, by the pieces of its ticks, are its lowering.
+pub fn specifications_are_lowered()
+    ensures { SpecificationsAreLowered }
 {}
 
 /// Each node of a tick has a piece.

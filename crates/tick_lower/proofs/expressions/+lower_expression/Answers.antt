@@ -4,7 +4,7 @@ use Rattle.typed_tree.specs.declared.expression.Expr.{size-Expr, the_lemmas}
 use Rattle.typed_tree.specs.Nodes.{has_value}
 use Rattle.typed_tree.specs.View.{expr_view}
 use Rattle.typed_tree.proofs.Fusion.{value_viewed}
-use Rattle.tick_lower_proof.specs.Lower.{dropping}
+use Rattle.tick_lower_spec.specs.Lower.{dropping}
 use Rattle.tick_lower.specs.Steps.{add}
 use Rattle.tick_lower.proofs.Fits.{set_fits, un_fits, void_fits, lib_fits, bin_fits, bin_fits_behind, comma_fits}
 use Rattle.tick_lower.proofs.Fits.{comma_fits_behind, and_fits, or_fits, cond_fits, and_fits_behind, or_fits_behind}

@@ -2,7 +2,7 @@ use Rattle.std.proofs.Common.{◌+◌, [], ◌∷◌, ◌++◌, ap, sym, ◌∙�
 use Rattle.icode_ir.specs.declared.build_op.BuildOp.TheVariants as build
 use Rattle.staged_meaning.specs.Size.{labels, temps, variables_in}
 use Rattle.staged_meaning.specs.Scope.{IsBuiltStmt}
-use Rattle.tick_lower_proof.specs.Lower.{listed, nowhere, stmt_ops}
+use Rattle.tick_lower_spec.specs.Lower.{listed, nowhere, stmt_ops}
 use Rattle.tick_lower_proof.proofs.Counts.{few_labels, few_temps}
 use Rattle.typed_tree.specs.View.{stmt_view, function_view}
 use Rattle.tick_lower.specs.Few.{PassesFewStmt}
@@ -40,13 +40,13 @@ lower_statement-requires c = record {
 pub set-requires : goal.set-requires
 set-requires c =
     has_place (stmt_view c.get-2.result.now) _ _ _ _ c.in_ok-push.ensures
-    c.in_ok-lower_statement.ensures c.in_ok-push-2.ensures c.new.ensures
+    c.in_ok-lower_statement.ensures c.in_ok-push-2.ensures c.in_ok-list.ensures
 
 pub returns : goal.returns
 returns c =
     c.set.ensures
     ∙ body_made (stmt_view c.get-2.result.now) _ _ _ _ c.in_ok-push.ensures c.in_ok-lower_statement.ensures
-    c.in_ok-push-2.ensures c.new.ensures refl
+    c.in_ok-push-2.ensures c.in_ok-list.ensures refl
     (c.variables.ensures ∙ ap (λ z. variables_in (stmt_view z)) (c.get.ensures ∙ sym c.get-2.ensures))
     ∙ ap (λ z. build.Enter (variables_in (stmt_view z) + temps (stmt_view z)) (labels (stmt_view z))
     ∷ (stmt_ops (listed c.args.starts.now) (stmt_view z) nowhere 0 (variables_in (stmt_view z)) ++ build.Leave ∷ []))

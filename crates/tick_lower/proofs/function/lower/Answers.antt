@@ -1,7 +1,7 @@
 use Rattle.std.proofs.Common.{◌≡◌, ap, sym, ◌∙◌, subst}
 use Rattle.icode_ir.specs.Build.{empty}
 use Rattle.icode_ir.specs.Runs.{EmitsAll, AreTaken, IsRefused}
-use Rattle.tick_lower_proof.specs.Lower.{listed, function_ops}
+use Rattle.tick_lower_spec.specs.Lower.{listed, function_ops}
 use Rattle.typed_tree.specs.View.{function_view}
 use Rattle.tick_lower.proofs.Taken.{not_refused}
 use Rattle.tick_lower.proofs.function.lower.Goals as goal

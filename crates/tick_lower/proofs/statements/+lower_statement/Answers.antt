@@ -1,7 +1,7 @@
 use Rattle.std.proofs.Common.{rules, ◌≡◌, ◌+◌, ◌<◌, ◌≤◌, length, refl, ap, sym, subst, ◌∙◌, arith}
 use Rattle.std.proofs.lemmas.Result.{on_ok_weaker}
 use Rattle.typed_tree.specs.declared.expression.Stmt.{size-Stmt, the_lemmas}
-use Rattle.tick_lower_proof.specs.Lower.{Targets}
+use Rattle.tick_lower_spec.specs.Lower.{Targets}
 use Rattle.tick_lower.specs.declared.ops.Exits.{Exits}
 use Rattle.tick_lower.specs.Steps.{FitItems, add_switch, targets_of}
 use Rattle.tick_lower.proofs.Fits.{label_past, variable_past}

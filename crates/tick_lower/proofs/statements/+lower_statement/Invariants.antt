@@ -1,7 +1,7 @@
 use Rattle.std.proofs.Common.{◌≡◌, ◌+◌, ◌*◌, max}
 use Rattle.std.specs.Prelude.{unwrap_or}
 use Rattle.typed_tree.specs.declared.expression.Stmt.{size-Stmt}
-use Rattle.tick_lower_proof.specs.Lower.{test_ops, default_label}
+use Rattle.tick_lower_spec.specs.Lower.{test_ops, default_label}
 use Rattle.tick_lower.specs.Steps.{FitItems, add, add_items, targets_of}
 use Rattle.tick_lower.proofs.Rest.{rest}
 use Rattle.tick_lower.proofs.statements.+lower_statement.Given as goal

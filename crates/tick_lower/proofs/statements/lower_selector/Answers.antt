@@ -1,4 +1,4 @@
-use Rattle.tick_lower_proof.specs.Lower.{nowhere}
+use Rattle.tick_lower_spec.specs.Lower.{nowhere}
 use Rattle.tick_lower.proofs.Made.{selector_made}
 use Rattle.tick_lower.proofs.statements.lower_selector.Goals as goal
 
