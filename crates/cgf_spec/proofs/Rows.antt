@@ -8,6 +8,7 @@ use Rattle.mips_encoder.specs.Table.{word_of}
 use Rattle.mips_model.specs.State.{Data, State}
 use Rattle.mips_model.specs.Steps.{going, step}
 use Rattle.mips_model.specs.Laws.{at}
+use Rattle.mips_model.specs.Run.{first_outside}
 use Rattle.mips_model.proofs.Loaded.{loaded}
 use Rattle.icode_ops.specs.declared.kind.BinKind.TheVariants.{Add}
 use Rattle.icode_ir.specs.declared.build_op.BuildOp.TheVariants.{Enter, Bin}
@@ -34,7 +35,7 @@ called = record {
   emit_stack = λ n. 0;
   stack = λ n. 0;
   table = λ n. (0, 0);
-  outside = record { input = record { bytes = []; failing = false }; at_end = false; history = []; flushes = 0 };
+  outside = first_outside (record { bytes = []; failing = false }) [];
 }
 
 -- so many instructions from a state, and the state behind a service that answered 0

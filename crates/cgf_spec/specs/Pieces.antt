@@ -4,29 +4,12 @@
 -- (TOPLAS 21(2), 1999).
 use Rattle.std.specs.Prelude.{ℕ, zero, suc, ◌<◌, List, [], ◌∷◌, ◌++◌}
 use Rattle.history.specs.Syntax.{Syntax, Ticked, Captures, NoCapture, Word, Named, Spliced}
+pub use Rattle.tick_lower_spec.specs.Specifications.{capture_at, word_in, key_in_capture}
 use Rattle.icode_ir.specs.declared.build_op.BuildOp.{BuildOp}
 use Rattle.icode_ir.specs.declared.build_op.BuildOp.TheVariants.{Const, GetSpec, SetSpec}
 use Rattle.cgf_spec.specs.declared.piece.Piece.{Piece}
 use Rattle.cgf_spec.specs.declared.piece.Piece.TheVariants.{Plain, Captured, GetKey, SetKey, Splice, Nothing}
 use Rattle.icode_codes.specs.Codes.{IsServed, first_of, second_of}
-
--- the capture of a number
-abbrev pub capture_at : Captures → ℕ → Captures
-capture_at NoCapture i = NoCapture
-capture_at (Word word captures) zero = Word word NoCapture
-capture_at (Named key captures) zero = Named key NoCapture
-capture_at (Spliced syntax captures) zero = Spliced syntax NoCapture
-capture_at (Word word captures) (suc i) = capture_at captures i
-capture_at (Named key captures) (suc i) = capture_at captures i
-capture_at (Spliced syntax captures) (suc i) = capture_at captures i
-
-abbrev pub word_in : Captures → ℕ
-word_in (Word word captures) = word
-word_in _ = 0
-
-abbrev pub key_in_capture : Captures → ℕ
-key_in_capture (Named key captures) = key
-key_in_capture _ = 0
 
 -- ---- the ops of a specification
 

@@ -3,7 +3,7 @@ use Rattle.std.proofs.Common.{◌≡◌, ◌≢◌, inl, inr, ℕ, suc, ◌+◌,
 use Rattle.std.proofs.Common.{length, refl, ap, ◌∙◌, arith, nat_lt}
 use Rattle.std.proofs.lemmas.Bool.{lt-ltb, ne_eqb}
 use Rattle.word32.specs.Words.{wrap}
-use Rattle.word32.specs.declared.map.TheConstants.{CLOSURES, CLOSURE_BYTES, ARENA, NEXT_FUNCTION_CELL, NEXT_ARENA_CELL}
+use Rattle.word32.specs.declared.map.TheConstants.{CLOSURES, CLOSURE_BYTES, ARENA, NEXT_FUNCTION_CELL, NEXT_ARENA_CELL, GLOBAL_POINTER}
 use Rattle.word32.specs.declared.map.TheConstants.{EMIT_STACK}
 use Rattle.mips_encoder.specs.declared.instruction.Instr.{Instr}
 use Rattle.mips_model.specs.State.{Code, Data}
@@ -50,7 +50,7 @@ pub record Ready (a function next size parameters ra : ℕ) (e : Data) : Type 0 
   pub closure : e.registers 12 ≡ a
   pub charge : e.registers 13 ≡ 768 * size + 256
   pub pointer : e.registers 15 ≡ EMIT_STACK + 8
-  pub global : e.registers 28 ≡ 542179328
+  pub global : e.registers 28 ≡ GLOBAL_POINTER
   pub link : word_at e.emit_stack EMIT_STACK ≡ ra
   pub function_is : word_at e.cells NEXT_FUNCTION_CELL ≡ function
   pub next_is : word_at e.cells NEXT_ARENA_CELL ≡ next

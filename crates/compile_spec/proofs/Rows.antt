@@ -12,6 +12,7 @@ use Rattle.mips_encoder.specs.Table.{word_of}
 use Rattle.mips_model.specs.State.{Data, World}
 use Rattle.mips_model.specs.Steps.{going, step}
 use Rattle.mips_model.specs.Laws.{at}
+use Rattle.mips_model.specs.Run.{first_outside}
 use Rattle.mips_model.proofs.Loaded.{loaded}
 use Rattle.spec_closure.specs.Closures.{with_word, word_at}
 use Rattle.compile_spec.specs.Routine.{compile_code}
@@ -34,7 +35,7 @@ called number function next = record {
   emit_stack = λ n. 0;
   stack = λ n. 0;
   table = λ n. (0, 0);
-  outside = record { input = record { bytes = []; failing = false }; at_end = false; history = []; flushes = 0 };
+  outside = first_outside (record { bytes = []; failing = false }) [];
 }
 
 abbrev ran : (count number function next : ℕ) → World

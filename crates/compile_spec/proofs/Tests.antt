@@ -4,7 +4,7 @@ use Rattle.std.proofs.Common.{List, [], ◌∷◌, ◌++◌, refl, ap, ◌∙◌
 use Rattle.std.proofs.Common.{nat_lt}
 use Rattle.std.proofs.lemmas.Bool.{ne_eqb}
 use Rattle.word32.specs.Words.{wrap}
-use Rattle.word32.specs.declared.map.TheConstants.{CLOSURES, CLOSURE_BYTES, SPEC_ROWS, SPEC_COUNT_CELL}
+use Rattle.word32.specs.declared.map.TheConstants.{CLOSURES, CLOSURE_BYTES, SPEC_ROWS, SPEC_COUNT_CELL, GLOBAL_POINTER}
 use Rattle.word32.specs.declared.map.TheConstants.{ARENA, NEXT_FUNCTION_CELL, NEXT_ARENA_CELL, EMIT_STACK}
 use Rattle.host_edge.specs.declared.ending.Ending.TheVariants.{Trap}
 use Rattle.host_edge.specs.declared.ending.TrapKind.TheVariants.{BadSpec, TableLimit, ArenaLimit}
@@ -124,7 +124,7 @@ n1 d = set 6 (bit (nat_lt (less d) (row_count d))) (set 6 (less d) (set 5 (row_c
 abbrev n2 : Data → Data
 n2 d = set 12 (wrap (d.registers 4 * 4)) (n1 d)
 
-lives : (d : Data) → d.registers 28 ≡ 542179328 → Leaves live_code 0 d 0 (n1 d)
+lives : (d : Data) → d.registers 28 ≡ GLOBAL_POINTER → Leaves live_code 0 d 0 (n1 d)
 lives d g =
     let m = set 5 (row_count d) d in
     leaves_on (lw 5 65524 28 ∷ []) (addiu 6 4 65535 ∷ sltu 6 6 5 ∷ []) 0 5 0 d m (n1 d)
@@ -133,7 +133,7 @@ lives d g =
     (λ rest. refl)
 
 module _ (c : Code) (entry : ℕ) (low : entry + 256 ≤ ARENA) (h : HasAt c entry compile_code) (d : Data) (g : d.registers
-    28 ≡ 542179328) where
+    28 ≡ GLOBAL_POINTER) where
   first : Reaches 3 (at c entry 0 d) (at c (p3 c entry h) 0 (n1 d))
   first = leaves_run live_code c 0 0 entry d (n1 d) (lives d g)
       (front c entry live_code (live_test ++ (kind_code ++ (kind_test ++ (table_test ++ (charge_code ++ arena_test)))))
@@ -141,7 +141,7 @@ module _ (c : Code) (entry : ℕ) (low : entry + 256 ≤ ARENA) (h : HasAt c ent
 
   -- the number is none that is live
   pub dead_ends : nat_lt (less d) (row_count d) ≡ false →
-      EndsIn 6 6 (Ended (Trap BadSpec)) (at c entry 0 d) c d.outside.history
+      EndsIn 6 6 (Ended (Trap BadSpec)) (at c entry 0 d) c d.outside
   dead_ends t =
       let a = p3 c entry h in
       let does : effect (beq 6 0 57) (n1 d) ≡ Branches true 57 = rw t refl in
@@ -174,7 +174,7 @@ pub record Sees (d : Data) (a kind size function next : ℕ) : Type 0 where
   pub place : closure_of d (d.registers 4) ≡ a
 
 module _ (a kind size function next : ℕ) (d : Data) (sees : Sees d a kind size function next) (g : d.registers 28 ≡
-    542179328) where
+    GLOBAL_POINTER) where
   abbrev n3 : Data
   n3 = set 12 (wrap (wrap (d.registers 4 * 4) + SPEC_ROWS)) (set 1 SPEC_ROWS (n2 d))
 
@@ -259,7 +259,7 @@ module _ (a kind size function next : ℕ) (d : Data) (sees : Sees d a kind size
 -- ---- the tests behind that of the number
 
 module _ (c : Code) (entry : ℕ) (low : entry + 256 ≤ ARENA) (h : HasAt c entry compile_code) (d : Data) (g : d.registers
-    28 ≡ 542179328) (t : nat_lt (less d) (row_count d) ≡ true) (a kind size function next : ℕ) (sees : Sees d a kind
+    28 ≡ GLOBAL_POINTER) (t : nat_lt (less d) (row_count d) ≡ true) (a kind size function next : ℕ) (sees : Sees d a kind
     size
     function next) where
   abbrev m8 : Data
@@ -283,7 +283,7 @@ module _ (c : Code) (entry : ℕ) (low : entry + 256 ≤ ARENA) (h : HasAt c ent
       (leaves_run kind_code c 0 0 (p5 c entry h) (n2 d) m8 (finds a kind size function next d sees g)
       (front c (p5 c entry h) kind_code (kind_test ++ (table_test ++ (charge_code ++ arena_test))) (at5 c entry h)))
 
-  pub kind_ends : nat_lt kind 3 ≡ false → EndsIn 15 15 (Ended (Trap BadSpec)) (at c entry 0 d) c d.outside.history
+  pub kind_ends : nat_lt kind 3 ≡ false → EndsIn 15 15 (Ended (Trap BadSpec)) (at c entry 0 d) c d.outside
   kind_ends k =
       let does : effect (beq 5 0 48) m8 ≡ Branches true 48 = rw k refl in
       ends_behind {l = 14} {m = 14} {l' = 1} {m' = 1}
@@ -301,7 +301,7 @@ module _ (c : Code) (entry : ℕ) (low : entry + 256 ≤ ARENA) (h : HasAt c ent
         refl refl (at12 c entry h).0 (at12 c entry h).1.0)
 
     pub table_ends : function / 65536 ≢ 0 →
-        EndsIn 17 17 (Ended (Trap TableLimit)) (at c entry 0 d) c d.outside.history
+        EndsIn 17 17 (Ended (Trap TableLimit)) (at c entry 0 d) c d.outside
     table_ends ne =
         let e : nat_eq (function / 65536) 0 ≡ false = ne_eqb (function / 65536) 0 ne in
         let does : effect (bne 5 0 47) m9 ≡ Branches true 47 = rw e refl in
@@ -323,7 +323,7 @@ module _ (c : Code) (entry : ℕ) (low : entry + 256 ≤ ARENA) (h : HasAt c ent
           (front c (p16 c entry h) charge_code arena_test (at16 c entry h)))
 
       pub arena_ends : nat_lt 100663296 (next + (768 * size + 256)) ≡ true →
-          EndsIn 26 26 (Ended (Trap ArenaLimit)) (at c entry 0 d) c d.outside.history
+          EndsIn 26 26 (Ended (Trap ArenaLimit)) (at c entry 0 d) c d.outside
       arena_ends full =
           let does : effect (bne 1 0 39) m14 ≡ Branches true 39 = rw full refl in
           ends_behind {l = 25} {m = 25} {l' = 1} {m' = 1}

@@ -93,7 +93,7 @@ module _ (text : Text) (functions : ℕ) (shared : Shared) (d : Data) (hs : HasS
 
   module _ (c : Code) (entry : ℕ) (low : entry + 256 ≤ ARENA) (h : HasAt c entry compile_code) (kind : TrapKind) where
     abbrev EndsAs : TrapKind → Type 0
-    EndsAs k = EndsIn 6 26 (Ended (Trap k)) (at c entry 0 d) c d.outside.history
+    EndsAs k = EndsIn 6 26 (Ended (Trap k)) (at c entry 0 d) c d.outside
 
     ends_dead : nat_lt (less d) (row_count d) ≡ false → EndsAs BadSpec
     ends_dead t =

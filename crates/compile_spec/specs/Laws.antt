@@ -57,7 +57,7 @@ CompileTraps =
     → IsLow entry → HasSpecifications text shared d → HasArena functions shared d → d.registers 4 < 4294967296
     → compile_trap text.program (next_function functions shared) (specification_at (d.registers 4) shared) shared
     ≡ Some kind → HasAt c entry compile_code
-    → EndsIn 6 26 (Ended (Trap kind)) (at c entry 0 d) c d.outside.history
+    → EndsIn 6 26 (Ended (Trap kind)) (at c entry 0 d) c d.outside
 
 -- ---- a compile
 

@@ -128,7 +128,7 @@ module _ (s : Setting) (st : Standing s) where
         above = λ j le. (let ne : j ≢ (pointer d + 4 * k) / 4 = λ e. absurd (omega (arith, e, le, low, suits.room)) in
             stack j ∙ update_other ((pointer d + 4 * k) / 4) v d.stack j ne);
       } in
-      let memory = memory_kept s.program log.shared log.active d after
+      let memory = memory_kept s log.shared log.active d after
       (record {
         objects = keeps.world.objects;
         closures = keeps.world.closures;
@@ -159,7 +159,7 @@ module _ (s : Setting) (st : Standing s) where
       → Pays s (set_from (Result to) answer to w waiting log) log
       (at s.code (op_stands_at w.function (places_of s w.function) w.index) 0 d)
   result_pays w arguments None waiting log to d i h =
-      stuck_pays s log (op_stands_at w.function (places_of s w.function) w.index) d h.memory.history
+      stuck_pays s log (op_stands_at w.function (places_of s w.function) w.index) d h.memory
   result_pays w arguments (Some x) waiting log to d i h =
       let f = w.function in
       let places = places_of s f in
@@ -183,7 +183,7 @@ module _ (s : Setting) (st : Standing s) where
       → Pays s (set_from (GetParameter to k) p to w waiting log) log
       (at s.code (op_stands_at w.function (places_of s w.function) w.index) 0 d)
   parameter_pays w arguments answer waiting log to k d None e i h =
-      stuck_pays s log (op_stands_at w.function (places_of s w.function) w.index) d h.memory.history
+      stuck_pays s log (op_stands_at w.function (places_of s w.function) w.index) d h.memory
   parameter_pays w arguments answer waiting log to k d (Some x) e i h =
       let f = w.function in
       let places = places_of s f in

@@ -89,7 +89,7 @@ module _ (s : Setting) (st : Standing s) where
           subst (λ n. CallersWait s waiting (unwound f places d1) n) (sym (word_alike 80 al))
               (stacked_alike s st waiting (frame_word d 80) (unwound_alike f places al) h.waits),
         );
-        memory = memory_kept s.program log.shared log.active d d1 world h.memory;
+        memory = memory_kept s log.shared log.active d d1 world h.memory;
         extents = extents_alike log.shared al h.extents;
         from = omega (arith, ptr, fr.from);
         even = subst (λ n. n % 4 ≡ 0) (sym ptr) fr.even;
@@ -105,7 +105,7 @@ module _ (s : Setting) (st : Standing s) where
       → Pays s (call_at (Call address) x w arguments waiting log) log
       (at s.code (op_stands_at w.function (places_of s w.function) w.index) 0 d)
   found_pays w arguments answer waiting log d address None e i h =
-      stuck_pays s log (op_stands_at w.function (places_of s w.function) w.index) d h.memory.history
+      stuck_pays s log (op_stands_at w.function (places_of s w.function) w.index) d h.memory
   found_pays w arguments answer waiting log d address (Some f) e i h =
       let c = w.function in
       let places = places_of s c in

@@ -42,15 +42,17 @@ is_within a n h = grind (arith, nat_tests)
 
 -- the run ends
 pub ends_pay : (s : Setting) (log log' : Log) (from mid : machine.State) (l m least most : ℕ) (end : End)
-    (history : List Item)
-    → log'.least ≤ log.least + l + least → log.most + m + most ≤ log'.most → history ≡ log'.shared.history
-    → Runs l m from mid → EndsIn least most end mid s.code history → Pays s (Halted end log') log from
-ends_pay s log log' from mid l m least most end history lo hi same r e =
+    (outside : Outside)
+    → log'.least ≤ log.least + l + least → log.most + m + most ≤ log'.most → outside.history ≡ log'.shared.history
+    → outside.making ≡ s.making → Runs l m from mid → EndsIn least most end mid s.code outside
+    → Pays s (Halted end log') log from
+ends_pay s log log' from mid l m least most end outside lo hi same made r e =
     let w = iterate step (r.count + e.count) (going from) in
     let by : w ≡ iterate step e.count (going mid) = iterate_add step r.count e.count (going from)
     ∙ ap (iterate step e.count) r.reaches.by in
     let seen1 : Seen Item End = record { history = log'.shared.history; ending = Some end } in
-    let h : log'.shared.history ≡ w.state.d.outside.history = sym same ∙ sym e.history_is
+    let h : log'.shared.history ≡ w.state.d.outside.history =
+    sym same ∙ sym (ap (λ (o : Outside). o.history) e.outside_is)
     ∙ sym (ap (λ (z : World). z.state.d.outside.history) by) in
     let n : Some end ≡ w.ending = sym e.ending ∙ sym (ap (λ (z : World). z.ending) by) in
     let e1 : seen1 ≡ record { history = w.state.d.outside.history; ending = Some end } =
@@ -61,13 +63,18 @@ ends_pay s log log' from mid l m least most end history lo hi same r e =
       count = r.count + e.count;
       low = omega (arith, lo, r.over, e.over);
       high = omega (arith, hi, r.under, e.under);
-      related = (e1 ∙ e2, ap (λ (z : World). z.state.code) by ∙ e.code_is);
+      related = (
+        e1 ∙ e2,
+        ap (λ (z : World). z.state.code) by ∙ e.code_is,
+        ap (λ (z : World). z.state.d.outside.making) by
+            ∙ (ap (λ (o : Outside). o.making) e.outside_is ∙ made),
+      );
     }
 
 -- what holds at a function's first instruction
 pub record Enters (s : Setting) (arguments : ℕ → Option ℕ) (waiting : List Frame) (log : Log) (d : Data) : Type 0 where
   pub waits : CallersWait s waiting d (d.registers 31)
-  pub memory : MemoryAgrees s.program log.shared log.active d
+  pub memory : MemoryAgrees s log.shared log.active d
   pub extents : ExtentsAgree log.shared d
   pub from : STACK ≤ pointer d
   pub even : pointer d % 4 ≡ 0
@@ -122,7 +129,7 @@ module _ (s : Setting) (st : Standing s) (f : Function) (known : s.program.funct
             objects_from = omega (arith, b.objects_is, obj);
             objects_to = omega (arith, b.objects_is, obj, space);
           };
-          memory = memory_entered s.program f log d e en.memory b.world;
+          memory = memory_entered s f log d e en.memory b.world;
           extents = extents_entered f log d e en.extents fits b.pointer_is b.objects_is;
           passed = none_passed e;
           answered = tt;
@@ -147,15 +154,15 @@ module _ (s : Setting) (st : Standing s) (f : Function) (known : s.program.funct
             let x = frame_end f.charge s.code f.address d suits.small en.from (omega (arith, top))
             (omega (arith, top, over)) code in
             rw t (ends_pay s log (paid o log) from (at s.code f.address 0 d) l m 8 8 (Ended (Trap StackLimit))
-            d.outside.history (omega (arith, lo)) (omega (arith, hi)) en.memory.history r x))
+            d.outside (omega (arith, lo)) (omega (arith, hi)) en.memory.history en.memory.making r x))
         | inr fits ↦ (let t : nat_le (log.shared.used + f.charge) 16777216 ≡ true = is_within _ _ fits in
             elim (cases_lt 4194304 (log.shared.frames + f.object)) [
               | inl over ↦ (let k : nat_le (log.shared.frames + f.object) 4194304 ≡ false = is_over _ _ over in
                   let x = overflows f (places_of s f) s.code d stands (omega (arith, top, fits)) (omega (arith, top))
                   en.even en.global (omega (arith, en.objects_to)) (omega (arith, obj, over)) in
                   rw (t, k) (ends_pay s log (paid o log) from (at s.code f.address 0 d) l m 17 33
-                  (Ended (Trap FrameLimit)) d.outside.history (omega (arith, lo)) (omega (arith, hi))
-                  en.memory.history r x))
+                  (Ended (Trap FrameLimit)) d.outside (omega (arith, lo)) (omega (arith, hi))
+                  en.memory.history en.memory.making r x))
               | inr space ↦ (let k : nat_le (log.shared.frames + f.object) 4194304 ≡ true = is_within _ _ space in
                   let b = holds_begun arguments (moved_on w ∷ waiting) (paid o log) d en (omega (arith, fits))
                   (omega (arith, space)) in

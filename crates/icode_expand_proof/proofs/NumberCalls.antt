@@ -3,7 +3,7 @@ use Rattle.std.proofs.Common.{◌≡◌, inl, inr, ℕ, suc, ◌+◌, ◌*◌, �
 use Rattle.std.proofs.Common.{None, refl, sym, ap, ◌∙◌, subst, arith, nat_eq, slice_get, bit_xor}
 use Rattle.std.proofs.lemmas.Bool.{and_parts}
 use Rattle.std.proofs.lemmas.Bool.{cases_lt, cases_eq, eq-eqb, ne_eqb}
-use Rattle.word32.specs.declared.map.TheConstants.{SEGMENT_BYTES}
+use Rattle.word32.specs.declared.map.TheConstants.{SEGMENT_BYTES, FUNCTION_TABLE, GLOBAL_POINTER}
 use Rattle.word32.specs.Space.{update}
 use Rattle.host_edge.specs.declared.ending.Ending.TheVariants.{Trap}
 use Rattle.host_edge.specs.declared.ending.TrapKind.TheVariants.{BadCall}
@@ -39,13 +39,13 @@ row_alike v n x d = record {
   registers = λ r h.
       let f1 = update 25 (v / 65536) d.registers in
       let f2 = update 24 (8 * v) f1 in
-      let f3 = update 24 (542179328 + 8 * v) f2 in
+      let f3 = update 24 (FUNCTION_TABLE + 8 * v) f2 in
       let f4 = update 25 (d.table v).1 f3 in
       let f5 = update 24 (d.table v).0 f4 in
       let f6 = update 25 (bit_xor (d.table v).1 n) f5 in
       update_other 31 x f6 r h.1 ∙ update_other 25 (bit_xor (d.table v).1 n) f5 r h.0.2 ∙ update_other 24 (d.table v).0
       f4 r h.0.1 ∙ update_other 25 (d.table v).1 f3 r h.0.2
-      ∙ update_other 24 (542179328 + 8 * v) f2 r h.0.1 ∙ update_other 24 (8 * v) f1 r h.0.1
+      ∙ update_other 24 (FUNCTION_TABLE + 8 * v) f2 r h.0.1 ∙ update_other 24 (8 * v) f1 r h.0.1
       ∙ update_other 25 (v / 65536) d.registers r h.0.2;
   stack = λ k le. refl;
 }
@@ -87,7 +87,7 @@ module _ (s : Setting) (st : Standing s) (w : Frame) (arguments : ℕ → Option
   word : mid.registers 24 < 4294967296
   word = subst (λ x. x < 4294967296) (sym is) (h.ready.words number)
 
-  global : mid.registers 28 ≡ 542179328
+  global : mid.registers 28 ≡ GLOBAL_POINTER
   global = keeps.registers 28 (omega arith, omega arith, omega arith) ∙ h.ready.global
 
   code : HasAt s.code a (in_code ((layout_of f places).spot number) ++ number_call n)
@@ -113,10 +113,13 @@ module _ (s : Setting) (st : Standing s) (w : Frame) (arguments : ℕ → Option
   history : mid.outside.history ≡ log.shared.history
   history = ap (λ (x : Outside). x.history) keeps.world.outside ∙ h.memory.history
 
+  made : mid.outside.making ≡ s.making
+  made = ap (λ (x : Outside). x.making) keeps.world.outside ∙ h.memory.making
+
   bad : (least most : ℕ) → 4 ≤ least → most ≤ 10 → EndsIn least most (Ended (Trap BadCall)) (at s.code b 0 mid) s.code
-      mid.outside.history → Pays s (Halted (Ended (Trap BadCall)) (paid o log)) log (at s.code a 0 d)
+      mid.outside → Pays s (Halted (Ended (Trap BadCall)) (paid o log)) log (at s.code a 0 d)
   bad least most long short e = ends_pay s log (paid o log) (at s.code a 0 d) (at s.code b 0 mid) 1 4 least most
-      (Ended (Trap BadCall)) mid.outside.history (omega (arith, long)) (omega (arith, short)) history brings e
+      (Ended (Trap BadCall)) mid.outside (omega (arith, long)) (omega (arith, short)) history made brings e
 
   table : mid.table (mid.registers 24) ≡ d.table (w.values number)
   table = ap (λ (t : ℕ → ℕ × ℕ). t (mid.registers 24)) keeps.world.table ∙ ap d.table is
@@ -134,7 +137,7 @@ module _ (s : Setting) (st : Standing s) (w : Frame) (arguments : ℕ → Option
 
   found_pays : (address : ℕ) (x : Option Function) → s.program.function_at address ≡ x → w.values number < 65536
       → d.table (w.values number) ≡ (address, n) → Pays s (call_at o x w arguments waiting log) log (at s.code a 0 d)
-  found_pays address None e less row = stuck_pays s log a d h.memory.history
+  found_pays address None e less row = stuck_pays s log a d h.memory
   found_pays address (Some g) e less row =
       let there = st.functions address g e in
       let known : s.program.function_at g.address ≡ Some g = ap s.program.function_at there.0 ∙ e in

@@ -61,7 +61,7 @@ module _ (s : Setting) (st : Standing s) where
   arrives : (log log' : Log) (from : machine.State) (l m x address : ℕ) (e : Data) (waiting : List Frame)
       → log'.least ≤ log.least + l → log.most + m + 3 ≤ log'.most → x < 4294967296 → e.registers 2 ≡ x
       → Runs l m from (at s.code address 0 e) → CallersWait s waiting e address
-      → MemoryAgrees s.program log'.shared log'.active e → ExtentsAgree log'.shared e
+      → MemoryAgrees s log'.shared log'.active e → ExtentsAgree log'.shared e
       → Pays s (given_back x waiting log') log from
   arrives log log' from l m x address e [] lo hi word answer go waits memory extents =
       let to = runs_to waits go in
@@ -79,7 +79,11 @@ module _ (s : Setting) (st : Standing s) where
         count = to.count + 3;
         low = omega (arith, lo, to.over);
         high = omega (arith, hi, to.under);
-        related = (e1 ∙ e2 ∙ e3, ap (λ (z : World). z.state.code) stop);
+        related = (
+          e1 ∙ e2 ∙ e3,
+          ap (λ (z : World). z.state.code) stop,
+          ap (λ (z : World). z.state.d.outside.making) stop ∙ memory.making,
+        );
       }
   arrives log log' from l m x address e (v ∷ vs) lo hi word answer go waits memory extents =
       runs_pay s st v nothing (Some x) vs log log' from l m e lo (omega (arith, hi)) (runs_to waits.0.address_is go)
@@ -112,7 +116,7 @@ module _ (s : Setting) (st : Standing s) where
       let sk = subst (λ n. CallersWait s waiting y.after n) (sym address) (stacked_alike s st waiting (frame_word d 80)
       al
       h.waits) in
-      let memory = memory_left s.program f (paid o log) mid y.after (memory_kept s.program log.shared log.active d mid
+      let memory = memory_left s f (paid o log) mid y.after (memory_kept s log.shared log.active d mid
       k.world h.memory) y.world in
       let fr = framed_on k h.ready.framed in
       let extents = extents_left f (paid o log) mid y.after (extents_kept log.shared d mid k h.extents)

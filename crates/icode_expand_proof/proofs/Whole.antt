@@ -13,7 +13,7 @@ use Rattle.host_edge.specs.declared.ending.TrapKind.TheVariants.{BadCall}
 use Rattle.history.specs.Events.{Item, End, Ended}
 use Rattle.pace.specs.Pace.{Seen}
 use Rattle.mips_encoder.specs.declared.instruction.Instr.{Instr}
-use Rattle.mips_model.specs.State.{Code, Data, World}
+use Rattle.mips_model.specs.State.{Making, Code, Data, World}
 use Rattle.mips_model.specs.Effects.{effect, sets_hilo}
 use Rattle.mips_model.specs.Steps.{Is, fetch, step, run}
 use Rattle.mips_model.specs.Run as machine
@@ -38,7 +38,7 @@ use Rattle.meaning_state.specs.Shared.{Shared, limit_trap, are_objects, access_t
 use Rattle.meaning_state.specs.Operators.{bin_value, bin_trap, signed_trap, zero_trap}
 use Rattle.icode_templates_proof.specs.Spots.{Framed}
 use Rattle.icode_templates_proof.specs.Moves.{behind}
-use Rattle.icode_frames_spec.specs.Relation.{Holds, Related, Pays}
+use Rattle.icode_frames_spec.specs.Relation.{MemoryAgrees, Holds, Related, Pays}
 use Rattle.icode_frames_spec.specs.Settings.{Setting, places_of, Standing}
 use Rattle.icode_frames_spec.specs.Standing.{layout_of, op_stands_at, Stands}
 use Rattle.icode_frames_spec.proofs.Codes.{op_code, one_stands}
@@ -123,15 +123,25 @@ same_code s (Zeroing more address w waiting log) b r = ap (λ (z : World). z.sta
 same_code s (Halted e log) b r = r.1
 same_code s (Stuck log) b r = r.1
 
+-- no code was made
+pub same_making : (s : Setting) (a : staged.State) (b : World) → Related s a b →
+    b.state.d.outside.making ≡ s.making
+same_making s (Running w arguments answer waiting log) b r =
+    ap (λ (z : World). z.state.d.outside.making) r.1.is ∙ r.1.holds.memory.making
+same_making s (Zeroing more address w waiting log) b r =
+    ap (λ (z : World). z.state.d.outside.making) r.1.is ∙ r.1.holds.memory.making
+same_making s (Halted e log) b r = r.2
+same_making s (Stuck log) b r = r.2
+
 module _ (s : Setting) (st : Standing s) (sv : Serving s) where
-  stuck_any : (log : Log) (q a : ℕ) (d : Data) → d.outside.history ≡ log.shared.history
+  stuck_any : (log : Log) (q a : ℕ) (d : Data) → MemoryAgrees s log.shared log.active d
       → Pays s (Stuck log) log (behind s.code a q d)
   stuck_any log q a d e =
       record {
         count = 0;
         low = omega arith;
         high = omega arith;
-        related = (ap (λ z. record { history = z; ending = None }) (sym e), refl);
+        related = (ap (λ z. record { history = z; ending = None }) (sym e.history), refl, e.making);
       }
 
   module _ (w : Frame) (arguments : ℕ → Option ℕ) (answer : Option ℕ) (waiting : List Frame) (log : Log) (d : Data)
@@ -168,7 +178,7 @@ module _ (s : Setting) (st : Standing s) (sv : Serving s) where
 
     call_pays : (address : ℕ) (x : Option Function) → s.program.function_at address ≡ x → slice_get f.ops w.index
         ≡ Some (Call address) → Pays s (call_at (Call address) x w arguments waiting log) log (behind s.code a q d)
-    call_pays address None e i = stuck_any log q a d h.memory.history
+    call_pays address None e i = stuck_any log q a d h.memory
     call_pays address (Some g) e i =
         let least = enter_least (limit_trap g.charge g.object log.shared) g arguments (moved_on w ∷ waiting)
         (paid (Call address) log) in
@@ -179,7 +189,7 @@ module _ (s : Setting) (st : Standing s) (sv : Serving s) where
 
     got_pays : (to : ℕ) (x : Option ℕ) → answer ≡ x → slice_get f.ops w.index ≡ Some (Result to)
         → Pays s (set_from (Result to) x to w waiting log) log (behind s.code a q d)
-    got_pays to None e i = stuck_any log q a d h.memory.history
+    got_pays to None e i = stuck_any log q a d h.memory
     got_pays to (Some x) e i =
         begun_at (set_from (Result to) (Some x) to w waiting log)
         (head (Result to) _ (one_stands s.code f places stands w.index (Result to) i).0 refl tt) (omega arith)
@@ -188,7 +198,7 @@ module _ (s : Setting) (st : Standing s) (sv : Serving s) where
 
     taken_pays : (to k : ℕ) (x : Option ℕ) → w.parameters k ≡ x → slice_get f.ops w.index ≡ Some (GetParameter to k)
         → Pays s (set_from (GetParameter to k) x to w waiting log) log (behind s.code a q d)
-    taken_pays to k None e i = stuck_any log q a d h.memory.history
+    taken_pays to k None e i = stuck_any log q a d h.memory
     taken_pays to k (Some x) e i =
         let bytes = f.charge + 4 * k + 4 in
         let reach = h.ready.reach k x e in
@@ -214,7 +224,7 @@ module _ (s : Setting) (st : Standing s) (sv : Serving s) where
               (append_assoc (load_code 24 ((layout_of f places).spot number)) _ _)) more
               (number_pays s st w arguments answer waiting log number n d few i u h (s.program.row (w.values number))
               refl)
-          | inr e ↦ subst (λ z. Pays s z log (behind s.code a q d)) (sym e) (stuck_any log q a d h.memory.history)
+          | inr e ↦ subst (λ z. Pays s z log (behind s.code a q d)) (sym e) (stuck_any log q a d h.memory)
         ]
 
     cleared_pays : (offset words : ℕ) (b : Bool) → are_objects (address_of offset w log) words ≡ b
@@ -222,7 +232,7 @@ module _ (s : Setting) (st : Standing s) (sv : Serving s) where
         → Pays s (if b then zeroing words (address_of offset w log) w waiting (paid (Clear offset words) log) else
         Stuck log) log
         (behind s.code a q d)
-    cleared_pays offset words false e i = stuck_any log q a d h.memory.history
+    cleared_pays offset words false e i = stuck_any log q a d h.memory
     cleared_pays offset words true e i =
         let least = zeroing_least words (address_of offset w log) w waiting (paid (Clear offset words) log) in
         begun_at (zeroing words (address_of offset w log) w waiting (paid (Clear offset words) log))
@@ -240,7 +250,7 @@ module _ (s : Setting) (st : Standing s) (sv : Serving s) where
         (operand_gentle (Bin kind to left right) left _ i refl (and_parts (w.on left) (w.on right) u).0
         (append_assoc (load_code 24 ((layout_of f places).spot left)) _ _)) (omega arith)
         (bin_pays s st w arguments answer waiting log d h kind to left right i u None e)
-    applied_pays kind to left right i u (Some k) e = stuck_any log q a d h.memory.history
+    applied_pays kind to left right i u (Some k) e = stuck_any log q a d h.memory
 
     op_pays : (o : Op) → slice_get f.ops w.index ≡ Some o → uses_on o w.on ≡ true → IsServed o
         → Pays s (act s.program o w arguments answer waiting log) log (behind s.code a q d)
@@ -342,11 +352,11 @@ module _ (s : Setting) (st : Standing s) (sv : Serving s) where
     used_pays : (b : Bool) (o : Op) → slice_get f.ops w.index ≡ Some o → uses_on o w.on ≡ b → IsServed o
         → Pays s (if b then act s.program o w arguments answer waiting log else Stuck log) log (behind s.code a q d)
     used_pays true o i u z = op_pays o i u z
-    used_pays false o i u z = stuck_any log q a d h.memory.history
+    used_pays false o i u z = stuck_any log q a d h.memory
 
     pub checked_pays : (x : Option Op) → slice_get f.ops w.index ≡ x
         → Pays s (checked s.program x w arguments answer waiting log) log (behind s.code a q d)
-    checked_pays None i = stuck_any log q a d h.memory.history
+    checked_pays None i = stuck_any log q a d h.memory
     checked_pays (Some o) i =
         used_pays (uses_on o w.on) o i refl (subst IsServed (op_found f.ops w.index o i).is
         (sv.ops f.address f h.known w.index))
@@ -422,17 +432,20 @@ module _ (s : Setting) (main : Function) (shared : Shared) (n : ℕ) (w : World)
       (simulates s st sv) (n + 32)
       (first main shared) w count related (omega (arith, start.runs.over)) (omega (arith, start.runs.under))
 
-  -- the same for the code in place of the history
-  abbrev pub code_of_upper : staged.State → Seen Code End
-  code_of_upper a = record { history = s.code ∷ []; ending = (see a).ending }
+  -- the same for the code and what was made in place of the history
+  abbrev pub code_of_upper : staged.State → Seen (Code × Making) End
+  code_of_upper a = record { history = (s.code, s.making) ∷ []; ending = (see a).ending }
 
-  abbrev pub code_of_lower : World → Seen Code End
-  code_of_lower b = record { history = b.state.code ∷ []; ending = b.ending }
+  abbrev pub code_of_lower : World → Seen (Code × Making) End
+  code_of_lower b = record { history = (b.state.code, b.state.d.outside.making) ∷ []; ending = b.ending }
 
   code_seen : (a : staged.State) (b : World) → Related s a b → code_of_upper a ≡ code_of_lower b
   code_seen a b r =
-      ap (λ z. record { history = s.code ∷ []; ending = z }) (ap (λ (z : Seen Item End). z.ending) (same_seen s a b r))
-      ∙ ap (λ z. record { history = z ∷ []; ending = b.ending }) (sym (same_code s a b r))
+      ap (λ z. record { history = (s.code, s.making) ∷ []; ending = z })
+      (ap (λ (z : Seen Item End). z.ending) (same_seen s a b r))
+      ∙ (ap (λ (z : Code). record { history = (z, s.making) ∷ []; ending = b.ending }) (sym (same_code s a b r))
+      ∙ ap (λ (m : Making). record { history = (b.state.code, m) ∷ []; ending = b.ending })
+      (sym (same_making s a b r)))
 
   pub paid_in_code : PaysFor (n + 32) (λ i. code_of_upper (iterate (advance s.program) i (first main shared)))
       (λ i. least_at (iterate (advance s.program) i (first main shared)))
@@ -446,14 +459,25 @@ pub simulated : ProgramIsSimulated
 unfolding run
 simulated s main shared n w st sv arrived = program_pays s main shared n w st sv arrived
 
-one_code : (c d : Code) → c ∷ [] ≡ d ∷ [] → d ≡ c
-one_code c d e = cc
+abbrev only : Code → Making → List (Code × Making)
+only c m = (c, m) ∷ []
+
+abbrev head_of : Code × Making → List (Code × Making) → Code × Making
+head_of other [] = other
+head_of other (x ∷ xs) = x
+
+one_code : (c d : Code) (m n : Making) → only c m ≡ only d n → (d ≡ c) × (n ≡ m)
+one_code c d m n e = (
+  sym (ap (λ (l : List (Code × Making)). (head_of (c, m) l).0) e),
+  sym (ap (λ (l : List (Code × Making)). (head_of (c, m) l).1) e),
+)
 
 pub code_kept : ProgramKeepsCode
 unfolding run
 code_kept s main shared n w st sv arrived =
     let p = paid_in_code s main shared n w st sv arrived in
     record {
-      goes_on = λ i none. let a = p.goes_on i none in (a.0, a.1, a.3, one_code s.code _ a.4);
-      ends = λ i e is. let a = p.ends i e is in (a.0, a.2, one_code s.code _ a.3);
+      goes_on = λ i none. let a = p.goes_on i none in
+          let x = one_code s.code _ s.making _ a.4 in (a.0, a.1, a.3, x.0, x.1);
+      ends = λ i e is. let a = p.ends i e is in let x = one_code s.code _ s.making _ a.3 in (a.0, a.2, x.0, x.1);
     }

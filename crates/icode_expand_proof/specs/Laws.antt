@@ -5,7 +5,7 @@ use Rattle.std.specs.Fn.{iterate}
 use Rattle.pace.specs.Claims.{PaysFor}
 use Rattle.history.specs.Events.{End}
 use Rattle.word32.specs.declared.map.TheConstants.{GLOBAL_POINTER, STACK_BYTES}
-use Rattle.mips_model.specs.State.{Code, Data, World}
+use Rattle.mips_model.specs.State.{Making, Code, Data, World}
 use Rattle.mips_model.specs.Steps.{step, going, run}
 use Rattle.mips_model.specs.Run as machine
 use Rattle.mips_model.specs.Laws.{at}
@@ -49,7 +49,7 @@ pub record Arrives (s : Setting) (main : Function) (shared : Shared) (n : ℕ) (
   pub known : s.program.function_at main.address ≡ Some main
   pub returns_to : d.registers 31 ≡ s.exit
   pub global : d.registers 28 ≡ GLOBAL_POINTER
-  pub memory : MemoryAgrees s.program shared 0 d
+  pub memory : MemoryAgrees s shared 0 d
   pub extents : ExtentsAgree shared d
   pub unused : shared.used ≡ 0
   pub none : shared.frames ≡ 0
@@ -65,18 +65,19 @@ ProgramIsSimulated =
     (λ i. most_at (iterate (advance s.program) i (first main shared)))
     (λ k. machine.see (run k w))
 
--- Wherever the staged machine has come to, the machine comes there with the code as it was: later than the least cost,
--- while it hasn't ended, and else where the machine has ended alike.
-pub record KeepsCode (c : Code) (w : World) (upper : ℕ → State) : Type 0 where
+-- Wherever the staged machine has come to, the machine comes there with the code as it was, and no code made: later
+-- than the least cost, while it hasn't ended, and else where the machine has ended alike.
+pub record KeepsCode (c : Code) (m : Making) (w : World) (upper : ℕ → State) : Type 0 where
   pub goes_on :
       (i : ℕ) → (see (upper i)).ending ≡ None →
       (n : ℕ) × (least_at (upper i) ≤ n) × ((run n w).ending ≡ None) × ((run n w).state.code ≡ c)
+      × ((run n w).state.d.outside.making ≡ m)
   pub ends :
       (i : ℕ) (e : End) → (see (upper i)).ending ≡ Some e → (n : ℕ) × ((run n w).ending ≡ Some e)
-      × ((run n w).state.code ≡ c)
+      × ((run n w).state.code ≡ c) × ((run n w).state.d.outside.making ≡ m)
 
 abbrev pub ProgramKeepsCode : Type 0
 ProgramKeepsCode =
     (s : Setting) (main : Function) (shared : Shared) (n : ℕ) (w : World)
     → Standing s → Serving s → Arrives s main shared n w
-    → KeepsCode s.code w (λ i. iterate (advance s.program) i (first main shared))
+    → KeepsCode s.code s.making w (λ i. iterate (advance s.program) i (first main shared))

@@ -3,13 +3,13 @@ use Rattle.std.proofs.Common.{◌≡◌, ◌≢◌, inl, inr, ℕ, suc, ◌+◌,
 use Rattle.std.proofs.Common.{length, refl, sym, ap, ◌∙◌, subst, arith, if◌then◌else◌, append_assoc}
 use Rattle.std.proofs.lemmas.Bool.{cases_Bool}
 use Rattle.word32.specs.Space.{update}
-use Rattle.word32.specs.declared.map.TheConstants.{GLOBAL_POINTER, OBJECTS_END, SEGMENT_BYTES}
+use Rattle.word32.specs.declared.map.TheConstants.{GLOBAL_POINTER, OBJECTS_END, SEGMENT_BYTES, STACK}
 use Rattle.mips_encoder.specs.declared.instruction.Instr.{Instr}
 use Rattle.mips_encoder.specs.Addresses.{past}
 use Rattle.host_edge.specs.declared.ending.Ending.TheVariants.{Trap}
 use Rattle.host_edge.specs.declared.ending.TrapKind.TheVariants.{FrameLimit}
 use Rattle.history.specs.Events.{Ended}
-use Rattle.mips_model.specs.State.{Code, Data, Outside}
+use Rattle.mips_model.specs.State.{Code, Data}
 use Rattle.mips_model.specs.Laws.{HasAt, at, Reaches}
 use Rattle.mips_model.proofs.Reach.{front, back, past_append, reaches_on}
 use Rattle.icode_templates.specs.Layout.{place_register}
@@ -60,7 +60,7 @@ pub record Framing (f : Function) (places : List ℕ) (c : Code) (d : Data) : Ty
   pub words : (p : ℕ) → has (saved places) p ≡ true → frame_word after (save_offset p) ≡ d.registers (place_register p)
 
 module _ (f : Function) (places : List ℕ) (c : Code) (d : Data) (st : Stands c f places)
-    (over : f.charge + 2130706432 ≤ pointer d) (top : pointer d ≤ 2147483648) (even : pointer d % 4 ≡ 0)
+    (over : f.charge + STACK ≤ pointer d) (top : pointer d ≤ 2147483648) (even : pointer d % 4 ≡ 0)
     (global : d.registers 28 ≡ GLOBAL_POINTER) where
   abbrev first : List Instr
   first = take_frame f.charge ++ saves (saved places)
@@ -209,24 +209,23 @@ module _ (f : Function) (places : List ℕ) (c : Code) (d : Data) (st : Stands c
 
   -- the objects don't fit
   pub overflows : d.registers 30 ≤ OBJECTS_END → OBJECTS_END < d.registers 30 + f.object
-      → EndsIn 17 33 (Ended (Trap FrameLimit)) (at c f.address 0 d) c d.outside.history
+      → EndsIn 17 33 (Ended (Trap FrameLimit)) (at c f.address 0 d) c d.outside
   overflows most more =
       let e1 = objects_end f.object c (past (past f.address first) (enter_count f.compiled)) counting.after stands_few
       (subst (λ n. n ≤ OBJECTS_END) (sym objects_before) most)
       (subst (λ n. OBJECTS_END < n + f.object) (sym objects_before) more) objects_stand in
-      let same : counting.after.outside.history ≡ d.outside.history =
-      ap (λ (o : Outside). o.history) (counting.world.outside ∙ framing.entered.world.outside) in
+      let same : counting.after.outside ≡ d.outside = counting.world.outside ∙ framing.entered.world.outside in
       let e2 = subst (EndsIn 8 8 (Ended (Trap FrameLimit)) (at c (past (past f.address first) (enter_count f.compiled))
       0 counting.after) c) same e1 in
       let go = reaches_on framing.reaches.reaches counting.reaches in
       let e3 = ends_late (framing.reaches.count + counting.count) 8 8 (Ended (Trap FrameLimit)) (at c f.address 0 d)
-      (at c (past (past f.address first) (enter_count f.compiled)) 0 counting.after) c d.outside.history go e2 in
+      (at c (past (past f.address first) (enter_count f.compiled)) 0 counting.after) c d.outside go e2 in
       record {
         count = e3.count;
         over = omega (arith, e3.over, framing.reaches.over);
         under = omega (arith, e3.under, framing.reaches.under, counting.few);
         ending = e3.ending;
-        history_is = e3.history_is;
+        outside_is = e3.outside_is;
         code_is = e3.code_is;
       }
     where

@@ -3,7 +3,7 @@ use Rattle.std.proofs.Common.{◌≡◌, ◌≢◌, ℕ, ◌+◌, ◌-◌, ◌*�
 use Rattle.std.proofs.Common.{length, refl, sym, ap, ◌∙◌, subst, arith, nat_lt}
 use Rattle.std.specs.Fn.{iterate}
 use Rattle.std.proofs.lemmas.Bool.Decides.{nat_tests}
-use Rattle.word32.specs.declared.map.TheConstants.{SEGMENT_BYTES}
+use Rattle.word32.specs.declared.map.TheConstants.{SEGMENT_BYTES, STACK}
 use Rattle.pace.proofs.Runs.{iterate_add}
 use Rattle.word32.specs.Words.{difference}
 use Rattle.word32.specs.Space.{update}
@@ -36,8 +36,8 @@ abbrev pub test_code : ℕ → List Instr
 test_code frame = constant 1 frame ++ (subu 24 29 1 ∷ lui 25 32512 ∷ sltu 25 24 25 ∷ [])
 
 abbrev tested : ℕ → ℕ → Data → Data
-tested h x d = with_registers (update 25 (bit (nat_lt (difference (pointer d) x) 2130706432))
-    (update 25 2130706432 (update 24 (difference (pointer d) x) (update 1 x (update 1 h d.registers))))) d
+tested h x d = with_registers (update 25 (bit (nat_lt (difference (pointer d) x) STACK))
+    (update 25 STACK (update 24 (difference (pointer d) x) (update 1 x (update 1 h d.registers))))) d
 
 abbrev pub charged : ℕ → Data → Data
 charged frame d = tested (frame / 65536 * 65536) frame d
@@ -53,11 +53,11 @@ charged_keeps frame d =
     let d1 = with_registers (update 1 h d.registers) d in
     let d2 = with_registers (update 1 frame d1.registers) d in
     let d3 = with_registers (update 24 x d2.registers) d in
-    let d4 = with_registers (update 25 2130706432 d3.registers) d in
+    let d4 = with_registers (update 25 STACK d3.registers) d in
     keeps_on (keeps_write 1 h d not_1)
     (keeps_on (keeps_write 1 frame d1 not_1)
-    (keeps_on (keeps_write 24 x d2 not_24) (keeps_on (keeps_write 25 2130706432 d3 not_25)
-    (keeps_write 25 (bit (nat_lt x 2130706432)) d4 not_25))))
+    (keeps_on (keeps_write 24 x d2 not_24) (keeps_on (keeps_write 25 STACK d3 not_25)
+    (keeps_write 25 (bit (nat_lt x STACK)) d4 not_25))))
 
 -- what the prologue leaves: the frame is taken, and its caller's address saved
 pub record Entered (frame : ℕ) (d after : Data) : Type 0 where
@@ -81,7 +81,7 @@ abbrev pub enters_with : ℕ → List ℕ → Data → Data
 enters_with frame kept d = saved_all kept (taken (pointer d - frame) frame d)
 
 module _ (frame : ℕ) (kept : List ℕ) (c : Code) (a : ℕ) (d : Data) (all : AllPlaces kept) (big : 128 ≤ frame)
-    (small : frame ≤ 16777216) (whole : frame % 4 ≡ 0) (low : a < SEGMENT_BYTES) (over : frame + 2130706432 ≤ pointer d)
+    (small : frame ≤ 16777216) (whole : frame % 4 ≡ 0) (low : a < SEGMENT_BYTES) (over : frame + STACK ≤ pointer d)
     (top : pointer d ≤ 2147483648) (even : pointer d % 4 ≡ 0) (h : HasAt c a (take_frame frame ++ saves kept)) where
   abbrev sp : ℕ
   sp = pointer d - frame
@@ -94,7 +94,7 @@ module _ (frame : ℕ) (kept : List ℕ) (c : Code) (a : ℕ) (d : Data) (all : 
 
   test_passes : effect (beq 25 0 2) (charged frame d) ≡ Branches true 2
   test_passes =
-      let e : nat_lt (difference (pointer d) frame) 2130706432 ≡ false = grind (arith, nat_tests, sp_is, over) in
+      let e : nat_lt (difference (pointer d) frame) STACK ≡ false = grind (arith, nat_tests, sp_is, over) in
       rw e refl
 
   abbrev behind : Data

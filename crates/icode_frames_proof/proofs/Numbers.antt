@@ -21,20 +21,20 @@ use Rattle.history.specs.Events.{Ended}
 use Rattle.mips_model.specs.Steps.{ended}
 use Rattle.std.specs.Int.Bits.{xor_add_and, xor_self}
 use Rattle.std.proofs.lemmas.Nat.{and_le_l, and_le_r}
-use Rattle.word32.specs.declared.map.TheConstants.{OBJECTS, OBJECTS_END, SEGMENT_BYTES}
+use Rattle.word32.specs.declared.map.TheConstants.{OBJECTS, OBJECTS_END, SEGMENT_BYTES, FUNCTION_TABLE, FUNCTION_TABLE_BYTES, STACK, GLOBAL_POINTER}
 use Rattle.icode_frames_proof.proofs.Prologue.{ends_in, ends_late}
 use Rattle.icode_templates_proof.specs.Moves.{EndsIn}
 use Rattle.icode_templates_proof.proofs.Keeping.{with_registers}
 use Rattle.icode_templates_proof.proofs.Leaves.{Leaves, leaves_on, leaves_run}
 use Rattle.icode_templates_proof.proofs.Jumps.{in_slot, slot_runs, branch_reaches}
 
-region_is : (a : ℕ) → 542179328 ≤ a → a < 542703616 → region_of a ≡ InFunctionTable
+region_is : (a : ℕ) → FUNCTION_TABLE ≤ a → a < (FUNCTION_TABLE + FUNCTION_TABLE_BYTES) → region_of a ≡ InFunctionTable
 region_is a lo hi =
-    let t1 : nat_le 2130706432 a ≡ false = grind (arith, nat_tests) in
+    let t1 : nat_le STACK a ≡ false = grind (arith, nat_tests) in
     let t2 : nat_le OBJECTS a ≡ true = grind (arith, nat_tests) in
     let t3 : nat_lt a OBJECTS_END ≡ false = grind (arith, nat_tests) in
     let t4 : nat_le 542175232 a ≡ true = grind (arith, nat_tests) in
-    let t5 : nat_lt a 542179328 ≡ false = grind (arith, nat_tests) in
+    let t5 : nat_lt a FUNCTION_TABLE ≡ false = grind (arith, nat_tests) in
     let t6 : nat_le 536870912 a ≡ true = grind (arith, nat_tests) in
     let t7 : nat_lt a 541065216 ≡ false = grind (arith, nat_tests) in
     let t8 : nat_le 541065216 a ≡ true = grind (arith, nat_tests) in
@@ -44,11 +44,11 @@ region_is a lo hi =
     let s3 : nat_lt a 67108864 ≡ false = grind (arith, nat_tests) in
     let s4 : nat_le 67108864 a ≡ true = grind (arith, nat_tests) in
     let s5 : nat_lt a 100663296 ≡ false = grind (arith, nat_tests) in
-    let s6 : nat_le 542179328 a ≡ true = grind (arith, nat_tests) in
-    let s7 : nat_lt a 542703616 ≡ true = grind (arith, nat_tests) in
+    let s6 : nat_le FUNCTION_TABLE a ≡ true = grind (arith, nat_tests) in
+    let s7 : nat_lt a (FUNCTION_TABLE + FUNCTION_TABLE_BYTES) ≡ true = grind (arith, nat_tests) in
     rw (t1, t2, t3, t4, t5, t6, t7, t8, t9, s1, s2, s3, s4, s5, s6, s7) refl
 
-pub table_load : (t a n : ℕ) (d : Data) → nat_eq t 0 ≡ false → a ≡ 542179328 + 4 * n → n < 131072
+pub table_load : (t a n : ℕ) (d : Data) → nat_eq t 0 ≡ false → a ≡ FUNCTION_TABLE + 4 * n → n < 131072
     → load t a Word d ≡ Loads t (with_registers (update t (table_word d.table n) d.registers) d)
 table_load t a n d n0 e l =
     let r = region_is a (omega (arith, e)) (omega (arith, e, l)) in
@@ -94,12 +94,12 @@ set r x d = with_registers (update r x d.registers) d
 abbrev pub row_data : ℕ → ℕ → Data → Data
 row_data v n d =
     let d2 = set 24 (8 * v) (set 25 (v / 65536) d) in
-    let d3 = set 24 (542179328 + 8 * v) d2 in
+    let d3 = set 24 (FUNCTION_TABLE + 8 * v) d2 in
     let d4 = set 25 (d.table v).1 d3 in
     let d5 = set 24 (d.table v).0 d4 in
     set 25 (bit_xor (d.table v).1 n) d5
 
-module _ (c : Code) (b n : ℕ) (d : Data) (low : b + 48 < SEGMENT_BYTES) (global : d.registers 28 ≡ 542179328)
+module _ (c : Code) (b n : ℕ) (d : Data) (low : b + 48 < SEGMENT_BYTES) (global : d.registers 28 ≡ GLOBAL_POINTER)
     (word : d.registers 24 < 4294967296) (h : HasAt c b (number_call n)) where
   abbrev v : ℕ
   v = d.registers 24
@@ -123,7 +123,7 @@ module _ (c : Code) (b n : ℕ) (d : Data) (low : b + 48 < SEGMENT_BYTES) (globa
   shifts = leaves_run (srl 25 24 16 ∷ []) c 0 0 b d d1 (λ rest. refl) (h.0, tt)
 
   -- no row at all
-  pub none_ends : 65536 ≤ v → EndsIn 4 4 (Ended (Trap BadCall)) (at c b 0 d) c d.outside.history
+  pub none_ends : 65536 ≤ v → EndsIn 4 4 (Ended (Trap BadCall)) (at c b 0 d) c d.outside
   none_ends more =
       let some : nat_eq (v / 65536) 0 ≡ false = ne_eqb (v / 65536) 0 (λ e. absurd (omega (arith, e, more))) in
       let goes : effect (bne 25 0 7) d1 ≡ Branches true 7 = rw some refl in
@@ -134,7 +134,7 @@ module _ (c : Code) (b n : ℕ) (d : Data) (low : b + 48 < SEGMENT_BYTES) (globa
       let last = at c ninth 0 d2 in
       let stops : step (going last) ≡ ended (Ended (Trap BadCall)) last =
       step_acts (trap 17) last h.1.1.1.1.1.1.1.1.1.0 refl in
-      ends_late 3 1 1 (Ended (Trap BadCall)) (at c b 0 d) last c d.outside.history
+      ends_late 3 1 1 (Ended (Trap BadCall)) (at c b 0 d) last c d.outside
       (reaches_on {k = 1} {n = 2} shifts r) (ends_in 1 (Ended (Trap BadCall)) last c ninth d2 stops)
 
   -- the row
@@ -142,7 +142,7 @@ module _ (c : Code) (b n : ℕ) (d : Data) (low : b + 48 < SEGMENT_BYTES) (globa
   d2 = set 24 (8 * v) d1
 
   abbrev d3 : Data
-  d3 = set 24 (542179328 + 8 * v) d2
+  d3 = set 24 (FUNCTION_TABLE + 8 * v) d2
 
   abbrev d4 : Data
   d4 = set 25 (d.table v).1 d3
@@ -155,13 +155,13 @@ module _ (c : Code) (b n : ℕ) (d : Data) (low : b + 48 < SEGMENT_BYTES) (globa
 
   loads : v < 65536 → Leaves (addu 24 24 28 ∷ lw 25 4 24 ∷ lw 24 0 24 ∷ xori 25 25 n ∷ []) 0 d2 0 d6
   loads less =
-      let m : (8 * v + d.registers 28) % 4294967296 ≡ 542179328 + 8 * v = omega (arith, global, less) in
+      let m : (8 * v + d.registers 28) % 4294967296 ≡ FUNCTION_TABLE + 8 * v = omega (arith, global, less) in
       let sum : Leaves (addu 24 24 28 ∷ []) 0 d2 0 d3 = λ rest. rw m refl in
-      let a1 : (542179328 + 8 * v + 4) % 4294967296 ≡ 542179328 + 4 * (2 * v + 1) = omega (arith, less) in
-      let a0 : (542179328 + 8 * v + 0) % 4294967296 ≡ 542179328 + 4 * (2 * v) = omega (arith, less) in
-      let e1 : effect (lw 25 4 24) d3 ≡ Loads 25 d4 = table_load 25 ((542179328 + 8 * v + 4) % 4294967296) (2 * v + 1)
+      let a1 : (FUNCTION_TABLE + 8 * v + 4) % 4294967296 ≡ FUNCTION_TABLE + 4 * (2 * v + 1) = omega (arith, less) in
+      let a0 : (FUNCTION_TABLE + 8 * v + 0) % 4294967296 ≡ FUNCTION_TABLE + 4 * (2 * v) = omega (arith, less) in
+      let e1 : effect (lw 25 4 24) d3 ≡ Loads 25 d4 = table_load 25 ((FUNCTION_TABLE + 8 * v + 4) % 4294967296) (2 * v + 1)
       d3 refl a1 (omega (arith, less)) ∙ ap (λ x. Loads 25 (set 25 x d3)) (row_count d.table v) in
-      let e0 : effect (lw 24 0 24) d4 ≡ Loads 24 d5 = table_load 24 ((542179328 + 8 * v + 0) % 4294967296) (2 * v) d4
+      let e0 : effect (lw 24 0 24) d4 ≡ Loads 24 d5 = table_load 24 ((FUNCTION_TABLE + 8 * v + 0) % 4294967296) (2 * v) d4
       refl a0 (omega (arith, less)) ∙ ap (λ x. Loads 24 (set 24 x d4)) (row_address d.table v) in
       leaves_on (addu 24 24 28 ∷ []) (lw 25 4 24 ∷ lw 24 0 24 ∷ xori 25 25 n ∷ []) 0 0 0 d2 d3 d6 sum
       (leaves_on (lw 25 4 24 ∷ []) (lw 24 0 24 ∷ xori 25 25 n ∷ []) 0 25 0 d3 d4 d6
@@ -185,7 +185,7 @@ module _ (c : Code) (b n : ℕ) (d : Data) (low : b + 48 < SEGMENT_BYTES) (globa
   counts = bit_xor (d.table v).1 n
 
   -- another count
-  pub other_ends : v < 65536 → (d.table v).1 ≢ n → EndsIn 10 10 (Ended (Trap BadCall)) (at c b 0 d) c d.outside.history
+  pub other_ends : v < 65536 → (d.table v).1 ≢ n → EndsIn 10 10 (Ended (Trap BadCall)) (at c b 0 d) c d.outside
   other_ends less ne =
       let some : nat_eq counts 0 ≡ false =
       ne_eqb counts 0 (λ e. ne (let s = xor_add_and (d.table v).1 n in let l = and_le_l (d.table v).1 n in let r =
@@ -196,7 +196,7 @@ module _ (c : Code) (b n : ℕ) (d : Data) (low : b + 48 < SEGMENT_BYTES) (globa
       let last = at c ninth 0 d6 in
       let stops : step (going last) ≡ ended (Ended (Trap BadCall)) last =
       step_acts (trap 17) last h.1.1.1.1.1.1.1.1.1.0 refl in
-      ends_late 9 1 1 (Ended (Trap BadCall)) (at c b 0 d) last c d.outside.history
+      ends_late 9 1 1 (Ended (Trap BadCall)) (at c b 0 d) last c d.outside
       (reaches_on {k = 7} {n = 2} (row_reads less) r) (ends_in 1 (Ended (Trap BadCall)) last c ninth d6 stops)
 
   -- the same count: control goes to the address

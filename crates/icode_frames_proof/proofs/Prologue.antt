@@ -5,16 +5,16 @@ use Rattle.std.proofs.Common.{◌++◌, refl, sym, ap, ◌∙◌, subst, arith, 
 use Rattle.std.specs.Fn.{iterate}
 use Rattle.std.proofs.lemmas.Bool.{ne_eqb, cases_eq}
 use Rattle.std.proofs.lemmas.Bool.Decides.{nat_tests}
-use Rattle.word32.specs.declared.map.TheConstants.{OBJECTS_END, SEGMENT_BYTES}
+use Rattle.word32.specs.declared.map.TheConstants.{OBJECTS_END, SEGMENT_BYTES, STACK}
 use Rattle.pace.proofs.Runs.{iterate_add}
 use Rattle.word32.specs.Words.{difference}
 use Rattle.word32.specs.Space.{update}
 use Rattle.host_edge.specs.declared.ending.Ending.TheVariants.{Trap}
 use Rattle.host_edge.specs.declared.ending.TrapKind.TheVariants.{StackLimit, FrameLimit}
-use Rattle.history.specs.Events.{Item, End, Ended}
+use Rattle.history.specs.Events.{End, Ended}
 use Rattle.mips_encoder.specs.declared.instruction.Instr.{Instr}
 use Rattle.mips_encoder.specs.Addresses.{past}
-use Rattle.mips_model.specs.State.{Code, Data, State, World}
+use Rattle.mips_model.specs.State.{Outside, Code, Data, State, World}
 use Rattle.mips_model.specs.Arithmetic.{bit}
 use Rattle.mips_model.specs.Accesses.{Branches}
 use Rattle.mips_model.specs.Effects.{effect}
@@ -34,13 +34,13 @@ use Rattle.limits.specs.declared.run.TheConstants.{MOST_FRAME_BYTES}
 use Rattle.icode_frames_proof.proofs.Entering.{test_code, charged, frame_tests}
 
 pub ends_in : (k : ℕ) (end : End) (s : State) (c : Code) (a : ℕ) (d : Data) → iterate step k (going s) ≡ ended end
-    (at c a 0 d) → EndsIn k k end s c d.outside.history
+    (at c a 0 d) → EndsIn k k end s c d.outside
 ends_in k end s c a d e = record {
   count = k;
   over = omega arith;
   under = omega arith;
   ending = ap (λ (w : World). w.ending) e;
-  history_is = ap (λ (w : World). w.state.d.outside.history) e;
+  outside_is = ap (λ (w : World). w.state.d.outside) e;
   code_is = ap (λ (w : World). w.state.code) e;
 }
 
@@ -145,7 +145,7 @@ objects_run n c a d low fits h = elim (cases_eq n 0) [
 -- or they don't
 pub objects_end : (n : ℕ) (c : Code) (a : ℕ) (d : Data) → n ≤ MOST_FRAME_BYTES → d.registers 30 ≤ OBJECTS_END
     → OBJECTS_END < d.registers 30 + n → HasAt c a (take_objects n)
-    → EndsIn 8 8 (Ended (Trap FrameLimit)) (at c a 0 d) c d.outside.history
+    → EndsIn 8 8 (Ended (Trap FrameLimit)) (at c a 0 d) c d.outside
 objects_end n c a d small top over h =
     let ne : n ≢ 0 = λ e. omega (arith, e, top, over) in
     let g = subst (HasAt c a) (some_is n ne) h in
@@ -167,13 +167,13 @@ objects_end n c a d small top over h =
     ∙ ap step all.by ∙ stops)
 
 -- the stack's limit is passed
-pub frame_end : (frame : ℕ) (c : Code) (a : ℕ) (d : Data) → frame ≤ MOST_FRAME_BYTES → 2130706432 ≤ pointer d
-    → pointer d ≤ 2147483648 → pointer d < frame + 2130706432 → HasAt c a (take_frame frame)
-    → EndsIn 8 8 (Ended (Trap StackLimit)) (at c a 0 d) c d.outside.history
+pub frame_end : (frame : ℕ) (c : Code) (a : ℕ) (d : Data) → frame ≤ MOST_FRAME_BYTES → STACK ≤ pointer d
+    → pointer d ≤ 2147483648 → pointer d < frame + STACK → HasAt c a (take_frame frame)
+    → EndsIn 8 8 (Ended (Trap StackLimit)) (at c a 0 d) c d.outside
 frame_end frame c a d small from top over h =
     let d1 = charged frame d in
     let b = a + 4 + 4 + 4 + 4 + 4 in
-    let test : nat_lt (difference (pointer d) frame) 2130706432 ≡ true =
+    let test : nat_lt (difference (pointer d) frame) STACK ≡ true =
     grind (arith, nat_tests, from, top, over, small) in
     let falls : effect (beq 25 0 2) d1 ≡ Branches false 2 = rw test refl in
     let tests = leaves_run (test_code frame) c 0 0 a d d1 (frame_tests frame d)
@@ -187,9 +187,9 @@ frame_end frame c a d small from top over h =
     ends_in 8 (Ended (Trap StackLimit)) (at c a 0 d) c (b + 4 + 4) d1 (iterate_add step 7 1 (going (at c a 0 d))
     ∙ ap step all.by ∙ stops)
 
-pub ends_late : (k least most : ℕ) (end : End) (s mid : State) (c : Code) (history : List Item) → Reaches k s mid
-    → EndsIn least most end mid c history → EndsIn (k + least) (k + most) end s c history
-ends_late k least most end s mid c history r e =
+pub ends_late : (k least most : ℕ) (end : End) (s mid : State) (c : Code) (outside : Outside) → Reaches k s mid
+    → EndsIn least most end mid c outside → EndsIn (k + least) (k + most) end s c outside
+ends_late k least most end s mid c outside r e =
     let by : iterate step (k + e.count) (going s) ≡ iterate step e.count (going mid) =
     iterate_add step k e.count (going s) ∙ ap (iterate step e.count) r.by in
     record {
@@ -197,6 +197,6 @@ ends_late k least most end s mid c history r e =
       over = omega (arith, e.over);
       under = omega (arith, e.under);
       ending = ap (λ (w : World). w.ending) by ∙ e.ending;
-      history_is = ap (λ (w : World). w.state.d.outside.history) by ∙ e.history_is;
+      outside_is = ap (λ (w : World). w.state.d.outside) by ∙ e.outside_is;
       code_is = ap (λ (w : World). w.state.code) by ∙ e.code_is;
     }

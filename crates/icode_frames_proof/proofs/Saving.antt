@@ -3,6 +3,7 @@ use Rattle.std.proofs.Common.{◌≡◌, ◌≢◌, ◌⊎◌, inl, inr, ℕ, su
 use Rattle.std.proofs.Common.{◌++◌, refl, sym, ◌∙◌, subst, arith, nat_eq, nat_lt, nat_le}
 use Rattle.std.proofs.lemmas.Bool.{ne_eqb, cases_Bool}
 use Rattle.std.proofs.lemmas.Bool.Decides.{nat_tests}
+use Rattle.word32.specs.declared.map.TheConstants.{STACK}
 use Rattle.word32.specs.Space.{update}
 use Rattle.mips_encoder.specs.declared.instruction.Instr.{Instr}
 use Rattle.mips_model.specs.State.{Data}
@@ -28,7 +29,7 @@ pub store_leaves : (r offset bytes : ℕ) (d : Data) → nat_eq r 0 ≡ false �
 store_leaves r offset bytes d n0 f near room even rest =
     let o : nat_lt offset 32768 ≡ true = grind (arith, nat_tests) in
     let m : (d.registers 29 + offset) % 4294967296 ≡ d.registers 29 + offset = omega (arith, f.to, room) in
-    let t1 : nat_le 2130706432 (d.registers 29 + offset) ≡ true = grind (arith, nat_tests, f.from) in
+    let t1 : nat_le STACK (d.registers 29 + offset) ≡ true = grind (arith, nat_tests, f.from) in
     let t2 : nat_lt (d.registers 29 + offset) 2147483648 ≡ true = grind (arith, nat_tests, f.to, room) in
     let z : nat_eq ((d.registers 29 + offset) % 4) 0 ≡ true = grind (arith, nat_tests, f.even, even) in
     rw (o, m, t1, t2, z, n0)
@@ -39,7 +40,7 @@ pub fetch_leaves : (t l offset bytes : ℕ) (d : Data) → nat_eq t 0 ≡ false 
 fetch_leaves t l offset bytes d n0 hz f near room even rest =
     let o : nat_lt offset 32768 ≡ true = grind (arith, nat_tests) in
     let m : (d.registers 29 + offset) % 4294967296 ≡ d.registers 29 + offset = omega (arith, f.to, room) in
-    let t1 : nat_le 2130706432 (d.registers 29 + offset) ≡ true = grind (arith, nat_tests, f.from) in
+    let t1 : nat_le STACK (d.registers 29 + offset) ≡ true = grind (arith, nat_tests, f.from) in
     let t2 : nat_lt (d.registers 29 + offset) 2147483648 ≡ true = grind (arith, nat_tests, f.to, room) in
     let z : nat_eq ((d.registers 29 + offset) % 4) 0 ≡ true = grind (arith, nat_tests, f.even, even) in
     rw (hz, o, m, t1, t2, z, n0)

@@ -24,7 +24,7 @@ abbrev pub StackLimitTraps : Type 0
 StackLimitTraps =
     (f : Function) (places : List ℕ) (c : Code) (d : Data) → Stands c f places
     → STACK ≤ pointer d → pointer d ≤ STACK_TOP → pointer d < f.charge + STACK
-    → EndsIn 8 8 (Ended (Trap StackLimit)) (at c f.address 0 d) c d.outside.history
+    → EndsIn 8 8 (Ended (Trap StackLimit)) (at c f.address 0 d) c d.outside
 
 -- the frame is within it, and its objects over the limit of theirs
 abbrev pub FrameLimitTraps : Type 0
@@ -32,7 +32,7 @@ FrameLimitTraps =
     (f : Function) (places : List ℕ) (c : Code) (d : Data) → Stands c f places
     → f.charge + STACK ≤ pointer d → pointer d ≤ STACK_TOP → pointer d % 4 ≡ 0 → d.registers 28 ≡ GLOBAL_POINTER
     → d.registers 30 ≤ OBJECTS_END → OBJECTS_END < d.registers 30 + f.object
-    → EndsIn 17 33 (Ended (Trap FrameLimit)) (at c f.address 0 d) c d.outside.history
+    → EndsIn 17 33 (Ended (Trap FrameLimit)) (at c f.address 0 d) c d.outside
 
 abbrev pub FunctionsLeave : Type 0
 FunctionsLeave =

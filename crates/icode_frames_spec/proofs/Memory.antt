@@ -5,11 +5,10 @@ use Rattle.word32.specs.declared.map.TheConstants.{NEXT_HEAP_CELL, ACTIVE_CALLS_
 use Rattle.history.specs.Events.{Input}
 use Rattle.mips_model.specs.State.{Data, Outside}
 use Rattle.meaning_state.specs.Shared.{Shared}
-use Rattle.icode_meaning.specs.State.{Program}
 use Rattle.icode_meaning.specs.Steps.{counted}
 use Rattle.icode_templates_proof.specs.Spots.{SameWorld}
 use Rattle.icode_templates_proof.proofs.Memory.{update_same, update_other}
-use Rattle.icode_frames_spec.specs.Settings.{Published}
+use Rattle.icode_frames_spec.specs.Settings.{Setting, Published}
 use Rattle.icode_frames_spec.specs.Frames.{Counted, counted_cells}
 use Rattle.icode_frames_spec.specs.Relation.{MemoryAgrees, IsHeapPlace}
 
@@ -41,12 +40,12 @@ nothing_counted w = record {
 }
 
 -- the extents of stack and frame objects may have changed on the staged machine's side
-pub memory_counted : (program : Program) (shared shared' : Shared) (active : ℕ) (counts : Bool) (by : ℕ)
+pub memory_counted : (s : Setting) (shared shared' : Shared) (active : ℕ) (counts : Bool) (by : ℕ)
     (d after : Data)
     → shared'.history ≡ shared.history → shared'.input ≡ shared.input → shared'.objects ≡ shared.objects
-    → shared'.heap ≡ shared.heap → Counted counts by d after → MemoryAgrees program shared active d
-    → MemoryAgrees program shared' (counted counts by active) after
-memory_counted program shared shared' active counts by d after eh ei eo ep n h = record {
+    → shared'.heap ≡ shared.heap → Counted counts by d after → MemoryAgrees s shared active d
+    → MemoryAgrees s shared' (counted counts by active) after
+memory_counted s shared shared' active counts by d after eh ei eo ep n h = record {
   history = ap (λ (o : Outside). o.history) n.outside ∙ h.history ∙ sym eh;
   input = ap (λ (o : Outside). o.input) n.outside ∙ h.input ∙ sym ei;
   at_end =
@@ -60,10 +59,11 @@ memory_counted program shared shared' active counts by d after eh ei eo ep n h =
       ap (λ (c : ℕ → ℕ). c (ACTIVE_CALLS_CELL / 4)) n.cells ∙ count_is counts by d.cells
       ∙ ap (λ x. counted counts by x) h.active_calls;
   active_word = counted_word counts by active h.active_word;
-  table = subst (Published program) (sym n.table) h.table;
+  table = subst (Published s.program) (sym n.table) h.table;
+  making = ap (λ (o : Outside). o.making) n.outside ∙ h.making;
 }
 
-pub memory_kept : (program : Program) (shared : Shared) (active : ℕ) (d after : Data) → SameWorld d after
-    → MemoryAgrees program shared active d → MemoryAgrees program shared active after
-memory_kept program shared active d after w h =
-    memory_counted program shared shared active false 0 d after refl refl refl refl (nothing_counted w) h
+pub memory_kept : (s : Setting) (shared : Shared) (active : ℕ) (d after : Data) → SameWorld d after
+    → MemoryAgrees s shared active d → MemoryAgrees s shared active after
+memory_kept s shared active d after w h =
+    memory_counted s shared shared active false 0 d after refl refl refl refl (nothing_counted w) h

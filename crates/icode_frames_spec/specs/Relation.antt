@@ -12,7 +12,7 @@ use Rattle.mips_model.specs.Laws.{at}
 use Rattle.mips_model.specs.Run as run
 use Rattle.icode_ops.specs.declared.op.Op.TheVariants.{Clear}
 use Rattle.meaning_state.specs.Shared.{Shared}
-use Rattle.icode_meaning.specs.State.{Program, Frame, Log, State, Running, Zeroing, Halted, Stuck, nothing, see}
+use Rattle.icode_meaning.specs.State.{Frame, Log, State, Running, Zeroing, Halted, Stuck, nothing, see}
 use Rattle.icode_meaning.specs.State.{least_at, most_at}
 use Rattle.icode_templates_proof.specs.Spots.{pointer, frame_word}
 use Rattle.icode_templates_proof.specs.Moves.{behind}
@@ -26,8 +26,8 @@ abbrev pub IsHeapPlace : ℕ → Type 0
 IsHeapPlace heap = (heap ≤ FRAMES) × (heap % 8 ≡ 0)
 
 -- What outlives a call and is in no register agrees: the events, the input and whether its end was read, the objects,
--- the cells, and the function table.
-pub record MemoryAgrees (program : Program) (shared : Shared) (active : ℕ) (d : Data) : Type 0 where
+-- the cells, and the function table; and the services that make code have left what they had.
+pub record MemoryAgrees (s : Setting) (shared : Shared) (active : ℕ) (d : Data) : Type 0 where
   pub history : d.outside.history ≡ shared.history
   pub input : d.outside.input ≡ shared.input
   pub at_end : d.outside.at_end ≡ true → (shared.input.bytes ≡ []) × (shared.input.failing ≡ false)
@@ -37,7 +37,8 @@ pub record MemoryAgrees (program : Program) (shared : Shared) (active : ℕ) (d 
   pub heap_place : IsHeapPlace shared.heap
   pub active_calls : d.cells (ACTIVE_CALLS_CELL / 4) ≡ active
   pub active_word : active < 4294967296
-  pub table : Published program d.table
+  pub table : Published s.program d.table
+  pub making : d.outside.making ≡ s.making
 
 -- and so do the ends of the stack, at $sp, and of the frame objects, at $fp
 pub record ExtentsAgree (shared : Shared) (d : Data) : Type 0 where
@@ -59,7 +60,7 @@ pub record Holds (s : Setting) (w : Frame) (arguments : ℕ → Option ℕ) (ans
     (log : Log) (d : Data) : Type 0 where
   pub known : s.program.function_at w.function.address ≡ Some w.function
   pub ready : FrameAgrees s w d
-  pub memory : MemoryAgrees s.program log.shared log.active d
+  pub memory : MemoryAgrees s log.shared log.active d
   pub extents : ExtentsAgree log.shared d
   pub passed : ArgumentsAgree arguments d
   pub answered : AnswerAgrees answer d
@@ -90,9 +91,9 @@ pub record ZeroesAt (s : Setting) (more address : ℕ) (w : Frame) (waiting : Li
   pub even : address % 4 ≡ 0
   pub is : b ≡ going (at s.code (op_stands_at w.function (places_of s w.function) w.index + 24) 0 d)
 
--- the same is seen of both, and the code is the setting's
+-- the same is seen of both, the code is the setting's, and no code was made
 abbrev pub LooksLike : Setting → State → World → Type 0
-LooksLike s a b = (see a ≡ run.see b) × (b.state.code ≡ s.code)
+LooksLike s a b = (see a ≡ run.see b) × (b.state.code ≡ s.code) × (b.state.d.outside.making ≡ s.making)
 
 -- the setting, with code and program, and the staged state are related to the world
 abbrev pub Related : Setting → State → World → Type 0

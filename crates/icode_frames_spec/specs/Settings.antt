@@ -3,7 +3,7 @@
 -- Code, functions and numbers may be added during the run. The rules are this project's own.
 use Rattle.std.specs.Prelude.{◌≡◌, ℕ, ◌<◌, List, Some, None}
 use Rattle.word32.specs.declared.map.TheConstants.{FUNCTION_ROWS, UNPUBLISHED}
-use Rattle.mips_model.specs.State.{Code}
+use Rattle.mips_model.specs.State.{Making, Code}
 use Rattle.mips_model.specs.Laws.{HasAt, Grows}
 use Rattle.icode_ops.specs.Kinds.{run_number}
 use Rattle.icode_ops.specs.declared.kind.RunKind.TheVariants.{Malloc}
@@ -18,6 +18,8 @@ pub record Setting : Type 0 where
   -- by a function's address
   pub places_at : ℕ → List ℕ
   pub exit : ℕ
+  -- what the services that make code have left: no op of a program calls one
+  pub making : Making
 
 abbrev pub places_of : Setting → Function → List ℕ
 places_of s f = s.places_at f.address

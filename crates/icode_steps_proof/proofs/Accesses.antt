@@ -71,6 +71,7 @@ module _ (s : Setting) (st : Standing s) where
           active_calls = h.memory.active_calls;
           active_word = h.memory.active_word;
           table = h.memory.table;
+          making = h.memory.making;
         };
         extents = record { used = h.extents.used; frames = h.extents.frames };
         passed = record { known = λ k y e. absurd cc; stand = λ k y e. absurd cc };
@@ -141,8 +142,8 @@ module _ (s : Setting) (st : Standing s) where
         by (Some trap) e =
             let o = Load kind to from in
             let x = first_operand s st w d o from h.known h.ready i refl (and_parts (w.on from) true u).0 in
-            end_pays s log (paid o log) (at s.code a 0 d) 6 9 (Ended (Trap trap)) d.outside.history
-            (omega arith) (omega arith) h.memory.history
+            end_pays s log (paid o log) (at s.code a 0 d) 6 9 (Ended (Trap trap)) d.outside
+            (omega arith) (omega arith) h.memory.history h.memory.making
             (load_ends kind s.code a f.charge d (spot to) (spot from) (load_low kind to from i) h.ready.framed
             (spots f places from stands.suits x.inside) x.word (one_stands s.code f places stands w.index o i) trap
             (ap (λ n. access_trap n kind) x.value_is ∙ e))
@@ -186,8 +187,8 @@ module _ (s : Setting) (st : Standing s) where
             let q = and_parts (w.on to) (w.on from) u in
             let x = first_operand s st w d o to h.known h.ready i refl q.0 in
             let y = second_operand s st w d o from h.known h.ready i refl q.1 in
-            end_pays s log (paid o log) (at s.code a 0 d) 7 12 (Ended (Trap trap)) d.outside.history
-            (omega arith) (omega arith) h.memory.history
+            end_pays s log (paid o log) (at s.code a 0 d) 7 12 (Ended (Trap trap)) d.outside
+            (omega arith) (omega arith) h.memory.history h.memory.making
             (store_ends kind s.code a f.charge d (spot to) (spot from) (store_low kind to from i) h.ready.framed
             (spots f places to stands.suits x.inside) (spots f places from stands.suits y.inside) x.word y.word
             (one_stands s.code f places stands w.index o i) trap (ap (λ n. access_trap n kind) x.value_is ∙ e))

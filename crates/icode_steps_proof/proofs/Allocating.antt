@@ -1,5 +1,5 @@
 -- The routine of malloc as an op.
-use Rattle.std.proofs.Common.{◌≡◌, inl, inr, ℕ, ◌+◌, ◌-◌, ◌*◌, ◌/◌, ◌%◌, ◌<◌, ◌≤◌, true, false, List, ◌++◌, Option}
+use Rattle.std.proofs.Common.{◌≡◌, inl, inr, ℕ, ◌+◌, ◌-◌, ◌*◌, ◌/◌, ◌%◌, ◌≤◌, true, false, List, ◌++◌, Option}
 use Rattle.std.proofs.Common.{Some, None, refl, sym, ap, ◌∙◌, subst, arith, nat_le, slice_get}
 use Rattle.std.proofs.lemmas.Bool.{and_parts}
 use Rattle.std.proofs.lemmas.Bool.{cases_Bool}
@@ -12,7 +12,7 @@ use Rattle.mips_model.proofs.Reach.{past_append}
 use Rattle.icode_ops.specs.Kinds.{run_number}
 use Rattle.icode_ops.specs.declared.op.Op.TheVariants.{Run}
 use Rattle.icode_ops.specs.declared.kind.RunKind.TheVariants.{Malloc}
-use Rattle.icode_meaning.specs.State.{Function, Program, Frame, Log, Running, nothing}
+use Rattle.icode_meaning.specs.State.{Function, Frame, Log, Running, nothing}
 use Rattle.icode_meaning.specs.Steps.{uses_on, paid, sharing, set}
 use Rattle.meaning_state.specs.Shared.{Shared, malloc, malloc_answer}
 use Rattle.icode_templates.specs.Layout.{Spot}
@@ -61,15 +61,15 @@ even_behind : (v heap : ℕ) → heap % 8 ≡ 0 → (heap + (v + 7) / 8 * 8) % 8
 even_behind v heap even = omega (arith, even)
 
 -- the heap is as malloc leaves it
-memory_allotted : (program : Program) (shared : Shared) (active v to : ℕ) (d : Data)
-    → MemoryAgrees program shared active d
-    → MemoryAgrees program (malloc v shared) active (allotted v (linked to d))
-memory_allotted program shared active v to d h = elim (cases_Bool (nat_le v (FRAMES - shared.heap))) [
+memory_allotted : (s : Setting) (shared : Shared) (active v to : ℕ) (d : Data)
+    → MemoryAgrees s shared active d
+    → MemoryAgrees s (malloc v shared) active (allotted v (linked to d))
+memory_allotted s shared active v to d h = elim (cases_Bool (nat_le v (FRAMES - shared.heap))) [
   | inl t ↦ let t' : nat_le v (FRAMES - heap_of d) ≡ true = ap (λ n. nat_le v (FRAMES - n)) h.heap ∙ t in
       let next = shared.heap + (v + 7) / 8 * 8 in
       let next' = heap_of d + (v + 7) / 8 * 8 in
       let room : v ≤ FRAMES - shared.heap = grind (arith, nat_tests, t) in
-      let moved : MemoryAgrees program (record shared { heap = next }) active (with_heap next' (linked to d)) =
+      let moved : MemoryAgrees s (record shared { heap = next }) active (with_heap next' (linked to d)) =
       record {
         history = h.history;
         input = h.input;
@@ -85,10 +85,11 @@ memory_allotted program shared active v to d h = elim (cases_Bool (nat_le v (FRA
             ∙ h.active_calls;
         active_word = h.active_word;
         table = h.table;
+        making = h.making;
       } in
       rw (t, t') moved
   | inr t ↦ let t' : nat_le v (FRAMES - heap_of d) ≡ false = ap (λ n. nat_le v (FRAMES - n)) h.heap ∙ t in
-      let same : MemoryAgrees program shared active (linked to d) = record {
+      let same : MemoryAgrees s shared active (linked to d) = record {
         history = h.history;
         input = h.input;
         at_end = h.at_end;
@@ -99,6 +100,7 @@ memory_allotted program shared active v to d h = elim (cases_Bool (nat_le v (FRA
         active_calls = h.active_calls;
         active_word = h.active_word;
         table = h.table;
+        making = h.making;
       } in
       rw (t, t') same
 ]
@@ -126,7 +128,7 @@ module _ (s : Setting) (st : Standing s) where
       record {
         known = h.known;
         ready = ready_alike s w (suits_known s st f h.known) al h.ready;
-        memory = memory_allotted s.program log.shared log.active v to d h.memory;
+        memory = memory_allotted s log.shared log.active v to d h.memory;
         extents = record {
           used = ap (λ n. n + (malloc v log.shared).used) (pointer_alike al) ∙ ap (λ n. pointer d + n)
               (used_same v log.shared) ∙ h.extents.used;

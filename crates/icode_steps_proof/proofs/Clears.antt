@@ -4,7 +4,7 @@ use Rattle.std.proofs.Common.{[]}
 use Rattle.std.proofs.Common.{◌∷◌, ◌++◌, refl, sym, ap, ◌∙◌, subst, arith, nat_eq, nat_lt, nat_le, if◌then◌else◌}
 use Rattle.std.proofs.lemmas.Bool.{cases_eq, cases_lt, eq-eqb, ne_eqb}
 use Rattle.std.proofs.lemmas.Bool.Decides.{nat_tests}
-use Rattle.word32.specs.declared.map.TheConstants.{OBJECTS, OBJECTS_END, SEGMENT_BYTES}
+use Rattle.word32.specs.declared.map.TheConstants.{OBJECTS, OBJECTS_END, SEGMENT_BYTES, STACK}
 use Rattle.word32.specs.Space.{update}
 use Rattle.word32.specs.declared.width.Width.TheVariants.{Word}
 use Rattle.flat_memory.specs.Map.{InObjects, region_of}
@@ -73,7 +73,7 @@ both_keep x y d =
 
 region_is : (a : ℕ) → OBJECTS ≤ a → a < OBJECTS_END → region_of a ≡ InObjects
 region_is a lo hi =
-    let t1 : nat_le 2130706432 a ≡ false = grind (arith, nat_tests) in
+    let t1 : nat_le STACK a ≡ false = grind (arith, nat_tests) in
     let t2 : nat_le OBJECTS a ≡ true = grind (arith, nat_tests) in
     let t3 : nat_lt a OBJECTS_END ≡ true = grind (arith, nat_tests) in
     rw (t1, t2, t3) refl

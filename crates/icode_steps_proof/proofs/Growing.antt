@@ -45,9 +45,9 @@ module _ (s s' : Setting) (g : Grown s s') where
       )
 
   pub holds_grown : (w : Frame) (arguments : ℕ → Option ℕ) (answer : Option ℕ) (waiting : List Frame) (log : Log)
-      (d : Data) → Published s'.program d.table
+      (d : Data) → Published s'.program d.table → d.outside.making ≡ s'.making
       → Holds s w arguments answer waiting log d → Holds s' w arguments answer waiting log d
-  holds_grown w arguments answer waiting log d rows h =
+  holds_grown w arguments answer waiting log d rows made h =
       let e = same_places w.function h.known in
       record {
         known = g.functions w.function.address w.function h.known;
@@ -63,6 +63,7 @@ module _ (s s' : Setting) (g : Grown s s') where
           active_calls = h.memory.active_calls;
           active_word = h.memory.active_word;
           table = rows;
+          making = made;
         };
         extents = h.extents;
         passed = h.passed;
@@ -72,4 +73,5 @@ module _ (s s' : Setting) (g : Grown s s') where
       }
 
 pub growth_keeps : GrowthKeeps
-growth_keeps s s' g w arguments answer waiting log d rows h = holds_grown s s' g w arguments answer waiting log d rows h
+growth_keeps s s' g w arguments answer waiting log d rows made h =
+    holds_grown s s' g w arguments answer waiting log d rows made h

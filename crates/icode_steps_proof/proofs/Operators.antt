@@ -8,7 +8,7 @@ use Rattle.host_edge.specs.declared.ending.TrapKind.{TrapKind}
 use Rattle.history.specs.Events.{Item, End, Ended}
 use Rattle.pace.specs.Pace.{Seen}
 use Rattle.mips_model.specs.State as machine
-use Rattle.mips_model.specs.State.{Data}
+use Rattle.mips_model.specs.State.{Outside, Data}
 use Rattle.mips_model.specs.Steps.{step, going}
 use Rattle.mips_model.specs.Run as run
 use Rattle.mips_encoder.specs.Addresses.{past}
@@ -39,21 +39,23 @@ use Rattle.icode_steps_proof.proofs.Paying.{Operand, first_operand, second_opera
 use Rattle.icode_steps_proof.proofs.Writes.{defined_inside, holds_set, write_pays, come_pays}
 
 -- the run ends
-pub end_pays : (s : Setting) (log log' : Log) (from : machine.State) (least most : ℕ) (end : End) (history : List Item)
-    → log'.least ≤ log.least + least → log.most + most ≤ log'.most → history ≡ log'.shared.history
-    → EndsIn least most end from s.code history → Pays s (Halted end log') log from
-end_pays s log log' from least most end history lo hi same e =
+pub end_pays : (s : Setting) (log log' : Log) (from : machine.State) (least most : ℕ) (end : End)
+    (outside : Outside)
+    → log'.least ≤ log.least + least → log.most + most ≤ log'.most → outside.history ≡ log'.shared.history
+    → outside.making ≡ s.making → EndsIn least most end from s.code outside → Pays s (Halted end log') log from
+end_pays s log log' from least most end outside lo hi same made e =
     let w = iterate step e.count (going from) in
     let seen1 : Seen Item End = record { history = log'.shared.history; ending = Some end } in
     let e1 : seen1 ≡ record { history = w.state.d.outside.history; ending = Some end } =
-    ap (λ x. record { history = x; ending = Some end }) (sym same ∙ sym e.history_is) in
+    ap (λ x. record { history = x; ending = Some end })
+    (sym same ∙ sym (ap (λ (o : Outside). o.history) e.outside_is)) in
     let e2 : record { history = w.state.d.outside.history; ending = Some end } ≡ run.see w =
     ap (λ x. record { history = w.state.d.outside.history; ending = x }) (sym e.ending) in
     record {
       count = e.count;
       low = omega (arith, lo, e.over);
       high = omega (arith, hi, e.under);
-      related = (e1 ∙ e2, e.code_is);
+      related = (e1 ∙ e2, e.code_is, ap (λ (o : Outside). o.making) e.outside_is ∙ made);
     }
 
 module _ (s : Setting) (st : Standing s) where
@@ -146,7 +148,7 @@ module _ (s : Setting) (st : Standing s) where
         → Pays s (untrapped trap log (goes_on (set to (bin_value kind (w.values left) (w.values right)) w) waiting
         (paid (Bin kind to left right) log))) log (at s.code a 0 d)
     bin_pays kind to left right i u None e = bin_goes kind to left right i u e
-    bin_pays kind to left right i u (Some k) e = stuck_pays s log a d h.memory.history
+    bin_pays kind to left right i u (Some k) e = stuck_pays s log a d h.memory
 
     pub zero_check_pays : (b : ℕ) → slice_get f.ops w.index ≡ Some (CheckZero b) → uses_on (CheckZero b) w.on ≡ true
         → (trap : Option TrapKind) → zero_trap (w.values b) ≡ trap
@@ -166,8 +168,8 @@ module _ (s : Setting) (st : Standing s) where
         let o = CheckZero b in
         let spot = (layout_of f places).spot b in
         let x = first_operand s st w d o b h.known h.ready i refl (and_parts (w.on b) true u).0 in
-        end_pays s log (paid o log) (at s.code a 0 d) 4 7 (Ended (Trap kind)) d.outside.history (omega arith)
-        (omega arith) h.memory.history
+        end_pays s log (paid o log) (at s.code a 0 d) 4 7 (Ended (Trap kind)) d.outside (omega arith)
+        (omega arith) h.memory.history h.memory.making
         (zero_checks_trap s.code a f.charge d spot kind (code_low s.code f places stands w.index o i) h.ready.framed
         (spots f places b stands.suits x.inside) x.word (ap zero_trap x.value_is ∙ e)
         (one_stands s.code f places stands w.index o i))
@@ -202,8 +204,8 @@ module _ (s : Setting) (st : Standing s) where
         by (Some kind) t x y =
             let o = CheckDivision l r in
             let spot = (layout_of f places).spot in
-            end_pays s log (paid o log) (at s.code a 0 d) 5 15 (Ended (Trap kind)) d.outside.history (omega arith)
-            (omega arith) h.memory.history
+            end_pays s log (paid o log) (at s.code a 0 d) 5 15 (Ended (Trap kind)) d.outside (omega arith)
+            (omega arith) h.memory.history h.memory.making
             (division_checks_trap s.code a f.charge d (spot l) (spot r) kind
             (code_low s.code f places stands w.index o i) h.ready.framed (spots f places l stands.suits x.inside)
             (spots f places r stands.suits y.inside) x.word y.word t (one_stands s.code f places stands w.index o i))

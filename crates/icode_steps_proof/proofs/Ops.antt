@@ -64,6 +64,7 @@ module _ (s : Setting) (st : Standing s) where
           active_calls = h.memory.active_calls;
           active_word = h.memory.active_word;
           table = h.memory.table;
+          making = h.memory.making;
         };
         extents = record { used = h.extents.used; frames = h.extents.frames };
         passed = record { known = λ k x e. absurd cc; stand = λ k x e. absurd cc };

@@ -12,7 +12,7 @@ use Rattle.icode_ops.specs.declared.op.Op.{Op}
 use Rattle.icode_ops.specs.Flow.{first_use, second_use, holds, uses}
 use Rattle.icode_ops.specs.Finished.{InRange}
 use Rattle.icode_templates.specs.Layout.{Spot, InRegister, InSlot}
-use Rattle.icode_meaning.specs.State.{Function, Program, Frame, Log, Running, Stuck, nothing}
+use Rattle.icode_meaning.specs.State.{Function, Frame, Log, Running, Stuck, nothing}
 use Rattle.icode_meaning.specs.Steps.{left, entered}
 use Rattle.icode_templates_proof.specs.Spots.{pointer, value, KeepsSpots, Usable, PutsTo, register_of}
 use Rattle.icode_templates_proof.specs.Moves.{Runs}
@@ -42,21 +42,21 @@ runs_pay s st w arguments answer waiting log log' from l m d' lo hi r h = record
 }
 
 -- what is stuck costs nothing
-pub stuck_pays : (s : Setting) (log : Log) (a : ℕ) (d : Data) → d.outside.history ≡ log.shared.history
+pub stuck_pays : (s : Setting) (log : Log) (a : ℕ) (d : Data) → MemoryAgrees s log.shared log.active d
     → Pays s (Stuck log) log (at s.code a 0 d)
 stuck_pays s log a d h = record {
   count = 0;
   low = omega arith;
   high = omega arith;
-  related = (ap (λ x. record { history = x; ending = None }) (sym h), refl);
+  related = (ap (λ x. record { history = x; ending = None }) (sym h.history), refl, h.making);
 }
 
 -- a call is over
-pub memory_left : (program : Program) (f : Function) (log : Log) (d after : Data)
-    → MemoryAgrees program log.shared log.active d → Counted f.compiled 4294967295 d after
-    → MemoryAgrees program (left f log).shared (left f log).active after
-memory_left program f log d after h n =
-    memory_counted program log.shared (discharged f.charge f.object log.shared) log.active f.compiled 4294967295 d after
+pub memory_left : (s : Setting) (f : Function) (log : Log) (d after : Data)
+    → MemoryAgrees s log.shared log.active d → Counted f.compiled 4294967295 d after
+    → MemoryAgrees s (left f log).shared (left f log).active after
+memory_left s f log d after h n =
+    memory_counted s log.shared (discharged f.charge f.object log.shared) log.active f.compiled 4294967295 d after
     refl refl refl refl n h
 
 pub extents_left : (f : Function) (log : Log) (d after : Data) → ExtentsAgree log.shared d
@@ -67,11 +67,11 @@ extents_left f log d after h room low ptr obj =
     record { used = omega (arith, ptr, h.used, room); frames = omega (arith, obj, h.frames, low) }
 
 -- a call has begun
-pub memory_entered : (program : Program) (f : Function) (log : Log) (d after : Data)
-    → MemoryAgrees program log.shared log.active d → Counted f.compiled 1 d after
-    → MemoryAgrees program (entered f log).shared (entered f log).active after
-memory_entered program f log d after h n =
-    memory_counted program log.shared (charged f.charge f.object log.shared) log.active f.compiled 1 d after
+pub memory_entered : (s : Setting) (f : Function) (log : Log) (d after : Data)
+    → MemoryAgrees s log.shared log.active d → Counted f.compiled 1 d after
+    → MemoryAgrees s (entered f log).shared (entered f log).active after
+memory_entered s f log d after h n =
+    memory_counted s log.shared (charged f.charge f.object log.shared) log.active f.compiled 1 d after
     refl refl refl refl n h
 
 pub extents_entered : (f : Function) (log : Log) (d after : Data) → ExtentsAgree log.shared d

@@ -4,6 +4,7 @@ use Rattle.std.proofs.Common.{subst, arith}
 use Rattle.std.proofs.Common.{nat_eq, nat_lt, nat_le}
 use Rattle.std.specs.Fn.{iterate}
 use Rattle.std.proofs.lemmas.Bool.Decides.{nat_tests}
+use Rattle.word32.specs.declared.map.TheConstants.{STACK}
 use Rattle.mips_encoder.specs.declared.instruction.Instr.{Instr}
 use Rattle.mips_model.specs.State.{Code, Data}
 use Rattle.mips_model.specs.Accesses.{Effect, Plain, Loads, Changes, ReadsText, ReadsArena, StoresText, Branches}
@@ -93,7 +94,7 @@ load_gentle c a bytes d (InRegister r) rest f u h = record { first = _; stands =
 load_gentle c a bytes d (InSlot false offset) rest f u h =
     let o : nat_lt offset 32768 ≡ true = grind (arith, nat_tests) in
     let m : (d.registers 29 + offset) % 4294967296 ≡ d.registers 29 + offset = omega (arith, f.to, u.1) in
-    let t1 : nat_le 2130706432 (d.registers 29 + offset) ≡ true = grind (arith, nat_tests, f.from) in
+    let t1 : nat_le STACK (d.registers 29 + offset) ≡ true = grind (arith, nat_tests, f.from) in
     let t2 : nat_lt (d.registers 29 + offset) 2147483648 ≡ true = grind (arith, nat_tests, f.to, u.1) in
     let z : nat_eq ((d.registers 29 + offset) % 4) 0 ≡ true = grind (arith, nat_tests, f.even, u.2) in
     let onward : IsOnward (effect (lw 24 offset 29) d) = rw (o, m, t1, t2, z) tt in

@@ -82,10 +82,10 @@ module _ (s : Setting) (st : Standing s) where
       → o.history ≡ shared.history → o.input ≡ shared.input
       → (o.at_end ≡ true → (shared.input.bytes ≡ []) × (shared.input.failing ≡ false))
       → shared.objects ≡ log.shared.objects → shared.heap ≡ log.shared.heap → shared.used ≡ log.shared.used
-      → shared.frames ≡ log.shared.frames
+      → shared.frames ≡ log.shared.frames → o.making ≡ s.making
       → Holds s w arguments answer waiting log d
       → Holds s w nothing None waiting (sharing shared log) (with_outside o d)
-  holds_outside w arguments answer waiting log shared o d eh ei ends eo ep eu ef h =
+  holds_outside w arguments answer waiting log shared o d eh ei ends eo ep eu ef em h =
       let f = w.function in
       let al = outside_alike o d in
       record {
@@ -102,6 +102,7 @@ module _ (s : Setting) (st : Standing s) where
           active_calls = h.memory.active_calls;
           active_word = h.memory.active_word;
           table = h.memory.table;
+          making = em;
         };
         extents = record {
           used = ap (λ n. pointer d + n) eu ∙ h.extents.used;
@@ -143,7 +144,7 @@ module _ (s : Setting) (st : Standing s) where
         write_pays s st w nothing None waiting log (sharing shared log) (at s.code a 0 d) o to v 6 11 (told v d) i refl
         refl (h.ready.words from) (omega arith) (omega arith) (omega arith) (omega arith)
         (holds_outside w arguments answer waiting log shared (told v d).outside d out h.memory.input h.memory.at_end
-        refl refl refl refl h)
+        refl refl refl refl h.memory.making h)
         (subst (λ y. Writes (spot to) y 6 11 (at s.code a 0 d) s.code (past a (op_code f places o)) (told y d))
         x.value_is
         (number_writes s.code a f.charge d (spot to) (spot from) h.ready.framed
@@ -156,9 +157,9 @@ module _ (s : Setting) (st : Standing s) where
     exit_pays to from i u =
         let o = Sys Exit to from in
         let x = first_operand s st w d o from h.known h.ready i refl (and_parts (w.on from) true u).0 in
-        end_pays s log (paid o log) (at s.code a 0 d) 4 7 (Ended (Done (w.values from % 256))) d.outside.history
-        (omega arith) (omega arith) h.memory.history
-        (subst (λ y. EndsIn 4 7 (Ended (Done (y % 256))) (at s.code a 0 d) s.code d.outside.history) x.value_is
+        end_pays s log (paid o log) (at s.code a 0 d) 4 7 (Ended (Done (w.values from % 256))) d.outside
+        (omega arith) (omega arith) h.memory.history h.memory.making
+        (subst (λ y. EndsIn 4 7 (Ended (Done (y % 256))) (at s.code a 0 d) s.code d.outside) x.value_is
         (exit_ends s.code a f.charge d (spot to) (spot from) h.ready.framed
         (spots f places from stands.suits x.inside) x.word (one_stands s.code f places stands w.index o i)))
 
@@ -188,7 +189,7 @@ module _ (s : Setting) (st : Standing s) where
         (heard x t input d) i refl refl word (omega arith) (omega arith) (omega arith) (omega arith)
         (holds_outside w arguments answer waiting log shared (heard x t input d).outside d z ei
         (λ e. subst (λ (y : Input). (y.bytes ≡ []) × (y.failing ≡ false)) ei (ends e))
-        eo ep eu ef h) wr
+        eo ep eu ef h.memory.making h) wr
 
     pub byte_pays : (to from : ℕ) → slice_get f.ops w.index ≡ Some (Sys GetByte to from)
         → uses_on (Sys GetByte to from) w.on ≡ true
@@ -222,8 +223,8 @@ module _ (s : Setting) (st : Standing s) where
         by Failing e =
             let o = Sys GetByte to from in
             let x = first_operand s st w d o from h.known h.ready i refl (and_parts (w.on from) true u).0 in
-            end_pays s log (paid o log) (at s.code a 0 d) 4 7 ReadFault d.outside.history
-            (omega arith) (omega arith) h.memory.history
+            end_pays s log (paid o log) (at s.code a 0 d) 4 7 ReadFault d.outside
+            (omega arith) (omega arith) h.memory.history h.memory.making
             (failure_ends s.code a f.charge d (spot to) (spot from) h.ready.framed
             (spots f places from stands.suits x.inside) x.word (not_at_end Failing e (λ q. absurd cc))
             (ap next_byte h.memory.input ∙ e) (one_stands s.code f places stands w.index o i))

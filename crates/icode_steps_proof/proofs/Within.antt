@@ -68,7 +68,7 @@ pub holds_next : (s : Setting) → Standing s → (w : Frame) (arguments argumen
     → Holds s w arguments answer waiting log d → Within w.function (places_of s w.function) d after
     → ((v : ℕ) → v < length (places_of s w.function) → Live w.function.ops v j → on v ≡ true
     → value after ((layout_of w.function (places_of s w.function)).spot v) ≡ m v)
-    → ((v : ℕ) → m v < 4294967296) → MemoryAgrees s.program log'.shared log'.active after → ExtentsAgree log'.shared
+    → ((v : ℕ) → m v < 4294967296) → MemoryAgrees s log'.shared log'.active after → ExtentsAgree log'.shared
     after → ArgumentsAgree arguments' after
     → Holds s (at_op j m on w) arguments' None waiting log' after
 holds_next s st w arguments arguments' answer waiting log log' j m on d after h wi agrees words memory extents passed =

@@ -137,7 +137,7 @@ module _ (s : Setting) (st : Standing s) where
             (subst (λ y. y < 4294967296) (sym (update_same dst x w.values)) word)
         | inr ne ↦ subst (λ y. y < 4294967296) (sym (update_other dst x w.values v ne)) (h.ready.words v)
       ])
-      (memory_kept s.program log.shared log.active d after put.world h.memory)
+      (memory_kept s log.shared log.active d after put.world h.memory)
       (extents_put log.shared f.charge ((layout_of f places).spot dst) x d after (spots f places dst suits inside) put
       h.extents)
       (none_passed after)
@@ -174,7 +174,7 @@ module _ (s : Setting) (st : Standing s) where
       (keeps_within f places cm.keeps)
       (λ v l live t. value_kept f.charge d cm.after ((layout_of f places).spot v) (spots f places v suits l) cm.keeps
       ∙ h.ready.agrees v l (live_before f.ops v w.index j o i (follows v live) (ap (holds v) df) live) t)
-      h.ready.words (memory_kept s.program log.shared log.active d cm.after cm.keeps.world h.memory)
+      h.ready.words (memory_kept s log.shared log.active d cm.after cm.keeps.world h.memory)
       (extents_kept log.shared d cm.after cm.keeps h.extents) (none_passed cm.after) in
       runs_pay s st (moved j w) nothing None waiting log (paid o log) from l m cm.after (omega (arith, lo))
       (omega (arith, hi)) (runs_to goes cm.runs) held

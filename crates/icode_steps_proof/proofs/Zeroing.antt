@@ -16,7 +16,7 @@ use Rattle.icode_ops.specs.declared.op.Op.{Op}
 use Rattle.icode_ops.specs.declared.op.Op.TheVariants.{Clear}
 use Rattle.icode_ops.specs.Live.{Live}
 use Rattle.icode_templates.specs.Templates.{clear_loop}
-use Rattle.icode_meaning.specs.State.{Function, Program, Frame, Log, Stuck, nothing, see}
+use Rattle.icode_meaning.specs.State.{Function, Frame, Log, Stuck, nothing, see}
 use Rattle.icode_meaning.specs.Steps.{paid, moved, address_of, zeroing, zeroed_on, word_zeroed}
 use Rattle.icode_templates_proof.proofs.Memory.{update_other}
 use Rattle.icode_templates_proof.proofs.Leaves.{leaves_run}
@@ -78,10 +78,10 @@ zero_word k m words n = by (nat_eq n k)
     by true = omega arith
     by false = words n
 
-memory_round : (program : Program) (shared : Shared) (active address : ℕ) (d : Data) → MemoryAgrees program shared
+memory_round : (s : Setting) (shared : Shared) (active address : ℕ) (d : Data) → MemoryAgrees s shared
     active d
-    → MemoryAgrees program (zeroed address 1 shared) active (round address d)
-memory_round program shared active address d h = record {
+    → MemoryAgrees s (zeroed address 1 shared) active (round address d)
+memory_round s shared active address d h = record {
   history = h.history;
   input = h.input;
   at_end = h.at_end;
@@ -94,6 +94,7 @@ memory_round program shared active address d h = record {
   active_calls = h.active_calls;
   active_word = h.active_word;
   table = h.table;
+  making = h.making;
 }
 
 module _ (s : Setting) (st : Standing s) where
@@ -109,7 +110,7 @@ module _ (s : Setting) (st : Standing s) where
       (λ v l live t. value_alike f.charge ((layout_of f places).spot v) (spots f places v suits l)
       (round_alike address d)
       ∙ h.ready.agrees v l (back v live) t)
-      h.ready.words (memory_round s.program log.shared log.active address d h.memory)
+      h.ready.words (memory_round s log.shared log.active address d h.memory)
       (record { used = h.extents.used; frames = h.extents.frames }) (none_passed (round address d))
 
   module _ (w : Frame) (waiting : List Frame) (offset words : ℕ)
@@ -234,7 +235,7 @@ module _ (s : Setting) (st : Standing s) where
           (keeps_within f places k)
           (λ v l live t. value_kept f.charge d mid ((layout_of f places).spot v) (spots f places v suits l) k
           ∙ h.ready.agrees v l live t)
-          h.ready.words (memory_kept s.program log.shared log.active d mid k.world h.memory)
+          h.ready.words (memory_kept s log.shared log.active d mid k.world h.memory)
           (extents_kept log.shared d mid k h.extents) (none_passed mid)
 
       first_is : mid.registers 24 ≡ address
@@ -259,7 +260,11 @@ module _ (s : Setting) (st : Standing s) where
             count = 6;
             low = omega arith;
             high = omega arith;
-            related = (stuck_seen, ap (λ (v : World). v.state.code) comes.by);
+            related = (
+              stuck_seen,
+              ap (λ (v : World). v.state.code) comes.by,
+              ap (λ (v : World). v.state.d.outside.making) comes.by ∙ holds_mid.memory.making,
+            );
           }
           by (suc more) z b = record {
             count = 6;

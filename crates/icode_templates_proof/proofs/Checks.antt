@@ -1,5 +1,5 @@
 -- The checks of divisions: a branch passes over each trap, or the run ends there.
-use Rattle.std.proofs.Common.{◌≡◌, ◌≢◌, inl, inr, ℕ, ◌+◌, ◌%◌, ◌<◌, ◌≤◌, true, false, List}
+use Rattle.std.proofs.Common.{◌≡◌, ◌≢◌, inl, inr, ℕ, ◌+◌, ◌%◌, ◌<◌, ◌≤◌, true, false}
 use Rattle.std.proofs.Common.{◌++◌, length, Some, None, refl, sym, ap, ◌∙◌, subst, arith, nat_eq}
 use Rattle.std.specs.Fn.{iterate}
 use Rattle.std.proofs.lemmas.Bool.{cases_eq, ne_eqb}
@@ -8,8 +8,8 @@ use Rattle.pace.proofs.Runs.{iterate_add}
 use Rattle.host_edge.specs.declared.ending.Ending.TheVariants.{Trap}
 use Rattle.host_edge.specs.declared.ending.TrapKind.{TrapKind}
 use Rattle.host_edge.specs.declared.ending.TrapKind.TheVariants.{DivideByZero, DivideOverflow}
-use Rattle.history.specs.Events.{Item, Ended}
-use Rattle.mips_model.specs.State.{Code, Data, State}
+use Rattle.history.specs.Events.{Ended}
+use Rattle.mips_model.specs.State.{Outside, Code, Data, State}
 use Rattle.mips_model.specs.Accesses.{Branches}
 use Rattle.mips_model.specs.Effects.{effect}
 use Rattle.mips_model.specs.Steps.{Is, fetch, going, ended, step}
@@ -28,9 +28,9 @@ use Rattle.icode_templates_proof.proofs.Operands.{one_in, in_leaves, keeps_one, 
 use Rattle.icode_templates_proof.proofs.Jumps.{branch_reaches}
 
 -- a run comes to a trap
-pub ends_by : {k l m : ℕ} {s : State} (c : Code) (a : ℕ) (d : Data) (kind : TrapKind) (history : List Item)
+pub ends_by : {k l m : ℕ} {s : State} (c : Code) (a : ℕ) (d : Data) (kind : TrapKind) (outside : Outside)
     → Reaches k s (at c a 0 d) → step (going (at c a 0 d)) ≡ ended (Ended (Trap kind)) (at c a 0 d)
-    → d.outside.history ≡ history → l ≤ k + 1 → k + 1 ≤ m → EndsIn l m (Ended (Trap kind)) s c history
+    → d.outside ≡ outside → l ≤ k + 1 → k + 1 ≤ m → EndsIn l m (Ended (Trap kind)) s c outside
 ends_by {k} {l} {m} {s} c a d kind history r e h lo hi =
     let all : iterate step (k + 1) (going s) ≡ ended (Ended (Trap kind)) (at c a 0 d) =
     iterate_add step k 1 (going s) ∙ ap step r.by ∙ e in
@@ -39,7 +39,7 @@ ends_by {k} {l} {m} {s} c a d kind history r e h lo hi =
       over = lo;
       under = hi;
       ending = ap (λ w. w.ending) all;
-      history_is = ap (λ w. w.state.d.outside.history) all ∙ h;
+      outside_is = ap (λ w. w.state.d.outside) all ∙ h;
       code_is = ap (λ w. w.state.code) all;
     }
 
@@ -114,15 +114,15 @@ module _ (c : Code) (a bytes : ℕ) (d : Data) (v : Spot) where
         }
 
     zero_check_traps : (kind : TrapKind) → zero_trap (value d v) ≡ Some kind
-        → EndsIn 4 7 (Ended (Trap kind)) (at c a 0 d) c d.outside.history
+        → EndsIn 4 7 (Ended (Trap kind)) (at c a 0 d) c d.outside
     zero_check_traps kind some =
         let n = in_between v in
         let z = by_zero (value d v) kind some in
-        subst (λ k. EndsIn 4 7 (Ended (Trap k)) (at c a 0 d) c d.outside.history) (sym z.1)
-        (ends_by c (there + 4 + 4) mid DivideByZero d.outside.history
+        subst (λ k. EndsIn 4 7 (Ended (Trap k)) (at c a 0 d) c d.outside) (sym z.1)
+        (ends_by c (there + 4 + 4) mid DivideByZero d.outside
         (reaches_on comes_in
         (zero_stays 24 7 c there mid refl (omega (arith, low, ends)) code (load_gives 24 v d ∙ z.0)))
-        (breaks_zero c (there + 4 + 4) mid code.1.1.0) (ap (λ o. o.history) (keeps_one v d).world.outside)
+        (breaks_zero c (there + 4 + 4) mid code.1.1.0) ((keeps_one v d).world.outside)
         (omega (arith, n.over)) (omega (arith, n.under)))
 
 pub zero_checks_pass : ZeroChecksPass

@@ -177,25 +177,25 @@ module _ (c : Code) (a bytes : ℕ) (d : Data) (v z : Spot)
   ]
 
   abbrev Ends : TrapKind → Type 0
-  Ends kind = EndsIn 5 15 (Ended (Trap kind)) (at c a 0 d) c d.outside.history
+  Ends kind = EndsIn 5 15 (Ended (Trap kind)) (at c a 0 d) c d.outside
 
   zero_traps : value d z ≡ 0 → Ends DivideByZero
   zero_traps e =
       let n = in_two_between v z in
-      ends_by c (there + 4 + 4) mid DivideByZero d.outside.history
+      ends_by c (there + 4 + 4) mid DivideByZero d.outside
       (reaches_on comes_in (zero_stays 25 7 c there mid refl (omega (arith, low, ends)) first_code (right_is ∙ e)))
-      (breaks_zero c (there + 4 + 4) mid code.1.1.0) (ap (λ o. o.history) (keeps_two v z d).world.outside)
+      (breaks_zero c (there + 4 + 4) mid code.1.1.0) ((keeps_two v z d).world.outside)
       (omega (arith, n.over)) (omega (arith, n.under))
 
   overflow_traps : value d v ≡ 2147483648 → value d z ≡ 4294967295 → Ends DivideOverflow
   overflow_traps x y =
       let n = in_two_between v z in
       let kept = keeps_on (keeps_two v z d) (scratch_kept mid) in
-      ends_by c (behind_zero + 4 + 4 + 4 + 4 + 4) (high_set (ones mid)) DivideOverflow d.outside.history
+      ends_by c (behind_zero + 4 + 4 + 4 + 4 + 4) (high_set (ones mid)) DivideOverflow d.outside
       (reaches_on (second_at (λ e. absurd (omega (arith, e, y))))
       (overflows c behind_zero mid (omega (arith, low, ends)) code.1.1.1 (right_is ∙ y) (left_is ∙ x)))
       (breaks_overflow c (behind_zero + 4 + 4 + 4 + 4 + 4) (high_set (ones mid)) code.1.1.1.1.1.1.1.1.0)
-      (ap (λ o. o.history) kept.world.outside) (omega (arith, n.over)) (omega (arith, n.under))
+      (kept.world.outside) (omega (arith, n.over)) (omega (arith, n.under))
 
 -- by the trap of a signed division
 pub divides : (a b : ℕ) → signed_trap a b ≡ None → Divides a b
@@ -211,12 +211,12 @@ division_checks_pass c a bytes d v z low f uv uz bv bz none h =
 pub division_checks_trap : DivisionChecksTrap
 division_checks_trap c a bytes d v z kind low f uv uz bv bz some h = elim (cases_eq (value d z) 0) [
   | inl e ↦ (let t = trapped (value d v) (value d z) e in let k : kind ≡ DivideByZero = cc in
-      subst (λ k. EndsIn 5 15 (Ended (Trap k)) (at c a 0 d) c d.outside.history) (sym k)
+      subst (λ k. EndsIn 5 15 (Ended (Trap k)) (at c a 0 d) c d.outside) (sym k)
       (zero_traps c a bytes d v z low f uv uz bv bz h e))
   | inr ne ↦ elim (cases_eq (value d z) 4294967295) [
     | inl y ↦ elim (cases_eq (value d v) 2147483648) [
       | inl x ↦ (let t = overflowing (value d v) (value d z) x y in let k : kind ≡ DivideOverflow = cc in
-          subst (λ k. EndsIn 5 15 (Ended (Trap k)) (at c a 0 d) c d.outside.history) (sym k)
+          subst (λ k. EndsIn 5 15 (Ended (Trap k)) (at c a 0 d) c d.outside) (sym k)
           (overflow_traps c a bytes d v z low f uv uz bv bz h x y))
       | inr m ↦ (let t = untrapped (value d v) (value d z) (record { some = ne; fits = λ p. m p.0 }) in
           let n : ⊥ = cc in absurd n)

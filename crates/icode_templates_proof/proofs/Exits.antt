@@ -16,7 +16,7 @@ use Rattle.icode_templates_proof.proofs.Serving.{argument_is, asking, service_en
 
 pub exit_ends : (c : Code) (a bytes : ℕ) (d : Data) (w v : Spot) → Framed (pointer d) bytes → Usable bytes v →
     value d v < 4294967296 → HasAt c a (in_code v ++ (service_code 10 ++ out_code w))
-    → EndsIn 4 7 (Ended (Done (value d v % 256))) (at c a 0 d) c d.outside.history
+    → EndsIn 4 7 (Ended (Done (value d v % 256))) (at c a 0 d) c d.outside
 exit_ends c a bytes d w v f u small h =
     service_ends 10 (Ended (Done (value d v % 256))) c a bytes d w v f u small (λ rest. refl)
     (λ b s. let there = at c b 0 (asking 10 (one_in v d)) in step_acts syscall there s.0 refl ∙

@@ -65,7 +65,7 @@ end_reads c a bytes d w v f u u' small e h =
 pub failure_ends : (c : Code) (a bytes : ℕ) (d : Data) (w v : Spot) → Framed (pointer d) bytes → Usable bytes v →
     value d v < 4294967296 → d.outside.at_end ≡ false → next_byte d.outside.input ≡ Failing
     → HasAt c a (in_code v ++ (service_code 12 ++ out_code w))
-    → EndsIn 4 7 ReadFault (at c a 0 d) c d.outside.history
+    → EndsIn 4 7 ReadFault (at c a 0 d) c d.outside
 failure_ends c a bytes d w v f u small e n h =
     service_ends 12 ReadFault c a bytes d w v f u small (λ rest. refl)
     (λ b s. step_acts syscall (at c b 0 (asking 12 (one_in v d))) s.0 refl ∙ rw (e, n) refl) h

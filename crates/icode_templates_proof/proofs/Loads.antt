@@ -2,7 +2,7 @@
 use Rattle.std.proofs.Common.{◌≡◌, ℕ, ◌+◌, ◌/◌, ◌%◌, ◌<◌, true, false, List, [], ◌∷◌, ◌++◌, refl, sym, ap}
 use Rattle.std.proofs.Common.{◌∙◌, subst, arith, nat_lt, nat_le, Some, None}
 use Rattle.std.proofs.lemmas.Bool.Decides.{nat_tests}
-use Rattle.word32.specs.declared.map.TheConstants.{OBJECTS, OBJECTS_END, SEGMENT_BYTES}
+use Rattle.word32.specs.declared.map.TheConstants.{OBJECTS, OBJECTS_END, SEGMENT_BYTES, STACK}
 use Rattle.word32.specs.Parts.{is_aligned}
 use Rattle.word32.specs.Space.{update, load, AreWords}
 use Rattle.word32.specs.declared.width.Width.{Width}
@@ -48,7 +48,7 @@ fetched_leaves kind d b i al = by kind al
     e : (d.registers 24 + 0) % 4294967296 ≡ d.registers 24
     e = omega (arith, b)
 
-    t1 : nat_le 2130706432 (d.registers 24) ≡ false
+    t1 : nat_le STACK (d.registers 24) ≡ false
     t1 = grind (arith, nat_tests, i)
 
     t2 : nat_le OBJECTS (d.registers 24) ≡ true
@@ -72,7 +72,7 @@ odd_effect kind d b i al = by kind al
     e : (d.registers 24 + 0) % 4294967296 ≡ d.registers 24
     e = omega (arith, b)
 
-    t1 : nat_le 2130706432 (d.registers 24) ≡ false
+    t1 : nat_le STACK (d.registers 24) ≡ false
     t1 = grind (arith, nat_tests, i)
 
     t2 : nat_le OBJECTS (d.registers 24) ≡ true
@@ -150,12 +150,12 @@ module _ (kind : Width) (c : Code) (a bytes : ℕ) (d : Data) (w v : Spot) (low 
       }
 
   pub load_ends : (trap : TrapKind) → access_trap (value d v) kind ≡ Some trap →
-      EndsIn 6 9 (Ended (Trap trap)) (at c a 0 d) c d.outside.history
+      EndsIn 6 9 (Ended (Trap trap)) (at c a 0 d) c d.outside
   load_ends trap e = by (traps (value d v) kind trap e)
     where
-      by : Trapping (value d v) kind trap → EndsIn 6 9 (Ended (Trap trap)) (at c a 0 d) c d.outside.history
+      by : Trapping (value d v) kind trap → EndsIn 6 9 (Ended (Trap trap)) (at c a 0 d) c d.outside
       by (Outside ne is_range) =
-          subst (λ t. EndsIn 6 9 (Ended (Trap t)) (at c a 0 d) c d.outside.history) (sym is_range)
+          subst (λ t. EndsIn 6 9 (Ended (Trap t)) (at c a 0 d) c d.outside) (sym is_range)
           (ends_behind {l = 1} {m = 4} brings (range_ends 25 c here mid rest refl
           (λ q. ne (sym (ap (λ n. n / 16777216) is) ∙ q)) tail))
       by (Odd i odd is_odd) =
@@ -167,5 +167,5 @@ module _ (kind : Width) (c : Code) (a bytes : ℕ) (d : Data) (w v : Spot) (low 
           let stops : step (going last) ≡ ended (Ended (Trap Misaligned)) last =
           step_acts (load_instruction kind) last tail.1.1.1.1.1.0 refl ∙
           ap (λ x. apply x (recent_behind (load_instruction kind) 0) last) does in
-          subst (λ t. EndsIn 6 9 (Ended (Trap t)) (at c a 0 d) c d.outside.history) (sym is_odd)
+          subst (λ t. EndsIn 6 9 (Ended (Trap t)) (at c a 0 d) c d.outside) (sym is_odd)
           (ends_behind {l = 5} {m = 8} (comes i) (ends_now (Ended (Trap Misaligned)) c there m stops))

@@ -4,6 +4,7 @@ use Rattle.std.proofs.Common.{refl, sym, ◌∙◌, subst, arith, nat_eq, nat_lt
 use Rattle.std.proofs.lemmas.Bool.{cases_lt}
 use Rattle.std.proofs.lemmas.List.{length-append}
 use Rattle.std.proofs.lemmas.Bool.Decides.{nat_tests}
+use Rattle.word32.specs.declared.map.TheConstants.{STACK}
 use Rattle.word32.specs.Words.{wrap, widened_half}
 use Rattle.word32.specs.Space.{update}
 use Rattle.mips_encoder.specs.declared.instruction.Instr.{Instr}
@@ -60,14 +61,14 @@ load_leaves t l d bytes (InRegister r) n0 hz f u b rest =
 load_leaves t l d bytes (InSlot false offset) n0 hz f u b rest =
     let o : nat_lt offset 32768 ≡ true = grind (arith, nat_tests) in
     let m : (d.registers 29 + offset) % 4294967296 ≡ d.registers 29 + offset = omega (arith, f.to, u.1) in
-    let t1 : nat_le 2130706432 (d.registers 29 + offset) ≡ true = grind (arith, nat_tests, f.from) in
+    let t1 : nat_le STACK (d.registers 29 + offset) ≡ true = grind (arith, nat_tests, f.from) in
     let t2 : nat_lt (d.registers 29 + offset) 2147483648 ≡ true = grind (arith, nat_tests, f.to, u.1) in
     let z : nat_eq ((d.registers 29 + offset) % 4) 0 ≡ true = grind (arith, nat_tests, f.even, u.2) in
     rw (hz, o, m, t1, t2, z, n0)
 load_leaves t l d bytes (InSlot true offset) n0 hz f u b rest =
     let e1 : (wrap (upper offset * 65536 + d.registers 29) + widened_half (lower offset)) % 4294967296 ≡ d.registers 29
     + offset = far_address (d.registers 29) offset (omega (arith, f.to, u.0)) in
-    let t1 : nat_le 2130706432 (d.registers 29 + offset) ≡ true = grind (arith, nat_tests, f.from) in
+    let t1 : nat_le STACK (d.registers 29 + offset) ≡ true = grind (arith, nat_tests, f.from) in
     let t2 : nat_lt (d.registers 29 + offset) 2147483648 ≡ true = grind (arith, nat_tests, f.to, u.0) in
     let z : nat_eq ((d.registers 29 + offset) % 4) 0 ≡ true = grind (arith, nat_tests, f.even, u.1) in
     rw (hz, e1, t1, t2, z, n0)
@@ -171,14 +172,14 @@ out_leaves d bytes (InRegister r) f u b rest =
 out_leaves d bytes (InSlot false offset) f u b rest =
     let o : nat_lt offset 32768 ≡ true = grind (arith, nat_tests) in
     let m : (d.registers 29 + offset) % 4294967296 ≡ d.registers 29 + offset = omega (arith, f.to, u.1) in
-    let t1 : nat_le 2130706432 (d.registers 29 + offset) ≡ true = grind (arith, nat_tests, f.from) in
+    let t1 : nat_le STACK (d.registers 29 + offset) ≡ true = grind (arith, nat_tests, f.from) in
     let t2 : nat_lt (d.registers 29 + offset) 2147483648 ≡ true = grind (arith, nat_tests, f.to, u.1) in
     let z : nat_eq ((d.registers 29 + offset) % 4) 0 ≡ true = grind (arith, nat_tests, f.even, u.2) in
     rw (o, m, t1, t2, z)
 out_leaves d bytes (InSlot true offset) f u b rest =
     let e1 : (wrap (upper offset * 65536 + d.registers 29) + widened_half (lower offset)) % 4294967296 ≡ d.registers 29
     + offset = far_address (d.registers 29) offset (omega (arith, f.to, u.0)) in
-    let t1 : nat_le 2130706432 (d.registers 29 + offset) ≡ true = grind (arith, nat_tests, f.from) in
+    let t1 : nat_le STACK (d.registers 29 + offset) ≡ true = grind (arith, nat_tests, f.from) in
     let t2 : nat_lt (d.registers 29 + offset) 2147483648 ≡ true = grind (arith, nat_tests, f.to, u.0) in
     let z : nat_eq ((d.registers 29 + offset) % 4) 0 ≡ true = grind (arith, nat_tests, f.even, u.1) in
     rw (e1, t1, t2, z)

@@ -71,7 +71,7 @@ range_passes r c a d rest n0 low e h =
 -- it isn't
 pub range_ends : (r : ℕ) (c : Code) (a : ℕ) (d : Data) (rest : List Instr) → nat_eq r 0 ≡ false →
     highest d ≢ 16 → HasAt c a (range_check r ++ rest)
-    → EndsIn 5 5 (Ended (Trap Range)) (at c a 0 d) c d.outside.history
+    → EndsIn 5 5 (Ended (Trap Range)) (at c a 0 d) c d.outside
 range_ends r c a d rest n0 ne h =
     let d1 = ranged r d in
     let b = a + 4 + 4 in

@@ -88,7 +88,7 @@ pub service_ends : (number : ℕ) (end : End) (c : Code) (a bytes : ℕ) (d : Da
     → ((b : ℕ) → HasAt c b (syscall ∷ []) → step (going (at c b 0 (asking number (one_in v d)))) ≡
     ended end (at c b 0 (asking number (one_in v d))))
     → HasAt c a (in_code v ++ (service_code number ++ out_code w))
-    → EndsIn 4 7 end (at c a 0 d) c d.outside.history
+    → EndsIn 4 7 end (at c a 0 d) c d.outside
 service_ends number end c a bytes d w v f u b leaves stops h =
     let mid = one_in v d in
     let n = in_between v in

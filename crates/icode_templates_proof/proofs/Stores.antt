@@ -2,7 +2,7 @@
 use Rattle.std.proofs.Common.{◌≡◌, ℕ, ◌+◌, ◌/◌, ◌%◌, ◌<◌, true, false, List, [], ◌∷◌, ◌++◌, refl, sym, ap}
 use Rattle.std.proofs.Common.{◌∙◌, subst, arith, nat_lt, nat_le, Some, None}
 use Rattle.std.proofs.lemmas.Bool.Decides.{nat_tests}
-use Rattle.word32.specs.declared.map.TheConstants.{OBJECTS, OBJECTS_END, SEGMENT_BYTES}
+use Rattle.word32.specs.declared.map.TheConstants.{OBJECTS, OBJECTS_END, SEGMENT_BYTES, STACK}
 use Rattle.word32.specs.Parts.{is_aligned}
 use Rattle.word32.specs.Space.{store}
 use Rattle.word32.specs.declared.width.Width.{Width}
@@ -42,7 +42,7 @@ module _ (d : Data) (b : d.registers 24 < 4294967296) (i : d.registers 24 / 1677
   whole : (d.registers 24 + 0) % 4294967296 ≡ d.registers 24
   whole = omega (arith, b)
 
-  below_stack : nat_le 2130706432 (d.registers 24) ≡ false
+  below_stack : nat_le STACK (d.registers 24) ≡ false
   below_stack = grind (arith, nat_tests, i)
 
   from_objects : nat_le OBJECTS (d.registers 24) ≡ true
@@ -143,12 +143,12 @@ module _ (kind : Width) (c : Code) (a bytes : ℕ) (d : Data) (v z : Spot)
       }
 
   pub store_ends : (trap : TrapKind) → access_trap (value d v) kind ≡ Some trap →
-      EndsIn 7 12 (Ended (Trap trap)) (at c a 0 d) c d.outside.history
+      EndsIn 7 12 (Ended (Trap trap)) (at c a 0 d) c d.outside
   store_ends trap e = by (traps (value d v) kind trap e)
     where
-      by : Trapping (value d v) kind trap → EndsIn 7 12 (Ended (Trap trap)) (at c a 0 d) c d.outside.history
+      by : Trapping (value d v) kind trap → EndsIn 7 12 (Ended (Trap trap)) (at c a 0 d) c d.outside
       by (Outside ne is_range) =
-          subst (λ t. EndsIn 7 12 (Ended (Trap t)) (at c a 0 d) c d.outside.history) (sym is_range)
+          subst (λ t. EndsIn 7 12 (Ended (Trap t)) (at c a 0 d) c d.outside) (sym is_range)
           (ends_behind {l = 2} {m = 7} brings (range_ends 1 c here mid rest refl
           (λ q. ne (sym (ap (λ n. n / 16777216) is) ∙ q)) tail))
       by (Odd i odd is_odd) =
@@ -160,5 +160,5 @@ module _ (kind : Width) (c : Code) (a bytes : ℕ) (d : Data) (v z : Spot)
           let stops : step (going last) ≡ ended (Ended (Trap Misaligned)) last =
           step_acts (store_instruction kind) last tail.1.1.1.1.1.0 refl ∙
           ap (λ x. apply x (recent_behind (store_instruction kind) 0) last) does in
-          subst (λ t. EndsIn 7 12 (Ended (Trap t)) (at c a 0 d) c d.outside.history) (sym is_odd)
+          subst (λ t. EndsIn 7 12 (Ended (Trap t)) (at c a 0 d) c d.outside) (sym is_odd)
           (ends_behind {l = 6} {m = 11} (comes i) (ends_now (Ended (Trap Misaligned)) c there m stops))

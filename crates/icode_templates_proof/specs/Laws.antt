@@ -142,14 +142,14 @@ FailuresEnd =
     (c : Code) (a bytes : ℕ) (d : Data) (w v : Spot) → Framed (pointer d) bytes → Usable bytes v
     → value d v < 4294967296 → d.outside.at_end ≡ false → next_byte d.outside.input ≡ Failing
     → HasAt c a (in_code v ++ (service_code 12 ++ out_code w))
-    → EndsIn 4 7 ReadFault (at c a 0 d) c d.outside.history
+    → EndsIn 4 7 ReadFault (at c a 0 d) c d.outside
 
 -- an exit ends the run with its status
 abbrev pub ExitsEnd : Type 0
 ExitsEnd =
     (c : Code) (a bytes : ℕ) (d : Data) (w v : Spot) → Framed (pointer d) bytes → Usable bytes v
     → value d v < 4294967296 → HasAt c a (in_code v ++ (service_code 10 ++ out_code w))
-    → EndsIn 4 7 (Ended (Done (value d v % 256))) (at c a 0 d) c d.outside.history
+    → EndsIn 4 7 (Ended (Done (value d v % 256))) (at c a 0 d) c d.outside
 
 -- a load and a store, behind the test of the address
 abbrev pub fetching_code : Width → Spot → Spot → List Instr
@@ -172,7 +172,7 @@ LoadsTrap =
     (kind : Width) (trap : TrapKind) (c : Code) (a bytes : ℕ) (d : Data) (w v : Spot)
     → past a (in_code v) + 20 < SEGMENT_BYTES → Framed (pointer d) bytes → Usable bytes v → value d v < 4294967296
     → access_trap (value d v) kind ≡ Some trap → HasAt c a (fetching_code kind v w)
-    → EndsIn 6 9 (Ended (Trap trap)) (at c a 0 d) c d.outside.history
+    → EndsIn 6 9 (Ended (Trap trap)) (at c a 0 d) c d.outside
 
 -- a value is stored to a part of an object, and no spot is written
 abbrev pub stored_in : Width → ℕ → ℕ → Data → Data
@@ -192,7 +192,7 @@ StoresTrap =
     → past a (in_two_code v z) + 20 < SEGMENT_BYTES → Framed (pointer d) bytes → Usable bytes v → Usable bytes z
     → value d v < 4294967296 → value d z < 4294967296
     → access_trap (value d v) kind ≡ Some trap → HasAt c a (storing_code kind v z)
-    → EndsIn 7 12 (Ended (Trap trap)) (at c a 0 d) c d.outside.history
+    → EndsIn 7 12 (Ended (Trap trap)) (at c a 0 d) c d.outside
 
 -- a check passes where there is no trap
 abbrev pub ZeroChecksPass : Type 0
@@ -216,7 +216,7 @@ ZeroChecksTrap =
     → past a (in_code v ++ trap_if_zero 24 7) < SEGMENT_BYTES
     → Framed (pointer d) bytes → Usable bytes v → value d v < 4294967296 → zero_trap (value d v) ≡ Some kind
     → HasAt c a (in_code v ++ trap_if_zero 24 7)
-    → EndsIn 4 7 (Ended (Trap kind)) (at c a 0 d) c d.outside.history
+    → EndsIn 4 7 (Ended (Trap kind)) (at c a 0 d) c d.outside
 
 abbrev pub DivisionChecksTrap : Type 0
 DivisionChecksTrap =
@@ -224,4 +224,4 @@ DivisionChecksTrap =
     → past a (in_two_code v z ++ division_check) < SEGMENT_BYTES
     → Framed (pointer d) bytes → Usable bytes v → Usable bytes z → value d v < 4294967296 → value d z < 4294967296
     → signed_trap (value d v) (value d z) ≡ Some kind → HasAt c a (in_two_code v z ++ division_check)
-    → EndsIn 5 15 (Ended (Trap kind)) (at c a 0 d) c d.outside.history
+    → EndsIn 5 15 (Ended (Trap kind)) (at c a 0 d) c d.outside

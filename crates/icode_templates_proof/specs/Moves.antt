@@ -1,9 +1,9 @@
 -- Runs of the machine between two counts of instructions: to an address, with a value put to a spot, or with all spots
 -- kept; and to the run's end.
-use Rattle.std.specs.Prelude.{◌≡◌, ℕ, ◌+◌, ◌≤◌, false, List, Some}
+use Rattle.std.specs.Prelude.{◌≡◌, ℕ, ◌+◌, ◌≤◌, false, Some}
 use Rattle.std.specs.Fn.{iterate}
-use Rattle.history.specs.Events.{Item, End}
-use Rattle.mips_model.specs.State.{Code, Data, State}
+use Rattle.history.specs.Events.{End}
+use Rattle.mips_model.specs.State.{Outside, Code, Data, State}
 use Rattle.mips_model.specs.Steps.{step, going}
 use Rattle.mips_model.specs.Laws.{Reaches, at}
 use Rattle.icode_templates.specs.Layout.{Spot}
@@ -40,11 +40,11 @@ pub record Computes (spot : Spot) (x least most : ℕ) (s : State) (c : Code) (a
   pub runs : Runs least most s (behind c a recent after)
   pub puts : PutsTo spot x d after
 
--- the run ends within so many instructions, at least and at most, with this history and with the code as it was
-pub record EndsIn (least most : ℕ) (end : End) (s : State) (c : Code) (history : List Item) : Type 0 where
+-- the run ends within so many instructions, at least and at most, with this outside and with the code as it was
+pub record EndsIn (least most : ℕ) (end : End) (s : State) (c : Code) (outside : Outside) : Type 0 where
   pub count : ℕ
   pub over : least ≤ count
   pub under : count ≤ most
   pub ending : (iterate step count (going s)).ending ≡ Some end
-  pub history_is : (iterate step count (going s)).state.d.outside.history ≡ history
+  pub outside_is : (iterate step count (going s)).state.d.outside ≡ outside
   pub code_is : (iterate step count (going s)).state.code ≡ c

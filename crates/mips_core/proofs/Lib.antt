@@ -1,3 +1,4 @@
 pub mod Loops
 pub mod Stepped
 pub mod Numbered
+pub mod Generated

@@ -13,7 +13,11 @@ use Rattle.mips_model.proofs.Aside.{step_aside}
 use Rattle.mips_core.specs.Core.{CoreKept, GoesOn, state_of, world_of, ending_from}
 
 pub goes_none : (k : CoreKept) → GoesOn 0 k k
-goes_none k = record { ran = λ o. refl; alive = λ o m lt. absurd (none m lt) }
+goes_none k = record {
+  ran = λ o. refl;
+  alive = λ o m lt. absurd (none m lt);
+  others = λ o m lt. absurd (none m lt);
+}
   where
     none : (m : ℕ) → m < 0 → ⊥
     none m lt = omega (arith, lt)
@@ -32,6 +36,12 @@ goes_more {count} {old} {mid} {new} f on service is = record {
       (λ le. let e : m ≡ count = omega (arith, lt, le) in
       ap (λ k. (iterate step k (beside o (world_of old))).ending) e ∙ ap (λ (w : World). w.ending) (f.ran o) ∙
       ap ending_from on)
+      (cases_lt m count);
+  others = λ o m lt. ⊎_elim
+      (λ le. f.others o m le)
+      (λ le. let e : m ≡ count = omega (arith, lt, le) in
+      ap (λ k. is_at_service (iterate step k (beside o (world_of old))).state) e
+      ∙ ap (λ (w : World). is_at_service w.state) (f.ran o) ∙ service)
       (cases_lt m count);
 }
 

@@ -1,7 +1,7 @@
 -- What the code keeps of the machine's state, in lists, and the state that it stands for. What passes between a run and
 -- the outside is kept by nobody: here the state has none of it, and whoever runs the core says what it is.
 use Rattle.std.specs.Prelude.{zero, suc, ◌≢◌, ◌⊎◌, ⊤, ◌≡◌, ℕ, ◌+◌, ◌-◌, ◌<◌, Bool, true, false, ◌||◌, nat_eq, nat_lt}
-use Rattle.std.specs.Prelude.{Result, Err, if◌then◌else◌, List, [], Option, Some, None, slice_index}
+use Rattle.std.specs.Prelude.{Result, Ok, Err, if◌then◌else◌, List, [], Option, Some, None, slice_index}
 use Rattle.std.specs.Fn.{iterate}
 use Rattle.flat_memory.specs.Spaces.{Spaces}
 use Rattle.code_arena.specs.Arena.{Arena}
@@ -18,6 +18,8 @@ use Rattle.mips_core.specs.declared.halt.Halt.TheVariants.{Ended, Fault}
 use Rattle.mips_core.specs.declared.halt.Went.{Went}
 use Rattle.mips_core.specs.declared.halt.Went.TheVariants as went
 use Rattle.mips_encoder.specs.declared.instruction.Instr.{Instr}
+use Rattle.icode_service_spec.specs.declared.bad_service.BadService.{BadService}
+use Rattle.icode_service_spec.specs.Services.{Rows}
 use Rattle.mips_model.specs.State.{Outside, Code, Data, State, World, set_register}
 use Rattle.mips_model.specs.Run.{first_outside}
 use Rattle.mips_encoder.specs.declared.instruction.Instr.TheVariants.{Break, Syscall}
@@ -26,7 +28,7 @@ use Rattle.word32.specs.declared.width.Width.{Width}
 use Rattle.mips_model.specs.Accesses.{load, store}
 use Rattle.mips_model.specs.Services.{answer}
 use Rattle.mips_model.specs.Effects.{gives, access}
-use Rattle.mips_model.specs.Steps.{word_in_arena, decoded, execute, apply, onward, step, is_hazard}
+use Rattle.mips_model.specs.Steps.{word_in_arena, decoded, execute, apply, onward, step, is_hazard, going}
 use Rattle.mips_model.specs.Beside.{beside, is_at_service}
 
 pub record CoreKept : Type 0 where
@@ -61,7 +63,7 @@ pub record IsSettled (pending slot : Bool) (loaded recent : ℕ) : Type 0 where
 
 -- nothing of the outside
 abbrev pub nothing : Outside
-nothing = first_outside (record { bytes = []; failing = false })
+nothing = first_outside (record { bytes = []; failing = false }) []
 
 abbrev pub data_of : CoreKept → Data
 data_of k = record {
@@ -166,6 +168,8 @@ accessing op r at s = apply (access op r at s.d) (s.recent - 1) s
 pub record GoesOn (count : ℕ) (old new : CoreKept) : Type 0 where
   pub ran : (o : Outside) → iterate step count (beside o (world_of old)) ≡ beside o (world_of new)
   pub alive : (o : Outside) (m : ℕ) → m < count → (iterate step m (beside o (world_of old))).ending ≡ None
+  pub others : (o : Outside) (m : ℕ) → m < count →
+      is_at_service (iterate step m (beside o (world_of old))).state ≡ false
 
 -- the word at an address that has none in the text
 abbrev pub word_past_text : Code → ℕ → Result ℕ MachineKind
@@ -207,3 +211,14 @@ answered v arena s = onward (s.next + 4) 0 (s.recent - 1) false (record s.code {
 -- a SYSCALL is a hazard
 abbrev pub is_service_hazard : State → Bool
 is_service_hazard s = is_hazard Syscall s
+
+-- a service answered v, and arena and function table changed
+abbrev pub generated : ℕ → Arena → Rows → State → World
+generated v arena table s =
+    onward (s.next + 4) 0 (s.recent - 1) false (record s.code { arena = arena })
+    (answer v (record s.d { table = table })) s
+
+-- the run goes on behind a service that answered, and stands where it stood where the service was refused
+abbrev pub IsBehind : Result ℕ BadService → Arena → Rows → State → World → Type 0
+IsBehind (Ok v) arena table s w = w ≡ generated v arena table s
+IsBehind (Err why) arena table s w = w ≡ going s

@@ -99,7 +99,8 @@ impl Core {
     /// # Errors
     /// Where memory is wanting; nothing was made then.
     pub fn new(alloc: Global, image: &Image) -> Result<Core, AllocError>
-        ensures state { IfOk result (λ m. state_of m ≡ first_state image.now (record { bytes = []; failing = false })) }
+        ensures state { IfOk result
+            (λ m. state_of m ≡ first_state image.now (record { bytes = []; failing = false }) []) }
         ensures on { IfOk result (λ m. m.stopped ≡ None) }
     {
         let memory = Memory::new(alloc, image.text(), image.bytes())?;

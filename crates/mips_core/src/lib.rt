@@ -14,4 +14,3 @@ mod services;
 
 pub use core_state::Core;
 pub use halt::Halt;
-pub use services::is_arena_range;

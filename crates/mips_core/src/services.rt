@@ -1,26 +1,20 @@
 //! What services need of the core.
 
-ghost use Rattle.std.specs.Prelude.{◌≡◌, ◌+◌, ◌-◌, ◌*◌, ◌/◌, ◌%◌, ◌<◌, ◌≤◌, ℕ, true, None, Some};
-ghost use Rattle.code_arena.specs.Arena.{flushed};
-ghost use Rattle.mips_model.specs.Accesses.{arena_word};
-ghost use Rattle.mips_model.specs.Services as services;
+ghost use Rattle.std.specs.Prelude.{◌≡◌, ◌+◌, ◌-◌, ◌*◌, ◌/◌, ◌%◌, ◌^◌, ◌<◌, ◌≤◌, ℕ, true, None, Some};
+ghost use Rattle.code_arena.specs.Arena.{Arena};
+ghost use Rattle.limits.specs.declared.ops.TheConstants.{MOST_REGISTERS};
+ghost use Rattle.icode_service.specs.Served.{Did, IsChosen};
+ghost use Rattle.icode_service_spec.specs.Choices.{Choice};
+ghost use Rattle.icode_service_spec.specs.Services as generating;
+ghost use Rattle.icode_service_spec.specs.Services.{Rows};
+ghost use Rattle.mips_model.specs.State.{register};
 ghost use Rattle.mips_model.specs.Steps as steps;
 ghost use Rattle.mips_core.specs.Core as spec;
 ghost use Rattle.mips_core.specs.Core.{state_of, world_of};
 
 use crate::core_state::Core;
+use icode_service::{BadService, Service};
 use mips_encoder::Register;
-use word32::map;
-
-/// Whether so many words from an address on are in the arena, and the address is that of one.
-pub fn is_arena_range(at: u32, count: u32) -> bool
-    ensures { result ≡ services.is_arena_range at count }
-{
-    at % 4 == 0
-        && at >= map::ARENA
-        && at < map::ARENA + map::ARENA_BYTES
-        && u64::from(at) + 4 * u64::from(count) <= u64::from(map::ARENA + map::ARENA_BYTES)
-}
 
 impl Core {
     /// The address of the next instruction.
@@ -48,15 +42,38 @@ impl Core {
         self.write(Register::V0, v);
     }
 
-    /// The flush service: words of the arena from an address on are flushed, and the answer is 0.
-    pub fn flush(&mut self, at: u32, count: u32)
+    /// A service that makes code, by the number in its register: it answers and the run goes on, or it is refused and
+    /// nothing has changed.
+    pub fn generate(&mut self, service: &mut Service) -> Result<u32, BadService>
         requires on { self.old.stopped ≡ None }
         requires next { self.old.next < 4294967296 }
-        requires range { services.is_arena_range at count ≡ true }
-        ensures world { world_of self.new ≡ spec.answered 0 (flushed (arena_word at) count (state_of self.old).code.arena) (state_of self.old) }
+        requires room { service.old.spills ≤ 2 ^ 63 }
+        ensures served { let s = state_of self.old in (choice : Choice) × (arena : Arena) × (table : Rows)
+            × IsChosen (register 2 s.d) (register 4 s.d) (register 5 s.d) (register 6 s.d) service.old choice
+            × Did
+            (generating.service choice (register 2 s.d) (register 4 s.d) (register 5 s.d) (register 6 s.d) service.old)
+            service.old service.new s.code.arena arena s.d.table table result
+            × spec.IsBehind result arena table s (world_of self.new) }
         ensures on { self.new.stopped ≡ None }
+        ensures few { service.new.spills ≤ service.old.spills + MOST_REGISTERS }
     {
-        self.arena.flush(at / 4 - map::ARENA / 4, count);
-        self.answer(0);
+        let number = self.register(Register::V0);
+        let first = self.register(Register::A0);
+        let second = self.register(Register::A1);
+        let third = self.register(Register::A2);
+        match service.serve(
+            number,
+            first,
+            second,
+            third,
+            &mut self.arena,
+            &mut self.table,
+        ) {
+            Ok(answer) => {
+                self.answer(answer);
+                Ok(answer)
+            }
+            Err(why) => Err(why),
+        }
     }
 }

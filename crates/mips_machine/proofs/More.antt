@@ -1,19 +1,27 @@
 -- Two calls, one after the other, are one; and what a call says of the definition's run.
 use Rattle.std.proofs.Common.{◌≡◌, ◌≢◌, inl, inr, ℕ, zero, suc, ◌+◌, ◌-◌, ◌≤◌, ◌<◌, Bool, true, false, nat_eq, List, []}
 use Rattle.std.proofs.Common.{◌∷◌, ◌++◌, take, Option, None, Some, refl, sym, ap, ◌∙◌, subst, arith, append_assoc}
-use Rattle.std.proofs.Common.{append-nil, is_some, if◌then◌else◌, ⊎_elim}
+use Rattle.std.proofs.Common.{append-nil, is_some, if◌then◌else◌, ⊎_elim, ◌&&◌, not}
 use Rattle.std.specs.Io.KnownBytes.{Appends, Consumes}
 use Rattle.std.proofs.KnownBytes.{Consumes-nil, Consumes-trans, Appends-nil, Appends-trans}
 use Rattle.std.proofs.lemmas.Bool.{false≢true, cases_Bool, cases_lt}
 use Rattle.history.specs.Events.{Item, Out, In, Made, Entered, End, Input, output, outs}
-use Rattle.mips_model.specs.State.{World}
-use Rattle.mips_model.specs.Steps.{step, run}
-use Rattle.mips_model.specs.Run.{steps_within}
+use Rattle.icode_ir.specs.Build.{Build, finished}
+use Rattle.icode_service.specs.Served.{ChosenFor}
+use Rattle.icode_service_spec.specs.Choices.{Choice}
+use Rattle.icode_service_spec.proofs.Legal.{choices-are-legal}
+use Rattle.mips_encoder.specs.declared.instruction.Instr.TheVariants.{Syscall}
+use Rattle.mips_model.specs.State.{World, register}
+use Rattle.mips_model.specs.Services.{generator_of, next_choice}
+use Rattle.mips_model.specs.Steps.{step, run, is_hazard}
+use Rattle.mips_model.specs.Beside.{is_at_service}
+use Rattle.mips_model.specs.Run.{IsLegalFor, IsWellChosen, steps_within}
 use Rattle.mips_model.proofs.Runs.{run-+, run_0, run_stays}
 use Rattle.mips_machine.specs.declared.stop.Stop.{Stop}
 use Rattle.mips_machine.specs.declared.stop.Stop.TheVariants.{Ended, Fault, Steps, ReadFault, WriteFault}
-use Rattle.mips_machine.specs.Progress.{Progress, is_at_end, world}
-use Rattle.mips_machine.specs.Ran.{Ran, MayFollow, EndsFrom, bytes_read, ending_of, before}
+use Rattle.mips_machine.specs.Progress.{Progress, Unkept, is_at_end, choosing, more, world}
+use Rattle.mips_machine.specs.Ran.{Ran, MayFollow, IsScannedAt, EndsFrom, bytes_read, told_of, start, ending_of, before}
+use Rattle.mips_machine.proofs.Quiet.{said_all, saying}
 
 -- the bytes of two histories
 pub output-++ : (a b : List Item) → output (a ++ b) ≡ output a ++ output b
@@ -75,11 +83,15 @@ ran_none s left taken = record {
   cut = λ e. absurd (cc);
   stays = λ e. (refl, e);
   at_end = λ e n. absurd (false≢true (sym n ∙ e));
-  ran = λ rest said m. run_0 (world s rest said None) ∙
-      sym (ap (λ o. world s rest (o ++ []) None) (append-nil said) ∙ ap (λ o. world s rest o None) (append-nil said));
-  alive = λ rest said m k lt. absurd (none k lt);
   unended = λ r. absurd (cc);
+  noted = λ n. n;
+  chosen = [];
+  refused = [];
+  spent = λ e. refl;
+  ran = λ rest u m. run_0 (world s rest u None) ∙ said_all s rest u None;
+  alive = λ rest u m k lt. absurd (none k lt);
   earlier = λ w. absurd (cc);
+  scanned = λ rest u m k lt. absurd (none k lt);
 }
 
 -- a run that stopped otherwise is one within any more instructions
@@ -104,7 +116,12 @@ ran_within le other f = record {
   ran = f.ran;
   alive = f.alive;
   unended = f.unended;
+  noted = f.noted;
+  chosen = f.chosen;
+  refused = f.refused;
+  spent = λ e. absurd (other e);
   earlier = f.earlier;
+  scanned = f.scanned;
 }
 
 pub ran_count : {a b : ℕ} {old new : Progress} {left later taken told : Option (List ℕ)} {stop : Stop} → a ≡ b →
@@ -154,34 +171,77 @@ module _ {a b : ℕ} {old mid new : Progress} {left between later taken held tol
     failed = λ e. absurd (cc);
   }
 
-  first_ran : (rest : Input) (said : List Item) → MayFollow old new stop rest →
-      run f.count (world old (before (f.given ++ s.given) rest) said None) ≡ world mid (before s.given rest)
-      (said ++ f.events) None
-  first_ran rest said m =
-      ap (λ (l : List ℕ). run f.count (world old (record { bytes = l; failing = rest.failing }) said None))
-      (append_assoc f.given s.given rest.bytes)
-      ∙ f.ran (before s.given rest) said (follows_first rest m)
-      ∙ ap (λ (l : List ℕ). world mid (before s.given rest) ((said ++ f.events) ++ outs l) None) no_last
-      ∙ ap (λ (l : List Item). world mid (before s.given rest) l None) (append-nil (said ++ f.events))
+  -- what the second call's own choices leave of the first's
+  none_refused : f.refused ≡ []
+  none_refused = f.spent refl
+
+  abbrev chosen_first : Unkept → Unkept
+  chosen_first u = choosing s.chosen (choosing s.refused u)
+
+  abbrev begun : Input → Unkept → World
+  begun rest u = start old (f.given ++ s.given) (f.chosen ++ s.chosen) s.refused rest u
+
+  abbrev told_first : Unkept → Unkept
+  told_first u = told_of f.events f.noted u
+
+  -- the beginning of both is that of the first, with what the second takes still to come
+  begins_first : (rest : Input) (u : Unkept) →
+      begun rest u ≡ start old f.given f.chosen f.refused (before s.given rest) (chosen_first u)
+  begins_first rest u =
+      ap (λ (l : List ℕ). world old (record { bytes = l; failing = rest.failing })
+      (choosing (f.chosen ++ s.chosen) (choosing s.refused u)) None) (append_assoc f.given s.given rest.bytes)
+      ∙ (ap (λ (l : List Choice). world old (before f.given (before s.given rest)) (record u { row = l }) None)
+      (append_assoc f.chosen s.chosen (s.refused ++ u.row))
+      ∙ ap (λ (l : List Choice). world old (before f.given (before s.given rest))
+      (choosing f.chosen (choosing l (chosen_first u))) None) (sym none_refused))
+
+  first_ran : (rest : Input) (u : Unkept) → MayFollow old new stop rest →
+      run f.count (begun rest u) ≡ start mid s.given s.chosen s.refused rest (told_first u)
+  first_ran rest u m =
+      ap (run f.count) (begins_first rest u)
+      ∙ (f.ran (before s.given rest) (chosen_first u) (follows_first rest m)
+      ∙ (ap (λ (l : List ℕ). world mid (before s.given rest)
+      (choosing f.refused (more (outs l) (told_of f.events f.noted (chosen_first u)))) None) no_last
+      ∙ (ap (λ (l : List Item). world mid (before s.given rest)
+      (saying l (choosing f.refused (told_of f.events f.noted (chosen_first u)))) None)
+      (append-nil (u.history ++ f.events))
+      ∙ ap (λ (l : List Choice). world mid (before s.given rest)
+      (choosing l (told_of f.events f.noted (chosen_first u))) None) none_refused)))
 
   -- no instruction of the first is the last of the run, nor one of the second but its last
-  first_alive : (rest : Input) (said : List Item) → MayFollow old new stop rest → (k : ℕ) → k < f.count →
-      (run k (world old (before (f.given ++ s.given) rest) said None)).ending ≡ None
-  first_alive rest said m k lt =
-      ap (λ (l : List ℕ). (run k (world old (record { bytes = l; failing = rest.failing }) said None)).ending)
-      (append_assoc f.given s.given rest.bytes)
-      ∙ f.alive (before s.given rest) said (follows_first rest m) k lt
+  first_alive : (rest : Input) (u : Unkept) → MayFollow old new stop rest → (k : ℕ) → k < f.count →
+      (run k (begun rest u)).ending ≡ None
+  first_alive rest u m k lt =
+      ap (λ (v : World). (run k v).ending) (begins_first rest u)
+      ∙ f.alive (before s.given rest) (chosen_first u) (follows_first rest m) k lt
 
-  second_alive : (rest : Input) (said : List Item) → MayFollow old new stop rest → (k : ℕ) → f.count ≤ k →
-      k < f.count + s.count → (run k (world old (before (f.given ++ s.given) rest) said None)).ending ≡ None
-  second_alive rest said m k le lt =
+  -- an instruction of the second call stands behind all of the first
+  second_at : (rest : Input) (u : Unkept) → MayFollow old new stop rest → (k : ℕ) → f.count ≤ k →
+      run k (begun rest u) ≡ run (k - f.count) (start mid s.given s.chosen s.refused rest (told_first u))
+  second_at rest u m k le =
       let e : k ≡ f.count + (k - f.count) = omega (arith, le) in
+      ap (λ i. run i (begun rest u)) e
+      ∙ (run-+ f.count (k - f.count) (begun rest u) ∙ ap (run (k - f.count)) (first_ran rest u m))
+
+  second_alive : (rest : Input) (u : Unkept) → MayFollow old new stop rest → (k : ℕ) → f.count ≤ k →
+      k < f.count + s.count → (run k (begun rest u)).ending ≡ None
+  second_alive rest u m k le lt =
       let less : k - f.count < s.count = omega (arith, le, lt) in
-      ap (λ i. (run i (world old (before (f.given ++ s.given) rest) said None)).ending) e
-      ∙ ap (λ (v : World). v.ending)
-      (run-+ f.count (k - f.count) (world old (before (f.given ++ s.given) rest) said None))
-      ∙ ap (λ (v : World). (run (k - f.count) v).ending) (first_ran rest said m)
-      ∙ s.alive rest (said ++ f.events) (follows_second rest m) (k - f.count) less
+      ap (λ (v : World). v.ending) (second_at rest u m k le)
+      ∙ s.alive rest (told_first u) (follows_second rest m) (k - f.count) less
+
+  first_scanned : (rest : Input) (u : Unkept) → MayFollow old new stop rest → (k : ℕ) → k < f.count →
+      IsScannedAt (run k (begun rest u))
+  first_scanned rest u m k lt =
+      subst (λ (v : World). IsScannedAt (run k v)) (sym (begins_first rest u))
+      (f.scanned (before s.given rest) (chosen_first u) (follows_first rest m) k lt)
+
+  second_scanned : (rest : Input) (u : Unkept) → MayFollow old new stop rest → (k : ℕ) → f.count ≤ k →
+      k < f.count + s.count → IsScannedAt (run k (begun rest u))
+  second_scanned rest u m k le lt =
+      let less : k - f.count < s.count = omega (arith, le, lt) in
+      subst IsScannedAt (sym (second_at rest u m k le))
+      (s.scanned rest (told_first u) (follows_second rest m) (k - f.count) less)
 
   pub ran_more : Ran (a + b) old new left later taken told stop
   ran_more = record {
@@ -207,33 +267,40 @@ module _ {a b : ℕ} {old mid new : Progress} {left between later taken held tol
       | inl t ↦ still_at_end left between later f.given s.given f.consumed s.consumed (s.stays t).0 (f.at_end t n)
       | inr t ↦ later_end left between later f.given f.consumed (s.at_end e t)
     ];
-    ran = λ rest said m.
-        run-+ f.count s.count (world old (before (f.given ++ s.given) rest) said None)
-        ∙ ap (run s.count) (first_ran rest said m)
-        ∙ s.ran rest (said ++ f.events) (follows_second rest m)
-        ∙ ap (λ (l : List Item). world new rest (l ++ outs s.last) (ending_of stop))
-        (append_assoc said f.events s.events);
-    alive = λ rest said m k lt. ⊎_elim (λ early. first_alive rest said m k early)
-        (λ late. second_alive rest said m k late lt) (cases_lt k f.count);
     unended = s.unended;
+    noted = λ n. s.noted (f.noted n);
+    chosen = f.chosen ++ s.chosen;
+    refused = s.refused;
+    spent = s.spent;
+    ran = λ rest u m.
+        run-+ f.count s.count (begun rest u)
+        ∙ (ap (run s.count) (first_ran rest u m)
+        ∙ (s.ran rest (told_first u) (follows_second rest m)
+        ∙ ap (λ (l : List Item). world new rest
+        (saying (l ++ outs s.last) (choosing s.refused (told_of s.events s.noted (told_first u)))) (ending_of stop))
+        (append_assoc u.history f.events s.events)));
+    alive = λ rest u m k lt. ⊎_elim (λ early. first_alive rest u m k early)
+        (λ late. second_alive rest u m k late lt) (cases_lt k f.count);
     earlier = λ w. let before_last = s.earlier w in (
       f.count + before_last.0,
       omega (arith, before_last.1),
-      λ rest said m.
-          ap (λ (v : World). v.state.d.outside.history)
-          (run-+ f.count before_last.0 (world old (before (f.given ++ s.given) rest) said None))
-          ∙ ap (λ (v : World). (run before_last.0 v).state.d.outside.history) (first_ran rest said m)
-          ∙ before_last.2 rest (said ++ f.events) (follows_second rest m)
-          ∙ append_assoc said f.events s.events,
+      λ rest u m.
+          ap (λ (v : World). v.state.d.outside.history) (run-+ f.count before_last.0 (begun rest u))
+          ∙ (ap (λ (v : World). (run before_last.0 v).state.d.outside.history) (first_ran rest u m)
+          ∙ (before_last.2 rest (told_first u) (follows_second rest m)
+          ∙ append_assoc u.history f.events s.events)),
     );
+    scanned = λ rest u m k lt. ⊎_elim (λ early. first_scanned rest u m k early)
+        (λ late. second_scanned rest u m k late lt) (cases_lt k f.count);
   }
 
 pub on_told : (n : ℕ) (old new : Progress) (bytes : List ℕ) (later taken told : Option (List ℕ)) (stop : Stop) →
     is_at_end old ≡ false → stop ≢ ReadFault
     → (f : Ran n old new (Some bytes) later taken told stop)
-    → (rest : List ℕ) × (later ≡ Some rest) ×
-    (run f.count (world old (record { bytes = bytes; failing = false }) [] None) ≡ world new
-    (record { bytes = rest; failing = false }) (f.events ++ outs f.last) (ending_of stop))
+    → (rest : List ℕ) × (later ≡ Some rest) × ((u : Unkept) →
+    run f.count (world old (record { bytes = bytes; failing = false }) (choosing f.chosen (choosing f.refused u)) None)
+    ≡ world new (record { bytes = rest; failing = false })
+    (choosing f.refused (more (outs f.last) (told_of f.events f.noted u))) (ending_of stop))
 on_told n old new bytes None taken told stop not_ended fine f = absurd f.consumed
 on_told n old new bytes (Some rest) taken told stop not_ended fine f =
     let follows : MayFollow old new stop (record { bytes = rest; failing = false }) = record {
@@ -242,8 +309,11 @@ on_told n old new bytes (Some rest) taken told stop not_ended fine f =
     } in (
       rest,
       refl,
-      ap (λ (l : List ℕ). run f.count (world old (record { bytes = l; failing = false }) [] None)) f.consumed
-          ∙ f.ran (record { bytes = rest; failing = false }) [] follows,
+      λ u.
+          ap (λ (l : List ℕ). run f.count
+          (world old (record { bytes = l; failing = false }) (choosing f.chosen (choosing f.refused u)) None))
+          f.consumed
+          ∙ f.ran (record { bytes = rest; failing = false }) u follows,
     )
 
 -- so many instructions, none but the last of which ends the run, are all executed
@@ -269,53 +339,115 @@ steps_end (suc k) j w e alive is =
     ∙ ap (λ (o : Option End). if is_some o then 0 else (1 + steps_within (k + j) (step w))) (alive 0 (omega arith))
     ∙ ap (λ n. 1 + n) (steps_end k j (step w) e (λ m lt. alive (suc m) (omega (arith, lt))) is) ∙ omega arith
 
-module _ {n : ℕ} {old new : Progress} {left later taken told : Option (List ℕ)} {stop : Stop}
-    (f : Ran n old new left later taken told stop) (rest : Input) (said : List Item) (m : MayFollow old new stop rest)
-  where
-    pub counts_steps : steps_within f.count (world old (before f.given rest) said None) ≡ f.count
-    counts_steps = steps_are f.count (world old (before f.given rest) said None) (f.alive rest said m)
+-- the choice of linear scan is a legal one
+legal_for : (o : Option Build) (at most frame : ℕ) (choice : Choice) → ChosenFor o at most frame choice →
+    IsLegalFor o at most frame choice
+legal_for None at most frame choice is = tt
+legal_for (Some b) at most frame choice is = λ taken. choices-are-legal (finished b) b.registers choice (is taken)
 
-    start : World
-    start = world old (before f.given rest) said None
+well : (w : World) → IsScannedAt w → IsWellChosen w
+well w is serving =
+    legal_for (generator_of w.state.d).build (register 4 w.state.d) (register 5 w.state.d) (register 6 w.state.d)
+    (next_choice w.state.d.outside.making.row) (is serving)
+
+-- a run that has ended serves nothing
+over : (w : World) (e : End) → w.ending ≡ Some e → IsScannedAt w
+over w e is serving = absurd (false≢true (sym (none_served w.ending is) ∙ serving))
+  where
+    none_served : (o : Option End) → o ≡ Some e →
+        (if is_some o then false else (is_at_service w.state && (nat_eq (register 2 w.state.d) 66 &&
+        not (is_hazard Syscall w.state)))) ≡ false
+    none_served (Some x) same = refl
+    none_served None same = absurd cc
+
+module _ {n : ℕ} {old new : Progress} {left later taken told : Option (List ℕ)} {stop : Stop}
+    (f : Ran n old new left later taken told stop) (rest : Input) (u : Unkept) (m : MayFollow old new stop rest)
+  where
+    abbrev first : World
+    first = start old f.given f.chosen f.refused rest u
+
+    pub counts_steps : steps_within f.count first ≡ f.count
+    counts_steps = steps_are f.count first (f.alive rest u m)
 
     no_last_bytes : stop ≢ WriteFault →
-        world new rest (said ++ f.events ++ outs f.last) (ending_of stop) ≡ world new rest (said ++ f.events)
-        (ending_of stop)
-    no_last_bytes other = ap (λ (l : List ℕ). world new rest (said ++ f.events ++ outs l) (ending_of stop))
-        (f.whole other) ∙ ap (λ (l : List Item). world new rest l (ending_of stop)) (append-nil (said ++ f.events))
+        world new rest (choosing f.refused (more (outs f.last) (told_of f.events f.noted u))) (ending_of stop) ≡ world
+        new rest (choosing f.refused (told_of f.events f.noted u)) (ending_of stop)
+    no_last_bytes other = ap (λ (l : List ℕ). world new rest
+        (choosing f.refused (more (outs l) (told_of f.events f.noted u))) (ending_of stop)) (f.whole other) ∙
+        ap (λ (l : List Item). world new rest (saying l (choosing f.refused (told_of f.events f.noted u)))
+        (ending_of stop)) (append-nil (u.history ++ f.events))
 
     abbrev AllRun : Type 0
-    AllRun = (run n (world old (before f.given rest) said None) ≡ world new rest (said ++ f.events) (ending_of stop)) ×
-        (steps_within n (world old (before f.given rest) said None) ≡ f.count)
+    AllRun = (run n (start old f.given f.chosen f.refused rest u) ≡ world new rest
+        (choosing f.refused (told_of f.events f.noted u)) (ending_of stop)) ×
+        (steps_within n (start old f.given f.chosen f.refused rest u) ≡ f.count)
 
     all_run : stop ≢ WriteFault → f.count ≡ n → AllRun
     all_run other e = (
-      ap (λ i. run i (world old (before f.given rest) said None)) (sym e) ∙ f.ran rest said m ∙
-          no_last_bytes other,
-      ap (λ i. steps_within i (world old (before f.given rest) said None)) (sym e) ∙ counts_steps,
+      ap (λ i. run i first) (sym e) ∙ f.ran rest u m ∙ no_last_bytes other,
+      ap (λ i. steps_within i first) (sym e) ∙ counts_steps,
     )
+
+    has_ended : stop ≢ WriteFault → (e : End) → ending_of stop ≡ Some e → (run f.count first).ending ≡ Some e
+    has_ended other e is = ap (λ (v : World). v.ending) (f.ran rest u m ∙ no_last_bytes other) ∙ is
 
     ended_run : stop ≢ WriteFault → (e : End) → ending_of stop ≡ Some e → AllRun
     ended_run other e is =
-        let more : n ≡ f.count + (n - f.count) = omega (arith, f.within) in
-        let there = f.ran rest said m ∙ no_last_bytes other in
-        let ended : (run f.count (world old (before f.given rest) said None)).ending ≡ Some e =
-        ap (λ (v : World). v.ending) there ∙ is in (
-          ap (λ i. run i (world old (before f.given rest) said None)) more
-              ∙ run-+ f.count (n - f.count) (world old (before f.given rest) said None)
-              ∙ run_stays (n - f.count) (run f.count (world old (before f.given rest) said None)) e ended
+        let more_of : n ≡ f.count + (n - f.count) = omega (arith, f.within) in
+        let there = f.ran rest u m ∙ no_last_bytes other in
+        let ended = has_ended other e is in (
+          ap (λ i. run i first) more_of
+              ∙ run-+ f.count (n - f.count) first
+              ∙ run_stays (n - f.count) (run f.count first) e ended
               ∙ there,
-          ap (λ i. steps_within i (world old (before f.given rest) said None)) more
-              ∙ steps_end f.count (n - f.count) (world old (before f.given rest) said None) e (f.alive rest said m) ended,
+          ap (λ i. steps_within i first) more_of
+              ∙ steps_end f.count (n - f.count) first e (f.alive rest u m) ended,
         )
 
+    -- a run that has ended finishes no function
+    scanned_behind : stop ≢ WriteFault → (e : End) → ending_of stop ≡ Some e → (i : ℕ) → IsScannedAt (run i first)
+    scanned_behind other e is i = ⊎_elim (f.scanned rest u m i)
+        (λ late.
+        let k : i ≡ f.count + (i - f.count) = omega (arith, late) in
+        let there : run i first ≡ run f.count first =
+        ap (λ j. run j first) k
+        ∙ (run-+ f.count (i - f.count) first
+        ∙ run_stays (i - f.count) (run f.count first) e (has_ended other e is)) in
+        subst IsScannedAt (sym there) (over (run f.count first) e (has_ended other e is)))
+        (cases_lt i f.count)
+
+    scanned_on : f.count ≡ n → (i : ℕ) → i < n → IsScannedAt (run i first)
+    scanned_on e i lt = f.scanned rest u m i (omega (arith, e, lt))
+
+    pub chooses_so_far : (i : ℕ) → i < f.count → IsWellChosen (run i first)
+    chooses_so_far i lt = well (run i first) (f.scanned rest u m i lt)
+
 pub runs_all : {n : ℕ} {old new : Progress} {left later taken told : Option (List ℕ)} (stop : Stop) →
-    stop ≢ WriteFault → (f : Ran n old new left later taken told stop) (rest : Input) (said : List Item) →
+    stop ≢ WriteFault → (f : Ran n old new left later taken told stop) (rest : Input) (u : Unkept) →
     MayFollow old new stop rest
-    → (run n (world old (before f.given rest) said None) ≡ world new rest (said ++ f.events) (ending_of stop)) ×
-    (steps_within n (world old (before f.given rest) said None) ≡ f.count)
-runs_all Steps other f rest said m = all_run f rest said m other (f.all refl)
-runs_all (Ended e) other f rest said m = ended_run f rest said m other _ refl
-runs_all (Fault k at) other f rest said m = ended_run f rest said m other _ refl
-runs_all ReadFault other f rest said m = ended_run f rest said m other _ refl
-runs_all WriteFault other f rest said m = absurd (other refl)
+    → (run n (start old f.given f.chosen f.refused rest u) ≡ world new rest
+    (choosing f.refused (told_of f.events f.noted u)) (ending_of stop)) ×
+    (steps_within n (start old f.given f.chosen f.refused rest u) ≡ f.count)
+runs_all Steps other f rest u m = all_run f rest u m other (f.all refl)
+runs_all (Ended e) other f rest u m = ended_run f rest u m other _ refl
+runs_all (Fault k at) other f rest u m = ended_run f rest u m other _ refl
+runs_all ReadFault other f rest u m = ended_run f rest u m other _ refl
+runs_all WriteFault other f rest u m = absurd (other refl)
+
+scanned_all : {n : ℕ} {old new : Progress} {left later taken told : Option (List ℕ)} (stop : Stop) →
+    stop ≢ WriteFault → (f : Ran n old new left later taken told stop) (rest : Input) (u : Unkept) →
+    MayFollow old new stop rest → (i : ℕ) → i < n → IsScannedAt (run i (start old f.given f.chosen f.refused rest u))
+scanned_all Steps other f rest u m i lt = scanned_on f rest u m (f.all refl) i lt
+scanned_all (Ended e) other f rest u m i lt = scanned_behind f rest u m other _ refl i
+scanned_all (Fault k at) other f rest u m i lt = scanned_behind f rest u m other _ refl i
+scanned_all ReadFault other f rest u m i lt = scanned_behind f rest u m other _ refl i
+scanned_all WriteFault other f rest u m i lt = absurd (other refl)
+
+pub chooses_well : {n : ℕ} {old new : Progress} {left later taken told : Option (List ℕ)} (stop : Stop) →
+    stop ≢ WriteFault → (f : Ran n old new left later taken told stop) (rest : Input) (u : Unkept) →
+    MayFollow old new stop rest → (i : ℕ) → i < n →
+    IsScannedAt (run i (start old f.given f.chosen f.refused rest u))
+    × IsWellChosen (run i (start old f.given f.chosen f.refused rest u))
+chooses_well {old = old} stop other f rest u m i lt =
+    let is = scanned_all stop other f rest u m i lt in
+    (is, well (run i (start old f.given f.chosen f.refused rest u)) is)

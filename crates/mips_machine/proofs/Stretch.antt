@@ -1,42 +1,58 @@
 -- Instructions up to the next service: nothing is read or written, and the outside stays.
-use Rattle.std.proofs.Common.{◌≡◌, ◌≢◌, ℕ, ◌+◌, List, [], Option, None, Some, refl, sym, ap, ◌∙◌, subst, arith}
+use Rattle.std.proofs.Common.{◌≡◌, ◌≢◌, ℕ, ◌+◌, Bool, true, false, ◌&&◌, not, nat_eq, is_some, if◌then◌else◌, List, []}
+use Rattle.std.proofs.Common.{Option, None, Some, refl, sym, ap, ◌∙◌, subst, arith}
 use Rattle.std.specs.Fn.{iterate}
 use Rattle.std.proofs.KnownBytes.{Consumes-nil, Appends-nil}
 use Rattle.std.proofs.lemmas.Bool.{false≢true}
-use Rattle.history.specs.Events.{Item, End, Input}
-use Rattle.mips_model.specs.State.{Outside, World}
-use Rattle.mips_model.specs.Steps.{step, run}
-use Rattle.mips_model.specs.Beside.{beside, beside_state}
+use Rattle.history.specs.Events.{End, Input}
+use Rattle.icode_service_spec.specs.Services.{Generator}
+use Rattle.mips_encoder.specs.declared.instruction.Instr.TheVariants.{Syscall}
+use Rattle.mips_model.specs.State.{Outside, World, register}
+use Rattle.mips_model.specs.Steps.{step, run, is_hazard}
+use Rattle.mips_model.specs.Beside.{beside, beside_state, is_at_service}
 use Rattle.mips_core.specs.declared.halt.Halt.{Halt}
 use Rattle.mips_core.specs.declared.halt.Halt.TheVariants as halt
 use Rattle.mips_core.specs.Core.{GoesOn, state_of, world_of, ending_from}
 use Rattle.mips_machine.specs.declared.stop.Stop.{Stop}
+use Rattle.mips_machine.specs.declared.tally.Tally.{Tally}
 use Rattle.mips_machine.specs.declared.stop.Stop.TheVariants.{Steps, ReadFault, WriteFault}
-use Rattle.mips_machine.specs.Progress.{Held, progress_of, world}
-use Rattle.mips_machine.specs.Ran.{Ran, ending_of}
+use Rattle.mips_machine.specs.Progress.{Held, Unkept, outside_with, outside_of, progress_of, world}
+use Rattle.mips_machine.specs.Ran.{Ran, IsScannedAt, ending_of}
 use Rattle.mips_machine.specs.Served.{stop_of, stop_from}
 use Rattle.mips_machine.proofs.Quiet.{said_all}
 
 -- the outside stays, and so many instructions more were executed
 pub record Stays (count : ℕ) (old new : Held) : Type 0 where
   pub at_end : new.at_end ≡ old.at_end
-  pub flushes : new.flushes ≡ old.flushes
+  pub generator : new.generator ≡ old.generator
+  pub tally : new.tally ≡ old.tally
   pub steps : new.steps ≡ old.steps + count
 
 -- what is to come and what took place, beside what a machine keeps
-abbrev with : Held → Input → List Item → Outside
-with h input history = record { input = input; at_end = h.at_end; history = history; flushes = h.flushes }
+abbrev with : Held → Input → Unkept → Outside
+with h input u = outside_with input u (outside_of h)
 
-world_is : (h : Held) (input : Input) (history : List Item) (e : Option End) → ending_from h.core.stopped ≡ e →
-    beside (with h input history) (world_of h.core) ≡ world (progress_of h) input history e
-world_is h input history e is =
-    ap (λ (x : Option End). record { state = beside_state (with h input history) (state_of h.core); ending = x }) is
+world_is : (h : Held) (input : Input) (u : Unkept) (e : Option End) → ending_from h.core.stopped ≡ e →
+    beside (with h input u) (world_of h.core) ≡ world (progress_of h) input u e
+world_is h input u e is =
+    ap (λ (x : Option End). record { state = beside_state (with h input u) (state_of h.core); ending = x }) is
 
-same_outside : {count : ℕ} {old new : Held} → Stays count old new → (input : Input) (history : List Item) →
-    with old input history ≡ with new input history
-same_outside {count} {old} {new} s input history =
-    ap (λ b. record { input = input; at_end = b; history = history; flushes = old.flushes }) (sym s.at_end)
-    ∙ ap (λ n. record { input = input; at_end = new.at_end; history = history; flushes = n }) (sym s.flushes)
+same_outside : {count : ℕ} {old new : Held} → Stays count old new → (input : Input) (u : Unkept) →
+    with old input u ≡ with new input u
+same_outside {count} {old} {new} s input u =
+    ap (λ (b : Bool). with (record old { at_end = b }) input u) (sym s.at_end)
+    ∙ (ap (λ (g : Generator). with (record old { at_end = new.at_end; generator = g }) input u) (sym s.generator)
+    ∙ ap (λ (t : Tally). with (record new { tally = t }) input u) (sym s.tally))
+
+-- an instruction that is no service finishes no function
+idle_at : (w : World) → is_at_service w.state ≡ false → IsScannedAt w
+idle_at w is serving = absurd (false≢true (sym (none_served (is_some w.ending) (is_at_service w.state) is) ∙ serving))
+  where
+    none_served : (b c : Bool) → c ≡ false →
+        (if b then false else (c && (nat_eq (register 2 w.state.d) 66 && not (is_hazard Syscall w.state)))) ≡ false
+    none_served true c e = refl
+    none_served false c e =
+        ap (λ (x : Bool). x && (nat_eq (register 2 w.state.d) 66 && not (is_hazard Syscall w.state))) e
 
 pub stretch_ran : (count : ℕ) (old new : Held) (left taken : Option (List ℕ)) (stop : Stop) → stop ≢ ReadFault →
     stop ≢ WriteFault
@@ -60,17 +76,24 @@ stretch_ran count old new left taken stop no_read no_write on g s is = record {
   cut = λ w. absurd (no_write w);
   stays = λ h. (refl, s.at_end ∙ h);
   at_end = λ h n. absurd (false≢true (sym n ∙ sym s.at_end ∙ h));
-  ran = λ rest said m.
-      ap (λ (w : World). iterate step count w) (sym (world_is old rest said None (ap ending_from on)))
-      ∙ g.ran (with old rest said)
-      ∙ ap (λ (o : Outside). beside o (world_of new.core)) (same_outside s rest said)
-      ∙ world_is new rest said (ending_of stop) is
-      ∙ said_all (progress_of new) rest said (ending_of stop);
-  alive = λ rest said m k lt.
-      ap (λ (w : World). (iterate step k w).ending) (sym (world_is old rest said None (ap ending_from on)))
-      ∙ g.alive (with old rest said) k lt;
   unended = λ r. absurd (no_read r);
+  noted = λ n. n;
+  chosen = [];
+  refused = [];
+  spent = λ e. refl;
+  ran = λ rest u m.
+      ap (λ (w : World). iterate step count w) (sym (world_is old rest u None (ap ending_from on)))
+      ∙ g.ran (with old rest u)
+      ∙ ap (λ (o : Outside). beside o (world_of new.core)) (same_outside s rest u)
+      ∙ world_is new rest u (ending_of stop) is
+      ∙ said_all (progress_of new) rest u (ending_of stop);
+  alive = λ rest u m k lt.
+      ap (λ (w : World). (iterate step k w).ending) (sym (world_is old rest u None (ap ending_from on)))
+      ∙ g.alive (with old rest u) k lt;
   earlier = λ w. absurd (no_write w);
+  scanned = λ rest u m k lt.
+      subst (λ (w : World). IsScannedAt (iterate step k w)) (world_is old rest u None (ap ending_from on))
+      (idle_at (iterate step k (beside (with old rest u) (world_of old.core))) (g.others (with old rest u) k lt));
 }
 
 -- the stop that the core's halt is

@@ -1,3 +1,4 @@
+pub mod Tallies
 pub mod Progress
 pub mod Ran
 pub mod Served

@@ -7,10 +7,15 @@ use Rattle.std.specs.Io.KnownBytes.{Appends, Consumes, IsAtEnd}
 use Rattle.host_edge.specs.Causes.{Rose}
 use Rattle.history.specs.Events.{Item, Out, In, Made, Entered, End, Input, output, outs}
 use Rattle.history.specs.Events as event
+use Rattle.icode_service.specs.Served.{ChosenFor}
+use Rattle.icode_service_spec.specs.Choices.{Choice}
+use Rattle.mips_model.specs.State.{World, register}
+use Rattle.mips_model.specs.Services.{generator_of, next_choice}
 use Rattle.mips_model.specs.Steps.{run}
+use Rattle.mips_model.specs.Run.{is_serving}
 use Rattle.mips_machine.specs.declared.stop.Stop.{Stop}
 use Rattle.mips_machine.specs.declared.stop.Stop.TheVariants.{Ended, Fault, Steps, ReadFault, WriteFault}
-use Rattle.mips_machine.specs.Progress.{Progress, is_at_end, no_input, world}
+use Rattle.mips_machine.specs.Progress.{Progress, Notes, Unkept, is_at_end, no_input, choosing, more, world}
 
 -- the ending that a stop tells of
 abbrev pub ending_of : Stop → Option End
@@ -50,9 +55,26 @@ bytes_read (In w ∷ items) = if nat_eq w 4294967295 then bytes_read items else 
 bytes_read (Made f syntax ∷ items) = bytes_read items
 bytes_read (Entered f ∷ items) = bytes_read items
 
+-- where the next instruction is the service that finishes a function, the choice of places is that of linear scan, if
+-- the function gets as far as that
+abbrev pub IsScannedAt : World → Type 0
+IsScannedAt w =
+    is_serving 66 w ≡ true → ChosenFor (generator_of w.state.d).build (register 4 w.state.d) (register 5 w.state.d)
+    (register 6 w.state.d) (next_choice w.state.d.outside.making.row)
+
+-- these events took place behind those before, and so much more is said of functions
+abbrev pub told_of : List Item → (Notes → Notes) → Unkept → Unkept
+told_of events noted u = record u { history = u.history ++ events; notes = noted u.notes }
+
+-- where a call begins that is given these bytes and choices
+abbrev pub start : Progress → List ℕ → (chosen refused : List Choice) → Input → Unkept → World
+start old given chosen refused rest u = world old (before given rest) (choosing chosen (choosing refused u)) None
+
 -- Within n instructions: the input began with the bytes `given`, the events took place, whose bytes were put out,
--- and of the last service, whose write failed, a front part of its bytes `last`. Exactly `count` instructions were
--- executed, since the run had not ended before the last of them. A read fails only where the end wasn't read.
+-- and of the last service, whose write failed, a front part of its bytes `last`. The functions that were finished took
+-- the choices `chosen`, and one whose finish was refused as the last instruction had looked at those of `refused`.
+-- Exactly `count` instructions were executed, since the run had not ended before the last of them. A read fails only
+-- where the end wasn't read.
 pub record Ran (n : ℕ) (old new : Progress) (left later taken told : Option (List ℕ)) (stop : Stop) : Type 0 where
   pub count : ℕ
   pub within : count ≤ n
@@ -70,14 +92,20 @@ pub record Ran (n : ℕ) (old new : Progress) (left later taken told : Option (L
   pub stays : is_at_end old ≡ true → (given ≡ []) × (is_at_end new ≡ true)
   pub at_end : is_at_end new ≡ true → is_at_end old ≡ false → EndsFrom left later
   pub unended : stop ≡ ReadFault → is_at_end new ≡ false
-  pub ran : (rest : Input) (said : List Item) → MayFollow old new stop rest
-      → run count (world old (before given rest) said None) ≡ world new rest (said ++ events ++ outs last)
-      (ending_of stop)
-  pub alive : (rest : Input) (said : List Item) → MayFollow old new stop rest
-      → (m : ℕ) → m < count → (run m (world old (before given rest) said None)).ending ≡ None
+  pub noted : Notes → Notes
+  pub chosen : List Choice
+  pub refused : List Choice
+  pub spent : stop ≡ Steps → refused ≡ []
+  pub ran : (rest : Input) (u : Unkept) → MayFollow old new stop rest
+      → run count (start old given chosen refused rest u)
+      ≡ world new rest (choosing refused (more (outs last) (told_of events noted u))) (ending_of stop)
+  pub alive : (rest : Input) (u : Unkept) → MayFollow old new stop rest
+      → (m : ℕ) → m < count → (run m (start old given chosen refused rest u)).ending ≡ None
   pub earlier : stop ≡ WriteFault → (m : ℕ) × (count ≡ m + 1)
-      × ((rest : Input) (said : List Item) → MayFollow old new stop rest
-      → (run m (world old (before given rest) said None)).state.d.outside.history ≡ said ++ events)
+      × ((rest : Input) (u : Unkept) → MayFollow old new stop rest
+      → (run m (start old given chosen refused rest u)).state.d.outside.history ≡ u.history ++ events)
+  pub scanned : (rest : Input) (u : Unkept) → MayFollow old new stop rest
+      → (m : ℕ) → m < count → IsScannedAt (run m (start old given chosen refused rest u))
 
 -- a fault comes only where its count rose, and else the count stays
 abbrev pub ReadCause : Stop → ℕ → ℕ → Type 0

@@ -3,15 +3,22 @@
 use Rattle.std.specs.Prelude.{◌≡◌, ◌⊎◌, ℕ, ◌+◌, ◌-◌, ◌<◌, true, false, List, [], ◌∷◌, Option, Some, None}
 use Rattle.std.specs.Io.KnownBytes.{Keeps, Appends, Consumes, IsAtEnd}
 use Rattle.host_edge.specs.Moves.{TakesFront}
-use Rattle.code_arena.specs.Arena.{flushed}
+use Rattle.host_edge.specs.declared.ending.MachineKind.TheVariants as kind
+use Rattle.code_arena.specs.Arena.{Arena}
+use Rattle.icode_service.specs.Served.{IsChosen}
+use Rattle.icode_service_spec.specs.Choices.{Choice}
+use Rattle.icode_service_spec.specs.Services as services
+use Rattle.icode_service_spec.specs.Services.{Generator, Rows, Outcome, Refused, Does}
 use Rattle.mips_core.specs.declared.halt.Halt.{Halt}
 use Rattle.mips_core.specs.declared.halt.Halt.TheVariants as halt
 use Rattle.mips_model.specs.State.{Outside, register}
-use Rattle.mips_model.specs.Accesses.{Effect, Plain, Changes, arena_word}
-use Rattle.mips_model.specs.Services.{answer, with_outside}
-use Rattle.mips_model.specs.Steps.{apply}
+use Rattle.mips_model.specs.declared.service.Service.{Service}
+use Rattle.mips_model.specs.Accesses.{Effect, Plain}
+use Rattle.mips_model.specs.Services.{answer, with_outside, generator_of}
+use Rattle.mips_model.specs.Steps.{apply, onward}
 use Rattle.mips_machine.specs.declared.stop.Stop.{Stop}
 use Rattle.mips_machine.specs.declared.stop.Stop.TheVariants.{Ended, Fault, Steps, ReadFault, WriteFault}
+use Rattle.mips_machine.specs.Tallies.{tallied, tally_of, with_tally}
 use Rattle.mips_machine.specs.Progress.{Progress, is_at_end}
 
 -- the stop that the core's halt is, and the stop that is kept, or all instructions were executed
@@ -42,15 +49,6 @@ ended_outside o = record o { at_end = true }
 abbrev pub input_ended : Progress → Progress
 input_ended p = after (Plain (answer 4294967295 (with_outside (ended_outside p.state.d.outside) p.state.d))) p
 
--- so many words of the arena from an address on were flushed
-abbrev pub flushed_outside : Outside → Outside
-flushed_outside o = record o { flushes = o.flushes + 1 }
-
-abbrev pub flushed_at : ℕ → ℕ → Progress → Progress
-flushed_at at count p =
-    after (Changes (flushed (arena_word at) count)
-    (answer 0 (with_outside (flushed_outside p.state.d.outside) p.state.d))) p
-
 -- the arguments of a service, and its number
 abbrev pub argument : Progress → ℕ
 argument p = register 4 p.state.d
@@ -60,6 +58,39 @@ second_argument p = register 5 p.state.d
 
 abbrev pub number : Progress → ℕ
 number p = register 2 p.state.d
+
+abbrev pub with_generator : Generator → Outside → Outside
+with_generator g o = record o { making = record o.making { generator = g } }
+
+-- a service that makes code answered, and changed generator, arena and function table so
+abbrev pub made : Service → ℕ → Generator → (Arena → Arena) → (Rows → Rows) → Progress → Progress
+made service v g change set p = record {
+  state = (onward (p.state.next + 4) 0 (p.state.recent - 1) false
+      (record p.state.code { arena = change p.state.code.arena })
+      (answer v (with_outside
+      (with_tally (tallied service v (tally_of p.state.d.outside)) (with_generator g p.state.d.outside))
+      (record p.state.d { table = set p.state.d.table }))) p.state).state;
+  steps = p.steps + 1;
+}
+
+-- the service of the number in its register, under a choice of places
+abbrev pub outcome : Choice → Progress → Outcome
+outcome choice p =
+    services.service choice (number p) (register 4 p.state.d) (register 5 p.state.d) (register 6 p.state.d)
+    (generator_of p.state.d)
+
+-- the service was refused and only the instruction is counted, or it did what it does
+abbrev pub Makes : Outcome → Service → Progress → Progress → Stop → Type 0
+Makes (Refused why) service old new stop = (new ≡ counted old) × (stop ≡ Fault kind.BadService old.state.pc)
+Makes (Does v g change set) service old new stop = (new ≡ made service v g change set old) × (stop ≡ Steps)
+
+-- the same, and the choice is that of linear scan
+abbrev pub Generates : Service → Progress → Progress → Stop → Type 0
+Generates service old new stop =
+    (choice : Choice)
+    × IsChosen (number old) (register 4 old.state.d) (register 5 old.state.d) (register 6 old.state.d)
+    (generator_of old.state.d) choice
+    × Makes (outcome choice old) service old new stop
 
 -- bytes were put out, or the write of them failed
 abbrev pub Puts : Stop → Option (List ℕ) → Option (List ℕ) → List ℕ → Type 0

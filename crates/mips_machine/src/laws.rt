@@ -1,6 +1,7 @@
 //! Laws of calls.
 ghost use Rattle.std.specs.Prelude.{◌≡◌, ◌≤◌, ◌+◌, ◌^◌, None};
-ghost use Rattle.mips_machine.specs.Laws.{TwoAreOne, CountsSteps, RunsAll, RunsOnTold, BeginsThere};
+ghost use Rattle.mips_machine.specs.Laws.{TwoAreOne, CountsSteps, RunsAll, RunsOnTold, BeginsThere, ChoosesWell};
+ghost use Rattle.mips_machine.specs.Laws.{ChoosesSoFar};
 ghost use Rattle.mips_machine.specs.Progress.{progress_of};
 ghost use Rattle.mips_machine.specs.Ran.{Ran};
 
@@ -30,6 +31,16 @@ pub fn runs_on_told()
 /// A machine that has executed nothing begins the definition's run of its image.
 pub fn begins_there()
     ensures { BeginsThere }
+{}
+
+/// Where no write failed, each function that was finished took the choice of linear scan, a legal one.
+pub fn chooses_well()
+    ensures { ChoosesWell }
+{}
+
+/// And else those that were finished in the instructions that were executed.
+pub fn chooses_so_far()
+    ensures { ChoosesSoFar }
 {}
 
 /// Runs twice, as once with the sum.

@@ -1,13 +1,15 @@
 //! The machine.
-ghost use Rattle.std.specs.Prelude.{◌≡◌, ◌≢◌, ◌≤◌, ◌<◌, ◌+◌, ◌-◌, ◌^◌, true, ℕ, List, Option, IfOk, IfSome, None, Some, []};
+ghost use Rattle.std.specs.Prelude.{◌≡◌, ◌≢◌, ◌≤◌, ◌<◌, ◌+◌, ◌-◌, ◌^◌, true, ℕ, List, Option, IfOk, IfSome, None, Some};
 ghost use Rattle.mips_model.specs.Beside.{is_at_service};
 ghost use Rattle.mips_core.specs.Core.{state_of};
 ghost use Rattle.mips_machine.specs.Progress.{first_progress, counts_of, progress_of};
 ghost use Rattle.mips_machine.specs.Ran.{Ran, ReadCause, WriteCause, kept_stop};
 ghost use Rattle.mips_machine.specs.Served.{stop_of, stop_from};
 
+use crate::tally::Tally;
 use crate::{Counts, Stop};
 use host_edge::{Sink, Source};
+use icode_service::Service as CodeService;
 use image_file::Image;
 use mips_core::{Core, Halt};
 use std::alloc::{AllocError, Global};
@@ -17,34 +19,35 @@ use std::marker::Model;
 #[derive(Drop)]
 pub struct Machine {
     pub(crate) core: Core,
+    pub(crate) service: CodeService,
     pub(crate) at_end: bool,
-    pub(crate) flushes: u64,
+    pub(crate) tally: Tally,
     pub(crate) steps: u64,
     pub(crate) stopped: Option<Stop>,
-    choices: Vec<u8>,
 }
 
 impl Model for Machine {
-    ghost use Rattle.std.specs.Prelude.{◌≡◌, []};
     ghost use Rattle.mips_machine.specs.Progress.{Held, IsMachine};
 
     ghost Value = { Held };
 
     ghost view = { λ m. record {
       core = m.core;
+      generator = m.service;
       at_end = m.at_end;
-      flushes = m.flushes;
+      tally = m.tally;
       steps = m.steps;
       stopped = m.stopped;
     } };
 
     ghost invariant = { λ m. IsMachine (record {
       core = m.core;
+      generator = m.service;
       at_end = m.at_end;
-      flushes = m.flushes;
+      tally = m.tally;
       steps = m.steps;
       stopped = m.stopped;
-    }) × (m.choices.items ≡ []) };
+    }) };
 }
 
 /// The stop that a core's own halt is.
@@ -66,13 +69,26 @@ impl Machine {
         ensures state { IfOk result (λ m. progress_of m ≡ first_progress image.now) }
         ensures fresh { IfOk result (λ m. m.stopped ≡ None) }
     {
+        let core = Core::new(alloc, image)?;
+        let service = match CodeService::new(alloc) {
+            Ok(service) => service,
+            Err(why) => {
+                drop(core);
+                return Err(why);
+            }
+        };
         Ok(Machine {
-            core: Core::new(alloc, image)?,
+            core,
+            service,
             at_end: false,
-            flushes: 0,
+            tally: Tally {
+                ops: 0,
+                functions: 0,
+                words: 0,
+                flushes: 0,
+            },
             steps: 0,
             stopped: None,
-            choices: Vec::new(alloc),
         })
     }
 
@@ -83,32 +99,33 @@ impl Machine {
         self.steps
     }
 
-    /// What the services were asked for so far.
+    /// What the services were asked for so far, refused ones aside.
     pub fn counts(&self) -> Counts
         ensures { result ≡ counts_of (progress_of self.now).state.d.outside }
     {
         Counts {
-            ops: 0,
-            functions: 0,
-            words: 0,
-            flushes: self.flushes,
-            spills: 0,
+            ops: self.tally.ops,
+            functions: self.tally.functions,
+            words: self.tally.words,
+            flushes: self.tally.flushes,
+            spills: self.service.spills(),
         }
     }
 
-    /// The register places that finished functions took, in their order. No service finishes a function yet, so there
-    /// are none.
+    /// The register places of the function that was finished last, one for each register; none before the first.
     pub fn choices(&self) -> &[u8]
-        ensures { result.now ≡ [] }
+        ensures { result.now ≡ (progress_of self.now).state.d.outside.making.generator.choices }
     {
-        self.choices.as_slice()
+        self.service.choices()
     }
 
     /// The same places, for which the machine is given up.
     pub fn into_choices(self) -> Vec<u8>
-        ensures { result.items ≡ [] }
+        ensures { result.items ≡ (progress_of self).state.d.outside.making.generator.choices }
     {
-        self.choices
+        let Machine { core, service, .. } = self;
+        drop(core);
+        service.into_choices()
     }
 
     // Executes up to n instructions until the machine stops or a service is next, and answers how many of n are left.

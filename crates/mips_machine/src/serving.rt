@@ -1,18 +1,18 @@
-//! The services that SYSCALL offers. Their number is in `$v0`, their arguments are in `$a0` and `$a1`, and their answer
+//! The services that SYSCALL offers. Their number is in `$v0`, their arguments are in `$a0` to `$a2`, and their answer
 //! goes to `$v0`.
-ghost use Rattle.std.specs.Prelude.{◌≡◌, ◌≢◌, ◌≤◌, ◌<◌, ◌+◌, ◌%◌, ◌^◌, true, false, None, Some, [], ◌∷◌, List};
+ghost use Rattle.std.specs.Prelude.{◌≡◌, ◌≢◌, ◌≤◌, ◌<◌, ◌+◌, ◌%◌, ◌^◌, true, false, None, Some, [], ◌∷◌};
 ghost use Rattle.mips_model.specs.Beside.{is_at_service};
 ghost use Rattle.history.specs.Events.{number_bytes};
-ghost use Rattle.mips_model.specs.Services as services;
+ghost use Rattle.mips_model.specs.Services.{service_of};
 ghost use Rattle.mips_core.specs.Core.{state_of, is_service_hazard};
-ghost use Rattle.mips_machine.specs.Progress.{Progress, progress_of};
+ghost use Rattle.mips_machine.specs.Progress.{progress_of};
 ghost use Rattle.mips_machine.specs.Ran.{Ran, ReadCause, WriteCause};
-ghost use Rattle.mips_machine.specs.Served.{counted, answered, input_ended, flushed_at, argument, second_argument, number, stop_from, Puts, Takes};
+ghost use Rattle.mips_machine.specs.Served.{counted, answered, input_ended, argument, number, stop_from, Puts, Takes};
+ghost use Rattle.mips_machine.specs.Served.{Generates};
 
 use crate::{Machine, Stop};
 use host_edge::{Ending, MachineKind, Sink, Source, read_byte, write_whole};
 use itoa::Buffer;
-use mips_core::is_arena_range;
 use mips_encoder::Register;
 use mips_model::Service;
 
@@ -137,24 +137,22 @@ impl Machine {
         }
     }
 
-    // Service 67.
-    fn flush(&mut self)
+    // The services from 64 on: what makes code answers, or is refused.
+    fn generate(&mut self, service: Service)
         requires fresh { self.old.stopped ≡ None }
         requires room { self.old.steps < 2 ^ 40 }
         requires next { self.old.core.next < 4294967296 }
-        ensures flushed { services.is_arena_range (argument (progress_of self.old)) (second_argument (progress_of self.old)) ≡ true
-            → (progress_of self.new ≡ flushed_at (argument (progress_of self.old)) (second_argument (progress_of self.old)) (progress_of self.old)) × (self.new.stopped ≡ None) }
-        ensures refused { services.is_arena_range (argument (progress_of self.old)) (second_argument (progress_of self.old)) ≡ false
-            → (progress_of self.new ≡ counted (progress_of self.old)) × (self.new.stopped ≡ Some (Stop.Fault MachineKind.BadService self.old.core.pc)) }
+        requires is { service_of (number (progress_of self.old)) ≡ Some service }
+        ensures made { Generates service (progress_of self.old) (progress_of self.new) (stop_from self.new.stopped) }
+        ensures no_read { ReadCause (stop_from self.new.stopped) 0 0 }
+        ensures no_write { WriteCause (stop_from self.new.stopped) 0 0 }
     {
-        let at = self.core.register(Register::A0);
-        let count = self.core.register(Register::A1);
-        if is_arena_range(at, count) {
-            self.core.flush(at, count);
-            self.flushes += 1;
-            self.steps += 1;
-        } else {
-            self.refuse(MachineKind::BadService);
+        match self.core.generate(&mut self.service) {
+            Ok(v) => {
+                self.tally.add(service, v);
+                self.steps += 1;
+            }
+            Err(_) => self.refuse(MachineKind::BadService),
         }
     }
 
@@ -174,7 +172,11 @@ impl Machine {
             Some(Service::Exit) => self.exit(),
             Some(Service::PutByte) => self.put_byte(out),
             Some(Service::GetByte) => self.get_byte(input),
-            Some(Service::Flush) => self.flush(),
+            Some(Service::Begin) => self.generate(Service::Begin),
+            Some(Service::Emit) => self.generate(Service::Emit),
+            Some(Service::Finish) => self.generate(Service::Finish),
+            Some(Service::Flush) => self.generate(Service::Flush),
+            Some(Service::Publish) => self.generate(Service::Publish),
             None => self.refuse(MachineKind::BadService),
         }
     }

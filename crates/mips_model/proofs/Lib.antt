@@ -3,3 +3,4 @@ pub mod Runs
 pub mod Reach
 pub mod Traces
 pub mod Loaded
+pub mod Told

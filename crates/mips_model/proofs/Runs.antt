@@ -13,11 +13,15 @@ use Rattle.history.specs.Events.{Item, In, End, Input, Next, Given, AtEnd, Faili
 use Rattle.image_file.specs.Image.{ImageParts}
 use Rattle.mips_encoder.specs.declared.instruction.Instr.TheVariants.{Syscall}
 use Rattle.mips_model.specs.declared.service.Service.{Service}
-use Rattle.mips_model.specs.declared.service.Service.TheVariants.{PutInt, Exit, PutByte, GetByte, Flush}
-use Rattle.mips_model.specs.State.{State, World, register}
-use Rattle.mips_model.specs.Accesses.{Changes, Faults, arena_word}
-use Rattle.code_arena.specs.Arena.{flushed}
-use Rattle.mips_model.specs.Services.{service_of, serve, get, got, read, flush, is_arena_range, answer, with_outside}
+use Rattle.mips_model.specs.declared.service.Service.TheVariants.{PutInt, Exit, PutByte, GetByte, Begin, Emit, Finish}
+use Rattle.mips_model.specs.declared.service.Service.TheVariants.{Flush, Publish}
+use Rattle.icode_codes.specs.Decoded.{op_of}
+use Rattle.icode_service_spec.specs.Choices.{Choice}
+use Rattle.icode_service_spec.specs.Services as services
+use Rattle.icode_service_spec.specs.Services.{Outcome, Refused, Does}
+use Rattle.mips_model.specs.State.{Making, Outside, State, World, register}
+use Rattle.mips_model.specs.Services.{service_of, serve, get, got, read, makes, writes, generator_of}
+use Rattle.mips_model.specs.Services.{next_choice, begun_with, issued_with, spent, published_once, flushed_once}
 use Rattle.mips_model.specs.Steps.{found, word_at, fetch, faulted, apply, act, is_hazard, checked, execute, step, run}
 use Rattle.mips_model.specs.Beside.{is_service, is_at_service}
 use Rattle.mips_model.specs.Run.{see, begins, runs}
@@ -50,7 +54,7 @@ pub ends_once : (m n : ℕ) (w : World) (e : End) → (run m w).ending ≡ Some 
 ends_once m n w e is = run-+ m n w ∙ run_stays n (run m w) e is
 
 -- the events of a world
-abbrev events : World → List Item
+abbrev pub events : World → List Item
 events w = w.state.d.outside.history
 
 abbrev same : (l : List Item) → IsPrefix l l
@@ -71,17 +75,20 @@ get_grows recent s = by s.d.outside.at_end
     by true = (In 4294967295 ∷ [], refl)
     by false = read_grows (next_byte s.d.outside.input) recent s
 
-flush_grows : (at count recent : ℕ) (s : State) →
-    IsPrefix s.d.outside.history (events (apply (flush at count s.d) recent s))
-flush_grows at count recent s = by (is_arena_range at count)
-  where
-    by : (b : Bool) → IsPrefix s.d.outside.history
-        (events (apply (if b then
-        Changes (flushed (arena_word at) count)
-        (answer 0 (with_outside (record s.d.outside { flushes = s.d.outside.flushes + 1 }) s.d)) else
-        Faults kind.BadService) recent s))
-    by true = same s.d.outside.history
-    by false = same s.d.outside.history
+makes_grow : (o : Outcome) (note : Making → Making) (recent : ℕ) (s : State) →
+    IsPrefix s.d.outside.history (events (apply (makes o note s.d) recent s))
+makes_grow (Refused why) note recent s = same s.d.outside.history
+makes_grow (Does v g change set) note recent s = same s.d.outside.history
+
+writes_grow : (o : Outcome) (note : ℕ → Outside → Outside) (recent : ℕ) (s : State) →
+    ((v : ℕ) (x : Outside) → (note v x).history ≡ x.history) →
+    IsPrefix s.d.outside.history (events (apply (writes o note s.d) recent s))
+writes_grow (Refused why) note recent s keeps = same s.d.outside.history
+writes_grow (Does v g change set) note recent s keeps = (
+  [],
+  append-nil s.d.outside.history
+      ∙ sym (keeps v (record s.d.outside { making = record s.d.outside.making { generator = g } })),
+)
 
 serve_grows : (o : Option Service) (recent : ℕ) (s : State) →
     IsPrefix s.d.outside.history (events (apply (serve o s.d) recent s))
@@ -90,7 +97,20 @@ serve_grows (Some PutInt) recent s = (outs (number_bytes (register 4 s.d)), refl
 serve_grows (Some Exit) recent s = same s.d.outside.history
 serve_grows (Some PutByte) recent s = (outs (register 4 s.d % 256 ∷ []), refl)
 serve_grows (Some GetByte) recent s = get_grows recent s
-serve_grows (Some Flush) recent s = flush_grows (register 4 s.d) (register 5 s.d) recent s
+serve_grows (Some Begin) recent s =
+    makes_grow (services.begin (register 4 s.d) (generator_of s.d)) (begun_with (register 4 s.d)) recent s
+serve_grows (Some Emit) recent s =
+    makes_grow (services.emit (register 4 s.d) (register 5 s.d) (register 6 s.d) (generator_of s.d))
+    (issued_with (op_of (register 4 s.d) (register 5 s.d) (register 6 s.d))) recent s
+serve_grows (Some Finish) recent s =
+    writes_grow (services.finish (next_choice s.d.outside.making.row) (register 4 s.d) (register 5 s.d)
+    (register 6 s.d) (generator_of s.d)) (spent (register 4 s.d)) recent s (λ v x. refl)
+serve_grows (Some Flush) recent s =
+    writes_grow (services.flush (register 4 s.d) (register 5 s.d) (generator_of s.d)) flushed_once recent s
+    (λ v x. refl)
+serve_grows (Some Publish) recent s =
+    makes_grow (services.publish (register 4 s.d) (register 5 s.d) (register 6 s.d) (generator_of s.d))
+    published_once recent s
 
 syscall_grows : (s : State) → IsPrefix s.d.outside.history (events (checked Syscall s))
 syscall_grows s = by (is_hazard Syscall s)
@@ -113,12 +133,12 @@ service_grows w is = by (is_some w.ending)
     by true = same (events w)
     by false = found_grows (word_at w.state.code w.state.pc) w.state is
 
-step_grows : (w : World) → IsPrefix (events w) (events (step w))
+pub step_grows : (w : World) → IsPrefix (events w) (events (step w))
 step_grows w = elim (cases_Bool (is_at_service w.state)) [
   | inl t ↦ service_grows w t
   | inr f ↦ ([], append-nil (events w) ∙ sym (ap events (step_aside w w.state.d.outside f)))
 ]
 
-pub grows : (image : ImageParts) (input : Input) (choices : List ℕ) → Grows (runs image input choices)
+pub grows : (image : ImageParts) (input : Input) (choices : List Choice) → Grows (runs image input choices)
 unfolding run
-grows image input choices = steps_grow step see step_grows (λ w e is. step_stays w e is) (begins image input)
+grows image input choices = steps_grow step see step_grows (λ w e is. step_stays w e is) (begins image input choices)

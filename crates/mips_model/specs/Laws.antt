@@ -1,15 +1,17 @@
 -- What every proof about a run of known code stands on: what stands at an address, how the machine gets from one state
 -- to another, that a run's history only grows, and that an ending is final. Instructions stand one behind another, at
 -- addresses that are only ever 4 more than the last.
-use Rattle.std.specs.Prelude.{◌≡◌, ℕ, ◌+◌, false, List, [], ◌∷◌, Some}
+use Rattle.std.specs.Prelude.{◌≡◌, ℕ, ◌+◌, ◌<◌, false, List, [], ◌∷◌, map, Some}
 use Rattle.std.specs.Fn.{iterate}
 use Rattle.pace.specs.Claims as claims
 use Rattle.history.specs.Events.{End, Input}
 use Rattle.image_file.specs.Image.{ImageParts}
+use Rattle.icode_service_spec.specs.Choices.{Choice}
 use Rattle.mips_encoder.specs.declared.instruction.Instr.{Instr}
 use Rattle.mips_model.specs.State.{Code, Data, State, World}
 use Rattle.mips_model.specs.Steps.{Is, fetch, step, run, going}
-use Rattle.mips_model.specs.Run.{runs}
+use Rattle.mips_model.specs.Run.{begins, runs}
+use Rattle.mips_model.specs.Told.{Passed, passed, tells, IsQuiet}
 
 -- the instructions stand from this address on
 abbrev pub HasAt : Code → ℕ → List Instr → Type 0
@@ -34,4 +36,22 @@ EndsOnce = (m n : ℕ) (w : World) (e : End) → (run m w).ending ≡ Some e →
 
 -- what is seen of a run only grows, and stays once it has ended
 abbrev pub RunsGrow : Type 0
-RunsGrow = (image : ImageParts) (input : Input) (choices : List ℕ) → claims.Grows (runs image input choices)
+RunsGrow = (image : ImageParts) (input : Input) (choices : List Choice) → claims.Grows (runs image input choices)
+
+-- what a run tells only grows too
+abbrev pub TellsGrow : Type 0
+TellsGrow = (image : ImageParts) (input : Input) (row : List Choice) → claims.Grows (tells image input row)
+
+-- what passed in what a run tells is its history, and the endings are equal
+abbrev pub TellsItsRun : Type 0
+TellsItsRun =
+    (image : ImageParts) (input : Input) (row : List Choice) (n : ℕ) →
+    (passed (tells image input row n).history ≡ (runs image input row n).history)
+    × ((tells image input row n).ending ≡ (runs image input row n).ending)
+
+-- where no function is made or entered, that is all that is told
+abbrev pub TellsPlainly : Type 0
+TellsPlainly =
+    (image : ImageParts) (input : Input) (row : List Choice) (n : ℕ) →
+    ((i : ℕ) → i < n → IsQuiet (run i (begins image input row))) →
+    (tells image input row n).history ≡ map Passed (runs image input row n).history

@@ -6,4 +6,5 @@ pub mod Effects
 pub mod Steps
 pub mod Beside
 pub mod Run
+pub mod Told
 pub mod Laws

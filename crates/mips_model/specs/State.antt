@@ -6,11 +6,36 @@ use Rattle.std.specs.Prelude.{ℕ, Bool, List, Option, nat_eq, if◌then◌else�
 use Rattle.word32.specs.Space.{update}
 use Rattle.code_arena.specs.Arena.{Arena}
 use Rattle.history.specs.Events.{Item, End, Input}
+use Rattle.icode_ir.specs.declared.build_op.BuildOp.{BuildOp}
+use Rattle.icode_service_spec.specs.Choices.{Choice}
+use Rattle.icode_service_spec.specs.Services.{Generator}
 
 -- what can be executed: the image's text, by word number, and the arena of compiled code
 pub record Code : Type 0 where
   pub text : ℕ → Option ℕ
   pub arena : Arena
+
+-- what a function was built of: its parameters, and the ops that were issued since it was begun, in their order
+pub record Built : Type 0 where
+  pub parameters : ℕ
+  pub ops : List BuildOp
+
+-- a function was finished, and its words stand from this address on
+pub record Finish : Type 0 where
+  pub at : ℕ
+  pub built : Built
+
+-- What the services that make code have left, beside the arena and the table: the generator; what the function that was
+-- begun last is built of; the finishes, the newest first; the choices of places that are still to come; and how many
+-- ops were built, functions published and words written.
+pub record Making : Type 0 where
+  pub generator : Generator
+  pub issued : Built
+  pub finishes : List Finish
+  pub row : List Choice
+  pub ops : ℕ
+  pub functions : ℕ
+  pub words : ℕ
 
 -- what passed between the run and the outside: the input that is left and whether its end was read, the events so
 -- far, and how often the flush service was called
@@ -19,6 +44,7 @@ pub record Outside : Type 0 where
   pub at_end : Bool
   pub history : List Item
   pub flushes : ℕ
+  pub making : Making
 
 -- what instructions work on; the table has the address and the count of parameters of each function
 pub record Data : Type 0 where

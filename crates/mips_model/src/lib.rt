@@ -5,5 +5,5 @@
 mod laws;
 mod service;
 
-pub use laws::{ends_once, runs_grow};
+pub use laws::{ends_once, runs_grow, tells_grow, tells_its_run, tells_plainly};
 pub use service::Service;

@@ -261,13 +261,13 @@ module _ (c : Code) (entry : ℕ) (shared : Shared) (k : Head) (captures : ℕ) 
       }
 
   pub append_ends : (kind : TrapKind) → closure_trap captures shared ≡ Some kind →
-      EndsIn 9 9 (Ended (Trap kind)) (at c entry 0 d) c d.outside.history
+      EndsIn 9 9 (Ended (Trap kind)) (at c entry 0 d) c d.outside
   append_ends kind some =
       let full = no_room captures shared kind some in
       let l : nat_lt SPEC_ROWS over ≡ true =
       is_below SPEC_ROWS over (omega (arith, over_is, has.next, full.0)) in
       let ne = bit_is_one (nat_lt SPEC_ROWS over) l in
-      subst (λ t. EndsIn 9 9 (Ended (Trap t)) (at c entry 0 d) c d.outside.history) (sym full.1)
+      subst (λ t. EndsIn 9 9 (Ended (Trap t)) (at c entry 0 d) c d.outside) (sym full.1)
       (ends_behind {l = 6} {m = 6} (runs_within {k = 6} (omega arith) (omega arith) measures)
       (other_ends 1 22 SpecLimit c trap_at m refl refl (omega (arith, low))
       (front c trap_at (trap_unless_zero scratch spec_limit) written_code tail) ne))

@@ -91,10 +91,10 @@ module _ (number least most : ℕ) (end : End) (c : Code) (a bytes : ℕ) (d : D
     past a (in_code v) + 12 < SEGMENT_BYTES) (near : routine_address number < SEGMENT_BYTES) (f : Framed (pointer d)
     bytes) (u : Usable bytes v) (b : value d v < 4294967296) (ends : (e : Data) → KeepsSpots (linked (return_address a
     v) d) e → e.registers 4 ≡ value d v → EndsIn least most end (at c (routine_address number) 0 e) c
-    e.outside.history) (h : HasAt c a (in_code v ++ (routine_code number ++ rest))) where
-  pub routine_ends : EndsIn (4 + least) (7 + most) end (at c a 0 d) c d.outside.history
+    e.outside) (h : HasAt c a (in_code v ++ (routine_code number ++ rest))) where
+  pub routine_ends : EndsIn (4 + least) (7 + most) end (at c a 0 d) c d.outside
   routine_ends =
       let to = return_address a v in
       let q = entered_keeps to v d in
       ends_behind (comes number c a bytes d v rest low near f u b h)
-      (ends_with (ap (λ o. o.history) q.world.outside) (ends (entered to v d) q (argument_is v d b)))
+      (ends_with (q.world.outside) (ends (entered to v d) q (argument_is v d b)))

@@ -215,7 +215,7 @@ module _ (named : Named) (c : Code) (entry : ℕ) (ks : List Closure) (d : Data)
       ]
 
   dead_ends : numbered (d.registers 4) ks ≡ None →
-      EndsIn 6 6 (Ended (Trap BadSpec)) (at c entry 0 d) c d.outside.history
+      EndsIn 6 6 (Ended (Trap BadSpec)) (at c entry 0 d) c d.outside
   dead_ends none =
       ends_behind {l = 3} {m = 3} {l' = 3} {m' = 3} (runs_within {k = 3} (omega arith) (omega arith) lives)
       (zero_ends 1 18 BadSpec c trap_at m1 refl refl (omega (arith, low)) live_test
@@ -310,7 +310,7 @@ module _ (named : Named) (c : Code) (entry : ℕ) (ks : List Closure) (d : Data)
     kind_test = front c kind_at (trap_unless_zero 3 bad_spec) add_code kind_stands
 
     other_kind_ends : is_named named k.head.kind ≡ false →
-        EndsIn 16 16 (Ended (Trap BadSpec)) (at c entry 0 d) c d.outside.history
+        EndsIn 16 16 (Ended (Trap BadSpec)) (at c entry 0 d) c d.outside
     other_kind_ends other =
         ends_behind {l = 13} {m = 13} {l' = 3} {m' = 3} (runs_within {k = 13} (omega arith) (omega arith) comes)
         (other_ends 3 18 BadSpec c kind_at m5 refl refl (omega (arith, low)) kind_test
@@ -524,7 +524,7 @@ no_kind kind e = cc
 module _ (named : Named) (c : Code) (entry : ℕ) (ks : List Closure) (d : Data) (kind : TrapKind) (low : IsBlock entry)
     (has : HasClosures ks d) (b : d.registers 4 < 4294967296) (h : HasAt c entry (check_code named)) where
   abbrev EndsAs : TrapKind → Type 0
-  EndsAs t = EndsIn 6 16 (Ended (Trap t)) (at c entry 0 d) c d.outside.history
+  EndsAs t = EndsIn 6 16 (Ended (Trap t)) (at c entry 0 d) c d.outside
 
   by_kind : (k : Closure) → numbered (d.registers 4) ks ≡ Some k → (fits : Bool) → is_named named k.head.kind ≡ fits →
       (if fits then None else Some BadSpec) ≡ Some kind → EndsAs kind

@@ -172,9 +172,9 @@ module _ (c : Code) (entry : ℕ) (shared : Shared) (d : Data) (low : IsBlock en
       (back c trap_at (trap_unless_zero scratch size_limit) append_code size_tail) fits.1)
 
   pub new_ends : (kind : TrapKind) → new_trap size (d.registers 6) shared ≡ Some kind →
-      EndsIn 7 15 (Ended (Trap kind)) (at c entry 0 d) c d.outside.history
+      EndsIn 7 15 (Ended (Trap kind)) (at c entry 0 d) c d.outside
   new_ends kind some = elim (size_traps shared size (d.registers 6) kind some) [
-    | inl over ↦ subst (λ t. EndsIn 7 15 (Ended (Trap t)) (at c entry 0 d) c d.outside.history) (sym over.1)
+    | inl over ↦ subst (λ t. EndsIn 7 15 (Ended (Trap t)) (at c entry 0 d) c d.outside) (sym over.1)
         (ends_wider {l = 7} {m = 7} (omega arith) (omega arith)
         (ends_behind {l = 4} {m = 4} {l' = 3} {m' = 3} (runs_within {k = 4} (omega arith) (omega arith) measures_size)
         (other_ends 1 23 SizeLimit c trap_at n3 refl refl (omega (arith, low)) size_test
@@ -223,7 +223,7 @@ module _ (c : Code) (entry : ℕ) (shared : Shared) (d : Data) (low : IsBlock en
       (back c entry local_head_code append_code h) none)
 
   pub local_ends : (kind : TrapKind) → closure_trap 0 shared ≡ Some kind →
-      EndsIn 15 15 (Ended (Trap kind)) (at c entry 0 d) c d.outside.history
+      EndsIn 15 15 (Ended (Trap kind)) (at c entry 0 d) c d.outside
   local_ends kind some =
       ends_behind {l = 6} {m = 6} {l' = 9} {m' = 9} (runs_within {k = 6} (omega arith) (omega arith) heads)
       (append_ends c append_at shared (local_head (next_number shared)) 0 l1 (omega (arith, low))
@@ -297,9 +297,9 @@ module _ (c : Code) (entry : ℕ) (shared : Shared) (d : Data) (low : IsBlock en
       fits.1)
 
   pub parameter_ends : (kind : TrapKind) → parameter_trap index shared ≡ Some kind →
-      EndsIn 4 16 (Ended (Trap kind)) (at c entry 0 d) c d.outside.history
+      EndsIn 4 16 (Ended (Trap kind)) (at c entry 0 d) c d.outside
   parameter_ends kind some = elim (index_traps shared index kind some) [
-    | inl over ↦ subst (λ t. EndsIn 4 16 (Ended (Trap t)) (at c entry 0 d) c d.outside.history) (sym over.1)
+    | inl over ↦ subst (λ t. EndsIn 4 16 (Ended (Trap t)) (at c entry 0 d) c d.outside) (sym over.1)
         (ends_wider {l = 4} {m = 4} (omega arith) (omega arith)
         (ends_behind {l = 1} {m = 1} {l' = 3} {m' = 3} (runs_within {k = 1} (omega arith) (omega arith) tests)
         (zero_ends 1 19 BadParam c test_at p1 refl refl (omega (arith, low)) index_test

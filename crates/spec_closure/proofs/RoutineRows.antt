@@ -12,6 +12,7 @@ use Rattle.mips_encoder.specs.declared.instruction.Instr.{Instr}
 use Rattle.mips_model.specs.State.{Data, World}
 use Rattle.mips_model.specs.Steps.{going, step}
 use Rattle.mips_model.specs.Laws.{at}
+use Rattle.mips_model.specs.Run.{first_outside}
 use Rattle.mips_model.proofs.Loaded.{loaded}
 use Rattle.spec_closure.specs.Closures.{Head, Closure, with_word, word_at, closure_at, closure_of, row_count}
 use Rattle.spec_closure.specs.Closures.{next_closure, size_so_far, parameters_so_far}
@@ -35,7 +36,7 @@ called a0 a1 a2 count next size parameters = record {
   emit_stack = λ n. 0;
   stack = λ n. 0;
   table = λ n. (0, 0);
-  outside = record { input = record { bytes = []; failing = false }; at_end = false; history = []; flushes = 0 };
+  outside = first_outside (record { bytes = []; failing = false }) [];
 }
 
 abbrev ran : ℕ → List Instr → Data → World

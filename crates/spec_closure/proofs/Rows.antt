@@ -8,6 +8,7 @@ use Rattle.mips_encoder.specs.Table.{word_of}
 use Rattle.mips_model.specs.State.{Code, Data, World}
 use Rattle.mips_model.specs.Steps.{going, step}
 use Rattle.mips_model.specs.Laws.{at}
+use Rattle.mips_model.specs.Run.{first_outside}
 use Rattle.mips_model.proofs.Loaded.{loaded}
 use Rattle.spec_closure.specs.Malloc.{malloc_code, heap_of, with_heap}
 
@@ -27,7 +28,7 @@ called heap bytes = with_heap heap (record {
   emit_stack = λ n. 0;
   stack = λ n. 0;
   table = λ n. (0, 0);
-  outside = record { input = record { bytes = []; failing = false }; at_end = false; history = []; flushes = 0 };
+  outside = first_outside (record { bytes = []; failing = false }) [];
 })
 
 abbrev seen : World → List ℕ

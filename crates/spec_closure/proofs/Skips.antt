@@ -33,7 +33,7 @@ one_loads i l r d after quiet calm e rest = rw (quiet, calm, e) refl
 
 -- a break ends the run with its trap
 pub break_ends : (code : ℕ) (kind : TrapKind) (c : Code) (a : ℕ) (d : Data) → trap_of code ≡ Some kind →
-    fetch c a ≡ Is (trap code) → EndsIn 1 1 (Ended (Trap kind)) (at c a 0 d) c d.outside.history
+    fetch c a ≡ Is (trap code) → EndsIn 1 1 (Ended (Trap kind)) (at c a 0 d) c d.outside
 break_ends code kind c a d is h =
     ends_now (Ended (Trap kind)) c a d
     (step_acts (trap code) (at c a 0 d) h refl ∙ ap (λ k. apply (breaks k) 0 (at c a 0 d)) is)
@@ -45,7 +45,7 @@ module _ (s code : ℕ) (kind : TrapKind) (c : Code) (a : ℕ) (d : Data) (n0 : 
     Some kind) (low : a < SEGMENT_BYTES) where
   -- it must not be 0
   pub zero_ends : HasAt c a (trap_if_zero s code) → d.registers s ≡ 0 →
-      EndsIn 3 3 (Ended (Trap kind)) (at c a 0 d) c d.outside.history
+      EndsIn 3 3 (Ended (Trap kind)) (at c a 0 d) c d.outside
   zero_ends h z =
       ends_behind {l = 2} {m = 2} (runs_within {k = 2} (omega arith) (omega arith)
       (zero_stays s code c a d n0 low h z))
@@ -59,7 +59,7 @@ module _ (s code : ℕ) (kind : TrapKind) (c : Code) (a : ℕ) (d : Data) (n0 : 
       branch_reaches (beq s 0 2) c a 2 (a + 4 + 4 + 4) true d refl refl t (over_trap a low) h.0 h.1.0
 
   pub other_ends : HasAt c a (trap_unless_zero s code) → d.registers s ≢ 0 →
-      EndsIn 3 3 (Ended (Trap kind)) (at c a 0 d) c d.outside.history
+      EndsIn 3 3 (Ended (Trap kind)) (at c a 0 d) c d.outside
   other_ends h ne =
       let e : nat_eq (d.registers s) 0 ≡ false = ne_eqb (d.registers s) 0 ne in
       let t : effect (beq s 0 2) d ≡ Branches false 2 = rw (n0, e) in

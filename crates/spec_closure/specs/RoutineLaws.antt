@@ -81,7 +81,7 @@ NewTraps =
     (c : Code) (entry : ℕ) (shared : Shared) (d : Data) (kind : TrapKind) → IsBlock entry → HasRows shared d
     → d.registers 6 ≤ MOST_CAPTURES
     → new_trap (size_so_far d) (d.registers 6) shared ≡ Some kind → HasAt c entry new_code
-    → EndsIn 7 15 (Ended (Trap kind)) (at c entry 0 d) c d.outside.history
+    → EndsIn 7 15 (Ended (Trap kind)) (at c entry 0 d) c d.outside
 
 -- a variable of generated code
 abbrev pub LocalIsAnswered : Type 0
@@ -95,7 +95,7 @@ abbrev pub LocalTraps : Type 0
 LocalTraps =
     (c : Code) (entry : ℕ) (shared : Shared) (d : Data) (kind : TrapKind) → IsBlock entry → HasRows shared d
     → closure_trap 0 shared ≡ Some kind → HasAt c entry local_code
-    → EndsIn 15 15 (Ended (Trap kind)) (at c entry 0 d) c d.outside.history
+    → EndsIn 15 15 (Ended (Trap kind)) (at c entry 0 d) c d.outside
 
 -- a parameter of generated code
 abbrev pub ParameterIsAnswered : Type 0
@@ -109,7 +109,7 @@ abbrev pub ParameterTraps : Type 0
 ParameterTraps =
     (c : Code) (entry : ℕ) (shared : Shared) (d : Data) (kind : TrapKind) → IsBlock entry → HasRows shared d
     → parameter_trap (d.registers 4) shared ≡ Some kind → HasAt c entry parameter_code
-    → EndsIn 4 16 (Ended (Trap kind)) (at c entry 0 d) c d.outside.history
+    → EndsIn 4 16 (Ended (Trap kind)) (at c entry 0 d) c d.outside
 
 -- ---- the size and the parameters so far
 
@@ -150,7 +150,7 @@ CheckTraps =
     (named : Named) (c : Code) (entry : ℕ) (ks : List Closure) (d : Data) (kind : TrapKind) → IsBlock entry
     → HasClosures ks d → d.registers 4 < 4294967296
     → named_trap named (numbered (d.registers 4) ks) ≡ Some kind → HasAt c entry (check_code named)
-    → EndsIn 6 16 (Ended (Trap kind)) (at c entry 0 d) c d.outside.history
+    → EndsIn 6 16 (Ended (Trap kind)) (at c entry 0 d) c d.outside
 
 -- ---- closures one behind another
 
@@ -191,9 +191,9 @@ RoutinesEnd =
     → past a (in_code v) + 12 < SEGMENT_BYTES → routine_address number < SEGMENT_BYTES
     → Framed (pointer d) bytes → Usable bytes v → value d v < 4294967296
     → ((e : Data) → KeepsSpots (linked (return_address a v) d) e → e.registers 4 ≡ value d v
-    → EndsIn least most end (at c (routine_address number) 0 e) c e.outside.history)
+    → EndsIn least most end (at c (routine_address number) 0 e) c e.outside)
     → HasAt c a (in_code v ++ (routine_code number ++ rest))
-    → EndsIn (4 + least) (7 + most) end (at c a 0 d) c d.outside.history
+    → EndsIn (4 + least) (7 + most) end (at c a 0 d) c d.outside
 
 -- so those that begin a tick's specification
 abbrev pub BeginIsCalled : Type 0

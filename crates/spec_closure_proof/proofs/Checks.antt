@@ -82,7 +82,7 @@ module _ (named : Named) (c : Code) (a bytes : ℕ) (ks : List Closure) (d : Dat
 
   pub check_op_ends : (rest : List Instr) (kind : TrapKind) → named_trap named (numbered (value d v) ks) ≡ Some kind
       → HasAt c a (in_code v ++ (routine_code number ++ rest))
-      → EndsIn 10 23 (Ended (Trap kind)) (at c a 0 d) c d.outside.history
+      → EndsIn 10 23 (Ended (Trap kind)) (at c a 0 d) c d.outside
   check_op_ends rest kind some h =
       let n = near named in
       routine_ends number 6 16 (Ended (Trap kind)) c a bytes d v rest low (omega (arith, n)) f u b
@@ -94,7 +94,7 @@ module _ (c : Code) (a bytes : ℕ) (shared : Shared) (d : Data) (v : Spot) (res
     4294967296) (has : HasRows shared d) where
   pub local_op_ends : closure_trap 0 shared ≡ Some kind → HasAt c (routine_address (run_number Local)) local_code
       → HasAt c a (in_code v ++ (routine_code (run_number Local) ++ rest))
-      → EndsIn 19 22 (Ended (Trap kind)) (at c a 0 d) c d.outside.history
+      → EndsIn 19 22 (Ended (Trap kind)) (at c a 0 d) c d.outside
   local_op_ends some stands h =
       routine_ends 3 15 15 (Ended (Trap kind)) c a bytes d v rest low (omega arith) f u b
       (λ e q is. local_ends c (routine_address 3) shared e (omega arith)
@@ -103,7 +103,7 @@ module _ (c : Code) (a bytes : ℕ) (shared : Shared) (d : Data) (v : Spot) (res
   pub parameter_op_ends : parameter_trap (value d v) shared ≡ Some kind
       → HasAt c (routine_address (run_number Parameter)) parameter_code
       → HasAt c a (in_code v ++ (routine_code (run_number Parameter) ++ rest))
-      → EndsIn 8 23 (Ended (Trap kind)) (at c a 0 d) c d.outside.history
+      → EndsIn 8 23 (Ended (Trap kind)) (at c a 0 d) c d.outside
   parameter_op_ends some stands h =
       routine_ends 4 4 16 (Ended (Trap kind)) c a bytes d v rest low (omega arith) f u b
       (λ e q is. parameter_ends c (routine_address 4) shared e (omega arith)

@@ -114,7 +114,7 @@ module _ (c : Code) (a address : ℕ) (kind : ClosureKind) (captures : ℕ) (sha
   few_passed = subst (λ n. n ≤ MOST_CAPTURES) (sym count_is) few
 
   pub new_op_ends : (trap : TrapKind) → new_trap (size_so_far d) captures shared ≡ Some trap →
-      EndsIn 14 22 (Ended (Trap trap)) (at c a 0 d) c d.outside.history
+      EndsIn 14 22 (Ended (Trap trap)) (at c a 0 d) c d.outside
   new_op_ends trap some =
       ends_behind comes
       (new_ends c new_address shared entered (omega arith) has_rows few_passed stands trap

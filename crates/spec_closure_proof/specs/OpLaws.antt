@@ -51,7 +51,7 @@ CheckOpTraps =
     → HasClosures ks d → named_trap named (numbered (value d v) ks) ≡ Some kind
     → HasAt c (routine_address (run_number (check_of named))) (check_code named)
     → HasAt c a (in_code v ++ (routine_code (run_number (check_of named)) ++ rest))
-    → EndsIn 10 23 (Ended (Trap kind)) (at c a 0 d) c d.outside.history
+    → EndsIn 10 23 (Ended (Trap kind)) (at c a 0 d) c d.outside
 
 -- ---- a tick's specification
 
@@ -72,7 +72,7 @@ NewOpTraps =
     (trap : TrapKind) → new_return_address a < SEGMENT_BYTES → HasRows shared d → captures ≤ MOST_CAPTURES
     → new_trap (size_so_far d) captures shared ≡ Some trap
     → HasAt c new_address new_code → HasAt c a (new_op_code w address kind captures)
-    → EndsIn 14 22 (Ended (Trap trap)) (at c a 0 d) c d.outside.history
+    → EndsIn 14 22 (Ended (Trap trap)) (at c a 0 d) c d.outside
 
 -- the op that puts a captured word into the newest closure
 abbrev pub PutIsDone : Type 0
@@ -92,7 +92,7 @@ LocalOpTraps =
     → Framed (pointer d) bytes → Usable bytes v → value d v < 4294967296 → HasRows shared d
     → closure_trap 0 shared ≡ Some kind → HasAt c (routine_address (run_number Local)) local_code
     → HasAt c a (in_code v ++ (routine_code (run_number Local) ++ rest))
-    → EndsIn 19 22 (Ended (Trap kind)) (at c a 0 d) c d.outside.history
+    → EndsIn 19 22 (Ended (Trap kind)) (at c a 0 d) c d.outside
 
 -- and so does the one that makes a parameter, for its index first
 abbrev pub ParameterOpTraps : Type 0
@@ -102,7 +102,7 @@ ParameterOpTraps =
     → Framed (pointer d) bytes → Usable bytes v → value d v < 4294967296 → HasRows shared d
     → parameter_trap (value d v) shared ≡ Some kind → HasAt c (routine_address (run_number Parameter)) parameter_code
     → HasAt c a (in_code v ++ (routine_code (run_number Parameter) ++ rest))
-    → EndsIn 8 23 (Ended (Trap kind)) (at c a 0 d) c d.outside.history
+    → EndsIn 8 23 (Ended (Trap kind)) (at c a 0 d) c d.outside
 
 -- ---- the closures of the run
 

@@ -10,7 +10,7 @@ use Rattle.icode_ops.specs.declared.interval.Interval.{Interval}
 use Rattle.icode_ops.specs.Live.{Live, Used, Passes, IsAt, IsInterval, Each, AreIntervals}
 use Rattle.icode_ops.specs.Places.{IsLegal}
 use Rattle.typed_tree.specs.Nodes.{Function}
-use Rattle.tick_lower_proof.specs.Lower.{Addresses}
+use Rattle.tick_lower_spec.specs.Lower.{Addresses}
 use Rattle.tick_lower_proof.specs.Laws.{code_of, registers_of}
 use Rattle.static_image.specs.Layout.{Placed, ops_of, IsLegalChoice}
 use Rattle.static_image.proofs.Unaddressed.{aimless_op, code_same, registers_same}

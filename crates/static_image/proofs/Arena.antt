@@ -2,6 +2,7 @@
 -- text's.
 use Rattle.std.proofs.Common.{◌≡◌, ℕ, zero, suc, ◌+◌, ◌/◌, ◌%◌, ◌==◌, Bool, true, false, ◌&&◌, Option, None, Some, Err}
 use Rattle.std.proofs.Common.{refl, sym, ap, ◌∙◌, arith, nat_eq, nat_lt, nat_le, if◌then◌else◌, is_some}
+use Rattle.std.proofs.Common.{List, [], ◌∷◌, length}
 use Rattle.std.specs.Fn.{iterate}
 use Rattle.std.proofs.lemmas.Bool.Decides.{nat_tests}
 use Rattle.word32.specs.Words.{wrap, widened_half}
@@ -23,6 +24,13 @@ use Rattle.host_edge.specs.declared.ending.TrapKind.TheVariants as trap
 use Rattle.host_edge.specs.declared.ending.Ending.TheVariants.{Trap}
 use Rattle.history.specs.Events.{Ended, Next, Given, AtEnd, Failing, next_byte}
 use Rattle.image_file.specs.Image.{ImageParts}
+use Rattle.icode_ir.specs.Build.{Build}
+use Rattle.icode_codes.specs.Decoded.{op_of}
+use Rattle.icode_service_spec.specs.declared.bad_service.BadService.{BadService}
+use Rattle.icode_service_spec.specs.declared.bad_service.BadService.TheVariants.{OutsideArena, Short}
+use Rattle.icode_service_spec.specs.Choices.{Choice}
+use Rattle.icode_service_spec.specs.Services as services
+use Rattle.icode_service_spec.specs.Services.{Generator, Outcome, Does}
 use Rattle.mips_encoder.specs.declared.instruction.Instr.{Instr}
 use Rattle.mips_encoder.specs.declared.instruction.Instr.TheVariants.{Arithmetic, Shift, ShiftVariable, JumpRegister}
 use Rattle.mips_encoder.specs.declared.instruction.Instr.TheVariants.{JumpAndLinkRegister, Syscall, Break, MoveFrom}
@@ -35,13 +43,15 @@ use Rattle.mips_encoder.specs.declared.instruction.JumpOp.TheVariants.{J, Jal}
 use Rattle.mips_encoder.specs.declared.instruction.MemoryOp.{MemoryOp}
 use Rattle.mips_encoder.specs.declared.instruction.MemoryOp.TheVariants.{Lb, Lh, Lw, Lbu, Lhu, Sb, Sh, Sw}
 use Rattle.mips_model.specs.declared.service.Service.{Service}
-use Rattle.mips_model.specs.declared.service.Service.TheVariants.{PutInt, Exit, PutByte, GetByte, Flush}
-use Rattle.mips_model.specs.State.{Code, Data, State, World, register, set_register}
+use Rattle.mips_model.specs.declared.service.Service.TheVariants.{PutInt, Exit, PutByte, GetByte, Begin, Emit, Finish}
+use Rattle.mips_model.specs.declared.service.Service.TheVariants.{Flush, Publish}
+use Rattle.mips_model.specs.State.{Making, Outside, Code, Data, State, World, register, set_register}
 use Rattle.mips_model.specs.Arithmetic.{arithmetic, immediate}
 use Rattle.mips_model.specs.Accesses.{Effect, Plain, Loads, Changes, ReadsText, ReadsArena, StoresText, Branches}
 use Rattle.mips_model.specs.Accesses.{BranchesLinking, Jumps, JumpsLinking, Goes, GoesLinking, Ends, Faults, InputFails}
 use Rattle.mips_model.specs.Accesses.{aligned, load_in, store_in, table_word_at, arena_word, stored_in_arena}
-use Rattle.mips_model.specs.Services.{service_of, serve, get, got, read, flush, is_arena_range, answer, with_outside}
+use Rattle.mips_model.specs.Services.{service_of, serve, get, got, read, makes, writes, begun_with, issued_with, spent}
+use Rattle.mips_model.specs.Services.{flushed_once, published_once, next_choice, generator_of}
 use Rattle.mips_model.specs.Effects.{gives, breaks, trap_of, goes, access, effect}
 use Rattle.mips_model.specs.Steps.{Fetched, Is, Refused, fetch, found, from_text, text_word, from_arena, is_arena_word}
 use Rattle.mips_model.specs.Steps.{word_in_arena, onward, ended, reads, stores_text, faulted, apply, act, is_hazard}
@@ -150,13 +160,55 @@ get_safe d = by d.outside.at_end
     by true = tt
     by false = read_safe (next_byte d.outside.input) d
 
-flush_safe : (at count : ℕ) (d : Data) → IsSafe (flush at count d)
-flush_safe at count d = by (is_arena_range at count)
+-- a service that makes code, but doesn't write it
+makes_safe : (o : Outcome) (note : Making → Making) (d : Data) → IsSafe (makes o note d)
+makes_safe (services.Refused why) note d = tt
+makes_safe (Does v g change set) note d = tt
+
+-- words are written one after the other
+words_mark : (i : ℕ) (ws : List ℕ) → Marks (services.written_from i ws)
+words_mark i [] a k e = e
+words_mark i (w ∷ ws) a k e = written_marks i w a k (words_mark (suc i) ws (written i w a) k e)
+
+-- an outcome leaves no word unwritten
+abbrev MarksBy : Outcome → Type 0
+MarksBy (services.Refused why) = Unit {0}
+MarksBy (Does v g change set) = Marks change
+
+writes_safe : (o : Outcome) (note : ℕ → Outside → Outside) (d : Data) → MarksBy o → IsSafe (writes o note d)
+writes_safe (services.Refused why) note d safe = tt
+writes_safe (Does v g change set) note d safe = safe
+
+write_marks : (words : List ℕ) (choice : Choice) (at most : ℕ) (g : Generator) →
+    MarksBy (services.write words choice at most g)
+write_marks words choice at most g = by (nat_le (length words) most)
   where
-    by : (b : Bool) → IsSafe (if b then
-        Changes (flushed (arena_word at) count)
-        (answer 0 (with_outside (record d.outside { flushes = d.outside.flushes + 1 }) d)) else Faults kind.BadService)
-    by true = flushed_marks (arena_word at) count
+    by : (b : Bool) →
+        MarksBy (if b then
+        Does (length words) (services.finished_with choice g)
+        (services.written_from (services.arena_word at) words) (λ r. r) else services.Refused Short)
+    by true = words_mark (services.arena_word at) words
+    by false = tt
+
+unless_marks : (why : Option BadService) (o : Outcome) → MarksBy o → MarksBy (services.unless why o)
+unless_marks None o safe = safe
+unless_marks (Some why) o safe = tt
+
+finish_marks : (b : Option Build) (choice : Choice) (at most frame : ℕ) (g : Generator) →
+    MarksBy (services.finish_in b choice at most frame g)
+finish_marks None choice at most frame g = tt
+finish_marks (Some b) choice at most frame g =
+    unless_marks (services.finish_refusal b at most frame)
+    (services.write (services.words_of b choice at frame) choice at most g)
+    (write_marks (services.words_of b choice at frame) choice at most g)
+
+flush_marks : (at count : ℕ) (g : Generator) → MarksBy (services.flush at count g)
+flush_marks at count g = by (services.is_arena_range at count)
+  where
+    by : (b : Bool) →
+        MarksBy (if b then Does 0 g (flushed (services.arena_word at) count) (λ r. r)
+        else services.Refused OutsideArena)
+    by true = flushed_marks (services.arena_word at) count
     by false = tt
 
 serve_safe : (o : Option Service) (d : Data) → IsSafe (serve o d)
@@ -165,7 +217,21 @@ serve_safe (Some PutInt) d = tt
 serve_safe (Some Exit) d = tt
 serve_safe (Some PutByte) d = tt
 serve_safe (Some GetByte) d = get_safe d
-serve_safe (Some Flush) d = flush_safe (register 4 d) (register 5 d) d
+serve_safe (Some Begin) d =
+    makes_safe (services.begin (register 4 d) (generator_of d)) (begun_with (register 4 d)) d
+serve_safe (Some Emit) d =
+    makes_safe (services.emit (register 4 d) (register 5 d) (register 6 d) (generator_of d))
+    (issued_with (op_of (register 4 d) (register 5 d) (register 6 d))) d
+serve_safe (Some Finish) d =
+    let choice = next_choice d.outside.making.row in
+    writes_safe (services.finish choice (register 4 d) (register 5 d) (register 6 d) (generator_of d))
+    (spent (register 4 d)) d
+    (finish_marks (generator_of d).build choice (register 4 d) (register 5 d) (register 6 d) (generator_of d))
+serve_safe (Some Flush) d =
+    writes_safe (services.flush (register 4 d) (register 5 d) (generator_of d)) flushed_once d
+    (flush_marks (register 4 d) (register 5 d) (generator_of d))
+serve_safe (Some Publish) d =
+    makes_safe (services.publish (register 4 d) (register 5 d) (register 6 d) (generator_of d)) published_once d
 
 effect_safe : (i : Instr) (d : Data) → IsSafe (effect i d)
 effect_safe (Arithmetic op rd rs rt) d = gives_safe rd (arithmetic op (register rs d) (register rt d)) d
@@ -247,7 +313,7 @@ pub run_clear : (n : ℕ) (w : World) (k : ℕ) → (iterate step n w).state.cod
 run_clear zero w k e = e
 run_clear (suc n) w k e = step_clear w k (run_clear n (step w) k e)
 
--- while no word of the arena is flushed, an instruction is fetched from the text alone
+-- while no word of the arena is flushed, an instruction is fetched from the text alone, below the arena
 module _ (image : ImageParts) (c : Code) (same : c.text ≡ text_of image.text)
     (clear : (k : ℕ) → c.arena.states k ≡ Unwritten) (a : ℕ) (i : Instr) where
   in_text : (even : Bool) (o : Option ℕ) → (a % 4 == 0) ≡ even → c.text (a / 4) ≡ o →
@@ -269,9 +335,9 @@ module _ (image : ImageParts) (c : Code) (same : c.text ≡ text_of image.text)
   in_arena false fetches = cc
 
   by_region : (low : Bool) → found (if low then from_text (text_word c a) else word_in_arena c a) ≡ Is i →
-      IsTextWord image a
-  by_region true fetches = in_text (a % 4 == 0) (c.text (a / 4)) refl refl fetches
+      IsTextWord image a × (low ≡ true)
+  by_region true fetches = (in_text (a % 4 == 0) (c.text (a / 4)) refl refl fetches, refl)
   by_region false fetches = absurd (in_arena (is_arena_word a) fetches)
 
-  pub fetched_from_text : fetch c a ≡ Is i → IsTextWord image a
+  pub fetched_from_text : fetch c a ≡ Is i → IsTextWord image a × (nat_lt a ARENA ≡ true)
   fetched_from_text fetches = by_region (nat_lt a ARENA) fetches

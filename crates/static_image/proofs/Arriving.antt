@@ -11,6 +11,7 @@ use Rattle.word32.specs.Space.{bytes_from}
 use Rattle.flat_memory.specs.Spaces.{text_of}
 use Rattle.code_arena.specs.Rows.{numbered}
 use Rattle.image_file.specs.declared.image.FunctionEntry.{FunctionEntry}
+use Rattle.icode_service_spec.specs.Choices.{Choice}
 use Rattle.history.specs.Events.{Input}
 use Rattle.mips_encoder.specs.Table.{word_of}
 use Rattle.mips_encoder.specs.Addresses.{past}
@@ -24,9 +25,8 @@ use Rattle.mips_model.proofs.Reach.{through, through_runs, reaches_on, step_acts
 use Rattle.icode_templates.specs.Assembly.{jal, nop}
 use Rattle.icode_templates_proof.proofs.Jumps.{in_slot, slot_runs}
 use Rattle.icode_frames_spec.specs.Standing.{WordsAt, exit_code}
-use Rattle.icode_frames_spec.specs.Settings.{Published}
+use Rattle.icode_frames_spec.specs.Settings.{Setting, Published}
 use Rattle.icode_frames_spec.specs.Relation.{MemoryAgrees, ExtentsAgree}
-use Rattle.icode_meaning.specs.State.{Program}
 use Rattle.staged_meaning.specs.Program as meaning
 use Rattle.staged_meaning.specs.Meaning.{at_start}
 use Rattle.static_image.specs.Layout.{set_cell, set_up, start_code, exit_with_answer, filled}
@@ -138,9 +138,10 @@ exit_at = call_at + 8
 -- main stands in the first 256 megabytes, there are so many functions, each of which has a row, and the objects begin
 -- with these bytes
 module _ (main functions : ℕ) (even : main % 4 ≡ 0) (low : main < SEGMENT_BYTES) (bytes : List ℕ)
-    (rows : List FunctionEntry) (c : Code) (input : Input) (h : HasAt c 4194304 (start_code main functions)) where
+    (rows : List FunctionEntry) (c : Code) (input : Input) (row : List Choice)
+    (h : HasAt c 4194304 (start_code main functions)) where
   abbrev pub first : Data
-  first = machine.first_data bytes rows input
+  first = machine.first_data bytes rows input row
 
   abbrev pub set : Data
   set = data_of (through (set_up functions) 0 first) first
@@ -172,10 +173,11 @@ module _ (main functions : ℕ) (even : main % 4 ≡ 0) (low : main < SEGMENT_BY
   waits = rest.1.1
 
   -- the rows and the bytes are the image's, and nothing was read or put out
-  pub agrees : (machine : Program) (program : meaning.Program) → program.image ≡ bytes
-      → ((k : ℕ) → slice_index bytes k < 256) → Published machine (numbered (map row_of rows))
-      → MemoryAgrees machine (at_start program input) 0 called
-  agrees machine program same small published = record {
+  pub agrees : (s : Setting) (program : meaning.Program) → program.image ≡ bytes
+      → ((k : ℕ) → slice_index bytes k < 256) → Published s.program (numbered (map row_of rows))
+      → s.making ≡ machine.first_making row
+      → MemoryAgrees s (at_start program input) 0 called
+  agrees s program same small published unmade = record {
     history = refl;
     input = refl;
     at_end = λ e. absurd cc;
@@ -186,6 +188,7 @@ module _ (main functions : ℕ) (even : main % 4 ≡ 0) (low : main < SEGMENT_BY
     active_calls = refl;
     active_word = omega arith;
     table = published;
+    making = sym unmade;
   }
 
   pub extents : (program : meaning.Program) → ExtentsAgree (at_start program input) called

@@ -11,3 +11,4 @@ pub mod Lows
 pub mod Front
 pub mod Whole
 pub mod Rules
+pub mod Quiet

@@ -30,7 +30,7 @@ use Rattle.icode_words_proof.proofs.Suiting.{suit}
 use Rattle.icode_words_proof.proofs.Fitting.{function_stands}
 use Rattle.typed_tree.specs.Nodes as node
 use Rattle.staged_meaning.specs.Size.{size_of, charge_of}
-use Rattle.tick_lower_proof.specs.Lower.{Addresses, function_ops}
+use Rattle.tick_lower_spec.specs.Lower.{Addresses, function_ops}
 use Rattle.tick_lower_proof.proofs.Sizes as sizes
 use Rattle.limits.specs.declared.program.TheConstants.{WORDS_OF_A_BODY, WORDS_OF_A_NODE}
 use Rattle.static_image.specs.Layout.{Placed, ops_of, registers_in, words_of, unknown, length_of, behind, starts}

@@ -18,7 +18,7 @@ use Rattle.icode_frames_spec.specs.Standing.{code_of}
 use Rattle.icode_words_proof.proofs.Fitting.{code_fits}
 use Rattle.typed_tree.specs.Nodes as node
 use Rattle.staged_meaning.specs.Program.{Program}
-use Rattle.tick_lower_proof.specs.Lower.{Addresses}
+use Rattle.tick_lower_spec.specs.Lower.{Addresses}
 use Rattle.static_image.specs.Layout.{Placed, start_code, filled, start_block, routine_blocks, front, words_of}
 use Rattle.static_image.specs.Layout.{behind, rows_of, words_from, addresses_of}
 use Rattle.static_image.specs.Layout.{IsLegalChoice, IsChoice, image_of}

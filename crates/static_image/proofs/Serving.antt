@@ -31,9 +31,9 @@ use Rattle.staged_meaning.specs.Calls.{HasCalls, HaveCalls, HasCallsStmt, HaveCa
 use Rattle.staged_meaning.specs.Placed.{Allowed, outside, nested, looped, switched, below, AreDeclarations, IsPlaced}
 use Rattle.staged_meaning.specs.Placed.{IsDeclaration, ArePlaced, IsParameter, AreHeaded, IsHeaded}
 use Rattle.staged_meaning.specs.Size.{labels_in, labels, labels_of, temps_in, temps, temps_of, variables_in}
-use Rattle.tick_lower_proof.specs.Lower.{Addresses, expr_ops, args_ops, Targets, stmt_ops, items_ops, nowhere}
-use Rattle.tick_lower_proof.specs.Lower.{function_ops, dropping, dropping_call, keeping, kept, narrowing, step_ops}
-use Rattle.tick_lower_proof.specs.Lower.{case_ops, test_ops}
+use Rattle.tick_lower_spec.specs.Lower.{Addresses, expr_ops, args_ops, Targets, stmt_ops, items_ops, nowhere}
+use Rattle.tick_lower_spec.specs.Lower.{function_ops, dropping, dropping_call, keeping, kept, narrowing, step_ops}
+use Rattle.tick_lower_spec.specs.Lower.{case_ops, test_ops}
 use Rattle.tick_lower_proof.specs.Laws.{code_of}
 use Rattle.static_image.specs.Words.{HasWords, HaveWordsArgs, HasWordsStmt, HaveWords}
 use Rattle.static_image.specs.Served.{IsStatic}

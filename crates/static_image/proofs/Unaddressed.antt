@@ -1,7 +1,8 @@
--- The ops of a function under two lists of addresses differ in the addresses of its calls alone, so their templates are
--- as long.
-use Rattle.std.proofs.Common.{◌≡◌, ℕ, ◌+◌, ◌-◌, List, [], ◌∷◌, ◌++◌, Bool, true, false, Option, Some, None, refl, sym}
-use Rattle.std.proofs.Common.{ap, ◌∙◌, map, length, drop, length-append, arith, if◌then◌else◌}
+-- The ops of a function under a list of addresses are those whose calls go to functions by their numbers, each call
+-- sent to the address of its number. So under two lists of addresses they differ in the addresses of calls alone, and
+-- their templates are as long.
+use Rattle.std.proofs.Common.{◌≡◌, ℕ, ◌+◌, ◌-◌, nat_lt, List, [], ◌∷◌, ◌++◌, Bool, true, false, Option, Some, None}
+use Rattle.std.proofs.Common.{refl, sym, ap, ◌∙◌, map, length, drop, length-append, arith, if◌then◌else◌}
 use Rattle.std.proofs.lemmas.List.{map-append}
 use Rattle.word32.specs.declared.width.Width.{Width}
 use Rattle.word32.specs.declared.width.Width.TheVariants as width
@@ -12,7 +13,7 @@ use Rattle.icode_ops.specs.declared.kind.BinKind.TheVariants as bin
 use Rattle.icode_ir.specs.declared.build_op.BuildOp.{BuildOp}
 use Rattle.icode_ir.specs.declared.build_op.BuildOp.TheVariants as build
 use Rattle.icode_ir.specs.Build.{Build, empty, operand, variable, label, arguments, finished, find, mention, mentioned}
-use Rattle.icode_ir.specs.Build.{key_register, yield, pass}
+use Rattle.icode_ir.specs.Build.{key_register, yield, pass, first_mention}
 use Rattle.icode_ir.specs.Rules.{effect, checked}
 use Rattle.icode_ir.specs.Runs.{run_ops}
 use Rattle.icode_templates.specs.Layout.{Layout}
@@ -24,154 +25,166 @@ use Rattle.typed_tree.specs.declared.expression.Answer.{Answer}
 use Rattle.typed_tree.specs.declared.expression.Library.TheVariants as library
 use Rattle.typed_tree.specs.Sizes.{is_value}
 use Rattle.staged_meaning.specs.Size.{labels_in, labels, labels_of, temps_in, temps, temps_of, variables_in}
-use Rattle.tick_lower_proof.specs.Lower.{Addresses, expr_ops, args_ops, Targets, stmt_ops, items_ops, nowhere}
-use Rattle.tick_lower_proof.specs.Lower.{function_ops, dropping, dropping_call, keeping, kept, narrowing}
-use Rattle.tick_lower_proof.specs.Lower.{case_ops, test_ops, default_label}
+use Rattle.tick_lower_spec.specs.Lower.{Addresses, expr_ops, args_ops, Targets, stmt_ops, items_ops, nowhere}
+use Rattle.tick_lower_spec.specs.Lower.{function_ops, dropping, dropping_call, keeping, kept, narrowing}
+use Rattle.tick_lower_spec.specs.Lower.{case_ops, test_ops, default_label}
 use Rattle.tick_lower_proof.specs.Laws.{code_of, registers_of}
+use Rattle.limits.specs.declared.program.TheConstants.{MOST_ARGUMENTS}
 
--- a builder's op, and an op, where each call goes to address 0
-abbrev pub aimless : BuildOp → BuildOp
-aimless (build.Call address n) = build.Call 0 n
-aimless o = o
+-- a builder's op, and an op, where each call goes where this sends it
+abbrev pub sent : (ℕ → ℕ) → BuildOp → BuildOp
+sent m (build.Call address n) = build.Call (m address) n
+sent m o = o
 
-abbrev pub aimless_op : Op → Op
-aimless_op (op.Call address) = op.Call 0
-aimless_op o = o
+abbrev pub sent_op : (ℕ → ℕ) → Op → Op
+sent_op m (op.Call address) = op.Call (m address)
+sent_op m o = o
 
-abbrev All : List BuildOp → List BuildOp
-All os = map aimless os
+-- where the address of each function is its number
+abbrev pub by_number : Addresses
+by_number = record { function_at = λ number. number }
 
-both : (xs ys xs' ys' : List BuildOp) → All xs ≡ xs' → All ys ≡ ys' → All (xs ++ ys) ≡ xs' ++ ys'
-both xs ys xs' ys' ex ey =
-    map-append aimless xs ys ∙ ap (λ os. os ++ All ys) ex ∙ ap (λ os. xs' ++ os) ey
+-- The ops that name functions by their numbers, sent where these stand.
+module _ (m : ℕ → ℕ) where
+  abbrev there : Addresses
+  there = record { function_at = m }
 
--- ---- lists of ops that name no function
+  abbrev All : List BuildOp → List BuildOp
+  All os = map (sent m) os
 
-narrowing_same : (w : Width) → All (narrowing w) ≡ narrowing w
-narrowing_same width.SignedByte = refl
-narrowing_same width.Byte = refl
-narrowing_same width.SignedHalf = refl
-narrowing_same width.Half = refl
-narrowing_same width.Word = refl
+  abbrev moved : List Op → List Op
+  moved os = map (sent_op m) os
 
-dropping_same : (b : Bool) → All (dropping b) ≡ dropping b
-dropping_same true = refl
-dropping_same false = refl
+  both : (xs ys xs' ys' : List BuildOp) → All xs ≡ xs' → All ys ≡ ys' → All (xs ++ ys) ≡ xs' ++ ys'
+  both xs ys xs' ys' ex ey =
+      map-append (sent m) xs ys ∙ ap (λ os. os ++ All ys) ex ∙ ap (λ os. xs' ++ os) ey
 
-dropping_call_same : (a : Answer) → All (dropping_call a) ≡ dropping_call a
-dropping_call_same a = by (is_value a)
-  where
-    by : (b : Bool) → All (if b then [] else (build.Drop ∷ [])) ≡ (if b then [] else (build.Drop ∷ []))
-    by true = refl
-    by false = refl
+  -- ---- lists of ops that name no function
 
-keeping_same : (b : Bool) (t : ℕ) → All (keeping b t) ≡ keeping b t
-keeping_same true t = refl
-keeping_same false t = refl
+  narrowing_same : (w : Width) → All (narrowing w) ≡ narrowing w
+  narrowing_same width.SignedByte = refl
+  narrowing_same width.Byte = refl
+  narrowing_same width.SignedHalf = refl
+  narrowing_same width.Half = refl
+  narrowing_same width.Word = refl
 
-kept_same : (b : Bool) (t : ℕ) → All (kept b t) ≡ kept b t
-kept_same true t = refl
-kept_same false t = refl
+  dropping_same : (b : Bool) → All (dropping b) ≡ dropping b
+  dropping_same true = refl
+  dropping_same false = refl
 
-case_same : (s : Stmt) (l t : ℕ) → All (case_ops s l t) ≡ case_ops s l t
-case_same (node.Case value) l t = refl
-case_same _ l t = refl
+  dropping_call_same : (a : Answer) → All (dropping_call a) ≡ dropping_call a
+  dropping_call_same a = by (is_value a)
+    where
+      by : (b : Bool) → All (if b then [] else (build.Drop ∷ [])) ≡ (if b then [] else (build.Drop ∷ []))
+      by true = refl
+      by false = refl
 
-test_same : (is : Items) (l t : ℕ) → All (test_ops is l t) ≡ test_ops is l t
-test_same node.NoItem l t = refl
-test_same (node.Item s is) l t = both (case_ops s l t) (test_ops is (l + labels s) t) _ _ (case_same s l t)
-    (test_same is (l + labels s) t)
+  keeping_same : (b : Bool) (t : ℕ) → All (keeping b t) ≡ keeping b t
+  keeping_same true t = refl
+  keeping_same false t = refl
 
--- ---- trees
+  kept_same : (b : Bool) (t : ℕ) → All (kept b t) ≡ kept b t
+  kept_same true t = refl
+  kept_same false t = refl
 
--- where each function has address 0
-abbrev pub at_zero : Addresses
-at_zero = record { function_at = λ number. 0 }
+  case_same : (s : Stmt) (l t : ℕ) → All (case_ops s l t) ≡ case_ops s l t
+  case_same (node.Case value) l t = refl
+  case_same _ l t = refl
 
-module _ (d : Addresses) where
+  test_same : (is : Items) (l t : ℕ) → All (test_ops is l t) ≡ test_ops is l t
+  test_same node.NoItem l t = refl
+  test_same (node.Item s is) l t = both (case_ops s l t) (test_ops is (l + labels s) t) _ _ (case_same s l t)
+      (test_same is (l + labels s) t)
+
+  -- ---- trees
+
   mutual
-    expr_same : (e : Expr) (l t : ℕ) → All (expr_ops d e l t) ≡ expr_ops at_zero e l t
-    expr_same (node.SetVar i a) l t = both (expr_ops d a l t) _ _ _ (expr_same a l t) refl
+    expr_same : (e : Expr) (l t : ℕ) → All (expr_ops by_number e l t) ≡ expr_ops there e l t
+    expr_same (node.SetVar i a) l t = both (expr_ops by_number a l t) _ _ _ (expr_same a l t) refl
     expr_same (node.PostVar i w step) l t =
         ap (λ os. build.GetVariable i ∷ build.Pick 0 ∷ build.Const step ∷ build.Bin bin.Add ∷ os)
         (both (narrowing w) _ _ _ (narrowing_same w) refl)
-    expr_same (node.Load w a) l t = both (expr_ops d a l t) _ _ _ (expr_same a l t) refl
+    expr_same (node.Load w a) l t = both (expr_ops by_number a l t) _ _ _ (expr_same a l t) refl
     expr_same (node.Store w a b) l t =
-        both (expr_ops d a l t) _ _ _ (expr_same a l t)
-        (both (expr_ops d b (l + labels_in a) (t + temps_in a)) _ _ _ (expr_same b (l + labels_in a) (t + temps_in a))
+        both (expr_ops by_number a l t) _ _ _ (expr_same a l t)
+        (both (expr_ops by_number b (l + labels_in a) (t + temps_in a)) _ _ _
+        (expr_same b (l + labels_in a) (t + temps_in a))
         refl)
     expr_same (node.Modify w k a b) l t =
-        both (expr_ops d a l t) _ _ _ (expr_same a l t)
+        both (expr_ops by_number a l t) _ _ _ (expr_same a l t)
         (ap (λ os. build.Pick 0 ∷ build.Load w ∷ os)
-        (both (expr_ops d b (l + labels_in a) (t + temps_in a)) _ _ _ (expr_same b (l + labels_in a) (t + temps_in a))
+        (both (expr_ops by_number b (l + labels_in a) (t + temps_in a)) _ _ _
+        (expr_same b (l + labels_in a) (t + temps_in a))
         (ap (λ os. build.Bin k ∷ os) (both (narrowing w) _ _ _ (narrowing_same w) refl))))
     expr_same (node.Post w step a) l t =
-        both (expr_ops d a l t) _ _ _ (expr_same a l t)
+        both (expr_ops by_number a l t) _ _ _ (expr_same a l t)
         (ap (λ os. build.Pick 0 ∷ build.Load w ∷ build.Pick 1 ∷ build.Pick 1 ∷ build.Const step ∷ build.Bin bin.Add ∷
         os)
         (both (narrowing w) _ _ _ (narrowing_same w) refl))
     expr_same (node.Bin k a b) l t =
-        both (expr_ops d a l t) _ _ _ (expr_same a l t)
-        (both (expr_ops d b (l + labels_in a) (t + temps_in a)) _ _ _ (expr_same b (l + labels_in a) (t + temps_in a))
+        both (expr_ops by_number a l t) _ _ _ (expr_same a l t)
+        (both (expr_ops by_number b (l + labels_in a) (t + temps_in a)) _ _ _
+        (expr_same b (l + labels_in a) (t + temps_in a))
         refl)
-    expr_same (node.Un k a) l t = both (expr_ops d a l t) _ _ _ (expr_same a l t) refl
+    expr_same (node.Un k a) l t = both (expr_ops by_number a l t) _ _ _ (expr_same a l t) refl
     expr_same (node.And a b) l t =
-        both (expr_ops d a (l + 2) (t + 1)) _ _ _ (expr_same a (l + 2) (t + 1))
+        both (expr_ops by_number a (l + 2) (t + 1)) _ _ _ (expr_same a (l + 2) (t + 1))
         (ap (λ os. build.BranchZero l ∷ os)
-        (both (expr_ops d b (l + 2 + labels_in a) (t + 1 + temps_in a)) _ _ _
+        (both (expr_ops by_number b (l + 2 + labels_in a) (t + 1 + temps_in a)) _ _ _
         (expr_same b (l + 2 + labels_in a) (t + 1 + temps_in a)) refl))
     expr_same (node.Or a b) l t =
-        both (expr_ops d a (l + 2) (t + 1)) _ _ _ (expr_same a (l + 2) (t + 1))
+        both (expr_ops by_number a (l + 2) (t + 1)) _ _ _ (expr_same a (l + 2) (t + 1))
         (ap (λ os. build.BranchNonzero l ∷ os)
-        (both (expr_ops d b (l + 2 + labels_in a) (t + 1 + temps_in a)) _ _ _
+        (both (expr_ops by_number b (l + 2 + labels_in a) (t + 1 + temps_in a)) _ _ _
         (expr_same b (l + 2 + labels_in a) (t + 1 + temps_in a)) refl))
     expr_same (node.Cond c a b) l t =
         let la = l + 2 + labels_in c in
         let ta = t + 1 + temps_in c in
         let v = has_value a in
-        both (expr_ops d c (l + 2) (t + 1)) _ _ _ (expr_same c (l + 2) (t + 1))
+        both (expr_ops by_number c (l + 2) (t + 1)) _ _ _ (expr_same c (l + 2) (t + 1))
         (ap (λ os. build.BranchZero l ∷ os)
-        (both (expr_ops d a la ta) _ _ _ (expr_same a la ta)
+        (both (expr_ops by_number a la ta) _ _ _ (expr_same a la ta)
         (both (keeping v t) _ _ _ (keeping_same v t)
         (ap (λ os. build.Jump (l + 1) ∷ build.Label l ∷ os)
-        (both (expr_ops d b (la + labels_in a) (ta + temps_in a)) _ _ _
+        (both (expr_ops by_number b (la + labels_in a) (ta + temps_in a)) _ _ _
         (expr_same b (la + labels_in a) (ta + temps_in a))
         (both (keeping v t) _ _ _ (keeping_same v t)
         (ap (λ os. build.Label (l + 1) ∷ os) (kept_same v t))))))))
     expr_same (node.Comma a b) l t =
-        both (expr_ops d a l t) _ _ _ (expr_same a l t)
+        both (expr_ops by_number a l t) _ _ _ (expr_same a l t)
         (both (dropping (has_value a)) _ _ _ (dropping_same (has_value a))
         (expr_same b (l + labels_in a) (t + temps_in a)))
     expr_same (node.Void a) l t =
-        both (expr_ops d a l t) _ _ _ (expr_same a l t) (dropping_same (has_value a))
+        both (expr_ops by_number a l t) _ _ _ (expr_same a l t) (dropping_same (has_value a))
     expr_same (node.Call answer f args) l t =
-        both (args_ops d args l t) _ _ _ (args_same args l t)
-        (ap (λ os. build.Call 0 (count args) ∷ os) (dropping_call_same answer))
+        both (args_ops by_number args l t) _ _ _ (args_same args l t)
+        (ap (λ os. build.Call (m f) (count args) ∷ os) (dropping_call_same answer))
     expr_same (node.CallNumber answer a args) l t =
-        both (expr_ops d a l t) _ _ _ (expr_same a l t)
-        (both (args_ops d args (l + labels_in a) (t + temps_in a)) _ _ _
+        both (expr_ops by_number a l t) _ _ _ (expr_same a l t)
+        (both (args_ops by_number args (l + labels_in a) (t + temps_in a)) _ _ _
         (args_same args (l + labels_in a) (t + temps_in a))
         (ap (λ os. build.CallNumber (count args) ∷ os) (dropping_call_same answer)))
-    expr_same (node.Lib library.Putchar a) l t = both (expr_ops d a l t) _ _ _ (expr_same a l t) refl
-    expr_same (node.Lib library.Putint a) l t = both (expr_ops d a l t) _ _ _ (expr_same a l t) refl
-    expr_same (node.Lib library.Exit a) l t = both (expr_ops d a l t) _ _ _ (expr_same a l t) refl
-    expr_same (node.Lib library.Malloc a) l t = both (expr_ops d a l t) _ _ _ (expr_same a l t) refl
+    expr_same (node.Lib library.Putchar a) l t = both (expr_ops by_number a l t) _ _ _ (expr_same a l t) refl
+    expr_same (node.Lib library.Putint a) l t = both (expr_ops by_number a l t) _ _ _ (expr_same a l t) refl
+    expr_same (node.Lib library.Exit a) l t = both (expr_ops by_number a l t) _ _ _ (expr_same a l t) refl
+    expr_same (node.Lib library.Malloc a) l t = both (expr_ops by_number a l t) _ _ _ (expr_same a l t) refl
     expr_same (node.Capture kind a) l t = expr_same a l t
-    expr_same (node.Compile a) l t = both (expr_ops d a l t) _ _ _ (expr_same a l t) refl
-    expr_same (node.ParamOf a) l t = both (expr_ops d a l t) _ _ _ (expr_same a l t) refl
+    expr_same (node.Compile a) l t = both (expr_ops by_number a l t) _ _ _ (expr_same a l t) refl
+    expr_same (node.ParamOf a) l t = both (expr_ops by_number a l t) _ _ _ (expr_same a l t) refl
+    expr_same (node.VSet i a) l t = both (expr_ops by_number a l t) _ _ _ (expr_same a l t) refl
     expr_same _ l t = refl
 
-    args_same : (args : Args) (l t : ℕ) → All (args_ops d args l t) ≡ args_ops at_zero args l t
+    args_same : (args : Args) (l t : ℕ) → All (args_ops by_number args l t) ≡ args_ops there args l t
     args_same node.NoArg l t = refl
     args_same (node.Arg a args) l t =
-        both (expr_ops d a l t) _ _ _ (expr_same a l t) (args_same args (l + labels_in a) (t + temps_in a))
+        both (expr_ops by_number a l t) _ _ _ (expr_same a l t) (args_same args (l + labels_in a) (t + temps_in a))
 
   mutual
-    stmt_same : (s : Stmt) (to : Targets) (l t : ℕ) → All (stmt_ops d s to l t) ≡ stmt_ops at_zero s to l t
+    stmt_same : (s : Stmt) (to : Targets) (l t : ℕ) → All (stmt_ops by_number s to l t) ≡ stmt_ops there s to l t
     stmt_same (node.Eval e) to l t =
-        both (expr_ops d e l t) _ _ _ (expr_same e l t) (dropping_same (has_value e))
+        both (expr_ops by_number e l t) _ _ _ (expr_same e l t) (dropping_same (has_value e))
     stmt_same (node.Block vs is) to l t =
-        both (items_ops d vs to l t) _ _ _ (items_same vs to l t)
+        both (items_ops by_number vs to l t) _ _ _ (items_same vs to l t)
         (items_same is to (l + labels_of vs) (t + temps_of vs))
     stmt_same (node.Parameter k w) to l t =
         ap (λ os. build.Parameter k ∷ os) (both (narrowing w) _ _ _ (narrowing_same w) refl)
@@ -181,40 +194,41 @@ module _ (d : Addresses) where
     stmt_same (node.If e s) to l t =
         let l1 = l + 1 + labels_in e in
         let t1 = t + temps_in e in
-        both (expr_ops d e (l + 1) t) _ _ _ (expr_same e (l + 1) t)
-        (ap (λ os. build.BranchZero l ∷ os) (both (stmt_ops d s to l1 t1) _ _ _ (stmt_same s to l1 t1) refl))
+        both (expr_ops by_number e (l + 1) t) _ _ _ (expr_same e (l + 1) t)
+        (ap (λ os. build.BranchZero l ∷ os) (both (stmt_ops by_number s to l1 t1) _ _ _ (stmt_same s to l1 t1) refl))
     stmt_same (node.IfElse e s r) to l t =
         let l2 = l + 2 + labels_in e in
         let t2 = t + temps_in e in
-        both (expr_ops d e (l + 2) t) _ _ _ (expr_same e (l + 2) t)
+        both (expr_ops by_number e (l + 2) t) _ _ _ (expr_same e (l + 2) t)
         (ap (λ os. build.BranchZero l ∷ os)
-        (both (stmt_ops d s to l2 t2) _ _ _ (stmt_same s to l2 t2)
+        (both (stmt_ops by_number s to l2 t2) _ _ _ (stmt_same s to l2 t2)
         (ap (λ os. build.Jump (l + 1) ∷ build.Label l ∷ os)
-        (both (stmt_ops d r to (l2 + labels s) (t2 + temps s)) _ _ _
+        (both (stmt_ops by_number r to (l2 + labels s) (t2 + temps s)) _ _ _
         (stmt_same r to (l2 + labels s) (t2 + temps s)) refl))))
     stmt_same (node.While e s) to l t =
         let in_loop : Targets = record { on_break = l; on_continue = l + 1 } in
         let l2 = l + 2 + labels_in e in
         let t2 = t + temps_in e in
         ap (λ os. build.Label (l + 1) ∷ os)
-        (both (expr_ops d e (l + 2) t) _ _ _ (expr_same e (l + 2) t)
+        (both (expr_ops by_number e (l + 2) t) _ _ _ (expr_same e (l + 2) t)
         (ap (λ os. build.BranchZero l ∷ os)
-        (both (stmt_ops d s in_loop l2 t2) _ _ _ (stmt_same s in_loop l2 t2) refl)))
+        (both (stmt_ops by_number s in_loop l2 t2) _ _ _ (stmt_same s in_loop l2 t2) refl)))
     stmt_same (node.Do s e) to l t =
         let in_loop : Targets = record { on_break = l; on_continue = l + 2 } in
         ap (λ os. build.Label (l + 1) ∷ os)
-        (both (stmt_ops d s in_loop (l + 3) t) _ _ _ (stmt_same s in_loop (l + 3) t)
+        (both (stmt_ops by_number s in_loop (l + 3) t) _ _ _ (stmt_same s in_loop (l + 3) t)
         (ap (λ os. build.Label (l + 2) ∷ os)
-        (both (expr_ops d e (l + 3 + labels s) (t + temps s)) _ _ _ (expr_same e (l + 3 + labels s) (t + temps s))
+        (both (expr_ops by_number e (l + 3 + labels s) (t + temps s)) _ _ _
+        (expr_same e (l + 3 + labels s) (t + temps s))
         refl)))
     stmt_same (node.For e s) to l t =
         let in_loop : Targets = record { on_break = l; on_continue = l + 2 } in
         let l3 = l + 3 + labels_in e in
         let t3 = t + temps_in e in
         ap (λ os. build.Label (l + 1) ∷ os)
-        (both (expr_ops d e (l + 3) t) _ _ _ (expr_same e (l + 3) t)
+        (both (expr_ops by_number e (l + 3) t) _ _ _ (expr_same e (l + 3) t)
         (ap (λ os. build.BranchZero l ∷ os)
-        (both (stmt_ops d s in_loop l3 t3) _ _ _ (stmt_same s in_loop l3 t3) refl)))
+        (both (stmt_ops by_number s in_loop l3 t3) _ _ _ (stmt_same s in_loop l3 t3) refl)))
     stmt_same (node.ForStep e step s) to l t =
         let in_loop : Targets = record { on_break = l; on_continue = l + 2 } in
         let l3 = l + 3 + labels_in e in
@@ -222,11 +236,11 @@ module _ (d : Addresses) where
         let ls = l3 + labels s in
         let ts = t3 + temps s in
         ap (λ os. build.Label (l + 1) ∷ os)
-        (both (expr_ops d e (l + 3) t) _ _ _ (expr_same e (l + 3) t)
+        (both (expr_ops by_number e (l + 3) t) _ _ _ (expr_same e (l + 3) t)
         (ap (λ os. build.BranchZero l ∷ os)
-        (both (stmt_ops d s in_loop l3 t3) _ _ _ (stmt_same s in_loop l3 t3)
+        (both (stmt_ops by_number s in_loop l3 t3) _ _ _ (stmt_same s in_loop l3 t3)
         (ap (λ os. build.Label (l + 2) ∷ os)
-        (both (expr_ops d step ls ts) _ _ _ (expr_same step ls ts)
+        (both (expr_ops by_number step ls ts) _ _ _ (expr_same step ls ts)
         (both (dropping (has_value step)) _ _ _ (dropping_same (has_value step)) refl))))))
     stmt_same (node.Switch e vs is) to l t =
         let l1 = l + 1 + labels_in e in
@@ -234,122 +248,188 @@ module _ (d : Addresses) where
         let l2 = l1 + labels_of vs in
         let t2 = t1 + temps_of vs in
         let in_switch : Targets = record { on_break = l; on_continue = to.on_continue } in
-        both (expr_ops d e (l + 1) (t + 1)) _ _ _ (expr_same e (l + 1) (t + 1))
+        both (expr_ops by_number e (l + 1) (t + 1)) _ _ _ (expr_same e (l + 1) (t + 1))
         (ap (λ os. build.SetVariable t ∷ build.Drop ∷ os)
-        (both (items_ops d vs to l1 t1) _ _ _ (items_same vs to l1 t1)
+        (both (items_ops by_number vs to l1 t1) _ _ _ (items_same vs to l1 t1)
         (both (test_ops is l2 t) _ _ _ (test_same is l2 t)
         (ap (λ os. build.Jump (default_label is l2 l) ∷ os)
-        (both (items_ops d is in_switch l2 t2) _ _ _ (items_same is in_switch l2 t2) refl)))))
-    stmt_same (node.ReturnValue e) to l t = both (expr_ops d e l t) _ _ _ (expr_same e l t) refl
+        (both (items_ops by_number is in_switch l2 t2) _ _ _ (items_same is in_switch l2 t2) refl)))))
+    stmt_same (node.ReturnValue e) to l t = both (expr_ops by_number e l t) _ _ _ (expr_same e l t) refl
     stmt_same _ to l t = refl
 
-    items_same : (is : Items) (to : Targets) (l t : ℕ) → All (items_ops d is to l t) ≡ items_ops at_zero is to l t
+    items_same : (is : Items) (to : Targets) (l t : ℕ) → All (items_ops by_number is to l t) ≡ items_ops there is to l t
     items_same node.NoItem to l t = refl
     items_same (node.Item s is) to l t =
-        both (stmt_ops d s to l t) _ _ _ (stmt_same s to l t) (items_same is to (l + labels s) (t + temps s))
+        both (stmt_ops by_number s to l t) _ _ _ (stmt_same s to l t) (items_same is to (l + labels s) (t + temps s))
 
-  ops_same : (f : node.Function) → All (function_ops d f) ≡ function_ops at_zero f
+  ops_same : (f : node.Function) → All (function_ops by_number f) ≡ function_ops there f
   ops_same f =
       ap (λ os. build.Enter (variables_in f.body + temps f.body) (labels f.body) ∷ os)
-      (both (stmt_ops d f.body nowhere 0 (variables_in f.body)) _ _ _
+      (both (stmt_ops by_number f.body nowhere 0 (variables_in f.body)) _ _ _
       (stmt_same f.body nowhere 0 (variables_in f.body)) refl)
 
--- ---- the builder
+  -- ---- the builder
 
-abbrev cleared : Build → Build
-cleared b = record b { ops = map aimless_op b.ops }
+  abbrev cleared : Build → Build
+  cleared b = record b { ops = moved b.ops; prelude = moved b.prelude }
 
-yield_same : (o : Op) (n : ℕ) (b : Build) → yield (aimless_op o) n (cleared b) ≡ cleared (yield o n b)
-yield_same o n b =
-    ap (λ (os : List Op). record (yield o n b) { ops = os }) (sym (map-append aimless_op b.ops (o ∷ [])))
+  yield_same : (o : Op) (n : ℕ) (b : Build) → yield (sent_op m o) n (cleared b) ≡ cleared (yield o n b)
+  yield_same o n b =
+      ap (λ (os : List Op). record (yield o n b) { ops = os; prelude = moved b.prelude })
+      (sym (map-append (sent_op m) b.ops (o ∷ [])))
 
-added : (o : Op) (b after : Build) →
-    record after { ops = map aimless_op b.ops ++ aimless_op o ∷ [] } ≡ cleared (record after { ops = b.ops ++ o ∷ [] })
-added o b after =
-    ap (λ (os : List Op). record after { ops = os }) (sym (map-append aimless_op b.ops (o ∷ [])))
+  added : (o : Op) (b after : Build) →
+      record after { ops = moved b.ops ++ sent_op m o ∷ []; prelude = moved after.prelude }
+      ≡ cleared (record after { ops = b.ops ++ o ∷ [] })
+  added o b after =
+      ap (λ (os : List Op). record after { ops = os; prelude = moved after.prelude })
+      (sym (map-append (sent_op m) b.ops (o ∷ [])))
 
-checked_same : (kind : BinKind) (l r : ℕ) (b : Build) → checked kind l r (cleared b) ≡ cleared (checked kind l r b)
-checked_same bin.DivideSigned l r b = added (op.CheckDivision l r) b b
-checked_same bin.DivideUnsigned l r b = added (op.CheckZero r) b b
-checked_same bin.RemainderSigned l r b = added (op.CheckDivision l r) b b
-checked_same bin.RemainderUnsigned l r b = added (op.CheckZero r) b b
-checked_same kind l r b = refl
+  checked_same : (kind : BinKind) (l r : ℕ) (b : Build) → checked kind l r (cleared b) ≡ cleared (checked kind l r b)
+  checked_same bin.DivideSigned l r b = added (op.CheckDivision l r) b b
+  checked_same bin.DivideUnsigned l r b = added (op.CheckZero r) b b
+  checked_same bin.RemainderSigned l r b = added (op.CheckDivision l r) b b
+  checked_same bin.RemainderUnsigned l r b = added (op.CheckZero r) b b
+  checked_same kind l r b = refl
 
-arguments_same : (k : ℕ) (rs : List ℕ) → map aimless_op (arguments k rs) ≡ arguments k rs
-arguments_same k [] = refl
-arguments_same k (r ∷ rs) = ap (λ os. op.Argument k r ∷ os) (arguments_same (k + 1) rs)
+  arguments_same : (k : ℕ) (rs : List ℕ) → moved (arguments k rs) ≡ arguments k rs
+  arguments_same k [] = refl
+  arguments_same k (r ∷ rs) = ap (λ os. op.Argument k r ∷ os) (arguments_same (k + 1) rs)
 
-pass_same : (n : ℕ) (b : Build) → pass n (cleared b) ≡ cleared (pass n b)
-pass_same n b =
-    let rs = drop (length b.operands - n) b.operands in
-    ap (λ (os : List Op). record (pass n b) { ops = os })
-    (ap (λ os. map aimless_op b.ops ++ os) (sym (arguments_same 0 rs)) ∙
-    sym (map-append aimless_op b.ops (arguments 0 rs)))
+  pass_same : (n : ℕ) (b : Build) → pass n (cleared b) ≡ cleared (pass n b)
+  pass_same n b =
+      let rs = drop (length b.operands - n) b.operands in
+      ap (λ (os : List Op). record (pass n b) { ops = os; prelude = moved b.prelude })
+      (ap (λ os. moved b.ops ++ os) (sym (arguments_same 0 rs)) ∙
+      sym (map-append (sent_op m) b.ops (arguments 0 rs)))
 
-mention_same : (o : Option ℕ) (key : ℕ) (b : Build) → mention o key (cleared b) ≡ cleared (mention o key b)
-mention_same (Some r) key b = refl
-mention_same None key b = refl
+  first_same : (key r : ℕ) → first_mention key r ≡ sent_op m (first_mention key r)
+  first_same key r = by (nat_lt key MOST_ARGUMENTS)
+    where
+      by : (low : Bool) → (if low then op.GetParameter r key else op.Const r 0) ≡
+          sent_op m (if low then op.GetParameter r key else op.Const r 0)
+      by true = refl
+      by false = refl
 
-mentioned_same : (key : ℕ) (b : Build) → mentioned key (cleared b) ≡ cleared (mentioned key b)
-mentioned_same key b = mention_same (find key b.keys) key b
+  mention_same : (o : Option ℕ) (key : ℕ) (b : Build) → mention o key (cleared b) ≡ cleared (mention o key b)
+  mention_same (Some r) key b = refl
+  mention_same None key b =
+      ap (λ (os : List Op). record (mention None key b) { ops = moved b.ops; prelude = os })
+      (ap (λ (o : Op). moved b.prelude ++ o ∷ []) (first_same key b.registers)
+      ∙ sym (map-append (sent_op m) b.prelude (first_mention key b.registers ∷ [])))
 
-effect_same : (o : BuildOp) (b : Build) → effect (aimless o) (cleared b) ≡ cleared (effect o b)
-effect_same (build.Const word) b = yield_same (op.Const b.registers word) 0 b
-effect_same (build.Bin kind) b =
-    ap (λ (c : Build). yield (op.Bin kind b.registers (operand 1 b) (operand 0 b)) 2 c)
-    (checked_same kind (operand 1 b) (operand 0 b) b)
-    ∙ yield_same (op.Bin kind b.registers (operand 1 b) (operand 0 b)) 2
-    (checked kind (operand 1 b) (operand 0 b) b)
-effect_same (build.Un kind) b = yield_same (op.Un kind b.registers (operand 0 b)) 1 b
-effect_same (build.Enter n m) b = refl
-effect_same build.Leave b = refl
-effect_same (build.GetVariable i) b = yield_same (op.Move b.registers (variable i b)) 0 b
-effect_same (build.SetVariable i) b = added (op.Move (variable i b) (operand 0 b)) b b
-effect_same build.Drop b = refl
-effect_same (build.Pick i) b = refl
-effect_same build.Nip b = refl
-effect_same (build.Load w) b = yield_same (op.Load w b.registers (operand 0 b)) 1 b
-effect_same (build.Store w) b =
-    added (op.Store w (operand 1 b) (operand 0 b)) b (record (effect (build.Store w) b) { ops = b.ops })
-effect_same (build.Label i) b = added (op.Label (label i b)) b b
-effect_same (build.Jump i) b = added (op.Jump (label i b)) b b
-effect_same (build.BranchZero i) b =
-    added (op.BranchZero (operand 0 b) (label i b)) b (record (effect (build.BranchZero i) b) { ops = b.ops })
-effect_same (build.BranchNonzero i) b =
-    added (op.BranchNonzero (operand 0 b) (label i b)) b (record (effect (build.BranchNonzero i) b) { ops = b.ops })
-effect_same (build.Call address n) b =
-    let c = pass n b in
-    ap (λ (x : Build). yield (op.Result b.registers) 0 (record x { ops = x.ops ++ op.Call 0 ∷ [] })) (pass_same n b)
-    ∙ ap (λ (x : Build). yield (op.Result b.registers) 0 x) (added (op.Call address) c c)
-    ∙ yield_same (op.Result b.registers) 0 (record c { ops = c.ops ++ op.Call address ∷ [] })
-effect_same (build.CallNumber n) b =
-    let c = pass n b in
-    let o = op.CallNumber (operand n b) n in
-    ap (λ (x : Build). yield (op.Result b.registers) 1 (record x { ops = x.ops ++ o ∷ [] })) (pass_same n b)
-    ∙ ap (λ (x : Build). yield (op.Result b.registers) 1 x) (added o c c)
-    ∙ yield_same (op.Result b.registers) 1 (record c { ops = c.ops ++ o ∷ [] })
-effect_same build.Return b =
-    added (op.Return (operand 0 b)) b (record (effect build.Return b) { ops = b.ops })
-effect_same build.ReturnZero b = added op.ReturnZero b b
-effect_same (build.GetSpec key) b =
-    ap (λ (x : Build). yield (op.Move x.registers (key_register key b)) 0 x) (mentioned_same key b)
-    ∙ yield_same (op.Move (mentioned key b).registers (key_register key b)) 0 (mentioned key b)
-effect_same (build.SetSpec key) b =
-    let o = op.Move (key_register key b) (operand 0 b) in
-    ap (λ (x : Build). record x { ops = x.ops ++ o ∷ [] }) (mentioned_same key b)
-    ∙ added o (mentioned key b) (mentioned key b)
-effect_same (build.Sys kind) b = yield_same (op.Sys kind b.registers (operand 0 b)) 1 b
-effect_same (build.Run routine) b = yield_same (op.Run routine b.registers (operand 0 b)) 1 b
-effect_same (build.FrameAddress offset) b = yield_same (op.FrameAddress b.registers offset) 0 b
-effect_same (build.Clear offset words) b = added (op.Clear offset words) b b
-effect_same (build.New address kind captures) b = yield_same (op.New b.registers address kind captures) 0 b
-effect_same (build.Put i) b =
-    added (op.Put i (operand 0 b)) b (record (effect (build.Put i) b) { ops = b.ops })
-effect_same (build.Parameter k) b = yield_same (op.GetParameter b.registers k) 0 b
+  mentioned_same : (key : ℕ) (b : Build) → mentioned key (cleared b) ≡ cleared (mentioned key b)
+  mentioned_same key b = mention_same (find key b.keys) key b
 
-run_same : (os : List BuildOp) (b : Build) → run_ops (All os) (cleared b) ≡ cleared (run_ops os b)
-run_same [] b = refl
-run_same (o ∷ os) b = ap (run_ops (All os)) (effect_same o b) ∙ run_same os (effect o b)
+  effect_same : (o : BuildOp) (b : Build) → effect (sent m o) (cleared b) ≡ cleared (effect o b)
+  effect_same (build.Const word) b = yield_same (op.Const b.registers word) 0 b
+  effect_same (build.Bin kind) b =
+      ap (λ (c : Build). yield (op.Bin kind b.registers (operand 1 b) (operand 0 b)) 2 c)
+      (checked_same kind (operand 1 b) (operand 0 b) b)
+      ∙ yield_same (op.Bin kind b.registers (operand 1 b) (operand 0 b)) 2
+      (checked kind (operand 1 b) (operand 0 b) b)
+  effect_same (build.Un kind) b = yield_same (op.Un kind b.registers (operand 0 b)) 1 b
+  effect_same (build.Enter n m) b = refl
+  effect_same build.Leave b = refl
+  effect_same (build.GetVariable i) b = yield_same (op.Move b.registers (variable i b)) 0 b
+  effect_same (build.SetVariable i) b = added (op.Move (variable i b) (operand 0 b)) b b
+  effect_same build.Drop b = refl
+  effect_same (build.Pick i) b = refl
+  effect_same build.Nip b = refl
+  effect_same (build.Load w) b = yield_same (op.Load w b.registers (operand 0 b)) 1 b
+  effect_same (build.Store w) b =
+      added (op.Store w (operand 1 b) (operand 0 b)) b (record (effect (build.Store w) b) { ops = b.ops })
+  effect_same (build.Label i) b = added (op.Label (label i b)) b b
+  effect_same (build.Jump i) b = added (op.Jump (label i b)) b b
+  effect_same (build.BranchZero i) b =
+      added (op.BranchZero (operand 0 b) (label i b)) b (record (effect (build.BranchZero i) b) { ops = b.ops })
+  effect_same (build.BranchNonzero i) b =
+      added (op.BranchNonzero (operand 0 b) (label i b)) b (record (effect (build.BranchNonzero i) b) { ops = b.ops })
+  effect_same (build.Call address n) b =
+      let c = pass n b in
+      ap (λ (x : Build). yield (op.Result b.registers) 0 (record x { ops = x.ops ++ op.Call (m address) ∷ [] }))
+      (pass_same n b)
+      ∙ ap (λ (x : Build). yield (op.Result b.registers) 0 x) (added (op.Call address) c c)
+      ∙ yield_same (op.Result b.registers) 0 (record c { ops = c.ops ++ op.Call address ∷ [] })
+  effect_same (build.CallNumber n) b =
+      let c = pass n b in
+      let o = op.CallNumber (operand n b) n in
+      ap (λ (x : Build). yield (op.Result b.registers) 1 (record x { ops = x.ops ++ o ∷ [] })) (pass_same n b)
+      ∙ ap (λ (x : Build). yield (op.Result b.registers) 1 x) (added o c c)
+      ∙ yield_same (op.Result b.registers) 1 (record c { ops = c.ops ++ o ∷ [] })
+  effect_same build.Return b =
+      added (op.Return (operand 0 b)) b (record (effect build.Return b) { ops = b.ops })
+  effect_same build.ReturnZero b = added op.ReturnZero b b
+  effect_same (build.GetSpec key) b =
+      ap (λ (x : Build). yield (op.Move x.registers (key_register key b)) 0 x) (mentioned_same key b)
+      ∙ yield_same (op.Move (mentioned key b).registers (key_register key b)) 0 (mentioned key b)
+  effect_same (build.SetSpec key) b =
+      let o = op.Move (key_register key b) (operand 0 b) in
+      ap (λ (x : Build). record x { ops = x.ops ++ o ∷ [] }) (mentioned_same key b)
+      ∙ added o (mentioned key b) (mentioned key b)
+  effect_same (build.Sys kind) b = yield_same (op.Sys kind b.registers (operand 0 b)) 1 b
+  effect_same (build.Run routine) b = yield_same (op.Run routine b.registers (operand 0 b)) 1 b
+  effect_same (build.FrameAddress offset) b = yield_same (op.FrameAddress b.registers offset) 0 b
+  effect_same (build.Clear offset words) b = added (op.Clear offset words) b b
+  effect_same (build.New address kind captures) b = yield_same (op.New b.registers address kind captures) 0 b
+  effect_same (build.Put i) b =
+      added (op.Put i (operand 0 b)) b (record (effect (build.Put i) b) { ops = b.ops })
+  effect_same (build.Parameter k) b = yield_same (op.GetParameter b.registers k) 0 b
+
+  run_same : (os : List BuildOp) (b : Build) → run_ops (All os) (cleared b) ≡ cleared (run_ops os b)
+  run_same [] b = refl
+  run_same (o ∷ os) b = ap (run_ops (All os)) (effect_same o b) ∙ run_same os (effect o b)
+
+  finished_sent : (b : Build) → moved (finished b) ≡ finished (cleared b)
+  finished_sent b =
+      let last = op.ReturnZero ∷ [] in
+      map-append (sent_op m) (b.prelude ++ b.ops) last
+      ∙ ap (λ (zs : List Op). zs ++ last) (map-append (sent_op m) b.prelude b.ops)
+
+  module _ (f : node.Function) where
+    built : cleared (run_ops (function_ops by_number f) (empty f.parameters)) ≡ run_ops (function_ops there f)
+        (empty f.parameters)
+    built =
+        sym (run_same (function_ops by_number f) (empty f.parameters))
+        ∙ ap (λ os. run_ops os (empty f.parameters)) (ops_same f)
+
+    moved_code : moved (code_of by_number f) ≡ code_of there f
+    moved_code =
+        finished_sent (run_ops (function_ops by_number f) (empty f.parameters)) ∙ ap finished built
+
+    as_many : registers_of by_number f ≡ registers_of there f
+    as_many = ap (λ b. b.registers) built
+
+-- the code of a function is the one that names functions by their numbers, with each call sent to the address
+pub code_sent : (d : Addresses) (f : node.Function) → map (sent_op d.function_at) (code_of by_number f) ≡ code_of d f
+code_sent d f = moved_code d.function_at f
+
+-- ---- two lists of addresses
+
+-- an op where each call goes to address 0
+abbrev pub aimless_op : Op → Op
+aimless_op = sent_op (λ address. 0)
+
+sent_aimless : (m : ℕ → ℕ) (os : List Op) → map aimless_op (map (sent_op m) os) ≡ map aimless_op os
+sent_aimless m [] = refl
+sent_aimless m (o ∷ os) =
+    ap (λ (z : Op). z ∷ map aimless_op (map (sent_op m) os)) (once o)
+    ∙ ap (λ (zs : List Op). aimless_op o ∷ zs) (sent_aimless m os)
+  where
+    once : (o : Op) → aimless_op (sent_op m o) ≡ aimless_op o
+    once (op.Call address) = refl
+    once o = refl
+
+aimless_code : (d : Addresses) (f : node.Function) → map aimless_op (code_of d f) ≡ map aimless_op (code_of by_number f)
+aimless_code d f =
+    sym (ap (map aimless_op) (code_sent d f)) ∙ sent_aimless d.function_at (code_of by_number f)
+
+-- the code is the same wherever functions stand, but for the addresses of calls, and has as many registers
+pub code_same : (d e : Addresses) (f : node.Function) → map aimless_op (code_of d f) ≡ map aimless_op (code_of e f)
+code_same d e f = aimless_code d f ∙ sym (aimless_code e f)
+
+pub registers_same : (d e : Addresses) (f : node.Function) → registers_of d f ≡ registers_of e f
+registers_same d e f = sym (as_many d.function_at f) ∙ as_many e.function_at f
 
 -- ---- lengths
 
@@ -364,49 +444,6 @@ aimless_lengths l a (o ∷ os) =
     let x = length-append (template l a (aimless_op o)) (templates l a (map aimless_op os)) in
     let y = length-append (template l a o) (templates l a os) in
     omega (arith, x, y, aimless_length l a o, aimless_lengths l a os)
-
-aimless_twice : (os : List Op) → map aimless_op (map aimless_op os) ≡ map aimless_op os
-aimless_twice [] = refl
-aimless_twice (o ∷ os) =
-    ap (λ (z : Op). z ∷ map aimless_op (map aimless_op os)) (once o)
-    ∙ ap (λ (zs : List Op). aimless_op o ∷ zs) (aimless_twice os)
-  where
-    once : (o : Op) → aimless_op (aimless_op o) ≡ aimless_op o
-    once (op.Call address) = refl
-    once o = refl
-
-finished_same : (b : Build) → map aimless_op (finished (cleared b)) ≡ map aimless_op (finished b)
-finished_same b =
-    let last = op.ReturnZero ∷ [] in
-    let es = map aimless_op b.ops in
-    let ps = map aimless_op b.prelude in
-    map-append aimless_op (b.prelude ++ es) last
-    ∙ ap (λ (zs : List Op). zs ++ last)
-    (map-append aimless_op b.prelude es ∙ ap (λ (zs : List Op). ps ++ zs) (aimless_twice b.ops)
-    ∙ sym (map-append aimless_op b.prelude b.ops))
-    ∙ sym (map-append aimless_op (b.prelude ++ b.ops) last)
-
-module _ (d : Addresses) (f : node.Function) where
-  built : run_ops (function_ops at_zero f) (empty f.parameters) ≡ cleared
-      (run_ops (function_ops d f) (empty f.parameters))
-  built =
-      ap (λ os. run_ops os (empty f.parameters)) (sym (ops_same d f))
-      ∙ run_same (function_ops d f) (empty f.parameters)
-
-  code_at_zero : map aimless_op (code_of d f) ≡ map aimless_op (code_of at_zero f)
-  code_at_zero =
-      sym (finished_same (run_ops (function_ops d f) (empty f.parameters)))
-      ∙ ap (λ b. map aimless_op (finished b)) (sym built)
-
-  registers_at_zero : registers_of d f ≡ registers_of at_zero f
-  registers_at_zero = sym (ap (λ b. b.registers) built)
-
--- the code is the same wherever functions stand, but for the addresses of calls, and has as many registers
-pub code_same : (d e : Addresses) (f : node.Function) → map aimless_op (code_of d f) ≡ map aimless_op (code_of e f)
-code_same d e f = code_at_zero d f ∙ sym (code_at_zero e f)
-
-pub registers_same : (d e : Addresses) (f : node.Function) → registers_of d f ≡ registers_of e f
-registers_same d e f = registers_at_zero d f ∙ sym (registers_at_zero e f)
 
 -- so it has as many instructions
 pub code_length : (d e : Addresses) (f : node.Function) (l : Layout) (a : Aim → ℕ) →

@@ -1,10 +1,10 @@
 -- The headline holds for the image of a program, under any legal places of the registers of its functions.
-use Rattle.std.proofs.Common.{◌≡◌, ◌≢◌, inl, ℕ, zero, suc, ◌+◌, ◌-◌, ◌*◌, ◌%◌, ◌<◌, ◌≤◌, List}
+use Rattle.std.proofs.Common.{◌≡◌, ◌≢◌, inl, Bool, true, nat_lt, ℕ, zero, suc, ◌+◌, ◌-◌, ◌*◌, ◌%◌, ◌<◌, ◌≤◌, List}
 use Rattle.std.proofs.Common.{[], ◌∷◌, ◌++◌, length, map, Option, None, Some, append_assoc, length-append}
 use Rattle.std.proofs.Common.{refl, sym, ap, ◌∙◌, subst, arith, ⊎_elim, slice_get, if◌then◌else◌, is_some, replicate}
 use Rattle.std.specs.Fn.{iterate}
 use Rattle.std.proofs.lemmas.Bool.{cases_lt}
-use Rattle.pace.specs.Pace.{FourParts}
+use Rattle.pace.specs.Pace.{Always, FourParts}
 use Rattle.pace.specs.Claims.{FollowsAtPace, FollowsAtCost, PaysFor}
 use Rattle.pace.proofs.Promises.{four_parts}
 use Rattle.pace.proofs.Runs.{iterate_add}
@@ -12,19 +12,23 @@ use Rattle.pace.proofs.Seams.{through}
 use Rattle.word32.specs.declared.map.TheConstants.{ARENA, FUNCTIONS}
 use Rattle.code_arena.specs.declared.arena.WordState.TheVariants.{Unwritten}
 use Rattle.host_edge.specs.declared.ending.MachineKind.{MachineKind}
+use Rattle.host_edge.specs.declared.ending.MachineKind.TheVariants.{BadService}
 use Rattle.history.specs.Events.{End, Fault, Input}
 use Rattle.mips_encoder.specs.Table.{word_of}
-use Rattle.mips_model.specs.State.{Code, Data, World}
+use Rattle.mips_model.specs.State.{Making, Code, Data, World}
 use Rattle.mips_model.specs.Steps.{Fetched, Is, Refused, fetch, step, run, execute, ended}
 use Rattle.mips_model.specs.Laws.{HasAt}
+use Rattle.mips_model.specs.Told.{Passed, entry_at, entered, made, tells}
 use Rattle.mips_model.specs.Run as machine
-use Rattle.mips_model.specs.Run.{row_of, runs, IsDefined, IsTextWord, IsClean}
+use Rattle.mips_model.specs.Run.{row_of, runs, is_serving, IsDefined, IsTextWord, IsClean}
 use Rattle.mips_model.proofs.Loaded.{AllFit, loaded}
 use Rattle.mips_model.proofs.Runs.{grows, ends_once}
 use Rattle.mips_model.proofs.Traces.{text_stays}
+use Rattle.mips_model.proofs.Told.{tells_plainly}
 use Rattle.icode_templates.specs.Words.{words}
 use Rattle.icode_templates.specs.Assembly.{nop}
 use Rattle.image_file.specs.Image.{ImageParts}
+use Rattle.icode_service_spec.specs.Choices.{Choice}
 use Rattle.icode_ir.specs.Sound.{Each}
 use Rattle.icode_meaning.specs.State.{Function, Program, State, see, least_at, most_at}
 use Rattle.icode_meaning.specs.Steps.{advance, first}
@@ -36,7 +40,7 @@ use Rattle.staged_meaning.specs.Frames.{HasFramesStmt}
 use Rattle.staged_meaning.specs.Scope.{IsReadyIn}
 use Rattle.staged_meaning.specs.Program as meaning
 use Rattle.staged_meaning.specs.Meaning.{at_start, meant}
-use Rattle.tick_lower_proof.specs.Lower.{Addresses}
+use Rattle.tick_lower_spec.specs.Lower.{Addresses}
 use Rattle.tick_lower_proof.specs.Laws.{Stands, row_for, HasFunctions, AreReady}
 use Rattle.tick_lower_proof.proofs.Following.{lowering}
 use Rattle.spec_closure.specs.Malloc.{malloc_code}
@@ -55,6 +59,7 @@ use Rattle.static_image.specs.Layout.{functions_of, IsChoice, image_of}
 use Rattle.static_image.specs.Served.{IsStatic, most_words, AreStatic, IsImaged}
 use Rattle.static_image.specs.Headline.{Headline}
 use Rattle.static_image.proofs.Arena as arena
+use Rattle.static_image.proofs.Quiet as quiet
 use Rattle.static_image.proofs.Faultless.{stays_faultless, no_fault}
 use Rattle.static_image.proofs.Arriving as start
 use Rattle.static_image.proofs.Placing.{Static, each_static, ends, ends_most, starts_low, some_words, staged}
@@ -242,27 +247,33 @@ module _ (program : meaning.Program) (number : ℕ) (xs : List Placed) (imaged :
     whole = λ a f known. (there a f known).whole;
   }
 
-  abbrev setting : Setting
-  setting = record { code = c; program = machine_of; places_at = places_in FUNCTIONS xs; exit = start.exit_at }
+  module _ (input : Input) (row : List Choice) where
+    abbrev setting : Setting
+    setting = record {
+      code = c;
+      program = machine_of;
+      places_at = places_in FUNCTIONS xs;
+      exit = start.exit_at;
+      making = machine.first_making row;
+    }
 
-  serving : Serving setting
-  serving = record { ops = λ a f known. (there a f known).served }
+    serving : Serving setting
+    serving = record { ops = λ a f known. (there a f known).served }
 
-  module _ (input : Input) where
     abbrev set : Data
     set = start.called main_at (length xs) main_even (omega (arith, main_low)) program.image (rows_of FUNCTIONS xs) c
-        input start_stands
+        input row start_stands
 
     standing : Standing setting
     standing = record {
       functions = λ a f known. (let h = there a f known in (h.address, h.stands));
       routines = malloc_stands;
       exits = start.waits main_at (length xs) main_even (omega (arith, main_low)) program.image (rows_of FUNCTIONS xs) c
-          input start_stands;
+          input row start_stands;
     }
 
     abbrev begins : World
-    begins = machine.begins image input
+    begins = machine.begins image input row
 
     abbrev shared : Shared
     shared = at_start program input
@@ -271,15 +282,15 @@ module _ (program : meaning.Program) (number : ℕ) (xs : List Placed) (imaged :
     arrives = record {
       d = set;
       arrives = start.comes main_at (length xs) main_even (omega (arith, main_low)) program.image (rows_of FUNCTIONS xs)
-          c input start_stands;
+          c input row start_stands;
       known = found.found;
       returns_to = refl;
       global = refl;
       memory = start.agrees main_at (length xs) main_even (omega (arith, main_low)) program.image (rows_of FUNCTIONS xs)
-          c input start_stands machine_of program refl imaged.each_byte_fits
-          (published machine_rows (omega (arith, few, length_rows FUNCTIONS xs)) (function_in d FUNCTIONS xs));
+          c input row start_stands setting program refl imaged.each_byte_fits
+          (published machine_rows (omega (arith, few, length_rows FUNCTIONS xs)) (function_in d FUNCTIONS xs)) refl;
       extents = start.extents main_at (length xs) main_even (omega (arith, main_low)) program.image
-          (rows_of FUNCTIONS xs) c input start_stands program;
+          (rows_of FUNCTIONS xs) c input row start_stands program;
       unused = refl;
       none = refl;
       fits = omega (arith, main_stands.charge, main_ready.ready.small);
@@ -297,9 +308,8 @@ module _ (program : meaning.Program) (number : ℕ) (xs : List Placed) (imaged :
         (λ k. machine.see (run k begins))
     pays = simulated setting main shared 17 begins standing serving arrives
 
-    pub at_pace : (choices : List ℕ) →
-        FollowsAtPace UNIT_INSTRUCTIONS START_INSTRUCTIONS (meant program input) (runs image input choices)
-    at_pace choices =
+    pub at_pace : FollowsAtPace UNIT_INSTRUCTIONS START_INSTRUCTIONS (meant program input) (runs image input row)
+    at_pace =
         let f = through UNIT_INSTRUCTIONS START_OPS_INSTRUCTIONS 49 (meant program input) (λ i. see (upper i))
         (λ k. machine.see (run k begins))
         (λ i. least_at (upper i)) (λ i. most_at (upper i)) follows pays in
@@ -308,19 +318,29 @@ module _ (program : meaning.Program) (number : ℕ) (xs : List Placed) (imaged :
           ends = λ m e is. let a = f.ends m e is in (a.0, omega (arith, a.1), a.2, a.3);
         }
 
-    pub faithful : (choices : List ℕ) →
-        FourParts (IsDefined image input choices) (meant program input) (runs image input choices) UNIT_INSTRUCTIONS
-        START_INSTRUCTIONS
-    faithful choices =
-        four_parts UNIT_INSTRUCTIONS START_INSTRUCTIONS (meant program input) (runs image input choices) (omega arith)
-        (grows image input choices) (at_pace choices)
+    -- whatever the row says
+    always : FourParts Always (meant program input) (runs image input row) UNIT_INSTRUCTIONS START_INSTRUCTIONS
+    always =
+        four_parts UNIT_INSTRUCTIONS START_INSTRUCTIONS (meant program input) (runs image input row) (omega arith)
+        (grows image input row) at_pace
 
-    keeps : KeepsCode c begins upper
+    pub faithful :
+        FourParts (IsDefined image input row) (meant program input) (runs image input row) UNIT_INSTRUCTIONS
+        START_INSTRUCTIONS
+    faithful = record {
+      follows = λ n defined. always.follows n tt;
+      keeps_pace = λ n defined le. always.keeps_pace n tt le;
+      ends_in_time = λ m e defined is. always.ends_in_time m e tt is;
+      ends_only_so = λ n e defined is. always.ends_only_so n e tt is;
+    }
+
+    keeps : KeepsCode c (machine.first_making row) begins upper
     keeps = code_kept setting main shared 17 begins standing serving arrives
 
-    -- the run comes to a later state with the code as it was
+    -- the run comes to a later state with the code as it was, and no code made
     abbrev Later : ℕ → Type 0
     Later i = (n : ℕ) × (i ≤ n) × ((iterate step n begins).state.code ≡ c)
+        × ((iterate step n begins).state.d.outside.making ≡ machine.first_making row)
 
     not_before : (i n : ℕ) (e : End) → (iterate step i begins).ending ≡ None → (iterate step n begins).ending ≡ Some e →
         i ≤ n
@@ -343,11 +363,11 @@ module _ (program : meaning.Program) (number : ℕ) (xs : List Placed) (imaged :
         by None is =
             let f = follows.goes_on i is in
             let k = keeps.goes_on f.0 f.3 in
-            (k.0, omega (arith, f.1, k.1), k.3)
+            (k.0, omega (arith, f.1, k.1), k.3, k.4)
         by (Some e) is =
             let f = follows.ends i e is in
             let k = keeps.ends f.0 e f.2 in
-            (k.0, not_before i k.0 e on k.1, k.2)
+            (k.0, not_before i k.0 e on k.1, k.2, k.3)
 
     -- so no word of the arena is written or flushed
     clear : (i : ℕ) → (iterate step i begins).ending ≡ None → (k : ℕ) →
@@ -361,6 +381,50 @@ module _ (program : meaning.Program) (number : ℕ) (xs : List Placed) (imaged :
         arena.run_clear (l.0 - i) (iterate step i begins) k
         (ap (λ (w : World). w.state.code.arena.states k) (sym same) ∙ there)
 
+    -- no function is published
+    none_published : (i : ℕ) → (iterate step i begins).ending ≡ None → quiet.published (iterate step i begins) ≡ 0
+    none_published i on =
+        let l = later i on in
+        let n : i + (l.0 - i) ≡ l.0 = omega (arith, l.1) in
+        let there : quiet.published (iterate step l.0 begins) ≡ 0 = ap quiet.count_of l.3 in
+        let same = ap (λ j. iterate step j begins) (sym n) ∙ iterate_add step i (l.0 - i) begins in
+        let last : quiet.published (iterate step (l.0 - i) (iterate step i begins)) ≡ 0 =
+        ap quiet.published (sym same) ∙ there in
+        omega (arith, last, quiet.run_counts (l.0 - i) (iterate step i begins))
+
+    no_more : (i : ℕ) → quiet.Counts (iterate step i begins) (step (iterate step i begins)) → ⊥
+    no_more i counts =
+        let next : iterate step (i + 1) begins ≡ step (iterate step i begins) = iterate_add step i 1 begins in
+        let on : (iterate step (i + 1) begins).ending ≡ None = ap (λ (w : World). w.ending) next ∙ counts.0 in
+        let none = none_published (i + 1) on in
+        let same = ap quiet.published next in
+        omega (arith, none, same, counts.1)
+
+    -- so none is made
+    none_made : (i : ℕ) → made (iterate step i begins) ≡ []
+    none_made i = ⊎_elim (λ none. none) (λ more. absurd (no_more i more)) (quiet.made_counts (iterate step i begins))
+
+    -- the run doesn't end with a fault
+    no_end : (n : ℕ) (k : MachineKind) (a : ℕ) → (iterate step n begins).ending ≡ Some (Fault k a) → ⊥
+    unfolding run
+    no_end n k a is =
+        let meaning = always.ends_only_so n (Fault k a) tt is in
+        let f = follows.ends n (Fault k a) meaning.ending in
+        no_fault (upper f.0) k a (stays_faultless machine_of f.0 (first main shared) tt) f.2
+
+    -- no function is finished, so every run is defined
+    none_finished : (i : ℕ) → is_serving 66 (iterate step i begins) ≡ true → ⊥
+    none_finished i is = ⊎_elim (no_more i) fails (quiet.finished_counts (iterate step i begins) is)
+      where
+        fails : quiet.Fails (iterate step i begins) (step (iterate step i begins)) → ⊥
+        fails f =
+            let next : iterate step (i + 1) begins ≡ step (iterate step i begins) = iterate_add step i 1 begins in
+            no_end (i + 1) BadService (iterate step i begins).state.pc (ap (λ (w : World). w.ending) next ∙ f)
+
+    pub defined : (n : ℕ) → IsDefined image input row n
+    unfolding run
+    defined n i within is = absurd (none_finished i is)
+
     -- and no fetch is refused
     no_refusal : (i : ℕ) (k : MachineKind) → (iterate step i begins).ending ≡ None →
         fetch (iterate step i begins).state.code (iterate step i begins).state.pc ≡ Refused k → ⊥
@@ -372,36 +436,62 @@ module _ (program : meaning.Program) (number : ℕ) (xs : List Placed) (imaged :
         ap (λ o. if is_some o then w else execute (fetch w.state.code w.state.pc) w.state) on ∙
         ap (λ f. execute f w.state) refused in
         let last : iterate step (i + 1) begins ≡ ended (Fault k a) w.state = iterate_add step i 1 begins ∙ stops in
-        let meaning = (faithful []).ends_only_so (i + 1) (Fault k a) tt (ap (λ (z : World). z.ending) last) in
-        let f = follows.ends (i + 1) (Fault k a) meaning.ending in
-        no_fault (upper f.0) k a (stays_faultless machine_of f.0 (first main shared) tt) f.2
+        no_end (i + 1) k a (ap (λ (z : World). z.ending) last)
 
-    text_executed : (i : ℕ) → (iterate step i begins).ending ≡ None → IsTextWord image (iterate step i begins).state.pc
-    text_executed i on = by (fetch (iterate step i begins).state.code (iterate step i begins).state.pc) refl
+    -- each instruction is a word of the text, and stands below the arena
+    abbrev IsBelow : ℕ → Type 0
+    IsBelow i =
+        IsTextWord image (iterate step i begins).state.pc × (nat_lt (iterate step i begins).state.pc ARENA ≡ true)
+
+    executed : (i : ℕ) → (iterate step i begins).ending ≡ None → IsBelow i
+    executed i on = by (fetch (iterate step i begins).state.code (iterate step i begins).state.pc) refl
       where
-        by : (f : Fetched) → fetch (iterate step i begins).state.code (iterate step i begins).state.pc ≡ f →
-            IsTextWord image (iterate step i begins).state.pc
+        by : (f : Fetched) → fetch (iterate step i begins).state.code (iterate step i begins).state.pc ≡ f → IsBelow i
         by (Refused k) is = absurd (no_refusal i k on is)
         by (Is instruction) is =
             arena.fetched_from_text image (iterate step i begins).state.code (text_stays i begins) (clear i on)
             (iterate step i begins).state.pc instruction is
 
-    pub clean : (choices : List ℕ) (n : ℕ) → IsDefined image input choices n → IsClean image input choices n
-    unfolding run
-    clean choices n defined i within on = inl (text_executed i on)
+    text_executed : (i : ℕ) → (iterate step i begins).ending ≡ None → IsTextWord image (iterate step i begins).state.pc
+    text_executed i on = (executed i on).0
 
-    faultless : (choices : List ℕ) (n : ℕ) → IsDefined image input choices n
-        → (k : MachineKind) (a : ℕ) → (runs image input choices n).ending ≢ Some (Fault k a)
-    faultless choices n defined k a is =
-        let meaning = (faithful choices).ends_only_so n (Fault k a) defined is in
-        let f = follows.ends n (Fault k a) meaning.ending in
-        no_fault (upper f.0) k a (stays_faultless machine_of f.0 (first main shared) tt) f.2
+    below_arena : (i : ℕ) → (iterate step i begins).ending ≡ None → nat_lt (iterate step i begins).state.pc ARENA ≡ true
+    below_arena i on = (executed i on).1
+
+    -- what is executed stands in the text, so no function of the arena is entered
+    none_entered : (i : ℕ) → entered (iterate step i begins) ≡ []
+    none_entered i = by (iterate step i begins).ending refl
+      where
+        by : (o : Option End) → (iterate step i begins).ending ≡ o → entered (iterate step i begins) ≡ []
+        by (Some e) is =
+            let w = iterate step i begins in
+            ap (λ (o : Option End). if is_some o then []
+            else (if nat_lt w.state.pc ARENA then [] else entry_at (fetch w.state.code w.state.pc) w.state)) is
+        by None is =
+            let w = iterate step i begins in
+            ap (λ (o : Option End). if is_some o then []
+            else (if nat_lt w.state.pc ARENA then [] else entry_at (fetch w.state.code w.state.pc) w.state)) is
+            ∙ ap (λ (b : Bool). if b then [] else entry_at (fetch w.state.code w.state.pc) w.state) (below_arena i is)
+
+    -- the run tells what passed, and nothing else
+    pub plain : (n : ℕ) → (tells image input row n).history ≡ map Passed (runs image input row n).history
+    unfolding run
+    plain n = tells_plainly image input row n (λ i within. (none_entered i, none_made i))
+
+    pub clean : (n : ℕ) → IsDefined image input row n → IsClean image input row n
+    unfolding run
+    clean n defined i within on = inl (text_executed i on)
+
+    faultless : (n : ℕ) → IsDefined image input row n
+        → (k : MachineKind) (a : ℕ) → (runs image input row n).ending ≢ Some (Fault k a)
+    unfolding run
+    faultless n defined k a is = no_end n k a is
 
   pub headline : Headline program image
   headline = record {
-    faithful = λ input choices. faithful input choices;
-    clean =
-        λ input choices n defined. clean input choices n defined;
-    faultless =
-        λ input choices n defined. faultless input choices n defined;
+    faithful = faithful;
+    clean = clean;
+    faultless = faultless;
+    plain = plain;
+    defined = defined;
   }

@@ -17,7 +17,7 @@ use Rattle.icode_expand.specs.Expansion.{expanded}
 use Rattle.spec_closure.specs.Malloc.{malloc_code}
 use Rattle.typed_tree.specs.Nodes as node
 use Rattle.staged_meaning.specs.Size.{size_of, charge_of}
-use Rattle.tick_lower_proof.specs.Lower.{Addresses, listed}
+use Rattle.tick_lower_spec.specs.Lower.{Addresses, listed}
 use Rattle.tick_lower_proof.specs.Laws.{code_of, registers_of}
 use Rattle.limits.specs.declared.program.TheConstants.{FRONT_WORDS}
 

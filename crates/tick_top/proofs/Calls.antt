@@ -11,7 +11,9 @@ use Rattle.image_file.specs.declared.fault.ImageFault.{ImageFault}
 use Rattle.mips_text.specs.Assembly.{assembled}
 use Rattle.mips_text.specs.declared.fault.AsmFault.{AsmFault}
 use Rattle.pace.proofs.Runs.{to_prefix}
+use Rattle.host_edge.specs.declared.ending.Counts.{Counts}
 use Rattle.mips_model.specs.Run.{runs}
+use Rattle.mips_machine.specs.Progress.{counts_of}
 use Rattle.staged_meaning.specs.Meaning.{Program}
 use Rattle.tick_tree.specs.declared.fault.Fault.{Fault}
 use Rattle.wellformed.specs.declared.typed.Typed.{Typed}
@@ -21,15 +23,15 @@ use Rattle.tick_outcome.specs.declared.outcome.Outcome.{Outcome}
 use Rattle.tick_outcome.specs.declared.outcome.Outcome.TheVariants as outcome
 use Rattle.tick_top.specs.declared.ended.Ended as code
 use Rattle.tick_top.specs.Outside.{Outside}
-use Rattle.tick_top.specs.Answers.{IsBare}
+use Rattle.tick_top.specs.Answers.{IsBare, outcome_of}
 use Rattle.tick_top.specs.Does.{Runs}
 use Rattle.tick_top.specs.Top.{Reports}
-use Rattle.tick_top.specs.Seen.{EndsBehind, IsInput, ShowsRun}
+use Rattle.tick_top.specs.Seen.{EndsBehind, IsInput, Account, account_of, ShowsRun}
 use Rattle.tick_top.specs.Rows.{file_of, longest_of, content_refusal, refusal, text_refusal, tree_refusal}
 use Rattle.tick_top.specs.Rows.{assembly_refusal, image_refusal}
 use Rattle.tick_top.proofs.Came.{Performed, Came}
 use Rattle.tick_top.proofs.Outcomes.{is_refusal, refusal_no_machine, is_of_machine, reported}
-use Rattle.tick_top.proofs.Runs.{shows_run}
+use Rattle.tick_top.proofs.Runs.{accounted, shows_run}
 
 -- ---- bytes that are refused
 
@@ -125,40 +127,63 @@ is_done order old new e is (inr (bytes, loads, inr (fine, done))) =
 
 -- a machine ran: what is shown of its run
 pub shows : (steps : ℕ) (old new : Outside) (e : code.Ended) (image : ImageParts) → Runs steps old new e image
-    → ShowsRun steps image e.choices.items old.left new.left old.taken new.taken e.outcome
+    → ShowsRun steps image (account_of e) old.left new.left old.taken new.taken e.outcome
 shows steps old new e image (files, r) =
-    subst (ShowsRun steps image e.choices.items old.left new.left old.taken new.taken) (sym r.outcome)
-    (shows_run steps image r.final old.left new.left old.taken new.taken e.choices.items r.stop r.ran)
+    subst (ShowsRun steps image (account_of e) old.left new.left old.taken new.taken) (sym r.outcome)
+    (subst
+    (λ (a : Account). ShowsRun steps image a old.left new.left old.taken new.taken (outcome_of steps r.stop)) same
+    (shows_run steps image r.final old.left new.left old.taken new.taken r.stop r.ran))
+  where
+    same : accounted r.final ≡ account_of e
+    same =
+        ap (λ (x : ℕ). record {
+          steps = x;
+          counts = counts_of r.final.state.d.outside;
+          choices = r.final.state.d.outside.making.generator.choices;
+        }) (sym r.steps)
+        ∙ (ap (λ (x : Counts). record {
+          steps = e.steps;
+          counts = x;
+          choices = r.final.state.d.outside.making.generator.choices;
+        }) (sym r.counts)
+        ∙ ap (λ (x : List ℕ). record { steps = e.steps; counts = e.counts; choices = x }) (sym r.choices))
 
 -- one that also holds where standard error failed
-unsaid_shows : (n : ℕ) (image : ImageParts) (choices : List ℕ) (left later taken told : Option (List ℕ)) (status : ℕ)
-    → ShowsRun n image choices left later taken told (outcome.Done status) →
-    ShowsRun n image choices left later taken told outcome.WriteFault
-unsaid_shows n image choices left later taken told status s = record {
+unsaid_shows : (n : ℕ) (image : ImageParts) (account : Account) (left later taken told : Option (List ℕ)) (status : ℕ)
+    → ShowsRun n image account left later taken told (outcome.Done status) →
+    ShowsRun n image account left later taken told outcome.WriteFault
+unsaid_shows n image account left later taken told status s = record {
   input = s.input;
   is_input = s.is_input;
+  row = s.row;
+  reached = s.reached;
+  within = s.within;
+  all = λ other. absurd (other refl);
+  scanned = s.scanned;
+  defined = s.defined;
   seen = record {
-    bytes = output (runs image s.input choices n).history;
+    bytes = output (runs image s.input s.row s.reached).history;
     put_out = s.seen.1.put_out;
-    front = to_prefix (output (runs image s.input choices n).history) (output (runs image s.input choices n).history)
-        refl;
+    front = to_prefix (output (runs image s.input s.row s.reached).history)
+        (output (runs image s.input s.row s.reached).history) refl;
   };
+  accounted = s.accounted;
 }
 
-pub shows_reported : (text : List ℕ) (n : ℕ) (image : ImageParts) (choices : List ℕ)
+pub shows_reported : (text : List ℕ) (n : ℕ) (image : ImageParts) (account : Account)
     (left later taken told said said' : Option (List ℕ)) (first last : Outcome) (old new : ℕ)
-    → Reports text first last said said' old new → ShowsRun n image choices left later taken told first →
-    ShowsRun n image choices left later taken told last
-shows_reported text n image choices left later taken told said said' first last old new reports s =
+    → Reports text first last said said' old new → ShowsRun n image account left later taken told first →
+    ShowsRun n image account left later taken told last
+shows_reported text n image account left later taken told said said' first last old new reports s =
     by (reported text first last said said' old new reports)
   where
     by : (last ≡ first) ⊎ ((status : ℕ) × (first ≡ outcome.Done status) × (last ≡ outcome.WriteFault)) →
-        ShowsRun n image choices left later taken told last
-    by (inl same) = subst (ShowsRun n image choices left later taken told) (sym same) s
+        ShowsRun n image account left later taken told last
+    by (inl same) = subst (ShowsRun n image account left later taken told) (sym same) s
     by (inr (status, done, fault)) =
-        subst (ShowsRun n image choices left later taken told) (sym fault)
-        (unsaid_shows n image choices left later taken told status
-        (subst (ShowsRun n image choices left later taken told) done s))
+        subst (ShowsRun n image account left later taken told) (sym fault)
+        (unsaid_shows n image account left later taken told status
+        (subst (ShowsRun n image account left later taken told) done s))
 
 -- ---- the input
 

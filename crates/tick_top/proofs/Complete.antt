@@ -25,7 +25,9 @@ use Rattle.tick_top.specs.Does.{SavedAt, Cause}
 use Rattle.tick_top.specs.Generated.{PrintsSource}
 use Rattle.tick_top.specs.Said.{said}
 use Rattle.tick_top.specs.Top.{Reports, Ticked}
-use Rattle.tick_top.specs.Seen.{told, EndsBehind, outcome_at, Moves, ShowsRun}
+use Rattle.icode_service_spec.specs.Choices.{Choice}
+use Rattle.tick_top.specs.Seen.{told, EndsBehind, outcome_at, Moves, IsScannedRun, account_of, ShowsRun}
+use Rattle.tick_top.proofs.Runs.{seen_by, scanned_by}
 use Rattle.tick_top.specs.Rows.{file_of, longest_of, refusal, most_steps, most_units}
 use Rattle.tick_top.specs.Meant.{allowed, Unfailed}
 use Rattle.tick_top.specs.Evaluations.{MeantText}
@@ -126,26 +128,30 @@ module _ (words : List (List ℕ)) (old new : Outside) (before now : Failures) (
 
     -- what is shown of a run on told input
     told_run : (steps : ℕ) (bytes : List ℕ) (image : ImageParts) → old.left ≡ Some bytes
-        → ShowsRun steps image e.choices.items old.left new.left old.taken new.taken first
-        → (first ≡ outcome_at steps (runs image (told bytes) e.choices.items steps).ending)
-        × Moves old.left new.left old.taken new.taken (runs image (told bytes) e.choices.items steps).history
+        → ShowsRun steps image (account_of e) old.left new.left old.taken new.taken first
+        → (row : List Choice) × IsScannedRun image (told bytes) row steps
+        × (first ≡ outcome_at steps (runs image (told bytes) row steps).ending)
+        × Moves old.left new.left old.taken new.taken (runs image (told bytes) row steps).history
     told_run steps bytes image left s =
         let input : s.input ≡ told bytes =
         subst (λ l. EndsBehind l s.input) left (input_ends old.left new.left first s.input no_read_fault s.is_input)
         in
-        subst
-        (λ i. (first ≡ outcome_at steps (runs image i e.choices.items steps).ending) ×
-        Moves old.left new.left old.taken new.taken (runs image i e.choices.items steps).history)
+        let seen = subst
+        (λ i. (first ≡ outcome_at steps (runs image i s.row steps).ending) ×
+        Moves old.left new.left old.taken new.taken (runs image i s.row steps).history)
         input
-        (seen_whole steps old.left new.left old.taken new.taken first (runs image s.input e.choices.items steps)
-        no_write_fault s.seen)
+        (seen_whole steps old.left new.left old.taken new.taken first (runs image s.input s.row steps)
+        no_write_fault (seen_by first s)) in
+        (s.row, subst (λ i. IsScannedRun image i s.row steps) input (scanned_by s no_write_fault), seen.0, seen.1)
 
     pub ends_so : (steps : ℕ) (bytes : List ℕ) → most_steps order ≡ Some steps → old.left ≡ Some bytes
-        → (image : ImageParts) × (e.image ≡ Some image) ×
-        (e.outcome ≡ outcome_at steps (runs image (told bytes) e.choices.items steps).ending)
+        → (image : ImageParts) × (e.image ≡ Some image)
+        × ((row : List Choice) × IsScannedRun image (told bytes) row steps
+        × (e.outcome ≡ outcome_at steps (runs image (told bytes) row steps).ending))
     ends_so steps bytes most left =
         let s = order_shows order steps old new at_first done.bytes most done.done in
-        (s.image, s.handed_back, said_first ∙ (told_run steps bytes s.image left s.shown).0)
+        let r = told_run steps bytes s.image left s.shown in
+        (s.image, s.handed_back, (r.0, r.1, said_first ∙ r.2))
 
   -- a text that isn't too long is loaded whole
   all_of : (text : List ℕ) → nat_lt longest_text (length text) ≡ false → take (longest_text + 1) text ≡ text
@@ -179,10 +185,10 @@ module _ (words : List (List ℕ)) (old new : Outside) (before now : Failures) (
       let whole : d.bytes ≡ text =
       loaded (run file steps) text ordered is_told accepted d.bytes d.loads ∙ all_of text short in
       let same = one_program (typed text) d.done.0 program (ap typed (sym whole) ∙ d.done.1) is in
-      let there = in_time program r.image (subst (λ p. Headline p r.image) same r.headline) e.choices.items (told bytes)
+      let there = in_time program r.image (subst (λ p. Headline p r.image) same r.headline) shown.0 (told bytes)
       steps units (Ended end) ends le in (
-        said_first ∙ shown.0 ∙ ap (outcome_at steps) there.0,
-        subst (Moves old.left new.left old.taken new.taken) there.1 shown.1,
+        said_first ∙ shown.2 ∙ ap (outcome_at steps) there.0,
+        subst (Moves old.left new.left old.taken new.taken) there.1 shown.3,
       )
 
   -- ---- a told text whose meaning is evaluated on a told input

@@ -27,7 +27,7 @@ use Rattle.tick_top.specs.Does.{Answered, IsOfCommand, SavedAt, Evaluates, Print
 use Rattle.tick_top.specs.Generated.{PrintsSource, Fulfils}
 use Rattle.tick_top.specs.Said.{said}
 use Rattle.tick_top.specs.Top.{Ticked}
-use Rattle.tick_top.specs.Seen.{told as told_input, IsInput, outcome_at, ShowsRun, PutsFront}
+use Rattle.tick_top.specs.Seen.{told as told_input, IsInput, outcome_at, IsScannedRun, account_of, ShowsRun, PutsFront}
 use Rattle.tick_top.specs.Rows.{refusal, most_steps, RunEnds, IsOfEnding, IsOfEither, Executes}
 use Rattle.tick_top.specs.Evaluations.{MeantText, Evaluation, seen_of, EvaluationEnds, TellsOf, MeanIsMeant}
 use Rattle.tick_top.specs.Meant.{RunIsMeant}
@@ -38,6 +38,8 @@ use Rattle.tick_top.proofs.Calls.{short_enough}
 use Rattle.tick_top.proofs.Meanings.{by_answers, WasMeant, IsEvaluated, mean_done, one_meant, one_units, one_read}
 use Rattle.tick_top.proofs.Meanings.{not_refused}
 use Rattle.tick_top.proofs.Meant.{tells}
+use Rattle.tick_top.proofs.Runs.{seen_by, scanned_by}
+use Rattle.tick_top.proofs.Scans.{one_run}
 use Rattle.tick_top.proofs.Outcomes.{is_of_machine, is_ending, no_ending, ending_machine, told_at, ending_told}
 use Rattle.tick_top.proofs.Outcomes.{seen_whole, reported, stays}
 use Rattle.tick_top.proofs.Rows.{performed, refused_front, told_done, first_loaded, by_first}
@@ -47,7 +49,7 @@ use Rattle.tick_top.proofs.Rows.{performed, refused_front, told_done, first_load
 pub record IsShown (steps : ℕ) (old new : Outside) (e : code.Ended) : Type 0 where
   pub image : ImageParts
   pub handed_back : e.image ≡ Some image
-  pub shown : ShowsRun steps image e.choices.items old.left new.left old.taken new.taken e.outcome
+  pub shown : ShowsRun steps image (account_of e) old.left new.left old.taken new.taken e.outcome
 
 one_number : (a b : ℕ) → ◌≡◌ {A = Option ℕ} (Some a) (Some b) → a ≡ b
 one_number a b q = cc
@@ -58,13 +60,13 @@ pub order_shows : (order : Order) (steps : ℕ) (old new : Outside) (e : code.En
 order_shows (run file n) steps old new e bytes most (program, is, r) = record {
   image = r.image;
   handed_back = r.runs.1.handed_back;
-  shown = subst (λ k. ShowsRun k r.image e.choices.items old.left new.left old.taken new.taken e.outcome)
+  shown = subst (λ k. ShowsRun k r.image (account_of e) old.left new.left old.taken new.taken e.outcome)
       (one_number n steps most) (shows n old new e r.image r.runs);
 }
 order_shows (exec file n) steps old new e bytes most (image, is, r) = record {
   image = image;
   handed_back = r.1.handed_back;
-  shown = subst (λ k. ShowsRun k image e.choices.items old.left new.left old.taken new.taken e.outcome)
+  shown = subst (λ k. ShowsRun k image (account_of e) old.left new.left old.taken new.taken e.outcome)
       (one_number n steps most) (shows n old new e image r);
 }
 order_shows (mean file units) steps old new e bytes most d = absurd cc
@@ -232,14 +234,14 @@ module _ (words : List (List ℕ)) (old new : Outside) (before now : Failures) (
     -- the run of the image that is handed back
     pub machine_call : (order : Order) (steps : ℕ) (image : ImageParts) → order_of words ≡ Ok (of_file order) →
         most_steps order ≡ Some steps → e.image ≡ Some image
-        → ShowsRun steps image e.choices.items old.left new.left old.taken new.taken e.outcome
+        → ShowsRun steps image (account_of e) old.left new.left old.taken new.taken e.outcome
     machine_call order steps image ordered most handed =
         let d = is_done order old new at_first (run_by_image at_first image handed)
         (performed words old new at_first order ordered did.1) in
         let s = order_shows order steps old new at_first d.bytes most d.done in
-        shows_reported text steps image e.choices.items old.left new.left old.taken new.taken taken told first e.outcome
+        shows_reported text steps image (account_of e) old.left new.left old.taken new.taken taken told first e.outcome
         err_before err_now did.3
-        (subst (λ i. ShowsRun steps i e.choices.items old.left new.left old.taken new.taken first)
+        (subst (λ i. ShowsRun steps i (account_of e) old.left new.left old.taken new.taken first)
         (one_image s.image s.handed_back) s.shown)
       where
         one_image : (other : ImageParts) → e.image ≡ Some other → other ≡ image
@@ -285,9 +287,10 @@ module _ (words : List (List ℕ)) (old new : Outside) (before now : Failures) (
           → (steps : ℕ) × (o steps ≡ o n) × RunEnds words old new e steps end
       machine_ends n same c =
           let s = c.shown in
-          let at = runs s.image s.shown.input e.choices.items c.steps in
-          let whole = seen_whole c.steps old.left new.left old.taken new.taken first at
-          (λ w. other n same (first_is n same ∙ w)) s.shown.seen in
+          let at = runs s.image s.shown.input s.shown.row c.steps in
+          let unfailed : first ≢ outcome.WriteFault = λ w. other n same (first_is n same ∙ w) in
+          let whole = seen_whole c.steps old.left new.left old.taken new.taken first at unfailed
+          (seen_by first s.shown) in
           let alike = ends_alike n c.steps at.ending same whole.0 in (
             c.steps,
             alike.1,
@@ -300,6 +303,8 @@ module _ (words : List (List ℕ)) (old new : Outside) (before now : Failures) (
               input = s.shown.input;
               is_input = subst (λ x. IsInput old.left new.left x s.shown.input) (sym (first_is n same))
                   s.shown.is_input;
+              row = s.shown.row;
+              scanned = scanned_by s.shown unfailed;
               ending = alike.0;
             },
           )
@@ -330,12 +335,14 @@ module _ (words : List (List ℕ)) (old new : Outside) (before now : Failures) (
       always_ends steps bytes left r other =
           let s = machine_call r.order steps r.image r.ordered r.most r.handed_back in
           let whole = seen_whole steps old.left new.left old.taken new.taken e.outcome
-          (runs r.image s.input e.choices.items steps) other s.seen in
+          (runs r.image s.input s.row steps) other (seen_by e.outcome s) in
           let same = one_input bytes new.left e.outcome s.input r.input
           (subst (λ l. IsInput l new.left e.outcome s.input) left s.is_input)
           (subst (λ l. IsInput l new.left e.outcome r.input) left r.is_input) in
-          whole.0 ∙ ap (λ i. outcome_at steps (runs r.image i e.choices.items steps).ending) same ∙
-          ap (outcome_at steps) r.ending ∙ sym (agrees steps)
+          let one = one_run r.image r.input s.row r.row steps
+          (subst (λ i. IsScannedRun r.image i s.row steps) same (scanned_by s other)) r.scanned in
+          whole.0 ∙ ap (λ i. outcome_at steps (runs r.image i s.row steps).ending) same
+          ∙ ap (λ v. outcome_at steps v.ending) one.0 ∙ ap (outcome_at steps) r.ending ∙ sym (agrees steps)
 
       -- told bytes and a told text have one evaluation
       evaluated : (v : Evaluation words old new) (file bytes : List ℕ) → old.file v.of.file ≡ Some (Some file)
@@ -417,8 +424,8 @@ module _ (words : List (List ℕ)) (old new : Outside) (before now : Failures) (
         let d = is_done (run file steps) old new at_first (run_by_outcome at_first first_machine)
         (performed words old new at_first (run file steps) ordered did.1) in
         let r = d.done.2 in
-        let s = subst (ShowsRun steps r.image e.choices.items old.left new.left old.taken new.taken) same
-        (shows_reported text steps r.image e.choices.items old.left new.left old.taken new.taken taken told first
+        let s = subst (ShowsRun steps r.image (account_of e) old.left new.left old.taken new.taken) same
+        (shows_reported text steps r.image (account_of e) old.left new.left old.taken new.taken taken told first
         e.outcome err_before err_now did.3
         (shows steps old new at_first r.image r.runs)) in
         record {
@@ -429,7 +436,7 @@ module _ (words : List (List ℕ)) (old new : Outside) (before now : Failures) (
           accepted = d.done.1;
           input = s.input;
           is_input = s.is_input;
-          tells = tells d.done.0 r.image r.headline e.choices.items s.input steps old new o s.seen;
+          tells = tells d.done.0 r.image r.headline s.row s.input steps old new o (seen_by o s);
         }
       where
         first_machine : is_of_machine first ≡ true

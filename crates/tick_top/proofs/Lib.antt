@@ -1,6 +1,7 @@
 pub mod Saved
 pub mod Fronts
 pub mod Runs
+pub mod Scans
 pub mod Outcomes
 pub mod Came
 pub mod Meant

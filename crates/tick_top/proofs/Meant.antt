@@ -6,6 +6,7 @@ use Rattle.history.specs.Events as event
 use Rattle.image_file.specs.Image.{ImageParts}
 use Rattle.pace.specs.Pace.{Seen, IsPrefix, instructions_of_a_unit, instructions_besides}
 use Rattle.pace.proofs.Runs.{later_prefix, later_same, prefix_trans}
+use Rattle.icode_service_spec.specs.Choices.{Choice}
 use Rattle.mips_model.specs.Run.{runs, IsDefined}
 use Rattle.mips_model.proofs.Runs.{grows}
 use Rattle.staged_meaning.specs.Meaning.{Program, meant}
@@ -30,7 +31,8 @@ abbrev told_steps : Outcome → ℕ
 told_steps (outcome.OutOfSteps n) = n
 told_steps other = 0
 
-module _ (program : Program) (image : ImageParts) (headline : Headline program image) (choices : List ℕ) (input : Input)
+module _ (program : Program) (image : ImageParts) (headline : Headline program image) (choices : List Choice)
+    (input : Input)
   where
     abbrev machine : ℕ → Seen Item End
     machine = runs image input choices
@@ -38,9 +40,9 @@ module _ (program : Program) (image : ImageParts) (headline : Headline program i
     abbrev meaning : ℕ → Seen Item End
     meaning = meant program input
 
-    -- every run is defined for the choices that the machine made
+    -- a program without ticks chooses no places
     defined : (n : ℕ) → IsDefined image input choices n
-    defined n = tt
+    defined n = headline.defined input choices n
 
     -- where the meaning ends within what n instructions allow, so does the run, with the same history
     pub in_time : (n units : ℕ) (e : End) → (meaning units).ending ≡ Some e → allowed units ≤ n

@@ -161,6 +161,23 @@ seen_whole n left later taken told outcome.WriteFault seen other h = absurd (oth
 seen_whole n left later taken told outcome.ReadFault seen other h = h
 seen_whole n left later taken told outcome.SaveFault seen other h = h
 
+-- a write failed, or another outcome came
+pub by_fault : (P : Outcome → Type 0) (o : Outcome) → (o ≡ outcome.WriteFault → P outcome.WriteFault)
+    → (o ≢ outcome.WriteFault → P o) → P o
+by_fault P outcome.WriteFault failed other = failed refl
+by_fault P (outcome.Done s) failed other = other (λ q. cc)
+by_fault P (outcome.BadWords p) failed other = other (λ q. cc)
+by_fault P (outcome.Refused fault) failed other = other (λ q. cc)
+by_fault P (outcome.AsmRefused fault) failed other = other (λ q. cc)
+by_fault P outcome.LoadFault failed other = other (λ q. cc)
+by_fault P outcome.TooLong failed other = other (λ q. cc)
+by_fault P (outcome.BadImage fault) failed other = other (λ q. cc)
+by_fault P (outcome.Trap k) failed other = other (λ q. cc)
+by_fault P (outcome.MachineFault k at) failed other = other (λ q. cc)
+by_fault P (outcome.OutOfSteps n) failed other = other (λ q. cc)
+by_fault P outcome.ReadFault failed other = other (λ q. cc)
+by_fault P outcome.SaveFault failed other = other (λ q. cc)
+
 -- ---- standard error
 
 pub unsaid_is : (o : Outcome) → (unsaid o ≡ o) ⊎ ((status : ℕ) × (o ≡ outcome.Done status))

@@ -103,8 +103,8 @@ outcome_of n stop.Steps = OutOfSteps n
 outcome_of n stop.ReadFault = ReadFault
 outcome_of n stop.WriteFault = WriteFault
 
--- The image ran on the input for at most n instructions, under the choices of places that the machine kept, and is
--- handed back.
+-- The image ran on the input for at most n instructions, under the choices of places that the machine made, and is
+-- handed back, with the places of the function that was finished last.
 pub record RanImage (n : ℕ) (image : ImageParts) (left later taken told : Option (List ℕ)) (e : Ended) : Type 0 where
   pub handed_back : e.image ≡ Some image
   pub final : Progress
@@ -112,5 +112,5 @@ pub record RanImage (n : ℕ) (image : ImageParts) (left later taken told : Opti
   pub ran : Ran n (first_progress image) final left later taken told stop
   pub steps : e.steps ≡ final.steps
   pub counts : e.counts ≡ counts_of final.state.d.outside
-  pub choices : e.choices.items ≡ []
+  pub choices : e.choices.items ≡ final.state.d.outside.making.generator.choices
   pub outcome : e.outcome ≡ outcome_of n stop

@@ -6,8 +6,9 @@
 use Rattle.std.specs.Prelude.{◌≡◌, ℕ, ◌≤◌, false, List, length, Option, Some, None, Ok, nat_lt}
 use Rattle.std.specs.Io.KnownBytes.{Appends}
 use Rattle.host_edge.specs.declared.ending.Ending.{Ending}
-use Rattle.history.specs.Events.{Ended, output}
+use Rattle.history.specs.Events.{Ended, Input, output}
 use Rattle.image_file.specs.Image.{ImageParts}
+use Rattle.icode_service_spec.specs.Choices.{Choice}
 use Rattle.mips_model.specs.Run.{runs}
 use Rattle.staged_meaning.specs.Meaning.{Program, meant}
 use Rattle.wellformed.specs.declared.typed.Typed.{Typed}
@@ -21,7 +22,7 @@ use Rattle.tick_top.specs.declared.ended.Ended as code
 use Rattle.tick_top.specs.Outside.{Outside, Failures}
 use Rattle.tick_top.specs.Answers.{longest_text}
 use Rattle.tick_top.specs.Top.{Ticked}
-use Rattle.tick_top.specs.Seen.{told, outcome_at, Moves, ShowsRun}
+use Rattle.tick_top.specs.Seen.{told, outcome_at, Moves, IsScannedRun, account_of, account_at, ShowsRun}
 use Rattle.tick_top.specs.Rows.{file_of, refusal, most_steps, most_units}
 use Rattle.tick_top.specs.Evaluations.{MeanIsMeant}
 use Rattle.tick_top.specs.Meant.{allowed, RunIsMeant, Unfailed}
@@ -73,13 +74,14 @@ RunCompletes =
     → (c.ended.outcome ≡ outcome_at steps (Some (Ended end)))
     × Moves c.old.left c.new.left c.old.taken c.new.taken (meant program (told bytes) units).history
 
--- what a call shows of the image that it hands back is the image's run under the choices that are handed back
+-- what a call shows of the image that it hands back is the image's run under the choices of linear scan, and so are the
+-- instructions, the counts and the places that it hands back
 abbrev pub ShowsRuns : Type 0
 ShowsRuns =
     (c : Call) (order : Order) (steps : ℕ) (image : ImageParts) → Did c → order_of c.words ≡ Ok (of_file order) →
     most_steps order ≡ Some steps
     → c.ended.image ≡ Some image
-    → ShowsRun steps image c.ended.choices.items c.old.left c.new.left c.old.taken c.new.taken c.ended.outcome
+    → ShowsRun steps image (account_of c.ended) c.old.left c.new.left c.old.taken c.new.taken c.ended.outcome
 
 -- an outcome of an evaluation whose input was read
 abbrev pub IsOfEvaluation : Outcome → Type 0
@@ -110,15 +112,23 @@ MeanCompletes =
 -- Where the file is told and isn't refused and nothing outside fails, a command that runs no machine and evaluates
 -- nothing is done, and one that runs a machine hands the image back and, on told input, gives the ending that the run
 -- has
--- within the instructions.
+-- within the instructions, under the choices of linear scan.
 abbrev pub CommandsComplete : Type 0
 CommandsComplete =
     (c : Call) (order : Order) (file : List ℕ) → Did c → NothingFailed c → order_of c.words ≡ Ok (of_file order)
     → c.old.file (file_of order) ≡ Some (Some file) → refusal order file ≡ None
     → (most_steps order ≡ None → most_units order ≡ None → c.ended.outcome ≡ Done 0)
     × ((steps : ℕ) (bytes : List ℕ) → most_steps order ≡ Some steps → c.old.left ≡ Some bytes → (image : ImageParts)
-    × (c.ended.image ≡ Some image) ×
-    (c.ended.outcome ≡ outcome_at steps (runs image (told bytes) c.ended.choices.items steps).ending))
+    × (c.ended.image ≡ Some image) × ((row : List Choice) × IsScannedRun image (told bytes) row steps
+    × (c.ended.outcome ≡ outcome_at steps (runs image (told bytes) row steps).ending)))
+
+-- an image has one run under linear scan's choices, whatever row gives them
+abbrev pub ScansOnce : Type 0
+ScansOnce =
+    (image : ImageParts) (input : Input) (row other : List Choice) (n : ℕ) → IsScannedRun image input row n
+    → IsScannedRun image input other n
+    → (runs image input row n ≡ runs image input other n)
+    × (account_at image input row n ≡ account_at image input other n)
 
 -- where nothing outside fails, `gen` is done, and has written the source
 abbrev pub SourcesComplete : Type 0

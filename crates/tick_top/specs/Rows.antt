@@ -11,6 +11,7 @@ use Rattle.history.specs.Events.{End, Input}
 use Rattle.image_file.specs.Image.{ImageParts}
 use Rattle.image_file.specs.Format.{parsed}
 use Rattle.image_file.specs.declared.fault.ImageFault.{ImageFault}
+use Rattle.icode_service_spec.specs.Choices.{Choice}
 use Rattle.mips_model.specs.Run.{runs}
 use Rattle.mips_text.specs.Assembly.{assembled}
 use Rattle.mips_text.specs.declared.fault.AsmFault.{AsmFault}
@@ -26,7 +27,7 @@ use Rattle.tick_outcome.specs.declared.outcome.Outcome.TheVariants.{WriteFault}
 use Rattle.tick_top.specs.declared.ended.Ended.{Ended}
 use Rattle.tick_top.specs.Outside.{Files, Outside}
 use Rattle.tick_top.specs.Answers.{longest_text, longest_image}
-use Rattle.tick_top.specs.Seen.{IsInput}
+use Rattle.tick_top.specs.Seen.{IsInput, IsScannedRun}
 use Rattle.tick_top.specs.Evaluations.{InputTooLong, Evaluation, seen_of, EvaluationEnds}
 
 -- ---- refusals
@@ -124,7 +125,7 @@ most_steps (exec file steps) = Some steps
 most_steps other = None
 
 -- The words run a machine for at most so many instructions, and so its run of the image that is handed back ends within
--- them, on the call's input; or hasn't ended.
+-- them, on the call's input and under choices of places that are linear scan's; or hasn't ended.
 pub record RunEnds (words : List (List ℕ)) (old new : Outside) (e : Ended) (steps : ℕ) (end : Option End) : Type 0 where
   pub order : Order
   pub ordered : order_of words ≡ Ok (of_file order)
@@ -133,7 +134,9 @@ pub record RunEnds (words : List (List ℕ)) (old new : Outside) (e : Ended) (st
   pub handed_back : e.image ≡ Some image
   pub input : Input
   pub is_input : IsInput old.left new.left e.outcome input
-  pub ending : (runs image input e.choices.items steps).ending ≡ end
+  pub row : List Choice
+  pub scanned : IsScannedRun image input row steps
+  pub ending : (runs image input row steps).ending ≡ end
 
 -- An outcome, given by the most instructions, is that of an ending: it comes only of a run that ends so, and where the
 -- input is told and no write failed, always.

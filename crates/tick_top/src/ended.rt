@@ -14,7 +14,7 @@ pub struct Ended {
     pub outcome: Outcome,
     /// How many instructions the machine has executed.
     pub steps: u64,
-    /// The register places that functions made during the run took, in their order.
+    /// The register places of the function that was finished last in the run, one for each of its registers.
     pub choices: Vec<u8>,
     /// What the machine's services were asked for.
     pub counts: Counts,

@@ -14,8 +14,8 @@ mod whole_input;
 
 pub use ended::Ended;
 pub use laws::{
-    commands_complete, mean_completes, mean_means, run_completes, run_means, shows_runs,
-    sources_complete,
+    commands_complete, mean_completes, mean_means, run_completes, run_means, scans_once,
+    shows_runs, sources_complete,
 };
 pub use tick_outcome::{Outcome, status};
 pub use top::tick;

@@ -56,6 +56,121 @@ fn a_saved_image_has_the_counts_of_its_text(rt: HostRuntime) -> Result<(), Fail>
     Ok(())
 }
 
+// A function of one parameter is made in the arena from its first word on: it answers the parameter and 7. Its four
+// registers are r0, which takes the parameter, r1, which gets it from there, the 7 and the sum. They take the places 0,
+// 1, 0 and 2, since r0 has its last use where r1 is set.
+const ADDING: &str = ".entry 0x00400000
+    lui $28,0x2051
+    lui $29,0x7fff
+    ori $4,$0,1         # begin with one parameter
+    ori $2,$0,64
+    syscall
+    ori $4,$0,21        # GetSpec 0
+    ori $5,$0,0
+    ori $2,$0,65
+    syscall
+    ori $4,$0,1         # Const 7
+    ori $5,$0,7
+    ori $2,$0,65
+    syscall
+    ori $4,$0,2         # Bin Add
+    ori $5,$0,1
+    ori $2,$0,65
+    syscall
+    ori $4,$0,19        # Return
+    ori $2,$0,65
+    syscall
+    lui $4,0x0400       # finish: at most 60 words, a frame of 144 bytes
+    ori $5,$0,60
+    ori $6,$0,144
+    ori $2,$0,66
+    syscall
+    addu $5,$2,$0       # flush what was written
+    ori $2,$0,67
+    syscall
+    ori $4,$0,1         # publish as row 1, with one parameter
+    lui $5,0x0400
+    ori $6,$0,1
+    ori $2,$0,68
+    syscall
+    ori $8,$0,35        # call it with 35, and write its answer as a byte
+    sw $8,0($29)
+    lui $8,0x0400
+    jalr $31,$8
+    nop
+    addu $4,$2,$0
+    ori $2,$0,11
+    syscall
+    ori $4,$0,9
+    ori $2,$0,10
+    syscall
+";
+
+// A function is begun, has one op built, and is begun again, which is refused.
+const BEGUN_TWICE: &str = ".entry 0x00400000
+    ori $4,$0,0
+    ori $2,$0,64
+    syscall
+    ori $4,$0,20
+    ori $2,$0,65
+    syscall
+    ori $4,$0,0
+    ori $2,$0,64
+    syscall
+";
+
+// What is left of a text that is assembled and then executed, with its counts.
+fn executed(alloc: Global, text: &str) -> Result<Seen, AllocError> {
+    let mut store = MemStore::new(alloc, &[])?;
+    store.put("text", text.as_bytes())?;
+    let assembled = counted_call(alloc, "tick asm text image", &mut store, &[])?;
+    if assembled.status != 0 {
+        return Ok(assembled);
+    }
+    counted_call(alloc, "tick exec image --stats", &mut store, &[])
+}
+
+#[test]
+fn an_image_makes_a_function_and_calls_it(rt: HostRuntime) -> Result<(), Fail> {
+    let seen = executed(rt.alloc(), ADDING)?;
+    assert_eq!(rt; seen.status, 9);
+    assert_eq!(rt; seen.out.as_slice(), b"*".as_slice());
+    // of its 49 words all but a trap's and the last return's 3 are executed, behind 44 of the text
+    assert_eq!(rt;
+        seen.err.as_slice(),
+        b"ops=4 functions=1 words=49 flushes=1 spills=0 steps=89\n".as_slice()
+    );
+    Ok(())
+}
+
+#[test]
+fn the_places_of_the_last_function_are_handed_back(rt: HostRuntime) -> Result<(), Fail> {
+    let alloc = rt.alloc();
+    let mut store = MemStore::new(alloc, &[])?;
+    store.put("text", ADDING.as_bytes())?;
+    let assembled = counted_call(alloc, "tick asm text image", &mut store, &[])?;
+    assert_eq!(rt; assembled.status, 0);
+    let words = words_of(alloc, "tick exec image")?;
+    let mut input = MemSource::new(alloc, b"", &[])?;
+    let mut out = MemSink::new(alloc, ROOM, &[])?;
+    let mut err = MemSink::new(alloc, ROOM, &[])?;
+    let ended = tick(alloc, &words, &mut store, &mut input, &mut out, &mut err)?;
+    assert_eq!(rt; ended.choices.as_slice(), [0u8, 1, 0, 2].as_slice());
+    Ok(())
+}
+
+#[test]
+fn a_refused_service_stops_the_machine(rt: HostRuntime) -> Result<(), Fail> {
+    let seen = executed(rt.alloc(), BEGUN_TWICE)?;
+    assert_eq!(rt; seen.status, 71);
+    assert_eq!(rt; seen.out.as_slice(), b"".as_slice());
+    assert_eq!(rt;
+        seen.err.as_slice(),
+        b"ops=1 functions=0 words=0 flushes=0 spills=0 steps=9\ntick: machine BadService at 0x00400020\n".as_slice()
+    );
+    Ok(())
+}
+
 // A call on a store with the file `text` and this input, which fails at the listed reads.
 fn meant_on(
     alloc: Global,

@@ -14,12 +14,36 @@ const PROGRAM: [u8; 64] = [
     0x34, 2, 0, 10, 0, 0, 0, 12, // ori $2,$0,10 and syscall
 ];
 
+// The image of a program that makes a function of the ops Const 5 and Drop, flushes it, publishes it as row 1, calls it,
+// and ends with its answer.
+const MAKER: [u8; 144] = [
+    0x54, 0x49, 0x43, 0x4b, 0, 0, 0, 1, 0, 0x40, 0, 0, 0, 0, 0, 0x1e, 0, 0, 0, 0, 0, 0, 0, 0, // the head
+    0x3c, 0x1c, 0x20, 0x51, 0x3c, 0x1d, 0x80, 0, // lui $28,0x2051 and lui $29,0x8000
+    0x34, 2, 0, 0x40, 0, 0, 0, 0x0c, // ori $2,$0,64 and syscall
+    0x34, 4, 0, 1, 0x34, 5, 0, 5, // ori $4,$0,1 and ori $5,$0,5
+    0x34, 2, 0, 0x41, 0, 0, 0, 0x0c, // ori $2,$0,65 and syscall
+    0x34, 4, 0, 8, 0x34, 2, 0, 0x41, // ori $4,$0,8 and ori $2,$0,65
+    0, 0, 0, 0x0c, // syscall
+    0x3c, 4, 4, 0, 0x34, 5, 0, 0x20, // lui $4,0x0400 and ori $5,$0,32
+    0x34, 6, 0, 0x84, 0x34, 2, 0, 0x42, // ori $6,$0,132 and ori $2,$0,66
+    0, 0, 0, 0x0c, // syscall
+    0x34, 5, 0, 0x20, 0x34, 2, 0, 0x43, // ori $5,$0,32 and ori $2,$0,67
+    0, 0, 0, 0x0c, // syscall
+    0x34, 4, 0, 1, 0x3c, 5, 4, 0, // ori $4,$0,1 and lui $5,0x0400
+    0x34, 6, 0, 0, 0x34, 2, 0, 0x44, // ori $6,$0,0 and ori $2,$0,68
+    0, 0, 0, 0x0c, // syscall
+    0x3c, 8, 4, 0, 1, 0, 0xf8, 9, // lui $8,0x0400 and jalr $31,$8
+    0, 0, 0, 0, // nop
+    0, 0x40, 0x20, 0x21, 0x34, 2, 0, 0x0a, // addu $4,$2,$0 and ori $2,$0,10
+    0, 0, 0, 0x0c, // syscall
+];
+
 #[test]
 fn a_program_runs_to_its_end(rt: HostRuntime) -> Result<(), AllocError> {
     if let Ok(image) = read(rt.alloc(), &PROGRAM) {
-        let mut machine = Machine::new(rt.alloc(), &image)?;
         let mut input = MemSource::new(rt.alloc(), b"ab", &[])?;
         let mut out = MemSink::new(rt.alloc(), 9, &[])?;
+        let mut machine = Machine::new(rt.alloc(), &image)?;
         let stop = machine.run(&mut input, &mut out, 100);
         assert!(rt; stop == Stop::Ended(Ending::Done(249)));
         assert_eq!(rt; out.taken(), b"a-7".as_slice());
@@ -36,12 +60,34 @@ fn a_program_runs_to_its_end(rt: HostRuntime) -> Result<(), AllocError> {
 #[test]
 fn it_goes_on_from_where_it_stopped(rt: HostRuntime) -> Result<(), AllocError> {
     if let Ok(image) = read(rt.alloc(), &PROGRAM) {
-        let mut machine = Machine::new(rt.alloc(), &image)?;
         let mut input = MemSource::new(rt.alloc(), b"ab", &[])?;
         let mut out = MemSink::new(rt.alloc(), 9, &[])?;
+        let mut machine = Machine::new(rt.alloc(), &image)?;
         let stop = run_twice(&mut machine, &mut input, &mut out, 4, 4);
         assert!(rt; stop == Stop::Steps);
         assert_eq!(rt; out.taken(), b"a-7".as_slice());
+    } else {
+        assert!(rt; false);
+    }
+    Ok(())
+}
+
+#[test]
+fn services_are_counted_and_places_kept(rt: HostRuntime) -> Result<(), AllocError> {
+    if let Ok(image) = read(rt.alloc(), &MAKER) {
+        let mut input = MemSource::new(rt.alloc(), b"", &[])?;
+        let mut out = MemSink::new(rt.alloc(), 1, &[])?;
+        let mut machine = Machine::new(rt.alloc(), &image)?;
+        let stop = machine.run(&mut input, &mut out, 1000);
+        assert!(rt; stop == Stop::Ended(Ending::Done(0)));
+        let counts = machine.counts();
+        assert_eq!(rt; counts.ops, 2);
+        assert_eq!(rt; counts.functions, 1);
+        assert_eq!(rt; counts.words, 32);
+        assert_eq!(rt; counts.flushes, 1);
+        assert_eq!(rt; counts.spills, 0);
+        assert_eq!(rt; machine.choices(), [0].as_slice());
+        assert_eq!(rt; machine.into_choices().as_slice(), [0].as_slice());
     } else {
         assert!(rt; false);
     }

@@ -29,13 +29,13 @@ pub returns-in-Some-clause-ran : goal.returns-in-Some-clause-ran
 returns-in-Some-clause-ran g c =
     let same = ap (λ (h : Held). stop_from h.stopped) (sym c.self.view_is) ∙ ap stop_from c.in-Some.is in
     let within = c.loop-left.invariant.within in
-    ran_within (omega (arith, within)) (λ e. c.self.invariant.0.stays (c.in-Some.is ∙ ap Some e))
+    ran_within (omega (arith, within)) (λ e. c.self.invariant.stays (c.in-Some.is ∙ ap Some e))
     (ran_more c.loop-left.invariant.ran (ran_stop same c.advance-left.ensures.ran))
 
 pub returns-in-Some-clause-stopped : goal.returns-in-Some-clause-stopped
 returns-in-Some-clause-stopped g c =
     ap (λ (h : Held). h.stopped) (sym c.self.view_is) ∙ c.in-Some.is ∙
-    kept_is c.in-Some.stop (λ e. c.self.invariant.0.stays (c.in-Some.is ∙ ap Some e))
+    kept_is c.in-Some.stop (λ e. c.self.invariant.stays (c.in-Some.is ∙ ap Some e))
 
 pub loop-left-preserved : goal.loop-left-preserved
 loop-left-preserved g c =

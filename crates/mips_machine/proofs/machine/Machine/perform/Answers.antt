@@ -1,12 +1,12 @@
-use Rattle.std.proofs.Common.{◌≡◌, ℕ, Option, Some, None, ap, sym, ◌∙◌, inl, inr}
-use Rattle.std.proofs.lemmas.Bool.{cases_Bool}
+use Rattle.std.proofs.Common.{◌≡◌, ℕ, Option, Some, None, ap, sym, ◌∙◌}
 use Rattle.mips_model.specs.declared.service.Service.{Service}
-use Rattle.mips_model.specs.declared.service.Service.TheVariants.{PutInt, Exit, PutByte, GetByte, Flush}
-use Rattle.mips_model.specs.Services.{service_of, is_arena_range}
+use Rattle.mips_model.specs.declared.service.Service.TheVariants.{PutInt, Exit, PutByte, GetByte, Begin, Emit, Finish}
+use Rattle.mips_model.specs.declared.service.Service.TheVariants.{Flush, Publish}
+use Rattle.mips_model.specs.Services.{service_of}
 use Rattle.mips_machine.specs.Progress.{Held, progress_of}
-use Rattle.mips_machine.specs.Served.{number, argument, second_argument, stop_from}
-use Rattle.mips_machine.proofs.Acts.{put_int_ran, put_byte_ran, exit_ran, unknown_ran, flush_ran, flush_refused_ran}
-use Rattle.mips_machine.proofs.Acts.{get_byte_ran}
+use Rattle.mips_machine.specs.Served.{number, stop_from}
+use Rattle.mips_machine.proofs.Acts.{put_int_ran, put_byte_ran, exit_ran, unknown_ran, get_byte_ran}
+use Rattle.mips_machine.proofs.Makes.{begin_ran, emit_ran, finish_ran, flush_ran, publish_ran}
 use Rattle.mips_machine.proofs.machine.Machine.perform.Goals as goal
 
 -- the service is that of the number in its register
@@ -43,18 +43,40 @@ returns-in-Some-GetByte-clause-ran g c =
     ap Some c.in-Some-GetByte.field-0-is in
     get_byte_ran _ _ c.requires.at c.requires.quiet _ _ _ _ is c.get_byte.ensures.takes
 
+pub returns-in-Some-Begin-clause-ran : goal.returns-in-Some-Begin-clause-ran
+returns-in-Some-Begin-clause-ran g c =
+    let is : service_of (number (progress_of c.args.self.now)) ≡ Some Begin =
+    number_is c.self.view_is c.register.ensures c.from_number.ensures ∙ c.in-Some-Begin.is ∙
+    ap Some c.in-Some-Begin.field-0-is in
+    begin_ran _ _ _ _ _ c.requires.at c.requires.quiet is c.generate.ensures.made
+
+pub returns-in-Some-Emit-clause-ran : goal.returns-in-Some-Emit-clause-ran
+returns-in-Some-Emit-clause-ran g c =
+    let is : service_of (number (progress_of c.args.self.now)) ≡ Some Emit =
+    number_is c.self.view_is c.register.ensures c.from_number.ensures ∙ c.in-Some-Emit.is ∙
+    ap Some c.in-Some-Emit.field-0-is in
+    emit_ran _ _ _ _ _ c.requires.at c.requires.quiet is c.generate-in-Some-Emit.ensures.made
+
+pub returns-in-Some-Finish-clause-ran : goal.returns-in-Some-Finish-clause-ran
+returns-in-Some-Finish-clause-ran g c =
+    let is : service_of (number (progress_of c.args.self.now)) ≡ Some Finish =
+    number_is c.self.view_is c.register.ensures c.from_number.ensures ∙ c.in-Some-Finish.is ∙
+    ap Some c.in-Some-Finish.field-0-is in
+    finish_ran _ _ _ _ _ c.requires.at c.requires.quiet is c.generate-in-Some-Finish.ensures.made
+
 pub returns-in-Some-Flush-clause-ran : goal.returns-in-Some-Flush-clause-ran
 returns-in-Some-Flush-clause-ran g c =
     let is : service_of (number (progress_of c.args.self.now)) ≡ Some Flush =
     number_is c.self.view_is c.register.ensures c.from_number.ensures ∙ c.in-Some-Flush.is ∙
     ap Some c.in-Some-Flush.field-0-is in
-    elim (cases_Bool (is_arena_range (argument (progress_of c.args.self.now))
-    (second_argument (progress_of c.args.self.now)))) [
-      | inl t ↦ let done = c.flush.ensures.flushed t in
-          flush_ran _ _ c.requires.at c.requires.quiet _ _ _ is t (ap stop_from done.1) done.0
-      | inr f ↦ let done = c.flush.ensures.refused f in
-          flush_refused_ran _ _ c.requires.at c.requires.quiet _ _ _ is f (ap stop_from done.1) done.0
-    ]
+    flush_ran _ _ _ _ _ c.requires.at c.requires.quiet is c.generate-in-Some-Flush.ensures.made
+
+pub returns-in-Some-Publish-clause-ran : goal.returns-in-Some-Publish-clause-ran
+returns-in-Some-Publish-clause-ran g c =
+    let is : service_of (number (progress_of c.args.self.now)) ≡ Some Publish =
+    number_is c.self.view_is c.register.ensures c.from_number.ensures ∙ c.in-Some-Publish.is ∙
+    ap Some c.in-Some-Publish.field-0-is in
+    publish_ran _ _ _ _ _ c.requires.at c.requires.quiet is c.generate-in-Some-Publish.ensures.made
 
 pub returns-in-None-clause-ran : goal.returns-in-None-clause-ran
 returns-in-None-clause-ran g c =
