@@ -1,12 +1,12 @@
 //! Makes a function of a given size with the builder, and takes it as far as a given stage.
 //!
-//! The arguments are the shape of the function, `short` or `long`, how many ops it is to have about,
-//! and the stage, `emit`, `finish`, `intervals` or `scan`. The host instructions of a stage are those
+//! The arguments are the shape of the function, `short`, `long`, `straight` or `loops`, how many ops it is to have,
+//! about, and the stage, `emit`, `finish`, `intervals` or `scan`. The host instructions of a stage are those
 //! of its run without those of the run of the stage before: `bench/icode` counts them. The program
 //! prints how many ops, registers and intervals there are, as far as it came.
 #![tactic(auto)]
 
-ghost use Rattle.std.specs.Prelude.{◌≡◌, IfOk, length};
+ghost use Rattle.std.specs.Prelude.{◌≡◌, ◌<◌, IfOk, length};
 ghost use Rattle.icode_ops.specs.Finished.{IsFinished};
 ghost use Rattle.icode_ir.specs.declared.builder.Phase.TheVariants.{Begun};
 
@@ -21,6 +21,12 @@ use std::{env, io};
 // The variables of a function of long lives.
 const VARIABLES: u32 = 20;
 
+// The loops of a nest, each in the one before and each with a variable of its own.
+const LOOPS: u32 = 4;
+
+// The ops of a nest.
+const NEST: u32 = 44;
+
 /// What the lives of a function's registers are like.
 #[derive(Clone, Copy)]
 enum Shape {
@@ -28,6 +34,10 @@ enum Shape {
     Short,
     /// Sums of two of twenty variables that all live to the end.
     Long,
+    /// Variables that are all set and then all read, without a branch.
+    Straight,
+    /// Nests of four loops, one after another.
+    Loops,
 }
 
 /// How far a function is taken.
@@ -99,6 +109,86 @@ fn emit_all_long(builder: &mut Builder, ops: u32) -> Result<(), BuildFault>
     builder.emit(BuildOp::Leave)
 }
 
+fn emit_all_straight(builder: &mut Builder, ops: u32) -> Result<(), BuildFault>
+    requires { builder.old.phase ≡ Begun }
+    ensures { builder.new.phase ≡ Begun }
+{
+    let variables = ops / 3;
+    builder.emit(BuildOp::Enter {
+        variables,
+        labels: 0,
+    })?;
+    for variable in 0..variables {
+        emit_set(builder, variable)?;
+    }
+    for read in 0..variables {
+        builder.emit(BuildOp::GetVariable { variable: read })?;
+        builder.emit(BuildOp::Drop)?;
+    }
+    builder.emit(BuildOp::Leave)
+}
+
+// The head of a loop, which ends where its variable is 0: five ops.
+fn emit_head(builder: &mut Builder, level: u32) -> Result<(), BuildFault>
+    requires phase { builder.old.phase ≡ Begun }
+    requires small { level < 4 }
+    ensures { builder.new.phase ≡ Begun }
+{
+    emit_set(builder, level)?;
+    builder.emit(BuildOp::Label { label: 2 * level })?;
+    builder.emit(BuildOp::GetVariable { variable: level })?;
+    builder.emit(BuildOp::BranchZero {
+        label: 2 * level + 1,
+    })
+}
+
+// The end of a loop, which counts its variable down: six ops.
+fn emit_tail(builder: &mut Builder, level: u32) -> Result<(), BuildFault>
+    requires phase { builder.old.phase ≡ Begun }
+    requires small { level < 4 }
+    ensures { builder.new.phase ≡ Begun }
+{
+    builder.emit(BuildOp::GetVariable { variable: level })?;
+    builder.emit(BuildOp::Const { word: 1 })?;
+    builder.emit(BuildOp::Bin {
+        kind: BinKind::Subtract,
+    })?;
+    builder.emit(BuildOp::SetVariable { variable: level })?;
+    builder.emit(BuildOp::Drop)?;
+    builder.emit(BuildOp::Jump { label: 2 * level })?;
+    builder.emit(BuildOp::Label {
+        label: 2 * level + 1,
+    })
+}
+
+// A nest of loops.
+fn emit_nest(builder: &mut Builder) -> Result<(), BuildFault>
+    requires { builder.old.phase ≡ Begun }
+    ensures { builder.new.phase ≡ Begun }
+{
+    builder.emit(BuildOp::Enter {
+        variables: LOOPS,
+        labels: 2 * LOOPS,
+    })?;
+    for level in 0..LOOPS {
+        emit_head(builder, level)?;
+    }
+    for ended in 0..LOOPS {
+        emit_tail(builder, LOOPS - 1 - ended)?;
+    }
+    builder.emit(BuildOp::Leave)
+}
+
+fn emit_all_loops(builder: &mut Builder, ops: u32) -> Result<(), BuildFault>
+    requires { builder.old.phase ≡ Begun }
+    ensures { builder.new.phase ≡ Begun }
+{
+    for _ in 0..ops / NEST {
+        emit_nest(builder)?;
+    }
+    Ok(())
+}
+
 fn emit_function(builder: &mut Builder, shape: Shape, ops: u32) -> Result<(), BuildFault>
     requires { builder.old.phase ≡ Begun }
     ensures { builder.new.phase ≡ Begun }
@@ -106,6 +196,8 @@ fn emit_function(builder: &mut Builder, shape: Shape, ops: u32) -> Result<(), Bu
     match shape {
         Shape::Short => emit_all_short(builder, ops),
         Shape::Long => emit_all_long(builder, ops),
+        Shape::Straight => emit_all_straight(builder, ops),
+        Shape::Loops => emit_all_loops(builder, ops),
     }
 }
 
@@ -167,6 +259,8 @@ fn shape_of(word: &str) -> Option<Shape> {
     match word {
         "short" => Some(Shape::Short),
         "long" => Some(Shape::Long),
+        "straight" => Some(Shape::Straight),
+        "loops" => Some(Shape::Loops),
         _ => None,
     }
 }
@@ -244,6 +338,8 @@ fn main(rt: HostRuntime) -> io::Result<()> {
                 counts.ops, counts.registers, counts.intervals
             )
         }
-        _ => println!(rt; "usage: icode_bench short|long OPS emit|finish|intervals|scan"),
+        _ => println!(rt;
+            "usage: icode_bench short|long|straight|loops OPS emit|finish|intervals|scan"
+        ),
     }
 }

@@ -1,6 +1,6 @@
 -- What one op more makes of the tables of the ops.
 use Rattle.std.proofs.Common.{ℕ, zero, suc, ◌+◌, ◌*◌, ◌/◌, ◌≡◌, ◌≢◌, ◌<◌, ◌≤◌, ◌⊎◌, ◌||◌, inl, inr, Bool, true, false}
-use Rattle.std.proofs.Common.{eqb, List, [], ◌∷◌, Option, Some, None, length, get_or, refl, sym, ◌∙◌, ap, subst, arith}
+use Rattle.std.proofs.Common.{eqb, List, [], ◌∷◌, Option, Some, None, length, get_or, refl, sym, ap, subst, arith}
 use Rattle.std.proofs.Common.{get_or-set_other, get_or-set_same}
 use Rattle.std.proofs.Math.ListN.{length-set}
 use Rattle.std.proofs.lemmas.Bool.Decides.{nat_tests}
@@ -9,10 +9,10 @@ use Rattle.std.proofs.lemmas.List.{get_or_past}
 use Rattle.icode_ops.specs.declared.op.Op.{Op}
 use Rattle.icode_ops.specs.declared.op.Op.TheVariants.{ReturnZero}
 use Rattle.icode_ops.specs.Flow.{defined, first_use, second_use, defines, uses, holds, goes_to, label_of, op_at}
-use Rattle.icode_ops.specs.Finished.{Below, InRange}
+use Rattle.icode_ops.specs.Finished.{Below}
 use Rattle.collections.specs.Contents.{with_slot, empty_buckets}
 use Rattle.icode_liveness.specs.Lists.{In, Each}
-use Rattle.icode_liveness.specs.Tables.{mentions, MentionedAt, GoesFrom, IsTable, KnowsLabels, listed, with_mentions}
+use Rattle.icode_liveness.specs.Tables.{mentions, MentionedAt, DefinedAt, GoesFrom, IsTable, KnowsLabels, listed}
 use Rattle.icode_liveness.proofs.Lists.{Each-weaker}
 
 pub table-same : (P Q : ℕ → ℕ → Type 0) (bs : List (List ℕ)) → ((b p : ℕ) → P b p → Q b p)
@@ -92,111 +92,83 @@ table-listed P bs None slot l t = table-same P (Or P None slot) bs (λ b p h. in
     from b p (inr h) = absurd (cc)
 table-listed P bs (Some r) slot l t = table-slot P bs r slot l t
 
-holds-some : (b : ℕ) (o : Option ℕ) → holds b o ≡ true → o ≡ Some b
+pub holds-some : (b : ℕ) (o : Option ℕ) → holds b o ≡ true → o ≡ Some b
 holds-some b None h = absurd (cc)
 holds-some b (Some r) h = let same : r ≡ b = grind (arith, nat_tests) in ap Some same
 
-holds-itself : (b : ℕ) (o : Option ℕ) → o ≡ Some b → holds b o ≡ true
+pub holds-itself : (b : ℕ) (o : Option ℕ) → o ≡ Some b → holds b o ≡ true
 holds-itself b o e = subst (λ z. holds b z ≡ true) (sym e) (grind (arith, nat_tests))
 
-either : (x y : Bool) → (x || y) ≡ true → (x ≡ true) ⊎ (y ≡ true)
+pub either : (x y : Bool) → (x || y) ≡ true → (x ≡ true) ⊎ (y ≡ true)
 either true y h = inl refl
 either false y h = inr h
 
-within : (m n : ℕ) (o : Option ℕ) → m ≡ n → Below n o → Below m o
+pub within : (m n : ℕ) (o : Option ℕ) → m ≡ n → Below n o → Below m o
 within m n None e h = tt
 within m n (Some r) e h = omega arith
 
--- the three slots of an op
-mentions-step : (P : ℕ → ℕ → Type 0) (bs : List (List ℕ)) (op : Op) (slot : ℕ)
-    → InRange (length bs) op
-    → IsTable P bs
-    → IsTable (Or (Or (Or P (defined op) slot) (first_use op) (slot + 1)) (second_use op)
-    (slot + 2))
-    (with_mentions op slot bs)
-mentions-step P bs op slot range t =
-    let l1 = length-listed (defined op) slot bs in
-    let l2 = length-listed (first_use op) (slot + 1) (listed (defined op) slot bs) in
-    table-listed _ (listed (first_use op) (slot + 1) (listed (defined op) slot bs)) (second_use op)
-    (slot + 2)
-    (within _ (length bs) (second_use op) (l2 ∙ l1) range.2)
-    (table-listed _ (listed (defined op) slot bs) (first_use op) (slot + 1)
-    (within _ (length bs) (first_use op) l1 range.1)
-    (table-listed P bs (defined op) slot range.0 t))
-
-pub length-mentions : (op : Op) (slot : ℕ) (bs : List (List ℕ)) → length (with_mentions op slot bs)
-    ≡ length bs
-length-mentions op slot bs =
-    length-listed (second_use op) (slot + 2)
-    (listed (first_use op) (slot + 1) (listed (defined op) slot bs))
-    ∙ (length-listed (first_use op) (slot + 1) (listed (defined op) slot bs)
-    ∙ length-listed (defined op) slot bs)
-
-any-of : (x y z : Bool) → (x ≡ true) ⊎ ((y ≡ true) ⊎ (z ≡ true)) → (x || (y || z)) ≡ true
+pub any-of : (x y z : Bool) → (x ≡ true) ⊎ ((y ≡ true) ⊎ (z ≡ true)) → (x || (y || z)) ≡ true
 any-of true y z h = refl
 any-of false y z (inl h) = absurd (cc)
 any-of false true z (inr h) = refl
 any-of false false z (inr (inl h)) = absurd (cc)
 any-of false false z (inr (inr h)) = h
 
-pub mentions-more : (ops : List Op) (n : ℕ) (bs : List (List ℕ)) → InRange (length bs) (op_at ops n)
-    → IsTable (MentionedAt ops n) bs
-    → IsTable (MentionedAt ops (n + 1)) (with_mentions (op_at ops n) (3 * n) bs)
-mentions-more ops n bs range t =
-    table-same _ (MentionedAt ops (n + 1)) (with_mentions (op_at ops n) (3 * n) bs) to
-    (λ b p h. from b p h (cases_lt p n))
-    (mentions-step (MentionedAt ops n) bs (op_at ops n) (3 * n) range t)
-  where
-    mentioned : (b : ℕ) → (defined (op_at ops n) ≡ Some b)
-        ⊎ ((first_use (op_at ops n) ≡ Some b) ⊎ (second_use (op_at ops n) ≡ Some b))
-        → mentions b (op_at ops n) ≡ true
-    mentioned b (inl e) =
-        any-of (holds b (defined (op_at ops n))) (holds b (first_use (op_at ops n)))
-        (holds b (second_use (op_at ops n)))
-        (inl (holds-itself b (defined (op_at ops n)) e))
-    mentioned b (inr (inl e)) =
-        any-of (holds b (defined (op_at ops n))) (holds b (first_use (op_at ops n)))
-        (holds b (second_use (op_at ops n)))
-        (inr (inl (holds-itself b (first_use (op_at ops n)) e)))
-    mentioned b (inr (inr e)) =
-        any-of (holds b (defined (op_at ops n))) (holds b (first_use (op_at ops n)))
-        (holds b (second_use (op_at ops n)))
-        (inr (inr (holds-itself b (second_use (op_at ops n)) e)))
+-- mentioned before op n or by one of its three slots
+abbrev pub Mentioned : List Op → ℕ → ℕ → ℕ → Type 0
+Mentioned ops n =
+    Or (Or (Or (MentionedAt ops n) (defined (op_at ops n)) (3 * n)) (first_use (op_at ops n)) (3 * n + 1))
+    (second_use (op_at ops n)) (3 * n + 2)
 
-    at-n : (b p : ℕ) → p ≡ n → mentions b (op_at ops n) ≡ true → MentionedAt ops (n + 1) b p
-    at-n b p e h = (omega arith, subst (λ z. mentions b (op_at ops z) ≡ true) (sym e) h)
+module _ (ops : List Op) (n : ℕ) where
+  mentioned : (b : ℕ) → (defined (op_at ops n) ≡ Some b)
+      ⊎ ((first_use (op_at ops n) ≡ Some b) ⊎ (second_use (op_at ops n) ≡ Some b))
+      → mentions b (op_at ops n) ≡ true
+  mentioned b (inl e) =
+      any-of (holds b (defined (op_at ops n))) (holds b (first_use (op_at ops n)))
+      (holds b (second_use (op_at ops n)))
+      (inl (holds-itself b (defined (op_at ops n)) e))
+  mentioned b (inr (inl e)) =
+      any-of (holds b (defined (op_at ops n))) (holds b (first_use (op_at ops n)))
+      (holds b (second_use (op_at ops n)))
+      (inr (inl (holds-itself b (first_use (op_at ops n)) e)))
+  mentioned b (inr (inr e)) =
+      any-of (holds b (defined (op_at ops n))) (holds b (first_use (op_at ops n)))
+      (holds b (second_use (op_at ops n)))
+      (inr (inr (holds-itself b (second_use (op_at ops n)) e)))
 
-    to : (b p : ℕ) → Or (Or (Or (MentionedAt ops n) (defined (op_at ops n)) (3 * n)) (first_use (op_at ops n))
-        (3 * n + 1)) (second_use (op_at ops n)) (3 * n + 2) b p
-        → MentionedAt ops (n + 1) b p
-    to b p (inl (inl (inl h))) = (omega (arith, h.0), h.1)
-    to b p (inl (inl (inr h))) = at-n b p (omega (arith, h.1)) (mentioned b (inl h.0))
-    to b p (inl (inr h)) = at-n b p (omega (arith, h.1)) (mentioned b (inr (inl h.0)))
-    to b p (inr h) = at-n b p (omega (arith, h.1)) (mentioned b (inr (inr h.0)))
+  at-n : (b p : ℕ) → p ≡ n → mentions b (op_at ops n) ≡ true → MentionedAt ops (n + 1) b p
+  at-n b p e h = (omega arith, subst (λ z. mentions b (op_at ops z) ≡ true) (sym e) h)
 
-    parts : (b p : ℕ) → p ≡ n → (defines b (op_at ops n) ≡ true) ⊎ (uses b (op_at ops n) ≡ true)
-        → Or (Or (Or (MentionedAt ops n) (defined (op_at ops n)) (3 * n)) (first_use (op_at ops n))
-        (3 * n + 1)) (second_use (op_at ops n)) (3 * n + 2) b p
-    parts b p e (inl h) = inl (inl (inr (holds-some b (defined (op_at ops n)) h, omega arith)))
-    parts b p e (inr h) =
-        named (either (holds b (first_use (op_at ops n))) (holds b (second_use (op_at ops n))) h)
-      where
-        named : (holds b (first_use (op_at ops n)) ≡ true)
-            ⊎ (holds b (second_use (op_at ops n)) ≡ true)
-            → Or (Or (Or (MentionedAt ops n) (defined (op_at ops n)) (3 * n))
-            (first_use (op_at ops n)) (3 * n + 1)) (second_use (op_at ops n)) (3 * n + 2) b p
-        named (inl g) = inl (inr (holds-some b (first_use (op_at ops n)) g, omega arith))
-        named (inr g) = inr (holds-some b (second_use (op_at ops n)) g, omega arith)
+  pub mentioned-to : (b p : ℕ) → Mentioned ops n b p → MentionedAt ops (n + 1) b p
+  mentioned-to b p (inl (inl (inl h))) = (omega (arith, h.0), h.1)
+  mentioned-to b p (inl (inl (inr h))) = at-n b p (omega (arith, h.1)) (mentioned b (inl h.0))
+  mentioned-to b p (inl (inr h)) = at-n b p (omega (arith, h.1)) (mentioned b (inr (inl h.0)))
+  mentioned-to b p (inr h) = at-n b p (omega (arith, h.1)) (mentioned b (inr (inr h.0)))
 
-    from : (b p : ℕ) → MentionedAt ops (n + 1) b p → (p < n) ⊎ (n ≤ p)
-        → Or (Or (Or (MentionedAt ops n) (defined (op_at ops n)) (3 * n)) (first_use (op_at ops n))
-        (3 * n + 1)) (second_use (op_at ops n)) (3 * n + 2) b p
-    from b p h (inl l) = inl (inl (inl (l, h.1)))
-    from b p h (inr l) =
-        let e : p ≡ n = omega (arith, h.0) in
-        let m : mentions b (op_at ops n) ≡ true = subst (λ z. mentions b (op_at ops z) ≡ true) e h.1
-        in
-        parts b p e (either (defines b (op_at ops n)) (uses b (op_at ops n)) m)
+  parts : (b p : ℕ) → p ≡ n → (defines b (op_at ops n) ≡ true) ⊎ (uses b (op_at ops n) ≡ true)
+      → Mentioned ops n b p
+  parts b p e (inl h) = inl (inl (inr (holds-some b (defined (op_at ops n)) h, omega arith)))
+  parts b p e (inr h) =
+      named (either (holds b (first_use (op_at ops n))) (holds b (second_use (op_at ops n))) h)
+    where
+      named : (holds b (first_use (op_at ops n)) ≡ true)
+          ⊎ (holds b (second_use (op_at ops n)) ≡ true)
+          → Mentioned ops n b p
+      named (inl g) = inl (inr (holds-some b (first_use (op_at ops n)) g, omega arith))
+      named (inr g) = inr (holds-some b (second_use (op_at ops n)) g, omega arith)
+
+  from : (b p : ℕ) → MentionedAt ops (n + 1) b p → (p < n) ⊎ (n ≤ p)
+      → Mentioned ops n b p
+  from b p h (inl l) = inl (inl (inl (l, h.1)))
+  from b p h (inr l) =
+      let e : p ≡ n = omega (arith, h.0) in
+      let m : mentions b (op_at ops n) ≡ true = subst (λ z. mentions b (op_at ops z) ≡ true) e h.1
+      in
+      parts b p e (either (defines b (op_at ops n)) (uses b (op_at ops n)) m)
+
+  pub mentioned-from : (b p : ℕ) → MentionedAt ops (n + 1) b p → Mentioned ops n b p
+  mentioned-from b p h = from b p h (cases_lt p n)
 
 pub jumps-more : (ops : List Op) (n : ℕ) (bs : List (List ℕ))
     → Below (length bs) (goes_to (op_at ops n))
@@ -220,6 +192,29 @@ jumps-more ops n bs range t =
     from b p h (inr l) =
         let e : p ≡ n = omega (arith, h.0) in
         inr (subst (λ z. goes_to (op_at ops z) ≡ Some b) e h.1, omega arith)
+
+pub definitions-more : (ops : List Op) (n : ℕ) (bs : List (List ℕ)) → Below (length bs) (defined (op_at ops n))
+    → IsTable (DefinedAt ops n) bs → IsTable (DefinedAt ops (n + 1)) (listed (defined (op_at ops n)) (3 * n) bs)
+definitions-more ops n bs range t =
+    table-same _ (DefinedAt ops (n + 1)) (listed (defined (op_at ops n)) (3 * n) bs) to
+    (λ b p h. from b p h (cases_lt p n))
+    (table-listed (DefinedAt ops n) bs (defined (op_at ops n)) (3 * n) range t)
+  where
+    to : (b p : ℕ) → Or (DefinedAt ops n) (defined (op_at ops n)) (3 * n) b p → DefinedAt ops (n + 1) b p
+    to b p (inl h) = (omega (arith, h.0), h.1)
+    to b p (inr h) =
+        let e : p ≡ n = omega (arith, h.1) in (
+          omega arith,
+          subst (λ z. defines b (op_at ops z) ≡ true) (sym e) (holds-itself b (defined (op_at ops n)) h.0),
+        )
+
+    from : (b p : ℕ) → DefinedAt ops (n + 1) b p → (p < n) ⊎ (n ≤ p)
+        → Or (DefinedAt ops n) (defined (op_at ops n)) (3 * n) b p
+    from b p h (inl l) = inl (l, h.1)
+    from b p h (inr l) =
+        let e : p ≡ n = omega (arith, h.0) in
+        let d : defines b (op_at ops n) ≡ true = subst (λ z. defines b (op_at ops z) ≡ true) e h.1 in
+        inr (holds-some b (defined (op_at ops n)) d, omega arith)
 
 -- empty buckets are the table of no ops
 pub empty-at : (n b : ℕ) → get_or (empty_buckets n) b [] ≡ []

@@ -1,7 +1,12 @@
 pub mod Lists
+pub mod Joining
+pub mod Below
 pub mod Filling
-pub mod Listing
+pub mod Showing
+pub mod Mentions
+pub mod Walking
 pub mod Reaching
+pub mod Taking
 pub mod Writing
 pub mod Starting
 pub mod Sorting

@@ -1,31 +1,50 @@
--- What a step of the backward search of a register adds to the places that were found.
-use Rattle.std.specs.Prelude.{ℕ, ◌/◌, ◌≡◌, ◌<◌, Bool, true, false, not, List, length}
+-- What a step of the search for the blocks that a register is live into adds to what was found.
+use Rattle.std.specs.Prelude.{ℕ, ◌/◌, ◌≡◌, ◌<◌, ◌≤◌, ◌⊎◌, Bool, true, false, List, Option, Some, None}
+use Rattle.collections.specs.Members.{is_in}
 use Rattle.icode_ops.specs.declared.op.Op.{Op}
-use Rattle.icode_ops.specs.Flow.{defines, uses, op_at, Follows}
-use Rattle.icode_liveness.specs.declared.sought.Sought.{Sought}
-use Rattle.icode_liveness.specs.declared.sought.Sought.TheVariants.{Use, Definition, Passage}
-use Rattle.icode_liveness.specs.Lists.{In, Each}
+use Rattle.icode_ops.specs.declared.interval.Interval.{Interval}
+use Rattle.icode_ops.specs.Flow.{op_at, Follows}
+use Rattle.icode_ops.specs.Live.{IsAt, IsInterval}
+use Rattle.icode_liveness.specs.Lists.{In, Each, Extends}
+use Rattle.icode_liveness.specs.Blocks.{block_of, DefinedIn}
 
--- whether an op is what is sought of register v
-abbrev pub is_sought : Sought → ℕ → Op → Bool
-is_sought Use v op = uses v op
-is_sought Definition v op = defines v op
-is_sought Passage v op = not (defines v op)
+-- the members are the blocks that define v
+pub record AreDefining (ops : List Op) (v : ℕ) (members : List ℕ) : Type 0 where
+  pub sound : (b : ℕ) → is_in b members ≡ true → DefinedIn ops v b
+  pub complete : (b : ℕ) → DefinedIn ops v b → is_in b members ≡ true
 
--- a slot of the list is of place p, where the op is what is sought
-abbrev pub SoughtIn : List Op → Sought → ℕ → List ℕ → ℕ → Type 0
-SoughtIn ops sought v slots p =
-    (slot : ℕ) × In slot slots × (slot / 3 ≡ p) × (is_sought sought v (op_at ops p) ≡ true)
+-- op p, after which a register is live, is in the range, and so is its block found where that doesn't define it
+abbrev pub Taken : List Op → List ℕ → List ℕ → Interval → ℕ → Type 0
+Taken ops defining found x p =
+    (p ≤ x.end) × (is_in (block_of ops p) defining ≡ false → In (block_of ops p) found)
 
--- each place of the list at which the op is what is sought has been found
-abbrev pub HasSought : List Op → Sought → ℕ → List ℕ → List ℕ → Type 0
-HasSought ops sought v slots found =
-    Each (λ slot. is_sought sought v (op_at ops (slot / 3)) ≡ true → In (slot / 3) found) slots
+-- the block of an op that is Q, one that isn't defining
+abbrev pub BlockOf : (ℕ → Type 0) → List Op → List ℕ → ℕ → Type 0
+BlockOf Q ops defining b = (p : ℕ) × Q p × (block_of ops p ≡ b) × (is_in b defining ≡ false)
 
--- control may go from p to the place `to`, and v passes p undefined
-abbrev pub Passing : List Op → ℕ → ℕ → ℕ → Type 0
-Passing ops v to p = Follows ops p to × (defines v (op_at ops p) ≡ false)
+-- the range grew by ops that are Q
+pub record Wider (Q : ℕ → Type 0) (old new : Interval) : Type 0 where
+  pub reg : new.reg ≡ old.reg
+  pub low : new.start ≤ old.start
+  pub high : old.end ≤ new.end
+  pub start : (new.start ≡ old.start) ⊎ Q new.start
+  pub end : (new.end ≡ old.end) ⊎ Q new.end
 
--- the slots are of ops
-abbrev pub AreOps : List Op → List ℕ → Type 0
-AreOps ops slots = Each (λ slot. slot / 3 < length ops) slots
+-- the range and what was found grew by ops that are Q
+pub record Grown (Q : ℕ → Type 0) (ops : List Op) (defining : List ℕ) (old new : Interval) (found more : List ℕ) :
+    Type 0 where
+  pub range : Wider Q old new
+  pub blocks : Extends (BlockOf Q ops defining) found more
+
+-- the place of one of the slots
+abbrev pub PlaceOf : List ℕ → ℕ → Type 0
+PlaceOf slots p = (slot : ℕ) × In slot slots × (slot / 3 ≡ p)
+
+-- the block of one of the slots
+abbrev pub BlockIn : List Op → List ℕ → ℕ → Type 0
+BlockIn ops slots b = (slot : ℕ) × In slot slots × (block_of ops (slot / 3) ≡ b)
+
+-- the interval of v; none where v is at no op
+abbrev pub IsIntervalOf : List Op → ℕ → Option Interval → Type 0
+IsIntervalOf ops v None = (p : ℕ) → IsAt ops v p → ⊥
+IsIntervalOf ops v (Some x) = (x.reg ≡ v) × IsInterval ops v x.start x.end

@@ -1,34 +1,41 @@
-//! Live intervals of the registers of a finished list of ops: liveness by a backward search from the
-//! uses of each register, in time that is linear in the ops, the registers and the sum of the live
-//! ranges.
+//! Live intervals of the registers of a finished list of ops: liveness by a backward search over basic blocks, in time
+//! that is linear in the ops and the registers, and for each register in the blocks that it is live into.
 #![tactic(auto)]
 
+mod blocks;
+mod code;
 mod order;
 mod search;
-mod sought;
 mod tables;
 
 ghost use Rattle.std.specs.Prelude.{◌≡◌, ◌<◌, ◌≤◌, IfOk, length, take};
 ghost use Rattle.icode_ops.specs.Finished.{IsFinished};
 ghost use Rattle.icode_ops.specs.Live.{AreIntervals, Each};
 
+use code::Code;
 use collections::{Buckets, SparseSet};
 use icode_ops::{Interval, Op};
 use limits::ops::{MOST_LABELS, MOST_OPS, MOST_REGISTERS};
 use std::alloc::{AllocError, Global};
 use std::marker::Model;
 
-// The slots of an op: of the register that it defines and of the two that it uses.
+// The slots of an op: one for a label or a definition, and one for each of the registers that it uses.
 const SLOTS: u32 = 3;
 
 /// The tables for intervals of lists of ops, which take all their memory in `new`. Nothing that one
 /// call leaves in them bears on the next.
 #[derive(Drop)]
 pub struct Live {
-    mentions: Buckets,
     jumps: Buckets,
+    definitions: Buckets,
+    exposed: Buckets,
     starts: Buckets,
     found: SparseSet,
+    defining: SparseSet,
+    blocks: Vec<u32>,
+    lasts: Vec<u32>,
+    lows: Vec<u32>,
+    highs: Vec<u32>,
     ends: Vec<u32>,
 }
 
@@ -39,23 +46,36 @@ impl Model for Live {
 
     ghost view = { λ l. tt };
 
-    ghost invariant = { λ l. HasRooms l.mentions l.jumps l.starts l.found l.ends.items };
+    ghost invariant = { λ l. HasRooms l.jumps l.definitions l.exposed l.starts l.found l.defining l.blocks.items
+        l.lasts.items l.lows.items l.highs.items l.ends.items };
 }
 
 impl Live {
     /// Makes the tables, for lists of up to 196,609 ops with up to 393,216 registers. The only error
     /// is want of memory.
     pub fn new(alloc: Global) -> Result<Live, AllocError> {
-        let mentions = Buckets::new(alloc, MOST_REGISTERS, SLOTS * MOST_OPS)?;
         let jumps = Buckets::new(alloc, MOST_LABELS, SLOTS * MOST_OPS)?;
+        let definitions = Buckets::new(alloc, MOST_REGISTERS, SLOTS * MOST_OPS)?;
+        let exposed = Buckets::new(alloc, MOST_REGISTERS, SLOTS * MOST_OPS)?;
         let starts = Buckets::new(alloc, MOST_OPS, MOST_REGISTERS)?;
         let found = SparseSet::new(alloc, MOST_OPS)?;
+        let defining = SparseSet::new(alloc, MOST_OPS)?;
+        let blocks = zeros(alloc, MOST_OPS)?;
+        let lasts = zeros(alloc, MOST_REGISTERS)?;
+        let lows = zeros(alloc, MOST_REGISTERS)?;
+        let highs = zeros(alloc, MOST_REGISTERS)?;
         let ends = zeros(alloc, MOST_REGISTERS)?;
         Ok(Live {
-            mentions,
             jumps,
+            definitions,
+            exposed,
             starts,
             found,
+            defining,
+            blocks,
+            lasts,
+            lows,
+            highs,
             ends,
         })
     }
@@ -73,15 +93,33 @@ impl Live {
         ensures few { result ≤ registers }
         ensures registers { Each (λ x. x.reg < registers) (take result out.new) }
     {
-        tables::list_mentions(&mut self.mentions, ops, registers);
+        blocks::list_blocks(&mut self.blocks, ops);
         tables::list_jumps(&mut self.jumps, ops, registers);
+        tables::list_registers(
+            &mut self.definitions,
+            &mut self.exposed,
+            &mut self.lasts,
+            &mut self.lows,
+            &mut self.highs,
+            ops,
+            &self.blocks,
+            registers,
+        );
+        let code = Code {
+            ops,
+            blocks: &self.blocks,
+            jumps: &self.jumps,
+            definitions: &self.definitions,
+            exposed: &self.exposed,
+            lows: &self.lows,
+            highs: &self.highs,
+        };
         order::list_by_start(
             &mut self.starts,
             &mut self.ends,
             &mut self.found,
-            ops,
-            &self.mentions,
-            &self.jumps,
+            &mut self.defining,
+            &code,
             registers,
         );
         order::write_by_start(out, &self.starts, ops.len() as u32, &self.ends, registers)

@@ -1,126 +1,206 @@
-//! The backward search for the ops that a register is at.
+//! The search for the blocks that a register is live into, and its interval.
 
-ghost use Rattle.std.specs.Prelude.{◌≡◌, ◌↔◌, ℕ, ◌+◌, ◌/◌, ◌<◌, ◌≤◌, true, false, [], List, length, slice_index_or};
-ghost use Rattle.icode_ops.specs.Flow.{defines, falls, op_at};
-ghost use Rattle.icode_ops.specs.Live.{Live, IsAt};
-ghost use Rattle.icode_liveness.specs.Lists.{In, Extends};
-ghost use Rattle.icode_liveness.specs.Search.{is_sought, SoughtIn, HasSought, Passing, AreOps};
-ghost use Rattle.icode_liveness.specs.Tables.{MentionedAt, GoesFrom, IsTable, KnowsLabels};
+ghost use Rattle.std.specs.Prelude.{◌≡◌, ◌≢◌, ℕ, ◌+◌, ◌/◌, ◌<◌, ◌≤◌, true, false, [], List, Some, length};
+ghost use Rattle.std.specs.Prelude.{slice_index_or};
+ghost use Rattle.icode_ops.specs.Flow.{falls, op_at, Follows};
+ghost use Rattle.icode_liveness.specs.Blocks.{block_of};
+ghost use Rattle.icode_liveness.specs.Listed.{IsListed};
+ghost use Rattle.icode_liveness.specs.Lists.{In, Each, Extends};
+ghost use Rattle.icode_liveness.specs.Search.{Taken, Wider, Grown, PlaceOf, BlockIn, IsIntervalOf};
+ghost use Rattle.icode_liveness.specs.Tables.{IsSpanOf};
 
-use crate::sought::Sought;
+use crate::code::Code;
 use collections::{Buckets, SparseSet};
-use icode_ops::Op;
+use icode_ops::Interval;
 
-// Adds a place, if its op has what is sought of the register.
-fn add(found: &mut SparseSet, ops: &[Op], place: u32, sought: Sought, register: u32)
-    requires place { place < length ops.now }
-    requires room { length ops.now ≤ found.old.room }
-    ensures there { is_sought sought register (op_at ops.now place) ≡ true → In place found.new.members }
-    ensures extends { Extends (λ p. (p ≡ place) × (is_sought sought register (op_at ops.now p) ≡ true))
-        found.old.members found.new.members }
-    ensures room { found.new.room ≡ found.old.room }
+// The range with one place more.
+fn widened(range: Interval, place: u32) -> Interval
+    ensures wider { Wider (λ p. p ≡ place) range result }
+    ensures low { result.start ≤ place }
+    ensures high { place ≤ result.end }
 {
-    if sought.is_in(&ops[place as usize], register) {
-        found.insert(place);
+    Interval {
+        reg: range.reg,
+        start: range.start.min(place),
+        end: range.end.max(place),
     }
 }
 
-// Adds the places of a bucket's slots whose ops have what is sought of the register.
-fn add_listed(
-    found: &mut SparseSet,
-    ops: &[Op],
-    table: &Buckets,
-    bucket: u32,
-    sought: Sought,
-    register: u32,
-)
+// Adds the blocks of the ops of a bucket's slots.
+fn add_blocks(found: &mut SparseSet, code: &Code<'_>, table: &Buckets, bucket: u32)
+    requires listed { IsListed code.now }
     requires bucket { bucket < length table.now.buckets }
-    requires places { AreOps ops.now (slice_index_or table.now.buckets bucket []) }
-    requires room { length ops.now ≤ found.old.room }
-    ensures all { HasSought ops.now sought register (slice_index_or table.now.buckets bucket [])
-        found.new.members }
-    ensures extends { Extends (SoughtIn ops.now sought register (slice_index_or table.now.buckets bucket []))
+    requires places { Each (λ slot. slot / 3 < length code.now.ops.now) (slice_index_or table.now.buckets bucket []) }
+    requires room { length code.now.ops.now ≤ found.old.room }
+    ensures all { Each (λ slot. In (block_of code.now.ops.now (slot / 3)) found.new.members)
+        (slice_index_or table.now.buckets bucket []) }
+    ensures extends { Extends (BlockIn code.now.ops.now (slice_index_or table.now.buckets bucket []))
         found.old.members found.new.members }
     ensures room { found.new.room ≡ found.old.room }
 {
     let mut at = table.first(bucket);
     while let Some(slot) = at {
-        add(found, ops, slot / 3, sought, register);
+        found.insert(code.block(slot / 3));
         at = table.next(slot);
     }
 }
 
-// Adds the place before `place`, where control falls from it and the register passes it.
-fn add_fall(found: &mut SparseSet, ops: &[Op], place: u32, register: u32)
-    requires place { place < length ops.now }
-    requires room { length ops.now ≤ found.old.room }
-    ensures all { (p : ℕ) → place ≡ p + 1 → falls (op_at ops.now p) ≡ true
-        → defines register (op_at ops.now p) ≡ false → In p found.new.members }
-    ensures extends { Extends (Passing ops.now register place) found.old.members found.new.members }
+// Takes an op after which the register is live: the range is widened by it, and its block is added, unless that defines
+// the register.
+fn take(
+    found: &mut SparseSet,
+    defining: &SparseSet,
+    code: &Code<'_>,
+    range: Interval,
+    place: u32,
+) -> Interval
+    requires listed { IsListed code.now }
+    requires place { place < length code.now.ops.now }
+    requires room { length code.now.ops.now ≤ found.old.room }
+    requires defining { length code.now.ops.now ≤ defining.now.room }
+    ensures taken { Taken code.now.ops.now defining.now.members found.new.members result place }
+    ensures grown { Grown (λ p. p ≡ place) code.now.ops.now defining.now.members range result
+        found.old.members found.new.members }
     ensures room { found.new.room ≡ found.old.room }
 {
-    if place == 0 {
-        return;
+    let block = code.block(place);
+    if !defining.contains(block) {
+        found.insert(block);
     }
-    let before = place - 1;
-    if ops[before as usize].falls() {
-        add(found, ops, before, Sought::Passage, register);
+    widened(range, place)
+}
+
+// Takes the ops that go to a label.
+fn take_jumps(
+    found: &mut SparseSet,
+    defining: &SparseSet,
+    code: &Code<'_>,
+    range: Interval,
+    label: u32,
+) -> Interval
+    requires listed { IsListed code.now }
+    requires label { label < length code.now.jumps.now.buckets }
+    requires room { length code.now.ops.now ≤ found.old.room }
+    requires defining { length code.now.ops.now ≤ defining.now.room }
+    ensures taken { Each (λ slot. Taken code.now.ops.now defining.now.members found.new.members result (slot / 3))
+        (slice_index_or code.now.jumps.now.buckets label []) }
+    ensures grown { Grown (PlaceOf (slice_index_or code.now.jumps.now.buckets label [])) code.now.ops.now
+        defining.now.members range result found.old.members found.new.members }
+    ensures room { found.new.room ≡ found.old.room }
+{
+    let mut range = range;
+    let mut at = code.jumps.first(label);
+    while let Some(slot) = at {
+        range = take(found, defining, code, range, slot / 3);
+        at = code.jumps.next(slot);
+    }
+    range
+}
+
+// Takes the op before a block, where control falls from it.
+fn take_fall(
+    found: &mut SparseSet,
+    defining: &SparseSet,
+    code: &Code<'_>,
+    range: Interval,
+    block: u32,
+) -> Interval
+    requires listed { IsListed code.now }
+    requires block { block < length code.now.ops.now }
+    requires room { length code.now.ops.now ≤ found.old.room }
+    requires defining { length code.now.ops.now ≤ defining.now.room }
+    ensures taken { (p : ℕ) → block ≡ p + 1 → falls (op_at code.now.ops.now p) ≡ true
+        → Taken code.now.ops.now defining.now.members found.new.members result p }
+    ensures grown { Grown (λ p. Follows code.now.ops.now p block) code.now.ops.now defining.now.members range result
+        found.old.members found.new.members }
+    ensures room { found.new.room ≡ found.old.room }
+{
+    if block == 0 {
+        return range;
+    }
+    let before = block - 1;
+    if code.ops[before as usize].falls() {
+        return take(found, defining, code, range, before);
+    }
+    range
+}
+
+// Takes the ops from which control goes to a block.
+fn take_before(
+    found: &mut SparseSet,
+    defining: &SparseSet,
+    code: &Code<'_>,
+    range: Interval,
+    block: u32,
+) -> Interval
+    requires listed { IsListed code.now }
+    requires block { block < length code.now.ops.now }
+    requires room { length code.now.ops.now ≤ found.old.room }
+    requires defining { length code.now.ops.now ≤ defining.now.room }
+    ensures taken { (p : ℕ) → Follows code.now.ops.now p block
+        → Taken code.now.ops.now defining.now.members found.new.members result p }
+    ensures grown { Grown (λ p. Follows code.now.ops.now p block) code.now.ops.now defining.now.members range result
+        found.old.members found.new.members }
+    ensures room { found.new.room ≡ found.old.room }
+{
+    let range = take_fall(found, defining, code, range, block);
+    match code.ops[block as usize].label() {
+        Some(label) => take_jumps(found, defining, code, range, label),
+        None => range,
     }
 }
 
-// Adds the places from which control may go to `place` and that the register passes.
-fn add_before(found: &mut SparseSet, ops: &[Op], jumps: &Buckets, place: u32, register: u32)
-    requires place { place < length ops.now }
-    requires jumps { IsTable (GoesFrom ops.now (length ops.now)) jumps.now.buckets }
-    requires labels { KnowsLabels ops.now (length jumps.now.buckets) }
-    requires room { length ops.now ≤ found.old.room }
-    ensures all { (p : ℕ) → Passing ops.now register place p → In p found.new.members }
-    ensures extends { Extends (Passing ops.now register place) found.old.members found.new.members }
+// The interval of a register, from the range of the ops that mention it.
+fn live_range(
+    found: &mut SparseSet,
+    defining: &mut SparseSet,
+    code: &Code<'_>,
+    range: Interval,
+) -> Interval
+    requires listed { IsListed code.now }
+    requires register { range.reg < length code.now.definitions.now.buckets }
+    requires range { IsSpanOf code.now.ops.now range.reg (Some range) }
+    requires room { length code.now.ops.now ≤ found.old.room }
+    requires defining { length code.now.ops.now ≤ defining.old.room }
+    ensures interval { IsIntervalOf code.now.ops.now range.reg (Some result) }
     ensures room { found.new.room ≡ found.old.room }
-{
-    add_fall(found, ops, place, register);
-    if let Some(label) = ops[place as usize].label() {
-        add_listed(found, ops, jumps, label, Sought::Passage, register);
-    }
-}
-
-// Finds the places before which the register is live.
-fn find_live(found: &mut SparseSet, ops: &[Op], mentions: &Buckets, jumps: &Buckets, register: u32)
-    requires register { register < length mentions.now.buckets }
-    requires mentions { IsTable (MentionedAt ops.now (length ops.now)) mentions.now.buckets }
-    requires jumps { IsTable (GoesFrom ops.now (length ops.now)) jumps.now.buckets }
-    requires labels { KnowsLabels ops.now (length jumps.now.buckets) }
-    requires room { length ops.now ≤ found.old.room }
-    ensures exact { (p : ℕ) → In p found.new.members ↔ Live ops.now register p }
-    ensures room { found.new.room ≡ found.old.room }
+    ensures defining { defining.new.room ≡ defining.old.room }
 {
     found.clear();
-    add_listed(found, ops, mentions, register, Sought::Use, register);
+    add_blocks(found, code, code.exposed, range.reg);
+    defining.clear();
+    add_blocks(defining, code, code.definitions, range.reg);
+    let mut range = range;
     let mut looked_at = 0;
     while looked_at < found.as_slice().len() {
-        let place = found.as_slice()[looked_at];
-        add_before(found, ops, jumps, place, register);
+        let block = found.as_slice()[looked_at];
+        range = take_before(found, defining, code, widened(range, block), block);
         looked_at += 1;
     }
+    range
 }
 
-/// Finds the places that the register is at: those before which it is live, in a backward walk from
-/// its uses, and those that define it.
-pub fn find_places(
+/// The interval of a register, if it has one. Only a register with a use that no definition in its block comes before
+/// is sought in other blocks.
+pub fn interval_of(
     found: &mut SparseSet,
-    ops: &[Op],
-    mentions: &Buckets,
-    jumps: &Buckets,
+    defining: &mut SparseSet,
+    code: &Code<'_>,
     register: u32,
-)
-    requires register { register < length mentions.now.buckets }
-    requires mentions { IsTable (MentionedAt ops.now (length ops.now)) mentions.now.buckets }
-    requires jumps { IsTable (GoesFrom ops.now (length ops.now)) jumps.now.buckets }
-    requires labels { KnowsLabels ops.now (length jumps.now.buckets) }
-    requires room { length ops.now ≤ found.old.room }
-    ensures exact { (p : ℕ) → In p found.new.members ↔ IsAt ops.now register p }
+) -> Option<Interval>
+    requires listed { IsListed code.now }
+    requires register { register < length code.now.definitions.now.buckets }
+    requires room { length code.now.ops.now ≤ found.old.room }
+    requires defining { length code.now.ops.now ≤ defining.old.room }
+    ensures interval { IsIntervalOf code.now.ops.now register result }
     ensures room { found.new.room ≡ found.old.room }
+    ensures defining { defining.new.room ≡ defining.old.room }
 {
-    find_live(found, ops, mentions, jumps, register);
-    add_listed(found, ops, mentions, register, Sought::Definition, register);
+    match code.span(register) {
+        None => None,
+        Some(range) => match code.exposed.first(register) {
+            None => Some(range),
+            Some(_) => Some(live_range(found, defining, code, range)),
+        },
+    }
 }
