@@ -1,24 +1,32 @@
 -- The second pass: what is made of the first functions of a plan grows by the next.
-use Rattle.std.proofs.Common.{◌≡◌, ℕ, zero, suc, ◌+◌, ◌<◌, ◌≤◌, List, [], ◌∷◌, ◌++◌, length, map, take}
+use Rattle.std.proofs.Common.{◌≡◌, ℕ, zero, suc, ◌+◌, ◌*◌, ◌<◌, ◌≤◌, Bool, true, false, List, [], ◌∷◌, ◌++◌}
+use Rattle.std.proofs.Common.{length, map, take, drop, append_assoc, append-nil, length-append}
 use Rattle.std.proofs.Common.{get_or, slice_index, slice_index_or, refl, sym, ap, ◌∙◌, subst, arith, add-one}
 use Rattle.std.proofs.lemmas.List.{get_or-map}
 use Rattle.word32.specs.declared.map.TheConstants.{ARENA, FUNCTIONS}
 use Rattle.image_file.specs.declared.image.FunctionEntry.{FunctionEntry}
 use Rattle.icode_ir.specs.Sound.{Each}
 use Rattle.typed_tree.specs.Nodes.{Function}
-use Rattle.tick_lower_proof.specs.Lower.{Addresses, listed}
-use Rattle.static_image.specs.Layout.{Placed, words_of, words_from, rows_of, unknown, functions_of}
+use Rattle.tick_lower_spec.specs.Lower.{Addresses, listed}
+use Rattle.static_image.specs.Layout.{Placed, words_of, words_from, rows_of, behind, unknown, functions_of}
 use Rattle.static_image.specs.Layout.{addresses_of, IsLegalChoice}
 use Rattle.static_image.specs.Served.{IsStatic, most_words, AreStatic}
 use Rattle.static_image.proofs.Anywhere.{legal_anywhere}
-use Rattle.static_image.proofs.Placing.{ends, ends_most, each_static, starts_low}
+use Rattle.static_image.proofs.Placing.{ends, ends_at, ends_most, each_static, starts_low, length_is}
 use Rattle.static_backend.specs.Scanned.{IsPlan, AreCode}
-use Rattle.static_backend.proofs.Grown.{entry, words_more, rows_more, start_at, length_starts, length_functions}
+use Rattle.static_backend.specs.Drafted.{AreDrafted, IsDraft, Rewritten}
+use Rattle.static_backend.proofs.Grown.{entry, words_more, rows_more, ends_more, start_at, length_starts}
+use Rattle.static_backend.proofs.Grown.{length_functions}
+use Rattle.static_backend.proofs.Drafts.{drafted_long}
 
--- the words and rows of functions that stand from the first address on, where calls go to these addresses
-pub record HasCode (d : Addresses) (xs : List Placed) (words : List ℕ) (rows : List FunctionEntry) : Type 0 where
-  pub words_are : words ≡ words_from d FUNCTIONS xs
-  pub rows_are : rows ≡ rows_of FUNCTIONS xs
+-- the words of the first functions, with those of the others as the first pass left them, and the rows of the first,
+-- where calls go to these addresses
+pub record HasCode (d : Addresses) (i : ℕ) (xs : List Placed) (made : List Bool) (words : List ℕ)
+    (rows : List FunctionEntry) : Type 0 where
+  pub rest : List ℕ
+  pub words_are : words ≡ words_from d FUNCTIONS (take i xs) ++ rest
+  pub rest_is : AreDrafted d (ends FUNCTIONS (take i xs)) (drop i xs) (drop i made) rest
+  pub rows_are : rows ≡ rows_of FUNCTIONS (take i xs)
 
 legal_all : (d : Addresses) (xs : List Placed) → Each (IsLegalChoice unknown) xs → Each (IsLegalChoice d) xs
 legal_all d [] h = tt
@@ -28,6 +36,58 @@ taken_more : (i : ℕ) (xs : List Placed) (x : Placed) → i < length xs → tak
 taken_more i [] x low = absurd (omega (arith, low))
 taken_more zero (y ∷ ys) x low = refl
 taken_more (suc i) (y ∷ ys) x low = ap (λ zs. y ∷ zs) (taken_more i ys x (omega (arith, low)))
+
+dropped : (i : ℕ) (xs : List Placed) (x : Placed) → i < length xs → drop i xs ≡ get_or xs i x ∷ drop (suc i) xs
+dropped i [] x low = absurd (omega (arith, low))
+dropped zero (y ∷ ys) x low = refl
+dropped (suc i) (y ∷ ys) x low = dropped i ys x (omega (arith, low))
+
+dropped_made : (i : ℕ) (ms : List Bool) (m : Bool) → i < length ms → m ≡ get_or ms i m →
+    drop i ms ≡ m ∷ drop (suc i) ms
+dropped_made i [] m low is = absurd (omega (arith, low))
+dropped_made zero (y ∷ ys) m low is = ap (λ (z : Bool). z ∷ ys) (sym is)
+dropped_made (suc i) (y ∷ ys) m low is = dropped_made i ys m (omega (arith, low)) is
+
+dropped_all : {A : Type 0} (i : ℕ) (xs : List A) → length xs ≤ i → drop i xs ≡ []
+dropped_all zero [] h = refl
+dropped_all (suc i) [] h = refl
+dropped_all zero (x ∷ xs) h = absurd (omega (arith, h))
+dropped_all (suc i) (x ∷ xs) h = dropped_all i xs (omega (arith, h))
+
+front_taken : (xs ys : List ℕ) → take (length xs) (xs ++ ys) ≡ xs
+front_taken [] ys = refl
+front_taken (x ∷ xs) ys = ap (λ (zs : List ℕ). x ∷ zs) (front_taken xs ys)
+
+front_dropped : (xs ys : List ℕ) → drop (length xs) (xs ++ ys) ≡ ys
+front_dropped [] ys = refl
+front_dropped (x ∷ xs) ys = front_dropped xs ys
+
+written : (m : Bool) (done piece rest own own' words words' : List ℕ) → words ≡ done ++ (piece ++ rest)
+    → length piece ≡ length own → own' ≡ own → (m ≡ true → piece ≡ own)
+    → Rewritten m (length done) own' words words' → words' ≡ done ++ (own ++ rest)
+written true done piece rest own own' words words' old long is same w =
+    w ∙ old ∙ ap (λ (ps : List ℕ). done ++ (ps ++ rest)) (same refl)
+written false done piece rest own own' words words' old long is same w =
+    let n = length done in
+    let tail : drop n words ≡ piece ++ rest =
+    ap (λ (ws : List ℕ). drop n ws) old ∙ front_dropped done (piece ++ rest) in
+    w ∙ ap (λ (ws : List ℕ). ws ++ (own' ++ drop (length own') (drop n words)))
+    (ap (λ (ws : List ℕ). take n ws) old ∙ front_taken done (piece ++ rest))
+    ∙ ap (λ (os : List ℕ). done ++ (os ++ drop (length os) (drop n words))) is
+    ∙ ap (λ (ws : List ℕ). done ++ (own ++ drop (length own) ws)) tail
+    ∙ ap (λ (k : ℕ). done ++ (own ++ drop k (piece ++ rest))) (sym long)
+    ∙ ap (λ (ws : List ℕ). done ++ (own ++ ws)) (front_dropped piece rest)
+
+ends_parts : (at i : ℕ) (xs : List Placed) → ends at xs ≡ ends (ends at (take i xs)) (drop i xs)
+ends_parts at zero xs = refl
+ends_parts at (suc i) [] = refl
+ends_parts at (suc i) (x ∷ xs) = ends_parts (behind at x) i xs
+
+-- an element that there is, whatever is said for one that there isn't
+read : (i : ℕ) (ms : List Bool) (m : Bool) → i < length ms → get_or ms i m ≡ get_or ms i (get_or ms i m)
+read i [] m low = absurd (omega (arith, low))
+read zero (y ∷ ys) m low = refl
+read (suc i) (y ∷ ys) m low = read i ys m (omega (arith, low))
 
 taken_all : (i : ℕ) (xs : List Placed) → length xs ≤ i → take i xs ≡ xs
 taken_all zero [] h = refl
@@ -87,41 +147,143 @@ module _ (fs : List Function) (xs : List Placed) (addresses : List ℕ) (places 
       taken_more i xs (placed_at i f) (omega (arith, within, many))
       ∙ ap (λ (y : Placed). take i xs ++ y ∷ []) (found i f within is)
 
-  pub first_code : (words : List ℕ) (rows : List FunctionEntry) → words ≡ [] → rows ≡ [] →
-      HasCode (listed addresses) (take 0 xs) words rows
-  first_code words rows w r = record { words_are = w; rows_are = r }
+  pub first_code : (made : List Bool) (words : List ℕ) (rows : List FunctionEntry) → IsDraft xs made words → rows ≡ []
+      → HasCode (listed addresses) 0 xs made words rows
+  first_code made words rows draft r =
+      record {
+        rest = words;
+        words_are = refl;
+        rest_is = subst (λ (ss : List ℕ). AreDrafted (listed ss) FUNCTIONS xs made words) (sym plan.addresses_are)
+            (subst (λ (ys : List Placed). AreDrafted (addresses_of ys) FUNCTIONS xs made words) (append-nil xs)
+            (draft []));
+        rows_are = r;
+      }
 
-  pub next_code : (i : ℕ) (f : Function) (words words' : List ℕ) (rows rows' : List FunctionEntry) → i < length fs
-      → f ≡ get_or fs i f
-      → words' ≡ words ++ words_of (listed addresses) (slice_index addresses i) (placed_at i f)
+  -- the piece of the next function, and what is behind it
+  abbrev pub Piece : (i : ℕ) (x : Placed) (m : Bool) (made : List Bool) (rest : List ℕ) → Type 0
+  Piece i x m made rest = AreDrafted (listed addresses) (ends FUNCTIONS (take i xs)) (x ∷ drop (suc i) xs)
+      (m ∷ drop (suc i) made) rest
+
+  piece_of : (i : ℕ) (f : Function) (m : Bool) (made : List Bool) (words : List ℕ) (rows : List FunctionEntry)
+      → i < length fs → f ≡ get_or fs i f → i < length made → m ≡ get_or made i m
+      → (code : HasCode (listed addresses) i xs made words rows) → Piece i (placed_at i f) m made code.rest
+  piece_of i f m made words rows within is low m_is code =
+      let x = placed_at i f in
+      let d = listed addresses in
+      let at = ends FUNCTIONS (take i xs) in
+      let one : drop i xs ≡ x ∷ drop (suc i) xs =
+      dropped i xs x (omega (arith, within, many)) ∙ ap (λ (y : Placed). y ∷ drop (suc i) xs) (found i f within is) in
+      subst (λ (ms : List Bool). AreDrafted d at (x ∷ drop (suc i) xs) ms code.rest)
+      (dropped_made i made m low m_is)
+      (subst (λ (ys : List Placed). AreDrafted d at ys (drop i made) code.rest) one code.rest_is)
+
+  module _ (i : ℕ) (f : Function) (made : List Bool) (words : List ℕ) (rows : List FunctionEntry)
+      (within : i < length fs) (is : f ≡ get_or fs i f) (counted : length made ≡ length xs)
+      (code : HasCode (listed addresses) i xs made words rows) where
+    -- where the next function's words begin, counted in words
+    abbrev pub first : ℕ
+    first = length (words_from (listed addresses) FUNCTIONS (take i xs))
+
+    pub first_is : slice_index addresses i ≡ FUNCTIONS + 4 * first
+    first_is =
+        ap (λ (ss : List ℕ). slice_index ss i) plan.addresses_are
+        ∙ start_at FUNCTIONS xs i (omega (arith, within, many)) ∙ ends_at (listed addresses) FUNCTIONS (take i xs)
+
+    pub within_made : i < length made
+    within_made = omega (arith, within, many, counted)
+
+    abbrev pub flag : Bool
+    flag = slice_index_or made i true
+
+    next_piece : Piece i (placed_at i f) flag made code.rest
+    next_piece = piece_of i f flag made words rows within is within_made (read i made true within_made) code
+
+    -- there is room for them
+    pub room : first + length (words_of (listed addresses) (slice_index addresses i) (placed_at i f)) ≤ length words
+    room =
+        let p = next_piece in
+        let d = listed addresses in
+        omega (
+          arith,
+          ap length code.words_are,
+          length-append (words_from d FUNCTIONS (take i xs)) code.rest,
+          ap length p.2,
+          length-append p.0 p.1,
+          p.3,
+          length_is d (slice_index addresses i) (placed_at i f),
+        )
+
+    -- all words are low
+    pub words_low : AreStatic fs → FUNCTIONS + 4 * length words ≤ ARENA
+    words_low static =
+        let all = each_static fs xs (subst (Each (IsStatic fs)) (sym functions_are) static.each) in
+        let d = listed addresses in
+        let front = take i xs in
+        omega (
+          arith,
+          ap length code.words_are,
+          length-append (words_from d FUNCTIONS front) code.rest,
+          ends_at d FUNCTIONS front,
+          drafted_long d (ends FUNCTIONS front) (drop i xs) (drop i made) code.rest code.rest_is,
+          ends_parts FUNCTIONS i xs,
+          ends_most fs FUNCTIONS xs all,
+          ap most_words functions_are,
+          static.room,
+        )
+
+  pub next_code : (i : ℕ) (f : Function) (made : List Bool) (words words' : List ℕ) (rows rows' : List FunctionEntry)
+      → i < length fs → f ≡ get_or fs i f → length made ≡ length xs
+      → Rewritten (slice_index_or made i true) (length (words_from (listed addresses) FUNCTIONS (take i xs)))
+      (words_of (listed addresses) (slice_index addresses i) (placed_at i f)) words words'
       → rows' ≡ rows ++ entry (slice_index addresses i) f.parameters ∷ []
-      → HasCode (listed addresses) (take i xs) words rows → HasCode (listed addresses) (take (i + 1) xs) words' rows'
-  next_code i f words words' rows rows' within is w r code =
+      → HasCode (listed addresses) i xs made words rows → HasCode (listed addresses) (i + 1) xs made words' rows'
+  next_code i f made words words' rows rows' within is counted w r code =
+      let m = slice_index_or made i true in
+      let low : i < length made = omega (arith, within, many, counted) in
+      let m_is = read i made true low in
       let x = placed_at i f in
       let d = listed addresses in
       let front = take i xs in
+      let done = words_from d FUNCTIONS front in
       let inside : i < length xs = omega (arith, within, many) in
       let at : slice_index addresses i ≡ ends FUNCTIONS front =
       ap (λ (ss : List ℕ). slice_index ss i) plan.addresses_are ∙ start_at FUNCTIONS xs i inside in
-      let made : HasCode d (front ++ x ∷ []) words' rows' = record {
-        words_are = w ∙ ap (λ ws. ws ++ words_of d (slice_index addresses i) x) code.words_are
-            ∙ ap (λ a. words_from d FUNCTIONS front ++ words_of d a x) at ∙ sym (words_more d FUNCTIONS front x);
+      let own = words_of d (ends FUNCTIONS front) x in
+      let p = piece_of i f m made words rows within is low m_is code in
+      let own_is : words_of d (slice_index addresses i) x ≡ own = ap (λ (a : ℕ). words_of d a x) at in
+      let long : length p.0 ≡ length own = p.3 ∙ sym (length_is d (ends FUNCTIONS front) x) in
+      let old : words ≡ done ++ (p.0 ++ p.1) = code.words_are ∙ ap (λ (ws : List ℕ). done ++ ws) p.2 in
+      let new : words' ≡ done ++ (own ++ p.1) =
+      written m done p.0 p.1 own (words_of d (slice_index addresses i) x) words words' old long own_is
+      (λ made_so. p.4 made_so) w in
+      let more = front_more i f within is in
+      subst (λ n. HasCode d n xs made words' rows') (sym (add-one i)) (record {
+        rest = p.1;
+        words_are = new ∙ sym (append_assoc done own p.1)
+            ∙ ap (λ (ws : List ℕ). ws ++ p.1)
+            (sym (words_more d FUNCTIONS front x) ∙ ap (λ (ys : List Placed). words_from d FUNCTIONS ys) (sym more));
+        rest_is = subst (λ (a : ℕ). AreDrafted d a (drop (suc i) xs) (drop (suc i) made) p.1)
+            (sym (ends_more FUNCTIONS front x) ∙ ap (λ (ys : List Placed). ends FUNCTIONS ys) (sym more)) p.5;
         rows_are = r ∙ ap (λ rs. rs ++ entry (slice_index addresses i) f.parameters ∷ []) code.rows_are
-            ∙ ap (λ a. rows_of FUNCTIONS front ++ entry a f.parameters ∷ []) at ∙ sym (rows_more FUNCTIONS front x);
-      } in
-      subst (λ n. HasCode d (take n xs) words' rows') (sym (add-one i))
-      (subst (λ ys. HasCode d ys words' rows') (sym (front_more i f within is)) made)
+            ∙ ap (λ a. rows_of FUNCTIONS front ++ entry a f.parameters ∷ []) at ∙ sym (rows_more FUNCTIONS front x)
+            ∙ ap (λ (ys : List Placed). rows_of FUNCTIONS ys) (sym more);
+      })
 
-  pub last_code : (i : ℕ) (words : List ℕ) (rows : List FunctionEntry) → length fs ≤ i →
-      HasCode (listed addresses) (take i xs) words rows → AreCode fs words rows
-  last_code i words rows past code =
+  pub last_code : (i : ℕ) (made : List Bool) (words : List ℕ) (rows : List FunctionEntry) → length fs ≤ i →
+      HasCode (listed addresses) i xs made words rows → AreCode fs words rows
+  last_code i made words rows past code =
       let all = taken_all i xs (omega (arith, past, many)) in
+      let none = dropped_all i xs (omega (arith, past, many)) in
       let d = listed addresses in
+      let front = words_from d FUNCTIONS (take i xs) in
+      let at = ends FUNCTIONS (take i xs) in
+      let ended : code.rest ≡ [] =
+      subst (λ (ys : List Placed). AreDrafted d at ys (drop i made) code.rest) none code.rest_is in
       record {
         placed = xs;
         each = plan.each;
         choice = record { same = functions_are; legal = legal_all (addresses_of xs) xs plan.legal };
-        words_are = code.words_are ∙ ap (words_from d FUNCTIONS) all
-            ∙ ap (λ ss. words_from (listed ss) FUNCTIONS xs) plan.addresses_are;
+        words_are = code.words_are ∙ ap (λ (ws : List ℕ). front ++ ws) ended ∙ append-nil front
+            ∙ ap (words_from d FUNCTIONS) all ∙ ap (λ ss. words_from (listed ss) FUNCTIONS xs) plan.addresses_are;
         rows_are = code.rows_are ∙ ap (rows_of FUNCTIONS) all;
       }

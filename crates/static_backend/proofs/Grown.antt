@@ -2,7 +2,7 @@
 use Rattle.std.proofs.Common.{◌≡◌, ℕ, zero, suc, ◌<◌, List, [], ◌∷◌, ◌++◌, length, map, take}
 use Rattle.std.proofs.Common.{refl, sym, ap, ◌∙◌, arith, append_assoc, append-nil, slice_index}
 use Rattle.image_file.specs.declared.image.FunctionEntry.{FunctionEntry}
-use Rattle.tick_lower_proof.specs.Lower.{Addresses}
+use Rattle.tick_lower_spec.specs.Lower.{Addresses}
 use Rattle.static_image.specs.Layout.{Placed, words_of, behind, starts, rows_of, words_from, functions_of}
 use Rattle.static_image.proofs.Placing.{ends}
 

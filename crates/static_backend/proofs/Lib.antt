@@ -1,6 +1,8 @@
 pub mod Slices
 pub mod Results
 pub mod Grown
+pub mod Known
+pub mod Drafts
 pub mod Loops
 pub mod Planned
 pub mod Coded

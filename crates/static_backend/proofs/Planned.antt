@@ -1,6 +1,6 @@
 -- The first pass: a plan grows by the next function, and what it has stays low.
-use Rattle.std.proofs.Common.{◌≡◌, ℕ, ◌+◌, ◌*◌, ◌%◌, ◌≤◌, false, List, [], ◌∷◌, ◌++◌, length, sym, ap, ◌∙◌}
-use Rattle.std.proofs.Common.{arith, length-append}
+use Rattle.std.proofs.Common.{◌≡◌, ℕ, ◌+◌, ◌-◌, ◌*◌, ◌%◌, ◌≤◌, Bool, false, List, [], ◌∷◌, ◌++◌, length, sym, ap, ◌∙◌}
+use Rattle.std.proofs.Common.{arith, subst, length-append}
 use Rattle.word32.specs.declared.map.TheConstants.{ARENA, FUNCTIONS}
 use Rattle.icode_ops.specs.declared.op.Op.{Op}
 use Rattle.icode_ir.specs.Sound.{Each}
@@ -13,7 +13,11 @@ use Rattle.static_image.specs.Layout.{Placed, ops_of, words_of, words_from, star
 use Rattle.static_image.specs.Layout.{IsLegalChoice}
 use Rattle.static_image.specs.Served.{IsStatic, most_words, AreStatic}
 use Rattle.static_image.proofs.Placing.{ends, ends_at, ends_most, each_static, length_is, few_words}
+use Rattle.tick_lower_spec.specs.Lower.{Addresses, listed}
+use Rattle.static_backend.specs.Calls.{calls_unknown}
 use Rattle.static_backend.specs.Scanned.{IsScan, IsPlan}
+use Rattle.static_backend.specs.Drafted.{IsPiece, IsDraft}
+use Rattle.static_backend.proofs.Drafts.{draft_more}
 use Rattle.static_backend.proofs.Grown.{places_more, starts_more, words_more}
 
 pub first_plan : (addresses : List ℕ) (places : List (List ℕ)) → addresses ≡ [] → places ≡ [] →
@@ -45,16 +49,66 @@ plan_more xs x addresses addresses' places places' end end' n scan legal long a 
       end_is = omega (arith, e, long, plan.end_is, whole, both, one, same);
     }
 
--- what was counted of a function is as many words as it has where it is to stand
-pub as_long : (x : Placed) (at n : ℕ) (places : List ℕ) (ops : List Op)
-    → n ≡ length (expanded ops places at (charge_of (size_of x.function)) x.function.object false)
-    → ops ≡ ops_of unknown x → places ≡ x.places → n ≡ length (words_of unknown at x)
-as_long x at n places ops many op place =
-    let charge = charge_of (size_of x.function) in
+-- the words of a function, or room for them, are as many as it has where no address is known
+pub as_long : (x : Placed) (at : ℕ) (d : Addresses) (m : Bool) (words words' : List ℕ)
+    → IsPiece (calls_unknown (ops_of d x)) (words_of d at x) m words words'
+    → length words' - length words ≡ length (words_of unknown at x)
+as_long x at d m words words' p =
+    omega (
+      arith,
+      ap length p.added,
+      length-append words p.piece,
+      p.as_long,
+      length_is d at x,
+      length_is unknown at x,
+    )
+
+pub next_draft : (xs : List Placed) (x : Placed) (addresses addresses' : List ℕ) (places places' : List (List ℕ))
+    (made made' : List Bool) (m : Bool) (words words' : List ℕ) (end end' : ℕ) → IsScan x → IsLegalChoice unknown x
+    → addresses' ≡ addresses ++ end ∷ [] → places' ≡ places ++ x.places ∷ [] → made' ≡ made ++ m ∷ []
+    → IsPiece (calls_unknown (ops_of (listed addresses') x)) (words_of (listed addresses') end x) m words words'
+    → end' ≡ end + 4 * (length words' - length words)
+    → IsPlan xs addresses places end → IsDraft xs made words → length made ≡ length xs
+    → IsPlan (xs ++ x ∷ []) addresses' places' end' × IsDraft (xs ++ x ∷ []) made' words'
+    × (length made' ≡ length (xs ++ x ∷ []))
+next_draft xs x addresses addresses' places places' made made' m words words' end end' scan legal a p k piece e plan
+    draft many =
+    let d = listed addresses' in
+    let next = plan_more xs x addresses addresses' places places' end end' (length words' - length words) scan legal
+    (as_long x end d m words words' piece) a p e plan in (
+      next,
+      draft_more xs x made made' m words words' end addresses' many (end_at xs addresses places end plan)
+          next.addresses_are k piece draft,
+      omega (
+        arith,
+        ap length k,
+        length-append made (m ∷ []),
+        length-append xs (x ∷ []),
+        many,
+      ),
+    )
+
+-- what is said of a list of ops is said of a function's
+pub piece_of : (x : Placed) (at frame : ℕ) (d : Addresses) (ops : List Op) (m : Bool) (words words' : List ℕ)
+    → ops ≡ ops_of d x → frame ≡ charge_of (size_of x.function)
+    → IsPiece (calls_unknown ops) (expanded ops x.places at frame x.function.object false) m words words'
+    → IsPiece (calls_unknown (ops_of d x)) (words_of d at x) m words words'
+piece_of x at frame d ops m words words' op charge p =
+    subst (λ (os : List Op). IsPiece (calls_unknown os)
+    (expanded os x.places at (charge_of (size_of x.function)) x.function.object false) m words words') op
+    (subst (λ (n : ℕ). IsPiece (calls_unknown ops) (expanded ops x.places at n x.function.object false) m words words')
+    charge p)
+
+-- a function's words, from what they are made of
+pub words_are : (x : Placed) (d : Addresses) (at at' frame : ℕ) (ops : List Op) (places : List ℕ) → ops ≡ ops_of d x
+    → places ≡ x.places → at ≡ at' → frame ≡ charge_of (size_of x.function)
+    → expanded ops places at frame x.function.object false ≡ words_of d at' x
+words_are x d at at' frame ops places op place here charge =
     let object = x.function.object in
-    many ∙ ap length
-    (ap (λ (os : List Op). expanded os places at charge object false) op
-    ∙ ap (λ (ps : List ℕ). expanded (ops_of unknown x) ps at charge object false) place)
+    ap (λ (os : List Op). expanded os places at frame object false) op
+    ∙ ap (λ (ps : List ℕ). expanded (ops_of d x) ps at frame object false) place
+    ∙ ap (λ (a : ℕ). expanded (ops_of d x) x.places a frame object false) here
+    ∙ ap (λ (n : ℕ). expanded (ops_of d x) x.places at' n object false) charge
 
 -- ---- the end
 
@@ -71,6 +125,14 @@ low fs xs addresses places end static each few plan =
     omega (arith, end_at xs addresses places end plan, most, few, static.room)
 
 -- a function's words are few
-pub few : (fs : List Function) (x : Placed) (at n : ℕ) → IsStatic fs x.function → n ≡ length (words_of unknown at x) →
-    n ≤ CHARGE_LIMIT
-few fs x at n static long = omega (arith, long, length_is unknown at x, few_words fs x static, static.ready.ready.small)
+pub few : (fs : List Function) (x : Placed) (at : ℕ) (d : Addresses) → IsStatic fs x.function →
+    length (words_of d at x) ≤ CHARGE_LIMIT
+few fs x at d static = omega (arith, length_is d at x, few_words fs x static, static.ready.ready.small)
+
+pub few_of : (fs : List Function) (x : Placed) (at frame : ℕ) (d : Addresses) (ops : List Op) → IsStatic fs x.function
+    → ops ≡ ops_of d x → frame ≡ charge_of (size_of x.function)
+    → length (expanded ops x.places at frame x.function.object false) ≤ CHARGE_LIMIT
+few_of fs x at frame d ops static op charge =
+    subst (λ (os : List Op). length (expanded os x.places at frame x.function.object false) ≤ CHARGE_LIMIT) (sym op)
+    (subst (λ (n : ℕ). length (expanded (ops_of d x) x.places at n x.function.object false) ≤ CHARGE_LIMIT)
+    (sym charge) (few fs x at d static))

@@ -1,2 +1,4 @@
+pub mod Calls
 pub mod Scanned
+pub mod Drafted
 pub mod Plans

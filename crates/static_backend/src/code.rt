@@ -1,22 +1,19 @@
-//! The ops of a function, and the words that they become.
+//! The ops of a function, and how much of the stack it takes.
 
-ghost use Rattle.std.specs.Prelude.{◌≡◌, ℕ, ◌≤◌, false, List, IfOk, OnOk, length};
-ghost use Rattle.icode_expand.specs.Expansion.{expanded};
-ghost use Rattle.icode_ir.specs.Build.{empty, finished};
+ghost use Rattle.std.specs.Prelude.{◌≡◌, ◌≤◌, List, OnOk};
+ghost use Rattle.icode_ir.specs.Build.{empty};
 ghost use Rattle.icode_ir.specs.Runs.{run_ops};
 ghost use Rattle.icode_ir.specs.declared.builder.Phase.TheVariants.{Finished};
-ghost use Rattle.limits.specs.declared.ops.TheConstants.{OP_LIMIT as LABELS};
 ghost use Rattle.staged_meaning.specs.Scope.{IsReadyIn};
 ghost use Rattle.staged_meaning.specs.Size.{size_of, charge_of};
-ghost use Rattle.tick_lower_proof.specs.Lower.{listed, function_ops};
+ghost use Rattle.static_backend.specs.Calls as calls;
+ghost use Rattle.tick_lower_spec.specs.Lower.{listed, function_ops};
 ghost use Rattle.typed_tree.specs.Nodes as node;
 ghost use Rattle.typed_tree.specs.View.{function_view};
-ghost use Rattle.word32.specs.declared.map.TheConstants.{ARENA};
+ghost use Rattle.word32.specs.declared.map.TheConstants.{STACK_BYTES};
 
-use crate::text::function_words;
-use icode_expand::expanded_length;
 use icode_ir::Builder;
-use icode_ops::CallAddress;
+use icode_ops::{CallAddress, Op};
 use limits::run::{STACK_OF_A_CALL, STACK_OF_A_NODE};
 use std::alloc::{AllocError, Global};
 use tick_lower::{lower, size};
@@ -47,42 +44,28 @@ pub fn build_ops(
     }
 }
 
-/// How many words a function has under these places, wherever it stands, where a finished builder has its ops.
-pub fn built_length(builder: &Builder, function: &Function, places: &[u8]) -> usize
-    requires finished { builder.now.phase ≡ Finished }
-    requires ready { (functions : List node.Function) × IsReadyIn functions (function_view function.now) }
-    ensures { (at : ℕ) → result ≡ length (expanded (finished builder.now.build) places.now at
-        (charge_of (size_of (function_view function.now))) function.now.object false) }
+/// How many bytes a function takes from the stack.
+pub fn charge(function: &Function) -> u32
+    requires { (functions : List node.Function) × IsReadyIn functions (function_view function.now) }
+    ensures charge { result ≡ charge_of (size_of (function_view function.now)) }
+    ensures most { result ≤ STACK_BYTES }
 {
-    let bytes = STACK_OF_A_CALL + STACK_OF_A_NODE * size(function);
-    expanded_length(builder.ops(), places, bytes, function.object, false)
+    STACK_OF_A_CALL + STACK_OF_A_NODE * size(function)
 }
 
-/// The words of a function from an address on, under these places, where a finished builder has its ops. `labels` has
-/// room for the labels' addresses. The only error is want of memory.
-pub fn built_words(
-    alloc: Global,
-    labels: &mut [u32],
-    builder: &Builder,
-    function: &Function,
-    places: &[u8],
-    at: u32,
-) -> Result<Vec<u32>, AllocError>
-    requires labels { length labels.old ≡ LABELS }
-    requires finished { builder.now.phase ≡ Finished }
-    requires ready { (functions : List node.Function) × IsReadyIn functions (function_view function.now) }
-    requires low { at ≤ ARENA }
-    ensures { IfOk result (λ made. made.items ≡ expanded (finished builder.now.build) places.now at
-        (charge_of (size_of (function_view function.now))) function.now.object false) }
+// Whether an op is a call of a function whose address isn't known yet.
+fn goes_nowhere(op: Op) -> bool
+    ensures { result ≡ calls.goes_nowhere op }
 {
-    let frame = STACK_OF_A_CALL + STACK_OF_A_NODE * size(function);
-    function_words(
-        alloc,
-        labels,
-        builder.ops(),
-        places,
-        at,
-        frame,
-        function.object,
-    )
+    match op {
+        Op::Call { address } => address.get() == 0,
+        _ => false,
+    }
+}
+
+/// Whether the ops call a function whose address isn't known yet.
+pub fn calls_unknown(ops: &[Op]) -> bool
+    ensures { result ≡ calls.calls_unknown ops.now }
+{
+    ops.iter().any(|op| goes_nowhere(*op))
 }

@@ -1,27 +1,28 @@
-//! The words of a program's functions, one behind another, in two passes: the first finds where each is to stand, the
-//! second makes their words, whose calls go there.
+//! The words of a program's functions, one behind another, in two passes: the first finds where each stands, and makes
+//! the words of each that calls none behind it; the second makes those of the others.
 
-ghost use Rattle.std.specs.Prelude.{◌≡◌, ℕ, ◌<◌, ◌≤◌, [], ◌∷◌, ◌++◌, IfOk, OnOk, List, length, map};
-ghost use Rattle.std.specs.Prelude.{slice_index, slice_index_or};
+ghost use Rattle.std.specs.Prelude.{◌≡◌, ℕ, true, false, ◌+◌, ◌*◌, ◌<◌, ◌≤◌, [], ◌∷◌, ◌++◌, IfOk, OnOk, List};
+ghost use Rattle.std.specs.Prelude.{length, map, slice_index, slice_index_or};
 ghost use Rattle.limits.specs.declared.ops.TheConstants.{OP_LIMIT as LABELS};
 ghost use Rattle.staged_meaning.specs.Scope.{IsReadyIn};
 ghost use Rattle.static_backend.specs.Scanned.{AreCode};
-ghost use Rattle.static_backend.specs.Plans.{IsPlanOf, places_in};
-ghost use Rattle.static_image.specs.Layout.{Placed, functions_of, words_of};
+ghost use Rattle.static_backend.specs.Drafted.{Rewritten};
+ghost use Rattle.static_backend.specs.Plans.{IsDraftOf, BeginAt, own_words};
+ghost use Rattle.static_image.specs.Layout.{Placed, functions_of};
 ghost use Rattle.static_image.specs.Served.{AreStatic};
-ghost use Rattle.tick_lower_proof.specs.Lower.{listed};
 ghost use Rattle.typed_tree.specs.Nodes as node;
 ghost use Rattle.typed_tree.specs.View.{function_view};
 ghost use Rattle.word32.specs.declared.map.TheConstants.{ARENA};
 
-use crate::code::{build_ops, built_words};
-use crate::plan::{Plan, planned};
+use crate::code::{build_ops, charge};
+use crate::plan::{Draft, Plan, planned};
 use crate::tables::Tables;
-use crate::text::zeros;
+use crate::text::{write_words, zeros};
 use image_file::FunctionEntry;
 use limits::ops::OP_LIMIT;
 use std::alloc::{AllocError, Global};
 use typed_tree::Function;
+use word32::map::FUNCTIONS;
 
 /// The words of functions one behind another, and their rows.
 #[derive(Drop)]
@@ -32,8 +33,66 @@ pub struct Code {
     pub rows: Vec<FunctionEntry>,
 }
 
+// Writes the words of the function of this index, counted from 0, where it stands.
+fn rewrite(
+    alloc: Global,
+    tables: &mut Tables,
+    labels: &mut [u32],
+    plan: &Plan,
+    index: usize,
+    function: &Function,
+    words: &mut Vec<u32>,
+) -> Result<(), AllocError>
+    requires labels { length labels.old ≡ LABELS }
+    requires ready { (functions : List node.Function) × IsReadyIn functions (function_view function.now) }
+    requires started { index < length plan.now.starts.items }
+    requires placed { index < length plan.now.places.items }
+    requires low { FUNCTIONS + 4 * length words.old.items ≤ ARENA }
+    requires room { (first : ℕ) × BeginAt plan.now index (function_view function.now) words.old.items first }
+    ensures { OnOk result ((first : ℕ) → BeginAt plan.now index (function_view function.now) words.old.items first →
+        Rewritten false first (own_words plan.now index (function_view function.now)) words.old.items words.new.items) }
+{
+    let at = plan.starts[index].get();
+    let places = &plan.places[index];
+    build_ops(alloc, &mut tables.builder, &plan.starts, function)?;
+    let frame = charge(function);
+    let first = ((at - FUNCTIONS) / 4) as usize;
+    let ops = tables.builder.ops();
+    let out = words.slice_mut(first..);
+    write_words(labels, ops, places, at, frame, function.object, out);
+    Ok(())
+}
+
+// The words of the function of this index, counted from 0, where they weren't made in the first pass.
+fn write_rest(
+    alloc: Global,
+    tables: &mut Tables,
+    labels: &mut [u32],
+    plan: &Plan,
+    index: usize,
+    function: &Function,
+    words: &mut Vec<u32>,
+) -> Result<(), AllocError>
+    requires labels { length labels.old ≡ LABELS }
+    requires ready { (functions : List node.Function) × IsReadyIn functions (function_view function.now) }
+    requires started { index < length plan.now.starts.items }
+    requires placed { index < length plan.now.places.items }
+    requires counted { index < length plan.now.made.items }
+    requires low { FUNCTIONS + 4 * length words.old.items ≤ ARENA }
+    requires room { (first : ℕ) × BeginAt plan.now index (function_view function.now) words.old.items first }
+    ensures { OnOk result ((first : ℕ) → BeginAt plan.now index (function_view function.now) words.old.items first →
+        Rewritten (slice_index_or plan.now.made.items index true) first
+        (own_words plan.now index (function_view function.now)) words.old.items words.new.items) }
+{
+    if plan.made[index] {
+        Ok(())
+    } else {
+        rewrite(alloc, tables, labels, plan, index, function, words)
+    }
+}
+
 // The words and the row of the function of this index, counted from 0, by a plan of all functions.
-fn append(
+fn finish(
     alloc: Global,
     tables: &mut Tables,
     labels: &mut [u32],
@@ -46,49 +105,55 @@ fn append(
     requires ready { (functions : List node.Function) × IsReadyIn functions (function_view function.now) }
     requires started { index < length plan.now.starts.items }
     requires placed { index < length plan.now.places.items }
-    requires low { slice_index plan.now.starts.items index ≤ ARENA }
-    ensures words { OnOk result (code.new.words.items ≡ code.old.words.items ++
-        words_of (listed plan.now.starts.items) (slice_index plan.now.starts.items index) (record {
-          function = function_view function.now;
-          places = slice_index_or (places_in plan.now) index [];
-        })) }
+    requires counted { index < length plan.now.made.items }
+    requires low { FUNCTIONS + 4 * length code.old.words.items ≤ ARENA }
+    requires room { (first : ℕ) × BeginAt plan.now index (function_view function.now) code.old.words.items first }
+    ensures words { OnOk result ((first : ℕ) →
+        BeginAt plan.now index (function_view function.now) code.old.words.items first →
+        Rewritten (slice_index_or plan.now.made.items index true) first
+        (own_words plan.now index (function_view function.now)) code.old.words.items code.new.words.items) }
     ensures rows { OnOk result (code.new.rows.items ≡ code.old.rows.items ++ record {
       address = slice_index plan.now.starts.items index;
       count = function.now.params;
     } ∷ []) }
 {
-    let at = plan.starts[index].get();
-    let places = &plan.places[index];
-    build_ops(alloc, &mut tables.builder, &plan.starts, function)?;
-    let words = built_words(alloc, labels, &tables.builder, function, places, at)?;
-    code.words.extend_from_slice(&words)?;
+    write_rest(
+        alloc,
+        tables,
+        labels,
+        plan,
+        index,
+        function,
+        &mut code.words,
+    )?;
     code.rows.push(FunctionEntry {
-        address: at,
+        address: plan.starts[index].get(),
         count: function.params,
     })?;
     Ok(())
 }
 
-// The second pass: the words of all functions, whose calls go where these are to stand.
-fn append_all(
+// The second pass: the words that call functions behind, and the rows.
+fn finish_all(
     alloc: Global,
     tables: &mut Tables,
     labels: &mut [u32],
     functions: &[Function],
     plan: &Plan,
+    words: Vec<u32>,
 ) -> Result<Code, AllocError>
     requires labels { length labels.old ≡ LABELS }
     requires functions { AreStatic (map function_view functions.now) }
     requires planned { (placed : List Placed) × (functions_of placed ≡ map function_view functions.now) ×
-        IsPlanOf placed plan.now }
+        IsDraftOf placed (record { plan = plan.now; words = words }) }
     ensures { IfOk result (λ code. AreCode (map function_view functions.now) code.words.items code.rows.items) }
 {
     let mut code = Code {
-        words: Vec::new(alloc),
+        words,
         rows: Vec::new(alloc),
     };
     for (i, function) in functions.iter().enumerate() {
-        append(alloc, tables, labels, plan, i, function, &mut code)?;
+        finish(alloc, tables, labels, plan, i, function, &mut code)?;
     }
     Ok(code)
 }
@@ -99,7 +164,7 @@ pub fn functions_code(alloc: Global, functions: &[Function]) -> Result<Code, All
     ensures { IfOk result (λ code. AreCode (map function_view functions.now) code.words.items code.rows.items) }
 {
     let mut tables = Tables::new(alloc)?;
-    let plan = planned(alloc, &mut tables, functions)?;
     let mut labels = zeros(alloc, OP_LIMIT)?;
-    append_all(alloc, &mut tables, &mut labels, functions, &plan)
+    let Draft { plan, words } = planned(alloc, &mut tables, &mut labels, functions)?;
+    finish_all(alloc, &mut tables, &mut labels, functions, &plan, words)
 }

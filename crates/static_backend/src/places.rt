@@ -1,6 +1,6 @@
 //! The places of the registers of a list of ops.
 
-ghost use Rattle.std.specs.Prelude.{◌≡◌, ◌≤◌, IfOk, List, length};
+ghost use Rattle.std.specs.Prelude.{◌≡◌, ◌≤◌, IfOk, OnOk, List, length};
 ghost use Rattle.icode_ops.specs.Finished.{IsFinished};
 ghost use Rattle.icode_ops.specs.Live.{AreIntervals};
 ghost use Rattle.icode_ops.specs.Places.{IsLegal};
@@ -13,17 +13,20 @@ use linear_scan::{SLOT, Scanner};
 use linear_scan_spec::intervals_are_scannable;
 use std::alloc::{AllocError, Global};
 
-// Room for so many intervals.
-fn intervals_room(alloc: Global, count: u32) -> Result<Vec<Interval>, AllocError>
-    ensures { IfOk result (λ made. length made.items ≡ count) }
+// Makes room for so many intervals, where there is less.
+fn make_room(out: &mut Vec<Interval>, count: u32) -> Result<(), AllocError>
+    ensures { OnOk result (count ≤ length out.new.items) }
 {
     let none = Interval {
         reg: 0,
         start: 0,
         end: 0,
     };
-    let made = vec![in alloc; none; count as usize]?;
-    Ok(made)
+    if out.len() < count as usize {
+        out.resize(count as usize, none)
+    } else {
+        Ok(())
+    }
 }
 
 // Room for so many places.
@@ -52,11 +55,13 @@ fn scan_places(
     scanner.scan(&out[..count], places);
 }
 
-/// The places that linear scan gives to the registers of a finished list of ops. The only error is want of memory.
+/// The places that linear scan gives to the registers of a finished list of ops. `out` is for their intervals, and keeps
+/// its room for the next list. The only error is want of memory.
 pub fn scanned_places(
     alloc: Global,
     live: &mut Live,
     scanner: &mut Scanner,
+    out: &mut Vec<Interval>,
     ops: &[Op],
     registers: u32,
 ) -> Result<Vec<u8>, AllocError>
@@ -64,8 +69,8 @@ pub fn scanned_places(
     ensures scanned { IfOk result (λ made. (xs : List SpecInterval) × AreIntervals ops.now xs × (made.items ≡ places_of registers xs)) }
     ensures legal { IfOk result (λ made. IsLegal ops.now registers made.items) }
 {
-    let mut out = intervals_room(alloc, registers)?;
+    make_room(out, registers)?;
     let mut made = places_room(alloc, registers)?;
-    scan_places(live, scanner, ops, &mut out, &mut made);
+    scan_places(live, scanner, ops, out, &mut made);
     Ok(made)
 }

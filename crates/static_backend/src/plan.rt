@@ -1,46 +1,86 @@
-//! The first pass over a program's functions: the places of their registers, and where they are to stand. No address is
-//! known yet, so calls go nowhere, which changes neither places nor lengths; and no words are made, but counted.
+//! The first pass over a program's functions: the places of their registers, where they stand, and the words of each
+//! that calls none but itself and those in front of it. The words of another aren't made yet, but counted: an address
+//! that isn't known yet changes neither places nor lengths.
 
-ghost use Rattle.std.specs.Prelude.{◌≡◌, ℕ, ◌+◌, ◌*◌, ◌%◌, ◌≤◌, [], ◌∷◌, ◌++◌, IfOk, OnOk, List, map};
+ghost use Rattle.std.specs.Prelude.{◌≡◌, ℕ, false, ◌+◌, ◌*◌, ◌%◌, ◌≤◌, [], ◌∷◌, ◌++◌, IfOk, OnOk, List, length, map};
+ghost use Rattle.icode_expand.specs.Expansion.{expanded};
 ghost use Rattle.icode_ir.specs.Build.{empty};
 ghost use Rattle.icode_ir.specs.Runs.{run_ops};
 ghost use Rattle.icode_ir.specs.declared.builder.Phase.TheVariants.{Finished};
+ghost use Rattle.icode_ops.specs.Finished.{IsFinished};
+ghost use Rattle.limits.specs.declared.ops.TheConstants.{OP_LIMIT as LABELS};
 ghost use Rattle.limits.specs.declared.program.TheConstants.{CHARGE_LIMIT};
 ghost use Rattle.staged_meaning.specs.Scope.{IsReadyIn};
+ghost use Rattle.static_backend.specs.Calls as calls;
 ghost use Rattle.static_backend.specs.Scanned.{IsScan};
-ghost use Rattle.static_backend.specs.Plans.{IsPlanOf};
+ghost use Rattle.static_backend.specs.Drafted.{IsPiece};
+ghost use Rattle.static_backend.specs.Plans.{IsPlanOf, IsDraftOf};
 ghost use Rattle.static_image.specs.Layout.{Placed, IsLegalChoice, functions_of, unknown};
 ghost use Rattle.static_image.specs.Served.{IsStatic, AreStatic};
-ghost use Rattle.tick_lower_proof.specs.Lower.{function_ops};
+ghost use Rattle.tick_lower_spec.specs.Lower.{listed, function_ops};
 ghost use Rattle.typed_tree.specs.Nodes as node;
 ghost use Rattle.typed_tree.specs.View.{function_view};
-ghost use Rattle.word32.specs.declared.map.TheConstants.{ARENA};
+ghost use Rattle.word32.specs.declared.map.TheConstants.{ARENA, OBJECT_BYTES, STACK_BYTES};
 
-use crate::code::{build_ops, built_length};
+use crate::code::{build_ops, calls_unknown, charge};
 use crate::places::scanned_places;
 use crate::tables::Tables;
-use icode_ops::CallAddress;
+use crate::text::add_words;
+use icode_expand::expanded_length;
+use icode_ops::{CallAddress, Op};
 use std::alloc::{AllocError, Global};
 use typed_tree::Function;
 use word32::map::FUNCTIONS;
 
-/// Where functions are to stand, and the places of their registers.
+/// Where functions stand, the places of their registers, and which of them have their words.
 #[derive(Drop)]
 pub struct Plan {
     /// The address of each, in their order.
     pub starts: Vec<CallAddress>,
     /// The places of each, in the same order.
     pub places: Vec<Vec<u8>>,
+    /// Whether the words of each are made, in the same order.
+    pub made: Vec<bool>,
     /// The address behind them.
     pub end: u32,
 }
 
-// The places of a function's registers, by linear scan of its ops where no address is known yet. The tables' builder
+/// What the first pass makes.
+#[derive(Drop)]
+pub struct Draft {
+    /// Where functions stand, and how.
+    pub plan: Plan,
+    /// The words of functions one behind another, with as much room for those that aren't made yet.
+    pub words: Vec<u32>,
+}
+
+// The next function stands at the end.
+fn start(plan: &mut Plan) -> Result<(), AllocError>
+    requires aligned { plan.old.end % 4 ≡ 0 }
+    requires low { plan.old.end ≤ ARENA }
+    ensures starts { OnOk result (plan.new.starts.items ≡ plan.old.starts.items ++ plan.old.end ∷ []) }
+    ensures rest { plan.new ≡ record plan.old { starts = plan.new.starts } }
+{
+    match CallAddress::new(plan.end) {
+        Some(start) => {
+            plan.starts.push(start)?;
+            Ok(())
+        }
+        None => unreachable!(),
+    }
+}
+
+// The places of a function's registers, by linear scan of its ops where these addresses are known. The tables' builder
 // then has these ops.
-fn scanned(alloc: Global, tables: &mut Tables, function: &Function) -> Result<Vec<u8>, AllocError>
+fn scanned(
+    alloc: Global,
+    tables: &mut Tables,
+    starts: &[CallAddress],
+    function: &Function,
+) -> Result<Vec<u8>, AllocError>
     requires { (functions : List node.Function) × IsReadyIn functions (function_view function.now) }
     ensures built { OnOk result (tables.new.builder ≡ record {
-      build = run_ops (function_ops unknown (function_view function.now)) (empty function.now.params);
+      build = run_ops (function_ops (listed starts.now) (function_view function.now)) (empty function.now.params);
       phase = Finished;
     }) }
     ensures scan { IfOk result (λ made.
@@ -48,65 +88,120 @@ fn scanned(alloc: Global, tables: &mut Tables, function: &Function) -> Result<Ve
     ensures legal { IfOk result (λ made.
         IsLegalChoice unknown (record { function = function_view function.now; places = made.items })) }
 {
-    build_ops(alloc, &mut tables.builder, &[], function)?;
+    build_ops(alloc, &mut tables.builder, starts, function)?;
     let ops = tables.builder.ops();
     let registers = tables.builder.registers();
-    scanned_places(alloc, &mut tables.live, &mut tables.scanner, ops, registers)
+    let out = &mut tables.intervals;
+    scanned_places(
+        alloc,
+        &mut tables.live,
+        &mut tables.scanner,
+        out,
+        ops,
+        registers,
+    )
 }
 
-// A function of so many words is to stand behind the others.
-fn add(plan: &mut Plan, places: Vec<u8>, words: usize) -> Result<(), AllocError>
-    requires aligned { plan.old.end % 4 ≡ 0 }
-    requires low { plan.old.end ≤ ARENA }
-    requires few { words ≤ CHARGE_LIMIT }
-    ensures starts { OnOk result (plan.new.starts.items ≡ plan.old.starts.items ++ plan.old.end ∷ []) }
-    ensures places { OnOk result (plan.new.places.items ≡ plan.old.places.items ++ places ∷ []) }
-    ensures end { OnOk result (plan.new.end ≡ plan.old.end + 4 * words) }
+// Adds room for so many words.
+fn add_room(words: &mut Vec<u32>, count: usize) -> Result<(), AllocError>
+    requires { count ≤ CHARGE_LIMIT }
+    ensures { OnOk result ((room : List ℕ) × (length room ≡ count) × (words.new.items ≡ words.old.items ++ room)) }
 {
-    match CallAddress::new(plan.end) {
-        Some(start) => plan.starts.push(start)?,
-        None => unreachable!(),
-    }
-    plan.places.push(places)?;
-    plan.end += 4 * words as u32;
-    Ok(())
+    let filled = words.len();
+    words.resize(filled + count, 0)
 }
 
-// One function more: its places, and where it is to stand.
+// Adds the words of a function from an address on, or as much room, and says whether they are made: where its ops call
+// none whose address isn't known yet.
+fn draft_words(
+    labels: &mut [u32],
+    ops: &[Op],
+    places: &[u8],
+    at: u32,
+    frame: u32,
+    object: u32,
+    words: &mut Vec<u32>,
+) -> Result<bool, AllocError>
+    requires labels { length labels.old ≡ LABELS }
+    requires finished { (n : ℕ) × IsFinished ops.now n }
+    requires low { at ≤ ARENA }
+    requires frame { frame ≤ STACK_BYTES }
+    requires object { object ≤ OBJECT_BYTES }
+    requires few { length (expanded ops.now places.now at frame object false) ≤ CHARGE_LIMIT }
+    ensures { IfOk result (λ made. IsPiece (calls.calls_unknown ops.now)
+        (expanded ops.now places.now at frame object false) made words.old.items words.new.items) }
+{
+    if calls_unknown(ops) {
+        let count = expanded_length(ops, places, frame, object, false);
+        add_room(words, count)?;
+        Ok(false)
+    } else {
+        add_words(labels, ops, places, at, frame, object, words)?;
+        Ok(true)
+    }
+}
+
+// One function more: where it stands, its places, and its words as far as they are known.
 fn place(
     alloc: Global,
     tables: &mut Tables,
+    labels: &mut [u32],
     function: &Function,
-    plan: &mut Plan,
+    draft: &mut Draft,
 ) -> Result<(), AllocError>
+    requires labels { length labels.old ≡ LABELS }
     requires served { (functions : List node.Function) × IsStatic functions (function_view function.now) }
-    requires aligned { plan.old.end % 4 ≡ 0 }
-    requires low { plan.old.end ≤ ARENA }
-    ensures { OnOk result ((before : List Placed) → IsPlanOf before plan.old → (places : List ℕ) ×
-        IsPlanOf (before ++ record { function = function_view function.now; places = places } ∷ []) plan.new) }
+    requires aligned { draft.old.plan.end % 4 ≡ 0 }
+    requires low { draft.old.plan.end ≤ ARENA }
+    ensures { OnOk result ((before : List Placed) → IsDraftOf before draft.old → (places : List ℕ) ×
+        IsDraftOf (before ++ record { function = function_view function.now; places = places } ∷ []) draft.new) }
 {
-    let places = scanned(alloc, tables, function)?;
-    let words = built_length(&tables.builder, function, &places);
-    add(plan, places, words)
+    let at = draft.plan.end;
+    start(&mut draft.plan)?;
+    let places = scanned(alloc, tables, &draft.plan.starts, function)?;
+    let frame = charge(function);
+    let filled = draft.words.len();
+    let ops = tables.builder.ops();
+    let made = draft_words(
+        labels,
+        ops,
+        &places,
+        at,
+        frame,
+        function.object,
+        &mut draft.words,
+    )?;
+    draft.plan.end = at + 4 * (draft.words.len() - filled) as u32;
+    draft.plan.places.push(places)?;
+    draft.plan.made.push(made)?;
+    Ok(())
 }
 
-/// The places of all functions of a program, and where they are to stand. The only error is want of memory.
+/// The places of all functions of a program, where they stand, and their words as far as they are known. The only error
+/// is want of memory.
 pub fn planned(
     alloc: Global,
     tables: &mut Tables,
+    labels: &mut [u32],
     functions: &[Function],
-) -> Result<Plan, AllocError>
+) -> Result<Draft, AllocError>
+    requires labels { length labels.old ≡ LABELS }
     requires functions { AreStatic (map function_view functions.now) }
-    ensures { IfOk result (λ plan.
-        (placed : List Placed) × (functions_of placed ≡ map function_view functions.now) × IsPlanOf placed plan) }
+    ensures { IfOk result (λ draft.
+        (placed : List Placed) × (functions_of placed ≡ map function_view functions.now) × IsDraftOf placed draft) }
 {
-    let mut plan = Plan {
+    let plan = Plan {
         starts: Vec::new(alloc),
         places: Vec::new(alloc),
+        made: Vec::new(alloc),
         end: FUNCTIONS,
     };
+    let mut draft = Draft {
+        plan,
+        words: Vec::new(alloc),
+    };
     for function in functions {
-        place(alloc, tables, function, &mut plan)?;
+        place(alloc, tables, labels, function, &mut draft)?;
     }
-    Ok(plan)
+    Ok(draft)
 }

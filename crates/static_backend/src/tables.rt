@@ -2,6 +2,7 @@
 
 use icode_ir::Builder;
 use icode_liveness::Live;
+use icode_ops::Interval;
 use linear_scan::Scanner;
 use std::alloc::{AllocError, Global};
 
@@ -15,6 +16,8 @@ pub struct Tables {
     pub live: Live,
     /// Gives these their places.
     pub scanner: Scanner,
+    /// Room for the intervals of one function at a time.
+    pub intervals: Vec<Interval>,
 }
 
 impl Tables {
@@ -27,6 +30,7 @@ impl Tables {
             builder,
             live,
             scanner,
+            intervals: Vec::new(alloc),
         })
     }
 }

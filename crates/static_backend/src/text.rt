@@ -1,6 +1,6 @@
 //! Words of an image's text.
 
-ghost use Rattle.std.specs.Prelude.{◌≡◌, ℕ, ◌+◌, ◌<◌, ◌≤◌, false, IfOk, length};
+ghost use Rattle.std.specs.Prelude.{◌≡◌, ℕ, ◌+◌, ◌*◌, ◌++◌, ◌<◌, ◌≤◌, false, IfOk, OnOk, length, drop};
 ghost use Rattle.icode_ops.specs.Finished.{IsFinished};
 ghost use Rattle.icode_expand.specs.Expansion.{expanded};
 ghost use Rattle.static_image.specs.Layout.{front};
@@ -35,32 +35,60 @@ pub fn front_words(alloc: Global, main: u32, functions: u32) -> Result<Vec<u32>,
     Ok(made)
 }
 
-/// The words of a function from an address on: its ops' expansion under these places. `frame` is how many bytes it takes
-/// from the stack, `object` how many its frame's objects have, and `labels` has room for the labels' addresses. The only
-/// error is want of memory.
-pub fn function_words(
-    alloc: Global,
+/// Adds the words of a function from an address on: its ops' expansion under these places. `frame` is how many bytes it
+/// takes from the stack, `object` how many its frame's objects have, and `labels` has room for the labels' addresses.
+/// The only error is want of memory.
+pub fn add_words(
     labels: &mut [u32],
     ops: &[Op],
     places: &[u8],
     at: u32,
     frame: u32,
     object: u32,
-) -> Result<Vec<u32>, AllocError>
+    words: &mut Vec<u32>,
+) -> Result<(), AllocError>
     requires labels { length labels.old ≡ LABELS }
     requires finished { (n : ℕ) × IsFinished ops.now n }
     requires low { at ≤ ARENA }
     requires frame { frame ≤ STACK_BYTES }
     requires object { object ≤ OBJECT_BYTES }
-    ensures { IfOk result (λ made. made.items ≡ expanded ops.now places.now at frame object false) }
+    ensures { OnOk result (words.new.items ≡ words.old.items ++ expanded ops.now places.now at frame object false) }
 {
-    let mut words = zeros(alloc, OP_WORDS * ops.len() + FRAME_WORDS)?;
+    let filled = words.len();
+    words.resize(filled + (OP_WORDS * ops.len() + FRAME_WORDS), 0)?;
     words_are_few();
-    match expand(ops, places, at, frame, object, false, labels, &mut words) {
+    let out = words.slice_mut(filled..);
+    match expand(ops, places, at, frame, object, false, labels, out) {
         Ok(count) => {
-            words.truncate(count);
-            Ok(words)
+            words.truncate(filled + count);
+            Ok(())
         }
+        Err(_) => unreachable!(),
+    }
+}
+
+/// Writes the words of a function from an address on to the front of `out`, which has room for them: its ops' expansion
+/// under these places. The rest is the same as for `add_words`.
+pub fn write_words(
+    labels: &mut [u32],
+    ops: &[Op],
+    places: &[u8],
+    at: u32,
+    frame: u32,
+    object: u32,
+    out: &mut [u32],
+)
+    requires labels { length labels.old ≡ LABELS }
+    requires finished { (n : ℕ) × IsFinished ops.now n }
+    requires range { at + 4 * length out.old ≤ SEGMENT_BYTES }
+    requires frame { frame ≤ STACK_BYTES }
+    requires object { object ≤ OBJECT_BYTES }
+    requires room { length (expanded ops.now places.now at frame object false) ≤ length out.old }
+    ensures { let words = expanded ops.now places.now at frame object false in
+        out.new ≡ words ++ drop (length words) out.old }
+{
+    match expand(ops, places, at, frame, object, false, labels, out) {
+        Ok(_) => {}
         Err(_) => unreachable!(),
     }
 }

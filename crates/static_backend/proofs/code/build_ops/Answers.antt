@@ -1,7 +1,7 @@
 use Rattle.std.proofs.Common.{◌≡◌, ap, ◌∙◌}
 use Rattle.icode_ir.specs.Build.{empty}
 use Rattle.icode_ir.specs.Runs.{run_ops}
-use Rattle.tick_lower_proof.specs.Lower.{listed, function_ops}
+use Rattle.tick_lower_spec.specs.Lower.{listed, function_ops}
 use Rattle.typed_tree.specs.View.{function_view}
 use Rattle.static_backend.proofs.code.build_ops.Goals as goal
 

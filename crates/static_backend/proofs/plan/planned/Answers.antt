@@ -7,11 +7,19 @@ use Rattle.static_image.specs.Served.{IsStatic, most_words}
 use Rattle.static_backend.proofs.Grown.{functions_more}
 use Rattle.static_backend.proofs.Loops.{front_more, front_static, front_few, next_static, all_in_front}
 use Rattle.static_backend.proofs.Planned as plan
+use Rattle.static_backend.proofs.Drafts.{first_draft}
 use Rattle.static_backend.proofs.plan.planned.Goals as goal
 
 pub loop-function-init : goal.loop-function-init
-loop-function-init c =
-    ([], refl, plan.first_plan c.new.result.items _ c.new.ensures.items (ap (map (λ v. v.items)) c.new-2.ensures.items))
+loop-function-init c = (
+  [],
+  refl,
+  record {
+    plan = plan.first_plan c.new.result.items _ c.new.ensures.items (ap (map (λ v. v.items)) c.new-2.ensures.items);
+    words = first_draft c.new-3.result.items c.new-4.result.items c.new-4.ensures.items;
+    many = ap length c.new-3.ensures.items;
+  },
+)
 
 pub place-requires-clause-served : goal.place-requires-clause-served
 place-requires-clause-served c =
@@ -25,7 +33,7 @@ place-requires-clause-served c =
 pub place-requires-clause-aligned : goal.place-requires-clause-aligned
 place-requires-clause-aligned c =
     let p = c.loop-function.invariant in
-    plan.aligned p.0 c.loop-function.plan.starts.items _ c.loop-function.plan.end p.2
+    plan.aligned p.0 c.loop-function.draft.plan.starts.items _ c.loop-function.draft.plan.end p.2.plan
 
 pub place-requires-clause-low : goal.place-requires-clause-low
 place-requires-clause-low c =
@@ -36,7 +44,8 @@ place-requires-clause-low c =
     let each = subst (Each (IsStatic gs)) (sym p.1) (front_static gs i fs c.requires.functions.each) in
     let less : most_words (map (λ (x : Placed). x.function) p.0) ≤ most_words gs =
     omega (arith, front_few i fs, ap most_words p.1) in
-    plan.low gs p.0 c.loop-function.plan.starts.items _ c.loop-function.plan.end c.requires.functions each less p.2
+    plan.low gs p.0 c.loop-function.draft.plan.starts.items _ c.loop-function.draft.plan.end c.requires.functions each
+    less p.2.plan
 
 pub loop-function-preserved : goal.loop-function-preserved
 loop-function-preserved c =

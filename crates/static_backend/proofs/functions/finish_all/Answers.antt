@@ -1,0 +1,148 @@
+use Rattle.std.proofs.Common.{rules, ◌≡◌, ◌<◌, ◌≤◌, length, map, get_or, arith}
+use Rattle.std.proofs.lemmas.List.{length-map}
+use Rattle.typed_tree.specs.View.{function_view}
+use Rattle.static_backend.specs.Plans.{BeginAt}
+use Rattle.static_backend.proofs.Loops.{next_static, next_view}
+use Rattle.static_backend.proofs.Coded as coded
+use Rattle.static_backend.proofs.functions.finish_all.Goals as goal
+
+pub loop-i-init : goal.loop-i-init
+loop-i-init c =
+    let p = c.requires.planned in
+    let plan = c.args.plan.now in (
+      p.0,
+      p.1,
+      p.2.plan,
+      p.2.many,
+      coded.first_code (map function_view c.args.functions.now) p.0 plan.starts.items _ plan.end p.1 p.2.plan
+          plan.made.items c.args.words.items c.new.result.items p.2.words c.new.ensures.items,
+    )
+
+pub finish-requires-clause-ready : goal.finish-requires-clause-ready
+finish-requires-clause-ready c =
+    let fs = c.args.functions.now in
+    let gs = map function_view fs in
+    let f = c.index-functions-i.result in
+    (gs, (next_static gs c.loop-i.i fs f (search rules) (search rules) c.requires.functions.each).ready)
+
+pub finish-requires-clause-started : goal.finish-requires-clause-started
+finish-requires-clause-started c =
+    let fs = c.args.functions.now in
+    let gs = map function_view fs in
+    let p = c.loop-i.invariant in
+    let low : c.loop-i.i < length fs = search rules in
+    omega (
+      arith,
+      low,
+      length-map fs function_view,
+      coded.many_addresses gs p.0 c.args.plan.now.starts.items _ c.args.plan.now.end p.1 p.2,
+    )
+
+pub finish-requires-clause-placed : goal.finish-requires-clause-placed
+finish-requires-clause-placed c =
+    let fs = c.args.functions.now in
+    let gs = map function_view fs in
+    let p = c.loop-i.invariant in
+    let low : c.loop-i.i < length fs = search rules in
+    let plan = c.args.plan.now in
+    omega (
+      arith,
+      low,
+      length-map fs function_view,
+      length-map plan.places.items (λ v. v.items),
+      coded.many_places gs p.0 plan.starts.items _ plan.end p.1 p.2,
+    )
+
+pub finish-requires-clause-counted : goal.finish-requires-clause-counted
+finish-requires-clause-counted c =
+    let fs = c.args.functions.now in
+    let gs = map function_view fs in
+    let p = c.loop-i.invariant in
+    let low : c.loop-i.i < length fs = search rules in
+    let plan = c.args.plan.now in
+    omega (
+      arith,
+      low,
+      length-map fs function_view,
+      coded.many gs p.0 plan.starts.items _ plan.end p.1 p.2,
+      p.3,
+    )
+
+pub finish-requires-clause-low : goal.finish-requires-clause-low
+finish-requires-clause-low c =
+    let i = c.loop-i.i in
+    let fs = c.args.functions.now in
+    let gs = map function_view fs in
+    let f = c.index-functions-i.result in
+    let low : i < length fs = search rules in
+    let is : f ≡ get_or fs i f = search rules in
+    let within : i < length gs = omega (arith, low, length-map fs function_view) in
+    let p = c.loop-i.invariant in
+    let plan = c.args.plan.now in
+    coded.words_low gs p.0 plan.starts.items _ plan.end p.1 p.2 i (function_view f) plan.made.items
+    c.loop-i.code.words.items c.loop-i.code.rows.items within (next_view i fs f is) p.3 p.4 c.requires.functions
+
+pub finish-requires-clause-room : goal.finish-requires-clause-room
+finish-requires-clause-room c =
+    let i = c.loop-i.i in
+    let fs = c.args.functions.now in
+    let gs = map function_view fs in
+    let f = c.index-functions-i.result in
+    let low : i < length fs = search rules in
+    let is : f ≡ get_or fs i f = search rules in
+    let within : i < length gs = omega (arith, low, length-map fs function_view) in
+    let p = c.loop-i.invariant in
+    let plan = c.args.plan.now in
+    let words = c.loop-i.code.words.items in
+    let rows = c.loop-i.code.rows.items in
+    let next = next_view i fs f is in (
+      coded.first gs p.0 plan.starts.items _ plan.end p.1 p.2 i (function_view f) plan.made.items words rows within
+          next p.3 p.4,
+      (
+        coded.first_is gs p.0 plan.starts.items _ plan.end p.1 p.2 i (function_view f) plan.made.items words rows
+            within next p.3 p.4,
+        coded.room gs p.0 plan.starts.items _ plan.end p.1 p.2 i (function_view f) plan.made.items words rows within
+            next p.3 p.4,
+      ),
+    )
+
+pub loop-i-preserved : goal.loop-i-preserved
+loop-i-preserved c =
+    let i = c.loop-i.i in
+    let fs = c.args.functions.now in
+    let gs = map function_view fs in
+    let f = c.index-functions-i.result in
+    let low : i < length fs = search rules in
+    let is : f ≡ get_or fs i f = search rules in
+    let within : i < length gs = omega (arith, low, length-map fs function_view) in
+    let p = c.loop-i.invariant in
+    let plan = c.args.plan.now in
+    let words = c.loop-i.code.words.items in
+    let rows = c.loop-i.code.rows.items in
+    let next = next_view i fs f is in
+    let first = coded.first gs p.0 plan.starts.items _ plan.end p.1 p.2 i (function_view f) plan.made.items words rows
+    within next p.3 p.4 in
+    let begin : BeginAt plan i (function_view f) words first = (
+      coded.first_is gs p.0 plan.starts.items _ plan.end p.1 p.2 i (function_view f) plan.made.items words rows
+          within next p.3 p.4,
+      coded.room gs p.0 plan.starts.items _ plan.end p.1 p.2 i (function_view f) plan.made.items words rows within
+          next p.3 p.4,
+    ) in (
+      p.0,
+      p.1,
+      p.2,
+      p.3,
+      coded.next_code gs p.0 plan.starts.items _ plan.end p.1 p.2 i (function_view f) plan.made.items words
+          c.finish.new.code.words.items rows c.finish.new.code.rows.items within next p.3
+          (c.in_ok-finish.ensures.words first begin) c.in_ok-finish.ensures.rows p.4,
+    )
+
+pub returns : goal.returns
+returns c =
+    let p = c.loop-i.invariant in
+    let i = c.loop-i.i in
+    let fs = c.args.functions.now in
+    let plan = c.args.plan.now in
+    let past : length fs ≤ i = search rules in
+    coded.last_code (map function_view fs) p.0 plan.starts.items _ plan.end p.1 p.2 i plan.made.items
+    c.loop-i.code.words.items c.loop-i.code.rows.items (omega (arith, past, length-map fs function_view)) p.4
