@@ -100,6 +100,10 @@ impl Scope {
     fn find(&self, name: &[u8]) -> Option<&Meaning>
         ensures { option_copied result ≡ spec.in_scope self.now name.now }
     {
+        // (most scopes are blocks without a variable: no name is hashed for these)
+        if self.names.is_empty() {
+            return None;
+        }
         self.names.get(name)
     }
 

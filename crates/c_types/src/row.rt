@@ -1,6 +1,7 @@
 //! A row of layers over a base, kept once for all the types that begin with it.
 
 ghost use Rattle.std.specs.Prelude.{◌≡◌, ◌≤◌, ◌++◌, length, take, IfOk};
+ghost use Rattle.std.specs.Option.{option_copied};
 ghost use Rattle.c_types.specs.Types as types;
 ghost use Rattle.c_types.specs.Extents as sizes;
 
@@ -66,6 +67,14 @@ impl Row {
             Some(extent) => *extent,
             None => start(self.base),
         }
+    }
+
+    /// The outermost of the first `len` layers; none where that is none.
+    pub(crate) fn outermost(&self, len: usize) -> Option<&Layer>
+        requires { len ≤ length (types.layers_of self.now) }
+        ensures { option_copied result ≡ types.outermost (take len (types.layers_of self.now)) }
+    {
+        self.layers.as_slice()[..len].last()
     }
 
     /// The first `len` layers, and more on top.

@@ -1,6 +1,6 @@
 //! Types whose layers are shared.
 
-ghost use Rattle.std.specs.Prelude.{◌≡◌, ◌≤◌, ◌++◌, ◌∷◌, [], length, take, IfOk};
+ghost use Rattle.std.specs.Prelude.{◌≡◌, ◌≤◌, ◌==◌, ◌++◌, ◌∷◌, [], length, take, IfOk};
 ghost use Rattle.std.specs.Option.{option_copied};
 ghost use Rattle.c_types.specs.Types as types;
 ghost use Rattle.c_types.specs.Extents as sizes;
@@ -74,6 +74,17 @@ fn lent<'a>(row: &'a Option<SharedRow>, len: usize, more: &'a [Layer]) -> Layers
     }
 }
 
+// The outermost of the first `len` layers of a row; none where that is none.
+fn row_outermost(row: &Option<SharedRow>, len: usize) -> Option<&Layer>
+    requires { len ≤ length (spec.row_layers row.now) }
+    ensures { option_copied result ≡ types.outermost (take len (spec.row_layers row.now)) }
+{
+    match row {
+        Some(shared) => shared.get().outermost(len),
+        None => None,
+    }
+}
+
 // The extent over the first `len` layers of a row over this base.
 fn row_extent(base: Base, row: &Option<SharedRow>, len: usize) -> Extent
     requires { spec.IsShared base row.now len }
@@ -130,6 +141,23 @@ impl TypeRef {
         lent(&self.row, self.len, self.more.as_slice())
     }
 
+    /// The outermost layer; none where it is its base alone.
+    pub fn outermost(&self) -> Option<&Layer>
+        ensures { option_copied result ≡ types.outermost (types.layers_of self.now) }
+    {
+        match self.more.as_slice().last() {
+            Some(layer) => Some(layer),
+            None => row_outermost(&self.row, self.len),
+        }
+    }
+
+    /// Whether it is its base alone.
+    pub fn is_base(&self) -> bool
+        ensures { result ≡ (length (types.layers_of self.now) == 0) }
+    {
+        self.len == 0 && self.more.len() == 0
+    }
+
     /// Its extent.
     pub(crate) fn extent(&self) -> Extent
         ensures { result ≡ sizes.after (sizes.start (types.base_of self.now)) (types.layers_of self.now) }
@@ -177,12 +205,23 @@ impl TypeRef {
     }
 }
 
+// A copy of a type's own layers: mostly there are none.
+fn copied(alloc: Global, layers: &Items<Layer>) -> Result<Items<Layer>, AllocError>
+    ensures { IfOk result (λ c. c ≡ layers.now) }
+{
+    if layers.is_empty() {
+        Ok(Items::new(alloc))
+    } else {
+        copy_layers(alloc, layers.as_slice())
+    }
+}
+
 /// A copy of a type, which shares its layers.
 pub fn copy(alloc: Global, t: &TypeRef) -> Result<TypeRef, AllocError>
     ensures { IfOk result (λ c. c ≡ t.now) }
 {
     let row = again(&t.row)?;
-    let more = copy_layers(alloc, t.more.as_slice())?;
+    let more = copied(alloc, &t.more)?;
     Ok(TypeRef {
         base: t.base,
         row,

@@ -1,12 +1,13 @@
 //! The type of a declaration, or the first rule on types that it breaks.
 
 ghost use Rattle.std.specs.Prelude.{◌≡◌, ◌*◌, ◌≤◌, ◌++◌, ◌∷◌, [], min, IfOk};
+ghost use Rattle.std.specs.Option.{option_copied};
 ghost use Rattle.c_types.specs.Types as types;
 ghost use Rattle.check_declarators.specs.Making as spec;
 ghost use Rattle.tick_tree.specs.Faults.{Answers};
 
 use crate::steps::{Length, Role, Step, fill_length, layer_of};
-use c_types::{Base, CType, Integer, Layer, Layers, TypeRef};
+use c_types::{Base, CType, Integer, Layer, TypeRef};
 use limits::program::{MAX_SIZE, MOST_ARGUMENTS, SIZE_TOP};
 use sqlite_items::Items;
 use std::alloc::{AllocError, Global};
@@ -214,16 +215,16 @@ fn decayed_layers(layers: Items<Layer>) -> Result<Items<Layer>, AllocError>
     Ok(layers)
 }
 
-fn is_lent_array(layers: &Layers<'_>) -> bool
-    ensures { result ≡ spec.is_array layers.now }
+fn is_array_layer(last: Option<&Layer>) -> bool
+    ensures { result ≡ spec.is_array_layer (option_copied last.entry) }
 {
-    matches!(layers.last(), Some(Layer::Array(_)))
+    matches!(last, Some(Layer::Array(_)))
 }
 
-fn is_lent_function(layers: &Layers<'_>) -> bool
-    ensures { result ≡ spec.is_function layers.now }
+fn is_function_layer(last: Option<&Layer>) -> bool
+    ensures { result ≡ spec.is_function_layer (option_copied last.entry) }
 {
-    matches!(layers.last(), Some(Layer::Function(_) | Layer::Unlisted))
+    matches!(last, Some(Layer::Function(_) | Layer::Unlisted))
 }
 
 /// The type of a value whose place has this type: an array becomes a pointer to its first element, and a function a pointer to
@@ -232,9 +233,9 @@ fn is_lent_function(layers: &Layers<'_>) -> bool
 pub fn decayed(t: TypeRef) -> Result<TypeRef, AllocError>
     ensures { IfOk result (λ c. c ≡ spec.decayed t) }
 {
-    if is_lent_array(&t.layers()) {
+    if is_array_layer(t.outermost()) {
         t.under().with(Layer::Pointer)
-    } else if is_lent_function(&t.layers()) {
+    } else if is_function_layer(t.outermost()) {
         t.with(Layer::Pointer)
     } else {
         Ok(t)

@@ -64,16 +64,6 @@ fn answer_of(t: &TypeRef) -> Answer
     }
 }
 
-fn copy_meaning(alloc: Global, m: &Meaning) -> Result<Meaning, AllocError>
-    ensures { IfOk result (λ c. c ≡ m.now) }
-{
-    Ok(Meaning {
-        kind: m.kind,
-        ctype: c_types::copy(alloc, &m.ctype)?,
-        index: m.index,
-    })
-}
-
 fn library_at(alloc: Global, m: &Meaning) -> Result<Option<(u32, TypeRef)>, AllocError>
     ensures { IfOk result (λ found. found ≡ spec.library_at m.now.kind m.now.index m.now.ctype) }
 {
@@ -293,25 +283,23 @@ impl State {
         }
     }
 
-    fn meant(&mut self, alloc: Global, line: u32, stage: Stage, m: Meaning) -> Result<Operand, Deny>
-        ensures { Reads (spec.meant line stage m.kind m.index m.ctype self.old) result self.new }
+    fn meant(
+        &mut self,
+        alloc: Global,
+        line: u32,
+        stage: Stage,
+        kind: MeaningKind,
+        index: u32,
+        ctype: TypeRef,
+    ) -> Result<Operand, Deny>
+        ensures { Reads (spec.meant line stage kind index ctype self.old) result self.new }
     {
-        let Meaning { kind, ctype, index } = m;
         match kind {
             MeaningKind::Variable => self.variable(alloc, line, stage, index, ctype),
             MeaningKind::Parameter => self.named_parameter(alloc, stage, index, ctype),
             MeaningKind::Global => Ok(self.global(alloc, stage, index, ctype)?),
             MeaningKind::Function => Ok(operand(Place::Function(index), ctype)),
             MeaningKind::Library => refused(FaultKind::BadOperand, line),
-        }
-    }
-
-    fn found(&self, alloc: Global, name: &[u8]) -> Result<Option<Meaning>, AllocError>
-        ensures { IfOk result (λ m. m ≡ scopes.find self.now.scopes name.now) }
-    {
-        match self.scopes.find(name) {
-            None => Ok(None),
-            Some(m) => Ok(Some(copy_meaning(alloc, m)?)),
         }
     }
 
@@ -338,9 +326,14 @@ impl State {
     ) -> Result<Operand, Deny>
         ensures { Reads (spec.named line stage name.now self.old) result self.new }
     {
-        match self.found(alloc, name)? {
+        match self.scopes.find(name) {
             None => refused(FaultKind::Undeclared, line),
-            Some(m) => self.meant(alloc, line, stage, m),
+            Some(m) => {
+                let kind = m.kind;
+                let index = m.index;
+                let ctype = c_types::copy(alloc, &m.ctype)?;
+                self.meant(alloc, line, stage, kind, index, ctype)
+            }
         }
     }
 }

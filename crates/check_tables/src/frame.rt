@@ -1,10 +1,11 @@
 //! The function that the walk is in: its variables, and which of them need an address.
 
 ghost use Rattle.std.specs.Prelude.{◌≡◌, ◌+◌, min, OnOk, slice_get};
+ghost use Rattle.std.specs.Option.{option_copied};
 ghost use Rattle.check_declarators.specs.Making as making;
 ghost use Rattle.check_tables.specs.Frames as spec;
 
-use c_types::{Layer, Layers, TypeRef, limited_size};
+use c_types::{Layer, TypeRef, limited_size};
 use check_types::width_of;
 use limits::program::PLACE_TOP;
 use sqlite_items::Items;
@@ -65,10 +66,10 @@ fn mark_of(marks: &Items<bool>, n: usize) -> bool
     }
 }
 
-fn is_array(layers: &Layers<'_>) -> bool
-    ensures { result ≡ making.is_array layers.now }
+fn is_array(last: Option<&Layer>) -> bool
+    ensures { result ≡ making.is_array_layer (option_copied last.entry) }
 {
-    matches!(layers.last(), Some(Layer::Array(_)))
+    matches!(last, Some(Layer::Array(_)))
 }
 
 fn words(t: &TypeRef) -> u32
@@ -140,7 +141,7 @@ impl Frame {
     pub fn is_object(&self, t: &TypeRef) -> bool
         ensures { result ≡ spec.is_object t.now self.now }
     {
-        is_array(&t.layers()) || self.needs_address()
+        is_array(t.outermost()) || self.needs_address()
     }
 
     fn object_variable(&mut self, words: u32) -> Result<(), AllocError>

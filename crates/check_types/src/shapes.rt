@@ -1,6 +1,7 @@
 //! What the rules on expressions ask of a type.
 
 ghost use Rattle.std.specs.Prelude.{◌≡◌, ◌<◌, length, IfOk};
+ghost use Rattle.std.specs.Option.{option_copied};
 ghost use Rattle.c_types.specs.Types as types;
 ghost use Rattle.check_declarators.specs.Making as making;
 ghost use Rattle.check_types.specs.Shapes as spec;
@@ -19,21 +20,15 @@ fn base_integer(base: Base) -> Option<Integer>
     }
 }
 
-fn integer_parts(base: Base, layers: &Layers<'_>) -> Option<Integer>
-    ensures { result ≡ spec.integer_parts base layers.now }
-{
-    if layers.is_empty() {
-        base_integer(base)
-    } else {
-        None
-    }
-}
-
 /// The integer type that a type is.
 pub fn integer_of(t: &TypeRef) -> Option<Integer>
     ensures { result ≡ spec.integer_of t.now }
 {
-    integer_parts(t.base(), &t.layers())
+    if t.is_base() {
+        base_integer(t.base())
+    } else {
+        None
+    }
 }
 
 /// Whether a type is an integer type.
@@ -56,26 +51,32 @@ fn is_void_parts(base: Base, layers: &Layers<'_>) -> bool
 pub fn is_void(t: &TypeRef) -> bool
     ensures { result ≡ spec.is_void t.now }
 {
-    is_void_parts(t.base(), &t.layers())
+    t.is_base() && t.base() == Base::Void
 }
 
-fn is_pointer_parts(layers: &Layers<'_>) -> bool
-    ensures { result ≡ types.is_pointer (types.outermost layers.now) }
+fn is_pointer_layer(last: Option<&Layer>) -> bool
+    ensures { result ≡ types.is_pointer (option_copied last.entry) }
 {
-    matches!(layers.last(), Some(Layer::Pointer))
+    matches!(last, Some(Layer::Pointer))
 }
 
 /// Whether a type is a pointer.
 pub fn is_pointer(t: &TypeRef) -> bool
     ensures { result ≡ spec.is_pointer t.now }
 {
-    is_pointer_parts(&t.layers())
+    is_pointer_layer(t.outermost())
 }
 
-fn is_array_parts(layers: &Layers<'_>) -> bool
-    ensures { result ≡ making.is_array layers.now }
+fn is_array_layer(last: Option<&Layer>) -> bool
+    ensures { result ≡ making.is_array_layer (option_copied last.entry) }
 {
-    matches!(layers.last(), Some(Layer::Array(_)))
+    matches!(last, Some(Layer::Array(_)))
+}
+
+fn is_function_layer(last: Option<&Layer>) -> bool
+    ensures { result ≡ making.is_function_layer (option_copied last.entry) }
+{
+    matches!(last, Some(Layer::Function(_) | Layer::Unlisted))
 }
 
 fn is_function_parts(layers: &Layers<'_>) -> bool
@@ -88,14 +89,14 @@ fn is_function_parts(layers: &Layers<'_>) -> bool
 pub fn is_function(t: &TypeRef) -> bool
     ensures { result ≡ spec.is_function t.now }
 {
-    is_function_parts(&t.layers())
+    is_function_layer(t.outermost())
 }
 
 /// Whether a type is an array or a function, so that its value is a pointer.
 pub fn decays(t: &TypeRef) -> bool
     ensures { result ≡ spec.decays t.now }
 {
-    is_array_parts(&t.layers()) || is_function_parts(&t.layers())
+    is_array_layer(t.outermost()) || is_function_layer(t.outermost())
 }
 
 fn is_word_base(base: Base) -> bool
@@ -104,20 +105,14 @@ fn is_word_base(base: Base) -> bool
     matches!(base, Base::Integer(Integer::Int | Integer::Unsigned))
 }
 
-fn is_word_parts(base: Base, layers: &Layers<'_>) -> bool
-    ensures { result ≡ making.is_word base layers.now }
-{
-    match layers.last() {
-        None => is_word_base(base),
-        Some(last) => matches!(last, Layer::Pointer),
-    }
-}
-
 /// Whether a type is int, unsigned int or a pointer.
 pub fn is_word(t: &TypeRef) -> bool
     ensures { result ≡ spec.is_word t.now }
 {
-    is_word_parts(t.base(), &t.layers())
+    match t.outermost() {
+        None => is_word_base(t.base()),
+        Some(last) => matches!(last, Layer::Pointer),
+    }
 }
 
 /// Whether a type is an integer or a pointer.
@@ -127,30 +122,30 @@ pub fn is_scalar(t: &TypeRef) -> bool
     is_integer(t) || is_pointer(t)
 }
 
-fn is_cspec_parts(layers: &Layers<'_>) -> bool
-    ensures { result ≡ spec.is_cspec_layer (types.outermost layers.now) }
+fn is_cspec_layer(last: Option<&Layer>) -> bool
+    ensures { result ≡ spec.is_cspec_layer (option_copied last.entry) }
 {
-    matches!(layers.last(), Some(Layer::Cspec))
+    matches!(last, Some(Layer::Cspec))
 }
 
 /// Whether a type is that of a specification.
 pub fn is_cspec(t: &TypeRef) -> bool
     ensures { result ≡ spec.is_cspec t.now }
 {
-    is_cspec_parts(&t.layers())
+    is_cspec_layer(t.outermost())
 }
 
-fn is_vspec_parts(layers: &Layers<'_>) -> bool
-    ensures { result ≡ spec.is_vspec_layer (types.outermost layers.now) }
+fn is_vspec_layer(last: Option<&Layer>) -> bool
+    ensures { result ≡ spec.is_vspec_layer (option_copied last.entry) }
 {
-    matches!(layers.last(), Some(Layer::Vspec))
+    matches!(last, Some(Layer::Vspec))
 }
 
 /// Whether a type is that of a variable of generated code.
 pub fn is_vspec(t: &TypeRef) -> bool
     ensures { result ≡ spec.is_vspec t.now }
 {
-    is_vspec_parts(&t.layers())
+    is_vspec_layer(t.outermost())
 }
 
 /// Whether a type is a pointer to void.

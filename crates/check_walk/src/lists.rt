@@ -12,6 +12,10 @@ use typed_tree::Stmt;
 pub fn appended(nodes: Items<Stmt>, found: Items<Stmt>) -> Result<Items<Stmt>, AllocError>
     ensures { IfOk result (λ all. all ≡ nodes ++ found) }
 {
+    // (so a list of one statement is the one that the statement gave)
+    if nodes.is_empty() {
+        return Ok(found);
+    }
     let mut nodes = nodes;
     match nodes.append(found) {
         Ok(()) => Ok(nodes),
