@@ -135,6 +135,8 @@ pub ruleset leaves = (
   returns,
 )
 
+pub ruleset views = (view.statements)
+
 pub ruleset declares = (stands_behind)
 
 pub ruleset tests = (law.binds, held)

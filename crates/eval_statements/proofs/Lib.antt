@@ -1,3 +1,4 @@
+pub mod AtOnce
 pub mod Begins
 pub mod Labels
 pub mod Turns

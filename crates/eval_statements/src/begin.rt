@@ -1,19 +1,21 @@
 //! Begins statements.
 
 ghost use Rattle.std.specs.Prelude.{◌≡◌, ◌<◌, ◌≤◌, IfOk};
+ghost use Rattle.typed_tree.specs.Nodes.{Item};
 ghost use Rattle.typed_tree.specs.View.{stmt_view};
 ghost use Rattle.meaning_rest.specs.Pending as pending;
 ghost use Rattle.eval_state.specs.Less.{heft};
 ghost use Rattle.eval_state.specs.declared.parts.Now.TheVariants as now;
 ghost use Rattle.eval_state.specs.Run.{outcome, run_of};
 ghost use Rattle.eval_state.specs.Steps.{executed};
-ghost use Rattle.eval_state.specs.Views.{now_view};
+ghost use Rattle.eval_state.specs.Views.{items_view, now_view};
 
 use crate::declare::{object, parameter, parameter_object, variable};
 use crate::parts::{
     block, do_loop, expression, for_loop, for_step, if_else, if_then, return_value, switch,
     while_loop,
 };
+use crate::ran::ran;
 use eval_state::{EndFrame, Flow, Frame, Machine, Now};
 use std::alloc::AllocError;
 use typed_tree::Stmt;
@@ -80,6 +82,38 @@ pub fn run<'a>(m: &mut Machine<'a>, list: &'a [Stmt]) -> Result<Now<'a>, AllocEr
 {
     match list.split_first() {
         None => Ok(Now::Left(Flow::Normal)),
-        Some((s, more)) => m.push(Frame::End(EndFrame::Rest(more)), Now::Exec(s)),
+        Some((s, more)) => item(m, s, more),
+    }
+}
+
+// Runs an item at once, or begins it.
+#[tactic(auto, using(crate::proofs::AtOnce::items))]
+fn item<'a>(m: &mut Machine<'a>, s: &'a Stmt, more: &'a [Stmt]) -> Result<Now<'a>, AllocError>
+    ensures same { IfOk result (λ n. outcome (now_view n) (run_of m.new)
+        ≡ outcome (pending.Run (Item (stmt_view s.entry.now) (items_view more.entry.now))) (run_of m.old)) }
+    ensures units { IfOk result (λ n. (run_of m.new).state.units ≤ (run_of m.old).state.units) }
+    ensures less { IfOk result (λ n. (run_of m.new).state.units ≡ (run_of m.old).state.units
+        → heft (now_view n) (run_of m.new)
+        < heft (pending.Run (Item (stmt_view s.entry.now) (items_view more.entry.now))) (run_of m.old)) }
+{
+    match ran(m, s)? {
+        Some(()) => Ok(Now::Run(more)),
+        None => item_later(m, s, more),
+    }
+}
+
+// Begins an item that doesn't run at once; behind the last one nothing is pending.
+#[tactic(auto, using(crate::proofs::Begins::begins, crate::proofs::AtOnce::last_item))]
+fn item_later<'a>(m: &mut Machine<'a>, s: &'a Stmt, more: &'a [Stmt]) -> Result<Now<'a>, AllocError>
+    ensures same { IfOk result (λ n. outcome (now_view n) (run_of m.new)
+        ≡ outcome (pending.Run (Item (stmt_view s.entry.now) (items_view more.entry.now))) (run_of m.old)) }
+    ensures units { IfOk result (λ n. (run_of m.new).state.units ≤ (run_of m.old).state.units) }
+    ensures less { IfOk result (λ n. (run_of m.new).state.units ≡ (run_of m.old).state.units
+        → heft (now_view n) (run_of m.new)
+        < heft (pending.Run (Item (stmt_view s.entry.now) (items_view more.entry.now))) (run_of m.old)) }
+{
+    match more.is_empty() {
+        true => Ok(Now::Exec(s)),
+        false => m.push(Frame::End(EndFrame::Rest(more)), Now::Exec(s)),
     }
 }

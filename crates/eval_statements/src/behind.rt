@@ -2,15 +2,18 @@
 
 ghost use Rattle.std.specs.Prelude.{◌≡◌, ◌+◌, ◌<◌, ◌≤◌, IfOk};
 ghost use Rattle.typed_tree.specs.View.{expr_view, stmt_view};
+ghost use Rattle.staged_meaning.specs.Meaning.{eval};
 ghost use Rattle.staged_meaning.specs.World as left_by;
+ghost use Rattle.meaning_rest.specs.Rest.{after, valued};
 ghost use Rattle.meaning_rest.specs.Pending as pending;
 ghost use Rattle.eval_state.specs.Less.{heft, held, waiting};
-ghost use Rattle.eval_state.specs.Run.{Run, outcome, run_of};
+ghost use Rattle.eval_state.specs.Run.{Run, here, leads, outcome, run_of, world};
 ghost use Rattle.eval_state.specs.Steps.{ended};
 ghost use Rattle.eval_state.specs.Views.{flow_view, items_view, now_view, step_view};
 
 use crate::loops::turned;
 use crate::switches::choose;
+use eval_simple::at_once;
 use eval_state::{Flow, Frame, Machine, Now, StatementFrame};
 use std::alloc::AllocError;
 use typed_tree::{Expr, Stmt};
@@ -78,11 +81,56 @@ fn step_on<'a>(
 {
     match step {
         None => turned(m, more, e, None, s),
-        Some(step) => m.push(
-            Frame::Statement(StatementFrame::Step(more, e, step, s)),
-            Now::Eval(step),
-        ),
+        Some(step) => stepping(m, more, e, step, s),
     }
+}
+
+// The step of a loop, and what is done behind it.
+fn stepping<'a>(
+    m: &mut Machine<'a>,
+    more: u64,
+    e: &'a Expr,
+    step: &'a Expr,
+    s: &'a Stmt,
+) -> Result<Now<'a>, AllocError>
+    ensures same { IfOk result (λ n. outcome (now_view n) (run_of m.new) ≡ leads (run_of m.old)
+        (after (here (run_of m.old))
+        (pending.Step more (expr_view e.entry.now) (expr_view step.entry.now) (stmt_view s.entry.now))
+        (valued (eval (here (run_of m.old)) (expr_view step.entry.now) (world (run_of m.old)))))) }
+    ensures units { IfOk result (λ n. (run_of m.new).state.units ≤ (run_of m.old).state.units) }
+    ensures less { IfOk result (λ n. (run_of m.new).state.units ≡ (run_of m.old).state.units
+        → heft (now_view n) (run_of m.new) ≤ heft (pending.Eval (expr_view step.entry.now)) (run_of m.old)
+        + waiting (pending.Step more (expr_view e.entry.now) (expr_view step.entry.now) (stmt_view s.entry.now))
+        (run_of m.old)) }
+{
+    match at_once(m, step)? {
+        Some(_) => turned(m, more, e, Some(step), s),
+        None => step_later(m, more, e, step, s),
+    }
+}
+
+// A step that is not evaluated at once.
+fn step_later<'a>(
+    m: &mut Machine<'a>,
+    more: u64,
+    e: &'a Expr,
+    step: &'a Expr,
+    s: &'a Stmt,
+) -> Result<Now<'a>, AllocError>
+    ensures same { IfOk result (λ n. outcome (now_view n) (run_of m.new) ≡ leads (run_of m.old)
+        (after (here (run_of m.old))
+        (pending.Step more (expr_view e.entry.now) (expr_view step.entry.now) (stmt_view s.entry.now))
+        (valued (eval (here (run_of m.old)) (expr_view step.entry.now) (world (run_of m.old)))))) }
+    ensures units { IfOk result (λ n. (run_of m.new).state.units ≤ (run_of m.old).state.units) }
+    ensures less { IfOk result (λ n. (run_of m.new).state.units ≡ (run_of m.old).state.units
+        → heft (now_view n) (run_of m.new) ≤ heft (pending.Eval (expr_view step.entry.now)) (run_of m.old)
+        + waiting (pending.Step more (expr_view e.entry.now) (expr_view step.entry.now) (stmt_view s.entry.now))
+        (run_of m.old)) }
+{
+    m.push(
+        Frame::Statement(StatementFrame::Step(more, e, step, s)),
+        Now::Eval(step),
+    )
 }
 
 /// Behind the body of a `do`: its test.

@@ -8,6 +8,7 @@ mod declare;
 mod going_on;
 mod loops;
 mod parts;
+mod ran;
 mod switches;
 mod tests;
 

@@ -6,15 +6,17 @@ ghost use Rattle.staged_meaning.specs.World.{Gives};
 ghost use Rattle.meaning_rest.specs.Rest.{Left, Value, after};
 ghost use Rattle.eval_state.specs.Less.{heft, held, waiting};
 ghost use Rattle.eval_state.specs.Run.{Run, here, leads, outcome, run_of, world};
+ghost use Rattle.eval_state.specs.declared.parts.Now.TheVariants as now;
 ghost use Rattle.eval_state.specs.Views.{expression_frame, flow_view, frame_view, now_view, statement_frame};
 ghost use Rattle.evaluate.specs.Arrives.{arrives, returned, taken};
 ghost use Rattle.evaluate.specs.Seen.{IsOver};
 
 use eval_expressions::eval;
+use eval_simple::at_once;
 use eval_state::{ExpressionFrame, Flow, Frame, Machine, Now, Popped, StatementFrame};
 use eval_statements::{exec, run};
 use std::alloc::AllocError;
-use typed_tree::Answer;
+use typed_tree::{Answer, Expr};
 
 // What a call leaves: of a function without a value, 0.
 fn left_by(answer: Answer, v: u32) -> u32
@@ -132,6 +134,20 @@ fn return_passes<'a>(m: &mut Machine<'a>, v: u32, popped: Popped<'a>) -> Now<'a>
     }
 }
 
+// An expression is evaluated: at once where it is simple, and else its first part.
+fn begin<'a>(m: &mut Machine<'a>, e: &'a Expr) -> Result<Now<'a>, AllocError>
+    ensures same { IfOk result (λ n. outcome (now_view n) (run_of m.new)
+        ≡ outcome (now_view (now.Eval e.entry)) (run_of m.old)) }
+    ensures units { IfOk result (λ n. (run_of m.new).state.units ≤ (run_of m.old).state.units) }
+    ensures less { IfOk result (λ n. (run_of m.new).state.units ≡ (run_of m.old).state.units
+        → heft (now_view n) (run_of m.new) < heft (now_view (now.Eval e.entry)) (run_of m.old)) }
+{
+    match at_once(m, e)? {
+        Some(v) => Ok(Now::Value(v)),
+        None => eval(m, e),
+    }
+}
+
 /// Does what is done next.
 #[tactic(auto, using(crate::proofs::Steps::steps))]
 pub(crate) fn step<'a>(m: &mut Machine<'a>, now: Now<'a>) -> Result<Now<'a>, AllocError>
@@ -143,7 +159,7 @@ pub(crate) fn step<'a>(m: &mut Machine<'a>, now: Now<'a>) -> Result<Now<'a>, All
         → heft (now_view n) (run_of m.new) < heft (now_view now.entry) (run_of m.old)) }
 {
     match now {
-        Now::Eval(e) => eval(m, e),
+        Now::Eval(e) => begin(m, e),
         Now::Exec(s) => exec(m, s),
         Now::Run(list) => run(m, list),
         Now::Ended(_) | Now::Stopped => Ok(now),

@@ -7,13 +7,13 @@ use Rattle.eval_statements.proofs.behind.step_on.Goals as goal
 
 pub returns-in-Some-clause-normal : goal.returns-in-Some-clause-normal
 returns-in-Some-clause-normal c =
-    same_as c.push.result (run_of c.push.new.self) _ _ c.push.ensures.same
+    same_as c.stepping.result (run_of c.stepping.new.m) _ _ c.stepping.ensures.same
     (steps (run_of c.args.m.now) c.args.more (expr_view c.args.e.now) (expr_view c.in-Some.step.now)
     (step_view c.args.step) (stmt_view c.args.s.now) (ap step_view c.in-Some.is))
 
 pub returns-in-Some-clause-continued : goal.returns-in-Some-clause-continued
 returns-in-Some-clause-continued c =
-    same_as c.push.result (run_of c.push.new.self) _ _ c.push.ensures.same
+    same_as c.stepping.result (run_of c.stepping.new.m) _ _ c.stepping.ensures.same
     (steps_too (run_of c.args.m.now) c.args.more (expr_view c.args.e.now) (expr_view c.in-Some.step.now)
     (step_view c.args.step) (stmt_view c.args.s.now) (ap step_view c.in-Some.is))
 
