@@ -1,0 +1,9 @@
+mod Called
+mod Ended
+mod Lists
+mod Numbers
+mod Puts
+mod Switched
+mod Viewed
+mod Whole
+mod WholeStmts

@@ -1,0 +1,16 @@
+use Rattle.std.proofs.lemmas.Result.{on_ok_weaker}
+use Rattle.tick_lower_spec.specs.Lower.{listed}
+use Rattle.typed_tree.specs.View.{expr_view}
+use Rattle.tick_cgf.proofs.Ended.{expression_there, expression_ended}
+use Rattle.tick_cgf.proofs.tick.expression_body.Goals as goal
+
+pub end-requires : goal.end-requires
+end-requires c =
+    expression_there (listed c.args.starts.now) c.args.out.now _ _ (expr_view c.args.e.now) c.in_ok-begin.ensures
+    c.in_ok-expression.ensures
+
+pub returns : goal.returns
+returns c =
+    on_ok_weaker c.end.result
+    (λ made. expression_ended (listed c.args.starts.now) c.args.out.now _ _ (expr_view c.args.e.now) _
+    c.in_ok-begin.ensures c.in_ok-expression.ensures made) c.end.ensures

@@ -1,0 +1,3 @@
+mod Captured
+mod Standing
+mod Wholes

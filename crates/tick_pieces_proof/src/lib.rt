@@ -1,0 +1,21 @@
+//! The pieces of the ticks of an accepted text are those that the law on generated code asks for. There is no code to
+//! run here: each function's contract is a law.
+#![tactic(auto)]
+
+ghost use Rattle.tick_pieces_proof.specs.Laws.{CapturesKeepKinds, SyntaxesAreWhole, TicksFit};
+
+/// That each piece of a tick of an accepted text names a capture of its kind, or is an op that code may ask for, once
+/// the tick is made with captures of the kinds that it has.
+pub fn ticks_fit()
+    ensures { TicksFit }
+{}
+
+/// That a specification whose ticks are each made with captures of their kinds is whole.
+pub fn syntaxes_are_whole()
+    ensures { SyntaxesAreWhole }
+{}
+
+/// That a specification that the meaning makes of earlier ones is made with captures of the kinds that its tick has.
+pub fn captures_keep_kinds()
+    ensures { CapturesKeepKinds }
+{}
