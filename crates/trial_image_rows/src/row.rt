@@ -6,7 +6,8 @@ use std::alloc::Global;
 /// What a line says. Bytes of an image file are in hexadecimal digits, a word is eight of them.
 #[derive(Drop)]
 pub enum Row<'a> {
-    /// `image NAME STEPS BYTES`: an image file, run for so many steps at most.
+    /// `image NAME STEPS BYTES`: an image file, run for so many steps at most. With `counted` in the place of `image`,
+    /// all counts of services are printed.
     Given {
         /// What the image is called.
         name: &'a str,
@@ -14,6 +15,8 @@ pub enum Row<'a> {
         steps: u64,
         /// The file.
         bytes: Vec<u8>,
+        /// Whether all counts of services are printed.
+        is_counted: bool,
     },
     /// `form WORD MASK`: a form of instruction for the generator, with the bits that it may set.
     Form {
@@ -51,11 +54,13 @@ impl<'a> Row<'a> {
     /// The row of a line; None where it has another form.
     pub fn read(alloc: Global, line: &'a str) -> Option<Row<'a>> {
         let mut words = line.split_whitespace();
-        match words.next()? {
-            "image" => Some(Row::Given {
+        let kind = words.next()?;
+        match kind {
+            "image" | "counted" => Some(Row::Given {
                 name: words.next()?,
                 steps: words.next()?.parse().ok()?,
                 bytes: decode(alloc, words.next()?).ok()?,
+                is_counted: kind == "counted",
             }),
             "form" => Some(Row::Form {
                 word: word(words.next()?)?,

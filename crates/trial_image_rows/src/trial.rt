@@ -3,11 +3,12 @@
 use crate::generator::{Form, Generator};
 use crate::row::Row;
 use crate::shown::Shown;
-use host_edge::{MemSink, MemSource};
+use host_edge::{Counts, MemSink, MemSource};
 use image_file::{Image, ImageDeny, read};
 use limits::run::MOST_STEPS;
 use limits::text::LONGEST_IMAGE;
-use mips_machine::Machine;
+use mips_machine::{Machine, Stop};
+use std::alloc::Global;
 
 /// The bytes that a run may put out.
 const ROOM: usize = 16;
@@ -15,30 +16,69 @@ const ROOM: usize = 16;
 /// The bytes that a run may read.
 const INPUT: &[u8] = b"input";
 
+/// What is seen of a run: how it stopped, its instructions, what services did, and the bytes that it put out.
+struct Seen {
+    stop: Stop,
+    steps: u64,
+    counts: Counts,
+    bytes: String<Global>,
+}
+
+/// What is seen of a run of the image. The machine is made last and given up before anything else can fail.
+fn look(alloc: Global, image: &Image, most: u64) -> anyhow::Result<Seen> {
+    let mut input = MemSource::new(alloc, INPUT, &[])?;
+    let mut out = MemSink::new(alloc, ROOM, &[])?;
+    let mut machine = Machine::new(alloc, image)?;
+    let stop = machine.run(&mut input, &mut out, most.min(MOST_STEPS));
+    let steps = machine.steps();
+    let counts = machine.counts();
+    drop(machine);
+    let bytes = hex::encode(alloc, out.taken())?;
+    Ok(Seen {
+        stop,
+        steps,
+        counts,
+        bytes,
+    })
+}
+
 /// Runs the image, and prints what is seen of it.
-fn run<R: Print + AllocGlobal>(rt: &R, image: &Image, steps: u64) -> anyhow::Result<()> {
-    let mut machine = Machine::new(rt.alloc(), image)?;
-    let mut input = MemSource::new(rt.alloc(), INPUT, &[])?;
-    let mut out = MemSink::new(rt.alloc(), ROOM, &[])?;
-    let stop = machine.run(&mut input, &mut out, steps.min(MOST_STEPS));
-    let taken = machine.steps();
-    let flushes = machine.counts().flushes;
-    let bytes = hex::encode(rt.alloc(), out.taken())?;
-    println!(rt;
-        "{}, steps {taken}, flushes {flushes}, out {bytes}.",
-        Shown(stop)
-    )?;
+fn run<R: Print + AllocGlobal>(
+    rt: &R,
+    image: &Image,
+    steps: u64,
+    is_counted: bool,
+) -> anyhow::Result<()> {
+    let Seen {
+        stop,
+        steps,
+        counts,
+        bytes,
+    } = look(rt.alloc(), image, steps)?;
+    print!(rt; "{}, steps {steps}, ", Shown(stop))?;
+    if is_counted {
+        print!(rt;
+            "ops {}, functions {}, words {}, spills {}, ",
+            counts.ops, counts.functions, counts.words, counts.spills
+        )?;
+    }
+    println!(rt; "flushes {}, out {bytes}.", counts.flushes)?;
     Ok(())
 }
 
 /// Prints what comes of an image file: the rule that it breaks, or what is seen of its run.
-fn try_file<R: Print + AllocGlobal>(rt: &R, bytes: &[u8], steps: u64) -> anyhow::Result<()> {
+fn try_file<R: Print + AllocGlobal>(
+    rt: &R,
+    bytes: &[u8],
+    steps: u64,
+    is_counted: bool,
+) -> anyhow::Result<()> {
     if bytes.len() > LONGEST_IMAGE {
         println!(rt; "too long.")?;
         return Ok(());
     }
     match read(rt.alloc(), bytes) {
-        Ok(image) => run(rt, &image, steps)?,
+        Ok(image) => run(rt, &image, steps, is_counted)?,
         Err(ImageDeny::Bad(fault)) => println!(rt; "BadImage({}).", fault.number())?,
         Err(ImageDeny::NoMemory) => println!(rt; "no memory.")?,
     }
@@ -57,7 +97,7 @@ fn try_random<R: Print + AllocGlobal>(
     for number in 0..count {
         print!(rt; "random {number}: ")?;
         let bytes = Generator::new(number).filled(rt.alloc(), file, from, forms)?;
-        try_file(rt, &bytes, steps)?;
+        try_file(rt, &bytes, steps, false)?;
     }
     Ok(())
 }
@@ -73,7 +113,7 @@ fn try_mutated<R: Print + AllocGlobal>(
     for number in 0..count {
         print!(rt; "mutated {number}: ")?;
         let bytes = Generator::new(number).turned(rt.alloc(), file, from)?;
-        try_file(rt, &bytes, steps)?;
+        try_file(rt, &bytes, steps, false)?;
     }
     Ok(())
 }
@@ -85,9 +125,14 @@ fn answer<R: Print + AllocGlobal>(
     forms: &mut Vec<Form>,
 ) -> anyhow::Result<()> {
     match row {
-        Row::Given { name, steps, bytes } => {
+        Row::Given {
+            name,
+            steps,
+            bytes,
+            is_counted,
+        } => {
             print!(rt; "{name}: ")?;
-            try_file(rt, &bytes, steps)
+            try_file(rt, &bytes, steps, is_counted)
         }
         Row::Form { word, mask } => Ok(forms.push(Form { word, mask })?),
         Row::Random {

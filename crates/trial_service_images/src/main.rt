@@ -1,0 +1,8 @@
+//! Tries the machine on 500 image files that make code as they run: each stops as a second machine says.
+#![tactic(auto)]
+
+use trial_image_rows::answer_rows;
+
+fn main(rt: HostRuntime) -> anyhow::Result<()> {
+    answer_rows(&rt)
+}
