@@ -3,6 +3,7 @@ use Rattle.std.proofs.Common.{◌≡◌, ℕ, zero, suc, ◌+◌, ◌*◌, ◌-�
 use Rattle.std.proofs.Common.{length, take, Some, None, refl, ap, ◌∙◌, arith}
 use Rattle.std.proofs.lemmas.List.{length-append}
 use Rattle.std.specs.Prelude.{min, nat_le, slice_get, if◌then◌else◌}
+use Rattle.limits.specs.declared.program.TheConstants.{MAX_SIZE, SIZE_TOP}
 use Rattle.c_types.specs.declared.ctype.Integer.TheVariants as kind
 use Rattle.c_types.specs.declared.ctype.Base.{Base}
 use Rattle.c_types.specs.declared.ctype.Base.TheVariants as base
@@ -40,10 +41,10 @@ cap a zero k = grind (arith)
 cap a (suc s) k = grind (arith)
 
 abbrev extent : ℕ → Bool → Extent
-extent s b = record { size = min s 4194305; sized = b }
+extent s b = record { size = min s SIZE_TOP; sized = b }
 
 step : (s : ℕ) (b : Bool) (o : Opened) → grown_at (extent s b) o ≡ extent (size_at s o) (is_sized_at b o)
-step s b (Layer-F.Array n) = ap (λ m. record { size = m; sized = b }) (cap s n 4194305)
+step s b (Layer-F.Array n) = ap (λ m. record { size = m; sized = b }) (cap s n SIZE_TOP)
 step s b (Layer-F.Function list) = refl
 step s b Layer-F.Unlisted = refl
 step s b Layer-F.Pointer = refl
@@ -69,20 +70,20 @@ counted : (b : Base) (ls : List Layer) →
     after (start b) ls ≡ extent (size_under (base_size b) ls) (is_sized_under (is_integer_base b) ls)
 counted b ls = ap (λ e. after e ls) (begun b) ∙ over (base_size b) (is_integer_base b) ls
 
-fits : (s : ℕ) → (if nat_le (min s 4194305) 4194304 then Some (min s 4194305) else None) ≡
-    (if nat_le s 4194304 then Some s else None)
+fits : (s : ℕ) → (if nat_le (min s SIZE_TOP) MAX_SIZE then Some (min s SIZE_TOP) else None) ≡
+    (if nat_le s MAX_SIZE then Some s else None)
 fits s = grind (arith)
 
-cut : (s : ℕ) (b : Bool) → limited (extent s b) ≡ (if b && nat_le s 4194304 then Some s else None)
+cut : (s : ℕ) (b : Bool) → limited (extent s b) ≡ (if b && nat_le s MAX_SIZE then Some s else None)
 cut s false = refl
 cut s true = fits s
 
 pub limits : (b : Base) (ls : List Layer) → limited (after (start b) ls) ≡ limited_parts b ls
 limits b ls = ap limited (counted b ls) ∙ cut (size_under (base_size b) ls) (is_sized_under (is_integer_base b) ls)
 
-pub whole : (b : Base) (ls : List Layer) → size_under (base_size b) ls ≤ 4194304 →
+pub whole : (b : Base) (ls : List Layer) → size_under (base_size b) ls ≤ MAX_SIZE →
     (after (start b) ls).size ≡ size_under (base_size b) ls
-whole b ls h = let e : (after (start b) ls).size ≡ min (size_under (base_size b) ls) 4194305 =
+whole b ls h = let e : (after (start b) ls).size ≡ min (size_under (base_size b) ls) SIZE_TOP =
     ap (λ e. e.size) (counted b ls) in e ∙ omega (arith, h)
 
 pub same_extent : (x y : Extent) → Some x ≡ Some y → x ≡ y

@@ -2,7 +2,7 @@
 use Rattle.std.proofs.Common.{◌≡◌, inl, inr, ℕ, zero, suc, ◌+◌, ◌*◌, ◌/◌, ◌%◌, ◌<◌, ◌≤◌, List, [], ◌∷◌, length, Option}
 use Rattle.std.proofs.Common.{Some, None, refl, ap, ◌∙◌, subst, arith, slice_get}
 use Rattle.std.proofs.lemmas.Option.{slice_get_within}
-use Rattle.word32.specs.declared.map.TheConstants.{CLOSURES, CLOSURE_BYTES}
+use Rattle.word32.specs.declared.map.TheConstants.{CLOSURES, CLOSURE_BYTES, SPEC_ROW_BYTES}
 use Rattle.history.specs.Syntax.{Syntax, Ticked, Captures, NoCapture, Word, Named, Spliced}
 use Rattle.mips_model.specs.State.{Data}
 use Rattle.meaning_state.specs.Shared.{Shared, Specification, Expression, Statement, Local, Param}
@@ -23,7 +23,7 @@ pub record Live (text : Text) (shared : Shared) (d : Data) (number : ℕ) (s : S
   pub stands : Stands d number closure
   pub stands_for : StandsFor text shared.specifications number s closure
   pub positive : 0 < number
-  pub few : number ≤ 262144
+  pub few : number ≤ SPEC_ROW_BYTES / 4
   pub high : closure_of d number + closure_bytes (length closure.captured) ≤ CLOSURES + CLOSURE_BYTES
 
 pub live : (text : Text) (shared : Shared) (d : Data) (number : ℕ) (s : Specification) →
@@ -55,7 +55,7 @@ variable_first text rows number (Param index) k h v = ap (λ (x : Closure). x.he
 -- a captured variable in memory
 pub record HasKey (key number : ℕ) (d : Data) : Type 0 where
   pub positive : 0 < number
-  pub few : number ≤ 262144
+  pub few : number ≤ SPEC_ROW_BYTES / 4
   pub from : CLOSURES ≤ closure_of d number
   pub to : closure_of d number < CLOSURES + CLOSURE_BYTES
   pub even : closure_of d number % 4 ≡ 0
@@ -83,7 +83,7 @@ pub record HasTick (text : Text) (shared : Shared) (syntax : Syntax) (number : �
   pub captured : AreCaptured shared.specifications number (captures_of_syntax syntax) words
   pub reads : words_at d.closures (closure_of d number + 16) (length words) ≡ words
   pub positive : 0 < number
-  pub few : number ≤ 262144
+  pub few : number ≤ SPEC_ROW_BYTES / 4
   pub from : CLOSURES ≤ closure_of d number
   pub to : closure_of d number + closure_bytes (length words) ≤ CLOSURES + CLOSURE_BYTES
   pub even : closure_of d number % 4 ≡ 0

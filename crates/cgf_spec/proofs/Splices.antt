@@ -3,7 +3,8 @@ use Rattle.std.proofs.Common.{◌≡◌, ℕ, ◌+◌, ◌*◌, ◌/◌, ◌%◌
 use Rattle.std.proofs.Common.{sym, ap, ◌∙◌, subst, arith}
 use Rattle.std.proofs.lemmas.Bool.{ne_eqb}
 use Rattle.word32.specs.Words.{wrap}
-use Rattle.word32.specs.declared.map.TheConstants.{CLOSURES, CLOSURE_BYTES, SPEC_ROWS, EMIT_STACK, EMIT_STACK_BYTES}
+use Rattle.word32.specs.declared.map.TheConstants.{CLOSURES, CLOSURE_BYTES, EMIT_STACK, EMIT_STACK_BYTES, SPEC_ROWS}
+use Rattle.word32.specs.declared.map.TheConstants.{SPEC_ROW_BYTES}
 use Rattle.word32.specs.declared.map.TheConstants.{SEGMENT_BYTES}
 use Rattle.mips_model.specs.State.{Code, Data}
 use Rattle.mips_model.specs.Accesses.{Loads}
@@ -35,7 +36,7 @@ row_5 d =
 abbrev pub found_5 : (number : ℕ) → Data → Data
 found_5 number d = set 5 (closure_of d number) (row_5 d)
 
-pub closure_leaves_5 : (number : ℕ) (d : Data) → d.registers 5 ≡ number → 0 < number → number ≤ 262144 →
+pub closure_leaves_5 : (number : ℕ) (d : Data) → d.registers 5 ≡ number → 0 < number → number ≤ SPEC_ROW_BYTES / 4 →
     Leaves (closure_code 5) 5 d 0 (found_5 number d)
 closure_leaves_5 number d is from to =
     let m = row_5 d in
@@ -55,7 +56,7 @@ row_12 d =
 abbrev pub found_12 : (number : ℕ) → Data → Data
 found_12 number d = set 12 (closure_of d number) (row_12 d)
 
-pub closure_leaves_12 : (number : ℕ) (d : Data) → d.registers 12 ≡ number → 0 < number → number ≤ 262144 →
+pub closure_leaves_12 : (number : ℕ) (d : Data) → d.registers 12 ≡ number → 0 < number → number ≤ SPEC_ROW_BYTES / 4 →
     Leaves (closure_code 12) 12 d 0 (found_12 number d)
 closure_leaves_12 number d is from to =
     let m = row_12 d in
@@ -74,7 +75,7 @@ keyed i number d =
     let m = found_5 number (with_capture 5 i d) in set 5 (word_at d.closures (closure_of d number)) m
 
 key_leaves : (i number : ℕ) (d : Data) → HasPlace (d.registers 12) i →
-    word_at d.closures (d.registers 12 + offset i) ≡ number → 0 < number → number ≤ 262144 →
+    word_at d.closures (d.registers 12 + offset i) ≡ number → 0 < number → number ≤ SPEC_ROW_BYTES / 4 →
     CLOSURES ≤ closure_of d number → closure_of d number < CLOSURES + CLOSURE_BYTES → closure_of d number % 4 ≡ 0 →
     Leaves (key_code i) 0 d 5 (keyed i number d)
 key_leaves i number d has is from to low high even =
@@ -92,7 +93,7 @@ pub record HasNumber (a i number : ℕ) (d : Data) : Type 0 where
   pub place : HasPlace a i
   pub number_is : word_at d.closures (a + offset i) ≡ number
   pub positive : 0 < number
-  pub few : number ≤ 262144
+  pub few : number ≤ SPEC_ROW_BYTES / 4
   pub from : CLOSURES ≤ closure_of d number
   pub to : closure_of d number < CLOSURES + CLOSURE_BYTES
   pub even : closure_of d number % 4 ≡ 0

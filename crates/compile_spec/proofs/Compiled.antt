@@ -5,7 +5,9 @@ use Rattle.std.proofs.Common.{◌++◌, length, Option, Some, None, refl, sym, a
 use Rattle.std.proofs.lemmas.Bool.{cases_Bool, lt-ltb, ne_eqb}
 use Rattle.std.proofs.lemmas.Bool.Decides.{nat_tests}
 use Rattle.std.proofs.lemmas.Option.{slice_get_within}
-use Rattle.word32.specs.declared.map.TheConstants.{ARENA, ARENA_WORDS, FUNCTION_ROWS, EMIT_STACK, EMIT_STACK_BYTES}
+use Rattle.limits.specs.declared.program.TheConstants.{SIZE_LIMIT}
+use Rattle.word32.specs.declared.map.TheConstants.{ARENA, ARENA_BYTES, ARENA_WORDS, EMIT_STACK, EMIT_STACK_BYTES}
+use Rattle.word32.specs.declared.map.TheConstants.{FUNCTION_ROWS, SPEC_ROW_BYTES}
 use Rattle.word32.specs.declared.map.TheConstants.{NEXT_FUNCTION_CELL, NEXT_ARENA_CELL}
 use Rattle.host_edge.specs.declared.ending.TrapKind.TheVariants.{TableLimit, ArenaLimit}
 use Rattle.history.specs.Syntax.{Syntax, Ticked}
@@ -63,7 +65,7 @@ record Tick (text : Text) (shared : Shared) (d : Data) (number : ℕ) (kind : Cl
     specification : Specification
     closure : Live text shared d number specification
     head_is : closure.closure.head ≡ syntax_head text kind syntax
-    small : syntax_size text.program syntax ≤ 16384
+    small : syntax_size text.program syntax ≤ SIZE_LIMIT
 
 tick_there : (text : Text) (shared : Shared) (d : Data) (number : ℕ) (is_value : Bool) (syntax : Syntax)
     (o : Option Specification) → HasSpecifications text shared d → specification_at number shared ≡ o →
@@ -76,7 +78,7 @@ tick_there text shared d number true syntax (Some (Expression s)) hs e h =
       specification = Expression s;
       closure = l;
       head_is = l.stands_for.head ∙ ap (syntax_head text closure.Expression) h;
-      small = subst (λ x. syntax_size text.program x ≤ 16384) h l.stands_for.small;
+      small = subst (λ x. syntax_size text.program x ≤ SIZE_LIMIT) h l.stands_for.small;
     }
 tick_there text shared d number false syntax (Some (Expression s)) hs e h = absurd h
 tick_there text shared d number true syntax (Some (Statement s)) hs e h = absurd h
@@ -86,7 +88,7 @@ tick_there text shared d number false syntax (Some (Statement s)) hs e h =
       specification = Statement s;
       closure = l;
       head_is = l.stands_for.head ∙ ap (syntax_head text closure.Statement) h;
-      small = subst (λ x. syntax_size text.program x ≤ 16384) h l.stands_for.small;
+      small = subst (λ x. syntax_size text.program x ≤ SIZE_LIMIT) h l.stands_for.small;
     }
 tick_there text shared d number true syntax (Some Local) hs e h = absurd h
 tick_there text shared d number false syntax (Some Local) hs e h = absurd h
@@ -94,7 +96,7 @@ tick_there text shared d number true syntax (Some (Param index)) hs e h = absurd
 tick_there text shared d number false syntax (Some (Param index)) hs e h = absurd h
 
 -- a live number passes the first test
-live_passes : (number count : ℕ) → 0 < number → number ≤ count → count ≤ 262144 →
+live_passes : (number count : ℕ) → 0 < number → number ≤ count → count ≤ SPEC_ROW_BYTES / 4 →
     nat_lt ((number + 4294967295) % 4294967296) count ≡ true
 live_passes number count positive few most =
     lt-ltb ((number + 4294967295) % 4294967296) count (omega (arith, positive, few, most))
@@ -114,8 +116,8 @@ in_arena size shared e = elim (cases_Bool (nat_le (shared.arena + arena_words si
 ]
 
 not_over : (arena size : ℕ) → arena + arena_words size ≤ ARENA_WORDS →
-    nat_lt 100663296 (ARENA + 4 * arena + (768 * size + 256)) ≡ false
-not_over arena size h = not_less 100663296 (ARENA + 4 * arena + (768 * size + 256)) (omega (arith, h))
+    nat_lt (ARENA + ARENA_BYTES) (ARENA + 4 * arena + (768 * size + 256)) ≡ false
+not_over arena size h = not_less (ARENA + ARENA_BYTES) (ARENA + 4 * arena + (768 * size + 256)) (omega (arith, h))
   where
     not_less : (x y : ℕ) → y ≤ x → nat_lt x y ≡ false
     not_less x y l = grind (arith, nat_tests, l)
@@ -186,7 +188,7 @@ module _ (text : Text) (pieces : ℕ → List Piece) (functions : ℕ) (c : Code
   alive : nat_lt (less d) (row_count d) ≡ true
   alive =
       let least = bytes_least hs.closures in
-      let most : row_count d ≤ 262144 = omega (arith, least, hs.memory.count, hs.memory.within) in
+      let most : row_count d ≤ SPEC_ROW_BYTES / 4 = omega (arith, least, hs.memory.count, hs.memory.within) in
       live_passes number (row_count d) tick.closure.positive (counted number refl) most
     where
       counted : (n : ℕ) → number ≡ n → n ≤ row_count d
@@ -206,10 +208,10 @@ module _ (text : Text) (pieces : ℕ → List Piece) (functions : ℕ) (c : Code
   table_zero : function / 65536 ≡ 0
   table_zero = let l = in_table function table in omega (arith, l)
 
-  near : next ≤ 100663296
+  near : next ≤ (ARENA + ARENA_BYTES)
   near = let l = in_arena size shared arena in omega (arith, l)
 
-  fits : nat_lt 100663296 (next + (768 * size + 256)) ≡ false
+  fits : nat_lt (ARENA + ARENA_BYTES) (next + (768 * size + 256)) ≡ false
   fits = not_over shared.arena size (in_arena size shared arena)
 
   abbrev tested : Data

@@ -2,8 +2,10 @@
 use Rattle.std.proofs.Common.{◌≡◌, ◌≢◌, inl, inr, ℕ, suc, ◌+◌, ◌*◌, ◌/◌, ◌%◌, ◌<◌, ◌≤◌, true, List, [], ◌∷◌, ◌++◌}
 use Rattle.std.proofs.Common.{length, refl, ap, ◌∙◌, arith, nat_lt}
 use Rattle.std.proofs.lemmas.Bool.{lt-ltb, ne_eqb}
+use Rattle.limits.specs.declared.program.TheConstants.{SIZE_LIMIT}
 use Rattle.word32.specs.Words.{wrap}
-use Rattle.word32.specs.declared.map.TheConstants.{CLOSURES, CLOSURE_BYTES, ARENA, NEXT_FUNCTION_CELL, NEXT_ARENA_CELL, GLOBAL_POINTER}
+use Rattle.word32.specs.declared.map.TheConstants.{ARENA, ARENA_BYTES, CLOSURES, CLOSURE_BYTES, GLOBAL_POINTER}
+use Rattle.word32.specs.declared.map.TheConstants.{NEXT_ARENA_CELL, NEXT_FUNCTION_CELL}
 use Rattle.word32.specs.declared.map.TheConstants.{EMIT_STACK}
 use Rattle.mips_encoder.specs.declared.instruction.Instr.{Instr}
 use Rattle.mips_model.specs.State.{Code, Data}
@@ -58,8 +60,8 @@ pub record Ready (a function next size parameters ra : ℕ) (e : Data) : Type 0 
   pub from : CLOSURES ≤ a
   pub to : a + 16 ≤ CLOSURES + CLOSURE_BYTES
   pub even : a % 4 ≡ 0
-  pub small : size ≤ 16384
-  pub near : next + (768 * size + 256) ≤ 100663296
+  pub small : size ≤ SIZE_LIMIT
+  pub near : next + (768 * size + 256) ≤ ARENA + ARENA_BYTES
   pub row : function < 65536
 
 module _ (a function next size parameters ra : ℕ) (words : List ℕ) (e : Data) (r : Ready a function next size parameters

@@ -3,8 +3,10 @@ use Rattle.std.proofs.Common.{◌≡◌, ◌≢◌, ℕ, ◌+◌, ◌*◌, ◌/�
 use Rattle.std.proofs.Common.{List, [], ◌∷◌, ◌++◌, refl, ap, ◌∙◌, arith, nat_eq}
 use Rattle.std.proofs.Common.{nat_lt}
 use Rattle.std.proofs.lemmas.Bool.{ne_eqb}
+use Rattle.limits.specs.declared.program.TheConstants.{SIZE_LIMIT}
 use Rattle.word32.specs.Words.{wrap}
-use Rattle.word32.specs.declared.map.TheConstants.{CLOSURES, CLOSURE_BYTES, SPEC_ROWS, SPEC_COUNT_CELL, GLOBAL_POINTER}
+use Rattle.word32.specs.declared.map.TheConstants.{ARENA_BYTES, CLOSURES, CLOSURE_BYTES, GLOBAL_POINTER}
+use Rattle.word32.specs.declared.map.TheConstants.{SPEC_COUNT_CELL, SPEC_ROWS, SPEC_ROW_BYTES}
 use Rattle.word32.specs.declared.map.TheConstants.{ARENA, NEXT_FUNCTION_CELL, NEXT_ARENA_CELL, EMIT_STACK}
 use Rattle.host_edge.specs.declared.ending.Ending.TheVariants.{Trap}
 use Rattle.host_edge.specs.declared.ending.TrapKind.TheVariants.{BadSpec, TableLimit, ArenaLimit}
@@ -170,7 +172,7 @@ pub record Sees (d : Data) (a kind size function next : ℕ) : Type 0 where
   pub function_is : word_at d.cells NEXT_FUNCTION_CELL ≡ function
   pub next_is : word_at d.cells NEXT_ARENA_CELL ≡ next
   pub positive : 0 < d.registers 4
-  pub few : d.registers 4 ≤ 262144
+  pub few : d.registers 4 ≤ SPEC_ROW_BYTES / 4
   pub place : closure_of d (d.registers 4) ≡ a
 
 module _ (a kind size function next : ℕ) (d : Data) (sees : Sees d a kind size function next) (g : d.registers 28 ≡
@@ -228,7 +230,7 @@ module _ (a kind size function next : ℕ) (d : Data) (sees : Sees d a kind size
   charge = 768 * size + 256
 
   abbrev over : Bool
-  over = nat_lt 100663296 (next + charge)
+  over = nat_lt (ARENA + ARENA_BYTES) (next + charge)
 
   abbrev n11 : Data
   n11 = set 5 (wrap (size * 512 % 4294967296 + size * 256 % 4294967296)) (set 6 (wrap (size * 256)) n10)
@@ -240,9 +242,9 @@ module _ (a kind size function next : ℕ) (d : Data) (sees : Sees d a kind size
   n13 = set 5 charge n12
 
   abbrev n14 : Data
-  n14 = set 1 (bit over) (set 1 100663296 (set 6 (next + charge) n13))
+  n14 = set 1 (bit over) (set 1 (ARENA + ARENA_BYTES) (set 6 (next + charge) n13))
 
-  pub charges : size ≤ 16384 → next ≤ 100663296 → Leaves charge_code 0 n10 0 n14
+  pub charges : size ≤ SIZE_LIMIT → next ≤ (ARENA + ARENA_BYTES) → Leaves charge_code 0 n10 0 n14
   charges small near =
       let e1 : wrap (wrap (size * 512 % 4294967296 + size * 256 % 4294967296) + 256) ≡ charge = omega (arith, small) in
       let e2 : wrap (next + charge) ≡ next + charge = omega (arith, small, near) in
@@ -311,7 +313,7 @@ module _ (c : Code) (entry : ℕ) (low : entry + 256 ≤ ARENA) (h : HasAt c ent
         (omega (arith, low)) refl refl refl (at14 c entry h).0 (at14 c entry h).1.0)))
         (break_ends 25 TableLimit c (traps_at c entry h + 4) m10 refl (traps_stand c entry h).1.0)
 
-    module _ (zero : function / 65536 ≡ 0) (small : size ≤ 16384) (near : next ≤ 100663296) where
+    module _ (zero : function / 65536 ≡ 0) (small : size ≤ SIZE_LIMIT) (near : next ≤ (ARENA + ARENA_BYTES)) where
       at_arena : Reaches 23 (at c entry 0 d) (at c (p23 c entry h) 0 m14)
       at_arena =
           let does : effect (bne 5 0 47) m9 ≡ Branches false 47 = rw zero refl in
@@ -322,7 +324,7 @@ module _ (c : Code) (entry : ℕ) (low : entry + 256 ≤ ARENA) (h : HasAt c ent
           (leaves_run charge_code c 0 0 (p16 c entry h) m10 m14 (charges a kind size function next d sees g small near)
           (front c (p16 c entry h) charge_code arena_test (at16 c entry h)))
 
-      pub arena_ends : nat_lt 100663296 (next + (768 * size + 256)) ≡ true →
+      pub arena_ends : nat_lt (ARENA + ARENA_BYTES) (next + (768 * size + 256)) ≡ true →
           EndsIn 26 26 (Ended (Trap ArenaLimit)) (at c entry 0 d) c d.outside
       arena_ends full =
           let does : effect (bne 1 0 39) m14 ≡ Branches true 39 = rw full refl in
@@ -332,7 +334,7 @@ module _ (c : Code) (entry : ℕ) (low : entry + 256 ≤ ARENA) (h : HasAt c ent
           does (omega (arith, low)) refl refl refl (at23 c entry h).0 (at23 c entry h).1.0)))
           (break_ends 24 ArenaLimit c (traps_at c entry h + 4 + 4) m15 refl (traps_stand c entry h).1.1.0)
 
-      pub passes : nat_lt 100663296 (next + (768 * size + 256)) ≡ false →
+      pub passes : nat_lt (ARENA + ARENA_BYTES) (next + (768 * size + 256)) ≡ false →
           Reaches 25 (at c entry 0 d) (at c (p25 c entry h) 0 m15)
       passes room =
           let does : effect (bne 1 0 39) m14 ≡ Branches false 39 = rw room refl in

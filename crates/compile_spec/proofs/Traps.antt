@@ -1,11 +1,12 @@
 -- The traps of a compile are those of the meaning.
-use Rattle.std.proofs.Common.{◌≡◌, inl, inr, ℕ, zero, suc, ◌+◌, ◌*◌, ◌<◌, ◌≤◌, true, false, List, []}
+use Rattle.std.proofs.Common.{◌/◌, ◌≡◌, inl, inr, ℕ, zero, suc, ◌+◌, ◌*◌, ◌<◌, ◌≤◌, true, false, List, []}
 use Rattle.std.proofs.Common.{◌∷◌, length, Option, Some, None, refl, sym, ap, ◌∙◌, subst, arith, nat_lt, nat_le}
 use Rattle.std.proofs.Common.{slice_get}
 use Rattle.std.proofs.lemmas.Bool.{cases_Bool, lt-ltb}
 use Rattle.std.proofs.lemmas.Bool.Decides.{nat_tests}
 use Rattle.std.proofs.lemmas.Option.{slice_get_past}
-use Rattle.word32.specs.declared.map.TheConstants.{ARENA, ARENA_WORDS, FUNCTION_ROWS}
+use Rattle.limits.specs.declared.program.TheConstants.{SIZE_LIMIT}
+use Rattle.word32.specs.declared.map.TheConstants.{ARENA, ARENA_BYTES, ARENA_WORDS, FUNCTION_ROWS, SPEC_ROW_BYTES}
 use Rattle.host_edge.specs.declared.ending.Ending.TheVariants.{Trap}
 use Rattle.host_edge.specs.declared.ending.TrapKind.{TrapKind}
 use Rattle.host_edge.specs.declared.ending.TrapKind.TheVariants.{BadSpec, TableLimit, ArenaLimit}
@@ -37,8 +38,8 @@ there (x ∷ xs) (suc n) l e = there xs n (omega (arith, l)) e
 
 -- the charge in bytes is over the end of the arena where it is in words
 is_over : (arena size : ℕ) → ARENA_WORDS < arena + arena_words size →
-    nat_lt 100663296 (ARENA + 4 * arena + (768 * size + 256)) ≡ true
-is_over arena size more = lt-ltb 100663296 (ARENA + 4 * arena + (768 * size + 256)) (omega (arith, more))
+    nat_lt (ARENA + ARENA_BYTES) (ARENA + 4 * arena + (768 * size + 256)) ≡ true
+is_over arena size more = lt-ltb (ARENA + ARENA_BYTES) (ARENA + 4 * arena + (768 * size + 256)) (omega (arith, more))
 
 same_trap : (a b : TrapKind) → Some a ≡ Some b → a ≡ b
 same_trap a b e = cc
@@ -54,7 +55,7 @@ module _ (text : Text) (functions : ℕ) (shared : Shared) (d : Data) (hs : HasS
   abbrev next : ℕ
   next = ARENA + 4 * shared.arena
 
-  few_rows : row_count d ≤ 262144
+  few_rows : row_count d ≤ SPEC_ROW_BYTES / 4
   few_rows = let least = bytes_least hs.closures in omega (arith, least, hs.memory.count, hs.memory.within)
 
   counted : row_count d ≡ length shared.specifications
@@ -108,7 +109,7 @@ module _ (text : Text) (functions : ℕ) (shared : Shared) (d : Data) (hs : HasS
           (sees s l k size is z) over)
 
       ends_tick : (k : ClosureKind) (syntax : Syntax) → l.closure.head.kind ≡ closure_number k →
-          l.closure.head.size ≡ syntax_size text.program syntax → syntax_size text.program syntax ≤ 16384
+          l.closure.head.size ≡ syntax_size text.program syntax → syntax_size text.program syntax ≤ SIZE_LIMIT
           → nat_lt (closure_number k) 3 ≡ true
           → size_traps function (syntax_size text.program syntax) shared ≡ Some kind → EndsAs kind
       ends_tick k syntax is z small tick some = elim (cases_Bool (nat_lt function FUNCTION_ROWS)) [

@@ -4,9 +4,10 @@ use Rattle.std.proofs.Common.{None, sym, ap, ◌∙◌, subst, arith, nat_le}
 use Rattle.std.specs.Fn.{iterate}
 use Rattle.std.proofs.lemmas.Bool.{cases_lt}
 use Rattle.std.proofs.lemmas.Bool.Decides.{nat_tests}
+use Rattle.limits.specs.declared.program.TheConstants.{FRAME_OBJECT_BYTES}
 use Rattle.pace.specs.Pace.{Seen}
 use Rattle.pace.proofs.Runs.{iterate_add}
-use Rattle.word32.specs.declared.map.TheConstants.{STACK, STACK_TOP, OBJECTS_END, GLOBAL_POINTER}
+use Rattle.word32.specs.declared.map.TheConstants.{GLOBAL_POINTER, OBJECTS_END, STACK, STACK_BYTES, STACK_TOP}
 use Rattle.host_edge.specs.declared.ending.Ending.TheVariants.{Trap}
 use Rattle.host_edge.specs.declared.ending.TrapKind.TheVariants.{StackLimit, FrameLimit}
 use Rattle.history.specs.Events.{Item, End, Ended}
@@ -96,7 +97,8 @@ module _ (s : Setting) (st : Standing s) (f : Function) (known : s.program.funct
 
   pub holds_begun : (arguments : ℕ → Option ℕ) (waiting : List Frame) (log : Log) (d : Data)
       → Enters s arguments waiting log d
-      → log.shared.used + f.charge ≤ 16777216 → log.shared.frames + f.object ≤ 4194304 → Begun s f arguments waiting
+      → log.shared.used + f.charge ≤ STACK_BYTES → log.shared.frames + f.object ≤ FRAME_OBJECT_BYTES
+      → Begun s f arguments waiting
       log d
   holds_begun arguments waiting log d en room space =
       let places = places_of s f in
@@ -148,22 +150,24 @@ module _ (s : Setting) (st : Standing s) (f : Function) (known : s.program.funct
       let suits = stands.suits in
       let top = en.extents.used in
       let obj = en.extents.frames in
-      elim (cases_lt 16777216 (log.shared.used + f.charge)) [
-        | inl over ↦ (let t : nat_le (log.shared.used + f.charge) 16777216 ≡ false = is_over _ _ over in
+      elim (cases_lt STACK_BYTES (log.shared.used + f.charge)) [
+        | inl over ↦ (let t : nat_le (log.shared.used + f.charge) STACK_BYTES ≡ false = is_over _ _ over in
             let code = front s.code f.address (take_frame f.charge) _ (front_stands s.code f (places_of s f) stands) in
             let x = frame_end f.charge s.code f.address d suits.small en.from (omega (arith, top))
             (omega (arith, top, over)) code in
             rw t (ends_pay s log (paid o log) from (at s.code f.address 0 d) l m 8 8 (Ended (Trap StackLimit))
             d.outside (omega (arith, lo)) (omega (arith, hi)) en.memory.history en.memory.making r x))
-        | inr fits ↦ (let t : nat_le (log.shared.used + f.charge) 16777216 ≡ true = is_within _ _ fits in
-            elim (cases_lt 4194304 (log.shared.frames + f.object)) [
-              | inl over ↦ (let k : nat_le (log.shared.frames + f.object) 4194304 ≡ false = is_over _ _ over in
+        | inr fits ↦ (let t : nat_le (log.shared.used + f.charge) STACK_BYTES ≡ true = is_within _ _ fits in
+            elim (cases_lt FRAME_OBJECT_BYTES (log.shared.frames + f.object)) [
+              | inl over ↦ (let k : nat_le (log.shared.frames + f.object) FRAME_OBJECT_BYTES ≡ false =
+                is_over _ _ over in
                   let x = overflows f (places_of s f) s.code d stands (omega (arith, top, fits)) (omega (arith, top))
                   en.even en.global (omega (arith, en.objects_to)) (omega (arith, obj, over)) in
                   rw (t, k) (ends_pay s log (paid o log) from (at s.code f.address 0 d) l m 17 33
                   (Ended (Trap FrameLimit)) d.outside (omega (arith, lo)) (omega (arith, hi))
                   en.memory.history en.memory.making r x))
-              | inr space ↦ (let k : nat_le (log.shared.frames + f.object) 4194304 ≡ true = is_within _ _ space in
+              | inr space ↦ (let k : nat_le (log.shared.frames + f.object) FRAME_OBJECT_BYTES ≡ true =
+                is_within _ _ space in
                   let b = holds_begun arguments (moved_on w ∷ waiting) (paid o log) d en (omega (arith, fits))
                   (omega (arith, space)) in
                   rw (t, k) (runs_pay s st (begun f arguments) nothing None (moved_on w ∷ waiting) log

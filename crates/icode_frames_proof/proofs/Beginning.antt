@@ -3,7 +3,7 @@ use Rattle.std.proofs.Common.{◌≡◌, ◌≢◌, inl, inr, ℕ, suc, ◌+◌,
 use Rattle.std.proofs.Common.{length, refl, sym, ap, ◌∙◌, subst, arith, if◌then◌else◌, append_assoc}
 use Rattle.std.proofs.lemmas.Bool.{cases_Bool}
 use Rattle.word32.specs.Space.{update}
-use Rattle.word32.specs.declared.map.TheConstants.{GLOBAL_POINTER, OBJECTS_END, SEGMENT_BYTES, STACK}
+use Rattle.word32.specs.declared.map.TheConstants.{GLOBAL_POINTER, OBJECTS_END, SEGMENT_BYTES, STACK, STACK_BYTES}
 use Rattle.mips_encoder.specs.declared.instruction.Instr.{Instr}
 use Rattle.mips_encoder.specs.Addresses.{past}
 use Rattle.host_edge.specs.declared.ending.Ending.TheVariants.{Trap}
@@ -87,7 +87,7 @@ module _ (f : Function) (places : List ℕ) (c : Code) (d : Data) (st : Stands c
       let kept = saved places in
       let are = saved_are places in
       let big : 128 ≤ f.charge = omega (arith, st.suits.room) in
-      let small : f.charge ≤ 16777216 = omega (arith, over, top) in
+      let small : f.charge ≤ STACK_BYTES = omega (arith, over, top) in
       let code = front c f.address first second stand in
       let go = prologue_reaches f.charge kept c f.address d are.low big small st.suits.whole start_low over top even
       code in

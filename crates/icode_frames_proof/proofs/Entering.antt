@@ -3,7 +3,7 @@ use Rattle.std.proofs.Common.{◌≡◌, ◌≢◌, ℕ, ◌+◌, ◌-◌, ◌*�
 use Rattle.std.proofs.Common.{length, refl, sym, ap, ◌∙◌, subst, arith, nat_lt}
 use Rattle.std.specs.Fn.{iterate}
 use Rattle.std.proofs.lemmas.Bool.Decides.{nat_tests}
-use Rattle.word32.specs.declared.map.TheConstants.{SEGMENT_BYTES, STACK}
+use Rattle.word32.specs.declared.map.TheConstants.{SEGMENT_BYTES, STACK, STACK_BYTES}
 use Rattle.pace.proofs.Runs.{iterate_add}
 use Rattle.word32.specs.Words.{difference}
 use Rattle.word32.specs.Space.{update}
@@ -81,7 +81,7 @@ abbrev pub enters_with : ℕ → List ℕ → Data → Data
 enters_with frame kept d = saved_all kept (taken (pointer d - frame) frame d)
 
 module _ (frame : ℕ) (kept : List ℕ) (c : Code) (a : ℕ) (d : Data) (all : AllPlaces kept) (big : 128 ≤ frame)
-    (small : frame ≤ 16777216) (whole : frame % 4 ≡ 0) (low : a < SEGMENT_BYTES) (over : frame + STACK ≤ pointer d)
+    (small : frame ≤ STACK_BYTES) (whole : frame % 4 ≡ 0) (low : a < SEGMENT_BYTES) (over : frame + STACK ≤ pointer d)
     (top : pointer d ≤ 2147483648) (even : pointer d % 4 ≡ 0) (h : HasAt c a (take_frame frame ++ saves kept)) where
   abbrev sp : ℕ
   sp = pointer d - frame

@@ -21,7 +21,8 @@ use Rattle.history.specs.Events.{Ended}
 use Rattle.mips_model.specs.Steps.{ended}
 use Rattle.std.specs.Int.Bits.{xor_add_and, xor_self}
 use Rattle.std.proofs.lemmas.Nat.{and_le_l, and_le_r}
-use Rattle.word32.specs.declared.map.TheConstants.{OBJECTS, OBJECTS_END, SEGMENT_BYTES, FUNCTION_TABLE, FUNCTION_TABLE_BYTES, STACK, GLOBAL_POINTER}
+use Rattle.word32.specs.declared.map.TheConstants.{ARENA, ARENA_BYTES, FUNCTION_TABLE, FUNCTION_TABLE_BYTES}
+use Rattle.word32.specs.declared.map.TheConstants.{GLOBAL_POINTER, OBJECTS, OBJECTS_END, SEGMENT_BYTES, STACK, TEXT}
 use Rattle.icode_frames_proof.proofs.Prologue.{ends_in, ends_late}
 use Rattle.icode_templates_proof.specs.Moves.{EndsIn}
 use Rattle.icode_templates_proof.proofs.Keeping.{with_registers}
@@ -40,15 +41,15 @@ region_is a lo hi =
     let t8 : nat_le 541065216 a ≡ true = grind (arith, nat_tests) in
     let t9 : nat_lt a 542113792 ≡ false = grind (arith, nat_tests) in
     let s1 : nat_le 543162368 a ≡ false = grind (arith, nat_tests) in
-    let s2 : nat_le 4194304 a ≡ true = grind (arith, nat_tests) in
+    let s2 : nat_le TEXT a ≡ true = grind (arith, nat_tests) in
     let s3 : nat_lt a 67108864 ≡ false = grind (arith, nat_tests) in
     let s4 : nat_le 67108864 a ≡ true = grind (arith, nat_tests) in
-    let s5 : nat_lt a 100663296 ≡ false = grind (arith, nat_tests) in
+    let s5 : nat_lt a (ARENA + ARENA_BYTES) ≡ false = grind (arith, nat_tests) in
     let s6 : nat_le FUNCTION_TABLE a ≡ true = grind (arith, nat_tests) in
     let s7 : nat_lt a (FUNCTION_TABLE + FUNCTION_TABLE_BYTES) ≡ true = grind (arith, nat_tests) in
     rw (t1, t2, t3, t4, t5, t6, t7, t8, t9, s1, s2, s3, s4, s5, s6, s7) refl
 
-pub table_load : (t a n : ℕ) (d : Data) → nat_eq t 0 ≡ false → a ≡ FUNCTION_TABLE + 4 * n → n < 131072
+pub table_load : (t a n : ℕ) (d : Data) → nat_eq t 0 ≡ false → a ≡ FUNCTION_TABLE + 4 * n → n < FUNCTION_TABLE_BYTES / 4
     → load t a Word d ≡ Loads t (with_registers (update t (table_word d.table n) d.registers) d)
 table_load t a n d n0 e l =
     let r = region_is a (omega (arith, e)) (omega (arith, e, l)) in

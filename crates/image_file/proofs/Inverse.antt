@@ -44,6 +44,8 @@ use Rattle.std.specs.List.{list_all, flat_map}
 use Rattle.std.proofs.Math.Seq.{take-length}
 use Rattle.std.proofs.lemmas.List.{length-take, length-take-le, length-drop}
 use Rattle.std.proofs.lemmas.Bool.{eqb-true}
+use Rattle.limits.specs.declared.program.TheConstants.{MOST_FUNCTIONS}
+use Rattle.word32.specs.declared.map.TheConstants.{GLOBAL_BYTES, TEXT_WORDS}
 use Rattle.image_file.specs.Image.{ImageParts, image_of, IsImage, is_function_in, is_in_text, has_good_entries}
 use Rattle.image_file.specs.Format.{
   word_bytes,
@@ -86,9 +88,9 @@ pub record Sound (bytes : List ℕ) : Type 0 where
   pub is_long : 24 ≤ length bytes
   pub has_magic : word_in bytes 0 ≡ 0x5449434b
   pub has_version : word_in bytes 4 ≡ 1
-  pub text_is_small : word_in bytes 12 ≤ 15728640
-  pub bytes_are_few : word_in bytes 16 ≤ 4194304
-  pub functions_are_few : word_in bytes 20 ≤ 65535
+  pub text_is_small : word_in bytes 12 ≤ TEXT_WORDS
+  pub bytes_are_few : word_in bytes 16 ≤ GLOBAL_BYTES
+  pub functions_are_few : word_in bytes 20 ≤ MOST_FUNCTIONS
   pub ends : length bytes ≡ end_at bytes
   pub entries_are_good : has_good_entries (parts_in bytes) ≡ true
 
@@ -208,13 +210,15 @@ and_both : (a b : Bool) → a ≡ true → b ≡ true → (a && b) ≡ true
 and_both true b h k = k
 and_both false b h k = h
 
-small_counts : (bytes : List ℕ) → word_in bytes 12 ≤ 15728640 → word_in bytes 16 ≤ 4194304 → word_in bytes 20 ≤ 65535 →
+small_counts : (bytes : List ℕ) → word_in bytes 12 ≤ TEXT_WORDS → word_in bytes 16 ≤ GLOBAL_BYTES →
+    word_in bytes 20 ≤ MOST_FUNCTIONS →
     has_small_counts bytes ≡ true
 small_counts bytes h12 h16 h20 =
-    and_both (nat_le (word_in bytes 12) 15728640 && nat_le (word_in bytes 16) 4194304) (nat_le (word_in bytes 20) 65535)
-    (and_both (nat_le (word_in bytes 12) 15728640) (nat_le (word_in bytes 16) 4194304)
-    (nat_le-true (word_in bytes 12) 15728640 h12) (nat_le-true (word_in bytes 16) 4194304 h16))
-    (nat_le-true (word_in bytes 20) 65535 h20)
+    and_both (nat_le (word_in bytes 12) TEXT_WORDS && nat_le (word_in bytes 16) GLOBAL_BYTES)
+    (nat_le (word_in bytes 20) MOST_FUNCTIONS)
+    (and_both (nat_le (word_in bytes 12) TEXT_WORDS) (nat_le (word_in bytes 16) GLOBAL_BYTES)
+    (nat_le-true (word_in bytes 12) TEXT_WORDS h12) (nat_le-true (word_in bytes 16) GLOBAL_BYTES h16))
+    (nat_le-true (word_in bytes 20) MOST_FUNCTIONS h20)
 
 -- what is parsed of a spelling
 pub parsed-spelling : (i : ImageParts) → IsImage i → parsed (spelling i) ≡ Ok i

@@ -39,7 +39,7 @@ get_behind (x ∷ front) w rest = get_behind front w rest
 length_one : (front : List ℕ) (w : ℕ) → length (front ++ w ∷ []) ≡ length front + 1
 length_one front w = length-append front (w ∷ [])
 
-text_word_at : (front : List ℕ) (w : ℕ) (rest : List ℕ) (a : ℕ) → a ≡ 4194304 + 4 * length front →
+text_word_at : (front : List ℕ) (w : ℕ) (rest : List ℕ) (a : ℕ) → a ≡ TEXT + 4 * length front →
     text_of (front ++ w ∷ rest) (a / 4) ≡ Some w
 text_word_at front w rest a is =
     let l : nat_lt (a / 4) (TEXT / 4) ≡ false = grind (arith, nat_tests) in
@@ -47,7 +47,7 @@ text_word_at front w rest a is =
     rw (l, i) (get_behind front w rest)
 
 -- instructions stand behind the words that are there
-stand_behind : (is : List Instr) (front : List ℕ) (a : ℕ) → AllFit is → a ≡ 4194304 + 4 * length front →
+stand_behind : (is : List Instr) (front : List ℕ) (a : ℕ) → AllFit is → a ≡ TEXT + 4 * length front →
     length front + length is ≤ 15728640
     → HasAt (loaded (front ++ map word_of is)) a is
 stand_behind [] front a fit here few = tt
@@ -55,7 +55,7 @@ stand_behind (i ∷ is) front a fit here few =
     let w = word_of i in
     let long : length (i ∷ is) ≡ length is + 1 = omega arith in
     let one = length_one front w in
-    let next : a + 4 ≡ 4194304 + 4 * length (front ++ w ∷ []) = omega (arith, one, here) in
+    let next : a + 4 ≡ TEXT + 4 * length (front ++ w ∷ []) = omega (arith, one, here) in
     let few' : length (front ++ w ∷ []) + length is ≤ 15728640 = omega (arith, one, long, few) in (
       fetch_text (loaded (front ++ w ∷ map word_of is)) a w i (omega (arith, here)) (omega (arith, here, few, long))
           (text_word_at front w (map word_of is) a here) (instr_of-word_of i fit.0),
@@ -65,8 +65,8 @@ stand_behind (i ∷ is) front a fit here few =
 
 -- the instructions of a text stand where it is loaded
 pub instructions_stand : (is : List Instr) → AllFit is → length is ≤ 15728640 →
-    HasAt (loaded (map word_of is)) 4194304 is
-instructions_stand is fit few = stand_behind is [] 4194304 fit refl (omega (arith, few))
+    HasAt (loaded (map word_of is)) TEXT is
+instructions_stand is fit few = stand_behind is [] TEXT fit refl (omega (arith, few))
 
 -- what is fetched from an image as it is loaded is a word of its text
 module _ (image : ImageParts) (a : ℕ) (i : Instr) where

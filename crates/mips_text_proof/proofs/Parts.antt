@@ -2,6 +2,7 @@
 use Rattle.std.proofs.Common.{◌≡◌, ℕ, ◌+◌, ◌*◌, ◌%◌, ◌<◌, ◌≤◌, ◌==◌, true, ◌&&◌, nat_lt, nat_le, List, [], ◌∷◌, length}
 use Rattle.std.proofs.Common.{ltb-true, leb-true, arith}
 use Rattle.std.specs.List.{list_all}
+use Rattle.word32.specs.declared.map.TheConstants.{TEXT}
 use Rattle.image_file.specs.declared.image.FunctionEntry.{FunctionEntry}
 use Rattle.image_file.specs.Image.{ImageParts, IsImage, is_in_text, is_function_in}
 use Rattle.mips_text_proof.proofs.Feeds.{both_left, both_right}
@@ -14,12 +15,12 @@ pub record IsInside (words address : ℕ) : Type 0 where
 
 pub inside : (words a : ℕ) → words ≤ 15728640 → is_in_text words a ≡ true → IsInside words a
 inside words a small h =
-    let bounds : (nat_le 4194304 a && nat_lt a (4194304 + 4 * words)) ≡ true =
-    both_left (nat_le 4194304 a && nat_lt a (4194304 + 4 * words)) (a % 4 == 0) h in
-    let begin : 4194304 ≤ a =
-    leb-true 4194304 a (both_left (nat_le 4194304 a) (nat_lt a (4194304 + 4 * words)) bounds) in
-    let end : a < 4194304 + 4 * words =
-    ltb-true a (4194304 + 4 * words) (both_right (nat_le 4194304 a) (nat_lt a (4194304 + 4 * words)) bounds) in
+    let bounds : (nat_le TEXT a && nat_lt a (TEXT + 4 * words)) ≡ true =
+    both_left (nat_le TEXT a && nat_lt a (TEXT + 4 * words)) (a % 4 == 0) h in
+    let begin : TEXT ≤ a =
+    leb-true TEXT a (both_left (nat_le TEXT a) (nat_lt a (TEXT + 4 * words)) bounds) in
+    let end : a < TEXT + 4 * words =
+    ltb-true a (TEXT + 4 * words) (both_right (nat_le TEXT a) (nat_lt a (TEXT + 4 * words)) bounds) in
     record { low = omega (arith, end, small); some = omega (arith, begin, end) }
 
 -- A function that is in the text, whose numbers are words.

@@ -1,11 +1,12 @@
 -- The stretch that appends a specification: where there is room, its closure, its row and the cells are written.
-use Rattle.std.proofs.Common.{◌≡◌, ◌≢◌, inl, inr, ℕ, suc, ◌+◌, ◌*◌, ◌%◌, ◌<◌, ◌≤◌, Bool, true, false, List, []}
+use Rattle.std.proofs.Common.{◌/◌, ◌≡◌, ◌≢◌, inl, inr, ℕ, suc, ◌+◌, ◌*◌, ◌%◌, ◌<◌, ◌≤◌, Bool, true, false, List, []}
 use Rattle.std.proofs.Common.{◌∷◌, ◌++◌}
 use Rattle.std.proofs.Common.{Some, None, refl, sym, ap, subst, arith, nat_eq, nat_lt, nat_le}
 use Rattle.std.proofs.lemmas.Bool.{cases_Bool, ne_eqb}
 use Rattle.std.proofs.lemmas.Bool.Decides.{nat_tests}
 use Rattle.word32.specs.Space.{update}
 use Rattle.word32.specs.declared.map.TheConstants.{CLOSURES, CLOSURE_BYTES, GLOBAL_POINTER, SEGMENT_BYTES, SPEC_ROWS}
+use Rattle.word32.specs.declared.map.TheConstants.{SPEC_ROW_BYTES}
 use Rattle.word32.specs.declared.map.TheConstants.{NEXT_CLOSURE_CELL, SPEC_COUNT_CELL, CLOSURE_CELL}
 use Rattle.host_edge.specs.declared.ending.Ending.TheVariants.{Trap}
 use Rattle.host_edge.specs.declared.ending.TrapKind.{TrapKind}
@@ -57,7 +58,7 @@ apart t r h k = ne_eqb r t (not_low t h r k)
 module _ (a behind n : ℕ) (k : Head) (d : Data) (g : d.registers 28 ≡ GLOBAL_POINTER) (e2 : d.registers 2 ≡ a) (e3 :
     d.registers 3 ≡ k.size) (e4 : d.registers 4 ≡ k.first) (e5 : d.registers 5 ≡ k.kind) (e6 : d.registers 6 ≡ behind)
     (e7 : d.registers 7 ≡ k.parameters) (count : row_count d ≡ n) (from : CLOSURES ≤ a) (to : a + 16 ≤ CLOSURES +
-    CLOSURE_BYTES) (even : a % 4 ≡ 0) (few : n < 262144) where
+    CLOSURE_BYTES) (even : a % 4 ≡ 0) (few : n < SPEC_ROW_BYTES / 4) where
   abbrev w1 : Data
   w1 = record d { closures = with_word a k.first d.closures }
 

@@ -7,6 +7,7 @@ use Rattle.std.proofs.lemmas.Bool.Decides.{nat_tests}
 use Rattle.std.proofs.lemmas.Option.{slice_get_past}
 use Rattle.word32.specs.Space.{update}
 use Rattle.word32.specs.declared.map.TheConstants.{CLOSURES, CLOSURE_BYTES, GLOBAL_POINTER, PARAMETERS_CELL}
+use Rattle.word32.specs.declared.map.TheConstants.{SPEC_ROW_BYTES}
 use Rattle.word32.specs.declared.map.TheConstants.{SIZE_CELL, SPEC_ROWS}
 use Rattle.host_edge.specs.declared.ending.Ending.TheVariants.{Trap}
 use Rattle.host_edge.specs.declared.ending.TrapKind.{TrapKind}
@@ -231,7 +232,7 @@ module _ (named : Named) (c : Code) (entry : ℕ) (ks : List Closure) (d : Data)
     stands : Stands d (suc n) k
     stands = has.stand n k v.there
 
-    few : n < 262144
+    few : n < SPEC_ROW_BYTES / 4
     few = let least = bytes_least ks in omega (arith, v.below, least, has.within)
 
     less_is : less ≡ n

@@ -1,6 +1,7 @@
 -- The routines that make specifications, run at the beginning of the text, computed: at each limit and one beside it.
 use Rattle.std.proofs.Common.{◌≡◌, ℕ, ◌+◌, List, [], ◌∷◌, map, false, Option, Some, refl}
 use Rattle.std.specs.Fn.{iterate}
+use Rattle.limits.specs.declared.program.TheConstants.{SIZE_LIMIT}
 use Rattle.word32.specs.Space.{update}
 use Rattle.word32.specs.declared.map.TheConstants.{TEXT, CLOSURES, SPEC_ROWS, GLOBAL_POINTER, NEXT_CLOSURE_CELL}
 use Rattle.word32.specs.declared.map.TheConstants.{SPEC_COUNT_CELL, SIZE_CELL, PARAMETERS_CELL, CLOSURE_CELL}
@@ -80,8 +81,8 @@ ended_as w = w.ending
 abbrev tick : (count captures next size : ℕ) → World
 tick count captures next size = ran count new_code (called 4199000 2 captures 2 next size 3)
 
-of_a_tick : made (tick 30 1 (CLOSURES + 40) 16384) ≡
-    third 20 (record { first = 4199000; kind = 2; size = 16384; parameters = 3 }) 77
+of_a_tick : made (tick 30 1 (CLOSURES + 40) SIZE_LIMIT) ≡
+    third 20 (record { first = 4199000; kind = 2; size = SIZE_LIMIT; parameters = 3 }) 77
 of_a_tick = refl
 
 of_no_capture : made (tick 30 0 (CLOSURES + 40) 1) ≡

@@ -5,6 +5,7 @@ use Rattle.std.proofs.Common.{append-nil, length-append, nat_lt, if◌then◌els
 use Rattle.std.specs.Fn.{iterate}
 use Rattle.std.proofs.lemmas.List.{length-replicate}
 use Rattle.std.proofs.lemmas.Bool.Decides.{nat_tests}
+use Rattle.limits.specs.declared.program.TheConstants.{MOST_FUNCTIONS}
 use Rattle.word32.specs.declared.map.TheConstants.{ARENA, CLOSURES, HEAP, OBJECTS, SEGMENT_BYTES, TEXT}
 use Rattle.word32.specs.Bytes.{word_in}
 use Rattle.word32.specs.Space.{bytes_from}
@@ -36,31 +37,31 @@ get_behind : (xs : List ℕ) (w : ℕ) (rest : List ℕ) → slice_get (xs ++ w 
 get_behind [] w rest = refl
 get_behind (x ∷ xs) w rest = get_behind xs w rest
 
-word_there : (xs : List ℕ) (w : ℕ) (rest : List ℕ) (a : ℕ) → a ≡ 4194304 + 4 * length xs →
+word_there : (xs : List ℕ) (w : ℕ) (rest : List ℕ) (a : ℕ) → a ≡ TEXT + 4 * length xs →
     text_of (xs ++ w ∷ rest) (a / 4) ≡ Some w
 word_there xs w rest a is =
     let l : nat_lt (a / 4) (TEXT / 4) ≡ false = grind (arith, nat_tests) in
     let i : a / 4 - TEXT / 4 ≡ length xs = omega (arith, is) in
     rw (l, i) (get_behind xs w rest)
 
-pub words_there : (xs ws rest : List ℕ) (a : ℕ) → a ≡ 4194304 + 4 * length xs →
+pub words_there : (xs ws rest : List ℕ) (a : ℕ) → a ≡ TEXT + 4 * length xs →
     WordsAt (loaded (xs ++ (ws ++ rest))) a ws
 words_there xs [] rest a is = tt
 words_there xs (w ∷ ws) rest a is =
     let one = length-append xs (w ∷ []) in
-    let next : a + 4 ≡ 4194304 + 4 * length (xs ++ w ∷ []) = omega (arith, one, is) in (
+    let next : a + 4 ≡ TEXT + 4 * length (xs ++ w ∷ []) = omega (arith, one, is) in (
       word_there xs w (ws ++ rest) a is,
       subst (λ (text : List ℕ). WordsAt (loaded text) (a + 4) ws) (append_assoc xs (w ∷ []) (ws ++ rest))
           (words_there (xs ++ w ∷ []) ws rest (a + 4) next),
     )
 
 -- the words of a text's first part, and of its last
-pub first_words : (ws more rest : List ℕ) → WordsAt (loaded ((ws ++ more) ++ rest)) 4194304 ws
+pub first_words : (ws more rest : List ℕ) → WordsAt (loaded ((ws ++ more) ++ rest)) TEXT ws
 first_words ws more rest =
-    subst (λ (text : List ℕ). WordsAt (loaded text) 4194304 ws) (sym (append_assoc ws more rest))
-    (words_there [] ws (more ++ rest) 4194304 refl)
+    subst (λ (text : List ℕ). WordsAt (loaded text) TEXT ws) (sym (append_assoc ws more rest))
+    (words_there [] ws (more ++ rest) TEXT refl)
 
-pub last_words : (xs ws : List ℕ) (a : ℕ) → a ≡ 4194304 + 4 * length xs → WordsAt (loaded (xs ++ ws)) a ws
+pub last_words : (xs ws : List ℕ) (a : ℕ) → a ≡ TEXT + 4 * length xs → WordsAt (loaded (xs ++ ws)) a ws
 last_words xs ws a is = subst (λ (text : List ℕ). WordsAt (loaded (xs ++ text)) a ws) (append-nil ws)
     (words_there xs ws [] a is)
 
@@ -80,7 +81,7 @@ cell_fits below word some small = (
   ((omega arith, omega arith, omega arith), ((omega arith, omega (arith, some), omega arith), tt)),
 )
 
-set_up_fits : (functions : ℕ) → functions ≤ 65535 → AllFit (set_up functions)
+set_up_fits : (functions : ℕ) → functions ≤ MOST_FUNCTIONS → AllFit (set_up functions)
 set_up_fits n few = (
   (omega arith, omega arith),
   (
@@ -107,7 +108,8 @@ call_fits main low = (
   ),
 )
 
-pub start_fits : (main functions : ℕ) → main < SEGMENT_BYTES → functions ≤ 65535 → AllFit (start_code main functions)
+pub start_fits : (main functions : ℕ) → main < SEGMENT_BYTES → functions ≤ MOST_FUNCTIONS →
+    AllFit (start_code main functions)
 start_fits main n low few =
     all_fit_append (set_up n) (jal main ∷ nop ∷ exit_with_answer) (set_up_fits n few) (call_fits main low)
 
@@ -130,7 +132,7 @@ bytes_small bytes small n = by (nat_lt n (OBJECTS / 4))
 
 -- where main is called, and where the start waits with its exit
 abbrev pub call_at : ℕ
-call_at = past 4194304 (set_up 1)
+call_at = past TEXT (set_up 1)
 
 abbrev pub exit_at : ℕ
 exit_at = call_at + 8
@@ -139,19 +141,19 @@ exit_at = call_at + 8
 -- with these bytes
 module _ (main functions : ℕ) (even : main % 4 ≡ 0) (low : main < SEGMENT_BYTES) (bytes : List ℕ)
     (rows : List FunctionEntry) (c : Code) (input : Input) (row : List Choice)
-    (h : HasAt c 4194304 (start_code main functions)) where
+    (h : HasAt c TEXT (start_code main functions)) where
   abbrev pub first : Data
   first = machine.first_data bytes rows input row
 
   abbrev pub set : Data
   set = data_of (through (set_up functions) 0 first) first
 
-  sets_up : Reaches (length (set_up functions)) (at c 4194304 0 first) (at c call_at 0 set)
-  sets_up = through_runs (set_up functions) c 0 4194304 first (0, set) refl
-      (front c 4194304 (set_up functions) (jal main ∷ nop ∷ exit_with_answer) h)
+  sets_up : Reaches (length (set_up functions)) (at c TEXT 0 first) (at c call_at 0 set)
+  sets_up = through_runs (set_up functions) c 0 TEXT first (0, set) refl
+      (front c TEXT (set_up functions) (jal main ∷ nop ∷ exit_with_answer) h)
 
   rest : HasAt c call_at (jal main ∷ nop ∷ exit_with_answer)
-  rest = back c 4194304 (set_up functions) (jal main ∷ nop ∷ exit_with_answer) h
+  rest = back c TEXT (set_up functions) (jal main ∷ nop ∷ exit_with_answer) h
 
   -- main is called
   abbrev pub called : Data
@@ -166,7 +168,7 @@ module _ (main functions : ℕ) (even : main % 4 ≡ 0) (low : main < SEGMENT_BY
       (step_acts (jal main) (at c call_at 0 set) rest.0 refl ∙ ap (λ t. going (in_slot c call_at t called)) target)
       rest.1.0
 
-  pub comes : iterate step 17 (going (at c 4194304 0 first)) ≡ going (at c main 0 called)
+  pub comes : iterate step 17 (going (at c TEXT 0 first)) ≡ going (at c main 0 called)
   comes = (reaches_on sets_up calls).by
 
   pub waits : HasAt c exit_at exit_code

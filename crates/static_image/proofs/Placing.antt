@@ -4,7 +4,7 @@ use Rattle.std.proofs.Common.{◌∷◌, ◌++◌, length}
 use Rattle.std.proofs.Common.{Option, None, Some, refl, sym, ap, ◌∙◌, subst, arith, append_assoc}
 use Rattle.std.proofs.Common.{length-append, nat_eq, if◌then◌else◌, slice_get, slice_index}
 use Rattle.std.proofs.lemmas.Bool.{eqb-true, eq-eqb, ne_eqb}
-use Rattle.word32.specs.declared.map.TheConstants.{ARENA, FUNCTIONS}
+use Rattle.word32.specs.declared.map.TheConstants.{ARENA, FUNCTIONS, TEXT}
 use Rattle.icode_ops.specs.declared.op.Op.{Op}
 use Rattle.icode_ops.specs.declared.op.Op.TheVariants as op
 use Rattle.icode_ops.specs.Flow.{op_at}
@@ -171,7 +171,7 @@ module _ (fs : List node.Function) (d : Addresses) (low_calls : AreLow d) where
       let n = length_is d at x in
       omega (arith, a, b, n)
 
-  one_stands : (pre rest : List ℕ) (at : ℕ) (x : Placed) → at ≡ 4194304 + 4 * length pre → Static fs x →
+  one_stands : (pre rest : List ℕ) (at : ℕ) (x : Placed) → at ≡ TEXT + 4 * length pre → Static fs x →
       IsLegalChoice d x → behind at x ≤ ARENA
       → IsThere (loaded (pre ++ (words_of d at x ++ rest))) at (staged d at x) x.places
   one_stands pre rest at x is static legal low =
@@ -203,7 +203,7 @@ module _ (fs : List node.Function) (d : Addresses) (low_calls : AreLow d) where
       by false t e = there e
 
   -- each function that is found at an address stands there
-  pub all_stand : (pre : List ℕ) (at : ℕ) (xs : List Placed) → at ≡ 4194304 + 4 * length pre → Each (Static fs) xs →
+  pub all_stand : (pre : List ℕ) (at : ℕ) (xs : List Placed) → at ≡ TEXT + 4 * length pre → Each (Static fs) xs →
       Each (IsLegalChoice d) xs → ends at xs ≤ ARENA
       → (a : ℕ) (f : Function) → function_in d at xs a ≡ Some f →
       IsThere (loaded (pre ++ words_from d at xs)) a f (places_in at xs a)
@@ -212,7 +212,7 @@ module _ (fs : List node.Function) (d : Addresses) (low_calls : AreLow d) where
       let rest = words_from d (behind at x) xs in
       let n = length_is d at x in
       let l = length-append pre (words_of d at x) in
-      let next : behind at x ≡ 4194304 + 4 * length (pre ++ words_of d at x) = omega (arith, n, l, is) in
+      let next : behind at x ≡ TEXT + 4 * length (pre ++ words_of d at x) = omega (arith, n, l, is) in
       by_first (loaded (pre ++ (words_of d at x ++ rest))) at x a f (function_in d (behind at x) xs a)
       (places_in (behind at x) xs a)
       (one_stands pre rest at x is static.0 legal.0 (omega (arith, ends_rise (behind at x) xs, low)))

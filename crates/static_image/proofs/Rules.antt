@@ -3,7 +3,7 @@ use Rattle.std.proofs.Common.{◌≡◌, ℕ, zero, suc, ◌+◌, ◌-◌, ◌*�
 use Rattle.std.proofs.Common.{refl, ap, arith, length-append, nat_lt, nat_le, replicate}
 use Rattle.std.specs.List.{list_all}
 use Rattle.std.proofs.lemmas.Bool.Decides.{nat_tests}
-use Rattle.word32.specs.declared.map.TheConstants.{ARENA, FUNCTIONS}
+use Rattle.word32.specs.declared.map.TheConstants.{ARENA, FUNCTIONS, TEXT}
 use Rattle.image_file.specs.Image.{IsImage, has_good_entries, is_function_in}
 use Rattle.mips_encoder.specs.Table.{word_of}
 use Rattle.mips_encoder.specs.declared.instruction.Instr.{Instr}
@@ -55,15 +55,15 @@ module _ (fs : List node.Function) (d : Addresses) (low_calls : AreLow d) where
       (are_words (behind at x) xs static.1 legal.1 (omega (arith, even)) low)
 
 -- the rows of functions
-rows_good : (fs : List node.Function) (at n : ℕ) (xs : List Placed) → Each (Static fs) xs → at % 4 ≡ 0 → 4194304 ≤ at →
-    ends at xs ≤ 4194304 + 4 * n
+rows_good : (fs : List node.Function) (at n : ℕ) (xs : List Placed) → Each (Static fs) xs → at % 4 ≡ 0 → TEXT ≤ at →
+    ends at xs ≤ TEXT + 4 * n
     → list_all (is_function_in n) (rows_of at xs) ≡ true
 rows_good fs at n [] static even from to = refl
 rows_good fs at n (x ∷ xs) static even from to =
     let rise = ends_rise (behind at x) xs in
     let some = some_words x in
-    let a : nat_le 4194304 at ≡ true = grind (arith, nat_tests, from) in
-    let b : nat_lt at (4194304 + 4 * n) ≡ true = grind (arith, nat_tests, rise, some, to) in
+    let a : nat_le TEXT at ≡ true = grind (arith, nat_tests, from) in
+    let b : nat_lt at (TEXT + 4 * n) ≡ true = grind (arith, nat_tests, rise, some, to) in
     let e : (at % 4 == 0) ≡ true = grind (arith, nat_tests, even) in
     let k : nat_le x.function.parameters 8 ≡ true = grind (arith, nat_tests, static.0.ready.few) in
     rw (a, b, e, k) (rows_good fs (behind at x) n xs static.1 (omega (arith, even)) (omega (arith, from)) to)
@@ -93,7 +93,7 @@ module _ (program : Program) (number : ℕ) (xs : List Placed) (imaged : IsImage
       (whole.static program number xs imaged choice) choice.legal refl
       (whole.room program number xs imaged choice))
 
-  long : ends FUNCTIONS xs ≡ 4194304 + 4 * length text
+  long : ends FUNCTIONS xs ≡ TEXT + 4 * length text
   long =
       let a = length-append (front main_at (length xs)) (words_from d FUNCTIONS xs) in
       let b = ends_at d FUNCTIONS xs in
@@ -105,7 +105,7 @@ module _ (program : Program) (number : ℕ) (xs : List Placed) (imaged : IsImage
       let rows = rows_good program.functions FUNCTIONS (length text) xs (whole.static program number xs imaged choice)
       refl (omega arith) (omega (arith, long)) in
       let some : 1 ≤ length text = omega (arith, long, ends_rise FUNCTIONS xs) in
-      let t : nat_lt 4194304 (4194304 + 4 * length text) ≡ true = grind (arith, nat_tests, some) in
+      let t : nat_lt TEXT (TEXT + 4 * length text) ≡ true = grind (arith, nat_tests, some) in
       rw (t, rows) refl
 
   pub rules : IsImage (image_of program.image number xs)

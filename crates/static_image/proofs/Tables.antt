@@ -2,6 +2,7 @@
 -- and how many parameters it has.
 use Rattle.std.proofs.Common.{◌≡◌, ℕ, zero, suc, ◌-◌, ◌<◌, ◌≤◌, List, [], ◌∷◌, length, map, Option, None, Some, refl}
 use Rattle.std.proofs.Common.{ap, ◌∙◌, arith, slice_get, slice_index, slice_index_or}
+use Rattle.limits.specs.declared.program.TheConstants.{MOST_FUNCTIONS}
 use Rattle.word32.specs.declared.map.TheConstants.{FUNCTION_ROWS, UNPUBLISHED}
 use Rattle.code_arena.specs.Rows as table
 use Rattle.meaning_state.specs.Rows.{numbered}
@@ -38,7 +39,7 @@ not_there [] m z e = refl
 not_there (s ∷ rs) zero z e = absurd cc
 not_there (s ∷ rs) (suc m) z e = not_there rs m z e
 
-module _ (rs : List (ℕ × ℕ)) (few : length rs ≤ 65535) (function_at : ℕ → Option Function) where
+module _ (rs : List (ℕ × ℕ)) (few : length rs ≤ MOST_FUNCTIONS) (function_at : ℕ → Option Function) where
   published_row : (n a k : ℕ) → numbered n rs ≡ Some (a, k) → (n < FUNCTION_ROWS) × (table.numbered rs n ≡ (a, k))
   published_row zero a k e = absurd cc
   published_row (suc m) a k e = let h = there rs m (a, k) (table.first (suc m)) e in (omega (arith, h.0, few), h.1)

@@ -9,7 +9,7 @@ use Rattle.pace.specs.Claims.{FollowsAtPace, FollowsAtCost, PaysFor}
 use Rattle.pace.proofs.Promises.{four_parts}
 use Rattle.pace.proofs.Runs.{iterate_add}
 use Rattle.pace.proofs.Seams.{through}
-use Rattle.word32.specs.declared.map.TheConstants.{ARENA, FUNCTIONS}
+use Rattle.word32.specs.declared.map.TheConstants.{ARENA, FUNCTIONS, TEXT}
 use Rattle.code_arena.specs.declared.arena.WordState.TheVariants.{Unwritten}
 use Rattle.host_edge.specs.declared.ending.MachineKind.{MachineKind}
 use Rattle.host_edge.specs.declared.ending.MachineKind.TheVariants.{BadService}
@@ -205,10 +205,10 @@ module _ (program : meaning.Program) (number : ℕ) (xs : List Placed) (imaged :
   pub fits : AllFit (start_code main_at (length xs))
   fits = start.start_fits main_at (length xs) (omega (arith, main_low)) few
 
-  start_stands : HasAt c 4194304 (start_code main_at (length xs))
+  start_stands : HasAt c TEXT (start_code main_at (length xs))
   start_stands =
-      words_stand c 4194304 (start_code main_at (length xs)) fits refl (omega arith)
-      (subst (λ (ws : List ℕ). WordsAt (loaded ws) 4194304 (words (start_code main_at (length xs))))
+      words_stand c TEXT (start_code main_at (length xs)) fits refl (omega arith)
+      (subst (λ (ws : List ℕ). WordsAt (loaded ws) TEXT (words (start_code main_at (length xs))))
       (sym (append_assoc (start_block main_at (length xs)) routine_blocks (words_from d FUNCTIONS xs)))
       (start.first_words (words (start_code main_at (length xs)))
       (replicate (64 - length (words (start_code main_at (length xs)))) (word_of nop))

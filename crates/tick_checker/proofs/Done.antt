@@ -1,6 +1,7 @@
 -- A function of the program stands right, and what it leaves for the items behind it: the walk over it, put together.
 use Rattle.std.proofs.Common.{◌≡◌, ℕ, ◌≤◌, min, true, nat_le, ap, sym, ◌∙◌, subst, List, [], ◌∷◌, ◌++◌, length}
 use Rattle.std.proofs.Common.{slice_get, Some, arith}
+use Rattle.limits.specs.declared.program.TheConstants.{FRAME_OBJECT_BYTES, NODE_TOP, SIZE_LIMIT}
 use Rattle.c_types.specs.declared.ctype.CType.{CType}
 use Rattle.c_types.specs.Scopes.{Name, Scope}
 use Rattle.tick_tree.specs.declared.base.Base.{Base}
@@ -79,9 +80,9 @@ pub is_right : (e : State) (ks all : List (List CaptureKind)) (line : ℕ) (d : 
     → accepted.IsFunction (typed e) all (made_function line d t named last xs)
 is_right e ks all line d t named given last xs few fits inner starts =
     let count : count_of t ≡ length (types_of t) = omega arith in
-    let size : min (statement_size (body_of last xs)) 65536 ≤ 16384 =
-    true_le _ _ (first_true (nat_le (min (statement_size (body_of last xs)) 65536) 16384)
-    (nat_le last.frame.object 4194304) fits) in
+    let size : min (statement_size (body_of last xs)) NODE_TOP ≤ SIZE_LIMIT =
+    true_le _ _ (first_true (nat_le (min (statement_size (body_of last xs)) NODE_TOP) SIZE_LIMIT)
+    (nat_le last.frame.object FRAME_OBJECT_BYTES) fits) in
     record {
       stands = subst (λ (n : ℕ). stands_as_body (body_of last xs) n (round e all [] last.frame.object) ≡ true)
           (sym count) (inner.stands all starts);
@@ -91,6 +92,6 @@ is_right e ks all line d t named given last xs few fits inner starts =
       numbers = inner.numbers;
       few = omega arith;
       small = size;
-      short = true_le _ _ (second_true (nat_le (min (statement_size (body_of last xs)) 65536) 16384)
-          (nat_le last.frame.object 4194304) fits);
+      short = true_le _ _ (second_true (nat_le (min (statement_size (body_of last xs)) NODE_TOP) SIZE_LIMIT)
+          (nat_le last.frame.object FRAME_OBJECT_BYTES) fits);
     }

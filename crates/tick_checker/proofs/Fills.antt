@@ -4,6 +4,7 @@ use Rattle.std.proofs.Common.{if◌then◌else◌, refl, ap, sym, ◌∙◌, sub
 use Rattle.std.proofs.Common.{Some, None, is_some, Result, Ok, Err, ◌⊎◌, inl, inr, arith, suc-mul, zero-mul, add_comm}
 use Rattle.std.proofs.lemmas.Bool.Decides.{nat_tests}
 use Rattle.std.proofs.Math.ListN.{length-replicate, length-append}
+use Rattle.word32.specs.declared.map.TheConstants.{GLOBAL_BYTES}
 use Rattle.word32.specs.declared.width.Width.{Width}
 use Rattle.word32.specs.declared.width.Width.TheVariants as width
 use Rattle.c_types.specs.declared.ctype.CType.{CType}
@@ -99,10 +100,10 @@ filled at size bytes s new u few is =
     pure_same tt u (record s { image = images.with_bytes at bytes s.image }) new is in
     subst (λ (z : State). Filled at size s z) e
     (record {
-      end = end_case at bytes s.image (nat_le at 4194304);
-      strings = strings_case at bytes s.image (nat_le at 4194304);
+      end = end_case at bytes s.image (nat_le at GLOBAL_BYTES);
+      strings = strings_case at bytes s.image (nat_le at GLOBAL_BYTES);
       globals = λ k h w. let l : length (images.with_bytes at bytes s.image).globals ≤ k + length bytes =
-          filled_case at bytes s.image (nat_le at 4194304) k h w in omega arith;
+          filled_case at bytes s.image (nat_le at GLOBAL_BYTES) k h w in omega arith;
     })
 
 pub none_filled : (at size : ℕ) (s : State) → Filled at size s s

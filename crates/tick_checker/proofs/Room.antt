@@ -3,6 +3,7 @@ use Rattle.std.proofs.Common.{◌≡◌, ℕ, suc, ◌*◌, ◌-◌, ◌≤◌, 
 use Rattle.std.proofs.Common.{ap, sym, ◌∙◌, subst, List, [], ◌∷◌, ◌++◌, length, slice_get, Option, Some, None, Ok}
 use Rattle.std.proofs.Common.{arith, mul-le-mul, mul_comm}
 use Rattle.std.proofs.lemmas.Bool.Decides.{nat_tests}
+use Rattle.limits.specs.declared.program.TheConstants.{MAX_SIZE}
 use Rattle.word32.specs.declared.width.Width.{Width}
 use Rattle.word32.specs.declared.width.Width.TheVariants as width
 use Rattle.c_types.specs.declared.ctype.Base.{Base}
@@ -50,11 +51,11 @@ limited_case false c n h k = absurd (cc)
 
 -- the size of what has one that isn't too large
 limited : (b : Base) (ls : List Layer) → is_sized_under (is_integer_base b) ls ≡ true →
-    size_under (base_size b) ls ≤ 4194304 → size_of (ctype b ls) ≡ size_under (base_size b) ls
+    size_under (base_size b) ls ≤ MAX_SIZE → size_of (ctype b ls) ≡ size_under (base_size b) ls
 unfolding limited_size
 limited b ls sized few = limited_case (is_sized_under (is_integer_base b) ls)
-    (nat_le (size_under (base_size b) ls) 4194304) (size_under (base_size b) ls) sized
-    (le_true (size_under (base_size b) ls) 4194304 few)
+    (nat_le (size_under (base_size b) ls) MAX_SIZE) (size_under (base_size b) ls) sized
+    (le_true (size_under (base_size b) ls) MAX_SIZE few)
 
 limited_back : (a c : Bool) (n k : ℕ) → 1 ≤ k → k ≤ size_by (if a && c then Some n else None) → (a ≡ true) × (k ≤ n)
 limited_back true true n k one h = (refl, h)
@@ -65,7 +66,7 @@ sized_by_bytes : (b : Base) (ls : List Layer) (k : ℕ) → 1 ≤ k → k ≤ si
     (is_sized_under (is_integer_base b) ls ≡ true) × (k ≤ size_under (base_size b) ls)
 unfolding limited_size
 sized_by_bytes b ls k one h =
-    limited_back (is_sized_under (is_integer_base b) ls) (nat_le (size_under (base_size b) ls) 4194304)
+    limited_back (is_sized_under (is_integer_base b) ls) (nat_le (size_under (base_size b) ls) MAX_SIZE)
     (size_under (base_size b) ls) k one h
 
 -- ---- no value is an array
@@ -271,18 +272,18 @@ value_fits b (step.Unlisted ∷ ss) h v =
 pub record Arrayed (b : Base) (ms : List Layer) (n : ℕ) : Type 0 where
   pub other : making.is_function ms ≡ false
   pub value : is_void b ms ≡ false
-  pub small : bytes b ms * n ≤ 4194304
+  pub small : bytes b ms * n ≤ MAX_SIZE
 
-limit_case : (a c : Bool) (n : ℕ) → nat_le n 4194304 ≡ c → is_size (if a && c then Some n else None) ≡ true →
-    n ≤ 4194304
-limit_case true true n e h = true_le n 4194304 e
+limit_case : (a c : Bool) (n : ℕ) → nat_le n MAX_SIZE ≡ c → is_size (if a && c then Some n else None) ≡ true →
+    n ≤ MAX_SIZE
+limit_case true true n e h = true_le n MAX_SIZE e
 limit_case true false n e h = absurd (cc)
 limit_case false c n e h = absurd (cc)
 
 -- what has a size isn't too large
-few_bytes : (b : Base) (ls : List Layer) → has_size (ctype b ls) ≡ true → size_under (base_size b) ls ≤ 4194304
+few_bytes : (b : Base) (ls : List Layer) → has_size (ctype b ls) ≡ true → size_under (base_size b) ls ≤ MAX_SIZE
 unfolding limited_size
-few_bytes b ls h = limit_case (is_sized_under (is_integer_base b) ls) (nat_le (size_under (base_size b) ls) 4194304)
+few_bytes b ls h = limit_case (is_sized_under (is_integer_base b) ls) (nat_le (size_under (base_size b) ls) MAX_SIZE)
     (size_under (base_size b) ls) refl h
 
 bytes_last : (b : Base) (ms : List Layer) (n : ℕ) → size_under (base_size b) (ms ++ layer.Array n ∷ []) ≡ bytes b ms * n
@@ -305,7 +306,7 @@ arrayed b ms n h sized =
       other = r.0;
       value = r.1;
       small =
-          subst (λ (k : ℕ). k ≤ 4194304) (bytes_last b ms (count_of n))
+          subst (λ (k : ℕ). k ≤ MAX_SIZE) (bytes_last b ms (count_of n))
           (few_bytes b (ms ++ layer.Array (count_of n) ∷ []) sized);
     }
 
@@ -322,7 +323,7 @@ array_size b ms n sized a =
     let whole : is_sized_under (is_integer_base b) (ms ++ layer.Array n ∷ []) ≡ true =
     sized_last (is_integer_base b) ms (layer.Array n) ∙
     ap (is_sized_at (is_sized_under (is_integer_base b) ms)) (layer.outs-Array n) ∙ sized in
-    limited b (ms ++ layer.Array n ∷ []) whole (subst (λ (k : ℕ). k ≤ 4194304) (sym size) a.small) ∙ size
+    limited b (ms ++ layer.Array n ∷ []) whole (subst (λ (k : ℕ). k ≤ MAX_SIZE) (sym size) a.small) ∙ size
 
 width_some : (w : Width) → 1 ≤ length (statics.bytes_of w 0)
 width_some width.SignedByte = omega arith

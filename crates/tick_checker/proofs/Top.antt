@@ -1,6 +1,8 @@
 -- The law on a whole program, given what is known of its parts.
 use Rattle.std.proofs.Common.{◌≡◌, ℕ, zero, suc, ◌+◌, ◌≤◌, min, true, ap, sym, ◌∙◌, subst, List, [], ◌∷◌, ◌++◌, length}
 use Rattle.std.proofs.Common.{slice_get, Some, Ok, arith}
+use Rattle.limits.specs.declared.program.TheConstants.{SIZE_LIMIT}
+use Rattle.word32.specs.declared.map.TheConstants.{GLOBAL_BYTES}
 use Rattle.c_types.specs.Scopes.{Name}
 use Rattle.tick_tree.specs.declared.syntax.External.{External}
 use Rattle.tick_tree.specs.declared.tree.Tree.{Tree}
@@ -116,7 +118,7 @@ function_at e all (g ∷ fs) (suc n) f h at = function_at e all fs n f h.1 at
 right_tick : (e : State) (all : List (List CaptureKind)) (t : Tick) (ks : List CaptureKind) →
     TickStands (round e all [] 0) t ks → tick_fits t ≡ true → accepted.IsTick (typed e) all t ks
 right_tick e all t ks h fits =
-    let small : t.size ≤ 16384 = true_le t.size 16384 fits in
+    let small : t.size ≤ SIZE_LIMIT = true_le t.size SIZE_LIMIT fits in
     let size : t.size ≡ min (body_size t.body) 65536 = h.size in
     record { stands = h.stands; values = h.values; size = omega arith; numbers = h.numbers; small = small }
 
@@ -135,7 +137,7 @@ tick_at e all (u ∷ ts) (m ∷ ms) (suc n) t ks h at k fits = tick_at e all ts 
 -- ---- the law
 
 is_accepted : (s : State) (e : State) (p : TypedParts) (ns : List Name) → Tabled ns e → Finished e p → End e →
-    Walked e [] s → s.functions.all ≡ [] → s.ticks.all ≡ [] → length (image e.image) ≤ 4194304
+    Walked e [] s → s.functions.all ≡ [] → s.ticks.all ≡ [] → length (image e.image) ≤ GLOBAL_BYTES
     → accepted.IsAccepted (typed e)
 is_accepted s e p ns t f end w none no_ticks bytes =
     let m : HasMain e.functions.all = main_found e ns w.file t.defined t.names f.main in
@@ -161,7 +163,7 @@ is_accepted s e p ns t f end w none no_ticks bytes =
 -- ---- the image
 
 image_few : (xs : List External) (p : TypedParts) → AllFit → EachGood [] xs → AllFixed xs → (r : Ran xs p) →
-    Finished r.last.1 p → length (image r.last.1.image) ≤ 4194304
+    Finished r.last.1 p → length (image r.last.1.image) ≤ GLOBAL_BYTES
 image_few xs p fit good fixed r f =
     let l : Library empty r.begin.1 = started r.begin.1 r.begin.0 r.one in
     let b : Begun r.first.1 r.middle.1 = second_begun xs p r in

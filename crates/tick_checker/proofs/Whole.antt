@@ -1,6 +1,7 @@
 -- A function of the program, whole.
 use Rattle.std.proofs.Common.{◌≡◌, ℕ, zero, suc, ◌+◌, ◌≤◌, ◌<◌, min, true, false, nat_le, refl, ap, sym, ◌∙◌, subst}
 use Rattle.std.proofs.Common.{List, [], ◌∷◌, ◌++◌, length, take, slice_get, Some, arith}
+use Rattle.limits.specs.declared.program.TheConstants.{FRAME_OBJECT_BYTES, NODE_TOP, SIZE_LIMIT}
 use Rattle.c_types.specs.declared.ctype.CType.{CType}
 use Rattle.c_types.specs.declared.names.Meaning.{Meaning}
 use Rattle.c_types.specs.Scopes.{Name, Scope, Scopes, in_scope, find}
@@ -51,8 +52,8 @@ small_after e line d t named given last xs n end w fits few homes more =
     let part : length last.ticks.all ≤ length e.ticks.all = starts_length last.ticks.all e.ticks.all w.ticks in
     record {
       homes = omega arith;
-      object = true_le _ _ (second_true (nat_le (min (statement_size (body_of last xs)) 65536) 16384)
-          (nat_le last.frame.object 4194304) fits);
+      object = true_le _ _ (second_true (nat_le (min (statement_size (body_of last xs)) NODE_TOP) SIZE_LIMIT)
+          (nat_le last.frame.object FRAME_OBJECT_BYTES) fits);
       ticks = omega arith;
       tick = tt;
     }

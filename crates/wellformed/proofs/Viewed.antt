@@ -4,6 +4,7 @@ use Rattle.std.proofs.Common.{None, refl, sym, ap, subst, ◌∙◌, arith}
 use Rattle.std.specs.Prelude.{option_map, false}
 use Rattle.std.proofs.lemmas.List.{length-map}
 use Rattle.std.proofs.lemmas.Option.{slice_get-map}
+use Rattle.limits.specs.declared.program.TheConstants.{SIZE_LIMIT}
 use Rattle.typed_tree.specs.declared.expression.CaptureKind.{CaptureKind}
 use Rattle.typed_tree.specs.declared.expression.Expr.{Expr}
 use Rattle.typed_tree.specs.declared.expression.Stmt.{Stmt}
@@ -120,7 +121,7 @@ module _ (p : TypedParts) (all : List (List CaptureKind)) where
     objects = λ byte. sym (objects_viewed byte f.body) ∙ h.objects byte;
     numbers = numbers_viewed f.body h.numbers;
     few = h.few;
-    small = subst (λ n. n ≤ 16384) (h.size ∙ statement_size_viewed f.body) h.small;
+    small = subst (λ n. n ≤ SIZE_LIMIT) (h.size ∙ statement_size_viewed f.body) h.small;
     short = h.short;
   }
 
@@ -131,7 +132,7 @@ module _ (p : TypedParts) (all : List (List CaptureKind)) where
         ∙ sym (body_stands t.body (round_captured kinds (accepted.parameters_of p.functions))) ∙ h.stands;
     values = sym (body_used t.body) ∙ h.values;
     numbers = body_numbered t.body h.numbers;
-    small = subst (λ n. n ≤ 16384) (h.size ∙ body_sized t.body) h.small;
+    small = subst (λ n. n ≤ SIZE_LIMIT) (h.size ∙ body_sized t.body) h.small;
   }
 
 -- ---- lists

@@ -3,6 +3,7 @@ use Rattle.std.proofs.Common.{◌≡◌, ℕ, ◌+◌, ◌-◌, ◌≤◌, ◌%�
 use Rattle.std.proofs.Common.{sym, ap, subst, ◌∙◌, append-nil, length-append, arith, Ok}
 use Rattle.std.specs.Prelude.{◌==◌, nat_le, slice_get, if◌then◌else◌}
 use Rattle.std.proofs.lemmas.Option.{slice_get_past}
+use Rattle.limits.specs.declared.program.TheConstants.{FRAME_OBJECT_BYTES}
 use Rattle.c_types.specs.declared.ctype.CType.{CType}
 use Rattle.c_types.specs.declared.names.Meaning.{Meaning}
 use Rattle.c_types.specs.declared.names.MeaningKind.TheVariants as kind
@@ -111,9 +112,9 @@ means_new many b s name t h x object e o k = (
 outer_did : {many : List ℕ} (b : Blocks) {ks : List (List CaptureKind)} (s : State) (name : Name) (t : CType) (h : Home)
     (x : Stmt) (object : ℕ) (P : Round → Type 0) → IsObject t
     → Grows stage.Function s (with_home name t h x object s)
-    → (object ≤ 4194304 → s.frame.object ≤ object)
-    → (object ≤ 4194304 → (s.frame.object % 4 == 0) ≡ true → (object % 4 == 0) ≡ true)
-    → (object ≤ 4194304 → (s.frame.object % 4 == 0) ≡ true →
+    → (object ≤ FRAME_OBJECT_BYTES → s.frame.object ≤ object)
+    → (object ≤ FRAME_OBJECT_BYTES → (s.frame.object % 4 == 0) ≡ true → (object % 4 == 0) ≡ true)
+    → (object ≤ FRAME_OBJECT_BYTES → (s.frame.object % 4 == 0) ≡ true →
     HasHome (b.function ++ numbers (s.frame.nodes ++ x ∷ [])) object (frames.number s.frame) h)
     → ((r : Round) → (s.frame.object % 4 == 0) ≡ true →
     Agrees many stage.Function b ks (with_home name t h x object s) r → P r)

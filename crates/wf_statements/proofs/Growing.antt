@@ -1,5 +1,6 @@
 -- What statements leave comes together over statements, and an expression leaves no less.
 use Rattle.std.proofs.Common.{◌≡◌, ℕ, ◌≤◌, length, ap, ◌∙◌, arith}
+use Rattle.limits.specs.declared.program.TheConstants.{FRAME_OBJECT_BYTES}
 use Rattle.check_env.specs.declared.state.Stage.{Stage}
 use Rattle.check_env.specs.declared.state.Stage.TheVariants as stage
 use Rattle.check_env.specs.declared.state.State.{State}
@@ -26,7 +27,7 @@ tables_more p q = record {
 function_more : {s t new : State} → GrowsFunction s t → GrowsFunction t new → GrowsFunction s new
 function_more {s} {t} {new} p q = record {
   homes = starts_more p.homes q.homes;
-  object = λ h. chain s.frame.object t.frame.object new.frame.object 4194304 p.object q.object h;
+  object = λ h. chain s.frame.object t.frame.object new.frame.object FRAME_OBJECT_BYTES p.object q.object h;
   ticks = starts_more p.ticks q.ticks;
 }
 
@@ -106,7 +107,7 @@ homes_grow stage.Function s new k = k.homes
 homes_grow stage.Tick s new k = starts_same s.frame.homes new.frame.homes k.homes
 homes_grow stage.Dollar s new k = starts_same s.frame.homes new.frame.homes k.homes
 
-pub object_grows : (g : Stage) (s new : State) → GrowsStage g s new → new.frame.object ≤ 4194304 →
+pub object_grows : (g : Stage) (s new : State) → GrowsStage g s new → new.frame.object ≤ FRAME_OBJECT_BYTES →
     s.frame.object ≤ new.frame.object
 object_grows stage.Function s new k h = k.object h
 object_grows stage.Tick s new k h = same_order s.frame.object new.frame.object k.object

@@ -4,6 +4,7 @@ use Rattle.std.proofs.Common.{length, refl, sym, ap, subst, ◌∙◌, length-ap
 use Rattle.std.specs.Prelude.{◌==◌, nat_le, nat_lt, if◌then◌else◌}
 use Rattle.std.proofs.lemmas.List.{length-set}
 use Rattle.std.proofs.lemmas.Bool.Decides.{nat_tests}
+use Rattle.limits.specs.declared.program.TheConstants.{FRAME_OBJECT_BYTES}
 use Rattle.c_types.specs.declared.ctype.CType.{CType}
 use Rattle.c_types.specs.declared.names.Meaning.{Meaning}
 use Rattle.c_types.specs.declared.names.MeaningKind.TheVariants as kind
@@ -105,10 +106,10 @@ object_one : (byte off n new : ℕ) → new ≡ off + 4 * n →
     one_if (nat_le off byte && nat_lt byte (off + 4 * n)) ≡ between off new byte
 object_one byte off n new e = ap (λ m. one_if (nat_le off byte && nat_lt byte m)) (sym e)
 
-pub after_small : (off n : ℕ) → after off n ≤ 4194304 → after off n ≡ off + 4 * n
+pub after_small : (off n : ℕ) → after off n ≤ FRAME_OBJECT_BYTES → after off n ≡ off + 4 * n
 after_small off n h = omega arith
 
-pub after_grows : (off n : ℕ) → after off n ≤ 4194304 → off ≤ after off n
+pub after_grows : (off n : ℕ) → after off n ≤ FRAME_OBJECT_BYTES → off ≤ after off n
 after_grows off n h = omega arith
 
 pub aligned_after : (off n : ℕ) → (off % 4 == 0) ≡ true → ((off + 4 * n) % 4 == 0) ≡ true

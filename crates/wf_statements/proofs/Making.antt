@@ -4,6 +4,7 @@
 use Rattle.std.proofs.Common.{◌≡◌, ℕ, ◌+◌, ◌≤◌, ◌%◌, Bool, true, List, [], ◌∷◌, ◌++◌, length, map, refl, sym, ap, subst}
 use Rattle.std.proofs.Common.{◌∙◌, append_assoc, append-nil, arith}
 use Rattle.std.specs.Prelude.{◌==◌}
+use Rattle.limits.specs.declared.program.TheConstants.{FRAME_OBJECT_BYTES}
 use Rattle.typed_tree.specs.declared.expression.Stmt.{Stmt}
 use Rattle.check_env.specs.declared.state.Stage.{Stage}
 use Rattle.check_env.specs.declared.state.Stage.TheVariants as stage
@@ -42,7 +43,8 @@ declared_none {g} {s} {new} n o h = record {
   nodes = λ more. subst (λ xs. EachNode (DeclaresAt g new.frame.object) xs) (sym (no_rest n more)) tt;
 }
 
-pub declared_more : {g : Stage} {s t new : State} → Grows g s t → Grows g t new → new.frame.object ≤ 4194304 →
+pub declared_more : {g : Stage} {s t new : State} → Grows g s t → Grows g t new →
+    new.frame.object ≤ FRAME_OBJECT_BYTES →
     Declared g s t → Declared g t new → Declared g s new
 declared_more {g} {s} {t} {new} p q small c d = record {
   aligned = d.aligned;

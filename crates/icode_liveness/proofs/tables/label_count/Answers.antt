@@ -1,5 +1,6 @@
 use Rattle.std.proofs.Common.{arith, sym, ◌∙◌, ap, subst, ◌≡◌}
 use Rattle.std.proofs.lemmas.List.{get_or_read}
+use Rattle.limits.specs.declared.ops.TheConstants.{MOST_LABELS}
 use Rattle.icode_ops.specs.declared.op.Op.TheVariants.{ReturnZero}
 use Rattle.icode_ops.specs.Flow.{op_at, label_of}
 use Rattle.icode_ops.specs.Finished.{Below}
@@ -11,7 +12,7 @@ above-count-requires-clause-label c =
     let is : op_at c.args.ops.now c.loop-p.p ≡ c.index-ops-p.result =
     sym (get_or_read c.args.ops.now c.loop-p.p c.index-ops-p.result c.loop-p-test.true
     c.index-ops-p.is ReturnZero) in
-    subst (Below 196608) (ap label_of is ∙ sym c.label.ensures) (c.requires.low_labels c.loop-p.p)
+    subst (Below MOST_LABELS) (ap label_of is ∙ sym c.label.ensures) (c.requires.low_labels c.loop-p.p)
 
 pub loop-p-preserved : goal.loop-p-preserved
 loop-p-preserved c =
