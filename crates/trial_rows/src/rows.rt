@@ -3,8 +3,7 @@
 use host_edge::{MemSink, MemSource, MemStore};
 use std::alloc::{AllocError, Global};
 use std::test::Fail;
-use tick_top::{status, tick};
-use trial_seen::{ROOM, seen_after, seen_within, status_of, words_of};
+use trial_seen::{ROOM, answered_on, seen_after, seen_within, status_of, words_of};
 
 /// The program that writes `H` and a line feed, and ends with 3.
 const HELLO: &str = "int main(){putchar(72);putchar(10);return 3;}";
@@ -109,8 +108,8 @@ fn status_of_a_failing_read(alloc: Global, line: &str, file: &[u8]) -> Result<u8
     let mut input = MemSource::new(alloc, b"A", &[0])?;
     let mut out = MemSink::new(alloc, ROOM, &[])?;
     let mut err = MemSink::new(alloc, ROOM, &[])?;
-    let ended = tick(alloc, &words, &mut store, &mut input, &mut out, &mut err)?;
-    Ok(status(&ended.outcome))
+    let answered = answered_on(alloc, &words, &mut store, &mut input, &mut out, &mut err)?;
+    Ok(answered.status)
 }
 
 #[test]

@@ -3,8 +3,7 @@
 use host_edge::{MemSink, MemSource, MemStore};
 use std::alloc::{AllocError, Global};
 use std::test::Fail;
-use tick_top::{status, tick};
-use trial_seen::{ROOM, Seen, seen_after, status_of, words_of};
+use trial_seen::{ROOM, Seen, answered_on, seen_after, status_of, words_of};
 
 /// The program that writes `H` and a line feed, and ends with 3.
 const HELLO: &str = "int main(){putchar(72);putchar(10);return 3;}";
@@ -154,8 +153,8 @@ fn the_places_of_the_last_function_are_handed_back(rt: HostRuntime) -> Result<()
     let mut input = MemSource::new(alloc, b"", &[])?;
     let mut out = MemSink::new(alloc, ROOM, &[])?;
     let mut err = MemSink::new(alloc, ROOM, &[])?;
-    let ended = tick(alloc, &words, &mut store, &mut input, &mut out, &mut err)?;
-    assert_eq!(rt; ended.choices.as_slice(), [0u8, 1, 0, 2].as_slice());
+    let answered = answered_on(alloc, &words, &mut store, &mut input, &mut out, &mut err)?;
+    assert_eq!(rt; answered.places.as_slice(), [0u8, 1, 0, 2].as_slice());
     Ok(())
 }
 
@@ -185,9 +184,9 @@ fn meant_on(
     let mut input = MemSource::new(alloc, given, fails)?;
     let mut out = MemSink::new(alloc, ROOM, &[])?;
     let mut err = MemSink::new(alloc, ROOM, &[])?;
-    let ended = tick(alloc, &words, &mut store, &mut input, &mut out, &mut err)?;
+    let answered = answered_on(alloc, &words, &mut store, &mut input, &mut out, &mut err)?;
     Ok(Seen {
-        status: status(&ended.outcome),
+        status: answered.status,
         out: out.taken().to_vec(alloc)?,
         err: err.taken().to_vec(alloc)?,
     })

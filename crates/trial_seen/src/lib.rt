@@ -28,6 +28,31 @@ pub fn words_of(alloc: Global, line: &str) -> Result<Vec<String>, AllocError> {
     Ok(all)
 }
 
+/// What a call answered.
+#[derive(Drop)]
+pub struct Answered {
+    /// Its status.
+    pub status: u8,
+    /// The places of the registers of the last function that was made, in their order.
+    pub places: Vec<u8>,
+}
+
+/// What a call with this input answers.
+pub fn answered_on(
+    alloc: Global,
+    words: &[String],
+    store: &mut MemStore,
+    input: &mut MemSource,
+    out: &mut MemSink,
+    err: &mut MemSink,
+) -> Result<Answered, AllocError> {
+    let ended = tick(alloc, words, store, input, out, err)?;
+    Ok(Answered {
+        status: status(&ended.outcome),
+        places: ended.choices,
+    })
+}
+
 /// The status of a call with an empty input.
 pub fn status_of(
     alloc: Global,
@@ -37,8 +62,8 @@ pub fn status_of(
     err: &mut MemSink,
 ) -> Result<u8, AllocError> {
     let mut input = MemSource::new(alloc, b"", &[])?;
-    let ended = tick(alloc, words, store, &mut input, out, err)?;
-    Ok(status(&ended.outcome))
+    let answered = answered_on(alloc, words, store, &mut input, out, err)?;
+    Ok(answered.status)
 }
 
 /// A call on a store with the file `text`, whose standard output takes so many bytes and fails at the listed calls.
