@@ -3,13 +3,10 @@
 //! `%h WORDS` with those of the file `image` in hexadecimal. Without any the file stays. The input is empty.
 #![tactic(auto)]
 
-use host_edge::{MemSink, MemSource, MemStore};
+use host_edge::MemStore;
 use std::alloc::{AllocError, Global};
 use std::io::{self, Read};
-use tick_top::{status, tick};
-
-// The bytes that each stream takes at most.
-const ROOM: usize = 4096;
+use trial_seen::{seen_on, words_of};
 
 // What stands before a call.
 #[derive(Clone, Copy, Drop)]
@@ -46,37 +43,6 @@ fn from_hex(alloc: Global, digits: &[u8]) -> Result<Vec<u8>, AllocError> {
     Ok(bytes)
 }
 
-fn words_of(alloc: Global, line: &str) -> Result<Vec<String>, AllocError> {
-    let mut all = Vec::new(alloc);
-    for word in line.split_whitespace() {
-        all.push(String::from_str(alloc, word)?)?;
-    }
-    Ok(all)
-}
-
-// What a call left.
-#[derive(Drop)]
-struct Seen {
-    status: u8,
-    steps: u64,
-    out: Vec<u8>,
-    err: Vec<u8>,
-}
-
-fn call(alloc: Global, line: &str, store: &mut MemStore) -> Result<Seen, AllocError> {
-    let words = words_of(alloc, line)?;
-    let mut input = MemSource::new(alloc, b"", &[])?;
-    let mut out = MemSink::new(alloc, ROOM, &[])?;
-    let mut err = MemSink::new(alloc, ROOM, &[])?;
-    let ended = tick(alloc, &words, store, &mut input, &mut out, &mut err)?;
-    Ok(Seen {
-        status: status(&ended.outcome),
-        steps: ended.steps,
-        out: out.taken().to_vec(alloc)?,
-        err: err.taken().to_vec(alloc)?,
-    })
-}
-
 fn put(
     alloc: Global,
     store: &mut MemStore,
@@ -101,12 +67,13 @@ fn report<R: Print + AllocGlobal>(
         return Ok(());
     }
     put(rt.alloc(), store, before, content)?;
-    let seen = call(rt.alloc(), line, store)?;
+    let seen = seen_on(rt.alloc(), &words_of(rt.alloc(), line)?, store, b"")?;
     let out = str::from_utf8(&seen.out).unwrap_or("?");
     let err = str::from_utf8(&seen.err).unwrap_or("?");
     println!(rt;
         "{line}: {} in {} steps, out {out:?}, err {err:?}",
-        seen.status, seen.steps
+        seen.status(),
+        seen.steps
     )
 }
 

@@ -31,6 +31,13 @@ impl<'a> Case<'a> {
         }
         Ok(text)
     }
+
+    /// Its lines in one text, with a line feed behind each.
+    pub fn closed_text(&self, alloc: Global) -> Result<Vec<u8>, AllocError> {
+        let mut text = self.text(alloc)?;
+        text.push(b'\n')?;
+        Ok(text)
+    }
 }
 
 /// The cases of a file in their order. What stands before the first is no case.

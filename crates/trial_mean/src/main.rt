@@ -4,50 +4,20 @@
 //! empty input.
 #![tactic(auto)]
 
-use host_edge::{MemSink, MemSource, MemStore};
+use host_edge::MemStore;
 use std::alloc::{AllocError, Global};
 use std::io::{self, Read};
-use tick_top::{Outcome, status, tick};
-
-// The bytes that each stream takes at most.
-const ROOM: usize = 4096;
+use tick_top::{Outcome, status};
+use trial_cases::cases;
+use trial_seen::{Seen, seen_on, words_of, words_within};
 
 // The words of a call, of which those of the option are left out where it has no number.
-fn words_of(alloc: Global, line: &str, units: &str) -> Result<Vec<String>, AllocError> {
-    let mut all = Vec::new(alloc);
-    for word in line.split_whitespace() {
-        all.push(String::from_str(alloc, word)?)?;
+fn words_for(alloc: Global, line: &str, units: &str) -> Result<Vec<String>, AllocError> {
+    if units == "-" {
+        words_of(alloc, line)
+    } else {
+        words_within(alloc, line, units)
     }
-    if units != "-" {
-        all.push(String::from_str(alloc, "--steps")?)?;
-        all.push(String::from_str(alloc, units)?)?;
-    }
-    Ok(all)
-}
-
-// What a call left.
-#[derive(Drop)]
-struct Seen {
-    outcome: Outcome,
-    out: Vec<u8>,
-    err: Vec<u8>,
-}
-
-fn call(
-    alloc: Global,
-    words: &[String],
-    store: &mut MemStore,
-    given: &[u8],
-) -> Result<Seen, AllocError> {
-    let mut input = MemSource::new(alloc, given, &[])?;
-    let mut out = MemSink::new(alloc, ROOM, &[])?;
-    let mut err = MemSink::new(alloc, ROOM, &[])?;
-    let ended = tick(alloc, words, store, &mut input, &mut out, &mut err)?;
-    Ok(Seen {
-        outcome: ended.outcome,
-        out: out.taken().to_vec(alloc)?,
-        err: err.taken().to_vec(alloc)?,
-    })
 }
 
 // How the run of a program stands to its evaluation, which ended.
@@ -78,17 +48,13 @@ fn report<R: Print + AllocGlobal>(rt: &R, head: &[u8], text: &[u8]) -> io::Resul
     let bytes: &[u8] = if given == b"-".as_slice() { b"" } else { given };
     let mut store = MemStore::new(alloc, &[])?;
     store.put("text", text)?;
-    let meant = call(
-        alloc,
-        &words_of(alloc, "tick mean text", units)?,
-        &mut store,
-        bytes,
-    )?;
+    let words = words_for(alloc, "tick mean text", units)?;
+    let meant = seen_on(alloc, &words, &mut store, bytes)?;
     let compared = match meant.outcome {
         Outcome::OutOfSteps(_) => "not compared",
         _ => {
-            let words = words_of(alloc, "tick run text", "-")?;
-            let ran = call(alloc, &words, &mut store, bytes)?;
+            let words = words_of(alloc, "tick run text")?;
+            let ran = seen_on(alloc, &words, &mut store, bytes)?;
             comparison(&meant, &ran)
         }
     };
@@ -96,27 +62,16 @@ fn report<R: Print + AllocGlobal>(rt: &R, head: &[u8], text: &[u8]) -> io::Resul
     let err = str::from_utf8(&meant.err).unwrap_or("?");
     println!(rt;
         "{name}: {}, out {out:?}, err {err:?}, {}",
-        status(&meant.outcome),
+        meant.status(),
         compared
     )
 }
 
 fn main(rt: HostRuntime) -> io::Result<()> {
-    let mut cases = Vec::new(rt.alloc());
-    rt.reader().read_to_end(&mut cases)?;
-    let mut head: &[u8] = b"";
-    let mut text = Vec::new(rt.alloc());
-    for line in cases.split(|b| *b == b'\n') {
-        if let Some(next) = line.strip_prefix(b"%% ") {
-            if !text.is_empty() {
-                report(&rt, head, &text)?;
-            }
-            head = next;
-            text.clear();
-        } else {
-            text.extend_from_slice(line)?;
-            text.push(b'\n')?;
-        }
+    let mut file = Vec::new(rt.alloc());
+    rt.reader().read_to_end(&mut file)?;
+    for case in &cases(rt.alloc(), &file)? {
+        report(&rt, case.title, &case.closed_text(rt.alloc())?)?;
     }
-    report(&rt, head, &text)
+    Ok(())
 }

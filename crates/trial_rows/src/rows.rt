@@ -3,7 +3,7 @@
 use host_edge::{MemSink, MemSource, MemStore};
 use std::alloc::{AllocError, Global};
 use std::test::Fail;
-use trial_seen::{ROOM, answered_on, seen_after, seen_within, status_of, words_of};
+use trial_seen::{ROOM, Seen, seen_after, seen_by, seen_on, seen_within, words_of};
 
 /// The program that writes `H` and a line feed, and ends with 3.
 const HELLO: &str = "int main(){putchar(72);putchar(10);return 3;}";
@@ -11,7 +11,7 @@ const HELLO: &str = "int main(){putchar(72);putchar(10);return 3;}";
 #[test]
 fn hello_ends_with_three(rt: HostRuntime) -> Result<(), Fail> {
     let seen = seen_after(rt.alloc(), "tick run text", HELLO, &[])?;
-    assert_eq!(rt; seen.status, 3);
+    assert_eq!(rt; seen.status(), 3);
     assert_eq!(rt; seen.out.as_slice(), b"H\n".as_slice());
     assert_eq!(rt; seen.err.as_slice(), b"".as_slice());
     Ok(())
@@ -21,7 +21,7 @@ fn hello_ends_with_three(rt: HostRuntime) -> Result<(), Fail> {
 fn a_sum_wraps(rt: HostRuntime) -> Result<(), Fail> {
     let text = "int main(){return 2147483647+2147483647+2;}";
     let seen = seen_after(rt.alloc(), "tick run text", text, &[])?;
-    assert_eq!(rt; seen.status, 0);
+    assert_eq!(rt; seen.status(), 0);
     Ok(())
 }
 
@@ -33,7 +33,7 @@ fn other_texts_are_refused(rt: HostRuntime) -> Result<(), Fail> {
         "int main(){int cspec c;c=`1;return 0;}",
         &[],
     )?;
-    assert_eq!(rt; unbuilt.status, 65);
+    assert_eq!(rt; unbuilt.status(), 65);
     assert_eq!(rt;
         unbuilt.err.as_slice(),
         b"tick: line 1: 0 Unbuilt\n".as_slice()
@@ -49,7 +49,7 @@ fn other_texts_are_refused(rt: HostRuntime) -> Result<(), Fail> {
 // How many dots a text writes under `run`, where it writes nothing else and ends with a trap, which this line says.
 fn dots_before_trap(alloc: Global, text: &str, line: &str) -> Result<Option<usize>, AllocError> {
     let seen = seen_within(alloc, "tick run text", text, 100000, &[])?;
-    if seen.status == 70 && seen.err.as_slice() == line.as_bytes() && all_dots(&seen.out) {
+    if seen.status() == 70 && seen.err.as_slice() == line.as_bytes() && all_dots(&seen.out) {
         Ok(Some(seen.out.len()))
     } else {
         Ok(None)
@@ -72,7 +72,7 @@ fn calls_without_end_meet_the_limit_of_the_stack(rt: HostRuntime) -> Result<(), 
 #[test]
 fn a_failing_sink_keeps_what_it_took(rt: HostRuntime) -> Result<(), Fail> {
     let seen = seen_after(rt.alloc(), "tick run text", HELLO, &[1])?;
-    assert_eq!(rt; seen.status, 73);
+    assert_eq!(rt; seen.status(), 73);
     assert_eq!(rt; seen.out.as_slice(), b"H".as_slice());
     assert_eq!(rt; seen.err.as_slice(), b"tick: write fault\n".as_slice());
     Ok(())
@@ -83,11 +83,9 @@ fn left_by_a_failing_save(alloc: Global) -> Result<(u8, Vec<u8>), AllocError> {
     let words = words_of(alloc, "tick build text image")?;
     let mut store = MemStore::new(alloc, &[1])?;
     store.put("text", HELLO.as_bytes())?;
-    let mut out = MemSink::new(alloc, ROOM, &[])?;
-    let mut err = MemSink::new(alloc, ROOM, &[])?;
-    let status = status_of(alloc, &words, &mut store, &mut out, &mut err)?;
+    let seen = seen_on(alloc, &words, &mut store, b"")?;
     let left = store.file("image").unwrap_or(b"".as_slice());
-    Ok((status, left.to_vec(alloc)?))
+    Ok((seen.status(), left.to_vec(alloc)?))
 }
 
 #[test]
@@ -108,8 +106,8 @@ fn status_of_a_failing_read(alloc: Global, line: &str, file: &[u8]) -> Result<u8
     let mut input = MemSource::new(alloc, b"A", &[0])?;
     let mut out = MemSink::new(alloc, ROOM, &[])?;
     let mut err = MemSink::new(alloc, ROOM, &[])?;
-    let answered = answered_on(alloc, &words, &mut store, &mut input, &mut out, &mut err)?;
-    Ok(answered.status)
+    let seen = seen_by(alloc, &words, &mut store, &mut input, &mut out, &mut err)?;
+    Ok(seen.status())
 }
 
 #[test]
@@ -129,36 +127,31 @@ fn a_failing_input_is_a_read_fault(rt: HostRuntime) -> Result<(), Fail> {
     Ok(())
 }
 
-// A program that writes without an end: the status, and what the sink took, which fails at the listed calls.
-fn written_without_end(alloc: Global, fails: &[u64]) -> Result<(u8, Vec<u8>), AllocError> {
-    let words = words_of(alloc, "tick run --steps 100000 text")?;
-    let mut store = MemStore::new(alloc, &[])?;
-    store.put("text", b"int main(){for(;;)putchar(97);}")?;
-    let mut out = MemSink::new(alloc, 100000, fails)?;
-    let mut err = MemSink::new(alloc, ROOM, &[])?;
-    let status = status_of(alloc, &words, &mut store, &mut out, &mut err)?;
-    Ok((status, out.taken().to_vec(alloc)?))
+// A program that writes without an end, on a standard output that fails at the listed calls.
+fn written_without_end(alloc: Global, fails: &[u64]) -> Result<Seen, AllocError> {
+    let text = "int main(){for(;;)putchar(97);}";
+    seen_within(alloc, "tick run --steps 100000 text", text, 100_000, fails)
 }
 
 #[test]
 fn a_run_without_end_meets_the_limit_of_steps(rt: HostRuntime) -> Result<(), Fail> {
-    let (status, taken) = written_without_end(rt.alloc(), &[])?;
-    assert_eq!(rt; status, 72);
+    let seen = written_without_end(rt.alloc(), &[])?;
+    assert_eq!(rt; seen.status(), 72);
     // 187 units are within the steps, and a turn has four of them
-    assert!(rt; taken.len() >= 47);
-    for byte in &taken {
+    assert!(rt; seen.out.len() >= 47);
+    for byte in &seen.out {
         assert_eq!(rt; *byte, b'a');
     }
-    let (failed, left) = written_without_end(rt.alloc(), &[1])?;
-    assert_eq!(rt; failed, 73);
-    assert_eq!(rt; left.as_slice(), b"a".as_slice());
+    let failed = written_without_end(rt.alloc(), &[1])?;
+    assert_eq!(rt; failed.status(), 73);
+    assert_eq!(rt; failed.out.as_slice(), b"a".as_slice());
     Ok(())
 }
 
 #[test]
 fn a_missing_file_is_not_loaded(rt: HostRuntime) -> Result<(), Fail> {
     let seen = seen_after(rt.alloc(), "tick run other", HELLO, &[])?;
-    assert_eq!(rt; seen.status, 66);
+    assert_eq!(rt; seen.status(), 66);
     assert_eq!(rt; seen.out.as_slice(), b"".as_slice());
     assert_eq!(rt; seen.err.as_slice(), b"tick: cannot load\n".as_slice());
     Ok(())

@@ -3,7 +3,7 @@
 use host_edge::{MemSink, MemSource, MemStore};
 use std::alloc::{AllocError, Global};
 use std::test::Fail;
-use trial_seen::{ROOM, Seen, answered_on, seen_after, status_of, words_of};
+use trial_seen::{ROOM, Seen, seen_after, seen_by, seen_on, words_of};
 
 /// The program that writes `H` and a line feed, and ends with 3.
 const HELLO: &str = "int main(){putchar(72);putchar(10);return 3;}";
@@ -16,14 +16,10 @@ fn counted_call(
     fails: &[u64],
 ) -> Result<Seen, AllocError> {
     let words = words_of(alloc, line)?;
+    let mut input = MemSource::new(alloc, b"", &[])?;
     let mut out = MemSink::new(alloc, ROOM, &[])?;
     let mut err = MemSink::new(alloc, ROOM, fails)?;
-    let status = status_of(alloc, &words, store, &mut out, &mut err)?;
-    Ok(Seen {
-        status,
-        out: out.taken().to_vec(alloc)?,
-        err: err.taken().to_vec(alloc)?,
-    })
+    seen_by(alloc, &words, store, &mut input, &mut out, &mut err)
 }
 
 #[test]
@@ -31,7 +27,7 @@ fn counts_that_cannot_be_said_are_a_write_fault(rt: HostRuntime) -> Result<(), F
     let mut store = MemStore::new(rt.alloc(), &[])?;
     store.put("text", HELLO.as_bytes())?;
     let seen = counted_call(rt.alloc(), "tick run --stats text", &mut store, &[0])?;
-    assert_eq!(rt; seen.status, 73);
+    assert_eq!(rt; seen.status(), 73);
     assert_eq!(rt; seen.out.as_slice(), b"H\n".as_slice());
     assert_eq!(rt; seen.err.as_slice(), b"".as_slice());
     Ok(())
@@ -45,8 +41,8 @@ fn a_saved_image_has_the_counts_of_its_text(rt: HostRuntime) -> Result<(), Fail>
     let run = counted_call(alloc, "tick run text --stats", &mut store, &[])?;
     let build = counted_call(alloc, "tick build text image", &mut store, &[])?;
     let exec = counted_call(alloc, "tick exec image --stats", &mut store, &[])?;
-    assert_eq!(rt; build.status, 0);
-    assert_eq!(rt; exec.status, 3);
+    assert_eq!(rt; build.status(), 0);
+    assert_eq!(rt; exec.status(), 3);
     assert!(rt;
         run.err
             .starts_with(b"ops=0 functions=0 words=0 flushes=0 spills=0 steps=")
@@ -123,7 +119,7 @@ fn executed(alloc: Global, text: &str) -> Result<Seen, AllocError> {
     let mut store = MemStore::new(alloc, &[])?;
     store.put("text", text.as_bytes())?;
     let assembled = counted_call(alloc, "tick asm text image", &mut store, &[])?;
-    if assembled.status != 0 {
+    if assembled.status() != 0 {
         return Ok(assembled);
     }
     counted_call(alloc, "tick exec image --stats", &mut store, &[])
@@ -132,7 +128,7 @@ fn executed(alloc: Global, text: &str) -> Result<Seen, AllocError> {
 #[test]
 fn an_image_makes_a_function_and_calls_it(rt: HostRuntime) -> Result<(), Fail> {
     let seen = executed(rt.alloc(), ADDING)?;
-    assert_eq!(rt; seen.status, 9);
+    assert_eq!(rt; seen.status(), 9);
     assert_eq!(rt; seen.out.as_slice(), b"*".as_slice());
     // of its 49 words all but a trap's and the last return's 3 are executed, behind 44 of the text
     assert_eq!(rt;
@@ -148,20 +144,17 @@ fn the_places_of_the_last_function_are_handed_back(rt: HostRuntime) -> Result<()
     let mut store = MemStore::new(alloc, &[])?;
     store.put("text", ADDING.as_bytes())?;
     let assembled = counted_call(alloc, "tick asm text image", &mut store, &[])?;
-    assert_eq!(rt; assembled.status, 0);
+    assert_eq!(rt; assembled.status(), 0);
     let words = words_of(alloc, "tick exec image")?;
-    let mut input = MemSource::new(alloc, b"", &[])?;
-    let mut out = MemSink::new(alloc, ROOM, &[])?;
-    let mut err = MemSink::new(alloc, ROOM, &[])?;
-    let answered = answered_on(alloc, &words, &mut store, &mut input, &mut out, &mut err)?;
-    assert_eq!(rt; answered.places.as_slice(), [0u8, 1, 0, 2].as_slice());
+    let seen = seen_on(alloc, &words, &mut store, b"")?;
+    assert_eq!(rt; seen.places.as_slice(), [0u8, 1, 0, 2].as_slice());
     Ok(())
 }
 
 #[test]
 fn a_refused_service_stops_the_machine(rt: HostRuntime) -> Result<(), Fail> {
     let seen = executed(rt.alloc(), BEGUN_TWICE)?;
-    assert_eq!(rt; seen.status, 71);
+    assert_eq!(rt; seen.status(), 71);
     assert_eq!(rt; seen.out.as_slice(), b"".as_slice());
     assert_eq!(rt;
         seen.err.as_slice(),
@@ -184,22 +177,17 @@ fn meant_on(
     let mut input = MemSource::new(alloc, given, fails)?;
     let mut out = MemSink::new(alloc, ROOM, &[])?;
     let mut err = MemSink::new(alloc, ROOM, &[])?;
-    let answered = answered_on(alloc, &words, &mut store, &mut input, &mut out, &mut err)?;
-    Ok(Seen {
-        status: answered.status,
-        out: out.taken().to_vec(alloc)?,
-        err: err.taken().to_vec(alloc)?,
-    })
+    seen_by(alloc, &words, &mut store, &mut input, &mut out, &mut err)
 }
 
 #[test]
 fn an_input_fails_before_an_evaluation(rt: HostRuntime) -> Result<(), Fail> {
     let seen = meant_on(rt.alloc(), "tick mean text", HELLO, b"", &[0])?;
-    assert_eq!(rt; seen.status, 74);
+    assert_eq!(rt; seen.status(), 74);
     assert_eq!(rt; seen.out.as_slice(), b"".as_slice());
     assert_eq!(rt; seen.err.as_slice(), b"tick: read fault\n".as_slice());
     let ran = meant_on(rt.alloc(), "tick run text", HELLO, b"", &[0])?;
-    assert_eq!(rt; ran.status, 3);
+    assert_eq!(rt; ran.status(), 3);
     Ok(())
 }
 
@@ -212,7 +200,7 @@ fn a_text_is_refused_before_its_input_is_read(rt: HostRuntime) -> Result<(), Fai
         b"",
         &[0],
     )?;
-    assert_eq!(rt; seen.status, 65);
+    assert_eq!(rt; seen.status(), 65);
     assert_eq!(rt;
         seen.err.as_slice(),
         b"tick: line 1: 9 Undeclared\n".as_slice()
@@ -225,10 +213,10 @@ fn an_input_over_a_megabyte_is_too_long(rt: HostRuntime) -> Result<(), Fail> {
     let alloc = rt.alloc();
     let mut given = vec![in alloc; b'x'; 1_048_576]?;
     let whole = meant_on(alloc, "tick mean text", HELLO, &given, &[])?;
-    assert_eq!(rt; whole.status, 3);
+    assert_eq!(rt; whole.status(), 3);
     given.push(b'x')?;
     let longer = meant_on(alloc, "tick mean text", HELLO, &given, &[])?;
-    assert_eq!(rt; longer.status, 67);
+    assert_eq!(rt; longer.status(), 67);
     assert_eq!(rt; longer.err.as_slice(), b"tick: too long\n".as_slice());
     Ok(())
 }
@@ -236,7 +224,7 @@ fn an_input_over_a_megabyte_is_too_long(rt: HostRuntime) -> Result<(), Fail> {
 #[test]
 fn an_output_is_written_behind_an_evaluation(rt: HostRuntime) -> Result<(), Fail> {
     let seen = seen_after(rt.alloc(), "tick mean text", HELLO, &[0])?;
-    assert_eq!(rt; seen.status, 73);
+    assert_eq!(rt; seen.status(), 73);
     assert_eq!(rt; seen.out.as_slice(), b"".as_slice());
     Ok(())
 }
@@ -246,27 +234,21 @@ fn source_writes(alloc: Global, number: &str) -> Result<Seen, AllocError> {
     let mut store = MemStore::new(alloc, &[])?;
     let mut words = words_of(alloc, "tick gen")?;
     words.push(String::from_str(alloc, number)?)?;
+    let mut input = MemSource::new(alloc, b"", &[])?;
     let mut source = MemSink::new(alloc, 100_000, &[])?;
     let mut err = MemSink::new(alloc, ROOM, &[])?;
-    status_of(alloc, &words, &mut store, &mut source, &mut err)?;
+    seen_by(alloc, &words, &mut store, &mut input, &mut source, &mut err)?;
     store.put("text", source.taken())?;
-    let mean = words_of(alloc, "tick mean text")?;
-    let mut out = MemSink::new(alloc, ROOM, &[])?;
-    let status = status_of(alloc, &mean, &mut store, &mut out, &mut err)?;
-    Ok(Seen {
-        status,
-        out: out.taken().to_vec(alloc)?,
-        err: err.taken().to_vec(alloc)?,
-    })
+    seen_on(alloc, &words_of(alloc, "tick mean text")?, &mut store, b"")
 }
 
 #[test]
 fn generated_sources_count_multiples(rt: HostRuntime) -> Result<(), Fail> {
     let three = source_writes(rt.alloc(), "3")?;
-    assert_eq!(rt; three.status, 0);
+    assert_eq!(rt; three.status(), 0);
     assert_eq!(rt; three.out.as_slice(), b"1084\n".as_slice());
     let many = source_writes(rt.alloc(), "200")?;
-    assert_eq!(rt; many.status, 0);
+    assert_eq!(rt; many.status(), 0);
     assert_eq!(rt; many.out.as_slice(), b"4978\n".as_slice());
     Ok(())
 }

@@ -3,20 +3,39 @@
 
 use host_edge::{MemSink, MemSource, MemStore};
 use std::alloc::{AllocError, Global};
-use tick_top::{status, tick};
+use std::io;
+use tick_top::{Outcome, status, tick};
 
-/// The bytes that each stream takes at most, where a test doesn't say.
-pub const ROOM: usize = 100;
+/// The bytes that each stream takes at most, where a trial doesn't say.
+pub const ROOM: usize = 4_096;
 
 /// What a call left.
 #[derive(Drop)]
 pub struct Seen {
-    /// Its status.
-    pub status: u8,
+    /// How it ended.
+    pub outcome: Outcome,
+    /// How many instructions the machine has executed.
+    pub steps: u64,
+    /// The places of the registers of the last function that was made, in their order.
+    pub places: Vec<u8>,
     /// What it wrote.
     pub out: Vec<u8>,
     /// What it said on standard error.
     pub err: Vec<u8>,
+}
+
+impl Seen {
+    /// Its status.
+    pub fn status(&self) -> u8 {
+        status(&self.outcome)
+    }
+
+    /// Prints its status and what it wrote, on a line behind this name.
+    pub fn show<R: Print + AllocGlobal>(&self, rt: &R, name: &str) -> io::Result<()> {
+        let out = str::from_utf8(&self.out).unwrap_or("?");
+        let err = str::from_utf8(&self.err).unwrap_or("?");
+        println!(rt; "{name}: {}, out {out:?}, err {err:?}", self.status())
+    }
 }
 
 /// The words of a line.
@@ -28,42 +47,44 @@ pub fn words_of(alloc: Global, line: &str) -> Result<Vec<String>, AllocError> {
     Ok(all)
 }
 
-/// What a call answered.
-#[derive(Drop)]
-pub struct Answered {
-    /// Its status.
-    pub status: u8,
-    /// The places of the registers of the last function that was made, in their order.
-    pub places: Vec<u8>,
+/// The words of a line, with the option of at most so many steps behind them.
+pub fn words_within(alloc: Global, line: &str, steps: &str) -> Result<Vec<String>, AllocError> {
+    let mut all = words_of(alloc, line)?;
+    all.push(String::from_str(alloc, "--steps")?)?;
+    all.push(String::from_str(alloc, steps)?)?;
+    Ok(all)
 }
 
-/// What a call with this input answers.
-pub fn answered_on(
+/// A call on this outside.
+pub fn seen_by(
     alloc: Global,
     words: &[String],
     store: &mut MemStore,
     input: &mut MemSource,
     out: &mut MemSink,
     err: &mut MemSink,
-) -> Result<Answered, AllocError> {
+) -> Result<Seen, AllocError> {
     let ended = tick(alloc, words, store, input, out, err)?;
-    Ok(Answered {
-        status: status(&ended.outcome),
+    Ok(Seen {
+        outcome: ended.outcome,
+        steps: ended.steps,
         places: ended.choices,
+        out: out.taken().to_vec(alloc)?,
+        err: err.taken().to_vec(alloc)?,
     })
 }
 
-/// The status of a call with an empty input.
-pub fn status_of(
+/// A call on these files and this input, whose streams never fail.
+pub fn seen_on(
     alloc: Global,
     words: &[String],
     store: &mut MemStore,
-    out: &mut MemSink,
-    err: &mut MemSink,
-) -> Result<u8, AllocError> {
-    let mut input = MemSource::new(alloc, b"", &[])?;
-    let answered = answered_on(alloc, words, store, &mut input, out, err)?;
-    Ok(answered.status)
+    given: &[u8],
+) -> Result<Seen, AllocError> {
+    let mut input = MemSource::new(alloc, given, &[])?;
+    let mut out = MemSink::new(alloc, ROOM, &[])?;
+    let mut err = MemSink::new(alloc, ROOM, &[])?;
+    seen_by(alloc, words, store, &mut input, &mut out, &mut err)
 }
 
 /// A call on a store with the file `text`, whose standard output takes so many bytes and fails at the listed calls.
@@ -77,14 +98,10 @@ pub fn seen_within(
     let words = words_of(alloc, line)?;
     let mut store = MemStore::new(alloc, &[])?;
     store.put("text", text.as_bytes())?;
+    let mut input = MemSource::new(alloc, b"", &[])?;
     let mut out = MemSink::new(alloc, room, fails)?;
     let mut err = MemSink::new(alloc, ROOM, &[])?;
-    let status = status_of(alloc, &words, &mut store, &mut out, &mut err)?;
-    Ok(Seen {
-        status,
-        out: out.taken().to_vec(alloc)?,
-        err: err.taken().to_vec(alloc)?,
-    })
+    seen_by(alloc, &words, &mut store, &mut input, &mut out, &mut err)
 }
 
 /// A call on a store with the file `text`, whose standard output fails at the listed calls.
