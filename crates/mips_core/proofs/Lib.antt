@@ -2,3 +2,5 @@ pub mod Loops
 pub mod Stepped
 pub mod Numbered
 pub mod Generated
+pub mod Fetched
+pub mod Reached

@@ -1,82 +1,125 @@
--- What one instruction's answer says of it.
-use Rattle.std.proofs.Common.{zero, suc, inl, inr, ◌≡◌, ◌≢◌, ℕ, ◌+◌, Bool, true, false, Option, None, Some, Result}
+-- What one instruction's answer says of it, and stretches one after another.
+use Rattle.std.proofs.Common.{zero, suc, inl, inr, ◌≡◌, ◌≢◌, ℕ, ◌+◌, Bool, true, false, None}
 use Rattle.std.proofs.Common.{refl, sym, ap, ◌∙◌, subst}
-use Rattle.host_edge.specs.declared.ending.MachineKind.{MachineKind}
-use Rattle.mips_model.specs.Steps.{step, word_at}
-use Rattle.mips_model.specs.Beside.{is_service, is_at_service}
-use Rattle.mips_core.specs.declared.halt.Halt.{Halt}
+use Rattle.mips_model.specs.State.{World}
+use Rattle.mips_model.specs.Steps.{step}
+use Rattle.mips_model.specs.Beside.{is_at_service}
+use Rattle.mips_model.proofs.Traces.{text_stays}
 use Rattle.mips_core.specs.declared.halt.Went.{Went}
 use Rattle.mips_core.specs.declared.halt.Went.TheVariants as went
-use Rattle.mips_core.specs.Core.{CoreKept, GoesOn, Pauses, state_of, world_of, ending_from, went_of}
+use Rattle.mips_core.specs.Core.{CoreKept, GoesOn, IsClear, Leaves, Pauses, at, state_of, went_to}
+use Rattle.mips_core.specs.Core.{world_of}
 use Rattle.mips_core.proofs.Loops.{goes_more}
 
--- an answer other than Service is that of an instruction that was executed or refused
-executed : {P Q : Type 0} (b : Bool) {r : Went} → (b ≡ true → (r ≡ went.Service) × P) → (b ≡ false → Q) →
-    r ≢ went.Service → (b ≡ false) × Q
-executed true f g not = absurd (not (f refl).0)
-executed false f g not = (refl, g refl)
-
-pub not_service : {r : Went} → r ≡ went.On → r ≢ went.Service
-not_service {r} on is = absurd cc
-
-pub not_stopped : {r : Went} → r ≡ went.Stopped → r ≢ went.Service
-not_stopped {r} on is = absurd cc
-
-still_on : (o : Option Halt) → went.On ≡ went_of (ending_from o) → o ≡ None
-still_on None is = refl
-still_on (Some h) is = absurd cc
-
-has_stopped : (o : Option Halt) → went.Stopped ≡ went_of (ending_from o) → o ≢ None
-has_stopped None is = absurd cc
-has_stopped (Some h) is = λ none. absurd cc
-
 -- the two clauses of a step from what was kept to what is
-abbrev Services : Result ℕ MachineKind → Went → CoreKept → CoreKept → Type 0
-Services w r mid new = is_service w ≡ true → (r ≡ went.Service) × (new ≡ mid)
+abbrev pub Services : Went → ℕ → CoreKept → CoreKept → Type 0
+Services r pc mid new = is_at_service (state_of (at pc mid)) ≡ true → (r ≡ went.Service) × (new ≡ mid)
 
-abbrev Others : Result ℕ MachineKind → Went → CoreKept → CoreKept → Type 0
-Others w r mid new = is_service w ≡ false → (world_of new ≡ step (world_of mid)) × (r ≡ went_of (world_of new).ending)
+abbrev pub Others : Bool → Went → ℕ → CoreKept → CoreKept → Type 0
+Others aside r pc mid new = is_at_service (state_of (at pc mid)) ≡ false →
+    (world_of (at (went_to r pc) new) ≡ step (world_of (at pc mid))) × Leaves aside r pc new
 
-pub one_more : {count : ℕ} {old : CoreKept} (mid new : CoreKept) (w : Result ℕ MachineKind) {r : Went} →
-    w ≡ word_at (state_of mid).code mid.pc
-    → Services w r mid new → Others w r mid new → r ≢ went.Service → mid.stopped ≡ None → GoesOn count old mid
-    → GoesOn (count + 1) old new × (r ≡ went_of (world_of new).ending)
-one_more {count} {old} mid new w {r} at f g not on goes =
-    let h = executed (is_service w) f g not in
-    (goes_more goes on (ap is_service (sym at) ∙ h.0) h.1.0, h.1.1)
+-- what is known behind an instruction that was executed or refused
+pub record More (count : ℕ) (first : CoreKept) (aside : Bool) (r : Went) (pc : ℕ) (mid new : CoreKept) : Type 0 where
+  pub ran : GoesOn (count + 1) first (at (went_to r pc) new)
+  pub leaves : Leaves aside r pc new
+  pub text : (state_of new).code.text ≡ (state_of mid).code.text
 
-pub goes_on : {r : Went} (new : CoreKept) → r ≡ went.On → r ≡ went_of (world_of new).ending → new.stopped ≡ None
-goes_on {r} new is e = still_on new.stopped (sym is ∙ e)
+no_service : {P Q : Type 0} (b : Bool) {r : Went} → (b ≡ true → (r ≡ went.Service) × P) → (b ≡ false → Q) →
+    r ≢ went.Service → (b ≡ false) × Q
+no_service true f g not = absurd (not (f refl).0)
+no_service false f g not = (refl, g refl)
 
-pub stops : {r : Went} (new : CoreKept) → r ≡ went.Stopped → r ≡ went_of (world_of new).ending → new.stopped ≢ None
-stops {r} new is e = has_stopped new.stopped (sym is ∙ e)
+pub one_more : {count : ℕ} {first : CoreKept} (aside : Bool) (r : Went) (pc : ℕ) (mid new : CoreKept) →
+    Services r pc mid new → Others aside r pc mid new → r ≢ went.Service → mid.stopped ≡ None →
+    GoesOn count first (at pc mid) → More count first aside r pc mid new
+one_more {count} {first} aside r pc mid new f g not on goes =
+    let h = no_service (is_at_service (state_of (at pc mid))) f g not in
+    record {
+      ran = goes_more goes on h.0 h.1.0;
+      leaves = h.1.1;
+      text = ap (λ (w : World). w.state.code.text) h.1.0 ∙ text_stays 1 (world_of (at pc mid));
+    }
 
-never : (o : Option Halt) → went.Service ≢ went_of (ending_from o)
-never None is = absurd cc
-never (Some h) is = absurd cc
+pub on_not : (next : ℕ) → went.On next ≢ went.Service
+on_not next is = absurd cc
 
-serves_by : (b : Bool) {P Q : Type 0} {r : Went} (o : Option Halt) → (b ≡ true → (r ≡ went.Service) × P) →
-    (b ≡ false → Q × (r ≡ went_of (ending_from o)))
-    → r ≡ went.Service → (b ≡ true) × P
-serves_by true o f g is = (refl, (f refl).1)
-serves_by false o f g is = absurd (never o (sym is ∙ (g refl).1))
+pub pending_not : (next : ℕ) → went.Pending next ≢ went.Service
+pending_not next is = absurd cc
 
-pub serves : (mid new : CoreKept) (w : Result ℕ MachineKind) {r : Went} → w ≡ word_at (state_of mid).code mid.pc
-    → Services w r mid new → Others w r mid new → r ≡ went.Service
-    → (is_at_service (state_of mid) ≡ true) × (new ≡ mid)
-serves mid new w {r} at f g is =
-    let h = serves_by (is_service w) new.stopped f g is in
-    (ap is_service (sym at) ∙ h.0, h.1)
+pub stopped_not : went.Stopped ≢ went.Service
+stopped_not is = absurd cc
+
+pub service_not : went.Service ≢ went.Stopped
+service_not is = absurd cc
+
+pub on_not_stopped : (next : ℕ) → went.On next ≢ went.Stopped
+on_not_stopped next is = absurd cc
+
+pub pending_not_stopped : (next : ℕ) → went.Pending next ≢ went.Stopped
+pending_not_stopped next is = absurd cc
 
 pub pauses_stopped : (left : ℕ) (k : CoreKept) → k.stopped ≢ None → Pauses left k
 pauses_stopped zero k stopped = tt
 pauses_stopped (suc left) k stopped = inl stopped
 
-pub pauses_service : (left : ℕ) (mid new : CoreKept) → mid.stopped ≡ None →
-    (is_at_service (state_of mid) ≡ true) × (new ≡ mid) → Pauses left new
-pauses_service zero mid new on h = tt
-pauses_service (suc left) mid new on h =
-    inr (ap (λ (k : CoreKept). k.stopped) h.1 ∙ on, ap (λ k. is_at_service (state_of k)) h.1 ∙ h.0)
+pub pauses_service : (left : ℕ) (k : CoreKept) → k.stopped ≡ None → is_at_service (state_of k) ≡ true → Pauses left k
+pauses_service zero k on service = tt
+pauses_service (suc left) k on service = inr (on, service)
 
-pub goes_same : {count : ℕ} {old mid new : CoreKept} → GoesOn count old mid → new ≡ mid → GoesOn count old new
-goes_same {count} {old} {mid} {new} goes is = subst (λ k. GoesOn count old k) (sym is) goes
+-- an answer of Service is that of a SYSCALL, which was left
+pub serves_by : (aside b : Bool) {P Q : Type 0} (pc : ℕ) (new : CoreKept) → (b ≡ true → P) →
+    (b ≡ false → Q × Leaves aside went.Service pc new) → (b ≡ true) × P
+serves_by aside true pc new f g = (refl, f refl)
+serves_by aside false pc new f g = absurd (g refl).1
+
+-- what is known where the run goes on at an address
+pub record Onward (count : ℕ) (first : CoreKept) (pc : ℕ) (mid new : CoreKept) : Type 0 where
+  pub ran : GoesOn (count + 1) first (at pc new)
+  pub on : new.stopped ≡ None
+  pub text : (state_of new).code.text ≡ (state_of mid).code.text
+
+-- where nothing was pending, and nothing is
+pub plain_on : {count : ℕ} {first : CoreKept} {r : Went} {next : ℕ} (pc : ℕ) (mid new : CoreKept) →
+    Services r pc mid new → Others false r pc mid new → r ≡ went.On next → mid.stopped ≡ None →
+    GoesOn count first (at pc mid) → Onward count first (pc + 4) mid new × IsClear new
+plain_on {count} {first} {r} {next} pc mid new f g is on goes =
+    let m = one_more false (went.On next) pc mid new (subst (λ (x : Went). Services x pc mid new) is f)
+    (subst (λ (x : Went). Others false x pc mid new) is g) (on_not next) on goes in (
+      record {
+        ran = subst (λ (n : ℕ). GoesOn (count + 1) first (at n new)) (m.leaves.1 refl).1 m.ran;
+        on = m.leaves.0;
+        text = m.text;
+      },
+      (m.leaves.1 refl).0,
+    )
+
+-- where nothing was pending, and something is
+pub plain_pending : {count : ℕ} {first : CoreKept} {r : Went} {next : ℕ} (pc : ℕ) (mid new : CoreKept) →
+    Services r pc mid new → Others false r pc mid new → r ≡ went.Pending next → mid.stopped ≡ None →
+    GoesOn count first (at pc mid) → Onward count first (pc + 4) mid new
+plain_pending {count} {first} {r} {next} pc mid new f g is on goes =
+    let m = one_more false (went.Pending next) pc mid new (subst (λ (x : Went). Services x pc mid new) is f)
+    (subst (λ (x : Went). Others false x pc mid new) is g) (pending_not next) on goes in
+    record {
+      ran = subst (λ (n : ℕ). GoesOn (count + 1) first (at n new)) (m.leaves.1 refl) m.ran;
+      on = m.leaves.0;
+      text = m.text;
+    }
+
+-- where something was pending
+pub aside_on : {count : ℕ} {first : CoreKept} {r : Went} {next : ℕ} (pc : ℕ) (mid new : CoreKept) →
+    Services r pc mid new → Others true r pc mid new → r ≡ went.On next → mid.stopped ≡ None →
+    GoesOn count first (at pc mid) → Onward count first next mid new
+aside_on {count} {first} {r} {next} pc mid new f g is on goes =
+    let m = one_more true (went.On next) pc mid new (subst (λ (x : Went). Services x pc mid new) is f)
+    (subst (λ (x : Went). Others true x pc mid new) is g) (on_not next) on goes in
+    record { ran = m.ran; on = m.leaves.0; text = m.text }
+
+pub aside_pending : {count : ℕ} {first : CoreKept} {r : Went} {next : ℕ} (pc : ℕ) (mid new : CoreKept) →
+    Services r pc mid new → Others true r pc mid new → r ≡ went.Pending next → mid.stopped ≡ None →
+    GoesOn count first (at pc mid) → Onward count first next mid new
+aside_pending {count} {first} {r} {next} pc mid new f g is on goes =
+    let m = one_more true (went.Pending next) pc mid new (subst (λ (x : Went). Services x pc mid new) is f)
+    (subst (λ (x : Went). Others true x pc mid new) is g) (pending_not next) on goes in
+    record { ran = m.ran; on = m.leaves.0; text = m.text }

@@ -1,9 +1,9 @@
 -- What the code keeps of the machine's state, in lists, and the state that it stands for. What passes between a run and
 -- the outside is kept by nobody: here the state has none of it, and whoever runs the core says what it is.
-use Rattle.std.specs.Prelude.{zero, suc, ◌≢◌, ◌⊎◌, ⊤, ◌≡◌, ℕ, ◌+◌, ◌-◌, ◌<◌, Bool, true, false, ◌||◌, nat_eq, nat_lt}
+use Rattle.std.specs.Prelude.{zero, suc, ◌≢◌, ◌⊎◌, ⊤, ◌≡◌, ℕ, ◌+◌, ◌-◌, ◌/◌, ◌%◌, ◌==◌, ◌<◌, Bool, true, false, ◌||◌, nat_eq, nat_lt}
 use Rattle.std.specs.Prelude.{Result, Ok, Err, if◌then◌else◌, List, [], Option, Some, None, slice_index}
 use Rattle.std.specs.Fn.{iterate}
-use Rattle.flat_memory.specs.Spaces.{Spaces}
+use Rattle.flat_memory.specs.Spaces.{Spaces, text_of}
 use Rattle.code_arena.specs.Arena.{Arena}
 use Rattle.host_edge.specs.declared.ending.Ending.{Ending}
 use Rattle.history.specs.Events.{End}
@@ -45,21 +45,26 @@ pub record CoreKept : Type 0 where
   pub table : List (ℕ × ℕ)
   pub stopped : Option Halt
 
--- the address behind the next instruction passes a word only where no instruction is executed
+-- a branch's target is an address
 pub record IsCore (k : CoreKept) : Type 0 where
   pub is_register : k.loaded < 32
-  pub next_is_low : k.pc < 4294967292 → k.next < 4294967296
-  pub next_is_near : k.next < 4294967300
+  pub target_is_low : k.slot ≡ true → k.next < 4294967296
 
--- What is behind the next instruction: a branch's target or the next word, as the next instruction stands in a slot or
--- doesn't. Where nothing is pending, no register was loaded, HI and LO may be set, and no slot is next.
+-- nothing is pending
+pub record IsClear (k : CoreKept) : Type 0 where
+  pub no_slot : k.slot ≡ false
+  pub not_loaded : k.loaded ≡ 0
+  pub not_recent : k.recent ≡ 0
+
+-- what is behind the next instruction: a branch's target or the next word, as the next instruction stands in a slot or
+-- doesn't
 abbrev pub next_of : (slot : Bool) (target pc : ℕ) → ℕ
 next_of slot target pc = if slot then target else (pc + 4)
 
-pub record IsSettled (pending slot : Bool) (loaded recent : ℕ) : Type 0 where
-  pub no_slot : pending ≡ false → slot ≡ false
-  pub not_loaded : pending ≡ false → loaded ≡ 0
-  pub not_recent : pending ≡ false → recent ≡ 0
+-- The same with the next instruction at this address. While the loop runs it holds the address itself, and the core's own
+-- is that of an earlier instruction.
+abbrev pub at : ℕ → CoreKept → CoreKept
+at pc k = record k { pc = pc; next = next_of k.slot k.next pc }
 
 -- nothing of the outside
 abbrev pub nothing : Outside
@@ -124,10 +129,20 @@ with_recent n w = record w { state = record w.state { recent = n } }
 abbrev pub is_recent : ℕ → Bool
 is_recent n = if nat_eq n 0 then false else true
 
--- an instruction that has this ending behind it went on, or stopped the run
-abbrev pub went_of : Option End → Went
-went_of None = went.On
-went_of (Some e) = went.Stopped
+-- where the run stands behind an instruction that stood at an address
+abbrev pub went_to : Went → ℕ → ℕ
+went_to (went.On next) pc = next
+went_to (went.Pending next) pc = next
+went_to went.Stopped pc = pc
+went_to went.Service pc = pc
+
+-- What an instruction's answer says of the core behind it: whether the run goes on, and where nothing was pending before
+-- it, that nothing is again unless the answer says so, and that the next word follows.
+abbrev pub Leaves : (aside : Bool) → Went → ℕ → CoreKept → Type 0
+Leaves aside (went.On next) pc k = (k.stopped ≡ None) × (aside ≡ false → IsClear k × (next ≡ pc + 4))
+Leaves aside (went.Pending next) pc k = (k.stopped ≡ None) × (aside ≡ false → next ≡ pc + 4)
+Leaves aside went.Stopped pc k = k.stopped ≢ None
+Leaves aside went.Service pc k = ⊥
 
 abbrev pub chosen : Bool → ℕ → ℕ → ℕ
 chosen taken target other = if taken then target else other
@@ -170,6 +185,10 @@ pub record GoesOn (count : ℕ) (old new : CoreKept) : Type 0 where
   pub alive : (o : Outside) (m : ℕ) → m < count → (iterate step m (beside o (world_of old))).ending ≡ None
   pub others : (o : Outside) (m : ℕ) → m < count →
       is_at_service (iterate step m (beside o (world_of old))).state ≡ false
+
+-- the word at an address, where these are the words of the text
+abbrev pub text_fetched : List ℕ → ℕ → Option ℕ
+text_fetched words pc = if (pc % 4 == 0) then text_of words (pc / 4) else None
 
 -- the word at an address that has none in the text
 abbrev pub word_past_text : Code → ℕ → Result ℕ MachineKind

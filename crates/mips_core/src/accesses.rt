@@ -12,8 +12,8 @@ ghost use Rattle.mips_core.specs.Core as spec;
 ghost use Rattle.mips_core.specs.Core.{state_of, data_of, world_of};
 
 use crate::arithmetic::widened;
-use crate::core_state::Core;
 use crate::halt::Went;
+use crate::rest::Rest;
 use flat_memory::Access;
 use host_edge::{Ending, MachineKind, TrapKind};
 use mips_encoder::{MemoryOp, Register, immediate as low_half, rs, rt};
@@ -33,32 +33,41 @@ fn is_in_table(at: u32) -> bool
     at >= map::FUNCTION_TABLE && at < map::FUNCTION_TABLE + map::FUNCTION_TABLE_BYTES
 }
 
-impl Core {
+impl Rest {
     /// A value was loaded to a register.
     #[inline(always)]
-    fn take(&mut self, r: Register, v: u32) -> Went
+    fn take<const ASIDE: bool>(&mut self, pc: u32, r: Register, v: u32) -> Went
         requires on { self.old.stopped ≡ None }
-        requires next { self.old.next < 4294967296 }
-        ensures world { world_of self.new ≡ spec.took r v (state_of self.old) }
-        ensures went { result ≡ spec.went_of (world_of self.new).ending }
+        requires near { pc < 4294967288 }
+        requires plain { ASIDE ≡ false → spec.IsClear self.old }
+        ensures world { world_of (spec.at (spec.went_to result pc) self.new) ≡ spec.took r v (state_of (spec.at pc self.old)) }
+        ensures went { spec.Leaves ASIDE result pc self.new }
     {
         self.write(r, v);
-        self.advance();
-        self.set_loaded(r);
-        Went::On
+        let next = self.advance::<ASIDE>(pc);
+        self.set_loaded(next, r);
+        Went::Pending(next)
     }
 
     /// A word holds what is loaded to a register.
-    fn take_part(&mut self, r: Register, at: u32, width: Width, word: u32) -> Went
+    fn take_part<const ASIDE: bool>(
+        &mut self,
+        pc: u32,
+        r: Register,
+        at: u32,
+        width: Width,
+        word: u32,
+    ) -> Went
         requires on { self.old.stopped ≡ None }
-        requires next { self.old.next < 4294967296 }
-        ensures world { world_of self.new ≡ steps.reads (Some word) r at width (self.old.recent - 1) (state_of self.old) }
-        ensures went { result ≡ spec.went_of (world_of self.new).ending }
+        requires near { pc < 4294967288 }
+        requires plain { ASIDE ≡ false → spec.IsClear self.old }
+        ensures world { world_of (spec.at (spec.went_to result pc) self.new) ≡ steps.reads (Some word) r at width (self.old.recent - 1) (state_of (spec.at pc self.old)) }
+        ensures went { spec.Leaves ASIDE result pc self.new }
     {
         if is_aligned(at, width) {
-            self.take(r, loaded_part(word, at, width))
+            self.take::<ASIDE>(pc, r, loaded_part(word, at, width))
         } else {
-            self.end(Ending::Trap(TrapKind::Misaligned))
+            self.end(Ending::Trap(TrapKind::Misaligned), pc)
         }
     }
 
@@ -75,76 +84,82 @@ impl Core {
 
     /// A load from the arena or the function table.
     #[inline(never)]
-    fn load_elsewhere(&mut self, r: Register, at: u32, width: Width) -> Went
+    fn load_elsewhere<const ASIDE: bool>(
+        &mut self,
+        pc: u32,
+        r: Register,
+        at: u32,
+        width: Width,
+    ) -> Went
         requires on { self.old.stopped ≡ None }
-        requires next { self.old.next < 4294967296 }
+        requires near { pc < 4294967288 }
+        requires plain { ASIDE ≡ false → spec.IsClear self.old }
         requires outside { flat.load (spaces_of self.old.memory) at width ≡ Err Access.Outside }
-        ensures world { world_of self.new ≡ spec.loading r at width (state_of self.old) }
-        ensures went { result ≡ spec.went_of (world_of self.new).ending }
+        ensures world { world_of (spec.at (spec.went_to result pc) self.new) ≡ spec.loading r at width (state_of (spec.at pc self.old)) }
+        ensures went { spec.Leaves ASIDE result pc self.new }
     {
         if is_in_arena(at) {
             let word = self.arena.read(at / 4 - map::ARENA / 4);
-            self.take_part(r, at, width, word)
+            self.take_part::<ASIDE>(pc, r, at, width, word)
         } else if is_in_table(at) {
             let word = self.table_word(at);
-            self.take_part(r, at, width, word)
+            self.take_part::<ASIDE>(pc, r, at, width, word)
         } else {
-            self.end(Ending::Trap(TrapKind::Range))
+            self.end(Ending::Trap(TrapKind::Range), pc)
         }
     }
 
     #[inline(always)]
-    fn load(&mut self, r: Register, at: u32, width: Width) -> Went
+    fn load<const ASIDE: bool>(&mut self, pc: u32, r: Register, at: u32, width: Width) -> Went
         requires on { self.old.stopped ≡ None }
-        requires next { self.old.next < 4294967296 }
-        ensures world { world_of self.new ≡ spec.loading r at width (state_of self.old) }
-        ensures went { result ≡ spec.went_of (world_of self.new).ending }
+        requires near { pc < 4294967288 }
+        requires plain { ASIDE ≡ false → spec.IsClear self.old }
+        ensures world { world_of (spec.at (spec.went_to result pc) self.new) ≡ spec.loading r at width (state_of (spec.at pc self.old)) }
+        ensures went { spec.Leaves ASIDE result pc self.new }
     {
         match self.memory.load(at, width) {
-            Ok(v) => self.take(r, v),
-            Err(Access::Outside) => self.load_elsewhere(r, at, width),
-            Err(_) => self.end(Ending::Trap(TrapKind::Misaligned)),
+            Ok(v) => self.take::<ASIDE>(pc, r, v),
+            Err(Access::Outside) => self.load_elsewhere::<ASIDE>(pc, r, at, width),
+            Err(_) => self.end(Ending::Trap(TrapKind::Misaligned), pc),
         }
     }
 
     /// A store to the arena, or one that is refused.
     #[inline(never)]
-    fn store_elsewhere(&mut self, at: u32, width: Width, w: u32) -> Went
+    fn store_elsewhere<const ASIDE: bool>(&mut self, pc: u32, at: u32, width: Width, w: u32) -> Went
         requires on { self.old.stopped ≡ None }
-        requires next { self.old.next < 4294967296 }
+        requires near { pc < 4294967288 }
+        requires plain { ASIDE ≡ false → spec.IsClear self.old }
         requires outside { flat.store (spaces_of self.old.memory) at width w ≡ Err Access.Outside }
-        ensures world { world_of self.new ≡ spec.storing at width w (state_of self.old) }
-        ensures went { result ≡ spec.went_of (world_of self.new).ending }
+        ensures world { world_of (spec.at (spec.went_to result pc) self.new) ≡ spec.storing at width w (state_of (spec.at pc self.old)) }
+        ensures went { spec.Leaves ASIDE result pc self.new }
     {
         let aligned = is_aligned(at, width);
         if is_in_arena(at) && aligned {
             let i = at / 4 - map::ARENA / 4;
             self.arena
                 .write(i, stored_part(self.arena.read(i), at, width, w));
-            self.advance();
-            Went::On
+            Went::On(self.advance::<ASIDE>(pc))
         } else if (is_in_arena(at) || is_in_table(at)) && !aligned {
-            self.end(Ending::Trap(TrapKind::Misaligned))
+            self.end(Ending::Trap(TrapKind::Misaligned), pc)
         } else {
-            self.end(Ending::Trap(TrapKind::Range))
+            self.end(Ending::Trap(TrapKind::Range), pc)
         }
     }
 
     #[inline(always)]
-    fn store(&mut self, at: u32, width: Width, w: u32) -> Went
+    fn store<const ASIDE: bool>(&mut self, pc: u32, at: u32, width: Width, w: u32) -> Went
         requires on { self.old.stopped ≡ None }
-        requires next { self.old.next < 4294967296 }
-        ensures world { world_of self.new ≡ spec.storing at width w (state_of self.old) }
-        ensures went { result ≡ spec.went_of (world_of self.new).ending }
+        requires near { pc < 4294967288 }
+        requires plain { ASIDE ≡ false → spec.IsClear self.old }
+        ensures world { world_of (spec.at (spec.went_to result pc) self.new) ≡ spec.storing at width w (state_of (spec.at pc self.old)) }
+        ensures went { spec.Leaves ASIDE result pc self.new }
     {
         match self.memory.store(at, width, w) {
-            Ok(()) => {
-                self.advance();
-                Went::On
-            }
-            Err(Access::Outside) => self.store_elsewhere(at, width, w),
-            Err(Access::Misaligned) => self.end(Ending::Trap(TrapKind::Misaligned)),
-            Err(Access::ReadOnly) => self.end(Ending::Trap(TrapKind::Range)),
+            Ok(()) => { Went::On(self.advance::<ASIDE>(pc)) }
+            Err(Access::Outside) => self.store_elsewhere::<ASIDE>(pc, at, width, w),
+            Err(Access::Misaligned) => self.end(Ending::Trap(TrapKind::Misaligned), pc),
+            Err(Access::ReadOnly) => self.end(Ending::Trap(TrapKind::Range), pc),
         }
     }
 
@@ -152,42 +167,46 @@ impl Core {
     #[inline(always)]
     fn access<const ASIDE: bool, const CODE: u32>(
         &mut self,
+        pc: u32,
         op: MemoryOp,
         r: Register,
         at: u32,
     ) -> Went
         requires on { self.old.stopped ≡ None }
-        requires next { self.old.next < 4294967296 }
-        ensures world { world_of self.new ≡ spec.accessing op r at (state_of self.old) }
-        ensures went { result ≡ spec.went_of (world_of self.new).ending }
+        requires near { pc < 4294967288 }
+        requires plain { ASIDE ≡ false → spec.IsClear self.old }
+        ensures world { world_of (spec.at (spec.went_to result pc) self.new) ≡ spec.accessing op r at (state_of (spec.at pc self.old)) }
+        ensures went { spec.Leaves ASIDE result pc self.new }
     {
         match op {
-            MemoryOp::Lb => self.load(r, at, Width::SignedByte),
-            MemoryOp::Lh => self.load(r, at, Width::SignedHalf),
-            MemoryOp::Lw => self.load(r, at, Width::Word),
-            MemoryOp::Lbu => self.load(r, at, Width::Byte),
-            MemoryOp::Lhu => self.load(r, at, Width::Half),
-            MemoryOp::Sb => self.store(at, Width::Byte, self.register(r)),
-            MemoryOp::Sh => self.store(at, Width::Half, self.register(r)),
-            MemoryOp::Sw => self.store(at, Width::Word, self.register(r)),
+            MemoryOp::Lb => self.load::<ASIDE>(pc, r, at, Width::SignedByte),
+            MemoryOp::Lh => self.load::<ASIDE>(pc, r, at, Width::SignedHalf),
+            MemoryOp::Lw => self.load::<ASIDE>(pc, r, at, Width::Word),
+            MemoryOp::Lbu => self.load::<ASIDE>(pc, r, at, Width::Byte),
+            MemoryOp::Lhu => self.load::<ASIDE>(pc, r, at, Width::Half),
+            MemoryOp::Sb => self.store::<ASIDE>(pc, at, Width::Byte, self.register(r)),
+            MemoryOp::Sh => self.store::<ASIDE>(pc, at, Width::Half, self.register(r)),
+            MemoryOp::Sw => self.store::<ASIDE>(pc, at, Width::Word, self.register(r)),
         }
     }
 
     #[inline(always)]
     pub(crate) fn access_memory<const ASIDE: bool, const CODE: u32>(
         &mut self,
+        pc: u32,
         op: MemoryOp,
         w: u32,
     ) -> Went
         requires on { self.old.stopped ≡ None }
-        requires next { self.old.next < 4294967296 }
-        ensures world { world_of self.new ≡ spec.does (table.memory op w) (state_of self.old) }
-        ensures went { result ≡ spec.went_of (world_of self.new).ending }
+        requires near { pc < 4294967288 }
+        requires plain { ASIDE ≡ false → spec.IsClear self.old }
+        ensures world { world_of (spec.at (spec.went_to result pc) self.new) ≡ spec.does (table.memory op w) (state_of (spec.at pc self.old)) }
+        ensures went { spec.Leaves ASIDE result pc self.new }
     {
-        if self.is_loaded(rt(w), rs(w), rs(w)) {
-            return self.fault(MachineKind::Hazard);
+        if self.is_loaded::<ASIDE>(rt(w), rs(w), rs(w)) {
+            return self.fault(MachineKind::Hazard, pc);
         }
         let at = self.register(rs(w)).wrapping_add(widened(low_half(w)));
-        self.access::<ASIDE, CODE>(op, rt(w), at)
+        self.access::<ASIDE, CODE>(pc, op, rt(w), at)
     }
 }

@@ -7,8 +7,9 @@ ghost use Rattle.mips_core.specs.Core.{state_of, world_of};
 ghost use Rattle.mips_model.specs.Effects.{trap_of};
 
 use crate::arithmetic::{equality, sign_test, widened, zero_comparison};
-use crate::core_state::Core;
+use crate::control::{branch_target, link, segment_target};
 use crate::halt::Went;
+use crate::rest::Rest;
 use host_edge::{Ending, MachineKind, TrapKind};
 use mips_encoder::{
     EqualityOp, JumpOp, Register, SignTest, ZeroComparisonOp, immediate as low_half, rd, rs, rt,
@@ -35,158 +36,181 @@ fn trap_kind(code: u32) -> Option<TrapKind>
     }
 }
 
-impl Core {
+impl Rest {
     #[inline(always)]
-    pub(crate) fn jump_register(&mut self, w: u32) -> Went
+    pub(crate) fn jump_register<const ASIDE: bool>(&mut self, pc: u32, w: u32) -> Went
         requires on { self.old.stopped ≡ None }
-        requires next { self.old.next < 4294967296 }
-        ensures world { world_of self.new ≡ spec.does (table.jump_register w) (state_of self.old) }
-        ensures went { result ≡ spec.went_of (world_of self.new).ending }
+        requires near { pc < 4294967288 }
+        requires plain { ASIDE ≡ false → spec.IsClear self.old }
+        ensures world { world_of (spec.at (spec.went_to result pc) self.new) ≡ spec.does (table.jump_register w) (state_of (spec.at pc self.old)) }
+        ensures went { spec.Leaves ASIDE result pc self.new }
     {
         if w / 64 % 32768 != 0 {
-            return self.fault(MachineKind::Reserved);
+            return self.fault(MachineKind::Reserved, pc);
         }
-        if self.is_branch_hazard(rs(w), rs(w), rs(w)) {
-            return self.fault(MachineKind::Hazard);
+        if self.is_branch_hazard::<ASIDE>(rs(w), rs(w), rs(w)) {
+            return self.fault(MachineKind::Hazard, pc);
         }
         let to = self.register(rs(w));
-        self.branch(true, to);
-        Went::On
+        Went::Pending(self.branch::<ASIDE>(pc, true, to))
     }
 
     #[inline(always)]
-    pub(crate) fn jump_and_link_register(&mut self, w: u32) -> Went
+    pub(crate) fn jump_and_link_register<const ASIDE: bool>(&mut self, pc: u32, w: u32) -> Went
         requires on { self.old.stopped ≡ None }
-        requires next { self.old.next < 4294967296 }
-        ensures world { world_of self.new ≡ spec.does (table.jump_and_link_register w) (state_of self.old) }
-        ensures went { result ≡ spec.went_of (world_of self.new).ending }
+        requires near { pc < 4294967288 }
+        requires plain { ASIDE ≡ false → spec.IsClear self.old }
+        ensures world { world_of (spec.at (spec.went_to result pc) self.new) ≡ spec.does (table.jump_and_link_register w) (state_of (spec.at pc self.old)) }
+        ensures went { spec.Leaves ASIDE result pc self.new }
     {
         if w / 2048 % 32 == w / 2097152 % 32 || w / 65536 % 32 != 0 || w / 64 % 32 != 0 {
-            return self.fault(MachineKind::Reserved);
+            return self.fault(MachineKind::Reserved, pc);
         }
-        if self.is_branch_hazard(rd(w), rs(w), rs(w)) {
-            return self.fault(MachineKind::Hazard);
+        if self.is_branch_hazard::<ASIDE>(rd(w), rs(w), rs(w)) {
+            return self.fault(MachineKind::Hazard, pc);
         }
         let to = self.register(rs(w));
-        let back = self.link();
-        self.branch(true, to);
+        let back = link(pc);
+        let next = self.branch::<ASIDE>(pc, true, to);
         self.write(rd(w), back);
-        Went::On
+        Went::Pending(next)
     }
 
     #[inline(always)]
-    pub(crate) fn jump(&mut self, w: u32) -> Went
+    pub(crate) fn jump<const ASIDE: bool>(&mut self, pc: u32, w: u32) -> Went
         requires on { self.old.stopped ≡ None }
-        requires next { self.old.next < 4294967296 }
-        ensures world { world_of self.new ≡ spec.does (table.jump JumpOp.J w) (state_of self.old) }
-        ensures went { result ≡ spec.went_of (world_of self.new).ending }
+        requires near { pc < 4294967288 }
+        requires plain { ASIDE ≡ false → spec.IsClear self.old }
+        ensures world { world_of (spec.at (spec.went_to result pc) self.new) ≡ spec.does (table.jump JumpOp.J w) (state_of (spec.at pc self.old)) }
+        ensures went { spec.Leaves ASIDE result pc self.new }
     {
-        if self.is_slot() {
-            return self.fault(MachineKind::Hazard);
+        if self.is_slot::<ASIDE>() {
+            return self.fault(MachineKind::Hazard, pc);
         }
-        let to = self.segment_target(w % 67108864);
-        self.branch(true, to);
-        Went::On
+        let to = segment_target(pc, w % 67108864);
+        Went::Pending(self.branch::<ASIDE>(pc, true, to))
     }
 
     #[inline(always)]
-    pub(crate) fn jump_and_link(&mut self, w: u32) -> Went
+    pub(crate) fn jump_and_link<const ASIDE: bool>(&mut self, pc: u32, w: u32) -> Went
         requires on { self.old.stopped ≡ None }
-        requires next { self.old.next < 4294967296 }
-        ensures world { world_of self.new ≡ spec.does (table.jump JumpOp.Jal w) (state_of self.old) }
-        ensures went { result ≡ spec.went_of (world_of self.new).ending }
+        requires near { pc < 4294967288 }
+        requires plain { ASIDE ≡ false → spec.IsClear self.old }
+        ensures world { world_of (spec.at (spec.went_to result pc) self.new) ≡ spec.does (table.jump JumpOp.Jal w) (state_of (spec.at pc self.old)) }
+        ensures went { spec.Leaves ASIDE result pc self.new }
     {
-        if self.is_branch_hazard(Register::RA, Register::RA, Register::RA) {
-            return self.fault(MachineKind::Hazard);
+        if self.is_branch_hazard::<ASIDE>(Register::RA, Register::RA, Register::RA) {
+            return self.fault(MachineKind::Hazard, pc);
         }
-        let to = self.segment_target(w % 67108864);
-        let back = self.link();
-        self.branch(true, to);
+        let to = segment_target(pc, w % 67108864);
+        let back = link(pc);
+        let next = self.branch::<ASIDE>(pc, true, to);
         self.write(Register::RA, back);
-        Went::On
+        Went::Pending(next)
     }
 
     #[inline(always)]
-    pub(crate) fn branch_on_equality(&mut self, op: EqualityOp, w: u32) -> Went
+    pub(crate) fn branch_on_equality<const ASIDE: bool>(
+        &mut self,
+        pc: u32,
+        op: EqualityOp,
+        w: u32,
+    ) -> Went
         requires on { self.old.stopped ≡ None }
-        requires next { self.old.next < 4294967296 }
-        ensures world { world_of self.new ≡ spec.does (table.branch_on_equality op w) (state_of self.old) }
-        ensures went { result ≡ spec.went_of (world_of self.new).ending }
+        requires near { pc < 4294967288 }
+        requires plain { ASIDE ≡ false → spec.IsClear self.old }
+        ensures world { world_of (spec.at (spec.went_to result pc) self.new) ≡ spec.does (table.branch_on_equality op w) (state_of (spec.at pc self.old)) }
+        ensures went { spec.Leaves ASIDE result pc self.new }
     {
-        if self.is_branch_hazard(rs(w), rt(w), rt(w)) {
-            return self.fault(MachineKind::Hazard);
+        if self.is_branch_hazard::<ASIDE>(rs(w), rt(w), rt(w)) {
+            return self.fault(MachineKind::Hazard, pc);
         }
         let taken = equality(op, self.register(rs(w)), self.register(rt(w)));
-        let to = self.branch_target(widened(low_half(w)));
-        self.branch(taken, to);
-        Went::On
+        let to = branch_target(pc, widened(low_half(w)));
+        Went::Pending(self.branch::<ASIDE>(pc, taken, to))
     }
 
     #[inline(always)]
-    pub(crate) fn branch_on_zero(&mut self, op: ZeroComparisonOp, w: u32) -> Went
+    pub(crate) fn branch_on_zero<const ASIDE: bool>(
+        &mut self,
+        pc: u32,
+        op: ZeroComparisonOp,
+        w: u32,
+    ) -> Went
         requires on { self.old.stopped ≡ None }
-        requires next { self.old.next < 4294967296 }
-        ensures world { world_of self.new ≡ spec.does (table.branch_on_zero op w) (state_of self.old) }
-        ensures went { result ≡ spec.went_of (world_of self.new).ending }
+        requires near { pc < 4294967288 }
+        requires plain { ASIDE ≡ false → spec.IsClear self.old }
+        ensures world { world_of (spec.at (spec.went_to result pc) self.new) ≡ spec.does (table.branch_on_zero op w) (state_of (spec.at pc self.old)) }
+        ensures went { spec.Leaves ASIDE result pc self.new }
     {
         if w / 65536 % 32 != 0 {
-            return self.fault(MachineKind::Reserved);
+            return self.fault(MachineKind::Reserved, pc);
         }
-        if self.is_branch_hazard(rs(w), rs(w), rs(w)) {
-            return self.fault(MachineKind::Hazard);
+        if self.is_branch_hazard::<ASIDE>(rs(w), rs(w), rs(w)) {
+            return self.fault(MachineKind::Hazard, pc);
         }
         let taken = zero_comparison(op, self.register(rs(w)));
-        let to = self.branch_target(widened(low_half(w)));
-        self.branch(taken, to);
-        Went::On
+        let to = branch_target(pc, widened(low_half(w)));
+        Went::Pending(self.branch::<ASIDE>(pc, taken, to))
     }
 
     #[inline(always)]
-    pub(crate) fn branch_on_sign(&mut self, test: SignTest, w: u32) -> Went
+    pub(crate) fn branch_on_sign<const ASIDE: bool>(
+        &mut self,
+        pc: u32,
+        test: SignTest,
+        w: u32,
+    ) -> Went
         requires on { self.old.stopped ≡ None }
-        requires next { self.old.next < 4294967296 }
-        ensures world { world_of self.new ≡ spec.does (table.branch_on_sign test w) (state_of self.old) }
-        ensures went { result ≡ spec.went_of (world_of self.new).ending }
+        requires near { pc < 4294967288 }
+        requires plain { ASIDE ≡ false → spec.IsClear self.old }
+        ensures world { world_of (spec.at (spec.went_to result pc) self.new) ≡ spec.does (table.branch_on_sign test w) (state_of (spec.at pc self.old)) }
+        ensures went { spec.Leaves ASIDE result pc self.new }
     {
-        if self.is_branch_hazard(rs(w), rs(w), rs(w)) {
-            return self.fault(MachineKind::Hazard);
+        if self.is_branch_hazard::<ASIDE>(rs(w), rs(w), rs(w)) {
+            return self.fault(MachineKind::Hazard, pc);
         }
         let taken = sign_test(test, self.register(rs(w)));
-        let to = self.branch_target(widened(low_half(w)));
-        self.branch(taken, to);
-        Went::On
+        let to = branch_target(pc, widened(low_half(w)));
+        Went::Pending(self.branch::<ASIDE>(pc, taken, to))
     }
 
     #[inline(always)]
-    pub(crate) fn branch_on_sign_and_link(&mut self, test: SignTest, w: u32) -> Went
+    pub(crate) fn branch_on_sign_and_link<const ASIDE: bool>(
+        &mut self,
+        pc: u32,
+        test: SignTest,
+        w: u32,
+    ) -> Went
         requires on { self.old.stopped ≡ None }
-        requires next { self.old.next < 4294967296 }
-        ensures world { world_of self.new ≡ spec.does (table.branch_on_sign_and_link test w) (state_of self.old) }
-        ensures went { result ≡ spec.went_of (world_of self.new).ending }
+        requires near { pc < 4294967288 }
+        requires plain { ASIDE ≡ false → spec.IsClear self.old }
+        ensures world { world_of (spec.at (spec.went_to result pc) self.new) ≡ spec.does (table.branch_on_sign_and_link test w) (state_of (spec.at pc self.old)) }
+        ensures went { spec.Leaves ASIDE result pc self.new }
     {
         if w / 2097152 % 32 == 31 {
-            return self.fault(MachineKind::Reserved);
+            return self.fault(MachineKind::Reserved, pc);
         }
-        if self.is_branch_hazard(Register::RA, rs(w), rs(w)) {
-            return self.fault(MachineKind::Hazard);
+        if self.is_branch_hazard::<ASIDE>(Register::RA, rs(w), rs(w)) {
+            return self.fault(MachineKind::Hazard, pc);
         }
         let taken = sign_test(test, self.register(rs(w)));
-        let to = self.branch_target(widened(low_half(w)));
-        let back = self.link();
-        self.branch(taken, to);
+        let to = branch_target(pc, widened(low_half(w)));
+        let back = link(pc);
+        let next = self.branch::<ASIDE>(pc, taken, to);
         self.write(Register::RA, back);
-        Went::On
+        Went::Pending(next)
     }
 
     #[inline(always)]
-    pub(crate) fn break_with(&mut self, w: u32) -> Went
+    pub(crate) fn break_with<const ASIDE: bool>(&mut self, pc: u32, w: u32) -> Went
         requires on { self.old.stopped ≡ None }
-        ensures world { world_of self.new ≡ spec.does (Some (spec.breaking (w / 64 % 1048576))) (state_of self.old) }
-        ensures went { result ≡ spec.went_of (world_of self.new).ending }
+        ensures world { world_of (spec.at (spec.went_to result pc) self.new) ≡ spec.does (Some (spec.breaking (w / 64 % 1048576))) (state_of (spec.at pc self.old)) }
+        ensures went { spec.Leaves ASIDE result pc self.new }
     {
         match trap_kind(w / 64 % 1048576) {
-            Some(kind) => self.end(Ending::Trap(kind)),
-            None => self.fault(MachineKind::Reserved),
+            Some(kind) => self.end(Ending::Trap(kind), pc),
+            None => self.fault(MachineKind::Reserved, pc),
         }
     }
 }

@@ -5,160 +5,153 @@ ghost use Rattle.word32.specs.declared.map.TheConstants.{SEGMENT_BYTES};
 ghost use Rattle.mips_core.specs.Core as spec;
 ghost use Rattle.mips_core.specs.Core.{world_of};
 
-use crate::core_state::Core;
+use crate::rest::Rest;
 use mips_encoder::Register;
 use word32::map::SEGMENT_BYTES;
 
-impl Core {
-    /// The address of the instruction behind the next.
+impl Rest {
+    /// The address of the instruction behind the next, which stands at this address.
     #[inline(always)]
-    pub(crate) fn next(&self) -> u64
-        ensures { result ≡ self.now.next }
+    fn next(&self, pc: u32) -> u32
+        requires near { self.now.slot ≡ false → pc < 4294967292 }
+        ensures { result ≡ (spec.at pc self.now).next }
     {
-        if self.slot {
-            self.target
-        } else {
-            u64::from(self.pc) + 4
-        }
+        if self.slot { self.target } else { pc + 4 }
     }
 
-    /// On to the next instruction, from a delay slot or where something may not have followed.
+    /// On from a delay slot, or from where something may not have followed, to the address that is answered.
     #[inline(always)]
-    pub(crate) fn settle(&mut self)
-        requires { self.old.next < 4294967296 }
-        ensures { world_of self.new ≡ spec.moved (self.old.next + 4) false (world_of self.old) }
+    pub(crate) fn settle(&mut self, pc: u32) -> u32
+        requires near { self.old.slot ≡ false → pc < 4294967292 }
+        ensures address { result ≡ (spec.at pc self.old).next }
+        ensures world { world_of (spec.at result self.new) ≡ spec.moved ((spec.at pc self.old).next + 4) false (world_of (spec.at pc self.old)) }
     {
-        self.pc = self.next() as u32;
+        let next = self.next(pc);
         self.slot = false;
         self.loaded = 0;
-        self.pending = false;
         if self.recent != 0 {
-            self.pending = self.recent > 1;
             self.recent -= 1;
         }
+        next
     }
 
-    /// On to the next instruction.
+    /// On to the next instruction, whose address is answered.
     #[inline(always)]
-    pub(crate) fn advance(&mut self)
-        requires { self.old.next < 4294967296 }
-        ensures { world_of self.new ≡ spec.moved (self.old.next + 4) false (world_of self.old) }
+    pub(crate) fn advance<const ASIDE: bool>(&mut self, pc: u32) -> u32
+        requires near { pc < 4294967288 }
+        requires plain { ASIDE ≡ false → spec.IsClear self.old }
+        ensures address { result ≡ (spec.at pc self.old).next }
+        ensures world { world_of (spec.at result self.new) ≡ spec.moved ((spec.at pc self.old).next + 4) false (world_of (spec.at pc self.old)) }
     {
-        if self.pending {
-            self.settle();
-        } else {
-            self.pc += 4;
-        }
+        if ASIDE { self.settle(pc) } else { pc + 4 }
     }
 
     /// On to the next instruction, which is a delay slot, and from there to a target.
     #[inline(always)]
-    pub(crate) fn branch(&mut self, taken: bool, target: u32)
-        requires next { self.old.next < 4294967296 }
+    pub(crate) fn branch<const ASIDE: bool>(&mut self, pc: u32, taken: bool, target: u32) -> u32
+        requires near { pc < 4294967288 }
+        requires plain { ASIDE ≡ false → spec.IsClear self.old }
         requires slot { self.old.slot ≡ false }
-        ensures { world_of self.new ≡ spec.moved (spec.chosen taken target (self.old.next + 4)) true (world_of self.old) }
+        ensures { world_of (spec.at result self.new) ≡ spec.moved (spec.chosen taken target ((spec.at pc self.old).next + 4)) true (world_of (spec.at pc self.old)) }
     {
-        let target = if taken {
-            u64::from(target)
-        } else {
-            u64::from(self.pc) + 8
-        };
-        self.advance();
-        self.target = target;
+        let next = self.advance::<ASIDE>(pc);
+        self.target = if taken { target } else { pc + 8 };
         self.slot = true;
-        self.pending = true;
+        next
     }
 
     /// The instruction before the next loaded this register.
     #[inline(always)]
-    pub(crate) fn set_loaded(&mut self, r: Register)
-        ensures { world_of self.new ≡ spec.with_loaded r (world_of self.old) }
+    pub(crate) fn set_loaded(&mut self, pc: u32, r: Register)
+        ensures { world_of (spec.at pc self.new) ≡ spec.with_loaded r (world_of (spec.at pc self.old)) }
     {
         self.loaded = r.number();
-        self.pending = true;
     }
 
     /// The instruction before the next read HI or LO.
     #[inline(always)]
-    pub(crate) fn set_recent(&mut self)
-        ensures { world_of self.new ≡ spec.with_recent 2 (world_of self.old) }
+    pub(crate) fn set_recent(&mut self, pc: u32)
+        ensures { world_of (spec.at pc self.new) ≡ spec.with_recent 2 (world_of (spec.at pc self.old)) }
     {
         self.recent = 2;
-        self.pending = true;
+    }
+
+    /// Whether nothing is pending: no register was just loaded, HI and LO may be set, and no delay slot is next.
+    #[inline(always)]
+    pub(crate) fn is_clear(&self) -> bool
+        ensures { result ≡ true → spec.IsClear self.now }
+    {
+        !self.slot && self.loaded == 0 && self.recent == 0
     }
 
     /// Whether the last instruction loaded one of these registers.
     #[inline(always)]
-    pub(crate) fn is_loaded(&self, a: Register, b: Register, c: Register) -> bool
+    pub(crate) fn is_loaded<const ASIDE: bool>(&self, a: Register, b: Register, c: Register) -> bool
+        requires plain { ASIDE ≡ false → spec.IsClear self.now }
         ensures { result ≡ spec.is_loaded self.now.loaded a b c }
     {
-        self.pending
+        ASIDE
             && self.loaded != 0
             && (a.number() == self.loaded || b.number() == self.loaded || c.number() == self.loaded)
     }
 
     /// Whether a branch may not be next: in a delay slot, or where the last instruction loaded one of these registers.
     #[inline(always)]
-    pub(crate) fn is_branch_hazard(&self, a: Register, b: Register, c: Register) -> bool
+    pub(crate) fn is_branch_hazard<const ASIDE: bool>(
+        &self,
+        a: Register,
+        b: Register,
+        c: Register,
+    ) -> bool
+        requires plain { ASIDE ≡ false → spec.IsClear self.now }
         ensures { result ≡ (self.now.slot || spec.is_loaded self.now.loaded a b c) }
     {
-        self.is_slot() || self.is_loaded(a, b, c)
+        self.is_slot::<ASIDE>() || self.is_loaded::<ASIDE>(a, b, c)
     }
 
     /// Whether the next instruction stands in a delay slot.
     #[inline(always)]
-    pub(crate) fn is_slot(&self) -> bool
+    pub(crate) fn is_slot<const ASIDE: bool>(&self) -> bool
+        requires plain { ASIDE ≡ false → spec.IsClear self.now }
         ensures { result ≡ self.now.slot }
     {
-        self.pending && self.slot
+        ASIDE && self.slot
     }
 
     /// Whether HI or LO was read by one of the last two instructions.
     #[inline(always)]
-    pub(crate) fn is_recent(&self) -> bool
+    pub(crate) fn is_recent<const ASIDE: bool>(&self) -> bool
+        requires plain { ASIDE ≡ false → spec.IsClear self.now }
         ensures { result ≡ spec.is_recent self.now.recent }
     {
-        self.pending && self.recent != 0
+        ASIDE && self.recent != 0
     }
+}
 
-    /// The address of the delay slot of a branch.
-    #[inline(always)]
-    fn behind(&self) -> u32
-        requires next { self.now.next < 4294967296 }
-        requires slot { self.now.slot ≡ false }
-        ensures { result ≡ self.now.next }
-    {
-        self.pc + 4
-    }
+/// The address behind the delay slot of a branch.
+#[inline(always)]
+pub(crate) fn link(pc: u32) -> u32
+    requires { pc < 4294967288 }
+    ensures { result ≡ (pc + 4 + 4) % 4294967296 }
+{
+    pc + 8
+}
 
-    /// The address behind the delay slot.
-    #[inline(always)]
-    pub(crate) fn link(&self) -> u32
-        requires next { self.now.next < 4294967296 }
-        requires slot { self.now.slot ≡ false }
-        ensures { result ≡ (self.now.next + 4) % 4294967296 }
-    {
-        self.behind().wrapping_add(4)
-    }
+/// Where a branch at this address goes that is taken.
+#[inline(always)]
+pub(crate) fn branch_target(pc: u32, offset: u32) -> u32
+    requires { pc < 4294967288 }
+    ensures { result ≡ (pc + 4 + 4 * offset) % 4294967296 }
+{
+    (pc + 4).wrapping_add(offset.wrapping_mul(4))
+}
 
-    /// Where a branch goes that is taken.
-    #[inline(always)]
-    pub(crate) fn branch_target(&self, offset: u32) -> u32
-        requires next { self.now.next < 4294967296 }
-        requires slot { self.now.slot ≡ false }
-        ensures { result ≡ (self.now.next + 4 * offset) % 4294967296 }
-    {
-        self.behind().wrapping_add(offset.wrapping_mul(4))
-    }
-
-    /// The address of a word of the segment that the delay slot stands in.
-    #[inline(always)]
-    pub(crate) fn segment_target(&self, word: u32) -> u32
-        requires next { self.now.next < 4294967296 }
-        requires slot { self.now.slot ≡ false }
-        requires word { word < 67108864 }
-        ensures { result ≡ self.now.next / SEGMENT_BYTES * SEGMENT_BYTES + 4 * word }
-    {
-        self.behind() / SEGMENT_BYTES * SEGMENT_BYTES + 4 * word
-    }
+/// The address of a word of the segment that the delay slot of a jump at this address stands in.
+#[inline(always)]
+pub(crate) fn segment_target(pc: u32, word: u32) -> u32
+    requires near { pc < 4294967288 }
+    requires word { word < 67108864 }
+    ensures { result ≡ (pc + 4) / SEGMENT_BYTES * SEGMENT_BYTES + 4 * word }
+{
+    (pc + 4) / SEGMENT_BYTES * SEGMENT_BYTES + 4 * word
 }

@@ -1,81 +1,49 @@
-//! The registers, the memory and the control of a machine.
+//! A machine without its services.
 
-ghost use Rattle.std.specs.Prelude.{◌≡◌, ◌+◌, ◌-◌, ◌*◌, ◌/◌, ◌%◌, ◌<◌, ◌≤◌, ℕ, true, false, length, map, IfOk, IfSome, Ok, Err, None, Some, []};
+ghost use Rattle.std.specs.Prelude.{◌≡◌, ◌≢◌, ◌+◌, ◌-◌, ◌*◌, ◌/◌, ◌%◌, ◌^◌, ◌<◌, ◌≤◌, ℕ, false, length, map, IfOk, IfSome, Ok, Err, None, Some, []};
 ghost use Rattle.limits.specs.declared.program.TheConstants.{MOST_FUNCTIONS};
-ghost use Rattle.flat_memory.specs.Regions.{spaces_of};
-ghost use Rattle.code_arena.specs.Kept.{arena_of, rows_of};
+ghost use Rattle.limits.specs.declared.ops.TheConstants.{MOST_REGISTERS};
+ghost use Rattle.code_arena.specs.Arena.{Arena};
+ghost use Rattle.code_arena.specs.Kept.{rows_of};
 ghost use Rattle.code_arena.specs.Rows as rows;
-ghost use Rattle.image_file.specs.Image.{IsImage};
+ghost use Rattle.icode_service.specs.Served.{Did, IsChosen};
+ghost use Rattle.icode_service_spec.specs.Choices.{Choice};
+ghost use Rattle.icode_service_spec.specs.Services as generating;
+ghost use Rattle.icode_service_spec.specs.Services.{Rows};
 ghost use Rattle.mips_model.specs.State as model;
+ghost use Rattle.mips_model.specs.State.{register};
 ghost use Rattle.mips_model.specs.Run.{first_state, row_of};
-ghost use Rattle.mips_model.specs.Steps as steps;
 ghost use Rattle.mips_core.specs.Core as spec;
 ghost use Rattle.mips_core.specs.Core.{state_of, data_of, world_of};
 
-use crate::halt::{Halt, Went};
+use crate::halt::Halt;
+use crate::rest::Rest;
 use code_arena::{CodeArena, FunctionRows};
 use flat_memory::Memory;
-use host_edge::{Ending, MachineKind};
+use icode_service::{BadService, Service};
 use image_file::{FunctionEntry, Image};
 use mips_encoder::Register;
 use std::alloc::{AllocError, Global};
 use std::marker::Model;
 
-/// The machine but for its services.
+/// The machine but for its services: the words of its text, which never change, and the rest, whose memory has them too.
 #[derive(Drop)]
 pub struct Core {
-    pub(crate) pc: u32,
-    // where the run goes on behind a delay slot, if the next instruction stands in one
-    pub(crate) target: u64,
-    pub(crate) loaded: u32,
-    pub(crate) recent: u32,
-    pub(crate) slot: bool,
-    // where it isn't set, nothing was loaded, HI and LO may be set, and no delay slot is next
-    pub(crate) pending: bool,
-    pub(crate) registers: [u32; 32],
-    pub(crate) hi: u32,
-    pub(crate) lo: u32,
-    pub(crate) memory: Memory,
-    pub(crate) arena: CodeArena,
-    pub(crate) table: FunctionRows,
-    pub(crate) stopped: Option<Halt>,
+    text: Vec<u32>,
+    rest: Rest,
 }
 
 impl Model for Core {
-    ghost use Rattle.std.specs.Prelude.{◌≡◌, slice_index};
-    ghost use Rattle.mips_core.specs.Core.{CoreKept, IsCore, IsSettled, next_of};
+    ghost use Rattle.std.specs.Prelude.{◌≡◌, ◌≤◌, length};
+    ghost use Rattle.word32.specs.declared.map.TheConstants.{TEXT_WORDS};
+    ghost use Rattle.flat_memory.specs.Spaces.{text_of};
+    ghost use Rattle.mips_core.specs.Core.{CoreKept, state_of};
 
     ghost Value = { CoreKept };
 
-    ghost view = { λ m. record {
-      registers = m.registers;
-      hi = m.hi;
-      lo = m.lo;
-      pc = m.pc;
-      next = next_of m.slot m.target m.pc;
-      loaded = m.loaded;
-      recent = m.recent;
-      slot = m.slot;
-      memory = m.memory;
-      arena = m.arena;
-      table = m.table;
-      stopped = m.stopped;
-    } };
+    ghost view = { λ m. m.rest };
 
-    ghost invariant = { λ m. IsCore (record {
-      registers = m.registers;
-      hi = m.hi;
-      lo = m.lo;
-      pc = m.pc;
-      next = next_of m.slot m.target m.pc;
-      loaded = m.loaded;
-      recent = m.recent;
-      slot = m.slot;
-      memory = m.memory;
-      arena = m.arena;
-      table = m.table;
-      stopped = m.stopped;
-    }) × ((slice_index m.registers 0 ≡ 0) × IsSettled m.pending m.slot m.loaded m.recent) };
+    ghost invariant = { λ m. (text_of m.text.items ≡ (state_of m.rest).code.text) × (length m.text.items ≤ TEXT_WORDS) };
 }
 
 /// The function table in which functions are the rows from 1 on, in their order, and no other is published.
@@ -103,32 +71,14 @@ impl Core {
             (λ m. state_of m ≡ first_state image.now (record { bytes = []; failing = false }) []) }
         ensures on { IfOk result (λ m. m.stopped ≡ None) }
     {
+        let text = image.text().to_vec(alloc)?;
         let memory = Memory::new(alloc, image.text(), image.bytes())?;
         let arena = CodeArena::new(alloc)?;
         let table = numbered(alloc, image.functions())?;
-        Ok(Core::begun(image.entry(), memory, arena, table))
-    }
-
-    fn begun(entry: u32, memory: Memory, arena: CodeArena, table: FunctionRows) -> Core
-        requires { entry < 4294967292 }
-        ensures state { state_of result ≡ spec.begun entry (spaces_of memory) (arena_of arena) (rows_of table) }
-        ensures on { result.stopped ≡ None }
-    {
-        Core {
-            registers: [0; 32],
-            hi: 0,
-            lo: 0,
-            pc: entry,
-            target: 0,
-            loaded: 0,
-            recent: 0,
-            slot: false,
-            pending: false,
-            memory,
-            arena,
-            table,
-            stopped: None,
-        }
+        Ok(Core {
+            text,
+            rest: Rest::begun(image.entry(), memory, arena, table),
+        })
     }
 
     /// The value of a register.
@@ -136,7 +86,7 @@ impl Core {
     pub fn register(&self, r: Register) -> u32
         ensures { result ≡ model.register r (data_of self.now) }
     {
-        self.registers[r.number() as usize]
+        self.rest.register(r)
     }
 
     /// Why the machine has stopped, if it has.
@@ -144,46 +94,60 @@ impl Core {
     pub fn stopped(&self) -> Option<Halt>
         ensures { result ≡ self.now.stopped }
     {
-        self.stopped
+        self.rest.stopped()
     }
 
-    /// Writes a register.
-    #[inline(always)]
-    pub(crate) fn write(&mut self, r: Register, v: u32)
-        ensures { world_of self.new ≡ spec.wrote r v (world_of self.old) }
-    {
-        self.registers[r.number() as usize] = v;
-        self.registers[0] = 0;
-    }
-
-    /// Stops the machine.
-    #[inline(always)]
-    pub(crate) fn stop(&mut self, halt: Halt)
-        ensures state { state_of self.new ≡ state_of self.old }
-        ensures stopped { self.new.stopped ≡ Some halt }
-    {
-        self.stopped = Some(halt);
-    }
-
-    /// The program ends.
-    #[cold]
+    /// Executes up to n instructions until the machine stops or a SYSCALL is next, and answers how many of n are left.
     #[inline(never)]
-    pub(crate) fn end(&mut self, e: Ending) -> Went
-        ensures world { world_of self.new ≡ steps.ended (spec.ends e) (state_of self.old) }
-        ensures went { result ≡ Went.Stopped }
+    pub fn go_on(&mut self, n: u64) -> u64
+        requires on { self.old.stopped ≡ None }
+        ensures within { result ≤ n }
+        ensures ran { spec.GoesOn (n - result) self.old self.new }
+        ensures pauses { spec.Pauses result self.new }
+        ensures next { result ≢ 0 → self.new.stopped ≡ None → self.new.next < 4294967296 }
     {
-        self.stop(Halt::Ended(e));
-        Went::Stopped
+        self.rest.go_on(&self.text, n)
     }
 
-    /// The machine refuses the next instruction.
-    #[cold]
-    #[inline(never)]
-    pub(crate) fn fault(&mut self, kind: MachineKind) -> Went
-        ensures world { world_of self.new ≡ steps.faulted kind (state_of self.old) }
-        ensures went { result ≡ Went.Stopped }
+    /// The address of the next instruction.
+    pub fn pc(&self) -> u32
+        ensures { result ≡ self.now.pc }
     {
-        self.stop(Halt::Fault(kind, self.pc));
-        Went::Stopped
+        self.rest.pc()
+    }
+
+    /// Whether a SYSCALL would be a hazard: it reads and writes its number, its arguments and its answer.
+    pub fn is_service_hazard(&self) -> bool
+        ensures { result ≡ spec.is_service_hazard (state_of self.now) }
+    {
+        self.rest.is_service_hazard()
+    }
+
+    /// A service answers, and the run goes on.
+    pub fn answer(&mut self, v: u32)
+        requires on { self.old.stopped ≡ None }
+        requires next { self.old.next < 4294967296 }
+        ensures world { world_of self.new ≡ spec.answered v (state_of self.old).code.arena (state_of self.old) }
+        ensures on { self.new.stopped ≡ None }
+    {
+        self.rest.answer(v);
+    }
+
+    /// A service that makes code, by the number in its register: it answers and the run goes on, or it is refused and
+    /// nothing has changed.
+    pub fn generate(&mut self, service: &mut Service) -> Result<u32, BadService>
+        requires on { self.old.stopped ≡ None }
+        requires next { self.old.next < 4294967296 }
+        requires room { service.old.spills ≤ 2 ^ 63 }
+        ensures served { let s = state_of self.old in (choice : Choice) × (arena : Arena) × (table : Rows)
+            × IsChosen (register 2 s.d) (register 4 s.d) (register 5 s.d) (register 6 s.d) service.old choice
+            × Did
+            (generating.service choice (register 2 s.d) (register 4 s.d) (register 5 s.d) (register 6 s.d) service.old)
+            service.old service.new s.code.arena arena s.d.table table result
+            × spec.IsBehind result arena table s (world_of self.new) }
+        ensures on { self.new.stopped ≡ None }
+        ensures few { service.new.spills ≤ service.old.spills + MOST_REGISTERS }
+    {
+        self.rest.generate(service)
     }
 }

@@ -14,10 +14,23 @@ pub enum Halt {
 /// What became of an instruction.
 #[derive(Clone, Copy, Debug, PartialEq, Eq)]
 pub enum Went {
-    /// It was executed, and the run goes on.
-    On,
+    /// It was executed, and the run goes on at this address.
+    On(u32),
+    /// The same, and what follows at this address may not be any instruction, or stands in a delay slot.
+    Pending(u32),
     /// It ended the run, or was refused.
     Stopped,
     /// It is SYSCALL, and was not executed.
     Service,
+}
+
+/// How far a stretch of instructions went.
+#[derive(Clone, Copy)]
+pub struct Reached {
+    /// Whether it stopped before its count, since the machine did or a SYSCALL is next.
+    pub is_over: bool,
+    /// The address of the next instruction.
+    pub pc: u32,
+    /// How many instructions of its count are left.
+    pub left: u64,
 }

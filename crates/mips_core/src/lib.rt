@@ -10,6 +10,7 @@ mod dispatch;
 mod fetching;
 mod halt;
 mod operations;
+mod rest;
 mod services;
 
 pub use core_state::Core;

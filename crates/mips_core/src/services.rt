@@ -12,39 +12,43 @@ ghost use Rattle.mips_model.specs.Steps as steps;
 ghost use Rattle.mips_core.specs.Core as spec;
 ghost use Rattle.mips_core.specs.Core.{state_of, world_of};
 
-use crate::core_state::Core;
+use crate::rest::Rest;
 use icode_service::{BadService, Service};
 use mips_encoder::Register;
 
-impl Core {
+impl Rest {
     /// The address of the next instruction.
-    pub fn pc(&self) -> u32
-        ensures { result ≡ self.now.pc }
+    #[inline(always)]
+    pub(crate) fn pc(&self) -> u32
+        ensures pc { result ≡ self.now.pc }
+        ensures own { spec.at result self.now ≡ self.now }
     {
         self.pc
     }
 
     /// Whether a SYSCALL would be a hazard: it reads and writes its number, its arguments and its answer.
-    pub fn is_service_hazard(&self) -> bool
+    pub(crate) fn is_service_hazard(&self) -> bool
         ensures { result ≡ spec.is_service_hazard (state_of self.now) }
     {
         self.loaded == 2 || self.loaded == 4 || self.loaded == 5 || self.loaded == 6
     }
 
     /// A service answers, and the run goes on.
-    pub fn answer(&mut self, v: u32)
+    pub(crate) fn answer(&mut self, v: u32)
         requires on { self.old.stopped ≡ None }
         requires next { self.old.next < 4294967296 }
         ensures world { world_of self.new ≡ spec.answered v (state_of self.old).code.arena (state_of self.old) }
         ensures on { self.new.stopped ≡ None }
+        ensures text { (state_of self.new).code.text ≡ (state_of self.old).code.text }
     {
-        self.advance();
+        let next = self.settle(self.pc());
+        self.stand(next);
         self.write(Register::V0, v);
     }
 
     /// A service that makes code, by the number in its register: it answers and the run goes on, or it is refused and
     /// nothing has changed.
-    pub fn generate(&mut self, service: &mut Service) -> Result<u32, BadService>
+    pub(crate) fn generate(&mut self, service: &mut Service) -> Result<u32, BadService>
         requires on { self.old.stopped ≡ None }
         requires next { self.old.next < 4294967296 }
         requires room { service.old.spills ≤ 2 ^ 63 }
@@ -56,6 +60,7 @@ impl Core {
             × spec.IsBehind result arena table s (world_of self.new) }
         ensures on { self.new.stopped ≡ None }
         ensures few { service.new.spills ≤ service.old.spills + MOST_REGISTERS }
+        ensures text { (state_of self.new).code.text ≡ (state_of self.old).code.text }
     {
         let number = self.register(Register::V0);
         let first = self.register(Register::A0);

@@ -1,12 +1,13 @@
 use Rattle.std.proofs.Common.{◌≡◌, ◌≤◌, ◌-◌, None}
-use Rattle.mips_core.specs.Core.{GoesOn}
-use Rattle.mips_core.proofs.core_state.Core.go_on.Given as goal
+use Rattle.mips_core.specs.Core.{GoesOn, at, state_of}
+use Rattle.mips_core.proofs.rest.Rest.go_on.Given as goal
 
 abbrev pub invariant-loop-left : goal.invariant-loop-left
 invariant-loop-left l = record {
   within : l.left ≤ l.fn.n;
-  ran : GoesOn (l.fn.n - l.left) l.fn.self l.self;
+  ran : GoesOn (l.fn.n - l.left) l.fn.self (at l.pc l.self);
   on : l.self.stopped ≡ None;
+  text : (state_of l.self).code.text ≡ (state_of l.fn.self).code.text;
 }
 
 abbrev pub decreases-loop-left : goal.decreases-loop-left

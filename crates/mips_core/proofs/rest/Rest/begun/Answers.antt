@@ -3,7 +3,7 @@ use Rattle.flat_memory.specs.Regions.{spaces_of}
 use Rattle.code_arena.specs.Kept.{arena_of, rows_of}
 use Rattle.mips_core.specs.Core.{begun}
 use Rattle.mips_core.proofs.Loops.{begun_with}
-use Rattle.mips_core.proofs.core_state.Core.begun.Goals as goal
+use Rattle.mips_core.proofs.rest.Rest.begun.Goals as goal
 
 pub returns-clause-state : goal.returns-clause-state
 returns-clause-state c =

@@ -4,7 +4,7 @@ use Rattle.icode_service_spec.specs.Services as services
 use Rattle.mips_model.specs.State.{register}
 use Rattle.mips_core.specs.Core.{CoreKept, state_of, data_of, generated}
 use Rattle.mips_core.proofs.Generated.{by_registers, left_alone, stays}
-use Rattle.mips_core.proofs.core_state.Core.generate.Goals as goal
+use Rattle.mips_core.proofs.rest.Rest.generate.Goals as goal
 
 pub returns-in-Ok-clause-served : goal.returns-in-Ok-clause-served
 returns-in-Ok-clause-served c =

@@ -1,0 +1,167 @@
+//! The registers, the memory and the control of a machine: all of it but the text that is fetched.
+
+ghost use Rattle.std.specs.Prelude.{◌≡◌, ◌≢◌, ◌+◌, ◌-◌, ◌*◌, ◌/◌, ◌%◌, ◌<◌, ◌≤◌, ℕ, true, false, length, map, IfOk, IfSome, Ok, Err, None, Some, []};
+ghost use Rattle.limits.specs.declared.program.TheConstants.{MOST_FUNCTIONS};
+ghost use Rattle.flat_memory.specs.Regions.{spaces_of};
+ghost use Rattle.code_arena.specs.Kept.{arena_of, rows_of};
+ghost use Rattle.code_arena.specs.Rows as rows;
+ghost use Rattle.image_file.specs.Image.{IsImage};
+ghost use Rattle.mips_model.specs.State as model;
+ghost use Rattle.mips_model.specs.Run.{first_state, row_of};
+ghost use Rattle.mips_model.specs.Steps as steps;
+ghost use Rattle.mips_core.specs.Core as spec;
+ghost use Rattle.mips_core.specs.Core.{state_of, data_of, world_of};
+
+use crate::halt::{Halt, Went};
+use code_arena::{CodeArena, FunctionRows};
+use flat_memory::Memory;
+use host_edge::{Ending, MachineKind};
+use image_file::{FunctionEntry, Image};
+use mips_encoder::Register;
+use std::alloc::{AllocError, Global};
+use std::marker::Model;
+
+/// The machine but for its services and the text that it fetches.
+#[derive(Drop)]
+pub(crate) struct Rest {
+    pub(crate) pc: u32,
+    // where the run goes on behind a delay slot, if the next instruction stands in one
+    pub(crate) target: u32,
+    pub(crate) loaded: u32,
+    pub(crate) recent: u32,
+    pub(crate) slot: bool,
+    pub(crate) registers: [u32; 32],
+    pub(crate) hi: u32,
+    pub(crate) lo: u32,
+    pub(crate) memory: Memory,
+    pub(crate) arena: CodeArena,
+    pub(crate) table: FunctionRows,
+    pub(crate) stopped: Option<Halt>,
+}
+
+impl Model for Rest {
+    ghost use Rattle.std.specs.Prelude.{◌≡◌, slice_index};
+    ghost use Rattle.mips_core.specs.Core.{CoreKept, IsCore, next_of};
+
+    ghost Value = { CoreKept };
+
+    ghost view = { λ m. record {
+      registers = m.registers;
+      hi = m.hi;
+      lo = m.lo;
+      pc = m.pc;
+      next = next_of m.slot m.target m.pc;
+      loaded = m.loaded;
+      recent = m.recent;
+      slot = m.slot;
+      memory = m.memory;
+      arena = m.arena;
+      table = m.table;
+      stopped = m.stopped;
+    } };
+
+    ghost invariant = { λ m. IsCore (record {
+      registers = m.registers;
+      hi = m.hi;
+      lo = m.lo;
+      pc = m.pc;
+      next = next_of m.slot m.target m.pc;
+      loaded = m.loaded;
+      recent = m.recent;
+      slot = m.slot;
+      memory = m.memory;
+      arena = m.arena;
+      table = m.table;
+      stopped = m.stopped;
+    }) × (slice_index m.registers 0 ≡ 0) };
+}
+
+impl Rest {
+    /// The first state.
+    pub(crate) fn begun(entry: u32, memory: Memory, arena: CodeArena, table: FunctionRows) -> Rest
+        requires { entry < 4294967292 }
+        ensures state { state_of result ≡ spec.begun entry (spaces_of memory) (arena_of arena) (rows_of table) }
+        ensures on { result.stopped ≡ None }
+    {
+        Rest {
+            registers: [0; 32],
+            hi: 0,
+            lo: 0,
+            pc: entry,
+            target: 0,
+            loaded: 0,
+            recent: 0,
+            slot: false,
+            memory,
+            arena,
+            table,
+            stopped: None,
+        }
+    }
+
+    /// The value of a register.
+    #[inline(always)]
+    pub(crate) fn register(&self, r: Register) -> u32
+        ensures { result ≡ model.register r (data_of self.now) }
+    {
+        self.registers[r.number() as usize]
+    }
+
+    /// Why the machine has stopped, if it has.
+    #[inline(always)]
+    pub(crate) fn stopped(&self) -> Option<Halt>
+        ensures { result ≡ self.now.stopped }
+    {
+        self.stopped
+    }
+
+    /// Writes a register.
+    #[inline(always)]
+    pub(crate) fn write(&mut self, r: Register, v: u32)
+        ensures world { world_of self.new ≡ spec.wrote r v (world_of self.old) }
+        ensures at { (pc : ℕ) → world_of (spec.at pc self.new) ≡ spec.wrote r v (world_of (spec.at pc self.old)) }
+    {
+        self.registers[r.number() as usize] = v;
+        self.registers[0] = 0;
+    }
+
+    /// The next instruction stands at this address.
+    #[inline(always)]
+    pub(crate) fn stand(&mut self, pc: u32)
+        ensures core { self.new ≡ spec.at pc self.old }
+        ensures next { pc < 4294967288 → self.new.next < 4294967296 }
+    {
+        self.pc = pc;
+    }
+
+    /// Stops the machine.
+    #[inline(always)]
+    pub(crate) fn stop(&mut self, halt: Halt)
+        ensures state { state_of self.new ≡ state_of self.old }
+        ensures stopped { self.new.stopped ≡ Some halt }
+    {
+        self.stopped = Some(halt);
+    }
+
+    /// The program ends.
+    #[cold]
+    #[inline(never)]
+    pub(crate) fn end(&mut self, e: Ending, pc: u32) -> Went
+        ensures world { world_of (spec.at pc self.new) ≡ steps.ended (spec.ends e) (state_of (spec.at pc self.old)) }
+        ensures went { (result ≡ Went.Stopped) × (self.new.stopped ≢ None) }
+    {
+        self.stop(Halt::Ended(e));
+        Went::Stopped
+    }
+
+    /// The machine refuses the next instruction.
+    #[cold]
+    #[inline(never)]
+    pub(crate) fn fault(&mut self, kind: MachineKind, pc: u32) -> Went
+        ensures world { world_of (spec.at pc self.new) ≡ steps.faulted kind (state_of (spec.at pc self.old)) }
+        ensures went { (result ≡ Went.Stopped) × (self.new.stopped ≢ None) }
+    {
+        self.stop(Halt::Fault(kind, pc));
+        Went::Stopped
+    }
+}
