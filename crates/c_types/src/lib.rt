@@ -6,6 +6,7 @@ mod conversions;
 mod copies;
 mod ctype;
 mod extents;
+mod keys;
 mod layers;
 mod names;
 mod parameters;

@@ -1,9 +1,11 @@
 //! Scopes of names.
 
-ghost use Rattle.std.specs.Prelude.{◌≡◌, ◌<◌, ◌-◌, None, Some, OnOk, OnErr, IfOk, ◌↔◌, ◌≢◌, Err, ◌++◌, ◌∷◌, [], length, take};
+ghost use Rattle.std.specs.Prelude.{◌≡◌, ◌<◌, ◌-◌, None, Some, OnOk, OnErr, IfOk, ◌↔◌, ◌≢◌, Err, ◌++◌, ◌∷◌, [], length, take, IsTrue};
 ghost use Rattle.std.specs.Option.{option_copied};
 ghost use Rattle.c_types.specs.Scopes as spec;
+ghost use Rattle.std.specs.Str.{bytes_eq};
 
+use crate::keys::{Key, Wanted};
 use crate::shared::TypeRef;
 use indexmap::IndexMap;
 use std::alloc::{AllocError, AllocFailed, Global};
@@ -69,14 +71,72 @@ impl<T: Drop> From<AllocFailed<T>> for DeclareFault {
     }
 }
 
-// The names of one scope, in the order of their declarations.
+// A name that a scope declares, and what it means.
 #[derive(Drop)]
-struct Scope {
-    names: IndexMap<Vec<u8>, Meaning>,
+struct Declared {
+    name: Key,
+    what: Meaning,
 }
 
-impl Model for Scope {
-    ghost use Rattle.std.specs.Prelude.{map};
+impl Model for Declared {
+    ghost use Rattle.c_types.specs.Scopes as spec;
+    ghost use Rattle.c_types.specs.declared.names.Meaning.{Meaning};
+    ghost use Rattle.c_types.specs.contracts.ctype.CType as inner;
+    ghost use Rattle.std.specs.Coded.{codes};
+
+    ghost Value = { spec.Name × Meaning };
+
+    ghost coded = { Prim.hlevel (codes, inner.the_row.coded) };
+
+    ghost view = { λ d. (d.name, d.what) };
+}
+
+impl Declared {
+    fn new(alloc: Global, name: &[u8], what: Meaning) -> Result<Declared, AllocError>
+        ensures { IfOk result (λ d. d ≡ (name.now, what)) }
+    {
+        let name = Key::new(alloc, name)?;
+        Ok(Declared { name, what })
+    }
+
+    fn has(&self, name: &[u8]) -> bool
+        ensures { result ≡ bytes_eq name.now self.now.0 }
+    {
+        name == self.name.as_slice()
+    }
+
+    fn what(&self) -> &Meaning
+        ensures { result.now ≡ self.now.1 }
+    {
+        &self.what
+    }
+}
+
+// What the first of these declarations of a name says of it.
+fn look_for<'a>(all: &'a [Declared], name: &[u8]) -> Option<&'a Meaning>
+    ensures { option_copied result ≡ spec.in_scope all.now name.now }
+{
+    for each in all {
+        if each.has(name) {
+            return Some(each.what());
+        }
+    }
+    None
+}
+
+// Names that are many, in the order of their declarations.
+struct Many {
+    names: IndexMap<Key, Meaning>,
+}
+
+// (derived, each place that drops one would look into its table)
+impl Drop for Many {
+    fn drop(self) {
+        let Many { names: _ } = self;
+    }
+}
+
+impl Model for Many {
     ghost use Rattle.c_types.specs.Scopes as spec;
     ghost use Rattle.c_types.specs.contracts.ctype.CType as inner;
     ghost use Rattle.std.specs.Coded.{codes};
@@ -85,26 +145,32 @@ impl Model for Scope {
 
     ghost coded = { Prim.hlevel (codes, inner.the_row.coded) };
 
-    ghost view = { λ s. map (λ e. (e.0.items, e.1)) s.names.entries };
+    ghost view = { λ s. s.names.entries };
 }
 
-impl Scope {
-    fn new(alloc: Global) -> Scope
+impl Many {
+    fn new(alloc: Global) -> Many
         ensures { result ≡ [] }
     {
-        Scope {
+        Many {
             names: IndexMap::new(alloc),
         }
+    }
+
+    fn is_empty(&self) -> bool
+        ensures { IsTrue result → self.now ≡ [] }
+    {
+        self.names.is_empty()
     }
 
     fn find(&self, name: &[u8]) -> Option<&Meaning>
         ensures { option_copied result ≡ spec.in_scope self.now name.now }
     {
-        // (most scopes are blocks without a variable: no name is hashed for these)
+        // (most scopes have few names: no name is hashed for these)
         if self.names.is_empty() {
             return None;
         }
-        self.names.get(name)
+        self.names.get(Wanted { name })
     }
 
     fn declare(&mut self, alloc: Global, name: &[u8], what: Meaning) -> Result<(), DeclareFault>
@@ -113,12 +179,95 @@ impl Scope {
         ensures taken { result ≡ Err DeclareFault.Taken → spec.in_scope self.old name.now ≢ None }
         ensures err { OnErr result (self.new ≡ self.old) }
     {
-        if self.names.contains_key(name) {
+        if self.names.contains_key(Wanted { name }) {
             return Err(DeclareFault::Taken);
         }
-        let key = Vec::from_slice(alloc, name)?;
+        let key = Key::new(alloc, name)?;
         self.names.insert(key, what)?;
         Ok(())
+    }
+}
+
+// Puts a declaration behind those that are looked for one by one.
+fn push_few(
+    alloc: Global,
+    few: &mut Vec<Declared>,
+    name: &[u8],
+    what: Meaning,
+) -> Result<(), DeclareFault>
+    ensures ok { OnOk result (few.new.items ≡ few.old.items ++ (name.now, what) ∷ []) }
+    ensures not_taken { result ≢ Err DeclareFault.Taken }
+    ensures err { OnErr result (few.new.items ≡ few.old.items) }
+{
+    let declared = Declared::new(alloc, name, what)?;
+    few.push(declared)?;
+    Ok(())
+}
+
+// How many names of a scope are looked for one by one: most scopes have fewer, and need no map.
+const FEW: usize = 4;
+
+// The names of one scope, in the order of their declarations: first those that are looked for one by one.
+struct Scope {
+    few: Vec<Declared>,
+    more: Many,
+}
+
+// (derived, each place that drops one would look into its table)
+impl Drop for Scope {
+    fn drop(self) {
+        let Scope { few: _, more: _ } = self;
+    }
+}
+
+impl Model for Scope {
+    ghost use Rattle.std.specs.Prelude.{◌++◌};
+    ghost use Rattle.c_types.specs.Scopes as spec;
+    ghost use Rattle.c_types.specs.contracts.ctype.CType as inner;
+    ghost use Rattle.std.specs.Coded.{codes};
+
+    ghost Value = { spec.Scope };
+
+    ghost coded = { Prim.hlevel (codes, inner.the_row.coded) };
+
+    ghost view = { λ s. s.few.items ++ s.more };
+}
+
+impl Scope {
+    fn new(alloc: Global) -> Scope
+        ensures { result ≡ [] }
+    {
+        Scope {
+            few: Vec::new(alloc),
+            more: Many::new(alloc),
+        }
+    }
+
+    #[tactic(auto, using(crate::proofs::Lookups::in_both))]
+    fn find(&self, name: &[u8]) -> Option<&Meaning>
+        ensures { option_copied result ≡ spec.in_scope self.now name.now }
+    {
+        match look_for(self.few.as_slice(), name) {
+            Some(found) => Some(found),
+            None => self.more.find(name),
+        }
+    }
+
+    #[tactic(auto, using(crate::proofs::Lookups::in_both))]
+    fn declare(&mut self, alloc: Global, name: &[u8], what: Meaning) -> Result<(), DeclareFault>
+        ensures ok { OnOk result (self.new ≡ self.old ++ (name.now, what) ∷ []) }
+        ensures free { OnOk result (spec.in_scope self.old name.now ≡ None) }
+        ensures taken { result ≡ Err DeclareFault.Taken → spec.in_scope self.old name.now ≢ None }
+        ensures err { OnErr result (self.new ≡ self.old) }
+    {
+        if look_for(self.few.as_slice(), name).is_some() {
+            return Err(DeclareFault::Taken);
+        }
+        if self.few.len() < FEW && self.more.is_empty() {
+            push_few(alloc, &mut self.few, name, what)
+        } else {
+            self.more.declare(alloc, name, what)
+        }
     }
 }
 

@@ -3,8 +3,8 @@ use Rattle.c_types.specs.Scopes.{in_scope}
 use Rattle.std.specs.Str.{bytes_eq}
 use Rattle.std.specs.Map.{lookup}
 use Rattle.indexmap.proofs.CallerLemmas.{insert_entry-new}
-use Rattle.c_types.proofs.Lookups.{found, entries, entries_more, none_of, some_of}
-use Rattle.c_types.proofs.names.Scope.declare.Goals as goal
+use Rattle.c_types.proofs.Lookups.{found, none_of, some_of}
+use Rattle.c_types.proofs.names.Many.declare.Goals as goal
 
 pub returns-then-contains_key-clause-taken : goal.returns-then-contains_key-clause-taken
 returns-then-contains_key-clause-taken c _ =
@@ -22,13 +22,11 @@ returns-clause-free c =
 
 pub returns-clause-ok : goal.returns-clause-ok
 returns-clause-ok c =
-    let no : is_some (lookup (λ k. bytes_eq c.args.name.now k.items) c.self.inside.names.entries) ≡ false =
+    let no : is_some (lookup (bytes_eq c.args.name.now) c.self.inside.names.entries) ≡ false =
     sym c.contains_key.ensures ∙ c.if-contains_key.false in
-    let k = c.in_ok-key.ensures.items in
-    let none : lookup (λ k. bytes_eq c.in_ok-key.key.items k.items) c.self.inside.names.entries ≡ None =
-    rw k (none_of _ no) in
+    let none : lookup (bytes_eq c.in_ok-key.key) c.self.inside.names.entries ≡ None =
+    rw c.in_ok-key.ensures (none_of _ no) in
     let es = c.in_ok-insert.ensures.entries ∙
-    insert_entry-new (λ a b. bytes_eq a.items b.items) c.self.inside.names c.in_ok-key.key c.args.what none in
-    ap entries es ∙ entries_more c.self.inside.names.entries (c.in_ok-key.key, c.args.what) ∙
-    ap (λ n. entries c.self.inside.names.entries ++ (n, c.args.what) ∷ []) k ∙
+    insert_entry-new bytes_eq c.self.inside.names c.in_ok-key.key c.args.what none in
+    es ∙ ap (λ n. c.self.inside.names.entries ++ (n, c.args.what) ∷ []) c.in_ok-key.ensures ∙
     ap (λ s. s ++ (c.args.name.now, c.args.what) ∷ []) c.self.view_is

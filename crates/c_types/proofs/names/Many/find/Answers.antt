@@ -1,7 +1,7 @@
 use Rattle.std.proofs.Common.{ap, ◌∙◌}
 use Rattle.c_types.specs.Scopes.{in_scope}
 use Rattle.c_types.proofs.Lookups.{found}
-use Rattle.c_types.proofs.names.Scope.find.Goals as goal
+use Rattle.c_types.proofs.names.Many.find.Goals as goal
 
 pub returns : goal.returns
 returns c = c.get.ensures.value ∙ found c.self.inside.names.entries c.args.name.now ∙
