@@ -100,7 +100,9 @@ impl<'a> Machine<'a> {
     }
 
     /// Where memory comes from.
-    pub fn alloc(&self) -> Global {
+    pub fn alloc(&self) -> Global
+        ensures { result ≡ self.now.alloc }
+    {
         self.parts.alloc
     }
 }
