@@ -67,7 +67,7 @@ use Rattle.tick_tree.specs.declared.syntax.Core.TheOpen.{Core-F, Expr-F, Initial
 use Rattle.check_env.specs.declared.state.Around.{Around}
 use Rattle.check_env.specs.declared.state.Stage.{Stage}
 use Rattle.check_env.specs.declared.state.State.{State}
-use Rattle.check_expressions.specs.Rules.{Node, Named, Shape, Item}
+use Rattle.check_expressions_spec.specs.Rules.{Node, Named, Shape, Item}
 use Rattle.check_walk_spec.specs.Walk.{Start, InitParts, Declarations, SuffixWalk, TypeWalk, core_rule, expr_rule, start_rule, optional_rule, stmt_rule, declaration_rule, declarator_rule, init_rule, parameter_rule, typename_rule, declaration_walk, declare_one, declare_by, declare_each, suffix_walk, suffix_steps, expr_walk, statement_walk, typename_walk, parameter_walk, declarator_walk, core, node, optional, item, suffix, declaration, shape, init, initializer, parameter, named}
 
 """

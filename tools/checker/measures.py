@@ -5,10 +5,10 @@ Run it at the top of the checkout, after a change of a function of the cycle.
 import re,os
 B='crates/check_walk/'
 R=dict(expression=0,core=0,suffix=0,statement=0,optional=0,length=0,begin=0,returned=0,
-suffixes=1,declarator=2,typename=3,parameter=3,each_parameter=4,parameters=5,computed_length=1,
+suffixes=1,declarator=2,typename=3,parameter=3,each_parameter=4,parameters=5,
 begin_value=1,elements=1,begin_list=2,local_type=3,declared_parts=4,declared_local=5,locals=6,declaration=7,
-items=1,block=2,block_alone=3,tick_block=3,body_of=1,alone=1,branch=2,bodies=2,branches=3,repeated=2,done_first=2,test_and_step=1,for_rest=2,for_alone=3,for_items=3,for_block=4,for_all=5,switch_block=2,labelled_block=3,switch=4,case=1,answered=1,
-post=1,unary=1,size=4,local_specification=4,compile=4,cast=4,parameter_specification=4,both=1,index=2,binary=2,assign=2,modify=2,comma=2,choice=2,arguments=1,library_call=2,plain_call=2,call=3,tick_expression=1)
+items=1,block=2,block_alone=3,tick_block=3,body_of=1,alone=1,tested=2,bodies=2,branches=3,done_first=2,test_and_step=1,for_rest=2,for_items=3,for_block=4,for_all=5,switch_block=2,labelled_block=3,switch=4,case=1,
+unary=1,post=1,named=4,compile=4,typed=4,both=1,pair=2,choice=2,arguments=1,library_call=2,plain_call=2,call=3,tick_expression=1)
 TREE={'&Expr':'size-Expr','&syntax::Stmt':'size-Stmt','&OptionalExpr':'size-OptionalExpr','&Initializer':'size-Initializer'}
 out='''use Rattle.std.proofs.Common.{◌≡◌, map, ℕ, ◌+◌, ◌*◌, max, drop, []}
 use Rattle.std.specs.Prelude.{None}
@@ -17,7 +17,7 @@ use Rattle.tick_tree.specs.declared.syntax.Expr.{size-Expr}
 use Rattle.tick_tree.specs.declared.syntax.Initializer.{size-Initializer}
 use Rattle.tick_tree.specs.declared.syntax.OptionalExpr.{size-OptionalExpr}
 use Rattle.tick_tree.specs.declared.syntax.Stmt.{size-Stmt}
-use Rattle.check_statements.specs.Rules as statements
+use Rattle.check_statements_spec.specs.Rules as statements
 use Rattle.check_walk_spec.specs.Walk as spec
 use Rattle.check_walk_spec.proofs.Loops.{after}
 use Rattle.check_walk.proofs.+walk.Given as goal
@@ -54,11 +54,11 @@ invariant-expressions::arguments-loop-e l = spec.arguments (drop l.e-index l.lis
 
 abbrev pub invariant-types::suffixes-loop-s : goal.invariant-types::suffixes-loop-s
 invariant-types::suffixes-loop-s l =
-    statements.each_step (map spec.suffix (drop l.s-index l.list)) l.steps l.stage l.state ≡ statements.each_step (map spec.suffix l.list) l.fn.steps l.stage l.fn.state
+    statements.each_step (spec.suffix_walks (map spec.suffix (drop l.s-index l.list))) l.steps l.stage l.state ≡ statements.each_step (spec.suffix_walks (map spec.suffix l.list)) l.fn.steps l.stage l.fn.state
 
 abbrev pub invariant-types::each_parameter-loop-p : goal.invariant-types::each_parameter-loop-p
 invariant-types::each_parameter-loop-p l =
-    after l.types (statements.each_type (map spec.parameter (drop l.p-index l.list)) l.stage l.state) ≡ statements.each_type (map spec.parameter l.list) l.stage l.fn.state
+    after l.types (statements.each_type (spec.type_walks (map spec.parameter (drop l.p-index l.list))) l.stage l.state) ≡ statements.each_type (spec.type_walks (map spec.parameter l.list)) l.stage l.fn.state
 
 abbrev pub invariant-declarations::elements-loop-e : goal.invariant-declarations::elements-loop-e
 invariant-declarations::elements-loop-e l =

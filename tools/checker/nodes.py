@@ -226,6 +226,13 @@ def wellformed():
         uses, used)
 
 
+    named = list(expression_equations("named", "expr_rule", "named"))
+    named_of = list(statement_equations("named_of", "stmt_rule", "rules", "named_of", "named", "named named_of"))
+    instances("crates/wellformed/proofs/Named.antt", "-- Which captures a node names, one a node.",
+        "use Rattle.wellformed.specs.Captured.{named, expr_rule, named_of, stmt_rule, rules}\n",
+        named + [ruleset("expressions", named)], named_of + [ruleset("statements", named_of)])
+
+
 def captures():
     names = list(expression_equations("names", "expr_rule", "names"))
     named = list(statement_equations("names_of", "statement_rule", "rules", "names_of", "names", "names names_of"))

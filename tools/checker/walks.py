@@ -1,5 +1,5 @@
 """Writes the inductions over the walk: crates/wf_induction/specs/Asked.antt and proofs/Induction.antt, and
-crates/tick_checker/proofs/Trees.antt.
+crates/wf_programs/proofs/Trees.antt.
 
 Run it at the top of the checkout, after a change of the tree's types or of the fold's rules; then `rt tidy` in both crates.
 """
@@ -79,7 +79,7 @@ use Rattle.std.proofs.Common.{◌≡◌, ℕ, List, [], ◌∷◌, map, refl, ap
 for t in TYPES: text+=f"use Rattle.tick_tree.specs.declared.syntax.{t}.{{{t}, roll-{t}}}\n"
 text+="use Rattle.tick_tree.specs.declared.syntax.Core.TheOpen.{%s}\n"%", ".join(t+"-F" for t in TYPES)
 text+="use Rattle.tick_tree.specs.declared.syntax.Core.TheFolds.{%s}\n"%", ".join([f"ind-{t}" for t in TYPES]+[f"map-{t}" for t in TYPES]+[f"fold-roll-{t}" for t in TYPES])
-text+="use Rattle.check_expressions.specs.Rules.{Node, Named, Shape, Item}\n"
+text+="use Rattle.check_expressions_spec.specs.Rules.{Node, Named, Shape, Item}\n"
 text+="use Rattle.check_walk_spec.specs.Walk.{Start, InitParts, Declarations, SuffixWalk, TypeWalk, %s, %s, %s}\n"%(", ".join(t+"-W" for t in TYPES),", ".join(RULE_OF[t] for t in TYPES),", ".join(WALK_OF[t] for t in TYPES))
 text+="use Rattle.wf_types.specs.Parts.{EachPart}\n"
 text+="use Rattle.wf_induction.specs.Asked.{Asked, %s, RulesKeep}\n"%", ".join("Every"+t for t in TYPES)
@@ -127,7 +127,7 @@ open("crates/wf_induction/proofs/Induction.antt", "w").write(text.rstrip("\n")+"
 definitions = """-- What is asked of each value that the walk makes of a part of a tree, and of the parts of a layer.
 use Rattle.std.specs.Prelude.{ℕ, List, Option}
 use Rattle.tick_tree.specs.declared.syntax.Core.TheOpen.{%s}
-use Rattle.check_expressions.specs.Rules.{Node, Named, Shape, Item}
+use Rattle.check_expressions_spec.specs.Rules.{Node, Named, Shape, Item}
 use Rattle.check_walk_spec.specs.Walk.{Start, InitParts, Declarations, SuffixWalk, TypeWalk, %s, %s}
 use Rattle.wf_types.specs.Parts.{EachPart}
 
@@ -166,7 +166,7 @@ text+="use Rattle.check_walk_spec.specs.Walk.{%s}\n"%", ".join(WALK_OF[t] for t 
 text+="use Rattle.tick_tree.specs.Weights.{%s}\n"%", ".join(WEIGHT_OF[t] for t in TYPES)
 text+="use Rattle.syntax_size.proofs.Small.{%s}\n"%", ".join(SMALL_OF[t] for t in TYPES)
 text+="use Rattle.wf_induction.proofs.Induction.{%s, %s, %s, %s}\n"%(", ".join(t+"-T" for t in TYPES),", ".join(t+"-K" for t in TYPES),", ".join("first"+t for t in TYPES),", ".join("step_"+LAW_OF[t] for t in TYPES))
-text+="use Rattle.tick_checker.specs.Good.{good, FewExpr}\nuse Rattle.tick_checker.specs.Small.{SmallAreGood}\nuse Rattle.tick_checker.proofs.Few.{few_expr}\nuse Rattle.tick_checker.proofs.Rules.{%s}\n"%", ".join("good_"+LAW_OF[t] for t in TYPES)
+text+="use Rattle.wf_programs.specs.Good.{good, FewExpr}\nuse Rattle.wf_programs.specs.Small.{SmallAreGood}\nuse Rattle.wf_programs.proofs.Few.{few_expr}\nuse Rattle.wf_programs.proofs.Rules.{%s}\n"%", ".join("good_"+LAW_OF[t] for t in TYPES)
 text+="\n-- ---- a layer of a small tree\n\n"
 for t in TYPES:
     l=LAW_OF[t]
@@ -191,4 +191,4 @@ small_are_good many = record {
   declaration = small_declaration many;
 }
 """
-open("crates/tick_checker/proofs/Trees.antt", "w").write(text)
+open("crates/wf_programs/proofs/Trees.antt", "w").write(text)

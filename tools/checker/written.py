@@ -45,7 +45,7 @@ def main():
         ", ".join("ind-" + t for t in AGREES), ", ".join("map-" + t for t in AGREES), ", ".join("fold-roll-" + t for t in AGREES))
     for t in AGREES:
         text += "use Rattle.tick_tree.specs.declared.syntax.%s.{roll-%s}\n" % (t, t)
-    text += imports or ("use Rattle.check_expressions.specs.Rules.{Node, Named, Shape, Item}\n"
+    text += imports or ("use Rattle.check_expressions_spec.specs.Rules.{Node, Named, Shape, Item}\n"
                         "use Rattle.check_walk_spec.specs.Walk.{Start, InitParts, Declarations, SuffixWalk, TypeWalk, core_rule, expr_rule, start_rule, "
                         "optional_rule, stmt_rule, suffix_walk, declaration_rule, declarator_rule, init_rule, parameter_rule, typename_rule, written_rule, any_suffix, any_parameter, %s}\n"
                         % ", ".join(WALKS.values()))

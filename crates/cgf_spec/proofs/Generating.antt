@@ -235,7 +235,7 @@ module _ (c : Code) (text : Text) (pieces : ℕ → List Piece) (shared : Shared
   nothing_piece : PieceGoes Nothing
   nothing_piece p d s fits h low room = record {
     after = d;
-    runs = runs_quiet (leaves_run (nop ∷ []) c 0 0 p d d (λ rest. refl) h);
+    runs = runs_quiet (leaves_run (nop ∷ []) c 0 0 p d d (λ rest. refl) h) refl;
     inside = s;
   }
 
@@ -250,7 +250,7 @@ module _ (c : Code) (text : Text) (pieces : ℕ → List Piece) (shared : Shared
   piece_goes Nothing p d s fits h low room = nothing_piece p d s fits h low room
 
   pieces_go : (ps : List Piece) → PiecesGo ps
-  pieces_go [] p d s fits h low room = record { after = d; runs = runs_quiet (record { by = refl }); inside = s }
+  pieces_go [] p d s fits h low room = record { after = d; runs = runs_quiet (record { by = refl }) refl; inside = s }
   pieces_go (x ∷ ps) p d s fits h low room =
       let way = past_append p (piece_code x) (pieces_code ps) in
       let rises = past_rises (past p (piece_code x)) (pieces_code ps) in
@@ -370,7 +370,7 @@ module _ (c : Code) (text : Text) (pieces : ℕ → List Piece) (ticks : ℕ) (s
       (back c p3 (pieces_code ps) leave_code h2) in
       record {
         after = l2 c number top depth d e more g.after g.inside;
-        runs = runs_counted (omega arith) (runs_then (runs_behind first g.runs) last);
+        runs = runs_counted (omega arith) (runs_then (runs_behind first refl g.runs) last refl);
         leaves = left c number top depth d e more g.after g.inside;
       }
 

@@ -26,7 +26,7 @@ use Rattle.icode_templates_proof.proofs.Templates.{constant_parts}
 use Rattle.spec_closure.specs.Closures.{word_at}
 use Rattle.spec_closure.proofs.Skips.{one_loads}
 use Rattle.spec_closure.proofs.Accesses.{load_closure}
-use Rattle.cgf_spec.specs.Calls.{Emit, RunsWith, issuing}
+use Rattle.cgf_spec.specs.Calls.{Emit, noted, RunsWith, issuing}
 use Rattle.cgf_spec.specs.Words.{emit_code, op_code, captured_code}
 use Rattle.cgf_spec.specs.Laws.{IsUntouched, others}
 use Rattle.cgf_spec.proofs.Runs.{runs_call, runs_behind}
@@ -39,8 +39,8 @@ abbrev pub asking : ℕ → Data → Data
 asking code d = set 2 65 (set 4 code d)
 
 -- and behind the service
-abbrev pub issued : ℕ → Data → Data
-issued code d = set 2 0 (asking code d)
+abbrev pub issued : BuildOp → ℕ → Data → Data
+issued op code d = set 2 0 (noted (Emit op) (asking code d))
 
 names : (code l : ℕ) (d : Data) → load_hazard l (ori 4 0 code) ≡ false →
     Leaves (ori 4 0 code ∷ ori 2 0 65 ∷ []) l d 0 (asking code d)
@@ -48,10 +48,11 @@ names code l d quiet rest = let z = or_zero_l code in rw (quiet, z) refl
 
 pub emits : (c : Code) (code l a : ℕ) (op : BuildOp) (d : Data) → load_hazard l (ori 4 0 code) ≡ false →
     op_of code (d.registers 5) (d.registers 6) ≡ Some op → HasAt c a (emit_code code) →
-    RunsWith (issuing (op ∷ [])) 3 (at c a l d) (at c (a + 4 + 4 + 4) 0 (issued code d))
+    RunsWith (issuing (op ∷ [])) 3 (at c a l d) (at c (a + 4 + 4 + 4) 0 (issued op code d))
 emits c code l a op d quiet is h =
     runs_call (Emit op) {k = 2} {a = a + 4 + 4} {l = 0} {c = c} {d = asking code d} {s = at c a l d}
     (leaves_run (ori 4 0 code ∷ ori 2 0 65 ∷ []) c l 0 a d (asking code d) (names code l d quiet) (h.0, (h.1.0, tt)))
+    refl
     (record { stands = h.1.1.0; quiet = refl; called = (refl, is) })
 
 -- ---- between the words of two pieces
@@ -116,13 +117,13 @@ op_goes c p op {a} {top} {ra} {start} {d} i served h =
     let is : op_of (code_of op) (m.registers 5) (m.registers 6) ≡ Some op = rw (e1, e2) (codes-are-read-back op served)
     in
     record {
-      after = issued (code_of op) m;
+      after = issued op (code_of op) m;
       runs = runs_behind {k = 4} {n = 3}
           (leaves_run (argument_code op) c 0 0 p d m (brings_arguments op d)
-          (front c p (argument_code op) (emit_code (code_of op)) h))
+          (front c p (argument_code op) (emit_code (code_of op)) h)) refl
           (emits c (code_of op) 0 (p + 4 + 4 + 4 + 4) op m refl is
           (back c p (argument_code op) (emit_code (code_of op)) h));
-      inside = inside_on i (issued (code_of op) m) refl refl refl refl (λ r k.
+      inside = inside_on i (issued op (code_of op) m) refl refl refl refl (λ r k.
           let n2 = ne_eqb r 2 k.0.1 in let n4 = ne_eqb r 4 k.0.2 in let n5 = ne_eqb r 5 k.0.3 in
           let n6 = ne_eqb r 6 k.0.4 in rw (n2, n4, n5, n6) refl);
     }
@@ -171,13 +172,13 @@ captured_goes c p i x {a} {top} {ra} {start} {d} s has is h =
     let there : HasPlace (d.registers 12) i = subst (λ n. HasPlace n i) (sym s.closure) has in
     let word : m.registers 5 ≡ x = ap (λ n. word_at d.closures (n + offset i)) s.closure ∙ is in
     record {
-      after = issued 1 m;
+      after = issued (Const x) 1 m;
       runs = runs_behind {k = 3} {n = 3}
           (leaves_run (captured_code 5 i) c 0 5 p d m (captured_leaves 5 i d refl there)
-          (front c p (captured_code 5 i) (emit_code 1) h))
+          (front c p (captured_code 5 i) (emit_code 1) h)) refl
           (emits c 1 5 (p + 4 + 4 + 4) (Const x) m refl (ap (λ n. Some (Const n)) word)
           (back c p (captured_code 5 i) (emit_code 1) h));
-      inside = inside_on s (issued 1 m) refl refl refl refl (λ r k.
+      inside = inside_on s (issued (Const x) 1 m) refl refl refl refl (λ r k.
           let n1 = ne_eqb r 1 k.0.0 in let n2 = ne_eqb r 2 k.0.1 in let n4 = ne_eqb r 4 k.0.2 in
           let n5 = ne_eqb r 5 k.0.3 in rw (n1, n2, n4, n5) refl);
     }

@@ -7,3 +7,5 @@ pub mod Generating
 pub mod Served
 mod Rows
 pub mod Depths
+pub mod Makings
+pub mod Issued

@@ -6,7 +6,8 @@ use Rattle.icode_service_spec.specs.Services.{Generator, Does}
 use Rattle.icode_service_spec.specs.Services.{words_of, finished_with}
 use Rattle.icode_service_spec.specs.Services.{service}
 use Rattle.cgf_spec.specs.Calls.{Call, Begin, Emit, Finish, Flush, Publish, IsCalled, answer_to, arena_behind}
-use Rattle.cgf_spec.specs.Served.{rows_behind, Obeys}
+use Rattle.cgf_spec.specs.Calls.{rows_behind}
+use Rattle.cgf_spec.specs.Served.{Obeys}
 
 pub served : (choice : Choice) (call : Call) (number first second third : ℕ) (g after : Generator) →
     IsCalled call number first second third → Obeys choice call g after →

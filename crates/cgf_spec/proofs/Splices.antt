@@ -107,14 +107,14 @@ key_goes c p code i number key op {a} {top} {ra} {start} {d} s has word is h =
     let there : HasPlace (d.registers 12) i = subst (λ n. HasPlace n i) (sym s.closure) has.place in
     let number_is = ap (λ n. word_at d.closures (n + offset i)) s.closure ∙ has.number_is in
     record {
-      after = issued code m;
+      after = issued op code m;
       runs = runs_behind {k = 10} {n = 3}
           (leaves_run (key_code i) c 0 5 p d m
           (key_leaves i number d there number_is has.positive has.few has.from has.to has.even)
-          (front c p (key_code i) (emit_code code) h))
+          (front c p (key_code i) (emit_code code) h)) refl
           (emits c code 5 (past p (key_code i)) op m refl (is (m.registers 5) (m.registers 6) word)
           (back c p (key_code i) (emit_code code) h));
-      inside = inside_on s (issued code m) refl refl refl refl (λ r k.
+      inside = inside_on s (issued op code m) refl refl refl refl (λ r k.
           let n1 = ne_eqb r 1 k.0.0 in let n2 = ne_eqb r 2 k.0.1 in let n4 = ne_eqb r 4 k.0.2 in
           let n5 = ne_eqb r 5 k.0.3 in rw (n1, n2, n4, n5) refl);
     }
@@ -219,8 +219,8 @@ module _ (c : Code) (p i number g depth count : ℕ) (ops : List BuildOp) (a top
     after = after;
     runs = runs_counted (omega arith)
         (runs_then {calls = issuing ops} {m = 13 + count} {k = 2}
-        (runs_behind {calls = issuing ops} {k = 13} {n = count} (reaches_on {k = 11} {n = 2} finds calls) y.runs)
-        returns);
+        (runs_behind {calls = issuing ops} {k = 13} {n = count} (reaches_on {k = 11} {n = 2} finds calls) refl
+        y.runs) returns refl);
     inside = record {
       closure = refl;
       pointer = pointer_is;

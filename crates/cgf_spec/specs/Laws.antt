@@ -1,14 +1,18 @@
 -- What the function that generates a tick's code does on the machine.
-use Rattle.std.specs.Prelude.{◌≡◌, ◌≢◌, ℕ, ◌+◌, ◌*◌, ◌/◌, ◌%◌, ◌<◌, ◌≤◌, List, length}
+use Rattle.std.specs.Prelude.{◌≡◌, ◌≢◌, ℕ, ◌+◌, ◌*◌, ◌/◌, ◌%◌, ◌<◌, ◌≤◌, List, [], ◌∷◌, ◌++◌, length}
+use Rattle.std.specs.Prelude.{Some, None}
 use Rattle.word32.specs.declared.map.TheConstants.{EMIT_STACK, EMIT_STACK_BYTES, SEGMENT_BYTES}
 use Rattle.history.specs.Syntax.{Syntax}
 use Rattle.mips_model.specs.State.{Code, Data}
-use Rattle.mips_model.specs.Laws.{HasAt, at}
+use Rattle.mips_model.specs.Run.{first_making}
+use Rattle.mips_model.specs.Laws.{HasAt, at, Reaches}
 use Rattle.mips_encoder.specs.Addresses.{past}
 use Rattle.meaning_state.specs.Shared.{Shared}
 use Rattle.meaning_state.specs.Rows.{specification_at}
 use Rattle.staged_meaning.specs.Program.{Program, syntax_size}
 use Rattle.icode_ir.specs.declared.build_op.BuildOp.{BuildOp}
+use Rattle.icode_ir.specs.Build.{Build}
+use Rattle.icode_ir.specs.Rules.{fault_of, effect}
 use Rattle.spec_closure.specs.Closures.{closure_of}
 use Rattle.spec_rows_proof.specs.Relation.{Text, tick_of, IsOf, HasSpecifications}
 use Rattle.cgf_spec.specs.Calls.{RunsWith, issuing}
@@ -25,9 +29,13 @@ pub record HasGenerators (text : Text) (pieces : ℕ → List Piece) (ticks : �
 abbrev pub IsUntouched : ℕ → Type 0
 IsUntouched r = (r ≢ 1) × (r ≢ 2) × (r ≢ 4) × (r ≢ 5) × (r ≢ 6) × (r ≢ 25)
 
--- all but registers and emit stack
+-- all but registers, emit stack, and what services that make code have left
 abbrev pub others : Data → Data
-others d = record d { registers = λ r. 0; emit_stack = λ n. 0 }
+others d = record d {
+  registers = λ r. 0;
+  emit_stack = λ n. 0;
+  outside = record d.outside { making = first_making [] };
+}
 
 -- what is left as it was: other registers, the emit stack below its top, and all else
 pub record Leaves (top : ℕ) (d after : Data) : Type 0 where
@@ -59,6 +67,37 @@ SpecificationsAreGenerated =
     → Enters number top (syntax_depth pieces syntax) d
     → Generates (syntax_ops pieces syntax) (syntax_cost pieces syntax) top c
     (text.generator_at (tick_of syntax)) d
+
+-- ---- the machine's own run
+
+-- the builder takes these ops, one behind the other
+abbrev pub AreTaken : List BuildOp → Build → Type 0
+AreTaken [] b = Unit {0}
+AreTaken (op ∷ ops) b = (fault_of op b ≡ None) × AreTaken ops (effect op b)
+
+abbrev pub built_of : List BuildOp → Build → Build
+built_of [] b = b
+built_of (op ∷ ops) b = built_of ops (effect op b)
+
+-- The machine issued these ops to the function that is begun, and returned: they are built, and noted as issued.
+pub record Issues (ops : List BuildOp) (count top : ℕ) (c : Code) (a : ℕ) (d : Data) (b : Build) : Type 0 where
+  pub after : Data
+  pub reaches : Reaches count (at c a 0 d) (at c (d.registers 31) 0 after)
+  pub leaves : Leaves top d after
+  pub built : after.outside.making.generator.build ≡ Some (built_of ops b)
+  pub issued : after.outside.making.issued ≡ record d.outside.making.issued { ops = d.outside.making.issued.ops ++ ops }
+  pub counted : after.outside.making.ops ≡ d.outside.making.ops + length ops
+
+-- The machine, at the function of a tick, on a closure that stands for a specification, with a function begun that
+-- takes its ops: it issues exactly these, and returns with all else as it was.
+abbrev pub SpecificationsAreIssued : Type 0
+SpecificationsAreIssued =
+    (text : Text) (pieces : ℕ → List Piece) (ticks : ℕ) (c : Code) (shared : Shared) (syntax : Syntax)
+    (number top : ℕ) (d : Data) (b : Build) → HasGenerators text pieces ticks c → HasSpecifications text shared d
+    → IsWhole pieces ticks syntax → IsOf syntax (specification_at number shared)
+    → Enters number top (syntax_depth pieces syntax) d
+    → d.outside.making.generator.build ≡ Some b → AreTaken (syntax_ops pieces syntax) b
+    → Issues (syntax_ops pieces syntax) (syntax_cost pieces syntax) top c (text.generator_at (tick_of syntax)) d b
 
 -- No more functions are entered at a time than the specification has nodes.
 abbrev pub DepthsAreSmall : Type 0

@@ -4,5 +4,8 @@
 mod laws;
 mod piece;
 
-pub use laws::{calls_are_served, depths_are_small, specifications_are_generated};
+pub use laws::{
+    calls_are_served, depths_are_small, runs_are_made, specifications_are_generated,
+    specifications_are_issued,
+};
 pub use piece::Piece;

@@ -4,8 +4,8 @@ ghost use Rattle.std.specs.Prelude.{◌≡◌, IfOk};
 ghost use Rattle.tick_tree.specs.Faults.{Checks};
 ghost use Rattle.check_forms.specs.Forms as forms;
 ghost use Rattle.check_lvalues.specs.Calls as calls;
-ghost use Rattle.check_expressions.specs.Productions as spec;
-ghost use Rattle.check_expressions.specs.Rules as rules;
+ghost use Rattle.check_expressions_spec.specs.Productions as spec;
+ghost use Rattle.check_expressions_spec.specs.Rules as rules;
 
 use crate::nodes::{is_specification, is_tick};
 use c_types::TypeRef;
@@ -32,7 +32,7 @@ pub fn library_of(
 }
 
 /// One argument more.
-#[tactic(auto, unfolding(crate::specs::Productions::argument))]
+#[tactic(auto, unfolding(check_expressions_spec::specs::Productions::argument))]
 pub fn argument(alloc: Global, list: Arguments, o: Operand) -> Result<Arguments, AllocError>
     ensures { IfOk result (λ all. all ≡ spec.argument list o) }
 {
@@ -71,7 +71,7 @@ fn lower_at(line: u32, fault: Fault) -> Fault
 }
 
 /// A call of what is no library function, as `check_lvalues::call`; StageInTick where it answers a specification in a tick.
-#[tactic(auto, unfolding(crate::specs::Productions::call_node))]
+#[tactic(auto, unfolding(check_expressions_spec::specs::Productions::call_node))]
 pub fn call_node(
     alloc: Global,
     line: u32,

@@ -2,7 +2,7 @@
 
 ghost use Rattle.std.specs.Prelude.{◌≡◌};
 ghost use Rattle.tick_tree.specs.Faults.{Checks};
-ghost use Rattle.check_expressions.specs.Entries as spec;
+ghost use Rattle.check_expressions_spec.specs.Entries as spec;
 
 use check_env::Stage;
 use tick_tree::{Deny, FaultKind, UnaryOp, refused};

@@ -4,7 +4,7 @@ ghost use Rattle.std.specs.Prelude.{◌≡◌, IfOk};
 ghost use Rattle.tick_tree.specs.Faults.{Checks};
 ghost use Rattle.check_env.specs.Names.{Gives};
 ghost use Rattle.check_tables.specs.Walks.{Reads};
-ghost use Rattle.check_expressions.specs.Productions as spec;
+ghost use Rattle.check_expressions_spec.specs.Productions as spec;
 
 use c_types::{Layer, TypeRef};
 use check_env::{Stage, State};
@@ -31,7 +31,7 @@ pub(crate) fn is_specification(t: &TypeRef) -> bool
     is_cspec(t) || is_vspec(t)
 }
 
-#[tactic(auto, unfolding(crate::specs::Productions::left))]
+#[tactic(auto, unfolding(check_expressions_spec::specs::Productions::left))]
 fn left(line: u32, stage: Stage, o: Operand) -> Result<Operand, Deny>
     ensures { Checks result (spec.left line stage o) }
 {
@@ -42,7 +42,7 @@ fn left(line: u32, stage: Stage, o: Operand) -> Result<Operand, Deny>
 }
 
 /// An operator between two operands, as `check_operators::binary`.
-#[tactic(auto, unfolding(crate::specs::Productions::binary_node))]
+#[tactic(auto, unfolding(check_expressions_spec::specs::Productions::binary_node))]
 pub fn binary_node(
     alloc: Global,
     line: u32,
@@ -57,7 +57,7 @@ pub fn binary_node(
 }
 
 /// `a[b]`, as `check_operators::index`; StageInTick where it is a specification in a tick.
-#[tactic(auto, unfolding(crate::specs::Productions::index_node))]
+#[tactic(auto, unfolding(check_expressions_spec::specs::Productions::index_node))]
 pub fn index_node(
     alloc: Global,
     line: u32,
@@ -73,7 +73,7 @@ pub fn index_node(
 }
 
 /// `a = b`, as `check_lvalues::assign`.
-#[tactic(auto, unfolding(crate::specs::Productions::assign_node))]
+#[tactic(auto, unfolding(check_expressions_spec::specs::Productions::assign_node))]
 pub fn assign_node(alloc: Global, line: u32, a: Operand, b: Operand) -> Result<Operand, Deny>
     ensures { Checks result (spec.assign_node line a b) }
 {
@@ -83,7 +83,7 @@ pub fn assign_node(alloc: Global, line: u32, a: Operand, b: Operand) -> Result<O
 }
 
 /// `a op= b`, as `check_lvalues::modify`.
-#[tactic(auto, unfolding(crate::specs::Productions::modify_node))]
+#[tactic(auto, unfolding(check_expressions_spec::specs::Productions::modify_node))]
 pub fn modify_node(
     alloc: Global,
     line: u32,
@@ -99,7 +99,7 @@ pub fn modify_node(
 }
 
 /// `a, b`
-#[tactic(auto, unfolding(crate::specs::Productions::comma_node))]
+#[tactic(auto, unfolding(check_expressions_spec::specs::Productions::comma_node))]
 pub fn comma_node(alloc: Global, a: Operand, b: Operand) -> Result<Operand, AllocError>
     ensures { IfOk result (λ o. o ≡ spec.comma_node a b) }
 {
@@ -108,7 +108,7 @@ pub fn comma_node(alloc: Global, a: Operand, b: Operand) -> Result<Operand, Allo
 }
 
 /// `c ? a : b`, as `check_operators::choice`.
-#[tactic(auto, unfolding(crate::specs::Productions::choice_node))]
+#[tactic(auto, unfolding(check_expressions_spec::specs::Productions::choice_node))]
 pub fn choice_node(
     alloc: Global,
     line: u32,
@@ -124,7 +124,7 @@ pub fn choice_node(
 }
 
 /// `(T) o`, as `check_operators::cast`.
-#[tactic(auto, unfolding(crate::specs::Productions::cast_node))]
+#[tactic(auto, unfolding(check_expressions_spec::specs::Productions::cast_node))]
 pub fn cast_node(alloc: Global, line: u32, t: TypeRef, o: Operand) -> Result<Operand, Deny>
     ensures { Checks result (spec.cast_node line t o) }
 {
@@ -133,7 +133,7 @@ pub fn cast_node(alloc: Global, line: u32, t: TypeRef, o: Operand) -> Result<Ope
 }
 
 /// `o++` and `o--`, as `check_lvalues::post`.
-#[tactic(auto, unfolding(crate::specs::Productions::post_node))]
+#[tactic(auto, unfolding(check_expressions_spec::specs::Productions::post_node))]
 pub fn post_node(alloc: Global, line: u32, op: StepOp, o: Operand) -> Result<Operand, Deny>
     ensures { Checks result (spec.post_node line op o) }
 {
@@ -141,7 +141,7 @@ pub fn post_node(alloc: Global, line: u32, op: StepOp, o: Operand) -> Result<Ope
     check_lvalues::post(alloc, line, op, o)
 }
 
-#[tactic(auto, unfolding(crate::specs::Productions::step_node))]
+#[tactic(auto, unfolding(check_expressions_spec::specs::Productions::step_node))]
 fn step_node(alloc: Global, line: u32, op: StepOp, o: Operand) -> Result<Operand, Deny>
     ensures { Checks result (spec.step_node line op o) }
 {
@@ -149,7 +149,7 @@ fn step_node(alloc: Global, line: u32, op: StepOp, o: Operand) -> Result<Operand
     check_lvalues::stepped(alloc, line, op, o)
 }
 
-#[tactic(auto, unfolding(crate::specs::Productions::star_node))]
+#[tactic(auto, unfolding(check_expressions_spec::specs::Productions::star_node))]
 fn star_node(alloc: Global, line: u32, stage: Stage, o: Operand) -> Result<Operand, Deny>
     ensures { Checks result (spec.star_node line stage o) }
 {
@@ -175,7 +175,7 @@ fn address_by(alloc: Global, state: &mut State, line: u32, o: Operand) -> Result
 }
 
 /// `&o`: in a function a variable that is no frame object yet becomes one in the next walk. Refused as `check_lvalues::address`.
-#[tactic(auto, unfolding(crate::specs::Productions::address_node))]
+#[tactic(auto, unfolding(check_expressions_spec::specs::Productions::address_node))]
 fn address_node(
     alloc: Global,
     state: &mut State,
@@ -192,7 +192,7 @@ fn address_node(
 }
 
 /// `$o`, as `check_operators::dollar`: the value is captured as the tick is evaluated.
-#[tactic(auto, unfolding(crate::specs::Productions::dollar_node))]
+#[tactic(auto, unfolding(check_expressions_spec::specs::Productions::dollar_node))]
 fn dollar_node(alloc: Global, state: &mut State, line: u32, o: Operand) -> Result<Operand, Deny>
     ensures { Reads (spec.dollar_node line o state.old) result state.new }
 {

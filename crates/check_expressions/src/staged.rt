@@ -3,8 +3,8 @@
 ghost use Rattle.std.specs.Prelude.{◌≡◌};
 ghost use Rattle.tick_tree.specs.Faults.{Checks};
 ghost use Rattle.check_env.specs.Names.{Gives};
-ghost use Rattle.check_expressions.specs.Productions as spec;
-ghost use Rattle.check_expressions.specs.Rules as rules;
+ghost use Rattle.check_expressions_spec.specs.Productions as spec;
+ghost use Rattle.check_expressions_spec.specs.Rules as rules;
 
 use c_types::{Layer, TypeRef};
 use check_env::{Around, Stage, State};
@@ -16,7 +16,7 @@ use tick_tree::Deny;
 use typed_tree::{Stmt, TickBody};
 
 /// `compile(o, T)`, as `check_operators::compile`.
-#[tactic(auto, unfolding(crate::specs::Productions::compile_node))]
+#[tactic(auto, unfolding(check_expressions_spec::specs::Productions::compile_node))]
 pub fn compile_node(alloc: Global, line: u32, t: TypeRef, o: Operand) -> Result<Operand, Deny>
     ensures { Checks result (spec.compile_node line t o) }
 {
@@ -25,7 +25,7 @@ pub fn compile_node(alloc: Global, line: u32, t: TypeRef, o: Operand) -> Result<
 }
 
 /// `param(T, o)`, as `check_operators::parameter`.
-#[tactic(auto, unfolding(crate::specs::Productions::parameter_node))]
+#[tactic(auto, unfolding(check_expressions_spec::specs::Productions::parameter_node))]
 pub fn parameter_node(alloc: Global, line: u32, t: TypeRef, o: Operand) -> Result<Operand, Deny>
     ensures { Checks result (spec.parameter_node line t o) }
 {
@@ -66,7 +66,7 @@ fn tick_left(
 }
 
 /// Leaves a tick of an expression: a specification of its promoted type.
-#[tactic(auto, unfolding(crate::specs::Productions::tick_expression))]
+#[tactic(auto, unfolding(check_expressions_spec::specs::Productions::tick_expression))]
 pub fn tick_expression(alloc: Global, state: &mut State, o: Operand) -> Result<Operand, AllocError>
     ensures { Gives result state.new (spec.tick_expression o state.old) }
 {

@@ -26,7 +26,7 @@ use Rattle.check_env.specs.Locals.{meaning, parameter, with_parameter}
 use Rattle.check_env.specs.Names.{declare}
 use Rattle.check_globals.specs.declared.names.Before.{Before}
 use Rattle.check_globals.specs.declared.names.Before.TheVariants as before
-use Rattle.check_statements.specs.Declarations.{name_by}
+use Rattle.check_statements_spec.specs.Declarations.{name_by}
 use Rattle.check_globals.specs.Names.{known_before}
 
 -- ---- names

@@ -27,7 +27,7 @@ use Rattle.check_constants.specs.Constants.{constant}
 use Rattle.check_tables.specs.Images as images
 use Rattle.check_tables.specs.Walks.{Rule}
 use Rattle.check_env.specs.declared.state.State.{State}
-use Rattle.check_statements.specs.Initializers.{is_array, is_char, has_size, value_breaks}
+use Rattle.check_statements_spec.specs.Initializers.{is_array, is_char, has_size, value_breaks}
 use Rattle.check_globals.specs.declared.statics.Row.{Row}
 
 -- ---- bytes

@@ -4,7 +4,7 @@ ghost use Rattle.std.specs.Prelude.{◌≡◌, map, IfOk, OnOk};
 ghost use Rattle.check_forms.specs.Forms as forms;
 ghost use Rattle.check_globals.specs.Functions as spec;
 ghost use Rattle.check_env.specs.Locals as locals;
-ghost use Rattle.check_statements.specs.Declarations.{name_by};
+ghost use Rattle.check_statements_spec.specs.Declarations.{name_by};
 ghost use Rattle.check_tables.specs.Functions as functions;
 ghost use Rattle.check_tables.specs.Walks.{Reads};
 

@@ -5,7 +5,7 @@ ghost use Rattle.check_forms.specs.Forms as forms;
 ghost use Rattle.check_globals.specs.Names as spec;
 ghost use Rattle.check_env.specs.Locals as locals;
 ghost use Rattle.check_env.specs.Names as names;
-ghost use Rattle.check_statements.specs.Declarations.{name_by};
+ghost use Rattle.check_statements_spec.specs.Declarations.{name_by};
 ghost use Rattle.check_tables.specs.Walks.{Reads};
 
 use c_types::{Meaning, MeaningKind, TypeRef, limited_size, same};

@@ -16,7 +16,7 @@ use Rattle.check_globals.specs.declared.statics.Row.{Row}
 use Rattle.check_globals.specs.Statics.{row_more}
 use Rattle.check_env.specs.declared.state.Stage.TheVariants as stage
 use Rattle.check_env.specs.declared.state.State.{State}
-use Rattle.check_programs.specs.Program as spec
+use Rattle.check_programs_spec.specs.Program as spec
 use Rattle.check_walk_spec.specs.Walk as walks
 use Rattle.check_walk_spec.proofs.Loops.{next}
 use Rattle.check_walk_spec.proofs.Written.{expr_agrees}

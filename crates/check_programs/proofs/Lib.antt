@@ -1,3 +1,2 @@
 pub mod Globals
-pub mod Heads
 pub mod Parts

@@ -6,7 +6,7 @@ use Rattle.tick_tree.specs.declared.syntax.Init.{Init, out-Init}
 use Rattle.check_env.specs.declared.state.State.{State}
 use Rattle.check_walk_spec.proofs.Equations.{at_init, at_declaration}
 use Rattle.check_walk_spec.specs.Walk.{declaration, shape, init, initializer}
-use Rattle.check_programs.specs.Program as program
+use Rattle.check_programs_spec.specs.Program as program
 
 pub global_by_init : (line : ℕ) (b : Base) (x : Init) (s : State)
     → program.global line b (init x) s ≡ program.global_parts line b (shape (out-Init x).declarator)

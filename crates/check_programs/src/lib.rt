@@ -1,8 +1,7 @@
-//! The walk over a program: file scope, both walks, and what is checked after them.
+//! The walk over a program: variables, prototypes and functions at file scope.
 #![tactic(auto)]
 
 mod parameters;
 mod program;
-mod walks;
 
-pub use walks::check_parts;
+pub use program::walk;

@@ -4,8 +4,8 @@ ghost use Rattle.std.specs.Prelude.{◌≡◌, ◌∷◌, map};
 ghost use Rattle.check_globals.specs.Functions.{given};
 ghost use Rattle.check_globals.specs.Statics.{row_begun};
 ghost use Rattle.check_tables.specs.Walks.{Reads};
-ghost use Rattle.check_programs.specs.Parameters as heads;
-ghost use Rattle.check_programs.specs.Program as spec;
+ghost use Rattle.check_programs_spec.specs.Parameters as heads;
+ghost use Rattle.check_programs_spec.specs.Program as spec;
 ghost use Rattle.check_walk_spec.specs.Walk as walks;
 
 use crate::parameters::parameters_of;

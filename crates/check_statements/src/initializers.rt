@@ -4,7 +4,7 @@ ghost use Rattle.std.specs.Prelude.{◌≡◌, IfOk, is_some};
 ghost use Rattle.check_declarators.specs.Making as making;
 ghost use Rattle.check_forms.specs.Forms as forms;
 ghost use Rattle.tick_tree.specs.Faults.{Checks};
-ghost use Rattle.check_statements.specs.Initializers as spec;
+ghost use Rattle.check_statements_spec.specs.Initializers as spec;
 
 use c_types::{Base, Integer, Layer, TypeRef, converts, limited_size};
 use check_forms::string_of;
@@ -109,7 +109,7 @@ fn array_breaks(is_string: bool, v: &Value, t: &TypeRef) -> FaultKind
     }
 }
 
-#[tactic(auto, unfolding(crate::specs::Initializers::initialized))]
+#[tactic(auto, unfolding(check_statements_spec::specs::Initializers::initialized))]
 fn initialized(alloc: Global, line: u32, place: Operand, o: Operand) -> Result<Items<Stmt>, Deny>
     ensures { Checks result (spec.initialized line place o) }
 {
@@ -120,7 +120,7 @@ fn initialized(alloc: Global, line: u32, place: Operand, o: Operand) -> Result<I
 
 /// The nodes of a variable's initializer by one value, which is a string or not: an assignment, refused as
 /// `check_lvalues::assign`. An array is refused: BadArray, or what the value breaks.
-#[tactic(auto, unfolding(crate::specs::Initializers::from_value))]
+#[tactic(auto, unfolding(check_statements_spec::specs::Initializers::from_value))]
 pub fn from_value(
     alloc: Global,
     line: u32,
@@ -138,7 +138,7 @@ pub fn from_value(
 }
 
 /// What the values of a list break as elements of this type, with one more.
-#[tactic(auto, unfolding(crate::specs::Initializers::element))]
+#[tactic(auto, unfolding(check_statements_spec::specs::Initializers::element))]
 pub fn element(
     alloc: Global,
     o: Operand,

@@ -3,7 +3,7 @@
 ghost use Rattle.std.specs.Prelude.{◌≡◌, IfOk};
 ghost use Rattle.tick_tree.specs.Faults.{Checks};
 ghost use Rattle.check_tables.specs.Walks.{Reads};
-ghost use Rattle.check_statements.specs.Statements as spec;
+ghost use Rattle.check_statements_spec.specs.Statements as spec;
 
 use check_constants::constant_value;
 use check_env::{Around, Stage, State};
@@ -143,7 +143,7 @@ fn labelled_case(
 }
 
 /// A `case` with this value. Refused where it has none: BadCase; where the switch has it already: DuplicateCase.
-#[tactic(auto, unfolding(crate::specs::Statements::case_node))]
+#[tactic(auto, unfolding(check_statements_spec::specs::Statements::case_node))]
 pub fn case_node(
     alloc: Global,
     state: &mut State,
@@ -158,7 +158,7 @@ pub fn case_node(
 
 /// `default`. Refused where it isn't directly an item of a switch's block: BadCase; where the switch has one already:
 /// DuplicateCase.
-#[tactic(auto, unfolding(crate::specs::Statements::default_node))]
+#[tactic(auto, unfolding(check_statements_spec::specs::Statements::default_node))]
 pub fn default_node(
     alloc: Global,
     state: &mut State,
@@ -175,7 +175,7 @@ pub fn default_node(
 }
 
 /// Enters a switch, which has no labels yet; those of the switch round it.
-#[tactic(auto, unfolding(crate::specs::Statements::switch_entered))]
+#[tactic(auto, unfolding(check_statements_spec::specs::Statements::switch_entered))]
 pub fn switch_entered(alloc: Global, state: &mut State) -> Result<Labels, Deny>
     ensures { Reads (spec.switch_entered state.old) result state.new }
 {
@@ -190,7 +190,7 @@ fn condition_node(alloc: Global, line: u32, o: Operand) -> Result<Boxed<Expr>, D
 }
 
 /// `if` without `else`. Its test is refused as by `check_operators::condition`.
-#[tactic(auto, unfolding(crate::specs::Statements::if_node))]
+#[tactic(auto, unfolding(check_statements_spec::specs::Statements::if_node))]
 pub fn if_node(alloc: Global, line: u32, o: Operand, body: Boxed<Stmt>) -> Result<Items<Stmt>, Deny>
     ensures { Checks result (spec.if_node line o body) }
 {
@@ -199,7 +199,7 @@ pub fn if_node(alloc: Global, line: u32, o: Operand, body: Boxed<Stmt>) -> Resul
 }
 
 /// `if` with `else`. Its test is refused as by `check_operators::condition`.
-#[tactic(auto, unfolding(crate::specs::Statements::if_else_node))]
+#[tactic(auto, unfolding(check_statements_spec::specs::Statements::if_else_node))]
 pub fn if_else_node(
     alloc: Global,
     line: u32,
@@ -214,7 +214,7 @@ pub fn if_else_node(
 }
 
 /// `while`. Its test is refused as by `check_operators::condition`.
-#[tactic(auto, unfolding(crate::specs::Statements::while_node))]
+#[tactic(auto, unfolding(check_statements_spec::specs::Statements::while_node))]
 pub fn while_node(
     alloc: Global,
     line: u32,
@@ -228,7 +228,7 @@ pub fn while_node(
 }
 
 /// `do`. Its test is refused as by `check_operators::condition`.
-#[tactic(auto, unfolding(crate::specs::Statements::do_node))]
+#[tactic(auto, unfolding(check_statements_spec::specs::Statements::do_node))]
 pub fn do_node(alloc: Global, line: u32, body: Boxed<Stmt>, o: Operand) -> Result<Items<Stmt>, Deny>
     ensures { Checks result (spec.do_node line body o) }
 {
@@ -264,7 +264,7 @@ fn for_by(
 
 /// A `for` behind its first part, with its test, which is 1 where it is absent, and its step. The test is refused as by
 /// `check_operators::condition`.
-#[tactic(auto, unfolding(crate::specs::Statements::for_node))]
+#[tactic(auto, unfolding(check_statements_spec::specs::Statements::for_node))]
 pub fn for_node(
     alloc: Global,
     line: u32,
@@ -286,7 +286,7 @@ fn switched_node(alloc: Global, line: u32, o: Operand) -> Result<Boxed<Expr>, De
 }
 
 /// A switch whose block has these variables and these items. Its value is refused as by `check_operators::switched`.
-#[tactic(auto, unfolding(crate::specs::Statements::switch_node))]
+#[tactic(auto, unfolding(check_statements_spec::specs::Statements::switch_node))]
 pub fn switch_node(
     alloc: Global,
     line: u32,
@@ -317,7 +317,7 @@ fn returned_by(
 }
 
 /// `return` with its value, as `check_lvalues::returned` in a function and `check_lvalues::tick_returned` in a tick.
-#[tactic(auto, unfolding(crate::specs::Statements::return_node))]
+#[tactic(auto, unfolding(check_statements_spec::specs::Statements::return_node))]
 pub fn return_node(
     alloc: Global,
     state: &State,

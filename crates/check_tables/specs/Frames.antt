@@ -137,4 +137,4 @@ ended f = record f { marks = []; done = f.done ++ f.marks ∷ [] }
 
 -- before all functions, with the marks that this walk made as those of an earlier one
 abbrev pub again : Frame → Frame
-again f = record f { marks = []; done = []; objects = f.done }
+again f = record new { objects = f.done }

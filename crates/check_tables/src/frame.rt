@@ -263,7 +263,8 @@ impl Frame {
     pub fn again(&mut self, alloc: Global)
         ensures { self.new ≡ spec.again self.old }
     {
-        self.marks = Items::new(alloc);
-        self.objects = mem::replace(&mut self.done, Items::new(alloc));
+        let objects = mem::replace(&mut self.done, Items::new(alloc));
+        *self = Frame::new(alloc);
+        self.objects = objects;
     }
 }

@@ -2,24 +2,28 @@
 
 ghost use Rattle.std.specs.Prelude.{◌≡◌, map};
 ghost use Rattle.check_lvalues.specs.Calls as calls;
-ghost use Rattle.check_expressions.specs.Rules as rules;
-ghost use Rattle.check_statements.specs.Rules as statements;
+ghost use Rattle.check_expressions_spec.specs.Rules as rules;
+ghost use Rattle.check_statements_spec.specs.Rules as statements;
 ghost use Rattle.check_tables.specs.Walks.{Reads};
+ghost use Rattle.check_walk.specs.Kinds as kinds;
 ghost use Rattle.check_walk_spec.specs.Walk as spec;
 
+use crate::kinds::{
+    Naming, Pair, Typing, character_leaf, naming_entry, naming_node, number_leaf, pair_node,
+    string_leaf, typing_entry, typing_node,
+};
 use crate::statements::block;
 use crate::types::typename;
 use c_types::TypeRef;
 use check_env::{Stage, State};
 use check_expressions::{
-    argument, assign_node, binary_node, call_node, cast_node, choice_node, comma_node,
-    compile_node, index_node, library_of, modify_node, parameter_node, post_node, staging_entry,
-    string_node, tick_around, tick_entered, tick_entry, unary_entry, unary_node,
+    argument, call_node, choice_node, compile_node, library_of, post_node, staging_entry,
+    tick_around, tick_entered, tick_entry, unary_entry, unary_node,
 };
 use check_lvalues::Arguments;
-use check_operators::{Operand, character, number};
+use check_operators::Operand;
 use std::alloc::Global;
-use tick_tree::{BinaryOp, Deny, Expr, ModifyOp, OptionalExpr, StepOp, Stmt, Typename, UnaryOp};
+use tick_tree::{Deny, Expr, OptionalExpr, StepOp, Stmt, Typename, UnaryOp};
 
 // The operands of two expressions.
 #[cycle(walk)]
@@ -175,70 +179,6 @@ fn compile(
 }
 
 #[cycle(walk)]
-fn local_specification(
-    alloc: Global,
-    state: &mut State,
-    line: u32,
-    stage: Stage,
-    t: &Typename,
-) -> Result<Operand, Deny>
-    ensures { Reads (rules.local line (spec.named t.now) stage state.old) result state.new }
-{
-    staging_entry(line, stage)?;
-    let t = typename(alloc, state, line, stage, t)?;
-    check_operators::local(alloc, line, t)
-}
-
-#[cycle(walk)]
-fn parameter_specification(
-    alloc: Global,
-    state: &mut State,
-    line: u32,
-    stage: Stage,
-    t: &Typename,
-    a: &Expr,
-) -> Result<Operand, Deny>
-    ensures { Reads (rules.parameter line (spec.named t.now) (spec.node a.now) stage state.old) result state.new }
-{
-    staging_entry(line, stage)?;
-    let t = typename(alloc, state, line, stage, t)?;
-    let o = expression(alloc, state, stage, a)?;
-    parameter_node(alloc, line, t, o)
-}
-
-#[cycle(walk)]
-fn unary(
-    alloc: Global,
-    state: &mut State,
-    line: u32,
-    stage: Stage,
-    op: UnaryOp,
-    a: &Expr,
-) -> Result<Operand, Deny>
-    ensures { Reads (rules.unary line op (spec.node a.now) stage state.old) result state.new }
-{
-    let inner = unary_entry(line, op, stage)?;
-    let o = expression(alloc, state, inner, a)?;
-    unary_node(alloc, state, line, op, stage, o)
-}
-
-#[cycle(walk)]
-fn cast(
-    alloc: Global,
-    state: &mut State,
-    line: u32,
-    stage: Stage,
-    t: &Typename,
-    a: &Expr,
-) -> Result<Operand, Deny>
-    ensures { Reads (rules.cast line (spec.named t.now) (spec.node a.now) stage state.old) result state.new }
-{
-    let t = typename(alloc, state, line, stage, t)?;
-    let o = expression(alloc, state, stage, a)?;
-    cast_node(alloc, line, t, o)
-}
-
-#[cycle(walk)]
 fn choice(
     alloc: Global,
     state: &mut State,
@@ -260,21 +200,24 @@ fn choice(
     }
 }
 
+// An operator before its operand.
 #[cycle(walk)]
-fn index(
+fn unary(
     alloc: Global,
     state: &mut State,
     line: u32,
     stage: Stage,
+    op: UnaryOp,
     a: &Expr,
-    b: &Expr,
 ) -> Result<Operand, Deny>
-    ensures { Reads (rules.index line (spec.node a.now) (spec.node b.now) stage state.old) result state.new }
+    ensures { Reads (rules.unary line op (spec.node a.now) stage state.old) result state.new }
 {
-    let p = both(alloc, state, stage, a, b)?;
-    index_node(alloc, line, stage, p.0, p.1)
+    let inner = unary_entry(line, op, stage)?;
+    let o = expression(alloc, state, inner, a)?;
+    unary_node(alloc, state, line, op, stage, o)
 }
 
+// `++` or `--` behind its operand.
 #[cycle(walk)]
 fn post(
     alloc: Global,
@@ -290,79 +233,57 @@ fn post(
     post_node(alloc, line, op, o)
 }
 
+// A production of two operands, which are walked one after the other.
 #[cycle(walk)]
-fn size(
+fn pair(
     alloc: Global,
     state: &mut State,
     line: u32,
     stage: Stage,
+    kind: Pair,
+    a: &Expr,
+    b: &Expr,
+) -> Result<Operand, Deny>
+    ensures { Reads (kinds.pair line kind (spec.node a.now) (spec.node b.now) stage state.old) result state.new }
+{
+    let p = both(alloc, state, stage, a, b)?;
+    pair_node(alloc, line, stage, kind, p.0, p.1)
+}
+
+// A production of a type name alone.
+#[cycle(walk)]
+fn named(
+    alloc: Global,
+    state: &mut State,
+    line: u32,
+    stage: Stage,
+    kind: Naming,
     t: &Typename,
 ) -> Result<Operand, Deny>
-    ensures { Reads (rules.size line (spec.named t.now) stage state.old) result state.new }
+    ensures { Reads (kinds.named line kind (spec.named t.now) stage state.old) result state.new }
 {
+    naming_entry(line, kind, stage)?;
     let t = typename(alloc, state, line, stage, t)?;
-    check_operators::size(alloc, line, &t)
+    naming_node(alloc, line, kind, t)
 }
 
+// A production of a type name and an operand behind it.
 #[cycle(walk)]
-fn binary(
+fn typed(
     alloc: Global,
     state: &mut State,
     line: u32,
     stage: Stage,
-    op: BinaryOp,
+    kind: Typing,
+    t: &Typename,
     a: &Expr,
-    b: &Expr,
 ) -> Result<Operand, Deny>
-    ensures { Reads (rules.binary line op (spec.node a.now) (spec.node b.now) stage state.old) result state.new }
+    ensures { Reads (kinds.typed line kind (spec.named t.now) (spec.node a.now) stage state.old) result state.new }
 {
-    let p = both(alloc, state, stage, a, b)?;
-    binary_node(alloc, line, op, p.0, p.1)
-}
-
-#[cycle(walk)]
-fn assign(
-    alloc: Global,
-    state: &mut State,
-    line: u32,
-    stage: Stage,
-    a: &Expr,
-    b: &Expr,
-) -> Result<Operand, Deny>
-    ensures { Reads (rules.assign line (spec.node a.now) (spec.node b.now) stage state.old) result state.new }
-{
-    let p = both(alloc, state, stage, a, b)?;
-    assign_node(alloc, line, p.0, p.1)
-}
-
-#[cycle(walk)]
-fn modify(
-    alloc: Global,
-    state: &mut State,
-    line: u32,
-    stage: Stage,
-    op: ModifyOp,
-    a: &Expr,
-    b: &Expr,
-) -> Result<Operand, Deny>
-    ensures { Reads (rules.modify line op (spec.node a.now) (spec.node b.now) stage state.old) result state.new }
-{
-    let p = both(alloc, state, stage, a, b)?;
-    modify_node(alloc, line, op, p.0, p.1)
-}
-
-#[cycle(walk)]
-fn comma(
-    alloc: Global,
-    state: &mut State,
-    stage: Stage,
-    a: &Expr,
-    b: &Expr,
-) -> Result<Operand, Deny>
-    ensures { Reads (rules.comma (spec.node a.now) (spec.node b.now) stage state.old) result state.new }
-{
-    let p = both(alloc, state, stage, a, b)?;
-    Ok(comma_node(alloc, p.0, p.1)?)
+    typing_entry(line, kind, stage)?;
+    let t = typename(alloc, state, line, stage, t)?;
+    let o = expression(alloc, state, stage, a)?;
+    typing_node(alloc, line, kind, t, o)
 }
 
 /// What an expression that may be absent is.
@@ -390,49 +311,52 @@ pub fn expression(alloc: Global, state: &mut State, stage: Stage, e: &Expr) -> R
 {
     match e {
         Expr::Name(line, name) => state.named(alloc, *line, stage, name.as_slice()),
-        Expr::Number(n, unsigned) => Ok(number(alloc, *n, *unsigned)?),
-        Expr::Character(n) => Ok(character(alloc, *n)?),
-        Expr::String(bytes) => Ok(string_node(alloc, state, bytes.as_slice())?),
+        Expr::Number(n, unsigned) => number_leaf(alloc, *n, *unsigned),
+        Expr::Character(n) => character_leaf(alloc, *n),
+        Expr::String(bytes) => string_leaf(alloc, state, bytes.as_slice()),
         Expr::Paren(a) => expression(alloc, state, stage, a.get()),
         Expr::Compile(line, a, t) => compile(alloc, state, *line, stage, a.get(), t.get()),
-        Expr::Local(line, t) => local_specification(alloc, state, *line, stage, t.get()),
-        Expr::Param(line, t, a) => parameter_specification(
-            alloc,
-            state,
-            *line,
-            stage,
-            t.get(),
-            a.get(),
-        ),
+        Expr::Local(line, t) => named(alloc, state, *line, stage, Naming::Local, t.get()),
+        Expr::Param(line, t, a) => {
+            typed(
+                alloc,
+                state,
+                *line,
+                stage,
+                Typing::Parameter,
+                t.get(),
+                a.get(),
+            )
+        }
         Expr::Index(line, p) => {
             let (a, b) = p.get();
-            index(alloc, state, *line, stage, a, b)
+            pair(alloc, state, *line, stage, Pair::Index, a, b)
         }
         Expr::Call(line, f, list) => call(alloc, state, *line, stage, f.get(), list.as_slice()),
         Expr::Step(line, op, a) => post(alloc, state, *line, stage, *op, a.get()),
         Expr::Unary(line, op, a) => unary(alloc, state, *line, stage, *op, a.get()),
         Expr::Tick(line, a) => tick_expression(alloc, state, *line, stage, a.get()),
         Expr::TickBlock(line, items) => tick_block(alloc, state, *line, stage, items.as_slice()),
-        Expr::Cast(line, t, a) => cast(alloc, state, *line, stage, t.get(), a.get()),
-        Expr::Sizeof(line, t) => size(alloc, state, *line, stage, t.get()),
+        Expr::Cast(line, t, a) => typed(alloc, state, *line, stage, Typing::Cast, t.get(), a.get()),
+        Expr::Sizeof(line, t) => named(alloc, state, *line, stage, Naming::Size, t.get()),
         Expr::Binary(line, op, p) => {
             let (a, b) = p.get();
-            binary(alloc, state, *line, stage, *op, a, b)
+            pair(alloc, state, *line, stage, Pair::Binary(*op), a, b)
         }
         Expr::Choice(line, c, a, b) => {
             choice(alloc, state, *line, stage, c.get(), a.get(), b.get())
         }
         Expr::Assign(line, p) => {
             let (a, b) = p.get();
-            assign(alloc, state, *line, stage, a, b)
+            pair(alloc, state, *line, stage, Pair::Assign, a, b)
         }
         Expr::Modify(line, op, p) => {
             let (a, b) = p.get();
-            modify(alloc, state, *line, stage, *op, a, b)
+            pair(alloc, state, *line, stage, Pair::Modify(*op), a, b)
         }
-        Expr::Comma(_, p) => {
+        Expr::Comma(line, p) => {
             let (a, b) = p.get();
-            comma(alloc, state, stage, a, b)
+            pair(alloc, state, *line, stage, Pair::Comma, a, b)
         }
     }
 }

@@ -4,6 +4,7 @@
 
 mod declarations;
 mod expressions;
+mod kinds;
 mod lists;
 mod statements;
 mod types;

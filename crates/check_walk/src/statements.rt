@@ -2,20 +2,21 @@
 
 ghost use Rattle.std.specs.Prelude.{◌≡◌, Ok, map};
 ghost use Rattle.tick_tree.specs.Faults.{Checks};
-ghost use Rattle.check_statements.specs.Rules as statements;
+ghost use Rattle.check_statements_spec.specs.Rules as statements;
 ghost use Rattle.check_tables.specs.Walks.{Reads};
+ghost use Rattle.check_walk.specs.Kinds as kinds;
 ghost use Rattle.check_walk_spec.specs.Walk as spec;
 
 use crate::declarations::declaration;
 use crate::expressions::{expression, optional};
+use crate::kinds::{Tested, tested_around, tested_node};
 use crate::lists::{appended, pushed};
 use check_env::{Around, State};
 use check_forms::has_form;
 use check_operators::Operand;
 use check_statements::{
     body, break_entry, case_entry, case_node, continue_entry, default_node, do_node, for_node,
-    if_else_node, if_node, inside, looped, one, return_node, switch_entered, switch_node, switched,
-    while_node,
+    if_else_node, inside, looped, one, return_node, switch_entered, switch_node, switched,
 };
 use sqlite_items::{Boxed, Items};
 use std::alloc::Global;
@@ -108,20 +109,22 @@ fn block_alone(
     Ok(one(alloc, node.into_inner())?)
 }
 
+// An `if` without `else`, or a `while`.
 #[cycle(walk)]
-fn branch(
+fn tested(
     alloc: Global,
     state: &mut State,
     line: u32,
     around: Around,
+    kind: Tested,
     c: &Expr,
     a: &syntax::Stmt,
 ) -> Result<Items<Stmt>, Deny>
-    ensures { Reads (statements.if_then line (spec.node c.now) (spec.item a.now) around state.old) result state.new }
+    ensures { Reads (kinds.tested line kind (spec.node c.now) (spec.item a.now) around state.old) result state.new }
 {
     let o = expression(alloc, state, around.stage, c)?;
-    match body_of(alloc, state, inside(around), a) {
-        Ok(x) => if_node(alloc, line, o, x),
+    match body_of(alloc, state, tested_around(kind, around), a) {
+        Ok(x) => tested_node(alloc, line, kind, o, x),
         Err(why) => {
             drop(o);
             Err(why)
@@ -165,27 +168,6 @@ fn branches(
     let o = expression(alloc, state, around.stage, c)?;
     match bodies(alloc, state, inside(around), a, b) {
         Ok(p) => if_else_node(alloc, line, o, p.0, p.1),
-        Err(why) => {
-            drop(o);
-            Err(why)
-        }
-    }
-}
-
-#[cycle(walk)]
-fn repeated(
-    alloc: Global,
-    state: &mut State,
-    line: u32,
-    around: Around,
-    c: &Expr,
-    a: &syntax::Stmt,
-) -> Result<Items<Stmt>, Deny>
-    ensures { Reads (statements.while_loop line (spec.node c.now) (spec.item a.now) around state.old) result state.new }
-{
-    let o = expression(alloc, state, around.stage, c)?;
-    match body_of(alloc, state, looped(around), a) {
-        Ok(x) => while_node(alloc, line, o, x),
         Err(why) => {
             drop(o);
             Err(why)
@@ -256,22 +238,6 @@ fn for_rest(
             Err(why)
         }
     }
-}
-
-#[cycle(walk)]
-fn for_alone(
-    alloc: Global,
-    state: &mut State,
-    line: u32,
-    around: Around,
-    c: &OptionalExpr,
-    s: &OptionalExpr,
-    a: &syntax::Stmt,
-) -> Result<Items<Stmt>, Deny>
-    ensures { Reads (statements.for_alone line (spec.optional c.now) (spec.optional s.now) (spec.item a.now) around state.old) result state.new }
-{
-    let node = for_rest(alloc, state, line, around, c, s, a)?;
-    Ok(one(alloc, node.into_inner())?)
 }
 
 // The first part of a `for`, and the rest.
@@ -359,7 +325,8 @@ fn for_all(
     ensures { Reads (statements.for_loop line (spec.item first.now) (spec.optional c.now) (spec.optional s.now) (spec.item a.now) around state.old) result state.new }
 {
     if is_empty(first) {
-        for_alone(alloc, state, line, around, c, s, a)
+        let node = for_rest(alloc, state, line, around, c, s, a)?;
+        Ok(one(alloc, node.into_inner())?)
     } else {
         for_block(alloc, state, line, around, first, c, s, a)
     }
@@ -454,20 +421,6 @@ fn case(
 }
 
 #[cycle(walk)]
-fn answered(
-    alloc: Global,
-    state: &mut State,
-    line: u32,
-    around: Around,
-    e: &Expr,
-) -> Result<Items<Stmt>, Deny>
-    ensures { Reads (statements.answered line (spec.node e.now) around state.old) result state.new }
-{
-    let o = expression(alloc, state, around.stage, e)?;
-    return_node(alloc, state, line, around.stage, o)
-}
-
-#[cycle(walk)]
 #[tactic(auto, using(check_walk_spec::proofs::Equations::optionals))]
 fn returned(
     alloc: Global,
@@ -480,7 +433,10 @@ fn returned(
 {
     match e {
         OptionalExpr::Absent => Ok(one(alloc, Stmt::Return)?),
-        OptionalExpr::Present(e) => answered(alloc, state, line, around, e),
+        OptionalExpr::Present(e) => {
+            let o = expression(alloc, state, around.stage, e)?;
+            return_node(alloc, state, line, around.stage, o)
+        }
     }
 }
 
@@ -506,11 +462,15 @@ pub fn statement(
         syntax::Stmt::Expr(e) => alone(alloc, state, around, e),
         syntax::Stmt::Block(list) => block_alone(alloc, state, around, list.as_slice()),
         syntax::Stmt::Local(d) => declaration(alloc, state, around.stage, d),
-        syntax::Stmt::If(line, c, a) => branch(alloc, state, *line, around, c, a.get()),
+        syntax::Stmt::If(line, c, a) => {
+            tested(alloc, state, *line, around, Tested::If, c, a.get())
+        }
         syntax::Stmt::IfElse(line, c, a, b) => {
             branches(alloc, state, *line, around, c, a.get(), b.get())
         }
-        syntax::Stmt::While(line, c, a) => repeated(alloc, state, *line, around, c, a.get()),
+        syntax::Stmt::While(line, c, a) => {
+            tested(alloc, state, *line, around, Tested::While, c, a.get())
+        }
         syntax::Stmt::Do(line, a, c) => done_first(alloc, state, *line, around, a.get(), c),
         syntax::Stmt::For(line, first, c, s, a) => {
             for_all(alloc, state, *line, around, first.get(), c, s, a.get())

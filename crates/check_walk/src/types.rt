@@ -1,7 +1,7 @@
 //! The walk over type names, declarators and parameter lists.
 
 ghost use Rattle.std.specs.Prelude.{◌≡◌, [], map};
-ghost use Rattle.check_statements.specs.Rules as statements;
+ghost use Rattle.check_statements_spec.specs.Rules as statements;
 ghost use Rattle.check_tables.specs.Walks.{Reads};
 ghost use Rattle.check_walk_spec.specs.Walk as spec;
 
@@ -14,7 +14,7 @@ use check_forms::has_form;
 use check_statements::{declare_parameter, length_of};
 use sqlite_items::Items;
 use std::alloc::Global;
-use tick_tree::{Core, Declarator, Deny, Expr, OptionalExpr, Parameter, Suffix, Typename};
+use tick_tree::{Core, Declarator, Deny, OptionalExpr, Parameter, Suffix, Typename};
 
 /// The type that a type name names, with the line of the node that it is in.
 #[cycle(walk)]
@@ -99,23 +99,17 @@ fn suffix(alloc: Global, state: &mut State, stage: Stage, s: &Suffix) -> Result<
 
 // The step of an array, by its length.
 #[cycle(walk)]
-#[tactic(auto, using(check_walk_spec::proofs::Equations::optionals))]
+#[tactic(auto, using(check_walk_spec::proofs::Equations::optionals, check_walk_spec::proofs::Written::forms_of))]
 fn length(alloc: Global, state: &mut State, stage: Stage, e: &OptionalExpr) -> Result<Step, Deny>
     ensures { Reads (statements.length_step (spec.optional e.now) stage state.old) result state.new }
 {
     match e {
         OptionalExpr::Absent => Ok(Step::Array(Length::Absent)),
-        OptionalExpr::Present(e) => computed_length(alloc, state, stage, e),
+        OptionalExpr::Present(e) => {
+            let o = expression(alloc, state, stage, e)?;
+            Ok(Step::Array(length_of(alloc, has_form(e), o)?))
+        }
     }
-}
-
-#[cycle(walk)]
-#[tactic(auto, using(check_walk_spec::proofs::Written::forms_of))]
-fn computed_length(alloc: Global, state: &mut State, stage: Stage, e: &Expr) -> Result<Step, Deny>
-    ensures { Reads (statements.computed_step (spec.node e.now) stage state.old) result state.new }
-{
-    let o = expression(alloc, state, stage, e)?;
-    Ok(Step::Array(length_of(alloc, has_form(e), o)?))
 }
 
 // The step of a function, by the types of the parameters of its list, whose names are in a scope of their own.

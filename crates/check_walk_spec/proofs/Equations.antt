@@ -32,7 +32,7 @@ use Rattle.tick_tree.specs.declared.syntax.Core.TheOpen.{Suffix-F}
 use Rattle.check_env.specs.declared.state.Around.{Around}
 use Rattle.check_env.specs.declared.state.Stage.{Stage}
 use Rattle.check_env.specs.declared.state.State.{State}
-use Rattle.check_expressions.specs.Rules.{Node, Named, Shape, Item}
+use Rattle.check_expressions_spec.specs.Rules.{Node, Named, Shape, Item}
 use Rattle.check_walk_spec.specs.Walk.{Start, InitParts, Declarations, SuffixWalk, TypeWalk, core_rule, expr_rule}
 use Rattle.check_walk_spec.specs.Walk.{start_rule, optional_rule, stmt_rule, declaration_rule, declarator_rule}
 use Rattle.check_walk_spec.specs.Walk.{init_rule}

@@ -22,11 +22,11 @@ use Rattle.check_lvalues.specs.declared.calls.Arguments.{Arguments}
 use Rattle.check_env.specs.declared.state.Around.{Around}
 use Rattle.check_env.specs.declared.state.Stage.{Stage}
 use Rattle.check_env.specs.declared.state.State.{State}
-use Rattle.check_expressions.specs.Productions.{argument}
-use Rattle.check_expressions.specs.Rules as rules
-use Rattle.check_statements.specs.Declarations.{list_count}
-use Rattle.check_statements.specs.Initializers.{element}
-use Rattle.check_statements.specs.Rules as statements
+use Rattle.check_expressions_spec.specs.Productions.{argument}
+use Rattle.check_expressions_spec.specs.Rules as rules
+use Rattle.check_statements_spec.specs.Declarations.{list_count}
+use Rattle.check_statements_spec.specs.Initializers.{element}
+use Rattle.check_statements_spec.specs.Rules as statements
 use Rattle.check_walk_spec.specs.Walk as walks
 
 -- the answer behind those so far

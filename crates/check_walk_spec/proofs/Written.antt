@@ -29,7 +29,7 @@ use Rattle.tick_tree.specs.declared.syntax.Suffix.{roll-Suffix}
 use Rattle.tick_tree.specs.declared.syntax.Declarator.{roll-Declarator}
 use Rattle.tick_tree.specs.declared.syntax.Parameter.{roll-Parameter}
 use Rattle.tick_tree.specs.declared.syntax.Typename.{roll-Typename}
-use Rattle.check_expressions.specs.Rules.{Node, Named, Shape, Item}
+use Rattle.check_expressions_spec.specs.Rules.{Node, Named, Shape, Item}
 use Rattle.check_walk_spec.specs.Walk.{Start, InitParts, Declarations, SuffixWalk, TypeWalk, core_rule, expr_rule}
 use Rattle.check_walk_spec.specs.Walk.{start_rule, optional_rule, stmt_rule, suffix_walk, declaration_rule}
 use Rattle.check_walk_spec.specs.Walk.{declarator_rule}

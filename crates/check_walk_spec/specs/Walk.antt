@@ -41,11 +41,11 @@ use Rattle.check_env.specs.declared.state.Around.{Around}
 use Rattle.check_env.specs.declared.state.Stage.{Stage}
 use Rattle.check_env.specs.declared.state.State.{State}
 use Rattle.check_tables.specs.Walks.{Rule, ◌>>=◌, pure, lift}
-use Rattle.check_expressions.specs.Rules as rules
-use Rattle.check_expressions.specs.Rules.{Node, Named, Shape, Item, each, walk_rule}
-use Rattle.check_statements.specs.Declarations as declarations
-use Rattle.check_statements.specs.Initializers as initializers
-use Rattle.check_statements.specs.Rules.{stmt_walk, suffix_rule, each_step}
+use Rattle.check_expressions_spec.specs.Rules as rules
+use Rattle.check_expressions_spec.specs.Rules.{Node, Named, Shape, Item, each, walk_rule}
+use Rattle.check_statements_spec.specs.Declarations as declarations
+use Rattle.check_statements_spec.specs.Initializers as initializers
+use Rattle.check_statements_spec.specs.Rules.{stmt_walk, suffix_rule, each_step}
 
 -- ---- what is known of the other parts
 

@@ -22,7 +22,7 @@ use Rattle.icode_templates_proof.proofs.Jumps.{in_slot}
 use Rattle.spec_closure.specs.Closures.{word_at, with_word, closure_of}
 use Rattle.spec_closure.proofs.Skips.{one_loads, one_leaves}
 use Rattle.spec_closure.proofs.Accesses.{load_closure}
-use Rattle.cgf_spec.specs.Calls.{Begin, Emit, RunsWith, issuing}
+use Rattle.cgf_spec.specs.Calls.{Begin, Emit, noted, RunsWith, issuing}
 use Rattle.cgf_spec.specs.Laws.{others, IsUntouched, Enters, Generates}
 use Rattle.cgf_spec.proofs.Runs.{runs_call, runs_on, runs_then, runs_behind, issuing_append}
 use Rattle.cgf_spec.proofs.Memory.{load_emits, store_emits}
@@ -89,7 +89,7 @@ module _ (c : Code) (p a kind parameters charge g ra number depth cost : ℕ) (o
       (λ rest. refl))))
 
   abbrev b6 : Data
-  b6 = set 2 0 b5
+  b6 = set 2 0 (noted (Begin parameters) b5)
 
   abbrev p5 : ℕ
   p5 = p + 4 + 4 + 4 + 4 + 4
@@ -106,7 +106,7 @@ module _ (c : Code) (p a kind parameters charge g ra number depth cost : ℕ) (o
   begun : RunsWith (Begin parameters ∷ []) 6 (at c p 0 t) (at c p6 0 b6)
   begun =
       runs_call (Begin parameters) {k = 5} {a = p5} {l = 0} {c = c} {d = b5} {s = at c p 0 t}
-      (leaves_run first_code c 0 0 p t b5 begins (front c p first_code (syscall ∷ behind_begin) h))
+      (leaves_run first_code c 0 0 p t b5 begins (front c p first_code (syscall ∷ behind_begin) h)) refl
       (record { stands = (back c p first_code (syscall ∷ behind_begin) h).0; quiet = refl; called = (refl, refl) })
 
   abbrev p8 : ℕ
@@ -204,7 +204,7 @@ module _ (c : Code) (p a kind parameters charge g ra number depth cost : ℕ) (o
   l4 = set 2 65 l3
 
   abbrev l6 : Data
-  l6 = set 2 0 (set 4 19 l4)
+  l6 = set 2 0 (noted (Emit Return) (set 4 19 l4))
 
   at8 : HasAt c p8 (kind_again_code ++ (value_test ++ return_code))
   at8 = back c p6 generate_code (kind_again_code ++ (value_test ++ return_code)) at6
@@ -216,8 +216,9 @@ module _ (c : Code) (p a kind parameters charge g ra number depth cost : ℕ) (o
   issues : RunsWith (Begin parameters ∷ issuing ops) (6 + (2 + cost + 3)) (at c p 0 t) (at c p11 0 l3)
   issues =
       runs_on {xs = Begin parameters ∷ []} {m = 6} {n = 2 + cost + 3} begun
-      (runs_then {m = 2 + cost} {k = 3} (runs_behind {k = 2} {n = cost} calls y.runs)
-      (leaves_run kind_again_code c 0 0 p8 l0 l3 loads (front c p8 kind_again_code (value_test ++ return_code) at8)))
+      (runs_then {m = 2 + cost} {k = 3} (runs_behind {k = 2} {n = cost} calls refl y.runs)
+      (leaves_run kind_again_code c 0 0 p8 l0 l3 loads (front c p8 kind_again_code (value_test ++ return_code) at8))
+      refl)
 
   pub record Built (is_value : Bool) : Type 0 where
     pub e : Data
@@ -273,7 +274,7 @@ module _ (c : Code) (p a kind parameters charge g ra number depth cost : ℕ) (o
       at11.1.0 in
       let rest = back c p11 value_test return_code at11 in
       let returned = runs_call (Emit Return) {k = 1} {a = p13 + 4} {l = 0} {c = c} {d = set 4 19 l4} {s = at c p13 0 l4}
-      (leaves_run (ori 4 0 19 ∷ []) c 0 0 p13 l4 (set 4 19 l4) (λ more. refl) (rest.0, tt))
+      (leaves_run (ori 4 0 19 ∷ []) c 0 0 p13 l4 (set 4 19 l4) (λ more. refl) (rest.0, tt)) refl
       (record { stands = rest.1.0; quiet = refl; called = (refl, refl) }) in
       record {
         e = l6;
@@ -282,7 +283,7 @@ module _ (c : Code) (p a kind parameters charge g ra number depth cost : ℕ) (o
         runs = subst (λ calls. RunsWith calls (6 + (2 + cost + 3) + (2 + 2)) (at c p 0 t) (at c p15 0 l6))
             (ap (λ calls. Begin parameters ∷ calls) (sym (issuing_append ops (Return ∷ []))))
             (runs_on {xs = Begin parameters ∷ issuing ops} {m = 6 + (2 + cost + 3)} {n = 2 + 2} issues
-            (runs_behind {k = 2} {n = 2} tests returned));
+            (runs_behind {k = 2} {n = 2} tests refl returned));
         closure_is = closure_again;
         charge_there = refl;
         pointer_there = pointer_again;
@@ -315,7 +316,7 @@ module _ (c : Code) (p a kind parameters charge g ra number depth cost : ℕ) (o
         under = omega arith;
         runs = subst (λ (xs : List BuildOp). RunsWith (Begin parameters ∷ issuing xs) (6 + (2 + cost + 3) + 2) (at c p
             0 t)
-            (at c p15 0 l4)) (sym (append-nil ops)) (runs_then {m = 6 + (2 + cost + 3)} {k = 2} issues tests);
+            (at c p15 0 l4)) (sym (append-nil ops)) (runs_then {m = 6 + (2 + cost + 3)} {k = 2} issues tests refl);
         closure_is = closure_again;
         charge_there = refl;
         pointer_there = pointer_again;

@@ -327,7 +327,7 @@ module _ (text : Text) (pieces : ℕ → List Piece) (functions : ℕ) (c : Code
         after = f15 a function next size parameters (d.registers 31) words made.e ready few;
         count = 25 + (made.count + 21);
         under = omega (arith, made.under);
-        runs = runs_behind {k = 25} {n = made.count + 21} tests (runs_on {m = made.count} {n = 21} made.runs m);
+        runs = runs_behind {k = 25} {n = made.count + 21} tests refl (runs_on {m = made.count} {n = 21} made.runs m);
         answer = refl;
         link = refl;
         registers = λ q k. kept a function next size parameters (d.registers 31) words made.e ready few q k

@@ -89,7 +89,7 @@ module _ (a function next size parameters ra : ℕ) (words : List ℕ) (e : Data
 
   -- flush
   abbrev f3 : Data
-  f3 = set 2 (length words) f2
+  f3 = data_behind finish_call f2
 
   abbrev f4 : Data
   f4 = set 2 67 (set 5 (length words) f3)
@@ -205,7 +205,7 @@ module _ (a function next size parameters ra : ℕ) (words : List ℕ) (e : Data
       ++ back_code) h9 in
       let r1 = runs_call finish_call {k = 5} {a = p + 4 + 4 + 4 + 4 + 4} {l = 0} {c = c} {d = f2} {s = at c p 0 e}
       (leaves_run (lw 4 65516 28 ∷ srl 5 13 2 ∷ srl 6 13 4 ∷ addiu 6 6 112 ∷ ori 2 0 66 ∷ []) c 0 0 p e f2 finishes
-      (front c p (lw 4 65516 28 ∷ srl 5 13 2 ∷ srl 6 13 4 ∷ addiu 6 6 112 ∷ ori 2 0 66 ∷ []) (syscall ∷ rest6) h))
+      (front c p (lw 4 65516 28 ∷ srl 5 13 2 ∷ srl 6 13 4 ∷ addiu 6 6 112 ∷ ori 2 0 66 ∷ []) (syscall ∷ rest6) h)) refl
       (record {
         stands = (back c p (lw 4 65516 28 ∷ srl 5 13 2 ∷ srl 6 13 4 ∷ addiu 6 6 112 ∷ ori 2 0 66 ∷ []) (syscall ∷ rest6)
             h).0;
@@ -214,7 +214,7 @@ module _ (a function next size parameters ra : ℕ) (words : List ℕ) (e : Data
       }) in
       let r2 = runs_call flush {k = 2} {a = p6 + 4 + 4} {l = 0} {c = c1 c} {d = f4} {s = at (c1 c) p6 0 f3}
       (leaves_run (addu 5 2 0 ∷ ori 2 0 67 ∷ []) (c1 c) 0 0 p6 f3 f4 flushes
-      (front (c1 c) p6 (addu 5 2 0 ∷ ori 2 0 67 ∷ []) (syscall ∷ rest9) h6))
+      (front (c1 c) p6 (addu 5 2 0 ∷ ori 2 0 67 ∷ []) (syscall ∷ rest9) h6)) refl
       (record {
         stands = (back (c1 c) p6 (addu 5 2 0 ∷ ori 2 0 67 ∷ []) (syscall ∷ rest9) h6).0;
         quiet = refl;
@@ -225,7 +225,7 @@ module _ (a function next size parameters ra : ℕ) (words : List ℕ) (e : Data
       (leaves_run (addu 5 4 0 ∷ addu 13 13 4 ∷ sw 13 65516 28 ∷ lw 4 65520 28 ∷ lw 6 12 12 ∷ ori 2 0 68 ∷ []) (c2 c) 0 0
       p9 f5 f10 publishes
       (front (c2 c) p9 (addu 5 4 0 ∷ addu 13 13 4 ∷ sw 13 65516 28 ∷ lw 4 65520 28 ∷ lw 6 12 12 ∷ ori 2 0 68 ∷ [])
-      (syscall ∷ (answer_code ++ back_code)) h9))
+      (syscall ∷ (answer_code ++ back_code)) h9)) refl
       (record {
         stands = (back (c2 c) p9 (addu 5 4 0 ∷ addu 13 13 4 ∷ sw 13 65516 28 ∷ lw 4 65520 28 ∷ lw 6 12 12 ∷ ori 2 0 68 ∷
             []) (syscall ∷ (answer_code ++ back_code)) h9).0;
@@ -236,7 +236,7 @@ module _ (a function next size parameters ra : ℕ) (words : List ℕ) (e : Data
       (leaves_run answer_code (c2 c) 0 0 p16 f11 f14 answers (front (c2 c) p16 answer_code back_code h16))
       (returns (c2 c) p19 (back (c2 c) p16 answer_code back_code h16)) in
       runs_on {xs = finish_call ∷ []} {m = 6} {n = 15} r1
-      (runs_on {xs = flush ∷ []} {m = 3} {n = 12} r2 (runs_then {m = 7} {k = 5} r3 r4))
+      (runs_on {xs = flush ∷ []} {m = 3} {n = 12} r2 (runs_then {m = 7} {k = 5} r3 r4 refl))
 
   pub kept : (q : ℕ) → KeepsRegister q → f15.registers q ≡ e.registers q
   kept q k =

@@ -91,13 +91,13 @@ compile_calls function address parameters size ops words =
     ∷ Publish function address parameters
     ∷ [])
 
--- what is left of the data, but for registers and emit stack
+-- what is left of the data, but for registers, emit stack, and what services that make code have left
 abbrev pub made_data : (function address parameters size : ℕ) → Data → Data
 made_data function address parameters size d = record (others d) {
   cells = with_word NEXT_FUNCTION_CELL (suc function)
       (with_word NEXT_ARENA_CELL (address + 4 * arena_words size) d.cells);
   table = published function address parameters d.table;
-  outside = record d.outside { flushes = d.outside.flushes + 1 };
+  outside = record (others d).outside { flushes = d.outside.flushes + 1 };
 }
 
 -- a routine changes $at, $v0, $v1, $a0 to $a3, $t4 to $t9 and $ra alone

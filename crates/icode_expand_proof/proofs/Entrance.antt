@@ -160,14 +160,14 @@ module _ (s : Setting) (st : Standing s) (f : Function) (known : s.program.funct
         | inr fits ↦ (let t : nat_le (log.shared.used + f.charge) STACK_BYTES ≡ true = is_within _ _ fits in
             elim (cases_lt FRAME_OBJECT_BYTES (log.shared.frames + f.object)) [
               | inl over ↦ (let k : nat_le (log.shared.frames + f.object) FRAME_OBJECT_BYTES ≡ false =
-                is_over _ _ over in
+                  is_over _ _ over in
                   let x = overflows f (places_of s f) s.code d stands (omega (arith, top, fits)) (omega (arith, top))
                   en.even en.global (omega (arith, en.objects_to)) (omega (arith, obj, over)) in
                   rw (t, k) (ends_pay s log (paid o log) from (at s.code f.address 0 d) l m 17 33
                   (Ended (Trap FrameLimit)) d.outside (omega (arith, lo)) (omega (arith, hi))
                   en.memory.history en.memory.making r x))
               | inr space ↦ (let k : nat_le (log.shared.frames + f.object) FRAME_OBJECT_BYTES ≡ true =
-                is_within _ _ space in
+                  is_within _ _ space in
                   let b = holds_begun arguments (moved_on w ∷ waiting) (paid o log) d en (omega (arith, fits))
                   (omega (arith, space)) in
                   rw (t, k) (runs_pay s st (begun f arguments) nothing None (moved_on w ∷ waiting) log

@@ -1,2 +1,2 @@
-mod Lowered
+pub mod Lowered
 mod Counted

@@ -1,3 +1,5 @@
 mod Captured
 mod Standing
 mod Wholes
+mod Ticks
+mod Issued

@@ -2,7 +2,8 @@
 //! run here: each function's contract is a law.
 #![tactic(auto)]
 
-ghost use Rattle.tick_pieces_proof.specs.Laws.{CapturesKeepKinds, SyntaxesAreWhole, TicksFit};
+ghost use Rattle.tick_pieces_proof.specs.Laws.{CapturesKeepKinds, LoweringsAreIssued, SyntaxesAreWhole};
+ghost use Rattle.tick_pieces_proof.specs.Laws.{TicksFit, TicksHoldNone};
 
 /// That each piece of a tick of an accepted text names a capture of its kind, or is an op that code may ask for, once
 /// the tick is made with captures of the kinds that it has.
@@ -18,4 +19,15 @@ pub fn syntaxes_are_whole()
 /// That a specification that the meaning makes of earlier ones is made with captures of the kinds that its tick has.
 pub fn captures_keep_kinds()
     ensures { CapturesKeepKinds }
+{}
+
+/// That no tick stands in the body of a tick of an accepted text.
+pub fn ticks_hold_none()
+    ensures { TicksHoldNone }
+{}
+
+/// That the machine, at the function of a tick of an accepted text, issues exactly the ops of the lowering of the
+/// specification that it is called for, and returns with all else as it was.
+pub fn lowerings_are_issued()
+    ensures { LoweringsAreIssued }
 {}

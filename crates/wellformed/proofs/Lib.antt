@@ -3,3 +3,4 @@ pub mod Bools
 pub mod Equations
 pub mod Uses
 pub mod Viewed
+pub mod Named

@@ -20,6 +20,8 @@ use Rattle.typed_tree.specs.View.{expr_view, stmt_view, function_view, body_view
 use Rattle.typed_tree.proofs.Fusion.{fusion, statement_fusion, size_viewed, statement_size_viewed}
 use Rattle.wellformed.specs.Accepted as accepted
 use Rattle.wellformed.specs.Accepted.{IsAccepted, charge, size_of_function, size_of_tick}
+use Rattle.wellformed.specs.Captured as captured
+use Rattle.wellformed.specs.Captured.{named, named_of, named_in}
 use Rattle.wellformed.specs.Counts.{objects_at, object_rules, declarations_of, declaration_rules}
 use Rattle.wellformed.specs.Places as places
 use Rattle.wellformed.specs.Places.{Around, Part, Act, part, act, stands_as_tick}
@@ -45,6 +47,14 @@ use_viewed = fusion values.expr_rule
 pub uses_viewed : (s : Stmt) → uses_values s ≡ fold_stmt values.rules (stmt_view s)
 unfolding uses_values
 uses_viewed = statement_fusion values.rules
+
+pub named_viewed : (e : Expr) → named e ≡ fold_expr captured.expr_rule (expr_view e)
+unfolding named
+named_viewed = fusion captured.expr_rule
+
+pub named_of_viewed : (s : Stmt) → named_of s ≡ fold_stmt captured.rules (stmt_view s)
+unfolding named named_of
+named_of_viewed = statement_fusion captured.rules
 
 pub objects_viewed : (byte : ℕ) (s : Stmt) → objects_at byte s ≡ fold_stmt (object_rules byte) (stmt_view s)
 unfolding objects_at
@@ -74,6 +84,10 @@ body_stands (body.Statement s) a = ap (λ x. x.stands a) (act_viewed s)
 body_used : (b : TickBody) → body_uses_values b ≡ program.body_uses_values (body_view b)
 body_used (body.Expression e) = ap (λ u. u.right) (use_viewed e)
 body_used (body.Statement s) = uses_viewed s
+
+body_named : (b : TickBody) → named_in b ≡ program.named_in (body_view b)
+body_named (body.Expression e) = named_viewed e
+body_named (body.Statement s) = named_of_viewed s
 
 body_numbered : (b : TickBody) → accepted.IsNumbered b → IsNumbered (body_view b)
 body_numbered (body.Expression e) h = tt
@@ -131,6 +145,7 @@ module _ (p : TypedParts) (all : List (List CaptureKind)) where
     stands = ap (λ n. program.stands_as_tick (body_view t.body) (round_captured kinds n)) as_many
         ∙ sym (body_stands t.body (round_captured kinds (accepted.parameters_of p.functions))) ∙ h.stands;
     values = sym (body_used t.body) ∙ h.values;
+    captures = sym (ap (λ f. f []) (body_named t.body)) ∙ h.captures;
     numbers = body_numbered t.body h.numbers;
     small = subst (λ n. n ≤ SIZE_LIMIT) (h.size ∙ body_sized t.body) h.small;
   }

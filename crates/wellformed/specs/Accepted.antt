@@ -1,6 +1,5 @@
 -- What is known of the typed tree of an accepted text: its nodes stand right, its sizes and its frame objects are those
--- of
--- its functions and ticks, and it is not too large. These are this project's own rules.
+-- of its functions and ticks, and it is not too large. These are this project's own rules.
 use Rattle.std.specs.Prelude.{◌≡◌, ℕ, ◌+◌, ◌*◌, ◌<◌, ◌≤◌, IsTrue, false, nat_lt, List, [], length, map, sum, codes}
 use Rattle.std.specs.Prelude.{slice_get, Some, None}
 use Rattle.typed_tree.specs.declared.expression.CaptureKind.{CaptureKind}
@@ -11,6 +10,7 @@ use Rattle.typed_tree.specs.declared.program.TickBody.{TickBody}
 use Rattle.typed_tree.specs.declared.program.TickBody.TheVariants as body
 use Rattle.typed_tree.specs.declared.program.TypedParts.{TypedParts}
 use Rattle.typed_tree.specs.Sizes.{statement_size, body_size}
+use Rattle.wellformed.specs.Captured.{named_in}
 use Rattle.wellformed.specs.Counts.{one_if, objects_at, declarations_of}
 use Rattle.wellformed.specs.Places.{Around, stands_as_body, stands_as_tick}
 use Rattle.wellformed.specs.Values.{uses_values, body_uses_values}
@@ -76,6 +76,8 @@ pub record IsTick (p : TypedParts) (ticks : List (List CaptureKind)) (t : Tick) 
   where
     pub stands : IsTrue (stands_as_tick t.body (round_tick p ticks kinds))
     pub values : IsTrue (body_uses_values t.body)
+    -- its nodes name its captures, the first time in their order
+    pub captures : named_in t.body [] ≡ kinds
     pub size : t.size ≡ body_size t.body
     pub numbers : IsNumbered t.body
     pub small : t.size ≤ SIZE_LIMIT

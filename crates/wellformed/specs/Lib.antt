@@ -1,4 +1,5 @@
 pub mod Accepted
+pub mod Captured
 pub mod Counts
 pub mod Places
 pub mod Values

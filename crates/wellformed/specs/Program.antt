@@ -1,6 +1,5 @@
 -- What is known of the typed tree of an accepted text, said of its view: the tree that has a meaning. Its nodes stand
--- right, its
--- frame objects are those of its functions, and it is not too large. These are this project's own rules.
+-- right, its frame objects are those of its functions, and it is not too large. These are this project's own rules.
 use Rattle.std.specs.Prelude.{◌≡◌, ℕ, ◌+◌, ◌≤◌, ◌<◌, Bool, IsTrue, false, nat_lt, List, [], length, map, sum, codes}
 use Rattle.std.specs.Prelude.{slice_get, Some, None}
 use Rattle.typed_tree.specs.declared.expression.CaptureKind.{CaptureKind}
@@ -12,6 +11,7 @@ use Rattle.typed_tree.specs.Nodes.{Expression, Statement, fold_expr, fold_stmt}
 use Rattle.typed_tree.specs.Measures.{size_of_stmt, size_of_body}
 use Rattle.typed_tree.specs.View.{function_view, body_view, program_view}
 use Rattle.wellformed.specs.Accepted.{charge}
+use Rattle.wellformed.specs.Captured as captured
 use Rattle.wellformed.specs.Counts.{one_if, object_rules, declaration_rules}
 use Rattle.wellformed.specs.Places as places
 use Rattle.wellformed.specs.Places.{Around}
@@ -36,6 +36,11 @@ uses_values = fold_stmt values.rules
 abbrev pub body_uses_values : node.TickBody → Bool
 body_uses_values (Expression e) = (fold_expr values.expr_rule e).right
 body_uses_values (Statement s) = uses_values s
+
+-- the kinds of the captures that its nodes name, behind others
+abbrev pub named_in : node.TickBody → captured.Naming
+named_in (Expression e) = fold_expr captured.expr_rule e
+named_in (Statement s) = fold_stmt captured.rules s
 
 -- how many frame objects a byte belongs to, and how many declarations a register variable has
 abbrev pub objects_at : ℕ → node.Stmt → ℕ
@@ -98,6 +103,8 @@ pub record IsTick (p : node.Program) (ticks : List (List CaptureKind)) (t : node
     Type 0 where
   pub stands : IsTrue (stands_as_tick t (round_tick p ticks kinds))
   pub values : IsTrue (body_uses_values t)
+  -- its nodes name its captures, the first time in their order
+  pub captures : named_in t [] ≡ kinds
   pub numbers : IsNumbered t
   pub small : size_of_body t ≤ SIZE_LIMIT
 

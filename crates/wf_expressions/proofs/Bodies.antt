@@ -15,9 +15,9 @@ use Rattle.check_operators.specs.Stages as stages
 use Rattle.check_env.specs.declared.state.Stage.{Stage}
 use Rattle.check_env.specs.declared.state.Stage.TheVariants as stage
 use Rattle.check_env.specs.declared.state.State.{State}
-use Rattle.check_expressions.specs.Productions as productions
-use Rattle.check_expressions.specs.Productions.{tick_entered}
-use Rattle.check_expressions.specs.Rules.{Node, Item, block, tick_around, tick_expression, tick_block}
+use Rattle.check_expressions_spec.specs.Productions as productions
+use Rattle.check_expressions_spec.specs.Productions.{tick_entered}
+use Rattle.check_expressions_spec.specs.Rules.{Node, Item, block, tick_around, tick_expression, tick_block}
 use Rattle.wellformed.specs.Accepted.{AreNumbered}
 use Rattle.wellformed.specs.Counts.{one_if, declarations_of}
 use Rattle.wellformed.specs.Places.{Around, act}
@@ -25,6 +25,7 @@ use Rattle.wellformed.specs.Values.{uses_values}
 use Rattle.wellformed.proofs.Bools.{second_true}
 use Rattle.wf_values.proofs.Declared.{types_use}
 use Rattle.wf_values.proofs.Stages.{stages_use}
+use Rattle.wf_invariant.specs.Captured.{NamesValue, NamesBlock}
 use Rattle.wf_invariant.specs.Counts.{declarations_in, between, Counts}
 use Rattle.wf_invariant.specs.Items.{placed, KeepsBlock, Few, GoodBlock}
 use Rattle.wf_invariant.specs.Kept.{Keeps, Grows}
@@ -45,20 +46,21 @@ expression_kept s t k few =
 expression_stands : (a : Around) (o : Operand) → Good a o → BodyStands a (body.Expression (value_of o).code)
 expression_stands a o h = let v = good_value a o h in record { stands = v.code; values = v.used.right }
 
-pub expression_does : (many : List ℕ) (line : ℕ) (a : Node) (g : Stage) → GoodNode many a →
+pub expression_does : (many : List ℕ) (line : ℕ) (a : Node) (g : Stage) → GoodNode many a → NamesValue a →
     Does many g (λ r o. Good (at g r) o) (tick_expression line a g)
 unfolding productions.tick_expression
-expression_does many line a stage.Function h b ks s new x known e =
+expression_does many line a stage.Function h names b ks s new x known e =
     let w = ran (a.walk stage.Tick) (λ o z. Ok (productions.tick_expression o z)) (tick_entered s) x new e in
     let k = expression_kept (tick_entered s) w.state (h.keeps stage.Tick (tick_entered s) w.state w.value w.first)
     (h.few stage.Tick (tick_entered s) w.state w.value w.first) in
     let d = h.does stage.Tick (blocks b s) ks (tick_entered s) w.state w.value (known_entered known) w.first in
     given (productions.tick_expression w.value w.state)
-    (tick_did (body.Expression (value_of w.value).code) known k (λ small. tt) (λ r. Good r.tick w.value)
+    (tick_did (body.Expression (value_of w.value).code) known k (λ small. tt)
+    (names (tick_entered s) w.state w.value w.first) (λ r. Good r.tick w.value)
     (λ r q. expression_stands (round_tick r.function (kinds w.state.ticks.captures)) w.value q) d
     (stages.specification (value_of w.value).ctype) (stages_use.specification (value_of w.value).ctype)) w.next
-expression_does many line a stage.Tick h b ks s new x known e = cc
-expression_does many line a stage.Dollar h b ks s new x known e = cc
+expression_does many line a stage.Tick h names b ks s new x known e = cc
+expression_does many line a stage.Dollar h names b ks s new x known e = cc
 
 -- ---- a block
 
@@ -125,8 +127,9 @@ abbrev Block : Round → Stmt → Type 0
 Block r x = ((act x).stands (placed tick_around r.tick) ≡ true) × (uses_values x ≡ true)
 
 pub block_does : (many : List ℕ) (line : ℕ) (items : List Item) (g : Stage) →
-    GoodBlock many tick_around (block items tick_around) → Does many g (λ r o. Good (at g r) o) (tick_block line items g)
-block_does many line items stage.Function h b ks s new x known e =
+    GoodBlock many tick_around (block items tick_around) → NamesBlock items →
+    Does many g (λ r o. Good (at g r) o) (tick_block line items g)
+block_does many line items stage.Function h names b ks s new x known e =
     let w = ran (block items tick_around) (λ z y. Ok (productions.tick_block z y)) (tick_entered s) x new e in
     let kept = h.keeps (tick_entered s) w.state w.value w.first in
     let k = block_kept (tick_entered s) w.state (h.grows (tick_entered s) w.state w.value w.first) kept
@@ -136,7 +139,8 @@ block_does many line items stage.Function h b ks s new x known e =
     (tick_did (body.Statement w.value) known k
     (λ small. numbered (tick_entered s) w.state w.value (h.counts (tick_entered s) w.state w.value w.first small)
     kept.nodes refl)
-    (λ r. Block r w.value) (λ r q. record { stands = q.0; values = q.1 }) d
+    (names (tick_entered s) w.state w.value w.first) (λ r. Block r w.value)
+    (λ r q. record { stands = q.0; values = q.1 }) d
     (over layer.Cspec void) (types_use.layer layer.Cspec void)) w.next
-block_does many line items stage.Tick h b ks s new x known e = cc
-block_does many line items stage.Dollar h b ks s new x known e = cc
+block_does many line items stage.Tick h names b ks s new x known e = cc
+block_does many line items stage.Dollar h names b ks s new x known e = cc

@@ -13,8 +13,8 @@ use Rattle.check_tables.specs.Walks.{◌>>=◌, lift}
 use Rattle.check_env.specs.declared.state.Stage.{Stage}
 use Rattle.check_env.specs.declared.state.State.{State}
 use Rattle.check_env.specs.Names.{library_at, library_by, library}
-use Rattle.check_expressions.specs.Productions as productions
-use Rattle.check_expressions.specs.Rules.{Node, arguments, library_of, library_call, plain_call, call_of, call}
+use Rattle.check_expressions_spec.specs.Productions as productions
+use Rattle.check_expressions_spec.specs.Rules.{Node, arguments, library_of, library_call, plain_call, call_of, call}
 use Rattle.wf_values.specs.Used.{IsLibrary}
 use Rattle.wf_invariant.specs.Known.{Blocks, Means, EachScope, Small, Known}
 use Rattle.wf_invariant.specs.Steps.{Round, at, Did, Does}

@@ -28,7 +28,7 @@ use Rattle.check_env.specs.declared.state.Stage.{Stage}
 use Rattle.check_env.specs.declared.state.Stage.TheVariants as stage
 use Rattle.check_env.specs.declared.state.State.{State}
 use Rattle.check_env.specs.Names.{addressed}
-use Rattle.check_expressions.specs.Productions as productions
+use Rattle.check_expressions_spec.specs.Productions as productions
 use Rattle.wellformed.specs.Places.{Part, Around, captured, is_word}
 use Rattle.wellformed.proofs.Equations.{part_captured}
 use Rattle.wf_scopes.specs.Right.{Stands, RightPlace, Unless}

@@ -24,8 +24,8 @@ use Rattle.check_lvalues.specs.declared.calls.Argument.{Argument}
 use Rattle.check_lvalues.specs.declared.calls.Arguments.{Arguments}
 use Rattle.typed_tree.specs.declared.expression.Expr.{Expr}
 use Rattle.check_env.specs.declared.state.Stage.{Stage}
-use Rattle.check_expressions.specs.Productions as productions
-use Rattle.check_expressions.specs.Productions.{is_tick, is_specification, answers_specification}
+use Rattle.check_expressions_spec.specs.Productions as productions
+use Rattle.check_expressions_spec.specs.Productions.{is_tick, is_specification, answers_specification}
 use Rattle.wellformed.specs.Places.{Around, in_function}
 use Rattle.wf_scopes.specs.Right.{Stands, EachStands, IsRight, Unless}
 use Rattle.wf_scopes.proofs.Operands.{operands_stand, prefixes_stand, stages_stand}

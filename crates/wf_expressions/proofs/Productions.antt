@@ -11,9 +11,9 @@ use Rattle.check_operators.specs.Stages as stages
 use Rattle.check_tables.specs.Walks.{◌>>=◌, pure, lift}
 use Rattle.check_env.specs.declared.state.Stage.{Stage}
 use Rattle.check_env.specs.declared.state.Stage.TheVariants as stage
-use Rattle.check_expressions.specs.Productions as productions
-use Rattle.check_expressions.specs.Rules.{Node, Named, both, compile, local, parameter, unary, cast, choice, post, size}
-use Rattle.check_expressions.specs.Rules.{comma}
+use Rattle.check_expressions_spec.specs.Productions as productions
+use Rattle.check_expressions_spec.specs.Rules.{Node, Named, both, compile, local, parameter, unary, cast, choice, post, size}
+use Rattle.check_expressions_spec.specs.Rules.{comma}
 use Rattle.wellformed.specs.Places.{in_function}
 use Rattle.wf_scopes.specs.Right.{Unless}
 use Rattle.wf_invariant.specs.Steps.{Round, at}

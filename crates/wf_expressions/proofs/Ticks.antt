@@ -1,6 +1,5 @@
 -- A tick, which makes a specification: its body stands right where its captures are those that it made, and these stand
--- right where
--- the specification is made.
+-- right where the specification is made.
 use Rattle.std.proofs.Common.{◌≡◌, ℕ, ◌+◌, ◌≤◌, true, false, ◌&&◌, List, [], ◌∷◌, ◌++◌, length, map, refl, sym, ap}
 use Rattle.std.proofs.Common.{subst, ◌∙◌, append_assoc, append-nil, length-append, arith, Option, Some, None}
 use Rattle.std.specs.Prelude.{slice_get}
@@ -21,10 +20,12 @@ use Rattle.check_operators.specs.Operands.{made}
 use Rattle.check_tables.specs.declared.frame.Home.{Home}
 use Rattle.check_tables.specs.Frames.{count}
 use Rattle.check_tables.specs.Ticks as ticks
+use Rattle.check_env.specs.declared.state.Stage.{Stage}
 use Rattle.check_env.specs.declared.state.Stage.TheVariants as stage
 use Rattle.check_env.specs.declared.state.State.{State}
-use Rattle.check_expressions.specs.Productions.{tick_entered}
+use Rattle.check_expressions_spec.specs.Productions.{tick_entered}
 use Rattle.wellformed.specs.Accepted.{IsNumbered}
+use Rattle.wellformed.specs.Captured.{none, named_in}
 use Rattle.wellformed.specs.Places.{Part, part, expr_rule, Around, in_function, kinds_of, kinds_at, stands_as_tick}
 use Rattle.wellformed.specs.Values.{body_uses_values}
 use Rattle.wellformed.proofs.Equations.{part_tick}
@@ -33,7 +34,8 @@ use Rattle.wf_scopes.specs.Right.{Stands}
 use Rattle.wf_values.specs.Used.{EachLeaves}
 use Rattle.wf_values.proofs.Nodes.{nodes_use}
 use Rattle.wf_invariant.specs.Kept.{Starts, KeepsTables, Keeps}
-use Rattle.wf_invariant.specs.Known.{Blocks, numbers, has, IsVariable, IsParameter, Means, Small, Known}
+use Rattle.wf_invariant.specs.Captured.{IsOfLibrary, HasLibrary, Names}
+use Rattle.wf_invariant.specs.Known.{Blocks, numbers, has, IsVariable, IsParameter, Means, Small, Knows, Known}
 use Rattle.wf_invariant.specs.Steps.{Round, Agrees, first_kind, one_kind, kinds, round_tick, TickStands, EachTick}
 use Rattle.wf_invariant.specs.Steps.{EachCapture, Did}
 use Rattle.wf_invariant.specs.Good.{Good}
@@ -131,6 +133,21 @@ known_entered {many} {b} {ks} {s} known small =
       object = was.object;
     }
 
+-- the names of the library are known
+of_library : (many : List ℕ) (g : Stage) (b : Blocks) (s : State) (name : Name) (m : Meaning) (what : MeaningKind) →
+    Means many g b s name m what → IsOfLibrary m what
+of_library many g b s name m kind.Variable x = tt
+of_library many g b s name m kind.Parameter x = tt
+of_library many g b s name m kind.Global x = tt
+of_library many g b s name m kind.Function x = tt
+of_library many g b s name m kind.Library x = x
+
+library_known : {many : List ℕ} {g : Stage} {b : Blocks} {ks : List (List CaptureKind)} {s : State} →
+    Knows many g b ks s → HasLibrary s
+library_known {many} {g} {b} {ks} {s} known =
+    each_scope (λ name m. Means many g b s name m m.kind) (λ name m. IsOfLibrary m m.kind)
+    (λ name m h. of_library many g b s name m m.kind h) s.scopes known.names
+
 -- ---- out of it
 
 -- after a tick of this body
@@ -185,7 +202,8 @@ small_inside s t body k x = record {
 
 module _ {many : List ℕ} {b : Blocks} {ks : List (List CaptureKind)} {s t : State} (body : TickBody)
     (known : Known many stage.Function b ks s) (k : KeepsBody (tick_entered s) t)
-    (numbered : Small stage.Tick t → IsNumbered body) (P : Round → Type 0)
+    (numbered : Small stage.Tick t → IsNumbered body)
+    (names : HasLibrary (tick_entered s) → Names none (named_in body) (tick_entered s) t) (P : Round → Type 0)
     (here : (r : Round) → P (inside r t.ticks.captures) →
     BodyStands (round_tick r.function (kinds t.ticks.captures)) body)
     (d : Did many stage.Tick (blocks b s) ks (tick_entered s) t P) where
@@ -218,7 +236,14 @@ module _ {many : List ℕ} {b : Blocks} {ks : List (List CaptureKind)} {s t : St
       TickStands r.function (ticks.tick_of body) (kinds t.ticks.captures)
   body_stands r a =
       let x = here r (d.stands (inside r t.ticks.captures) (agrees_inside r a)) in
-      record { stands = x.stands; values = x.values; numbers = numbered (small_inside s t body k a.small); size = refl }
+      let small = small_inside s t body k a.small in
+      record {
+        stands = x.stands;
+        values = x.values;
+        captures = (names (library_known (known (small_before s t body k a.small)))).is small.tick.captures [] refl;
+        numbers = numbered small;
+        size = refl;
+      }
 
   its_kinds : (r : Round) → Agrees many stage.Function b (ks ++ kinds t.ticks.captures ∷ []) (left body t) r →
       slice_get r.function.ticks (count t.ticks.all) ≡ Some (kinds t.ticks.captures)

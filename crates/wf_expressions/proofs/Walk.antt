@@ -6,8 +6,8 @@ use Rattle.check_env.specs.declared.state.Stage.{Stage}
 use Rattle.check_env.specs.declared.state.Stage.TheVariants as stage
 use Rattle.check_env.specs.declared.state.State.{State}
 use Rattle.check_tables.specs.Images as images
-use Rattle.check_expressions.specs.Productions as productions
-use Rattle.check_expressions.specs.Rules.{Node, Named, Shape, Item, walk_rule}
+use Rattle.check_expressions_spec.specs.Productions as productions
+use Rattle.check_expressions_spec.specs.Rules.{Node, Named, Shape, Item, walk_rule}
 use Rattle.wf_invariant.specs.Steps.{at, EachCapture, Does}
 use Rattle.wf_invariant.specs.Good.{Good, PlainStage, Plain}
 use Rattle.wf_types.specs.Parts.{GoodParts}
@@ -73,8 +73,8 @@ walk_does many (Expr-F.Index line ab) h g =
 walk_does many (Expr-F.Call line f list) h g = call_does many line f list g h.0 h.1
 walk_does many (Expr-F.Step line op a) h g = (post_goes line op a g h).does
 walk_does many (Expr-F.Unary line op a) h g = (unary_goes line op a g h).does
-walk_does many (Expr-F.Tick line a) h g = expression_does many line a g h
-walk_does many (Expr-F.TickBlock line items) h g = block_does many line items g h
+walk_does many (Expr-F.Tick line a) h g = expression_does many line a g h.0 h.1
+walk_does many (Expr-F.TickBlock line items) h g = block_does many line items g h.0 h.1
 walk_does many (Expr-F.Cast line t a) h g = (cast_goes line t a g h.0 h.1).does
 walk_does many (Expr-F.Sizeof line t) h g = (size_goes line t g h).does
 walk_does many (Expr-F.Binary line op ab) h g =

@@ -2,7 +2,7 @@
 use Rattle.std.specs.Prelude.{ℕ, Option, List}
 use Rattle.tick_tree.specs.declared.syntax.Core.TheOpen.{Expr-F}
 use Rattle.check_env.specs.declared.state.Stage.{Stage}
-use Rattle.check_expressions.specs.Rules.{Node, Named, Shape, Item, walk_rule}
+use Rattle.check_expressions_spec.specs.Rules.{Node, Named, Shape, Item, walk_rule}
 use Rattle.wf_invariant.specs.Steps.{at, Does}
 use Rattle.wf_invariant.specs.Good.{Good}
 use Rattle.wf_types.specs.Parts.{GoodParts}

@@ -18,12 +18,12 @@ use Rattle.check_tables.specs.Walks.{Rule, ◌>>=◌}
 use Rattle.check_env.specs.declared.state.State.{State}
 use Rattle.check_env.specs.Locals.{meaning, parameter, with_parameter}
 use Rattle.check_env.specs.Names.{declare}
-use Rattle.check_expressions.specs.Rules.{Shape, Item}
-use Rattle.check_statements.specs.Declarations.{name_by}
+use Rattle.check_expressions_spec.specs.Rules.{Shape, Item}
+use Rattle.check_statements_spec.specs.Declarations.{name_by}
 use Rattle.check_globals.specs.Functions as functions
 use Rattle.check_globals.specs.Functions.{Given}
 use Rattle.check_globals.specs.Names as names
-use Rattle.check_programs.specs.Program as program
+use Rattle.check_programs_spec.specs.Program as program
 use Rattle.wf_growth_rules.specs.Light.{Light, After, Bounded, LightShape, LightItem, Each}
 use Rattle.wf_growth_rules.proofs.Walks.{weak, by_after, after, pure_light, lift_light, bind_light, ok_same}
 use Rattle.wf_growth_rules.proofs.States.{same_light, declare_light, depth_light, enter_light, leave_light, one_more}

@@ -19,13 +19,13 @@ use Rattle.check_tables.specs.Walks.{Rule}
 use Rattle.check_env.specs.declared.state.Stage.TheVariants as stage
 use Rattle.check_env.specs.declared.state.State.{State}
 use Rattle.check_env.specs.Locals.{meaning}
-use Rattle.check_expressions.specs.Rules.{Node, Shape}
-use Rattle.check_statements.specs.Declarations.{name_by}
-use Rattle.check_statements.specs.Initializers.{is_text}
+use Rattle.check_expressions_spec.specs.Rules.{Node, Shape}
+use Rattle.check_statements_spec.specs.Declarations.{name_by}
+use Rattle.check_statements_spec.specs.Initializers.{is_text}
 use Rattle.check_globals.specs.declared.statics.Row.{Row}
 use Rattle.check_globals.specs.Names as names
 use Rattle.check_globals.specs.Statics as statics
-use Rattle.check_programs.specs.Program as program
+use Rattle.check_programs_spec.specs.Program as program
 use Rattle.check_walk_spec.specs.Walk.{Start, Nothing, Value, Values, InitParts, Declarations}
 use Rattle.wf_growth_rules.specs.Light.{Light, After, Bounded, LightNode, Each, none, more}
 use Rattle.wf_growth_rules.proofs.Walks.{weak, by_after, after, pure_light, lift_light, bind_light, light_first}

@@ -13,7 +13,7 @@ use Rattle.check_tables.specs.Functions as tables
 use Rattle.check_env.specs.declared.state.State.{State}
 use Rattle.check_env.specs.Starts as starts
 use Rattle.check_globals.specs.Programs as programs
-use Rattle.check_programs.specs.Program as program
+use Rattle.check_programs_spec.specs.Program as program
 use Rattle.wf_growth_rules.specs.Light.{After, Bounded}
 use Rattle.wf_growth_rules.proofs.Walks.{weak, after, bind_light}
 use Rattle.wf_growth_rules.proofs.States.{declare_light}

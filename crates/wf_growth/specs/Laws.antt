@@ -7,13 +7,13 @@ use Rattle.tick_tree.specs.declared.syntax.External.{External}
 use Rattle.tick_tree.specs.declared.syntax.Stmt.{Stmt}
 use Rattle.tick_tree.specs.declared.tree.Tree.{Tree}
 use Rattle.typed_tree.specs.declared.program.TypedParts.{TypedParts}
-use Rattle.check_expressions.specs.Rules.{Item}
+use Rattle.check_expressions_spec.specs.Rules.{Item}
 use Rattle.check_globals.specs.Functions as functions
 use Rattle.check_globals.specs.Functions.{Given}
 use Rattle.check_env.specs.declared.state.State.{State}
 use Rattle.check_env.specs.Starts as starts
-use Rattle.check_programs.specs.Parameters.{parameters_of}
-use Rattle.check_programs.specs.Program as program
+use Rattle.check_programs_spec.specs.Parameters.{parameters_of}
+use Rattle.check_programs_spec.specs.Program as program
 use Rattle.check_walk_spec.specs.Walk.{item}
 use Rattle.wf_growth_rules.specs.Light.{After, Bounded, LightItem, Each}
 use Rattle.wf_growth.specs.Fresh.{Fresh}

@@ -8,9 +8,9 @@ use Rattle.tick_tree.specs.declared.base.Base.{Base}
 use Rattle.tick_tree.specs.declared.base.Prefix.{Prefix}
 use Rattle.tick_tree.specs.declared.fault.FaultKind.{FaultKind}
 use Rattle.check_env.specs.declared.state.Stage.{Stage}
-use Rattle.check_expressions.specs.Rules.{Node, Shape}
-use Rattle.check_statements.specs.Declarations as declarations
-use Rattle.check_statements.specs.Initializers as initializers
+use Rattle.check_expressions_spec.specs.Rules.{Node, Shape}
+use Rattle.check_statements_spec.specs.Declarations as declarations
+use Rattle.check_statements_spec.specs.Initializers as initializers
 use Rattle.check_walk_spec.specs.Walk as walk
 use Rattle.check_walk_spec.specs.Walk.{Start, Nothing, Value, Values, InitParts, Declarations, SuffixWalk, TypeWalk}
 use Rattle.wf_growth_rules.specs.Light.{Bounded, LightNode, LightShape, LightSuffix, LightNamed, LightType, Each, none}

@@ -14,9 +14,9 @@ use Rattle.check_env.specs.declared.state.Stage.TheVariants as stage
 use Rattle.check_env.specs.declared.state.State.{State}
 use Rattle.check_env.specs.Blocks.{depth, enter, leave}
 use Rattle.check_tables.specs.Walks.{Rule, ◌>>=◌, pure}
-use Rattle.check_expressions.specs.Productions as productions
-use Rattle.check_expressions.specs.Rules as rules
-use Rattle.check_expressions.specs.Rules.{Node, Named, Item}
+use Rattle.check_expressions_spec.specs.Productions as productions
+use Rattle.check_expressions_spec.specs.Rules as rules
+use Rattle.check_expressions_spec.specs.Rules.{Node, Named, Item}
 use Rattle.wf_growth_rules.specs.Light.{Bounded, LightNode, LightNamed, LightItem, Each, none, more}
 use Rattle.wf_growth_rules.proofs.Walks.{weak, by_after, after, pure_light, lift_light, bind_light, light_first}
 use Rattle.wf_growth_rules.proofs.States.{depth_light, enter_light, leave_light, string_node_light, entered_light}

@@ -7,7 +7,7 @@ use Rattle.check_operators.specs.declared.operand.Operand.{Operand}
 use Rattle.check_env.specs.declared.state.Around.{Around}
 use Rattle.check_env.specs.declared.state.Stage.{Stage}
 use Rattle.check_env.specs.declared.state.State.{State}
-use Rattle.check_expressions.specs.Rules as rules
+use Rattle.check_expressions_spec.specs.Rules as rules
 use Rattle.check_walk_spec.specs.Walk.{node, item}
 use Rattle.wf_growth_rules.specs.Light.{Light, LightItem, Each, none, more}
 use Rattle.wf_growth_rules.proofs.Expressions.{block_light}

@@ -19,7 +19,7 @@ use Rattle.tick_tree.specs.declared.syntax.Core.TheFolds.{fold-roll-Expr, fold-r
 use Rattle.tick_tree.specs.declared.syntax.Core.TheFolds.{fold-roll-Stmt, fold-roll-Suffix, fold-roll-Declaration}
 use Rattle.tick_tree.specs.declared.syntax.Core.TheFolds.{fold-roll-Declarator, fold-roll-Init, fold-roll-Parameter}
 use Rattle.tick_tree.specs.declared.syntax.Core.TheFolds.{fold-roll-Typename}
-use Rattle.check_expressions.specs.Rules.{Node, Named, Shape, Item}
+use Rattle.check_expressions_spec.specs.Rules.{Node, Named, Shape, Item}
 use Rattle.check_walk_spec.specs.Walk.{Start, InitParts, Declarations, SuffixWalk, TypeWalk, Core-W, Expr-W}
 use Rattle.check_walk_spec.specs.Walk.{Initializer-W}
 use Rattle.check_walk_spec.specs.Walk.{OptionalExpr-W, Stmt-W, Suffix-W, Declaration-W, Declarator-W, Init-W}

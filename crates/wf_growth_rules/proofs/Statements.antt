@@ -16,9 +16,9 @@ use Rattle.check_env.specs.declared.state.Around.{Around}
 use Rattle.check_env.specs.declared.state.Stage.{Stage}
 use Rattle.check_env.specs.declared.state.State.{State}
 use Rattle.check_tables.specs.Walks.{Rule}
-use Rattle.check_expressions.specs.Rules.{Node, Item}
-use Rattle.check_statements.specs.Rules as rules
-use Rattle.check_statements.specs.Statements as statements
+use Rattle.check_expressions_spec.specs.Rules.{Node, Item}
+use Rattle.check_statements_spec.specs.Rules as rules
+use Rattle.check_statements_spec.specs.Statements as statements
 use Rattle.wf_growth_rules.specs.Light.{Light, After, Bounded, LightNode, LightItem, LightOptional, LightSuffix}
 use Rattle.wf_growth_rules.specs.Light.{LightType, Each, none, more, absent, present}
 use Rattle.wf_growth_rules.proofs.Walks.{weak, by_after, pure_light, lift_light, read_light, bind_light}

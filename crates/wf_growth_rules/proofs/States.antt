@@ -33,7 +33,7 @@ use Rattle.check_tables.specs.declared.frame.Home.{Home}
 use Rattle.check_tables.specs.declared.frame.Frame.{Frame}
 use Rattle.check_tables.specs.Frames as frames
 use Rattle.check_tables.specs.Walks.{Rule, ◌>>=◌}
-use Rattle.check_expressions.specs.Productions as productions
+use Rattle.check_expressions_spec.specs.Productions as productions
 use Rattle.wf_growth_rules.specs.Light.{Light, After, Bounded}
 use Rattle.wf_growth_rules.proofs.Walks.{light_refl, weak, by_after, after, lift_after, lift_light, bind_light}
 

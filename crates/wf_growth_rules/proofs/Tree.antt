@@ -23,7 +23,7 @@ use Rattle.tick_tree.specs.declared.syntax.Core.TheFolds.{ind-Initializer, ind-O
 use Rattle.tick_tree.specs.declared.syntax.Core.TheFolds.{ind-Declaration, ind-Declarator, ind-Init, ind-Parameter}
 use Rattle.tick_tree.specs.declared.syntax.Core.TheFolds.{ind-Typename}
 use Rattle.check_operators.specs.Operands as nodes
-use Rattle.check_statements.specs.Rules as statement_rules
+use Rattle.check_statements_spec.specs.Rules as statement_rules
 use Rattle.check_walk_spec.specs.Walk.{core_rule, expr_rule, start_rule, optional_rule, stmt_rule, suffix_walk}
 use Rattle.check_walk_spec.specs.Walk.{type_walks}
 use Rattle.check_walk_spec.specs.Walk.{declaration_rule, declarator_rule, init_rule, parameter_rule, typename_rule}

@@ -12,10 +12,10 @@ use Rattle.check_env.specs.declared.state.State.{State}
 use Rattle.check_env.specs.Locals as locals
 use Rattle.check_env.specs.Names as names
 use Rattle.check_tables.specs.Walks.{Rule}
-use Rattle.check_expressions.specs.Productions as productions
-use Rattle.check_expressions.specs.Rules as rules
-use Rattle.check_expressions.specs.Rules.{Node, Named, Item}
-use Rattle.check_statements.specs.Rules as statements
+use Rattle.check_expressions_spec.specs.Productions as productions
+use Rattle.check_expressions_spec.specs.Rules as rules
+use Rattle.check_expressions_spec.specs.Rules.{Node, Named, Item}
+use Rattle.check_statements_spec.specs.Rules as statements
 use Rattle.wf_growth_rules.specs.Light.{Bounded, LightNode, LightNamed, LightItem, LightOptional, LightSuffix}
 use Rattle.wf_growth_rules.specs.Light.{LightType, Each}
 

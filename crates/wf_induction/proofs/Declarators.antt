@@ -9,7 +9,7 @@ use Rattle.tick_tree.specs.declared.syntax.Core.TheOpen.{Core-F}
 use Rattle.check_env.specs.declared.state.Stage.{Stage}
 use Rattle.check_env.specs.declared.state.State.{State}
 use Rattle.check_tables.specs.Walks.{Rule, pure}
-use Rattle.check_statements.specs.Declarations as declarations
+use Rattle.check_statements_spec.specs.Declarations as declarations
 use Rattle.check_walk_spec.specs.Walk.{Start, Nothing, Value, Values, Core-W, Declarator-W, Suffix-W, Typename-W}
 use Rattle.check_walk_spec.specs.Walk.{Parameter-W, core_rule, declarator_rule, suffix_walk, suffix_of, SuffixWalk}
 use Rattle.check_walk_spec.specs.Walk.{TypeWalk}

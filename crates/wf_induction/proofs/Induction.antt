@@ -25,7 +25,7 @@ use Rattle.tick_tree.specs.declared.syntax.Core.TheFolds.{map-Typename, fold-rol
 use Rattle.tick_tree.specs.declared.syntax.Core.TheFolds.{fold-roll-Initializer, fold-roll-OptionalExpr, fold-roll-Stmt}
 use Rattle.tick_tree.specs.declared.syntax.Core.TheFolds.{fold-roll-Suffix, fold-roll-Declaration, fold-roll-Declarator}
 use Rattle.tick_tree.specs.declared.syntax.Core.TheFolds.{fold-roll-Init, fold-roll-Parameter, fold-roll-Typename}
-use Rattle.check_expressions.specs.Rules.{Node, Named, Shape, Item}
+use Rattle.check_expressions_spec.specs.Rules.{Node, Named, Shape, Item}
 use Rattle.check_walk_spec.specs.Walk.{Start, InitParts, Declarations, SuffixWalk, TypeWalk, Core-W, Expr-W}
 use Rattle.check_walk_spec.specs.Walk.{Initializer-W}
 use Rattle.check_walk_spec.specs.Walk.{OptionalExpr-W, Stmt-W, Suffix-W, Declaration-W, Declarator-W, Init-W}

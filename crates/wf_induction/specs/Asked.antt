@@ -2,7 +2,7 @@
 use Rattle.std.specs.Prelude.{Option}
 use Rattle.tick_tree.specs.declared.syntax.Core.TheOpen.{Core-F, Expr-F, Initializer-F, OptionalExpr-F, Stmt-F}
 use Rattle.tick_tree.specs.declared.syntax.Core.TheOpen.{Suffix-F}
-use Rattle.check_expressions.specs.Rules.{Node, Named, Shape, Item}
+use Rattle.check_expressions_spec.specs.Rules.{Node, Named, Shape, Item}
 use Rattle.check_walk_spec.specs.Walk.{Start, InitParts, Declarations, SuffixWalk, TypeWalk, Core-W, Expr-W}
 use Rattle.check_walk_spec.specs.Walk.{Initializer-W}
 use Rattle.check_walk_spec.specs.Walk.{OptionalExpr-W, Stmt-W, Suffix-W, Declaration-W, Declarator-W, Init-W}

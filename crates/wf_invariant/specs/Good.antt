@@ -12,7 +12,7 @@ use Rattle.check_env.specs.declared.state.Stage.{Stage}
 use Rattle.check_env.specs.declared.state.Stage.TheVariants as stage
 use Rattle.check_env.specs.declared.state.State.{State}
 use Rattle.check_tables.specs.Walks.{Rule}
-use Rattle.check_expressions.specs.Rules.{Node, Named, Shape}
+use Rattle.check_expressions_spec.specs.Rules.{Node, Named, Shape}
 use Rattle.wellformed.specs.Places.{Around}
 use Rattle.wf_scopes.specs.Right.{IsRight}
 use Rattle.wf_values.specs.Used.{IsUsed}

@@ -8,7 +8,7 @@ use Rattle.check_env.specs.declared.state.Stage.{Stage}
 use Rattle.check_env.specs.declared.state.Stage.TheVariants as stage
 use Rattle.check_env.specs.declared.state.State.{State}
 use Rattle.check_tables.specs.Walks.{Rule}
-use Rattle.check_expressions.specs.Rules.{Item}
+use Rattle.check_expressions_spec.specs.Rules.{Item}
 use Rattle.wellformed.specs.Counts.{one_if}
 use Rattle.wellformed.specs.Places.{Around, Act, act, in_function, is_label, values_of, defaults_of, all_different}
 use Rattle.wellformed.specs.Values.{uses_values}

@@ -4,3 +4,4 @@ pub mod Items
 pub mod Kept
 pub mod Known
 pub mod Steps
+pub mod Captured

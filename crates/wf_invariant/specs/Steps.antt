@@ -15,6 +15,7 @@ use Rattle.check_env.specs.declared.state.State.{State}
 use Rattle.wellformed.specs.Places.{Around, in_scope, in_function, part, stands_as_tick}
 use Rattle.wellformed.specs.Values.{body_uses_values, is_used}
 use Rattle.wellformed.specs.Accepted.{IsNumbered}
+use Rattle.wellformed.specs.Captured.{named_in}
 use Rattle.wf_invariant.specs.Kept.{Starts}
 use Rattle.wf_invariant.specs.Known.{Blocks, of_function, of_tick, has, Small, Known}
 
@@ -84,6 +85,7 @@ round_tick a ks = record {
 pub record TickStands (a : Around) (t : Tick) (ks : List CaptureKind) : Type 0 where
   pub stands : stands_as_tick t.body (round_tick a ks) ≡ true
   pub values : body_uses_values t.body ≡ true
+  pub captures : named_in t.body [] ≡ ks
   pub numbers : IsNumbered t.body
   pub size : t.size ≡ min (body_size t.body) NODE_TOP
 

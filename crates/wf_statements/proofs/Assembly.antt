@@ -10,10 +10,10 @@ use Rattle.check_env.specs.declared.state.Stage.{Stage}
 use Rattle.check_env.specs.declared.state.Stage.TheVariants as stage
 use Rattle.check_env.specs.declared.state.State.{State}
 use Rattle.check_tables.specs.Walks.{Rule, pure, lift}
-use Rattle.check_expressions.specs.Rules.{Node, Named, Shape, Item, each, block}
-use Rattle.check_statements.specs.Rules as rules
-use Rattle.check_statements.specs.Rules.{stmt_walk}
-use Rattle.check_statements.specs.Statements as statements
+use Rattle.check_expressions_spec.specs.Rules.{Node, Named, Shape, Item, each, block}
+use Rattle.check_statements_spec.specs.Rules as rules
+use Rattle.check_statements_spec.specs.Rules.{stmt_walk}
+use Rattle.check_statements_spec.specs.Statements as statements
 use Rattle.wellformed.specs.Places.{Around, act}
 use Rattle.wellformed.specs.Values.{uses_values}
 use Rattle.wf_invariant.specs.Known.{Blocks, Known}

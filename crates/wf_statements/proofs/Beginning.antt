@@ -17,11 +17,11 @@ use Rattle.check_env.specs.declared.state.State.{State}
 use Rattle.check_env.specs.Locals.{local}
 use Rattle.check_tables.specs.Frames.{words}
 use Rattle.check_tables.specs.Walks.{Rule, ◌>>=◌, pure, lift}
-use Rattle.check_expressions.specs.Rules.{Node}
-use Rattle.check_statements.specs.Declarations as declarations
-use Rattle.check_statements.specs.Declarations.{declared_in}
-use Rattle.check_statements.specs.Initializers as initializers
-use Rattle.check_statements.specs.Initializers.{from_value, initialized}
+use Rattle.check_expressions_spec.specs.Rules.{Node}
+use Rattle.check_statements_spec.specs.Declarations as declarations
+use Rattle.check_statements_spec.specs.Declarations.{declared_in}
+use Rattle.check_statements_spec.specs.Initializers as initializers
+use Rattle.check_statements_spec.specs.Initializers.{from_value, initialized}
 use Rattle.wellformed.specs.Places.{Around}
 use Rattle.wf_scopes.specs.Right.{IsRight}
 use Rattle.wf_scopes.proofs.Places.{places_stand}

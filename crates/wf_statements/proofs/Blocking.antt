@@ -11,11 +11,11 @@ use Rattle.check_env.specs.declared.state.Around.{Around as Standing}
 use Rattle.check_env.specs.declared.state.State.{State}
 use Rattle.check_env.specs.Blocks.{depth, enter, leave}
 use Rattle.check_tables.specs.Walks.{Rule, ◌>>=◌, pure, lift}
-use Rattle.check_expressions.specs.Rules.{Node, Item, each}
-use Rattle.check_statements.specs.Rules as rules
-use Rattle.check_statements.specs.Statements as statements
-use Rattle.check_statements.specs.Statements.{switch_node, return_node, switch_entered, with_labels, case_node}
-use Rattle.check_statements.specs.Statements.{default_node}
+use Rattle.check_expressions_spec.specs.Rules.{Node, Item, each}
+use Rattle.check_statements_spec.specs.Rules as rules
+use Rattle.check_statements_spec.specs.Statements as statements
+use Rattle.check_statements_spec.specs.Statements.{switch_node, return_node, switch_entered, with_labels, case_node}
+use Rattle.check_statements_spec.specs.Statements.{default_node}
 use Rattle.wf_types.proofs.Walks.{ran, ok_same, pure_same, pure_value}
 use Rattle.wf_types.proofs.Blocks.{inside, behind, back}
 use Rattle.wf_statements.proofs.Runs.{gave, followed, judged}

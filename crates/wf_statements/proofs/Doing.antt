@@ -15,9 +15,9 @@ use Rattle.check_env.specs.declared.state.Stage.{Stage}
 use Rattle.check_env.specs.declared.state.Stage.TheVariants as stage
 use Rattle.check_env.specs.declared.state.State.{State}
 use Rattle.check_tables.specs.Walks.{◌>>=◌, pure}
-use Rattle.check_expressions.specs.Rules.{Node, Item, each}
-use Rattle.check_statements.specs.Rules as rules
-use Rattle.check_statements.specs.Statements as statements
+use Rattle.check_expressions_spec.specs.Rules.{Node, Item, each}
+use Rattle.check_statements_spec.specs.Rules as rules
+use Rattle.check_statements_spec.specs.Statements as statements
 use Rattle.wellformed.specs.Places.{Around, looped}
 use Rattle.wf_scopes.specs.Right.{Stands}
 use Rattle.wf_scopes.proofs.Operands.{prefixes_stand}

@@ -196,8 +196,16 @@ tick_out : (vs : List Stmt) (a : Around) (ts : List Tick) (ks : List (List Captu
 tick_out vs a [] [] h = tt
 tick_out vs a [] (k ∷ ks) h = h
 tick_out vs a (t ∷ ts) [] h = h
-tick_out vs a (t ∷ ts) (k ∷ ks) h =
-    (record { stands = h.0.stands; values = h.0.values; numbers = h.0.numbers; size = h.0.size }, tick_out vs a ts ks h.1)
+tick_out vs a (t ∷ ts) (k ∷ ks) h = (
+  record {
+    stands = h.0.stands;
+    values = h.0.values;
+    captures = h.0.captures;
+    numbers = h.0.numbers;
+    size = h.0.size;
+  },
+  tick_out vs a ts ks h.1,
+)
 
 pub ticks_out : (g : Stage) (vs : List Stmt) (r : Round) (ts : List Tick) (ks : List (List CaptureKind)) →
     EachTick (in_block g vs r).function ts ks → EachTick r.function ts ks

@@ -15,10 +15,10 @@ use Rattle.check_tables.specs.Labels.{is_member}
 use Rattle.check_env.specs.declared.state.Around.{Around as Standing}
 use Rattle.check_env.specs.declared.state.State.{State}
 use Rattle.check_tables.specs.Walks.{◌>>=◌, lift}
-use Rattle.check_expressions.specs.Rules.{Node}
-use Rattle.check_statements.specs.Rules as rules
-use Rattle.check_statements.specs.Statements as statements
-use Rattle.check_statements.specs.Statements.{return_node, with_labels, case_node, default_node}
+use Rattle.check_expressions_spec.specs.Rules.{Node}
+use Rattle.check_statements_spec.specs.Rules as rules
+use Rattle.check_statements_spec.specs.Statements as statements
+use Rattle.check_statements_spec.specs.Statements.{return_node, with_labels, case_node, default_node}
 use Rattle.wellformed.proofs.Bools.{first_true, second_true}
 use Rattle.wf_types.proofs.Walks.{ran, ok_same, pure_same, pure_value, lifted}
 use Rattle.wf_statements.proofs.Runs.{gave}

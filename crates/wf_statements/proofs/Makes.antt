@@ -8,9 +8,9 @@ use Rattle.check_env.specs.declared.state.Around.{Around as Standing}
 use Rattle.check_env.specs.declared.state.Stage.{Stage}
 use Rattle.check_env.specs.declared.state.State.{State}
 use Rattle.check_tables.specs.Walks.{Rule, ◌>>=◌, pure}
-use Rattle.check_expressions.specs.Rules.{Node, Item, each}
-use Rattle.check_statements.specs.Statements as statements
-use Rattle.check_statements.specs.Statements.{with_labels}
+use Rattle.check_expressions_spec.specs.Rules.{Node, Item, each}
+use Rattle.check_statements_spec.specs.Statements as statements
+use Rattle.check_statements_spec.specs.Statements.{with_labels}
 use Rattle.wf_invariant.specs.Kept.{Keeps}
 use Rattle.wf_invariant.specs.Good.{GoodNode}
 use Rattle.wf_invariant.specs.Items.{MayStand, Labelled, GoodStatement, GoodItem}

@@ -9,7 +9,7 @@ use Rattle.typed_tree.proofs.SizeLaws.{statement_size_while, statement_size_do, 
 use Rattle.typed_tree.proofs.SizeLaws.{statement_size_forstep, statement_size_switch}
 use Rattle.check_operators.specs.declared.operand.Operand.{Operand}
 use Rattle.check_operators.specs.Operands.{effect}
-use Rattle.check_statements.specs.Statements as statements
+use Rattle.check_statements_spec.specs.Statements as statements
 use Rattle.wellformed.specs.Counts.{objects_at, declarations_of}
 use Rattle.wellformed.specs.Places.{act}
 use Rattle.wellformed.proofs.Equations.{act_eval, act_block, act_if, act_ifelse, act_while, act_do, act_for}

@@ -9,11 +9,11 @@ use Rattle.check_env.specs.declared.state.Around.{Around as Standing}
 use Rattle.check_env.specs.declared.state.Stage.{Stage}
 use Rattle.check_env.specs.declared.state.State.{State}
 use Rattle.check_tables.specs.Walks.{Rule, ◌>>=◌, pure, lift}
-use Rattle.check_expressions.specs.Rules.{Node, Item}
-use Rattle.check_statements.specs.Rules as rules
-use Rattle.check_statements.specs.Statements as statements
-use Rattle.check_statements.specs.Statements.{if_node, if_else_node, while_node, do_node, for_node, switch_node}
-use Rattle.check_statements.specs.Statements.{return_node, switch_entered, with_labels}
+use Rattle.check_expressions_spec.specs.Rules.{Node, Item}
+use Rattle.check_statements_spec.specs.Rules as rules
+use Rattle.check_statements_spec.specs.Statements as statements
+use Rattle.check_statements_spec.specs.Statements.{if_node, if_else_node, while_node, do_node, for_node, switch_node}
+use Rattle.check_statements_spec.specs.Statements.{return_node, switch_entered, with_labels}
 use Rattle.wf_types.proofs.Walks.{ran, ok_same, pure_same, pure_value, lifted}
 
 -- ---- single steps

@@ -8,7 +8,7 @@ use Rattle.typed_tree.specs.declared.expression.Stmt.TheVariants as st
 use Rattle.check_operators.specs.declared.operand.Operand.{Operand}
 use Rattle.check_operators.specs.Operands.{effect}
 use Rattle.check_env.specs.declared.state.Around.{Around as Standing}
-use Rattle.check_statements.specs.Statements as statements
+use Rattle.check_statements_spec.specs.Statements as statements
 use Rattle.wellformed.specs.Places.{Around, Act, act, part, within, looped, switched, all_stand, all_declare, all_items}
 use Rattle.wellformed.specs.Places.{is_label, all_different, values_of, defaults_of}
 use Rattle.wellformed.specs.Values.{uses_values, is_used, is_right, all_true}

@@ -12,9 +12,9 @@ use Rattle.check_env.specs.declared.state.Around.{Around as Standing}
 use Rattle.check_env.specs.declared.state.Stage.{Stage}
 use Rattle.check_env.specs.declared.state.Stage.TheVariants as stage
 use Rattle.check_env.specs.declared.state.State.{State}
-use Rattle.check_expressions.specs.Rules.{Node, Item}
-use Rattle.check_statements.specs.Statements as statements
-use Rattle.check_statements.specs.Statements.{with_labels}
+use Rattle.check_expressions_spec.specs.Rules.{Node, Item}
+use Rattle.check_statements_spec.specs.Statements as statements
+use Rattle.check_statements_spec.specs.Statements.{with_labels}
 use Rattle.wellformed.specs.Counts.{one_if}
 use Rattle.wellformed.specs.Places.{Around, act, within, switched, all_declare, all_items, values_of, defaults_of}
 use Rattle.wellformed.specs.Places.{all_different}

@@ -9,8 +9,8 @@ use Rattle.std.specs.Prelude.{Bool, true, false}
 use Rattle.check_env.specs.declared.state.Stage.{Stage}
 use Rattle.check_env.specs.declared.state.Stage.TheVariants as stage
 use Rattle.check_tables.specs.Walks.{◌>>=◌, lift}
-use Rattle.check_expressions.specs.Rules.{Shape}
-use Rattle.check_statements.specs.Declarations.{declared_in, tick_breaks}
+use Rattle.check_expressions_spec.specs.Rules.{Shape}
+use Rattle.check_statements_spec.specs.Declarations.{declared_in, tick_breaks}
 use Rattle.wf_values.proofs.Declared.{types_use}
 use Rattle.wf_invariant.specs.Known.{IsObject}
 use Rattle.wf_invariant.specs.Good.{GoodShape, any_computed, any_counted}

@@ -15,10 +15,10 @@ use Rattle.check_env.specs.declared.state.Stage.{Stage}
 use Rattle.check_env.specs.declared.state.Stage.TheVariants as stage
 use Rattle.check_env.specs.declared.state.State.{State}
 use Rattle.check_tables.specs.Walks.{◌>>=◌, pure}
-use Rattle.check_expressions.specs.Rules.{Node, Item, each, block}
-use Rattle.check_statements.specs.Rules as rules
-use Rattle.check_statements.specs.Statements as statements
-use Rattle.check_statements.specs.Statements.{with_labels}
+use Rattle.check_expressions_spec.specs.Rules.{Node, Item, each, block}
+use Rattle.check_statements_spec.specs.Rules as rules
+use Rattle.check_statements_spec.specs.Statements as statements
+use Rattle.check_statements_spec.specs.Statements.{with_labels}
 use Rattle.wellformed.specs.Counts.{one_if}
 use Rattle.wellformed.specs.Places.{all_different}
 use Rattle.wellformed.proofs.Equations.{act_case, act_default}

@@ -12,11 +12,11 @@ use Rattle.check_env.specs.declared.state.Around.{Around as Standing}
 use Rattle.check_env.specs.declared.state.Stage.{Stage}
 use Rattle.check_env.specs.declared.state.State.{State}
 use Rattle.check_tables.specs.Walks.{Rule, ◌>>=◌, pure, lift}
-use Rattle.check_expressions.specs.Rules.{Node, Named, Shape, Item, each, block}
-use Rattle.check_statements.specs.Declarations as declarations
-use Rattle.check_statements.specs.Declarations.{declared_in}
-use Rattle.check_statements.specs.Initializers as initializers
-use Rattle.check_statements.specs.Rules.{stmt_walk}
+use Rattle.check_expressions_spec.specs.Rules.{Node, Named, Shape, Item, each, block}
+use Rattle.check_statements_spec.specs.Declarations as declarations
+use Rattle.check_statements_spec.specs.Declarations.{declared_in}
+use Rattle.check_statements_spec.specs.Initializers as initializers
+use Rattle.check_statements_spec.specs.Rules.{stmt_walk}
 use Rattle.wf_invariant.specs.Good.{GoodNode, GoodShape, any_computed, any_counted}
 use Rattle.wf_invariant.specs.Items.{MayStand, GoodStatement, GoodItem, Few, GoodBlock}
 use Rattle.wf_types.specs.Parts.{EachPart}

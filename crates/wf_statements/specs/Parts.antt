@@ -12,8 +12,8 @@ use Rattle.check_env.specs.declared.state.Stage.{Stage}
 use Rattle.check_env.specs.declared.state.State.{State}
 use Rattle.check_tables.specs.Frames.{words}
 use Rattle.check_tables.specs.Walks.{Rule}
-use Rattle.check_expressions.specs.Rules.{Node, Named, Shape, Item}
-use Rattle.check_statements.specs.Initializers.{is_array}
+use Rattle.check_expressions_spec.specs.Rules.{Node, Named, Shape, Item}
+use Rattle.check_statements_spec.specs.Initializers.{is_array}
 use Rattle.wf_invariant.specs.Kept.{IsKeeping}
 use Rattle.wf_invariant.specs.Known.{Blocks, IsObject, Known}
 use Rattle.wf_invariant.specs.Steps.{at, Did}

@@ -23,8 +23,8 @@ use Rattle.check_env.specs.declared.state.Stage.{Stage}
 use Rattle.check_env.specs.declared.state.Stage.TheVariants as stage
 use Rattle.check_env.specs.declared.state.State.{State}
 use Rattle.check_env.specs.Names.{captured}
-use Rattle.check_expressions.specs.Productions
-use Rattle.check_expressions.specs.Rules.{Node, Named, Shape, Item, both, unary, cast, size, binary, walk_rule}
+use Rattle.check_expressions_spec.specs.Productions
+use Rattle.check_expressions_spec.specs.Rules.{Node, Named, Shape, Item, both, unary, cast, size, binary, walk_rule}
 use Rattle.wellformed.specs.Places.{Around}
 use Rattle.wf_scopes.specs.Right.{Unless}
 use Rattle.wf_invariant.specs.Kept.{Starts}

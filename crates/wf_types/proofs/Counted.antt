@@ -9,7 +9,7 @@ use Rattle.check_types.specs.Shapes.{is_void}
 use Rattle.check_operators.specs.declared.operand.Operand.{Operand}
 use Rattle.check_operators.specs.Operands.{effect}
 use Rattle.check_constants.specs.Constants.{constant}
-use Rattle.check_statements.specs.Declarations.{length_by, length_of}
+use Rattle.check_statements_spec.specs.Declarations.{length_by, length_of}
 use Rattle.wellformed.proofs.Bools.{both_false, first_false, second_false}
 use Rattle.wf_invariant.specs.Good.{is_counted_step, any_counted}
 

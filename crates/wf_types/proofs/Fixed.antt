@@ -27,10 +27,10 @@ use Rattle.check_env.specs.declared.state.Stage.{Stage}
 use Rattle.check_env.specs.declared.state.Stage.TheVariants as stage
 use Rattle.check_env.specs.declared.state.State.{State}
 use Rattle.check_env.specs.Blocks.{enter, leave}
-use Rattle.check_expressions.specs.Productions
-use Rattle.check_expressions.specs.Rules.{Node, Named, Shape, Item, both, unary, cast, size, binary, walk_rule}
-use Rattle.check_statements.specs.Declarations.{length_of, declare_parameter}
-use Rattle.check_statements.specs.Rules.{length_step, each_type, list_step, suffix_rule, each_step}
+use Rattle.check_expressions_spec.specs.Productions
+use Rattle.check_expressions_spec.specs.Rules.{Node, Named, Shape, Item, both, unary, cast, size, binary, walk_rule}
+use Rattle.check_statements_spec.specs.Declarations.{length_of, declare_parameter}
+use Rattle.check_statements_spec.specs.Rules.{length_step, each_type, list_step, suffix_rule, each_step}
 use Rattle.wf_types.specs.Parts.{EachPart, HasForm, IsFixed, IsFixedBut, FixedNamed, FixedShape, FixedSuffix}
 use Rattle.wf_types.specs.Parts.{FixedParameter, FixedOptional, FixedParts, FixedSuffixParts}
 use Rattle.wf_invariant.specs.Good.{is_computed_step, any_computed}

@@ -21,7 +21,7 @@ use Rattle.check_types.specs.Shapes as shapes
 use Rattle.check_operators.specs.declared.operand.Operand.{Operand}
 use Rattle.check_env.specs.declared.state.Stage.{Stage}
 use Rattle.check_env.specs.declared.state.Stage.TheVariants as stage
-use Rattle.check_statements.specs.Declarations.{tick_breaks, lowered, declared_in, length_of}
+use Rattle.check_statements_spec.specs.Declarations.{tick_breaks, lowered, declared_in, length_of}
 use Rattle.wellformed.proofs.Bools.{both_false, first_false, second_false}
 use Rattle.wf_values.proofs.Declared.{first_none, second_none, unbroken}
 use Rattle.wf_invariant.specs.Good.{is_computed, is_computed_step, any_computed}

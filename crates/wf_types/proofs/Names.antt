@@ -20,7 +20,7 @@ use Rattle.check_env.specs.declared.state.Stage.TheVariants as stage
 use Rattle.check_env.specs.declared.state.State.{State}
 use Rattle.check_env.specs.Names.{captured, addressed, outer_variable, in_tick, under_dollar, variable, parameter}
 use Rattle.check_env.specs.Names.{global, meant, named_by, named}
-use Rattle.check_expressions.specs.Productions.{string_node, tick_entered, tick_left}
+use Rattle.check_expressions_spec.specs.Productions.{string_node, tick_entered, tick_left}
 use Rattle.wf_invariant.specs.Kept.{KeepsStage, Keeps, IsKeeping}
 use Rattle.wf_types.proofs.Fronts.{starts_refl, starts_behind}
 use Rattle.wf_types.proofs.Walks.{ok_same}

@@ -24,7 +24,7 @@ use Rattle.check_operators.specs.Operands.{value_of, settled, made}
 use Rattle.check_operators.specs.Stages as stages
 use Rattle.check_lvalues.specs.Places as places
 use Rattle.check_env.specs.declared.state.Stage.{Stage}
-use Rattle.check_expressions.specs.Productions
+use Rattle.check_expressions_spec.specs.Productions
 use Rattle.wellformed.specs.Places.{Around}
 use Rattle.wellformed.specs.Values.{is_used}
 use Rattle.wellformed.proofs.Equations.{part_capture}

@@ -24,11 +24,11 @@ use Rattle.check_tables.specs.Ticks as ticks
 use Rattle.check_env.specs.declared.state.Stage.{Stage}
 use Rattle.check_env.specs.declared.state.Stage.TheVariants as stage
 use Rattle.check_env.specs.declared.state.State.{State}
-use Rattle.check_expressions.specs.Entries.{staging_entry}
-use Rattle.check_expressions.specs.Productions
-use Rattle.check_expressions.specs.Rules.{Node, Named, Shape, Item, block, tick_around, both, arguments, library_of}
-use Rattle.check_expressions.specs.Rules.{library_call, plain_call, call_of, call, tick_expression, tick_block, compile}
-use Rattle.check_expressions.specs.Rules.{local, parameter, unary, cast, choice, post, size, comma, walk_rule}
+use Rattle.check_expressions_spec.specs.Entries.{staging_entry}
+use Rattle.check_expressions_spec.specs.Productions
+use Rattle.check_expressions_spec.specs.Rules.{Node, Named, Shape, Item, block, tick_around, both, arguments, library_of}
+use Rattle.check_expressions_spec.specs.Rules.{library_call, plain_call, call_of, call, tick_expression, tick_block, compile}
+use Rattle.check_expressions_spec.specs.Rules.{local, parameter, unary, cast, choice, post, size, comma, walk_rule}
 use Rattle.wf_invariant.specs.Kept.{Keeps, Grows, IsKeeping}
 use Rattle.wf_invariant.specs.Good.{GoodNode, GoodNamed}
 use Rattle.wf_invariant.specs.Items.{KeepsBlock, GoodBlock}
@@ -262,8 +262,8 @@ walk_keeps many (Expr-F.Index line ab) h g = both_node ab.0 ab.1 g (Productions.
 walk_keeps many (Expr-F.Call line f list) h g = call_keeps many line f list g h.0.keeps h.1
 walk_keeps many (Expr-F.Step line op a) h g = post_keeps line op a g h.keeps
 walk_keeps many (Expr-F.Unary line op a) h g = unary_keeps line op a g h.keeps
-walk_keeps many (Expr-F.Tick line a) h g = tick_expression_keeps line a g h.keeps
-walk_keeps many (Expr-F.TickBlock line items) h g = tick_block_keeps many line items g h
+walk_keeps many (Expr-F.Tick line a) h g = tick_expression_keeps line a g h.0.keeps
+walk_keeps many (Expr-F.TickBlock line items) h g = tick_block_keeps many line items g h.0
 walk_keeps many (Expr-F.Cast line t a) h g = cast_keeps line t a g (named_part t h.0) h.1.keeps
 walk_keeps many (Expr-F.Sizeof line t) h g = size_keeps line t g (named_part t h)
 walk_keeps many (Expr-F.Binary line op ab) h g =

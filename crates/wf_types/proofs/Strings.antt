@@ -5,8 +5,8 @@ use Rattle.check_operators.specs.declared.operand.Operand.{Operand}
 use Rattle.check_env.specs.declared.state.Stage.{Stage}
 use Rattle.check_env.specs.declared.state.Stage.TheVariants as stage
 use Rattle.check_env.specs.declared.state.State.{State}
-use Rattle.check_expressions.specs.Productions.{string_node}
-use Rattle.check_expressions.specs.Rules.{Node, Named, Shape, Item, walk_rule}
+use Rattle.check_expressions_spec.specs.Productions.{string_node}
+use Rattle.check_expressions_spec.specs.Rules.{Node, Named, Shape, Item, walk_rule}
 use Rattle.wf_invariant.specs.Good.{PlainStage, Plain}
 use Rattle.wf_types.specs.Parts.{GoodParts, IsString}
 use Rattle.wf_types.proofs.Fronts.{starts_refl}

@@ -23,9 +23,9 @@ use Rattle.check_env.specs.declared.state.State.{State}
 use Rattle.check_env.specs.Blocks.{enter, leave}
 use Rattle.check_env.specs.Locals.{list_meaning, list_parameter}
 use Rattle.check_env.specs.Names.{declared_by, declare}
-use Rattle.check_expressions.specs.Rules.{Node, Named, Shape, Item}
-use Rattle.check_statements.specs.Declarations.{length_of, declare_parameter}
-use Rattle.check_statements.specs.Rules.{computed_step, length_step, each_type, list_step, suffix_rule, each_step}
+use Rattle.check_expressions_spec.specs.Rules.{Node, Named, Shape, Item}
+use Rattle.check_statements_spec.specs.Declarations.{length_of, declare_parameter}
+use Rattle.check_statements_spec.specs.Rules.{computed_step, length_step, each_type, list_step, suffix_rule, each_step}
 use Rattle.wellformed.proofs.Bools.{first_false, both_false}
 use Rattle.wf_invariant.specs.Kept.{outer}
 use Rattle.wf_invariant.specs.Good.{PlainStage, Plain, PlainList, is_computed_step, any_computed, is_counted_step}

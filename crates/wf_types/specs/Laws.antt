@@ -8,8 +8,8 @@ use Rattle.check_env.specs.declared.state.Stage.{Stage}
 use Rattle.check_env.specs.declared.state.Stage.TheVariants as stage
 use Rattle.check_env.specs.declared.state.State.{State}
 use Rattle.check_tables.specs.Walks.{Rule}
-use Rattle.check_expressions.specs.Rules.{Node, Named, Shape, Item, walk_rule}
-use Rattle.check_statements.specs.Rules.{suffix_rule}
+use Rattle.check_expressions_spec.specs.Rules.{Node, Named, Shape, Item, walk_rule}
+use Rattle.check_statements_spec.specs.Rules.{suffix_rule}
 use Rattle.wf_invariant.specs.Kept.{Keeps, IsKeeping}
 use Rattle.wf_invariant.specs.Good.{Plain, Anywhere, GoodSuffix}
 use Rattle.wf_types.specs.Parts.{GoodParts, HasForm, IsString, GoodSuffixParts, IsFixed, FixedParts, FixedSuffix}

@@ -7,7 +7,8 @@ use Rattle.check_env.specs.declared.state.Stage.{Stage}
 use Rattle.check_env.specs.declared.state.Stage.TheVariants as stage
 use Rattle.check_env.specs.declared.state.State.{State}
 use Rattle.check_tables.specs.Walks.{Rule}
-use Rattle.check_expressions.specs.Rules.{Node, Named, Shape, Item, block, tick_around}
+use Rattle.check_expressions_spec.specs.Rules.{Node, Named, Shape, Item, block, tick_around}
+use Rattle.wf_invariant.specs.Captured.{NamesValue, NamesBlock}
 use Rattle.wf_invariant.specs.Good.{GoodNode, GoodNamed, GoodParameter, is_computed_step, any_computed}
 use Rattle.wf_invariant.specs.Items.{GoodBlock}
 
@@ -30,8 +31,9 @@ GoodParts many (Expr-F.Index line ab) = GoodNode many ab.0 × GoodNode many ab.1
 GoodParts many (Expr-F.Call line f list) = GoodNode many f × EachPart (GoodNode many) list
 GoodParts many (Expr-F.Step line op a) = GoodNode many a
 GoodParts many (Expr-F.Unary line op a) = GoodNode many a
-GoodParts many (Expr-F.Tick line a) = GoodNode many a
-GoodParts many (Expr-F.TickBlock line items) = GoodBlock many tick_around (block items tick_around)
+GoodParts many (Expr-F.Tick line a) = GoodNode many a × NamesValue a
+GoodParts many (Expr-F.TickBlock line items) =
+    GoodBlock many tick_around (block items tick_around) × NamesBlock items
 GoodParts many (Expr-F.Cast line t a) = GoodNamed t × GoodNode many a
 GoodParts many (Expr-F.Sizeof line t) = GoodNamed t
 GoodParts many (Expr-F.Binary line op ab) = GoodNode many ab.0 × GoodNode many ab.1
@@ -65,7 +67,8 @@ GoodOptional many (Some e) = GoodNode many e
 
 -- the parts of a suffix are good
 abbrev pub GoodSuffixParts : {I D N : Type 0} → List ℕ →
-    Suffix-F Shape Node I (Option Node) Item (Stage → Rule State Step) D Shape N (Stage → Rule State CType) Named → Type 0
+    Suffix-F Shape Node I (Option Node) Item (Stage → Rule State Step) D Shape N (Stage → Rule State CType) Named →
+    Type 0
 GoodSuffixParts many (Suffix-F.Array e) = GoodOptional many e
 GoodSuffixParts many Suffix-F.Unlisted = Unit {0}
 GoodSuffixParts many Suffix-F.Nothing = Unit {0}
@@ -111,7 +114,8 @@ FixedParts (Expr-F.Binary line op ab) = FixedNode ab.0 × FixedNode ab.1
 FixedParts _ = Unit {0}
 
 abbrev pub FixedSuffixParts : {I D N : Type 0} →
-    Suffix-F Shape Node I (Option Node) Item (Stage → Rule State Step) D Shape N (Stage → Rule State CType) Named → Type 0
+    Suffix-F Shape Node I (Option Node) Item (Stage → Rule State Step) D Shape N (Stage → Rule State CType) Named →
+    Type 0
 FixedSuffixParts (Suffix-F.Array e) = FixedOptional e
 FixedSuffixParts Suffix-F.Unlisted = Unit {0}
 FixedSuffixParts Suffix-F.Nothing = Unit {0}

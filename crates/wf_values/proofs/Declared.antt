@@ -26,7 +26,8 @@ use Rattle.tick_tree.specs.declared.fault.FaultKind.TheVariants as fault
 use Rattle.tick_tree.specs.Faults.{number}
 use Rattle.check_types.specs.Shapes.{is_vspec_layer, is_vspec, is_void, integer, void, over, inner}
 use Rattle.check_lvalues.specs.Calls.{library_kind}
-use Rattle.wf_values.specs.Used.{declares, library_answers, takes_one_at, takes_one_by, takes_one, IsLibrary}
+use Rattle.wf_values.specs.Used.{declares, library_answers, takes_one_at, takes_one_by, takes_one, listed_at, listed_by}
+use Rattle.wf_values.specs.Used.{listed, library_count, IsLibrary}
 use Rattle.wf_values.specs.Laws.{TypesUse, LibraryUses}
 use Rattle.wf_values.proofs.Broken.{no_fault, no_other, is_so}
 use Rattle.wf_values.proofs.Types.{made_void, integer_type, void_type, layer_type, inner_type, decayed_type}
@@ -166,9 +167,14 @@ takes u t ts =
 answer_type : (l : Layer) (t : CType) → is_void (inner (over l t)) ≡ is_void t
 answer_type l t = inner_type (over l t) ∙ ap (types.is_void (base_of t)) (under_last (layers_of t) l)
 
+listed_over : (ts : List CType) (t : CType) → listed (over (layer.Function ts) t) ≡ Some (length ts)
+listed_over ts t =
+    ap listed_by (outermost_last (layers_of t) (layer.Function ts)) ∙ ap listed_at (layer.outs-Function ts)
+
 of_one : (n : ℕ) (u t : CType) → library_answers (library_kind n) ≡ not (is_void t) →
-    IsLibrary n (over (layer.Function (u ∷ [])) t)
-of_one n u t h = record {
+    library_count (library_kind n) ≡ 1 → IsLibrary n (over (layer.Function (u ∷ [])) t)
+of_one n u t h one = record {
+  count = listed_over (u ∷ []) t ∙ ap Some (sym one);
   answer = h ∙ sym (ap not (answer_type (layer.Function (u ∷ [])) t));
   takes =
       λ e. takes u t [];
@@ -177,13 +183,14 @@ of_one n u t h = record {
 getchar_type : IsLibrary 0 (over (layer.Function []) (integer kind.Int))
 getchar_type =
     let n = answer_type (layer.Function []) (integer kind.Int) ∙ integer_type kind.Int in
-    record { answer = sym (ap not n); takes = λ e. cc }
+    record { answer = sym (ap not n); takes = λ e. cc; count = listed_over [] (integer kind.Int) }
 
 pub libraries_use : LibraryUses
 libraries_use = record {
   getchar = getchar_type;
-  putchar = of_one 1 (integer kind.Int) (integer kind.Int) (sym (ap not (integer_type kind.Int)));
-  putint = of_one 2 (integer kind.Int) void (sym (ap not void_type));
-  malloc = of_one 3 (integer kind.Unsigned) (over layer.Pointer void) (sym (ap not (layer_type layer.Pointer void)));
-  exit = of_one 4 (integer kind.Int) void (sym (ap not void_type));
+  putchar = of_one 1 (integer kind.Int) (integer kind.Int) (sym (ap not (integer_type kind.Int))) refl;
+  putint = of_one 2 (integer kind.Int) void (sym (ap not void_type)) refl;
+  malloc = of_one 3 (integer kind.Unsigned) (over layer.Pointer void) (sym (ap not (layer_type layer.Pointer void)))
+      refl;
+  exit = of_one 4 (integer kind.Int) void (sym (ap not void_type)) refl;
 }

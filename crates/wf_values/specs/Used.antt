@@ -1,7 +1,6 @@
 -- What is used right: an expression of a type, which leaves a value exactly where the type isn't void, and an operand,
--- whose
--- place has a value of its type.
-use Rattle.std.specs.Prelude.{◌≡◌, ℕ, Bool, true, false, not, List, [], ◌∷◌, Option, Some, None, Ok, Err}
+-- whose place has a value of its type.
+use Rattle.std.specs.Prelude.{◌≡◌, ℕ, Bool, true, false, not, List, [], ◌∷◌, length, Option, Some, None, Ok, Err}
 use Rattle.c_types.specs.declared.ctype.CType.{CType}
 use Rattle.c_types.specs.declared.ctype.Layer.{Layer, out-Layer}
 use Rattle.c_types.specs.declared.ctype.Layer.TheOpen.{Layer-F}
@@ -101,11 +100,29 @@ takes_one_by (Some l) = takes_one_at (out-Layer l)
 abbrev pub takes_one : CType → Bool
 takes_one t = takes_one_by (outermost (layers_of t))
 
+-- how many parameters the list of a function type has
+abbrev pub listed_at : Opened → Option ℕ
+listed_at (Layer-F.Function ts) = Some (length ts)
+listed_at _ = None
+
+abbrev pub listed_by : Option Layer → Option ℕ
+listed_by None = None
+listed_by (Some l) = listed_at (out-Layer l)
+
+abbrev pub listed : CType → Option ℕ
+listed t = listed_by (outermost (layers_of t))
+
+-- how many arguments a library function takes
+abbrev pub library_count : Option Library → ℕ
+library_count None = 0
+library_count (Some f) = 1
+
 -- a type that the library function of this number may have
 pub record IsLibrary (n : ℕ) (t : CType) : Type 0 where
   pub answer : library_answers (library_kind n) ≡ not (is_void (inner t))
   -- one that answers nothing takes an argument
   pub takes : is_void (inner t) ≡ true → takes_one t ≡ true
+  pub count : listed t ≡ Some (library_count (library_kind n))
 
 -- ---- rules that may be broken
 

@@ -5,7 +5,7 @@ use Rattle.tick_tree.specs.declared.syntax.Expr.{size-Expr}
 use Rattle.tick_tree.specs.declared.syntax.Initializer.{size-Initializer}
 use Rattle.tick_tree.specs.declared.syntax.OptionalExpr.{size-OptionalExpr}
 use Rattle.tick_tree.specs.declared.syntax.Stmt.{size-Stmt}
-use Rattle.check_statements.specs.Rules as statements
+use Rattle.check_statements_spec.specs.Rules as statements
 use Rattle.check_walk_spec.specs.Walk as spec
 use Rattle.check_walk_spec.proofs.Loops.{after}
 use Rattle.check_walk.proofs.+walk.Given as goal
@@ -56,27 +56,14 @@ decreases-expressions::compile l =
           l.t;
     }))) + 4
 
-abbrev pub decreases-expressions::local_specification : goal.decreases-expressions::local_specification
-decreases-expressions::local_specification l = 8 * (goal.size-expressions::local_specification l) + 4
-
-abbrev pub decreases-expressions::parameter_specification : goal.decreases-expressions::parameter_specification
-decreases-expressions::parameter_specification l =
-    8 * (max (goal.size-types::typename
-    (record {
-      the-lifetimes = ([], ([], tt {0}));
-      alloc = l.alloc;
-      state = l.state;
-      line = l.line;
-      stage = l.stage;
-      t =
-          l.t;
-    })) (size-Expr l.a.now)) + 4
-
 abbrev pub decreases-expressions::unary : goal.decreases-expressions::unary
 decreases-expressions::unary l = 8 * (goal.size-expressions::unary l) + 1
 
-abbrev pub decreases-expressions::cast : goal.decreases-expressions::cast
-decreases-expressions::cast l =
+abbrev pub decreases-expressions::post : goal.decreases-expressions::post
+decreases-expressions::post l = 8 * (goal.size-expressions::post l) + 1
+
+abbrev pub decreases-expressions::typed : goal.decreases-expressions::typed
+decreases-expressions::typed l =
     8 * (max (goal.size-types::typename
     (record {
       the-lifetimes = ([], ([], tt {0}));
@@ -91,26 +78,11 @@ decreases-expressions::cast l =
 abbrev pub decreases-expressions::choice : goal.decreases-expressions::choice
 decreases-expressions::choice l = 8 * (max (size-Expr l.c.now) (max (size-Expr l.a.now) (size-Expr l.b.now))) + 2
 
-abbrev pub decreases-expressions::index : goal.decreases-expressions::index
-decreases-expressions::index l = 8 * (max (size-Expr l.a.now) (size-Expr l.b.now)) + 2
+abbrev pub decreases-expressions::pair : goal.decreases-expressions::pair
+decreases-expressions::pair l = 8 * (max (size-Expr l.a.now) (size-Expr l.b.now)) + 2
 
-abbrev pub decreases-expressions::post : goal.decreases-expressions::post
-decreases-expressions::post l = 8 * (goal.size-expressions::post l) + 1
-
-abbrev pub decreases-expressions::size : goal.decreases-expressions::size
-decreases-expressions::size l = 8 * (goal.size-expressions::size l) + 4
-
-abbrev pub decreases-expressions::binary : goal.decreases-expressions::binary
-decreases-expressions::binary l = 8 * (max (size-Expr l.a.now) (size-Expr l.b.now)) + 2
-
-abbrev pub decreases-expressions::assign : goal.decreases-expressions::assign
-decreases-expressions::assign l = 8 * (max (size-Expr l.a.now) (size-Expr l.b.now)) + 2
-
-abbrev pub decreases-expressions::modify : goal.decreases-expressions::modify
-decreases-expressions::modify l = 8 * (max (size-Expr l.a.now) (size-Expr l.b.now)) + 2
-
-abbrev pub decreases-expressions::comma : goal.decreases-expressions::comma
-decreases-expressions::comma l = 8 * (max (size-Expr l.a.now) (size-Expr l.b.now)) + 2
+abbrev pub decreases-expressions::named : goal.decreases-expressions::named
+decreases-expressions::named l = 8 * (goal.size-expressions::named l) + 4
 
 abbrev pub decreases-expressions::optional : goal.decreases-expressions::optional
 decreases-expressions::optional l = 8 * (goal.size-expressions::optional l)
@@ -135,9 +107,6 @@ decreases-types::suffix l = 8 * (goal.size-types::suffix l)
 
 abbrev pub decreases-types::length : goal.decreases-types::length
 decreases-types::length l = 8 * (goal.size-types::length l)
-
-abbrev pub decreases-types::computed_length : goal.decreases-types::computed_length
-decreases-types::computed_length l = 8 * (goal.size-types::computed_length l) + 1
 
 abbrev pub decreases-types::parameters : goal.decreases-types::parameters
 decreases-types::parameters l = 8 * (goal.size-types::parameters l) + 5
@@ -197,17 +166,14 @@ decreases-statements::alone l = 8 * (goal.size-statements::alone l) + 1
 abbrev pub decreases-statements::block_alone : goal.decreases-statements::block_alone
 decreases-statements::block_alone l = 8 * (goal.size-statements::block_alone l) + 3
 
-abbrev pub decreases-statements::branch : goal.decreases-statements::branch
-decreases-statements::branch l = 8 * (max (size-Expr l.c.now) (size-Stmt l.a.now)) + 2
+abbrev pub decreases-statements::tested : goal.decreases-statements::tested
+decreases-statements::tested l = 8 * (max (size-Expr l.c.now) (size-Stmt l.a.now)) + 2
 
 abbrev pub decreases-statements::bodies : goal.decreases-statements::bodies
 decreases-statements::bodies l = 8 * (max (size-Stmt l.a.now) (size-Stmt l.b.now)) + 2
 
 abbrev pub decreases-statements::branches : goal.decreases-statements::branches
 decreases-statements::branches l = 8 * (max (size-Expr l.c.now) (max (size-Stmt l.a.now) (size-Stmt l.b.now))) + 3
-
-abbrev pub decreases-statements::repeated : goal.decreases-statements::repeated
-decreases-statements::repeated l = 8 * (max (size-Expr l.c.now) (size-Stmt l.a.now)) + 2
 
 abbrev pub decreases-statements::done_first : goal.decreases-statements::done_first
 decreases-statements::done_first l = 8 * (max (size-Stmt l.a.now) (size-Expr l.c.now)) + 2
@@ -218,10 +184,6 @@ decreases-statements::test_and_step l = 8 * (max (size-OptionalExpr l.c.now) (si
 abbrev pub decreases-statements::for_rest : goal.decreases-statements::for_rest
 decreases-statements::for_rest l =
     8 * (max (size-OptionalExpr l.c.now) (max (size-OptionalExpr l.s.now) (size-Stmt l.a.now))) + 2
-
-abbrev pub decreases-statements::for_alone : goal.decreases-statements::for_alone
-decreases-statements::for_alone l =
-    8 * (max (size-OptionalExpr l.c.now) (max (size-OptionalExpr l.s.now) (size-Stmt l.a.now))) + 3
 
 abbrev pub decreases-statements::for_items : goal.decreases-statements::for_items
 decreases-statements::for_items l =
@@ -253,9 +215,6 @@ decreases-statements::switch l =
 
 abbrev pub decreases-statements::case : goal.decreases-statements::case
 decreases-statements::case l = 8 * (goal.size-statements::case l) + 1
-
-abbrev pub decreases-statements::answered : goal.decreases-statements::answered
-decreases-statements::answered l = 8 * (goal.size-statements::answered l) + 1
 
 abbrev pub decreases-statements::returned : goal.decreases-statements::returned
 decreases-statements::returned l = 8 * (goal.size-statements::returned l)

@@ -1,5 +1,5 @@
 use Rattle.std.proofs.Common.{◌≡◌, drop}
-use Rattle.check_programs.specs.Program as spec
+use Rattle.check_programs_spec.specs.Program as spec
 use Rattle.check_programs.proofs.program.walk.Given as goal
 
 -- the items so far, and those to come

@@ -1,5 +1,5 @@
 use Rattle.std.proofs.Common.{◌≡◌, drop, map}
-use Rattle.check_programs.specs.Program as spec
+use Rattle.check_programs_spec.specs.Program as spec
 use Rattle.check_walk_spec.specs.Walk as walks
 use Rattle.check_programs.proofs.program.walked.Given as goal
 

@@ -1,0 +1,25 @@
+-- What is proved of the captures of the ticks of an accepted text.
+use Rattle.std.specs.Prelude.{◌≡◌, ◌≤◌, ℕ, List, length, map, slice_get, Some}
+use Rattle.limits.specs.declared.program.TheConstants.{SIZE_LIMIT}
+use Rattle.typed_tree.specs.declared.expression.CaptureKind.{CaptureKind}
+use Rattle.typed_tree.specs.declared.program.TypedParts.{TypedParts}
+use Rattle.captures.specs.Captures.{captures_at}
+use Rattle.captures.specs.declared.capture.Capture.{Capture}
+use Rattle.wellformed.specs.Program.{IsWellFormed}
+
+abbrev pub kind_of : Capture → CaptureKind
+kind_of c = c.kind
+
+-- The captures that are read off the body of a tick are those that the tick has, of these kinds in this order.
+abbrev pub CapturesAreKinds : Type 0
+CapturesAreKinds =
+    (p : TypedParts) (h : IsWellFormed p) (n : ℕ) (kinds : List CaptureKind) →
+    slice_get h.program.captures n ≡ Some kinds
+    → map kind_of (captures_at (slice_get p.ticks n)) ≡ kinds
+
+-- They are no more than a tick has nodes.
+abbrev pub CapturesAreFew : Type 0
+CapturesAreFew =
+    (p : TypedParts) (h : IsWellFormed p) (n : ℕ) (kinds : List CaptureKind) →
+    slice_get h.program.captures n ≡ Some kinds
+    → length kinds ≤ SIZE_LIMIT

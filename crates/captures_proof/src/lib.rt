@@ -1,0 +1,15 @@
+//! What the crate `captures` reads off the body of a tick is what the tick of an accepted text captures. There is no
+//! code to run here: each function's contract is a law.
+#![tactic(auto)]
+
+ghost use Rattle.captures_proof.specs.Laws.{CapturesAreFew, CapturesAreKinds};
+
+/// That the captures that the nodes of the ticks of an accepted text name are of the kinds that the ticks have.
+pub fn captures_are_kinds()
+    ensures { CapturesAreKinds }
+{}
+
+/// That no tick of an accepted text captures more than a tick has nodes.
+pub fn captures_are_few()
+    ensures { CapturesAreFew }
+{}

@@ -1,0 +1,86 @@
+//! A whole program: the two walks, and what is checked after them. Where the first one found nothing that the second
+//! would know of it, there is no second.
+
+ghost use Rattle.std.specs.Prelude.{◌≡◌, List, Ok};
+ghost use Rattle.check_env.specs.declared.state.State.{State as Known};
+ghost use Rattle.check_env.specs.Starts.{start};
+ghost use Rattle.check_programs_spec.specs.Program as spec;
+ghost use Rattle.tick_tree.specs.Faults.{Checks};
+ghost use Rattle.walk_again.specs.Laws as laws;
+
+use check_env::State;
+use check_globals::finished;
+use check_programs::walk;
+use sqlite_items::Items;
+use std::alloc::Global;
+use tick_tree::{Deny, External, Tree};
+use typed_tree::TypedParts;
+
+fn is_marked(marks: &Items<bool>) -> bool
+    ensures { result ≡ laws.is_marked marks.now }
+{
+    marks.as_slice().iter().any(|mark| *mark)
+}
+
+fn any_marked(done: &[Items<bool>]) -> bool
+    ensures { result ≡ laws.any_marked done.now }
+{
+    done.iter().any(|marks| is_marked(marks))
+}
+
+// Whether a walk marked no variable, and met no string and no prototype.
+fn is_settled(state: &State) -> bool
+    ensures { result ≡ laws.is_settled state.now }
+{
+    state.image.strings.as_slice().is_empty()
+        && state.functions.prototypes.as_slice().is_empty()
+        && !any_marked(state.frame.done.as_slice())
+}
+
+fn second(alloc: Global, state: State, list: &[External]) -> Result<TypedParts, Deny>
+    ensures { Checks result (spec.second_walk list.now state) }
+{
+    let mut state = state;
+    match walk(alloc, &mut state, list) {
+        Ok(()) => finished(alloc, state),
+        Err(why) => {
+            drop(state);
+            Err(why)
+        }
+    }
+}
+
+fn again(alloc: Global, state: State, list: &[External]) -> Result<TypedParts, Deny>
+    ensures { Checks result (spec.walk_again list.now state) }
+{
+    let state = state.again(alloc)?;
+    second(alloc, state, list)
+}
+
+// What comes after a first walk that began with the library's names alone.
+#[tactic(auto, using(walk_again::proofs::Programs::enough))]
+fn after_first(alloc: Global, state: State, list: &[External]) -> Result<TypedParts, Deny>
+    ensures { (s : Known) → start ≡ Ok (tt, s) → spec.walk list.now s ≡ Ok (tt, state) →
+        Checks result (spec.walk_again list.now state) }
+{
+    if is_settled(&state) {
+        finished(alloc, state)
+    } else {
+        again(alloc, state, list)
+    }
+}
+
+/// The parts of the typed program of a tree, or its first static fault from Undeclared on.
+#[tactic(auto, unfolding(check_programs_spec::specs::Program::checked))]
+pub fn check_parts(alloc: Global, tree: &Tree) -> Result<TypedParts, Deny>
+    ensures { Checks result (spec.checked tree.now) }
+{
+    let mut state = State::new(alloc)?;
+    match walk(alloc, &mut state, tree.items()) {
+        Ok(()) => after_first(alloc, state, tree.items()),
+        Err(why) => {
+            drop(state);
+            Err(why)
+        }
+    }
+}

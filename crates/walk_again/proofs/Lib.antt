@@ -1,0 +1,9 @@
+pub mod Declarations
+pub mod Expressions
+pub mod Globals
+pub mod Programs
+pub mod Settled
+pub mod States
+pub mod Statements
+pub mod Steps
+pub mod Whole
