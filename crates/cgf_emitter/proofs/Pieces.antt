@@ -1,5 +1,9 @@
 -- The words of pieces, one after another.
-use Rattle.std.proofs.Common.{ℕ, ◌≡◌, List, [], ◌∷◌, ◌++◌, refl, sym, ap, ◌∙◌, append_assoc}
+use Rattle.std.proofs.Common.{ℕ, ◌≡◌, ◌+◌, ◌<◌, List, [], ◌∷◌, ◌++◌, length, get_or, drop, refl, sym, ap, subst, ◌∙◌}
+use Rattle.std.proofs.Common.{append_assoc}
+use Rattle.std.proofs.lemmas.List.{at_drop_more}
+use Rattle.icode_ir.specs.Sound.{Each}
+use Rattle.cgf_spec.specs.Pieces.{HasWords}
 use Rattle.icode_templates.specs.Words.{words}
 use Rattle.icode_templates.proofs.Appended.{words_append}
 use Rattle.cgf_spec.specs.declared.piece.Piece.{Piece}
@@ -17,3 +21,10 @@ whole ps =
     append_assoc (words enter_code) (words (pieces_code ps)) (words leave_code)
     ∙ ap (λ (ws : List ℕ). words enter_code ++ ws) (sym (words_append (pieces_code ps) leave_code))
     ∙ sym (words_append enter_code (pieces_code ps ++ leave_code))
+
+-- each piece's arguments are words, where this one's are and those of the rest
+pub one_fits : (ps : List Piece) (i : ℕ) (p : Piece) → i < length ps → p ≡ get_or ps i p → HasWords p →
+    (Each HasWords (drop i ps) → Each HasWords ps) → Each HasWords (drop (i + 1) ps) → Each HasWords ps
+one_fits ps i p h is fits whole rest =
+    whole (subst (λ (qs : List Piece). Each HasWords qs)
+    (sym (at_drop_more (λ (qs : List Piece). qs) ps i p h ∙ ap (λ q. q ∷ drop (i + 1) ps) (sym is))) (fits, rest))

@@ -1,10 +1,13 @@
 //! The words of the function of a tick, piece by piece.
 
-ghost use Rattle.std.specs.Prelude.{◌≡◌, ◌+◌, ◌*◌, ◌++◌, ◌<◌, ◌≤◌, IfOk, OnOk, length};
+ghost use Rattle.std.specs.Prelude.{◌≡◌, ◌+◌, ◌*◌, ◌++◌, ◌<◌, ◌^◌, ◌≤◌, IfOk, OnOk, length};
 ghost use Rattle.limits.specs.declared.ops.TheConstants.{MOST_CAPTURES};
 ghost use Rattle.icode_templates.specs.Templates.{upper, lower};
 ghost use Rattle.icode_templates.specs.Words.{words as words_of};
+ghost use Rattle.cgf_spec.specs.Pieces.{HasWords};
 ghost use Rattle.cgf_spec.specs.Words as spec;
+ghost use Rattle.icode_codes.specs.Codes.{first_of, second_of};
+ghost use Rattle.icode_ir.specs.Sound.{Each};
 
 use cgf_spec::Piece;
 use icode_codes::{code, first_argument, second_argument};
@@ -77,10 +80,14 @@ fn emit(s: &mut Snippet, code: u32)
 #[tactic(auto, using(icode_templates::proofs::Appended::words_append))]
 fn issue(s: &mut Snippet, op: &BuildOp)
     requires { length s.old ≤ 20 }
-    ensures { s.new ≡ s.old ++ words_of (spec.op_code op.now) }
+    ensures words { s.new ≡ s.old ++ words_of (spec.op_code op.now) }
+    ensures first { first_of op.now < 2 ^ 32 }
+    ensures second { second_of op.now < 2 ^ 32 }
 {
-    s.constant(A1, first_argument(*op));
-    s.constant(A2, second_argument(*op));
+    let first = first_argument(*op);
+    let second = second_argument(*op);
+    s.constant(A1, first);
+    s.constant(A2, second);
     emit(s, code(*op));
 }
 
@@ -162,7 +169,8 @@ fn splice(s: &mut Snippet, capture: CaptureIndex)
 // The words of a piece.
 fn piece(s: &mut Snippet, piece: &Piece)
     requires { length s.old ≤ 20 }
-    ensures { s.new ≡ s.old ++ words_of (spec.piece_code piece.now) }
+    ensures words { s.new ≡ s.old ++ words_of (spec.piece_code piece.now) }
+    ensures fits { HasWords piece.now }
 {
     match piece {
         Piece::Plain(op) => issue(s, op),
@@ -184,7 +192,8 @@ fn put(alloc: Global, found: &mut Items<u32>, s: &Snippet) -> Result<(), AllocEr
 
 // Those of a piece.
 fn put_piece(alloc: Global, found: &mut Items<u32>, p: &Piece) -> Result<(), AllocError>
-    ensures { OnOk result (found.new ≡ found.old ++ words_of (spec.piece_code p.now)) }
+    ensures words { OnOk result (found.new ≡ found.old ++ words_of (spec.piece_code p.now)) }
+    ensures fits { OnOk result (HasWords p.now) }
 {
     let mut s = Snippet::new();
     piece(&mut s, p);
@@ -192,9 +201,10 @@ fn put_piece(alloc: Global, found: &mut Items<u32>, p: &Piece) -> Result<(), All
 }
 
 // Those of pieces, one after another.
-#[tactic(auto, using(crate::proofs::Pieces::one_more))]
+#[tactic(auto, using(crate::proofs::Pieces::one_more, crate::proofs::Pieces::one_fits))]
 fn put_pieces(alloc: Global, found: &mut Items<u32>, pieces: &[Piece]) -> Result<(), AllocError>
-    ensures { OnOk result (found.new ≡ found.old ++ words_of (spec.pieces_code pieces.now)) }
+    ensures words { OnOk result (found.new ≡ found.old ++ words_of (spec.pieces_code pieces.now)) }
+    ensures fits { OnOk result (Each HasWords pieces.now) }
 {
     for p in pieces {
         put_piece(alloc, found, p)?;
@@ -202,10 +212,12 @@ fn put_pieces(alloc: Global, found: &mut Items<u32>, pieces: &[Piece]) -> Result
     Ok(())
 }
 
-/// The words of the function of a tick with these pieces. Fails for want of memory alone.
+/// The words of the function of a tick with these pieces, each argument of an op being a word. Fails for want of memory
+/// alone.
 #[tactic(auto, using(crate::proofs::Pieces::whole))]
 pub fn words(alloc: Global, pieces: &[Piece]) -> Result<Items<u32>, AllocError>
-    ensures { IfOk result (λ found. found ≡ words_of (spec.generator_code pieces.now)) }
+    ensures words { IfOk result (λ found. found ≡ words_of (spec.generator_code pieces.now)) }
+    ensures fits { OnOk result (Each HasWords pieces.now) }
 {
     let mut found = Items::new(alloc);
     let mut s = Snippet::new();

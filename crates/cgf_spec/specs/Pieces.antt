@@ -2,7 +2,7 @@
 -- captured stand in the holes, and in place of a splice stand the ops of the specification that it stands for. These
 -- are this project's own definitions, after the code-generating functions of Poletto, Hsieh, Engler and Kaashoek
 -- (TOPLAS 21(2), 1999).
-use Rattle.std.specs.Prelude.{ℕ, zero, suc, ◌<◌, List, [], ◌∷◌, ◌++◌}
+use Rattle.std.specs.Prelude.{ℕ, zero, suc, ◌<◌, ◌^◌, List, [], ◌∷◌, ◌++◌}
 use Rattle.history.specs.Syntax.{Syntax, Ticked, Captures, NoCapture, Word, Named, Spliced}
 pub use Rattle.tick_lower_spec.specs.Specifications.{capture_at, word_in, key_in_capture}
 use Rattle.icode_ir.specs.declared.build_op.BuildOp.{BuildOp}
@@ -55,6 +55,15 @@ IsKey _ = ⊥
 abbrev pub IsSplice : Captures → Type 0
 IsSplice (Spliced syntax captures) = Unit {0}
 IsSplice _ = ⊥
+
+-- the arguments of an op are words
+abbrev pub HasWords : Piece → Type 0
+HasWords (Plain op) = (first_of op < 2 ^ 32) × (second_of op < 2 ^ 32)
+HasWords (Captured i) = Unit {0}
+HasWords (GetKey i) = Unit {0}
+HasWords (SetKey i) = Unit {0}
+HasWords (Splice i) = Unit {0}
+HasWords Nothing = Unit {0}
 
 -- a piece names captures that are there and of its kind, and its op is one that code may ask for, with words
 abbrev pub PieceFits : Captures → Piece → Type 0

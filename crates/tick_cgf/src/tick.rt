@@ -1,7 +1,9 @@
 //! The words of the function that generates the code of a tick.
 
 ghost use Rattle.std.specs.Prelude.{◌≡◌, ◌<◌, ◌^◌, ◌++◌, ◌∷◌, [], IfOk, OnOk, length, slice_set};
+ghost use Rattle.cgf_spec.specs.Pieces.{HasWords};
 ghost use Rattle.cgf_spec.specs.Words.{generator_code};
+ghost use Rattle.icode_ir.specs.Sound.{Each};
 ghost use Rattle.icode_templates.specs.Words.{words as words_of};
 ghost use Rattle.staged_meaning.specs.Program.{OfExpression, OfStatement};
 ghost use Rattle.staged_meaning.specs.Size.{variables_in};
@@ -126,8 +128,9 @@ pub fn tick_words(
     starts: &[CallAddress],
     room: &mut Room,
 ) -> Result<Items<u32>, AllocError>
-    ensures { IfOk result (λ found.
+    ensures words { IfOk result (λ found.
         found ≡ words_of (generator_code (pieces_of (listed starts.now) typed.now.ticks tick))) }
+    ensures fits { OnOk result (Each HasWords (pieces_of (listed starts.now) typed.now.ticks tick)) }
 {
     typed.keeps_law();
     match at(typed.ticks(), tick as usize) {

@@ -3,3 +3,4 @@ mod Standing
 mod Wholes
 mod Ticks
 mod Issued
+mod Words

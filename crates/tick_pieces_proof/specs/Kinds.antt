@@ -1,8 +1,7 @@
 -- What the captures of a tick are, by the kinds that the tick names, and the numbers of its ops. These are this
 -- project's own rules.
-use Rattle.std.specs.Prelude.{◌≡◌, ℕ, ◌%◌, ◌^◌, ◌<◌, List, [], ◌∷◌, Option, Some, None, slice_get}
+use Rattle.std.specs.Prelude.{◌≡◌, ℕ, ◌%◌, ◌<◌, List, [], ◌∷◌, Option, Some, None, slice_get}
 use Rattle.word32.specs.declared.map.TheConstants.{SEGMENT_BYTES}
-use Rattle.icode_codes.specs.Codes.{first_of, second_of}
 use Rattle.typed_tree.specs.declared.expression.CaptureKind.{CaptureKind}
 use Rattle.typed_tree.specs.declared.expression.CaptureKind.TheVariants as kind
 use Rattle.typed_tree.specs.Nodes as node
@@ -10,8 +9,7 @@ use Rattle.history.specs.Syntax.{Syntax, Ticked, Captures, NoCapture, Word, Name
 use Rattle.meaning_state.specs.Shared.{Specification, Expression, Statement, Local, Param}
 use Rattle.staged_meaning.specs.Program.{Tick, OfExpression, OfStatement}
 use Rattle.tick_lower_spec.specs.Lower.{Addresses}
-use Rattle.cgf_spec.specs.declared.piece.Piece.{Piece}
-use Rattle.cgf_spec.specs.declared.piece.Piece.TheVariants.{Plain}
+pub use Rattle.cgf_spec.specs.Pieces.{HasWords}
 
 -- captures of these kinds, in their order
 abbrev pub HasKinds : List CaptureKind → Captures → Type 0
@@ -45,11 +43,6 @@ module _ (ticks : List (List CaptureKind)) where
   IsKnown (Statement syntax) = HasTicks syntax
   IsKnown Local = Unit {0}
   IsKnown (Param index) = Unit {0}
-
--- the arguments of an op are words
-abbrev pub HasWords : Piece → Type 0
-HasWords (Plain op) = (first_of op < 2 ^ 32) × (second_of op < 2 ^ 32)
-HasWords _ = Unit {0}
 
 -- each address is one that a call has room for
 abbrev pub AreAddresses : Addresses → Type 0

@@ -4,6 +4,10 @@ use Rattle.history.specs.Syntax.{Syntax, Ticked, Captures}
 use Rattle.icode_ir.specs.Sound.{Each}
 use Rattle.typed_tree.specs.declared.expression.CaptureKind.{CaptureKind}
 use Rattle.typed_tree.specs.Nodes as node
+use Rattle.typed_tree.specs.declared.program.Tick as typed
+use Rattle.typed_tree.specs.declared.program.TypedParts.{TypedParts}
+use Rattle.typed_tree.specs.View.{program_view}
+use Rattle.staged_meaning.specs.Source.{tick_view}
 use Rattle.wellformed.specs.Program.{IsTick, IsProgram}
 use Rattle.icode_ir.specs.Build.{Build}
 use Rattle.mips_model.specs.State.{Code, Data}
@@ -59,6 +63,16 @@ ticks_of p = map tick_of_body p.ticks
 
 abbrev pub program_pieces : Addresses → node.Program → ℕ → List Piece
 program_pieces addresses p n = pieces_at addresses (slice_get (ticks_of p) n)
+
+-- The arguments of the ops of each tick's pieces are words, where those of each tick that the typed tree has are: of one
+-- that isn't there, there are no pieces. Whoever has written the function of each tick has the premise from the clause
+-- `fits` of the call that wrote it.
+abbrev pub TicksHaveWords : Type 0
+TicksHaveWords =
+    (addresses : Addresses) (parts : TypedParts)
+    → ((n : ℕ) (t : typed.Tick) → slice_get parts.ticks n ≡ Some t
+    → Each HasWords (tick_pieces addresses (tick_view t.body)))
+    → (n : ℕ) → Each HasWords (program_pieces addresses (program_view parts) n)
 
 -- The machine runs the function of a tick of an accepted text, on a closure that stands for a specification of the tick
 -- with captures of its kinds, while a function is begun that takes the specification's ops: it issues exactly the ops

@@ -3,7 +3,7 @@
 #![tactic(auto)]
 
 ghost use Rattle.tick_pieces_proof.specs.Laws.{CapturesKeepKinds, LoweringsAreIssued, SyntaxesAreWhole};
-ghost use Rattle.tick_pieces_proof.specs.Laws.{TicksFit, TicksHoldNone};
+ghost use Rattle.tick_pieces_proof.specs.Laws.{TicksFit, TicksHaveWords, TicksHoldNone};
 
 /// That each piece of a tick of an accepted text names a capture of its kind, or is an op that code may ask for, once
 /// the tick is made with captures of the kinds that it has.
@@ -24,6 +24,11 @@ pub fn captures_keep_kinds()
 /// That no tick stands in the body of a tick of an accepted text.
 pub fn ticks_hold_none()
     ensures { TicksHoldNone }
+{}
+
+/// That the arguments of the ops of every number's pieces are words, where those of each tick of the typed tree are.
+pub fn ticks_have_words()
+    ensures { TicksHaveWords }
 {}
 
 /// That the machine, at the function of a tick of an accepted text, issues exactly the ops of the lowering of the
