@@ -56,7 +56,8 @@ def main():
     text += "use Rattle.tick_tree.specs.declared.syntax.Core.TheFolds.{%s, %s, %s, fold-roll-Suffix, fold_out-Declarator, fold_out-Parameter}\n" % (
         ", ".join("ind-" + t for t in AGREES), ", ".join("map-" + t for t in AGREES), ", ".join("fold-roll-" + t for t in AGREES))
     text += "use Rattle.check_globals.specs.Functions.{Given, given}\n"
-    text += ("use Rattle.check_programs_spec.specs.Parameters.{Head, Inner, nothing, inner_rule, head_rule, head_of, first_of, list_rule, given_rule, "
+    text += ("use Rattle.check_programs_spec.specs.Parameters.{Head, Inner, nothing, inner_rule, head_rule, "
+             "head_of, first_of, list_rule, given_rule, "
              "inner, head, list, written, parameters_of}\n\n")
     names = []
     for args in (("Absent", "Core::Absent", []), ("Name", "Core::Name", [("ℕ", "$"), ("(List ℕ)", "$")]), ("Paren", "Core::Paren", [("Declarator", "(head $)")])):

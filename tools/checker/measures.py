@@ -7,8 +7,10 @@ B='crates/check_walk/'
 R=dict(expression=0,core=0,suffix=0,statement=0,optional=0,length=0,begin=0,returned=0,
 suffixes=1,declarator=2,typename=3,parameter=3,each_parameter=4,parameters=5,
 begin_value=1,elements=1,begin_list=2,local_type=3,declared_parts=4,declared_local=5,locals=6,declaration=7,
-items=1,block=2,block_alone=3,tick_block=3,body_of=1,alone=1,tested=2,bodies=2,branches=3,done_first=2,test_and_step=1,for_rest=2,for_items=3,for_block=4,for_all=5,switch_block=2,labelled_block=3,switch=4,case=1,
-unary=1,post=1,named=4,compile=4,typed=4,both=1,pair=2,choice=2,arguments=1,library_call=2,plain_call=2,call=3,tick_expression=1)
+items=1,block=2,block_alone=3,tick_block=3,body_of=1,alone=1,tested=2,bodies=2,branches=3,done_first=2,
+test_and_step=1,for_rest=2,for_items=3,for_block=4,for_all=5,switch_block=2,labelled_block=3,switch=4,case=1,
+unary=1,post=1,named=4,compile=4,typed=4,both=1,pair=2,choice=2,
+arguments=1,library_call=2,plain_call=2,call=3,tick_expression=1)
 TREE={'&Expr':'size-Expr','&syntax::Stmt':'size-Stmt','&OptionalExpr':'size-OptionalExpr','&Initializer':'size-Initializer'}
 out='''use Rattle.std.proofs.Common.{◌≡◌, map, ℕ, ◌+◌, ◌*◌, max, drop, []}
 use Rattle.std.specs.Prelude.{None}
