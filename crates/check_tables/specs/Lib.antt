@@ -1,3 +1,4 @@
+pub mod Bounds
 pub mod Frames
 pub mod Functions
 pub mod Images

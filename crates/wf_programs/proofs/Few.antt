@@ -17,16 +17,17 @@ use Rattle.wf_induction.proofs.Induction.{Expr-T, walkedExpr, walk_expr}
 use Rattle.wf_growth_rules.proofs.Few.{items_light}
 use Rattle.wf_captures.proofs.Walks.{walks_named}
 use Rattle.wf_programs.specs.Good.{FewBlock, FewParts, FewExpr}
+use Rattle.check_tables.specs.Bounds.{count_bound}
 
-light_few : (w : ℕ) (s new : State) → w ≤ 1000000000 → Light w s new → Few s new
+light_few : (w : ℕ) (s new : State) → w ≤ count_bound → Light w s new → Few s new
 light_few w s new h l = (omega (arith, l.captures), omega (arith, l.inner))
 
-few_block : (xs : List Stmt) → total (map statement_weight xs) ≤ 1000000000 → FewBlock (map item xs)
+few_block : (xs : List Stmt) → total (map statement_weight xs) ≤ count_bound → FewBlock (map item xs)
 few_block xs h s new x e =
     light_few (total (map statement_weight xs)) s new h
     ((block_light (map item xs) tick_around (items_light xs)).light s new x e)
 
-few_parts : (x : Expr-T) → expr_nodes (weighed-Expr x) ≤ 1000000000 → FewParts (walkedExpr x)
+few_parts : (x : Expr-T) → expr_nodes (weighed-Expr x) ≤ count_bound → FewParts (walkedExpr x)
 few_parts (Expr-F.TickBlock line xs) h = (few_block xs (omega arith), walks_named.blocks xs)
 few_parts (Expr-F.Expr::Name line name) h = tt
 few_parts (Expr-F.Number n unsigned) h = tt
@@ -49,10 +50,10 @@ few_parts (Expr-F.Assign line ab) h = tt
 few_parts (Expr-F.Modify line op ab) h = tt
 few_parts (Expr-F.Comma line ab) h = tt
 
-pub few_expr : (x : Expr-T) → weight (roll-Expr x) ≤ 1000000000 → FewExpr (walkedExpr x)
+pub few_expr : (x : Expr-T) → weight (roll-Expr x) ≤ count_bound → FewExpr (walkedExpr x)
 few_expr x h =
     let l = subst (λ n. LightNode (weight (roll-Expr x)) n) (walk_expr x) (expr_light (roll-Expr x)) in
     record {
       walk = λ g s new o e. (light_few (weight (roll-Expr x)) s new h ((l.at g).light s new o e)).0;
-      parts = few_parts x (subst (λ w. w ≤ 1000000000) (weigh-Expr x) h);
+      parts = few_parts x (subst (λ w. w ≤ count_bound) (weigh-Expr x) h);
     }

@@ -35,6 +35,7 @@ use Rattle.wf_programs.proofs.Lists.{list_objects}
 use Rattle.wf_programs.proofs.Still.{StaticNode, EachStatic, StaticStart}
 use Rattle.wf_programs.proofs.Top.{program_accepted}
 use Rattle.wf_programs.proofs.Walk.{GoodExternal, EachGood}
+use Rattle.check_tables.specs.Bounds.{count_bound}
 
 -- ---- declarations
 
@@ -60,7 +61,7 @@ inits_good many (i ∷ is) h =
 
 -- ---- functions
 
-items_good : (many : List ℕ) (ss : List Written) → total (map statement_weight ss) ≤ 1000000000 →
+items_good : (many : List ℕ) (ss : List Written) → total (map statement_weight ss) ≤ count_bound →
     EachPart (GoodItem many) (map item ss)
 items_good many [] h = tt
 items_good many (s ∷ ss) h = ((small_are_good many).item s (omega arith), items_good many ss (omega arith))

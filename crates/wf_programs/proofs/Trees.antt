@@ -31,62 +31,63 @@ use Rattle.wf_programs.specs.Small.{SmallAreGood}
 use Rattle.wf_programs.proofs.Few.{few_expr}
 use Rattle.wf_programs.proofs.Rules.{good_core, good_expr, good_initializer, good_optional, good_stmt, good_suffix}
 use Rattle.wf_programs.proofs.Rules.{good_declaration, good_declarator, good_init, good_parameter, good_typename}
+use Rattle.check_tables.specs.Bounds.{count_bound}
 
 -- ---- a layer of a small tree
 
 at_core : (many : List ℕ) (x : Core-T) (y : Core-K (good many)) → firstCore (good many) y ≡ x →
-    core_weight (roll-Core x) ≤ 1000000000 → (good many).shape (core (roll-Core x))
+    core_weight (roll-Core x) ≤ count_bound → (good many).shape (core (roll-Core x))
 at_core many x y is h = step_core (good many) (λ w. Unit {0}) (λ w p u. good_core many w p) x y is tt
 
 at_expr : (many : List ℕ) (x : Expr-T) (y : Expr-K (good many)) → firstExpr (good many) y ≡ x →
-    weight (roll-Expr x) ≤ 1000000000 → (good many).node (node (roll-Expr x))
+    weight (roll-Expr x) ≤ count_bound → (good many).node (node (roll-Expr x))
 at_expr many x y is h = step_expr (good many) FewExpr (good_expr many) x y is (few_expr x h)
 
 at_initializer : (many : List ℕ) (x : Initializer-T) (y : Initializer-K (good many)) →
-    firstInitializer (good many) y ≡ x → initializer_weight (roll-Initializer x) ≤ 1000000000 →
+    firstInitializer (good many) y ≡ x → initializer_weight (roll-Initializer x) ≤ count_bound →
     (good many).start (initializer (roll-Initializer x))
 at_initializer many x y is h =
     step_initializer (good many) (λ w. Unit {0}) (λ w p u. good_initializer many w p) x y is tt
 
 at_optional : (many : List ℕ) (x : OptionalExpr-T) (y : OptionalExpr-K (good many)) →
-    firstOptionalExpr (good many) y ≡ x → optional_weight (roll-OptionalExpr x) ≤ 1000000000 →
+    firstOptionalExpr (good many) y ≡ x → optional_weight (roll-OptionalExpr x) ≤ count_bound →
     (good many).optional (optional (roll-OptionalExpr x))
 at_optional many x y is h = step_optional (good many) (λ w. Unit {0}) (λ w p u. good_optional many w p) x y is tt
 
 at_stmt : (many : List ℕ) (x : Stmt-T) (y : Stmt-K (good many)) → firstStmt (good many) y ≡ x →
-    statement_weight (roll-Stmt x) ≤ 1000000000 → (good many).item (item (roll-Stmt x))
+    statement_weight (roll-Stmt x) ≤ count_bound → (good many).item (item (roll-Stmt x))
 at_stmt many x y is h = step_stmt (good many) (λ w. Unit {0}) (λ w p u. good_stmt many w p) x y is tt
 
 at_suffix : (many : List ℕ) (x : Suffix-T) (y : Suffix-K (good many)) → firstSuffix (good many) y ≡ x →
-    suffix_weight (roll-Suffix x) ≤ 1000000000 → (good many).suffix (suffix (roll-Suffix x))
+    suffix_weight (roll-Suffix x) ≤ count_bound → (good many).suffix (suffix (roll-Suffix x))
 at_suffix many x y is h = step_suffix (good many) (λ w. Unit {0}) (λ w p u. good_suffix many w p) x y is tt
 
 at_declaration : (many : List ℕ) (x : Declaration-T) (y : Declaration-K (good many)) →
-    firstDeclaration (good many) y ≡ x → declaration_weight (roll-Declaration x) ≤ 1000000000 →
+    firstDeclaration (good many) y ≡ x → declaration_weight (roll-Declaration x) ≤ count_bound →
     (good many).declarations (declaration (roll-Declaration x))
 at_declaration many x y is h =
     step_declaration (good many) (λ w. Unit {0}) (λ w p u. good_declaration many w p) x y is tt
 
 at_declarator : (many : List ℕ) (x : Declarator-T) (y : Declarator-K (good many)) → firstDeclarator (good many) y ≡ x →
-    declarator_weight (roll-Declarator x) ≤ 1000000000 → (good many).shape (shape (roll-Declarator x))
+    declarator_weight (roll-Declarator x) ≤ count_bound → (good many).shape (shape (roll-Declarator x))
 at_declarator many x y is h = step_declarator (good many) (λ w. Unit {0}) (λ w p u. good_declarator many w p) x y is tt
 
 at_init : (many : List ℕ) (x : Init-T) (y : Init-K (good many)) → firstInit (good many) y ≡ x →
-    init_weight (roll-Init x) ≤ 1000000000 → (good many).init (init (roll-Init x))
+    init_weight (roll-Init x) ≤ count_bound → (good many).init (init (roll-Init x))
 at_init many x y is h = step_init (good many) (λ w. Unit {0}) (λ w p u. good_init many w p) x y is tt
 
 at_parameter : (many : List ℕ) (x : Parameter-T) (y : Parameter-K (good many)) → firstParameter (good many) y ≡ x →
-    parameter_weight (roll-Parameter x) ≤ 1000000000 → (good many).parameter (parameter (roll-Parameter x))
+    parameter_weight (roll-Parameter x) ≤ count_bound → (good many).parameter (parameter (roll-Parameter x))
 at_parameter many x y is h = step_parameter (good many) (λ w. Unit {0}) (λ w p u. good_parameter many w p) x y is tt
 
 at_typename : (many : List ℕ) (x : Typename-T) (y : Typename-K (good many)) → firstTypename (good many) y ≡ x →
-    typename_weight (roll-Typename x) ≤ 1000000000 → (good many).named (named (roll-Typename x))
+    typename_weight (roll-Typename x) ≤ count_bound → (good many).named (named (roll-Typename x))
 at_typename many x y is h = step_typename (good many) (λ w. Unit {0}) (λ w p u. good_typename many w p) x y is tt
 
 -- ---- trees
 
-small_expr : (many : List ℕ) (x : Expr) → weight x ≤ 1000000000 → (good many).node (node x)
-small_expr many = expr_small 1000000000 (λ x. (good many).shape (core x)) (λ x. (good many).node (node x))
+small_expr : (many : List ℕ) (x : Expr) → weight x ≤ count_bound → (good many).node (node x)
+small_expr many = expr_small count_bound (λ x. (good many).shape (core x)) (λ x. (good many).node (node x))
     (λ x. (good many).start (initializer x)) (λ x. (good many).optional (optional x)) (λ x. (good many).item (item x))
     (λ x. (good many).suffix (suffix x)) (λ x. (good many).declarations (declaration x))
     (λ x. (good many).shape (shape x)) (λ x. (good many).init (init x)) (λ x. (good many).parameter (parameter x))
@@ -94,8 +95,8 @@ small_expr many = expr_small 1000000000 (λ x. (good many).shape (core x)) (λ x
     (at_stmt many) (at_suffix many) (at_declaration many) (at_declarator many) (at_init many) (at_parameter many)
     (at_typename many)
 
-small_stmt : (many : List ℕ) (x : Stmt) → statement_weight x ≤ 1000000000 → (good many).item (item x)
-small_stmt many = stmt_small 1000000000 (λ x. (good many).shape (core x)) (λ x. (good many).node (node x))
+small_stmt : (many : List ℕ) (x : Stmt) → statement_weight x ≤ count_bound → (good many).item (item x)
+small_stmt many = stmt_small count_bound (λ x. (good many).shape (core x)) (λ x. (good many).node (node x))
     (λ x. (good many).start (initializer x)) (λ x. (good many).optional (optional x)) (λ x. (good many).item (item x))
     (λ x. (good many).suffix (suffix x)) (λ x. (good many).declarations (declaration x))
     (λ x. (good many).shape (shape x)) (λ x. (good many).init (init x)) (λ x. (good many).parameter (parameter x))
@@ -103,8 +104,8 @@ small_stmt many = stmt_small 1000000000 (λ x. (good many).shape (core x)) (λ x
     (at_stmt many) (at_suffix many) (at_declaration many) (at_declarator many) (at_init many) (at_parameter many)
     (at_typename many)
 
-small_declarator : (many : List ℕ) (x : Declarator) → declarator_weight x ≤ 1000000000 → (good many).shape (shape x)
-small_declarator many = declarator_small 1000000000 (λ x. (good many).shape (core x)) (λ x. (good many).node (node x))
+small_declarator : (many : List ℕ) (x : Declarator) → declarator_weight x ≤ count_bound → (good many).shape (shape x)
+small_declarator many = declarator_small count_bound (λ x. (good many).shape (core x)) (λ x. (good many).node (node x))
     (λ x. (good many).start (initializer x)) (λ x. (good many).optional (optional x)) (λ x. (good many).item (item x))
     (λ x. (good many).suffix (suffix x)) (λ x. (good many).declarations (declaration x))
     (λ x. (good many).shape (shape x)) (λ x. (good many).init (init x)) (λ x. (good many).parameter (parameter x))
@@ -112,9 +113,9 @@ small_declarator many = declarator_small 1000000000 (λ x. (good many).shape (co
     (at_stmt many) (at_suffix many) (at_declaration many) (at_declarator many) (at_init many) (at_parameter many)
     (at_typename many)
 
-small_initializer : (many : List ℕ) (x : Initializer) → initializer_weight x ≤ 1000000000 →
+small_initializer : (many : List ℕ) (x : Initializer) → initializer_weight x ≤ count_bound →
     (good many).start (initializer x)
-small_initializer many = initializer_small 1000000000 (λ x. (good many).shape (core x)) (λ x. (good many).node (node x))
+small_initializer many = initializer_small count_bound (λ x. (good many).shape (core x)) (λ x. (good many).node (node x))
     (λ x. (good many).start (initializer x)) (λ x. (good many).optional (optional x)) (λ x. (good many).item (item x))
     (λ x. (good many).suffix (suffix x)) (λ x. (good many).declarations (declaration x))
     (λ x. (good many).shape (shape x)) (λ x. (good many).init (init x)) (λ x. (good many).parameter (parameter x))
@@ -122,9 +123,9 @@ small_initializer many = initializer_small 1000000000 (λ x. (good many).shape (
     (at_stmt many) (at_suffix many) (at_declaration many) (at_declarator many) (at_init many) (at_parameter many)
     (at_typename many)
 
-small_declaration : (many : List ℕ) (x : Declaration) → declaration_weight x ≤ 1000000000 →
+small_declaration : (many : List ℕ) (x : Declaration) → declaration_weight x ≤ count_bound →
     (good many).declarations (declaration x)
-small_declaration many = declaration_small 1000000000 (λ x. (good many).shape (core x)) (λ x. (good many).node (node x))
+small_declaration many = declaration_small count_bound (λ x. (good many).shape (core x)) (λ x. (good many).node (node x))
     (λ x. (good many).start (initializer x)) (λ x. (good many).optional (optional x)) (λ x. (good many).item (item x))
     (λ x. (good many).suffix (suffix x)) (λ x. (good many).declarations (declaration x))
     (λ x. (good many).shape (shape x)) (λ x. (good many).init (init x)) (λ x. (good many).parameter (parameter x))

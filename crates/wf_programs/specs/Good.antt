@@ -15,6 +15,7 @@ use Rattle.wf_invariant.specs.Items.{GoodItem, Few}
 use Rattle.wf_types.specs.Parts.{GoodOptional}
 use Rattle.wf_programs.specs.Parts.{GoodStart, GoodInit, GoodDeclarators}
 use Rattle.wf_induction.specs.Asked.{Asked}
+use Rattle.check_tables.specs.Bounds.{count_bound}
 
 -- ---- what is asked
 
@@ -45,5 +46,5 @@ FewParts _ = Unit {0}
 
 pub record FewExpr (e : Expr-W) : Type 0 where
   pub walk : (g : Stage) (s new : State) (o : Operand) → walk_rule e g s ≡ Ok (o, new) →
-      length new.ticks.captures ≤ length s.ticks.captures + 1000000000
+      length new.ticks.captures ≤ length s.ticks.captures + count_bound
   pub parts : FewParts e

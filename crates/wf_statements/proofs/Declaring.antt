@@ -18,6 +18,7 @@ use Rattle.check_tables.specs.declared.frame.Home.{Home}
 use Rattle.check_tables.specs.declared.frame.Home.TheVariants as home
 use Rattle.check_tables.specs.Frames as frames
 use Rattle.check_tables.specs.Frames.{variable, after, count}
+use Rattle.check_tables.specs.Bounds.{count_bound}
 use Rattle.check_env.specs.declared.state.Stage.{Stage}
 use Rattle.check_env.specs.declared.state.Stage.TheVariants as stage
 use Rattle.check_env.specs.declared.state.State.{State}
@@ -94,7 +95,7 @@ outer_wider b s name t h x object o = record {
 }
 
 -- the number of the new variable
-number_is : (s : State) (h : Home) → length (s.frame.homes ++ h ∷ []) ≤ 1000000000 →
+number_is : (s : State) (h : Home) → length (s.frame.homes ++ h ∷ []) ≤ count_bound →
     frames.number s.frame ≡ length s.frame.homes
 number_is s h k = omega (arith, k, length-append s.frame.homes (h ∷ []))
 
@@ -217,16 +218,16 @@ has_inner : (b : Blocks) (s : State) (name : Name) (t : CType) → b.in_tick ≡
 has_inner b s name t e = ap (λ l. has s.frame.inner l) (tick_has b (inner_state name t s) e) ∙
     has_variable s.frame.inner b.tick s.frame.nodes
 
-inner_index : (s : State) → length s.frame.homes ≤ 1000000000 → min (s.frame.inner + 1) 4294967295 ≤ 1000000000 →
+inner_index : (s : State) → length s.frame.homes ≤ count_bound → min (s.frame.inner + 1) 4294967295 ≤ count_bound →
     frames.inner_number s.frame - count s.frame.homes ≡ s.frame.inner
 inner_index s h k = omega (arith, h, k)
 
-inner_past : (s : State) → length s.frame.homes ≤ 1000000000 → min (s.frame.inner + 1) 4294967295 ≤ 1000000000 →
+inner_past : (s : State) → length s.frame.homes ≤ count_bound → min (s.frame.inner + 1) 4294967295 ≤ count_bound →
     length s.frame.homes ≤ frames.inner_number s.frame
 inner_past s h k = omega (arith, h, k)
 
 means_inner : (many : List ℕ) (b : Blocks) (s : State) (name : Name) (t : CType) → b.in_tick ≡ true →
-    length s.frame.homes ≤ 1000000000 → min (s.frame.inner + 1) 4294967295 ≤ 1000000000 → IsObject t
+    length s.frame.homes ≤ count_bound → min (s.frame.inner + 1) 4294967295 ≤ count_bound → IsObject t
     → Means many stage.Tick b (inner_state name t s) name (meaning kind.Variable t (frames.inner_number s.frame))
     kind.Variable
 means_inner many b s name t e h k o = (

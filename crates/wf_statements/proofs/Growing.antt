@@ -10,6 +10,7 @@ use Rattle.wf_invariant.specs.Known.{Small, SmallTick, SmallInner}
 use Rattle.wf_invariant.specs.Counts.{variables}
 use Rattle.wf_types.proofs.Fronts.{starts_same, starts_more, starts_length}
 use Rattle.wf_types.proofs.Keeps.{globals_more}
+use Rattle.check_tables.specs.Bounds.{count_bound}
 
 chain : (l m n k : ℕ) → (m ≤ k → l ≤ m) → (n ≤ k → m ≤ n) → n ≤ k → l ≤ n
 chain l m n k p q h = let b : m ≤ n = q h in let a : l ≤ m = p (omega (arith, b, h)) in omega (arith, a, b)
@@ -35,7 +36,7 @@ tick_more : {s t new : State} → GrowsTick s t → GrowsTick t new → GrowsTic
 tick_more {s} {t} {new} p q = record {
   homes = q.homes ∙ p.homes;
   object = q.object ∙ p.object;
-  inner = λ h. chain s.frame.inner t.frame.inner new.frame.inner 1000000000 p.inner q.inner h;
+  inner = λ h. chain s.frame.inner t.frame.inner new.frame.inner count_bound p.inner q.inner h;
   ticks = q.ticks ∙ p.ticks;
   captures = starts_more p.captures q.captures;
 }

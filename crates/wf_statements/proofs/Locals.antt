@@ -17,6 +17,7 @@ use Rattle.check_operators.specs.declared.operand.Operand.{Operand}
 use Rattle.check_tables.specs.declared.frame.Home.TheVariants as home
 use Rattle.check_tables.specs.Frames as frames
 use Rattle.check_tables.specs.Frames.{variable, after, count}
+use Rattle.check_tables.specs.Bounds.{count_bound}
 use Rattle.check_env.specs.declared.state.Stage.{Stage}
 use Rattle.check_env.specs.declared.state.Stage.TheVariants as stage
 use Rattle.check_env.specs.declared.state.State.{State}
@@ -252,7 +253,7 @@ register_made s name what = record {
   declares = λ small h. register_declares s (declared s.scopes name what) h;
 }
   where
-    few : (s : State) → length (s.frame.homes ++ home.Register ∷ []) ≤ 1000000000 →
+    few : (s : State) → length (s.frame.homes ++ home.Register ∷ []) ≤ count_bound →
         count s.frame.homes ≡ length s.frame.homes
     few s h = omega (arith, h, length-append s.frame.homes (home.Register ∷ []))
 
@@ -310,10 +311,10 @@ inner_counts s ss e = record {
   );
 }
 
-pub inner_small : (n : ℕ) → min (n + 1) 4294967295 ≤ 1000000000 → min (n + 1) 4294967295 ≡ n + 1
+pub inner_small : (n : ℕ) → min (n + 1) 4294967295 ≤ count_bound → min (n + 1) 4294967295 ≡ n + 1
 inner_small n h = omega arith
 
-inner_more : (n : ℕ) → min (n + 1) 4294967295 ≤ 1000000000 → n ≤ min (n + 1) 4294967295
+inner_more : (n : ℕ) → min (n + 1) 4294967295 ≤ count_bound → n ≤ min (n + 1) 4294967295
 inner_more n h = omega arith
 
 pub inner_grows : (s : State) (name : Name) (what : Meaning) →
