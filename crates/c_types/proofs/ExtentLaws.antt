@@ -1,6 +1,6 @@
 -- The extents of layers are their sizes.
 use Rattle.std.proofs.Common.{◌≡◌, ℕ, zero, suc, ◌+◌, ◌*◌, ◌-◌, ◌<◌, ◌≤◌, Bool, true, false, ◌&&◌, List, [], ◌∷◌, ◌++◌}
-use Rattle.std.proofs.Common.{length, take, Some, None, refl, ap, ◌∙◌, arith}
+use Rattle.std.proofs.Common.{length, take, Some, None, ◌⊎◌, inl, inr, refl, ap, sym, ◌∙◌, arith}
 use Rattle.std.proofs.lemmas.List.{length-append}
 use Rattle.std.specs.Prelude.{min, nat_le, slice_get, if◌then◌else◌}
 use Rattle.limits.specs.declared.program.TheConstants.{MAX_SIZE, SIZE_TOP}
@@ -14,13 +14,26 @@ use Rattle.c_types.specs.Types.{Opened, base_size, is_integer_base, size_at, siz
 use Rattle.c_types.specs.Types.{is_sized_under, limited_parts}
 use Rattle.c_types.specs.Extents.{start, grown_at, grown, after, extents, limited}
 
+same_extent : (x y : Extent) → Some x ≡ Some y → x ≡ y
+same_extent x y h = cc
+
+none_some : (x : Extent) → None ≡ Some x → ⊥
+none_some x h = cc
+
 -- over the first layers
-pub found : (e : Extent) (ls : List Layer) (n : ℕ) → n ≤ length ls →
+found : (e : Extent) (ls : List Layer) (n : ℕ) → n ≤ length ls →
     slice_get (extents e ls) n ≡ Some (after e (take n ls))
 found e [] zero h = refl
 found e [] (suc n) h = absurd (omega (arith, h))
 found e (l ∷ ls) zero h = refl
 found e (l ∷ ls) (suc n) h = found (grown e l) ls n (omega (arith, h))
+
+-- an extent that is kept is that over the first layers
+pub kept : (e : Extent) (ls : List Layer) (es : List Extent) (n : ℕ) (x : Extent) → n ≤ length ls →
+    (es ≡ []) ⊎ (es ≡ extents e ls) → slice_get es n ≡ Some x → x ≡ after e (take n ls)
+kept e ls es n x h (inl none) read = absurd (none_some x (ap (λ l. slice_get l n) (sym none) ∙ read))
+kept e ls es n x h (inr all) read =
+    same_extent x (after e (take n ls)) (sym read ∙ ap (λ l. slice_get l n) all ∙ found e ls n h)
 
 -- over layers and more on top
 pub joined : (e : Extent) (xs ys : List Layer) → after (after e xs) ys ≡ after e (xs ++ ys)
@@ -85,9 +98,3 @@ pub whole : (b : Base) (ls : List Layer) → size_under (base_size b) ls ≤ MAX
     (after (start b) ls).size ≡ size_under (base_size b) ls
 whole b ls h = let e : (after (start b) ls).size ≡ min (size_under (base_size b) ls) SIZE_TOP =
     ap (λ e. e.size) (counted b ls) in e ∙ omega (arith, h)
-
-pub same_extent : (x y : Extent) → Some x ≡ Some y → x ≡ y
-same_extent x y h = cc
-
-pub none_some : (x : Extent) → None ≡ Some x → ⊥
-none_some x h = cc

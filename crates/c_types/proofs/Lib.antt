@@ -5,3 +5,5 @@ pub mod SameLaws
 pub mod Stack
 pub mod Coded
 pub mod SameCodes
+pub mod Tables
+pub mod Places

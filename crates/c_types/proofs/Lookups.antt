@@ -1,8 +1,9 @@
 -- A scope as a list of names and as a map.
-use Rattle.std.proofs.Common.{◌≡◌, ℕ, Bool, true, false, cond, List, [], ◌∷◌, ◌++◌, map, Option, Some, None, is_some, refl}
+use Rattle.std.proofs.Common.{◌≡◌, ℕ, Bool, true, false, cond, List, [], ◌∷◌, ◌++◌, Option, Some, None, is_some, refl}
 use Rattle.std.proofs.Common.{ap}
 use Rattle.std.specs.Str.{bytes_eq}
-use Rattle.std.specs.Option.{option_or}
+use Rattle.std.proofs.Common.{Bor}
+use Rattle.std.specs.Option.{option_copied, option_or}
 use Rattle.std.specs.Map.{lookup}
 use Rattle.c_types.specs.Scopes.{Scope, in_scope}
 use Rattle.c_types.specs.declared.names.Meaning.{Meaning}
@@ -14,6 +15,10 @@ found (e ∷ es) name = ap (λ o. cond (bytes_eq name e.0) (Some e.1) o) (found 
 pub none_of : (o : Option Meaning) → is_some o ≡ false → o ≡ None
 none_of None h = refl
 none_of (Some x) h = cc
+
+pub is_some_copied : (o : Option (Bor Meaning)) → is_some (option_copied o) ≡ is_some o
+is_some_copied None = refl
+is_some_copied (Some x) = refl
 
 pub some_of : (o : Option Meaning) → is_some o ≡ true → o ≡ None → ⊥
 some_of None h e = cc

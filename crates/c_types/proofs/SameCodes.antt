@@ -10,7 +10,7 @@ use Rattle.c_types.specs.Types.{same_layer, same_layers}
 use Rattle.c_types.specs.Codes.{codes, end_of}
 use Rattle.c_types.specs.Shared.{AreLent}
 use Rattle.c_types.proofs.CodeLaws.{codes_same}
-use Rattle.c_types.proofs.Coded.{first_coded}
+use Rattle.c_types.proofs.Coded.{first_coded, coded_within}
 
 -- the first and the others
 pub split : (k : ℕ) (xs ys : List Layer) → k ≤ length xs → length xs ≡ length ys →
@@ -32,12 +32,12 @@ is_so false h = h
 
 module _ (ra ma rb mb as_ bs : List Layer) (ca cb ea eb : List ℕ) (la lb : List (List Code)) (k : ℕ)
     (ha : AreLent ra ca ea la) (hb : AreLent rb cb eb lb) (va : ra ++ ma ≡ as_) (vb : rb ++ mb ≡ bs)
-    (both : k ≡ min (length ra) (length rb)) (fa fb : List ℕ) (sa : fa ≡ take (end_of ea k) ca)
+    (both : k ≡ min (length ea) (length eb)) (fa fb : List ℕ) (sa : fa ≡ take (end_of ea k) ca)
     (sb : fb ≡ take (end_of eb k) cb) (long : length as_ ≡ length bs) where
   within : k ≤ length as_
   within =
       let all : length ra + length ma ≡ length as_ = sym (length-append ra ma) ∙ ap length va in
-      omega (arith, both, all)
+      omega (arith, both, all, coded_within ra ea ha.ended)
 
   first_same : pointwise nat_eq fa fb ≡ same_layers (take k as_) (take k bs)
   first_same =
@@ -45,8 +45,10 @@ module _ (ra ma rb mb as_ bs : List Layer) (ca cb ea eb : List ℕ) (la lb : Lis
       ∙ ap (λ c. pointwise nat_eq (codes (take k ra)) c)
       (sb ∙ first_coded rb cb eb k hb.coded hb.ended (omega (arith, both)))
       ∙ codes_same (take k ra) (take k rb)
-      ∙ ap (λ l. same_layers l (take k rb)) (sym (take-append-le k ra ma (omega (arith, both))) ∙ ap (take k) va)
-      ∙ ap (λ l. same_layers (take k as_) l) (sym (take-append-le k rb mb (omega (arith, both))) ∙ ap (take k) vb)
+      ∙ ap (λ l. same_layers l (take k rb))
+      (sym (take-append-le k ra ma (omega (arith, both, coded_within ra ea ha.ended))) ∙ ap (take k) va)
+      ∙ ap (λ l. same_layers (take k as_) l)
+      (sym (take-append-le k rb mb (omega (arith, both, coded_within rb eb hb.ended))) ∙ ap (take k) vb)
 
   pub codes_differ : true ≡ not (pointwise nat_eq fa fb) → false ≡ same_layers as_ bs
   codes_differ h =

@@ -3,3 +3,5 @@ pub mod Codes
 pub mod Extents
 pub mod Shared
 pub mod Scopes
+pub mod Sorted
+pub mod Tables

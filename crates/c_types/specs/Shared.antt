@@ -12,11 +12,12 @@ use Rattle.c_types.specs.Codes as Codes
 use Rattle.c_types.specs.Codes.{codes, code_of, codes_in, codes_of_list, codes_of_lists}
 use Rattle.c_types.specs.Extents.{start, extents}
 
--- the layers have this code, which ends there for each, and the types of the lists of the first of them have these
+-- the first of the layers have this code, which ends there for each, and the types of the lists of the first of them
+-- have these
 abbrev pub AreLent : List Layer → List ℕ → List ℕ → List (List Code) → Type 0
 AreLent row bytes ends lists = record {
-  coded : bytes ≡ codes row;
-  ended : ends ≡ Codes.ends 0 row;
+  coded : bytes ≡ codes (take (length ends) row);
+  ended : ends ≡ Codes.ends 0 (take (length ends) row);
   listed : lists ≡ codes_of_lists (take (length lists) row);
 }
 
@@ -34,12 +35,12 @@ abbrev pub CodesOf : Option Layer → List Code → Type 0
 CodesOf None lists = lists ≡ []
 CodesOf (Some l) lists = (lists ≡ []) ⊎ (lists ≡ codes_in l)
 
--- the layers have this code, and the types of their lists have these, and each has the extent under it
+-- the first of the layers have this code, and the types of their lists have these, and no extent is kept, or that under
+-- each of them
 abbrev pub IsRow : Base → List Layer → Code → List (List Code) → List Extent → Type 0
 IsRow b row code lists sizes = record {
-  coded : code ≡ code_of row;
-  listed : lists ≡ codes_of_lists row;
-  counted : sizes ≡ extents (start b) row;
+  lent : AreLent row code.bytes code.ends lists;
+  counted : (sizes ≡ []) ⊎ (sizes ≡ extents (start b) row);
 }
 
 abbrev pub row_layers : Option CType → List Layer

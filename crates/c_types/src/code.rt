@@ -1,6 +1,6 @@
 //! A byte code of layers, with those in their lists of parameters, so that types are compared as bytes.
 
-ghost use Rattle.std.specs.Prelude.{◌≡◌, ◌++◌, ◌≤◌, length, take, IfOk, OnOk};
+ghost use Rattle.std.specs.Prelude.{◌≡◌, [], ◌++◌, ◌≤◌, length, take, IfOk, OnOk};
 ghost use Rattle.c_types.specs.Types as types;
 ghost use Rattle.c_types.specs.Codes as spec;
 
@@ -107,6 +107,16 @@ pub(crate) struct Code {
 }
 
 impl Code {
+    /// The code of no layer.
+    pub(crate) fn none(alloc: Global) -> Code
+        ensures { result ≡ spec.code_of [] }
+    {
+        Code {
+            bytes: Items::new(alloc),
+            ends: Items::new(alloc),
+        }
+    }
+
     pub(crate) fn new(alloc: Global, layers: &[Layer]) -> Result<Code, AllocError>
         ensures { IfOk result (λ c. c ≡ spec.code_of layers.now) }
     {

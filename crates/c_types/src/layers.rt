@@ -12,13 +12,13 @@ use crate::parameters::Parameters;
 use sqlite_items::Items;
 use std::marker::Model;
 
-/// The layers of a type, the outermost last: first those that have a code, with the codes of the types of their lists, and then
-/// those on top.
+/// The layers of a type, the outermost last: first those of its row, of which the first have a code, with the codes of
+/// the types of their lists, and then those on top.
 #[derive(Drop)]
 pub struct Layers<'a> {
     row: &'a [Layer],
     code: &'a [u8],
-    // Where the code of each of them ends.
+    // Where the code of each of the first of them ends.
     ends: &'a [usize],
     // The codes of the types of the lists of the first of them.
     lists: &'a [Items<Code>],
@@ -150,10 +150,11 @@ impl<'a> Layers<'a> {
             };
         }
         let below = self.row.len().saturating_sub(1);
+        let coded = self.ends.len().min(below);
         Layers {
             row: &self.row[..below],
-            code: first(self.code, self.ends, below),
-            ends: &self.ends[..below],
+            code: first(self.code, self.ends, coded),
+            ends: &self.ends[..coded],
             lists: &self.lists[..self.lists.len().min(below)],
             more: self.more,
         }
@@ -168,7 +169,7 @@ pub(crate) fn same_shared(a: &Layers<'_>, b: &Layers<'_>) -> bool
     if a.len() != b.len() {
         return false;
     }
-    let both = a.row.len().min(b.row.len());
+    let both = a.ends.len().min(b.ends.len());
     if first(a.code, a.ends, both) != first(b.code, b.ends, both) {
         return false;
     }

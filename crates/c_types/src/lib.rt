@@ -13,6 +13,7 @@ mod parameters;
 mod row;
 mod shared;
 mod sizes;
+mod sorted;
 
 pub use conversions::{common, converts, converts_to, promoted, same, same_ctypes};
 pub use copies::copy_ctype;

@@ -1,13 +1,16 @@
 //! Scopes of names.
 
-ghost use Rattle.std.specs.Prelude.{◌≡◌, ◌<◌, ◌-◌, None, Some, OnOk, OnErr, IfOk, ◌↔◌, ◌≢◌, Err, ◌++◌, ◌∷◌, [], length, take, IsTrue};
+ghost use Rattle.std.specs.Prelude.{◌≡◌, ◌<◌, ◌-◌, None, Some, OnOk, OnErr, IfOk, ◌↔◌, ◌≢◌, Err, ◌++◌, ◌∷◌, [], length, take, IsTrue, slice_set, slice_index_or};
 ghost use Rattle.std.specs.Option.{option_copied};
 ghost use Rattle.c_types.specs.Scopes as spec;
+ghost use Rattle.c_types.specs.Sorted.{place_at};
+ghost use Rattle.c_types.specs.Tables as tables;
+ghost use Rattle.c_types.specs.declared.sorted.Sorted.{Sorted as Places};
 ghost use Rattle.std.specs.Str.{bytes_eq};
 
 use crate::keys::{Key, Wanted};
 use crate::shared::TypeRef;
-use indexmap::IndexMap;
+use crate::sorted::Sorted;
 use std::alloc::{AllocError, AllocFailed, Global};
 use std::marker::Model;
 use thiserror::Error;
@@ -92,17 +95,17 @@ impl Model for Declared {
 }
 
 impl Declared {
-    fn new(alloc: Global, name: &[u8], what: Meaning) -> Result<Declared, AllocError>
+    fn new(alloc: Global, name: &Wanted<'_>, what: Meaning) -> Result<Declared, AllocError>
         ensures { IfOk result (λ d. d ≡ (name.now, what)) }
     {
         let name = Key::new(alloc, name)?;
         Ok(Declared { name, what })
     }
 
-    fn has(&self, name: &[u8]) -> bool
+    fn has(&self, name: &Wanted<'_>) -> bool
         ensures { result ≡ bytes_eq name.now self.now.0 }
     {
-        name == self.name.as_slice()
+        self.name.is(name)
     }
 
     fn what(&self) -> &Meaning
@@ -113,7 +116,7 @@ impl Declared {
 }
 
 // What the first of these declarations of a name says of it.
-fn look_for<'a>(all: &'a [Declared], name: &[u8]) -> Option<&'a Meaning>
+fn look_for<'a>(all: &'a [Declared], name: &Wanted<'_>) -> Option<&'a Meaning>
     ensures { option_copied result ≡ spec.in_scope all.now name.now }
 {
     for each in all {
@@ -124,20 +127,173 @@ fn look_for<'a>(all: &'a [Declared], name: &[u8]) -> Option<&'a Meaning>
     None
 }
 
-// Names that are many, in the order of their declarations.
-struct Many {
-    names: IndexMap<Key, Meaning>,
+// What the first declaration of a name at one of these places says of it.
+fn look_among<'a>(all: &'a [Declared], places: &[usize], name: &Wanted<'_>) -> Option<&'a Meaning>
+    ensures { option_copied result ≡ tables.seen all.now places.now name.now }
+{
+    for place in places {
+        if let Some(each) = all.get(*place) {
+            if each.has(name) {
+                return Some(each.what());
+            }
+        }
+    }
+    None
 }
 
-// (derived, each place that drops one would look into its table)
-impl Drop for Many {
-    fn drop(self) {
-        let Many { names: _ } = self;
+// Puts a declaration behind those so far.
+fn push_declared(
+    alloc: Global,
+    all: &mut Vec<Declared>,
+    name: &Wanted<'_>,
+    what: Meaning,
+) -> Result<(), DeclareFault>
+    ensures ok { OnOk result (all.new.items ≡ all.old.items ++ (name.now, what) ∷ []) }
+    ensures not_taken { result ≢ Err DeclareFault.Taken }
+    ensures err { OnErr result (all.new.items ≡ all.old.items) }
+{
+    let declared = Declared::new(alloc, name, what)?;
+    all.push(declared)?;
+    Ok(())
+}
+
+// The places of the names of one bucket.
+#[derive(Drop)]
+struct Bucket {
+    places: Vec<usize>,
+}
+
+impl Model for Bucket {
+    ghost use Rattle.std.specs.Prelude.{List, ℕ};
+
+    ghost Value = { List ℕ };
+
+    ghost view = { λ b. b.places.items };
+}
+
+// How many places a bucket has at most; names beyond these are looked for in the order of the names.
+const FULL: usize = 32;
+
+impl Bucket {
+    fn new(alloc: Global) -> Bucket
+        ensures { result ≡ [] }
+    {
+        Bucket {
+            places: Vec::new(alloc),
+        }
+    }
+
+    fn places(&self) -> &[usize]
+        ensures { result.now ≡ self.now }
+    {
+        self.places.as_slice()
+    }
+
+    fn has_room(&self) -> bool {
+        self.places.len() < FULL
+    }
+
+    fn push(&mut self, place: usize) -> Result<(), AllocError>
+        ensures ok { OnOk result (self.new ≡ self.old ++ place ∷ []) }
+        ensures err { OnErr result (self.new ≡ self.old) }
+    {
+        self.places.push(place)?;
+        Ok(())
     }
 }
 
-impl Model for Many {
+// What the declarations in the bucket of a name say of it.
+fn near<'a>(all: &'a [Declared], buckets: &[Bucket], name: &Wanted<'_>) -> Option<&'a Meaning>
+    ensures { option_copied result ≡ tables.seen all.now (slice_index_or buckets.now (tables.slot (length buckets.now) name.now) []) name.now }
+{
+    let many = buckets.len();
+    if many == 0 {
+        None
+    } else {
+        look_among(all, buckets[name.slot(many)].places(), name)
+    }
+}
+
+// What the declaration at the place of a name says of it.
+fn far<'a>(all: &'a [Declared], sorted: &Sorted, name: &Wanted<'_>) -> Option<&'a Meaning>
+    ensures { option_copied result ≡ tables.seen all.now (tables.listed (place_at sorted.now name.now)) name.now }
+{
+    match sorted.get(name.as_slice()) {
+        Some(place) => look_among(all, &[place], name),
+        None => None,
+    }
+}
+
+// Puts a place into a bucket.
+fn note_near(buckets: &mut Vec<Bucket>, slot: usize, place: usize) -> Result<(), AllocError>
+    requires { slot < length buckets.old.items }
+    ensures ok { OnOk result (buckets.new.items ≡ slice_set buckets.old.items slot (slice_index_or buckets.old.items slot [] ++ place ∷ [])) }
+    ensures err { OnErr result (buckets.new.items ≡ buckets.old.items) }
+{
+    buckets[slot].push(place)
+}
+
+// Notes the place of a name, where it is looked for.
+fn note(
+    alloc: Global,
+    buckets: &mut Vec<Bucket>,
+    sorted: &mut Sorted,
+    name: &Wanted<'_>,
+    place: usize,
+) -> Result<(), AllocError>
+    ensures ok { OnOk result (tables.Noted buckets.old.items sorted.old buckets.new.items sorted.new name.now place) }
+    ensures err { OnErr result (tables.Keeps buckets.old.items sorted.old buckets.new.items sorted.new) }
+{
+    let many = buckets.len();
+    if many == 0 {
+        sorted.insert(alloc, name.as_slice(), place)?;
+        return Ok(());
+    }
+    let slot = name.slot(many);
+    if buckets[slot].has_room() {
+        note_near(buckets, slot, place)?;
+    } else {
+        sorted.insert(alloc, name.as_slice(), place)?;
+    }
+    Ok(())
+}
+
+// Makes a bucket where there is none.
+fn begin(alloc: Global, buckets: &mut Vec<Bucket>) -> Result<(), AllocError>
+    ensures { (sorted : Places) → tables.Keeps buckets.old.items sorted buckets.new.items sorted }
+{
+    if buckets.is_empty() {
+        buckets.push(Bucket::new(alloc))?;
+    }
+    Ok(())
+}
+
+// How many buckets a table has that is made for a great many names: a text has at most some 87,000 at file scope, so
+// unless names are chosen for their tags, about ten share a bucket.
+const BUCKETS: u32 = 8_192;
+
+// Names that are many, in the order of their declarations, with the places where each is looked for: in its bucket, or,
+// where that is full, in the order of the names.
+struct Table {
+    all: Vec<Declared>,
+    buckets: Vec<Bucket>,
+    sorted: Sorted,
+}
+
+// (derived, each place that drops one would look into it)
+impl Drop for Table {
+    fn drop(self) {
+        let Table {
+            all: _,
+            buckets: _,
+            sorted: _,
+        } = self;
+    }
+}
+
+impl Model for Table {
     ghost use Rattle.c_types.specs.Scopes as spec;
+    ghost use Rattle.c_types.specs.Tables as tables;
     ghost use Rattle.c_types.specs.contracts.ctype.CType as inner;
     ghost use Rattle.std.specs.Coded.{codes};
 
@@ -145,72 +301,90 @@ impl Model for Many {
 
     ghost coded = { Prim.hlevel (codes, inner.the_row.coded) };
 
-    ghost view = { λ s. s.names.entries };
+    ghost view = { λ t. t.all.items };
+
+    ghost invariant = { λ t. tables.Finds t.all.items t.buckets.items t.sorted };
 }
 
-impl Many {
-    fn new(alloc: Global) -> Many
+impl Table {
+    // One without buckets.
+    fn new(alloc: Global) -> Table
         ensures { result ≡ [] }
     {
-        Many {
-            names: IndexMap::new(alloc),
+        Table {
+            all: Vec::new(alloc),
+            buckets: Vec::new(alloc),
+            sorted: Sorted::new(alloc),
         }
     }
 
-    fn is_empty(&self) -> bool
+    // One with buckets.
+    fn wide(alloc: Global) -> Result<Table, AllocError>
+        ensures { IfOk result (λ t. t ≡ []) }
+    {
+        let mut buckets = Vec::with_capacity(alloc, BUCKETS as usize)?;
+        for _ in 0..BUCKETS {
+            buckets.push(Bucket::new(alloc))?;
+        }
+        Ok(Table {
+            all: Vec::new(alloc),
+            buckets,
+            sorted: Sorted::new(alloc),
+        })
+    }
+
+    // Whether it has neither names nor buckets.
+    fn is_unused(&self) -> bool
         ensures { IsTrue result → self.now ≡ [] }
     {
-        self.names.is_empty()
+        self.all.is_empty() && self.buckets.is_empty()
     }
 
-    fn find(&self, name: &[u8]) -> Option<&Meaning>
+    fn find(&self, name: &Wanted<'_>) -> Option<&Meaning>
         ensures { option_copied result ≡ spec.in_scope self.now name.now }
     {
-        // (most scopes have few names: no name is hashed for these)
-        if self.names.is_empty() {
+        // (most scopes have few names, and none here)
+        if self.all.is_empty() {
             return None;
         }
-        self.names.get(Wanted { name })
+        let all = self.all.as_slice();
+        match near(all, self.buckets.as_slice(), name) {
+            Some(found) => Some(found),
+            None => far(all, &self.sorted, name),
+        }
     }
 
-    fn declare(&mut self, alloc: Global, name: &[u8], what: Meaning) -> Result<(), DeclareFault>
+    fn declare(
+        &mut self,
+        alloc: Global,
+        name: &Wanted<'_>,
+        what: Meaning,
+    ) -> Result<(), DeclareFault>
         ensures ok { OnOk result (self.new ≡ self.old ++ (name.now, what) ∷ []) }
         ensures free { OnOk result (spec.in_scope self.old name.now ≡ None) }
         ensures taken { result ≡ Err DeclareFault.Taken → spec.in_scope self.old name.now ≢ None }
         ensures err { OnErr result (self.new ≡ self.old) }
     {
-        if self.names.contains_key(Wanted { name }) {
+        if self.find(name).is_some() {
             return Err(DeclareFault::Taken);
         }
-        let key = Key::new(alloc, name)?;
-        self.names.insert(key, what)?;
-        Ok(())
+        begin(alloc, &mut self.buckets)?;
+        let place = self.all.len();
+        note(alloc, &mut self.buckets, &mut self.sorted, name, place)?;
+        match push_declared(alloc, &mut self.all, name, what) {
+            Ok(()) => Ok(()),
+            Err(why) => Err(why),
+        }
     }
 }
 
-// Puts a declaration behind those that are looked for one by one.
-fn push_few(
-    alloc: Global,
-    few: &mut Vec<Declared>,
-    name: &[u8],
-    what: Meaning,
-) -> Result<(), DeclareFault>
-    ensures ok { OnOk result (few.new.items ≡ few.old.items ++ (name.now, what) ∷ []) }
-    ensures not_taken { result ≢ Err DeclareFault.Taken }
-    ensures err { OnErr result (few.new.items ≡ few.old.items) }
-{
-    let declared = Declared::new(alloc, name, what)?;
-    few.push(declared)?;
-    Ok(())
-}
-
-// How many names of a scope are looked for one by one: most scopes have fewer, and need no map.
-const FEW: usize = 4;
+// How many names of an inner scope are looked for one by one: most have fewer, and need no table.
+const FEW: usize = 8;
 
 // The names of one scope, in the order of their declarations: first those that are looked for one by one.
 struct Scope {
     few: Vec<Declared>,
-    more: Many,
+    more: Table,
 }
 
 // (derived, each place that drops one would look into its table)
@@ -239,12 +413,23 @@ impl Scope {
     {
         Scope {
             few: Vec::new(alloc),
-            more: Many::new(alloc),
+            more: Table::new(alloc),
         }
     }
 
+    // One with buckets from the start, for a great many names.
+    fn wide(alloc: Global) -> Result<Scope, AllocError>
+        ensures { IfOk result (λ s. s ≡ []) }
+    {
+        let more = Table::wide(alloc)?;
+        Ok(Scope {
+            few: Vec::new(alloc),
+            more,
+        })
+    }
+
     #[tactic(auto, using(crate::proofs::Lookups::in_both))]
-    fn find(&self, name: &[u8]) -> Option<&Meaning>
+    fn find(&self, name: &Wanted<'_>) -> Option<&Meaning>
         ensures { option_copied result ≡ spec.in_scope self.now name.now }
     {
         match look_for(self.few.as_slice(), name) {
@@ -254,7 +439,12 @@ impl Scope {
     }
 
     #[tactic(auto, using(crate::proofs::Lookups::in_both))]
-    fn declare(&mut self, alloc: Global, name: &[u8], what: Meaning) -> Result<(), DeclareFault>
+    fn declare(
+        &mut self,
+        alloc: Global,
+        name: &Wanted<'_>,
+        what: Meaning,
+    ) -> Result<(), DeclareFault>
         ensures ok { OnOk result (self.new ≡ self.old ++ (name.now, what) ∷ []) }
         ensures free { OnOk result (spec.in_scope self.old name.now ≡ None) }
         ensures taken { result ≡ Err DeclareFault.Taken → spec.in_scope self.old name.now ≢ None }
@@ -263,8 +453,8 @@ impl Scope {
         if look_for(self.few.as_slice(), name).is_some() {
             return Err(DeclareFault::Taken);
         }
-        if self.few.len() < FEW && self.more.is_empty() {
-            push_few(alloc, &mut self.few, name, what)
+        if self.few.len() < FEW && self.more.is_unused() {
+            push_declared(alloc, &mut self.few, name, what)
         } else {
             self.more.declare(alloc, name, what)
         }
@@ -299,7 +489,7 @@ impl Scopes {
         ensures { IfOk result (λ s. s ≡ [] ∷ []) }
     {
         let mut scopes = Vec::new(alloc);
-        scopes.push(Scope::new(alloc))?;
+        scopes.push(Scope::wide(alloc)?)?;
         Ok(Scopes { alloc, scopes })
     }
 
@@ -345,17 +535,18 @@ impl Scopes {
     {
         let alloc = self.alloc;
         let last = self.scopes.len() - 1;
-        self.scopes[last].declare(alloc, name, what)
+        self.scopes[last].declare(alloc, &Wanted::new(name), what)
     }
 
     /// What the innermost scope that has the name says of it, and none where no open scope has it.
     pub fn find(&self, name: &[u8]) -> Option<&Meaning>
         ensures { option_copied result ≡ spec.find self.now name.now }
     {
+        let wanted = Wanted::new(name);
         let mut at = self.scopes.len();
         while at > 0 {
             at -= 1;
-            if let Some(found) = self.scopes[at].find(name) {
+            if let Some(found) = self.scopes[at].find(&wanted) {
                 return Some(found);
             }
         }

@@ -7,14 +7,15 @@ ghost use Rattle.c_types.specs.Extents as sizes;
 
 use crate::code::{Code, codes_of_lists, first};
 use crate::ctype::{Base, CType, Layer};
-use crate::extents::{Extent, extents, start};
+use crate::extents::{Extent, after, extents, start};
 use crate::layers::Layers;
 use sqlite_items::Items;
 use std::alloc::{AllocError, Global};
 use std::marker::Model;
 use std::rc::Rc;
 
-/// The layers over a base, with their code, the extent over each, and the codes of the types of each one's list.
+/// The layers over a base, with their code, the extent over each, and the codes of the types of each one's list: few
+/// layers without these, since they are compared and counted one by one as fast.
 #[derive(Drop)]
 pub(crate) struct Row {
     base: Base,
@@ -22,7 +23,7 @@ pub(crate) struct Row {
     code: Code,
     // The codes of the types of each layer's list.
     lists: Items<Items<Code>>,
-    // The extent of the base, and that over each layer.
+    // The extent of the base, and that over each layer, where they are kept.
     extents: Items<Extent>,
 }
 
@@ -41,11 +42,64 @@ impl Model for Row {
     ghost invariant = { λ r. IsRow r.base r.layers r.code r.lists r.extents };
 }
 
+// How many layers at most are kept without a code.
+const FEW_LAYERS: usize = 4;
+
+// How many types at most a list has that is kept without the codes of its types.
+const FEW_TYPES: usize = 8;
+
+// Whether a type of a list has a layer at most, and that without a list.
+fn is_simple(t: &CType) -> bool {
+    match t.layers.as_slice() {
+        [] => true,
+        [Layer::Function(_)] => false,
+        [_] => true,
+        _ => false,
+    }
+}
+
+// Whether a layer has no list, or few types in it and each of them simple.
+fn is_short(layer: &Layer) -> bool {
+    match layer {
+        Layer::Function(list) => list.len() <= FEW_TYPES && list.as_slice().iter().all(is_simple),
+        Layer::Pointer | Layer::Array(_) | Layer::Unlisted | Layer::Cspec | Layer::Vspec => true,
+    }
+}
+
+// Whether layers are so few, with those of the types in their lists, that they need no code and no extents.
+fn are_few(layers: &[Layer]) -> bool {
+    layers.len() <= FEW_LAYERS && layers.iter().all(is_short)
+}
+
 impl Row {
     pub(crate) fn new(alloc: Global, t: CType) -> Result<Row, AllocError>
         ensures { IfOk result (λ r. r ≡ t) }
     {
         let CType { base, layers } = t;
+        if are_few(layers.as_slice()) {
+            Ok(Row::bare(alloc, base, layers))
+        } else {
+            Row::coded(alloc, base, layers)
+        }
+    }
+
+    // The layers alone.
+    fn bare(alloc: Global, base: Base, layers: Items<Layer>) -> Row
+        ensures { result ≡ types.ctype base layers }
+    {
+        Row {
+            base,
+            layers,
+            code: Code::none(alloc),
+            lists: Items::new(alloc),
+            extents: Items::new(alloc),
+        }
+    }
+
+    // The layers with all that is kept of them.
+    fn coded(alloc: Global, base: Base, layers: Items<Layer>) -> Result<Row, AllocError>
+        ensures { IfOk result (λ r. r ≡ types.ctype base layers) }
+    {
         let code = Code::new(alloc, layers.as_slice())?;
         let lists = codes_of_lists(alloc, layers.as_slice())?;
         let extents = extents(alloc, start(base), layers.as_slice())?;
@@ -65,7 +119,7 @@ impl Row {
     {
         match self.extents.get(len) {
             Some(extent) => *extent,
-            None => start(self.base),
+            None => after(start(self.base), &self.layers.as_slice()[..len]),
         }
     }
 
@@ -83,11 +137,13 @@ impl Row {
         ensures { result ≡ take len (types.layers_of self.now) ++ more.now }
     {
         let ends = self.code.ends.as_slice();
+        let coded = ends.len().min(len);
+        let lists = self.lists.as_slice();
         Layers::coded(
             &self.layers.as_slice()[..len],
-            first(self.code.bytes.as_slice(), ends, len),
-            &ends[..len],
-            &self.lists.as_slice()[..len],
+            first(self.code.bytes.as_slice(), ends, coded),
+            &ends[..coded],
+            &lists[..lists.len().min(len)],
             more,
         )
     }

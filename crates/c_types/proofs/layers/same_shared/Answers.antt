@@ -1,21 +1,13 @@
 use Rattle.std.proofs.Common.{◌≡◌, ◌&&◌, ◌+◌, false, length, drop, ap, sym, ◌∙◌, arith}
 use Rattle.c_types.specs.Types.{same_layers}
-use Rattle.c_types.proofs.Coded.{many_ends, enough}
+use Rattle.c_types.proofs.Coded.{enough}
 use Rattle.c_types.proofs.SameCodes.{codes_differ, codes_agree, further, at_the_end}
 use Rattle.c_types.proofs.layers.same_shared.Goals as goal
-
-pub first-requires-clause-marked : goal.first-requires-clause-marked
-first-requires-clause-marked c =
-    omega (arith, ap length c.a.invariant.ended, many_ends 0 c.a.inside.row.now, c.min-both.ensures)
 
 pub first-requires-clause-within : goal.first-requires-clause-within
 first-requires-clause-within c =
     enough c.a.inside.row.now c.a.inside.code.now c.a.inside.ends.now c.min-both.result c.a.invariant.coded
     c.a.invariant.ended (omega (arith, c.min-both.ensures))
-
-pub first-requires-2-clause-marked : goal.first-requires-2-clause-marked
-first-requires-2-clause-marked c =
-    omega (arith, ap length c.b.invariant.ended, many_ends 0 c.b.inside.row.now, c.min-both.ensures)
 
 pub first-requires-2-clause-within : goal.first-requires-2-clause-within
 first-requires-2-clause-within c =

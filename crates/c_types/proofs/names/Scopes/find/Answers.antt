@@ -13,4 +13,5 @@ returns-in-Some c =
     let there : get_or c.args.self.now (c.loop-at.at - 1) c.index.result.now ≡ c.index.result.now =
     ap (λ l. get_or l (c.loop-at.at - 1) c.index.result.now) (sym c.self.view_is) ∙ sym c.index.ensures in
     sym (behind (c.loop-at.at - 1) c.args.self.now c.args.name.now c.in-Some.found.now
-    (e ∙ ap (λ s. spec.in_scope s c.args.name.now) there ∙ sym c.in-Some.ensures))
+    (e ∙ ap (λ s. spec.in_scope s c.args.name.now) there ∙
+    ap (λ n. spec.in_scope c.index.result.now n) (sym c.new-wanted.ensures) ∙ sym c.in-Some.ensures))
