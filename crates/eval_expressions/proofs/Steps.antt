@@ -1,14 +1,14 @@
 -- The steps of expressions: what a node leaves behind as it begins, and what a frame makes of its value.
-use Rattle.std.proofs.Common.{◌≡◌, ℕ, zero, suc, None, Some, Option, refl, ap, sym, ◌∙◌}
+use Rattle.std.proofs.Common.{◌≡◌, ℕ, None, Some, refl, ap, sym, ◌∙◌}
 use Rattle.host_edge.specs.declared.ending.TrapKind.{TrapKind}
 use Rattle.host_edge.specs.declared.ending.Ending.TheVariants.{Trap}
 use Rattle.history.specs.Events.{Ended}
 use Rattle.icode_ops.specs.declared.kind.BinKind.{BinKind}
 use Rattle.meaning_state.specs.Operators.{bin_trap, bin_value}
-use Rattle.staged_meaning.specs.World.{World, Result, Gives, spend, spend_from, unless}
+use Rattle.staged_meaning.specs.World.{World, spend, unless}
 use Rattle.meaning_rest.specs.Pending.{Now}
 use Rattle.meaning_rest.specs.Pending as pending
-use Rattle.meaning_rest.specs.Rest.{Value, valued, operated, spent}
+use Rattle.meaning_rest.specs.Rest.{valued, operated, spent}
 use Rattle.meaning_rest.proofs.Laws as law
 use Rattle.typed_tree.proofs.Views as view
 use Rattle.typed_tree.specs.Nodes.{Expr}

@@ -9,6 +9,8 @@ ghost use Rattle.eval_state.specs.Steps.{begun};
 ghost use Rattle.eval_state.specs.Run.{outcome, run_of};
 ghost use Rattle.eval_state.specs.Views.{args_view, now_view};
 
+use crate::results::first;
+use eval_simple::at_once;
 use eval_state::{ExpressionFrame, Frame, Machine, Now};
 use icode_ops::{BinKind, UnKind};
 use std::alloc::AllocError;
@@ -136,8 +138,29 @@ pub(crate) fn post<'a>(
 }
 
 /// An operator on two operands: the first.
-#[tactic(auto, using(crate::proofs::Steps::goes_on), unfolding(eval_state::specs::Steps::begun))]
+#[tactic(auto, using(crate::proofs::AtOnce::operands))]
 pub(crate) fn binary<'a>(
+    m: &mut Machine<'a>,
+    kind: BinKind,
+    a: &'a Expr,
+    b: &'a Expr,
+) -> Result<Now<'a>, AllocError>
+    ensures same { IfOk result (λ n. outcome (now_view n) (run_of m.new)
+        ≡ begun (node.Bin kind (expr_view a.entry.now) (expr_view b.entry.now)) (run_of m.old)) }
+    ensures units { IfOk result (λ n. (run_of m.new).state.units ≤ (run_of m.old).state.units) }
+    ensures less { IfOk result (λ n. (run_of m.new).state.units ≡ (run_of m.old).state.units
+        → heft (now_view n) (run_of m.new)
+        < heft (pending.Eval (node.Bin kind (expr_view a.entry.now) (expr_view b.entry.now))) (run_of m.old)) }
+{
+    match at_once(m, a)? {
+        Some(x) => first(m, kind, b, x),
+        None => binary_later(m, kind, a, b),
+    }
+}
+
+// An operator whose first operand isn't evaluated at once.
+#[tactic(auto, using(crate::proofs::Steps::goes_on), unfolding(eval_state::specs::Steps::begun))]
+fn binary_later<'a>(
     m: &mut Machine<'a>,
     kind: BinKind,
     a: &'a Expr,

@@ -8,6 +8,8 @@ ghost use Rattle.eval_state.specs.Steps.{taken};
 ghost use Rattle.eval_state.specs.Run.{outcome, run_of};
 ghost use Rattle.eval_state.specs.Views.{now_view};
 
+use crate::operators::second;
+use eval_simple::at_once;
 use eval_state::{ExpressionFrame, Frame, Machine, Now};
 use host_edge::Ending;
 use icode_ops::{BinKind, UnKind};
@@ -41,8 +43,29 @@ pub(crate) fn set_generated<'a>(m: &mut Machine<'a>, i: u32, v: u32) -> Result<N
 }
 
 /// The first operand is there.
-#[tactic(auto, using(crate::proofs::Steps::goes_on), unfolding(eval_state::specs::Steps::taken))]
+#[tactic(auto, using(crate::proofs::AtOnce::operands))]
 pub(crate) fn first<'a>(
+    m: &mut Machine<'a>,
+    kind: BinKind,
+    b: &'a Expr,
+    v: u32,
+) -> Result<Now<'a>, AllocError>
+    ensures same { IfOk result (λ n. outcome (now_view n) (run_of m.new)
+        ≡ taken (pending.First kind (expr_view b.entry.now)) v (run_of m.old)) }
+    ensures units { IfOk result (λ n. (run_of m.new).state.units ≤ (run_of m.old).state.units) }
+    ensures less { IfOk result (λ n. (run_of m.new).state.units ≡ (run_of m.old).state.units
+        → heft (now_view n) (run_of m.new)
+        < waiting (pending.First kind (expr_view b.entry.now)) (run_of m.old) + held (run_of m.old)) }
+{
+    match at_once(m, b)? {
+        Some(y) => Ok(second(m, kind, v, y)),
+        None => first_later(m, kind, b, v),
+    }
+}
+
+// The first operand is there, and the second isn't evaluated at once.
+#[tactic(auto, using(crate::proofs::Steps::goes_on), unfolding(eval_state::specs::Steps::taken))]
+fn first_later<'a>(
     m: &mut Machine<'a>,
     kind: BinKind,
     b: &'a Expr,

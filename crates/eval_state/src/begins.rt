@@ -81,7 +81,10 @@ impl<'a> Machine<'a> {
             compiled: Items::new(alloc),
             arena: 0,
         };
-        Ok(Machine { parts })
+        Ok(Machine {
+            parts,
+            spare: Items::new(alloc),
+        })
     }
 
     /// The body of main.
@@ -97,12 +100,5 @@ impl<'a> Machine<'a> {
         ensures { IsFalse result ↔ ((run_of self.now).state.frames ≡ []) }
     {
         !self.parts.entries.is_empty()
-    }
-
-    /// Where memory comes from.
-    pub fn alloc(&self) -> Global
-        ensures { result ≡ self.now.alloc }
-    {
-        self.parts.alloc
     }
 }

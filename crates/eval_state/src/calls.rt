@@ -177,8 +177,9 @@ impl<'a> Machine<'a> {
         if let Some(kind) = self.limit(charge, function.object) {
             return Ok(Now::Ended(Ending::Trap(kind)));
         }
+        let variables = self.list();
         let body = Body {
-            variables: Items::new(self.parts.alloc),
+            variables,
             arguments,
             generated: self.parts.body.generated.again(self.parts.alloc)?,
             object: function.object,

@@ -11,6 +11,7 @@ mod library;
 mod memory;
 mod parts;
 mod pending;
+mod spare;
 mod stages;
 mod state;
 mod variables;

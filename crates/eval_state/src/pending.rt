@@ -13,6 +13,7 @@ ghost use Rattle.eval_state.specs.Views.{frame_view, now_view};
 use crate::parts::{Frame, Now, Popped};
 use crate::state::{Body, Entry, Machine};
 use std::alloc::AllocError;
+use std::mem;
 
 impl<'a> Machine<'a> {
     // A frame more is pending.
@@ -101,7 +102,8 @@ impl<'a> Machine<'a> {
         self.parts.used = self.parts.used.saturating_sub(charge);
         self.parts.frames = self.parts.frames.saturating_sub(self.parts.body.object);
         self.parts.depth += 1;
-        self.parts.body = caller;
+        let left = mem::replace(&mut self.parts.body, caller);
+        self.keep_lists(left);
     }
 
     /// Takes off what waits for a value or for the end of a body, which is there; none, where nothing is pending.

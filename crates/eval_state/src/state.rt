@@ -157,6 +157,8 @@ pub struct Parts<'a> {
 #[derive(Drop)]
 pub struct Machine<'a> {
     pub(crate) parts: Parts<'a>,
+    // Lists of calls that are over, whose memory serves the next ones.
+    pub(crate) spare: Items<Items<u32>>,
 }
 
 impl<'a> Model for Machine<'a> {

@@ -5,36 +5,23 @@ use Rattle.std.proofs.Common as std
 use Rattle.word32.specs.declared.width.Width.{Width}
 use Rattle.typed_tree.specs.Nodes as node
 use Rattle.typed_tree.specs.Nodes.{Expr, Stmt, Items, NoItem, Item}
-use Rattle.staged_meaning.specs.Meaning.{eval, exec, exec_items, then_next}
+use Rattle.staged_meaning.specs.Meaning.{eval}
 use Rattle.staged_meaning.specs.Statements.{passed}
-use Rattle.staged_meaning.specs.World.{Flow, Normal, Broke, Continued, Gives, Returns, Ends, Stops, Result}
+use Rattle.staged_meaning.specs.World.{Normal, Gives}
 use Rattle.staged_meaning.specs.World.{then_do, spend, with_variable}
 use Rattle.meaning_rest.specs.Pending.{Now}
 use Rattle.meaning_rest.specs.Pending as pending
-use Rattle.meaning_rest.specs.Rest as rest
 use Rattle.meaning_rest.specs.Rest.{left, loop_of, valued, after}
-use Rattle.meaning_rest.proofs.Laws as law
 use Rattle.meaning_rest.proofs.Statements as statement
 use Rattle.eval_state.specs.declared.parts.Now as code
 use Rattle.eval_state.specs.Less.{heft}
 use Rattle.eval_state.specs.declared.state.Parts.{Parts}
-use Rattle.eval_state.specs.Run.{Run, run_of, here, world, leads, outcome, in_world, with_units}
-use Rattle.eval_state.specs.Steps.{executed, taken, ended}
+use Rattle.eval_state.specs.Run.{Run, run_of, here, world, leads, in_world, with_units}
+use Rattle.eval_state.specs.Steps.{taken}
 use Rattle.eval_state.specs.Views.{now_view}
 use Rattle.eval_simple.specs.Simple.{IsDone}
 use Rattle.eval_simple.proofs.Going as going
 use Rattle.eval_statements.specs.Ran.{IsRun}
-
--- ---- what was found at once
-
-pub done : (o : Option ℕ) (e : Expr) (p q : Parts) (v : ℕ)
-    → MatchOption o (q ≡ p) (λ v. IsDone e v (run_of p) (run_of q))
-    → o ≡ Some v → IsDone e v (run_of p) (run_of q)
-done o e p q v h is = subst (λ o. MatchOption o (q ≡ p) (λ v. IsDone e v (run_of p) (run_of q))) is h
-
-pub undone : (o : Option ℕ) (e : Expr) (p q : Parts) → MatchOption o (q ≡ p) (λ v. IsDone e v (run_of p) (run_of q))
-    → o ≡ None → q ≡ p
-undone o e p q h is = subst (λ o. MatchOption o (q ≡ p) (λ v. IsDone e v (run_of p) (run_of q))) is h
 
 pub spends : (r t : Run) (e : Expr) (v x y : ℕ) → IsDone e v r t → t.state.units ≡ r.state.units → x < y
 spends r t e v x y h same = omega (arith, going.spends r t e v h, same)
@@ -56,29 +43,6 @@ pub still_most : {E : Type 0} (result : std.Result code.Now E) (p q : Parts) (t 
     → IfOk result (λ n. t.state.units ≡ (run_of p).state.units → heft (now_view n) t ≤ y (run_of p))
 still_most result p q t y h k =
     subst (λ p. IfOk result (λ n. t.state.units ≡ (run_of p).state.units → heft (now_view n) t ≤ y (run_of p))) h k
-
-pub drops : (r t : Run) (e : Expr) (v : ℕ) → IsDone e v r t → outcome (pending.Left Normal) t ≡ executed (node.Eval e) r
-unfolding executed taken
-drops r t e v h = going.takes r t e v pending.Drop h ∙ ap (leads r) (statement.dropped (here r) e (world r))
-
-pub tests : (r t : Run) (n : Now) (e : Expr) (s : Stmt) (v : ℕ) → IsDone e v r t
-    → outcome n t ≡ taken (pending.If s) v t → outcome n t ≡ executed (node.If e s) r
-unfolding executed
-tests r t n e s v h k =
-    k ∙ going.takes r t e v (pending.If s) h ∙ ap (leads r) (statement.if_then (here r) e s (world r))
-
-pub tests_else : (r t : Run) (n : Now) (e : Expr) (s1 s2 : Stmt) (v : ℕ) → IsDone e v r t
-    → outcome n t ≡ taken (pending.IfElse s1 s2) v t → outcome n t ≡ executed (node.IfElse e s1 s2) r
-unfolding executed
-tests_else r t n e s1 s2 v h k =
-    k ∙ going.takes r t e v (pending.IfElse s1 s2) h ∙ ap (leads r) (statement.if_else (here r) e s1 s2 (world r))
-
-pub returns : (r t : Run) (e : Expr) (v : ℕ) → IsDone e v r t
-    → outcome (pending.Returned v) t ≡ executed (node.ReturnValue e) r
-unfolding executed taken
-returns r t e v h = going.takes r t e v pending.Return h ∙ ap (leads r) (statement.returns (here r) e (world r))
-
-pub ruleset starts = (drops, returns)
 
 -- ---- turns
 
@@ -130,54 +94,3 @@ parameter_ran r t k v width is set =
     )
 
 pub ruleset ran = (expression_ran, variable_ran, parameter_ran)
-
-pub runs_on : (r t : Run) (s : Stmt) (more : Items) → IsRun s r t
-    → outcome (pending.Run more) t ≡ outcome (pending.Run (Item s more)) r
-unfolding IsRun
-runs_on r t s more h =
-    ap (outcome (pending.Run more)) h.0
-    ∙ ap (λ x. leads r (left (then_do x (then_next (exec_items (here r) more))))) (sym h.1)
-
-pub weighs_less : (r t : Run) (s : Stmt) (more : Items) → IsRun s r t
-    → heft (pending.Run more) t < heft (pending.Run (Item s more)) r
-unfolding IsRun
-weighs_less r t s more h =
-    let same : heft (pending.Run more) t ≡ heft (pending.Run more) r = ap (heft (pending.Run more)) h.0 in
-    omega (arith, same)
-
-pub runs_fewer : (r t : Run) (s : Stmt) → IsRun s r t → t.state.units ≤ r.state.units
-unfolding IsRun
-runs_fewer r t s h = h.2
-
--- the last item is all that is left
-pub last_item : (r : Run) (s : Stmt) → outcome (pending.Exec s) r ≡ outcome (pending.Run (Item s NoItem)) r
-last_item r s = ap (leads r) (alone (exec (here r) s (world r)))
-  where
-    alone : (x : Result Flow) → left x ≡ left (then_do x (then_next (λ w. Gives Normal w)))
-    alone (Gives Normal w) = refl
-    alone (Gives Broke w) = refl
-    alone (Gives Continued w) = refl
-    alone (Returns v w) = refl
-    alone (Ends e s) = refl
-    alone (Stops s) = refl
-
-pub ruleset items = (runs_on, weighs_less, runs_fewer, last_item)
-
--- ---- a block without variables
-
-pub block_runs : (r : Run) (variables items : Items) → variables ≡ NoItem
-    → outcome (pending.Run items) r ≡ executed (node.Block variables items) r
-unfolding executed
-block_runs r variables items h = ap (λ vs. executed (node.Block vs items) r) (sym h)
-
-pub ruleset blocks = (law.binds, block_runs)
-
--- ---- what ran, or not
-
-pub ran_through : (o : Option (Unit {0})) (s : Stmt) (p q : Parts) (u : (Unit {0}))
-    → MatchOption o (q ≡ p) (λ u. IsRun s (run_of p) (run_of q)) → o ≡ Some u → IsRun s (run_of p) (run_of q)
-ran_through o s p q u h is = subst (λ o. MatchOption o (q ≡ p) (λ u. IsRun s (run_of p) (run_of q))) is h
-
-pub unmoved : (o : Option (Unit {0})) (s : Stmt) (p q : Parts)
-    → MatchOption o (q ≡ p) (λ u. IsRun s (run_of p) (run_of q)) → o ≡ None → q ≡ p
-unmoved o s p q h is = subst (λ o. MatchOption o (q ≡ p) (λ u. IsRun s (run_of p) (run_of q))) is h

@@ -1,19 +1,16 @@
 -- The steps of statements.
-use Rattle.std.proofs.Common.{◌≡◌, ◌≢◌, ℕ, zero, suc, Option, None, Some, IfOk, refl, ap, sym, subst, ◌∙◌}
-use Rattle.std.proofs.Common as std
+use Rattle.std.proofs.Common.{◌≡◌, ◌≢◌, ℕ, zero, suc, Option, None, Some, refl, ap, sym, ◌∙◌}
 use Rattle.typed_tree.specs.Nodes as node
 use Rattle.typed_tree.specs.Nodes.{Expr, Stmt}
 use Rattle.staged_meaning.specs.Meaning.{eval, exec}
-use Rattle.staged_meaning.specs.World.{Flow, Normal, Broke, Continued, World, Result, Gives, spend, then_do}
+use Rattle.staged_meaning.specs.World.{Flow, Normal, Broke, Continued, World, Gives, spend, then_do}
 use Rattle.meaning_rest.specs.Pending.{Now}
 use Rattle.meaning_rest.specs.Pending as pending
-use Rattle.meaning_rest.specs.Rest.{Signal, Left, left, loop_of, valued, after, spent}
+use Rattle.meaning_rest.specs.Rest.{Left, left, loop_of, valued, after, spent}
 use Rattle.meaning_rest.proofs.Laws as law
 use Rattle.meaning_rest.proofs.Statements as statement
 use Rattle.typed_tree.proofs.Views as view
-use Rattle.eval_state.specs.declared.parts.Now as code
 use Rattle.eval_state.specs.Steps.{executed, taken, ended}
-use Rattle.eval_state.specs.Views.{now_view}
 use Rattle.eval_state.specs.Run.{Run, here, world, leads, outcome, in_world}
 
 -- the end of a statement behind a change of the world, which spends a unit
@@ -30,11 +27,6 @@ pub ends_now : (r t : Run) (n : Now) (flow : Flow)
     → outcome n t ≡ leads r (spent (here r) (world r).units (pending.Left flow) (world r))
     → outcome n t ≡ leads r (left (spend flow (world r)))
 ends_now r t n flow k = k ∙ ap (leads r) (law.spent_left (here r) (world r).units flow (world r))
-
--- what a call leads to, where that is the same as something else
-pub same_as : {E : Type 0} (result : std.Result code.Now E) (t : Run) (x y : Result Signal)
-    → IfOk result (λ n. outcome (now_view n) t ≡ x) → x ≡ y → IfOk result (λ n. outcome (now_view n) t ≡ y)
-same_as result t x y h k = subst (λ z. IfOk result (λ n. outcome (now_view n) t ≡ z)) k h
 
 -- a statement that ends behind a change of the world, and spends nothing
 pub stands_behind : (r s : Run) (w : World) → s ≡ in_world w r

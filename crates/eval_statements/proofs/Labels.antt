@@ -8,7 +8,7 @@ use Rattle.typed_tree.specs.View.{stmt_view}
 use Rattle.typed_tree.proofs.Views as view
 use Rattle.staged_meaning.specs.Meaning.{Context, exec_items}
 use Rattle.staged_meaning.specs.Statements.{case_of, exec_cases, exec_default, on_case, on_default, switch_end}
-use Rattle.staged_meaning.specs.World.{World, Result, Flow, Normal, Stops, then_do, spend}
+use Rattle.staged_meaning.specs.World.{World, Result, Flow, then_do}
 use Rattle.meaning_rest.proofs.Laws as law
 use Rattle.meaning_rest.specs.Pending as pending
 use Rattle.meaning_rest.specs.Burden.{capture_weight, weight_of_items}

@@ -2,3 +2,4 @@ pub mod AtOnce
 pub mod Begins
 pub mod Labels
 pub mod Turns
+pub mod Starts

@@ -1,12 +1,13 @@
 //! Begins statements.
 
-ghost use Rattle.std.specs.Prelude.{◌≡◌, ◌<◌, ◌≤◌, IfOk};
-ghost use Rattle.typed_tree.specs.Nodes.{Item};
+ghost use Rattle.std.specs.Prelude.{◌≡◌, ◌+◌, ◌<◌, ◌≤◌, IfOk, IsTrue};
 ghost use Rattle.typed_tree.specs.View.{stmt_view};
+ghost use Rattle.staged_meaning.specs.World.{Normal};
 ghost use Rattle.meaning_rest.specs.Pending as pending;
-ghost use Rattle.eval_state.specs.Less.{heft};
+ghost use Rattle.meaning_rest.specs.Rest.{after, doing};
+ghost use Rattle.eval_state.specs.Less.{heft, waiting};
 ghost use Rattle.eval_state.specs.declared.parts.Now.TheVariants as now;
-ghost use Rattle.eval_state.specs.Run.{outcome, run_of};
+ghost use Rattle.eval_state.specs.Run.{here, leads, outcome, run_of, world};
 ghost use Rattle.eval_state.specs.Steps.{executed};
 ghost use Rattle.eval_state.specs.Views.{items_view, now_view};
 
@@ -15,7 +16,7 @@ use crate::parts::{
     block, do_loop, expression, for_loop, for_step, if_else, if_then, return_value, switch,
     while_loop,
 };
-use crate::ran::ran;
+use crate::started::{going, started};
 use eval_state::{EndFrame, Flow, Frame, Machine, Now};
 use std::alloc::AllocError;
 use typed_tree::Stmt;
@@ -24,7 +25,6 @@ use typed_tree::Stmt;
 ///
 /// # Errors
 /// Where memory is wanting.
-#[tactic(auto, unfolding(eval_state::specs::Steps::executed))]
 pub fn exec<'a>(m: &mut Machine<'a>, s: &'a Stmt) -> Result<Now<'a>, AllocError>
     ensures same { IfOk result (λ n. outcome (now_view n) (run_of m.new)
         ≡ outcome (now_view (now.Exec s.entry)) (run_of m.old)) }
@@ -32,7 +32,40 @@ pub fn exec<'a>(m: &mut Machine<'a>, s: &'a Stmt) -> Result<Now<'a>, AllocError>
     ensures less { IfOk result (λ n. (run_of m.new).state.units ≡ (run_of m.old).state.units
         → heft (now_view n) (run_of m.new) < heft (now_view (now.Exec s.entry)) (run_of m.old)) }
 {
-    begin(m, s)
+    match started(m, s)? {
+        Some(n) => further(m, n),
+        None => begin_further(m, s),
+    }
+}
+
+// Begins a statement, and goes on with what it begins with.
+#[tactic(auto, unfolding(eval_state::specs::Steps::executed))]
+fn begin_further<'a>(m: &mut Machine<'a>, s: &'a Stmt) -> Result<Now<'a>, AllocError>
+    ensures same { IfOk result (λ n. outcome (now_view n) (run_of m.new)
+        ≡ outcome (now_view (now.Exec s.entry)) (run_of m.old)) }
+    ensures units { IfOk result (λ n. (run_of m.new).state.units ≤ (run_of m.old).state.units) }
+    ensures less { IfOk result (λ n. (run_of m.new).state.units ≡ (run_of m.old).state.units
+        → heft (now_view n) (run_of m.new) < heft (now_view (now.Exec s.entry)) (run_of m.old)) }
+{
+    let n = begin(m, s)?;
+    further(m, n)
+}
+
+// Goes on where statements are left to do.
+#[tactic(auto, unfolding(eval_state::specs::Steps::executed))]
+fn further<'a>(m: &mut Machine<'a>, next: Now<'a>) -> Result<Now<'a>, AllocError>
+    ensures same { IfOk result (λ n. outcome (now_view n) (run_of m.new)
+        ≡ outcome (now_view next.entry) (run_of m.old)) }
+    ensures units { IfOk result (λ n. (run_of m.new).state.units ≤ (run_of m.old).state.units) }
+    ensures less { IfOk result (λ n. (run_of m.new).state.units ≡ (run_of m.old).state.units
+        → heft (now_view n) (run_of m.new) ≤ heft (now_view next.entry) (run_of m.old)) }
+{
+    match next {
+        Now::Exec(s) => begin(m, s),
+        Now::Run(list) => run(m, list),
+        Now::Eval(_) | Now::Value(_) | Now::Left(_) | Now::Returned(_) => Ok(next),
+        Now::Ended(_) | Now::Stopped => Ok(next),
+    }
 }
 
 // Begins a statement by its kind.
@@ -72,7 +105,6 @@ fn begin<'a>(m: &mut Machine<'a>, s: &'a Stmt) -> Result<Now<'a>, AllocError>
 ///
 /// # Errors
 /// Where memory is wanting.
-#[tactic(auto, using(crate::proofs::Begins::begins))]
 pub fn run<'a>(m: &mut Machine<'a>, list: &'a [Stmt]) -> Result<Now<'a>, AllocError>
     ensures same { IfOk result (λ n. outcome (now_view n) (run_of m.new)
         ≡ outcome (now_view (now.Run list.entry)) (run_of m.old)) }
@@ -80,40 +112,49 @@ pub fn run<'a>(m: &mut Machine<'a>, list: &'a [Stmt]) -> Result<Now<'a>, AllocEr
     ensures less { IfOk result (λ n. (run_of m.new).state.units ≡ (run_of m.old).state.units
         → heft (now_view n) (run_of m.new) < heft (now_view (now.Run list.entry)) (run_of m.old)) }
 {
-    match list.split_first() {
-        None => Ok(Now::Left(Flow::Normal)),
-        Some((s, more)) => item(m, s, more),
+    let mut rest = list;
+    while let Some((s, more)) = rest.split_first() {
+        let next = going(m, s)?;
+        if !is_through(next) {
+            return before_items(m, next, more);
+        }
+        rest = more;
+    }
+    Ok(Now::Left(Flow::Normal))
+}
+
+// Whether nothing is left to do of an item, so that the one behind it comes next.
+fn is_through(next: Now<'_>) -> bool
+    ensures { IsTrue result → now_view next.entry ≡ pending.Left Normal }
+{
+    match next {
+        Now::Left(Flow::Normal) => true,
+        Now::Left(_) | Now::Eval(_) | Now::Exec(_) | Now::Run(_) => false,
+        Now::Value(_) | Now::Returned(_) | Now::Ended(_) | Now::Stopped => false,
     }
 }
 
-// Runs an item at once, or begins it.
-#[tactic(auto, using(crate::proofs::AtOnce::items))]
-fn item<'a>(m: &mut Machine<'a>, s: &'a Stmt, more: &'a [Stmt]) -> Result<Now<'a>, AllocError>
+// What is left to do of an item, and then the items behind it, if there are any.
+#[tactic(auto, using(crate::proofs::Starts::before))]
+fn before_items<'a>(
+    m: &mut Machine<'a>,
+    next: Now<'a>,
+    more: &'a [Stmt],
+) -> Result<Now<'a>, AllocError>
     ensures same { IfOk result (λ n. outcome (now_view n) (run_of m.new)
-        ≡ outcome (pending.Run (Item (stmt_view s.entry.now) (items_view more.entry.now))) (run_of m.old)) }
+        ≡ leads (run_of m.old) (after (here (run_of m.old)) (pending.Rest (items_view more.entry.now))
+        (doing (here (run_of m.old)) (now_view next.entry) (world (run_of m.old))))) }
     ensures units { IfOk result (λ n. (run_of m.new).state.units ≤ (run_of m.old).state.units) }
     ensures less { IfOk result (λ n. (run_of m.new).state.units ≡ (run_of m.old).state.units
-        → heft (now_view n) (run_of m.new)
-        < heft (pending.Run (Item (stmt_view s.entry.now) (items_view more.entry.now))) (run_of m.old)) }
+        → heft (now_view n) (run_of m.new) ≤ heft (now_view next.entry) (run_of m.old)
+        + waiting (pending.Rest (items_view more.entry.now)) (run_of m.old)) }
 {
-    match ran(m, s)? {
-        Some(()) => Ok(Now::Run(more)),
-        None => item_later(m, s, more),
-    }
-}
-
-// Begins an item that doesn't run at once; behind the last one nothing is pending.
-#[tactic(auto, using(crate::proofs::Begins::begins, crate::proofs::AtOnce::last_item))]
-fn item_later<'a>(m: &mut Machine<'a>, s: &'a Stmt, more: &'a [Stmt]) -> Result<Now<'a>, AllocError>
-    ensures same { IfOk result (λ n. outcome (now_view n) (run_of m.new)
-        ≡ outcome (pending.Run (Item (stmt_view s.entry.now) (items_view more.entry.now))) (run_of m.old)) }
-    ensures units { IfOk result (λ n. (run_of m.new).state.units ≤ (run_of m.old).state.units) }
-    ensures less { IfOk result (λ n. (run_of m.new).state.units ≡ (run_of m.old).state.units
-        → heft (now_view n) (run_of m.new)
-        < heft (pending.Run (Item (stmt_view s.entry.now) (items_view more.entry.now))) (run_of m.old)) }
-{
-    match more.is_empty() {
-        true => Ok(Now::Exec(s)),
-        false => m.push(Frame::End(EndFrame::Rest(more)), Now::Exec(s)),
+    match next {
+        Now::Returned(_) => Ok(next),
+        Now::Exec(_) | Now::Run(_) if more.is_empty() => Ok(next),
+        Now::Eval(_) | Now::Exec(_) | Now::Run(_) | Now::Value(_) | Now::Left(_) => {
+            m.push(Frame::End(EndFrame::Rest(more)), next)
+        }
+        Now::Ended(_) | Now::Stopped => m.push(Frame::End(EndFrame::Rest(more)), next),
     }
 }

@@ -9,6 +9,7 @@ mod going_on;
 mod loops;
 mod parts;
 mod ran;
+mod started;
 mod switches;
 mod tests;
 

@@ -9,31 +9,16 @@ ghost use Rattle.eval_state.specs.Run.{outcome, run_of};
 ghost use Rattle.eval_state.specs.Steps.{executed};
 ghost use Rattle.eval_state.specs.Views.{items_view, now_view};
 
+use crate::begin::run;
 use crate::loops::{begin_round, begin_turn};
-use crate::tests::{test_else, test_if};
-use eval_simple::at_once;
-use eval_state::{EndFrame, Flow, Frame, Machine, Now, StatementFrame};
+use crate::started::ran_all;
+use eval_state::{EndFrame, Frame, Machine, Now, StatementFrame};
 use std::alloc::AllocError;
 use typed_tree::{Expr, Stmt};
 
 /// A statement that is an expression.
-#[tactic(auto, using(crate::proofs::AtOnce::starts))]
-pub(crate) fn expression<'a>(m: &mut Machine<'a>, e: &'a Expr) -> Result<Now<'a>, AllocError>
-    ensures same { IfOk result (λ n. outcome (now_view n) (run_of m.new)
-        ≡ executed (node.Eval (expr_view e.entry.now)) (run_of m.old)) }
-    ensures units { IfOk result (λ n. (run_of m.new).state.units ≤ (run_of m.old).state.units) }
-    ensures less { IfOk result (λ n. (run_of m.new).state.units ≡ (run_of m.old).state.units
-        → heft (now_view n) (run_of m.new) < heft (pending.Exec (node.Eval (expr_view e.entry.now))) (run_of m.old)) }
-{
-    match at_once(m, e)? {
-        Some(_) => Ok(Now::Left(Flow::Normal)),
-        None => expression_later(m, e),
-    }
-}
-
-// Such a statement, whose expression is not evaluated at once.
 #[tactic(auto, using(crate::proofs::Begins::begins), unfolding(eval_state::specs::Steps::executed))]
-fn expression_later<'a>(m: &mut Machine<'a>, e: &'a Expr) -> Result<Now<'a>, AllocError>
+pub(crate) fn expression<'a>(m: &mut Machine<'a>, e: &'a Expr) -> Result<Now<'a>, AllocError>
     ensures same { IfOk result (λ n. outcome (now_view n) (run_of m.new)
         ≡ executed (node.Eval (expr_view e.entry.now)) (run_of m.old)) }
     ensures units { IfOk result (λ n. (run_of m.new).state.units ≤ (run_of m.old).state.units) }
@@ -44,7 +29,7 @@ fn expression_later<'a>(m: &mut Machine<'a>, e: &'a Expr) -> Result<Now<'a>, All
 }
 
 /// A block: its variables.
-#[tactic(auto, using(crate::proofs::AtOnce::blocks), unfolding(eval_state::specs::Steps::executed))]
+#[tactic(auto, using(crate::proofs::Starts::blocks_on))]
 pub(crate) fn block<'a>(
     m: &mut Machine<'a>,
     variables: &'a [Stmt],
@@ -58,14 +43,15 @@ pub(crate) fn block<'a>(
         < heft (pending.Exec (node.Block (items_view variables.entry.now) (items_view items.entry.now)))
         (run_of m.old)) }
 {
-    match variables.is_empty() {
-        true => Ok(Now::Run(items)),
-        false => m.push(Frame::End(EndFrame::Rest(items)), Now::Run(variables)),
+    let rest = ran_all(m, variables)?;
+    match rest.is_empty() {
+        true => run(m, items),
+        false => m.push(Frame::End(EndFrame::Rest(items)), Now::Run(rest)),
     }
 }
 
 /// An `if`: its test.
-#[tactic(auto, using(crate::proofs::AtOnce::starts))]
+#[tactic(auto, using(crate::proofs::Begins::begins), unfolding(eval_state::specs::Steps::executed))]
 pub(crate) fn if_then<'a>(
     m: &mut Machine<'a>,
     e: &'a Expr,
@@ -78,51 +64,12 @@ pub(crate) fn if_then<'a>(
         → heft (now_view n) (run_of m.new)
         < heft (pending.Exec (node.If (expr_view e.entry.now) (stmt_view s.entry.now))) (run_of m.old)) }
 {
-    match at_once(m, e)? {
-        Some(v) => Ok(test_if(v, s)),
-        None => if_later(m, e, s),
-    }
-}
-
-// An `if`, whose test is not evaluated at once.
-#[tactic(auto, using(crate::proofs::Begins::begins), unfolding(eval_state::specs::Steps::executed))]
-fn if_later<'a>(m: &mut Machine<'a>, e: &'a Expr, s: &'a Stmt) -> Result<Now<'a>, AllocError>
-    ensures same { IfOk result (λ n. outcome (now_view n) (run_of m.new)
-        ≡ executed (node.If (expr_view e.entry.now) (stmt_view s.entry.now)) (run_of m.old)) }
-    ensures units { IfOk result (λ n. (run_of m.new).state.units ≤ (run_of m.old).state.units) }
-    ensures less { IfOk result (λ n. (run_of m.new).state.units ≡ (run_of m.old).state.units
-        → heft (now_view n) (run_of m.new)
-        < heft (pending.Exec (node.If (expr_view e.entry.now) (stmt_view s.entry.now))) (run_of m.old)) }
-{
     m.push(Frame::Statement(StatementFrame::If(s)), Now::Eval(e))
 }
 
 /// An `if` with `else`: its test.
-#[tactic(auto, using(crate::proofs::AtOnce::starts))]
-pub(crate) fn if_else<'a>(
-    m: &mut Machine<'a>,
-    e: &'a Expr,
-    s: &'a Stmt,
-    t: &'a Stmt,
-) -> Result<Now<'a>, AllocError>
-    ensures same { IfOk result (λ n. outcome (now_view n) (run_of m.new)
-        ≡ executed (node.IfElse (expr_view e.entry.now) (stmt_view s.entry.now) (stmt_view t.entry.now))
-        (run_of m.old)) }
-    ensures units { IfOk result (λ n. (run_of m.new).state.units ≤ (run_of m.old).state.units) }
-    ensures less { IfOk result (λ n. (run_of m.new).state.units ≡ (run_of m.old).state.units
-        → heft (now_view n) (run_of m.new)
-        < heft (pending.Exec (node.IfElse (expr_view e.entry.now) (stmt_view s.entry.now) (stmt_view t.entry.now)))
-        (run_of m.old)) }
-{
-    match at_once(m, e)? {
-        Some(v) => Ok(test_else(v, s, t)),
-        None => else_later(m, e, s, t),
-    }
-}
-
-// An `if` with `else`, whose test is not evaluated at once.
 #[tactic(auto, using(crate::proofs::Begins::begins), unfolding(eval_state::specs::Steps::executed))]
-fn else_later<'a>(
+pub(crate) fn if_else<'a>(
     m: &mut Machine<'a>,
     e: &'a Expr,
     s: &'a Stmt,
@@ -235,24 +182,8 @@ pub(crate) fn switch<'a>(
 }
 
 /// A return with a value.
-#[tactic(auto, using(crate::proofs::AtOnce::starts))]
-pub(crate) fn return_value<'a>(m: &mut Machine<'a>, e: &'a Expr) -> Result<Now<'a>, AllocError>
-    ensures same { IfOk result (λ n. outcome (now_view n) (run_of m.new)
-        ≡ executed (node.ReturnValue (expr_view e.entry.now)) (run_of m.old)) }
-    ensures units { IfOk result (λ n. (run_of m.new).state.units ≤ (run_of m.old).state.units) }
-    ensures less { IfOk result (λ n. (run_of m.new).state.units ≡ (run_of m.old).state.units
-        → heft (now_view n) (run_of m.new)
-        < heft (pending.Exec (node.ReturnValue (expr_view e.entry.now))) (run_of m.old)) }
-{
-    match at_once(m, e)? {
-        Some(v) => Ok(Now::Returned(v)),
-        None => return_later(m, e),
-    }
-}
-
-// A return of a value that is not evaluated at once.
 #[tactic(auto, using(crate::proofs::Begins::begins), unfolding(eval_state::specs::Steps::executed))]
-fn return_later<'a>(m: &mut Machine<'a>, e: &'a Expr) -> Result<Now<'a>, AllocError>
+pub(crate) fn return_value<'a>(m: &mut Machine<'a>, e: &'a Expr) -> Result<Now<'a>, AllocError>
     ensures same { IfOk result (λ n. outcome (now_view n) (run_of m.new)
         ≡ executed (node.ReturnValue (expr_view e.entry.now)) (run_of m.old)) }
     ensures units { IfOk result (λ n. (run_of m.new).state.units ≤ (run_of m.old).state.units) }

@@ -9,6 +9,7 @@ ghost use Rattle.eval_state.specs.Steps.{taken};
 ghost use Rattle.eval_state.specs.Views.{items_view, now_view, step_view};
 
 use crate::loops::{rounded, turned};
+use crate::started::going;
 use eval_state::{EndFrame, Flow, Frame, Machine, Now};
 use std::alloc::AllocError;
 use typed_tree::{Expr, Stmt};
@@ -59,7 +60,8 @@ pub(crate) fn test<'a>(
     if v == 0 {
         return Ok(Now::Left(Flow::Normal));
     }
-    m.push(Frame::End(EndFrame::Turn(more, e, step, s)), Now::Exec(s))
+    let next = going(m, s)?;
+    m.push(Frame::End(EndFrame::Turn(more, e, step, s)), next)
 }
 
 /// The step of a loop, whose value is dropped: the turn ends.

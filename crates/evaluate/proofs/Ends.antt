@@ -1,5 +1,5 @@
 -- The beginning and the end: what is seen of a run that is over is the meaning, where the run began as a run does.
-use Rattle.std.proofs.Common.{◌≡◌, ℕ, refl, ap, sym, ◌∙◌}
+use Rattle.std.proofs.Common.{◌≡◌, ℕ, ap, sym, ◌∙◌}
 use Rattle.history.specs.Events as event
 use Rattle.history.specs.Events.{End, Ended, Input}
 use Rattle.pace.specs.Pace.{Seen}

@@ -1,5 +1,5 @@
 -- What was taken off: where it leads, and how much is pending without it.
-use Rattle.std.proofs.Common.{◌≡◌, ◌<◌, ◌≤◌, ◌+◌, ℕ, refl, ap, ◌∙◌, arith}
+use Rattle.std.proofs.Common.{◌≡◌, ◌<◌, ◌≤◌, ◌+◌, ℕ, ap, ◌∙◌, arith}
 use Rattle.staged_meaning.specs.World.{Gives, Returns, spend}
 use Rattle.meaning_rest.specs.Pending.{Now}
 use Rattle.meaning_rest.specs.Pending as pending
@@ -16,7 +16,7 @@ use Rattle.eval_state.specs.declared.parts.Popped.{Popped}
 use Rattle.eval_state.specs.declared.parts.Popped.TheVariants as popped
 use Rattle.eval_state.specs.Less.{held, waiting}
 use Rattle.eval_state.specs.Popped.{IsEnded, IsLeft}
-use Rattle.eval_state.specs.Run.{Run, here, world, leads, outcome, pushed}
+use Rattle.eval_state.specs.Run.{Run, here, world, leads, outcome}
 use Rattle.eval_state.specs.Views.{frame_view}
 use Rattle.eval_state.proofs.Runs.{pop_leads}
 use Rattle.eval_state.proofs.Weighs.{held_pushed}

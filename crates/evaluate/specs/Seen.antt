@@ -28,3 +28,7 @@ ending_at _ = Some (Ended (Done 0))
 
 abbrev pub seen_of : Evaluated → Seen event.Item End
 seen_of it = record { history = (world (run_of it.machine)).shared.history; ending = ending_at it.last }
+
+-- the units that were not spent
+abbrev pub units_left : Evaluated → ℕ
+units_left it = (world (run_of it.machine)).units

@@ -4,7 +4,7 @@ ghost use Rattle.std.specs.Prelude.{◌≡◌, false, IfOk, Some, option_map};
 ghost use Rattle.history.specs.Events.{Ended, output};
 ghost use Rattle.staged_meaning.specs.Meaning.{Program, meant};
 ghost use Rattle.staged_meaning.specs.Source.{program_view};
-ghost use Rattle.evaluate.specs.Seen.{seen_of};
+ghost use Rattle.evaluate.specs.Seen.{seen_of, units_left};
 
 use crate::run::finish;
 use eval_state::{Machine, Now};
@@ -46,7 +46,9 @@ impl<'a> Evaluated<'a> {
     }
 
     /// The units that are left.
-    pub fn units(&self) -> u64 {
+    pub fn units(&self) -> u64
+        ensures { result ≡ units_left self.now }
+    {
         self.machine.units()
     }
 }

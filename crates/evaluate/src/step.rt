@@ -148,9 +148,9 @@ fn begin<'a>(m: &mut Machine<'a>, e: &'a Expr) -> Result<Now<'a>, AllocError>
     }
 }
 
-/// Does what is done next.
+// Does what is done next, once.
 #[tactic(auto, using(crate::proofs::Steps::steps))]
-pub(crate) fn step<'a>(m: &mut Machine<'a>, now: Now<'a>) -> Result<Now<'a>, AllocError>
+fn once<'a>(m: &mut Machine<'a>, now: Now<'a>) -> Result<Now<'a>, AllocError>
     ensures same { IfOk result (λ n. outcome (now_view n) (run_of m.new)
         ≡ outcome (now_view now.entry) (run_of m.old)) }
     ensures units { IfOk result (λ n. (run_of m.new).state.units ≤ (run_of m.old).state.units) }
@@ -176,4 +176,33 @@ pub(crate) fn step<'a>(m: &mut Machine<'a>, now: Now<'a>) -> Result<Now<'a>, All
             Some(popped) => Ok(return_passes(m, v, popped)),
         },
     }
+}
+
+// Goes on where a part of an expression is evaluated, of which it is known that it isn't at once.
+fn further<'a>(m: &mut Machine<'a>, next: Now<'a>) -> Result<Now<'a>, AllocError>
+    ensures same { IfOk result (λ n. outcome (now_view n) (run_of m.new)
+        ≡ outcome (now_view next.entry) (run_of m.old)) }
+    ensures units { IfOk result (λ n. (run_of m.new).state.units ≤ (run_of m.old).state.units) }
+    ensures less { IfOk result (λ n. (run_of m.new).state.units ≡ (run_of m.old).state.units
+        → heft (now_view n) (run_of m.new) ≤ heft (now_view next.entry) (run_of m.old)) }
+{
+    match next {
+        Now::Eval(e) => eval(m, e),
+        Now::Exec(_) | Now::Run(_) | Now::Value(_) | Now::Left(_) | Now::Returned(_) => Ok(next),
+        Now::Ended(_) | Now::Stopped => Ok(next),
+    }
+}
+
+/// Does what is done next, and goes on into the expression that it begins with.
+pub(crate) fn step<'a>(m: &mut Machine<'a>, now: Now<'a>) -> Result<Now<'a>, AllocError>
+    ensures same { IfOk result (λ n. outcome (now_view n) (run_of m.new)
+        ≡ outcome (now_view now.entry) (run_of m.old)) }
+    ensures units { IfOk result (λ n. (run_of m.new).state.units ≤ (run_of m.old).state.units) }
+    ensures less { (IsOver now.entry (run_of m.old) → ⊥) → IfOk result (λ n.
+        (run_of m.new).state.units ≡ (run_of m.old).state.units
+        → heft (now_view n) (run_of m.new) < heft (now_view now.entry) (run_of m.old)) }
+{
+    let first = once(m, now)?;
+    let next = further(m, first)?;
+    further(m, next)
 }

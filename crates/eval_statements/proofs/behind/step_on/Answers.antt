@@ -2,7 +2,8 @@ use Rattle.std.proofs.Common.{ap}
 use Rattle.typed_tree.specs.View.{expr_view, stmt_view}
 use Rattle.eval_state.specs.Run.{run_of}
 use Rattle.eval_state.specs.Views.{step_view}
-use Rattle.eval_statements.proofs.Begins.{same_as, steps, steps_too, turns_on, turns_on_too}
+use Rattle.eval_simple.proofs.Going.{same_as}
+use Rattle.eval_statements.proofs.Begins.{steps, steps_too, turns_on, turns_on_too}
 use Rattle.eval_statements.proofs.behind.step_on.Goals as goal
 
 pub returns-in-Some-clause-normal : goal.returns-in-Some-clause-normal

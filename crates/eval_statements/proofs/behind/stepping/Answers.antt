@@ -7,7 +7,7 @@ use Rattle.eval_state.specs.Less.{heft, waiting}
 use Rattle.eval_state.specs.Run.{here, leads, run_of, world}
 use Rattle.eval_simple.proofs.Going as going
 use Rattle.eval_statements.proofs.AtOnce as once
-use Rattle.eval_statements.proofs.Begins.{same_as}
+use Rattle.eval_simple.proofs.Going.{same_as}
 use Rattle.eval_statements.proofs.behind.stepping.Goals as goal
 
 pub returns-in-Some-clause-same : goal.returns-in-Some-clause-same
@@ -15,14 +15,14 @@ returns-in-Some-clause-same c =
     same_as c.turned.result (run_of c.turned.new.m) _ _ c.turned.ensures.same
     (once.step_taken (run_of c.args.m.now) (run_of c.at_once.new.m) c.args.more (expr_view c.args.e.now)
     (expr_view c.args.step.now) (stmt_view c.args.s.now) c.in-Some.field-0
-    (once.done c.in_ok-at_once.field-0 (expr_view c.args.step.now) c.args.m.now c.at_once.new.m c.in-Some.field-0
+    (going.done c.in_ok-at_once.field-0 (expr_view c.args.step.now) c.args.m.now c.at_once.new.m c.in-Some.field-0
     c.in_ok-at_once.ensures c.in-Some.is))
 
 pub returns-in-Some-clause-units : goal.returns-in-Some-clause-units
 returns-in-Some-clause-units c =
     once.units_behind c.turned.result (run_of c.at_once.new.m) (run_of c.turned.new.m) (run_of c.args.m.now)
     (going.spends_most (run_of c.args.m.now) (run_of c.at_once.new.m) (expr_view c.args.step.now) c.in-Some.field-0
-    (once.done c.in_ok-at_once.field-0 (expr_view c.args.step.now) c.args.m.now c.at_once.new.m c.in-Some.field-0
+    (going.done c.in_ok-at_once.field-0 (expr_view c.args.step.now) c.args.m.now c.at_once.new.m c.in-Some.field-0
     c.in_ok-at_once.ensures c.in-Some.is))
     c.turned.ensures.units
 
@@ -30,7 +30,7 @@ pub returns-in-Some-clause-less : goal.returns-in-Some-clause-less
 returns-in-Some-clause-less c =
     once.spends_behind c.turned.result (run_of c.args.m.now) (run_of c.at_once.new.m) (run_of c.turned.new.m)
     (expr_view c.args.step.now) c.in-Some.field-0 _
-    (once.done c.in_ok-at_once.field-0 (expr_view c.args.step.now) c.args.m.now c.at_once.new.m c.in-Some.field-0
+    (going.done c.in_ok-at_once.field-0 (expr_view c.args.step.now) c.args.m.now c.at_once.new.m c.in-Some.field-0
     c.in_ok-at_once.ensures c.in-Some.is)
     c.turned.ensures.units
 
@@ -40,7 +40,7 @@ returns-in-None-clause-same c =
     (λ r. leads r (after (here r) (pending.Step c.args.more (expr_view c.args.e.now) (expr_view c.args.step.now)
     (stmt_view c.args.s.now))
     (valued (eval (here r) (expr_view c.args.step.now) (world r)))))
-    (once.undone c.in_ok-at_once.field-0 (expr_view c.args.step.now) c.args.m.now c.at_once.new.m
+    (going.undone c.in_ok-at_once.field-0 (expr_view c.args.step.now) c.args.m.now c.at_once.new.m
     c.in_ok-at_once.ensures
     c.in-None.is)
     c.step_later.ensures.same
@@ -51,7 +51,7 @@ returns-in-None-clause-less c =
     (λ r. heft (pending.Eval (expr_view c.args.step.now)) r
     + waiting (pending.Step c.args.more (expr_view c.args.e.now) (expr_view c.args.step.now) (stmt_view
     c.args.s.now)) r)
-    (once.undone c.in_ok-at_once.field-0 (expr_view c.args.step.now) c.args.m.now c.at_once.new.m
+    (going.undone c.in_ok-at_once.field-0 (expr_view c.args.step.now) c.args.m.now c.at_once.new.m
     c.in_ok-at_once.ensures
     c.in-None.is)
     c.step_later.ensures.less

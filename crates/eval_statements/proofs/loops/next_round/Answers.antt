@@ -1,6 +1,6 @@
 use Rattle.typed_tree.specs.View.{expr_view, stmt_view}
 use Rattle.eval_state.specs.Run.{run_of}
-use Rattle.eval_statements.proofs.Begins.{same_as}
+use Rattle.eval_simple.proofs.Going.{same_as}
 use Rattle.eval_statements.proofs.Turns.{more_rounds}
 use Rattle.eval_statements.proofs.loops.next_round.Goals as goal
 

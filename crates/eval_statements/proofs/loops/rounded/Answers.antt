@@ -1,7 +1,7 @@
 use Rattle.std.proofs.Common.{refl}
 use Rattle.typed_tree.specs.View.{expr_view, stmt_view}
 use Rattle.eval_state.specs.Run.{run_of}
-use Rattle.eval_statements.proofs.Begins.{same_as}
+use Rattle.eval_simple.proofs.Going.{same_as}
 use Rattle.eval_statements.proofs.Turns.{round_held}
 use Rattle.eval_statements.proofs.loops.rounded.Goals as goal
 

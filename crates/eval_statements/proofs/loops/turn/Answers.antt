@@ -6,7 +6,7 @@ use Rattle.eval_state.specs.Run.{here, leads, run_of, world}
 use Rattle.eval_state.specs.Views.{step_view}
 use Rattle.eval_simple.proofs.Going as going
 use Rattle.eval_statements.proofs.AtOnce as once
-use Rattle.eval_statements.proofs.Begins.{same_as}
+use Rattle.eval_simple.proofs.Going.{same_as}
 use Rattle.std.proofs.Common.{suc, ◌+◌}
 use Rattle.eval_statements.proofs.loops.turn.Goals as goal
 
@@ -15,14 +15,14 @@ returns-in-Some-clause-same c =
     same_as c.test.result (run_of c.test.new.m) _ _ c.test.ensures.same
     (once.turn_tested (run_of c.args.m.now) (run_of c.at_once.new.m) c.args.more (expr_view c.args.e.now) (step_view
     c.args.step) (stmt_view c.args.s.now) c.in-Some.v
-    (once.done c.in_ok-v.field-0 (expr_view c.args.e.now) c.args.m.now c.at_once.new.m c.in-Some.v c.in_ok-v.ensures
+    (going.done c.in_ok-v.field-0 (expr_view c.args.e.now) c.args.m.now c.at_once.new.m c.in-Some.v c.in_ok-v.ensures
     c.in-Some.is))
 
 pub returns-in-Some-clause-units : goal.returns-in-Some-clause-units
 returns-in-Some-clause-units c =
     once.units_behind c.test.result (run_of c.at_once.new.m) (run_of c.test.new.m) (run_of c.args.m.now)
     (going.spends_most (run_of c.args.m.now) (run_of c.at_once.new.m) (expr_view c.args.e.now) c.in-Some.v
-    (once.done c.in_ok-v.field-0 (expr_view c.args.e.now) c.args.m.now c.at_once.new.m c.in-Some.v c.in_ok-v.ensures
+    (going.done c.in_ok-v.field-0 (expr_view c.args.e.now) c.args.m.now c.at_once.new.m c.in-Some.v c.in_ok-v.ensures
     c.in-Some.is))
     c.test.ensures.units
 
@@ -30,7 +30,7 @@ pub returns-in-Some-clause-less : goal.returns-in-Some-clause-less
 returns-in-Some-clause-less c =
     once.spends_behind c.test.result (run_of c.args.m.now) (run_of c.at_once.new.m) (run_of c.test.new.m) (expr_view
     c.args.e.now) c.in-Some.v _
-    (once.done c.in_ok-v.field-0 (expr_view c.args.e.now) c.args.m.now c.at_once.new.m c.in-Some.v c.in_ok-v.ensures
+    (going.done c.in_ok-v.field-0 (expr_view c.args.e.now) c.args.m.now c.at_once.new.m c.in-Some.v c.in_ok-v.ensures
     c.in-Some.is)
     c.test.ensures.units
 
@@ -39,7 +39,7 @@ returns-in-None-clause-same c =
     going.still c.turn_later.result c.args.m.now c.at_once.new.m (run_of c.turn_later.new.m)
     (λ r. leads r (left (loop_of (here r) (suc c.args.more) (expr_view c.args.e.now) (step_view c.args.step)
     (stmt_view c.args.s.now) (world r))))
-    (once.undone c.in_ok-v.field-0 (expr_view c.args.e.now) c.args.m.now c.at_once.new.m c.in_ok-v.ensures
+    (going.undone c.in_ok-v.field-0 (expr_view c.args.e.now) c.args.m.now c.at_once.new.m c.in_ok-v.ensures
     c.in-None.is)
     c.turn_later.ensures.same
 
@@ -48,6 +48,6 @@ returns-in-None-clause-less c =
     once.still_most c.turn_later.result c.args.m.now c.at_once.new.m (run_of c.turn_later.new.m)
     (λ r. heft (pending.Eval (expr_view c.args.e.now)) r + waiting (pending.Test 0 (expr_view c.args.e.now)
     (step_view c.args.step) (stmt_view c.args.s.now)) r)
-    (once.undone c.in_ok-v.field-0 (expr_view c.args.e.now) c.args.m.now c.at_once.new.m c.in_ok-v.ensures
+    (going.undone c.in_ok-v.field-0 (expr_view c.args.e.now) c.args.m.now c.at_once.new.m c.in_ok-v.ensures
     c.in-None.is)
     c.turn_later.ensures.less

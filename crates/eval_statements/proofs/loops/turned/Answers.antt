@@ -3,7 +3,7 @@ use Rattle.typed_tree.specs.View.{expr_view, stmt_view}
 use Rattle.meaning_rest.specs.Rest.{loop_of}
 use Rattle.eval_state.specs.Run.{run_of}
 use Rattle.eval_state.specs.Views.{step_view}
-use Rattle.eval_statements.proofs.Begins.{same_as}
+use Rattle.eval_simple.proofs.Going.{same_as}
 use Rattle.eval_statements.proofs.Turns.{unit_first}
 use Rattle.eval_statements.proofs.loops.turned.Goals as goal
 

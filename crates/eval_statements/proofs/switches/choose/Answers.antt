@@ -3,7 +3,7 @@ use Rattle.typed_tree.specs.declared.expression.Stmt.{Stmt}
 use Rattle.meaning_rest.specs.Rest.{left}
 use Rattle.eval_state.specs.Run.{Run, leads, run_of, with_units, world}
 use Rattle.eval_state.specs.Views.{items_view}
-use Rattle.eval_statements.proofs.Begins.{same_as}
+use Rattle.eval_simple.proofs.Going.{same_as}
 use Rattle.eval_statements.proofs.Labels.{choose_lightens, comparing, goes_on, runs_behind, spent_still}
 use Rattle.eval_statements.proofs.switches.choose.Goals as goal
 

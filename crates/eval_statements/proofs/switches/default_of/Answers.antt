@@ -1,4 +1,4 @@
-use Rattle.std.proofs.Common.{◌≡◌, ◌≤◌, ◌∷◌, List, ap, refl, arith, ◌∙◌}
+use Rattle.std.proofs.Common.{◌≡◌, ◌∷◌, List, ap, arith, ◌∙◌}
 use Rattle.typed_tree.specs.declared.expression.Stmt.{Stmt}
 use Rattle.staged_meaning.specs.Statements.{exec_default}
 use Rattle.eval_state.specs.Views.{items_view}

@@ -1,4 +1,4 @@
-use Rattle.std.proofs.Common.{◌≡◌, ℕ, suc, cond, IsTrue}
+use Rattle.std.proofs.Common.{◌≡◌, suc, cond, IsTrue}
 use Rattle.eval_state.specs.Run.{outcome, run_of}
 use Rattle.eval_state.specs.Views.{now_view}
 use Rattle.evaluate.specs.Seen.{IsOver}

@@ -1,4 +1,4 @@
-use Rattle.std.proofs.Common.{◌≡◌, ◌≤◌, ℕ, suc, cond, nat_eq}
+use Rattle.std.proofs.Common.{◌≡◌, ◌≤◌, suc, cond, nat_eq}
 use Rattle.eval_state.specs.Less.{heft}
 use Rattle.eval_state.specs.Run.{outcome, run_of}
 use Rattle.eval_state.specs.Views.{now_view}

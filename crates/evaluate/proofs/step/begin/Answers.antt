@@ -9,26 +9,26 @@ use Rattle.evaluate.proofs.step.begin.Goals as goal
 pub returns-in-Some-clause-same : goal.returns-in-Some-clause-same
 returns-in-Some-clause-same c =
     going.value_is_there (run_of c.args.m.now) (run_of c.at_once.new.m) (expr_view c.args.e.now) c.in-Some.v
-    (once.done c.in_ok-v.field-0 (expr_view c.args.e.now) c.args.m.now c.at_once.new.m c.in-Some.v c.in_ok-v.ensures
+    (going.done c.in_ok-v.field-0 (expr_view c.args.e.now) c.args.m.now c.at_once.new.m c.in-Some.v c.in_ok-v.ensures
     c.in-Some.is)
 
 pub returns-in-Some-clause-units : goal.returns-in-Some-clause-units
 returns-in-Some-clause-units c =
     going.spends_most (run_of c.args.m.now) (run_of c.at_once.new.m) (expr_view c.args.e.now) c.in-Some.v
-    (once.done c.in_ok-v.field-0 (expr_view c.args.e.now) c.args.m.now c.at_once.new.m c.in-Some.v c.in_ok-v.ensures
+    (going.done c.in_ok-v.field-0 (expr_view c.args.e.now) c.args.m.now c.at_once.new.m c.in-Some.v c.in_ok-v.ensures
     c.in-Some.is)
 
 pub returns-in-Some-clause-less : goal.returns-in-Some-clause-less
 returns-in-Some-clause-less c =
     once.spends (run_of c.args.m.now) (run_of c.at_once.new.m) (expr_view c.args.e.now) c.in-Some.v _ _
-    (once.done c.in_ok-v.field-0 (expr_view c.args.e.now) c.args.m.now c.at_once.new.m c.in-Some.v c.in_ok-v.ensures
+    (going.done c.in_ok-v.field-0 (expr_view c.args.e.now) c.args.m.now c.at_once.new.m c.in-Some.v c.in_ok-v.ensures
     c.in-Some.is)
 
 pub returns-in-None-clause-same : goal.returns-in-None-clause-same
 returns-in-None-clause-same c =
     going.still c.eval.result c.args.m.now c.at_once.new.m (run_of c.eval.new.m)
     (outcome (pending.Eval (expr_view c.args.e.now)))
-    (once.undone c.in_ok-v.field-0 (expr_view c.args.e.now) c.args.m.now c.at_once.new.m c.in_ok-v.ensures
+    (going.undone c.in_ok-v.field-0 (expr_view c.args.e.now) c.args.m.now c.at_once.new.m c.in_ok-v.ensures
     c.in-None.is)
     c.eval.ensures.same
 
@@ -36,6 +36,6 @@ pub returns-in-None-clause-less : goal.returns-in-None-clause-less
 returns-in-None-clause-less c =
     going.still_less c.eval.result c.args.m.now c.at_once.new.m (run_of c.eval.new.m)
     (heft (pending.Eval (expr_view c.args.e.now)))
-    (once.undone c.in_ok-v.field-0 (expr_view c.args.e.now) c.args.m.now c.at_once.new.m c.in_ok-v.ensures
+    (going.undone c.in_ok-v.field-0 (expr_view c.args.e.now) c.args.m.now c.at_once.new.m c.in_ok-v.ensures
     c.in-None.is)
     c.eval.ensures.less

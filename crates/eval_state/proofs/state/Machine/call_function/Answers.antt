@@ -1,4 +1,6 @@
-use Rattle.std.proofs.Common.{◌≡◌, ℕ, ◌≤◌, List, [], Some, None, refl, ap, sym, ◌∙◌, arith}
+use Rattle.std.proofs.Common.{◌≡◌, ◌≢◌, ℕ, ◌+◌, ◌≤◌, List, [], Some, None, ap, sym, subst, ◌∙◌, arith}
+use Rattle.limits.specs.declared.program.TheConstants.{FRAME_OBJECT_BYTES}
+use Rattle.word32.specs.declared.map.TheConstants.{STACK_BYTES}
 use Rattle.typed_tree.specs.declared.expression.Stmt.{Stmt}
 use Rattle.typed_tree.specs.View.{function_view, stmt_view}
 use Rattle.meaning_state.specs.Shared.{limit_trap}
@@ -8,6 +10,7 @@ use Rattle.meaning_rest.specs.Rest.{spent}
 use Rattle.eval_state.specs.declared.state.Body.{Body}
 use Rattle.eval_state.specs.declared.state.Generated.{Generated}
 use Rattle.eval_state.specs.declared.state.Parts.{Parts}
+use Rattle.eval_state.specs.Grown.{with_called}
 use Rattle.eval_state.specs.Run.{here, leads, run_of, world}
 use Rattle.eval_state.proofs.Callees.{static_enters, static_limit}
 use Rattle.eval_state.proofs.Codes.{within_limits}
@@ -25,8 +28,14 @@ returns-in-Some-clause-same c = λ f h.
 pub enter-requires : goal.enter-requires
 enter-requires c =
     let none = sym c.in_default.is ∙ c.limit.ensures in
-    let within = within_limits c.args.self.now c.charge_of-charge.result c.args.function.now.object none in
-    (c.requires.0, omega arith, within.0, within.1)
+    let charge = c.charge_of-charge.result in
+    let object = c.args.function.now.object in
+    let within = within_limits c.args.self.now charge object none in
+    let it = subst
+    (λ (p : Parts). (p.depth ≢ 0) × (p.used + charge ≤ STACK_BYTES) × (p.frames + object ≤ FRAME_OBJECT_BYTES))
+    (sym c.list-variables.ensures.still)
+    (c.requires.0, within.0, within.1) in
+    (it.0, omega arith, it.1, it.2)
 
 pub returns-clause-same : goal.returns-clause-same
 returns-clause-same c = λ f h.
@@ -35,9 +44,10 @@ returns-clause-same c = λ f h.
     let function = c.args.function.now in
     let none = sym c.in_default.is ∙ c.limit.ensures in
     let charge = c.charge_of-charge.ensures ∙ ap charge_of c.requires.1 in
-    let generated = c.in_ok-again.ensures ∙ ap (λ (p : Parts). p.body.generated) c.self.view_is in
+    let generated = c.in_ok-again.ensures
+    ∙ ap (λ (p : Parts). p.body.generated) (c.self.view_is ∙ c.list-variables.ensures.still) in
     let body : Body = record {
-      variables = c.new.result;
+      variables = c.list-variables.result;
       arguments = c.arguments.inside.items.items;
       generated = c.in_ok-again.field-0;
       object = function.object;
@@ -49,7 +59,7 @@ returns-clause-same c = λ f h.
       generated = c.in_ok-again.field-0;
       object = function.object;
       row = 0;
-    }) c.new.ensures ∙ ap (λ (vs : List ℕ). record {
+    }) c.list-variables.ensures.empty ∙ ap (λ (vs : List ℕ). record {
       variables = [];
       arguments = vs;
       generated = c.in_ok-again.field-0;
@@ -66,17 +76,20 @@ returns-clause-same c = λ f h.
     ∙ ap (λ (s : Stmt). leads (run_of q) (spent (here (run_of q)) (world (run_of q)).units (pending.Exec (stmt_view s))
     (world (run_of q)))) c.get.ensures
     ∙ static_enters p q c.args.answer f c.charge_of-charge.result c.args.arguments function body c.requires.0 h charge
-    none is c.in_ok-enter.ensures
+    none is (c.in_ok-enter.ensures
+    ∙ ap (λ (p : Parts). with_called c.args.answer c.charge_of-charge.result body p) c.list-variables.ensures.still)
 
 pub returns-clause-units : goal.returns-clause-units
 returns-clause-units c =
     let p = c.args.self.now in
-    let at_entry = units_same p c.enter.new.self (ap (λ (q : Parts). q.units) c.in_ok-enter.ensures) in
+    let at_entry = units_same p c.enter.new.self (ap (λ (q : Parts). q.units) c.in_ok-enter.ensures
+    ∙ ap (λ (q : Parts). q.units) c.list-variables.ensures.still) in
     omega (arith, c.spend.ensures.units, at_entry)
 
 pub returns-clause-less : goal.returns-clause-less
 returns-clause-less c = λ same.
     let p = c.args.self.now in
-    let at_entry = units_same p c.enter.new.self (ap (λ (q : Parts). q.units) c.in_ok-enter.ensures) in
+    let at_entry = units_same p c.enter.new.self (ap (λ (q : Parts). q.units) c.in_ok-enter.ensures
+    ∙ ap (λ (q : Parts). q.units) c.list-variables.ensures.still) in
     let none = c.spend.ensures.less (same ∙ sym at_entry) in
     omega (arith, none)

@@ -1,0 +1,53 @@
+use Rattle.typed_tree.specs.View.{stmt_view}
+use Rattle.meaning_rest.specs.Pending as pending
+use Rattle.eval_state.specs.Less.{heft}
+use Rattle.eval_state.specs.Run.{outcome, run_of}
+use Rattle.eval_state.specs.Views.{now_view}
+use Rattle.eval_simple.proofs.Going as going
+use Rattle.eval_statements.proofs.AtOnce as once
+use Rattle.eval_simple.proofs.Going.{same_as}
+use Rattle.eval_statements.proofs.Starts as start
+use Rattle.eval_statements.proofs.begin.exec.Goals as goal
+
+pub returns-in-Some-clause-same : goal.returns-in-Some-clause-same
+returns-in-Some-clause-same c =
+    same_as c.further.result (run_of c.further.new.m) _ _ c.further.ensures.same
+    (start.starts (stmt_view c.args.s.now) (now_view c.in-Some.n) (run_of c.args.m.now) (run_of c.started.new.m)
+    (start.begun c.in_ok-n.field-0 (stmt_view c.args.s.now) c.args.m.now c.started.new.m c.in-Some.n c.in_ok-n.ensures
+    c.in-Some.is))
+
+pub returns-in-Some-clause-units : goal.returns-in-Some-clause-units
+returns-in-Some-clause-units c =
+    once.units_behind c.further.result (run_of c.started.new.m) (run_of c.further.new.m) (run_of c.args.m.now)
+    (start.starts_fewer (stmt_view c.args.s.now) (now_view c.in-Some.n) (run_of c.args.m.now) (run_of c.started.new.m)
+    (start.begun c.in_ok-n.field-0 (stmt_view c.args.s.now) c.args.m.now c.started.new.m c.in-Some.n c.in_ok-n.ensures
+    c.in-Some.is))
+    c.further.ensures.units
+
+pub returns-in-Some-clause-less : goal.returns-in-Some-clause-less
+returns-in-Some-clause-less c =
+    let it = start.begun c.in_ok-n.field-0 (stmt_view c.args.s.now) c.args.m.now c.started.new.m c.in-Some.n
+    c.in_ok-n.ensures c.in-Some.is in
+    start.lighter_behind c.further.result (now_view c.in-Some.n) (run_of c.args.m.now) (run_of c.started.new.m)
+    (run_of c.further.new.m) (heft (pending.Exec (stmt_view c.args.s.now)) (run_of c.args.m.now))
+    (start.starts_fewer (stmt_view c.args.s.now) (now_view c.in-Some.n) (run_of c.args.m.now) (run_of c.started.new.m)
+    it)
+    (start.starts_lighter (stmt_view c.args.s.now) (now_view c.in-Some.n) (run_of c.args.m.now)
+    (run_of c.started.new.m) it)
+    c.further.ensures.units c.further.ensures.less
+
+pub returns-in-None-clause-same : goal.returns-in-None-clause-same
+returns-in-None-clause-same c =
+    going.still c.begin_further.result c.args.m.now c.started.new.m (run_of c.begin_further.new.m)
+    (outcome (pending.Exec (stmt_view c.args.s.now)))
+    (start.not_begun c.in_ok-n.field-0 (stmt_view c.args.s.now) c.args.m.now c.started.new.m c.in_ok-n.ensures
+    c.in-None.is)
+    c.begin_further.ensures.same
+
+pub returns-in-None-clause-less : goal.returns-in-None-clause-less
+returns-in-None-clause-less c =
+    going.still_less c.begin_further.result c.args.m.now c.started.new.m (run_of c.begin_further.new.m)
+    (heft (pending.Exec (stmt_view c.args.s.now)))
+    (start.not_begun c.in_ok-n.field-0 (stmt_view c.args.s.now) c.args.m.now c.started.new.m c.in_ok-n.ensures
+    c.in-None.is)
+    c.begin_further.ensures.less
