@@ -3,4 +3,4 @@ pub mod Stepped
 pub mod Numbered
 pub mod Generated
 pub mod Fetched
-pub mod Reached
+pub mod Stretches

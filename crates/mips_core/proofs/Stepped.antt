@@ -1,6 +1,6 @@
 -- What one instruction's answer says of it, and stretches one after another.
-use Rattle.std.proofs.Common.{zero, suc, inl, inr, ◌≡◌, ◌≢◌, ℕ, ◌+◌, Bool, true, false, None}
-use Rattle.std.proofs.Common.{refl, sym, ap, ◌∙◌, subst}
+use Rattle.std.proofs.Common.{zero, suc, inl, ◌≡◌, ◌≢◌, ℕ, ◌+◌, Bool, true, false, None}
+use Rattle.std.proofs.Common.{refl, ap, ◌∙◌, subst}
 use Rattle.mips_model.specs.State.{World}
 use Rattle.mips_model.specs.Steps.{step}
 use Rattle.mips_model.specs.Beside.{is_at_service}
@@ -50,22 +50,9 @@ pending_not next is = absurd cc
 pub stopped_not : went.Stopped ≢ went.Service
 stopped_not is = absurd cc
 
-pub service_not : went.Service ≢ went.Stopped
-service_not is = absurd cc
-
-pub on_not_stopped : (next : ℕ) → went.On next ≢ went.Stopped
-on_not_stopped next is = absurd cc
-
-pub pending_not_stopped : (next : ℕ) → went.Pending next ≢ went.Stopped
-pending_not_stopped next is = absurd cc
-
 pub pauses_stopped : (left : ℕ) (k : CoreKept) → k.stopped ≢ None → Pauses left k
 pauses_stopped zero k stopped = tt
 pauses_stopped (suc left) k stopped = inl stopped
-
-pub pauses_service : (left : ℕ) (k : CoreKept) → k.stopped ≡ None → is_at_service (state_of k) ≡ true → Pauses left k
-pauses_service zero k on service = tt
-pauses_service (suc left) k on service = inr (on, service)
 
 -- an answer of Service is that of a SYSCALL, which was left
 pub serves_by : (aside b : Bool) {P Q : Type 0} (pc : ℕ) (new : CoreKept) → (b ≡ true → P) →

@@ -1,7 +1,8 @@
 -- What the code keeps of the machine's state, in lists, and the state that it stands for. What passes between a run and
 -- the outside is kept by nobody: here the state has none of it, and whoever runs the core says what it is.
-use Rattle.std.specs.Prelude.{zero, suc, ◌≢◌, ◌⊎◌, ⊤, ◌≡◌, ℕ, ◌+◌, ◌-◌, ◌/◌, ◌%◌, ◌==◌, ◌<◌, Bool, true, false, ◌||◌, nat_eq, nat_lt}
-use Rattle.std.specs.Prelude.{Result, Ok, Err, if◌then◌else◌, List, [], Option, Some, None, slice_index}
+use Rattle.std.specs.Prelude.{zero, suc, ◌≢◌, ◌⊎◌, ⊤, ◌≡◌, ℕ, ◌+◌, ◌-◌, ◌/◌, ◌%◌, ◌==◌, ◌<◌, Bool, true, false, ◌||◌}
+use Rattle.std.specs.Prelude.{nat_eq, nat_lt, Result, Ok, Err, if◌then◌else◌, List, [], Option, Some, None}
+use Rattle.std.specs.Prelude.{slice_index}
 use Rattle.std.specs.Fn.{iterate}
 use Rattle.flat_memory.specs.Spaces.{Spaces, text_of}
 use Rattle.code_arena.specs.Arena.{Arena}
@@ -50,6 +51,12 @@ pub record IsCore (k : CoreKept) : Type 0 where
   pub is_register : k.loaded < 32
   pub target_is_low : k.slot ≡ true → k.next < 4294967296
 
+-- where nothing is pending, no register was loaded, HI and LO may be set, and no slot is next
+pub record IsSettled (pending slot : Bool) (loaded recent : ℕ) : Type 0 where
+  pub no_slot : pending ≡ false → slot ≡ false
+  pub not_loaded : pending ≡ false → loaded ≡ 0
+  pub not_recent : pending ≡ false → recent ≡ 0
+
 -- nothing is pending
 pub record IsClear (k : CoreKept) : Type 0 where
   pub no_slot : k.slot ≡ false
@@ -61,8 +68,8 @@ pub record IsClear (k : CoreKept) : Type 0 where
 abbrev pub next_of : (slot : Bool) (target pc : ℕ) → ℕ
 next_of slot target pc = if slot then target else (pc + 4)
 
--- The same with the next instruction at this address. While the loop runs it holds the address itself, and the core's own
--- is that of an earlier instruction.
+-- The same with the next instruction at this address. While the loop runs it holds the address itself, and the core's
+-- own is that of an earlier instruction.
 abbrev pub at : ℕ → CoreKept → CoreKept
 at pc k = record k { pc = pc; next = next_of k.slot k.next pc }
 
@@ -136,8 +143,8 @@ went_to (went.Pending next) pc = next
 went_to went.Stopped pc = pc
 went_to went.Service pc = pc
 
--- What an instruction's answer says of the core behind it: whether the run goes on, and where nothing was pending before
--- it, that nothing is again unless the answer says so, and that the next word follows.
+-- What an instruction's answer says of the core behind it: whether the run goes on, and where nothing was pending
+-- before it, that nothing is again unless the answer says so, and that the next word follows.
 abbrev pub Leaves : (aside : Bool) → Went → ℕ → CoreKept → Type 0
 Leaves aside (went.On next) pc k = (k.stopped ≡ None) × (aside ≡ false → IsClear k × (next ≡ pc + 4))
 Leaves aside (went.Pending next) pc k = (k.stopped ≡ None) × (aside ≡ false → next ≡ pc + 4)
@@ -193,6 +200,11 @@ text_fetched words pc = if (pc % 4 == 0) then text_of words (pc / 4) else None
 -- the word at an address that has none in the text
 abbrev pub word_past_text : Code → ℕ → Result ℕ MachineKind
 word_past_text c at = if nat_lt at ARENA then Err kind.Fetch else word_in_arena c at
+
+-- the word that is executed, if one is
+abbrev pub word_of : Result ℕ MachineKind → Option ℕ
+word_of (Ok w) = Some w
+word_of (Err why) = None
 
 -- the loop stops before its count where the machine has stopped, or a service is next
 abbrev pub Pauses : ℕ → CoreKept → Type 0

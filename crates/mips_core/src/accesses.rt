@@ -40,7 +40,8 @@ impl Rest {
         requires on { self.old.stopped ≡ None }
         requires near { pc < 4294967288 }
         requires plain { ASIDE ≡ false → spec.IsClear self.old }
-        ensures world { world_of (spec.at (spec.went_to result pc) self.new) ≡ spec.took r v (state_of (spec.at pc self.old)) }
+        ensures world { world_of (spec.at (spec.went_to result pc) self.new) ≡
+            spec.took r v (state_of (spec.at pc self.old)) }
         ensures went { spec.Leaves ASIDE result pc self.new }
     {
         self.write(r, v);
@@ -61,7 +62,8 @@ impl Rest {
         requires on { self.old.stopped ≡ None }
         requires near { pc < 4294967288 }
         requires plain { ASIDE ≡ false → spec.IsClear self.old }
-        ensures world { world_of (spec.at (spec.went_to result pc) self.new) ≡ steps.reads (Some word) r at width (self.old.recent - 1) (state_of (spec.at pc self.old)) }
+        ensures world { world_of (spec.at (spec.went_to result pc) self.new) ≡
+            steps.reads (Some word) r at width (self.old.recent - 1) (state_of (spec.at pc self.old)) }
         ensures went { spec.Leaves ASIDE result pc self.new }
     {
         if is_aligned(at, width) {
@@ -95,7 +97,8 @@ impl Rest {
         requires near { pc < 4294967288 }
         requires plain { ASIDE ≡ false → spec.IsClear self.old }
         requires outside { flat.load (spaces_of self.old.memory) at width ≡ Err Access.Outside }
-        ensures world { world_of (spec.at (spec.went_to result pc) self.new) ≡ spec.loading r at width (state_of (spec.at pc self.old)) }
+        ensures world { world_of (spec.at (spec.went_to result pc) self.new) ≡
+            spec.loading r at width (state_of (spec.at pc self.old)) }
         ensures went { spec.Leaves ASIDE result pc self.new }
     {
         if is_in_arena(at) {
@@ -114,7 +117,8 @@ impl Rest {
         requires on { self.old.stopped ≡ None }
         requires near { pc < 4294967288 }
         requires plain { ASIDE ≡ false → spec.IsClear self.old }
-        ensures world { world_of (spec.at (spec.went_to result pc) self.new) ≡ spec.loading r at width (state_of (spec.at pc self.old)) }
+        ensures world { world_of (spec.at (spec.went_to result pc) self.new) ≡
+            spec.loading r at width (state_of (spec.at pc self.old)) }
         ensures went { spec.Leaves ASIDE result pc self.new }
     {
         match self.memory.load(at, width) {
@@ -131,7 +135,8 @@ impl Rest {
         requires near { pc < 4294967288 }
         requires plain { ASIDE ≡ false → spec.IsClear self.old }
         requires outside { flat.store (spaces_of self.old.memory) at width w ≡ Err Access.Outside }
-        ensures world { world_of (spec.at (spec.went_to result pc) self.new) ≡ spec.storing at width w (state_of (spec.at pc self.old)) }
+        ensures world { world_of (spec.at (spec.went_to result pc) self.new) ≡
+            spec.storing at width w (state_of (spec.at pc self.old)) }
         ensures went { spec.Leaves ASIDE result pc self.new }
     {
         let aligned = is_aligned(at, width);
@@ -152,7 +157,8 @@ impl Rest {
         requires on { self.old.stopped ≡ None }
         requires near { pc < 4294967288 }
         requires plain { ASIDE ≡ false → spec.IsClear self.old }
-        ensures world { world_of (spec.at (spec.went_to result pc) self.new) ≡ spec.storing at width w (state_of (spec.at pc self.old)) }
+        ensures world { world_of (spec.at (spec.went_to result pc) self.new) ≡
+            spec.storing at width w (state_of (spec.at pc self.old)) }
         ensures went { spec.Leaves ASIDE result pc self.new }
     {
         match self.memory.store(at, width, w) {
@@ -175,7 +181,8 @@ impl Rest {
         requires on { self.old.stopped ≡ None }
         requires near { pc < 4294967288 }
         requires plain { ASIDE ≡ false → spec.IsClear self.old }
-        ensures world { world_of (spec.at (spec.went_to result pc) self.new) ≡ spec.accessing op r at (state_of (spec.at pc self.old)) }
+        ensures world { world_of (spec.at (spec.went_to result pc) self.new) ≡
+            spec.accessing op r at (state_of (spec.at pc self.old)) }
         ensures went { spec.Leaves ASIDE result pc self.new }
     {
         match op {
@@ -200,7 +207,8 @@ impl Rest {
         requires on { self.old.stopped ≡ None }
         requires near { pc < 4294967288 }
         requires plain { ASIDE ≡ false → spec.IsClear self.old }
-        ensures world { world_of (spec.at (spec.went_to result pc) self.new) ≡ spec.does (table.memory op w) (state_of (spec.at pc self.old)) }
+        ensures world { world_of (spec.at (spec.went_to result pc) self.new) ≡
+            spec.does (table.memory op w) (state_of (spec.at pc self.old)) }
         ensures went { spec.Leaves ASIDE result pc self.new }
     {
         if self.is_loaded::<ASIDE>(rt(w), rs(w), rs(w)) {

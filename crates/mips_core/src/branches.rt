@@ -42,7 +42,8 @@ impl Rest {
         requires on { self.old.stopped ≡ None }
         requires near { pc < 4294967288 }
         requires plain { ASIDE ≡ false → spec.IsClear self.old }
-        ensures world { world_of (spec.at (spec.went_to result pc) self.new) ≡ spec.does (table.jump_register w) (state_of (spec.at pc self.old)) }
+        ensures world { world_of (spec.at (spec.went_to result pc) self.new) ≡
+            spec.does (table.jump_register w) (state_of (spec.at pc self.old)) }
         ensures went { spec.Leaves ASIDE result pc self.new }
     {
         if w / 64 % 32768 != 0 {
@@ -60,7 +61,8 @@ impl Rest {
         requires on { self.old.stopped ≡ None }
         requires near { pc < 4294967288 }
         requires plain { ASIDE ≡ false → spec.IsClear self.old }
-        ensures world { world_of (spec.at (spec.went_to result pc) self.new) ≡ spec.does (table.jump_and_link_register w) (state_of (spec.at pc self.old)) }
+        ensures world { world_of (spec.at (spec.went_to result pc) self.new) ≡
+            spec.does (table.jump_and_link_register w) (state_of (spec.at pc self.old)) }
         ensures went { spec.Leaves ASIDE result pc self.new }
     {
         if w / 2048 % 32 == w / 2097152 % 32 || w / 65536 % 32 != 0 || w / 64 % 32 != 0 {
@@ -81,7 +83,8 @@ impl Rest {
         requires on { self.old.stopped ≡ None }
         requires near { pc < 4294967288 }
         requires plain { ASIDE ≡ false → spec.IsClear self.old }
-        ensures world { world_of (spec.at (spec.went_to result pc) self.new) ≡ spec.does (table.jump JumpOp.J w) (state_of (spec.at pc self.old)) }
+        ensures world { world_of (spec.at (spec.went_to result pc) self.new) ≡
+            spec.does (table.jump JumpOp.J w) (state_of (spec.at pc self.old)) }
         ensures went { spec.Leaves ASIDE result pc self.new }
     {
         if self.is_slot::<ASIDE>() {
@@ -96,7 +99,8 @@ impl Rest {
         requires on { self.old.stopped ≡ None }
         requires near { pc < 4294967288 }
         requires plain { ASIDE ≡ false → spec.IsClear self.old }
-        ensures world { world_of (spec.at (spec.went_to result pc) self.new) ≡ spec.does (table.jump JumpOp.Jal w) (state_of (spec.at pc self.old)) }
+        ensures world { world_of (spec.at (spec.went_to result pc) self.new) ≡
+            spec.does (table.jump JumpOp.Jal w) (state_of (spec.at pc self.old)) }
         ensures went { spec.Leaves ASIDE result pc self.new }
     {
         if self.is_branch_hazard::<ASIDE>(Register::RA, Register::RA, Register::RA) {
@@ -119,7 +123,8 @@ impl Rest {
         requires on { self.old.stopped ≡ None }
         requires near { pc < 4294967288 }
         requires plain { ASIDE ≡ false → spec.IsClear self.old }
-        ensures world { world_of (spec.at (spec.went_to result pc) self.new) ≡ spec.does (table.branch_on_equality op w) (state_of (spec.at pc self.old)) }
+        ensures world { world_of (spec.at (spec.went_to result pc) self.new) ≡
+            spec.does (table.branch_on_equality op w) (state_of (spec.at pc self.old)) }
         ensures went { spec.Leaves ASIDE result pc self.new }
     {
         if self.is_branch_hazard::<ASIDE>(rs(w), rt(w), rt(w)) {
@@ -140,7 +145,8 @@ impl Rest {
         requires on { self.old.stopped ≡ None }
         requires near { pc < 4294967288 }
         requires plain { ASIDE ≡ false → spec.IsClear self.old }
-        ensures world { world_of (spec.at (spec.went_to result pc) self.new) ≡ spec.does (table.branch_on_zero op w) (state_of (spec.at pc self.old)) }
+        ensures world { world_of (spec.at (spec.went_to result pc) self.new) ≡
+            spec.does (table.branch_on_zero op w) (state_of (spec.at pc self.old)) }
         ensures went { spec.Leaves ASIDE result pc self.new }
     {
         if w / 65536 % 32 != 0 {
@@ -164,7 +170,8 @@ impl Rest {
         requires on { self.old.stopped ≡ None }
         requires near { pc < 4294967288 }
         requires plain { ASIDE ≡ false → spec.IsClear self.old }
-        ensures world { world_of (spec.at (spec.went_to result pc) self.new) ≡ spec.does (table.branch_on_sign test w) (state_of (spec.at pc self.old)) }
+        ensures world { world_of (spec.at (spec.went_to result pc) self.new) ≡
+            spec.does (table.branch_on_sign test w) (state_of (spec.at pc self.old)) }
         ensures went { spec.Leaves ASIDE result pc self.new }
     {
         if self.is_branch_hazard::<ASIDE>(rs(w), rs(w), rs(w)) {
@@ -185,7 +192,8 @@ impl Rest {
         requires on { self.old.stopped ≡ None }
         requires near { pc < 4294967288 }
         requires plain { ASIDE ≡ false → spec.IsClear self.old }
-        ensures world { world_of (spec.at (spec.went_to result pc) self.new) ≡ spec.does (table.branch_on_sign_and_link test w) (state_of (spec.at pc self.old)) }
+        ensures world { world_of (spec.at (spec.went_to result pc) self.new) ≡
+            spec.does (table.branch_on_sign_and_link test w) (state_of (spec.at pc self.old)) }
         ensures went { spec.Leaves ASIDE result pc self.new }
     {
         if w / 2097152 % 32 == 31 {
@@ -205,7 +213,8 @@ impl Rest {
     #[inline(always)]
     pub(crate) fn break_with<const ASIDE: bool>(&mut self, pc: u32, w: u32) -> Went
         requires on { self.old.stopped ≡ None }
-        ensures world { world_of (spec.at (spec.went_to result pc) self.new) ≡ spec.does (Some (spec.breaking (w / 64 % 1048576))) (state_of (spec.at pc self.old)) }
+        ensures world { world_of (spec.at (spec.went_to result pc) self.new) ≡
+            spec.does (Some (spec.breaking (w / 64 % 1048576))) (state_of (spec.at pc self.old)) }
         ensures went { spec.Leaves ASIDE result pc self.new }
     {
         match trap_kind(w / 64 % 1048576) {

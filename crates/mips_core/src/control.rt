@@ -24,12 +24,15 @@ impl Rest {
     pub(crate) fn settle(&mut self, pc: u32) -> u32
         requires near { self.old.slot ≡ false → pc < 4294967292 }
         ensures address { result ≡ (spec.at pc self.old).next }
-        ensures world { world_of (spec.at result self.new) ≡ spec.moved ((spec.at pc self.old).next + 4) false (world_of (spec.at pc self.old)) }
+        ensures world { world_of (spec.at result self.new) ≡
+            spec.moved ((spec.at pc self.old).next + 4) false (world_of (spec.at pc self.old)) }
     {
         let next = self.next(pc);
         self.slot = false;
         self.loaded = 0;
+        self.pending = false;
         if self.recent != 0 {
+            self.pending = self.recent > 1;
             self.recent -= 1;
         }
         next
@@ -41,7 +44,8 @@ impl Rest {
         requires near { pc < 4294967288 }
         requires plain { ASIDE ≡ false → spec.IsClear self.old }
         ensures address { result ≡ (spec.at pc self.old).next }
-        ensures world { world_of (spec.at result self.new) ≡ spec.moved ((spec.at pc self.old).next + 4) false (world_of (spec.at pc self.old)) }
+        ensures world { world_of (spec.at result self.new) ≡
+            spec.moved ((spec.at pc self.old).next + 4) false (world_of (spec.at pc self.old)) }
     {
         if ASIDE { self.settle(pc) } else { pc + 4 }
     }
@@ -52,11 +56,14 @@ impl Rest {
         requires near { pc < 4294967288 }
         requires plain { ASIDE ≡ false → spec.IsClear self.old }
         requires slot { self.old.slot ≡ false }
-        ensures { world_of (spec.at result self.new) ≡ spec.moved (spec.chosen taken target ((spec.at pc self.old).next + 4)) true (world_of (spec.at pc self.old)) }
+        ensures { world_of (spec.at result self.new) ≡
+            spec.moved (spec.chosen taken target ((spec.at pc self.old).next + 4)) true
+            (world_of (spec.at pc self.old)) }
     {
         let next = self.advance::<ASIDE>(pc);
         self.target = if taken { target } else { pc + 8 };
         self.slot = true;
+        self.pending = true;
         next
     }
 
@@ -66,6 +73,7 @@ impl Rest {
         ensures { world_of (spec.at pc self.new) ≡ spec.with_loaded r (world_of (spec.at pc self.old)) }
     {
         self.loaded = r.number();
+        self.pending = true;
     }
 
     /// The instruction before the next read HI or LO.
@@ -74,6 +82,7 @@ impl Rest {
         ensures { world_of (spec.at pc self.new) ≡ spec.with_recent 2 (world_of (spec.at pc self.old)) }
     {
         self.recent = 2;
+        self.pending = true;
     }
 
     /// Whether nothing is pending: no register was just loaded, HI and LO may be set, and no delay slot is next.
@@ -81,7 +90,7 @@ impl Rest {
     pub(crate) fn is_clear(&self) -> bool
         ensures { result ≡ true → spec.IsClear self.now }
     {
-        !self.slot && self.loaded == 0 && self.recent == 0
+        !self.pending
     }
 
     /// Whether the last instruction loaded one of these registers.

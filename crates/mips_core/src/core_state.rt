@@ -1,6 +1,7 @@
 //! A machine without its services.
 
-ghost use Rattle.std.specs.Prelude.{◌≡◌, ◌≢◌, ◌+◌, ◌-◌, ◌*◌, ◌/◌, ◌%◌, ◌^◌, ◌<◌, ◌≤◌, ℕ, false, length, map, IfOk, IfSome, Ok, Err, None, Some, []};
+ghost use Rattle.std.specs.Prelude.{◌≡◌, ◌≢◌, ◌+◌, ◌-◌, ◌*◌, ◌/◌, ◌%◌, ◌^◌, ◌<◌, ◌≤◌, ℕ, false, length, map, IfOk};
+ghost use Rattle.std.specs.Prelude.{IfSome, Ok, Err, None, Some, []};
 ghost use Rattle.limits.specs.declared.program.TheConstants.{MOST_FUNCTIONS};
 ghost use Rattle.limits.specs.declared.ops.TheConstants.{MOST_REGISTERS};
 ghost use Rattle.code_arena.specs.Arena.{Arena};
@@ -26,7 +27,8 @@ use mips_encoder::Register;
 use std::alloc::{AllocError, Global};
 use std::marker::Model;
 
-/// The machine but for its services: the words of its text, which never change, and the rest, whose memory has them too.
+/// The machine but for its services: the words of its text, which never change, and the rest, whose memory has them
+/// too.
 #[derive(Drop)]
 pub struct Core {
     text: Vec<u32>,
@@ -43,7 +45,8 @@ impl Model for Core {
 
     ghost view = { λ m. m.rest };
 
-    ghost invariant = { λ m. (text_of m.text.items ≡ (state_of m.rest).code.text) × (length m.text.items ≤ TEXT_WORDS) };
+    ghost invariant = { λ m. (text_of m.text.items ≡ (state_of m.rest).code.text) ×
+        (length m.text.items ≤ TEXT_WORDS) };
 }
 
 /// The function table in which functions are the rows from 1 on, in their order, and no other is published.

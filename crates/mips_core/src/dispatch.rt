@@ -19,7 +19,8 @@ impl Rest {
         requires on { self.old.stopped ≡ None }
         requires near { pc < 4294967288 }
         requires plain { ASIDE ≡ false → spec.IsClear self.old }
-        ensures world { world_of (spec.at (spec.went_to result pc) self.new) ≡ spec.does (table.of_regimm w) (state_of (spec.at pc self.old)) }
+        ensures world { world_of (spec.at (spec.went_to result pc) self.new) ≡
+            spec.does (table.of_regimm w) (state_of (spec.at pc self.old)) }
         ensures went { spec.Leaves ASIDE result pc self.new }
     {
         match w / 65536 % 32 {
@@ -37,7 +38,10 @@ impl Rest {
         requires on { self.old.stopped ≡ None }
         requires code { w % 64 ≡ 12 }
         ensures service { w ≡ 12 → (result ≡ Went.Service) × (self.new ≡ self.old) }
-        ensures other { w ≢ 12 → (world_of (spec.at (spec.went_to result pc) self.new) ≡ spec.does (table.of_special w) (state_of (spec.at pc self.old))) × spec.Leaves ASIDE result pc self.new }
+        ensures other { w ≢ 12 →
+            (world_of (spec.at (spec.went_to result pc) self.new) ≡
+            spec.does (table.of_special w) (state_of (spec.at pc self.old)))
+            × spec.Leaves ASIDE result pc self.new }
     {
         if w == 12 {
             Went::Service
@@ -53,7 +57,10 @@ impl Rest {
         requires near { pc < 4294967288 }
         requires plain { ASIDE ≡ false → spec.IsClear self.old }
         ensures service { w ≡ 12 → (result ≡ Went.Service) × (self.new ≡ self.old) }
-        ensures other { w ≢ 12 → (world_of (spec.at (spec.went_to result pc) self.new) ≡ spec.does (table.of_special w) (state_of (spec.at pc self.old))) × spec.Leaves ASIDE result pc self.new }
+        ensures other { w ≢ 12 →
+            (world_of (spec.at (spec.went_to result pc) self.new) ≡
+            spec.does (table.of_special w) (state_of (spec.at pc self.old)))
+            × spec.Leaves ASIDE result pc self.new }
     {
         match w % 64 {
             0 => self.shift::<ASIDE>(pc, ShiftOp::Sll, w),
@@ -106,7 +113,8 @@ impl Rest {
         requires near { pc < 4294967288 }
         requires plain { ASIDE ≡ false → spec.IsClear self.old }
         requires high { 67108864 ≤ w }
-        ensures world { world_of (spec.at (spec.went_to result pc) self.new) ≡ spec.does (table.instr_of w) (state_of (spec.at pc self.old)) }
+        ensures world { world_of (spec.at (spec.went_to result pc) self.new) ≡
+            spec.does (table.instr_of w) (state_of (spec.at pc self.old)) }
         ensures went { spec.Leaves ASIDE result pc self.new }
     {
         match w / 67108864 {
@@ -154,7 +162,8 @@ impl Rest {
         }
     }
 
-    /// Executes the instruction of a word, unless it is SYSCALL. It is compiled twice, and `ASIDE` tells the copies apart:
+    /// Executes the instruction of a word, unless it is SYSCALL. It is compiled twice, and `ASIDE` tells the copies
+    /// apart:
     /// one for where something is pending, and one for where nothing is.
     #[inline(always)]
     pub(crate) fn execute<const ASIDE: bool>(&mut self, pc: u32, w: u32) -> Went
@@ -162,39 +171,15 @@ impl Rest {
         requires near { pc < 4294967288 }
         requires plain { ASIDE ≡ false → spec.IsClear self.old }
         ensures service { w ≡ 12 → (result ≡ Went.Service) × (self.new ≡ self.old) }
-        ensures other { w ≢ 12 → (world_of (spec.at (spec.went_to result pc) self.new) ≡ spec.does (table.instr_of w) (state_of (spec.at pc self.old))) × spec.Leaves ASIDE result pc self.new }
+        ensures other { w ≢ 12 →
+            (world_of (spec.at (spec.went_to result pc) self.new) ≡
+            spec.does (table.instr_of w) (state_of (spec.at pc self.old)))
+            × spec.Leaves ASIDE result pc self.new }
     {
         if w < 67108864 {
             self.execute_special::<ASIDE>(pc, w)
         } else {
             self.execute_coded::<ASIDE>(pc, w)
-        }
-    }
-
-    /// The same where something is pending.
-    #[cold]
-    #[inline(never)]
-    fn execute_aside(&mut self, pc: u32, w: u32) -> Went
-        requires on { self.old.stopped ≡ None }
-        requires near { pc < 4294967288 }
-        ensures service { w ≡ 12 → (result ≡ Went.Service) × (self.new ≡ self.old) }
-        ensures other { w ≢ 12 → (world_of (spec.at (spec.went_to result pc) self.new) ≡ spec.does (table.instr_of w) (state_of (spec.at pc self.old))) × spec.Leaves true result pc self.new }
-    {
-        self.execute::<true>(pc, w)
-    }
-
-    /// The same. A nop is likely, which is never a hazard.
-    #[inline(always)]
-    pub(crate) fn execute_pending(&mut self, pc: u32, w: u32) -> Went
-        requires on { self.old.stopped ≡ None }
-        requires near { pc < 4294967288 }
-        ensures service { w ≡ 12 → (result ≡ Went.Service) × (self.new ≡ self.old) }
-        ensures other { w ≢ 12 → (world_of (spec.at (spec.went_to result pc) self.new) ≡ spec.does (table.instr_of w) (state_of (spec.at pc self.old))) × spec.Leaves true result pc self.new }
-    {
-        if w == 0 {
-            Went::On(self.settle(pc))
-        } else {
-            self.execute_aside(pc, w)
         }
     }
 }

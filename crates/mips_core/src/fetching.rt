@@ -1,15 +1,15 @@
 //! Fetching, and the loop.
 
-ghost use Rattle.std.specs.Prelude.{◌≡◌, ◌≢◌, ◌<◌, ◌≤◌, ◌-◌, ◌+◌, ℕ, true, false, length, None, Some, IfOk, IfSome, Ok, Err};
+ghost use Rattle.std.specs.Prelude.{◌≡◌, ◌≢◌, ◌<◌, ◌≤◌, ◌-◌, ◌+◌, ℕ, true, false, length, None, Some, IfOk, IfSome, Ok};
+ghost use Rattle.std.specs.Prelude.{Err};
 ghost use Rattle.word32.specs.declared.map.TheConstants.{ARENA, TEXT_WORDS};
 ghost use Rattle.flat_memory.specs.Spaces.{text_of};
 ghost use Rattle.mips_model.specs.Steps as steps;
 ghost use Rattle.mips_core.specs.Core as spec;
-ghost use Rattle.mips_core.specs.Reaches.{Reaches};
 ghost use Rattle.mips_model.specs.Beside.{is_at_service};
 ghost use Rattle.mips_core.specs.Core.{state_of, world_of};
 
-use crate::halt::{Reached, Went};
+use crate::halt::Went;
 use crate::rest::Rest;
 use host_edge::MachineKind;
 use word32::map;
@@ -44,17 +44,47 @@ impl Rest {
         }
     }
 
-    /// The word at an address, or why none is executed there.
+    /// The word at an address that isn't in the text, if one is executed there. A call, so that a word of the text is
+    /// loaded where it is found to be one.
+    #[cold]
+    #[inline(never)]
+    fn arena_word(&self, pc: u32) -> Option<u32>
+        ensures { result ≡ spec.word_of (spec.word_past_text (state_of self.now).code pc) }
+    {
+        match self.fetch_from_arena(pc) {
+            Ok(w) => Some(w),
+            Err(_) => None,
+        }
+    }
+
+    /// The word at an address, if one is executed there.
     #[inline(always)]
-    fn fetch(&self, text: &[u32], pc: u32) -> Result<u32, MachineKind>
+    fn fetch(&self, text: &[u32], pc: u32) -> Option<u32>
         requires text { text_of text.now ≡ (state_of self.now).code.text }
         requires fits { length text.now ≤ TEXT_WORDS }
-        ensures word { result ≡ steps.word_at (state_of self.now).code pc }
-        ensures near { IfOk result (λ w. pc < 4294967288) }
+        ensures word { IfSome result (λ w. steps.word_at (state_of self.now).code pc ≡ Ok w) }
+        ensures near { IfSome result (λ w. pc < 4294967288) }
+        ensures none { result ≡ None → spec.word_of (steps.word_at (state_of self.now).code pc) ≡ None }
     {
         match text_word(text, pc) {
-            Some(w) => Ok(w),
-            None => self.fetch_from_arena(pc),
+            Some(w) => Some(w),
+            None => self.arena_word(pc),
+        }
+    }
+
+    /// The machine refuses to fetch.
+    #[cold]
+    #[inline(never)]
+    fn refuse(&mut self, pc: u32) -> Went
+        requires on { self.old.stopped ≡ None }
+        requires none { spec.word_of (steps.word_at (state_of self.old).code pc) ≡ None }
+        ensures service { is_at_service (state_of (spec.at pc self.old)) ≡ false }
+        ensures world { world_of (spec.at pc self.new) ≡ steps.step (world_of (spec.at pc self.old)) }
+        ensures went { (result ≡ Went.Stopped) × (self.new.stopped ≢ None) }
+    {
+        match self.fetch_from_arena(pc) {
+            Ok(_) => unreachable!(),
+            Err(kind) => self.fault(kind, pc),
         }
     }
 
@@ -65,122 +95,46 @@ impl Rest {
         requires clear { spec.IsClear self.old }
         requires text { text_of text.now ≡ (state_of self.old).code.text }
         requires fits { length text.now ≤ TEXT_WORDS }
-        ensures service { is_at_service (state_of (spec.at pc self.old)) ≡ true → (result ≡ Went.Service) × (self.new ≡ self.old) }
-        ensures other { is_at_service (state_of (spec.at pc self.old)) ≡ false → (world_of (spec.at (spec.went_to result pc) self.new) ≡ steps.step (world_of (spec.at pc self.old))) × spec.Leaves false result pc self.new }
+        ensures service { is_at_service (state_of (spec.at pc self.old)) ≡ true →
+            (result ≡ Went.Service) × (self.new ≡ self.old) }
+        ensures other { is_at_service (state_of (spec.at pc self.old)) ≡ false →
+            (world_of (spec.at (spec.went_to result pc) self.new) ≡ steps.step (world_of (spec.at pc self.old)))
+            × spec.Leaves false result pc self.new }
         ensures near { result ≢ Went.Stopped → pc < 4294967288 }
     {
         match self.fetch(text, pc) {
-            Ok(w) => self.execute::<false>(pc, w),
-            Err(kind) => self.fault(kind, pc),
+            Some(w) => self.execute::<false>(pc, w),
+            None => self.refuse(pc),
         }
     }
 
-    /// One instruction where something is pending, unless it is SYSCALL.
-    #[inline(always)]
-    fn step_aside(&mut self, text: &[u32], pc: u32) -> Went
+    /// The instruction of this word where something is pending, unless it is SYSCALL.
+    #[cold]
+    #[inline(never)]
+    fn step_aside(&mut self, pc: u32, w: u32) -> Went
         requires on { self.old.stopped ≡ None }
-        requires text { text_of text.now ≡ (state_of self.old).code.text }
-        requires fits { length text.now ≤ TEXT_WORDS }
-        ensures service { is_at_service (state_of (spec.at pc self.old)) ≡ true → (result ≡ Went.Service) × (self.new ≡ self.old) }
-        ensures other { is_at_service (state_of (spec.at pc self.old)) ≡ false → (world_of (spec.at (spec.went_to result pc) self.new) ≡ steps.step (world_of (spec.at pc self.old))) × spec.Leaves true result pc self.new }
-        ensures near { result ≢ Went.Stopped → pc < 4294967288 }
+        requires near { pc < 4294967288 }
+        requires word { steps.word_at (state_of self.old).code pc ≡ Ok w }
+        ensures service { is_at_service (state_of (spec.at pc self.old)) ≡ true →
+            (result ≡ Went.Service) × (self.new ≡ self.old) }
+        ensures other { is_at_service (state_of (spec.at pc self.old)) ≡ false →
+            (world_of (spec.at (spec.went_to result pc) self.new) ≡ steps.step (world_of (spec.at pc self.old)))
+            × spec.Leaves true result pc self.new }
     {
-        match self.fetch(text, pc) {
-            Ok(w) => self.execute_pending(pc, w),
-            Err(kind) => self.fault(kind, pc),
-        }
+        self.execute::<true>(pc, w)
     }
 
-    /// Executes up to n instructions from an address on where nothing is pending, up to the first that leaves something
-    /// pending.
+    /// Past a nop, which is never a hazard, where something is pending: to the address that is answered.
     #[inline(always)]
-    fn go_plainly(&mut self, text: &[u32], from: u32, n: u64) -> Reached
+    fn pass(&mut self, pc: u32) -> u32
         requires on { self.old.stopped ≡ None }
-        requires clear { spec.IsClear self.old }
-        requires some { 0 < n }
-        requires text { text_of text.now ≡ (state_of self.old).code.text }
-        requires fits { length text.now ≤ TEXT_WORDS }
-        ensures { Reaches from n result self.old self.new }
+        requires near { pc < 4294967288 }
+        requires word { steps.word_at (state_of self.old).code pc ≡ Ok 0 }
+        ensures service { is_at_service (state_of (spec.at pc self.old)) ≡ false }
+        ensures world { world_of (spec.at result self.new) ≡ steps.step (world_of (spec.at pc self.old)) }
+        ensures on { self.new.stopped ≡ None }
     {
-        let mut pc = from;
-        let mut left = n;
-        while left > 0 {
-            match self.step(text, pc) {
-                Went::On(_) => {
-                    pc += 4;
-                    left -= 1;
-                }
-                Went::Pending(_) => return Reached {
-                    is_over: false,
-                    pc: pc + 4,
-                    left: left - 1,
-                },
-                Went::Stopped => return Reached {
-                    is_over: true,
-                    pc,
-                    left: left - 1,
-                },
-                Went::Service => return Reached {
-                    is_over: true,
-                    pc,
-                    left,
-                },
-            }
-        }
-        Reached {
-            is_over: false,
-            pc,
-            left: 0,
-        }
-    }
-
-    /// Executes the instruction at an address, where something is pending.
-    #[inline(always)]
-    fn go_aside(&mut self, text: &[u32], pc: u32, n: u64) -> Reached
-        requires on { self.old.stopped ≡ None }
-        requires some { 0 < n }
-        requires text { text_of text.now ≡ (state_of self.old).code.text }
-        requires fits { length text.now ≤ TEXT_WORDS }
-        ensures { Reaches pc n result self.old self.new }
-    {
-        match self.step_aside(text, pc) {
-            Went::On(next) => Reached {
-                is_over: false,
-                pc: next,
-                left: n - 1,
-            },
-            Went::Pending(next) => Reached {
-                is_over: false,
-                pc: next,
-                left: n - 1,
-            },
-            Went::Stopped => Reached {
-                is_over: true,
-                pc,
-                left: n - 1,
-            },
-            Went::Service => Reached {
-                is_over: true,
-                pc,
-                left: n,
-            },
-        }
-    }
-
-    /// Executes up to n instructions from an address on, until nothing is pending any more, or until something is.
-    #[inline(always)]
-    fn go_far(&mut self, text: &[u32], pc: u32, n: u64) -> Reached
-        requires on { self.old.stopped ≡ None }
-        requires some { 0 < n }
-        requires text { text_of text.now ≡ (state_of self.old).code.text }
-        requires fits { length text.now ≤ TEXT_WORDS }
-        ensures { Reaches pc n result self.old self.new }
-    {
-        if self.is_clear() {
-            self.go_plainly(text, pc, n)
-        } else {
-            self.go_aside(text, pc, n)
-        }
+        self.settle(pc)
     }
 
     /// Executes up to n instructions until the machine stops or a SYSCALL is next, and answers how many of n are left.
@@ -198,12 +152,58 @@ impl Rest {
         let mut left = n;
         let mut pc = self.pc();
         while left > 0 {
-            let reached = self.go_far(text, pc, left);
-            pc = reached.pc;
-            left = reached.left;
-            if reached.is_over {
-                self.stand(pc);
-                return left;
+            if self.is_clear() {
+                while left > 0 {
+                    match self.step(text, pc) {
+                        Went::On(_) => {
+                            pc += 4;
+                            left -= 1;
+                        }
+                        Went::Pending(_) => {
+                            pc += 4;
+                            left -= 1;
+                            break;
+                        }
+                        Went::Stopped => {
+                            self.stand(pc);
+                            return left - 1;
+                        }
+                        Went::Service => {
+                            self.stand(pc);
+                            return left;
+                        }
+                    }
+                }
+            } else {
+                match self.fetch(text, pc) {
+                    None => {
+                        self.refuse(pc);
+                        self.stand(pc);
+                        return left - 1;
+                    }
+                    Some(0) => {
+                        pc = self.pass(pc);
+                        left -= 1;
+                    }
+                    Some(w) => match self.step_aside(pc, w) {
+                        Went::On(next) => {
+                            pc = next;
+                            left -= 1;
+                        }
+                        Went::Pending(next) => {
+                            pc = next;
+                            left -= 1;
+                        }
+                        Went::Stopped => {
+                            self.stand(pc);
+                            return left - 1;
+                        }
+                        Went::Service => {
+                            self.stand(pc);
+                            return left;
+                        }
+                    },
+                }
             }
         }
         self.stand(pc);

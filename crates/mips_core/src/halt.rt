@@ -23,14 +23,3 @@ pub enum Went {
     /// It is SYSCALL, and was not executed.
     Service,
 }
-
-/// How far a stretch of instructions went.
-#[derive(Clone, Copy)]
-pub struct Reached {
-    /// Whether it stopped before its count, since the machine did or a SYSCALL is next.
-    pub is_over: bool,
-    /// The address of the next instruction.
-    pub pc: u32,
-    /// How many instructions of its count are left.
-    pub left: u64,
-}

@@ -21,7 +21,8 @@ impl Rest {
         requires on { self.old.stopped ≡ None }
         requires near { pc < 4294967288 }
         requires plain { ASIDE ≡ false → spec.IsClear self.old }
-        ensures world { world_of (spec.at (spec.went_to result pc) self.new) ≡ spec.given r v (state_of (spec.at pc self.old)) }
+        ensures world { world_of (spec.at (spec.went_to result pc) self.new) ≡
+            spec.given r v (state_of (spec.at pc self.old)) }
         ensures went { spec.Leaves ASIDE result pc self.new }
     {
         match v {
@@ -43,7 +44,8 @@ impl Rest {
         requires on { self.old.stopped ≡ None }
         requires near { pc < 4294967288 }
         requires plain { ASIDE ≡ false → spec.IsClear self.old }
-        ensures world { world_of (spec.at (spec.went_to result pc) self.new) ≡ spec.does (table.arithmetic op w) (state_of (spec.at pc self.old)) }
+        ensures world { world_of (spec.at (spec.went_to result pc) self.new) ≡
+            spec.does (table.arithmetic op w) (state_of (spec.at pc self.old)) }
         ensures went { spec.Leaves ASIDE result pc self.new }
     {
         if w / 64 % 32 != 0 {
@@ -61,7 +63,8 @@ impl Rest {
         requires on { self.old.stopped ≡ None }
         requires near { pc < 4294967288 }
         requires plain { ASIDE ≡ false → spec.IsClear self.old }
-        ensures world { world_of (spec.at (spec.went_to result pc) self.new) ≡ spec.does (table.immediate_arithmetic op w) (state_of (spec.at pc self.old)) }
+        ensures world { world_of (spec.at (spec.went_to result pc) self.new) ≡
+            spec.does (table.immediate_arithmetic op w) (state_of (spec.at pc self.old)) }
         ensures went { spec.Leaves ASIDE result pc self.new }
     {
         if self.is_loaded::<ASIDE>(rt(w), rs(w), rs(w)) {
@@ -76,7 +79,8 @@ impl Rest {
         requires on { self.old.stopped ≡ None }
         requires near { pc < 4294967288 }
         requires plain { ASIDE ≡ false → spec.IsClear self.old }
-        ensures world { world_of (spec.at (spec.went_to result pc) self.new) ≡ spec.does (table.shift op w) (state_of (spec.at pc self.old)) }
+        ensures world { world_of (spec.at (spec.went_to result pc) self.new) ≡
+            spec.does (table.shift op w) (state_of (spec.at pc self.old)) }
         ensures went { spec.Leaves ASIDE result pc self.new }
     {
         if w / 2097152 % 32 != 0 {
@@ -100,7 +104,8 @@ impl Rest {
         requires on { self.old.stopped ≡ None }
         requires near { pc < 4294967288 }
         requires plain { ASIDE ≡ false → spec.IsClear self.old }
-        ensures world { world_of (spec.at (spec.went_to result pc) self.new) ≡ spec.does (table.shift_variable op w) (state_of (spec.at pc self.old)) }
+        ensures world { world_of (spec.at (spec.went_to result pc) self.new) ≡
+            spec.does (table.shift_variable op w) (state_of (spec.at pc self.old)) }
         ensures went { spec.Leaves ASIDE result pc self.new }
     {
         if w / 64 % 32 != 0 {
@@ -119,7 +124,8 @@ impl Rest {
         requires on { self.old.stopped ≡ None }
         requires near { pc < 4294967288 }
         requires plain { ASIDE ≡ false → spec.IsClear self.old }
-        ensures world { world_of (spec.at (spec.went_to result pc) self.new) ≡ spec.does (table.load_upper_immediate w) (state_of (spec.at pc self.old)) }
+        ensures world { world_of (spec.at (spec.went_to result pc) self.new) ≡
+            spec.does (table.load_upper_immediate w) (state_of (spec.at pc self.old)) }
         ensures went { spec.Leaves ASIDE result pc self.new }
     {
         if w / 2097152 % 32 != 0 {
@@ -137,7 +143,8 @@ impl Rest {
         requires on { self.old.stopped ≡ None }
         requires near { pc < 4294967288 }
         requires plain { ASIDE ≡ false → spec.IsClear self.old }
-        ensures world { world_of (spec.at (spec.went_to result pc) self.new) ≡ spec.does (table.move_from half w) (state_of (spec.at pc self.old)) }
+        ensures world { world_of (spec.at (spec.went_to result pc) self.new) ≡
+            spec.does (table.move_from half w) (state_of (spec.at pc self.old)) }
         ensures went { spec.Leaves ASIDE result pc self.new }
     {
         if w / 65536 != 0 || w / 64 % 32 != 0 {
@@ -161,7 +168,8 @@ impl Rest {
         requires on { self.old.stopped ≡ None }
         requires near { pc < 4294967288 }
         requires plain { ASIDE ≡ false → spec.IsClear self.old }
-        ensures world { world_of (spec.at (spec.went_to result pc) self.new) ≡ spec.does (table.move_to half w) (state_of (spec.at pc self.old)) }
+        ensures world { world_of (spec.at (spec.went_to result pc) self.new) ≡
+            spec.does (table.move_to half w) (state_of (spec.at pc self.old)) }
         ensures went { spec.Leaves ASIDE result pc self.new }
     {
         if w / 64 % 32768 != 0 {
@@ -189,7 +197,8 @@ impl Rest {
         requires on { self.old.stopped ≡ None }
         requires near { pc < 4294967288 }
         requires plain { ASIDE ≡ false → spec.IsClear self.old }
-        ensures world { world_of (spec.at (spec.went_to result pc) self.new) ≡ spec.does (table.multiply_divide op w) (state_of (spec.at pc self.old)) }
+        ensures world { world_of (spec.at (spec.went_to result pc) self.new) ≡
+            spec.does (table.multiply_divide op w) (state_of (spec.at pc self.old)) }
         ensures went { spec.Leaves ASIDE result pc self.new }
     {
         if w / 64 % 1024 != 0 {

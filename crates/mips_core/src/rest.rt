@@ -1,6 +1,7 @@
 //! The registers, the memory and the control of a machine: all of it but the text that is fetched.
 
-ghost use Rattle.std.specs.Prelude.{◌≡◌, ◌≢◌, ◌+◌, ◌-◌, ◌*◌, ◌/◌, ◌%◌, ◌<◌, ◌≤◌, ℕ, true, false, length, map, IfOk, IfSome, Ok, Err, None, Some, []};
+ghost use Rattle.std.specs.Prelude.{◌≡◌, ◌≢◌, ◌+◌, ◌-◌, ◌*◌, ◌/◌, ◌%◌, ◌<◌, ◌≤◌, ℕ, true, false, length, map, IfOk};
+ghost use Rattle.std.specs.Prelude.{IfSome, Ok, Err, None, Some, []};
 ghost use Rattle.limits.specs.declared.program.TheConstants.{MOST_FUNCTIONS};
 ghost use Rattle.flat_memory.specs.Regions.{spaces_of};
 ghost use Rattle.code_arena.specs.Kept.{arena_of, rows_of};
@@ -30,6 +31,8 @@ pub(crate) struct Rest {
     pub(crate) loaded: u32,
     pub(crate) recent: u32,
     pub(crate) slot: bool,
+    // where it isn't set, nothing was loaded, HI and LO may be set, and no delay slot is next
+    pub(crate) pending: bool,
     pub(crate) registers: [u32; 32],
     pub(crate) hi: u32,
     pub(crate) lo: u32,
@@ -41,7 +44,7 @@ pub(crate) struct Rest {
 
 impl Model for Rest {
     ghost use Rattle.std.specs.Prelude.{◌≡◌, slice_index};
-    ghost use Rattle.mips_core.specs.Core.{CoreKept, IsCore, next_of};
+    ghost use Rattle.mips_core.specs.Core.{CoreKept, IsCore, IsSettled, next_of};
 
     ghost Value = { CoreKept };
 
@@ -73,7 +76,7 @@ impl Model for Rest {
       arena = m.arena;
       table = m.table;
       stopped = m.stopped;
-    }) × (slice_index m.registers 0 ≡ 0) };
+    }) × ((slice_index m.registers 0 ≡ 0) × IsSettled m.pending m.slot m.loaded m.recent) };
 }
 
 impl Rest {
@@ -92,6 +95,7 @@ impl Rest {
             loaded: 0,
             recent: 0,
             slot: false,
+            pending: false,
             memory,
             arena,
             table,

@@ -1,0 +1,93 @@
+-- What was executed of a number of instructions, one instruction after another.
+use Rattle.std.proofs.Common.{◌≡◌, ◌≢◌, ℕ, ◌+◌, ◌-◌, ◌≤◌, ◌<◌, List, false, None}
+use Rattle.std.proofs.Common.{sym, ap, subst, ◌∙◌, arith}
+use Rattle.flat_memory.specs.Spaces.{text_of}
+use Rattle.mips_model.specs.State.{World}
+use Rattle.mips_model.specs.Steps.{step}
+use Rattle.mips_model.specs.Beside.{is_at_service}
+use Rattle.mips_model.proofs.Traces.{text_stays}
+use Rattle.mips_core.specs.declared.halt.Went.TheVariants as went
+use Rattle.mips_core.specs.Core.{CoreKept, GoesOn, Pauses, at, state_of, world_of}
+use Rattle.mips_core.proofs.Loops.{goes_count, goes_more}
+use Rattle.mips_core.proofs.Stepped.{Services, Others, Onward, one_more, serves_by, stopped_not, pauses_stopped}
+
+-- so many of n are left, and the next instruction stands at this address
+pub record Ran (n left pc : ℕ) (first now : CoreKept) : Type 0 where
+  pub within : left ≤ n
+  pub ran : GoesOn (n - left) first (at pc now)
+  pub on : now.stopped ≡ None
+  pub text : (state_of now).code.text ≡ (state_of first).code.text
+
+-- the same, and the core itself says where the next instruction stands
+pub record Ends (n left : ℕ) (first now : CoreKept) : Type 0 where
+  pub ran : GoesOn (n - left) first now
+  pub text : (state_of now).code.text ≡ (state_of first).code.text
+
+-- one instruction more
+pub further : {n left pc next : ℕ} {first mid new : CoreKept} → 0 < left → Ran n left pc first mid →
+    Onward (n - left) first next mid new → Ran n (left - 1) next first new
+further {n} {left} some r o =
+    let le = r.within in
+    record {
+      within = omega (arith, le, some);
+      ran = goes_count (omega (arith, le, some)) o.ran;
+      on = o.on;
+      text = o.text ∙ r.text;
+    }
+
+-- where a step is known, as that of a nop or of a word that isn't fetched
+pub record Stepped (count next : ℕ) (first mid new : CoreKept) : Type 0 where
+  pub ran : GoesOn (count + 1) first (at next new)
+  pub text : (state_of new).code.text ≡ (state_of mid).code.text
+
+pub stepped : {count pc next : ℕ} {first mid new : CoreKept} → mid.stopped ≡ None →
+    is_at_service (state_of (at pc mid)) ≡ false → world_of (at next new) ≡ step (world_of (at pc mid)) →
+    GoesOn count first (at pc mid) → Stepped count next first mid new
+stepped {count} {pc} {next} {first} {mid} {new} on service is goes = record {
+  ran = goes_more goes on service is;
+  text = ap (λ (w : World). w.state.code.text) is ∙ text_stays 1 (world_of (at pc mid));
+}
+
+pub onward : {count next : ℕ} {first mid new : CoreKept} → new.stopped ≡ None → Stepped count next first mid new →
+    Onward count first next mid new
+onward on s = record { ran = s.ran; on = on; text = s.text }
+
+-- the machine has stopped at an instruction, and the core stands there
+pub stops : {n left pc : ℕ} {first mid new now : CoreKept} → 0 < left → Ran n left pc first mid →
+    Stepped (n - left) pc first mid new → now ≡ at pc new → Ends n (left - 1) first now
+stops {n} {left} {pc} {first} {mid} {new} {now} some r s is =
+    let le = r.within in
+    record {
+      ran = subst (GoesOn (n - (left - 1)) first) (sym is) (goes_count (omega (arith, le, some)) s.ran);
+      text = ap (λ (k : CoreKept). (state_of k).code.text) is ∙ (s.text ∙ r.text);
+    }
+
+pub stopped : {n left pc : ℕ} {first mid new now : CoreKept} (aside : _) → 0 < left → Ran n left pc first mid →
+    Services went.Stopped pc mid new → Others aside went.Stopped pc mid new → now ≡ at pc new →
+    Ends n (left - 1) first now
+stopped {n} {left} {pc} {first} {mid} {new} {now} aside some r f g is =
+    let m = one_more aside went.Stopped pc mid new f g stopped_not r.on r.ran in
+    stops {mid = mid} {new = new} some r (record { ran = m.ran; text = m.text }) is
+
+pub pauses : {n left pc : ℕ} {first mid new now : CoreKept} (aside : _) → Ran n left pc first mid →
+    Services went.Stopped pc mid new → Others aside went.Stopped pc mid new → now ≡ at pc new → (more : ℕ) →
+    Pauses more now
+pauses {n} {left} {pc} {first} {mid} {new} {now} aside r f g is more =
+    let m = one_more aside went.Stopped pc mid new f g stopped_not r.on r.ran in
+    pauses_stopped more now (subst (λ (k : CoreKept). k.stopped ≢ None) (sym is) m.leaves)
+
+-- a service is next, and the core stands there
+pub serves : {n left pc : ℕ} {first mid new now : CoreKept} (aside : _) → Ran n left pc first mid →
+    Services went.Service pc mid new → Others aside went.Service pc mid new → now ≡ at pc new → Ends n left first now
+serves {n} {left} {pc} {first} {mid} {new} {now} aside r f g is =
+    let same = (serves_by aside (is_at_service (state_of (at pc mid))) pc new f g).1.1 in
+    let here : now ≡ at pc mid = is ∙ ap (at pc) same in
+    record {
+      ran = subst (GoesOn (n - left) first) (sym here) r.ran;
+      text = ap (λ (k : CoreKept). (state_of k).code.text) here ∙ r.text;
+    }
+
+-- the words that are kept apart are the text
+pub same_words : {n left : ℕ} {first now : CoreKept} (words : List ℕ) → text_of words ≡ (state_of first).code.text →
+    Ends n left first now → text_of words ≡ (state_of now).code.text
+same_words words is e = is ∙ sym e.text
