@@ -9,3 +9,7 @@ mod Rows
 pub mod Depths
 pub mod Makings
 pub mod Issued
+pub mod Published
+pub mod Told
+pub mod Builds
+pub mod BuildsTaken

@@ -70,11 +70,11 @@ call_does (Publish row address count) c a l d is does =
     ∙ ap (λ n. apply (makes (services.publish row address n (generator_of d)) published_once d) 0 (at c a l d)) is.3
     ∙ (rw fits refl)
 
-no_hazard : (l : ℕ) (c : Code) (a : ℕ) (d : Data) → load_hazard l syscall ≡ false →
+pub no_hazard : (l : ℕ) (c : Code) (a : ℕ) (d : Data) → load_hazard l syscall ≡ false →
     is_hazard syscall (at c a l d) ≡ false
 no_hazard l c a d quiet = rw quiet refl
 
-call_made : (call : Call) (c : Code) (a l : ℕ) (d : Data) → Asks call c a l d → IsObeyed call d.outside →
+pub call_made : (call : Call) (c : Code) (a l : ℕ) (d : Data) → Asks call c a l d → IsObeyed call d.outside →
     Reaches 1 (at c a l d) (behind_call call c a d)
 call_made call c a l d asks obeyed = record {
   by = step_acts syscall (at c a l d) asks.stands (no_hazard l c a d asks.quiet)

@@ -1,7 +1,9 @@
 //! Laws of the functions that generate the code of ticks.
 
+ghost use Rattle.cgf_spec.specs.Builds.{TicksAreBuilt, TicksAreTaken};
 ghost use Rattle.cgf_spec.specs.Laws.{DepthsAreSmall, SpecificationsAreGenerated, SpecificationsAreIssued};
 ghost use Rattle.cgf_spec.specs.Served.{CallsAreServed, RunsAreMade};
+ghost use Rattle.cgf_spec.specs.Told.{CallsAreTold, CallsAreToldBelow};
 
 /// The function of a tick, run on a closure that stands for a specification, issues exactly the ops of that
 /// specification, in order, by the service that builds an op, and leaves all else as it was.
@@ -20,6 +22,18 @@ pub fn runs_are_made()
     ensures { RunsAreMade }
 {}
 
+/// But for functions that are entered, such a run tells that a function was made where one is published, with what was
+/// finished at its address last, and nothing else.
+pub fn calls_are_told()
+    ensures { CallsAreTold }
+{}
+
+/// Where the machine stands below the arena before each instruction, so that no function of the arena is entered, that
+/// is all that it tells.
+pub fn calls_are_told_below()
+    ensures { CallsAreToldBelow }
+{}
+
 /// The machine, at the function of a tick, with a function begun that takes its ops, issues exactly the ops of the
 /// specification, in order, and returns with all else as it was.
 pub fn specifications_are_issued()
@@ -29,4 +43,15 @@ pub fn specifications_are_issued()
 /// No more functions are entered at a time than a specification has nodes.
 pub fn depths_are_small()
     ensures { DepthsAreSmall }
+{}
+
+/// The ops of a tick expression, as a builder gets them, build the list of ops whose run makes its specification, and
+/// leave its number in place of its captured words.
+pub fn ticks_are_built()
+    ensures { TicksAreBuilt }
+{}
+
+/// A builder takes them, one behind the other, where it has room for what they build and for two operands more.
+pub fn ticks_are_taken()
+    ensures { TicksAreTaken }
 {}

@@ -5,7 +5,7 @@ mod laws;
 mod piece;
 
 pub use laws::{
-    calls_are_served, depths_are_small, runs_are_made, specifications_are_generated,
-    specifications_are_issued,
+    calls_are_served, calls_are_told, calls_are_told_below, depths_are_small, runs_are_made,
+    specifications_are_generated, specifications_are_issued, ticks_are_built, ticks_are_taken,
 };
 pub use piece::Piece;

@@ -28,7 +28,7 @@ use Rattle.cgf_spec.proofs.Runs.{runs_call, runs_on, runs_then, runs_behind, iss
 use Rattle.cgf_spec.proofs.Memory.{load_emits, store_emits}
 use Rattle.cgf_spec.proofs.Issuing.{set}
 use Rattle.compile_spec.specs.Routine.{begin_code, generate_code, kind_again_code, value_test, return_code, build_code}
-use Rattle.compile_spec.specs.Laws.{return_ops}
+use Rattle.compile_spec.specs.Laws.{return_ops, compile_cost}
 use Rattle.compile_spec.proofs.Tests.{branches}
 
 -- ---- what is known behind the tests
@@ -223,7 +223,7 @@ module _ (c : Code) (p a kind parameters charge g ra number depth cost : ℕ) (o
   pub record Built (is_value : Bool) : Type 0 where
     pub e : Data
     pub count : ℕ
-    pub under : count ≤ 15 + cost
+    pub counted : 25 + (count + 21) ≡ compile_cost is_value cost
     pub runs : RunsWith (Begin parameters ∷ issuing (ops ++ return_ops is_value)) count (at c p 0 t) (at c p15 0 e)
     pub closure_is : e.registers 12 ≡ a
     pub charge_there : e.registers 13 ≡ charge
@@ -279,7 +279,7 @@ module _ (c : Code) (p a kind parameters charge g ra number depth cost : ℕ) (o
       record {
         e = l6;
         count = 6 + (2 + cost + 3) + (2 + 2);
-        under = omega arith;
+        counted = omega arith;
         runs = subst (λ calls. RunsWith calls (6 + (2 + cost + 3) + (2 + 2)) (at c p 0 t) (at c p15 0 l6))
             (ap (λ calls. Begin parameters ∷ calls) (sym (issuing_append ops (Return ∷ []))))
             (runs_on {xs = Begin parameters ∷ issuing ops} {m = 6 + (2 + cost + 3)} {n = 2 + 2} issues
@@ -313,7 +313,7 @@ module _ (c : Code) (p a kind parameters charge g ra number depth cost : ℕ) (o
       record {
         e = l4;
         count = 6 + (2 + cost + 3) + 2;
-        under = omega arith;
+        counted = omega arith;
         runs = subst (λ (xs : List BuildOp). RunsWith (Begin parameters ∷ issuing xs) (6 + (2 + cost + 3) + 2) (at c p
             0 t)
             (at c p15 0 l4)) (sym (append-nil ops)) (runs_then {m = 6 + (2 + cost + 3)} {k = 2} issues tests refl);

@@ -1,6 +1,6 @@
 -- The whole run of the routine.
 use Rattle.std.proofs.Common.{◌≡◌, ◌≢◌, ◌⊎◌, inl, inr, ℕ, zero, suc, ◌+◌, ◌*◌, ◌/◌, ◌%◌, ◌<◌, ◌≤◌, Bool, true, false}
-use Rattle.std.proofs.Common.{List}
+use Rattle.std.proofs.Common.{List, [], ◌∷◌}
 use Rattle.std.proofs.Common.{◌++◌, length, Option, Some, None, refl, sym, ap, ◌∙◌, subst, arith, nat_lt, nat_le}
 use Rattle.std.proofs.lemmas.Bool.{cases_Bool, lt-ltb, ne_eqb}
 use Rattle.std.proofs.lemmas.Bool.Decides.{nat_tests}
@@ -27,24 +27,25 @@ use Rattle.spec_closure.specs.Closures.{Head, Closure, word_at, with_word, closu
 use Rattle.spec_closure.proofs.Checking.{bytes_least}
 use Rattle.spec_rows_proof.specs.Relation.{Text, tick_of, syntax_head, IsOf, HasSpecifications}
 use Rattle.spec_rows_proof.specs.Laws.{kind_of_tick}
-use Rattle.cgf_spec.specs.Calls.{Finish, Flush, code_behind}
+use Rattle.cgf_spec.specs.Calls.{Call, Begin, Finish, Flush, Publish, Asks, code_behind, data_behind, RunsWith, issuing}
 use Rattle.cgf_spec.specs.declared.piece.Piece.{Piece}
 use Rattle.cgf_spec.specs.Pieces.{syntax_ops, IsWhole}
 use Rattle.cgf_spec.specs.Words.{syntax_cost, syntax_depth}
 use Rattle.cgf_spec.specs.Laws.{HasGenerators, others, Enters, Generates}
 use Rattle.icode_ir.specs.declared.build_op.BuildOp.{BuildOp}
-use Rattle.cgf_spec.proofs.Runs.{runs_on, runs_behind}
+use Rattle.cgf_spec.proofs.Runs.{runs_on, runs_behind, runs_counted}
 use Rattle.cgf_spec.proofs.Found.{Live, live}
 use Rattle.cgf_spec.proofs.Depths.{depth_small}
 use Rattle.cgf_spec.proofs.Generating.{generated, specifications_stay}
 use Rattle.compile_spec.specs.Routine.{build_code, make_code, traps_code, compile_code}
 use Rattle.compile_spec.specs.Laws.{HasArena, IsTickOf, return_ops, arena_address, compile_calls, made_data}
-use Rattle.compile_spec.specs.Laws.{frame_bytes}
+use Rattle.compile_spec.specs.Laws.{frame_bytes, compile_cost}
 use Rattle.compile_spec.specs.Laws.{KeepsRegister, Compiles}
 use Rattle.compile_spec.proofs.Tests.{less, Sees, p25, at25, m15, passes}
 use Rattle.compile_spec.proofs.Traps.{sees}
 use Rattle.compile_spec.proofs.Building.{Tested, Built, built_value, built_statement}
-use Rattle.compile_spec.proofs.Finishing.{Ready, make_goes, f15, kept, left}
+use Rattle.compile_spec.proofs.Finishing.{Ready, make_goes, f4, f15, kept, left, p8, tail_code, finish_goes, flush_asks}
+use Rattle.compile_spec.proofs.Finishing.{tail_stands, tail_goes}
 
 -- the specification of a tick, whichever it is
 is_of : (is_value : Bool) (syntax : Syntax) (o : Option Specification) → IsTickOf is_value syntax o → IsOf syntax o
@@ -60,14 +61,14 @@ is_of true syntax (Some (Param index)) h = absurd h
 is_of false syntax (Some (Param index)) h = absurd h
 
 -- its closure
-record Tick (text : Text) (shared : Shared) (d : Data) (number : ℕ) (kind : ClosureKind) (syntax : Syntax) : Type 0
+pub record Tick (text : Text) (shared : Shared) (d : Data) (number : ℕ) (kind : ClosureKind) (syntax : Syntax) : Type 0
   where
-    specification : Specification
-    closure : Live text shared d number specification
-    head_is : closure.closure.head ≡ syntax_head text kind syntax
-    small : syntax_size text.program syntax ≤ SIZE_LIMIT
+    pub specification : Specification
+    pub closure : Live text shared d number specification
+    pub head_is : closure.closure.head ≡ syntax_head text kind syntax
+    pub small : syntax_size text.program syntax ≤ SIZE_LIMIT
 
-tick_there : (text : Text) (shared : Shared) (d : Data) (number : ℕ) (is_value : Bool) (syntax : Syntax)
+pub tick_there : (text : Text) (shared : Shared) (d : Data) (number : ℕ) (is_value : Bool) (syntax : Syntax)
     (o : Option Specification) → HasSpecifications text shared d → specification_at number shared ≡ o →
     IsTickOf is_value syntax o → Tick text shared d number (kind_of_tick is_value) syntax
 tick_there text shared d number true syntax None hs e h = absurd h
@@ -102,13 +103,13 @@ live_passes number count positive few most =
     lt-ltb ((number + 4294967295) % 4294967296) count (omega (arith, positive, few, most))
 
 -- within the limits
-in_table : (function : ℕ) → table_trap function ≡ None → function < FUNCTION_ROWS
+pub in_table : (function : ℕ) → table_trap function ≡ None → function < FUNCTION_ROWS
 in_table function e = elim (cases_Bool (nat_lt function FUNCTION_ROWS)) [
   | inl t ↦ grind (arith, nat_tests, t)
   | inr t ↦ (let some : table_trap function ≡ Some TableLimit = rw t refl in let x : ⊥ = cc in absurd x)
 ]
 
-in_arena : (size : ℕ) (shared : Shared) → arena_trap size shared ≡ None →
+pub in_arena : (size : ℕ) (shared : Shared) → arena_trap size shared ≡ None →
     shared.arena + arena_words size ≤ ARENA_WORDS
 in_arena size shared e = elim (cases_Bool (nat_le (shared.arena + arena_words size) ARENA_WORDS)) [
   | inl t ↦ grind (arith, nat_tests, t)
@@ -313,7 +314,8 @@ module _ (text : Text) (pieces : ℕ → List Piece) (functions : ℕ) (c : Code
 
   pub compile_answered :
       Compiles (compile_calls function next parameters size (syntax_ops pieces syntax ++ return_ops is_value) words)
-      function (made_data function next parameters size d) (61 + syntax_cost pieces syntax) c
+      function (made_data function next parameters size d) (compile_cost is_value (syntax_cost pieces syntax))
+      c
       (code_behind (Flush next (length words)) (code_behind (Finish next (arena_words size) (frame_bytes size) words)
       c))
       entry d
@@ -325,12 +327,61 @@ module _ (text : Text) (pieces : ℕ → List Piece) (functions : ℕ) (c : Code
       (omega (arith, low)) in
       record {
         after = f15 a function next size parameters (d.registers 31) words made.e ready few;
-        count = 25 + (made.count + 21);
-        under = omega (arith, made.under);
-        runs = runs_behind {k = 25} {n = made.count + 21} tests refl (runs_on {m = made.count} {n = 21} made.runs m);
+        runs = runs_counted made.counted
+            (runs_behind {k = 25} {n = made.count + 21} tests refl (runs_on {m = made.count} {n = 21} made.runs m));
         answer = refl;
         link = refl;
         registers = λ q k. kept a function next size parameters (d.registers 31) words made.e ready few q k
             ∙ as_before q k ∙ tested_keeps q k;
         rest = left a function next size parameters (d.registers 31) words made.e ready few ∙ same_made;
+      }
+
+  -- ---- the run up to the service that flushes, and behind it
+
+  abbrev pub flushing : Call
+  flushing = Flush next (length words)
+
+  abbrev pub finishing : Call
+  finishing = Finish next (arena_words size) (frame_bytes size) words
+
+  abbrev pub publishing : Call
+  publishing = Publish function next parameters
+
+  pub record Split : Type 0 where
+    pub count : ℕ
+    pub counted : count + 13 ≡ compile_cost is_value (syntax_cost pieces syntax)
+    pub place : ℕ
+    pub below : place < ARENA
+    pub found : Data
+    pub runs : RunsWith (Begin parameters ∷ (issuing (syntax_ops pieces syntax ++ return_ops is_value)
+        ++ finishing ∷ [])) count (at c entry 0 d) (at (code_behind finishing c) place 0 found)
+    pub asks : Asks flushing (code_behind finishing c) place 0 found
+    pub stands : HasAt (code_behind flushing (code_behind finishing c)) (place + 4) tail_code
+    pub tail_low : past (place + 4) tail_code ≤ ARENA
+    pub ends : Data
+    pub tail : (k : Code) → HasAt k (place + 4) tail_code →
+        RunsWith (publishing ∷ []) 12 (at k (place + 4) 0 (data_behind flushing found)) (at k (d.registers 31) 0 ends)
+
+  pub compile_split : Split
+  compile_split =
+      let p40 = past (p25 c entry h) build_code in
+      let stands = front c p40 make_code traps_code (back c (p25 c entry h) build_code (make_code
+      ++ traps_code) tail) in
+      let ra = d.registers 31 in
+      record {
+        count = 25 + (made.count + 8);
+        counted = (let e = made.counted in omega (arith, e));
+        place = p8 a function next size parameters ra words made.e ready few p40;
+        below = omega (arith, low);
+        found = f4 a function next size parameters ra words made.e ready few;
+        runs = runs_behind {k = 25} {n = made.count + 8} tests refl
+            (runs_on {m = made.count} {n = 8} made.runs
+            (finish_goes a function next size parameters ra words made.e ready few c p40 stands (omega (arith, low))));
+        asks = flush_asks a function next size parameters ra words made.e ready few c p40 stands (omega (arith, low));
+        stands = tail_stands a function next size parameters ra words made.e ready few c p40 stands
+            (omega (arith, low));
+        tail_low = omega (arith, low);
+        ends = f15 a function next size parameters ra words made.e ready few;
+        tail = λ k there. tail_goes a function next size parameters ra words made.e ready few k
+            (p8 a function next size parameters ra words made.e ready few p40 + 4) there;
       }

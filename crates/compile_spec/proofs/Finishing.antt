@@ -22,7 +22,7 @@ use Rattle.icode_templates_proof.proofs.Jumps.{in_slot}
 use Rattle.spec_closure.specs.Closures.{word_at, with_word}
 use Rattle.spec_closure.proofs.Skips.{one_loads, one_leaves}
 use Rattle.spec_closure.proofs.Accesses.{load_closure, load_cell, store_cell}
-use Rattle.cgf_spec.specs.Calls.{Call, Finish, Flush, Publish, code_behind, data_behind, RunsWith}
+use Rattle.cgf_spec.specs.Calls.{Call, Finish, Flush, Publish, Asks, code_behind, data_behind, RunsWith}
 use Rattle.cgf_spec.specs.Laws.{others}
 use Rattle.cgf_spec.proofs.Runs.{runs_call, runs_on, runs_then}
 use Rattle.cgf_spec.proofs.Memory.{load_emits}
@@ -45,6 +45,14 @@ text_stays call c a (i ∷ is) low h =
     rises : (a : ℕ) (is : List Instr) → a ≤ past a is
     rises a [] = omega arith
     rises a (i ∷ is) = let r = rises (a + 4) is in omega (arith, r)
+
+-- ---- the parts behind the finish, and behind the flush
+
+abbrev rest6 : List Instr
+rest6 = flush_code ++ (publish_code ++ (answer_code ++ back_code))
+
+abbrev pub tail_code : List Instr
+tail_code = publish_code ++ (answer_code ++ back_code)
 
 -- ---- what is known where the function is finished
 
@@ -91,7 +99,7 @@ module _ (a function next size parameters ra : ℕ) (words : List ℕ) (e : Data
   abbrev f3 : Data
   f3 = data_behind finish_call f2
 
-  abbrev f4 : Data
+  abbrev pub f4 : Data
   f4 = set 2 67 (set 5 (length words) f3)
 
   flushes : Leaves (addu 5 2 0 ∷ ori 2 0 67 ∷ []) 0 f3 0 f4
@@ -99,7 +107,7 @@ module _ (a function next size parameters ra : ℕ) (words : List ℕ) (e : Data
       let e : (length words + 0) % 4294967296 ≡ length words = omega (arith, few, r.small) in rw e refl
 
   -- publish: the flush's answer, and what it noted
-  abbrev f5 : Data
+  abbrev pub f5 : Data
   f5 = data_behind (Flush next (length words)) f4
 
   abbrev f6 : Data
@@ -188,21 +196,22 @@ module _ (a function next size parameters ra : ℕ) (words : List ℕ) (e : Data
   abbrev pub c2 : Code → Code
   c2 c = code_behind (Flush next (length words)) (c1 c)
 
-  pub make_goes : (c : Code) (p : ℕ) → HasAt c p make_code → past p make_code ≤ ARENA →
-      RunsWith (Finish next (arena_words size) (frame_bytes size) words ∷ Flush next (length words)
-      ∷ Publish function next parameters ∷ []) 21 (at c p 0 e) (at (c2 c) ra 0 f15)
-  make_goes c p h low =
+  abbrev pub flush_call : Call
+  flush_call = Flush next (length words)
+
+  -- up to the service that flushes, with the function finished
+  abbrev pub p8 : ℕ → ℕ
+  p8 p = p + 4 + 4 + 4 + 4 + 4 + 4 + 4 + 4
+
+  behind_finish : (c : Code) (p : ℕ) → HasAt c p make_code → past p make_code ≤ ARENA →
+      HasAt (c1 c) (p + 4 + 4 + 4 + 4 + 4 + 4) rest6
+  behind_finish c p h low =
+      text_stays finish_call c (p + 4 + 4 + 4 + 4 + 4 + 4) rest6 low (back c p finish_code rest6 h)
+
+  pub finish_goes : (c : Code) (p : ℕ) → HasAt c p make_code → past p make_code ≤ ARENA →
+      RunsWith (finish_call ∷ []) 8 (at c p 0 e) (at (c1 c) (p8 p) 0 f4)
+  finish_goes c p h low =
       let p6 = p + 4 + 4 + 4 + 4 + 4 + 4 in
-      let p9 = p6 + 4 + 4 + 4 in
-      let p16 = p9 + 4 + 4 + 4 + 4 + 4 + 4 + 4 in
-      let p19 = p16 + 4 + 4 + 4 in
-      let rest6 = flush_code ++ (publish_code ++ (answer_code ++ back_code)) in
-      let rest9 = publish_code ++ (answer_code ++ back_code) in
-      let h6 : HasAt (c1 c) p6 rest6 = text_stays finish_call c p6 rest6 low (back c p finish_code rest6 h) in
-      let flush : Call = Flush next (length words) in
-      let h9 : HasAt (c2 c) p9 rest9 = text_stays flush (c1 c) p9 rest9 low (back (c1 c) p6 flush_code rest9 h6) in
-      let h16 : HasAt (c2 c) p16 (answer_code ++ back_code) = back (c2 c) p9 publish_code (answer_code
-      ++ back_code) h9 in
       let r1 = runs_call finish_call {k = 5} {a = p + 4 + 4 + 4 + 4 + 4} {l = 0} {c = c} {d = f2} {s = at c p 0 e}
       (leaves_run (lw 4 65516 28 ∷ srl 5 13 2 ∷ srl 6 13 4 ∷ addiu 6 6 112 ∷ ori 2 0 66 ∷ []) c 0 0 p e f2 finishes
       (front c p (lw 4 65516 28 ∷ srl 5 13 2 ∷ srl 6 13 4 ∷ addiu 6 6 112 ∷ ori 2 0 66 ∷ []) (syscall ∷ rest6) h)) refl
@@ -212,31 +221,58 @@ module _ (a function next size parameters ra : ℕ) (words : List ℕ) (e : Data
         quiet = refl;
         called = (refl, refl, refl, refl);
       }) in
-      let r2 = runs_call flush {k = 2} {a = p6 + 4 + 4} {l = 0} {c = c1 c} {d = f4} {s = at (c1 c) p6 0 f3}
+      runs_then {m = 6} {k = 2} r1
       (leaves_run (addu 5 2 0 ∷ ori 2 0 67 ∷ []) (c1 c) 0 0 p6 f3 f4 flushes
-      (front (c1 c) p6 (addu 5 2 0 ∷ ori 2 0 67 ∷ []) (syscall ∷ rest9) h6)) refl
+      (front (c1 c) p6 (addu 5 2 0 ∷ ori 2 0 67 ∷ []) (syscall ∷ tail_code) (behind_finish c p h low))) refl
+
+  pub flush_asks : (c : Code) (p : ℕ) → HasAt c p make_code → past p make_code ≤ ARENA →
+      Asks flush_call (c1 c) (p8 p) 0 f4
+  flush_asks c p h low = record {
+    stands = (back (c1 c) (p + 4 + 4 + 4 + 4 + 4 + 4) (addu 5 2 0 ∷ ori 2 0 67 ∷ []) (syscall ∷ tail_code)
+        (behind_finish c p h low)).0;
+    quiet = refl;
+    called = (refl, refl, refl);
+  }
+
+  pub tail_stands : (c : Code) (p : ℕ) → HasAt c p make_code → past p make_code ≤ ARENA →
+      HasAt (c2 c) (p8 p + 4) tail_code
+  tail_stands c p h low =
+      text_stays flush_call (c1 c) (p8 p + 4) tail_code low
+      (back (c1 c) (p + 4 + 4 + 4 + 4 + 4 + 4) flush_code tail_code (behind_finish c p h low))
+
+  -- and behind it
+  pub tail_goes : (k : Code) (p : ℕ) → HasAt k p tail_code →
+      RunsWith (Publish function next parameters ∷ []) 12 (at k p 0 f5) (at k ra 0 f15)
+  tail_goes k p h =
+      let p16 = p + 4 + 4 + 4 + 4 + 4 + 4 + 4 in
+      let p19 = p16 + 4 + 4 + 4 in
+      let h16 : HasAt k p16 (answer_code ++ back_code) = back k p publish_code (answer_code ++ back_code) h in
+      let r3 = runs_call (Publish function next parameters) {k = 6} {a = p + 4 + 4 + 4 + 4 + 4 + 4} {l = 0} {c = k}
+      {d = f10} {s = at k p 0 f5}
+      (leaves_run (addu 5 4 0 ∷ addu 13 13 4 ∷ sw 13 65516 28 ∷ lw 4 65520 28 ∷ lw 6 12 12 ∷ ori 2 0 68 ∷ []) k 0 0
+      p f5 f10 publishes
+      (front k p (addu 5 4 0 ∷ addu 13 13 4 ∷ sw 13 65516 28 ∷ lw 4 65520 28 ∷ lw 6 12 12 ∷ ori 2 0 68 ∷ [])
+      (syscall ∷ (answer_code ++ back_code)) h)) refl
       (record {
-        stands = (back (c1 c) p6 (addu 5 2 0 ∷ ori 2 0 67 ∷ []) (syscall ∷ rest9) h6).0;
-        quiet = refl;
-        called = (refl, refl, refl);
-      }) in
-      let r3 = runs_call (Publish function next parameters) {k = 6} {a = p9 + 4 + 4 + 4 + 4 + 4 + 4} {l = 0} {c = c2 c}
-      {d = f10} {s = at (c2 c) p9 0 f5}
-      (leaves_run (addu 5 4 0 ∷ addu 13 13 4 ∷ sw 13 65516 28 ∷ lw 4 65520 28 ∷ lw 6 12 12 ∷ ori 2 0 68 ∷ []) (c2 c) 0 0
-      p9 f5 f10 publishes
-      (front (c2 c) p9 (addu 5 4 0 ∷ addu 13 13 4 ∷ sw 13 65516 28 ∷ lw 4 65520 28 ∷ lw 6 12 12 ∷ ori 2 0 68 ∷ [])
-      (syscall ∷ (answer_code ++ back_code)) h9)) refl
-      (record {
-        stands = (back (c2 c) p9 (addu 5 4 0 ∷ addu 13 13 4 ∷ sw 13 65516 28 ∷ lw 4 65520 28 ∷ lw 6 12 12 ∷ ori 2 0 68 ∷
-            []) (syscall ∷ (answer_code ++ back_code)) h9).0;
+        stands = (back k p (addu 5 4 0 ∷ addu 13 13 4 ∷ sw 13 65516 28 ∷ lw 4 65520 28 ∷ lw 6 12 12 ∷ ori 2 0 68 ∷ [])
+            (syscall ∷ (answer_code ++ back_code)) h).0;
         quiet = refl;
         called = (refl, refl, refl, refl);
       }) in
       let r4 = reaches_on {k = 3} {n = 2}
-      (leaves_run answer_code (c2 c) 0 0 p16 f11 f14 answers (front (c2 c) p16 answer_code back_code h16))
-      (returns (c2 c) p19 (back (c2 c) p16 answer_code back_code h16)) in
-      runs_on {xs = finish_call ∷ []} {m = 6} {n = 15} r1
-      (runs_on {xs = flush ∷ []} {m = 3} {n = 12} r2 (runs_then {m = 7} {k = 5} r3 r4 refl))
+      (leaves_run answer_code k 0 0 p16 f11 f14 answers (front k p16 answer_code back_code h16))
+      (returns k p19 (back k p16 answer_code back_code h16)) in
+      runs_then {m = 7} {k = 5} r3 r4 refl
+
+  pub make_goes : (c : Code) (p : ℕ) → HasAt c p make_code → past p make_code ≤ ARENA →
+      RunsWith (Finish next (arena_words size) (frame_bytes size) words ∷ Flush next (length words)
+      ∷ Publish function next parameters ∷ []) 21 (at c p 0 e) (at (c2 c) ra 0 f15)
+  make_goes c p h low =
+      let called = runs_call flush_call {k = 0} {a = p8 p} {l = 0} {c = c1 c} {d = f4} {s = at (c1 c) (p8 p) 0 f4}
+      (record { by = refl }) refl (flush_asks c p h low) in
+      runs_on {xs = finish_call ∷ []} {m = 8} {n = 13} (finish_goes c p h low)
+      (runs_on {xs = flush_call ∷ []} {m = 1} {n = 12} called
+      (tail_goes (c2 c) (p8 p + 4) (tail_stands c p h low)))
 
   pub kept : (q : ℕ) → KeepsRegister q → f15.registers q ≡ e.registers q
   kept q k =

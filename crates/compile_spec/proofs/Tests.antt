@@ -261,9 +261,8 @@ module _ (a kind size function next : ℕ) (d : Data) (sees : Sees d a kind size
 -- ---- the tests behind that of the number
 
 module _ (c : Code) (entry : ℕ) (low : entry + 256 ≤ ARENA) (h : HasAt c entry compile_code) (d : Data) (g : d.registers
-    28 ≡ GLOBAL_POINTER) (t : nat_lt (less d) (row_count d) ≡ true) (a kind size function next : ℕ) (sees : Sees d a kind
-    size
-    function next) where
+    28 ≡ GLOBAL_POINTER) (t : nat_lt (less d) (row_count d) ≡ true) (a kind size function next : ℕ)
+    (sees : Sees d a kind size function next) where
   abbrev m8 : Data
   m8 = n8 a kind size function next d sees g
 

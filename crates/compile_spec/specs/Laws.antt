@@ -2,7 +2,6 @@
 use Rattle.std.specs.Prelude.{◌≡◌, ◌⊎◌, ℕ, suc, ◌+◌, ◌*◌, ◌<◌, ◌≤◌, Bool, true, false, List, [], ◌∷◌, ◌++◌, length}
 use Rattle.std.specs.Prelude.{Option}
 use Rattle.std.specs.Prelude.{Some, None}
-use Rattle.limits.specs.declared.run.TheConstants.{STACK_OF_A_CALL}
 use Rattle.word32.specs.declared.map.TheConstants.{ARENA, ARENA_WORDS, ROUTINE_BYTES}
 use Rattle.word32.specs.declared.map.TheConstants.{NEXT_FUNCTION_CELL, NEXT_ARENA_CELL}
 use Rattle.host_edge.specs.declared.ending.Ending.TheVariants.{Trap}
@@ -17,6 +16,7 @@ use Rattle.meaning_state.specs.Shared.{Shared, Specification, Expression, Statem
 use Rattle.meaning_state.specs.Rows.{specification_at, parameters_of, arena_words, table_trap, arena_trap}
 use Rattle.meaning_state.specs.Rows.{next_function}
 use Rattle.staged_meaning.specs.Program.{Program, syntax_size}
+use Rattle.staged_meaning.specs.Size.{charge_of}
 use Rattle.icode_templates_proof.specs.Moves.{EndsIn}
 use Rattle.icode_ir.specs.declared.build_op.BuildOp.{BuildOp}
 use Rattle.icode_ir.specs.declared.build_op.BuildOp.TheVariants.{Return}
@@ -72,9 +72,9 @@ abbrev pub return_ops : Bool → List BuildOp
 return_ops true = Return ∷ []
 return_ops false = []
 
--- the frame of a function of a size, in bytes
+-- the frame of a function of a size, in bytes: what a call of it is charged
 abbrev pub frame_bytes : (size : ℕ) → ℕ
-frame_bytes size = STACK_OF_A_CALL + 48 * size
+frame_bytes size = charge_of size
 
 -- where the function goes
 abbrev pub arena_address : Shared → ℕ
@@ -104,12 +104,15 @@ made_data function address parameters size d = record (others d) {
 abbrev pub KeepsRegister : ℕ → Type 0
 KeepsRegister r = ((8 ≤ r) × (r < 12)) ⊎ ((16 ≤ r) × (r < 24)) ⊎ ((26 ≤ r) × (r < 31))
 
+-- how many instructions it takes, where the function of the tick takes so many: two more for a value that is returned
+abbrev pub compile_cost : Bool → (generating : ℕ) → ℕ
+compile_cost true generating = 61 + generating
+compile_cost false generating = 59 + generating
+
 -- it called these services and no others, and returned with the function's number
-pub record Compiles (calls : List Call) (function : ℕ) (left : Data) (most : ℕ) (c behind : Code) (a : ℕ) (d : Data) :
+pub record Compiles (calls : List Call) (function : ℕ) (left : Data) (count : ℕ) (c behind : Code) (a : ℕ) (d : Data) :
     Type 0 where
   pub after : Data
-  pub count : ℕ
-  pub under : count ≤ most
   pub runs : RunsWith calls count (at c a 0 d) (at behind (d.registers 31) 0 after)
   pub answer : after.registers 2 ≡ function
   pub link : after.registers 31 ≡ d.registers 31
@@ -134,6 +137,7 @@ CompileIsAnswered =
     let address = arena_address shared in
     Compiles
     (compile_calls function address (parameters_of syntax) size (syntax_ops pieces syntax ++ return_ops is_value) words)
-    function (made_data function address (parameters_of syntax) size d) (61 + syntax_cost pieces syntax) c
+    function (made_data function address (parameters_of syntax) size d)
+    (compile_cost is_value (syntax_cost pieces syntax)) c
     (code_behind (Flush address (length words))
     (code_behind (Finish address (arena_words size) (frame_bytes size) words) c)) entry d

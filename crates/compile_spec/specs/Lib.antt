@@ -1,2 +1,5 @@
 pub mod Routine
 pub mod Laws
+pub mod Made
+pub mod Ops
+pub mod Below

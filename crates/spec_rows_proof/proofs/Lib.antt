@@ -2,3 +2,8 @@ pub mod Lookups
 pub mod Checks
 pub mod Sums
 pub mod Making
+pub mod TickSpots
+pub mod TickSteps
+pub mod TickMade
+pub mod Variables
+pub mod Below

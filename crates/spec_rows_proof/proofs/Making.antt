@@ -142,7 +142,7 @@ kept_by_sums text shared size parameters d h = record {
 }
 
 -- where there is room in the meaning there is in memory
-room : (captures : ℕ) (shared : Shared) → closure_trap captures shared ≡ None →
+pub room : (captures : ℕ) (shared : Shared) → closure_trap captures shared ≡ None →
     shared.closures + closure_bytes captures ≤ CLOSURE_BYTES
 room captures shared e = elim (cases_Bool (nat_le (shared.closures + closure_bytes captures) CLOSURE_BYTES)) [
   | inl t ↦ grind (arith, nat_tests, t)
@@ -267,12 +267,12 @@ all_replaced (w ∷ ws) [] same = let z : ⊥ = omega (arith, same) in absurd z
 all_replaced (w ∷ ws) (x ∷ xs) same =
     behind_first 0 w ws xs ∙ ap (λ l. w ∷ l) (all_replaced ws xs (omega (arith, same)))
 
-replaced_length : (i x : ℕ) (xs : List ℕ) → length (replaced i x xs) ≡ length xs
+pub replaced_length : (i x : ℕ) (xs : List ℕ) → length (replaced i x xs) ≡ length xs
 replaced_length i x [] = refl
 replaced_length zero x (y ∷ ys) = refl
 replaced_length (suc i) x (y ∷ ys) = ap suc (replaced_length i x ys)
 
-words_length : (f : ℕ → ℕ) (a count : ℕ) → length (words_at f a count) ≡ count
+pub words_length : (f : ℕ → ℕ) (a count : ℕ) → length (words_at f a count) ≡ count
 words_length f a zero = refl
 words_length f a (suc count) = ap suc (words_length f (a + 4) count)
 
@@ -305,7 +305,7 @@ stands_tick text rows false syntax words h small = record {
   small = small;
 }
 
-kind_word : (is_value : Bool) → closure_number (kind_of_tick is_value) < 4294967296
+pub kind_word : (is_value : Bool) → closure_number (kind_of_tick is_value) < 4294967296
 kind_word true = omega arith
 kind_word false = omega arith
 
@@ -317,7 +317,7 @@ few_of_key key = elim (cases_Bool (nat_lt key 8)) [
 ]
 
 mutual
-  few_of : (syntax : Syntax) → parameters_of syntax ≤ 8
+  pub few_of : (syntax : Syntax) → parameters_of syntax ≤ 8
   few_of (Ticked tick captures) = few_in captures
 
   few_in : (captures : Captures) → parameters_in captures ≤ 8

@@ -1,2 +1,5 @@
 pub mod Relation
 pub mod Laws
+pub mod Ticks
+pub mod Variables
+pub mod Below
