@@ -1,6 +1,6 @@
 -- The row of what the nodes of a tree name, and the kinds of the captures that they name: two folds over one tree.
 use Rattle.std.proofs.Common.{◌≡◌, ℕ, suc, ◌+◌, ◌≤◌, Bool, true, false, if◌then◌else◌, nat_eq, List, [], ◌∷◌, ◌++◌}
-use Rattle.std.proofs.Common.{length}
+use Rattle.std.proofs.Common.{length, Option, Some, None}
 use Rattle.std.proofs.Common.{map, refl, ap, sym, ◌∙◌, append_assoc, append-nil, length-append, arith}
 use Rattle.typed_tree.specs.declared.expression.CaptureKind.{CaptureKind}
 use Rattle.typed_tree.specs.declared.expression.CaptureKind.TheVariants as kind
@@ -19,7 +19,7 @@ use Rattle.typed_tree.specs.Sizes.{size_rule, size_rules}
 use Rattle.captures.specs.Captures.{Name, Nothing, Names, row, captures_from}
 use Rattle.captures.specs.Captures as captures
 use Rattle.captures.specs.declared.capture.Capture.{Capture as CaptureOf}
-use Rattle.wellformed.specs.Captured.{Naming, next, all}
+use Rattle.wellformed.specs.Captured.{Naming, again, next, all}
 use Rattle.wellformed.specs.Captured as captured
 use Rattle.captures_proof.specs.Laws.{kind_of}
 
@@ -44,38 +44,52 @@ behind [] ks = ks
 behind (Nothing ∷ ns) ks = behind ns ks
 behind (Names k i ∷ ns) ks = behind ns (next k i ks)
 
-behind_both : (ms ns : List Name) (ks : List CaptureKind) → behind (ms ++ ns) ks ≡ behind ns (behind ms ks)
+behind_both : (ms ns : List Name) (ks : Option (List CaptureKind)) → behind (ms ++ ns) ks ≡ behind ns (behind ms ks)
 behind_both [] ns ks = refl
 behind_both (Nothing ∷ ms) ns ks = behind_both ms ns ks
 behind_both (Names k i ∷ ms) ns ks = behind_both ms ns (next k i ks)
 
-named_there : (k : CaptureKind) (i node : ℕ) (ns : List Name) (ks : List CaptureKind) (b : Bool) →
+-- behind a splice of a capture that was named, nothing has an answer
+pub behind_none : (ns : List Name) → behind ns None ≡ None
+behind_none [] = refl
+behind_none (Nothing ∷ ns) = behind_none ns
+behind_none (Names k i ∷ ns) = behind_none ns
+
+-- a name that is no new one
+pub again_same : (k : CaptureKind) (ns : List Name) (ks kinds : List CaptureKind) →
+    behind ns (again k ks) ≡ Some kinds → behind ns (Some ks) ≡ Some kinds
+again_same kind.Dollar ns ks kinds h = h
+again_same kind.Address ns ks kinds h = h
+again_same kind.Variable ns ks kinds h = h
+again_same (kind.Splice r) ns ks kinds h =
+    let no : None ≡ Some kinds = sym (behind_none ns) ∙ h in absurd cc
+
+named_there : (k : CaptureKind) (i node : ℕ) (ns : List Name) (ks kinds : List CaptureKind) (b : Bool) →
     nat_eq (length ks) i ≡ b → ((ms : List CaptureKind) (m : ℕ) →
-    behind ns ms ≡ ms ++ map kind_of (captures_from (length ms) m ns)) →
-    behind (Names k i ∷ ns) ks ≡ ks ++ map kind_of (captures_from (length ks) node (Names k i ∷ ns))
-named_there k i node ns ks true is rest =
+    behind ns (Some ms) ≡ Some kinds → kinds ≡ ms ++ map kind_of (captures_from (length ms) m ns)) →
+    behind ns (if b then Some (ks ++ k ∷ []) else again k ks) ≡ Some kinds →
+    kinds ≡ ks ++ map kind_of (captures_from (length ks) node (Names k i ∷ ns))
+named_there k i node ns ks kinds true is rest h =
     let l : length (ks ++ k ∷ []) ≡ suc (length ks) = length-append ks (k ∷ []) ∙ omega arith in
     let c : CaptureOf = record { kind = k; node = node } in
-    ap (λ b. behind ns (if b then ks ++ k ∷ [] else ks)) is
-    ∙ rest (ks ++ k ∷ []) (suc node)
+    rest (ks ++ k ∷ []) (suc node) h
     ∙ append_assoc ks (k ∷ []) (map kind_of (captures_from (length (ks ++ k ∷ [])) (suc node) ns))
     ∙ ap (λ n. ks ++ (k ∷ map kind_of (captures_from n (suc node) ns))) l
     ∙ ap (λ b. ks ++ map kind_of (if b then c ∷ captures_from (suc (length ks)) (suc node) ns
     else captures_from (length ks) (suc node) ns)) (sym is)
-named_there k i node ns ks false is rest =
+named_there k i node ns ks kinds false is rest h =
     let c : CaptureOf = record { kind = k; node = node } in
-    ap (λ b. behind ns (if b then ks ++ k ∷ [] else ks)) is
-    ∙ rest ks (suc node)
+    rest ks (suc node) (again_same k ns ks kinds h)
     ∙ ap (λ b. ks ++ map kind_of (if b then c ∷ captures_from (suc (length ks)) (suc node) ns
     else captures_from (length ks) (suc node) ns)) (sym is)
 
 -- they are the kinds of the captures in it
-pub behind_captures : (ns : List Name) (ks : List CaptureKind) (node : ℕ) →
-    behind ns ks ≡ ks ++ map kind_of (captures_from (length ks) node ns)
-behind_captures [] ks node = sym (append-nil ks)
-behind_captures (Nothing ∷ ns) ks node = behind_captures ns ks (suc node)
-behind_captures (Names k i ∷ ns) ks node =
-    named_there k i node ns ks (nat_eq (length ks) i) refl (λ ms m. behind_captures ns ms m)
+pub behind_captures : (ns : List Name) (ks kinds : List CaptureKind) (node : ℕ) → behind ns (Some ks) ≡ Some kinds →
+    kinds ≡ ks ++ map kind_of (captures_from (length ks) node ns)
+behind_captures [] ks kinds node h = let same : ks ≡ kinds = cc in sym same ∙ sym (append-nil ks)
+behind_captures (Nothing ∷ ns) ks kinds node h = behind_captures ns ks kinds (suc node) h
+behind_captures (Names k i ∷ ns) ks kinds node h =
+    named_there k i node ns ks kinds (nat_eq (length ks) i) refl (λ ms m g. behind_captures ns ms kinds m g) h
 
 captures_by : (k : CaptureKind) (n i node : ℕ) (ns : List Name) (b : Bool) → nat_eq n i ≡ b →
     ((m p : ℕ) → length (captures_from m p ns) ≤ length ns) →
@@ -95,13 +109,13 @@ same_word : (w : CapturedWord) → captured.word_kind w ≡ captures.word_kind w
 same_word word.Dollar = refl
 same_word word.Address = refl
 
-two : (a b : Expr) → ((ks : List CaptureKind) → naming a ks ≡ behind (names a) ks) →
-    ((ks : List CaptureKind) → naming b ks ≡ behind (names b) ks) → (ks : List CaptureKind) →
+two : (a b : Expr) → ((ks : Option (List CaptureKind)) → naming a ks ≡ behind (names a) ks) →
+    ((ks : Option (List CaptureKind)) → naming b ks ≡ behind (names b) ks) → (ks : Option (List CaptureKind)) →
     naming b (naming a ks) ≡ behind (names a ++ names b) ks
 two a b h k ks = k (naming a ks) ∙ ap (behind (names b)) (h ks) ∙ sym (behind_both (names a) (names b) ks)
 
 mutual
-  pub expr_named : (e : Expr) (ks : List CaptureKind) → naming e ks ≡ behind (names e) ks
+  pub expr_named : (e : Expr) (ks : Option (List CaptureKind)) → naming e ks ≡ behind (names e) ks
   expr_named (Const w) ks = refl
   expr_named (node.Captured w i) ks = ap (λ k. next k i ks) (same_word w)
   expr_named (Var i) ks = refl
@@ -137,7 +151,7 @@ mutual
   expr_named Local ks = refl
   expr_named (ParamOf a) ks = expr_named a ks
 
-  args_named : (as_ : Args) (ks : List CaptureKind) →
+  args_named : (as_ : Args) (ks : Option (List CaptureKind)) →
       all (fold_args captured.expr_rule as_) ks ≡ behind (row (fold_args captures.expr_rule as_)) ks
   args_named NoArg ks = refl
   args_named (Arg a as_) ks =
@@ -145,8 +159,9 @@ mutual
       ∙ sym (behind_both (names a) (row (fold_args captures.expr_rule as_)) ks)
 
 -- one row behind another
-joined : (ms ns : List Name) (f g : Naming) → ((ks : List CaptureKind) → f ks ≡ behind ms ks) →
-    ((ks : List CaptureKind) → g ks ≡ behind ns ks) → (ks : List CaptureKind) → g (f ks) ≡ behind (ms ++ ns) ks
+joined : (ms ns : List Name) (f g : Naming) → ((ks : Option (List CaptureKind)) → f ks ≡ behind ms ks) →
+    ((ks : Option (List CaptureKind)) → g ks ≡ behind ns ks) → (ks : Option (List CaptureKind))
+    → g (f ks) ≡ behind (ms ++ ns) ks
 joined ms ns f g h k ks = k (f ks) ∙ ap (behind ns) (h ks) ∙ sym (behind_both ms ns ks)
 
 abbrev rows : Items → List Name
@@ -156,7 +171,7 @@ abbrev alls : Items → Naming
 alls is = all (fold_items captured.rules is)
 
 mutual
-  pub stmt_named : (s : Stmt) (ks : List CaptureKind) → naming_of s ks ≡ behind (names_of s) ks
+  pub stmt_named : (s : Stmt) (ks : Option (List CaptureKind)) → naming_of s ks ≡ behind (names_of s) ks
   stmt_named (Eval e) ks = expr_named e ks
   stmt_named (Block vs is) ks = joined (rows vs) (rows is) (alls vs) (alls is) (items_named vs) (items_named is) ks
   stmt_named (Variable i) ks = refl
@@ -183,7 +198,7 @@ mutual
   stmt_named Return ks = refl
   stmt_named (ReturnValue e) ks = expr_named e ks
 
-  items_named : (is : Items) (ks : List CaptureKind) → alls is ks ≡ behind (rows is) ks
+  items_named : (is : Items) (ks : Option (List CaptureKind)) → alls is ks ≡ behind (rows is) ks
   items_named NoItem ks = refl
   items_named (Item s is) ks = joined (names_of s) (rows is) (naming_of s) (alls is) (stmt_named s) (items_named is) ks
 

@@ -1,5 +1,5 @@
 -- The captures of each tick of an accepted text.
-use Rattle.std.proofs.Common.{◌≡◌, ℕ, zero, suc, ◌≤◌, List, [], ◌∷◌, length, map, slice_get, Some}
+use Rattle.std.proofs.Common.{◌≡◌, ℕ, zero, suc, ◌≤◌, List, [], ◌∷◌, length, map, slice_get, Option, Some}
 use Rattle.std.proofs.Common.{refl, ap, sym, ◌∙◌, arith}
 use Rattle.std.proofs.lemmas.List.{length-map}
 use Rattle.std.proofs.lemmas.Option.{slice_get-map}
@@ -21,7 +21,7 @@ use Rattle.captures_proof.proofs.Rows.{stmt_nodes}
 
 -- ---- bodies
 
-body_named : (b : TickBody) (ks : List CaptureKind) → named_in (body_view b) ks ≡ behind (names_in b) ks
+body_named : (b : TickBody) (ks : Option (List CaptureKind)) → named_in (body_view b) ks ≡ behind (names_in b) ks
 body_named (body.Expression e) ks = expr_named (expr_view e) ks ∙ ap (λ ns. behind ns ks) (sym (names_viewed e))
 body_named (body.Statement s) ks = stmt_named (stmt_view s) ks ∙ ap (λ ns. behind ns ks) (sym (names_of_viewed s))
 
@@ -29,8 +29,9 @@ body_nodes : (b : TickBody) → length (names_in b) ≡ size_of_body (body_view 
 body_nodes (body.Expression e) = ap length (names_viewed e) ∙ expr_nodes (expr_view e)
 body_nodes (body.Statement s) = ap length (names_of_viewed s) ∙ stmt_nodes (stmt_view s)
 
-body_captures : (b : TickBody) → named_in (body_view b) [] ≡ map kind_of (captures_of b)
-body_captures b = body_named b [] ∙ behind_captures (names_in b) [] 0
+body_captures : (b : TickBody) (kinds : List CaptureKind) → named_in (body_view b) (Some []) ≡ Some kinds →
+    kinds ≡ map kind_of (captures_of b)
+body_captures b kinds h = behind_captures (names_in b) [] kinds 0 (sym (body_named b (Some [])) ∙ h)
 
 -- ---- ticks
 
@@ -52,11 +53,11 @@ module _ (p : TypedParts) (h : IsWellFormed p) (n : ℕ) (kinds : List CaptureKi
 
   pub tick_kinds : map kind_of (captures_at (slice_get p.ticks n)) ≡ kinds
   tick_kinds =
-      ap (λ o. map kind_of (captures_at o)) there.1 ∙ sym (body_captures there.0.body) ∙ is_tick.captures
+      ap (λ o. map kind_of (captures_at o)) there.1 ∙ sym (body_captures there.0.body kinds is_tick.captures)
 
   pub tick_few : length kinds ≤ SIZE_LIMIT
   tick_few =
-      let same = ap length (sym is_tick.captures ∙ body_captures there.0.body)
+      let same = ap length (body_captures there.0.body kinds is_tick.captures)
       ∙ length-map (captures_of there.0.body) kind_of in
       let few = captures_few (names_in there.0.body) 0 0 in
       let nodes = body_nodes there.0.body in

@@ -5,7 +5,9 @@ use Rattle.typed_tree.specs.declared.expression.CaptureKind.{CaptureKind}
 use Rattle.typed_tree.specs.declared.program.TypedParts.{TypedParts}
 use Rattle.captures.specs.Captures.{captures_at}
 use Rattle.captures.specs.declared.capture.Capture.{Capture}
-use Rattle.wellformed.specs.Program.{IsWellFormed}
+use Rattle.typed_tree.specs.Nodes as node
+use Rattle.wellformed.specs.Program.{IsProgram, IsWellFormed}
+use Rattle.captures_proof.specs.Splices.{SpliceOnce}
 
 abbrev pub kind_of : Capture → CaptureKind
 kind_of c = c.kind
@@ -23,3 +25,7 @@ CapturesAreFew =
     (p : TypedParts) (h : IsWellFormed p) (n : ℕ) (kinds : List CaptureKind) →
     slice_get h.program.captures n ≡ Some kinds
     → length kinds ≤ SIZE_LIMIT
+
+-- No tick of an accepted text splices one of its captures at two places: each splice has a capture of its own.
+abbrev pub SplicesAreOnce : Type 0
+SplicesAreOnce = (p : node.Program) → IsProgram p → SpliceOnce p

@@ -2,7 +2,7 @@
 //! code to run here: each function's contract is a law.
 #![tactic(auto)]
 
-ghost use Rattle.captures_proof.specs.Laws.{CapturesAreFew, CapturesAreKinds};
+ghost use Rattle.captures_proof.specs.Laws.{CapturesAreFew, CapturesAreKinds, SplicesAreOnce};
 
 /// That the captures that the nodes of the ticks of an accepted text name are of the kinds that the ticks have.
 pub fn captures_are_kinds()
@@ -12,4 +12,9 @@ pub fn captures_are_kinds()
 /// That no tick of an accepted text captures more than a tick has nodes.
 pub fn captures_are_few()
     ensures { CapturesAreFew }
+{}
+
+/// That no tick of an accepted text splices one of its captures at two places.
+pub fn splices_are_once()
+    ensures { SplicesAreOnce }
 {}

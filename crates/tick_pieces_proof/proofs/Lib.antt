@@ -1,6 +1,6 @@
 mod Captured
 mod Standing
-mod Wholes
-mod Ticks
-mod Issued
+pub mod Wholes
+pub mod Ticks
+pub mod Issued
 mod Words

@@ -145,7 +145,7 @@ module _ (p : TypedParts) (all : List (List CaptureKind)) where
     stands = ap (λ n. program.stands_as_tick (body_view t.body) (round_captured kinds n)) as_many
         ∙ sym (body_stands t.body (round_captured kinds (accepted.parameters_of p.functions))) ∙ h.stands;
     values = sym (body_used t.body) ∙ h.values;
-    captures = sym (ap (λ f. f []) (body_named t.body)) ∙ h.captures;
+    captures = sym (ap (λ f. f (Some [])) (body_named t.body)) ∙ h.captures;
     numbers = body_numbered t.body h.numbers;
     small = subst (λ n. n ≤ SIZE_LIMIT) (h.size ∙ body_sized t.body) h.small;
   }

@@ -77,7 +77,7 @@ pub record IsTick (p : TypedParts) (ticks : List (List CaptureKind)) (t : Tick) 
     pub stands : IsTrue (stands_as_tick t.body (round_tick p ticks kinds))
     pub values : IsTrue (body_uses_values t.body)
     -- its nodes name its captures, the first time in their order
-    pub captures : named_in t.body [] ≡ kinds
+    pub captures : named_in t.body (Some []) ≡ Some kinds
     pub size : t.size ≡ body_size t.body
     pub numbers : IsNumbered t.body
     pub small : t.size ≤ SIZE_LIMIT

@@ -1,8 +1,9 @@
 -- Which captures of its tick the nodes of a body name, in the order in which they name them first. The nodes are read
 -- each before its parts and its parts from left to right, which is the order of the text. The captures of a tick are
--- numbered in that order, so a node that names the next number names one capture more. These are this project's own
--- rules; the crate `captures` has them as a list of nodes.
-use Rattle.std.specs.Prelude.{ℕ, nat_eq, if◌then◌else◌, List, [], ◌∷◌, ◌++◌, length}
+-- numbered in that order, so a node that names the next number names one capture more. Each splice has a capture of its
+-- own: one that names a capture again has no answer. These are this project's own rules; the crate `captures` has them
+-- as a list of nodes.
+use Rattle.std.specs.Prelude.{ℕ, nat_eq, if◌then◌else◌, List, [], ◌∷◌, ◌++◌, length, Option, Some, None}
 use Rattle.typed_tree.specs.declared.expression.CaptureKind.{CaptureKind}
 use Rattle.typed_tree.specs.declared.expression.CaptureKind.TheVariants as kind
 use Rattle.typed_tree.specs.declared.expression.CapturedWord.{CapturedWord}
@@ -18,11 +19,17 @@ use Rattle.typed_tree.specs.Folds as parts
 
 -- the kinds of the captures that are named behind something, by those that are named before it
 abbrev pub Naming : Type 0
-Naming = List CaptureKind → List CaptureKind
+Naming = Option (List CaptureKind) → Option (List CaptureKind)
+
+-- a value, an address or a variable may be named again
+abbrev pub again : CaptureKind → List CaptureKind → Option (List CaptureKind)
+again (kind.Splice r) ks = None
+again _ ks = Some ks
 
 -- behind a node that names the capture of a number, of this kind
 abbrev pub next : CaptureKind → (capture : ℕ) → Naming
-next k i ks = if nat_eq (length ks) i then ks ++ k ∷ [] else ks
+next k i None = None
+next k i (Some ks) = if nat_eq (length ks) i then Some (ks ++ k ∷ []) else again k ks
 
 abbrev pub word_kind : CapturedWord → CaptureKind
 word_kind word.Dollar = kind.Dollar

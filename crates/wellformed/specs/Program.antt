@@ -104,7 +104,7 @@ pub record IsTick (p : node.Program) (ticks : List (List CaptureKind)) (t : node
   pub stands : IsTrue (stands_as_tick t (round_tick p ticks kinds))
   pub values : IsTrue (body_uses_values t)
   -- its nodes name its captures, the first time in their order
-  pub captures : named_in t [] ≡ kinds
+  pub captures : named_in t (Some []) ≡ Some kinds
   pub numbers : IsNumbered t
   pub small : size_of_body t ≤ SIZE_LIMIT
 

@@ -18,6 +18,7 @@ use Rattle.typed_tree.specs.declared.expression.Expr.TheVariants as ex
 use Rattle.check_operators.specs.declared.operand.Operand.{Operand}
 use Rattle.check_tables.specs.declared.frame.Home.{Home}
 use Rattle.check_tables.specs.Ticks as ticks
+use Rattle.check_tables.specs.Bounds.{count_bound}
 use Rattle.check_env.specs.declared.state.Stage.{Stage}
 use Rattle.check_env.specs.declared.state.Stage.TheVariants as stage
 use Rattle.check_env.specs.declared.state.State.{State}
@@ -36,8 +37,8 @@ use Rattle.wf_captures.proofs.Steps.{names_still, given}
 -- ---- one capture
 
 -- the next capture has the number of those before it
-next_here : (s : State) (k : CaptureKind) → taken s ≤ 1000000000 →
-    next k (ticks.place s.ticks) (kinds s.ticks.captures) ≡ kinds s.ticks.captures ++ k ∷ []
+next_here : (s : State) (k : CaptureKind) → taken s ≤ count_bound →
+    next k (ticks.place s.ticks) (Some (kinds s.ticks.captures)) ≡ Some (kinds s.ticks.captures ++ k ∷ [])
 next_here s k small =
     let l = length-map s.ticks.captures one_kind in
     let c = count_small s.ticks.captures small in
@@ -58,7 +59,7 @@ caught {f} {s} {new} k e is lib nodes h =
           h ks
           ∙ ap (next k (ticks.place s.ticks)) q
           ∙ next_here s k (omega (arith, one, small))
-          ∙ sym (ap kinds is ∙ kinds_more s.ticks.captures k e);
+          ∙ ap Some (sym (ap kinds is ∙ kinds_more s.ticks.captures k e));
     }
 
 -- what a step answers, and what it leaves

@@ -51,9 +51,9 @@ use Rattle.wf_captures.specs.Named.{place_named}
 -- ---- what is named the same
 
 abbrev pub Same : Naming → Naming → Type 0
-Same f g = (n : List CaptureKind) → f n ≡ g n
+Same f g = (n : Option (List CaptureKind)) → f n ≡ g n
 
-pub at : {f g : Naming} (n : List CaptureKind) → f ≡ g → f n ≡ g n
+pub at : {f g : Naming} (n : Option (List CaptureKind)) → f ≡ g → f n ≡ g n
 at n e = ap (λ (h : Naming). h n) e
 
 -- an operand names this
@@ -70,14 +70,17 @@ unless_map P Q (Err e) f h = tt
 pub behind : (f g h k : Naming) → Same f h → Same g k → Same (both f g) (both h k)
 behind f g h k p q n = q (f n) ∙ ap k (p n)
 
--- a capture that is named twice is named once
-next_twice : (k : CaptureKind) (i : ℕ) (ks : List CaptureKind) → next k i (next k i ks) ≡ next k i ks
-next_twice k i ks = by (nat_eq (length ks) i) refl
+-- a variable that is named twice is named once
+next_twice : (i : ℕ) (n : Option (List CaptureKind)) →
+    next capture.Variable i (next capture.Variable i n) ≡ next capture.Variable i n
+next_twice i None = refl
+next_twice i (Some ks) = by (nat_eq (length ks) i) refl
   where
-    by : (b : Bool) → nat_eq (length ks) i ≡ b → next k i (next k i ks) ≡ next k i ks
+    by : (b : Bool) → nat_eq (length ks) i ≡ b →
+        next capture.Variable i (next capture.Variable i (Some ks)) ≡ next capture.Variable i (Some ks)
     by true e =
-        let l = length-append ks (k ∷ []) in
-        let f : nat_eq (length (ks ++ k ∷ [])) i ≡ false = grind (arith, nat_tests, e, l) in
+        let l = length-append ks (capture.Variable ∷ []) in
+        let f : nat_eq (length (ks ++ capture.Variable ∷ [])) i ≡ false = grind (arith, nat_tests, e, l) in
         rw (e, f) refl
     by false e = rw e (rw e refl)
 
@@ -301,7 +304,7 @@ changed_names c (place.Register i) t e h n =
 changed_names c (place.Generated i) t e h n =
     at n (named_vset i (built c (ex.VGet i) e))
     ∙ built_names c (ex.VGet i) e (next capture.Variable i n)
-    ∙ ap (named e) (at (next capture.Variable i n) (named_vget i) ∙ next_twice capture.Variable i n)
+    ∙ ap (named e) (at (next capture.Variable i n) (named_vget i) ∙ next_twice i n)
 changed_names c (place.Memory x) t e h n =
     at n (named_modify (width_of t) (kind_in c) x (right_in c e)) ∙ right_names c e (named x n)
 changed_names c (place.Function f) t e h n = absurd (let z : false ≡ true = h in cc)

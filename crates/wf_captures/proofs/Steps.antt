@@ -1,5 +1,5 @@
 -- Steps of the walk one after the other: what their answers name comes one behind the other.
-use Rattle.std.proofs.Common.{◌≡◌, length, refl, sym, ap, ◌∙◌, subst, Ok, arith}
+use Rattle.std.proofs.Common.{◌≡◌, Some, length, refl, sym, ap, ◌∙◌, subst, Ok, arith}
 use Rattle.tick_tree.specs.Faults.{Checked}
 use Rattle.check_env.specs.declared.state.Stage.{Stage}
 use Rattle.check_env.specs.declared.state.Stage.TheVariants as stage
@@ -61,7 +61,7 @@ names_kept {s} {new} same lib nodes = record {
   library = lib;
   variables = λ k. subst AreSilent (sym nodes) k;
   grows = omega (arith, ap length same);
-  is = λ small n e. e ∙ sym (ap kinds same);
+  is = λ small n e. e ∙ ap Some (sym (ap kinds same));
 }
 
 pub quiet_refl : {s : State} → HasLibrary s → Quiet s s

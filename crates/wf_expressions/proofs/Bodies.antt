@@ -35,11 +35,12 @@ use Rattle.wf_types.proofs.Walks.{ran}
 use Rattle.wf_expressions.proofs.Captures.{given}
 use Rattle.wf_expressions.proofs.Nodes.{good_value}
 use Rattle.wf_expressions.proofs.Ticks.{KeepsBody, BodyStands, blocks, known_entered, tick_did}
+use Rattle.check_tables.specs.Bounds.{count_bound}
 
 -- ---- an expression
 
 expression_kept : (s t : State) → Keeps stage.Tick s t →
-    length t.ticks.captures ≤ length s.ticks.captures + 1000000000 → KeepsBody s t
+    length t.ticks.captures ≤ length s.ticks.captures + count_bound → KeepsBody s t
 expression_kept s t k few =
     record { tables = k.tables; ticks = k.at.0.ticks; captures = few; inner = omega (arith, k.at.0.inner) }
 

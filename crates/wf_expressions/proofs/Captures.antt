@@ -21,6 +21,7 @@ use Rattle.check_env.specs.declared.state.Stage.TheVariants as stage
 use Rattle.check_env.specs.declared.state.State.{State}
 use Rattle.check_tables.specs.Frames.{count}
 use Rattle.check_tables.specs.Ticks as ticks
+use Rattle.check_tables.specs.Bounds.{count_bound}
 use Rattle.wellformed.specs.Places.{Part, part, Around, same_answer, same_kind, same_kinds, kind_at, captured_in}
 use Rattle.wellformed.specs.Places.{captured}
 use Rattle.wellformed.proofs.Equations.{part_capture}
@@ -62,7 +63,7 @@ kinds_more es k e = kinds_append es (ex.Capture k e ∷ []) ∙ ap (λ x. kinds 
 
 -- ---- numbers
 
-pub count_small : {A : Type 0} (xs : List A) → length xs ≤ 1000000000 → count xs ≡ length xs
+pub count_small : {A : Type 0} (xs : List A) → length xs ≤ count_bound → count xs ≡ length xs
 count_small xs h = let small : length xs ≤ 4294967295 = omega (arith, h) in min-eq_left small
 
 -- what stands behind the first ones

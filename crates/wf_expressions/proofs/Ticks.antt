@@ -20,6 +20,7 @@ use Rattle.check_operators.specs.Operands.{made}
 use Rattle.check_tables.specs.declared.frame.Home.{Home}
 use Rattle.check_tables.specs.Frames.{count}
 use Rattle.check_tables.specs.Ticks as ticks
+use Rattle.check_tables.specs.Bounds.{count_bound}
 use Rattle.check_env.specs.declared.state.Stage.{Stage}
 use Rattle.check_env.specs.declared.state.Stage.TheVariants as stage
 use Rattle.check_env.specs.declared.state.State.{State}
@@ -49,8 +50,8 @@ use Rattle.wf_expressions.proofs.Captures.{same_kinds_refl, count_small, found, 
 pub record KeepsBody (s new : State) : Type 0 where
   pub tables : KeepsTables s new
   pub ticks : new.ticks.all ≡ s.ticks.all
-  pub captures : length new.ticks.captures ≤ length s.ticks.captures + 1000000000
-  pub inner : new.frame.inner ≤ s.frame.inner + 1000000000
+  pub captures : length new.ticks.captures ≤ length s.ticks.captures + count_bound
+  pub inner : new.frame.inner ≤ s.frame.inner + count_bound
 
 -- ---- the captures of a tick, as parts of its node
 
@@ -240,7 +241,7 @@ module _ {many : List ℕ} {b : Blocks} {ks : List (List CaptureKind)} {s t : St
       record {
         stands = x.stands;
         values = x.values;
-        captures = (names (library_known (known (small_before s t body k a.small)))).is small.tick.captures [] refl;
+        captures = (names (library_known (known (small_before s t body k a.small)))).is small.tick.captures (Some []) refl;
         numbers = numbered small;
         size = refl;
       }

@@ -1,6 +1,6 @@
 -- What is asked of the walks over what stands in a tick: the captures that they make are named by their answers, the
 -- first time in their order. Under `$` nothing is captured.
-use Rattle.std.specs.Prelude.{◌≡◌, ℕ, ◌≤◌, List, length, map, Ok}
+use Rattle.std.specs.Prelude.{◌≡◌, ℕ, ◌≤◌, List, length, map, Option, Some, Ok}
 use Rattle.c_types.specs.declared.names.Meaning.{Meaning}
 use Rattle.c_types.specs.declared.names.MeaningKind.{MeaningKind}
 use Rattle.c_types.specs.declared.names.MeaningKind.TheVariants as kind
@@ -11,6 +11,7 @@ use Rattle.check_operators.specs.Operands.{value_of}
 use Rattle.check_env.specs.declared.state.Stage.TheVariants as stage
 use Rattle.check_env.specs.declared.state.State.{State}
 use Rattle.check_tables.specs.Walks.{Rule}
+use Rattle.check_tables.specs.Bounds.{count_bound}
 use Rattle.check_expressions_spec.specs.Rules.{Node, Item, block, tick_around}
 use Rattle.wellformed.specs.Captured.{Naming, none, all, named, named_of}
 use Rattle.wf_values.specs.Used.{IsLibrary}
@@ -34,7 +35,7 @@ taken s = length s.ticks.captures
 
 -- the nodes of the variables of a block name no capture
 abbrev pub AreSilent : List Stmt → Type 0
-AreSilent vs = (ks : List CaptureKind) → all (map named_of vs) ks ≡ ks
+AreSilent vs = (ks : Option (List CaptureKind)) → all (map named_of vs) ks ≡ ks
 
 -- Between two states: what is known of names stays, and where what was named before are the captures that there were,
 -- what is named since makes those that there are. A count that is cut says nothing.
@@ -42,8 +43,8 @@ pub record Names (before after : Naming) (s new : State) : Type 0 where
   pub library : HasLibrary new
   pub variables : AreSilent s.frame.nodes → AreSilent new.frame.nodes
   pub grows : taken s ≤ taken new
-  pub is : taken new ≤ 1000000000 → (ks : List CaptureKind) → before ks ≡ kinds s.ticks.captures →
-      after ks ≡ kinds new.ticks.captures
+  pub is : taken new ≤ count_bound → (ks : Option (List CaptureKind)) → before ks ≡ Some (kinds s.ticks.captures) →
+      after ks ≡ Some (kinds new.ticks.captures)
 
 -- a step that does so with each answer
 abbrev pub NamesFrom : {A : Type 0} → Naming → (A → Naming) → Rule State A → Type 0

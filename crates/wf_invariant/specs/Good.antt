@@ -12,6 +12,7 @@ use Rattle.check_env.specs.declared.state.Stage.{Stage}
 use Rattle.check_env.specs.declared.state.Stage.TheVariants as stage
 use Rattle.check_env.specs.declared.state.State.{State}
 use Rattle.check_tables.specs.Walks.{Rule}
+use Rattle.check_tables.specs.Bounds.{count_bound}
 use Rattle.check_expressions_spec.specs.Rules.{Node, Named, Shape}
 use Rattle.wellformed.specs.Places.{Around}
 use Rattle.wf_scopes.specs.Right.{IsRight}
@@ -110,6 +111,6 @@ pub record GoodNode (many : List ℕ) (n : Node) : Type 0 where
       Plain g s new
   -- the captures of a walk are few, whatever is known
   pub few : (g : Stage) (s new : State) (o : Operand) → n.walk g s ≡ Ok (o, new) →
-      length new.ticks.captures ≤ length s.ticks.captures + 1000000000
+      length new.ticks.captures ≤ length s.ticks.captures + count_bound
   pub constant : n.written.constant ≡ true → (g : Stage) (s new : State) (o : Operand) → n.walk g s ≡ Ok (o, new) →
       Plain g s new × Anywhere g o

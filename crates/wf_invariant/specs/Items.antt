@@ -8,6 +8,7 @@ use Rattle.check_env.specs.declared.state.Stage.{Stage}
 use Rattle.check_env.specs.declared.state.Stage.TheVariants as stage
 use Rattle.check_env.specs.declared.state.State.{State}
 use Rattle.check_tables.specs.Walks.{Rule}
+use Rattle.check_tables.specs.Bounds.{count_bound}
 use Rattle.check_expressions_spec.specs.Rules.{Item}
 use Rattle.wellformed.specs.Counts.{one_if}
 use Rattle.wellformed.specs.Places.{Around, Act, act, in_function, is_label, values_of, defaults_of, all_different}
@@ -122,8 +123,8 @@ pub record GoodStatement (many : List ℕ) (a : Standing) (step : Rule State (Li
 
 -- it captures and declares few things, whatever stands round it
 abbrev pub Few : State → State → Type 0
-Few s new = (length new.ticks.captures ≤ length s.ticks.captures + 1000000000) ×
-    (new.frame.inner ≤ s.frame.inner + 1000000000)
+Few s new = (length new.ticks.captures ≤ length s.ticks.captures + count_bound) ×
+    (new.frame.inner ≤ s.frame.inner + count_bound)
 
 abbrev pub IsFew : Rule State (List Stmt) → Type 0
 IsFew step = (s new : State) (xs : List Stmt) → step s ≡ Ok (xs, new) → Few s new

@@ -9,6 +9,7 @@ use Rattle.check_env.specs.declared.state.Stage.{Stage}
 use Rattle.check_env.specs.declared.state.Stage.TheVariants as stage
 use Rattle.check_env.specs.declared.state.State.{State}
 use Rattle.check_tables.specs.Walks.{Rule}
+use Rattle.check_tables.specs.Bounds.{count_bound}
 use Rattle.limits.specs.declared.program.TheConstants.{FRAME_OBJECT_BYTES}
 
 -- a list is the front part of another
@@ -79,7 +80,7 @@ pub record GrowsFunction (s new : State) : Type 0 where
 pub record GrowsTick (s new : State) : Type 0 where
   pub homes : new.frame.homes ≡ s.frame.homes
   pub object : new.frame.object ≡ s.frame.object
-  pub inner : new.frame.inner ≤ 1000000000 → s.frame.inner ≤ new.frame.inner
+  pub inner : new.frame.inner ≤ count_bound → s.frame.inner ≤ new.frame.inner
   pub ticks : new.ticks.all ≡ s.ticks.all
   pub captures : Starts s.ticks.captures new.ticks.captures
 

@@ -14,6 +14,7 @@ use Rattle.typed_tree.specs.declared.expression.Stmt.{Stmt}
 use Rattle.check_tables.specs.declared.frame.Home.{Home}
 use Rattle.check_tables.specs.declared.frame.Home.TheVariants as home
 use Rattle.check_tables.specs.Frames.{count}
+use Rattle.check_tables.specs.Bounds.{count_bound}
 use Rattle.check_env.specs.declared.state.Stage.{Stage}
 use Rattle.check_env.specs.declared.state.Stage.TheVariants as stage
 use Rattle.check_env.specs.declared.state.State.{State}
@@ -92,8 +93,8 @@ EachScope P (s ∷ ss) = EachEntry P s × EachScope P ss
 -- ---- what is small enough to be counted in a word
 
 pub record SmallInner (s : State) : Type 0 where
-  pub inner : s.frame.inner ≤ 1000000000
-  pub captures : length s.ticks.captures ≤ 1000000000
+  pub inner : s.frame.inner ≤ count_bound
+  pub captures : length s.ticks.captures ≤ count_bound
 
 -- in a tick; elsewhere nothing asks how many captures there are
 abbrev pub SmallTick : Stage → State → Type 0
@@ -102,9 +103,9 @@ SmallTick stage.Tick s = SmallInner s
 SmallTick stage.Dollar s = SmallInner s
 
 pub record Small (g : Stage) (s : State) : Type 0 where
-  pub homes : length s.frame.homes ≤ 1000000000
+  pub homes : length s.frame.homes ≤ count_bound
   pub object : s.frame.object ≤ FRAME_OBJECT_BYTES
-  pub ticks : length s.ticks.all ≤ 1000000000
+  pub ticks : length s.ticks.all ≤ count_bound
   pub tick : SmallTick g s
 
 -- what is known in a state: `ks` are what the ticks so far capture

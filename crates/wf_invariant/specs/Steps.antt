@@ -85,7 +85,7 @@ round_tick a ks = record {
 pub record TickStands (a : Around) (t : Tick) (ks : List CaptureKind) : Type 0 where
   pub stands : stands_as_tick t.body (round_tick a ks) ≡ true
   pub values : body_uses_values t.body ≡ true
-  pub captures : named_in t.body [] ≡ ks
+  pub captures : named_in t.body (Some []) ≡ Some ks
   pub numbers : IsNumbered t.body
   pub size : t.size ≡ min (body_size t.body) NODE_TOP
 
