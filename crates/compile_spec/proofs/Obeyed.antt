@@ -4,7 +4,7 @@ use Rattle.std.proofs.Common.{◌∷◌, ◌++◌, length, Some, None, refl, sym
 use Rattle.std.proofs.Common.{append_assoc, append-nil}
 use Rattle.std.proofs.lemmas.Bool.Decides.{nat_tests}
 use Rattle.limits.specs.declared.program.TheConstants.{SIZE_LIMIT}
-use Rattle.word32.specs.declared.map.TheConstants.{ARENA, ARENA_BYTES, ARENA_WORDS, FUNCTION_ROWS}
+use Rattle.word32.specs.declared.map.TheConstants.{ARENA, ARENA_BYTES, ARENA_WORDS, FUNCTION_ROWS, TEXT}
 use Rattle.mips_encoder.specs.declared.instruction.Instr.{Instr}
 use Rattle.mips_model.specs.State.{Built, Outside}
 use Rattle.mips_model.specs.Services.{next_choice}
@@ -163,7 +163,7 @@ module _ (function : Built) (arena row size : ℕ) (o : Outside) (taken : FitsSe
       let t1 = is_below 0 row positive in
       let t2 = is_below row FUNCTION_ROWS in_table in
       let t3 = is_same (address % 4) 0 (omega arith) in
-      let t4 = is_at_most 4194304 address (omega arith) in
+      let t4 = is_at_most TEXT address (omega arith) in
       let t5 = is_below address (ARENA + ARENA_BYTES) (omega (arith, within)) in
       let t6 = is_at_most function.parameters 8 few_parameters in
       rw (t1, t2, t3, t4, t5, t6) refl
