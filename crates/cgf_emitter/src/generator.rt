@@ -6,12 +6,11 @@ ghost use Rattle.icode_templates.specs.Templates.{upper, lower};
 ghost use Rattle.icode_templates.specs.Words.{words as words_of};
 ghost use Rattle.cgf_spec.specs.Pieces.{HasWords};
 ghost use Rattle.cgf_spec.specs.Words as spec;
-ghost use Rattle.icode_codes.specs.Codes.{first_of, second_of};
+ghost use Rattle.icode_ir.specs.Codes.{first_of, second_of};
 ghost use Rattle.icode_ir.specs.Sound.{Each};
 
 use cgf_spec::Piece;
-use icode_codes::{code, first_argument, second_argument};
-use icode_ir::BuildOp;
+use icode_ir::{BuildOp, code, first_argument, second_argument};
 use icode_ops::CaptureIndex;
 use icode_templates::Snippet;
 use icode_templates::assembly::{addiu, addu, jr, lui, lw, nop, ori, sll, sw};

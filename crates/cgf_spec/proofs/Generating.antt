@@ -16,14 +16,14 @@ use Rattle.meaning_state.specs.Shared.{Shared, Specification}
 use Rattle.meaning_state.specs.Rows.{numbered, specification_at}
 use Rattle.icode_ir.specs.declared.build_op.BuildOp.{BuildOp}
 use Rattle.icode_ir.specs.declared.build_op.BuildOp.TheVariants.{GetSpec, SetSpec}
-use Rattle.icode_codes.specs.Decoded.{op_of}
+use Rattle.icode_ir.specs.Decoded.{op_of}
 use Rattle.icode_templates.specs.Assembly.{sw, lw, addiu, jr, nop}
 use Rattle.icode_templates_proof.proofs.Memory.{update_same, update_other}
 use Rattle.icode_templates_proof.proofs.Leaves.{Leaves as Straight, leaves_on, leaves_run}
 use Rattle.icode_templates_proof.proofs.Jumps.{slot_runs}
-use Rattle.spec_closure.specs.Closures.{word_at, with_word, closure_of, row_place}
-use Rattle.spec_closure.proofs.Skips.{one_loads, one_leaves}
-use Rattle.spec_closure_proof.proofs.Kept.{closures_same}
+use Rattle.icode_templates_proof.specs.Closures.{word_at, with_word, closure_of, row_place}
+use Rattle.icode_templates_proof.proofs.Skips.{one_loads, one_leaves}
+use Rattle.spec_rows_proof.proofs.Kept.{closures_same}
 use Rattle.spec_rows_proof.specs.Relation.{Text, tick_of, IsOf, HasSpecifications}
 use Rattle.cgf_spec.specs.Calls.{RunsWith}
 use Rattle.cgf_spec.specs.declared.piece.Piece.{Piece}

@@ -15,17 +15,17 @@ use Rattle.mips_encoder.specs.Addresses.{past}
 use Rattle.mips_model.proofs.Reach.{front, back}
 use Rattle.icode_ir.specs.declared.build_op.BuildOp.{BuildOp}
 use Rattle.icode_ir.specs.declared.build_op.BuildOp.TheVariants.{Const}
-use Rattle.icode_codes.specs.Codes.{IsServed, code_of, first_of, second_of}
-use Rattle.icode_codes.specs.Decoded.{op_of}
-use Rattle.icode_codes.proofs.Inverse.{codes-are-read-back}
+use Rattle.icode_ir.specs.Codes.{IsServed, code_of, first_of, second_of}
+use Rattle.icode_ir.specs.Decoded.{op_of}
+use Rattle.icode_ir.proofs.Inverse.{codes-are-read-back}
 use Rattle.icode_templates.specs.Assembly.{constant, lui, ori, addu, lw}
 use Rattle.icode_templates.specs.Templates.{upper, lower}
 use Rattle.icode_templates_proof.proofs.Leaves.{Leaves, leaves_on, leaves_run}
 use Rattle.icode_templates_proof.proofs.Keeping.{with_registers}
 use Rattle.icode_templates_proof.proofs.Templates.{constant_parts}
-use Rattle.spec_closure.specs.Closures.{word_at}
-use Rattle.spec_closure.proofs.Skips.{one_loads}
-use Rattle.spec_closure.proofs.Accesses.{load_closure}
+use Rattle.icode_templates_proof.specs.Closures.{word_at}
+use Rattle.icode_templates_proof.proofs.Skips.{one_loads}
+use Rattle.icode_templates_proof.proofs.Accesses.{load_closure}
 use Rattle.cgf_spec.specs.Calls.{Emit, noted, RunsWith, issuing}
 use Rattle.cgf_spec.specs.Words.{emit_code, op_code, captured_code}
 use Rattle.cgf_spec.specs.Laws.{IsUntouched, others}

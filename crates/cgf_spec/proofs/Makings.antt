@@ -5,8 +5,8 @@ use Rattle.std.proofs.lemmas.Bool.{le-leb}
 use Rattle.icode_ir.specs.Build.{Build}
 use Rattle.icode_ir.specs.Rules.{effect as built_effect}
 use Rattle.icode_ir.specs.declared.build_op.BuildOp.{BuildOp}
-use Rattle.icode_service_spec.specs.Services as services
-use Rattle.icode_service_spec.specs.Services.{words_of}
+use Rattle.mips_model.specs.CodeServices as services
+use Rattle.mips_model.specs.CodeServices.{words_of}
 use Rattle.icode_templates.specs.Assembly.{syscall}
 use Rattle.mips_model.specs.State.{Outside, Code, Data, State, World, register}
 use Rattle.mips_model.specs.Services.{service_of, serve, makes, writes, generator_of, next_choice, begun_with}

@@ -13,13 +13,13 @@ use Rattle.mips_model.specs.Laws.{HasAt, at, Reaches}
 use Rattle.mips_encoder.specs.Addresses.{past}
 use Rattle.mips_model.proofs.Reach.{front, back, reaches_on, step_acts}
 use Rattle.icode_ir.specs.declared.build_op.BuildOp.{BuildOp}
-use Rattle.icode_codes.specs.Decoded.{op_of}
+use Rattle.icode_ir.specs.Decoded.{op_of}
 use Rattle.icode_templates.specs.Assembly.{lui, addu, sll, lw, nop, jalr}
 use Rattle.icode_templates_proof.proofs.Leaves.{Leaves, leaves_on, leaves_run}
 use Rattle.icode_templates_proof.proofs.Jumps.{in_slot, slot_runs}
-use Rattle.spec_closure.specs.Closures.{word_at, closure_of, row_place}
-use Rattle.spec_closure.proofs.Skips.{one_loads}
-use Rattle.spec_closure.proofs.Accesses.{load_closure, load_row}
+use Rattle.icode_templates_proof.specs.Closures.{word_at, closure_of, row_place}
+use Rattle.icode_templates_proof.proofs.Skips.{one_loads}
+use Rattle.icode_templates_proof.proofs.Accesses.{load_closure, load_row}
 use Rattle.cgf_spec.specs.Calls.{issuing}
 use Rattle.cgf_spec.specs.Words.{emit_code, captured_code, closure_code, key_code, splice_code}
 use Rattle.cgf_spec.specs.Laws.{others, Enters, Generates}

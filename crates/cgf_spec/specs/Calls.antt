@@ -14,9 +14,9 @@ use Rattle.icode_templates.specs.Assembly.{v0, a0, a1, a2, syscall}
 use Rattle.icode_ir.specs.declared.build_op.BuildOp.{BuildOp}
 use Rattle.icode_ir.specs.Build.{Build}
 use Rattle.icode_ir.specs.Rules.{effect}
-use Rattle.icode_codes.specs.Decoded.{op_of}
-use Rattle.icode_service_spec.specs.Choices.{Choice}
-use Rattle.icode_service_spec.specs.Services.{Generator, Rows, arena_word, written_from, begun, finished_with}
+use Rattle.icode_ir.specs.Decoded.{op_of}
+use Rattle.mips_model.specs.Choices.{Choice}
+use Rattle.mips_model.specs.CodeServices.{Generator, Rows, arena_word, written_from, begun, finished_with}
 
 -- a call of a service that is obeyed; of one that finishes a function, with the words that it wrote
 pub data Call : Type 0 where

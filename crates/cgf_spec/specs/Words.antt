@@ -8,7 +8,7 @@ use Rattle.word32.specs.declared.map.TheConstants.{SPEC_ROWS}
 use Rattle.history.specs.Syntax.{Syntax, Ticked, Captures, NoCapture, Word, Named, Spliced}
 use Rattle.mips_encoder.specs.declared.instruction.Instr.{Instr}
 use Rattle.icode_ir.specs.declared.build_op.BuildOp.{BuildOp}
-use Rattle.icode_codes.specs.Codes.{code_of, first_of, second_of}
+use Rattle.icode_ir.specs.Codes.{code_of, first_of, second_of}
 use Rattle.icode_templates.specs.Assembly.{scratch, v0, a0, a1, a2, t9, ra, addu, addiu, sll, ori, lui, lw, sw, jr}
 use Rattle.icode_templates.specs.Assembly.{jalr}
 use Rattle.icode_templates.specs.Assembly.{syscall, nop, constant}

@@ -19,9 +19,9 @@ use Rattle.icode_templates.specs.Assembly.{lw, sw, ori, addiu, jalr, bne, syscal
 use Rattle.icode_templates_proof.proofs.Leaves.{Leaves, leaves_on, leaves_run}
 use Rattle.icode_templates_proof.proofs.Memory.{update_same, update_other}
 use Rattle.icode_templates_proof.proofs.Jumps.{in_slot}
-use Rattle.spec_closure.specs.Closures.{word_at, with_word, closure_of}
-use Rattle.spec_closure.proofs.Skips.{one_loads, one_leaves}
-use Rattle.spec_closure.proofs.Accesses.{load_closure}
+use Rattle.icode_templates_proof.specs.Closures.{word_at, with_word, closure_of}
+use Rattle.icode_templates_proof.proofs.Skips.{one_loads, one_leaves}
+use Rattle.icode_templates_proof.proofs.Accesses.{load_closure}
 use Rattle.cgf_spec.specs.Calls.{Begin, Emit, noted, RunsWith, issuing}
 use Rattle.cgf_spec.specs.Laws.{others, IsUntouched, Enters, Generates}
 use Rattle.cgf_spec.proofs.Runs.{runs_call, runs_on, runs_then, runs_behind, issuing_append}

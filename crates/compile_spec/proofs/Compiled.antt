@@ -23,8 +23,8 @@ use Rattle.meaning_state.specs.Shared.{Shared, Specification, Expression, Statem
 use Rattle.meaning_state.specs.Rows.{numbered, specification_at, parameters_of, arena_words, table_trap, arena_trap}
 use Rattle.meaning_state.specs.Rows.{next_function}
 use Rattle.staged_meaning.specs.Program.{syntax_size}
-use Rattle.spec_closure.specs.Closures.{Head, Closure, word_at, with_word, closure_of, row_count}
-use Rattle.spec_closure.proofs.Checking.{bytes_least}
+use Rattle.icode_templates_proof.specs.Closures.{Head, Closure, word_at, with_word, closure_of, row_count}
+use Rattle.icode_templates_proof.proofs.Checking.{bytes_least}
 use Rattle.spec_rows_proof.specs.Relation.{Text, tick_of, syntax_head, IsOf, HasSpecifications}
 use Rattle.spec_rows_proof.specs.Laws.{kind_of_tick}
 use Rattle.cgf_spec.specs.Calls.{Call, Begin, Finish, Flush, Publish, Asks, code_behind, data_behind, RunsWith, issuing}

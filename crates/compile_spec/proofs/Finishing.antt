@@ -19,9 +19,9 @@ use Rattle.icode_templates.specs.Assembly.{lw, sw, srl, addiu, addu, ori, jr, sy
 use Rattle.icode_templates_proof.proofs.Leaves.{Leaves, leaves_on, leaves_run}
 use Rattle.icode_templates_proof.proofs.Memory.{update_other}
 use Rattle.icode_templates_proof.proofs.Jumps.{in_slot}
-use Rattle.spec_closure.specs.Closures.{word_at, with_word}
-use Rattle.spec_closure.proofs.Skips.{one_loads, one_leaves}
-use Rattle.spec_closure.proofs.Accesses.{load_closure, load_cell, store_cell}
+use Rattle.icode_templates_proof.specs.Closures.{word_at, with_word}
+use Rattle.icode_templates_proof.proofs.Skips.{one_loads, one_leaves}
+use Rattle.icode_templates_proof.proofs.Accesses.{load_closure, load_cell, store_cell}
 use Rattle.cgf_spec.specs.Calls.{Call, Finish, Flush, Publish, Asks, code_behind, data_behind, RunsWith}
 use Rattle.cgf_spec.specs.Laws.{others}
 use Rattle.cgf_spec.proofs.Runs.{runs_call, runs_on, runs_then}

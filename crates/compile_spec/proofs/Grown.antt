@@ -12,7 +12,7 @@ use Rattle.mips_encoder.specs.declared.instruction.Instr.{Instr}
 use Rattle.mips_model.specs.State.{Code}
 use Rattle.mips_model.specs.Steps.{Is, found, from_text, from_arena, text_word, is_arena_word, fetch}
 use Rattle.meaning_state.specs.Rows.{arena_words}
-use Rattle.icode_service_spec.specs.Services.{arena_word}
+use Rattle.mips_model.specs.CodeServices.{arena_word}
 use Rattle.compile_spec.specs.Made.{with_words, IsFree, CodeGrows, WordsAreThere, AreThere}
 use Rattle.compile_spec.proofs.Compiled.{in_arena}
 use Rattle.compile_spec.proofs.Made.{are_there}

@@ -20,11 +20,11 @@ use Rattle.meaning_state.specs.Rows.{specification_at, parameters_of, arena_word
 use Rattle.meaning_state.specs.Rows.{next_function, made}
 use Rattle.staged_meaning.specs.Program.{syntax_size}
 use Rattle.icode_templates_proof.proofs.Memory.{update_same, update_other}
-use Rattle.icode_service_spec.specs.Services.{arena_word, written_from}
-use Rattle.icode_service_spec.specs.Laws.{Stand}
-use Rattle.icode_service_spec.proofs.Standing.{words-stand}
-use Rattle.spec_closure.specs.Closures.{word_at, with_word}
-use Rattle.spec_closure_proof.proofs.Kept.{closures_same}
+use Rattle.mips_model.specs.CodeServices.{arena_word, written_from}
+use Rattle.mips_model.specs.ServiceLaws.{Stand}
+use Rattle.mips_model.proofs.Standing.{words-stand}
+use Rattle.icode_templates_proof.specs.Closures.{word_at, with_word}
+use Rattle.spec_rows_proof.proofs.Kept.{closures_same}
 use Rattle.spec_rows_proof.specs.Relation.{Text, HasSpecifications}
 use Rattle.spec_rows_proof.proofs.Making.{few_of}
 use Rattle.cgf_spec.specs.declared.piece.Piece.{Piece}

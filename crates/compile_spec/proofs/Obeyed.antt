@@ -14,11 +14,11 @@ use Rattle.icode_ir.specs.declared.build_op.BuildOp.{BuildOp}
 use Rattle.icode_ir.specs.Build.{Build, empty, finished}
 use Rattle.icode_ir.specs.Rules.{effect as built_effect}
 use Rattle.icode_templates.specs.Words.{words as template_words}
-use Rattle.icode_expand.specs.Expansion.{expansion}
+use Rattle.icode_templates.specs.Expansion.{expansion}
 use Rattle.icode_expand.proofs.Most.{words_most}
-use Rattle.icode_service_spec.specs.Choices.{Choice}
-use Rattle.icode_service_spec.specs.Services.{begin_refusal, finish_refusal, is_frame, is_arena_range}
-use Rattle.icode_service_spec.specs.Services.{is_entry}
+use Rattle.mips_model.specs.Choices.{Choice}
+use Rattle.mips_model.specs.CodeServices.{begin_refusal, finish_refusal, is_frame, is_arena_range}
+use Rattle.mips_model.specs.CodeServices.{is_entry}
 use Rattle.cgf_spec.specs.Calls.{Call, Begin, Emit, Finish, Flush, Publish, outside_behind, issuing}
 use Rattle.cgf_spec.specs.Served.{AreObeyed, outside_after}
 use Rattle.cgf_spec.specs.Told.{told_call, told_calls}

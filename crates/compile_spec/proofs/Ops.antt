@@ -33,12 +33,12 @@ use Rattle.icode_templates_proof.proofs.Keeping.{with_registers, keeps_write, no
 use Rattle.icode_templates_proof.proofs.Operands.{one_in, in_leaves, keeps_one, in_between}
 use Rattle.icode_templates_proof.proofs.Serving.{argument, argument_is}
 use Rattle.icode_templates_proof.proofs.Templates.{finish}
-use Rattle.spec_closure.specs.Laws.{linked, return_address}
-use Rattle.spec_closure.specs.Closures.{word_at}
-use Rattle.spec_closure.proofs.Kept.{and_write, linked_keeps}
-use Rattle.spec_closure.proofs.Calls.{call_reaches, brought}
-use Rattle.spec_closure.proofs.Calling.{routine_ends}
-use Rattle.spec_closure_proof.proofs.Kept.{returns_to}
+use Rattle.icode_templates_proof.specs.MallocLaws.{linked, return_address}
+use Rattle.icode_templates_proof.specs.Closures.{word_at}
+use Rattle.icode_templates_proof.proofs.Kept.{and_write, linked_keeps}
+use Rattle.icode_templates_proof.proofs.Calls.{call_reaches, brought}
+use Rattle.icode_templates_proof.proofs.Calling.{routine_ends}
+use Rattle.spec_rows_proof.proofs.Kept.{returns_to}
 use Rattle.spec_rows_proof.specs.Relation.{Text, HasSpecifications}
 use Rattle.spec_rows_proof.proofs.Making.{kept}
 use Rattle.spec_rows_proof.proofs.TickSpots.{low_register, specifications_there}

@@ -25,9 +25,9 @@ use Rattle.icode_templates_proof.specs.Moves.{EndsIn}
 use Rattle.icode_templates_proof.proofs.Leaves.{Leaves, leaves_on, leaves_run, runs_within}
 use Rattle.icode_templates_proof.proofs.Jumps.{in_slot}
 use Rattle.icode_templates_proof.proofs.Endings.{ends_behind}
-use Rattle.spec_closure.specs.Closures.{word_at, closure_of, row_count, row_place}
-use Rattle.spec_closure.proofs.Skips.{one_loads, break_ends}
-use Rattle.spec_closure.proofs.Accesses.{load_closure, load_row, load_cell}
+use Rattle.icode_templates_proof.specs.Closures.{word_at, closure_of, row_count, row_place}
+use Rattle.icode_templates_proof.proofs.Skips.{one_loads, break_ends}
+use Rattle.icode_templates_proof.proofs.Accesses.{load_closure, load_row, load_cell}
 use Rattle.cgf_spec.proofs.Issuing.{set}
 use Rattle.compile_spec.specs.Routine.{live_code, live_test, kind_code, kind_test, table_test, charge_code, arena_test}
 use Rattle.compile_spec.specs.Routine.{tests_code, build_code, make_code, traps_code, compile_code}

@@ -20,8 +20,8 @@ use Rattle.staged_meaning.specs.Size.{charge_of}
 use Rattle.icode_templates_proof.specs.Moves.{EndsIn}
 use Rattle.icode_ir.specs.declared.build_op.BuildOp.{BuildOp}
 use Rattle.icode_ir.specs.declared.build_op.BuildOp.TheVariants.{Return}
-use Rattle.spec_closure.specs.Closures.{word_at, with_word}
-use Rattle.spec_closure.specs.RoutineLaws.{first_trap}
+use Rattle.icode_templates_proof.specs.Closures.{word_at, with_word}
+use Rattle.icode_templates_proof.specs.RoutineLaws.{first_trap}
 use Rattle.spec_rows_proof.specs.Relation.{Text, HasSpecifications}
 use Rattle.cgf_spec.specs.Calls.{Call, Begin, Finish, Flush, Publish, code_behind, RunsWith, issuing}
 use Rattle.cgf_spec.specs.declared.piece.Piece.{Piece}

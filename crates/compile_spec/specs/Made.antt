@@ -20,8 +20,8 @@ use Rattle.mips_model.specs.Laws.{HasAt, Reaches, at, Grows}
 use Rattle.mips_model.specs.Told.{Made, told}
 use Rattle.icode_ir.specs.declared.build_op.BuildOp.{BuildOp}
 use Rattle.icode_ir.specs.Build.{Build, empty, finished}
-use Rattle.icode_service_spec.specs.Choices.{Choice}
-use Rattle.icode_service_spec.specs.Services.{arena_word, written_from, words_of, finished_with}
+use Rattle.mips_model.specs.Choices.{Choice}
+use Rattle.mips_model.specs.CodeServices.{arena_word, written_from, words_of, finished_with}
 use Rattle.spec_rows_proof.specs.Relation.{Text, HasSpecifications}
 use Rattle.cgf_spec.specs.declared.piece.Piece.{Piece}
 use Rattle.cgf_spec.specs.Pieces.{syntax_ops, IsWhole}

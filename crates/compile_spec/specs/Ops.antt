@@ -24,7 +24,7 @@ use Rattle.icode_templates.specs.Layout.{Spot}
 use Rattle.icode_templates.specs.Templates.{in_code, routine_code, routine_address}
 use Rattle.icode_templates_proof.specs.Spots.{pointer, value, Framed, Usable, register_of, IsOther}
 use Rattle.icode_templates_proof.specs.Moves.{EndsIn}
-use Rattle.spec_closure.specs.Closures.{with_word}
+use Rattle.icode_templates_proof.specs.Closures.{with_word}
 use Rattle.spec_rows_proof.specs.Relation.{Text, HasSpecifications}
 use Rattle.spec_rows_proof.specs.Variables.{run_code}
 use Rattle.cgf_spec.specs.declared.piece.Piece.{Piece}

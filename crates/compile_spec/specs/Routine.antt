@@ -8,8 +8,8 @@ use Rattle.word32.specs.declared.map.TheConstants.{SPEC_ROWS, EMIT_STACK, ARENA,
 use Rattle.mips_encoder.specs.declared.instruction.Instr.{Instr}
 use Rattle.icode_templates.specs.Assembly.{scratch, v0, a0, a1, a2, t9, gp, ra, addu, sltu, sll, srl, addiu, sltiu, ori}
 use Rattle.icode_templates.specs.Assembly.{lui, lw, sw, beq, bne, jr, jalr, syscall, trap}
-use Rattle.spec_closure.specs.Closures.{local_kind}
-use Rattle.spec_closure.specs.Routines.{a3, bad_spec, count_cell}
+use Rattle.icode_templates_proof.specs.Closures.{local_kind}
+use Rattle.icode_templates_proof.specs.Routines.{a3, bad_spec, count_cell}
 use Rattle.cgf_spec.specs.Words.{t4, t7, last_word, last_but_one}
 
 abbrev pub t5 : ℕ

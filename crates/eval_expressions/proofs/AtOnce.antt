@@ -7,10 +7,10 @@ use Rattle.typed_tree.specs.Nodes as node
 use Rattle.typed_tree.specs.Nodes.{Expr, Args, Arg}
 use Rattle.staged_meaning.specs.Meaning.{eval_args}
 use Rattle.staged_meaning.specs.World.{World, Result, then_do}
-use Rattle.meaning_rest.specs.Pending.{Target}
-use Rattle.meaning_rest.specs.Pending as pending
-use Rattle.meaning_rest.specs.Rest.{Signal, targeted, valued}
-use Rattle.meaning_rest.proofs.Laws as law
+use Rattle.eval_state.specs.Pending.{Target}
+use Rattle.eval_state.specs.Pending as pending
+use Rattle.eval_state.specs.Rest.{Signal, targeted, valued}
+use Rattle.eval_state.proofs.Laws as law
 use Rattle.eval_state.specs.declared.parts.Now as code
 use Rattle.eval_state.specs.Less.{heft, held, waiting}
 use Rattle.eval_state.specs.Run.{Run, here, leads, world}

@@ -6,10 +6,10 @@ use Rattle.history.specs.Events.{Ended}
 use Rattle.icode_ops.specs.declared.kind.BinKind.{BinKind}
 use Rattle.meaning_state.specs.Operators.{bin_trap, bin_value}
 use Rattle.staged_meaning.specs.World.{World, spend, unless}
-use Rattle.meaning_rest.specs.Pending.{Now}
-use Rattle.meaning_rest.specs.Pending as pending
-use Rattle.meaning_rest.specs.Rest.{valued, operated, spent}
-use Rattle.meaning_rest.proofs.Laws as law
+use Rattle.eval_state.specs.Pending.{Now}
+use Rattle.eval_state.specs.Pending as pending
+use Rattle.eval_state.specs.Rest.{valued, operated, spent}
+use Rattle.eval_state.proofs.Laws as law
 use Rattle.typed_tree.proofs.Views as view
 use Rattle.typed_tree.specs.Nodes.{Expr}
 use Rattle.eval_state.specs.Steps.{taken}

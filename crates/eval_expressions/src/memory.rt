@@ -3,8 +3,8 @@
 ghost use Rattle.std.specs.Prelude.{◌≡◌, ◌+◌, ◌<◌, ◌≤◌, IfOk};
 ghost use Rattle.staged_meaning.specs.Expressions.{store_at as stored_at};
 ghost use Rattle.typed_tree.specs.View.{expr_view};
-ghost use Rattle.meaning_rest.specs.Pending as pending;
-ghost use Rattle.meaning_rest.specs.Rest.{valued};
+ghost use Rattle.eval_state.specs.Pending as pending;
+ghost use Rattle.eval_state.specs.Rest.{valued};
 ghost use Rattle.eval_state.specs.Less.{heft, held, waiting};
 ghost use Rattle.eval_state.specs.Steps.{taken};
 ghost use Rattle.eval_state.specs.Run.{leads, outcome, run_of, world};

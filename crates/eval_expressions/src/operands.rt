@@ -3,7 +3,7 @@
 ghost use Rattle.std.specs.Prelude.{◌≡◌, ◌<◌, ◌≤◌, IfOk};
 ghost use Rattle.typed_tree.specs.Nodes as node;
 ghost use Rattle.typed_tree.specs.View.{expr_view};
-ghost use Rattle.meaning_rest.specs.Pending as pending;
+ghost use Rattle.eval_state.specs.Pending as pending;
 ghost use Rattle.eval_state.specs.Less.{heft};
 ghost use Rattle.eval_state.specs.Steps.{begun};
 ghost use Rattle.eval_state.specs.Run.{outcome, run_of};

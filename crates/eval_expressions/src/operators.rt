@@ -4,7 +4,7 @@ ghost use Rattle.std.specs.Prelude.{◌≡◌, ◌+◌, ◌<◌, ◌≤◌, None
 ghost use Rattle.word32.specs.Parts as parts;
 ghost use Rattle.meaning_operators.specs.Values as spec;
 ghost use Rattle.meaning_state.specs.Operators.{bin_trap};
-ghost use Rattle.meaning_rest.specs.Pending as pending;
+ghost use Rattle.eval_state.specs.Pending as pending;
 ghost use Rattle.eval_state.specs.Less.{heft, held, waiting};
 ghost use Rattle.eval_state.specs.Steps.{taken};
 ghost use Rattle.eval_state.specs.Run.{outcome, run_of};

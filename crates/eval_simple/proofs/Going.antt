@@ -4,9 +4,9 @@ use Rattle.std.proofs.Common as std
 use Rattle.staged_meaning.specs.Meaning.{eval}
 use Rattle.staged_meaning.specs.World.{Result}
 use Rattle.typed_tree.specs.Nodes.{Expr}
-use Rattle.meaning_rest.specs.Pending.{Frame}
-use Rattle.meaning_rest.specs.Pending as pending
-use Rattle.meaning_rest.specs.Rest.{Signal, valued, after}
+use Rattle.eval_state.specs.Pending.{Frame}
+use Rattle.eval_state.specs.Pending as pending
+use Rattle.eval_state.specs.Rest.{Signal, valued, after}
 use Rattle.eval_state.specs.declared.parts.Now as code
 use Rattle.eval_state.specs.declared.state.Parts.{Parts}
 use Rattle.eval_state.specs.Less.{heft}

@@ -1,6 +1,8 @@
 -- What is still to come where a function is called, by the parts of the state.
-use Rattle.std.proofs.Common.{◌≡◌, ◌≢◌, ℕ, zero, suc, ◌+◌, ◌-◌, ◌<◌, ◌≤◌, length, List, [], ◌∷◌, ◌++◌, map, refl, ap, sym}
-use Rattle.std.proofs.Common.{◌∙◌, subst, arith, Bool, true, false, nat_le, if◌then◌else◌, Option, Some, None, slice_get}
+use Rattle.std.proofs.Common.{◌≡◌, ◌≢◌, ℕ, zero, suc, ◌+◌, ◌-◌, ◌<◌, ◌≤◌, length, List, [], ◌∷◌, ◌++◌, map, refl, ap}
+use Rattle.std.proofs.Common.{sym}
+use Rattle.std.proofs.Common.{◌∙◌, subst, arith, Bool, true, false, nat_le, if◌then◌else◌, Option, Some, None}
+use Rattle.std.proofs.Common.{slice_get}
 use Rattle.std.proofs.lemmas.List.{map-append}
 use Rattle.std.proofs.lemmas.Option.{slice_get-map, slice_get_within}
 use Rattle.std.specs.Option.{option_map}
@@ -19,10 +21,10 @@ use Rattle.staged_meaning.specs.Program.{Callee, Generated, Static, callee_at, g
 use Rattle.staged_meaning.specs.Size.{charge_of, size_of}
 use Rattle.staged_meaning.specs.World.{World, Gives, Normal, Stops, Flow, spend_all, spend_from, then_do}
 use Rattle.staged_meaning.specs.World as world
-use Rattle.meaning_rest.specs.Moves.{code_charge, entry_units, passed_to}
-use Rattle.meaning_rest.specs.Pending as pending
-use Rattle.meaning_rest.specs.Rest.{Place, Signal, context_at, once, spent, targeted, ticked, valued}
-use Rattle.meaning_rest.proofs.Calls.{call_of_none, call_traps, code_call_traps}
+use Rattle.eval_state.specs.Moves.{code_charge, entry_units, passed_to}
+use Rattle.eval_state.specs.Pending as pending
+use Rattle.eval_state.specs.Rest.{Place, Signal, context_at, once, spent, targeted, ticked, valued}
+use Rattle.eval_state.proofs.Calls.{call_of_none, call_traps, code_call_traps}
 use Rattle.eval_state.specs.declared.state.Body.{Body}
 use Rattle.eval_state.specs.declared.state.Compiled.{Compiled}
 use Rattle.eval_state.specs.declared.state.Entry.TheVariants as entry
@@ -30,7 +32,8 @@ use Rattle.eval_state.specs.declared.state.Event.TheVariants as event
 use Rattle.eval_state.specs.declared.state.Parts.{Parts}
 use Rattle.eval_state.specs.Grown.{code_body, with_called, with_event}
 use Rattle.eval_state.specs.Kept.{captures_at, compiled_view, entry_view, event_view, rows_view, syntax_at}
-use Rattle.eval_state.specs.Run.{Run, here, in_world, leads, outcome, program_of, run_of, with_units, world as world_now}
+use Rattle.eval_state.specs.Run.{Run, here, in_world, leads, outcome, program_of, run_of, with_units}
+use Rattle.eval_state.specs.Run.{world as world_now}
 use Rattle.eval_state.specs.Specified.{AreMade, IsMade}
 use Rattle.eval_state.proofs.Enters.{code_enters, code_run, entered_run, enters}
 use Rattle.eval_state.proofs.Makes.{is_over, is_within}

@@ -9,9 +9,9 @@ use Rattle.word32.specs.declared.map.TheConstants.{OBJECTS}
 use Rattle.meaning_state.specs.Shared.{loaded, stored}
 use Rattle.staged_meaning.specs.Statements.{argument}
 use Rattle.staged_meaning.specs.World.{with_variable, with_shared}
-use Rattle.meaning_rest.specs.Pending as pending
-use Rattle.meaning_rest.specs.Pending.{Now}
-use Rattle.meaning_rest.specs.Rest.{spent}
+use Rattle.eval_state.specs.Pending as pending
+use Rattle.eval_state.specs.Pending.{Now}
+use Rattle.eval_state.specs.Rest.{spent}
 use Rattle.eval_state.specs.declared.parts.Frame.{Frame}
 use Rattle.eval_state.specs.declared.state.Parts.{Parts}
 use Rattle.eval_state.specs.declared.state.Entry.{Entry}

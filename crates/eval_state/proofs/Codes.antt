@@ -1,6 +1,7 @@
 -- What is still to come where the code of a tick begins, where code is spliced in, and where a function is called by its
 -- number.
-use Rattle.std.proofs.Common.{◌≡◌, ◌≢◌, ℕ, zero, suc, ◌+◌, ◌-◌, ◌<◌, ◌≤◌, length, List, [], ◌∷◌, ◌++◌, map, refl, ap, sym}
+use Rattle.std.proofs.Common.{◌≡◌, ◌≢◌, ℕ, zero, suc, ◌+◌, ◌-◌, ◌<◌, ◌≤◌, length, List, [], ◌∷◌, ◌++◌, map, refl, ap}
+use Rattle.std.proofs.Common.{sym}
 use Rattle.std.proofs.Common.{◌∙◌, subst, arith, Bool, true, false, nat_eq, if◌then◌else◌, nat_le, is_none, slice_get}
 use Rattle.std.proofs.Common.{Option, Some, None, Result, Ok, Err, IfOk}
 use Rattle.std.proofs.lemmas.List.{map-append}
@@ -34,10 +35,10 @@ use Rattle.staged_meaning.specs.Source.{tick_view}
 use Rattle.staged_meaning.specs.Specifications.{syntax_in}
 use Rattle.staged_meaning.specs.World.{then_do, spend, unless}
 use Rattle.staged_meaning.specs.World as world
-use Rattle.meaning_rest.specs.Kept.{row_kept, splice_kept}
-use Rattle.meaning_rest.specs.Moves as moves
-use Rattle.meaning_rest.specs.Pending as pending
-use Rattle.meaning_rest.specs.Rest.{Signal, targeted, ticked, valued}
+use Rattle.eval_state.specs.KeptRows.{row_kept, splice_kept}
+use Rattle.eval_state.specs.Moves as moves
+use Rattle.eval_state.specs.Pending as pending
+use Rattle.eval_state.specs.Rest.{Signal, targeted, ticked, valued}
 use Rattle.eval_state.specs.declared.parts.Now.{Now}
 use Rattle.eval_state.specs.declared.state.Compiled.{Compiled}
 use Rattle.eval_state.specs.declared.state.Entry.TheVariants as entry
@@ -50,13 +51,15 @@ use Rattle.eval_state.specs.declared.state.Row.{Row}
 use Rattle.eval_state.specs.declared.state.RowKind.{RowKind}
 use Rattle.eval_state.specs.declared.state.RowKind.TheVariants as kind
 use Rattle.eval_state.specs.Grown.{tick_of, with_event, with_left, with_spliced}
-use Rattle.eval_state.specs.Kept.{captures_at, captures_in, entry_view, kept_view, row_of, row_view, rows_view, syntax_at}
+use Rattle.eval_state.specs.Kept.{captures_at, captures_in, entry_view, kept_view, row_of, row_view, rows_view}
+use Rattle.eval_state.specs.Kept.{syntax_at}
 use Rattle.eval_state.specs.Numbered.{kept_at, kept_in, number_kept}
 use Rattle.eval_state.specs.Run.{Run, here, leads, outcome, program_of, run_of, world as world_now}
 use Rattle.eval_state.specs.Sound.{IsSound}
 use Rattle.eval_state.specs.Specified.{AreEarlier, IsCode, IsEarlier, IsMade}
 use Rattle.eval_state.specs.Views.{now_view}
-use Rattle.eval_state.proofs.Callees.{callee_in, calls_to, code_at, code_begins, code_limit, code_parts, code_stops, made_at}
+use Rattle.eval_state.proofs.Callees.{callee_in, calls_to, code_at, code_begins, code_limit, code_parts, code_stops}
+use Rattle.eval_state.proofs.Callees.{made_at}
 use Rattle.eval_state.proofs.Enters.{splice_enters, splice_of_nothing, splice_run}
 use Rattle.eval_state.proofs.Growth.{code_within}
 use Rattle.eval_state.proofs.Makes.{is_over, is_within, traps}

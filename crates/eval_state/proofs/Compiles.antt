@@ -20,8 +20,8 @@ use Rattle.staged_meaning.specs.Program.{Program, syntax_size}
 use Rattle.staged_meaning.specs.Specifications.{compile_number, compile_row, compile_syntax, fits, syntax_in}
 use Rattle.staged_meaning.specs.World.{World, Flow, spend, spend_all, then_do, unless, with_shared}
 use Rattle.staged_meaning.specs.World as world
-use Rattle.meaning_rest.specs.Pending as pending
-use Rattle.meaning_rest.specs.Rest.{Signal, spent, valued}
+use Rattle.eval_state.specs.Pending as pending
+use Rattle.eval_state.specs.Rest.{Signal, spent, valued}
 use Rattle.eval_state.specs.declared.state.Compiled.{Compiled}
 use Rattle.eval_state.specs.declared.state.Event.TheVariants as event
 use Rattle.eval_state.specs.declared.state.Parts.{Parts}

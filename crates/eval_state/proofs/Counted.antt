@@ -10,7 +10,7 @@ use Rattle.meaning_state.specs.Rows.{locals_of, numbered, parameters_in}
 use Rattle.meaning_state.specs.Shared.{Specification}
 use Rattle.staged_meaning.specs.Program.{Program, captures_size, tick_size}
 use Rattle.staged_meaning.specs.Specifications.{syntax_in, specification_of}
-use Rattle.meaning_rest.specs.Kept.{captures_kept, row_kept}
+use Rattle.eval_state.specs.KeptRows.{captures_kept, row_kept}
 use Rattle.eval_state.specs.declared.state.Compiled.{Compiled}
 use Rattle.eval_state.specs.declared.state.Kept.{Kept}
 use Rattle.eval_state.specs.declared.state.Kept.TheVariants as code

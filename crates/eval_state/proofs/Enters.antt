@@ -11,10 +11,10 @@ use Rattle.staged_meaning.specs.Expressions.{left_by}
 use Rattle.staged_meaning.specs.Meaning.{eval, keys_at_entry}
 use Rattle.staged_meaning.specs.Program.{Static, Generated, callee_at}
 use Rattle.staged_meaning.specs.World.{Gives}
-use Rattle.meaning_rest.specs.Moves.{code_charge, entry_units, syntax_at}
-use Rattle.meaning_rest.specs.Pending as pending
-use Rattle.meaning_rest.specs.Rest.{Place, Value, context_at, once, spent, targeted, through, ticked, valued}
-use Rattle.meaning_rest.proofs.Calls.{call_goes, code_call_goes, splice_goes, splice_of_none}
+use Rattle.eval_state.specs.Moves.{code_charge, entry_units, syntax_at}
+use Rattle.eval_state.specs.Pending as pending
+use Rattle.eval_state.specs.Rest.{Place, Value, context_at, once, spent, targeted, through, ticked, valued}
+use Rattle.eval_state.proofs.Calls.{call_goes, code_call_goes, splice_goes, splice_of_none}
 use Rattle.eval_state.specs.Run.{Run, here, leads, world}
 
 -- the run within a function that was called, which is charged; d calls more may be active

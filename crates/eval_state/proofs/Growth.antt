@@ -2,8 +2,8 @@
 use Rattle.std.proofs.Common.{◌≡◌, ℕ, zero, suc, ◌+◌, ◌≤◌, length, List, [], ◌∷◌, ◌++◌, map, refl, ap, ◌∙◌, arith}
 use Rattle.meaning_state.specs.Rows.{numbered}
 use Rattle.meaning_state.specs.Shared.{Specification}
-use Rattle.meaning_rest.specs.Kept.{Row, row_kept, rows_behind, rows_kept}
-use Rattle.meaning_rest.specs.Pending as pending
+use Rattle.eval_state.specs.KeptRows.{Row, row_kept, rows_behind, rows_kept}
+use Rattle.eval_state.specs.Pending as pending
 use Rattle.history.specs.Events as event
 use Rattle.eval_state.specs.declared.state.Body.{Body}
 use Rattle.eval_state.specs.declared.state.Entry.{Entry}
@@ -11,7 +11,8 @@ use Rattle.eval_state.specs.declared.state.Entry.TheVariants as entry
 use Rattle.eval_state.specs.declared.state.Compiled.{Compiled}
 use Rattle.eval_state.specs.declared.state.Event.{Event}
 use Rattle.eval_state.specs.declared.state.Event.TheVariants as happened
-use Rattle.eval_state.specs.Kept.{variables_of, generated_of, body_view, captures_in, compiled_view, entry_view, event_view}
+use Rattle.eval_state.specs.Kept.{variables_of, generated_of, body_view, captures_in, compiled_view, entry_view}
+use Rattle.eval_state.specs.Kept.{event_view}
 use Rattle.eval_state.specs.Specified.{AreMade, IsCode}
 use Rattle.eval_state.specs.Sound.{IsNamed, AreNamed, IsKnown, AreKnown, called, calls}
 use Rattle.staged_meaning.specs.Specifications.{syntax_in}

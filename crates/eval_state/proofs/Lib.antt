@@ -1,3 +1,10 @@
+pub mod Laws
+pub mod Statements
+pub mod Calls
+pub mod Ends
+pub mod Burdens
+pub mod KeptRows
+pub mod Examples
 pub mod Runs
 pub mod Growth
 pub mod Rows

@@ -5,13 +5,13 @@ use Rattle.std.proofs.lemmas.List.{map-append}
 use Rattle.std.specs.Option.{option_map}
 use Rattle.history.specs.Syntax.{Captures, Ticked}
 use Rattle.typed_tree.specs.declared.expression.Answer.{Answer}
-use Rattle.meaning_rest.specs.Pending.{Body as Pending, Frame as Waiting}
-use Rattle.meaning_rest.specs.Pending as pending
-use Rattle.meaning_rest.specs.Rest.{place_of}
-use Rattle.meaning_rest.specs.Burden.{capture_weight, weight, weight_of_tick, weights}
-use Rattle.meaning_rest.specs.Kept.{splice_kept}
-use Rattle.meaning_rest.specs.Moves as moves
-use Rattle.meaning_rest.proofs.Burdens.{splice_begins, weights_push}
+use Rattle.eval_state.specs.Pending.{Body as Pending, Frame as Waiting}
+use Rattle.eval_state.specs.Pending as pending
+use Rattle.eval_state.specs.Rest.{place_of}
+use Rattle.eval_state.specs.Burden.{capture_weight, weight, weight_of_tick, weights}
+use Rattle.eval_state.specs.KeptRows.{splice_kept}
+use Rattle.eval_state.specs.Moves as moves
+use Rattle.eval_state.proofs.Burdens.{splice_begins, weights_push}
 use Rattle.typed_tree.specs.Nodes as node
 use Rattle.eval_state.specs.declared.parts.Frame.{Frame}
 use Rattle.eval_state.specs.declared.parts.EndFrame.TheVariants as end

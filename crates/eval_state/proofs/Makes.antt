@@ -12,9 +12,9 @@ use Rattle.meaning_state.specs.Shared.{Specification, Shared}
 use Rattle.meaning_state.specs.Shared as shared
 use Rattle.staged_meaning.specs.Specifications.{specify, specify_parameter}
 use Rattle.staged_meaning.specs.World.{World, Result, spend, unless, with_shared}
-use Rattle.meaning_rest.specs.Pending as pending
-use Rattle.meaning_rest.specs.Rest.{spent, valued}
-use Rattle.meaning_rest.proofs.Laws.{spent_value}
+use Rattle.eval_state.specs.Pending as pending
+use Rattle.eval_state.specs.Rest.{spent, valued}
+use Rattle.eval_state.proofs.Laws.{spent_value}
 use Rattle.eval_state.specs.declared.state.Parts.{Parts}
 use Rattle.eval_state.specs.declared.state.Row.{Row}
 use Rattle.eval_state.specs.Grown.{specification_in, with_row}

@@ -18,15 +18,15 @@ use Rattle.std.proofs.lemmas.List.{map-append}
 use Rattle.staged_meaning.specs.Expressions.{key_of, word_of}
 use Rattle.staged_meaning.specs.Program.{Program, syntax_size}
 use Rattle.staged_meaning.specs.Specifications.{captures_trap, fits, key_in, kind_of, kinds_of, syntax_in}
-use Rattle.meaning_rest.specs.Kept as kept
+use Rattle.eval_state.specs.KeptRows as kept
 use Rattle.host_edge.specs.declared.ending.TrapKind.{TrapKind}
 use Rattle.host_edge.specs.declared.ending.TrapKind.TheVariants.{BadSpec}
 use Rattle.typed_tree.specs.declared.expression.Expr.{Expr}
 use Rattle.typed_tree.specs.View.{expr_view}
 use Rattle.eval_state.specs.Views.{args_view}
-use Rattle.meaning_rest.specs.Kept.{all_kept, captures_kept, key_kept, kept_of, row_kept, splice_kept, word_kept}
-use Rattle.meaning_rest.specs.Moves as moves
-use Rattle.meaning_rest.proofs.Kept.{key_is_kept, splice_is_kept, word_is_kept}
+use Rattle.eval_state.specs.KeptRows.{all_kept, captures_kept, key_kept, kept_of, row_kept, splice_kept, word_kept}
+use Rattle.eval_state.specs.Moves as moves
+use Rattle.eval_state.proofs.KeptRows.{key_is_kept, splice_is_kept, word_is_kept}
 use Rattle.eval_state.specs.declared.state.Kept.{Kept}
 use Rattle.eval_state.specs.declared.state.Kept.TheVariants as code
 use Rattle.eval_state.specs.declared.state.Parts.{Parts}

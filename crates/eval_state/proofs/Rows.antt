@@ -7,9 +7,9 @@ use Rattle.history.specs.Events.{Item}
 use Rattle.history.specs.Syntax.{Syntax}
 use Rattle.meaning_state.specs.Shared.{Specification}
 use Rattle.staged_meaning.specs.World.{with_shared}
-use Rattle.meaning_rest.specs.Kept.{row_kept, rows_kept}
-use Rattle.meaning_rest.specs.Pending.{Body as Active, Frame}
-use Rattle.meaning_rest.proofs.Kept.{specified_more}
+use Rattle.eval_state.specs.KeptRows.{row_kept, rows_kept}
+use Rattle.eval_state.specs.Pending.{Body as Active, Frame}
+use Rattle.eval_state.proofs.KeptRows.{specified_more}
 use Rattle.eval_state.specs.declared.state.Parts.{Parts}
 use Rattle.eval_state.specs.declared.state.Row.{Row}
 use Rattle.eval_state.specs.Grown.{specification_in}

@@ -4,11 +4,11 @@ use Rattle.history.specs.Syntax.{Captures}
 use Rattle.typed_tree.specs.declared.expression.Answer.{Answer}
 use Rattle.staged_meaning.specs.Expressions.{left_by}
 use Rattle.staged_meaning.specs.World.{World, Result, Gives, Returns, spend}
-use Rattle.meaning_rest.specs.Pending.{Now, Body, Frame as Pending}
-use Rattle.meaning_rest.specs.Pending as pending
-use Rattle.meaning_rest.specs.Rest.{Signal, Value, Place, under, after, doing, spent, context_at, place_of, through}
-use Rattle.meaning_rest.specs.Rest.{valued, value_of}
-use Rattle.meaning_rest.proofs.Laws.{push_plain, through_push}
+use Rattle.eval_state.specs.Pending.{Now, Body, Frame as Pending}
+use Rattle.eval_state.specs.Pending as pending
+use Rattle.eval_state.specs.Rest.{Signal, Value, Place, under, after, doing, spent, context_at, place_of, through}
+use Rattle.eval_state.specs.Rest.{valued, value_of}
+use Rattle.eval_state.proofs.Laws.{push_plain, through_push}
 use Rattle.eval_state.specs.Popped.{back_to}
 use Rattle.eval_state.specs.declared.parts.Frame.{Frame}
 use Rattle.eval_state.specs.declared.parts.Frame.TheVariants as frame

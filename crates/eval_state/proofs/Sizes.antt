@@ -23,8 +23,8 @@ use Rattle.staged_meaning.specs.Program as meaning
 use Rattle.staged_meaning.specs.Source.{tick_view}
 use Rattle.staged_meaning.specs.Specifications.{syntax_in}
 use Rattle.history.specs.Syntax.{Syntax}
-use Rattle.meaning_rest.specs.Kept.{parameters_kept, row_kept, size_kept}
-use Rattle.meaning_rest.proofs.Kept.{parameters_are_kept, size_is_kept}
+use Rattle.eval_state.specs.KeptRows.{parameters_kept, row_kept, size_kept}
+use Rattle.eval_state.proofs.KeptRows.{parameters_are_kept, size_is_kept}
 use Rattle.eval_state.specs.declared.state.Kept.{Kept}
 use Rattle.eval_state.specs.declared.state.Kept.TheVariants as code
 use Rattle.eval_state.specs.declared.state.Parts.{Parts}

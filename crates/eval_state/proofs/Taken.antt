@@ -5,7 +5,7 @@ use Rattle.std.proofs.lemmas.List.{map-append}
 use Rattle.staged_meaning.specs.Expressions.{left_by}
 use Rattle.staged_meaning.specs.World.{Gives, Returns, spend, spend_all, then_do}
 use Rattle.typed_tree.specs.declared.expression.Answer.{Answer}
-use Rattle.meaning_rest.specs.Rest.{Value, valued, value_of}
+use Rattle.eval_state.specs.Rest.{Value, valued, value_of}
 use Rattle.eval_state.specs.declared.parts.Frame.{Frame}
 use Rattle.eval_state.specs.declared.parts.Popped.TheVariants as popped
 use Rattle.eval_state.specs.declared.state.Body.{Body}

@@ -1,6 +1,7 @@
 -- What is still to come, where the specification of a tick is made.
 use Rattle.std.proofs.Common.{◌≡◌, ℕ, ◌+◌, ◌<◌, ◌≤◌, length, List, [], ◌∷◌, map, min, refl, ap, sym, ◌∙◌, subst, arith}
-use Rattle.std.proofs.Common.{Bool, Option, Some, None, Result, Ok, Err, IfOk, true, false, is_none, slice_get, if◌then◌else◌}
+use Rattle.std.proofs.Common.{Bool, Option, Some, None, Result, Ok, Err, IfOk, true, false, is_none, slice_get}
+use Rattle.std.proofs.Common.{if◌then◌else◌}
 use Rattle.host_edge.specs.declared.ending.Ending.TheVariants.{Trap}
 use Rattle.host_edge.specs.declared.ending.TrapKind.{TrapKind}
 use Rattle.host_edge.specs.declared.ending.TrapKind.TheVariants.{BadSpec, SizeLimit}
@@ -11,16 +12,17 @@ use Rattle.typed_tree.specs.declared.expression.CaptureKind.{CaptureKind}
 use Rattle.meaning_state.specs.Rows.{numbered, parameters_in, size_trap}
 use Rattle.meaning_state.specs.Shared.{Specification}
 use Rattle.staged_meaning.specs.Program.{Program, captures_size, is_expression, syntax_size, tick_size}
-use Rattle.staged_meaning.specs.Specifications.{captures_of, captures_trap, fits, specification_of, specify, specify_syntax}
+use Rattle.staged_meaning.specs.Specifications.{captures_of, captures_trap, fits, specification_of, specify}
+use Rattle.staged_meaning.specs.Specifications.{specify_syntax}
 use Rattle.staged_meaning.specs.Specifications.{specify_tick}
 use Rattle.staged_meaning.specs.World.{unless}
 use Rattle.staged_meaning.specs.World as world
-use Rattle.meaning_rest.specs.Kept.{all_kept, captures_kept, parameters_kept, row_kept, size_kept}
-use Rattle.meaning_rest.specs.Pending as pending
-use Rattle.meaning_rest.specs.Rest.{Signal, valued}
+use Rattle.eval_state.specs.KeptRows.{all_kept, captures_kept, parameters_kept, row_kept, size_kept}
+use Rattle.eval_state.specs.Pending as pending
+use Rattle.eval_state.specs.Rest.{Signal, valued}
 use Rattle.eval_state.specs.declared.parts.Now.{Now}
 use Rattle.eval_state.specs.Views.{now_view}
-use Rattle.meaning_rest.proofs.Kept.{captures_are_kept, parameters_are_kept, size_is_kept}
+use Rattle.eval_state.proofs.KeptRows.{captures_are_kept, parameters_are_kept, size_is_kept}
 use Rattle.eval_state.specs.declared.state.Kept.{Kept}
 use Rattle.eval_state.specs.declared.state.Parts.{Parts}
 use Rattle.eval_state.specs.declared.state.Row.{Row}

@@ -6,7 +6,7 @@ use Rattle.meaning_state.specs.Rows.{count_locals, keys_in, keys_of, locals_of, 
 use Rattle.meaning_state.specs.Shared.{Specification}
 use Rattle.meaning_state.specs.Shared as shared
 use Rattle.staged_meaning.specs.Specifications.{syntax_in}
-use Rattle.meaning_rest.specs.Kept.{captures_kept}
+use Rattle.eval_state.specs.KeptRows.{captures_kept}
 use Rattle.eval_state.specs.declared.state.Kept.{Kept}
 use Rattle.eval_state.specs.declared.state.Kept.TheVariants as code
 use Rattle.eval_state.specs.declared.state.Parts.{Parts}

@@ -1,10 +1,10 @@
 -- What is pending gets no heavier where a frame is pushed, a unit is spent, or the world alone changes.
 use Rattle.std.proofs.Common.{◌≡◌, ◌+◌, ◌≤◌, ap, ◌∙◌, arith}
-use Rattle.meaning_rest.specs.Pending as pending
-use Rattle.meaning_rest.specs.Pending.{Now}
-use Rattle.meaning_rest.specs.Rest.{place_of}
-use Rattle.meaning_rest.specs.Burden.{weights}
-use Rattle.meaning_rest.proofs.Burdens.{weights_push}
+use Rattle.eval_state.specs.Pending as pending
+use Rattle.eval_state.specs.Pending.{Now}
+use Rattle.eval_state.specs.Rest.{place_of}
+use Rattle.eval_state.specs.Burden.{weights}
+use Rattle.eval_state.proofs.Burdens.{weights_push}
 use Rattle.eval_state.specs.declared.parts.Frame.{Frame}
 use Rattle.eval_state.specs.Less.{heft, held, waiting}
 use Rattle.eval_state.specs.Run.{Run, pushed}

@@ -3,7 +3,7 @@ use Rattle.std.specs.Prelude.{ℕ, suc, []}
 use Rattle.history.specs.Syntax.{NoCapture}
 use Rattle.history.specs.Events.{Input}
 use Rattle.staged_meaning.specs.Program.{Program}
-use Rattle.meaning_rest.specs.Moves.{entered_main}
+use Rattle.eval_state.specs.Moves.{entered_main}
 use Rattle.eval_state.specs.Run.{Run}
 
 abbrev pub first_run : Program → Input → (units : ℕ) → Run

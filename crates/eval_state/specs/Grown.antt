@@ -1,7 +1,7 @@
 -- The parts with a specification, an event or a call more, and behind a call.
 use Rattle.std.specs.Prelude.{ℕ, suc, ◌+◌, ◌-◌, Bool, true, false, length, List, [], ◌∷◌, ◌++◌, Option, Some}
 use Rattle.meaning_state.specs.Shared.{Specification}
-use Rattle.meaning_rest.specs.Kept.{row_kept}
+use Rattle.eval_state.specs.KeptRows.{row_kept}
 use Rattle.history.specs.Syntax.{Syntax, Ticked}
 use Rattle.typed_tree.specs.declared.expression.Answer.{Answer}
 use Rattle.eval_state.specs.declared.state.Body.{Body}

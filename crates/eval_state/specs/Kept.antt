@@ -7,8 +7,8 @@ use Rattle.meaning_state.specs.Shared.{Specification}
 use Rattle.meaning_state.specs.Shared as shared
 use Rattle.staged_meaning.specs.Meaning.{keys_at_entry}
 use Rattle.staged_meaning.specs.Specifications.{syntax_in}
-use Rattle.meaning_rest.specs.Kept as kept
-use Rattle.meaning_rest.specs.Pending as pending
+use Rattle.eval_state.specs.KeptRows as kept
+use Rattle.eval_state.specs.Pending as pending
 use Rattle.eval_state.specs.declared.state.Generated.{Generated}
 use Rattle.eval_state.specs.declared.state.Setting.{Setting}
 use Rattle.eval_state.specs.declared.state.Body.{Body}

@@ -1,10 +1,10 @@
 -- How much of a run is pending, by its weight. A step of an evaluation makes it less, or spends a unit; so an
 -- evaluation with so many units ends.
 use Rattle.std.specs.Prelude.{ℕ, ◌+◌}
-use Rattle.meaning_rest.specs.Pending as pending
-use Rattle.meaning_rest.specs.Pending.{Now, Frame}
-use Rattle.meaning_rest.specs.Rest.{place_of}
-use Rattle.meaning_rest.specs.Burden.{capture_weight, weight, load, weights}
+use Rattle.eval_state.specs.Pending as pending
+use Rattle.eval_state.specs.Pending.{Now, Frame}
+use Rattle.eval_state.specs.Rest.{place_of}
+use Rattle.eval_state.specs.Burden.{capture_weight, weight, load, weights}
 use Rattle.eval_state.specs.Run.{Run}
 
 -- what is still to begin of what is done now, in the active body

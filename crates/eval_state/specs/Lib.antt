@@ -1,3 +1,8 @@
+pub mod Pending
+pub mod Rest
+pub mod Moves
+pub mod Burden
+pub mod KeptRows
 pub mod Begins
 pub mod Views
 pub mod Kept

@@ -5,7 +5,7 @@ use Rattle.std.specs.Ordering.{nat_cmp}
 use Rattle.limits.specs.declared.program.TheConstants.{MOST_ARGUMENTS}
 use Rattle.meaning_state.specs.Rows.{numbered}
 use Rattle.meaning_state.specs.Shared.{Specification}
-use Rattle.meaning_rest.specs.Kept.{row_kept}
+use Rattle.eval_state.specs.KeptRows.{row_kept}
 use Rattle.eval_state.specs.Kept.{row_of}
 use Rattle.eval_state.specs.declared.state.Kept.{Kept}
 use Rattle.eval_state.specs.declared.state.Kept.TheVariants as code

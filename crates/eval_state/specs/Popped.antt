@@ -4,8 +4,8 @@ use Rattle.std.specs.Prelude.{◌≡◌, ℕ, suc, List}
 use Rattle.meaning_state.specs.Shared.{discharged}
 use Rattle.staged_meaning.specs.Expressions.{left_by}
 use Rattle.staged_meaning.specs.World.{Gives, Returns, spend}
-use Rattle.meaning_rest.specs.Pending.{Body, Frame}
-use Rattle.meaning_rest.specs.Rest.{Signal, Value, valued, value_of}
+use Rattle.eval_state.specs.Pending.{Body, Frame}
+use Rattle.eval_state.specs.Rest.{Signal, Value, valued, value_of}
 use Rattle.eval_state.specs.declared.parts.Popped.{Popped}
 use Rattle.eval_state.specs.declared.parts.Popped.TheVariants as popped
 use Rattle.eval_state.specs.Run.{Run, leads, pushed, world}

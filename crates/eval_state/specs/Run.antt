@@ -7,9 +7,9 @@ use Rattle.staged_meaning.specs.Program.{Program}
 use Rattle.staged_meaning.specs.Source.{tick_view}
 use Rattle.staged_meaning.specs.World.{World, Result}
 use Rattle.staged_meaning.specs.Meaning.{Context}
-use Rattle.meaning_rest.specs.Pending.{Frame, Now}
-use Rattle.meaning_rest.specs.Rest as rest
-use Rattle.meaning_rest.specs.Rest.{Signal, State, context_at, place_of, world_of}
+use Rattle.eval_state.specs.Pending.{Frame, Now}
+use Rattle.eval_state.specs.Rest as rest
+use Rattle.eval_state.specs.Rest.{Signal, State, context_at, place_of, world_of}
 use Rattle.eval_state.specs.declared.state.Parts.{Parts}
 use Rattle.eval_state.specs.Kept.{body_view, rows_view, compiled_view, entry_view, event_view}
 

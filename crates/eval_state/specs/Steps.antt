@@ -3,8 +3,8 @@
 use Rattle.std.specs.Prelude.{ℕ}
 use Rattle.typed_tree.specs.Nodes.{Expr, Stmt}
 use Rattle.staged_meaning.specs.World.{Result, Gives, Flow}
-use Rattle.meaning_rest.specs.Pending.{Eval, Exec, Frame}
-use Rattle.meaning_rest.specs.Rest.{Signal, Value, Left, after}
+use Rattle.eval_state.specs.Pending.{Eval, Exec, Frame}
+use Rattle.eval_state.specs.Rest.{Signal, Value, Left, after}
 use Rattle.eval_state.specs.Run.{Run, here, world, leads, outcome}
 
 unfoldable pub begun : Expr → Run → Result Signal

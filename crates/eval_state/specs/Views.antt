@@ -7,7 +7,7 @@ use Rattle.typed_tree.specs.View.{expr_view, stmt_view, args_of, items_of}
 use Rattle.history.specs.Events.{Ended}
 use Rattle.staged_meaning.specs.World as world
 use Rattle.staged_meaning.specs.Specifications.{kinds_of}
-use Rattle.meaning_rest.specs.Pending as pending
+use Rattle.eval_state.specs.Pending as pending
 use Rattle.eval_state.specs.declared.parts.Flow.{Flow}
 use Rattle.eval_state.specs.declared.parts.Flow.TheVariants as flow
 use Rattle.eval_state.specs.declared.parts.Now.{Now}

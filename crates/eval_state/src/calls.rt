@@ -13,10 +13,10 @@ ghost use Rattle.eval_state.specs.Grown.{code_body, tick_of, with_called, with_e
 ghost use Rattle.meaning_state.specs.Shared.{limit_trap};
 ghost use Rattle.typed_tree.specs.Nodes as node;
 ghost use Rattle.staged_meaning.specs.Meaning.{eval};
-ghost use Rattle.meaning_rest.specs.Pending as pending;
-ghost use Rattle.meaning_rest.specs.Rest.{targeted, ticked, valued};
+ghost use Rattle.eval_state.specs.Pending as pending;
+ghost use Rattle.eval_state.specs.Rest.{targeted, ticked, valued};
 ghost use Rattle.eval_state.specs.Less.{heft, held};
-ghost use Rattle.meaning_rest.specs.Burden.{capture_weight, weight_of_tick};
+ghost use Rattle.eval_state.specs.Burden.{capture_weight, weight_of_tick};
 ghost use Rattle.eval_state.specs.Run.{here, leads, outcome, program_of, run_of, world};
 ghost use Rattle.eval_state.specs.Views.{now_view};
 

@@ -4,7 +4,7 @@ ghost use Rattle.std.specs.Prelude.{◌≡◌, ◌<◌, ◌≤◌, ◌+◌, ◌^
 ghost use Rattle.meaning_state.specs.Shared.{frame_start, zeroed};
 ghost use Rattle.staged_meaning.specs.Statements.{passed};
 ghost use Rattle.staged_meaning.specs.World.{clear_words, with_shared};
-ghost use Rattle.meaning_rest.specs.Rest.{left};
+ghost use Rattle.eval_state.specs.Rest.{left};
 ghost use Rattle.eval_state.specs.Less.{heft, held};
 ghost use Rattle.eval_state.specs.Run.{here, in_world, leads, outcome, run_of, world};
 ghost use Rattle.eval_state.specs.Views.{now_view};

@@ -1,4 +1,7 @@
-//! The state of an evaluation, on a stack of pending work of its own: what the meaning keeps of a run from within, in
+//! The meaning of a program seen from within a run, as definitions with laws on them: what becomes of what is done now,
+//! behind all that is pending (`specs/Rest`).
+//!
+//! And the state of an evaluation, on a stack of pending work of its own: what the meaning keeps of a run from within, in
 //! vectors, so that no nesting of the program uses the host's stack. It is for code that evaluates a program step by
 //! step: each of its calls says how the run that the state stands for changes.
 #![tactic(auto)]

@@ -2,7 +2,7 @@
 
 ghost use Rattle.std.specs.Prelude.{◌≡◌, ◌≢◌, ◌+◌, ◌-◌, ◌^◌, ◌<◌, ◌≤◌, suc, length, [], IsSome};
 ghost use Rattle.std.specs.Prelude.{IfOk, IsFalse, IsTrue, MatchOption, OnOk};
-ghost use Rattle.meaning_rest.specs.Rest.{after, doing, spent};
+ghost use Rattle.eval_state.specs.Rest.{after, doing, spent};
 ghost use Rattle.eval_state.specs.Grown.{with_caller, with_left};
 ghost use Rattle.eval_state.specs.Sound.{calls};
 ghost use Rattle.eval_state.specs.Popped.{IsEnded, IsLeft};

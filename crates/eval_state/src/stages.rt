@@ -1,6 +1,7 @@
 //! Makes specifications, reads what they capture, and compiles them.
 
-ghost use Rattle.std.specs.Prelude.{◌≡◌, ◌↔◌, ◌+◌, ◌<◌, ◌≤◌, [], ◌∷◌, ◌++◌, length, map, min, slice_get, is_none, IfOk, IsTrue, MatchOption, Some, None, OnOk};
+ghost use Rattle.std.specs.Prelude.{◌≡◌, ◌↔◌, ◌+◌, ◌<◌, ◌≤◌, [], ◌∷◌, ◌++◌, length, map, min, slice_get, is_none, IfOk};
+ghost use Rattle.std.specs.Prelude.{IsTrue, MatchOption, Some, None, OnOk};
 ghost use Rattle.staged_meaning.specs.Expressions.{key_of, word_of};
 ghost use Rattle.staged_meaning.specs.Specifications.{captures_trap, compile_number, fits, key_in, kind_of, kinds_of};
 ghost use Rattle.staged_meaning.specs.Specifications.{specify, specify_parameter, specify_tick};
@@ -9,11 +10,11 @@ ghost use Rattle.staged_meaning.specs.Program.{is_expression, syntax_size, tick_
 ghost use Rattle.staged_meaning.specs.Source.{tick_view};
 ghost use Rattle.meaning_state.specs.Shared as shared;
 ghost use Rattle.typed_tree.specs.View.{expr_view};
-ghost use Rattle.meaning_rest.specs.Kept.{all_kept, key_kept, kept_of, parameters_kept, size_kept, word_kept};
+ghost use Rattle.eval_state.specs.KeptRows.{all_kept, key_kept, kept_of, parameters_kept, size_kept, word_kept};
 ghost use Rattle.eval_state.specs.Kept.{kept_view, rows_view, syntax_at};
 ghost use Rattle.eval_state.specs.Specified.{AreEarlier, IsCode, IsEarlier, IsMade};
 ghost use Rattle.typed_tree.specs.declared.expression.CaptureKind.TheVariants.{Variable as variable};
-ghost use Rattle.meaning_rest.specs.Rest.{valued};
+ghost use Rattle.eval_state.specs.Rest.{valued};
 ghost use Rattle.std.specs.Option.{option_copied, option_map};
 ghost use Rattle.eval_state.specs.Sound.{IsSound};
 ghost use Rattle.eval_state.specs.Numbered.{code_kind, kept_at, kept_in, kind_in, noted, number_kept, of_kind};

@@ -9,10 +9,10 @@ use Rattle.staged_meaning.specs.Meaning.{eval}
 use Rattle.staged_meaning.specs.Statements.{passed}
 use Rattle.staged_meaning.specs.World.{Normal, Gives}
 use Rattle.staged_meaning.specs.World.{then_do, spend, with_variable}
-use Rattle.meaning_rest.specs.Pending.{Now}
-use Rattle.meaning_rest.specs.Pending as pending
-use Rattle.meaning_rest.specs.Rest.{left, loop_of, valued, after}
-use Rattle.meaning_rest.proofs.Statements as statement
+use Rattle.eval_state.specs.Pending.{Now}
+use Rattle.eval_state.specs.Pending as pending
+use Rattle.eval_state.specs.Rest.{left, loop_of, valued, after}
+use Rattle.eval_state.proofs.Statements as statement
 use Rattle.eval_state.specs.declared.parts.Now as code
 use Rattle.eval_state.specs.Less.{heft}
 use Rattle.eval_state.specs.declared.state.Parts.{Parts}

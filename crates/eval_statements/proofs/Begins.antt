@@ -4,11 +4,11 @@ use Rattle.typed_tree.specs.Nodes as node
 use Rattle.typed_tree.specs.Nodes.{Expr, Stmt}
 use Rattle.staged_meaning.specs.Meaning.{eval, exec}
 use Rattle.staged_meaning.specs.World.{Flow, Normal, Broke, Continued, World, Gives, spend, then_do}
-use Rattle.meaning_rest.specs.Pending.{Now}
-use Rattle.meaning_rest.specs.Pending as pending
-use Rattle.meaning_rest.specs.Rest.{Left, left, loop_of, valued, after, spent}
-use Rattle.meaning_rest.proofs.Laws as law
-use Rattle.meaning_rest.proofs.Statements as statement
+use Rattle.eval_state.specs.Pending.{Now}
+use Rattle.eval_state.specs.Pending as pending
+use Rattle.eval_state.specs.Rest.{Left, left, loop_of, valued, after, spent}
+use Rattle.eval_state.proofs.Laws as law
+use Rattle.eval_state.proofs.Statements as statement
 use Rattle.typed_tree.proofs.Views as view
 use Rattle.eval_state.specs.Steps.{executed, taken, ended}
 use Rattle.eval_state.specs.Run.{Run, here, world, leads, outcome, in_world}

@@ -1,5 +1,6 @@
 -- How the cases of a switch are compared, one after another, and what is done where none matches.
-use Rattle.std.proofs.Common.{◌≡◌, ◌<◌, ◌≤◌, ◌+◌, ℕ, suc, ◌-◌, ◌≢◌, List, [], ◌∷◌, Option, Some, None, refl, ap, sym, subst, IfOk, ◌∙◌, arith}
+use Rattle.std.proofs.Common.{◌≡◌, ◌<◌, ◌≤◌, ◌+◌, ℕ, suc, ◌-◌, ◌≢◌, List, [], ◌∷◌, Option, Some, None, refl, ap, sym}
+use Rattle.std.proofs.Common.{subst, IfOk, ◌∙◌, arith}
 use Rattle.std.proofs.Common as std
 use Rattle.std.proofs.Common.{nat_eq, if◌then◌else◌, eq-eqb, ne_eqb}
 use Rattle.typed_tree.specs.declared.expression.Stmt.{Stmt}
@@ -9,10 +10,10 @@ use Rattle.typed_tree.proofs.Views as view
 use Rattle.staged_meaning.specs.Meaning.{Context, exec_items}
 use Rattle.staged_meaning.specs.Statements.{case_of, exec_cases, exec_default, on_case, on_default, switch_end}
 use Rattle.staged_meaning.specs.World.{World, Result, Flow, then_do}
-use Rattle.meaning_rest.proofs.Laws as law
-use Rattle.meaning_rest.specs.Pending as pending
-use Rattle.meaning_rest.specs.Burden.{capture_weight, weight_of_items}
-use Rattle.meaning_rest.specs.Rest.{Signal, left, after}
+use Rattle.eval_state.proofs.Laws as law
+use Rattle.eval_state.specs.Pending as pending
+use Rattle.eval_state.specs.Burden.{capture_weight, weight_of_items}
+use Rattle.eval_state.specs.Rest.{Signal, left, after}
 use Rattle.eval_state.specs.declared.parts.Now as code
 use Rattle.eval_state.specs.Less.{heft, held, waiting}
 use Rattle.eval_state.specs.Run.{Run, here, leads, outcome, world, with_units}

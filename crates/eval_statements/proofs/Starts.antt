@@ -9,11 +9,11 @@ use Rattle.typed_tree.specs.Nodes.{Expr, Stmt, Items, NoItem, Item}
 use Rattle.staged_meaning.specs.Meaning.{Context, exec, exec_items, then_next}
 use Rattle.staged_meaning.specs.World.{Flow, Normal, Broke, Continued, Gives, Returns, Ends, Stops}
 use Rattle.staged_meaning.specs.World.{Result, World, at_zero, then_do}
-use Rattle.meaning_rest.specs.Burden.{capture_weight, weight_of_stmt}
-use Rattle.meaning_rest.specs.Pending.{Now, Exec, Frame}
-use Rattle.meaning_rest.specs.Pending as pending
-use Rattle.meaning_rest.specs.Rest.{left, after, valued, doing}
-use Rattle.meaning_rest.proofs.Statements as statement
+use Rattle.eval_state.specs.Burden.{capture_weight, weight_of_stmt}
+use Rattle.eval_state.specs.Pending.{Now, Exec, Frame}
+use Rattle.eval_state.specs.Pending as pending
+use Rattle.eval_state.specs.Rest.{left, after, valued, doing}
+use Rattle.eval_state.proofs.Statements as statement
 use Rattle.eval_state.specs.Less.{heft, held, loaded, waiting}
 use Rattle.eval_state.specs.declared.parts.Now as code
 use Rattle.eval_state.specs.declared.state.Parts.{Parts}

@@ -3,9 +3,9 @@ use Rattle.std.proofs.Common.{◌≡◌, ℕ, zero, suc, ◌-◌, ◌≢◌, Opt
 use Rattle.typed_tree.specs.Nodes.{Expr, Stmt}
 use Rattle.staged_meaning.specs.Meaning.{Context, exec}
 use Rattle.staged_meaning.specs.World.{World, Result, Gives, Flow, Normal, at_zero, then_do, spend}
-use Rattle.meaning_rest.specs.Pending as pending
-use Rattle.meaning_rest.specs.Rest.{left, after, loop_of, rounds_of}
-use Rattle.meaning_rest.proofs.Statements as law
+use Rattle.eval_state.specs.Pending as pending
+use Rattle.eval_state.specs.Rest.{left, after, loop_of, rounds_of}
+use Rattle.eval_state.proofs.Statements as law
 use Rattle.eval_state.specs.Run.{Run, here, leads, world, with_units}
 
 -- a unit was spent, and something is done behind it

@@ -3,9 +3,9 @@ use Rattle.std.specs.Prelude.{◌≡◌, ◌≤◌, ◌<◌, ℕ}
 use Rattle.typed_tree.specs.Nodes.{Stmt, Items}
 use Rattle.staged_meaning.specs.Meaning.{exec, exec_items}
 use Rattle.staged_meaning.specs.World.{Gives, Normal}
-use Rattle.meaning_rest.specs.Burden.{weight_of_items}
-use Rattle.meaning_rest.specs.Pending.{Now, Exec}
-use Rattle.meaning_rest.specs.Rest.{doing, left}
+use Rattle.eval_state.specs.Burden.{weight_of_items}
+use Rattle.eval_state.specs.Pending.{Now, Exec}
+use Rattle.eval_state.specs.Rest.{doing, left}
 use Rattle.eval_state.specs.Less.{loaded}
 use Rattle.eval_state.specs.Run.{Run, here, world, in_world}
 

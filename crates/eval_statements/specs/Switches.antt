@@ -5,7 +5,7 @@ use Rattle.typed_tree.specs.Nodes as node
 use Rattle.staged_meaning.specs.Meaning.{Context, exec_items}
 use Rattle.staged_meaning.specs.Statements.{exec_default, on_default}
 use Rattle.staged_meaning.specs.World.{World, Result, Flow, Gives, Normal}
-use Rattle.meaning_rest.specs.Burden.{weight_of_items}
+use Rattle.eval_state.specs.Burden.{weight_of_items}
 use Rattle.eval_state.specs.Views.{items_view}
 use denote.Ref.{Bor}
 

@@ -3,8 +3,8 @@
 ghost use Rattle.std.specs.Prelude.{◌≡◌, ◌+◌, ◌<◌, ◌≤◌, IfOk, IsTrue};
 ghost use Rattle.typed_tree.specs.View.{stmt_view};
 ghost use Rattle.staged_meaning.specs.World.{Normal};
-ghost use Rattle.meaning_rest.specs.Pending as pending;
-ghost use Rattle.meaning_rest.specs.Rest.{after, doing};
+ghost use Rattle.eval_state.specs.Pending as pending;
+ghost use Rattle.eval_state.specs.Rest.{after, doing};
 ghost use Rattle.eval_state.specs.Less.{heft, waiting};
 ghost use Rattle.eval_state.specs.declared.parts.Now.TheVariants as now;
 ghost use Rattle.eval_state.specs.Run.{here, leads, outcome, run_of, world};

@@ -4,8 +4,8 @@ ghost use Rattle.std.specs.Prelude.{◌≡◌, ◌+◌, ◌<◌, ◌≤◌, IfOk
 ghost use Rattle.typed_tree.specs.View.{expr_view, stmt_view};
 ghost use Rattle.staged_meaning.specs.Meaning.{eval};
 ghost use Rattle.staged_meaning.specs.World as left_by;
-ghost use Rattle.meaning_rest.specs.Rest.{after, valued};
-ghost use Rattle.meaning_rest.specs.Pending as pending;
+ghost use Rattle.eval_state.specs.Rest.{after, valued};
+ghost use Rattle.eval_state.specs.Pending as pending;
 ghost use Rattle.eval_state.specs.Less.{heft, held, waiting};
 ghost use Rattle.eval_state.specs.Run.{Run, here, leads, outcome, run_of, world};
 ghost use Rattle.eval_state.specs.Steps.{ended};

@@ -2,8 +2,8 @@
 
 ghost use Rattle.std.specs.Prelude.{◌≡◌, ◌+◌, ◌<◌, ◌≤◌, IfOk};
 ghost use Rattle.staged_meaning.specs.World.{Gives};
-ghost use Rattle.meaning_rest.specs.Rest.{Left, Value, after};
-ghost use Rattle.meaning_rest.specs.Pending as pending;
+ghost use Rattle.eval_state.specs.Rest.{Left, Value, after};
+ghost use Rattle.eval_state.specs.Pending as pending;
 ghost use Rattle.eval_state.specs.Less.{heft, held, waiting};
 ghost use Rattle.eval_state.specs.Run.{here, leads, outcome, run_of, world};
 ghost use Rattle.eval_state.specs.Steps.{ended, taken};

@@ -3,8 +3,8 @@
 ghost use Rattle.std.specs.Prelude.{◌≡◌, ◌+◌, ◌≤◌, suc, IfOk};
 ghost use Rattle.typed_tree.specs.View.{expr_view, stmt_view};
 ghost use Rattle.staged_meaning.specs.World.{Gives, Normal, at_zero, spend, then_do};
-ghost use Rattle.meaning_rest.specs.Rest.{left, loop_of, rounds_of};
-ghost use Rattle.meaning_rest.specs.Pending as pending;
+ghost use Rattle.eval_state.specs.Rest.{left, loop_of, rounds_of};
+ghost use Rattle.eval_state.specs.Pending as pending;
 ghost use Rattle.eval_state.specs.Less.{heft, held, waiting};
 ghost use Rattle.eval_state.specs.Run.{here, leads, outcome, run_of, world};
 ghost use Rattle.eval_state.specs.Views.{now_view, step_view};

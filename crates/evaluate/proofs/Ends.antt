@@ -6,10 +6,10 @@ use Rattle.pace.specs.Pace.{Seen}
 use Rattle.typed_tree.specs.Nodes.{Stmt}
 use Rattle.staged_meaning.specs.Meaning.{Program, meant}
 use Rattle.staged_meaning.specs.World.{Gives, Returns}
-use Rattle.meaning_rest.specs.Pending as pending
-use Rattle.meaning_rest.specs.Moves.{told}
-use Rattle.meaning_rest.specs.Rest.{Value, Left, context_at, place_of, through, spent}
-use Rattle.meaning_rest.proofs.Ends.{through_ends, through_stops, outcome_is_meaning}
+use Rattle.eval_state.specs.Pending as pending
+use Rattle.eval_state.specs.Moves.{told}
+use Rattle.eval_state.specs.Rest.{Value, Left, context_at, place_of, through, spent}
+use Rattle.eval_state.proofs.Ends.{through_ends, through_stops, outcome_is_meaning}
 use Rattle.eval_state.specs.declared.parts.Now.{Now}
 use Rattle.eval_state.specs.declared.parts.Now.TheVariants as now
 use Rattle.eval_state.specs.Begins.{first_run}

@@ -2,8 +2,8 @@
 use Rattle.std.proofs.Common.{◌≡◌, ◌<◌, ◌+◌, ℕ, refl, ap, arith}
 use Rattle.staged_meaning.specs.Meaning.{Context}
 use Rattle.staged_meaning.specs.World.{World, Flow, Gives}
-use Rattle.meaning_rest.specs.Rest.{Value, Left, after}
-use Rattle.meaning_rest.specs.Burden.{capture_weight, weight}
+use Rattle.eval_state.specs.Rest.{Value, Left, after}
+use Rattle.eval_state.specs.Burden.{capture_weight, weight}
 use Rattle.eval_state.specs.declared.parts.EndFrame.{EndFrame}
 use Rattle.eval_state.specs.declared.parts.EndFrame.TheVariants as end
 use Rattle.eval_state.specs.declared.parts.ExpressionFrame.{ExpressionFrame}

@@ -1,12 +1,12 @@
 -- What was taken off: where it leads, and how much is pending without it.
 use Rattle.std.proofs.Common.{◌≡◌, ◌<◌, ◌≤◌, ◌+◌, ℕ, ap, ◌∙◌, arith}
 use Rattle.staged_meaning.specs.World.{Gives, Returns, spend}
-use Rattle.meaning_rest.specs.Pending.{Now}
-use Rattle.meaning_rest.specs.Pending as pending
-use Rattle.meaning_rest.specs.Moves.{IsInside}
-use Rattle.meaning_rest.specs.Rest.{Signal, valued, spent}
-use Rattle.meaning_rest.proofs.Laws as law
-use Rattle.meaning_rest.proofs.Ends.{returns_past}
+use Rattle.eval_state.specs.Pending.{Now}
+use Rattle.eval_state.specs.Pending as pending
+use Rattle.eval_state.specs.Moves.{IsInside}
+use Rattle.eval_state.specs.Rest.{Signal, valued, spent}
+use Rattle.eval_state.proofs.Laws as law
+use Rattle.eval_state.proofs.Ends.{returns_past}
 use Rattle.eval_state.specs.declared.parts.Frame.{Frame}
 use Rattle.eval_state.specs.declared.parts.EndFrame.TheVariants as end
 use Rattle.eval_state.specs.declared.parts.ExpressionFrame.TheVariants as expression

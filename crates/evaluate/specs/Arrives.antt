@@ -2,7 +2,7 @@
 use Rattle.std.specs.Prelude.{ℕ}
 use Rattle.staged_meaning.specs.Expressions.{left_by}
 use Rattle.staged_meaning.specs.World.{Result, Gives, Returns, spend}
-use Rattle.meaning_rest.specs.Rest.{Signal, Value, after, valued, value_of}
+use Rattle.eval_state.specs.Rest.{Signal, Value, after, valued, value_of}
 use Rattle.eval_state.specs.declared.parts.Popped.{Popped}
 use Rattle.eval_state.specs.declared.parts.Popped.TheVariants as popped
 use Rattle.eval_state.specs.Less.{waiting}

@@ -3,7 +3,7 @@
 ghost use Rattle.std.specs.Prelude.{◌≡◌, ◌≤◌, ◌<◌, ◌+◌, IfOk};
 ghost use Rattle.staged_meaning.specs.Expressions.{left_by};
 ghost use Rattle.staged_meaning.specs.World.{Gives};
-ghost use Rattle.meaning_rest.specs.Rest.{Left, Value, after};
+ghost use Rattle.eval_state.specs.Rest.{Left, Value, after};
 ghost use Rattle.eval_state.specs.Less.{heft, held, waiting};
 ghost use Rattle.eval_state.specs.Run.{Run, here, leads, outcome, run_of, world};
 ghost use Rattle.eval_state.specs.declared.parts.Now.TheVariants as now;

@@ -3,7 +3,7 @@ use Rattle.std.proofs.Common.{ℕ, zero, suc, ◌≡◌, ◌<◌, ◌≤◌, Boo
 use Rattle.std.proofs.Common.{ap, sym, ◌∙◌, arith}
 use Rattle.std.specs.List.{filter}
 use Rattle.std.proofs.lemmas.Bool.Decides.{nat_tests}
-use Rattle.icode_expand.specs.Frames.{has, register_places, saved}
+use Rattle.icode_templates.specs.Frames.{has, register_places, saved}
 use Rattle.icode_expand.specs.Laws.{AllPlaces, Rising, AreSaved}
 
 one_low : (f : ℕ → Bool) (x : ℕ) (xs : List ℕ) (b : Bool) → x < 12 → AllPlaces (filter f xs) →

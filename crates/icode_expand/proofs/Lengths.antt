@@ -10,7 +10,7 @@ use Rattle.icode_ops.specs.declared.op.Op.TheVariants.{Jump, BranchZero, BranchN
 use Rattle.icode_templates.specs.Layout.{Layout}
 use Rattle.icode_templates.specs.Templates.{Aim, ToLabel, ToEpilogue, template}
 use Rattle.icode_templates.specs.Words.{words}
-use Rattle.icode_expand.specs.Expansion.{templates}
+use Rattle.icode_templates.specs.Expansion.{templates}
 
 pub length_words : (is : List Instr) → length (words is) ≡ length is
 length_words [] = refl

@@ -11,7 +11,7 @@ use Rattle.icode_templates.specs.Assembly.{lw, sw, sp}
 use Rattle.icode_templates.specs.Layout.{place_register}
 use Rattle.icode_templates.specs.Words.{words}
 use Rattle.icode_templates.proofs.Appended.{words_append}
-use Rattle.icode_expand.specs.Frames.{has, register_places, saved, saves, restores, save_offset}
+use Rattle.icode_templates.specs.Frames.{has, register_places, saved, saves, restores, save_offset}
 use Rattle.icode_expand.specs.Used.{marked}
 
 swap : (a b c : Bool) → a || (b || c) ≡ b || (a || c)

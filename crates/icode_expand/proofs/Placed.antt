@@ -14,7 +14,7 @@ use Rattle.icode_ops.specs.Labels.{label_index}
 use Rattle.icode_templates.specs.Layout.{Layout}
 use Rattle.icode_templates.specs.Templates.{Aim, template}
 use Rattle.mips_encoder.specs.Addresses.{past}
-use Rattle.icode_expand.specs.Expansion.{nowhere, templates, op_address, aims}
+use Rattle.icode_templates.specs.Expansion.{nowhere, templates, op_address, aims}
 use Rattle.icode_expand.specs.Labels.{IsTable, with_label, target_of}
 use Rattle.icode_expand.proofs.Lengths.{past_is, templates_part, aim_to}
 

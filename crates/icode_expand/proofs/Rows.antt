@@ -2,7 +2,7 @@
 -- apart from the definitions: each row of instructions is what stands there. An edit of a definition breaks its rows.
 use Rattle.std.specs.Prelude.{◌≡◌, true, false, [], ◌∷◌, refl}
 use Rattle.icode_templates.specs.Assembly.{addu, subu, sltu, sll, addiu, ori, lui, lw, sw, beq, jr, trap}
-use Rattle.icode_expand.specs.Frames.{prologue, epilogue}
+use Rattle.icode_templates.specs.Frames.{prologue, epilogue}
 
 prologue-plain-unsaved-static : prologue 1024 0 ([]) false ≡ lui 1 0 ∷ ori 1 1 1024 ∷ subu 24 29 1 ∷ lui 25 32512 ∷ sltu
     25 24 25 ∷ beq 25 0 2 ∷ sll 0 0 0 ∷ trap 20 ∷ addu 29 24 0 ∷ sw 31 80 29 ∷ []

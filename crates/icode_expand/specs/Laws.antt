@@ -5,8 +5,8 @@ use Rattle.std.specs.Prelude.{ℕ, suc, ◌≡◌, ◌+◌, ◌*◌, ◌<◌, �
 use Rattle.icode_ops.specs.declared.op.Op.{Op}
 use Rattle.icode_templates.specs.Layout.{Layout}
 use Rattle.icode_templates.specs.Templates.{Aim, template}
-use Rattle.icode_expand.specs.Frames.{has, saved}
-use Rattle.icode_expand.specs.Expansion.{expansion}
+use Rattle.icode_templates.specs.Frames.{has, saved}
+use Rattle.icode_templates.specs.Expansion.{expansion}
 
 -- a template has at most 16 words, wherever its labels stand
 abbrev pub TemplatesAreShort : Type 0

@@ -1,5 +1,3 @@
-pub mod Frames
 pub mod Used
-pub mod Expansion
 pub mod Labels
 pub mod Laws

@@ -1,7 +1,7 @@
 -- What a table of the places below 12 that are used stands for.
 use Rattle.std.specs.Prelude.{ℕ, Bool, false, List, slice_index_or}
 use Rattle.std.specs.List.{filter}
-use Rattle.icode_expand.specs.Frames.{register_places}
+use Rattle.icode_templates.specs.Frames.{register_places}
 
 -- the places that are marked, in rising order
 unfoldable pub marked : List Bool → List ℕ

@@ -9,7 +9,7 @@ ghost use Rattle.icode_ops.specs.Flow.{defined};
 ghost use Rattle.icode_templates.specs.Layout.{laid, parameter_spot, slot};
 ghost use Rattle.icode_templates.specs.Templates as code;
 ghost use Rattle.icode_templates.specs.Templates.{template};
-ghost use Rattle.icode_expand.specs.Expansion.{nowhere, templates};
+ghost use Rattle.icode_templates.specs.Expansion.{nowhere, templates};
 
 use icode_ops::{BinKind, Op, UnKind};
 use icode_templates::Layout;

@@ -1,7 +1,7 @@
 //! The prologue and the epilogue of a function.
 
 ghost use Rattle.std.specs.Prelude.{◌≡◌, ◌+◌, ◌++◌, ◌≤◌, length, true, false, if◌then◌else◌};
-ghost use Rattle.icode_expand.specs.Frames as frames;
+ghost use Rattle.icode_templates.specs.Frames as frames;
 ghost use Rattle.icode_templates.specs.Words.{words};
 
 use crate::saved::Saved;

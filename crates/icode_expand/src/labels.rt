@@ -7,7 +7,7 @@ ghost use Rattle.icode_ops.specs.Finished.{InRange, Below, IsFinished};
 ghost use Rattle.icode_ops.specs.Flow.{goes_to, label_of, op_at};
 ghost use Rattle.icode_templates.specs.Layout.{laid};
 ghost use Rattle.icode_templates.specs.Templates.{template};
-ghost use Rattle.icode_expand.specs.Expansion.{nowhere, templates, aims};
+ghost use Rattle.icode_templates.specs.Expansion.{nowhere, templates, aims};
 ghost use Rattle.icode_expand.specs.Labels.{IsTable, with_label, target_of};
 
 use crate::counts::op_words;

@@ -6,7 +6,7 @@ ghost use Rattle.std.specs.Prelude.{◌≡◌, ℕ, ◌+◌, ◌*◌, ◌++◌, 
 ghost use Rattle.word32.specs.declared.map.TheConstants.{OBJECT_BYTES, SEGMENT_BYTES, STACK_BYTES};
 ghost use Rattle.icode_ops.specs.Finished.{Below, IsFinished};
 ghost use Rattle.icode_ops.specs.Flow.{label_of, op_at};
-ghost use Rattle.icode_expand.specs.Expansion.{expanded};
+ghost use Rattle.icode_templates.specs.Expansion.{expanded};
 
 mod counts;
 mod frame;

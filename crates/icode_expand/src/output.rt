@@ -7,7 +7,7 @@ ghost use Rattle.icode_ops.specs.Finished.{InRange, IsFinished};
 ghost use Rattle.icode_templates.specs.Layout.{laid};
 ghost use Rattle.icode_templates.specs.Templates.{template, Aim};
 ghost use Rattle.icode_templates.specs.Words.{words as words_of};
-ghost use Rattle.icode_expand.specs.Expansion.{nowhere, templates};
+ghost use Rattle.icode_templates.specs.Expansion.{nowhere, templates};
 ghost use Rattle.icode_expand.specs.Labels.{IsTable, spliced};
 
 use crate::labels::target;

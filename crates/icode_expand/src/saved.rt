@@ -1,7 +1,7 @@
 //! The places that a function has to save.
 
 ghost use Rattle.std.specs.Prelude.{◌≡◌, ℕ, ◌+◌, ◌++◌, ◌<◌, ◌≤◌, length, slice_index_or, false};
-ghost use Rattle.icode_expand.specs.Frames.{saved, has, saves, restores};
+ghost use Rattle.icode_templates.specs.Frames.{saved, has, saves, restores};
 ghost use Rattle.icode_templates.specs.Layout.{place_register as register_of};
 ghost use Rattle.icode_templates.specs.Words.{words};
 

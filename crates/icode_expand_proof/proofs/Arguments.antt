@@ -24,18 +24,18 @@ use Rattle.icode_templates_proof.proofs.Keeping.{value_kept}
 use Rattle.icode_templates_proof.proofs.Operands.{one_in, in_leaves, keeps_one, load_gives, in_between, Between}
 use Rattle.icode_templates_proof.proofs.Operands.{between_on}
 use Rattle.icode_templates_proof.proofs.Templates.{finish}
-use Rattle.icode_frames_spec.specs.Relation.{ExtentsAgree, ArgumentsAgree, Holds, Pays}
-use Rattle.icode_frames_spec.specs.Settings.{Setting, places_of, Standing}
-use Rattle.icode_frames_spec.specs.Standing.{layout_of, op_stands_at}
-use Rattle.icode_frames_spec.proofs.Codes.{one_stands, next_at}
-use Rattle.icode_frames_spec.proofs.Frames.{spots}
-use Rattle.icode_frames_spec.proofs.Memory.{memory_kept}
-use Rattle.icode_frames_spec.proofs.Places.{spot_usable, slot_usable}
-use Rattle.icode_frames_proof.proofs.Saving.{word_put, store_leaves}
-use Rattle.icode_steps_proof.proofs.Liveness.{next_follows, live_before}
-use Rattle.icode_steps_proof.proofs.Paying.{runs_pay, extents_kept, first_operand, stuck_pays}
-use Rattle.icode_steps_proof.proofs.Within.{Within, holds_next}
-use Rattle.icode_steps_proof.proofs.Writes.{defined_inside, write_pays}
+use Rattle.icode_expand_proof.specs.Relation.{ExtentsAgree, ArgumentsAgree, Holds, Pays}
+use Rattle.icode_expand_proof.specs.Settings.{Setting, places_of, Standing}
+use Rattle.icode_expand_proof.specs.Standing.{layout_of, op_stands_at}
+use Rattle.icode_expand_proof.proofs.Codes.{one_stands, next_at}
+use Rattle.icode_expand_proof.proofs.Frames.{spots}
+use Rattle.icode_expand_proof.proofs.Memory.{memory_kept}
+use Rattle.icode_expand_proof.proofs.Places.{spot_usable, slot_usable}
+use Rattle.icode_expand_proof.proofs.Saving.{word_put, store_leaves}
+use Rattle.icode_expand_proof.proofs.Liveness.{next_follows, live_before}
+use Rattle.icode_expand_proof.proofs.Paying.{runs_pay, extents_kept, first_operand, stuck_pays}
+use Rattle.icode_expand_proof.proofs.Within.{Within, holds_next}
+use Rattle.icode_expand_proof.proofs.Writes.{defined_inside, write_pays}
 
 -- a word below the frame's registers is no spot's
 value_apart : (k x p v : ℕ) (d : Data) → k < 8 → pointer d % 4 ≡ 0 → value (word_put (4 * k) x d) (spot_of p v) ≡ value

@@ -18,16 +18,16 @@ use Rattle.icode_templates_proof.proofs.Keeping.{with_registers}
 use Rattle.icode_templates_proof.proofs.Memory.{update_same, update_other}
 use Rattle.icode_templates_proof.proofs.Leaves.{runs_within}
 use Rattle.icode_templates_proof.proofs.Jumps.{slot_runs, in_slot}
-use Rattle.icode_frames_spec.specs.Frames.{Alike, FrameAgrees, CallersWait, unwound}
-use Rattle.icode_frames_spec.specs.Relation.{Holds, Pays}
-use Rattle.icode_frames_spec.specs.Settings.{Setting, places_of, Standing}
-use Rattle.icode_frames_spec.specs.Standing.{op_stands_at}
-use Rattle.icode_frames_spec.proofs.Codes.{one_stands, code_low, next_at}
-use Rattle.icode_frames_spec.proofs.Frames.{ready_alike, stacked_alike, unwound_alike, word_alike, suits_known}
-use Rattle.icode_frames_spec.proofs.Frames.{pointer_alike, held_28, held_30}
-use Rattle.icode_steps_proof.proofs.Liveness.{next_follows, live_before}
-use Rattle.icode_steps_proof.proofs.Paying.{extents_alike, stuck_pays}
-use Rattle.icode_frames_spec.proofs.Memory.{memory_kept}
+use Rattle.icode_expand_proof.specs.Frames.{Alike, FrameAgrees, CallersWait, unwound}
+use Rattle.icode_expand_proof.specs.Relation.{Holds, Pays}
+use Rattle.icode_expand_proof.specs.Settings.{Setting, places_of, Standing}
+use Rattle.icode_expand_proof.specs.Standing.{op_stands_at}
+use Rattle.icode_expand_proof.proofs.Codes.{one_stands, code_low, next_at}
+use Rattle.icode_expand_proof.proofs.Frames.{ready_alike, stacked_alike, unwound_alike, word_alike, suits_known}
+use Rattle.icode_expand_proof.proofs.Frames.{pointer_alike, held_28, held_30}
+use Rattle.icode_expand_proof.proofs.Liveness.{next_follows, live_before}
+use Rattle.icode_expand_proof.proofs.Paying.{extents_alike, stuck_pays}
+use Rattle.icode_expand_proof.proofs.Memory.{memory_kept}
 use Rattle.icode_expand_proof.specs.Laws.{CallsPay}
 use Rattle.icode_expand_proof.proofs.Entrance.{Enters, enter_pays}
 

@@ -18,22 +18,22 @@ use Rattle.mips_model.specs.Run as run
 use Rattle.mips_model.specs.Laws.{at}
 use Rattle.mips_model.proofs.Reach.{front}
 use Rattle.icode_ops.specs.declared.op.Op.{Op}
-use Rattle.icode_expand.specs.Frames.{take_frame}
+use Rattle.icode_templates.specs.Frames.{take_frame}
 use Rattle.icode_meaning.specs.State.{Function, Frame, Log, Halted, nothing}
 use Rattle.icode_meaning.specs.Steps.{paid, moved_on, begun, entered, enter}
 use Rattle.icode_meaning.specs.Costs.{least_of, most_of}
 use Rattle.icode_templates_proof.specs.Spots.{pointer, frame_word, Framed}
 use Rattle.icode_templates_proof.specs.Moves.{Runs, EndsIn}
 use Rattle.icode_templates_proof.proofs.Leaves.{runs_on}
-use Rattle.icode_frames_spec.specs.Frames.{CallersWait, unwound}
-use Rattle.icode_frames_spec.specs.Relation.{MemoryAgrees, ExtentsAgree, Holds, Pays}
-use Rattle.icode_frames_spec.specs.Settings.{Setting, places_of, Standing}
-use Rattle.icode_frames_spec.specs.Standing.{op_stands_at, Stands}
-use Rattle.icode_frames_spec.proofs.Codes.{front_stands}
-use Rattle.icode_frames_spec.proofs.Frames.{stacked_alike}
-use Rattle.icode_frames_proof.proofs.Beginning.{begins, overflows}
-use Rattle.icode_frames_proof.proofs.Prologue.{frame_end}
-use Rattle.icode_steps_proof.proofs.Paying.{none_passed, runs_pay, memory_entered, extents_entered}
+use Rattle.icode_expand_proof.specs.Frames.{CallersWait, unwound}
+use Rattle.icode_expand_proof.specs.Relation.{MemoryAgrees, ExtentsAgree, Holds, Pays}
+use Rattle.icode_expand_proof.specs.Settings.{Setting, places_of, Standing}
+use Rattle.icode_expand_proof.specs.Standing.{op_stands_at, Stands}
+use Rattle.icode_expand_proof.proofs.Codes.{front_stands}
+use Rattle.icode_expand_proof.proofs.Frames.{stacked_alike}
+use Rattle.icode_expand_proof.proofs.Beginning.{begins, overflows}
+use Rattle.icode_expand_proof.proofs.Prologue.{frame_end}
+use Rattle.icode_expand_proof.proofs.Paying.{none_passed, runs_pay, memory_entered, extents_entered}
 
 is_over : (a n : ℕ) → n < a → nat_le a n ≡ false
 is_over a n h = grind (arith, nat_tests)

@@ -22,14 +22,14 @@ use Rattle.icode_templates_proof.specs.Moves.{Runs, EndsIn}
 use Rattle.icode_templates_proof.proofs.Memory.{update_same, update_other}
 use Rattle.icode_templates_proof.proofs.Leaves.{leaves_run, runs_within, runs_on}
 use Rattle.icode_templates_proof.proofs.Operands.{one_in, in_leaves, keeps_one, load_gives, in_between}
-use Rattle.icode_frames_spec.specs.Frames.{Alike}
-use Rattle.icode_frames_spec.specs.Relation.{Holds, Pays}
-use Rattle.icode_frames_spec.specs.Settings.{Setting, places_of, Standing}
-use Rattle.icode_frames_spec.specs.Standing.{layout_of, op_stands_at, Stands}
-use Rattle.icode_frames_spec.proofs.Codes.{op_code, one_stands, code_low, next_at}
-use Rattle.icode_frames_spec.proofs.Frames.{spots, keeps_alike, alike_on}
-use Rattle.icode_frames_proof.proofs.Numbers.{row_data, set, none_ends, other_ends, row_goes}
-use Rattle.icode_steps_proof.proofs.Paying.{first_operand, stuck_pays}
+use Rattle.icode_expand_proof.specs.Frames.{Alike}
+use Rattle.icode_expand_proof.specs.Relation.{Holds, Pays}
+use Rattle.icode_expand_proof.specs.Settings.{Setting, places_of, Standing}
+use Rattle.icode_expand_proof.specs.Standing.{layout_of, op_stands_at, Stands}
+use Rattle.icode_expand_proof.proofs.Codes.{op_code, one_stands, code_low, next_at}
+use Rattle.icode_expand_proof.proofs.Frames.{spots, keeps_alike, alike_on}
+use Rattle.icode_expand_proof.proofs.Numbers.{row_data, set, none_ends, other_ends, row_goes}
+use Rattle.icode_expand_proof.proofs.Paying.{first_operand, stuck_pays}
 use Rattle.icode_expand_proof.proofs.Calls.{call_enters}
 use Rattle.icode_expand_proof.proofs.Entrance.{ends_pay, enter_pays}
 
@@ -78,7 +78,7 @@ module _ (s : Setting) (st : Standing s) (w : Frame) (arguments : ℕ → Option
   keeps : KeepsSpots d mid
   keeps = keeps_one ((layout_of f places).spot number) d
 
-  operand : Rattle.icode_steps_proof.proofs.Paying.Operand s w d number
+  operand : Rattle.icode_expand_proof.proofs.Paying.Operand s w d number
   operand = first_operand s st w d o number h.known h.ready i refl (and_parts (w.on number) true u).0
 
   is : mid.registers 24 ≡ w.values number

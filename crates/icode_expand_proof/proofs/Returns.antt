@@ -29,18 +29,18 @@ use Rattle.icode_templates_proof.proofs.Keeping.{with_registers, keeps_on, keeps
 use Rattle.icode_templates_proof.proofs.Memory.{update_same}
 use Rattle.icode_templates_proof.proofs.Operands.{one_in, in_leaves, keeps_one, load_gives, in_between}
 use Rattle.icode_templates_proof.proofs.Jumps.{jump_reaches}
-use Rattle.icode_frames_spec.specs.Frames.{Alike, CallersWait, unwound}
-use Rattle.icode_frames_spec.specs.Relation.{MemoryAgrees, ExtentsAgree, Holds, Pays}
-use Rattle.icode_frames_spec.specs.Settings.{Setting, places_of, Standing}
-use Rattle.icode_frames_spec.specs.Standing.{layout_of, op_stands_at, leave_at, Stands}
-use Rattle.icode_frames_spec.proofs.Memory.{memory_kept}
-use Rattle.icode_frames_spec.proofs.Codes.{aims_of, one_stands, code_low, leave_even}
-use Rattle.icode_frames_spec.proofs.Frames.{alike_on, keeps_alike, unwound_alike, word_alike, stacked_alike, spots}
-use Rattle.icode_frames_spec.proofs.Frames.{pointer_alike, held_30}
-use Rattle.icode_frames_proof.proofs.Entering.{exits}
-use Rattle.icode_frames_proof.proofs.Leaving.{leaves_function}
-use Rattle.icode_steps_proof.proofs.Paying.{none_passed, runs_pay, memory_left, extents_left, extents_kept}
-use Rattle.icode_steps_proof.proofs.Paying.{first_operand}
+use Rattle.icode_expand_proof.specs.Frames.{Alike, CallersWait, unwound}
+use Rattle.icode_expand_proof.specs.Relation.{MemoryAgrees, ExtentsAgree, Holds, Pays}
+use Rattle.icode_expand_proof.specs.Settings.{Setting, places_of, Standing}
+use Rattle.icode_expand_proof.specs.Standing.{layout_of, op_stands_at, leave_at, Stands}
+use Rattle.icode_expand_proof.proofs.Memory.{memory_kept}
+use Rattle.icode_expand_proof.proofs.Codes.{aims_of, one_stands, code_low, leave_even}
+use Rattle.icode_expand_proof.proofs.Frames.{alike_on, keeps_alike, unwound_alike, word_alike, stacked_alike, spots}
+use Rattle.icode_expand_proof.proofs.Frames.{pointer_alike, held_30}
+use Rattle.icode_expand_proof.proofs.Entering.{exits}
+use Rattle.icode_expand_proof.proofs.Leaving.{leaves_function}
+use Rattle.icode_expand_proof.proofs.Paying.{none_passed, runs_pay, memory_left, extents_left, extents_kept}
+use Rattle.icode_expand_proof.proofs.Paying.{first_operand}
 use Rattle.icode_expand_proof.specs.Laws.{ReturnsPay}
 
 -- the answer goes to $v0

@@ -38,23 +38,23 @@ use Rattle.meaning_state.specs.Shared.{Shared, limit_trap, are_objects, access_t
 use Rattle.meaning_state.specs.Operators.{bin_value, bin_trap, signed_trap, zero_trap}
 use Rattle.icode_templates_proof.specs.Spots.{Framed}
 use Rattle.icode_templates_proof.specs.Moves.{behind}
-use Rattle.icode_frames_spec.specs.Relation.{MemoryAgrees, Holds, Related, Pays}
-use Rattle.icode_frames_spec.specs.Settings.{Setting, places_of, Standing}
-use Rattle.icode_frames_spec.specs.Standing.{layout_of, op_stands_at, Stands}
-use Rattle.icode_frames_spec.proofs.Codes.{op_code, one_stands}
-use Rattle.icode_frames_spec.proofs.Frames.{spots}
-use Rattle.icode_frames_spec.proofs.Places.{slot_usable}
-use Rattle.icode_steps_proof.proofs.Accesses.{access_least, load_pays, store_pays}
-use Rattle.icode_steps_proof.proofs.Liveness.{op_found}
-use Rattle.icode_steps_proof.proofs.ObjectAddresses.{address_pays}
-use Rattle.icode_steps_proof.proofs.Operators.{un_pays, bin_pays, zero_check_pays, division_check_pays}
-use Rattle.icode_steps_proof.proofs.Ops.{const_pays, move_pays, jump_pays, zero_pays, nonzero_pays, label_pays}
-use Rattle.icode_steps_proof.proofs.Paying.{first_operand}
-use Rattle.icode_steps_proof.proofs.Recent.{IsOnward, IsGentle, head_gentle, load_gentle, at_any}
-use Rattle.icode_steps_proof.proofs.SystemCalls.{service_pays, service_least}
-use Rattle.icode_steps_proof.proofs.Zeroing.{round_pays, clear_pays}
-use Rattle.icode_steps_proof.specs.Served.{IsServed, Serving}
-use Rattle.icode_steps_proof.proofs.Allocating.{malloc_pays}
+use Rattle.icode_expand_proof.specs.Relation.{MemoryAgrees, Holds, Related, Pays}
+use Rattle.icode_expand_proof.specs.Settings.{Setting, places_of, Standing}
+use Rattle.icode_expand_proof.specs.Standing.{layout_of, op_stands_at, Stands}
+use Rattle.icode_expand_proof.proofs.Codes.{op_code, one_stands}
+use Rattle.icode_expand_proof.proofs.Frames.{spots}
+use Rattle.icode_expand_proof.proofs.Places.{slot_usable}
+use Rattle.icode_expand_proof.proofs.Accesses.{access_least, load_pays, store_pays}
+use Rattle.icode_expand_proof.proofs.Liveness.{op_found}
+use Rattle.icode_expand_proof.proofs.ObjectAddresses.{address_pays}
+use Rattle.icode_expand_proof.proofs.Operators.{un_pays, bin_pays, zero_check_pays, division_check_pays}
+use Rattle.icode_expand_proof.proofs.Ops.{const_pays, move_pays, jump_pays, zero_pays, nonzero_pays, label_pays}
+use Rattle.icode_expand_proof.proofs.Paying.{first_operand}
+use Rattle.icode_expand_proof.proofs.Recent.{IsOnward, IsGentle, head_gentle, load_gentle, at_any}
+use Rattle.icode_expand_proof.proofs.SystemCalls.{service_pays, service_least}
+use Rattle.icode_expand_proof.proofs.Zeroing.{round_pays, clear_pays}
+use Rattle.icode_expand_proof.specs.Served.{IsServed, Serving}
+use Rattle.icode_expand_proof.proofs.Allocating.{malloc_pays}
 use Rattle.icode_expand_proof.specs.Laws.{Arrives, ProgramIsSimulated, ProgramKeepsCode}
 use Rattle.icode_expand_proof.proofs.Arguments.{argument_pays, result_pays, parameter_pays}
 use Rattle.icode_expand_proof.proofs.Calls.{found_pays}

@@ -13,10 +13,10 @@ use Rattle.meaning_state.specs.Shared.{Shared}
 use Rattle.icode_ops.specs.declared.op.Op.TheVariants.{Call, Return}
 use Rattle.icode_meaning.specs.State.{Function, Frame, Log, State, see, least_at, most_at}
 use Rattle.icode_meaning.specs.Steps.{uses_on, call_at, back, left, paid, advance, first}
-use Rattle.icode_frames_spec.specs.Standing.{op_stands_at}
-use Rattle.icode_frames_spec.specs.Settings.{Setting, places_of, Standing}
-use Rattle.icode_frames_spec.specs.Relation.{MemoryAgrees, ExtentsAgree, Holds, Pays}
-use Rattle.icode_steps_proof.specs.Served.{Serving}
+use Rattle.icode_expand_proof.specs.Standing.{op_stands_at}
+use Rattle.icode_expand_proof.specs.Settings.{Setting, places_of, Standing}
+use Rattle.icode_expand_proof.specs.Relation.{MemoryAgrees, ExtentsAgree, Holds, Pays}
+use Rattle.icode_expand_proof.specs.Served.{Serving}
 use Rattle.limits.specs.declared.program.TheConstants.{FRAME_OBJECT_BYTES}
 
 -- A call and a return lead from a related state to a related state, within the cost of their ops, under all legal

@@ -7,3 +7,4 @@ pub mod Leaving
 pub mod Passing
 pub mod Wholes
 pub mod Emitting
+pub mod Inverse

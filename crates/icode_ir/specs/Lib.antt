@@ -5,3 +5,6 @@ pub mod Tables
 pub mod Draft
 pub mod Building
 pub mod Runs
+pub mod Codes
+pub mod Decoded
+pub mod CodeLaws

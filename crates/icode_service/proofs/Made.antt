@@ -10,14 +10,14 @@ use Rattle.word32.specs.declared.map.TheConstants.{STACK_BYTES}
 use Rattle.code_arena.specs.Arena.{Arena}
 use Rattle.icode_ops.specs.declared.op.Op.{Op}
 use Rattle.icode_ir.specs.Build.{Build, finished}
-use Rattle.icode_expand.specs.Expansion.{expanded, expansion}
+use Rattle.icode_templates.specs.Expansion.{expanded, expansion}
 use Rattle.icode_expand.specs.Laws.{WordsAreFew}
 use Rattle.icode_expand.proofs.Lengths.{length_words}
-use Rattle.icode_service_spec.specs.declared.bad_service.BadService.{BadService}
-use Rattle.icode_service_spec.specs.declared.bad_service.BadService.TheVariants as reason
-use Rattle.icode_service_spec.specs.Choices.{Choice, IsScanned}
-use Rattle.icode_service_spec.specs.Services.{is_arena_range, is_frame, is_done, finish_refusal, written_from}
-use Rattle.icode_service_spec.specs.Services.{arena_word}
+use Rattle.mips_model.specs.declared.bad_service.BadService.{BadService}
+use Rattle.mips_model.specs.declared.bad_service.BadService.TheVariants as reason
+use Rattle.mips_model.specs.Choices.{Choice, IsScanned}
+use Rattle.mips_model.specs.CodeServices.{is_arena_range, is_frame, is_done, finish_refusal, written_from}
+use Rattle.mips_model.specs.CodeServices.{arena_word}
 use Rattle.icode_service.specs.Made.{IsMade, IsShort}
 
 -- a frame that is large enough for a call isn't larger than the stack

@@ -8,11 +8,11 @@ use Rattle.code_arena.specs.Arena.{Arena}
 use Rattle.icode_ir.specs.declared.body.Body.{Body}
 use Rattle.icode_ir.specs.Build.{Build}
 use Rattle.icode_ir.specs.Building.{Building}
-use Rattle.icode_service_spec.specs.declared.bad_service.BadService.{BadService}
-use Rattle.icode_service_spec.specs.declared.bad_service.BadService.TheVariants as reason
-use Rattle.icode_service_spec.specs.Choices.{Choice}
-use Rattle.icode_service_spec.specs.Services as services
-use Rattle.icode_service_spec.specs.Services.{Generator, Rows, Outcome, Refused, Does, builds, unless, is_empty}
+use Rattle.mips_model.specs.declared.bad_service.BadService.{BadService}
+use Rattle.mips_model.specs.declared.bad_service.BadService.TheVariants as reason
+use Rattle.mips_model.specs.Choices.{Choice}
+use Rattle.mips_model.specs.CodeServices as services
+use Rattle.mips_model.specs.CodeServices.{Generator, Rows, Outcome, Refused, Does, builds, unless, is_empty}
 use Rattle.icode_service.specs.Served.{Did, ChosenFor}
 use Rattle.icode_service.specs.Held.{building, generator}
 

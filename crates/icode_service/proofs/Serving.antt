@@ -8,12 +8,12 @@ use Rattle.icode_ir.specs.declared.build_op.BuildOp.{BuildOp}
 use Rattle.icode_ir.specs.declared.build_op.BuildFault.{BuildFault}
 use Rattle.icode_ir.specs.Build.{Build}
 use Rattle.icode_ir.specs.Rules.{fault_of}
-use Rattle.icode_codes.specs.Decoded.{op_of}
-use Rattle.icode_service_spec.specs.declared.bad_service.BadService.{BadService}
-use Rattle.icode_service_spec.specs.declared.bad_service.BadService.TheVariants as reason
-use Rattle.icode_service_spec.specs.Choices.{Choice}
-use Rattle.icode_service_spec.specs.Services as services
-use Rattle.icode_service_spec.specs.Services.{Generator, Rows, Outcome, Refused, builds, unless}
+use Rattle.icode_ir.specs.Decoded.{op_of}
+use Rattle.mips_model.specs.declared.bad_service.BadService.{BadService}
+use Rattle.mips_model.specs.declared.bad_service.BadService.TheVariants as reason
+use Rattle.mips_model.specs.Choices.{Choice}
+use Rattle.mips_model.specs.CodeServices as services
+use Rattle.mips_model.specs.CodeServices.{Generator, Rows, Outcome, Refused, builds, unless}
 use Rattle.icode_service.specs.Served.{Did, IsChosen}
 use Rattle.icode_service.proofs.Outcomes.{refused, no_choice}
 use Rattle.icode_service.proofs.Finishes.{Finished}

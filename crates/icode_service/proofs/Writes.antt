@@ -6,8 +6,8 @@ use Rattle.std.proofs.lemmas.List.{drop_all}
 use Rattle.code_arena.specs.Arena.{Arena, written}
 use Rattle.icode_ops.specs.declared.interval.Interval.{Interval}
 use Rattle.icode_ops.specs.Live.{Each}
-use Rattle.icode_service_spec.specs.Choices.{one_spill, spilled}
-use Rattle.icode_service_spec.specs.Services.{written_from}
+use Rattle.mips_model.specs.Choices.{one_spill, spilled}
+use Rattle.mips_model.specs.CodeServices.{written_from}
 
 -- the rest of a list begins with its next item
 rest_is : {X : Type 0} → (xs : List X) (i : ℕ) (d : X) → i < length xs → drop i xs ≡ get_or xs i d ∷ drop (i + 1) xs

@@ -5,7 +5,7 @@ use Rattle.icode_ir.specs.declared.builder.Phase.TheVariants.{Begun}
 use Rattle.icode_ir.specs.Build.{Build}
 use Rattle.icode_ir.specs.Building.{Building}
 use Rattle.icode_ops.specs.declared.interval.Interval.{Interval}
-use Rattle.icode_service_spec.specs.Services.{Generator}
+use Rattle.mips_model.specs.CodeServices.{Generator}
 
 -- the builder's function, where one is begun
 abbrev pub building : Bool → Building → Option Build

@@ -2,10 +2,10 @@
 use Rattle.std.specs.Prelude.{ℕ, ◌≡◌, ◌<◌, ◌≤◌, ◌⊎◌, List, Some, None, length}
 use Rattle.code_arena.specs.Arena.{Arena}
 use Rattle.icode_ir.specs.Build.{Build, finished}
-use Rattle.icode_service_spec.specs.declared.bad_service.BadService.{BadService}
-use Rattle.icode_service_spec.specs.declared.bad_service.BadService.TheVariants.{Short}
-use Rattle.icode_service_spec.specs.Choices.{Choice, IsScanned}
-use Rattle.icode_service_spec.specs.Services.{finish_refusal, words_of, written_from, arena_word}
+use Rattle.mips_model.specs.declared.bad_service.BadService.{BadService}
+use Rattle.mips_model.specs.declared.bad_service.BadService.TheVariants.{Short}
+use Rattle.mips_model.specs.Choices.{Choice, IsScanned}
+use Rattle.mips_model.specs.CodeServices.{finish_refusal, words_of, written_from, arena_word}
 
 -- the function has these places and so many spills, which are those of linear scan, and its words were written
 pub record IsMade (b : Build) (at most frame : ℕ) (before after : Arena) (places : List ℕ) (spills words : ℕ) : Type 0

@@ -2,9 +2,9 @@
 use Rattle.std.specs.Prelude.{ℕ, ◌≡◌, Option, Some, None, Result, Ok, Err}
 use Rattle.code_arena.specs.Arena.{Arena}
 use Rattle.icode_ir.specs.Build.{Build, finished}
-use Rattle.icode_service_spec.specs.declared.bad_service.BadService.{BadService}
-use Rattle.icode_service_spec.specs.Choices.{Choice, IsScanned}
-use Rattle.icode_service_spec.specs.Services.{Generator, Rows, Outcome, Refused, Does, finish_refusal}
+use Rattle.mips_model.specs.declared.bad_service.BadService.{BadService}
+use Rattle.mips_model.specs.Choices.{Choice, IsScanned}
+use Rattle.mips_model.specs.CodeServices.{Generator, Rows, Outcome, Refused, Does, finish_refusal}
 
 -- the service was refused and nothing has changed, or it did what it does
 abbrev pub Did :

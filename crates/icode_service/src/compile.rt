@@ -5,7 +5,7 @@ ghost use Rattle.limits.specs.declared.ops.TheConstants.{MOST_REGISTERS};
 ghost use Rattle.code_arena.specs.Kept.{arena_of};
 ghost use Rattle.icode_ops.specs.Finished.{IsFinished};
 ghost use Rattle.icode_ir.specs.Build.{Build, finished};
-ghost use Rattle.icode_service_spec.specs.Services as services;
+ghost use Rattle.mips_model.specs.CodeServices as services;
 ghost use Rattle.icode_service.specs.Made.{IsMade, IsBad};
 
 use crate::table::is_arena_range;
@@ -13,8 +13,8 @@ use crate::tables::Tables;
 use code_arena::CodeArena;
 use icode_ir::{Builder, Phase};
 use icode_ops::Op;
-use icode_service_spec::BadService;
 use limits::run::STACK_OF_A_CALL;
+use mips_model::BadService;
 use word32::map;
 
 /// What a finished function has: so many words in the arena, and so many spills.

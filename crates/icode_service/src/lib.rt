@@ -2,7 +2,7 @@
 //! into words of the arena, the words are flushed, and the function is published.
 //!
 //! A service is refused for the first reason that holds, and changes nothing then. The definitions stand in the crate
-//! `icode_service_spec`.
+//! `mips_model`.
 #![tactic(auto)]
 
 mod compile;
@@ -11,6 +11,6 @@ mod table;
 mod tables;
 mod words;
 
-pub use icode_service_spec::BadService;
+pub use mips_model::BadService;
 pub use service::Service;
 pub use table::{flush, publish};

@@ -4,9 +4,9 @@ ghost use Rattle.std.specs.Prelude.{◌≡◌, ◌+◌, ◌^◌, ◌≤◌, IfOk
 ghost use Rattle.limits.specs.declared.ops.TheConstants.{MOST_REGISTERS};
 ghost use Rattle.code_arena.specs.Arena.{Arena};
 ghost use Rattle.code_arena.specs.Kept.{arena_of, rows_of};
-ghost use Rattle.icode_service_spec.specs.Choices.{Choice};
-ghost use Rattle.icode_service_spec.specs.Services as services;
-ghost use Rattle.icode_service_spec.specs.Services.{Rows};
+ghost use Rattle.mips_model.specs.Choices.{Choice};
+ghost use Rattle.mips_model.specs.CodeServices as services;
+ghost use Rattle.mips_model.specs.CodeServices.{Rows};
 ghost use Rattle.icode_service.specs.Served.{Did, ChosenFor, IsChosen};
 
 use crate::compile::compile;
@@ -14,10 +14,10 @@ use crate::table::{flush, publish};
 use crate::tables::Tables;
 use code_arena::{CodeArena, FunctionRows};
 use icode_ir::Builder;
-use icode_service_spec::BadService;
 use limits::ops::MOST_REGISTERS;
 use limits::program::MOST_ARGUMENTS;
 use linear_scan::SLOT;
+use mips_model::BadService;
 use std::alloc::{AllocError, Global};
 use std::marker::Model;
 use std::mem::swap;
@@ -38,7 +38,7 @@ pub struct Service {
 }
 
 impl Model for Service {
-    ghost use Rattle.icode_service_spec.specs.Services.{Generator};
+    ghost use Rattle.mips_model.specs.CodeServices.{Generator};
     ghost use Rattle.icode_service.specs.Held.{generator, IsService};
 
     ghost Value = { Generator };
@@ -139,7 +139,7 @@ impl Service {
         if !self.is_begun {
             return Err(BadService::NotBegun);
         }
-        let Some(op) = icode_codes::op(code, first, second) else {
+        let Some(op) = icode_ir::op(code, first, second) else {
             return Err(BadService::BadArgument);
         };
         if let Err(_) = self.builder.emit(op) {

@@ -2,14 +2,14 @@
 
 ghost use Rattle.std.specs.Prelude.{◌≡◌};
 ghost use Rattle.code_arena.specs.Kept.{arena_of, rows_of};
-ghost use Rattle.icode_service_spec.specs.Services as services;
-ghost use Rattle.icode_service_spec.specs.Services.{Generator, Rows};
+ghost use Rattle.mips_model.specs.CodeServices as services;
+ghost use Rattle.mips_model.specs.CodeServices.{Generator, Rows};
 ghost use Rattle.icode_service.specs.Served.{Did};
 ghost use Rattle.code_arena.specs.Arena.{Arena};
 
 use code_arena::{CodeArena, FunctionRows};
-use icode_service_spec::BadService;
 use limits::program::MOST_ARGUMENTS;
+use mips_model::BadService;
 use word32::map;
 
 /// Whether so many words from an address on are in the arena, and the address is that of one.

@@ -7,9 +7,9 @@ ghost use Rattle.code_arena.specs.Kept.{arena_of};
 ghost use Rattle.icode_ops.specs.Finished.{Below, IsFinished};
 ghost use Rattle.icode_ops.specs.Flow.{label_of, op_at};
 ghost use Rattle.icode_ops.specs.Live.{Each};
-ghost use Rattle.icode_expand.specs.Expansion.{expanded};
-ghost use Rattle.icode_service_spec.specs.Choices.{IsScanned, one_spill, spilled};
-ghost use Rattle.icode_service_spec.specs.Services.{arena_word, is_arena_range, written_from};
+ghost use Rattle.icode_templates.specs.Expansion.{expanded};
+ghost use Rattle.mips_model.specs.Choices.{IsScanned, one_spill, spilled};
+ghost use Rattle.mips_model.specs.CodeServices.{arena_word, is_arena_range, written_from};
 
 use crate::words::write_words;
 use code_arena::CodeArena;

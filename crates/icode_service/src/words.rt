@@ -3,7 +3,7 @@
 ghost use Rattle.std.specs.Prelude.{◌≡◌, ◌+◌, ◌≤◌, length};
 ghost use Rattle.word32.specs.declared.map.TheConstants.{ARENA_WORDS};
 ghost use Rattle.code_arena.specs.Kept.{arena_of};
-ghost use Rattle.icode_service_spec.specs.Services.{written_from};
+ghost use Rattle.mips_model.specs.CodeServices.{written_from};
 
 use code_arena::CodeArena;
 

@@ -3,3 +3,5 @@ pub mod Words
 pub mod Layout
 pub mod Templates
 pub mod Seen
+pub mod Frames
+pub mod Expansion

@@ -1,4 +1,5 @@
-//! The instructions of each op of the intermediate code.
+//! The instructions of each op of the intermediate code. As definitions also those of a whole function, which the crate
+//! `icode_expand` gives: its prologue, the templates of its ops, and its epilogue.
 #![tactic(auto)]
 
 pub mod assembly;

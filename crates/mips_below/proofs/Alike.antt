@@ -30,11 +30,11 @@ use Rattle.mips_encoder.specs.declared.instruction.MemoryOp.TheVariants.{Lb, Lh,
 use Rattle.mips_model.specs.declared.service.Service.{Service}
 use Rattle.mips_model.specs.declared.service.Service.TheVariants as service
 use Rattle.icode_ir.specs.Build.{Build}
-use Rattle.icode_service_spec.specs.Choices.{Choice}
-use Rattle.icode_service_spec.specs.Services as services
-use Rattle.icode_service_spec.specs.Services.{Generator, Outcome, Refused, Does, written_from}
-use Rattle.icode_service_spec.specs.declared.bad_service.BadService.{BadService}
-use Rattle.icode_service_spec.specs.declared.bad_service.BadService.TheVariants as bad
+use Rattle.mips_model.specs.Choices.{Choice}
+use Rattle.mips_model.specs.CodeServices as services
+use Rattle.mips_model.specs.CodeServices.{Generator, Outcome, Refused, Does, written_from}
+use Rattle.mips_model.specs.declared.bad_service.BadService.{BadService}
+use Rattle.mips_model.specs.declared.bad_service.BadService.TheVariants as bad
 use Rattle.mips_model.specs.State.{Making, Data, register}
 use Rattle.mips_model.specs.Services.{service_of, serve, get, got, read, makes, writes, generator_of, next_choice}
 use Rattle.mips_model.specs.Services.{spent, flushed_once}

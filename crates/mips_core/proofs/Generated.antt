@@ -2,10 +2,10 @@
 use Rattle.std.proofs.Common.{ℕ, ◌≡◌, Option, None, Result, Ok, Err, ap, subst, ◌∙◌}
 use Rattle.code_arena.specs.Arena.{Arena}
 use Rattle.code_arena.specs.Kept.{arena_of, rows_of}
-use Rattle.icode_service_spec.specs.declared.bad_service.BadService.{BadService}
-use Rattle.icode_service_spec.specs.Choices.{Choice}
-use Rattle.icode_service_spec.specs.Services as services
-use Rattle.icode_service_spec.specs.Services.{Generator, Rows, Outcome, Refused, Does}
+use Rattle.mips_model.specs.declared.bad_service.BadService.{BadService}
+use Rattle.mips_model.specs.Choices.{Choice}
+use Rattle.mips_model.specs.CodeServices as services
+use Rattle.mips_model.specs.CodeServices.{Generator, Rows, Outcome, Refused, Does}
 use Rattle.icode_service.specs.Served.{Did, IsChosen}
 use Rattle.mips_model.specs.State.{World}
 use Rattle.mips_model.specs.Steps.{going}

@@ -19,8 +19,8 @@ use Rattle.mips_core.specs.declared.halt.Halt.TheVariants.{Ended, Fault}
 use Rattle.mips_core.specs.declared.halt.Went.{Went}
 use Rattle.mips_core.specs.declared.halt.Went.TheVariants as went
 use Rattle.mips_encoder.specs.declared.instruction.Instr.{Instr}
-use Rattle.icode_service_spec.specs.declared.bad_service.BadService.{BadService}
-use Rattle.icode_service_spec.specs.Services.{Rows}
+use Rattle.mips_model.specs.declared.bad_service.BadService.{BadService}
+use Rattle.mips_model.specs.CodeServices.{Rows}
 use Rattle.mips_model.specs.State.{Outside, Code, Data, State, World, set_register}
 use Rattle.mips_model.specs.Run.{first_outside}
 use Rattle.mips_encoder.specs.declared.instruction.Instr.TheVariants.{Break, Syscall}

@@ -4,9 +4,9 @@ ghost use Rattle.std.specs.Prelude.{◌≡◌, ◌+◌, ◌-◌, ◌*◌, ◌/�
 ghost use Rattle.code_arena.specs.Arena.{Arena};
 ghost use Rattle.limits.specs.declared.ops.TheConstants.{MOST_REGISTERS};
 ghost use Rattle.icode_service.specs.Served.{Did, IsChosen};
-ghost use Rattle.icode_service_spec.specs.Choices.{Choice};
-ghost use Rattle.icode_service_spec.specs.Services as generating;
-ghost use Rattle.icode_service_spec.specs.Services.{Rows};
+ghost use Rattle.mips_model.specs.Choices.{Choice};
+ghost use Rattle.mips_model.specs.CodeServices as generating;
+ghost use Rattle.mips_model.specs.CodeServices.{Rows};
 ghost use Rattle.mips_model.specs.State.{register};
 ghost use Rattle.mips_model.specs.Steps as steps;
 ghost use Rattle.mips_core.specs.Core as spec;

@@ -6,11 +6,11 @@ use Rattle.word32.specs.declared.map.TheConstants.{ARENA_WORDS}
 use Rattle.limits.specs.declared.ops.TheConstants.{MOST_REGISTERS}
 use Rattle.code_arena.specs.Arena.{Arena}
 use Rattle.icode_service.specs.Served.{Did}
-use Rattle.icode_service_spec.specs.declared.bad_service.BadService.{BadService}
-use Rattle.icode_service_spec.proofs.Small.{answers-are-small}
-use Rattle.icode_service_spec.specs.Choices.{Choice}
-use Rattle.icode_service_spec.specs.Services as services
-use Rattle.icode_service_spec.specs.Services.{Generator, Rows, Outcome, Refused, Does}
+use Rattle.mips_model.specs.declared.bad_service.BadService.{BadService}
+use Rattle.mips_model.proofs.Small.{answers-are-small}
+use Rattle.mips_model.specs.Choices.{Choice}
+use Rattle.mips_model.specs.CodeServices as services
+use Rattle.mips_model.specs.CodeServices.{Generator, Rows, Outcome, Refused, Does}
 use Rattle.mips_model.specs.declared.service.Service.{Service}
 use Rattle.mips_model.specs.declared.service.Service.TheVariants.{PutInt, Exit, PutByte, GetByte, Begin, Emit, Finish}
 use Rattle.mips_model.specs.declared.service.Service.TheVariants.{Flush, Publish}

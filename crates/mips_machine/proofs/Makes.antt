@@ -11,12 +11,12 @@ use Rattle.icode_ir.specs.declared.build_op.BuildOp.{BuildOp}
 use Rattle.icode_ir.specs.declared.build_op.BuildFault.{BuildFault}
 use Rattle.icode_ir.specs.Build.{Build}
 use Rattle.icode_ir.specs.Rules.{fault_of}
-use Rattle.icode_codes.specs.Decoded.{op_of}
-use Rattle.icode_service_spec.specs.declared.bad_service.BadService.{BadService}
-use Rattle.icode_service_spec.specs.declared.bad_service.BadService.TheVariants.{OutsideArena, Short, BadRow}
-use Rattle.icode_service_spec.specs.Choices.{Choice}
-use Rattle.icode_service_spec.specs.Services as services
-use Rattle.icode_service_spec.specs.Services.{Generator, Rows, Outcome, Refused, Does}
+use Rattle.icode_ir.specs.Decoded.{op_of}
+use Rattle.mips_model.specs.declared.bad_service.BadService.{BadService}
+use Rattle.mips_model.specs.declared.bad_service.BadService.TheVariants.{OutsideArena, Short, BadRow}
+use Rattle.mips_model.specs.Choices.{Choice}
+use Rattle.mips_model.specs.CodeServices as services
+use Rattle.mips_model.specs.CodeServices.{Generator, Rows, Outcome, Refused, Does}
 use Rattle.mips_model.specs.declared.service.Service.{Service}
 use Rattle.mips_model.specs.declared.service.Service.TheVariants.{Begin, Emit, Finish, Flush, Publish}
 use Rattle.mips_model.specs.State.{Making, register}

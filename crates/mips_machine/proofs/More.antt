@@ -8,8 +8,8 @@ use Rattle.std.proofs.lemmas.Bool.{false≢true, cases_Bool, cases_lt}
 use Rattle.history.specs.Events.{Item, Out, In, Made, Entered, End, Input, output, outs}
 use Rattle.icode_ir.specs.Build.{Build, finished}
 use Rattle.icode_service.specs.Served.{ChosenFor}
-use Rattle.icode_service_spec.specs.Choices.{Choice}
-use Rattle.icode_service_spec.proofs.Legal.{choices-are-legal}
+use Rattle.mips_model.specs.Choices.{Choice}
+use Rattle.mips_model.proofs.Legal.{choices-are-legal}
 use Rattle.mips_encoder.specs.declared.instruction.Instr.TheVariants.{Syscall}
 use Rattle.mips_model.specs.State.{World, register}
 use Rattle.mips_model.specs.Services.{generator_of, next_choice}

@@ -5,7 +5,7 @@ use Rattle.std.specs.Fn.{iterate}
 use Rattle.std.proofs.KnownBytes.{Consumes-nil, Appends-nil}
 use Rattle.std.proofs.lemmas.Bool.{false≢true}
 use Rattle.history.specs.Events.{End, Input}
-use Rattle.icode_service_spec.specs.Services.{Generator}
+use Rattle.mips_model.specs.CodeServices.{Generator}
 use Rattle.mips_encoder.specs.declared.instruction.Instr.TheVariants.{Syscall}
 use Rattle.mips_model.specs.State.{Outside, World, register}
 use Rattle.mips_model.specs.Steps.{step, run, is_hazard}

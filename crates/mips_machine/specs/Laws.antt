@@ -3,7 +3,7 @@
 -- choice of places, that of linear scan.
 use Rattle.std.specs.Prelude.{◌≡◌, ◌≢◌, ℕ, ◌+◌, ◌<◌, false, List, Option, Some, None}
 use Rattle.history.specs.Events.{Input, outs}
-use Rattle.icode_service_spec.specs.Choices.{Choice}
+use Rattle.mips_model.specs.Choices.{Choice}
 use Rattle.mips_model.specs.Steps.{run}
 use Rattle.image_file.specs.Image.{ImageParts}
 use Rattle.mips_model.specs.Run.{begins, steps_within, IsWellChosen}

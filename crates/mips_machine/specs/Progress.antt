@@ -6,8 +6,8 @@ use Rattle.word32.specs.declared.map.TheConstants.{ARENA_WORDS}
 use Rattle.limits.specs.declared.ops.TheConstants.{MOST_REGISTERS}
 use Rattle.history.specs.Events.{Item, End, Input}
 use Rattle.image_file.specs.Image.{ImageParts}
-use Rattle.icode_service_spec.specs.Choices.{Choice}
-use Rattle.icode_service_spec.specs.Services.{Generator}
+use Rattle.mips_model.specs.Choices.{Choice}
+use Rattle.mips_model.specs.CodeServices.{Generator}
 use Rattle.mips_model.specs.State.{Built, Finish, Making, Outside, State, World}
 use Rattle.mips_model.specs.Beside.{beside_state}
 use Rattle.mips_model.specs.Run.{first_making, first_outside, first_state}

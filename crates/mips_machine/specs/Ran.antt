@@ -8,7 +8,7 @@ use Rattle.host_edge.specs.Causes.{Rose}
 use Rattle.history.specs.Events.{Item, Out, In, Made, Entered, End, Input, output, outs}
 use Rattle.history.specs.Events as event
 use Rattle.icode_service.specs.Served.{ChosenFor}
-use Rattle.icode_service_spec.specs.Choices.{Choice}
+use Rattle.mips_model.specs.Choices.{Choice}
 use Rattle.mips_model.specs.State.{World, register}
 use Rattle.mips_model.specs.Services.{generator_of, next_choice}
 use Rattle.mips_model.specs.Steps.{run}

@@ -6,9 +6,9 @@ use Rattle.host_edge.specs.Moves.{TakesFront}
 use Rattle.host_edge.specs.declared.ending.MachineKind.TheVariants as kind
 use Rattle.code_arena.specs.Arena.{Arena}
 use Rattle.icode_service.specs.Served.{IsChosen}
-use Rattle.icode_service_spec.specs.Choices.{Choice}
-use Rattle.icode_service_spec.specs.Services as services
-use Rattle.icode_service_spec.specs.Services.{Generator, Rows, Outcome, Refused, Does}
+use Rattle.mips_model.specs.Choices.{Choice}
+use Rattle.mips_model.specs.CodeServices as services
+use Rattle.mips_model.specs.CodeServices.{Generator, Rows, Outcome, Refused, Does}
 use Rattle.mips_core.specs.declared.halt.Halt.{Halt}
 use Rattle.mips_core.specs.declared.halt.Halt.TheVariants as halt
 use Rattle.mips_model.specs.State.{Outside, register}

@@ -1,3 +1,6 @@
+pub mod Legal
+pub mod Small
+pub mod Standing
 pub mod Aside
 pub mod Runs
 pub mod Reach

@@ -15,10 +15,10 @@ use Rattle.mips_encoder.specs.declared.instruction.Instr.TheVariants.{Syscall}
 use Rattle.mips_model.specs.declared.service.Service.{Service}
 use Rattle.mips_model.specs.declared.service.Service.TheVariants.{PutInt, Exit, PutByte, GetByte, Begin, Emit, Finish}
 use Rattle.mips_model.specs.declared.service.Service.TheVariants.{Flush, Publish}
-use Rattle.icode_codes.specs.Decoded.{op_of}
-use Rattle.icode_service_spec.specs.Choices.{Choice}
-use Rattle.icode_service_spec.specs.Services as services
-use Rattle.icode_service_spec.specs.Services.{Outcome, Refused, Does}
+use Rattle.icode_ir.specs.Decoded.{op_of}
+use Rattle.mips_model.specs.Choices.{Choice}
+use Rattle.mips_model.specs.CodeServices as services
+use Rattle.mips_model.specs.CodeServices.{Outcome, Refused, Does}
 use Rattle.mips_model.specs.State.{Making, Outside, State, World, register}
 use Rattle.mips_model.specs.Services.{service_of, serve, get, got, read, makes, writes, generator_of}
 use Rattle.mips_model.specs.Services.{next_choice, begun_with, issued_with, spent, published_once, flushed_once}

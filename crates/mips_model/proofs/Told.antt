@@ -8,9 +8,9 @@ use Rattle.pace.specs.Pace.{Seen}
 use Rattle.pace.specs.Claims.{Grows}
 use Rattle.history.specs.Events.{Item, End, Input}
 use Rattle.image_file.specs.Image.{ImageParts}
-use Rattle.icode_service_spec.specs.Choices.{Choice}
-use Rattle.icode_service_spec.specs.Services as services
-use Rattle.icode_service_spec.specs.Services.{Outcome}
+use Rattle.mips_model.specs.Choices.{Choice}
+use Rattle.mips_model.specs.CodeServices as services
+use Rattle.mips_model.specs.CodeServices.{Outcome}
 use Rattle.mips_model.specs.State.{Finish, State, World, register}
 use Rattle.mips_model.specs.Services.{generator_of}
 use Rattle.mips_model.specs.Steps.{Fetched, Refused, Is, fetch, step, run}

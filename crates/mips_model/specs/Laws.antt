@@ -6,7 +6,7 @@ use Rattle.std.specs.Fn.{iterate}
 use Rattle.pace.specs.Claims as claims
 use Rattle.history.specs.Events.{End, Input}
 use Rattle.image_file.specs.Image.{ImageParts}
-use Rattle.icode_service_spec.specs.Choices.{Choice}
+use Rattle.mips_model.specs.Choices.{Choice}
 use Rattle.mips_encoder.specs.declared.instruction.Instr.{Instr}
 use Rattle.mips_model.specs.State.{Code, Data, State, World}
 use Rattle.mips_model.specs.Steps.{Is, fetch, step, run, going}

@@ -1,3 +1,7 @@
+pub mod Reasons
+pub mod Choices
+pub mod CodeServices
+pub mod ServiceLaws
 pub mod State
 pub mod Arithmetic
 pub mod Accesses

@@ -13,8 +13,8 @@ use Rattle.code_arena.specs.declared.arena.WordState.TheVariants.{Unwritten, Wri
 use Rattle.image_file.specs.Image.{ImageParts}
 use Rattle.image_file.specs.declared.image.FunctionEntry.{FunctionEntry}
 use Rattle.icode_ir.specs.Build.{Build, finished}
-use Rattle.icode_service_spec.specs.Choices.{Choice, IsLegalChoice}
-use Rattle.icode_service_spec.specs.Services.{fresh, finish_refusal}
+use Rattle.mips_model.specs.Choices.{Choice, IsLegalChoice}
+use Rattle.mips_model.specs.CodeServices.{fresh, finish_refusal}
 use Rattle.mips_encoder.specs.declared.instruction.Instr.TheVariants.{Syscall}
 use Rattle.mips_model.specs.State.{Making, Outside, Data, State, World, register}
 use Rattle.mips_model.specs.Services.{generator_of, next_choice}

@@ -10,10 +10,10 @@ use Rattle.mips_model.specs.declared.service.Service.{Service}
 use Rattle.mips_model.specs.declared.service.Service.TheVariants.{PutInt, Exit, PutByte, GetByte, Begin, Emit, Finish}
 use Rattle.mips_model.specs.declared.service.Service.TheVariants.{Flush, Publish}
 use Rattle.icode_ir.specs.declared.build_op.BuildOp.{BuildOp}
-use Rattle.icode_codes.specs.Decoded.{op_of}
-use Rattle.icode_service_spec.specs.Choices.{Choice}
-use Rattle.icode_service_spec.specs.Services as services
-use Rattle.icode_service_spec.specs.Services.{Generator, Rows, Outcome, Refused, Does}
+use Rattle.icode_ir.specs.Decoded.{op_of}
+use Rattle.mips_model.specs.Choices.{Choice}
+use Rattle.mips_model.specs.CodeServices as services
+use Rattle.mips_model.specs.CodeServices.{Generator, Rows, Outcome, Refused, Does}
 use Rattle.mips_model.specs.State.{Built, Making, Outside, Data, register, set_register}
 use Rattle.mips_model.specs.Accesses.{Effect, Plain, Changes, Ends, Faults, InputFails}
 

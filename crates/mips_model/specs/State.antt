@@ -7,8 +7,8 @@ use Rattle.word32.specs.Space.{update}
 use Rattle.code_arena.specs.Arena.{Arena}
 use Rattle.history.specs.Events.{Item, End, Input}
 use Rattle.icode_ir.specs.declared.build_op.BuildOp.{BuildOp}
-use Rattle.icode_service_spec.specs.Choices.{Choice}
-use Rattle.icode_service_spec.specs.Services.{Generator}
+use Rattle.mips_model.specs.Choices.{Choice}
+use Rattle.mips_model.specs.CodeServices.{Generator}
 
 -- what can be executed: the image's text, by word number, and the arena of compiled code
 pub record Code : Type 0 where

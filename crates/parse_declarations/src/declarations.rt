@@ -9,9 +9,8 @@ ghost use Rattle.parse_grammar.specs.Statements.{room_of};
 ghost use Rattle.parse_grammar.specs.Nests.{Nests};
 
 use parse_declarators::Declarators;
-use parse_expressions::Expressions;
+use parse_expressions::{Expressions, Operands};
 use parse_grammar::{Grammar, Mark, Mode, Part, Stop, Tokens, base, enter};
-use parse_operands::Operands;
 use sqlite_items::Items;
 use std::alloc::Global;
 use tick_tree::{Declaration, Declarator, Expr, Init, Initializer, Stmt};

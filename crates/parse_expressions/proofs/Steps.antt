@@ -8,7 +8,7 @@ use Rattle.parse_grammar.specs.Input.{Input, kind, line, and_then, ◌>>=◌}
 use Rattle.parse_grammar.specs.Steps.{Room, chain, enter}
 use Rattle.parse_grammar.specs.Expressions.{comma_of, comma_step, binary_of, binary_step, level, unary}
 use Rattle.parse_grammar.proofs.Rooms.{chain_stops}
-use Rattle.parse_operands.proofs.Steps.{chain_goes}
+use Rattle.parse_expressions.proofs.Chains.{chain_goes}
 
 some_unit : (o : Option (Unit {0})) → is_some o ≡ true → o ≡ Some tt
 some_unit None h = let q : ⊥ = cc in absurd q

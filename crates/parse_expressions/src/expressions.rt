@@ -1,6 +1,6 @@
 //! What reads expressions.
 
-use parse_operands::Operands;
+use crate::postfixes::Operands;
 
 /// The productions of expressions above their operands. Each takes the number of levels that may still open.
 #[derive(Clone, Copy)]

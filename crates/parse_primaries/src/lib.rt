@@ -1,8 +1,13 @@
-//! Primary expressions, read from tokens, and the lists in brackets: arguments of calls, and blocks.
+//! Primary expressions, read from tokens, and the lists in brackets: arguments of calls, and blocks. The operands that
+//! hold a type name are read first: `compile`, `local`, `param`, `sizeof` and casts.
 #![tactic(auto)]
 
 mod leaves;
 mod nodes;
 mod primaries;
+mod staged;
+mod typename_nodes;
+mod typenames;
 
 pub use primaries::Primaries;
+pub use typenames::Typenames;

@@ -9,8 +9,8 @@ ghost use Rattle.parse_grammar.specs.Nests.{Nests};
 
 use crate::leaves::{character, name, number, string};
 use crate::nodes;
+use crate::typenames::Typenames;
 use parse_grammar::{Grammar, Kind, Mark, Mode, Part, Stop, Tokens, enter, enter_paren};
-use parse_typenames::Typenames;
 use sqlite_items::Items;
 use std::alloc::Global;
 use tick_tree::{Declarator, Expr, Stmt};

@@ -10,9 +10,8 @@ ghost use Rattle.parse_grammar.specs.Nests.{Nests};
 
 use crate::first_words::{begins_first, begins_stmt};
 use parse_declarations::Declarations;
-use parse_expressions::Expressions;
+use parse_expressions::{Expressions, Operands};
 use parse_grammar::{Grammar, Kind, Mark, Mode, Part, Stop, Tokens, Word, descend, enter_paren};
-use parse_operands::Operands;
 use parse_primaries::Primaries;
 use sqlite_items::Boxed;
 use std::alloc::Global;

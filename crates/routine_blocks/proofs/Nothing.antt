@@ -7,7 +7,7 @@ use Rattle.icode_templates.specs.Assembly.{nop}
 use Rattle.icode_templates.specs.Words.{words}
 use Rattle.icode_templates.proofs.Appended.{words_append}
 use Rattle.compile_spec.specs.Routine.{compile_code, tests_code, build_code, make_code, traps_code}
-use Rattle.spec_closure.specs.Routines.{new_code}
+use Rattle.icode_templates_proof.specs.Routines.{new_code}
 use Rattle.routine_blocks.specs.Blocks.{nothing_words, filled, no_routines, last_words}
 
 -- a word of nop more, where some are left

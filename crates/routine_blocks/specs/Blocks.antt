@@ -7,10 +7,12 @@ use Rattle.mips_encoder.specs.declared.instruction.Instr.{Instr}
 use Rattle.icode_templates.specs.Assembly.{scratch, bne, beq, nop, trap}
 use Rattle.icode_templates.specs.Templates.{trap_if_zero, trap_unless_zero}
 use Rattle.icode_templates.specs.Words.{words}
-use Rattle.spec_closure.specs.Malloc.{malloc_code, v1}
-use Rattle.spec_closure.specs.Routines.{begin_code, local_code, parameter_code, new_code, check_code, live_code}
-use Rattle.spec_closure.specs.Routines.{find_code, load_row_code, load_kind_code, add_code, bad_spec, AnExpression}
-use Rattle.spec_closure.specs.Routines.{AStatement, AVariable}
+use Rattle.icode_templates_proof.specs.Malloc.{malloc_code, v1}
+use Rattle.icode_templates_proof.specs.Routines.{begin_code, local_code, parameter_code, new_code, check_code}
+use Rattle.icode_templates_proof.specs.Routines.{live_code}
+use Rattle.icode_templates_proof.specs.Routines.{find_code, load_row_code, load_kind_code, add_code, bad_spec}
+use Rattle.icode_templates_proof.specs.Routines.{AnExpression}
+use Rattle.icode_templates_proof.specs.Routines.{AStatement, AVariable}
 use Rattle.compile_spec.specs.Routine.{compile_code}
 
 -- so many words of nop

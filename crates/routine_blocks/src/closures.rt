@@ -2,8 +2,8 @@
 
 ghost use Rattle.std.specs.Prelude.{◌≡◌, ◌+◌, ◌++◌, ◌∷◌, ◌<◌, ◌≤◌, length};
 ghost use Rattle.icode_templates.specs.Words.{words};
-ghost use Rattle.spec_closure.specs.Malloc.{malloc_code, measure_code, pass_code, return_code, take_code};
-ghost use Rattle.spec_closure.specs.Routines as routine;
+ghost use Rattle.icode_templates_proof.specs.Malloc.{malloc_code, measure_code, pass_code, return_code, take_code};
+ghost use Rattle.icode_templates_proof.specs.Routines as routine;
 ghost use Rattle.routine_blocks.specs.Blocks.{tested_code, trap_codes};
 
 use crate::numbers::{

@@ -12,13 +12,13 @@ use Rattle.icode_ir.specs.declared.build_op.BuildOp.{BuildOp}
 use Rattle.icode_ir.specs.declared.build_op.BuildOp.TheVariants.{Return}
 use Rattle.icode_ir.specs.Build.{Build, empty, finished, innermost, operand}
 use Rattle.icode_ops.specs.declared.op.Op.TheVariants as op
-use Rattle.icode_expand.specs.Expansion.{expansion}
+use Rattle.icode_templates.specs.Expansion.{expansion}
 use Rattle.icode_expand.proofs.Lengths.{length_words}
 use Rattle.icode_expand.proofs.Most.{words_most}
 use Rattle.std.proofs.lemmas.List.{length-append}
 use Rattle.staged_meaning.specs.Program.{syntax_size}
 use Rattle.tick_lower_spec.specs.Specifications.{specification_ops}
-use Rattle.spec_closure.specs.Closures.{Closure}
+use Rattle.icode_templates_proof.specs.Closures.{Closure}
 use Rattle.spec_rows_proof.specs.Relation.{Text, IsOf, AllStandFor}
 use Rattle.cgf_spec.specs.Laws.{AreTaken, built_of}
 use Rattle.cgf_spec.specs.Pieces.{syntax_ops}
@@ -26,12 +26,12 @@ use Rattle.host_edge.specs.declared.ending.TrapKind.{TrapKind}
 use Rattle.host_edge.specs.declared.ending.TrapKind.TheVariants.{ArenaLimit}
 use Rattle.word32.specs.declared.map.TheConstants.{ARENA, ARENA_BYTES, ARENA_WORDS, STACK_BYTES}
 use Rattle.limits.specs.declared.run.TheConstants.{STACK_OF_A_CALL}
-use Rattle.icode_service_spec.specs.Services.{finish_refusal, is_arena_range, is_empty, is_done, is_frame}
+use Rattle.mips_model.specs.CodeServices.{finish_refusal, is_arena_range, is_empty, is_done, is_frame}
 use Rattle.compile_spec.specs.Laws.{return_ops, arena_address, frame_bytes}
 use Rattle.captures_proof.proofs.Once.{splices_once}
 use Rattle.tick_pieces.proofs.Lowered.{lowered}
-use Rattle.tick_pieces_proof.specs.Laws.{ticks_of, program_pieces}
-use Rattle.tick_pieces_proof.proofs.Ticks.{none_in_ticks}
+use Rattle.tick_pieces.specs.FittingLaws.{ticks_of, program_pieces}
+use Rattle.tick_pieces.proofs.Ticks.{none_in_ticks}
 use Rattle.spec_build_proof.specs.Room.{HasRoom, more_ops, more_operands, more_bodies, more_variables, more_labels}
 use Rattle.spec_build_proof.specs.Room.{more_registers}
 use Rattle.spec_build_proof.specs.Room.{in_all}

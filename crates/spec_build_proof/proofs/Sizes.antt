@@ -22,8 +22,8 @@ use Rattle.cgf_spec.specs.declared.piece.Piece.TheVariants.{Plain, Captured, Get
 use Rattle.cgf_spec.specs.Pieces.{syntax_ops, spliced_ops}
 use Rattle.tick_pieces.specs.Laws.{pieces_at}
 use Rattle.tick_pieces.specs.TickPieces.{tick_pieces, expr_pieces, stmt_pieces}
-use Rattle.tick_pieces_proof.specs.Kinds.{HasKindsAt, HasTicks, tick_of_body}
-use Rattle.tick_pieces_proof.specs.Laws.{ticks_of, program_pieces}
+use Rattle.tick_pieces.specs.Kinds.{HasKindsAt, HasTicks, tick_of_body}
+use Rattle.tick_pieces.specs.FittingLaws.{ticks_of, program_pieces}
 use Rattle.spec_build_proof.specs.Room.{more_ops, more_operands, more_bodies, more_variables, more_labels}
 use Rattle.spec_build_proof.specs.Room.{more_registers}
 use Rattle.spec_build_proof.specs.Room.{in_all}

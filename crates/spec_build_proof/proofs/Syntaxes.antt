@@ -31,8 +31,8 @@ use Rattle.cgf_spec.specs.declared.piece.Piece.TheVariants.{Plain}
 use Rattle.cgf_spec.specs.Pieces.{capture_at, key_in_capture, piece_ops, pieces_ops, syntax_ops, spliced_ops}
 use Rattle.tick_pieces.specs.Laws.{pieces_at}
 use Rattle.tick_pieces.specs.TickPieces.{tick_pieces, expr_pieces, stmt_pieces}
-use Rattle.tick_pieces_proof.specs.Kinds.{HasKinds, HasKindsAt, HasTicks, HaveTicks, tick_of_body}
-use Rattle.tick_pieces_proof.specs.Laws.{ticks_of, program_pieces}
+use Rattle.tick_pieces.specs.Kinds.{HasKinds, HasKindsAt, HasTicks, HaveTicks, tick_of_body}
+use Rattle.tick_pieces.specs.FittingLaws.{ticks_of, program_pieces}
 use Rattle.spec_build_proof.specs.Laws.{OwnsLabels}
 use Rattle.spec_build_proof.specs.Room.{HasRoom}
 use Rattle.spec_build_proof.specs.Answers.{leaves, HaveAnswers, HaveAnswersAt, HasAnswers, AllHaveAnswers}

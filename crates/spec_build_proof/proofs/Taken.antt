@@ -8,9 +8,9 @@ use Rattle.tick_lower_spec.specs.Lower.{Addresses}
 use Rattle.tick_lower_spec.specs.Specifications.{specification_ops}
 use Rattle.cgf_spec.specs.Pieces.{syntax_ops}
 use Rattle.tick_pieces.proofs.Lowered.{lowered}
-use Rattle.tick_pieces_proof.specs.Laws.{ticks_of, program_pieces}
-use Rattle.tick_pieces_proof.proofs.Issued.{lowerings_issued}
-use Rattle.tick_pieces_proof.proofs.Ticks.{none_in_ticks}
+use Rattle.tick_pieces.specs.FittingLaws.{ticks_of, program_pieces}
+use Rattle.tick_pieces.proofs.Issued.{lowerings_issued}
+use Rattle.tick_pieces.proofs.Ticks.{none_in_ticks}
 use Rattle.spec_build_proof.specs.Room.{HasRoom}
 use Rattle.spec_build_proof.specs.Answers.{leaves}
 use Rattle.spec_build_proof.specs.Laws.{OwnsLabels, IsMade, IsNamed, values, SpecificationsAreTaken}

@@ -17,12 +17,12 @@ use Rattle.tick_lower_spec.specs.Specifications.{specification_ops}
 use Rattle.spec_rows_proof.specs.Relation.{Text, tick_of, IsOf, HasSpecifications}
 use Rattle.cgf_spec.specs.Words.{syntax_cost, syntax_depth}
 use Rattle.cgf_spec.specs.Laws.{HasGenerators, Enters, AreTaken, built_of, Issues}
-use Rattle.tick_pieces_proof.specs.Kinds.{HasTicks, HasWords, AreAddresses}
-use Rattle.tick_pieces_proof.specs.Laws.{ticks_of, program_pieces}
+use Rattle.tick_pieces.specs.Kinds.{HasTicks, HasWords, AreAddresses}
+use Rattle.tick_pieces.specs.FittingLaws.{ticks_of, program_pieces}
 use Rattle.spec_build_proof.specs.Room.{HasRoom, more_ops, more_operands, more_bodies, more_variables, more_labels}
 use Rattle.spec_build_proof.specs.Room.{more_registers, in_all}
-use Rattle.icode_service_spec.specs.Choices.{Choice}
-use Rattle.icode_service_spec.specs.Services.{finish_refusal, words_of}
+use Rattle.mips_model.specs.Choices.{Choice}
+use Rattle.mips_model.specs.CodeServices.{finish_refusal, words_of}
 use Rattle.compile_spec.specs.Laws.{return_ops, arena_address, frame_bytes}
 use Rattle.spec_build_proof.specs.Answers.{leaves, HasAnswers}
 

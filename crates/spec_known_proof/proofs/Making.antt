@@ -26,9 +26,9 @@ use Rattle.staged_meaning.specs.Program.{Program, is_expression, syntax_size}
 use Rattle.staged_meaning.specs.World.{World, with_shared, spend}
 use Rattle.staged_meaning.specs.Specifications.{fits, captures_trap, captures_of, key_in, syntax_in, specification_of}
 use Rattle.staged_meaning.specs.Specifications.{specify, specify_syntax, specify_tick, specify_parameter}
-use Rattle.tick_pieces_proof.specs.Kinds.{IsKnown}
-use Rattle.tick_pieces_proof.specs.Laws.{ticks_of}
-use Rattle.tick_pieces_proof.proofs.Wholes.{kept}
+use Rattle.tick_pieces.specs.Kinds.{IsKnown}
+use Rattle.tick_pieces.specs.FittingLaws.{ticks_of}
+use Rattle.tick_pieces.proofs.Wholes.{kept}
 use Rattle.spec_build_proof.specs.Answers.{leaves, HaveAnswers, HaveAnswersAt, HasAnswers, AllHaveAnswers}
 use Rattle.spec_build_proof.specs.Laws.{IsMade}
 use Rattle.spec_known_proof.specs.Known.{IsRow, keys_of_row, AreEarlier, AreKnown}

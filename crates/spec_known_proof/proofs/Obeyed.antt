@@ -15,8 +15,8 @@ use Rattle.meaning_state.specs.Rows.{parameters_of, parameters_in, key_parameter
 use Rattle.staged_meaning.specs.Program.{syntax_size}
 use Rattle.icode_ir.specs.declared.build_op.BuildOp.{BuildOp}
 use Rattle.icode_ir.specs.Build.{Build, empty}
-use Rattle.icode_service_spec.specs.Choices.{Choice}
-use Rattle.icode_service_spec.specs.Services.{begin_refusal, finish_refusal, is_arena_range, is_entry, words_of}
+use Rattle.mips_model.specs.Choices.{Choice}
+use Rattle.mips_model.specs.CodeServices.{begin_refusal, finish_refusal, is_arena_range, is_entry, words_of}
 use Rattle.tick_lower_spec.specs.Specifications.{specification_ops}
 use Rattle.cgf_spec.specs.Calls.{Call, Begin, Emit, issuing, outside_behind}
 use Rattle.cgf_spec.specs.Laws.{AreTaken, built_of}
@@ -25,8 +25,8 @@ use Rattle.cgf_spec.specs.Served.{AreObeyed, outside_after}
 use Rattle.cgf_spec.proofs.Makings.{ops_obeyed, ops_built}
 use Rattle.compile_spec.specs.Laws.{return_ops, arena_address, frame_bytes}
 use Rattle.tick_pieces.proofs.Lowered.{lowered}
-use Rattle.tick_pieces_proof.specs.Laws.{ticks_of, program_pieces}
-use Rattle.tick_pieces_proof.proofs.Ticks.{none_in_ticks}
+use Rattle.tick_pieces.specs.FittingLaws.{ticks_of, program_pieces}
+use Rattle.tick_pieces.proofs.Ticks.{none_in_ticks}
 use Rattle.spec_known_proof.specs.Laws.{CompilesAreObeyed}
 use Rattle.spec_known_proof.proofs.Rows.{known_taken, known_finished, known_words}
 

@@ -26,12 +26,12 @@ use Rattle.staged_meaning.specs.Statements.{exec}
 use Rattle.staged_meaning.specs.Meaning.{call_at, run_program}
 use Rattle.staged_meaning.specs.World.{Result, Gives, Returns, Ends, Stops}
 use Rattle.tick_lower_spec.specs.Specifications.{specification_ops}
-use Rattle.icode_service_spec.specs.Services.{finish_refusal, words_of}
+use Rattle.mips_model.specs.CodeServices.{finish_refusal, words_of}
 use Rattle.cgf_spec.specs.Laws.{built_of}
 use Rattle.compile_spec.specs.Laws.{IsTickOf, return_ops, arena_address, frame_bytes}
 use Rattle.spec_rows_proof.specs.Relation.{IsOf}
-use Rattle.tick_pieces_proof.specs.Kinds.{tick_of_body}
-use Rattle.tick_pieces_proof.specs.Laws.{ticks_of}
+use Rattle.tick_pieces.specs.Kinds.{tick_of_body}
+use Rattle.tick_pieces.specs.FittingLaws.{ticks_of}
 use Rattle.spec_build_proof.specs.Answers.{leaves}
 use Rattle.spec_build_proof.specs.Laws.{IsMade, IsTaken}
 use Rattle.spec_build_proof.proofs.Begun.{begun_take_all, builders_finished, issued_to_begun, small_row, words_within}

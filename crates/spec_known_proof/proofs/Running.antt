@@ -24,7 +24,7 @@ use Rattle.staged_meaning.specs.Meaning.{main_context, run_program}
 use Rattle.staged_meaning.specs.Meaning as meant
 use Rattle.staged_meaning.specs.World.{World, Result, Gives, Returns, Ends, Stops, Flow, Normal, spend, spend_all}
 use Rattle.staged_meaning.specs.World.{with_shared}
-use Rattle.tick_pieces_proof.specs.Kinds.{tick_of_body}
+use Rattle.tick_pieces.specs.Kinds.{tick_of_body}
 use Rattle.spec_known_proof.specs.Known.{IsMeaning, AreKnown}
 use Rattle.spec_known_proof.proofs.Keeping.{Keeps, then_keeps, spend_keeps, unless_keeps, all_spent}
 use Rattle.spec_known_proof.proofs.Making.{known_same}

@@ -9,7 +9,7 @@ use Rattle.typed_tree.specs.Nodes as node
 use Rattle.wellformed.specs.Program.{IsProgram}
 use Rattle.icode_ir.specs.Sound.{Each}
 use Rattle.staged_meaning.specs.Program.{Program}
-use Rattle.tick_pieces_proof.specs.Laws.{ticks_of}
+use Rattle.tick_pieces.specs.FittingLaws.{ticks_of}
 use Rattle.spec_build_proof.specs.Answers.{leaves}
 use Rattle.spec_build_proof.specs.Laws.{IsMade}
 

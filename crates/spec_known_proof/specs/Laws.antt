@@ -24,14 +24,14 @@ use Rattle.tick_lower_spec.specs.Specifications.{specification_ops}
 use Rattle.spec_rows_proof.specs.Relation.{Text, tick_of, IsOf, HasSpecifications}
 use Rattle.cgf_spec.specs.Words.{syntax_cost, syntax_depth}
 use Rattle.cgf_spec.specs.Laws.{HasGenerators, Enters, built_of, Issues}
-use Rattle.icode_service_spec.specs.Choices.{Choice}
-use Rattle.icode_service_spec.specs.Services.{finish_refusal, words_of}
+use Rattle.mips_model.specs.Choices.{Choice}
+use Rattle.mips_model.specs.CodeServices.{finish_refusal, words_of}
 use Rattle.compile_spec.specs.Laws.{IsTickOf, return_ops, arena_address, frame_bytes, compile_calls}
 use Rattle.cgf_spec.specs.Pieces.{syntax_ops}
 use Rattle.cgf_spec.specs.Served.{AreObeyed}
 use Rattle.mips_model.specs.Services.{next_choice}
-use Rattle.tick_pieces_proof.specs.Kinds.{HasWords, AreAddresses}
-use Rattle.tick_pieces_proof.specs.Laws.{ticks_of, program_pieces}
+use Rattle.tick_pieces.specs.Kinds.{HasWords, AreAddresses}
+use Rattle.tick_pieces.specs.FittingLaws.{ticks_of, program_pieces}
 use Rattle.spec_build_proof.specs.Laws.{IsMade, IsNamed, IsTaken}
 use Rattle.spec_known_proof.specs.Known.{IsMeaning, AreKnown}
 

@@ -9,8 +9,9 @@ use Rattle.icode_templates.specs.Templates.{routine_address, new_address}
 use Rattle.mips_below.specs.Laws.{bare}
 use Rattle.mips_below.proofs.Standing.{text_there}
 use Rattle.mips_below.proofs.Below.{runs_below, runs_carried}
-use Rattle.spec_closure.specs.Routines.{Named, AnExpression, AStatement, AVariable, begin_code, check_code, new_code}
-use Rattle.spec_closure_proof.specs.Ops.{check_of, with_captured}
+use Rattle.icode_templates_proof.specs.Routines.{Named, AnExpression, AStatement, AVariable, begin_code, check_code}
+use Rattle.icode_templates_proof.specs.Routines.{new_code}
+use Rattle.spec_rows_proof.specs.Ops.{check_of, with_captured}
 use Rattle.spec_rows_proof.specs.Laws.{puts}
 use Rattle.spec_rows_proof.specs.Ticks.{HasRoutines, tick_code}
 use Rattle.spec_rows_proof.specs.Below.{TicksStayBelow}

@@ -8,9 +8,9 @@ use Rattle.typed_tree.specs.declared.expression.Answer.TheVariants as answer
 use Rattle.meaning_state.specs.Shared.{Specification, Expression, Statement, Local, Param}
 use Rattle.meaning_state.specs.Rows.{numbered}
 use Rattle.staged_meaning.specs.Specifications.{fits}
-use Rattle.spec_closure.specs.Closures.{Head, Closure}
-use Rattle.spec_closure.specs.Routines.{Named, AnExpression, AStatement, AVariable}
-use Rattle.spec_closure.specs.RoutineLaws.{is_named, named_trap}
+use Rattle.icode_templates_proof.specs.Closures.{Head, Closure}
+use Rattle.icode_templates_proof.specs.Routines.{Named, AnExpression, AStatement, AVariable}
+use Rattle.icode_templates_proof.specs.RoutineLaws.{is_named, named_trap}
 use Rattle.spec_rows_proof.specs.Relation.{Text, StandsFor, AllStandFor}
 use Rattle.spec_rows_proof.specs.Laws.{named_by}
 use Rattle.spec_rows_proof.proofs.Lookups.{members}

@@ -1,3 +1,8 @@
+pub mod Kept
+pub mod OpChecks
+pub mod News
+pub mod Puts
+pub mod Newest
 pub mod Lookups
 pub mod Checks
 pub mod Sums

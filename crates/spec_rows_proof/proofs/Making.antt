@@ -25,14 +25,14 @@ use Rattle.staged_meaning.specs.Program.{is_expression, syntax_size}
 use Rattle.staged_meaning.specs.Specifications.{fits, captures_trap, captures_of, key_in, specification_of}
 use Rattle.staged_meaning.specs.Specifications.{syntax_in}
 use Rattle.icode_templates_proof.specs.Spots.{KeepsSpots}
-use Rattle.spec_closure.specs.Closures.{Head, Closure, local_head, parameter_head, words_at, next_closure}
-use Rattle.spec_closure.specs.Closures.{with_so_far, appended, bytes_of, HasClosures}
-use Rattle.spec_closure.specs.RoutineLaws.{HasRows, HeadFits}
-use Rattle.spec_closure.proofs.Checking.{bytes_least}
-use Rattle.spec_closure.proofs.Standing.{closures_stand}
-use Rattle.spec_closure_proof.specs.Ops.{with_captured, replaced, HasNewest}
-use Rattle.spec_closure_proof.proofs.Kept.{closures_kept, sums_keep}
-use Rattle.spec_closure_proof.proofs.Newest.{newest_made, words_put}
+use Rattle.icode_templates_proof.specs.Closures.{Head, Closure, local_head, parameter_head, words_at, next_closure}
+use Rattle.icode_templates_proof.specs.Closures.{with_so_far, appended, bytes_of, HasClosures}
+use Rattle.icode_templates_proof.specs.RoutineLaws.{HasRows, HeadFits}
+use Rattle.icode_templates_proof.proofs.Checking.{bytes_least}
+use Rattle.icode_templates_proof.proofs.Standing.{closures_stand}
+use Rattle.spec_rows_proof.specs.Ops.{with_captured, replaced, HasNewest}
+use Rattle.spec_rows_proof.proofs.Kept.{closures_kept, sums_keep}
+use Rattle.spec_rows_proof.proofs.Newest.{newest_made, words_put}
 use Rattle.spec_rows_proof.specs.Relation.{Text, captures_of_syntax, syntax_head, IsOf, IsVariable, AreCaptured}
 use Rattle.spec_rows_proof.specs.Relation.{IsTick, StandsFor, AllStandFor, HasSpecifications}
 use Rattle.spec_rows_proof.specs.Laws.{puts, kind_of_tick, AreWordsIn}

@@ -14,9 +14,9 @@ use Rattle.meaning_state.specs.Shared.{Specification, Expression, Statement, Loc
 use Rattle.meaning_state.specs.Rows.{numbered, parameters_of, parameters_in, key_parameters}
 use Rattle.staged_meaning.specs.Program.{Program, tick_size, syntax_size, captures_size}
 use Rattle.staged_meaning.specs.Specifications.{fits, captures_trap, capture, captures_of}
-use Rattle.spec_closure.specs.Closures.{Head, Closure}
-use Rattle.spec_closure.specs.Routines.{Named, AnExpression, AStatement, AVariable}
-use Rattle.spec_closure.specs.RoutineLaws.{more_of}
+use Rattle.icode_templates_proof.specs.Closures.{Head, Closure}
+use Rattle.icode_templates_proof.specs.Routines.{Named, AnExpression, AStatement, AVariable}
+use Rattle.icode_templates_proof.specs.RoutineLaws.{more_of}
 use Rattle.spec_rows_proof.specs.Relation.{Text, StandsFor, AllStandFor}
 use Rattle.spec_rows_proof.specs.Laws.{Sums, named_by, plus, plus_named, summed}
 use Rattle.spec_rows_proof.proofs.Lookups.{members}

@@ -26,15 +26,15 @@ use Rattle.staged_meaning.specs.Specifications.{captures_trap, specification_of}
 use Rattle.staged_meaning.specs.World.{World, Result, with_shared, spend, unless}
 use Rattle.icode_templates.specs.Layout.{Layout}
 use Rattle.icode_templates.specs.Templates.{Aim, template}
-use Rattle.icode_expand.specs.Expansion.{templates}
+use Rattle.icode_templates.specs.Expansion.{templates}
 use Rattle.icode_expand.proofs.Lengths.{templates_append}
 use Rattle.icode_templates_proof.specs.Moves.{EndsIn}
 use Rattle.icode_templates_proof.proofs.Endings.{ends_wider}
-use Rattle.spec_closure.specs.Closures.{Head, Closure, with_so_far, appended, words_at, next_closure}
-use Rattle.spec_closure.specs.RoutineLaws.{first_trap, new_trap}
-use Rattle.spec_closure_proof.specs.Ops.{HasNewest, replaced, with_captured}
-use Rattle.spec_closure_proof.proofs.Kept.{sums_keep}
-use Rattle.spec_closure_proof.proofs.Newest.{newest_made, has_place, words_put}
+use Rattle.icode_templates_proof.specs.Closures.{Head, Closure, with_so_far, appended, words_at, next_closure}
+use Rattle.icode_templates_proof.specs.RoutineLaws.{first_trap, new_trap}
+use Rattle.spec_rows_proof.specs.Ops.{HasNewest, replaced, with_captured}
+use Rattle.spec_rows_proof.proofs.Kept.{sums_keep}
+use Rattle.spec_rows_proof.proofs.Newest.{newest_made, has_place, words_put}
 use Rattle.spec_rows_proof.specs.Relation.{Text, syntax_head}
 use Rattle.spec_rows_proof.specs.Laws.{Sums, puts, kind_of_tick, AreWordsIn}
 use Rattle.spec_rows_proof.specs.Ticks.{TickCapture, TickRegisters, check_ops, new_ops, put_ops, kinds_in}

@@ -13,11 +13,11 @@ use Rattle.icode_templates_proof.specs.Spots.{SameWorld, KeepsSpots, PutsTo}
 use Rattle.icode_templates_proof.proofs.Keeping.{world_on}
 use Rattle.meaning_state.specs.Shared.{Shared}
 use Rattle.meaning_state.specs.Rows.{closure_bytes}
-use Rattle.spec_closure.specs.Closures.{Head, Closure, word_at, with_word, with_head, row_place, row_count}
-use Rattle.spec_closure.specs.Closures.{next_closure}
-use Rattle.spec_closure.specs.Closures.{with_so_far, appended, HasClosures}
-use Rattle.spec_closure_proof.specs.Ops.{newest_closure, HasPlace, with_captured}
-use Rattle.spec_closure_proof.proofs.Kept.{closures_same}
+use Rattle.icode_templates_proof.specs.Closures.{Head, Closure, word_at, with_word, with_head, row_place, row_count}
+use Rattle.icode_templates_proof.specs.Closures.{next_closure}
+use Rattle.icode_templates_proof.specs.Closures.{with_so_far, appended, HasClosures}
+use Rattle.spec_rows_proof.specs.Ops.{newest_closure, HasPlace, with_captured}
+use Rattle.spec_rows_proof.proofs.Kept.{closures_same}
 use Rattle.spec_rows_proof.specs.Relation.{Text, HasSpecifications}
 use Rattle.spec_rows_proof.specs.Ticks.{AreUsable, IsApart, AreApart, HaveWords, IsElsewhere, IsOtherWord, Wrote}
 

@@ -28,7 +28,7 @@ use Rattle.meaning_state.specs.Rows.{numbered, next_number}
 use Rattle.staged_meaning.specs.Specifications.{fits, captures_trap}
 use Rattle.icode_templates.specs.Layout.{Spot, InRegister, InSlot, Layout}
 use Rattle.icode_templates.specs.Templates.{Aim, template, in_code, out_code, routine_code}
-use Rattle.icode_expand.specs.Expansion.{templates}
+use Rattle.icode_templates.specs.Expansion.{templates}
 use Rattle.icode_expand.proofs.Lengths.{past_is}
 use Rattle.icode_templates_proof.specs.Spots.{pointer, value, Framed, Usable, SameWorld}
 use Rattle.icode_templates_proof.specs.Moves.{Runs, Writes, EndsIn}
@@ -37,17 +37,17 @@ use Rattle.icode_templates_proof.proofs.Leaves.{runs_on, runs_to, runs_wider}
 use Rattle.icode_templates_proof.proofs.Endings.{ends_behind, ends_wider, ends_with}
 use Rattle.icode_templates_proof.proofs.Keeping.{value_kept}
 use Rattle.icode_templates_proof.proofs.Templates.{const_writes}
-use Rattle.spec_closure.specs.Laws.{linked, return_address}
-use Rattle.spec_closure.specs.Closures.{Head, Closure, word_at, with_word, with_so_far, appended, size_so_far}
-use Rattle.spec_closure.specs.Closures.{parameters_so_far, HasClosures}
-use Rattle.spec_closure.specs.Routines.{Named}
-use Rattle.spec_closure.specs.RoutineLaws.{HasRows, named_trap, is_named, more_of, added, new_trap}
-use Rattle.spec_closure.proofs.Called.{begin_called}
-use Rattle.spec_closure_proof.specs.Ops.{check_of, new_op_code, new_return_address, tick_head, HasPlace, with_captured}
-use Rattle.spec_closure_proof.proofs.Kept.{sums_keep}
-use Rattle.spec_closure_proof.proofs.Checks.{check_called, check_op_ends}
-use Rattle.spec_closure_proof.proofs.News.{new_called, new_op_ends}
-use Rattle.spec_closure_proof.proofs.Puts.{put_done}
+use Rattle.icode_templates_proof.specs.MallocLaws.{linked, return_address}
+use Rattle.icode_templates_proof.specs.Closures.{Head, Closure, word_at, with_word, with_so_far, appended, size_so_far}
+use Rattle.icode_templates_proof.specs.Closures.{parameters_so_far, HasClosures}
+use Rattle.icode_templates_proof.specs.Routines.{Named}
+use Rattle.icode_templates_proof.specs.RoutineLaws.{HasRows, named_trap, is_named, more_of, added, new_trap}
+use Rattle.icode_templates_proof.proofs.Called.{begin_called}
+use Rattle.spec_rows_proof.specs.Ops.{check_of, new_op_code, new_return_address, tick_head, HasPlace, with_captured}
+use Rattle.spec_rows_proof.proofs.Kept.{sums_keep}
+use Rattle.spec_rows_proof.proofs.OpChecks.{check_called, check_op_ends}
+use Rattle.spec_rows_proof.proofs.News.{new_called, new_op_ends}
+use Rattle.spec_rows_proof.proofs.Puts.{put_done}
 use Rattle.spec_rows_proof.specs.Relation.{Text, StandsFor, AllStandFor, HasSpecifications}
 use Rattle.spec_rows_proof.specs.Laws.{named_by, Sums, plus_named, summed, puts}
 use Rattle.spec_rows_proof.specs.Ticks.{TickCapture, check_op, check_ops, put_ops, kinds_in, words_in, answer_in}

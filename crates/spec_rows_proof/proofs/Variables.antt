@@ -16,10 +16,10 @@ use Rattle.icode_templates.specs.Layout.{Spot}
 use Rattle.icode_templates_proof.specs.Spots.{Usable}
 use Rattle.icode_templates_proof.specs.Moves.{Writes}
 use Rattle.icode_templates_proof.specs.Spots.{value}
-use Rattle.spec_closure.specs.Laws.{linked, return_address}
-use Rattle.spec_closure.specs.Closures.{Head, local_head, parameter_head, appended}
-use Rattle.spec_closure.proofs.Called.{local_called, parameter_called}
-use Rattle.spec_closure_proof.proofs.Kept.{closures_same}
+use Rattle.icode_templates_proof.specs.MallocLaws.{linked, return_address}
+use Rattle.icode_templates_proof.specs.Closures.{Head, local_head, parameter_head, appended}
+use Rattle.icode_templates_proof.proofs.Called.{local_called, parameter_called}
+use Rattle.spec_rows_proof.proofs.Kept.{closures_same}
 use Rattle.spec_rows_proof.specs.Relation.{Text, HasSpecifications}
 use Rattle.spec_rows_proof.specs.Variables.{run_code, MakesVariable, LocalsAreMade, ParametersAreMade}
 use Rattle.spec_rows_proof.proofs.Making.{rows_there, local_made, parameter_made}

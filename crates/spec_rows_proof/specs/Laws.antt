@@ -15,10 +15,10 @@ use Rattle.meaning_state.specs.Rows.{numbered, parameters_of, closure_trap, next
 use Rattle.staged_meaning.specs.Program.{is_expression, tick_size, syntax_size}
 use Rattle.staged_meaning.specs.Specifications.{fits, captures_trap, captures_of, specification_of}
 use Rattle.icode_templates_proof.specs.Spots.{KeepsSpots}
-use Rattle.spec_closure.specs.Closures.{Closure, local_head, parameter_head, with_so_far, appended}
-use Rattle.spec_closure.specs.Routines.{Named, AnExpression, AStatement, AVariable}
-use Rattle.spec_closure.specs.RoutineLaws.{HasRows, named_trap, more_of}
-use Rattle.spec_closure_proof.specs.Ops.{with_captured}
+use Rattle.icode_templates_proof.specs.Closures.{Closure, local_head, parameter_head, with_so_far, appended}
+use Rattle.icode_templates_proof.specs.Routines.{Named, AnExpression, AStatement, AVariable}
+use Rattle.icode_templates_proof.specs.RoutineLaws.{HasRows, named_trap, more_of}
+use Rattle.spec_rows_proof.specs.Ops.{with_captured}
 use Rattle.spec_rows_proof.specs.Relation.{Text, syntax_head, AllStandFor, HasSpecifications}
 
 -- ---- captured numbers

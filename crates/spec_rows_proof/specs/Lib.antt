@@ -1,3 +1,5 @@
+pub mod Ops
+pub mod OpLaws
 pub mod Relation
 pub mod Laws
 pub mod Ticks

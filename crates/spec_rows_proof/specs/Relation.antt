@@ -13,7 +13,7 @@ use Rattle.meaning_state.specs.Shared.{Shared, Specification, Expression, Statem
 use Rattle.meaning_state.specs.Rows.{numbered, parameters_of}
 use Rattle.staged_meaning.specs.Program.{Program, syntax_size}
 use Rattle.staged_meaning.specs.Specifications.{key_in}
-use Rattle.spec_closure.specs.Closures.{Head, Closure, local_head, parameter_head, bytes_of, HasClosures}
+use Rattle.icode_templates_proof.specs.Closures.{Head, Closure, local_head, parameter_head, bytes_of, HasClosures}
 
 -- the program, and where the functions that generate the code of its ticks begin, by the numbers of the ticks
 pub record Text : Type 0 where

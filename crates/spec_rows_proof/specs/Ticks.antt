@@ -27,14 +27,14 @@ use Rattle.staged_meaning.specs.World.{World, with_shared, spend, unless}
 use Rattle.icode_templates.specs.Layout.{Layout}
 use Rattle.icode_templates.specs.Templates.{Aim, routine_address, new_address}
 use Rattle.icode_ir.specs.Sound.{Each}
-use Rattle.icode_expand.specs.Expansion.{templates}
+use Rattle.icode_templates.specs.Expansion.{templates}
 use Rattle.icode_templates_proof.specs.Spots.{pointer, value, Framed, Usable, Apart, IsKept, IsOther, register_of}
 use Rattle.icode_templates_proof.specs.Spots.{SameWorld}
 use Rattle.icode_templates_proof.specs.Moves.{Runs, EndsIn}
-use Rattle.spec_closure.specs.Closures.{with_so_far, appended}
-use Rattle.spec_closure.specs.Routines.{Named, begin_code, check_code, new_code}
-use Rattle.spec_closure.specs.RoutineLaws.{first_trap, new_trap}
-use Rattle.spec_closure_proof.specs.Ops.{check_of}
+use Rattle.icode_templates_proof.specs.Closures.{with_so_far, appended}
+use Rattle.icode_templates_proof.specs.Routines.{Named, begin_code, check_code, new_code}
+use Rattle.icode_templates_proof.specs.RoutineLaws.{first_trap, new_trap}
+use Rattle.spec_rows_proof.specs.Ops.{check_of}
 use Rattle.spec_rows_proof.specs.Relation.{Text, syntax_head, HasSpecifications}
 use Rattle.spec_rows_proof.specs.Laws.{named_by, puts, kind_of_tick}
 

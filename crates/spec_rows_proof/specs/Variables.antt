@@ -15,10 +15,10 @@ use Rattle.icode_templates.specs.Layout.{Spot}
 use Rattle.icode_templates.specs.Templates.{in_code, out_code, routine_code, routine_address}
 use Rattle.icode_templates_proof.specs.Spots.{pointer, value, Framed, Usable}
 use Rattle.icode_templates_proof.specs.Moves.{Writes}
-use Rattle.spec_closure.specs.Laws.{linked, return_address}
-use Rattle.spec_closure.specs.Closures.{Head, local_head, parameter_head, appended}
-use Rattle.spec_closure.specs.Routines.{local_code, parameter_code}
-use Rattle.spec_closure.specs.RoutineLaws.{parameter_trap}
+use Rattle.icode_templates_proof.specs.MallocLaws.{linked, return_address}
+use Rattle.icode_templates_proof.specs.Closures.{Head, local_head, parameter_head, appended}
+use Rattle.icode_templates_proof.specs.Routines.{local_code, parameter_code}
+use Rattle.icode_templates_proof.specs.RoutineLaws.{parameter_trap}
 use Rattle.spec_rows_proof.specs.Relation.{Text, HasSpecifications}
 
 -- the op's words

@@ -1,7 +1,7 @@
 -- The first pass: words that are made, and room for others, grow by those of the next function.
 use Rattle.std.proofs.Common.{◌≡◌, ℕ, ◌+◌, ◌*◌, Bool, true, false, List, [], ◌∷◌, ◌++◌, length, refl, sym, ap, ◌∙◌}
 use Rattle.std.proofs.Common.{subst, arith, append_assoc, append-nil, length-append}
-use Rattle.icode_expand.specs.Expansion.{expanded}
+use Rattle.icode_templates.specs.Expansion.{expanded}
 use Rattle.word32.specs.declared.map.TheConstants.{FUNCTIONS}
 use Rattle.tick_lower_spec.specs.Lower.{Addresses, listed}
 use Rattle.staged_meaning.specs.Size.{size_of, charge_of}

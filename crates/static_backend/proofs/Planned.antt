@@ -5,7 +5,7 @@ use Rattle.word32.specs.declared.map.TheConstants.{ARENA, FUNCTIONS}
 use Rattle.icode_ops.specs.declared.op.Op.{Op}
 use Rattle.icode_ir.specs.Sound.{Each}
 use Rattle.icode_ir.proofs.Sounds.{Each-append}
-use Rattle.icode_expand.specs.Expansion.{expanded}
+use Rattle.icode_templates.specs.Expansion.{expanded}
 use Rattle.typed_tree.specs.Nodes.{Function}
 use Rattle.staged_meaning.specs.Size.{size_of, charge_of}
 use Rattle.limits.specs.declared.program.TheConstants.{CHARGE_LIMIT}

@@ -3,7 +3,7 @@
 //! that isn't known yet changes neither places nor lengths.
 
 ghost use Rattle.std.specs.Prelude.{◌≡◌, ℕ, false, ◌+◌, ◌*◌, ◌%◌, ◌≤◌, [], ◌∷◌, ◌++◌, IfOk, OnOk, List, length, map};
-ghost use Rattle.icode_expand.specs.Expansion.{expanded};
+ghost use Rattle.icode_templates.specs.Expansion.{expanded};
 ghost use Rattle.icode_ir.specs.Build.{empty};
 ghost use Rattle.icode_ir.specs.Runs.{run_ops};
 ghost use Rattle.icode_ir.specs.declared.builder.Phase.TheVariants.{Finished};

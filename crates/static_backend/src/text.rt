@@ -2,7 +2,7 @@
 
 ghost use Rattle.std.specs.Prelude.{◌≡◌, ℕ, ◌+◌, ◌*◌, ◌++◌, ◌<◌, ◌≤◌, false, IfOk, OnOk, length, drop};
 ghost use Rattle.icode_ops.specs.Finished.{IsFinished};
-ghost use Rattle.icode_expand.specs.Expansion.{expanded};
+ghost use Rattle.icode_templates.specs.Expansion.{expanded};
 ghost use Rattle.static_image.specs.Layout.{front};
 ghost use Rattle.limits.specs.declared.ops.TheConstants.{OP_LIMIT as LABELS};
 ghost use Rattle.limits.specs.declared.program.TheConstants.{MOST_FUNCTIONS};

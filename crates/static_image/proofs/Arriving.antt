@@ -12,7 +12,7 @@ use Rattle.word32.specs.Space.{bytes_from}
 use Rattle.flat_memory.specs.Spaces.{text_of}
 use Rattle.code_arena.specs.Rows.{numbered}
 use Rattle.image_file.specs.declared.image.FunctionEntry.{FunctionEntry}
-use Rattle.icode_service_spec.specs.Choices.{Choice}
+use Rattle.mips_model.specs.Choices.{Choice}
 use Rattle.history.specs.Events.{Input}
 use Rattle.mips_encoder.specs.Table.{word_of}
 use Rattle.mips_encoder.specs.Addresses.{past}
@@ -25,9 +25,9 @@ use Rattle.mips_model.proofs.Loaded.{AllFit, all_fit_append, loaded}
 use Rattle.mips_model.proofs.Reach.{through, through_runs, reaches_on, step_acts, front, back}
 use Rattle.icode_templates.specs.Assembly.{jal, nop}
 use Rattle.icode_templates_proof.proofs.Jumps.{in_slot, slot_runs}
-use Rattle.icode_frames_spec.specs.Standing.{WordsAt, exit_code}
-use Rattle.icode_frames_spec.specs.Settings.{Setting, Published}
-use Rattle.icode_frames_spec.specs.Relation.{MemoryAgrees, ExtentsAgree}
+use Rattle.icode_expand_proof.specs.Standing.{WordsAt, exit_code}
+use Rattle.icode_expand_proof.specs.Settings.{Setting, Published}
+use Rattle.icode_expand_proof.specs.Relation.{MemoryAgrees, ExtentsAgree}
 use Rattle.staged_meaning.specs.Program as meaning
 use Rattle.staged_meaning.specs.Meaning.{at_start}
 use Rattle.static_image.specs.Layout.{set_cell, set_up, start_code, exit_with_answer, filled}

@@ -13,9 +13,9 @@ use Rattle.icode_ir.specs.Runs.{run_ops}
 use Rattle.icode_ir.specs.Sound.{Each}
 use Rattle.icode_templates.specs.Layout.{Layout, laid}
 use Rattle.icode_templates.specs.Words.{words}
-use Rattle.icode_expand.specs.Expansion as expansion
-use Rattle.icode_expand.specs.Expansion.{expanded, templates}
-use Rattle.icode_expand.specs.Frames.{saved, prologue}
+use Rattle.icode_templates.specs.Expansion as expansion
+use Rattle.icode_templates.specs.Expansion.{expanded, templates}
+use Rattle.icode_templates.specs.Frames.{saved, prologue}
 use Rattle.icode_expand.proofs.Lengths.{length_words, past_is, templates_append}
 use Rattle.icode_expand.proofs.Most.{code_most}
 use Rattle.icode_expand.proofs.Written.{whole_length}
@@ -23,11 +23,11 @@ use Rattle.mips_model.specs.State.{Code}
 use Rattle.mips_encoder.specs.Addresses.{past}
 use Rattle.mips_model.proofs.Loaded.{loaded}
 use Rattle.icode_meaning.specs.State.{Function}
-use Rattle.icode_frames_spec.specs.Standing as standing
-use Rattle.icode_frames_spec.specs.Standing.{Suits, Stands}
-use Rattle.icode_steps_proof.specs.Served.{IsServed}
-use Rattle.icode_words_proof.proofs.Suiting.{suit}
-use Rattle.icode_words_proof.proofs.Fitting.{function_stands}
+use Rattle.icode_expand_proof.specs.Standing as standing
+use Rattle.icode_expand_proof.specs.Standing.{Suits, Stands}
+use Rattle.icode_expand_proof.specs.Served.{IsServed}
+use Rattle.icode_expand_proof.proofs.Suiting.{suit}
+use Rattle.icode_expand_proof.proofs.Fitting.{function_stands}
 use Rattle.typed_tree.specs.Nodes as node
 use Rattle.staged_meaning.specs.Size.{size_of, charge_of}
 use Rattle.tick_lower_spec.specs.Lower.{Addresses, function_ops}

@@ -11,9 +11,9 @@ use Rattle.host_edge.specs.declared.ending.MachineKind.{MachineKind}
 use Rattle.host_edge.specs.declared.ending.MachineKind.TheVariants as kind
 use Rattle.history.specs.Events.{Fault, Next, Given, AtEnd, Failing, next_byte}
 use Rattle.mips_encoder.specs.declared.instruction.Instr.TheVariants.{Syscall}
-use Rattle.icode_codes.specs.Decoded.{op_of}
-use Rattle.icode_service_spec.specs.Services as services
-use Rattle.icode_service_spec.specs.Services.{Outcome, Does}
+use Rattle.icode_ir.specs.Decoded.{op_of}
+use Rattle.mips_model.specs.CodeServices as services
+use Rattle.mips_model.specs.CodeServices.{Outcome, Does}
 use Rattle.mips_model.specs.declared.service.Service.{Service}
 use Rattle.mips_model.specs.declared.service.Service.TheVariants.{PutInt, Exit, PutByte, GetByte, Begin, Emit, Finish}
 use Rattle.mips_model.specs.declared.service.Service.TheVariants.{Flush, Publish}

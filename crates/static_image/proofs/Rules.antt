@@ -12,10 +12,10 @@ use Rattle.icode_ir.specs.Sound.{Each}
 use Rattle.icode_ir.proofs.Sounds.{Each-append}
 use Rattle.icode_templates.specs.Assembly.{nop}
 use Rattle.icode_templates.specs.Words.{words}
-use Rattle.spec_closure.specs.Malloc.{malloc_code}
-use Rattle.spec_closure.proofs.Fitting.{malloc_fits}
-use Rattle.icode_frames_spec.specs.Standing.{code_of}
-use Rattle.icode_words_proof.proofs.Fitting.{code_fits}
+use Rattle.icode_templates_proof.specs.Malloc.{malloc_code}
+use Rattle.icode_templates_proof.proofs.Fitting.{malloc_fits}
+use Rattle.icode_expand_proof.specs.Standing.{code_of}
+use Rattle.icode_expand_proof.proofs.Fitting.{code_fits}
 use Rattle.typed_tree.specs.Nodes as node
 use Rattle.staged_meaning.specs.Program.{Program}
 use Rattle.tick_lower_spec.specs.Lower.{Addresses}

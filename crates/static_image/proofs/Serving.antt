@@ -20,7 +20,7 @@ use Rattle.icode_ir.specs.Rules.{effect, checked}
 use Rattle.icode_ir.specs.Runs.{run_ops}
 use Rattle.icode_ir.specs.Sound.{Each}
 use Rattle.icode_ir.proofs.Sounds.{Each-append}
-use Rattle.icode_steps_proof.specs.Served.{IsServed}
+use Rattle.icode_expand_proof.specs.Served.{IsServed}
 use Rattle.typed_tree.specs.Nodes as node
 use Rattle.typed_tree.specs.declared.expression.Library.TheVariants as library
 use Rattle.typed_tree.specs.declared.expression.Answer.{Answer}

@@ -7,7 +7,7 @@ use Rattle.word32.specs.declared.map.TheConstants.{FUNCTION_ROWS, UNPUBLISHED}
 use Rattle.code_arena.specs.Rows as table
 use Rattle.meaning_state.specs.Rows.{numbered}
 use Rattle.icode_meaning.specs.State.{Function}
-use Rattle.icode_frames_spec.specs.Settings.{Published}
+use Rattle.icode_expand_proof.specs.Settings.{Published}
 use Rattle.mips_model.specs.Run.{row_of}
 use Rattle.tick_lower_proof.specs.Laws.{row_for}
 use Rattle.static_image.specs.Layout.{Placed, behind, starts, rows_of, functions_of}

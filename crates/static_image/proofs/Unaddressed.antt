@@ -18,7 +18,7 @@ use Rattle.icode_ir.specs.Rules.{effect, checked}
 use Rattle.icode_ir.specs.Runs.{run_ops}
 use Rattle.icode_templates.specs.Layout.{Layout}
 use Rattle.icode_templates.specs.Templates.{Aim, template}
-use Rattle.icode_expand.specs.Expansion.{templates}
+use Rattle.icode_templates.specs.Expansion.{templates}
 use Rattle.typed_tree.specs.Nodes as node
 use Rattle.typed_tree.specs.Nodes.{Expr, Args, Stmt, Items, has_value, count}
 use Rattle.typed_tree.specs.declared.expression.Answer.{Answer}

@@ -28,7 +28,7 @@ use Rattle.mips_model.proofs.Told.{tells_plainly}
 use Rattle.icode_templates.specs.Words.{words}
 use Rattle.icode_templates.specs.Assembly.{nop}
 use Rattle.image_file.specs.Image.{ImageParts}
-use Rattle.icode_service_spec.specs.Choices.{Choice}
+use Rattle.mips_model.specs.Choices.{Choice}
 use Rattle.icode_ir.specs.Sound.{Each}
 use Rattle.icode_meaning.specs.State.{Function, Program, State, see, least_at, most_at}
 use Rattle.icode_meaning.specs.Steps.{advance, first}
@@ -43,13 +43,13 @@ use Rattle.staged_meaning.specs.Meaning.{at_start, meant}
 use Rattle.tick_lower_spec.specs.Lower.{Addresses}
 use Rattle.tick_lower_proof.specs.Laws.{Stands, row_for, HasFunctions, AreReady}
 use Rattle.tick_lower_proof.proofs.Following.{lowering}
-use Rattle.spec_closure.specs.Malloc.{malloc_code}
-use Rattle.spec_closure.proofs.Fitting.{malloc_fits}
-use Rattle.icode_frames_spec.specs.Standing.{WordsAt}
-use Rattle.icode_frames_spec.specs.Settings.{Setting, Standing}
-use Rattle.icode_steps_proof.specs.Served.{Serving}
+use Rattle.icode_templates_proof.specs.Malloc.{malloc_code}
+use Rattle.icode_templates_proof.proofs.Fitting.{malloc_fits}
+use Rattle.icode_expand_proof.specs.Standing.{WordsAt}
+use Rattle.icode_expand_proof.specs.Settings.{Setting, Standing}
+use Rattle.icode_expand_proof.specs.Served.{Serving}
 use Rattle.icode_expand_proof.specs.Laws.{Arrives, KeepsCode}
-use Rattle.icode_words_proof.proofs.Fitting.{words_stand}
+use Rattle.icode_expand_proof.proofs.Fitting.{words_stand}
 use Rattle.icode_expand_proof.proofs.Whole.{simulated, code_kept}
 use Rattle.limits.specs.declared.cost.TheConstants.{START_INSTRUCTIONS, START_OPS_INSTRUCTIONS, UNIT_INSTRUCTIONS}
 use Rattle.limits.specs.declared.program.TheConstants.{FRONT_WORDS, MOST_FUNCTIONS}

@@ -9,7 +9,7 @@ use Rattle.host_edge.specs.declared.ending.MachineKind.{MachineKind}
 use Rattle.pace.specs.Pace.{FourParts, instructions_of_a_unit, instructions_besides}
 use Rattle.history.specs.Events.{Input, Fault}
 use Rattle.image_file.specs.Image.{ImageParts}
-use Rattle.icode_service_spec.specs.Choices.{Choice}
+use Rattle.mips_model.specs.Choices.{Choice}
 use Rattle.staged_meaning.specs.Meaning.{Program, meant}
 use Rattle.mips_model.specs.Run.{runs, IsDefined, IsClean}
 use Rattle.mips_model.specs.Told.{Passed, tells}

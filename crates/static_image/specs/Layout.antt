@@ -13,8 +13,8 @@ use Rattle.icode_ops.specs.Places.{IsLegal}
 use Rattle.icode_ir.specs.Sound.{Each}
 use Rattle.icode_templates.specs.Assembly.{v0, a0, t8, gp, sp, fp, addu, ori, lui, sw, jal, syscall, nop, constant}
 use Rattle.icode_templates.specs.Words.{words}
-use Rattle.icode_expand.specs.Expansion.{expanded}
-use Rattle.spec_closure.specs.Malloc.{malloc_code}
+use Rattle.icode_templates.specs.Expansion.{expanded}
+use Rattle.icode_templates_proof.specs.Malloc.{malloc_code}
 use Rattle.typed_tree.specs.Nodes as node
 use Rattle.staged_meaning.specs.Size.{size_of, charge_of}
 use Rattle.tick_lower_spec.specs.Lower.{Addresses, listed}

@@ -4,7 +4,7 @@ ghost use Rattle.std.specs.Prelude.{◌≡◌, ◌+◌, ◌++◌, ◌<◌, ◌�
 ghost use Rattle.icode_expand.specs.Labels.{spliced};
 ghost use Rattle.icode_templates.specs.Words.{words};
 ghost use Rattle.limits.specs.declared.program.TheConstants.{MOST_FUNCTIONS};
-ghost use Rattle.spec_closure.specs.Malloc.{malloc_code};
+ghost use Rattle.icode_templates_proof.specs.Malloc.{malloc_code};
 ghost use Rattle.static_image.specs.Layout as layout;
 ghost use Rattle.word32.specs.declared.map.TheConstants.{SEGMENT_BYTES};
 

@@ -7,9 +7,8 @@ ghost use Rattle.parse_grammar.specs.Statements as statements;
 ghost use Rattle.parse_grammar.specs.Statements.{room_of};
 
 use parse_declarators::Declarators;
-use parse_expressions::Expressions;
+use parse_expressions::{Expressions, Operands};
 use parse_grammar::{Grammar, Mode, Part, Stop, Tokens};
-use parse_operands::Operands;
 use parse_statements::Statements;
 use std::alloc::Global;
 use tick_tree::{Declarator, Expr, Stmt};

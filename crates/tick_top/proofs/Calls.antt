@@ -17,11 +17,11 @@ use Rattle.mips_machine.specs.Progress.{counts_of}
 use Rattle.staged_meaning.specs.Meaning.{Program}
 use Rattle.tick_tree.specs.declared.fault.Fault.{Fault}
 use Rattle.wellformed.specs.declared.typed.Typed.{Typed}
-use Rattle.tick_build.specs.Texts.{typed, typed_tree}
+use Rattle.tick_top.specs.Texts.{typed, typed_tree}
 use Rattle.command_words.specs.Orders.{Order, run, build, exec, mean, asm, dis}
 use Rattle.tick_outcome.specs.declared.outcome.Outcome.{Outcome}
 use Rattle.tick_outcome.specs.declared.outcome.Outcome.TheVariants as outcome
-use Rattle.tick_top.specs.declared.ended.Ended as code
+use Rattle.tick_outcome.specs.declared.ended.Ended as code
 use Rattle.tick_top.specs.Outside.{Outside}
 use Rattle.tick_top.specs.Answers.{IsBare, outcome_of}
 use Rattle.tick_top.specs.Does.{Runs}

@@ -10,11 +10,11 @@ use Rattle.mips_text.specs.declared.fault.AsmFault.{AsmFault}
 use Rattle.staged_meaning.specs.Meaning.{Program}
 use Rattle.tick_tree.specs.declared.fault.Fault.{Fault}
 use Rattle.wellformed.specs.declared.typed.Typed.{Typed}
-use Rattle.tick_build.specs.Texts.{typed, typed_tree, Means}
+use Rattle.tick_top.specs.Texts.{typed, typed_tree, Means}
 use Rattle.command_words.specs.Orders.{Order, run, build, exec, mean, asm, dis}
 use Rattle.tick_outcome.specs.declared.outcome.Outcome.{Outcome}
 use Rattle.tick_outcome.specs.declared.outcome.Outcome.TheVariants.{Refused, AsmRefused, LoadFault, TooLong, BadImage}
-use Rattle.tick_top.specs.declared.ended.Ended.{Ended}
+use Rattle.tick_outcome.specs.declared.ended.Ended.{Ended}
 use Rattle.tick_top.specs.Outside.{Outside}
 use Rattle.tick_top.specs.Answers.{IsBare, longest_text, longest_image}
 use Rattle.tick_top.specs.Does.{WithFile, WithProgram, WithTree, WithAssembled, WithImage, Does, Answered, Unsaved}

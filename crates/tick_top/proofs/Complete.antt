@@ -13,19 +13,19 @@ use Rattle.staged_meaning.specs.Meaning.{Program, meant}
 use Rattle.static_image.specs.Headline.{Headline}
 use Rattle.tick_tree.specs.declared.fault.Fault.{Fault}
 use Rattle.wellformed.specs.declared.typed.Typed.{Typed}
-use Rattle.tick_build.specs.Texts.{typed, typed_tree, Means}
+use Rattle.tick_top.specs.Texts.{typed, typed_tree, Means}
 use Rattle.tick_gen.specs.Source.{source}
 use Rattle.command_words.specs.Orders.{Order, run, build, exec, mean, asm, dis, of_file, gen, order_of}
 use Rattle.tick_outcome.specs.declared.outcome.Outcome.{Outcome}
 use Rattle.tick_outcome.specs.declared.outcome.Outcome.TheVariants as outcome
-use Rattle.tick_top.specs.declared.ended.Ended as code
+use Rattle.tick_outcome.specs.declared.ended.Ended as code
 use Rattle.tick_top.specs.Outside.{Files, Outside, Failures}
 use Rattle.tick_top.specs.Answers.{longest_text}
 use Rattle.tick_top.specs.Does.{SavedAt, Cause}
 use Rattle.tick_top.specs.Generated.{PrintsSource}
 use Rattle.tick_top.specs.Said.{said}
 use Rattle.tick_top.specs.Top.{Reports, Ticked}
-use Rattle.icode_service_spec.specs.Choices.{Choice}
+use Rattle.mips_model.specs.Choices.{Choice}
 use Rattle.tick_top.specs.Seen.{told, EndsBehind, outcome_at, Moves, IsScannedRun, account_of, ShowsRun}
 use Rattle.tick_top.proofs.Runs.{seen_by, scanned_by}
 use Rattle.tick_top.specs.Rows.{file_of, longest_of, refusal, most_steps, most_units}

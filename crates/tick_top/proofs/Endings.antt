@@ -20,7 +20,7 @@ use Rattle.staged_meaning.specs.Meaning.{Program, meant}
 use Rattle.command_words.specs.Orders.{Order, run, build, exec, mean, asm, dis, Asked, of_file, gen, order_of}
 use Rattle.tick_outcome.specs.declared.outcome.Outcome.{Outcome}
 use Rattle.tick_outcome.specs.declared.outcome.Outcome.TheVariants as outcome
-use Rattle.tick_top.specs.declared.ended.Ended as code
+use Rattle.tick_outcome.specs.declared.ended.Ended as code
 use Rattle.tick_top.specs.Outside.{Files, Outside, Failures}
 use Rattle.tick_top.specs.Answers.{longest_text}
 use Rattle.tick_top.specs.Does.{Answered, IsOfCommand, SavedAt, Evaluates, PrintsText}

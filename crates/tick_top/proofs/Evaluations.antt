@@ -9,10 +9,10 @@ use Rattle.history.specs.Events as event
 use Rattle.pace.specs.Pace.{Seen}
 use Rattle.staged_meaning.specs.Meaning.{Program, meant}
 use Rattle.wellformed.specs.declared.typed.Typed.{Typed}
-use Rattle.tick_build.specs.Texts.{typed_tree, Means}
+use Rattle.tick_top.specs.Texts.{typed_tree, Means}
 use Rattle.tick_outcome.specs.declared.outcome.Outcome.{Outcome}
 use Rattle.tick_outcome.specs.declared.outcome.Outcome.TheVariants as outcome
-use Rattle.tick_top.specs.declared.ended.Ended as code
+use Rattle.tick_outcome.specs.declared.ended.Ended as code
 use Rattle.tick_top.specs.Answers.{IsBare}
 use Rattle.tick_top.specs.Does.{WithTree, Evaluates}
 use Rattle.tick_top.specs.Seen.{told, outcome_at}

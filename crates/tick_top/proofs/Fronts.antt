@@ -6,11 +6,11 @@ use Rattle.host_edge.specs.Files.{Loads}
 use Rattle.image_file.specs.Image.{ImageParts}
 use Rattle.mips_text.specs.Assembly.{assembled}
 use Rattle.staged_meaning.specs.Meaning.{Program}
-use Rattle.tick_build.specs.Texts.{typed}
+use Rattle.tick_top.specs.Texts.{typed}
 use Rattle.tick_outcome.specs.declared.outcome.Outcome.{Outcome}
 use Rattle.tick_outcome.specs.declared.outcome.Outcome.TheVariants as outcome
 use Rattle.tick_top.specs.declared.ended.Front.TheVariants.{Found, Instead}
-use Rattle.tick_top.specs.declared.ended.Ended.{Ended}
+use Rattle.tick_outcome.specs.declared.ended.Ended.{Ended}
 use Rattle.command_words.specs.Orders.{Asked, of_file, gen, build}
 use Rattle.tick_top.specs.Outside.{Files, Outside, Still, SameFiles}
 use Rattle.tick_top.specs.Answers.{IsFront, longest_text, IsBuilt, IsRefused, IsAssembled, IsAsmRefused}

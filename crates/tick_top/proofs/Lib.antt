@@ -1,3 +1,7 @@
+pub mod Mains
+pub mod Files
+pub mod Intervals
+pub mod Programs
 pub mod Saved
 pub mod Fronts
 pub mod Runs

@@ -11,10 +11,10 @@ use Rattle.history.specs.Events.{output}
 use Rattle.staged_meaning.specs.Meaning.{Program, meant}
 use Rattle.wellformed.specs.declared.typed.Typed.{Typed}
 use Rattle.tick_tree.specs.declared.fault.Fault.{Fault}
-use Rattle.tick_build.specs.Texts.{typed_tree, Means}
+use Rattle.tick_top.specs.Texts.{typed_tree, Means}
 use Rattle.command_words.specs.Orders.{mean, Asked, of_file, order_of}
 use Rattle.tick_outcome.specs.declared.outcome.Outcome.TheVariants as outcome
-use Rattle.tick_top.specs.declared.ended.Ended.{Ended}
+use Rattle.tick_outcome.specs.declared.ended.Ended.{Ended}
 use Rattle.tick_top.specs.Outside.{Files, Outside}
 use Rattle.tick_top.specs.Answers.{IsBare, longest_text}
 use Rattle.tick_top.specs.Seen.{told, outcome_at}

@@ -6,7 +6,7 @@ use Rattle.history.specs.Events as event
 use Rattle.image_file.specs.Image.{ImageParts}
 use Rattle.pace.specs.Pace.{Seen, IsPrefix, instructions_of_a_unit, instructions_besides}
 use Rattle.pace.proofs.Runs.{later_prefix, later_same, prefix_trans}
-use Rattle.icode_service_spec.specs.Choices.{Choice}
+use Rattle.mips_model.specs.Choices.{Choice}
 use Rattle.mips_model.specs.Run.{runs, IsDefined}
 use Rattle.mips_model.proofs.Runs.{grows}
 use Rattle.staged_meaning.specs.Meaning.{Program, meant}

@@ -10,7 +10,7 @@ use Rattle.host_edge.specs.Files.{Loads}
 use Rattle.command_words.specs.Orders.{Order, run, build, exec, mean, asm, dis, Asked, of_file, gen, order_of}
 use Rattle.tick_outcome.specs.declared.outcome.Outcome.{Outcome}
 use Rattle.tick_outcome.specs.declared.outcome.Outcome.TheVariants as outcome
-use Rattle.tick_top.specs.declared.ended.Ended.{Ended}
+use Rattle.tick_outcome.specs.declared.ended.Ended.{Ended}
 use Rattle.tick_top.specs.Outside.{Files, Outside, Failures}
 use Rattle.staged_meaning.specs.Meaning.{Program, meant}
 use Rattle.tick_top.specs.Answers.{longest_text}

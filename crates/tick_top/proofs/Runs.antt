@@ -10,7 +10,7 @@ use Rattle.history.specs.Events.{Item, End, Input, output, outs}
 use Rattle.image_file.specs.Image.{ImageParts}
 use Rattle.pace.specs.Pace.{Seen, IsPrefix}
 use Rattle.pace.proofs.Runs.{later_prefix, prefix_trans}
-use Rattle.icode_service_spec.specs.Choices.{Choice}
+use Rattle.mips_model.specs.Choices.{Choice}
 use Rattle.host_edge.specs.declared.ending.Counts.{Counts}
 use Rattle.mips_model.specs.State.{World}
 use Rattle.mips_model.specs.Steps.{run}

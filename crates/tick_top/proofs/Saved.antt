@@ -1,7 +1,7 @@
 -- What is said of a save holds of the files before a load too, since a load changes no file.
 use Rattle.std.proofs.Common.{◌≡◌, ◌∙◌, sym, ℕ, List}
 use Rattle.image_file.specs.Image.{ImageParts}
-use Rattle.tick_top.specs.declared.ended.Ended.{Ended}
+use Rattle.tick_outcome.specs.declared.ended.Ended.{Ended}
 use Rattle.tick_top.specs.Outside.{Files, SameFiles}
 use Rattle.tick_top.specs.Does.{SavedAt, SavesImage}
 

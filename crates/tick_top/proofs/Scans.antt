@@ -11,10 +11,10 @@ use Rattle.history.specs.Events.{Input, Next, Given, AtEnd, Failing, next_byte}
 use Rattle.image_file.specs.Image.{ImageParts}
 use Rattle.icode_ops.specs.declared.op.Op.{Op}
 use Rattle.icode_ir.specs.Build.{Build, finished}
-use Rattle.icode_service_spec.specs.declared.bad_service.BadService.{BadService}
-use Rattle.icode_service_spec.specs.Choices.{Choice, IsScanned, spilled}
-use Rattle.icode_service_spec.specs.Services as services
-use Rattle.icode_service_spec.specs.Services.{Generator, Outcome, Does}
+use Rattle.mips_model.specs.declared.bad_service.BadService.{BadService}
+use Rattle.mips_model.specs.Choices.{Choice, IsScanned, spilled}
+use Rattle.mips_model.specs.CodeServices as services
+use Rattle.mips_model.specs.CodeServices.{Generator, Outcome, Does}
 use Rattle.icode_service.specs.Served.{ChosenFor}
 use Rattle.linear_scan_spec.specs.Scan.{places_of}
 use Rattle.mips_encoder.specs.declared.instruction.Instr.TheVariants.{Syscall}
@@ -28,10 +28,10 @@ use Rattle.mips_model.specs.Steps.{found, word_at, fetch, faulted, apply, act, i
 use Rattle.mips_model.specs.Beside.{beside_state, beside, is_service, is_at_service}
 use Rattle.mips_model.specs.Run.{begins, runs, see, is_serving, steps_within}
 use Rattle.mips_model.proofs.Aside.{step_aside}
-use Rattle.icode_codes.specs.Decoded.{op_of}
+use Rattle.icode_ir.specs.Decoded.{op_of}
 use Rattle.mips_machine.specs.Progress.{counts_of}
 use Rattle.mips_machine.specs.Ran.{IsScannedAt}
-use Rattle.tick_build.proofs.Intervals.{one_list}
+use Rattle.tick_top.proofs.Intervals.{one_list}
 use Rattle.tick_top.specs.Seen.{Account, IsScannedRun, account_at}
 
 -- ---- one choice

@@ -4,7 +4,7 @@ use Rattle.host_edge.specs.declared.ending.Ending.TheVariants as ending
 use Rattle.history.specs.Events as event
 use Rattle.tick_outcome.specs.declared.outcome.Outcome.{Outcome}
 use Rattle.tick_outcome.specs.declared.outcome.Outcome.TheVariants as outcome
-use Rattle.tick_top.specs.declared.ended.Ended.{Ended}
+use Rattle.tick_outcome.specs.declared.ended.Ended.{Ended}
 use Rattle.tick_top.specs.Outside.{Outside, Failures}
 use Rattle.tick_top.specs.Does.{Cause}
 use Rattle.tick_top.specs.Top.{Ticked}

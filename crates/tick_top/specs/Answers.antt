@@ -12,13 +12,13 @@ use Rattle.mips_machine.specs.Progress.{Progress, first_progress, counts_of}
 use Rattle.mips_machine.specs.Ran.{Ran}
 use Rattle.mips_text.specs.Assembly.{assembled}
 use Rattle.staged_meaning.specs.Meaning.{Program}
-use Rattle.tick_build.specs.Texts.{typed, Lowered, HoldsForChoices}
+use Rattle.tick_top.specs.Texts.{typed, Lowered, HoldsForChoices}
 use Rattle.static_image.specs.Headline.{Headline}
 use Rattle.tick_outcome.specs.declared.outcome.Outcome.{Outcome}
 use Rattle.tick_outcome.specs.declared.outcome.Outcome.TheVariants.{Done, Refused, AsmRefused, LoadFault, TooLong}
 use Rattle.tick_outcome.specs.declared.outcome.Outcome.TheVariants.{BadImage, Trap, MachineFault, OutOfSteps, ReadFault}
 use Rattle.tick_outcome.specs.declared.outcome.Outcome.TheVariants.{WriteFault}
-use Rattle.tick_top.specs.declared.ended.Ended.{Ended}
+use Rattle.tick_outcome.specs.declared.ended.Ended.{Ended}
 use Rattle.tick_top.specs.declared.ended.Front.{Front}
 use Rattle.tick_top.specs.declared.ended.Front.TheVariants.{Found, Instead}
 use Rattle.tick_top.specs.declared.load.Loaded.{Loaded}

@@ -15,14 +15,14 @@ use Rattle.host_edge.specs.declared.ending.Ending.{Ending}
 use Rattle.history.specs.Events.{output}
 use Rattle.history.specs.Events as event
 use Rattle.staged_meaning.specs.Meaning.{Program, meant}
-use Rattle.tick_build.specs.Texts.{typed, typed_tree, Means, Lowered, HoldsForChoices}
+use Rattle.tick_top.specs.Texts.{typed, typed_tree, Means, Lowered, HoldsForChoices}
 use Rattle.static_image.specs.Headline.{Headline}
 use Rattle.command_words.specs.Orders.{Order, run, build, exec, mean, asm, dis}
 use Rattle.tick_outcome.specs.declared.outcome.Outcome.{Outcome}
 use Rattle.tick_outcome.specs.declared.outcome.Outcome.TheVariants.{Done, BadWords, Refused, AsmRefused, LoadFault}
 use Rattle.tick_outcome.specs.declared.outcome.Outcome.TheVariants.{TooLong, BadImage, Trap, MachineFault, OutOfSteps}
 use Rattle.tick_outcome.specs.declared.outcome.Outcome.TheVariants.{ReadFault, WriteFault, SaveFault}
-use Rattle.tick_top.specs.declared.ended.Ended.{Ended}
+use Rattle.tick_outcome.specs.declared.ended.Ended.{Ended}
 use Rattle.tick_top.specs.Outside.{Files, Outside, Failures, SameFiles, SameOtherFiles, Silent, Still}
 use Rattle.tick_top.specs.Answers.{IsBare, RanImage, longest_text, longest_image}
 use Rattle.tick_top.specs.Seen.{told, outcome_at}

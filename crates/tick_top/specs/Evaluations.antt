@@ -7,7 +7,7 @@ use Rattle.history.specs.Events.{Item, End, output}
 use Rattle.pace.specs.Pace.{Seen}
 use Rattle.staged_meaning.specs.Meaning.{Program, meant}
 use Rattle.wellformed.specs.declared.typed.Typed.{Typed}
-use Rattle.tick_build.specs.Texts.{typed_tree, Means}
+use Rattle.tick_top.specs.Texts.{typed_tree, Means}
 use Rattle.command_words.specs.Orders.{mean, of_file, order_of}
 use Rattle.tick_outcome.specs.declared.outcome.Outcome.{Outcome}
 use Rattle.tick_outcome.specs.declared.outcome.Outcome.TheVariants.{WriteFault}

@@ -5,7 +5,7 @@ use Rattle.host_edge.specs.Moves.{TakesFront}
 use Rattle.tick_gen.specs.Source.{source}
 use Rattle.command_words.specs.Orders.{Asked, of_file, gen}
 use Rattle.tick_outcome.specs.declared.outcome.Outcome.TheVariants.{Done, WriteFault}
-use Rattle.tick_top.specs.declared.ended.Ended.{Ended}
+use Rattle.tick_outcome.specs.declared.ended.Ended.{Ended}
 use Rattle.tick_top.specs.Outside.{Outside, SameFiles}
 use Rattle.tick_top.specs.Answers.{IsBare}
 use Rattle.tick_top.specs.Does.{Does}

@@ -8,17 +8,17 @@ use Rattle.std.specs.Io.KnownBytes.{Appends}
 use Rattle.host_edge.specs.declared.ending.Ending.{Ending}
 use Rattle.history.specs.Events.{Ended, Input, output}
 use Rattle.image_file.specs.Image.{ImageParts}
-use Rattle.icode_service_spec.specs.Choices.{Choice}
+use Rattle.mips_model.specs.Choices.{Choice}
 use Rattle.mips_model.specs.Run.{runs}
 use Rattle.staged_meaning.specs.Meaning.{Program, meant}
 use Rattle.wellformed.specs.declared.typed.Typed.{Typed}
-use Rattle.tick_build.specs.Texts.{typed, typed_tree, Means}
+use Rattle.tick_top.specs.Texts.{typed, typed_tree, Means}
 use Rattle.tick_gen.specs.Source.{source}
 use Rattle.command_words.specs.Orders.{Order, run, mean, of_file, gen, order_of}
 use Rattle.tick_outcome.specs.declared.outcome.Outcome.{Outcome}
 use Rattle.tick_outcome.specs.declared.outcome.Outcome.TheVariants.{Done, Trap, MachineFault, OutOfSteps, ReadFault}
 use Rattle.tick_outcome.specs.declared.outcome.Outcome.TheVariants.{WriteFault}
-use Rattle.tick_top.specs.declared.ended.Ended as code
+use Rattle.tick_outcome.specs.declared.ended.Ended as code
 use Rattle.tick_top.specs.Outside.{Outside, Failures}
 use Rattle.tick_top.specs.Answers.{longest_text}
 use Rattle.tick_top.specs.Top.{Ticked}

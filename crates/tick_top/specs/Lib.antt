@@ -1,3 +1,5 @@
+pub mod Texts
+pub mod Saved
 pub mod Outside
 pub mod Answers
 pub mod Does

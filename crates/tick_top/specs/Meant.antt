@@ -12,7 +12,7 @@ use Rattle.history.specs.Events.{End, Input, output}
 use Rattle.history.specs.Events as event
 use Rattle.pace.specs.Pace.{IsPrefix, instructions_of_a_unit, instructions_besides}
 use Rattle.staged_meaning.specs.Meaning.{Program, meant}
-use Rattle.tick_build.specs.Texts.{typed}
+use Rattle.tick_top.specs.Texts.{typed}
 use Rattle.tick_outcome.specs.declared.outcome.Outcome.{Outcome}
 use Rattle.tick_outcome.specs.declared.outcome.Outcome.TheVariants.{Done, Trap, OutOfSteps, ReadFault, WriteFault}
 use Rattle.tick_top.specs.Answers.{longest_text}

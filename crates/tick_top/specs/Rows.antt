@@ -11,20 +11,20 @@ use Rattle.history.specs.Events.{End, Input}
 use Rattle.image_file.specs.Image.{ImageParts}
 use Rattle.image_file.specs.Format.{parsed}
 use Rattle.image_file.specs.declared.fault.ImageFault.{ImageFault}
-use Rattle.icode_service_spec.specs.Choices.{Choice}
+use Rattle.mips_model.specs.Choices.{Choice}
 use Rattle.mips_model.specs.Run.{runs}
 use Rattle.mips_text.specs.Assembly.{assembled}
 use Rattle.mips_text.specs.declared.fault.AsmFault.{AsmFault}
 use Rattle.staged_meaning.specs.Meaning.{Program}
 use Rattle.tick_tree.specs.declared.fault.Fault.{Fault}
 use Rattle.wellformed.specs.declared.typed.Typed.{Typed}
-use Rattle.tick_build.specs.Texts.{typed, typed_tree}
+use Rattle.tick_top.specs.Texts.{typed, typed_tree}
 use Rattle.command_words.specs.Orders.{Order, run, build, exec, mean, asm, dis, of_file, order_of}
 use Rattle.tick_outcome.specs.declared.outcome.Outcome.{Outcome}
 use Rattle.tick_outcome.specs.declared.outcome.Outcome.TheVariants.{Refused, AsmRefused, LoadFault, TooLong, BadImage}
 use Rattle.tick_outcome.specs.declared.outcome.Outcome.TheVariants.{Trap, MachineFault, OutOfSteps, ReadFault}
 use Rattle.tick_outcome.specs.declared.outcome.Outcome.TheVariants.{WriteFault}
-use Rattle.tick_top.specs.declared.ended.Ended.{Ended}
+use Rattle.tick_outcome.specs.declared.ended.Ended.{Ended}
 use Rattle.tick_top.specs.Outside.{Files, Outside}
 use Rattle.tick_top.specs.Answers.{longest_text, longest_image}
 use Rattle.tick_top.specs.Seen.{IsInput, IsScannedRun}

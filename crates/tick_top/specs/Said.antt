@@ -4,7 +4,7 @@ use Rattle.std.specs.Prelude.{◌&&◌, if◌then◌else◌, List, ℕ, [], ◌+
 use Rattle.command_words.specs.Orders.{asks_counts}
 use Rattle.tick_outcome.specs.Counts.{counts_line}
 use Rattle.tick_outcome.specs.Outcomes.{line_of}
-use Rattle.tick_top.specs.declared.ended.Ended.{Ended}
+use Rattle.tick_outcome.specs.declared.ended.Ended.{Ended}
 
 abbrev pub counts_said : (words : List (List ℕ)) → Ended → List ℕ
 counts_said words e = if asks_counts words && is_some e.image then counts_line e.counts e.steps else []

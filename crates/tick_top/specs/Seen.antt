@@ -10,12 +10,12 @@ use Rattle.history.specs.Events.{Item, End, Input, output}
 use Rattle.history.specs.Events as event
 use Rattle.image_file.specs.Image.{ImageParts}
 use Rattle.pace.specs.Pace.{Seen, IsPrefix}
-use Rattle.icode_service_spec.specs.Choices.{Choice}
+use Rattle.mips_model.specs.Choices.{Choice}
 use Rattle.mips_model.specs.Steps.{run}
 use Rattle.mips_model.specs.Run.{begins, runs, steps_within, IsDefined}
 use Rattle.mips_machine.specs.Progress.{counts_of}
 use Rattle.mips_machine.specs.Ran.{bytes_read, IsScannedAt}
-use Rattle.tick_top.specs.declared.ended.Ended.{Ended}
+use Rattle.tick_outcome.specs.declared.ended.Ended.{Ended}
 use Rattle.tick_outcome.specs.declared.outcome.Outcome.{Outcome}
 use Rattle.tick_outcome.specs.declared.outcome.Outcome.TheVariants.{Done, Trap, MachineFault, OutOfSteps, ReadFault}
 use Rattle.tick_outcome.specs.declared.outcome.Outcome.TheVariants.{WriteFault}

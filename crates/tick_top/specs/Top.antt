@@ -6,7 +6,7 @@ use Rattle.host_edge.specs.Causes.{Rose}
 use Rattle.host_edge.specs.Moves.{TakesFront}
 use Rattle.tick_outcome.specs.declared.outcome.Outcome.{Outcome}
 use Rattle.tick_outcome.specs.declared.outcome.Outcome.TheVariants.{Done, BadWords, WriteFault}
-use Rattle.tick_top.specs.declared.ended.Ended.{Ended}
+use Rattle.tick_outcome.specs.declared.ended.Ended.{Ended}
 use Rattle.command_words.specs.Orders.{order_of}
 use Rattle.tick_top.specs.Outside.{Outside, Failures}
 use Rattle.tick_top.specs.Does.{Answered, IsOfCommand, Cause}

@@ -6,7 +6,7 @@ ghost use Rattle.tick_top.specs.Outside.{SameFiles, Unwritten, outside, failures
 ghost use Rattle.tick_top.specs.Does.{IsOfCommand, Cause, RunsFile, ExecutesFile, BuildsFile, AssemblesFile, PrintsFile};
 ghost use Rattle.tick_top.specs.Generated.{Fulfils};
 
-use crate::ended::{Ended, Front, bare};
+use crate::ended::{Front, bare};
 use crate::generated::write_source;
 use crate::images::{run_image, save_image, write_text};
 use crate::load::{image_of_assembly, image_of_file, image_of_text};
@@ -14,6 +14,7 @@ use crate::means::mean_file;
 use command_words::Command;
 use host_edge::{Sink, Source, Store};
 use std::alloc::{AllocError, Global};
+use tick_outcome::Ended;
 
 // `run FILE`
 fn run_file<S: Store, I: Source, O: Sink>(

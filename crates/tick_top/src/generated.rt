@@ -5,11 +5,11 @@ ghost use Rattle.tick_top.specs.Outside.{failures};
 ghost use Rattle.tick_top.specs.Does.{IsOfCommand, Cause};
 ghost use Rattle.tick_top.specs.Generated.{PrintsSource};
 
-use crate::ended::{Ended, bare};
+use crate::ended::bare;
 use host_edge::{Sink, write_whole};
 use std::alloc::{AllocError, Global};
 use tick_gen::generate;
-use tick_outcome::Outcome;
+use tick_outcome::{Ended, Outcome};
 
 /// `gen NUMBER`: writes the source with this number.
 pub fn write_source<O: Sink>(alloc: Global, number: u32, out: &mut O) -> Result<Ended, AllocError>

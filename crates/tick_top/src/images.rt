@@ -5,13 +5,13 @@ ghost use Rattle.tick_top.specs.Outside.{SameFiles, failures};
 ghost use Rattle.tick_top.specs.Answers.{RanImage, outcome_of};
 ghost use Rattle.tick_top.specs.Does.{IsOfCommand, Cause, SavesImage, PrintsText};
 
-use crate::ended::{Ended, bare};
+use crate::ended::bare;
 use host_edge::{Ending, SaveFault, Sink, Source, Store};
 use image_file::{Image, write};
 use mips_machine::{Machine, Stop};
 use mips_text::disassemble;
 use std::alloc::{AllocError, Global};
-use tick_outcome::Outcome;
+use tick_outcome::{Ended, Outcome};
 
 // The outcome of a run of at most so many instructions.
 fn outcome_of(steps: u64, stop: Stop) -> Outcome

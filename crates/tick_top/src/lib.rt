@@ -1,6 +1,8 @@
-//! The top call: it reads the words of a command line, does what they say, and reports the outcome.
+//! The top call: it reads the words of a command line, does what they say, and reports the outcome. Under it stands the
+//! way from the text of a program to the image that the machine runs (`build`).
 #![tactic(auto)]
 
+mod accepted;
 mod commands;
 mod ended;
 mod generated;
@@ -9,13 +11,15 @@ mod laws;
 mod load;
 mod means;
 mod said;
+mod saved;
 mod top;
 mod whole_input;
 
-pub use ended::Ended;
+pub use accepted::{build, means_as_it_runs, typed_tree};
 pub use laws::{
     commands_complete, mean_completes, mean_means, run_completes, run_means, scans_once,
     shows_runs, sources_complete,
 };
-pub use tick_outcome::{Outcome, status};
+pub use saved::{build_file, lowers_one, reads_headline, saves_built, saves_headline, saves_one};
+pub use tick_outcome::{Ended, Outcome, status};
 pub use top::tick;

@@ -1,15 +1,16 @@
 //! Whole files, and the images that they hold or stand for.
 ghost use Rattle.std.specs.Prelude.{◌<◌, ◌^◌, IfOk};
 ghost use Rattle.tick_top.specs.Outside.{SameFiles};
-ghost use Rattle.tick_top.specs.Answers.{IsLoaded, LoadCause, IsFront, FrontCause, IsBuilt, IsRefused, IsAssembled, IsAsmRefused, IsRead, IsNoImage};
+ghost use Rattle.tick_top.specs.Answers.{IsLoaded, LoadCause, IsFront, FrontCause, IsBuilt, IsRefused, IsAssembled};
+ghost use Rattle.tick_top.specs.Answers.{IsAsmRefused, IsRead, IsNoImage};
 
+use crate::accepted::build;
 use crate::ended::Front;
 use host_edge::{LoadFault, Store};
 use image_file::{ImageDeny, read};
 use limits::text::{LONGEST_IMAGE, LONGEST_TEXT};
 use mips_text::{AsmDeny, assemble};
 use std::alloc::{AllocError, Global};
-use tick_build::build;
 use tick_outcome::Outcome;
 use tick_tree::Deny;
 

@@ -5,20 +5,20 @@ ghost use Rattle.std.specs.Io.KnownBytes.{Keeps};
 ghost use Rattle.history.specs.Events as event;
 ghost use Rattle.staged_meaning.specs.Meaning.{Program};
 ghost use Rattle.limits.specs.declared.text.TheConstants.{LONGEST_TEXT};
-ghost use Rattle.tick_build.specs.Texts.{Means};
+ghost use Rattle.tick_top.specs.Texts.{Means};
 ghost use Rattle.tick_top.specs.Outside.{Files, Failures, SameFiles, outside, failures};
 ghost use Rattle.tick_top.specs.Does.{IsOfCommand, Cause, Answered, WithTree, MeansProgram, MeansFile, Evaluates};
 ghost use Rattle.tick_top.specs.Seen.{outcome_at};
 
-use crate::ended::{Ended, bare};
+use crate::accepted::typed_tree;
+use crate::ended::bare;
 use crate::load::{Loaded, load};
 use crate::whole_input::{InputRead, read_input};
 use evaluate::evaluate;
 use host_edge::{Ending, Sink, Source, Store, write_whole};
 use limits::text::LONGEST_TEXT;
 use std::alloc::{AllocError, Global};
-use tick_build::typed_tree;
-use tick_outcome::Outcome;
+use tick_outcome::{Ended, Outcome};
 use tick_tree::Deny;
 use wellformed::Typed;
 

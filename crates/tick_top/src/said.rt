@@ -7,10 +7,9 @@ ghost use Rattle.host_edge.specs.Moves.{TakesFront};
 ghost use Rattle.tick_top.specs.Said.{counts_said, said};
 ghost use Rattle.tick_top.specs.Top.{Reports, unsaid};
 
-use crate::ended::Ended;
 use command_words::asks_counts;
 use host_edge::{Failed, Sink, write_whole};
-use tick_outcome::{Outcome, counts_end, counts_front, line_of};
+use tick_outcome::{Ended, Outcome, counts_end, counts_front, line_of};
 
 // Writes two pieces, one behind the other.
 fn write_both<E: Sink>(err: &mut E, first: &[u8], second: &[u8]) -> Result<(), Failed>

@@ -9,12 +9,12 @@ ghost use Rattle.tick_top.specs.Rows.{RefusedRow, AsmRefusedRow, TooLongRow, Bad
 ghost use Rattle.tick_top.specs.Top.{Performs, Ticked};
 
 use crate::commands::obey;
-use crate::ended::{Ended, bare};
+use crate::ended::bare;
 use crate::said::report;
 use command_words::command_of;
 use host_edge::{Sink, Source, Store};
 use std::alloc::{AllocError, Global};
-use tick_outcome::Outcome;
+use tick_outcome::{Ended, Outcome};
 
 // Does what the words say.
 fn perform<S: Store, I: Source, O: Sink>(

@@ -6,6 +6,7 @@
 use host_edge::MemStore;
 use std::alloc::{AllocError, Global};
 use std::io::{self, Read};
+use tick_top::tick;
 use trial_seen::{seen_on, words_of};
 
 // What stands before a call.
@@ -67,7 +68,7 @@ fn report<R: Print + AllocGlobal>(
         return Ok(());
     }
     put(rt.alloc(), store, before, content)?;
-    let seen = seen_on(rt.alloc(), &words_of(rt.alloc(), line)?, store, b"")?;
+    let seen = seen_on(rt.alloc(), tick, &words_of(rt.alloc(), line)?, store, b"")?;
     let out = str::from_utf8(&seen.out).unwrap_or("?");
     let err = str::from_utf8(&seen.err).unwrap_or("?");
     println!(rt;

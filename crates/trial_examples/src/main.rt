@@ -6,13 +6,14 @@
 use host_edge::MemStore;
 use std::alloc::{AllocError, Global};
 use std::io::{self, Read};
+use tick_top::tick;
 use trial_cases::{Case, cases};
 use trial_seen::{Seen, seen_on, words_of};
 
 fn call(alloc: Global, line: &str, text: &[u8], given: &[u8]) -> Result<Seen, AllocError> {
     let mut store = MemStore::new(alloc, &[])?;
     store.put("text", text)?;
-    seen_on(alloc, &words_of(alloc, line)?, &mut store, given)
+    seen_on(alloc, tick, &words_of(alloc, line)?, &mut store, given)
 }
 
 fn push_line(into: &mut Vec<u8>, line: &[u8]) -> Result<(), AllocError> {

@@ -7,7 +7,7 @@
 use host_edge::MemStore;
 use std::alloc::{AllocError, Global};
 use std::io::{self, Read};
-use tick_top::{Outcome, status};
+use tick_top::{Outcome, status, tick};
 use trial_cases::cases;
 use trial_seen::{Seen, seen_on, words_of, words_within};
 
@@ -49,12 +49,12 @@ fn report<R: Print + AllocGlobal>(rt: &R, head: &[u8], text: &[u8]) -> io::Resul
     let mut store = MemStore::new(alloc, &[])?;
     store.put("text", text)?;
     let words = words_for(alloc, "tick mean text", units)?;
-    let meant = seen_on(alloc, &words, &mut store, bytes)?;
+    let meant = seen_on(alloc, tick, &words, &mut store, bytes)?;
     let compared = match meant.outcome {
         Outcome::OutOfSteps(_) => "not compared",
         _ => {
             let words = words_of(alloc, "tick run text")?;
-            let ran = seen_on(alloc, &words, &mut store, bytes)?;
+            let ran = seen_on(alloc, tick, &words, &mut store, bytes)?;
             comparison(&meant, &ran)
         }
     };

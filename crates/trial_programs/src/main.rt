@@ -8,6 +8,7 @@
 use host_edge::MemStore;
 use std::alloc::{AllocError, Global};
 use std::io::{self, Read};
+use tick_top::tick;
 use trial_cases::cases;
 use trial_seen::{Seen, seen_on, words_of, words_within};
 
@@ -19,7 +20,13 @@ fn call(
     store: &mut MemStore,
     given: &[u8],
 ) -> Result<Seen, AllocError> {
-    seen_on(alloc, &words_within(alloc, line, steps)?, store, given)
+    seen_on(
+        alloc,
+        tick,
+        &words_within(alloc, line, steps)?,
+        store,
+        given,
+    )
 }
 
 // A program under `run`, under `build` and then `exec`, and under `mean`, on a store of its own.
@@ -33,7 +40,7 @@ fn report<R: Print + AllocGlobal>(rt: &R, head: &[u8], text: &[u8]) -> io::Resul
     let ran = call(alloc, "tick run text", steps, &mut store, given)?;
     ran.show(rt, "run")?;
     let build = words_of(alloc, "tick build text image")?;
-    seen_on(alloc, &build, &mut store, b"")?;
+    seen_on(alloc, tick, &build, &mut store, b"")?;
     let executed = call(alloc, "tick exec image", steps, &mut store, given)?;
     executed.show(rt, "exec")?;
     let meant = call(alloc, "tick mean text", steps, &mut store, given)?;

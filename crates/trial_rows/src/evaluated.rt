@@ -5,6 +5,7 @@ use crate::{HELLO, shown};
 use host_edge::{MemSink, MemSource, MemStore};
 use std::alloc::{AllocError, Global};
 use std::io;
+use tick_top::tick;
 use trial_seen::{ROOM, Seen, seen_after, seen_by, seen_on, words_of};
 
 // The input is at most 1,048,576 bytes.
@@ -32,9 +33,23 @@ fn source_writes(alloc: Global, number: &str) -> Result<Seen, AllocError> {
     let mut input = MemSource::new(alloc, b"", &[])?;
     let mut source = MemSink::new(alloc, 100_000, &[])?;
     let mut err = MemSink::new(alloc, ROOM, &[])?;
-    seen_by(alloc, &words, &mut store, &mut input, &mut source, &mut err)?;
+    seen_by(
+        alloc,
+        tick,
+        &words,
+        &mut store,
+        &mut input,
+        &mut source,
+        &mut err,
+    )?;
     store.put("text", source.taken())?;
-    seen_on(alloc, &words_of(alloc, "tick mean text")?, &mut store, b"")
+    seen_on(
+        alloc,
+        tick,
+        &words_of(alloc, "tick mean text")?,
+        &mut store,
+        b"",
+    )
 }
 
 /// The rows of this file.
@@ -65,7 +80,7 @@ pub(crate) fn rows<R: Print + AllocGlobal>(rt: &R) -> io::Result<()> {
     shown(
         rt,
         "an output is written behind an evaluation",
-        seen_after(rt.alloc(), "tick mean text", HELLO, &[0]),
+        seen_after(rt.alloc(), tick, "tick mean text", HELLO, &[0]),
     )?;
     shown(
         rt,

@@ -4,6 +4,7 @@ use crate::{HELLO, shown};
 use host_edge::{MemSink, MemSource, MemStore};
 use std::alloc::{AllocError, Global};
 use std::io;
+use tick_top::tick;
 use trial_seen::{ROOM, Seen, seen_by, seen_on, words_of};
 
 // A function of one parameter is made in the arena from its first word on: it answers the parameter and 7. Its four
@@ -80,7 +81,7 @@ fn counted_call(
     let mut input = MemSource::new(alloc, b"", &[])?;
     let mut out = MemSink::new(alloc, ROOM, &[])?;
     let mut err = MemSink::new(alloc, ROOM, fails)?;
-    seen_by(alloc, &words, store, &mut input, &mut out, &mut err)
+    seen_by(alloc, tick, &words, store, &mut input, &mut out, &mut err)
 }
 
 // A store with the file `text`.
@@ -130,7 +131,13 @@ fn places_handed_back<R: Print + AllocGlobal>(rt: &R) -> io::Result<()> {
     let alloc = rt.alloc();
     let mut store = store_with(alloc, ADDING)?;
     let assembled = counted_call(alloc, "tick asm text image", &mut store, &[])?;
-    let seen = seen_on(alloc, &words_of(alloc, "tick exec image")?, &mut store, b"")?;
+    let seen = seen_on(
+        alloc,
+        tick,
+        &words_of(alloc, "tick exec image")?,
+        &mut store,
+        b"",
+    )?;
     println!(rt;
         "the places of the last function are handed back: {}, {:?}",
         assembled.status(),

@@ -4,6 +4,7 @@ use crate::{HELLO, shown};
 use host_edge::{MemSink, MemSource, MemStore};
 use std::alloc::{AllocError, Global};
 use std::io;
+use tick_top::tick;
 use trial_seen::{ROOM, Seen, seen_after, seen_by, seen_on, words_of};
 
 // A call of `build` on a store that fails at its call number 1, which is the save: the status, and what is left at the
@@ -12,7 +13,7 @@ fn left_by_a_failing_save(alloc: Global) -> Result<(u8, Vec<u8>), AllocError> {
     let words = words_of(alloc, "tick build text image")?;
     let mut store = MemStore::new(alloc, &[1])?;
     store.put("text", HELLO.as_bytes())?;
-    let seen = seen_on(alloc, &words, &mut store, b"")?;
+    let seen = seen_on(alloc, tick, &words, &mut store, b"")?;
     let left = store.file("image").unwrap_or(b"".as_slice());
     Ok((seen.status(), left.to_vec(alloc)?))
 }
@@ -44,7 +45,9 @@ pub(crate) fn given_on(
     let mut input = MemSource::new(alloc, given, fails)?;
     let mut out = MemSink::new(alloc, ROOM, &[])?;
     let mut err = MemSink::new(alloc, ROOM, &[])?;
-    seen_by(alloc, &words, &mut store, &mut input, &mut out, &mut err)
+    seen_by(
+        alloc, tick, &words, &mut store, &mut input, &mut out, &mut err,
+    )
 }
 
 // The image reads a byte and ends with it, as the text does.
@@ -69,7 +72,7 @@ pub(crate) fn rows<R: Print + AllocGlobal>(rt: &R) -> io::Result<()> {
     shown(
         rt,
         "a failing sink keeps what it took",
-        seen_after(rt.alloc(), "tick run text", HELLO, &[1]),
+        seen_after(rt.alloc(), tick, "tick run text", HELLO, &[1]),
     )?;
     a_failing_save(rt)?;
     a_failing_input(rt)

@@ -3,6 +3,7 @@
 use crate::{HELLO, shown};
 use std::alloc::{AllocError, Global};
 use std::io;
+use tick_top::tick;
 use trial_seen::{Seen, seen_after, seen_within};
 
 // Calls whose streams never fail: the name, the words, and the file `text`.
@@ -24,7 +25,7 @@ const PLAIN: [(&str, &str, &str); 5] = [
 
 // How many dots a text writes under `run`, where it writes nothing else and ends with a trap, which this line says.
 fn dots_before_trap(alloc: Global, text: &str, line: &str) -> Result<Option<usize>, AllocError> {
-    let seen = seen_within(alloc, "tick run text", text, 100_000, &[])?;
+    let seen = seen_within(alloc, tick, "tick run text", text, 100_000, &[])?;
     if seen.status() == 70 && seen.err.as_slice() == line.as_bytes() && all_are(b'.', &seen.out) {
         Ok(Some(seen.out.len()))
     } else {
@@ -46,7 +47,14 @@ fn calls_without_end<R: Print + AllocGlobal>(rt: &R) -> io::Result<()> {
 // A program that writes without an end, on a standard output that fails at the listed calls.
 fn written_without_end(alloc: Global, fails: &[u64]) -> Result<Seen, AllocError> {
     let text = "int main(){for(;;)putchar(97);}";
-    seen_within(alloc, "tick run --steps 100000 text", text, 100_000, fails)
+    seen_within(
+        alloc,
+        tick,
+        "tick run --steps 100000 text",
+        text,
+        100_000,
+        fails,
+    )
 }
 
 // 187 units are within the steps, and a turn has four of them.
@@ -68,7 +76,7 @@ fn a_run_without_end<R: Print + AllocGlobal>(rt: &R) -> io::Result<()> {
 /// The rows of this file.
 pub(crate) fn rows<R: Print + AllocGlobal>(rt: &R) -> io::Result<()> {
     for (name, line, text) in &PLAIN {
-        shown(rt, name, seen_after(rt.alloc(), line, text, &[]))?;
+        shown(rt, name, seen_after(rt.alloc(), tick, line, text, &[]))?;
     }
     calls_without_end(rt)?;
     a_run_without_end(rt)

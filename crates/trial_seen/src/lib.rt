@@ -1,10 +1,10 @@
-//! Whole calls over the forms in memory of the outside, and what they left.
+//! Whole calls over the forms in memory of the outside, and what they left. The trials say what is called.
 #![tactic(auto)]
 
 use host_edge::{MemSink, MemSource, MemStore};
 use std::alloc::{AllocError, Global};
 use std::io;
-use tick_top::{Outcome, status, tick};
+use tick_outcome::{Ended, Outcome, status};
 
 /// The bytes that each stream takes at most, where a trial doesn't say.
 pub const ROOM: usize = 4_096;
@@ -56,15 +56,27 @@ pub fn words_within(alloc: Global, line: &str, steps: &str) -> Result<Vec<String
 }
 
 /// A call on this outside.
-pub fn seen_by(
+pub fn seen_by<
+    F: Fn(
+        Global,
+        &[String],
+        &mut MemStore,
+        &mut MemSource,
+        &mut MemSink,
+        &mut MemSink,
+    ) -> Result<Ended, AllocError>,
+>(
     alloc: Global,
+    call: F,
     words: &[String],
     store: &mut MemStore,
     input: &mut MemSource,
     out: &mut MemSink,
     err: &mut MemSink,
-) -> Result<Seen, AllocError> {
-    let ended = tick(alloc, words, store, input, out, err)?;
+) -> Result<Seen, AllocError>
+    requires { F.IsAlwaysCallable call }
+{
+    let ended = call(alloc, words, store, input, out, err)?;
     Ok(Seen {
         outcome: ended.outcome,
         steps: ended.steps,
@@ -75,41 +87,73 @@ pub fn seen_by(
 }
 
 /// A call on these files and this input, whose streams never fail.
-pub fn seen_on(
+pub fn seen_on<
+    F: Fn(
+        Global,
+        &[String],
+        &mut MemStore,
+        &mut MemSource,
+        &mut MemSink,
+        &mut MemSink,
+    ) -> Result<Ended, AllocError>,
+>(
     alloc: Global,
+    call: F,
     words: &[String],
     store: &mut MemStore,
     given: &[u8],
-) -> Result<Seen, AllocError> {
+) -> Result<Seen, AllocError>
+    requires { F.IsAlwaysCallable call }
+{
     let mut input = MemSource::new(alloc, given, &[])?;
     let mut out = MemSink::new(alloc, ROOM, &[])?;
     let mut err = MemSink::new(alloc, ROOM, &[])?;
-    seen_by(alloc, words, store, &mut input, &mut out, &mut err)
+    seen_by(alloc, call, words, store, &mut input, &mut out, &mut err)
 }
 
 /// A call on a store with the file `text`, whose standard output takes so many bytes and fails at the listed calls.
-pub fn seen_within(
+pub fn seen_within<
+    F: Fn(
+        Global,
+        &[String],
+        &mut MemStore,
+        &mut MemSource,
+        &mut MemSink,
+        &mut MemSink,
+    ) -> Result<Ended, AllocError>,
+>(
     alloc: Global,
+    call: F,
     line: &str,
     text: &str,
     room: usize,
     fails: &[u64],
-) -> Result<Seen, AllocError> {
+) -> Result<Seen, AllocError>
+    requires { F.IsAlwaysCallable call }
+{
     let words = words_of(alloc, line)?;
     let mut store = MemStore::new(alloc, &[])?;
     store.put("text", text.as_bytes())?;
     let mut input = MemSource::new(alloc, b"", &[])?;
     let mut out = MemSink::new(alloc, room, fails)?;
     let mut err = MemSink::new(alloc, ROOM, &[])?;
-    seen_by(alloc, &words, &mut store, &mut input, &mut out, &mut err)
+    seen_by(
+        alloc, call, &words, &mut store, &mut input, &mut out, &mut err,
+    )
 }
 
 /// A call on a store with the file `text`, whose standard output fails at the listed calls.
-pub fn seen_after(
-    alloc: Global,
-    line: &str,
-    text: &str,
-    fails: &[u64],
-) -> Result<Seen, AllocError> {
-    seen_within(alloc, line, text, ROOM, fails)
+pub fn seen_after<
+    F: Fn(
+        Global,
+        &[String],
+        &mut MemStore,
+        &mut MemSource,
+        &mut MemSink,
+        &mut MemSink,
+    ) -> Result<Ended, AllocError>,
+>(alloc: Global, call: F, line: &str, text: &str, fails: &[u64]) -> Result<Seen, AllocError>
+    requires { F.IsAlwaysCallable call }
+{
+    seen_within(alloc, call, line, text, ROOM, fails)
 }

@@ -2,7 +2,7 @@
 
 ghost use Rattle.std.specs.Prelude.{◌≤◌, length};
 
-use tick_build::build_file;
+use tick_top::build_file;
 
 #[test]
 fn the_file_of_seven(rt: HostRuntime) {

@@ -1,6 +1,6 @@
 use Rattle.std.proofs.Common.{ℕ, List, length, ap, ◌∙◌, arith}
 use Rattle.icode_templates.specs.Words.{words}
-use Rattle.icode_expand.specs.Frames.{prologue, epilogue}
+use Rattle.icode_templates.specs.Frames.{prologue, epilogue}
 use Rattle.icode_expand.proofs.Written.{whole_length}
 use Rattle.icode_expand.proofs.expanded_length.Goals as goal
 

@@ -1,5 +1,5 @@
 use Rattle.std.proofs.Common.{◌+◌, ◌*◌, false, length, ap, arith}
-use Rattle.icode_expand.specs.Expansion.{expansion}
+use Rattle.icode_templates.specs.Expansion.{expansion}
 use Rattle.icode_expand.proofs.Lengths.{length_words}
 use Rattle.limits.specs.declared.run.TheConstants.{STACK_OF_A_CALL, STACK_OF_A_NODE}
 use Rattle.bench_code.proofs.slots.append.Goals as goal

@@ -1,8 +1,8 @@
 use Rattle.std.proofs.Common.{◌≡◌, ◌≤◌, ◌+◌, ◌++◌, length}
 use Rattle.staged_meaning.specs.Meaning.{eval_args}
 use Rattle.staged_meaning.specs.World.{then_do}
-use Rattle.meaning_rest.specs.Pending as pending
-use Rattle.meaning_rest.specs.Rest.{targeted, valued}
+use Rattle.eval_state.specs.Pending as pending
+use Rattle.eval_state.specs.Rest.{targeted, valued}
 use Rattle.eval_state.specs.Less.{held, waiting}
 use Rattle.eval_state.specs.Run.{here, leads, run_of, world}
 use Rattle.eval_state.specs.Views.{args_view, target_view}

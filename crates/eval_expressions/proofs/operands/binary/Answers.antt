@@ -1,6 +1,6 @@
 use Rattle.typed_tree.specs.Nodes as node
 use Rattle.typed_tree.specs.View.{expr_view}
-use Rattle.meaning_rest.specs.Pending as pending
+use Rattle.eval_state.specs.Pending as pending
 use Rattle.eval_state.specs.Less.{heft}
 use Rattle.eval_state.specs.Run.{run_of}
 use Rattle.eval_simple.proofs.Going as going

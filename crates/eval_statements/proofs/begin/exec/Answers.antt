@@ -1,5 +1,5 @@
 use Rattle.typed_tree.specs.View.{stmt_view}
-use Rattle.meaning_rest.specs.Pending as pending
+use Rattle.eval_state.specs.Pending as pending
 use Rattle.eval_state.specs.Less.{heft}
 use Rattle.eval_state.specs.Run.{outcome, run_of}
 use Rattle.eval_state.specs.Views.{now_view}

@@ -3,7 +3,7 @@ use Rattle.typed_tree.specs.declared.expression.Stmt.{Stmt}
 use Rattle.typed_tree.specs.Nodes as node
 use Rattle.typed_tree.specs.View.{stmt_view}
 use Rattle.staged_meaning.specs.World as world
-use Rattle.meaning_rest.specs.Pending as pending
+use Rattle.eval_state.specs.Pending as pending
 use Rattle.eval_state.specs.Less.{heft}
 use Rattle.eval_state.specs.Run.{outcome, run_of}
 use Rattle.eval_state.specs.Views.{items_view, now_view}

@@ -1,5 +1,5 @@
 use Rattle.std.proofs.Common.{◌≡◌, ◌≤◌, length}
-use Rattle.meaning_rest.specs.Pending as pending
+use Rattle.eval_state.specs.Pending as pending
 use Rattle.eval_state.specs.Less.{heft}
 use Rattle.eval_state.specs.Run.{outcome, run_of}
 use Rattle.eval_state.specs.Views.{items_view}

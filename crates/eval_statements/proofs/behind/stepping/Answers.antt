@@ -1,8 +1,8 @@
 use Rattle.std.proofs.Common.{◌+◌}
 use Rattle.typed_tree.specs.View.{expr_view, stmt_view}
 use Rattle.staged_meaning.specs.Meaning.{eval}
-use Rattle.meaning_rest.specs.Pending as pending
-use Rattle.meaning_rest.specs.Rest.{after, valued}
+use Rattle.eval_state.specs.Pending as pending
+use Rattle.eval_state.specs.Rest.{after, valued}
 use Rattle.eval_state.specs.Less.{heft, waiting}
 use Rattle.eval_state.specs.Run.{here, leads, run_of, world}
 use Rattle.eval_simple.proofs.Going as going

@@ -1,6 +1,6 @@
 use Rattle.typed_tree.specs.View.{expr_view, stmt_view}
-use Rattle.meaning_rest.specs.Pending as pending
-use Rattle.meaning_rest.specs.Rest.{left, loop_of}
+use Rattle.eval_state.specs.Pending as pending
+use Rattle.eval_state.specs.Rest.{left, loop_of}
 use Rattle.eval_state.specs.Less.{heft, waiting}
 use Rattle.eval_state.specs.Run.{here, leads, run_of, world}
 use Rattle.eval_state.specs.Views.{step_view}

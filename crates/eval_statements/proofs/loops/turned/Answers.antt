@@ -1,6 +1,6 @@
 use Rattle.std.proofs.Common.{refl}
 use Rattle.typed_tree.specs.View.{expr_view, stmt_view}
-use Rattle.meaning_rest.specs.Rest.{loop_of}
+use Rattle.eval_state.specs.Rest.{loop_of}
 use Rattle.eval_state.specs.Run.{run_of}
 use Rattle.eval_state.specs.Views.{step_view}
 use Rattle.eval_simple.proofs.Going.{same_as}

@@ -1,6 +1,6 @@
 use Rattle.std.proofs.Common.{◌+◌, arith}
 use Rattle.typed_tree.specs.Nodes as node
-use Rattle.meaning_rest.specs.Pending as pending
+use Rattle.eval_state.specs.Pending as pending
 use Rattle.eval_state.specs.Less.{heft, waiting}
 use Rattle.eval_state.specs.Run.{run_of}
 use Rattle.eval_state.specs.Views.{items_view}

@@ -1,6 +1,6 @@
 use Rattle.std.proofs.Common.{◌≡◌, ◌≢◌, ◌-◌, List, ap, refl, sym, arith, ◌∙◌}
 use Rattle.typed_tree.specs.declared.expression.Stmt.{Stmt}
-use Rattle.meaning_rest.specs.Rest.{left}
+use Rattle.eval_state.specs.Rest.{left}
 use Rattle.eval_state.specs.Run.{Run, leads, run_of, with_units, world}
 use Rattle.eval_state.specs.Views.{items_view}
 use Rattle.eval_simple.proofs.Going.{same_as}

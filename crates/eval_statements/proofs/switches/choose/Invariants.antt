@@ -1,5 +1,5 @@
 use Rattle.std.proofs.Common.{◌≡◌, ◌≤◌, length}
-use Rattle.meaning_rest.specs.Rest.{left, switched}
+use Rattle.eval_state.specs.Rest.{left, switched}
 use Rattle.eval_state.specs.Run.{here, leads, run_of, with_units, world}
 use Rattle.eval_state.specs.Views.{items_view}
 use Rattle.eval_statements.proofs.Labels.{comparing}

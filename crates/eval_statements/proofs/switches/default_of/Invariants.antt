@@ -2,7 +2,7 @@ use Rattle.std.proofs.Common.{◌≡◌, ◌≤◌, ℕ, length}
 use Rattle.staged_meaning.specs.Meaning.{Context}
 use Rattle.staged_meaning.specs.Statements.{exec_default}
 use Rattle.staged_meaning.specs.World.{World}
-use Rattle.meaning_rest.specs.Burden.{weight_of_items}
+use Rattle.eval_state.specs.Burden.{weight_of_items}
 use Rattle.eval_state.specs.Views.{items_view}
 use Rattle.eval_statements.proofs.switches.default_of.Given as goal
 

@@ -1,5 +1,5 @@
 use Rattle.typed_tree.specs.View.{expr_view, stmt_view}
-use Rattle.meaning_rest.specs.Pending as pending
+use Rattle.eval_state.specs.Pending as pending
 use Rattle.eval_state.specs.Run.{run_of}
 use Rattle.eval_state.specs.Views.{now_view, step_view}
 use Rattle.eval_simple.proofs.Going.{same_as}

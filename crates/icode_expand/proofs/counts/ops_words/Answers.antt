@@ -3,7 +3,7 @@ use Rattle.icode_ops.proofs.Laws.{op_at-read}
 use Rattle.icode_ops.specs.Flow.{op_at}
 use Rattle.icode_ops.specs.declared.op.Op.{Op}
 use Rattle.icode_templates.specs.Layout.{Layout, laid}
-use Rattle.icode_expand.specs.Expansion.{nowhere}
+use Rattle.icode_templates.specs.Expansion.{nowhere}
 use Rattle.icode_expand.proofs.Lengths.{length_more}
 use Rattle.icode_expand.proofs.counts.ops_words.Goals as goal
 

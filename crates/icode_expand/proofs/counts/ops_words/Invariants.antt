@@ -1,6 +1,6 @@
 use Rattle.std.proofs.Common.{◌≡◌, ◌*◌, ◌≤◌, length, take}
 use Rattle.icode_templates.specs.Layout.{laid}
-use Rattle.icode_expand.specs.Expansion.{nowhere, templates}
+use Rattle.icode_templates.specs.Expansion.{nowhere, templates}
 use Rattle.icode_expand.proofs.counts.ops_words.Given as goal
 
 abbrev pub invariant-loop-op : goal.invariant-loop-op

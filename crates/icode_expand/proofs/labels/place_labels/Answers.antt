@@ -5,7 +5,7 @@ use Rattle.icode_ops.specs.Finished.{Below}
 use Rattle.icode_ops.specs.Flow.{label_of, op_at}
 use Rattle.icode_ops.specs.declared.op.Op.{Op}
 use Rattle.icode_templates.specs.Layout.{Layout, laid}
-use Rattle.icode_expand.specs.Expansion.{nowhere, templates}
+use Rattle.icode_templates.specs.Expansion.{nowhere, templates}
 use Rattle.icode_expand.proofs.Lengths.{length_more}
 use Rattle.icode_expand.proofs.Placed.{Placed, address_at, placed_step, table_made}
 use Rattle.icode_expand.proofs.labels.place_labels.Goals as goal

@@ -4,7 +4,7 @@ use Rattle.icode_ops.specs.Flow.{goes_to, op_at}
 use Rattle.icode_ops.specs.declared.op.Op.{Op}
 use Rattle.icode_templates.specs.Layout.{Layout, laid}
 use Rattle.icode_templates.specs.Templates.{Aim}
-use Rattle.icode_expand.specs.Expansion.{nowhere}
+use Rattle.icode_templates.specs.Expansion.{nowhere}
 use Rattle.icode_expand.specs.Labels.{IsTable}
 use Rattle.icode_expand.proofs.Lengths.{length_more, templates_part}
 use Rattle.icode_expand.proofs.Placed.{low_registers}

@@ -2,7 +2,7 @@ use Rattle.std.proofs.Common.{ℕ, ◌≡◌, ◌+◌, length, take}
 use Rattle.icode_templates.specs.Layout.{laid}
 use Rattle.icode_templates.specs.Templates.{Aim}
 use Rattle.icode_templates.specs.Words.{words}
-use Rattle.icode_expand.specs.Expansion.{nowhere, templates}
+use Rattle.icode_templates.specs.Expansion.{nowhere, templates}
 use Rattle.icode_expand.specs.Labels.{IsTable, spliced}
 use Rattle.icode_expand.proofs.output.write_ops.Given as goal
 

@@ -1,6 +1,6 @@
 use Rattle.std.proofs.Common.{◌<◌, length, arith}
 use Rattle.icode_ops.specs.declared.interval.Interval.{Interval}
-use Rattle.icode_service_spec.specs.Choices.{spilled}
+use Rattle.mips_model.specs.Choices.{spilled}
 use Rattle.icode_service.proofs.Writes.{each_at, spill_step, spill_end}
 use Rattle.icode_service.proofs.tables.count_spills.Goals as goal
 

@@ -1,5 +1,5 @@
 use Rattle.std.proofs.Common.{◌≡◌, ◌+◌, ◌≤◌, drop}
-use Rattle.icode_service_spec.specs.Choices.{spilled}
+use Rattle.mips_model.specs.Choices.{spilled}
 use Rattle.icode_service.proofs.tables.count_spills.Given as goal
 
 abbrev pub invariant-loop-x : goal.invariant-loop-x

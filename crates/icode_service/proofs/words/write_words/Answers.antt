@@ -1,6 +1,6 @@
 use Rattle.std.proofs.Common.{get_or, refl, arith}
 use Rattle.code_arena.specs.Kept.{arena_of}
-use Rattle.icode_service_spec.specs.Services.{written_from}
+use Rattle.mips_model.specs.CodeServices.{written_from}
 use Rattle.icode_service.proofs.Writes.{write_step, write_end}
 use Rattle.icode_service.proofs.words.write_words.Goals as goal
 

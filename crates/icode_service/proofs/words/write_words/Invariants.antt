@@ -1,6 +1,6 @@
 use Rattle.std.proofs.Common.{◌≡◌, ◌+◌, drop}
 use Rattle.code_arena.specs.Kept.{arena_of}
-use Rattle.icode_service_spec.specs.Services.{written_from}
+use Rattle.mips_model.specs.CodeServices.{written_from}
 use Rattle.icode_service.proofs.words.write_words.Given as goal
 
 abbrev pub invariant-loop-word : goal.invariant-loop-word

@@ -1,6 +1,6 @@
 use Rattle.std.proofs.Common.{◌≡◌, ◌+◌, ◌++◌, ◌≤◌, false, length, take, drop, ap, ◌∙◌, arith, length-append}
 use Rattle.std.proofs.lemmas.List.{length-drop}
-use Rattle.icode_expand.specs.Expansion.{expansion, expanded}
+use Rattle.icode_templates.specs.Expansion.{expansion, expanded}
 use Rattle.icode_expand.proofs.Lengths.{length_words}
 use Rattle.static_backend.proofs.Slices.{tail_written, grown}
 use Rattle.static_backend.proofs.text.add_words.Goals as goal

@@ -2,7 +2,7 @@ use Rattle.std.proofs.Common.{◌≡◌, ℕ, ◌≤◌, List, length, ap, ◌�
 use Rattle.mips_encoder.specs.Table.{word_of}
 use Rattle.icode_templates.specs.Words.{words}
 use Rattle.icode_expand.specs.Labels.{spliced}
-use Rattle.spec_closure.specs.Malloc.{malloc_code}
+use Rattle.icode_templates_proof.specs.Malloc.{malloc_code}
 use Rattle.static_image.specs.Layout.{start_code}
 use Rattle.static_image.proofs.Front.{two_blocks}
 use Rattle.static_image.proofs.start.write_front.Goals as goal

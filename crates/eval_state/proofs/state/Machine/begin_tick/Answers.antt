@@ -10,7 +10,7 @@ use Rattle.staged_meaning.specs.Program.{OfExpression, OfStatement}
 use Rattle.staged_meaning.specs.Source.{tick_view}
 use Rattle.eval_state.specs.declared.state.Parts.{Parts}
 use Rattle.eval_state.proofs.Codes.{tick_begins, tick_there}
-use Rattle.meaning_rest.specs.Burden.{weight_of_tick}
+use Rattle.eval_state.specs.Burden.{weight_of_tick}
 use Rattle.eval_state.specs.Run.{run_of}
 use Rattle.eval_state.proofs.Lightens.{weighed}
 use Rattle.eval_state.proofs.state.Machine.begin_tick.Goals as goal

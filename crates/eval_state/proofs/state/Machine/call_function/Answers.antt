@@ -5,8 +5,8 @@ use Rattle.typed_tree.specs.declared.expression.Stmt.{Stmt}
 use Rattle.typed_tree.specs.View.{function_view, stmt_view}
 use Rattle.meaning_state.specs.Shared.{limit_trap}
 use Rattle.staged_meaning.specs.Size.{charge_of, size_of}
-use Rattle.meaning_rest.specs.Pending as pending
-use Rattle.meaning_rest.specs.Rest.{spent}
+use Rattle.eval_state.specs.Pending as pending
+use Rattle.eval_state.specs.Rest.{spent}
 use Rattle.eval_state.specs.declared.state.Body.{Body}
 use Rattle.eval_state.specs.declared.state.Generated.{Generated}
 use Rattle.eval_state.specs.declared.state.Parts.{Parts}

@@ -1,8 +1,8 @@
 use Rattle.std.proofs.Common.{◌≡◌, ◌+◌, ◌-◌, ◌<◌, ◌≤◌, ℕ, length, refl, ap, sym, ◌∙◌, arith}
 use Rattle.word32.specs.declared.map.TheConstants.{ARENA_WORDS, FUNCTION_ROWS}
 use Rattle.meaning_state.specs.Rows.{arena_words, numbered}
-use Rattle.meaning_rest.specs.Pending as pending
-use Rattle.meaning_rest.specs.Rest.{spent}
+use Rattle.eval_state.specs.Pending as pending
+use Rattle.eval_state.specs.Rest.{spent}
 use Rattle.eval_state.specs.declared.state.Compiled.{Compiled}
 use Rattle.eval_state.specs.declared.state.Parts.{Parts}
 use Rattle.eval_state.specs.Grown.{with_left, with_made}

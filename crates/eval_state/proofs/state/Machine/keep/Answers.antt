@@ -2,7 +2,7 @@ use Rattle.std.proofs.Common.{◌≡◌, suc, ◌+◌, ◌<◌, ◌≤◌, lengt
 use Rattle.std.proofs.Common.{refl, ◌∙◌, arith}
 use Rattle.std.proofs.lemmas.Option.{slice_get_read}
 use Rattle.meaning_state.specs.Rows.{numbered}
-use Rattle.meaning_rest.specs.Kept.{kept_of}
+use Rattle.eval_state.specs.KeptRows.{kept_of}
 use Rattle.eval_state.specs.declared.state.Kept.{Kept}
 use Rattle.eval_state.specs.Kept.{rows_view}
 use Rattle.eval_state.specs.Specified.{AreEarlier}

@@ -1,6 +1,6 @@
 use Rattle.std.proofs.Common.{◌≡◌, ◌++◌, drop, length, map, None}
 use Rattle.staged_meaning.specs.Specifications.{captures_trap, kinds_of}
-use Rattle.meaning_rest.specs.Kept.{all_kept}
+use Rattle.eval_state.specs.KeptRows.{all_kept}
 use Rattle.eval_state.specs.Kept.{kept_view, rows_view}
 use Rattle.eval_state.specs.Specified.{AreEarlier}
 use Rattle.eval_state.specs.Views.{args_view}

@@ -1,5 +1,5 @@
 use Rattle.std.proofs.Common.{◌≡◌, map}
-use Rattle.meaning_rest.specs.Kept.{captures_kept}
+use Rattle.eval_state.specs.KeptRows.{captures_kept}
 use Rattle.eval_state.specs.Kept.{kept_view, rows_view}
 use Rattle.eval_state.proofs.Walks.{IsWalked, captures_weight}
 use Rattle.eval_state.proofs.state.Machine.locals_of.Given as goal

@@ -1,5 +1,5 @@
 use Rattle.std.proofs.Common.{◌≡◌, drop, map, max}
-use Rattle.meaning_rest.specs.Kept.{parameters_kept}
+use Rattle.eval_state.specs.KeptRows.{parameters_kept}
 use Rattle.eval_state.specs.Kept.{kept_view, rows_view}
 use Rattle.eval_state.proofs.state.Machine.parameters_with.Given as goal
 

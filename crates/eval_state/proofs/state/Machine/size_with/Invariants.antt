@@ -1,6 +1,6 @@
 use Rattle.std.proofs.Common.{◌≡◌, ◌+◌, ◌≤◌, drop, map, min, slice_get}
 use Rattle.limits.specs.declared.program.TheConstants.{NODE_TOP}
-use Rattle.meaning_rest.specs.Kept.{size_kept}
+use Rattle.eval_state.specs.KeptRows.{size_kept}
 use Rattle.staged_meaning.specs.Program.{tick_size}
 use Rattle.eval_state.specs.Kept.{kept_view, rows_view}
 use Rattle.eval_state.specs.Run.{program_of}

@@ -1,8 +1,8 @@
 use Rattle.std.proofs.Common.{◌≡◌, ◌+◌, ◌<◌, ◌≤◌, length, refl, ap, sym, subst, ◌∙◌, arith}
 use Rattle.word32.specs.declared.map.TheConstants.{CLOSURE_BYTES}
 use Rattle.meaning_state.specs.Rows.{closure_bytes}
-use Rattle.meaning_rest.specs.Pending as pending
-use Rattle.meaning_rest.specs.Rest.{spent}
+use Rattle.eval_state.specs.Pending as pending
+use Rattle.eval_state.specs.Rest.{spent}
 use Rattle.eval_state.specs.declared.state.Parts.{Parts}
 use Rattle.eval_state.specs.Grown.{specification_in}
 use Rattle.eval_state.specs.Run.{here, leads, run_of, world}

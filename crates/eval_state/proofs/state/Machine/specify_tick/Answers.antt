@@ -1,10 +1,11 @@
-use Rattle.std.proofs.Common.{◌≡◌, ◌+◌, ◌<◌, ◌≤◌, List, Bool, min, map, length, slice_get, None, false, true, is_none, ap, sym}
+use Rattle.std.proofs.Common.{◌≡◌, ◌+◌, ◌<◌, ◌≤◌, List, Bool, min, map, length, slice_get, None, false, true, is_none}
+use Rattle.std.proofs.Common.{ap, sym}
 use Rattle.std.proofs.Common.{◌∙◌, arith}
 use Rattle.limits.specs.declared.program.TheConstants.{NODE_TOP, SIZE_LIMIT}
 use Rattle.staged_meaning.specs.Program.{is_expression, tick_size}
 use Rattle.staged_meaning.specs.Specifications.{captures_trap, kinds_of, specify, specify_tick}
-use Rattle.meaning_rest.specs.Kept.{all_kept, parameters_kept, row_kept, size_kept}
-use Rattle.meaning_rest.specs.Rest.{valued}
+use Rattle.eval_state.specs.KeptRows.{all_kept, parameters_kept, row_kept, size_kept}
+use Rattle.eval_state.specs.Rest.{valued}
 use Rattle.eval_state.specs.declared.state.Kept.{Kept}
 use Rattle.eval_state.specs.Kept.{kept_view, row_of, rows_view}
 use Rattle.eval_state.specs.Run.{here, leads, program_of, run_of, world}

@@ -1,5 +1,5 @@
 use Rattle.std.proofs.Common.{rules, ◌≡◌, ◌≢◌, ◌-◌, refl, ap, sym, ◌∙◌, arith}
-use Rattle.meaning_rest.specs.Rest.{spent}
+use Rattle.eval_state.specs.Rest.{spent}
 use Rattle.eval_state.specs.declared.state.Parts.{Parts}
 use Rattle.eval_state.specs.Run.{here, leads, run_of, world}
 use Rattle.eval_state.specs.Views.{now_view}

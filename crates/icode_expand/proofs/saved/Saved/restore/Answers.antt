@@ -1,6 +1,6 @@
 use Rattle.std.proofs.Common.{ℕ, ◌≡◌, ◌++◌, List, ap, ◌∙◌, append_assoc, arith}
 use Rattle.icode_templates.specs.Words.{words}
-use Rattle.icode_expand.specs.Frames.{restores}
+use Rattle.icode_templates.specs.Frames.{restores}
 use Rattle.icode_expand.proofs.Marked.{so_far, so_far_all, restores_more, restores_still}
 use Rattle.icode_expand.proofs.saved.Saved.restore.Goals as goal
 use Rattle.icode_expand.proofs.saved.Saved.restore.Goals.{then-self-place, else-self-place}

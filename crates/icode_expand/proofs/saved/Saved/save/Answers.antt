@@ -1,6 +1,6 @@
 use Rattle.std.proofs.Common.{ℕ, ◌≡◌, ◌++◌, List, ap, ◌∙◌, append_assoc, arith}
 use Rattle.icode_templates.specs.Words.{words}
-use Rattle.icode_expand.specs.Frames.{saves}
+use Rattle.icode_templates.specs.Frames.{saves}
 use Rattle.icode_expand.proofs.Marked.{so_far, so_far_all, saves_more, saves_still}
 use Rattle.icode_expand.proofs.saved.Saved.save.Goals as goal
 use Rattle.icode_expand.proofs.saved.Saved.save.Goals.{then-self-place, else-self-place}

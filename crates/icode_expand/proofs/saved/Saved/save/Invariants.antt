@@ -1,6 +1,6 @@
 use Rattle.std.proofs.Common.{◌≡◌, ◌+◌, ◌++◌, ◌≤◌, length}
 use Rattle.icode_templates.specs.Words.{words}
-use Rattle.icode_expand.specs.Frames.{saves}
+use Rattle.icode_templates.specs.Frames.{saves}
 use Rattle.icode_expand.proofs.Marked.{so_far}
 use Rattle.icode_expand.proofs.saved.Saved.save.Given as goal
 

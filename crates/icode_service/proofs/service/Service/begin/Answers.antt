@@ -1,7 +1,7 @@
 use Rattle.std.proofs.Common.{refl, ap, ◌∙◌, true}
 use Rattle.icode_ir.specs.Building.{Building}
-use Rattle.icode_service_spec.specs.declared.bad_service.BadService.TheVariants as reason
-use Rattle.icode_service_spec.specs.Services as services
+use Rattle.mips_model.specs.declared.bad_service.BadService.TheVariants as reason
+use Rattle.mips_model.specs.CodeServices as services
 use Rattle.icode_service.specs.Held.{generator}
 use Rattle.icode_service.proofs.Outcomes.{refused, done, build_some, build_none, begin_twice, begin_many, begin_new}
 use Rattle.icode_service.proofs.service.Service.begin.Goals as goal

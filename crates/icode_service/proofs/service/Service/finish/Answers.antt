@@ -2,8 +2,8 @@ use Rattle.std.proofs.Common.{◌≡◌, ◌+◌, Some, true, false, inl, refl, 
 use Rattle.std.proofs.lemmas.List.{with_items_is}
 use Rattle.code_arena.specs.Kept.{arena_of}
 use Rattle.icode_ir.specs.Build.{Build}
-use Rattle.icode_service_spec.specs.declared.bad_service.BadService.TheVariants as reason
-use Rattle.icode_service_spec.specs.Services.{is_done}
+use Rattle.mips_model.specs.declared.bad_service.BadService.TheVariants as reason
+use Rattle.mips_model.specs.CodeServices.{is_done}
 use Rattle.icode_service.specs.Held.{generator}
 use Rattle.icode_service.proofs.Outcomes.{build_some, build_none, unchanged, is_left, none_left}
 use Rattle.icode_service.proofs.Finishes.{unbegun, left_over, bad, good, counted_is}

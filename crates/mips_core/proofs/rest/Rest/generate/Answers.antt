@@ -1,6 +1,6 @@
 use Rattle.std.proofs.Common.{Ok, Err, sym, ap, ◌∙◌}
 use Rattle.code_arena.specs.Kept.{arena_of, rows_of}
-use Rattle.icode_service_spec.specs.Services as services
+use Rattle.mips_model.specs.CodeServices as services
 use Rattle.mips_model.specs.State.{register}
 use Rattle.mips_core.specs.Core.{CoreKept, state_of, data_of, generated}
 use Rattle.mips_core.proofs.Generated.{by_registers, left_alone, stays}

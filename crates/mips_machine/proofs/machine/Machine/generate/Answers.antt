@@ -1,5 +1,5 @@
 use Rattle.std.proofs.Common.{◌≡◌, ◌+◌, ap, sym, ◌∙◌, subst}
-use Rattle.icode_service_spec.specs.Services as services
+use Rattle.mips_model.specs.CodeServices as services
 use Rattle.mips_model.specs.State.{register}
 use Rattle.mips_core.specs.Core.{state_of}
 use Rattle.mips_machine.specs.declared.tally.Tally.{Tally}

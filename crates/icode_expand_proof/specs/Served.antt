@@ -1,0 +1,43 @@
+-- The ops whose simulation is proved; others join as cases. What each names is bounded as the ops of a builder are.
+use Rattle.std.specs.Prelude.{◌≡◌, ℕ, ◌<◌, ◌≤◌, Some}
+use Rattle.word32.specs.declared.map.TheConstants.{SEGMENT_BYTES}
+use Rattle.icode_ops.specs.declared.op.Op.{Op}
+use Rattle.icode_ops.specs.declared.op.Op.TheVariants.{Const, Move, Bin, FrameAddress, Load, Store, Clear, Label}
+use Rattle.icode_ops.specs.declared.op.Op.TheVariants.{Jump, BranchZero, BranchNonzero, CheckDivision, CheckZero, Un}
+use Rattle.icode_ops.specs.declared.op.Op.TheVariants.{Argument, GetParameter, Call, CallNumber, Result, Return}
+use Rattle.icode_ops.specs.declared.op.Op.TheVariants.{ReturnZero, Sys, Run}
+use Rattle.icode_ops.specs.declared.kind.RunKind.TheVariants.{Malloc}
+use Rattle.icode_ops.specs.Flow.{op_at}
+use Rattle.icode_meaning.specs.State.{Function}
+use Rattle.icode_expand_proof.specs.Settings.{Setting}
+
+-- calls have eight arguments at most
+abbrev pub IsServed : Op → Type 0
+IsServed (Const to word) = word < 4294967296
+IsServed (Move to from) = Unit {0}
+IsServed (Bin kind to left right) = Unit {0}
+IsServed (CheckDivision left right) = Unit {0}
+IsServed (CheckZero divisor) = Unit {0}
+IsServed (Un kind to from) = Unit {0}
+IsServed (FrameAddress to offset) = Unit {0}
+IsServed (Load kind to from) = Unit {0}
+IsServed (Store kind to from) = Unit {0}
+IsServed (Clear offset words) = Unit {0}
+IsServed (Label label) = Unit {0}
+IsServed (Jump label) = Unit {0}
+IsServed (BranchZero test label) = Unit {0}
+IsServed (BranchNonzero test label) = Unit {0}
+IsServed (Argument index from) = index < 8
+IsServed (GetParameter to index) = index < 8
+IsServed (Call address) = address < SEGMENT_BYTES
+IsServed (CallNumber number count) = count ≤ 8
+IsServed (Result to) = Unit {0}
+IsServed (Return from) = Unit {0}
+IsServed ReturnZero = Unit {0}
+IsServed (Sys kind to from) = Unit {0}
+IsServed (Run Malloc to from) = Unit {0}
+IsServed op = ⊥
+
+-- each op of each function is served
+pub record Serving (s : Setting) : Type 0 where
+  pub ops : (a : ℕ) (f : Function) → s.program.function_at a ≡ Some f → (p : ℕ) → IsServed (op_at f.ops p)

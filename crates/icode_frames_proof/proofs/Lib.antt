@@ -1,9 +1,0 @@
-pub mod Saving
-pub mod Restoring
-pub mod Counts
-pub mod Entering
-pub mod Epilogue
-pub mod Leaving
-pub mod Prologue
-pub mod Beginning
-pub mod Numbers

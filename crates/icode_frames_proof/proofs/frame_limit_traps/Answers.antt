@@ -1,5 +1,0 @@
-use Rattle.icode_frames_proof.proofs.Beginning.{frame_traps}
-use Rattle.icode_frames_proof.proofs.frame_limit_traps.Goals as goal
-
-pub returns : goal.returns
-returns c = frame_traps

@@ -1,5 +1,0 @@
-use Rattle.icode_frames_proof.proofs.Beginning.{function_begins}
-use Rattle.icode_frames_proof.proofs.functions_begin.Goals as goal
-
-pub returns : goal.returns
-returns c = function_begins

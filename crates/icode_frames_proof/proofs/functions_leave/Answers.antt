@@ -1,5 +1,0 @@
-use Rattle.icode_frames_proof.proofs.Leaving.{leaves_function}
-use Rattle.icode_frames_proof.proofs.functions_leave.Goals as goal
-
-pub returns : goal.returns
-returns c = leaves_function

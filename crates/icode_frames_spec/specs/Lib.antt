@@ -1,4 +1,0 @@
-pub mod Standing
-pub mod Settings
-pub mod Frames
-pub mod Relation

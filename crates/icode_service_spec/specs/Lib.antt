@@ -1,4 +1,0 @@
-pub mod Reasons
-pub mod Choices
-pub mod Services
-pub mod Laws

@@ -1,0 +1,5 @@
+use Rattle.icode_templates_proof.proofs.Calling as lemmas
+use Rattle.icode_templates_proof.proofs.routines_end.Goals as goal
+
+pub returns : goal.returns
+returns c = lemmas.routine_ends

@@ -1,3 +1,0 @@
-pub mod Suiting
-pub mod Fitting
-pub mod Accesses

@@ -1,5 +1,0 @@
-use Rattle.icode_words_proof.proofs.Suiting.{suit}
-use Rattle.icode_words_proof.proofs.legal_places_suit.Goals as goal
-
-pub returns : goal.returns
-returns c = suit

@@ -1,5 +1,0 @@
-use Rattle.icode_words_proof.proofs.Fitting.{function_stands}
-use Rattle.icode_words_proof.proofs.words_suffice.Goals as goal
-
-pub returns : goal.returns
-returns c = function_stands

@@ -1,7 +1,0 @@
-use Rattle.spec_closure.proofs.Called as lemmas
-use Rattle.spec_closure.proofs.local_is_called.Goals as goal
-
-pub returns : goal.returns
-returns c =
-    λ code a bytes shared d w v low f u r b has none stands h.
-    lemmas.local_called code a bytes d w v low f u r b shared has none stands h

@@ -1,5 +1,0 @@
-use Rattle.spec_closure.proofs.Making as lemmas
-use Rattle.spec_closure.proofs.parameters_are_specified.Goals as goal
-
-pub returns : goal.returns
-returns c = λ code entry shared d low has none h. lemmas.parameter_answered code entry shared d low has h none

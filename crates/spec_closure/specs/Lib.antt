@@ -1,5 +1,0 @@
-pub mod Malloc
-pub mod Laws
-pub mod Closures
-pub mod Routines
-pub mod RoutineLaws

@@ -1,5 +1,0 @@
-pub mod Kept
-pub mod Checks
-pub mod News
-pub mod Puts
-pub mod Newest

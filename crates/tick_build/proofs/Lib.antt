@@ -1,4 +1,0 @@
-pub mod Mains
-pub mod Files
-pub mod Intervals
-pub mod Programs

@@ -1,6 +1,0 @@
-mod Captured
-mod Standing
-pub mod Wholes
-pub mod Ticks
-pub mod Issued
-mod Words

@@ -1,0 +1,12 @@
+use Rattle.std.proofs.Common.{rules, ◌≡◌}
+use Rattle.tick_top.proofs.Mains.{builds, refuses_text}
+use Rattle.tick_top.proofs.accepted.build.Goals as goal
+
+pub returns-in_err-program-clause-refused : goal.returns-in_err-program-clause-refused
+returns-in_err-program-clause-refused c =
+    refuses_text c.args.text.now c.in_err-program.field-0.0 c.from_residual.result (search rules) (search rules)
+
+pub returns-clause-built : goal.returns-clause-built
+returns-clause-built c =
+    builds c.built_is_static.ensures c.headline_holds.ensures c.images_keep_rules.ensures c.args.text.now
+    c.in_ok-program.program c.from_program.result c.keeps_law.ensures (search rules) c.from_program.ensures

@@ -1,0 +1,94 @@
+//! The image of a text.
+ghost use Rattle.std.specs.Prelude.{◌≡◌, ◌≤◌, length, IfOk};
+ghost use Rattle.tick_tree.specs.Faults.{Checks};
+ghost use Rattle.staged_meaning.specs.Meaning.{Program};
+ghost use Rattle.tick_top.specs.Texts as spec;
+ghost use Rattle.tick_top.specs.Texts.{Builds};
+ghost use Rattle.limits.specs.declared.text.TheConstants.{LONGEST_TEXT};
+
+use built_programs::{built_is_static, main_of};
+use c_lexer::tokens;
+use image_file::Image;
+use static_image::{headline_holds, images_keep_rules};
+use std::alloc::Global;
+use tick_checker::check;
+use tick_parser::parse;
+use tick_tree::{Deny, Fault, FaultKind};
+use wellformed::Typed;
+
+// The text uses a part of the language that isn't built yet.
+fn unbuilt() -> Fault
+    ensures { result ≡ spec.unbuilt }
+{
+    Fault {
+        kind: FaultKind::Unbuilt,
+        line: 1,
+        token: 0,
+    }
+}
+
+// The typed tree of a text.
+#[tactic(auto, unfolding(crate::specs::Texts::typed_tree))]
+fn from_text(alloc: Global, text: &[u8]) -> Result<Typed, Deny>
+    requires { length text.now ≤ LONGEST_TEXT }
+    ensures { Checks result (spec.typed_tree text.now) }
+{
+    let found = tokens(alloc, text)?;
+    let tree = parse(alloc, text, &found)?;
+    check(alloc, &tree)
+}
+
+/// The typed tree of a text of at most 1,048,576 bytes, or its first static fault. It is a program, which has a meaning
+/// whether it runs so far or not.
+#[tactic(auto, using(crate::proofs::Programs::is_program))]
+pub fn typed_tree(alloc: Global, text: &[u8]) -> Result<Typed, Deny>
+    requires { length text.now ≤ LONGEST_TEXT }
+    ensures tree { Checks result (spec.typed_tree text.now) }
+    ensures program { IfOk result (λ tree. (program : Program) × spec.Means tree program) }
+{
+    let tree = from_text(alloc, text)?;
+    tree.keeps_law();
+    Ok(tree)
+}
+
+/// A program that runs is the one that its text is in the whole language: what is evaluated is what runs.
+pub fn means_as_it_runs()
+    ensures { spec.MeansAsItRuns }
+{}
+
+// The image of a program, where it is one that is built.
+#[tactic(auto, using(crate::proofs::Mains::are_static, crate::proofs::Mains::has_main, crate::proofs::Mains::bytes_fit, crate::proofs::Mains::backs, crate::proofs::Mains::not_found))]
+fn from_program(alloc: Global, program: &Typed) -> Result<Image, Deny>
+    ensures { spec.Backs program.now result }
+{
+    built_is_static();
+    program.keeps_law();
+    match main_of(program) {
+        Some(main) => match static_backend::image(
+            alloc,
+            program.functions(),
+            program.image(),
+            main,
+        ) {
+            Ok(image) => Ok(image),
+            Err(_) => Err(Deny::NoMemory),
+        },
+        None => Err(Deny::Refused(unbuilt())),
+    }
+}
+
+/// The image of a text of at most 1,048,576 bytes, or its first static fault. The headline holds for the image: the
+/// machine does on every input what the text means, at the pace, and ends only so.
+#[tactic(auto, using(crate::proofs::Mains::builds, crate::proofs::Mains::refuses))]
+pub fn build(alloc: Global, text: &[u8]) -> Result<Image, Deny>
+    requires { length text.now ≤ LONGEST_TEXT }
+    ensures built { IfOk result (λ image. Builds text.now image) }
+    ensures refused { spec.Refuses (spec.typed text.now) result }
+{
+    let program = from_text(alloc, text)?;
+    program.keeps_law();
+    built_is_static();
+    headline_holds();
+    images_keep_rules();
+    from_program(alloc, &program)
+}

@@ -1,0 +1,54 @@
+//! The image file of a text, and what follows for whoever reads it.
+ghost use Rattle.std.specs.Prelude.{◌≡◌, ◌≤◌, length, IfOk};
+ghost use Rattle.image_file.specs.Image.{IsImage};
+ghost use Rattle.tick_top.specs.Texts as spec;
+ghost use Rattle.tick_top.specs.Texts.{Builds};
+ghost use Rattle.tick_top.specs.Saved.{IsFileOf, Saves, SavesHeadline, ReadsHeadline, LowersOne, SavesOne, SavesBuilt};
+ghost use Rattle.limits.specs.declared.text.TheConstants.{LONGEST_TEXT};
+
+use crate::accepted::build;
+use image_file::write;
+use std::alloc::Global;
+use tick_tree::Deny;
+
+/// The bytes of the image file of a text of at most 1,048,576 bytes, or the text's first static fault. They are the one
+/// spelling of the image that `build` gives, so the headline holds for what is read from them.
+///
+/// # Errors
+/// `Refused` exactly for the text's first static fault, and `NoMemory` where memory was not found.
+pub fn build_file(alloc: Global, text: &[u8]) -> Result<Vec<u8>, Deny>
+    requires { length text.now ≤ LONGEST_TEXT }
+    ensures saved { IfOk result (λ bytes. Saves text.now bytes.items) }
+    ensures refused { spec.Refuses (spec.typed text.now) result }
+{
+    let image = build(alloc, text)?;
+    match write(alloc, &image) {
+        Ok(bytes) => Ok(bytes),
+        Err(_) => Err(Deny::NoMemory),
+    }
+}
+
+/// The headline holds for the saved bytes.
+pub fn saves_headline()
+    ensures { SavesHeadline }
+{}
+
+/// The headline holds for the image that is read from the saved bytes.
+pub fn reads_headline()
+    ensures { ReadsHeadline }
+{}
+
+/// A text has one image: the one that `run` lowers it to is the one whose bytes `build_file` gives.
+pub fn lowers_one()
+    ensures { LowersOne }
+{}
+
+/// A text has one image file.
+pub fn saves_one()
+    ensures { SavesOne }
+{}
+
+/// The file of a text spells any image that is built of the text, as `run` builds it.
+pub fn saves_built()
+    ensures { SavesBuilt }
+{}
