@@ -1,4 +1,4 @@
-"""Writes crates/check_walk_spec/proofs/Equations.antt: for each variant of each type of the tree the walk over it, by the walks over its parts.
+"""Writes crates/check_rules/proofs/Equations.antt: for each variant of each type of the tree the walk over it, by the walks over its parts.
 
 Run it at the top of the checkout, after a change of the tree's variants or of the folds' rules.
 """
@@ -64,11 +64,11 @@ use Rattle.tick_tree.specs.declared.syntax.Suffix.TheVariants as sx
 use Rattle.tick_tree.specs.declared.syntax.Typename.{Typename, out-Typename}
 use Rattle.tick_tree.specs.declared.syntax.Core.TheFolds.{fold-roll-Core, fold-roll-Expr, fold-roll-Initializer, fold-roll-OptionalExpr, fold-roll-Stmt, fold-roll-Suffix, fold_out-Declaration, fold_out-Declarator, fold_out-Init, fold_out-Parameter, fold_out-Typename}
 use Rattle.tick_tree.specs.declared.syntax.Core.TheOpen.{Core-F, Expr-F, Initializer-F, OptionalExpr-F, Stmt-F, Suffix-F}
-use Rattle.check_env.specs.declared.state.Around.{Around}
-use Rattle.check_env.specs.declared.state.Stage.{Stage}
-use Rattle.check_env.specs.declared.state.State.{State}
-use Rattle.check_expressions_spec.specs.Rules.{Node, Named, Shape, Item}
-use Rattle.check_walk_spec.specs.Walk.{Start, InitParts, Declarations, SuffixWalk, TypeWalk, core_rule, expr_rule, start_rule, optional_rule, stmt_rule, declaration_rule, declarator_rule, init_rule, parameter_rule, typename_rule, declaration_walk, declare_one, declare_by, declare_each, suffix_walk, suffix_steps, expr_walk, statement_walk, typename_walk, parameter_walk, declarator_walk, core, node, optional, item, suffix, declaration, shape, init, initializer, parameter, named}
+use Rattle.check_rules.specs.declared.state.Around.{Around}
+use Rattle.check_rules.specs.declared.state.Stage.{Stage}
+use Rattle.check_rules.specs.declared.state.State.{State}
+use Rattle.check_rules.specs.ExpressionRules.{Node, Named, Shape, Item}
+use Rattle.check_rules.specs.Walk.{Start, InitParts, Declarations, SuffixWalk, TypeWalk, core_rule, expr_rule, start_rule, optional_rule, stmt_rule, declaration_rule, declarator_rule, init_rule, parameter_rule, typename_rule, declaration_walk, declare_one, declare_by, declare_each, suffix_walk, suffix_steps, expr_walk, statement_walk, typename_walk, parameter_walk, declarator_walk, core, node, optional, item, suffix, declaration, shape, init, initializer, parameter, named}
 
 """
 
@@ -189,7 +189,7 @@ def main():
     text = text.replace("typename_walk, parameter_walk, declarator_walk,", "declarator_of, typename_of, typename_walk, parameter_walk as parameter_steps, declarator_walk,")
     text = text.replace("≡ parameter_walk (out", "≡ parameter_steps (out")
     text = text.replace("walk = parameter_walk (out", "walk = parameter_steps (out")
-    with open("crates/check_walk_spec/proofs/Equations.antt", "w") as file:
+    with open("crates/check_rules/proofs/Equations.antt", "w") as file:
         file.write(text)
 
 

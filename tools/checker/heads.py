@@ -1,4 +1,4 @@
-"""Writes crates/check_programs_spec/proofs/Heads.antt: the parameters of a declarator's function, by its parts.
+"""Writes crates/check_globals/proofs/Heads.antt: the parameters of a declarator's function, by its parts.
 
 Run it at the top of the checkout, after a change of the tree's types.
 """
@@ -56,7 +56,7 @@ def main():
     text += "use Rattle.tick_tree.specs.declared.syntax.Core.TheFolds.{%s, %s, %s, fold-roll-Suffix, fold_out-Declarator, fold_out-Parameter}\n" % (
         ", ".join("ind-" + t for t in AGREES), ", ".join("map-" + t for t in AGREES), ", ".join("fold-roll-" + t for t in AGREES))
     text += "use Rattle.check_globals.specs.Functions.{Given, given}\n"
-    text += ("use Rattle.check_programs_spec.specs.Parameters.{Head, Inner, nothing, inner_rule, head_rule, "
+    text += ("use Rattle.check_globals.specs.Parameters.{Head, Inner, nothing, inner_rule, head_rule, "
              "head_of, first_of, list_rule, given_rule, "
              "inner, head, list, written, parameters_of}\n\n")
     names = []
@@ -124,7 +124,7 @@ givens_agree (p ∷ ps) = ap (λ g. g ∷ map given ps) (given_agrees p) ∙ ap 
         text += part
         names.append(name)
     text += "pub ruleset suffixes = (%s, givens_agree)\n" % ", ".join(names)
-    open("crates/check_programs_spec/proofs/Heads.antt", "w").write(text)
+    open("crates/check_globals/proofs/Heads.antt", "w").write(text)
 
 
 main()

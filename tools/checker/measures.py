@@ -14,14 +14,14 @@ arguments=1,library_call=2,plain_call=2,call=3,tick_expression=1)
 TREE={'&Expr':'size-Expr','&syntax::Stmt':'size-Stmt','&OptionalExpr':'size-OptionalExpr','&Initializer':'size-Initializer'}
 out='''use Rattle.std.proofs.Common.{◌≡◌, map, ℕ, ◌+◌, ◌*◌, max, drop, []}
 use Rattle.std.specs.Prelude.{None}
-use Rattle.check_lvalues.specs.Calls as calls
+use Rattle.check_operands.specs.Calls as calls
 use Rattle.tick_tree.specs.declared.syntax.Expr.{size-Expr}
 use Rattle.tick_tree.specs.declared.syntax.Initializer.{size-Initializer}
 use Rattle.tick_tree.specs.declared.syntax.OptionalExpr.{size-OptionalExpr}
 use Rattle.tick_tree.specs.declared.syntax.Stmt.{size-Stmt}
-use Rattle.check_statements_spec.specs.Rules as statements
-use Rattle.check_walk_spec.specs.Walk as spec
-use Rattle.check_walk_spec.proofs.Loops.{after}
+use Rattle.check_rules.specs.StatementRules as statements
+use Rattle.check_rules.specs.Walk as spec
+use Rattle.check_rules.proofs.Loops.{after}
 use Rattle.check_walk.proofs.+walk.Given as goal
 
 -- each function takes the parts of a value, or passes a value on to one of a lower rank

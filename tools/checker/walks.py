@@ -1,4 +1,4 @@
-"""Writes the inductions over the walk: crates/wf_induction/specs/Asked.antt and proofs/Induction.antt, and
+"""Writes the inductions over the walk: crates/wf_walk/specs/Asked.antt and proofs/Induction.antt, and
 crates/wf_programs/proofs/Trees.antt.
 
 Run it at the top of the checkout, after a change of the tree's types or of the fold's rules; then `rt tidy` in both crates.
@@ -79,10 +79,10 @@ use Rattle.std.proofs.Common.{◌≡◌, ℕ, List, [], ◌∷◌, map, refl, ap
 for t in TYPES: text+=f"use Rattle.tick_tree.specs.declared.syntax.{t}.{{{t}, roll-{t}}}\n"
 text+="use Rattle.tick_tree.specs.declared.syntax.Core.TheOpen.{%s}\n"%", ".join(t+"-F" for t in TYPES)
 text+="use Rattle.tick_tree.specs.declared.syntax.Core.TheFolds.{%s}\n"%", ".join([f"ind-{t}" for t in TYPES]+[f"map-{t}" for t in TYPES]+[f"fold-roll-{t}" for t in TYPES])
-text+="use Rattle.check_expressions_spec.specs.Rules.{Node, Named, Shape, Item}\n"
-text+="use Rattle.check_walk_spec.specs.Walk.{Start, InitParts, Declarations, SuffixWalk, TypeWalk, %s, %s, %s}\n"%(", ".join(t+"-W" for t in TYPES),", ".join(RULE_OF[t] for t in TYPES),", ".join(WALK_OF[t] for t in TYPES))
-text+="use Rattle.wf_types.specs.Parts.{EachPart}\n"
-text+="use Rattle.wf_induction.specs.Asked.{Asked, %s, RulesKeep}\n"%", ".join("Every"+t for t in TYPES)
+text+="use Rattle.check_rules.specs.ExpressionRules.{Node, Named, Shape, Item}\n"
+text+="use Rattle.check_rules.specs.Walk.{Start, InitParts, Declarations, SuffixWalk, TypeWalk, %s, %s, %s}\n"%(", ".join(t+"-W" for t in TYPES),", ".join(RULE_OF[t] for t in TYPES),", ".join(WALK_OF[t] for t in TYPES))
+text+="use Rattle.wf_walk.specs.Parts.{EachPart}\n"
+text+="use Rattle.wf_walk.specs.Asked.{Asked, %s, RulesKeep}\n"%", ".join("Every"+t for t in TYPES)
 text+="\n-- ---- a tree of which what is asked holds\n\n"
 for t in TYPES: text+=f"abbrev Known{t} : Asked → Type 0\nKnown{t} q = (x : {t}) × q.{FIELD_OF[t]} ({WALK_OF[t]} x)\n\n"
 text+="-- ---- a layer of trees, of such trees, and of what the walks over them are\n\n"
@@ -122,14 +122,14 @@ for t in TYPES:
 text=text.replace("abbrev Known","abbrev pub Known").replace("abbrev first","abbrev pub first").replace("abbrev walked","abbrev pub walked")
 for t in TYPES:
     text=text.replace(f"abbrev {t}-T","abbrev pub "+t+"-T").replace(f"abbrev {t}-K","abbrev pub "+t+"-K").replace(f"\nwalk_{LAW_OF[t]} : ",f"\npub walk_{LAW_OF[t]} : ")
-open("crates/wf_induction/proofs/Induction.antt", "w").write(text.rstrip("\n")+"\n")
+open("crates/wf_walk/proofs/Induction.antt", "w").write(text.rstrip("\n")+"\n")
 # specs
 definitions = """-- What is asked of each value that the walk makes of a part of a tree, and of the parts of a layer.
 use Rattle.std.specs.Prelude.{ℕ, List, Option}
 use Rattle.tick_tree.specs.declared.syntax.Core.TheOpen.{%s}
-use Rattle.check_expressions_spec.specs.Rules.{Node, Named, Shape, Item}
-use Rattle.check_walk_spec.specs.Walk.{Start, InitParts, Declarations, SuffixWalk, TypeWalk, %s, %s}
-use Rattle.wf_types.specs.Parts.{EachPart}
+use Rattle.check_rules.specs.ExpressionRules.{Node, Named, Shape, Item}
+use Rattle.check_rules.specs.Walk.{Start, InitParts, Declarations, SuffixWalk, TypeWalk, %s, %s}
+use Rattle.wf_walk.specs.Parts.{EachPart}
 
 pub record Asked : Type 1 where
   pub shape : Shape → Type 0
@@ -153,7 +153,7 @@ for t in TYPES:
     definitions += "\n"
 definitions += "-- each rule of the walk keeps what is asked\npub record RulesKeep (q : Asked) : Type 0 where\n"
 for t in TYPES: definitions += f"  pub {LAW_OF[t]} : (x : {t}-W) → Every{t} q x → q.{FIELD_OF[t]} ({RULE_OF[t]} x)\n"
-open("crates/wf_induction/specs/Asked.antt", "w").write(definitions)
+open("crates/wf_walk/specs/Asked.antt", "w").write(definitions)
 
 # the law on small trees
 WEIGHT_OF = dict(zip(TYPES, "core_weight weight initializer_weight optional_weight statement_weight suffix_weight declaration_weight declarator_weight init_weight parameter_weight typename_weight".split()))
@@ -162,10 +162,10 @@ text = """-- The law on small trees: an induction over their parts, each of whic
 use Rattle.std.proofs.Common.{◌≡◌, ℕ, ◌≤◌, List}
 """
 for t in TYPES: text+=f"use Rattle.tick_tree.specs.declared.syntax.{t}.{{{t}, roll-{t}}}\n"
-text+="use Rattle.check_walk_spec.specs.Walk.{%s}\n"%", ".join(WALK_OF[t] for t in TYPES)
+text+="use Rattle.check_rules.specs.Walk.{%s}\n"%", ".join(WALK_OF[t] for t in TYPES)
 text+="use Rattle.tick_tree.specs.Weights.{%s}\n"%", ".join(WEIGHT_OF[t] for t in TYPES)
 text+="use Rattle.syntax_size.proofs.Small.{%s}\n"%", ".join(SMALL_OF[t] for t in TYPES)
-text+="use Rattle.wf_induction.proofs.Induction.{%s, %s, %s, %s}\n"%(", ".join(t+"-T" for t in TYPES),", ".join(t+"-K" for t in TYPES),", ".join("first"+t for t in TYPES),", ".join("step_"+LAW_OF[t] for t in TYPES))
+text+="use Rattle.wf_walk.proofs.Induction.{%s, %s, %s, %s}\n"%(", ".join(t+"-T" for t in TYPES),", ".join(t+"-K" for t in TYPES),", ".join("first"+t for t in TYPES),", ".join("step_"+LAW_OF[t] for t in TYPES))
 text+="use Rattle.wf_programs.specs.Good.{good, FewExpr}\nuse Rattle.wf_programs.specs.Small.{SmallAreGood}\nuse Rattle.wf_programs.proofs.Few.{few_expr}\nuse Rattle.wf_programs.proofs.Rules.{%s}\n"%", ".join("good_"+LAW_OF[t] for t in TYPES)
 text+="\n-- ---- a layer of a small tree\n\n"
 for t in TYPES:

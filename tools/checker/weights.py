@@ -169,8 +169,8 @@ walkfolds = """-- The walk over a node by those over its parts. Written by tools
 use Rattle.std.proofs.Common.{◌≡◌}
 use Rattle.std.specs.Prelude.{Option}
 """ + ROLLS + f"""use Rattle.tick_tree.specs.declared.syntax.Core.TheFolds.{{{", ".join("map-" + t for t in T)}, {", ".join("fold-roll-" + t for t in T)}}}
-use Rattle.check_expressions_spec.specs.Rules.{{Node, Named, Shape, Item}}
-use Rattle.check_walk_spec.specs.Walk.{{Start, InitParts, Declarations, SuffixWalk, TypeWalk, {", ".join(t + "-W" for t in T)}, {", ".join(WRULE[t] for t in T)}, {", ".join(WALK[t] for t in T)}}}
+use Rattle.check_rules.specs.ExpressionRules.{{Node, Named, Shape, Item}}
+use Rattle.check_rules.specs.Walk.{{Start, InitParts, Declarations, SuffixWalk, TypeWalk, {", ".join(t + "-W" for t in T)}, {", ".join(WRULE[t] for t in T)}, {", ".join(WALK[t] for t in T)}}}
 use {LAYERS}
 
 """ + "\n".join(f"""abbrev pub walked-{t} : {t}-T → {t}-W
@@ -195,9 +195,9 @@ layers = """-- The walk over each part of a tree makes nothing grow by more than
 use Rattle.std.proofs.Common.{◌≡◌, ℕ, ◌+◌, ◌≤◌, List, [], ◌∷◌, map, refl, sym, subst, Some, None, arith}
 """ + "".join(f"use Rattle.tick_tree.specs.declared.syntax.{t}.{{{t}, roll-{t}}}\n" for t in T) + f"""use Rattle.tick_tree.specs.declared.syntax.Core.TheOpen.{{{", ".join(t + "-F" for t in T)}}}
 use Rattle.tick_tree.specs.declared.syntax.Core.TheFolds.{{{", ".join("map-" + t for t in T)}, {", ".join("ind-" + t for t in T)}}}
-use Rattle.check_operators.specs.Operands as nodes
-use Rattle.check_statements_spec.specs.Rules as statement_rules
-use Rattle.check_walk_spec.specs.Walk.{{{", ".join(WRULE[t] for t in T)}, {", ".join(WALK[t] for t in T)}}}
+use Rattle.check_operands.specs.Operands as nodes
+use Rattle.check_rules.specs.StatementRules as statement_rules
+use Rattle.check_rules.specs.Walk.{{{", ".join(WRULE[t] for t in T)}, {", ".join(WALK[t] for t in T)}}}
 use Rattle.wf_growth_rules.specs.Light.{{LightNode, LightShape, LightItem, LightSuffix, LightType, LightNamed, LightOptional, absent, present, Each, none, more}}
 use Rattle.wf_growth_rules.proofs.Walks.{{weak, pure_light, lift_light}}
 use Rattle.wf_growth_rules.proofs.States.{{named_light}}
@@ -320,7 +320,7 @@ use Rattle.std.proofs.Common.{◌≡◌, ℕ, ◌+◌, ◌≤◌, List, [], ◌�
 """ + "".join(f"use Rattle.tick_tree.specs.declared.syntax.{t}.{{{t}, roll-{t}}}\n" for t in T) + f"""use Rattle.tick_tree.specs.declared.syntax.Core.TheOpen.{{{", ".join(t + "-F" for t in T)}}}
 use Rattle.tick_tree.specs.declared.syntax.Core.TheFolds.{{{", ".join("map-" + t for t in T)}, ind-Declarator, fold-roll-Core, fold-roll-Suffix, fold-roll-Declarator}}
 use Rattle.check_globals.specs.Functions.{{Given}}
-use Rattle.check_programs_spec.specs.Parameters.{{Head, Inner, nothing, first_of, inner_rule, head_rule, list_rule, given_rule, inner, head, list, written, parameters_of}}
+use Rattle.check_globals.specs.Parameters.{{Head, Inner, nothing, first_of, inner_rule, head_rule, list_rule, given_rule, inner, head, list, written, parameters_of}}
 use Rattle.tick_tree.specs.Weights.{{total, {", ".join(NRULE[t] for t in T)}, {", ".join(WEIGHT[t] for t in T)}}}
 use Rattle.syntax_size.proofs.Folds.{{weigh-Core, weigh-Suffix, weigh-Declarator, weigh-Parameter}}
 use {LAYERS}

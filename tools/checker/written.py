@@ -1,4 +1,4 @@
-"""Writes crates/check_walk_spec/proofs/Written.antt: the fold of the walk knows of each node how it is written as check_forms does.
+"""Writes crates/check_rules/proofs/Written.antt: the fold of the walk knows of each node how it is written as check_forms does.
 
 Run it at the top of the checkout, after a change of the tree's types or of the folds' rules.
 """
@@ -45,8 +45,8 @@ def main():
         ", ".join("ind-" + t for t in AGREES), ", ".join("map-" + t for t in AGREES), ", ".join("fold-roll-" + t for t in AGREES))
     for t in AGREES:
         text += "use Rattle.tick_tree.specs.declared.syntax.%s.{roll-%s}\n" % (t, t)
-    text += imports or ("use Rattle.check_expressions_spec.specs.Rules.{Node, Named, Shape, Item}\n"
-                        "use Rattle.check_walk_spec.specs.Walk.{Start, InitParts, Declarations, SuffixWalk, TypeWalk, core_rule, expr_rule, start_rule, "
+    text += imports or ("use Rattle.check_rules.specs.ExpressionRules.{Node, Named, Shape, Item}\n"
+                        "use Rattle.check_rules.specs.Walk.{Start, InitParts, Declarations, SuffixWalk, TypeWalk, core_rule, expr_rule, start_rule, "
                         "optional_rule, stmt_rule, suffix_walk, declaration_rule, declarator_rule, init_rule, parameter_rule, typename_rule, written_rule, any_suffix, any_parameter, %s}\n"
                         % ", ".join(WALKS.values()))
     text += """
@@ -188,7 +188,7 @@ staged_agrees d = ap (λ w. w.staged) (declarator_agrees d)
 
 pub ruleset forms_of = (constant_agrees, name_agrees, string_agrees, declared_agrees, staged_agrees)
 """
-    open("proofs/Written.antt" if imports else "crates/check_walk_spec/proofs/Written.antt", "w").write(text)
+    open("proofs/Written.antt" if imports else "crates/check_rules/proofs/Written.antt", "w").write(text)
 
 
 main()

@@ -1,7 +1,5 @@
 pub mod Types
+pub mod Kinds
 pub mod Codes
 pub mod Extents
 pub mod Shared
-pub mod Scopes
-pub mod Sorted
-pub mod Tables

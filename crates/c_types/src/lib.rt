@@ -1,4 +1,4 @@
-//! Types: their sizes, their conversions, and the scopes in which names have them.
+//! Types: their sizes and conversions, and how they are kept.
 #![tactic(auto)]
 
 mod code;
@@ -6,20 +6,16 @@ mod conversions;
 mod copies;
 mod ctype;
 mod extents;
-mod keys;
 mod layers;
-mod names;
 mod parameters;
 mod row;
 mod shared;
 mod sizes;
-mod sorted;
 
 pub use conversions::{common, converts, converts_to, promoted, same, same_ctypes};
 pub use copies::copy_ctype;
 pub use ctype::{Base, CType, Integer, Layer};
 pub use layers::Layers;
-pub use names::{DeclareFault, Meaning, MeaningKind, Scopes};
 pub use parameters::{Parameter, Parameters};
 pub use shared::{TypeRef, copy};
 pub use sizes::{limited_size, pointed_size, size_of};

@@ -15,6 +15,9 @@ use Rattle.c_types.specs.declared.ctype.Layer.TheVariants as layer
 use Rattle.c_types.specs.declared.ctype.Layer.TheOpen.{Layer-F}
 use Rattle.c_types.specs.declared.ctype.CType.{CType}
 pub use Rattle.c_types.specs.Types.{ctype}
+pub use Rattle.c_types.specs.Kinds.{is_array_at, is_array_layer, is_array, is_function_at, is_function_layer}
+pub use Rattle.c_types.specs.Kinds.{is_function}
+pub use Rattle.c_types.specs.Kinds.{is_word_base, is_word}
 use Rattle.c_types.specs.Types.{Opened, base_size, size_under, outermost, under, is_void, is_pointer, base_of}
 use Rattle.c_types.specs.Types.{layers_of}
 use Rattle.tick_tree.specs.declared.fault.Fault.{Fault}
@@ -31,41 +34,6 @@ use Rattle.check_declarators.specs.declared.steps.Step.{Step}
 use Rattle.check_declarators.specs.declared.steps.Step.TheVariants as step
 use Rattle.check_declarators.specs.Steps.{layer_of, filled}
 use Rattle.limits.specs.declared.program.TheConstants.{MAX_SIZE, MOST_ARGUMENTS}
-
--- ---- tests of a type, by its base and the layers over it
-
-abbrev pub is_array_at : Opened → Bool
-is_array_at (Layer-F.Array n) = true
-is_array_at _ = false
-
-abbrev pub is_array_layer : Option Layer → Bool
-is_array_layer None = false
-is_array_layer (Some l) = is_array_at (out-Layer l)
-
-abbrev pub is_array : List Layer → Bool
-is_array ls = is_array_layer (outermost ls)
-
-abbrev pub is_function_at : Opened → Bool
-is_function_at (Layer-F.Function list) = true
-is_function_at Layer-F.Unlisted = true
-is_function_at _ = false
-
-abbrev pub is_function_layer : Option Layer → Bool
-is_function_layer None = false
-is_function_layer (Some l) = is_function_at (out-Layer l)
-
-abbrev pub is_function : List Layer → Bool
-is_function ls = is_function_layer (outermost ls)
-
-abbrev pub is_word_base : Base → Bool
-is_word_base (base.Integer kind.Int) = true
-is_word_base (base.Integer kind.Unsigned) = true
-is_word_base _ = false
-
--- int, unsigned int or a pointer
-abbrev pub is_word : Base → List Layer → Bool
-is_word b [] = is_word_base b
-is_word b (l ∷ ls) = is_pointer (outermost (l ∷ ls))
 
 -- the bytes of these layers over their base
 abbrev pub bytes : Base → List Layer → ℕ

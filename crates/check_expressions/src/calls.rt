@@ -3,16 +3,15 @@
 ghost use Rattle.std.specs.Prelude.{◌≡◌, IfOk};
 ghost use Rattle.tick_tree.specs.Faults.{Checks};
 ghost use Rattle.check_forms.specs.Forms as forms;
-ghost use Rattle.check_lvalues.specs.Calls as calls;
-ghost use Rattle.check_expressions_spec.specs.Productions as spec;
-ghost use Rattle.check_expressions_spec.specs.Rules as rules;
+ghost use Rattle.check_operands.specs.Calls as calls;
+ghost use Rattle.check_rules.specs.Productions as spec;
+ghost use Rattle.check_rules.specs.ExpressionRules as rules;
 
 use crate::nodes::{is_specification, is_tick};
 use c_types::TypeRef;
-use check_env::{Stage, State};
 use check_forms::name_of;
-use check_lvalues::Arguments;
-use check_operators::{Operand, value_of};
+use check_operands::{Arguments, Operand, value_of};
+use check_rules::{Stage, State};
 use check_types::{inner, is_function, is_pointer};
 use std::alloc::{AllocError, Global};
 use tick_tree::{Deny, Expr, Fault, FaultKind, refused};
@@ -32,7 +31,7 @@ pub fn library_of(
 }
 
 /// One argument more.
-#[tactic(auto, unfolding(check_expressions_spec::specs::Productions::argument))]
+#[tactic(auto, unfolding(check_rules::specs::Productions::argument))]
 pub fn argument(alloc: Global, list: Arguments, o: Operand) -> Result<Arguments, AllocError>
     ensures { IfOk result (λ all. all ≡ spec.argument list o) }
 {
@@ -70,8 +69,9 @@ fn lower_at(line: u32, fault: Fault) -> Fault
     }
 }
 
-/// A call of what is no library function, as `check_lvalues::call`; StageInTick where it answers a specification in a tick.
-#[tactic(auto, unfolding(check_expressions_spec::specs::Productions::call_node))]
+/// A call of what is no library function, as `check_calls::call`; StageInTick where it answers a specification in a
+/// tick.
+#[tactic(auto, unfolding(check_rules::specs::Productions::call_node))]
 pub fn call_node(
     alloc: Global,
     line: u32,
@@ -84,14 +84,14 @@ pub fn call_node(
     if is_tick(stage) && answers_specification(alloc, &o.ctype)? {
         left_call(alloc, line, o, list)
     } else {
-        check_lvalues::call(alloc, line, o, list)
+        check_calls::call(alloc, line, o, list)
     }
 }
 
 fn left_call(alloc: Global, line: u32, o: Operand, list: Arguments) -> Result<Operand, Deny>
     ensures { Checks result (spec.left_of line (calls.call line o list)) }
 {
-    match check_lvalues::call(alloc, line, o, list) {
+    match check_calls::call(alloc, line, o, list) {
         Ok(_) => refused(FaultKind::StageInTick, line),
         Err(Deny::Refused(fault)) => Err(Deny::Refused(lower_at(line, fault))),
         Err(Deny::NoMemory) => Err(Deny::NoMemory),

@@ -2,9 +2,9 @@
 
 ghost use Rattle.std.specs.Prelude.{◌≡◌};
 ghost use Rattle.tick_tree.specs.Faults.{Checks};
-ghost use Rattle.check_expressions_spec.specs.Entries as spec;
+ghost use Rattle.check_rules.specs.Entries as spec;
 
-use check_env::Stage;
+use check_rules::Stage;
 use tick_tree::{Deny, FaultKind, UnaryOp, refused};
 
 /// Enters a backquote. Refused in a tick: NestedTick.

@@ -2,13 +2,13 @@
 
 ghost use Rattle.std.specs.Prelude.{◌≡◌, IfOk};
 ghost use Rattle.tick_tree.specs.Faults.{Checks};
-ghost use Rattle.check_env.specs.Names.{Gives};
+ghost use Rattle.check_rules.specs.Names.{Gives};
 ghost use Rattle.check_tables.specs.Walks.{Reads};
-ghost use Rattle.check_expressions_spec.specs.Productions as spec;
+ghost use Rattle.check_rules.specs.Productions as spec;
 
 use c_types::{Layer, TypeRef};
-use check_env::{Stage, State};
-use check_operators::{Operand, Place, Value, made, settled, value_of, values};
+use check_operands::{Operand, Place, Value, made, settled, value_of, values};
+use check_rules::{Stage, State};
 use check_types::{is_cspec, is_vspec, over};
 use icode_ops::UnKind;
 use sqlite_items::Boxed;
@@ -31,7 +31,7 @@ pub(crate) fn is_specification(t: &TypeRef) -> bool
     is_cspec(t) || is_vspec(t)
 }
 
-#[tactic(auto, unfolding(check_expressions_spec::specs::Productions::left))]
+#[tactic(auto, unfolding(check_rules::specs::Productions::left))]
 fn left(line: u32, stage: Stage, o: Operand) -> Result<Operand, Deny>
     ensures { Checks result (spec.left line stage o) }
 {
@@ -42,7 +42,7 @@ fn left(line: u32, stage: Stage, o: Operand) -> Result<Operand, Deny>
 }
 
 /// An operator between two operands, as `check_operators::binary`.
-#[tactic(auto, unfolding(check_expressions_spec::specs::Productions::binary_node))]
+#[tactic(auto, unfolding(check_rules::specs::Productions::binary_node))]
 pub fn binary_node(
     alloc: Global,
     line: u32,
@@ -57,7 +57,7 @@ pub fn binary_node(
 }
 
 /// `a[b]`, as `check_operators::index`; StageInTick where it is a specification in a tick.
-#[tactic(auto, unfolding(check_expressions_spec::specs::Productions::index_node))]
+#[tactic(auto, unfolding(check_rules::specs::Productions::index_node))]
 pub fn index_node(
     alloc: Global,
     line: u32,
@@ -72,18 +72,18 @@ pub fn index_node(
     left(line, stage, o)
 }
 
-/// `a = b`, as `check_lvalues::assign`.
-#[tactic(auto, unfolding(check_expressions_spec::specs::Productions::assign_node))]
+/// `a = b`, as `check_operators::assign`.
+#[tactic(auto, unfolding(check_rules::specs::Productions::assign_node))]
 pub fn assign_node(alloc: Global, line: u32, a: Operand, b: Operand) -> Result<Operand, Deny>
     ensures { Checks result (spec.assign_node line a b) }
 {
     let o = settled(alloc, a)?;
     let v = value_of(alloc, b)?;
-    check_lvalues::assign(alloc, line, o, v)
+    check_operators::assign(alloc, line, o, v)
 }
 
-/// `a op= b`, as `check_lvalues::modify`.
-#[tactic(auto, unfolding(check_expressions_spec::specs::Productions::modify_node))]
+/// `a op= b`, as `check_operators::modify`.
+#[tactic(auto, unfolding(check_rules::specs::Productions::modify_node))]
 pub fn modify_node(
     alloc: Global,
     line: u32,
@@ -95,20 +95,20 @@ pub fn modify_node(
 {
     let o = settled(alloc, a)?;
     let v = value_of(alloc, b)?;
-    check_lvalues::modify(alloc, line, op, o, v)
+    check_operators::modify(alloc, line, op, o, v)
 }
 
 /// `a, b`
-#[tactic(auto, unfolding(check_expressions_spec::specs::Productions::comma_node))]
+#[tactic(auto, unfolding(check_rules::specs::Productions::comma_node))]
 pub fn comma_node(alloc: Global, a: Operand, b: Operand) -> Result<Operand, AllocError>
     ensures { IfOk result (λ o. o ≡ spec.comma_node a b) }
 {
     let p = values(alloc, a, b)?;
-    check_operators::comma(alloc, p.0, p.1)
+    check_operands::comma(alloc, p.0, p.1)
 }
 
 /// `c ? a : b`, as `check_operators::choice`.
-#[tactic(auto, unfolding(check_expressions_spec::specs::Productions::choice_node))]
+#[tactic(auto, unfolding(check_rules::specs::Productions::choice_node))]
 pub fn choice_node(
     alloc: Global,
     line: u32,
@@ -123,38 +123,38 @@ pub fn choice_node(
     check_operators::choice(alloc, line, test, p.0, p.1)
 }
 
-/// `(T) o`, as `check_operators::cast`.
-#[tactic(auto, unfolding(check_expressions_spec::specs::Productions::cast_node))]
+/// `(T) o`, as `check_operands::cast`.
+#[tactic(auto, unfolding(check_rules::specs::Productions::cast_node))]
 pub fn cast_node(alloc: Global, line: u32, t: TypeRef, o: Operand) -> Result<Operand, Deny>
     ensures { Checks result (spec.cast_node line t o) }
 {
     let v = value_of(alloc, o)?;
-    check_operators::cast(alloc, line, t, v)
+    check_operands::cast(alloc, line, t, v)
 }
 
-/// `o++` and `o--`, as `check_lvalues::post`.
-#[tactic(auto, unfolding(check_expressions_spec::specs::Productions::post_node))]
+/// `o++` and `o--`, as `check_operators::post`.
+#[tactic(auto, unfolding(check_rules::specs::Productions::post_node))]
 pub fn post_node(alloc: Global, line: u32, op: StepOp, o: Operand) -> Result<Operand, Deny>
     ensures { Checks result (spec.post_node line op o) }
 {
     let o = settled(alloc, o)?;
-    check_lvalues::post(alloc, line, op, o)
+    check_operators::post(alloc, line, op, o)
 }
 
-#[tactic(auto, unfolding(check_expressions_spec::specs::Productions::step_node))]
+#[tactic(auto, unfolding(check_rules::specs::Productions::step_node))]
 fn step_node(alloc: Global, line: u32, op: StepOp, o: Operand) -> Result<Operand, Deny>
     ensures { Checks result (spec.step_node line op o) }
 {
     let o = settled(alloc, o)?;
-    check_lvalues::stepped(alloc, line, op, o)
+    check_operators::stepped(alloc, line, op, o)
 }
 
-#[tactic(auto, unfolding(check_expressions_spec::specs::Productions::star_node))]
+#[tactic(auto, unfolding(check_rules::specs::Productions::star_node))]
 fn star_node(alloc: Global, line: u32, stage: Stage, o: Operand) -> Result<Operand, Deny>
     ensures { Checks result (spec.star_node line stage o) }
 {
     let v = value_of(alloc, o)?;
-    let place = check_operators::dereferenced(line, v)?;
+    let place = check_operands::dereferenced(line, v)?;
     left(line, stage, place)
 }
 
@@ -174,8 +174,9 @@ fn address_by(alloc: Global, state: &mut State, line: u32, o: Operand) -> Result
     }
 }
 
-/// `&o`: in a function a variable that is no frame object yet becomes one in the next walk. Refused as `check_lvalues::address`.
-#[tactic(auto, unfolding(check_expressions_spec::specs::Productions::address_node))]
+/// `&o`: in a function a variable that is no frame object yet becomes one in the next walk. Refused as
+/// `check_operators::address`.
+#[tactic(auto, unfolding(check_rules::specs::Productions::address_node))]
 fn address_node(
     alloc: Global,
     state: &mut State,
@@ -187,17 +188,17 @@ fn address_node(
 {
     match stage {
         Stage::Function | Stage::Dollar => address_by(alloc, state, line, o),
-        Stage::Tick => check_lvalues::address(line, o),
+        Stage::Tick => check_operators::address(line, o),
     }
 }
 
-/// `$o`, as `check_operators::dollar`: the value is captured as the tick is evaluated.
-#[tactic(auto, unfolding(check_expressions_spec::specs::Productions::dollar_node))]
+/// `$o`, as `check_calls::dollar`: the value is captured as the tick is evaluated.
+#[tactic(auto, unfolding(check_rules::specs::Productions::dollar_node))]
 fn dollar_node(alloc: Global, state: &mut State, line: u32, o: Operand) -> Result<Operand, Deny>
     ensures { Reads (spec.dollar_node line o state.old) result state.new }
 {
     let v = value_of(alloc, o)?;
-    let v = check_operators::dollar(alloc, line, v)?;
+    let v = check_calls::dollar(alloc, line, v)?;
     Ok(captured(alloc, state, v)?)
 }
 
@@ -215,10 +216,10 @@ fn signed_node(alloc: Global, line: u32, op: UnaryOp, o: Operand) -> Result<Oper
 {
     let v = value_of(alloc, o)?;
     match op {
-        UnaryOp::Minus => check_operators::on_integer(alloc, line, UnKind::Negate, v),
-        UnaryOp::Complement => check_operators::on_integer(alloc, line, UnKind::Complement, v),
-        UnaryOp::Not => check_operators::negated(alloc, line, v),
-        _ => check_operators::plus(alloc, line, v),
+        UnaryOp::Minus => check_operands::on_integer(alloc, line, UnKind::Negate, v),
+        UnaryOp::Complement => check_operands::on_integer(alloc, line, UnKind::Complement, v),
+        UnaryOp::Not => check_operands::negated(alloc, line, v),
+        _ => check_operands::plus(alloc, line, v),
     }
 }
 
@@ -250,5 +251,5 @@ pub fn string_node(alloc: Global, state: &mut State, bytes: &[u8]) -> Result<Ope
     ensures { Gives result state.new (spec.string_node bytes.now state.old) }
 {
     let address = state.image.string(alloc, bytes)?;
-    check_operators::string(alloc, address)
+    check_operands::string(alloc, address)
 }

@@ -2,35 +2,36 @@
 
 ghost use Rattle.std.specs.Prelude.{◌≡◌};
 ghost use Rattle.tick_tree.specs.Faults.{Checks};
-ghost use Rattle.check_env.specs.Names.{Gives};
-ghost use Rattle.check_expressions_spec.specs.Productions as spec;
-ghost use Rattle.check_expressions_spec.specs.Rules as rules;
+ghost use Rattle.check_rules.specs.Names.{Gives};
+ghost use Rattle.check_rules.specs.Productions as spec;
+ghost use Rattle.check_rules.specs.ExpressionRules as rules;
 
 use c_types::{Layer, TypeRef};
-use check_env::{Around, Stage, State};
-use check_operators::{Operand, Value, made, specification, value_of};
+use check_calls::specification;
+use check_operands::{Operand, Value, made, value_of};
+use check_rules::{Around, Stage, State};
 use check_types::{over, void};
 use sqlite_items::Boxed;
 use std::alloc::{AllocError, Global};
 use tick_tree::Deny;
 use typed_tree::{Stmt, TickBody};
 
-/// `compile(o, T)`, as `check_operators::compile`.
-#[tactic(auto, unfolding(check_expressions_spec::specs::Productions::compile_node))]
+/// `compile(o, T)`, as `check_calls::compile`.
+#[tactic(auto, unfolding(check_rules::specs::Productions::compile_node))]
 pub fn compile_node(alloc: Global, line: u32, t: TypeRef, o: Operand) -> Result<Operand, Deny>
     ensures { Checks result (spec.compile_node line t o) }
 {
     let v = value_of(alloc, o)?;
-    check_operators::compile(alloc, line, t, v)
+    check_calls::compile(alloc, line, t, v)
 }
 
-/// `param(T, o)`, as `check_operators::parameter`.
-#[tactic(auto, unfolding(check_expressions_spec::specs::Productions::parameter_node))]
+/// `param(T, o)`, as `check_calls::parameter`.
+#[tactic(auto, unfolding(check_rules::specs::Productions::parameter_node))]
 pub fn parameter_node(alloc: Global, line: u32, t: TypeRef, o: Operand) -> Result<Operand, Deny>
     ensures { Checks result (spec.parameter_node line t o) }
 {
     let v = value_of(alloc, o)?;
-    check_operators::parameter(alloc, line, t, v)
+    check_calls::parameter(alloc, line, t, v)
 }
 
 /// What stands round the items of a tick's block: no loop and no switch of the tick.
@@ -66,7 +67,7 @@ fn tick_left(
 }
 
 /// Leaves a tick of an expression: a specification of its promoted type.
-#[tactic(auto, unfolding(check_expressions_spec::specs::Productions::tick_expression))]
+#[tactic(auto, unfolding(check_rules::specs::Productions::tick_expression))]
 pub fn tick_expression(alloc: Global, state: &mut State, o: Operand) -> Result<Operand, AllocError>
     ensures { Gives result state.new (spec.tick_expression o state.old) }
 {

@@ -5,7 +5,7 @@ use Rattle.std.proofs.lemmas.Bool.{cases_lt}
 use Rattle.std.proofs.lemmas.List.{drop_all}
 use Rattle.c_types.specs.declared.ctype.CType.{CType}
 use Rattle.tick_tree.specs.declared.syntax.Parameter.{Parameter}
-use Rattle.check_env.specs.declared.state.State.{State}
+use Rattle.check_rules.specs.declared.state.State.{State}
 use Rattle.check_globals.specs.Functions.{Given, given, parameters}
 
 no_types : (ts : List CType) (gs : List Given) (s : State) → ts ≡ [] → parameters ts gs s ≡ Ok (tt, s)

@@ -6,8 +6,8 @@ use Rattle.limits.specs.declared.program.TheConstants.{NODE_TOP}
 use Rattle.c_types.specs.declared.ctype.CType.{CType}
 use Rattle.c_types.specs.declared.ctype.Layer.{Layer, out-Layer}
 use Rattle.c_types.specs.declared.ctype.Layer.TheOpen.{Layer-F}
-use Rattle.c_types.specs.declared.names.MeaningKind.TheVariants as kind
-use Rattle.c_types.specs.Scopes.{Name}
+use Rattle.check_scopes.specs.declared.names.MeaningKind.TheVariants as kind
+use Rattle.check_scopes.specs.Scopes.{Name}
 use Rattle.c_types.specs.Types.{Opened, layers_of, outermost}
 use Rattle.check_forms.specs.Forms.{declared_name}
 use Rattle.check_types.specs.Shapes.{inner}
@@ -21,12 +21,12 @@ use Rattle.check_tables.specs.declared.functions.Functions.{Functions}
 use Rattle.check_tables.specs.Frames as frames
 use Rattle.check_tables.specs.Functions as functions
 use Rattle.check_tables.specs.Walks.{Rule, ◌>>=◌, pure}
-use Rattle.check_env.specs.declared.state.State.{State}
-use Rattle.check_env.specs.Locals.{meaning, parameter, with_parameter}
-use Rattle.check_env.specs.Names.{declare}
+use Rattle.check_rules.specs.declared.state.State.{State}
+use Rattle.check_rules.specs.Locals.{meaning, parameter, with_parameter}
+use Rattle.check_rules.specs.Names.{declare}
 use Rattle.check_globals.specs.declared.names.Before.{Before}
 use Rattle.check_globals.specs.declared.names.Before.TheVariants as before
-use Rattle.check_statements_spec.specs.Declarations.{name_by}
+use Rattle.check_rules.specs.Declarations.{name_by}
 use Rattle.check_globals.specs.Names.{known_before}
 
 -- ---- names

@@ -6,10 +6,10 @@
 use Rattle.std.specs.Prelude.{ℕ, ◌+◌, min, Bool, true, false, not, ◌||◌, if◌then◌else◌, List, [], ◌∷◌, Option, Some}
 use Rattle.std.specs.Prelude.{None, Ok}
 use Rattle.c_types.specs.declared.ctype.CType.{CType}
-use Rattle.c_types.specs.declared.names.Meaning.{Meaning}
-use Rattle.c_types.specs.declared.names.MeaningKind.{MeaningKind}
-use Rattle.c_types.specs.declared.names.MeaningKind.TheVariants as kind
-use Rattle.c_types.specs.Scopes.{Name, find}
+use Rattle.check_scopes.specs.declared.names.Meaning.{Meaning}
+use Rattle.check_scopes.specs.declared.names.MeaningKind.{MeaningKind}
+use Rattle.check_scopes.specs.declared.names.MeaningKind.TheVariants as kind
+use Rattle.check_scopes.specs.Scopes.{Name, find}
 use Rattle.c_types.specs.Types.{same, limited_size}
 use Rattle.check_declarators.specs.declared.steps.Step.{Step}
 use Rattle.check_declarators.specs.declared.steps.Step.TheVariants as step
@@ -18,9 +18,9 @@ use Rattle.tick_tree.specs.Faults.{refuse}
 use Rattle.check_tables.specs.Functions as functions
 use Rattle.check_tables.specs.Images as images
 use Rattle.check_tables.specs.Walks.{Rule, ◌>>=◌}
-use Rattle.check_env.specs.declared.state.State.{State}
-use Rattle.check_env.specs.Locals.{meaning}
-use Rattle.check_env.specs.Names.{declare}
+use Rattle.check_rules.specs.declared.state.State.{State}
+use Rattle.check_rules.specs.Locals.{meaning}
+use Rattle.check_rules.specs.Names.{declare}
 use Rattle.check_globals.specs.declared.names.Before.{Before}
 use Rattle.check_globals.specs.declared.names.Before.TheVariants as before
 use Rattle.word32.specs.declared.map.TheConstants.{OBJECTS}

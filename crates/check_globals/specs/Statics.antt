@@ -20,14 +20,14 @@ use Rattle.check_types.specs.Shapes.{width_of}
 use Rattle.tick_tree.specs.declared.fault.FaultKind.{FaultKind}
 use Rattle.tick_tree.specs.declared.fault.FaultKind.TheVariants as fault
 use Rattle.tick_tree.specs.Faults.{refuse}
-use Rattle.check_operators.specs.declared.operand.Operand.{Operand}
-use Rattle.check_operators.specs.declared.operand.Value.{Value}
-use Rattle.check_operators.specs.Operands.{value_of}
-use Rattle.check_constants.specs.Constants.{constant}
+use Rattle.check_operands.specs.declared.operand.Operand.{Operand}
+use Rattle.check_operands.specs.declared.operand.Value.{Value}
+use Rattle.check_operands.specs.Operands.{value_of}
+use Rattle.meaning_operators.specs.Constants.{constant}
 use Rattle.check_tables.specs.Images as images
 use Rattle.check_tables.specs.Walks.{Rule}
-use Rattle.check_env.specs.declared.state.State.{State}
-use Rattle.check_statements_spec.specs.Initializers.{is_array, is_char, has_size, value_breaks}
+use Rattle.check_rules.specs.declared.state.State.{State}
+use Rattle.check_rules.specs.Initializers.{is_array, is_char, has_size, value_breaks}
 use Rattle.check_globals.specs.declared.statics.Row.{Row}
 
 -- ---- bytes

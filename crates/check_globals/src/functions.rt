@@ -3,15 +3,16 @@
 ghost use Rattle.std.specs.Prelude.{◌≡◌, map, IfOk, OnOk};
 ghost use Rattle.check_forms.specs.Forms as forms;
 ghost use Rattle.check_globals.specs.Functions as spec;
-ghost use Rattle.check_env.specs.Locals as locals;
-ghost use Rattle.check_statements_spec.specs.Declarations.{name_by};
+ghost use Rattle.check_rules.specs.Locals as locals;
+ghost use Rattle.check_rules.specs.Declarations.{name_by};
 ghost use Rattle.check_tables.specs.Functions as functions;
 ghost use Rattle.check_tables.specs.Walks.{Reads};
 
 use crate::names::{Before, declare, known_before};
-use c_types::{CType, Layer, MeaningKind, TypeRef, copy_ctype};
-use check_env::State;
+use c_types::{CType, Layer, TypeRef, copy_ctype};
 use check_forms::declared_name;
+use check_rules::State;
+use check_scopes::MeaningKind;
 use check_tables::Functions;
 use check_types::inner;
 use sqlite_items::{Boxed, Items};

@@ -1,4 +1,5 @@
-//! The rules of file scope, without the walk over their parts: names, functions, static initializers, and the whole program.
+//! The rules of file scope, what is checked after the walk, and the walks over a program as a definition
+//! (`specs/Program`), with the parameters of a function that is defined.
 #![tactic(auto)]
 
 mod functions;

@@ -3,15 +3,16 @@
 ghost use Rattle.std.specs.Prelude.{◌≡◌};
 ghost use Rattle.check_forms.specs.Forms as forms;
 ghost use Rattle.check_globals.specs.Names as spec;
-ghost use Rattle.check_env.specs.Locals as locals;
-ghost use Rattle.check_env.specs.Names as names;
-ghost use Rattle.check_statements_spec.specs.Declarations.{name_by};
+ghost use Rattle.check_rules.specs.Locals as locals;
+ghost use Rattle.check_rules.specs.Names as names;
+ghost use Rattle.check_rules.specs.Declarations.{name_by};
 ghost use Rattle.check_tables.specs.Walks.{Reads};
 
-use c_types::{Meaning, MeaningKind, TypeRef, limited_size, same};
+use c_types::{TypeRef, limited_size, same};
 use check_declarators::Step;
-use check_env::State;
 use check_forms::declared_name;
+use check_rules::State;
+use check_scopes::{Meaning, MeaningKind};
 use sqlite_items::Items;
 use std::alloc::Global;
 use tick_tree::{Declarator, Deny, FaultKind, refused};

@@ -6,8 +6,9 @@ ghost use Rattle.check_globals.specs.Programs as spec;
 ghost use Rattle.check_tables.specs.Images as images;
 ghost use Rattle.tick_tree.specs.Faults.{Checks};
 
-use c_types::{Base, Integer, Layer, Meaning, MeaningKind, TypeRef};
-use check_env::State;
+use c_types::{Base, Integer, Layer, TypeRef};
+use check_rules::State;
+use check_scopes::{Meaning, MeaningKind};
 use check_tables::Image;
 use limits::program::{
     CHARGE_LIMIT, CHARGE_TOP, FRAME_OBJECT_BYTES, FRONT_WORDS, SIZE_LIMIT, WORDS_OF_A_BODY,

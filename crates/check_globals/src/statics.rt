@@ -6,12 +6,11 @@ ghost use Rattle.check_globals.specs.Statics as spec;
 ghost use Rattle.check_tables.specs.Walks.{Reads};
 
 use c_types::{Base, Integer, Layer, TypeRef};
-use check_constants::constant_value;
-use check_env::State;
 use check_forms::has_form;
-use check_operators::{Operand, Value, value_of};
-use check_statements::{has_size, is_array, is_string, lower, value_breaks};
+use check_operands::{Operand, Value, value_of};
+use check_rules::{State, has_size, is_array, is_string, lower, value_breaks};
 use check_types::width_of;
+use meaning_operators::constant_value;
 use sqlite_items::Items;
 use std::alloc::{AllocError, Global};
 use tick_tree::{Deny, Expr, FaultKind, refused};

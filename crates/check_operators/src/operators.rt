@@ -2,11 +2,13 @@
 
 ghost use Rattle.std.specs.Prelude.{◌≡◌, IfOk};
 ghost use Rattle.tick_tree.specs.Faults.{Checks};
-ghost use Rattle.check_operators.specs.Operators as spec;
+ghost use Rattle.check_operands.specs.Operators as spec;
 ghost use Rattle.check_types.specs.Shapes as shapes;
 
-use crate::operand::{Operand, Value, at_address, made, test_breaks, unless_kind};
 use c_types::{Integer, TypeRef, common, converts, pointed_size, promoted, same};
+use check_operands::{
+    Combined, Joined, Operand, Value, at_address, made, test_breaks, unless_kind,
+};
 use check_types::{
     inner, integer, integer_of, is_integer, is_pointer, is_scalar, is_void, points_to_void, void,
 };
@@ -15,32 +17,6 @@ use sqlite_items::Boxed;
 use std::alloc::{AllocError, Global};
 use tick_tree::{BinaryOp, Deny, FaultKind, refused};
 use typed_tree::Expr;
-
-/// How an operator takes two values, by their types.
-#[derive(Clone, Copy, Debug, PartialEq, Eq)]
-pub enum Combined {
-    /// The words as they are; the answer has this integer type.
-    Words(BinKind, Integer),
-    /// A pointer and an integer, which is scaled by this size in bytes.
-    ScaledRight(BinKind, u32),
-    /// The sum of an integer, which is scaled by this size in bytes, and a pointer.
-    ScaledLeft(u32),
-    /// The difference of two pointers, divided by this size in bytes.
-    Divided(u32),
-}
-
-/// Which type `? a : b` has.
-#[derive(Clone, Copy, Debug, PartialEq, Eq)]
-pub enum Joined {
-    /// Void, as both are.
-    Void,
-    /// The common type of two integers.
-    Common(Integer),
-    /// The type of a.
-    First,
-    /// The type of b.
-    Second,
-}
 
 fn is_unsigned(kind: Integer) -> bool
     ensures { result ≡ spec.is_unsigned kind }
@@ -131,7 +107,7 @@ fn is_difference(op: BinaryOp) -> bool
     matches!(op, BinaryOp::Sub)
 }
 
-#[tactic(auto, unfolding(crate::specs::Operators::operation))]
+#[tactic(auto, unfolding(check_operands::specs::Operators::operation))]
 fn operation(op: BinaryOp, x: Integer, y: Integer) -> Integer
     ensures { result ≡ spec.operation op x y }
 {
@@ -152,7 +128,7 @@ fn answer_kind(op: BinaryOp, x: Integer, y: Integer) -> Integer
     }
 }
 
-#[tactic(auto, unfolding(crate::specs::Operators::integers))]
+#[tactic(auto, unfolding(check_operands::specs::Operators::integers))]
 fn integers(op: BinaryOp, x: Integer, y: Integer) -> Combined
     ensures { result ≡ spec.integers op x y }
 {
@@ -245,7 +221,7 @@ fn with_pointers(op: BinaryOp, a: &TypeRef, b: &TypeRef) -> Option<Combined>
 
 /// How an operator other than `&&` and `||` takes two values of these types, which are the literal 0 or not; none where its rule
 /// hasn't these types.
-#[tactic(auto, unfolding(crate::specs::Operators::combine))]
+#[tactic(auto, unfolding(check_operands::specs::Operators::combine))]
 pub fn combine(
     op: BinaryOp,
     a: &TypeRef,
@@ -338,7 +314,7 @@ fn combination(alloc: Global, by: Combined, a: Value, b: Value) -> Result<Operan
     Ok(made(e, type_of(alloc, by, ctype, other)))
 }
 
-#[tactic(auto, unfolding(crate::specs::Operators::arithmetic))]
+#[tactic(auto, unfolding(check_operands::specs::Operators::arithmetic))]
 fn arithmetic(alloc: Global, line: u32, op: BinaryOp, a: Value, b: Value) -> Result<Operand, Deny>
     ensures { Checks result (spec.arithmetic line op a b) }
 {
@@ -361,7 +337,7 @@ fn logic_breaks(a: &Value, b: &Value) -> Option<FaultKind>
     unless_kind(ok, FaultKind::BadOperand)
 }
 
-#[tactic(auto, unfolding(crate::specs::Operators::both))]
+#[tactic(auto, unfolding(check_operands::specs::Operators::both))]
 fn both(alloc: Global, line: u32, a: Value, b: Value) -> Result<Operand, Deny>
     ensures { Checks result (spec.both line a b) }
 {
@@ -374,7 +350,7 @@ fn both(alloc: Global, line: u32, a: Value, b: Value) -> Result<Operand, Deny>
     }
 }
 
-#[tactic(auto, unfolding(crate::specs::Operators::either))]
+#[tactic(auto, unfolding(check_operands::specs::Operators::either))]
 fn either(alloc: Global, line: u32, a: Value, b: Value) -> Result<Operand, Deny>
     ensures { Checks result (spec.either line a b) }
 {
@@ -408,7 +384,7 @@ fn element(alloc: Global, a: Value, b: Value, size: u32) -> Result<Operand, Allo
 }
 
 /// `a[b]`. Refused: VoidValue, or BadOperand where a is no pointer to what has a size, or b no integer.
-#[tactic(auto, unfolding(crate::specs::Operators::index))]
+#[tactic(auto, unfolding(check_operands::specs::Operators::index))]
 pub fn index(alloc: Global, line: u32, a: Value, b: Value) -> Result<Operand, Deny>
     ensures { Checks result (spec.index line a b) }
 {
@@ -449,7 +425,7 @@ fn joined_by(a: &Value, b: &Value) -> Option<Joined>
     }
 }
 
-#[tactic(auto, unfolding(crate::specs::Operators::joined_type))]
+#[tactic(auto, unfolding(check_operands::specs::Operators::joined_type))]
 fn joined_type(a: &Value, b: &Value) -> Option<Joined>
     ensures { result ≡ spec.joined_type a.now b.now }
 {
@@ -493,7 +469,7 @@ fn joining(
 }
 
 /// `c ? a : b`. Refused: TypeMismatch where a and b have no type together; VoidValue or BadOperand where c is no test.
-#[tactic(auto, unfolding(crate::specs::Operators::choice))]
+#[tactic(auto, unfolding(check_operands::specs::Operators::choice))]
 pub fn choice(alloc: Global, line: u32, c: Value, a: Value, b: Value) -> Result<Operand, Deny>
     ensures { Checks result (spec.choice line c a b) }
 {

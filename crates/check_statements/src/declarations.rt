@@ -6,15 +6,15 @@ ghost use Rattle.check_declarators.specs.Steps.{filled};
 ghost use Rattle.check_forms.specs.Forms as forms;
 ghost use Rattle.tick_tree.specs.Faults.{Checks};
 ghost use Rattle.check_tables.specs.Walks.{Reads};
-ghost use Rattle.check_statements_spec.specs.Declarations as spec;
+ghost use Rattle.check_rules.specs.Declarations as spec;
 
 use c_types::{Base, CType, TypeRef};
-use check_constants::constant_value;
 use check_declarators::{Length, Role, Step, declared_type, fill_length};
-use check_env::{Stage, State};
 use check_forms::{declared_name, is_staged, string_of};
-use check_operators::{Operand, effect};
+use check_operands::{Operand, effect};
+use check_rules::{Stage, State};
 use check_types::is_void;
+use meaning_operators::constant_value;
 use sqlite_items::Items;
 use std::alloc::{AllocError, Global};
 use tick_tree::{Declarator, Deny, Expr, Fault, FaultKind, refused};
@@ -100,7 +100,7 @@ fn tick_type(alloc: Global, line: u32, base: Base, steps: Items<Step>) -> Result
 
 /// The type of a variable of a block. Refused as `check_declarators::declared_type`; in a tick also BadArray where it is an
 /// array.
-#[tactic(auto, unfolding(check_statements_spec::specs::Declarations::declared_in))]
+#[tactic(auto, unfolding(check_rules::specs::Declarations::declared_in))]
 pub fn declared_in(
     alloc: Global,
     stage: Stage,
@@ -126,7 +126,7 @@ fn length_by(value: Option<u32>) -> Length
 }
 
 /// The length that an expression gives an array; whether it has the form of a constant is said.
-#[tactic(auto, unfolding(check_statements_spec::specs::Declarations::length_of))]
+#[tactic(auto, unfolding(check_rules::specs::Declarations::length_of))]
 pub fn length_of(alloc: Global, has_form: bool, o: Operand) -> Result<Length, AllocError>
     ensures { IfOk result (λ n. n ≡ spec.length_of has_form o) }
 {

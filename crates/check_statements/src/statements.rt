@@ -3,12 +3,12 @@
 ghost use Rattle.std.specs.Prelude.{◌≡◌, IfOk};
 ghost use Rattle.tick_tree.specs.Faults.{Checks};
 ghost use Rattle.check_tables.specs.Walks.{Reads};
-ghost use Rattle.check_statements_spec.specs.Statements as spec;
+ghost use Rattle.check_rules.specs.Statements as spec;
 
-use check_constants::constant_value;
-use check_env::{Around, Stage, State};
-use check_operators::{Operand, effect, value_of};
+use check_operands::{Operand, effect, value_of};
+use check_rules::{Around, Stage, State};
 use check_tables::Labels;
+use meaning_operators::constant_value;
 use sqlite_items::{Boxed, Items};
 use std::alloc::{AllocError, Global};
 use std::mem;
@@ -143,7 +143,7 @@ fn labelled_case(
 }
 
 /// A `case` with this value. Refused where it has none: BadCase; where the switch has it already: DuplicateCase.
-#[tactic(auto, unfolding(check_statements_spec::specs::Statements::case_node))]
+#[tactic(auto, unfolding(check_rules::specs::Statements::case_node))]
 pub fn case_node(
     alloc: Global,
     state: &mut State,
@@ -158,7 +158,7 @@ pub fn case_node(
 
 /// `default`. Refused where it isn't directly an item of a switch's block: BadCase; where the switch has one already:
 /// DuplicateCase.
-#[tactic(auto, unfolding(check_statements_spec::specs::Statements::default_node))]
+#[tactic(auto, unfolding(check_rules::specs::Statements::default_node))]
 pub fn default_node(
     alloc: Global,
     state: &mut State,
@@ -175,7 +175,7 @@ pub fn default_node(
 }
 
 /// Enters a switch, which has no labels yet; those of the switch round it.
-#[tactic(auto, unfolding(check_statements_spec::specs::Statements::switch_entered))]
+#[tactic(auto, unfolding(check_rules::specs::Statements::switch_entered))]
 pub fn switch_entered(alloc: Global, state: &mut State) -> Result<Labels, Deny>
     ensures { Reads (spec.switch_entered state.old) result state.new }
 {
@@ -186,11 +186,11 @@ fn condition_node(alloc: Global, line: u32, o: Operand) -> Result<Boxed<Expr>, D
     ensures { Checks result (spec.condition_node line o) }
 {
     let v = value_of(alloc, o)?;
-    check_operators::condition(line, v)
+    check_operands::condition(line, v)
 }
 
-/// `if` without `else`. Its test is refused as by `check_operators::condition`.
-#[tactic(auto, unfolding(check_statements_spec::specs::Statements::if_node))]
+/// `if` without `else`. Its test is refused as by `check_operands::condition`.
+#[tactic(auto, unfolding(check_rules::specs::Statements::if_node))]
 pub fn if_node(alloc: Global, line: u32, o: Operand, body: Boxed<Stmt>) -> Result<Items<Stmt>, Deny>
     ensures { Checks result (spec.if_node line o body) }
 {
@@ -198,8 +198,8 @@ pub fn if_node(alloc: Global, line: u32, o: Operand, body: Boxed<Stmt>) -> Resul
     checked(alloc, Stmt::If(test, body))
 }
 
-/// `if` with `else`. Its test is refused as by `check_operators::condition`.
-#[tactic(auto, unfolding(check_statements_spec::specs::Statements::if_else_node))]
+/// `if` with `else`. Its test is refused as by `check_operands::condition`.
+#[tactic(auto, unfolding(check_rules::specs::Statements::if_else_node))]
 pub fn if_else_node(
     alloc: Global,
     line: u32,
@@ -213,8 +213,8 @@ pub fn if_else_node(
     checked(alloc, Stmt::IfElse(test, a, b))
 }
 
-/// `while`. Its test is refused as by `check_operators::condition`.
-#[tactic(auto, unfolding(check_statements_spec::specs::Statements::while_node))]
+/// `while`. Its test is refused as by `check_operands::condition`.
+#[tactic(auto, unfolding(check_rules::specs::Statements::while_node))]
 pub fn while_node(
     alloc: Global,
     line: u32,
@@ -227,8 +227,8 @@ pub fn while_node(
     checked(alloc, Stmt::While(test, body))
 }
 
-/// `do`. Its test is refused as by `check_operators::condition`.
-#[tactic(auto, unfolding(check_statements_spec::specs::Statements::do_node))]
+/// `do`. Its test is refused as by `check_operands::condition`.
+#[tactic(auto, unfolding(check_rules::specs::Statements::do_node))]
 pub fn do_node(alloc: Global, line: u32, body: Boxed<Stmt>, o: Operand) -> Result<Items<Stmt>, Deny>
     ensures { Checks result (spec.do_node line body o) }
 {
@@ -263,8 +263,8 @@ fn for_by(
 }
 
 /// A `for` behind its first part, with its test, which is 1 where it is absent, and its step. The test is refused as by
-/// `check_operators::condition`.
-#[tactic(auto, unfolding(check_statements_spec::specs::Statements::for_node))]
+/// `check_operands::condition`.
+#[tactic(auto, unfolding(check_rules::specs::Statements::for_node))]
 pub fn for_node(
     alloc: Global,
     line: u32,
@@ -282,11 +282,11 @@ fn switched_node(alloc: Global, line: u32, o: Operand) -> Result<Boxed<Expr>, De
     ensures { Checks result (spec.switched_node line o) }
 {
     let v = value_of(alloc, o)?;
-    check_operators::switched(line, v)
+    check_operands::switched(line, v)
 }
 
-/// A switch whose block has these variables and these items. Its value is refused as by `check_operators::switched`.
-#[tactic(auto, unfolding(check_statements_spec::specs::Statements::switch_node))]
+/// A switch whose block has these variables and these items. Its value is refused as by `check_operands::switched`.
+#[tactic(auto, unfolding(check_rules::specs::Statements::switch_node))]
 pub fn switch_node(
     alloc: Global,
     line: u32,
@@ -311,13 +311,13 @@ fn returned_by(
 {
     let v = value_of(alloc, o)?;
     match stage {
-        Stage::Function => check_lvalues::returned(alloc, line, &state.frame.result, v),
-        Stage::Tick | Stage::Dollar => check_lvalues::tick_returned(line, v),
+        Stage::Function => check_calls::returned(alloc, line, &state.frame.result, v),
+        Stage::Tick | Stage::Dollar => check_calls::tick_returned(line, v),
     }
 }
 
-/// `return` with its value, as `check_lvalues::returned` in a function and `check_lvalues::tick_returned` in a tick.
-#[tactic(auto, unfolding(check_statements_spec::specs::Statements::return_node))]
+/// `return` with its value, as `check_calls::returned` in a function and `check_calls::tick_returned` in a tick.
+#[tactic(auto, unfolding(check_rules::specs::Statements::return_node))]
 pub fn return_node(
     alloc: Global,
     state: &State,

@@ -6,7 +6,7 @@ ghost use Rattle.check_tables.specs.Functions as spec;
 ghost use Rattle.check_tables.specs.Walks.{Reads};
 
 use crate::frame::{count, plus};
-use c_types::{DeclareFault, Meaning, MeaningKind, Scopes};
+use check_scopes::{DeclareFault, Meaning, MeaningKind, Scopes};
 use sqlite_items::Items;
 use std::alloc::{AllocError, Global};
 use tick_tree::{Deny, FaultKind, refused};

@@ -15,7 +15,7 @@ use Rattle.c_types.specs.declared.ctype.Layer.{Layer, out-Layer}
 use Rattle.c_types.specs.declared.ctype.Layer.TheVariants as layer
 use Rattle.c_types.specs.declared.ctype.CType.{CType}
 use Rattle.c_types.specs.Types as types
-use Rattle.check_declarators.specs.Making as making
+use Rattle.c_types.specs.Kinds as kinds
 
 -- ---- tests
 
@@ -45,15 +45,15 @@ abbrev pub is_pointer : CType → Bool
 is_pointer t = types.is_pointer (types.outermost (types.layers_of t))
 
 abbrev pub is_function : CType → Bool
-is_function t = making.is_function (types.layers_of t)
+is_function t = kinds.is_function (types.layers_of t)
 
 -- an array or a function, whose value is a pointer
 abbrev pub decays : CType → Bool
-decays t = making.is_array (types.layers_of t) || making.is_function (types.layers_of t)
+decays t = kinds.is_array (types.layers_of t) || kinds.is_function (types.layers_of t)
 
 -- int, unsigned int or a pointer
 abbrev pub is_word : CType → Bool
-is_word t = making.is_word (types.base_of t) (types.layers_of t)
+is_word t = kinds.is_word (types.base_of t) (types.layers_of t)
 
 -- an integer or a pointer
 abbrev pub is_scalar : CType → Bool
@@ -77,22 +77,22 @@ abbrev pub points_to_void : CType → Bool
 points_to_void t = is_pointer t && types.is_void (types.base_of t) (types.under (types.layers_of t))
 
 abbrev pub points_to_function : CType → Bool
-points_to_function t = is_pointer t && making.is_function (types.under (types.layers_of t))
+points_to_function t = is_pointer t && kinds.is_function (types.under (types.layers_of t))
 
 -- ---- types made of others
 
 abbrev pub integer : Integer → CType
-integer k = making.ctype (base.Integer k) []
+integer k = types.ctype (base.Integer k) []
 
 abbrev pub void : CType
-void = making.ctype base.Void []
+void = types.ctype base.Void []
 
 abbrev pub over : Layer → CType → CType
-over l t = making.ctype (types.base_of t) (types.layers_of t ++ l ∷ [])
+over l t = types.ctype (types.base_of t) (types.layers_of t ++ l ∷ [])
 
 -- what a pointer points to, a function answers, or a specification has
 abbrev pub inner : CType → CType
-inner t = making.ctype (types.base_of t) (types.under (types.layers_of t))
+inner t = types.ctype (types.base_of t) (types.under (types.layers_of t))
 
 abbrev pub promoted_by : CType → Option Integer → CType
 promoted_by t (Some k) = integer (types.promoted k)

@@ -2,8 +2,8 @@
 
 ghost use Rattle.std.specs.Prelude.{◌≡◌, ◌<◌, length, IfOk};
 ghost use Rattle.std.specs.Option.{option_copied};
+ghost use Rattle.c_types.specs.Kinds as kinds;
 ghost use Rattle.c_types.specs.Types as types;
-ghost use Rattle.check_declarators.specs.Making as making;
 ghost use Rattle.check_types.specs.Shapes as spec;
 
 use c_types::{Base, Integer, Layer, Layers, TypeRef, promoted};
@@ -68,19 +68,19 @@ pub fn is_pointer(t: &TypeRef) -> bool
 }
 
 fn is_array_layer(last: Option<&Layer>) -> bool
-    ensures { result ≡ making.is_array_layer (option_copied last.entry) }
+    ensures { result ≡ kinds.is_array_layer (option_copied last.entry) }
 {
     matches!(last, Some(Layer::Array(_)))
 }
 
 fn is_function_layer(last: Option<&Layer>) -> bool
-    ensures { result ≡ making.is_function_layer (option_copied last.entry) }
+    ensures { result ≡ kinds.is_function_layer (option_copied last.entry) }
 {
     matches!(last, Some(Layer::Function(_) | Layer::Unlisted))
 }
 
 fn is_function_parts(layers: &Layers<'_>) -> bool
-    ensures { result ≡ making.is_function layers.now }
+    ensures { result ≡ kinds.is_function layers.now }
 {
     matches!(layers.last(), Some(Layer::Function(_) | Layer::Unlisted))
 }
@@ -100,7 +100,7 @@ pub fn decays(t: &TypeRef) -> bool
 }
 
 fn is_word_base(base: Base) -> bool
-    ensures { result ≡ making.is_word_base base }
+    ensures { result ≡ kinds.is_word_base base }
 {
     matches!(base, Base::Integer(Integer::Int | Integer::Unsigned))
 }

@@ -1,21 +1,21 @@
 -- Productions that have the same parts: each is its entry, the walk over its parts, and its node. These are the rules of
--- `check_expressions_spec` and `check_statements_spec`, put together by their parts.
+-- `check_rules`, put together by their parts.
 use Rattle.std.specs.Prelude.{ℕ, List, Ok}
 use Rattle.c_types.specs.declared.ctype.CType.{CType}
 use Rattle.tick_tree.specs.Faults.{Checked}
-use Rattle.check_operators.specs.declared.operand.Operand.{Operand}
-use Rattle.check_operators.specs.Operands as nodes
-use Rattle.check_operators.specs.Stages as stages
-use Rattle.check_env.specs.declared.state.Stage.{Stage}
-use Rattle.check_env.specs.declared.state.State.{State}
+use Rattle.check_operands.specs.declared.operand.Operand.{Operand}
+use Rattle.check_operands.specs.Operands as nodes
+use Rattle.check_operands.specs.Stages as stages
+use Rattle.check_rules.specs.declared.state.Stage.{Stage}
+use Rattle.check_rules.specs.declared.state.State.{State}
 use Rattle.check_tables.specs.Walks.{Rule, ◌>>=◌, lift}
-use Rattle.check_expressions_spec.specs.Entries.{staging_entry}
-use Rattle.check_expressions_spec.specs.Productions as productions
-use Rattle.check_expressions_spec.specs.Rules.{Node, Named, Item, both}
+use Rattle.check_rules.specs.Entries.{staging_entry}
+use Rattle.check_rules.specs.Productions as productions
+use Rattle.check_rules.specs.ExpressionRules.{Node, Named, Item, both}
 use Rattle.typed_tree.specs.declared.expression.Stmt.{Stmt}
-use Rattle.check_env.specs.declared.state.Around.{Around}
-use Rattle.check_statements_spec.specs.Rules.{body}
-use Rattle.check_statements_spec.specs.Statements as statements
+use Rattle.check_rules.specs.declared.state.Around.{Around}
+use Rattle.check_rules.specs.StatementRules.{body}
+use Rattle.check_rules.specs.Statements as statements
 use Rattle.check_walk.specs.declared.kinds.Pair.{Pair}
 use Rattle.check_walk.specs.declared.kinds.Pair.TheVariants as pairs
 use Rattle.check_walk.specs.declared.kinds.Naming.{Naming}

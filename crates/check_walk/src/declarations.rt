@@ -3,18 +3,17 @@
 ghost use Rattle.std.specs.Prelude.{◌≡◌, None, map};
 ghost use Rattle.check_tables.specs.Walks.{Reads};
 ghost use Rattle.check_types.specs.Shapes.{inner};
-ghost use Rattle.check_walk_spec.specs.Walk as spec;
+ghost use Rattle.check_rules.specs.Walk as spec;
 
 use crate::expressions::expression;
 use crate::lists::appended;
 use crate::types::declarator;
 use c_types::TypeRef;
 use check_declarators::{Step, base_of};
-use check_env::{Stage, State};
-use check_operators::Operand;
+use check_operands::Operand;
+use check_rules::{Stage, State, has_size, is_array, is_string};
 use check_statements::{
-    declare, declared_in, element, entered, from_list, from_value, has_size, is_array, is_string,
-    with_list, with_value,
+    declare, declared_in, element, entered, from_list, from_value, with_list, with_value,
 };
 use check_types::inner;
 use sqlite_items::Items;
@@ -23,7 +22,7 @@ use tick_tree::{Base, Declaration, Declarator, Deny, Expr, FaultKind, Init, Init
 use typed_tree::Stmt;
 
 /// The steps with the count of an initializer's values, where the array lacks a length.
-#[tactic(auto, using(check_walk_spec::proofs::Equations::initializers, check_walk_spec::proofs::Written::forms_of, check_walk_spec::proofs::Loops::same_count))]
+#[tactic(auto, using(check_rules::proofs::Equations::initializers, check_rules::proofs::Written::forms_of, check_rules::proofs::Loops::same_count))]
 pub fn with_start(steps: Items<Step>, value: &Initializer) -> Items<Step>
     ensures { result ≡ spec.with_start (spec.initializer value.now) steps }
 {
@@ -35,7 +34,7 @@ pub fn with_start(steps: Items<Step>, value: &Initializer) -> Items<Step>
 }
 
 #[cycle(walk)]
-#[tactic(auto, using(check_walk_spec::proofs::Written::forms_of))]
+#[tactic(auto, using(check_rules::proofs::Written::forms_of))]
 fn begin_value(
     alloc: Global,
     state: &mut State,
@@ -107,7 +106,7 @@ fn begin_list(
 
 // A variable begins with its initializer.
 #[cycle(walk)]
-#[tactic(auto, using(check_walk_spec::proofs::Equations::initializers))]
+#[tactic(auto, using(check_rules::proofs::Equations::initializers))]
 fn begin(
     alloc: Global,
     state: &mut State,
@@ -149,7 +148,7 @@ fn local_type(
 
 // Its type, its name, its initializer.
 #[cycle(walk)]
-#[tactic(auto, using(check_walk_spec::proofs::Written::forms_of))]
+#[tactic(auto, using(check_rules::proofs::Written::forms_of))]
 fn declared_parts(
     alloc: Global,
     state: &mut State,
@@ -167,7 +166,7 @@ fn declared_parts(
 }
 
 #[cycle(walk)]
-#[tactic(auto, using(check_walk_spec::proofs::Equations::types, check_walk_spec::proofs::Written::forms_of))]
+#[tactic(auto, using(check_rules::proofs::Equations::types, check_rules::proofs::Written::forms_of))]
 fn declared_local(
     alloc: Global,
     state: &mut State,
@@ -217,7 +216,7 @@ fn locals(
 
 /// The nodes of the initializers of a declaration in a block.
 #[cycle(walk)]
-#[tactic(auto, using(check_walk_spec::proofs::Equations::types))]
+#[tactic(auto, using(check_rules::proofs::Equations::types))]
 pub fn declaration(
     alloc: Global,
     state: &mut State,

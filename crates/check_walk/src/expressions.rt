@@ -1,12 +1,12 @@
 //! The walk over expressions.
 
 ghost use Rattle.std.specs.Prelude.{◌≡◌, map};
-ghost use Rattle.check_lvalues.specs.Calls as calls;
-ghost use Rattle.check_expressions_spec.specs.Rules as rules;
-ghost use Rattle.check_statements_spec.specs.Rules as statements;
+ghost use Rattle.check_operands.specs.Calls as calls;
+ghost use Rattle.check_rules.specs.ExpressionRules as rules;
+ghost use Rattle.check_rules.specs.StatementRules as statements;
 ghost use Rattle.check_tables.specs.Walks.{Reads};
 ghost use Rattle.check_walk.specs.Kinds as kinds;
-ghost use Rattle.check_walk_spec.specs.Walk as spec;
+ghost use Rattle.check_rules.specs.Walk as spec;
 
 use crate::kinds::{
     Naming, Pair, Typing, character_leaf, naming_entry, naming_node, number_leaf, pair_node,
@@ -15,13 +15,12 @@ use crate::kinds::{
 use crate::statements::block;
 use crate::types::typename;
 use c_types::TypeRef;
-use check_env::{Stage, State};
 use check_expressions::{
     argument, call_node, choice_node, compile_node, library_of, post_node, staging_entry,
     tick_around, tick_entered, tick_entry, unary_entry, unary_node,
 };
-use check_lvalues::Arguments;
-use check_operators::Operand;
+use check_operands::{Arguments, Operand};
+use check_rules::{Stage, State};
 use std::alloc::Global;
 use tick_tree::{Deny, Expr, OptionalExpr, StepOp, Stmt, Typename, UnaryOp};
 
@@ -82,7 +81,7 @@ fn library_call(
     ensures { Reads (rules.library_call line n t (map spec.node list.now) stage state.old) result state.new }
 {
     let found = arguments(alloc, state, stage, list)?;
-    check_lvalues::library(alloc, line, n, t, found)
+    check_calls::library(alloc, line, n, t, found)
 }
 
 #[cycle(walk)]
@@ -107,7 +106,7 @@ fn plain_call(
 }
 
 #[cycle(walk)]
-#[tactic(auto, using(check_walk_spec::proofs::Written::forms_of))]
+#[tactic(auto, using(check_rules::proofs::Written::forms_of))]
 fn call(
     alloc: Global,
     state: &mut State,
@@ -288,7 +287,7 @@ fn typed(
 
 /// What an expression that may be absent is.
 #[cycle(walk)]
-#[tactic(auto, using(check_walk_spec::proofs::Equations::optionals))]
+#[tactic(auto, using(check_rules::proofs::Equations::optionals))]
 pub fn optional(
     alloc: Global,
     state: &mut State,
@@ -305,7 +304,7 @@ pub fn optional(
 
 /// What an expression is, or the first fault.
 #[cycle(walk)]
-#[tactic(auto, using(check_walk_spec::proofs::Equations::expressions))]
+#[tactic(auto, using(check_rules::proofs::Equations::expressions))]
 pub fn expression(alloc: Global, state: &mut State, stage: Stage, e: &Expr) -> Result<Operand, Deny>
     ensures { Reads ((spec.node e.now).walk stage state.old) result state.new }
 {

@@ -2,19 +2,19 @@
 //! the rule of its production, so that the walk has one function for all of a kind.
 
 ghost use Rattle.std.specs.Prelude.{◌≡◌, Ok};
-ghost use Rattle.check_expressions_spec.specs.Productions as productions;
-ghost use Rattle.check_operators.specs.Operands as operands;
+ghost use Rattle.check_rules.specs.Productions as productions;
+ghost use Rattle.check_operands.specs.Operands as operands;
 ghost use Rattle.check_tables.specs.Walks.{Reads};
 ghost use Rattle.check_walk.specs.Kinds as spec;
 ghost use Rattle.tick_tree.specs.Faults.{Checks};
 
 use c_types::TypeRef;
-use check_env::{Around, Stage, State};
 use check_expressions::{
     assign_node, binary_node, cast_node, comma_node, index_node, modify_node, parameter_node,
     staging_entry, string_node,
 };
-use check_operators::{Operand, character, number};
+use check_operands::{Operand, character, number};
+use check_rules::{Around, Stage, State};
 use check_statements::{if_node, inside, looped, while_node};
 use sqlite_items::{Boxed, Items};
 use std::alloc::Global;
@@ -119,8 +119,8 @@ pub fn naming_node(alloc: Global, line: u32, kind: Naming, t: TypeRef) -> Result
     ensures { Checks result (spec.naming_node line kind t) }
 {
     match kind {
-        Naming::Size => check_operators::size(alloc, line, &t),
-        Naming::Local => check_operators::local(alloc, line, t),
+        Naming::Size => check_operands::size(alloc, line, &t),
+        Naming::Local => check_calls::local(alloc, line, t),
     }
 }
 

@@ -2,18 +2,18 @@
 
 ghost use Rattle.std.specs.Prelude.{◌≡◌, Ok, map};
 ghost use Rattle.tick_tree.specs.Faults.{Checks};
-ghost use Rattle.check_statements_spec.specs.Rules as statements;
+ghost use Rattle.check_rules.specs.StatementRules as statements;
 ghost use Rattle.check_tables.specs.Walks.{Reads};
 ghost use Rattle.check_walk.specs.Kinds as kinds;
-ghost use Rattle.check_walk_spec.specs.Walk as spec;
+ghost use Rattle.check_rules.specs.Walk as spec;
 
 use crate::declarations::declaration;
 use crate::expressions::{expression, optional};
 use crate::kinds::{Tested, tested_around, tested_node};
 use crate::lists::{appended, pushed};
-use check_env::{Around, State};
 use check_forms::has_form;
-use check_operators::Operand;
+use check_operands::Operand;
+use check_rules::{Around, State};
 use check_statements::{
     body, break_entry, case_entry, case_node, continue_entry, default_node, do_node, for_node,
     if_else_node, inside, looped, one, return_node, switch_entered, switch_node, switched,
@@ -296,7 +296,7 @@ fn for_block(
     }
 }
 
-#[tactic(auto, using(check_walk_spec::proofs::Equations::empties))]
+#[tactic(auto, using(check_rules::proofs::Equations::empties))]
 fn is_empty(s: &syntax::Stmt) -> bool
     ensures { result ≡ (spec.item s.now).is_empty }
 {
@@ -405,7 +405,7 @@ fn switch(
 }
 
 #[cycle(walk)]
-#[tactic(auto, using(check_walk_spec::proofs::Written::forms_of))]
+#[tactic(auto, using(check_rules::proofs::Written::forms_of))]
 fn case(
     alloc: Global,
     state: &mut State,
@@ -421,7 +421,7 @@ fn case(
 }
 
 #[cycle(walk)]
-#[tactic(auto, using(check_walk_spec::proofs::Equations::optionals))]
+#[tactic(auto, using(check_rules::proofs::Equations::optionals))]
 fn returned(
     alloc: Global,
     state: &mut State,
@@ -448,7 +448,7 @@ fn empty(alloc: Global) -> Result<Items<Stmt>, Deny>
 
 /// The nodes of a statement, one but for a declaration, or the first fault.
 #[cycle(walk)]
-#[tactic(auto, using(check_walk_spec::proofs::Equations::statements))]
+#[tactic(auto, using(check_rules::proofs::Equations::statements))]
 pub fn statement(
     alloc: Global,
     state: &mut State,

@@ -1,11 +1,14 @@
-//! The values of operators on words, as a run has them.
+//! The values of operators on words, as a run has them, and of constant expressions in their typed form.
 #![tactic(auto)]
+
+mod constants;
 
 ghost use Rattle.std.specs.Prelude.{◌≡◌};
 ghost use Rattle.word32.specs.Words as words;
 ghost use Rattle.meaning_state.specs.Operators as run;
 ghost use Rattle.meaning_operators.specs.Values as spec;
 
+pub use constants::constant_value;
 use icode_ops::{BinKind, UnKind};
 use word32::{div_s, div_u, sext8, sext16};
 

@@ -1,6 +1,6 @@
 //! The typed tree of a text.
 
-ghost use Rattle.check_programs_spec.specs.Program as spec;
+ghost use Rattle.check_globals.specs.Program as spec;
 ghost use Rattle.tick_tree.specs.Faults.{Checks};
 
 use crate::walks::check_parts;

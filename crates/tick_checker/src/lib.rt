@@ -3,6 +3,8 @@
 #![tactic(auto)]
 
 mod checker;
+mod parameters;
+mod program;
 mod walks;
 
 pub use checker::check;

@@ -2,15 +2,15 @@
 //! would know of it, there is no second.
 
 ghost use Rattle.std.specs.Prelude.{◌≡◌, List, Ok};
-ghost use Rattle.check_env.specs.declared.state.State.{State as Known};
-ghost use Rattle.check_env.specs.Starts.{start};
-ghost use Rattle.check_programs_spec.specs.Program as spec;
+ghost use Rattle.check_rules.specs.declared.state.State.{State as Known};
+ghost use Rattle.check_rules.specs.Starts.{start};
+ghost use Rattle.check_globals.specs.Program as spec;
 ghost use Rattle.tick_tree.specs.Faults.{Checks};
 ghost use Rattle.walk_again.specs.Laws as laws;
 
-use check_env::State;
+use crate::program::walk;
 use check_globals::finished;
-use check_programs::walk;
+use check_rules::State;
 use sqlite_items::Items;
 use std::alloc::Global;
 use tick_tree::{Deny, External, Tree};
@@ -71,7 +71,7 @@ fn after_first(alloc: Global, state: State, list: &[External]) -> Result<TypedPa
 }
 
 /// The parts of the typed program of a tree, or its first static fault from Undeclared on.
-#[tactic(auto, unfolding(check_programs_spec::specs::Program::checked))]
+#[tactic(auto, unfolding(check_globals::specs::Program::checked))]
 pub fn check_parts(alloc: Global, tree: &Tree) -> Result<TypedParts, Deny>
     ensures { Checks result (spec.checked tree.now) }
 {

@@ -9,7 +9,7 @@ use Rattle.tick_tree.specs.declared.tree.Tree.{Tree}
 use Rattle.c_lexer.specs.Lex.{tokens}
 use Rattle.tick_parser.specs.Trees.{parsed}
 use Rattle.wellformed.specs.declared.typed.Typed.{Typed}
-use Rattle.check_programs_spec.specs.Program.{checked}
+use Rattle.check_globals.specs.Program.{checked}
 use Rattle.built_programs.specs.Built.{Main, built}
 use Rattle.typed_tree.specs.View.{program_view}
 use Rattle.meaning_state.specs.Rows.{numbered}

@@ -1,8 +1,8 @@
-//! Types, their layers, and the scopes of names.
+//! Types and their layers.
 
 use c_types::{
-    Base, CType, Integer, Layer, Meaning, MeaningKind, Scopes, TypeRef, common, converts,
-    converts_to, copy, limited_size, pointed_size, promoted, same,
+    Base, CType, Integer, Layer, TypeRef, common, converts, converts_to, copy, limited_size,
+    pointed_size, promoted, same,
 };
 use sqlite_items::Items;
 use std::alloc::{AllocError, Global};
@@ -100,26 +100,4 @@ fn lists_in_lists(rt: HostRuntime) {
     let pointer = copy(alloc, &t).expect(&rt, "memory").with(Layer::Pointer);
     let pointer = pointer.expect(&rt, "memory");
     assert!(rt; !same(&t, &pointer) && same(&pointer.under(), &like));
-}
-
-#[test]
-fn inner_declaration_hides(rt: HostRuntime) {
-    let int = Base::Integer(Integer::Int);
-    let mut scopes = Scopes::new(rt.alloc()).expect(&rt, "memory");
-    let outer = Meaning {
-        kind: MeaningKind::Global,
-        ctype: TypeRef::new(rt.alloc(), int),
-        index: 1,
-    };
-    let inner = Meaning {
-        kind: MeaningKind::Variable,
-        ctype: TypeRef::new(rt.alloc(), int),
-        index: 2,
-    };
-    assert!(rt; scopes.declare(b"x", outer).is_ok());
-    assert!(rt; scopes.open().is_ok() && scopes.declare(b"x", inner).is_ok());
-    assert!(rt; scopes.find(b"x").map(|found| found.index) == Some(2));
-    assert!(rt; scopes.depth() == 2 && scopes.find(b"y").is_none());
-    scopes.close_to(1);
-    assert!(rt; scopes.find(b"x").map(|found| found.index) == Some(1));
 }

@@ -8,11 +8,11 @@ mod c_types_calls;
 #[cfg(test)]
 mod captures_calls;
 #[cfg(test)]
-mod check_constants_calls;
-#[cfg(test)]
 mod check_declarators_calls;
 #[cfg(test)]
 mod check_forms_calls;
+#[cfg(test)]
+mod check_scopes_calls;
 #[cfg(test)]
 mod check_tables_calls;
 #[cfg(test)]

@@ -2,20 +2,20 @@
 use Rattle.std.proofs.Common.{ℕ, List, [], ◌∷◌, ◌++◌, Option, Some, None}
 use Rattle.c_types.specs.declared.ctype.CType.{CType}
 use Rattle.check_forms.specs.Forms.{Name}
-use Rattle.check_operators.specs.declared.operand.Operand.{Operand}
+use Rattle.check_operands.specs.declared.operand.Operand.{Operand}
 use Rattle.check_types.specs.Shapes.{inner}
 use Rattle.tick_tree.specs.declared.base.Base.{Base}
 use Rattle.tick_tree.specs.declared.base.Prefix.{Prefix}
 use Rattle.tick_tree.specs.declared.fault.FaultKind.{FaultKind}
-use Rattle.check_env.specs.declared.state.Stage.{Stage}
-use Rattle.check_expressions_spec.specs.Rules.{Node, Shape}
-use Rattle.check_statements_spec.specs.Declarations as declarations
-use Rattle.check_statements_spec.specs.Initializers as initializers
-use Rattle.check_walk_spec.specs.Walk as walk
-use Rattle.check_walk_spec.specs.Walk.{Start, Nothing, Value, Values, InitParts, Declarations, SuffixWalk, TypeWalk}
+use Rattle.check_rules.specs.declared.state.Stage.{Stage}
+use Rattle.check_rules.specs.ExpressionRules.{Node, Shape}
+use Rattle.check_rules.specs.Declarations as declarations
+use Rattle.check_rules.specs.Initializers as initializers
+use Rattle.check_rules.specs.Walk as walk
+use Rattle.check_rules.specs.Walk.{Start, Nothing, Value, Values, InitParts, Declarations, SuffixWalk, TypeWalk}
 use Rattle.walk_again.proofs.States.{local_again, list_parameter_again}
 use Rattle.walk_again.proofs.Statements.{each_step_again}
-use Rattle.wf_types.specs.Parts.{EachPart}
+use Rattle.wf_walk.specs.Parts.{EachPart}
 use Rattle.walk_again.specs.Again.{Found, Again, AgainNode, AgainNamed, AgainShape, AgainSuffix}
 use Rattle.walk_again.specs.Again.{AgainType, AgainStart, AgainInit, AgainDeclarations}
 use Rattle.walk_again.specs.Again.{AgainSuffixWalk, AgainTypeWalk}

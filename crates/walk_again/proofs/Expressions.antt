@@ -1,27 +1,27 @@
 -- What the walk over an expression makes grow, by its parts.
 use Rattle.std.proofs.Common.{◌≡◌, ℕ, refl, List, [], ◌∷◌, Option, Some, None, Ok}
 use Rattle.c_types.specs.declared.ctype.CType.{CType}
-use Rattle.c_types.specs.Scopes.{Name}
+use Rattle.check_scopes.specs.Scopes.{Name}
 use Rattle.tick_tree.specs.declared.base.BinaryOp.{BinaryOp}
 use Rattle.tick_tree.specs.declared.base.ModifyOp.{ModifyOp}
 use Rattle.tick_tree.specs.declared.base.StepOp.{StepOp}
 use Rattle.tick_tree.specs.declared.base.UnaryOp.{UnaryOp}
 use Rattle.typed_tree.specs.declared.expression.Stmt.{Stmt}
-use Rattle.check_lvalues.specs.declared.calls.Arguments.{Arguments}
-use Rattle.check_lvalues.specs.Calls as calls
-use Rattle.check_env.specs.declared.state.Around.{Around}
-use Rattle.check_env.specs.declared.state.Stage.{Stage}
-use Rattle.check_env.specs.declared.state.Stage.TheVariants as stage
-use Rattle.check_env.specs.declared.state.State.{State}
-use Rattle.check_env.specs.Blocks.{depth, enter, leave}
+use Rattle.check_operands.specs.declared.arguments.Arguments.{Arguments}
+use Rattle.check_operands.specs.Calls as calls
+use Rattle.check_rules.specs.declared.state.Around.{Around}
+use Rattle.check_rules.specs.declared.state.Stage.{Stage}
+use Rattle.check_rules.specs.declared.state.Stage.TheVariants as stage
+use Rattle.check_rules.specs.declared.state.State.{State}
+use Rattle.check_rules.specs.Blocks.{depth, enter, leave}
 use Rattle.check_tables.specs.Walks.{Rule, ◌>>=◌, pure}
-use Rattle.check_expressions_spec.specs.Productions as productions
-use Rattle.check_expressions_spec.specs.Rules as rules
-use Rattle.check_expressions_spec.specs.Rules.{Node, Named, Item}
+use Rattle.check_rules.specs.Productions as productions
+use Rattle.check_rules.specs.ExpressionRules as rules
+use Rattle.check_rules.specs.ExpressionRules.{Node, Named, Item}
 use Rattle.walk_again.proofs.States.{depth_again, enter_again, leave_again, string_node_again, entered_again}
 use Rattle.walk_again.proofs.States.{entered_kept}
 use Rattle.walk_again.proofs.States.{expression_again, left_again, unary_node_again}
-use Rattle.wf_types.specs.Parts.{EachPart}
+use Rattle.wf_walk.specs.Parts.{EachPart}
 use Rattle.walk_again.specs.Again.{Found, Again, AgainNode, AgainNamed, AgainItem}
 use Rattle.walk_again.specs.Again.{told}
 use Rattle.walk_again.proofs.Steps.{by_after, after, pure_again, lift_again, bind_again, again_first}

@@ -3,13 +3,13 @@ use Rattle.std.proofs.Common.{◌≡◌, ℕ, ◌+◌, Bool, true, false, if◌t
 use Rattle.std.proofs.Common.{refl, ap, nat_le, ◌≤◌, length-append}
 use Rattle.std.proofs.Common.{Option, Some, None, Result, Ok, Err, arith}
 use Rattle.c_types.specs.declared.ctype.CType.{CType}
-use Rattle.c_types.specs.declared.names.Meaning.{Meaning}
-use Rattle.c_types.specs.declared.names.MeaningKind.TheVariants as kind
-use Rattle.c_types.specs.Scopes.{Name, find, in_scope, innermost}
+use Rattle.check_scopes.specs.declared.names.Meaning.{Meaning}
+use Rattle.check_scopes.specs.declared.names.MeaningKind.TheVariants as kind
+use Rattle.check_scopes.specs.Scopes.{Name, find, in_scope, innermost}
 use Rattle.c_types.specs.Types.{same}
 use Rattle.check_types.specs.Shapes.{inner}
-use Rattle.check_operators.specs.declared.operand.Operand.{Operand}
-use Rattle.check_operators.specs.Operands.{value_of}
+use Rattle.check_operands.specs.declared.operand.Operand.{Operand}
+use Rattle.check_operands.specs.Operands.{value_of}
 use Rattle.tick_tree.specs.declared.fault.FaultKind.{FaultKind}
 use Rattle.tick_tree.specs.declared.fault.FaultKind.TheVariants as fault
 use Rattle.tick_tree.specs.Faults.{Checked, refuse, ◌>>=◌ as ◌>>>=◌}
@@ -20,9 +20,9 @@ use Rattle.check_tables.specs.Images as images
 use Rattle.check_tables.specs.declared.image.Image.{Image}
 use Rattle.check_tables.specs.declared.functions.Functions.{Functions}
 use Rattle.check_tables.specs.Walks.{Rule, ◌>>=◌}
-use Rattle.check_env.specs.declared.state.State.{State}
-use Rattle.check_env.specs.Locals.{meaning}
-use Rattle.check_env.specs.Names as scope_names
+use Rattle.check_rules.specs.declared.state.State.{State}
+use Rattle.check_rules.specs.Locals.{meaning}
+use Rattle.check_rules.specs.Names as scope_names
 use Rattle.check_globals.specs.declared.statics.Row.{Row}
 use Rattle.check_globals.specs.Names as names
 use Rattle.check_globals.specs.Functions as functions
@@ -34,18 +34,18 @@ use Rattle.tick_tree.specs.declared.base.Base.{Base}
 use Rattle.tick_tree.specs.declared.syntax.External.{External}
 use Rattle.tick_tree.specs.declared.syntax.External.TheVariants as ext
 use Rattle.tick_tree.specs.declared.syntax.Stmt.{Stmt as Stmt-T}
-use Rattle.check_env.specs.declared.state.Stage.TheVariants as stage
-use Rattle.check_expressions_spec.specs.Rules.{Node, Shape, Item}
+use Rattle.check_rules.specs.declared.state.Stage.TheVariants as stage
+use Rattle.check_rules.specs.ExpressionRules.{Node, Shape, Item}
 use Rattle.check_types.specs.Shapes.{is_function}
-use Rattle.check_statements_spec.specs.Declarations.{name_by}
-use Rattle.check_statements_spec.specs.Initializers.{is_text}
-use Rattle.check_programs_spec.specs.Program as program
-use Rattle.check_programs_spec.specs.Parameters.{parameters_of}
-use Rattle.check_walk_spec.specs.Walk.{Start, Nothing, Value, Values, InitParts, item, shape}
-use Rattle.wf_types.specs.Parts.{EachPart}
+use Rattle.check_rules.specs.Declarations.{name_by}
+use Rattle.check_rules.specs.Initializers.{is_text}
+use Rattle.check_globals.specs.Program as program
+use Rattle.check_globals.specs.Parameters.{parameters_of}
+use Rattle.check_rules.specs.Walk.{Start, Nothing, Value, Values, InitParts, item, shape}
+use Rattle.wf_walk.specs.Parts.{EachPart}
 use Rattle.walk_again.specs.Again.{AgainNode, AgainShape, AgainItem, AgainStart, AgainInit}
 use Rattle.walk_again.proofs.Expressions.{scope_again, each_again}
-use Rattle.wf_induction.proofs.Induction.{holds_stmt, holds_declarator, holds_declaration}
+use Rattle.wf_walk.proofs.Induction.{holds_stmt, holds_declarator, holds_declaration}
 use Rattle.walk_again.proofs.Whole.{asked, rules_again}
 use Rattle.walk_again.specs.Again.{Found, told, told_image, Kept, After, Again}
 use Rattle.walk_again.proofs.Steps.{same_kept, by_after, after, pure_again, lift_again, bind_again}

@@ -6,11 +6,11 @@ use Rattle.tick_tree.specs.declared.syntax.External.{External}
 use Rattle.tick_tree.specs.Faults.{Checked, ◌>>=◌ as ◌>>>=◌}
 use Rattle.check_tables.specs.Functions as functions
 use Rattle.check_tables.specs.Images as images
-use Rattle.check_env.specs.declared.state.State.{State}
-use Rattle.check_env.specs.Starts.{libraries, first_library, second_library, third_library, add_library, empty}
-use Rattle.check_env.specs.Starts.{emptied, start, again}
+use Rattle.check_rules.specs.declared.state.State.{State}
+use Rattle.check_rules.specs.Starts.{libraries, first_library, second_library, third_library, add_library, empty}
+use Rattle.check_rules.specs.Starts.{emptied, start, again}
 use Rattle.check_globals.specs.Programs.{finished}
-use Rattle.check_programs_spec.specs.Program as program
+use Rattle.check_globals.specs.Program as program
 use Rattle.walk_again.specs.Again.{Found, told, Kept, Silent, After, Again}
 use Rattle.walk_again.specs.Laws.{is_settled, WalksAgain}
 use Rattle.walk_again.proofs.Steps.{bind_again, after}

@@ -1,7 +1,7 @@
 -- Steps once more come together.
 use Rattle.std.proofs.Common.{◌≡◌, [], refl, ap, ◌∙◌, Ok, Err, arith}
 use Rattle.tick_tree.specs.Faults.{Checked, ◌>>=◌ as ◌>>>=◌}
-use Rattle.check_env.specs.declared.state.State.{State}
+use Rattle.check_rules.specs.declared.state.State.{State}
 use Rattle.check_tables.specs.Walks.{Rule, ◌>>=◌, pure, lift}
 use Rattle.walk_again.specs.Again.{Found, told, Kept, Silent, After, Again}
 

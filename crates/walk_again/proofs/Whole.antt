@@ -3,23 +3,23 @@ use Rattle.tick_tree.specs.declared.syntax.Expr.{Expr}
 use Rattle.tick_tree.specs.declared.syntax.Stmt.{Stmt}
 use Rattle.tick_tree.specs.declared.syntax.Core.TheOpen.{Core-F, Expr-F, Initializer-F, OptionalExpr-F, Stmt-F}
 use Rattle.tick_tree.specs.declared.syntax.Core.TheOpen.{Suffix-F}
-use Rattle.check_walk_spec.specs.Walk.{Core-W, Expr-W, Initializer-W, OptionalExpr-W, Stmt-W, Suffix-W}
-use Rattle.check_walk_spec.specs.Walk.{core_rule, expr_rule}
-use Rattle.check_walk_spec.specs.Walk.{start_rule}
-use Rattle.check_walk_spec.specs.Walk.{optional_rule, stmt_rule, suffix_walk}
-use Rattle.check_walk_spec.specs.Walk.{node, item}
+use Rattle.check_rules.specs.Walk.{Core-W, Expr-W, Initializer-W, OptionalExpr-W, Stmt-W, Suffix-W}
+use Rattle.check_rules.specs.Walk.{core_rule, expr_rule}
+use Rattle.check_rules.specs.Walk.{start_rule}
+use Rattle.check_rules.specs.Walk.{optional_rule, stmt_rule, suffix_walk}
+use Rattle.check_rules.specs.Walk.{node, item}
 use Rattle.walk_again.specs.Again.{Found, AgainNode, AgainNamed, AgainShape, AgainItem, AgainOptional}
 use Rattle.walk_again.specs.Again.{AgainStart, AgainInit}
 use Rattle.walk_again.specs.Again.{AgainDeclarations, AgainSuffixWalk, AgainTypeWalk}
-use Rattle.wf_induction.specs.Asked.{Asked, EveryCore, EveryExpr, EveryInitializer, EveryOptionalExpr, EveryStmt}
-use Rattle.wf_induction.specs.Asked.{EverySuffix}
-use Rattle.wf_induction.specs.Asked.{RulesKeep}
+use Rattle.wf_walk.specs.Asked.{Asked, EveryCore, EveryExpr, EveryInitializer, EveryOptionalExpr, EveryStmt}
+use Rattle.wf_walk.specs.Asked.{EverySuffix}
+use Rattle.wf_walk.specs.Asked.{RulesKeep}
 use Rattle.walk_again.proofs.Steps.{pure_again, lift_again}
 use Rattle.walk_again.proofs.States.{named_again, string_node_again}
 use Rattle.walk_again.proofs.Expressions as e
 use Rattle.walk_again.proofs.Statements as s
 use Rattle.walk_again.proofs.Declarations as d
-use Rattle.wf_induction.proofs.Induction.{holds_expr, holds_stmt}
+use Rattle.wf_walk.proofs.Induction.{holds_expr, holds_stmt}
 
 abbrev pub asked : Found → Asked
 asked k = record {

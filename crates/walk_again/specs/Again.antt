@@ -3,20 +3,20 @@
 -- that it found.
 use Rattle.std.specs.Prelude.{◌≡◌, ℕ, ◌≤◌, Bool, false, List, [], length, slice_get, Option, Some, None, Ok, Err}
 use Rattle.c_types.specs.declared.ctype.CType.{CType}
-use Rattle.c_types.specs.Scopes.{Scopes}
+use Rattle.check_scopes.specs.Scopes.{Scopes}
 use Rattle.check_declarators.specs.declared.steps.Step.{Step}
 use Rattle.tick_tree.specs.Faults.{Checked}
-use Rattle.check_env.specs.declared.state.Around.{Around}
-use Rattle.check_env.specs.declared.state.Stage.{Stage}
-use Rattle.check_env.specs.declared.state.State.{State}
+use Rattle.check_rules.specs.declared.state.Around.{Around}
+use Rattle.check_rules.specs.declared.state.Stage.{Stage}
+use Rattle.check_rules.specs.declared.state.State.{State}
 use Rattle.check_tables.specs.declared.frame.Frame.{Frame}
 use Rattle.check_tables.specs.declared.image.Image.{Image}
 use Rattle.check_tables.specs.declared.functions.Functions.{Functions}
 use Rattle.check_tables.specs.Frames as frames
 use Rattle.check_tables.specs.Walks.{Rule}
-use Rattle.check_expressions_spec.specs.Rules.{Node, Named, Shape, Item}
-use Rattle.wf_types.specs.Parts.{EachPart}
-use Rattle.check_walk_spec.specs.Walk.{Start, Nothing, Value, Values, InitParts, Declarations, SuffixWalk, TypeWalk}
+use Rattle.check_rules.specs.ExpressionRules.{Node, Named, Shape, Item}
+use Rattle.wf_walk.specs.Parts.{EachPart}
+use Rattle.check_rules.specs.Walk.{Start, Nothing, Value, Values, InitParts, Declarations, SuffixWalk, TypeWalk}
 
 -- what an earlier walk found, where it marked no variable
 pub record Found : Type 0 where

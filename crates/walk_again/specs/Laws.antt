@@ -5,11 +5,11 @@ use Rattle.tick_tree.specs.declared.syntax.Expr.{Expr}
 use Rattle.tick_tree.specs.declared.syntax.External.{External}
 use Rattle.tick_tree.specs.declared.syntax.Stmt.{Stmt}
 use Rattle.tick_tree.specs.Named.{is_nil}
-use Rattle.check_env.specs.declared.state.State.{State}
-use Rattle.check_env.specs.Starts.{start}
+use Rattle.check_rules.specs.declared.state.State.{State}
+use Rattle.check_rules.specs.Starts.{start}
 use Rattle.check_globals.specs.Programs.{finished}
-use Rattle.check_programs_spec.specs.Program.{walk, walk_again}
-use Rattle.check_walk_spec.specs.Walk.{node, item}
+use Rattle.check_globals.specs.Program.{walk, walk_again}
+use Rattle.check_rules.specs.Walk.{node, item}
 use Rattle.walk_again.specs.Again.{Found, AgainNode, AgainItem}
 
 -- whether one of these variables needs an address

@@ -2,9 +2,9 @@
 use Rattle.std.proofs.Common.{◌≡◌, ℕ, ◌+◌, ◌≤◌, Bool, true, false, List, [], ◌∷◌, length, refl, Option, Some, None, Ok}
 use Rattle.std.proofs.Common.{Err, arith, ap, subst}
 use Rattle.c_types.specs.declared.ctype.CType.{CType}
-use Rattle.c_types.specs.declared.names.MeaningKind.TheVariants as kind
-use Rattle.c_types.specs.declared.names.Meaning.{Meaning}
-use Rattle.c_types.specs.Scopes.{Name, find}
+use Rattle.check_scopes.specs.declared.names.MeaningKind.TheVariants as kind
+use Rattle.check_scopes.specs.declared.names.Meaning.{Meaning}
+use Rattle.check_scopes.specs.Scopes.{Name, find}
 use Rattle.c_types.specs.Types.{same}
 use Rattle.check_types.specs.Shapes.{inner}
 use Rattle.tick_tree.specs.declared.base.Base.{Base}
@@ -15,15 +15,15 @@ use Rattle.check_tables.specs.declared.functions.Functions.{Functions}
 use Rattle.check_tables.specs.Frames as frames
 use Rattle.check_tables.specs.Functions as tables
 use Rattle.check_tables.specs.Walks.{Rule, ◌>>=◌}
-use Rattle.check_env.specs.declared.state.State.{State}
-use Rattle.check_env.specs.Locals.{meaning, parameter, with_parameter}
-use Rattle.check_env.specs.Names.{declare}
-use Rattle.check_expressions_spec.specs.Rules.{Shape, Item}
-use Rattle.check_statements_spec.specs.Declarations.{name_by}
+use Rattle.check_rules.specs.declared.state.State.{State}
+use Rattle.check_rules.specs.Locals.{meaning, parameter, with_parameter}
+use Rattle.check_rules.specs.Names.{declare}
+use Rattle.check_rules.specs.ExpressionRules.{Shape, Item}
+use Rattle.check_rules.specs.Declarations.{name_by}
 use Rattle.check_globals.specs.Functions as functions
 use Rattle.check_globals.specs.Functions.{Given}
 use Rattle.check_globals.specs.Names as names
-use Rattle.check_programs_spec.specs.Program as program
+use Rattle.check_globals.specs.Program as program
 use Rattle.wf_growth_rules.specs.Light.{Light, After, Bounded, LightShape, LightItem, Each}
 use Rattle.wf_growth_rules.proofs.Walks.{weak, by_after, after, pure_light, lift_light, bind_light, ok_same}
 use Rattle.wf_growth_rules.proofs.States.{same_light, declare_light, depth_light, enter_light, leave_light, one_more}

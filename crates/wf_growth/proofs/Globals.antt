@@ -2,13 +2,13 @@
 use Rattle.std.proofs.Common.{◌≡◌, ℕ, Bool, true, false, if◌then◌else◌, List, [], ◌∷◌, ◌++◌, length, refl, Option, Some}
 use Rattle.std.proofs.Common.{None, is_some, Result, Ok, Err, arith}
 use Rattle.c_types.specs.declared.ctype.CType.{CType}
-use Rattle.c_types.specs.declared.names.Meaning.{Meaning}
-use Rattle.c_types.specs.declared.names.MeaningKind.TheVariants as kind
-use Rattle.c_types.specs.Scopes.{Name, find}
+use Rattle.check_scopes.specs.declared.names.Meaning.{Meaning}
+use Rattle.check_scopes.specs.declared.names.MeaningKind.TheVariants as kind
+use Rattle.check_scopes.specs.Scopes.{Name, find}
 use Rattle.c_types.specs.Types.{same}
 use Rattle.check_types.specs.Shapes.{inner, is_function}
-use Rattle.check_operators.specs.declared.operand.Operand.{Operand}
-use Rattle.check_operators.specs.Operands.{value_of}
+use Rattle.check_operands.specs.declared.operand.Operand.{Operand}
+use Rattle.check_operands.specs.Operands.{value_of}
 use Rattle.tick_tree.specs.declared.base.Base.{Base}
 use Rattle.tick_tree.specs.declared.fault.FaultKind.{FaultKind}
 use Rattle.tick_tree.specs.declared.fault.FaultKind.TheVariants as fault
@@ -16,17 +16,17 @@ use Rattle.tick_tree.specs.Faults.{Checked, refuse}
 use Rattle.check_tables.specs.Functions as tables
 use Rattle.check_tables.specs.Images as images
 use Rattle.check_tables.specs.Walks.{Rule}
-use Rattle.check_env.specs.declared.state.Stage.TheVariants as stage
-use Rattle.check_env.specs.declared.state.State.{State}
-use Rattle.check_env.specs.Locals.{meaning}
-use Rattle.check_expressions_spec.specs.Rules.{Node, Shape}
-use Rattle.check_statements_spec.specs.Declarations.{name_by}
-use Rattle.check_statements_spec.specs.Initializers.{is_text}
+use Rattle.check_rules.specs.declared.state.Stage.TheVariants as stage
+use Rattle.check_rules.specs.declared.state.State.{State}
+use Rattle.check_rules.specs.Locals.{meaning}
+use Rattle.check_rules.specs.ExpressionRules.{Node, Shape}
+use Rattle.check_rules.specs.Declarations.{name_by}
+use Rattle.check_rules.specs.Initializers.{is_text}
 use Rattle.check_globals.specs.declared.statics.Row.{Row}
 use Rattle.check_globals.specs.Names as names
 use Rattle.check_globals.specs.Statics as statics
-use Rattle.check_programs_spec.specs.Program as program
-use Rattle.check_walk_spec.specs.Walk.{Start, Nothing, Value, Values, InitParts, Declarations}
+use Rattle.check_globals.specs.Program as program
+use Rattle.check_rules.specs.Walk.{Start, Nothing, Value, Values, InitParts, Declarations}
 use Rattle.wf_growth_rules.specs.Light.{Light, After, Bounded, LightNode, Each, none, more}
 use Rattle.wf_growth_rules.proofs.Walks.{weak, by_after, after, pure_light, lift_light, bind_light, light_first}
 use Rattle.wf_growth_rules.proofs.States.{same_light, declare_light}

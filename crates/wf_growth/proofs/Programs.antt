@@ -2,9 +2,9 @@
 use Rattle.std.proofs.Common.{List, [], ◌∷◌, map, arith}
 use Rattle.tick_tree.specs.declared.syntax.External.{External}
 use Rattle.tick_tree.specs.declared.syntax.External.TheVariants as ext
-use Rattle.check_programs_spec.specs.Parameters.{parameters_of}
-use Rattle.check_programs_spec.specs.Program as program
-use Rattle.check_walk_spec.specs.Walk.{item, shape, declaration}
+use Rattle.check_globals.specs.Parameters.{parameters_of}
+use Rattle.check_globals.specs.Program as program
+use Rattle.check_rules.specs.Walk.{item, shape, declaration}
 use Rattle.wf_growth_rules.specs.Light.{Bounded}
 use Rattle.wf_growth_rules.proofs.Walks.{weak, pure_light, bind_light}
 use Rattle.tick_tree.specs.Weights.{total, item_weight}

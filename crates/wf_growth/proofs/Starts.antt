@@ -7,13 +7,13 @@ use Rattle.tick_tree.specs.declared.tree.Tree.{Tree}
 use Rattle.tick_tree.specs.Faults.{Checked, refuse, ◌>>=◌ as ◌>>>=◌}
 use Rattle.typed_tree.specs.declared.program.TypedParts.{TypedParts}
 use Rattle.c_types.specs.declared.ctype.CType.{CType}
-use Rattle.c_types.specs.Scopes.{Name}
+use Rattle.check_scopes.specs.Scopes.{Name}
 use Rattle.check_tables.specs.declared.functions.Prototype.{Prototype}
 use Rattle.check_tables.specs.Functions as tables
-use Rattle.check_env.specs.declared.state.State.{State}
-use Rattle.check_env.specs.Starts as starts
+use Rattle.check_rules.specs.declared.state.State.{State}
+use Rattle.check_rules.specs.Starts as starts
 use Rattle.check_globals.specs.Programs as programs
-use Rattle.check_programs_spec.specs.Program as program
+use Rattle.check_globals.specs.Program as program
 use Rattle.wf_growth_rules.specs.Light.{After, Bounded}
 use Rattle.wf_growth_rules.proofs.Walks.{weak, after, bind_light}
 use Rattle.wf_growth_rules.proofs.States.{declare_light}

@@ -1,7 +1,7 @@
 -- How much a function makes grow: its variables are counted anew.
 use Rattle.std.specs.Prelude.{ℕ, ◌+◌, ◌≤◌, length, Ok, Err}
 use Rattle.tick_tree.specs.Faults.{Checked}
-use Rattle.check_env.specs.declared.state.State.{State}
+use Rattle.check_rules.specs.declared.state.State.{State}
 use Rattle.check_tables.specs.Walks.{Rule}
 
 -- the variables of the function are at most `v` and `w`, and everything else grew by `w` at most

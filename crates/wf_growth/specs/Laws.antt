@@ -7,14 +7,14 @@ use Rattle.tick_tree.specs.declared.syntax.External.{External}
 use Rattle.tick_tree.specs.declared.syntax.Stmt.{Stmt}
 use Rattle.tick_tree.specs.declared.tree.Tree.{Tree}
 use Rattle.typed_tree.specs.declared.program.TypedParts.{TypedParts}
-use Rattle.check_expressions_spec.specs.Rules.{Item}
+use Rattle.check_rules.specs.ExpressionRules.{Item}
 use Rattle.check_globals.specs.Functions as functions
 use Rattle.check_globals.specs.Functions.{Given}
-use Rattle.check_env.specs.declared.state.State.{State}
-use Rattle.check_env.specs.Starts as starts
-use Rattle.check_programs_spec.specs.Parameters.{parameters_of}
-use Rattle.check_programs_spec.specs.Program as program
-use Rattle.check_walk_spec.specs.Walk.{item}
+use Rattle.check_rules.specs.declared.state.State.{State}
+use Rattle.check_rules.specs.Starts as starts
+use Rattle.check_globals.specs.Parameters.{parameters_of}
+use Rattle.check_globals.specs.Program as program
+use Rattle.check_rules.specs.Walk.{item}
 use Rattle.wf_growth_rules.specs.Light.{After, Bounded, LightItem, Each}
 use Rattle.wf_growth.specs.Fresh.{Fresh}
 use Rattle.tick_tree.specs.Weights.{total, weight, statement_weight, declarator_weight, item_weight, tree_weight}

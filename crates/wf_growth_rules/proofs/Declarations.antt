@@ -2,17 +2,17 @@
 use Rattle.std.proofs.Common.{ℕ, ◌+◌, List, [], ◌∷◌, ◌++◌, Option, Some, None, arith}
 use Rattle.c_types.specs.declared.ctype.CType.{CType}
 use Rattle.check_forms.specs.Forms.{Name}
-use Rattle.check_operators.specs.declared.operand.Operand.{Operand}
+use Rattle.check_operands.specs.declared.operand.Operand.{Operand}
 use Rattle.check_types.specs.Shapes.{inner}
 use Rattle.tick_tree.specs.declared.base.Base.{Base}
 use Rattle.tick_tree.specs.declared.base.Prefix.{Prefix}
 use Rattle.tick_tree.specs.declared.fault.FaultKind.{FaultKind}
-use Rattle.check_env.specs.declared.state.Stage.{Stage}
-use Rattle.check_expressions_spec.specs.Rules.{Node, Shape}
-use Rattle.check_statements_spec.specs.Declarations as declarations
-use Rattle.check_statements_spec.specs.Initializers as initializers
-use Rattle.check_walk_spec.specs.Walk as walk
-use Rattle.check_walk_spec.specs.Walk.{Start, Nothing, Value, Values, InitParts, Declarations, SuffixWalk, TypeWalk}
+use Rattle.check_rules.specs.declared.state.Stage.{Stage}
+use Rattle.check_rules.specs.ExpressionRules.{Node, Shape}
+use Rattle.check_rules.specs.Declarations as declarations
+use Rattle.check_rules.specs.Initializers as initializers
+use Rattle.check_rules.specs.Walk as walk
+use Rattle.check_rules.specs.Walk.{Start, Nothing, Value, Values, InitParts, Declarations, SuffixWalk, TypeWalk}
 use Rattle.wf_growth_rules.specs.Light.{Bounded, LightNode, LightShape, LightSuffix, LightNamed, LightType, Each, none}
 use Rattle.wf_growth_rules.specs.Light.{more}
 use Rattle.wf_growth_rules.proofs.Walks.{weak, pure_light, lift_light, bind_light}

@@ -6,17 +6,17 @@ use Rattle.tick_tree.specs.declared.base.ModifyOp.{ModifyOp}
 use Rattle.tick_tree.specs.declared.base.StepOp.{StepOp}
 use Rattle.tick_tree.specs.declared.base.UnaryOp.{UnaryOp}
 use Rattle.typed_tree.specs.declared.expression.Stmt.{Stmt}
-use Rattle.check_lvalues.specs.declared.calls.Arguments.{Arguments}
-use Rattle.check_lvalues.specs.Calls as calls
-use Rattle.check_env.specs.declared.state.Around.{Around}
-use Rattle.check_env.specs.declared.state.Stage.{Stage}
-use Rattle.check_env.specs.declared.state.Stage.TheVariants as stage
-use Rattle.check_env.specs.declared.state.State.{State}
-use Rattle.check_env.specs.Blocks.{depth, enter, leave}
+use Rattle.check_operands.specs.declared.arguments.Arguments.{Arguments}
+use Rattle.check_operands.specs.Calls as calls
+use Rattle.check_rules.specs.declared.state.Around.{Around}
+use Rattle.check_rules.specs.declared.state.Stage.{Stage}
+use Rattle.check_rules.specs.declared.state.Stage.TheVariants as stage
+use Rattle.check_rules.specs.declared.state.State.{State}
+use Rattle.check_rules.specs.Blocks.{depth, enter, leave}
 use Rattle.check_tables.specs.Walks.{Rule, ◌>>=◌, pure}
-use Rattle.check_expressions_spec.specs.Productions as productions
-use Rattle.check_expressions_spec.specs.Rules as rules
-use Rattle.check_expressions_spec.specs.Rules.{Node, Named, Item}
+use Rattle.check_rules.specs.Productions as productions
+use Rattle.check_rules.specs.ExpressionRules as rules
+use Rattle.check_rules.specs.ExpressionRules.{Node, Named, Item}
 use Rattle.wf_growth_rules.specs.Light.{Bounded, LightNode, LightNamed, LightItem, Each, none, more}
 use Rattle.wf_growth_rules.proofs.Walks.{weak, by_after, after, pure_light, lift_light, bind_light, light_first}
 use Rattle.wf_growth_rules.proofs.States.{depth_light, enter_light, leave_light, string_node_light, entered_light}

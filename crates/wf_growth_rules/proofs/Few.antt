@@ -3,12 +3,12 @@ use Rattle.std.proofs.Common.{◌≡◌, ℕ, ◌+◌, ◌≤◌, List, [], ◌�
 use Rattle.tick_tree.specs.declared.syntax.Expr.{Expr}
 use Rattle.tick_tree.specs.declared.syntax.Stmt.{Stmt}
 use Rattle.typed_tree.specs.declared.expression.Stmt.{Stmt as Act}
-use Rattle.check_operators.specs.declared.operand.Operand.{Operand}
-use Rattle.check_env.specs.declared.state.Around.{Around}
-use Rattle.check_env.specs.declared.state.Stage.{Stage}
-use Rattle.check_env.specs.declared.state.State.{State}
-use Rattle.check_expressions_spec.specs.Rules as rules
-use Rattle.check_walk_spec.specs.Walk.{node, item}
+use Rattle.check_operands.specs.declared.operand.Operand.{Operand}
+use Rattle.check_rules.specs.declared.state.Around.{Around}
+use Rattle.check_rules.specs.declared.state.Stage.{Stage}
+use Rattle.check_rules.specs.declared.state.State.{State}
+use Rattle.check_rules.specs.ExpressionRules as rules
+use Rattle.check_rules.specs.Walk.{node, item}
 use Rattle.wf_growth_rules.specs.Light.{Light, LightItem, Each, none, more}
 use Rattle.wf_growth_rules.proofs.Expressions.{block_light}
 use Rattle.tick_tree.specs.Weights.{total, weight, statement_weight}

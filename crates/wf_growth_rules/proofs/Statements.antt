@@ -4,21 +4,21 @@ use Rattle.std.proofs.Common.{Ok, Err, arith}
 use Rattle.c_types.specs.declared.ctype.CType.{CType}
 use Rattle.check_declarators.specs.declared.steps.Step.{Step}
 use Rattle.check_declarators.specs.declared.steps.Step.TheVariants as step
-use Rattle.check_operators.specs.declared.operand.Operand.{Operand}
-use Rattle.check_operators.specs.Operands.{effect}
-use Rattle.check_constants.specs.Constants.{constant}
+use Rattle.check_operands.specs.declared.operand.Operand.{Operand}
+use Rattle.check_operands.specs.Operands.{effect}
+use Rattle.meaning_operators.specs.Constants.{constant}
 use Rattle.tick_tree.specs.Faults.{Checked}
 use Rattle.typed_tree.specs.declared.expression.Stmt.{Stmt}
 use Rattle.typed_tree.specs.declared.expression.Stmt.TheVariants as st
 use Rattle.check_tables.specs.declared.labels.Labels.{Labels}
 use Rattle.check_tables.specs.Labels as labels
-use Rattle.check_env.specs.declared.state.Around.{Around}
-use Rattle.check_env.specs.declared.state.Stage.{Stage}
-use Rattle.check_env.specs.declared.state.State.{State}
+use Rattle.check_rules.specs.declared.state.Around.{Around}
+use Rattle.check_rules.specs.declared.state.Stage.{Stage}
+use Rattle.check_rules.specs.declared.state.State.{State}
 use Rattle.check_tables.specs.Walks.{Rule}
-use Rattle.check_expressions_spec.specs.Rules.{Node, Item}
-use Rattle.check_statements_spec.specs.Rules as rules
-use Rattle.check_statements_spec.specs.Statements as statements
+use Rattle.check_rules.specs.ExpressionRules.{Node, Item}
+use Rattle.check_rules.specs.StatementRules as rules
+use Rattle.check_rules.specs.Statements as statements
 use Rattle.wf_growth_rules.specs.Light.{Light, After, Bounded, LightNode, LightItem, LightOptional, LightSuffix}
 use Rattle.wf_growth_rules.specs.Light.{LightType, Each, none, more, absent, present}
 use Rattle.wf_growth_rules.proofs.Walks.{weak, by_after, pure_light, lift_light, read_light, bind_light}

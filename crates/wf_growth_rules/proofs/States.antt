@@ -2,10 +2,10 @@
 use Rattle.std.proofs.Common.{◌≡◌, ℕ, ◌+◌, ◌≤◌, Bool, true, false, if◌then◌else◌, List, [], ◌∷◌, ◌++◌, length, refl}
 use Rattle.std.proofs.Common.{Option, Some, None, Ok, Err, slice_get, length-append, arith}
 use Rattle.c_types.specs.declared.ctype.CType.{CType}
-use Rattle.c_types.specs.declared.names.Meaning.{Meaning}
-use Rattle.c_types.specs.declared.names.MeaningKind.{MeaningKind}
-use Rattle.c_types.specs.declared.names.MeaningKind.TheVariants as kind
-use Rattle.c_types.specs.Scopes.{Name, find, in_scope, innermost}
+use Rattle.check_scopes.specs.declared.names.Meaning.{Meaning}
+use Rattle.check_scopes.specs.declared.names.MeaningKind.{MeaningKind}
+use Rattle.check_scopes.specs.declared.names.MeaningKind.TheVariants as kind
+use Rattle.check_scopes.specs.Scopes.{Name, find, in_scope, innermost}
 use Rattle.check_types.specs.Shapes.{is_cspec, is_vspec, over, void}
 use Rattle.c_types.specs.declared.ctype.Layer.TheVariants as layer
 use Rattle.typed_tree.specs.declared.program.TickBody.TheVariants as body
@@ -14,26 +14,26 @@ use Rattle.typed_tree.specs.declared.expression.CaptureKind.{CaptureKind}
 use Rattle.typed_tree.specs.declared.expression.Expr.{Expr}
 use Rattle.typed_tree.specs.declared.expression.Stmt.{Stmt}
 use Rattle.typed_tree.specs.declared.program.TickBody.{TickBody}
-use Rattle.check_operators.specs.declared.operand.Operand.{Operand}
-use Rattle.check_operators.specs.Operands.{value_of}
-use Rattle.check_operators.specs.Stages as stages
-use Rattle.check_lvalues.specs.Places as places
+use Rattle.check_operands.specs.declared.operand.Operand.{Operand}
+use Rattle.check_operands.specs.Operands.{value_of}
+use Rattle.check_operands.specs.Stages as stages
+use Rattle.check_operands.specs.Places as places
 use Rattle.tick_tree.specs.declared.base.UnaryOp.{UnaryOp}
 use Rattle.tick_tree.specs.declared.base.UnaryOp.TheVariants as unary_op
-use Rattle.check_operators.specs.declared.operand.Place.{Place}
-use Rattle.check_operators.specs.declared.operand.Place.TheVariants as place
-use Rattle.check_operators.specs.declared.operand.Value.{Value}
-use Rattle.check_env.specs.declared.state.Stage.{Stage}
-use Rattle.check_env.specs.declared.state.Stage.TheVariants as stage
-use Rattle.check_env.specs.declared.state.State.{State}
-use Rattle.check_env.specs.Blocks.{depth, enter, leave}
-use Rattle.check_env.specs.Locals as locals
-use Rattle.check_env.specs.Names as names
+use Rattle.check_operands.specs.declared.operand.Place.{Place}
+use Rattle.check_operands.specs.declared.operand.Place.TheVariants as place
+use Rattle.check_operands.specs.declared.operand.Value.{Value}
+use Rattle.check_rules.specs.declared.state.Stage.{Stage}
+use Rattle.check_rules.specs.declared.state.Stage.TheVariants as stage
+use Rattle.check_rules.specs.declared.state.State.{State}
+use Rattle.check_rules.specs.Blocks.{depth, enter, leave}
+use Rattle.check_rules.specs.Locals as locals
+use Rattle.check_rules.specs.Names as names
 use Rattle.check_tables.specs.declared.frame.Home.{Home}
 use Rattle.check_tables.specs.declared.frame.Frame.{Frame}
 use Rattle.check_tables.specs.Frames as frames
 use Rattle.check_tables.specs.Walks.{Rule, ◌>>=◌}
-use Rattle.check_expressions_spec.specs.Productions as productions
+use Rattle.check_rules.specs.Productions as productions
 use Rattle.wf_growth_rules.specs.Light.{Light, After, Bounded}
 use Rattle.wf_growth_rules.proofs.Walks.{light_refl, weak, by_after, after, lift_after, lift_light, bind_light}
 

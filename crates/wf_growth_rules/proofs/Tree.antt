@@ -22,14 +22,14 @@ use Rattle.tick_tree.specs.declared.syntax.Core.TheFolds.{map-Init, map-Paramete
 use Rattle.tick_tree.specs.declared.syntax.Core.TheFolds.{ind-Initializer, ind-OptionalExpr, ind-Stmt, ind-Suffix}
 use Rattle.tick_tree.specs.declared.syntax.Core.TheFolds.{ind-Declaration, ind-Declarator, ind-Init, ind-Parameter}
 use Rattle.tick_tree.specs.declared.syntax.Core.TheFolds.{ind-Typename}
-use Rattle.check_operators.specs.Operands as nodes
-use Rattle.check_statements_spec.specs.Rules as statement_rules
-use Rattle.check_walk_spec.specs.Walk.{core_rule, expr_rule, start_rule, optional_rule, stmt_rule, suffix_walk}
-use Rattle.check_walk_spec.specs.Walk.{type_walks}
-use Rattle.check_walk_spec.specs.Walk.{declaration_rule, declarator_rule, init_rule, parameter_rule, typename_rule}
-use Rattle.check_walk_spec.specs.Walk.{core}
-use Rattle.check_walk_spec.specs.Walk.{node, initializer, optional, item, suffix, declaration, shape, init, parameter}
-use Rattle.check_walk_spec.specs.Walk.{named}
+use Rattle.check_operands.specs.Operands as nodes
+use Rattle.check_rules.specs.StatementRules as statement_rules
+use Rattle.check_rules.specs.Walk.{core_rule, expr_rule, start_rule, optional_rule, stmt_rule, suffix_walk}
+use Rattle.check_rules.specs.Walk.{type_walks}
+use Rattle.check_rules.specs.Walk.{declaration_rule, declarator_rule, init_rule, parameter_rule, typename_rule}
+use Rattle.check_rules.specs.Walk.{core}
+use Rattle.check_rules.specs.Walk.{node, initializer, optional, item, suffix, declaration, shape, init, parameter}
+use Rattle.check_rules.specs.Walk.{named}
 use Rattle.wf_growth_rules.specs.Light.{LightNode, LightShape, LightItem, LightNamed, LightOptional, absent, present}
 use Rattle.wf_growth_rules.specs.Light.{Each, none, more}
 use Rattle.wf_growth_rules.proofs.Walks.{weak, pure_light, lift_light}

@@ -1,21 +1,21 @@
 -- How much the rules of the walk make grow, by their parts.
 use Rattle.std.specs.Prelude.{ℕ, ◌+◌, List, Option}
 use Rattle.c_types.specs.declared.ctype.CType.{CType}
-use Rattle.c_types.specs.Scopes.{Name}
+use Rattle.check_scopes.specs.Scopes.{Name}
 use Rattle.check_declarators.specs.declared.steps.Step.{Step}
-use Rattle.check_operators.specs.declared.operand.Operand.{Operand}
+use Rattle.check_operands.specs.declared.operand.Operand.{Operand}
 use Rattle.tick_tree.specs.declared.base.BinaryOp.{BinaryOp}
 use Rattle.tick_tree.specs.declared.base.UnaryOp.{UnaryOp}
-use Rattle.check_env.specs.declared.state.Around.{Around}
-use Rattle.check_env.specs.declared.state.Stage.{Stage}
-use Rattle.check_env.specs.declared.state.State.{State}
-use Rattle.check_env.specs.Locals as locals
-use Rattle.check_env.specs.Names as names
+use Rattle.check_rules.specs.declared.state.Around.{Around}
+use Rattle.check_rules.specs.declared.state.Stage.{Stage}
+use Rattle.check_rules.specs.declared.state.State.{State}
+use Rattle.check_rules.specs.Locals as locals
+use Rattle.check_rules.specs.Names as names
 use Rattle.check_tables.specs.Walks.{Rule}
-use Rattle.check_expressions_spec.specs.Productions as productions
-use Rattle.check_expressions_spec.specs.Rules as rules
-use Rattle.check_expressions_spec.specs.Rules.{Node, Named, Item}
-use Rattle.check_statements_spec.specs.Rules as statements
+use Rattle.check_rules.specs.Productions as productions
+use Rattle.check_rules.specs.ExpressionRules as rules
+use Rattle.check_rules.specs.ExpressionRules.{Node, Named, Item}
+use Rattle.check_rules.specs.StatementRules as statements
 use Rattle.wf_growth_rules.specs.Light.{Bounded, LightNode, LightNamed, LightItem, LightOptional, LightSuffix}
 use Rattle.wf_growth_rules.specs.Light.{LightType, Each}
 

@@ -7,11 +7,11 @@ use Rattle.std.specs.Prelude.{◌≡◌, ℕ, ◌+◌, ◌≤◌, List, [], ◌�
 use Rattle.c_types.specs.declared.ctype.CType.{CType}
 use Rattle.check_declarators.specs.declared.steps.Step.{Step}
 use Rattle.tick_tree.specs.Faults.{Checked}
-use Rattle.check_env.specs.declared.state.Around.{Around}
-use Rattle.check_env.specs.declared.state.Stage.{Stage}
-use Rattle.check_env.specs.declared.state.State.{State}
+use Rattle.check_rules.specs.declared.state.Around.{Around}
+use Rattle.check_rules.specs.declared.state.Stage.{Stage}
+use Rattle.check_rules.specs.declared.state.State.{State}
 use Rattle.check_tables.specs.Walks.{Rule}
-use Rattle.check_expressions_spec.specs.Rules.{Node, Named, Shape, Item}
+use Rattle.check_rules.specs.ExpressionRules.{Node, Named, Shape, Item}
 
 -- from the one state to the other each grows by so many at most
 pub record Light (w : ℕ) (s new : State) : Type 0 where

@@ -1,7 +1,7 @@
 -- The parts of a declaration, each with a number that bounds what its walk makes grow.
 use Rattle.std.specs.Prelude.{ℕ, ◌+◌, ◌≤◌, List}
-use Rattle.check_expressions_spec.specs.Rules.{Node}
-use Rattle.check_walk_spec.specs.Walk.{Start, Nothing, Value, Values, InitParts, Declarations, SuffixWalk, TypeWalk}
+use Rattle.check_rules.specs.ExpressionRules.{Node}
+use Rattle.check_rules.specs.Walk.{Start, Nothing, Value, Values, InitParts, Declarations, SuffixWalk, TypeWalk}
 use Rattle.wf_growth_rules.specs.Light.{LightNode, LightShape, LightSuffix, LightType, Each}
 
 -- a suffix and a parameter, by their walks

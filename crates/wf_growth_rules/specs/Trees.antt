@@ -7,9 +7,9 @@ use Rattle.tick_tree.specs.declared.syntax.Parameter.{Parameter}
 use Rattle.tick_tree.specs.declared.syntax.Stmt.{Stmt}
 use Rattle.tick_tree.specs.declared.syntax.Suffix.{Suffix}
 use Rattle.tick_tree.specs.declared.syntax.Typename.{Typename}
-use Rattle.check_env.specs.declared.state.Around.{Around}
-use Rattle.check_env.specs.declared.state.Stage.{Stage}
-use Rattle.check_walk_spec.specs.Walk.{declaration, declaration_walk, item, named, node, parameter, shape, suffix}
+use Rattle.check_rules.specs.declared.state.Around.{Around}
+use Rattle.check_rules.specs.declared.state.Stage.{Stage}
+use Rattle.check_rules.specs.Walk.{declaration, declaration_walk, item, named, node, parameter, shape, suffix}
 use Rattle.wf_growth_rules.specs.Light.{Bounded}
 use Rattle.tick_tree.specs.Weights.{weight, statement_weight, declarator_weight, declaration_weight, parameter_weight}
 use Rattle.tick_tree.specs.Weights.{suffix_weight, typename_weight}

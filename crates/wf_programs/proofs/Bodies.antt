@@ -6,7 +6,7 @@ use Rattle.typed_tree.specs.declared.expression.Stmt.{Stmt}
 use Rattle.typed_tree.specs.declared.expression.Stmt.TheVariants as st
 use Rattle.typed_tree.specs.Sizes.{statement_size, statements_size}
 use Rattle.typed_tree.proofs.SizeLaws.{statement_size_block}
-use Rattle.check_env.specs.declared.state.Stage.TheVariants as stage
+use Rattle.check_rules.specs.declared.state.Stage.TheVariants as stage
 use Rattle.wellformed.specs.Accepted.{AreNumbered}
 use Rattle.wellformed.specs.Counts.{one_if, objects_at, declarations_of}
 use Rattle.wellformed.specs.Places.{Around, Act, act, in_function, within, all_stand, all_declare, are_parameters}
@@ -14,9 +14,9 @@ use Rattle.wellformed.specs.Places.{stands_as_body}
 use Rattle.wellformed.specs.Values.{uses_values, all_true}
 use Rattle.wellformed.proofs.Equations.{act_block, objects_at_block, declarations_of_block}
 use Rattle.wellformed.proofs.Bools.{and_true, le_true}
-use Rattle.wf_invariant.specs.Counts.{objects_in, declarations_in, between}
-use Rattle.wf_invariant.specs.Items.{EachNode, ItemsStand, DeclaresAt}
-use Rattle.check_programs_spec.specs.Program.{around}
+use Rattle.wf_walk.specs.Counts.{objects_in, declarations_in, between}
+use Rattle.wf_walk.specs.Items.{EachNode, ItemsStand, DeclaresAt}
+use Rattle.check_globals.specs.Program.{around}
 use Rattle.wf_programs.proofs.Sums.{map_both, all_map_both, take_front, drop_front, values_block}
 use Rattle.wf_programs.proofs.Bools.{length_map, length_front}
 

@@ -8,9 +8,9 @@ use Rattle.check_forms.specs.Forms.{is_nil}
 use Rattle.check_types.specs.Shapes.{is_function}
 use Rattle.check_tables.specs.declared.image.Image.{Image}
 use Rattle.check_tables.specs.Images as images
-use Rattle.check_env.specs.declared.state.State.{State}
+use Rattle.check_rules.specs.declared.state.State.{State}
 use Rattle.check_globals.specs.Programs.{image, strings_begin, begin_by, image_fits}
-use Rattle.wf_invariant.specs.Kept.{KeepsGlobals}
+use Rattle.wf_walk.specs.Kept.{KeepsGlobals}
 use Rattle.wf_programs.proofs.Bools.{true_le}
 use Rattle.wf_programs.proofs.Fills.{size_of, Filled, up_to_is}
 

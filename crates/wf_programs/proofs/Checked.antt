@@ -3,10 +3,10 @@ use Rattle.std.proofs.Common.{◌≡◌, List, Ok}
 use Rattle.tick_tree.specs.declared.syntax.External.{External}
 use Rattle.tick_tree.specs.declared.tree.Tree.{Tree}
 use Rattle.typed_tree.specs.declared.program.TypedParts.{TypedParts}
-use Rattle.check_env.specs.declared.state.State.{State}
-use Rattle.check_env.specs.Starts.{start, again}
+use Rattle.check_rules.specs.declared.state.State.{State}
+use Rattle.check_rules.specs.Starts.{start, again}
 use Rattle.check_globals.specs.Programs.{finished}
-use Rattle.check_programs_spec.specs.Program.{walk, first_walk, walk_again, second_walk, checked}
+use Rattle.check_globals.specs.Program.{walk, first_walk, walk_again, second_walk, checked}
 use Rattle.wf_programs.proofs.Steps.{Then, then_by}
 
 pub record Ran (xs : List External) (p : TypedParts) : Type 0 where

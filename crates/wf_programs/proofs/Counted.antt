@@ -7,15 +7,15 @@ use Rattle.std.proofs.lemmas.Option.{slice_get-map}
 use Rattle.c_types.specs.declared.ctype.CType.{CType}
 use Rattle.c_types.specs.declared.ctype.Layer.{Layer, out-Layer}
 use Rattle.c_types.specs.declared.ctype.Layer.TheOpen.{Layer-F}
-use Rattle.c_types.specs.declared.names.Meaning.{Meaning}
-use Rattle.c_types.specs.declared.names.MeaningKind.{MeaningKind}
-use Rattle.c_types.specs.declared.names.MeaningKind.TheVariants as kind
-use Rattle.c_types.specs.Scopes.{Name, Scopes, in_scope, find}
+use Rattle.check_scopes.specs.declared.names.Meaning.{Meaning}
+use Rattle.check_scopes.specs.declared.names.MeaningKind.{MeaningKind}
+use Rattle.check_scopes.specs.declared.names.MeaningKind.TheVariants as kind
+use Rattle.check_scopes.specs.Scopes.{Name, Scopes, in_scope, find}
 use Rattle.c_types.specs.Types.{Opened, base_of, layers_of, outermost, same, same_base, same_layers, same_layer}
 use Rattle.c_types.specs.Types.{same_lists}
 use Rattle.c_types.proofs.SameLaws.{by_parts, by_layer, opened_same}
 use Rattle.typed_tree.specs.declared.program.Function.{Function}
-use Rattle.check_env.specs.declared.state.State.{State}
+use Rattle.check_rules.specs.declared.state.State.{State}
 use Rattle.check_globals.specs.Functions.{types_of, types_by, types_at}
 use Rattle.wellformed.specs.Accepted.{count_parameters}
 use Rattle.wellformed.proofs.Bools.{first_true, second_true, le_true}

@@ -8,25 +8,25 @@ use Rattle.tick_tree.specs.declared.fault.Fault.{Fault}
 use Rattle.tick_tree.specs.Faults.{Checked}
 use Rattle.typed_tree.specs.declared.expression.Stmt.{Stmt as Act}
 use Rattle.check_types.specs.Shapes.{inner}
-use Rattle.check_operators.specs.declared.operand.Operand.{Operand}
-use Rattle.check_env.specs.declared.state.Around.{Around as Standing}
-use Rattle.check_env.specs.declared.state.State.{State}
+use Rattle.check_operands.specs.declared.operand.Operand.{Operand}
+use Rattle.check_rules.specs.declared.state.Around.{Around as Standing}
+use Rattle.check_rules.specs.declared.state.State.{State}
 use Rattle.check_tables.specs.Walks.{Rule, ◌>>=◌, lift}
-use Rattle.check_expressions_spec.specs.Rules.{Shape}
-use Rattle.check_statements_spec.specs.Declarations as declarations
-use Rattle.check_statements_spec.specs.Initializers as initializers
-use Rattle.check_walk_spec.specs.Walk.{Start, Nothing, Value, Values, InitParts, Declarations, Stmt-W, with_start}
-use Rattle.check_walk_spec.specs.Walk.{elements}
-use Rattle.check_walk_spec.specs.Walk.{begin, local_type, declare_parts, declare_one, declare_each, declaration_walk}
-use Rattle.check_walk_spec.specs.Walk.{stmt_rule}
-use Rattle.wf_invariant.specs.Good.{GoodShape, any_counted}
-use Rattle.wf_invariant.specs.Items.{MayStand, GoodStatement, GoodItem}
-use Rattle.wf_types.specs.Parts.{EachPart}
-use Rattle.wf_induction.proofs.Declarators.{computed_start}
-use Rattle.wf_statements.specs.Parts.{GoodDeclaration, GoodStatementParts, GoodBegin}
-use Rattle.wf_statements.proofs.Assembly.{walk_good, statement_good}
-use Rattle.wf_statements.proofs.Beginning.{nothing_good, value_good, list_good, declared_good, none_good, more_good}
-use Rattle.wf_statements.proofs.Typing.{type_good}
+use Rattle.check_rules.specs.ExpressionRules.{Shape}
+use Rattle.check_rules.specs.Declarations as declarations
+use Rattle.check_rules.specs.Initializers as initializers
+use Rattle.check_rules.specs.Walk.{Start, Nothing, Value, Values, InitParts, Declarations, Stmt-W, with_start}
+use Rattle.check_rules.specs.Walk.{elements}
+use Rattle.check_rules.specs.Walk.{begin, local_type, declare_parts, declare_one, declare_each, declaration_walk}
+use Rattle.check_rules.specs.Walk.{stmt_rule}
+use Rattle.wf_walk.specs.Good.{GoodShape, any_counted}
+use Rattle.wf_walk.specs.Items.{MayStand, GoodStatement, GoodItem}
+use Rattle.wf_walk.specs.Parts.{EachPart}
+use Rattle.wf_walk.proofs.Declarators.{computed_start}
+use Rattle.wf_walk.specs.StatementParts.{GoodDeclaration, GoodStatementParts, GoodBegin}
+use Rattle.wf_walk.proofs.Assembly.{walk_good, statement_good}
+use Rattle.wf_walk.proofs.Beginning.{nothing_good, value_good, list_good, declared_good, none_good, more_good}
+use Rattle.wf_walk.proofs.Typing.{type_good}
 use Rattle.wf_programs.specs.Parts.{GoodStart, GoodInit, GoodDeclarators}
 
 -- a variable without an initializer

@@ -21,9 +21,9 @@ use Rattle.tick_tree.specs.declared.fault.FaultKind.{FaultKind}
 use Rattle.tick_tree.specs.declared.fault.FaultKind.TheVariants.{TypeMismatch, VoidValue, TooManyParameters}
 use Rattle.check_globals.specs.Functions.{types_of, types_by, types_at}
 use Rattle.check_globals.specs.Names.{named_steps, without_parameters}
-use Rattle.wf_statements.proofs.Lists.{get_last}
+use Rattle.wf_walk.proofs.Lists.{get_last}
 use Rattle.wf_programs.proofs.Bools.{true_le, length_last}
-use Rattle.wf_invariant.specs.Good.{is_computed_step, any_computed}
+use Rattle.wf_walk.specs.Good.{is_computed_step, any_computed}
 
 -- ---- the parts of a made type
 

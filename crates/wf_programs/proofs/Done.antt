@@ -3,7 +3,7 @@ use Rattle.std.proofs.Common.{◌≡◌, ℕ, ◌≤◌, min, true, nat_le, ap, 
 use Rattle.std.proofs.Common.{slice_get, Some, arith}
 use Rattle.limits.specs.declared.program.TheConstants.{FRAME_OBJECT_BYTES, NODE_TOP, SIZE_LIMIT}
 use Rattle.c_types.specs.declared.ctype.CType.{CType}
-use Rattle.c_types.specs.Scopes.{Name, Scope}
+use Rattle.check_scopes.specs.Scopes.{Name, Scope}
 use Rattle.tick_tree.specs.declared.base.Base.{Base}
 use Rattle.typed_tree.specs.declared.expression.CaptureKind.{CaptureKind}
 use Rattle.typed_tree.specs.declared.expression.Stmt.{Stmt}
@@ -11,18 +11,18 @@ use Rattle.typed_tree.specs.declared.expression.Stmt.TheVariants as st
 use Rattle.typed_tree.specs.declared.program.Function.{Function}
 use Rattle.typed_tree.specs.Sizes.{statement_size}
 use Rattle.check_tables.specs.declared.functions.Functions.{Functions}
-use Rattle.check_env.specs.declared.state.State.{State}
-use Rattle.check_expressions_spec.specs.Rules.{Shape, Item}
+use Rattle.check_rules.specs.declared.state.State.{State}
+use Rattle.check_rules.specs.ExpressionRules.{Shape, Item}
 use Rattle.check_globals.specs.Functions as functions
 use Rattle.check_globals.specs.Functions.{Given, types_of, count_of}
 use Rattle.check_globals.specs.Programs.{typed, function_fits}
 use Rattle.wellformed.specs.Accepted as accepted
 use Rattle.wellformed.specs.Places.{stands_as_body}
 use Rattle.wellformed.proofs.Bools.{first_true, second_true}
-use Rattle.wf_invariant.specs.Kept.{Starts}
-use Rattle.wf_invariant.specs.Steps.{EachTick}
-use Rattle.wf_types.proofs.Blocks.{back}
-use Rattle.wf_statements.proofs.Lists.{get_front, get_last}
+use Rattle.wf_walk.specs.Kept.{Starts}
+use Rattle.wf_walk.specs.Steps.{EachTick}
+use Rattle.wf_walk.proofs.Blocks.{back}
+use Rattle.wf_walk.proofs.Lists.{get_front, get_last}
 use Rattle.wf_programs.proofs.Bools.{true_le}
 use Rattle.wf_programs.proofs.Files.{AtFile, round}
 use Rattle.wf_programs.proofs.Inside.{Inside}

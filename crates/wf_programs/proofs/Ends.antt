@@ -2,7 +2,7 @@
 use Rattle.std.proofs.Common.{◌≡◌, ℕ, ◌+◌, min, Bool, true, false, if◌then◌else◌, refl, ap, sym, ◌∙◌, subst, List, []}
 use Rattle.std.proofs.Common.{◌∷◌, map, Ok}
 use Rattle.c_types.specs.declared.ctype.CType.{CType}
-use Rattle.c_types.specs.Scopes.{Scope}
+use Rattle.check_scopes.specs.Scopes.{Scope}
 use Rattle.check_declarators.specs.declared.steps.Role.TheVariants as role
 use Rattle.check_declarators.specs.declared.steps.Step.{Step}
 use Rattle.check_declarators.specs.Making.{declared_type}
@@ -16,19 +16,19 @@ use Rattle.tick_tree.specs.Faults.{Checked, refuse}
 use Rattle.check_tables.specs.declared.image.Image.{Image}
 use Rattle.check_tables.specs.Images as images
 use Rattle.check_tables.specs.Walks.{lift}
-use Rattle.check_env.specs.declared.state.Stage.TheVariants as stage
-use Rattle.check_env.specs.declared.state.State.{State}
-use Rattle.check_expressions_spec.specs.Rules.{Shape, Item}
-use Rattle.check_statements_spec.specs.Declarations.{name_by}
+use Rattle.check_rules.specs.declared.state.Stage.TheVariants as stage
+use Rattle.check_rules.specs.declared.state.State.{State}
+use Rattle.check_rules.specs.ExpressionRules.{Shape, Item}
+use Rattle.check_rules.specs.Declarations.{name_by}
 use Rattle.check_globals.specs.Functions.{Given}
 use Rattle.check_globals.specs.Names as names
-use Rattle.check_programs_spec.specs.Parameters.{parameters_of}
-use Rattle.check_programs_spec.specs.Program as program
-use Rattle.check_walk_spec.specs.Walk.{Start, Nothing, Value, Values, InitParts, with_start, declaration, shape, item}
-use Rattle.wf_types.specs.Parts.{FixedShape}
-use Rattle.wf_invariant.specs.Good.{any_computed}
-use Rattle.wf_invariant.specs.Kept.{KeepsGlobals}
-use Rattle.wf_types.proofs.Walks.{pure_same}
+use Rattle.check_globals.specs.Parameters.{parameters_of}
+use Rattle.check_globals.specs.Program as program
+use Rattle.check_rules.specs.Walk.{Start, Nothing, Value, Values, InitParts, with_start, declaration, shape, item}
+use Rattle.wf_walk.specs.Parts.{FixedShape}
+use Rattle.wf_walk.specs.Good.{any_computed}
+use Rattle.wf_walk.specs.Kept.{KeepsGlobals}
+use Rattle.wf_walk.proofs.Walks.{pure_same}
 use Rattle.wf_programs.proofs.Bounds.{Bounded, end_after, fill_bounded, kept_bounded}
 use Rattle.wf_programs.proofs.Done.{is_made}
 use Rattle.wf_programs.proofs.Fills.{size_of, BytesFit, Filled, begin_filled, keeps_more}

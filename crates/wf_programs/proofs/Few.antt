@@ -3,19 +3,19 @@ use Rattle.std.proofs.Common.{ℕ, ◌≤◌, List, map, subst, arith}
 use Rattle.tick_tree.specs.declared.syntax.Expr.{roll-Expr}
 use Rattle.tick_tree.specs.declared.syntax.Stmt.{Stmt}
 use Rattle.tick_tree.specs.declared.syntax.Core.TheOpen.{Expr-F}
-use Rattle.check_env.specs.declared.state.State.{State}
-use Rattle.check_expressions_spec.specs.Rules.{tick_around}
-use Rattle.check_walk_spec.specs.Walk.{item}
+use Rattle.check_rules.specs.declared.state.State.{State}
+use Rattle.check_rules.specs.ExpressionRules.{tick_around}
+use Rattle.check_rules.specs.Walk.{item}
 use Rattle.wf_growth_rules.specs.Light.{Light, LightNode}
 use Rattle.wf_growth_rules.proofs.Expressions.{block_light}
 use Rattle.tick_tree.specs.Weights.{total, weight, statement_weight, expr_nodes}
 use Rattle.syntax_size.specs.Layers.{weighed-Expr}
 use Rattle.syntax_size.proofs.Folds.{weigh-Expr}
 use Rattle.wf_growth_rules.proofs.Tree.{expr_light}
-use Rattle.wf_invariant.specs.Items.{Few}
-use Rattle.wf_induction.proofs.Induction.{Expr-T, walkedExpr, walk_expr}
+use Rattle.wf_walk.specs.Items.{Few}
+use Rattle.wf_walk.proofs.Induction.{Expr-T, walkedExpr, walk_expr}
 use Rattle.wf_growth_rules.proofs.Few.{items_light}
-use Rattle.wf_captures.proofs.Walks.{walks_named}
+use Rattle.wf_walk.proofs.CapturedWalks.{walks_named}
 use Rattle.wf_programs.specs.Good.{FewBlock, FewParts, FewExpr}
 use Rattle.check_tables.specs.Bounds.{count_bound}
 

@@ -2,19 +2,19 @@
 use Rattle.std.proofs.Common.{◌≡◌, ℕ, zero, suc, ◌≤◌, true, false, ◌∙◌, subst, List, [], ◌∷◌, ◌++◌, length, slice_get}
 use Rattle.std.proofs.Common.{Some, None, ◌⊎◌}
 use Rattle.c_types.specs.declared.ctype.CType.{CType}
-use Rattle.c_types.specs.declared.names.Meaning.{Meaning}
-use Rattle.c_types.specs.Scopes.{Name, Scope, in_scope}
+use Rattle.check_scopes.specs.declared.names.Meaning.{Meaning}
+use Rattle.check_scopes.specs.Scopes.{Name, Scope, in_scope}
 use Rattle.c_types.specs.Types.{same}
 use Rattle.typed_tree.specs.declared.expression.CaptureKind.{CaptureKind}
 use Rattle.typed_tree.specs.declared.program.Function.{Function}
 use Rattle.check_tables.specs.declared.functions.Prototype.{Prototype}
 use Rattle.check_tables.specs.Functions.{number}
-use Rattle.check_env.specs.declared.state.State.{State}
+use Rattle.check_rules.specs.declared.state.State.{State}
 use Rattle.check_globals.specs.Functions.{count_of, types_of}
 use Rattle.wellformed.specs.Accepted.{parameters_of}
 use Rattle.wellformed.specs.Places.{Around}
-use Rattle.wf_invariant.specs.Kept.{Starts}
-use Rattle.wf_invariant.specs.Known.{EachEntry}
+use Rattle.wf_walk.specs.Kept.{Starts}
+use Rattle.wf_walk.specs.Known.{EachEntry}
 use Rattle.wf_programs.proofs.Finish.{Limits}
 use Rattle.wf_programs.proofs.Scopes.{FileName, AllFound}
 use Rattle.wf_programs.proofs.Steps.{starts_trans}

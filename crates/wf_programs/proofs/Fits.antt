@@ -19,8 +19,8 @@ use Rattle.check_types.specs.Shapes.{inner}
 use Rattle.tick_tree.specs.declared.base.Prefix.{Prefix}
 use Rattle.tick_tree.specs.declared.base.Prefix.TheVariants as prefix
 use Rattle.check_globals.specs.Statics as statics
-use Rattle.check_statements_spec.specs.Initializers.{is_text, is_array, is_char, has_size}
-use Rattle.check_walk_spec.specs.Walk.{with_start}
+use Rattle.check_rules.specs.Initializers.{is_text, is_array, is_char, has_size}
+use Rattle.check_rules.specs.Walk.{with_start}
 use Rattle.wellformed.proofs.Bools.{first_true, second_true}
 use Rattle.wf_values.proofs.Declared.{outermost_last, under_last}
 use Rattle.wf_programs.proofs.Declared.{FileType, file_type, none_lower}

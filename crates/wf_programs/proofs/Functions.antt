@@ -3,7 +3,7 @@ use Rattle.std.proofs.Common.{◌≡◌, ℕ, ◌+◌, ◌-◌, ◌≤◌, false
 use Rattle.std.proofs.Common.{arith}
 use Rattle.c_types.specs.declared.ctype.CType.{CType}
 use Rattle.c_types.specs.Types.{is_unlisted, outermost, layers_of}
-use Rattle.c_types.specs.Scopes.{Scope, Scopes}
+use Rattle.check_scopes.specs.Scopes.{Scope, Scopes}
 use Rattle.check_declarators.specs.declared.steps.Step.{Step}
 use Rattle.check_declarators.specs.declared.steps.Step.TheVariants as step
 use Rattle.check_declarators.specs.Words as words
@@ -12,19 +12,19 @@ use Rattle.tick_tree.specs.declared.base.Base.{Base}
 use Rattle.typed_tree.specs.declared.expression.Stmt.{Stmt}
 use Rattle.check_tables.specs.declared.ticks.Ticks.{Ticks}
 use Rattle.check_tables.specs.Walks.{Rule}
-use Rattle.check_env.specs.declared.state.Stage.TheVariants as stage
-use Rattle.check_env.specs.declared.state.State.{State}
-use Rattle.check_expressions_spec.specs.Rules as rules
-use Rattle.check_expressions_spec.specs.Rules.{Shape, Item}
+use Rattle.check_rules.specs.declared.state.Stage.TheVariants as stage
+use Rattle.check_rules.specs.declared.state.State.{State}
+use Rattle.check_rules.specs.ExpressionRules as rules
+use Rattle.check_rules.specs.ExpressionRules.{Shape, Item}
 use Rattle.check_globals.specs.Functions.{Given, types_of}
 use Rattle.check_globals.specs.Names as names
-use Rattle.check_programs_spec.specs.Program.{around}
-use Rattle.wf_invariant.specs.Good.{any_computed, GoodShape}
-use Rattle.wf_invariant.specs.Items.{GoodStatement}
-use Rattle.wf_invariant.specs.Kept.{Starts, KeepsGlobals, Grows, IsGrowing, outer}
-use Rattle.wf_types.proofs.Fronts.{starts_same}
-use Rattle.wf_types.proofs.Lengths.{none_computed}
-use Rattle.wf_types.proofs.Blocks.{inside}
+use Rattle.check_globals.specs.Program.{around}
+use Rattle.wf_walk.specs.Good.{any_computed, GoodShape}
+use Rattle.wf_walk.specs.Items.{GoodStatement}
+use Rattle.wf_walk.specs.Kept.{Starts, KeepsGlobals, Grows, IsGrowing, outer}
+use Rattle.wf_walk.proofs.Fronts.{starts_same}
+use Rattle.wf_walk.proofs.Lengths.{none_computed}
+use Rattle.wf_walk.proofs.Blocks.{inside}
 use Rattle.wf_programs.proofs.Declared.{FileType, file_type, file_value, named_computed, first_list, first_types}
 use Rattle.wf_programs.proofs.Declared.{first_few, open_type, named_open}
 use Rattle.wf_programs.proofs.Files.{many}

@@ -3,25 +3,25 @@ use Rattle.std.proofs.Common.{◌≡◌, ℕ, suc, ◌+◌, ◌≤◌, false, na
 use Rattle.std.proofs.Common.{slice_get, Option, Some, None, Ok, arith}
 use Rattle.std.proofs.lemmas.Bool.Decides.{nat_tests}
 use Rattle.c_types.specs.declared.ctype.CType.{CType}
-use Rattle.c_types.specs.declared.names.Meaning.{Meaning}
-use Rattle.c_types.specs.declared.names.MeaningKind.{MeaningKind}
-use Rattle.c_types.specs.declared.names.MeaningKind.TheVariants as kind
-use Rattle.c_types.specs.Scopes.{Name, Scope}
+use Rattle.check_scopes.specs.declared.names.Meaning.{Meaning}
+use Rattle.check_scopes.specs.declared.names.MeaningKind.{MeaningKind}
+use Rattle.check_scopes.specs.declared.names.MeaningKind.TheVariants as kind
+use Rattle.check_scopes.specs.Scopes.{Name, Scope}
 use Rattle.check_types.specs.Shapes.{inner}
 use Rattle.tick_tree.specs.Faults.{Checked}
 use Rattle.check_tables.specs.declared.frame.Frame.{Frame}
 use Rattle.check_tables.specs.declared.frame.Home.{Home}
 use Rattle.check_tables.specs.Frames as frames
-use Rattle.check_env.specs.declared.state.Stage.TheVariants as stage
-use Rattle.check_env.specs.declared.state.State.{State}
-use Rattle.check_env.specs.Locals as locals
-use Rattle.check_env.specs.Locals.{meaning, with_parameter}
-use Rattle.check_env.specs.Names.{declare}
+use Rattle.check_rules.specs.declared.state.Stage.TheVariants as stage
+use Rattle.check_rules.specs.declared.state.State.{State}
+use Rattle.check_rules.specs.Locals as locals
+use Rattle.check_rules.specs.Locals.{meaning, with_parameter}
+use Rattle.check_rules.specs.Names.{declare}
 use Rattle.check_globals.specs.Functions as globals
 use Rattle.check_globals.specs.Functions.{Given}
 use Rattle.wellformed.specs.Counts.{one_if}
-use Rattle.wf_invariant.specs.Known.{Blocks, IsObject, IsParameter, Means, EachEntry}
-use Rattle.wf_types.proofs.Walks.{pure_same}
+use Rattle.wf_walk.specs.Known.{Blocks, IsObject, IsParameter, Means, EachEntry}
+use Rattle.wf_walk.proofs.Walks.{pure_same}
 use Rattle.wf_programs.proofs.Parameters.{FrameAt, PlacedAt, parameter_at}
 use Rattle.wf_programs.proofs.Placed.{More, placed_later, parameter_more, parameter_placed}
 use Rattle.wf_programs.proofs.Scopes.{each_map, each_more, DeclaresSecond, declare_second}

@@ -2,8 +2,8 @@
 use Rattle.std.proofs.Common.{◌≡◌, ℕ, Bool, true, false, if◌then◌else◌, refl, ap, sym, ◌∙◌, subst, List, [], ◌∷◌, ◌++◌}
 use Rattle.std.proofs.Common.{length, Some, Ok}
 use Rattle.c_types.specs.declared.ctype.CType.{CType}
-use Rattle.c_types.specs.declared.names.Meaning.{Meaning}
-use Rattle.c_types.specs.Scopes.{Name, Scope, in_scope}
+use Rattle.check_scopes.specs.declared.names.Meaning.{Meaning}
+use Rattle.check_scopes.specs.Scopes.{Name, Scope, in_scope}
 use Rattle.c_types.specs.Types.{is_unlisted, outermost, layers_of}
 use Rattle.check_declarators.specs.declared.steps.Role.TheVariants as role
 use Rattle.check_declarators.specs.declared.steps.Step.{Step}
@@ -15,21 +15,21 @@ use Rattle.check_tables.specs.declared.functions.Functions.{Functions}
 use Rattle.check_tables.specs.declared.functions.Prototype.{Prototype}
 use Rattle.check_tables.specs.Functions as tables
 use Rattle.check_tables.specs.Walks.{lift}
-use Rattle.check_env.specs.declared.state.Stage.TheVariants as stage
-use Rattle.check_env.specs.declared.state.State.{State}
-use Rattle.check_expressions_spec.specs.Rules.{Shape}
-use Rattle.check_statements_spec.specs.Declarations.{name_by}
+use Rattle.check_rules.specs.declared.state.Stage.TheVariants as stage
+use Rattle.check_rules.specs.declared.state.State.{State}
+use Rattle.check_rules.specs.ExpressionRules.{Shape}
+use Rattle.check_rules.specs.Declarations.{name_by}
 use Rattle.check_globals.specs.Names as names
-use Rattle.check_programs_spec.specs.Program as program
-use Rattle.check_walk_spec.specs.Walk.{Start, Nothing, Value, Values, InitParts, with_start}
+use Rattle.check_globals.specs.Program as program
+use Rattle.check_rules.specs.Walk.{Start, Nothing, Value, Values, InitParts, with_start}
 use Rattle.wf_values.proofs.Declared.{types_use}
-use Rattle.wf_invariant.specs.Good.{any_computed, GoodShape}
-use Rattle.wf_invariant.specs.Kept.{KeepsGlobals}
-use Rattle.wf_invariant.specs.Known.{EachEntry, IsObject}
-use Rattle.wf_types.proofs.Walks.{pure_same}
-use Rattle.wf_types.proofs.Fronts.{starts_same}
-use Rattle.wf_types.proofs.Lengths.{none_computed}
-use Rattle.wf_statements.proofs.Lists.{get_last}
+use Rattle.wf_walk.specs.Good.{any_computed, GoodShape}
+use Rattle.wf_walk.specs.Kept.{KeepsGlobals}
+use Rattle.wf_walk.specs.Known.{EachEntry, IsObject}
+use Rattle.wf_walk.proofs.Walks.{pure_same}
+use Rattle.wf_walk.proofs.Fronts.{starts_same}
+use Rattle.wf_walk.proofs.Lengths.{none_computed}
+use Rattle.wf_walk.proofs.Lists.{get_last}
 use Rattle.wf_programs.proofs.Declared.{FileType, file_type, named_computed, filled_computed, first_open, open_type}
 use Rattle.wf_programs.proofs.Declared.{named_open, filled_open}
 use Rattle.wf_programs.proofs.Names.{NamedPrototype, prototype_named}

@@ -1,27 +1,27 @@
 -- The items of a function stand right in it: what the walk over them makes, once its parameters are known.
 use Rattle.std.proofs.Common.{◌≡◌, ℕ, ◌+◌, ◌≤◌, ◌==◌, true, nat_le, nat_lt, refl, ap, sym, subst, List, [], ◌∷◌, ◌++◌}
 use Rattle.std.proofs.Common.{length, slice_get, Some, Ok, arith}
-use Rattle.c_types.specs.Scopes.{Scope, Scopes}
+use Rattle.check_scopes.specs.Scopes.{Scope, Scopes}
 use Rattle.typed_tree.specs.declared.expression.CaptureKind.{CaptureKind}
 use Rattle.typed_tree.specs.declared.expression.Stmt.{Stmt}
 use Rattle.typed_tree.specs.declared.expression.Stmt.TheVariants as st
 use Rattle.typed_tree.specs.declared.program.Tick.{Tick}
 use Rattle.typed_tree.specs.Sizes.{statements_size}
 use Rattle.check_tables.specs.Walks.{Rule}
-use Rattle.check_env.specs.declared.state.Stage.TheVariants as stage
-use Rattle.check_env.specs.declared.state.State.{State}
-use Rattle.check_programs_spec.specs.Program.{around}
+use Rattle.check_rules.specs.declared.state.Stage.TheVariants as stage
+use Rattle.check_rules.specs.declared.state.State.{State}
+use Rattle.check_globals.specs.Program.{around}
 use Rattle.wellformed.specs.Accepted.{AreNumbered}
 use Rattle.wellformed.specs.Counts.{one_if, objects_at}
 use Rattle.wellformed.specs.Places.{stands_as_body}
 use Rattle.wellformed.specs.Values.{uses_values}
 use Rattle.wellformed.proofs.Bools.{le_true}
-use Rattle.wf_invariant.specs.Counts.{Counts, objects_in, declarations_in}
-use Rattle.wf_invariant.specs.Items.{placed, GoodStatement, Declared, EachNode, DeclaresAt, ItemsStand}
-use Rattle.wf_invariant.specs.Kept.{Starts, Grows}
-use Rattle.wf_invariant.specs.Known.{Means, EachEntry, EachScope, Small, Known, numbers}
-use Rattle.wf_invariant.specs.Steps.{Round, Agrees, Did, EachTick, round_tick}
-use Rattle.wf_types.proofs.Fronts.{starts_refl}
+use Rattle.wf_walk.specs.Counts.{Counts, objects_in, declarations_in}
+use Rattle.wf_walk.specs.Items.{placed, GoodStatement, Declared, EachNode, DeclaresAt, ItemsStand}
+use Rattle.wf_walk.specs.Kept.{Starts, Grows}
+use Rattle.wf_walk.specs.Known.{Means, EachEntry, EachScope, Small, Known, numbers}
+use Rattle.wf_walk.specs.Steps.{Round, Agrees, Did, EachTick, round_tick}
+use Rattle.wf_walk.proofs.Fronts.{starts_refl}
 use Rattle.wf_programs.proofs.Bodies.{items_stand, items_used, declared_stand, declared_used, body_stands, body_used}
 use Rattle.wf_programs.proofs.Bodies.{body_objects, body_numbered}
 use Rattle.wf_programs.proofs.Files.{many, round}

@@ -6,21 +6,21 @@ use Rattle.tick_tree.specs.declared.syntax.External.TheVariants as ext
 use Rattle.tick_tree.specs.declared.syntax.Init.{Init, out-Init}
 use Rattle.tick_tree.specs.declared.syntax.Stmt.{Stmt as Written}
 use Rattle.typed_tree.specs.declared.expression.Stmt.{Stmt}
-use Rattle.check_env.specs.declared.state.Stage.TheVariants as stage
-use Rattle.check_env.specs.declared.state.State.{State}
-use Rattle.check_expressions_spec.specs.Rules as rules
-use Rattle.check_expressions_spec.specs.Rules.{Node, Shape, Item}
-use Rattle.check_programs_spec.specs.Program.{around}
-use Rattle.check_walk_spec.specs.Walk.{Start, Nothing, Value, Values, InitParts, Declarations, declaration, item, init}
-use Rattle.check_walk_spec.proofs.Equations.{at_init, at_declaration}
+use Rattle.check_rules.specs.declared.state.Stage.TheVariants as stage
+use Rattle.check_rules.specs.declared.state.State.{State}
+use Rattle.check_rules.specs.ExpressionRules as rules
+use Rattle.check_rules.specs.ExpressionRules.{Node, Shape, Item}
+use Rattle.check_globals.specs.Program.{around}
+use Rattle.check_rules.specs.Walk.{Start, Nothing, Value, Values, InitParts, Declarations, declaration, item, init}
+use Rattle.check_rules.proofs.Equations.{at_init, at_declaration}
 use Rattle.wf_growth_rules.specs.Light.{Light}
 use Rattle.wf_growth_rules.proofs.Expressions.{each_light}
 use Rattle.wellformed.proofs.Viewed.{well_formed}
-use Rattle.wf_invariant.specs.Good.{GoodNode}
-use Rattle.wf_invariant.specs.Items.{GoodItem}
-use Rattle.wf_types.specs.Parts.{EachPart, FixedShape}
-use Rattle.wf_induction.proofs.Fixed.{walks_fixed}
-use Rattle.wf_statements.proofs.Assembly.{each_good}
+use Rattle.wf_walk.specs.Good.{GoodNode}
+use Rattle.wf_walk.specs.Items.{GoodItem}
+use Rattle.wf_walk.specs.Parts.{EachPart, FixedShape}
+use Rattle.wf_walk.proofs.FixedWalks.{walks_fixed}
+use Rattle.wf_walk.proofs.Assembly.{each_good}
 use Rattle.wf_programs.specs.Parts.{GoodStart, GoodInit as GoodLocal}
 use Rattle.tick_tree.specs.Weights.{total, statement_weight, item_weight}
 use Rattle.wf_growth_rules.proofs.Few.{items_light}

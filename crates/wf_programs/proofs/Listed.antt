@@ -24,20 +24,20 @@ use Rattle.tick_tree.specs.declared.syntax.Core.TheFolds.{ind-Declarator, map-Co
 use Rattle.tick_tree.specs.declared.syntax.Core.TheFolds.{fold-roll-Declarator}
 use Rattle.tick_tree.specs.Faults.{◌>>=◌ as ◌>>>=◌}
 use Rattle.check_tables.specs.Walks.{Rule, ◌>>=◌, pure}
-use Rattle.check_env.specs.declared.state.Stage.TheVariants as stage
-use Rattle.check_env.specs.declared.state.State.{State}
-use Rattle.check_expressions_spec.specs.Rules.{Shape}
-use Rattle.check_statements_spec.specs.Rules.{each_step, each_type}
+use Rattle.check_rules.specs.declared.state.Stage.TheVariants as stage
+use Rattle.check_rules.specs.declared.state.State.{State}
+use Rattle.check_rules.specs.ExpressionRules.{Shape}
+use Rattle.check_rules.specs.StatementRules.{each_step, each_type}
 use Rattle.check_globals.specs.Functions.{Given}
-use Rattle.check_programs_spec.specs.Parameters.{Head, Inner, nothing, inner_rule, head_rule, first_of, list_rule}
-use Rattle.check_programs_spec.specs.Parameters.{given_rule, inner, head, list, written, parameters_of}
-use Rattle.check_walk_spec.specs.Walk.{SuffixWalk, TypeWalk, suffix_walks, type_walks, declarator_walk, core, shape}
-use Rattle.check_walk_spec.specs.Walk.{suffix}
-use Rattle.check_walk_spec.specs.Walk.{parameter, optional}
-use Rattle.check_walk_spec.proofs.Equations.{at_suffix_array, at_suffix_unlisted, at_suffix_nothing, at_suffix_listed}
-use Rattle.check_programs_spec.proofs.Heads.{list_listed}
-use Rattle.wf_types.proofs.Walks.{pure_value}
-use Rattle.wf_induction.proofs.Induction.{Core-T, Declarator-T, Suffix-T, walk_core, walk_declarator}
+use Rattle.check_globals.specs.Parameters.{Head, Inner, nothing, inner_rule, head_rule, first_of, list_rule}
+use Rattle.check_globals.specs.Parameters.{given_rule, inner, head, list, written, parameters_of}
+use Rattle.check_rules.specs.Walk.{SuffixWalk, TypeWalk, suffix_walks, type_walks, declarator_walk, core, shape}
+use Rattle.check_rules.specs.Walk.{suffix}
+use Rattle.check_rules.specs.Walk.{parameter, optional}
+use Rattle.check_rules.proofs.Equations.{at_suffix_array, at_suffix_unlisted, at_suffix_nothing, at_suffix_listed}
+use Rattle.check_globals.proofs.Heads.{list_listed}
+use Rattle.wf_walk.proofs.Walks.{pure_value}
+use Rattle.wf_walk.proofs.Induction.{Core-T, Declarator-T, Suffix-T, walk_core, walk_declarator}
 use Rattle.tick_tree.specs.Named as rule
 use Rattle.tick_tree.specs.Named.{is_listed, is_listed_core}
 use Rattle.wf_programs.proofs.Declared.{list_of, first_list}

@@ -13,21 +13,21 @@ use Rattle.tick_tree.specs.declared.base.Prefix.{Prefix}
 use Rattle.tick_tree.specs.declared.syntax.Declarator.{Declarator}
 use Rattle.tick_tree.specs.declared.syntax.Core.TheOpen.{Core-F, Suffix-F}
 use Rattle.check_tables.specs.Walks.{◌>>=◌, pure, lift}
-use Rattle.check_env.specs.declared.state.Stage.TheVariants as stage
-use Rattle.check_env.specs.declared.state.State.{State}
-use Rattle.check_env.specs.Blocks.{depth, enter, leave}
-use Rattle.check_expressions_spec.specs.Rules.{Node, Shape}
-use Rattle.check_statements_spec.specs.Declarations as declarations
-use Rattle.check_statements_spec.specs.Declarations.{length_of}
-use Rattle.check_statements_spec.specs.Rules.{each_step, each_type, list_step, length_step}
-use Rattle.check_walk_spec.specs.Walk.{SuffixWalk, TypeWalk, Core-W, Suffix-W, core_rule, suffix_walk, suffix_walks}
-use Rattle.check_walk_spec.specs.Walk.{type_walks, declarator_walk, parameter_walk, shape}
-use Rattle.wf_types.specs.Parts.{EachPart}
-use Rattle.wf_types.proofs.Walks.{pure_value}
-use Rattle.wf_induction.specs.Asked.{Asked, RulesKeep, EveryCore, EverySuffix}
-use Rattle.wf_induction.proofs.Induction.{holds_declarator}
+use Rattle.check_rules.specs.declared.state.Stage.TheVariants as stage
+use Rattle.check_rules.specs.declared.state.State.{State}
+use Rattle.check_rules.specs.Blocks.{depth, enter, leave}
+use Rattle.check_rules.specs.ExpressionRules.{Node, Shape}
+use Rattle.check_rules.specs.Declarations as declarations
+use Rattle.check_rules.specs.Declarations.{length_of}
+use Rattle.check_rules.specs.StatementRules.{each_step, each_type, list_step, length_step}
+use Rattle.check_rules.specs.Walk.{SuffixWalk, TypeWalk, Core-W, Suffix-W, core_rule, suffix_walk, suffix_walks}
+use Rattle.check_rules.specs.Walk.{type_walks, declarator_walk, parameter_walk, shape}
+use Rattle.wf_walk.specs.Parts.{EachPart}
+use Rattle.wf_walk.proofs.Walks.{pure_value}
+use Rattle.wf_walk.specs.Asked.{Asked, RulesKeep, EveryCore, EverySuffix}
+use Rattle.wf_walk.proofs.Induction.{holds_declarator}
 use Rattle.wf_values.proofs.Declared.{types_use}
-use Rattle.wf_invariant.specs.Known.{IsObject}
+use Rattle.wf_walk.specs.Known.{IsObject}
 use Rattle.wf_programs.proofs.Declared.{list_of, first_list}
 use Rattle.wf_programs.proofs.Given.{EachObject}
 use Rattle.wf_programs.proofs.Steps.{Parts, parts, Lifted, lifted}

@@ -1,21 +1,21 @@
 -- The walk over a function of the program, put together: it stands right, and what it leaves for the items behind it.
 use Rattle.std.proofs.Common.{◌≡◌, ℕ, ap, sym, ◌∙◌, subst, List, [], ◌∷◌, ◌++◌, length, take}
 use Rattle.c_types.specs.declared.ctype.CType.{CType}
-use Rattle.c_types.specs.Scopes.{Name, Scope, Scopes}
+use Rattle.check_scopes.specs.Scopes.{Name, Scope, Scopes}
 use Rattle.tick_tree.specs.declared.base.Base.{Base}
 use Rattle.typed_tree.specs.declared.expression.Stmt.{Stmt}
 use Rattle.typed_tree.specs.declared.program.Tick.{Tick}
 use Rattle.check_tables.specs.declared.functions.Functions.{Functions}
 use Rattle.check_tables.specs.declared.ticks.Ticks.{Ticks}
-use Rattle.check_env.specs.declared.state.State.{State}
-use Rattle.check_expressions_spec.specs.Rules as rules
-use Rattle.check_expressions_spec.specs.Rules.{Shape, Item}
-use Rattle.check_statements_spec.specs.Declarations.{name_by}
+use Rattle.check_rules.specs.declared.state.State.{State}
+use Rattle.check_rules.specs.ExpressionRules as rules
+use Rattle.check_rules.specs.ExpressionRules.{Shape, Item}
+use Rattle.check_rules.specs.Declarations.{name_by}
 use Rattle.check_globals.specs.Functions.{Given, types_of}
-use Rattle.check_programs_spec.specs.Program.{around}
-use Rattle.wf_invariant.specs.Kept.{Starts}
-use Rattle.wf_types.proofs.Fronts.{starts_same}
-use Rattle.wf_types.proofs.Blocks.{inside}
+use Rattle.check_globals.specs.Program.{around}
+use Rattle.wf_walk.specs.Kept.{Starts}
+use Rattle.wf_walk.proofs.Fronts.{starts_same}
+use Rattle.wf_walk.proofs.Blocks.{inside}
 use Rattle.wf_programs.proofs.Done.{made_function, is_made, with_defined}
 use Rattle.wf_programs.proofs.Files.{many, Towards}
 use Rattle.wf_programs.proofs.Functions.{GoodFunction, Typed, function_typed, Blocked, blocked}

@@ -4,15 +4,15 @@ use Rattle.std.proofs.Common.{length, codes, slice_get, Option, Some, None, is_s
 use Rattle.c_types.specs.declared.ctype.CType.{CType}
 use Rattle.c_types.specs.declared.ctype.Layer.{Layer, out-Layer}
 use Rattle.c_types.specs.declared.ctype.Layer.TheOpen.{Layer-F}
-use Rattle.c_types.specs.declared.names.Meaning.{Meaning}
-use Rattle.c_types.specs.Scopes.{Name, Scopes, in_scope, find}
+use Rattle.check_scopes.specs.declared.names.Meaning.{Meaning}
+use Rattle.check_scopes.specs.Scopes.{Name, Scopes, in_scope, find}
 use Rattle.c_types.specs.Types.{Opened, base_of, layers_of, outermost, same, same_base, same_layers, same_layer}
 use Rattle.c_types.specs.Types.{same_lists}
 use Rattle.c_types.proofs.SameLaws.{by_parts, by_layer, opened_same}
 use Rattle.check_forms.specs.Forms.{is_nil}
 use Rattle.typed_tree.specs.declared.program.Function.{Function}
 use Rattle.check_tables.specs.Functions as tables
-use Rattle.check_env.specs.declared.state.State.{State}
+use Rattle.check_rules.specs.declared.state.State.{State}
 use Rattle.check_globals.specs.Functions.{count_of, types_of, types_by, types_at}
 use Rattle.check_globals.specs.Names as names
 use Rattle.check_globals.specs.Programs.{is_main_type, takes_none, takes_none_at, is_int, is_main, has_main}

@@ -2,20 +2,20 @@
 use Rattle.std.proofs.Common.{◌≡◌, ℕ, Bool, true, false, not, ◌||◌, refl, ap, sym, ◌∙◌, [], ◌∷◌, ◌++◌, length, Option}
 use Rattle.std.proofs.Common.{Some, None, Ok, Err, ◌⊎◌, inl, inr}
 use Rattle.c_types.specs.declared.ctype.CType.{CType}
-use Rattle.c_types.specs.declared.names.Meaning.{Meaning}
-use Rattle.c_types.specs.declared.names.MeaningKind.TheVariants as kind
-use Rattle.c_types.specs.Scopes.{Name, Scope, Scopes, in_scope, find}
+use Rattle.check_scopes.specs.declared.names.Meaning.{Meaning}
+use Rattle.check_scopes.specs.declared.names.MeaningKind.TheVariants as kind
+use Rattle.check_scopes.specs.Scopes.{Name, Scope, Scopes, in_scope, find}
 use Rattle.c_types.specs.Types.{same}
 use Rattle.tick_tree.specs.Faults.{Checked}
 use Rattle.check_tables.specs.declared.functions.Functions.{Functions}
 use Rattle.check_tables.specs.Functions as functions
-use Rattle.check_env.specs.declared.state.State.{State}
-use Rattle.check_env.specs.Locals.{meaning}
-use Rattle.check_env.specs.Names.{declare}
+use Rattle.check_rules.specs.declared.state.State.{State}
+use Rattle.check_rules.specs.Locals.{meaning}
+use Rattle.check_rules.specs.Names.{declare}
 use Rattle.check_globals.specs.Functions as globals
 use Rattle.check_globals.specs.Names as names
-use Rattle.wf_invariant.specs.Known.{EachEntry}
-use Rattle.wf_types.proofs.Walks.{pure_same}
+use Rattle.wf_walk.specs.Known.{EachEntry}
+use Rattle.wf_walk.proofs.Walks.{pure_same}
 use Rattle.wf_programs.proofs.Scopes.{found_front, found_new, each_more, AllFound, all_found_more, DeclaresFirst}
 use Rattle.wf_programs.proofs.Scopes.{declare_first}
 use Rattle.wf_programs.proofs.Steps.{Parts, parts}

@@ -20,7 +20,7 @@ use Rattle.wellformed.proofs.Equations.{act_parameter, act_parameterobject, obje
 use Rattle.wellformed.proofs.Equations.{objects_at_parameterobject, declarations_of_parameter}
 use Rattle.wellformed.proofs.Equations.{declarations_of_parameterobject}
 use Rattle.wellformed.proofs.Bools.{and_true, same_number, le_less}
-use Rattle.wf_invariant.specs.Known.{numbers, HasHome}
+use Rattle.wf_walk.specs.Known.{numbers, HasHome}
 use Rattle.wf_programs.proofs.Bools.{length_last, length_map}
 use Rattle.wf_programs.proofs.Sums.{map_both, sum_map_both, all_map_both, parameters_more, bytes_more, number_more}
 use Rattle.wf_programs.proofs.Sums.{number_same, values_parameter, values_object}

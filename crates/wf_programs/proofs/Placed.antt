@@ -11,9 +11,9 @@ use Rattle.check_tables.specs.Frames as frames
 use Rattle.wellformed.specs.Places.{Act}
 use Rattle.wellformed.proofs.Equations.{act_parameter}
 use Rattle.wellformed.proofs.Bools.{and_true, first_true, second_true, le_true, le_more}
-use Rattle.wf_invariant.specs.Kept.{Starts}
-use Rattle.wf_invariant.specs.Known.{has, numbers, HasHome}
-use Rattle.wf_statements.proofs.Lists.{get_front, get_last, has_front, has_back, has_self, numbers_append}
+use Rattle.wf_walk.specs.Kept.{Starts}
+use Rattle.wf_walk.specs.Known.{has, numbers, HasHome}
+use Rattle.wf_walk.proofs.Lists.{get_front, get_last, has_front, has_back, has_self, numbers_append}
 use Rattle.wf_programs.proofs.Parameters.{FrameAt, PlacedAt, count_small}
 
 -- a frame with more

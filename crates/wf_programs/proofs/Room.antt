@@ -32,15 +32,15 @@ use Rattle.check_types.specs.Shapes.{width_of, inner}
 use Rattle.tick_tree.specs.declared.base.Prefix.{Prefix}
 use Rattle.tick_tree.specs.declared.fault.FaultKind.{FaultKind}
 use Rattle.tick_tree.specs.declared.fault.FaultKind.TheVariants as fault
-use Rattle.check_operators.specs.declared.operand.Operand.{Operand}
-use Rattle.check_operators.specs.declared.operand.Value.{Value}
-use Rattle.check_operators.specs.Operands.{value_of}
+use Rattle.check_operands.specs.declared.operand.Operand.{Operand}
+use Rattle.check_operands.specs.declared.operand.Value.{Value}
+use Rattle.check_operands.specs.Operands.{value_of}
 use Rattle.check_globals.specs.Names.{size_by}
 use Rattle.check_globals.specs.Statics as statics
-use Rattle.check_statements_spec.specs.Initializers.{value_breaks, is_size, has_size}
+use Rattle.check_rules.specs.Initializers.{value_breaks, is_size, has_size}
 use Rattle.wellformed.proofs.Bools.{first_true, second_true, le_true}
 use Rattle.wf_values.proofs.Declared.{outermost_last}
-use Rattle.wf_types.proofs.Sized.{size_last, sized_last, prefix_size, prefix_sized}
+use Rattle.wf_walk.proofs.Sized.{size_last, sized_last, prefix_size, prefix_sized}
 use Rattle.wf_programs.proofs.Bools.{true_le, never_both}
 use Rattle.wf_programs.proofs.Fills.{size_of, bytes_in, HasValue}
 

@@ -2,29 +2,29 @@
 use Rattle.std.proofs.Common.{ℕ, refl, List}
 use Rattle.tick_tree.specs.declared.syntax.Core.TheOpen.{Core-F, Expr-F, Initializer-F, OptionalExpr-F, Stmt-F}
 use Rattle.tick_tree.specs.declared.syntax.Core.TheOpen.{Suffix-F}
-use Rattle.check_expressions_spec.specs.Rules.{tick_around}
-use Rattle.check_walk_spec.specs.Walk.{Core-W, Expr-W, Initializer-W, OptionalExpr-W, Stmt-W, Suffix-W, Declarator-W}
-use Rattle.check_walk_spec.specs.Walk.{Declaration-W, Init-W, Parameter-W, Typename-W, core_rule, expr_rule, start_rule}
-use Rattle.check_walk_spec.specs.Walk.{optional_rule, suffix_walk, suffix_of, declarator_rule, declaration_rule}
-use Rattle.check_walk_spec.specs.Walk.{init_rule}
-use Rattle.check_walk_spec.specs.Walk.{parameter_rule, typename_rule, stmt_rule, declaration_walk}
-use Rattle.wf_invariant.specs.Good.{GoodNode, GoodShape, GoodSuffix, GoodParameter, GoodNamed}
-use Rattle.wf_invariant.specs.Items.{GoodItem}
-use Rattle.wf_expressions.proofs.Walk.{walk_does}
-use Rattle.wf_statements.specs.Parts.{GoodStatementParts}
-use Rattle.wf_statements.proofs.Assembly.{block_good}
+use Rattle.check_rules.specs.ExpressionRules.{tick_around}
+use Rattle.check_rules.specs.Walk.{Core-W, Expr-W, Initializer-W, OptionalExpr-W, Stmt-W, Suffix-W, Declarator-W}
+use Rattle.check_rules.specs.Walk.{Declaration-W, Init-W, Parameter-W, Typename-W, core_rule, expr_rule, start_rule}
+use Rattle.check_rules.specs.Walk.{optional_rule, suffix_walk, suffix_of, declarator_rule, declaration_rule}
+use Rattle.check_rules.specs.Walk.{init_rule}
+use Rattle.check_rules.specs.Walk.{parameter_rule, typename_rule, stmt_rule, declaration_walk}
+use Rattle.wf_walk.specs.Good.{GoodNode, GoodShape, GoodSuffix, GoodParameter, GoodNamed}
+use Rattle.wf_walk.specs.Items.{GoodItem}
+use Rattle.wf_walk.proofs.Walk.{walk_does}
+use Rattle.wf_walk.specs.StatementParts.{GoodStatementParts}
+use Rattle.wf_walk.proofs.Assembly.{block_good}
 use Rattle.wf_programs.specs.Parts.{GoodStart, GoodInit, GoodDeclarators}
 use Rattle.wf_programs.proofs.Declarations.{declaration_good, item_good}
-use Rattle.wf_types.specs.Parts.{GoodOptional, GoodParts, GoodSuffixParts}
-use Rattle.wf_types.proofs.Constants.{constant_plain}
-use Rattle.wf_types.proofs.Productions.{walk_keeps}
-use Rattle.wf_types.proofs.Strings.{string_plain}
-use Rattle.wf_induction.specs.Asked.{EveryCore, EveryExpr, EveryInitializer, EveryOptionalExpr, EveryStmt, EverySuffix}
-use Rattle.wf_induction.specs.Asked.{EveryDeclarator, EveryDeclaration, EveryInit, EveryParameter, EveryTypename}
-use Rattle.wf_induction.proofs.Declarators.{each_parameter, good_core as core_of, good_declarator as declarator_of}
-use Rattle.wf_induction.proofs.Declarators.{good_typename as typename_of, good_parameter as parameter_of}
-use Rattle.wf_induction.proofs.Declarators.{good_suffix as suffix_is_good}
-use Rattle.wf_induction.proofs.Forms.{form_of, string_of}
+use Rattle.wf_walk.specs.Parts.{GoodOptional, GoodParts, GoodSuffixParts}
+use Rattle.wf_walk.proofs.Constants.{constant_plain}
+use Rattle.wf_walk.proofs.Productions.{walk_keeps}
+use Rattle.wf_walk.proofs.Strings.{string_plain}
+use Rattle.wf_walk.specs.Asked.{EveryCore, EveryExpr, EveryInitializer, EveryOptionalExpr, EveryStmt, EverySuffix}
+use Rattle.wf_walk.specs.Asked.{EveryDeclarator, EveryDeclaration, EveryInit, EveryParameter, EveryTypename}
+use Rattle.wf_walk.proofs.Declarators.{each_parameter, good_core as core_of, good_declarator as declarator_of}
+use Rattle.wf_walk.proofs.Declarators.{good_typename as typename_of, good_parameter as parameter_of}
+use Rattle.wf_walk.proofs.Declarators.{good_suffix as suffix_is_good}
+use Rattle.wf_walk.proofs.Forms.{form_of, string_of}
 use Rattle.wf_programs.specs.Good.{good, FewParts, FewExpr}
 
 -- ---- expressions

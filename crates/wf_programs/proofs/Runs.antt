@@ -12,18 +12,18 @@ use Rattle.typed_tree.specs.declared.expression.Stmt.TheVariants as st
 use Rattle.check_tables.specs.Frames as frames
 use Rattle.check_tables.specs.Functions as tables
 use Rattle.check_tables.specs.Walks.{◌>>=◌, pure, lift}
-use Rattle.check_env.specs.declared.state.Stage.TheVariants as stage
-use Rattle.check_env.specs.declared.state.State.{State}
-use Rattle.check_env.specs.Blocks.{enter, leave}
-use Rattle.check_expressions_spec.specs.Rules as rules
-use Rattle.check_expressions_spec.specs.Rules.{Shape, Item}
-use Rattle.check_statements_spec.specs.Declarations.{name_by}
+use Rattle.check_rules.specs.declared.state.Stage.TheVariants as stage
+use Rattle.check_rules.specs.declared.state.State.{State}
+use Rattle.check_rules.specs.Blocks.{enter, leave}
+use Rattle.check_rules.specs.ExpressionRules as rules
+use Rattle.check_rules.specs.ExpressionRules.{Shape, Item}
+use Rattle.check_rules.specs.Declarations.{name_by}
 use Rattle.check_globals.specs.Functions as functions
 use Rattle.check_globals.specs.Functions.{Given}
 use Rattle.check_globals.specs.Names as names
-use Rattle.check_programs_spec.specs.Program as program
-use Rattle.wf_types.proofs.Walks.{pure_same, pure_value}
-use Rattle.wf_types.proofs.Blocks.{inside, behind}
+use Rattle.check_globals.specs.Program as program
+use Rattle.wf_walk.proofs.Walks.{pure_same, pure_value}
+use Rattle.wf_walk.proofs.Blocks.{inside, behind}
 use Rattle.wf_programs.proofs.Steps.{Parts, parts, Lifted, lifted}
 
 pub record BodyRan (t : CType) (gs : List Given) (items : List Item) (s new : State) (x : Stmt) : Type 0 where

@@ -4,23 +4,23 @@ use Rattle.std.proofs.Common.{Option, Some, None, Ok, slice_get, bytes_eq, List}
 use Rattle.std.proofs.lemmas.Slice.Eq.{bytes_eq-Decides}
 use Rattle.c_types.specs.declared.ctype.CType.{CType}
 use Rattle.c_types.specs.Types.{is_unlisted, outermost, layers_of}
-use Rattle.c_types.specs.declared.names.Meaning.{Meaning}
-use Rattle.c_types.specs.declared.names.MeaningKind.{MeaningKind}
-use Rattle.c_types.specs.declared.names.MeaningKind.TheVariants as kind
-use Rattle.c_types.specs.Scopes.{Name, Scope, Scopes, in_scope, find, innermost, declared}
+use Rattle.check_scopes.specs.declared.names.Meaning.{Meaning}
+use Rattle.check_scopes.specs.declared.names.MeaningKind.{MeaningKind}
+use Rattle.check_scopes.specs.declared.names.MeaningKind.TheVariants as kind
+use Rattle.check_scopes.specs.Scopes.{Name, Scope, Scopes, in_scope, find, innermost, declared}
 use Rattle.check_types.specs.Shapes.{is_void}
 use Rattle.check_tables.specs.declared.functions.Functions.{Functions}
 use Rattle.check_tables.specs.declared.functions.Prototype.{Prototype}
 use Rattle.check_tables.specs.Functions.{number, number_by}
-use Rattle.check_env.specs.declared.state.Stage.{Stage}
-use Rattle.check_env.specs.declared.state.State.{State}
-use Rattle.check_env.specs.Names.{declare, declared_by}
+use Rattle.check_rules.specs.declared.state.Stage.{Stage}
+use Rattle.check_rules.specs.declared.state.State.{State}
+use Rattle.check_rules.specs.Names.{declare, declared_by}
 use Rattle.wf_values.specs.Used.{IsLibrary}
-use Rattle.wf_invariant.specs.Kept.{Starts}
+use Rattle.wf_walk.specs.Kept.{Starts}
 use Rattle.wf_scopes.specs.Right.{HasType}
-use Rattle.wf_invariant.specs.Known.{Blocks, Means, IsObject, EachEntry}
-use Rattle.wf_types.proofs.Walks.{pure_same}
-use Rattle.wf_statements.proofs.Lists.{get_front}
+use Rattle.wf_walk.specs.Known.{Blocks, Means, IsObject, EachEntry}
+use Rattle.wf_walk.proofs.Walks.{pure_same}
+use Rattle.wf_walk.proofs.Lists.{get_front}
 use Rattle.wf_programs.proofs.Tables.{HasNumber}
 
 -- ---- what names mean

@@ -1,24 +1,24 @@
 -- The second walk: each function and each tick that it makes stands right at its end.
 use Rattle.std.proofs.Common.{◌≡◌, refl, ap, sym, ◌∙◌, subst, List, [], ◌∷◌, ◌++◌, length, map, Some, Ok, append-nil}
 use Rattle.std.proofs.Common.{append_assoc}
-use Rattle.c_types.specs.declared.names.Meaning.{Meaning}
-use Rattle.c_types.specs.Scopes.{Name, Scope, find}
+use Rattle.check_scopes.specs.declared.names.Meaning.{Meaning}
+use Rattle.check_scopes.specs.Scopes.{Name, Scope, find}
 use Rattle.tick_tree.specs.declared.syntax.External.{External}
 use Rattle.tick_tree.specs.declared.syntax.External.TheVariants as ext
 use Rattle.typed_tree.specs.declared.expression.CaptureKind.{CaptureKind}
 use Rattle.typed_tree.specs.declared.program.Function.{Function}
 use Rattle.typed_tree.specs.declared.program.Tick.{Tick}
-use Rattle.check_env.specs.declared.state.State.{State}
-use Rattle.check_statements_spec.specs.Declarations.{name_by}
+use Rattle.check_rules.specs.declared.state.State.{State}
+use Rattle.check_rules.specs.Declarations.{name_by}
 use Rattle.check_globals.specs.Programs.{typed}
-use Rattle.check_programs_spec.specs.Parameters.{parameters_of}
-use Rattle.check_programs_spec.specs.Program as program
-use Rattle.check_walk_spec.specs.Walk.{declaration, shape, item}
+use Rattle.check_globals.specs.Parameters.{parameters_of}
+use Rattle.check_globals.specs.Program as program
+use Rattle.check_rules.specs.Walk.{declaration, shape, item}
 use Rattle.wellformed.specs.Accepted as accepted
-use Rattle.wf_invariant.specs.Kept.{Starts}
-use Rattle.wf_invariant.specs.Steps.{EachTick}
-use Rattle.wf_types.proofs.Walks.{pure_same}
-use Rattle.wf_types.proofs.Plain.{each_tick}
+use Rattle.wf_walk.specs.Kept.{Starts}
+use Rattle.wf_walk.specs.Steps.{EachTick}
+use Rattle.wf_walk.proofs.Walks.{pure_same}
+use Rattle.wf_walk.proofs.Plain.{each_tick}
 use Rattle.wf_programs.proofs.Counted.{EndNames}
 use Rattle.wf_programs.proofs.Done.{FunctionDone}
 use Rattle.wf_programs.proofs.Files.{whole, many, End, Towards, AtFile, EachLinked, linked_later, round}

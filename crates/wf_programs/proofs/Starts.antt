@@ -3,17 +3,17 @@ use Rattle.std.proofs.Common.{◌≡◌, ℕ, refl, ap, ◌∙◌, [], ◌∷◌
 use Rattle.c_types.specs.declared.ctype.CType.{CType}
 use Rattle.c_types.specs.declared.ctype.Integer.TheVariants as integer
 use Rattle.c_types.specs.declared.ctype.Layer.TheVariants as layer
-use Rattle.c_types.specs.Scopes.{Name, Scope, Scopes}
+use Rattle.check_scopes.specs.Scopes.{Name, Scope, Scopes}
 use Rattle.check_types.specs.Shapes as shapes
 use Rattle.check_types.specs.Shapes.{over, void}
 use Rattle.check_tables.specs.declared.functions.Functions.{Functions}
 use Rattle.check_tables.specs.Walks.{◌>>=◌}
-use Rattle.check_env.specs.declared.state.State.{State}
-use Rattle.check_env.specs.Starts.{int, function, library_meaning, add_library, first_library, second_library}
-use Rattle.check_env.specs.Starts.{third_library, libraries, empty, start, emptied, again}
+use Rattle.check_rules.specs.declared.state.State.{State}
+use Rattle.check_rules.specs.Starts.{int, function, library_meaning, add_library, first_library, second_library}
+use Rattle.check_rules.specs.Starts.{third_library, libraries, empty, start, emptied, again}
 use Rattle.wf_values.specs.Used.{IsLibrary}
 use Rattle.wf_values.proofs.Declared.{libraries_use}
-use Rattle.wf_invariant.specs.Known.{EachEntry}
+use Rattle.wf_walk.specs.Known.{EachEntry}
 use Rattle.wf_programs.proofs.Scopes.{FileName, each_more, AllFound, all_found_more, DeclaresFirst, declare_first}
 use Rattle.wf_programs.proofs.Steps.{Parts, parts}
 

@@ -2,8 +2,8 @@
 use Rattle.std.proofs.Common.{◌≡◌, List, ◌++◌, refl, ap, sym, ◌∙◌, append_assoc, Ok, Err}
 use Rattle.tick_tree.specs.Faults.{Checked, ◌>>=◌ as ◌>>>=◌}
 use Rattle.check_tables.specs.Walks.{Rule, ◌>>=◌, lift}
-use Rattle.wf_invariant.specs.Kept.{Starts}
-use Rattle.wf_types.proofs.Walks.{pure_same, pure_value}
+use Rattle.wf_walk.specs.Kept.{Starts}
+use Rattle.wf_walk.proofs.Walks.{pure_same, pure_value}
 
 pub record Parts {S A B : Type 0} (p : Rule S A) (f : A → Rule S B) (s new : S) (x : B) : Type 0 where
   pub answer : A

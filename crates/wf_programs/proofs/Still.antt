@@ -7,21 +7,21 @@ use Rattle.check_types.specs.Shapes.{inner, width_of}
 use Rattle.tick_tree.specs.declared.fault.FaultKind.{FaultKind}
 use Rattle.tick_tree.specs.declared.fault.FaultKind.TheVariants as fault
 use Rattle.tick_tree.specs.Faults.{refuse}
-use Rattle.check_operators.specs.declared.operand.Operand.{Operand}
-use Rattle.check_operators.specs.declared.operand.Value.{Value}
-use Rattle.check_operators.specs.Operands.{value_of}
+use Rattle.check_operands.specs.declared.operand.Operand.{Operand}
+use Rattle.check_operands.specs.declared.operand.Value.{Value}
+use Rattle.check_operands.specs.Operands.{value_of}
 use Rattle.check_tables.specs.Images as images
 use Rattle.check_tables.specs.Walks.{lift}
-use Rattle.check_env.specs.declared.state.Stage.TheVariants as stage
-use Rattle.check_env.specs.declared.state.State.{State}
-use Rattle.check_expressions_spec.specs.Rules.{Node}
-use Rattle.check_statements_spec.specs.Initializers.{is_text, has_size, value_breaks}
+use Rattle.check_rules.specs.declared.state.Stage.TheVariants as stage
+use Rattle.check_rules.specs.declared.state.State.{State}
+use Rattle.check_rules.specs.ExpressionRules.{Node}
+use Rattle.check_rules.specs.Initializers.{is_text, has_size, value_breaks}
 use Rattle.check_globals.specs.declared.statics.Row.{Row}
 use Rattle.check_globals.specs.Statics as statics
-use Rattle.check_walk_spec.specs.Walk.{Start, Nothing, Value as One, Values}
-use Rattle.check_programs_spec.specs.Program as program
-use Rattle.wf_invariant.specs.Good.{Plain}
-use Rattle.wf_types.proofs.Walks.{pure_same, pure_value}
+use Rattle.check_rules.specs.Walk.{Start, Nothing, Value as One, Values}
+use Rattle.check_globals.specs.Program as program
+use Rattle.wf_walk.specs.Good.{Plain}
+use Rattle.wf_walk.proofs.Walks.{pure_same, pure_value}
 use Rattle.wf_programs.proofs.Declared.{none_lower}
 use Rattle.wf_programs.proofs.Steps.{Parts, parts}
 

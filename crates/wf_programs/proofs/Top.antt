@@ -3,7 +3,7 @@ use Rattle.std.proofs.Common.{◌≡◌, ℕ, zero, suc, ◌+◌, ◌≤◌, min
 use Rattle.std.proofs.Common.{slice_get, Some, Ok, arith}
 use Rattle.limits.specs.declared.program.TheConstants.{SIZE_LIMIT}
 use Rattle.word32.specs.declared.map.TheConstants.{GLOBAL_BYTES}
-use Rattle.c_types.specs.Scopes.{Name}
+use Rattle.check_scopes.specs.Scopes.{Name}
 use Rattle.tick_tree.specs.declared.syntax.External.{External}
 use Rattle.tick_tree.specs.declared.tree.Tree.{Tree}
 use Rattle.typed_tree.specs.declared.expression.CaptureKind.{CaptureKind}
@@ -15,13 +15,13 @@ use Rattle.check_tables.specs.declared.functions.Functions.{Functions}
 use Rattle.check_tables.specs.declared.image.Image.{Image}
 use Rattle.check_tables.specs.Functions as tables
 use Rattle.check_tables.specs.Images as images
-use Rattle.check_env.specs.declared.state.State.{State}
-use Rattle.check_env.specs.Starts.{empty, emptied}
+use Rattle.check_rules.specs.declared.state.State.{State}
+use Rattle.check_rules.specs.Starts.{empty, emptied}
 use Rattle.check_globals.specs.Programs.{typed, image, tick_fits}
-use Rattle.check_programs_spec.specs.Program.{checked}
+use Rattle.check_globals.specs.Program.{checked}
 use Rattle.wellformed.specs.Accepted as accepted
-use Rattle.wf_invariant.specs.Steps.{EachTick, TickStands}
-use Rattle.wf_types.proofs.Fronts.{starts_refl}
+use Rattle.wf_walk.specs.Steps.{EachTick, TickStands}
+use Rattle.wf_walk.proofs.Fronts.{starts_refl}
 use Rattle.wf_programs.proofs.Bools.{true_le}
 use Rattle.wf_programs.proofs.Bounds.{Bounded, image_small}
 use Rattle.wf_programs.proofs.Counted.{EndNames, end_names}

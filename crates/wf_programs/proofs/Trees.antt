@@ -11,21 +11,21 @@ use Rattle.tick_tree.specs.declared.syntax.Declarator.{Declarator, roll-Declarat
 use Rattle.tick_tree.specs.declared.syntax.Init.{roll-Init}
 use Rattle.tick_tree.specs.declared.syntax.Parameter.{roll-Parameter}
 use Rattle.tick_tree.specs.declared.syntax.Typename.{roll-Typename}
-use Rattle.check_walk_spec.specs.Walk.{core, node, initializer, optional, item, suffix, declaration, shape, init}
-use Rattle.check_walk_spec.specs.Walk.{parameter}
-use Rattle.check_walk_spec.specs.Walk.{named}
+use Rattle.check_rules.specs.Walk.{core, node, initializer, optional, item, suffix, declaration, shape, init}
+use Rattle.check_rules.specs.Walk.{parameter}
+use Rattle.check_rules.specs.Walk.{named}
 use Rattle.tick_tree.specs.Weights.{core_weight, weight, initializer_weight, optional_weight, statement_weight}
 use Rattle.tick_tree.specs.Weights.{suffix_weight, declaration_weight, declarator_weight, init_weight, parameter_weight}
 use Rattle.tick_tree.specs.Weights.{typename_weight}
 use Rattle.syntax_size.proofs.Small.{expr_small, initializer_small, stmt_small, declaration_small, declarator_small}
-use Rattle.wf_induction.proofs.Induction.{Core-T, Expr-T, Initializer-T, OptionalExpr-T, Stmt-T, Suffix-T}
-use Rattle.wf_induction.proofs.Induction.{Declaration-T, Declarator-T, Init-T, Parameter-T, Typename-T, Core-K, Expr-K}
-use Rattle.wf_induction.proofs.Induction.{Initializer-K, OptionalExpr-K, Stmt-K, Suffix-K, Declaration-K, Declarator-K}
-use Rattle.wf_induction.proofs.Induction.{Init-K, Parameter-K, Typename-K, firstCore, firstExpr, firstInitializer}
-use Rattle.wf_induction.proofs.Induction.{firstOptionalExpr, firstStmt, firstSuffix, firstDeclaration, firstDeclarator}
-use Rattle.wf_induction.proofs.Induction.{firstInit, firstParameter, firstTypename, step_core, step_expr}
-use Rattle.wf_induction.proofs.Induction.{step_initializer, step_optional, step_stmt, step_suffix, step_declaration}
-use Rattle.wf_induction.proofs.Induction.{step_declarator, step_init, step_parameter, step_typename}
+use Rattle.wf_walk.proofs.Induction.{Core-T, Expr-T, Initializer-T, OptionalExpr-T, Stmt-T, Suffix-T}
+use Rattle.wf_walk.proofs.Induction.{Declaration-T, Declarator-T, Init-T, Parameter-T, Typename-T, Core-K, Expr-K}
+use Rattle.wf_walk.proofs.Induction.{Initializer-K, OptionalExpr-K, Stmt-K, Suffix-K, Declaration-K, Declarator-K}
+use Rattle.wf_walk.proofs.Induction.{Init-K, Parameter-K, Typename-K, firstCore, firstExpr, firstInitializer}
+use Rattle.wf_walk.proofs.Induction.{firstOptionalExpr, firstStmt, firstSuffix, firstDeclaration, firstDeclarator}
+use Rattle.wf_walk.proofs.Induction.{firstInit, firstParameter, firstTypename, step_core, step_expr}
+use Rattle.wf_walk.proofs.Induction.{step_initializer, step_optional, step_stmt, step_suffix, step_declaration}
+use Rattle.wf_walk.proofs.Induction.{step_declarator, step_init, step_parameter, step_typename}
 use Rattle.wf_programs.specs.Good.{good, FewExpr}
 use Rattle.wf_programs.specs.Small.{SmallAreGood}
 use Rattle.wf_programs.proofs.Few.{few_expr}

@@ -2,17 +2,17 @@
 use Rattle.std.proofs.Common.{◌≡◌, ℕ, Bool, true, false, not, ◌||◌, ◌⊎◌, inl, inr, sym, ◌∙◌, [], ◌∷◌, ◌++◌, Option}
 use Rattle.std.proofs.Common.{Some, None, Ok}
 use Rattle.c_types.specs.declared.ctype.CType.{CType}
-use Rattle.c_types.specs.declared.names.Meaning.{Meaning}
-use Rattle.c_types.specs.declared.names.MeaningKind.TheVariants as kind
-use Rattle.c_types.specs.Scopes.{Name, Scope, in_scope, find}
+use Rattle.check_scopes.specs.declared.names.Meaning.{Meaning}
+use Rattle.check_scopes.specs.declared.names.MeaningKind.TheVariants as kind
+use Rattle.check_scopes.specs.Scopes.{Name, Scope, in_scope, find}
 use Rattle.c_types.specs.Types.{same, limited_size}
 use Rattle.check_tables.specs.Functions as functions
 use Rattle.check_tables.specs.Images as images
-use Rattle.check_env.specs.declared.state.State.{State}
-use Rattle.check_env.specs.Locals.{meaning}
-use Rattle.check_env.specs.Names.{declare}
+use Rattle.check_rules.specs.declared.state.State.{State}
+use Rattle.check_rules.specs.Locals.{meaning}
+use Rattle.check_rules.specs.Names.{declare}
 use Rattle.check_globals.specs.Names as names
-use Rattle.wf_types.proofs.Walks.{pure_same, pure_value}
+use Rattle.wf_walk.proofs.Walks.{pure_same, pure_value}
 use Rattle.wf_programs.proofs.Names.{split}
 use Rattle.wf_programs.proofs.Scopes.{DeclaresFirst, declare_first}
 use Rattle.wf_programs.proofs.Steps.{Parts, parts}

@@ -1,22 +1,22 @@
 -- The walk over a program: what both walks leave of the functions.
 use Rattle.std.proofs.Common.{◌≡◌, ℕ, suc, ◌+◌, refl, ap, sym, ◌∙◌, subst, List, [], ◌∷◌, ◌++◌, length, map, Some, Ok}
 use Rattle.std.proofs.Common.{arith, append-nil, append_assoc}
-use Rattle.c_types.specs.declared.names.Meaning.{Meaning}
-use Rattle.c_types.specs.Scopes.{Name, Scope, Scopes, in_scope, find}
+use Rattle.check_scopes.specs.declared.names.Meaning.{Meaning}
+use Rattle.check_scopes.specs.Scopes.{Name, Scope, Scopes, in_scope, find}
 use Rattle.tick_tree.specs.declared.base.Base.{Base}
 use Rattle.tick_tree.specs.declared.syntax.External.{External}
 use Rattle.tick_tree.specs.declared.syntax.External.TheVariants as ext
 use Rattle.typed_tree.specs.declared.program.Function.{Function}
 use Rattle.check_tables.specs.declared.functions.Functions.{Functions}
-use Rattle.check_env.specs.declared.state.State.{State}
-use Rattle.check_expressions_spec.specs.Rules.{Shape, Item}
-use Rattle.check_statements_spec.specs.Declarations.{name_by}
+use Rattle.check_rules.specs.declared.state.State.{State}
+use Rattle.check_rules.specs.ExpressionRules.{Shape, Item}
+use Rattle.check_rules.specs.Declarations.{name_by}
 use Rattle.check_globals.specs.Functions.{Given}
-use Rattle.check_programs_spec.specs.Parameters.{parameters_of}
-use Rattle.check_programs_spec.specs.Program as program
-use Rattle.check_walk_spec.specs.Walk.{declaration, shape, item}
-use Rattle.wf_types.proofs.Walks.{pure_same}
-use Rattle.wf_types.proofs.Fronts.{starts_same}
+use Rattle.check_globals.specs.Parameters.{parameters_of}
+use Rattle.check_globals.specs.Program as program
+use Rattle.check_rules.specs.Walk.{declaration, shape, item}
+use Rattle.wf_walk.proofs.Walks.{pure_same}
+use Rattle.wf_walk.proofs.Fronts.{starts_same}
 use Rattle.wf_programs.proofs.Done.{made_function, made_state, is_made}
 use Rattle.wf_programs.proofs.Files.{Towards, towards_more, names_of}
 use Rattle.wf_programs.proofs.Functions.{GoodFunction}

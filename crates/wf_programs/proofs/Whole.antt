@@ -3,8 +3,8 @@ use Rattle.std.proofs.Common.{◌≡◌, ℕ, zero, suc, ◌+◌, ◌≤◌, ◌
 use Rattle.std.proofs.Common.{List, [], ◌∷◌, ◌++◌, length, take, slice_get, Some, arith}
 use Rattle.limits.specs.declared.program.TheConstants.{FRAME_OBJECT_BYTES, NODE_TOP, SIZE_LIMIT}
 use Rattle.c_types.specs.declared.ctype.CType.{CType}
-use Rattle.c_types.specs.declared.names.Meaning.{Meaning}
-use Rattle.c_types.specs.Scopes.{Name, Scope, Scopes, in_scope, find}
+use Rattle.check_scopes.specs.declared.names.Meaning.{Meaning}
+use Rattle.check_scopes.specs.Scopes.{Name, Scope, Scopes, in_scope, find}
 use Rattle.tick_tree.specs.declared.base.Base.{Base}
 use Rattle.typed_tree.specs.declared.expression.CaptureKind.{CaptureKind}
 use Rattle.typed_tree.specs.declared.expression.Stmt.{Stmt}
@@ -12,17 +12,17 @@ use Rattle.typed_tree.specs.declared.program.Function.{Function}
 use Rattle.typed_tree.specs.Sizes.{statement_size}
 use Rattle.check_tables.specs.declared.functions.Functions.{Functions}
 use Rattle.check_tables.specs.Functions as tables
-use Rattle.check_env.specs.declared.state.Stage.TheVariants as stage
-use Rattle.check_env.specs.declared.state.State.{State}
-use Rattle.check_expressions_spec.specs.Rules as rules
-use Rattle.check_expressions_spec.specs.Rules.{Shape, Item}
-use Rattle.check_statements_spec.specs.Declarations.{name_by}
+use Rattle.check_rules.specs.declared.state.Stage.TheVariants as stage
+use Rattle.check_rules.specs.declared.state.State.{State}
+use Rattle.check_rules.specs.ExpressionRules as rules
+use Rattle.check_rules.specs.ExpressionRules.{Shape, Item}
+use Rattle.check_rules.specs.Declarations.{name_by}
 use Rattle.check_globals.specs.Functions.{Given, types_of}
 use Rattle.check_globals.specs.Programs.{function_fits}
-use Rattle.check_programs_spec.specs.Program.{around}
+use Rattle.check_globals.specs.Program.{around}
 use Rattle.wellformed.proofs.Bools.{second_true}
-use Rattle.wf_invariant.specs.Known.{EachEntry, Small}
-use Rattle.wf_types.proofs.Fronts.{starts_same}
+use Rattle.wf_walk.specs.Known.{EachEntry, Small}
+use Rattle.wf_walk.proofs.Fronts.{starts_same}
 use Rattle.wf_programs.proofs.Bools.{true_le, length_last}
 use Rattle.wf_programs.proofs.Counted.{EndNames}
 use Rattle.wf_programs.proofs.Done.{body_of, made_function, made_state, is_made, FunctionDone, with_defined, get_rest}

@@ -4,17 +4,17 @@
 use Rattle.std.specs.Prelude.{◌≡◌, ℕ, ◌+◌, ◌≤◌, List, length, Ok}
 use Rattle.tick_tree.specs.declared.syntax.Core.TheOpen.{Expr-F}
 use Rattle.typed_tree.specs.declared.expression.Stmt.{Stmt}
-use Rattle.check_operators.specs.declared.operand.Operand.{Operand}
-use Rattle.check_env.specs.declared.state.Stage.{Stage}
-use Rattle.check_env.specs.declared.state.State.{State}
-use Rattle.check_expressions_spec.specs.Rules.{Item, block, tick_around, walk_rule}
-use Rattle.check_walk_spec.specs.Walk.{Expr-W}
-use Rattle.wf_invariant.specs.Captured.{NamesValue, NamesBlock}
-use Rattle.wf_invariant.specs.Good.{GoodNode, GoodShape, GoodSuffix, GoodParameter, GoodNamed}
-use Rattle.wf_invariant.specs.Items.{GoodItem, Few}
-use Rattle.wf_types.specs.Parts.{GoodOptional}
+use Rattle.check_operands.specs.declared.operand.Operand.{Operand}
+use Rattle.check_rules.specs.declared.state.Stage.{Stage}
+use Rattle.check_rules.specs.declared.state.State.{State}
+use Rattle.check_rules.specs.ExpressionRules.{Item, block, tick_around, walk_rule}
+use Rattle.check_rules.specs.Walk.{Expr-W}
+use Rattle.wf_walk.specs.Captured.{NamesValue, NamesBlock}
+use Rattle.wf_walk.specs.Good.{GoodNode, GoodShape, GoodSuffix, GoodParameter, GoodNamed}
+use Rattle.wf_walk.specs.Items.{GoodItem, Few}
+use Rattle.wf_walk.specs.Parts.{GoodOptional}
 use Rattle.wf_programs.specs.Parts.{GoodStart, GoodInit, GoodDeclarators}
-use Rattle.wf_induction.specs.Asked.{Asked}
+use Rattle.wf_walk.specs.Asked.{Asked}
 use Rattle.check_tables.specs.Bounds.{count_bound}
 
 -- ---- what is asked

@@ -3,7 +3,7 @@ use Rattle.std.specs.Prelude.{◌≡◌, Ok}
 use Rattle.tick_tree.specs.declared.tree.Tree.{Tree}
 use Rattle.tick_tree.specs.Texts.{IsText}
 use Rattle.typed_tree.specs.declared.program.TypedParts.{TypedParts}
-use Rattle.check_programs_spec.specs.Program.{checked}
+use Rattle.check_globals.specs.Program.{checked}
 use Rattle.wellformed.specs.Program.{IsWellFormed}
 
 -- what the checker makes of a text's tree is well-formed

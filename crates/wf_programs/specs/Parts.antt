@@ -1,8 +1,8 @@
 -- What is asked of the declarators of a declaration in a block.
 use Rattle.std.specs.Prelude.{ℕ, List}
-use Rattle.check_walk_spec.specs.Walk.{Start, Nothing, Value, Values, InitParts, Declarations}
-use Rattle.wf_invariant.specs.Good.{GoodNode, GoodShape}
-use Rattle.wf_types.specs.Parts.{EachPart}
+use Rattle.check_rules.specs.Walk.{Start, Nothing, Value, Values, InitParts, Declarations}
+use Rattle.wf_walk.specs.Good.{GoodNode, GoodShape}
+use Rattle.wf_walk.specs.Parts.{EachPart}
 
 abbrev pub GoodStart : List ℕ → Start → Type 0
 GoodStart many Nothing = Unit {0}

@@ -5,9 +5,9 @@ use Rattle.tick_tree.specs.declared.syntax.Declarator.{Declarator}
 use Rattle.tick_tree.specs.declared.syntax.Expr.{Expr}
 use Rattle.tick_tree.specs.declared.syntax.Initializer.{Initializer}
 use Rattle.tick_tree.specs.declared.syntax.Stmt.{Stmt}
-use Rattle.check_walk_spec.specs.Walk.{node, item, shape, initializer, declaration}
-use Rattle.wf_invariant.specs.Good.{GoodNode, GoodShape}
-use Rattle.wf_invariant.specs.Items.{GoodItem}
+use Rattle.check_rules.specs.Walk.{node, item, shape, initializer, declaration}
+use Rattle.wf_walk.specs.Good.{GoodNode, GoodShape}
+use Rattle.wf_walk.specs.Items.{GoodItem}
 use Rattle.tick_tree.specs.Weights.{weight, initializer_weight, statement_weight, declaration_weight, declarator_weight}
 use Rattle.wf_programs.specs.Parts.{GoodStart, GoodDeclarators}
 use Rattle.check_tables.specs.Bounds.{count_bound}

@@ -11,17 +11,17 @@ use Rattle.tick_tree.specs.declared.fault.FaultKind.{FaultKind}
 use Rattle.tick_tree.specs.declared.fault.FaultKind.TheVariants as fault
 use Rattle.typed_tree.specs.declared.expression.Expr.{Expr}
 use Rattle.typed_tree.specs.declared.expression.Library.{Library}
-use Rattle.check_operators.specs.declared.operand.Operand.{Operand}
-use Rattle.check_operators.specs.declared.operand.Place.{Place}
-use Rattle.check_operators.specs.declared.operand.Place.TheVariants as place
-use Rattle.check_operators.specs.declared.operand.Value.{Value}
-use Rattle.check_operators.specs.Operands.{value_of}
-use Rattle.check_lvalues.specs.declared.calls.Argument.{Argument}
-use Rattle.check_lvalues.specs.declared.calls.Arguments.{Arguments}
-use Rattle.check_lvalues.specs.declared.calls.Callee.TheVariants as callee
-use Rattle.check_lvalues.specs.Calls.{with_argument, any_mismatches, any_void, arguments_break, called_breaks_at}
-use Rattle.check_lvalues.specs.Calls.{called_breaks_by, called_breaks, answer_of, called, through, static_number}
-use Rattle.check_lvalues.specs.Calls.{call_by, call, library_kind, library_node, library, returned, tick_returned}
+use Rattle.check_operands.specs.declared.operand.Operand.{Operand}
+use Rattle.check_operands.specs.declared.operand.Place.{Place}
+use Rattle.check_operands.specs.declared.operand.Place.TheVariants as place
+use Rattle.check_operands.specs.declared.operand.Value.{Value}
+use Rattle.check_operands.specs.Operands.{value_of}
+use Rattle.check_operands.specs.declared.arguments.Argument.{Argument}
+use Rattle.check_operands.specs.declared.arguments.Arguments.{Arguments}
+use Rattle.check_operands.specs.declared.arguments.Callee.TheVariants as callee
+use Rattle.check_operands.specs.Calls.{with_argument, any_mismatches, any_void, arguments_break, called_breaks_at}
+use Rattle.check_operands.specs.Calls.{called_breaks_by, called_breaks, answer_of, called, through, static_number}
+use Rattle.check_operands.specs.Calls.{call_by, call, library_kind, library_node, library, returned, tick_returned}
 use Rattle.wellformed.specs.Places.{Around, are_few, takes, is_called}
 use Rattle.wellformed.proofs.Bools.{and_true}
 use Rattle.wf_scopes.specs.Right.{Stands, EachStands, listed_at, listed_by, HasType, RightPlace, IsRight, Unless}

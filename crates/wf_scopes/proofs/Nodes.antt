@@ -11,7 +11,7 @@ use Rattle.typed_tree.specs.declared.expression.Answer.{Answer}
 use Rattle.typed_tree.specs.declared.expression.Library.{Library}
 use Rattle.typed_tree.specs.declared.expression.Expr.{Expr}
 use Rattle.typed_tree.specs.declared.expression.Expr.TheVariants as ex
-use Rattle.check_operators.specs.Operands.{by}
+use Rattle.check_operands.specs.Operands.{by}
 use Rattle.wellformed.specs.Places.{Around, Part, part, in_scope, in_function, captured, is_variable, is_called}
 use Rattle.wellformed.specs.Places.{are_few, each_stands}
 use Rattle.wellformed.proofs.Equations.{part_const, part_var, part_setvar, part_postvar, part_vget, part_vset}

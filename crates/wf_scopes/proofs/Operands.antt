@@ -7,14 +7,14 @@ use Rattle.c_types.specs.Types.{limited_size}
 use Rattle.check_types.specs.Shapes.{decays, width_of, conversion, is_void}
 use Rattle.typed_tree.specs.declared.expression.Expr.{Expr}
 use Rattle.typed_tree.specs.declared.expression.Expr.TheVariants as ex
-use Rattle.check_operators.specs.declared.operand.Operand.{Operand}
-use Rattle.check_operators.specs.declared.operand.Place.{Place}
-use Rattle.check_operators.specs.declared.operand.Place.TheVariants as place
-use Rattle.check_operators.specs.declared.operand.Value.{Value}
-use Rattle.check_operators.specs.Operands.{code_of, value_of, as_operand, settled, converted, converted_by, number}
-use Rattle.check_operators.specs.Operands.{character, string, size_by, condition, switched, plus, on_integer}
-use Rattle.check_operators.specs.Operands.{dereferenced, negated, cast}
-use Rattle.check_operators.specs.Stages as stages
+use Rattle.check_operands.specs.declared.operand.Operand.{Operand}
+use Rattle.check_operands.specs.declared.operand.Place.{Place}
+use Rattle.check_operands.specs.declared.operand.Place.TheVariants as place
+use Rattle.check_operands.specs.declared.operand.Value.{Value}
+use Rattle.check_operands.specs.Operands.{code_of, value_of, as_operand, settled, converted, converted_by, number}
+use Rattle.check_operands.specs.Operands.{character, string, size_by, condition, switched, plus, on_integer}
+use Rattle.check_operands.specs.Operands.{dereferenced, negated, cast}
+use Rattle.check_operands.specs.Stages as stages
 use Rattle.wellformed.specs.Places.{Around, in_function}
 use Rattle.wf_scopes.specs.Right.{Stands, RightPlace, IsRight, Unless}
 use Rattle.wf_scopes.specs.Laws.{OperandsStand, PrefixesStand, StagesStand}

@@ -7,13 +7,13 @@ use Rattle.tick_tree.specs.declared.base.BinaryOp.{BinaryOp}
 use Rattle.tick_tree.specs.declared.base.BinaryOp.TheVariants as op
 use Rattle.typed_tree.specs.declared.expression.Expr.{Expr}
 use Rattle.typed_tree.specs.declared.expression.Expr.TheVariants as ex
-use Rattle.check_operators.specs.declared.operand.Value.{Value}
-use Rattle.check_operators.specs.declared.operators.Combined.{Combined}
-use Rattle.check_operators.specs.declared.operators.Combined.TheVariants as by_form
-use Rattle.check_operators.specs.declared.operators.Joined.{Joined}
-use Rattle.check_operators.specs.Operands.{comma}
-use Rattle.check_operators.specs.Operators.{scaled, built, binary_by, combine, arithmetic, both, either, binary}
-use Rattle.check_operators.specs.Operators.{index_by, index, choice_by, joined_type, choice}
+use Rattle.check_operands.specs.declared.operand.Value.{Value}
+use Rattle.check_operands.specs.declared.combined.Combined.{Combined}
+use Rattle.check_operands.specs.declared.combined.Combined.TheVariants as by_form
+use Rattle.check_operands.specs.declared.combined.Joined.{Joined}
+use Rattle.check_operands.specs.Operands.{comma}
+use Rattle.check_operands.specs.Operators.{scaled, built, binary_by, combine, arithmetic, both, either, binary}
+use Rattle.check_operands.specs.Operators.{index_by, index, choice_by, joined_type, choice}
 use Rattle.wellformed.specs.Places.{Around}
 use Rattle.wf_scopes.specs.Right.{Stands, IsRight, Unless}
 use Rattle.wf_scopes.specs.Laws.{OperatorsStand}

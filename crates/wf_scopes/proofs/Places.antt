@@ -8,17 +8,17 @@ use Rattle.tick_tree.specs.declared.base.ModifyOp.{ModifyOp}
 use Rattle.tick_tree.specs.declared.base.StepOp.{StepOp}
 use Rattle.typed_tree.specs.declared.expression.Expr.{Expr}
 use Rattle.typed_tree.specs.declared.expression.Expr.TheVariants as ex
-use Rattle.check_operators.specs.declared.operand.Operand.{Operand}
-use Rattle.check_operators.specs.declared.operand.Place.{Place}
-use Rattle.check_operators.specs.declared.operand.Place.TheVariants as place
-use Rattle.check_operators.specs.declared.operand.Value.{Value}
-use Rattle.check_operators.specs.declared.operators.Combined.{Combined}
-use Rattle.check_operators.specs.declared.operators.Combined.TheVariants as by_form
-use Rattle.check_operators.specs.Operators.{combine, built}
-use Rattle.check_operators.specs.Operands.{converted}
-use Rattle.check_lvalues.specs.Places.{stored, assign, operator_of, narrowing_of, narrowed, kind_in, right_in, changed}
-use Rattle.check_lvalues.specs.Places.{modified, modify_by, modify, step_of, step_kind, stepped_by, stepped, amount}
-use Rattle.check_lvalues.specs.Places.{posted, post_by, post, address_of, address}
+use Rattle.check_operands.specs.declared.operand.Operand.{Operand}
+use Rattle.check_operands.specs.declared.operand.Place.{Place}
+use Rattle.check_operands.specs.declared.operand.Place.TheVariants as place
+use Rattle.check_operands.specs.declared.operand.Value.{Value}
+use Rattle.check_operands.specs.declared.combined.Combined.{Combined}
+use Rattle.check_operands.specs.declared.combined.Combined.TheVariants as by_form
+use Rattle.check_operands.specs.Operators.{combine, built}
+use Rattle.check_operands.specs.Operands.{converted}
+use Rattle.check_operands.specs.Places.{stored, assign, operator_of, narrowing_of, narrowed, kind_in, right_in, changed}
+use Rattle.check_operands.specs.Places.{modified, modify_by, modify, step_of, step_kind, stepped_by, stepped, amount}
+use Rattle.check_operands.specs.Places.{posted, post_by, post, address_of, address}
 use Rattle.wellformed.specs.Places.{Around}
 use Rattle.wf_scopes.specs.Right.{Stands, RightPlace, IsRight, Unless}
 use Rattle.wf_scopes.specs.Laws.{PlacesStand}

@@ -5,14 +5,14 @@ use Rattle.c_types.specs.declared.ctype.CType.{CType}
 use Rattle.tick_tree.specs.declared.base.BinaryOp.{BinaryOp}
 use Rattle.tick_tree.specs.declared.base.ModifyOp.{ModifyOp}
 use Rattle.tick_tree.specs.declared.base.StepOp.{StepOp}
-use Rattle.check_operators.specs.declared.operand.Operand.{Operand}
-use Rattle.check_operators.specs.declared.operand.Value.{Value}
-use Rattle.check_operators.specs.Operands as nodes
-use Rattle.check_operators.specs.Operators as operators
-use Rattle.check_operators.specs.Stages as stages
-use Rattle.check_lvalues.specs.declared.calls.Arguments.{Arguments}
-use Rattle.check_lvalues.specs.Calls as calls
-use Rattle.check_lvalues.specs.Places as places
+use Rattle.check_operands.specs.declared.operand.Operand.{Operand}
+use Rattle.check_operands.specs.declared.operand.Value.{Value}
+use Rattle.check_operands.specs.Operands as nodes
+use Rattle.check_operands.specs.Operators as operators
+use Rattle.check_operands.specs.Stages as stages
+use Rattle.check_operands.specs.declared.arguments.Arguments.{Arguments}
+use Rattle.check_operands.specs.Calls as calls
+use Rattle.check_operands.specs.Places as places
 use Rattle.wellformed.specs.Places.{Around, in_function}
 use Rattle.wf_scopes.specs.Right.{Stands, EachStands, IsRight, Unless}
 

@@ -6,9 +6,9 @@ use Rattle.c_types.specs.declared.ctype.Layer.{Layer, out-Layer}
 use Rattle.c_types.specs.declared.ctype.Layer.TheOpen.{Layer-F}
 use Rattle.c_types.specs.Types.{Opened, outermost, is_unlisted, layers_of}
 use Rattle.typed_tree.specs.declared.expression.Expr.{Expr}
-use Rattle.check_operators.specs.declared.operand.Operand.{Operand}
-use Rattle.check_operators.specs.declared.operand.Place.{Place}
-use Rattle.check_operators.specs.declared.operand.Place.TheVariants as place
+use Rattle.check_operands.specs.declared.operand.Operand.{Operand}
+use Rattle.check_operands.specs.declared.operand.Place.{Place}
+use Rattle.check_operands.specs.declared.operand.Place.TheVariants as place
 use Rattle.tick_tree.specs.Faults.{Checked}
 use Rattle.wellformed.specs.Places.{Around, part, in_scope, captured, is_variable}
 

@@ -4,8 +4,8 @@ use Rattle.check_types.specs.Shapes.{is_void}
 use Rattle.tick_tree.specs.declared.fault.FaultKind.{FaultKind}
 use Rattle.tick_tree.specs.declared.fault.FaultKind.TheVariants as fault
 use Rattle.tick_tree.specs.Faults.{Checked}
-use Rattle.check_operators.specs.declared.operand.Value.{Value}
-use Rattle.check_operators.specs.Operands.{by, unless_void}
+use Rattle.check_operands.specs.declared.operand.Value.{Value}
+use Rattle.check_operands.specs.Operands.{by, unless_void}
 use Rattle.wf_values.specs.Used.{Leaves, IsUsedValue, Unless}
 use Rattle.wf_values.proofs.Nodes.{left_of}
 

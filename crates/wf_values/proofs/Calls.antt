@@ -12,19 +12,19 @@ use Rattle.check_types.specs.Shapes.{inner, is_void, is_pointer, integer_of, nar
 use Rattle.tick_tree.specs.declared.fault.FaultKind.TheVariants as fault
 use Rattle.typed_tree.specs.declared.expression.Expr.{Expr}
 use Rattle.typed_tree.specs.declared.expression.Library.{Library}
-use Rattle.check_operators.specs.declared.operand.Operand.{Operand}
-use Rattle.check_operators.specs.declared.operand.Place.{Place}
-use Rattle.check_operators.specs.declared.operand.Place.TheVariants as place
-use Rattle.check_operators.specs.declared.operand.Value.{Value}
-use Rattle.check_operators.specs.Operands.{value_of}
-use Rattle.check_lvalues.specs.declared.calls.Argument.{Argument}
-use Rattle.check_lvalues.specs.declared.calls.Arguments.{Arguments}
-use Rattle.check_lvalues.specs.declared.calls.Callee.{Callee}
-use Rattle.check_lvalues.specs.declared.calls.Callee.TheVariants as callee
-use Rattle.check_lvalues.specs.Places.{narrowing_of, narrowed}
-use Rattle.check_lvalues.specs.Calls.{with_argument, any_mismatches, any_void, called_breaks_at, called_breaks_by}
-use Rattle.check_lvalues.specs.Calls.{called_breaks, call_node, called, through, static_number, call_by, call}
-use Rattle.check_lvalues.specs.Calls.{library_kind, library_node, library, returned, tick_returned}
+use Rattle.check_operands.specs.declared.operand.Operand.{Operand}
+use Rattle.check_operands.specs.declared.operand.Place.{Place}
+use Rattle.check_operands.specs.declared.operand.Place.TheVariants as place
+use Rattle.check_operands.specs.declared.operand.Value.{Value}
+use Rattle.check_operands.specs.Operands.{value_of}
+use Rattle.check_operands.specs.declared.arguments.Argument.{Argument}
+use Rattle.check_operands.specs.declared.arguments.Arguments.{Arguments}
+use Rattle.check_operands.specs.declared.arguments.Callee.{Callee}
+use Rattle.check_operands.specs.declared.arguments.Callee.TheVariants as callee
+use Rattle.check_operands.specs.Places.{narrowing_of, narrowed}
+use Rattle.check_operands.specs.Calls.{with_argument, any_mismatches, any_void, called_breaks_at, called_breaks_by}
+use Rattle.check_operands.specs.Calls.{called_breaks, call_node, called, through, static_number, call_by, call}
+use Rattle.check_operands.specs.Calls.{library_kind, library_node, library, returned, tick_returned}
 use Rattle.wellformed.proofs.Bools.{first_false, second_false}
 use Rattle.wf_values.specs.Used.{Leaves, EachLeaves, UsedAs, IsUsedValue, IsUsed, EachUsedAs, AreUsed, library_answers}
 use Rattle.wf_values.specs.Used.{takes_one_at, takes_one_by, IsLibrary, Unless}

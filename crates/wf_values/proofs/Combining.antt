@@ -5,11 +5,11 @@ use Rattle.c_types.specs.declared.ctype.Integer.{Integer}
 use Rattle.c_types.specs.Types.{pointed_size, same}
 use Rattle.check_types.specs.Shapes.{integer_of, is_void, is_pointer}
 use Rattle.tick_tree.specs.declared.base.BinaryOp.{BinaryOp}
-use Rattle.check_operators.specs.declared.operators.Combined.{Combined}
-use Rattle.check_operators.specs.declared.operators.Combined.TheVariants as by_form
-use Rattle.check_operators.specs.Operators.{combine, combine_by, comparing, comparable, is_comparison, is_sum}
-use Rattle.check_operators.specs.Operators.{is_difference, scaled_left, divided}
-use Rattle.check_lvalues.specs.Places.{comes_back}
+use Rattle.check_operands.specs.declared.combined.Combined.{Combined}
+use Rattle.check_operands.specs.declared.combined.Combined.TheVariants as by_form
+use Rattle.check_operands.specs.Operators.{combine, combine_by, comparing, comparable, is_comparison, is_sum}
+use Rattle.check_operands.specs.Operators.{is_difference, scaled_left, divided}
+use Rattle.check_operands.specs.Places.{comes_back}
 use Rattle.wellformed.proofs.Bools.{first_true, second_true}
 use Rattle.wf_values.proofs.Types.{integer_not_void, pointer_not_void}
 

@@ -25,7 +25,7 @@ use Rattle.tick_tree.specs.declared.fault.FaultKind.{FaultKind}
 use Rattle.tick_tree.specs.declared.fault.FaultKind.TheVariants as fault
 use Rattle.tick_tree.specs.Faults.{number}
 use Rattle.check_types.specs.Shapes.{is_vspec_layer, is_vspec, is_void, integer, void, over, inner}
-use Rattle.check_lvalues.specs.Calls.{library_kind}
+use Rattle.check_operands.specs.Calls.{library_kind}
 use Rattle.wf_values.specs.Used.{declares, library_answers, takes_one_at, takes_one_by, takes_one, listed_at, listed_by}
 use Rattle.wf_values.specs.Used.{listed, library_count, IsLibrary}
 use Rattle.wf_values.specs.Laws.{TypesUse, LibraryUses}

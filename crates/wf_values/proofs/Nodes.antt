@@ -13,7 +13,7 @@ use Rattle.typed_tree.specs.declared.expression.Library.{Library}
 use Rattle.typed_tree.specs.declared.expression.Expr.{Expr}
 use Rattle.typed_tree.specs.declared.expression.Expr.TheVariants as ex
 use Rattle.typed_tree.specs.Sizes.{is_value, answers}
-use Rattle.check_lvalues.specs.Calls.{answer_of}
+use Rattle.check_operands.specs.Calls.{answer_of}
 use Rattle.wellformed.specs.Values.{Use, used, all_used, same, value_use, is_right}
 use Rattle.wellformed.proofs.Uses.{value_use_const, value_use_captured, value_use_var, value_use_setvar}
 use Rattle.wellformed.proofs.Uses.{value_use_postvar, value_use_vget, value_use_vset, value_use_vpost, value_use_frame}

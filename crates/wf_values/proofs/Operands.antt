@@ -13,13 +13,13 @@ use Rattle.check_types.specs.Shapes.{promoted}
 use Rattle.tick_tree.specs.declared.fault.FaultKind.TheVariants as fault
 use Rattle.typed_tree.specs.declared.expression.Expr.{Expr}
 use Rattle.typed_tree.specs.declared.expression.Expr.TheVariants as ex
-use Rattle.check_operators.specs.declared.operand.Operand.{Operand}
-use Rattle.check_operators.specs.declared.operand.Place.{Place}
-use Rattle.check_operators.specs.declared.operand.Place.TheVariants as place
-use Rattle.check_operators.specs.declared.operand.Value.{Value}
-use Rattle.check_operators.specs.Operands.{code_of, value_of, as_operand, at_address, settled, converted, converted_by}
-use Rattle.check_operators.specs.Operands.{number, number_kind, character, string, size_by, condition, switched, plus}
-use Rattle.check_operators.specs.Operands.{on_integer, pointer_breaks, dereferenced, negated, cast, effect, unless_kind}
+use Rattle.check_operands.specs.declared.operand.Operand.{Operand}
+use Rattle.check_operands.specs.declared.operand.Place.{Place}
+use Rattle.check_operands.specs.declared.operand.Place.TheVariants as place
+use Rattle.check_operands.specs.declared.operand.Value.{Value}
+use Rattle.check_operands.specs.Operands.{code_of, value_of, as_operand, at_address, settled, converted, converted_by}
+use Rattle.check_operands.specs.Operands.{number, number_kind, character, string, size_by, condition, switched, plus}
+use Rattle.check_operands.specs.Operands.{on_integer, pointer_breaks, dereferenced, negated, cast, effect, unless_kind}
 use Rattle.wellformed.specs.Values.{is_right}
 use Rattle.wf_values.specs.Used.{Leaves, UsedAs, IsUsedValue, InMemory, UsedPlace, IsUsed, Unless}
 use Rattle.wf_values.specs.Laws.{OperandsUse, PrefixesUse}

@@ -12,15 +12,15 @@ use Rattle.tick_tree.specs.declared.base.BinaryOp.TheVariants as op
 use Rattle.tick_tree.specs.declared.fault.FaultKind.TheVariants as fault
 use Rattle.typed_tree.specs.declared.expression.Expr.{Expr}
 use Rattle.typed_tree.specs.declared.expression.Expr.TheVariants as ex
-use Rattle.check_operators.specs.declared.operand.Value.{Value}
-use Rattle.check_operators.specs.declared.operators.Combined.{Combined}
-use Rattle.check_operators.specs.declared.operators.Combined.TheVariants as by_form
-use Rattle.check_operators.specs.declared.operators.Joined.{Joined}
-use Rattle.check_operators.specs.declared.operators.Joined.TheVariants as joined
-use Rattle.check_operators.specs.Operands.{comma}
-use Rattle.check_operators.specs.Operators.{scaled, built, type_of, binary_by, combine, arithmetic, logic_breaks, both}
-use Rattle.check_operators.specs.Operators.{either, binary, index_by, index, joined_by, type_joined, choice_by}
-use Rattle.check_operators.specs.Operators.{joined_type, choice}
+use Rattle.check_operands.specs.declared.operand.Value.{Value}
+use Rattle.check_operands.specs.declared.combined.Combined.{Combined}
+use Rattle.check_operands.specs.declared.combined.Combined.TheVariants as by_form
+use Rattle.check_operands.specs.declared.combined.Joined.{Joined}
+use Rattle.check_operands.specs.declared.combined.Joined.TheVariants as joined
+use Rattle.check_operands.specs.Operands.{comma}
+use Rattle.check_operands.specs.Operators.{scaled, built, type_of, binary_by, combine, arithmetic, logic_breaks, both}
+use Rattle.check_operands.specs.Operators.{either, binary, index_by, index, joined_by, type_joined, choice_by}
+use Rattle.check_operands.specs.Operators.{joined_type, choice}
 use Rattle.wellformed.proofs.Bools.{first_false, second_false}
 use Rattle.wf_values.specs.Used.{Leaves, IsUsedValue, IsUsed, Unless}
 use Rattle.wf_values.specs.Laws.{OperatorsUse}

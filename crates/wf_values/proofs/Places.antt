@@ -10,18 +10,18 @@ use Rattle.tick_tree.specs.declared.base.StepOp.{StepOp}
 use Rattle.tick_tree.specs.declared.fault.FaultKind.TheVariants as fault
 use Rattle.typed_tree.specs.declared.expression.Expr.{Expr}
 use Rattle.typed_tree.specs.declared.expression.Expr.TheVariants as ex
-use Rattle.check_operators.specs.declared.operand.Operand.{Operand}
-use Rattle.check_operators.specs.declared.operand.Place.{Place}
-use Rattle.check_operators.specs.declared.operand.Place.TheVariants as place
-use Rattle.check_operators.specs.declared.operand.Value.{Value}
-use Rattle.check_operators.specs.declared.operators.Combined.{Combined}
-use Rattle.check_operators.specs.declared.operators.Combined.TheVariants as by_form
-use Rattle.check_operators.specs.Operands.{converted}
-use Rattle.check_operators.specs.Operators.{built, combine}
-use Rattle.check_lvalues.specs.Places.{is_place, place_breaks, void_breaks, mismatches, assign_breaks, stored, assign}
-use Rattle.check_lvalues.specs.Places.{operator_of, comes_back, narrowing_of, narrowed, kind_in, right_in, changed}
-use Rattle.check_lvalues.specs.Places.{modified, modify_by, modify, step_of, step_kind, stepped_by, stepped, amount}
-use Rattle.check_lvalues.specs.Places.{posted, post_by, post, address_of, address}
+use Rattle.check_operands.specs.declared.operand.Operand.{Operand}
+use Rattle.check_operands.specs.declared.operand.Place.{Place}
+use Rattle.check_operands.specs.declared.operand.Place.TheVariants as place
+use Rattle.check_operands.specs.declared.operand.Value.{Value}
+use Rattle.check_operands.specs.declared.combined.Combined.{Combined}
+use Rattle.check_operands.specs.declared.combined.Combined.TheVariants as by_form
+use Rattle.check_operands.specs.Operands.{converted}
+use Rattle.check_operands.specs.Operators.{built, combine}
+use Rattle.check_operands.specs.Places.{is_place, place_breaks, void_breaks, mismatches, assign_breaks, stored, assign}
+use Rattle.check_operands.specs.Places.{operator_of, comes_back, narrowing_of, narrowed, kind_in, right_in, changed}
+use Rattle.check_operands.specs.Places.{modified, modify_by, modify, step_of, step_kind, stepped_by, stepped, amount}
+use Rattle.check_operands.specs.Places.{posted, post_by, post, address_of, address}
 use Rattle.wf_values.specs.Used.{Leaves, IsUsedValue, UsedPlace, IsUsed, Unless}
 use Rattle.wf_values.specs.Laws.{PlacesUse}
 use Rattle.wf_values.proofs.Broken.{unless_by, no_fault, no_other, is_so, no_first}

@@ -4,8 +4,8 @@ use Rattle.c_types.specs.declared.ctype.CType.{CType}
 use Rattle.c_types.specs.declared.ctype.Layer.TheVariants as layer
 use Rattle.check_types.specs.Shapes.{is_void, is_word, promoted}
 use Rattle.tick_tree.specs.declared.fault.FaultKind.TheVariants as fault
-use Rattle.check_operators.specs.declared.operand.Value.{Value}
-use Rattle.check_operators.specs.Stages.{specification, dollar, compiles_to, compile, local, parameter}
+use Rattle.check_operands.specs.declared.operand.Value.{Value}
+use Rattle.check_operands.specs.Stages.{specification, dollar, compiles_to, compile, local, parameter}
 use Rattle.wf_values.specs.Used.{IsUsedValue, IsUsed, Unless}
 use Rattle.wf_values.specs.Laws.{IsCaptured, StagesUse}
 use Rattle.wf_values.proofs.Broken.{unless_by, no_other, no_first, not_void, value_left}

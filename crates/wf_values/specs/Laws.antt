@@ -17,14 +17,14 @@ use Rattle.typed_tree.specs.declared.expression.CaptureKind.{CaptureKind}
 use Rattle.typed_tree.specs.declared.expression.CapturedWord.{CapturedWord}
 use Rattle.typed_tree.specs.declared.expression.Expr.{Expr}
 use Rattle.typed_tree.specs.declared.expression.Expr.TheVariants as ex
-use Rattle.check_operators.specs.declared.operand.Operand.{Operand}
-use Rattle.check_operators.specs.declared.operand.Value.{Value}
-use Rattle.check_operators.specs.Operands as nodes
-use Rattle.check_operators.specs.Operators as operators
-use Rattle.check_operators.specs.Stages as stages
-use Rattle.check_lvalues.specs.declared.calls.Arguments.{Arguments}
-use Rattle.check_lvalues.specs.Calls as calls
-use Rattle.check_lvalues.specs.Places as places
+use Rattle.check_operands.specs.declared.operand.Operand.{Operand}
+use Rattle.check_operands.specs.declared.operand.Value.{Value}
+use Rattle.check_operands.specs.Operands as nodes
+use Rattle.check_operands.specs.Operators as operators
+use Rattle.check_operands.specs.Stages as stages
+use Rattle.check_operands.specs.declared.arguments.Arguments.{Arguments}
+use Rattle.check_operands.specs.Calls as calls
+use Rattle.check_operands.specs.Places as places
 use Rattle.wellformed.specs.Values.{is_right}
 use Rattle.wf_values.specs.Used.{declares, Leaves, EachLeaves, UsedAs, IsUsedValue, IsUsed, AreUsed, IsLibrary, Unless}
 

@@ -1,4 +1,4 @@
-use Rattle.check_walk_spec.specs.Walk.{declaration}
+use Rattle.check_rules.specs.Walk.{declaration}
 use Rattle.wf_growth_rules.proofs.Declarations as d
 use Rattle.wf_growth_rules.proofs.Tree.{expr_light, stmt_light, suffix_light, declaration_light, declarator_light}
 use Rattle.wf_growth_rules.proofs.Tree.{parameter_light, typename_light}

@@ -1,9 +1,9 @@
 use Rattle.std.proofs.Common.{◌≡◌, ◌&&◌, true, ap, sym, ◌∙◌, subst}
 use Rattle.std.specs.Prelude.{if◌then◌else◌}
 use Rattle.tick_tree.specs.Faults.{Checks}
-use Rattle.check_lvalues.specs.Calls as calls
-use Rattle.check_expressions_spec.specs.Productions as spec
-use Rattle.check_expressions_spec.specs.Productions.{call_node}
+use Rattle.check_operands.specs.Calls as calls
+use Rattle.check_rules.specs.Productions as spec
+use Rattle.check_rules.specs.Productions.{call_node}
 use Rattle.check_expressions.proofs.calls.call_node.Goals as goal
 
 pub returns-then-branch : goal.returns-then-branch

@@ -1,4 +1,0 @@
-pub mod Blocks
-pub mod Locals
-pub mod Names
-pub mod Starts

@@ -1,9 +1,0 @@
-use Rattle.std.proofs.Common.{◌≡◌, drop, map}
-use Rattle.check_programs_spec.specs.Program as spec
-use Rattle.check_walk_spec.specs.Walk as walks
-use Rattle.check_programs.proofs.program.walked.Given as goal
-
--- the values so far, and those to come
-abbrev pub invariant-loop-e : goal.invariant-loop-e
-invariant-loop-e l = spec.walked (map walks.node (drop l.e-index l.list)) l.state ≡ spec.walked (map walks.node l.list)
-    l.fn.state

@@ -1,0 +1,12 @@
+pub mod Blocks
+pub mod Locals
+pub mod Names
+pub mod Starts
+pub mod Entries
+pub mod Productions
+pub mod ExpressionRules
+pub mod Declarations
+pub mod Initializers
+pub mod StatementRules
+pub mod Statements
+pub mod Walk

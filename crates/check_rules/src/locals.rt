@@ -1,0 +1,154 @@
+//! The declarations of variables and parameters.
+
+ghost use Rattle.std.specs.Prelude.{◌≡◌, IfOk};
+ghost use Rattle.check_rules.specs.Locals as spec;
+ghost use Rattle.check_rules.specs.Names.{Gives};
+ghost use Rattle.check_tables.specs.Walks.{Reads};
+
+use crate::names::{operand, place_by};
+use crate::state::{Stage, State};
+use c_types::{CType, TypeRef, copy_ctype};
+use check_operands::{Operand, Place};
+use check_scopes::{Meaning, MeaningKind};
+use check_tables::{Frame, Home};
+use std::alloc::{AllocError, Global};
+use tick_tree::Deny;
+
+// What a name of this type means.
+fn meaning(alloc: Global, kind: MeaningKind, t: &TypeRef, n: u32) -> Result<Meaning, AllocError>
+    ensures { IfOk result (λ m. m ≡ spec.meaning kind t.now n) }
+{
+    Ok(Meaning {
+        kind,
+        ctype: c_types::copy(alloc, t)?,
+        index: n,
+    })
+}
+
+// What a parameter of a list means, in the lengths behind it.
+fn list_meaning(
+    alloc: Global,
+    stage: Stage,
+    t: &CType,
+    frame: &Frame,
+) -> Result<Meaning, AllocError>
+    ensures { IfOk result (λ m. m ≡ spec.list_meaning stage t.now frame.now) }
+{
+    let t = TypeRef::share(alloc, copy_ctype(alloc, t)?)?;
+    match stage {
+        Stage::Function | Stage::Dollar => {
+            meaning(alloc, MeaningKind::Parameter, &t, frame.number())
+        }
+        Stage::Tick => meaning(alloc, MeaningKind::Variable, &t, frame.inner_number()),
+    }
+}
+
+fn next_home(frame: &Frame, t: &TypeRef) -> Home
+    ensures { result ≡ spec.next_home t.now frame.now }
+{
+    if frame.is_object(t) {
+        Home::Object(frame.object)
+    } else {
+        Home::Register
+    }
+}
+
+impl State {
+    fn made_outer(&mut self, alloc: Global, t: TypeRef) -> Result<Operand, AllocError>
+        ensures { Gives result self.new (spec.made_outer t self.old) }
+    {
+        let place = place_by(alloc, self.frame.number(), next_home(&self.frame, &t))?;
+        self.frame.variable(&t)?;
+        Ok(operand(place, t))
+    }
+
+    fn made_inner(&mut self, t: TypeRef) -> Result<Operand, AllocError>
+        ensures { Gives result self.new (spec.made_inner t self.old) }
+    {
+        let place = Place::Register(self.frame.inner);
+        self.frame.inner_variable()?;
+        Ok(operand(place, t))
+    }
+
+    #[tactic(auto, unfolding(crate::specs::Locals::outer_local))]
+    fn outer_local(
+        &mut self,
+        alloc: Global,
+        line: u32,
+        name: &[u8],
+        t: TypeRef,
+    ) -> Result<Operand, Deny>
+        ensures { Reads (spec.outer_local line name.now t self.old) result self.new }
+    {
+        let what = meaning(alloc, MeaningKind::Variable, &t, self.frame.number())?;
+        self.declare(line, name, what)?;
+        Ok(self.made_outer(alloc, t)?)
+    }
+
+    #[tactic(auto, unfolding(crate::specs::Locals::inner_local))]
+    fn inner_local(
+        &mut self,
+        alloc: Global,
+        line: u32,
+        name: &[u8],
+        t: TypeRef,
+    ) -> Result<Operand, Deny>
+        ensures { Reads (spec.inner_local line name.now t self.old) result self.new }
+    {
+        let what = meaning(alloc, MeaningKind::Variable, &t, self.frame.inner_number())?;
+        self.declare(line, name, what)?;
+        Ok(self.made_inner(t)?)
+    }
+
+    /// Declares a variable of a block of the function or the tick; what its name is from then on. Refused where the block
+    /// has the name already: Duplicate.
+    pub fn local(
+        &mut self,
+        alloc: Global,
+        stage: Stage,
+        line: u32,
+        name: &[u8],
+        t: TypeRef,
+    ) -> Result<Operand, Deny>
+        ensures { Reads (spec.local stage line name.now t self.old) result self.new }
+    {
+        match stage {
+            Stage::Function | Stage::Dollar => self.outer_local(alloc, line, name, t),
+            Stage::Tick => self.inner_local(alloc, line, name, t),
+        }
+    }
+
+    /// Declares a parameter of the function, which has a name. Refused where an earlier one has the name: Duplicate.
+    #[tactic(auto, unfolding(crate::specs::Locals::parameter))]
+    pub fn parameter(
+        &mut self,
+        alloc: Global,
+        line: u32,
+        name: &[u8],
+        t: TypeRef,
+    ) -> Result<(), Deny>
+        ensures { Reads (spec.parameter line name.now t self.old) result self.new }
+    {
+        let what = meaning(alloc, MeaningKind::Parameter, &t, self.frame.number())?;
+        self.declare(line, name, what)?;
+        self.frame.parameter(&t)?;
+        Ok(())
+    }
+
+    /// Declares a parameter of a list, which has a name: it is visible in the lengths behind it. Refused where the list has
+    /// the name already: Duplicate.
+    #[tactic(auto, unfolding(crate::specs::Locals::list_parameter))]
+    pub fn list_parameter(
+        &mut self,
+        alloc: Global,
+        stage: Stage,
+        line: u32,
+        name: &[u8],
+        t: &CType,
+    ) -> Result<(), Deny>
+        ensures { Reads (spec.list_parameter stage line name.now t.now self.old) result self.new }
+    {
+        let what = list_meaning(alloc, stage, t, &self.frame)?;
+        self.declare(line, name, what)
+    }
+}

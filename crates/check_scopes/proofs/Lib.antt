@@ -1,0 +1,4 @@
+pub mod Lookups
+pub mod Stack
+pub mod Tables
+pub mod Places

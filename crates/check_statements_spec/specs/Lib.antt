@@ -1,4 +1,0 @@
-pub mod Declarations
-pub mod Initializers
-pub mod Rules
-pub mod Statements

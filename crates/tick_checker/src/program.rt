@@ -1,0 +1,346 @@
+//! The walk over a program: variables, prototypes and functions at file scope.
+
+ghost use Rattle.std.specs.Prelude.{◌≡◌, ◌∷◌, map};
+ghost use Rattle.check_globals.specs.Functions.{given};
+ghost use Rattle.check_globals.specs.Statics.{row_begun};
+ghost use Rattle.check_tables.specs.Walks.{Reads};
+ghost use Rattle.check_globals.specs.Parameters as heads;
+ghost use Rattle.check_globals.specs.Program as spec;
+ghost use Rattle.check_rules.specs.Walk as walks;
+
+use crate::parameters::parameters_of;
+use c_types::TypeRef;
+use check_declarators::{Role, base_of, declared_type};
+use check_forms::string_of;
+use check_globals::{
+    Row, end, name_function, named_steps, prototype, static_list, static_text, static_value,
+    variable,
+};
+use check_rules::{Around, Stage, State};
+use check_statements::is_text;
+use check_types::{inner, is_function};
+use check_walk::{declarator, expression, items, with_start};
+use sqlite_items::{Boxed, Items};
+use std::alloc::Global;
+use tick_tree::{
+    Base, Declaration, Declarator, Deny, Expr, External, FaultKind, Init, Initializer, Parameter,
+    refused,
+};
+use typed_tree::Stmt;
+
+fn global_type(
+    alloc: Global,
+    state: &mut State,
+    line: u32,
+    base: Base,
+    d: &Declarator,
+    value: &Initializer,
+) -> Result<TypeRef, Deny>
+    ensures { Reads (spec.global_type line base (walks.shape d.now) (walks.initializer value.now) state.old) result state.new }
+{
+    let steps = declarator(alloc, state, Stage::Function, d)?;
+    let steps = with_start(named_steps(alloc, steps), value);
+    let t = declared_type(alloc, Role::FileScope, line, base_of(base), steps)?;
+    Ok(TypeRef::share(alloc, t)?)
+}
+
+// The values of a list, by the type of an element.
+#[tactic(auto, using(check_rules::proofs::Written::forms_of))]
+fn row(
+    alloc: Global,
+    state: &mut State,
+    t: &TypeRef,
+    start: Row,
+    list: &[Expr],
+) -> Result<Row, Deny>
+    ensures { Reads (spec.row (map walks.node list.now) t.now start state.old) result state.new }
+{
+    let mut row = start;
+    for e in list {
+        let o = expression(alloc, state, Stage::Function, e)?;
+        row = row.more(alloc, t, e, o)?;
+    }
+    Ok(row)
+}
+
+#[tactic(auto, using(check_rules::proofs::Loops::same_length))]
+fn listed(
+    alloc: Global,
+    state: &mut State,
+    line: u32,
+    at: u32,
+    t: &TypeRef,
+    list: &[Expr],
+) -> Result<(), Deny>
+    ensures { Reads (spec.static_list line at t.now (map walks.node list.now) state.old) result state.new }
+{
+    let element = inner(c_types::copy(alloc, t)?);
+    let row = row(alloc, state, &element, Row::new(alloc, t), list)?;
+    static_list(alloc, state, line, at, t, list, row)
+}
+
+#[tactic(auto, using(check_rules::proofs::Written::forms_of))]
+fn static_walked(
+    alloc: Global,
+    state: &mut State,
+    line: u32,
+    at: u32,
+    t: &TypeRef,
+    e: &Expr,
+) -> Result<(), Deny>
+    ensures { Reads (spec.static_walked line at t.now (walks.node e.now) state.old) result state.new }
+{
+    let o = expression(alloc, state, Stage::Function, e)?;
+    static_value(alloc, state, line, at, t, e, o)
+}
+
+#[tactic(auto, using(check_rules::proofs::Written::forms_of))]
+fn static_one(
+    alloc: Global,
+    state: &mut State,
+    line: u32,
+    at: u32,
+    t: &TypeRef,
+    e: &Expr,
+) -> Result<(), Deny>
+    ensures { Reads (spec.static_by line at t.now (walks.node e.now) (walks.node e.now).written.string state.old) result state.new }
+{
+    match string_of(e) {
+        None => static_walked(alloc, state, line, at, t, e),
+        Some(bytes) => {
+            if is_text(t) {
+                static_text(alloc, state, line, at, t, bytes.as_slice())
+            } else {
+                static_walked(alloc, state, line, at, t, e)
+            }
+        }
+    }
+}
+
+#[tactic(auto, using(check_rules::proofs::Equations::initializers))]
+fn static_begin(
+    alloc: Global,
+    state: &mut State,
+    line: u32,
+    at: u32,
+    t: &TypeRef,
+    value: &Initializer,
+) -> Result<(), Deny>
+    ensures { Reads (spec.static_begin line at t.now (walks.initializer value.now) state.old) result state.new }
+{
+    match value {
+        Initializer::Absent => Ok(()),
+        Initializer::Value(e) => static_one(alloc, state, line, at, t, e),
+        Initializer::List(list, _) => listed(alloc, state, line, at, t, list.as_slice()),
+    }
+}
+
+#[tactic(auto, using(check_rules::proofs::Written::forms_of))]
+fn begin_variable(
+    alloc: Global,
+    state: &mut State,
+    line: u32,
+    t: &TypeRef,
+    d: &Declarator,
+    value: &Initializer,
+) -> Result<(), Deny>
+    ensures { Reads (spec.variable line t.now (walks.shape d.now) (walks.initializer value.now) state.old) result state.new }
+{
+    let at = variable(alloc, state, line, d, t)?;
+    static_begin(alloc, state, line, at, t, value)
+}
+
+fn walked(alloc: Global, state: &mut State, list: &[Expr]) -> Result<(), Deny>
+    ensures { Reads (spec.walked (map walks.node list.now) state.old) result state.new }
+{
+    for e in list {
+        expression(alloc, state, Stage::Function, e)?;
+    }
+    Ok(())
+}
+
+#[tactic(auto, using(check_rules::proofs::Equations::initializers))]
+fn no_start(alloc: Global, state: &mut State, line: u32, value: &Initializer) -> Result<(), Deny>
+    ensures { Reads (spec.no_start line (walks.initializer value.now) state.old) result state.new }
+{
+    match value {
+        Initializer::Absent => Ok(()),
+        Initializer::Value(e) => {
+            expression(alloc, state, Stage::Function, e)?;
+            refused(FaultKind::TypeMismatch, line)
+        }
+        Initializer::List(list, _) => {
+            walked(alloc, state, list.as_slice())?;
+            refused(FaultKind::TypeMismatch, line)
+        }
+    }
+}
+
+#[tactic(auto, using(check_rules::proofs::Written::forms_of))]
+fn begin_prototype(
+    alloc: Global,
+    state: &mut State,
+    line: u32,
+    t: &TypeRef,
+    d: &Declarator,
+    value: &Initializer,
+) -> Result<(), Deny>
+    ensures { Reads (spec.prototype line t.now (walks.shape d.now) (walks.initializer value.now) state.old) result state.new }
+{
+    prototype(alloc, state, line, d, t)?;
+    no_start(alloc, state, line, value)
+}
+
+fn global_parts(
+    alloc: Global,
+    state: &mut State,
+    line: u32,
+    base: Base,
+    d: &Declarator,
+    value: &Initializer,
+) -> Result<(), Deny>
+    ensures { Reads (spec.global_parts line base (walks.shape d.now) (walks.initializer value.now) state.old) result state.new }
+{
+    let t = global_type(alloc, state, line, base, d, value)?;
+    if is_function(&t) {
+        begin_prototype(alloc, state, line, &t, d, value)
+    } else {
+        begin_variable(alloc, state, line, &t, d, value)
+    }
+}
+
+#[tactic(auto, using(crate::proofs::Parts::globals))]
+fn global(alloc: Global, state: &mut State, line: u32, base: Base, init: &Init) -> Result<(), Deny>
+    ensures { Reads (spec.global line base (walks.init init.now) state.old) result state.new }
+{
+    global_parts(alloc, state, line, base, &init.declarator, &init.value)
+}
+
+fn globals(
+    alloc: Global,
+    state: &mut State,
+    line: u32,
+    base: Base,
+    list: &[Init],
+) -> Result<(), Deny>
+    ensures { Reads (spec.globals line base (map walks.init list.now) state.old) result state.new }
+{
+    for init in list {
+        global(alloc, state, line, base, init)?;
+    }
+    Ok(())
+}
+
+#[tactic(auto, using(crate::proofs::Parts::globals))]
+fn declared(alloc: Global, state: &mut State, d: &Declaration) -> Result<(), Deny>
+    ensures { Reads (spec.declared (walks.declaration d.now) state.old) result state.new }
+{
+    globals(alloc, state, d.line, d.base, d.inits.as_slice())
+}
+
+fn function_type(
+    alloc: Global,
+    state: &mut State,
+    line: u32,
+    base: Base,
+    d: &Declarator,
+) -> Result<TypeRef, Deny>
+    ensures { Reads (spec.function_type line base (walks.shape d.now) state.old) result state.new }
+{
+    let steps = declarator(alloc, state, Stage::Function, d)?;
+    let steps = named_steps(alloc, steps);
+    let t = declared_type(alloc, Role::FileScope, line, base_of(base), steps)?;
+    Ok(TypeRef::share(alloc, t)?)
+}
+
+fn around() -> Around
+    ensures { result ≡ spec.around }
+{
+    Around {
+        stage: Stage::Function,
+        in_loop: false,
+        in_switch: false,
+        is_direct: false,
+    }
+}
+
+fn begun(
+    alloc: Global,
+    state: &mut State,
+    t: &TypeRef,
+    list: &[Parameter],
+    block: &[tick_tree::Stmt],
+) -> Result<Items<Stmt>, Deny>
+    ensures { Reads (spec.begun t.now (map given list.now) (map walks.item block.now) state.old) result state.new }
+{
+    check_globals::begin(alloc, state, t, list)?;
+    items(alloc, state, around(), block)
+}
+
+fn body(
+    alloc: Global,
+    state: &mut State,
+    t: &TypeRef,
+    list: &[Parameter],
+    block: &[tick_tree::Stmt],
+) -> Result<Boxed<Stmt>, Deny>
+    ensures { Reads (spec.body t.now (map given list.now) (map walks.item block.now) state.old) result state.new }
+{
+    let depth = state.depth();
+    let outer = state.enter(alloc)?;
+    let nodes = begun(alloc, state, t, list, block)?;
+    let variables = state.leave(depth, outer)?;
+    Ok(Boxed::new(alloc, Stmt::Block(variables, nodes))?)
+}
+
+#[tactic(auto, using(check_rules::proofs::Written::forms_of))]
+fn function_rest(
+    alloc: Global,
+    state: &mut State,
+    line: u32,
+    t: &TypeRef,
+    d: &Declarator,
+    block: &[tick_tree::Stmt],
+) -> Result<(), Deny>
+    ensures { Reads (spec.function_rest line t.now (walks.shape d.now) (heads.parameters_of d.now) (map walks.item block.now) state.old) result state.new }
+{
+    let node = body(alloc, state, t, parameters_of(d), block)?;
+    end(alloc, state, line, d, t, node)
+}
+
+#[tactic(auto, using(check_rules::proofs::Written::forms_of))]
+fn function(
+    alloc: Global,
+    state: &mut State,
+    line: u32,
+    base: Base,
+    d: &Declarator,
+    block: &[tick_tree::Stmt],
+) -> Result<(), Deny>
+    ensures { Reads (spec.function line base (walks.shape d.now) (heads.parameters_of d.now) (map walks.item block.now) state.old) result state.new }
+{
+    let t = function_type(alloc, state, line, base, d)?;
+    name_function(alloc, state, line, d, &t)?;
+    function_rest(alloc, state, line, &t, d, block)
+}
+
+fn external(alloc: Global, state: &mut State, x: &External) -> Result<(), Deny>
+    ensures { Reads (spec.external x.now state.old) result state.new }
+{
+    match x {
+        External::Function(line, base, d, block) => {
+            function(alloc, state, *line, *base, d, block.as_slice())
+        }
+        External::Declaration(d) => declared(alloc, state, d),
+    }
+}
+
+/// The walk over the items of a program.
+pub(crate) fn walk(alloc: Global, state: &mut State, list: &[External]) -> Result<(), Deny>
+    ensures { Reads (spec.walk list.now state.old) result state.new }
+{
+    for x in list {
+        external(alloc, state, x)?;
+    }
+    Ok(())
+}

@@ -1,5 +1,0 @@
-use Rattle.wf_expressions.proofs.Walk.{walk_does}
-use Rattle.wf_expressions.proofs.expressions_do.Goals as goal
-
-pub returns : goal.returns
-returns c = record { does = λ many x h g. walk_does many x h g }

@@ -1,4 +1,0 @@
-pub mod Declarators
-pub mod Fixed
-pub mod Forms
-pub mod Induction

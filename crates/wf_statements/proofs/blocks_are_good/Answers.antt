@@ -1,5 +1,0 @@
-use Rattle.wf_statements.proofs.Assembly.{block_good}
-use Rattle.wf_statements.proofs.blocks_are_good.Goals as goal
-
-pub returns : goal.returns
-returns c = λ many items a may direct h few. block_good items a may direct h few

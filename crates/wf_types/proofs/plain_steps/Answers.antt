@@ -1,9 +1,0 @@
-use Rattle.wf_types.proofs.Plain.{plain_refl, plain_more, plain_keeps}
-use Rattle.wf_types.proofs.plain_steps.Goals as goal
-
-pub returns : goal.returns
-returns c = record {
-  none = plain_refl;
-  more = λ g s t new p q. plain_more p q;
-  keeps = λ g s new p. plain_keeps p;
-}

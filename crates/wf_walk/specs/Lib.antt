@@ -1,0 +1,16 @@
+pub mod Captured
+pub mod Counts
+pub mod Good
+pub mod Items
+pub mod Kept
+pub mod Known
+pub mod Steps
+pub mod TypeLaws
+pub mod Parts
+pub mod ExpressionLaws
+pub mod StatementLaws
+pub mod StatementParts
+pub mod Asked
+pub mod FixedLaws
+pub mod CaptureLaws
+pub mod Named
