@@ -340,13 +340,16 @@ impl Table {
         self.all.is_empty() && self.buckets.is_empty()
     }
 
+    // Whether it has no name.
+    fn is_empty(&self) -> bool
+        ensures { IsTrue result ↔ (self.now ≡ []) }
+    {
+        self.all.is_empty()
+    }
+
     fn find(&self, name: &Wanted<'_>) -> Option<&Meaning>
         ensures { option_copied result ≡ spec.in_scope self.now name.now }
     {
-        // (most scopes have few names, and none here)
-        if self.all.is_empty() {
-            return None;
-        }
         let all = self.all.as_slice();
         match near(all, self.buckets.as_slice(), name) {
             Some(found) => Some(found),
@@ -379,7 +382,7 @@ impl Table {
 }
 
 // How many names of an inner scope are looked for one by one: most have fewer, and need no table.
-const FEW: usize = 8;
+const FEW: usize = 16;
 
 // The names of one scope, in the order of their declarations: first those that are looked for one by one.
 struct Scope {
@@ -434,6 +437,7 @@ impl Scope {
     {
         match look_for(self.few.as_slice(), name) {
             Some(found) => Some(found),
+            None if self.more.is_empty() => None,
             None => self.more.find(name),
         }
     }
