@@ -230,6 +230,7 @@ fn is_function_layer(last: Option<&Layer>) -> bool
 /// The type of a value whose place has this type: an array becomes a pointer to its first element, and a function a pointer to
 /// itself.
 #[tactic(auto, unfolding(crate::specs::Making::decayed))]
+#[inline(never)]
 pub fn decayed(t: TypeRef) -> Result<TypeRef, AllocError>
     ensures { IfOk result (λ c. c ≡ spec.decayed t) }
 {

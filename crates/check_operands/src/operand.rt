@@ -79,11 +79,16 @@ pub fn value_of(alloc: Global, o: Operand) -> Result<Value, AllocError>
 {
     let Operand { place, ctype, zero } = o;
     let code = code_of(alloc, place, &ctype)?;
-    let ctype = decayed(ctype)?;
-    Ok(Value { code, ctype, zero })
+    if decays(&ctype) {
+        let ctype = decayed(ctype)?;
+        Ok(Value { code, ctype, zero })
+    } else {
+        Ok(Value { code, ctype, zero })
+    }
 }
 
 /// The values of two operands.
+#[inline(always)]
 #[tactic(auto, unfolding(crate::specs::Operands::values))]
 pub fn values(alloc: Global, a: Operand, b: Operand) -> Result<(Value, Value), AllocError>
     ensures { IfOk result (λ found. found ≡ spec.values a b) }
