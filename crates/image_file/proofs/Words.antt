@@ -20,6 +20,7 @@ use Rattle.std.proofs.Common.{
   take,
   drop,
   arith,
+  rules,
   refl,
   ap,
   sym,
@@ -38,10 +39,17 @@ use Rattle.std.specs.List.{list_all, flat_map}
 use Rattle.std.proofs.Math.Seq.{drop-cons, take-add, drop-append_seam, take-append_seam}
 use Rattle.std.proofs.lemmas.List.{get_or-append-add}
 use Rattle.std.proofs.lemmas.List.Folds.{list_all-append}
+use Rattle.byteorder.specs.Endian.{big_bytes}
 use Rattle.image_file.specs.Image.{is_function_in}
 use Rattle.word32.specs.Bytes.{word_in}
 use Rattle.image_file.specs.Format.{word_bytes, function_bytes, words_in, function_in, functions_in}
 use Rattle.image_file.specs.declared.image.FunctionEntry.{FunctionEntry}
+
+-- the four bytes of a word, as byteorder has them
+big_word : (w : ℕ) → w < 4294967296 → big_bytes 4 w ≡ word_bytes w
+big_word w low =
+    let e : w / 16777216 % 256 ≡ w / 16777216 = omega arith in
+    search rules
 
 -- the four bytes of a word, of bytes that are bytes
 pub four : (a b c d : ℕ) → a < 256 → b < 256 → c < 256 → d < 256 →
@@ -271,3 +279,11 @@ part_at pre x post at n e f =
     let there : drop at (pre ++ (x ++ post)) ≡ x ++ post
     = ap (λ k. drop k (pre ++ (x ++ post))) (sym e) ∙ drop-append_seam pre (x ++ post) in
     ap (take n) there ∙ (ap (λ k. take k (x ++ post)) (sym f) ∙ take-append_seam x post)
+
+-- the bytes of words, as byteorder writes them
+pub big_words : (ws : List ℕ) → ((i : ℕ) → slice_index ws i < 4294967296)
+    → flat_map (big_bytes 4) ws ≡ flat_map word_bytes ws
+big_words [] fits = refl
+big_words (w ∷ ws) fits =
+    ap (λ (bytes : List ℕ). bytes ++ flat_map (big_bytes 4) ws) (big_word w (fits 0))
+    ∙ ap (λ (bytes : List ℕ). word_bytes w ++ bytes) (big_words ws (λ i. fits (suc i)))

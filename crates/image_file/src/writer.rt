@@ -1,6 +1,6 @@
 //! The bytes of an image.
 
-ghost use Rattle.std.specs.Prelude.{◌≡◌, ◌++◌, IfOk, OnOk, Ok};
+ghost use Rattle.std.specs.Prelude.{◌≡◌, ◌*◌, ◌≤◌, ◌++◌, length, IfOk, OnOk, Ok};
 ghost use Rattle.std.specs.List.{flat_map};
 ghost use Rattle.image_file.specs.Image.{IsImage};
 ghost use Rattle.image_file.specs.Format.{word_bytes, function_bytes, spelling, parsed};
@@ -8,6 +8,7 @@ ghost use Rattle.image_file.specs.Format.{word_bytes, function_bytes, spelling, 
 use crate::bytes::push_word;
 use crate::format::{HEADER_BYTES, MAGIC, VERSION};
 use crate::image::{FunctionEntry, Image};
+use byteorder::{BigEndian, ByteOrder};
 use std::alloc::{AllocError, Global};
 
 /// The bytes of the image file that holds this image: the image's one spelling, which `read` gives back. Memory is taken
@@ -43,12 +44,25 @@ fn spell(alloc: Global, image: &Image) -> Result<Vec<u8>, AllocError>
     Ok(out)
 }
 
+// Adds the bytes of words, which are put down in `room` first.
+fn push_chunk(out: &mut Vec<u8>, room: &mut [u8], words: &[u32]) -> Result<(), AllocError>
+    requires room { 4 * length words.now ≤ length room.old }
+    ensures room { length room.new ≡ length room.old }
+    ensures words { OnOk result (out.new.items ≡ out.old.items ++ flat_map word_bytes words.now) }
+{
+    let bytes = &mut room[..4 * words.len()];
+    BigEndian::write_u32_into(words, bytes);
+    out.extend_from_slice(bytes)?;
+    Ok(())
+}
+
 /// Adds the bytes of words.
 fn push_words(out: &mut Vec<u8>, words: &[u32]) -> Result<(), AllocError>
     ensures { OnOk result (out.new.items ≡ out.old.items ++ flat_map word_bytes words.now) }
 {
-    for w in words {
-        push_word(out, *w)?;
+    let mut room = [0u8; 1024];
+    for chunk in words.chunks(256) {
+        push_chunk(out, &mut room, chunk)?;
     }
     Ok(())
 }
