@@ -356,3 +356,35 @@ fresh-dropping x s w e f =
       spilled = rw
           t f.spilled;
     }
+
+-- what holds of all keepers but the last, and of the last, holds of each
+each-whole : (P : Keeper → Type 0) (ks : List Keeper) (w : Keeper) → last_of ks ≡ Some w → Each P (but_last ks) → P w
+    → Each P ks
+each-whole P [] w e h p = tt
+each-whole P (k ∷ []) w e h p = let kw : k ≡ w = cc in (subst P (sym kw) p, tt)
+each-whole P (k ∷ u ∷ us) w e h p = (h.0, each-whole P (u ∷ us) w e h.1 p)
+
+numbers-lack : (n : ℕ) (ks : List Keeper) → Each (λ k. k.number ≢ n) ks
+    → list_any (λ t. eqb n t) (numbers ks) ≡ false
+numbers-lack n [] h = refl
+numbers-lack n (k ∷ ks) h =
+    let a : eqb n k.number ≡ false = grind (arith, nat_tests, h.0) in rw a (numbers-lack n ks h.1)
+
+only-free : (ks : List Keeper) (w : Keeper) (m : ℕ) → length ks ≡ 12 → last_of ks ≡ Some w
+    → Pairs (λ k u. u.number ≢ k.number) ks → Each (λ k. k.number < 12) ks → m < 12
+    → Each (λ k. k.number ≢ m) (but_last ks) → (b : Bool) → eqb w.number m ≡ b → w.number ≡ m
+only-free ks w m n e differ low lt others true t = grind (arith, nat_tests)
+only-free ks w m n e differ low lt others false t =
+    let other : w.number ≢ m = λ q. grind (arith, nat_tests) in
+    let all = each-whole (λ k. k.number ≢ m) ks w e others other in
+    absurd (omega (arith, n, room-left m ks lt (numbers-lack m ks all) differ low))
+
+-- the number of the last of twelve keepers is the least that is free once that is spilled
+pub freed : (s : ScanState) (w : Keeper) (row : SortedList) (owners places : List ℕ) → length s.keepers ≡ 12
+    → last_of s.keepers ≡ Some w → Pairs (λ k u. u.number ≢ k.number) s.keepers
+    → Each (λ k. k.number < 12) s.keepers → Holds (dropping s w) row owners places
+    → w.number ≡ least_free 12 0 (ids row.items)
+freed s w row owners places n e differ low h =
+    let m = least_free 12 0 (ids row.items) in
+    let g = free-number (dropping s w) row owners places m h (omega (arith, n, length-but_last s.keepers w e)) refl in
+    only-free s.keepers w m n e differ low g.1 g.3 (eqb w.number m) refl

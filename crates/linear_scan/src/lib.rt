@@ -149,9 +149,9 @@ fn visit(keepers: &mut Row, owners: &mut [u32], places: &mut [u8], x: Interval)
         None => {}
         Some((last, end)) => {
             if x.end < end {
+                // the number of the last keeper is the only one that is free then
                 spill_last(keepers, owners, places, last);
-                let freed = free_number(keepers);
-                admit(keepers, owners, places, x, freed);
+                admit(keepers, owners, places, x, last);
             } else {
                 places[x.reg as usize] = SLOT;
             }

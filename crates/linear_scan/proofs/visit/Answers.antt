@@ -6,7 +6,7 @@ use Rattle.linear_scan_spec.proofs.Keepers.{length-but_last}
 use Rattle.linear_scan.specs.Held.{from_end, ApartIds, Holds}
 use Rattle.linear_scan.proofs.Holding.{apart-pairs, alive-holds, living, dropping, few-keepers, twelve-keepers}
 use Rattle.linear_scan.proofs.Holding.{fresh-living, fresh-dropping, last-pairs, last-none, visit-few, visit-last}
-use Rattle.linear_scan.proofs.Holding.{visit-pass, pass-holds}
+use Rattle.linear_scan.proofs.Holding.{visit-pass, pass-holds, freed}
 use Rattle.linear_scan.proofs.visit.Goals as goal
 
 -- after the row has let go of what ends early
@@ -74,6 +74,19 @@ admit-requires-then-x-end-clause-held c =
       omega
           (arith, n, length-but_last l.keepers w.0 w.1),
     )
+
+pub admit-requires-then-x-end-clause-free : goal.admit-requires-then-x-end-clause-free
+admit-requires-then-x-end-clause-free c =
+    let r = c.requires.held in
+    let l = living c.args.x.start r.0 in
+    let a = after c.args.x.start r.0 c.args.keepers.now c.expire.new.keepers c.args.owners.now
+    c.args.places.now r.1 c.expire.ensures in
+    let w = last-is l c.expire.new.keepers c.args.owners.now c.args.places.now c.last.result
+    (c.in-Some.last, c.in-Some.end) a c.last.ensures c.in-Some.is in
+    let n = twelve-keepers l c.expire.new.keepers c.args.owners.now c.args.places.now
+    c.free_number-number.result a c.free_number-number.ensures c.if-number-lt12.false in
+    sym w.2 ∙ freed l w.0 c.spill_last.new.keepers c.args.owners.now c.spill_last.new.places n w.1 a.differ a.low
+    (c.spill_last.ensures l w.0 a w.1 w.2)
 
 pub returns-in-None : goal.returns-in-None
 returns-in-None c s h f =
