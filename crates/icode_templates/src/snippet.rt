@@ -57,7 +57,7 @@ impl Snippet {
     }
 
     /// Puts the instruction's word at the end.
-    #[inline]
+    #[inline(always)]
     pub fn push(&mut self, i: Instr)
         requires { length self.old < 40 }
         ensures words { self.new ≡ self.old ++ word_of i ∷ [] }

@@ -9,6 +9,7 @@ use crate::instruction::Instr;
 use crate::operand::Immediate;
 
 /// The word of an instruction by the table of the architecture manual. `decode` reads it back as that instruction.
+#[inline(always)]
 pub fn encode(i: Instr) -> u32
     ensures word { result ≡ word_of i }
     ensures fits { Fits i }
@@ -39,6 +40,7 @@ fn with_immediate(opcode: u32, rs: u32, rt: u32, immediate: Immediate) -> u32
     opcode * 67108864 + rs * 2097152 + rt * 65536 + immediate.bits()
 }
 
+#[inline(always)]
 fn word(i: Instr) -> u32
     ensures word { result ≡ word_of i }
     ensures fits { Fits i }
