@@ -27,7 +27,14 @@ pub(crate) fn append(out: &mut [u32], filled: usize, words: &[u32]) -> usize
 
 // Writes the template of an op that goes to an address.
 #[tactic(auto, using(crate::proofs::Lengths::length_words, crate::proofs::Lengths::template_length))]
-fn write_op(op: Op, layout: &Layout, address: u32, out: &mut [u32], filled: usize) -> usize
+fn write_op(
+    code: &mut Snippet,
+    op: Op,
+    layout: &Layout,
+    address: u32,
+    out: &mut [u32],
+    filled: usize,
+) -> usize
     requires registers { InRange MOST_SLOTS op }
     requires frame { layout.now.frame ≤ STACK_BYTES }
     requires objects { layout.now.objects ≤ OBJECT_BYTES }
@@ -39,7 +46,7 @@ fn write_op(op: Op, layout: &Layout, address: u32, out: &mut [u32], filled: usiz
     ensures filled { result ≡ filled +
         length (template (laid layout.now.places.now layout.now.frame layout.now.objects) nowhere op) }
 {
-    let mut code = Snippet::new();
+    code.clear();
     code.add_op(op, layout, address);
     append(out, filled, code.words())
 }
@@ -68,9 +75,17 @@ pub(crate) fn write_ops(
     ensures filled { result ≡ filled +
         length (templates (laid layout.now.places.now layout.now.frame layout.now.objects) nowhere ops.now) }
 {
+    let mut code = Snippet::new();
     let mut end = filled;
     for op in ops {
-        end = write_op(*op, layout, target(op, labels, epilogue), out, end);
+        end = write_op(
+            &mut code,
+            *op,
+            layout,
+            target(op, labels, epilogue),
+            out,
+            end,
+        );
     }
     end
 }
