@@ -7,7 +7,7 @@ use host_edge::MemStore;
 use std::alloc::{AllocError, Global};
 use std::io::{self, Read};
 use tick_top::tick;
-use trial_seen::{seen_on, words_of};
+use trial_seen::{Streams, seen_with, words_of};
 
 // What stands before a call.
 #[derive(Clone, Copy, Drop)]
@@ -68,7 +68,8 @@ fn report<R: Print + AllocGlobal>(
         return Ok(());
     }
     put(rt.alloc(), store, before, content)?;
-    let seen = seen_on(rt.alloc(), tick, &words_of(rt.alloc(), line)?, store, b"")?;
+    let words = words_of(rt.alloc(), line)?;
+    let seen = seen_with(rt.alloc(), tick, &words, store, &Streams::of(b""))?;
     let out = str::from_utf8(&seen.out).unwrap_or("?");
     let err = str::from_utf8(&seen.err).unwrap_or("?");
     println!(rt;
@@ -91,17 +92,19 @@ fn begins(line: &[u8]) -> Option<(Before, &[u8])> {
     }
 }
 
-fn main(rt: HostRuntime) -> io::Result<()> {
-    let mut cases = Vec::new(rt.alloc());
-    rt.reader().read_to_end(&mut cases)?;
-    let mut store = MemStore::new(rt.alloc(), &[])?;
+// The calls of a file of cases, each on the files that the one before left.
+fn report_calls<R: Print + AllocGlobal>(
+    rt: &R,
+    cases: &[u8],
+    store: &mut MemStore,
+) -> io::Result<()> {
     let mut words: &[u8] = &[];
     let mut before = Before::Nothing;
     let mut content = Vec::new(rt.alloc());
     for line in cases.split(|b| *b == b'\n') {
         if let Some((next, next_words)) = begins(line) {
             let text = str::from_utf8(words).unwrap_or("?");
-            report(&rt, text, &before, &content, &mut store)?;
+            report(rt, text, &before, &content, store)?;
             before = next;
             words = next_words;
             content.clear();
@@ -111,5 +114,16 @@ fn main(rt: HostRuntime) -> io::Result<()> {
         }
     }
     let text = str::from_utf8(words).unwrap_or("?");
-    report(&rt, text, &before, &content, &mut store)
+    report(rt, text, &before, &content, store)
+}
+
+fn report_all<R: Print + AllocGlobal>(rt: &R, cases: &[u8]) -> io::Result<()> {
+    let mut store = MemStore::new(rt.alloc(), &[])?;
+    report_calls(rt, cases, &mut store)
+}
+
+fn main(rt: HostRuntime) -> io::Result<()> {
+    let mut cases = Vec::new(rt.alloc());
+    rt.reader().read_to_end(&mut cases)?;
+    report_all(&rt, &cases)
 }

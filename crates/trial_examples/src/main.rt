@@ -3,17 +3,27 @@
 //! `%< ` is a line of its input.
 #![tactic(auto)]
 
-use host_edge::MemStore;
 use std::alloc::{AllocError, Global};
 use std::io::{self, Read};
 use tick_top::tick;
 use trial_cases::{Case, cases};
-use trial_seen::{Seen, seen_on, words_of};
+use trial_seen::{Seen, Streams, seen_with, store_with, words_of};
 
 fn call(alloc: Global, line: &str, text: &[u8], given: &[u8]) -> Result<Seen, AllocError> {
-    let mut store = MemStore::new(alloc, &[])?;
-    store.put("text", text)?;
-    seen_on(alloc, tick, &words_of(alloc, line)?, &mut store, given)
+    let mut store = store_with(alloc, text)?;
+    let words = words_of(alloc, line)?;
+    seen_with(alloc, tick, &words, &mut store, &Streams::of(given))
+}
+
+fn show_call<R: Print + AllocGlobal>(
+    rt: &R,
+    name: &str,
+    line: &str,
+    text: &[u8],
+    given: &[u8],
+) -> io::Result<()> {
+    let seen = call(rt.alloc(), line, text, given)?;
+    seen.show(rt, name)
 }
 
 fn push_line(into: &mut Vec<u8>, line: &[u8]) -> Result<(), AllocError> {
@@ -31,17 +41,20 @@ fn report<R: Print + AllocGlobal>(rt: &R, case: &Case) -> io::Result<()> {
             None => push_line(&mut text, line)?,
         }
     }
-    let ran = call(rt.alloc(), "tick run text", &text, &given)?;
-    ran.show(rt, str::from_utf8(case.title).unwrap_or("?"))?;
-    let meant = call(rt.alloc(), "tick mean text", &text, &given)?;
-    meant.show(rt, "  means")
+    let name = str::from_utf8(case.title).unwrap_or("?");
+    show_call(rt, name, "tick run text", &text, &given)?;
+    show_call(rt, "  means", "tick mean text", &text, &given)
+}
+
+fn report_cases<R: Print + AllocGlobal>(rt: &R, file: &[u8]) -> io::Result<()> {
+    for case in &cases(rt.alloc(), file)? {
+        report(rt, case)?;
+    }
+    Ok(())
 }
 
 fn main(rt: HostRuntime) -> io::Result<()> {
     let mut file = Vec::new(rt.alloc());
     rt.reader().read_to_end(&mut file)?;
-    for case in &cases(rt.alloc(), &file)? {
-        report(&rt, case)?;
-    }
-    Ok(())
+    report_cases(&rt, &file)
 }

@@ -4,12 +4,11 @@
 //! empty input.
 #![tactic(auto)]
 
-use host_edge::MemStore;
 use std::alloc::{AllocError, Global};
 use std::io::{self, Read};
 use tick_top::{Outcome, status, tick};
 use trial_cases::cases;
-use trial_seen::{Seen, seen_on, words_of, words_within};
+use trial_seen::{Seen, Streams, seen_with, store_with, words_of, words_within};
 
 // The words of a call, of which those of the option are left out where it has no number.
 fn words_for(alloc: Global, line: &str, units: &str) -> Result<Vec<String>, AllocError> {
@@ -45,16 +44,15 @@ fn report<R: Print + AllocGlobal>(rt: &R, head: &[u8], text: &[u8]) -> io::Resul
     let units = str::from_utf8(words.next().unwrap_or(b"")).unwrap_or("?");
     let given = words.next().unwrap_or(b"");
     let name = str::from_utf8(words.next().unwrap_or(b"")).unwrap_or("?");
-    let bytes: &[u8] = if given == b"-".as_slice() { b"" } else { given };
-    let mut store = MemStore::new(alloc, &[])?;
-    store.put("text", text)?;
+    let streams = Streams::of(if given == b"-".as_slice() { b"" } else { given });
+    let mut store = store_with(alloc, text)?;
     let words = words_for(alloc, "tick mean text", units)?;
-    let meant = seen_on(alloc, tick, &words, &mut store, bytes)?;
+    let meant = seen_with(alloc, tick, &words, &mut store, &streams)?;
     let compared = match meant.outcome {
         Outcome::OutOfSteps(_) => "not compared",
         _ => {
             let words = words_of(alloc, "tick run text")?;
-            let ran = seen_on(alloc, tick, &words, &mut store, bytes)?;
+            let ran = seen_with(alloc, tick, &words, &mut store, &streams)?;
             comparison(&meant, &ran)
         }
     };

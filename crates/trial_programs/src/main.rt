@@ -10,7 +10,7 @@ use std::alloc::{AllocError, Global};
 use std::io::{self, Read};
 use tick_top::tick;
 use trial_cases::cases;
-use trial_seen::{Seen, seen_on, words_of, words_within};
+use trial_seen::{Seen, Streams, seen_with, store_with, words_of, words_within};
 
 // What a call within so many steps leaves.
 fn call(
@@ -20,13 +20,8 @@ fn call(
     store: &mut MemStore,
     given: &[u8],
 ) -> Result<Seen, AllocError> {
-    seen_on(
-        alloc,
-        tick,
-        &words_within(alloc, line, steps)?,
-        store,
-        given,
-    )
+    let words = words_within(alloc, line, steps)?;
+    seen_with(alloc, tick, &words, store, &Streams::of(given))
 }
 
 // A program under `run`, under `build` and then `exec`, and under `mean`, on a store of its own.
@@ -35,12 +30,11 @@ fn report<R: Print + AllocGlobal>(rt: &R, head: &[u8], text: &[u8]) -> io::Resul
     let mut words = head.split(|b| *b == b' ');
     let steps = str::from_utf8(words.next().unwrap_or(b"")).unwrap_or("?");
     let given = words.next().unwrap_or(b"");
-    let mut store = MemStore::new(alloc, &[])?;
-    store.put("text", text)?;
+    let mut store = store_with(alloc, text)?;
     let ran = call(alloc, "tick run text", steps, &mut store, given)?;
     ran.show(rt, "run")?;
     let build = words_of(alloc, "tick build text image")?;
-    seen_on(alloc, tick, &build, &mut store, b"")?;
+    seen_with(alloc, tick, &build, &mut store, &Streams::of(b""))?;
     let executed = call(alloc, "tick exec image", steps, &mut store, given)?;
     executed.show(rt, "exec")?;
     let meant = call(alloc, "tick mean text", steps, &mut store, given)?;

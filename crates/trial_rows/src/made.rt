@@ -1,11 +1,10 @@
 //! Counts of what a call made, and code that an image makes as it runs.
 
-use crate::{HELLO, shown};
-use host_edge::{MemSink, MemSource, MemStore};
+use crate::{HELLO, call, seen_in, shown, status_of};
+use host_edge::MemStore;
 use std::alloc::{AllocError, Global};
 use std::io;
-use tick_top::tick;
-use trial_seen::{ROOM, Seen, seen_by, seen_on, words_of};
+use trial_seen::{Seen, Streams, store_with};
 
 // A function of one parameter is made in the arena from its first word on: it answers the parameter and 7. Its four
 // registers are r0, which takes the parameter, r1, which gets it from there, the 7 and the sum. They take the places 0,
@@ -70,79 +69,87 @@ const BEGUN_TWICE: &str = ".entry 0x00400000
     syscall
 ";
 
-// A call that asks for the counts, on a standard error that fails at the listed calls: what it left.
-fn counted_call(
-    alloc: Global,
-    line: &str,
-    store: &mut MemStore,
-    fails: &[u64],
-) -> Result<Seen, AllocError> {
-    let words = words_of(alloc, line)?;
-    let mut input = MemSource::new(alloc, b"", &[])?;
-    let mut out = MemSink::new(alloc, ROOM, &[])?;
-    let mut err = MemSink::new(alloc, ROOM, fails)?;
-    seen_by(alloc, tick, &words, store, &mut input, &mut out, &mut err)
-}
-
-// A store with the file `text`.
-fn store_with(alloc: Global, text: &str) -> Result<MemStore, AllocError> {
-    let mut store = MemStore::new(alloc, &[])?;
-    store.put("text", text.as_bytes())?;
-    Ok(store)
-}
-
 fn counts_that_cannot_be_said<R: Print + AllocGlobal>(rt: &R) -> io::Result<()> {
-    let mut store = store_with(rt.alloc(), HELLO)?;
+    let streams = Streams {
+        failing_errs: &[0],
+        ..Streams::of(b"")
+    };
     shown(
         rt,
         "counts that cannot be said are a write fault",
-        counted_call(rt.alloc(), "tick run --stats text", &mut store, &[0]),
+        seen_in(
+            rt.alloc(),
+            "tick run --stats text",
+            HELLO.as_bytes(),
+            &streams,
+        ),
     )
 }
 
-fn a_saved_image<R: Print + AllocGlobal>(rt: &R) -> io::Result<()> {
-    let alloc = rt.alloc();
-    let mut store = store_with(alloc, HELLO)?;
-    let run = counted_call(alloc, "tick run text --stats", &mut store, &[])?;
-    let build = counted_call(alloc, "tick build text image", &mut store, &[])?;
-    let exec = counted_call(alloc, "tick exec image --stats", &mut store, &[])?;
+fn show_saved<R: Print>(rt: &R, run: &Seen, build: u8, exec: &Seen) -> io::Result<()> {
     let nothing = run
         .err
         .starts_with(b"ops=0 functions=0 words=0 flushes=0 spills=0 steps=");
     let same = exec.err.as_slice() == run.err.as_slice();
     println!(rt;
-        "a saved image has the counts of its text: {}, {}, {nothing}, {same}",
-        build.status(),
+        "a saved image has the counts of its text: {build}, {}, {nothing}, {same}",
         exec.status()
     )
 }
 
-// What is left of a text that is assembled and then executed, with its counts.
-fn executed(alloc: Global, text: &str) -> Result<Seen, AllocError> {
-    let mut store = store_with(alloc, text)?;
-    let assembled = counted_call(alloc, "tick asm text image", &mut store, &[])?;
+// The file `text` is built after this run, and the image is run.
+fn build_and_run<R: Print + AllocGlobal>(
+    rt: &R,
+    run: &Seen,
+    store: &mut MemStore,
+) -> io::Result<()> {
+    let build = status_of(rt.alloc(), "tick build text image", store)?;
+    let exec = call(rt.alloc(), "tick exec image --stats", store)?;
+    show_saved(rt, run, build, &exec)
+}
+
+fn run_and_build<R: Print + AllocGlobal>(rt: &R, store: &mut MemStore) -> io::Result<()> {
+    let run = call(rt.alloc(), "tick run text --stats", store)?;
+    build_and_run(rt, &run, store)
+}
+
+fn a_saved_image<R: Print + AllocGlobal>(rt: &R) -> io::Result<()> {
+    let mut store = store_with(rt.alloc(), HELLO.as_bytes())?;
+    run_and_build(rt, &mut store)
+}
+
+// What is left of the file `text`, which is assembled and then executed, with its counts.
+fn assembled_and_run(alloc: Global, store: &mut MemStore) -> Result<Seen, AllocError> {
+    let assembled = call(alloc, "tick asm text image", store)?;
     if assembled.status() != 0 {
         return Ok(assembled);
     }
-    counted_call(alloc, "tick exec image --stats", &mut store, &[])
+    drop(assembled);
+    call(alloc, "tick exec image --stats", store)
+}
+
+fn executed(alloc: Global, text: &str) -> Result<Seen, AllocError> {
+    let mut store = store_with(alloc, text.as_bytes())?;
+    assembled_and_run(alloc, &mut store)
+}
+
+fn show_places<R: Print>(rt: &R, assembled: u8, seen: &Seen) -> io::Result<()> {
+    println!(rt;
+        "the places of the last function are handed back: {assembled}, {:?}",
+        seen.places
+    )
+}
+
+// The file `text` is assembled, and its image says no counts.
+fn places_of<R: Print + AllocGlobal>(rt: &R, store: &mut MemStore) -> io::Result<()> {
+    let assembled = status_of(rt.alloc(), "tick asm text image", store)?;
+    let seen = call(rt.alloc(), "tick exec image", store)?;
+    show_places(rt, assembled, &seen)
 }
 
 fn places_handed_back<R: Print + AllocGlobal>(rt: &R) -> io::Result<()> {
-    let alloc = rt.alloc();
-    let mut store = store_with(alloc, ADDING)?;
-    let assembled = counted_call(alloc, "tick asm text image", &mut store, &[])?;
-    let seen = seen_on(
-        alloc,
-        tick,
-        &words_of(alloc, "tick exec image")?,
-        &mut store,
-        b"",
-    )?;
-    println!(rt;
-        "the places of the last function are handed back: {}, {:?}",
-        assembled.status(),
-        seen.places
-    )
+    let mut store = store_with(rt.alloc(), ADDING.as_bytes())?;
+    places_of(rt, &mut store)
 }
 
 /// The rows of this file. Of the 49 words of the function that is made all but a trap's and the last return's 3 are

@@ -7,9 +7,11 @@ mod made;
 mod outside;
 mod run;
 
-use std::alloc::AllocError;
+use host_edge::MemStore;
+use std::alloc::{AllocError, Global};
 use std::io;
-use trial_seen::Seen;
+use tick_top::tick;
+use trial_seen::{Seen, Streams, seen_with, store_with, words_of};
 
 /// The program that writes `H` and a line feed, and ends with 3.
 pub(crate) const HELLO: &str = "int main(){putchar(72);putchar(10);return 3;}";
@@ -21,6 +23,39 @@ pub(crate) fn shown<R: Print + AllocGlobal>(
     seen: Result<Seen, AllocError>,
 ) -> io::Result<()> {
     seen?.show(rt, name)
+}
+
+/// A call that stands on a line, on these files and streams.
+pub(crate) fn seen_of(
+    alloc: Global,
+    line: &str,
+    store: &mut MemStore,
+    streams: &Streams,
+) -> Result<Seen, AllocError> {
+    let words = words_of(alloc, line)?;
+    seen_with(alloc, tick, &words, store, streams)
+}
+
+/// A call that stands on a line, on a store with the file `text` and these streams.
+pub(crate) fn seen_in(
+    alloc: Global,
+    line: &str,
+    text: &[u8],
+    streams: &Streams,
+) -> Result<Seen, AllocError> {
+    let mut store = store_with(alloc, text)?;
+    seen_of(alloc, line, &mut store, streams)
+}
+
+/// A call whose streams never fail.
+pub(crate) fn call(alloc: Global, line: &str, store: &mut MemStore) -> Result<Seen, AllocError> {
+    seen_of(alloc, line, store, &Streams::of(b""))
+}
+
+/// The status of such a call.
+pub(crate) fn status_of(alloc: Global, line: &str, store: &mut MemStore) -> Result<u8, AllocError> {
+    let seen = call(alloc, line, store)?;
+    Ok(seen.status())
 }
 
 fn main(rt: HostRuntime) -> io::Result<()> {

@@ -1,21 +1,16 @@
 //! Calls whose store or streams fail.
 
-use crate::{HELLO, shown};
-use host_edge::{MemSink, MemSource, MemStore};
+use crate::{HELLO, seen_in, shown, status_of};
+use host_edge::MemStore;
 use std::alloc::{AllocError, Global};
 use std::io;
-use tick_top::tick;
-use trial_seen::{ROOM, Seen, seen_after, seen_by, seen_on, words_of};
+use trial_seen::{Seen, Streams};
 
-// A call of `build` on a store that fails at its call number 1, which is the save: the status, and what is left at the
-// path of the image.
-fn left_by_a_failing_save(alloc: Global) -> Result<(u8, Vec<u8>), AllocError> {
-    let words = words_of(alloc, "tick build text image")?;
+// A store with the file `text` that fails at its call number 1, which is the save.
+fn failing_store(alloc: Global) -> Result<MemStore, AllocError> {
     let mut store = MemStore::new(alloc, &[1])?;
     store.put("text", HELLO.as_bytes())?;
-    let seen = seen_on(alloc, tick, &words, &mut store, b"")?;
-    let left = store.file("image").unwrap_or(b"".as_slice());
-    Ok((seen.status(), left.to_vec(alloc)?))
+    Ok(store)
 }
 
 // An image has 24 bytes of header, and 1,024 words in front of its functions.
@@ -23,12 +18,19 @@ fn is_front_part(left: &[u8]) -> bool {
     left.starts_with(b"TICK\x00\x00\x00\x01\x00\x40\x00\x00") && left.len() < 24 + 1024 * 4
 }
 
-fn a_failing_save<R: Print + AllocGlobal>(rt: &R) -> io::Result<()> {
-    let (status, left) = left_by_a_failing_save(rt.alloc())?;
+fn show_front<R: Print>(rt: &R, status: u8, store: &MemStore) -> io::Result<()> {
+    let left = store.file("image").unwrap_or(b"".as_slice());
     println!(rt;
         "a failing save leaves a front part: {status}, {}",
-        is_front_part(&left)
+        is_front_part(left)
     )
+}
+
+// A call of `build` whose save fails: its status, and what is left at the path of the image.
+fn a_failing_save<R: Print + AllocGlobal>(rt: &R) -> io::Result<()> {
+    let mut store = failing_store(rt.alloc())?;
+    let status = status_of(rt.alloc(), "tick build text image", &mut store)?;
+    show_front(rt, status, &store)
 }
 
 /// A call on a store with the file `text` and this input, which fails at the listed reads.
@@ -39,15 +41,25 @@ pub(crate) fn given_on(
     given: &[u8],
     fails: &[u64],
 ) -> Result<Seen, AllocError> {
-    let words = words_of(alloc, line)?;
-    let mut store = MemStore::new(alloc, &[])?;
-    store.put("text", text)?;
-    let mut input = MemSource::new(alloc, given, fails)?;
-    let mut out = MemSink::new(alloc, ROOM, &[])?;
-    let mut err = MemSink::new(alloc, ROOM, &[])?;
-    seen_by(
-        alloc, tick, &words, &mut store, &mut input, &mut out, &mut err,
-    )
+    let streams = Streams {
+        failing_reads: fails,
+        ..Streams::of(given)
+    };
+    seen_in(alloc, line, text, &streams)
+}
+
+/// A call on a store with the file `text`, whose standard output fails at the listed writes.
+pub(crate) fn seen_after(
+    alloc: Global,
+    line: &str,
+    text: &str,
+    fails: &[u64],
+) -> Result<Seen, AllocError> {
+    let streams = Streams {
+        failing_writes: fails,
+        ..Streams::of(b"")
+    };
+    seen_in(alloc, line, text.as_bytes(), &streams)
 }
 
 // The image reads a byte and ends with it, as the text does.
@@ -72,7 +84,7 @@ pub(crate) fn rows<R: Print + AllocGlobal>(rt: &R) -> io::Result<()> {
     shown(
         rt,
         "a failing sink keeps what it took",
-        seen_after(rt.alloc(), tick, "tick run text", HELLO, &[1]),
+        seen_after(rt.alloc(), "tick run text", HELLO, &[1]),
     )?;
     a_failing_save(rt)?;
     a_failing_input(rt)

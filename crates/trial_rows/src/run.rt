@@ -1,10 +1,10 @@
 //! Runs of texts: endings, refusals, limits.
 
-use crate::{HELLO, shown};
+use crate::outside::seen_after;
+use crate::{HELLO, seen_in, shown};
 use std::alloc::{AllocError, Global};
 use std::io;
-use tick_top::tick;
-use trial_seen::{Seen, seen_after, seen_within};
+use trial_seen::{Seen, Streams};
 
 // Calls whose streams never fail: the name, the words, and the file `text`.
 const PLAIN: [(&str, &str, &str); 5] = [
@@ -25,7 +25,11 @@ const PLAIN: [(&str, &str, &str); 5] = [
 
 // How many dots a text writes under `run`, where it writes nothing else and ends with a trap, which this line says.
 fn dots_before_trap(alloc: Global, text: &str, line: &str) -> Result<Option<usize>, AllocError> {
-    let seen = seen_within(alloc, tick, "tick run text", text, 100_000, &[])?;
+    let streams = Streams {
+        room: 100_000,
+        ..Streams::of(b"")
+    };
+    let seen = seen_in(alloc, "tick run text", text.as_bytes(), &streams)?;
     if seen.status() == 70 && seen.err.as_slice() == line.as_bytes() && all_are(b'.', &seen.out) {
         Ok(Some(seen.out.len()))
     } else {
@@ -46,26 +50,31 @@ fn calls_without_end<R: Print + AllocGlobal>(rt: &R) -> io::Result<()> {
 
 // A program that writes without an end, on a standard output that fails at the listed calls.
 fn written_without_end(alloc: Global, fails: &[u64]) -> Result<Seen, AllocError> {
-    let text = "int main(){for(;;)putchar(97);}";
-    seen_within(
-        alloc,
-        tick,
-        "tick run --steps 100000 text",
-        text,
-        100_000,
-        fails,
-    )
+    let streams = Streams {
+        room: 100_000,
+        failing_writes: fails,
+        ..Streams::of(b"")
+    };
+    let text = b"int main(){for(;;)putchar(97);}";
+    seen_in(alloc, "tick run --steps 100000 text", text, &streams)
 }
 
 // 187 units are within the steps, and a turn has four of them.
-fn a_run_without_end<R: Print + AllocGlobal>(rt: &R) -> io::Result<()> {
-    let seen = written_without_end(rt.alloc(), &[])?;
+fn show_unended<R: Print>(rt: &R, seen: &Seen) -> io::Result<()> {
     let written = seen.out.len() >= 47 && all_are(b'a', &seen.out);
     let err = str::from_utf8(&seen.err).unwrap_or("?");
     println!(rt;
         "a run without end meets the limit of steps: {}, writes what the pace promises: {written}, err {err:?}",
         seen.status()
-    )?;
+    )
+}
+
+fn a_run_without_end<R: Print + AllocGlobal>(rt: &R) -> io::Result<()> {
+    let seen = written_without_end(rt.alloc(), &[])?;
+    show_unended(rt, &seen)
+}
+
+fn a_run_that_cannot_write<R: Print + AllocGlobal>(rt: &R) -> io::Result<()> {
     shown(
         rt,
         "it ends where its output fails",
@@ -76,8 +85,9 @@ fn a_run_without_end<R: Print + AllocGlobal>(rt: &R) -> io::Result<()> {
 /// The rows of this file.
 pub(crate) fn rows<R: Print + AllocGlobal>(rt: &R) -> io::Result<()> {
     for (name, line, text) in &PLAIN {
-        shown(rt, name, seen_after(rt.alloc(), tick, line, text, &[]))?;
+        shown(rt, name, seen_after(rt.alloc(), line, text, &[]))?;
     }
     calls_without_end(rt)?;
-    a_run_without_end(rt)
+    a_run_without_end(rt)?;
+    a_run_that_cannot_write(rt)
 }

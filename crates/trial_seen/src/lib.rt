@@ -10,7 +10,6 @@ use tick_outcome::{Ended, Outcome, status};
 pub const ROOM: usize = 4_096;
 
 /// What a call left.
-#[derive(Drop)]
 pub struct Seen {
     /// How it ended.
     pub outcome: Outcome,
@@ -22,6 +21,19 @@ pub struct Seen {
     pub out: Vec<u8>,
     /// What it said on standard error.
     pub err: Vec<u8>,
+}
+
+// (derived, each place that drops one would look into its lists)
+impl Drop for Seen {
+    fn drop(self) {
+        let Seen {
+            outcome: _,
+            steps: _,
+            places: _,
+            out: _,
+            err: _,
+        } = self;
+    }
 }
 
 impl Seen {
@@ -55,8 +67,95 @@ pub fn words_within(alloc: Global, line: &str, steps: &str) -> Result<Vec<String
     Ok(all)
 }
 
-/// A call on this outside.
-pub fn seen_by<
+/// The streams of a call: what they are given or take, and which of their calls, counted from 0, fail.
+#[derive(Clone, Copy)]
+pub struct Streams<'a> {
+    /// The input.
+    pub given: &'a [u8],
+    /// The reads that fail.
+    pub failing_reads: &'a [u64],
+    /// The bytes that standard output takes at most.
+    pub room: usize,
+    /// The writes on standard output that fail.
+    pub failing_writes: &'a [u64],
+    /// The writes on standard error that fail.
+    pub failing_errs: &'a [u64],
+}
+
+impl<'a> Streams<'a> {
+    /// Streams with this input that never fail.
+    pub fn of(given: &'a [u8]) -> Streams<'a> {
+        Streams {
+            given,
+            failing_reads: &[],
+            room: ROOM,
+            failing_writes: &[],
+            failing_errs: &[],
+        }
+    }
+}
+
+// The streams of a call as they are during it.
+struct Open {
+    input: MemSource,
+    out: MemSink,
+    err: MemSink,
+}
+
+// (derived, each place that drops them would look into their lists)
+impl Drop for Open {
+    fn drop(self) {
+        let Open {
+            input: _,
+            out: _,
+            err: _,
+        } = self;
+    }
+}
+
+// (each function makes one stream, so that none has several to drop where memory is not found)
+fn open_behind(
+    alloc: Global,
+    streams: &Streams,
+    input: MemSource,
+    out: MemSink,
+) -> Result<Open, AllocError> {
+    match MemSink::new(alloc, ROOM, streams.failing_errs) {
+        Ok(err) => Ok(Open { input, out, err }),
+        Err(why) => Err(why),
+    }
+}
+
+fn open_with(alloc: Global, streams: &Streams, input: MemSource) -> Result<Open, AllocError> {
+    match MemSink::new(alloc, streams.room, streams.failing_writes) {
+        Ok(out) => open_behind(alloc, streams, input, out),
+        Err(why) => Err(why),
+    }
+}
+
+impl Open {
+    // These streams, of which nothing is read or written yet.
+    fn new(alloc: Global, streams: &Streams) -> Result<Open, AllocError> {
+        let input = MemSource::new(alloc, streams.given, streams.failing_reads)?;
+        open_with(alloc, streams, input)
+    }
+
+    // What a call on these streams that ended so has left.
+    fn seen(&self, alloc: Global, ended: Ended) -> Result<Seen, AllocError> {
+        let out = self.out.taken().to_vec(alloc)?;
+        let err = self.err.taken().to_vec(alloc)?;
+        Ok(Seen {
+            outcome: ended.outcome,
+            steps: ended.steps,
+            places: ended.choices,
+            out,
+            err,
+        })
+    }
+}
+
+/// What a call on these files and streams leaves.
+pub fn seen_with<
     F: Fn(
         Global,
         &[String],
@@ -70,90 +169,25 @@ pub fn seen_by<
     call: F,
     words: &[String],
     store: &mut MemStore,
-    input: &mut MemSource,
-    out: &mut MemSink,
-    err: &mut MemSink,
+    streams: &Streams,
 ) -> Result<Seen, AllocError>
     requires { F.IsAlwaysCallable call }
 {
-    let ended = call(alloc, words, store, input, out, err)?;
-    Ok(Seen {
-        outcome: ended.outcome,
-        steps: ended.steps,
-        places: ended.choices,
-        out: out.taken().to_vec(alloc)?,
-        err: err.taken().to_vec(alloc)?,
-    })
+    let mut open = Open::new(alloc, streams)?;
+    let ended = call(
+        alloc,
+        words,
+        store,
+        &mut open.input,
+        &mut open.out,
+        &mut open.err,
+    )?;
+    open.seen(alloc, ended)
 }
 
-/// A call on these files and this input, whose streams never fail.
-pub fn seen_on<
-    F: Fn(
-        Global,
-        &[String],
-        &mut MemStore,
-        &mut MemSource,
-        &mut MemSink,
-        &mut MemSink,
-    ) -> Result<Ended, AllocError>,
->(
-    alloc: Global,
-    call: F,
-    words: &[String],
-    store: &mut MemStore,
-    given: &[u8],
-) -> Result<Seen, AllocError>
-    requires { F.IsAlwaysCallable call }
-{
-    let mut input = MemSource::new(alloc, given, &[])?;
-    let mut out = MemSink::new(alloc, ROOM, &[])?;
-    let mut err = MemSink::new(alloc, ROOM, &[])?;
-    seen_by(alloc, call, words, store, &mut input, &mut out, &mut err)
-}
-
-/// A call on a store with the file `text`, whose standard output takes so many bytes and fails at the listed calls.
-pub fn seen_within<
-    F: Fn(
-        Global,
-        &[String],
-        &mut MemStore,
-        &mut MemSource,
-        &mut MemSink,
-        &mut MemSink,
-    ) -> Result<Ended, AllocError>,
->(
-    alloc: Global,
-    call: F,
-    line: &str,
-    text: &str,
-    room: usize,
-    fails: &[u64],
-) -> Result<Seen, AllocError>
-    requires { F.IsAlwaysCallable call }
-{
-    let words = words_of(alloc, line)?;
+/// A store with the file `text`.
+pub fn store_with(alloc: Global, text: &[u8]) -> Result<MemStore, AllocError> {
     let mut store = MemStore::new(alloc, &[])?;
-    store.put("text", text.as_bytes())?;
-    let mut input = MemSource::new(alloc, b"", &[])?;
-    let mut out = MemSink::new(alloc, room, fails)?;
-    let mut err = MemSink::new(alloc, ROOM, &[])?;
-    seen_by(
-        alloc, call, &words, &mut store, &mut input, &mut out, &mut err,
-    )
-}
-
-/// A call on a store with the file `text`, whose standard output fails at the listed calls.
-pub fn seen_after<
-    F: Fn(
-        Global,
-        &[String],
-        &mut MemStore,
-        &mut MemSource,
-        &mut MemSink,
-        &mut MemSink,
-    ) -> Result<Ended, AllocError>,
->(alloc: Global, call: F, line: &str, text: &str, fails: &[u64]) -> Result<Seen, AllocError>
-    requires { F.IsAlwaysCallable call }
-{
-    seen_within(alloc, call, line, text, ROOM, fails)
+    store.put("text", text)?;
+    Ok(store)
 }
