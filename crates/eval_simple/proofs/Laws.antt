@@ -21,19 +21,11 @@ use Rattle.eval_state.specs.declared.state.Parts.{Parts}
 use Rattle.eval_state.proofs.Changes.{units_are}
 use Rattle.eval_simple.specs.Simple.{Comes, Came, IsDone, at_units}
 
--- a value whose unit is spent, and then something else
-spent_then : {A : Type 0} (r : Run) (v u : ℕ) (next : ℕ → World → Result A)
-    → then_do (spend v (at_units (suc u) r)) next ≡ next v (at_units u r)
-spent_then r v u next = refl
-
--- what follows a part that has a value
-follows : {A : Type 0} (r : Run) (e : Expr) (before v after u : ℕ) (next : ℕ → World → Result A)
-    → Comes r e before v after → after ≡ suc u
-    → then_do (eval (here r) e (at_units before r)) next ≡ next v (at_units u r)
-unfolding Comes
-follows r e before v after u next h k =
-    ap (λ x. then_do x next) h
-    ∙ ap (λ n. then_do (spend v (at_units n r)) next) k
+-- what follows a part that came to a value
+follows : {A : Type 0} (r : Run) (e : Expr) (before v after : ℕ) (next : ℕ → World → Result A)
+    → Came r e before v after → then_do (eval (here r) e (at_units before r)) next ≡ next v (at_units after r)
+unfolding Came
+follows r e before v after next h = ap (λ x. then_do x next) h
 
 -- ---- without parts
 
@@ -62,14 +54,14 @@ object r offset u v h = ap (λ v. spend v (at_units u r)) (sym h)
 
 -- ---- with parts
 
-pub load : (r : Run) (width : Width) (a : Expr) (u at u1 u2 v : ℕ) → Comes r a u at u1 → u1 ≡ suc u2
+pub load : (r : Run) (width : Width) (a : Expr) (u at u1 v : ℕ) → Came r a u at u1
     → access_trap at width ≡ None → v ≡ loaded at width (world r).shared
-    → Comes r (node.Load width a) u v u2
+    → Comes r (node.Load width a) u v u1
 unfolding Comes
-load r width a u at u1 u2 v h k untrapped value =
-    follows r a u at u1 u2 (load_at width) h k
-    ∙ ap (λ t. unless t (at_units u2 r) (spend (loaded at width (world r).shared) (at_units u2 r))) untrapped
-    ∙ ap (λ v. spend v (at_units u2 r)) (sym value)
+load r width a u at u1 v h untrapped value =
+    follows r a u at u1 (load_at width) h
+    ∙ ap (λ t. unless t (at_units u1 r) (spend (loaded at width (world r).shared) (at_units u1 r))) untrapped
+    ∙ ap (λ v. spend v (at_units u1 r)) (sym value)
 
 abbrev pub found : Option ℕ → ℕ
 found None = 0
@@ -80,21 +72,21 @@ trap_free : (t : Option TrapKind) (value v : ℕ) (w : World) → unless_trap t 
 trap_free None value v w h = ap (λ o. spend (found o) w) h
 trap_free (Some trap) value v w h = absurd cc
 
-pub operator : (r : Run) (kind : BinKind) (a b : Expr) (u x u1 u2 y u3 u4 v : ℕ)
-    → Comes r a u x u1 → u1 ≡ suc u2 → Comes r b u2 y u3 → u3 ≡ suc u4 → Some v ≡ binary kind x y
-    → Comes r (node.Bin kind a b) u v u4
+pub operator : (r : Run) (kind : BinKind) (a b : Expr) (u x u1 y u2 v : ℕ)
+    → Came r a u x u1 → Came r b u1 y u2 → Some v ≡ binary kind x y
+    → Comes r (node.Bin kind a b) u v u2
 unfolding Comes
-operator r kind a b u x u1 u2 y u3 u4 v h k h2 k2 value =
-    follows r a u x u1 u2
-    (λ x w. then_do (eval (here r) b w) (λ y w. unless (bin_trap kind x y) w (spend (bin_value kind x y) w))) h k
-    ∙ follows r b u2 y u3 u4 (λ y w. unless (bin_trap kind x y) w (spend (bin_value kind x y) w)) h2 k2
-    ∙ trap_free (bin_trap kind x y) (bin_value kind x y) v (at_units u4 r) (sym value)
+operator r kind a b u x u1 y u2 v h h2 value =
+    follows r a u x u1
+    (λ x w. then_do (eval (here r) b w) (λ y w. unless (bin_trap kind x y) w (spend (bin_value kind x y) w))) h
+    ∙ follows r b u1 y u2 (λ y w. unless (bin_trap kind x y) w (spend (bin_value kind x y) w)) h2
+    ∙ trap_free (bin_trap kind x y) (bin_value kind x y) v (at_units u2 r) (sym value)
 
-pub unary : (r : Run) (kind : UnKind) (a : Expr) (u x u1 u2 v : ℕ)
-    → Comes r a u x u1 → u1 ≡ suc u2 → v ≡ un_value kind x → Comes r (node.Un kind a) u v u2
+pub unary : (r : Run) (kind : UnKind) (a : Expr) (u x u1 v : ℕ)
+    → Came r a u x u1 → v ≡ un_value kind x → Comes r (node.Un kind a) u v u1
 unfolding Comes
-unary r kind a u x u1 u2 v h k value =
-    follows r a u x u1 u2 (λ x w. spend (un_value kind x) w) h k ∙ ap (λ v. spend v (at_units u2 r)) (sym value)
+unary r kind a u x u1 v h value =
+    follows r a u x u1 (λ x w. spend (un_value kind x) w) h ∙ ap (λ v. spend v (at_units u1 r)) (sym value)
 
 -- a choice by a value, and what the second of an `&&` and of an `||` comes to
 chosen : {A : Type 0} (v : ℕ) (x y : A) → v ≢ 0 → at_zero v x y ≡ y
@@ -104,68 +96,66 @@ chosen (suc v) x y h = refl
 abbrev truth : ℕ → World → Result ℕ
 truth y w = at_zero y (spend 0 w) (spend 1 w)
 
-pub and_decided : (r : Run) (a b : Expr) (u u1 u2 : ℕ) → Comes r a u 0 u1 → u1 ≡ suc u2
-    → Comes r (node.And a b) u 0 u2
+pub and_decided : (r : Run) (a b : Expr) (u u1 : ℕ) → Came r a u 0 u1 → Comes r (node.And a b) u 0 u1
 unfolding Comes
-and_decided r a b u u1 u2 h k =
-    follows r a u 0 u1 u2 (λ x w. at_zero x (spend 0 w) (then_do (eval (here r) b w) truth)) h k
+and_decided r a b u u1 h =
+    follows r a u 0 u1 (λ x w. at_zero x (spend 0 w) (then_do (eval (here r) b w) truth)) h
 
-pub and_zero : (r : Run) (a b : Expr) (u x u1 u2 u3 u4 : ℕ) → Comes r a u x u1 → u1 ≡ suc u2 → x ≢ 0
-    → Comes r b u2 0 u3 → u3 ≡ suc u4 → Comes r (node.And a b) u 0 u4
+pub and_zero : (r : Run) (a b : Expr) (u x u1 u2 : ℕ) → Came r a u x u1 → x ≢ 0
+    → Came r b u1 0 u2 → Comes r (node.And a b) u 0 u2
 unfolding Comes
-and_zero r a b u x u1 u2 u3 u4 h k some h2 k2 =
-    follows r a u x u1 u2 (λ x w. at_zero x (spend 0 w) (then_do (eval (here r) b w) truth)) h k
-    ∙ chosen x (spend 0 (at_units u2 r)) (then_do (eval (here r) b (at_units u2 r)) truth) some
-    ∙ follows r b u2 0 u3 u4 truth h2 k2
+and_zero r a b u x u1 u2 h some h2 =
+    follows r a u x u1 (λ x w. at_zero x (spend 0 w) (then_do (eval (here r) b w) truth)) h
+    ∙ chosen x (spend 0 (at_units u1 r)) (then_do (eval (here r) b (at_units u1 r)) truth) some
+    ∙ follows r b u1 0 u2 truth h2
 
-pub and_one : (r : Run) (a b : Expr) (u x u1 u2 y u3 u4 : ℕ) → Comes r a u x u1 → u1 ≡ suc u2 → x ≢ 0
-    → Comes r b u2 y u3 → u3 ≡ suc u4 → y ≢ 0 → Comes r (node.And a b) u 1 u4
+pub and_one : (r : Run) (a b : Expr) (u x u1 y u2 : ℕ) → Came r a u x u1 → x ≢ 0
+    → Came r b u1 y u2 → y ≢ 0 → Comes r (node.And a b) u 1 u2
 unfolding Comes
-and_one r a b u x u1 u2 y u3 u4 h k some h2 k2 other =
-    follows r a u x u1 u2 (λ x w. at_zero x (spend 0 w) (then_do (eval (here r) b w) truth)) h k
-    ∙ chosen x (spend 0 (at_units u2 r)) (then_do (eval (here r) b (at_units u2 r)) truth) some
-    ∙ follows r b u2 y u3 u4 truth h2 k2
-    ∙ chosen y (spend 0 (at_units u4 r)) (spend 1 (at_units u4 r)) other
+and_one r a b u x u1 y u2 h some h2 other =
+    follows r a u x u1 (λ x w. at_zero x (spend 0 w) (then_do (eval (here r) b w) truth)) h
+    ∙ chosen x (spend 0 (at_units u1 r)) (then_do (eval (here r) b (at_units u1 r)) truth) some
+    ∙ follows r b u1 y u2 truth h2
+    ∙ chosen y (spend 0 (at_units u2 r)) (spend 1 (at_units u2 r)) other
 
-pub or_decided : (r : Run) (a b : Expr) (u x u1 u2 : ℕ) → Comes r a u x u1 → u1 ≡ suc u2 → x ≢ 0
-    → Comes r (node.Or a b) u 1 u2
+pub or_decided : (r : Run) (a b : Expr) (u x u1 : ℕ) → Came r a u x u1 → x ≢ 0 → Comes r (node.Or a b) u 1 u1
 unfolding Comes
-or_decided r a b u x u1 u2 h k some =
-    follows r a u x u1 u2 (λ x w. at_zero x (then_do (eval (here r) b w) truth) (spend 1 w)) h k
-    ∙ chosen x (then_do (eval (here r) b (at_units u2 r)) truth) (spend 1 (at_units u2 r)) some
+or_decided r a b u x u1 h some =
+    follows r a u x u1 (λ x w. at_zero x (then_do (eval (here r) b w) truth) (spend 1 w)) h
+    ∙ chosen x (then_do (eval (here r) b (at_units u1 r)) truth) (spend 1 (at_units u1 r)) some
 
-pub or_zero : (r : Run) (a b : Expr) (u u1 u2 u3 u4 : ℕ) → Comes r a u 0 u1 → u1 ≡ suc u2
-    → Comes r b u2 0 u3 → u3 ≡ suc u4 → Comes r (node.Or a b) u 0 u4
+pub or_zero : (r : Run) (a b : Expr) (u u1 u2 : ℕ) → Came r a u 0 u1
+    → Came r b u1 0 u2 → Comes r (node.Or a b) u 0 u2
 unfolding Comes
-or_zero r a b u u1 u2 u3 u4 h k h2 k2 =
-    follows r a u 0 u1 u2 (λ x w. at_zero x (then_do (eval (here r) b w) truth) (spend 1 w)) h k
-    ∙ follows r b u2 0 u3 u4 truth h2 k2
+or_zero r a b u u1 u2 h h2 =
+    follows r a u 0 u1 (λ x w. at_zero x (then_do (eval (here r) b w) truth) (spend 1 w)) h
+    ∙ follows r b u1 0 u2 truth h2
 
-pub or_one : (r : Run) (a b : Expr) (u u1 u2 y u3 u4 : ℕ) → Comes r a u 0 u1 → u1 ≡ suc u2
-    → Comes r b u2 y u3 → u3 ≡ suc u4 → y ≢ 0 → Comes r (node.Or a b) u 1 u4
+pub or_one : (r : Run) (a b : Expr) (u u1 y u2 : ℕ) → Came r a u 0 u1
+    → Came r b u1 y u2 → y ≢ 0 → Comes r (node.Or a b) u 1 u2
 unfolding Comes
-or_one r a b u u1 u2 y u3 u4 h k h2 k2 other =
-    follows r a u 0 u1 u2 (λ x w. at_zero x (then_do (eval (here r) b w) truth) (spend 1 w)) h k
-    ∙ follows r b u2 y u3 u4 truth h2 k2
-    ∙ chosen y (spend 0 (at_units u4 r)) (spend 1 (at_units u4 r)) other
+or_one r a b u u1 y u2 h h2 other =
+    follows r a u 0 u1 (λ x w. at_zero x (then_do (eval (here r) b w) truth) (spend 1 w)) h
+    ∙ follows r b u1 y u2 truth h2
+    ∙ chosen y (spend 0 (at_units u2 r)) (spend 1 (at_units u2 r)) other
 
-pub choice_first : (r : Run) (t a b : Expr) (u x u1 u2 v u3 u4 : ℕ) → Comes r t u x u1 → u1 ≡ suc u2 → x ≢ 0
-    → Comes r a u2 v u3 → u3 ≡ suc u4 → Comes r (node.Cond t a b) u v u4
+pub choice_first : (r : Run) (t a b : Expr) (u x u1 v u2 : ℕ) → Came r t u x u1 → x ≢ 0
+    → Came r a u1 v u2 → Comes r (node.Cond t a b) u v u2
 unfolding Comes
-choice_first r t a b u x u1 u2 v u3 u4 h k some h2 k2 =
-    follows r t u x u1 u2
-    (λ v w. at_zero v (then_do (eval (here r) b w) spend) (then_do (eval (here r) a w) spend)) h k
-    ∙ chosen x (then_do (eval (here r) b (at_units u2 r)) spend) (then_do (eval (here r) a (at_units u2 r)) spend)
+choice_first r t a b u x u1 v u2 h some h2 =
+    follows r t u x u1
+    (λ v w. at_zero v (then_do (eval (here r) b w) spend) (then_do (eval (here r) a w) spend)) h
+    ∙ chosen x (then_do (eval (here r) b (at_units u1 r)) spend) (then_do (eval (here r) a (at_units u1 r)) spend)
     some
-    ∙ follows r a u2 v u3 u4 spend h2 k2
+    ∙ follows r a u1 v u2 spend h2
 
-pub choice_second : (r : Run) (t a b : Expr) (u u1 u2 v u3 u4 : ℕ) → Comes r t u 0 u1 → u1 ≡ suc u2
-    → Comes r b u2 v u3 → u3 ≡ suc u4 → Comes r (node.Cond t a b) u v u4
+pub choice_second : (r : Run) (t a b : Expr) (u u1 v u2 : ℕ) → Came r t u 0 u1
+    → Came r b u1 v u2 → Comes r (node.Cond t a b) u v u2
 unfolding Comes
-choice_second r t a b u u1 u2 v u3 u4 h k h2 k2 =
-    follows r t u 0 u1 u2
-    (λ v w. at_zero v (then_do (eval (here r) b w) spend) (then_do (eval (here r) a w) spend)) h k
-    ∙ follows r b u2 v u3 u4 spend h2 k2
+choice_second r t a b u u1 v u2 h h2 =
+    follows r t u 0 u1
+    (λ v w. at_zero v (then_do (eval (here r) b w) spend) (then_do (eval (here r) a w) spend)) h
+    ∙ follows r b u1 v u2 spend h2
 
 pub ruleset values = (
   constant,
@@ -215,5 +205,7 @@ simply r s e u v left is h less new =
     )
 
 pub ruleset parts = (came, came_first)
+
+pub ruleset operands = (came, constant, variable, view.expressions)
 
 pub ruleset done = (simply, units_are)

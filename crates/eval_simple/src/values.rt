@@ -39,6 +39,7 @@ pub(crate) fn leave(m: &mut Machine<'_>, left: u64)
 
 /// The value of an expression, where it is simple and at most so deep, and doesn't trap, and the units suffice up to
 /// its own, which is not spent yet. The units that are left are counted down on the way.
+#[cycle(value)]
 #[tactic(auto, using(crate::proofs::Laws::values))]
 pub(crate) fn value(m: &Machine<'_>, e: &Expr, depth: u32, left: &mut u64) -> Option<u32>
     ensures value { IfSome result (λ v. Comes (run_of m.now) (expr_view e.now) left.old v left.new) }
@@ -54,61 +55,50 @@ pub(crate) fn value(m: &Machine<'_>, e: &Expr, depth: u32, left: &mut u64) -> Op
             Err(_) => None,
         },
         Expr::Load(width, a) if depth != 0 => {
-            let at = value(m, a.get(), depth - 1, left)?;
-            spend(left)?;
+            let at = operand(m, a.get(), depth - 1, left)?;
             match m.load(at, *width) {
                 Ok(v) => Some(v),
                 Err(_) => None,
             }
         }
         Expr::Bin(kind, a, b) if depth != 0 => {
-            let x = value(m, a.get(), depth - 1, left)?;
-            spend(left)?;
-            let y = value(m, b.get(), depth - 1, left)?;
-            spend(left)?;
+            let x = operand(m, a.get(), depth - 1, left)?;
+            let y = operand(m, b.get(), depth - 1, left)?;
             binary_value(*kind, x, y)
         }
         Expr::Un(kind, a) if depth != 0 => {
-            let x = value(m, a.get(), depth - 1, left)?;
-            spend(left)?;
+            let x = operand(m, a.get(), depth - 1, left)?;
             Some(unary_value(*kind, x))
         }
         Expr::And(a, b) if depth != 0 => {
-            let x = value(m, a.get(), depth - 1, left)?;
-            spend(left)?;
+            let x = operand(m, a.get(), depth - 1, left)?;
             if x == 0 {
                 return Some(0);
             }
-            let y = value(m, b.get(), depth - 1, left)?;
-            spend(left)?;
+            let y = operand(m, b.get(), depth - 1, left)?;
             if y == 0 {
                 return Some(0);
             }
             Some(1)
         }
         Expr::Or(a, b) if depth != 0 => {
-            let x = value(m, a.get(), depth - 1, left)?;
-            spend(left)?;
+            let x = operand(m, a.get(), depth - 1, left)?;
             if x != 0 {
                 return Some(1);
             }
-            let y = value(m, b.get(), depth - 1, left)?;
-            spend(left)?;
+            let y = operand(m, b.get(), depth - 1, left)?;
             if y == 0 {
                 return Some(0);
             }
             Some(1)
         }
         Expr::Cond(test, a, b) if depth != 0 => {
-            let x = value(m, test.get(), depth - 1, left)?;
-            spend(left)?;
+            let x = operand(m, test.get(), depth - 1, left)?;
             if x == 0 {
-                let v = value(m, b.get(), depth - 1, left)?;
-                spend(left)?;
+                let v = operand(m, b.get(), depth - 1, left)?;
                 return Some(v);
             }
-            let v = value(m, a.get(), depth - 1, left)?;
-            spend(left)?;
+            let v = operand(m, a.get(), depth - 1, left)?;
             Some(v)
         }
         Expr::Load(_, _) | Expr::Bin(_, _, _) | Expr::Un(_, _) => None,
@@ -121,6 +111,32 @@ pub(crate) fn value(m: &Machine<'_>, e: &Expr, depth: u32, left: &mut u64) -> Op
     }
 }
 
+// The value of an operand that is at most so deep, whose own unit is spent.
+#[cycle(value)]
+#[tactic(auto, using(crate::proofs::Laws::operands))]
+#[inline(always)]
+fn operand(m: &Machine<'_>, e: &Expr, depth: u32, left: &mut u64) -> Option<u32>
+    ensures value { IfSome result (λ v. Came (run_of m.now) (expr_view e.now) left.old v left.new) }
+    ensures less { IfSome result (λ v. left.new < left.old) }
+    ensures most { left.new ≤ left.old }
+{
+    match e {
+        Expr::Const(word) => {
+            spend(left)?;
+            Some(*word)
+        }
+        Expr::Var(i) => {
+            spend(left)?;
+            Some(m.variable(*i))
+        }
+        _ => {
+            let v = value(m, e, depth, left)?;
+            spend(left)?;
+            Some(v)
+        }
+    }
+}
+
 // The value of such an expression, whose own unit is spent.
 #[tactic(auto, using(crate::proofs::Laws::parts))]
 pub(crate) fn part(m: &Machine<'_>, e: &Expr, left: &mut u64) -> Option<u32>
@@ -128,9 +144,7 @@ pub(crate) fn part(m: &Machine<'_>, e: &Expr, left: &mut u64) -> Option<u32>
     ensures less { IfSome result (λ v. left.new < left.old) }
     ensures most { left.new ≤ left.old }
 {
-    let v = value(m, e, DEPTH, left)?;
-    spend(left)?;
-    Some(v)
+    operand(m, e, DEPTH, left)
 }
 
 // The value of such an expression behind which a unit more is spent.
