@@ -4,10 +4,11 @@
 //! empty input.
 #![tactic(auto)]
 
+use host_edge::MemStore;
 use std::alloc::{AllocError, Global};
 use std::io::{self, Read};
 use tick_top::{Outcome, status, tick};
-use trial_cases::cases;
+use trial_cases::{Case, cases};
 use trial_seen::{Seen, Streams, seen_with, store_with, words_of, words_within};
 
 // The words of a call, of which those of the option are left out where it has no number.
@@ -37,39 +38,75 @@ fn comparison(meant: &Seen, ran: &Seen) -> &'static str {
     }
 }
 
-// A program under `mean` and under `run`, on a store of its own.
+// What the evaluation of the file `text` leaves.
+fn meant_of(
+    alloc: Global,
+    units: &str,
+    store: &mut MemStore,
+    given: &[u8],
+) -> Result<Seen, AllocError> {
+    let words = words_for(alloc, "tick mean text", units)?;
+    seen_with(alloc, tick, &words, store, &Streams::of(given))
+}
+
+// How the run of the file `text` stands to its evaluation.
+fn compared(
+    alloc: Global,
+    meant: &Seen,
+    store: &mut MemStore,
+    given: &[u8],
+) -> Result<&'static str, AllocError> {
+    if let Outcome::OutOfSteps(_) = meant.outcome {
+        return Ok("not compared");
+    }
+    let words = words_of(alloc, "tick run text")?;
+    let ran = seen_with(alloc, tick, &words, store, &Streams::of(given))?;
+    Ok(comparison(meant, &ran))
+}
+
+// The file `text` under `mean` and under `run`.
+fn show_calls<R: Print + AllocGlobal>(
+    rt: &R,
+    name: &str,
+    units: &str,
+    store: &mut MemStore,
+    given: &[u8],
+) -> io::Result<()> {
+    let meant = meant_of(rt.alloc(), units, store, given)?;
+    let compared = compared(rt.alloc(), &meant, store, given)?;
+    let out = str::from_utf8(&meant.out).unwrap_or("?");
+    let err = str::from_utf8(&meant.err).unwrap_or("?");
+    println!(rt;
+        "{name}: {}, out {out:?}, err {err:?}, {compared}",
+        meant.status()
+    )
+}
+
+// A program, on a store of its own.
 fn report<R: Print + AllocGlobal>(rt: &R, head: &[u8], text: &[u8]) -> io::Result<()> {
-    let alloc = rt.alloc();
     let mut words = head.split(|b| *b == b' ');
     let units = str::from_utf8(words.next().unwrap_or(b"")).unwrap_or("?");
     let given = words.next().unwrap_or(b"");
     let name = str::from_utf8(words.next().unwrap_or(b"")).unwrap_or("?");
-    let streams = Streams::of(if given == b"-".as_slice() { b"" } else { given });
-    let mut store = store_with(alloc, text)?;
-    let words = words_for(alloc, "tick mean text", units)?;
-    let meant = seen_with(alloc, tick, &words, &mut store, &streams)?;
-    let compared = match meant.outcome {
-        Outcome::OutOfSteps(_) => "not compared",
-        _ => {
-            let words = words_of(alloc, "tick run text")?;
-            let ran = seen_with(alloc, tick, &words, &mut store, &streams)?;
-            comparison(&meant, &ran)
-        }
-    };
-    let out = str::from_utf8(&meant.out).unwrap_or("?");
-    let err = str::from_utf8(&meant.err).unwrap_or("?");
-    println!(rt;
-        "{name}: {}, out {out:?}, err {err:?}, {}",
-        meant.status(),
-        compared
-    )
+    let bytes: &[u8] = if given == b"-".as_slice() { b"" } else { given };
+    let mut store = store_with(rt.alloc(), text)?;
+    show_calls(rt, name, units, &mut store, bytes)
+}
+
+fn report_case<R: Print + AllocGlobal>(rt: &R, case: &Case) -> io::Result<()> {
+    let text = case.closed_text(rt.alloc())?;
+    report(rt, case.title, &text)
+}
+
+fn report_cases<R: Print + AllocGlobal>(rt: &R, file: &[u8]) -> io::Result<()> {
+    for case in &cases(rt.alloc(), file)? {
+        report_case(rt, case)?;
+    }
+    Ok(())
 }
 
 fn main(rt: HostRuntime) -> io::Result<()> {
     let mut file = Vec::new(rt.alloc());
     rt.reader().read_to_end(&mut file)?;
-    for case in &cases(rt.alloc(), &file)? {
-        report(&rt, case.title, &case.closed_text(rt.alloc())?)?;
-    }
-    Ok(())
+    report_cases(&rt, &file)
 }

@@ -9,7 +9,7 @@ use host_edge::MemStore;
 use std::alloc::{AllocError, Global};
 use std::io::{self, Read};
 use tick_top::tick;
-use trial_cases::cases;
+use trial_cases::{Case, cases};
 use trial_seen::{Seen, Streams, seen_with, store_with, words_of, words_within};
 
 // What a call within so many steps leaves.
@@ -24,28 +24,60 @@ fn call(
     seen_with(alloc, tick, &words, store, &Streams::of(given))
 }
 
-// A program under `run`, under `build` and then `exec`, and under `mean`, on a store of its own.
+fn show_call<R: Print + AllocGlobal>(
+    rt: &R,
+    name: &str,
+    line: &str,
+    steps: &str,
+    store: &mut MemStore,
+    given: &[u8],
+) -> io::Result<()> {
+    let seen = call(rt.alloc(), line, steps, store, given)?;
+    seen.show(rt, name)
+}
+
+fn build(alloc: Global, store: &mut MemStore) -> Result<(), AllocError> {
+    let words = words_of(alloc, "tick build text image")?;
+    seen_with(alloc, tick, &words, store, &Streams::of(b""))?;
+    Ok(())
+}
+
+// The file `text` under `run`, under `build` and then `exec`, and under `mean`.
+fn show_calls<R: Print + AllocGlobal>(
+    rt: &R,
+    steps: &str,
+    store: &mut MemStore,
+    given: &[u8],
+) -> io::Result<()> {
+    show_call(rt, "run", "tick run text", steps, store, given)?;
+    build(rt.alloc(), store)?;
+    show_call(rt, "exec", "tick exec image", steps, store, given)?;
+    show_call(rt, "mean", "tick mean text", steps, store, given)
+}
+
+// A program, on a store of its own.
 fn report<R: Print + AllocGlobal>(rt: &R, head: &[u8], text: &[u8]) -> io::Result<()> {
-    let alloc = rt.alloc();
     let mut words = head.split(|b| *b == b' ');
     let steps = str::from_utf8(words.next().unwrap_or(b"")).unwrap_or("?");
     let given = words.next().unwrap_or(b"");
-    let mut store = store_with(alloc, text)?;
-    let ran = call(alloc, "tick run text", steps, &mut store, given)?;
-    ran.show(rt, "run")?;
-    let build = words_of(alloc, "tick build text image")?;
-    seen_with(alloc, tick, &build, &mut store, &Streams::of(b""))?;
-    let executed = call(alloc, "tick exec image", steps, &mut store, given)?;
-    executed.show(rt, "exec")?;
-    let meant = call(alloc, "tick mean text", steps, &mut store, given)?;
-    meant.show(rt, "mean")
+    let mut store = store_with(rt.alloc(), text)?;
+    show_calls(rt, steps, &mut store, given)
+}
+
+fn report_case<R: Print + AllocGlobal>(rt: &R, case: &Case) -> io::Result<()> {
+    let text = case.closed_text(rt.alloc())?;
+    report(rt, case.title, &text)
+}
+
+fn report_cases<R: Print + AllocGlobal>(rt: &R, file: &[u8]) -> io::Result<()> {
+    for case in &cases(rt.alloc(), file)? {
+        report_case(rt, case)?;
+    }
+    Ok(())
 }
 
 fn main(rt: HostRuntime) -> io::Result<()> {
     let mut file = Vec::new(rt.alloc());
     rt.reader().read_to_end(&mut file)?;
-    for case in &cases(rt.alloc(), &file)? {
-        report(&rt, case.title, &case.closed_text(rt.alloc())?)?;
-    }
-    Ok(())
+    report_cases(&rt, &file)
 }
