@@ -1,7 +1,7 @@
 use Rattle.std.proofs.Common.{◌∙◌, ap, sym}
-use Rattle.check_operators.specs.Operands.{value_of, code_of}
-use Rattle.check_operators.proofs.Decays.{kept}
-use Rattle.check_operators.proofs.operand.value_of.Goals as goal
+use Rattle.check_operands.specs.Operands.{value_of, code_of}
+use Rattle.check_operands.proofs.Decays.{kept}
+use Rattle.check_operands.proofs.operand.value_of.Goals as goal
 
 pub returns-else-decays : goal.returns-else-decays
 unfolding value_of
