@@ -24,7 +24,7 @@ use Rattle.staged_meaning.specs.World as world
 use Rattle.eval_state.specs.Moves.{code_charge, entry_units, passed_to}
 use Rattle.eval_state.specs.Pending as pending
 use Rattle.eval_state.specs.Rest.{Place, Signal, context_at, once, spent, targeted, ticked, valued}
-use Rattle.eval_state.proofs.Calls.{call_of_none, call_traps, code_call_traps}
+use Rattle.eval_state.proofs.CallLaws.{call_of_none, call_traps, code_call_traps}
 use Rattle.eval_state.specs.declared.state.Body.{Body}
 use Rattle.eval_state.specs.declared.state.Compiled.{Compiled}
 use Rattle.eval_state.specs.declared.state.Entry.TheVariants as entry

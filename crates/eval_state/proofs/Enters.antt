@@ -14,7 +14,7 @@ use Rattle.staged_meaning.specs.World.{Gives}
 use Rattle.eval_state.specs.Moves.{code_charge, entry_units, syntax_at}
 use Rattle.eval_state.specs.Pending as pending
 use Rattle.eval_state.specs.Rest.{Place, Value, context_at, once, spent, targeted, through, ticked, valued}
-use Rattle.eval_state.proofs.Calls.{call_goes, code_call_goes, splice_goes, splice_of_none}
+use Rattle.eval_state.proofs.CallLaws.{call_goes, code_call_goes, splice_goes, splice_of_none}
 use Rattle.eval_state.specs.Run.{Run, here, leads, world}
 
 -- the run within a function that was called, which is charged; d calls more may be active

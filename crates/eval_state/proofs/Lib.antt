@@ -1,6 +1,6 @@
 pub mod Laws
 pub mod Statements
-pub mod Calls
+pub mod CallLaws
 pub mod Ends
 pub mod Burdens
 pub mod KeptRows

@@ -17,7 +17,7 @@ use Rattle.tick_top.specs.Answers.{IsFront, longest_text, IsBuilt, IsRefused, Is
 use Rattle.tick_top.specs.Does.{WithFile, WithProgram, WithAssembled, Unsaved, SavesImage, SavesProgram, AssemblesFile}
 use Rattle.tick_top.specs.Does.{BuildsFile}
 use Rattle.tick_top.specs.Generated.{PrintsSource, Fulfils}
-use Rattle.tick_top.proofs.Saved.{saves_on}
+use Rattle.tick_top.proofs.Saves.{saves_on}
 
 pub if_ok : {T E : Type 0} {P Q : T → Type 0} (r : Result T E) → ((x : T) → P x → Q x) → IfOk r P → IfOk r Q
 if_ok (Ok x) f p = f x p

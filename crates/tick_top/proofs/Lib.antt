@@ -2,7 +2,7 @@ pub mod Mains
 pub mod Files
 pub mod Intervals
 pub mod Programs
-pub mod Saved
+pub mod Saves
 pub mod Fronts
 pub mod Runs
 pub mod Scans

@@ -9,4 +9,4 @@ returns-in_err-program-clause-refused c =
 pub returns-clause-built : goal.returns-clause-built
 returns-clause-built c =
     builds c.built_is_static.ensures c.headline_holds.ensures c.images_keep_rules.ensures c.args.text.now
-    c.in_ok-program.program c.from_program.result c.keeps_law.ensures (search rules) c.from_program.ensures
+    c.in_ok-program.program c.from_program-image.result c.keeps_law.ensures (search rules) c.from_program-image.ensures
