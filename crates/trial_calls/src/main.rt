@@ -7,7 +7,26 @@ use host_edge::MemStore;
 use std::alloc::{AllocError, Global};
 use std::io::{self, Read};
 use tick_top::tick;
-use trial_seen::{Streams, seen_with, words_of};
+use trial_seen::{Open, Seen, Streams, words_of};
+
+// What a call on these files and streams leaves.
+fn seen_with(
+    alloc: Global,
+    words: &[String],
+    store: &mut MemStore,
+    streams: &Streams,
+) -> Result<Seen, AllocError> {
+    let mut open = Open::new(alloc, streams)?;
+    let ended = tick(
+        alloc,
+        words,
+        store,
+        &mut open.input,
+        &mut open.out,
+        &mut open.err,
+    )?;
+    open.seen(alloc, ended)
+}
 
 // What stands before a call.
 #[derive(Clone, Copy, Drop)]
@@ -69,7 +88,7 @@ fn report<R: Print + AllocGlobal>(
     }
     put(rt.alloc(), store, before, content)?;
     let words = words_of(rt.alloc(), line)?;
-    let seen = seen_with(rt.alloc(), tick, &words, store, &Streams::of(b""))?;
+    let seen = seen_with(rt.alloc(), &words, store, &Streams::of(b""))?;
     let out = str::from_utf8(&seen.out).unwrap_or("?");
     let err = str::from_utf8(&seen.err).unwrap_or("?");
     println!(rt;

@@ -3,16 +3,36 @@
 //! `%< ` is a line of its input.
 #![tactic(auto)]
 
+use host_edge::MemStore;
 use std::alloc::{AllocError, Global};
 use std::io::{self, Read};
 use tick_top::tick;
 use trial_cases::{Case, cases};
-use trial_seen::{Seen, Streams, seen_with, store_with, words_of};
+use trial_seen::{Open, Seen, Streams, store_with, words_of};
+
+// What a call on these files and streams leaves.
+fn seen_with(
+    alloc: Global,
+    words: &[String],
+    store: &mut MemStore,
+    streams: &Streams,
+) -> Result<Seen, AllocError> {
+    let mut open = Open::new(alloc, streams)?;
+    let ended = tick(
+        alloc,
+        words,
+        store,
+        &mut open.input,
+        &mut open.out,
+        &mut open.err,
+    )?;
+    open.seen(alloc, ended)
+}
 
 fn call(alloc: Global, line: &str, text: &[u8], given: &[u8]) -> Result<Seen, AllocError> {
     let mut store = store_with(alloc, text)?;
     let words = words_of(alloc, line)?;
-    seen_with(alloc, tick, &words, &mut store, &Streams::of(given))
+    seen_with(alloc, &words, &mut store, &Streams::of(given))
 }
 
 fn show_call<R: Print + AllocGlobal>(

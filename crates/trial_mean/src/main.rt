@@ -9,7 +9,26 @@ use std::alloc::{AllocError, Global};
 use std::io::{self, Read};
 use tick_top::{Outcome, status, tick};
 use trial_cases::{Case, cases};
-use trial_seen::{Seen, Streams, seen_with, store_with, words_of, words_within};
+use trial_seen::{Open, Seen, Streams, store_with, words_of, words_within};
+
+// What a call on these files and streams leaves.
+fn seen_with(
+    alloc: Global,
+    words: &[String],
+    store: &mut MemStore,
+    streams: &Streams,
+) -> Result<Seen, AllocError> {
+    let mut open = Open::new(alloc, streams)?;
+    let ended = tick(
+        alloc,
+        words,
+        store,
+        &mut open.input,
+        &mut open.out,
+        &mut open.err,
+    )?;
+    open.seen(alloc, ended)
+}
 
 // The words of a call, of which those of the option are left out where it has no number.
 fn words_for(alloc: Global, line: &str, units: &str) -> Result<Vec<String>, AllocError> {
@@ -46,7 +65,7 @@ fn meant_of(
     given: &[u8],
 ) -> Result<Seen, AllocError> {
     let words = words_for(alloc, "tick mean text", units)?;
-    seen_with(alloc, tick, &words, store, &Streams::of(given))
+    seen_with(alloc, &words, store, &Streams::of(given))
 }
 
 // How the run of the file `text` stands to its evaluation.
@@ -60,7 +79,7 @@ fn compared(
         return Ok("not compared");
     }
     let words = words_of(alloc, "tick run text")?;
-    let ran = seen_with(alloc, tick, &words, store, &Streams::of(given))?;
+    let ran = seen_with(alloc, &words, store, &Streams::of(given))?;
     Ok(comparison(meant, &ran))
 }
 

@@ -10,7 +10,26 @@ use std::alloc::{AllocError, Global};
 use std::io::{self, Read};
 use tick_top::tick;
 use trial_cases::{Case, cases};
-use trial_seen::{Seen, Streams, seen_with, store_with, words_of, words_within};
+use trial_seen::{Open, Seen, Streams, store_with, words_of, words_within};
+
+// What a call on these files and streams leaves.
+fn seen_with(
+    alloc: Global,
+    words: &[String],
+    store: &mut MemStore,
+    streams: &Streams,
+) -> Result<Seen, AllocError> {
+    let mut open = Open::new(alloc, streams)?;
+    let ended = tick(
+        alloc,
+        words,
+        store,
+        &mut open.input,
+        &mut open.out,
+        &mut open.err,
+    )?;
+    open.seen(alloc, ended)
+}
 
 // What a call within so many steps leaves.
 fn call(
@@ -21,7 +40,7 @@ fn call(
     given: &[u8],
 ) -> Result<Seen, AllocError> {
     let words = words_within(alloc, line, steps)?;
-    seen_with(alloc, tick, &words, store, &Streams::of(given))
+    seen_with(alloc, &words, store, &Streams::of(given))
 }
 
 fn show_call<R: Print + AllocGlobal>(
@@ -38,7 +57,7 @@ fn show_call<R: Print + AllocGlobal>(
 
 fn build(alloc: Global, store: &mut MemStore) -> Result<(), AllocError> {
     let words = words_of(alloc, "tick build text image")?;
-    seen_with(alloc, tick, &words, store, &Streams::of(b""))?;
+    seen_with(alloc, &words, store, &Streams::of(b""))?;
     Ok(())
 }
 

@@ -11,7 +11,26 @@ use host_edge::MemStore;
 use std::alloc::{AllocError, Global};
 use std::io;
 use tick_top::tick;
-use trial_seen::{Seen, Streams, seen_with, store_with, words_of};
+use trial_seen::{Open, Seen, Streams, store_with, words_of};
+
+// What a call on these files and streams leaves.
+fn seen_with(
+    alloc: Global,
+    words: &[String],
+    store: &mut MemStore,
+    streams: &Streams,
+) -> Result<Seen, AllocError> {
+    let mut open = Open::new(alloc, streams)?;
+    let ended = tick(
+        alloc,
+        words,
+        store,
+        &mut open.input,
+        &mut open.out,
+        &mut open.err,
+    )?;
+    open.seen(alloc, ended)
+}
 
 /// The program that writes `H` and a line feed, and ends with 3.
 pub(crate) const HELLO: &str = "int main(){putchar(72);putchar(10);return 3;}";
@@ -33,7 +52,7 @@ pub(crate) fn seen_of(
     streams: &Streams,
 ) -> Result<Seen, AllocError> {
     let words = words_of(alloc, line)?;
-    seen_with(alloc, tick, &words, store, streams)
+    seen_with(alloc, &words, store, streams)
 }
 
 /// A call that stands on a line, on a store with the file `text` and these streams.

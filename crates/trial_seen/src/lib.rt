@@ -1,4 +1,4 @@
-//! Whole calls over the forms in memory of the outside, and what they left. The trials say what is called.
+//! Whole calls over the forms in memory of the outside, and what they left. The trials make the calls.
 #![tactic(auto)]
 
 use host_edge::{MemSink, MemSource, MemStore};
@@ -95,11 +95,14 @@ impl<'a> Streams<'a> {
     }
 }
 
-// The streams of a call as they are during it.
-struct Open {
-    input: MemSource,
-    out: MemSink,
-    err: MemSink,
+/// The streams of a call as they are during it.
+pub struct Open {
+    /// Standard input.
+    pub input: MemSource,
+    /// Standard output.
+    pub out: MemSink,
+    /// Standard error.
+    pub err: MemSink,
 }
 
 // (derived, each place that drops them would look into their lists)
@@ -134,14 +137,14 @@ fn open_with(alloc: Global, streams: &Streams, input: MemSource) -> Result<Open,
 }
 
 impl Open {
-    // These streams, of which nothing is read or written yet.
-    fn new(alloc: Global, streams: &Streams) -> Result<Open, AllocError> {
+    /// These streams, of which nothing is read or written yet.
+    pub fn new(alloc: Global, streams: &Streams) -> Result<Open, AllocError> {
         let input = MemSource::new(alloc, streams.given, streams.failing_reads)?;
         open_with(alloc, streams, input)
     }
 
-    // What a call on these streams that ended so has left.
-    fn seen(&self, alloc: Global, ended: Ended) -> Result<Seen, AllocError> {
+    /// What a call on these streams that ended so has left.
+    pub fn seen(&self, alloc: Global, ended: Ended) -> Result<Seen, AllocError> {
         let out = self.out.taken().to_vec(alloc)?;
         let err = self.err.taken().to_vec(alloc)?;
         Ok(Seen {
@@ -152,37 +155,6 @@ impl Open {
             err,
         })
     }
-}
-
-/// What a call on these files and streams leaves.
-pub fn seen_with<
-    F: Fn(
-        Global,
-        &[String],
-        &mut MemStore,
-        &mut MemSource,
-        &mut MemSink,
-        &mut MemSink,
-    ) -> Result<Ended, AllocError>,
->(
-    alloc: Global,
-    call: F,
-    words: &[String],
-    store: &mut MemStore,
-    streams: &Streams,
-) -> Result<Seen, AllocError>
-    requires { F.IsAlwaysCallable call }
-{
-    let mut open = Open::new(alloc, streams)?;
-    let ended = call(
-        alloc,
-        words,
-        store,
-        &mut open.input,
-        &mut open.out,
-        &mut open.err,
-    )?;
-    open.seen(alloc, ended)
 }
 
 /// A store with the file `text`.
