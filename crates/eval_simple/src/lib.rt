@@ -6,3 +6,4 @@ mod effects;
 mod values;
 
 pub use effects::at_once;
+pub use values::simple;

@@ -160,7 +160,7 @@ pub(crate) fn last_part(m: &Machine<'_>, e: &Expr, left: &mut u64) -> Option<u32
 
 /// Evaluates an expression at once, where it is simple, doesn't trap, and the units suffice; else nothing is done.
 #[tactic(auto, using(crate::proofs::Laws::done))]
-pub(crate) fn simple(m: &mut Machine<'_>, e: &Expr) -> Option<u32>
+pub fn simple(m: &mut Machine<'_>, e: &Expr) -> Option<u32>
     ensures { MatchOption result (m.new ≡ m.old)
         (λ v. IsDone (expr_view e.now) v (run_of m.old) (run_of m.new)) }
 {

@@ -1,7 +1,7 @@
 -- What is still to come where a function is called, by the parts of the state.
 use Rattle.std.proofs.Common.{◌≡◌, ◌≢◌, ℕ, zero, suc, ◌+◌, ◌-◌, ◌<◌, ◌≤◌, length, List, [], ◌∷◌, ◌++◌, map, refl, ap}
 use Rattle.std.proofs.Common.{sym}
-use Rattle.std.proofs.Common.{◌∙◌, subst, arith, Bool, true, false, nat_le, if◌then◌else◌, Option, Some, None}
+use Rattle.std.proofs.Common.{◌∙◌, subst, arith, if◌then◌else◌, Option, Some, None}
 use Rattle.std.proofs.Common.{slice_get}
 use Rattle.std.proofs.lemmas.List.{map-append}
 use Rattle.std.proofs.lemmas.Option.{slice_get-map, slice_get_within}
@@ -11,7 +11,7 @@ use Rattle.host_edge.specs.declared.ending.TrapKind.{TrapKind}
 use Rattle.host_edge.specs.declared.ending.TrapKind.TheVariants.{BadCall}
 use Rattle.history.specs.Events.{Ended}
 use Rattle.history.specs.Events as happened
-use Rattle.history.specs.Syntax.{Captures, Syntax, Ticked}
+use Rattle.history.specs.Syntax.{Captures, Ticked}
 use Rattle.meaning_state.specs.Rows.{locals_of, numbered}
 use Rattle.meaning_state.specs.Shared.{Specification, happens, limit_trap}
 use Rattle.typed_tree.specs.declared.expression.Answer.{Answer}
@@ -21,9 +21,9 @@ use Rattle.staged_meaning.specs.Program.{Callee, Generated, Static, callee_at, g
 use Rattle.staged_meaning.specs.Size.{charge_of, size_of}
 use Rattle.staged_meaning.specs.World.{World, Gives, Normal, Stops, Flow, spend_all, spend_from, then_do}
 use Rattle.staged_meaning.specs.World as world
-use Rattle.eval_state.specs.Moves.{code_charge, entry_units, passed_to}
+use Rattle.eval_state.specs.Moves.{code_charge, passed_to}
 use Rattle.eval_state.specs.Pending as pending
-use Rattle.eval_state.specs.Rest.{Place, Signal, context_at, once, spent, targeted, ticked, valued}
+use Rattle.eval_state.specs.Rest.{Signal, context_at, once, spent, targeted, ticked, valued}
 use Rattle.eval_state.proofs.CallLaws.{call_of_none, call_traps, code_call_traps}
 use Rattle.eval_state.specs.declared.state.Body.{Body}
 use Rattle.eval_state.specs.declared.state.Compiled.{Compiled}
@@ -32,7 +32,7 @@ use Rattle.eval_state.specs.declared.state.Event.TheVariants as event
 use Rattle.eval_state.specs.declared.state.Parts.{Parts}
 use Rattle.eval_state.specs.Grown.{code_body, with_called, with_event}
 use Rattle.eval_state.specs.Kept.{captures_at, compiled_view, entry_view, event_view, rows_view, syntax_at}
-use Rattle.eval_state.specs.Run.{Run, here, in_world, leads, outcome, program_of, run_of, with_units}
+use Rattle.eval_state.specs.Run.{Run, here, leads, outcome, program_of, run_of, with_units}
 use Rattle.eval_state.specs.Run.{world as world_now}
 use Rattle.eval_state.specs.Specified.{AreMade, IsMade}
 use Rattle.eval_state.proofs.Enters.{code_enters, code_run, entered_run, enters}
@@ -58,7 +58,8 @@ static_at p n i f h e =
     let within : suc i ≤ length (map function_view fs) = omega (arith, same, slice_get_within fs i f e) in
     ap (callee_in p) h
     ∙ ap (λ b. if b then static_callee (slice_get (map function_view fs) i)
-    else generated_callee (numbered (suc i - length (map function_view fs)) (map (compiled_view (rows_view p.rows)) p.compiled)))
+    else generated_callee (numbered (suc i - length (map function_view fs))
+    (map (compiled_view (rows_view p.rows)) p.compiled)))
     (is_within (suc i) (length (map function_view fs)) within)
     ∙ ap static_callee (slice_get-map function_view fs i ∙ ap (option_map function_view) e)
 
@@ -166,7 +167,8 @@ pub static_enters : (p q : Parts) (a : Answer) (f charge : ℕ) (vs : List ℕ) 
       row = 0;
     }
     → q ≡ with_called a charge b p
-    → leads (run_of q) (spent (here (run_of q)) (world_now (run_of q)).units (pending.Exec (function_view function).body)
+    → leads (run_of q) (spent (here (run_of q)) (world_now (run_of q)).units
+    (pending.Exec (function_view function).body)
     (world_now (run_of q))) ≡ calls_to p a f vs
 unfolding run_of
 static_enters p q a f charge vs function b h e k l is same =
@@ -312,7 +314,8 @@ module _ (p : Parts) (a : Answer) (f charge row : ℕ) (vs : List ℕ) (tick : �
         ≤ (world_now (run_of (code_parts a charge f vs row p))).units
         → units ≡ (world_now (run_of (code_parts a charge f vs row p))).units - 1 - locals_of (Ticked tick inner)
         → leads (with_units units (run_of (code_parts a charge f vs row p)))
-        (ticked (here (with_units units (run_of (code_parts a charge f vs row p)))) (slice_get (program_of p).ticks tick)
+        (ticked (here (with_units units (run_of (code_parts a charge f vs row p))))
+        (slice_get (program_of p).ticks tick)
         (world_now (with_units units (run_of (code_parts a charge f vs row p))))) ≡ calls_to p a f vs
     unfolding run_of
     code_begins units h k =

@@ -1,6 +1,6 @@
--- What is still to come where the code of a tick begins, where code is spliced in, and where a function is called by its
--- number.
-use Rattle.std.proofs.Common.{◌≡◌, ◌≢◌, ℕ, zero, suc, ◌+◌, ◌-◌, ◌<◌, ◌≤◌, length, List, [], ◌∷◌, ◌++◌, map, refl, ap}
+-- What is still to come where the code of a tick begins, where code is spliced in, and where a function is called by
+-- its number.
+use Rattle.std.proofs.Common.{◌≡◌, ◌≢◌, ℕ, zero, suc, ◌+◌, ◌-◌, ◌<◌, ◌≤◌, length, List, [], ◌∷◌, map, refl, ap}
 use Rattle.std.proofs.Common.{sym}
 use Rattle.std.proofs.Common.{◌∙◌, subst, arith, Bool, true, false, nat_eq, if◌then◌else◌, nat_le, is_none, slice_get}
 use Rattle.std.proofs.Common.{Option, Some, None, Result, Ok, Err, IfOk}
@@ -12,7 +12,7 @@ use Rattle.host_edge.specs.declared.ending.Ending.TheVariants.{Trap}
 use Rattle.host_edge.specs.declared.ending.TrapKind.{TrapKind}
 use Rattle.host_edge.specs.declared.ending.TrapKind.TheVariants.{BadCall, FrameLimit, StackLimit}
 use Rattle.history.specs.Events.{Ended}
-use Rattle.history.specs.Syntax.{Captures, Syntax, Ticked}
+use Rattle.history.specs.Syntax.{Syntax, Ticked}
 use Rattle.limits.specs.declared.program.TheConstants.{FRAME_OBJECT_BYTES, SIZE_LIMIT}
 use Rattle.word32.specs.declared.map.TheConstants.{STACK_BYTES}
 use Rattle.meaning_state.specs.Rows.{locals_of, numbered}
@@ -51,18 +51,18 @@ use Rattle.eval_state.specs.declared.state.Row.{Row}
 use Rattle.eval_state.specs.declared.state.RowKind.{RowKind}
 use Rattle.eval_state.specs.declared.state.RowKind.TheVariants as kind
 use Rattle.eval_state.specs.Grown.{tick_of, with_event, with_left, with_spliced}
-use Rattle.eval_state.specs.Kept.{captures_at, captures_in, entry_view, kept_view, row_of, row_view, rows_view}
+use Rattle.eval_state.specs.Kept.{captures_at, captures_in, entry_view, kept_view, row_of, rows_view}
 use Rattle.eval_state.specs.Kept.{syntax_at}
 use Rattle.eval_state.specs.Numbered.{kept_at, kept_in, number_kept}
 use Rattle.eval_state.specs.Run.{Run, here, leads, outcome, program_of, run_of, world as world_now}
 use Rattle.eval_state.specs.Sound.{IsSound}
-use Rattle.eval_state.specs.Specified.{AreEarlier, IsCode, IsEarlier, IsMade}
+use Rattle.eval_state.specs.Specified.{IsCode, IsMade}
 use Rattle.eval_state.specs.Views.{now_view}
 use Rattle.eval_state.proofs.Callees.{callee_in, calls_to, code_at, code_begins, code_limit, code_parts, code_stops}
 use Rattle.eval_state.proofs.Callees.{made_at}
 use Rattle.eval_state.proofs.Enters.{splice_enters, splice_of_nothing, splice_run}
 use Rattle.eval_state.proofs.Growth.{code_within}
-use Rattle.eval_state.proofs.Makes.{is_over, is_within, traps}
+use Rattle.eval_state.proofs.Makes.{traps}
 use Rattle.eval_state.proofs.Named.{row_named, splice_here}
 use Rattle.eval_state.proofs.Rows.{count}
 use Rattle.eval_state.proofs.Sizes.{earlier_at}
@@ -334,7 +334,8 @@ module _ (p : Parts) (a : Answer) (n i charge : ℕ) (m : Compiled) (vs : List �
     unfolding run_of
     begins_code q units same h k =
         ap (λ (q : Parts). leads (run_of q) (ticked (here (run_of q))
-        (slice_get (program_of q).ticks (tick_of (syntax_at (rows_view q.rows) q.body.row))) (world_now (run_of q)))) same
+        (slice_get (program_of q).ticks (tick_of (syntax_at (rows_view q.rows) q.body.row))) (world_now (run_of q))))
+        same
         ∙ code_begins p a n charge m.row vs (tick_at p m.row) (captures_at (rows_view p.rows) m.row) deep
         (code_callee p n i m sound there at) is refl free units
         (subst (λ l. suc l ≤ p.units) (code_locals p i m sound at) h)

@@ -1,6 +1,6 @@
 -- What is still to come, where a specification is compiled.
-use Rattle.std.proofs.Common.{◌≡◌, ℕ, zero, suc, ◌+◌, ◌-◌, ◌<◌, ◌≤◌, length, List, [], ◌∷◌, ◌++◌, map, refl, ap, sym}
-use Rattle.std.proofs.Common.{◌∙◌, subst, arith, Bool, true, false, if◌then◌else◌, Option, Some, None}
+use Rattle.std.proofs.Common.{◌≡◌, ℕ, suc, ◌+◌, ◌-◌, ◌<◌, ◌≤◌, length, List, [], ◌∷◌, ◌++◌, map, refl, ap, sym}
+use Rattle.std.proofs.Common.{◌∙◌, arith, true, false, if◌then◌else◌, Option, Some, None}
 use Rattle.std.proofs.lemmas.List.{map-append}
 use Rattle.std.proofs.lemmas.Bool.Decides.{nat_tests}
 use Rattle.std.proofs.Common.{nat_lt}
@@ -16,7 +16,7 @@ use Rattle.word32.specs.declared.map.TheConstants.{ARENA_WORDS, FUNCTION_ROWS}
 use Rattle.meaning_state.specs.Rows.{arena_trap, arena_words, made, next_function, numbered, table_trap}
 use Rattle.meaning_state.specs.Shared.{Specification}
 use Rattle.meaning_state.specs.Shared as shared
-use Rattle.staged_meaning.specs.Program.{Program, syntax_size}
+use Rattle.staged_meaning.specs.Program.{syntax_size}
 use Rattle.staged_meaning.specs.Specifications.{compile_number, compile_row, compile_syntax, fits, syntax_in}
 use Rattle.staged_meaning.specs.World.{World, Flow, spend, spend_all, then_do, unless, with_shared}
 use Rattle.staged_meaning.specs.World as world

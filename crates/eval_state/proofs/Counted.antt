@@ -1,5 +1,5 @@
 -- What is true of the rows stays true where a specification is added, and is true of it.
-use Rattle.std.proofs.Common.{◌≡◌, ℕ, zero, suc, ◌+◌, ◌*◌, ◌<◌, ◌≤◌, length, List, [], ◌∷◌, ◌++◌, map, slice_get, refl}
+use Rattle.std.proofs.Common.{◌≡◌, ℕ, zero, suc, ◌+◌, ◌<◌, ◌≤◌, length, List, [], ◌∷◌, ◌++◌, map, slice_get, refl}
 use Rattle.std.proofs.Common.{ap, sym, subst, ◌∙◌, arith, ◌⊎◌, inl, inr, true, false, Some}
 use Rattle.std.proofs.lemmas.Option.{slice_get_within}
 use Rattle.history.specs.Syntax.{Captures}
@@ -25,8 +25,8 @@ use Rattle.eval_state.specs.Run.{program_of}
 use Rattle.eval_state.specs.Sound.{AreKnown, AreNamed, IsSound}
 use Rattle.eval_state.specs.declared.state.RowKind.{RowKind}
 use Rattle.eval_state.specs.declared.state.RowKind.TheVariants as kind
-use Rattle.eval_state.specs.Kept.{kept_view, row_of, row_view, rows_view, syntax_at}
-use Rattle.eval_state.specs.Specified.{AreEarlier, AreMade, AreRows, HasRows, IsCode, IsCounted, IsEarlier, IsRow}
+use Rattle.eval_state.specs.Kept.{kept_view, row_of, row_view, rows_view}
+use Rattle.eval_state.specs.Specified.{AreEarlier, AreMade, AreRows, HasRows, IsCode, IsCounted, IsRow}
 use Rattle.eval_state.proofs.Growth.{code_within, numbered_more}
 use Rattle.eval_state.proofs.Rows.{count, rows_are}
 

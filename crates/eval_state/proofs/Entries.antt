@@ -1,7 +1,8 @@
 -- What is still to come, where a function is called and where code is spliced in: the state of the code by the laws of
 -- `Enters`.
-use Rattle.std.proofs.Common.{◌≡◌, ◌≢◌, ℕ, zero, suc, ◌+◌, ◌-◌, ◌<◌, ◌≤◌, length, List, [], ◌∷◌, ◌++◌, map, refl, ap, sym}
-use Rattle.std.proofs.Common.{◌∙◌, subst, arith, Bool, true, false, nat_le, if◌then◌else◌, Option, Some, None, slice_get}
+use Rattle.std.proofs.Common.{◌≡◌, ℕ, ◌+◌, ◌<◌, ◌≤◌, List, [], ◌∷◌, ◌++◌, refl, ap}
+use Rattle.std.proofs.Common.{sym}
+use Rattle.std.proofs.Common.{◌∙◌, subst, arith, Bool, true, false, nat_le, if◌then◌else◌, Some, None}
 use Rattle.std.proofs.Common.{Result, Ok, Err, OnOk, OnErr}
 use Rattle.host_edge.specs.declared.ending.TrapKind.TheVariants.{FrameLimit, StackLimit}
 use Rattle.limits.specs.declared.program.TheConstants.{FRAME_OBJECT_BYTES}

@@ -1,6 +1,9 @@
 pub mod Laws
 pub mod Statements
 pub mod CallLaws
+pub mod Late
+pub mod Waits
+pub mod Bodies
 pub mod Ends
 pub mod Burdens
 pub mod KeptRows

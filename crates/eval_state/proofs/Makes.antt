@@ -4,13 +4,12 @@ use Rattle.std.proofs.Common.{true, false, nat_le, Option, Some, None, if◌then
 use Rattle.std.proofs.lemmas.Bool.Decides.{nat_tests}
 use Rattle.host_edge.specs.declared.ending.Ending.TheVariants.{Trap}
 use Rattle.host_edge.specs.declared.ending.TrapKind.{TrapKind}
-use Rattle.host_edge.specs.declared.ending.TrapKind.TheVariants.{BadParam, SpecLimit}
+use Rattle.host_edge.specs.declared.ending.TrapKind.TheVariants.{SpecLimit}
 use Rattle.history.specs.Events.{Ended}
 use Rattle.word32.specs.declared.map.TheConstants.{CLOSURE_BYTES}
-use Rattle.meaning_state.specs.Rows.{closure_bytes, closure_trap, index_trap, next_number, specified}
+use Rattle.meaning_state.specs.Rows.{closure_bytes, closure_trap, next_number, specified}
 use Rattle.meaning_state.specs.Shared.{Specification, Shared}
-use Rattle.meaning_state.specs.Shared as shared
-use Rattle.staged_meaning.specs.Specifications.{specify, specify_parameter}
+use Rattle.staged_meaning.specs.Specifications.{specify}
 use Rattle.staged_meaning.specs.World.{World, Result, spend, unless, with_shared}
 use Rattle.eval_state.specs.Pending as pending
 use Rattle.eval_state.specs.Rest.{spent, valued}
@@ -18,10 +17,9 @@ use Rattle.eval_state.proofs.Laws.{spent_value}
 use Rattle.eval_state.specs.declared.state.Parts.{Parts}
 use Rattle.eval_state.specs.declared.state.Row.{Row}
 use Rattle.eval_state.specs.Grown.{specification_in, with_row}
-use Rattle.eval_state.specs.Kept.{rows_view}
 use Rattle.eval_state.specs.Run.{Run, here, in_world, leads, outcome, run_of, world}
 use Rattle.eval_state.specs.Sound.{IsSound}
-use Rattle.eval_state.proofs.Rows.{count, row_is_added, rows_are}
+use Rattle.eval_state.proofs.Rows.{count, row_is_added}
 
 pub is_over : (a n : ℕ) → n < a → nat_le a n ≡ false
 is_over a n h = grind (arith, nat_tests)

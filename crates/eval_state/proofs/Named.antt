@@ -1,14 +1,13 @@
 -- What a number names, and what the code that is active captured: it is read off the row that is kept.
-use Rattle.std.proofs.Common.{◌≡◌, ℕ, zero, suc, ◌+◌, ◌<◌, ◌≤◌, length, List, [], ◌∷◌, ◌++◌, map, max, slice_get, refl}
+use Rattle.std.proofs.Common.{◌≡◌, ℕ, zero, suc, ◌+◌, ◌<◌, ◌≤◌, length, List, [], ◌∷◌, ◌++◌, map, slice_get, refl}
 use Rattle.std.proofs.Common.{min, drop, get_or, Bool, if◌then◌else◌}
-use Rattle.std.proofs.Common.{ap, sym, ◌∙◌, subst, arith, Option, Some, None, true, false, IsTrue}
+use Rattle.std.proofs.Common.{ap, sym, ◌∙◌, arith, Option, Some, None, true, false}
 use Rattle.std.proofs.lemmas.Option.{slice_get-map, slice_get_past, slice_get_within}
 use Rattle.std.specs.Option.{option_map}
-use Rattle.history.specs.Syntax.{Ticked, NoCapture, Captures}
 use Rattle.typed_tree.specs.declared.expression.CaptureKind.{CaptureKind}
 use Rattle.typed_tree.specs.declared.expression.CaptureKind.TheVariants as capture
 use Rattle.typed_tree.specs.declared.expression.Answer.TheVariants as answer
-use Rattle.meaning_state.specs.Rows.{numbered, parameters_of}
+use Rattle.meaning_state.specs.Rows.{numbered}
 use Rattle.meaning_state.specs.Shared.{Specification}
 use Rattle.meaning_state.specs.Shared as shared
 use Rattle.typed_tree.specs.declared.expression.Answer.{Answer}
@@ -16,8 +15,8 @@ use Rattle.word32.specs.declared.map.TheConstants.{CLOSURE_BYTES}
 use Rattle.std.proofs.Common.{◌⊎◌, inl, inr, append_assoc}
 use Rattle.std.proofs.lemmas.List.{map-append}
 use Rattle.staged_meaning.specs.Expressions.{key_of, word_of}
-use Rattle.staged_meaning.specs.Program.{Program, syntax_size}
-use Rattle.staged_meaning.specs.Specifications.{captures_trap, fits, key_in, kind_of, kinds_of, syntax_in}
+use Rattle.staged_meaning.specs.Program.{Program}
+use Rattle.staged_meaning.specs.Specifications.{captures_trap, fits, key_in, kind_of, kinds_of}
 use Rattle.eval_state.specs.KeptRows as kept
 use Rattle.host_edge.specs.declared.ending.TrapKind.{TrapKind}
 use Rattle.host_edge.specs.declared.ending.TrapKind.TheVariants.{BadSpec}
@@ -33,11 +32,11 @@ use Rattle.eval_state.specs.declared.state.Parts.{Parts}
 use Rattle.eval_state.specs.declared.state.Row.{Row}
 use Rattle.eval_state.specs.declared.state.RowKind.{RowKind}
 use Rattle.eval_state.specs.declared.state.RowKind.TheVariants as kind
-use Rattle.eval_state.specs.Kept.{captures_in, kept_view, row_of, row_view, rows_view, syntax_at}
-use Rattle.eval_state.specs.Numbered.{kept_at, kept_in, kind_in, number_kept, of_kind}
-use Rattle.eval_state.specs.Run.{here, program_of, run_of, world}
+use Rattle.eval_state.specs.Kept.{captures_in, kept_view, row_of, row_view, rows_view}
+use Rattle.eval_state.specs.Numbered.{kept_at, kept_in, kind_in, of_kind}
+use Rattle.eval_state.specs.Run.{here, program_of, run_of}
 use Rattle.eval_state.specs.Sound.{IsSound}
-use Rattle.eval_state.specs.Specified.{AreEarlier, AreRows, IsCode, IsCounted, IsEarlier, IsRow}
+use Rattle.eval_state.specs.Specified.{AreEarlier, AreRows, IsCode, IsCounted, IsEarlier}
 use Rattle.eval_state.proofs.Rows.{count}
 
 -- ---- the row of a number is its specification's
@@ -74,11 +73,13 @@ captures_of_kind program rows kind.Local row h = ap (λ kept. captures_kept rows
 captures_of_kind program rows (kind.Param i) row h = ap (λ kept. captures_kept rows (map kept_view kept)) (sym h)
 
 pub captures_named : (program : Program) (list : List Row) (n : ℕ) → AreRows program (rows_view list) list
-    → captures_in (numbered n (rows_view list)) ≡ captures_kept (rows_view list) (map kept_view (kept_in (numbered n list)))
+    → captures_in (numbered n (rows_view list)) ≡ captures_kept (rows_view list)
+    (map kept_view (kept_in (numbered n list)))
 captures_named program list n h = go (numbered n list) refl
   where
     go : (o : Option Row) → numbered n list ≡ o
-        → captures_in (numbered n (rows_view list)) ≡ captures_kept (rows_view list) (map kept_view (kept_in (numbered n list)))
+        → captures_in (numbered n (rows_view list)) ≡ captures_kept (rows_view list)
+        (map kept_view (kept_in (numbered n list)))
     go None e = ap captures_in (none_named list n e)
         ∙ ap (λ o. captures_kept (rows_view list) (map kept_view (kept_in o))) (sym e)
     go (Some row) e = ap captures_in (row_named program list n row h e)
@@ -87,7 +88,8 @@ captures_named program list n h = go (numbered n list) refl
 
 -- what the code that is active captured
 pub captures_here : (p : Parts) → IsSound p
-    → (here (run_of p)).captures ≡ captures_kept (rows_view p.rows) (map kept_view (kept_in (numbered p.body.row p.rows)))
+    → (here (run_of p)).captures ≡ captures_kept (rows_view p.rows) (map kept_view
+    (kept_in (numbered p.body.row p.rows)))
 unfolding run_of
 captures_here p sound = captures_named (program_of p) p.rows p.body.row sound.3.each
 

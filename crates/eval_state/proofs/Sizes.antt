@@ -1,21 +1,20 @@
 -- What is counted once, as a row is made: nodes and parameters.
-use Rattle.std.proofs.Common.{◌≡◌, ℕ, zero, suc, ◌+◌, ◌<◌, ◌≤◌, length, List, [], ◌∷◌, ◌++◌, map, min, max, drop, refl}
-use Rattle.std.proofs.Common.{slice_get, slice_index_or, ap, sym, ◌∙◌, subst, arith, Option, Some, None, true, false}
+use Rattle.std.proofs.Common.{◌≡◌, ℕ, zero, suc, ◌+◌, ◌<◌, ◌≤◌, length, List, [], ◌∷◌, map, max, drop, refl}
+use Rattle.std.proofs.Common.{slice_get, slice_index_or, ap, sym, ◌∙◌, subst, arith, Some, None}
 use Rattle.std.proofs.lemmas.Option.{slice_get-map, slice_get_within}
 use Rattle.std.specs.Option.{option_map}
-use Rattle.limits.specs.declared.program.TheConstants.{NODE_TOP, SIZE_LIMIT}
+use Rattle.limits.specs.declared.program.TheConstants.{SIZE_LIMIT}
 use Rattle.typed_tree.specs.declared.expression.Expr.{Expr}
 use Rattle.typed_tree.specs.declared.program.Tick.{Tick}
 use Rattle.typed_tree.specs.declared.program.TickBody.{TickBody}
 use Rattle.typed_tree.specs.declared.program.TickBody.TheVariants as body
 use Rattle.typed_tree.specs.declared.program.TypedParts.{TypedParts}
 use Rattle.typed_tree.specs.Measures.{size_of_body}
-use Rattle.typed_tree.specs.Nodes as node
 use Rattle.typed_tree.specs.Sizes.{has_value}
 use Rattle.typed_tree.specs.View.{expr_view, body_view, program_view}
 use Rattle.typed_tree.specs.View as view
 use Rattle.typed_tree.proofs.Fusion.{value_viewed}
-use Rattle.wellformed.specs.Program.{IsProgram, IsWellFormed}
+use Rattle.wellformed.specs.Program.{IsWellFormed}
 use Rattle.meaning_state.specs.Rows.{numbered, parameters_of}
 use Rattle.meaning_state.specs.Shared.{Specification}
 use Rattle.staged_meaning.specs.Program.{syntax_size, tick_size, is_expression}
@@ -24,18 +23,16 @@ use Rattle.staged_meaning.specs.Source.{tick_view}
 use Rattle.staged_meaning.specs.Specifications.{syntax_in}
 use Rattle.history.specs.Syntax.{Syntax}
 use Rattle.eval_state.specs.KeptRows.{parameters_kept, row_kept, size_kept}
-use Rattle.eval_state.proofs.KeptRows.{parameters_are_kept, size_is_kept}
 use Rattle.eval_state.specs.declared.state.Kept.{Kept}
 use Rattle.eval_state.specs.declared.state.Kept.TheVariants as code
 use Rattle.eval_state.specs.declared.state.Parts.{Parts}
 use Rattle.eval_state.specs.declared.state.Row.{Row}
 use Rattle.eval_state.specs.declared.state.RowKind.{RowKind}
 use Rattle.eval_state.specs.declared.state.RowKind.TheVariants as kind
-use Rattle.eval_state.specs.Kept.{kept_view, row_of, row_view, rows_view, syntax_at}
-use Rattle.eval_state.specs.Numbered.{code_kind}
+use Rattle.eval_state.specs.Kept.{kept_view, row_of, rows_view, syntax_at}
 use Rattle.eval_state.specs.Run.{program_of}
 use Rattle.eval_state.specs.Sound.{IsSound}
-use Rattle.eval_state.specs.Specified.{AreEarlier, AreRows, IsCode, IsCounted, IsEarlier}
+use Rattle.eval_state.specs.Specified.{AreEarlier, IsCode, IsCounted, IsEarlier}
 use Rattle.eval_state.proofs.Named.{none_named, row_counted, row_named}
 
 -- ---- ticks

@@ -1,9 +1,9 @@
 -- What is still to come, where the newest of what is pending is taken off.
-use Rattle.std.proofs.Common.{◌≡◌, ℕ, zero, suc, ◌+◌, ◌-◌, ◌^◌, ◌<◌, length, List, [], ◌∷◌, ◌++◌, map, ap, sym, ◌∙◌}
+use Rattle.std.proofs.Common.{◌≡◌, ℕ, ◌+◌, ◌-◌, ◌^◌, ◌<◌, length, List, [], ◌∷◌, ◌++◌, map, ap, sym, ◌∙◌}
 use Rattle.std.proofs.Common.{subst, arith}
 use Rattle.std.proofs.lemmas.List.{map-append}
 use Rattle.staged_meaning.specs.Expressions.{left_by}
-use Rattle.staged_meaning.specs.World.{Gives, Returns, spend, spend_all, then_do}
+use Rattle.staged_meaning.specs.World.{Gives, Returns, spend}
 use Rattle.typed_tree.specs.declared.expression.Answer.{Answer}
 use Rattle.eval_state.specs.Rest.{Value, valued, value_of}
 use Rattle.eval_state.specs.declared.parts.Frame.{Frame}

@@ -1,5 +1,5 @@
 -- What is still to come, where the specification of a tick is made.
-use Rattle.std.proofs.Common.{◌≡◌, ℕ, ◌+◌, ◌<◌, ◌≤◌, length, List, [], ◌∷◌, map, min, refl, ap, sym, ◌∙◌, subst, arith}
+use Rattle.std.proofs.Common.{◌≡◌, ℕ, ◌+◌, ◌<◌, ◌≤◌, length, List, [], ◌∷◌, map, refl, ap, sym, ◌∙◌, subst}
 use Rattle.std.proofs.Common.{Bool, Option, Some, None, Result, Ok, Err, IfOk, true, false, is_none, slice_get}
 use Rattle.std.proofs.Common.{if◌then◌else◌}
 use Rattle.host_edge.specs.declared.ending.Ending.TheVariants.{Trap}
@@ -7,7 +7,7 @@ use Rattle.host_edge.specs.declared.ending.TrapKind.{TrapKind}
 use Rattle.host_edge.specs.declared.ending.TrapKind.TheVariants.{BadSpec, SizeLimit}
 use Rattle.history.specs.Events.{Ended}
 use Rattle.history.specs.Syntax.{Syntax, Ticked}
-use Rattle.limits.specs.declared.program.TheConstants.{NODE_TOP, SIZE_LIMIT}
+use Rattle.limits.specs.declared.program.TheConstants.{SIZE_LIMIT}
 use Rattle.typed_tree.specs.declared.expression.CaptureKind.{CaptureKind}
 use Rattle.meaning_state.specs.Rows.{numbered, parameters_in, size_trap}
 use Rattle.meaning_state.specs.Shared.{Specification}

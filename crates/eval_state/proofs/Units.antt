@@ -1,6 +1,6 @@
 -- Several units are spent one after another: all of them, where so many are left; else the run stops.
 use Rattle.std.proofs.Common.{◌≡◌, ℕ, zero, suc, ◌-◌, ◌<◌, ◌≤◌, refl, ap, ◌∙◌, arith}
-use Rattle.staged_meaning.specs.World.{World, Result, Gives, Stops, Normal, spend_all}
+use Rattle.staged_meaning.specs.World.{World, Gives, Stops, Normal, spend_all}
 
 pub all_spent : (n u : ℕ) (w : World) → n ≤ u
     → spend_all n (record w { units = u }) ≡ Gives Normal (record w { units = u - n })

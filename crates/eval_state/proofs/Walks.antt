@@ -1,5 +1,5 @@
 -- How much of what is kept of captures is still to be walked, with all that is spliced in.
-use Rattle.std.proofs.Common.{◌≡◌, ℕ, zero, suc, ◌+◌, ◌<◌, List, [], ◌∷◌, ◌++◌, map, ap, sym, subst, ◌∙◌, arith, Option}
+use Rattle.std.proofs.Common.{◌≡◌, ℕ, suc, ◌+◌, ◌<◌, List, [], ◌∷◌, ◌++◌, map, ap, sym, ◌∙◌, arith, Option}
 use Rattle.std.proofs.Common.{Some, None, length, refl, append_assoc}
 use Rattle.history.specs.Syntax.{Syntax, Ticked, Captures, NoCapture, Word, Named, Spliced}
 use Rattle.meaning_state.specs.Rows.{count_locals, keys_in, keys_of, locals_of, numbered}

@@ -15,3 +15,4 @@ pub mod Numbered
 pub mod Grown
 pub mod Sound
 pub mod Less
+pub mod Late

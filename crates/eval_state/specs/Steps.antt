@@ -1,5 +1,5 @@
--- What comes of a run in which an expression or a statement begins, and of one in which a frame takes a value or the end
--- of a statement. The names stay closed: what stands on the steps of a kind of node need not look into them.
+-- What comes of a run in which an expression or a statement begins, and of one in which a frame takes a value or the
+-- end of a statement. The names stay closed: what stands on the steps of a kind of node need not look into them.
 use Rattle.std.specs.Prelude.{ℕ}
 use Rattle.typed_tree.specs.Nodes.{Expr, Stmt}
 use Rattle.staged_meaning.specs.World.{Result, Gives, Flow}

@@ -1,6 +1,8 @@
 //! Calls, and specifications that are spliced in.
 
 ghost use Rattle.std.specs.Prelude.{◌≡◌, ◌≢◌, ℕ, ◌+◌, ◌<◌, ◌≤◌, length, slice_get, is_none, Some, None, IfOk, OnOk};
+ghost use Rattle.std.specs.Prelude.{IfSome};
+ghost use Rattle.eval_state.specs.Late.{IsCallee, function_body, with_body};
 ghost use Rattle.std.specs.Option.{option_map};
 ghost use Rattle.meaning_state.specs.Rows.{numbered};
 ghost use Rattle.typed_tree.specs.View.{function_view};
@@ -20,24 +22,16 @@ ghost use Rattle.eval_state.specs.Burden.{capture_weight, weight_of_tick};
 ghost use Rattle.eval_state.specs.Run.{here, leads, outcome, program_of, run_of, world};
 ghost use Rattle.eval_state.specs.Views.{now_view};
 
+use crate::charge::charge_of;
 use crate::parts::Now;
 use crate::state::{Body, Entry, Event, Generated, Machine};
 use host_edge::{Ending, TrapKind};
 use limits::program::{FRAME_OBJECT_BYTES, SIZE_LIMIT};
-use limits::run::{STACK_OF_A_CALL, STACK_OF_A_NODE};
 use sqlite_items::{Items, at as find};
 use std::alloc::AllocError;
 use std::mem;
 use typed_tree::{Answer, Function, TickBody};
 use word32::map::STACK_BYTES;
-
-// What a call is charged, in bytes, by the size of its function.
-fn charge_of(size: u32) -> u32
-    requires { size ≤ SIZE_LIMIT }
-    ensures { result ≡ charge_of size }
-{
-    STACK_OF_A_CALL + STACK_OF_A_NODE * size
-}
 
 impl<'a> Machine<'a> {
     // The limit that a call of a charge meets, with so many bytes of frame objects.
@@ -154,7 +148,65 @@ impl<'a> Machine<'a> {
         }
     }
 
-    // Calls a function of the text. Its variables of generated code are those of its caller, though its code names none.
+    /// The function of the text of a number, where a function of the text may call it: no limit is met.
+    pub fn callee(&self, number: u32) -> Option<&'a Function>
+        ensures { IfSome result (λ f. IsCallee number f.now self.now) }
+    {
+        if self.parts.body.row != 0 {
+            return None;
+        }
+        if self.parts.depth == 0 {
+            return None;
+        }
+        if number == 0 {
+            return None;
+        }
+        let typed = self.parts.typed;
+        typed.keeps_law();
+        match find(typed.functions(), (number - 1) as usize) {
+            None => None,
+            Some(function) => match self.limit(charge_of(function.size), function.object) {
+                None => Some(function),
+                Some(_) => None,
+            },
+        }
+    }
+
+    /// The body of a function of the text is active, which was passed these arguments: the caller's body.
+    ///
+    /// # Errors
+    /// Where memory is wanting.
+    pub fn enter_body(
+        &mut self,
+        function: &Function,
+        arguments: Items<u32>,
+    ) -> Result<Body, AllocError>
+        requires { (self.old.depth ≢ 0) × (function.now.size ≤ SIZE_LIMIT)
+            × (self.old.used + charge_of function.now.size ≤ STACK_BYTES)
+            × (self.old.frames + function.now.object ≤ FRAME_OBJECT_BYTES) }
+        ensures { IfOk result (λ caller. (caller ≡ self.old.body)
+            × (self.new ≡ with_body (charge_of function.now.size) (function_body function.now arguments self.old)
+            self.old)) }
+    {
+        let variables = self.list();
+        let generated = self.parts.body.generated.again(self.parts.alloc)?;
+        self.parts.used += charge_of(function.size);
+        self.parts.frames += function.object;
+        self.parts.depth -= 1;
+        Ok(mem::replace(
+            &mut self.parts.body,
+            Body {
+                variables,
+                arguments,
+                generated,
+                object: function.object,
+                row: 0,
+            },
+        ))
+    }
+
+    // Calls a function of the text. Its variables of generated code are those of its caller, though its code names
+    // none.
     fn call_function(
         &mut self,
         answer: Answer,

@@ -34,6 +34,12 @@ impl Generated {
     pub fn again(&self, alloc: Global) -> Result<Generated, AllocError>
         ensures { IfOk result (λ g. g ≡ self.now) }
     {
+        if self.arguments.is_empty() && self.values.is_empty() {
+            return Ok(Generated {
+                arguments: Items::new(alloc),
+                values: Items::new(alloc),
+            });
+        }
         Ok(Generated {
             arguments: Items::from_slice(alloc, self.arguments.as_slice())?,
             values: Items::from_slice(alloc, self.values.as_slice())?,

@@ -4,6 +4,8 @@ ghost use Rattle.std.specs.Prelude.{◌≡◌, ◌≢◌, ◌+◌, ◌-◌, ◌^
 ghost use Rattle.std.specs.Prelude.{IfOk, IsFalse, IsTrue, MatchOption, OnOk};
 ghost use Rattle.eval_state.specs.Rest.{after, doing, spent};
 ghost use Rattle.eval_state.specs.Grown.{with_caller, with_left};
+ghost use Rattle.eval_state.specs.Kept.{entry_view};
+ghost use Rattle.eval_state.specs.Late.{AreLocal, MayWait, frames_of, with_entry, with_frames};
 ghost use Rattle.eval_state.specs.Sound.{calls};
 ghost use Rattle.eval_state.specs.Popped.{IsEnded, IsLeft};
 ghost use Rattle.eval_state.specs.Less.{heft, held, waiting};
@@ -12,16 +14,18 @@ ghost use Rattle.eval_state.specs.Views.{frame_view, now_view};
 
 use crate::parts::{Frame, Now, Popped};
 use crate::state::{Body, Entry, Machine};
+use sqlite_items::Items;
 use std::alloc::AllocError;
 use std::mem;
 
 impl<'a> Machine<'a> {
-    // A frame more is pending.
-    #[tactic(auto, using(crate::proofs::Changes::pushing))]
-    fn add(&mut self, frame: Frame<'a>) -> Result<(), AllocError>
-        ensures { OnOk result (run_of self.new ≡ pushed (frame_view frame.entry) (run_of self.old)) }
+    // An entry more is pending.
+    pub(crate) fn wait(&mut self, entry: Entry<'a>) -> Result<(), AllocError>
+        requires { MayWait entry self.old }
+        ensures run { OnOk result (run_of self.new ≡ pushed (entry_view [] entry.entry) (run_of self.old)) }
+        ensures parts { OnOk result (self.new ≡ with_entry entry.entry self.old) }
     {
-        self.parts.entries.push(Entry::Inside(frame))
+        self.parts.entries.push(entry)
     }
 
     /// A frame waits for what is done now.
@@ -37,7 +41,7 @@ impl<'a> Machine<'a> {
         ensures less { IfOk result (λ n. heft (now_view n) (run_of self.new)
             ≤ heft (now_view next.entry) (run_of self.old) + waiting (frame_view frame.entry) (run_of self.old)) }
     {
-        self.add(frame)?;
+        self.wait(Entry::Inside(frame))?;
         Ok(next)
     }
 
@@ -94,8 +98,8 @@ impl<'a> Machine<'a> {
         true
     }
 
-    // A call of a charge is over: the caller's body is back.
-    fn back(&mut self, charge: u32, caller: Body)
+    /// A call of a charge is over: the caller's body is back.
+    pub fn back(&mut self, charge: u32, caller: Body)
         requires { (caller.row ≤ length self.old.rows) × (self.old.depth + calls self.old.entries + 1 < 2 ^ 64) }
         ensures { self.new ≡ with_caller charge caller self.old }
     {
@@ -151,5 +155,29 @@ impl<'a> Machine<'a> {
                 Some(Popped::Spliced(answer))
             }
         }
+    }
+
+    /// What waits, the innermost first, is pending.
+    ///
+    /// # Errors
+    /// Where memory is wanting.
+    #[tactic(auto, using(crate::proofs::Waits::settling))]
+    pub fn settle(&mut self, waiting: Items<Entry<'a>>) -> Result<(), AllocError>
+        requires { AreLocal waiting × (self.old.depth + calls self.old.entries + calls waiting < 2 ^ 64) }
+        ensures { OnOk result (run_of self.new ≡ with_frames (frames_of waiting.entry) (run_of self.old)) }
+    {
+        let mut rest = waiting;
+        while let Some(entry) = rest.pop() {
+            self.wait(entry)?;
+        }
+        Ok(())
+    }
+
+    /// Nothing waits yet.
+    #[inline(always)]
+    pub fn nothing_waits(&self) -> Items<Entry<'a>>
+        ensures { result ≡ [] }
+    {
+        Items::new(self.parts.alloc)
     }
 }

@@ -75,18 +75,6 @@ fn key_in(kept: Option<Kept>) -> u32
     }
 }
 
-// The key of the variable of generated code that a number names.
-fn key_of(number: u32, found: Option<RowKind>) -> u32
-    requires { number ≤ CLOSURE_BYTES }
-    ensures { result ≡ key_in number (option_map of_kind found) }
-{
-    match found {
-        Some(RowKind::Param(index)) => index,
-        Some(RowKind::Local | RowKind::Expression | RowKind::Statement) | None => MOST_ARGUMENTS - 1
-            + number,
-    }
-}
-
 // Notes a key, where it is that of a local variable.
 fn note(seen: &mut BTreeSet<u32, Global>, key: u32) -> Result<(), AllocError>
     ensures { OnOk result (seen.new.keys ≡ noted key seen.old.keys) }
@@ -144,7 +132,7 @@ fn row_kind(body: &TickBody) -> RowKind
 
 impl<'a> Machine<'a> {
     // That the law of the state holds of it.
-    pub(crate) fn keeps_law(&self)
+    pub fn keeps_law(&self)
         ensures { IsSound self.now }
     {
         let _ = &self.parts;
@@ -208,13 +196,6 @@ impl<'a> Machine<'a> {
         Ok(())
     }
 
-    // How many specifications there are.
-    fn row_count(&self) -> u32
-        ensures { result ≡ length self.now.rows }
-    {
-        self.parts.rows.len() as u32
-    }
-
     // A specification more, whose closure has so many captures; its number.
     fn specify(&mut self, row: Row, captures: usize) -> Result<Now<'a>, AllocError>
         requires { IsNew self.old row }
@@ -234,7 +215,7 @@ impl<'a> Machine<'a> {
             return Ok(Now::Ended(Ending::Trap(TrapKind::SpecLimit)));
         }
         self.add_row(row, bytes)?;
-        let number = self.row_count();
+        let number = self.parts.rows.len() as u32;
         Ok(self.spend(Now::Value(number)))
     }
 
@@ -463,7 +444,12 @@ impl<'a> Machine<'a> {
         ensures { result ≡ key_in number (numbered number (rows_view self.now.rows)) }
     {
         self.keeps_law();
-        key_of(number, self.kind_at(number))
+        match self.kind_at(number) {
+            Some(RowKind::Param(index)) => index,
+            Some(RowKind::Local | RowKind::Expression | RowKind::Statement) | None => MOST_ARGUMENTS
+                - 1
+                + number,
+        }
     }
 
     // What is kept of the words of captures.
@@ -517,8 +503,8 @@ impl<'a> Machine<'a> {
         )
     }
 
-    /// Compiles the specification of a number: the units of its size are spent behind the checks and before the function
-    /// is there, and then the node's own.
+    /// Compiles the specification of a number: the units of its size are spent behind the checks and before the
+    /// function is there, and then the node's own.
     pub fn compile(&mut self, number: u32) -> Result<Now<'a>, AllocError>
         ensures same { IfOk result (λ n. outcome (now_view n) (run_of self.new)
             ≡ leads (run_of self.old) (valued (compile_number (here (run_of self.old)).program number

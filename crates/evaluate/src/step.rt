@@ -11,6 +11,7 @@ ghost use Rattle.eval_state.specs.Views.{expression_frame, flow_view, frame_view
 ghost use Rattle.evaluate.specs.Arrives.{arrives, returned, taken};
 ghost use Rattle.evaluate.specs.Seen.{IsOver};
 
+use eval_direct::direct;
 use eval_expressions::eval;
 use eval_simple::at_once;
 use eval_state::{ExpressionFrame, Flow, Frame, Machine, Now, Popped, StatementFrame};
@@ -144,7 +145,7 @@ fn begin<'a>(m: &mut Machine<'a>, e: &'a Expr) -> Result<Now<'a>, AllocError>
 {
     match at_once(m, e)? {
         Some(v) => Ok(Now::Value(v)),
-        None => eval(m, e),
+        None => goes(m, e),
     }
 }
 
@@ -178,6 +179,24 @@ fn once<'a>(m: &mut Machine<'a>, now: Now<'a>) -> Result<Now<'a>, AllocError>
     }
 }
 
+// Evaluates an expression that isn't evaluated at once: on the host's stack as far as that goes, and then a step more.
+fn goes<'a>(m: &mut Machine<'a>, e: &'a Expr) -> Result<Now<'a>, AllocError>
+    ensures same { IfOk result (λ n. outcome (now_view n) (run_of m.new)
+        ≡ outcome (now_view (now.Eval e.entry)) (run_of m.old)) }
+    ensures units { IfOk result (λ n. (run_of m.new).state.units ≤ (run_of m.old).state.units) }
+    ensures less { IfOk result (λ n. (run_of m.new).state.units ≡ (run_of m.old).state.units
+        → heft (now_view n) (run_of m.new) < heft (now_view (now.Eval e.entry)) (run_of m.old)) }
+{
+    let next = direct(m, e)?;
+    match next {
+        Now::Eval(e) => eval(m, e),
+        Now::Exec(s) => exec(m, s),
+        Now::Run(list) => run(m, list),
+        Now::Value(_) | Now::Left(_) | Now::Returned(_) => Ok(next),
+        Now::Ended(_) | Now::Stopped => Ok(next),
+    }
+}
+
 // Goes on where a part of an expression is evaluated, of which it is known that it isn't at once.
 fn further<'a>(m: &mut Machine<'a>, next: Now<'a>) -> Result<Now<'a>, AllocError>
     ensures same { IfOk result (λ n. outcome (now_view n) (run_of m.new)
@@ -187,7 +206,7 @@ fn further<'a>(m: &mut Machine<'a>, next: Now<'a>) -> Result<Now<'a>, AllocError
         → heft (now_view n) (run_of m.new) ≤ heft (now_view next.entry) (run_of m.old)) }
 {
     match next {
-        Now::Eval(e) => eval(m, e),
+        Now::Eval(e) => goes(m, e),
         Now::Exec(_) | Now::Run(_) | Now::Value(_) | Now::Left(_) | Now::Returned(_) => Ok(next),
         Now::Ended(_) | Now::Stopped => Ok(next),
     }

@@ -26,16 +26,16 @@ returns-in-Some-clause-less c =
 
 pub returns-in-None-clause-same : goal.returns-in-None-clause-same
 returns-in-None-clause-same c =
-    going.still c.eval.result c.args.m.now c.at_once.new.m (run_of c.eval.new.m)
+    going.still c.goes.result c.args.m.now c.at_once.new.m (run_of c.goes.new.m)
     (outcome (pending.Eval (expr_view c.args.e.now)))
     (going.undone c.in_ok-v.field-0 (expr_view c.args.e.now) c.args.m.now c.at_once.new.m c.in_ok-v.ensures
     c.in-None.is)
-    c.eval.ensures.same
+    c.goes.ensures.same
 
 pub returns-in-None-clause-less : goal.returns-in-None-clause-less
 returns-in-None-clause-less c =
-    going.still_less c.eval.result c.args.m.now c.at_once.new.m (run_of c.eval.new.m)
+    going.still_less c.goes.result c.args.m.now c.at_once.new.m (run_of c.goes.new.m)
     (heft (pending.Eval (expr_view c.args.e.now)))
     (going.undone c.in_ok-v.field-0 (expr_view c.args.e.now) c.args.m.now c.at_once.new.m c.in_ok-v.ensures
     c.in-None.is)
-    c.eval.ensures.less
+    c.goes.ensures.less

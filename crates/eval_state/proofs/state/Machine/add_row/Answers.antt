@@ -1,4 +1,4 @@
-use Rattle.std.proofs.Common.{◌≡◌, ◌+◌, ◌≤◌, List, sym, subst}
+use Rattle.std.proofs.Common.{◌+◌, ◌≤◌, List, sym, subst}
 use Rattle.word32.specs.declared.map.TheConstants.{CLOSURE_BYTES}
 use Rattle.eval_state.specs.declared.state.Parts.{Parts}
 use Rattle.eval_state.specs.declared.state.Row.{Row}

@@ -1,4 +1,4 @@
-use Rattle.std.proofs.Common.{◌≡◌, slice_get, arith, Option, Some, None, ap, sym, ◌∙◌}
+use Rattle.std.proofs.Common.{slice_get, arith, Some, None, ap, sym, ◌∙◌}
 use Rattle.std.specs.Option.{option_map}
 use Rattle.typed_tree.specs.declared.expression.Expr.{Expr}
 use Rattle.typed_tree.specs.declared.expression.Stmt.{Stmt}
@@ -49,7 +49,8 @@ returns-in-Statement-clause-same c =
     let at = ap (λ ts. slice_get ts row.tick) (sym ticks) ∙ sym c.in-Some-find.ensures in
     let is = ap (λ (b : TickBody). Some (tick_view b)) c.in-Statement.is
     ∙ ap (λ (s : Stmt). Some (OfStatement (stmt_view s))) (sym c.get-in-Statement.ensures) in
-    tick_begins p row (Some (OfStatement (stmt_view c.get-in-Statement.result.now))) c.keeps_law.ensures named c.requires
+    tick_begins p row (Some (OfStatement (stmt_view c.get-in-Statement.result.now))) c.keeps_law.ensures named
+    c.requires
     (ap (option_map (λ (t : Tick). tick_view t.body)) at ∙ is)
 
 pub returns-in-Expression-clause-less : goal.returns-in-Expression-clause-less
@@ -62,7 +63,8 @@ returns-in-Expression-clause-less c =
     let at = ap (λ ts. slice_get ts row.tick) (sym ticks) ∙ sym c.in-Some-find.ensures in
     let is = ap (λ (b : TickBody). Some (tick_view b)) c.in-Expression.is
     ∙ ap (λ (e : Expr). Some (OfExpression (expr_view e))) (sym c.get.ensures) in
-    let weighs = ap (weight_of_tick (weighed (run_of p))) (tick_there p row (Some (OfExpression (expr_view c.get.result.now)))
+    let weighs = ap (weight_of_tick (weighed (run_of p))) (tick_there p row
+    (Some (OfExpression (expr_view c.get.result.now)))
     c.keeps_law.ensures named c.requires (ap (option_map (λ (t : Tick). tick_view t.body)) at ∙ is)) in
     omega (arith, weighs)
 
@@ -76,6 +78,7 @@ returns-in-Statement-clause-less c =
     let at = ap (λ ts. slice_get ts row.tick) (sym ticks) ∙ sym c.in-Some-find.ensures in
     let is = ap (λ (b : TickBody). Some (tick_view b)) c.in-Statement.is
     ∙ ap (λ (s : Stmt). Some (OfStatement (stmt_view s))) (sym c.get-in-Statement.ensures) in
-    let weighs = ap (weight_of_tick (weighed (run_of p))) (tick_there p row (Some (OfStatement (stmt_view c.get-in-Statement.result.now)))
+    let weighs = ap (weight_of_tick (weighed (run_of p))) (tick_there p row
+    (Some (OfStatement (stmt_view c.get-in-Statement.result.now)))
     c.keeps_law.ensures named c.requires (ap (option_map (λ (t : Tick). tick_view t.body)) at ∙ is)) in
     omega (arith, weighs)

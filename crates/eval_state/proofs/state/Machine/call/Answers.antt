@@ -1,4 +1,4 @@
-use Rattle.std.proofs.Common.{rules, ◌≡◌, ◌≢◌, ◌+◌, ◌-◌, ◌<◌, ◌≤◌, suc, length, slice_get, Some, ap, sym, ◌∙◌, arith}
+use Rattle.std.proofs.Common.{rules, ◌≡◌, ◌≢◌, ◌-◌, ◌≤◌, suc, length, slice_get, Some, ap, sym, ◌∙◌, arith}
 use Rattle.typed_tree.specs.View.{function_view}
 use Rattle.staged_meaning.specs.Program.{Static}
 use Rattle.eval_state.specs.declared.state.Parts.{Parts}

@@ -1,7 +1,7 @@
-use Rattle.std.proofs.Common.{◌≡◌, ◌≢◌, ◌+◌, ◌-◌, ◌<◌, ◌≤◌, ℕ, suc, length, slice_get, Some, None, refl, ap, sym, subst, ◌∙◌}
+use Rattle.std.proofs.Common.{◌≡◌, ◌≢◌, ◌+◌, ◌-◌, ◌≤◌, suc, length, slice_get, refl, ap, sym}
+use Rattle.std.proofs.Common.{subst, ◌∙◌}
 use Rattle.std.proofs.Common.{arith}
 use Rattle.limits.specs.declared.program.TheConstants.{FRAME_OBJECT_BYTES}
-use Rattle.word32.specs.declared.map.TheConstants.{STACK_BYTES}
 use Rattle.meaning_state.specs.Rows.{numbered}
 use Rattle.meaning_state.specs.Shared.{limit_trap}
 use Rattle.eval_state.specs.declared.state.Body.{Body}

@@ -1,10 +1,10 @@
-use Rattle.std.proofs.Common.{◌≡◌, ◌≢◌, ℕ, ◌+◌, ◌≤◌, List, [], Some, None, ap, sym, subst, ◌∙◌, arith}
+use Rattle.std.proofs.Common.{◌≢◌, ℕ, ◌+◌, ◌≤◌, List, [], ap, sym, subst, ◌∙◌, arith}
 use Rattle.limits.specs.declared.program.TheConstants.{FRAME_OBJECT_BYTES}
 use Rattle.word32.specs.declared.map.TheConstants.{STACK_BYTES}
 use Rattle.typed_tree.specs.declared.expression.Stmt.{Stmt}
-use Rattle.typed_tree.specs.View.{function_view, stmt_view}
+use Rattle.typed_tree.specs.View.{stmt_view}
 use Rattle.meaning_state.specs.Shared.{limit_trap}
-use Rattle.staged_meaning.specs.Size.{charge_of, size_of}
+use Rattle.staged_meaning.specs.Size.{charge_of}
 use Rattle.eval_state.specs.Pending as pending
 use Rattle.eval_state.specs.Rest.{spent}
 use Rattle.eval_state.specs.declared.state.Body.{Body}

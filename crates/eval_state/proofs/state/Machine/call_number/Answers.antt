@@ -1,4 +1,4 @@
-use Rattle.std.proofs.Common.{◌≡◌, true, false, is_none, length, ap, sym, ◌∙◌}
+use Rattle.std.proofs.Common.{is_none, ap, sym, ◌∙◌}
 use Rattle.staged_meaning.specs.Program.{call_trap}
 use Rattle.eval_state.specs.Run.{run_of}
 use Rattle.eval_state.proofs.Callees.{callee_in, calls_to}

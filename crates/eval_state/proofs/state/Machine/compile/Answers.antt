@@ -1,4 +1,4 @@
-use Rattle.std.proofs.Common.{◌≡◌, ◌+◌, ◌-◌, ◌<◌, ◌≤◌, ℕ, length, refl, ap, sym, ◌∙◌, arith}
+use Rattle.std.proofs.Common.{◌≡◌, ◌+◌, ◌-◌, ◌<◌, ◌≤◌, length, refl, ap, sym, ◌∙◌, arith}
 use Rattle.word32.specs.declared.map.TheConstants.{ARENA_WORDS, FUNCTION_ROWS}
 use Rattle.meaning_state.specs.Rows.{arena_words, numbered}
 use Rattle.eval_state.specs.Pending as pending

@@ -1,6 +1,4 @@
-use Rattle.std.proofs.Common.{◌≡◌, ◌+◌, ◌<◌, ◌≤◌, ap, arith}
-use Rattle.limits.specs.declared.program.TheConstants.{FRAME_OBJECT_BYTES}
-use Rattle.word32.specs.declared.map.TheConstants.{STACK_BYTES}
+use Rattle.std.proofs.Common.{◌≡◌, ap, arith}
 use Rattle.eval_state.specs.declared.state.Parts.{Parts}
 use Rattle.eval_state.proofs.Entries.{frame_over, no_limit, stack_over}
 use Rattle.eval_state.proofs.state.Machine.limit.Goals as goal

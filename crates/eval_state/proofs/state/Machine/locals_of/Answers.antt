@@ -1,8 +1,8 @@
-use Rattle.std.proofs.Common.{◌≡◌, ◌++◌, [], ◌∷◌, ap, sym, subst, ◌∙◌}
+use Rattle.std.proofs.Common.{◌++◌, [], ◌∷◌, ap, subst, ◌∙◌}
 use Rattle.eval_state.specs.declared.state.Kept.{Kept}
 use Rattle.eval_state.specs.Kept.{rows_view}
 use Rattle.eval_state.specs.Sound.{IsSound}
-use Rattle.eval_state.proofs.Walks.{less_behind, less_spliced, walk_begins, walks_all, walks_key, walks_number}
+use Rattle.eval_state.proofs.Walks.{less_behind, less_spliced, walks_all, walks_key, walks_number}
 use Rattle.eval_state.proofs.Walks.{walks_word}
 use Rattle.eval_state.proofs.state.Machine.locals_of.Goals as goal
 

@@ -1,4 +1,4 @@
-use Rattle.std.proofs.Common.{◌≡◌, map}
+use Rattle.std.proofs.Common.{map}
 use Rattle.eval_state.specs.KeptRows.{captures_kept}
 use Rattle.eval_state.specs.Kept.{kept_view, rows_view}
 use Rattle.eval_state.proofs.Walks.{IsWalked, captures_weight}

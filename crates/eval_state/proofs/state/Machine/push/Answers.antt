@@ -8,15 +8,15 @@ use Rattle.eval_state.proofs.state.Machine.push.Goals as goal
 
 pub returns-clause-same : goal.returns-clause-same
 returns-clause-same c =
-    ap (λ (r : Run). outcome (now_view c.args.next) r) c.in_ok-add.ensures
+    ap (λ (r : Run). outcome (now_view c.args.next) r) c.in_ok-wait.ensures.run
     ∙ push_leads (run_of c.args.self.now) c.args.frame (now_view c.args.next)
 
 pub returns-clause-units : goal.returns-clause-units
-returns-clause-units c = ap (λ (r : Run). r.state.units) c.in_ok-add.ensures
+returns-clause-units c = ap (λ (r : Run). r.state.units) c.in_ok-wait.ensures.run
 
 pub returns-clause-less : goal.returns-clause-less
 returns-clause-less c =
     let old = run_of c.args.self.now in
     let next = now_view c.args.next in
     subst (λ (r : Run). heft next r ≤ heft next old + waiting (frame_view c.args.frame) old)
-    (sym c.in_ok-add.ensures) (push_weighs old c.args.frame next)
+    (sym c.in_ok-wait.ensures.run) (push_weighs old c.args.frame next)

@@ -1,4 +1,4 @@
-use Rattle.std.proofs.Common.{◌≡◌, ◌+◌, ◌<◌, ◌≤◌, length, refl, ap, sym, subst, ◌∙◌, arith}
+use Rattle.std.proofs.Common.{◌≡◌, ◌+◌, ◌≤◌, length, ap, sym, subst, ◌∙◌, arith}
 use Rattle.word32.specs.declared.map.TheConstants.{CLOSURE_BYTES}
 use Rattle.meaning_state.specs.Rows.{closure_bytes}
 use Rattle.eval_state.specs.Pending as pending
@@ -28,18 +28,20 @@ returns-clause-same c =
     omega (arith, same, c.saturating_sub.ensures, c.if-saturating_sub-bytes.false) in
     c.spend.ensures.same
     ∙ ap (λ n. leads (run_of q) (spent (here (run_of q)) (world (run_of q)).units (pending.Value n) (world (run_of q))))
-    c.row_count-number.ensures
+    (c.len-number.ensures ∙ ap (λ (q : Parts). length q.rows) c.self-2.view_is)
     ∙ makes p q c.args.row c.args.captures sound fits c.in_ok-add_row.ensures
 
 pub returns-clause-units : goal.returns-clause-units
 returns-clause-units c =
-    let still = row_weighs c.args.self.now c.add_row.new.self c.args.row _ (subst IsSound c.self.view_is c.self.invariant)
+    let still = row_weighs c.args.self.now c.add_row.new.self c.args.row _
+    (subst IsSound c.self.view_is c.self.invariant)
     c.in_ok-add_row.ensures in
     omega (arith, c.spend.ensures.units, still.1)
 
 pub returns-clause-less : goal.returns-clause-less
 returns-clause-less c = λ same.
-    let still = row_weighs c.args.self.now c.add_row.new.self c.args.row _ (subst IsSound c.self.view_is c.self.invariant)
+    let still = row_weighs c.args.self.now c.add_row.new.self c.args.row _
+    (subst IsSound c.self.view_is c.self.invariant)
     c.in_ok-add_row.ensures in
     let less = c.spend.ensures.less (same ∙ sym still.1) in
     omega (arith, less, still.0)

@@ -1,7 +1,7 @@
-use Rattle.std.proofs.Common.{◌≡◌, ◌+◌, ◌<◌, ◌≤◌, List, Bool, min, map, length, slice_get, None, false, true, is_none}
+use Rattle.std.proofs.Common.{◌≡◌, ◌+◌, List, Bool, min, map, slice_get, is_none}
 use Rattle.std.proofs.Common.{ap, sym}
 use Rattle.std.proofs.Common.{◌∙◌, arith}
-use Rattle.limits.specs.declared.program.TheConstants.{NODE_TOP, SIZE_LIMIT}
+use Rattle.limits.specs.declared.program.TheConstants.{NODE_TOP}
 use Rattle.staged_meaning.specs.Program.{is_expression, tick_size}
 use Rattle.staged_meaning.specs.Specifications.{captures_trap, kinds_of, specify, specify_tick}
 use Rattle.eval_state.specs.KeptRows.{all_kept, parameters_kept, row_kept, size_kept}
@@ -43,7 +43,8 @@ specify-requires c =
     let tick = tick_size (slice_get (program_of p).ticks c.args.tick) in
     let total = tick + size_kept (program_of p) rows (map kept_view c.in_ok-kept.kept) in
     let least : c.size_with-size.result ≡ min total NODE_TOP = c.size_with-size.ensures
-    ∙ ap (λ (k : List Kept). min (tick + size_kept (program_of p) rows (map kept_view k)) NODE_TOP) c.as_slice-3.ensures in
+    ∙ ap (λ (k : List Kept). min (tick + size_kept (program_of p) rows (map kept_view k)) NODE_TOP)
+    c.as_slice-3.ensures in
     let size : c.size_with-size.result ≡ total = grind arith in
     let parameters = c.parameters_with-parameters.ensures
     ∙ ap (λ (k : List Kept). parameters_kept rows (map kept_view k)) c.as_slice-4.ensures in
@@ -75,5 +76,6 @@ returns-clause-same c =
     let leads_on = there ∙ tick_made p c.args.tick kinds c.args.words made fit (grind arith) s in
     ok_leads c.specify.result (run_of c.specify.new.self)
     (leads (run_of p) (valued (specify made c.len.result (world (run_of p)))))
-    (leads (run_of p) (valued (specify_tick (here (run_of p)).program c.args.tick kinds c.args.words (world (run_of p)))))
+    (leads (run_of p) (valued (specify_tick (here (run_of p)).program c.args.tick kinds c.args.words
+    (world (run_of p)))))
     leads_on c.specify.ensures.same

@@ -1,4 +1,4 @@
-use Rattle.std.proofs.Common.{◌≡◌, ◌≤◌, length, subst, ap, sym, ◌∙◌, arith}
+use Rattle.std.proofs.Common.{subst, ap, sym, ◌∙◌, arith}
 use Rattle.eval_state.specs.declared.state.Parts.{Parts}
 use Rattle.meaning_state.specs.Rows.{numbered}
 use Rattle.eval_state.specs.Kept.{rows_view}
@@ -8,7 +8,8 @@ use Rattle.eval_state.proofs.Lightens.{splice_lighter, units_same}
 use Rattle.eval_state.proofs.state.Machine.splice.Goals as goal
 
 pub returns-in-None-clause-same : goal.returns-in-None-clause-same
-returns-in-None-clause-same c = splices_nothing c.args.self.now c.args.answer c.args.capture c.keeps_law.ensures c.in-None.ensures
+returns-in-None-clause-same c = splices_nothing c.args.self.now c.args.answer c.args.capture c.keeps_law.ensures
+    c.in-None.ensures
 
 pub begin_splice-requires : goal.begin_splice-requires
 begin_splice-requires c =
@@ -16,7 +17,8 @@ begin_splice-requires c =
 
 pub begin_tick-requires : goal.begin_tick-requires
 begin_tick-requires c =
-    let is = (spliced_is_code c.args.self.now c.args.capture c.in-Some.number c.keeps_law.ensures c.in-Some.ensures).1 in
+    let is = (spliced_is_code c.args.self.now c.args.capture c.in-Some.number c.keeps_law.ensures c.in-Some.ensures).1
+    in
     subst (λ (q : Parts). IsCode (numbered q.body.row (rows_view q.rows))) (sym c.in_ok-begin_splice.ensures) is
 
 pub returns-clause-same : goal.returns-clause-same

@@ -1,4 +1,4 @@
-use Rattle.std.proofs.Common.{◌≡◌, slice_get, Some, sym, ap, subst, ◌∙◌}
+use Rattle.std.proofs.Common.{◌≡◌, slice_get, sym, ap, subst, ◌∙◌}
 use Rattle.staged_meaning.specs.Program.{tick_size}
 use Rattle.eval_state.specs.declared.state.Parts.{Parts}
 use Rattle.eval_state.specs.Run.{program_of}
