@@ -6,17 +6,16 @@ import re,os
 B='crates/check_walk/'
 R=dict(expression=0,core=0,suffix=0,statement=0,optional=0,length=0,begin=0,returned=0,
 suffixes=1,declarator=2,typename=3,parameter=3,each_parameter=4,parameters=5,
-begin_value=1,elements=1,begin_list=2,local_type=3,declared_parts=4,declared_local=5,locals=6,declaration=7,
-items=1,block=2,block_alone=3,tick_block=3,body_of=1,alone=1,tested=2,bodies=2,branches=3,done_first=2,
-test_and_step=1,for_rest=2,for_items=3,for_block=4,for_all=5,switch_block=2,labelled_block=3,switch=4,case=1,
-unary=1,post=1,named=4,compile=4,typed=4,both=1,pair=2,choice=2,
-arguments=1,library_call=2,plain_call=2,call=3,tick_expression=1)
+elements=1,begin_list=2,declared_local=5,locals=6,declaration=7,
+items=1,block=2,block_alone=3,tick_block=3,body_of=1,alone=1,tested=2,branches=3,done_first=2,
+for_rest=2,for_items=3,for_block=4,for_all=5,switch_block=2,labelled_block=3,switch=4,case=1,
+unary=1,post=1,named=4,compile=4,typed=4,pair=2,choice=2,
+arguments=1,plain_call=2,call=3,tick_expression=1)
 TREE={'&Expr':'size-Expr','&syntax::Stmt':'size-Stmt','&OptionalExpr':'size-OptionalExpr','&Initializer':'size-Initializer'}
 out='''use Rattle.std.proofs.Common.{◌≡◌, map, ℕ, ◌+◌, ◌*◌, max, drop, []}
 use Rattle.std.specs.Prelude.{None}
 use Rattle.check_operands.specs.Calls as calls
 use Rattle.tick_tree.specs.declared.syntax.Expr.{size-Expr}
-use Rattle.tick_tree.specs.declared.syntax.Initializer.{size-Initializer}
 use Rattle.tick_tree.specs.declared.syntax.OptionalExpr.{size-OptionalExpr}
 use Rattle.tick_tree.specs.declared.syntax.Stmt.{size-Stmt}
 use Rattle.check_rules.specs.StatementRules as statements
@@ -27,18 +26,18 @@ use Rattle.check_walk.proofs.+walk.Given as goal
 -- each function takes the parts of a value, or passes a value on to one of a lower rank
 '''
 for f in ('expressions','types','declarations','statements'):
-    s=open(B+'src/%s.rt'%f).read()
+    s=open(B+'src/%s.rt'%f).read().replace('&(Expr, Expr)','&Parts')
     for m in re.finditer(r'#\[cycle\(walk\)\]\n(?:#\[tactic[^\n]*\n)?(?:pub )?fn (\w+)\(([^)]*)\)',s):
         name=m.group(1)
         ps=[x.strip().split(': ') for x in m.group(2).replace('\n',' ').split(',') if x.strip()]
-        tr=[(v,t) for v,t in ps if t in TREE or t in('&Typename','&[Expr]','&[syntax::Stmt]','&[Stmt]','&[Suffix]','&[Parameter]','&[Init]','&Core','&Suffix','&Declarator','&Parameter','&Init','&Initializer','&Declaration')]
-        if name=='local_type': tr=tr[:1]
+        tr=[(v,t) for v,t in ps if t in TREE or t in('&Parts','&Typename','&[Expr]','&[syntax::Stmt]','&[Stmt]','&[Suffix]','&[Parameter]','&[Init]','&Core','&Suffix','&Declarator','&Parameter','&Init','&Initializer','&Declaration')]
         # (a type is a tree, too: the size is that of the list)
-        if len(tr)==1 and name not in ('library_call', 'elements', 'begin_list'): e='goal.size-%s::%s l'%(f,name)
+        if len(tr)==1 and name not in ('elements', 'begin_list', 'pair'): e='goal.size-%s::%s l'%(f,name)
         else:
             ms=[]
             for v,t in tr:
                 if t in TREE: ms.append('(%s l.%s.now)'%(TREE[t],v))
+                elif t=='&Parts': ms.append('(max (size-Expr l.%s.now.0) (size-Expr l.%s.now.1))'%(v,v))
                 elif t=='&Declarator': ms.append('(goal.size-types::declarator (record { the-lifetimes = ([], ([], tt {0})); alloc = l.alloc; state = l.state; stage = l.stage; d = l.%s }))'%v)
                 elif t=='&Typename': ms.append('(goal.size-types::typename (record { the-lifetimes = ([], ([], tt {0})); alloc = l.alloc; state = l.state; line = l.line; stage = l.stage; t = l.%s }))'%v)
                 elif t=='&[Expr]': ms.append('(goal.size-expressions::arguments (record { the-lifetimes = ([], ([], tt {0})); alloc = l.alloc; state = l.state; stage = l.stage; list = l.%s }))'%v)

@@ -54,6 +54,7 @@ pub struct Value {
     pub zero: bool,
 }
 
+#[inline(always)]
 fn code_of(alloc: Global, place: Place, t: &TypeRef) -> Result<Boxed<Expr>, AllocError>
     ensures { IfOk result (λ e. e ≡ spec.code_of place t.now) }
 {
@@ -73,6 +74,7 @@ fn code_of(alloc: Global, place: Place, t: &TypeRef) -> Result<Boxed<Expr>, Allo
 }
 
 /// The value of an operand: an array or a function gives a pointer.
+#[inline(always)]
 #[tactic(auto, unfolding(crate::specs::Operands::value_of))]
 pub fn value_of(alloc: Global, o: Operand) -> Result<Value, AllocError>
     ensures { IfOk result (λ v. v ≡ spec.value_of o) }
@@ -140,6 +142,7 @@ pub fn at_address(address: Boxed<Expr>, ctype: TypeRef) -> Operand
 }
 
 /// An operand outside `&`: an array or a function has become a pointer, which is no place.
+#[inline(always)]
 #[tactic(auto, unfolding(crate::specs::Operands::settled))]
 pub fn settled(alloc: Global, o: Operand) -> Result<Operand, AllocError>
     ensures { IfOk result (λ found. found ≡ spec.settled o) }
@@ -152,6 +155,7 @@ pub fn settled(alloc: Global, o: Operand) -> Result<Operand, AllocError>
 }
 
 /// The node of an operand whose value is let go.
+#[inline(always)]
 pub fn effect(alloc: Global, o: Operand) -> Result<Boxed<Expr>, AllocError>
     ensures { IfOk result (λ e. e ≡ spec.effect o) }
 {

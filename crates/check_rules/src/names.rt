@@ -224,6 +224,7 @@ impl State {
         }
     }
 
+    #[inline(always)]
     fn in_function(&self, alloc: Global, n: u32, t: TypeRef) -> Result<Operand, AllocError>
         ensures { IfOk result (λ o. spec.in_function n t (slice_get self.now.frame.homes n) self.now ≡ Ok (o, self.now)) }
     {

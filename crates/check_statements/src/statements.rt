@@ -48,6 +48,7 @@ pub fn switched(around: Around) -> Around
 }
 
 /// The one node of a statement.
+#[inline(always)]
 pub fn one(alloc: Global, node: Stmt) -> Result<Items<Stmt>, AllocError>
     ensures { IfOk result (λ nodes. nodes ≡ spec.one node) }
 {

@@ -33,27 +33,6 @@ pub fn with_start(steps: Items<Step>, value: &Initializer) -> Items<Step>
     }
 }
 
-#[cycle(walk)]
-#[tactic(auto, using(check_rules::proofs::Written::forms_of))]
-fn begin_value(
-    alloc: Global,
-    state: &mut State,
-    stage: Stage,
-    line: u32,
-    place: Operand,
-    e: &Expr,
-) -> Result<Items<Stmt>, Deny>
-    ensures { Reads (spec.begin_value line stage place (spec.node e.now) state.old) result state.new }
-{
-    match expression(alloc, state, stage, e) {
-        Ok(o) => from_value(alloc, line, place, is_string(e), o),
-        Err(why) => {
-            drop(place);
-            Err(why)
-        }
-    }
-}
-
 // What the values of a list break as elements of this type.
 #[cycle(walk)]
 fn elements(
@@ -106,7 +85,7 @@ fn begin_list(
 
 // A variable begins with its initializer.
 #[cycle(walk)]
-#[tactic(auto, using(check_rules::proofs::Equations::initializers))]
+#[tactic(auto, using(check_rules::proofs::Equations::initializers, check_rules::proofs::Written::forms_of))]
 fn begin(
     alloc: Global,
     state: &mut State,
@@ -122,49 +101,20 @@ fn begin(
             drop(place);
             Ok(Items::new(alloc))
         }
-        Initializer::Value(e) => begin_value(alloc, state, stage, line, place, e),
+        Initializer::Value(e) => match expression(alloc, state, stage, e) {
+            Ok(o) => from_value(alloc, line, place, is_string(e), o),
+            Err(why) => {
+                drop(place);
+                Err(why)
+            }
+        },
         Initializer::List(list, _) => {
             begin_list(alloc, state, stage, line, place, list.as_slice())
         }
     }
 }
 
-// The type of a declared variable, after the lengths and lists of its declarator.
-#[cycle(walk)]
-fn local_type(
-    alloc: Global,
-    state: &mut State,
-    stage: Stage,
-    line: u32,
-    base: Base,
-    d: &Declarator,
-    value: &Initializer,
-) -> Result<TypeRef, Deny>
-    ensures { Reads (spec.local_type line base stage (spec.shape d.now) (spec.initializer value.now) state.old) result state.new }
-{
-    let steps = declarator(alloc, state, stage, d)?;
-    declared_in(alloc, stage, line, base_of(base), with_start(steps, value))
-}
-
-// Its type, its name, its initializer.
-#[cycle(walk)]
-#[tactic(auto, using(check_rules::proofs::Written::forms_of))]
-fn declared_parts(
-    alloc: Global,
-    state: &mut State,
-    stage: Stage,
-    line: u32,
-    base: Base,
-    d: &Declarator,
-    value: &Initializer,
-) -> Result<Items<Stmt>, Deny>
-    ensures { Reads (spec.declare_parts line base stage (spec.shape d.now) (spec.initializer value.now) state.old) result state.new }
-{
-    let t = local_type(alloc, state, stage, line, base, d, value)?;
-    let place = declare(alloc, state, stage, line, d, t)?;
-    begin(alloc, state, stage, line, place, value)
-}
-
+// One declarator: its type, its name, its initializer.
 #[cycle(walk)]
 #[tactic(auto, using(check_rules::proofs::Equations::types, check_rules::proofs::Written::forms_of))]
 fn declared_local(
@@ -177,16 +127,13 @@ fn declared_local(
 ) -> Result<Items<Stmt>, Deny>
     ensures { Reads (spec.declare_one line base stage (spec.init init.now) state.old) result state.new }
 {
-    entered(stage, line, &init.declarator)?;
-    declared_parts(
-        alloc,
-        state,
-        stage,
-        line,
-        base,
-        &init.declarator,
-        &init.value,
-    )
+    let d = &init.declarator;
+    entered(stage, line, d)?;
+    let steps = declarator(alloc, state, stage, d)?;
+    let steps = with_start(steps, &init.value);
+    let t = declared_in(alloc, stage, line, base_of(base), steps)?;
+    let place = declare(alloc, state, stage, line, d, t)?;
+    begin(alloc, state, stage, line, place, &init.value)
 }
 
 // The nodes of the initializers of these.

@@ -24,27 +24,6 @@ use check_rules::{Stage, State};
 use std::alloc::Global;
 use tick_tree::{Deny, Expr, OptionalExpr, StepOp, Stmt, Typename, UnaryOp};
 
-// The operands of two expressions.
-#[cycle(walk)]
-fn both(
-    alloc: Global,
-    state: &mut State,
-    stage: Stage,
-    a: &Expr,
-    b: &Expr,
-) -> Result<(Operand, Operand), Deny>
-    ensures { Reads (rules.both (spec.node a.now) (spec.node b.now) stage state.old) result state.new }
-{
-    let x = expression(alloc, state, stage, a)?;
-    match expression(alloc, state, stage, b) {
-        Ok(y) => Ok((x, y)),
-        Err(why) => {
-            drop(x);
-            Err(why)
-        }
-    }
-}
-
 // The arguments of a call.
 #[cycle(walk)]
 fn arguments(
@@ -66,22 +45,6 @@ fn arguments(
         }
     }
     Ok(found)
-}
-
-#[cycle(walk)]
-fn library_call(
-    alloc: Global,
-    state: &mut State,
-    line: u32,
-    stage: Stage,
-    n: u32,
-    t: TypeRef,
-    list: &[Expr],
-) -> Result<Operand, Deny>
-    ensures { Reads (rules.library_call line n t (map spec.node list.now) stage state.old) result state.new }
-{
-    let found = arguments(alloc, state, stage, list)?;
-    check_calls::library(alloc, line, n, t, found)
 }
 
 #[cycle(walk)]
@@ -118,7 +81,13 @@ fn call(
     ensures { Reads (rules.call line (spec.node f.now) (map spec.node list.now) stage state.old) result state.new }
 {
     match library_of(alloc, state, f)? {
-        Some((n, t)) => library_call(alloc, state, line, stage, n, t, list),
+        Some((n, t)) => match arguments(alloc, state, stage, list) {
+            Ok(found) => check_calls::library(alloc, line, n, t, found),
+            Err(why) => {
+                drop(t);
+                Err(why)
+            }
+        },
         None => plain_call(alloc, state, line, stage, f, list),
     }
 }
@@ -190,10 +159,18 @@ fn choice(
     ensures { Reads (rules.choice line (spec.node c.now) (spec.node a.now) (spec.node b.now) stage state.old) result state.new }
 {
     let test = expression(alloc, state, stage, c)?;
-    match both(alloc, state, stage, a, b) {
-        Ok(p) => choice_node(alloc, line, test, p.0, p.1),
+    let x = match expression(alloc, state, stage, a) {
+        Ok(x) => x,
         Err(why) => {
             drop(test);
+            return Err(why);
+        }
+    };
+    match expression(alloc, state, stage, b) {
+        Ok(y) => choice_node(alloc, line, test, x, y),
+        Err(why) => {
+            drop(test);
+            drop(x);
             Err(why)
         }
     }
@@ -240,13 +217,20 @@ fn pair(
     line: u32,
     stage: Stage,
     kind: Pair,
-    a: &Expr,
-    b: &Expr,
+    parts: &(Expr, Expr),
 ) -> Result<Operand, Deny>
-    ensures { Reads (kinds.pair line kind (spec.node a.now) (spec.node b.now) stage state.old) result state.new }
+    ensures { Reads (kinds.pair line kind (spec.node parts.now.0) (spec.node parts.now.1) stage state.old) result state.new }
 {
-    let p = both(alloc, state, stage, a, b)?;
-    pair_node(alloc, line, stage, kind, p.0, p.1)
+    match expression(alloc, state, stage, &parts.0) {
+        Ok(x) => match expression(alloc, state, stage, &parts.1) {
+            Ok(y) => pair_node(alloc, line, stage, kind, x, y),
+            Err(why) => {
+                drop(x);
+                Err(why)
+            }
+        },
+        Err(why) => Err(why),
+    }
 }
 
 // A production of a type name alone.
@@ -327,10 +311,7 @@ pub fn expression(alloc: Global, state: &mut State, stage: Stage, e: &Expr) -> R
                 a.get(),
             )
         }
-        Expr::Index(line, p) => {
-            let (a, b) = p.get();
-            pair(alloc, state, *line, stage, Pair::Index, a, b)
-        }
+        Expr::Index(line, p) => pair(alloc, state, *line, stage, Pair::Index, p.get()),
         Expr::Call(line, f, list) => call(alloc, state, *line, stage, f.get(), list.as_slice()),
         Expr::Step(line, op, a) => post(alloc, state, *line, stage, *op, a.get()),
         Expr::Unary(line, op, a) => unary(alloc, state, *line, stage, *op, a.get()),
@@ -338,24 +319,12 @@ pub fn expression(alloc: Global, state: &mut State, stage: Stage, e: &Expr) -> R
         Expr::TickBlock(line, items) => tick_block(alloc, state, *line, stage, items.as_slice()),
         Expr::Cast(line, t, a) => typed(alloc, state, *line, stage, Typing::Cast, t.get(), a.get()),
         Expr::Sizeof(line, t) => named(alloc, state, *line, stage, Naming::Size, t.get()),
-        Expr::Binary(line, op, p) => {
-            let (a, b) = p.get();
-            pair(alloc, state, *line, stage, Pair::Binary(*op), a, b)
-        }
+        Expr::Binary(line, op, p) => pair(alloc, state, *line, stage, Pair::Binary(*op), p.get()),
         Expr::Choice(line, c, a, b) => {
             choice(alloc, state, *line, stage, c.get(), a.get(), b.get())
         }
-        Expr::Assign(line, p) => {
-            let (a, b) = p.get();
-            pair(alloc, state, *line, stage, Pair::Assign, a, b)
-        }
-        Expr::Modify(line, op, p) => {
-            let (a, b) = p.get();
-            pair(alloc, state, *line, stage, Pair::Modify(*op), a, b)
-        }
-        Expr::Comma(line, p) => {
-            let (a, b) = p.get();
-            pair(alloc, state, *line, stage, Pair::Comma, a, b)
-        }
+        Expr::Assign(line, p) => pair(alloc, state, *line, stage, Pair::Assign, p.get()),
+        Expr::Modify(line, op, p) => pair(alloc, state, *line, stage, Pair::Modify(*op), p.get()),
+        Expr::Comma(line, p) => pair(alloc, state, *line, stage, Pair::Comma, p.get()),
     }
 }

@@ -85,6 +85,7 @@ pub fn string_leaf(alloc: Global, state: &mut State, bytes: &[u8]) -> Result<Ope
 }
 
 /// What a production of two operands is.
+#[inline(always)]
 pub fn pair_node(
     alloc: Global,
     line: u32,

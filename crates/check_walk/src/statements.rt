@@ -132,27 +132,7 @@ fn tested(
     }
 }
 
-// The bodies of `if` and `else`.
-#[cycle(walk)]
-fn bodies(
-    alloc: Global,
-    state: &mut State,
-    around: Around,
-    a: &syntax::Stmt,
-    b: &syntax::Stmt,
-) -> Result<(Boxed<Stmt>, Boxed<Stmt>), Deny>
-    ensures { Reads (statements.bodies (spec.item a.now) (spec.item b.now) around state.old) result state.new }
-{
-    let x = body_of(alloc, state, around, a)?;
-    match body_of(alloc, state, around, b) {
-        Ok(y) => Ok((x, y)),
-        Err(why) => {
-            drop(x);
-            Err(why)
-        }
-    }
-}
-
+// An `if` with `else`.
 #[cycle(walk)]
 fn branches(
     alloc: Global,
@@ -166,10 +146,18 @@ fn branches(
     ensures { Reads (statements.if_else line (spec.node c.now) (spec.item a.now) (spec.item b.now) around state.old) result state.new }
 {
     let o = expression(alloc, state, around.stage, c)?;
-    match bodies(alloc, state, inside(around), a, b) {
-        Ok(p) => if_else_node(alloc, line, o, p.0, p.1),
+    let x = match body_of(alloc, state, inside(around), a) {
+        Ok(x) => x,
         Err(why) => {
             drop(o);
+            return Err(why);
+        }
+    };
+    match body_of(alloc, state, inside(around), b) {
+        Ok(y) => if_else_node(alloc, line, o, x, y),
+        Err(why) => {
+            drop(o);
+            drop(x);
             Err(why)
         }
     }
@@ -196,27 +184,6 @@ fn done_first(
     }
 }
 
-// The test and the step of a `for`.
-#[cycle(walk)]
-fn test_and_step(
-    alloc: Global,
-    state: &mut State,
-    around: Around,
-    c: &OptionalExpr,
-    s: &OptionalExpr,
-) -> Result<(Option<Operand>, Option<Operand>), Deny>
-    ensures { Reads (statements.test_and_step (spec.optional c.now) (spec.optional s.now) around state.old) result state.new }
-{
-    let x = optional(alloc, state, around.stage, c)?;
-    match optional(alloc, state, around.stage, s) {
-        Ok(y) => Ok((x, y)),
-        Err(why) => {
-            drop(x);
-            Err(why)
-        }
-    }
-}
-
 // A `for` behind its first part.
 #[cycle(walk)]
 fn for_rest(
@@ -230,11 +197,19 @@ fn for_rest(
 ) -> Result<Boxed<Stmt>, Deny>
     ensures { Reads (statements.for_rest line (spec.optional c.now) (spec.optional s.now) (spec.item a.now) around state.old) result state.new }
 {
-    let p = test_and_step(alloc, state, around, c, s)?;
-    match body_of(alloc, state, looped(around), a) {
-        Ok(x) => for_node(alloc, line, p.0, p.1, x),
+    let test = optional(alloc, state, around.stage, c)?;
+    let step = match optional(alloc, state, around.stage, s) {
+        Ok(step) => step,
         Err(why) => {
-            drop(p);
+            drop(test);
+            return Err(why);
+        }
+    };
+    match body_of(alloc, state, looped(around), a) {
+        Ok(x) => for_node(alloc, line, test, step, x),
+        Err(why) => {
+            drop(test);
+            drop(step);
             Err(why)
         }
     }

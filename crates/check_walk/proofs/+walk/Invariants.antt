@@ -2,7 +2,6 @@ use Rattle.std.proofs.Common.{◌≡◌, map, ℕ, ◌+◌, ◌*◌, max, drop, 
 use Rattle.std.specs.Prelude.{None}
 use Rattle.check_operands.specs.Calls as calls
 use Rattle.tick_tree.specs.declared.syntax.Expr.{size-Expr}
-use Rattle.tick_tree.specs.declared.syntax.Initializer.{size-Initializer}
 use Rattle.tick_tree.specs.declared.syntax.OptionalExpr.{size-OptionalExpr}
 use Rattle.tick_tree.specs.declared.syntax.Stmt.{size-Stmt}
 use Rattle.check_rules.specs.StatementRules as statements
@@ -11,16 +10,8 @@ use Rattle.check_rules.proofs.Loops.{after}
 use Rattle.check_walk.proofs.+walk.Given as goal
 
 -- each function takes the parts of a value, or passes a value on to one of a lower rank
-abbrev pub decreases-expressions::both : goal.decreases-expressions::both
-decreases-expressions::both l = 8 * (max (size-Expr l.a.now) (size-Expr l.b.now)) + 1
-
 abbrev pub decreases-expressions::arguments : goal.decreases-expressions::arguments
 decreases-expressions::arguments l = 8 * (goal.size-expressions::arguments l) + 1
-
-abbrev pub decreases-expressions::library_call : goal.decreases-expressions::library_call
-decreases-expressions::library_call l =
-    8 * (goal.size-expressions::arguments
-    (record { the-lifetimes = ([], ([], tt {0})); alloc = l.alloc; state = l.state; stage = l.stage; list = l.list })) + 2
 
 abbrev pub decreases-expressions::plain_call : goal.decreases-expressions::plain_call
 decreases-expressions::plain_call l =
@@ -79,7 +70,7 @@ abbrev pub decreases-expressions::choice : goal.decreases-expressions::choice
 decreases-expressions::choice l = 8 * (max (size-Expr l.c.now) (max (size-Expr l.a.now) (size-Expr l.b.now))) + 2
 
 abbrev pub decreases-expressions::pair : goal.decreases-expressions::pair
-decreases-expressions::pair l = 8 * (max (size-Expr l.a.now) (size-Expr l.b.now)) + 2
+decreases-expressions::pair l = 8 * (max (size-Expr l.parts.now.0) (size-Expr l.parts.now.1)) + 2
 
 abbrev pub decreases-expressions::named : goal.decreases-expressions::named
 decreases-expressions::named l = 8 * (goal.size-expressions::named l) + 4
@@ -117,9 +108,6 @@ decreases-types::each_parameter l = 8 * (goal.size-types::each_parameter l) + 4
 abbrev pub decreases-types::parameter : goal.decreases-types::parameter
 decreases-types::parameter l = 8 * (goal.size-types::parameter l) + 3
 
-abbrev pub decreases-declarations::begin_value : goal.decreases-declarations::begin_value
-decreases-declarations::begin_value l = 8 * (goal.size-declarations::begin_value l) + 1
-
 abbrev pub decreases-declarations::elements : goal.decreases-declarations::elements
 decreases-declarations::elements l =
     8 * (goal.size-expressions::arguments
@@ -132,15 +120,6 @@ decreases-declarations::begin_list l =
 
 abbrev pub decreases-declarations::begin : goal.decreases-declarations::begin
 decreases-declarations::begin l = 8 * (goal.size-declarations::begin l)
-
-abbrev pub decreases-declarations::local_type : goal.decreases-declarations::local_type
-decreases-declarations::local_type l = 8 * (goal.size-declarations::local_type l) + 3
-
-abbrev pub decreases-declarations::declared_parts : goal.decreases-declarations::declared_parts
-decreases-declarations::declared_parts l =
-    8 * (max (goal.size-types::declarator
-    (record { the-lifetimes = ([], ([], tt {0})); alloc = l.alloc; state = l.state; stage = l.stage; d = l.d }))
-    (size-Initializer l.value.now)) + 4
 
 abbrev pub decreases-declarations::declared_local : goal.decreases-declarations::declared_local
 decreases-declarations::declared_local l = 8 * (goal.size-declarations::declared_local l) + 5
@@ -169,17 +148,11 @@ decreases-statements::block_alone l = 8 * (goal.size-statements::block_alone l) 
 abbrev pub decreases-statements::tested : goal.decreases-statements::tested
 decreases-statements::tested l = 8 * (max (size-Expr l.c.now) (size-Stmt l.a.now)) + 2
 
-abbrev pub decreases-statements::bodies : goal.decreases-statements::bodies
-decreases-statements::bodies l = 8 * (max (size-Stmt l.a.now) (size-Stmt l.b.now)) + 2
-
 abbrev pub decreases-statements::branches : goal.decreases-statements::branches
 decreases-statements::branches l = 8 * (max (size-Expr l.c.now) (max (size-Stmt l.a.now) (size-Stmt l.b.now))) + 3
 
 abbrev pub decreases-statements::done_first : goal.decreases-statements::done_first
 decreases-statements::done_first l = 8 * (max (size-Stmt l.a.now) (size-Expr l.c.now)) + 2
-
-abbrev pub decreases-statements::test_and_step : goal.decreases-statements::test_and_step
-decreases-statements::test_and_step l = 8 * (max (size-OptionalExpr l.c.now) (size-OptionalExpr l.s.now)) + 1
 
 abbrev pub decreases-statements::for_rest : goal.decreases-statements::for_rest
 decreases-statements::for_rest l =
