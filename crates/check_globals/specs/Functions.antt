@@ -17,9 +17,9 @@ use Rattle.tick_tree.specs.Faults.{Checked, refuse}
 use Rattle.typed_tree.specs.declared.expression.Stmt.{Stmt}
 use Rattle.typed_tree.specs.declared.program.Function.{Function}
 use Rattle.typed_tree.specs.Sizes.{statement_size}
-use Rattle.check_tables.specs.declared.functions.Functions.{Functions}
+use Rattle.check_rules.specs.declared.functions.Functions.{Functions}
 use Rattle.check_tables.specs.Frames as frames
-use Rattle.check_tables.specs.Functions as functions
+use Rattle.check_rules.specs.Functions as functions
 use Rattle.check_tables.specs.Walks.{Rule, ◌>>=◌, pure}
 use Rattle.check_rules.specs.declared.state.State.{State}
 use Rattle.check_rules.specs.Locals.{meaning, parameter, with_parameter}

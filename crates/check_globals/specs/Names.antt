@@ -15,7 +15,7 @@ use Rattle.check_declarators.specs.declared.steps.Step.{Step}
 use Rattle.check_declarators.specs.declared.steps.Step.TheVariants as step
 use Rattle.tick_tree.specs.declared.fault.FaultKind.TheVariants as fault
 use Rattle.tick_tree.specs.Faults.{refuse}
-use Rattle.check_tables.specs.Functions as functions
+use Rattle.check_rules.specs.Functions as functions
 use Rattle.check_tables.specs.Images as images
 use Rattle.check_tables.specs.Walks.{Rule, ◌>>=◌}
 use Rattle.check_rules.specs.declared.state.State.{State}

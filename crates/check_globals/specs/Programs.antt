@@ -20,9 +20,9 @@ use Rattle.tick_tree.specs.Faults.{Checked, refuse}
 use Rattle.typed_tree.specs.declared.program.Function.{Function}
 use Rattle.typed_tree.specs.declared.program.Tick.{Tick}
 use Rattle.typed_tree.specs.declared.program.TypedParts.{TypedParts}
-use Rattle.check_tables.specs.declared.functions.Prototype.{Prototype}
+use Rattle.check_rules.specs.declared.functions.Prototype.{Prototype}
 use Rattle.check_tables.specs.declared.image.Image.{Image}
-use Rattle.check_tables.specs.Functions as functions
+use Rattle.check_rules.specs.Functions as functions
 use Rattle.check_tables.specs.Images as images
 use Rattle.check_rules.specs.declared.state.State.{State}
 use Rattle.check_globals.specs.Names.{is_function}

@@ -5,7 +5,6 @@ ghost use Rattle.check_forms.specs.Forms as forms;
 ghost use Rattle.check_globals.specs.Functions as spec;
 ghost use Rattle.check_rules.specs.Locals as locals;
 ghost use Rattle.check_rules.specs.Declarations.{name_by};
-ghost use Rattle.check_tables.specs.Functions as functions;
 ghost use Rattle.check_tables.specs.Walks.{Reads};
 
 use crate::names::{Before, declare, known_before};
@@ -13,7 +12,6 @@ use c_types::{CType, Layer, TypeRef, copy_ctype};
 use check_forms::declared_name;
 use check_rules::State;
 use check_scopes::MeaningKind;
-use check_tables::Functions;
 use check_types::inner;
 use sqlite_items::{Boxed, Items};
 use std::alloc::{AllocError, Global};
@@ -26,13 +24,6 @@ fn define(alloc: Global, state: &mut State, line: u32, name: &[u8]) -> Result<()
     state.functions.define(alloc, line, name)
 }
 
-fn next(all: &Functions) -> u32
-    ensures { result ≡ functions.next all.now }
-{
-    let count = all.all.len().min(u32::MAX as usize) as u32;
-    (u64::from(count) + 1).min(u64::from(u32::MAX)) as u32
-}
-
 fn first_function(
     alloc: Global,
     state: &mut State,
@@ -42,7 +33,7 @@ fn first_function(
 ) -> Result<(), Deny>
     ensures { Reads (spec.first_function line name.now t.now state.old) result state.new }
 {
-    let index = next(&state.functions);
+    let index = state.functions.next();
     declare(alloc, state, line, name, MeaningKind::Function, t, index)?;
     define(alloc, state, line, name)
 }

@@ -1,4 +1,5 @@
 pub mod Blocks
+pub mod Functions
 pub mod Locals
 pub mod Names
 pub mod Starts

@@ -17,10 +17,10 @@ use Rattle.tick_tree.specs.declared.fault.Deny.{Deny}
 use Rattle.tick_tree.specs.declared.fault.Deny.TheVariants.{Refused, NoMemory}
 use Rattle.check_rules.specs.declared.state.State.{State}
 use Rattle.check_tables.specs.declared.frame.Frame.{Frame}
-use Rattle.check_tables.specs.declared.functions.Functions.{Functions}
+use Rattle.check_rules.specs.declared.functions.Functions.{Functions}
 use Rattle.check_tables.specs.declared.image.Image.{Image}
 use Rattle.check_tables.specs.Frames as frames
-use Rattle.check_tables.specs.Functions as functions
+use Rattle.check_rules.specs.Functions as functions
 use Rattle.check_tables.specs.Images as images
 use Rattle.check_tables.specs.Labels as labels
 use Rattle.check_rules.specs.Names.{declare}

@@ -4,10 +4,12 @@
 #![tactic(auto)]
 
 mod blocks;
+mod functions;
 mod initializers;
 mod locals;
 mod names;
 mod state;
 
+pub use functions::{Functions, Prototype};
 pub use initializers::{has_size, is_array, is_string, lower, value_breaks};
 pub use state::{Around, Stage, State};

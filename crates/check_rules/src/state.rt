@@ -5,9 +5,10 @@ ghost use Rattle.check_types.specs.Shapes as shapes;
 ghost use Rattle.check_rules.specs.Starts as spec;
 ghost use Rattle.check_tables.specs.Walks.{Reads};
 
+use crate::functions::Functions;
 use c_types::{Base, CType, Integer, Layer, TypeRef};
 use check_scopes::{Meaning, MeaningKind, Scopes};
-use check_tables::{Frame, Functions, Image, Labels, Ticks};
+use check_tables::{Frame, Image, Labels, Ticks};
 use check_types::{integer, over, void};
 use sqlite_items::Items;
 use std::alloc::{AllocError, Global};

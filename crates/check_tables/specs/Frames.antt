@@ -7,7 +7,7 @@ use Rattle.std.specs.Prelude.{ℕ, ◌+◌, ◌*◌, ◌/◌, min, Bool, true, f
 use Rattle.std.specs.Prelude.{◌++◌, length, slice_get, slice_set, Option, Some, None}
 use Rattle.c_types.specs.declared.ctype.CType.{CType}
 use Rattle.c_types.specs.Types.{layers_of, limited_size}
-use Rattle.check_declarators.specs.Making.{is_array}
+use Rattle.c_types.specs.Kinds.{is_array}
 use Rattle.check_types.specs.Shapes.{width_of, void}
 use Rattle.typed_tree.specs.declared.expression.Stmt.{Stmt}
 use Rattle.typed_tree.specs.declared.expression.Stmt.TheVariants as st

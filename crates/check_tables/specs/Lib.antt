@@ -1,6 +1,5 @@
 pub mod Bounds
 pub mod Frames
-pub mod Functions
 pub mod Images
 pub mod Labels
 pub mod Ticks

@@ -2,7 +2,7 @@
 
 ghost use Rattle.std.specs.Prelude.{◌≡◌, ◌+◌, min, OnOk, slice_get};
 ghost use Rattle.std.specs.Option.{option_copied};
-ghost use Rattle.check_declarators.specs.Making as making;
+ghost use Rattle.c_types.specs.Kinds as kinds;
 ghost use Rattle.check_tables.specs.Frames as spec;
 
 use c_types::{Layer, TypeRef, limited_size};
@@ -67,7 +67,7 @@ fn mark_of(marks: &Items<bool>, n: usize) -> bool
 }
 
 fn is_array(last: Option<&Layer>) -> bool
-    ensures { result ≡ making.is_array_layer (option_copied last.entry) }
+    ensures { result ≡ kinds.is_array_layer (option_copied last.entry) }
 {
     matches!(last, Some(Layer::Array(_)))
 }

@@ -1,15 +1,12 @@
-//! What the walk of the checker knows, table by table: the function that it is in, ticks, labels, globals and strings, and the
-//! functions of the program.
+//! What the walk of the checker knows, table by table: the function that it is in, ticks, labels, globals and strings.
 #![tactic(auto)]
 
 mod frame;
-mod functions;
 mod image;
 mod labels;
 mod ticks;
 
 pub use frame::{Frame, Home};
-pub use functions::{Functions, Prototype};
 pub use image::Image;
 pub use labels::{Labels, Values};
 pub use ticks::Ticks;

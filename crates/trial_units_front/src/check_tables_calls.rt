@@ -1,7 +1,8 @@
 //! The tables by hand.
 
 use c_types::{Integer, Layer};
-use check_tables::{Frame, Functions, Home, Image, Labels, Ticks};
+use check_rules::Functions;
+use check_tables::{Frame, Home, Image, Labels, Ticks};
 use check_types::integer;
 use sqlite_items::Boxed;
 use typed_tree::{CaptureKind, Expr, TickBody};

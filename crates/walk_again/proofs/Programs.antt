@@ -4,7 +4,7 @@ use Rattle.std.proofs.Common.{◌≡◌, ◌≤◌, List, [], length, refl, ap, 
 use Rattle.std.proofs.Common.{Ok, Err, true, arith}
 use Rattle.tick_tree.specs.declared.syntax.External.{External}
 use Rattle.tick_tree.specs.Faults.{Checked, ◌>>=◌ as ◌>>>=◌}
-use Rattle.check_tables.specs.Functions as functions
+use Rattle.check_rules.specs.Functions as functions
 use Rattle.check_tables.specs.Images as images
 use Rattle.check_rules.specs.declared.state.State.{State}
 use Rattle.check_rules.specs.Starts.{libraries, first_library, second_library, third_library, add_library, empty}

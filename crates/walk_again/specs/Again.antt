@@ -11,7 +11,7 @@ use Rattle.check_rules.specs.declared.state.Stage.{Stage}
 use Rattle.check_rules.specs.declared.state.State.{State}
 use Rattle.check_tables.specs.declared.frame.Frame.{Frame}
 use Rattle.check_tables.specs.declared.image.Image.{Image}
-use Rattle.check_tables.specs.declared.functions.Functions.{Functions}
+use Rattle.check_rules.specs.declared.functions.Functions.{Functions}
 use Rattle.check_tables.specs.Frames as frames
 use Rattle.check_tables.specs.Walks.{Rule}
 use Rattle.check_rules.specs.ExpressionRules.{Node, Named, Shape, Item}

@@ -13,7 +13,7 @@ use Rattle.tick_tree.specs.declared.base.Base.{Base}
 use Rattle.tick_tree.specs.declared.fault.FaultKind.{FaultKind}
 use Rattle.tick_tree.specs.declared.fault.FaultKind.TheVariants as fault
 use Rattle.tick_tree.specs.Faults.{Checked, refuse}
-use Rattle.check_tables.specs.Functions as tables
+use Rattle.check_rules.specs.Functions as tables
 use Rattle.check_tables.specs.Images as images
 use Rattle.check_tables.specs.Walks.{Rule}
 use Rattle.check_rules.specs.declared.state.Stage.TheVariants as stage

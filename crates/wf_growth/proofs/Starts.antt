@@ -8,8 +8,8 @@ use Rattle.tick_tree.specs.Faults.{Checked, refuse, ◌>>=◌ as ◌>>>=◌}
 use Rattle.typed_tree.specs.declared.program.TypedParts.{TypedParts}
 use Rattle.c_types.specs.declared.ctype.CType.{CType}
 use Rattle.check_scopes.specs.Scopes.{Name}
-use Rattle.check_tables.specs.declared.functions.Prototype.{Prototype}
-use Rattle.check_tables.specs.Functions as tables
+use Rattle.check_rules.specs.declared.functions.Prototype.{Prototype}
+use Rattle.check_rules.specs.Functions as tables
 use Rattle.check_rules.specs.declared.state.State.{State}
 use Rattle.check_rules.specs.Starts as starts
 use Rattle.check_globals.specs.Programs as programs

@@ -10,7 +10,7 @@ use Rattle.typed_tree.specs.declared.expression.Stmt.{Stmt}
 use Rattle.typed_tree.specs.declared.expression.Stmt.TheVariants as st
 use Rattle.typed_tree.specs.declared.program.Function.{Function}
 use Rattle.typed_tree.specs.Sizes.{statement_size}
-use Rattle.check_tables.specs.declared.functions.Functions.{Functions}
+use Rattle.check_rules.specs.declared.functions.Functions.{Functions}
 use Rattle.check_rules.specs.declared.state.State.{State}
 use Rattle.check_rules.specs.ExpressionRules.{Shape, Item}
 use Rattle.check_globals.specs.Functions as functions

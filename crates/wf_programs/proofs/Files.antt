@@ -7,8 +7,8 @@ use Rattle.check_scopes.specs.Scopes.{Name, Scope, in_scope}
 use Rattle.c_types.specs.Types.{same}
 use Rattle.typed_tree.specs.declared.expression.CaptureKind.{CaptureKind}
 use Rattle.typed_tree.specs.declared.program.Function.{Function}
-use Rattle.check_tables.specs.declared.functions.Prototype.{Prototype}
-use Rattle.check_tables.specs.Functions.{number}
+use Rattle.check_rules.specs.declared.functions.Prototype.{Prototype}
+use Rattle.check_rules.specs.Functions.{number}
 use Rattle.check_rules.specs.declared.state.State.{State}
 use Rattle.check_globals.specs.Functions.{count_of, types_of}
 use Rattle.wellformed.specs.Accepted.{parameters_of}

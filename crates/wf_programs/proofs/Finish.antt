@@ -8,8 +8,8 @@ use Rattle.tick_tree.specs.Faults.{refuse}
 use Rattle.typed_tree.specs.declared.program.Function.{Function}
 use Rattle.typed_tree.specs.declared.program.Tick.{Tick}
 use Rattle.typed_tree.specs.declared.program.TypedParts.{TypedParts}
-use Rattle.check_tables.specs.declared.functions.Prototype.{Prototype}
-use Rattle.check_tables.specs.Functions.{undefined}
+use Rattle.check_rules.specs.declared.functions.Prototype.{Prototype}
+use Rattle.check_rules.specs.Functions.{undefined}
 use Rattle.check_rules.specs.declared.state.State.{State}
 use Rattle.check_globals.specs.Programs.{finished, finished_by, has_main, fits, typed, image_fits, functions_fit}
 use Rattle.check_globals.specs.Programs.{function_fits, ticks_fit, tick_fits, charges}

@@ -11,9 +11,9 @@ use Rattle.check_declarators.specs.Making.{declared_type}
 use Rattle.check_declarators.specs.Words as words
 use Rattle.check_types.specs.Shapes.{is_void, is_function}
 use Rattle.tick_tree.specs.declared.base.Base.{Base}
-use Rattle.check_tables.specs.declared.functions.Functions.{Functions}
-use Rattle.check_tables.specs.declared.functions.Prototype.{Prototype}
-use Rattle.check_tables.specs.Functions as tables
+use Rattle.check_rules.specs.declared.functions.Functions.{Functions}
+use Rattle.check_rules.specs.declared.functions.Prototype.{Prototype}
+use Rattle.check_rules.specs.Functions as tables
 use Rattle.check_tables.specs.Walks.{lift}
 use Rattle.check_rules.specs.declared.state.Stage.TheVariants as stage
 use Rattle.check_rules.specs.declared.state.State.{State}

@@ -11,7 +11,7 @@ use Rattle.c_types.specs.Types.{same_lists}
 use Rattle.c_types.proofs.SameLaws.{by_parts, by_layer, opened_same}
 use Rattle.check_forms.specs.Forms.{is_nil}
 use Rattle.typed_tree.specs.declared.program.Function.{Function}
-use Rattle.check_tables.specs.Functions as tables
+use Rattle.check_rules.specs.Functions as tables
 use Rattle.check_rules.specs.declared.state.State.{State}
 use Rattle.check_globals.specs.Functions.{count_of, types_of, types_by, types_at}
 use Rattle.check_globals.specs.Names as names

@@ -7,8 +7,8 @@ use Rattle.check_scopes.specs.declared.names.MeaningKind.TheVariants as kind
 use Rattle.check_scopes.specs.Scopes.{Name, Scope, Scopes, in_scope, find}
 use Rattle.c_types.specs.Types.{same}
 use Rattle.tick_tree.specs.Faults.{Checked}
-use Rattle.check_tables.specs.declared.functions.Functions.{Functions}
-use Rattle.check_tables.specs.Functions as functions
+use Rattle.check_rules.specs.declared.functions.Functions.{Functions}
+use Rattle.check_rules.specs.Functions as functions
 use Rattle.check_rules.specs.declared.state.State.{State}
 use Rattle.check_rules.specs.Locals.{meaning}
 use Rattle.check_rules.specs.Names.{declare}

@@ -9,9 +9,9 @@ use Rattle.check_scopes.specs.declared.names.MeaningKind.{MeaningKind}
 use Rattle.check_scopes.specs.declared.names.MeaningKind.TheVariants as kind
 use Rattle.check_scopes.specs.Scopes.{Name, Scope, Scopes, in_scope, find, innermost, declared}
 use Rattle.check_types.specs.Shapes.{is_void}
-use Rattle.check_tables.specs.declared.functions.Functions.{Functions}
-use Rattle.check_tables.specs.declared.functions.Prototype.{Prototype}
-use Rattle.check_tables.specs.Functions.{number, number_by}
+use Rattle.check_rules.specs.declared.functions.Functions.{Functions}
+use Rattle.check_rules.specs.declared.functions.Prototype.{Prototype}
+use Rattle.check_rules.specs.Functions.{number, number_by}
 use Rattle.check_rules.specs.declared.state.Stage.{Stage}
 use Rattle.check_rules.specs.declared.state.State.{State}
 use Rattle.check_rules.specs.Names.{declare, declared_by}

@@ -6,7 +6,7 @@ use Rattle.c_types.specs.declared.ctype.Layer.TheVariants as layer
 use Rattle.check_scopes.specs.Scopes.{Name, Scope, Scopes}
 use Rattle.check_types.specs.Shapes as shapes
 use Rattle.check_types.specs.Shapes.{over, void}
-use Rattle.check_tables.specs.declared.functions.Functions.{Functions}
+use Rattle.check_rules.specs.declared.functions.Functions.{Functions}
 use Rattle.check_tables.specs.Walks.{◌>>=◌}
 use Rattle.check_rules.specs.declared.state.State.{State}
 use Rattle.check_rules.specs.Starts.{int, function, library_meaning, add_library, first_library, second_library}

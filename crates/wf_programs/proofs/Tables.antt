@@ -5,10 +5,10 @@ use Rattle.std.proofs.Common.{arith, bytes_eq, append-nil}
 use Rattle.std.proofs.lemmas.Slice.Eq.{bytes_eq-Decides}
 use Rattle.check_scopes.specs.declared.names.Meaning.{Meaning}
 use Rattle.check_scopes.specs.Scopes.{Name, Scope, Scopes, in_scope, find, innermost, declared}
-use Rattle.check_tables.specs.declared.functions.Functions.{Functions}
-use Rattle.check_tables.specs.declared.functions.Prototype.{Prototype}
-use Rattle.check_tables.specs.Functions.{define, defined_by, next, number, number_by, is_defined, meaning, lacking}
-use Rattle.check_tables.specs.Functions.{undefined}
+use Rattle.check_rules.specs.declared.functions.Functions.{Functions}
+use Rattle.check_rules.specs.declared.functions.Prototype.{Prototype}
+use Rattle.check_rules.specs.Functions.{define, defined_by, next, number, number_by, is_defined, meaning, lacking}
+use Rattle.check_rules.specs.Functions.{undefined}
 use Rattle.wf_walk.proofs.Walks.{pure_same}
 
 -- the number of the function that so many stand before

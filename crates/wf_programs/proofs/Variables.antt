@@ -6,7 +6,7 @@ use Rattle.check_scopes.specs.declared.names.Meaning.{Meaning}
 use Rattle.check_scopes.specs.declared.names.MeaningKind.TheVariants as kind
 use Rattle.check_scopes.specs.Scopes.{Name, Scope, in_scope, find}
 use Rattle.c_types.specs.Types.{same, limited_size}
-use Rattle.check_tables.specs.Functions as functions
+use Rattle.check_rules.specs.Functions as functions
 use Rattle.check_tables.specs.Images as images
 use Rattle.check_rules.specs.declared.state.State.{State}
 use Rattle.check_rules.specs.Locals.{meaning}

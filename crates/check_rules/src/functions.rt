@@ -2,10 +2,9 @@
 
 ghost use Rattle.std.specs.Prelude.{◌≡◌, IfOk, OnOk};
 ghost use Rattle.std.specs.Option.{option_copied};
-ghost use Rattle.check_tables.specs.Functions as spec;
+ghost use Rattle.check_rules.specs.Functions as spec;
 ghost use Rattle.check_tables.specs.Walks.{Reads};
 
-use crate::frame::{count, plus};
 use check_scopes::{DeclareFault, Meaning, MeaningKind, Scopes};
 use sqlite_items::Items;
 use std::alloc::{AllocError, Global};
@@ -40,18 +39,33 @@ impl Functions {
         ensures { IfOk result (λ s. s ≡ spec.new) }
     {
         let defined = Scopes::new(alloc)?;
-        Ok(Functions {
-            defined,
-            earlier: Scopes::new(alloc)?,
-            prototypes: Items::new(alloc),
-            all: Items::new(alloc),
-        })
+        match Scopes::new(alloc) {
+            Ok(earlier) => Ok(Functions::with(alloc, defined, earlier)),
+            Err(why) => {
+                drop(defined);
+                Err(why)
+            }
+        }
     }
 
-    fn next(&self) -> u32
+    // Before all items, with the functions defined so far and those of an earlier walk.
+    fn with(alloc: Global, defined: Scopes, earlier: Scopes) -> Functions
+        ensures { result ≡ spec.with defined earlier }
+    {
+        Functions {
+            defined,
+            earlier,
+            prototypes: Items::new(alloc),
+            all: Items::new(alloc),
+        }
+    }
+
+    /// The number of the next function, as far as a word counts.
+    pub fn next(&self) -> u32
         ensures { result ≡ spec.next self.now }
     {
-        plus(count(self.all.len()), 1)
+        let count = self.all.len().min(u32::MAX as usize) as u32;
+        (u64::from(count) + 1).min(u64::from(u32::MAX)) as u32
     }
 
     /// The number that an earlier walk found for the function of this name, 0 where there is none.
@@ -120,12 +134,18 @@ impl Functions {
     pub fn again(self, alloc: Global) -> Result<Functions, AllocError>
         ensures { IfOk result (λ s. s ≡ spec.again self) }
     {
-        let Functions { defined, .. } = self;
-        Ok(Functions {
-            defined: Scopes::new(alloc)?,
-            earlier: defined,
-            prototypes: Items::new(alloc),
-            all: Items::new(alloc),
-        })
+        match Scopes::new(alloc) {
+            Ok(defined) => {
+                let Functions {
+                    defined: earlier,
+                    ..
+                } = self;
+                Ok(Functions::with(alloc, defined, earlier))
+            }
+            Err(why) => {
+                drop(self);
+                Err(why)
+            }
+        }
     }
 }

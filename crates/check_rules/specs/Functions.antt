@@ -11,13 +11,17 @@ use Rattle.check_types.specs.Shapes.{void}
 use Rattle.tick_tree.specs.declared.fault.FaultKind.TheVariants as fault
 use Rattle.tick_tree.specs.Faults.{Checked, refuse}
 use Rattle.typed_tree.specs.declared.program.Function.{Function}
-use Rattle.check_tables.specs.declared.functions.Prototype.{Prototype}
-use Rattle.check_tables.specs.declared.functions.Functions.{Functions}
+use Rattle.check_rules.specs.declared.functions.Prototype.{Prototype}
+use Rattle.check_rules.specs.declared.functions.Functions.{Functions}
 use Rattle.check_tables.specs.Frames.{count}
 use Rattle.check_tables.specs.Walks.{Rule}
 
+-- before all items, with the functions defined so far and those of an earlier walk
+abbrev pub with : Scopes → Scopes → Functions
+with defined earlier = record { defined = defined; earlier = earlier; prototypes = []; all = [] }
+
 abbrev pub new : Functions
-new = record { defined = [] ∷ []; earlier = [] ∷ []; prototypes = []; all = [] }
+new = with ([] ∷ []) ([] ∷ [])
 
 -- the number of the next function
 abbrev pub next : Functions → ℕ
@@ -64,4 +68,4 @@ undefined s = lacking s.prototypes s
 
 -- before all items, with the numbers of these functions
 abbrev pub again : Functions → Functions
-again s = record { defined = [] ∷ []; earlier = s.defined; prototypes = []; all = [] }
+again s = with ([] ∷ []) s.defined
