@@ -21,28 +21,12 @@ use Rattle.tick_outcome.specs.declared.outcome.Outcome.TheVariants.{WriteFault}
 use Rattle.tick_outcome.specs.declared.ended.Ended.{Ended}
 use Rattle.tick_top.specs.declared.ended.Front.{Front}
 use Rattle.tick_top.specs.declared.ended.Front.TheVariants.{Found, Instead}
-use Rattle.tick_top.specs.declared.load.Loaded.{Loaded}
-use Rattle.tick_top.specs.declared.load.Loaded.TheVariants.{Whole, TooLongFile, FailedFile}
-use Rattle.limits.specs.declared.text.TheConstants.{LONGEST_IMAGE, LONGEST_TEXT}
+use Rattle.limits.specs.declared.text.TheConstants.{LONGEST_IMAGE}
+pub use Rattle.whole_files.specs.Input.{longest_text}
 
--- the most bytes of a text, and of an image
-abbrev pub longest_text : ℕ
-longest_text = LONGEST_TEXT
-
+-- the most bytes of an image
 abbrev pub longest_image : ℕ
 longest_image = LONGEST_IMAGE
-
--- what came of a told or an untold file that may have so many bytes
-abbrev pub IsLoaded : Option (Option (List ℕ)) → (longest : ℕ) → Loaded → Type 0
-IsLoaded told longest (Whole v) = Loads told (longest + 1) v.items × (nat_lt longest (length v.items) ≡ false)
-IsLoaded told longest TooLongFile =
-    (bytes : List ℕ) × Loads told (longest + 1) bytes × (nat_lt longest (length bytes) ≡ true)
-IsLoaded told longest FailedFile = ⊤
-
-abbrev pub LoadCause : ℕ → ℕ → Loaded → Type 0
-LoadCause old new (Whole v) = new ≡ old
-LoadCause old new TooLongFile = new ≡ old
-LoadCause old new FailedFile = Rose old new
 
 -- The image that came of a file: what `good` says of bytes and image holds, or there is an outcome in its place: the
 -- file can't be loaded, or is too long, or `bad` says that its bytes are refused so.

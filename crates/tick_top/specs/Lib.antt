@@ -10,5 +10,4 @@ pub mod Seen
 pub mod Rows
 pub mod Meant
 pub mod Laws
-pub mod Inputs
 pub mod Evaluations

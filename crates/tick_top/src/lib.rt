@@ -13,7 +13,6 @@ mod means;
 mod said;
 mod saved;
 mod top;
-mod whole_input;
 
 pub use accepted::{build, means_as_it_runs, typed_tree};
 pub use laws::{

@@ -1,55 +1,19 @@
-//! Whole files, and the images that they hold or stand for.
-ghost use Rattle.std.specs.Prelude.{◌<◌, ◌^◌, IfOk};
+//! The images that files hold or stand for.
+ghost use Rattle.std.specs.Prelude.{IfOk};
 ghost use Rattle.tick_top.specs.Outside.{SameFiles};
-ghost use Rattle.tick_top.specs.Answers.{IsLoaded, LoadCause, IsFront, FrontCause, IsBuilt, IsRefused, IsAssembled};
-ghost use Rattle.tick_top.specs.Answers.{IsAsmRefused, IsRead, IsNoImage};
+ghost use Rattle.tick_top.specs.Answers.{IsFront, FrontCause, IsBuilt, IsRefused, IsAssembled, IsAsmRefused, IsRead};
+ghost use Rattle.tick_top.specs.Answers.{IsNoImage};
 
 use crate::accepted::build;
 use crate::ended::Front;
-use host_edge::{LoadFault, Store};
+use host_edge::Store;
 use image_file::{ImageDeny, read};
 use limits::text::{LONGEST_IMAGE, LONGEST_TEXT};
 use mips_text::{AsmDeny, assemble};
 use std::alloc::{AllocError, Global};
 use tick_outcome::Outcome;
 use tick_tree::Deny;
-
-/// What a load of a whole file gives.
-#[derive(Drop)]
-pub enum Loaded {
-    /// Its bytes.
-    Whole(Vec<u8>),
-    /// It is longer than it may be.
-    TooLongFile,
-    /// The store failed.
-    FailedFile,
-}
-
-/// The whole file, which may have so many bytes.
-pub fn load<S: Store>(
-    alloc: Global,
-    store: &mut S,
-    file: &str,
-    longest: usize,
-) -> Result<Loaded, AllocError>
-    requires { longest < 2 ^ 40 }
-    ensures loaded { IfOk result (IsLoaded (S.file store.old file.now) longest) }
-    ensures same { SameFiles (S.file store.old) (S.file store.new) }
-    ensures cause { IfOk result (LoadCause (S.faults store.old) (S.faults store.new)) }
-{
-    let mut bytes = Vec::new(alloc);
-    match store.load(file, &mut bytes, longest + 1) {
-        Ok(()) => {
-            if bytes.len() > longest {
-                Ok(Loaded::TooLongFile)
-            } else {
-                Ok(Loaded::Whole(bytes))
-            }
-        }
-        Err(LoadFault::Failed) => Ok(Loaded::FailedFile),
-        Err(LoadFault::NoMemory) => Err(AllocError),
-    }
-}
+use whole_files::{Loaded, load};
 
 /// The image of the text in a file, or the outcome in its place: the file can't be loaded, or is too long, or the text
 /// is refused for its first static fault.

@@ -12,8 +12,6 @@ ghost use Rattle.tick_top.specs.Seen.{outcome_at};
 
 use crate::accepted::typed_tree;
 use crate::ended::bare;
-use crate::load::{Loaded, load};
-use crate::whole_input::{InputRead, read_input};
 use evaluate::evaluate;
 use host_edge::{Ending, Sink, Source, Store, write_whole};
 use limits::text::LONGEST_TEXT;
@@ -21,6 +19,7 @@ use std::alloc::{AllocError, Global};
 use tick_outcome::{Ended, Outcome};
 use tick_tree::Deny;
 use wellformed::Typed;
+use whole_files::{InputRead, Loaded, load, read_input};
 
 // The outcome of an evaluation within so many units of work.
 fn outcome_of(units: u64, ending: Option<Ending>) -> Outcome

@@ -2,9 +2,13 @@
 use Rattle.std.specs.Prelude.{◌≡◌, ℕ, List, length, Option, nat_lt, true, false}
 use Rattle.std.specs.Io.KnownBytes.{Consumes, IsAtEnd}
 use Rattle.host_edge.specs.Causes.{Rose}
-use Rattle.tick_top.specs.Answers.{longest_text}
-use Rattle.tick_top.specs.declared.whole_input.InputRead.{InputRead}
-use Rattle.tick_top.specs.declared.whole_input.InputRead.TheVariants.{WholeInput, TooLongInput, FailedInput}
+use Rattle.limits.specs.declared.text.TheConstants.{LONGEST_TEXT}
+use Rattle.whole_files.specs.declared.input.InputRead.{InputRead}
+use Rattle.whole_files.specs.declared.input.InputRead.TheVariants.{WholeInput, TooLongInput, FailedInput}
+
+-- the most bytes of a text, and of an input that is read whole
+abbrev pub longest_text : ℕ
+longest_text = LONGEST_TEXT
 
 abbrev pub IsInputRead : Option (List ℕ) → Option (List ℕ) → InputRead → Type 0
 IsInputRead left later (WholeInput v) =

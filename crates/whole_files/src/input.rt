@@ -1,6 +1,6 @@
 //! The whole input.
 ghost use Rattle.std.specs.Prelude.{IfOk};
-ghost use Rattle.tick_top.specs.Inputs.{IsInputRead, InputCause};
+ghost use Rattle.whole_files.specs.Input.{IsInputRead, InputCause};
 
 use host_edge::Source;
 use limits::text::LONGEST_TEXT;
@@ -20,7 +20,10 @@ pub enum InputRead {
     FailedInput,
 }
 
-/// The whole input, which may have 1,048,576 bytes.
+/// The whole input, which may have 1,048,576 bytes, as a text may.
+///
+/// # Errors
+/// Where memory is wanting.
 pub fn read_input<I: Source>(alloc: Global, input: &mut I) -> Result<InputRead, AllocError>
     ensures read { IfOk result (IsInputRead (I.left input.old) (I.left input.new)) }
     ensures cause { IfOk result (InputCause (I.faults input.old) (I.faults input.new)) }

@@ -1,7 +1,7 @@
 use Rattle.std.proofs.Common.{◌≡◌, ◌+◌, ◌-◌, length}
 use Rattle.std.specs.Io.KnownBytes.{Consumes}
-use Rattle.tick_top.specs.Answers.{longest_text}
-use Rattle.tick_top.proofs.whole_input.read_input.Given as goal
+use Rattle.whole_files.specs.Input.{longest_text}
+use Rattle.whole_files.proofs.input.read_input.Given as goal
 
 abbrev pub invariant-loop-piece : goal.invariant-loop-piece
 invariant-loop-piece g l = record {
