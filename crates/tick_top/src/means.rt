@@ -16,6 +16,7 @@ use evaluate::evaluate;
 use host_edge::{Ending, Sink, Source, Store, write_whole};
 use limits::text::LONGEST_TEXT;
 use std::alloc::{AllocError, Global};
+use std::mem::forget;
 use tick_outcome::{Ended, Outcome};
 use tick_tree::Deny;
 use wellformed::Typed;
@@ -91,7 +92,11 @@ fn mean_text<I: Source, O: Sink>(
     ensures none { OnErr result (Keeps (O.taken out.old) (O.taken out.new)) }
 {
     match typed_tree(alloc, text) {
-        Ok(tree) => mean_program(alloc, &tree, units, input, out),
+        Ok(tree) => {
+            let ended = mean_program(alloc, &tree, units, input, out);
+            forget(tree);
+            ended
+        }
         Err(Deny::Refused(fault)) => Ok(bare(alloc, Outcome::Refused(fault))),
         Err(Deny::NoMemory) => Err(AllocError),
     }
