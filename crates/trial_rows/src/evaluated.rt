@@ -3,6 +3,7 @@
 use crate::outside::{given_on, seen_after};
 use crate::{HELLO, seen_of, shown};
 use host_edge::MemStore;
+use limits::text::LONGEST_TEXT;
 use std::alloc::{AllocError, Global};
 use std::io;
 use trial_seen::{Seen, Streams};
@@ -15,9 +16,9 @@ fn on_input<R: Print + AllocGlobal>(rt: &R, name: &str, given: &[u8]) -> io::Res
     )
 }
 
-// The input is at most 1,048,576 bytes.
+// The input is at most as long as a text.
 fn a_long_input<R: Print + AllocGlobal>(rt: &R) -> io::Result<()> {
-    let mut given = vec![in rt.alloc(); b'x'; 1_048_576]?;
+    let mut given = vec![in rt.alloc(); b'x'; LONGEST_TEXT]?;
     on_input(rt, "an input of a megabyte is whole", &given)?;
     given.push(b'x')?;
     on_input(rt, "an input over a megabyte is too long", &given)
