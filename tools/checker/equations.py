@@ -1,4 +1,5 @@
-"""Writes crates/check_rules/proofs/Equations.antt: for each variant of each type of the tree the walk over it, by the walks over its parts.
+"""Writes crates/check_rules/proofs/Equations.antt: for each variant of each type of the tree the walk over it, by
+the walks over its parts.
 
 Run it at the top of the checkout, after a change of the tree's variants or of the folds' rules.
 """

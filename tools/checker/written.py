@@ -1,4 +1,5 @@
-"""Writes crates/check_rules/proofs/Written.antt: the fold of the walk knows of each node how it is written as check_forms does.
+"""Writes crates/check_rules/proofs/Written.antt: the fold of the walk knows of each node how it is
+written as check_forms does.
 
 Run it at the top of the checkout, after a change of the tree's types or of the folds' rules.
 """
