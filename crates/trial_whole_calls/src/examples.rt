@@ -1,33 +1,12 @@
-//! Runs the texts on its input, each under `run` and under `mean` with an input of its own, and prints of each call the
+//! The texts of `examples/`, each under `run` and under `mean` with an input of its own, and prints of each call the
 //! status and what was written, a line each. A text has a line `%% NAME` before it; each of its lines that begins with
 //! `%< ` is a line of its input.
-#![tactic(auto)]
 
-use host_edge::MemStore;
+use crate::seen_with;
 use std::alloc::{AllocError, Global};
-use std::io::{self, Read};
-use tick_top::tick;
+use std::io;
 use trial_cases::{Case, cases};
-use trial_seen::{Open, Seen, Streams, store_with, words_of};
-
-// What a call on these files and streams leaves.
-fn seen_with(
-    alloc: Global,
-    words: &[String],
-    store: &mut MemStore,
-    streams: &Streams,
-) -> Result<Seen, AllocError> {
-    let mut open = Open::new(alloc, streams)?;
-    let ended = tick(
-        alloc,
-        words,
-        store,
-        &mut open.input,
-        &mut open.out,
-        &mut open.err,
-    )?;
-    open.seen(alloc, ended)
-}
+use trial_seen::{Seen, Streams, store_with, words_of};
 
 fn call(alloc: Global, line: &str, text: &[u8], given: &[u8]) -> Result<Seen, AllocError> {
     let mut store = store_with(alloc, text)?;
@@ -66,15 +45,10 @@ fn report<R: Print + AllocGlobal>(rt: &R, case: &Case) -> io::Result<()> {
     show_call(rt, "  means", "tick mean text", &text, &given)
 }
 
-fn report_cases<R: Print + AllocGlobal>(rt: &R, file: &[u8]) -> io::Result<()> {
+/// Prints what comes of each text of a file of cases.
+pub fn report_cases<R: Print + AllocGlobal>(rt: &R, file: &[u8]) -> io::Result<()> {
     for case in &cases(rt.alloc(), file)? {
         report(rt, case)?;
     }
     Ok(())
-}
-
-fn main(rt: HostRuntime) -> io::Result<()> {
-    let mut file = Vec::new(rt.alloc());
-    rt.reader().read_to_end(&mut file)?;
-    report_cases(&rt, &file)
 }

@@ -1,20 +1,26 @@
-//! Whole calls of `tick` over the forms in memory of the outside, each named by what it shows: a line each with the
-//! status and what was written, or with what is said of them. Streams and the store fail where a call says so.
+//! Whole calls of `tick` over the forms in memory of the outside, a line each with the status and what was written, or
+//! with what is said of them.
+//!
+//! Calls, programs under `mean` and the texts of `examples/` stand in files of cases, which lie where this program runs
+//! (`data/`). The rows that no file could give have streams and a store that fail, and are named by what they show.
 #![tactic(auto)]
 
+mod calls;
 mod evaluated;
+mod evaluations;
+mod examples;
 mod made;
 mod outside;
 mod run;
 
 use host_edge::MemStore;
 use std::alloc::{AllocError, Global};
-use std::io;
+use std::{fs, io};
 use tick_top::tick;
 use trial_seen::{Open, Seen, Streams, store_with, words_of};
 
-// What a call on these files and streams leaves.
-fn seen_with(
+/// What a call on these files and streams leaves.
+pub(crate) fn seen_with(
     alloc: Global,
     words: &[String],
     store: &mut MemStore,
@@ -77,9 +83,20 @@ pub(crate) fn status_of(alloc: Global, line: &str, store: &mut MemStore) -> Resu
     Ok(seen.status())
 }
 
+fn rows<R: Print + AllocGlobal>(rt: &R) -> io::Result<()> {
+    run::rows(rt)?;
+    outside::rows(rt)?;
+    made::rows(rt)?;
+    evaluated::rows(rt)
+}
+
 fn main(rt: HostRuntime) -> io::Result<()> {
-    run::rows(&rt)?;
-    outside::rows(&rt)?;
-    made::rows(&rt)?;
-    evaluated::rows(&rt)
+    println!(&rt; "== calls")?;
+    calls::report_all(&rt, &fs::read(&rt, "calls")?)?;
+    println!(&rt; "== evaluations")?;
+    evaluations::report_cases(&rt, &fs::read(&rt, "evaluations")?)?;
+    println!(&rt; "== examples")?;
+    examples::report_cases(&rt, &fs::read(&rt, "examples")?)?;
+    println!(&rt; "== rows")?;
+    rows(&rt)
 }

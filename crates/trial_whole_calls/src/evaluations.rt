@@ -2,33 +2,14 @@
 //! whether `run` gives the same. Before each program stands a line `%% UNITS INPUT NAME`, with the most units of its
 //! evaluation and the bytes that it may read, without blanks; a `-` stands for the usual number of units, and for an
 //! empty input.
-#![tactic(auto)]
 
+use crate::seen_with;
 use host_edge::MemStore;
 use std::alloc::{AllocError, Global};
-use std::io::{self, Read};
-use tick_top::{Outcome, status, tick};
+use std::io;
+use tick_top::{Outcome, status};
 use trial_cases::{Case, cases};
-use trial_seen::{Open, Seen, Streams, store_with, words_of, words_within};
-
-// What a call on these files and streams leaves.
-fn seen_with(
-    alloc: Global,
-    words: &[String],
-    store: &mut MemStore,
-    streams: &Streams,
-) -> Result<Seen, AllocError> {
-    let mut open = Open::new(alloc, streams)?;
-    let ended = tick(
-        alloc,
-        words,
-        store,
-        &mut open.input,
-        &mut open.out,
-        &mut open.err,
-    )?;
-    open.seen(alloc, ended)
-}
+use trial_seen::{Seen, Streams, store_with, words_of, words_within};
 
 // The words of a call, of which those of the option are left out where it has no number.
 fn words_for(alloc: Global, line: &str, units: &str) -> Result<Vec<String>, AllocError> {
@@ -117,15 +98,10 @@ fn report_case<R: Print + AllocGlobal>(rt: &R, case: &Case) -> io::Result<()> {
     report(rt, case.title, &text)
 }
 
-fn report_cases<R: Print + AllocGlobal>(rt: &R, file: &[u8]) -> io::Result<()> {
+/// Prints what comes of each program of a file of cases.
+pub fn report_cases<R: Print + AllocGlobal>(rt: &R, file: &[u8]) -> io::Result<()> {
     for case in &cases(rt.alloc(), file)? {
         report_case(rt, case)?;
     }
     Ok(())
-}
-
-fn main(rt: HostRuntime) -> io::Result<()> {
-    let mut file = Vec::new(rt.alloc());
-    rt.reader().read_to_end(&mut file)?;
-    report_cases(&rt, &file)
 }

@@ -1,32 +1,12 @@
 //! Calls of `tick` over one store in memory, a line each: the words, the status, the instructions that were executed,
 //! and what was written. Before each call stands a line `%% WORDS` with the bytes of the file `text` behind it, or a line
 //! `%h WORDS` with those of the file `image` in hexadecimal. Without any the file stays. The input is empty.
-#![tactic(auto)]
 
+use crate::seen_with;
 use host_edge::MemStore;
 use std::alloc::{AllocError, Global};
-use std::io::{self, Read};
-use tick_top::tick;
-use trial_seen::{Open, Seen, Streams, words_of};
-
-// What a call on these files and streams leaves.
-fn seen_with(
-    alloc: Global,
-    words: &[String],
-    store: &mut MemStore,
-    streams: &Streams,
-) -> Result<Seen, AllocError> {
-    let mut open = Open::new(alloc, streams)?;
-    let ended = tick(
-        alloc,
-        words,
-        store,
-        &mut open.input,
-        &mut open.out,
-        &mut open.err,
-    )?;
-    open.seen(alloc, ended)
-}
+use std::io;
+use trial_seen::{Streams, words_of};
 
 // What stands before a call.
 #[derive(Clone, Copy, Drop)]
@@ -136,13 +116,8 @@ fn report_calls<R: Print + AllocGlobal>(
     report(rt, text, &before, &content, store)
 }
 
-fn report_all<R: Print + AllocGlobal>(rt: &R, cases: &[u8]) -> io::Result<()> {
+/// Prints what each call of a file of calls leaves.
+pub fn report_all<R: Print + AllocGlobal>(rt: &R, cases: &[u8]) -> io::Result<()> {
     let mut store = MemStore::new(rt.alloc(), &[])?;
     report_calls(rt, cases, &mut store)
-}
-
-fn main(rt: HostRuntime) -> io::Result<()> {
-    let mut cases = Vec::new(rt.alloc());
-    rt.reader().read_to_end(&mut cases)?;
-    report_all(&rt, &cases)
 }
