@@ -15,7 +15,8 @@ use Rattle.c_types.specs.declared.ctype.Layer.TheFolds.{fold-roll-Layer, fold-ro
 use Rattle.c_types.specs.declared.ctype.Layer.TheFolds.{fold_out-CType, ind-Layer, map-Layer, map-CType}
 use Rattle.c_types.specs.Types.{Opened, same, same_layer, same_layers, same_integer, same_base, base_of, layers_of}
 use Rattle.c_types.specs.Types.{each_holds, same_at, same_layer_rule, same_rule}
-use Rattle.c_types.specs.Codes.{kind_code, base_code, joined, layer_rule, type_rule, layer_code, type_code, codes}
+use Rattle.c_types.specs.Codes.{kind_code, base_code, array_code, joined, layer_rule, type_rule, layer_code, type_code}
+use Rattle.c_types.specs.Codes.{codes}
 
 -- ---- one code after another
 
@@ -100,6 +101,21 @@ counts n m r =
     ∙ ap (λ b. nat_eq (n % 256) (m % 256) && b) (by_byte (n / 256) (m / 256) r)
     ∙ by_byte n m r
 
+-- an array by its length
+arrays : (n m : ℕ) (s t : List ℕ) →
+    pointwise nat_eq (array_code n ++ s) (array_code m ++ t) ≡ ((n == m) && pointwise nat_eq s t)
+arrays n m s t = grind (arith, by_byte n m (pointwise nat_eq s t), counts n m (pointwise nat_eq s t))
+
+array_begins : (n : ℕ) → Begins (array_code n)
+array_begins n = grind (arith)
+
+-- the code of another layer beside that of an array
+other_beside_array : (c m : ℕ) (s t : List ℕ) → c < 5 → pointwise nat_eq (c ∷ s) (array_code m ++ t) ≡ false
+other_beside_array c m s t h = grind (arith)
+
+array_beside_other : (n c : ℕ) (s t : List ℕ) → c < 5 → pointwise nat_eq (array_code n ++ s) (c ∷ t) ≡ false
+array_beside_other n c s t h = grind (arith)
+
 -- ---- layers and types
 
 begins_at : (o : Layer-F (List ℕ) (List ℕ)) → Begins (layer_rule o)
@@ -108,7 +124,7 @@ begins_at Layer-F.Unlisted = omega arith
 begins_at Layer-F.Cspec = omega arith
 begins_at Layer-F.Vspec = omega arith
 begins_at (Layer-F.Function cs) = omega arith
-begins_at (Layer-F.Array n) = omega arith
+begins_at (Layer-F.Array n) = array_begins n
 
 -- a layer of codes
 abbrev coded : Opened → Layer-F (List ℕ) (List ℕ)
@@ -156,41 +172,43 @@ opened (Layer-F.Function ks) (Layer-F.Function ys) s t =
     ∙ ap (λ c. pointwise nat_eq (joined (map type_code (map (λ k. k.0) ks)) ++ 255 ∷ s) c)
     (append_assoc (joined (map type_code ys)) (255 ∷ []) t)
     ∙ listed type_code same type_begins ks ys s t
-opened (Layer-F.Array n) (Layer-F.Array m) s t = counts n m (pointwise nat_eq s t)
+opened (Layer-F.Array n) (Layer-F.Array m) s t = arrays n m s t
 opened Layer-F.Pointer Layer-F.Pointer s t = refl
 opened Layer-F.Pointer Layer-F.Unlisted s t = refl
 opened Layer-F.Pointer Layer-F.Cspec s t = refl
 opened Layer-F.Pointer Layer-F.Vspec s t = refl
 opened Layer-F.Pointer (Layer-F.Function ys) s t = refl
-opened Layer-F.Pointer (Layer-F.Array m) s t = refl
+opened Layer-F.Pointer (Layer-F.Array m) s t = other_beside_array 0 m s t (omega arith)
 opened Layer-F.Unlisted Layer-F.Pointer s t = refl
 opened Layer-F.Unlisted Layer-F.Unlisted s t = refl
 opened Layer-F.Unlisted Layer-F.Cspec s t = refl
 opened Layer-F.Unlisted Layer-F.Vspec s t = refl
 opened Layer-F.Unlisted (Layer-F.Function ys) s t = refl
-opened Layer-F.Unlisted (Layer-F.Array m) s t = refl
+opened Layer-F.Unlisted (Layer-F.Array m) s t = other_beside_array 1 m s t (omega arith)
 opened Layer-F.Cspec Layer-F.Pointer s t = refl
 opened Layer-F.Cspec Layer-F.Unlisted s t = refl
 opened Layer-F.Cspec Layer-F.Cspec s t = refl
 opened Layer-F.Cspec Layer-F.Vspec s t = refl
 opened Layer-F.Cspec (Layer-F.Function ys) s t = refl
-opened Layer-F.Cspec (Layer-F.Array m) s t = refl
+opened Layer-F.Cspec (Layer-F.Array m) s t = other_beside_array 2 m s t (omega arith)
 opened Layer-F.Vspec Layer-F.Pointer s t = refl
 opened Layer-F.Vspec Layer-F.Unlisted s t = refl
 opened Layer-F.Vspec Layer-F.Cspec s t = refl
 opened Layer-F.Vspec Layer-F.Vspec s t = refl
 opened Layer-F.Vspec (Layer-F.Function ys) s t = refl
-opened Layer-F.Vspec (Layer-F.Array m) s t = refl
+opened Layer-F.Vspec (Layer-F.Array m) s t = other_beside_array 3 m s t (omega arith)
 opened (Layer-F.Function ks) Layer-F.Pointer s t = refl
 opened (Layer-F.Function ks) Layer-F.Unlisted s t = refl
 opened (Layer-F.Function ks) Layer-F.Cspec s t = refl
 opened (Layer-F.Function ks) Layer-F.Vspec s t = refl
-opened (Layer-F.Function ks) (Layer-F.Array m) s t = refl
-opened (Layer-F.Array n) Layer-F.Pointer s t = refl
-opened (Layer-F.Array n) Layer-F.Unlisted s t = refl
-opened (Layer-F.Array n) Layer-F.Cspec s t = refl
-opened (Layer-F.Array n) Layer-F.Vspec s t = refl
-opened (Layer-F.Array n) (Layer-F.Function ys) s t = refl
+opened (Layer-F.Function ks) (Layer-F.Array m) s t =
+    other_beside_array 4 m ((joined (map type_code (map (λ k. k.0) ks)) ++ 255 ∷ []) ++ s) t (omega arith)
+opened (Layer-F.Array n) Layer-F.Pointer s t = array_beside_other n 0 s t (omega arith)
+opened (Layer-F.Array n) Layer-F.Unlisted s t = array_beside_other n 1 s t (omega arith)
+opened (Layer-F.Array n) Layer-F.Cspec s t = array_beside_other n 2 s t (omega arith)
+opened (Layer-F.Array n) Layer-F.Vspec s t = array_beside_other n 3 s t (omega arith)
+opened (Layer-F.Array n) (Layer-F.Function ys) s t =
+    array_beside_other n 4 s ((joined (map type_code ys) ++ 255 ∷ []) ++ t) (omega arith)
 
 abbrev known_type : CType-F KnownLayer KnownType → CType-F Layer CType
 known_type y = map-CType KnownLayer KnownType Layer CType (λ k. k.0) (λ k. k.0) y

@@ -1,7 +1,7 @@
 -- A byte code of layers, with those in the lists of functions. Two lists of layers have the same code just where they
--- are the
--- same layers.
-use Rattle.std.specs.Prelude.{ℕ, ◌+◌, ◌/◌, ◌%◌, List, [], ◌∷◌, ◌++◌, length, map, get_or, nat_eq, ◌-◌, if◌then◌else◌}
+-- are the same layers.
+use Rattle.std.specs.Prelude.{ℕ, ◌+◌, ◌/◌, ◌%◌, List, [], ◌∷◌, ◌++◌, length, map, get_or, nat_eq, nat_lt, ◌-◌}
+use Rattle.std.specs.Prelude.{if◌then◌else◌}
 use Rattle.c_types.specs.declared.ctype.Integer.{Integer}
 use Rattle.c_types.specs.declared.ctype.Integer.TheVariants as kind
 use Rattle.c_types.specs.declared.ctype.Base.{Base}
@@ -29,6 +29,11 @@ base_code (base.Integer k) = kind_code k
 abbrev pub digits : ℕ → List ℕ
 digits n = n % 256 ∷ n / 256 % 256 ∷ n / 256 / 256 % 256 ∷ n / 256 / 256 / 256 ∷ []
 
+-- an array of so many: the first byte says how many bytes the length takes
+abbrev pub array_code : ℕ → List ℕ
+array_code n =
+    if nat_lt n 256 then 6 ∷ n ∷ [] else (if nat_lt n 65536 then 7 ∷ n % 256 ∷ n / 256 ∷ [] else 5 ∷ digits n)
+
 -- what ends a list of codes, and begins none
 abbrev pub end_mark : ℕ
 end_mark = 255
@@ -45,7 +50,7 @@ layer_rule Layer-F.Unlisted = 1 ∷ []
 layer_rule Layer-F.Cspec = 2 ∷ []
 layer_rule Layer-F.Vspec = 3 ∷ []
 layer_rule (Layer-F.Function cs) = 4 ∷ (joined cs ++ end_mark ∷ [])
-layer_rule (Layer-F.Array n) = 5 ∷ digits n
+layer_rule (Layer-F.Array n) = array_code n
 
 abbrev pub type_rule : CType-F (List ℕ) (List ℕ) → List ℕ
 type_rule t = base_code t.base ∷ (joined t.layers ++ end_mark ∷ [])

@@ -43,6 +43,23 @@ fn write_count(count: u32, code: &mut Items<u8>) -> Result<(), AllocError>
     code.push((count / 256 / 256 / 256) as u8)
 }
 
+// Writes the code of an array: the first byte says how many bytes the length takes.
+fn write_array(count: u32, code: &mut Items<u8>) -> Result<(), AllocError>
+    ensures { OnOk result (code.new ≡ code.old ++ spec.array_code count) }
+{
+    if count < 256 {
+        code.push(6)?;
+        code.push(count as u8)
+    } else if count < 65536 {
+        code.push(7)?;
+        code.push((count % 256) as u8)?;
+        code.push((count / 256) as u8)
+    } else {
+        code.push(5)?;
+        write_count(count, code)
+    }
+}
+
 // Writes the code of a layer.
 #[cycle(write)]
 fn write_layer(layer: &Layer, code: &mut Items<u8>) -> Result<(), AllocError>
@@ -57,10 +74,7 @@ fn write_layer(layer: &Layer, code: &mut Items<u8>) -> Result<(), AllocError>
             code.push(4)?;
             write_list(list.as_slice(), code)?
         }
-        Layer::Array(count) => {
-            code.push(5)?;
-            write_count(*count, code)?
-        }
+        Layer::Array(count) => write_array(*count, code)?,
     }
     Ok(())
 }

@@ -3,7 +3,7 @@ use Rattle.std.proofs.lemmas.List.{append_assoc}
 use Rattle.c_types.specs.declared.ctype.Layer.{out-Layer}
 use Rattle.c_types.specs.declared.ctype.Layer.TheVariants as layer
 use Rattle.c_types.specs.declared.ctype.Layer.TheOpen.{Layer-F}
-use Rattle.c_types.specs.Codes.{digits, list_code}
+use Rattle.c_types.specs.Codes.{list_code}
 use Rattle.c_types.proofs.Coded.{of_layer}
 use Rattle.c_types.proofs.code.+write.Goals as goal
 
@@ -36,10 +36,7 @@ write_layer-returns-in_ok-write_list-in-Function t c =
     ∙ ap (λ list. (c.args.code.now ++ 4 ∷ []) ++ list_code list) c.as_slice.ensures
     ∙ append_assoc c.args.code.now (4 ∷ []) (list_code c.in-Function.list))
 
-pub write_layer-returns-in_ok-write_count-in-Array : goal.write_layer-returns-in_ok-write_count-in-Array
-write_layer-returns-in_ok-write_count-in-Array t c =
-    of_layer c.args.layer.now (Layer-F.Array c.in-Array.count) c.args.code.now c.write_count.new.code
-    (ap out-Layer c.in-Array.is ∙ layer.outs-Array c.in-Array.count)
-    (c.in_ok-write_count-in-Array.ensures
-    ∙ ap (λ code. code ++ digits c.in-Array.count) c.in_ok-push-in-Array.ensures.ok
-    ∙ append_assoc c.args.code.now (5 ∷ []) (digits c.in-Array.count))
+pub write_layer-returns-in_ok-write_array-in-Array : goal.write_layer-returns-in_ok-write_array-in-Array
+write_layer-returns-in_ok-write_array-in-Array t c =
+    of_layer c.args.layer.now (Layer-F.Array c.in-Array.count) c.args.code.now c.write_array.new.code
+    (ap out-Layer c.in-Array.is ∙ layer.outs-Array c.in-Array.count) c.in_ok-write_array-in-Array.ensures
