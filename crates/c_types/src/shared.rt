@@ -19,9 +19,9 @@ use std::marker::Model;
 /// layers its row has.
 pub struct TypeRef {
     base: Base,
+    // How many of the row's layers it has, in the room that stands beside the base.
+    len: u32,
     row: Option<SharedRow>,
-    // How many of the row's layers it has.
-    len: usize,
     // Its own layers, over these.
     more: Items<Layer>,
 }
@@ -46,8 +46,8 @@ impl Drop for TypeRef {
     fn drop(self) {
         let TypeRef {
             base: _,
-            row: _,
             len: _,
+            row: _,
             more: _,
         } = self;
     }
@@ -103,8 +103,8 @@ impl TypeRef {
     {
         TypeRef {
             base,
-            row: None,
             len: 0,
+            row: None,
             more: Items::new(alloc),
         }
     }
@@ -114,15 +114,18 @@ impl TypeRef {
         ensures { IfOk result (λ s. s ≡ t) }
     {
         let base = t.base;
-        let len = t.layers.len();
+        let Ok(len) = u32::try_from(t.layers.len()) else {
+            // (no memory has so many)
+            return Err(AllocError);
+        };
         if len == 0 {
             return Ok(TypeRef::new(alloc, base));
         }
         let row = SharedRow::new(alloc, Row::new(alloc, t)?)?;
         Ok(TypeRef {
             base,
-            row: Some(row),
             len,
+            row: Some(row),
             more: Items::new(alloc),
         })
     }
@@ -138,7 +141,7 @@ impl TypeRef {
     pub fn layers(&self) -> Layers<'_>
         ensures { result ≡ types.layers_of self.now }
     {
-        lent(&self.row, self.len, self.more.as_slice())
+        lent(&self.row, self.len as usize, self.more.as_slice())
     }
 
     /// The outermost layer; none where it is its base alone.
@@ -147,7 +150,7 @@ impl TypeRef {
     {
         match self.more.as_slice().last() {
             Some(layer) => Some(layer),
-            None => row_outermost(&self.row, self.len),
+            None => row_outermost(&self.row, self.len as usize),
         }
     }
 
@@ -163,7 +166,7 @@ impl TypeRef {
         ensures { result ≡ sizes.after (sizes.start (types.base_of self.now)) (types.layers_of self.now) }
     {
         after(
-            row_extent(self.base, &self.row, self.len),
+            row_extent(self.base, &self.row, self.len as usize),
             self.more.as_slice(),
         )
     }
@@ -175,10 +178,10 @@ impl TypeRef {
         let more = self.more.as_slice();
         let on_top = more.len();
         if on_top == 0 {
-            row_extent(self.base, &self.row, self.len.saturating_sub(1))
+            row_extent(self.base, &self.row, self.len.saturating_sub(1) as usize)
         } else {
             after(
-                row_extent(self.base, &self.row, self.len),
+                row_extent(self.base, &self.row, self.len as usize),
                 &more[..on_top - 1],
             )
         }
@@ -224,8 +227,8 @@ pub fn copy(alloc: Global, t: &TypeRef) -> Result<TypeRef, AllocError>
     let more = copied(alloc, &t.more)?;
     Ok(TypeRef {
         base: t.base,
-        row,
         len: t.len,
+        row,
         more,
     })
 }
