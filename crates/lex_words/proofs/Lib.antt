@@ -1,2 +1,3 @@
 pub mod FirstByte
+pub mod FirstSign
 pub mod Within

@@ -1,8 +1,10 @@
--- A sign that begins a text is within it.
-use Rattle.std.proofs.Common.{◌≡◌, ℕ, ◌+◌, ◌<◌, ◌≤◌, Bool, true, false, List, [], ◌∷◌, length, arith, refl, sym, subst}
+-- A sign that begins a text is within it, and has no line feed.
+use Rattle.std.proofs.Common.{◌≡◌, ℕ, suc, ◌+◌, ◌<◌, ◌≤◌, Bool, true, false, List, [], ◌∷◌, length, take, arith, refl}
+use Rattle.std.proofs.Common.{sym, subst, ap, ◌∙◌}
 use Rattle.std.specs.Prelude.{not, ◌&&◌, ◌==◌, slice_index, Option, Some, None, if◌then◌else◌, IfSome}
 use Rattle.std.specs.Option.{option_or}
-use Rattle.std.proofs.lemmas.Bool.{and_parts}
+use Rattle.std.specs.List.{count_by}
+use Rattle.std.proofs.lemmas.Bool.{and_parts, eqb-true}
 use Rattle.std.proofs.lemmas.List.{get_or_past}
 use Rattle.lex_words.specs.Words.{Text, stands, first, spelling, sign_at, of_three, of_two, of_one}
 use Rattle.lex_words.specs.declared.signs.Sign.{Sign}
@@ -74,27 +76,111 @@ stands_within (b ∷ w) z at h n s =
     let more = stands_within w z (at + 1) (omega (arith, read_within z at b here.0 whole.0)) whole.1 here.1 in
     omega (arith, more)
 
-chosen_within : (n : ℕ) (t : Sign) (o : Option Sign) (b : Bool) → (b ≡ true → length (spelling t) ≤ n) →
-    IfSome o (λ s. length (spelling s) ≤ n) → IfSome (if b then Some t else o) (λ s. length (spelling s) ≤ n)
-chosen_within n t o true f g = f refl
-chosen_within n t o false f g = g
+-- what stands there is a front of the text
+stands_behind : (w z : Text) (b at : ℕ) → stands w (b ∷ z) (suc at) ≡ stands w z at
+stands_behind [] z b at = refl
+stands_behind (c ∷ w) z b at =
+    let e : suc at + 1 ≡ suc (at + 1) = omega arith in
+    ap (λ t. slice_index z at == c && t) (ap (stands w (b ∷ z)) e ∙ stands_behind w z b (at + 1))
 
-first_within : (ss : List Sign) (z : Text) → IfSome (first ss z) (λ s. length (spelling s) ≤ length z)
-first_within [] z = tt
-first_within (t ∷ ss) z =
-    chosen_within (length z) t (first ss z) (stands (spelling t) z 0)
-    (λ e. omega (arith, stands_within (spelling t) z 0 (omega arith) (spelt_solid t) e)) (first_within ss z)
+begins : (w z : Text) → solid w ≡ true → stands w z 0 ≡ true → take (length w) z ≡ w
+begins [] z n s = refl
+begins (c ∷ w) [] n s =
+    let here = and_parts (0 == c) (stands w [] 1) s in
+    let whole = and_parts (not (c == 0)) (solid w) n in
+    let r : 0 < 0 = read_within [] 0 c here.0 whole.0 in
+    absurd (omega (arith, r))
+begins (c ∷ w) (b ∷ z) n s =
+    let here = and_parts (b == c) (stands w (b ∷ z) 1) s in
+    let whole = and_parts (not (c == 0)) (solid w) n in
+    let rest : take (length w) z ≡ w = begins w z whole.1 (sym (stands_behind w z b 0) ∙ here.1) in
+    let same : b ≡ c = eqb-true b c here.0 in
+    ap (λ x. x ∷ take (length w) z) same ∙ ap (λ y. c ∷ y) rest
 
-either_within : (n : ℕ) (a b : Option Sign) → IfSome a (λ s. length (spelling s) ≤ n) →
-    IfSome b (λ s. length (spelling s) ≤ n) → IfSome (option_or a b) (λ s. length (spelling s) ≤ n)
-either_within n None b f g = g
-either_within n (Some s) b f g = f
+abbrev feeds : Text → ℕ
+feeds z = count_by (λ b. b == 10) z
 
-within : (z : Text) → IfSome (sign_at z) (λ s. length (spelling s) ≤ length z)
+spelt_flat : (s : Sign) → feeds (spelling s) ≡ 0
+spelt_flat mark.BraceOpen = refl
+spelt_flat mark.BraceClose = refl
+spelt_flat mark.ParenOpen = refl
+spelt_flat mark.ParenClose = refl
+spelt_flat mark.BracketOpen = refl
+spelt_flat mark.BracketClose = refl
+spelt_flat mark.Semicolon = refl
+spelt_flat mark.Comma = refl
+spelt_flat mark.Question = refl
+spelt_flat mark.Colon = refl
+spelt_flat mark.Tilde = refl
+spelt_flat mark.Not = refl
+spelt_flat mark.Plus = refl
+spelt_flat mark.Minus = refl
+spelt_flat mark.Star = refl
+spelt_flat mark.Slash = refl
+spelt_flat mark.Percent = refl
+spelt_flat mark.And = refl
+spelt_flat mark.Or = refl
+spelt_flat mark.Caret = refl
+spelt_flat mark.Less = refl
+spelt_flat mark.Greater = refl
+spelt_flat mark.Assign = refl
+spelt_flat mark.Equal = refl
+spelt_flat mark.NotEqual = refl
+spelt_flat mark.LessEqual = refl
+spelt_flat mark.GreaterEqual = refl
+spelt_flat mark.ShiftLeft = refl
+spelt_flat mark.ShiftRight = refl
+spelt_flat mark.AndAnd = refl
+spelt_flat mark.OrOr = refl
+spelt_flat mark.PlusPlus = refl
+spelt_flat mark.MinusMinus = refl
+spelt_flat mark.PlusAssign = refl
+spelt_flat mark.MinusAssign = refl
+spelt_flat mark.StarAssign = refl
+spelt_flat mark.SlashAssign = refl
+spelt_flat mark.PercentAssign = refl
+spelt_flat mark.AndAssign = refl
+spelt_flat mark.OrAssign = refl
+spelt_flat mark.CaretAssign = refl
+spelt_flat mark.ShiftLeftAssign = refl
+spelt_flat mark.ShiftRightAssign = refl
+spelt_flat mark.Dollar = refl
+spelt_flat mark.Dot = refl
+spelt_flat mark.Arrow = refl
+spelt_flat mark.Backquote = refl
+
+-- ---- what holds of each sign that begins a text holds of the one that is found
+
+chosen : (P : Sign → Type 0) (t : Sign) (o : Option Sign) (b : Bool) → (b ≡ true → P t) → IfSome o P →
+    IfSome (if b then Some t else o) P
+chosen P t o true f g = f refl
+chosen P t o false f g = g
+
+first_of : (P : Sign → Type 0) (z : Text) → ((t : Sign) → stands (spelling t) z 0 ≡ true → P t) → (ss : List Sign) →
+    IfSome (first ss z) P
+first_of P z each [] = tt
+first_of P z each (t ∷ ss) =
+    chosen P t (first ss z) (stands (spelling t) z 0) (each t) (first_of P z each ss)
+
+either : (P : Sign → Type 0) (a b : Option Sign) → IfSome a P → IfSome b P → IfSome (option_or a b) P
+either P None b f g = g
+either P (Some s) b f g = f
+
+found : (P : Sign → Type 0) (z : Text) → ((t : Sign) → stands (spelling t) z 0 ≡ true → P t) → (o : Option Sign) →
+    o ≡ sign_at z → IfSome o P
 unfolding sign_at
-within z =
-    either_within (length z) (first of_three z) (option_or (first of_two z) (first of_one z)) (first_within of_three z)
-    (either_within (length z) (first of_two z) (first of_one z) (first_within of_two z) (first_within of_one z))
+found P z each o e =
+    subst (λ o. IfSome o P) (sym e) (either P (first of_three z) (option_or (first of_two z) (first of_one z))
+    (first_of P z each of_three)
+    (either P (first of_two z) (first of_one z) (first_of P z each of_two) (first_of P z each of_one)))
 
 pub found_within : (z : Text) (o : Option Sign) → o ≡ sign_at z → IfSome o (λ s. length (spelling s) ≤ length z)
-found_within z o e = subst (λ o. IfSome o (λ s. length (spelling s) ≤ length z)) (sym e) (within z)
+found_within z o e =
+    found (λ s. length (spelling s) ≤ length z) z
+    (λ t s. omega (arith, stands_within (spelling t) z 0 (omega arith) (spelt_solid t) s)) o e
+
+pub found_flat : (z : Text) (o : Option Sign) → o ≡ sign_at z →
+    IfSome o (λ s. count_by (λ b. b == 10) (take (length (spelling s)) z) ≡ 0)
+found_flat z o e =
+    found (λ s. count_by (λ b. b == 10) (take (length (spelling s)) z) ≡ 0) z
+    (λ t s. ap feeds (begins (spelling t) z (spelt_solid t) s) ∙ spelt_flat t) o e

@@ -1,6 +1,8 @@
 //! The signs.
 
-ghost use Rattle.std.specs.Prelude.{◌≡◌, ◌<◌, ◌≤◌, IfSome, [], ◌∷◌, ◌==◌, if◌then◌else◌, Some, None, length};
+ghost use Rattle.std.specs.Prelude.{◌≡◌, ◌<◌, ◌≤◌, IfSome, [], ◌∷◌, ◌==◌, if◌then◌else◌, Some, None, length, take};
+ghost use Rattle.std.specs.Prelude.{slice_index};
+ghost use Rattle.std.specs.List.{count_by};
 ghost use Rattle.lex_words.specs.Words as spec;
 
 use crate::byte_at;
@@ -252,23 +254,57 @@ fn of_three(a: u8, b: u8, c: u8) -> Option<Sign>
     }
 }
 
-// The longest sign that begins a text.
+// The longest sign that begins a text, whose first byte is `a`.
 #[tactic(auto, unfolding(crate::specs::Words::sign_at))]
+fn of_several(text: &[u8], a: u8) -> Option<Sign>
+    requires { a ≡ slice_index text.now 0 }
+    ensures { result ≡ spec.sign_at text.now }
+{
+    let b = byte_at(text, 1);
+    if b != b'=' && b != b'>' && b != a {
+        return of_one(a);
+    }
+    if let Some(sign) = of_three(a, b, byte_at(text, 2)) {
+        return Some(sign);
+    }
+    if let Some(sign) = of_two(a, b) {
+        return Some(sign);
+    }
+    of_one(a)
+}
+
+// The longest sign that begins a text. Some bytes begin only the sign that they are.
+#[inline(always)]
 fn longest(text: &[u8]) -> Option<Sign>
     ensures { result ≡ spec.sign_at text.now }
 {
     let a = byte_at(text, 0);
-    let b = byte_at(text, 1);
-    of_three(a, b, byte_at(text, 2))
-        .or(of_two(a, b))
-        .or(of_one(a))
+    match a {
+        b'{' => Some(Sign::BraceOpen),
+        b'}' => Some(Sign::BraceClose),
+        b'(' => Some(Sign::ParenOpen),
+        b')' => Some(Sign::ParenClose),
+        b'[' => Some(Sign::BracketOpen),
+        b']' => Some(Sign::BracketClose),
+        b';' => Some(Sign::Semicolon),
+        b',' => Some(Sign::Comma),
+        b'?' => Some(Sign::Question),
+        b':' => Some(Sign::Colon),
+        b'~' => Some(Sign::Tilde),
+        b'$' => Some(Sign::Dollar),
+        b'.' => Some(Sign::Dot),
+        b'`' => Some(Sign::Backquote),
+        _ => of_several(text, a),
+    }
 }
 
 /// The longest sign that begins a text, and none where no sign does.
 #[tactic(auto, using(crate::proofs::Within::found_within))]
+#[inline(always)]
 pub fn sign_at(text: &[u8]) -> Option<Sign>
     ensures value { result ≡ spec.sign_at text.now }
     ensures within { IfSome result (λ s. length (spec.spelling s) ≤ length text.now) }
+    ensures flat { IfSome result (λ s. count_by (λ b. b == 10) (take (length (spec.spelling s)) text.now) ≡ 0) }
 {
     longest(text)
 }
