@@ -143,8 +143,14 @@ Within len (Gap n) = (1 ≤ n) × (n ≤ len)
 Within len (Taken kind n) = (1 ≤ n) × (n ≤ len)
 Within len (Bad kind) = Unit {0}
 
--- a name or keyword has no line feed
+-- a number, by the length of one that isn't too large
+abbrev pub number_by : Option ℕ → Piece
+number_by None = Bad fault.BigLiteral
+number_by (Some n) = Taken kind.Number n
+
+-- a name, keyword or sign has no line feed
 abbrev pub Flat : Text → Piece → Type 0
 Flat z (Taken kind.Name n) = count_by (λ b. b == 10) (take n z) ≡ 0
 Flat z (Taken kind.Keyword n) = count_by (λ b. b == 10) (take n z) ≡ 0
+Flat z (Taken kind.Sign n) = count_by (λ b. b == 10) (take n z) ≡ 0
 Flat z _ = Unit {0}

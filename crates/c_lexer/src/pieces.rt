@@ -3,13 +3,13 @@
 ghost use Rattle.std.specs.Prelude.{◌≡◌, ◌≢◌, ◌+◌, ◌^◌, ◌<◌, ◌≤◌, length, drop, slice_index, true, IfSome};
 ghost use Rattle.std.specs.Char.{is_ascii_digit};
 ghost use Rattle.lex_words.specs.Words.{spelling};
-ghost use Rattle.lex_literals.specs.Literals.{Ends};
+ghost use Rattle.lex_literals.specs.Literals.{Ends, numeral_at};
 ghost use Rattle.c_lexer.specs.Lex as spec;
 ghost use Rattle.c_lexer.specs.declared.classes.Class.TheVariants as class;
 
 use crate::byte_at;
 use crate::classes::{Class, is_in, past};
-use lex_literals::{Closing, Numeral, closing_of, numeral_at};
+use lex_literals::{Closing, closing_of, numeral_at};
 use lex_words::{Sign, keyword_of, sign_at};
 use tick_tree::{FaultKind, TokenKind};
 
@@ -41,13 +41,29 @@ fn word(text: &[u8]) -> Piece
     Piece::Taken(kind, end)
 }
 
-fn number(numeral: Numeral) -> Piece
-    ensures { result ≡ spec.number numeral }
+// The length of a number, unless it is too large. It stands alone, so that other tokens make no room for a numeral.
+#[inline(never)]
+fn number_len(text: &[u8]) -> Option<usize>
+    requires some { 0 < length text.now }
+    requires digit { is_ascii_digit (slice_index text.now 0) ≡ true }
+    ensures value { spec.number (numeral_at text.now) ≡ spec.number_by result }
+    ensures within { IfSome result (λ n. (1 ≤ n) × (n ≤ length text.now)) }
 {
+    let numeral = numeral_at(text);
     if numeral.value.is_some() {
-        Piece::Taken(TokenKind::Number, numeral.len)
+        Some(numeral.len)
     } else {
-        Piece::Bad(FaultKind::BigLiteral)
+        None
+    }
+}
+
+// A number, by its length.
+fn number(len: Option<usize>) -> Piece
+    ensures { result ≡ spec.number_by len }
+{
+    match len {
+        Some(n) => Piece::Taken(TokenKind::Number, n),
+        None => Piece::Bad(FaultKind::BigLiteral),
     }
 }
 
@@ -126,7 +142,7 @@ pub(crate) fn piece_of(text: &[u8]) -> Piece
     } else if is_in(Class::Letter, b) {
         word(text)
     } else if b.is_ascii_digit() {
-        number(numeral_at(text))
+        number(number_len(text))
     } else if b == b'\'' {
         character(closing_of(b'\'', &text[1..]))
     } else if b == b'"' {

@@ -137,7 +137,7 @@ impl<'a> Walk<'a> {
         ensures at { self.new.at ≡ self.old.at + n }
     {
         match kind {
-            TokenKind::Name | TokenKind::Keyword => self.skip(n),
+            TokenKind::Name | TokenKind::Keyword | TokenKind::Sign => self.skip(n),
             _ => self.pass(n),
         }
     }
