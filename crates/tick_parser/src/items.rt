@@ -1,6 +1,8 @@
 //! Tokens with their kinds and values.
 
-ghost use Rattle.std.specs.Prelude.{◌≡◌, drop, IfOk};
+ghost use Rattle.std.specs.Prelude.{◌≡◌, drop, IfOk, false, []};
+ghost use Rattle.parse_grammar.specs.declared.kind.Kind.TheVariants as k;
+ghost use Rattle.lex_literals.specs.Literals.{numeral_at};
 ghost use Rattle.tick_parser.specs.Items as spec;
 
 use lex_literals::{character_value, numeral_at};
@@ -94,49 +96,6 @@ fn sign_kind(sign: Sign) -> Kind
     }
 }
 
-// The kind of a token of these bytes.
-fn kind_by(kind: TokenKind, bytes: &[u8]) -> Kind
-    ensures { result ≡ spec.kind_by kind bytes.now }
-{
-    match kind {
-        TokenKind::Name => Kind::Name,
-        TokenKind::Keyword => keyword_of(bytes).map_or(Kind::End, keyword_kind),
-        TokenKind::Number => Kind::Number,
-        TokenKind::Character => Kind::Character,
-        TokenKind::String => Kind::String,
-        TokenKind::Sign => sign_at(bytes).map_or(Kind::End, sign_kind),
-    }
-}
-
-fn value_by(kind: TokenKind, bytes: &[u8]) -> u32
-    ensures { result ≡ spec.value_by kind bytes.now }
-{
-    match kind {
-        TokenKind::Number => numeral_at(bytes).value.unwrap_or(0),
-        TokenKind::Character => character_value(behind_first(bytes)),
-        _ => 0,
-    }
-}
-
-fn unsigned_by(kind: TokenKind, bytes: &[u8]) -> bool
-    ensures { result ≡ spec.unsigned_by kind bytes.now }
-{
-    match kind {
-        TokenKind::Number => numeral_at(bytes).unsigned,
-        _ => false,
-    }
-}
-
-fn text_by(kind: TokenKind, bytes: &[u8]) -> &[u8]
-    ensures { result.now ≡ spec.text_by kind bytes.now }
-{
-    match kind {
-        TokenKind::Name => bytes,
-        TokenKind::String => behind_first(bytes),
-        _ => &[],
-    }
-}
-
 // Without the first byte, if there is one.
 fn behind_first(bytes: &[u8]) -> &[u8]
     ensures { result.now ≡ drop 1 bytes.now }
@@ -155,17 +114,72 @@ fn bytes_of<'a>(text: &'a [u8], token: &Token) -> &'a [u8]
     &rest[..(token.len as usize).min(rest.len())]
 }
 
+// What is read of a token that is no number.
+fn plain_item<'a>(kind: Kind, line: u32, value: u32, text: &'a [u8]) -> Item<'a>
+    ensures { result ≡ record { kind = kind; line = line; value = value; unsigned = false; text = text.now } }
+{
+    Item {
+        kind,
+        line,
+        value,
+        unsigned: false,
+        text: Bytes::new(text),
+    }
+}
+
+// The value of a number, and whether it is unsigned. It stands alone, so that other tokens make no room for a numeral.
+#[inline(never)]
+fn number_of(bytes: &[u8]) -> (u32, bool)
+    ensures value { result.0 ≡ spec.fitting (numeral_at bytes.now).value }
+    ensures unsigned { result.1 ≡ (numeral_at bytes.now).unsigned }
+{
+    let numeral = numeral_at(bytes);
+    (numeral.value.unwrap_or(0), numeral.unsigned)
+}
+
+// What is read of a number.
+fn number_item<'a>(line: u32, number: (u32, bool)) -> Item<'a>
+    ensures { result ≡ record {
+      kind = k.Number;
+      line = line;
+      value = number.0;
+      unsigned = number.1;
+      text = [];
+    } }
+{
+    let (value, unsigned) = number;
+    Item {
+        kind: Kind::Number,
+        line,
+        value,
+        unsigned,
+        text: Bytes::new(&[]),
+    }
+}
+
 #[tactic(auto, unfolding(crate::specs::Items::item_of))]
 fn item_of<'a>(text: &'a [u8], token: &Token) -> Item<'a>
     ensures { result ≡ spec.item_of text.now token.now }
 {
     let bytes = bytes_of(text, token);
-    Item {
-        kind: kind_by(token.kind, bytes),
-        line: token.line,
-        value: value_by(token.kind, bytes),
-        unsigned: unsigned_by(token.kind, bytes),
-        text: Bytes::new(text_by(token.kind, bytes)),
+    let line = token.line;
+    match token.kind {
+        TokenKind::Name => plain_item(Kind::Name, line, 0, bytes),
+        TokenKind::Keyword => plain_item(
+            keyword_of(bytes).map_or(Kind::End, keyword_kind),
+            line,
+            0,
+            &[],
+        ),
+        TokenKind::Number => number_item(line, number_of(bytes)),
+        TokenKind::Character => plain_item(
+            Kind::Character,
+            line,
+            character_value(behind_first(bytes)),
+            &[],
+        ),
+        TokenKind::String => plain_item(Kind::String, line, 0, behind_first(bytes)),
+        TokenKind::Sign => plain_item(sign_at(bytes).map_or(Kind::End, sign_kind), line, 0, &[]),
     }
 }
 
