@@ -1,6 +1,6 @@
--- Productions that have the same parts: each is its entry, the walk over its parts, and its node. These are the rules of
--- `check_rules`, put together by their parts.
-use Rattle.std.specs.Prelude.{ℕ, List, Ok}
+-- Productions that have the same parts: each is its entry, the walk over its parts, and its node. These are the rules
+-- of `check_rules`, put together by their parts.
+use Rattle.std.specs.Prelude.{ℕ, List, ◌++◌, Ok}
 use Rattle.c_types.specs.declared.ctype.CType.{CType}
 use Rattle.tick_tree.specs.Faults.{Checked}
 use Rattle.check_operands.specs.declared.operand.Operand.{Operand}
@@ -8,7 +8,7 @@ use Rattle.check_operands.specs.Operands as nodes
 use Rattle.check_operands.specs.Stages as stages
 use Rattle.check_rules.specs.declared.state.Stage.{Stage}
 use Rattle.check_rules.specs.declared.state.State.{State}
-use Rattle.check_tables.specs.Walks.{Rule, ◌>>=◌, lift}
+use Rattle.check_tables.specs.Walks.{Rule, ◌>>=◌, pure, lift}
 use Rattle.check_rules.specs.Entries.{staging_entry}
 use Rattle.check_rules.specs.Productions as productions
 use Rattle.check_rules.specs.ExpressionRules.{Node, Named, Item, both}
@@ -77,3 +77,9 @@ tested_node line tests.While o x = statements.while_node line o x
 abbrev pub tested : ℕ → Tested → Node → Item → Around → Rule State (List Stmt)
 tested line k c i a =
     c.walk a.stage >>= (λ o. body i (tested_around k a) >>= (λ x. lift (tested_node line k o x)))
+
+-- ---- an item of a block
+
+-- the nodes, and those of this item behind them
+abbrev pub item_behind : List Stmt → Item → Around → Rule State (List Stmt)
+item_behind nodes i a = i.walk a >>= (λ found. pure (nodes ++ found))

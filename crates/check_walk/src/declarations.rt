@@ -22,7 +22,7 @@ use tick_tree::{Base, Declaration, Declarator, Deny, Expr, FaultKind, Init, Init
 use typed_tree::Stmt;
 
 /// The steps with the count of an initializer's values, where the array lacks a length.
-#[tactic(auto, using(check_rules::proofs::Equations::initializers, check_rules::proofs::Written::forms_of, check_rules::proofs::Loops::same_count))]
+#[tactic(auto, using(crate::proofs::Starting::starting))]
 pub fn with_start(steps: Items<Step>, value: &Initializer) -> Items<Step>
     ensures { result ≡ spec.with_start (spec.initializer value.now) steps }
 {

@@ -56,7 +56,8 @@ fn plain_call(
     f: &Expr,
     list: &[Expr],
 ) -> Result<Operand, Deny>
-    ensures { Reads (rules.plain_call line (spec.node f.now) (map spec.node list.now) stage state.old) result state.new }
+    ensures { Reads (rules.plain_call line (spec.node f.now) (map spec.node list.now) stage state.old)
+        result state.new }
 {
     let o = expression(alloc, state, stage, f)?;
     match arguments(alloc, state, stage, list) {
@@ -156,7 +157,8 @@ fn choice(
     a: &Expr,
     b: &Expr,
 ) -> Result<Operand, Deny>
-    ensures { Reads (rules.choice line (spec.node c.now) (spec.node a.now) (spec.node b.now) stage state.old) result state.new }
+    ensures { Reads (rules.choice line (spec.node c.now) (spec.node a.now) (spec.node b.now) stage state.old)
+        result state.new }
 {
     let test = expression(alloc, state, stage, c)?;
     let x = match expression(alloc, state, stage, a) {
@@ -219,7 +221,8 @@ fn pair(
     kind: Pair,
     parts: &(Expr, Expr),
 ) -> Result<Operand, Deny>
-    ensures { Reads (kinds.pair line kind (spec.node parts.now.0) (spec.node parts.now.1) stage state.old) result state.new }
+    ensures { Reads (kinds.pair line kind (spec.node parts.now.0) (spec.node parts.now.1) stage state.old)
+        result state.new }
 {
     match expression(alloc, state, stage, &parts.0) {
         Ok(x) => match expression(alloc, state, stage, &parts.1) {

@@ -1,5 +1,5 @@
-//! Productions that have the same parts: what is checked as each is entered, and its node. Each function here only picks
-//! the rule of its production, so that the walk has one function for all of a kind.
+//! Productions that have the same parts: what is checked as each is entered, and its node. Each function here only
+//! picks the rule of its production, so that the walk has one function for all of a kind.
 
 ghost use Rattle.std.specs.Prelude.{◌≡◌, Ok};
 ghost use Rattle.check_rules.specs.Productions as productions;

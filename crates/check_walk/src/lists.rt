@@ -1,11 +1,13 @@
 //! Lists with more behind them. A list that finds no memory is dropped.
 
 ghost use Rattle.std.specs.Prelude.{◌≡◌, [], ◌∷◌, ◌++◌, IfOk};
+ghost use Rattle.check_rules.specs.Statements as statements;
 
 use c_types::CType;
 use check_declarators::Step;
+use check_operands::{Operand, effect};
 use sqlite_items::{Boxed, Items};
-use std::alloc::AllocError;
+use std::alloc::{AllocError, Global};
 use typed_tree::Stmt;
 
 /// The nodes, and these behind them.
@@ -18,6 +20,27 @@ pub fn appended(nodes: Items<Stmt>, found: Items<Stmt>) -> Result<Items<Stmt>, A
     }
     let mut nodes = nodes;
     match nodes.append(found) {
+        Ok(()) => Ok(nodes),
+        Err(why) => {
+            drop(nodes);
+            Err(why)
+        }
+    }
+}
+
+/// The nodes, and that of an expression as a statement behind them.
+pub fn with_effect(alloc: Global, nodes: Items<Stmt>, o: Operand) -> Result<Items<Stmt>, AllocError>
+    ensures { IfOk result (λ all. all ≡ nodes ++ statements.alone o) }
+{
+    let code = match effect(alloc, o) {
+        Ok(code) => code,
+        Err(why) => {
+            drop(nodes);
+            return Err(why);
+        }
+    };
+    let mut nodes = nodes;
+    match nodes.push(Stmt::Eval(code)) {
         Ok(()) => Ok(nodes),
         Err(why) => {
             drop(nodes);

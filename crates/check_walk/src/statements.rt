@@ -10,7 +10,7 @@ ghost use Rattle.check_rules.specs.Walk as spec;
 use crate::declarations::declaration;
 use crate::expressions::{expression, optional};
 use crate::kinds::{Tested, tested_around, tested_node};
-use crate::lists::{appended, pushed};
+use crate::lists::{appended, pushed, with_effect};
 use check_forms::has_form;
 use check_operands::Operand;
 use check_rules::{Around, State};
@@ -25,6 +25,7 @@ use typed_tree::Stmt;
 
 /// The nodes of the items of a block.
 #[cycle(walk)]
+#[tactic(auto, using(crate::proofs::Behind::behind_more, crate::proofs::Behind::behind_fails))]
 pub fn items(
     alloc: Global,
     state: &mut State,
@@ -35,15 +36,39 @@ pub fn items(
 {
     let mut nodes = Items::new(alloc);
     for s in list {
-        match statement(alloc, state, around, s) {
-            Ok(found) => nodes = appended(nodes, found)?,
-            Err(why) => {
-                drop(nodes);
-                return Err(why);
-            }
-        }
+        nodes = item_behind(alloc, state, around, nodes, s)?;
     }
     Ok(nodes)
+}
+
+// The nodes, and those of one item more behind them. An expression's node stands in no list of its own before.
+#[cycle(walk)]
+#[tactic(auto, using(check_rules::proofs::Equations::item_expr))]
+fn item_behind(
+    alloc: Global,
+    state: &mut State,
+    around: Around,
+    nodes: Items<Stmt>,
+    s: &syntax::Stmt,
+) -> Result<Items<Stmt>, Deny>
+    ensures { Reads (kinds.item_behind nodes (spec.item s.now) around state.old) result state.new }
+{
+    match s {
+        syntax::Stmt::Expr(e) => match expression(alloc, state, around.stage, e) {
+            Ok(o) => Ok(with_effect(alloc, nodes, o)?),
+            Err(why) => {
+                drop(nodes);
+                Err(why)
+            }
+        },
+        _ => match statement(alloc, state, around, s) {
+            Ok(found) => Ok(appended(nodes, found)?),
+            Err(why) => {
+                drop(nodes);
+                Err(why)
+            }
+        },
+    }
 }
 
 /// A block, with the nodes of its variables.
@@ -76,6 +101,7 @@ pub fn block(
 
 // The body of a statement, which is one node.
 #[cycle(walk)]
+#[tactic(auto, using(crate::proofs::Behind::body_block))]
 fn body_of(
     alloc: Global,
     state: &mut State,
@@ -84,8 +110,13 @@ fn body_of(
 ) -> Result<Boxed<Stmt>, Deny>
     ensures { Reads (statements.body (spec.item s.now) around state.old) result state.new }
 {
-    let nodes = statement(alloc, state, around, s)?;
-    Ok(body(alloc, nodes)?)
+    match s {
+        syntax::Stmt::Block(list) => block(alloc, state, inside(around), list.as_slice()),
+        _ => {
+            let nodes = statement(alloc, state, around, s)?;
+            Ok(body(alloc, nodes)?)
+        }
+    }
 }
 
 #[cycle(walk)]
@@ -143,7 +174,8 @@ fn branches(
     a: &syntax::Stmt,
     b: &syntax::Stmt,
 ) -> Result<Items<Stmt>, Deny>
-    ensures { Reads (statements.if_else line (spec.node c.now) (spec.item a.now) (spec.item b.now) around state.old) result state.new }
+    ensures { Reads (statements.if_else line (spec.node c.now) (spec.item a.now) (spec.item b.now) around state.old)
+        result state.new }
 {
     let o = expression(alloc, state, around.stage, c)?;
     let x = match body_of(alloc, state, inside(around), a) {
@@ -195,7 +227,8 @@ fn for_rest(
     s: &OptionalExpr,
     a: &syntax::Stmt,
 ) -> Result<Boxed<Stmt>, Deny>
-    ensures { Reads (statements.for_rest line (spec.optional c.now) (spec.optional s.now) (spec.item a.now) around state.old) result state.new }
+    ensures { Reads (statements.for_rest line (spec.optional c.now) (spec.optional s.now)
+        (spec.item a.now) around state.old) result state.new }
 {
     let test = optional(alloc, state, around.stage, c)?;
     let step = match optional(alloc, state, around.stage, s) {
@@ -227,7 +260,8 @@ fn for_items(
     s: &OptionalExpr,
     a: &syntax::Stmt,
 ) -> Result<Items<Stmt>, Deny>
-    ensures { Reads (statements.for_items line (spec.item first.now) (spec.optional c.now) (spec.optional s.now) (spec.item a.now) around state.old) result state.new }
+    ensures { Reads (statements.for_items line (spec.item first.now) (spec.optional c.now) (spec.optional s.now)
+        (spec.item a.now) around state.old) result state.new }
 {
     let nodes = statement(alloc, state, inside(around), first)?;
     match for_rest(alloc, state, line, around, c, s, a) {
@@ -251,7 +285,8 @@ fn for_block(
     s: &OptionalExpr,
     a: &syntax::Stmt,
 ) -> Result<Items<Stmt>, Deny>
-    ensures { Reads (statements.for_block line (spec.item first.now) (spec.optional c.now) (spec.optional s.now) (spec.item a.now) around state.old) result state.new }
+    ensures { Reads (statements.for_block line (spec.item first.now) (spec.optional c.now) (spec.optional s.now)
+        (spec.item a.now) around state.old) result state.new }
 {
     let depth = state.depth();
     let outer = state.enter(alloc)?;
@@ -297,7 +332,8 @@ fn for_all(
     s: &OptionalExpr,
     a: &syntax::Stmt,
 ) -> Result<Items<Stmt>, Deny>
-    ensures { Reads (statements.for_loop line (spec.item first.now) (spec.optional c.now) (spec.optional s.now) (spec.item a.now) around state.old) result state.new }
+    ensures { Reads (statements.for_loop line (spec.item first.now) (spec.optional c.now) (spec.optional s.now)
+        (spec.item a.now) around state.old) result state.new }
 {
     if is_empty(first) {
         let node = for_rest(alloc, state, line, around, c, s, a)?;
@@ -367,7 +403,8 @@ fn switch(
     e: &Expr,
     list: &[syntax::Stmt],
 ) -> Result<Items<Stmt>, Deny>
-    ensures { Reads (statements.switch line (spec.node e.now) (map spec.item list.now) around state.old) result state.new }
+    ensures { Reads (statements.switch line (spec.node e.now) (map spec.item list.now) around state.old)
+        result state.new }
 {
     let o = expression(alloc, state, around.stage, e)?;
     match labelled_block(alloc, state, around, list) {

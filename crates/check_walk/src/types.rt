@@ -69,7 +69,8 @@ fn suffixes(
     steps: Items<Step>,
     list: &[Suffix],
 ) -> Result<Items<Step>, Deny>
-    ensures { Reads (statements.each_step (spec.suffix_walks (map spec.suffix list.now)) steps stage state.old) result state.new }
+    ensures { Reads (statements.each_step (spec.suffix_walks (map spec.suffix list.now)) steps stage state.old)
+        result state.new }
 {
     let mut steps = steps;
     for s in list {
@@ -120,7 +121,8 @@ fn parameters(
     stage: Stage,
     list: &[Parameter],
 ) -> Result<Step, Deny>
-    ensures { Reads (statements.list_step (spec.type_walks (map spec.parameter list.now)) stage state.old) result state.new }
+    ensures { Reads (statements.list_step (spec.type_walks (map spec.parameter list.now)) stage state.old)
+        result state.new }
 {
     let depth = state.depth();
     let outer = state.enter(alloc)?;
@@ -150,7 +152,8 @@ fn each_parameter(
     stage: Stage,
     list: &[Parameter],
 ) -> Result<Items<CType>, Deny>
-    ensures { Reads (statements.each_type (spec.type_walks (map spec.parameter list.now)) stage state.old) result state.new }
+    ensures { Reads (statements.each_type (spec.type_walks (map spec.parameter list.now)) stage state.old)
+        result state.new }
 {
     let mut types = Items::new(alloc);
     for p in list {

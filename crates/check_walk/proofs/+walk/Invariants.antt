@@ -1,4 +1,4 @@
-use Rattle.std.proofs.Common.{◌≡◌, map, ℕ, ◌+◌, ◌*◌, max, drop, []}
+use Rattle.std.proofs.Common.{◌≡◌, map, ◌+◌, ◌*◌, max, drop, []}
 use Rattle.std.specs.Prelude.{None}
 use Rattle.check_operands.specs.Calls as calls
 use Rattle.tick_tree.specs.declared.syntax.Expr.{size-Expr}
@@ -31,7 +31,7 @@ abbrev pub decreases-expressions::tick_expression : goal.decreases-expressions::
 decreases-expressions::tick_expression l = 8 * (goal.size-expressions::tick_expression l) + 1
 
 abbrev pub decreases-expressions::tick_block : goal.decreases-expressions::tick_block
-decreases-expressions::tick_block l = 8 * (goal.size-expressions::tick_block l) + 3
+decreases-expressions::tick_block l = 8 * (goal.size-expressions::tick_block l) + 4
 
 abbrev pub decreases-expressions::compile : goal.decreases-expressions::compile
 decreases-expressions::compile l =
@@ -131,10 +131,13 @@ abbrev pub decreases-declarations::declaration : goal.decreases-declarations::de
 decreases-declarations::declaration l = 8 * (goal.size-declarations::declaration l) + 7
 
 abbrev pub decreases-statements::items : goal.decreases-statements::items
-decreases-statements::items l = 8 * (goal.size-statements::items l) + 1
+decreases-statements::items l = 8 * (goal.size-statements::items l) + 2
+
+abbrev pub decreases-statements::item_behind : goal.decreases-statements::item_behind
+decreases-statements::item_behind l = 8 * (size-Stmt l.s.now) + 1
 
 abbrev pub decreases-statements::block : goal.decreases-statements::block
-decreases-statements::block l = 8 * (goal.size-statements::block l) + 2
+decreases-statements::block l = 8 * (goal.size-statements::block l) + 3
 
 abbrev pub decreases-statements::body_of : goal.decreases-statements::body_of
 decreases-statements::body_of l = 8 * (goal.size-statements::body_of l) + 1
@@ -143,7 +146,7 @@ abbrev pub decreases-statements::alone : goal.decreases-statements::alone
 decreases-statements::alone l = 8 * (goal.size-statements::alone l) + 1
 
 abbrev pub decreases-statements::block_alone : goal.decreases-statements::block_alone
-decreases-statements::block_alone l = 8 * (goal.size-statements::block_alone l) + 3
+decreases-statements::block_alone l = 8 * (goal.size-statements::block_alone l) + 4
 
 abbrev pub decreases-statements::tested : goal.decreases-statements::tested
 decreases-statements::tested l = 8 * (max (size-Expr l.c.now) (size-Stmt l.a.now)) + 2
@@ -174,17 +177,17 @@ decreases-statements::for_all l =
     (max (size-OptionalExpr l.c.now) (max (size-OptionalExpr l.s.now) (size-Stmt l.a.now)))) + 5
 
 abbrev pub decreases-statements::switch_block : goal.decreases-statements::switch_block
-decreases-statements::switch_block l = 8 * (goal.size-statements::switch_block l) + 2
+decreases-statements::switch_block l = 8 * (goal.size-statements::switch_block l) + 3
 
 abbrev pub decreases-statements::labelled_block : goal.decreases-statements::labelled_block
-decreases-statements::labelled_block l = 8 * (goal.size-statements::labelled_block l) + 3
+decreases-statements::labelled_block l = 8 * (goal.size-statements::labelled_block l) + 4
 
 abbrev pub decreases-statements::switch : goal.decreases-statements::switch
 decreases-statements::switch l =
     8 * (max (size-Expr l.e.now)
     (goal.size-statements::items
     (record { the-lifetimes = ([], ([], tt {0})); alloc = l.alloc; state = l.state; around = l.around; list = l.list })))
-    + 4
+    + 5
 
 abbrev pub decreases-statements::case : goal.decreases-statements::case
 decreases-statements::case l = 8 * (goal.size-statements::case l) + 1
