@@ -1,4 +1,5 @@
-pub mod Lookups
-pub mod Stack
-pub mod Tables
+pub mod Cut
+pub mod Numbered
 pub mod Places
+pub mod Stacks
+pub mod Tables

@@ -7,217 +7,225 @@ use Rattle.std.specs.Prelude.{slice_get, slice_set, slice_index_or}
 use Rattle.std.specs.Option.{option_or}
 use Rattle.std.specs.Str.{bytes_eq}
 use Rattle.std.specs.Cmp.Lexicographic.{bytes_decides, nat_list_eq_equiv}
-use Rattle.check_scopes.specs.Scopes.{Name, Scope, in_scope}
+use Rattle.check_scopes.specs.Numbers.{number_from, number_of}
+use Rattle.check_scopes.specs.Scopes.{Name}
 use Rattle.check_scopes.specs.Sorted.{place_at}
-use Rattle.check_scopes.specs.Tables.{slot, in_entry, seen, listed, places, Finds, Keeps, Noted}
-use Rattle.check_scopes.specs.declared.names.Meaning.{Meaning}
+use Rattle.check_scopes.specs.Tables.{slot, in_place, seen, listed, places, Finds, Keeps, Noted}
 use Rattle.check_scopes.specs.declared.sorted.Sorted.{Sorted}
-use Rattle.check_scopes.proofs.Lookups.{in_both}
+use Rattle.check_scopes.proofs.Numbered.{one_more, otherwise}
 
 -- ---- tests
 
-otherwise : (b : Bool) (m : Meaning) (r : Option Meaning) → cond b (Some m) None ≡ None → cond b (Some m) r ≡ r
-otherwise true m r h = cc
-otherwise false m r h = refl
+head_none : (b : Bool) (m n : ℕ) (r : Option ℕ) → cond b (Some m) r ≡ None → cond b (Some n) None ≡ None
+head_none true m n r h = cc
+head_none false m n r h = refl
 
-head_none : (b : Bool) (m : Meaning) (r : Option Meaning) → cond b (Some m) r ≡ None → cond b (Some m) None ≡ None
-head_none true m r h = cc
-head_none false m r h = refl
-
-tail_none : (b : Bool) (m : Meaning) (r : Option Meaning) → cond b (Some m) r ≡ None → r ≡ None
+tail_none : (b : Bool) (m : ℕ) (r : Option ℕ) → cond b (Some m) r ≡ None → r ≡ None
 tail_none true m r h = cc
 tail_none false m r h = h
 
-either : (b : Bool) (o : Option Meaning) → cond b o o ≡ o
-either true o = refl
-either false o = refl
-
-or_none : (o : Option Meaning) → option_or o None ≡ o
+or_none : (o : Option ℕ) → option_or o None ≡ o
 or_none None = refl
 or_none (Some m) = refl
 
 -- ---- places
 
-rest_of : (e : Option (Name × Meaning)) (q : Name) (r : Option Meaning) → in_entry e q None ≡ None → in_entry e q r ≡ r
-rest_of None q r h = refl
-rest_of (Some e) q r h = otherwise (bytes_eq q e.0) e.1 r h
+rest_of : (e : Option Name) (q : Name) (p : ℕ) (r : Option ℕ) → in_place e q p None ≡ None → in_place e q p r ≡ r
+rest_of None q p r h = refl
+rest_of (Some e) q p r h = otherwise (bytes_eq q e) p r h
 
 -- a place where none of that name stands
-pub skip : (es : Scope) (p : ℕ) (ps qs : List ℕ) (q : Name) → in_entry (slice_get es p) q None ≡ None →
-    seen es (ps ++ p ∷ qs) q ≡ seen es (ps ++ qs) q
-skip es p [] qs q h = rest_of (slice_get es p) q (seen es qs q) h
-skip es p (x ∷ ps) qs q h = ap (in_entry (slice_get es x) q) (skip es p ps qs q h)
+pub skip : (names : List Name) (p : ℕ) (ps qs : List ℕ) (q : Name) → in_place (slice_get names p) q p None ≡ None →
+    seen names (ps ++ p ∷ qs) q ≡ seen names (ps ++ qs) q
+skip names p [] qs q h = rest_of (slice_get names p) q p (seen names qs q) h
+skip names p (x ∷ ps) qs q h = ap (in_place (slice_get names x) q x) (skip names p ps qs q h)
 
-entry_first : (e : Option (Name × Meaning)) (q : Name) (r s t : Option Meaning) → r ≡ option_or s t →
-    in_entry e q r ≡ option_or (in_entry e q s) t
-entry_first None q r s t h = h
-entry_first (Some e) q r s t h = by (bytes_eq q e.0)
+entry_first : (e : Option Name) (q : Name) (p : ℕ) (r s t : Option ℕ) → r ≡ option_or s t →
+    in_place e q p r ≡ option_or (in_place e q p s) t
+entry_first None q p r s t h = h
+entry_first (Some e) q p r s t h = by (bytes_eq q e)
   where
-    by : (b : Bool) → cond b (Some e.1) r ≡ option_or (cond b (Some e.1) s) t
+    by : (b : Bool) → cond b (Some p) r ≡ option_or (cond b (Some p) s) t
     by true = refl
     by false = h
 
 -- places one behind the other
-pub seen_both : (es : Scope) (ps qs : List ℕ) (q : Name) → seen es (ps ++ qs) q ≡ option_or (seen es ps q) (seen es qs q)
-seen_both es [] qs q = refl
-seen_both es (p ∷ ps) qs q =
-    entry_first (slice_get es p) q (seen es (ps ++ qs) q) (seen es ps q) (seen es qs q) (seen_both es ps qs q)
+pub seen_both : (names : List Name) (ps qs : List ℕ) (q : Name) →
+    seen names (ps ++ qs) q ≡ option_or (seen names ps q) (seen names qs q)
+seen_both names [] qs q = refl
+seen_both names (p ∷ ps) qs q =
+    entry_first (slice_get names p) q p (seen names (ps ++ qs) q) (seen names ps q) (seen names qs q)
+    (seen_both names ps qs q)
 
--- nothing is found where there is no declaration
+-- nothing is found where there is no name
 pub nothing : (ps : List ℕ) (q : Name) → seen [] ps q ≡ None
 nothing [] q = refl
 nothing (p ∷ ps) q = nothing ps q
 
 -- what is read at a place
-pub got : (es : Scope) (p : ℕ) (e : Name × Meaning) → p < length es → e ≡ get_or es p e → Some e ≡ slice_get es p
+pub got : (names : List Name) (p : ℕ) (e : Name) → p < length names → e ≡ get_or names p e → Some e ≡ slice_get names p
 got [] p e h r = absurd (omega (arith, h))
-got (x ∷ es) zero e h r = ap Some r
-got (x ∷ es) (suc p) e h r = got es p e (omega (arith, h)) r
+got (x ∷ names) zero e h r = ap Some r
+got (x ∷ names) (suc p) e h r = got names p e (omega (arith, h)) r
 
-pub missed : (es : Scope) (p : ℕ) → length es ≤ p → None ≡ slice_get es p
+pub missed : (names : List Name) (p : ℕ) → length names ≤ p → None ≡ slice_get names p
 missed [] p h = refl
-missed (x ∷ es) zero h = absurd (omega (arith, h))
-missed (x ∷ es) (suc p) h = missed es p (omega (arith, h))
+missed (x ∷ names) zero h = absurd (omega (arith, h))
+missed (x ∷ names) (suc p) h = missed names p (omega (arith, h))
 
 -- the first of the places
-pub first_place : (es : Scope) (ps : List ℕ) (i : ℕ) (q : Name) → i < length ps →
-    seen es (drop i ps) q ≡ in_entry (slice_get es (get_or ps i 0)) q (seen es (drop (i + 1) ps) q)
-first_place es ps i q h =
-    ap (λ l. seen es l q) (drop-cons ps i 0 h) ∙
-    ap (λ j. in_entry (slice_get es (get_or ps i 0)) q (seen es (drop j ps) q)) (sym (add-one i))
+pub first_place : (names : List Name) (ps : List ℕ) (i : ℕ) (q : Name) → i < length ps →
+    seen names (drop i ps) q ≡
+    in_place (slice_get names (get_or ps i 0)) q (get_or ps i 0) (seen names (drop (i + 1) ps) q)
+first_place names ps i q h =
+    ap (λ l. seen names l q) (drop-cons ps i 0 h) ∙
+    ap (λ j. in_place (slice_get names (get_or ps i 0)) q (get_or ps i 0) (seen names (drop j ps) q)) (sym (add-one i))
 
-pub seen_here : (es : Scope) (ps : List ℕ) (i : ℕ) (q : Name) (e : Name × Meaning) → i < length ps →
-    Some e ≡ slice_get es (get_or ps i 0) → bytes_eq q e.0 ≡ true → seen es (drop i ps) q ≡ Some e.1
-seen_here es ps i q e h read is =
-    first_place es ps i q h
-    ∙ ap (λ o. in_entry o q (seen es (drop (i + 1) ps) q)) (sym read)
-    ∙ ap (λ b. cond b (Some e.1) (seen es (drop (i + 1) ps) q)) is
+pub seen_here : (names : List Name) (ps : List ℕ) (i : ℕ) (q : Name) (e : Name) → i < length ps →
+    Some e ≡ slice_get names (get_or ps i 0) → bytes_eq q e ≡ true → seen names (drop i ps) q ≡ Some (get_or ps i 0)
+seen_here names ps i q e h read is =
+    first_place names ps i q h
+    ∙ ap (λ o. in_place o q (get_or ps i 0) (seen names (drop (i + 1) ps) q)) (sym read)
+    ∙ ap (λ b. cond b (Some (get_or ps i 0)) (seen names (drop (i + 1) ps) q)) is
 
-pub seen_behind : (es : Scope) (ps : List ℕ) (i : ℕ) (q : Name) (e : Name × Meaning) → i < length ps →
-    Some e ≡ slice_get es (get_or ps i 0) → bytes_eq q e.0 ≡ false → seen es (drop i ps) q ≡ seen es (drop (i + 1) ps) q
-seen_behind es ps i q e h read other =
-    first_place es ps i q h
-    ∙ ap (λ o. in_entry o q (seen es (drop (i + 1) ps) q)) (sym read)
-    ∙ ap (λ b. cond b (Some e.1) (seen es (drop (i + 1) ps) q)) other
+pub seen_behind : (names : List Name) (ps : List ℕ) (i : ℕ) (q : Name) (e : Name) → i < length ps →
+    Some e ≡ slice_get names (get_or ps i 0) → bytes_eq q e ≡ false →
+    seen names (drop i ps) q ≡ seen names (drop (i + 1) ps) q
+seen_behind names ps i q e h read other =
+    first_place names ps i q h
+    ∙ ap (λ o. in_place o q (get_or ps i 0) (seen names (drop (i + 1) ps) q)) (sym read)
+    ∙ ap (λ b. cond b (Some (get_or ps i 0)) (seen names (drop (i + 1) ps) q)) other
 
-pub seen_past : (es : Scope) (ps : List ℕ) (i : ℕ) (q : Name) → i < length ps →
-    None ≡ slice_get es (get_or ps i 0) → seen es (drop i ps) q ≡ seen es (drop (i + 1) ps) q
-seen_past es ps i q h read =
-    first_place es ps i q h ∙ ap (λ o. in_entry o q (seen es (drop (i + 1) ps) q)) (sym read)
+pub seen_past : (names : List Name) (ps : List ℕ) (i : ℕ) (q : Name) → i < length ps →
+    None ≡ slice_get names (get_or ps i 0) → seen names (drop i ps) q ≡ seen names (drop (i + 1) ps) q
+seen_past names ps i q h read =
+    first_place names ps i q h ∙ ap (λ o. in_place o q (get_or ps i 0) (seen names (drop (i + 1) ps) q)) (sym read)
 
 -- in its bucket
-pub found_near : (es : Scope) (b : List (List ℕ)) (s : Sorted) (q : Name) (m : Meaning) → Finds es b s →
-    Some m ≡ seen es (slice_index_or b (slot (length b) q) []) q → Some m ≡ in_scope es q
-found_near es b s q m f h =
-    sym (ap (λ o. option_or o (seen es (listed (place_at s q)) q)) (sym h))
-    ∙ sym (seen_both es (slice_index_or b (slot (length b) q) []) (listed (place_at s q)) q)
+pub found_near : (names : List Name) (b : List (List ℕ)) (s : Sorted) (q : Name) (n : ℕ) → Finds names b s →
+    Some n ≡ seen names (slice_index_or b (slot (length b) q) []) q → Some n ≡ number_of names q
+found_near names b s q n f h =
+    sym (ap (λ o. option_or o (seen names (listed (place_at s q)) q)) (sym h))
+    ∙ sym (seen_both names (slice_index_or b (slot (length b) q) []) (listed (place_at s q)) q)
     ∙ f q
 
 -- at its own place
-pub found_far : (es : Scope) (b : List (List ℕ)) (s : Sorted) (q : Name) (o : Option Meaning) → Finds es b s →
-    None ≡ seen es (slice_index_or b (slot (length b) q) []) q → o ≡ seen es (listed (place_at s q)) q →
-    o ≡ in_scope es q
-found_far es b s q o f none h =
+pub found_far : (names : List Name) (b : List (List ℕ)) (s : Sorted) (q : Name) (o : Option ℕ) → Finds names b s →
+    None ≡ seen names (slice_index_or b (slot (length b) q) []) q → o ≡ seen names (listed (place_at s q)) q →
+    o ≡ number_of names q
+found_far names b s q o f none h =
     h
-    ∙ sym (ap (λ o. option_or o (seen es (listed (place_at s q)) q)) (sym none))
-    ∙ sym (seen_both es (slice_index_or b (slot (length b) q) []) (listed (place_at s q)) q)
+    ∙ sym (ap (λ o. option_or o (seen names (listed (place_at s q)) q)) (sym none))
+    ∙ sym (seen_both names (slice_index_or b (slot (length b) q) []) (listed (place_at s q)) q)
     ∙ f q
 
--- ---- a declaration more
+-- ---- a name more
 
-entry_more : (es : Scope) (e : Name × Meaning) (p : ℕ) (q : Name) (r : Option Meaning) → bytes_eq q e.0 ≡ false →
-    in_entry (slice_get (es ++ e ∷ []) p) q r ≡ in_entry (slice_get es p) q r
-entry_more [] e zero q r h = ap (λ b. cond b (Some e.1) r) h
-entry_more [] e (suc p) q r h = refl
-entry_more (x ∷ es) e zero q r h = refl
-entry_more (x ∷ es) e (suc p) q r h = entry_more es e p q r h
+entry_more : (names : List Name) (e : Name) (p i : ℕ) (q : Name) (r : Option ℕ) → bytes_eq q e ≡ false →
+    in_place (slice_get (names ++ e ∷ []) p) q i r ≡ in_place (slice_get names p) q i r
+entry_more [] e zero i q r h = ap (λ b. cond b (Some i) r) h
+entry_more [] e (suc p) i q r h = refl
+entry_more (x ∷ names) e zero i q r h = refl
+entry_more (x ∷ names) e (suc p) i q r h = entry_more names e p i q r h
 
-seen_more : (es : Scope) (e : Name × Meaning) (ps : List ℕ) (q : Name) → bytes_eq q e.0 ≡ false →
-    seen (es ++ e ∷ []) ps q ≡ seen es ps q
-seen_more es e [] q h = refl
-seen_more es e (p ∷ ps) q h =
-    entry_more es e p q (seen (es ++ e ∷ []) ps q) h ∙ ap (in_entry (slice_get es p) q) (seen_more es e ps q h)
+seen_more : (names : List Name) (e : Name) (ps : List ℕ) (q : Name) → bytes_eq q e ≡ false →
+    seen (names ++ e ∷ []) ps q ≡ seen names ps q
+seen_more names e [] q h = refl
+seen_more names e (p ∷ ps) q h =
+    entry_more names e p p q (seen (names ++ e ∷ []) ps q) h
+    ∙ ap (in_place (slice_get names p) q p) (seen_more names e ps q h)
 
-last_is : (es : Scope) (e : Name × Meaning) → slice_get (es ++ e ∷ []) (length es) ≡ Some e
+last_is : (names : List Name) (e : Name) → slice_get (names ++ e ∷ []) (length names) ≡ Some e
 last_is [] e = refl
-last_is (x ∷ es) e = last_is es e
+last_is (x ∷ names) e = last_is names e
 
-pub past : (es : Scope) → slice_get es (length es) ≡ None
+pub past : (names : List Name) → slice_get names (length names) ≡ None
 past [] = refl
-past (x ∷ es) = past es
+past (x ∷ names) = past names
 
--- ---- a name that none has so far
+-- ---- a name that has no number so far
 
-no_entry : (es : Scope) (p : ℕ) (q : Name) → in_scope es q ≡ None → in_entry (slice_get es p) q None ≡ None
-no_entry [] p q h = refl
-no_entry (x ∷ es) zero q h = head_none (bytes_eq q x.0) x.1 (in_scope es q) h
-no_entry (x ∷ es) (suc p) q h = no_entry es p q (tail_none (bytes_eq q x.0) x.1 (in_scope es q) h)
+no_entry : (k : ℕ) (names : List Name) (p i : ℕ) (q : Name) → number_from k names q ≡ None →
+    in_place (slice_get names p) q i None ≡ None
+no_entry k [] p i q h = refl
+no_entry k (x ∷ names) zero i q h = head_none (bytes_eq q x) k i (number_from (k + 1) names q) h
+no_entry k (x ∷ names) (suc p) i q h =
+    no_entry (k + 1) names p i q (tail_none (bytes_eq q x) k (number_from (k + 1) names q) h)
 
-none_seen : (es : Scope) (ps : List ℕ) (q : Name) → in_scope es q ≡ None → seen es ps q ≡ None
-none_seen es [] q h = refl
-none_seen es (p ∷ ps) q h = ap (in_entry (slice_get es p) q) (none_seen es ps q h) ∙ no_entry es p q h
+none_seen : (names : List Name) (ps : List ℕ) (q : Name) → number_of names q ≡ None → seen names ps q ≡ None
+none_seen names [] q h = refl
+none_seen names (p ∷ ps) q h =
+    ap (in_place (slice_get names p) q p) (none_seen names ps q h) ∙ no_entry 0 names p p q h
 
-newest_entry : (es : Scope) (q : Name) (what : Meaning) (p : ℕ) → in_scope es q ≡ None →
-    in_entry (slice_get (es ++ (q, what) ∷ []) p) q (Some what) ≡ Some what
-newest_entry [] q what zero h = either (bytes_eq q q) (Some what)
-newest_entry [] q what (suc p) h = refl
-newest_entry (x ∷ es) q what zero h =
-    otherwise (bytes_eq q x.0) x.1 (Some what) (head_none (bytes_eq q x.0) x.1 (in_scope es q) h)
-newest_entry (x ∷ es) q what (suc p) h =
-    newest_entry es q what p (tail_none (bytes_eq q x.0) x.1 (in_scope es q) h)
+same : (b : Bool) (i n : ℕ) → i ≡ n → cond b (Some i) (Some n) ≡ Some n
+same true i n h = ap Some h
+same false i n h = refl
 
-newest : (es : Scope) (q : Name) (what : Meaning) (ps qs : List ℕ) → in_scope es q ≡ None →
-    seen (es ++ (q, what) ∷ []) (ps ++ length es ∷ qs) q ≡ Some what
-newest es q what [] qs h =
-    ap (λ o. in_entry o q (seen (es ++ (q, what) ∷ []) qs q)) (last_is es (q, what))
-    ∙ ap (λ b. cond b (Some what) (seen (es ++ (q, what) ∷ []) qs q)) (nat_list_eq_equiv.refl q)
-newest es q what (p ∷ ps) qs h =
-    ap (in_entry (slice_get (es ++ (q, what) ∷ []) p) q) (newest es q what ps qs h) ∙ newest_entry es q what p h
+newest_entry : (k : ℕ) (names : List Name) (q : Name) (p i n : ℕ) → number_from k names q ≡ None →
+    (p ≡ length names → i ≡ n) → in_place (slice_get (names ++ q ∷ []) p) q i (Some n) ≡ Some n
+newest_entry k [] q zero i n h e = same (bytes_eq q q) i n (e refl)
+newest_entry k [] q (suc p) i n h e = refl
+newest_entry k (x ∷ names) q zero i n h e =
+    otherwise (bytes_eq q x) i (Some n) (head_none (bytes_eq q x) k i (number_from (k + 1) names q) h)
+newest_entry k (x ∷ names) q (suc p) i n h e =
+    newest_entry (k + 1) names q p i n (tail_none (bytes_eq q x) k (number_from (k + 1) names q) h)
+    (λ at. e (omega (arith, at)))
+
+newest : (names : List Name) (q : Name) (ps qs : List ℕ) → number_of names q ≡ None →
+    seen (names ++ q ∷ []) (ps ++ length names ∷ qs) q ≡ Some (length names)
+newest names q [] qs h =
+    ap (λ o. in_place o q (length names) (seen (names ++ q ∷ []) qs q)) (last_is names q)
+    ∙ ap (λ b. cond b (Some (length names)) (seen (names ++ q ∷ []) qs q)) (nat_list_eq_equiv.refl q)
+newest names q (p ∷ ps) qs h =
+    ap (in_place (slice_get (names ++ q ∷ []) p) q p) (newest names q ps qs h)
+    ∙ newest_entry 0 names q p p (length names) h (λ at. at)
 
 -- ---- tables
 
-pub keeps_finds : (es : Scope) (b b' : List (List ℕ)) (s s' : Sorted) → Keeps b s b' s' → Finds es b s → Finds es b' s'
-keeps_finds es b b' s s' k f q = ap (λ ps. seen es ps q) (k q) ∙ f q
+pub keeps_finds : (names : List Name) (b b' : List (List ℕ)) (s s' : Sorted) → Keeps b s b' s' → Finds names b s →
+    Finds names b' s'
+keeps_finds names b b' s s' k f q = ap (λ ps. seen names ps q) (k q) ∙ f q
 
-module _ (es : Scope) (b b' : List (List ℕ)) (s s' : Sorted) (name : Name) (what : Meaning)
-    (noted : Noted b s b' s' name (length es)) (none : in_scope es name ≡ None) (finds : Finds es b s) where
-  -- a place that is noted, without its declaration
-  pub noted_finds : Finds es b' s'
+module _ (names : List Name) (b b' : List (List ℕ)) (s s' : Sorted) (name : Name)
+    (noted : Noted b s b' s' name (length names)) (none : number_of names name ≡ None) (finds : Finds names b s) where
+  -- a place that is noted, without its name
+  pub noted_finds : Finds names b' s'
   noted_finds q = by (bytes_eq q name) refl
     where
-      by : (r : Bool) → bytes_eq q name ≡ r → seen es (places b' s' q) q ≡ in_scope es q
-      by false e = noted.others es q e (ap (λ o. in_entry o q None) (past es)) ∙ finds q
+      by : (r : Bool) → bytes_eq q name ≡ r → seen names (places b' s' q) q ≡ number_of names q
+      by false e = noted.others names q e (ap (λ o. in_place o q (length names) None) (past names)) ∙ finds q
       by true e =
-          let same : q ≡ name = (bytes_decides q name).0 e in
-          subst (λ n. seen es (places b' s' n) n ≡ in_scope es n) (sym same)
-          (none_seen es (places b' s' name) name none ∙ sym none)
+          let is : q ≡ name = (bytes_decides q name).0 e in
+          subst (λ n. seen names (places b' s' n) n ≡ number_of names n) (sym is)
+          (none_seen names (places b' s' name) name none ∙ sym none)
 
-  abbrev all : Scope
-  all = es ++ (name, what) ∷ []
+  abbrev all : List Name
+  all = names ++ name ∷ []
 
-  one : (q : Name) (r : Bool) → bytes_eq q name ≡ r → in_scope all q ≡ option_or (in_scope es q) (cond r (Some what) None)
+  one : (q : Name) (r : Bool) → bytes_eq q name ≡ r →
+      number_of all q ≡ option_or (number_of names q) (cond r (Some (length names)) None)
   one q r e =
-      in_both es ((name, what) ∷ []) q ∙ ap (λ b. option_or (in_scope es q) (cond b (Some what) None)) e
+      one_more names name q ∙ ap (λ b. option_or (number_of names q) (cond b (Some (length names)) None)) e
 
-  here : seen all (places b' s' name) name ≡ in_scope all name
+  here : seen all (places b' s' name) name ≡ number_of all name
   here =
       ap (λ ps. seen all ps name) noted.there.2
-      ∙ newest es name what noted.there.0 noted.there.1 none
-      ∙ sym (one name true (nat_list_eq_equiv.refl name) ∙ ap (λ o. option_or o (Some what)) none)
+      ∙ newest names name noted.there.0 noted.there.1 none
+      ∙ sym (one name true (nat_list_eq_equiv.refl name) ∙ ap (λ o. option_or o (Some (length names))) none)
 
-  -- with its declaration
-  pub declared_finds : Finds (es ++ (name, what) ∷ []) b' s'
-  declared_finds q = by (bytes_eq q name) refl
+  -- with its name
+  pub named_finds : Finds (names ++ name ∷ []) b' s'
+  named_finds q = by (bytes_eq q name) refl
     where
-      by : (r : Bool) → bytes_eq q name ≡ r → seen all (places b' s' q) q ≡ in_scope all q
+      by : (r : Bool) → bytes_eq q name ≡ r → seen all (places b' s' q) q ≡ number_of all q
       by false e =
-          noted.others all q e (ap (λ o. in_entry o q None) (last_is es (name, what)) ∙
-          ap (λ b. cond b (Some what) None) e)
-          ∙ seen_more es (name, what) (places b s q) q e
+          noted.others all q e (ap (λ o. in_place o q (length names) None) (last_is names name) ∙
+          ap (λ b. cond b (Some (length names)) None) e)
+          ∙ seen_more names name (places b s q) q e
           ∙ finds q
-          ∙ sym (one q false e ∙ or_none (in_scope es q))
+          ∙ sym (one q false e ∙ or_none (number_of names q))
       by true e =
-          subst (λ n. seen all (places b' s' n) n ≡ in_scope all n) (sym ((bytes_decides q name).0 e)) here
+          subst (λ n. seen all (places b' s' n) n ≡ number_of all n) (sym ((bytes_decides q name).0 e)) here
 
 -- a place that is noted by its name
 pub noted_far : (b : List (List ℕ)) (s s' : Sorted) (name : Name) (place : ℕ) → place_at s' name ≡ Some place →
@@ -228,7 +236,7 @@ noted_far b s s' name place found others = record {
     [],
     ap (λ o. slice_index_or b (slot (length b) name) [] ++ listed o) found,
   );
-  others = λ es q e h. ap (λ o. seen es (slice_index_or b (slot (length b) q) [] ++ listed o) q) (others q e);
+  others = λ names q e h. ap (λ o. seen names (slice_index_or b (slot (length b) q) [] ++ listed o) q) (others q e);
 }
 
 pub kept_far : (b : List (List ℕ)) (s s' : Sorted) → ((q : Name) → place_at s' q ≡ place_at s q) → Keeps b s b s'
@@ -273,17 +281,17 @@ module _ (b b' : List (List ℕ)) (s : Sorted) (name : Name) (place : ℕ) (with
   pub noted_near : Noted b s b' s name place
   noted_near = record {
     there = (old, listed (place_at s name), changed name refl);
-    others = λ es q e h. other es q h (nat_eq (slot (length b) q) mine) refl;
+    others = λ names q e h. other names q h (nat_eq (slot (length b) q) mine) refl;
   }
     where
-      other : (es : Scope) (q : Name) → in_entry (slice_get es place) q None ≡ None → (r : Bool) →
-          nat_eq (slot (length b) q) mine ≡ r → seen es (places b' s q) q ≡ seen es (places b s q) q
-      other es q h true e =
-          let same : slot (length b) q ≡ mine = is_same (slot (length b) q) mine e in
-          ap (λ ps. seen es ps q) (changed q same)
-          ∙ skip es place old (listed (place_at s q)) q h
-          ∙ ap (λ j. seen es (get_or b j [] ++ listed (place_at s q)) q) (sym same)
-      other es q h false e =
-          ap (λ c. seen es (c ++ listed (place_at s q)) q)
+      other : (names : List Name) (q : Name) → in_place (slice_get names place) q place None ≡ None → (r : Bool) →
+          nat_eq (slot (length b) q) mine ≡ r → seen names (places b' s q) q ≡ seen names (places b s q) q
+      other names q h true e =
+          let one : slot (length b) q ≡ mine = is_same (slot (length b) q) mine e in
+          ap (λ ps. seen names ps q) (changed q one)
+          ∙ skip names place old (listed (place_at s q)) q h
+          ∙ ap (λ j. seen names (get_or b j [] ++ listed (place_at s q)) q) (sym one)
+      other names q h false e =
+          ap (λ c. seen names (c ++ listed (place_at s q)) q)
           (bucket q ∙ get_or-set_other b mine (slot (length b) q) (old ++ place ∷ []) []
           (is_other (slot (length b) q) mine e))

@@ -3,6 +3,7 @@
 
 mod keys;
 mod names;
+mod numbers;
 mod sorted;
 
 pub use names::{DeclareFault, Meaning, MeaningKind, Scopes};

@@ -1,7 +1,7 @@
 use Rattle.std.proofs.Common.{◌≡◌, length, ap, ◌∙◌, arith}
 use Rattle.check_scopes.specs.Tables.{slot}
 use Rattle.check_scopes.proofs.Tables.{noted_far, noted_near}
-use Rattle.check_scopes.proofs.names.note.Goals as goal
+use Rattle.check_scopes.proofs.numbers.note.Goals as goal
 
 pub returns-then-many-eq0-clause-ok : goal.returns-then-many-eq0-clause-ok
 returns-then-many-eq0-clause-ok c =
