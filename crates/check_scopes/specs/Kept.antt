@@ -18,6 +18,7 @@ abbrev pub cut : List ℕ → Scope → Scopes
 cut [] es = []
 cut (size ∷ sizes) es = take size es ∷ cut sizes (drop size es)
 
+-- the open scopes, which callers see
 abbrev pub scopes : List Name → Numbered → List ℕ → Scopes
 scopes names es sizes = cut sizes (named names es)
 
@@ -34,6 +35,7 @@ Once s = (name : Name) → in_scope s name ≡ last_in s name
 abbrev pub IsNumbered : List Name → ℕ × Meaning → Type 0
 IsNumbered names e = number_of names (slice_index_or names e.0 []) ≡ Some e.0
 
+-- one scope at least is open, and each declaration stands in one
 abbrev pub Kept : List Name → Numbered → List ℕ → Type 0
 Kept names es sizes = record {
   some : 0 < length sizes;
