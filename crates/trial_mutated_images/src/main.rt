@@ -1,4 +1,5 @@
-//! Tries the machine on good image files with a few bits turned, 1,500 of them: each is refused, or stops as a second machine says.
+//! Tries the machine on good image files with a few bits turned, 1,000 of them: each is refused, or stops as a second
+//! machine says.
 #![tactic(auto)]
 
 use trial_image_rows::answer_rows;
