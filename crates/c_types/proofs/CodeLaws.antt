@@ -1,6 +1,6 @@
 -- Two lists of layers have the same code just where they are the same.
-use Rattle.std.proofs.Common.{◌≡◌, ℕ, ◌<◌, Bool, true, false, ◌&&◌, List, [], ◌∷◌, ◌++◌, map, nat_eq, ◌/◌, ◌%◌, refl}
-use Rattle.std.proofs.Common.{sym, ap, ◌∙◌, subst, arith}
+use Rattle.std.proofs.Common.{◌≡◌, ℕ, zero, suc, ◌+◌, ◌<◌, Bool, true, false, ◌&&◌, List, [], ◌∷◌, ◌++◌, map, nat_eq}
+use Rattle.std.proofs.Common.{◌/◌, ◌%◌, refl, sym, ap, ◌∙◌, subst, arith}
 use lib.Pointwise.{pointwise}
 use Rattle.std.specs.Prelude.{◌==◌}
 use Rattle.std.proofs.lemmas.List.{append_assoc}
@@ -15,8 +15,9 @@ use Rattle.c_types.specs.declared.ctype.Layer.TheFolds.{fold-roll-Layer, fold-ro
 use Rattle.c_types.specs.declared.ctype.Layer.TheFolds.{fold_out-CType, ind-Layer, map-Layer, map-CType}
 use Rattle.c_types.specs.Types.{Opened, same, same_layer, same_layers, same_integer, same_base, base_of, layers_of}
 use Rattle.c_types.specs.Types.{each_holds, same_at, same_layer_rule, same_rule}
-use Rattle.c_types.specs.Codes.{kind_code, base_code, array_code, joined, layer_rule, type_rule, layer_code, type_code}
-use Rattle.c_types.specs.Codes.{codes}
+use Rattle.c_types.specs.Codes.{kind_code, base_code, digits, more_digits, array_code, joined, layer_rule, type_rule}
+use Rattle.c_types.specs.Codes.{function_code, layer_code, type_code, codes}
+use Rattle.c_types.proofs.SymbolLaws.{and_assoc, and_true}
 
 -- ---- one code after another
 
@@ -28,13 +29,13 @@ Tells {A} code same x = (y : A) (s t : List ℕ) →
 -- a code that begins with something else than the mark at the end
 abbrev Begins : List ℕ → Type 0
 Begins [] = ⊥
-Begins (c ∷ cs) = c < 255
+Begins (c ∷ cs) = c < 15
 
-ends_here : (c s t : List ℕ) → Begins c → pointwise nat_eq (255 ∷ s) (c ++ t) ≡ false
+ends_here : (c s t : List ℕ) → Begins c → pointwise nat_eq (15 ∷ s) (c ++ t) ≡ false
 ends_here [] s t h = absurd h
 ends_here (c ∷ cs) s t h = grind (arith)
 
-goes_on : (c s t : List ℕ) → Begins c → pointwise nat_eq (c ++ s) (255 ∷ t) ≡ false
+goes_on : (c s t : List ℕ) → Begins c → pointwise nat_eq (c ++ s) (15 ∷ t) ≡ false
 goes_on [] s t h = absurd h
 goes_on (c ∷ cs) s t h = grind (arith)
 
@@ -47,10 +48,6 @@ begins_something : (c s : List ℕ) → Begins c → pointwise nat_eq (c ++ s) [
 begins_something [] s h = absurd h
 begins_something (c ∷ cs) s h = refl
 
-and_assoc : (a b c : Bool) → (a && (b && c)) ≡ ((a && b) && c)
-and_assoc true b c = refl
-and_assoc false b c = refl
-
 kinds : (a b : Integer) → nat_eq (kind_code a) (kind_code b) ≡ same_integer a b
 kinds a b = grind (arith)
 
@@ -60,21 +57,21 @@ module _ {A : Type 0} (code : A → List ℕ) (same : A → A → Bool) (begins 
 
   -- lists with a mark behind each
   listed : (ks : List Known) (ys : List A) (s t : List ℕ) →
-      pointwise nat_eq (joined (map code (map (λ k. k.0) ks)) ++ 255 ∷ s) (joined (map code ys) ++ 255 ∷ t) ≡
+      pointwise nat_eq (joined (map code (map (λ k. k.0) ks)) ++ 15 ∷ s) (joined (map code ys) ++ 15 ∷ t) ≡
       (each_holds (map same (map (λ k. k.0) ks)) ys && pointwise nat_eq s t)
   listed [] [] s t = refl
   listed [] (y ∷ ys) s t =
-      ap (λ c. pointwise nat_eq (255 ∷ s) c) (append_assoc (code y) (joined (map code ys)) (255 ∷ t))
-      ∙ ends_here (code y) s (joined (map code ys) ++ 255 ∷ t) (begins y)
+      ap (λ c. pointwise nat_eq (15 ∷ s) c) (append_assoc (code y) (joined (map code ys)) (15 ∷ t))
+      ∙ ends_here (code y) s (joined (map code ys) ++ 15 ∷ t) (begins y)
   listed (k ∷ ks) [] s t =
-      ap (λ c. pointwise nat_eq c (255 ∷ t)) (append_assoc (code k.0) (joined (map code (map (λ k. k.0) ks))) (255 ∷ s))
-      ∙ goes_on (code k.0) (joined (map code (map (λ k. k.0) ks)) ++ 255 ∷ s) t (begins k.0)
+      ap (λ c. pointwise nat_eq c (15 ∷ t)) (append_assoc (code k.0) (joined (map code (map (λ k. k.0) ks))) (15 ∷ s))
+      ∙ goes_on (code k.0) (joined (map code (map (λ k. k.0) ks)) ++ 15 ∷ s) t (begins k.0)
   listed (k ∷ ks) (y ∷ ys) s t =
       let xs = joined (map code (map (λ k. k.0) ks)) in
-      ap (λ c. pointwise nat_eq c ((code y ++ joined (map code ys)) ++ 255 ∷ t)) (append_assoc (code k.0) xs (255 ∷ s))
-      ∙ ap (λ c. pointwise nat_eq (code k.0 ++ (xs ++ 255 ∷ s)) c)
-      (append_assoc (code y) (joined (map code ys)) (255 ∷ t))
-      ∙ k.1 y (xs ++ 255 ∷ s) (joined (map code ys) ++ 255 ∷ t)
+      ap (λ c. pointwise nat_eq c ((code y ++ joined (map code ys)) ++ 15 ∷ t)) (append_assoc (code k.0) xs (15 ∷ s))
+      ∙ ap (λ c. pointwise nat_eq (code k.0 ++ (xs ++ 15 ∷ s)) c)
+      (append_assoc (code y) (joined (map code ys)) (15 ∷ t))
+      ∙ k.1 y (xs ++ 15 ∷ s) (joined (map code ys) ++ 15 ∷ t)
       ∙ ap (λ b. same k.0 y && b) (listed ks ys s t)
       ∙ and_assoc (same k.0 y) (each_holds (map same (map (λ k. k.0) ks)) ys) (pointwise nat_eq s t)
 
@@ -86,35 +83,92 @@ bases base.Void (base.Integer k) = grind (arith)
 bases (base.Integer k) base.Void = grind (arith)
 bases (base.Integer k) (base.Integer j) = kinds k j
 
--- a number by its low byte and the rest
-by_byte : (n m : ℕ) (r : Bool) → (nat_eq (n % 256) (m % 256) && (nat_eq (n / 256) (m / 256) && r)) ≡ ((n == m) && r)
-by_byte n m r = grind (arith)
+-- a number by its low digit and the rest
+by_digit : (n m : ℕ) (r : Bool) → (nat_eq (n % 16) (m % 16) && ((n / 16 == m / 16) && r)) ≡ ((n == m) && r)
+by_digit n m r = grind (arith)
 
-counts : (n m : ℕ) (r : Bool) →
-    (nat_eq (n % 256) (m % 256) &&
-    (nat_eq (n / 256 % 256) (m / 256 % 256) &&
-    (nat_eq (n / 256 / 256 % 256) (m / 256 / 256 % 256) && (nat_eq (n / 256 / 256 / 256) (m / 256 / 256 / 256) && r)))) ≡
-    ((n == m) && r)
-counts n m r =
-    ap (λ b. nat_eq (n % 256) (m % 256) && (nat_eq (n / 256 % 256) (m / 256 % 256) && b))
-    (by_byte (n / 256 / 256) (m / 256 / 256) r)
-    ∙ ap (λ b. nat_eq (n % 256) (m % 256) && b) (by_byte (n / 256) (m / 256) r)
-    ∙ by_byte n m r
+-- a number by as many digits
+counts : (more n m : ℕ) (s t : List ℕ) →
+    pointwise nat_eq (digits more n ++ s) (digits more m ++ t) ≡ ((n == m) && pointwise nat_eq s t)
+counts zero n m s t = refl
+counts (suc more) n m s t =
+    ap (λ b. nat_eq (n % 16) (m % 16) && b) (counts more (n / 16) (m / 16) s t) ∙ by_digit n m (pointwise nat_eq s t)
+
+-- as many digits
+same_count : (a b : ℕ) → nat_eq (7 + a) (7 + b) ≡ true → a ≡ b
+same_count a b h = grind (arith)
+
+-- the same number has as many digits
+as_many : (d : ℕ → ℕ) (n m : ℕ) → nat_eq (7 + d n) (7 + d m) ≡ false → (n == m) ≡ false
+as_many d n m h = grind (arith)
+
+-- a number with how many digits it has, however they are counted
+counted : (d : ℕ → ℕ) (n m : ℕ) (s t : List ℕ) (b : Bool) → nat_eq (7 + d n) (7 + d m) ≡ b →
+    (nat_eq (7 + d n) (7 + d m) && pointwise nat_eq (digits (d n) n ++ s) (digits (d m) m ++ t)) ≡
+    ((n == m) && pointwise nat_eq s t)
+counted d n m s t true h =
+    rw h (ap (λ k. pointwise nat_eq (digits k n ++ s) (digits (d m) m ++ t)) (same_count (d n) (d m) h)
+    ∙ counts (d m) n m s t)
+counted d n m s t false h = rw (h, as_many d n m h) refl
 
 -- an array by its length
 arrays : (n m : ℕ) (s t : List ℕ) →
     pointwise nat_eq (array_code n ++ s) (array_code m ++ t) ≡ ((n == m) && pointwise nat_eq s t)
-arrays n m s t = grind (arith, by_byte n m (pointwise nat_eq s t), counts n m (pointwise nat_eq s t))
+arrays n m s t = counted more_digits n m s t (nat_eq (7 + more_digits n) (7 + more_digits m)) refl
+
+-- no more than the symbols below the mark at the end tell
+few_digits : (n : ℕ) → more_digits n < 8
+few_digits n = grind (arith)
 
 array_begins : (n : ℕ) → Begins (array_code n)
-array_begins n = grind (arith)
+array_begins n = omega (arith, few_digits n)
 
 -- the code of another layer beside that of an array
-other_beside_array : (c m : ℕ) (s t : List ℕ) → c < 5 → pointwise nat_eq (c ∷ s) (array_code m ++ t) ≡ false
-other_beside_array c m s t h = grind (arith)
+below_array : (c d : ℕ) → c < 7 → nat_eq c (7 + d) ≡ false
+below_array c d h = grind (arith)
 
-array_beside_other : (n c : ℕ) (s t : List ℕ) → c < 5 → pointwise nat_eq (array_code n ++ s) (c ∷ t) ≡ false
-array_beside_other n c s t h = grind (arith)
+above_others : (d c : ℕ) → c < 7 → nat_eq (7 + d) c ≡ false
+above_others d c h = grind (arith)
+
+other_beside_array : (c m : ℕ) (s t : List ℕ) → c < 7 → pointwise nat_eq (c ∷ s) (array_code m ++ t) ≡ false
+other_beside_array c m s t h =
+    ap (λ b. b && pointwise nat_eq s (digits (more_digits m) m ++ t)) (below_array c (more_digits m) h)
+
+array_beside_other : (n c : ℕ) (s t : List ℕ) → c < 7 → pointwise nat_eq (array_code n ++ s) (c ∷ t) ≡ false
+array_beside_other n c s t h =
+    ap (λ b. b && pointwise nat_eq (digits (more_digits n) n ++ s) t) (above_others (more_digits n) c h)
+
+-- the code of a function beside that of another layer
+other_beside_function : (c : ℕ) (cs : List (List ℕ)) (s t : List ℕ) → c < 4 →
+    pointwise nat_eq (c ∷ s) (function_code cs ++ t) ≡ false
+other_beside_function c [] s t h = grind (arith)
+other_beside_function c (d ∷ []) s t h = grind (arith)
+other_beside_function c (d ∷ e ∷ cs) s t h = grind (arith)
+
+function_beside_other : (cs : List (List ℕ)) (c : ℕ) (s t : List ℕ) → c < 4 →
+    pointwise nat_eq (function_code cs ++ s) (c ∷ t) ≡ false
+function_beside_other [] c s t h = grind (arith)
+function_beside_other (d ∷ []) c s t h = grind (arith)
+function_beside_other (d ∷ e ∷ cs) c s t h = grind (arith)
+
+function_beside_array : (cs : List (List ℕ)) (m : ℕ) (s t : List ℕ) →
+    pointwise nat_eq (function_code cs ++ s) (array_code m ++ t) ≡ false
+function_beside_array [] m s t = other_beside_array 4 m s t (omega arith)
+function_beside_array (c ∷ []) m s t = other_beside_array 5 m (c ++ s) t (omega arith)
+function_beside_array (c ∷ d ∷ cs) m s t =
+    other_beside_array 6 m ((joined (c ∷ d ∷ cs) ++ 15 ∷ []) ++ s) t (omega arith)
+
+array_beside_function : (n : ℕ) (cs : List (List ℕ)) (s t : List ℕ) →
+    pointwise nat_eq (array_code n ++ s) (function_code cs ++ t) ≡ false
+array_beside_function n [] s t = array_beside_other n 4 s t (omega arith)
+array_beside_function n (c ∷ []) s t = array_beside_other n 5 s (c ++ t) (omega arith)
+array_beside_function n (c ∷ d ∷ cs) s t =
+    array_beside_other n 6 s ((joined (c ∷ d ∷ cs) ++ 15 ∷ []) ++ t) (omega arith)
+
+function_begins : (cs : List (List ℕ)) → Begins (function_code cs)
+function_begins [] = omega arith
+function_begins (c ∷ []) = omega arith
+function_begins (c ∷ d ∷ cs) = omega arith
 
 -- ---- layers and types
 
@@ -123,7 +177,7 @@ begins_at Layer-F.Pointer = omega arith
 begins_at Layer-F.Unlisted = omega arith
 begins_at Layer-F.Cspec = omega arith
 begins_at Layer-F.Vspec = omega arith
-begins_at (Layer-F.Function cs) = omega arith
+begins_at (Layer-F.Function cs) = function_begins cs
 begins_at (Layer-F.Array n) = array_begins n
 
 -- a layer of codes
@@ -135,7 +189,7 @@ unfolding layer_code type_code
 layer_begins l = subst Begins (sym (fold_out-Layer (List ℕ) (List ℕ) layer_rule type_rule l))
     (begins_at (coded (out-Layer l)))
 
-base_begins : (b : Base) → base_code b < 255
+base_begins : (b : Base) → base_code b < 15
 base_begins base.Void = omega arith
 base_begins (base.Integer kind.Char) = omega arith
 base_begins (base.Integer kind.UnsignedChar) = omega arith
@@ -162,53 +216,74 @@ plain y = map-Layer KnownLayer KnownType Layer CType (λ k. k.0) (λ k. k.0) y
 abbrev asked : Opened → Layer-F (Layer → Bool) (CType → Bool)
 asked o = map-Layer Layer CType (Layer → Bool) (CType → Bool) same_layer same o
 
+none_holds : (b c : Bool) → false ≡ ((b && false) && c)
+none_holds true c = refl
+none_holds false c = refl
+
+-- functions of known types
+functions : (ks : List KnownType) (ys : List CType) (s t : List ℕ) →
+    pointwise nat_eq (function_code (map type_code (map (λ k. k.0) ks)) ++ s) (function_code (map type_code ys) ++ t) ≡
+    (each_holds (map same (map (λ k. k.0) ks)) ys && pointwise nat_eq s t)
+functions [] [] s t = refl
+functions [] (y ∷ []) s t = refl
+functions [] (y ∷ z ∷ ys) s t = refl
+functions (k ∷ []) [] s t = refl
+functions (k ∷ []) (y ∷ []) s t = k.1 y s t ∙ ap (λ b. b && pointwise nat_eq s t) (sym (and_true (same k.0 y)))
+functions (k ∷ []) (y ∷ z ∷ ys) s t = none_holds (same k.0 y) (pointwise nat_eq s t)
+functions (k ∷ j ∷ ks) [] s t = refl
+functions (k ∷ j ∷ ks) (y ∷ []) s t = none_holds (same k.0 y) (pointwise nat_eq s t)
+functions (k ∷ j ∷ ks) (y ∷ z ∷ ys) s t =
+    ap (λ c. pointwise nat_eq c ((joined (map type_code (y ∷ z ∷ ys)) ++ 15 ∷ []) ++ t))
+    (append_assoc (joined (map type_code (map (λ k. k.0) (k ∷ j ∷ ks)))) (15 ∷ []) s)
+    ∙ ap (λ c. pointwise nat_eq (joined (map type_code (map (λ k. k.0) (k ∷ j ∷ ks))) ++ 15 ∷ s) c)
+    (append_assoc (joined (map type_code (y ∷ z ∷ ys))) (15 ∷ []) t)
+    ∙ listed type_code same type_begins (k ∷ j ∷ ks) (y ∷ z ∷ ys) s t
+
 -- layers of known parts
 opened : (y : Layer-F KnownLayer KnownType) (b : Opened) (s t : List ℕ) →
     pointwise nat_eq (layer_rule (coded (plain y)) ++ s) (layer_rule (coded b) ++ t) ≡
     (same_at (asked (plain y)) b && pointwise nat_eq s t)
-opened (Layer-F.Function ks) (Layer-F.Function ys) s t =
-    ap (λ c. pointwise nat_eq c ((joined (map type_code ys) ++ 255 ∷ []) ++ t))
-    (append_assoc (joined (map type_code (map (λ k. k.0) ks))) (255 ∷ []) s)
-    ∙ ap (λ c. pointwise nat_eq (joined (map type_code (map (λ k. k.0) ks)) ++ 255 ∷ s) c)
-    (append_assoc (joined (map type_code ys)) (255 ∷ []) t)
-    ∙ listed type_code same type_begins ks ys s t
+opened (Layer-F.Function ks) (Layer-F.Function ys) s t = functions ks ys s t
 opened (Layer-F.Array n) (Layer-F.Array m) s t = arrays n m s t
 opened Layer-F.Pointer Layer-F.Pointer s t = refl
 opened Layer-F.Pointer Layer-F.Unlisted s t = refl
 opened Layer-F.Pointer Layer-F.Cspec s t = refl
 opened Layer-F.Pointer Layer-F.Vspec s t = refl
-opened Layer-F.Pointer (Layer-F.Function ys) s t = refl
+opened Layer-F.Pointer (Layer-F.Function ys) s t = other_beside_function 0 (map type_code ys) s t (omega arith)
 opened Layer-F.Pointer (Layer-F.Array m) s t = other_beside_array 0 m s t (omega arith)
 opened Layer-F.Unlisted Layer-F.Pointer s t = refl
 opened Layer-F.Unlisted Layer-F.Unlisted s t = refl
 opened Layer-F.Unlisted Layer-F.Cspec s t = refl
 opened Layer-F.Unlisted Layer-F.Vspec s t = refl
-opened Layer-F.Unlisted (Layer-F.Function ys) s t = refl
+opened Layer-F.Unlisted (Layer-F.Function ys) s t = other_beside_function 1 (map type_code ys) s t (omega arith)
 opened Layer-F.Unlisted (Layer-F.Array m) s t = other_beside_array 1 m s t (omega arith)
 opened Layer-F.Cspec Layer-F.Pointer s t = refl
 opened Layer-F.Cspec Layer-F.Unlisted s t = refl
 opened Layer-F.Cspec Layer-F.Cspec s t = refl
 opened Layer-F.Cspec Layer-F.Vspec s t = refl
-opened Layer-F.Cspec (Layer-F.Function ys) s t = refl
+opened Layer-F.Cspec (Layer-F.Function ys) s t = other_beside_function 2 (map type_code ys) s t (omega arith)
 opened Layer-F.Cspec (Layer-F.Array m) s t = other_beside_array 2 m s t (omega arith)
 opened Layer-F.Vspec Layer-F.Pointer s t = refl
 opened Layer-F.Vspec Layer-F.Unlisted s t = refl
 opened Layer-F.Vspec Layer-F.Cspec s t = refl
 opened Layer-F.Vspec Layer-F.Vspec s t = refl
-opened Layer-F.Vspec (Layer-F.Function ys) s t = refl
+opened Layer-F.Vspec (Layer-F.Function ys) s t = other_beside_function 3 (map type_code ys) s t (omega arith)
 opened Layer-F.Vspec (Layer-F.Array m) s t = other_beside_array 3 m s t (omega arith)
-opened (Layer-F.Function ks) Layer-F.Pointer s t = refl
-opened (Layer-F.Function ks) Layer-F.Unlisted s t = refl
-opened (Layer-F.Function ks) Layer-F.Cspec s t = refl
-opened (Layer-F.Function ks) Layer-F.Vspec s t = refl
+opened (Layer-F.Function ks) Layer-F.Pointer s t =
+    function_beside_other (map type_code (map (λ k. k.0) ks)) 0 s t (omega arith)
+opened (Layer-F.Function ks) Layer-F.Unlisted s t =
+    function_beside_other (map type_code (map (λ k. k.0) ks)) 1 s t (omega arith)
+opened (Layer-F.Function ks) Layer-F.Cspec s t =
+    function_beside_other (map type_code (map (λ k. k.0) ks)) 2 s t (omega arith)
+opened (Layer-F.Function ks) Layer-F.Vspec s t =
+    function_beside_other (map type_code (map (λ k. k.0) ks)) 3 s t (omega arith)
 opened (Layer-F.Function ks) (Layer-F.Array m) s t =
-    other_beside_array 4 m ((joined (map type_code (map (λ k. k.0) ks)) ++ 255 ∷ []) ++ s) t (omega arith)
+    function_beside_array (map type_code (map (λ k. k.0) ks)) m s t
 opened (Layer-F.Array n) Layer-F.Pointer s t = array_beside_other n 0 s t (omega arith)
 opened (Layer-F.Array n) Layer-F.Unlisted s t = array_beside_other n 1 s t (omega arith)
 opened (Layer-F.Array n) Layer-F.Cspec s t = array_beside_other n 2 s t (omega arith)
 opened (Layer-F.Array n) Layer-F.Vspec s t = array_beside_other n 3 s t (omega arith)
-opened (Layer-F.Array n) (Layer-F.Function ys) s t =
-    array_beside_other n 4 s ((joined (map type_code ys) ++ 255 ∷ []) ++ t) (omega arith)
+opened (Layer-F.Array n) (Layer-F.Function ys) s t = array_beside_function n (map type_code ys) s t
 
 abbrev known_type : CType-F KnownLayer KnownType → CType-F Layer CType
 known_type y = map-CType KnownLayer KnownType Layer CType (λ k. k.0) (λ k. k.0) y
@@ -227,18 +302,18 @@ layer_step y b s t =
     (sym (fold-roll-Layer (Layer → Bool) (CType → Bool) same_layer_rule same_rule (plain y)))
 
 type_opened : (y : CType-F KnownLayer KnownType) (b : CType) (s t : List ℕ) →
-    pointwise nat_eq ((base_code y.base ∷ (joined (map layer_code (map (λ k. k.0) y.layers)) ++ 255 ∷ [])) ++ s)
-    ((base_code (base_of b) ∷ (joined (map layer_code (layers_of b)) ++ 255 ∷ [])) ++ t) ≡
+    pointwise nat_eq ((base_code y.base ∷ (joined (map layer_code (map (λ k. k.0) y.layers)) ++ 15 ∷ [])) ++ s)
+    ((base_code (base_of b) ∷ (joined (map layer_code (layers_of b)) ++ 15 ∷ [])) ++ t) ≡
     ((same_base y.base (base_of b) && each_holds (map same_layer (map (λ k. k.0) y.layers)) (layers_of b)) && pointwise
     nat_eq s t)
 type_opened y b s t =
     let xs = joined (map layer_code (map (λ k. k.0) y.layers)) in
     let ys = joined (map layer_code (layers_of b)) in
-    ap (λ c. nat_eq (base_code y.base) (base_code (base_of b)) && pointwise nat_eq c ((ys ++ 255 ∷ []) ++ t))
-    (append_assoc xs (255 ∷ []) s)
-    ∙ ap (λ c. nat_eq (base_code y.base) (base_code (base_of b)) && pointwise nat_eq (xs ++ 255 ∷ s) c)
-    (append_assoc ys (255 ∷ []) t)
-    ∙ ap (λ c. c && pointwise nat_eq (xs ++ 255 ∷ s) (ys ++ 255 ∷ t)) (bases y.base (base_of b))
+    ap (λ c. nat_eq (base_code y.base) (base_code (base_of b)) && pointwise nat_eq c ((ys ++ 15 ∷ []) ++ t))
+    (append_assoc xs (15 ∷ []) s)
+    ∙ ap (λ c. nat_eq (base_code y.base) (base_code (base_of b)) && pointwise nat_eq (xs ++ 15 ∷ s) c)
+    (append_assoc ys (15 ∷ []) t)
+    ∙ ap (λ c. c && pointwise nat_eq (xs ++ 15 ∷ s) (ys ++ 15 ∷ t)) (bases y.base (base_of b))
     ∙ ap (λ c. same_base y.base (base_of b) && c) (listed layer_code same_layer layer_begins y.layers (layers_of b) s t)
     ∙ and_assoc (same_base y.base (base_of b)) (each_holds (map same_layer (map (λ k. k.0) y.layers)) (layers_of b))
     (pointwise nat_eq s t)

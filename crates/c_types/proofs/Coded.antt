@@ -2,8 +2,8 @@
 use Rattle.std.proofs.Common.{◌≡◌, ℕ, zero, suc, ◌+◌, ◌-◌, ◌<◌, inr, ◌≤◌, false, List, [], ◌∷◌, ◌++◌, length, take}
 use Rattle.std.proofs.Common.{get_or, nat_eq, refl, sym, ap, ◌∙◌, arith, Some, None}
 use Rattle.std.specs.Prelude.{min, slice_get}
-use Rattle.std.proofs.lemmas.List.{take-map, take-take, length-take, length-take-le, length-append, length-map, take_all}
-use Rattle.std.proofs.lemmas.List.{nil_from_length, append-nil, append_assoc}
+use Rattle.std.proofs.lemmas.List.{take-map, take-take, length-take, length-take-le, length-append, length-map}
+use Rattle.std.proofs.lemmas.List.{take_all, nil_from_length, append-nil, append_assoc}
 use Rattle.c_types.specs.declared.ctype.CType.{CType}
 use Rattle.c_types.specs.declared.ctype.Layer.{Layer, out-Layer}
 use Rattle.c_types.specs.declared.ctype.Layer.TheFolds.{fold_out-Layer, fold_out-CType, map-Layer}
@@ -94,14 +94,14 @@ within_code (x ∷ row) (suc k) =
     )
 
 -- there is a code of so many
-enough_of : (row : List Layer) (bytes es : List ℕ) (k : ℕ) → bytes ≡ codes row → es ≡ ends 0 row → k ≤ length row →
-    end_of es k ≤ length bytes
-enough_of row bytes es k h e within = rw (h, e, end_is row k within) (within_code row k)
+enough_of : (row : List Layer) (symbols es : List ℕ) (k : ℕ) → symbols ≡ codes row → es ≡ ends 0 row → k ≤ length row →
+    end_of es k ≤ length symbols
+enough_of row symbols es k h e within = rw (h, e, end_is row k within) (within_code row k)
 
 -- the code of the first so many
-first_of : (row : List Layer) (bytes es : List ℕ) (k : ℕ) → bytes ≡ codes row → es ≡ ends 0 row →
-    k ≤ length row → take (end_of es k) bytes ≡ codes (take k row)
-first_of row bytes es k h e within = rw (h, e, end_is row k within) (first_code row k)
+first_of : (row : List Layer) (symbols es : List ℕ) (k : ℕ) → symbols ≡ codes row → es ≡ ends 0 row →
+    k ≤ length row → take (end_of es k) symbols ≡ codes (take k row)
+first_of row symbols es k h e within = rw (h, e, end_is row k within) (first_code row k)
 
 -- ---- where the first layers alone have a code
 
@@ -115,20 +115,21 @@ within_first : (row : List Layer) (es : List ℕ) (k : ℕ) → es ≡ ends 0 (t
 within_first row es k e h = omega (arith, h, ap length e, many_ends 0 (take (length es) row))
 
 -- there is a code of so many
-pub enough : (row : List Layer) (bytes es : List ℕ) (k : ℕ) → bytes ≡ codes (take (length es) row) →
-    es ≡ ends 0 (take (length es) row) → k ≤ length es → end_of es k ≤ length bytes
-enough row bytes es k h e within =
-    enough_of (take (length es) row) bytes es k h e (within_first row es k e within)
+pub enough : (row : List Layer) (symbols es : List ℕ) (k : ℕ) → symbols ≡ codes (take (length es) row) →
+    es ≡ ends 0 (take (length es) row) → k ≤ length es → end_of es k ≤ length symbols
+enough row symbols es k h e within =
+    enough_of (take (length es) row) symbols es k h e (within_first row es k e within)
 
 -- the code of the first so many
-pub first_coded : (row : List Layer) (bytes es : List ℕ) (k : ℕ) → bytes ≡ codes (take (length es) row) →
-    es ≡ ends 0 (take (length es) row) → k ≤ length es → take (end_of es k) bytes ≡ codes (take k row)
-first_coded row bytes es k h e within =
-    first_of (take (length es) row) bytes es k h e (within_first row es k e within)
+pub first_coded : (row : List Layer) (symbols es : List ℕ) (k : ℕ) → symbols ≡ codes (take (length es) row) →
+    es ≡ ends 0 (take (length es) row) → k ≤ length es → take (end_of es k) symbols ≡ codes (take k row)
+first_coded row symbols es k h e within =
+    first_of (take (length es) row) symbols es k h e (within_first row es k e within)
     ∙ ap codes (take-take k (length es) row within)
 
 lists_cut : (row : List Layer) (lists : List (List Code)) (n k : ℕ) → lists ≡ codes_of_lists (take (length lists) row) →
-    k ≡ min (length lists) n → n ≤ length row → take k lists ≡ codes_of_lists (take (length (take k lists)) (take n row))
+    k ≡ min (length lists) n → n ≤ length row →
+    take k lists ≡ codes_of_lists (take (length (take k lists)) (take n row))
 lists_cut row lists n k h e within =
     let long : length (take k lists) ≡ k = length-take-le k lists (omega (arith, e)) in
     ap (take k) h
@@ -137,15 +138,15 @@ lists_cut row lists n k h e within =
     sym (take-take k n row (omega (arith, e))) ∙ ap (λ m. take m (take n row)) (sym long))
 
 -- of the first layers alone
-pub cut_lent : (row : List Layer) (bytes es : List ℕ) (lists : List (List Code)) (n k m : ℕ) →
-    AreLent row bytes es lists → n ≤ length row → k ≡ min (length es) n → m ≡ min (length lists) n →
-    AreLent (take n row) (take (end_of es k) bytes) (take k es) (take m lists)
-cut_lent row bytes es lists n k m h within c e =
+pub cut_lent : (row : List Layer) (symbols es : List ℕ) (lists : List (List Code)) (n k m : ℕ) →
+    AreLent row symbols es lists → n ≤ length row → k ≡ min (length es) n → m ≡ min (length lists) n →
+    AreLent (take n row) (take (end_of es k) symbols) (take k es) (take m lists)
+cut_lent row symbols es lists n k m h within c e =
     let long : length (take k es) ≡ k = length-take-le k es (omega (arith, c)) in
     let rest : take k row ≡ take (length (take k es)) (take n row) =
     sym (take-take k n row (omega (arith, c))) ∙ ap (λ j. take j (take n row)) (sym long) in
     record {
-      coded = first_coded row bytes es k h.coded h.ended (omega (arith, c)) ∙ ap codes rest;
+      coded = first_coded row symbols es k h.coded h.ended (omega (arith, c)) ∙ ap codes rest;
       ended =
           ap (take k) h.ended
           ∙ first_ends 0 (take (length es) row) k
@@ -154,9 +155,9 @@ cut_lent row bytes es lists n k m h within c e =
     }
 
 -- of all the layers
-pub all_lent : (row : List Layer) (bytes es : List ℕ) (lists : List (List Code)) → bytes ≡ codes row → es ≡ ends 0 row →
-    lists ≡ codes_of_lists row → AreLent row bytes es lists
-all_lent row bytes es lists h e listed =
+pub all_lent : (row : List Layer) (symbols es : List ℕ) (lists : List (List Code)) → symbols ≡ codes row →
+    es ≡ ends 0 row → lists ≡ codes_of_lists row → AreLent row symbols es lists
+all_lent row symbols es lists h e listed =
     let long : length lists ≡ length row = ap length listed ∙ length-map row codes_in in
     let all : row ≡ take (length es) row =
     sym (take_all (length es) row (omega (arith, ap length e, many_ends 0 row))) in
@@ -167,12 +168,12 @@ all_lent row bytes es lists h e listed =
     }
 
 -- of all the layers, without the codes of lists
-pub alone_lent : (row : List Layer) (code : Code) → code ≡ code_of row → AreLent row code.bytes code.ends []
+pub alone_lent : (row : List Layer) (code : Code) → code ≡ code_of row → AreLent row code.symbols code.ends []
 alone_lent row code h =
     let e : code.ends ≡ ends 0 row = ap (λ c. c.ends) h in
     let all : row ≡ take (length code.ends) row =
     sym (take_all (length code.ends) row (omega (arith, ap length e, many_ends 0 row))) in
-    record { coded = ap (λ c. c.bytes) h ∙ ap codes all; ended = e ∙ ap (ends 0) all; listed = refl }
+    record { coded = ap (λ c. c.symbols) h ∙ ap codes all; ended = e ∙ ap (ends 0) all; listed = refl }
 
 -- ---- the types of lists
 
@@ -210,7 +211,8 @@ list_at_place (x ∷ row) (suc k) cs h e = list_at_place row k cs (omega (arith,
 
 -- the codes of the outermost layer's list
 pub last_list : (row more : List Layer) (lists : List (List Code)) (cs : List Code) → length more ≡ 0 → 0 < length row →
-    length lists ≡ length row → lists ≡ codes_of_lists (take (length lists) row) → cs ≡ get_or lists (length row - 1) cs →
+    length lists ≡ length row → lists ≡ codes_of_lists (take (length lists) row) →
+    cs ≡ get_or lists (length row - 1) cs →
     CodesOf (outermost (row ++ more)) cs
 last_list row more lists cs none some long listed read =
     let all : lists ≡ codes_of_lists row =

@@ -1,3 +1,4 @@
+pub mod SymbolLaws
 pub mod CodeLaws
 pub mod ExtentLaws
 pub mod SameLaws

@@ -1,6 +1,6 @@
 -- Two lists of layers are the same where the codes of their first layers are, and the others one by one.
 use Rattle.std.proofs.Common.{◌≡◌, ℕ, zero, suc, ◌+◌, ◌≤◌, Bool, true, false, ◌&&◌, List, [], ◌∷◌, ◌++◌, length, take}
-use Rattle.std.proofs.Common.{drop, nat_eq, refl, sym, ap, ◌∙◌, arith, add-one, not, Some, None}
+use Rattle.std.proofs.Common.{drop, nat_eq, refl, sym, ap, ◌∙◌, arith, add-one, Some, None}
 use lib.Pointwise.{pointwise}
 use Rattle.std.specs.Prelude.{min, slice_get}
 use Rattle.std.proofs.lemmas.List.{take-append-le, length-append, drop_all}
@@ -22,14 +22,6 @@ split (suc k) (x ∷ xs) (y ∷ ys) h e = grind (arith, split k xs ys)
 
 -- ---- two types, by the tags of their first layers and then layer by layer
 
-not_so : (b : Bool) → true ≡ not b → b ≡ false
-not_so true h = h
-not_so false h = refl
-
-is_so : (b : Bool) → false ≡ not b → b ≡ true
-is_so true h = refl
-is_so false h = h
-
 module _ (ra ma rb mb as_ bs : List Layer) (ca cb ea eb : List ℕ) (la lb : List (List Code)) (k : ℕ)
     (ha : AreLent ra ca ea la) (hb : AreLent rb cb eb lb) (va : ra ++ ma ≡ as_) (vb : rb ++ mb ≡ bs)
     (both : k ≡ min (length ea) (length eb)) (fa fb : List ℕ) (sa : fa ≡ take (end_of ea k) ca)
@@ -50,14 +42,14 @@ module _ (ra ma rb mb as_ bs : List Layer) (ca cb ea eb : List ℕ) (la lb : Lis
       ∙ ap (λ l. same_layers (take k as_) l)
       (sym (take-append-le k rb mb (omega (arith, both, coded_within rb eb hb.ended))) ∙ ap (take k) vb)
 
-  pub codes_differ : true ≡ not (pointwise nat_eq fa fb) → false ≡ same_layers as_ bs
+  pub codes_differ : pointwise nat_eq fa fb ≡ false → false ≡ same_layers as_ bs
   codes_differ h =
-      let first : same_layers (take k as_) (take k bs) ≡ false = sym first_same ∙ not_so _ h in
+      let first : same_layers (take k as_) (take k bs) ≡ false = sym first_same ∙ h in
       sym (split k as_ bs within long ∙ ap (λ b. b && same_layers (drop k as_) (drop k bs)) first)
 
-  pub codes_agree : false ≡ not (pointwise nat_eq fa fb) → same_layers (drop k as_) (drop k bs) ≡ same_layers as_ bs
+  pub codes_agree : pointwise nat_eq fa fb ≡ true → same_layers (drop k as_) (drop k bs) ≡ same_layers as_ bs
   codes_agree h =
-      let first : same_layers (take k as_) (take k bs) ≡ true = sym first_same ∙ is_so _ h in
+      let first : same_layers (take k as_) (take k bs) ≡ true = sym first_same ∙ h in
       sym (split k as_ bs within long ∙ ap (λ b. b && same_layers (drop k as_) (drop k bs)) first)
 
 same_item : (x y : Layer) → Some x ≡ Some y → x ≡ y

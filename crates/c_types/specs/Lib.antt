@@ -1,5 +1,6 @@
 pub mod Types
 pub mod Kinds
+pub mod Symbols
 pub mod Codes
 pub mod Extents
 pub mod Shared

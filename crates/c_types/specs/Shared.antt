@@ -15,8 +15,8 @@ use Rattle.c_types.specs.Extents.{start, extents}
 -- the first of the layers have this code, which ends there for each, and the types of the lists of the first of them
 -- have these
 abbrev pub AreLent : List Layer → List ℕ → List ℕ → List (List Code) → Type 0
-AreLent row bytes ends lists = record {
-  coded : bytes ≡ codes (take (length ends) row);
+AreLent row symbols ends lists = record {
+  coded : symbols ≡ codes (take (length ends) row);
   ended : ends ≡ Codes.ends 0 (take (length ends) row);
   listed : lists ≡ codes_of_lists (take (length lists) row);
 }
@@ -39,7 +39,7 @@ CodesOf (Some l) lists = (lists ≡ []) ⊎ (lists ≡ codes_in l)
 -- each of them
 abbrev pub IsRow : Base → List Layer → Code → List (List Code) → List Extent → Type 0
 IsRow b row code lists sizes = record {
-  lent : AreLent row code.bytes code.ends lists;
+  lent : AreLent row code.symbols code.ends lists;
   counted : (sizes ≡ []) ⊎ (sizes ≡ extents (start b) row);
 }
 

@@ -1,18 +1,20 @@
-//! A byte code of layers, with those in their lists of parameters, so that types are compared as bytes.
+//! A code of layers, with those in their lists of parameters, so that types are compared as bytes.
 
-ghost use Rattle.std.specs.Prelude.{◌≡◌, [], ◌++◌, ◌≤◌, length, take, IfOk, OnOk};
+ghost use Rattle.std.specs.Prelude.{◌≡◌, [], ◌++◌, ◌<◌, ◌≤◌, length, map, take, IfOk, OnOk};
 ghost use Rattle.c_types.specs.Types as types;
 ghost use Rattle.c_types.specs.Codes as spec;
 
 use crate::ctype::{Base, CType, Integer, Layer};
+use crate::symbols::{LentSymbols, Symbols};
 use sqlite_items::Items;
 use std::alloc::{AllocError, Global};
 
 /// What ends a list of codes, and begins none.
-const END_MARK: u8 = 255;
+const END_MARK: u8 = 15;
 
 fn kind_code(kind: Integer) -> u8
-    ensures { result ≡ spec.kind_code kind }
+    ensures value { result ≡ spec.kind_code kind }
+    ensures symbol { result < 7 }
 {
     match kind {
         Integer::Char => 1,
@@ -25,7 +27,8 @@ fn kind_code(kind: Integer) -> u8
 }
 
 fn base_code(base: Base) -> u8
-    ensures { result ≡ spec.base_code base }
+    ensures value { result ≡ spec.base_code base }
+    ensures symbol { result < 7 }
 {
     match base {
         Base::Void => 0,
@@ -33,36 +36,54 @@ fn base_code(base: Base) -> u8
     }
 }
 
-// Writes the four bytes of a count, the low one first.
-fn write_count(count: u32, code: &mut Items<u8>) -> Result<(), AllocError>
-    ensures { OnOk result (code.new ≡ code.old ++ spec.digits count) }
+// How many hexadecimal digits a length has beyond the first.
+fn more_digits(count: u32) -> u8
+    ensures value { result ≡ spec.more_digits count }
+    ensures fits { count < spec.beyond result }
 {
-    code.push((count % 256) as u8)?;
-    code.push((count / 256 % 256) as u8)?;
-    code.push((count / 256 / 256 % 256) as u8)?;
-    code.push((count / 256 / 256 / 256) as u8)
+    if count < 0x10 {
+        0
+    } else if count < 0x100 {
+        1
+    } else if count < 0x1000 {
+        2
+    } else if count < 0x1_0000 {
+        3
+    } else if count < 0x10_0000 {
+        4
+    } else if count < 0x100_0000 {
+        5
+    } else if count < 0x1000_0000 {
+        6
+    } else {
+        7
+    }
 }
 
-// Writes the code of an array: the first byte says how many bytes the length takes.
-fn write_array(count: u32, code: &mut Items<u8>) -> Result<(), AllocError>
+// Writes the hexadecimal digits of a number, so many and one more, the low one first.
+fn write_digits(more: u8, count: u32, code: &mut Symbols) -> Result<(), AllocError>
+    requires { count < spec.beyond more }
+    ensures { OnOk result (code.new ≡ code.old ++ spec.digits more count) }
+{
+    if more == 0 {
+        return code.push(count as u8);
+    }
+    code.push((count % 16) as u8)?;
+    write_digits(more - 1, count / 16, code)
+}
+
+// Writes the code of an array: the first symbol says how many digits the length has.
+fn write_array(count: u32, code: &mut Symbols) -> Result<(), AllocError>
     ensures { OnOk result (code.new ≡ code.old ++ spec.array_code count) }
 {
-    if count < 256 {
-        code.push(6)?;
-        code.push(count as u8)
-    } else if count < 65536 {
-        code.push(7)?;
-        code.push((count % 256) as u8)?;
-        code.push((count / 256) as u8)
-    } else {
-        code.push(5)?;
-        write_count(count, code)
-    }
+    let more = more_digits(count);
+    code.push(7 + more)?;
+    write_digits(more, count, code)
 }
 
 // Writes the code of a layer.
 #[cycle(write)]
-fn write_layer(layer: &Layer, code: &mut Items<u8>) -> Result<(), AllocError>
+fn write_layer(layer: &Layer, code: &mut Symbols) -> Result<(), AllocError>
     ensures { OnOk result (code.new ≡ code.old ++ spec.layer_code layer.now) }
 {
     match layer {
@@ -70,30 +91,38 @@ fn write_layer(layer: &Layer, code: &mut Items<u8>) -> Result<(), AllocError>
         Layer::Unlisted => code.push(1)?,
         Layer::Cspec => code.push(2)?,
         Layer::Vspec => code.push(3)?,
-        Layer::Function(list) => {
-            code.push(4)?;
-            write_list(list.as_slice(), code)?
-        }
+        Layer::Function(list) => write_function(list.as_slice(), code)?,
         Layer::Array(count) => write_array(*count, code)?,
     }
     Ok(())
 }
 
-// Writes the codes of the types of a list.
+// Writes the code of a function: the first symbol tells whether its list has no type, one, or more, with a mark behind
+// them.
 #[cycle(write)]
-fn write_list(list: &[CType], code: &mut Items<u8>) -> Result<(), AllocError>
-    ensures { OnOk result (code.new ≡ code.old ++ spec.list_code list.now) }
+fn write_function(list: &[CType], code: &mut Symbols) -> Result<(), AllocError>
+    ensures { OnOk result (code.new ≡ code.old ++ spec.function_code (map spec.type_code list.now)) }
 {
-    for t in list {
-        write_type(t, code)?;
+    match list {
+        [] => code.push(4),
+        [only] => {
+            code.push(5)?;
+            write_type(only, code)
+        }
+        _ => {
+            code.push(6)?;
+            for t in list {
+                write_type(t, code)?;
+            }
+            code.push(END_MARK)
+        }
     }
-    code.push(END_MARK)
 }
 
 // Writes the code of a type of a list.
 #[cycle(write)]
 #[tactic(auto, using(crate::proofs::Coded::of_type))]
-fn write_type(t: &CType, code: &mut Items<u8>) -> Result<(), AllocError>
+fn write_type(t: &CType, code: &mut Symbols) -> Result<(), AllocError>
     ensures { OnOk result (code.new ≡ code.old ++ spec.type_code t.now) }
 {
     code.push(base_code(t.base))?;
@@ -102,7 +131,7 @@ fn write_type(t: &CType, code: &mut Items<u8>) -> Result<(), AllocError>
 
 // Writes the codes of the layers of a type of a list.
 #[cycle(write)]
-fn write_layers(layers: &[Layer], code: &mut Items<u8>) -> Result<(), AllocError>
+fn write_layers(layers: &[Layer], code: &mut Symbols) -> Result<(), AllocError>
     ensures { OnOk result (code.new ≡ code.old ++ spec.closed layers.now) }
 {
     for layer in layers {
@@ -115,9 +144,9 @@ fn write_layers(layers: &[Layer], code: &mut Items<u8>) -> Result<(), AllocError
 #[derive(Drop)]
 pub(crate) struct Code {
     /// The codes one behind the other.
-    pub(crate) bytes: Items<u8>,
-    /// How many of the bytes are those of the first layer, of the first two and so on.
-    pub(crate) ends: Items<usize>,
+    pub(crate) symbols: Symbols,
+    /// How many of the symbols are those of the first layer, of the first two and so on.
+    pub(crate) ends: Items<u32>,
 }
 
 impl Code {
@@ -126,7 +155,7 @@ impl Code {
         ensures { result ≡ spec.code_of [] }
     {
         Code {
-            bytes: Items::new(alloc),
+            symbols: Symbols::new(alloc),
             ends: Items::new(alloc),
         }
     }
@@ -134,31 +163,23 @@ impl Code {
     pub(crate) fn new(alloc: Global, layers: &[Layer]) -> Result<Code, AllocError>
         ensures { IfOk result (λ c. c ≡ spec.code_of layers.now) }
     {
-        let mut bytes = Items::new(alloc);
+        let mut symbols = Symbols::new(alloc);
         let mut ends = Items::new(alloc);
         for layer in layers {
-            write_layer(layer, &mut bytes)?;
-            ends.push(bytes.len())?;
+            write_layer(layer, &mut symbols)?;
+            ends.push(symbols.len())?;
         }
-        Ok(Code { bytes, ends })
+        Ok(Code { symbols, ends })
     }
 }
 
-/// How many of the bytes are those of the first `count` layers.
-fn end_of(ends: &[usize], count: usize) -> usize
-    requires { count ≤ length ends.now }
-    ensures { result ≡ spec.end_of ends.now count }
-{
-    if count == 0 { 0 } else { ends[count - 1] }
-}
-
 /// The code of the first `count` layers.
-pub(crate) fn first<'a>(bytes: &'a [u8], ends: &[usize], count: usize) -> &'a [u8]
+pub(crate) fn first<'a>(code: &LentSymbols<'a>, ends: &[u32], count: usize) -> LentSymbols<'a>
     requires marked { count ≤ length ends.now }
-    requires within { spec.end_of ends.now count ≤ length bytes.now }
-    ensures { result.now ≡ take (spec.end_of ends.now count) bytes.now }
+    requires within { spec.end_of ends.now count ≤ length code.now }
+    ensures { result ≡ take (spec.end_of ends.now count) code.now }
 {
-    &bytes[..end_of(ends, count)]
+    code.first(if count == 0 { 0 } else { ends[count - 1] })
 }
 
 // The codes of the types of a list.

@@ -9,6 +9,7 @@ use crate::code::{Code, first};
 use crate::conversions::same_layer;
 use crate::ctype::Layer;
 use crate::parameters::Parameters;
+use crate::symbols::LentSymbols;
 use sqlite_items::Items;
 use std::marker::Model;
 
@@ -17,9 +18,9 @@ use std::marker::Model;
 #[derive(Drop)]
 pub struct Layers<'a> {
     row: &'a [Layer],
-    code: &'a [u8],
+    code: LentSymbols<'a>,
     // Where the code of each of the first of them ends.
-    ends: &'a [usize],
+    ends: &'a [u32],
     // The codes of the types of the lists of the first of them.
     lists: &'a [Items<Code>],
     more: &'a [Layer],
@@ -38,19 +39,19 @@ impl<'a> Model for Layers<'a> {
 
     ghost view = { λ l. l.row.now ++ l.more.now };
 
-    ghost invariant = { λ l. AreLent l.row.now l.code.now l.ends.now l.lists.now };
+    ghost invariant = { λ l. AreLent l.row.now l.code l.ends.now l.lists.now };
 }
 
 impl<'a> Layers<'a> {
     /// Layers with their code, and more on top.
     pub(crate) fn coded(
         row: &'a [Layer],
-        code: &'a [u8],
-        ends: &'a [usize],
+        code: LentSymbols<'a>,
+        ends: &'a [u32],
         lists: &'a [Items<Code>],
         more: &'a [Layer],
     ) -> Layers<'a>
-        requires { AreLent row.now code.now ends.now lists.now }
+        requires { AreLent row.now code ends.now lists.now }
         ensures { result ≡ row.now ++ more.now }
     {
         Layers {
@@ -68,7 +69,7 @@ impl<'a> Layers<'a> {
     {
         Layers {
             row: &[],
-            code: &[],
+            code: LentSymbols::none(),
             ends: &[],
             lists: &[],
             more: layers,
@@ -143,7 +144,7 @@ impl<'a> Layers<'a> {
         if on_top > 0 {
             return Layers {
                 row: self.row,
-                code: self.code,
+                code: self.code.again(),
                 ends: self.ends,
                 lists: self.lists,
                 more: &self.more[..on_top - 1],
@@ -153,7 +154,7 @@ impl<'a> Layers<'a> {
         let coded = self.ends.len().min(below);
         Layers {
             row: &self.row[..below],
-            code: first(self.code, self.ends, coded),
+            code: first(&self.code, self.ends, coded),
             ends: &self.ends[..coded],
             lists: &self.lists[..self.lists.len().min(below)],
             more: self.more,
@@ -170,7 +171,7 @@ pub(crate) fn same_shared(a: &Layers<'_>, b: &Layers<'_>) -> bool
         return false;
     }
     let both = a.ends.len().min(b.ends.len());
-    if first(a.code, a.ends, both) != first(b.code, b.ends, both) {
+    if !first(&a.code, a.ends, both).same_as(&first(&b.code, b.ends, both)) {
         return false;
     }
     for place in both..a.len() {

@@ -11,6 +11,7 @@ mod parameters;
 mod row;
 mod shared;
 mod sizes;
+mod symbols;
 
 pub use conversions::{common, converts, converts_to, promoted, same, same_ctypes};
 pub use copies::copy_ctype;

@@ -96,13 +96,7 @@ impl<'a> Parameter<'a> {
         let layers = self.ctype.layers.as_slice();
         match self.code {
             Some(code) => {
-                Layers::coded(
-                    layers,
-                    code.bytes.as_slice(),
-                    code.ends.as_slice(),
-                    &[],
-                    &[],
-                )
+                Layers::coded(layers, code.symbols.lent(), code.ends.as_slice(), &[], &[])
             }
             None => Layers::plain(layers),
         }

@@ -141,7 +141,7 @@ impl Row {
         let lists = self.lists.as_slice();
         Layers::coded(
             &self.layers.as_slice()[..len],
-            first(self.code.bytes.as_slice(), ends, coded),
+            first(&self.code.symbols.lent(), ends, coded),
             &ends[..coded],
             &lists[..lists.len().min(len)],
             more,

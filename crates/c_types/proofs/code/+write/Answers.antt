@@ -1,9 +1,8 @@
-use Rattle.std.proofs.Common.{◌∷◌, [], ◌++◌, ap, ◌∙◌}
-use Rattle.std.proofs.lemmas.List.{append_assoc}
+use Rattle.std.proofs.Common.{◌++◌, map, ap, ◌∙◌}
 use Rattle.c_types.specs.declared.ctype.Layer.{out-Layer}
 use Rattle.c_types.specs.declared.ctype.Layer.TheVariants as layer
 use Rattle.c_types.specs.declared.ctype.Layer.TheOpen.{Layer-F}
-use Rattle.c_types.specs.Codes.{list_code}
+use Rattle.c_types.specs.Codes.{function_code, type_code}
 use Rattle.c_types.proofs.Coded.{of_layer}
 use Rattle.c_types.proofs.code.+write.Goals as goal
 
@@ -27,14 +26,12 @@ write_layer-returns-in_ok-push-in-Vspec t c =
     of_layer c.args.layer.now Layer-F.Vspec c.args.code.now c.push-in-Vspec.new.self
     (ap out-Layer c.in-Vspec.is ∙ layer.outs-Vspec) c.in_ok-push-in-Vspec.ensures.ok
 
-pub write_layer-returns-in_ok-write_list-in-Function : goal.write_layer-returns-in_ok-write_list-in-Function
-write_layer-returns-in_ok-write_list-in-Function t c =
-    of_layer c.args.layer.now (Layer-F.Function c.in-Function.list) c.args.code.now c.write_list.new.code
+pub write_layer-returns-in_ok-write_function-in-Function : goal.write_layer-returns-in_ok-write_function-in-Function
+write_layer-returns-in_ok-write_function-in-Function t c =
+    of_layer c.args.layer.now (Layer-F.Function c.in-Function.list) c.args.code.now c.write_function.new.code
     (ap out-Layer c.in-Function.is ∙ layer.outs-Function c.in-Function.list)
-    (c.in_ok-write_list-in-Function.ensures
-    ∙ ap (λ code. code ++ list_code c.as_slice.result.now) c.in_ok-push-in-Function.ensures.ok
-    ∙ ap (λ list. (c.args.code.now ++ 4 ∷ []) ++ list_code list) c.as_slice.ensures
-    ∙ append_assoc c.args.code.now (4 ∷ []) (list_code c.in-Function.list))
+    (c.in_ok-write_function-in-Function.ensures
+    ∙ ap (λ list. c.args.code.now ++ function_code (map type_code list)) c.as_slice.ensures)
 
 pub write_layer-returns-in_ok-write_array-in-Array : goal.write_layer-returns-in_ok-write_array-in-Array
 write_layer-returns-in_ok-write_array-in-Array t c =

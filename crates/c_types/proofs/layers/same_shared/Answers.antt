@@ -6,22 +6,23 @@ use Rattle.c_types.proofs.layers.same_shared.Goals as goal
 
 pub first-requires-clause-within : goal.first-requires-clause-within
 first-requires-clause-within c =
-    enough c.a.inside.row.now c.a.inside.code.now c.a.inside.ends.now c.min-both.result c.a.invariant.coded
+    enough c.a.inside.row.now c.a.inside.code c.a.inside.ends.now c.min-both.result c.a.invariant.coded
     c.a.invariant.ended (omega (arith, c.min-both.ensures))
 
 pub first-requires-2-clause-within : goal.first-requires-2-clause-within
 first-requires-2-clause-within c =
-    enough c.b.inside.row.now c.b.inside.code.now c.b.inside.ends.now c.min-both.result c.b.invariant.coded
+    enough c.b.inside.row.now c.b.inside.code c.b.inside.ends.now c.min-both.result c.b.invariant.coded
     c.b.invariant.ended (omega (arith, c.min-both.ensures))
 
-pub returns-then-ne : goal.returns-then-ne
-returns-then-ne c =
+pub returns-then-not-same_as : goal.returns-then-not-same_as
+returns-then-not-same_as c =
     let long : length c.args.a.now ≡ length c.args.b.now =
     omega (arith, c.len.ensures, c.len-2.ensures, c.if-len.false) in
     codes_differ c.a.inside.row.now c.a.inside.more.now c.b.inside.row.now c.b.inside.more.now c.args.a.now c.args.b.now
-    c.a.inside.code.now c.b.inside.code.now c.a.inside.ends.now c.b.inside.ends.now c.a.inside.lists.now
+    c.a.inside.code c.b.inside.code c.a.inside.ends.now c.b.inside.ends.now c.a.inside.lists.now
     c.b.inside.lists.now c.min-both.result c.a.invariant c.b.invariant c.a.view_is c.b.view_is c.min-both.ensures
-    c.first.result.now c.first-2.result.now c.first.ensures c.first-2.ensures long (sym c.if-ne.true ∙ c.ne.ensures)
+    c.first.result c.first-2.result c.first.ensures c.first-2.ensures long
+    (sym c.same_as.ensures ∙ c.if-not-same_as.true)
 
 pub returns-then-not-same_layer : goal.returns-then-not-same_layer
 returns-then-not-same_layer c =
@@ -34,9 +35,10 @@ returns-then-not-same_layer c =
     (drop (c.loop-place.place + 1) c.args.b.now)) c.if-not-same_layer.true in
     sym unlike ∙ c.loop-place.invariant ∙
     codes_agree c.a.inside.row.now c.a.inside.more.now c.b.inside.row.now c.b.inside.more.now c.args.a.now
-    c.args.b.now c.a.inside.code.now c.b.inside.code.now c.a.inside.ends.now c.b.inside.ends.now c.a.inside.lists.now
+    c.args.b.now c.a.inside.code c.b.inside.code c.a.inside.ends.now c.b.inside.ends.now c.a.inside.lists.now
     c.b.inside.lists.now c.min-both.result c.a.invariant c.b.invariant c.a.view_is c.b.view_is c.min-both.ensures
-    c.first.result.now c.first-2.result.now c.first.ensures c.first-2.ensures long (sym c.if-ne.false ∙ c.ne.ensures)
+    c.first.result c.first-2.result c.first.ensures c.first-2.ensures long
+    (sym c.same_as.ensures ∙ c.if-not-same_as.false)
 
 pub loop-place-preserved : goal.loop-place-preserved
 loop-place-preserved c =
@@ -54,6 +56,7 @@ returns c =
     (omega (arith, c.loop-place-test.false, c.len.ensures, c.len-place-end.ensures)) long in
     sym end ∙ c.loop-place.invariant ∙
     codes_agree c.a.inside.row.now c.a.inside.more.now c.b.inside.row.now c.b.inside.more.now c.args.a.now
-    c.args.b.now c.a.inside.code.now c.b.inside.code.now c.a.inside.ends.now c.b.inside.ends.now c.a.inside.lists.now
+    c.args.b.now c.a.inside.code c.b.inside.code c.a.inside.ends.now c.b.inside.ends.now c.a.inside.lists.now
     c.b.inside.lists.now c.min-both.result c.a.invariant c.b.invariant c.a.view_is c.b.view_is c.min-both.ensures
-    c.first.result.now c.first-2.result.now c.first.ensures c.first-2.ensures long (sym c.if-ne.false ∙ c.ne.ensures)
+    c.first.result c.first-2.result c.first.ensures c.first-2.ensures long
+    (sym c.same_as.ensures ∙ c.if-not-same_as.false)

@@ -4,6 +4,6 @@ use Rattle.c_types.proofs.code.Code.new.Given as goal
 
 abbrev pub invariant-loop-layer : goal.invariant-loop-layer
 invariant-loop-layer l = record {
-  bytes : l.bytes ++ spec.codes (drop l.layer-index l.layers) ≡ spec.codes l.layers;
-  ends : l.ends ++ spec.ends (length l.bytes) (drop l.layer-index l.layers) ≡ spec.ends 0 l.layers;
+  symbols : l.symbols ++ spec.codes (drop l.layer-index l.layers) ≡ spec.codes l.layers;
+  ends : l.ends ++ spec.ends (length l.symbols) (drop l.layer-index l.layers) ≡ spec.ends 0 l.layers;
 }

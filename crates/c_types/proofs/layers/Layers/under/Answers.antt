@@ -11,11 +11,11 @@ returns-then-on_top-gt0 c =
 
 pub first-requires-clause-within : goal.first-requires-clause-within
 first-requires-clause-within c =
-    enough c.self.inside.row.now c.self.inside.code.now c.self.inside.ends.now c.min-coded.result
+    enough c.self.inside.row.now c.self.inside.code c.self.inside.ends.now c.min-coded.result
     c.self.invariant.coded c.self.invariant.ended (omega (arith, c.min-coded.ensures))
 
 pub invariant_of-result-2 : goal.invariant_of-result-2
 invariant_of-result-2 c =
-    rw c.first.ensures (cut_lent c.self.inside.row.now c.self.inside.code.now c.self.inside.ends.now
+    rw c.first.ensures (cut_lent c.self.inside.row.now c.self.inside.code c.self.inside.ends.now
     c.self.inside.lists.now c.saturating_sub-below.result c.min-coded.result c.min.result c.self.invariant
     (omega (arith, c.saturating_sub-below.ensures)) c.min-coded.ensures c.min.ensures)

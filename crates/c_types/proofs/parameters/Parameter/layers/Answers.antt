@@ -10,5 +10,5 @@ pub coded-requires : goal.coded-requires
 coded-requires c =
     let code : c.in-Some.code.now ≡ code_of (layers_of c.self.inside.ctype.now) =
     subst (λ o. IsCodeOf (layers_of c.self.inside.ctype.now) (option_copied o)) c.in-Some.is c.self.invariant in
-    rw (c.as_slice.ensures, c.as_slice-in-Some.ensures, c.as_slice-layers.ensures)
+    rw (c.lent.ensures, c.as_slice.ensures, c.as_slice-layers.ensures)
     (alone_lent (layers_of c.self.inside.ctype.now) c.in-Some.code.now code)

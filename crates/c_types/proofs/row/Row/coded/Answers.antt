@@ -9,7 +9,7 @@ invariant_of-result c =
     let lists : c.in_ok-lists.lists ≡ codes_of_lists c.args.layers =
     c.in_ok-lists.ensures ∙ ap codes_of_lists c.as_slice-2.ensures in
     record {
-      lent = all_lent c.args.layers c.in_ok-code.code.bytes c.in_ok-code.code.ends c.in_ok-lists.lists
-          (ap (λ c. c.bytes) code) (ap (λ c. c.ends) code) lists;
+      lent = all_lent c.args.layers c.in_ok-code.code.symbols c.in_ok-code.code.ends c.in_ok-lists.lists
+          (ap (λ c. c.symbols) code) (ap (λ c. c.ends) code) lists;
       counted = inr (rw (c.in_ok-extents.ensures, c.start.ensures, c.as_slice-3.ensures) refl);
     }
