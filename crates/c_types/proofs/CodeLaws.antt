@@ -17,7 +17,14 @@ use Rattle.c_types.specs.Types.{Opened, same, same_layer, same_layers, same_inte
 use Rattle.c_types.specs.Types.{each_holds, same_at, same_layer_rule, same_rule}
 use Rattle.c_types.specs.Codes.{kind_code, base_code, digits, more_digits, array_code, joined, layer_rule, type_rule}
 use Rattle.c_types.specs.Codes.{function_code, layer_code, type_code, codes}
-use Rattle.c_types.proofs.SymbolLaws.{and_assoc, and_true}
+
+and_assoc : (a b c : Bool) → (a && (b && c)) ≡ ((a && b) && c)
+and_assoc true b c = refl
+and_assoc false b c = refl
+
+and_true : (a : Bool) → (a && true) ≡ a
+and_true true = refl
+and_true false = refl
 
 -- ---- one code after another
 

@@ -1,4 +1,3 @@
-pub mod SymbolLaws
 pub mod CodeLaws
 pub mod ExtentLaws
 pub mod SameLaws

@@ -1,6 +1,5 @@
 pub mod Types
 pub mod Kinds
-pub mod Symbols
 pub mod Codes
 pub mod Extents
 pub mod Shared

@@ -5,7 +5,7 @@ ghost use Rattle.c_types.specs.Types as types;
 ghost use Rattle.c_types.specs.Codes as spec;
 
 use crate::ctype::{Base, CType, Integer, Layer};
-use crate::symbols::{LentSymbols, Symbols};
+use one_place::{LentSymbols, Symbols};
 use sqlite_items::Items;
 use std::alloc::{AllocError, Global};
 

@@ -9,7 +9,7 @@ use crate::code::{Code, first};
 use crate::conversions::same_layer;
 use crate::ctype::Layer;
 use crate::parameters::Parameters;
-use crate::symbols::LentSymbols;
+use one_place::LentSymbols;
 use sqlite_items::Items;
 use std::marker::Model;
 

@@ -11,7 +11,6 @@ mod parameters;
 mod row;
 mod shared;
 mod sizes;
-mod symbols;
 
 pub use conversions::{common, converts, converts_to, promoted, same, same_ctypes};
 pub use copies::copy_ctype;

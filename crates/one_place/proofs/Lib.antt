@@ -1,3 +1,5 @@
 pub mod Agree
-pub mod Marks
 pub mod Lists
+pub mod Marks
+pub mod Turns
+pub mod SymbolLaws

@@ -1,15 +1,19 @@
 //! Bytes of which two loans can be told to be loans of the very same place: then they hold the same bytes, and nobody
-//! need compare them.
+//! need compare them. And symbols below 16 that stand in such bytes, two to a byte.
 #![tactic(auto)]
 
-ghost use Rattle.std.specs.Prelude.{◌≡◌, ◌↔◌, true};
+ghost use Rattle.std.specs.Prelude.{◌≡◌, ◌↔◌, ◌<◌, ◌++◌, ◌∷◌, [], true, length, slice_set, OnOk, OnErr};
 ghost use Rattle.std.specs.Ptr.{as_ptr};
 
+mod symbols;
+
 use sqlite_items::Items;
+use std::alloc::AllocError;
 use std::cell::Cell;
 use std::marker::Model;
+pub use symbols::{LentSymbols, Symbols};
 
-/// Bytes that are written once, with a mark by which two loans of the same are recognized. A contract sees the bytes.
+/// Bytes with a mark by which two loans of the same are recognized. A contract sees the bytes.
 #[derive(Drop)]
 pub struct Marked {
     // Whoever asks turns it for a moment. It says nothing by itself.
@@ -44,6 +48,22 @@ impl Marked {
         ensures { result.now ≡ self.now }
     {
         self.bytes.as_slice()
+    }
+
+    /// One byte more.
+    pub fn push(&mut self, byte: u8) -> Result<(), AllocError>
+        ensures ok { OnOk result (self.new ≡ self.old ++ byte ∷ []) }
+        ensures err { OnErr result (self.new ≡ self.old) }
+    {
+        self.bytes.push(byte)
+    }
+
+    /// Another byte at this place.
+    pub fn set(&mut self, at: usize, byte: u8)
+        requires { at < length self.old }
+        ensures { self.new ≡ slice_set self.old at byte }
+    {
+        self.bytes.set(at, byte);
     }
 }
 

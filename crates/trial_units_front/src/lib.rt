@@ -24,6 +24,8 @@ mod lex_words_calls;
 #[cfg(test)]
 mod meaning_operators_calls;
 #[cfg(test)]
+mod one_place_calls;
+#[cfg(test)]
 mod tick_parser_calls;
 #[cfg(test)]
 mod tick_tree_calls;

@@ -20,9 +20,6 @@ use prog.Routine.{Routine}
 use prog.Wp.{Env, Calls, Loops, WpFn, Tables}
 use types.Logic.{Logic}
 use contract.Monad.{Fun}
-use contract.Running.{tables_of, bare_tables}
-use contract.Beside.{Carries}
-use contract.Named.{bare_unfolds}
 use sound.WpLaws.{WpFn-mono}
 use types.Kit.{Goal, Step, step, Item, ‵, ◌⊛◌, ⋆, at_ret, ◌$◌, ◌∵◌, !, qed, by, done, move, keep, drop, split, split3}
 use types.Kit.{raw, join, fsplit, fpick, fjoin, feq_i, rewrite, group, frame, suffices, updating, now}
@@ -39,9 +36,7 @@ use denote.Signature.{plain}
 use denote.Steps.{nothing}
 use denote.Triple.Clauses.{Clauses, closing}
 use denote.Triple.Entry.{on_entry}
-use denote.Triple.Spec.{Meets, triple_of}
-use denote.Triple.Table.{entered}
-use denote.Triple.Handed.{holding, hands}
+use denote.Triple.Spec.{Meets}
 use denote.Triple.Walked.{Stays, stay_dropped, walk_of, ends_at, walked, Goes-dropped, walk_Meets}
 use Rattle.std.specs.Ptr.{as_ptr}
 use Rattle.std.proofs.mem.Facts.{says_two}
@@ -49,6 +44,7 @@ use Rattle.std.proofs.cell.Inside.{C as CellOf}
 use Rattle.one_place.proofs.Agree.{OneValue}
 use Rattle.one_place.proofs.Marks.{Cell, Closing, mark, mark_in, mark_out}
 use Rattle.one_place.proofs.Lists.{ByteItems, items_one}
+use Rattle.one_place.proofs.Turns.{Turned, in_turn}
 use Rattle.one_place.specs.contracts.Marked.{the_row as R}
 use Rattle.one_place.specs.contracts.are_one as f
 use Rattle.one_place.proofs.are_one.Statement.{statement}
@@ -103,7 +99,7 @@ module _ {M : Type 1} {𝓤 : Ura M} (𝓛 : Logic 𝓤) (same : OneValue 𝓛)
   open 𝓛 use {H, A}
 
   abbrev held : Clauses 𝓤 f.ended
-  held = holding 𝓤 f.ended (A.tok every) (f.clauses 𝓛 at_mem run)
+  held = Turned 𝓛 f.ended (f.clauses 𝓛 at_mem run)
 
   module _ (C : Calls 𝓤 H) (Λ : Loops 𝓤 H) (κ μ : Lft) (q r : Share) (x y : Bor R.Denot) where
     abbrev b : ℕ
@@ -266,13 +262,7 @@ module _ {M : Type 1} {𝓤 : Ura M} (𝓛 : Logic 𝓤) (same : OneValue 𝓛)
       (λ κs qs bounds a g are. walk 𝓣.C 𝓣.Λ κs.0 κs.1.0 qs.0 qs.1.0 a.0 a.1.0))
 
 pub are_one_spec : {M : Type 1} → statement M
-unfolding tables_of code
+unfolding code
 are_one_spec 𝓤 𝓛 𝓜 𝓡 wired =
-    let T = 𝓛.A.tok every in let c = f.clauses 𝓛 𝓜.mem 𝓡.returns in
-    let 𝓒 : Carries 𝓤 𝓛.H 𝓜 T = subst (Carries 𝓤 𝓛.H 𝓜) 𝓛.turn_is 𝓡.carries in
-    let 𝓣 : Tables 𝓤 𝓛.H = tables_of 𝓤 𝓛.H 𝓒.inner (bare_tables 𝓤 𝓛.H 𝓒.inner 𝓡.allowed 𝓡.how 𝓡.env) in
-    let k = f.Key.name in
-    hands 𝓛 f.ended T c 𝓜 𝓒 𝓡 (𝓡.env k)
-    (entered 𝓤 𝓛.H (triple_of 𝓛 f.signature (closing 𝓛 f.ended (holding 𝓤 f.ended T c))) 𝓣.C 𝓣.Λ k code.function
-    (bare_unfolds 𝓤 𝓛.H 𝓒.inner 𝓡.allowed 𝓡.how 𝓡.env k code.function (wired.0.0 k refl))
-    (meets 𝓛 𝓜.at_agree 𝓜.mem 𝓡.returns 𝓣))
+    in_turn 𝓛 f.ended (f.clauses 𝓛 𝓜.mem 𝓡.returns) 𝓜 𝓡 f.Key.name code.function (wired.0.0 f.Key.name refl)
+    (meets 𝓛 𝓜.at_agree 𝓜.mem 𝓡.returns)

@@ -1,8 +1,8 @@
 use Rattle.std.proofs.Common.{◌++◌, ◌∷◌, ◌+◌, ◌*◌, ◌/◌, [], take, get_or, set, ap, ◌∙◌}
-use Rattle.c_types.specs.Symbols.{halves}
-use Rattle.c_types.proofs.SymbolLaws.{push_whole, push_half}
-use Rattle.c_types.proofs.symbols.Symbols.push.Goals as goal
-use Rattle.c_types.proofs.symbols.Symbols.push.Goals.{then-self-eq0+in_ok-push, else-self-eq0}
+use Rattle.one_place.specs.Symbols.{halves}
+use Rattle.one_place.proofs.SymbolLaws.{push_whole, push_half}
+use Rattle.one_place.proofs.symbols.Symbols.push.Goals as goal
+use Rattle.one_place.proofs.symbols.Symbols.push.Goals.{then-self-eq0+in_ok-push, else-self-eq0}
 
 pub returns : goal.returns
 returns c =
@@ -18,7 +18,7 @@ returns c =
         ok = ap (λ i. take (i.count + 1) (halves i.bytes)) w.self-inside-is
             ∙ ap (λ bytes. take (s.count + 1) (halves bytes)) w.set.ensures
             ∙ ap (λ bytes. take (s.count + 1) (halves (set s.bytes (s.count / 2)
-            (get_or bytes (s.count / 2) 0 / 16 * 16 + c.args.symbol)))) w.as_slice.ensures
+            (get_or bytes (s.count / 2) 0 / 16 * 16 + c.args.symbol)))) w.bytes.ensures
             ∙ push_half s.count s.bytes c.args.symbol w.if-self-eq0.false c.self.invariant c.requires
             ∙ ap (λ l. l ++ c.args.symbol ∷ []) c.self.view_is;
       }

@@ -3,7 +3,7 @@ use Rattle.std.proofs.Common.{◌≡◌, ℕ, zero, suc, ◌+◌, ◌*◌, ◌<�
 use Rattle.std.proofs.Common.{length, take, get_or, set, nat_eq, ◌/◌, ◌%◌, not, refl, sym, ap, ◌∙◌, arith}
 use lib.Pointwise.{pointwise}
 use Rattle.std.proofs.lemmas.List.{length-take-le}
-use Rattle.c_types.specs.Symbols.{halves}
+use Rattle.one_place.specs.Symbols.{halves}
 
 -- two symbols to each byte
 pub halves_long : (bs : List ℕ) → length (halves bs) ≡ 2 * length bs

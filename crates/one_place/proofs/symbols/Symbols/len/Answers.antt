@@ -1,5 +1,5 @@
-use Rattle.c_types.proofs.SymbolLaws.{long, held}
-use Rattle.c_types.proofs.symbols.Symbols.len.Goals as goal
+use Rattle.one_place.proofs.SymbolLaws.{long, held}
+use Rattle.one_place.proofs.symbols.Symbols.len.Goals as goal
 
 pub returns : goal.returns
 returns c =
