@@ -15,7 +15,7 @@ fn is_line(alloc: Global, line: &[u8]) -> bool {
 #[test]
 fn a_line_has_words_and_marks(rt: HostRuntime) -> Result<(), Fail> {
     let found = pieces(rt.alloc(), b"\tx :lw $1, 4($2)\r# y")?;
-    assert_eq!(rt; found.len(), 9);
+    assert!(rt; found.len() == 9);
     assert!(rt; found[1].is_colon() && found[4].is_comma());
     assert!(rt; found[6].is_open() && found[8].is_close());
     match found[7].word() {

@@ -26,11 +26,11 @@ const ALL_PARTS_TEXT: &str =
 fn two_instructions_are_written(rt: HostRuntime) -> Result<(), Fail> {
     let mut sink = MemSink::new(rt.alloc(), 100, &[])?;
     match read(rt.alloc(), &TWO_INSTRUCTIONS) {
-        Ok(image) => assert_eq!(rt; disassemble(&image, &mut sink), Ok(())),
+        Ok(image) => assert!(rt; disassemble(&image, &mut sink) == Ok(())),
         Err(_) => assert!(rt; false),
     }
     let text = ".entry 0x00400000\nori $2,$0,10\nsyscall\n";
-    assert_eq!(rt; sink.taken(), text.as_bytes());
+    assert!(rt; sink.taken() == text.as_bytes());
     Ok(())
 }
 
@@ -38,10 +38,10 @@ fn two_instructions_are_written(rt: HostRuntime) -> Result<(), Fail> {
 fn all_parts_are_written(rt: HostRuntime) -> Result<(), Fail> {
     let mut sink = MemSink::new(rt.alloc(), 400, &[])?;
     match read(rt.alloc(), &ALL_PARTS) {
-        Ok(image) => assert_eq!(rt; disassemble(&image, &mut sink), Ok(())),
+        Ok(image) => assert!(rt; disassemble(&image, &mut sink) == Ok(())),
         Err(_) => assert!(rt; false),
     }
-    assert_eq!(rt; sink.taken(), ALL_PARTS_TEXT.as_bytes());
+    assert!(rt; sink.taken() == ALL_PARTS_TEXT.as_bytes());
     Ok(())
 }
 
@@ -49,12 +49,9 @@ fn all_parts_are_written(rt: HostRuntime) -> Result<(), Fail> {
 fn a_failing_sink_has_taken_a_front(rt: HostRuntime) -> Result<(), Fail> {
     let mut sink = MemSink::new(rt.alloc(), 400, &[2])?;
     match read(rt.alloc(), &ALL_PARTS) {
-        Ok(image) => assert_eq!(rt; disassemble(&image, &mut sink), Err(Failed)),
+        Ok(image) => assert!(rt; disassemble(&image, &mut sink) == Err(Failed)),
         Err(_) => assert!(rt; false),
     }
-    assert_eq!(rt;
-        sink.taken(),
-        ".entry 0x00400004\n.fn 0x00400000 2\n".as_bytes()
-    );
+    assert!(rt; sink.taken() == ".entry 0x00400004\n.fn 0x00400000 2\n".as_bytes());
     Ok(())
 }

@@ -11,11 +11,11 @@ fn register_number(word: &[u8]) -> u32 {
 
 #[test]
 fn registers_have_numbers_and_names(rt: HostRuntime) {
-    assert_eq!(rt; register_number(b"$31"), 31);
-    assert_eq!(rt; register_number(b"$t8"), 24);
-    assert_eq!(rt; register_number(b"$08"), 99);
-    assert_eq!(rt; register_number(b"$32"), 99);
-    assert_eq!(rt; register_number(b"$zero"), 99);
+    assert!(rt; register_number(b"$31") == 31);
+    assert!(rt; register_number(b"$t8") == 24);
+    assert!(rt; register_number(b"$08") == 99);
+    assert!(rt; register_number(b"$32") == 99);
+    assert!(rt; register_number(b"$zero") == 99);
 }
 
 #[test]
@@ -24,26 +24,26 @@ fn numbers_have_signs_and_bases(rt: HostRuntime) {
         negative: true,
         magnitude: Some(8),
     };
-    assert_eq!(rt; number_of(b"-008"), Some(negative));
+    assert!(rt; number_of(b"-008") == Some(negative));
     match number_of(b"0xfF") {
-        Some(number) => assert_eq!(rt; number.unsigned(), Some(255)),
+        Some(number) => assert!(rt; number.unsigned() == Some(255)),
         None => assert!(rt; false),
     }
-    assert_eq!(rt; number_of(b"-0x1"), None);
-    assert_eq!(rt; number_of(b"+1"), None);
-    assert_eq!(rt; number_of(b"0x"), None);
-    assert_eq!(rt; negative.unsigned(), None);
+    assert!(rt; number_of(b"-0x1") == None);
+    assert!(rt; number_of(b"+1") == None);
+    assert!(rt; number_of(b"0x") == None);
+    assert!(rt; negative.unsigned() == None);
     match negative.signed_half() {
-        Some(half) => assert_eq!(rt; half.bits(), 65528),
+        Some(half) => assert!(rt; half.bits() == 65528),
         None => assert!(rt; false),
     }
 }
 
 #[test]
 fn operations_have_names(rt: HostRuntime) {
-    assert_eq!(rt; operation_of(b"nop"), Some(Operation::NoOperation));
-    assert_eq!(rt; operation_of(b"jalr"), Some(Operation::JumpAndLinkRegister));
-    assert_eq!(rt; operation_of(b"JALR"), None);
+    assert!(rt; operation_of(b"nop") == Some(Operation::NoOperation));
+    assert!(rt; operation_of(b"jalr") == Some(Operation::JumpAndLinkRegister));
+    assert!(rt; operation_of(b"JALR") == None);
     assert!(rt; Operation::Break.name() == "break");
 }
 

@@ -32,10 +32,10 @@ fn options_stand_anywhere(rt: HostRuntime) -> Result<(), Fail> {
 
 #[test]
 fn bad_words_have_places(rt: HostRuntime) -> Result<(), Fail> {
-    assert_eq!(rt; bad_place(rt.alloc(), "tick run")?, 2);
-    assert_eq!(rt; bad_place(rt.alloc(), "tick run a b")?, 3);
-    assert_eq!(rt; bad_place(rt.alloc(), "tick run --steps 0 a")?, 3);
-    assert_eq!(rt; bad_place(rt.alloc(), "tick build a --steps 5 b")?, 3);
+    assert!(rt; bad_place(rt.alloc(), "tick run")? == 2);
+    assert!(rt; bad_place(rt.alloc(), "tick run a b")? == 3);
+    assert!(rt; bad_place(rt.alloc(), "tick run --steps 0 a")? == 3);
+    assert!(rt; bad_place(rt.alloc(), "tick build a --steps 5 b")? == 3);
     Ok(())
 }
 
@@ -43,10 +43,10 @@ fn bad_words_have_places(rt: HostRuntime) -> Result<(), Fail> {
 fn a_source_has_a_number_up_to_two_thousand(rt: HostRuntime) -> Result<(), Fail> {
     let words = words_of(rt.alloc(), "tick gen 0002000")?;
     assert!(rt; matches!(command_of(&words), Ok(Command::Gen(2000))));
-    assert_eq!(rt; bad_place(rt.alloc(), "tick gen")?, 2);
-    assert_eq!(rt; bad_place(rt.alloc(), "tick gen 0")?, 2);
-    assert_eq!(rt; bad_place(rt.alloc(), "tick gen 2001")?, 2);
-    assert_eq!(rt; bad_place(rt.alloc(), "tick gen 3 4")?, 3);
+    assert!(rt; bad_place(rt.alloc(), "tick gen")? == 2);
+    assert!(rt; bad_place(rt.alloc(), "tick gen 0")? == 2);
+    assert!(rt; bad_place(rt.alloc(), "tick gen 2001")? == 2);
+    assert!(rt; bad_place(rt.alloc(), "tick gen 3 4")? == 3);
     Ok(())
 }
 
@@ -56,8 +56,8 @@ fn runs_may_ask_for_counts_once(rt: HostRuntime) -> Result<(), Fail> {
     assert!(rt; matches!(command_of(&words), Ok(Command::Run("text", 9))));
     assert!(rt; asks_counts(&words));
     assert!(rt; !asks_counts(&words_of(rt.alloc(), "tick run text")?));
-    assert_eq!(rt; bad_place(rt.alloc(), "tick run --stats text --stats")?, 4);
-    assert_eq!(rt; bad_place(rt.alloc(), "tick dis --stats image")?, 2);
+    assert!(rt; bad_place(rt.alloc(), "tick run --stats text --stats")? == 4);
+    assert!(rt; bad_place(rt.alloc(), "tick dis --stats image")? == 2);
     Ok(())
 }
 
@@ -65,7 +65,7 @@ fn runs_may_ask_for_counts_once(rt: HostRuntime) -> Result<(), Fail> {
 fn an_evaluation_has_units_and_no_counts(rt: HostRuntime) -> Result<(), Fail> {
     let words = words_of(rt.alloc(), "tick mean --steps 9 text")?;
     assert!(rt; matches!(command_of(&words), Ok(Command::Mean("text", 9))));
-    assert_eq!(rt; bad_place(rt.alloc(), "tick mean text --stats")?, 3);
-    assert_eq!(rt; bad_place(rt.alloc(), "tick mean")?, 2);
+    assert!(rt; bad_place(rt.alloc(), "tick mean text --stats")? == 3);
+    assert!(rt; bad_place(rt.alloc(), "tick mean")? == 2);
     Ok(())
 }

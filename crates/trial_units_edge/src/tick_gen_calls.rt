@@ -18,7 +18,7 @@ putint(t);putchar(10);return 0;}
 #[test]
 fn three_tests_are_written(rt: HostRuntime) -> Result<(), Fail> {
     let text = generate(rt.alloc(), 3)?;
-    assert_eq!(rt; text.as_slice(), THREE.as_bytes());
+    assert!(rt; text.as_slice() == THREE.as_bytes());
     Ok(())
 }
 
@@ -27,7 +27,7 @@ fn the_largest_source_is_a_text(rt: HostRuntime) -> Result<(), Fail> {
     let text = generate(rt.alloc(), 2000)?;
     // two lines a test, and three besides; a text may have 1,048,576 bytes
     let lines = text.iter().filter(|byte| **byte == b'\n').count();
-    assert_eq!(rt; lines, 4003);
+    assert!(rt; lines == 4003);
     assert!(rt; text.len() < 1_048_576);
     Ok(())
 }

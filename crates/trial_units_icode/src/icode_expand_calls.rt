@@ -39,7 +39,7 @@ fn a_function_that_returns_has_its_words(rt: HostRuntime) {
         0,
         0,
     ];
-    assert_eq!(rt; out, words);
+    assert!(rt; out == words);
 }
 
 #[test]

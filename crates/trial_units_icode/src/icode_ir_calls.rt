@@ -31,7 +31,7 @@ fn a_sum_is_built(rt: HostRuntime) -> Result<(), AllocError> {
                 Op::Return { from: 2 },
                 Op::ReturnZero,
             ];
-            assert_eq!(rt; builder.ops(), want.as_slice());
+            assert!(rt; builder.ops() == want.as_slice());
             assert!(rt; builder.registers() == 3);
             builder.reopen();
         }

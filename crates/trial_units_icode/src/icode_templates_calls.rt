@@ -17,49 +17,49 @@ const ZERO: Register = Register::ZERO;
 
 #[test]
 fn arithmetic_has_the_words_of_a_second_assembler(rt: HostRuntime) {
-    assert_eq!(rt; encode(addu(T8, Register::V0, ZERO)), 0x0040_c021);
-    assert_eq!(rt; encode(subu(Register::SP, T8, Register::AT)), 0x0301_e823);
-    assert_eq!(rt; encode(and(T8, T8, T9)), 0x0319_c024);
-    assert_eq!(rt; encode(or(T8, T8, T9)), 0x0319_c025);
-    assert_eq!(rt; encode(xor(T8, T8, T9)), 0x0319_c026);
-    assert_eq!(rt; encode(nor(T8, T8, ZERO)), 0x0300_c027);
-    assert_eq!(rt; encode(slt(T8, T9, T8)), 0x0338_c02a);
-    assert_eq!(rt; encode(sltu(T9, T8, Register::FP)), 0x031e_c82b);
-    assert_eq!(rt; encode(mult(T8, T9)), 0x0319_0018);
-    assert_eq!(rt; encode(div(T8, T9)), 0x0319_001a);
-    assert_eq!(rt; encode(divu(T8, T9)), 0x0319_001b);
-    assert_eq!(rt; encode(mflo(T8)), 0x0000_c012);
-    assert_eq!(rt; encode(mfhi(T8)), 0x0000_c010);
+    assert!(rt; encode(addu(T8, Register::V0, ZERO)) == 0x0040_c021);
+    assert!(rt; encode(subu(Register::SP, T8, Register::AT)) == 0x0301_e823);
+    assert!(rt; encode(and(T8, T8, T9)) == 0x0319_c024);
+    assert!(rt; encode(or(T8, T8, T9)) == 0x0319_c025);
+    assert!(rt; encode(xor(T8, T8, T9)) == 0x0319_c026);
+    assert!(rt; encode(nor(T8, T8, ZERO)) == 0x0300_c027);
+    assert!(rt; encode(slt(T8, T9, T8)) == 0x0338_c02a);
+    assert!(rt; encode(sltu(T9, T8, Register::FP)) == 0x031e_c82b);
+    assert!(rt; encode(mult(T8, T9)) == 0x0319_0018);
+    assert!(rt; encode(div(T8, T9)) == 0x0319_001a);
+    assert!(rt; encode(divu(T8, T9)) == 0x0319_001b);
+    assert!(rt; encode(mflo(T8)) == 0x0000_c012);
+    assert!(rt; encode(mfhi(T8)) == 0x0000_c010);
 }
 
 #[test]
 fn immediates_and_shifts_have_the_words_of_a_second_assembler(rt: HostRuntime) {
-    assert_eq!(rt; encode(addiu(T9, T9, 65535)), 0x2739_ffff);
-    assert_eq!(rt; encode(sltiu(T8, T8, 1)), 0x2f18_0001);
-    assert_eq!(rt; encode(andi(T8, T8, 65535)), 0x3318_ffff);
-    assert_eq!(rt; encode(ori(Register::AT, Register::AT, 1024)), 0x3421_0400);
-    assert_eq!(rt; encode(xori(T9, T9, 16)), 0x3b39_0010);
-    assert_eq!(rt; encode(lui(T9, 32512)), 0x3c19_7f00);
-    assert_eq!(rt; encode(sll(T8, T8, 3)), 0x0018_c0c0);
-    assert_eq!(rt; encode(srl(T9, T8, 24)), 0x0018_ce02);
-    assert_eq!(rt; encode(sra(T8, T8, 16)), 0x0018_c403);
-    assert_eq!(rt; encode(sllv(T8, T8, T9)), 0x0338_c004);
-    assert_eq!(rt; encode(srlv(T8, T8, T9)), 0x0338_c006);
-    assert_eq!(rt; encode(srav(T8, T8, T9)), 0x0338_c007);
+    assert!(rt; encode(addiu(T9, T9, 65535)) == 0x2739_ffff);
+    assert!(rt; encode(sltiu(T8, T8, 1)) == 0x2f18_0001);
+    assert!(rt; encode(andi(T8, T8, 65535)) == 0x3318_ffff);
+    assert!(rt; encode(ori(Register::AT, Register::AT, 1024)) == 0x3421_0400);
+    assert!(rt; encode(xori(T9, T9, 16)) == 0x3b39_0010);
+    assert!(rt; encode(lui(T9, 32512)) == 0x3c19_7f00);
+    assert!(rt; encode(sll(T8, T8, 3)) == 0x0018_c0c0);
+    assert!(rt; encode(srl(T9, T8, 24)) == 0x0018_ce02);
+    assert!(rt; encode(sra(T8, T8, 16)) == 0x0018_c403);
+    assert!(rt; encode(sllv(T8, T8, T9)) == 0x0338_c004);
+    assert!(rt; encode(srlv(T8, T8, T9)) == 0x0338_c006);
+    assert!(rt; encode(srav(T8, T8, T9)) == 0x0338_c007);
 }
 
 #[test]
 fn memory_and_jumps_have_the_words_of_a_second_assembler(rt: HostRuntime) {
-    assert_eq!(rt; encode(lw(T9, 65504, Register::GP)), 0x8f99_ffe0);
-    assert_eq!(rt; encode(sw(T8, 20, T9)), 0xaf38_0014);
-    assert_eq!(rt; encode(beq(T9, ZERO, 2)), 0x1320_0002);
-    assert_eq!(rt; encode(bne(T8, T9, 65533)), 0x1719_fffd);
-    assert_eq!(rt; encode(j(0x0040_0060)), 0x0810_0018);
-    assert_eq!(rt; encode(jal(0x0040_0100)), 0x0c10_0040);
-    assert_eq!(rt; encode(jr(Register::RA)), 0x03e0_0008);
-    assert_eq!(rt; encode(jalr_of_t8()), 0x0300_f809);
-    assert_eq!(rt; encode(trap(20)), 0x0000_050d);
-    assert_eq!(rt; encode(nop()), 0);
+    assert!(rt; encode(lw(T9, 65504, Register::GP)) == 0x8f99_ffe0);
+    assert!(rt; encode(sw(T8, 20, T9)) == 0xaf38_0014);
+    assert!(rt; encode(beq(T9, ZERO, 2)) == 0x1320_0002);
+    assert!(rt; encode(bne(T8, T9, 65533)) == 0x1719_fffd);
+    assert!(rt; encode(j(0x0040_0060)) == 0x0810_0018);
+    assert!(rt; encode(jal(0x0040_0100)) == 0x0c10_0040);
+    assert!(rt; encode(jr(Register::RA)) == 0x03e0_0008);
+    assert!(rt; encode(jalr_of_t8()) == 0x0300_f809);
+    assert!(rt; encode(trap(20)) == 0x0000_050d);
+    assert!(rt; encode(nop()) == 0);
 }
 
 #[test]
@@ -80,10 +80,10 @@ fn a_sum_of_a_register_and_a_slot_has_its_words(rt: HostRuntime) {
     code.add_op(sum, &layout, 0);
     // lw $24,128($29); addu $25,$16,$0; addu $24,$24,$25; sw $24,136($29)
     let words = [0x8fb8_0080, 0x0200_c821, 0x0319_c021, 0xafb8_0088];
-    assert_eq!(rt; code.words(), words.as_slice());
+    assert!(rt; code.words() == words.as_slice());
     code.clear();
     code.constant(T8, 0x1234_5678);
     code.trap_unless_zero(T9, 21);
     code.push(nop());
-    assert_eq!(rt; code.len(), 6);
+    assert!(rt; code.len() == 6);
 }

@@ -16,10 +16,10 @@ const TWO_INSTRUCTIONS: [u8; 32] = [
 fn stops_before_a_service(rt: HostRuntime) -> Result<(), AllocError> {
     if let Ok(image) = read(rt.alloc(), &TWO_INSTRUCTIONS) {
         let mut core = Core::new(rt.alloc(), &image)?;
-        assert_eq!(rt; core.pc(), 0x0040_0000);
+        assert!(rt; core.pc() == 0x0040_0000);
         let left = core.go_on(5);
-        assert_eq!(rt; left, 4);
-        assert_eq!(rt; core.register(Register::V0), 10);
+        assert!(rt; left == 4);
+        assert!(rt; core.register(Register::V0) == 10);
         assert!(rt; core.stopped().is_none());
         assert!(rt; !core.is_service_hazard());
         let mut service = Service::new(rt.alloc())?;
@@ -27,7 +27,7 @@ fn stops_before_a_service(rt: HostRuntime) -> Result<(), AllocError> {
             // 10 is no service that makes code
             match core.generate(&mut service) {
                 Ok(_) => assert!(rt; false),
-                Err(why) => assert_eq!(rt; why.number(), 1),
+                Err(why) => assert!(rt; why.number() == 1),
             }
         } else {
             assert!(rt; false);

@@ -46,9 +46,9 @@ fn a_program_runs_to_its_end(rt: HostRuntime) -> Result<(), AllocError> {
         let mut machine = Machine::new(rt.alloc(), &image)?;
         let stop = machine.run(&mut input, &mut out, 100);
         assert!(rt; stop == Stop::Ended(Ending::Done(249)));
-        assert_eq!(rt; out.taken(), b"a-7".as_slice());
-        assert_eq!(rt; machine.steps(), 10);
-        assert_eq!(rt; machine.counts().flushes, 0);
+        assert!(rt; out.taken() == b"a-7".as_slice());
+        assert!(rt; machine.steps() == 10);
+        assert!(rt; machine.counts().flushes == 0);
         assert!(rt; machine.choices().is_empty());
         assert!(rt; machine.into_choices().is_empty());
     } else {
@@ -65,7 +65,7 @@ fn it_goes_on_from_where_it_stopped(rt: HostRuntime) -> Result<(), AllocError> {
         let mut machine = Machine::new(rt.alloc(), &image)?;
         let stop = run_twice(&mut machine, &mut input, &mut out, 4, 4);
         assert!(rt; stop == Stop::Steps);
-        assert_eq!(rt; out.taken(), b"a-7".as_slice());
+        assert!(rt; out.taken() == b"a-7".as_slice());
     } else {
         assert!(rt; false);
     }
@@ -81,13 +81,13 @@ fn services_are_counted_and_places_kept(rt: HostRuntime) -> Result<(), AllocErro
         let stop = machine.run(&mut input, &mut out, 1000);
         assert!(rt; stop == Stop::Ended(Ending::Done(0)));
         let counts = machine.counts();
-        assert_eq!(rt; counts.ops, 2);
-        assert_eq!(rt; counts.functions, 1);
-        assert_eq!(rt; counts.words, 32);
-        assert_eq!(rt; counts.flushes, 1);
-        assert_eq!(rt; counts.spills, 0);
-        assert_eq!(rt; machine.choices(), [0].as_slice());
-        assert_eq!(rt; machine.into_choices().as_slice(), [0].as_slice());
+        assert!(rt; counts.ops == 2);
+        assert!(rt; counts.functions == 1);
+        assert!(rt; counts.words == 32);
+        assert!(rt; counts.flushes == 1);
+        assert!(rt; counts.spills == 0);
+        assert!(rt; machine.choices() == [0].as_slice());
+        assert!(rt; machine.into_choices().as_slice() == [0].as_slice());
     } else {
         assert!(rt; false);
     }

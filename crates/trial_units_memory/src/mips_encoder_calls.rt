@@ -24,9 +24,9 @@ fn addiu_of_the_stack_pointer_is_decoded(rt: HostRuntime) {
 
 #[test]
 fn break_seven_and_a_jump_are_encoded(rt: HostRuntime) {
-    assert_eq!(rt; encode(Instr::Break(BreakCode::new(7))), 0x0000_01cd);
+    assert!(rt; encode(Instr::Break(BreakCode::new(7))) == 0x0000_01cd);
     if let Some(target) = JumpTarget::at(0x0400_0000) {
-        assert_eq!(rt; encode(Instr::Jump(JumpOp::J, target)), 0x0900_0000);
+        assert!(rt; encode(Instr::Jump(JumpOp::J, target)) == 0x0900_0000);
     } else {
         assert!(rt; false);
     }

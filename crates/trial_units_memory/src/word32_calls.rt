@@ -7,41 +7,35 @@ use word32::{
 
 #[test]
 fn divides_toward_zero(rt: HostRuntime) {
-    assert_eq!(rt; div_s(7, 0xffff_fffe), Ok((0xffff_fffd, 1)));
-    assert_eq!(rt; div_s(0xffff_fff9, 2), Ok((0xffff_fffd, 0xffff_ffff)));
-    assert_eq!(rt; div_s(0x8000_0000, 0xffff_ffff), Err(DivFault::Overflow));
-    assert_eq!(rt; div_s(1, 0), Err(DivFault::Zero));
-    assert_eq!(rt; div_u(0xffff_fff9, 2), Ok((0x7fff_fffc, 1)));
-    assert_eq!(rt; div_u(1, 0), Err(DivFault::Zero));
+    assert!(rt; div_s(7, 0xffff_fffe) == Ok((0xffff_fffd, 1)));
+    assert!(rt; div_s(0xffff_fff9, 2) == Ok((0xffff_fffd, 0xffff_ffff)));
+    assert!(rt; div_s(0x8000_0000, 0xffff_ffff) == Err(DivFault::Overflow));
+    assert!(rt; div_s(1, 0) == Err(DivFault::Zero));
+    assert!(rt; div_u(0xffff_fff9, 2) == Ok((0x7fff_fffc, 1)));
+    assert!(rt; div_u(1, 0) == Err(DivFault::Zero));
 }
 
 #[test]
 fn widens_with_the_sign(rt: HostRuntime) {
-    assert_eq!(rt; sext8(0x1234_5680), 0xffff_ff80);
-    assert_eq!(rt; sext8(0x1234_567f), 0x7f);
-    assert_eq!(rt; sext16(0x1234_8000), 0xffff_8000);
+    assert!(rt; sext8(0x1234_5680) == 0xffff_ff80);
+    assert!(rt; sext8(0x1234_567f) == 0x7f);
+    assert!(rt; sext16(0x1234_8000) == 0xffff_8000);
 }
 
 #[test]
 fn reads_and_writes_big_endian(rt: HostRuntime) {
     let mut bytes = [9, 0, 0, 0, 0, 9];
     be_write(&mut bytes, 1, 0x1234_5678);
-    assert_eq!(rt; bytes, [9, 0x12, 0x34, 0x56, 0x78, 9]);
-    assert_eq!(rt; be_read(&bytes, 2), 0x3456_7809);
+    assert!(rt; bytes == [9, 0x12, 0x34, 0x56, 0x78, 9]);
+    assert!(rt; be_read(&bytes, 2) == 0x3456_7809);
 }
 
 #[test]
 fn moves_parts_of_a_word(rt: HostRuntime) {
     let at = map::OBJECTS + 2;
     assert!(rt; is_aligned(at, Width::Half) && !is_aligned(at, Width::Word));
-    assert_eq!(rt;
-        loaded_part(0x1234_f678, at, Width::SignedHalf),
-        0xffff_f678
-    );
-    assert_eq!(rt; loaded_part(0x1234_f678, at, Width::Byte), 0xf6);
-    assert_eq!(rt;
-        stored_part(0x1234_5678, at, Width::SignedByte, 0xffff_ffab),
-        0x1234_ab78
-    );
+    assert!(rt; loaded_part(0x1234_f678, at, Width::SignedHalf) == 0xffff_f678);
+    assert!(rt; loaded_part(0x1234_f678, at, Width::Byte) == 0xf6);
+    assert!(rt; stored_part(0x1234_5678, at, Width::SignedByte, 0xffff_ffab) == 0x1234_ab78);
     access_laws();
 }
