@@ -22,16 +22,16 @@ use Rattle.command_words.specs.Orders.{Order, run, build, exec, mean, asm, dis}
 use Rattle.tick_outcome.specs.declared.outcome.Outcome.{Outcome}
 use Rattle.tick_outcome.specs.declared.outcome.Outcome.TheVariants as outcome
 use Rattle.tick_outcome.specs.declared.ended.Ended as code
-use Rattle.tick_top.specs.Outside.{Outside}
-use Rattle.tick_top.specs.Answers.{IsBare, outcome_of}
-use Rattle.tick_top.specs.Does.{Runs}
-use Rattle.tick_top.specs.Top.{Reports}
-use Rattle.tick_top.specs.Seen.{EndsBehind, IsInput, Account, account_of, ShowsRun}
+use Rattle.image_commands.specs.Outside.{Outside}
+use Rattle.image_commands.specs.Answers.{IsBare, outcome_of}
+use Rattle.image_commands.specs.Does.{Runs}
+use Rattle.image_commands.specs.Said.{Reports}
+use Rattle.image_commands.specs.Seen.{EndsBehind, IsInput, Account, account_of, ShowsRun}
 use Rattle.tick_top.specs.Rows.{file_of, longest_of, content_refusal, refusal, text_refusal, tree_refusal}
 use Rattle.tick_top.specs.Rows.{assembly_refusal, image_refusal}
 use Rattle.tick_top.proofs.Came.{Performed, Came}
-use Rattle.tick_top.proofs.Outcomes.{is_refusal, refusal_no_machine, is_of_machine, reported}
-use Rattle.tick_top.proofs.Runs.{accounted, shows_run}
+use Rattle.image_commands.proofs.Outcomes.{is_refusal, refusal_no_machine, is_of_machine, reported}
+use Rattle.image_commands.proofs.Runs.{accounted, shows_run}
 
 -- ---- bytes that are refused
 

@@ -15,10 +15,12 @@ use Rattle.command_words.specs.Orders.{Order, run, build, exec, mean, asm, dis}
 use Rattle.tick_outcome.specs.declared.outcome.Outcome.{Outcome}
 use Rattle.tick_outcome.specs.declared.outcome.Outcome.TheVariants.{Refused, AsmRefused, LoadFault, TooLong, BadImage}
 use Rattle.tick_outcome.specs.declared.ended.Ended.{Ended}
-use Rattle.tick_top.specs.Outside.{Outside}
-use Rattle.tick_top.specs.Answers.{IsBare, longest_text, longest_image}
-use Rattle.tick_top.specs.Does.{WithFile, WithProgram, WithTree, WithAssembled, WithImage, Does, Answered, Unsaved}
-use Rattle.tick_top.specs.Does.{Unprinted, Runs, RunsProgram, MeansProgram, SavesImage, SavesProgram, PrintsText}
+use Rattle.image_commands.specs.Outside.{Outside}
+use Rattle.image_commands.specs.Answers.{IsBare, longest_text, longest_image}
+use Rattle.image_commands.specs.Does.{WithFile, WithAssembled, WithImage, Answered, Unsaved}
+use Rattle.tick_top.specs.Does.{WithProgram, WithTree, Does}
+use Rattle.image_commands.specs.Does.{Unprinted, Runs, SavesImage, PrintsText}
+use Rattle.tick_top.specs.Does.{RunsProgram, MeansProgram, SavesProgram}
 use Rattle.tick_top.specs.Rows.{file_of, longest_of, text_refusal, tree_refusal, assembly_refusal, image_refusal}
 use Rattle.tick_top.specs.Rows.{refusal}
 

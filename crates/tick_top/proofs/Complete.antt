@@ -19,15 +19,16 @@ use Rattle.command_words.specs.Orders.{Order, run, build, exec, mean, asm, dis, 
 use Rattle.tick_outcome.specs.declared.outcome.Outcome.{Outcome}
 use Rattle.tick_outcome.specs.declared.outcome.Outcome.TheVariants as outcome
 use Rattle.tick_outcome.specs.declared.ended.Ended as code
-use Rattle.tick_top.specs.Outside.{Files, Outside, Failures}
-use Rattle.tick_top.specs.Answers.{longest_text}
-use Rattle.tick_top.specs.Does.{SavedAt, Cause}
-use Rattle.tick_top.specs.Generated.{PrintsSource}
-use Rattle.tick_top.specs.Said.{said}
-use Rattle.tick_top.specs.Top.{Reports, Ticked}
+use Rattle.image_commands.specs.Outside.{Files, Outside, Failures}
+use Rattle.image_commands.specs.Answers.{longest_text}
+use Rattle.image_commands.specs.Does.{SavedAt, Cause}
+use Rattle.image_commands.specs.Generated.{PrintsSource}
+use Rattle.image_commands.specs.Said.{said}
+use Rattle.image_commands.specs.Said.{Reports}
+use Rattle.tick_top.specs.Top.{Ticked}
 use Rattle.mips_model.specs.Choices.{Choice}
-use Rattle.tick_top.specs.Seen.{told, EndsBehind, outcome_at, Moves, IsScannedRun, account_of, ShowsRun}
-use Rattle.tick_top.proofs.Runs.{seen_by, scanned_by}
+use Rattle.image_commands.specs.Seen.{told, EndsBehind, outcome_at, Moves, IsScannedRun, account_of, ShowsRun}
+use Rattle.image_commands.proofs.Runs.{seen_by, scanned_by}
 use Rattle.tick_top.specs.Rows.{file_of, longest_of, refusal, most_steps, most_units}
 use Rattle.tick_top.specs.Meant.{allowed, Unfailed}
 use Rattle.tick_top.specs.Evaluations.{MeantText}
@@ -36,7 +37,7 @@ use Rattle.tick_top.proofs.Calls.{IsDone, shows, input_ends}
 use Rattle.tick_top.proofs.Endings.{order_shows, evaluated_at}
 use Rattle.tick_top.proofs.Meanings.{WasMeant, mean_done, one_meant, one_units, long_input, whole_read}
 use Rattle.tick_top.proofs.Meant.{in_time}
-use Rattle.tick_top.proofs.Outcomes.{seen_whole}
+use Rattle.image_commands.proofs.Outcomes.{seen_whole}
 use Rattle.tick_top.proofs.Rows.{fulfilled, performed, refused_front}
 
 module _ (words : List (List ℕ)) (old new : Outside) (before now : Failures) (taken told_err : Option (List ℕ))

@@ -21,13 +21,16 @@ use Rattle.command_words.specs.Orders.{Order, run, build, exec, mean, asm, dis, 
 use Rattle.tick_outcome.specs.declared.outcome.Outcome.{Outcome}
 use Rattle.tick_outcome.specs.declared.outcome.Outcome.TheVariants as outcome
 use Rattle.tick_outcome.specs.declared.ended.Ended as code
-use Rattle.tick_top.specs.Outside.{Files, Outside, Failures}
-use Rattle.tick_top.specs.Answers.{longest_text}
-use Rattle.tick_top.specs.Does.{Answered, IsOfCommand, SavedAt, Evaluates, PrintsText}
-use Rattle.tick_top.specs.Generated.{PrintsSource, Fulfils}
-use Rattle.tick_top.specs.Said.{said}
+use Rattle.image_commands.specs.Outside.{Files, Outside, Failures}
+use Rattle.image_commands.specs.Answers.{longest_text}
+use Rattle.image_commands.specs.Does.{Answered, IsOfCommand, SavedAt, PrintsText}
+use Rattle.tick_top.specs.Does.{Evaluates}
+use Rattle.image_commands.specs.Generated.{PrintsSource}
+use Rattle.tick_top.specs.Generated.{Fulfils}
+use Rattle.image_commands.specs.Said.{said}
 use Rattle.tick_top.specs.Top.{Ticked}
-use Rattle.tick_top.specs.Seen.{told as told_input, IsInput, outcome_at, IsScannedRun, account_of, ShowsRun, PutsFront}
+use Rattle.image_commands.specs.Seen.{told as told_input, IsInput, outcome_at, IsScannedRun, account_of, ShowsRun}
+use Rattle.image_commands.specs.Seen.{PutsFront}
 use Rattle.tick_top.specs.Rows.{refusal, most_steps, RunEnds, IsOfEnding, IsOfEither, Executes}
 use Rattle.tick_top.specs.Evaluations.{MeantText, Evaluation, seen_of, EvaluationEnds, TellsOf, MeanIsMeant}
 use Rattle.tick_top.specs.Meant.{RunIsMeant}
@@ -38,10 +41,10 @@ use Rattle.tick_top.proofs.Calls.{short_enough}
 use Rattle.tick_top.proofs.Meanings.{by_answers, WasMeant, IsEvaluated, mean_done, one_meant, one_units, one_read}
 use Rattle.tick_top.proofs.Meanings.{not_refused}
 use Rattle.tick_top.proofs.Meant.{tells}
-use Rattle.tick_top.proofs.Runs.{seen_by, scanned_by}
-use Rattle.tick_top.proofs.Scans.{one_run}
-use Rattle.tick_top.proofs.Outcomes.{is_of_machine, is_ending, no_ending, ending_machine, told_at, ending_told}
-use Rattle.tick_top.proofs.Outcomes.{seen_whole, reported, stays}
+use Rattle.image_commands.proofs.Runs.{seen_by, scanned_by}
+use Rattle.image_commands.proofs.Scans.{one_run}
+use Rattle.image_commands.proofs.Outcomes.{is_of_machine, is_ending, no_ending, ending_machine, told_at, ending_told}
+use Rattle.image_commands.proofs.Outcomes.{seen_whole, reported, stays}
 use Rattle.tick_top.proofs.Rows.{performed, refused_front, told_done, first_loaded, by_first}
 
 -- ---- an order that was done

@@ -13,9 +13,9 @@ use Rattle.tick_top.specs.Texts.{typed_tree, Means}
 use Rattle.tick_outcome.specs.declared.outcome.Outcome.{Outcome}
 use Rattle.tick_outcome.specs.declared.outcome.Outcome.TheVariants as outcome
 use Rattle.tick_outcome.specs.declared.ended.Ended as code
-use Rattle.tick_top.specs.Answers.{IsBare}
+use Rattle.image_commands.specs.Answers.{IsBare}
 use Rattle.tick_top.specs.Does.{WithTree, Evaluates}
-use Rattle.tick_top.specs.Seen.{told, outcome_at}
+use Rattle.image_commands.specs.Seen.{told, outcome_at}
 
 -- an accepted text, and what is done with its program
 pub with_tree : (answers : Outcome → Type 0) (next : Program → Type 0) (text : List ℕ) (tree : Typed)

@@ -24,7 +24,7 @@ use Rattle.static_backend.specs.Scanned.{IsScan, IsScanned}
 use Rattle.built_programs.specs.Built.{Main, built}
 use Rattle.tick_top.specs.Texts.{typed_tree, Lowered, Builds}
 use Rattle.tick_top.specs.Saved.{IsFileOf, HeadlineOfBytes, Saves}
-use Rattle.tick_top.proofs.Intervals.{one_list}
+use Rattle.image_commands.proofs.Intervals.{one_list}
 
 abbrev placed : Function → List ℕ → Placed
 placed f ps = record { function = f; places = ps }

@@ -1,50 +1,29 @@
--- From what came of a file to what a command did with it.
-use Rattle.std.proofs.Common.{◌≡◌, ℕ, ◌+◌, List, length, Option, Result, Ok, Err, IfOk, nat_lt, inl, inr, false, subst}
-use Rattle.std.proofs.Common.{sym}
+-- From what came of a text of the language to what a command did with it.
+use Rattle.std.proofs.Common.{◌≡◌, ℕ, ◌+◌, List, length, Result, Ok, IfOk, nat_lt, inl, inr, false, subst, sym}
 use Rattle.std.specs.Io.KnownBytes.{Keeps}
 use Rattle.host_edge.specs.Files.{Loads}
 use Rattle.image_file.specs.Image.{ImageParts}
-use Rattle.mips_text.specs.Assembly.{assembled}
 use Rattle.staged_meaning.specs.Meaning.{Program}
 use Rattle.tick_top.specs.Texts.{typed}
 use Rattle.tick_outcome.specs.declared.outcome.Outcome.{Outcome}
 use Rattle.tick_outcome.specs.declared.outcome.Outcome.TheVariants as outcome
-use Rattle.tick_top.specs.declared.ended.Front.TheVariants.{Found, Instead}
+use Rattle.image_commands.specs.declared.ended.Front.TheVariants.{Found, Instead}
 use Rattle.tick_outcome.specs.declared.ended.Ended.{Ended}
 use Rattle.command_words.specs.Orders.{Asked, of_file, gen, build}
-use Rattle.tick_top.specs.Outside.{Files, Outside, Still, SameFiles}
-use Rattle.tick_top.specs.Answers.{IsFront, longest_text, IsBuilt, IsRefused, IsAssembled, IsAsmRefused}
-use Rattle.tick_top.specs.Does.{WithFile, WithProgram, WithAssembled, Unsaved, SavesImage, SavesProgram, AssemblesFile}
-use Rattle.tick_top.specs.Does.{BuildsFile}
-use Rattle.tick_top.specs.Generated.{PrintsSource, Fulfils}
-use Rattle.tick_top.proofs.Saves.{saves_on}
-
-pub if_ok : {T E : Type 0} {P Q : T → Type 0} (r : Result T E) → ((x : T) → P x → Q x) → IfOk r P → IfOk r Q
-if_ok (Ok x) f p = f x p
-if_ok (Err e) f p = p
+use Rattle.image_commands.specs.Outside.{Files, Outside, Still, SameFiles}
+use Rattle.image_commands.specs.Answers.{IsFront, longest_text}
+use Rattle.tick_top.specs.Answers.{IsBuilt, IsRefused}
+use Rattle.image_commands.specs.Does.{Unsaved, SavesImage}
+use Rattle.tick_top.specs.Does.{WithProgram, SavesProgram, BuildsFile}
+use Rattle.image_commands.specs.Generated.{PrintsSource}
+use Rattle.tick_top.specs.Generated.{Fulfils}
+use Rattle.image_commands.proofs.Saves.{saves_on}
+use Rattle.image_commands.proofs.Fronts.{if_ok, in_file, found}
 
 module _ (answers : Outcome → Type 0) where
-  pub in_file : (told : Option (Option (List ℕ))) (longest : ℕ) (next : List ℕ → Type 0) (bytes : List ℕ)
-      → Loads told (longest + 1) bytes → nat_lt longest (length bytes) ≡ false → next bytes →
-      WithFile told longest answers next
-  in_file told longest next bytes loads short n = inr (bytes, loads, rw short n)
-
-  pub found : (told : Option (Option (List ℕ))) (longest : ℕ) (good : List ℕ → ImageParts → Type 0)
-      (bad : List ℕ → Outcome → Type 0) (next : List ℕ → Type 0) (image : ImageParts)
-      → ((bytes : List ℕ) → good bytes image → next bytes)
-      → (f : (bytes : List ℕ) × Loads told (longest + 1) bytes × (nat_lt longest (length bytes) ≡ false) ×
-      good bytes image)
-      → WithFile told longest answers next
-  found told longest good bad next image then (bytes, loads, short, g) =
-      in_file told longest next bytes loads short (then bytes g)
-
   pub program : (next : List ℕ → Program → Type 0) (text : List ℕ) (p : Program) → typed text ≡ Ok p → next text p →
       WithProgram answers next text
   program next text p accepted n = rw accepted n
-
-  pub assembled_to : (next : ImageParts → Type 0) (text : List ℕ) (i : ImageParts) → assembled text ≡ Ok i → next i →
-      WithAssembled answers next text
-  assembled_to next text i e n = rw e n
 
   pub refused : (next : List ℕ → Program → Type 0) (text : List ℕ) (o : Outcome) → IsRefused text o → answers o →
       WithProgram answers next text
@@ -62,16 +41,9 @@ module _ (answers : Outcome → Type 0) where
   refused next text outcome.ReadFault e a = absurd e
   refused next text outcome.SaveFault e a = absurd e
 
--- the whole of `asm` and of `build`, for files before a load, behind it and behind a save
+-- the whole of `build`, for files before a load, behind it and behind a save
 module _ (file path : List ℕ) (old mid new : Files) (e : Ended) (image : ImageParts) (same : SameFiles old mid)
     (s : SavesImage path mid new e image) where
-  pub assembles : IsFront (old file) longest_text IsAssembled IsAsmRefused (Found image) →
-      AssemblesFile file path old new e
-  assembles f = found (Unsaved old new e) (old file) longest_text IsAssembled IsAsmRefused
-      (WithAssembled (Unsaved old new e) (SavesImage path old new e)) image
-      (λ text a. assembled_to (Unsaved old new e) (SavesImage path old new e) text image a
-      (saves_on path old mid new e image same s)) f
-
   saves_program : (text : List ℕ) → IsBuilt text image →
       WithProgram (Unsaved old new e) (SavesProgram path old new e) text
   saves_program text (p, accepted, headline, choices, lowering) =

@@ -1,12 +1,7 @@
 pub mod Mains
 pub mod Files
-pub mod Intervals
 pub mod Programs
-pub mod Saves
 pub mod Fronts
-pub mod Runs
-pub mod Scans
-pub mod Outcomes
 pub mod Came
 pub mod Meant
 pub mod Rows
@@ -14,6 +9,5 @@ pub mod Calls
 pub mod Endings
 pub mod Complete
 pub mod Stated
-pub mod Spoken
 pub mod Evaluations
 pub mod Meanings

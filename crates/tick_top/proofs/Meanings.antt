@@ -15,10 +15,11 @@ use Rattle.tick_top.specs.Texts.{typed_tree, Means}
 use Rattle.command_words.specs.Orders.{mean, Asked, of_file, order_of}
 use Rattle.tick_outcome.specs.declared.outcome.Outcome.TheVariants as outcome
 use Rattle.tick_outcome.specs.declared.ended.Ended.{Ended}
-use Rattle.tick_top.specs.Outside.{Files, Outside}
-use Rattle.tick_top.specs.Answers.{IsBare, longest_text}
-use Rattle.tick_top.specs.Seen.{told, outcome_at}
-use Rattle.tick_top.specs.Does.{Unprinted, Evaluates, MeansProgram}
+use Rattle.image_commands.specs.Outside.{Files, Outside}
+use Rattle.image_commands.specs.Answers.{IsBare, longest_text}
+use Rattle.image_commands.specs.Seen.{told, outcome_at}
+use Rattle.image_commands.specs.Does.{Unprinted}
+use Rattle.tick_top.specs.Does.{Evaluates, MeansProgram}
 use Rattle.tick_top.specs.Rows.{refusal}
 use Rattle.tick_top.specs.Evaluations.{MeantText, InputTooLong, Evaluation}
 use Rattle.tick_top.proofs.Came.{Performed}

@@ -13,11 +13,11 @@ use Rattle.staged_meaning.specs.Meaning.{Program, meant}
 use Rattle.static_image.specs.Headline.{Headline}
 use Rattle.tick_outcome.specs.declared.outcome.Outcome.{Outcome}
 use Rattle.tick_outcome.specs.declared.outcome.Outcome.TheVariants as outcome
-use Rattle.tick_top.specs.Outside.{Outside}
-use Rattle.tick_top.specs.Seen.{outcome_at, Moves, PutsFront, IsSeen}
+use Rattle.image_commands.specs.Outside.{Outside}
+use Rattle.image_commands.specs.Seen.{outcome_at, Moves, PutsFront, IsSeen}
 use Rattle.tick_top.specs.Meant.{allowed, MeaningEnds, MeaningGoesOn, TellsMeaning}
-use Rattle.tick_top.proofs.Outcomes.{ending_is, is_of_machine, at_machine, no_machine}
-use Rattle.tick_top.proofs.Runs.{output_prefix}
+use Rattle.image_commands.proofs.Outcomes.{ending_is, is_of_machine, at_machine, no_machine}
+use Rattle.image_commands.proofs.Runs.{output_prefix}
 
 none_some : {A : Type 0} (o : Option End) (e : End) → o ≡ None → o ≡ Some e → A
 none_some o e p q = absurd cc

@@ -11,19 +11,22 @@ use Rattle.command_words.specs.Orders.{Order, run, build, exec, mean, asm, dis, 
 use Rattle.tick_outcome.specs.declared.outcome.Outcome.{Outcome}
 use Rattle.tick_outcome.specs.declared.outcome.Outcome.TheVariants as outcome
 use Rattle.tick_outcome.specs.declared.ended.Ended.{Ended}
-use Rattle.tick_top.specs.Outside.{Files, Outside, Failures}
+use Rattle.image_commands.specs.Outside.{Files, Outside, Failures}
 use Rattle.staged_meaning.specs.Meaning.{Program, meant}
-use Rattle.tick_top.specs.Answers.{longest_text}
-use Rattle.tick_top.specs.Seen.{told}
-use Rattle.tick_top.specs.Does.{Answered, Evaluates, IsOfCommand, SavedAt}
+use Rattle.image_commands.specs.Answers.{longest_text}
+use Rattle.image_commands.specs.Seen.{told}
+use Rattle.image_commands.specs.Does.{Answered, IsOfCommand, SavedAt}
+use Rattle.tick_top.specs.Does.{Evaluates}
 use Rattle.tick_top.specs.Evaluations.{MeantText, InputTooLong}
-use Rattle.tick_top.specs.Generated.{PrintsSource, Fulfils}
-use Rattle.tick_top.specs.Said.{said}
+use Rattle.image_commands.specs.Generated.{PrintsSource}
+use Rattle.tick_top.specs.Generated.{Fulfils}
+use Rattle.image_commands.specs.Said.{said}
 use Rattle.tick_top.specs.Top.{Performs, Ticked}
 use Rattle.tick_top.specs.Rows.{file_of, longest_of, content_refusal, refusal, most_units, Refuses, IsRefusal}
 use Rattle.tick_top.specs.Rows.{IsTooLong}
-use Rattle.tick_top.proofs.Outcomes as kinds
-use Rattle.tick_top.proofs.Outcomes.{is_refusal, is_content, no_refusal, stop_refuses, at_refuses, reported, stays}
+use Rattle.image_commands.proofs.Outcomes as kinds
+use Rattle.image_commands.proofs.Outcomes.{is_refusal, is_content, no_refusal, stop_refuses, at_refuses, reported}
+use Rattle.image_commands.proofs.Outcomes.{stays}
 use Rattle.tick_top.proofs.Meanings.{by_answers, WasMeant, MeanDone, mean_done, long_input, whole_read}
 use Rattle.tick_top.proofs.Meanings.{not_refused}
 use Rattle.tick_top.proofs.Came.{Performed, Taken, Came, came}

@@ -5,18 +5,17 @@ use Rattle.history.specs.Events as event
 use Rattle.tick_outcome.specs.declared.outcome.Outcome.{Outcome}
 use Rattle.tick_outcome.specs.declared.outcome.Outcome.TheVariants as outcome
 use Rattle.tick_outcome.specs.declared.ended.Ended.{Ended}
-use Rattle.tick_top.specs.Outside.{Outside, Failures}
-use Rattle.tick_top.specs.Does.{Cause}
+use Rattle.image_commands.specs.Outside.{Outside, Failures}
+use Rattle.image_commands.specs.Does.{Cause}
 use Rattle.tick_top.specs.Top.{Ticked}
 use Rattle.tick_top.specs.Rows.{RefusedRow, AsmRefusedRow, TooLongRow, BadImageRow, TrapRow, MachineFaultRow}
 use Rattle.tick_top.specs.Rows.{OutOfStepsRow}
-use Rattle.tick_top.specs.Laws.{IsOfRun, RunMeans, RunCompletes, ShowsRuns, ScansOnce, MeanMeans, MeanCompletes}
+use Rattle.tick_top.specs.Laws.{IsOfRun, RunMeans, RunCompletes, ShowsRuns, MeanMeans, MeanCompletes}
 use Rattle.tick_top.specs.Laws.{CommandsComplete, SourcesComplete}
-use Rattle.tick_top.proofs.Outcomes.{is_of_machine}
+use Rattle.image_commands.proofs.Outcomes.{is_of_machine}
 use Rattle.tick_top.proofs.Rows.{refusal_row, too_long, is_first}
 use Rattle.tick_top.proofs.Endings as endings
 use Rattle.tick_top.proofs.Complete as complete
-use Rattle.tick_top.proofs.Scans.{one_run}
 
 -- ---- the rows
 
@@ -90,9 +89,6 @@ pub shows_runs : ShowsRuns
 shows_runs c order steps image did =
     endings.machine_call c.words c.old c.new c.before c.now c.said_before c.said_now c.err_before c.err_now c.ended did
     order steps image
-
-pub scans_once : ScansOnce
-scans_once = one_run
 
 pub mean_means : MeanMeans
 mean_means c file units outcome did =

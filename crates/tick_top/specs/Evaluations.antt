@@ -11,9 +11,9 @@ use Rattle.tick_top.specs.Texts.{typed_tree, Means}
 use Rattle.command_words.specs.Orders.{mean, of_file, order_of}
 use Rattle.tick_outcome.specs.declared.outcome.Outcome.{Outcome}
 use Rattle.tick_outcome.specs.declared.outcome.Outcome.TheVariants.{WriteFault}
-use Rattle.tick_top.specs.Outside.{Files, Outside}
-use Rattle.tick_top.specs.Answers.{longest_text}
-use Rattle.tick_top.specs.Seen.{told, outcome_at, PutsFront}
+use Rattle.image_commands.specs.Outside.{Files, Outside}
+use Rattle.image_commands.specs.Answers.{longest_text}
+use Rattle.image_commands.specs.Seen.{told, outcome_at, PutsFront}
 
 -- the words ask for the meaning of a text, which was loaded and is accepted
 pub record MeantText (words : List (List ℕ)) (files : Files) : Type 0 where

@@ -1,12 +1,10 @@
 -- Laws of a whole call: what the outcome of `run` tells of the meaning of its text; that a run gives the ending that
--- its
--- machine has, and the meaning's where it comes within what the instructions allow; and that every other command, where
--- its
--- file isn't refused and nothing outside failed, is done.
+-- its machine has, and the meaning's where it comes within what the instructions allow; and that every other command,
+-- where its file isn't refused and nothing outside failed, is done.
 use Rattle.std.specs.Prelude.{◌≡◌, ℕ, ◌≤◌, false, List, length, Option, Some, None, Ok, nat_lt}
 use Rattle.std.specs.Io.KnownBytes.{Appends}
 use Rattle.host_edge.specs.declared.ending.Ending.{Ending}
-use Rattle.history.specs.Events.{Ended, Input, output}
+use Rattle.history.specs.Events.{Ended, output}
 use Rattle.image_file.specs.Image.{ImageParts}
 use Rattle.mips_model.specs.Choices.{Choice}
 use Rattle.mips_model.specs.Run.{runs}
@@ -19,10 +17,10 @@ use Rattle.tick_outcome.specs.declared.outcome.Outcome.{Outcome}
 use Rattle.tick_outcome.specs.declared.outcome.Outcome.TheVariants.{Done, Trap, MachineFault, OutOfSteps, ReadFault}
 use Rattle.tick_outcome.specs.declared.outcome.Outcome.TheVariants.{WriteFault}
 use Rattle.tick_outcome.specs.declared.ended.Ended as code
-use Rattle.tick_top.specs.Outside.{Outside, Failures}
-use Rattle.tick_top.specs.Answers.{longest_text}
+use Rattle.image_commands.specs.Outside.{Outside, Failures}
+use Rattle.image_commands.specs.Answers.{longest_text}
 use Rattle.tick_top.specs.Top.{Ticked}
-use Rattle.tick_top.specs.Seen.{told, outcome_at, Moves, IsScannedRun, account_of, account_at, ShowsRun}
+use Rattle.image_commands.specs.Seen.{told, outcome_at, Moves, IsScannedRun, account_of, ShowsRun}
 use Rattle.tick_top.specs.Rows.{file_of, refusal, most_steps, most_units}
 use Rattle.tick_top.specs.Evaluations.{MeanIsMeant}
 use Rattle.tick_top.specs.Meant.{allowed, RunIsMeant, Unfailed}
@@ -121,14 +119,6 @@ CommandsComplete =
     × ((steps : ℕ) (bytes : List ℕ) → most_steps order ≡ Some steps → c.old.left ≡ Some bytes → (image : ImageParts)
     × (c.ended.image ≡ Some image) × ((row : List Choice) × IsScannedRun image (told bytes) row steps
     × (c.ended.outcome ≡ outcome_at steps (runs image (told bytes) row steps).ending)))
-
--- an image has one run under linear scan's choices, whatever row gives them
-abbrev pub ScansOnce : Type 0
-ScansOnce =
-    (image : ImageParts) (input : Input) (row other : List Choice) (n : ℕ) → IsScannedRun image input row n
-    → IsScannedRun image input other n
-    → (runs image input row n ≡ runs image input other n)
-    × (account_at image input row n ≡ account_at image input other n)
 
 -- where nothing outside fails, `gen` is done, and has written the source
 abbrev pub SourcesComplete : Type 0

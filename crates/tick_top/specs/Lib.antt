@@ -1,12 +1,9 @@
 pub mod Texts
 pub mod Saved
-pub mod Outside
 pub mod Answers
 pub mod Does
 pub mod Generated
-pub mod Said
 pub mod Top
-pub mod Seen
 pub mod Rows
 pub mod Meant
 pub mod Laws

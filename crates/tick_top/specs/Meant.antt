@@ -15,9 +15,9 @@ use Rattle.staged_meaning.specs.Meaning.{Program, meant}
 use Rattle.tick_top.specs.Texts.{typed}
 use Rattle.tick_outcome.specs.declared.outcome.Outcome.{Outcome}
 use Rattle.tick_outcome.specs.declared.outcome.Outcome.TheVariants.{Done, Trap, OutOfSteps, ReadFault, WriteFault}
-use Rattle.tick_top.specs.Answers.{longest_text}
-use Rattle.tick_top.specs.Outside.{Outside, Failures}
-use Rattle.tick_top.specs.Seen.{IsInput, Moves, PutsFront}
+use Rattle.image_commands.specs.Answers.{longest_text}
+use Rattle.image_commands.specs.Outside.{Outside, Failures}
+use Rattle.image_commands.specs.Seen.{IsInput, Moves, PutsFront}
 
 -- how many instructions so many units of work may take
 abbrev pub allowed : (units : ℕ) → ℕ

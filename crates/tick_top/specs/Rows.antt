@@ -25,9 +25,9 @@ use Rattle.tick_outcome.specs.declared.outcome.Outcome.TheVariants.{Refused, Asm
 use Rattle.tick_outcome.specs.declared.outcome.Outcome.TheVariants.{Trap, MachineFault, OutOfSteps, ReadFault}
 use Rattle.tick_outcome.specs.declared.outcome.Outcome.TheVariants.{WriteFault}
 use Rattle.tick_outcome.specs.declared.ended.Ended.{Ended}
-use Rattle.tick_top.specs.Outside.{Files, Outside}
-use Rattle.tick_top.specs.Answers.{longest_text, longest_image}
-use Rattle.tick_top.specs.Seen.{IsInput, IsScannedRun}
+use Rattle.image_commands.specs.Outside.{Files, Outside}
+use Rattle.image_commands.specs.Answers.{longest_text, longest_image}
+use Rattle.image_commands.specs.Seen.{IsInput, IsScannedRun}
 use Rattle.tick_top.specs.Evaluations.{InputTooLong, Evaluation, seen_of, EvaluationEnds}
 
 -- ---- refusals

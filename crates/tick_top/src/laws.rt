@@ -1,5 +1,5 @@
 //! Laws of a whole call.
-ghost use Rattle.tick_top.specs.Laws.{RunMeans, RunCompletes, ShowsRuns, ScansOnce, MeanMeans, MeanCompletes};
+ghost use Rattle.tick_top.specs.Laws.{RunMeans, RunCompletes, ShowsRuns, MeanMeans, MeanCompletes};
 ghost use Rattle.tick_top.specs.Laws.{CommandsComplete, SourcesComplete};
 
 /// What `run` answers is what the text means: where it answers Done, the meaning ends so, and its output was put out.
@@ -15,11 +15,6 @@ pub fn run_completes()
 /// What `run` and `exec` show is the definition's run of the image that they hand back, under linear scan's choices.
 pub fn shows_runs()
     ensures { ShowsRuns }
-{}
-
-/// An image has one run under linear scan's choices.
-pub fn scans_once()
-    ensures { ScansOnce }
 {}
 
 /// What `mean` answers and writes is what the text means on the whole input.

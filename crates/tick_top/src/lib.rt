@@ -4,20 +4,17 @@
 
 mod accepted;
 mod commands;
-mod ended;
-mod generated;
-mod images;
 mod laws;
 mod load;
 mod means;
-mod said;
 mod saved;
 mod top;
 
 pub use accepted::{build, means_as_it_runs, typed_tree};
+pub use image_commands::scans_once;
 pub use laws::{
-    commands_complete, mean_completes, mean_means, run_completes, run_means, scans_once,
-    shows_runs, sources_complete,
+    commands_complete, mean_completes, mean_means, run_completes, run_means, shows_runs,
+    sources_complete,
 };
 pub use saved::{build_file, lowers_one, reads_headline, saves_built, saves_headline, saves_one};
 pub use tick_outcome::{Ended, Outcome, status};

@@ -3,16 +3,15 @@ ghost use Rattle.std.specs.Prelude.{◌≡◌, ◌≢◌, ◌⊎◌, ◌↔◌, 
 ghost use Rattle.std.specs.Io.KnownBytes.{Keeps};
 ghost use Rattle.host_edge.specs.Causes.{Rose};
 ghost use Rattle.command_words.specs.Orders.{order_of};
-ghost use Rattle.tick_top.specs.Outside.{Unwritten, outside, failures};
-ghost use Rattle.tick_top.specs.Does.{Cause};
+ghost use Rattle.image_commands.specs.Outside.{Unwritten, outside, failures};
+ghost use Rattle.image_commands.specs.Does.{Cause};
 ghost use Rattle.tick_top.specs.Rows.{RefusedRow, AsmRefusedRow, TooLongRow, BadImageRow, TrapRow, MachineFaultRow, OutOfStepsRow};
 ghost use Rattle.tick_top.specs.Top.{Performs, Ticked};
 
 use crate::commands::obey;
-use crate::ended::bare;
-use crate::said::report;
 use command_words::command_of;
 use host_edge::{Sink, Source, Store};
+use image_commands::{bare, report};
 use std::alloc::{AllocError, Global};
 use tick_outcome::{Ended, Outcome};
 

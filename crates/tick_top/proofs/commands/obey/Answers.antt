@@ -1,6 +1,6 @@
 use Rattle.std.proofs.Common.{rules, ap, refl}
 use Rattle.command_words.specs.Orders.{ordered}
-use Rattle.tick_top.specs.Outside.{outside}
+use Rattle.image_commands.specs.Outside.{outside}
 use Rattle.tick_top.proofs.Fronts.{ordered_build, asked_source}
 use Rattle.tick_top.proofs.commands.obey.Goals as goal
 

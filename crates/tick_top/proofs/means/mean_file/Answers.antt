@@ -1,8 +1,9 @@
 use Rattle.std.proofs.Common.{rules}
-use Rattle.tick_top.specs.Outside.{outside}
-use Rattle.tick_top.specs.Answers.{longest_text}
-use Rattle.tick_top.specs.Does.{Answered, WithTree, MeansProgram}
-use Rattle.tick_top.proofs.Fronts.{if_ok, in_file}
+use Rattle.image_commands.specs.Outside.{outside}
+use Rattle.image_commands.specs.Answers.{longest_text}
+use Rattle.image_commands.specs.Does.{Answered}
+use Rattle.tick_top.specs.Does.{WithTree, MeansProgram}
+use Rattle.image_commands.proofs.Fronts.{if_ok, in_file}
 use Rattle.tick_top.proofs.means.mean_file.Goals as goal
 
 pub returns-in-Whole-clause-means : goal.returns-in-Whole-clause-means

@@ -1,7 +1,8 @@
 use Rattle.std.proofs.Common.{rules}
-use Rattle.tick_top.specs.Outside.{outside}
-use Rattle.tick_top.specs.Does.{Answered, MeansProgram}
-use Rattle.tick_top.proofs.Fronts.{if_ok}
+use Rattle.image_commands.specs.Outside.{outside}
+use Rattle.image_commands.specs.Does.{Answered}
+use Rattle.tick_top.specs.Does.{MeansProgram}
+use Rattle.image_commands.proofs.Fronts.{if_ok}
 use Rattle.tick_top.proofs.Evaluations.{with_tree}
 use Rattle.tick_top.proofs.means.mean_text.Goals as goal
 

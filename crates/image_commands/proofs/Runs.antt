@@ -23,13 +23,13 @@ use Rattle.mips_machine.specs.Progress.{world, counts_of}
 use Rattle.mips_machine.specs.Ran.{Ran, MayFollow, before, ending_of, told_of}
 use Rattle.mips_machine.proofs.More.{runs_all, counts_steps, chooses_well, chooses_so_far, output-++}
 use Rattle.mips_machine.proofs.Moves.{output_outs}
-use Rattle.tick_top.specs.Answers.{outcome_of}
-use Rattle.tick_top.proofs.Outcomes.{by_fault}
+use Rattle.image_commands.specs.Answers.{outcome_of}
+use Rattle.image_commands.proofs.Outcomes.{by_fault}
 use Rattle.tick_outcome.specs.declared.outcome.Outcome.{Outcome}
 use Rattle.tick_outcome.specs.declared.outcome.Outcome.TheVariants as outcome
-use Rattle.tick_top.specs.Seen.{EndsBehind, IsInput, outcome_at, Moves, PutsFront, IsSeen, IsScannedRun, Account}
-use Rattle.tick_top.specs.Seen.{account_at}
-use Rattle.tick_top.specs.Seen.{ShowsRun}
+use Rattle.image_commands.specs.Seen.{EndsBehind, IsInput, outcome_at, Moves, PutsFront, IsSeen, IsScannedRun, Account}
+use Rattle.image_commands.specs.Seen.{account_at}
+use Rattle.image_commands.specs.Seen.{ShowsRun}
 
 -- ---- the input
 

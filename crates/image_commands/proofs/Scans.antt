@@ -31,8 +31,8 @@ use Rattle.mips_model.proofs.Aside.{step_aside}
 use Rattle.icode_ir.specs.Decoded.{op_of}
 use Rattle.mips_machine.specs.Progress.{counts_of}
 use Rattle.mips_machine.specs.Ran.{IsScannedAt}
-use Rattle.tick_top.proofs.Intervals.{one_list}
-use Rattle.tick_top.specs.Seen.{Account, IsScannedRun, account_at}
+use Rattle.image_commands.proofs.Intervals.{one_list}
+use Rattle.image_commands.specs.Seen.{Account, IsScannedRun, account_at}
 
 -- ---- one choice
 

@@ -1,9 +1,9 @@
 //! What is done with an image: it runs, it is saved, or its text is written.
-ghost use Rattle.std.specs.Prelude.{◌≡◌, ℕ, ◌≤◌, ◌^◌, List, Option, IfOk, OnErr};
+ghost use Rattle.std.specs.Prelude.{◌≡◌, ℕ, ◌≤◌, ◌^◌, IfOk, OnErr};
 ghost use Rattle.std.specs.Io.KnownBytes.{Keeps};
-ghost use Rattle.tick_top.specs.Outside.{SameFiles, failures};
-ghost use Rattle.tick_top.specs.Answers.{RanImage, outcome_of};
-ghost use Rattle.tick_top.specs.Does.{IsOfCommand, Cause, SavesImage, PrintsText};
+ghost use Rattle.image_commands.specs.Outside.{SameFiles, failures};
+ghost use Rattle.image_commands.specs.Answers.{RanImage, outcome_of};
+ghost use Rattle.image_commands.specs.Does.{IsOfCommand, Cause, SavesImage, PrintsText};
 
 use crate::ended::bare;
 use host_edge::{Ending, SaveFault, Sink, Source, Store};
@@ -36,10 +36,13 @@ pub fn run_image<I: Source, O: Sink>(
     out: &mut O,
 ) -> Result<Ended, AllocError>
     requires { steps ≤ 2 ^ 40 }
-    ensures ran { IfOk result (RanImage steps image (I.left input.old) (I.left input.new) (O.taken out.old) (O.taken out.new)) }
+    ensures ran { IfOk result (RanImage steps image
+        (I.left input.old) (I.left input.new) (O.taken out.old) (O.taken out.new)) }
     ensures words { IfOk result (λ e. IsOfCommand e.outcome) }
-    ensures cause { IfOk result (λ e. (n : ℕ) → Cause e.outcome (failures n (I.faults input.old) (O.faults out.old)) (failures n (I.faults input.new) (O.faults out.new))) }
-    ensures none { OnErr result (Keeps (I.left input.old) (I.left input.new) × Keeps (O.taken out.old) (O.taken out.new)) }
+    ensures cause { IfOk result (λ e. (n : ℕ) → Cause e.outcome
+        (failures n (I.faults input.old) (O.faults out.old)) (failures n (I.faults input.new) (O.faults out.new))) }
+    ensures none { OnErr result (Keeps (I.left input.old) (I.left input.new)
+        × Keeps (O.taken out.old) (O.taken out.new)) }
 {
     let mut machine = Machine::new(alloc, &image)?;
     let stop = machine.run(input, out, steps);
@@ -61,7 +64,8 @@ pub fn save_image<S: Store>(
 ) -> Result<Ended, AllocError>
     ensures saves { IfOk result (λ e. SavesImage path.now (S.file store.old) (S.file store.new) e image.now) }
     ensures words { IfOk result (λ e. IsOfCommand e.outcome) }
-    ensures cause { IfOk result (λ e. (m n : ℕ) → Cause e.outcome (failures (S.faults store.old) m n) (failures (S.faults store.new) m n)) }
+    ensures cause { IfOk result (λ e. (m n : ℕ) → Cause e.outcome
+        (failures (S.faults store.old) m n) (failures (S.faults store.new) m n)) }
     ensures none { OnErr result (SameFiles (S.file store.old) (S.file store.new)) }
 {
     let bytes = write(alloc, image)?;
@@ -76,7 +80,8 @@ pub fn save_image<S: Store>(
 pub fn write_text<O: Sink>(alloc: Global, image: &Image, out: &mut O) -> Ended
     ensures prints { PrintsText (O.taken out.old) (O.taken out.new) result image.now }
     ensures words { IsOfCommand result.outcome }
-    ensures cause { (m n : ℕ) → Cause result.outcome (failures m n (O.faults out.old)) (failures m n (O.faults out.new)) }
+    ensures cause { (m n : ℕ) → Cause result.outcome
+        (failures m n (O.faults out.old)) (failures m n (O.faults out.new)) }
 {
     match disassemble(image, out) {
         Ok(()) => bare(alloc, Outcome::Done(0)),

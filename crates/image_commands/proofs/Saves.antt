@@ -2,8 +2,8 @@
 use Rattle.std.proofs.Common.{◌≡◌, ◌∙◌, sym, ℕ, List}
 use Rattle.image_file.specs.Image.{ImageParts}
 use Rattle.tick_outcome.specs.declared.ended.Ended.{Ended}
-use Rattle.tick_top.specs.Outside.{Files, SameFiles}
-use Rattle.tick_top.specs.Does.{SavedAt, SavesImage}
+use Rattle.image_commands.specs.Outside.{Files, SameFiles}
+use Rattle.image_commands.specs.Does.{SavedAt, SavesImage}
 
 saved_on : (path bytes : List ℕ) (old mid new : Files) (e : Ended) → mid path ≡ old path →
     SavedAt path bytes mid new e → SavedAt path bytes old new e

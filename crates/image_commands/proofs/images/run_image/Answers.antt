@@ -1,7 +1,7 @@
 use Rattle.std.proofs.Common.{rules, subst}
 use Rattle.mips_machine.specs.Progress.{Progress, progress_of}
 use Rattle.mips_machine.specs.Ran.{Ran}
-use Rattle.tick_top.proofs.images.run_image.Goals as goal
+use Rattle.image_commands.proofs.images.run_image.Goals as goal
 
 -- the run of a fresh machine is that of its image
 pub returns-clause-ran : goal.returns-clause-ran

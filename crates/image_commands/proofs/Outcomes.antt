@@ -3,16 +3,16 @@ use Rattle.std.proofs.Common.{◌≡◌, ◌≢◌, ◌⊎◌, inl, inr, ℕ, Bo
 use Rattle.std.proofs.Common.{◌∙◌}
 use Rattle.std.proofs.lemmas.Bool.{false≢true}
 use Rattle.host_edge.specs.declared.ending.Ending.TheVariants as ending
-use Rattle.history.specs.Events.{Item, End, Input}
+use Rattle.history.specs.Events.{Item, End}
 use Rattle.history.specs.Events as event
 use Rattle.pace.specs.Pace.{Seen}
 use Rattle.mips_machine.specs.declared.stop.Stop.{Stop}
 use Rattle.mips_machine.specs.declared.stop.Stop.TheVariants as stop
 use Rattle.tick_outcome.specs.declared.outcome.Outcome.{Outcome}
 use Rattle.tick_outcome.specs.declared.outcome.Outcome.TheVariants as outcome
-use Rattle.tick_top.specs.Answers.{outcome_of}
-use Rattle.tick_top.specs.Seen.{outcome_at, Moves, IsSeen}
-use Rattle.tick_top.specs.Top.{unsaid, Reports}
+use Rattle.image_commands.specs.Answers.{outcome_of}
+use Rattle.image_commands.specs.Seen.{outcome_at, Moves, IsSeen}
+use Rattle.image_commands.specs.Said.{unsaid, Reports}
 
 -- ---- refusals
 

@@ -1,5 +1,5 @@
 use Rattle.std.proofs.Common.{rules}
-use Rattle.tick_top.proofs.images.save_image.Goals as goal
+use Rattle.image_commands.proofs.images.save_image.Goals as goal
 
 -- src/images.rt:66:1
 pub returns-in-Ok-clause-saves : goal.returns-in-Ok-clause-saves

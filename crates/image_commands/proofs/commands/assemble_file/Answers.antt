@@ -1,6 +1,6 @@
 use Rattle.std.proofs.Common.{rules}
-use Rattle.tick_top.proofs.Fronts.{if_ok, assembles}
-use Rattle.tick_top.proofs.commands.assemble_file.Goals as goal
+use Rattle.image_commands.proofs.Fronts.{if_ok, assembles}
+use Rattle.image_commands.proofs.commands.assemble_file.Goals as goal
 
 pub returns-in-Found-clause-does : goal.returns-in-Found-clause-does
 returns-in-Found-clause-does g c = if_ok c.save_image.result

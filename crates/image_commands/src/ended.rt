@@ -1,6 +1,5 @@
 //! What a load gives, and what a call did that runs no machine.
-ghost use Rattle.std.specs.Prelude.{◌≡◌};
-ghost use Rattle.tick_top.specs.Answers.{IsBare};
+ghost use Rattle.image_commands.specs.Answers.{IsBare};
 
 use host_edge::Counts;
 use image_file::Image;

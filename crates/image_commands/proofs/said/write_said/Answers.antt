@@ -6,8 +6,8 @@ use Rattle.std.proofs.lemmas.Result.{on_err_weaker, on_ok_weaker}
 use Rattle.host_edge.specs.Moves.{TakesFront}
 use Rattle.asm_print.proofs.Fronts.{front_first, front_second, at_error}
 use Rattle.tick_outcome.specs.Outcomes.{line_of}
-use Rattle.tick_top.specs.Said.{counts_said}
-use Rattle.tick_top.proofs.said.write_said.Goals as goal
+use Rattle.image_commands.specs.Said.{counts_said}
+use Rattle.image_commands.proofs.said.write_said.Goals as goal
 
 pub returns-in_err-write_counts-clause-front : goal.returns-in_err-write_counts-clause-front
 returns-in_err-write_counts-clause-front g c =

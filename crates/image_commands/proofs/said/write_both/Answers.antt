@@ -1,7 +1,7 @@
 use Rattle.std.proofs.KnownBytes.{Appends-trans}
 use Rattle.std.proofs.lemmas.Result.{on_err_weaker, on_ok_weaker}
 use Rattle.asm_print.proofs.Fronts.{front_first, front_second, at_error}
-use Rattle.tick_top.proofs.said.write_both.Goals as goal
+use Rattle.image_commands.proofs.said.write_both.Goals as goal
 
 pub returns-in_err-write_whole-clause-front : goal.returns-in_err-write_whole-clause-front
 returns-in_err-write_whole-clause-front g c =

@@ -4,8 +4,7 @@ ghost use Rattle.std.specs.Io.KnownBytes.{Appends};
 ghost use Rattle.command_words.specs.Orders.{asks_counts};
 ghost use Rattle.host_edge.specs.Causes.{HasCause};
 ghost use Rattle.host_edge.specs.Moves.{TakesFront};
-ghost use Rattle.tick_top.specs.Said.{counts_said, said};
-ghost use Rattle.tick_top.specs.Top.{Reports, unsaid};
+ghost use Rattle.image_commands.specs.Said.{counts_said, said, Reports, unsaid};
 
 use command_words::asks_counts;
 use host_edge::{Failed, Sink, write_whole};
@@ -31,8 +30,10 @@ fn says_counts(words: &[String], ended: &Ended) -> bool
 // Writes the line of counts, where it is said.
 #[tactic(auto, using(crate::proofs::Spoken::said_whole, crate::proofs::Spoken::said_front, crate::proofs::Spoken::said_nothing))]
 fn write_counts<E: Sink>(err: &mut E, words: &[String], ended: &Ended) -> Result<(), Failed>
-    ensures whole { OnOk result (Appends (E.taken err.old) (E.taken err.new) (counts_said (map string_bytes words.now) ended.now)) }
-    ensures front { OnErr result (TakesFront (E.taken err.old) (E.taken err.new) (counts_said (map string_bytes words.now) ended.now)) }
+    ensures whole { OnOk result (Appends
+        (E.taken err.old) (E.taken err.new) (counts_said (map string_bytes words.now) ended.now)) }
+    ensures front { OnErr result (TakesFront
+        (E.taken err.old) (E.taken err.new) (counts_said (map string_bytes words.now) ended.now)) }
     ensures cause { HasCause (E.faults err.old) (E.faults err.new) result }
 {
     if says_counts(words, ended) {
@@ -46,8 +47,10 @@ fn write_counts<E: Sink>(err: &mut E, words: &[String], ended: &Ended) -> Result
 
 // Writes all that is said of a call.
 fn write_said<E: Sink>(err: &mut E, words: &[String], ended: &Ended) -> Result<(), Failed>
-    ensures whole { OnOk result (Appends (E.taken err.old) (E.taken err.new) (said (map string_bytes words.now) ended.now)) }
-    ensures front { OnErr result (TakesFront (E.taken err.old) (E.taken err.new) (said (map string_bytes words.now) ended.now)) }
+    ensures whole { OnOk result (Appends
+        (E.taken err.old) (E.taken err.new) (said (map string_bytes words.now) ended.now)) }
+    ensures front { OnErr result (TakesFront
+        (E.taken err.old) (E.taken err.new) (said (map string_bytes words.now) ended.now)) }
     ensures cause { HasCause (E.faults err.old) (E.faults err.new) result }
 {
     let line = line_of(&ended.outcome);
@@ -68,7 +71,8 @@ fn unsaid(outcome: Outcome) -> Outcome
 /// Says on standard error what the call with these words did, with its counts where they ask for them; and what the
 /// outcome then is.
 pub fn report<E: Sink>(err: &mut E, words: &[String], ended: &Ended) -> Outcome
-    ensures { Reports (said (map string_bytes words.now) ended.now) ended.now.outcome result (E.taken err.old) (E.taken err.new) (E.faults err.old) (E.faults err.new) }
+    ensures { Reports (said (map string_bytes words.now) ended.now) ended.now.outcome result
+        (E.taken err.old) (E.taken err.new) (E.faults err.old) (E.faults err.new) }
 {
     match write_said(err, words, ended) {
         Ok(()) => ended.outcome,
