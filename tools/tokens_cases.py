@@ -1,5 +1,5 @@
 #!/usr/bin/env python3
-"""Writes the input of the program trial_tokens and what it must print.
+"""Writes the texts that the program trial_syntax lexes, and that section of what it must print.
 
 Each text is a row of pieces, put down by hand from docs/tokens.md: a kind and the bytes. So the places, lengths and lines
 are those of the pieces, and no run of the lexer is asked. Run it at the top of the repository.
@@ -76,7 +76,11 @@ row("two characters", (3, "'ab'"))
 row("open character", ("N", "a"), ("G", "\n"), (3, "'a\n'"))
 row("open character at the end", (3, "'a"))
 row("quote at the end", (3, "'"))
-row("two characters and a wrong escape", (4, "'ab\\q'"))
+row("two characters and a wrong escape", (3, "'ab\\q'"))
+row("a character and a wrong escape", (3, "'a\\q'"))
+row("two characters and octal 400", (3, r"'ab\400'"))
+row("a character and an escaped line feed", (3, "'a\\\n'"))
+row("escaped line feed in a character", (4, "'\\\n'"))
 row("wrong escape, then open", (4, '"\\q'))
 row("open, then a wrong escape on the next line", (3, '"\n\\q"'))
 row("escaped line feed", (4, '"\\\n"'))
@@ -120,7 +124,9 @@ for title, text, answer in rows:
     stdout += f"{title}:{answer}\n"
 stdout += "the most tokens: 262144 tokens\none token more: 6 TooManyTokens on line 1\n"
 stdout += "the longest text:\none name: Name@0+1048576:1\n"
-with open("crates/trial_tokens/stdin", "wb") as file:
+with open("crates/trial_syntax/data/lexed", "wb") as file:
     file.write(stdin)
-with open("crates/trial_tokens/stdout", "w") as file:
-    file.write(stdout)
+with open("crates/trial_syntax/stdout") as file:
+    _, parsed, behind = file.read().partition("== parsed\n")
+with open("crates/trial_syntax/stdout", "w") as file:
+    file.write("== lexed\n" + stdout + parsed + behind)

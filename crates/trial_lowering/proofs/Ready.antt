@@ -1,4 +1,4 @@
--- The function main of a program that runs so far is ready to be lowered.
+-- The backend makes the functions of a program that runs so far, and its function main is ready to be lowered.
 use Rattle.std.proofs.Common.{◌≡◌, ℕ, zero, suc, ◌-◌, ◌<◌, ◌≤◌, List, [], ◌∷◌, length, map, get_or, Option, None, Some}
 use Rattle.std.proofs.Common.{refl, subst, sym, arith}
 use Rattle.std.specs.Option.{option_map}
@@ -10,7 +10,7 @@ use Rattle.wellformed.specs.Program.{IsWellFormed}
 use Rattle.typed_tree.specs.Nodes as node
 use Rattle.typed_tree.specs.View.{function_view}
 use Rattle.staged_meaning.specs.Scope.{IsReadyIn}
-use Rattle.static_image.specs.Served.{IsStatic}
+use Rattle.static_image.specs.Served.{AreStatic, IsStatic}
 use Rattle.built_programs.specs.Built.{Main, built}
 use Rattle.built_programs.specs.Laws.{MeetsBackend, BuiltIsStatic}
 
@@ -59,3 +59,11 @@ pub ready : BuiltIsStatic → (program : Typed) (n k : ℕ) (f : Function) → I
 ready law program n k f h e low is =
     let gs = map function_view program.functions in
     (gs, (each_at gs program.functions k f low is (found law program n h e).meets.static.each).ready)
+
+pub main_from_one : BuiltIsStatic → (program : Typed) (n : ℕ) → IsWellFormed program →
+    Some n ≡ option_map (λ (m : Main). m.number) (built program) → 1 ≤ n
+main_from_one law program n h e = (in_range law program n h e).0
+
+pub static : BuiltIsStatic → (program : Typed) (n : ℕ) → IsWellFormed program →
+    Some n ≡ option_map (λ (m : Main). m.number) (built program) → AreStatic (map function_view program.functions)
+static law program n h e = (found law program n h e).meets.static

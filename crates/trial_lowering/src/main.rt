@@ -1,37 +1,28 @@
-//! Lowers the programs on its input, a line each, and prints the ops of their `main`, how many registers these have, the
-//! live intervals of the registers, and what an expansion without any room answers.
+//! What the backend makes of accepted texts: the ops of their functions, and images whose registers are all in slots.
+//!
+//! The texts that are lowered stand in a file, which lies where this program runs (`data/`); the one whose image is
+//! made is the standard input. Where this program is called with a word, only the parts of that image are printed:
+//! `tick build` makes the image of the same text under linear scan's places, and `bench/code` puts the other one
+//! together from these parts, runs both, and counts the instructions that they execute.
 #![tactic(auto)]
 
-ghost use Rattle.std.specs.Prelude.{◌≡◌, ℕ, ◌≤◌, length, IfOk, IfSome};
-ghost use Rattle.icode_ir.specs.declared.builder.Phase.TheVariants.{Finished};
-ghost use Rattle.icode_ops.specs.Finished.{IsFinished};
+ghost use Rattle.std.specs.Prelude.{◌≤◌, length};
 
-use built_programs::{built_is_static, main_of};
+mod image;
+mod lowered;
+mod slots;
+
 use c_lexer::tokens;
-use icode_expand::expand;
-use icode_ir::Builder;
-use icode_liveness::Live;
-use icode_ops::{CallAddress, Interval, Op};
-use limits::ops::OP_LIMIT;
 use limits::text::LONGEST_TEXT;
-use static_backend::build_ops;
-use std::alloc::{AllocError, Global};
-use std::io;
+use std::alloc::Global;
+use std::{env, fs, io};
 use tick_checker::check;
 use tick_parser::parse;
 use tick_tree::Deny;
 use wellformed::Typed;
 
-// The address of the first word, and the bytes of a frame.
-const FIRST: u32 = 0x0040_1000;
-
-const FRAME: u32 = 128;
-
-// How far apart the functions stand for these trials.
-const APART: u32 = 256;
-
-// The program of a text, where it is accepted.
-fn typed(alloc: Global, text: &[u8]) -> Result<Typed, Deny>
+/// The program of a text, where it is accepted.
+pub(crate) fn typed(alloc: Global, text: &[u8]) -> Result<Typed, Deny>
     requires { length text.now ≤ LONGEST_TEXT }
 {
     let found = tokens(alloc, text)?;
@@ -39,116 +30,17 @@ fn typed(alloc: Global, text: &[u8]) -> Result<Typed, Deny>
     check(alloc, &tree)
 }
 
-// The live intervals of a finished list of ops.
-fn print_intervals<R: Print + AllocGlobal>(
-    rt: &R,
-    live: &mut Live,
-    ops: &[Op],
-    registers: u32,
-) -> io::Result<()>
-    requires { IsFinished ops.now registers }
-{
-    let none = Interval {
-        reg: 0,
-        start: 0,
-        end: 0,
-    };
-    let mut out = vec![in rt.alloc(); none; registers as usize]?;
-    let count = live.intervals(ops, registers, &mut out);
-    for x in out.iter().take(count) {
-        print!(rt; " {}: {} to {};", x.reg, x.start, x.end)?;
-    }
-    Ok(())
-}
-
-// What an expansion of the ops without any room answers.
-fn print_expansion<R: Print + AllocGlobal>(rt: &R, ops: &[Op]) -> io::Result<()>
-    requires { (n : ℕ) × IsFinished ops.now n }
-{
-    let mut labels = vec![in rt.alloc(); 0u32; OP_LIMIT]?;
-    match expand(ops, &[], FIRST, FRAME, 0, false, &mut labels, &mut []) {
-        Ok(count) => println!(rt; " {count} words"),
-        Err(short) => println!(rt; " {short}"),
-    }
-}
-
-// Addresses for the first eight functions. A call of another one goes to 0.
-fn addresses(alloc: Global) -> Result<Vec<CallAddress>, AllocError> {
-    let mut list = Vec::new(alloc);
-    for i in 0..8u32 {
-        if let Some(address) = CallAddress::new(FIRST + APART * i) {
-            list.push(address)?;
-        }
-    }
-    Ok(list)
-}
-
-// A finished builder that has the ops of a program's main, where it is one that runs so far.
-#[tactic(auto, using(crate::proofs::Ready::in_range))]
-fn finished_builder(
-    alloc: Global,
-    starts: &[CallAddress],
-    program: &Typed,
-) -> Result<Option<Builder>, AllocError>
-    ensures { IfOk result (λ found. IfSome found (λ b. b.phase ≡ Finished)) }
-{
-    built_is_static();
-    program.keeps_law();
-    match main_of(program) {
-        Some(main) => {
-            let mut builder = Builder::new(alloc)?;
-            build_ops(alloc, &mut builder, starts, &program.functions()[main - 1])?;
-            Ok(Some(builder))
-        }
-        None => Ok(None),
-    }
-}
-
-// The ops of a finished builder, and what comes of them.
-fn report<R: Print + AllocGlobal>(rt: &R, live: &mut Live, builder: &Builder) -> io::Result<()>
-    requires { builder.now.phase ≡ Finished }
-{
-    for op in builder.ops() {
-        print!(rt; "{op:?}; ")?;
-    }
-    print!(rt; "{} registers;", builder.registers())?;
-    print_intervals(rt, live, builder.ops(), builder.registers())?;
-    print_expansion(rt, builder.ops())
-}
-
-// What comes of a program.
-fn report_program<R: Print + AllocGlobal>(
-    rt: &R,
-    live: &mut Live,
-    program: &Typed,
-) -> io::Result<()> {
-    let starts = addresses(rt.alloc())?;
-    match finished_builder(rt.alloc(), &starts, program)? {
-        Some(builder) => report(rt, live, &builder),
-        None => println!(rt; "not built"),
-    }
-}
-
-// What comes of a text.
-fn report_text<R: Print + AllocGlobal>(rt: &R, live: &mut Live, text: &[u8]) -> io::Result<()>
-    requires { length text.now ≤ LONGEST_TEXT }
-{
-    match typed(rt.alloc(), text) {
-        Ok(program) => report_program(rt, live, &program),
-        Err(_) => println!(rt; "refused"),
-    }
+// Whether this program is called with a word behind its name.
+fn has_word(rt: &HostRuntime) -> io::Result<bool> {
+    let words: Vec<String> = env::args(rt)?.collect(rt.alloc())?;
+    Ok(1 < words.len())
 }
 
 fn main(rt: HostRuntime) -> io::Result<()> {
-    let mut live = Live::new(rt.alloc())?;
-    for line in rt.lines(rt.alloc()) {
-        let line = line?;
-        let text = line.as_str().as_bytes();
-        if text.len() > LONGEST_TEXT {
-            println!(rt; "too long")?;
-            continue;
-        }
-        report_text(&rt, &mut live, text)?;
+    if !has_word(&rt)? {
+        println!(&rt; "== lowered")?;
+        lowered::report_lines(&rt, &fs::read(&rt, "lowered")?)?;
+        println!(&rt; "== image")?;
     }
-    Ok(())
+    image::report_input(&rt)
 }

@@ -1,221 +1,58 @@
-//! Prints how many items the trees of the texts on its input have, or their first fault, a line each. A text has a line
-//! `%% TITLE` before it, and goes up to the next such line.
+//! What the lexer and the parser make of texts, or the first fault that each finds.
+//!
+//! The texts stand in two files of cases, which lie where this program runs (`data/`), or are made. Where it is called
+//! with the word `lexed` or `parsed`, as by `bench/front`, it takes the cases on its standard input so far, and no
+//! others.
 #![tactic(auto)]
 
-ghost use Rattle.std.specs.Prelude.{◌≤◌, length};
+mod lexed;
+mod parsed;
 
-use c_lexer::tokens;
-use limits::text::LONGEST_TEXT;
-use std::alloc::Global;
 use std::io::{self, Read};
-use tick_parser::parse;
-use tick_tree::{Deny, Tree};
-use trial_cases::cases;
+use std::{env, fs};
 
-fn tree_of(alloc: Global, text: &[u8]) -> Result<Tree, Deny>
-    requires { length text.now ≤ LONGEST_TEXT }
-{
-    let found = tokens(alloc, text)?;
-    parse(alloc, text, &found)
-}
-
-// The line of one text.
-fn report<R: Print + AllocGlobal>(rt: &R, title: &[u8], text: &[u8]) -> io::Result<()> {
-    let title = str::from_utf8(title).unwrap_or("?");
-    print!(rt; "{title}:")?;
-    if LONGEST_TEXT < text.len() {
-        return println!(rt; " over {LONGEST_TEXT} bytes");
-    }
-    match tree_of(rt.alloc(), text) {
-        Ok(tree) => println!(rt; " a tree of {} items", tree.items().len()),
-        Err(Deny::Refused(fault)) => {
-            println!(rt;
-                " {} {} on line {} at token {}",
-                fault.kind.number(),
-                fault.kind.name(),
-                fault.line,
-                fault.token
-            )
-        }
-        Err(Deny::NoMemory) => println!(rt; " no memory"),
-    }
-}
-
-// The texts of a file.
-fn report_cases<R: Print + AllocGlobal>(rt: &R, file: &[u8]) -> io::Result<()> {
-    for case in &cases(rt.alloc(), file)? {
-        report(rt, case.title, &case.text(rt.alloc())?)?;
-    }
-    Ok(())
-}
-
-// Every text that a text begins with, from the empty one to the whole.
-fn report_prefixes<R: Print + AllocGlobal>(rt: &R, text: &[u8]) -> io::Result<()> {
-    for len in 0..text.len() + 1 {
-        print!(rt; "{len} bytes, ")?;
-        report(rt, b"front part", &text[..len])?;
-    }
-    Ok(())
-}
-
-// A text with a part that stands there over and over, and as often one that closes it.
+// How far the texts on standard input are taken.
 #[derive(Clone, Copy)]
-struct Nest<'a> {
-    title: &'a [u8],
-    front: &'a [u8],
-    opens: &'a [u8],
-    middle: &'a [u8],
-    closes: &'a [u8],
-    end: &'a [u8],
+enum Stage {
+    Lexed,
+    Parsed,
 }
 
-impl<'a> Nest<'a> {
-    fn report<R: Print + AllocGlobal>(&self, rt: &R, times: usize) -> io::Result<()> {
-        let mut text = Vec::new(rt.alloc());
-        text.extend_from_slice(self.front)?;
-        for _ in 0..times {
-            text.extend_from_slice(self.opens)?;
-        }
-        text.extend_from_slice(self.middle)?;
-        for _ in 0..times {
-            text.extend_from_slice(self.closes)?;
-        }
-        text.extend_from_slice(self.end)?;
-        print!(rt; "{times} ")?;
-        report(rt, self.title, &text)
+fn stage_of(word: &str) -> Option<Stage> {
+    match word {
+        "lexed" => Some(Stage::Lexed),
+        "parsed" => Some(Stage::Parsed),
+        _ => None,
     }
 }
 
-const MAIN: &[u8] = b"int main(){return ";
-
-// What stands in the value that main returns.
-fn in_value<'a>(title: &'a [u8], opens: &'a [u8], middle: &'a [u8], closes: &'a [u8]) -> Nest<'a> {
-    Nest {
-        title,
-        front: MAIN,
-        opens,
-        middle,
-        closes,
-        end: b";}",
-    }
+// The stage that the word behind the program's name says.
+fn asked(rt: &HostRuntime) -> io::Result<Option<Stage>> {
+    let mut words = env::args(rt)?.skip(1);
+    Ok(words.next().and_then(|word| stage_of(word.as_str())))
 }
 
-// At the limit and one over it, where main's brace is one level.
-fn report_values<R: Print + AllocGlobal>(rt: &R) -> io::Result<()> {
-    let nests = [
-        in_value(b"parentheses", b"(", b"1", b")"),
-        in_value(b"operators before an operand", b"~", b"1", b""),
-        in_value(b"sums", b"1+", b"1", b""),
-        in_value(b"calls", b"", b"f", b"()"),
-        in_value(b"assignments", b"a=", b"1", b""),
-        in_value(b"casts", b"(int)", b"1", b""),
-        in_value(b"choices", b"1?1:", b"1", b""),
-        in_value(b"commas", b"1,", b"1", b""),
-        in_value(b"backquotes", b"`", b"1", b""),
-    ];
-    for nest in &nests {
-        nest.report(rt, 199)?;
-        nest.report(rt, 200)?;
-    }
-    Ok(())
+// All that stands on standard input.
+fn input(rt: &HostRuntime) -> io::Result<Vec<u8>> {
+    let mut file = Vec::new(rt.alloc());
+    rt.reader().read_to_end(&mut file)?;
+    Ok(file)
 }
 
-fn report_statements<R: Print + AllocGlobal>(rt: &R) -> io::Result<()> {
-    let tests = Nest {
-        title: b"tests in one another",
-        front: b"int main(){",
-        opens: b"if(1)",
-        middle: b";}",
-        closes: b"",
-        end: b"",
-    };
-    tests.report(rt, 199)?;
-    tests.report(rt, 200)?;
-    let blocks = Nest {
-        title: b"blocks",
-        front: b"int main()",
-        opens: b"{",
-        middle: b"",
-        closes: b"}",
-        end: b"",
-    };
-    blocks.report(rt, 200)?;
-    blocks.report(rt, 201)?;
-    let deep = Nest {
-        title: b"blocks, and a bracket too deep",
-        front: b"int main()",
-        opens: b"{",
-        middle: b"if(1);",
-        closes: b"}",
-        end: b"",
-    };
-    deep.report(rt, 200)?;
-    let wrong = Nest {
-        title: b"blocks, and a brace that is wrong and too deep",
-        front: b"int main()",
-        opens: b"{",
-        middle: b"if{}",
-        closes: b"}",
-        end: b"",
-    };
-    wrong.report(rt, 200)
-}
-
-fn report_declarators<R: Print + AllocGlobal>(rt: &R) -> io::Result<()> {
-    let brackets = Nest {
-        title: b"parentheses of a declarator",
-        front: b"int ",
-        opens: b"(",
-        middle: b"x",
-        closes: b")",
-        end: b";",
-    };
-    brackets.report(rt, 200)?;
-    brackets.report(rt, 201)?;
-    let stars = Nest {
-        title: b"stars",
-        front: b"int ",
-        opens: b"*",
-        middle: b"p;",
-        closes: b"",
-        end: b"",
-    };
-    stars.report(rt, 200000)?;
-    let nameless = Nest {
-        title: b"stars without a name",
-        front: b"int ",
-        opens: b"*",
-        middle: b";",
-        closes: b"",
-        end: b"",
-    };
-    nameless.report(rt, 200000)?;
-    let suffixes = Nest {
-        title: b"array suffixes",
-        front: b"int a",
-        opens: b"[]",
-        middle: b";",
-        closes: b"",
-        end: b"",
-    };
-    suffixes.report(rt, 80000)?;
-    let items = Nest {
-        title: b"items of a block",
-        front: b"int main(){",
-        opens: b";",
-        middle: b"}",
-        closes: b"",
-        end: b"",
-    };
-    items.report(rt, 100000)
+// The texts of the files, and those that are made.
+fn report_all(rt: &HostRuntime) -> io::Result<()> {
+    println!(rt; "== lexed")?;
+    lexed::report_cases(rt, &fs::read(rt, "lexed")?)?;
+    lexed::report_limits(rt)?;
+    println!(rt; "== parsed")?;
+    parsed::report_cases(rt, &fs::read(rt, "parsed")?)?;
+    parsed::report_made(rt)
 }
 
 fn main(rt: HostRuntime) -> io::Result<()> {
-    let mut file = Vec::new(rt.alloc());
-    rt.reader().read_to_end(&mut file)?;
-    report_cases(&rt, &file)?;
-    report_prefixes(&rt, b"int main(){putchar(72);putchar(10);return 3;}")?;
-    report_values(&rt)?;
-    report_statements(&rt)?;
-    report_declarators(&rt)
+    match asked(&rt)? {
+        Some(Stage::Lexed) => lexed::report_cases(&rt, &input(&rt)?),
+        Some(Stage::Parsed) => parsed::report_cases(&rt, &input(&rt)?),
+        None => report_all(&rt),
+    }
 }
