@@ -1,9 +1,13 @@
 //! A short program, in one call and in two.
 
+ghost use Rattle.std.specs.Prelude.{◌≡◌, ◌≤◌, ◌+◌, ◌^◌, None, IfOk, IfSome};
+ghost use Rattle.mips_machine.specs.Progress.{progress_of};
+
 use host_edge::{Ending, MemSink, MemSource};
 use image_file::read;
 use mips_machine::{Machine, Stop, run_twice};
-use std::alloc::AllocError;
+use std::alloc::{AllocError, Global};
+use std::process::Abort;
 
 // The image of a program that reads a byte, writes it, writes the number -7, and ends with it.
 const PROGRAM: [u8; 64] = [
@@ -38,58 +42,112 @@ const MAKER: [u8; 144] = [
     0, 0, 0, 0x0c, // syscall
 ];
 
+// A machine before its first instruction, where the bytes are an image.
+fn machine_of(alloc: Global, bytes: &[u8]) -> Result<Option<Machine>, AllocError>
+    ensures on { IfOk result (λ found. IfSome found (λ m. m.stopped ≡ None)) }
+    ensures first { IfOk result (λ found. IfSome found (λ m. (progress_of m).steps ≡ 0)) }
+{
+    match read(alloc, bytes) {
+        Ok(image) => match Machine::new(alloc, &image) {
+            Ok(machine) => Ok(Some(machine)),
+            Err(why) => Err(why),
+        },
+        Err(_) => Ok(None),
+    }
+}
+
+fn ends_there(rt: &impl Abort, machine: &mut Machine, input: &mut MemSource, out: &mut MemSink)
+    requires { (progress_of machine.old).steps + 100 ≤ 2 ^ 40 }
+{
+    let stop = machine.run(input, out, 100);
+    assert!(rt; stop == Stop::Ended(Ending::Done(249)));
+    assert!(rt; out.taken() == b"a-7".as_slice());
+    assert!(rt; machine.steps() == 10);
+    assert!(rt; machine.counts().flushes == 0);
+    assert!(rt; machine.choices().is_empty());
+}
+
 #[test]
 fn a_program_runs_to_its_end(rt: HostRuntime) -> Result<(), AllocError> {
-    if let Ok(image) = read(rt.alloc(), &PROGRAM) {
-        let mut input = MemSource::new(rt.alloc(), b"ab", &[])?;
-        let mut out = MemSink::new(rt.alloc(), 9, &[])?;
-        let mut machine = Machine::new(rt.alloc(), &image)?;
-        let stop = machine.run(&mut input, &mut out, 100);
-        assert!(rt; stop == Stop::Ended(Ending::Done(249)));
-        assert!(rt; out.taken() == b"a-7".as_slice());
-        assert!(rt; machine.steps() == 10);
-        assert!(rt; machine.counts().flushes == 0);
-        assert!(rt; machine.choices().is_empty());
-        assert!(rt; machine.into_choices().is_empty());
-    } else {
-        assert!(rt; false);
+    let mut input = MemSource::new(rt.alloc(), b"ab", &[])?;
+    let mut out = MemSink::new(rt.alloc(), 9, &[])?;
+    match machine_of(rt.alloc(), &PROGRAM) {
+        Ok(Some(machine)) => {
+            let mut machine = machine;
+            ends_there(&rt, &mut machine, &mut input, &mut out);
+            assert!(rt; machine.into_choices().is_empty());
+            Ok(())
+        }
+        Ok(None) => {
+            assert!(rt; false);
+            Ok(())
+        }
+        Err(why) => Err(why),
     }
-    Ok(())
+}
+
+fn stops_twice(rt: &impl Abort, machine: &mut Machine, input: &mut MemSource, out: &mut MemSink)
+    requires fresh { machine.old.stopped ≡ None }
+    requires first { (progress_of machine.old).steps ≡ 0 }
+{
+    let stop = run_twice(machine, input, out, 4, 4);
+    assert!(rt; stop == Stop::Steps);
+    assert!(rt; out.taken() == b"a-7".as_slice());
 }
 
 #[test]
 fn it_goes_on_from_where_it_stopped(rt: HostRuntime) -> Result<(), AllocError> {
-    if let Ok(image) = read(rt.alloc(), &PROGRAM) {
-        let mut input = MemSource::new(rt.alloc(), b"ab", &[])?;
-        let mut out = MemSink::new(rt.alloc(), 9, &[])?;
-        let mut machine = Machine::new(rt.alloc(), &image)?;
-        let stop = run_twice(&mut machine, &mut input, &mut out, 4, 4);
-        assert!(rt; stop == Stop::Steps);
-        assert!(rt; out.taken() == b"a-7".as_slice());
-    } else {
-        assert!(rt; false);
+    let mut input = MemSource::new(rt.alloc(), b"ab", &[])?;
+    let mut out = MemSink::new(rt.alloc(), 9, &[])?;
+    match machine_of(rt.alloc(), &PROGRAM) {
+        Ok(Some(machine)) => {
+            let mut machine = machine;
+            stops_twice(&rt, &mut machine, &mut input, &mut out);
+            drop(machine);
+            Ok(())
+        }
+        Ok(None) => {
+            assert!(rt; false);
+            Ok(())
+        }
+        Err(why) => Err(why),
     }
-    Ok(())
+}
+
+fn makes_a_function(
+    rt: &impl Abort,
+    machine: &mut Machine,
+    input: &mut MemSource,
+    out: &mut MemSink,
+)
+    requires { (progress_of machine.old).steps + 1000 ≤ 2 ^ 40 }
+{
+    let stop = machine.run(input, out, 1000);
+    assert!(rt; stop == Stop::Ended(Ending::Done(0)));
+    let counts = machine.counts();
+    assert!(rt; counts.ops == 2);
+    assert!(rt; counts.functions == 1);
+    assert!(rt; counts.words == 32);
+    assert!(rt; counts.flushes == 1);
+    assert!(rt; counts.spills == 0);
+    assert!(rt; machine.choices() == [0].as_slice());
 }
 
 #[test]
 fn services_are_counted_and_places_kept(rt: HostRuntime) -> Result<(), AllocError> {
-    if let Ok(image) = read(rt.alloc(), &MAKER) {
-        let mut input = MemSource::new(rt.alloc(), b"", &[])?;
-        let mut out = MemSink::new(rt.alloc(), 1, &[])?;
-        let mut machine = Machine::new(rt.alloc(), &image)?;
-        let stop = machine.run(&mut input, &mut out, 1000);
-        assert!(rt; stop == Stop::Ended(Ending::Done(0)));
-        let counts = machine.counts();
-        assert!(rt; counts.ops == 2);
-        assert!(rt; counts.functions == 1);
-        assert!(rt; counts.words == 32);
-        assert!(rt; counts.flushes == 1);
-        assert!(rt; counts.spills == 0);
-        assert!(rt; machine.choices() == [0].as_slice());
-        assert!(rt; machine.into_choices().as_slice() == [0].as_slice());
-    } else {
-        assert!(rt; false);
+    let mut input = MemSource::new(rt.alloc(), b"", &[])?;
+    let mut out = MemSink::new(rt.alloc(), 1, &[])?;
+    match machine_of(rt.alloc(), &MAKER) {
+        Ok(Some(machine)) => {
+            let mut machine = machine;
+            makes_a_function(&rt, &mut machine, &mut input, &mut out);
+            assert!(rt; machine.into_choices().as_slice() == [0].as_slice());
+            Ok(())
+        }
+        Ok(None) => {
+            assert!(rt; false);
+            Ok(())
+        }
+        Err(why) => Err(why),
     }
-    Ok(())
 }
