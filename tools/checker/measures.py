@@ -6,9 +6,9 @@ import re,os
 B='crates/check_walk/'
 R=dict(expression=0,core=0,suffix=0,statement=0,optional=0,length=0,begin=0,returned=0,
 suffixes=1,declarator=2,typename=3,parameter=3,each_parameter=4,parameters=5,
-elements=1,begin_list=2,declared_local=5,locals=6,declaration=7,
-items=1,block=2,block_alone=3,tick_block=3,body_of=1,alone=1,tested=2,branches=3,done_first=2,
-for_rest=2,for_items=3,for_block=4,for_all=5,switch_block=2,labelled_block=3,switch=4,case=1,
+elements=1,begin_list=2,declared_local=5,locals=6,
+items=2,item_behind=1,block=3,tick_block=4,body_of=1,tested=2,branches=3,done_first=2,
+for_rest=2,for_block=4,for_all=5,switch_block=3,switch=5,case=1,
 unary=1,post=1,named=4,compile=4,typed=4,pair=2,choice=2,
 arguments=1,plain_call=2,call=3,tick_expression=1)
 TREE={'&Expr':'size-Expr','&syntax::Stmt':'size-Stmt','&OptionalExpr':'size-OptionalExpr','&Initializer':'size-Initializer'}
@@ -32,7 +32,7 @@ for f in ('expressions','types','declarations','statements'):
         ps=[x.strip().split(': ') for x in m.group(2).replace('\n',' ').split(',') if x.strip()]
         tr=[(v,t) for v,t in ps if t in TREE or t in('&Parts','&Typename','&[Expr]','&[syntax::Stmt]','&[Stmt]','&[Suffix]','&[Parameter]','&[Init]','&Core','&Suffix','&Declarator','&Parameter','&Init','&Initializer','&Declaration')]
         # (a type is a tree, too: the size is that of the list)
-        if len(tr)==1 and name not in ('elements', 'begin_list', 'pair'): e='goal.size-%s::%s l'%(f,name)
+        if len(tr)==1 and name not in ('elements', 'begin_list', 'pair', 'item_behind'): e='goal.size-%s::%s l'%(f,name)
         else:
             ms=[]
             for v,t in tr:

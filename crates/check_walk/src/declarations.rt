@@ -18,7 +18,7 @@ use check_statements::{
 use check_types::inner;
 use sqlite_items::Items;
 use std::alloc::Global;
-use tick_tree::{Base, Declaration, Declarator, Deny, Expr, FaultKind, Init, Initializer};
+use tick_tree::{Base, Declarator, Deny, Expr, FaultKind, Init, Initializer};
 use typed_tree::Stmt;
 
 /// The steps with the count of an initializer's values, where the array lacks a length.
@@ -136,9 +136,9 @@ fn declared_local(
     begin(alloc, state, stage, line, place, &init.value)
 }
 
-// The nodes of the initializers of these.
+/// The nodes of the initializers of a declaration in a block, by what it declares.
 #[cycle(walk)]
-fn locals(
+pub fn locals(
     alloc: Global,
     state: &mut State,
     stage: Stage,
@@ -159,18 +159,4 @@ fn locals(
         }
     }
     Ok(nodes)
-}
-
-/// The nodes of the initializers of a declaration in a block.
-#[cycle(walk)]
-#[tactic(auto, using(check_rules::proofs::Equations::types))]
-pub fn declaration(
-    alloc: Global,
-    state: &mut State,
-    stage: Stage,
-    d: &Declaration,
-) -> Result<Items<Stmt>, Deny>
-    ensures { Reads (spec.declaration_walk (spec.declaration d.now) stage state.old) result state.new }
-{
-    locals(alloc, state, stage, d.line, d.base, d.inits.as_slice())
 }

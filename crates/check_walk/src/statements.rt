@@ -7,7 +7,7 @@ ghost use Rattle.check_tables.specs.Walks.{Reads};
 ghost use Rattle.check_walk.specs.Kinds as kinds;
 ghost use Rattle.check_rules.specs.Walk as spec;
 
-use crate::declarations::declaration;
+use crate::declarations::locals;
 use crate::expressions::{expression, optional};
 use crate::kinds::{Tested, tested_around, tested_node};
 use crate::lists::{appended, pushed, with_effect};
@@ -15,8 +15,9 @@ use check_forms::has_form;
 use check_operands::Operand;
 use check_rules::{Around, State};
 use check_statements::{
-    body, break_entry, case_entry, case_node, continue_entry, default_node, do_node, for_node,
-    if_else_node, inside, looped, one, return_node, switch_entered, switch_node, switched,
+    alone, body, break_entry, case_entry, case_node, continue_entry, default_node, do_node,
+    for_node, if_else_node, inside, looped, one, return_node, switch_entered, switch_node,
+    switched,
 };
 use sqlite_items::{Boxed, Items};
 use std::alloc::Global;
@@ -117,27 +118,6 @@ fn body_of(
             Ok(body(alloc, nodes)?)
         }
     }
-}
-
-#[cycle(walk)]
-fn alone(alloc: Global, state: &mut State, around: Around, e: &Expr) -> Result<Items<Stmt>, Deny>
-    ensures { Reads (statements.alone (spec.node e.now) around state.old) result state.new }
-{
-    let o = expression(alloc, state, around.stage, e)?;
-    Ok(check_statements::alone(alloc, o)?)
-}
-
-#[cycle(walk)]
-fn block_alone(
-    alloc: Global,
-    state: &mut State,
-    around: Around,
-    list: &[syntax::Stmt],
-) -> Result<Items<Stmt>, Deny>
-    ensures { Reads (statements.block_alone (map spec.item list.now) around state.old) result state.new }
-{
-    let node = block(alloc, state, inside(around), list)?;
-    Ok(one(alloc, node.into_inner())?)
 }
 
 // An `if` without `else`, or a `while`.
@@ -248,31 +228,6 @@ fn for_rest(
     }
 }
 
-// The first part of a `for`, and the rest.
-#[cycle(walk)]
-fn for_items(
-    alloc: Global,
-    state: &mut State,
-    line: u32,
-    around: Around,
-    first: &syntax::Stmt,
-    c: &OptionalExpr,
-    s: &OptionalExpr,
-    a: &syntax::Stmt,
-) -> Result<Items<Stmt>, Deny>
-    ensures { Reads (statements.for_items line (spec.item first.now) (spec.optional c.now) (spec.optional s.now)
-        (spec.item a.now) around state.old) result state.new }
-{
-    let nodes = statement(alloc, state, inside(around), first)?;
-    match for_rest(alloc, state, line, around, c, s, a) {
-        Ok(node) => Ok(pushed(nodes, node)?),
-        Err(why) => {
-            drop(nodes);
-            Err(why)
-        }
-    }
-}
-
 // A `for` with a first part: a block of it and the rest.
 #[cycle(walk)]
 fn for_block(
@@ -290,11 +245,26 @@ fn for_block(
 {
     let depth = state.depth();
     let outer = state.enter(alloc)?;
-    let nodes = match for_items(alloc, state, line, around, first, c, s, a) {
+    let nodes = match statement(alloc, state, inside(around), first) {
         Ok(nodes) => nodes,
         Err(why) => {
             drop(outer);
             return Err(why);
+        }
+    };
+    let node = match for_rest(alloc, state, line, around, c, s, a) {
+        Ok(node) => node,
+        Err(why) => {
+            drop(outer);
+            drop(nodes);
+            return Err(why);
+        }
+    };
+    let nodes = match pushed(nodes, node) {
+        Ok(nodes) => nodes,
+        Err(why) => {
+            drop(outer);
+            return Err(why.into());
         }
     };
     match state.leave(depth, outer) {
@@ -306,18 +276,25 @@ fn for_block(
     }
 }
 
-#[tactic(auto, using(check_rules::proofs::Equations::empties))]
 fn is_empty(s: &syntax::Stmt) -> bool
     ensures { result ≡ (spec.item s.now).is_empty }
 {
     match s {
         syntax::Stmt::Empty => true,
-        syntax::Stmt::Expr(_) | syntax::Stmt::Block(_) | syntax::Stmt::Local(_) => false,
-        syntax::Stmt::If(_, _, _) | syntax::Stmt::IfElse(_, _, _, _) => false,
-        syntax::Stmt::While(_, _, _) | syntax::Stmt::Do(_, _, _) => false,
-        syntax::Stmt::For(_, _, _, _, _) | syntax::Stmt::Switch(_, _, _) => false,
-        syntax::Stmt::Case(_, _) | syntax::Stmt::Default(_) | syntax::Stmt::Break(_) => false,
-        syntax::Stmt::Continue(_) | syntax::Stmt::Return(_, _) => false,
+        syntax::Stmt::Expr(_) => false,
+        syntax::Stmt::Block(_) => false,
+        syntax::Stmt::Local(_) => false,
+        syntax::Stmt::If(_, _, _) => false,
+        syntax::Stmt::IfElse(_, _, _, _) => false,
+        syntax::Stmt::While(_, _, _) => false,
+        syntax::Stmt::Do(_, _, _) => false,
+        syntax::Stmt::For(_, _, _, _, _) => false,
+        syntax::Stmt::Switch(_, _, _) => false,
+        syntax::Stmt::Case(_, _) => false,
+        syntax::Stmt::Default(_) => false,
+        syntax::Stmt::Break(_) => false,
+        syntax::Stmt::Continue(_) => false,
+        syntax::Stmt::Return(_, _) => false,
     }
 }
 
@@ -343,7 +320,7 @@ fn for_all(
     }
 }
 
-// The variables and the items of a switch's block.
+// The variables and the items of the block of a switch, with labels of its own.
 #[cycle(walk)]
 fn switch_block(
     alloc: Global,
@@ -351,44 +328,33 @@ fn switch_block(
     around: Around,
     list: &[syntax::Stmt],
 ) -> Result<(Items<Stmt>, Items<Stmt>), Deny>
-    ensures { Reads (statements.switch_block (map spec.item list.now) around state.old) result state.new }
+    ensures { Reads (statements.labelled_block (map spec.item list.now) around state.old) result state.new }
 {
+    let labels = switch_entered(alloc, state)?;
     let depth = state.depth();
-    let outer = state.enter(alloc)?;
+    let outer = match state.enter(alloc) {
+        Ok(outer) => outer,
+        Err(why) => {
+            drop(labels);
+            return Err(why);
+        }
+    };
     let nodes = match items(alloc, state, switched(around), list) {
         Ok(nodes) => nodes,
         Err(why) => {
+            drop(labels);
             drop(outer);
             return Err(why);
         }
     };
     match state.leave(depth, outer) {
-        Ok(variables) => Ok((variables, nodes)),
+        Ok(variables) => {
+            state.labels = labels;
+            Ok((variables, nodes))
+        }
         Err(why) => {
+            drop(labels);
             drop(nodes);
-            Err(why)
-        }
-    }
-}
-
-// The block of a switch, with labels of its own.
-#[cycle(walk)]
-fn labelled_block(
-    alloc: Global,
-    state: &mut State,
-    around: Around,
-    list: &[syntax::Stmt],
-) -> Result<(Items<Stmt>, Items<Stmt>), Deny>
-    ensures { Reads (statements.labelled_block (map spec.item list.now) around state.old) result state.new }
-{
-    let outer = switch_entered(alloc, state)?;
-    match switch_block(alloc, state, around, list) {
-        Ok(p) => {
-            state.labels = outer;
-            Ok(p)
-        }
-        Err(why) => {
-            drop(outer);
             Err(why)
         }
     }
@@ -407,7 +373,7 @@ fn switch(
         result state.new }
 {
     let o = expression(alloc, state, around.stage, e)?;
-    match labelled_block(alloc, state, around, list) {
+    match switch_block(alloc, state, around, list) {
         Ok(p) => switch_node(alloc, line, o, p.0, p.1),
         Err(why) => {
             drop(o);
@@ -471,9 +437,24 @@ pub fn statement(
 {
     match s {
         syntax::Stmt::Empty => empty(alloc),
-        syntax::Stmt::Expr(e) => alone(alloc, state, around, e),
-        syntax::Stmt::Block(list) => block_alone(alloc, state, around, list.as_slice()),
-        syntax::Stmt::Local(d) => declaration(alloc, state, around.stage, d),
+        syntax::Stmt::Expr(e) => {
+            let o = expression(alloc, state, around.stage, e)?;
+            Ok(alone(alloc, o)?)
+        }
+        syntax::Stmt::Block(list) => {
+            let node = block(alloc, state, inside(around), list.as_slice())?;
+            Ok(one(alloc, node.into_inner())?)
+        }
+        syntax::Stmt::Local(d) => {
+            locals(
+                alloc,
+                state,
+                around.stage,
+                d.line,
+                d.base,
+                d.inits.as_slice(),
+            )
+        }
         syntax::Stmt::If(line, c, a) => {
             tested(alloc, state, *line, around, Tested::If, c, a.get())
         }

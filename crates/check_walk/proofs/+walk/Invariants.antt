@@ -127,9 +127,6 @@ decreases-declarations::declared_local l = 8 * (goal.size-declarations::declared
 abbrev pub decreases-declarations::locals : goal.decreases-declarations::locals
 decreases-declarations::locals l = 8 * (goal.size-declarations::locals l) + 6
 
-abbrev pub decreases-declarations::declaration : goal.decreases-declarations::declaration
-decreases-declarations::declaration l = 8 * (goal.size-declarations::declaration l) + 7
-
 abbrev pub decreases-statements::items : goal.decreases-statements::items
 decreases-statements::items l = 8 * (goal.size-statements::items l) + 2
 
@@ -141,12 +138,6 @@ decreases-statements::block l = 8 * (goal.size-statements::block l) + 3
 
 abbrev pub decreases-statements::body_of : goal.decreases-statements::body_of
 decreases-statements::body_of l = 8 * (goal.size-statements::body_of l) + 1
-
-abbrev pub decreases-statements::alone : goal.decreases-statements::alone
-decreases-statements::alone l = 8 * (goal.size-statements::alone l) + 1
-
-abbrev pub decreases-statements::block_alone : goal.decreases-statements::block_alone
-decreases-statements::block_alone l = 8 * (goal.size-statements::block_alone l) + 4
 
 abbrev pub decreases-statements::tested : goal.decreases-statements::tested
 decreases-statements::tested l = 8 * (max (size-Expr l.c.now) (size-Stmt l.a.now)) + 2
@@ -161,11 +152,6 @@ abbrev pub decreases-statements::for_rest : goal.decreases-statements::for_rest
 decreases-statements::for_rest l =
     8 * (max (size-OptionalExpr l.c.now) (max (size-OptionalExpr l.s.now) (size-Stmt l.a.now))) + 2
 
-abbrev pub decreases-statements::for_items : goal.decreases-statements::for_items
-decreases-statements::for_items l =
-    8 * (max (size-Stmt l.first.now)
-    (max (size-OptionalExpr l.c.now) (max (size-OptionalExpr l.s.now) (size-Stmt l.a.now)))) + 3
-
 abbrev pub decreases-statements::for_block : goal.decreases-statements::for_block
 decreases-statements::for_block l =
     8 * (max (size-Stmt l.first.now)
@@ -178,9 +164,6 @@ decreases-statements::for_all l =
 
 abbrev pub decreases-statements::switch_block : goal.decreases-statements::switch_block
 decreases-statements::switch_block l = 8 * (goal.size-statements::switch_block l) + 3
-
-abbrev pub decreases-statements::labelled_block : goal.decreases-statements::labelled_block
-decreases-statements::labelled_block l = 8 * (goal.size-statements::labelled_block l) + 4
 
 abbrev pub decreases-statements::switch : goal.decreases-statements::switch
 decreases-statements::switch l =
