@@ -1,6 +1,6 @@
 //! A short program, in one call and in two.
 
-ghost use Rattle.std.specs.Prelude.{◌≡◌, ◌≤◌, ◌+◌, ◌^◌, None, IfOk, IfSome};
+ghost use Rattle.std.specs.Prelude.{◌≡◌, ◌≤◌, ◌+◌, ◌^◌, length, None, IfOk, IfSome};
 ghost use Rattle.mips_machine.specs.Progress.{progress_of};
 
 use host_edge::{Ending, MemSink, MemSource};
@@ -42,8 +42,9 @@ const MAKER: [u8; 144] = [
     0, 0, 0, 0x0c, // syscall
 ];
 
-// A machine before its first instruction, where the bytes are an image.
+// A machine before its first instruction, where these few bytes are an image.
 fn machine_of(alloc: Global, bytes: &[u8]) -> Result<Option<Machine>, AllocError>
+    requires few { length bytes.now ≤ 200 }
     ensures on { IfOk result (λ found. IfSome found (λ m. m.stopped ≡ None)) }
     ensures first { IfOk result (λ found. IfSome found (λ m. (progress_of m).steps ≡ 0)) }
 {
