@@ -92,8 +92,29 @@ fn check(
 
 // Judges the places of all lists.
 fn check_all(alloc: Global) -> Result<Counts, AllocError> {
-    let mut live = Live::new(alloc)?;
-    let mut scanner = Scanner::new(alloc)?;
+    let live = Live::new(alloc)?;
+    match Scanner::new(alloc) {
+        Ok(scanner) => {
+            let mut live = live;
+            let mut scanner = scanner;
+            let counts = check_lists(alloc, &mut live, &mut scanner);
+            drop(live);
+            drop(scanner);
+            counts
+        }
+        Err(why) => {
+            drop(live);
+            Err(why)
+        }
+    }
+}
+
+// Judges the places of all lists with these tables.
+fn check_lists(
+    alloc: Global,
+    live: &mut Live,
+    scanner: &mut Scanner,
+) -> Result<Counts, AllocError> {
     let mut counts = Counts {
         finished: 0,
         legal: 0,
@@ -102,7 +123,7 @@ fn check_all(alloc: Global) -> Result<Counts, AllocError> {
         refused: 0,
     };
     for seed in 0..LISTS {
-        check(alloc, &mut live, &mut scanner, seed, &mut counts)?;
+        check(alloc, live, scanner, seed, &mut counts)?;
     }
     Ok(counts)
 }

@@ -297,25 +297,42 @@ fn take_on(builder: &mut Builder, allocator: &mut Allocator, stage: Stage) -> Co
 
 // The tables of the intervals and of the scan, and room for the largest answers.
 fn new_allocator(alloc: Global) -> Result<Allocator, AllocError> {
-    let live = Live::new(alloc)?;
-    let scanner = Scanner::new(alloc)?;
     let out = intervals_room(alloc, 393_216)?;
     let places = places_room(alloc, 393_216)?;
-    Ok(Allocator {
-        live,
-        scanner,
-        out,
-        places,
-    })
+    let live = Live::new(alloc)?;
+    match Scanner::new(alloc) {
+        Ok(scanner) => Ok(Allocator {
+            live,
+            scanner,
+            out,
+            places,
+        }),
+        Err(why) => {
+            drop(live);
+            Err(why)
+        }
+    }
 }
 
 // Makes the function and takes it to the stage. All memory is taken at each stage alike.
 fn run(alloc: Global, shape: Shape, ops: u32, stage: Stage) -> Result<Counts, AllocError> {
-    let mut allocator = new_allocator(alloc)?;
-    let mut builder = Builder::new(alloc)?;
-    builder.begin(0);
-    let _ = emit_function(&mut builder, shape, ops);
-    Ok(take_on(&mut builder, &mut allocator, stage))
+    let builder = Builder::new(alloc)?;
+    match new_allocator(alloc) {
+        Ok(allocator) => {
+            let mut builder = builder;
+            let mut allocator = allocator;
+            builder.begin(0);
+            let _ = emit_function(&mut builder, shape, ops);
+            let counts = take_on(&mut builder, &mut allocator, stage);
+            drop(allocator);
+            drop(builder);
+            Ok(counts)
+        }
+        Err(why) => {
+            drop(builder);
+            Err(why)
+        }
+    }
 }
 
 /// Which function is made, and how far it is taken.
