@@ -62,23 +62,38 @@ fn print_parts<R: Print + AllocGlobal>(
     Ok(())
 }
 
+// Prints the parts of the image of a program whose function main has a number, counted from 1, and whose functions have
+// this code.
+fn report_code<R: Print + AllocGlobal>(
+    rt: &R,
+    program: &Typed,
+    main: usize,
+    code: &Code,
+) -> io::Result<()>
+    requires { 1 ≤ main }
+{
+    let count = program.functions().len();
+    if count > MOST_FUNCTIONS as usize {
+        return println!(rt; "refused");
+    }
+    match code.starts.get(main - 1) {
+        Some(start) => {
+            let front = front(rt.alloc(), start.get(), count as u32)?;
+            print_parts(rt, &front, code, program)
+        }
+        None => println!(rt; "refused"),
+    }
+}
+
 // Prints the parts of the image of a program whose function main has a number, counted from 1.
 fn report<R: Print + AllocGlobal>(rt: &R, program: &Typed, main: usize) -> io::Result<()>
     requires main { 1 ≤ main }
     requires functions { AreStatic (map function_view program.now.functions) }
 {
-    let functions = program.functions();
-    let code = code_of(rt.alloc(), functions)?;
-    if functions.len() > MOST_FUNCTIONS as usize {
-        return println!(rt; "refused");
-    }
-    match code.starts.get(main - 1) {
-        Some(start) => {
-            let front = front(rt.alloc(), start.get(), functions.len() as u32)?;
-            print_parts(rt, &front, &code, program)
-        }
-        None => println!(rt; "refused"),
-    }
+    let code = code_of(rt.alloc(), program.functions())?;
+    let printed = report_code(rt, program, main, &code);
+    drop(code);
+    printed
 }
 
 // Prints the parts of the image of a program, where it is one that runs so far.
@@ -98,7 +113,11 @@ pub(crate) fn report_input<R: Input + Print + AllocGlobal>(rt: &R) -> io::Result
         return println!(rt; "refused");
     }
     match typed(rt.alloc(), &text) {
-        Ok(program) => report_program(rt, &program),
+        Ok(program) => {
+            let printed = report_program(rt, &program);
+            drop(program);
+            printed
+        }
         Err(_) => println!(rt; "refused"),
     }
 }

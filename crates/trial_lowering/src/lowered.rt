@@ -84,8 +84,13 @@ fn finished_builder(
     match main_of(program) {
         Some(main) => {
             let mut builder = Builder::new(alloc)?;
-            build_ops(alloc, &mut builder, starts, &program.functions()[main - 1])?;
-            Ok(Some(builder))
+            match build_ops(alloc, &mut builder, starts, &program.functions()[main - 1]) {
+                Ok(()) => Ok(Some(builder)),
+                Err(why) => {
+                    drop(builder);
+                    Err(why)
+                }
+            }
         }
         None => Ok(None),
     }
@@ -110,9 +115,16 @@ fn report_program<R: Print + AllocGlobal>(
     program: &Typed,
 ) -> io::Result<()> {
     let starts = addresses(rt.alloc())?;
-    match finished_builder(rt.alloc(), &starts, program)? {
-        Some(builder) => report(rt, live, &builder),
-        None => println!(rt; "not built"),
+    let built = finished_builder(rt.alloc(), &starts, program);
+    drop(starts);
+    match built {
+        Ok(Some(builder)) => {
+            let printed = report(rt, live, &builder);
+            drop(builder);
+            printed
+        }
+        Ok(None) => println!(rt; "not built"),
+        Err(why) => Err(why.into()),
     }
 }
 
@@ -122,18 +134,29 @@ fn report_text<R: Print + AllocGlobal>(rt: &R, live: &mut Live, text: &[u8]) -> 
         return println!(rt; "too long");
     }
     match typed(rt.alloc(), text) {
-        Ok(program) => report_program(rt, live, &program),
+        Ok(program) => {
+            let printed = report_program(rt, live, &program);
+            drop(program);
+            printed
+        }
         Err(_) => println!(rt; "refused"),
     }
+}
+
+// What comes of each text of a file.
+fn report_texts<R: Print + AllocGlobal>(rt: &R, live: &mut Live, file: &[u8]) -> io::Result<()> {
+    for line in file.split(|b| *b == b'\n') {
+        if !line.is_empty() {
+            report_text(rt, live, line)?;
+        }
+    }
+    Ok(())
 }
 
 /// Prints what comes of each text of a file, a line each. An empty line is none.
 pub(crate) fn report_lines<R: Print + AllocGlobal>(rt: &R, file: &[u8]) -> io::Result<()> {
     let mut live = Live::new(rt.alloc())?;
-    for line in file.split(|b| *b == b'\n') {
-        if !line.is_empty() {
-            report_text(rt, &mut live, line)?;
-        }
-    }
-    Ok(())
+    let printed = report_texts(rt, &mut live, file);
+    drop(live);
+    printed
 }

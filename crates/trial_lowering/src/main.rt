@@ -18,16 +18,31 @@ use std::alloc::Global;
 use std::{env, fs, io};
 use tick_checker::check;
 use tick_parser::parse;
-use tick_tree::Deny;
+use tick_tree::{Deny, Tree};
 use wellformed::Typed;
+
+// The tree of a text, where it is one.
+fn tree_of(alloc: Global, text: &[u8]) -> Result<Tree, Deny>
+    requires { length text.now ≤ LONGEST_TEXT }
+{
+    let found = tokens(alloc, text)?;
+    let tree = parse(alloc, text, &found);
+    drop(found);
+    tree
+}
 
 /// The program of a text, where it is accepted.
 pub(crate) fn typed(alloc: Global, text: &[u8]) -> Result<Typed, Deny>
     requires { length text.now ≤ LONGEST_TEXT }
 {
-    let found = tokens(alloc, text)?;
-    let tree = parse(alloc, text, &found)?;
-    check(alloc, &tree)
+    match tree_of(alloc, text) {
+        Ok(tree) => {
+            let program = check(alloc, &tree);
+            drop(tree);
+            program
+        }
+        Err(why) => Err(why),
+    }
 }
 
 // Whether this program is called with a word behind its name.

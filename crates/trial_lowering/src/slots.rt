@@ -75,22 +75,19 @@ fn address_behind(words: usize) -> Option<CallAddress>
     CallAddress::new(FUNCTIONS + 4 * words as u32)
 }
 
-// The words of functions that call one another at these addresses. A call of one whose address isn't among them goes to
-// 0, which changes no length.
-fn pass(
+// Adds the words of functions that call one another at these addresses. A call of one whose address isn't among them
+// goes to 0, which changes no length.
+fn fill(
     alloc: Global,
     builder: &mut Builder,
     labels: &mut [u32],
     starts: &[CallAddress],
     functions: &[Function],
-) -> Result<Code, AllocError>
+    code: &mut Code,
+) -> Result<(), AllocError>
     requires labels { length labels.old ≡ LABELS }
     requires functions { AreStatic (map function_view functions.now) }
 {
-    let mut code = Code {
-        words: Vec::new(alloc),
-        starts: Vec::new(alloc),
-    };
     for function in functions {
         match address_behind(code.words.len()) {
             Some(start) => {
@@ -108,16 +105,56 @@ fn pass(
             None => break,
         }
     }
-    Ok(code)
+    Ok(())
 }
 
-/// The words of a program's functions with all registers in slots, in two passes: the first finds where each function
-/// is to stand, the second makes the words. The only error is want of memory.
+// The words of functions that call one another at these addresses, as far as these are known.
+fn pass(
+    alloc: Global,
+    builder: &mut Builder,
+    labels: &mut [u32],
+    starts: &[CallAddress],
+    functions: &[Function],
+) -> Result<Code, AllocError>
+    requires labels { length labels.old ≡ LABELS }
+    requires functions { AreStatic (map function_view functions.now) }
+{
+    let mut code = Code {
+        words: Vec::new(alloc),
+        starts: Vec::new(alloc),
+    };
+    match fill(alloc, builder, labels, starts, functions, &mut code) {
+        Ok(()) => Ok(code),
+        Err(why) => {
+            drop(code);
+            Err(why)
+        }
+    }
+}
+
+// The words of functions in two passes: the first finds where each is to stand, the second makes the words.
+fn two_passes(
+    alloc: Global,
+    builder: &mut Builder,
+    labels: &mut [u32],
+    functions: &[Function],
+) -> Result<Code, AllocError>
+    requires labels { length labels.old ≡ LABELS }
+    requires functions { AreStatic (map function_view functions.now) }
+{
+    let first = pass(alloc, builder, labels, &[], functions)?;
+    let second = pass(alloc, builder, labels, &first.starts, functions);
+    drop(first);
+    second
+}
+
+/// The words of a program's functions with all registers in slots. The only error is want of memory.
 pub fn code_of(alloc: Global, functions: &[Function]) -> Result<Code, AllocError>
     requires { AreStatic (map function_view functions.now) }
 {
-    let mut builder = Builder::new(alloc)?;
     let mut labels = vec![in alloc; 0u32; OP_LIMIT]?;
-    let first = pass(alloc, &mut builder, &mut labels, &[], functions)?;
-    pass(alloc, &mut builder, &mut labels, &first.starts, functions)
+    let mut builder = Builder::new(alloc)?;
+    let code = two_passes(alloc, &mut builder, &mut labels, functions);
+    drop(builder);
+    code
 }

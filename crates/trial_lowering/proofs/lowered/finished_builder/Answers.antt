@@ -14,5 +14,5 @@ build_ops-requires c =
     let is : f ≡ get_or c.args.program.now.functions (n - 1) f = search rules in
     ready c.built_is_static.ensures c.args.program.now n (n - 1) f c.keeps_law.ensures (search rules) low is
 
-pub returns-in_ok-build_ops-in-Some : goal.returns-in_ok-build_ops-in-Some
-returns-in_ok-build_ops-in-Some c = ap (λ b. b.phase) c.in_ok-build_ops-in-Some.ensures
+pub returns-in-Ok : goal.returns-in-Ok
+returns-in-Ok c = ap (λ b. b.phase) c.in-Ok.ensures

@@ -1,7 +1,7 @@
 use Rattle.std.proofs.Common.{rules, map}
 use Rattle.typed_tree.specs.View.{function_view}
 use Rattle.static_backend.proofs.Loops.{next_static}
-use Rattle.trial_lowering.proofs.slots.pass.Goals as goal
+use Rattle.trial_lowering.proofs.slots.fill.Goals as goal
 
 pub append-requires-clause-ready : goal.append-requires-clause-ready
 append-requires-clause-ready c =
