@@ -59,6 +59,26 @@ fn unwritten(alloc: Global, count: usize) -> Result<Vec<WordState>, AllocError>
     vec![in alloc; WordState::Unwritten; count]
 }
 
+/// Makes all words 0. It takes no memory.
+fn clear(words: &mut Vec<u32>)
+    ensures length { length words.new.items ≡ length words.old.items }
+    ensures zero { (i : ℕ) → slice_index words.new.items i ≡ 0 }
+{
+    let count = words.len();
+    words.clear();
+    let _ = words.resize(count, 0);
+}
+
+/// Makes all states those of unwritten words. It takes no memory.
+fn forget(states: &mut Vec<WordState>)
+    ensures length { length states.new.items ≡ length states.old.items }
+    ensures unwritten { (i : ℕ) → slice_index_or states.new.items i WordState.Unwritten ≡ WordState.Unwritten }
+{
+    let count = states.len();
+    states.clear();
+    let _ = states.resize(count, WordState::Unwritten);
+}
+
 /// Marks so many words as flushed.
 fn mark_flushed(states: &mut [WordState], from: usize, count: usize)
     requires { from + count ≤ length states.old }
@@ -82,6 +102,14 @@ impl CodeArena {
             words: zero_words(alloc, map::ARENA_WORDS as usize)?,
             states: unwritten(alloc, map::ARENA_WORDS as usize)?,
         })
+    }
+
+    /// Makes all words 0 and unwritten, as in a new arena. It takes no memory.
+    pub fn reset(&mut self)
+        ensures { arena_of self.new ≡ spec.first }
+    {
+        clear(&mut self.words);
+        forget(&mut self.states);
     }
 
     /// Writes word i, which is then written and not flushed.

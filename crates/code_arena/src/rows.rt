@@ -34,6 +34,16 @@ fn unpublished(alloc: Global, count: usize) -> Result<Vec<(u32, u32)>, AllocErro
     vec![in alloc; (0, map::UNPUBLISHED); count]
 }
 
+/// Unpublishes all rows. It takes no memory.
+fn unpublish(rows: &mut Vec<(u32, u32)>)
+    ensures length { length rows.new.items ≡ length rows.old.items }
+    ensures rows { (n : ℕ) → rows_of rows.new.items n ≡ spec.first n }
+{
+    let count = rows.len();
+    rows.clear();
+    let _ = rows.resize(count, (0, map::UNPUBLISHED));
+}
+
 impl FunctionRows {
     /// A table in which no row is published: each has the address 0 and the count 0xffffffff.
     ///
@@ -45,6 +55,13 @@ impl FunctionRows {
         Ok(FunctionRows {
             rows: unpublished(alloc, map::FUNCTION_ROWS as usize)?,
         })
+    }
+
+    /// Unpublishes all rows, as in a new table. It takes no memory.
+    pub fn reset(&mut self)
+        ensures { rows_of self.new ≡ spec.first }
+    {
+        unpublish(&mut self.rows);
     }
 
     /// Publishes a row. The others stay as they are.

@@ -10,7 +10,7 @@ ghost use Rattle.flat_memory.specs.Spaces as spaces;
 ghost use Rattle.flat_memory.specs.Regions.{spaces_of};
 
 use crate::access::Access;
-use crate::first::{object_words, zero_words};
+use crate::first::{clear, make_room, object_words, refill, replace, zero_words};
 use std::alloc::{AllocError, Global};
 use std::marker::Model;
 use word32::{Width, is_aligned, loaded_part, map, stored_part};
@@ -114,6 +114,28 @@ impl Memory {
             emit_stack: zero_words(alloc, (map::EMIT_STACK_BYTES / 4) as usize)?,
             stack: zero_words(alloc, (map::STACK_BYTES / 4) as usize)?,
         })
+    }
+
+    /// Begins anew with another text and other bytes, as `new` says, in the memory that it has.
+    ///
+    /// # Errors
+    /// Where memory is wanting for the text; all is as it was then.
+    pub fn reset(&mut self, text: &[u32], bytes: &[u8]) -> Result<(), AllocError>
+        requires text_fits { length text.now ≤ TEXT_WORDS }
+        requires bytes_fit { length bytes.now ≤ GLOBAL_BYTES }
+        ensures { MatchResult result
+            (λ _. spaces_of self.new ≡ spaces.first text.now bytes.now)
+            (λ _. self.new ≡ self.old) }
+    {
+        make_room(&mut self.text, text.len())?;
+        replace(&mut self.text, text);
+        refill(&mut self.objects, bytes);
+        clear(&mut self.closures);
+        clear(&mut self.spec_rows);
+        clear(&mut self.cells);
+        clear(&mut self.emit_stack);
+        clear(&mut self.stack);
+        Ok(())
     }
 
     /// The word of the text that holds the byte at an address.

@@ -83,6 +83,15 @@ impl Service {
         })
     }
 
+    /// The services before the first one again, whatever was asked of them. It takes no memory.
+    pub fn reset(&mut self)
+        ensures { self.new ≡ services.fresh }
+    {
+        self.is_begun = false;
+        self.count = 0;
+        self.spills = 0;
+    }
+
     /// The places of the registers of the function that was finished last, one for each; none before the first.
     pub fn choices(&self) -> &[u8]
         ensures { result.now ≡ self.now.choices }

@@ -1,28 +1,26 @@
 //! A machine without its services.
 
-ghost use Rattle.std.specs.Prelude.{◌≡◌, ◌≢◌, ◌+◌, ◌-◌, ◌*◌, ◌/◌, ◌%◌, ◌^◌, ◌<◌, ◌≤◌, ℕ, false, length, map, IfOk};
+ghost use Rattle.std.specs.Prelude.{◌≡◌, ◌≢◌, ◌+◌, ◌-◌, ◌*◌, ◌/◌, ◌%◌, ◌^◌, ◌<◌, ◌≤◌, ℕ, false, length, IfOk, IfErr};
 ghost use Rattle.std.specs.Prelude.{IfSome, Ok, Err, None, Some, []};
-ghost use Rattle.limits.specs.declared.program.TheConstants.{MOST_FUNCTIONS};
 ghost use Rattle.limits.specs.declared.ops.TheConstants.{MOST_REGISTERS};
 ghost use Rattle.code_arena.specs.Arena.{Arena};
-ghost use Rattle.code_arena.specs.Kept.{rows_of};
-ghost use Rattle.code_arena.specs.Rows as rows;
 ghost use Rattle.icode_service.specs.Served.{Did, IsChosen};
 ghost use Rattle.mips_model.specs.Choices.{Choice};
 ghost use Rattle.mips_model.specs.CodeServices as generating;
 ghost use Rattle.mips_model.specs.CodeServices.{Rows};
 ghost use Rattle.mips_model.specs.State as model;
 ghost use Rattle.mips_model.specs.State.{register};
-ghost use Rattle.mips_model.specs.Run.{first_state, row_of};
+ghost use Rattle.mips_model.specs.Run.{first_state};
 ghost use Rattle.mips_core.specs.Core as spec;
 ghost use Rattle.mips_core.specs.Core.{state_of, data_of, world_of};
 
 use crate::halt::Halt;
 use crate::rest::Rest;
-use code_arena::{CodeArena, FunctionRows};
-use flat_memory::Memory;
+use crate::table::numbered;
+use code_arena::CodeArena;
+use flat_memory::{Memory, make_room, replace};
 use icode_service::{BadService, Service};
-use image_file::{FunctionEntry, Image};
+use image_file::Image;
 use mips_encoder::Register;
 use std::alloc::{AllocError, Global};
 use std::marker::Model;
@@ -49,21 +47,6 @@ impl Model for Core {
         (length m.text.items ≤ TEXT_WORDS) };
 }
 
-/// The function table in which functions are the rows from 1 on, in their order, and no other is published.
-///
-/// # Errors
-/// Where memory is wanting.
-fn numbered(alloc: Global, functions: &[FunctionEntry]) -> Result<FunctionRows, AllocError>
-    requires { length functions.now ≤ MOST_FUNCTIONS }
-    ensures { IfOk result (λ t. rows_of t ≡ rows.numbered (map row_of functions.now)) }
-{
-    let mut table = FunctionRows::new(alloc)?;
-    for (i, function) in functions.iter().enumerate() {
-        table.set(i as u32 + 1, function.address, function.count);
-    }
-    Ok(table)
-}
-
 impl Core {
     /// The machine in its first state. It takes all the memory that it ever needs.
     ///
@@ -82,6 +65,22 @@ impl Core {
             text,
             rest: Rest::begun(image.entry(), memory, arena, table),
         })
+    }
+
+    /// The machine in its first state with another image, in the memory that it has.
+    ///
+    /// # Errors
+    /// Where memory is wanting for a longer text; nothing has changed then.
+    pub fn load(&mut self, image: &Image) -> Result<(), AllocError>
+        ensures state { IfOk result
+            (λ _. state_of self.new ≡ first_state image.now (record { bytes = []; failing = false }) []) }
+        ensures on { IfOk result (λ _. self.new.stopped ≡ None) }
+        ensures kept { IfErr result (λ _. self.new ≡ self.old) }
+    {
+        make_room(&mut self.text, image.text().len())?;
+        self.rest.reset(image)?;
+        replace(&mut self.text, image.text());
+        Ok(())
     }
 
     /// The value of a register.

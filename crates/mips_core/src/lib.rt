@@ -12,6 +12,7 @@ mod halt;
 mod operations;
 mod rest;
 mod services;
+mod table;
 
 pub use core_state::Core;
 pub use halt::Halt;

@@ -1,6 +1,6 @@
 //! The registers, the memory and the control of a machine: all of it but the text that is fetched.
 
-ghost use Rattle.std.specs.Prelude.{◌≡◌, ◌≢◌, ◌+◌, ◌-◌, ◌*◌, ◌/◌, ◌%◌, ◌<◌, ◌≤◌, ℕ, true, false, length, map, IfOk};
+ghost use Rattle.std.specs.Prelude.{◌≡◌, ◌≢◌, ◌+◌, ◌-◌, ◌*◌, ◌/◌, ◌%◌, ◌<◌, ◌≤◌, ℕ, true, false, length, IfOk, IfErr};
 ghost use Rattle.std.specs.Prelude.{IfSome, Ok, Err, None, Some, []};
 ghost use Rattle.limits.specs.declared.program.TheConstants.{MOST_FUNCTIONS};
 ghost use Rattle.flat_memory.specs.Regions.{spaces_of};
@@ -14,6 +14,7 @@ ghost use Rattle.mips_core.specs.Core as spec;
 ghost use Rattle.mips_core.specs.Core.{state_of, data_of, world_of};
 
 use crate::halt::{Halt, Went};
+use crate::table::number;
 use code_arena::{CodeArena, FunctionRows};
 use flat_memory::Memory;
 use host_edge::{Ending, MachineKind};
@@ -101,6 +102,43 @@ impl Rest {
             table,
             stopped: None,
         }
+    }
+
+    /// The first state with another image, in the memory that there is.
+    ///
+    /// # Errors
+    /// Where memory is wanting for a longer text; nothing has changed then.
+    pub(crate) fn reset(&mut self, image: &Image) -> Result<(), AllocError>
+        ensures state { IfOk result
+            (λ _. state_of self.new ≡ first_state image.now (record { bytes = []; failing = false }) []) }
+        ensures on { IfOk result (λ _. self.new.stopped ≡ None) }
+        ensures kept { IfErr result (λ _. self.new ≡ self.old) }
+    {
+        self.memory.reset(image.text(), image.bytes())?;
+        self.arena.reset();
+        self.table.reset();
+        number(&mut self.table, image.functions());
+        self.restart(image.entry());
+        Ok(())
+    }
+
+    // The registers and the control of the first state; memory, arena and table stay.
+    fn restart(&mut self, entry: u32)
+        requires { entry < 4294967292 }
+        ensures state { state_of self.new
+            ≡ spec.begun entry (spaces_of self.old.memory) (arena_of self.old.arena) (rows_of self.old.table) }
+        ensures on { self.new.stopped ≡ None }
+    {
+        self.registers = [0; 32];
+        self.hi = 0;
+        self.lo = 0;
+        self.pc = entry;
+        self.target = 0;
+        self.loaded = 0;
+        self.recent = 0;
+        self.slot = false;
+        self.pending = false;
+        self.stopped = None;
     }
 
     /// The value of a register.

@@ -1,5 +1,5 @@
 //! The machine.
-ghost use Rattle.std.specs.Prelude.{◌≡◌, ◌≢◌, ◌≤◌, ◌<◌, ◌+◌, ◌-◌, ◌^◌, true, ℕ, List, Option, IfOk, IfSome, None, Some};
+ghost use Rattle.std.specs.Prelude.{◌≡◌, ◌≢◌, ◌≤◌, ◌<◌, ◌+◌, ◌-◌, ◌^◌, true, ℕ, List, Option, IfOk, IfErr, IfSome, None, Some};
 ghost use Rattle.mips_model.specs.Beside.{is_at_service};
 ghost use Rattle.mips_core.specs.Core.{state_of};
 ghost use Rattle.mips_machine.specs.Progress.{first_progress, counts_of, progress_of};
@@ -90,6 +90,29 @@ impl Machine {
             steps: 0,
             stopped: None,
         })
+    }
+
+    /// Begins anew with another image, in the memory that it has: it stands as `new` makes a machine, whatever it ran.
+    ///
+    /// # Errors
+    /// Where memory is wanting for a longer text; nothing has changed then.
+    pub fn load(&mut self, image: &Image) -> Result<(), AllocError>
+        ensures state { IfOk result (λ _. progress_of self.new ≡ first_progress image.now) }
+        ensures fresh { IfOk result (λ _. self.new.stopped ≡ None) }
+        ensures kept { IfErr result (λ _. self.new ≡ self.old) }
+    {
+        self.core.load(image)?;
+        self.service.reset();
+        self.at_end = false;
+        self.tally = Tally {
+            ops: 0,
+            functions: 0,
+            words: 0,
+            flushes: 0,
+        };
+        self.steps = 0;
+        self.stopped = None;
+        Ok(())
     }
 
     /// The number of instructions executed so far, one that ended the run or was refused included.

@@ -1,10 +1,10 @@
 use Rattle.std.proofs.Common.{◌∙◌, ◌+◌, ap}
 use Rattle.code_arena.specs.Rows.{published}
 use Rattle.mips_core.proofs.Numbered.{numbered_none, numbered_more}
-use Rattle.mips_core.proofs.core_state.numbered.Goals as goal
+use Rattle.mips_core.proofs.table.number.Goals as goal
 
 pub loop-i-init : goal.loop-i-init
-loop-i-init c = c.in_ok-table.ensures ∙ numbered_none
+loop-i-init c = c.requires.none ∙ numbered_none
 
 pub loop-i-preserved : goal.loop-i-preserved
 loop-i-preserved c =
