@@ -2,7 +2,7 @@
 # A text begins with its title, and stands in the lines of `#>`. For each of its ticks comes a line with its number, and
 # the pieces of its lowering, each as the table of docs/closures.md has it: these are macros below, of
 # which GNU as for MIPS makes the words. The static functions of a text are at 0x00401000, 0x00401100 and so on.
-# `make` beside this file writes the input and the expected output of `generators` in `trial_ticks`.
+# `make` beside this file writes the input and the expected output of `generators` in `trial_texts`.
 
 %% literal
 #> int main(){int cspec c;c=`4;return 0;}

@@ -1,7 +1,7 @@
 """A second machine, written from docs/machine-model.md, docs/instructions.md, docs/memory.md and docs/image.md alone.
 
-It is slow and plain; its services that make code are those of services.py. What the programs trial_random_images,
-trial_mutated_images and trial_service_images must print of generated images is what it says of the same image files.
+It is slow and plain; its services that make code are those of services.py. What the program trial_images must print of
+generated images is what it says of the same image files.
 """
 import struct
 

@@ -6,6 +6,11 @@ use std::alloc::Global;
 /// What a line says. Bytes of an image file are in hexadecimal digits, a word is eight of them.
 #[derive(Drop)]
 pub enum Row<'a> {
+    /// `section NAME`: rows of another kind follow, for which the forms so far don't count. Its name is printed.
+    Section {
+        /// What the kind is called.
+        name: &'a str,
+    },
     /// `image NAME STEPS BYTES`: an image file, run for so many steps at most. With `counted` in the place of `image`,
     /// all counts of services are printed.
     Given {
@@ -56,6 +61,9 @@ impl<'a> Row<'a> {
         let mut words = line.split_whitespace();
         let kind = words.next()?;
         match kind {
+            "section" => Some(Row::Section {
+                name: words.next()?,
+            }),
             "image" | "counted" => Some(Row::Given {
                 name: words.next()?,
                 steps: words.next()?.parse().ok()?,

@@ -1,8 +1,0 @@
-//! Tries the machine on 500 image files of random instructions: each stops as a second machine says.
-#![tactic(auto)]
-
-use trial_image_rows::answer_rows;
-
-fn main(rt: HostRuntime) -> anyhow::Result<()> {
-    answer_rows(&rt)
-}

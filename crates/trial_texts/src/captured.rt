@@ -1,0 +1,51 @@
+//! Prints the captures of the ticks of each accepted text, a line for each tick: of each capture its kind and the
+//! number of the first node of the tick's body that names it.
+
+use captures::{Capture, captures};
+use std::io;
+use typed_tree::{Answer, CaptureKind};
+use wellformed::Typed;
+
+// The name of a kind.
+fn name(kind: CaptureKind) -> &'static str {
+    match kind {
+        CaptureKind::Dollar => "dollar",
+        CaptureKind::Address => "address",
+        CaptureKind::Splice(Answer::Value) => "splice",
+        CaptureKind::Splice(Answer::Void) => "statement",
+        CaptureKind::Variable => "variable",
+    }
+}
+
+fn print_captures<R: Print>(rt: &R, found: &[Capture]) -> io::Result<()> {
+    for capture in found {
+        print!(rt; " {} {}", name(capture.kind), capture.node)?;
+    }
+    println!(rt; ".")
+}
+
+// The captures of the tick with this number.
+fn report_tick<R: Print + AllocGlobal>(rt: &R, program: &Typed, number: u32) -> io::Result<()> {
+    match captures(rt.alloc(), program.ticks(), number) {
+        Ok(found) => {
+            let printed = print_captures(rt, found.as_slice());
+            drop(found);
+            printed
+        }
+        Err(_) => println!(rt; " no memory"),
+    }
+}
+
+/// Prints the lines of an accepted text, whose ticks come in their order.
+pub(crate) fn report<R: Print + AllocGlobal>(
+    rt: &R,
+    title: &str,
+    program: &Typed,
+) -> io::Result<()> {
+    let count = u32::try_from(program.ticks().len()).unwrap_or(u32::MAX);
+    for number in 0..count {
+        print!(rt; "{title} {number}:")?;
+        report_tick(rt, program, number)?;
+    }
+    Ok(())
+}

@@ -1,0 +1,173 @@
+//! What is made of whole texts: the first static fault of each, what it means, and of its ticks the captures and the
+//! functions that generate their code.
+//!
+//! The texts stand in four files of cases, which lie where this program runs (`data/`). Where it is called with the
+//! name of one of them, as by `bench/front` and `bench/mean`, it takes the cases on its standard input as those of that
+//! file, and no others.
+#![tactic(auto)]
+
+ghost use Rattle.std.specs.Prelude.{◌≤◌, length};
+
+mod captured;
+mod faults;
+mod generators;
+mod meaning;
+mod pieces;
+
+use c_lexer::tokens;
+use limits::text::LONGEST_TEXT;
+use std::alloc::Global;
+use std::io::{self, Read};
+use std::{env, fs};
+use tick_checker::check;
+use tick_parser::parse;
+use tick_tree::{Deny, Tree};
+use trial_cases::{Case, cases};
+use wellformed::Typed;
+
+// What is printed of texts.
+#[derive(Clone, Copy)]
+enum Trial {
+    Faults,
+    Meaning,
+    Captured,
+    Generators,
+}
+
+fn trial_of(word: &str) -> Option<Trial> {
+    match word {
+        "faults" => Some(Trial::Faults),
+        "meaning" => Some(Trial::Meaning),
+        "captured" => Some(Trial::Captured),
+        "generators" => Some(Trial::Generators),
+        _ => None,
+    }
+}
+
+// The tree of a text, or its first fault.
+fn tree_of(alloc: Global, text: &[u8]) -> Result<Tree, Deny>
+    requires { length text.now ≤ LONGEST_TEXT }
+{
+    let found = tokens(alloc, text)?;
+    let tree = parse(alloc, text, &found);
+    drop(found);
+    tree
+}
+
+// The program of a text, or its first static fault.
+fn typed(alloc: Global, text: &[u8]) -> Result<Typed, Deny>
+    requires { length text.now ≤ LONGEST_TEXT }
+{
+    match tree_of(alloc, text) {
+        Ok(tree) => {
+            let program = check(alloc, &tree);
+            drop(tree);
+            program
+        }
+        Err(why) => Err(why),
+    }
+}
+
+// The lines of an accepted text.
+fn report_program<R: Print + AllocGlobal>(
+    rt: &R,
+    trial: Trial,
+    title: &str,
+    program: &Typed,
+) -> io::Result<()> {
+    match trial {
+        Trial::Faults => faults::report(rt, title, program),
+        Trial::Meaning => meaning::report(rt, title, program),
+        Trial::Captured => captured::report(rt, title, program),
+        Trial::Generators => generators::report(rt, title, program),
+    }
+}
+
+// The line of a text that isn't accepted.
+fn report_deny<R: Print>(rt: &R, title: &str, why: Deny) -> io::Result<()> {
+    match why {
+        Deny::Refused(fault) => println!(rt;
+            "{title}: {} {} on line {}",
+            fault.kind.number(),
+            fault.kind.name(),
+            fault.line
+        ),
+        Deny::NoMemory => println!(rt; "{title}: no memory"),
+    }
+}
+
+// The lines of one text.
+fn report<R: Print + AllocGlobal>(
+    rt: &R,
+    trial: Trial,
+    title: &str,
+    text: &[u8],
+) -> io::Result<()> {
+    if LONGEST_TEXT < text.len() {
+        return println!(rt; "{title}: over {LONGEST_TEXT} bytes");
+    }
+    match typed(rt.alloc(), text) {
+        Ok(program) => {
+            let printed = report_program(rt, trial, title, &program);
+            drop(program);
+            printed
+        }
+        Err(why) => report_deny(rt, title, why),
+    }
+}
+
+fn report_case<R: Print + AllocGlobal>(rt: &R, trial: Trial, case: &Case<'_>) -> io::Result<()> {
+    let title = str::from_utf8(case.title).unwrap_or("?");
+    let text = pieces::text_of(rt.alloc(), case)?;
+    let printed = report(rt, trial, title, &text);
+    drop(text);
+    printed
+}
+
+fn report_each<R: Print + AllocGlobal>(rt: &R, trial: Trial, cases: &[Case<'_>]) -> io::Result<()> {
+    for case in cases {
+        report_case(rt, trial, case)?;
+    }
+    Ok(())
+}
+
+// The lines of the texts of a file of cases.
+fn report_cases<R: Print + AllocGlobal>(rt: &R, trial: Trial, file: &[u8]) -> io::Result<()> {
+    let all = cases(rt.alloc(), file)?;
+    let printed = report_each(rt, trial, &all);
+    drop(all);
+    printed
+}
+
+// The texts of a file, behind a line with its name.
+fn report_file(rt: &HostRuntime, trial: Trial, name: &str) -> io::Result<()> {
+    println!(rt; "== {name}")?;
+    report_cases(rt, trial, &fs::read(rt, name)?)
+}
+
+fn report_all(rt: &HostRuntime) -> io::Result<()> {
+    report_file(rt, Trial::Faults, "faults")?;
+    report_file(rt, Trial::Meaning, "meaning")?;
+    report_file(rt, Trial::Captured, "captured")?;
+    report_file(rt, Trial::Generators, "generators")
+}
+
+// The texts on standard input.
+fn report_input(rt: &HostRuntime, trial: Trial) -> io::Result<()> {
+    let mut file = Vec::new(rt.alloc());
+    rt.reader().read_to_end(&mut file)?;
+    report_cases(rt, trial, &file)
+}
+
+// What the word behind the program's name says.
+fn asked(rt: &HostRuntime) -> io::Result<Option<Trial>> {
+    let mut words = env::args(rt)?.skip(1);
+    Ok(words.next().and_then(|word| trial_of(word.as_str())))
+}
+
+fn main(rt: HostRuntime) -> io::Result<()> {
+    match asked(&rt)? {
+        Some(trial) => report_input(&rt, trial),
+        None => report_all(&rt),
+    }
+}
