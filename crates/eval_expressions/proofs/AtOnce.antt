@@ -1,7 +1,5 @@
 -- Expressions whose parts are evaluated at once.
-use Rattle.std.proofs.Common.{◌≡◌, ◌≤◌, ◌<◌, ◌+◌, ℕ, List, [], ◌∷◌, ◌++◌, IfOk}
-use Rattle.std.proofs.Common.{ap, ◌∙◌, arith, append_assoc}
-use Rattle.std.proofs.Common as std
+use Rattle.std.proofs.Common.{◌≡◌, ◌≤◌, ◌+◌, ℕ, List, [], ◌∷◌, ◌++◌, ap, ◌∙◌, arith, append_assoc}
 use Rattle.icode_ops.specs.declared.kind.BinKind.{BinKind}
 use Rattle.typed_tree.specs.Nodes as node
 use Rattle.typed_tree.specs.Nodes.{Expr, Args, Arg}
@@ -11,37 +9,15 @@ use Rattle.eval_state.specs.Pending.{Target}
 use Rattle.eval_state.specs.Pending as pending
 use Rattle.eval_state.specs.Rest.{Signal, targeted, valued}
 use Rattle.eval_state.proofs.Laws as law
-use Rattle.eval_state.specs.declared.parts.Now as code
-use Rattle.eval_state.specs.Less.{heft, held, waiting}
+use Rattle.eval_state.specs.Less.{held, waiting}
 use Rattle.eval_state.specs.Run.{Run, here, leads, world}
 use Rattle.eval_state.specs.Steps.{begun, taken}
-use Rattle.eval_state.specs.Views.{now_view}
 use Rattle.eval_simple.specs.Simple.{IsDone}
 use Rattle.eval_simple.proofs.Going as going
 
 -- ---- what was found at once
 
 -- units were spent, so nothing need be lighter
-pub spends : (r t u : Run) (e : Expr) (v x y : ℕ) → IsDone e v r t → u.state.units ≤ t.state.units
-    → u.state.units ≡ r.state.units → x < y
-spends r t u e v x y h most same = omega (arith, going.spends r t e v h, most, same)
-
-pub fewer : (r t u : Run) (e : Expr) (v : ℕ) → IsDone e v r t → u.state.units ≤ t.state.units
-    → u.state.units ≤ r.state.units
-fewer r t u e v h most = omega (arith, going.spends r t e v h, most)
-
--- and behind it, where something was done besides
-pub units_behind : {E : Type 0} (result : std.Result code.Now E) (r t u : Run) (e : Expr) (v : ℕ) → IsDone e v r t
-    → IfOk result (λ n. u.state.units ≤ t.state.units) → IfOk result (λ n. u.state.units ≤ r.state.units)
-units_behind (std.Ok n) r t u e v h most = omega (arith, going.spends r t e v h, most)
-units_behind (std.Err x) r t u e v h most = most
-
-pub spends_behind : {E : Type 0} (result : std.Result code.Now E) (r t u : Run) (e : Expr) (v y : ℕ) → IsDone e v r t
-    → IfOk result (λ n. u.state.units ≤ t.state.units)
-    → IfOk result (λ n. u.state.units ≡ r.state.units → heft (now_view n) u < y)
-spends_behind (std.Ok n) r t u e v y h most = λ same. omega (arith, going.spends r t e v h, most, same)
-spends_behind (std.Err x) r t u e v y h most = most
-
 pub spends_yet : (r t s : Run) (e : Expr) (v x y : ℕ) → IsDone e v r t → r.state.units ≤ s.state.units
     → t.state.units ≡ s.state.units → x ≤ y
 spends_yet r t s e v x y h most same = omega (arith, going.spends r t e v h, most, same)
@@ -82,5 +58,3 @@ argument_there target e more before v r t h =
     (λ i vs w. ap (λ l. targeted (here t) target l w) (append_assoc before (v ∷ []) vs) i)
     ∙ going.takes r t e v (pending.Argument target more before) h
     ∙ ap (leads r) (law.args_start (here r) e more (world r) (λ vs w. targeted (here r) target (before ++ vs) w))
-
-pub ruleset operands = (first_there, second_there)

@@ -8,7 +8,7 @@ ghost use Rattle.staged_meaning.specs.World.{then_do};
 ghost use Rattle.eval_state.specs.Pending as pending;
 ghost use Rattle.eval_state.specs.Rest.{targeted, valued};
 ghost use Rattle.eval_state.specs.Less.{heft, held, waiting};
-ghost use Rattle.eval_state.specs.Steps.{begun, taken};
+ghost use Rattle.eval_state.specs.Steps.{taken};
 ghost use Rattle.eval_state.specs.Run.{here, leads, outcome, run_of, world};
 ghost use Rattle.eval_state.specs.Views.{args_view, now_view, target_view};
 
@@ -16,60 +16,7 @@ use eval_simple::at_once;
 use eval_state::{ExpressionFrame, Frame, Machine, Now, Target};
 use sqlite_items::Items;
 use std::alloc::AllocError;
-use typed_tree::{Answer, Expr};
-
-/// Begins a call of the function of a number.
-#[tactic(auto, unfolding(eval_state::specs::Steps::begun))]
-pub(crate) fn call<'a>(
-    m: &mut Machine<'a>,
-    answer: Answer,
-    f: u32,
-    list: &'a [Expr],
-) -> Result<Now<'a>, AllocError>
-    ensures same { IfOk result (λ n. outcome (now_view n) (run_of m.new)
-        ≡ begun (node.Call answer f (args_view list.entry.now)) (run_of m.old)) }
-    ensures units { IfOk result (λ n. (run_of m.new).state.units ≤ (run_of m.old).state.units) }
-    ensures less { IfOk result (λ n. (run_of m.new).state.units ≡ (run_of m.old).state.units
-        → heft (now_view n) (run_of m.new)
-        < heft (pending.Eval (node.Call answer f (args_view list.entry.now))) (run_of m.old)) }
-{
-    first_argument(m, Target::Direct(answer, f), list)
-}
-
-/// Begins a specification of the tick of a number.
-#[tactic(auto, unfolding(eval_state::specs::Steps::begun))]
-pub(crate) fn specify<'a>(
-    m: &mut Machine<'a>,
-    tick: u32,
-    list: &'a [Expr],
-) -> Result<Now<'a>, AllocError>
-    ensures same { IfOk result (λ n. outcome (now_view n) (run_of m.new)
-        ≡ begun (node.Tick tick (args_view list.entry.now)) (run_of m.old)) }
-    ensures units { IfOk result (λ n. (run_of m.new).state.units ≤ (run_of m.old).state.units) }
-    ensures less { IfOk result (λ n. (run_of m.new).state.units ≡ (run_of m.old).state.units
-        → heft (now_view n) (run_of m.new)
-        < heft (pending.Eval (node.Tick tick (args_view list.entry.now))) (run_of m.old)) }
-{
-    first_argument(m, Target::Specified(tick, list), list)
-}
-
-/// The number of a function that is called is there.
-#[tactic(auto, unfolding(eval_state::specs::Steps::taken))]
-pub(crate) fn called_number<'a>(
-    m: &mut Machine<'a>,
-    answer: Answer,
-    f: u32,
-    list: &'a [Expr],
-) -> Result<Now<'a>, AllocError>
-    ensures same { IfOk result (λ n. outcome (now_view n) (run_of m.new)
-        ≡ taken (pending.Function answer (args_view list.entry.now)) f (run_of m.old)) }
-    ensures units { IfOk result (λ n. (run_of m.new).state.units ≤ (run_of m.old).state.units) }
-    ensures less { IfOk result (λ n. (run_of m.new).state.units ≡ (run_of m.old).state.units
-        → heft (now_view n) (run_of m.new)
-        < waiting (pending.Function answer (args_view list.entry.now)) (run_of m.old) + held (run_of m.old)) }
-{
-    first_argument(m, Target::Numbered(answer, f), list)
-}
+use typed_tree::Expr;
 
 /// An argument is there: goes on with the next one, or with what they are for.
 #[tactic(auto, unfolding(eval_state::specs::Steps::taken))]
@@ -93,8 +40,8 @@ pub(crate) fn argument<'a>(
     next_argument(m, target, list, done)
 }
 
-// Begins with the first argument, or with what they are for.
-fn first_argument<'a>(
+/// Begins with the first argument, or with what they are for.
+pub(crate) fn first_argument<'a>(
     m: &mut Machine<'a>,
     target: Target<'a>,
     list: &'a [Expr],

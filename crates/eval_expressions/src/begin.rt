@@ -2,23 +2,17 @@
 
 ghost use Rattle.std.specs.Prelude.{◌≡◌, ◌<◌, ◌≤◌, IfOk};
 ghost use Rattle.typed_tree.specs.View.{expr_view};
-ghost use Rattle.eval_state.specs.Pending as pending;
 ghost use Rattle.eval_state.specs.Less.{heft};
-ghost use Rattle.eval_state.specs.Steps.{begun};
 ghost use Rattle.eval_state.specs.Run.{outcome, run_of};
 ghost use Rattle.eval_state.specs.declared.parts.Now.TheVariants as now;
 ghost use Rattle.eval_state.specs.Views.{now_view};
+ghost use Rattle.eval_simple.specs.Stepped.{IsBegun};
 
-use crate::arguments::{call, specify};
-use crate::leaves::{
-    captured, constant, generated, getchar, local, object, post_generated, post_variable, splice,
-    variable,
-};
-use crate::operands::{
-    binary, both, call_number, capture, choice, comma, compile, either, library, load, modify,
-    parameter, post, set_generated, set_variable, store, unary, void,
-};
-use eval_state::{Machine, Now};
+use crate::arguments::first_argument;
+use crate::leaves::{getchar, object, post_generated, post_variable};
+use crate::next::{give, open};
+use crate::operands::binary;
+use eval_state::{ExpressionFrame, Machine, Now, Target};
 use std::alloc::AllocError;
 use typed_tree::Expr;
 
@@ -26,7 +20,6 @@ use typed_tree::Expr;
 ///
 /// # Errors
 /// Where memory is wanting.
-#[tactic(auto, unfolding(eval_state::specs::Steps::begun))]
 pub fn eval<'a>(m: &mut Machine<'a>, e: &'a Expr) -> Result<Now<'a>, AllocError>
     ensures same { IfOk result (λ n. outcome (now_view n) (run_of m.new)
         ≡ outcome (now_view (now.Eval e.entry)) (run_of m.old)) }
@@ -37,45 +30,63 @@ pub fn eval<'a>(m: &mut Machine<'a>, e: &'a Expr) -> Result<Now<'a>, AllocError>
     begin(m, e)
 }
 
-// Begins an expression by its kind.
-#[tactic(auto, using(crate::proofs::Steps::nodes))]
+// Begins an expression by its kind: a leaf gives its value, and of a node with parts the first is evaluated.
 fn begin<'a>(m: &mut Machine<'a>, e: &'a Expr) -> Result<Now<'a>, AllocError>
-    ensures same { IfOk result (λ n. outcome (now_view n) (run_of m.new)
-        ≡ begun (expr_view e.entry.now) (run_of m.old)) }
-    ensures units { IfOk result (λ n. (run_of m.new).state.units ≤ (run_of m.old).state.units) }
-    ensures less { IfOk result (λ n. (run_of m.new).state.units ≡ (run_of m.old).state.units
-        → heft (now_view n) (run_of m.new) < heft (pending.Eval (expr_view e.entry.now)) (run_of m.old)) }
+    ensures { IfOk result (λ n. IsBegun (expr_view e.entry.now) (now_view n) (run_of m.old) (run_of m.new)) }
 {
     match e {
-        Expr::Const(word) => Ok(constant(m, *word)),
-        Expr::Captured(kind, i) => Ok(captured(m, *kind, *i)),
-        Expr::Var(i) => Ok(variable(m, *i)),
-        Expr::SetVar(i, a) => set_variable(m, *i, a.get()),
+        Expr::Const(word) => Ok(give(m, *word)),
+        Expr::Captured(_, i) => {
+            let word = m.captured(*i);
+            Ok(give(m, word))
+        }
+        Expr::Var(i) => {
+            let v = m.variable(*i);
+            Ok(give(m, v))
+        }
+        Expr::SetVar(i, a) => open(m, ExpressionFrame::SetVar(*i), a),
         Expr::PostVar(i, width, step) => post_variable(m, *i, *width, *step),
-        Expr::VGet(i) => Ok(generated(m, *i)),
-        Expr::VSet(i, a) => set_generated(m, *i, a.get()),
+        Expr::VGet(i) => {
+            let v = m.generated(*i);
+            Ok(give(m, v))
+        }
+        Expr::VSet(i, a) => open(m, ExpressionFrame::SetGenerated(*i), a),
         Expr::VPost(i, step) => post_generated(m, *i, *step),
         Expr::Frame(offset) => object(m, *offset),
-        Expr::Load(width, a) => load(m, *width, a.get()),
-        Expr::Store(width, a, b) => store(m, *width, a.get(), b.get()),
-        Expr::Modify(width, kind, a, b) => modify(m, *width, *kind, a.get(), b.get()),
-        Expr::Post(width, step, a) => post(m, *width, *step, a.get()),
+        Expr::Load(width, a) => open(m, ExpressionFrame::Load(*width), a),
+        Expr::Store(width, a, b) => { open(m, ExpressionFrame::StoreAddress(*width, b.get()), a) }
+        Expr::Modify(width, kind, a, b) => open(
+            m,
+            ExpressionFrame::ModifyAddress(*width, *kind, b.get()),
+            a,
+        ),
+        Expr::Post(width, step, a) => open(m, ExpressionFrame::Post(*width, *step), a),
         Expr::Bin(kind, a, b) => binary(m, *kind, a.get(), b.get()),
-        Expr::Un(kind, a) => unary(m, *kind, a.get()),
-        Expr::And(a, b) => both(m, a.get(), b.get()),
-        Expr::Or(a, b) => either(m, a.get(), b.get()),
-        Expr::Cond(test, a, b) => choice(m, test.get(), a.get(), b.get()),
-        Expr::Comma(a, b) => comma(m, a.get(), b.get()),
-        Expr::Void(a) => void(m, a.get()),
-        Expr::Call(answer, f, list) => call(m, *answer, *f, list.as_slice()),
-        Expr::CallNumber(answer, a, list) => call_number(m, *answer, a.get(), list.as_slice()),
+        Expr::Un(kind, a) => open(m, ExpressionFrame::Un(*kind), a),
+        Expr::And(a, b) => open(m, ExpressionFrame::And(b.get()), a),
+        Expr::Or(a, b) => open(m, ExpressionFrame::Or(b.get()), a),
+        Expr::Cond(test, a, b) => open(m, ExpressionFrame::Cond(a.get(), b.get()), test),
+        Expr::Comma(a, b) => open(m, ExpressionFrame::Comma(b.get()), a),
+        Expr::Void(a) => open(m, ExpressionFrame::Void, a),
+        Expr::Call(answer, f, list) => {
+            first_argument(m, Target::Direct(*answer, *f), list.as_slice())
+        }
+        Expr::CallNumber(answer, a, list) => open(
+            m,
+            ExpressionFrame::Function(*answer, list.as_slice()),
+            a,
+        ),
         Expr::Getchar => getchar(m),
-        Expr::Lib(kind, a) => library(m, *kind, a.get()),
-        Expr::Tick(tick, list) => specify(m, *tick, list.as_slice()),
-        Expr::Capture(kind, a) => capture(m, *kind, a.get()),
-        Expr::Splice(answer, i) => splice(m, *answer, *i),
-        Expr::Compile(a) => compile(m, a.get()),
-        Expr::Local => local(m),
-        Expr::ParamOf(a) => parameter(m, a.get()),
+        Expr::Lib(kind, a) => open(m, ExpressionFrame::Lib(*kind), a),
+        Expr::Tick(tick, list) => first_argument(
+            m,
+            Target::Specified(*tick, list.as_slice()),
+            list.as_slice(),
+        ),
+        Expr::Capture(_, a) => open(m, ExpressionFrame::Spend, a),
+        Expr::Splice(answer, i) => m.splice(*answer, *i),
+        Expr::Compile(a) => open(m, ExpressionFrame::Compile, a),
+        Expr::Local => m.specify_local(),
+        Expr::ParamOf(a) => open(m, ExpressionFrame::ParamOf, a),
     }
 }

@@ -7,6 +7,7 @@ mod begin;
 mod going_on;
 mod leaves;
 mod memory;
+mod next;
 mod operands;
 mod operators;
 mod results;

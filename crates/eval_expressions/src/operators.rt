@@ -1,16 +1,16 @@
 //! Operators on words.
 
-ghost use Rattle.std.specs.Prelude.{◌≡◌, ◌+◌, ◌<◌, ◌≤◌, None, Some};
+ghost use Rattle.std.specs.Prelude.{◌≡◌, None, Some};
 ghost use Rattle.word32.specs.Parts as parts;
 ghost use Rattle.meaning_operators.specs.Values as spec;
 ghost use Rattle.meaning_state.specs.Operators.{bin_trap};
 ghost use Rattle.eval_state.specs.Pending as pending;
-ghost use Rattle.eval_state.specs.Less.{heft, held, waiting};
-ghost use Rattle.eval_state.specs.Steps.{taken};
-ghost use Rattle.eval_state.specs.Run.{outcome, run_of};
+ghost use Rattle.eval_state.specs.Run.{run_of};
 ghost use Rattle.eval_state.specs.Views.{now_view};
+ghost use Rattle.eval_simple.specs.Stepped.{IsTaken};
 ghost use Rattle.eval_expressions.specs.Values.{trap_at};
 
+use crate::next::give;
 use eval_state::{Machine, Now};
 use host_edge::{Ending, TrapKind};
 use icode_ops::{BinKind, UnKind};
@@ -25,7 +25,6 @@ pub(crate) fn trap<'a>(kind: TrapKind) -> Now<'a>
 }
 
 /// The trap of a division that has no value.
-#[tactic(auto, using(crate::proofs::Steps::operating))]
 pub(crate) fn division_trap(kind: BinKind, a: u32, b: u32) -> TrapKind
     requires { spec.binary kind a b ≡ None }
     ensures { bin_trap kind a b ≡ Some result }
@@ -51,15 +50,11 @@ pub(crate) fn narrowed(width: Width, w: u32) -> u32
 }
 
 /// The second operand is there.
-#[tactic(auto, using(crate::proofs::Steps::operating), unfolding(eval_state::specs::Steps::taken))]
 pub(crate) fn second<'a>(m: &mut Machine<'a>, kind: BinKind, x: u32, y: u32) -> Now<'a>
-    ensures same { outcome (now_view result) (run_of m.new) ≡ taken (pending.Second kind x) y (run_of m.old) }
-    ensures units { (run_of m.new).state.units ≤ (run_of m.old).state.units }
-    ensures less { (run_of m.new).state.units ≡ (run_of m.old).state.units
-        → heft (now_view result) (run_of m.new) < waiting (pending.Second kind x) (run_of m.old) + held (run_of m.old) }
+    ensures { IsTaken (pending.Second kind x) y (now_view result) (run_of m.old) (run_of m.new) }
 {
     match binary_value(kind, x, y) {
         None => trap(division_trap(kind, x, y)),
-        Some(v) => m.spend(Now::Value(v)),
+        Some(v) => give(m, v),
     }
 }

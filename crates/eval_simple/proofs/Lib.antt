@@ -1,3 +1,4 @@
 pub mod Done
 pub mod Going
 pub mod Laws
+pub mod Stepped

@@ -46,6 +46,11 @@ still_most result p q t y h k =
 
 -- ---- turns
 
+pub turn_waits : (d : ℕ) (e : Expr) (step : Option Expr) (s : Stmt) (r : Run)
+    → leads r (after (here r) (pending.Test d e step s) (valued (eval (here r) e (world r))))
+    ≡ leads r (left (loop_of (here r) (suc d) e step s (world r)))
+turn_waits d e step s r = ap (leads r) (statement.turn_begins (here r) d e step s (world r))
+
 pub turn_tested : (r t : Run) (d : ℕ) (e : Expr) (step : Option Expr) (s : Stmt) (v : ℕ) → IsDone e v r t
     → taken (pending.Test d e step s) v t ≡ leads r (left (loop_of (here r) (suc d) e step s (world r)))
 turn_tested r t d e step s v h =

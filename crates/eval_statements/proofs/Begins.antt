@@ -1,6 +1,5 @@
 -- The steps of statements.
 use Rattle.std.proofs.Common.{◌≡◌, ◌≢◌, ℕ, zero, suc, Option, None, Some, refl, ap, sym, ◌∙◌}
-use Rattle.typed_tree.specs.Nodes as node
 use Rattle.typed_tree.specs.Nodes.{Expr, Stmt}
 use Rattle.staged_meaning.specs.Meaning.{eval, exec}
 use Rattle.staged_meaning.specs.World.{Flow, Normal, Broke, Continued, World, Gives, spend, then_do}
@@ -10,7 +9,7 @@ use Rattle.eval_state.specs.Rest.{Left, left, loop_of, valued, after, spent}
 use Rattle.eval_state.proofs.Laws as law
 use Rattle.eval_state.proofs.Statements as statement
 use Rattle.typed_tree.proofs.Views as view
-use Rattle.eval_state.specs.Steps.{executed, taken, ended}
+use Rattle.eval_state.specs.Steps.{taken, ended}
 use Rattle.eval_state.specs.Run.{Run, here, world, leads, outcome, in_world}
 
 -- the end of a statement behind a change of the world, which spends a unit
@@ -32,38 +31,6 @@ ends_now r t n flow k = k ∙ ap (leads r) (law.spent_left (here r) (world r).un
 pub stands_behind : (r s : Run) (w : World) → s ≡ in_world w r
     → outcome (pending.Left Normal) s ≡ leads r (left (Gives Normal w))
 stands_behind r s w h = ap (outcome (pending.Left Normal)) h
-
--- ---- statements without parts
-
-pub case_leaves : (v : ℕ) (r : Run) → outcome (pending.Left Normal) r ≡ executed (node.Case v) r
-unfolding executed
-case_leaves v r = refl
-
-pub default_leaves : (r : Run) → outcome (pending.Left Normal) r ≡ executed node.Default r
-unfolding executed
-default_leaves r = refl
-
-pub break_leaves : (r : Run) → outcome (pending.Left Broke) r ≡ executed node.Break r
-unfolding executed
-break_leaves r = refl
-
-pub continue_leaves : (r : Run) → outcome (pending.Left Continued) r ≡ executed node.Continue r
-unfolding executed
-continue_leaves r = refl
-
-pub return_leaves : (r : Run) → outcome (pending.Returned 0) r ≡ executed node.Return r
-unfolding executed
-return_leaves r = refl
-
--- ---- values that are dropped or returned
-
-pub drops : (v : ℕ) (r : Run) → outcome (pending.Left Normal) r ≡ taken pending.Drop v r
-unfolding taken
-drops v r = refl
-
-pub returns : (v : ℕ) (r : Run) → outcome (pending.Returned v) r ≡ taken pending.Return v r
-unfolding taken
-returns v r = refl
 
 -- ---- loops
 
@@ -115,17 +82,6 @@ turns_on_too r d e o s h =
     ap (λ o. leads r (after (here r) (pending.Turn d e o s) (Gives (Left Continued) (world r)))) (sym h)
 
 pub ruleset begins = (law.binds, ends_behind, ends_now)
-
-pub ruleset leaves = (
-  view.statements,
-  case_leaves,
-  default_leaves,
-  break_leaves,
-  continue_leaves,
-  return_leaves,
-  drops,
-  returns,
-)
 
 pub ruleset views = (view.statements)
 

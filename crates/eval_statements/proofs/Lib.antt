@@ -1,5 +1,7 @@
 pub mod AtOnce
 pub mod Begins
+pub mod Executed
 pub mod Labels
 pub mod Turns
 pub mod Starts
+pub mod Taken

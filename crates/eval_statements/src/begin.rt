@@ -8,16 +8,15 @@ ghost use Rattle.eval_state.specs.Rest.{after, doing};
 ghost use Rattle.eval_state.specs.Less.{heft, waiting};
 ghost use Rattle.eval_state.specs.declared.parts.Now.TheVariants as now;
 ghost use Rattle.eval_state.specs.Run.{here, leads, outcome, run_of, world};
-ghost use Rattle.eval_state.specs.Steps.{executed};
 ghost use Rattle.eval_state.specs.Views.{items_view, now_view};
+ghost use Rattle.eval_simple.specs.Stepped.{IsExecuted};
 
-use crate::declare::{object, parameter, parameter_object, variable};
-use crate::parts::{
-    block, do_loop, expression, for_loop, for_step, if_else, if_then, return_value, switch,
-    while_loop,
-};
+use crate::declare::{parameter, parameter_object, variable};
+use crate::loops::{begin_round, begin_turn};
+use crate::next::wait;
+use crate::parts::block;
 use crate::started::{going, started};
-use eval_state::{EndFrame, Flow, Frame, Machine, Now};
+use eval_state::{EndFrame, Flow, Frame, Machine, Now, StatementFrame};
 use std::alloc::AllocError;
 use typed_tree::Stmt;
 
@@ -39,20 +38,14 @@ pub fn exec<'a>(m: &mut Machine<'a>, s: &'a Stmt) -> Result<Now<'a>, AllocError>
 }
 
 // Begins a statement, and goes on with what it begins with.
-#[tactic(auto, unfolding(eval_state::specs::Steps::executed))]
 fn begin_further<'a>(m: &mut Machine<'a>, s: &'a Stmt) -> Result<Now<'a>, AllocError>
-    ensures same { IfOk result (λ n. outcome (now_view n) (run_of m.new)
-        ≡ outcome (now_view (now.Exec s.entry)) (run_of m.old)) }
-    ensures units { IfOk result (λ n. (run_of m.new).state.units ≤ (run_of m.old).state.units) }
-    ensures less { IfOk result (λ n. (run_of m.new).state.units ≡ (run_of m.old).state.units
-        → heft (now_view n) (run_of m.new) < heft (now_view (now.Exec s.entry)) (run_of m.old)) }
+    ensures { IfOk result (λ n. IsExecuted (stmt_view s.entry.now) (now_view n) (run_of m.old) (run_of m.new)) }
 {
     let n = begin(m, s)?;
     further(m, n)
 }
 
 // Goes on where statements are left to do.
-#[tactic(auto, unfolding(eval_state::specs::Steps::executed))]
 fn further<'a>(m: &mut Machine<'a>, next: Now<'a>) -> Result<Now<'a>, AllocError>
     ensures same { IfOk result (λ n. outcome (now_view n) (run_of m.new)
         ≡ outcome (now_view next.entry) (run_of m.old)) }
@@ -69,35 +62,33 @@ fn further<'a>(m: &mut Machine<'a>, next: Now<'a>) -> Result<Now<'a>, AllocError
 }
 
 // Begins a statement by its kind.
-#[tactic(auto, using(crate::proofs::Begins::leaves))]
 fn begin<'a>(m: &mut Machine<'a>, s: &'a Stmt) -> Result<Now<'a>, AllocError>
-    ensures same { IfOk result (λ n. outcome (now_view n) (run_of m.new)
-        ≡ executed (stmt_view s.entry.now) (run_of m.old)) }
-    ensures units { IfOk result (λ n. (run_of m.new).state.units ≤ (run_of m.old).state.units) }
-    ensures less { IfOk result (λ n. (run_of m.new).state.units ≡ (run_of m.old).state.units
-        → heft (now_view n) (run_of m.new) < heft (pending.Exec (stmt_view s.entry.now)) (run_of m.old)) }
+    ensures { IfOk result (λ n. IsExecuted (stmt_view s.entry.now) (now_view n) (run_of m.old) (run_of m.new)) }
 {
     match s {
-        Stmt::Eval(e) => expression(m, e.get()),
+        Stmt::Eval(e) => wait(m, StatementFrame::Drop, e.get()),
         Stmt::Block(variables, items) => block(m, variables.as_slice(), items.as_slice()),
         Stmt::Variable(i) => variable(m, *i),
-        Stmt::Object(offset, words) => Ok(object(m, *offset, *words)),
+        Stmt::Object(offset, words) => Ok(m.clear(*offset, *words)),
         Stmt::Parameter(k, width) => parameter(m, *k, *width),
         Stmt::ParameterObject(k, width, offset) => parameter_object(m, *k, *width, *offset),
-        Stmt::If(e, s) => if_then(m, e.get(), s.get()),
-        Stmt::IfElse(e, s, t) => if_else(m, e.get(), s.get(), t.get()),
-        Stmt::While(e, s) => while_loop(m, e.get(), s.get()),
-        Stmt::Do(s, e) => do_loop(m, s.get(), e.get()),
-        Stmt::For(e, s) => for_loop(m, e.get(), s.get()),
-        Stmt::ForStep(e, step, s) => for_step(m, e.get(), step.get(), s.get()),
-        Stmt::Switch(e, variables, items) => {
-            switch(m, e.get(), variables.as_slice(), items.as_slice())
-        }
-        Stmt::Case(_) | Stmt::Default => Ok(Now::Left(Flow::Normal)),
+        Stmt::If(e, s) => wait(m, StatementFrame::If(s.get()), e.get()),
+        Stmt::IfElse(e, s, t) => wait(m, StatementFrame::IfElse(s.get(), t.get()), e.get()),
+        Stmt::While(e, s) => begin_turn(m, e.get(), None, s.get()),
+        Stmt::Do(s, e) => begin_round(m, s.get(), e.get()),
+        Stmt::For(e, s) => begin_turn(m, e.get(), None, s.get()),
+        Stmt::ForStep(e, step, s) => begin_turn(m, e.get(), Some(step.get()), s.get()),
+        Stmt::Switch(e, variables, items) => wait(
+            m,
+            StatementFrame::Switch(variables.as_slice(), items.as_slice()),
+            e.get(),
+        ),
+        Stmt::Case(_) => Ok(Now::Left(Flow::Normal)),
+        Stmt::Default => Ok(Now::Left(Flow::Normal)),
         Stmt::Break => Ok(Now::Left(Flow::Broke)),
         Stmt::Continue => Ok(Now::Left(Flow::Continued)),
         Stmt::Return => Ok(Now::Returned(0)),
-        Stmt::ReturnValue(e) => return_value(m, e.get()),
+        Stmt::ReturnValue(e) => wait(m, StatementFrame::Return, e.get()),
     }
 }
 

@@ -12,6 +12,7 @@ ghost use Rattle.eval_state.specs.Steps.{ended};
 ghost use Rattle.eval_state.specs.Views.{flow_view, items_view, now_view, step_view};
 
 use crate::loops::turned;
+use crate::next::wait;
 use crate::switches::choose;
 use eval_simple::at_once;
 use eval_state::{Flow, Frame, Machine, Now, StatementFrame};
@@ -105,32 +106,8 @@ fn stepping<'a>(
 {
     match at_once(m, step)? {
         Some(_) => turned(m, more, e, Some(step), s),
-        None => step_later(m, more, e, step, s),
+        None => wait(m, StatementFrame::Step(more, e, step, s), step),
     }
-}
-
-// A step that is not evaluated at once.
-fn step_later<'a>(
-    m: &mut Machine<'a>,
-    more: u64,
-    e: &'a Expr,
-    step: &'a Expr,
-    s: &'a Stmt,
-) -> Result<Now<'a>, AllocError>
-    ensures same { IfOk result (λ n. outcome (now_view n) (run_of m.new) ≡ leads (run_of m.old)
-        (after (here (run_of m.old))
-        (pending.Step more (expr_view e.entry.now) (expr_view step.entry.now) (stmt_view s.entry.now))
-        (valued (eval (here (run_of m.old)) (expr_view step.entry.now) (world (run_of m.old)))))) }
-    ensures units { IfOk result (λ n. (run_of m.new).state.units ≤ (run_of m.old).state.units) }
-    ensures less { IfOk result (λ n. (run_of m.new).state.units ≡ (run_of m.old).state.units
-        → heft (now_view n) (run_of m.new) ≤ heft (pending.Eval (expr_view step.entry.now)) (run_of m.old)
-        + waiting (pending.Step more (expr_view e.entry.now) (expr_view step.entry.now) (stmt_view s.entry.now))
-        (run_of m.old)) }
-{
-    m.push(
-        Frame::Statement(StatementFrame::Step(more, e, step, s)),
-        Now::Eval(step),
-    )
 }
 
 /// Behind the body of a `do`: its test.

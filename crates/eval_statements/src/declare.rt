@@ -24,17 +24,6 @@ pub(crate) fn variable<'a>(m: &mut Machine<'a>, i: u32) -> Result<Now<'a>, Alloc
     Ok(m.spend(Now::Left(Flow::Normal)))
 }
 
-/// The words of a frame object are set to 0, at a unit each.
-#[tactic(auto, unfolding(eval_state::specs::Steps::executed))]
-pub(crate) fn object<'a>(m: &mut Machine<'a>, offset: u32, words: u32) -> Now<'a>
-    ensures same { outcome (now_view result) (run_of m.new) ≡ executed (node.Object offset words) (run_of m.old) }
-    ensures units { (run_of m.new).state.units ≤ (run_of m.old).state.units }
-    ensures less { (run_of m.new).state.units ≡ (run_of m.old).state.units
-        → heft (now_view result) (run_of m.new) < heft (pending.Exec (node.Object offset words)) (run_of m.old) }
-{
-    m.clear(offset, words)
-}
-
 /// A parameter that stands in a register variable.
 #[tactic(auto, using(crate::proofs::Begins::declares), unfolding(eval_state::specs::Steps::executed))]
 pub(crate) fn parameter<'a>(

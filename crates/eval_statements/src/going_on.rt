@@ -3,14 +3,15 @@
 ghost use Rattle.std.specs.Prelude.{◌≡◌, ◌+◌, ◌<◌, ◌≤◌, IfOk};
 ghost use Rattle.staged_meaning.specs.World.{Gives};
 ghost use Rattle.eval_state.specs.Rest.{Left, Value, after};
-ghost use Rattle.eval_state.specs.Pending as pending;
 ghost use Rattle.eval_state.specs.Less.{heft, held, waiting};
 ghost use Rattle.eval_state.specs.Run.{here, leads, outcome, run_of, world};
-ghost use Rattle.eval_state.specs.Steps.{ended, taken};
+ghost use Rattle.eval_state.specs.Steps.{ended};
 ghost use Rattle.eval_state.specs.Views.{end_frame, flow_view, now_view, statement_frame};
+ghost use Rattle.eval_simple.specs.Stepped.{IsTaken};
 
 use crate::behind::{behind_body, behind_item, behind_round, behind_switch, behind_variables};
-use crate::tests::{test, test_else, test_if, test_round, test_switch, test_turn};
+use crate::loops::{rounded, turned};
+use crate::tests::{test, test_else, test_if, test_switch};
 use eval_state::{EndFrame, Flow, Machine, Now, StatementFrame};
 use std::alloc::AllocError;
 
@@ -18,7 +19,6 @@ use std::alloc::AllocError;
 ///
 /// # Errors
 /// Where memory is wanting.
-#[tactic(auto, unfolding(eval_state::specs::Steps::taken))]
 pub fn value<'a>(
     m: &mut Machine<'a>,
     v: u32,
@@ -35,22 +35,16 @@ pub fn value<'a>(
 }
 
 // Goes on with a value by the kind of the frame.
-#[tactic(auto, using(crate::proofs::Begins::leaves))]
 fn take<'a>(m: &mut Machine<'a>, v: u32, frame: StatementFrame<'a>) -> Result<Now<'a>, AllocError>
-    ensures same { IfOk result (λ n. outcome (now_view n) (run_of m.new)
-        ≡ taken (statement_frame frame.entry) v (run_of m.old)) }
-    ensures units { IfOk result (λ n. (run_of m.new).state.units ≤ (run_of m.old).state.units) }
-    ensures less { IfOk result (λ n. (run_of m.new).state.units ≡ (run_of m.old).state.units
-        → heft (now_view n) (run_of m.new)
-        < waiting (statement_frame frame.entry) (run_of m.old) + held (run_of m.old)) }
+    ensures { IfOk result (λ n. IsTaken (statement_frame frame.entry) v (now_view n) (run_of m.old) (run_of m.new)) }
 {
     match frame {
         StatementFrame::Drop => Ok(Now::Left(Flow::Normal)),
         StatementFrame::If(s) => Ok(test_if(v, s)),
         StatementFrame::IfElse(s, t) => Ok(test_else(v, s, t)),
         StatementFrame::Test(more, e, step, s) => test(m, v, more, e, step, s),
-        StatementFrame::Step(more, e, step, s) => test_turn(m, v, more, e, step, s),
-        StatementFrame::RoundTest(more, s, e) => test_round(m, v, more, s, e),
+        StatementFrame::Step(more, e, step, s) => turned(m, more, e, Some(step), s),
+        StatementFrame::RoundTest(more, s, e) => rounded(m, v, more, s, e),
         StatementFrame::Switch(variables, items) => test_switch(m, v, variables, items),
         StatementFrame::Return => Ok(Now::Returned(v)),
     }

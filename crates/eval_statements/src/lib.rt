@@ -7,6 +7,7 @@ mod behind;
 mod declare;
 mod going_on;
 mod loops;
+mod next;
 mod parts;
 mod ran;
 mod started;

@@ -9,6 +9,7 @@ ghost use Rattle.eval_state.specs.Less.{heft, held, waiting};
 ghost use Rattle.eval_state.specs.Run.{here, leads, outcome, run_of, world};
 ghost use Rattle.eval_state.specs.Views.{now_view, step_view};
 
+use crate::next::wait;
 use crate::tests::test;
 use eval_simple::at_once;
 use eval_state::{EndFrame, Flow, Frame, Machine, Now, StatementFrame};
@@ -56,32 +57,8 @@ fn turn<'a>(
 {
     match at_once(m, e)? {
         Some(v) => test(m, v, more, e, step, s),
-        None => turn_later(m, more, e, step, s),
+        None => wait(m, StatementFrame::Test(more, e, step, s), e),
     }
-}
-
-// Begins such a turn, whose test is not evaluated at once.
-fn turn_later<'a>(
-    m: &mut Machine<'a>,
-    more: u64,
-    e: &'a Expr,
-    step: Option<&'a Expr>,
-    s: &'a Stmt,
-) -> Result<Now<'a>, AllocError>
-    ensures same { IfOk result (λ n. outcome (now_view n) (run_of m.new)
-        ≡ leads (run_of m.old) (left (loop_of (here (run_of m.old)) (suc more)
-        (expr_view e.entry.now) (step_view step.entry) (stmt_view s.entry.now) (world (run_of m.old))))) }
-    ensures units { IfOk result (λ n. (run_of m.new).state.units ≤ (run_of m.old).state.units) }
-    ensures less { IfOk result (λ n. (run_of m.new).state.units ≡ (run_of m.old).state.units
-        → heft (now_view n) (run_of m.new) ≤
-        heft (pending.Eval (expr_view e.entry.now)) (run_of m.old)
-        + waiting (pending.Test 0 (expr_view e.entry.now) (step_view step.entry) (stmt_view s.entry.now))
-        (run_of m.old)) }
-{
-    m.push(
-        Frame::Statement(StatementFrame::Test(more, e, step, s)),
-        Now::Eval(e),
-    )
 }
 
 // Begins a turn of a loop that may have so many.

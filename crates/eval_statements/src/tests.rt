@@ -8,7 +8,6 @@ ghost use Rattle.eval_state.specs.Run.{Run, outcome, run_of};
 ghost use Rattle.eval_state.specs.Steps.{taken};
 ghost use Rattle.eval_state.specs.Views.{items_view, now_view, step_view};
 
-use crate::loops::{rounded, turned};
 use crate::started::going;
 use eval_state::{EndFrame, Flow, Frame, Machine, Now};
 use std::alloc::AllocError;
@@ -62,48 +61,6 @@ pub(crate) fn test<'a>(
     }
     let next = going(m, s)?;
     m.push(Frame::End(EndFrame::Turn(more, e, step, s)), next)
-}
-
-/// The step of a loop, whose value is dropped: the turn ends.
-#[tactic(auto, unfolding(eval_state::specs::Steps::taken))]
-pub(crate) fn test_turn<'a>(
-    m: &mut Machine<'a>,
-    v: u32,
-    more: u64,
-    e: &'a Expr,
-    step: &'a Expr,
-    s: &'a Stmt,
-) -> Result<Now<'a>, AllocError>
-    ensures same { IfOk result (λ n. outcome (now_view n) (run_of m.new)
-        ≡ taken (pending.Step more (expr_view e.entry.now) (expr_view step.entry.now) (stmt_view s.entry.now)) v
-        (run_of m.old)) }
-    ensures units { IfOk result (λ n. (run_of m.new).state.units ≤ (run_of m.old).state.units) }
-    ensures less { IfOk result (λ n. (run_of m.new).state.units ≡ (run_of m.old).state.units
-        → heft (now_view n) (run_of m.new)
-        < waiting (pending.Step more (expr_view e.entry.now) (expr_view step.entry.now) (stmt_view s.entry.now))
-        (run_of m.old) + held (run_of m.old)) }
-{
-    turned(m, more, e, Some(step), s)
-}
-
-/// The test of a `do`.
-#[tactic(auto, unfolding(eval_state::specs::Steps::taken))]
-pub(crate) fn test_round<'a>(
-    m: &mut Machine<'a>,
-    v: u32,
-    more: u64,
-    s: &'a Stmt,
-    e: &'a Expr,
-) -> Result<Now<'a>, AllocError>
-    ensures same { IfOk result (λ n. outcome (now_view n) (run_of m.new)
-        ≡ taken (pending.RoundTest more (stmt_view s.entry.now) (expr_view e.entry.now)) v (run_of m.old)) }
-    ensures units { IfOk result (λ n. (run_of m.new).state.units ≤ (run_of m.old).state.units) }
-    ensures less { IfOk result (λ n. (run_of m.new).state.units ≡ (run_of m.old).state.units
-        → heft (now_view n) (run_of m.new)
-        < waiting (pending.RoundTest more (stmt_view s.entry.now) (expr_view e.entry.now)) (run_of m.old)
-        + held (run_of m.old)) }
-{
-    rounded(m, v, more, s, e)
 }
 
 /// The value of a switch: its variables come next.

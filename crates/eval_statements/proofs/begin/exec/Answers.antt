@@ -2,10 +2,12 @@ use Rattle.typed_tree.specs.View.{stmt_view}
 use Rattle.eval_state.specs.Pending as pending
 use Rattle.eval_state.specs.Less.{heft}
 use Rattle.eval_state.specs.Run.{outcome, run_of}
+use Rattle.eval_state.specs.Steps.{executed}
 use Rattle.eval_state.specs.Views.{now_view}
 use Rattle.eval_simple.proofs.Going as going
 use Rattle.eval_statements.proofs.AtOnce as once
 use Rattle.eval_simple.proofs.Going.{same_as}
+use Rattle.eval_simple.proofs.Stepped.{less_of, same_of, units_of}
 use Rattle.eval_statements.proofs.Starts as start
 use Rattle.eval_statements.proofs.begin.exec.Goals as goal
 
@@ -37,12 +39,20 @@ returns-in-Some-clause-less c =
     c.further.ensures.units c.further.ensures.less
 
 pub returns-in-None-clause-same : goal.returns-in-None-clause-same
+unfolding executed
 returns-in-None-clause-same c =
     going.still c.begin_further.result c.args.m.now c.started.new.m (run_of c.begin_further.new.m)
     (outcome (pending.Exec (stmt_view c.args.s.now)))
     (start.not_begun c.in_ok-n.field-0 (stmt_view c.args.s.now) c.args.m.now c.started.new.m c.in_ok-n.ensures
     c.in-None.is)
-    c.begin_further.ensures.same
+    (same_of _ _ _ _ _ c.begin_further.ensures)
+
+pub returns-in-None-clause-units : goal.returns-in-None-clause-units
+returns-in-None-clause-units c =
+    going.still_units c.begin_further.result c.args.m.now c.started.new.m (run_of c.begin_further.new.m)
+    (start.not_begun c.in_ok-n.field-0 (stmt_view c.args.s.now) c.args.m.now c.started.new.m c.in_ok-n.ensures
+    c.in-None.is)
+    (units_of _ _ _ _ _ c.begin_further.ensures)
 
 pub returns-in-None-clause-less : goal.returns-in-None-clause-less
 returns-in-None-clause-less c =
@@ -50,4 +60,4 @@ returns-in-None-clause-less c =
     (heft (pending.Exec (stmt_view c.args.s.now)))
     (start.not_begun c.in_ok-n.field-0 (stmt_view c.args.s.now) c.args.m.now c.started.new.m c.in_ok-n.ensures
     c.in-None.is)
-    c.begin_further.ensures.less
+    (less_of _ _ _ _ _ c.begin_further.ensures)

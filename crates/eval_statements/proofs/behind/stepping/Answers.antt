@@ -1,4 +1,4 @@
-use Rattle.std.proofs.Common.{◌+◌}
+use Rattle.std.proofs.Common.{◌+◌, refl}
 use Rattle.typed_tree.specs.View.{expr_view, stmt_view}
 use Rattle.staged_meaning.specs.Meaning.{eval}
 use Rattle.eval_state.specs.Pending as pending
@@ -8,6 +8,7 @@ use Rattle.eval_state.specs.Run.{here, leads, run_of, world}
 use Rattle.eval_simple.proofs.Going as going
 use Rattle.eval_statements.proofs.AtOnce as once
 use Rattle.eval_simple.proofs.Going.{same_as}
+use Rattle.eval_simple.proofs.Stepped.{pushed_less, pushed_same, pushed_units}
 use Rattle.eval_statements.proofs.behind.stepping.Goals as goal
 
 pub returns-in-Some-clause-same : goal.returns-in-Some-clause-same
@@ -36,22 +37,27 @@ returns-in-Some-clause-less c =
 
 pub returns-in-None-clause-same : goal.returns-in-None-clause-same
 returns-in-None-clause-same c =
-    going.still c.step_later.result c.args.m.now c.at_once.new.m (run_of c.step_later.new.m)
+    going.still c.wait.result c.args.m.now c.at_once.new.m (run_of c.wait.new.m)
     (λ r. leads r (after (here r) (pending.Step c.args.more (expr_view c.args.e.now) (expr_view c.args.step.now)
     (stmt_view c.args.s.now))
     (valued (eval (here r) (expr_view c.args.step.now) (world r)))))
     (going.undone c.in_ok-at_once.field-0 (expr_view c.args.step.now) c.args.m.now c.at_once.new.m
-    c.in_ok-at_once.ensures
-    c.in-None.is)
-    c.step_later.ensures.same
+    c.in_ok-at_once.ensures c.in-None.is)
+    (pushed_same _ _ _ _ _ _ refl c.wait.ensures)
+
+pub returns-in-None-clause-units : goal.returns-in-None-clause-units
+returns-in-None-clause-units c =
+    going.still_units c.wait.result c.args.m.now c.at_once.new.m (run_of c.wait.new.m)
+    (going.undone c.in_ok-at_once.field-0 (expr_view c.args.step.now) c.args.m.now c.at_once.new.m
+    c.in_ok-at_once.ensures c.in-None.is)
+    (pushed_units _ _ _ _ _ c.wait.ensures)
 
 pub returns-in-None-clause-less : goal.returns-in-None-clause-less
 returns-in-None-clause-less c =
-    once.still_most c.step_later.result c.args.m.now c.at_once.new.m (run_of c.step_later.new.m)
+    once.still_most c.wait.result c.args.m.now c.at_once.new.m (run_of c.wait.new.m)
     (λ r. heft (pending.Eval (expr_view c.args.step.now)) r
     + waiting (pending.Step c.args.more (expr_view c.args.e.now) (expr_view c.args.step.now) (stmt_view
     c.args.s.now)) r)
     (going.undone c.in_ok-at_once.field-0 (expr_view c.args.step.now) c.args.m.now c.at_once.new.m
-    c.in_ok-at_once.ensures
-    c.in-None.is)
-    c.step_later.ensures.less
+    c.in_ok-at_once.ensures c.in-None.is)
+    (pushed_less _ _ _ _ _ c.wait.ensures)

@@ -7,6 +7,7 @@ use Rattle.eval_state.specs.Views.{step_view}
 use Rattle.eval_simple.proofs.Going as going
 use Rattle.eval_statements.proofs.AtOnce as once
 use Rattle.eval_simple.proofs.Going.{same_as}
+use Rattle.eval_simple.proofs.Stepped.{pushed_less, pushed_same, pushed_units}
 use Rattle.std.proofs.Common.{suc, ◌+◌}
 use Rattle.eval_statements.proofs.loops.turn.Goals as goal
 
@@ -36,18 +37,26 @@ returns-in-Some-clause-less c =
 
 pub returns-in-None-clause-same : goal.returns-in-None-clause-same
 returns-in-None-clause-same c =
-    going.still c.turn_later.result c.args.m.now c.at_once.new.m (run_of c.turn_later.new.m)
+    going.still c.wait.result c.args.m.now c.at_once.new.m (run_of c.wait.new.m)
     (λ r. leads r (left (loop_of (here r) (suc c.args.more) (expr_view c.args.e.now) (step_view c.args.step)
     (stmt_view c.args.s.now) (world r))))
     (going.undone c.in_ok-v.field-0 (expr_view c.args.e.now) c.args.m.now c.at_once.new.m c.in_ok-v.ensures
     c.in-None.is)
-    c.turn_later.ensures.same
+    (pushed_same _ _ _ _ _ _ (once.turn_waits c.args.more (expr_view c.args.e.now) (step_view c.args.step)
+    (stmt_view c.args.s.now) (run_of c.at_once.new.m)) c.wait.ensures)
+
+pub returns-in-None-clause-units : goal.returns-in-None-clause-units
+returns-in-None-clause-units c =
+    going.still_units c.wait.result c.args.m.now c.at_once.new.m (run_of c.wait.new.m)
+    (going.undone c.in_ok-v.field-0 (expr_view c.args.e.now) c.args.m.now c.at_once.new.m c.in_ok-v.ensures
+    c.in-None.is)
+    (pushed_units _ _ _ _ _ c.wait.ensures)
 
 pub returns-in-None-clause-less : goal.returns-in-None-clause-less
 returns-in-None-clause-less c =
-    once.still_most c.turn_later.result c.args.m.now c.at_once.new.m (run_of c.turn_later.new.m)
+    once.still_most c.wait.result c.args.m.now c.at_once.new.m (run_of c.wait.new.m)
     (λ r. heft (pending.Eval (expr_view c.args.e.now)) r + waiting (pending.Test 0 (expr_view c.args.e.now)
     (step_view c.args.step) (stmt_view c.args.s.now)) r)
     (going.undone c.in_ok-v.field-0 (expr_view c.args.e.now) c.args.m.now c.at_once.new.m c.in_ok-v.ensures
     c.in-None.is)
-    c.turn_later.ensures.less
+    (pushed_less _ _ _ _ _ c.wait.ensures)

@@ -1,0 +1,8 @@
+use Rattle.eval_expressions.proofs.Accesses as access
+use Rattle.eval_expressions.proofs.memory.load.Goals as goal
+
+pub returns-in-Err : goal.returns-in-Err
+returns-in-Err c = access.load_traps _ _ _ _ _ c.trap.ensures c.in-Err.ensures
+
+pub returns-in-Ok : goal.returns-in-Ok
+returns-in-Ok c = access.load_gives _ _ _ _ _ _ c.in-Ok.ensures.0 c.in-Ok.ensures.1 c.give.ensures

@@ -1,0 +1,188 @@
+-- What each statement leaves behind as it begins.
+use Rattle.std.proofs.Common.{◌≡◌, ◌≤◌, ◌<◌, ◌+◌, ℕ, None, Some, IfOk, refl, ap, sym, subst, ◌∙◌, arith}
+use Rattle.std.proofs.Common as std
+use Rattle.typed_tree.specs.Nodes as node
+use Rattle.typed_tree.specs.Nodes.{Expr, Items, Stmt}
+use Rattle.staged_meaning.specs.Meaning.{eval, exec}
+use Rattle.staged_meaning.specs.World.{Broke, Continued, Normal, Result}
+use Rattle.eval_state.specs.Pending as pending
+use Rattle.eval_state.specs.Pending.{Frame, Now}
+use Rattle.eval_state.specs.Rest.{Signal, after, left, loop_of, rounds_of, valued}
+use Rattle.eval_state.proofs.Statements as statement
+use Rattle.eval_state.specs.declared.parts.Now as code
+use Rattle.eval_state.specs.Less.{heft, held, waiting}
+use Rattle.eval_state.specs.Run.{Run, here, leads, outcome, world}
+use Rattle.eval_state.specs.Steps.{executed}
+use Rattle.eval_state.specs.Views.{now_view}
+use Rattle.eval_simple.specs.Stepped.{IsExecuted, IsPushed, IsStep}
+use Rattle.eval_simple.proofs.Stepped.{parts_below, parts_held, same_of, step_now, waits}
+
+-- ---- a part, for whose value a frame waits
+
+pub record Opens (s : Stmt) (a : Expr) (f : Frame) : Type 0 where
+  pub same : (r : Run) → leads r (after (here r) f (valued (eval (here r) a (world r)))) ≡ executed s r
+  pub less : (r : Run) → heft (pending.Eval a) r + waiting f r < heft (pending.Exec s) r
+
+pub opens : {E : Type 0} (result : std.Result code.Now E) (s v : Stmt) (a : Expr) (f : Frame) (r t : Run) → s ≡ v
+    → Opens v a f → IfOk result (λ n. IsPushed f (pending.Eval a) (now_view n) r t)
+    → IfOk result (λ n. IsExecuted s (now_view n) r t)
+opens result s v a f r t is o h =
+    subst (λ q. IfOk result (λ n. IsExecuted q (now_view n) r t)) (sym is)
+    (waits result f (pending.Eval a) (executed v r) (heft (pending.Exec v) r) r t (o.same r) (o.less r) h)
+
+pub dropped : (e : Expr) → Opens (node.Eval e) e pending.Drop
+unfolding executed
+dropped e = record { same = λ r. ap (leads r) (statement.dropped (here r) e (world r)); less = λ r. omega arith }
+
+pub if_then : (e : Expr) (s : Stmt) → Opens (node.If e s) e (pending.If s)
+unfolding executed
+if_then e s = record { same = λ r. ap (leads r) (statement.if_then (here r) e s (world r)); less = λ r. omega arith }
+
+pub if_else : (e : Expr) (s t : Stmt) → Opens (node.IfElse e s t) e (pending.IfElse s t)
+unfolding executed
+if_else e s t =
+    record { same = λ r. ap (leads r) (statement.if_else (here r) e s t (world r)); less = λ r. omega arith }
+
+pub switch_on : (e : Expr) (variables items : Items)
+    → Opens (node.Switch e variables items) e (pending.Switch variables items)
+unfolding executed
+switch_on e variables items = record {
+  same = λ r. ap (leads r) (statement.switch_begins (here r) e variables items (world r));
+  less = λ r. omega arith;
+}
+
+pub return_value : (e : Expr) → Opens (node.ReturnValue e) e pending.Return
+unfolding executed
+return_value e = record { same = λ r. ap (leads r) (statement.returns (here r) e (world r)); less = λ r. omega arith }
+
+-- ---- what three clauses say
+
+module _ {E : Type 0} (result : std.Result code.Now E) (s : Stmt) (r t : Run) where
+  pub begins : (v : Stmt) → s ≡ v → IfOk result (λ n. outcome (now_view n) t ≡ executed v r)
+      → IfOk result (λ n. t.state.units ≤ r.state.units)
+      → IfOk result (λ n. t.state.units ≡ r.state.units → heft (now_view n) t < heft (pending.Exec v) r)
+      → IfOk result (λ n. IsExecuted s (now_view n) r t)
+  begins v is same units less =
+      subst (λ q. IfOk result (λ n. IsExecuted q (now_view n) r t)) (sym is)
+      (parts_below result _ _ _ _ r t refl (omega arith) same units less)
+
+  pub while_loop : (e : Expr) (b : Stmt) → s ≡ node.While e b
+      → IfOk result (λ n. outcome (now_view n) t
+      ≡ leads r (left (loop_of (here r) (here r).turns e None b (world r))))
+      → IfOk result (λ n. t.state.units ≤ r.state.units)
+      → IfOk result (λ n. t.state.units ≡ r.state.units
+      → heft (now_view n) t ≤ heft (pending.Eval e) r + waiting (pending.Test 0 e None b) r)
+      → IfOk result (λ n. IsExecuted s (now_view n) r t)
+  unfolding executed
+  while_loop e b is same units less =
+      subst (λ q. IfOk result (λ n. IsExecuted q (now_view n) r t)) (sym is)
+      (parts_held result _ _ _ _ r t (ap (leads r) (statement.while_begins (here r) e b (world r))) (omega arith) same
+      units less)
+
+  pub for_loop : (e : Expr) (b : Stmt) → s ≡ node.For e b
+      → IfOk result (λ n. outcome (now_view n) t
+      ≡ leads r (left (loop_of (here r) (here r).turns e None b (world r))))
+      → IfOk result (λ n. t.state.units ≤ r.state.units)
+      → IfOk result (λ n. t.state.units ≡ r.state.units
+      → heft (now_view n) t ≤ heft (pending.Eval e) r + waiting (pending.Test 0 e None b) r)
+      → IfOk result (λ n. IsExecuted s (now_view n) r t)
+  unfolding executed
+  for_loop e b is same units less =
+      subst (λ q. IfOk result (λ n. IsExecuted q (now_view n) r t)) (sym is)
+      (parts_held result _ _ _ _ r t (ap (leads r) (statement.for_begins (here r) e b (world r))) (omega arith) same
+      units less)
+
+  pub for_step : (e step : Expr) (b : Stmt) → s ≡ node.ForStep e step b
+      → IfOk result (λ n. outcome (now_view n) t
+      ≡ leads r (left (loop_of (here r) (here r).turns e (Some step) b (world r))))
+      → IfOk result (λ n. t.state.units ≤ r.state.units)
+      → IfOk result (λ n. t.state.units ≡ r.state.units
+      → heft (now_view n) t ≤ heft (pending.Eval e) r + waiting (pending.Test 0 e (Some step) b) r)
+      → IfOk result (λ n. IsExecuted s (now_view n) r t)
+  unfolding executed
+  for_step e step b is same units less =
+      subst (λ q. IfOk result (λ n. IsExecuted q (now_view n) r t)) (sym is)
+      (parts_held result _ _ _ _ r t (ap (leads r) (statement.for_step_begins (here r) e step b (world r)))
+      (omega arith) same units less)
+
+  pub do_loop : (b : Stmt) (e : Expr) → s ≡ node.Do b e
+      → IfOk result (λ n. outcome (now_view n) t
+      ≡ leads r (left (rounds_of (here r) (here r).turns b e (world r))))
+      → IfOk result (λ n. t.state.units ≤ r.state.units)
+      → IfOk result (λ n. t.state.units ≡ r.state.units
+      → heft (now_view n) t ≤ heft (pending.Exec b) r + waiting (pending.Round 0 b e) r)
+      → IfOk result (λ n. IsExecuted s (now_view n) r t)
+  unfolding executed
+  do_loop b e is same units less =
+      subst (λ q. IfOk result (λ n. IsExecuted q (now_view n) r t)) (sym is)
+      (parts_held result _ _ _ _ r t (ap (leads r) (statement.do_begins (here r) b e (world r))) (omega arith) same
+      units less)
+
+-- ---- what is done at once
+
+pub object : (s : Stmt) (offset words : ℕ) (n : Now) (r t : Run) → s ≡ node.Object offset words
+    → outcome n t ≡ leads r (left (exec (here r) (node.Object offset words) (world r)))
+    → t.state.units ≤ r.state.units → (t.state.units ≡ r.state.units → heft n t ≤ held r) → IsExecuted s n r t
+unfolding executed
+object s offset words n r t is same units less =
+    subst (λ q. IsExecuted q n r t) (sym is)
+    (record { same = same; units = units; less = λ still. omega (arith, less still) })
+
+ended : (s v : Stmt) (n : Now) (r : Run) → s ≡ v → outcome n r ≡ executed v r → heft n r < heft (pending.Exec v) r
+    → IsExecuted s n r r
+ended s v n r is same less = subst (λ q. IsExecuted q n r r) (sym is) (step_now n _ _ r same less)
+
+pub case_ends : (s : Stmt) (v : ℕ) (r : Run) → s ≡ node.Case v → IsExecuted s (pending.Left Normal) r r
+unfolding executed
+case_ends s v r is = ended s (node.Case v) (pending.Left Normal) r is refl (omega arith)
+
+pub default_ends : (s : Stmt) (r : Run) → s ≡ node.Default → IsExecuted s (pending.Left Normal) r r
+unfolding executed
+default_ends s r is = ended s node.Default (pending.Left Normal) r is refl (omega arith)
+
+pub break_ends : (s : Stmt) (r : Run) → s ≡ node.Break → IsExecuted s (pending.Left Broke) r r
+unfolding executed
+break_ends s r is = ended s node.Break (pending.Left Broke) r is refl (omega arith)
+
+pub continue_ends : (s : Stmt) (r : Run) → s ≡ node.Continue → IsExecuted s (pending.Left Continued) r r
+unfolding executed
+continue_ends s r is = ended s node.Continue (pending.Left Continued) r is refl (omega arith)
+
+pub return_ends : (s : Stmt) (r : Run) → s ≡ node.Return → IsExecuted s (pending.Returned 0) r r
+unfolding executed
+return_ends s r is = ended s node.Return (pending.Returned 0) r is refl (omega arith)
+
+-- ---- what follows it
+
+pub goes_further : {E : Type 0} (result : std.Result code.Now E) (s : Stmt) (n : Now) (r t u : Run) → IsExecuted s n r t
+    → IfOk result (λ k. outcome (now_view k) u ≡ outcome n t) → IfOk result (λ k. u.state.units ≤ t.state.units)
+    → IfOk result (λ k. u.state.units ≡ t.state.units → heft (now_view k) u ≤ heft n t)
+    → IfOk result (λ k. IsExecuted s (now_view k) r u)
+goes_further (std.Ok k) s n r t u h same units less = record {
+  same = same ∙ h.same;
+  units = omega (arith, units, h.units);
+  less = λ still.
+      let first : t.state.units ≡ r.state.units = omega (arith, units, h.units, still) in
+      let last : u.state.units ≡ t.state.units = omega (arith, units, h.units, still) in
+      omega (arith, less last, h.less first);
+}
+goes_further (std.Err x) s n r t u h same units less = same
+
+most : {E : Type 0} (result : std.Result code.Now E) (b : Result Signal) (m : ℕ) (r t : Run)
+    → IfOk result (λ n. IsStep b m (now_view n) r t)
+    → IfOk result (λ n. t.state.units ≡ r.state.units → heft (now_view n) t ≤ m)
+most (std.Ok n) b m r t h = λ still. omega (arith, h.less still)
+most (std.Err x) b m r t h = h
+
+module _ {E : Type 0} (result : std.Result code.Now E) (next : Now) (s : Stmt) (r t : Run) where
+  pub same_as_next : next ≡ pending.Exec s → IfOk result (λ n. IsExecuted s (now_view n) r t)
+      → IfOk result (λ n. outcome (now_view n) t ≡ outcome next r)
+  unfolding executed
+  same_as_next is h =
+      subst (λ next. IfOk result (λ n. outcome (now_view n) t ≡ outcome next r)) (sym is) (same_of result _ _ r t h)
+
+  pub less_than_next : next ≡ pending.Exec s → IfOk result (λ n. IsExecuted s (now_view n) r t)
+      → IfOk result (λ n. t.state.units ≡ r.state.units → heft (now_view n) t ≤ heft next r)
+  less_than_next is h =
+      subst (λ next. IfOk result (λ n. t.state.units ≡ r.state.units → heft (now_view n) t ≤ heft next r)) (sym is)
+      (most result _ _ r t h)
