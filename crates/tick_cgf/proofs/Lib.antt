@@ -1,6 +1,6 @@
-mod Called
 mod Ended
 mod Lists
+mod Made
 mod Numbers
 mod Puts
 mod Switched

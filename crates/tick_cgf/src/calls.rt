@@ -1,12 +1,18 @@
-//! The numbers that ops and pieces have of their own kinds.
+//! The numbers that ops and pieces have of their own kinds, and the ops that call.
 
-ghost use Rattle.std.specs.Prelude.{◌≡◌, IfOk, map};
+ghost use Rattle.std.specs.Prelude.{◌≡◌, IfOk, OnOk, map};
+ghost use Rattle.tick_cgf.specs.Steps.{op, put};
+ghost use Rattle.tick_lower_spec.specs.Lower.{dropping_call, listed};
+ghost use Rattle.tick_pieces.specs.TickPieces.{plain};
 ghost use Rattle.typed_tree.specs.Nodes as node;
 ghost use Rattle.typed_tree.specs.View.{expr_view, args_of};
 
-use icode_ops::{ArgumentCount, ArgumentIndex, CaptureIndex};
+use crate::pieces::Pieces;
+use icode_ir::BuildOp;
+use icode_ops::{ArgumentCount, ArgumentIndex, CallAddress, CaptureIndex};
 use std::alloc::AllocError;
-use typed_tree::Expr;
+use tick_lower::address_of;
+use typed_tree::{Answer, Expr};
 
 /// How many arguments these are. It fails where a call has no number for so many, which no accepted text has.
 #[tactic(auto, using(crate::proofs::Lists::counted))]
@@ -40,4 +46,33 @@ pub fn capture_of(capture: u32) -> Result<CaptureIndex, AllocError>
         Some(index) => Ok(index),
         None => Err(AllocError),
     }
+}
+
+/// A call of a static function, whose arguments these are, behind them. It fails for want of memory, and where a call
+/// has no number for so many.
+pub fn called(
+    answer: Answer,
+    function: u32,
+    args: &[Expr],
+    starts: &[CallAddress],
+    out: &mut Pieces,
+) -> Result<(), AllocError>
+    ensures { OnOk result (out.new ≡ put (plain (dropping_call answer)) (op (BuildOp.Call
+        ((listed starts.now).function_at function) (node.count (args_of (map expr_view args.now)))) out.old)) }
+{
+    let address = address_of(starts, function);
+    let count = count_of(args)?;
+    out.op(BuildOp::Call { address, count })?;
+    out.dropping_call(answer)
+}
+
+/// A call of a function by its number, which stands below these arguments, behind them. It fails for want of memory,
+/// and where a call has no number for so many.
+pub fn called_number(answer: Answer, args: &[Expr], out: &mut Pieces) -> Result<(), AllocError>
+    ensures { OnOk result (out.new ≡ put (plain (dropping_call answer))
+        (op (BuildOp.CallNumber (node.count (args_of (map expr_view args.now)))) out.old)) }
+{
+    let count = count_of(args)?;
+    out.op(BuildOp::CallNumber { count })?;
+    out.dropping_call(answer)
 }

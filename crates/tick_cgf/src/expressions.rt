@@ -1,47 +1,24 @@
 //! The pieces of an expression.
 
-ghost use Rattle.std.specs.Prelude.{◌≡◌, OnOk, map};
-ghost use Rattle.tick_cgf.specs.Steps.{op, put, walk, walk_args};
-ghost use Rattle.tick_lower_spec.specs.Lower.{dropping_call, listed};
-ghost use Rattle.tick_pieces.specs.TickPieces.{plain};
-ghost use Rattle.typed_tree.specs.Nodes.{count};
+ghost use Rattle.std.specs.Prelude.{◌≡◌, ◌∷◌, [], OnOk, map};
+ghost use Rattle.tick_cgf.specs.Steps.{library_pieces, op, put, walk, walk_args};
+ghost use Rattle.tick_lower_spec.specs.Lower.{dropping, keeping, listed};
+ghost use Rattle.tick_pieces.specs.TickPieces.{own, plain};
+ghost use Rattle.typed_tree.specs.Nodes as node;
 ghost use Rattle.typed_tree.specs.View.{expr_view, args_of};
 
-use crate::calls::{capture_of, count_of};
+use crate::calls::{called, called_number};
 use crate::pieces::Pieces;
+use crate::places::{
+    captured, keep_key, key, loaded, post_key, post_loaded, post_variable, splice, stored,
+};
 use cgf_spec::Piece;
 use icode_ir::BuildOp;
 use icode_ops::{BinKind, CallAddress, RunKind, SysKind};
+use sqlite_items::Boxed;
 use std::alloc::AllocError;
-use tick_lower::address_of;
-use typed_tree::{Answer, Expr, has_value};
-
-// A call of a static function, whose arguments are these.
-fn call(
-    answer: Answer,
-    function: u32,
-    args: &[Expr],
-    starts: &[CallAddress],
-    out: &mut Pieces,
-) -> Result<(), AllocError>
-    ensures { OnOk result (out.new ≡ put (plain (dropping_call answer)) (op (BuildOp.Call
-        ((listed starts.now).function_at function) (count (args_of (map expr_view args.now)))) out.old)) }
-{
-    let address = address_of(starts, function);
-    let count = count_of(args)?;
-    out.op(BuildOp::Call { address, count })?;
-    out.dropping_call(answer)
-}
-
-// A call of a function by its number, which stands below the arguments.
-fn call_number(answer: Answer, args: &[Expr], out: &mut Pieces) -> Result<(), AllocError>
-    ensures { OnOk result (out.new ≡ put (plain (dropping_call answer))
-        (op (BuildOp.CallNumber (count (args_of (map expr_view args.now)))) out.old)) }
-{
-    let count = count_of(args)?;
-    out.op(BuildOp::CallNumber { count })?;
-    out.dropping_call(answer)
-}
+use typed_tree::{Answer, Expr, Library, has_value};
+use word32::Width;
 
 /// Adds the pieces of an expression. The static functions are at these addresses. It fails for want of memory, and
 /// where a number in the tree is too great for an op or a closure, which none in an accepted text is.
@@ -52,166 +29,240 @@ pub fn expression(e: &Expr, starts: &[CallAddress], out: &mut Pieces) -> Result<
 {
     match e {
         Expr::Const(word) => out.op(BuildOp::Const { word: *word }),
-        Expr::Captured(_, i) => out.push(Piece::Captured(capture_of(*i)?)),
+        Expr::Captured(_, i) => captured(*i, out),
         Expr::Var(i) => out.op(BuildOp::GetVariable { variable: *i }),
-        Expr::SetVar(i, a) => {
-            expression(a.get(), starts, out)?;
-            out.op(BuildOp::SetVariable { variable: *i })
-        }
-        Expr::PostVar(i, width, step) => {
-            out.ops(&[
-                BuildOp::GetVariable { variable: *i },
-                BuildOp::Pick { depth: 0 },
-            ])?;
-            out.step(*step, *width)?;
-            out.ops(&[BuildOp::SetVariable { variable: *i }, BuildOp::Drop])
-        }
-        Expr::VGet(i) => out.push(Piece::GetKey(capture_of(*i)?)),
-        Expr::VSet(i, a) => {
-            expression(a.get(), starts, out)?;
-            out.push(Piece::SetKey(capture_of(*i)?))
-        }
-        Expr::VPost(i, step) => {
-            let key = capture_of(*i)?;
-            out.push(Piece::GetKey(key))?;
-            out.ops(&[
-                BuildOp::Pick { depth: 0 },
-                BuildOp::Const { word: *step },
-                BuildOp::Bin { kind: BinKind::Add },
-            ])?;
-            out.push(Piece::SetKey(key))?;
-            out.op(BuildOp::Drop)
-        }
+        Expr::SetVar(i, a) => then(a, BuildOp::SetVariable { variable: *i }, starts, out),
+        Expr::PostVar(i, width, step) => post_variable(*i, *width, *step, out),
+        Expr::VGet(i) => key(*i, out),
+        Expr::VSet(i, a) => set_key(*i, a, starts, out),
+        Expr::VPost(i, step) => post_key(*i, *step, out),
         Expr::Frame(offset) => out.op(BuildOp::FrameAddress { offset: *offset }),
-        Expr::Load(width, a) => {
-            expression(a.get(), starts, out)?;
-            out.op(BuildOp::Load { width: *width })
-        }
-        Expr::Store(width, a, b) => {
-            expression(a.get(), starts, out)?;
-            expression(b.get(), starts, out)?;
-            out.op(BuildOp::Store { width: *width })
-        }
-        Expr::Modify(width, kind, a, b) => {
-            expression(a.get(), starts, out)?;
-            out.ops(&[BuildOp::Pick { depth: 0 }, BuildOp::Load { width: *width }])?;
-            expression(b.get(), starts, out)?;
-            out.op(BuildOp::Bin { kind: *kind })?;
-            out.narrowing(*width)?;
-            out.op(BuildOp::Store { width: *width })
-        }
-        Expr::Post(width, step, a) => {
-            expression(a.get(), starts, out)?;
-            out.ops(&[
-                BuildOp::Pick { depth: 0 },
-                BuildOp::Load { width: *width },
-                BuildOp::Pick { depth: 1 },
-                BuildOp::Pick { depth: 1 },
-            ])?;
-            out.step(*step, *width)?;
-            out.ops(&[
-                BuildOp::Store { width: *width },
-                BuildOp::Drop,
-                BuildOp::Nip,
-            ])
-        }
-        Expr::Bin(kind, a, b) => {
-            expression(a.get(), starts, out)?;
-            expression(b.get(), starts, out)?;
-            out.op(BuildOp::Bin { kind: *kind })
-        }
-        Expr::Un(kind, a) => {
-            expression(a.get(), starts, out)?;
-            out.op(BuildOp::Un { kind: *kind })
-        }
-        Expr::And(a, b) => {
-            let join = out.take_join()?;
-            let value = out.take_variable()?;
-            expression(a.get(), starts, out)?;
-            out.op(BuildOp::BranchZero { label: join.other })?;
-            expression(b.get(), starts, out)?;
-            out.op(BuildOp::BranchZero { label: join.other })?;
-            out.joins(1, 0, join, value)
-        }
-        Expr::Or(a, b) => {
-            let join = out.take_join()?;
-            let value = out.take_variable()?;
-            expression(a.get(), starts, out)?;
-            out.op(BuildOp::BranchNonzero { label: join.other })?;
-            expression(b.get(), starts, out)?;
-            out.op(BuildOp::BranchNonzero { label: join.other })?;
-            out.joins(0, 1, join, value)
-        }
-        Expr::Cond(c, a, b) => {
-            let join = out.take_join()?;
-            let value = out.take_variable()?;
-            let left = has_value(a.get());
-            expression(c.get(), starts, out)?;
-            out.op(BuildOp::BranchZero { label: join.other })?;
-            expression(a.get(), starts, out)?;
-            out.keeping(left, value)?;
-            out.turn(join.end, join.other)?;
-            expression(b.get(), starts, out)?;
-            out.keeping(left, value)?;
-            out.op(BuildOp::Label { label: join.end })?;
-            out.kept(left, value)
-        }
-        Expr::Comma(a, b) => {
-            expression(a.get(), starts, out)?;
-            out.own_dropping(has_value(a.get()))?;
-            expression(b.get(), starts, out)
-        }
-        Expr::Void(a) => {
-            expression(a.get(), starts, out)?;
-            out.own_dropping(has_value(a.get()))
-        }
-        Expr::Call(answer, function, args) => {
-            expressions(args.as_slice(), starts, out)?;
-            call(*answer, *function, args.as_slice(), starts, out)
-        }
-        Expr::CallNumber(answer, a, args) => {
-            expression(a.get(), starts, out)?;
-            expressions(args.as_slice(), starts, out)?;
-            call_number(*answer, args.as_slice(), out)
-        }
-        Expr::Getchar => out.ops(&[
-            BuildOp::Const { word: 0 },
-            BuildOp::Sys {
-                kind: SysKind::GetByte,
-            },
-        ]),
-        Expr::Lib(function, a) => {
-            expression(a.get(), starts, out)?;
-            out.library(*function)
-        }
-        Expr::Tick(_, args) => {
-            out.push(Piece::Nothing)?;
-            expressions(args.as_slice(), starts, out)
-        }
-        Expr::Capture(_, a) => {
-            out.push(Piece::Nothing)?;
-            expression(a.get(), starts, out)
-        }
-        Expr::Splice(_, i) => out.push(Piece::Splice(capture_of(*i)?)),
-        Expr::Compile(a) => {
-            expression(a.get(), starts, out)?;
-            out.op(BuildOp::Run {
-                routine: RunKind::Compile,
-            })
-        }
-        Expr::Local => out.ops(&[
-            BuildOp::Const { word: 0 },
+        Expr::Load(width, a) => then(a, BuildOp::Load { width: *width }, starts, out),
+        Expr::Store(width, a, b) => operands(a, b, BuildOp::Store { width: *width }, starts, out),
+        Expr::Modify(width, kind, a, b) => modify(*width, *kind, a, b, starts, out),
+        Expr::Post(width, step, a) => post(*width, *step, a, starts, out),
+        Expr::Bin(kind, a, b) => operands(a, b, BuildOp::Bin { kind: *kind }, starts, out),
+        Expr::Un(kind, a) => then(a, BuildOp::Un { kind: *kind }, starts, out),
+        Expr::And(a, b) => both(a, b, starts, out),
+        Expr::Or(a, b) => either(a, b, starts, out),
+        Expr::Cond(test, a, b) => choice(test, a, b, starts, out),
+        Expr::Comma(a, b) => comma(a, b, starts, out),
+        Expr::Void(a) => effect(a, starts, out),
+        Expr::Call(answer, function, args) => call(
+            *answer,
+            *function,
+            args.as_slice(),
+            starts,
+            out,
+        ),
+        Expr::CallNumber(answer, a, args) => call_number(*answer, a, args.as_slice(), starts, out),
+        Expr::Getchar => out.on_zero(BuildOp::Sys {
+            kind: SysKind::GetByte,
+        }),
+        Expr::Lib(function, a) => library(*function, a, starts, out),
+        Expr::Tick(_, args) => captures(args.as_slice(), starts, out),
+        Expr::Capture(_, a) => capture(a, starts, out),
+        Expr::Splice(_, i) => splice(*i, out),
+        Expr::Compile(a) => then(
+            a,
             BuildOp::Run {
-                routine: RunKind::Local,
+                routine: RunKind::Compile,
             },
-        ]),
-        Expr::ParamOf(a) => {
-            expression(a.get(), starts, out)?;
-            out.op(BuildOp::Run {
+            starts,
+            out,
+        ),
+        Expr::Local => out.on_zero(BuildOp::Run {
+            routine: RunKind::Local,
+        }),
+        Expr::ParamOf(a) => then(
+            a,
+            BuildOp::Run {
                 routine: RunKind::Parameter,
-            })
-        }
+            },
+            starts,
+            out,
+        ),
     }
+}
+
+/// Adds the pieces of an expression, and an op that takes or keeps its value. It fails as those of the expression do.
+#[cycle(expression)]
+pub fn then(
+    e: &Boxed<Expr>,
+    last: BuildOp,
+    starts: &[CallAddress],
+    out: &mut Pieces,
+) -> Result<(), AllocError>
+    ensures { OnOk result (out.new ≡ op last (walk (listed starts.now) (expr_view e.now) out.old)) }
+{
+    expression(e.get(), starts, out)?;
+    out.op(last)
+}
+
+/// Adds the pieces of an expression for its effects: its value, if it has one, is taken away. It fails as those of the
+/// expression do.
+#[cycle(expression)]
+#[tactic(auto, using(crate::proofs::Viewed::expressions))]
+pub fn effect(e: &Boxed<Expr>, starts: &[CallAddress], out: &mut Pieces) -> Result<(), AllocError>
+    ensures { OnOk result (out.new ≡ put (own (dropping (node.has_value (expr_view e.now))))
+        (walk (listed starts.now) (expr_view e.now) out.old)) }
+{
+    expression(e.get(), starts, out)?;
+    out.own_dropping(has_value(e.get()))
+}
+
+// The pieces of two expressions, and an op that takes both values.
+#[cycle(expression)]
+fn operands(
+    a: &Boxed<Expr>,
+    b: &Boxed<Expr>,
+    last: BuildOp,
+    starts: &[CallAddress],
+    out: &mut Pieces,
+) -> Result<(), AllocError>
+    ensures { OnOk result (out.new ≡ op last (walk (listed starts.now) (expr_view b.now)
+        (walk (listed starts.now) (expr_view a.now) out.old))) }
+{
+    expression(a.get(), starts, out)?;
+    then(b, last, starts, out)
+}
+
+// The pieces of an assignment to a captured variable.
+#[cycle(expression)]
+fn set_key(
+    capture: u32,
+    a: &Boxed<Expr>,
+    starts: &[CallAddress],
+    out: &mut Pieces,
+) -> Result<(), AllocError>
+    ensures { OnOk result (
+        out.new ≡ put (Piece.SetKey capture ∷ []) (walk (listed starts.now) (expr_view a.now) out.old)) }
+{
+    expression(a.get(), starts, out)?;
+    keep_key(capture, out)
+}
+
+// The pieces of `a op= b` at an address.
+#[cycle(expression)]
+fn modify(
+    width: Width,
+    kind: BinKind,
+    a: &Boxed<Expr>,
+    b: &Boxed<Expr>,
+    starts: &[CallAddress],
+    out: &mut Pieces,
+) -> Result<(), AllocError>
+    ensures { OnOk result (out.new ≡ walk (listed starts.now)
+        (node.Modify width kind (expr_view a.now) (expr_view b.now)) out.old) }
+{
+    expression(a.get(), starts, out)?;
+    loaded(width, out)?;
+    then(b, BuildOp::Bin { kind }, starts, out)?;
+    stored(width, out)
+}
+
+// The pieces of `a++` and `a--` at an address.
+#[cycle(expression)]
+fn post(
+    width: Width,
+    step: u32,
+    a: &Boxed<Expr>,
+    starts: &[CallAddress],
+    out: &mut Pieces,
+) -> Result<(), AllocError>
+    ensures { OnOk result (out.new ≡ walk (listed starts.now) (node.Post width step (expr_view a.now)) out.old) }
+{
+    expression(a.get(), starts, out)?;
+    post_loaded(width, step, out)
+}
+
+// The pieces of `a && b`.
+#[cycle(expression)]
+fn both(
+    a: &Boxed<Expr>,
+    b: &Boxed<Expr>,
+    starts: &[CallAddress],
+    out: &mut Pieces,
+) -> Result<(), AllocError>
+    ensures { OnOk result (
+        out.new ≡ walk (listed starts.now) (node.And (expr_view a.now) (expr_view b.now)) out.old) }
+{
+    let join = out.take_join()?;
+    let value = out.take_variable()?;
+    then(a, BuildOp::BranchZero { label: join.other }, starts, out)?;
+    then(b, BuildOp::BranchZero { label: join.other }, starts, out)?;
+    out.joins(1, 0, join, value)
+}
+
+// The pieces of `a || b`.
+#[cycle(expression)]
+fn either(
+    a: &Boxed<Expr>,
+    b: &Boxed<Expr>,
+    starts: &[CallAddress],
+    out: &mut Pieces,
+) -> Result<(), AllocError>
+    ensures { OnOk result (
+        out.new ≡ walk (listed starts.now) (node.Or (expr_view a.now) (expr_view b.now)) out.old) }
+{
+    let join = out.take_join()?;
+    let value = out.take_variable()?;
+    then(a, BuildOp::BranchNonzero { label: join.other }, starts, out)?;
+    then(b, BuildOp::BranchNonzero { label: join.other }, starts, out)?;
+    out.joins(0, 1, join, value)
+}
+
+// The pieces of `test ? a : b`.
+#[cycle(expression)]
+fn choice(
+    test: &Boxed<Expr>,
+    a: &Boxed<Expr>,
+    b: &Boxed<Expr>,
+    starts: &[CallAddress],
+    out: &mut Pieces,
+) -> Result<(), AllocError>
+    ensures { OnOk result (out.new ≡ walk (listed starts.now)
+        (node.Cond (expr_view test.now) (expr_view a.now) (expr_view b.now)) out.old) }
+{
+    let join = out.take_join()?;
+    let value = out.take_variable()?;
+    let left = has_value(a.get());
+    then(test, BuildOp::BranchZero { label: join.other }, starts, out)?;
+    way(a, left, value, starts, out)?;
+    out.turn(join.end, join.other)?;
+    way(b, left, value, starts, out)?;
+    out.met(left, join.end, value)
+}
+
+// The pieces of one of two ways, whose value goes to a variable where there is one.
+#[cycle(expression)]
+fn way(
+    e: &Boxed<Expr>,
+    left: bool,
+    value: u32,
+    starts: &[CallAddress],
+    out: &mut Pieces,
+) -> Result<(), AllocError>
+    ensures { OnOk result (out.new ≡ put (plain (keeping left value))
+        (walk (listed starts.now) (expr_view e.now) out.old)) }
+{
+    expression(e.get(), starts, out)?;
+    out.keeping(left, value)
+}
+
+// The pieces of `a, b`.
+#[cycle(expression)]
+fn comma(
+    a: &Boxed<Expr>,
+    b: &Boxed<Expr>,
+    starts: &[CallAddress],
+    out: &mut Pieces,
+) -> Result<(), AllocError>
+    ensures { OnOk result (
+        out.new ≡ walk (listed starts.now) (node.Comma (expr_view a.now) (expr_view b.now)) out.old) }
+{
+    effect(a, starts, out)?;
+    expression(b.get(), starts, out)
 }
 
 // The pieces of expressions, one after another.
@@ -224,4 +275,72 @@ fn expressions(list: &[Expr], starts: &[CallAddress], out: &mut Pieces) -> Resul
         expression(e, starts, out)?;
     }
     Ok(())
+}
+
+// The pieces of a call of a static function.
+#[cycle(expression)]
+fn call(
+    answer: Answer,
+    function: u32,
+    args: &[Expr],
+    starts: &[CallAddress],
+    out: &mut Pieces,
+) -> Result<(), AllocError>
+    ensures { OnOk result (out.new ≡ walk (listed starts.now)
+        (node.Call answer function (args_of (map expr_view args.now))) out.old) }
+{
+    expressions(args, starts, out)?;
+    called(answer, function, args, starts, out)
+}
+
+// The pieces of a call of the function whose number is evaluated first.
+#[cycle(expression)]
+fn call_number(
+    answer: Answer,
+    a: &Boxed<Expr>,
+    args: &[Expr],
+    starts: &[CallAddress],
+    out: &mut Pieces,
+) -> Result<(), AllocError>
+    ensures { OnOk result (out.new ≡ walk (listed starts.now)
+        (node.CallNumber answer (expr_view a.now) (args_of (map expr_view args.now))) out.old) }
+{
+    expression(a.get(), starts, out)?;
+    expressions(args, starts, out)?;
+    called_number(answer, args, out)
+}
+
+// The pieces of a call of a library function.
+#[cycle(expression)]
+fn library(
+    function: Library,
+    a: &Boxed<Expr>,
+    starts: &[CallAddress],
+    out: &mut Pieces,
+) -> Result<(), AllocError>
+    ensures { OnOk result (
+        out.new ≡ put (library_pieces function) (walk (listed starts.now) (expr_view a.now) out.old)) }
+{
+    expression(a.get(), starts, out)?;
+    out.library(function)
+}
+
+// The pieces of the captures of a tick, behind the piece of the tick.
+#[cycle(expression)]
+fn captures(list: &[Expr], starts: &[CallAddress], out: &mut Pieces) -> Result<(), AllocError>
+    ensures { OnOk result (out.new ≡ walk_args (listed starts.now) (args_of (map expr_view list.now))
+        (put (Piece.Nothing ∷ []) out.old)) }
+{
+    out.push(Piece::Nothing)?;
+    expressions(list, starts, out)
+}
+
+// The pieces of a capture's value, behind the piece of the capture.
+#[cycle(expression)]
+fn capture(a: &Boxed<Expr>, starts: &[CallAddress], out: &mut Pieces) -> Result<(), AllocError>
+    ensures { OnOk result (
+        out.new ≡ walk (listed starts.now) (expr_view a.now) (put (Piece.Nothing ∷ []) out.old)) }
+{
+    out.push(Piece::Nothing)?;
+    expression(a.get(), starts, out)
 }

@@ -5,6 +5,7 @@
 mod calls;
 mod expressions;
 mod pieces;
+mod places;
 mod statements;
 mod tick;
 

@@ -1,7 +1,7 @@
 //! The pieces of the nodes so far, and the numbers for the next node.
 
 ghost use Rattle.std.specs.Prelude.{◌≡◌, ◌+◌, ◌++◌, ◌∷◌, [], IfOk, OnOk};
-ghost use Rattle.tick_cgf.specs.Steps.{put, library_pieces};
+ghost use Rattle.tick_cgf.specs.Steps.{library_pieces, op, put};
 ghost use Rattle.tick_lower_spec.specs.Lower.{narrowing, dropping, dropping_call, keeping, kept, step_ops, joins};
 ghost use Rattle.tick_pieces.specs.TickPieces.{plain, own};
 
@@ -292,6 +292,22 @@ impl Pieces {
             BuildOp::Label { label: end },
             BuildOp::GetVariable { variable: value },
         ])
+    }
+
+    /// The place where two ways meet, behind which the value is in a variable, where there is one. The only error is
+    /// want of memory.
+    pub fn met(&mut self, left: bool, end: u32, value: u32) -> Result<(), AllocError>
+        ensures { OnOk result (self.new ≡ put (plain (kept left value)) (op (BuildOp.Label end) self.old)) }
+    {
+        self.op(BuildOp::Label { label: end })?;
+        self.kept(left, value)
+    }
+
+    /// The number 0, and an op that takes it. The only error is want of memory.
+    pub fn on_zero(&mut self, last: BuildOp) -> Result<(), AllocError>
+        ensures { OnOk result (self.new ≡ put (plain (BuildOp.Const 0 ∷ last ∷ [])) self.old) }
+    {
+        self.ops(&[BuildOp::Const { word: 0 }, last])
     }
 
     /// A jump to one label, and behind it the place of another. The only error is want of memory.
