@@ -12,6 +12,11 @@ one (Names kind i) f = record {
       (record { kind = kind; node = f.nodes }) ∷ [] else f.captures;
 }
 
+-- what the first of these nodes names
+abbrev pub first : List Name → Name
+first [] = Nothing
+first (name ∷ names) = name
+
 -- more nodes
 abbrev pub after : List Name → Found → Found
 after [] f = f

@@ -2,7 +2,7 @@
 
 ghost use Rattle.std.specs.Prelude.{◌≡◌, OnOk, [], map};
 ghost use Rattle.captures.specs.Captures.{Names, Nothing, names, names_in, names_of, word_kind};
-ghost use Rattle.captures.specs.Found.{after, behind, one};
+ghost use Rattle.captures.specs.Found.{after, behind, first, one};
 
 use crate::capture::Capture;
 use sqlite_items::Items;
@@ -65,56 +65,72 @@ impl Found {
         self.nothing()
     }
 
+    // The node that an expression is itself, before its parts.
+    #[tactic(auto, using(crate::proofs::Laws::expressions))]
+    fn node(&mut self, e: &Expr) -> Result<(), AllocError>
+        ensures { OnOk result (self.new ≡ one (first (names e.now)) self.old) }
+    {
+        match e {
+            Expr::Captured(word, i) => self.name(kind_of(*word), *i),
+            Expr::VGet(i) | Expr::VSet(i, _) => self.name(CaptureKind::Variable, *i),
+            Expr::VPost(i, _) => self.name(CaptureKind::Variable, *i),
+            Expr::Splice(answer, i) => self.name(CaptureKind::Splice(*answer), *i),
+            Expr::Const(_) | Expr::Var(_) | Expr::SetVar(_, _) => self.nothing(),
+            Expr::PostVar(_, _, _) | Expr::Frame(_) | Expr::Load(_, _) => self.nothing(),
+            Expr::Store(_, _, _) | Expr::Modify(_, _, _, _) => self.nothing(),
+            Expr::Post(_, _, _) | Expr::Bin(_, _, _) | Expr::Un(_, _) => self.nothing(),
+            Expr::And(_, _) | Expr::Or(_, _) | Expr::Cond(_, _, _) => self.nothing(),
+            Expr::Comma(_, _) | Expr::Void(_) | Expr::Call(_, _, _) => self.nothing(),
+            Expr::CallNumber(_, _, _) | Expr::Getchar | Expr::Lib(_, _) => self.nothing(),
+            Expr::Tick(_, _) | Expr::Capture(_, _) | Expr::Compile(_) => self.nothing(),
+            Expr::Local | Expr::ParamOf(_) => self.nothing(),
+        }
+    }
+
     // The nodes of an expression.
     #[cycle(expression)]
     #[tactic(auto, using(crate::proofs::Laws::expressions))]
     fn expression(&mut self, e: &Expr) -> Result<(), AllocError>
         ensures { OnOk result (self.new ≡ after (names e.now) self.old) }
     {
+        self.node(e)?;
         match e {
-            Expr::Captured(word, i) => self.name(kind_of(*word), *i),
-            Expr::VGet(i) | Expr::VPost(i, _) => self.name(CaptureKind::Variable, *i),
-            Expr::Splice(answer, i) => self.name(CaptureKind::Splice(*answer), *i),
-            Expr::VSet(i, a) => {
-                self.name(CaptureKind::Variable, *i)?;
-                self.expression(a.get())
-            }
-            Expr::Const(_) | Expr::Var(_) | Expr::PostVar(_, _, _) => self.nothing(),
-            Expr::Frame(_) | Expr::Getchar | Expr::Local => self.nothing(),
-            Expr::SetVar(_, a) | Expr::Load(_, a) | Expr::Post(_, _, a) | Expr::Un(_, a) => {
-                self.nothing()?;
-                self.expression(a.get())
-            }
-            Expr::Void(a) | Expr::Lib(_, a) | Expr::Capture(_, a) | Expr::Compile(a) => {
-                self.nothing()?;
-                self.expression(a.get())
-            }
-            Expr::ParamOf(a) => {
-                self.nothing()?;
-                self.expression(a.get())
-            }
-            Expr::Store(_, a, b) | Expr::Modify(_, _, a, b) | Expr::Bin(_, a, b) => {
-                self.nothing()?;
-                self.expression(a.get())?;
-                self.expression(b.get())
-            }
-            Expr::And(a, b) | Expr::Or(a, b) | Expr::Comma(a, b) => {
-                self.nothing()?;
+            Expr::Const(_)
+            | Expr::Captured(_, _)
+            | Expr::Var(_)
+            | Expr::PostVar(_, _, _)
+            | Expr::VGet(_)
+            | Expr::VPost(_, _)
+            | Expr::Frame(_)
+            | Expr::Getchar
+            | Expr::Splice(_, _)
+            | Expr::Local => Ok(()),
+            Expr::SetVar(_, a)
+            | Expr::VSet(_, a)
+            | Expr::Load(_, a)
+            | Expr::Post(_, _, a)
+            | Expr::Un(_, a)
+            | Expr::Void(a)
+            | Expr::Lib(_, a)
+            | Expr::Capture(_, a)
+            | Expr::Compile(a)
+            | Expr::ParamOf(a) => self.expression(a.get()),
+            Expr::Store(_, a, b)
+            | Expr::Modify(_, _, a, b)
+            | Expr::Bin(_, a, b)
+            | Expr::And(a, b)
+            | Expr::Or(a, b)
+            | Expr::Comma(a, b) => {
                 self.expression(a.get())?;
                 self.expression(b.get())
             }
             Expr::Cond(c, a, b) => {
-                self.nothing()?;
                 self.expression(c.get())?;
                 self.expression(a.get())?;
                 self.expression(b.get())
             }
-            Expr::Call(_, _, list) | Expr::Tick(_, list) => {
-                self.nothing()?;
-                self.expressions(list.as_slice())
-            }
+            Expr::Call(_, _, list) | Expr::Tick(_, list) => self.expressions(list.as_slice()),
             Expr::CallNumber(_, a, list) => {
-                self.nothing()?;
                 self.expression(a.get())?;
                 self.expressions(list.as_slice())
             }

@@ -1,7 +1,10 @@
 //! The first pass: the labels and the words of a text.
 
-ghost use Rattle.std.specs.Prelude.{◌≡◌, ◌≤◌, length, IfOk};
+ghost use Rattle.std.specs.Prelude.{◌≡◌, ◌≤◌, ◌++◌, length, IfOk, OnOk};
+ghost use Rattle.asm_lines.specs.Lines.{line_of};
 ghost use Rattle.mips_text.specs.Assembly as spec;
+ghost use Rattle.mips_text.specs.Labels.{find, label_in};
+ghost use Rattle.mips_text.specs.Positions.{behind, counted};
 ghost use Rattle.mips_text.specs.Values.{known_by};
 ghost use Rattle.limits.specs.declared.text.TheConstants.{LONGEST_TEXT};
 
@@ -21,6 +24,25 @@ pub struct Survey {
     ghost small: { words ≤ LONGEST_TEXT },
 }
 
+// Adds the label of a line at a position, unless its name is there. The position behind the line.
+fn noted(
+    alloc: Global,
+    labels: &mut Labels,
+    at: Position,
+    line: &[u8],
+) -> Result<Position, AllocError>
+    requires line { at.line ≤ LONGEST_TEXT }
+    requires words { at.words ≤ LONGEST_TEXT }
+    requires functions { at.functions ≤ LONGEST_TEXT }
+    ensures next { IfOk result (λ next. next ≡ behind at (counted at (line_of line.now))) }
+    ensures label { OnOk result (
+        find labels.new ≡ find (labels.old ++ label_in at (counted at (line_of line.now)))) }
+{
+    let line = at.counted(line_of(alloc, line)?);
+    labels.note_line(at, &line)?;
+    Ok(at.behind(&line))
+}
+
 /// The labels and the words of a text.
 ///
 /// # Errors
@@ -34,9 +56,7 @@ pub fn surveyed(alloc: Global, text: &[u8]) -> Result<Survey, AllocError>
     let mut rest = text;
     while !rest.is_empty() {
         let (line, more) = first_line(rest);
-        let line = at.counted(line_of(alloc, line)?);
-        labels.note_line(at, &line)?;
-        at = at.behind(&line);
+        at = noted(alloc, &mut labels, at, line)?;
         rest = more;
     }
     Ok(Survey {

@@ -1,4 +1,4 @@
-use Rattle.std.proofs.Common.{rules, map, ap, ◌∙◌, arith}
+use Rattle.std.proofs.Common.{rules, map, ap, sym, ◌∙◌, arith}
 use Rattle.typed_tree.specs.declared.expression.Stmt.{the_lemmas}
 use Rattle.staged_meaning.specs.Size.{variables_in, variables_of}
 use Rattle.typed_tree.specs.View.{stmt_view, items_of}
@@ -126,3 +126,33 @@ variables-most_variables-requires-in-Switch-2 t c = (
     ap (λ z. variables_of (items_of (map stmt_view z))) c.as_slice-in-Switch-2.ensures,
   ),
 )
+
+pub variables-returns-in-If : goal.variables-returns-in-If
+variables-returns-in-If t c =
+    c.variables.ensures
+    ∙ ap (λ z. variables_in (stmt_view z)) c.get.ensures
+    ∙ sym (ap variables_in (ap stmt_view c.in-If.is ∙ stmt_view_if _ _))
+
+pub variables-returns-in-While : goal.variables-returns-in-While
+variables-returns-in-While t c =
+    c.variables-in-While.ensures
+    ∙ ap (λ z. variables_in (stmt_view z)) c.get-in-While.ensures
+    ∙ sym (ap variables_in (ap stmt_view c.in-While.is ∙ stmt_view_while _ _))
+
+pub variables-returns-in-Do : goal.variables-returns-in-Do
+variables-returns-in-Do t c =
+    c.variables-in-Do.ensures
+    ∙ ap (λ z. variables_in (stmt_view z)) c.get-in-Do.ensures
+    ∙ sym (ap variables_in (ap stmt_view c.in-Do.is ∙ stmt_view_do _ _))
+
+pub variables-returns-in-For : goal.variables-returns-in-For
+variables-returns-in-For t c =
+    c.variables-in-For.ensures
+    ∙ ap (λ z. variables_in (stmt_view z)) c.get-in-For.ensures
+    ∙ sym (ap variables_in (ap stmt_view c.in-For.is ∙ stmt_view_for _ _))
+
+pub variables-returns-in-ForStep : goal.variables-returns-in-ForStep
+variables-returns-in-ForStep t c =
+    c.variables-in-ForStep.ensures
+    ∙ ap (λ z. variables_in (stmt_view z)) c.get-in-ForStep.ensures
+    ∙ sym (ap variables_in (ap stmt_view c.in-ForStep.is ∙ stmt_view_forstep _ _ _))
