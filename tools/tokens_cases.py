@@ -1,5 +1,5 @@
 #!/usr/bin/env python3
-"""Writes the texts that the program trial_syntax lexes, and that section of what it must print.
+"""Writes the texts that the program trial_texts lexes, and that section of what it must print.
 
 Each text is a row of pieces, put down by hand from docs/tokens.md: a kind and the bytes. So the places, lengths and lines
 are those of the pieces, and no run of the lexer is asked. Run it at the top of the repository.
@@ -122,11 +122,16 @@ stdin, stdout = b"", ""
 for title, text, answer in rows:
     stdin += b"\n" * bool(stdin) + b"%% " + title.encode() + b"\n" + text
     stdout += f"{title}:{answer}\n"
-stdout += "the most tokens: 262144 tokens\none token more: 6 TooManyTokens on line 1\n"
-stdout += "the longest text:\none name: Name@0+1048576:1\n"
-with open("crates/trial_syntax/data/lexed", "wb") as file:
+# texts of one byte over and over, at the limits
+for title, count, byte, answer in [("the most tokens", 262144, ";", " 262144 tokens"),
+                                   ("one token more", 262145, ";", " 6 TooManyTokens on line 1"),
+                                   ("the longest text", 1048576, " ", ""),
+                                   ("one name", 1048576, "_", " Name@0+1048576:1")]:
+    stdin += f"\n%% {title}\n%* {count} {byte}".encode()
+    stdout += f"{title}:{answer}\n"
+with open("crates/trial_texts/data/lexed", "wb") as file:
     file.write(stdin)
-with open("crates/trial_syntax/stdout") as file:
+with open("crates/trial_texts/stdout") as file:
     _, parsed, behind = file.read().partition("== parsed\n")
-with open("crates/trial_syntax/stdout", "w") as file:
+with open("crates/trial_texts/stdout", "w") as file:
     file.write("== lexed\n" + stdout + parsed + behind)

@@ -1,5 +1,5 @@
 # Each form and each operation of the instruction table, with operands at the ends of their fields.
-# GNU as for MIPS gives the words; `make` beside this file writes them out as the program's input and expected output.
+# GNU as for MIPS gives the words; `make` beside this file writes them to `rows`, with the numbers of their operands.
         .set    noreorder
         .set    noat
         .set    nomacro

@@ -1,6 +1,6 @@
 # The run-time routines in their blocks of 64 words, written from docs/closures.md: the argument is in $4, the answer
 # goes to $2, the cells stand below $28, and 0x2040 is the upper half of the address of the specification rows.
-# `make` beside this file writes what the program `trial_routines` must print. GNU as for MIPS gives the words.
+# `make` beside this file writes what the program `trial_texts` must print of them. GNU as for MIPS gives the words.
         .set noreorder
         .set noat
         .set nomacro

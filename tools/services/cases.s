@@ -1,5 +1,5 @@
 # Calls of the services that make code, with what each answers, written from the rules of docs/services.md.
-# A case begins with its line for the program `trial_services`. `#=` comes before what it prints, where {ADDRESS} stands
+# A case begins with its line for the program `trial_icode`. `#=` comes before what it prints, where {ADDRESS} stands
 # for the words of the assembly text below it, as they stand from that address on, and {ADDRESS*} for these words flushed.
 # GNU as for MIPS gives the words; `make` beside this file writes the program's input and expected output.
 

@@ -20,7 +20,8 @@ fn starts(alloc: Global, count: usize) -> Result<Vec<CallAddress>, AllocError> {
     Ok(all)
 }
 
-fn print_words<R: Print>(rt: &R, words: &[u32]) -> io::Result<()> {
+/// Prints words, each behind a blank, and a line feed.
+pub(crate) fn print_words<R: Print>(rt: &R, words: &[u32]) -> io::Result<()> {
     for word in words {
         print!(rt; " {word:08x}")?;
     }

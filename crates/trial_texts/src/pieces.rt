@@ -1,8 +1,8 @@
 //! The text of a case, in which a line `%* COUNT PIECE` stands for so many pieces on one line, and each `#` in a piece
-//! for the number of the piece, from 0.
+//! for the number of the piece, from 0. A line `%. REST` goes on with the line before it, as the line REST would.
 
+use crate::cases::Case;
 use std::alloc::{AllocError, Global};
-use trial_cases::Case;
 
 // A piece, with these digits for each `#`.
 fn push_with(text: &mut Vec<u8>, piece: &[u8], digits: &[u8]) -> Result<(), AllocError> {
@@ -34,8 +34,14 @@ fn push_pieces(alloc: Global, text: &mut Vec<u8>, line: &[u8]) -> Result<(), All
     let Some((count, piece)) = str::from_utf8(line).ok().and_then(|it| it.split_once(' ')) else {
         return Ok(());
     };
-    for number in 0..count.parse::<u32>().unwrap_or(0) {
-        push_piece(alloc, text, piece.as_bytes(), number)?;
+    let count = count.parse::<u32>().unwrap_or(0);
+    let has_numbers = piece.contains('#');
+    for number in 0..count {
+        if has_numbers {
+            push_piece(alloc, text, piece.as_bytes(), number)?;
+        } else {
+            text.extend_from_slice(piece.as_bytes())?;
+        }
     }
     Ok(())
 }
@@ -48,9 +54,13 @@ fn push_line(alloc: Global, text: &mut Vec<u8>, line: &[u8]) -> Result<(), Alloc
     }
 }
 
-// These lines, with a line feed between each two.
+// These lines, with a line feed before each that doesn't go on with the one before it.
 fn push_lines(alloc: Global, text: &mut Vec<u8>, lines: &[&[u8]]) -> Result<(), AllocError> {
     for (number, line) in lines.iter().enumerate() {
+        if let Some(rest) = line.strip_prefix(b"%. ") {
+            push_line(alloc, text, rest)?;
+            continue;
+        }
         if number != 0 {
             text.push(b'\n')?;
         }

@@ -1,9 +1,11 @@
 //! The texts of two images, by hand, and a sink that fails in the middle of one.
 
+ghost use Rattle.std.specs.Prelude.{◌≤◌, length};
+
 use asm_print::disassemble;
 use host_edge::{Failed, MemSink};
 use image_file::read;
-use std::test::Fail;
+use std::alloc::{AllocError, Global};
 
 // The image file of `ori $2,$0,10` and `syscall`, without data and functions.
 const TWO_INSTRUCTIONS: [u8; 32] = [
@@ -22,36 +24,38 @@ const ALL_PARTS: [u8; 89] = [
 const ALL_PARTS_TEXT: &str =
     ".entry 0x00400004\n.fn 0x00400000 2\n.data 303132333435363738396162636465666768696a6b6c6d6e6f70717273747576\n.data 77\njal 0x00400010\nbeq $1,$2,-1\nsll $0,$0,0\n.word 0xffffffff\nlw $4,-8($29)\nlui $8,65535\n";
 
-#[test]
-fn two_instructions_are_written(rt: HostRuntime) -> Result<(), Fail> {
-    let mut sink = MemSink::new(rt.alloc(), 100, &[])?;
-    match read(rt.alloc(), &TWO_INSTRUCTIONS) {
-        Ok(image) => assert!(rt; disassemble(&image, &mut sink) == Ok(())),
-        Err(_) => assert!(rt; false),
-    }
-    let text = ".entry 0x00400000\nori $2,$0,10\nsyscall\n";
-    assert!(rt; sink.taken() == text.as_bytes());
-    Ok(())
+// How the image of these bytes is written, and the text that a sink has then whose listed call fails.
+fn is_written(
+    alloc: Global,
+    bytes: &[u8],
+    fails: &[u64],
+    end: Result<(), Failed>,
+    text: &[u8],
+) -> Result<bool, AllocError>
+    requires { length bytes.now ≤ 100 }
+{
+    let mut sink = MemSink::new(alloc, 400, fails)?;
+    let is_end = match read(alloc, bytes) {
+        Ok(image) => disassemble(&image, &mut sink) == end,
+        Err(_) => false,
+    };
+    Ok(is_end && sink.taken() == text)
 }
 
 #[test]
-fn all_parts_are_written(rt: HostRuntime) -> Result<(), Fail> {
-    let mut sink = MemSink::new(rt.alloc(), 400, &[])?;
-    match read(rt.alloc(), &ALL_PARTS) {
-        Ok(image) => assert!(rt; disassemble(&image, &mut sink) == Ok(())),
-        Err(_) => assert!(rt; false),
-    }
-    assert!(rt; sink.taken() == ALL_PARTS_TEXT.as_bytes());
-    Ok(())
+fn two_instructions_are_written(rt: HostRuntime) {
+    let text = b".entry 0x00400000\nori $2,$0,10\nsyscall\n";
+    assert!(rt; is_written(rt.alloc(), &TWO_INSTRUCTIONS, &[], Ok(()), text) == Ok(true));
 }
 
 #[test]
-fn a_failing_sink_has_taken_a_front(rt: HostRuntime) -> Result<(), Fail> {
-    let mut sink = MemSink::new(rt.alloc(), 400, &[2])?;
-    match read(rt.alloc(), &ALL_PARTS) {
-        Ok(image) => assert!(rt; disassemble(&image, &mut sink) == Err(Failed)),
-        Err(_) => assert!(rt; false),
-    }
-    assert!(rt; sink.taken() == ".entry 0x00400004\n.fn 0x00400000 2\n".as_bytes());
-    Ok(())
+fn all_parts_are_written(rt: HostRuntime) {
+    let text = ALL_PARTS_TEXT.as_bytes();
+    assert!(rt; is_written(rt.alloc(), &ALL_PARTS, &[], Ok(()), text) == Ok(true));
+}
+
+#[test]
+fn a_failing_sink_has_taken_a_front(rt: HostRuntime) {
+    let front = b".entry 0x00400004\n.fn 0x00400000 2\n";
+    assert!(rt; is_written(rt.alloc(), &ALL_PARTS, &[2], Err(Failed), front) == Ok(true));
 }

@@ -12,4 +12,6 @@ mod static_image_calls;
 #[cfg(test)]
 mod tick_build_calls;
 #[cfg(test)]
+mod tick_calls;
+#[cfg(test)]
 mod tick_lower_calls;

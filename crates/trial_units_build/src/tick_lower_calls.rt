@@ -26,12 +26,23 @@ fn listed_nodes(alloc: Global) -> Result<u32, AllocError> {
     Ok(nodes_of(list.as_slice()))
 }
 
-// How many of the functions have just these ops.
-fn count_with_ops(
+// Whether these are the ops of a function that returns 3.
+fn are_returning_three(ops: &[Op]) -> bool {
+    matches!(
+        ops,
+        [
+            Op::Const { to: 0, word: 3 },
+            Op::Return { from: 0 },
+            Op::ReturnZero,
+        ]
+    )
+}
+
+// How many of the functions have the ops of one that returns 3.
+fn count_returning_three(
     alloc: Global,
     list: &[Function],
     builder: &mut Builder,
-    ops: &[Op],
 ) -> Result<u32, AllocError>
     requires { All (λ f. (f.body ≡ Stmt.ReturnValue (Expr.Const 3)) × (f.params ≡ 0) × (f.object ≡ 0)) list.now }
 {
@@ -39,17 +50,17 @@ fn count_with_ops(
     for f in list {
         builder.begin(f.params);
         lower(alloc, &[], f, builder)?;
-        if builder.finish().is_ok() && builder.ops() == ops {
+        if builder.finish().is_ok() && are_returning_three(builder.ops()) {
             count = count.saturating_add(1);
         }
     }
     Ok(count)
 }
 
-fn listed_with_ops(alloc: Global, ops: &[Op]) -> Result<u32, AllocError> {
+fn listed_returning_three(alloc: Global) -> Result<u32, AllocError> {
     let list = listed(alloc)?;
     let mut builder = Builder::new(alloc)?;
-    count_with_ops(alloc, list.as_slice(), &mut builder, ops)
+    count_returning_three(alloc, list.as_slice(), &mut builder)
 }
 
 #[test]
@@ -59,10 +70,5 @@ fn a_return_has_two_nodes(rt: HostRuntime) {
 
 #[test]
 fn a_return_is_lowered_to_two_ops_and_the_last(rt: HostRuntime) {
-    let ops = [
-        Op::Const { to: 0, word: 3 },
-        Op::Return { from: 0 },
-        Op::ReturnZero,
-    ];
-    assert!(rt; listed_with_ops(rt.alloc(), &ops) == Ok(1));
+    assert!(rt; listed_returning_three(rt.alloc()) == Ok(1));
 }

@@ -4,54 +4,79 @@ use host_edge::{
     Failed, FileStore, LoadFault, MachineKind, MemSink, MemSource, MemStore, SaveFault, Sink,
     Source, StdSink, StdSource, Store, TrapKind, read_byte, write_whole,
 };
+use std::alloc::{AllocError, Global};
 use std::fs::remove_file;
 use std::process::id;
 use std::test::Fail;
 
-#[test]
-fn a_source_gives_its_bytes_but_at_a_listed_call(rt: HostRuntime) -> Result<(), Fail> {
-    let mut source = MemSource::new(rt.alloc(), b"abc", &[1])?;
+// The source's second read is listed.
+fn source_gives_its_bytes(alloc: Global) -> Result<bool, AllocError> {
+    let mut source = MemSource::new(alloc, b"abc", &[1])?;
     let mut buf = [0u8; 2];
-    assert!(rt; source.read(&mut buf) == Ok(2));
-    assert!(rt; buf == [97, 98]);
-    assert!(rt; source.read(&mut buf) == Err(Failed));
-    assert!(rt; read_byte(&mut source) == Ok(Some(99)));
-    assert!(rt; read_byte(&mut source) == Ok(None));
-    Ok(())
+    let reads = [source.read(&mut buf), source.read(&mut [0u8; 2])];
+    let bytes = [read_byte(&mut source), read_byte(&mut source)];
+    Ok(reads == [Ok(2), Err(Failed)] && buf == [97, 98] && bytes == [Ok(Some(99)), Ok(None)])
 }
 
 #[test]
-fn a_sink_takes_what_fits_but_at_a_listed_call(rt: HostRuntime) -> Result<(), Fail> {
-    let mut sink = MemSink::new(rt.alloc(), 5, &[1])?;
-    assert!(rt; sink.write(b"ab") == Ok(2));
-    assert!(rt; sink.write(b"cd") == Err(Failed));
-    assert!(rt; sink.write(b"wxyz") == Err(Failed), "three bytes are free");
+fn a_source_gives_its_bytes_but_at_a_listed_call(rt: HostRuntime) {
+    assert!(rt; source_gives_its_bytes(rt.alloc()) == Ok(true));
+}
+
+// The sink has room for five bytes, and its second write is listed.
+fn sink_takes_what_fits(alloc: Global) -> Result<bool, AllocError> {
+    let mut sink = MemSink::new(alloc, 5, &[1])?;
+    let writes = [sink.write(b"ab"), sink.write(b"cd"), sink.write(b"wxyz")];
     sink.single();
-    assert!(rt; sink.write(b"cdef") == Ok(1));
-    assert!(rt; write_whole(&mut sink, b"de") == Ok(()));
-    assert!(rt; write_whole(&mut sink, b"f") == Err(Failed));
-    assert!(rt; sink.taken() == b"abcde".as_slice());
-    Ok(())
+    let single = sink.write(b"cdef");
+    let wholes = [write_whole(&mut sink, b"de"), write_whole(&mut sink, b"f")];
+    let is_full = sink.taken() == b"abcde".as_slice();
+    // three bytes are free as four are written
+    Ok(
+        writes == [Ok(2), Err(Failed), Err(Failed)]
+            && single == Ok(1)
+            && wholes == [Ok(()), Err(Failed)]
+            && is_full,
+    )
 }
 
 #[test]
-fn a_store_loads_up_to_the_limit(rt: HostRuntime) -> Result<(), Fail> {
+fn a_sink_takes_what_fits_but_at_a_listed_call(rt: HostRuntime) {
+    assert!(rt; sink_takes_what_fits(rt.alloc()) == Ok(true));
+}
+
+// Whether a load of a file, of so many bytes at most, gives these.
+fn loads(
+    store: &mut impl Store,
+    file: &str,
+    limit: usize,
+    into: &mut Vec<u8>,
+    want: &[u8],
+) -> bool {
+    store.load(file, into, limit) == Ok(()) && into.as_slice() == want
+}
+
+// Whether a load fails, and leaves nothing.
+fn fails(store: &mut impl Store, file: &str, into: &mut Vec<u8>) -> bool {
+    store.load(file, into, 9) == Err(LoadFault::Failed) && into.len() == 0
+}
+
+fn loads_up_to_the_limit(store: &mut MemStore, into: &mut Vec<u8>) -> bool {
+    loads(store, "a", 3, into, b"tex")
+        // it is listed
+        && fails(store, "a", into)
+        // it isn't there
+        && fails(store, "b", into)
+        && loads(store, "a", 9, into, b"text")
+}
+
+#[test]
+fn a_store_loads_up_to_the_limit(rt: HostRuntime) -> Result<(), AllocError> {
     let mut store = MemStore::new(rt.alloc(), &[1])?;
     store.put("a", b"text")?;
     let mut into = b"old".to_vec(rt.alloc())?;
-    assert!(rt; store.load("a", &mut into, 3) == Ok(()));
-    assert!(rt; into.as_slice() == b"tex".as_slice());
-    assert!(rt;
-        store.load("a", &mut into, 9) == Err(LoadFault::Failed),
-        "it is listed"
-    );
-    assert!(rt; into.len() == 0);
-    assert!(rt;
-        store.load("b", &mut into, 9) == Err(LoadFault::Failed),
-        "it isn't there"
-    );
-    assert!(rt; store.load("a", &mut into, 9) == Ok(()));
-    assert!(rt; into.as_slice() == b"text".as_slice());
+    let does = loads_up_to_the_limit(&mut store, &mut into);
+    assert!(rt; does);
     Ok(())
 }
 
@@ -62,34 +87,57 @@ fn is_file(store: &MemStore, path: &str, want: &[u8]) -> bool {
     }
 }
 
+fn saves_at_its_path_alone(store: &mut MemStore) -> bool {
+    let saved = [store.save("b", b"image"), store.save("c", b"half")];
+    saved == [Ok(()), Err(SaveFault::Failed)]
+        && is_file(store, "a", b"text")
+        && is_file(store, "b", b"image")
+        // the first half
+        && is_file(store, "c", b"ha")
+        && store.file("d").is_none()
+}
+
 #[test]
-fn a_store_saves_at_its_path_alone(rt: HostRuntime) -> Result<(), Fail> {
+fn a_store_saves_at_its_path_alone(rt: HostRuntime) -> Result<(), AllocError> {
     let mut store = MemStore::new(rt.alloc(), &[1])?;
     store.put("a", b"text")?;
-    assert!(rt; store.save("b", b"image") == Ok(()));
-    assert!(rt; store.save("c", b"half") == Err(SaveFault::Failed));
-    assert!(rt; is_file(&store, "a", b"text"));
-    assert!(rt; is_file(&store, "b", b"image"));
-    assert!(rt; is_file(&store, "c", b"ha"), "the first half");
-    assert!(rt; store.file("d").is_none());
+    let does = saves_at_its_path_alone(&mut store);
+    assert!(rt; does);
     Ok(())
 }
 
 // The adapters over a reader and a writer in memory.
 #[test]
-fn streams_pass_bytes_on(rt: HostRuntime) -> Result<(), Fail> {
+fn streams_pass_bytes_on(rt: HostRuntime) {
     let mut source = StdSource::new(b"xy".as_slice());
-    assert!(rt; read_byte(&mut source) == Ok(Some(120)));
-    assert!(rt; read_byte(&mut source) == Ok(Some(121)));
-    assert!(rt; read_byte(&mut source) == Ok(None));
+    let bytes = [
+        read_byte(&mut source),
+        read_byte(&mut source),
+        read_byte(&mut source),
+    ];
+    assert!(rt; bytes == [Ok(Some(120)), Ok(Some(121)), Ok(None)]);
     let mut room = [0u8; 3];
     let mut sink = StdSink::new(room.as_mut_slice());
-    assert!(rt; write_whole(&mut sink, b"abc") == Ok(()));
-    assert!(rt;
-        write_whole(&mut sink, b"d") == Err(Failed),
-        "the writer takes nothing more"
-    );
-    Ok(())
+    // the writer takes nothing more
+    let wholes = [write_whole(&mut sink, b"abc"), write_whole(&mut sink, b"d")];
+    assert!(rt; wholes == [Ok(()), Err(Failed)]);
+}
+
+fn loads_what_is_saved(store: &mut impl Store, path: &str, into: &mut Vec<u8>) -> bool {
+    let saved = [store.save(path, b"abcdef"), store.save(path, b"text")];
+    saved == [Ok(()), Ok(())] && loads(store, path, 5000, into, b"text")
+}
+
+// With no file at the path.
+fn fails_at_what_is_no_file(store: &mut impl Store, path: &str, into: &mut Vec<u8>) -> bool {
+    let is_cut = store.load("/dev/zero", into, 5000) == Ok(()) && into.len() == 5000;
+    // a directory
+    let loaded = [store.load(path, into, 5000), store.load("/", into, 5000)];
+    // a full disk
+    let saved = store.save("/dev/full", b"abc");
+    is_cut
+        && loaded == [Err(LoadFault::Failed), Err(LoadFault::Failed)]
+        && saved == Err(SaveFault::Failed)
 }
 
 // The adapter over files, at a file of its own and on devices that each system of this kind has.
@@ -98,27 +146,19 @@ fn files_are_saved_and_loaded_up_to_the_limit(rt: HostRuntime) -> Result<(), Fai
     let path = format!(in rt.alloc(); "/tmp/tick_host_edge_{}", id(rt.process()))?;
     let mut store = FileStore::new(&rt, rt.alloc());
     let mut into = Vec::new(rt.alloc());
-    assert!(rt; store.save(&path, b"abcdef") == Ok(()));
-    assert!(rt; store.save(&path, b"text") == Ok(()));
-    assert!(rt; store.load(&path, &mut into, 5000) == Ok(()));
-    assert!(rt; into.as_slice() == b"text".as_slice());
-    remove_file(&rt, &path)?;
-    assert!(rt; store.load("/dev/zero", &mut into, 5000) == Ok(()));
-    assert!(rt; into.len() == 5000);
-    assert!(rt; store.load(&path, &mut into, 5000) == Err(LoadFault::Failed));
-    assert!(rt;
-        store.load("/", &mut into, 5000) == Err(LoadFault::Failed),
-        "a directory"
-    );
-    assert!(rt;
-        store.save("/dev/full", b"abc") == Err(SaveFault::Failed),
-        "a full disk"
-    );
+    let loads = loads_what_is_saved(&mut store, &path, &mut into);
+    let removed = remove_file(&rt, &path);
+    let fails = fails_at_what_is_no_file(&mut store, &path, &mut into);
+    assert!(rt; loads && fails);
+    removed?;
     Ok(())
 }
 
 #[test]
 fn kinds_have_their_names(rt: HostRuntime) {
-    assert!(rt; TrapKind::DivideByZero.name() == "DivideByZero");
-    assert!(rt; MachineKind::BadService.name() == "BadService");
+    let names = [
+        TrapKind::DivideByZero.name(),
+        MachineKind::BadService.name(),
+    ];
+    assert!(rt; names == ["DivideByZero", "BadService"]);
 }

@@ -13,10 +13,11 @@ fn a_char_and_a_pointer_to_it(rt: HostRuntime) {
     let alloc = rt.alloc();
     let letter = integer(alloc, Integer::Char);
     assert!(rt; is_integer(&letter) && !is_word(&letter) && !decays(&letter));
-    assert!(rt; width_of(&letter) == Width::SignedByte);
+    assert!(rt; matches!(width_of(&letter), Width::SignedByte));
     let word = promoted_type(alloc, integer(alloc, Integer::Char));
     assert!(rt; is_word(&word) && conversion(&letter, &word).is_none());
-    assert!(rt; conversion(&word, &letter) == Some(UnKind::SignedByte));
+    let narrowed = conversion(&word, &letter);
+    assert!(rt; matches!(narrowed, Some(UnKind::SignedByte)));
     let pointer = over(Layer::Pointer, letter).expect(&rt, "memory");
     assert!(rt; is_pointer(&pointer) && is_word(&pointer));
     assert!(rt; is_integer(&inner(pointer)));

@@ -4,11 +4,23 @@ use mips_model::Service;
 
 #[test]
 fn services_have_their_numbers(rt: HostRuntime) {
-    assert!(rt; Service::from_number(1) == Some(Service::PutInt));
-    assert!(rt; Service::from_number(64) == Some(Service::Begin));
-    assert!(rt; Service::from_number(66) == Some(Service::Finish));
-    assert!(rt; Service::from_number(67) == Some(Service::Flush));
-    assert!(rt; Service::from_number(68) == Some(Service::Publish));
-    assert!(rt; Service::from_number(63).is_none());
-    assert!(rt; Service::from_number(69).is_none());
+    let found = [
+        Service::from_number(1),
+        Service::from_number(64),
+        Service::from_number(66),
+        Service::from_number(67),
+        Service::from_number(68),
+        Service::from_number(63),
+        Service::from_number(69),
+    ];
+    let wanted = [
+        Some(Service::PutInt),
+        Some(Service::Begin),
+        Some(Service::Finish),
+        Some(Service::Flush),
+        Some(Service::Publish),
+        None,
+        None,
+    ];
+    assert!(rt; found == wanted);
 }

@@ -1,0 +1,148 @@
+//! Expands lists of builder ops, a line each, and prints the words of the functions.
+//!
+//! A line is `TITLE | FORM | LIST`, with the form of `form` and the list in that of `lines`.
+
+ghost use Rattle.std.specs.Prelude.{◌≡◌, ℕ, ◌≤◌, length};
+ghost use Rattle.icode_ops.specs.Finished.{IsFinished};
+
+use crate::form::{self, Form};
+use crate::lines;
+use crate::lists::is_built;
+use icode_expand::expand;
+use icode_ir::{BuildOp, Builder};
+use icode_ops::Op;
+use std::io;
+
+// As many labels as a builder gives.
+const LABELS: usize = 196_608;
+
+// The most words that a line may have room for.
+const ROOM: usize = 1024;
+
+// So many words, from the first on.
+fn print_words<R: Print>(rt: &R, words: &[u32], count: usize) -> io::Result<()> {
+    for word in words.iter().take(count) {
+        print!(rt; " {word:08x}")?;
+    }
+    println!(rt; "")
+}
+
+// The words of the ops, or that there is no room for them.
+fn print_expanded<R: Print>(
+    rt: &R,
+    ops: &[Op],
+    form: Form,
+    places: &[u8],
+    labels: &mut [u32],
+    out: &mut [u32],
+) -> io::Result<()>
+    requires finished { (n : ℕ) × IsFinished ops.now n }
+    requires labels { length labels.old ≡ 196608 }
+    requires room { length out.old ≤ 1024 }
+{
+    if form.at > 0x0fff_0000 || form.frame > 16_777_216 || form.objects > 16_777_216 {
+        return println!(rt; " out of range");
+    }
+    match expand(
+        ops,
+        places,
+        form.at,
+        form.frame,
+        form.objects,
+        form.compiled,
+        labels,
+        out,
+    ) {
+        Ok(count) => print_words(rt, out, count),
+        Err(short) => println!(rt; " {short}"),
+    }
+}
+
+// The words of the ops, whose registers are at these places.
+fn report_placed<R: Print + AllocGlobal>(
+    rt: &R,
+    ops: &[Op],
+    form: Form,
+    places: &[u8],
+) -> io::Result<()>
+    requires { (n : ℕ) × IsFinished ops.now n }
+{
+    let mut labels = vec![in rt.alloc(); 0u32; LABELS]?;
+    let mut out = vec![in rt.alloc(); 0u32; form.room.min(ROOM)]?;
+    let printed = print_expanded(rt, ops, form, places, &mut labels, &mut out);
+    drop(out);
+    drop(labels);
+    printed
+}
+
+// The words of the ops, with the places that a text says.
+fn report_ops<R: Print + AllocGlobal>(
+    rt: &R,
+    ops: &[Op],
+    form: Form,
+    places: &str,
+) -> io::Result<()>
+    requires { (n : ℕ) × IsFinished ops.now n }
+{
+    match form::places(rt.alloc(), places)? {
+        Some(places) => {
+            let printed = report_placed(rt, ops, form, &places);
+            drop(places);
+            printed
+        }
+        None => println!(rt; " no list"),
+    }
+}
+
+// The line of one list.
+fn report<R: Print + AllocGlobal>(
+    rt: &R,
+    builder: &mut Builder,
+    form: Form,
+    places: &str,
+    parameters: u32,
+    ops: &[BuildOp],
+) -> io::Result<()> {
+    if is_built(rt, builder, parameters, ops)? {
+        report_ops(rt, builder.ops(), form, places)
+    } else {
+        Ok(())
+    }
+}
+
+// The line of the list that a text says.
+fn report_list<R: Print + AllocGlobal>(
+    rt: &R,
+    builder: &mut Builder,
+    form: Form,
+    places: &str,
+    list: &str,
+) -> io::Result<()> {
+    match lines::list(rt.alloc(), list)? {
+        Some((parameters, ops)) => {
+            let printed = report(rt, builder, form, places, parameters, &ops);
+            drop(ops);
+            printed
+        }
+        None => println!(rt; " no list"),
+    }
+}
+
+/// Prints what comes of a line.
+pub(crate) fn report_line<R: Print + AllocGlobal>(
+    rt: &R,
+    builder: &mut Builder,
+    line: &str,
+) -> io::Result<()> {
+    let Some((title, rest)) = line.split_once('|') else {
+        return println!(rt; "no title");
+    };
+    print!(rt; "{}:", title.trim())?;
+    let Some((form, list)) = rest.split_once('|') else {
+        return println!(rt; " no form");
+    };
+    match form::read(form) {
+        Some((form, places)) => report_list(rt, builder, form, places, list),
+        None => println!(rt; " no list"),
+    }
+}

@@ -1,0 +1,171 @@
+//! Calls the services that make code in the order of the lines of a file, and prints what they answer.
+//!
+//! A line is `TITLE | CALL; CALL; ..`, with calls in the form of the module `call`. A service prints its answer, or `!`
+//! and the number of the reason for which it is refused; the words of the arena are printed with a `*` behind those that
+//! are flushed. Each line has services of its own, and all lines have one arena and one function table.
+
+use crate::call::{self, Call};
+use code_arena::{CodeArena, FunctionRows};
+use icode_service::Service;
+use std::io;
+use word32::map;
+
+// As many spills as no line comes to.
+const MOST_SPILLS: u64 = 1 << 32;
+
+// The answer of a service, or the number of the reason for which it is refused.
+fn print_served<R: Print + AllocGlobal>(
+    rt: &R,
+    number: u32,
+    arguments: (u32, u32, u32),
+    service: &mut Service,
+    arena: &mut CodeArena,
+    rows: &mut FunctionRows,
+) -> io::Result<()> {
+    if service.spills() > MOST_SPILLS {
+        return print!(rt; " too many spills");
+    }
+    let (first, second, third) = arguments;
+    match service.serve(number, first, second, third, arena, rows) {
+        Ok(answer) => print!(rt; " {answer}"),
+        Err(why) => print!(rt; " !{}", why.number()),
+    }
+}
+
+// So many words of the arena, from a word on.
+fn print_words<R: Print + AllocGlobal>(
+    rt: &R,
+    first: u32,
+    count: u32,
+    arena: &CodeArena,
+) -> io::Result<()> {
+    for i in 0..count {
+        let word = u64::from(first) + u64::from(i);
+        if word >= u64::from(map::ARENA_WORDS) {
+            return print!(rt; " no word");
+        }
+        match arena.fetch(word as u32) {
+            Ok(word) => print!(rt; " {word:08x}*")?,
+            Err(_) => print!(rt; " {:08x}", arena.read(word as u32))?,
+        }
+    }
+    Ok(())
+}
+
+// Address and count of a row of the function table.
+fn print_row<R: Print + AllocGlobal>(rt: &R, row: u32, rows: &FunctionRows) -> io::Result<()> {
+    if row >= map::FUNCTION_ROWS {
+        return print!(rt; " no row");
+    }
+    let (address, count) = rows.get(row);
+    print!(rt; " {address:08x}/{count}")
+}
+
+// The places with commas between them.
+fn print_places<R: Print + AllocGlobal>(rt: &R, places: &[u8]) -> io::Result<()> {
+    print!(rt; " (")?;
+    for (i, place) in places.iter().enumerate() {
+        if i > 0 {
+            print!(rt; ",")?;
+        }
+        print!(rt; "{place}")?;
+    }
+    print!(rt; ")")
+}
+
+// What one call gives.
+fn print_call<R: Print + AllocGlobal>(
+    rt: &R,
+    text: &str,
+    service: &mut Service,
+    arena: &mut CodeArena,
+    rows: &mut FunctionRows,
+) -> io::Result<()> {
+    match call::read(text) {
+        Some(
+            Call::Serve {
+                number,
+                first,
+                second,
+                third,
+            },
+        ) => print_served(rt, number, (first, second, third), service, arena, rows),
+        Some(Call::Words { first, count }) => print_words(rt, first, count, arena),
+        Some(Call::Row { row }) => print_row(rt, row, rows),
+        Some(Call::Places) => print_places(rt, service.choices()),
+        Some(Call::Spills) => print!(rt; " {} spills", service.spills()),
+        None => print!(rt; " no call"),
+    }
+}
+
+// What the calls of a line give.
+fn print_calls<R: Print + AllocGlobal>(
+    rt: &R,
+    list: &str,
+    service: &mut Service,
+    arena: &mut CodeArena,
+    rows: &mut FunctionRows,
+) -> io::Result<()> {
+    for text in list.split(';') {
+        print_call(rt, text, service, arena, rows)?;
+    }
+    println!(rt; "")
+}
+
+// What a list gives, under services of its own.
+fn report<R: Print + AllocGlobal>(
+    rt: &R,
+    list: &str,
+    arena: &mut CodeArena,
+    rows: &mut FunctionRows,
+) -> io::Result<()> {
+    let mut service = Service::new(rt.alloc())?;
+    let printed = print_calls(rt, list, &mut service, arena, rows);
+    drop(service);
+    printed
+}
+
+// The title and what the list of one line gives.
+fn report_line<R: Print + AllocGlobal>(
+    rt: &R,
+    line: &str,
+    arena: &mut CodeArena,
+    rows: &mut FunctionRows,
+) -> io::Result<()> {
+    match line.split_once('|') {
+        Some((title, list)) => {
+            print!(rt; "{}:", title.trim())?;
+            report(rt, list, arena, rows)
+        }
+        None => println!(rt; "no title"),
+    }
+}
+
+fn report_lines<R: Print + AllocGlobal>(
+    rt: &R,
+    file: &[u8],
+    arena: &mut CodeArena,
+    rows: &mut FunctionRows,
+) -> io::Result<()> {
+    for line in file.split(|b| *b == b'\n') {
+        if !line.is_empty() {
+            report_line(rt, str::from_utf8(line).unwrap_or("?"), arena, rows)?;
+        }
+    }
+    Ok(())
+}
+
+fn report_in<R: Print + AllocGlobal>(rt: &R, file: &[u8], arena: &mut CodeArena) -> io::Result<()> {
+    let mut rows = FunctionRows::new(rt.alloc())?;
+    let printed = report_lines(rt, file, arena, &mut rows);
+    drop(rows);
+    printed
+}
+
+/// Prints what the calls of each line of a file give. An empty line is none.
+pub(crate) fn report_file<R: Print + AllocGlobal>(rt: &R, file: &[u8]) -> io::Result<()> {
+    let mut arena = CodeArena::new(rt.alloc())?;
+    let printed = report_in(rt, file, &mut arena);
+    drop(arena);
+    printed
+}

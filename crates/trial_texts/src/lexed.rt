@@ -1,0 +1,38 @@
+//! Prints the tokens of texts, or their first fault, a line each.
+
+ghost use Rattle.std.specs.Prelude.{◌≤◌, length};
+ghost use Rattle.limits.specs.declared.text.TheConstants.{LONGEST_TEXT};
+
+use crate::report_deny;
+use c_lexer::tokens;
+use std::io;
+use tick_tree::Token;
+
+// A list of up to a hundred tokens in full, each as KIND@PLACE+LENGTH:LINE, and of a longer one the count.
+fn print_tokens<R: Print>(rt: &R, title: &str, found: &[Token]) -> io::Result<()> {
+    print!(rt; "{title}:")?;
+    if 100 < found.len() {
+        return println!(rt; " {} tokens", found.len());
+    }
+    for token in found {
+        print!(rt;
+            " {:?}@{}+{}:{}",
+            token.kind, token.at, token.len, token.line
+        )?;
+    }
+    println!(rt; "")
+}
+
+/// Prints the line of a text.
+pub(crate) fn report<R: Print + AllocGlobal>(rt: &R, title: &str, text: &[u8]) -> io::Result<()>
+    requires { length text.now ≤ LONGEST_TEXT }
+{
+    match tokens(rt.alloc(), text) {
+        Ok(found) => {
+            let printed = print_tokens(rt, title, &found);
+            drop(found);
+            printed
+        }
+        Err(why) => report_deny(rt, title, why),
+    }
+}

@@ -1,0 +1,29 @@
+//! Prints how many items the trees of texts have, or their first fault, a line each.
+
+ghost use Rattle.std.specs.Prelude.{◌≤◌, length};
+ghost use Rattle.limits.specs.declared.text.TheConstants.{LONGEST_TEXT};
+
+use crate::tree_of;
+use std::io;
+use tick_tree::Deny;
+
+/// Prints the line of a text.
+pub(crate) fn report<R: Print + AllocGlobal>(rt: &R, title: &str, text: &[u8]) -> io::Result<()>
+    requires { length text.now ≤ LONGEST_TEXT }
+{
+    match tree_of(rt.alloc(), text) {
+        Ok(tree) => {
+            let printed = println!(rt; "{title}: a tree of {} items", tree.items().len());
+            drop(tree);
+            printed
+        }
+        Err(Deny::Refused(fault)) => println!(rt;
+            "{title}: {} {} on line {} at token {}",
+            fault.kind.number(),
+            fault.kind.name(),
+            fault.line,
+            fault.token
+        ),
+        Err(Deny::NoMemory) => println!(rt; "{title}: no memory"),
+    }
+}
