@@ -3,7 +3,7 @@
 use mips_encoder::Immediate;
 
 /// An operand of an instruction in text.
-#[derive(Clone, Copy, Debug, PartialEq, Eq)]
+#[derive(Clone, Copy)]
 pub enum Operand {
     /// A general register, by its number.
     Numbered(u32),

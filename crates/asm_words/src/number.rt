@@ -17,7 +17,7 @@ ghost use Rattle.asm_words.specs.Numbers as spec;
 use mips_encoder::Immediate;
 
 /// How digits are read.
-#[derive(Clone, Copy, Debug, PartialEq, Eq)]
+#[derive(Clone, Copy, PartialEq, Eq)]
 pub enum Base {
     /// `0` to `9`.
     Decimal,
@@ -26,7 +26,7 @@ pub enum Base {
 }
 
 /// What a word of the form of a number says.
-#[derive(Clone, Copy, Debug, PartialEq, Eq)]
+#[derive(Clone, Copy, PartialEq, Eq)]
 pub struct Number {
     /// Whether a minus sign stands before it.
     pub negative: bool,

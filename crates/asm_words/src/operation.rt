@@ -13,7 +13,7 @@ use mips_encoder::{
 };
 
 /// An operation that a line names, one variant for each form of operands.
-#[derive(Clone, Copy, Debug, PartialEq, Eq)]
+#[derive(Clone, Copy)]
 pub enum Operation {
     /// rd, rs, rt.
     Arithmetic(ArithmeticOp),

@@ -14,7 +14,7 @@ use lex_words::{Sign, keyword_of, sign_at};
 use tick_tree::{FaultKind, TokenKind};
 
 /// What stands at a place.
-#[derive(Clone, Copy, Debug)]
+#[derive(Clone, Copy)]
 pub(crate) enum Piece {
     /// Blanks or a comment, of so many bytes.
     Gap(usize),

@@ -3,7 +3,7 @@
 use sqlite_items::Items;
 
 /// The integer types; `long` is `Int`.
-#[derive(Clone, Copy, Debug, PartialEq, Eq)]
+#[derive(Clone, Copy, PartialEq, Eq)]
 pub enum Integer {
     /// 8 bits, signed.
     Char,
@@ -20,7 +20,7 @@ pub enum Integer {
 }
 
 /// What a type begins with.
-#[derive(Clone, Copy, Debug, PartialEq, Eq)]
+#[derive(Clone, Copy, PartialEq, Eq)]
 pub enum Base {
     /// No value.
     Void,

@@ -9,7 +9,7 @@ use std::alloc::{AllocError, Global};
 use typed_tree::{CaptureKind, Tick, TickBody};
 
 /// A capture of a tick.
-#[derive(Clone, Copy, Debug, PartialEq, Eq)]
+#[derive(Clone, Copy, PartialEq, Eq)]
 pub struct Capture {
     /// What is captured.
     pub kind: CaptureKind,

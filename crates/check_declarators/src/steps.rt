@@ -9,7 +9,7 @@ use std::alloc::{AllocError, Global};
 use tick_tree::Prefix;
 
 /// What stands between the brackets of an array.
-#[derive(Clone, Copy, Debug, PartialEq, Eq)]
+#[derive(Clone, Copy)]
 pub enum Length {
     /// Nothing.
     Absent,
@@ -37,7 +37,7 @@ pub enum Step {
 }
 
 /// What a type is declared for.
-#[derive(Clone, Copy, Debug, PartialEq, Eq)]
+#[derive(Clone, Copy)]
 pub enum Role {
     /// A type name: of a cast, of `sizeof`, `compile`, `local` or `param`.
     Typename,

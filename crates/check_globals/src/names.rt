@@ -19,7 +19,7 @@ use tick_tree::{Declarator, Deny, FaultKind, refused};
 use word32::map::OBJECTS;
 
 /// What a name at file scope is already.
-#[derive(Clone, Copy, Debug, PartialEq, Eq)]
+#[derive(Clone, Copy)]
 pub(crate) enum Before {
     /// It has no meaning.
     Nothing,

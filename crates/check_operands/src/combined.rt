@@ -4,7 +4,7 @@ use c_types::Integer;
 use icode_ops::BinKind;
 
 /// How an operator takes two values, by their types.
-#[derive(Clone, Copy, Debug, PartialEq, Eq)]
+#[derive(Clone, Copy)]
 pub enum Combined {
     /// The words as they are; the answer has this integer type.
     Words(BinKind, Integer),
@@ -17,7 +17,7 @@ pub enum Combined {
 }
 
 /// Which type `? a : b` has.
-#[derive(Clone, Copy, Debug, PartialEq, Eq)]
+#[derive(Clone, Copy)]
 pub enum Joined {
     /// Void, as both are.
     Void,

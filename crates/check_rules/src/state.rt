@@ -15,7 +15,7 @@ use std::alloc::{AllocError, Global};
 use tick_tree::Deny;
 
 /// How far an expression is from running: which of its parts run when the function runs.
-#[derive(Clone, Copy, Debug, PartialEq, Eq)]
+#[derive(Clone, Copy)]
 pub enum Stage {
     /// It runs when its function runs.
     Function,
@@ -26,7 +26,7 @@ pub enum Stage {
 }
 
 /// What stands round a statement.
-#[derive(Clone, Copy, Debug, PartialEq, Eq)]
+#[derive(Clone, Copy)]
 pub struct Around {
     /// Which part of the program it runs in.
     pub stage: Stage,

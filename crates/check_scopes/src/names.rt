@@ -14,7 +14,7 @@ use std::marker::Model;
 use thiserror::Error;
 
 /// What kind of thing a name means.
-#[derive(Clone, Copy, Debug, PartialEq, Eq)]
+#[derive(Clone, Copy)]
 pub enum MeaningKind {
     /// A variable of a block.
     Variable,
@@ -40,7 +40,7 @@ pub struct Meaning {
 }
 
 /// Why a name was not declared.
-#[derive(Clone, Copy, Debug, PartialEq, Eq, Error)]
+#[derive(Clone, Copy, Debug, Error)]
 pub enum DeclareFault {
     /// The innermost scope has the name.
     #[error("the innermost scope has the name already")]

@@ -14,7 +14,7 @@ use std::mem;
 use typed_tree::Stmt;
 
 /// Where a variable of a function stands.
-#[derive(Clone, Copy, Debug, PartialEq, Eq)]
+#[derive(Clone, Copy, PartialEq, Eq)]
 pub enum Home {
     /// In the register variable of its own number.
     Register,

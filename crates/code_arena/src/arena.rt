@@ -11,7 +11,7 @@ use thiserror::Error;
 use word32::map;
 
 /// What was done to a word of the arena last.
-#[derive(Clone, Copy, Debug, PartialEq, Eq)]
+#[derive(Clone, Copy)]
 pub enum WordState {
     /// Nothing: the word is 0.
     Unwritten,

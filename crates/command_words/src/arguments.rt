@@ -8,7 +8,7 @@ use crate::MOST_DIGITS;
 use limits::run::{DEFAULT_STEPS, MOST_STEPS};
 
 /// The operands that were given, in their order.
-#[derive(Clone, Copy, Debug, Drop)]
+#[derive(Clone, Copy, Drop)]
 pub enum Operands<'a> {
     /// None.
     None,
@@ -19,7 +19,7 @@ pub enum Operands<'a> {
 }
 
 /// What words gave.
-#[derive(Clone, Copy, Debug, Drop)]
+#[derive(Clone, Copy, Drop)]
 pub struct Given<'a> {
     /// The operands.
     pub operands: Operands<'a>,
@@ -28,7 +28,7 @@ pub struct Given<'a> {
 }
 
 /// What may come next.
-#[derive(Clone, Copy, Debug, Drop)]
+#[derive(Clone, Copy, Drop)]
 pub struct Wanted {
     /// So many operands, at most two.
     pub operands: u32,
@@ -89,7 +89,7 @@ pub fn number_of(word: &str, most: u64) -> Option<u64>
 }
 
 // What a word is where it can come next.
-#[derive(Clone, Copy, Debug, Drop)]
+#[derive(Clone, Copy, Drop)]
 enum Piece<'a> {
     // An operand.
     Operand(&'a str),

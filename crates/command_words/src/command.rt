@@ -6,7 +6,7 @@ use crate::arguments::{Given, Operands, Wanted, arguments, number_of};
 use limits::text::LARGEST_SOURCE;
 
 /// A command, with its operands.
-#[derive(Clone, Copy, Debug, Drop)]
+#[derive(Clone, Copy, Drop)]
 pub enum Command<'a> {
     /// `run FILE`: builds the text of the file and runs its image on the input, for at most so many instructions.
     Run(&'a str, u64),
@@ -105,7 +105,7 @@ fn source_behind(words: &[String]) -> Result<u32, u64>
 }
 
 // The names of commands.
-#[derive(Clone, Copy, Debug, Drop)]
+#[derive(Clone, Copy, Drop)]
 enum Name {
     Run,
     Build,

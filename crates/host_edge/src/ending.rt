@@ -92,7 +92,7 @@ impl MachineKind {
 }
 
 /// How a program ends by its own doing: with a status, or by a trap.
-#[derive(Clone, Copy, Debug, PartialEq, Eq)]
+#[derive(Clone, Copy, PartialEq, Eq)]
 pub enum Ending {
     /// The answer of `main` or the argument of `exit`, modulo 256.
     Done(u8),
@@ -101,7 +101,7 @@ pub enum Ending {
 }
 
 /// What is counted while a machine runs, over the services that it doesn't refuse.
-#[derive(Clone, Copy, Debug, PartialEq, Eq)]
+#[derive(Clone, Copy)]
 pub struct Counts {
     /// Builder ops that were emitted.
     pub ops: u64,

@@ -1,7 +1,7 @@
 //! A body that was entered.
 
 /// What a body owns: registers for its variables, and labels.
-#[derive(Clone, Copy, Debug, PartialEq, Eq, Drop)]
+#[derive(Clone, Copy, Drop)]
 pub struct Body {
     /// The register of variable 0; the others follow.
     pub first_variable: u32,

@@ -11,7 +11,7 @@ use std::marker::Model;
 use word32::map::SEGMENT_BYTES;
 
 /// How many arguments a call passes: at most `MOST_ARGUMENTS`.
-#[derive(Clone, Copy, Debug, PartialEq, Eq)]
+#[derive(Clone, Copy, Debug)]
 pub struct ArgumentCount {
     count: u32,
 }
@@ -51,7 +51,7 @@ impl ArgumentCount {
 }
 
 /// Which argument of a call, or which parameter of a function, counted from 0: below `MOST_ARGUMENTS`.
-#[derive(Clone, Copy, Debug, PartialEq, Eq)]
+#[derive(Clone, Copy, Debug)]
 pub struct ArgumentIndex {
     index: u32,
 }
@@ -91,7 +91,7 @@ impl ArgumentIndex {
 }
 
 /// Which captured word of a closure, counted from 0: below `MOST_CAPTURES`.
-#[derive(Clone, Copy, Debug, PartialEq, Eq)]
+#[derive(Clone, Copy, Debug)]
 pub struct CaptureIndex {
     index: u32,
 }
@@ -131,7 +131,7 @@ impl CaptureIndex {
 }
 
 /// The address of a function that is called by a jump: a multiple of 4 below `SEGMENT_BYTES`, in bytes.
-#[derive(Clone, Copy, Debug, PartialEq, Eq)]
+#[derive(Clone, Copy, Debug)]
 pub struct CallAddress {
     address: u32,
 }

@@ -1,7 +1,7 @@
 //! The range of ops that a register takes part in.
 
 /// The interval of a register: from the first op that it is at to the last, ops being numbered from 0.
-#[derive(Clone, Copy, Debug, PartialEq, Eq)]
+#[derive(Clone, Copy, PartialEq, Eq)]
 pub struct Interval {
     /// The virtual register.
     pub reg: u32,

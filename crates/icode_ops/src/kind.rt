@@ -5,7 +5,7 @@ ghost use Rattle.icode_ops.specs.Kinds.{bin_number, un_number, sys_number, run_n
 
 /// The kind of an operator of two operands, on words of 32 bits.
 /// The numbers 1 to 23 are those of the services that take builder ops.
-#[derive(Clone, Copy, Debug, PartialEq, Eq)]
+#[derive(Clone, Copy, Debug)]
 pub enum BinKind {
     /// 1: the sum, which wraps.
     Add,
@@ -56,7 +56,7 @@ pub enum BinKind {
 }
 
 /// The kind of an operator of one operand. The numbers 1 to 7 are those of the services that take builder ops.
-#[derive(Clone, Copy, Debug, PartialEq, Eq)]
+#[derive(Clone, Copy, Debug)]
 pub enum UnKind {
     /// 1: 0 less the word, which wraps.
     Negate,
@@ -75,7 +75,7 @@ pub enum UnKind {
 }
 
 /// A service of the machine that static and compiled code may ask for.
-#[derive(Clone, Copy, Debug, PartialEq, Eq)]
+#[derive(Clone, Copy, Debug)]
 pub enum SysKind {
     /// 1: writes the word as a signed decimal number, and answers it.
     PutInteger,
@@ -88,7 +88,7 @@ pub enum SysKind {
 }
 
 /// A routine of the run-time library.
-#[derive(Clone, Copy, Debug, PartialEq, Eq)]
+#[derive(Clone, Copy, Debug)]
 pub enum RunKind {
     /// 1: takes memory of the heap.
     Malloc,
@@ -109,7 +109,7 @@ pub enum RunKind {
 }
 
 /// What a closure that `New` makes specifies.
-#[derive(Clone, Copy, Debug, PartialEq, Eq)]
+#[derive(Clone, Copy, Debug)]
 pub enum ClosureKind {
     /// 1: an expression.
     Expression,

@@ -9,7 +9,7 @@ use word32::Width;
 
 /// An op of the intermediate code. Registers are virtual and numbered from 0, and so are labels.
 /// `to` is the register that the op defines. Words have 32 bits; offsets and addresses are in bytes.
-#[derive(Clone, Copy, Debug, PartialEq, Eq)]
+#[derive(Clone, Copy, Debug)]
 pub enum Op {
     /// Puts the word into `to`.
     Const {

@@ -7,7 +7,7 @@ use std::alloc::{AllocError, AllocFailed};
 use thiserror::Error;
 
 /// The rule of the image format that bytes break, numbered from 1 in this order.
-#[derive(Clone, Copy, Debug, PartialEq, Eq, Error)]
+#[derive(Clone, Copy, Debug, Error)]
 pub enum ImageFault {
     /// The header's 24 bytes or the parts that it counts are not all there.
     #[error("the image's parts are not all there")]
@@ -46,7 +46,7 @@ impl ImageFault {
 }
 
 /// Why `read` gives no image.
-#[derive(Clone, Copy, Debug, PartialEq, Eq, Error)]
+#[derive(Clone, Copy, Debug, Error)]
 pub enum ImageDeny {
     /// The bytes are no image: the first rule that they break.
     #[error("{0}")]

@@ -6,7 +6,7 @@ ghost use Rattle.image_file.specs.Image.{IsImage, image_of};
 use std::marker::Model;
 
 /// A function of an image: the address of its first word in bytes, and how many arguments it takes.
-#[derive(Clone, Copy, Debug, PartialEq, Eq)]
+#[derive(Clone, Copy, PartialEq, Eq)]
 pub struct FunctionEntry {
     /// The address of the function's first word.
     pub address: u32,

@@ -7,7 +7,7 @@ use crate::byte_at;
 use crate::numbers::{Base, digit_count, is_digit, number};
 
 /// A character of a literal.
-#[derive(Clone, Copy, Debug, PartialEq, Eq)]
+#[derive(Clone, Copy)]
 pub struct Character {
     /// Its length in bytes, the `\` of an escape with it.
     pub len: usize,

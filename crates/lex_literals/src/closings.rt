@@ -7,7 +7,7 @@ use crate::characters::character_at;
 use std::alloc::AllocError;
 
 /// How a literal ends.
-#[derive(Clone, Copy, Debug, PartialEq, Eq)]
+#[derive(Clone, Copy, PartialEq, Eq)]
 pub enum Closing {
     /// At its closing quote: after so many bytes behind the opening quote, the closing one with them, and so many characters.
     Closed(usize, usize),

@@ -7,7 +7,7 @@ ghost use Rattle.lex_literals.specs.Literals as spec;
 use crate::byte_at;
 
 /// How digits are read.
-#[derive(Clone, Copy, Debug)]
+#[derive(Clone, Copy)]
 pub(crate) enum Base {
     Octal,
     Decimal,
@@ -15,7 +15,7 @@ pub(crate) enum Base {
 }
 
 /// A number token.
-#[derive(Clone, Copy, Debug, PartialEq, Eq)]
+#[derive(Clone, Copy, PartialEq, Eq)]
 pub struct Numeral {
     /// Its length in bytes, with the suffix.
     pub len: usize,

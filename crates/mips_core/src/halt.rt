@@ -3,7 +3,7 @@
 use host_edge::{Ending, MachineKind};
 
 /// How a run ended at an instruction that isn't a service.
-#[derive(Clone, Copy, Debug, Drop, PartialEq, Eq)]
+#[derive(Clone, Copy, Drop)]
 pub enum Halt {
     /// The program ended by a trap of its own.
     Ended(Ending),
@@ -12,7 +12,7 @@ pub enum Halt {
 }
 
 /// What became of an instruction.
-#[derive(Clone, Copy, Debug, PartialEq, Eq)]
+#[derive(Clone, Copy)]
 pub enum Went {
     /// It was executed, and the run goes on at this address.
     On(u32),

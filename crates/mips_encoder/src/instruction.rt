@@ -4,7 +4,7 @@ use crate::operand::{BreakCode, Immediate, JumpTarget, LinkPair, LinkSource, Shi
 use crate::register::Register;
 
 /// Operations on two registers, with a register for the result.
-#[derive(Clone, Copy, PartialEq, Eq, Debug)]
+#[derive(Clone, Copy)]
 pub enum ArithmeticOp {
     /// Sum, which stops with an overflow where the signed sum doesn't fit.
     Add,
@@ -29,7 +29,7 @@ pub enum ArithmeticOp {
 }
 
 /// Shifts by a number of bits that stands in the word.
-#[derive(Clone, Copy, PartialEq, Eq, Debug)]
+#[derive(Clone, Copy)]
 pub enum ShiftOp {
     /// Left, with zeros.
     Sll,
@@ -40,7 +40,7 @@ pub enum ShiftOp {
 }
 
 /// Shifts by the low five bits of a register.
-#[derive(Clone, Copy, PartialEq, Eq, Debug)]
+#[derive(Clone, Copy)]
 pub enum ShiftVariableOp {
     /// Left, with zeros.
     Sllv,
@@ -51,7 +51,7 @@ pub enum ShiftVariableOp {
 }
 
 /// The two registers that products and quotients go to.
-#[derive(Clone, Copy, PartialEq, Eq, Debug)]
+#[derive(Clone, Copy)]
 pub enum HiLo {
     /// HI: a product's high word, or a remainder.
     Hi,
@@ -60,7 +60,7 @@ pub enum HiLo {
 }
 
 /// Products and quotients, which go to HI and LO.
-#[derive(Clone, Copy, PartialEq, Eq, Debug)]
+#[derive(Clone, Copy)]
 pub enum MultiplyDivideOp {
     /// Signed product.
     Mult,
@@ -73,7 +73,7 @@ pub enum MultiplyDivideOp {
 }
 
 /// How a register's signed number is compared with 0, with or without a link.
-#[derive(Clone, Copy, PartialEq, Eq, Debug)]
+#[derive(Clone, Copy)]
 pub enum SignTest {
     /// Less than 0: BLTZ and BLTZAL.
     Negative,
@@ -82,7 +82,7 @@ pub enum SignTest {
 }
 
 /// Jumps to a target that stands in the word.
-#[derive(Clone, Copy, PartialEq, Eq, Debug)]
+#[derive(Clone, Copy)]
 pub enum JumpOp {
     /// Without a link.
     J,
@@ -91,7 +91,7 @@ pub enum JumpOp {
 }
 
 /// Branches that compare two registers.
-#[derive(Clone, Copy, PartialEq, Eq, Debug)]
+#[derive(Clone, Copy)]
 pub enum EqualityOp {
     /// Where they are equal.
     Beq,
@@ -100,7 +100,7 @@ pub enum EqualityOp {
 }
 
 /// The other branches that compare a register's signed number with 0.
-#[derive(Clone, Copy, PartialEq, Eq, Debug)]
+#[derive(Clone, Copy)]
 pub enum ZeroComparisonOp {
     /// Where it is at most 0.
     Blez,
@@ -109,7 +109,7 @@ pub enum ZeroComparisonOp {
 }
 
 /// Operations on a register and an immediate, with a register for the result.
-#[derive(Clone, Copy, PartialEq, Eq, Debug)]
+#[derive(Clone, Copy)]
 pub enum ImmediateOp {
     /// Sum with the signed immediate, which stops with an overflow where the signed sum doesn't fit.
     Addi,
@@ -128,7 +128,7 @@ pub enum ImmediateOp {
 }
 
 /// Loads and stores.
-#[derive(Clone, Copy, PartialEq, Eq, Debug)]
+#[derive(Clone, Copy)]
 pub enum MemoryOp {
     /// Loads a byte with its sign.
     Lb,
@@ -149,7 +149,7 @@ pub enum MemoryOp {
 }
 
 /// An instruction of the table. Every value has a word, and each word of the table has one value.
-#[derive(Clone, Copy, PartialEq, Eq, Debug)]
+#[derive(Clone, Copy)]
 pub enum Instr {
     /// rd, rs, rt.
     Arithmetic(ArithmeticOp, Register, Register, Register),

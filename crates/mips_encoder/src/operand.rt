@@ -20,7 +20,7 @@ use crate::register::Register;
 use std::marker::Model;
 
 /// A count of bits to shift by, from 0 to 31.
-#[derive(Clone, Copy, PartialEq, Eq, Debug)]
+#[derive(Clone, Copy)]
 pub struct ShiftAmount {
     bits: u32,
 }
@@ -67,7 +67,7 @@ impl ShiftAmount {
 }
 
 /// The code of a BREAK, a number of 20 bits.
-#[derive(Clone, Copy, PartialEq, Eq, Debug)]
+#[derive(Clone, Copy)]
 pub struct BreakCode {
     code: u32,
 }
@@ -114,7 +114,7 @@ impl BreakCode {
 }
 
 /// The target of J and JAL: the number of a word, of 26 bits, so that its address is a multiple of 4 below 0x10000000.
-#[derive(Clone, Copy, PartialEq, Eq, Debug)]
+#[derive(Clone, Copy)]
 pub struct JumpTarget {
     index: u32,
 }
@@ -170,7 +170,7 @@ impl JumpTarget {
 }
 
 /// The 16 bits of an immediate or of an offset. Where the instruction takes them with a sign, bit 15 is the sign.
-#[derive(Clone, Copy, PartialEq, Eq, Debug)]
+#[derive(Clone, Copy)]
 pub struct Immediate {
     bits: u32,
 }
@@ -233,7 +233,7 @@ impl Immediate {
 }
 
 /// The register that BLTZAL and BGEZAL test. It is not register 31, which they write.
-#[derive(Clone, Copy, PartialEq, Eq, Debug)]
+#[derive(Clone, Copy)]
 pub struct LinkSource {
     number: u32,
 }
@@ -281,7 +281,7 @@ impl LinkSource {
 }
 
 /// The registers of a JALR: `rd` takes the address to return to, `rs` holds the target. They differ.
-#[derive(Clone, Copy, PartialEq, Eq, Debug)]
+#[derive(Clone, Copy)]
 pub struct LinkPair {
     rd: u32,
     rs: u32,

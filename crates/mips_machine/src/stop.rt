@@ -3,7 +3,7 @@
 use host_edge::{Ending, MachineKind};
 
 /// How one call of `run` came to its end.
-#[derive(Clone, Copy, Debug, Drop, PartialEq, Eq)]
+#[derive(Clone, Copy, Drop, PartialEq, Eq)]
 pub enum Stop {
     /// The program ended by its own doing.
     Ended(Ending),

@@ -3,7 +3,7 @@ ghost use Rattle.std.specs.Prelude.{◌≡◌};
 ghost use Rattle.mips_model.specs.Services.{service_of};
 
 /// A service, by the number in `$v0`. Its arguments are in `$a0` to `$a2`, and its answer goes to `$v0`.
-#[derive(Clone, Copy, Debug, PartialEq, Eq)]
+#[derive(Clone, Copy, PartialEq, Eq)]
 pub enum Service {
     /// Number 1: writes the argument in signed decimal, and answers it.
     PutInt,

@@ -7,7 +7,7 @@ use std::alloc::{AllocError, AllocFailed};
 use thiserror::Error;
 
 /// What is wrong in a line, numbered from 1 in this order.
-#[derive(Clone, Copy, Debug, PartialEq, Eq, Error)]
+#[derive(Clone, Copy, Debug, Error)]
 pub enum AsmFaultKind {
     /// The line has another form, it is a second `.entry`, or it is the first line of a text without a word.
     #[error("a line has a wrong form")]
@@ -52,7 +52,7 @@ impl AsmFaultKind {
 }
 
 /// The first fault of a text.
-#[derive(Clone, Copy, Debug, PartialEq, Eq, Error)]
+#[derive(Clone, Copy, Debug, Error)]
 #[error("line {line}: {kind}")]
 pub struct AsmFault {
     /// What is wrong.
@@ -62,7 +62,7 @@ pub struct AsmFault {
 }
 
 /// Why `assemble` gives no image.
-#[derive(Clone, Copy, Debug, PartialEq, Eq, Error)]
+#[derive(Clone, Copy, Debug, Error)]
 pub enum AsmDeny {
     /// The text is no image: its first fault.
     #[error("{0}")]

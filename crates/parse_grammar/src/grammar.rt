@@ -13,7 +13,7 @@ use std::alloc::Global;
 use tick_tree::{Declarator, Expr, StepOp, Stmt};
 
 /// An expression that may stand one level deeper.
-#[derive(Clone, Copy, Debug, PartialEq, Eq)]
+#[derive(Clone, Copy)]
 pub enum Part {
     /// With commas.
     Whole,
@@ -26,7 +26,7 @@ pub enum Part {
 }
 
 /// Whether a declarator has a name.
-#[derive(Clone, Copy, Debug, PartialEq, Eq)]
+#[derive(Clone, Copy)]
 pub enum Mode {
     /// It has one: it declares.
     Named,
@@ -37,7 +37,7 @@ pub enum Mode {
 }
 
 /// An operator behind its operand.
-#[derive(Clone, Copy, Debug, PartialEq, Eq)]
+#[derive(Clone, Copy)]
 pub enum Postfix {
     /// `[`
     Index,

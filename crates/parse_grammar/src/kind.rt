@@ -3,7 +3,7 @@
 use tick_tree::{BinaryOp, ModifyOp, StepOp, UnaryOp};
 
 /// A word that a base is made of.
-#[derive(Clone, Copy, Debug, PartialEq, Eq)]
+#[derive(Clone, Copy)]
 pub enum BaseWord {
     /// `void`
     Void,
@@ -22,7 +22,7 @@ pub enum BaseWord {
 }
 
 /// A word that begins a statement.
-#[derive(Clone, Copy, Debug, PartialEq, Eq)]
+#[derive(Clone, Copy)]
 pub enum Word {
     /// `if`
     If,
@@ -47,7 +47,7 @@ pub enum Word {
 }
 
 /// A token that opens, closes or separates.
-#[derive(Clone, Copy, Debug, PartialEq, Eq)]
+#[derive(Clone, Copy)]
 pub enum Mark {
     /// `{`
     BraceOpen,
@@ -80,7 +80,7 @@ pub enum Mark {
 }
 
 /// The kind of a token. Tokens that the grammar treats alike have one kind.
-#[derive(Clone, Copy, Debug, PartialEq, Eq)]
+#[derive(Clone, Copy)]
 pub enum Kind {
     /// The end of the text.
     End,

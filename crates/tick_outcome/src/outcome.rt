@@ -8,7 +8,7 @@ use mips_text::AsmFault;
 use tick_tree::Fault;
 
 /// The outcome of a command.
-#[derive(Clone, Copy, Debug, Drop, PartialEq, Eq)]
+#[derive(Clone, Copy, Drop)]
 pub enum Outcome {
     /// The command did all that it says; of a run, `main`'s answer or `exit`'s argument modulo 256, else 0.
     Done(u8),

@@ -1,7 +1,7 @@
 //! Base types, prefixes and operators, as the words and signs of a text give them.
 
 /// The word that says whether an integer type has negative values.
-#[derive(Clone, Copy, Debug, PartialEq, Eq)]
+#[derive(Clone, Copy, PartialEq, Eq)]
 pub enum Signedness {
     /// `signed`
     Signed,
@@ -12,7 +12,7 @@ pub enum Signedness {
 /// The words that begin a declaration or a type name.
 ///
 /// A sign may stand before each of them but `void`, and alone. `short` and `long` may have `int` behind them.
-#[derive(Clone, Copy, Debug, PartialEq, Eq)]
+#[derive(Clone, Copy, PartialEq, Eq)]
 pub enum Base {
     /// `void`
     Void,
@@ -29,7 +29,7 @@ pub enum Base {
 }
 
 /// What stands before the name of a declarator, applied from left to right.
-#[derive(Clone, Copy, Debug, PartialEq, Eq)]
+#[derive(Clone, Copy)]
 pub enum Prefix {
     /// `*`
     Star,
@@ -40,7 +40,7 @@ pub enum Prefix {
 }
 
 /// An operator before its operand.
-#[derive(Clone, Copy, Debug, PartialEq, Eq)]
+#[derive(Clone, Copy)]
 pub enum UnaryOp {
     /// `+`
     Plus,
@@ -63,7 +63,7 @@ pub enum UnaryOp {
 }
 
 /// An operator behind its operand.
-#[derive(Clone, Copy, Debug, PartialEq, Eq)]
+#[derive(Clone, Copy)]
 pub enum StepOp {
     /// `++`
     Increment,
@@ -72,7 +72,7 @@ pub enum StepOp {
 }
 
 /// An operator between two operands, other than a comma or an assignment.
-#[derive(Clone, Copy, Debug, PartialEq, Eq)]
+#[derive(Clone, Copy)]
 pub enum BinaryOp {
     /// `*`
     Mul,
@@ -113,7 +113,7 @@ pub enum BinaryOp {
 }
 
 /// The operator that an assignment such as `+=` joins with `=`.
-#[derive(Clone, Copy, Debug, PartialEq, Eq)]
+#[derive(Clone, Copy)]
 pub enum ModifyOp {
     /// `*=`
     Mul,

@@ -164,7 +164,7 @@ pub struct Fault {
 }
 
 /// Why a stage of the front gives no answer.
-#[derive(Clone, Copy, Debug, PartialEq, Eq, Error)]
+#[derive(Clone, Copy, Debug, Error)]
 pub enum Deny {
     /// The text has this fault.
     #[error("{0}")]

@@ -1,7 +1,7 @@
 //! The tokens of a text.
 
 /// What a token is.
-#[derive(Clone, Copy, Debug, PartialEq, Eq)]
+#[derive(Clone, Copy, Debug)]
 pub enum TokenKind {
     /// A letter or `_`, then letters, digits and `_`, and no keyword.
     Name,
@@ -18,7 +18,7 @@ pub enum TokenKind {
 }
 
 /// One token of a text.
-#[derive(Clone, Copy, Debug, PartialEq, Eq)]
+#[derive(Clone, Copy)]
 pub struct Token {
     /// What it is.
     pub kind: TokenKind,

@@ -9,7 +9,7 @@ use sqlite_items::{Boxed, Items};
 use word32::Width;
 
 /// Whether an expression leaves a value.
-#[derive(Clone, Copy, Debug, PartialEq, Eq)]
+#[derive(Clone, Copy, PartialEq, Eq)]
 pub enum Answer {
     /// It leaves one word.
     Value,
@@ -18,7 +18,7 @@ pub enum Answer {
 }
 
 /// A library function of one argument.
-#[derive(Clone, Copy, Debug, PartialEq, Eq)]
+#[derive(Clone, Copy)]
 pub enum Library {
     /// `int putchar(int)`: writes the argument modulo 256 as a byte, and answers that byte.
     Putchar,
@@ -31,7 +31,7 @@ pub enum Library {
 }
 
 /// What a tick captures as it is evaluated.
-#[derive(Clone, Copy, Debug, PartialEq, Eq)]
+#[derive(Clone, Copy, PartialEq, Eq)]
 pub enum CaptureKind {
     /// `$e`: the value of an expression.
     Dollar,
@@ -44,7 +44,7 @@ pub enum CaptureKind {
 }
 
 /// A word that a tick captured and that its code has as a constant.
-#[derive(Clone, Copy, Debug, PartialEq, Eq)]
+#[derive(Clone, Copy)]
 pub enum CapturedWord {
     /// The value of a `$e`.
     Dollar,
