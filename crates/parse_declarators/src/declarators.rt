@@ -4,7 +4,6 @@ ghost use Rattle.std.specs.Prelude.{◌≡◌, ◌<◌, ◌≤◌};
 ghost use Rattle.parse_grammar.specs.Input.{Reads};
 ghost use Rattle.parse_grammar.specs.Steps as steps;
 ghost use Rattle.parse_grammar.specs.Declarators as spec;
-ghost use Rattle.parse_grammar.specs.Expressions.{cond};
 ghost use Rattle.parse_grammar.specs.Statements.{inner, room_of};
 ghost use Rattle.parse_grammar.specs.Nests.{Nests};
 
@@ -55,20 +54,6 @@ impl<
         }
     }
 
-    // Up to and with the closing bracket.
-    fn length(&self, tokens: &mut Tokens<'_>, room: usize) -> Result<OptionalExpr, Stop>
-        requires nests { Nests self.now.grammar.limit (F.pre self.now.grammar.expr) (F.post self.now.grammar.expr) (S.pre self.now.grammar.stmt) (S.post self.now.grammar.stmt) (D.pre self.now.grammar.declarator) (D.post self.now.grammar.declarator) }
-        requires room { room < self.now.grammar.limit }
-        ensures { Reads (steps.optional Mark.BracketClose (cond (room_of room)) tokens.old) result tokens.new }
-    {
-        if tokens.eat(Mark::BracketClose) {
-            return Ok(OptionalExpr::Absent);
-        }
-        let found = self.grammar.inner(tokens, room, Part::Cond)?;
-        tokens.expect(Mark::BracketClose)?;
-        Ok(OptionalExpr::Present(found))
-    }
-
     #[tactic(auto, unfolding(parse_grammar::specs::Declarators::array))]
     fn array(&self, tokens: &mut Tokens<'_>, room: usize) -> Result<Suffix, Stop>
         requires nests { Nests self.now.grammar.limit (F.pre self.now.grammar.expr) (F.post self.now.grammar.expr) (S.pre self.now.grammar.stmt) (S.post self.now.grammar.stmt) (D.pre self.now.grammar.declarator) (D.post self.now.grammar.declarator) }
@@ -76,7 +61,12 @@ impl<
         ensures { Reads (spec.array (room_of room) tokens.old) result tokens.new }
     {
         enter(tokens, room)?;
-        Ok(Suffix::Array(self.length(tokens, room - 1)?))
+        if tokens.eat(Mark::BracketClose) {
+            return Ok(Suffix::Array(OptionalExpr::Absent));
+        }
+        let found = self.grammar.inner(tokens, room - 1, Part::Cond)?;
+        tokens.expect(Mark::BracketClose)?;
+        Ok(Suffix::Array(OptionalExpr::Present(found)))
     }
 
     #[tactic(auto, unfolding(parse_grammar::specs::Declarators::parameter))]
@@ -112,13 +102,13 @@ impl<
         Ok(found)
     }
 
-    // Behind the opening parenthesis.
-    #[tactic(auto, unfolding(parse_grammar::specs::Declarators::parameters))]
-    fn parameters(&self, tokens: &mut Tokens<'_>, room: usize) -> Result<Suffix, Stop>
+    #[tactic(auto, unfolding(parse_grammar::specs::Declarators::list, parse_grammar::specs::Declarators::parameters))]
+    fn list(&self, tokens: &mut Tokens<'_>, room: usize) -> Result<Suffix, Stop>
         requires nests { Nests self.now.grammar.limit (F.pre self.now.grammar.expr) (F.post self.now.grammar.expr) (S.pre self.now.grammar.stmt) (S.post self.now.grammar.stmt) (D.pre self.now.grammar.declarator) (D.post self.now.grammar.declarator) }
-        requires room { room < self.now.grammar.limit }
-        ensures { Reads (spec.parameters (inner (room_of room)) tokens.old) result tokens.new }
+        requires room { room ≤ self.now.grammar.limit }
+        ensures { Reads (spec.list (room_of room) tokens.old) result tokens.new }
     {
+        enter(tokens, room)?;
         if tokens.eat(Mark::ParenClose) {
             return Ok(Suffix::Unlisted);
         }
@@ -127,19 +117,9 @@ impl<
             tokens.take();
             return Ok(Suffix::Nothing);
         }
-        let found = self.separated(tokens, room)?;
+        let found = self.separated(tokens, room - 1)?;
         tokens.expect(Mark::ParenClose)?;
         Ok(Suffix::Listed(found))
-    }
-
-    #[tactic(auto, unfolding(parse_grammar::specs::Declarators::list))]
-    fn list(&self, tokens: &mut Tokens<'_>, room: usize) -> Result<Suffix, Stop>
-        requires nests { Nests self.now.grammar.limit (F.pre self.now.grammar.expr) (F.post self.now.grammar.expr) (S.pre self.now.grammar.stmt) (S.post self.now.grammar.stmt) (D.pre self.now.grammar.declarator) (D.post self.now.grammar.declarator) }
-        requires room { room ≤ self.now.grammar.limit }
-        ensures { Reads (spec.list (room_of room) tokens.old) result tokens.new }
-    {
-        enter(tokens, room)?;
-        self.parameters(tokens, room - 1)
     }
 
     #[tactic(auto, unfolding(parse_grammar::specs::Declarators::suffix))]

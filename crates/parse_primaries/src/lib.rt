@@ -4,6 +4,7 @@
 
 mod leaves;
 mod nodes;
+mod parts;
 mod primaries;
 mod staged;
 mod typename_nodes;

@@ -9,6 +9,7 @@ ghost use Rattle.parse_grammar.specs.Nests.{Nests};
 
 use crate::leaves::{character, name, number, string};
 use crate::nodes;
+use crate::parts::{ended, expr_before};
 use crate::typenames::Typenames;
 use parse_grammar::{Grammar, Kind, Mark, Mode, Part, Stop, Tokens, enter, enter_paren};
 use sqlite_items::Items;
@@ -57,8 +58,7 @@ impl<
             return Ok(Items::new(self.grammar.alloc));
         }
         let found = self.separated(tokens, room)?;
-        tokens.expect(Mark::ParenClose)?;
-        Ok(found)
+        ended(tokens, found, Mark::ParenClose)
     }
 
     // Up to and with the closing brace.
@@ -104,9 +104,13 @@ impl<
         ensures { Reads (spec.parenthesized (room_of room) tokens.old) result tokens.new }
     {
         enter_paren(tokens, room)?;
-        let whole = self.grammar.inner(tokens, room - 1, Part::Whole)?;
-        tokens.expect(Mark::ParenClose)?;
-        Ok(whole)
+        expr_before(
+            &self.grammar,
+            tokens,
+            room - 1,
+            Part::Whole,
+            Mark::ParenClose,
+        )
     }
 
     // At a `(` that begins no cast.
@@ -116,7 +120,7 @@ impl<
         ensures { Reads (spec.primary_by (room_of room) (Kind.Mark Mark.ParenOpen) tokens.old) result tokens.new }
     {
         let inner = self.parenthesized(tokens, room)?;
-        Ok(nodes::paren(self.grammar.alloc, inner)?)
+        nodes::paren(self.grammar.alloc, inner)
     }
 
     /// A primary expression.

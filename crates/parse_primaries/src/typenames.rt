@@ -5,8 +5,10 @@ ghost use Rattle.parse_grammar.specs.Input.{Reads};
 ghost use Rattle.parse_grammar.specs.Declarators as declarators;
 ghost use Rattle.parse_grammar.specs.Statements.{inner, room_of};
 ghost use Rattle.parse_grammar.specs.Nests.{Nests};
+ghost use Rattle.parse_primaries.specs.Parts.{before};
 
-use parse_grammar::{Grammar, Mode, Part, Stop, Tokens, base};
+use crate::parts::ended;
+use parse_grammar::{Grammar, Mark, Mode, Part, Stop, Tokens, base};
 use std::alloc::Global;
 use tick_tree::{Declarator, Expr, Stmt, Typename};
 
@@ -22,14 +24,20 @@ impl<
     S: Fn(Global, &mut Tokens<'_>, usize) -> Result<Stmt, Stop>,
     D: Fn(Global, &mut Tokens<'_>, usize, Mode) -> Result<Declarator, Stop>,
 > Typenames<F, S, D> {
+    // A type name, and this mark behind it.
     #[tactic(auto, unfolding(parse_grammar::specs::Declarators::typename))]
-    pub(crate) fn typename(&self, tokens: &mut Tokens<'_>, room: usize) -> Result<Typename, Stop>
+    pub(crate) fn typename_before(
+        &self,
+        tokens: &mut Tokens<'_>,
+        room: usize,
+        mark: Mark,
+    ) -> Result<Typename, Stop>
         requires nests { Nests self.now.grammar.limit (F.pre self.now.grammar.expr) (F.post self.now.grammar.expr) (S.pre self.now.grammar.stmt) (S.post self.now.grammar.stmt) (D.pre self.now.grammar.declarator) (D.post self.now.grammar.declarator) }
         requires room { room < self.now.grammar.limit }
-        ensures { Reads (declarators.typename (inner (room_of room)) tokens.old) result tokens.new }
+        ensures { Reads (before mark (declarators.typename (inner (room_of room))) tokens.old) result tokens.new }
     {
         let base = base(tokens)?;
         let declarator = self.grammar.inner_declarator(tokens, room, Mode::Nameless)?;
-        Ok(Typename { base, declarator })
+        ended(tokens, Typename { base, declarator }, mark)
     }
 }
