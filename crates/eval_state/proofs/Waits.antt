@@ -1,6 +1,6 @@
 -- What waits where an evaluation on the host's stack can't go on is pending behind what is.
-use Rattle.std.proofs.Common.{◌≡◌, ℕ, suc, ◌+◌, ◌^◌, ◌<◌, List, [], ◌∷◌, ◌++◌, map}
-use Rattle.std.proofs.Common.{refl, ap, sym, subst, ◌∙◌, arith}
+use Rattle.std.proofs.Common.{◌≡◌, ℕ, suc, ◌+◌, ◌^◌, ◌<◌, length, List, [], ◌∷◌, ◌++◌, map}
+use Rattle.std.proofs.Common.{refl, ap, sym, subst, ◌∙◌, arith, length-append}
 use Rattle.std.proofs.lemmas.List.{map-append}
 use Rattle.meaning_state.specs.Shared.{Specification}
 use Rattle.eval_state.specs.Pending as pending
@@ -15,7 +15,7 @@ use Rattle.eval_state.specs.declared.state.Entry.{Entry}
 use Rattle.eval_state.specs.declared.state.Entry.TheVariants as entry
 use Rattle.eval_state.specs.declared.state.Parts.{Parts}
 use Rattle.eval_state.specs.Kept.{body_view, captures_at, entry_view, rows_view}
-use Rattle.eval_state.specs.Late.{AreLocal, IsLocal, MayWait, frames_of, with_frames}
+use Rattle.eval_state.specs.Late.{AreLocal, IsLocal, IsSettled, MayWait, frames_of, with_frames}
 use Rattle.eval_state.specs.Run.{Run, program_of, pushed, run_of, state_of}
 use Rattle.eval_state.specs.Sound.{IsNamed, IsSound, called, calls}
 use Rattle.history.specs.Syntax.{NoCapture}
@@ -118,12 +118,12 @@ module _ (waiting rest es : List Entry) (e : Entry) (p q : Parts) (h : Settles w
   abbrev local : AreLocal (es ++ e ∷ [])
   local = subst AreLocal is h.0
 
-  pub settles_may : MayWait e q
+  settles_may : MayWait e q
   settles_may =
       let same : calls rest ≡ calls es + called e = ap calls is ∙ calls_push es e in
       may_wait q e (local_last es e local) (omega (arith, same, h.1))
 
-  pub settles_more : (t : Parts) → t ≡ record q { entries = q.entries ++ e ∷ [] }
+  settles_more : (t : Parts) → t ≡ record q { entries = q.entries ++ e ∷ [] }
       → run_of t ≡ pushed (entry_view [] e) (run_of q) → Settles waiting es p t
   settles_more t parts run =
       let same : calls rest ≡ calls es + called e = ap calls is ∙ calls_push es e in
@@ -139,6 +139,23 @@ module _ (waiting rest es : List Entry) (e : Entry) (p q : Parts) (h : Settles w
             ∙ ap (λ rest. with_frames (frames_of rest) (run_of q)) (sym is)
             ∙ h.2,
       )
+
+-- the last of those that wait
+module _ (waiting es : List Entry) (e : Entry) (p : Parts) (local : AreLocal waiting)
+    (within : p.depth + calls p.entries + calls waiting < 2 ^ 64) (is : waiting ≡ es ++ e ∷ []) where
+  pub last_may : MayWait e p
+  last_may = settles_may waiting waiting es e p p (settles_first waiting p local within) is
+
+  pub settled : (t : Parts) → t ≡ record p { entries = p.entries ++ e ∷ [] } → IsSettled waiting es p t
+  settled t parts =
+      let run = local_pushed p t e last_may parts in
+      let h = settles_more waiting waiting es e p p (settles_first waiting p local within) is t parts run in
+      record {
+        fewer = omega (arith, ap length is, length-append es (e ∷ []));
+        local = h.0;
+        within = h.1;
+        same = h.2;
+      }
 
 -- ---- how many calls more may be active, where what waits stands on what was pending before
 
@@ -207,4 +224,4 @@ settles_within p q es sound frames place =
     let down = below_depth (frames_of es) (place_of (run_of q).state) in
     omega (arith, depth, down, waiting_calls es, calls_same p q frames, sound.5)
 
-pub ruleset settling = (settles_first, settles_last, settles_may, settles_more)
+pub ruleset settling = (settles_first, settles_last)

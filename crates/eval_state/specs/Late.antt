@@ -1,7 +1,7 @@
 -- What waits where an evaluation on the host's stack can't go on: entries, the innermost first, which are pending once
 -- the evaluation goes on step by step. A call among them was made by a function of the text, so what it names of its
 -- caller doesn't depend on the specifications that are there.
-use Rattle.std.specs.Prelude.{◌≡◌, ◌≢◌, ℕ, suc, ◌+◌, ◌-◌, ◌^◌, ◌<◌, ◌≤◌, List, [], ◌∷◌, ◌++◌, Some, None}
+use Rattle.std.specs.Prelude.{◌≡◌, ◌≢◌, ℕ, suc, ◌+◌, ◌-◌, ◌^◌, ◌<◌, ◌≤◌, length, List, [], ◌∷◌, ◌++◌, Some, None}
 use Rattle.limits.specs.declared.program.TheConstants.{FRAME_OBJECT_BYTES, SIZE_LIMIT}
 use Rattle.word32.specs.declared.map.TheConstants.{STACK_BYTES}
 use Rattle.meaning_state.specs.Shared.{limit_trap}
@@ -50,6 +50,13 @@ with_entry e p = record p { entries = p.entries ++ e ∷ [] }
 -- these frames are pending besides
 abbrev pub with_frames : List Frame → Run → Run
 with_frames fs r = record r { state = record r.state { frames = r.state.frames ++ fs } }
+
+-- one of those that waited is pending, and the others still wait
+pub record IsSettled (old new : List Entry) (p q : Parts) : Type 0 where
+  pub fewer : length new < length old
+  pub local : AreLocal new
+  pub within : q.depth + calls q.entries + calls new < 2 ^ 64
+  pub same : with_frames (frames_of new) (run_of q) ≡ with_frames (frames_of old) (run_of p)
 
 -- at a place, behind these frames, this is what something comes to; under them all stands another place
 pub record IsLate (at : Place → Context) (p : Place) (fs : List Frame) (x : Result Signal) (whole : Result Signal)

@@ -50,6 +50,7 @@ impl<'a> Machine<'a> {
             None => return Err(AllocError),
             Some(main) => main,
         };
+        let objects = object_words(alloc, typed.image())?;
         let body = Body {
             variables: Items::new(alloc),
             arguments: Items::new(alloc),
@@ -60,7 +61,6 @@ impl<'a> Machine<'a> {
             object: main.object,
             row: 0,
         };
-        let objects = object_words(alloc, typed.image())?;
         let parts = Parts {
             alloc,
             typed,

@@ -188,8 +188,8 @@ impl<'a> Machine<'a> {
             × (self.new ≡ with_body (charge_of function.now.size) (function_body function.now arguments self.old)
             self.old)) }
     {
-        let variables = self.list();
         let generated = self.parts.body.generated.again(self.parts.alloc)?;
+        let variables = self.list();
         self.parts.used += charge_of(function.size);
         self.parts.frames += function.object;
         self.parts.depth -= 1;
@@ -229,11 +229,12 @@ impl<'a> Machine<'a> {
         if let Some(kind) = self.limit(charge, function.object) {
             return Ok(Now::Ended(Ending::Trap(kind)));
         }
+        let generated = self.parts.body.generated.again(self.parts.alloc)?;
         let variables = self.list();
         let body = Body {
             variables,
             arguments,
-            generated: self.parts.body.generated.again(self.parts.alloc)?,
+            generated,
             object: function.object,
             row: 0,
         };
@@ -291,9 +292,10 @@ impl<'a> Machine<'a> {
     fn generated_body(&self, row: u32, arguments: Items<u32>) -> Result<Body, AllocError>
         ensures { IfOk result (λ body. body ≡ code_body row arguments) }
     {
+        let passed = Items::from_slice(self.parts.alloc, arguments.as_slice())?;
         Ok(Body {
             variables: Items::new(self.parts.alloc),
-            arguments: Items::from_slice(self.parts.alloc, arguments.as_slice())?,
+            arguments: passed,
             generated: Generated {
                 arguments,
                 values: Items::new(self.parts.alloc),

@@ -5,7 +5,7 @@ ghost use Rattle.std.specs.Prelude.{IfOk, IsFalse, IsTrue, MatchOption, OnOk};
 ghost use Rattle.eval_state.specs.Rest.{after, doing, spent};
 ghost use Rattle.eval_state.specs.Grown.{with_caller, with_left};
 ghost use Rattle.eval_state.specs.Kept.{entry_view};
-ghost use Rattle.eval_state.specs.Late.{AreLocal, MayWait, frames_of, with_entry, with_frames};
+ghost use Rattle.eval_state.specs.Late.{AreLocal, IsSettled, MayWait, frames_of, with_entry, with_frames};
 ghost use Rattle.eval_state.specs.Sound.{calls};
 ghost use Rattle.eval_state.specs.Popped.{IsEnded, IsLeft};
 ghost use Rattle.eval_state.specs.Less.{heft, held, waiting};
@@ -167,10 +167,22 @@ impl<'a> Machine<'a> {
         ensures { OnOk result (run_of self.new ≡ with_frames (frames_of waiting.entry) (run_of self.old)) }
     {
         let mut rest = waiting;
-        while let Some(entry) = rest.pop() {
-            self.wait(entry)?;
+        while 0 < rest.len() {
+            self.settle_last(&mut rest)?;
         }
         Ok(())
+    }
+
+    // The last of what waits is pending.
+    fn settle_last(&mut self, waiting: &mut Items<Entry<'a>>) -> Result<(), AllocError>
+        requires { (0 < length waiting.old) × AreLocal waiting.old
+            × (self.old.depth + calls self.old.entries + calls waiting.old < 2 ^ 64) }
+        ensures { OnOk result (IsSettled waiting.old waiting.new self.old self.new) }
+    {
+        match waiting.pop() {
+            None => Ok(()),
+            Some(entry) => self.wait(entry),
+        }
     }
 
     /// Nothing waits yet.

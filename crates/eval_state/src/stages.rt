@@ -10,7 +10,7 @@ ghost use Rattle.staged_meaning.specs.Program.{is_expression, syntax_size, tick_
 ghost use Rattle.staged_meaning.specs.Source.{tick_view};
 ghost use Rattle.meaning_state.specs.Shared as shared;
 ghost use Rattle.typed_tree.specs.View.{expr_view};
-ghost use Rattle.eval_state.specs.KeptRows.{all_kept, key_kept, kept_of, parameters_kept, size_kept, word_kept};
+ghost use Rattle.eval_state.specs.KeptRows.{all_kept, key_kept, kept_of, parameters_kept, size_kept};
 ghost use Rattle.eval_state.specs.Kept.{kept_view, rows_view, syntax_at};
 ghost use Rattle.eval_state.specs.Specified.{AreEarlier, IsCode, IsEarlier, IsMade};
 ghost use Rattle.typed_tree.specs.declared.expression.CaptureKind.TheVariants.{Variable as variable};
@@ -56,16 +56,7 @@ fn kind_of(e: &Expr) -> CaptureKind
     }
 }
 
-// The word that is kept of a capture, or 0; and the key.
-fn word_in(kept: Option<Kept>) -> u32
-    ensures { result ≡ word_kept (option_map kept_view kept) }
-{
-    match kept {
-        Some(Kept::Word(word)) => word,
-        Some(Kept::Key(_) | Kept::Number(_)) | None => 0,
-    }
-}
-
+// The key that is kept of a capture, or 0.
 fn key_in(kept: Option<Kept>) -> u32
     ensures { result ≡ key_kept (option_map kept_view kept) }
 {
@@ -144,7 +135,10 @@ impl<'a> Machine<'a> {
         ensures { result ≡ word_of (here (run_of self.now)).captures capture }
     {
         self.keeps_law();
-        word_in(self.kept(capture))
+        match self.kept(capture) {
+            Some(Kept::Word(word)) => word,
+            Some(Kept::Key(_) | Kept::Number(_)) | None => 0,
+        }
     }
 
     // The key of the variable of generated code that a capture names; 0, where it names none.

@@ -44,28 +44,21 @@ returns-clause-same c = λ f h.
     let function = c.args.function.now in
     let none = sym c.in_default.is ∙ c.limit.ensures in
     let charge = c.charge_of-charge.ensures ∙ ap charge_of c.requires.1 in
-    let generated = c.in_ok-again.ensures
-    ∙ ap (λ (p : Parts). p.body.generated) (c.self.view_is ∙ c.list-variables.ensures.still) in
+    let generated = c.in_ok-generated.ensures ∙ ap (λ (p : Parts). p.body.generated) c.self.view_is in
     let body : Body = record {
       variables = c.list-variables.result;
-      arguments = c.arguments.inside.items.items;
-      generated = c.in_ok-again.field-0;
+      arguments = c.args.arguments;
+      generated = c.in_ok-generated.generated;
       object = function.object;
       row = 0;
     } in
     let is = ap (λ (vs : List ℕ). record {
       variables = vs;
-      arguments = c.arguments.inside.items.items;
-      generated = c.in_ok-again.field-0;
+      arguments = c.args.arguments;
+      generated = c.in_ok-generated.generated;
       object = function.object;
       row = 0;
-    }) c.list-variables.ensures.empty ∙ ap (λ (vs : List ℕ). record {
-      variables = [];
-      arguments = vs;
-      generated = c.in_ok-again.field-0;
-      object = function.object;
-      row = 0;
-    }) c.arguments.view_is ∙ ap (λ (g : Generated). record {
+    }) c.list-variables.ensures.empty ∙ ap (λ (g : Generated). record {
       variables = [];
       arguments = c.args.arguments;
       generated = g;
