@@ -1,6 +1,6 @@
 -- What one instruction's answer says of it, and stretches one after another.
-use Rattle.std.proofs.Common.{zero, suc, inl, ◌≡◌, ◌≢◌, ℕ, ◌+◌, Bool, true, false, None}
-use Rattle.std.proofs.Common.{refl, ap, ◌∙◌, subst}
+use Rattle.std.proofs.Common.{zero, suc, inl, ◌≡◌, ◌≢◌, ◌<◌, ◌⊎◌, ℕ, ◌+◌, Bool, true, false, None}
+use Rattle.std.proofs.Common.{refl, ap, arith, ◌∙◌, subst, ⊎_elim}
 use Rattle.mips_model.specs.State.{World}
 use Rattle.mips_model.specs.Steps.{step}
 use Rattle.mips_model.specs.Beside.{is_at_service}
@@ -110,3 +110,33 @@ aside_pending {count} {first} {r} {next} pc mid new f g is on goes =
     let m = one_more true (went.Pending next) pc mid new (subst (λ (x : Went). Services x pc mid new) is f)
     (subst (λ (x : Went). Others true x pc mid new) is g) (pending_not next) on goes in
     record { ran = m.ran; on = m.leaves.0; text = m.text }
+
+-- where the count isn't spent an answer of Service is that of a SYSCALL; so any other answer says that it isn't
+pub some_left : {P : Type 0} {r : Went} (left : ℕ) → (left ≡ 0 → (r ≡ went.Service) × P) → r ≢ went.Service → 0 < left
+some_left zero f not = absurd (not (f refl).0)
+some_left (suc n) f not = omega (arith)
+
+-- and one that isn't Stopped, where no word is next, says that it is
+pub none_left : {Q : Type 0} {r : Went} (left : ℕ) → (0 < left → (r ≡ went.Stopped) × Q) → r ≢ went.Stopped → left ≡ 0
+none_left zero f not = refl
+none_left (suc n) f not = absurd (not (f (omega (arith))).0)
+
+pub some_of : (n : ℕ) → n ≢ 0 → 0 < n
+some_of zero not = absurd (not refl)
+some_of (suc n) not = omega (arith)
+
+-- where something was pending, and the run goes on
+pub aside_next : {count : ℕ} {first : CoreKept} {r : Went} {next : ℕ} (pc : ℕ) (mid new : CoreKept) →
+    Services r pc mid new → Others true r pc mid new → (r ≡ went.On next) ⊎ (r ≡ went.Pending next) →
+    mid.stopped ≡ None → GoesOn count first (at pc mid) → Onward count first next mid new
+aside_next {count} {first} {r} {next} pc mid new f g is on goes =
+    ⊎_elim (λ one. aside_on pc mid new f g one on goes) (λ other. aside_pending pc mid new f g other on goes) is
+
+pub on_runs : (next : ℕ) → went.On next ≢ went.Stopped
+on_runs next is = absurd cc
+
+pub pending_runs : (next : ℕ) → went.Pending next ≢ went.Stopped
+pending_runs next is = absurd cc
+
+pub service_runs : went.Service ≢ went.Stopped
+service_runs is = absurd cc

@@ -1,6 +1,6 @@
 -- What was executed of a number of instructions, one instruction after another.
-use Rattle.std.proofs.Common.{◌≡◌, ◌≢◌, ℕ, ◌+◌, ◌-◌, ◌≤◌, ◌<◌, List, false, None}
-use Rattle.std.proofs.Common.{sym, ap, subst, ◌∙◌, arith}
+use Rattle.std.proofs.Common.{zero, suc, inr, ◌≡◌, ◌≢◌, ℕ, ◌+◌, ◌-◌, ◌≤◌, ◌<◌, List, true, false, None}
+use Rattle.std.proofs.Common.{refl, sym, ap, subst, ◌∙◌, arith}
 use Rattle.flat_memory.specs.Spaces.{text_of}
 use Rattle.mips_model.specs.State.{World}
 use Rattle.mips_model.specs.Steps.{step}
@@ -9,7 +9,7 @@ use Rattle.mips_model.proofs.Traces.{text_stays}
 use Rattle.mips_core.specs.declared.halt.Went.TheVariants as went
 use Rattle.mips_core.specs.Core.{CoreKept, GoesOn, Pauses, at, state_of, world_of}
 use Rattle.mips_core.proofs.Loops.{goes_count, goes_more}
-use Rattle.mips_core.proofs.Stepped.{Services, Others, Onward, one_more, serves_by, stopped_not, pauses_stopped}
+use Rattle.mips_core.proofs.Stepped.{Services, Others, Onward, one_more, serves_by, stopped_not}
 
 -- so many of n are left, and the next instruction stands at this address
 pub record Ran (n left pc : ℕ) (first now : CoreKept) : Type 0 where
@@ -69,23 +69,56 @@ stopped {n} {left} {pc} {first} {mid} {new} {now} aside some r f g is =
     let m = one_more aside went.Stopped pc mid new f g stopped_not r.on r.ran in
     stops {mid = mid} {new = new} some r (record { ran = m.ran; text = m.text }) is
 
-pub pauses : {n left pc : ℕ} {first mid new now : CoreKept} (aside : _) → Ran n left pc first mid →
-    Services went.Stopped pc mid new → Others aside went.Stopped pc mid new → now ≡ at pc new → (more : ℕ) →
-    Pauses more now
-pauses {n} {left} {pc} {first} {mid} {new} {now} aside r f g is more =
+pub halts : {n left pc : ℕ} {first mid new now : CoreKept} (aside : _) → Ran n left pc first mid →
+    Services went.Stopped pc mid new → Others aside went.Stopped pc mid new → now ≡ at pc new → now.stopped ≢ None
+halts {n} {left} {pc} {first} {mid} {new} {now} aside r f g is =
     let m = one_more aside went.Stopped pc mid new f g stopped_not r.on r.ran in
-    pauses_stopped more now (subst (λ (k : CoreKept). k.stopped ≢ None) (sym is) m.leaves)
+    subst (λ (k : CoreKept). k.stopped ≢ None) (sym is) m.leaves
 
--- a service is next, and the core stands there
-pub serves : {n left pc : ℕ} {first mid new now : CoreKept} (aside : _) → Ran n left pc first mid →
-    Services went.Service pc mid new → Others aside went.Service pc mid new → now ≡ at pc new → Ends n left first now
-serves {n} {left} {pc} {first} {mid} {new} {now} aside r f g is =
-    let same = (serves_by aside (is_at_service (state_of (at pc mid))) pc new f g).1.1 in
+-- nothing changed, and the core stands where it stood
+pub stays : {n left pc : ℕ} {first mid new now : CoreKept} → Ran n left pc first mid → new ≡ mid → now ≡ at pc new →
+    Ends n left first now
+stays {n} {left} {pc} {first} {mid} {new} {now} r same is =
     let here : now ≡ at pc mid = is ∙ ap (at pc) same in
     record {
       ran = subst (GoesOn (n - left) first) (sym here) r.ran;
       text = ap (λ (k : CoreKept). (state_of k).code.text) here ∙ r.text;
     }
+
+-- a service is next
+pub serves : {pc : ℕ} {mid new : CoreKept} (aside : _) → Services went.Service pc mid new →
+    Others aside went.Service pc mid new → new ≡ mid
+serves {pc} {mid} {new} aside f g = (serves_by aside (is_at_service (state_of (at pc mid))) pc new f g).1.1
+
+-- a service is next, or the count is spent
+pub serves_or_spent : {pc : ℕ} {mid new : CoreKept} {P : Type 0} (left : ℕ) → (left ≡ 0 → P × (new ≡ mid)) →
+    (0 < left → Services went.Service pc mid new) → (0 < left → Others false went.Service pc mid new) → new ≡ mid
+serves_or_spent zero e f g = (e refl).1
+serves_or_spent {pc} {mid} {new} {P} (suc n) e f g =
+    let some : 0 < suc n = omega (arith) in
+    serves {pc = pc} {mid = mid} {new = new} false (f some) (g some)
+
+pub serves_next : {pc : ℕ} {mid new now : CoreKept} (left : ℕ) → mid.stopped ≡ None →
+    (0 < left → Services went.Service pc mid new) → (0 < left → Others false went.Service pc mid new) →
+    now ≡ at pc new → Pauses left now
+serves_next zero on f g is = tt
+serves_next {pc} {mid} {new} {now} (suc n) on f g is =
+    let some : 0 < suc n = omega (arith) in
+    let s = serves_by false (is_at_service (state_of (at pc mid))) pc new (f some) (g some) in
+    let here : now ≡ at pc mid = is ∙ ap (at pc) s.1.1 in
+    inr (
+      subst (λ (k : CoreKept). k.stopped ≡ None) (sym here) on,
+      subst (λ (k : CoreKept). is_at_service (state_of k) ≡ true) (sym here) s.0,
+    )
+
+-- the same number and address in other words
+pub along : {n left pc left' pc' : ℕ} {first now : CoreKept} → left' ≡ left → pc' ≡ pc → Ran n left pc first now →
+    Ran n left' pc' first now
+along {n} {left} {pc} {left'} {pc'} {first} {now} e f r =
+    subst (λ (m : ℕ). Ran n m pc' first now) (sym e) (subst (λ (a : ℕ). Ran n left a first now) (sym f) r)
+
+pub stands : {pc pc' : ℕ} {now : CoreKept} (new : CoreKept) → now ≡ at pc' new → pc' ≡ pc → now ≡ at pc new
+stands {pc} {pc'} {now} new is e = is ∙ ap (λ (a : ℕ). at a new) e
 
 -- the words that are kept apart are the text
 pub same_words : {n left : ℕ} {first now : CoreKept} (words : List ℕ) → text_of words ≡ (state_of first).code.text →

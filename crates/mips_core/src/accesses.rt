@@ -13,6 +13,7 @@ ghost use Rattle.mips_core.specs.Core.{state_of, data_of, world_of};
 
 use crate::arithmetic::widened;
 use crate::halt::Went;
+use crate::pc::Pc;
 use crate::rest::Rest;
 use flat_memory::Access;
 use host_edge::{Ending, MachineKind, TrapKind};
@@ -36,7 +37,7 @@ fn is_in_table(at: u32) -> bool
 impl Rest {
     /// A value was loaded to a register.
     #[inline(always)]
-    fn take<const ASIDE: bool>(&mut self, pc: u32, r: Register, v: u32) -> Went
+    fn take<const ASIDE: bool>(&mut self, pc: Pc, r: Register, v: u32) -> Went
         requires on { self.old.stopped ≡ None }
         requires near { pc < 4294967288 }
         requires plain { ASIDE ≡ false → spec.IsClear self.old }
@@ -53,7 +54,7 @@ impl Rest {
     /// A word holds what is loaded to a register.
     fn take_part<const ASIDE: bool>(
         &mut self,
-        pc: u32,
+        pc: Pc,
         r: Register,
         at: u32,
         width: Width,
@@ -88,7 +89,7 @@ impl Rest {
     #[inline(never)]
     fn load_elsewhere<const ASIDE: bool>(
         &mut self,
-        pc: u32,
+        pc: Pc,
         r: Register,
         at: u32,
         width: Width,
@@ -113,7 +114,7 @@ impl Rest {
     }
 
     #[inline(always)]
-    fn load<const ASIDE: bool>(&mut self, pc: u32, r: Register, at: u32, width: Width) -> Went
+    fn load<const ASIDE: bool>(&mut self, pc: Pc, r: Register, at: u32, width: Width) -> Went
         requires on { self.old.stopped ≡ None }
         requires near { pc < 4294967288 }
         requires plain { ASIDE ≡ false → spec.IsClear self.old }
@@ -130,7 +131,7 @@ impl Rest {
 
     /// A store to the arena, or one that is refused.
     #[inline(never)]
-    fn store_elsewhere<const ASIDE: bool>(&mut self, pc: u32, at: u32, width: Width, w: u32) -> Went
+    fn store_elsewhere<const ASIDE: bool>(&mut self, pc: Pc, at: u32, width: Width, w: u32) -> Went
         requires on { self.old.stopped ≡ None }
         requires near { pc < 4294967288 }
         requires plain { ASIDE ≡ false → spec.IsClear self.old }
@@ -153,7 +154,7 @@ impl Rest {
     }
 
     #[inline(always)]
-    fn store<const ASIDE: bool>(&mut self, pc: u32, at: u32, width: Width, w: u32) -> Went
+    fn store<const ASIDE: bool>(&mut self, pc: Pc, at: u32, width: Width, w: u32) -> Went
         requires on { self.old.stopped ≡ None }
         requires near { pc < 4294967288 }
         requires plain { ASIDE ≡ false → spec.IsClear self.old }
@@ -173,7 +174,7 @@ impl Rest {
     #[inline(always)]
     fn access<const ASIDE: bool, const CODE: u32>(
         &mut self,
-        pc: u32,
+        pc: Pc,
         op: MemoryOp,
         r: Register,
         at: u32,
@@ -200,7 +201,7 @@ impl Rest {
     #[inline(always)]
     pub(crate) fn access_memory<const ASIDE: bool, const CODE: u32>(
         &mut self,
-        pc: u32,
+        pc: Pc,
         op: MemoryOp,
         w: u32,
     ) -> Went

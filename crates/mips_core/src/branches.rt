@@ -9,6 +9,7 @@ ghost use Rattle.mips_model.specs.Effects.{trap_of};
 use crate::arithmetic::{equality, sign_test, widened, zero_comparison};
 use crate::control::{branch_target, link, segment_target};
 use crate::halt::Went;
+use crate::pc::Pc;
 use crate::rest::Rest;
 use host_edge::{Ending, MachineKind, TrapKind};
 use mips_encoder::{
@@ -38,7 +39,7 @@ fn trap_kind(code: u32) -> Option<TrapKind>
 
 impl Rest {
     #[inline(always)]
-    pub(crate) fn jump_register<const ASIDE: bool>(&mut self, pc: u32, w: u32) -> Went
+    pub(crate) fn jump_register<const ASIDE: bool>(&mut self, pc: Pc, w: u32) -> Went
         requires on { self.old.stopped ≡ None }
         requires near { pc < 4294967288 }
         requires plain { ASIDE ≡ false → spec.IsClear self.old }
@@ -52,12 +53,12 @@ impl Rest {
         if self.is_branch_hazard::<ASIDE>(rs(w), rs(w), rs(w)) {
             return self.fault(MachineKind::Hazard, pc);
         }
-        let to = self.register(rs(w));
+        let to = Pc::at(self.register(rs(w)));
         Went::Pending(self.branch::<ASIDE>(pc, true, to))
     }
 
     #[inline(always)]
-    pub(crate) fn jump_and_link_register<const ASIDE: bool>(&mut self, pc: u32, w: u32) -> Went
+    pub(crate) fn jump_and_link_register<const ASIDE: bool>(&mut self, pc: Pc, w: u32) -> Went
         requires on { self.old.stopped ≡ None }
         requires near { pc < 4294967288 }
         requires plain { ASIDE ≡ false → spec.IsClear self.old }
@@ -71,7 +72,7 @@ impl Rest {
         if self.is_branch_hazard::<ASIDE>(rd(w), rs(w), rs(w)) {
             return self.fault(MachineKind::Hazard, pc);
         }
-        let to = self.register(rs(w));
+        let to = Pc::at(self.register(rs(w)));
         let back = link(pc);
         let next = self.branch::<ASIDE>(pc, true, to);
         self.write(rd(w), back);
@@ -79,7 +80,7 @@ impl Rest {
     }
 
     #[inline(always)]
-    pub(crate) fn jump<const ASIDE: bool>(&mut self, pc: u32, w: u32) -> Went
+    pub(crate) fn jump<const ASIDE: bool>(&mut self, pc: Pc, w: u32) -> Went
         requires on { self.old.stopped ≡ None }
         requires near { pc < 4294967288 }
         requires plain { ASIDE ≡ false → spec.IsClear self.old }
@@ -95,7 +96,7 @@ impl Rest {
     }
 
     #[inline(always)]
-    pub(crate) fn jump_and_link<const ASIDE: bool>(&mut self, pc: u32, w: u32) -> Went
+    pub(crate) fn jump_and_link<const ASIDE: bool>(&mut self, pc: Pc, w: u32) -> Went
         requires on { self.old.stopped ≡ None }
         requires near { pc < 4294967288 }
         requires plain { ASIDE ≡ false → spec.IsClear self.old }
@@ -116,7 +117,7 @@ impl Rest {
     #[inline(always)]
     pub(crate) fn branch_on_equality<const ASIDE: bool>(
         &mut self,
-        pc: u32,
+        pc: Pc,
         op: EqualityOp,
         w: u32,
     ) -> Went
@@ -138,7 +139,7 @@ impl Rest {
     #[inline(always)]
     pub(crate) fn branch_on_zero<const ASIDE: bool>(
         &mut self,
-        pc: u32,
+        pc: Pc,
         op: ZeroComparisonOp,
         w: u32,
     ) -> Went
@@ -163,7 +164,7 @@ impl Rest {
     #[inline(always)]
     pub(crate) fn branch_on_sign<const ASIDE: bool>(
         &mut self,
-        pc: u32,
+        pc: Pc,
         test: SignTest,
         w: u32,
     ) -> Went
@@ -185,7 +186,7 @@ impl Rest {
     #[inline(always)]
     pub(crate) fn branch_on_sign_and_link<const ASIDE: bool>(
         &mut self,
-        pc: u32,
+        pc: Pc,
         test: SignTest,
         w: u32,
     ) -> Went
@@ -211,7 +212,7 @@ impl Rest {
     }
 
     #[inline(always)]
-    pub(crate) fn break_with<const ASIDE: bool>(&mut self, pc: u32, w: u32) -> Went
+    pub(crate) fn break_with<const ASIDE: bool>(&mut self, pc: Pc, w: u32) -> Went
         requires on { self.old.stopped ≡ None }
         ensures world { world_of (spec.at (spec.went_to result pc) self.new) ≡
             spec.does (Some (spec.breaking (w / 64 % 1048576))) (state_of (spec.at pc self.old)) }

@@ -5,6 +5,7 @@ ghost use Rattle.word32.specs.declared.map.TheConstants.{SEGMENT_BYTES};
 ghost use Rattle.mips_core.specs.Core as spec;
 ghost use Rattle.mips_core.specs.Core.{world_of};
 
+use crate::pc::Pc;
 use crate::rest::Rest;
 use mips_encoder::Register;
 use word32::map::SEGMENT_BYTES;
@@ -12,16 +13,16 @@ use word32::map::SEGMENT_BYTES;
 impl Rest {
     /// The address of the instruction behind the next, which stands at this address.
     #[inline(always)]
-    fn next(&self, pc: u32) -> u32
+    fn next(&self, pc: Pc) -> Pc
         requires near { self.now.slot ≡ false → pc < 4294967292 }
         ensures { result ≡ (spec.at pc self.now).next }
     {
-        if self.slot { self.target } else { pc + 4 }
+        if self.slot { self.target } else { pc.next() }
     }
 
     /// On from a delay slot, or from where something may not have followed, to the address that is answered.
     #[inline(always)]
-    pub(crate) fn settle(&mut self, pc: u32) -> u32
+    pub(crate) fn settle(&mut self, pc: Pc) -> Pc
         requires near { self.old.slot ≡ false → pc < 4294967292 }
         ensures address { result ≡ (spec.at pc self.old).next }
         ensures world { world_of (spec.at result self.new) ≡
@@ -40,19 +41,19 @@ impl Rest {
 
     /// On to the next instruction, whose address is answered.
     #[inline(always)]
-    pub(crate) fn advance<const ASIDE: bool>(&mut self, pc: u32) -> u32
+    pub(crate) fn advance<const ASIDE: bool>(&mut self, pc: Pc) -> Pc
         requires near { pc < 4294967288 }
         requires plain { ASIDE ≡ false → spec.IsClear self.old }
         ensures address { result ≡ (spec.at pc self.old).next }
         ensures world { world_of (spec.at result self.new) ≡
             spec.moved ((spec.at pc self.old).next + 4) false (world_of (spec.at pc self.old)) }
     {
-        if ASIDE { self.settle(pc) } else { pc + 4 }
+        if ASIDE { self.settle(pc) } else { pc.next() }
     }
 
     /// On to the next instruction, which is a delay slot, and from there to a target.
     #[inline(always)]
-    pub(crate) fn branch<const ASIDE: bool>(&mut self, pc: u32, taken: bool, target: u32) -> u32
+    pub(crate) fn branch<const ASIDE: bool>(&mut self, pc: Pc, taken: bool, target: Pc) -> Pc
         requires near { pc < 4294967288 }
         requires plain { ASIDE ≡ false → spec.IsClear self.old }
         requires slot { self.old.slot ≡ false }
@@ -61,7 +62,7 @@ impl Rest {
             (world_of (spec.at pc self.old)) }
     {
         let next = self.advance::<ASIDE>(pc);
-        self.target = if taken { target } else { pc + 8 };
+        self.target = if taken { target } else { pc.next().next() };
         self.slot = true;
         self.pending = true;
         next
@@ -69,7 +70,7 @@ impl Rest {
 
     /// The instruction before the next loaded this register.
     #[inline(always)]
-    pub(crate) fn set_loaded(&mut self, pc: u32, r: Register)
+    pub(crate) fn set_loaded(&mut self, pc: Pc, r: Register)
         ensures { world_of (spec.at pc self.new) ≡ spec.with_loaded r (world_of (spec.at pc self.old)) }
     {
         self.loaded = r.number();
@@ -78,7 +79,7 @@ impl Rest {
 
     /// The instruction before the next read HI or LO.
     #[inline(always)]
-    pub(crate) fn set_recent(&mut self, pc: u32)
+    pub(crate) fn set_recent(&mut self, pc: Pc)
         ensures { world_of (spec.at pc self.new) ≡ spec.with_recent 2 (world_of (spec.at pc self.old)) }
     {
         self.recent = 2;
@@ -139,28 +140,28 @@ impl Rest {
 
 /// The address behind the delay slot of a branch.
 #[inline(always)]
-pub(crate) fn link(pc: u32) -> u32
+pub(crate) fn link(pc: Pc) -> u32
     requires { pc < 4294967288 }
     ensures { result ≡ (pc + 4 + 4) % 4294967296 }
 {
-    pc + 8
+    pc.address() + 8
 }
 
 /// Where a branch at this address goes that is taken.
 #[inline(always)]
-pub(crate) fn branch_target(pc: u32, offset: u32) -> u32
+pub(crate) fn branch_target(pc: Pc, offset: u32) -> Pc
     requires { pc < 4294967288 }
     ensures { result ≡ (pc + 4 + 4 * offset) % 4294967296 }
 {
-    (pc + 4).wrapping_add(offset.wrapping_mul(4))
+    pc.next().further(offset)
 }
 
 /// The address of a word of the segment that the delay slot of a jump at this address stands in.
 #[inline(always)]
-pub(crate) fn segment_target(pc: u32, word: u32) -> u32
+pub(crate) fn segment_target(pc: Pc, word: u32) -> Pc
     requires near { pc < 4294967288 }
     requires word { word < 67108864 }
     ensures { result ≡ (pc + 4) / SEGMENT_BYTES * SEGMENT_BYTES + 4 * word }
 {
-    (pc + 4) / SEGMENT_BYTES * SEGMENT_BYTES + 4 * word
+    pc.next().in_segment(word)
 }

@@ -115,7 +115,7 @@ impl Core {
     pub fn pc(&self) -> u32
         ensures { result ≡ self.now.pc }
     {
-        self.rest.pc()
+        self.rest.pc().address()
     }
 
     /// Whether a SYSCALL would be a hazard: it reads and writes its number, its arguments and its answer.

@@ -6,6 +6,7 @@ ghost use Rattle.mips_core.specs.Core as spec;
 ghost use Rattle.mips_core.specs.Core.{state_of, world_of};
 
 use crate::halt::Went;
+use crate::pc::Pc;
 use crate::rest::Rest;
 use host_edge::MachineKind;
 use mips_encoder::{
@@ -15,7 +16,7 @@ use mips_encoder::{
 
 impl Rest {
     #[inline(always)]
-    fn execute_regimm<const ASIDE: bool>(&mut self, pc: u32, w: u32) -> Went
+    fn execute_regimm<const ASIDE: bool>(&mut self, pc: Pc, w: u32) -> Went
         requires on { self.old.stopped ≡ None }
         requires near { pc < 4294967288 }
         requires plain { ASIDE ≡ false → spec.IsClear self.old }
@@ -34,7 +35,7 @@ impl Rest {
 
     /// A word whose function code is that of SYSCALL: it isn't executed here where it is SYSCALL, and refused else.
     #[inline(always)]
-    fn pause<const ASIDE: bool>(&mut self, pc: u32, w: u32) -> Went
+    fn pause<const ASIDE: bool>(&mut self, pc: Pc, w: u32) -> Went
         requires on { self.old.stopped ≡ None }
         requires code { w % 64 ≡ 12 }
         ensures service { w ≡ 12 → (result ≡ Went.Service) × (self.new ≡ self.old) }
@@ -52,7 +53,7 @@ impl Rest {
 
     /// A word with the opcode 0.
     #[inline(always)]
-    fn execute_special<const ASIDE: bool>(&mut self, pc: u32, w: u32) -> Went
+    fn execute_special<const ASIDE: bool>(&mut self, pc: Pc, w: u32) -> Went
         requires on { self.old.stopped ≡ None }
         requires near { pc < 4294967288 }
         requires plain { ASIDE ≡ false → spec.IsClear self.old }
@@ -108,7 +109,7 @@ impl Rest {
 
     /// A word with another opcode.
     #[inline(always)]
-    fn execute_coded<const ASIDE: bool>(&mut self, pc: u32, w: u32) -> Went
+    fn execute_coded<const ASIDE: bool>(&mut self, pc: Pc, w: u32) -> Went
         requires on { self.old.stopped ≡ None }
         requires near { pc < 4294967288 }
         requires plain { ASIDE ≡ false → spec.IsClear self.old }
@@ -166,7 +167,7 @@ impl Rest {
     /// apart:
     /// one for where something is pending, and one for where nothing is.
     #[inline(always)]
-    pub(crate) fn execute<const ASIDE: bool>(&mut self, pc: u32, w: u32) -> Went
+    pub(crate) fn execute<const ASIDE: bool>(&mut self, pc: Pc, w: u32) -> Went
         requires on { self.old.stopped ≡ None }
         requires near { pc < 4294967288 }
         requires plain { ASIDE ≡ false → spec.IsClear self.old }

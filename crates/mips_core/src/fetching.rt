@@ -9,30 +9,31 @@ ghost use Rattle.mips_core.specs.Core as spec;
 ghost use Rattle.mips_model.specs.Beside.{is_at_service};
 ghost use Rattle.mips_core.specs.Core.{state_of, world_of};
 
+use crate::course::Course;
 use crate::halt::Went;
+use crate::pc::Pc;
 use crate::rest::Rest;
 use host_edge::MachineKind;
 use word32::map;
 
 /// The word of the text at an address: none where the address is no multiple of 4 or lies outside the text.
 #[inline(always)]
-fn text_word(text: &[u32], pc: u32) -> Option<u32>
+fn text_word(text: &[u32], pc: Pc) -> Option<u32>
     requires { length text.now ≤ TEXT_WORDS }
     ensures word { result ≡ spec.text_fetched text.now pc }
     ensures below { IfSome result (λ w. pc < ARENA) }
 {
-    let from = pc.wrapping_sub(map::TEXT);
-    let i = (from / 4 + from % 4 * 0x4000_0000) as usize;
+    let i = pc.place();
     if i < text.len() { Some(text[i]) } else { None }
 }
 
 impl Rest {
     /// The word at an address that isn't in the text, or why none is executed there.
     #[inline(always)]
-    fn fetch_from_arena(&self, pc: u32) -> Result<u32, MachineKind>
+    fn fetch_from_arena(&self, pc: Pc) -> Result<u32, MachineKind>
         ensures { result ≡ spec.word_past_text (state_of self.now).code pc }
     {
-        let from = pc.wrapping_sub(map::ARENA);
+        let from = pc.address().wrapping_sub(map::ARENA);
         let i = from / 4 + from % 4 * 0x4000_0000;
         if i < map::ARENA_WORDS {
             match self.arena.fetch(i) {
@@ -44,11 +45,30 @@ impl Rest {
         }
     }
 
-    /// The word at an address that isn't in the text, if one is executed there. A call, so that a word of the text is
-    /// loaded where it is found to be one.
+    /// The next word, where it isn't of the text or the count is spent. A call, so that a word of the text is loaded
+    /// where it is found to be one.
     #[cold]
     #[inline(never)]
-    fn arena_word(&self, pc: u32) -> Option<u32>
+    fn word_elsewhere(&self, text: &[u32], at: &Course) -> Option<u32>
+        requires text { text_of text.now ≡ (state_of self.now).code.text }
+        requires fits { length text.now ≤ TEXT_WORDS }
+        ensures some { IfSome result (λ w. 0 < at.now.left) }
+        ensures word { IfSome result (λ w. steps.word_at (state_of self.now).code at.now.pc ≡ Ok w) }
+        ensures near { IfSome result (λ w. at.now.pc < 4294967288) }
+        ensures none { result ≡ None → 0 < at.now.left →
+            spec.word_of (steps.word_at (state_of self.now).code at.now.pc) ≡ None }
+    {
+        if at.left() == 0 {
+            return None;
+        }
+        match text_word(text, at.pc()) {
+            Some(w) => Some(w),
+            None => self.arena_word(at.pc()),
+        }
+    }
+
+    /// The word at an address that isn't in the text, if one is executed there.
+    fn arena_word(&self, pc: Pc) -> Option<u32>
         ensures { result ≡ spec.word_of (spec.word_past_text (state_of self.now).code pc) }
     {
         match self.fetch_from_arena(pc) {
@@ -57,61 +77,71 @@ impl Rest {
         }
     }
 
-    /// The word at an address, if one is executed there.
+    /// The next word, if one is executed there and the count isn't spent.
     #[inline(always)]
-    fn fetch(&self, text: &[u32], pc: u32) -> Option<u32>
+    fn fetch(&self, text: &[u32], at: &Course) -> Option<u32>
         requires text { text_of text.now ≡ (state_of self.now).code.text }
         requires fits { length text.now ≤ TEXT_WORDS }
-        ensures word { IfSome result (λ w. steps.word_at (state_of self.now).code pc ≡ Ok w) }
-        ensures near { IfSome result (λ w. pc < 4294967288) }
-        ensures none { result ≡ None → spec.word_of (steps.word_at (state_of self.now).code pc) ≡ None }
+        requires reach { at.now.reach ≤ length text.now }
+        ensures some { IfSome result (λ w. 0 < at.now.left) }
+        ensures word { IfSome result (λ w. steps.word_at (state_of self.now).code at.now.pc ≡ Ok w) }
+        ensures near { IfSome result (λ w. at.now.pc < 4294967288) }
+        ensures none { result ≡ None → 0 < at.now.left →
+            spec.word_of (steps.word_at (state_of self.now).code at.now.pc) ≡ None }
     {
-        match text_word(text, pc) {
+        match at.word(text) {
             Some(w) => Some(w),
-            None => self.arena_word(pc),
+            None => self.word_elsewhere(text, at),
         }
     }
 
-    /// The machine refuses to fetch.
+    /// No word is next: the count is spent, or the machine refuses to fetch.
     #[cold]
     #[inline(never)]
-    fn refuse(&mut self, pc: u32) -> Went
+    fn refuse(&mut self, at: &Course) -> Went
         requires on { self.old.stopped ≡ None }
-        requires none { spec.word_of (steps.word_at (state_of self.old).code pc) ≡ None }
-        ensures service { is_at_service (state_of (spec.at pc self.old)) ≡ false }
-        ensures world { world_of (spec.at pc self.new) ≡ steps.step (world_of (spec.at pc self.old)) }
-        ensures went { (result ≡ Went.Stopped) × (self.new.stopped ≢ None) }
+        requires none { 0 < at.now.left → spec.word_of (steps.word_at (state_of self.old).code at.now.pc) ≡ None }
+        ensures spent { at.now.left ≡ 0 → (result ≡ Went.Service) × (self.new ≡ self.old) }
+        ensures service { 0 < at.now.left → is_at_service (state_of (spec.at at.now.pc self.old)) ≡ false }
+        ensures world { 0 < at.now.left →
+            world_of (spec.at at.now.pc self.new) ≡ steps.step (world_of (spec.at at.now.pc self.old)) }
+        ensures went { 0 < at.now.left → (result ≡ Went.Stopped) × (self.new.stopped ≢ None) }
     {
-        match self.fetch_from_arena(pc) {
+        if at.left() == 0 {
+            return Went::Service;
+        }
+        match self.fetch_from_arena(at.pc()) {
             Ok(_) => unreachable!(),
-            Err(kind) => self.fault(kind, pc),
+            Err(kind) => self.fault(kind, at.pc()),
         }
     }
 
-    /// One instruction where nothing is pending, unless it is SYSCALL.
+    /// One instruction where nothing is pending, unless it is SYSCALL or the count is spent.
     #[inline(always)]
-    fn step(&mut self, text: &[u32], pc: u32) -> Went
+    fn step(&mut self, text: &[u32], at: &Course) -> Went
         requires on { self.old.stopped ≡ None }
         requires clear { spec.IsClear self.old }
         requires text { text_of text.now ≡ (state_of self.old).code.text }
         requires fits { length text.now ≤ TEXT_WORDS }
-        ensures service { is_at_service (state_of (spec.at pc self.old)) ≡ true →
+        requires reach { at.now.reach ≤ length text.now }
+        ensures spent { at.now.left ≡ 0 → (result ≡ Went.Service) × (self.new ≡ self.old) }
+        ensures service { 0 < at.now.left → is_at_service (state_of (spec.at at.now.pc self.old)) ≡ true →
             (result ≡ Went.Service) × (self.new ≡ self.old) }
-        ensures other { is_at_service (state_of (spec.at pc self.old)) ≡ false →
-            (world_of (spec.at (spec.went_to result pc) self.new) ≡ steps.step (world_of (spec.at pc self.old)))
-            × spec.Leaves false result pc self.new }
-        ensures near { result ≢ Went.Stopped → pc < 4294967288 }
+        ensures other { 0 < at.now.left → is_at_service (state_of (spec.at at.now.pc self.old)) ≡ false →
+            (world_of (spec.at (spec.went_to result at.now.pc) self.new)
+            ≡ steps.step (world_of (spec.at at.now.pc self.old))) × spec.Leaves false result at.now.pc self.new }
+        ensures near { result ≢ Went.Stopped → 0 < at.now.left → at.now.pc < 4294967288 }
     {
-        match self.fetch(text, pc) {
-            Some(w) => self.execute::<false>(pc, w),
-            None => self.refuse(pc),
+        match self.fetch(text, at) {
+            Some(w) => self.execute::<false>(at.pc(), w),
+            None => self.refuse(at),
         }
     }
 
     /// The instruction of this word where something is pending, unless it is SYSCALL.
     #[cold]
     #[inline(never)]
-    fn step_aside(&mut self, pc: u32, w: u32) -> Went
+    fn step_aside(&mut self, pc: Pc, w: u32) -> Went
         requires on { self.old.stopped ≡ None }
         requires near { pc < 4294967288 }
         requires word { steps.word_at (state_of self.old).code pc ≡ Ok w }
@@ -124,17 +154,35 @@ impl Rest {
         self.execute::<true>(pc, w)
     }
 
-    /// Past a nop, which is never a hazard, where something is pending: to the address that is answered.
+    /// Past a nop, which is never a hazard, where something is pending; it answers whether nothing is any more.
     #[inline(always)]
-    fn pass(&mut self, pc: u32) -> u32
+    fn pass(&mut self, text: &[u32], at: &mut Course) -> bool
         requires on { self.old.stopped ≡ None }
-        requires near { pc < 4294967288 }
-        requires word { steps.word_at (state_of self.old).code pc ≡ Ok 0 }
-        ensures service { is_at_service (state_of (spec.at pc self.old)) ≡ false }
-        ensures world { world_of (spec.at result self.new) ≡ steps.step (world_of (spec.at pc self.old)) }
+        requires some { 0 < at.old.left }
+        requires near { at.old.pc < 4294967288 }
+        requires reach { at.old.reach ≤ length text.now }
+        requires word { steps.word_at (state_of self.old).code at.old.pc ≡ Ok 0 }
+        ensures service { is_at_service (state_of (spec.at at.old.pc self.old)) ≡ false }
+        ensures world { world_of (spec.at at.new.pc self.new) ≡ steps.step (world_of (spec.at at.old.pc self.old)) }
         ensures on { self.new.stopped ≡ None }
+        ensures left { at.new.left ≡ at.old.left - 1 }
+        ensures reach { at.new.reach ≤ length text.now }
+        ensures clear { result ≡ true → spec.IsClear self.new }
     {
-        self.settle(pc)
+        if self.slot {
+            at.go_to(text, self.target);
+        } else {
+            at.go_straight();
+        }
+        self.slot = false;
+        self.loaded = 0;
+        self.pending = false;
+        if self.recent == 0 {
+            return true;
+        }
+        self.pending = self.recent > 1;
+        self.recent -= 1;
+        !self.pending
     }
 
     /// Executes up to n instructions until the machine stops or a SYSCALL is next, and answers how many of n are left.
@@ -149,64 +197,51 @@ impl Rest {
         ensures next { result ≢ 0 → self.new.stopped ≡ None → self.new.next < 4294967296 }
         ensures text { text_of text.now ≡ (state_of self.new).code.text }
     {
-        let mut left = n;
-        let mut pc = self.pc();
-        while left > 0 {
-            if self.is_clear() {
-                while left > 0 {
-                    match self.step(text, pc) {
-                        Went::On(_) => {
-                            pc += 4;
-                            left -= 1;
-                        }
-                        Went::Pending(_) => {
-                            pc += 4;
-                            left -= 1;
-                            break;
-                        }
-                        Went::Stopped => {
-                            self.stand(pc);
-                            return left - 1;
-                        }
-                        Went::Service => {
-                            self.stand(pc);
-                            return left;
-                        }
+        let mut at = Course::new(text, self.pc(), n);
+        let mut clear = self.is_clear();
+        loop {
+            while clear {
+                match self.step(text, &at) {
+                    Went::On(_) => at.go_straight(),
+                    Went::Pending(_) => {
+                        at.go_straight();
+                        clear = false;
                     }
-                }
-            } else {
-                match self.fetch(text, pc) {
-                    None => {
-                        self.refuse(pc);
-                        self.stand(pc);
-                        return left - 1;
+                    Went::Stopped => {
+                        self.stand(at.pc());
+                        return at.left() - 1;
                     }
-                    Some(0) => {
-                        pc = self.pass(pc);
-                        left -= 1;
+                    Went::Service => {
+                        self.stand(at.pc());
+                        return at.left();
                     }
-                    Some(w) => match self.step_aside(pc, w) {
-                        Went::On(next) => {
-                            pc = next;
-                            left -= 1;
-                        }
-                        Went::Pending(next) => {
-                            pc = next;
-                            left -= 1;
-                        }
-                        Went::Stopped => {
-                            self.stand(pc);
-                            return left - 1;
-                        }
-                        Went::Service => {
-                            self.stand(pc);
-                            return left;
-                        }
-                    },
                 }
             }
+            match self.fetch(text, &at) {
+                None => {
+                    let went = self.refuse(&at);
+                    self.stand(at.pc());
+                    return match went {
+                        Went::Stopped => at.left() - 1,
+                        _ => 0,
+                    };
+                }
+                Some(0) => clear = self.pass(text, &mut at),
+                Some(w) => match self.step_aside(at.pc(), w) {
+                    Went::On(next) | Went::Pending(next) => {
+                        at.go_to(text, next);
+                        clear = self.is_clear();
+                    }
+                    Went::Stopped => {
+                        self.stand(at.pc());
+                        return at.left() - 1;
+                    }
+                    Went::Service => {
+                        self.stand(at.pc());
+                        return at.left();
+                    }
+                },
+            }
         }
-        self.stand(pc);
-        0
     }
 }

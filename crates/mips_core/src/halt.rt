@@ -1,5 +1,6 @@
 //! Why the core stops by itself.
 
+use crate::pc::Pc;
 use host_edge::{Ending, MachineKind};
 
 /// How a run ended at an instruction that isn't a service.
@@ -15,11 +16,11 @@ pub enum Halt {
 #[derive(Clone, Copy)]
 pub enum Went {
     /// It was executed, and the run goes on at this address.
-    On(u32),
+    On(Pc),
     /// The same, and what follows at this address may not be any instruction, or stands in a delay slot.
-    Pending(u32),
+    Pending(Pc),
     /// It ended the run, or was refused.
     Stopped,
-    /// It is SYSCALL, and was not executed.
+    /// It is SYSCALL, or no instruction was left: none was executed.
     Service,
 }

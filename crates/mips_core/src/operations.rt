@@ -8,6 +8,7 @@ ghost use Rattle.mips_core.specs.Core.{state_of, world_of};
 
 use crate::arithmetic::{arithmetic, by_number, immediate, multiply_divide, shifted};
 use crate::halt::Went;
+use crate::pc::Pc;
 use crate::rest::Rest;
 use host_edge::MachineKind;
 use mips_encoder::{
@@ -17,7 +18,7 @@ use mips_encoder::{
 
 impl Rest {
     #[inline(always)]
-    fn give<const ASIDE: bool>(&mut self, pc: u32, r: Register, v: Option<u32>) -> Went
+    fn give<const ASIDE: bool>(&mut self, pc: Pc, r: Register, v: Option<u32>) -> Went
         requires on { self.old.stopped ≡ None }
         requires near { pc < 4294967288 }
         requires plain { ASIDE ≡ false → spec.IsClear self.old }
@@ -35,12 +36,7 @@ impl Rest {
     }
 
     #[inline(always)]
-    pub(crate) fn arithmetic<const ASIDE: bool>(
-        &mut self,
-        pc: u32,
-        op: ArithmeticOp,
-        w: u32,
-    ) -> Went
+    pub(crate) fn arithmetic<const ASIDE: bool>(&mut self, pc: Pc, op: ArithmeticOp, w: u32) -> Went
         requires on { self.old.stopped ≡ None }
         requires near { pc < 4294967288 }
         requires plain { ASIDE ≡ false → spec.IsClear self.old }
@@ -59,7 +55,7 @@ impl Rest {
     }
 
     #[inline(always)]
-    pub(crate) fn immediate<const ASIDE: bool>(&mut self, pc: u32, op: ImmediateOp, w: u32) -> Went
+    pub(crate) fn immediate<const ASIDE: bool>(&mut self, pc: Pc, op: ImmediateOp, w: u32) -> Went
         requires on { self.old.stopped ≡ None }
         requires near { pc < 4294967288 }
         requires plain { ASIDE ≡ false → spec.IsClear self.old }
@@ -75,7 +71,7 @@ impl Rest {
     }
 
     #[inline(always)]
-    pub(crate) fn shift<const ASIDE: bool>(&mut self, pc: u32, op: ShiftOp, w: u32) -> Went
+    pub(crate) fn shift<const ASIDE: bool>(&mut self, pc: Pc, op: ShiftOp, w: u32) -> Went
         requires on { self.old.stopped ≡ None }
         requires near { pc < 4294967288 }
         requires plain { ASIDE ≡ false → spec.IsClear self.old }
@@ -97,7 +93,7 @@ impl Rest {
     #[inline(always)]
     pub(crate) fn shift_variable<const ASIDE: bool>(
         &mut self,
-        pc: u32,
+        pc: Pc,
         op: ShiftVariableOp,
         w: u32,
     ) -> Went
@@ -120,7 +116,7 @@ impl Rest {
     }
 
     #[inline(always)]
-    pub(crate) fn load_upper<const ASIDE: bool>(&mut self, pc: u32, w: u32) -> Went
+    pub(crate) fn load_upper<const ASIDE: bool>(&mut self, pc: Pc, w: u32) -> Went
         requires on { self.old.stopped ≡ None }
         requires near { pc < 4294967288 }
         requires plain { ASIDE ≡ false → spec.IsClear self.old }
@@ -139,7 +135,7 @@ impl Rest {
     }
 
     #[inline(always)]
-    pub(crate) fn move_from<const ASIDE: bool>(&mut self, pc: u32, half: HiLo, w: u32) -> Went
+    pub(crate) fn move_from<const ASIDE: bool>(&mut self, pc: Pc, half: HiLo, w: u32) -> Went
         requires on { self.old.stopped ≡ None }
         requires near { pc < 4294967288 }
         requires plain { ASIDE ≡ false → spec.IsClear self.old }
@@ -164,7 +160,7 @@ impl Rest {
     }
 
     #[inline(always)]
-    pub(crate) fn move_to<const ASIDE: bool>(&mut self, pc: u32, half: HiLo, w: u32) -> Went
+    pub(crate) fn move_to<const ASIDE: bool>(&mut self, pc: Pc, half: HiLo, w: u32) -> Went
         requires on { self.old.stopped ≡ None }
         requires near { pc < 4294967288 }
         requires plain { ASIDE ≡ false → spec.IsClear self.old }
@@ -190,7 +186,7 @@ impl Rest {
     #[inline(always)]
     pub(crate) fn multiply_divide<const ASIDE: bool>(
         &mut self,
-        pc: u32,
+        pc: Pc,
         op: MultiplyDivideOp,
         w: u32,
     ) -> Went

@@ -14,6 +14,7 @@ ghost use Rattle.mips_core.specs.Core as spec;
 ghost use Rattle.mips_core.specs.Core.{state_of, data_of, world_of};
 
 use crate::halt::{Halt, Went};
+use crate::pc::Pc;
 use crate::table::number;
 use code_arena::{CodeArena, FunctionRows};
 use flat_memory::Memory;
@@ -26,9 +27,9 @@ use std::marker::Model;
 /// The machine but for its services and the text that it fetches.
 #[derive(Drop)]
 pub(crate) struct Rest {
-    pub(crate) pc: u32,
+    pub(crate) pc: Pc,
     // where the run goes on behind a delay slot, if the next instruction stands in one
-    pub(crate) target: u32,
+    pub(crate) target: Pc,
     pub(crate) loaded: u32,
     pub(crate) recent: u32,
     pub(crate) slot: bool,
@@ -91,8 +92,8 @@ impl Rest {
             registers: [0; 32],
             hi: 0,
             lo: 0,
-            pc: entry,
-            target: 0,
+            pc: Pc::at(entry),
+            target: Pc::at(0),
             loaded: 0,
             recent: 0,
             slot: false,
@@ -132,8 +133,8 @@ impl Rest {
         self.registers = [0; 32];
         self.hi = 0;
         self.lo = 0;
-        self.pc = entry;
-        self.target = 0;
+        self.pc = Pc::at(entry);
+        self.target = Pc::at(0);
         self.loaded = 0;
         self.recent = 0;
         self.slot = false;
@@ -169,7 +170,7 @@ impl Rest {
 
     /// The next instruction stands at this address.
     #[inline(always)]
-    pub(crate) fn stand(&mut self, pc: u32)
+    pub(crate) fn stand(&mut self, pc: Pc)
         ensures core { self.new ≡ spec.at pc self.old }
         ensures next { pc < 4294967288 → self.new.next < 4294967296 }
     {
@@ -188,7 +189,7 @@ impl Rest {
     /// The program ends.
     #[cold]
     #[inline(never)]
-    pub(crate) fn end(&mut self, e: Ending, pc: u32) -> Went
+    pub(crate) fn end(&mut self, e: Ending, pc: Pc) -> Went
         ensures world { world_of (spec.at pc self.new) ≡ steps.ended (spec.ends e) (state_of (spec.at pc self.old)) }
         ensures went { (result ≡ Went.Stopped) × (self.new.stopped ≢ None) }
     {
@@ -199,11 +200,11 @@ impl Rest {
     /// The machine refuses the next instruction.
     #[cold]
     #[inline(never)]
-    pub(crate) fn fault(&mut self, kind: MachineKind, pc: u32) -> Went
+    pub(crate) fn fault(&mut self, kind: MachineKind, pc: Pc) -> Went
         ensures world { world_of (spec.at pc self.new) ≡ steps.faulted kind (state_of (spec.at pc self.old)) }
         ensures went { (result ≡ Went.Stopped) × (self.new.stopped ≢ None) }
     {
-        self.stop(Halt::Fault(kind, pc));
+        self.stop(Halt::Fault(kind, pc.address()));
         Went::Stopped
     }
 }

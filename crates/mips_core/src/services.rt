@@ -12,6 +12,7 @@ ghost use Rattle.mips_model.specs.Steps as steps;
 ghost use Rattle.mips_core.specs.Core as spec;
 ghost use Rattle.mips_core.specs.Core.{state_of, world_of};
 
+use crate::pc::Pc;
 use crate::rest::Rest;
 use icode_service::{BadService, Service};
 use mips_encoder::Register;
@@ -19,7 +20,7 @@ use mips_encoder::Register;
 impl Rest {
     /// The address of the next instruction.
     #[inline(always)]
-    pub(crate) fn pc(&self) -> u32
+    pub(crate) fn pc(&self) -> Pc
         ensures pc { result ≡ self.now.pc }
         ensures own { spec.at result self.now ≡ self.now }
     {

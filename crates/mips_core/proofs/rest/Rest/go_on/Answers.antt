@@ -1,176 +1,461 @@
-use Rattle.std.proofs.Common.{◌-◌, true, false, refl, arith}
-use Rattle.mips_core.proofs.Stepped.{plain_on, plain_pending, aside_on, aside_pending}
-use Rattle.mips_core.proofs.Stretches.{Ran, further, stepped, onward, stops, stopped, pauses, serves, same_words}
+use Rattle.std.proofs.Common.{ℕ, ◌≢◌, ◌<◌, ◌≤◌, ◌-◌, None, true, false, refl, sym, ap, subst, ◌∙◌, arith, length}
+use Rattle.mips_core.specs.Core.{CoreKept, GoesOn, Pauses, at}
+use Rattle.mips_core.proofs.Loops.{goes_count, goes_none}
+use Rattle.mips_core.proofs.Stepped.{plain_on, plain_pending, aside_next, some_left, none_left, some_of, pauses_stopped}
+use Rattle.mips_core.proofs.Stepped.{on_not, pending_not, stopped_not, on_runs, pending_runs, service_runs}
+use Rattle.mips_core.proofs.Stretches.{Ran, further, stepped, onward, stops, stopped, halts, stays, serves}
+use Rattle.mips_core.proofs.Stretches.{serves_or_spent, serves_next, along, stands, same_words}
 use Rattle.mips_core.proofs.rest.Rest.go_on.Goals as goal
 
-pub loop-left-preserved-in-loop-left-then-is_clear : goal.loop-left-preserved-in-loop-left-then-is_clear
-loop-left-preserved-in-loop-left-then-is_clear c =
-    let i = c.loop-left-then-is_clear.invariant in
-    record { within = i.within; ran = i.ran; on = i.on; text = i.text }
+pub loop-clear-init : goal.loop-clear-init
+loop-clear-init c =
+    let e = c.new-at.ensures in
+    let left = e.left in
+    let own = ap (λ (a : ℕ). at a c.args.self.now) e.pc ∙ c.pc.ensures.own in
+    record {
+      within = omega (arith, left);
+      ran = subst (GoesOn (c.args.n - c.new-at.result.left) c.args.self.now) (sym own)
+          (goes_count (omega (arith, left)) (goes_none c.args.self.now));
+      on = c.requires.on;
+      text = refl;
+      reach = e.reach;
+      clear = c.is_clear-clear.ensures;
+    }
 
-pub loop-left-then-is_clear-preserved : goal.loop-left-then-is_clear-preserved
-loop-left-then-is_clear-preserved c =
-    let i = c.loop-left-then-is_clear.invariant in
-    let r : Ran c.args.n c.loop-left-then-is_clear.left c.loop-left-then-is_clear.pc c.args.self.now
-    c.loop-left-then-is_clear.self =
+pub loop-clear-2-init : goal.loop-clear-2-init
+loop-clear-2-init c =
+    let i = c.loop-clear.invariant in
+    record {
+      within = i.within;
+      ran = i.ran;
+      on = i.on;
+      text = i.text;
+      reach = i.reach;
+      clear = i.clear;
+      fewer = omega (arith);
+    }
+
+pub step-requires-clause-clear : goal.step-requires-clause-clear
+step-requires-clause-clear c =
+    c.loop-clear-2.invariant.clear c.loop-clear-2-test.true
+
+pub go_straight-requires-clause-near : goal.go_straight-requires-clause-near
+go_straight-requires-clause-near c =
+    let some = some_left c.loop-clear-2.at.left c.in-On.ensures.spent (on_not _) in
+    let near = c.in-On.ensures.near (on_runs _) some in
+    omega (arith, near)
+
+pub go_straight-requires-clause-some : goal.go_straight-requires-clause-some
+go_straight-requires-clause-some c =
+    some_left c.loop-clear-2.at.left c.in-On.ensures.spent (on_not _)
+
+pub loop-clear-2-smaller-in-On : goal.loop-clear-2-smaller-in-On
+loop-clear-2-smaller-in-On c =
+    let some = some_left c.loop-clear-2.at.left c.in-On.ensures.spent (on_not _) in
+    let left = c.go_straight.ensures.left in
+    omega (arith, left, some)
+
+pub loop-clear-2-preserved-in-On : goal.loop-clear-2-preserved-in-On
+loop-clear-2-preserved-in-On c =
+    let i = c.loop-clear-2.invariant in
+    let r : Ran c.args.n c.loop-clear-2.at.left c.loop-clear-2.at.pc c.args.self.now c.loop-clear-2.self =
     record { within = i.within; ran = i.ran; on = i.on; text = i.text } in
-    let h = plain_on c.loop-left-then-is_clear.pc c.loop-left-then-is_clear.self c.step.new.self c.in-On.ensures.service
-    c.in-On.ensures.other refl i.on i.ran in
-    let some = c.loop-left-then-is_clear-test.true in
+    let some = some_left c.loop-clear-2.at.left c.in-On.ensures.spent (on_not _) in
+    let h = plain_on c.loop-clear-2.at.pc c.loop-clear-2.self c.step.new.self (c.in-On.ensures.service some)
+    (c.in-On.ensures.other some) refl i.on i.ran in
+    let e = c.go_straight.ensures in
+    let f = along e.left e.pc (further some r h.0) in
+    let left = e.left in
     let fewer = i.fewer in
-    let f = further some r h.0 in
     record {
       within = f.within;
       ran = f.ran;
       on = f.on;
       text = f.text;
-      clear = h.1;
-      fewer = omega (arith, some, fewer);
+      reach = subst (λ (m : ℕ). m ≤ length c.args.text.now) (sym e.reach) i.reach;
+      clear = λ is. h.1;
+      fewer = omega (arith, left, fewer);
     }
 
-pub loop-left-smaller-in-Pending : goal.loop-left-smaller-in-Pending
-loop-left-smaller-in-Pending c =
-    let some = c.loop-left-then-is_clear-test.true in
-    let fewer = c.loop-left-then-is_clear.invariant.fewer in
-    omega (arith, some, fewer)
+pub go_straight-requires-in-Pending-clause-near : goal.go_straight-requires-in-Pending-clause-near
+go_straight-requires-in-Pending-clause-near c =
+    let some = some_left c.loop-clear-2.at.left c.in-Pending.ensures.spent (pending_not _) in
+    let near = c.in-Pending.ensures.near (pending_runs _) some in
+    omega (arith, near)
 
-pub loop-left-preserved-in-Pending : goal.loop-left-preserved-in-Pending
-loop-left-preserved-in-Pending c =
-    let i = c.loop-left-then-is_clear.invariant in
-    let r : Ran c.args.n c.loop-left-then-is_clear.left c.loop-left-then-is_clear.pc c.args.self.now
-    c.loop-left-then-is_clear.self =
-    record { within = i.within; ran = i.ran; on = i.on; text = i.text } in
-    let h = plain_pending c.loop-left-then-is_clear.pc c.loop-left-then-is_clear.self c.step.new.self
-    c.in-Pending.ensures.service c.in-Pending.ensures.other refl i.on
-    i.ran in
-    let f = further c.loop-left-then-is_clear-test.true r h in
-    record { within = f.within; ran = f.ran; on = f.on; text = f.text }
+pub go_straight-requires-in-Pending-clause-some : goal.go_straight-requires-in-Pending-clause-some
+go_straight-requires-in-Pending-clause-some c =
+    some_left c.loop-clear-2.at.left c.in-Pending.ensures.spent (pending_not _)
 
-pub loop-left-preserved-in-On-step_aside : goal.loop-left-preserved-in-On-step_aside
-loop-left-preserved-in-On-step_aside c =
-    let i = c.loop-left.invariant in
-    let r : Ran c.args.n c.loop-left.left c.loop-left.pc c.args.self.now c.loop-left.self =
-    record { within = i.within; ran = i.ran; on = i.on; text = i.text } in
-    let h = aside_on c.loop-left.pc c.loop-left.self c.step_aside.new.self c.in-On-step_aside.ensures.service
-    c.in-On-step_aside.ensures.other refl i.on
-    i.ran in
-    let f = further c.loop-left-test.true r h in
-    record { within = f.within; ran = f.ran; on = f.on; text = f.text }
+pub loop-clear-2-smaller : goal.loop-clear-2-smaller
+loop-clear-2-smaller c =
+    let some = some_left c.loop-clear-2.at.left c.in-Pending.ensures.spent (pending_not _) in
+    let left = c.go_straight-in-Pending.ensures.left in
+    omega (arith, left, some)
 
-pub loop-left-preserved : goal.loop-left-preserved
-loop-left-preserved c =
-    let i = c.loop-left.invariant in
-    let r : Ran c.args.n c.loop-left.left c.loop-left.pc c.args.self.now c.loop-left.self =
+pub loop-clear-2-preserved : goal.loop-clear-2-preserved
+loop-clear-2-preserved c =
+    let i = c.loop-clear-2.invariant in
+    let r : Ran c.args.n c.loop-clear-2.at.left c.loop-clear-2.at.pc c.args.self.now c.loop-clear-2.self =
     record { within = i.within; ran = i.ran; on = i.on; text = i.text } in
-    let h = aside_pending c.loop-left.pc c.loop-left.self c.step_aside.new.self c.in-Pending-step_aside.ensures.service
-    c.in-Pending-step_aside.ensures.other refl i.on
-    i.ran in
-    let f = further c.loop-left-test.true r h in
-    record { within = f.within; ran = f.ran; on = f.on; text = f.text }
+    let some = some_left c.loop-clear-2.at.left c.in-Pending.ensures.spent (pending_not _) in
+    let h = plain_pending c.loop-clear-2.at.pc c.loop-clear-2.self c.step.new.self (c.in-Pending.ensures.service some)
+    (c.in-Pending.ensures.other some) refl i.on i.ran in
+    let e = c.go_straight-in-Pending.ensures in
+    let f = along e.left e.pc (further some r h) in
+    let left = e.left in
+    let fewer = i.fewer in
+    record {
+      within = f.within;
+      ran = f.ran;
+      on = f.on;
+      text = f.text;
+      reach = subst (λ (m : ℕ). m ≤ length c.args.text.now) (sym e.reach) i.reach;
+      clear = λ is. absurd cc;
+      fewer = omega (arith, left, fewer);
+    }
 
-pub loop-left-preserved-in-Some-eq0 : goal.loop-left-preserved-in-Some-eq0
-loop-left-preserved-in-Some-eq0 c =
-    let i = c.loop-left.invariant in
-    let r : Ran c.args.n c.loop-left.left c.loop-left.pc c.args.self.now c.loop-left.self =
-    record { within = i.within; ran = i.ran; on = i.on; text = i.text } in
-    let e = c.pass-pc.ensures in
-    let f = further c.loop-left-test.true r
-    (onward {new = c.pass-pc.new.self} e.on (stepped i.on e.service e.world i.ran)) in
-    record { within = f.within; ran = f.ran; on = f.on; text = f.text }
+pub overflow_sub-result : goal.overflow_sub-result
+overflow_sub-result c =
+    let some = some_left c.loop-clear-2.at.left c.in-Stopped.ensures.spent stopped_not in
+    let same = c.left.ensures in
+    omega (arith, same, some)
 
 pub returns-in-Stopped-clause-ran : goal.returns-in-Stopped-clause-ran
 returns-in-Stopped-clause-ran c =
-    let i = c.loop-left-then-is_clear.invariant in
-    let r : Ran c.args.n c.loop-left-then-is_clear.left c.loop-left-then-is_clear.pc c.args.self.now
-    c.loop-left-then-is_clear.self =
+    let i = c.loop-clear-2.invariant in
+    let r : Ran c.args.n c.loop-clear-2.at.left c.loop-clear-2.at.pc c.args.self.now c.loop-clear-2.self =
     record { within = i.within; ran = i.ran; on = i.on; text = i.text } in
-    (stopped {mid = c.loop-left-then-is_clear.self} false c.loop-left-then-is_clear-test.true r
-    c.in-Stopped.ensures.service c.in-Stopped.ensures.other c.stand.ensures.core).ran
+    let some = some_left c.loop-clear-2.at.left c.in-Stopped.ensures.spent stopped_not in
+    let f = c.in-Stopped.ensures.service some in
+    let g = c.in-Stopped.ensures.other some in
+    let some' = subst (λ (m : ℕ). 0 < m) (sym c.left.ensures) some in
+    let r' = along c.left.ensures refl r in
+    let is = stands c.step.new.self c.stand.ensures.core c.pc-in-Stopped.ensures in
+    (stopped {mid = c.loop-clear-2.self} false some' r' f g is).ran
 
 pub returns-in-Stopped-clause-text : goal.returns-in-Stopped-clause-text
 returns-in-Stopped-clause-text c =
-    let i = c.loop-left-then-is_clear.invariant in
-    let r : Ran c.args.n c.loop-left-then-is_clear.left c.loop-left-then-is_clear.pc c.args.self.now
-    c.loop-left-then-is_clear.self =
+    let i = c.loop-clear-2.invariant in
+    let r : Ran c.args.n c.loop-clear-2.at.left c.loop-clear-2.at.pc c.args.self.now c.loop-clear-2.self =
     record { within = i.within; ran = i.ran; on = i.on; text = i.text } in
-    same_words c.args.text.now c.requires.text
-    (stopped {mid = c.loop-left-then-is_clear.self} false c.loop-left-then-is_clear-test.true r
-    c.in-Stopped.ensures.service c.in-Stopped.ensures.other c.stand.ensures.core)
+    let some = some_left c.loop-clear-2.at.left c.in-Stopped.ensures.spent stopped_not in
+    let f = c.in-Stopped.ensures.service some in
+    let g = c.in-Stopped.ensures.other some in
+    let some' = subst (λ (m : ℕ). 0 < m) (sym c.left.ensures) some in
+    let r' = along c.left.ensures refl r in
+    let is = stands c.step.new.self c.stand.ensures.core c.pc-in-Stopped.ensures in
+    same_words c.args.text.now c.requires.text (stopped {mid = c.loop-clear-2.self} false some' r' f g is)
 
-pub returns-in-Service-clause-ran : goal.returns-in-Service-clause-ran
-returns-in-Service-clause-ran c =
-    let i = c.loop-left-then-is_clear.invariant in
-    let r : Ran c.args.n c.loop-left-then-is_clear.left c.loop-left-then-is_clear.pc c.args.self.now
-    c.loop-left-then-is_clear.self =
+pub returns-in-Stopped-clause-pauses : goal.returns-in-Stopped-clause-pauses
+returns-in-Stopped-clause-pauses c =
+    let i = c.loop-clear-2.invariant in
+    let r : Ran c.args.n c.loop-clear-2.at.left c.loop-clear-2.at.pc c.args.self.now c.loop-clear-2.self =
     record { within = i.within; ran = i.ran; on = i.on; text = i.text } in
-    (serves {mid = c.loop-left-then-is_clear.self} false r c.in-Service.ensures.service c.in-Service.ensures.other
-    c.stand-in-Service.ensures.core).ran
+    let some = some_left c.loop-clear-2.at.left c.in-Stopped.ensures.spent stopped_not in
+    let f = c.in-Stopped.ensures.service some in
+    let g = c.in-Stopped.ensures.other some in
+    let some' = subst (λ (m : ℕ). 0 < m) (sym c.left.ensures) some in
+    let r' = along c.left.ensures refl r in
+    let is = stands c.step.new.self c.stand.ensures.core c.pc-in-Stopped.ensures in
+    pauses_stopped (c.left.result - 1) c.stand.new.self (halts {mid = c.loop-clear-2.self} false r' f g is)
 
-pub returns-in-Service-clause-text : goal.returns-in-Service-clause-text
-returns-in-Service-clause-text c =
-    let i = c.loop-left-then-is_clear.invariant in
-    let r : Ran c.args.n c.loop-left-then-is_clear.left c.loop-left-then-is_clear.pc c.args.self.now
-    c.loop-left-then-is_clear.self =
+pub returns-in-Stopped-clause-next : goal.returns-in-Stopped-clause-next
+returns-in-Stopped-clause-next c =
+    let i = c.loop-clear-2.invariant in
+    let r : Ran c.args.n c.loop-clear-2.at.left c.loop-clear-2.at.pc c.args.self.now c.loop-clear-2.self =
     record { within = i.within; ran = i.ran; on = i.on; text = i.text } in
-    same_words c.args.text.now c.requires.text
-    (serves {mid = c.loop-left-then-is_clear.self} false r c.in-Service.ensures.service c.in-Service.ensures.other
-    c.stand-in-Service.ensures.core)
+    let some = some_left c.loop-clear-2.at.left c.in-Stopped.ensures.spent stopped_not in
+    let f = c.in-Stopped.ensures.service some in
+    let g = c.in-Stopped.ensures.other some in
+    let some' = subst (λ (m : ℕ). 0 < m) (sym c.left.ensures) some in
+    let r' = along c.left.ensures refl r in
+    let is = stands c.step.new.self c.stand.ensures.core c.pc-in-Stopped.ensures in
+    λ not on. absurd (halts {mid = c.loop-clear-2.self} false r' f g is on)
+
+pub returns-in-Stopped-clause-within : goal.returns-in-Stopped-clause-within
+returns-in-Stopped-clause-within c =
+    let i = c.loop-clear-2.invariant in
+    let r : Ran c.args.n c.loop-clear-2.at.left c.loop-clear-2.at.pc c.args.self.now c.loop-clear-2.self =
+    record { within = i.within; ran = i.ran; on = i.on; text = i.text } in
+    let within = i.within in
+    let same = c.left.ensures in
+    omega (arith, within, same)
+
+pub overflow_sub-result-in-Stopped-step_aside : goal.overflow_sub-result-in-Stopped-step_aside
+overflow_sub-result-in-Stopped-step_aside c =
+    let some = c.in-Some.ensures.some in
+    let same = c.left-in-Stopped-step_aside.ensures in
+    omega (arith, same, some)
 
 pub returns-in-Stopped-step_aside-clause-ran : goal.returns-in-Stopped-step_aside-clause-ran
 returns-in-Stopped-step_aside-clause-ran c =
-    let i = c.loop-left.invariant in
-    let r : Ran c.args.n c.loop-left.left c.loop-left.pc c.args.self.now c.loop-left.self =
+    let i = c.loop-clear-2.invariant in
+    let r : Ran c.args.n c.loop-clear-2.at.left c.loop-clear-2.at.pc c.args.self.now c.loop-clear-2.self =
     record { within = i.within; ran = i.ran; on = i.on; text = i.text } in
-    (stopped {mid = c.loop-left.self} true c.loop-left-test.true r c.in-Stopped-step_aside.ensures.service
-    c.in-Stopped-step_aside.ensures.other c.stand-in-Stopped-step_aside.ensures.core).ran
+    let some = c.in-Some.ensures.some in
+    let f = c.in-Stopped-step_aside.ensures.service in
+    let g = c.in-Stopped-step_aside.ensures.other in
+    let same = c.left-in-Stopped-step_aside.ensures in
+    let some' = subst (λ (m : ℕ). 0 < m) (sym same) some in
+    let r' = along same c.pc-in-Some.ensures r in
+    let is = stands c.step_aside.new.self c.stand-in-Stopped-step_aside.ensures.core
+    (c.pc-in-Stopped-step_aside.ensures ∙ sym c.pc-in-Some.ensures) in
+    (stopped {mid = c.loop-clear-2.self} true some' r' f g is).ran
 
 pub returns-in-Stopped-step_aside-clause-text : goal.returns-in-Stopped-step_aside-clause-text
 returns-in-Stopped-step_aside-clause-text c =
-    let i = c.loop-left.invariant in
-    let r : Ran c.args.n c.loop-left.left c.loop-left.pc c.args.self.now c.loop-left.self =
+    let i = c.loop-clear-2.invariant in
+    let r : Ran c.args.n c.loop-clear-2.at.left c.loop-clear-2.at.pc c.args.self.now c.loop-clear-2.self =
     record { within = i.within; ran = i.ran; on = i.on; text = i.text } in
-    same_words c.args.text.now c.requires.text
-    (stopped {mid = c.loop-left.self} true c.loop-left-test.true r c.in-Stopped-step_aside.ensures.service
-    c.in-Stopped-step_aside.ensures.other c.stand-in-Stopped-step_aside.ensures.core)
+    let some = c.in-Some.ensures.some in
+    let f = c.in-Stopped-step_aside.ensures.service in
+    let g = c.in-Stopped-step_aside.ensures.other in
+    let same = c.left-in-Stopped-step_aside.ensures in
+    let some' = subst (λ (m : ℕ). 0 < m) (sym same) some in
+    let r' = along same c.pc-in-Some.ensures r in
+    let is = stands c.step_aside.new.self c.stand-in-Stopped-step_aside.ensures.core
+    (c.pc-in-Stopped-step_aside.ensures ∙ sym c.pc-in-Some.ensures) in
+    same_words c.args.text.now c.requires.text (stopped {mid = c.loop-clear-2.self} true some' r' f g is)
 
 pub returns-in-Stopped-step_aside-clause-pauses : goal.returns-in-Stopped-step_aside-clause-pauses
 returns-in-Stopped-step_aside-clause-pauses c =
-    let i = c.loop-left.invariant in
-    let r : Ran c.args.n c.loop-left.left c.loop-left.pc c.args.self.now c.loop-left.self =
+    let i = c.loop-clear-2.invariant in
+    let r : Ran c.args.n c.loop-clear-2.at.left c.loop-clear-2.at.pc c.args.self.now c.loop-clear-2.self =
     record { within = i.within; ran = i.ran; on = i.on; text = i.text } in
-    pauses {mid = c.loop-left.self} true r c.in-Stopped-step_aside.ensures.service
-    c.in-Stopped-step_aside.ensures.other c.stand-in-Stopped-step_aside.ensures.core (c.loop-left.left - 1)
+    let some = c.in-Some.ensures.some in
+    let f = c.in-Stopped-step_aside.ensures.service in
+    let g = c.in-Stopped-step_aside.ensures.other in
+    let same = c.left-in-Stopped-step_aside.ensures in
+    let some' = subst (λ (m : ℕ). 0 < m) (sym same) some in
+    let r' = along same c.pc-in-Some.ensures r in
+    let is = stands c.step_aside.new.self c.stand-in-Stopped-step_aside.ensures.core
+    (c.pc-in-Stopped-step_aside.ensures ∙ sym c.pc-in-Some.ensures) in
+    pauses_stopped (c.left-in-Stopped-step_aside.result - 1) c.stand-in-Stopped-step_aside.new.self
+    (halts {mid = c.loop-clear-2.self} true r' f g is)
+
+pub returns-in-Stopped-step_aside-clause-next : goal.returns-in-Stopped-step_aside-clause-next
+returns-in-Stopped-step_aside-clause-next c =
+    let i = c.loop-clear-2.invariant in
+    let r : Ran c.args.n c.loop-clear-2.at.left c.loop-clear-2.at.pc c.args.self.now c.loop-clear-2.self =
+    record { within = i.within; ran = i.ran; on = i.on; text = i.text } in
+    let some = c.in-Some.ensures.some in
+    let f = c.in-Stopped-step_aside.ensures.service in
+    let g = c.in-Stopped-step_aside.ensures.other in
+    let same = c.left-in-Stopped-step_aside.ensures in
+    let some' = subst (λ (m : ℕ). 0 < m) (sym same) some in
+    let r' = along same c.pc-in-Some.ensures r in
+    let is = stands c.step_aside.new.self c.stand-in-Stopped-step_aside.ensures.core
+    (c.pc-in-Stopped-step_aside.ensures ∙ sym c.pc-in-Some.ensures) in
+    λ not on. absurd (halts {mid = c.loop-clear-2.self} true r' f g is on)
+
+pub returns-in-Stopped-step_aside-clause-within : goal.returns-in-Stopped-step_aside-clause-within
+returns-in-Stopped-step_aside-clause-within c =
+    let i = c.loop-clear-2.invariant in
+    let r : Ran c.args.n c.loop-clear-2.at.left c.loop-clear-2.at.pc c.args.self.now c.loop-clear-2.self =
+    record { within = i.within; ran = i.ran; on = i.on; text = i.text } in
+    let within = i.within in
+    let same = c.left-in-Stopped-step_aside.ensures in
+    omega (arith, within, same)
+
+pub returns-in-Service-clause-ran : goal.returns-in-Service-clause-ran
+returns-in-Service-clause-ran c =
+    let i = c.loop-clear-2.invariant in
+    let r : Ran c.args.n c.loop-clear-2.at.left c.loop-clear-2.at.pc c.args.self.now c.loop-clear-2.self =
+    record { within = i.within; ran = i.ran; on = i.on; text = i.text } in
+    let same = serves_or_spent {pc = c.loop-clear-2.at.pc} c.loop-clear-2.at.left c.in-Service.ensures.spent
+    c.in-Service.ensures.service c.in-Service.ensures.other in
+    let ends = stays (along c.left-in-Service.ensures refl r) same
+    (stands c.step.new.self c.stand-in-Service.ensures.core c.pc-in-Service.ensures) in
+    ends.ran
+
+pub returns-in-Service-clause-text : goal.returns-in-Service-clause-text
+returns-in-Service-clause-text c =
+    let i = c.loop-clear-2.invariant in
+    let r : Ran c.args.n c.loop-clear-2.at.left c.loop-clear-2.at.pc c.args.self.now c.loop-clear-2.self =
+    record { within = i.within; ran = i.ran; on = i.on; text = i.text } in
+    let same = serves_or_spent {pc = c.loop-clear-2.at.pc} c.loop-clear-2.at.left c.in-Service.ensures.spent
+    c.in-Service.ensures.service c.in-Service.ensures.other in
+    let ends = stays (along c.left-in-Service.ensures refl r) same
+    (stands c.step.new.self c.stand-in-Service.ensures.core c.pc-in-Service.ensures) in
+    same_words c.args.text.now c.requires.text ends
+
+pub returns-in-Service-clause-within : goal.returns-in-Service-clause-within
+returns-in-Service-clause-within c =
+    let i = c.loop-clear-2.invariant in
+    let r : Ran c.args.n c.loop-clear-2.at.left c.loop-clear-2.at.pc c.args.self.now c.loop-clear-2.self =
+    record { within = i.within; ran = i.ran; on = i.on; text = i.text } in
+    let within = i.within in
+    let same = c.left-in-Service.ensures in
+    omega (arith, within, same)
+
+pub returns-in-Service-clause-pauses : goal.returns-in-Service-clause-pauses
+returns-in-Service-clause-pauses c =
+    subst (λ (m : ℕ). Pauses m c.stand-in-Service.new.self) (sym c.left-in-Service.ensures)
+    (serves_next {pc = c.loop-clear-2.at.pc} {mid = c.loop-clear-2.self} {new = c.step.new.self} c.loop-clear-2.at.left
+    c.loop-clear-2.invariant.on c.in-Service.ensures.service c.in-Service.ensures.other
+    (stands c.step.new.self c.stand-in-Service.ensures.core c.pc-in-Service.ensures))
+
+pub returns-in-Service-clause-next : goal.returns-in-Service-clause-next
+returns-in-Service-clause-next c =
+    λ not on.
+    let some = subst (λ (m : ℕ). 0 < m) c.left-in-Service.ensures (some_of c.left-in-Service.result not) in
+    c.stand-in-Service.ensures.next
+    (subst (λ (a : ℕ). a < 4294967288) (sym c.pc-in-Service.ensures) (c.in-Service.ensures.near service_runs some))
 
 pub returns-in-Service-step_aside-clause-ran : goal.returns-in-Service-step_aside-clause-ran
 returns-in-Service-step_aside-clause-ran c =
-    let i = c.loop-left.invariant in
-    let r : Ran c.args.n c.loop-left.left c.loop-left.pc c.args.self.now c.loop-left.self =
+    let i = c.loop-clear-2.invariant in
+    let r : Ran c.args.n c.loop-clear-2.at.left c.loop-clear-2.at.pc c.args.self.now c.loop-clear-2.self =
     record { within = i.within; ran = i.ran; on = i.on; text = i.text } in
-    (serves {mid = c.loop-left.self} true r c.in-Service-step_aside.ensures.service
-    c.in-Service-step_aside.ensures.other c.stand-in-Service-step_aside.ensures.core).ran
+    let same = serves {pc = c.pc-in-Some.result} true c.in-Service-step_aside.ensures.service
+    c.in-Service-step_aside.ensures.other in
+    let ends = stays (along c.left-in-Service-step_aside.ensures refl r) same
+    (stands c.step_aside.new.self c.stand-in-Service-step_aside.ensures.core c.pc-in-Service-step_aside.ensures) in
+    ends.ran
 
 pub returns-in-Service-step_aside-clause-text : goal.returns-in-Service-step_aside-clause-text
 returns-in-Service-step_aside-clause-text c =
-    let i = c.loop-left.invariant in
-    let r : Ran c.args.n c.loop-left.left c.loop-left.pc c.args.self.now c.loop-left.self =
+    let i = c.loop-clear-2.invariant in
+    let r : Ran c.args.n c.loop-clear-2.at.left c.loop-clear-2.at.pc c.args.self.now c.loop-clear-2.self =
     record { within = i.within; ran = i.ran; on = i.on; text = i.text } in
-    same_words c.args.text.now c.requires.text
-    (serves {mid = c.loop-left.self} true r c.in-Service-step_aside.ensures.service
-    c.in-Service-step_aside.ensures.other c.stand-in-Service-step_aside.ensures.core)
+    let same = serves {pc = c.pc-in-Some.result} true c.in-Service-step_aside.ensures.service
+    c.in-Service-step_aside.ensures.other in
+    let ends = stays (along c.left-in-Service-step_aside.ensures refl r) same
+    (stands c.step_aside.new.self c.stand-in-Service-step_aside.ensures.core c.pc-in-Service-step_aside.ensures) in
+    same_words c.args.text.now c.requires.text ends
 
-pub returns-in-None-clause-ran : goal.returns-in-None-clause-ran
-returns-in-None-clause-ran c =
-    let i = c.loop-left.invariant in
-    let r : Ran c.args.n c.loop-left.left c.loop-left.pc c.args.self.now c.loop-left.self =
-    record { within = i.within; ran = i.ran; on = i.on; text = i.text } in
-    (stops {mid = c.loop-left.self} {new = c.refuse.new.self} c.loop-left-test.true r
-    (stepped i.on c.refuse.ensures.service c.refuse.ensures.world i.ran) c.stand-in-None.ensures.core).ran
+pub refuse-went-requires-clause-none : goal.refuse-went-requires-clause-none
+refuse-went-requires-clause-none c =
+    c.in-None.ensures.none refl
 
-pub returns-in-None-clause-text : goal.returns-in-None-clause-text
-returns-in-None-clause-text c =
-    let i = c.loop-left.invariant in
-    let r : Ran c.args.n c.loop-left.left c.loop-left.pc c.args.self.now c.loop-left.self =
+pub overflow_sub-result-in-Stopped-went : goal.overflow_sub-result-in-Stopped-went
+overflow_sub-result-in-Stopped-went c =
+    let some = some_left c.loop-clear-2.at.left c.in-Stopped-went.ensures.spent stopped_not in
+    let same = c.left-in-Stopped-went.ensures in
+    omega (arith, same, some)
+
+pub returns-in-Stopped-went-clause-ran : goal.returns-in-Stopped-went-clause-ran
+returns-in-Stopped-went-clause-ran c =
+    let i = c.loop-clear-2.invariant in
+    let r : Ran c.args.n c.loop-clear-2.at.left c.loop-clear-2.at.pc c.args.self.now c.loop-clear-2.self =
     record { within = i.within; ran = i.ran; on = i.on; text = i.text } in
-    same_words c.args.text.now c.requires.text
-    (stops {mid = c.loop-left.self} {new = c.refuse.new.self} c.loop-left-test.true r
-    (stepped i.on c.refuse.ensures.service c.refuse.ensures.world i.ran) c.stand-in-None.ensures.core)
+    let some = some_left c.loop-clear-2.at.left c.in-Stopped-went.ensures.spent stopped_not in
+    let e = c.in-Stopped-went.ensures in
+    let some' = subst (λ (m : ℕ). 0 < m) (sym c.left-in-Stopped-went.ensures) some in
+    let r' = along c.left-in-Stopped-went.ensures refl r in
+    let is = stands c.refuse-went.new.self c.stand-in-None.ensures.core c.pc-in-None.ensures in
+    let ends = stops {mid = c.loop-clear-2.self} {new = c.refuse-went.new.self} some' r'
+    (stepped i.on (e.service some) (e.world some) r'.ran) is in
+    ends.ran
+
+pub returns-in-Stopped-went-clause-text : goal.returns-in-Stopped-went-clause-text
+returns-in-Stopped-went-clause-text c =
+    let i = c.loop-clear-2.invariant in
+    let r : Ran c.args.n c.loop-clear-2.at.left c.loop-clear-2.at.pc c.args.self.now c.loop-clear-2.self =
+    record { within = i.within; ran = i.ran; on = i.on; text = i.text } in
+    let some = some_left c.loop-clear-2.at.left c.in-Stopped-went.ensures.spent stopped_not in
+    let e = c.in-Stopped-went.ensures in
+    let some' = subst (λ (m : ℕ). 0 < m) (sym c.left-in-Stopped-went.ensures) some in
+    let r' = along c.left-in-Stopped-went.ensures refl r in
+    let is = stands c.refuse-went.new.self c.stand-in-None.ensures.core c.pc-in-None.ensures in
+    let ends = stops {mid = c.loop-clear-2.self} {new = c.refuse-went.new.self} some' r'
+    (stepped i.on (e.service some) (e.world some) r'.ran) is in
+    same_words c.args.text.now c.requires.text ends
+
+pub returns-in-Stopped-went-clause-within : goal.returns-in-Stopped-went-clause-within
+returns-in-Stopped-went-clause-within c =
+    let i = c.loop-clear-2.invariant in
+    let r : Ran c.args.n c.loop-clear-2.at.left c.loop-clear-2.at.pc c.args.self.now c.loop-clear-2.self =
+    record { within = i.within; ran = i.ran; on = i.on; text = i.text } in
+    let within = i.within in
+    let same = c.left-in-Stopped-went.ensures in
+    omega (arith, within, same)
+
+pub returns-in-Stopped-went-clause-pauses : goal.returns-in-Stopped-went-clause-pauses
+returns-in-Stopped-went-clause-pauses c =
+    let i = c.loop-clear-2.invariant in
+    let r : Ran c.args.n c.loop-clear-2.at.left c.loop-clear-2.at.pc c.args.self.now c.loop-clear-2.self =
+    record { within = i.within; ran = i.ran; on = i.on; text = i.text } in
+    let some = some_left c.loop-clear-2.at.left c.in-Stopped-went.ensures.spent stopped_not in
+    let e = c.in-Stopped-went.ensures in
+    let some' = subst (λ (m : ℕ). 0 < m) (sym c.left-in-Stopped-went.ensures) some in
+    let r' = along c.left-in-Stopped-went.ensures refl r in
+    let is = stands c.refuse-went.new.self c.stand-in-None.ensures.core c.pc-in-None.ensures in
+    pauses_stopped (c.left-in-Stopped-went.result - 1) c.stand-in-None.new.self
+    (subst (λ (k : CoreKept). k.stopped ≢ None) (sym is) (e.went some).1)
+
+pub returns-in-Stopped-went-clause-next : goal.returns-in-Stopped-went-clause-next
+returns-in-Stopped-went-clause-next c =
+    let i = c.loop-clear-2.invariant in
+    let r : Ran c.args.n c.loop-clear-2.at.left c.loop-clear-2.at.pc c.args.self.now c.loop-clear-2.self =
+    record { within = i.within; ran = i.ran; on = i.on; text = i.text } in
+    let some = some_left c.loop-clear-2.at.left c.in-Stopped-went.ensures.spent stopped_not in
+    let e = c.in-Stopped-went.ensures in
+    let some' = subst (λ (m : ℕ). 0 < m) (sym c.left-in-Stopped-went.ensures) some in
+    let r' = along c.left-in-Stopped-went.ensures refl r in
+    let is = stands c.refuse-went.new.self c.stand-in-None.ensures.core c.pc-in-None.ensures in
+    λ not on. absurd ((subst (λ (k : CoreKept). k.stopped ≢ None) (sym is) (e.went some).1) on)
+
+pub returns-in_default : goal.returns-in_default
+returns-in_default c =
+    let i = c.loop-clear-2.invariant in
+    let r : Ran c.args.n c.loop-clear-2.at.left c.loop-clear-2.at.pc c.args.self.now c.loop-clear-2.self =
+    record { within = i.within; ran = i.ran; on = i.on; text = i.text } in
+    let e = c.refuse-went.ensures in
+    let none = none_left c.loop-clear-2.at.left e.went c.in_default.not-Stopped in
+    let ends = stays (along (sym none) refl r) (e.spent none).1
+    (stands c.refuse-went.new.self c.stand-in-None.ensures.core c.pc-in-None.ensures) in
+    record {
+      within = omega (arith);
+      ran = ends.ran;
+      pauses = tt;
+      next = λ not on. absurd (not refl);
+      text = same_words c.args.text.now c.requires.text ends;
+    }
+
+pub loop-clear-smaller-in-Some-eq0 : goal.loop-clear-smaller-in-Some-eq0
+loop-clear-smaller-in-Some-eq0 c =
+    let some = c.in-Some-eq0.ensures.some in
+    let left = c.pass-clear.ensures.left in
+    let fewer = c.loop-clear-2.invariant.fewer in
+    omega (arith, some, left, fewer)
+
+pub loop-clear-preserved-in-Some-eq0 : goal.loop-clear-preserved-in-Some-eq0
+loop-clear-preserved-in-Some-eq0 c =
+    let i = c.loop-clear-2.invariant in
+    let r : Ran c.args.n c.loop-clear-2.at.left c.loop-clear-2.at.pc c.args.self.now c.loop-clear-2.self =
+    record { within = i.within; ran = i.ran; on = i.on; text = i.text } in
+    let e = c.pass-clear.ensures in
+    let f = along e.left refl (further c.in-Some-eq0.ensures.some r
+    (onward {new = c.pass-clear.new.self} e.on (stepped i.on e.service e.world i.ran))) in
+    record { within = f.within; ran = f.ran; on = f.on; text = f.text; reach = e.reach; clear = e.clear }
+
+pub go_to-requires : goal.go_to-requires
+go_to-requires c = record { some = c.in-Some.ensures.some }
+
+pub loop-clear-smaller : goal.loop-clear-smaller
+loop-clear-smaller c =
+    let some = c.in-Some.ensures.some in
+    let left = c.go_to.ensures.left in
+    let fewer = c.loop-clear-2.invariant.fewer in
+    omega (arith, some, left, fewer)
+
+pub loop-clear-preserved : goal.loop-clear-preserved
+loop-clear-preserved c =
+    let i = c.loop-clear-2.invariant in
+    let r : Ran c.args.n c.loop-clear-2.at.left c.loop-clear-2.at.pc c.args.self.now c.loop-clear-2.self =
+    record { within = i.within; ran = i.ran; on = i.on; text = i.text } in
+    let r' = along refl c.pc-in-Some.ensures r in
+    let h = aside_next c.pc-in-Some.result c.loop-clear-2.self c.step_aside.new.self c.step_aside.ensures.service
+    c.step_aside.ensures.other c.in-On-step_aside.is i.on r'.ran in
+    let e = c.go_to.ensures in
+    let f = along e.left e.pc (further c.in-Some.ensures.some r' h) in
+    record {
+      within = f.within;
+      ran = f.ran;
+      on = f.on;
+      text = f.text;
+      reach = e.reach;
+      clear = c.is_clear-clear-in-On-step_aside.ensures;
+    }

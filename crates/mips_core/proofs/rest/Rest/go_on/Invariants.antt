@@ -1,27 +1,30 @@
-use Rattle.std.proofs.Common.{◌≡◌, ◌≤◌, ◌-◌, None}
+use Rattle.std.proofs.Common.{◌≡◌, ◌≤◌, ◌-◌, None, true, length}
 use Rattle.mips_core.specs.Core.{GoesOn, IsClear, at, state_of}
 use Rattle.mips_core.proofs.rest.Rest.go_on.Given as goal
 
-abbrev pub invariant-loop-left : goal.invariant-loop-left
-invariant-loop-left l = record {
-  within : l.left ≤ l.fn.n;
-  ran : GoesOn (l.fn.n - l.left) l.fn.self (at l.pc l.self);
+abbrev pub invariant-loop-clear : goal.invariant-loop-clear
+invariant-loop-clear l = record {
+  within : l.at.left ≤ l.fn.n;
+  ran : GoesOn (l.fn.n - l.at.left) l.fn.self (at l.at.pc l.self);
   on : l.self.stopped ≡ None;
   text : (state_of l.self).code.text ≡ (state_of l.fn.self).code.text;
+  reach : l.at.reach ≤ length l.text;
+  clear : l.clear ≡ true → IsClear l.self;
 }
 
-abbrev pub decreases-loop-left : goal.decreases-loop-left
-decreases-loop-left l = l.left
+abbrev pub decreases-loop-clear : goal.decreases-loop-clear
+decreases-loop-clear l = l.at.left
 
-abbrev pub invariant-loop-left-then-is_clear : goal.invariant-loop-left-then-is_clear
-invariant-loop-left-then-is_clear l = record {
-  within : l.left ≤ l.fn.n;
-  ran : GoesOn (l.fn.n - l.left) l.fn.self (at l.pc l.self);
+abbrev pub invariant-loop-clear-2 : goal.invariant-loop-clear-2
+invariant-loop-clear-2 l = record {
+  within : l.at.left ≤ l.fn.n;
+  ran : GoesOn (l.fn.n - l.at.left) l.fn.self (at l.at.pc l.self);
   on : l.self.stopped ≡ None;
   text : (state_of l.self).code.text ≡ (state_of l.fn.self).code.text;
-  clear : IsClear l.self;
-  fewer : l.left ≤ l.initial.left;
+  reach : l.at.reach ≤ length l.text;
+  clear : l.clear ≡ true → IsClear l.self;
+  fewer : l.at.left ≤ l.initial.at.left;
 }
 
-abbrev pub decreases-loop-left-then-is_clear : goal.decreases-loop-left-then-is_clear
-decreases-loop-left-then-is_clear l = l.left
+abbrev pub decreases-loop-clear-2 : goal.decreases-loop-clear-2
+decreases-loop-clear-2 l = l.at.left
