@@ -7,5 +7,6 @@ use Rattle.mips_core.proofs.rest.Rest.begun.Goals as goal
 
 pub returns-clause-state : goal.returns-clause-state
 returns-clause-state c =
-    rw c.at.ensures (begun_with (begun c.args.entry (spaces_of c.args.memory) (arena_of c.args.arena) (rows_of c.args.table))
+    rw c.at.ensures (begun_with
+    (begun c.args.entry (spaces_of c.args.memory) (arena_of c.args.arena) (rows_of c.args.table))
     (c.args.entry + 4) refl refl)
