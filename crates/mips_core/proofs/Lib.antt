@@ -1,3 +1,5 @@
+pub mod Accessed
+pub mod Rows
 pub mod Loops
 pub mod Stepped
 pub mod Numbered

@@ -10,7 +10,9 @@ use Rattle.mips_model.specs.State.{State, World}
 use Rattle.mips_model.specs.Steps.{step}
 use Rattle.mips_model.specs.Beside.{beside, is_at_service}
 use Rattle.mips_model.proofs.Aside.{step_aside}
-use Rattle.mips_core.specs.Core.{CoreKept, GoesOn, state_of, world_of, ending_from}
+use Rattle.flat_memory.specs.Spaces.{Spaces}
+use Rattle.code_arena.specs.Arena.{Arena}
+use Rattle.mips_core.specs.Core.{CoreKept, GoesOn, begun, state_of, world_of, ending_from}
 
 pub goes_none : (k : CoreKept) → GoesOn 0 k k
 goes_none k = record {
@@ -64,3 +66,12 @@ pub begun_with : (s : State) (next : ℕ) → s.d.registers ≡ (λ r. 0) → ne
 begun_with s next zeros is =
     ap {A = ℕ} {B = State} (λ n. with (slice_index (replicate 32 0)) n s) is
     ∙ ap {A = ℕ → ℕ} {B = State} (λ f. with f s.next s) ((λ i r. zero_at 32 r i) ∙ sym zeros)
+
+-- the same beginning in other words
+pub begins : {entry n : ℕ} {m q : Spaces} {a b : Arena} {t u : ℕ → ℕ × ℕ} → entry ≡ n → m ≡ q → a ≡ b → t ≡ u →
+    begun entry m a t ≡ begun n q b u
+begins {entry} {n} {m} {q} {a} {b} {t} {u} first second third fourth =
+    ap (λ (x : ℕ). begun x m a t) first
+    ∙ ap (λ (x : Spaces). begun n x a t) second
+    ∙ ap (λ (x : Arena). begun n q x t) third
+    ∙ ap (begun n q b) fourth

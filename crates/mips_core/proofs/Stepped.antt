@@ -140,3 +140,18 @@ pending_runs next is = absurd cc
 
 pub service_runs : went.Service ≢ went.Stopped
 service_runs is = absurd cc
+
+-- the machine has stopped at an instruction: its world, and what the answer says
+pub halted_world : (r : Went) (pc : ℕ) (k : CoreKept) (w : World) → world_of (at pc k) ≡ w →
+    (r ≡ went.Stopped) × (k.stopped ≢ None) → world_of (at (went_to r pc) k) ≡ w
+halted_world (went.On next) pc k w is e = absurd cc
+halted_world (went.Pending next) pc k w is e = absurd cc
+halted_world went.Stopped pc k w is e = is
+halted_world went.Service pc k w is e = absurd cc
+
+pub halted_leaves : (aside : Bool) (r : Went) (pc : ℕ) (k : CoreKept) → (r ≡ went.Stopped) × (k.stopped ≢ None) →
+    Leaves aside r pc k
+halted_leaves aside (went.On next) pc k e = absurd cc
+halted_leaves aside (went.Pending next) pc k e = absurd cc
+halted_leaves aside went.Stopped pc k e = e.1
+halted_leaves aside went.Service pc k e = absurd cc

@@ -86,8 +86,7 @@ impl Rest {
             return self.fault(MachineKind::Hazard, pc);
         }
         let v = shifted(op, self.register(rt(w)), shamt(w).bits());
-        self.write(rd(w), v);
-        Went::On(self.advance::<ASIDE>(pc))
+        self.give::<ASIDE>(pc, rd(w), Some(v))
     }
 
     #[inline(always)]
@@ -111,8 +110,7 @@ impl Rest {
             return self.fault(MachineKind::Hazard, pc);
         }
         let v = shifted(by_number(op), self.register(rt(w)), self.register(rs(w)));
-        self.write(rd(w), v);
-        Went::On(self.advance::<ASIDE>(pc))
+        self.give::<ASIDE>(pc, rd(w), Some(v))
     }
 
     #[inline(always)]
@@ -130,8 +128,7 @@ impl Rest {
         if self.is_loaded::<ASIDE>(rt(w), rt(w), rt(w)) {
             return self.fault(MachineKind::Hazard, pc);
         }
-        self.write(rt(w), w % 65536 * 65536);
-        Went::On(self.advance::<ASIDE>(pc))
+        self.give::<ASIDE>(pc, rt(w), Some(w % 65536 * 65536))
     }
 
     #[inline(always)]
