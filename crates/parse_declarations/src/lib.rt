@@ -1,7 +1,8 @@
-//! Declarations and whole programs, read from tokens.
+//! Declarations and whole programs, read from tokens. Each production takes the number of levels that may still open.
 #![tactic(auto)]
 
 mod declarations;
 mod programs;
 
-pub use declarations::Declarations;
+pub use declarations::declaration;
+pub use programs::program;

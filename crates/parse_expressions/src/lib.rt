@@ -1,8 +1,8 @@
 //! Expressions, read from tokens. First their operands: primary expressions, and what stands behind and before them.
-//! Then the levels above: those of precedence, choices, assignments and commas.
+//! Then the levels above: those of precedence, choices, assignments and commas. Each production takes the
+//! number of levels that may still open.
 #![tactic(auto)]
 
-mod expressions;
 mod levels;
 mod nodes;
 mod operand_nodes;
@@ -10,5 +10,5 @@ mod operand_operators;
 mod operators;
 mod postfixes;
 
-pub use expressions::Expressions;
-pub use postfixes::Operands;
+pub use levels::{assign, cond, expr};
+pub use postfixes::unary;

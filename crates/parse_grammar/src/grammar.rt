@@ -1,6 +1,6 @@
 //! How a production reads what stands one level deeper.
 
-ghost use Rattle.std.specs.Prelude.{◌≡◌, ◌<◌};
+ghost use Rattle.std.specs.Prelude.{ℕ, ◌<◌};
 ghost use Rattle.parse_grammar.specs.Input.{Reads};
 ghost use Rattle.parse_grammar.specs.Declarators as declarators;
 ghost use Rattle.parse_grammar.specs.Expressions as expressions;
@@ -47,6 +47,41 @@ pub enum Postfix {
     Step(StepOp),
 }
 
+/// What a production reads one level deeper, and where it makes trees.
+pub trait Deeper {
+    /// It reads with room for fewer levels than these.
+    ghost limit: { Self → ℕ };
+
+    /// That it reads what the grammar says.
+    ghost nests: { Self → Type 0 };
+
+    /// Where trees are made.
+    fn alloc(&self) -> Global;
+
+    /// An expression one level deeper.
+    fn inner(&self, tokens: &mut Tokens<'_>, room: usize, part: Part) -> Result<Expr, Stop>
+        requires nests { nests self.now }
+        requires room { room < limit self.now }
+        ensures { Reads (expressions.at part (statements.room_of room) tokens.old) result tokens.new };
+
+    /// An item of a block, or a statement, one level deeper.
+    fn inner_stmt(&self, tokens: &mut Tokens<'_>, room: usize) -> Result<Stmt, Stop>
+        requires nests { nests self.now }
+        requires room { room < limit self.now }
+        ensures { Reads (statements.stmt (statements.room_of room) tokens.old) result tokens.new };
+
+    /// A declarator one level deeper.
+    fn inner_declarator(
+        &self,
+        tokens: &mut Tokens<'_>,
+        room: usize,
+        mode: Mode,
+    ) -> Result<Declarator, Stop>
+        requires nests { nests self.now }
+        requires room { room < limit self.now }
+        ensures { Reads (declarators.declarator mode (statements.room_of room) tokens.old) result tokens.new };
+}
+
 /// The allocator, and the functions that read what stands deeper.
 #[derive(Clone, Copy)]
 pub struct Grammar<F, S, D> {
@@ -66,36 +101,30 @@ impl<
     F: Fn(Global, &mut Tokens<'_>, usize, Part) -> Result<Expr, Stop>,
     S: Fn(Global, &mut Tokens<'_>, usize) -> Result<Stmt, Stop>,
     D: Fn(Global, &mut Tokens<'_>, usize, Mode) -> Result<Declarator, Stop>,
-> Grammar<F, S, D> {
-    /// An expression one level deeper.
-    pub fn inner(&self, tokens: &mut Tokens<'_>, room: usize, part: Part) -> Result<Expr, Stop>
-        requires nests { Nests self.now.limit (F.pre self.now.expr) (F.post self.now.expr) (S.pre self.now.stmt) (S.post self.now.stmt) (D.pre self.now.declarator) (D.post self.now.declarator) }
-        requires room { room < self.now.limit }
-        ensures { Reads (expressions.at part (statements.room_of room) tokens.old) result tokens.new }
-    {
+> Deeper for Grammar<F, S, D> {
+    ghost limit = { λ g. g.limit };
+
+    ghost nests = { λ g. Nests g.limit (F.pre g.expr) (F.post g.expr) (S.pre g.stmt) (S.post g.stmt)
+        (D.pre g.declarator) (D.post g.declarator) };
+
+    fn alloc(&self) -> Global {
+        self.alloc
+    }
+
+    fn inner(&self, tokens: &mut Tokens<'_>, room: usize, part: Part) -> Result<Expr, Stop> {
         (self.expr)(self.alloc, tokens, room, part)
     }
 
-    /// An item of a block, or a statement, one level deeper.
-    pub fn inner_stmt(&self, tokens: &mut Tokens<'_>, room: usize) -> Result<Stmt, Stop>
-        requires nests { Nests self.now.limit (F.pre self.now.expr) (F.post self.now.expr) (S.pre self.now.stmt) (S.post self.now.stmt) (D.pre self.now.declarator) (D.post self.now.declarator) }
-        requires room { room < self.now.limit }
-        ensures { Reads (statements.stmt (statements.room_of room) tokens.old) result tokens.new }
-    {
+    fn inner_stmt(&self, tokens: &mut Tokens<'_>, room: usize) -> Result<Stmt, Stop> {
         (self.stmt)(self.alloc, tokens, room)
     }
 
-    /// A declarator one level deeper.
-    pub fn inner_declarator(
+    fn inner_declarator(
         &self,
         tokens: &mut Tokens<'_>,
         room: usize,
         mode: Mode,
-    ) -> Result<Declarator, Stop>
-        requires nests { Nests self.now.limit (F.pre self.now.expr) (F.post self.now.expr) (S.pre self.now.stmt) (S.post self.now.stmt) (D.pre self.now.declarator) (D.post self.now.declarator) }
-        requires room { room < self.now.limit }
-        ensures { Reads (declarators.declarator mode (statements.room_of room) tokens.old) result tokens.new }
-    {
+    ) -> Result<Declarator, Stop> {
         (self.declarator)(self.alloc, tokens, room, mode)
     }
 }

@@ -10,7 +10,7 @@ mod stop;
 mod tokens;
 
 pub use bases::{base, is_base, is_void};
-pub use grammar::{Grammar, Mode, Part, Postfix};
+pub use grammar::{Deeper, Grammar, Mode, Part, Postfix};
 pub use item::{Bytes, Item};
 pub use kind::{BaseWord, Kind, Mark, Word};
 pub use levels::{descend, enter, enter_paren};

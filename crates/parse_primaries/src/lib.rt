@@ -1,5 +1,6 @@
 //! Primary expressions, read from tokens, and the lists in brackets: arguments of calls, and blocks. The operands that
-//! hold a type name are read first: `compile`, `local`, `param`, `sizeof` and casts.
+//! hold a type name are read first: `compile`, `local`, `param`, `sizeof` and casts. Each production takes the number
+//! of levels that may still open.
 #![tactic(auto)]
 
 mod leaves;
@@ -10,5 +11,5 @@ mod staged;
 mod typename_nodes;
 mod typenames;
 
-pub use primaries::Primaries;
-pub use typenames::Typenames;
+pub use primaries::{arguments, block, parenthesized, primary};
+pub use staged::{cast, size_of};

@@ -3,13 +3,11 @@
 ghost use Rattle.std.specs.Prelude.{◌≡◌, ◌<◌};
 ghost use Rattle.parse_grammar.specs.Input.{Reads, pure};
 ghost use Rattle.parse_grammar.specs.Expressions.{at};
-ghost use Rattle.parse_grammar.specs.Nests.{Nests};
 ghost use Rattle.parse_grammar.specs.Statements.{room_of};
 ghost use Rattle.parse_primaries.specs.Parts as spec;
 
-use parse_grammar::{Grammar, Mark, Mode, Part, Stop, Tokens, enter_paren};
-use std::alloc::Global;
-use tick_tree::{Declarator, Expr, Stmt};
+use parse_grammar::{Deeper, Mark, Part, Stop, Tokens, enter_paren};
+use tick_tree::Expr;
 
 /// Takes a word and the `(` behind it, which opens a level, and gives the line of the word.
 pub fn open(tokens: &mut Tokens<'_>, room: usize) -> Result<u32, Stop>
@@ -30,21 +28,15 @@ pub fn ended<T: Drop>(tokens: &mut Tokens<'_>, found: T, mark: Mark) -> Result<T
 }
 
 /// An expression, and this mark behind it.
-pub fn expr_before<
-    F: Fn(Global, &mut Tokens<'_>, usize, Part) -> Result<Expr, Stop>,
-    S: Fn(Global, &mut Tokens<'_>, usize) -> Result<Stmt, Stop>,
-    D: Fn(Global, &mut Tokens<'_>, usize, Mode) -> Result<Declarator, Stop>,
->(
-    grammar: &Grammar<F, S, D>,
+pub fn expr_before<G: Deeper>(
+    grammar: &G,
     tokens: &mut Tokens<'_>,
     room: usize,
     part: Part,
     mark: Mark,
 ) -> Result<Expr, Stop>
-    requires nests { Nests grammar.now.limit (F.pre grammar.now.expr) (F.post grammar.now.expr)
-        (S.pre grammar.now.stmt) (S.post grammar.now.stmt)
-        (D.pre grammar.now.declarator) (D.post grammar.now.declarator) }
-    requires room { room < grammar.now.limit }
+    requires nests { G.nests grammar.now }
+    requires room { room < G.limit grammar.now }
     ensures { Reads (spec.before mark (at part (room_of room)) tokens.old) result tokens.new }
 {
     let found = grammar.inner(tokens, room, part)?;

@@ -5,147 +5,139 @@ ghost use Rattle.parse_grammar.specs.Input.{Reads};
 ghost use Rattle.parse_grammar.specs.Steps as steps;
 ghost use Rattle.parse_grammar.specs.Expressions as spec;
 ghost use Rattle.parse_grammar.specs.Statements.{room_of, stmt};
-ghost use Rattle.parse_grammar.specs.Nests.{Nests};
 
 use crate::leaves::{character, name, number, string};
 use crate::nodes;
 use crate::parts::{ended, expr_before};
-use crate::typenames::Typenames;
-use parse_grammar::{Grammar, Kind, Mark, Mode, Part, Stop, Tokens, enter, enter_paren};
+use crate::staged::{compile, local, param};
+use parse_grammar::{Deeper, Kind, Mark, Part, Stop, Tokens, enter, enter_paren};
 use sqlite_items::Items;
-use std::alloc::Global;
-use tick_tree::{Declarator, Expr, Stmt};
+use tick_tree::{Expr, Stmt};
 
-/// The productions of primary expressions, and of the lists in brackets. Each takes the number of levels that may still open.
-#[derive(Clone, Copy)]
-pub struct Primaries<F, S, D> {
-    /// Reads what stands deeper.
-    pub grammar: Grammar<F, S, D>,
+#[tactic(auto, unfolding(parse_grammar::specs::Steps::separated, parse_grammar::specs::Steps::following_from))]
+fn separated<G: Deeper>(
+    grammar: &G,
+    tokens: &mut Tokens<'_>,
+    room: usize,
+) -> Result<Items<Expr>, Stop>
+    requires nests { G.nests grammar.now }
+    requires room { room < G.limit grammar.now }
+    ensures { Reads (steps.separated (spec.assign (room_of room)) tokens.old) result tokens.new }
+{
+    let mut found = Items::new(grammar.alloc());
+    found.push(grammar.inner(tokens, room, Part::Assign)?)?;
+    for _turn in 0..tokens.left() {
+        if !tokens.eat(Mark::Comma) {
+            return Ok(found);
+        }
+        found.push(grammar.inner(tokens, room, Part::Assign)?)?;
+    }
+    Ok(found)
 }
 
-impl<
-    F: Fn(Global, &mut Tokens<'_>, usize, Part) -> Result<Expr, Stop> + Copy,
-    S: Fn(Global, &mut Tokens<'_>, usize) -> Result<Stmt, Stop> + Copy,
-    D: Fn(Global, &mut Tokens<'_>, usize, Mode) -> Result<Declarator, Stop> + Copy,
-> Primaries<F, S, D> {
-    #[tactic(auto, unfolding(parse_grammar::specs::Steps::separated, parse_grammar::specs::Steps::following_from))]
-    fn separated(&self, tokens: &mut Tokens<'_>, room: usize) -> Result<Items<Expr>, Stop>
-        requires nests { Nests self.now.grammar.limit (F.pre self.now.grammar.expr) (F.post self.now.grammar.expr) (S.pre self.now.grammar.stmt) (S.post self.now.grammar.stmt) (D.pre self.now.grammar.declarator) (D.post self.now.grammar.declarator) }
-        requires room { room < self.now.grammar.limit }
-        ensures { Reads (steps.separated (spec.assign (room_of room)) tokens.old) result tokens.new }
-    {
-        let mut found = Items::new(self.grammar.alloc);
-        found.push(self.grammar.inner(tokens, room, Part::Assign)?)?;
-        for _turn in 0..tokens.left() {
-            if !tokens.eat(Mark::Comma) {
-                return Ok(found);
-            }
-            found.push(self.grammar.inner(tokens, room, Part::Assign)?)?;
+/// The arguments of a call, from behind its opening parenthesis on.
+///
+/// Syntax or TooDeep exactly at the first token that the production doesn't take, or that nests too deep.
+#[tactic(auto, unfolding(parse_grammar::specs::Expressions::arguments))]
+pub fn arguments<G: Deeper>(
+    grammar: &G,
+    tokens: &mut Tokens<'_>,
+    room: usize,
+) -> Result<Items<Expr>, Stop>
+    requires nests { G.nests grammar.now }
+    requires room { room < G.limit grammar.now }
+    ensures { Reads (spec.arguments (spec.assign (room_of room)) tokens.old) result tokens.new }
+{
+    if tokens.eat(Mark::ParenClose) {
+        return Ok(Items::new(grammar.alloc()));
+    }
+    let found = separated(grammar, tokens, room)?;
+    ended(tokens, found, Mark::ParenClose)
+}
+
+// Up to and with the closing brace.
+#[tactic(auto, unfolding(parse_grammar::specs::Steps::closed, parse_grammar::specs::Steps::closed_from))]
+fn closed<G: Deeper>(grammar: &G, tokens: &mut Tokens<'_>, room: usize) -> Result<Items<Stmt>, Stop>
+    requires nests { G.nests grammar.now }
+    requires room { room < G.limit grammar.now }
+    ensures { Reads (steps.closed (stmt (room_of room)) tokens.old) result tokens.new }
+{
+    let mut found = Items::new(grammar.alloc());
+    for _turn in 0..tokens.left() {
+        if tokens.eat(Mark::BraceClose) {
+            return Ok(found);
         }
-        Ok(found)
+        found.push(grammar.inner_stmt(tokens, room)?)?;
     }
+    Err(tokens.refuse())
+}
 
-    /// The arguments of a call, from behind its opening parenthesis on.
-    ///
-    /// Syntax or TooDeep exactly at the first token that the production doesn't take, or that nests too deep.
-    #[tactic(auto, unfolding(parse_grammar::specs::Expressions::arguments))]
-    pub fn arguments(&self, tokens: &mut Tokens<'_>, room: usize) -> Result<Items<Expr>, Stop>
-        requires nests { Nests self.now.grammar.limit (F.pre self.now.grammar.expr) (F.post self.now.grammar.expr) (S.pre self.now.grammar.stmt) (S.post self.now.grammar.stmt) (D.pre self.now.grammar.declarator) (D.post self.now.grammar.declarator) }
-        requires room { room < self.now.grammar.limit }
-        ensures { Reads (spec.arguments (spec.assign (room_of room)) tokens.old) result tokens.new }
-    {
-        if tokens.eat(Mark::ParenClose) {
-            return Ok(Items::new(self.grammar.alloc));
-        }
-        let found = self.separated(tokens, room)?;
-        ended(tokens, found, Mark::ParenClose)
+/// The items of a block, with its braces.
+///
+/// Syntax or TooDeep exactly at the first token that no block takes, or that nests too deep.
+#[tactic(auto, unfolding(parse_grammar::specs::Expressions::block))]
+pub fn block<G: Deeper>(
+    grammar: &G,
+    tokens: &mut Tokens<'_>,
+    room: usize,
+) -> Result<Items<Stmt>, Stop>
+    requires nests { G.nests grammar.now }
+    requires room { room ≤ G.limit grammar.now }
+    ensures { Reads (spec.block (room_of room) tokens.old) result tokens.new }
+{
+    if !tokens.sees(Mark::BraceOpen) {
+        return Err(tokens.refuse());
     }
+    enter(tokens, room)?;
+    closed(grammar, tokens, room - 1)
+}
 
-    // Up to and with the closing brace.
-    #[tactic(auto, unfolding(parse_grammar::specs::Steps::closed, parse_grammar::specs::Steps::closed_from))]
-    fn closed(&self, tokens: &mut Tokens<'_>, room: usize) -> Result<Items<Stmt>, Stop>
-        requires nests { Nests self.now.grammar.limit (F.pre self.now.grammar.expr) (F.post self.now.grammar.expr) (S.pre self.now.grammar.stmt) (S.post self.now.grammar.stmt) (D.pre self.now.grammar.declarator) (D.post self.now.grammar.declarator) }
-        requires room { room < self.now.grammar.limit }
-        ensures { Reads (steps.closed (stmt (room_of room)) tokens.old) result tokens.new }
-    {
-        let mut found = Items::new(self.grammar.alloc);
-        for _turn in 0..tokens.left() {
-            if tokens.eat(Mark::BraceClose) {
-                return Ok(found);
-            }
-            found.push(self.grammar.inner_stmt(tokens, room)?)?;
-        }
-        Err(tokens.refuse())
-    }
+/// An expression in parentheses, as the test of a statement.
+///
+/// Syntax or TooDeep exactly at the first token that the production doesn't take, or that nests too deep.
+#[tactic(auto, unfolding(parse_grammar::specs::Expressions::parenthesized))]
+pub fn parenthesized<G: Deeper>(
+    grammar: &G,
+    tokens: &mut Tokens<'_>,
+    room: usize,
+) -> Result<Expr, Stop>
+    requires nests { G.nests grammar.now }
+    requires room { room ≤ G.limit grammar.now }
+    ensures { Reads (spec.parenthesized (room_of room) tokens.old) result tokens.new }
+{
+    enter_paren(tokens, room)?;
+    expr_before(grammar, tokens, room - 1, Part::Whole, Mark::ParenClose)
+}
 
-    /// The items of a block, with its braces.
-    ///
-    /// Syntax or TooDeep exactly at the first token that no block takes, or that nests too deep.
-    #[tactic(auto, unfolding(parse_grammar::specs::Expressions::block))]
-    pub fn block(&self, tokens: &mut Tokens<'_>, room: usize) -> Result<Items<Stmt>, Stop>
-        requires nests { Nests self.now.grammar.limit (F.pre self.now.grammar.expr) (F.post self.now.grammar.expr) (S.pre self.now.grammar.stmt) (S.post self.now.grammar.stmt) (D.pre self.now.grammar.declarator) (D.post self.now.grammar.declarator) }
-        requires room { room ≤ self.now.grammar.limit }
-        ensures { Reads (spec.block (room_of room) tokens.old) result tokens.new }
-    {
-        if !tokens.sees(Mark::BraceOpen) {
-            return Err(tokens.refuse());
-        }
-        enter(tokens, room)?;
-        self.closed(tokens, room - 1)
-    }
+// At a `(` that begins no cast. It stands alone, so that other primary expressions make no room for it.
+fn paren<G: Deeper>(grammar: &G, tokens: &mut Tokens<'_>, room: usize) -> Result<Expr, Stop>
+    requires nests { G.nests grammar.now }
+    requires room { room ≤ G.limit grammar.now }
+    ensures { Reads (spec.primary_by (room_of room) (Kind.Mark Mark.ParenOpen) tokens.old) result tokens.new }
+{
+    let inner = parenthesized(grammar, tokens, room)?;
+    nodes::paren(grammar.alloc(), inner)
+}
 
-    /// An expression in parentheses, as the test of a statement.
-    ///
-    /// Syntax or TooDeep exactly at the first token that the production doesn't take, or that nests too deep.
-    #[tactic(auto, unfolding(parse_grammar::specs::Expressions::parenthesized))]
-    pub fn parenthesized(&self, tokens: &mut Tokens<'_>, room: usize) -> Result<Expr, Stop>
-        requires nests { Nests self.now.grammar.limit (F.pre self.now.grammar.expr) (F.post self.now.grammar.expr) (S.pre self.now.grammar.stmt) (S.post self.now.grammar.stmt) (D.pre self.now.grammar.declarator) (D.post self.now.grammar.declarator) }
-        requires room { room ≤ self.now.grammar.limit }
-        ensures { Reads (spec.parenthesized (room_of room) tokens.old) result tokens.new }
-    {
-        enter_paren(tokens, room)?;
-        expr_before(
-            &self.grammar,
-            tokens,
-            room - 1,
-            Part::Whole,
-            Mark::ParenClose,
-        )
-    }
-
-    // At a `(` that begins no cast.
-    fn paren(&self, tokens: &mut Tokens<'_>, room: usize) -> Result<Expr, Stop>
-        requires nests { Nests self.now.grammar.limit (F.pre self.now.grammar.expr) (F.post self.now.grammar.expr) (S.pre self.now.grammar.stmt) (S.post self.now.grammar.stmt) (D.pre self.now.grammar.declarator) (D.post self.now.grammar.declarator) }
-        requires room { room ≤ self.now.grammar.limit }
-        ensures { Reads (spec.primary_by (room_of room) (Kind.Mark Mark.ParenOpen) tokens.old) result tokens.new }
-    {
-        let inner = self.parenthesized(tokens, room)?;
-        nodes::paren(self.grammar.alloc, inner)
-    }
-
-    /// A primary expression.
-    ///
-    /// Syntax or TooDeep exactly at the first token that the production doesn't take, or that nests too deep.
-    #[tactic(auto, unfolding(parse_grammar::specs::Expressions::primary))]
-    pub fn primary(&self, tokens: &mut Tokens<'_>, room: usize) -> Result<Expr, Stop>
-        requires nests { Nests self.now.grammar.limit (F.pre self.now.grammar.expr) (F.post self.now.grammar.expr) (S.pre self.now.grammar.stmt) (S.post self.now.grammar.stmt) (D.pre self.now.grammar.declarator) (D.post self.now.grammar.declarator) }
-        requires room { room ≤ self.now.grammar.limit }
-        ensures { Reads (spec.primary (room_of room) tokens.old) result tokens.new }
-    {
-        let alloc = self.grammar.alloc;
-        let typenames = Typenames {
-            grammar: self.grammar,
-        };
-        match tokens.peek() {
-            Kind::Name => name(alloc, tokens),
-            Kind::Number => Ok(number(tokens)),
-            Kind::Character => Ok(character(tokens)),
-            Kind::String => string(alloc, tokens),
-            Kind::Compile => typenames.compile(tokens, room),
-            Kind::Local => typenames.local(tokens, room),
-            Kind::Param => typenames.param(tokens, room),
-            Kind::Mark(Mark::ParenOpen) => self.paren(tokens, room),
-            _ => Err(tokens.refuse()),
-        }
+/// A primary expression.
+///
+/// Syntax or TooDeep exactly at the first token that the production doesn't take, or that nests too deep.
+#[tactic(auto, unfolding(parse_grammar::specs::Expressions::primary))]
+pub fn primary<G: Deeper>(grammar: &G, tokens: &mut Tokens<'_>, room: usize) -> Result<Expr, Stop>
+    requires nests { G.nests grammar.now }
+    requires room { room ≤ G.limit grammar.now }
+    ensures { Reads (spec.primary (room_of room) tokens.old) result tokens.new }
+{
+    let alloc = grammar.alloc();
+    match tokens.peek() {
+        Kind::Name => name(alloc, tokens),
+        Kind::Number => Ok(number(tokens)),
+        Kind::Character => Ok(character(tokens)),
+        Kind::String => string(alloc, tokens),
+        Kind::Compile => compile(grammar, tokens, room),
+        Kind::Local => local(grammar, tokens, room),
+        Kind::Param => param(grammar, tokens, room),
+        Kind::Mark(Mark::ParenOpen) => paren(grammar, tokens, room),
+        _ => Err(tokens.refuse()),
     }
 }

@@ -1,7 +1,7 @@
-//! Statements, read from tokens.
+//! Statements, read from tokens. Each production takes the number of levels that may still open.
 #![tactic(auto)]
 
 mod first_words;
 mod statements;
 
-pub use statements::Statements;
+pub use statements::stmt;

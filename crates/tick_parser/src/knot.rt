@@ -6,10 +6,10 @@ ghost use Rattle.parse_grammar.specs.Expressions as expressions;
 ghost use Rattle.parse_grammar.specs.Statements as statements;
 ghost use Rattle.parse_grammar.specs.Statements.{room_of};
 
-use parse_declarators::Declarators;
-use parse_expressions::{Expressions, Operands};
+use parse_declarators::declarator;
+use parse_expressions::{assign, cond, expr, unary};
 use parse_grammar::{Grammar, Mode, Part, Stop, Tokens};
-use parse_statements::Statements;
+use parse_statements::stmt;
 use std::alloc::Global;
 use tick_tree::{Declarator, Expr, Stmt};
 
@@ -18,21 +18,18 @@ use tick_tree::{Declarator, Expr, Stmt};
 pub fn read(alloc: Global, tokens: &mut Tokens<'_>, room: usize, part: Part) -> Result<Expr, Stop>
     ensures { Reads (expressions.at part (room_of room) tokens.old) result tokens.new }
 {
-    let operands = Operands {
-        grammar: Grammar {
-            alloc,
-            limit: room,
-            expr: read,
-            stmt: read_stmt,
-            declarator: read_declarator,
-        },
+    let grammar = Grammar {
+        alloc,
+        limit: room,
+        expr: read,
+        stmt: read_stmt,
+        declarator: read_declarator,
     };
-    let expressions = Expressions { operands };
     match part {
-        Part::Whole => expressions.expr(tokens, room),
-        Part::Assign => expressions.assign(tokens, room),
-        Part::Cond => expressions.cond(tokens, room),
-        Part::Unary => expressions.operands.unary(tokens, room),
+        Part::Whole => expr(&grammar, tokens, room),
+        Part::Assign => assign(&grammar, tokens, room),
+        Part::Cond => cond(&grammar, tokens, room),
+        Part::Unary => unary(&grammar, tokens, room),
     }
 }
 
@@ -41,16 +38,14 @@ pub fn read(alloc: Global, tokens: &mut Tokens<'_>, room: usize, part: Part) -> 
 pub fn read_stmt(alloc: Global, tokens: &mut Tokens<'_>, room: usize) -> Result<Stmt, Stop>
     ensures { Reads (statements.stmt (room_of room) tokens.old) result tokens.new }
 {
-    let statements = Statements {
-        grammar: Grammar {
-            alloc,
-            limit: room,
-            expr: read,
-            stmt: read_stmt,
-            declarator: read_declarator,
-        },
+    let grammar = Grammar {
+        alloc,
+        limit: room,
+        expr: read,
+        stmt: read_stmt,
+        declarator: read_declarator,
     };
-    statements.stmt(tokens, room)
+    stmt(&grammar, tokens, room)
 }
 
 /// A declarator, with room for this many levels.
@@ -63,14 +58,12 @@ pub fn read_declarator(
 ) -> Result<Declarator, Stop>
     ensures { Reads (declarators.declarator mode (room_of room) tokens.old) result tokens.new }
 {
-    let declarators = Declarators {
-        grammar: Grammar {
-            alloc,
-            limit: room,
-            expr: read,
-            stmt: read_stmt,
-            declarator: read_declarator,
-        },
+    let grammar = Grammar {
+        alloc,
+        limit: room,
+        expr: read,
+        stmt: read_stmt,
+        declarator: read_declarator,
     };
-    declarators.declarator(tokens, room, mode)
+    declarator(&grammar, tokens, room, mode)
 }

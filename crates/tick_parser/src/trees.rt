@@ -13,7 +13,6 @@ ghost use Rattle.limits.specs.declared.text.TheConstants.{LONGEST_TEXT, MAX_TOKE
 use crate::items::items_of;
 use crate::knot::{read, read_declarator, read_stmt};
 use limits::text::MAX_NESTING;
-use parse_declarations::Declarations;
 use parse_grammar::{Grammar, Item, Stop, Tokens};
 use sqlite_items::Items;
 use std::alloc::Global;
@@ -70,17 +69,15 @@ fn program<'a>(alloc: Global, items: &'a [Item<'a>]) -> Result<Items<External>, 
     ensures found { spec.Finds (spec.outcome items.now) result }
     ensures spells { IfOk result (λ found. words items.now ≡ spells_program found []) }
 {
-    let declarations = Declarations {
-        grammar: Grammar {
-            alloc,
-            limit: MAX_NESTING,
-            expr: read,
-            stmt: read_stmt,
-            declarator: read_declarator,
-        },
+    let grammar = Grammar {
+        alloc,
+        limit: MAX_NESTING,
+        expr: read,
+        stmt: read_stmt,
+        declarator: read_declarator,
     };
     let mut tokens = Tokens::new(items);
-    declarations.program(&mut tokens, MAX_NESTING)
+    parse_declarations::program(&grammar, &mut tokens, MAX_NESTING)
 }
 
 /// The syntax tree of a text of at most 1,048,576 bytes, from its at most 262,144 tokens. The tree spells the tokens.

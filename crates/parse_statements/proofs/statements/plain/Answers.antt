@@ -1,0 +1,20 @@
+use Rattle.std.proofs.Common.{refl}
+use Rattle.parse_grammar.specs.Statements.{plain}
+use Rattle.parse_grammar.proofs.Reading.{broken, onward, past, stops}
+use Rattle.parse_statements.proofs.statements.plain.Goals as goal
+
+pub returns-in_err-value : goal.returns-in_err-value
+unfolding plain
+returns-in_err-value g c =
+    broken _ _ _ _ _ refl c.from_residual.ensures.1 (stops _ _ _ c.in_err-value.ensures)
+
+pub returns-in_err-expect : goal.returns-in_err-expect
+unfolding plain
+returns-in_err-expect g c =
+    broken _ _ _ _ _ refl c.from_residual-in_err-expect.ensures.1 (past _ _ _ _ _ c.in_ok-value.ensures (stops _ _ _
+    c.in_err-expect.ensures))
+
+pub returns : goal.returns
+unfolding plain
+returns g c =
+    onward _ _ _ _ _ c.in_ok-value.ensures (onward _ _ _ _ _ c.in_ok-expect.ensures refl)
