@@ -43,15 +43,14 @@ fn is_written(
 }
 
 #[test]
-fn two_instructions_are_written(rt: HostRuntime) {
-    let text = b".entry 0x00400000\nori $2,$0,10\nsyscall\n";
-    assert!(rt; is_written(rt.alloc(), &TWO_INSTRUCTIONS, &[], Ok(()), text) == Ok(true));
-}
-
-#[test]
-fn all_parts_are_written(rt: HostRuntime) {
-    let text = ALL_PARTS_TEXT.as_bytes();
-    assert!(rt; is_written(rt.alloc(), &ALL_PARTS, &[], Ok(()), text) == Ok(true));
+fn images_are_written(rt: HostRuntime) {
+    let two = b".entry 0x00400000\nori $2,$0,10\nsyscall\n";
+    let all = ALL_PARTS_TEXT.as_bytes();
+    let are_written = [
+        is_written(rt.alloc(), &TWO_INSTRUCTIONS, &[], Ok(()), two),
+        is_written(rt.alloc(), &ALL_PARTS, &[], Ok(()), all),
+    ];
+    assert!(rt; are_written == [Ok(true), Ok(true)]);
 }
 
 #[test]

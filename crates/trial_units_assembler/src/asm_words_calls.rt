@@ -22,30 +22,37 @@ fn registers_have_numbers_and_names(rt: HostRuntime) {
     assert!(rt; numbers == [31, 24, 99, 99, 99]);
 }
 
+const NEGATIVE: Number = Number {
+    negative: true,
+    magnitude: Some(8),
+};
+
 #[test]
 fn numbers_have_signs_and_bases(rt: HostRuntime) {
-    let negative = Number {
-        negative: true,
-        magnitude: Some(8),
-    };
-    assert!(rt; number_of(b"-008") == Some(negative));
-    assert!(rt; number_of(b"0xfF").is_some_and(|number| number.unsigned() == Some(255)));
-    assert!(rt; [number_of(b"-0x1"), number_of(b"+1"), number_of(b"0x")] == [None, None, None]);
-    assert!(rt; negative.unsigned() == None);
-    assert!(rt;
-        negative
-            .signed_half()
-            .is_some_and(|half| half.bits() == 65528)
-    );
+    let found = [
+        number_of(b"-008"),
+        number_of(b"-0x1"),
+        number_of(b"+1"),
+        number_of(b"0x"),
+    ];
+    assert!(rt; found == [Some(NEGATIVE), None, None, None]);
+    let are_words = [
+        matches!(number_of(b"0xfF"), Some(number) if number.unsigned() == Some(255)),
+        NEGATIVE.unsigned() == None,
+        matches!(NEGATIVE.signed_half(), Some(half) if half.bits() == 65528),
+    ];
+    assert!(rt; are_words == [true; 3]);
 }
 
 #[test]
 fn operations_have_names(rt: HostRuntime) {
-    assert!(rt; matches!(operation_of(b"nop"), Some(Operation::NoOperation)));
-    let jalr = operation_of(b"jalr");
-    assert!(rt; matches!(jalr, Some(Operation::JumpAndLinkRegister)));
-    assert!(rt; operation_of(b"JALR").is_none());
-    assert!(rt; Operation::Break.name() == "break");
+    let are_named = [
+        matches!(operation_of(b"nop"), Some(Operation::NoOperation)),
+        matches!(operation_of(b"jalr"), Some(Operation::JumpAndLinkRegister)),
+        operation_of(b"JALR").is_none(),
+        Operation::Break.name() == "break",
+    ];
+    assert!(rt; are_named == [true; 4]);
 }
 
 #[test]
@@ -59,14 +66,15 @@ fn names_begin_with_a_letter(rt: HostRuntime) {
     assert!(rt; are_names == [true, false, false, false]);
 }
 
+// Whether the digits are pushed as their bytes.
 fn are_pushed(alloc: Global) -> bool {
     let mut out = Vec::new(alloc);
-    let pushed = Pairs::of(b"0aFf").is_some_and(|pairs| pairs.push_to(&mut out).is_ok());
+    let pushed = matches!(Pairs::of(b"0aFf"), Some(pairs) if pairs.push_to(&mut out).is_ok());
     pushed && out.as_slice() == [10, 255].as_slice()
 }
 
 #[test]
 fn pairs_are_bytes(rt: HostRuntime) {
-    assert!(rt; are_pushed(rt.alloc()));
-    assert!(rt; Pairs::of(b"0aF").is_none() && Pairs::of(b"").is_none());
+    let are_none = [Pairs::of(b"0aF").is_none(), Pairs::of(b"").is_none()];
+    assert!(rt; are_none == [true; 2] && are_pushed(rt.alloc()));
 }

@@ -2,7 +2,6 @@
 
 use command_words::{Command, asks_counts, command_of};
 use std::alloc::{AllocError, Global};
-use std::test::Fail;
 
 fn words_of(alloc: Global, line: &str) -> Result<Vec<String>, AllocError> {
     let mut all = Vec::new(alloc);
@@ -12,60 +11,63 @@ fn words_of(alloc: Global, line: &str) -> Result<Vec<String>, AllocError> {
     Ok(all)
 }
 
-// The place of the first bad word, or 0 where the words are good.
-fn bad_place(alloc: Global, line: &str) -> Result<u64, AllocError> {
-    let words = words_of(alloc, line)?;
-    match command_of(&words) {
-        Ok(_) => Ok(0),
-        Err(place) => Ok(place),
+// The name of a command on the file `text` or the image `image`, and its number; or `bad`, and the place of the first
+// bad word.
+fn named(command: Result<Command<'_>, u64>) -> (&'static str, u64) {
+    match command {
+        Ok(Command::Run("text", steps)) => ("run", steps),
+        Ok(Command::Exec("image", steps)) => ("exec", steps),
+        Ok(Command::Mean("text", units)) => ("mean", units),
+        Ok(Command::Gen(number)) => ("gen", u64::from(number)),
+        Ok(_) => ("another", 0),
+        Err(place) => ("bad", place),
     }
 }
 
-#[test]
-fn options_stand_anywhere(rt: HostRuntime) -> Result<(), Fail> {
-    let words = words_of(rt.alloc(), "tick exec --steps 007 image")?;
-    assert!(rt; matches!(command_of(&words), Ok(Command::Exec("image", 7))));
-    let words = words_of(rt.alloc(), "tick run text")?;
-    assert!(rt; matches!(command_of(&words), Ok(Command::Run("text", 1_000_000_000))));
-    Ok(())
+// What the words of a line say, and whether they ask for counts.
+fn told(alloc: Global, line: &str) -> Result<(&'static str, u64, bool), AllocError> {
+    let words = words_of(alloc, line)?;
+    let (name, number) = named(command_of(&words));
+    Ok((name, number, asks_counts(&words)))
+}
+
+const LINES: [(&str, (&str, u64, bool)); 17] = [
+    // options stand anywhere
+    ("tick exec --steps 007 image", ("exec", 7, false)),
+    ("tick run text", ("run", 1_000_000_000, false)),
+    // bad words have places
+    ("tick run", ("bad", 2, false)),
+    ("tick run a b", ("bad", 3, false)),
+    ("tick run --steps 0 a", ("bad", 3, false)),
+    ("tick build a --steps 5 b", ("bad", 3, false)),
+    // a source has a number up to two thousand
+    ("tick gen 0002000", ("gen", 2000, false)),
+    ("tick gen", ("bad", 2, false)),
+    ("tick gen 0", ("bad", 2, false)),
+    ("tick gen 2001", ("bad", 2, false)),
+    ("tick gen 3 4", ("bad", 3, false)),
+    // runs may ask for counts once
+    ("tick run --steps 9 text --stats", ("run", 9, true)),
+    ("tick run --stats text --stats", ("bad", 4, true)),
+    ("tick dis --stats image", ("bad", 2, true)),
+    // an evaluation has units and no counts
+    ("tick mean --steps 9 text", ("mean", 9, false)),
+    ("tick mean text --stats", ("bad", 3, true)),
+    ("tick mean", ("bad", 2, false)),
+];
+
+// How many of the lines say what they should.
+fn count_told(alloc: Global) -> Result<u32, AllocError> {
+    let mut count = 0u32;
+    for (line, wanted) in &LINES {
+        if told(alloc, line)? == *wanted {
+            count = count.saturating_add(1);
+        }
+    }
+    Ok(count)
 }
 
 #[test]
-fn bad_words_have_places(rt: HostRuntime) -> Result<(), Fail> {
-    assert!(rt; bad_place(rt.alloc(), "tick run")? == 2);
-    assert!(rt; bad_place(rt.alloc(), "tick run a b")? == 3);
-    assert!(rt; bad_place(rt.alloc(), "tick run --steps 0 a")? == 3);
-    assert!(rt; bad_place(rt.alloc(), "tick build a --steps 5 b")? == 3);
-    Ok(())
-}
-
-#[test]
-fn a_source_has_a_number_up_to_two_thousand(rt: HostRuntime) -> Result<(), Fail> {
-    let words = words_of(rt.alloc(), "tick gen 0002000")?;
-    assert!(rt; matches!(command_of(&words), Ok(Command::Gen(2000))));
-    assert!(rt; bad_place(rt.alloc(), "tick gen")? == 2);
-    assert!(rt; bad_place(rt.alloc(), "tick gen 0")? == 2);
-    assert!(rt; bad_place(rt.alloc(), "tick gen 2001")? == 2);
-    assert!(rt; bad_place(rt.alloc(), "tick gen 3 4")? == 3);
-    Ok(())
-}
-
-#[test]
-fn runs_may_ask_for_counts_once(rt: HostRuntime) -> Result<(), Fail> {
-    let words = words_of(rt.alloc(), "tick run --steps 9 text --stats")?;
-    assert!(rt; matches!(command_of(&words), Ok(Command::Run("text", 9))));
-    assert!(rt; asks_counts(&words));
-    assert!(rt; !asks_counts(&words_of(rt.alloc(), "tick run text")?));
-    assert!(rt; bad_place(rt.alloc(), "tick run --stats text --stats")? == 4);
-    assert!(rt; bad_place(rt.alloc(), "tick dis --stats image")? == 2);
-    Ok(())
-}
-
-#[test]
-fn an_evaluation_has_units_and_no_counts(rt: HostRuntime) -> Result<(), Fail> {
-    let words = words_of(rt.alloc(), "tick mean --steps 9 text")?;
-    assert!(rt; matches!(command_of(&words), Ok(Command::Mean("text", 9))));
-    assert!(rt; bad_place(rt.alloc(), "tick mean text --stats")? == 3);
-    assert!(rt; bad_place(rt.alloc(), "tick mean")? == 2);
-    Ok(())
+fn lines_say_commands_or_their_bad_words(rt: HostRuntime) {
+    assert!(rt; count_told(rt.alloc()) == Ok(17));
 }

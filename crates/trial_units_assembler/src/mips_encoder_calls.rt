@@ -30,14 +30,21 @@ fn addiu_of_the_stack_pointer_is_decoded(rt: HostRuntime) {
     assert!(rt; is_so);
 }
 
+// The word of a jump to the address, or 0.
+fn jump_to(address: u32) -> u32 {
+    match JumpTarget::at(address) {
+        Some(target) => encode(Instr::Jump(JumpOp::J, target)),
+        None => 0,
+    }
+}
+
 #[test]
 fn break_seven_and_a_jump_are_encoded(rt: HostRuntime) {
-    assert!(rt; encode(Instr::Break(BreakCode::new(7))) == 0x0000_01cd);
-    if let Some(target) = JumpTarget::at(0x0400_0000) {
-        assert!(rt; encode(Instr::Jump(JumpOp::J, target)) == 0x0900_0000);
-    } else {
-        assert!(rt; false);
-    }
+    let words = [
+        encode(Instr::Break(BreakCode::new(7))),
+        jump_to(0x0400_0000),
+    ];
+    assert!(rt; words == [0x0000_01cd, 0x0900_0000]);
 }
 
 #[test]

@@ -18,11 +18,6 @@ fn source_gives_its_bytes(alloc: Global) -> Result<bool, AllocError> {
     Ok(reads == [Ok(2), Err(Failed)] && buf == [97, 98] && bytes == [Ok(Some(99)), Ok(None)])
 }
 
-#[test]
-fn a_source_gives_its_bytes_but_at_a_listed_call(rt: HostRuntime) {
-    assert!(rt; source_gives_its_bytes(rt.alloc()) == Ok(true));
-}
-
 // The sink has room for five bytes, and its second write is listed.
 fn sink_takes_what_fits(alloc: Global) -> Result<bool, AllocError> {
     let mut sink = MemSink::new(alloc, 5, &[1])?;
@@ -41,8 +36,12 @@ fn sink_takes_what_fits(alloc: Global) -> Result<bool, AllocError> {
 }
 
 #[test]
-fn a_sink_takes_what_fits_but_at_a_listed_call(rt: HostRuntime) {
-    assert!(rt; sink_takes_what_fits(rt.alloc()) == Ok(true));
+fn streams_pass_what_fits_but_at_a_listed_call(rt: HostRuntime) {
+    let pass = [
+        source_gives_its_bytes(rt.alloc()),
+        sink_takes_what_fits(rt.alloc()),
+    ];
+    assert!(rt; pass == [Ok(true), Ok(true)]);
 }
 
 // Whether a load of a file, of so many bytes at most, gives these.
@@ -70,16 +69,6 @@ fn loads_up_to_the_limit(store: &mut MemStore, into: &mut Vec<u8>) -> bool {
         && loads(store, "a", 9, into, b"text")
 }
 
-#[test]
-fn a_store_loads_up_to_the_limit(rt: HostRuntime) -> Result<(), AllocError> {
-    let mut store = MemStore::new(rt.alloc(), &[1])?;
-    store.put("a", b"text")?;
-    let mut into = b"old".to_vec(rt.alloc())?;
-    let does = loads_up_to_the_limit(&mut store, &mut into);
-    assert!(rt; does);
-    Ok(())
-}
-
 fn is_file(store: &MemStore, path: &str, want: &[u8]) -> bool {
     match store.file(path) {
         Some(bytes) => bytes == want,
@@ -97,30 +86,57 @@ fn saves_at_its_path_alone(store: &mut MemStore) -> bool {
         && store.file("d").is_none()
 }
 
-#[test]
-fn a_store_saves_at_its_path_alone(rt: HostRuntime) -> Result<(), AllocError> {
-    let mut store = MemStore::new(rt.alloc(), &[1])?;
-    store.put("a", b"text")?;
-    let does = saves_at_its_path_alone(&mut store);
-    assert!(rt; does);
-    Ok(())
+// A store with a file, whose second load and second save are listed.
+fn store_of_text(alloc: Global) -> Result<MemStore, AllocError> {
+    let mut store = MemStore::new(alloc, &[1])?;
+    match store.put("a", b"text") {
+        Ok(()) => Ok(store),
+        Err(why) => {
+            drop(store);
+            Err(why)
+        }
+    }
 }
 
-// The adapters over a reader and a writer in memory.
+fn loads_from_memory(alloc: Global) -> Result<bool, AllocError> {
+    let mut into = b"old".to_vec(alloc)?;
+    let mut store = store_of_text(alloc)?;
+    Ok(loads_up_to_the_limit(&mut store, &mut into))
+}
+
+fn saves_to_memory(alloc: Global) -> Result<bool, AllocError> {
+    let mut store = store_of_text(alloc)?;
+    Ok(saves_at_its_path_alone(&mut store))
+}
+
 #[test]
-fn streams_pass_bytes_on(rt: HostRuntime) {
+fn a_store_loads_up_to_the_limit_and_saves_at_its_path_alone(rt: HostRuntime) {
+    let does = [loads_from_memory(rt.alloc()), saves_to_memory(rt.alloc())];
+    assert!(rt; does == [Ok(true), Ok(true)]);
+}
+
+// The adapter over a reader in memory.
+fn reads_to_the_end() -> bool {
     let mut source = StdSource::new(b"xy".as_slice());
     let bytes = [
         read_byte(&mut source),
         read_byte(&mut source),
         read_byte(&mut source),
     ];
-    assert!(rt; bytes == [Ok(Some(120)), Ok(Some(121)), Ok(None)]);
+    bytes == [Ok(Some(120)), Ok(Some(121)), Ok(None)]
+}
+
+// The adapter over a writer in memory, which takes nothing more where it is full.
+fn writes_to_the_end() -> bool {
     let mut room = [0u8; 3];
     let mut sink = StdSink::new(room.as_mut_slice());
-    // the writer takes nothing more
     let wholes = [write_whole(&mut sink, b"abc"), write_whole(&mut sink, b"d")];
-    assert!(rt; wholes == [Ok(()), Err(Failed)]);
+    wholes == [Ok(()), Err(Failed)]
+}
+
+#[test]
+fn streams_pass_bytes_on(rt: HostRuntime) {
+    assert!(rt; [reads_to_the_end(), writes_to_the_end()] == [true; 2]);
 }
 
 fn loads_what_is_saved(store: &mut impl Store, path: &str, into: &mut Vec<u8>) -> bool {
@@ -140,17 +156,24 @@ fn fails_at_what_is_no_file(store: &mut impl Store, path: &str, into: &mut Vec<u
         && saved == Err(SaveFault::Failed)
 }
 
-// The adapter over files, at a file of its own and on devices that each system of this kind has.
+// The adapter over files, at a path that has no file, and on devices that each system of this kind has.
+fn files_are_kept(rt: &HostRuntime, path: &str) -> bool {
+    let mut store = FileStore::new(rt, rt.alloc());
+    let mut into = Vec::new(rt.alloc());
+    let are_so = [
+        loads_what_is_saved(&mut store, path, &mut into),
+        remove_file(rt, path).is_ok(),
+        fails_at_what_is_no_file(&mut store, path, &mut into),
+    ];
+    are_so == [true; 3]
+}
+
 #[test]
 fn files_are_saved_and_loaded_up_to_the_limit(rt: HostRuntime) -> Result<(), Fail> {
     let path = format!(in rt.alloc(); "/tmp/tick_host_edge_{}", id(rt.process()))?;
-    let mut store = FileStore::new(&rt, rt.alloc());
-    let mut into = Vec::new(rt.alloc());
-    let loads = loads_what_is_saved(&mut store, &path, &mut into);
-    let removed = remove_file(&rt, &path);
-    let fails = fails_at_what_is_no_file(&mut store, &path, &mut into);
-    assert!(rt; loads && fails);
-    removed?;
+    let are_kept = files_are_kept(&rt, &path);
+    drop(path);
+    assert!(rt; are_kept);
     Ok(())
 }
 

@@ -1,6 +1,6 @@
 //! The generated source.
 
-use std::test::Fail;
+use std::alloc::{AllocError, Global};
 use tick_gen::generate;
 
 /// The source with the number 3, by hand.
@@ -15,19 +15,25 @@ t=t+count(compile(q2(v),int));
 putint(t);putchar(10);return 0;}
 ";
 
-#[test]
-fn three_tests_are_written(rt: HostRuntime) -> Result<(), Fail> {
-    let text = generate(rt.alloc(), 3)?;
-    assert!(rt; text.as_slice() == THREE.as_bytes());
-    Ok(())
+fn is_three(alloc: Global) -> Result<bool, AllocError> {
+    let text = generate(alloc, 3)?;
+    Ok(text.as_slice() == THREE.as_bytes())
+}
+
+// How many lines the largest source has, and whether it is short enough for a text.
+fn lines_of_largest(alloc: Global) -> Result<(u32, bool), AllocError> {
+    let text = generate(alloc, 2000)?;
+    let mut lines = 0u32;
+    for byte in &text {
+        if *byte == b'\n' {
+            lines = lines.saturating_add(1);
+        }
+    }
+    Ok((lines, text.len() < 1_048_576))
 }
 
 #[test]
-fn the_largest_source_is_a_text(rt: HostRuntime) -> Result<(), Fail> {
-    let text = generate(rt.alloc(), 2000)?;
-    // two lines a test, and three besides; a text may have 1,048,576 bytes
-    let lines = text.iter().filter(|byte| **byte == b'\n').count();
-    assert!(rt; lines == 4003);
-    assert!(rt; text.len() < 1_048_576);
-    Ok(())
+fn sources_have_two_lines_a_test_and_three_besides(rt: HostRuntime) {
+    assert!(rt; is_three(rt.alloc()) == Ok(true));
+    assert!(rt; lines_of_largest(rt.alloc()) == Ok((4003, true)));
 }

@@ -5,51 +5,70 @@ use check_declarators::{
     Length, Role, Step, base_of, decayed, declared_type, fill_length, push_prefixes,
 };
 use sqlite_items::Items;
-use std::alloc::Global;
+use std::alloc::{AllocError, Global};
 use tick_tree::{Base as Words, Deny, Fault, FaultKind, Prefix, Signedness};
 
 const INT: Base = Base::Integer(Integer::Int);
 
 #[test]
 fn words_name_bases(rt: HostRuntime) {
-    let short = base_of(Words::Short(Some(Signedness::Unsigned), true));
-    assert!(rt; short == Base::Integer(Integer::UnsignedShort));
-    assert!(rt; base_of(Words::Long(None, false)) == INT);
+    let found = [
+        base_of(Words::Short(Some(Signedness::Unsigned), true)),
+        base_of(Words::Long(None, false)),
+    ];
+    assert!(rt; found == [Base::Integer(Integer::UnsignedShort), INT]);
+}
+
+// The type of x in `int *x[3]`.
+fn array_of_pointers(alloc: Global) -> Result<CType, Deny> {
+    let mut steps = Items::new(alloc);
+    steps.push(Step::Array(Length::Absent))?;
+    let steps = push_prefixes(fill_length(steps, 3), &[Prefix::Star])?;
+    declared_type(alloc, Role::Local, 1, INT, steps)
+}
+
+// That type from its layers.
+fn by_layers(alloc: Global) -> Result<CType, AllocError> {
+    CType::new(alloc, INT)
+        .with(Layer::Pointer)?
+        .with(Layer::Array(3))
+}
+
+// Whether these types are the same, also when they are shared, and the first is no array as a value.
+fn are_same(alloc: Global, made: CType, wanted: CType) -> Result<[bool; 3], AllocError> {
+    let are_same = same_ctypes(&made, &wanted);
+    let wanted = TypeRef::share(alloc, wanted)?;
+    let place = TypeRef::share(alloc, made)?;
+    let are_shared = same(&place, &wanted);
+    let value = decayed(place)?;
+    Ok([are_same, are_shared, !same(&value, &wanted)])
+}
+
+fn is_array_of_pointers(alloc: Global) -> Result<[bool; 3], Deny> {
+    let made = array_of_pointers(alloc)?;
+    let wanted = by_layers(alloc)?;
+    Ok(are_same(alloc, made, wanted)?)
 }
 
 #[test]
-fn array_of_pointers(rt: HostRuntime) {
-    // int *x[3]
-    let mut steps = Items::new(rt.alloc());
-    steps
-        .push(Step::Array(Length::Absent))
-        .expect(&rt, "memory");
-    let steps = fill_length(steps, 3);
-    let steps = push_prefixes(steps, &[Prefix::Star]).expect(&rt, "memory");
-    let made = declared_type(rt.alloc(), Role::Local, 1, INT, steps).expect(&rt, "a type");
-    let wanted = CType::new(rt.alloc(), INT);
-    let wanted = wanted.with(Layer::Pointer).expect(&rt, "memory");
-    let wanted = wanted.with(Layer::Array(3)).expect(&rt, "memory");
-    assert!(rt; same_ctypes(&made, &wanted));
-    let wanted = TypeRef::share(rt.alloc(), wanted).expect(&rt, "memory");
-    let place = TypeRef::share(rt.alloc(), made).expect(&rt, "memory");
-    assert!(rt; same(&place, &wanted));
-    let value = decayed(place).expect(&rt, "memory");
-    assert!(rt; !same(&value, &wanted));
+fn an_array_of_pointers_is_declared(rt: HostRuntime) {
+    let are_so = is_array_of_pointers(rt.alloc()).unwrap_or([false; 3]);
+    assert!(rt; are_so == [true; 3]);
+}
+
+// The type of x in `int x[0]()`, declared on line 7.
+fn array_without_elements(alloc: Global) -> Result<CType, Deny> {
+    let mut steps = Items::new(alloc);
+    steps.push(Step::Array(Length::Constant(0)))?;
+    steps.push(Step::Unlisted)?;
+    declared_type(alloc, Role::FileScope, 7, INT, steps)
 }
 
 #[test]
 fn lowest_fault_counts(rt: HostRuntime) {
-    // int x[0]()
-    let mut steps = Items::new(rt.alloc());
-    steps
-        .push(Step::Array(Length::Constant(0)))
-        .expect(&rt, "memory");
-    steps.push(Step::Unlisted).expect(&rt, "memory");
-    let made = declared_type(rt.alloc(), Role::FileScope, 7, INT, steps);
     assert!(rt;
         matches!(
-            made,
+            array_without_elements(rt.alloc()),
             Err(Deny::Refused(Fault {
                 kind: FaultKind::TypeMismatch,
                 line: 7,

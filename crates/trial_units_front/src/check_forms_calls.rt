@@ -2,44 +2,61 @@
 
 use check_forms::{declared_name, has_form, name_of, string_of};
 use sqlite_items::{Boxed, Items};
+use std::alloc::{AllocError, Global};
 use tick_tree::{BinaryOp, Core, Declarator, Expr, Name};
+
+// Whether an operation on 1 and this operand has the form.
+fn has_form_with(alloc: Global, op: BinaryOp, right: Expr) -> Result<bool, AllocError> {
+    let both = Boxed::new(alloc, (Expr::Number(1, false), right))?;
+    Ok(has_form(&Expr::Binary(1, op, both)))
+}
 
 #[test]
 fn a_sum_of_numbers_has_the_form(rt: HostRuntime) {
-    let alloc = rt.alloc();
-    let sum = (Expr::Number(1, false), Expr::Character(2));
-    let sum = Boxed::new(alloc, sum).expect(&rt, "memory");
-    assert!(rt; has_form(&Expr::Binary(1, BinaryOp::Add, sum)));
-    let both = (Expr::Number(1, false), Expr::Number(2, false));
-    let both = Boxed::new(alloc, both).expect(&rt, "memory");
-    assert!(rt; !has_form(&Expr::Binary(1, BinaryOp::And, both)));
+    let found = [
+        has_form_with(rt.alloc(), BinaryOp::Add, Expr::Character(2)),
+        has_form_with(rt.alloc(), BinaryOp::And, Expr::Number(2, false)),
+    ];
+    assert!(rt; found == [Ok(true), Ok(false)]);
+}
+
+// Whether `(f)` is the name f, and no string.
+fn is_name_in_parentheses(alloc: Global) -> Result<[bool; 2], AllocError> {
+    let name = Name::new(alloc, b"f")?;
+    let e = Expr::Paren(Boxed::new(alloc, Expr::Name(3, name))?);
+    let is_name = matches!(name_of(&e), Some(name) if name.as_slice() == b"f".as_slice());
+    Ok([is_name, string_of(&e).is_none()])
+}
+
+// Whether `"ab"` is a string of two bytes.
+fn is_string_of_two(alloc: Global) -> Result<bool, AllocError> {
+    let e = Expr::String(Items::from_slice(alloc, b"ab")?);
+    Ok(matches!(string_of(&e), Some(text) if text.len() == 2))
 }
 
 #[test]
 fn names_and_strings_in_parentheses(rt: HostRuntime) {
-    let alloc = rt.alloc();
-    let bytes = Name::new(alloc, b"f").expect(&rt, "memory");
-    let inner = Boxed::new(alloc, Expr::Name(3, bytes)).expect(&rt, "memory");
-    let e = Expr::Paren(inner);
-    assert!(rt; matches!(name_of(&e), Some(name) if name.as_slice() == b"f".as_slice()));
-    assert!(rt; string_of(&e).is_none());
-    let bytes = Items::from_slice(alloc, b"ab").expect(&rt, "memory");
-    assert!(rt; matches!(string_of(&Expr::String(bytes)), Some(text) if text.len() == 2));
+    assert!(rt; is_name_in_parentheses(rt.alloc()) == Ok([true, true]));
+    assert!(rt; is_string_of_two(rt.alloc()) == Ok(true));
+}
+
+fn declarator(alloc: Global, core: Core) -> Declarator {
+    Declarator {
+        prefixes: Items::new(alloc),
+        core,
+        suffixes: Items::new(alloc),
+    }
+}
+
+// Whether `(x)` declares the name at token 4.
+fn declares_in_parentheses(alloc: Global) -> Result<bool, AllocError> {
+    let name = Name::new(alloc, b"x")?;
+    let inner = Boxed::new(alloc, declarator(alloc, Core::Name(4, name)))?;
+    let d = declarator(alloc, Core::Paren(inner));
+    Ok(matches!(declared_name(&d), Some((4, _))))
 }
 
 #[test]
 fn a_declarator_in_parentheses(rt: HostRuntime) {
-    let alloc = rt.alloc();
-    let bytes = Name::new(alloc, b"x").expect(&rt, "memory");
-    let inner = Declarator {
-        prefixes: Items::new(alloc),
-        core: Core::Name(4, bytes),
-        suffixes: Items::new(alloc),
-    };
-    let d = Declarator {
-        prefixes: Items::new(alloc),
-        core: Core::Paren(Boxed::new(alloc, inner).expect(&rt, "memory")),
-        suffixes: Items::new(alloc),
-    };
-    assert!(rt; matches!(declared_name(&d), Some((4, _))));
+    assert!(rt; declares_in_parentheses(rt.alloc()) == Ok(true));
 }

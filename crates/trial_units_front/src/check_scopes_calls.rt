@@ -2,25 +2,48 @@
 
 use c_types::{Base, Integer, TypeRef};
 use check_scopes::{Meaning, MeaningKind, Scopes};
+use std::alloc::{AllocError, Global};
+
+// An int of this kind and number.
+fn int(alloc: Global, kind: MeaningKind, index: u32) -> Meaning {
+    Meaning {
+        kind,
+        ctype: TypeRef::new(alloc, Base::Integer(Integer::Int)),
+        index,
+    }
+}
+
+// The number that the name has, or 0.
+fn index_of(scopes: &Scopes, name: &[u8]) -> u32 {
+    match scopes.find(name) {
+        Some(found) => found.index,
+        None => 0,
+    }
+}
+
+// A name in two scopes: whether both are declared and the second scope is open; the numbers of x and y there, and that
+// of x once it is closed.
+fn hide_and_show(alloc: Global, scopes: &mut Scopes) -> ([bool; 4], [u32; 3]) {
+    let outer = scopes.declare(b"x", int(alloc, MeaningKind::Global, 1));
+    let opened = scopes.open();
+    let inner = scopes.declare(b"x", int(alloc, MeaningKind::Variable, 2));
+    let are_two = scopes.depth() == 2;
+    let hidden = [index_of(scopes, b"x"), index_of(scopes, b"y")];
+    scopes.close_to(1);
+    (
+        [outer.is_ok(), opened.is_ok(), inner.is_ok(), are_two],
+        [hidden[0], hidden[1], index_of(scopes, b"x")],
+    )
+}
+
+fn hidden(alloc: Global) -> Result<([bool; 4], [u32; 3]), AllocError> {
+    let mut scopes = Scopes::new(alloc)?;
+    let found = hide_and_show(alloc, &mut scopes);
+    drop(scopes);
+    Ok(found)
+}
 
 #[test]
 fn inner_declaration_hides(rt: HostRuntime) {
-    let int = Base::Integer(Integer::Int);
-    let mut scopes = Scopes::new(rt.alloc()).expect(&rt, "memory");
-    let outer = Meaning {
-        kind: MeaningKind::Global,
-        ctype: TypeRef::new(rt.alloc(), int),
-        index: 1,
-    };
-    let inner = Meaning {
-        kind: MeaningKind::Variable,
-        ctype: TypeRef::new(rt.alloc(), int),
-        index: 2,
-    };
-    assert!(rt; scopes.declare(b"x", outer).is_ok());
-    assert!(rt; scopes.open().is_ok() && scopes.declare(b"x", inner).is_ok());
-    assert!(rt; scopes.find(b"x").map(|found| found.index) == Some(2));
-    assert!(rt; scopes.depth() == 2 && scopes.find(b"y").is_none());
-    scopes.close_to(1);
-    assert!(rt; scopes.find(b"x").map(|found| found.index) == Some(1));
+    assert!(rt; hidden(rt.alloc()) == Ok(([true; 4], [2, 0, 1])));
 }

@@ -1,89 +1,165 @@
 //! The tables by hand.
 
-use c_types::{Integer, Layer};
+use crate::nodes::word;
+use c_types::{Integer, Layer, TypeRef};
 use check_rules::Functions;
 use check_tables::{Frame, Home, Image, Labels, Ticks};
 use check_types::integer;
-use sqlite_items::Boxed;
+use std::alloc::{AllocError, Global};
 use typed_tree::{CaptureKind, Expr, TickBody};
+
+fn begin(alloc: Global, frame: &mut Frame, int: &TypeRef) -> Result<(), AllocError> {
+    frame.begin(alloc, integer(alloc, Integer::Int));
+    frame.parameter(int)?;
+    frame.variable(int)
+}
+
+// The numbers of the next variables in the first walk, and the bytes of objects in the second.
+fn walk_twice(alloc: Global, frame: &mut Frame, int: &TypeRef) -> Result<[u32; 3], AllocError> {
+    begin(alloc, frame, int)?;
+    let numbers = [frame.number(), frame.inner_number()];
+    frame.mark(1);
+    frame.end(alloc)?;
+    frame.again(alloc);
+    begin(alloc, frame, int)?;
+    Ok([numbers[0], numbers[1], frame.object])
+}
 
 #[test]
 fn marked_variables_are_objects_in_the_next_walk(rt: HostRuntime) {
-    let alloc = rt.alloc();
-    let int = integer(alloc, Integer::Int);
-    let mut frame = Frame::new(alloc);
-    frame.begin(alloc, integer(alloc, Integer::Int));
-    assert!(rt; frame.parameter(&int).is_ok() && frame.variable(&int).is_ok());
-    assert!(rt; frame.number() == 2 && frame.inner_number() == 2);
-    frame.mark(1);
-    assert!(rt; frame.end(alloc).is_ok());
-    frame.again(alloc);
-    frame.begin(alloc, integer(alloc, Integer::Int));
-    assert!(rt; frame.parameter(&int).is_ok() && frame.variable(&int).is_ok());
-    assert!(rt; frame.homes.get(0) == Some(&Home::Register));
-    assert!(rt; frame.homes.get(1) == Some(&Home::Object(0)));
-    assert!(rt; frame.object == 4);
+    let int = integer(rt.alloc(), Integer::Int);
+    let mut frame = Frame::new(rt.alloc());
+    let found = walk_twice(rt.alloc(), &mut frame, &int);
+    let are_homes = frame.homes.as_slice() == [Home::Register, Home::Object(0)].as_slice();
+    drop(frame);
+    drop(int);
+    assert!(rt; found == Ok([2, 2, 4]) && are_homes);
+}
+
+// The nodes of the block outside and of the one inside, and of both once the one inside has a variable and is left.
+fn enter_and_leave(alloc: Global, frame: &mut Frame) -> [usize; 4] {
+    let outer = frame.enter(alloc);
+    let entered = [outer.len(), frame.nodes.len()];
+    let added = frame.inner_variable();
+    let inner = frame.leave(outer);
+    let left = if added.is_ok() { inner.len() } else { 0 };
+    [entered[0], entered[1], left, frame.nodes.len()]
+}
+
+// Those, behind a row of five bytes, and the bytes of objects.
+fn nodes_of_blocks(alloc: Global, frame: &mut Frame) -> Result<([usize; 4], u32), AllocError> {
+    let row = integer(alloc, Integer::Char).with(Layer::Array(5))?;
+    frame.variable(&row)?;
+    Ok((enter_and_leave(alloc, frame), frame.object))
 }
 
 #[test]
 fn blocks_have_their_own_nodes(rt: HostRuntime) {
-    let alloc = rt.alloc();
-    let row = integer(alloc, Integer::Char)
-        .with(Layer::Array(5))
-        .expect(&rt, "memory");
-    let mut frame = Frame::new(alloc);
-    assert!(rt; frame.variable(&row).is_ok());
-    let outer = frame.enter(alloc);
-    assert!(rt; outer.len() == 1 && frame.nodes.is_empty() && frame.object == 8);
-    assert!(rt; frame.inner_variable().is_ok());
-    let inner = frame.leave(outer);
-    assert!(rt; inner.len() == 1 && frame.nodes.len() == 1);
+    let mut frame = Frame::new(rt.alloc());
+    let found = nodes_of_blocks(rt.alloc(), &mut frame);
+    drop(frame);
+    assert!(rt; found == Ok(([1, 0, 1, 1], 8)));
+}
+
+// The places of two strings and two globals, and that of a string in the next walk.
+fn places(alloc: Global, image: &mut Image) -> Result<[u32; 5], AllocError> {
+    let first = image.string(alloc, b"abcd")?;
+    let second = image.string(alloc, b"")?;
+    let globals = [image.global(5), image.global(4)];
+    image.again(alloc);
+    let third = image.string(alloc, b"")?;
+    Ok([first, second, globals[0], globals[1], third])
 }
 
 #[test]
 fn strings_stand_at_multiples_of_four(rt: HostRuntime) {
-    let alloc = rt.alloc();
-    let mut image = Image::new(alloc);
-    assert!(rt; image.string(alloc, b"abcd") == Ok(268435456));
-    assert!(rt; image.string(alloc, b"") == Ok(268435464));
-    assert!(rt; image.global(5) == 0 && image.global(4) == 8);
-    image.again(alloc);
-    assert!(rt; image.string(alloc, b"") == Ok(268435468));
+    let mut image = Image::new(rt.alloc());
+    let found = places(rt.alloc(), &mut image);
+    drop(image);
+    assert!(rt; found == Ok([0x1000_0000, 0x1000_0008, 0, 8, 0x1000_000c]));
+}
+
+// Which labels are taken: two cases, a default, that again, and a case again.
+fn taken(labels: &mut Labels) -> [bool; 5] {
+    [
+        labels.case(1, 7).is_ok(),
+        labels.case(1, 8).is_ok(),
+        labels.default(1).is_ok(),
+        labels.default(1).is_ok(),
+        labels.case(1, 7).is_ok(),
+    ]
 }
 
 #[test]
 fn labels_stand_once(rt: HostRuntime) {
     let mut labels = Labels::new(rt.alloc());
-    assert!(rt; labels.case(1, 7).is_ok() && labels.case(1, 8).is_ok());
-    assert!(rt; labels.default(1).is_ok() && labels.default(1).is_err());
-    assert!(rt; labels.case(1, 7).is_err());
+    let found = taken(&mut labels);
+    drop(labels);
+    assert!(rt; found == [true, true, true, false, false]);
+}
+
+// The line of the first prototype without a function, or 0.
+fn undefined_line(functions: &Functions) -> u32 {
+    match functions.undefined() {
+        Some(prototype) => prototype.line,
+        None => 0,
+    }
+}
+
+// A function with a prototype is defined twice: whether each is taken, the line of what is undefined before and between
+// that, and the number that an earlier walk has found.
+fn define_twice(alloc: Global, functions: &mut Functions) -> ([bool; 3], [u32; 3]) {
+    let noted = functions.prototype(alloc, 3, b"f");
+    let before = undefined_line(functions);
+    let defined = functions.define(alloc, 4, b"f");
+    let between = undefined_line(functions);
+    let again = functions.define(alloc, 5, b"f");
+    (
+        [noted.is_ok(), defined.is_ok(), again.is_ok()],
+        [before, between, functions.number(b"f")],
+    )
+}
+
+// The number of the function in the next walk.
+fn number_again(alloc: Global, functions: Functions) -> Result<u32, AllocError> {
+    let functions = functions.again(alloc)?;
+    let number = functions.number(b"f");
+    drop(functions);
+    Ok(number)
+}
+
+fn defined_twice(alloc: Global) -> Result<([bool; 3], [u32; 3], u32), AllocError> {
+    let mut functions = Functions::new(alloc)?;
+    let (are_taken, found) = define_twice(alloc, &mut functions);
+    let number = number_again(alloc, functions)?;
+    Ok((are_taken, found, number))
 }
 
 #[test]
 fn functions_stand_once(rt: HostRuntime) {
-    let alloc = rt.alloc();
-    let mut functions = Functions::new(alloc).expect(&rt, "memory");
-    assert!(rt; functions.prototype(alloc, 3, b"f").is_ok());
-    assert!(rt; functions.undefined().map(|p| p.line) == Some(3));
-    assert!(rt; functions.define(alloc, 4, b"f").is_ok() && functions.undefined().is_none());
-    assert!(rt; functions.define(alloc, 5, b"f").is_err() && functions.number(b"f") == 0);
-    let functions = functions.again(alloc).expect(&rt, "memory");
-    assert!(rt; functions.number(b"f") == 1);
+    let wanted = ([true, true, false], [3, 0, 0], 1);
+    assert!(rt; defined_twice(rt.alloc()) == Ok(wanted));
+}
+
+fn capture_twice(alloc: Global, ticks: &mut Ticks) -> Result<[u32; 2], AllocError> {
+    ticks.enter(alloc);
+    let first = ticks.capture(alloc, CaptureKind::Dollar, word(alloc, 1)?)?;
+    let second = ticks.capture(alloc, CaptureKind::Dollar, word(alloc, 1)?)?;
+    Ok([first, second])
+}
+
+// Whether the tick that is left is the first.
+fn leaves_the_first(alloc: Global, ticks: &mut Ticks) -> Result<bool, AllocError> {
+    let node = ticks.leave(alloc, TickBody::Expression(word(alloc, 1)?))?;
+    Ok(matches!(node.get(), Expr::Tick(0, _)))
 }
 
 #[test]
 fn ticks_have_the_number_of_those_before(rt: HostRuntime) {
-    let alloc = rt.alloc();
-    let mut ticks = Ticks::new(alloc);
-    ticks.enter(alloc);
-    let one = Boxed::new(alloc, Expr::Const(1)).expect(&rt, "memory");
-    assert!(rt; ticks.capture(alloc, CaptureKind::Dollar, one) == Ok(0));
-    let one = Boxed::new(alloc, Expr::Const(1)).expect(&rt, "memory");
-    assert!(rt; ticks.capture(alloc, CaptureKind::Dollar, one) == Ok(1));
-    let one = Boxed::new(alloc, Expr::Const(1)).expect(&rt, "memory");
-    let node = ticks
-        .leave(alloc, TickBody::Expression(one))
-        .expect(&rt, "memory");
-    assert!(rt; matches!(node.get(), Expr::Tick(0, _)));
-    assert!(rt; ticks.captures.is_empty());
+    let mut ticks = Ticks::new(rt.alloc());
+    let numbers = capture_twice(rt.alloc(), &mut ticks);
+    let is_first = leaves_the_first(rt.alloc(), &mut ticks);
+    let are_gone = ticks.captures.is_empty();
+    drop(ticks);
+    assert!(rt; numbers == Ok([0, 1]) && is_first == Ok(true) && are_gone);
 }

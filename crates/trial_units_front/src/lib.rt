@@ -2,11 +2,7 @@
 #![tactic(auto)]
 
 #[cfg(test)]
-mod c_lexer_calls;
-#[cfg(test)]
 mod c_types_calls;
-#[cfg(test)]
-mod captures_calls;
 #[cfg(test)]
 mod check_declarators_calls;
 #[cfg(test)]
@@ -24,9 +20,9 @@ mod lex_words_calls;
 #[cfg(test)]
 mod meaning_operators_calls;
 #[cfg(test)]
-mod one_place_calls;
+mod nodes;
 #[cfg(test)]
-mod tick_parser_calls;
+mod one_place_calls;
 #[cfg(test)]
 mod tick_tree_calls;
 #[cfg(test)]

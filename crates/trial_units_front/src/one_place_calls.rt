@@ -5,21 +5,34 @@ use sqlite_items::Items;
 use std::alloc::{AllocError, Global};
 use std::rc::Rc;
 
-fn marked(alloc: Global, text: &[u8]) -> Result<Rc<Marked>, AllocError> {
-    let bytes = Items::from_slice(alloc, text)?;
-    let owner = Rc::new(alloc, Marked::new(bytes))?;
-    Ok(owner)
+fn marked(alloc: Global) -> Result<Rc<Marked>, AllocError> {
+    let bytes = Items::from_slice(alloc, b"int")?;
+    Ok(Rc::new(alloc, Marked::new(bytes))?)
+}
+
+// Which of two handles of one place and one of another are of one place. Each mark is behind it as it was.
+fn are_of_one_place(one: &Rc<Marked>, again: &Rc<Marked>, other: &Rc<Marked>) -> [bool; 8] {
+    [
+        are_one(one, again),
+        are_one(again, one),
+        are_one(one, one),
+        are_one(one, other),
+        are_one(other, again),
+        are_one(one, again),
+        are_one(other, other),
+        again.bytes() == b"int".as_slice(),
+    ]
+}
+
+fn told(alloc: Global) -> Result<[bool; 8], AllocError> {
+    let one = marked(alloc)?;
+    let other = marked(alloc)?;
+    let again = one.clone()?;
+    Ok(are_of_one_place(&one, &again, &other))
 }
 
 #[test]
 fn handles_of_one_place_are_told_from_the_same_bytes_elsewhere(rt: HostRuntime) {
-    let alloc = rt.alloc();
-    let one = marked(alloc, b"int").expect(&rt, "memory");
-    let other = marked(alloc, b"int").expect(&rt, "memory");
-    let again = one.clone().expect(&rt, "memory");
-    assert!(rt; are_one(&one, &again) && are_one(&again, &one) && are_one(&one, &one));
-    assert!(rt; !are_one(&one, &other) && !are_one(&other, &again));
-    // (each mark is as it was)
-    assert!(rt; are_one(&one, &again) && are_one(&other, &other));
-    assert!(rt; again.bytes() == b"int".as_slice());
+    let wanted = [true, true, true, false, false, true, true, true];
+    assert!(rt; told(rt.alloc()) == Ok(wanted));
 }

@@ -1,39 +1,24 @@
 //! A tree made by hand, and its size.
 
+use crate::nodes::word;
 use sqlite_items::{Boxed, Items};
 use std::alloc::{AllocError, Global};
 use typed_tree::{
     Answer, Expr, Library, Stmt, comma, has_value, library, size, statement_size, void,
 };
 
-// putchar of a byte, as a statement
-fn put(alloc: Global, byte: u32) -> Result<Stmt, AllocError> {
-    let byte = Boxed::new(alloc, Expr::Const(byte))?;
-    Ok(Stmt::Eval(library(alloc, Library::Putchar, byte)?))
-}
-
 // { putchar(72); return 3; }
-fn body(alloc: Global) -> Result<Stmt, AllocError> {
+fn body(alloc: Global) -> Result<Boxed<Stmt>, AllocError> {
+    let put = library(alloc, Library::Putchar, word(alloc, 72)?)?;
     let mut items = Items::new(alloc);
-    items.push(put(alloc, 72)?)?;
-    let three = Boxed::new(alloc, Expr::Const(3))?;
-    items.push(Stmt::ReturnValue(three))?;
-    Ok(Stmt::Block(Items::new(alloc), items))
-}
-
-// how many nodes the statements have together
-fn nodes_of(statements: &Items<Stmt>) -> u32 {
-    let mut nodes = 0u32;
-    for s in statements.as_slice() {
-        nodes = nodes.saturating_add(statement_size(s));
-    }
-    nodes
+    items.push(Stmt::Eval(put))?;
+    items.push(Stmt::ReturnValue(word(alloc, 3)?))?;
+    Boxed::new(alloc, Stmt::Block(Items::new(alloc), items))
 }
 
 fn nodes_of_body(alloc: Global) -> Result<u32, AllocError> {
-    let mut all = Items::new(alloc);
-    all.push(body(alloc)?)?;
-    Ok(nodes_of(&all))
+    let body = body(alloc)?;
+    Ok(statement_size(body.get()))
 }
 
 #[test]
@@ -41,15 +26,24 @@ fn a_body_of_two_statements_has_six_nodes(rt: HostRuntime) {
     assert!(rt; nodes_of_body(rt.alloc()) == Ok(6));
 }
 
+// f()
+fn call(alloc: Global) -> Result<Boxed<Expr>, AllocError> {
+    Boxed::new(alloc, Expr::Call(Answer::Void, 1, Items::new(alloc)))
+}
+
+// The size of f(),getchar(), and whether a value is left by f(), by that, and by that as void.
+fn comma_of_call(alloc: Global) -> Result<(u32, [bool; 3]), AllocError> {
+    let called = call(alloc)?;
+    let first = has_value(called.get());
+    let byte = Boxed::new(alloc, Expr::Getchar)?;
+    let both = comma(alloc, called, byte)?;
+    let second = has_value(both.get());
+    let nodes = size(both.get());
+    let none = void(alloc, both)?;
+    Ok((nodes, [first, second, has_value(none.get())]))
+}
+
 #[test]
 fn a_comma_leaves_its_last_value(rt: HostRuntime) {
-    let alloc = rt.alloc();
-    let called = Expr::Call(Answer::Void, 1, Items::new(alloc));
-    let called = Boxed::new(alloc, called).expect(&rt, "memory");
-    assert!(rt; !has_value(called.get()));
-    let byte = Boxed::new(alloc, Expr::Getchar).expect(&rt, "memory");
-    let both = comma(alloc, called, byte).expect(&rt, "memory");
-    assert!(rt; has_value(both.get()) && size(both.get()) == 3);
-    let none = void(alloc, both).expect(&rt, "memory");
-    assert!(rt; !has_value(none.get()));
+    assert!(rt; comma_of_call(rt.alloc()) == Ok((3, [false, true, false])));
 }

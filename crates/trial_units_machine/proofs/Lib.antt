@@ -1,3 +1,1 @@
 pub mod Ascents
-pub mod FinishedLists
-pub mod Return

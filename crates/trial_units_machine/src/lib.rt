@@ -5,12 +5,6 @@
 #[cfg(test)]
 mod buckets_calls;
 #[cfg(test)]
-mod icode_expand_calls;
-#[cfg(test)]
-mod icode_ir_calls;
-#[cfg(test)]
-mod icode_liveness_calls;
-#[cfg(test)]
 mod icode_ops_calls;
 #[cfg(test)]
 mod icode_templates_calls;

@@ -1,13 +1,12 @@
 //! A short program, in one call and in two.
 
-ghost use Rattle.std.specs.Prelude.{◌≡◌, ◌≤◌, ◌+◌, ◌^◌, length, None, IfOk, IfSome};
+ghost use Rattle.std.specs.Prelude.{◌≤◌, ◌+◌, ◌^◌, length};
 ghost use Rattle.mips_machine.specs.Progress.{progress_of};
 
 use host_edge::{Ending, MemSink, MemSource};
 use image_file::read;
 use mips_machine::{Machine, Stop, run_twice};
 use std::alloc::{AllocError, Global};
-use std::process::Abort;
 
 // The image of a program that reads a byte, writes it, writes the number -7, and ends with it.
 const PROGRAM: [u8; 64] = [
@@ -42,113 +41,103 @@ const MAKER: [u8; 144] = [
     0, 0, 0, 0x0c, // syscall
 ];
 
-// A machine before its first instruction, where these few bytes are an image.
-fn machine_of(alloc: Global, bytes: &[u8]) -> Result<Option<Machine>, AllocError>
-    requires few { length bytes.now ≤ 200 }
-    ensures on { IfOk result (λ found. IfSome found (λ m. m.stopped ≡ None)) }
-    ensures first { IfOk result (λ found. IfSome found (λ m. (progress_of m).steps ≡ 0)) }
+// What is seen of a run: how it stops, how many instructions were executed, and what the services counted: ops,
+// functions, words, flushes and spills.
+type Seen = (Stop, u64, [u64; 5]);
+
+fn run(machine: &mut Machine, input: &mut MemSource, out: &mut MemSink) -> Seen
+    requires { (progress_of machine.old).steps + 1000 ≤ 2 ^ 40 }
+{
+    let stop = machine.run(input, out, 1000);
+    let counts = machine.counts();
+    let counted = [
+        counts.ops,
+        counts.functions,
+        counts.words,
+        counts.flushes,
+        counts.spills,
+    ];
+    (stop, machine.steps(), counted)
+}
+
+// What is seen of the run of an image, where these are the places of the function that it made last.
+fn seen_on(
+    alloc: Global,
+    bytes: &[u8],
+    places: &[u8],
+    input: &mut MemSource,
+    out: &mut MemSink,
+) -> Result<Option<Seen>, AllocError>
+    requires { length bytes.now ≤ 200 }
 {
     match read(alloc, bytes) {
-        Ok(image) => match Machine::new(alloc, &image) {
-            Ok(machine) => Ok(Some(machine)),
-            Err(why) => Err(why),
-        },
+        Ok(image) => {
+            let mut machine = Machine::new(alloc, &image)?;
+            let seen = run(&mut machine, input, out);
+            let are_kept = machine.choices() == places;
+            let choices = machine.into_choices();
+            let are_given = choices.as_slice() == places;
+            drop(choices);
+            Ok((are_kept && are_given).then_some(seen))
+        }
         Err(_) => Ok(None),
     }
 }
 
-fn ends_there(rt: &impl Abort, machine: &mut Machine, input: &mut MemSource, out: &mut MemSink)
-    requires { (progress_of machine.old).steps + 100 ≤ 2 ^ 40 }
+// What is seen of such a run, if it writes these bytes.
+fn seen(
+    alloc: Global,
+    bytes: &[u8],
+    places: &[u8],
+    written: &[u8],
+) -> Result<Option<Seen>, AllocError>
+    requires { length bytes.now ≤ 200 }
 {
-    let stop = machine.run(input, out, 100);
-    assert!(rt; stop == Stop::Ended(Ending::Done(249)));
-    assert!(rt; out.taken() == b"a-7".as_slice());
-    assert!(rt; machine.steps() == 10);
-    assert!(rt; machine.counts().flushes == 0);
-    assert!(rt; machine.choices().is_empty());
+    let mut input = MemSource::new(alloc, b"ab", &[])?;
+    let mut out = MemSink::new(alloc, 9, &[])?;
+    let seen = seen_on(alloc, bytes, places, &mut input, &mut out)?;
+    let is_written = out.taken() == written;
+    Ok(if is_written { seen } else { None })
 }
 
 #[test]
-fn a_program_runs_to_its_end(rt: HostRuntime) -> Result<(), AllocError> {
-    let mut input = MemSource::new(rt.alloc(), b"ab", &[])?;
-    let mut out = MemSink::new(rt.alloc(), 9, &[])?;
-    match machine_of(rt.alloc(), &PROGRAM) {
-        Ok(Some(machine)) => {
-            let mut machine = machine;
-            ends_there(&rt, &mut machine, &mut input, &mut out);
-            assert!(rt; machine.into_choices().is_empty());
-            Ok(())
-        }
-        Ok(None) => {
-            assert!(rt; false);
-            Ok(())
-        }
-        Err(why) => Err(why),
-    }
-}
-
-fn stops_twice(rt: &impl Abort, machine: &mut Machine, input: &mut MemSource, out: &mut MemSink)
-    requires fresh { machine.old.stopped ≡ None }
-    requires first { (progress_of machine.old).steps ≡ 0 }
-{
-    let stop = run_twice(machine, input, out, 4, 4);
-    assert!(rt; stop == Stop::Steps);
-    assert!(rt; out.taken() == b"a-7".as_slice());
+fn a_program_runs_to_its_end(rt: HostRuntime) {
+    let wanted = (Stop::Ended(Ending::Done(249)), 10, [0; 5]);
+    assert!(rt; seen(rt.alloc(), &PROGRAM, &[], b"a-7") == Ok(Some(wanted)));
 }
 
 #[test]
-fn it_goes_on_from_where_it_stopped(rt: HostRuntime) -> Result<(), AllocError> {
-    let mut input = MemSource::new(rt.alloc(), b"ab", &[])?;
-    let mut out = MemSink::new(rt.alloc(), 9, &[])?;
-    match machine_of(rt.alloc(), &PROGRAM) {
-        Ok(Some(machine)) => {
-            let mut machine = machine;
-            stops_twice(&rt, &mut machine, &mut input, &mut out);
-            drop(machine);
-            Ok(())
-        }
-        Ok(None) => {
-            assert!(rt; false);
-            Ok(())
-        }
-        Err(why) => Err(why),
-    }
+fn services_are_counted_and_places_kept(rt: HostRuntime) {
+    let wanted = (Stop::Ended(Ending::Done(0)), 61, [2, 1, 32, 1, 0]);
+    assert!(rt; seen(rt.alloc(), &MAKER, &[0], b"") == Ok(Some(wanted)));
 }
 
-fn makes_a_function(
-    rt: &impl Abort,
-    machine: &mut Machine,
+// How a run stops that was stopped before, after four instructions each.
+fn stop_on(
+    alloc: Global,
     input: &mut MemSource,
     out: &mut MemSink,
-)
-    requires { (progress_of machine.old).steps + 1000 ≤ 2 ^ 40 }
-{
-    let stop = machine.run(input, out, 1000);
-    assert!(rt; stop == Stop::Ended(Ending::Done(0)));
-    let counts = machine.counts();
-    assert!(rt; counts.ops == 2);
-    assert!(rt; counts.functions == 1);
-    assert!(rt; counts.words == 32);
-    assert!(rt; counts.flushes == 1);
-    assert!(rt; counts.spills == 0);
-    assert!(rt; machine.choices() == [0].as_slice());
+) -> Result<Option<Stop>, AllocError> {
+    match read(alloc, &PROGRAM) {
+        Ok(image) => {
+            let mut machine = Machine::new(alloc, &image)?;
+            let stop = run_twice(&mut machine, input, out, 4, 4);
+            drop(machine);
+            Ok(Some(stop))
+        }
+        Err(_) => Ok(None),
+    }
+}
+
+// Whether it stops so for want of steps, and what is written is the same as in one run.
+fn goes_on(alloc: Global) -> Result<bool, AllocError> {
+    let mut input = MemSource::new(alloc, b"ab", &[])?;
+    let mut out = MemSink::new(alloc, 9, &[])?;
+    let stop = stop_on(alloc, &mut input, &mut out)?;
+    Ok(stop == Some(Stop::Steps) && out.taken() == b"a-7".as_slice())
 }
 
 #[test]
-fn services_are_counted_and_places_kept(rt: HostRuntime) -> Result<(), AllocError> {
-    let mut input = MemSource::new(rt.alloc(), b"", &[])?;
-    let mut out = MemSink::new(rt.alloc(), 1, &[])?;
-    match machine_of(rt.alloc(), &MAKER) {
-        Ok(Some(machine)) => {
-            let mut machine = machine;
-            makes_a_function(&rt, &mut machine, &mut input, &mut out);
-            assert!(rt; machine.into_choices().as_slice() == [0].as_slice());
-            Ok(())
-        }
-        Ok(None) => {
-            assert!(rt; false);
-            Ok(())
-        }
-        Err(why) => Err(why),
-    }
+fn it_goes_on_from_where_it_stopped(rt: HostRuntime) {
+    assert!(rt; goes_on(rt.alloc()) == Ok(true));
 }

@@ -1,8 +1,0 @@
-use Rattle.trial_units_machine.proofs.Return.{return_is_finished, return_has_no_labels}
-use Rattle.trial_units_machine.proofs.icode_expand_calls.a_function_that_returns_has_its_words.Goals as goal
-
-pub expand-written-requires-clause-finished : goal.expand-written-requires-clause-finished
-expand-written-requires-clause-finished g c = (0, return_is_finished)
-
-pub expand-written-requires-clause-labels : goal.expand-written-requires-clause-labels
-expand-written-requires-clause-labels g c = return_has_no_labels 0
