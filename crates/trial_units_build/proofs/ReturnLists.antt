@@ -50,17 +50,11 @@ static_return fs f h =
     ap stmt_view h.0 ∙ stmt_view_returnvalue (e.Const 3) ∙ ap node.ReturnValue (view_const 3) in
     record { ready = ready_alone fs f h; words = subst HasWordsStmt (sym body) (lit< tt) }
 
-pub ready_in_item : (list : List Function) (i : ℕ) (f : Function) → i < length list → f ≡ get_or list i f →
-    All ReturnsThree list → (fs : List node.Function) × IsReadyIn fs (function_view f)
-ready_in_item list i f h is all = (
-  [],
-  subst (λ g. IsReadyIn [] (function_view g)) (sym is)
-      (ready_alone [] (get_or list i f) (All-get_or ReturnsThree list i f h all)),
-)
-
 pub ready_item : (list : List Function) (i : ℕ) (f : Function) → i < length list → f ≡ get_or list i f →
     All ReturnsThree list → IsReady (function_view f)
-ready_item list i f h is all = (ready_in_item list i f h is all).1.ready
+ready_item list i f h is all =
+    subst (λ g. IsReady (function_view g)) (sym is)
+    (ready_alone [] (get_or list i f) (All-get_or ReturnsThree list i f h all)).ready
 
 -- two of them are such as an image is made of
 size_two : (f : Function) → ReturnsThree f → size_of (function_view f) ≡ 2

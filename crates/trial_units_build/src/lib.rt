@@ -2,8 +2,6 @@
 #![tactic(auto)]
 
 #[cfg(test)]
-mod built_programs_calls;
-#[cfg(test)]
 mod returns;
 #[cfg(test)]
 mod static_backend_calls;

@@ -3,33 +3,34 @@
 use static_image::write_front;
 use word32::map::FUNCTIONS;
 
+const START: [u32; 20] = [
+    0x3c1d_8000,
+    0x3c1c_2051,
+    0x3c1e_10c0,
+    0x3c18_1040,
+    0x3718_0000,
+    0xaf98_fffc,
+    0x3c18_2000,
+    0x3718_0000,
+    0xaf98_fff8,
+    0x3c18_0000,
+    0x3718_0002,
+    0xaf98_fff0,
+    0x3c18_0400,
+    0x3718_0000,
+    0xaf98_ffec,
+    0x0c10_0400,
+    0x0000_0000,
+    0x0040_2021,
+    0x3402_000a,
+    0x0000_000c,
+];
+
 #[test]
 fn the_start_stands_in_front(rt: HostRuntime) {
     let mut out = [1; 1024];
     write_front(&mut out, FUNCTIONS, 1);
-    let start = [
-        0x3c1d_8000,
-        0x3c1c_2051,
-        0x3c1e_10c0,
-        0x3c18_1040,
-        0x3718_0000,
-        0xaf98_fffc,
-        0x3c18_2000,
-        0x3718_0000,
-        0xaf98_fff8,
-        0x3c18_0000,
-        0x3718_0002,
-        0xaf98_fff0,
-        0x3c18_0400,
-        0x3718_0000,
-        0xaf98_ffec,
-        0x0c10_0400,
-        0x0000_0000,
-        0x0040_2021,
-        0x3402_000a,
-        0x0000_000c,
-    ];
-    assert!(rt; &out[..20] == &start[..]);
-    assert!(rt; out[20] == 0 && out[63] == 0 && out[1023] == 0);
-    assert!(rt; out[64] == 0x8f83_fffc && out[77] == 0x03e0_0008);
+    let ends = [out[20], out[63], out[64], out[77], out[1023]];
+    assert!(rt; out[..20] == START[..]);
+    assert!(rt; ends == [0, 0, 0x8f83_fffc, 0x03e0_0008, 0]);
 }
