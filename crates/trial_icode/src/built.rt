@@ -1,6 +1,4 @@
-//! Builds lists of builder ops, a line each, and prints the ops that come of it or the refusal.
-//!
-//! A line is `TITLE | LIST`, with the list in the form of `lines`.
+//! Builds a list of builder ops, in the form of `lines`, and prints the ops that come of it or the refusal.
 
 use crate::lines;
 use crate::lists::is_built;
@@ -22,33 +20,28 @@ fn print_ops<R: Print>(rt: &R, ops: &[Op], registers: u32) -> io::Result<()> {
     println!(rt; " {registers} registers")
 }
 
-// The line of one list.
-fn report<R: Print>(
+// What is made of a list.
+fn report_list<R: Print>(
     rt: &R,
     builder: &mut Builder,
     parameters: u32,
     ops: &[BuildOp],
 ) -> io::Result<()> {
     if is_built(rt, builder, parameters, ops)? {
-        print_ops(rt, builder.ops(), builder.registers())
-    } else {
-        Ok(())
+        return print_ops(rt, builder.ops(), builder.registers());
     }
+    Ok(())
 }
 
-/// Prints what comes of a line.
-pub(crate) fn report_line<R: Print + AllocGlobal>(
+/// Prints what comes of the list that a text says.
+pub(crate) fn report<R: Print + AllocGlobal>(
     rt: &R,
     builder: &mut Builder,
-    line: &str,
+    list: &str,
 ) -> io::Result<()> {
-    let Some((title, list)) = line.split_once('|') else {
-        return println!(rt; "no title");
-    };
-    print!(rt; "{}:", title.trim())?;
     match lines::list(rt.alloc(), list)? {
         Some((parameters, ops)) => {
-            let printed = report(rt, builder, parameters, &ops);
+            let printed = report_list(rt, builder, parameters, &ops);
             drop(ops);
             printed
         }

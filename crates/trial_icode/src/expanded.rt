@@ -1,6 +1,5 @@
-//! Expands lists of builder ops, a line each, and prints the words of the functions.
-//!
-//! A line is `TITLE | FORM | LIST`, with the form of `form` and the list in that of `lines`.
+//! Expands a list of builder ops, and prints the words of the function. It stands as `FORM | LIST`, with the form of
+//! `form` and the list in that of `lines`.
 
 ghost use Rattle.std.specs.Prelude.{◌≡◌, ℕ, ◌≤◌, length};
 ghost use Rattle.icode_ops.specs.Finished.{IsFinished};
@@ -9,7 +8,7 @@ use crate::form::{self, Form};
 use crate::lines;
 use crate::lists::is_built;
 use icode_expand::expand;
-use icode_ir::{BuildOp, Builder};
+use icode_ir::Builder;
 use icode_ops::Op;
 use std::io;
 
@@ -75,74 +74,40 @@ fn report_placed<R: Print + AllocGlobal>(
     printed
 }
 
-// The words of the ops, with the places that a text says.
-fn report_ops<R: Print + AllocGlobal>(
-    rt: &R,
-    ops: &[Op],
-    form: Form,
-    places: &str,
-) -> io::Result<()>
-    requires { (n : ℕ) × IsFinished ops.now n }
-{
-    match form::places(rt.alloc(), places)? {
-        Some(places) => {
-            let printed = report_placed(rt, ops, form, &places);
-            drop(places);
-            printed
-        }
-        None => println!(rt; " no list"),
-    }
-}
-
-// The line of one list.
-fn report<R: Print + AllocGlobal>(
-    rt: &R,
-    builder: &mut Builder,
-    form: Form,
-    places: &str,
-    parameters: u32,
-    ops: &[BuildOp],
-) -> io::Result<()> {
-    if is_built(rt, builder, parameters, ops)? {
-        report_ops(rt, builder.ops(), form, places)
-    } else {
-        Ok(())
-    }
-}
-
-// The line of the list that a text says.
+// What comes of a list, with the registers at these places.
 fn report_list<R: Print + AllocGlobal>(
     rt: &R,
     builder: &mut Builder,
     form: Form,
-    places: &str,
+    places: &[u8],
     list: &str,
 ) -> io::Result<()> {
     match lines::list(rt.alloc(), list)? {
         Some((parameters, ops)) => {
-            let printed = report(rt, builder, form, places, parameters, &ops);
+            let is_finished = is_built(rt, builder, parameters, &ops);
             drop(ops);
-            printed
+            if is_finished? {
+                return report_placed(rt, builder.ops(), form, places);
+            }
+            Ok(())
         }
         None => println!(rt; " no list"),
     }
 }
 
-/// Prints what comes of a line.
-pub(crate) fn report_line<R: Print + AllocGlobal>(
+/// Prints what comes of the form and the list that a text says.
+pub(crate) fn report<R: Print + AllocGlobal>(
     rt: &R,
     builder: &mut Builder,
-    line: &str,
+    text: &str,
 ) -> io::Result<()> {
-    let Some((title, rest)) = line.split_once('|') else {
-        return println!(rt; "no title");
-    };
-    print!(rt; "{}:", title.trim())?;
-    let Some((form, list)) = rest.split_once('|') else {
-        return println!(rt; " no form");
-    };
-    match form::read(form) {
-        Some((form, places)) => report_list(rt, builder, form, places, list),
-        None => println!(rt; " no list"),
+    let (form, list) = text.split_once('|').unwrap_or((text, ""));
+    match form::read(rt.alloc(), form)? {
+        Some((form, places)) => {
+            let printed = report_list(rt, builder, form, &places, list);
+            drop(places);
+            printed
+        }
+        None => println!(rt; " no form"),
     }
 }

@@ -32,8 +32,8 @@ fn is_compiled(word: Option<&str>) -> Option<bool> {
     }
 }
 
-/// The form that a text says, and the text of the places, or None where it is of another form.
-pub(crate) fn read(text: &str) -> Option<(Form, &str)> {
+// The form that a text says, and the text of the places, or None where it is of another form.
+fn form_of(text: &str) -> Option<(Form, &str)> {
     let mut words = text.split_whitespace();
     let form = Form {
         at: number(words.next())?,
@@ -56,11 +56,14 @@ fn push_places(places: &mut Vec<u8>, text: &str) -> Result<bool, AllocError> {
     Ok(true)
 }
 
-/// The places that a text says, none where it is `-`, or None where one isn't a number below 256.
-pub(crate) fn places(alloc: Global, text: &str) -> Result<Option<Vec<u8>>, AllocError> {
+/// The form and the places that a text says, or None where it is of another form.
+pub(crate) fn read(alloc: Global, text: &str) -> Result<Option<(Form, Vec<u8>)>, AllocError> {
+    let Some((form, listed)) = form_of(text) else {
+        return Ok(None);
+    };
     let mut places = Vec::new(alloc);
-    if text == "-" || push_places(&mut places, text)? {
-        Ok(Some(places))
+    if listed == "-" || push_places(&mut places, listed)? {
+        Ok(Some((form, places)))
     } else {
         Ok(None)
     }

@@ -1,19 +1,22 @@
-//! Files of lists of builder ops, a line each, and what a builder makes of a list. An empty line is none.
+//! Files with a line for each case, `TITLE | REST`, and what a builder makes of a list. An empty line is none.
 
 ghost use Rattle.std.specs.Prelude.{◌≡◌, IfOk, true};
 ghost use Rattle.icode_ir.specs.declared.builder.Phase.TheVariants.{Finished};
 
-use crate::{built, expanded};
+use crate::{built, expanded, served};
+use code_arena::{CodeArena, FunctionRows};
 use icode_ir::{BuildOp, Builder};
 use std::io;
 
-/// What is printed of a list.
+/// What is printed of a line.
 #[derive(Clone, Copy)]
 pub(crate) enum Trial {
-    /// The ops that are built.
+    /// The ops that are built of its list.
     Built,
     /// The words that these are expanded to.
     Expanded,
+    /// What its calls give.
+    Served,
 }
 
 /// Builds a list, and says whether it is finished; if not, the refusal is printed.
@@ -37,31 +40,38 @@ pub(crate) fn is_built<R: Print>(
     Ok(true)
 }
 
-fn report_lines<R: Print + AllocGlobal>(
+// The title of a line, and what comes of the rest.
+fn report_line<R: Print + AllocGlobal>(
     rt: &R,
     trial: Trial,
+    line: &str,
     builder: &mut Builder,
+    arena: &mut CodeArena,
+    rows: &mut FunctionRows,
+) -> io::Result<()> {
+    let (title, rest) = line.split_once('|').unwrap_or((line, ""));
+    print!(rt; "{}:", title.trim())?;
+    match trial {
+        Trial::Built => built::report(rt, builder, rest),
+        Trial::Expanded => expanded::report(rt, builder, rest),
+        Trial::Served => served::report(rt, rest, arena, rows),
+    }
+}
+
+/// Prints what comes of each line of a file.
+pub(crate) fn report_lines<R: Print + AllocGlobal>(
+    rt: &R,
+    trial: Trial,
     file: &[u8],
+    builder: &mut Builder,
+    arena: &mut CodeArena,
+    rows: &mut FunctionRows,
 ) -> io::Result<()> {
     for line in file.split(|b| *b == b'\n') {
         let line = str::from_utf8(line).unwrap_or("?");
-        match trial {
-            _ if line.is_empty() => {}
-            Trial::Built => built::report_line(rt, builder, line)?,
-            Trial::Expanded => expanded::report_line(rt, builder, line)?,
+        if !line.is_empty() {
+            report_line(rt, trial, line, builder, arena, rows)?;
         }
     }
     Ok(())
-}
-
-/// Prints what comes of each list of a file.
-pub(crate) fn report_file<R: Print + AllocGlobal>(
-    rt: &R,
-    trial: Trial,
-    file: &[u8],
-) -> io::Result<()> {
-    let mut builder = Builder::new(rt.alloc())?;
-    let printed = report_lines(rt, trial, &mut builder, file);
-    drop(builder);
-    printed
 }

@@ -19,18 +19,45 @@ mod places;
 mod served;
 mod stages;
 
+use code_arena::{CodeArena, FunctionRows};
+use icode_ir::Builder;
 use lists::Trial;
 use std::{fs, io};
 
+// The lines of a file, behind one with its name.
+fn report_file(
+    rt: &HostRuntime,
+    trial: Trial,
+    name: &str,
+    builder: &mut Builder,
+    arena: &mut CodeArena,
+    rows: &mut FunctionRows,
+) -> io::Result<()> {
+    println!(rt; "== {name}")?;
+    let file = fs::read(rt, name)?;
+    let printed = lists::report_lines(rt, trial, &file, builder, arena, rows);
+    drop(file);
+    printed
+}
+
+// All files, which have one builder, one arena and one function table.
+fn report_files(rt: &HostRuntime) -> io::Result<()> {
+    let mut builder = Builder::new(rt.alloc())?;
+    let mut arena = CodeArena::new(rt.alloc())?;
+    let mut rows = FunctionRows::new(rt.alloc())?;
+    for (trial, name) in [
+        (Trial::Built, "built"),
+        (Trial::Expanded, "expanded"),
+        (Trial::Served, "served"),
+    ] {
+        report_file(rt, trial, name, &mut builder, &mut arena, &mut rows)?;
+    }
+    Ok(())
+}
+
 // What is printed where no function is asked for.
 fn report_all(rt: &HostRuntime) -> io::Result<()> {
-    println!(rt; "== built")?;
-    lists::report_file(rt, Trial::Built, &fs::read(rt, "built")?)?;
-    println!(rt; "== expanded")?;
-    lists::report_file(rt, Trial::Expanded, &fs::read(rt, "expanded")?)?;
-    println!(rt; "== served")?;
-    served::report_file(rt, &fs::read(rt, "served")?)?;
-    println!(rt; "== places")?;
+    report_files(rt)?;
     places::report(rt)?;
     println!(rt; "== stages")?;
     stages::report(rt, stages::SMALLEST)

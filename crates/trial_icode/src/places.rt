@@ -131,19 +131,17 @@ fn check_lists(
 /// Prints what is counted over all lists.
 pub(crate) fn report<R: Print + AllocGlobal>(rt: &R) -> io::Result<()> {
     let counts = check_all(rt.alloc())?;
-    println!(rt; "finished lists: {}", counts.finished)?;
-    println!(rt; "legal places: {}", counts.legal)?;
     println!(rt;
-        "lists with a spill, over a hundred: {}",
-        counts.spilled > 100
-    )?;
-    println!(rt;
-        "lists with a shared register, over a hundred: {}",
-        counts.shared > 100
-    )?;
-    println!(rt;
-        "lists that refuse one register for all, over a hundred: {}",
+        "== places
+finished lists: {}
+legal places: {}
+lists with a spill, over a hundred: {}
+lists with a shared register, over a hundred: {}
+lists that refuse one register for all, over a hundred: {}",
+        counts.finished,
+        counts.legal,
+        counts.spilled > 100,
+        counts.shared > 100,
         counts.refused > 100
-    )?;
-    Ok(())
+    )
 }

@@ -1,8 +1,8 @@
-//! Calls the services that make code in the order of the lines of a file, and prints what they answer.
+//! Calls the services that make code in the order of a list, and prints what they answer.
 //!
-//! A line is `TITLE | CALL; CALL; ..`, with calls in the form of the module `call`. A service prints its answer, or `!`
-//! and the number of the reason for which it is refused; the words of the arena are printed with a `*` behind those that
-//! are flushed. Each line has services of its own, and all lines have one arena and one function table.
+//! A list is `CALL; CALL; ..`, with calls in the form of the module `call`. A service prints its answer, or `!` and the
+//! number of the reason for which it is refused; the words of the arena are printed with a `*` behind those that are
+//! flushed. Each list has services of its own, and all lists have one arena and one function table.
 
 use crate::call::{self, Call};
 use code_arena::{CodeArena, FunctionRows};
@@ -44,10 +44,11 @@ fn print_words<R: Print + AllocGlobal>(
         if word >= u64::from(map::ARENA_WORDS) {
             return print!(rt; " no word");
         }
-        match arena.fetch(word as u32) {
-            Ok(word) => print!(rt; " {word:08x}*")?,
-            Err(_) => print!(rt; " {:08x}", arena.read(word as u32))?,
-        }
+        let (word, mark) = match arena.fetch(word as u32) {
+            Ok(word) => (word, "*"),
+            Err(_) => (arena.read(word as u32), ""),
+        };
+        print!(rt; " {word:08x}{mark}")?;
     }
     Ok(())
 }
@@ -64,11 +65,10 @@ fn print_row<R: Print + AllocGlobal>(rt: &R, row: u32, rows: &FunctionRows) -> i
 // The places with commas between them.
 fn print_places<R: Print + AllocGlobal>(rt: &R, places: &[u8]) -> io::Result<()> {
     print!(rt; " (")?;
-    for (i, place) in places.iter().enumerate() {
-        if i > 0 {
-            print!(rt; ",")?;
-        }
-        print!(rt; "{place}")?;
+    let mut comma = "";
+    for place in places {
+        print!(rt; "{comma}{place}")?;
+        comma = ",";
     }
     print!(rt; ")")
 }
@@ -112,8 +112,8 @@ fn print_calls<R: Print + AllocGlobal>(
     println!(rt; "")
 }
 
-// What a list gives, under services of its own.
-fn report<R: Print + AllocGlobal>(
+/// Prints what the calls of a list give.
+pub(crate) fn report<R: Print + AllocGlobal>(
     rt: &R,
     list: &str,
     arena: &mut CodeArena,
@@ -122,50 +122,5 @@ fn report<R: Print + AllocGlobal>(
     let mut service = Service::new(rt.alloc())?;
     let printed = print_calls(rt, list, &mut service, arena, rows);
     drop(service);
-    printed
-}
-
-// The title and what the list of one line gives.
-fn report_line<R: Print + AllocGlobal>(
-    rt: &R,
-    line: &str,
-    arena: &mut CodeArena,
-    rows: &mut FunctionRows,
-) -> io::Result<()> {
-    match line.split_once('|') {
-        Some((title, list)) => {
-            print!(rt; "{}:", title.trim())?;
-            report(rt, list, arena, rows)
-        }
-        None => println!(rt; "no title"),
-    }
-}
-
-fn report_lines<R: Print + AllocGlobal>(
-    rt: &R,
-    file: &[u8],
-    arena: &mut CodeArena,
-    rows: &mut FunctionRows,
-) -> io::Result<()> {
-    for line in file.split(|b| *b == b'\n') {
-        if !line.is_empty() {
-            report_line(rt, str::from_utf8(line).unwrap_or("?"), arena, rows)?;
-        }
-    }
-    Ok(())
-}
-
-fn report_in<R: Print + AllocGlobal>(rt: &R, file: &[u8], arena: &mut CodeArena) -> io::Result<()> {
-    let mut rows = FunctionRows::new(rt.alloc())?;
-    let printed = report_lines(rt, file, arena, &mut rows);
-    drop(rows);
-    printed
-}
-
-/// Prints what the calls of each line of a file give. An empty line is none.
-pub(crate) fn report_file<R: Print + AllocGlobal>(rt: &R, file: &[u8]) -> io::Result<()> {
-    let mut arena = CodeArena::new(rt.alloc())?;
-    let printed = report_in(rt, file, &mut arena);
-    drop(arena);
     printed
 }

@@ -36,7 +36,7 @@ enum Shape {
 }
 
 /// How far a function is taken.
-#[derive(Clone, Copy, PartialEq, Eq, PartialOrd, Ord)]
+#[derive(Clone, Copy, PartialEq)]
 enum Stage {
     Emit,
     Finish,
@@ -350,18 +350,22 @@ pub(crate) const SMALLEST: Task = Task {
     stage: Stage::Scan,
 };
 
+// What three words ask for, or None where they are others.
+fn task_of(shape: &str, ops: &str, stage: &str) -> Option<Task> {
+    Some(Task {
+        shape: shape_of(shape)?,
+        ops: ops.parse::<u32>().ok()?,
+        stage: stage_of(stage)?,
+    })
+}
+
 /// What the words behind the program's name ask for: the shape of the function, `short`, `long`, `straight` or `loops`,
 /// how many ops it is to have, about, and the stage, `emit`, `finish`, `intervals` or `scan`. With other words, or
 /// none, they ask for nothing.
 pub(crate) fn asked(rt: &HostRuntime) -> io::Result<Option<Task>> {
     let mut words = env::args(rt)?.skip(1);
-    let shape = words.next().and_then(|word| shape_of(word.as_str()));
-    let ops = words
-        .next()
-        .and_then(|word| word.as_str().parse::<u32>().ok());
-    let stage = words.next().and_then(|word| stage_of(word.as_str()));
-    match (shape, ops, stage) {
-        (Some(shape), Some(ops), Some(stage)) => Ok(Some(Task { shape, ops, stage })),
+    match (words.next(), words.next(), words.next()) {
+        (Some(shape), Some(ops), Some(stage)) => Ok(task_of(&shape, &ops, &stage)),
         _ => Ok(None),
     }
 }
