@@ -12,12 +12,17 @@ use tick_tree::{Deny, FaultKind, refused};
 use typed_tree::Function;
 
 /// A prototype of the text.
-#[derive(Drop)]
 pub struct Prototype {
     /// The line of its declaration.
     pub line: u32,
     /// The name of its function.
     pub name: Items<u8>,
+}
+
+impl Drop for Prototype {
+    fn drop(self) {
+        let Prototype { line: _, name: _ } = self;
+    }
 }
 
 /// What the walk knows of the functions of the program. After an error it is not to be used any more.

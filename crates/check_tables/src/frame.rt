@@ -23,7 +23,6 @@ pub enum Home {
 }
 
 /// What the walk knows of the function that it is in. After an error it is not to be used any more.
-#[derive(Drop)]
 pub struct Frame {
     /// The type that the function answers.
     pub result: TypeRef,
@@ -41,6 +40,21 @@ pub struct Frame {
     pub done: Items<Items<bool>>,
     /// The marks of all functions, as an earlier walk made them.
     pub objects: Items<Items<bool>>,
+}
+
+impl Drop for Frame {
+    fn drop(self) {
+        let Frame {
+            result: _,
+            homes: _,
+            inner: _,
+            object: _,
+            nodes: _,
+            marks: _,
+            done: _,
+            objects: _,
+        } = self;
+    }
 }
 
 // A count of things, as far as a word counts.

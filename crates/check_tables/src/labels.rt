@@ -10,9 +10,14 @@ use std::marker::Model;
 use tick_tree::{Deny, FaultKind, refused};
 
 /// The values of the cases of a switch, in the order of the text. Contracts see them as a list.
-#[derive(Drop)]
 pub struct Values {
     all: IndexSet<u32>,
+}
+
+impl Drop for Values {
+    fn drop(self) {
+        let Values { all: _ } = self;
+    }
 }
 
 impl Model for Values {
@@ -44,12 +49,20 @@ impl Values {
 }
 
 /// The labels of a switch so far. After an error they are not to be used any more.
-#[derive(Drop)]
 pub struct Labels {
     /// The values of its cases.
     pub values: Values,
     /// Whether it has a `default`.
     pub has_default: bool,
+}
+
+impl Drop for Labels {
+    fn drop(self) {
+        let Labels {
+            values: _,
+            has_default: _,
+        } = self;
+    }
 }
 
 impl Labels {

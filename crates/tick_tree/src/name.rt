@@ -7,9 +7,14 @@ use std::alloc::{AllocError, Global};
 use std::marker::Model;
 
 /// A name, which contracts see as its bytes. One of up to 16 bytes takes no memory of its own.
-#[derive(Drop)]
 pub struct Name {
     bytes: SmallVec<u8, 16>,
+}
+
+impl Drop for Name {
+    fn drop(self) {
+        let Name { bytes: _ } = self;
+    }
 }
 
 impl Model for Name {

@@ -103,7 +103,6 @@ impl Drop for Expr {
 
 /// An expression that may be left out.
 #[cycle(tree)]
-#[derive(Drop)]
 pub enum OptionalExpr {
     /// Nothing stands there.
     Absent,
@@ -111,14 +110,33 @@ pub enum OptionalExpr {
     Present(Expr),
 }
 
+impl Drop for OptionalExpr {
+    #[cycle(tree)]
+    fn drop(self) {
+        match self {
+            OptionalExpr::Absent => (),
+            OptionalExpr::Present(a) => drop(a),
+        }
+    }
+}
+
 /// A base and a declarator without a name.
 #[cycle(tree)]
-#[derive(Drop)]
 pub struct Typename {
     /// The words of the base.
     pub base: Base,
     /// A declarator whose innermost part is `Core::Absent`.
     pub declarator: Declarator,
+}
+
+impl Drop for Typename {
+    #[cycle(tree)]
+    fn drop(self) {
+        let Typename {
+            base: _,
+            declarator: _,
+        } = self;
+    }
 }
 
 /// What makes a type of a base, and mostly names it.
@@ -148,7 +166,6 @@ impl Drop for Declarator {
 
 /// The inner part of a declarator.
 #[cycle(tree)]
-#[derive(Drop)]
 pub enum Core {
     /// Nothing: the declarator is that of a type name or of a parameter without a name.
     Absent,
@@ -158,9 +175,19 @@ pub enum Core {
     Paren(Boxed<Declarator>),
 }
 
+impl Drop for Core {
+    #[cycle(tree)]
+    fn drop(self) {
+        match self {
+            Core::Absent => (),
+            Core::Name(_, b) => drop(b),
+            Core::Paren(a) => drop(a),
+        }
+    }
+}
+
 /// What stands behind the name of a declarator.
 #[cycle(tree)]
-#[derive(Drop)]
 pub enum Suffix {
     /// `[ ]`, with its length.
     Array(OptionalExpr),
@@ -172,9 +199,20 @@ pub enum Suffix {
     Listed(Items<Parameter>),
 }
 
+impl Drop for Suffix {
+    #[cycle(tree)]
+    fn drop(self) {
+        match self {
+            Suffix::Array(a) => drop(a),
+            Suffix::Unlisted => (),
+            Suffix::Nothing => (),
+            Suffix::Listed(a) => drop(a),
+        }
+    }
+}
+
 /// A parameter of a list.
 #[cycle(tree)]
-#[derive(Drop)]
 pub struct Parameter {
     /// The line of its first word.
     pub line: u32,
@@ -184,9 +222,19 @@ pub struct Parameter {
     pub declarator: Declarator,
 }
 
+impl Drop for Parameter {
+    #[cycle(tree)]
+    fn drop(self) {
+        let Parameter {
+            line: _,
+            base: _,
+            declarator: _,
+        } = self;
+    }
+}
+
 /// What a declared name begins with.
 #[cycle(tree)]
-#[derive(Drop)]
 pub enum Initializer {
     /// There is none.
     Absent,
@@ -196,14 +244,34 @@ pub enum Initializer {
     List(Items<Expr>, bool),
 }
 
+impl Drop for Initializer {
+    #[cycle(tree)]
+    fn drop(self) {
+        match self {
+            Initializer::Absent => (),
+            Initializer::Value(a) => drop(a),
+            Initializer::List(a, _) => drop(a),
+        }
+    }
+}
+
 /// A declarator with its initializer.
 #[cycle(tree)]
-#[derive(Drop)]
 pub struct Init {
     /// The declarator, with a name.
     pub declarator: Declarator,
     /// Its initializer.
     pub value: Initializer,
+}
+
+impl Drop for Init {
+    #[cycle(tree)]
+    fn drop(self) {
+        let Init {
+            declarator: _,
+            value: _,
+        } = self;
+    }
 }
 
 /// A declaration of variables or prototypes.
@@ -298,10 +366,21 @@ impl Drop for Stmt {
 }
 
 /// An item of a program.
-#[derive(Drop)]
 pub enum External {
     /// A function, with the line of its first word, its base, its declarator and its block's items.
     Function(u32, Base, Declarator, Items<Stmt>),
     /// A declaration, which may declare nothing.
     Declaration(Declaration),
+}
+
+impl Drop for External {
+    fn drop(self) {
+        match self {
+            External::Function(_, _, c, d) => {
+                drop(c);
+                drop(d);
+            }
+            External::Declaration(a) => drop(a),
+        }
+    }
 }

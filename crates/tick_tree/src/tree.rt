@@ -10,9 +10,14 @@ use std::marker::Model;
 /// The syntax tree of a text of at most 262,144 tokens, which contracts see as its items.
 ///
 /// Behind the name of each function stands its list of parameters at once, and the tree has at most 1,048,577 nodes.
-#[derive(Drop)]
 pub struct Tree {
     items: Items<External>,
+}
+
+impl Drop for Tree {
+    fn drop(self) {
+        let Tree { items: _ } = self;
+    }
 }
 
 impl Model for Tree {

@@ -53,7 +53,7 @@ pub enum CapturedWord {
 }
 
 /// An expression.
-#[derive(Drop)]
+#[cycle(expressions)]
 pub enum Expr {
     /// A word: a number, the address of a global or of a string, or a function's number.
     Const(u32),
@@ -117,8 +117,72 @@ pub enum Expr {
     ParamOf(Boxed<Expr>),
 }
 
+// (derived, each crate that drops one would prove it once more)
+impl Drop for Expr {
+    #[cycle(expressions)]
+    fn drop(self) {
+        match self {
+            Expr::Const(_) => (),
+            Expr::Captured(_, _) => (),
+            Expr::Var(_) => (),
+            Expr::SetVar(_, value) => drop(value),
+            Expr::PostVar(_, _, _) => (),
+            Expr::VGet(_) => (),
+            Expr::VSet(_, value) => drop(value),
+            Expr::VPost(_, _) => (),
+            Expr::Frame(_) => (),
+            Expr::Load(_, address) => drop(address),
+            Expr::Store(_, address, value) => {
+                drop(address);
+                drop(value);
+            }
+            Expr::Modify(_, _, address, value) => {
+                drop(address);
+                drop(value);
+            }
+            Expr::Post(_, _, address) => drop(address),
+            Expr::Bin(_, a, b) => {
+                drop(a);
+                drop(b);
+            }
+            Expr::Un(_, a) => drop(a),
+            Expr::And(a, b) => {
+                drop(a);
+                drop(b);
+            }
+            Expr::Or(a, b) => {
+                drop(a);
+                drop(b);
+            }
+            Expr::Cond(test, a, b) => {
+                drop(test);
+                drop(a);
+                drop(b);
+            }
+            Expr::Comma(a, b) => {
+                drop(a);
+                drop(b);
+            }
+            Expr::Void(a) => drop(a),
+            Expr::Call(_, _, arguments) => drop(arguments),
+            Expr::CallNumber(_, function, arguments) => {
+                drop(function);
+                drop(arguments);
+            }
+            Expr::Getchar => (),
+            Expr::Lib(_, argument) => drop(argument),
+            Expr::Tick(_, captures) => drop(captures),
+            Expr::Capture(_, value) => drop(value),
+            Expr::Splice(_, _) => (),
+            Expr::Compile(specification) => drop(specification),
+            Expr::Local => (),
+            Expr::ParamOf(index) => drop(index),
+        }
+    }
+}
+
 /// A statement.
-#[derive(Drop)]
+#[cycle(statements)]
 pub enum Stmt {
     /// An expression, for its effects.
     Eval(Boxed<Expr>),
@@ -158,4 +222,58 @@ pub enum Stmt {
     Return,
     /// `return` with its value.
     ReturnValue(Boxed<Expr>),
+}
+
+impl Drop for Stmt {
+    #[cycle(statements)]
+    fn drop(self) {
+        match self {
+            Stmt::Eval(e) => drop(e),
+            Stmt::Block(variables, items) => {
+                drop(variables);
+                drop(items);
+            }
+            Stmt::Variable(_) => (),
+            Stmt::Object(_, _) => (),
+            Stmt::Parameter(_, _) => (),
+            Stmt::ParameterObject(_, _, _) => (),
+            Stmt::If(test, body) => {
+                drop(test);
+                drop(body);
+            }
+            Stmt::IfElse(test, a, b) => {
+                drop(test);
+                drop(a);
+                drop(b);
+            }
+            Stmt::While(test, body) => {
+                drop(test);
+                drop(body);
+            }
+            Stmt::Do(body, test) => {
+                drop(body);
+                drop(test);
+            }
+            Stmt::For(test, body) => {
+                drop(test);
+                drop(body);
+            }
+            Stmt::ForStep(test, step, body) => {
+                drop(test);
+                drop(step);
+                drop(body);
+            }
+            Stmt::Switch(value, variables, items) => {
+                drop(value);
+                drop(variables);
+                drop(items);
+            }
+            Stmt::Case(_) => (),
+            Stmt::Default => (),
+            Stmt::Break => (),
+            Stmt::Continue => (),
+            Stmt::Return => (),
+            Stmt::ReturnValue(e) => drop(e),
+        }
+    }
 }

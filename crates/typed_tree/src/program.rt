@@ -4,7 +4,6 @@ use crate::expression::{Expr, Stmt};
 use sqlite_items::{Boxed, Items};
 
 /// A function of the text.
-#[derive(Drop)]
 pub struct Function {
     /// Its name.
     pub name: Items<u8>,
@@ -20,8 +19,20 @@ pub struct Function {
     pub body: Boxed<Stmt>,
 }
 
+impl Drop for Function {
+    fn drop(self) {
+        let Function {
+            name: _,
+            line: _,
+            params: _,
+            object: _,
+            size: _,
+            body: _,
+        } = self;
+    }
+}
+
 /// What stands behind a backquote.
-#[derive(Drop)]
 pub enum TickBody {
     /// An expression. Where it leaves no value, the specification is a statement.
     Expression(Boxed<Expr>),
@@ -29,8 +40,16 @@ pub enum TickBody {
     Statement(Boxed<Stmt>),
 }
 
+impl Drop for TickBody {
+    fn drop(self) {
+        match self {
+            TickBody::Expression(a) => drop(a),
+            TickBody::Statement(a) => drop(a),
+        }
+    }
+}
+
 /// A tick of the text.
-#[derive(Drop)]
 pub struct Tick {
     /// How many nodes its body has, a splice counting as one.
     pub size: u32,
@@ -38,8 +57,13 @@ pub struct Tick {
     pub body: TickBody,
 }
 
+impl Drop for Tick {
+    fn drop(self) {
+        let Tick { size: _, body: _ } = self;
+    }
+}
+
 /// The parts of a typed program, as the checker puts them together. The typed tree of an accepted text is sealed: `wellformed::Typed`.
-#[derive(Drop)]
 pub struct TypedParts {
     /// Its functions, in the order of their definitions; the first has the number 1.
     pub functions: Items<Function>,
@@ -47,4 +71,14 @@ pub struct TypedParts {
     pub ticks: Items<Tick>,
     /// The bytes of its globals, then of its strings, from the first address of the object space on.
     pub image: Items<u8>,
+}
+
+impl Drop for TypedParts {
+    fn drop(self) {
+        let TypedParts {
+            functions: _,
+            ticks: _,
+            image: _,
+        } = self;
+    }
 }
