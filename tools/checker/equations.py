@@ -1,4 +1,4 @@
-"""Writes crates/check_rules/proofs/Equations.antt: for each variant of each type of the tree the walk over it, by
+"""Writes crates/check_laws/proofs/Equations.antt: for each variant of each type of the tree the walk over it, by
 the walks over its parts.
 
 Run it at the top of the checkout, after a change of the tree's variants or of the folds' rules.
@@ -190,7 +190,7 @@ def main():
     text = text.replace("typename_walk, parameter_walk, declarator_walk,", "declarator_of, typename_of, typename_walk, parameter_walk as parameter_steps, declarator_walk,")
     text = text.replace("≡ parameter_walk (out", "≡ parameter_steps (out")
     text = text.replace("walk = parameter_walk (out", "walk = parameter_steps (out")
-    with open("crates/check_rules/proofs/Equations.antt", "w") as file:
+    with open("crates/check_laws/proofs/Equations.antt", "w") as file:
         file.write(text)
 
 

@@ -1,4 +1,4 @@
-"""Writes crates/check_rules/proofs/Written.antt: the fold of the walk knows of each node how it is
+"""Writes crates/check_laws/proofs/Written.antt: the fold of the walk knows of each node how it is
 written as check_forms does.
 
 Run it at the top of the checkout, after a change of the tree's types or of the folds' rules.
@@ -189,7 +189,7 @@ staged_agrees d = ap (λ w. w.staged) (declarator_agrees d)
 
 pub ruleset forms_of = (constant_agrees, name_agrees, string_agrees, declared_agrees, staged_agrees)
 """
-    open("proofs/Written.antt" if imports else "crates/check_rules/proofs/Written.antt", "w").write(text)
+    open("proofs/Written.antt" if imports else "crates/check_laws/proofs/Written.antt", "w").write(text)
 
 
 main()

@@ -1,3 +1,0 @@
-pub mod Equations
-pub mod Loops
-pub mod Written

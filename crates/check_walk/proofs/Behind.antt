@@ -13,8 +13,8 @@ use Rattle.check_rules.specs.declared.state.State.{State}
 use Rattle.check_rules.specs.StatementRules.{body}
 use Rattle.check_rules.specs.Statements as statements
 use Rattle.check_rules.specs.Walk as walks
-use Rattle.check_rules.proofs.Equations.{item_block}
-use Rattle.check_rules.proofs.Loops.{after}
+use Rattle.check_laws.proofs.Equations.{item_block}
+use Rattle.check_laws.proofs.Loops.{after}
 use Rattle.check_walk.specs.Kinds.{item_behind}
 
 -- an answer with its nodes behind these

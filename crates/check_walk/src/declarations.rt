@@ -85,7 +85,7 @@ fn begin_list(
 
 // A variable begins with its initializer.
 #[cycle(walk)]
-#[tactic(auto, using(check_rules::proofs::Equations::initializers, check_rules::proofs::Written::forms_of))]
+#[tactic(auto, using(check_laws::proofs::Equations::initializers, check_laws::proofs::Written::forms_of))]
 fn begin(
     alloc: Global,
     state: &mut State,
@@ -116,7 +116,7 @@ fn begin(
 
 // One declarator: its type, its name, its initializer.
 #[cycle(walk)]
-#[tactic(auto, using(check_rules::proofs::Equations::types, check_rules::proofs::Written::forms_of))]
+#[tactic(auto, using(check_laws::proofs::Equations::types, check_laws::proofs::Written::forms_of))]
 fn declared_local(
     alloc: Global,
     state: &mut State,

@@ -70,7 +70,7 @@ fn plain_call(
 }
 
 #[cycle(walk)]
-#[tactic(auto, using(check_rules::proofs::Written::forms_of))]
+#[tactic(auto, using(check_laws::proofs::Written::forms_of))]
 fn call(
     alloc: Global,
     state: &mut State,
@@ -274,7 +274,7 @@ fn typed(
 
 /// What an expression that may be absent is.
 #[cycle(walk)]
-#[tactic(auto, using(check_rules::proofs::Equations::optionals))]
+#[tactic(auto, using(check_laws::proofs::Equations::optionals))]
 pub fn optional(
     alloc: Global,
     state: &mut State,
@@ -291,7 +291,7 @@ pub fn optional(
 
 /// What an expression is, or the first fault.
 #[cycle(walk)]
-#[tactic(auto, using(check_rules::proofs::Equations::expressions))]
+#[tactic(auto, using(check_laws::proofs::Equations::expressions))]
 pub fn expression(alloc: Global, state: &mut State, stage: Stage, e: &Expr) -> Result<Operand, Deny>
     ensures { Reads ((spec.node e.now).walk stage state.old) result state.new }
 {

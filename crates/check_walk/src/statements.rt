@@ -44,7 +44,7 @@ pub fn items(
 
 // The nodes, and those of one item more behind them. An expression's node stands in no list of its own before.
 #[cycle(walk)]
-#[tactic(auto, using(check_rules::proofs::Equations::item_expr))]
+#[tactic(auto, using(check_laws::proofs::Equations::item_expr))]
 fn item_behind(
     alloc: Global,
     state: &mut State,
@@ -383,7 +383,7 @@ fn switch(
 }
 
 #[cycle(walk)]
-#[tactic(auto, using(check_rules::proofs::Written::forms_of))]
+#[tactic(auto, using(check_laws::proofs::Written::forms_of))]
 fn case(
     alloc: Global,
     state: &mut State,
@@ -399,7 +399,7 @@ fn case(
 }
 
 #[cycle(walk)]
-#[tactic(auto, using(check_rules::proofs::Equations::optionals))]
+#[tactic(auto, using(check_laws::proofs::Equations::optionals))]
 fn returned(
     alloc: Global,
     state: &mut State,
@@ -426,7 +426,7 @@ fn empty(alloc: Global) -> Result<Items<Stmt>, Deny>
 
 /// The nodes of a statement, one but for a declaration, or the first fault.
 #[cycle(walk)]
-#[tactic(auto, using(check_rules::proofs::Equations::statements))]
+#[tactic(auto, using(check_laws::proofs::Equations::statements))]
 pub fn statement(
     alloc: Global,
     state: &mut State,

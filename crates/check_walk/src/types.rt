@@ -18,7 +18,7 @@ use tick_tree::{Core, Declarator, Deny, OptionalExpr, Parameter, Suffix, Typenam
 
 /// The type that a type name names, with the line of the node that it is in.
 #[cycle(walk)]
-#[tactic(auto, using(check_rules::proofs::Equations::types))]
+#[tactic(auto, using(check_laws::proofs::Equations::types))]
 pub fn typename(
     alloc: Global,
     state: &mut State,
@@ -35,7 +35,7 @@ pub fn typename(
 
 /// The steps from a base to the type that a declarator declares.
 #[cycle(walk)]
-#[tactic(auto, using(check_rules::proofs::Equations::types))]
+#[tactic(auto, using(check_laws::proofs::Equations::types))]
 pub fn declarator(
     alloc: Global,
     state: &mut State,
@@ -50,7 +50,7 @@ pub fn declarator(
 }
 
 #[cycle(walk)]
-#[tactic(auto, using(check_rules::proofs::Equations::cores))]
+#[tactic(auto, using(check_laws::proofs::Equations::cores))]
 fn core(alloc: Global, state: &mut State, stage: Stage, c: &Core) -> Result<Items<Step>, Deny>
     ensures { Reads ((spec.core c.now).walk stage state.old) result state.new }
 {
@@ -86,7 +86,7 @@ fn suffixes(
 }
 
 #[cycle(walk)]
-#[tactic(auto, using(check_rules::proofs::Equations::suffixes))]
+#[tactic(auto, using(check_laws::proofs::Equations::suffixes))]
 fn suffix(alloc: Global, state: &mut State, stage: Stage, s: &Suffix) -> Result<Step, Deny>
     ensures { Reads ((spec.suffix s.now).walk stage state.old) result state.new }
 {
@@ -100,7 +100,7 @@ fn suffix(alloc: Global, state: &mut State, stage: Stage, s: &Suffix) -> Result<
 
 // The step of an array, by its length.
 #[cycle(walk)]
-#[tactic(auto, using(check_rules::proofs::Equations::optionals, check_rules::proofs::Written::forms_of))]
+#[tactic(auto, using(check_laws::proofs::Equations::optionals, check_laws::proofs::Written::forms_of))]
 fn length(alloc: Global, state: &mut State, stage: Stage, e: &OptionalExpr) -> Result<Step, Deny>
     ensures { Reads (statements.length_step (spec.optional e.now) stage state.old) result state.new }
 {
@@ -169,7 +169,7 @@ fn each_parameter(
 }
 
 #[cycle(walk)]
-#[tactic(auto, using(check_rules::proofs::Equations::types, check_rules::proofs::Written::forms_of))]
+#[tactic(auto, using(check_laws::proofs::Equations::types, check_laws::proofs::Written::forms_of))]
 fn parameter(alloc: Global, state: &mut State, stage: Stage, p: &Parameter) -> Result<CType, Deny>
     ensures { Reads ((spec.parameter p.now).walk stage state.old) result state.new }
 {

@@ -18,8 +18,8 @@ use Rattle.check_rules.specs.declared.state.Stage.TheVariants as stage
 use Rattle.check_rules.specs.declared.state.State.{State}
 use Rattle.check_globals.specs.Program as spec
 use Rattle.check_rules.specs.Walk as walks
-use Rattle.check_rules.proofs.Loops.{next}
-use Rattle.check_rules.proofs.Written.{expr_agrees}
+use Rattle.check_laws.proofs.Loops.{next}
+use Rattle.check_laws.proofs.Written.{expr_agrees}
 
 pub row_goes : (xs : List Expr) (i : ℕ) (e : Expr) (t : CType) (r : Row) (s z : State) (o : Operand) → i < length xs →
     e ≡ get_or xs i e

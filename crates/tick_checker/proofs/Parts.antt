@@ -4,7 +4,7 @@ use Rattle.tick_tree.specs.declared.base.Base.{Base}
 use Rattle.tick_tree.specs.declared.syntax.Declaration.{Declaration, out-Declaration}
 use Rattle.tick_tree.specs.declared.syntax.Init.{Init, out-Init}
 use Rattle.check_rules.specs.declared.state.State.{State}
-use Rattle.check_rules.proofs.Equations.{at_init, at_declaration}
+use Rattle.check_laws.proofs.Equations.{at_init, at_declaration}
 use Rattle.check_rules.specs.Walk.{declaration, shape, init, initializer}
 use Rattle.check_globals.specs.Program as program
 

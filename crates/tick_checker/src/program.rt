@@ -45,7 +45,7 @@ fn global_type(
 }
 
 // The values of a list, by the type of an element.
-#[tactic(auto, using(check_rules::proofs::Written::forms_of))]
+#[tactic(auto, using(check_laws::proofs::Written::forms_of))]
 fn row(
     alloc: Global,
     state: &mut State,
@@ -63,7 +63,7 @@ fn row(
     Ok(row)
 }
 
-#[tactic(auto, using(check_rules::proofs::Loops::same_length))]
+#[tactic(auto, using(check_laws::proofs::Loops::same_length))]
 fn listed(
     alloc: Global,
     state: &mut State,
@@ -79,7 +79,7 @@ fn listed(
     static_list(alloc, state, line, at, t, list, row)
 }
 
-#[tactic(auto, using(check_rules::proofs::Written::forms_of))]
+#[tactic(auto, using(check_laws::proofs::Written::forms_of))]
 fn static_walked(
     alloc: Global,
     state: &mut State,
@@ -94,7 +94,7 @@ fn static_walked(
     static_value(alloc, state, line, at, t, e, o)
 }
 
-#[tactic(auto, using(check_rules::proofs::Written::forms_of))]
+#[tactic(auto, using(check_laws::proofs::Written::forms_of))]
 fn static_one(
     alloc: Global,
     state: &mut State,
@@ -117,7 +117,7 @@ fn static_one(
     }
 }
 
-#[tactic(auto, using(check_rules::proofs::Equations::initializers))]
+#[tactic(auto, using(check_laws::proofs::Equations::initializers))]
 fn static_begin(
     alloc: Global,
     state: &mut State,
@@ -135,7 +135,7 @@ fn static_begin(
     }
 }
 
-#[tactic(auto, using(check_rules::proofs::Written::forms_of))]
+#[tactic(auto, using(check_laws::proofs::Written::forms_of))]
 fn begin_variable(
     alloc: Global,
     state: &mut State,
@@ -159,7 +159,7 @@ fn walked(alloc: Global, state: &mut State, list: &[Expr]) -> Result<(), Deny>
     Ok(())
 }
 
-#[tactic(auto, using(check_rules::proofs::Equations::initializers))]
+#[tactic(auto, using(check_laws::proofs::Equations::initializers))]
 fn no_start(alloc: Global, state: &mut State, line: u32, value: &Initializer) -> Result<(), Deny>
     ensures { Reads (spec.no_start line (walks.initializer value.now) state.old) result state.new }
 {
@@ -176,7 +176,7 @@ fn no_start(alloc: Global, state: &mut State, line: u32, value: &Initializer) ->
     }
 }
 
-#[tactic(auto, using(check_rules::proofs::Written::forms_of))]
+#[tactic(auto, using(check_laws::proofs::Written::forms_of))]
 fn begin_prototype(
     alloc: Global,
     state: &mut State,
@@ -293,7 +293,7 @@ fn body(
     Ok(Boxed::new(alloc, Stmt::Block(variables, nodes))?)
 }
 
-#[tactic(auto, using(check_rules::proofs::Written::forms_of))]
+#[tactic(auto, using(check_laws::proofs::Written::forms_of))]
 fn function_rest(
     alloc: Global,
     state: &mut State,
@@ -308,7 +308,7 @@ fn function_rest(
     end(alloc, state, line, d, t, node)
 }
 
-#[tactic(auto, using(check_rules::proofs::Written::forms_of))]
+#[tactic(auto, using(check_laws::proofs::Written::forms_of))]
 fn function(
     alloc: Global,
     state: &mut State,

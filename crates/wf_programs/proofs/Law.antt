@@ -12,7 +12,7 @@ use Rattle.check_rules.specs.ExpressionRules as rules
 use Rattle.check_rules.specs.ExpressionRules.{Node, Shape, Item}
 use Rattle.check_globals.specs.Program.{around}
 use Rattle.check_rules.specs.Walk.{Start, Nothing, Value, Values, InitParts, Declarations, declaration, item, init}
-use Rattle.check_rules.proofs.Equations.{at_init, at_declaration}
+use Rattle.check_laws.proofs.Equations.{at_init, at_declaration}
 use Rattle.wf_growth_rules.specs.Light.{Light}
 use Rattle.wf_growth_rules.proofs.Expressions.{each_light}
 use Rattle.wellformed.proofs.Viewed.{well_formed}

@@ -34,7 +34,7 @@ use Rattle.check_globals.specs.Parameters.{given_rule, inner, head, list, writte
 use Rattle.check_rules.specs.Walk.{SuffixWalk, TypeWalk, suffix_walks, type_walks, declarator_walk, core, shape}
 use Rattle.check_rules.specs.Walk.{suffix}
 use Rattle.check_rules.specs.Walk.{parameter, optional}
-use Rattle.check_rules.proofs.Equations.{at_suffix_array, at_suffix_unlisted, at_suffix_nothing, at_suffix_listed}
+use Rattle.check_laws.proofs.Equations.{at_suffix_array, at_suffix_unlisted, at_suffix_nothing, at_suffix_listed}
 use Rattle.check_globals.proofs.Heads.{list_listed}
 use Rattle.wf_walk.proofs.Walks.{pure_value}
 use Rattle.wf_walk.proofs.Induction.{Core-T, Declarator-T, Suffix-T, walk_core, walk_declarator}

@@ -8,13 +8,13 @@ use Rattle.check_rules.specs.Blocks as blocks
 use Rattle.check_rules.specs.StatementRules as statements
 use Rattle.check_rules.specs.Statements as trees
 use Rattle.check_rules.specs.Walk as walks
-use Rattle.check_rules.proofs.Equations.{node_name, node_number, node_character, node_string, node_paren, node_compile}
-use Rattle.check_rules.proofs.Equations.{node_local, node_param, node_index, node_call, node_step, node_unary}
-use Rattle.check_rules.proofs.Equations.{node_tick, node_tickblock, node_cast, node_sizeof, node_binary, node_choice}
-use Rattle.check_rules.proofs.Equations.{node_assign, node_modify, node_comma, item_empty, item_expr, item_block}
-use Rattle.check_rules.proofs.Equations.{item_local, item_if, item_ifelse, item_while, item_do, item_for, item_switch}
-use Rattle.check_rules.proofs.Equations.{item_case, item_default, item_break, item_continue, item_return}
-use Rattle.check_rules.proofs.Equations.{by_declaration, named_walk, parameter_walk, shape_walk}
+use Rattle.check_laws.proofs.Equations.{node_name, node_number, node_character, node_string, node_paren, node_compile}
+use Rattle.check_laws.proofs.Equations.{node_local, node_param, node_index, node_call, node_step, node_unary}
+use Rattle.check_laws.proofs.Equations.{node_tick, node_tickblock, node_cast, node_sizeof, node_binary, node_choice}
+use Rattle.check_laws.proofs.Equations.{node_assign, node_modify, node_comma, item_empty, item_expr, item_block}
+use Rattle.check_laws.proofs.Equations.{item_local, item_if, item_ifelse, item_while, item_do, item_for, item_switch}
+use Rattle.check_laws.proofs.Equations.{item_case, item_default, item_break, item_continue, item_return}
+use Rattle.check_laws.proofs.Equations.{by_declaration, named_walk, parameter_walk, shape_walk}
 use Rattle.check_walk.proofs.Steps.{broken, ends, fails_as, goes, item_as, lift_done, lift_fails, lifted, node_as}
 use Rattle.check_walk.proofs.Steps.{onward, past, stops}
 use Rattle.check_walk.proofs.+walk.Goals as goal

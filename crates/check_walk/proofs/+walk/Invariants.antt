@@ -6,7 +6,7 @@ use Rattle.tick_tree.specs.declared.syntax.OptionalExpr.{size-OptionalExpr}
 use Rattle.tick_tree.specs.declared.syntax.Stmt.{size-Stmt}
 use Rattle.check_rules.specs.StatementRules as statements
 use Rattle.check_rules.specs.Walk as spec
-use Rattle.check_rules.proofs.Loops.{after}
+use Rattle.check_laws.proofs.Loops.{after}
 use Rattle.check_walk.proofs.+walk.Given as goal
 
 -- each function takes the parts of a value, or passes a value on to one of a lower rank

@@ -1,9 +1,9 @@
 -- Which statement is a `;` alone, by its node.
 use Rattle.std.proofs.Common.{ap, sym, ◌∙◌}
 use Rattle.check_rules.specs.Walk as walks
-use Rattle.check_rules.proofs.Equations.{empty_empty, empty_expr, empty_block, empty_local, empty_if, empty_ifelse}
-use Rattle.check_rules.proofs.Equations.{empty_while, empty_do, empty_for, empty_switch, empty_case, empty_default}
-use Rattle.check_rules.proofs.Equations.{empty_break, empty_continue, empty_return}
+use Rattle.check_laws.proofs.Equations.{empty_empty, empty_expr, empty_block, empty_local, empty_if, empty_ifelse}
+use Rattle.check_laws.proofs.Equations.{empty_while, empty_do, empty_for, empty_switch, empty_case, empty_default}
+use Rattle.check_laws.proofs.Equations.{empty_break, empty_continue, empty_return}
 use Rattle.check_walk.proofs.statements.is_empty.Goals as goal
 
 pub returns-in-Empty : goal.returns-in-Empty
