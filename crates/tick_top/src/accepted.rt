@@ -3,8 +3,8 @@
 ghost use Rattle.std.specs.Prelude.{◌≡◌, ◌≤◌, length, IfOk};
 ghost use Rattle.tick_tree.specs.Faults.{Checks};
 ghost use Rattle.staged_meaning.specs.Meaning.{Program};
-ghost use Rattle.tick_top.specs.Texts as spec;
-ghost use Rattle.tick_top.specs.Texts.{Builds};
+ghost use Rattle.tick_top_spec.specs.Texts as spec;
+ghost use Rattle.tick_top_spec.specs.Texts.{Builds};
 ghost use Rattle.limits.specs.declared.text.TheConstants.{LONGEST_TEXT};
 
 use built_programs::{built_is_static, main_of};
@@ -30,7 +30,7 @@ fn unbuilt() -> Fault
 }
 
 // The typed tree of a text.
-#[tactic(auto, unfolding(crate::specs::Texts::typed_tree))]
+#[tactic(auto, unfolding(tick_top_spec::specs::Texts::typed_tree))]
 fn from_text(alloc: Global, text: &[u8]) -> Result<Typed, Deny>
     requires { length text.now ≤ LONGEST_TEXT }
     ensures { Checks result (spec.typed_tree text.now) }
@@ -44,7 +44,7 @@ fn from_text(alloc: Global, text: &[u8]) -> Result<Typed, Deny>
 
 /// The typed tree of a text of at most 1,048,576 bytes, or its first static fault. It is a program, which has a meaning
 /// whether it runs so far or not.
-#[tactic(auto, using(crate::proofs::Programs::is_program))]
+#[tactic(auto, using(tick_top_spec::proofs::Programs::is_program))]
 pub fn typed_tree(alloc: Global, text: &[u8]) -> Result<Typed, Deny>
     requires { length text.now ≤ LONGEST_TEXT }
     ensures tree { Checks result (spec.typed_tree text.now) }
@@ -55,13 +55,8 @@ pub fn typed_tree(alloc: Global, text: &[u8]) -> Result<Typed, Deny>
     Ok(tree)
 }
 
-/// A program that runs is the one that its text is in the whole language: what is evaluated is what runs.
-pub fn means_as_it_runs()
-    ensures { spec.MeansAsItRuns }
-{}
-
 // The image of a program, where it is one that is built.
-#[tactic(auto, using(crate::proofs::Mains::are_static, crate::proofs::Mains::has_main, crate::proofs::Mains::bytes_fit, crate::proofs::Mains::backs, crate::proofs::Mains::not_found))]
+#[tactic(auto, using(tick_top_spec::proofs::Mains::are_static, tick_top_spec::proofs::Mains::has_main, tick_top_spec::proofs::Mains::bytes_fit, tick_top_spec::proofs::Mains::backs, tick_top_spec::proofs::Mains::not_found))]
 fn from_program(alloc: Global, program: &Typed) -> Result<Image, Deny>
     ensures { spec.Backs program.now result }
 {
@@ -83,7 +78,7 @@ fn from_program(alloc: Global, program: &Typed) -> Result<Image, Deny>
 
 /// The image of a text of at most 1,048,576 bytes, or its first static fault. The headline holds for the image: the
 /// machine does on every input what the text means, at the pace, and ends only so.
-#[tactic(auto, using(crate::proofs::Mains::builds, crate::proofs::Mains::refuses))]
+#[tactic(auto, using(tick_top_spec::proofs::Mains::builds, tick_top_spec::proofs::Mains::refuses))]
 pub fn build(alloc: Global, text: &[u8]) -> Result<Image, Deny>
     requires { length text.now ≤ LONGEST_TEXT }
     ensures built { IfOk result (λ image. Builds text.now image) }

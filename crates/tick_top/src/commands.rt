@@ -3,8 +3,8 @@ ghost use Rattle.std.specs.Prelude.{◌≤◌, ◌^◌, ℕ, IfOk, OnErr};
 ghost use Rattle.command_words.specs.Orders.{ordered, steps_in};
 ghost use Rattle.image_commands.specs.Outside.{SameFiles, Unwritten, outside, failures};
 ghost use Rattle.image_commands.specs.Does.{IsOfCommand, Cause};
-ghost use Rattle.tick_top.specs.Does.{RunsFile, BuildsFile};
-ghost use Rattle.tick_top.specs.Generated.{Fulfils};
+ghost use Rattle.tick_top_spec.specs.Does.{RunsFile, BuildsFile};
+ghost use Rattle.tick_top_spec.specs.Generated.{Fulfils};
 
 use crate::load::image_of_text;
 use crate::means::mean_file;

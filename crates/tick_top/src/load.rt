@@ -2,7 +2,7 @@
 ghost use Rattle.std.specs.Prelude.{IfOk};
 ghost use Rattle.image_commands.specs.Outside.{SameFiles};
 ghost use Rattle.image_commands.specs.Answers.{IsFront, FrontCause};
-ghost use Rattle.tick_top.specs.Answers.{IsBuilt, IsRefused};
+ghost use Rattle.tick_top_spec.specs.Answers.{IsBuilt, IsRefused};
 
 use crate::accepted::build;
 use host_edge::Store;

@@ -5,10 +5,10 @@ ghost use Rattle.std.specs.Io.KnownBytes.{Keeps};
 ghost use Rattle.history.specs.Events as event;
 ghost use Rattle.staged_meaning.specs.Meaning.{Program};
 ghost use Rattle.limits.specs.declared.text.TheConstants.{LONGEST_TEXT};
-ghost use Rattle.tick_top.specs.Texts.{Means};
+ghost use Rattle.tick_top_spec.specs.Texts.{Means};
 ghost use Rattle.image_commands.specs.Outside.{Files, Failures, SameFiles, outside, failures};
 ghost use Rattle.image_commands.specs.Does.{IsOfCommand, Cause, Answered};
-ghost use Rattle.tick_top.specs.Does.{WithTree, MeansProgram, MeansFile, Evaluates};
+ghost use Rattle.tick_top_spec.specs.Does.{WithTree, MeansProgram, MeansFile, Evaluates};
 ghost use Rattle.image_commands.specs.Seen.{outcome_at};
 
 use crate::accepted::typed_tree;

@@ -1,9 +1,8 @@
 //! The image file of a text, and what follows for whoever reads it.
 ghost use Rattle.std.specs.Prelude.{◌≡◌, ◌≤◌, length, IfOk};
-ghost use Rattle.image_file.specs.Image.{IsImage};
-ghost use Rattle.tick_top.specs.Texts as spec;
-ghost use Rattle.tick_top.specs.Texts.{Builds};
-ghost use Rattle.tick_top.specs.Saved.{IsFileOf, Saves, SavesHeadline, ReadsHeadline, LowersOne, SavesOne, SavesBuilt};
+ghost use Rattle.tick_top_spec.specs.Texts as spec;
+ghost use Rattle.tick_top_spec.specs.Texts.{Builds};
+ghost use Rattle.tick_top_spec.specs.Saved.{IsFileOf, Saves, SavesHeadline, ReadsHeadline, LowersOne, SavesOne, SavesBuilt};
 ghost use Rattle.limits.specs.declared.text.TheConstants.{LONGEST_TEXT};
 
 use crate::accepted::build;
@@ -27,28 +26,3 @@ pub fn build_file(alloc: Global, text: &[u8]) -> Result<Vec<u8>, Deny>
         Err(_) => Err(Deny::NoMemory),
     }
 }
-
-/// The headline holds for the saved bytes.
-pub fn saves_headline()
-    ensures { SavesHeadline }
-{}
-
-/// The headline holds for the image that is read from the saved bytes.
-pub fn reads_headline()
-    ensures { ReadsHeadline }
-{}
-
-/// A text has one image: the one that `run` lowers it to is the one whose bytes `build_file` gives.
-pub fn lowers_one()
-    ensures { LowersOne }
-{}
-
-/// A text has one image file.
-pub fn saves_one()
-    ensures { SavesOne }
-{}
-
-/// The file of a text spells any image that is built of the text, as `run` builds it.
-pub fn saves_built()
-    ensures { SavesBuilt }
-{}

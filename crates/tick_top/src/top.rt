@@ -5,8 +5,8 @@ ghost use Rattle.host_edge.specs.Causes.{Rose};
 ghost use Rattle.command_words.specs.Orders.{order_of};
 ghost use Rattle.image_commands.specs.Outside.{Unwritten, outside, failures};
 ghost use Rattle.image_commands.specs.Does.{Cause};
-ghost use Rattle.tick_top.specs.Rows.{RefusedRow, AsmRefusedRow, TooLongRow, BadImageRow, TrapRow, MachineFaultRow, OutOfStepsRow};
-ghost use Rattle.tick_top.specs.Top.{Performs, Ticked};
+ghost use Rattle.tick_top_spec.specs.Rows.{RefusedRow, AsmRefusedRow, TooLongRow, BadImageRow, TrapRow, MachineFaultRow, OutOfStepsRow};
+ghost use Rattle.tick_top_spec.specs.Top.{Performs, Ticked};
 
 use crate::commands::obey;
 use command_words::command_of;

@@ -1,5 +1,5 @@
 use Rattle.std.proofs.Common.{rules, ◌≡◌}
-use Rattle.tick_top.proofs.Mains.{builds, refuses_text}
+use Rattle.tick_top_spec.proofs.Mains.{builds, refuses_text}
 use Rattle.tick_top.proofs.accepted.build.Goals as goal
 
 pub returns-in_err-program-clause-refused : goal.returns-in_err-program-clause-refused

@@ -1,6 +1,6 @@
 use Rattle.std.proofs.Common.{rules}
 use Rattle.image_commands.proofs.Fronts.{if_ok}
-use Rattle.tick_top.proofs.Fronts.{builds, builds_nothing}
+use Rattle.tick_top_spec.proofs.Fronts.{builds, builds_nothing}
 use Rattle.tick_top.proofs.commands.build_file.Goals as goal
 
 pub returns-in-Found-clause-does : goal.returns-in-Found-clause-does

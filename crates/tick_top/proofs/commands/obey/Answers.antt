@@ -1,7 +1,7 @@
 use Rattle.std.proofs.Common.{rules, ap, refl}
 use Rattle.command_words.specs.Orders.{ordered}
 use Rattle.image_commands.specs.Outside.{outside}
-use Rattle.tick_top.proofs.Fronts.{ordered_build, asked_source}
+use Rattle.tick_top_spec.proofs.Fronts.{ordered_build, asked_source}
 use Rattle.tick_top.proofs.commands.obey.Goals as goal
 
 pub returns-in-Build-clause-does : goal.returns-in-Build-clause-does

@@ -2,7 +2,7 @@ use Rattle.std.proofs.Common.{rules}
 use Rattle.image_commands.specs.Outside.{outside}
 use Rattle.image_commands.specs.Answers.{longest_text}
 use Rattle.image_commands.specs.Does.{Answered}
-use Rattle.tick_top.specs.Does.{WithTree, MeansProgram}
+use Rattle.tick_top_spec.specs.Does.{WithTree, MeansProgram}
 use Rattle.image_commands.proofs.Fronts.{if_ok, in_file}
 use Rattle.tick_top.proofs.means.mean_file.Goals as goal
 

@@ -1,6 +1,6 @@
 use Rattle.std.proofs.Common.{rules}
 use Rattle.evaluate.specs.Seen.{seen_of}
-use Rattle.tick_top.proofs.Evaluations.{evaluates, stops_short}
+use Rattle.tick_top_spec.proofs.Evaluations.{evaluates, stops_short}
 use Rattle.tick_top.proofs.means.mean_on.Goals as goal
 
 pub returns-in-Ok-clause-evaluates : goal.returns-in-Ok-clause-evaluates

@@ -1,9 +1,9 @@
 use Rattle.std.proofs.Common.{rules}
 use Rattle.image_commands.specs.Outside.{outside}
 use Rattle.image_commands.specs.Does.{Answered}
-use Rattle.tick_top.specs.Does.{MeansProgram}
+use Rattle.tick_top_spec.specs.Does.{MeansProgram}
 use Rattle.image_commands.proofs.Fronts.{if_ok}
-use Rattle.tick_top.proofs.Evaluations.{with_tree}
+use Rattle.tick_top_spec.proofs.Evaluations.{with_tree}
 use Rattle.tick_top.proofs.means.mean_text.Goals as goal
 
 pub returns-in-Ok-clause-means : goal.returns-in-Ok-clause-means

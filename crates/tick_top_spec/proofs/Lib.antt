@@ -1,0 +1,13 @@
+pub mod Mains
+pub mod Files
+pub mod Programs
+pub mod Fronts
+pub mod Came
+pub mod Meant
+pub mod Rows
+pub mod Calls
+pub mod Endings
+pub mod Complete
+pub mod Stated
+pub mod Evaluations
+pub mod Meanings
