@@ -1,9 +1,2 @@
-mod Ended
-mod Lists
-mod Made
 mod Numbers
-mod Puts
-mod Switched
 mod Viewed
-mod Whole
-mod WholeStmts

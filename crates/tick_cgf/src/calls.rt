@@ -1,13 +1,13 @@
 //! The numbers that ops and pieces have of their own kinds, and the ops that call.
 
 ghost use Rattle.std.specs.Prelude.{◌≡◌, IfOk, OnOk, map};
-ghost use Rattle.tick_cgf.specs.Steps.{op, put};
+ghost use Rattle.cgf_pieces.specs.Steps.{op, put};
 ghost use Rattle.tick_lower_spec.specs.Lower.{dropping_call, listed};
 ghost use Rattle.tick_pieces.specs.TickPieces.{plain};
 ghost use Rattle.typed_tree.specs.Nodes as node;
 ghost use Rattle.typed_tree.specs.View.{expr_view, args_of};
 
-use crate::pieces::Pieces;
+use cgf_pieces::Pieces;
 use icode_ir::BuildOp;
 use icode_ops::{ArgumentCount, ArgumentIndex, CallAddress, CaptureIndex};
 use std::alloc::AllocError;
@@ -15,7 +15,7 @@ use tick_lower::address_of;
 use typed_tree::{Answer, Expr};
 
 /// How many arguments these are. It fails where a call has no number for so many, which no accepted text has.
-#[tactic(auto, using(crate::proofs::Lists::counted))]
+#[tactic(auto, using(cgf_pieces::proofs::Lists::counted))]
 pub fn count_of(args: &[Expr]) -> Result<ArgumentCount, AllocError>
     ensures { IfOk result (λ n. n ≡ node.count (args_of (map expr_view args.now))) }
 {

@@ -1,17 +1,17 @@
 //! The pieces of an expression.
 
 ghost use Rattle.std.specs.Prelude.{◌≡◌, ◌∷◌, [], OnOk, map};
-ghost use Rattle.tick_cgf.specs.Steps.{library_pieces, op, put, walk, walk_args};
+ghost use Rattle.cgf_pieces.specs.Steps.{library_pieces, op, put, walk, walk_args};
 ghost use Rattle.tick_lower_spec.specs.Lower.{dropping, keeping, listed};
 ghost use Rattle.tick_pieces.specs.TickPieces.{own, plain};
 ghost use Rattle.typed_tree.specs.Nodes as node;
 ghost use Rattle.typed_tree.specs.View.{expr_view, args_of};
 
 use crate::calls::{called, called_number};
-use crate::pieces::Pieces;
 use crate::places::{
     captured, keep_key, key, loaded, post_key, post_loaded, post_variable, splice, stored,
 };
+use cgf_pieces::Pieces;
 use cgf_spec::Piece;
 use icode_ir::BuildOp;
 use icode_ops::{BinKind, CallAddress, RunKind, SysKind};
@@ -267,7 +267,7 @@ fn comma(
 
 // The pieces of expressions, one after another.
 #[cycle(expression)]
-#[tactic(auto, using(crate::proofs::Lists::one_more))]
+#[tactic(auto, using(cgf_pieces::proofs::Lists::one_more))]
 fn expressions(list: &[Expr], starts: &[CallAddress], out: &mut Pieces) -> Result<(), AllocError>
     ensures { OnOk result (out.new ≡ walk_args (listed starts.now) (args_of (map expr_view list.now)) out.old) }
 {

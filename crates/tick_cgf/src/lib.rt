@@ -4,7 +4,6 @@
 
 mod calls;
 mod expressions;
-mod pieces;
 mod places;
 mod statements;
 mod tick;

@@ -2,12 +2,12 @@
 
 ghost use Rattle.std.specs.Prelude.{◌≡◌, ◌∷◌, [], OnOk};
 ghost use Rattle.icode_ops.specs.declared.kind.BinKind.TheVariants.{Add};
-ghost use Rattle.tick_cgf.specs.Steps.{op, put};
+ghost use Rattle.cgf_pieces.specs.Steps.{op, put};
 ghost use Rattle.tick_lower_spec.specs.Lower.{narrowing, step_ops};
 ghost use Rattle.tick_pieces.specs.TickPieces.{plain};
 
 use crate::calls::capture_of;
-use crate::pieces::Pieces;
+use cgf_pieces::Pieces;
 use cgf_spec::Piece;
 use icode_ir::BuildOp;
 use icode_ops::BinKind;

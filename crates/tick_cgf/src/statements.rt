@@ -2,15 +2,15 @@
 
 ghost use Rattle.std.specs.Prelude.{◌≡◌, None, IfOk, OnOk, map};
 ghost use Rattle.staged_meaning.specs.Statements.{case_of};
-ghost use Rattle.tick_cgf.specs.Steps.{default_of, op, or_else, put, targets_of, valued, walk_default, walk_items};
-ghost use Rattle.tick_cgf.specs.Steps.{walk_stmt, walk_tests, with_apart};
+ghost use Rattle.cgf_pieces.specs.Steps.{default_of, op, or_else, put, targets_of, valued, walk_default, walk_items};
+ghost use Rattle.cgf_pieces.specs.Steps.{walk_stmt, walk_tests, with_apart};
 ghost use Rattle.tick_lower_spec.specs.Lower.{case_ops, listed};
 ghost use Rattle.tick_pieces.specs.TickPieces.{plain};
 ghost use Rattle.typed_tree.specs.View.{expr_view, stmt_view, items_of};
 
 use crate::calls::parameter_of;
 use crate::expressions::expression;
-use crate::pieces::{Exits, Pieces, Selector};
+use cgf_pieces::{Exits, Pieces, Selector};
 use cgf_spec::Piece;
 use icode_ir::BuildOp;
 use icode_ops::{BinKind, CallAddress};
@@ -183,7 +183,7 @@ pub fn statement(
 
 // The pieces of statements, one after another.
 #[cycle(statement)]
-#[tactic(auto, using(crate::proofs::Lists::one_statement_more))]
+#[tactic(auto, using(cgf_pieces::proofs::Lists::one_statement_more))]
 fn statements(
     list: &[Stmt],
     exits: Exits,
@@ -202,7 +202,7 @@ fn statements(
 // The pieces of the items of a switch, apart, and the tests of its cases. The label of its default, or what is behind
 // the switch where it has none.
 #[cycle(statement)]
-#[tactic(auto, using(crate::proofs::Lists::one_case_more))]
+#[tactic(auto, using(cgf_pieces::proofs::Lists::one_case_more))]
 fn cases(
     items: &[Stmt],
     value: u32,

@@ -14,9 +14,9 @@ ghost use Rattle.tick_pieces.specs.TickPieces.{tick_pieces};
 ghost use Rattle.typed_tree.specs.View.{expr_view, stmt_view};
 
 use crate::expressions::expression;
-use crate::pieces::{Exits, Pieces};
 use crate::statements::statement;
 use cgf_emitter::words;
+use cgf_pieces::{Exits, Pieces};
 use cgf_spec::Piece;
 use icode_ir::BuildOp;
 use icode_ops::CallAddress;
@@ -47,7 +47,7 @@ impl Room {
 }
 
 // Takes all pieces away.
-#[tactic(auto, using(crate::proofs::Lists::shorter))]
+#[tactic(auto, using(cgf_pieces::proofs::Lists::shorter))]
 fn clear(list: &mut Items<Piece>)
     ensures { list.new ≡ [] }
 {

@@ -4,7 +4,7 @@ use Rattle.typed_tree.specs.Nodes.{has_value}
 use Rattle.typed_tree.specs.View.{expr_view, args_of}
 use Rattle.typed_tree.proofs.Fusion.{value_viewed}
 use Rattle.tick_lower_spec.specs.Lower.{listed}
-use Rattle.tick_cgf.proofs.Made.{modify_made, post_made, number_made, both_made, either_made, choice_made}
+use Rattle.cgf_pieces.proofs.Made.{modify_made, post_made, number_made, both_made, either_made, choice_made}
 use Rattle.tick_cgf.proofs.expressions.+expression.Goals as goal
 
 pub modify-returns : goal.modify-returns

@@ -1,8 +1,8 @@
 use Rattle.std.proofs.Common.{◌≡◌, ◌+◌, ◌*◌, [], max}
 use Rattle.typed_tree.specs.declared.expression.Expr.{size-Expr}
 use Rattle.tick_lower_spec.specs.Lower.{listed}
-use Rattle.tick_cgf.specs.Steps.{walk_args}
-use Rattle.tick_cgf.proofs.Lists.{args_left}
+use Rattle.cgf_pieces.specs.Steps.{walk_args}
+use Rattle.cgf_pieces.proofs.Lists.{args_left}
 use Rattle.tick_cgf.proofs.expressions.+expression.Given as goal
 
 -- each function takes the parts of a value, or passes a value on to one of a lower rank

@@ -1,5 +1,5 @@
 use Rattle.std.proofs.lemmas.Result.{on_ok_weaker}
-use Rattle.tick_cgf.proofs.Switched.{switch_seen}
+use Rattle.cgf_pieces.proofs.Switched.{switch_seen}
 use Rattle.tick_cgf.proofs.statements.+statement.Goals as goal
 
 pub statement-returns-in_ok-default-in-Switch : goal.statement-returns-in_ok-default-in-Switch

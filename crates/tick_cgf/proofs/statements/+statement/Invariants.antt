@@ -1,7 +1,7 @@
 use Rattle.std.proofs.Common.{◌≡◌, None}
 use Rattle.tick_lower_spec.specs.Lower.{listed}
-use Rattle.tick_cgf.specs.Steps.{walk_items, walk_tests, walk_default, targets_of}
-use Rattle.tick_cgf.proofs.Lists.{items_left}
+use Rattle.cgf_pieces.specs.Steps.{walk_items, walk_tests, walk_default, targets_of}
+use Rattle.cgf_pieces.proofs.Lists.{items_left}
 use Rattle.tick_cgf.proofs.statements.+statement.Given as goal
 
 abbrev pub invariant-statements-loop-s : goal.invariant-statements-loop-s

@@ -1,7 +1,7 @@
 use Rattle.std.proofs.lemmas.Result.{on_ok_weaker}
 use Rattle.tick_lower_spec.specs.Lower.{listed}
 use Rattle.typed_tree.specs.View.{expr_view}
-use Rattle.tick_cgf.proofs.Ended.{expression_there, expression_ended}
+use Rattle.cgf_pieces.proofs.Ended.{expression_there, expression_ended}
 use Rattle.tick_cgf.proofs.tick.expression_body.Goals as goal
 
 pub end-requires : goal.end-requires

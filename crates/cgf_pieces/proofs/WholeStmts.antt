@@ -13,11 +13,11 @@ use Rattle.tick_lower_spec.specs.Lower.{default_label}
 use Rattle.cgf_spec.specs.declared.piece.Piece.{Piece}
 use Rattle.cgf_spec.specs.declared.piece.Piece.TheVariants.{Plain, Nothing}
 use Rattle.tick_pieces.specs.TickPieces.{plain, own, stmt_pieces, items_pieces}
-use Rattle.tick_cgf.specs.declared.pieces.Pieces.{Pieces}
-use Rattle.tick_cgf.specs.Steps.{put, op, labelled, with_variable, apart, with_apart, or_else, default_of}
-use Rattle.tick_cgf.specs.Steps.{walk, walk_stmt, walk_items, walk_tests, walk_default}
-use Rattle.tick_cgf.proofs.Puts.{put_both}
-use Rattle.tick_cgf.proofs.Whole.{same, behind, walked}
+use Rattle.cgf_pieces.specs.declared.pieces.Pieces.{Pieces}
+use Rattle.cgf_pieces.specs.Steps.{put, op, labelled, with_variable, apart, with_apart, or_else, default_of}
+use Rattle.cgf_pieces.specs.Steps.{walk, walk_stmt, walk_items, walk_tests, walk_default}
+use Rattle.cgf_pieces.proofs.Puts.{put_both}
+use Rattle.cgf_pieces.proofs.Whole.{same, behind, walked}
 
 -- ops one behind another
 plain_both : (xs ys : List BuildOp) → plain (xs ++ ys) ≡ plain xs ++ plain ys

@@ -18,8 +18,8 @@ use Rattle.tick_lower_spec.specs.Lower.{Addresses, narrowing, dropping, dropping
 use Rattle.cgf_spec.specs.declared.piece.Piece.{Piece}
 use Rattle.cgf_spec.specs.declared.piece.Piece.TheVariants.{Plain, GetKey, SetKey, Nothing}
 use Rattle.tick_pieces.specs.TickPieces.{plain, own, expr_pieces, args_pieces}
-use Rattle.tick_cgf.specs.declared.pieces.Pieces.{Pieces}
-use Rattle.tick_cgf.specs.Steps.{put, op, labelled, with_variable, library_pieces, walk, walk_args}
+use Rattle.cgf_pieces.specs.declared.pieces.Pieces.{Pieces}
+use Rattle.cgf_pieces.specs.Steps.{put, op, labelled, with_variable, library_pieces, walk, walk_args}
 
 pub same : (o : Pieces) (l m : List Piece) (i j t u : ℕ) → l ≡ m → i ≡ j → t ≡ u
     → (let p : Pieces = record o { list = l; label = i; variable = t } in p)

@@ -9,9 +9,9 @@ use Rattle.typed_tree.specs.Nodes.{Expr, Args, has_value, count}
 use Rattle.tick_lower_spec.specs.Lower.{Addresses, narrowing, dropping_call, keeping, kept, step_ops, joins}
 use Rattle.cgf_spec.specs.declared.piece.Piece.TheVariants.{Plain}
 use Rattle.tick_pieces.specs.TickPieces.{plain}
-use Rattle.tick_cgf.specs.declared.pieces.Join.{Join}
-use Rattle.tick_cgf.specs.declared.pieces.Pieces.{Pieces}
-use Rattle.tick_cgf.specs.Steps.{op, put, labelled, with_variable, walk, walk_args}
+use Rattle.cgf_pieces.specs.declared.pieces.Join.{Join}
+use Rattle.cgf_pieces.specs.declared.pieces.Pieces.{Pieces}
+use Rattle.cgf_pieces.specs.Steps.{op, put, labelled, with_variable, walk, walk_args}
 
 -- the node begins where o ends
 module _ (addresses : Addresses) (o : Pieces) where

@@ -1,7 +1,7 @@
 //! The pieces of the nodes so far, and the numbers for the next node.
 
 ghost use Rattle.std.specs.Prelude.{◌≡◌, ◌+◌, ◌++◌, ◌∷◌, [], IfOk, OnOk};
-ghost use Rattle.tick_cgf.specs.Steps.{library_pieces, op, put};
+ghost use Rattle.cgf_pieces.specs.Steps.{library_pieces, op, put};
 ghost use Rattle.tick_lower_spec.specs.Lower.{narrowing, dropping, dropping_call, keeping, kept, step_ops, joins};
 ghost use Rattle.tick_pieces.specs.TickPieces.{plain, own};
 

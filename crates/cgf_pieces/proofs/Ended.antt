@@ -8,10 +8,10 @@ use Rattle.tick_lower_spec.specs.Lower.{Addresses, nowhere}
 use Rattle.cgf_spec.specs.declared.piece.Piece.{Piece}
 use Rattle.cgf_spec.specs.declared.piece.Piece.TheVariants.{Plain, Nothing}
 use Rattle.tick_pieces.specs.TickPieces.{expr_pieces, stmt_pieces, tick_pieces}
-use Rattle.tick_cgf.specs.declared.pieces.Pieces.{Pieces}
-use Rattle.tick_cgf.specs.Steps.{walk, walk_stmt}
-use Rattle.tick_cgf.proofs.Whole.{behind, walked}
-use Rattle.tick_cgf.proofs.WholeStmts.{behind_stmt, walked_stmt}
+use Rattle.cgf_pieces.specs.declared.pieces.Pieces.{Pieces}
+use Rattle.cgf_pieces.specs.Steps.{walk, walk_stmt}
+use Rattle.cgf_pieces.proofs.Whole.{behind, walked}
+use Rattle.cgf_pieces.proofs.WholeStmts.{behind_stmt, walked_stmt}
 
 -- a body that was begun at this variable, and one that was ended
 abbrev pub begun : ℕ → Pieces → Pieces

@@ -10,9 +10,9 @@ use Rattle.typed_tree.specs.View.{expr_view, stmt_view, args_of, items_of}
 use Rattle.tick_lower_spec.specs.Lower.{Addresses, Targets, case_ops}
 use Rattle.cgf_spec.specs.declared.piece.Piece.{Piece}
 use Rattle.tick_pieces.specs.TickPieces.{plain}
-use Rattle.tick_cgf.specs.declared.pieces.Pieces.{Pieces}
-use Rattle.tick_cgf.specs.Steps.{put, op, walk, walk_args, walk_stmt, walk_items, walk_tests, walk_default}
-use Rattle.tick_cgf.specs.Steps.{default_of, first_of}
+use Rattle.cgf_pieces.specs.declared.pieces.Pieces.{Pieces}
+use Rattle.cgf_pieces.specs.Steps.{put, op, walk, walk_args, walk_stmt, walk_items, walk_tests, walk_default}
+use Rattle.cgf_pieces.specs.Steps.{default_of, first_of}
 
 -- as many as the code has
 pub counted : (es : List Expr) → node.count (args_of (map expr_view es)) ≡ length es

@@ -15,8 +15,8 @@ use Rattle.tick_lower_spec.specs.Lower.{step_ops, joins, case_ops}
 use Rattle.cgf_spec.specs.declared.piece.Piece.{Piece}
 use Rattle.cgf_spec.specs.declared.piece.Piece.TheVariants.{Plain, Captured, GetKey, SetKey, Splice, Nothing}
 use Rattle.tick_pieces.specs.TickPieces.{plain, own}
-use Rattle.tick_cgf.specs.declared.pieces.Pieces.{Pieces}
-use Rattle.tick_cgf.specs.declared.pieces.Exits.{Exits}
+use Rattle.cgf_pieces.specs.declared.pieces.Pieces.{Pieces}
+use Rattle.cgf_pieces.specs.declared.pieces.Exits.{Exits}
 
 -- more pieces behind those of the nodes so far
 abbrev pub put : List Piece → Pieces → Pieces

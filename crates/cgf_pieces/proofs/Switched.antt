@@ -8,11 +8,11 @@ use Rattle.typed_tree.specs.Nodes.{Items}
 use Rattle.typed_tree.specs.View.{expr_view, stmt_view, items_of}
 use Rattle.typed_tree.proofs.Views.{stmt_view_switch}
 use Rattle.tick_lower_spec.specs.Lower.{Addresses, Targets}
-use Rattle.tick_cgf.specs.declared.pieces.Exits.{Exits}
-use Rattle.tick_cgf.specs.declared.pieces.Pieces.{Pieces}
-use Rattle.tick_cgf.specs.declared.pieces.Selector.{Selector}
-use Rattle.tick_cgf.specs.Steps.{op, targets_of, or_else, valued, with_apart, walk_stmt, walk_items, walk_tests}
-use Rattle.tick_cgf.specs.Steps.{walk_default}
+use Rattle.cgf_pieces.specs.declared.pieces.Exits.{Exits}
+use Rattle.cgf_pieces.specs.declared.pieces.Pieces.{Pieces}
+use Rattle.cgf_pieces.specs.declared.pieces.Selector.{Selector}
+use Rattle.cgf_pieces.specs.Steps.{op, targets_of, or_else, valued, with_apart, walk_stmt, walk_items, walk_tests}
+use Rattle.cgf_pieces.specs.Steps.{walk_default}
 
 abbrev viewed : List Stmt → Items
 viewed ss = items_of (map stmt_view ss)

@@ -6,8 +6,8 @@ use Rattle.icode_ir.specs.declared.build_op.BuildOp.TheVariants as build
 use Rattle.tick_lower_spec.specs.Lower.{narrowing, step_ops}
 use Rattle.cgf_spec.specs.declared.piece.Piece.{Piece}
 use Rattle.tick_pieces.specs.TickPieces.{plain}
-use Rattle.tick_cgf.specs.declared.pieces.Pieces.{Pieces}
-use Rattle.tick_cgf.specs.Steps.{put}
+use Rattle.cgf_pieces.specs.declared.pieces.Pieces.{Pieces}
+use Rattle.cgf_pieces.specs.Steps.{put}
 
 pub put_both : (xs ys : List Piece) (o : Pieces) → put ys (put xs o) ≡ put (xs ++ ys) o
 put_both xs ys o = ap (λ zs. let p : Pieces = record o { list = zs } in p) (append_assoc o.list xs ys)
