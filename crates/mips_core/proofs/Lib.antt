@@ -1,5 +1,7 @@
 pub mod Accessed
+pub mod Elsewhere
 pub mod Rows
+pub mod Dispatched
 pub mod Loops
 pub mod Stepped
 pub mod Numbered

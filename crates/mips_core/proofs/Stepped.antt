@@ -1,15 +1,20 @@
 -- What one instruction's answer says of it, and stretches one after another.
 use Rattle.std.proofs.Common.{zero, suc, inl, ◌≡◌, ◌≢◌, ◌<◌, ◌⊎◌, ℕ, ◌+◌, Bool, true, false, None}
-use Rattle.std.proofs.Common.{refl, ap, arith, ◌∙◌, subst, ⊎_elim}
+use Rattle.std.proofs.Common.{Result, Ok, nat_eq, refl, sym, ap, arith, ◌∙◌, subst, ⊎_elim}
+use Rattle.std.proofs.lemmas.Bool.Decides.{nat_tests}
+use Rattle.host_edge.specs.declared.ending.MachineKind.{MachineKind}
+use Rattle.mips_encoder.specs.Decoded.{instr_of}
 use Rattle.mips_model.specs.State.{World}
 use Rattle.mips_model.specs.Steps.{step}
-use Rattle.mips_model.specs.Beside.{is_at_service}
+use Rattle.mips_model.specs.Steps.{execute, found, word_at}
+use Rattle.mips_model.specs.Beside.{is_at_service, is_service}
 use Rattle.mips_model.proofs.Traces.{text_stays}
 use Rattle.mips_core.specs.declared.halt.Went.{Went}
 use Rattle.mips_core.specs.declared.halt.Went.TheVariants as went
-use Rattle.mips_core.specs.Core.{CoreKept, GoesOn, IsClear, Leaves, Pauses, at, state_of, went_to}
+use Rattle.mips_core.specs.Core.{CoreKept, Executes, GoesOn, IsClear, Leaves, Pauses, at, state_of, went_to}
 use Rattle.mips_core.specs.Core.{world_of}
 use Rattle.mips_core.proofs.Loops.{goes_more}
+use Rattle.mips_core.proofs.Rows.{runs}
 
 -- the two clauses of a step from what was kept to what is
 abbrev pub Services : Went → ℕ → CoreKept → CoreKept → Type 0
@@ -24,6 +29,36 @@ pub record More (count : ℕ) (first : CoreKept) (aside : Bool) (r : Went) (pc :
   pub ran : GoesOn (count + 1) first (at (went_to r pc) new)
   pub leaves : Leaves aside r pc new
   pub text : (state_of new).code.text ≡ (state_of mid).code.text
+
+-- they are those of a word that was executed
+pub executed : {aside : Bool} {pc word : ℕ} {r : Went} {k new : CoreKept} →
+    word_at (state_of (at pc k)).code pc ≡ Ok word → k.stopped ≡ None →
+    Executes aside (instr_of word) word pc k r new → Services r pc k new × Others aside r pc k new
+executed {aside} {pc} {word} {r} {k} {new} here on e = (
+  λ is.
+      let so : nat_eq word 12 ≡ true = sym (ap is_service here) ∙ is in
+      e.service (grind (arith, nat_tests, so)),
+  λ is.
+      let so : nat_eq word 12 ≡ false = sym (ap is_service here) ∙ is in
+      let not : word ≢ 12 = λ same. absurd (other (sym (ap (λ (n : ℕ). nat_eq n 12) same) ∙ so)) in
+      let d = e.other not in (
+        d.world
+            ∙ sym (
+            ap step (runs k pc on)
+            ∙ ap (λ (f : Result ℕ MachineKind). execute (found f) (state_of (at pc k))) here),
+        d.leaves,
+      ),
+)
+  where
+    other : true ≡ false → ⊥
+    other is = absurd cc
+
+-- the same where the address was read
+pub executed_at : {aside : Bool} {there pc word : ℕ} {r : Went} {k new : CoreKept} → there ≡ pc →
+    word_at (state_of (at pc k)).code pc ≡ Ok word → k.stopped ≡ None →
+    Executes aside (instr_of word) word there k r new → Services r pc k new × Others aside r pc k new
+executed_at {aside} {there} {pc} {word} {r} {k} {new} same here on e =
+    executed here on (subst (λ (n : ℕ). Executes aside (instr_of word) word n k r new) same e)
 
 no_service : {P Q : Type 0} (b : Bool) {r : Went} → (b ≡ true → (r ≡ went.Service) × P) → (b ≡ false → Q) →
     r ≢ went.Service → (b ≡ false) × Q

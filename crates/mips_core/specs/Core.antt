@@ -26,10 +26,10 @@ use Rattle.mips_model.specs.Run.{first_outside}
 use Rattle.mips_encoder.specs.declared.instruction.Instr.TheVariants.{Break, Syscall}
 use Rattle.mips_encoder.specs.declared.instruction.MemoryOp.{MemoryOp}
 use Rattle.word32.specs.declared.width.Width.{Width}
-use Rattle.mips_model.specs.Accesses.{load, store}
+use Rattle.mips_model.specs.Accesses.{Plain, load, store}
 use Rattle.mips_model.specs.Services.{answer}
 use Rattle.mips_model.specs.Effects.{gives, access}
-use Rattle.mips_model.specs.Steps.{word_in_arena, decoded, execute, apply, onward, step, is_hazard, going}
+use Rattle.mips_model.specs.Steps.{word_in_arena, decoded, execute, apply, onward, step, is_hazard, going, faulted}
 use Rattle.mips_model.specs.Beside.{beside, is_at_service}
 
 pub record CoreKept : Type 0 where
@@ -151,6 +151,18 @@ Leaves aside (went.Pending next) pc k = (k.stopped ≡ None) × (aside ≡ false
 Leaves aside went.Stopped pc k = k.stopped ≢ None
 Leaves aside went.Service pc k = ⊥
 
+-- What an instruction at an address is told of the core: it hasn't stopped, both words behind the instruction have
+-- addresses, and nothing is pending unless it is executed aside.
+pub record IsReady (aside : Bool) (pc : ℕ) (k : CoreKept) : Type 0 where
+  pub on : k.stopped ≡ None
+  pub near : pc < 4294967288
+  pub plain : aside ≡ false → IsClear k
+
+-- what an instruction at an address did, by its answer: the world behind it, and what the answer says of the core
+pub record Becomes (aside : Bool) (w : World) (r : Went) (pc : ℕ) (k : CoreKept) : Type 0 where
+  pub world : world_of (at (went_to r pc) k) ≡ w
+  pub leaves : Leaves aside r pc k
+
 abbrev pub chosen : Bool → ℕ → ℕ → ℕ
 chosen taken target other = if taken then target else other
 
@@ -165,9 +177,39 @@ is_loaded loaded a b c = if nat_eq loaded 0 then false else (nat_eq a loaded || 
 abbrev pub does : Option Instr → State → World
 does o s = execute (decoded o) s
 
+-- what a word did that the table has or hasn't, whose instruction is a hazard or makes this world
+abbrev pub acting : (listed hazard : Bool) → State → World → World
+acting listed hazard s w =
+    if listed then (if hazard then faulted kind.Hazard s else w) else faulted kind.Reserved s
+
+pub record Acts (aside listed hazard : Bool) (s : State) (w : World) (r : Went) (pc : ℕ) (k : CoreKept) : Type 0 where
+  pub becomes : Becomes aside (acting listed hazard s w) r pc k
+
+-- what a word's instruction did, if the table has one; and of a word that may be SYSCALL, which is left
+abbrev pub Does : (aside : Bool) → Option Instr → ℕ → CoreKept → Went → CoreKept → Type 0
+Does aside o pc old r new = Becomes aside (does o (state_of (at pc old))) r pc new
+
+pub record Executes (aside : Bool) (o : Option Instr) (word pc : ℕ) (old : CoreKept) (r : Went) (new : CoreKept)
+    : Type 0 where
+  pub service : word ≡ 12 → (r ≡ went.Service) × (new ≡ old)
+  pub other : word ≢ 12 → Does aside o pc old r new
+
 -- a register takes a value, where it fits
 abbrev pub given : ℕ → Option ℕ → State → World
 given r v s = apply (gives r v s.d) (s.recent - 1) s
+
+-- HI and LO take values
+abbrev pub halved : (hi lo : ℕ) → State → World
+halved hi lo s = apply (Plain (record s.d { hi = hi; lo = lo })) (s.recent - 1) s
+
+-- The run goes on in a delay slot, and behind it at a target, if the branch is taken; and the same with the address
+-- behind the slot in a register.
+abbrev pub branching : Bool → ℕ → State → World
+branching taken target s = onward (chosen taken target (s.next + 4)) 0 (s.recent - 1) true s.code s.d s
+
+abbrev pub linking : (r back : ℕ) → Bool → ℕ → State → World
+linking r back taken target s =
+    onward (chosen taken target (s.next + 4)) 0 (s.recent - 1) true s.code (set_register r back s.d) s
 
 abbrev pub breaking : ℕ → Instr
 breaking code = Break code

@@ -5,7 +5,7 @@ ghost use Rattle.word32.specs.declared.map.TheConstants.{ARENA, ARENA_BYTES, FUN
 ghost use Rattle.mips_encoder.specs.Decoded as table;
 ghost use Rattle.flat_memory.specs.Spaces as flat;
 ghost use Rattle.flat_memory.specs.Regions.{spaces_of};
-ghost use Rattle.flat_memory.specs.Map.{is_within};
+ghost use Rattle.flat_memory.specs.Map as regions;
 ghost use Rattle.mips_model.specs.Accesses as accesses;
 ghost use Rattle.mips_model.specs.Steps as steps;
 ghost use Rattle.mips_core.specs.Core as spec;
@@ -21,33 +21,24 @@ use mips_encoder::{MemoryOp, Register, immediate as low_half, rs, rt};
 use word32::{Width, is_aligned, loaded_part, map, stored_part};
 
 #[inline]
-fn is_in_arena(at: u32) -> bool
-    ensures { result ≡ is_within ARENA ARENA_BYTES at }
+fn is_within(first: u32, bytes: u32, at: u32) -> bool
+    requires { first + bytes < 4294967296 }
+    ensures { result ≡ regions.is_within first bytes at }
 {
-    at >= map::ARENA && at < map::ARENA + map::ARENA_BYTES
-}
-
-#[inline]
-fn is_in_table(at: u32) -> bool
-    ensures { result ≡ is_within FUNCTION_TABLE FUNCTION_TABLE_BYTES at }
-{
-    at >= map::FUNCTION_TABLE && at < map::FUNCTION_TABLE + map::FUNCTION_TABLE_BYTES
+    at >= first && at < first + bytes
 }
 
 impl Rest {
     /// A value was loaded to a register.
     #[inline(always)]
     fn take<const ASIDE: bool>(&mut self, pc: Pc, r: Register, v: u32) -> Went
-        requires on { self.old.stopped ≡ None }
-        requires near { pc < 4294967288 }
-        requires plain { ASIDE ≡ false → spec.IsClear self.old }
-        ensures world { world_of (spec.at (spec.went_to result pc) self.new) ≡
-            spec.took r v (state_of (spec.at pc self.old)) }
-        ensures went { spec.Leaves ASIDE result pc self.new }
+        requires ready { spec.IsReady ASIDE pc self.old }
+        ensures { spec.Becomes ASIDE (spec.took r v (state_of (spec.at pc self.old))) result pc self.new }
     {
         self.write(r, v);
         let next = self.advance::<ASIDE>(pc);
-        self.set_loaded(next, r);
+        self.loaded = r.number();
+        self.pending = true;
         Went::Pending(next)
     }
 
@@ -60,12 +51,9 @@ impl Rest {
         width: Width,
         word: u32,
     ) -> Went
-        requires on { self.old.stopped ≡ None }
-        requires near { pc < 4294967288 }
-        requires plain { ASIDE ≡ false → spec.IsClear self.old }
-        ensures world { world_of (spec.at (spec.went_to result pc) self.new) ≡
-            steps.reads (Some word) r at width (self.old.recent - 1) (state_of (spec.at pc self.old)) }
-        ensures went { spec.Leaves ASIDE result pc self.new }
+        requires ready { spec.IsReady ASIDE pc self.old }
+        ensures { let s = state_of (spec.at pc self.old) in
+            spec.Becomes ASIDE (steps.reads (Some word) r at width (s.recent - 1) s) result pc self.new }
     {
         if is_aligned(at, width) {
             self.take::<ASIDE>(pc, r, loaded_part(word, at, width))
@@ -94,18 +82,16 @@ impl Rest {
         at: u32,
         width: Width,
     ) -> Went
-        requires on { self.old.stopped ≡ None }
-        requires near { pc < 4294967288 }
-        requires plain { ASIDE ≡ false → spec.IsClear self.old }
+        requires ready { spec.IsReady ASIDE pc self.old }
         requires outside { flat.load (spaces_of self.old.memory) at width ≡ Err Access.Outside }
-        ensures world { world_of (spec.at (spec.went_to result pc) self.new) ≡
-            spec.loading r at width (state_of (spec.at pc self.old)) }
-        ensures went { spec.Leaves ASIDE result pc self.new }
+        ensures { spec.Becomes ASIDE (spec.loading r at width (state_of (spec.at pc self.old))) result pc self.new }
     {
-        if is_in_arena(at) {
+        let in_arena = is_within(map::ARENA, map::ARENA_BYTES, at);
+        let in_table = is_within(map::FUNCTION_TABLE, map::FUNCTION_TABLE_BYTES, at);
+        if in_arena {
             let word = self.arena.read(at / 4 - map::ARENA / 4);
             self.take_part::<ASIDE>(pc, r, at, width, word)
-        } else if is_in_table(at) {
+        } else if in_table {
             let word = self.table_word(at);
             self.take_part::<ASIDE>(pc, r, at, width, word)
         } else {
@@ -115,12 +101,8 @@ impl Rest {
 
     #[inline(always)]
     fn load<const ASIDE: bool>(&mut self, pc: Pc, r: Register, at: u32, width: Width) -> Went
-        requires on { self.old.stopped ≡ None }
-        requires near { pc < 4294967288 }
-        requires plain { ASIDE ≡ false → spec.IsClear self.old }
-        ensures world { world_of (spec.at (spec.went_to result pc) self.new) ≡
-            spec.loading r at width (state_of (spec.at pc self.old)) }
-        ensures went { spec.Leaves ASIDE result pc self.new }
+        requires ready { spec.IsReady ASIDE pc self.old }
+        ensures { spec.Becomes ASIDE (spec.loading r at width (state_of (spec.at pc self.old))) result pc self.new }
     {
         match self.memory.load(at, width) {
             Ok(v) => self.take::<ASIDE>(pc, r, v),
@@ -132,22 +114,26 @@ impl Rest {
     /// A store to the arena, or one that is refused.
     #[inline(never)]
     fn store_elsewhere<const ASIDE: bool>(&mut self, pc: Pc, at: u32, width: Width, w: u32) -> Went
-        requires on { self.old.stopped ≡ None }
-        requires near { pc < 4294967288 }
-        requires plain { ASIDE ≡ false → spec.IsClear self.old }
+        requires ready { spec.IsReady ASIDE pc self.old }
         requires outside { flat.store (spaces_of self.old.memory) at width w ≡ Err Access.Outside }
-        ensures world { world_of (spec.at (spec.went_to result pc) self.new) ≡
-            spec.storing at width w (state_of (spec.at pc self.old)) }
-        ensures went { spec.Leaves ASIDE result pc self.new }
+        ensures { spec.Becomes ASIDE (spec.storing at width w (state_of (spec.at pc self.old))) result pc self.new }
     {
         let aligned = is_aligned(at, width);
-        if is_in_arena(at) && aligned {
+        let in_arena = is_within(map::ARENA, map::ARENA_BYTES, at);
+        let in_table = is_within(map::FUNCTION_TABLE, map::FUNCTION_TABLE_BYTES, at);
+        if in_arena {
+            if !aligned {
+                return self.end(Ending::Trap(TrapKind::Misaligned), pc);
+            }
             let i = at / 4 - map::ARENA / 4;
-            self.arena
-                .write(i, stored_part(self.arena.read(i), at, width, w));
+            let word = stored_part(self.arena.read(i), at, width, w);
+            self.arena.write(i, word);
             Went::On(self.advance::<ASIDE>(pc))
-        } else if (is_in_arena(at) || is_in_table(at)) && !aligned {
-            self.end(Ending::Trap(TrapKind::Misaligned), pc)
+        } else if in_table {
+            if !aligned {
+                return self.end(Ending::Trap(TrapKind::Misaligned), pc);
+            }
+            self.end(Ending::Trap(TrapKind::Range), pc)
         } else {
             self.end(Ending::Trap(TrapKind::Range), pc)
         }
@@ -155,12 +141,8 @@ impl Rest {
 
     #[inline(always)]
     fn store<const ASIDE: bool>(&mut self, pc: Pc, at: u32, width: Width, w: u32) -> Went
-        requires on { self.old.stopped ≡ None }
-        requires near { pc < 4294967288 }
-        requires plain { ASIDE ≡ false → spec.IsClear self.old }
-        ensures world { world_of (spec.at (spec.went_to result pc) self.new) ≡
-            spec.storing at width w (state_of (spec.at pc self.old)) }
-        ensures went { spec.Leaves ASIDE result pc self.new }
+        requires ready { spec.IsReady ASIDE pc self.old }
+        ensures { spec.Becomes ASIDE (spec.storing at width w (state_of (spec.at pc self.old))) result pc self.new }
     {
         match self.memory.store(at, width, w) {
             Ok(()) => { Went::On(self.advance::<ASIDE>(pc)) }
@@ -172,20 +154,21 @@ impl Rest {
 
     // CODE is the operation's opcode: each is compiled by itself, and with its instruction
     #[inline(always)]
-    fn access<const ASIDE: bool, const CODE: u32>(
+    pub(crate) fn access_memory<const ASIDE: bool, const CODE: u32>(
         &mut self,
         pc: Pc,
         op: MemoryOp,
-        r: Register,
-        at: u32,
+        w: u32,
     ) -> Went
-        requires on { self.old.stopped ≡ None }
-        requires near { pc < 4294967288 }
-        requires plain { ASIDE ≡ false → spec.IsClear self.old }
-        ensures world { world_of (spec.at (spec.went_to result pc) self.new) ≡
-            spec.accessing op r at (state_of (spec.at pc self.old)) }
-        ensures went { spec.Leaves ASIDE result pc self.new }
+        requires ready { spec.IsReady ASIDE pc self.old }
+        ensures { spec.Does ASIDE (table.memory op w) pc self.old result self.new }
     {
+        let r = rt(w);
+        let base = rs(w);
+        if self.is_loaded::<ASIDE>(r, base, base) {
+            return self.fault(MachineKind::Hazard, pc);
+        }
+        let at = self.register(base).wrapping_add(widened(low_half(w)));
         match op {
             MemoryOp::Lb => self.load::<ASIDE>(pc, r, at, Width::SignedByte),
             MemoryOp::Lh => self.load::<ASIDE>(pc, r, at, Width::SignedHalf),
@@ -196,26 +179,5 @@ impl Rest {
             MemoryOp::Sh => self.store::<ASIDE>(pc, at, Width::Half, self.register(r)),
             MemoryOp::Sw => self.store::<ASIDE>(pc, at, Width::Word, self.register(r)),
         }
-    }
-
-    #[inline(always)]
-    pub(crate) fn access_memory<const ASIDE: bool, const CODE: u32>(
-        &mut self,
-        pc: Pc,
-        op: MemoryOp,
-        w: u32,
-    ) -> Went
-        requires on { self.old.stopped ≡ None }
-        requires near { pc < 4294967288 }
-        requires plain { ASIDE ≡ false → spec.IsClear self.old }
-        ensures world { world_of (spec.at (spec.went_to result pc) self.new) ≡
-            spec.does (table.memory op w) (state_of (spec.at pc self.old)) }
-        ensures went { spec.Leaves ASIDE result pc self.new }
-    {
-        if self.is_loaded::<ASIDE>(rt(w), rs(w), rs(w)) {
-            return self.fault(MachineKind::Hazard, pc);
-        }
-        let at = self.register(rs(w)).wrapping_add(widened(low_half(w)));
-        self.access::<ASIDE, CODE>(pc, op, rt(w), at)
     }
 }

@@ -5,8 +5,8 @@ ghost use Rattle.word32.specs.Words.{widened_half, is_less_signed, sign_turned};
 ghost use Rattle.mips_model.specs.Arithmetic as spec;
 
 use mips_encoder::{
-    ArithmeticOp, EqualityOp, Immediate, ImmediateOp, MultiplyDivideOp, ShiftOp, ShiftVariableOp,
-    SignTest, ZeroComparisonOp,
+    ArithmeticOp, Immediate, ImmediateOp, MultiplyDivideOp, ShiftOp, ShiftVariableOp, SignTest,
+    ZeroComparisonOp,
 };
 use word32::{DivFault, div_s, div_u};
 
@@ -27,43 +27,22 @@ fn turned(w: u32) -> u32
 }
 
 #[inline]
-#[tactic(auto, using(word32::proofs::WordLaws::less_turned))]
-fn is_less(a: u32, b: u32) -> bool
-    ensures { result ≡ is_less_signed a b }
-{
-    turned(a) < turned(b)
-}
-
-#[inline]
 fn bit(b: bool) -> u32
     ensures { result ≡ spec.bit b }
 {
     if b { 1 } else { 0 }
 }
 
-fn fits_sum(a: u32, b: u32) -> bool
-    ensures { result ≡ spec.fits_sum a b }
-{
-    let total = u64::from(turned(a)) + u64::from(turned(b));
-    total >= 2147483648 && total < 6442450944
-}
-
-fn fits_difference(a: u32, b: u32) -> bool
-    ensures { result ≡ spec.fits_difference a b }
-{
-    let a = u64::from(turned(a));
-    let b = u64::from(turned(b));
-    b <= a + 2147483648 && a < b + 2147483648
-}
-
 /// The result of an operation on two registers; None where a sum or difference that must fit doesn't.
 #[inline]
+#[tactic(auto, using(word32::proofs::WordLaws::less_turned))]
 pub fn arithmetic(op: ArithmeticOp, a: u32, b: u32) -> Option<u32>
     ensures { result ≡ spec.arithmetic op a b }
 {
     match op {
         ArithmeticOp::Add => {
-            if fits_sum(a, b) {
+            let total = u64::from(turned(a)) + u64::from(turned(b));
+            if total >= 2147483648 && total < 6442450944 {
                 Some(a.wrapping_add(b))
             } else {
                 None
@@ -71,7 +50,9 @@ pub fn arithmetic(op: ArithmeticOp, a: u32, b: u32) -> Option<u32>
         }
         ArithmeticOp::Addu => Some(a.wrapping_add(b)),
         ArithmeticOp::Sub => {
-            if fits_difference(a, b) {
+            let from = u64::from(turned(a));
+            let less = u64::from(turned(b));
+            if less <= from + 2147483648 && from < less + 2147483648 {
                 Some(a.wrapping_sub(b))
             } else {
                 None
@@ -82,7 +63,7 @@ pub fn arithmetic(op: ArithmeticOp, a: u32, b: u32) -> Option<u32>
         ArithmeticOp::Or => Some(a | b),
         ArithmeticOp::Xor => Some(a ^ b),
         ArithmeticOp::Nor => Some(4294967295 - (a | b)),
-        ArithmeticOp::Slt => Some(bit(is_less(a, b))),
+        ArithmeticOp::Slt => Some(bit(turned(a) < turned(b))),
         ArithmeticOp::Sltu => Some(bit(a < b)),
     }
 }
@@ -169,17 +150,6 @@ pub fn multiply_divide(op: MultiplyDivideOp, a: u32, b: u32) -> (u32, u32)
         MultiplyDivideOp::Multu => high_low(u64::from(a) * u64::from(b)),
         MultiplyDivideOp::Div => quotients(div_s(a, b)),
         MultiplyDivideOp::Divu => quotients(div_u(a, b)),
-    }
-}
-
-/// Whether BEQ or BNE is taken.
-#[inline]
-pub fn equality(op: EqualityOp, a: u32, b: u32) -> bool
-    ensures { result ≡ spec.equality op a b }
-{
-    match op {
-        EqualityOp::Beq => a == b,
-        EqualityOp::Bne => a != b,
     }
 }
 

@@ -1,13 +1,12 @@
 //! Branches, jumps and BREAK, one function for each row of the instruction table.
 
-ghost use Rattle.std.specs.Prelude.{◌≡◌, ◌≢◌, ◌+◌, ◌-◌, ◌*◌, ◌/◌, ◌%◌, ◌<◌, ◌≤◌, ℕ, true, false, None, Some};
+ghost use Rattle.std.specs.Prelude.{◌≡◌, ◌≢◌, ◌+◌, ◌-◌, ◌*◌, ◌/◌, ◌%◌, ◌<◌, ◌≤◌, ◌||◌, ℕ, true, false, None, Some};
 ghost use Rattle.mips_encoder.specs.Decoded as table;
 ghost use Rattle.mips_core.specs.Core as spec;
 ghost use Rattle.mips_core.specs.Core.{state_of, world_of};
 ghost use Rattle.mips_model.specs.Effects.{trap_of};
 
-use crate::arithmetic::{equality, sign_test, widened, zero_comparison};
-use crate::control::{branch_target, link, segment_target};
+use crate::arithmetic::{sign_test, zero_comparison};
 use crate::halt::Went;
 use crate::pc::Pc;
 use crate::rest::Rest;
@@ -38,80 +37,98 @@ fn trap_kind(code: u32) -> Option<TrapKind>
 }
 
 impl Rest {
+    /// On to a target behind the delay slot, if the branch is taken, unless the table hasn't the word, it stands in a
+    /// delay slot itself, or the last instruction loaded one of these registers.
     #[inline(always)]
-    pub(crate) fn jump_register<const ASIDE: bool>(&mut self, pc: Pc, w: u32) -> Went
-        requires on { self.old.stopped ≡ None }
-        requires near { pc < 4294967288 }
-        requires plain { ASIDE ≡ false → spec.IsClear self.old }
-        ensures world { world_of (spec.at (spec.went_to result pc) self.new) ≡
-            spec.does (table.jump_register w) (state_of (spec.at pc self.old)) }
-        ensures went { spec.Leaves ASIDE result pc self.new }
+    fn branch_to<const ASIDE: bool>(
+        &mut self,
+        pc: Pc,
+        listed: bool,
+        a: Register,
+        b: Register,
+        taken: bool,
+        to: Pc,
+    ) -> Went
+        requires ready { spec.IsReady ASIDE pc self.old }
+        ensures { let k = self.old in let s = state_of (spec.at pc k) in
+            spec.Acts ASIDE listed (k.slot || spec.is_loaded k.loaded a b b) s
+            (spec.branching taken to s) result pc self.new }
     {
-        if w / 64 % 32768 != 0 {
+        if !listed {
             return self.fault(MachineKind::Reserved, pc);
         }
-        if self.is_branch_hazard::<ASIDE>(rs(w), rs(w), rs(w)) {
+        if self.is_branch_hazard::<ASIDE>(a, b, b) {
             return self.fault(MachineKind::Hazard, pc);
         }
-        let to = Pc::at(self.register(rs(w)));
-        Went::Pending(self.branch::<ASIDE>(pc, true, to))
+        Went::Pending(self.branch::<ASIDE>(pc, taken, to))
+    }
+
+    /// The same, and a register, which the instruction names too, takes the address behind the slot.
+    #[inline(always)]
+    fn link_to<const ASIDE: bool>(
+        &mut self,
+        pc: Pc,
+        listed: bool,
+        r: Register,
+        a: Register,
+        taken: bool,
+        to: Pc,
+    ) -> Went
+        requires ready { spec.IsReady ASIDE pc self.old }
+        ensures { let k = self.old in let s = state_of (spec.at pc k) in
+            spec.Acts ASIDE listed (k.slot || spec.is_loaded k.loaded r a a) s
+            (spec.linking r ((pc + 4 + 4) % 4294967296) taken to s) result pc self.new }
+    {
+        if !listed {
+            return self.fault(MachineKind::Reserved, pc);
+        }
+        if self.is_branch_hazard::<ASIDE>(r, a, a) {
+            return self.fault(MachineKind::Hazard, pc);
+        }
+        let next = self.branch::<ASIDE>(pc, taken, to);
+        self.write(r, pc.address() + 8);
+        Went::Pending(next)
+    }
+
+    #[inline(always)]
+    pub(crate) fn jump_register<const ASIDE: bool>(&mut self, pc: Pc, w: u32) -> Went
+        requires ready { spec.IsReady ASIDE pc self.old }
+        ensures { spec.Does ASIDE (table.jump_register w) pc self.old result self.new }
+    {
+        let a = rs(w);
+        let to = Pc::at(self.register(a));
+        self.branch_to::<ASIDE>(pc, w / 64 % 32768 == 0, a, a, true, to)
     }
 
     #[inline(always)]
     pub(crate) fn jump_and_link_register<const ASIDE: bool>(&mut self, pc: Pc, w: u32) -> Went
-        requires on { self.old.stopped ≡ None }
-        requires near { pc < 4294967288 }
-        requires plain { ASIDE ≡ false → spec.IsClear self.old }
-        ensures world { world_of (spec.at (spec.went_to result pc) self.new) ≡
-            spec.does (table.jump_and_link_register w) (state_of (spec.at pc self.old)) }
-        ensures went { spec.Leaves ASIDE result pc self.new }
+        requires ready { spec.IsReady ASIDE pc self.old }
+        ensures { spec.Does ASIDE (table.jump_and_link_register w) pc self.old result self.new }
     {
-        if w / 2048 % 32 == w / 2097152 % 32 || w / 65536 % 32 != 0 || w / 64 % 32 != 0 {
+        if w / 2048 % 32 == w / 2097152 % 32 || w / 65536 % 32 != 0 {
             return self.fault(MachineKind::Reserved, pc);
         }
-        if self.is_branch_hazard::<ASIDE>(rd(w), rs(w), rs(w)) {
-            return self.fault(MachineKind::Hazard, pc);
-        }
-        let to = Pc::at(self.register(rs(w)));
-        let back = link(pc);
-        let next = self.branch::<ASIDE>(pc, true, to);
-        self.write(rd(w), back);
-        Went::Pending(next)
+        let a = rs(w);
+        let to = Pc::at(self.register(a));
+        self.link_to::<ASIDE>(pc, w / 64 % 32 == 0, rd(w), a, true, to)
     }
 
     #[inline(always)]
     pub(crate) fn jump<const ASIDE: bool>(&mut self, pc: Pc, w: u32) -> Went
-        requires on { self.old.stopped ≡ None }
-        requires near { pc < 4294967288 }
-        requires plain { ASIDE ≡ false → spec.IsClear self.old }
-        ensures world { world_of (spec.at (spec.went_to result pc) self.new) ≡
-            spec.does (table.jump JumpOp.J w) (state_of (spec.at pc self.old)) }
-        ensures went { spec.Leaves ASIDE result pc self.new }
+        requires ready { spec.IsReady ASIDE pc self.old }
+        ensures { spec.Does ASIDE (table.jump JumpOp.J w) pc self.old result self.new }
     {
-        if self.is_slot::<ASIDE>() {
-            return self.fault(MachineKind::Hazard, pc);
-        }
-        let to = segment_target(pc, w % 67108864);
-        Went::Pending(self.branch::<ASIDE>(pc, true, to))
+        let to = pc.segment_target(w % 67108864);
+        self.branch_to::<ASIDE>(pc, true, Register::ZERO, Register::ZERO, true, to)
     }
 
     #[inline(always)]
     pub(crate) fn jump_and_link<const ASIDE: bool>(&mut self, pc: Pc, w: u32) -> Went
-        requires on { self.old.stopped ≡ None }
-        requires near { pc < 4294967288 }
-        requires plain { ASIDE ≡ false → spec.IsClear self.old }
-        ensures world { world_of (spec.at (spec.went_to result pc) self.new) ≡
-            spec.does (table.jump JumpOp.Jal w) (state_of (spec.at pc self.old)) }
-        ensures went { spec.Leaves ASIDE result pc self.new }
+        requires ready { spec.IsReady ASIDE pc self.old }
+        ensures { spec.Does ASIDE (table.jump JumpOp.Jal w) pc self.old result self.new }
     {
-        if self.is_branch_hazard::<ASIDE>(Register::RA, Register::RA, Register::RA) {
-            return self.fault(MachineKind::Hazard, pc);
-        }
-        let to = segment_target(pc, w % 67108864);
-        let back = link(pc);
-        let next = self.branch::<ASIDE>(pc, true, to);
-        self.write(Register::RA, back);
-        Went::Pending(next)
+        let to = pc.segment_target(w % 67108864);
+        self.link_to::<ASIDE>(pc, true, Register::RA, Register::RA, true, to)
     }
 
     #[inline(always)]
@@ -121,19 +138,16 @@ impl Rest {
         op: EqualityOp,
         w: u32,
     ) -> Went
-        requires on { self.old.stopped ≡ None }
-        requires near { pc < 4294967288 }
-        requires plain { ASIDE ≡ false → spec.IsClear self.old }
-        ensures world { world_of (spec.at (spec.went_to result pc) self.new) ≡
-            spec.does (table.branch_on_equality op w) (state_of (spec.at pc self.old)) }
-        ensures went { spec.Leaves ASIDE result pc self.new }
+        requires ready { spec.IsReady ASIDE pc self.old }
+        ensures { spec.Does ASIDE (table.branch_on_equality op w) pc self.old result self.new }
     {
-        if self.is_branch_hazard::<ASIDE>(rs(w), rt(w), rt(w)) {
-            return self.fault(MachineKind::Hazard, pc);
+        let (a, b) = (rs(w), rt(w));
+        let same = self.register(a) == self.register(b);
+        let to = pc.branch_target(w);
+        match op {
+            EqualityOp::Beq => self.branch_to::<ASIDE>(pc, true, a, b, same, to),
+            EqualityOp::Bne => self.branch_to::<ASIDE>(pc, true, a, b, !same, to),
         }
-        let taken = equality(op, self.register(rs(w)), self.register(rt(w)));
-        let to = branch_target(pc, widened(low_half(w)));
-        Went::Pending(self.branch::<ASIDE>(pc, taken, to))
     }
 
     #[inline(always)]
@@ -143,22 +157,12 @@ impl Rest {
         op: ZeroComparisonOp,
         w: u32,
     ) -> Went
-        requires on { self.old.stopped ≡ None }
-        requires near { pc < 4294967288 }
-        requires plain { ASIDE ≡ false → spec.IsClear self.old }
-        ensures world { world_of (spec.at (spec.went_to result pc) self.new) ≡
-            spec.does (table.branch_on_zero op w) (state_of (spec.at pc self.old)) }
-        ensures went { spec.Leaves ASIDE result pc self.new }
+        requires ready { spec.IsReady ASIDE pc self.old }
+        ensures { spec.Does ASIDE (table.branch_on_zero op w) pc self.old result self.new }
     {
-        if w / 65536 % 32 != 0 {
-            return self.fault(MachineKind::Reserved, pc);
-        }
-        if self.is_branch_hazard::<ASIDE>(rs(w), rs(w), rs(w)) {
-            return self.fault(MachineKind::Hazard, pc);
-        }
-        let taken = zero_comparison(op, self.register(rs(w)));
-        let to = branch_target(pc, widened(low_half(w)));
-        Went::Pending(self.branch::<ASIDE>(pc, taken, to))
+        let a = rs(w);
+        let taken = zero_comparison(op, self.register(a));
+        self.branch_to::<ASIDE>(pc, w / 65536 % 32 == 0, a, a, taken, pc.branch_target(w))
     }
 
     #[inline(always)]
@@ -168,19 +172,12 @@ impl Rest {
         test: SignTest,
         w: u32,
     ) -> Went
-        requires on { self.old.stopped ≡ None }
-        requires near { pc < 4294967288 }
-        requires plain { ASIDE ≡ false → spec.IsClear self.old }
-        ensures world { world_of (spec.at (spec.went_to result pc) self.new) ≡
-            spec.does (table.branch_on_sign test w) (state_of (spec.at pc self.old)) }
-        ensures went { spec.Leaves ASIDE result pc self.new }
+        requires ready { spec.IsReady ASIDE pc self.old }
+        ensures { spec.Does ASIDE (table.branch_on_sign test w) pc self.old result self.new }
     {
-        if self.is_branch_hazard::<ASIDE>(rs(w), rs(w), rs(w)) {
-            return self.fault(MachineKind::Hazard, pc);
-        }
-        let taken = sign_test(test, self.register(rs(w)));
-        let to = branch_target(pc, widened(low_half(w)));
-        Went::Pending(self.branch::<ASIDE>(pc, taken, to))
+        let a = rs(w);
+        let taken = sign_test(test, self.register(a));
+        self.branch_to::<ASIDE>(pc, true, a, a, taken, pc.branch_target(w))
     }
 
     #[inline(always)]
@@ -190,33 +187,19 @@ impl Rest {
         test: SignTest,
         w: u32,
     ) -> Went
-        requires on { self.old.stopped ≡ None }
-        requires near { pc < 4294967288 }
-        requires plain { ASIDE ≡ false → spec.IsClear self.old }
-        ensures world { world_of (spec.at (spec.went_to result pc) self.new) ≡
-            spec.does (table.branch_on_sign_and_link test w) (state_of (spec.at pc self.old)) }
-        ensures went { spec.Leaves ASIDE result pc self.new }
+        requires ready { spec.IsReady ASIDE pc self.old }
+        ensures { spec.Does ASIDE (table.branch_on_sign_and_link test w) pc self.old result self.new }
     {
-        if w / 2097152 % 32 == 31 {
-            return self.fault(MachineKind::Reserved, pc);
-        }
-        if self.is_branch_hazard::<ASIDE>(Register::RA, rs(w), rs(w)) {
-            return self.fault(MachineKind::Hazard, pc);
-        }
-        let taken = sign_test(test, self.register(rs(w)));
-        let to = branch_target(pc, widened(low_half(w)));
-        let back = link(pc);
-        let next = self.branch::<ASIDE>(pc, taken, to);
-        self.write(Register::RA, back);
-        Went::Pending(next)
+        let a = rs(w);
+        let taken = sign_test(test, self.register(a));
+        let listed = w / 2097152 % 32 != 31;
+        self.link_to::<ASIDE>(pc, listed, Register::RA, a, taken, pc.branch_target(w))
     }
 
     #[inline(always)]
     pub(crate) fn break_with<const ASIDE: bool>(&mut self, pc: Pc, w: u32) -> Went
         requires on { self.old.stopped ≡ None }
-        ensures world { world_of (spec.at (spec.went_to result pc) self.new) ≡
-            spec.does (Some (spec.breaking (w / 64 % 1048576))) (state_of (spec.at pc self.old)) }
-        ensures went { spec.Leaves ASIDE result pc self.new }
+        ensures { spec.Does ASIDE (Some (spec.breaking (w / 64 % 1048576))) pc self.old result self.new }
     {
         match trap_kind(w / 64 % 1048576) {
             Some(kind) => self.end(Ending::Trap(kind), pc),

@@ -1,25 +1,14 @@
 //! How the run goes on: delay slots, and what must not follow what.
 
 ghost use Rattle.std.specs.Prelude.{◌≡◌, ◌+◌, ◌-◌, ◌*◌, ◌/◌, ◌%◌, ◌<◌, ◌≤◌, ◌||◌, ℕ, true, false};
-ghost use Rattle.word32.specs.declared.map.TheConstants.{SEGMENT_BYTES};
 ghost use Rattle.mips_core.specs.Core as spec;
 ghost use Rattle.mips_core.specs.Core.{world_of};
 
 use crate::pc::Pc;
 use crate::rest::Rest;
 use mips_encoder::Register;
-use word32::map::SEGMENT_BYTES;
 
 impl Rest {
-    /// The address of the instruction behind the next, which stands at this address.
-    #[inline(always)]
-    fn next(&self, pc: Pc) -> Pc
-        requires near { self.now.slot ≡ false → pc < 4294967292 }
-        ensures { result ≡ (spec.at pc self.now).next }
-    {
-        if self.slot { self.target } else { pc.next() }
-    }
-
     /// On from a delay slot, or from where something may not have followed, to the address that is answered.
     #[inline(always)]
     pub(crate) fn settle(&mut self, pc: Pc) -> Pc
@@ -28,7 +17,7 @@ impl Rest {
         ensures world { world_of (spec.at result self.new) ≡
             spec.moved ((spec.at pc self.old).next + 4) false (world_of (spec.at pc self.old)) }
     {
-        let next = self.next(pc);
+        let next = if self.slot { self.target } else { pc.next() };
         self.slot = false;
         self.loaded = 0;
         self.pending = false;
@@ -66,15 +55,6 @@ impl Rest {
         self.slot = true;
         self.pending = true;
         next
-    }
-
-    /// The instruction before the next loaded this register.
-    #[inline(always)]
-    pub(crate) fn set_loaded(&mut self, pc: Pc, r: Register)
-        ensures { world_of (spec.at pc self.new) ≡ spec.with_loaded r (world_of (spec.at pc self.old)) }
-    {
-        self.loaded = r.number();
-        self.pending = true;
     }
 
     /// The instruction before the next read HI or LO.
@@ -116,52 +96,16 @@ impl Rest {
         requires plain { ASIDE ≡ false → spec.IsClear self.now }
         ensures { result ≡ (self.now.slot || spec.is_loaded self.now.loaded a b c) }
     {
-        self.is_slot::<ASIDE>() || self.is_loaded::<ASIDE>(a, b, c)
+        (ASIDE && self.slot) || self.is_loaded::<ASIDE>(a, b, c)
     }
 
-    /// Whether the next instruction stands in a delay slot.
+    /// Whether HI and LO may not be set: one of both was read by one of the last two instructions, or the last one
+    /// loaded one of these registers.
     #[inline(always)]
-    pub(crate) fn is_slot<const ASIDE: bool>(&self) -> bool
+    pub(crate) fn is_halves_hazard<const ASIDE: bool>(&self, a: Register, b: Register) -> bool
         requires plain { ASIDE ≡ false → spec.IsClear self.now }
-        ensures { result ≡ self.now.slot }
+        ensures { result ≡ (spec.is_recent self.now.recent || spec.is_loaded self.now.loaded a b b) }
     {
-        ASIDE && self.slot
+        (ASIDE && self.recent != 0) || self.is_loaded::<ASIDE>(a, b, b)
     }
-
-    /// Whether HI or LO was read by one of the last two instructions.
-    #[inline(always)]
-    pub(crate) fn is_recent<const ASIDE: bool>(&self) -> bool
-        requires plain { ASIDE ≡ false → spec.IsClear self.now }
-        ensures { result ≡ spec.is_recent self.now.recent }
-    {
-        ASIDE && self.recent != 0
-    }
-}
-
-/// The address behind the delay slot of a branch.
-#[inline(always)]
-pub(crate) fn link(pc: Pc) -> u32
-    requires { pc < 4294967288 }
-    ensures { result ≡ (pc + 4 + 4) % 4294967296 }
-{
-    pc.address() + 8
-}
-
-/// Where a branch at this address goes that is taken.
-#[inline(always)]
-pub(crate) fn branch_target(pc: Pc, offset: u32) -> Pc
-    requires { pc < 4294967288 }
-    ensures { result ≡ (pc + 4 + 4 * offset) % 4294967296 }
-{
-    pc.next().further(offset)
-}
-
-/// The address of a word of the segment that the delay slot of a jump at this address stands in.
-#[inline(always)]
-pub(crate) fn segment_target(pc: Pc, word: u32) -> Pc
-    requires near { pc < 4294967288 }
-    requires word { word < 67108864 }
-    ensures { result ≡ (pc + 4) / SEGMENT_BYTES * SEGMENT_BYTES + 4 * word }
-{
-    pc.next().in_segment(word)
 }

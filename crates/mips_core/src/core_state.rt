@@ -16,8 +16,8 @@ ghost use Rattle.mips_core.specs.Core.{state_of, data_of, world_of};
 
 use crate::halt::Halt;
 use crate::rest::Rest;
-use crate::table::numbered;
-use code_arena::CodeArena;
+use crate::table::number;
+use code_arena::{CodeArena, FunctionRows};
 use flat_memory::{Memory, make_room, replace};
 use icode_service::{BadService, Service};
 use image_file::Image;
@@ -60,7 +60,8 @@ impl Core {
         let text = image.text().to_vec(alloc)?;
         let memory = Memory::new(alloc, image.text(), image.bytes())?;
         let arena = CodeArena::new(alloc)?;
-        let table = numbered(alloc, image.functions())?;
+        let mut table = FunctionRows::new(alloc)?;
+        number(&mut table, image.functions());
         Ok(Core {
             text,
             rest: Rest::begun(image.entry(), memory, arena, table),
@@ -96,7 +97,7 @@ impl Core {
     pub fn stopped(&self) -> Option<Halt>
         ensures { result ≡ self.now.stopped }
     {
-        self.rest.stopped()
+        self.rest.stopped
     }
 
     /// Executes up to n instructions until the machine stops or a SYSCALL is next, and answers how many of n are left.
@@ -122,7 +123,8 @@ impl Core {
     pub fn is_service_hazard(&self) -> bool
         ensures { result ≡ spec.is_service_hazard (state_of self.now) }
     {
-        self.rest.is_service_hazard()
+        let loaded = self.rest.loaded;
+        loaded == 2 || loaded == 4 || loaded == 5 || loaded == 6
     }
 
     /// A service answers, and the run goes on.

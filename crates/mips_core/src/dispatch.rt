@@ -17,12 +17,8 @@ use mips_encoder::{
 impl Rest {
     #[inline(always)]
     fn execute_regimm<const ASIDE: bool>(&mut self, pc: Pc, w: u32) -> Went
-        requires on { self.old.stopped ≡ None }
-        requires near { pc < 4294967288 }
-        requires plain { ASIDE ≡ false → spec.IsClear self.old }
-        ensures world { world_of (spec.at (spec.went_to result pc) self.new) ≡
-            spec.does (table.of_regimm w) (state_of (spec.at pc self.old)) }
-        ensures went { spec.Leaves ASIDE result pc self.new }
+        requires ready { spec.IsReady ASIDE pc self.old }
+        ensures { spec.Does ASIDE (table.of_regimm w) pc self.old result self.new }
     {
         match w / 65536 % 32 {
             0 => self.branch_on_sign::<ASIDE>(pc, SignTest::Negative, w),
@@ -33,35 +29,11 @@ impl Rest {
         }
     }
 
-    /// A word whose function code is that of SYSCALL: it isn't executed here where it is SYSCALL, and refused else.
-    #[inline(always)]
-    fn pause<const ASIDE: bool>(&mut self, pc: Pc, w: u32) -> Went
-        requires on { self.old.stopped ≡ None }
-        requires code { w % 64 ≡ 12 }
-        ensures service { w ≡ 12 → (result ≡ Went.Service) × (self.new ≡ self.old) }
-        ensures other { w ≢ 12 →
-            (world_of (spec.at (spec.went_to result pc) self.new) ≡
-            spec.does (table.of_special w) (state_of (spec.at pc self.old)))
-            × spec.Leaves ASIDE result pc self.new }
-    {
-        if w == 12 {
-            Went::Service
-        } else {
-            self.fault(MachineKind::Reserved, pc)
-        }
-    }
-
     /// A word with the opcode 0.
     #[inline(always)]
     fn execute_special<const ASIDE: bool>(&mut self, pc: Pc, w: u32) -> Went
-        requires on { self.old.stopped ≡ None }
-        requires near { pc < 4294967288 }
-        requires plain { ASIDE ≡ false → spec.IsClear self.old }
-        ensures service { w ≡ 12 → (result ≡ Went.Service) × (self.new ≡ self.old) }
-        ensures other { w ≢ 12 →
-            (world_of (spec.at (spec.went_to result pc) self.new) ≡
-            spec.does (table.of_special w) (state_of (spec.at pc self.old)))
-            × spec.Leaves ASIDE result pc self.new }
+        requires ready { spec.IsReady ASIDE pc self.old }
+        ensures { spec.Executes ASIDE (table.of_special w) w pc self.old result self.new }
     {
         match w % 64 {
             0 => self.shift::<ASIDE>(pc, ShiftOp::Sll, w),
@@ -72,7 +44,13 @@ impl Rest {
             7 => self.shift_variable::<ASIDE>(pc, ShiftVariableOp::Srav, w),
             8 => self.jump_register::<ASIDE>(pc, w),
             9 => self.jump_and_link_register::<ASIDE>(pc, w),
-            12 => self.pause::<ASIDE>(pc, w),
+            12 => {
+                if w == 12 {
+                    Went::Service
+                } else {
+                    self.fault(MachineKind::Reserved, pc)
+                }
+            }
             13 => self.break_with::<ASIDE>(pc, w),
             16 => self.move_from::<ASIDE>(pc, HiLo::Hi, w),
             17 => self.move_to::<ASIDE>(pc, HiLo::Hi, w),
@@ -110,13 +88,9 @@ impl Rest {
     /// A word with another opcode.
     #[inline(always)]
     fn execute_coded<const ASIDE: bool>(&mut self, pc: Pc, w: u32) -> Went
-        requires on { self.old.stopped ≡ None }
-        requires near { pc < 4294967288 }
-        requires plain { ASIDE ≡ false → spec.IsClear self.old }
+        requires ready { spec.IsReady ASIDE pc self.old }
         requires high { 67108864 ≤ w }
-        ensures world { world_of (spec.at (spec.went_to result pc) self.new) ≡
-            spec.does (table.instr_of w) (state_of (spec.at pc self.old)) }
-        ensures went { spec.Leaves ASIDE result pc self.new }
+        ensures { spec.Does ASIDE (table.instr_of w) pc self.old result self.new }
     {
         match w / 67108864 {
             1 => self.execute_regimm::<ASIDE>(pc, w),
@@ -168,14 +142,8 @@ impl Rest {
     /// one for where something is pending, and one for where nothing is.
     #[inline(always)]
     pub(crate) fn execute<const ASIDE: bool>(&mut self, pc: Pc, w: u32) -> Went
-        requires on { self.old.stopped ≡ None }
-        requires near { pc < 4294967288 }
-        requires plain { ASIDE ≡ false → spec.IsClear self.old }
-        ensures service { w ≡ 12 → (result ≡ Went.Service) × (self.new ≡ self.old) }
-        ensures other { w ≢ 12 →
-            (world_of (spec.at (spec.went_to result pc) self.new) ≡
-            spec.does (table.instr_of w) (state_of (spec.at pc self.old)))
-            × spec.Leaves ASIDE result pc self.new }
+        requires ready { spec.IsReady ASIDE pc self.old }
+        ensures { spec.Executes ASIDE (table.instr_of w) w pc self.old result self.new }
     {
         if w < 67108864 {
             self.execute_special::<ASIDE>(pc, w)

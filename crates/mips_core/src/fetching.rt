@@ -63,17 +63,10 @@ impl Rest {
         }
         match text_word(text, at.pc()) {
             Some(w) => Some(w),
-            None => self.arena_word(at.pc()),
-        }
-    }
-
-    /// The word at an address that isn't in the text, if one is executed there.
-    fn arena_word(&self, pc: Pc) -> Option<u32>
-        ensures { result ≡ spec.word_of (spec.word_past_text (state_of self.now).code pc) }
-    {
-        match self.fetch_from_arena(pc) {
-            Ok(w) => Some(w),
-            Err(_) => None,
+            None => match self.fetch_from_arena(at.pc()) {
+                Ok(w) => Some(w),
+                Err(_) => None,
+            },
         }
     }
 

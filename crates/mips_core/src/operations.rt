@@ -1,7 +1,7 @@
 //! The instructions that compute, one function for each row of the instruction table. Each takes the instruction's
 //! word, and does what the row says that the word's instruction does, Reserved and hazards included.
 
-ghost use Rattle.std.specs.Prelude.{◌≡◌, ◌≢◌, ◌+◌, ◌-◌, ◌*◌, ◌/◌, ◌%◌, ◌<◌, ◌≤◌, ℕ, true, false, None, Some};
+ghost use Rattle.std.specs.Prelude.{◌≡◌, ◌≢◌, ◌+◌, ◌-◌, ◌*◌, ◌/◌, ◌%◌, ◌<◌, ◌≤◌, ◌||◌, ℕ, true, false, None, Some};
 ghost use Rattle.mips_encoder.specs.Decoded as table;
 ghost use Rattle.mips_core.specs.Core as spec;
 ghost use Rattle.mips_core.specs.Core.{state_of, world_of};
@@ -17,76 +17,95 @@ use mips_encoder::{
 };
 
 impl Rest {
+    /// A register takes a value, where it fits, unless the table hasn't the word, or the last instruction loaded one of
+    /// the three registers that its instruction names.
     #[inline(always)]
-    fn give<const ASIDE: bool>(&mut self, pc: Pc, r: Register, v: Option<u32>) -> Went
-        requires on { self.old.stopped ≡ None }
-        requires near { pc < 4294967288 }
-        requires plain { ASIDE ≡ false → spec.IsClear self.old }
-        ensures world { world_of (spec.at (spec.went_to result pc) self.new) ≡
-            spec.given r v (state_of (spec.at pc self.old)) }
-        ensures went { spec.Leaves ASIDE result pc self.new }
+    fn give<const ASIDE: bool>(
+        &mut self,
+        pc: Pc,
+        listed: bool,
+        r: Register,
+        a: Register,
+        b: Register,
+        v: Option<u32>,
+    ) -> Went
+        requires ready { spec.IsReady ASIDE pc self.old }
+        ensures { let s = state_of (spec.at pc self.old) in
+            spec.Acts ASIDE listed (spec.is_loaded self.old.loaded r a b) s (spec.given r v s) result pc self.new }
     {
+        if !listed {
+            return self.fault(MachineKind::Reserved, pc);
+        }
+        if self.is_loaded::<ASIDE>(r, a, b) {
+            return self.fault(MachineKind::Hazard, pc);
+        }
         match v {
             Some(v) => {
+                let next = self.advance::<ASIDE>(pc);
                 self.write(r, v);
-                Went::On(self.advance::<ASIDE>(pc))
+                Went::On(next)
             }
             None => self.fault(MachineKind::Overflow, pc),
         }
     }
 
+    /// HI and LO take values, unless the table hasn't the word, one of both was read lately, or the last instruction
+    /// loaded one of these registers.
     #[inline(always)]
-    pub(crate) fn arithmetic<const ASIDE: bool>(&mut self, pc: Pc, op: ArithmeticOp, w: u32) -> Went
-        requires on { self.old.stopped ≡ None }
-        requires near { pc < 4294967288 }
-        requires plain { ASIDE ≡ false → spec.IsClear self.old }
-        ensures world { world_of (spec.at (spec.went_to result pc) self.new) ≡
-            spec.does (table.arithmetic op w) (state_of (spec.at pc self.old)) }
-        ensures went { spec.Leaves ASIDE result pc self.new }
+    fn set_halves<const ASIDE: bool>(
+        &mut self,
+        pc: Pc,
+        listed: bool,
+        a: Register,
+        b: Register,
+        hi: u32,
+        lo: u32,
+    ) -> Went
+        requires ready { spec.IsReady ASIDE pc self.old }
+        ensures { let k = self.old in let s = state_of (spec.at pc k) in
+            spec.Acts ASIDE listed (spec.is_recent k.recent || spec.is_loaded k.loaded a b b) s
+            (spec.halved hi lo s) result pc self.new }
     {
-        if w / 64 % 32 != 0 {
+        if !listed {
             return self.fault(MachineKind::Reserved, pc);
         }
-        if self.is_loaded::<ASIDE>(rd(w), rs(w), rt(w)) {
+        if self.is_halves_hazard::<ASIDE>(a, b) {
             return self.fault(MachineKind::Hazard, pc);
         }
-        let v = arithmetic(op, self.register(rs(w)), self.register(rt(w)));
-        self.give::<ASIDE>(pc, rd(w), v)
+        let next = self.advance::<ASIDE>(pc);
+        self.hi = hi;
+        self.lo = lo;
+        Went::On(next)
+    }
+
+    #[inline(always)]
+    pub(crate) fn arithmetic<const ASIDE: bool>(&mut self, pc: Pc, op: ArithmeticOp, w: u32) -> Went
+        requires ready { spec.IsReady ASIDE pc self.old }
+        ensures { spec.Does ASIDE (table.arithmetic op w) pc self.old result self.new }
+    {
+        let (a, b) = (rs(w), rt(w));
+        let v = arithmetic(op, self.register(a), self.register(b));
+        self.give::<ASIDE>(pc, w / 64 % 32 == 0, rd(w), a, b, v)
     }
 
     #[inline(always)]
     pub(crate) fn immediate<const ASIDE: bool>(&mut self, pc: Pc, op: ImmediateOp, w: u32) -> Went
-        requires on { self.old.stopped ≡ None }
-        requires near { pc < 4294967288 }
-        requires plain { ASIDE ≡ false → spec.IsClear self.old }
-        ensures world { world_of (spec.at (spec.went_to result pc) self.new) ≡
-            spec.does (table.immediate_arithmetic op w) (state_of (spec.at pc self.old)) }
-        ensures went { spec.Leaves ASIDE result pc self.new }
+        requires ready { spec.IsReady ASIDE pc self.old }
+        ensures { spec.Does ASIDE (table.immediate_arithmetic op w) pc self.old result self.new }
     {
-        if self.is_loaded::<ASIDE>(rt(w), rs(w), rs(w)) {
-            return self.fault(MachineKind::Hazard, pc);
-        }
-        let v = immediate(op, self.register(rs(w)), low_half(w));
-        self.give::<ASIDE>(pc, rt(w), v)
+        let a = rs(w);
+        let v = immediate(op, self.register(a), low_half(w));
+        self.give::<ASIDE>(pc, true, rt(w), a, a, v)
     }
 
     #[inline(always)]
     pub(crate) fn shift<const ASIDE: bool>(&mut self, pc: Pc, op: ShiftOp, w: u32) -> Went
-        requires on { self.old.stopped ≡ None }
-        requires near { pc < 4294967288 }
-        requires plain { ASIDE ≡ false → spec.IsClear self.old }
-        ensures world { world_of (spec.at (spec.went_to result pc) self.new) ≡
-            spec.does (table.shift op w) (state_of (spec.at pc self.old)) }
-        ensures went { spec.Leaves ASIDE result pc self.new }
+        requires ready { spec.IsReady ASIDE pc self.old }
+        ensures { spec.Does ASIDE (table.shift op w) pc self.old result self.new }
     {
-        if w / 2097152 % 32 != 0 {
-            return self.fault(MachineKind::Reserved, pc);
-        }
-        if self.is_loaded::<ASIDE>(rd(w), rt(w), rt(w)) {
-            return self.fault(MachineKind::Hazard, pc);
-        }
-        let v = shifted(op, self.register(rt(w)), shamt(w).bits());
-        self.give::<ASIDE>(pc, rd(w), Some(v))
+        let b = rt(w);
+        let v = shifted(op, self.register(b), shamt(w).bits());
+        self.give::<ASIDE>(pc, w / 2097152 % 32 == 0, rd(w), b, b, Some(v))
     }
 
     #[inline(always)]
@@ -96,61 +115,40 @@ impl Rest {
         op: ShiftVariableOp,
         w: u32,
     ) -> Went
-        requires on { self.old.stopped ≡ None }
-        requires near { pc < 4294967288 }
-        requires plain { ASIDE ≡ false → spec.IsClear self.old }
-        ensures world { world_of (spec.at (spec.went_to result pc) self.new) ≡
-            spec.does (table.shift_variable op w) (state_of (spec.at pc self.old)) }
-        ensures went { spec.Leaves ASIDE result pc self.new }
+        requires ready { spec.IsReady ASIDE pc self.old }
+        ensures { spec.Does ASIDE (table.shift_variable op w) pc self.old result self.new }
     {
-        if w / 64 % 32 != 0 {
-            return self.fault(MachineKind::Reserved, pc);
-        }
-        if self.is_loaded::<ASIDE>(rd(w), rt(w), rs(w)) {
-            return self.fault(MachineKind::Hazard, pc);
-        }
-        let v = shifted(by_number(op), self.register(rt(w)), self.register(rs(w)));
-        self.give::<ASIDE>(pc, rd(w), Some(v))
+        let (a, b) = (rs(w), rt(w));
+        let v = shifted(by_number(op), self.register(b), self.register(a));
+        self.give::<ASIDE>(pc, w / 64 % 32 == 0, rd(w), b, a, Some(v))
     }
 
     #[inline(always)]
     pub(crate) fn load_upper<const ASIDE: bool>(&mut self, pc: Pc, w: u32) -> Went
-        requires on { self.old.stopped ≡ None }
-        requires near { pc < 4294967288 }
-        requires plain { ASIDE ≡ false → spec.IsClear self.old }
-        ensures world { world_of (spec.at (spec.went_to result pc) self.new) ≡
-            spec.does (table.load_upper_immediate w) (state_of (spec.at pc self.old)) }
-        ensures went { spec.Leaves ASIDE result pc self.new }
+        requires ready { spec.IsReady ASIDE pc self.old }
+        ensures { spec.Does ASIDE (table.load_upper_immediate w) pc self.old result self.new }
     {
-        if w / 2097152 % 32 != 0 {
-            return self.fault(MachineKind::Reserved, pc);
-        }
-        if self.is_loaded::<ASIDE>(rt(w), rt(w), rt(w)) {
-            return self.fault(MachineKind::Hazard, pc);
-        }
-        self.give::<ASIDE>(pc, rt(w), Some(w % 65536 * 65536))
+        let r = rt(w);
+        self.give::<ASIDE>(pc, w / 2097152 % 32 == 0, r, r, r, Some(w % 65536 * 65536))
     }
 
     #[inline(always)]
     pub(crate) fn move_from<const ASIDE: bool>(&mut self, pc: Pc, half: HiLo, w: u32) -> Went
-        requires on { self.old.stopped ≡ None }
-        requires near { pc < 4294967288 }
-        requires plain { ASIDE ≡ false → spec.IsClear self.old }
-        ensures world { world_of (spec.at (spec.went_to result pc) self.new) ≡
-            spec.does (table.move_from half w) (state_of (spec.at pc self.old)) }
-        ensures went { spec.Leaves ASIDE result pc self.new }
+        requires ready { spec.IsReady ASIDE pc self.old }
+        ensures { spec.Does ASIDE (table.move_from half w) pc self.old result self.new }
     {
         if w / 65536 != 0 || w / 64 % 32 != 0 {
             return self.fault(MachineKind::Reserved, pc);
         }
-        if self.is_loaded::<ASIDE>(rd(w), rd(w), rd(w)) {
+        let r = rd(w);
+        if self.is_loaded::<ASIDE>(r, r, r) {
             return self.fault(MachineKind::Hazard, pc);
         }
         let v = match half {
             HiLo::Hi => self.hi,
             HiLo::Lo => self.lo,
         };
-        self.write(rd(w), v);
+        self.write(r, v);
         let next = self.advance::<ASIDE>(pc);
         self.set_recent(next);
         Went::Pending(next)
@@ -158,26 +156,17 @@ impl Rest {
 
     #[inline(always)]
     pub(crate) fn move_to<const ASIDE: bool>(&mut self, pc: Pc, half: HiLo, w: u32) -> Went
-        requires on { self.old.stopped ≡ None }
-        requires near { pc < 4294967288 }
-        requires plain { ASIDE ≡ false → spec.IsClear self.old }
-        ensures world { world_of (spec.at (spec.went_to result pc) self.new) ≡
-            spec.does (table.move_to half w) (state_of (spec.at pc self.old)) }
-        ensures went { spec.Leaves ASIDE result pc self.new }
+        requires ready { spec.IsReady ASIDE pc self.old }
+        ensures { spec.Does ASIDE (table.move_to half w) pc self.old result self.new }
     {
-        if w / 64 % 32768 != 0 {
-            return self.fault(MachineKind::Reserved, pc);
-        }
-        if self.is_recent::<ASIDE>() || self.is_loaded::<ASIDE>(rs(w), rs(w), rs(w)) {
-            return self.fault(MachineKind::Hazard, pc);
-        }
-        let v = self.register(rs(w));
-        let next = self.advance::<ASIDE>(pc);
+        let a = rs(w);
+        let v = self.register(a);
+        let listed = w / 64 % 32768 == 0;
+        let (hi, lo) = (self.hi, self.lo);
         match half {
-            HiLo::Hi => self.hi = v,
-            HiLo::Lo => self.lo = v,
+            HiLo::Hi => self.set_halves::<ASIDE>(pc, listed, a, a, v, lo),
+            HiLo::Lo => self.set_halves::<ASIDE>(pc, listed, a, a, hi, v),
         }
-        Went::On(next)
     }
 
     #[inline(always)]
@@ -187,23 +176,11 @@ impl Rest {
         op: MultiplyDivideOp,
         w: u32,
     ) -> Went
-        requires on { self.old.stopped ≡ None }
-        requires near { pc < 4294967288 }
-        requires plain { ASIDE ≡ false → spec.IsClear self.old }
-        ensures world { world_of (spec.at (spec.went_to result pc) self.new) ≡
-            spec.does (table.multiply_divide op w) (state_of (spec.at pc self.old)) }
-        ensures went { spec.Leaves ASIDE result pc self.new }
+        requires ready { spec.IsReady ASIDE pc self.old }
+        ensures { spec.Does ASIDE (table.multiply_divide op w) pc self.old result self.new }
     {
-        if w / 64 % 1024 != 0 {
-            return self.fault(MachineKind::Reserved, pc);
-        }
-        if self.is_recent::<ASIDE>() || self.is_loaded::<ASIDE>(rs(w), rt(w), rt(w)) {
-            return self.fault(MachineKind::Hazard, pc);
-        }
-        let v = multiply_divide(op, self.register(rs(w)), self.register(rt(w)));
-        let next = self.advance::<ASIDE>(pc);
-        self.hi = v.0;
-        self.lo = v.1;
-        Went::On(next)
+        let (a, b) = (rs(w), rt(w));
+        let v = multiply_divide(op, self.register(a), self.register(b));
+        self.set_halves::<ASIDE>(pc, w / 64 % 1024 == 0, a, b, v.0, v.1)
     }
 }

@@ -2,10 +2,13 @@
 
 ghost use Rattle.std.specs.Prelude.{◌≡◌, ◌+◌, ◌-◌, ◌*◌, ◌/◌, ◌%◌, ◌<◌, ◌≤◌, ℕ};
 ghost use Rattle.word32.specs.declared.map.TheConstants.{SEGMENT_BYTES};
+ghost use Rattle.word32.specs.Words.{widened_half};
+ghost use Rattle.mips_encoder.specs.Fields.{immediate};
 ghost use Rattle.mips_core.specs.Places.{place_of};
 
+use crate::arithmetic::widened;
+use mips_encoder::immediate as low_half;
 use std::marker::Model;
-use word32::map;
 
 /// The address of an instruction, kept as the number of its word, counted from the first of the text: so a word of the
 /// text is loaded without a computation. An address that is no multiple of 4 has a number that no word has.
@@ -79,25 +82,27 @@ impl Pc {
         }
     }
 
-    /// The address so many words further on.
+    /// Where a branch of this word, which stands here, goes if it is taken.
     #[inline(always)]
-    pub(crate) fn further(self, words: u32) -> Pc
-        ensures { result ≡ (self + 4 * words) % 4294967296 }
+    pub(crate) fn branch_target(self, w: u32) -> Pc
+        requires { self < 4294967288 }
+        ensures { result ≡ (self + 4 + 4 * widened_half (immediate w)) % 4294967296 }
     {
-        let word = self.word();
-        let to = word / 0x4000_0000 * 0x4000_0000 + word.wrapping_add(words) % 0x4000_0000;
+        let word = self.next().word();
+        let to = word.wrapping_add(widened(low_half(w))) % 0x4000_0000;
         Pc {
-            place: (to as usize).wrapping_sub(0x10_0000),
+            place: ((word / 0x4000_0000 * 0x4000_0000 + to) as usize).wrapping_sub(0x10_0000),
         }
     }
 
-    /// The address of a word of its segment.
+    /// The address of a word of the segment that the delay slot of a jump stands in, which itself stands here.
     #[inline(always)]
-    pub(crate) fn in_segment(self, word: u32) -> Pc
-        requires { word < 67108864 }
-        ensures { result ≡ self / SEGMENT_BYTES * SEGMENT_BYTES + 4 * word }
+    pub(crate) fn segment_target(self, word: u32) -> Pc
+        requires near { self < 4294967288 }
+        requires word { word < 67108864 }
+        ensures { result ≡ (self + 4) / SEGMENT_BYTES * SEGMENT_BYTES + 4 * word }
     {
-        let to = self.word() % 0x4000_0000 / 0x400_0000 * 0x400_0000 + word;
+        let to = self.next().word() % 0x4000_0000 / 0x400_0000 * 0x400_0000 + word;
         Pc {
             place: (to as usize).wrapping_sub(0x10_0000),
         }

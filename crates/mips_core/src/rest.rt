@@ -1,7 +1,7 @@
 //! The registers, the memory and the control of a machine: all of it but the text that is fetched.
 
 ghost use Rattle.std.specs.Prelude.{◌≡◌, ◌≢◌, ◌+◌, ◌-◌, ◌*◌, ◌/◌, ◌%◌, ◌<◌, ◌≤◌, ℕ, true, false, length, IfOk, IfErr};
-ghost use Rattle.std.specs.Prelude.{IfSome, Ok, Err, None, Some, []};
+ghost use Rattle.std.specs.Prelude.{Bool, IfSome, Ok, Err, None, Some, []};
 ghost use Rattle.limits.specs.declared.program.TheConstants.{MOST_FUNCTIONS};
 ghost use Rattle.flat_memory.specs.Regions.{spaces_of};
 ghost use Rattle.code_arena.specs.Kept.{arena_of, rows_of};
@@ -150,14 +150,6 @@ impl Rest {
         self.registers[r.number() as usize]
     }
 
-    /// Why the machine has stopped, if it has.
-    #[inline(always)]
-    pub(crate) fn stopped(&self) -> Option<Halt>
-        ensures { result ≡ self.now.stopped }
-    {
-        self.stopped
-    }
-
     /// Writes a register.
     #[inline(always)]
     pub(crate) fn write(&mut self, r: Register, v: u32)
@@ -177,23 +169,14 @@ impl Rest {
         self.pc = pc;
     }
 
-    /// Stops the machine.
-    #[inline(always)]
-    pub(crate) fn stop(&mut self, halt: Halt)
-        ensures state { state_of self.new ≡ state_of self.old }
-        ensures stopped { self.new.stopped ≡ Some halt }
-    {
-        self.stopped = Some(halt);
-    }
-
     /// The program ends.
     #[cold]
     #[inline(never)]
     pub(crate) fn end(&mut self, e: Ending, pc: Pc) -> Went
-        ensures world { world_of (spec.at pc self.new) ≡ steps.ended (spec.ends e) (state_of (spec.at pc self.old)) }
-        ensures went { (result ≡ Went.Stopped) × (self.new.stopped ≢ None) }
+        ensures { (aside : Bool) →
+            spec.Becomes aside (steps.ended (spec.ends e) (state_of (spec.at pc self.old))) result pc self.new }
     {
-        self.stop(Halt::Ended(e));
+        self.stopped = Some(Halt::Ended(e));
         Went::Stopped
     }
 
@@ -201,10 +184,12 @@ impl Rest {
     #[cold]
     #[inline(never)]
     pub(crate) fn fault(&mut self, kind: MachineKind, pc: Pc) -> Went
+        ensures becomes { (aside : Bool) →
+            spec.Becomes aside (steps.faulted kind (state_of (spec.at pc self.old))) result pc self.new }
         ensures world { world_of (spec.at pc self.new) ≡ steps.faulted kind (state_of (spec.at pc self.old)) }
         ensures went { (result ≡ Went.Stopped) × (self.new.stopped ≢ None) }
     {
-        self.stop(Halt::Fault(kind, pc.address()));
+        self.stopped = Some(Halt::Fault(kind, pc.address()));
         Went::Stopped
     }
 }

@@ -27,13 +27,6 @@ impl Rest {
         self.pc
     }
 
-    /// Whether a SYSCALL would be a hazard: it reads and writes its number, its arguments and its answer.
-    pub(crate) fn is_service_hazard(&self) -> bool
-        ensures { result ≡ spec.is_service_hazard (state_of self.now) }
-    {
-        self.loaded == 2 || self.loaded == 4 || self.loaded == 5 || self.loaded == 6
-    }
-
     /// A service answers, and the run goes on.
     pub(crate) fn answer(&mut self, v: u32)
         requires on { self.old.stopped ≡ None }

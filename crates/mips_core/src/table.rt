@@ -1,6 +1,6 @@
 //! The function table of an image.
 
-ghost use Rattle.std.specs.Prelude.{◌≡◌, ◌+◌, ◌≤◌, ◌<◌, ℕ, length, map, IfOk, Ok, Err};
+ghost use Rattle.std.specs.Prelude.{◌≡◌, ◌+◌, ◌≤◌, ◌<◌, ℕ, length, map};
 ghost use Rattle.limits.specs.declared.program.TheConstants.{MOST_FUNCTIONS};
 ghost use Rattle.code_arena.specs.Kept.{rows_of};
 ghost use Rattle.code_arena.specs.Rows as rows;
@@ -8,7 +8,6 @@ ghost use Rattle.mips_model.specs.Run.{row_of};
 
 use code_arena::FunctionRows;
 use image_file::FunctionEntry;
-use std::alloc::{AllocError, Global};
 
 /// Publishes functions in a table that has none: they are the rows from 1 on, in their order.
 pub(crate) fn number(table: &mut FunctionRows, functions: &[FunctionEntry])
@@ -19,20 +18,4 @@ pub(crate) fn number(table: &mut FunctionRows, functions: &[FunctionEntry])
     for (i, function) in functions.iter().enumerate() {
         table.set(i as u32 + 1, function.address, function.count);
     }
-}
-
-/// The function table in which functions are the rows from 1 on, in their order, and no other is published.
-///
-/// # Errors
-/// Where memory is wanting.
-pub(crate) fn numbered(
-    alloc: Global,
-    functions: &[FunctionEntry],
-) -> Result<FunctionRows, AllocError>
-    requires { length functions.now ≤ MOST_FUNCTIONS }
-    ensures { IfOk result (λ t. rows_of t ≡ rows.numbered (map row_of functions.now)) }
-{
-    let mut table = FunctionRows::new(alloc)?;
-    number(&mut table, functions);
-    Ok(table)
 }

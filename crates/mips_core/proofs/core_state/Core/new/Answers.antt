@@ -15,7 +15,7 @@ returns-clause-state c =
     ∙ ap (λ (words : List ℕ). first words c.bytes.result.now) c.text-2.ensures.value
     ∙ ap (first image.text) c.bytes.ensures.value)
     c.in_ok-arena.ensures
-    (c.in_ok-table.ensures ∙ ap (λ (them : List FunctionEntry). numbered (map row_of them)) c.functions.ensures.value)
+    (c.number.ensures ∙ ap (λ (them : List FunctionEntry). numbered (map row_of them)) c.functions.ensures.value)
 
 pub returns-clause-on : goal.returns-clause-on
 returns-clause-on c = c.begun.ensures.on

@@ -1,37 +1,41 @@
-use Rattle.std.proofs.Common.{ℕ, ◌∙◌, ap}
+use Rattle.std.proofs.Common.{ℕ, ◌+◌, ◌*◌, ◌%◌, ◌∙◌, Bool, refl, sym, ap}
 use Rattle.word32.specs.Words.{widened_half}
 use Rattle.mips_encoder.specs.Fields.{immediate, rs, rt}
+use Rattle.mips_encoder.specs.declared.instruction.EqualityOp.{EqualityOp}
 use Rattle.mips_encoder.specs.declared.instruction.Instr.TheVariants.{BranchOnEquality}
 use Rattle.mips_model.specs.Arithmetic.{equality}
 use Rattle.mips_model.specs.State.{register}
-use Rattle.mips_core.specs.Core.{at, data_of, is_loaded, state_of}
-use Rattle.mips_core.proofs.Rows.{acts, asked_jump, branched, hazard, jump_names_two, out_of_slot}
-use Rattle.mips_core.proofs.Stepped.{halted_world}
+use Rattle.mips_core.specs.Core.{at, branching, data_of, state_of}
+use Rattle.mips_core.proofs.Rows.{both, jump_names_two, jumps}
 use Rattle.mips_core.proofs.rest.Rest.branch_on_equality.Goals as goal
 
-pub returns-then-is_branch_hazard-clause-world : goal.returns-then-is_branch_hazard-clause-world
-returns-then-is_branch_hazard-clause-world g c =
-    let e = c.fault.ensures in
+pub returns-in-Beq : goal.returns-in-Beq
+returns-in-Beq g c =
     let k = c.args.self.now in
     let w = c.args.w in
-    halted_world c.fault.result c.args.pc c.fault.new.self _ e.world e.went
-    ∙ hazard (BranchOnEquality c.args.op (rs w) (rt w) (immediate w)) (state_of (at c.args.pc k))
-    (jump_names_two k (rs w) (rt w)
-    ∙ asked_jump k c.is_branch_hazard.ensures c.if-is_branch_hazard.true c.rs.ensures c.rt.ensures c.rt-2.ensures)
+    let s = state_of (at c.args.pc k) in
+    let r = λ (n : ℕ). register n (data_of k) in
+    let taken = equality c.args.op (r (rs w)) (r (rt w)) in
+    let f = λ (n : ℕ). branching taken ((n + 4 * widened_half (immediate w)) % 4294967296) s in
+    jumps k (BranchOnEquality c.args.op (rs w) (rt w) (immediate w)) f c.branch_to.ensures c.rs-a.ensures c.rt-b.ensures
+    (both (λ (q : Bool) (t : ℕ). branching q t s)
+    (ap (λ (op : EqualityOp). equality op c.register.result c.register-2.result) (sym c.in-Beq.is)
+    ∙ both (equality c.args.op) (c.register.ensures ∙ ap r c.rs-a.ensures) (c.register-2.ensures ∙ ap r c.rt-b.ensures))
+    c.branch_target-to.ensures)
+    (jump_names_two k (rs w) (rt w)) refl refl
 
-pub returns-clause-world : goal.returns-clause-world
-returns-clause-world g c =
+pub returns-in-Bne : goal.returns-in-Bne
+returns-in-Bne g c =
     let k = c.args.self.now in
     let w = c.args.w in
-    let d = data_of k in
-    let clear = asked_jump k c.is_branch_hazard.ensures c.if-is_branch_hazard.false c.rs.ensures c.rt.ensures
-    c.rt-2.ensures in
-    let first = c.register.ensures ∙ ap (λ (r : ℕ). register r d) c.rs-2.ensures in
-    let second = c.register-2.ensures ∙ ap (λ (r : ℕ). register r d) c.rt-3.ensures in
-    branched k c.branch-self.new.self c.args.pc c.branch-self.result (immediate w) c.branch-self.ensures
-    (out_of_slot k.slot (is_loaded k.loaded (rs w) (rt w) (rt w)) clear) c.requires.on
-    (c.equality-taken.ensures ∙ ap (λ (n : ℕ). equality c.args.op n c.register-2.result) first
-    ∙ ap (λ (n : ℕ). equality c.args.op (register (rs w) d) n) second)
-    c.branch_target-to.ensures (c.widened.ensures ∙ ap widened_half c.immediate.ensures)
-    ∙ acts (BranchOnEquality c.args.op (rs w) (rt w) (immediate w)) (state_of (at c.args.pc k))
-    (jump_names_two k (rs w) (rt w) ∙ clear)
+    let s = state_of (at c.args.pc k) in
+    let r = λ (n : ℕ). register n (data_of k) in
+    let taken = equality c.args.op (r (rs w)) (r (rt w)) in
+    let f = λ (n : ℕ). branching taken ((n + 4 * widened_half (immediate w)) % 4294967296) s in
+    jumps k (BranchOnEquality c.args.op (rs w) (rt w) (immediate w)) f c.branch_to-in-Bne.ensures
+    c.rs-a.ensures c.rt-b.ensures
+    (both (λ (q : Bool) (t : ℕ). branching q t s)
+    (ap (λ (op : EqualityOp). equality op c.register.result c.register-2.result) (sym c.in-Bne.is)
+    ∙ both (equality c.args.op) (c.register.ensures ∙ ap r c.rs-a.ensures) (c.register-2.ensures ∙ ap r c.rt-b.ensures))
+    c.branch_target-to.ensures)
+    (jump_names_two k (rs w) (rt w)) refl refl

@@ -121,66 +121,28 @@ overflow_sub-result c =
     let same = c.left.ensures in
     omega (arith, same, some)
 
-pub returns-in-Stopped-clause-ran : goal.returns-in-Stopped-clause-ran
-returns-in-Stopped-clause-ran c =
+pub returns-in-Stopped : goal.returns-in-Stopped
+returns-in-Stopped c =
     let i = c.loop-clear-2.invariant in
     let r : Ran c.args.n c.loop-clear-2.at.left c.loop-clear-2.at.pc c.args.self.now c.loop-clear-2.self =
     record { within = i.within; ran = i.ran; on = i.on; text = i.text } in
     let some = some_left c.loop-clear-2.at.left c.in-Stopped.ensures.spent stopped_not in
     let f = c.in-Stopped.ensures.service some in
     let g = c.in-Stopped.ensures.other some in
-    let some' = subst (λ (m : ℕ). 0 < m) (sym c.left.ensures) some in
-    let r' = along c.left.ensures refl r in
-    let is = stands c.step.new.self c.stand.ensures.core c.pc-in-Stopped.ensures in
-    (stopped {mid = c.loop-clear-2.self} false some' r' f g is).ran
-
-pub returns-in-Stopped-clause-text : goal.returns-in-Stopped-clause-text
-returns-in-Stopped-clause-text c =
-    let i = c.loop-clear-2.invariant in
-    let r : Ran c.args.n c.loop-clear-2.at.left c.loop-clear-2.at.pc c.args.self.now c.loop-clear-2.self =
-    record { within = i.within; ran = i.ran; on = i.on; text = i.text } in
-    let some = some_left c.loop-clear-2.at.left c.in-Stopped.ensures.spent stopped_not in
-    let f = c.in-Stopped.ensures.service some in
-    let g = c.in-Stopped.ensures.other some in
-    let some' = subst (λ (m : ℕ). 0 < m) (sym c.left.ensures) some in
-    let r' = along c.left.ensures refl r in
-    let is = stands c.step.new.self c.stand.ensures.core c.pc-in-Stopped.ensures in
-    same_words c.args.text.now c.requires.text (stopped {mid = c.loop-clear-2.self} false some' r' f g is)
-
-pub returns-in-Stopped-clause-pauses : goal.returns-in-Stopped-clause-pauses
-returns-in-Stopped-clause-pauses c =
-    let i = c.loop-clear-2.invariant in
-    let r : Ran c.args.n c.loop-clear-2.at.left c.loop-clear-2.at.pc c.args.self.now c.loop-clear-2.self =
-    record { within = i.within; ran = i.ran; on = i.on; text = i.text } in
-    let some = some_left c.loop-clear-2.at.left c.in-Stopped.ensures.spent stopped_not in
-    let f = c.in-Stopped.ensures.service some in
-    let g = c.in-Stopped.ensures.other some in
-    let some' = subst (λ (m : ℕ). 0 < m) (sym c.left.ensures) some in
-    let r' = along c.left.ensures refl r in
-    let is = stands c.step.new.self c.stand.ensures.core c.pc-in-Stopped.ensures in
-    pauses_stopped (c.left.result - 1) c.stand.new.self (halts {mid = c.loop-clear-2.self} false r' f g is)
-
-pub returns-in-Stopped-clause-next : goal.returns-in-Stopped-clause-next
-returns-in-Stopped-clause-next c =
-    let i = c.loop-clear-2.invariant in
-    let r : Ran c.args.n c.loop-clear-2.at.left c.loop-clear-2.at.pc c.args.self.now c.loop-clear-2.self =
-    record { within = i.within; ran = i.ran; on = i.on; text = i.text } in
-    let some = some_left c.loop-clear-2.at.left c.in-Stopped.ensures.spent stopped_not in
-    let f = c.in-Stopped.ensures.service some in
-    let g = c.in-Stopped.ensures.other some in
-    let some' = subst (λ (m : ℕ). 0 < m) (sym c.left.ensures) some in
-    let r' = along c.left.ensures refl r in
-    let is = stands c.step.new.self c.stand.ensures.core c.pc-in-Stopped.ensures in
-    λ not on. absurd (halts {mid = c.loop-clear-2.self} false r' f g is on)
-
-pub returns-in-Stopped-clause-within : goal.returns-in-Stopped-clause-within
-returns-in-Stopped-clause-within c =
-    let i = c.loop-clear-2.invariant in
-    let r : Ran c.args.n c.loop-clear-2.at.left c.loop-clear-2.at.pc c.args.self.now c.loop-clear-2.self =
-    record { within = i.within; ran = i.ran; on = i.on; text = i.text } in
-    let within = i.within in
     let same = c.left.ensures in
-    omega (arith, within, same)
+    let some' = subst (λ (m : ℕ). 0 < m) (sym same) some in
+    let r' = along same refl r in
+    let is = stands c.step.new.self c.stand.ensures.core c.pc-in-Stopped.ensures in
+    let ends = stopped {mid = c.loop-clear-2.self} false some' r' f g is in
+    let halted = halts {mid = c.loop-clear-2.self} false r' f g is in
+    let within = i.within in
+    record {
+      within = omega (arith, within, same);
+      ran = ends.ran;
+      pauses = pauses_stopped (c.left.result - 1) c.stand.new.self halted;
+      next = λ not on. absurd (halted on);
+      text = same_words c.args.text.now c.requires.text ends;
+    }
 
 pub overflow_sub-result-in-Stopped-step_aside : goal.overflow_sub-result-in-Stopped-step_aside
 overflow_sub-result-in-Stopped-step_aside c =
@@ -188,8 +150,8 @@ overflow_sub-result-in-Stopped-step_aside c =
     let same = c.left-in-Stopped-step_aside.ensures in
     omega (arith, same, some)
 
-pub returns-in-Stopped-step_aside-clause-ran : goal.returns-in-Stopped-step_aside-clause-ran
-returns-in-Stopped-step_aside-clause-ran c =
+pub returns-in-Stopped-step_aside : goal.returns-in-Stopped-step_aside
+returns-in-Stopped-step_aside c =
     let i = c.loop-clear-2.invariant in
     let r : Ran c.args.n c.loop-clear-2.at.left c.loop-clear-2.at.pc c.args.self.now c.loop-clear-2.self =
     record { within = i.within; ran = i.ran; on = i.on; text = i.text } in
@@ -201,107 +163,40 @@ returns-in-Stopped-step_aside-clause-ran c =
     let r' = along same c.pc-in-Some.ensures r in
     let is = stands c.step_aside.new.self c.stand-in-Stopped-step_aside.ensures.core
     (c.pc-in-Stopped-step_aside.ensures ∙ sym c.pc-in-Some.ensures) in
-    (stopped {mid = c.loop-clear-2.self} true some' r' f g is).ran
-
-pub returns-in-Stopped-step_aside-clause-text : goal.returns-in-Stopped-step_aside-clause-text
-returns-in-Stopped-step_aside-clause-text c =
-    let i = c.loop-clear-2.invariant in
-    let r : Ran c.args.n c.loop-clear-2.at.left c.loop-clear-2.at.pc c.args.self.now c.loop-clear-2.self =
-    record { within = i.within; ran = i.ran; on = i.on; text = i.text } in
-    let some = c.in-Some.ensures.some in
-    let f = c.in-Stopped-step_aside.ensures.service in
-    let g = c.in-Stopped-step_aside.ensures.other in
-    let same = c.left-in-Stopped-step_aside.ensures in
-    let some' = subst (λ (m : ℕ). 0 < m) (sym same) some in
-    let r' = along same c.pc-in-Some.ensures r in
-    let is = stands c.step_aside.new.self c.stand-in-Stopped-step_aside.ensures.core
-    (c.pc-in-Stopped-step_aside.ensures ∙ sym c.pc-in-Some.ensures) in
-    same_words c.args.text.now c.requires.text (stopped {mid = c.loop-clear-2.self} true some' r' f g is)
-
-pub returns-in-Stopped-step_aside-clause-pauses : goal.returns-in-Stopped-step_aside-clause-pauses
-returns-in-Stopped-step_aside-clause-pauses c =
-    let i = c.loop-clear-2.invariant in
-    let r : Ran c.args.n c.loop-clear-2.at.left c.loop-clear-2.at.pc c.args.self.now c.loop-clear-2.self =
-    record { within = i.within; ran = i.ran; on = i.on; text = i.text } in
-    let some = c.in-Some.ensures.some in
-    let f = c.in-Stopped-step_aside.ensures.service in
-    let g = c.in-Stopped-step_aside.ensures.other in
-    let same = c.left-in-Stopped-step_aside.ensures in
-    let some' = subst (λ (m : ℕ). 0 < m) (sym same) some in
-    let r' = along same c.pc-in-Some.ensures r in
-    let is = stands c.step_aside.new.self c.stand-in-Stopped-step_aside.ensures.core
-    (c.pc-in-Stopped-step_aside.ensures ∙ sym c.pc-in-Some.ensures) in
-    pauses_stopped (c.left-in-Stopped-step_aside.result - 1) c.stand-in-Stopped-step_aside.new.self
-    (halts {mid = c.loop-clear-2.self} true r' f g is)
-
-pub returns-in-Stopped-step_aside-clause-next : goal.returns-in-Stopped-step_aside-clause-next
-returns-in-Stopped-step_aside-clause-next c =
-    let i = c.loop-clear-2.invariant in
-    let r : Ran c.args.n c.loop-clear-2.at.left c.loop-clear-2.at.pc c.args.self.now c.loop-clear-2.self =
-    record { within = i.within; ran = i.ran; on = i.on; text = i.text } in
-    let some = c.in-Some.ensures.some in
-    let f = c.in-Stopped-step_aside.ensures.service in
-    let g = c.in-Stopped-step_aside.ensures.other in
-    let same = c.left-in-Stopped-step_aside.ensures in
-    let some' = subst (λ (m : ℕ). 0 < m) (sym same) some in
-    let r' = along same c.pc-in-Some.ensures r in
-    let is = stands c.step_aside.new.self c.stand-in-Stopped-step_aside.ensures.core
-    (c.pc-in-Stopped-step_aside.ensures ∙ sym c.pc-in-Some.ensures) in
-    λ not on. absurd (halts {mid = c.loop-clear-2.self} true r' f g is on)
-
-pub returns-in-Stopped-step_aside-clause-within : goal.returns-in-Stopped-step_aside-clause-within
-returns-in-Stopped-step_aside-clause-within c =
-    let i = c.loop-clear-2.invariant in
-    let r : Ran c.args.n c.loop-clear-2.at.left c.loop-clear-2.at.pc c.args.self.now c.loop-clear-2.self =
-    record { within = i.within; ran = i.ran; on = i.on; text = i.text } in
+    let ends = stopped {mid = c.loop-clear-2.self} true some' r' f g is in
+    let halted = halts {mid = c.loop-clear-2.self} true r' f g is in
     let within = i.within in
-    let same = c.left-in-Stopped-step_aside.ensures in
-    omega (arith, within, same)
+    record {
+      within = omega (arith, within, same);
+      ran = ends.ran;
+      pauses = pauses_stopped (c.left-in-Stopped-step_aside.result - 1) c.stand-in-Stopped-step_aside.new.self halted;
+      next = λ not on. absurd (halted on);
+      text = same_words c.args.text.now c.requires.text ends;
+    }
 
-pub returns-in-Service-clause-ran : goal.returns-in-Service-clause-ran
-returns-in-Service-clause-ran c =
+pub returns-in-Service : goal.returns-in-Service
+returns-in-Service c =
     let i = c.loop-clear-2.invariant in
     let r : Ran c.args.n c.loop-clear-2.at.left c.loop-clear-2.at.pc c.args.self.now c.loop-clear-2.self =
     record { within = i.within; ran = i.ran; on = i.on; text = i.text } in
-    let same = serves_or_spent {pc = c.loop-clear-2.at.pc} c.loop-clear-2.at.left c.in-Service.ensures.spent
-    c.in-Service.ensures.service c.in-Service.ensures.other in
-    let ends = stays (along c.left-in-Service.ensures refl r) same
-    (stands c.step.new.self c.stand-in-Service.ensures.core c.pc-in-Service.ensures) in
-    ends.ran
-
-pub returns-in-Service-clause-text : goal.returns-in-Service-clause-text
-returns-in-Service-clause-text c =
-    let i = c.loop-clear-2.invariant in
-    let r : Ran c.args.n c.loop-clear-2.at.left c.loop-clear-2.at.pc c.args.self.now c.loop-clear-2.self =
-    record { within = i.within; ran = i.ran; on = i.on; text = i.text } in
-    let same = serves_or_spent {pc = c.loop-clear-2.at.pc} c.loop-clear-2.at.left c.in-Service.ensures.spent
-    c.in-Service.ensures.service c.in-Service.ensures.other in
-    let ends = stays (along c.left-in-Service.ensures refl r) same
-    (stands c.step.new.self c.stand-in-Service.ensures.core c.pc-in-Service.ensures) in
-    same_words c.args.text.now c.requires.text ends
-
-pub returns-in-Service-clause-within : goal.returns-in-Service-clause-within
-returns-in-Service-clause-within c =
-    let i = c.loop-clear-2.invariant in
-    let r : Ran c.args.n c.loop-clear-2.at.left c.loop-clear-2.at.pc c.args.self.now c.loop-clear-2.self =
-    record { within = i.within; ran = i.ran; on = i.on; text = i.text } in
+    let e = c.in-Service.ensures in
+    let left = c.left-in-Service.ensures in
+    let here = stands c.step.new.self c.stand-in-Service.ensures.core c.pc-in-Service.ensures in
+    let same = serves_or_spent {pc = c.loop-clear-2.at.pc} c.loop-clear-2.at.left e.spent e.service e.other in
+    let ends = stays (along left refl r) same here in
     let within = i.within in
-    let same = c.left-in-Service.ensures in
-    omega (arith, within, same)
-
-pub returns-in-Service-clause-pauses : goal.returns-in-Service-clause-pauses
-returns-in-Service-clause-pauses c =
-    subst (λ (m : ℕ). Pauses m c.stand-in-Service.new.self) (sym c.left-in-Service.ensures)
-    (serves_next {pc = c.loop-clear-2.at.pc} {mid = c.loop-clear-2.self} {new = c.step.new.self} c.loop-clear-2.at.left
-    c.loop-clear-2.invariant.on c.in-Service.ensures.service c.in-Service.ensures.other
-    (stands c.step.new.self c.stand-in-Service.ensures.core c.pc-in-Service.ensures))
-
-pub returns-in-Service-clause-next : goal.returns-in-Service-clause-next
-returns-in-Service-clause-next c =
-    λ not on.
-    let some = subst (λ (m : ℕ). 0 < m) c.left-in-Service.ensures (some_of c.left-in-Service.result not) in
-    c.stand-in-Service.ensures.next
-    (subst (λ (a : ℕ). a < 4294967288) (sym c.pc-in-Service.ensures) (c.in-Service.ensures.near service_runs some))
+    record {
+      within = omega (arith, within, left);
+      ran = ends.ran;
+      pauses = subst (λ (m : ℕ). Pauses m c.stand-in-Service.new.self) (sym left)
+          (serves_next {pc = c.loop-clear-2.at.pc} {mid = c.loop-clear-2.self} {new = c.step.new.self}
+          c.loop-clear-2.at.left i.on e.service e.other here);
+      next = λ not on.
+          let some = subst (λ (m : ℕ). 0 < m) left (some_of c.left-in-Service.result not) in
+          c.stand-in-Service.ensures.next
+          (subst (λ (a : ℕ). a < 4294967288) (sym c.pc-in-Service.ensures) (e.near service_runs some));
+      text = same_words c.args.text.now c.requires.text ends;
+    }
 
 pub returns-in-Service-step_aside-clause-ran : goal.returns-in-Service-step_aside-clause-ran
 returns-in-Service-step_aside-clause-ran c =
@@ -335,67 +230,28 @@ overflow_sub-result-in-Stopped-went c =
     let same = c.left-in-Stopped-went.ensures in
     omega (arith, same, some)
 
-pub returns-in-Stopped-went-clause-ran : goal.returns-in-Stopped-went-clause-ran
-returns-in-Stopped-went-clause-ran c =
+pub returns-in-Stopped-went : goal.returns-in-Stopped-went
+returns-in-Stopped-went c =
     let i = c.loop-clear-2.invariant in
     let r : Ran c.args.n c.loop-clear-2.at.left c.loop-clear-2.at.pc c.args.self.now c.loop-clear-2.self =
     record { within = i.within; ran = i.ran; on = i.on; text = i.text } in
     let some = some_left c.loop-clear-2.at.left c.in-Stopped-went.ensures.spent stopped_not in
     let e = c.in-Stopped-went.ensures in
-    let some' = subst (λ (m : ℕ). 0 < m) (sym c.left-in-Stopped-went.ensures) some in
-    let r' = along c.left-in-Stopped-went.ensures refl r in
-    let is = stands c.refuse-went.new.self c.stand-in-None.ensures.core c.pc-in-None.ensures in
-    let ends = stops {mid = c.loop-clear-2.self} {new = c.refuse-went.new.self} some' r'
-    (stepped i.on (e.service some) (e.world some) r'.ran) is in
-    ends.ran
-
-pub returns-in-Stopped-went-clause-text : goal.returns-in-Stopped-went-clause-text
-returns-in-Stopped-went-clause-text c =
-    let i = c.loop-clear-2.invariant in
-    let r : Ran c.args.n c.loop-clear-2.at.left c.loop-clear-2.at.pc c.args.self.now c.loop-clear-2.self =
-    record { within = i.within; ran = i.ran; on = i.on; text = i.text } in
-    let some = some_left c.loop-clear-2.at.left c.in-Stopped-went.ensures.spent stopped_not in
-    let e = c.in-Stopped-went.ensures in
-    let some' = subst (λ (m : ℕ). 0 < m) (sym c.left-in-Stopped-went.ensures) some in
-    let r' = along c.left-in-Stopped-went.ensures refl r in
-    let is = stands c.refuse-went.new.self c.stand-in-None.ensures.core c.pc-in-None.ensures in
-    let ends = stops {mid = c.loop-clear-2.self} {new = c.refuse-went.new.self} some' r'
-    (stepped i.on (e.service some) (e.world some) r'.ran) is in
-    same_words c.args.text.now c.requires.text ends
-
-pub returns-in-Stopped-went-clause-within : goal.returns-in-Stopped-went-clause-within
-returns-in-Stopped-went-clause-within c =
-    let i = c.loop-clear-2.invariant in
-    let r : Ran c.args.n c.loop-clear-2.at.left c.loop-clear-2.at.pc c.args.self.now c.loop-clear-2.self =
-    record { within = i.within; ran = i.ran; on = i.on; text = i.text } in
-    let within = i.within in
     let same = c.left-in-Stopped-went.ensures in
-    omega (arith, within, same)
-
-pub returns-in-Stopped-went-clause-pauses : goal.returns-in-Stopped-went-clause-pauses
-returns-in-Stopped-went-clause-pauses c =
-    let i = c.loop-clear-2.invariant in
-    let r : Ran c.args.n c.loop-clear-2.at.left c.loop-clear-2.at.pc c.args.self.now c.loop-clear-2.self =
-    record { within = i.within; ran = i.ran; on = i.on; text = i.text } in
-    let some = some_left c.loop-clear-2.at.left c.in-Stopped-went.ensures.spent stopped_not in
-    let e = c.in-Stopped-went.ensures in
-    let some' = subst (λ (m : ℕ). 0 < m) (sym c.left-in-Stopped-went.ensures) some in
-    let r' = along c.left-in-Stopped-went.ensures refl r in
+    let some' = subst (λ (m : ℕ). 0 < m) (sym same) some in
+    let r' = along same refl r in
     let is = stands c.refuse-went.new.self c.stand-in-None.ensures.core c.pc-in-None.ensures in
-    pauses_stopped (c.left-in-Stopped-went.result - 1) c.stand-in-None.new.self
-    (subst (λ (k : CoreKept). k.stopped ≢ None) (sym is) (e.went some).1)
-
-pub returns-in-Stopped-went-clause-next : goal.returns-in-Stopped-went-clause-next
-returns-in-Stopped-went-clause-next c =
-    let i = c.loop-clear-2.invariant in
-    let r : Ran c.args.n c.loop-clear-2.at.left c.loop-clear-2.at.pc c.args.self.now c.loop-clear-2.self =
-    record { within = i.within; ran = i.ran; on = i.on; text = i.text } in
-    let some = some_left c.loop-clear-2.at.left c.in-Stopped-went.ensures.spent stopped_not in
-    let e = c.in-Stopped-went.ensures in
-    let some' = subst (λ (m : ℕ). 0 < m) (sym c.left-in-Stopped-went.ensures) some in
-    let r' = along c.left-in-Stopped-went.ensures refl r in
-    let is = stands c.refuse-went.new.self c.stand-in-None.ensures.core c.pc-in-None.ensures in
-    λ not on. absurd ((subst (λ (k : CoreKept). k.stopped ≢ None) (sym is) (e.went some).1) on)
+    let ends = stops {mid = c.loop-clear-2.self} {new = c.refuse-went.new.self} some' r'
+    (stepped i.on (e.service some) (e.world some) r'.ran) is in
+    let halted = subst (λ (k : CoreKept). k.stopped ≢ None) (sym is) (e.went some).1 in
+    let within = i.within in
+    record {
+      within = omega (arith, within, same);
+      ran = ends.ran;
+      pauses = pauses_stopped (c.left-in-Stopped-went.result - 1) c.stand-in-None.new.self halted;
+      next = λ not on. absurd (halted on);
+      text = same_words c.args.text.now c.requires.text ends;
+    }
 
 pub returns-in_default : goal.returns-in_default
 returns-in_default c =

@@ -1,10 +1,18 @@
 use Rattle.std.proofs.Common.{sym, false, true, ◌≡◌, ◌∙◌, arith}
-use Rattle.mips_core.proofs.Stepped.{halted_leaves, halted_world}
+use Rattle.mips_core.proofs.Stepped.{executed_at, halted_leaves, halted_world}
 use Rattle.mips_core.proofs.rest.Rest.step.Goals as goal
 
 pub returns-in-Some-clause-spent : goal.returns-in-Some-clause-spent
 returns-in-Some-clause-spent c =
     λ none. let some = c.in-Some.ensures.some in absurd (omega (arith, none, some))
+
+pub returns-in-Some-clause-service : goal.returns-in-Some-clause-service
+returns-in-Some-clause-service c =
+    λ some. (executed_at c.pc.ensures c.in-Some.ensures.word c.requires.on c.execute.ensures).0
+
+pub returns-in-Some-clause-other : goal.returns-in-Some-clause-other
+returns-in-Some-clause-other c =
+    λ some. (executed_at c.pc.ensures c.in-Some.ensures.word c.requires.on c.execute.ensures).1
 
 pub returns-in-None-clause-spent : goal.returns-in-None-clause-spent
 returns-in-None-clause-spent c = c.refuse.ensures.spent

@@ -1,0 +1,23 @@
+use Rattle.std.proofs.Common.{ℕ, ◌+◌, ◌*◌, ◌%◌, ◌∙◌, Bool, refl, ap}
+use Rattle.word32.specs.Words.{widened_half}
+use Rattle.mips_encoder.specs.Fields.{immediate, rs}
+use Rattle.mips_encoder.specs.declared.instruction.Instr.TheVariants.{BranchOnZero}
+use Rattle.mips_model.specs.Arithmetic.{zero_comparison}
+use Rattle.mips_model.specs.State.{register}
+use Rattle.mips_core.specs.Core.{at, branching, data_of, state_of}
+use Rattle.mips_core.proofs.Rows.{both, jump_names_one, jumps}
+use Rattle.mips_core.proofs.rest.Rest.branch_on_zero.Goals as goal
+
+pub returns : goal.returns
+returns g c =
+    let k = c.args.self.now in
+    let w = c.args.w in
+    let s = state_of (at c.args.pc k) in
+    let r = λ (n : ℕ). register n (data_of k) in
+    let taken = zero_comparison c.args.op (r (rs w)) in
+    let f = λ (n : ℕ). branching taken ((n + 4 * widened_half (immediate w)) % 4294967296) s in
+    jumps k (BranchOnZero c.args.op (rs w) (immediate w)) f c.branch_to.ensures c.rs-a.ensures c.rs-a.ensures
+    (both (λ (q : Bool) (t : ℕ). branching q t s)
+    (c.zero_comparison-taken.ensures ∙ ap (zero_comparison c.args.op) (c.register.ensures ∙ ap r c.rs-a.ensures))
+    c.branch_target.ensures)
+    (jump_names_one k (rs w)) refl refl
