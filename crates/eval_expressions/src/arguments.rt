@@ -13,6 +13,7 @@ ghost use Rattle.eval_state.specs.Run.{here, leads, outcome, run_of, world};
 ghost use Rattle.eval_state.specs.Views.{args_view, now_view, target_view};
 
 use eval_simple::at_once;
+use eval_stages::{call, call_number, specify_tick};
 use eval_state::{ExpressionFrame, Frame, Machine, Now, Target};
 use sqlite_items::Items;
 use std::alloc::AllocError;
@@ -130,8 +131,8 @@ fn with_arguments<'a>(
         → heft (now_view n) (run_of m.new) ≤ held (run_of m.old)) }
 {
     match target {
-        Target::Direct(answer, f) => m.call(answer, f, done),
-        Target::Numbered(answer, f) => m.call_number(answer, f, done),
-        Target::Specified(tick, list) => m.specify_tick(tick, list, done),
+        Target::Direct(answer, f) => call(m, answer, f, done),
+        Target::Numbered(answer, f) => call_number(m, answer, f, done),
+        Target::Specified(tick, list) => specify_tick(m, tick, list, done),
     }
 }

@@ -12,6 +12,7 @@ use crate::arguments::first_argument;
 use crate::leaves::{getchar, object, post_generated, post_variable};
 use crate::next::{give, open};
 use crate::operands::binary;
+use eval_stages::{specify_local, splice};
 use eval_state::{ExpressionFrame, Machine, Now, Target};
 use std::alloc::AllocError;
 use typed_tree::Expr;
@@ -84,9 +85,9 @@ fn begin<'a>(m: &mut Machine<'a>, e: &'a Expr) -> Result<Now<'a>, AllocError>
             list.as_slice(),
         ),
         Expr::Capture(_, a) => open(m, ExpressionFrame::Spend, a),
-        Expr::Splice(answer, i) => m.splice(*answer, *i),
+        Expr::Splice(answer, i) => splice(m, *answer, *i),
         Expr::Compile(a) => open(m, ExpressionFrame::Compile, a),
-        Expr::Local => m.specify_local(),
+        Expr::Local => specify_local(m),
         Expr::ParamOf(a) => open(m, ExpressionFrame::ParamOf, a),
     }
 }

@@ -14,6 +14,7 @@ use crate::next::{give, wait};
 use crate::operands::first;
 use crate::operators::second;
 use crate::results::{both, choice, either, library, set_generated, set_variable, truth};
+use eval_stages::{compile, specify_parameter};
 use eval_state::{ExpressionFrame, Machine, Now, Target};
 use meaning_operators::unary_value;
 use std::alloc::AllocError;
@@ -63,8 +64,8 @@ fn take<'a>(m: &mut Machine<'a>, v: u32, frame: ExpressionFrame<'a>) -> Result<N
         ExpressionFrame::Comma(b) => Ok(Now::Eval(b)),
         ExpressionFrame::Void => Ok(Now::Value(0)),
         ExpressionFrame::Lib(kind) => library(m, kind, v),
-        ExpressionFrame::Compile => m.compile(v),
-        ExpressionFrame::ParamOf => m.specify_parameter(v),
+        ExpressionFrame::Compile => compile(m, v),
+        ExpressionFrame::ParamOf => specify_parameter(m, v),
         ExpressionFrame::Function(answer, list) => {
             first_argument(m, Target::Numbered(answer, v), list)
         }

@@ -8,6 +8,7 @@
 
 mod begins;
 mod calls;
+mod captured;
 mod charge;
 mod frames;
 mod generated;
@@ -16,7 +17,6 @@ mod memory;
 mod parts;
 mod pending;
 mod spare;
-mod stages;
 mod state;
 mod variables;
 

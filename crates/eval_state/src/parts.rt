@@ -114,7 +114,7 @@ pub enum ExpressionFrame<'a> {
 }
 
 /// Work within a statement, which waits for the value of an expression.
-#[derive(Drop)]
+#[derive(Clone, Copy)]
 pub enum StatementFrame<'a> {
     /// Drops the value of a statement that is an expression.
     Drop,
@@ -135,7 +135,7 @@ pub enum StatementFrame<'a> {
 }
 
 /// Work that waits for the end of a statement.
-#[derive(Drop)]
+#[derive(Clone, Copy)]
 pub enum EndFrame<'a> {
     /// The items that follow.
     Rest(&'a [Stmt]),

@@ -107,7 +107,7 @@ impl<'a> Machine<'a> {
         self.parts.frames = self.parts.frames.saturating_sub(self.parts.body.object);
         self.parts.depth += 1;
         let left = mem::replace(&mut self.parts.body, caller);
-        self.keep_lists(left);
+        left.keep_lists(&mut self.spare);
     }
 
     /// Takes off what waits for a value or for the end of a body, which is there; none, where nothing is pending.

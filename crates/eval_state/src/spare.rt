@@ -2,7 +2,7 @@
 
 ghost use Rattle.std.specs.Prelude.{◌≡◌, []};
 
-use crate::state::{Body, Machine};
+use crate::state::Machine;
 use sqlite_items::Items;
 
 // A list without its numbers.
@@ -24,23 +24,6 @@ impl<'a> Machine<'a> {
         match self.spare.pop() {
             None => Items::new(self.parts.alloc),
             Some(list) => emptied(list),
-        }
-    }
-
-    // Keeps the lists of a body that was left, as many as its call took: of a compiled function one, since its
-    // arguments stand in two lists and its variables were given none. Where memory is wanting they are dropped.
-    pub(crate) fn keep_lists(&mut self, left: Body)
-        ensures { self.new ≡ self.old }
-    {
-        let Body {
-            variables,
-            arguments,
-            row,
-            ..
-        } = left;
-        drop(self.spare.push(arguments));
-        if row == 0 {
-            drop(self.spare.push(variables));
         }
     }
 }

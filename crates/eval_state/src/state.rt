@@ -17,7 +17,6 @@ pub struct Setting {
 }
 
 /// The variables of generated code that a function has, by their keys: those that were set, and its arguments.
-#[derive(Drop)]
 pub struct Generated {
     /// What its call was passed.
     pub arguments: Items<u32>,
@@ -25,8 +24,17 @@ pub struct Generated {
     pub values: Items<Setting>,
 }
 
+// (derived, each crate that drops one would prove it once more)
+impl Drop for Generated {
+    fn drop(self) {
+        let Generated {
+            arguments: _,
+            values: _,
+        } = self;
+    }
+}
+
 /// The active body.
-#[derive(Drop)]
 pub struct Body {
     /// Its register variables by their numbers; those that follow are 0.
     pub variables: Items<u32>,
@@ -38,6 +46,38 @@ pub struct Body {
     pub object: u32,
     /// The number of the specification whose code runs; 0 in a function of the text.
     pub row: u32,
+}
+
+// (derived, each crate that drops one would prove it once more)
+impl Drop for Body {
+    fn drop(self) {
+        let Body {
+            variables: _,
+            arguments: _,
+            generated: _,
+            object: _,
+            row: _,
+        } = self;
+    }
+}
+
+impl Body {
+    // Keeps the lists of a body that was left, as many as its call took: of a compiled function one, since its
+    // arguments stand in two lists and its variables were given none. Where memory is wanting they are dropped.
+    pub(crate) fn keep_lists(self, spare: &mut Items<Items<u32>>) {
+        let Body {
+            variables,
+            arguments,
+            generated,
+            object: _,
+            row,
+        } = self;
+        drop(generated);
+        drop(spare.push(arguments));
+        if row == 0 {
+            drop(spare.push(variables));
+        }
+    }
 }
 
 /// What is kept of a capture.
@@ -65,7 +105,6 @@ pub enum RowKind {
 }
 
 /// A specification.
-#[derive(Drop)]
 pub struct Row {
     /// What it is.
     pub kind: RowKind,
@@ -77,6 +116,19 @@ pub struct Row {
     pub size: u32,
     /// The parameters of its code.
     pub parameters: u32,
+}
+
+// (derived, each crate that drops one would prove it once more)
+impl Drop for Row {
+    fn drop(self) {
+        let Row {
+            kind: _,
+            tick: _,
+            kept: _,
+            size: _,
+            parameters: _,
+        } = self;
+    }
 }
 
 /// A compiled function.
@@ -156,7 +208,8 @@ pub struct Parts<'a> {
 /// A run from within, which contracts see by its parts.
 #[derive(Drop)]
 pub struct Machine<'a> {
-    pub(crate) parts: Parts<'a>,
+    /// Its parts.
+    pub parts: Parts<'a>,
     // Lists of calls that are over, whose memory serves the next ones.
     pub(crate) spare: Items<Items<u32>>,
 }
