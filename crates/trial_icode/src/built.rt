@@ -20,17 +20,22 @@ fn print_ops<R: Print>(rt: &R, ops: &[Op], registers: u32) -> io::Result<()> {
     println!(rt; " {registers} registers")
 }
 
-// What is made of a list.
+// What is made of a list, whose ops are added to these.
 fn report_list<R: Print>(
     rt: &R,
     builder: &mut Builder,
-    parameters: u32,
-    ops: &[BuildOp],
+    ops: &mut Vec<BuildOp>,
+    list: &str,
 ) -> io::Result<()> {
-    if is_built(rt, builder, parameters, ops)? {
-        return print_ops(rt, builder.ops(), builder.registers());
+    match lines::read(ops, list)? {
+        Some(parameters) => {
+            if is_built(rt, builder, parameters, ops)? {
+                return print_ops(rt, builder.ops(), builder.registers());
+            }
+            Ok(())
+        }
+        None => println!(rt; " no list"),
     }
-    Ok(())
 }
 
 /// Prints what comes of the list that a text says.
@@ -39,12 +44,8 @@ pub(crate) fn report<R: Print + AllocGlobal>(
     builder: &mut Builder,
     list: &str,
 ) -> io::Result<()> {
-    match lines::list(rt.alloc(), list)? {
-        Some((parameters, ops)) => {
-            let printed = report_list(rt, builder, parameters, &ops);
-            drop(ops);
-            printed
-        }
-        None => println!(rt; " no list"),
-    }
+    let mut ops = Vec::new(rt.alloc());
+    let printed = report_list(rt, builder, &mut ops, list);
+    drop(ops);
+    printed
 }

@@ -1,5 +1,7 @@
 //! What a line asks for, one thing after the other.
 
+use crate::lines::numbers;
+
 /// A call of a service, or a look at what the services have left.
 #[derive(Clone, Copy)]
 pub(crate) enum Call {
@@ -32,22 +34,11 @@ pub(crate) enum Call {
     Spills,
 }
 
-// The first word of a text, and the numbers behind it: three at most, and 0 for those that aren't there.
-fn words(text: &str) -> Option<(&str, [u32; 3])> {
-    let (name, rest) = text.trim().split_once(' ').unwrap_or((text.trim(), ""));
-    let mut found = [0; 3];
-    let mut count: usize = 0;
-    for word in rest.split_whitespace() {
-        *found.get_mut(count)? = word.parse::<u32>().ok()?;
-        count = count.saturating_add(1);
-    }
-    Some((name, found))
-}
-
-/// Reads `NUMBER FIRST SECOND THIRD`, `words FIRST COUNT`, `row ROW`, `places` or `spills`, or gives None where the text
-/// isn't of these forms. Numbers at the end that are 0 may be left out.
+/// Reads `NUMBER FIRST SECOND THIRD`, `words FIRST COUNT`, `row ROW`, `places` or `spills`, or gives None where the
+/// text isn't of these forms. Numbers at the end that are 0 may be left out.
 pub(crate) fn read(text: &str) -> Option<Call> {
-    let (name, [first, second, third]) = words(text)?;
+    let (name, rest) = text.trim().split_once(' ').unwrap_or((text.trim(), "0"));
+    let [first, second, third, _] = numbers(rest, ' ')?;
     match name {
         "words" => Some(Call::Words {
             first,

@@ -8,7 +8,7 @@ use crate::form::{self, Form};
 use crate::lines;
 use crate::lists::is_built;
 use icode_expand::expand;
-use icode_ir::Builder;
+use icode_ir::{BuildOp, Builder};
 use icode_ops::Op;
 use std::io;
 
@@ -74,24 +74,24 @@ fn report_placed<R: Print + AllocGlobal>(
     printed
 }
 
-// What comes of a list, with the registers at these places.
+// What comes of a form and a list, whose places and ops are added to these.
 fn report_list<R: Print + AllocGlobal>(
     rt: &R,
     builder: &mut Builder,
-    form: Form,
-    places: &[u8],
-    list: &str,
+    places: &mut Vec<u8>,
+    ops: &mut Vec<BuildOp>,
+    text: &str,
 ) -> io::Result<()> {
-    match lines::list(rt.alloc(), list)? {
-        Some((parameters, ops)) => {
-            let is_finished = is_built(rt, builder, parameters, &ops);
-            drop(ops);
-            if is_finished? {
+    let (form, list) = text.split_once('|').unwrap_or((text, ""));
+    match (form::read(places, form)?, lines::read(ops, list)?) {
+        (Some(form), Some(parameters)) => {
+            if is_built(rt, builder, parameters, ops)? {
                 return report_placed(rt, builder.ops(), form, places);
             }
             Ok(())
         }
-        None => println!(rt; " no list"),
+        (None, _) => println!(rt; " no form"),
+        (Some(_), None) => println!(rt; " no list"),
     }
 }
 
@@ -101,13 +101,10 @@ pub(crate) fn report<R: Print + AllocGlobal>(
     builder: &mut Builder,
     text: &str,
 ) -> io::Result<()> {
-    let (form, list) = text.split_once('|').unwrap_or((text, ""));
-    match form::read(rt.alloc(), form)? {
-        Some((form, places)) => {
-            let printed = report_list(rt, builder, form, &places, list);
-            drop(places);
-            printed
-        }
-        None => println!(rt; " no form"),
-    }
+    let mut places = Vec::new(rt.alloc());
+    let mut ops = Vec::new(rt.alloc());
+    let printed = report_list(rt, builder, &mut places, &mut ops, text);
+    drop(ops);
+    drop(places);
+    printed
 }

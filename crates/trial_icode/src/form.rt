@@ -2,7 +2,7 @@
 //! word, the bytes of the frame and of its objects, `static` or `compiled`, how many words there is room for, and the
 //! places of the registers with commas between them (`-` where all have slots).
 
-use std::alloc::{AllocError, Global};
+use std::alloc::AllocError;
 
 /// A function's place in memory, and its frame.
 #[derive(Clone, Copy)]
@@ -56,15 +56,13 @@ fn push_places(places: &mut Vec<u8>, text: &str) -> Result<bool, AllocError> {
     Ok(true)
 }
 
-/// The form and the places that a text says, or None where it is of another form.
-pub(crate) fn read(alloc: Global, text: &str) -> Result<Option<(Form, Vec<u8>)>, AllocError> {
-    let Some((form, listed)) = form_of(text) else {
-        return Ok(None);
-    };
-    let mut places = Vec::new(alloc);
-    if listed == "-" || push_places(&mut places, listed)? {
-        Ok(Some((form, places)))
-    } else {
-        Ok(None)
+/// The form that a text says, or None where it is of another form. The places are added to these.
+pub(crate) fn read(places: &mut Vec<u8>, text: &str) -> Result<Option<Form>, AllocError> {
+    match form_of(text) {
+        Some((form, listed)) => {
+            let are_all = listed == "-" || push_places(places, listed)?;
+            Ok(are_all.then_some(form))
+        }
+        None => Ok(None),
     }
 }

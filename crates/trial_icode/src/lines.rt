@@ -8,7 +8,7 @@ use icode_ops::{
     ArgumentCount, ArgumentIndex, BinKind, CallAddress, CaptureIndex, ClosureKind, RunKind,
     SysKind, UnKind,
 };
-use std::alloc::{AllocError, Global};
+use std::alloc::AllocError;
 use word32::Width;
 
 fn width(number: u32) -> Option<Width> {
@@ -99,11 +99,11 @@ fn other_op(code: u32, a: u32, b: u32, c: u32) -> Option<BuildOp> {
     Some(op)
 }
 
-// The numbers with commas between them, and 0 for those that aren't there.
-fn numbers(text: &str) -> Option<[u32; 4]> {
+/// The numbers of a text, four at most, with this between them, and 0 for those that aren't there.
+pub(crate) fn numbers(text: &str, between: char) -> Option<[u32; 4]> {
     let mut found = [0; 4];
     let mut count: usize = 0;
-    for word in text.split(',') {
+    for word in text.split(between) {
         *found.get_mut(count)? = word.parse::<u32>().ok()?;
         count = count.saturating_add(1);
     }
@@ -114,7 +114,7 @@ fn numbers(text: &str) -> Option<[u32; 4]> {
 fn repeated_op(word: &str) -> Option<(usize, BuildOp)> {
     let (times, text) = word.split_once('*').unwrap_or(("1", word));
     let times = times.parse::<usize>().ok()?;
-    let [code, a, b, c] = numbers(text)?;
+    let [code, a, b, c] = numbers(text, ',')?;
     let op = match code {
         1..=12 => stack_op(code, a, b),
         13..=20 => control_op(code, a, b),
@@ -142,15 +142,11 @@ fn push_words(ops: &mut Vec<BuildOp>, line: &str) -> Result<bool, AllocError> {
     Ok(true)
 }
 
-/// The count of parameters and the ops, or None where the line isn't of that form.
-pub(crate) fn list(alloc: Global, line: &str) -> Result<Option<(u32, Vec<BuildOp>)>, AllocError> {
+/// Adds the ops of a line, and gives the count of parameters, or None where the line isn't of that form.
+pub(crate) fn read(ops: &mut Vec<BuildOp>, line: &str) -> Result<Option<u32>, AllocError> {
     let (first, rest) = line.trim().split_once(' ').unwrap_or((line.trim(), ""));
-    let Ok(parameters) = first.parse::<u32>() else {
-        return Ok(None);
-    };
-    let mut ops = Vec::new(alloc);
-    if push_words(&mut ops, rest)? {
-        Ok(Some((parameters, ops)))
+    if push_words(ops, rest)? {
+        Ok(first.parse::<u32>().ok())
     } else {
         Ok(None)
     }

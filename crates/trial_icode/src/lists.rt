@@ -62,13 +62,12 @@ fn report_line<R: Print + AllocGlobal>(
 pub(crate) fn report_lines<R: Print + AllocGlobal>(
     rt: &R,
     trial: Trial,
-    file: &[u8],
+    text: &str,
     builder: &mut Builder,
     arena: &mut CodeArena,
     rows: &mut FunctionRows,
 ) -> io::Result<()> {
-    for line in file.split(|b| *b == b'\n') {
-        let line = str::from_utf8(line).unwrap_or("?");
+    for line in text.lines() {
         if !line.is_empty() {
             report_line(rt, trial, line, builder, arena, rows)?;
         }

@@ -34,30 +34,40 @@ fn report_file(
     rows: &mut FunctionRows,
 ) -> io::Result<()> {
     println!(rt; "== {name}")?;
-    let file = fs::read(rt, name)?;
-    let printed = lists::report_lines(rt, trial, &file, builder, arena, rows);
-    drop(file);
+    let text = fs::read_to_string(rt, name)?;
+    let printed = lists::report_lines(rt, trial, &text, builder, arena, rows);
+    drop(text);
     printed
 }
 
 // All files, which have one builder, one arena and one function table.
-fn report_files(rt: &HostRuntime) -> io::Result<()> {
-    let mut builder = Builder::new(rt.alloc())?;
-    let mut arena = CodeArena::new(rt.alloc())?;
+fn report_files(
+    rt: &HostRuntime,
+    builder: &mut Builder,
+    arena: &mut CodeArena,
+    rows: &mut FunctionRows,
+) -> io::Result<()> {
+    report_file(rt, Trial::Built, "built", builder, arena, rows)?;
+    report_file(rt, Trial::Expanded, "expanded", builder, arena, rows)?;
+    report_file(rt, Trial::Served, "served", builder, arena, rows)
+}
+
+// All files with this builder.
+fn report_built(rt: &HostRuntime, builder: &mut Builder) -> io::Result<()> {
     let mut rows = FunctionRows::new(rt.alloc())?;
-    for (trial, name) in [
-        (Trial::Built, "built"),
-        (Trial::Expanded, "expanded"),
-        (Trial::Served, "served"),
-    ] {
-        report_file(rt, trial, name, &mut builder, &mut arena, &mut rows)?;
-    }
-    Ok(())
+    let mut arena = CodeArena::new(rt.alloc())?;
+    let printed = report_files(rt, builder, &mut arena, &mut rows);
+    drop(arena);
+    drop(rows);
+    printed
 }
 
 // What is printed where no function is asked for.
 fn report_all(rt: &HostRuntime) -> io::Result<()> {
-    report_files(rt)?;
+    let mut builder = Builder::new(rt.alloc())?;
+    let printed = report_built(rt, &mut builder);
+    drop(builder);
+    printed?;
     places::report(rt)?;
     println!(rt; "== stages")?;
     stages::report(rt, stages::SMALLEST)

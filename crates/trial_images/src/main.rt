@@ -9,8 +9,9 @@ mod row;
 mod shown;
 mod trial;
 
+use std::io;
 use trial::answer_rows;
 
-fn main(rt: HostRuntime) -> anyhow::Result<()> {
+fn main(rt: HostRuntime) -> io::Result<()> {
     answer_rows(&rt)
 }

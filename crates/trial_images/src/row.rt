@@ -1,101 +1,103 @@
 //! A line of the input.
 
-use hex::decode;
-use std::alloc::Global;
+use crate::generator::Form;
 
-/// What a line says. Bytes of an image file are in hexadecimal digits, a word is eight of them.
-#[derive(Drop)]
+/// What a line says. Bytes of an image file are in hexadecimal digits, a word is eight of them, and a number that isn't
+/// one is 0.
+#[derive(Clone, Copy)]
 pub enum Row<'a> {
     /// `section NAME`: rows of another kind follow, for which the forms so far don't count. Its name is printed.
     Section {
         /// What the kind is called.
         name: &'a str,
     },
-    /// `image NAME STEPS BYTES`: an image file, run for so many steps at most. With `counted` in the place of `image`,
-    /// all counts of services are printed.
-    Given {
-        /// What the image is called.
-        name: &'a str,
-        /// The most steps of its run.
-        steps: u64,
-        /// The file.
-        bytes: Vec<u8>,
-        /// Whether all counts of services are printed.
-        is_counted: bool,
-    },
     /// `form WORD MASK`: a form of instruction for the generator, with the bits that it may set.
     Form {
-        /// The bits that are always set.
-        word: u32,
-        /// The bits that may be.
-        mask: u32,
+        /// The form.
+        form: Form,
     },
+    /// Image files.
+    Images {
+        /// Which, and how they are run.
+        images: Images<'a>,
+        /// The digits of the file that they are or are made from.
+        digits: &'a str,
+    },
+}
+
+/// Which image files are made of one.
+#[derive(Clone, Copy)]
+pub enum Kind {
+    /// `image NAME STEPS BYTES`: the file itself, run for so many steps at most. With `counted` in the place of
+    /// `image`, all counts of services are printed.
+    Given,
     /// `random COUNT STEPS FROM BYTES`: so many image files, each of the given one with random words from a byte on.
-    Random {
-        /// How many files.
-        count: u32,
-        /// The most steps of each run.
-        steps: u64,
-        /// The first byte that isn't kept.
-        from: usize,
-        /// The file that they are made from.
-        bytes: Vec<u8>,
-    },
+    Random,
     /// `mutated COUNT STEPS FROM BYTES`: so many image files, each the given one with one to four bits turned, from a
     /// byte on.
-    Mutated {
-        /// How many files.
-        count: u32,
-        /// The most steps of each run.
-        steps: u64,
-        /// The first byte that may be another.
-        from: usize,
-        /// The file that they are made from.
-        bytes: Vec<u8>,
-    },
+    Mutated,
 }
 
-impl<'a> Row<'a> {
-    /// The row of a line; None where it has another form.
-    pub fn read(alloc: Global, line: &'a str) -> Option<Row<'a>> {
-        let mut words = line.split_whitespace();
-        let kind = words.next()?;
-        match kind {
-            "section" => Some(Row::Section {
-                name: words.next()?,
-            }),
-            "image" | "counted" => Some(Row::Given {
-                name: words.next()?,
-                steps: words.next()?.parse().ok()?,
-                bytes: decode(alloc, words.next()?).ok()?,
-                is_counted: kind == "counted",
-            }),
-            "form" => Some(Row::Form {
-                word: word(words.next()?)?,
-                mask: word(words.next()?)?,
-            }),
-            "random" => Some(Row::Random {
-                count: words.next()?.parse().ok()?,
-                steps: words.next()?.parse().ok()?,
-                from: words.next()?.parse().ok()?,
-                bytes: decode(alloc, words.next()?).ok()?,
-            }),
-            "mutated" => Some(Row::Mutated {
-                count: words.next()?.parse().ok()?,
-                steps: words.next()?.parse().ok()?,
-                from: words.next()?.parse().ok()?,
-                bytes: decode(alloc, words.next()?).ok()?,
-            }),
-            _ => None,
+/// Image files, and how they are run.
+#[derive(Clone, Copy)]
+pub struct Images<'a> {
+    /// Which they are.
+    pub kind: Kind,
+    /// What they are called.
+    pub name: &'a str,
+    /// How many.
+    pub count: u32,
+    /// The most steps of each run.
+    pub steps: u64,
+    /// The first byte that may be another.
+    pub from: usize,
+    /// Whether all counts of services are printed.
+    pub is_counted: bool,
+}
+
+// The first five words of a line; those that aren't there are empty.
+fn words_of(line: &str) -> [&str; 5] {
+    let mut words = line.split_whitespace();
+    [
+        words.next().unwrap_or(""),
+        words.next().unwrap_or(""),
+        words.next().unwrap_or(""),
+        words.next().unwrap_or(""),
+        words.next().unwrap_or(""),
+    ]
+}
+
+/// The row of a line; None where it has another form.
+pub fn read(line: &str) -> Option<Row<'_>> {
+    let [word, first, second, third, fourth] = words_of(line);
+    let kind = match word {
+        "section" => return Some(Row::Section { name: first }),
+        "form" => {
+            let form = Form {
+                word: u32::from_str_radix(first, 16).unwrap_or(0),
+                mask: u32::from_str_radix(second, 16).unwrap_or(0),
+            };
+            return Some(Row::Form { form });
         }
-    }
-}
-
-/// The number that hexadecimal digits spell, where it is below 2 to the power 32.
-fn word(text: &str) -> Option<u32> {
-    let mut number: u32 = 0;
-    for digit in text.chars() {
-        number = number.checked_mul(16)?.checked_add(digit.to_digit(16)?)?;
-    }
-    Some(number)
+        "image" | "counted" => Kind::Given,
+        "random" => Kind::Random,
+        "mutated" => Kind::Mutated,
+        _ => return None,
+    };
+    let is_given = matches!(kind, Kind::Given);
+    Some(Row::Images {
+        images: Images {
+            kind,
+            name: if is_given { first } else { word },
+            count: if is_given {
+                1
+            } else {
+                first.parse().unwrap_or(0)
+            },
+            steps: second.parse().unwrap_or(0),
+            from: third.parse().unwrap_or(0),
+            is_counted: word == "counted",
+        },
+        digits: if is_given { third } else { fourth },
+    })
 }

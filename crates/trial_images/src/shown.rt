@@ -10,13 +10,14 @@ pub struct Shown(pub Stop);
 
 impl fmt::Display for Shown {
     fn fmt<W: fmt::Write>(&self, f: &mut fmt::Formatter<W>) -> fmt::Result {
-        match self.0 {
-            Stop::Ended(Ending::Done(status)) => write!(f, "Done({status})"),
-            Stop::Ended(Ending::Trap(kind)) => write!(f, "Trap({kind:?})"),
-            Stop::Fault(kind, at) => write!(f, "MachineFault({kind:?}, {at:#010x})"),
-            Stop::Steps => write!(f, "OutOfSteps"),
-            Stop::ReadFault => write!(f, "ReadFault"),
-            Stop::WriteFault => write!(f, "WriteFault"),
-        }
+        let name = match self.0 {
+            Stop::Ended(Ending::Done(status)) => return write!(f, "Done({status})"),
+            Stop::Ended(Ending::Trap(kind)) => return write!(f, "Trap({kind:?})"),
+            Stop::Fault(kind, at) => return write!(f, "MachineFault({kind:?}, {at:#010x})"),
+            Stop::Steps => "OutOfSteps",
+            Stop::ReadFault => "ReadFault",
+            Stop::WriteFault => "WriteFault",
+        };
+        f.write_str(name)
     }
 }

@@ -1,14 +1,16 @@
 //! What is seen of the runs.
 
 use crate::generator::{Form, Generator};
-use crate::row::Row;
+use crate::row::{self, Images, Kind, Row};
 use crate::shown::Shown;
-use host_edge::{Counts, MemSink, MemSource};
+use hex::{decode, encode};
+use host_edge::{MemSink, MemSource};
 use image_file::{Image, ImageDeny, read};
 use limits::run::MOST_STEPS;
 use limits::text::LONGEST_IMAGE;
 use mips_machine::{Machine, Stop};
-use std::alloc::Global;
+use std::alloc::{AllocError, Global};
+use std::io;
 
 /// The bytes that a run may put out.
 const ROOM: usize = 16;
@@ -22,37 +24,36 @@ const FIRST: &[u8] = &[
     0,
 ];
 
-/// What is seen of a run: how it stopped, its instructions, what services did, and the bytes that it put out.
-struct Seen {
+/// Prints what is seen of a run: how it stopped, its instructions, what services did, and the bytes that it put out.
+fn print_seen<R: Print + AllocGlobal>(
+    rt: &R,
+    machine: &Machine,
     stop: Stop,
-    steps: u64,
-    counts: Counts,
-    bytes: String<Global>,
-}
-
-/// A machine, which is loaded with each image in turn: to make one takes its memory anew.
-fn made(alloc: Global) -> anyhow::Result<Machine> {
-    match read(alloc, FIRST) {
-        Ok(image) => Ok(Machine::new(alloc, &image)?),
-        Err(_) => Err(anyhow::anyhow!("no first image")),
-    }
-}
-
-/// What is seen of a run of the image.
-fn look(alloc: Global, machine: &mut Machine, image: &Image, most: u64) -> anyhow::Result<Seen> {
-    let mut input = MemSource::new(alloc, INPUT, &[])?;
-    let mut out = MemSink::new(alloc, ROOM, &[])?;
-    machine.load(image)?;
-    let stop = machine.run(&mut input, &mut out, most.min(MOST_STEPS));
+    bytes: &[u8],
+    is_counted: bool,
+) -> io::Result<()> {
+    let bytes = encode(rt.alloc(), bytes)?;
     let steps = machine.steps();
     let counts = machine.counts();
-    let bytes = hex::encode(alloc, out.taken())?;
-    Ok(Seen {
-        stop,
-        steps,
-        counts,
-        bytes,
-    })
+    let printed = if is_counted {
+        println!(rt;
+            "{}, steps {steps}, ops {}, functions {}, words {}, spills {}, flushes {}, out {bytes}.",
+            Shown(stop),
+            counts.ops,
+            counts.functions,
+            counts.words,
+            counts.spills,
+            counts.flushes
+        )
+    } else {
+        println!(rt;
+            "{}, steps {steps}, flushes {}, out {bytes}.",
+            Shown(stop),
+            counts.flushes
+        )
+    };
+    drop(bytes);
+    printed
 }
 
 /// Runs the image, and prints what is seen of it.
@@ -60,24 +61,17 @@ fn run<R: Print + AllocGlobal>(
     rt: &R,
     machine: &mut Machine,
     image: &Image,
-    steps: u64,
+    most: u64,
     is_counted: bool,
-) -> anyhow::Result<()> {
-    let Seen {
-        stop,
-        steps,
-        counts,
-        bytes,
-    } = look(rt.alloc(), machine, image, steps)?;
-    print!(rt; "{}, steps {steps}, ", Shown(stop))?;
-    if is_counted {
-        print!(rt;
-            "ops {}, functions {}, words {}, spills {}, ",
-            counts.ops, counts.functions, counts.words, counts.spills
-        )?;
-    }
-    println!(rt; "flushes {}, out {bytes}.", counts.flushes)?;
-    Ok(())
+) -> io::Result<()> {
+    machine.load(image)?;
+    let mut input = MemSource::new(rt.alloc(), INPUT, &[])?;
+    let mut out = MemSink::new(rt.alloc(), ROOM, &[])?;
+    let stop = machine.run(&mut input, &mut out, most.min(MOST_STEPS));
+    drop(input);
+    let printed = print_seen(rt, machine, stop, out.taken(), is_counted);
+    drop(out);
+    printed
 }
 
 /// Prints what comes of an image file: the rule that it breaks, or what is seen of its run.
@@ -87,50 +81,54 @@ fn try_file<R: Print + AllocGlobal>(
     bytes: &[u8],
     steps: u64,
     is_counted: bool,
-) -> anyhow::Result<()> {
+) -> io::Result<()> {
     if bytes.len() > LONGEST_IMAGE {
-        println!(rt; "too long.")?;
-        return Ok(());
+        return println!(rt; "too long.");
     }
     match read(rt.alloc(), bytes) {
-        Ok(image) => run(rt, machine, &image, steps, is_counted)?,
-        Err(ImageDeny::Bad(fault)) => println!(rt; "BadImage({}).", fault.number())?,
-        Err(ImageDeny::NoMemory) => println!(rt; "no memory.")?,
+        Ok(image) => {
+            let printed = run(rt, machine, &image, steps, is_counted);
+            drop(image);
+            printed
+        }
+        Err(ImageDeny::Bad(fault)) => println!(rt; "BadImage({}).", fault.number()),
+        Err(ImageDeny::NoMemory) => println!(rt; "no memory."),
     }
-    Ok(())
 }
 
-/// Tries so many files with random words.
-fn try_random<R: Print + AllocGlobal>(
-    rt: &R,
-    machine: &mut Machine,
-    count: u32,
-    steps: u64,
-    from: usize,
+/// The file of a number that is made from one.
+fn made(
+    alloc: Global,
+    images: &Images<'_>,
+    number: u32,
     file: &[u8],
     forms: &[Form],
-) -> anyhow::Result<()> {
-    for number in 0..count {
-        print!(rt; "random {number}: ")?;
-        let bytes = Generator::new(number).filled(rt.alloc(), file, from, forms)?;
-        try_file(rt, machine, &bytes, steps, false)?;
+) -> Result<Vec<u8>, AllocError> {
+    let mut generator = Generator::new(number);
+    match images.kind {
+        Kind::Given => file.to_vec(alloc),
+        Kind::Random => generator.filled(alloc, file, images.from, forms),
+        Kind::Mutated => generator.turned(alloc, file, images.from),
     }
-    Ok(())
 }
 
-/// Tries so many files with bits turned.
-fn try_mutated<R: Print + AllocGlobal>(
+/// Tries the files that are made from one.
+fn try_images<R: Print + AllocGlobal>(
     rt: &R,
     machine: &mut Machine,
-    count: u32,
-    steps: u64,
-    from: usize,
+    images: &Images<'_>,
     file: &[u8],
-) -> anyhow::Result<()> {
-    for number in 0..count {
-        print!(rt; "mutated {number}: ")?;
-        let bytes = Generator::new(number).turned(rt.alloc(), file, from)?;
-        try_file(rt, machine, &bytes, steps, false)?;
+    forms: &[Form],
+) -> io::Result<()> {
+    for number in 0..images.count {
+        match images.kind {
+            Kind::Given => print!(rt; "{}: ", images.name)?,
+            _ => print!(rt; "{} {number}: ", images.name)?,
+        }
+        let bytes = made(rt.alloc(), images, number, file, forms)?;
+        let tried = try_file(rt, machine, &bytes, images.steps, images.is_counted);
+        drop(bytes);
+        tried?;
     }
     Ok(())
 }
@@ -141,54 +139,60 @@ fn answer<R: Print + AllocGlobal>(
     machine: &mut Machine,
     row: Row<'_>,
     forms: &mut Vec<Form>,
-) -> anyhow::Result<()> {
+) -> io::Result<()> {
     match row {
         Row::Section { name } => {
             forms.clear();
-            Ok(println!(rt; "== {name}")?)
+            println!(rt; "== {name}")
         }
-        Row::Given {
-            name,
-            steps,
-            bytes,
-            is_counted,
-        } => {
-            print!(rt; "{name}: ")?;
-            try_file(rt, machine, &bytes, steps, is_counted)
-        }
-        Row::Form { word, mask } => Ok(forms.push(Form { word, mask })?),
-        Row::Random {
-            count,
-            steps,
-            from,
-            bytes,
-        } => try_random(rt, machine, count, steps, from, &bytes, forms),
-        Row::Mutated {
-            count,
-            steps,
-            from,
-            bytes,
-        } => try_mutated(rt, machine, count, steps, from, &bytes),
+        Row::Form { form } => Ok(forms.push(form)?),
+        Row::Images { images, digits } => match decode(rt.alloc(), digits) {
+            Ok(file) => {
+                let tried = try_images(rt, machine, &images, &file, forms);
+                drop(file);
+                tried
+            }
+            Err(_) => println!(rt; "no digits"),
+        },
     }
 }
 
-/// Prints what comes of the rows of the standard input, a line each, on one machine.
-fn answer_all<R: Print + Input + AllocGlobal>(rt: &R, machine: &mut Machine) -> anyhow::Result<()> {
-    let mut forms = Vec::new(rt.alloc());
-    for line in rt.lines(rt.alloc()) {
-        let line = line?;
-        match Row::read(rt.alloc(), line.as_str()) {
-            Some(row) => answer(rt, machine, row, &mut forms)?,
+/// Prints what comes of the rows of a text, a line each.
+fn answer_lines<R: Print + AllocGlobal>(
+    rt: &R,
+    machine: &mut Machine,
+    text: &str,
+    forms: &mut Vec<Form>,
+) -> io::Result<()> {
+    for line in text.lines() {
+        match row::read(line) {
+            Some(row) => answer(rt, machine, row, forms)?,
             None => println!(rt; "no row")?,
         }
     }
     Ok(())
 }
 
-/// Prints what comes of the rows of the standard input, a line each.
-pub fn answer_rows<R: Print + Input + AllocGlobal>(rt: &R) -> anyhow::Result<()> {
-    let mut machine = made(rt.alloc())?;
-    let answered = answer_all(rt, &mut machine);
-    drop(machine);
+/// Prints what comes of the rows of the standard input, on one machine.
+fn answer_all<R: Print + Input + AllocGlobal>(rt: &R, machine: &mut Machine) -> io::Result<()> {
+    let text = io::read_to_string(rt.alloc(), rt.reader())?;
+    let mut forms = Vec::new(rt.alloc());
+    let answered = answer_lines(rt, machine, &text, &mut forms);
+    drop(forms);
+    drop(text);
     answered
+}
+
+/// Prints what comes of the rows of the standard input, a line each. The machine is loaded with each image in turn: to
+/// make one takes its memory anew.
+pub fn answer_rows<R: Print + Input + AllocGlobal>(rt: &R) -> io::Result<()> {
+    match read(rt.alloc(), FIRST) {
+        Ok(image) => {
+            let mut machine = Machine::new(rt.alloc(), &image)?;
+            let answered = answer_all(rt, &mut machine);
+            drop(machine);
+            answered
+        }
+        Err(_) => println!(rt; "no first image"),
+    }
 }

@@ -11,50 +11,34 @@ fn is_word(piece: &Piece<'_>, bytes: &[u8]) -> bool {
 }
 
 // Whether the pieces are those of `x : lw $1 , 4 ( $2 )`.
-fn are_so(found: &[Piece<'_>]) -> [bool; 5] {
-    if found.len() != 9 {
-        return [false; 5];
-    }
-    [
-        found[1].is_colon(),
-        found[4].is_comma(),
-        found[6].is_open(),
-        is_word(&found[7], b"$2"),
-        found[8].is_close(),
-    ]
+fn are_so(found: &[Piece<'_>]) -> bool {
+    found.len() == 9
+        && found[1].is_colon()
+        && found[4].is_comma()
+        && found[6].is_open()
+        && is_word(&found[7], b"$2")
+        && found[8].is_close()
 }
 
-fn are_pieces(alloc: Global) -> Result<[bool; 5], AllocError> {
+fn are_pieces(alloc: Global) -> Result<bool, AllocError> {
     let found = pieces(alloc, b"\tx :lw $1, 4($2)\r# y")?;
     Ok(are_so(&found))
 }
 
-#[test]
-fn a_line_has_words_and_marks(rt: HostRuntime) {
-    assert!(rt; are_pieces(rt.alloc()) == Ok([true; 5]));
-}
-
 // Whether a line has the label x, and an instruction in the form of shifts.
-fn is_labelled_shift(line: &Line<'_>) -> [bool; 2] {
-    [
-        matches!(&line.label, Some(name) if name.bytes() == b"x".as_slice()),
-        matches!(
+fn is_labelled_shift(line: &Line<'_>) -> bool {
+    matches!(&line.label, Some(name) if name.bytes() == b"x".as_slice())
+        && matches!(
             &line.statement,
             Statement::Instruction(Draft::Shift(_, _, _, _))
-        ),
-    ]
+        )
 }
 
-fn is_labelled(alloc: Global) -> Result<Option<[bool; 2]>, AllocError> {
+fn is_labelled(alloc: Global) -> Result<bool, AllocError> {
     match line_of(alloc, b"x:nop")? {
-        Some(line) => Ok(Some(is_labelled_shift(&line))),
-        None => Ok(None),
+        Some(line) => Ok(is_labelled_shift(&line)),
+        None => Ok(false),
     }
-}
-
-#[test]
-fn a_label_stands_before_a_statement(rt: HostRuntime) {
-    assert!(rt; is_labelled(rt.alloc()) == Ok(Some([true; 2])));
 }
 
 const RIGHT: [&str; 7] = [
@@ -88,15 +72,6 @@ fn count_lines(alloc: Global, texts: &[&str]) -> u32 {
     count
 }
 
-#[test]
-fn directives_have_their_operands(rt: HostRuntime) {
-    let counts = [
-        count_lines(rt.alloc(), &RIGHT),
-        count_lines(rt.alloc(), &WRONG),
-    ];
-    assert!(rt; counts == [7, 0]);
-}
-
 // Whether blez with these operands is a branch to a label.
 fn is_branch(found: &[Piece<'_>]) -> bool {
     let operation = operation_of(b"blez").unwrap_or(Operation::Syscall);
@@ -115,7 +90,21 @@ fn drafts_branch(alloc: Global) -> Result<bool, AllocError> {
 }
 
 #[test]
-fn operations_take_the_operands_of_their_form(rt: HostRuntime) {
-    assert!(rt; drafts_branch(rt.alloc()) == Ok(true));
-    assert!(rt; target_of(&Word::new(b"$1")).is_none());
+fn lines_and_operands_have_their_forms(rt: HostRuntime) {
+    let are_so = [
+        are_pieces(rt.alloc()),
+        is_labelled(rt.alloc()),
+        drafts_branch(rt.alloc()),
+        Ok(target_of(&Word::new(b"$1")).is_none()),
+    ];
+    assert!(rt; are_so == [Ok(true), Ok(true), Ok(true), Ok(true)]);
+}
+
+#[test]
+fn directives_have_their_operands(rt: HostRuntime) {
+    let counts = [
+        count_lines(rt.alloc(), &RIGHT),
+        count_lines(rt.alloc(), &WRONG),
+    ];
+    assert!(rt; counts == [7, 0]);
 }

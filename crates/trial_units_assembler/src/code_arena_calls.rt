@@ -12,9 +12,11 @@ fn fetched(arena: &CodeArena, at: u32) -> Option<u32>
     arena.fetch(at).ok()
 }
 
-// The word 7 as it was at first, as it is written, as it is flushed, between its neighbours, and as it is written again.
-fn fetched_words(alloc: Global) -> Result<[Option<u32>; 6], AllocError> {
+// Whether the word 7 is executed once it is flushed, and neither as it was at first nor as it is written, and of its
+// neighbours the one that is flushed with it; and words are read unflushed, as they are written.
+fn words_are_flushed_before_they_run(alloc: Global) -> Result<bool, AllocError> {
     let mut arena = CodeArena::new(alloc)?;
+    let last = arena.read(8_388_607);
     let fresh = fetched(&arena, 7);
     arena.write(7, 0x03e0_0008);
     let written = fetched(&arena, 7);
@@ -24,36 +26,29 @@ fn fetched_words(alloc: Global) -> Result<[Option<u32>; 6], AllocError> {
     let behind = fetched(&arena, 8);
     arena.write(7, 5);
     let again = fetched(&arena, 7);
-    Ok([fresh, written, before, flushed, behind, again])
+    let read = [last, arena.read(7)];
+    drop(arena);
+    let found = [fresh, written, before, flushed, behind, again];
+    Ok(found == [None, None, Some(0), Some(0x03e0_0008), None, None] && read == [0, 5])
 }
 
-#[test]
-fn words_are_flushed_before_they_run(rt: HostRuntime) {
-    let wanted = [None, None, Some(0), Some(0x03e0_0008), None, None];
-    assert!(rt; fetched_words(rt.alloc()) == Ok(wanted));
-}
+const UNPUBLISHED: (u32, u32) = (0, 0xffff_ffff);
 
-fn read_words(alloc: Global) -> Result<[u32; 2], AllocError> {
-    let mut arena = CodeArena::new(alloc)?;
-    let last = arena.read(8_388_607);
-    arena.write(7, 5);
-    Ok([last, arena.read(7)])
-}
-
-#[test]
-fn words_are_read_unflushed(rt: HostRuntime) {
-    assert!(rt; read_words(rt.alloc()) == Ok([0, 5]));
-}
-
-fn rows(alloc: Global) -> Result<[(u32, u32); 3], AllocError> {
+// Whether all rows are unpublished at first.
+fn rows_are_unpublished(alloc: Global) -> Result<bool, AllocError> {
     let mut rows = FunctionRows::new(alloc)?;
     let last = rows.get(65_535);
     rows.set(3, 0x0400_0000, 2);
-    Ok([last, rows.get(3), rows.get(4)])
+    let found = [last, rows.get(3), rows.get(4)];
+    drop(rows);
+    Ok(found == [UNPUBLISHED, (0x0400_0000, 2), UNPUBLISHED])
 }
 
 #[test]
-fn rows_are_unpublished_at_first(rt: HostRuntime) {
-    let unpublished = (0, 0xffff_ffff);
-    assert!(rt; rows(rt.alloc()) == Ok([unpublished, (0x0400_0000, 2), unpublished]));
+fn words_and_rows_are_as_they_were_set(rt: HostRuntime) {
+    let are_so = [
+        words_are_flushed_before_they_run(rt.alloc()),
+        rows_are_unpublished(rt.alloc()),
+    ];
+    assert!(rt; are_so == [Ok(true), Ok(true)]);
 }

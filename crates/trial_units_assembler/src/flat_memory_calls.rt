@@ -3,65 +3,67 @@
 use flat_memory::{Access, Memory, Width};
 use std::alloc::{AllocError, Global};
 
-// Words of the bytes of the objects, and what is loaded where a half was stored.
-fn loaded(alloc: Global) -> Result<[Result<u32, Access>; 4], AllocError> {
-    let mut memory = Memory::new(alloc, &[0x3c08_1234, 0x0000_000c], b"Hello")?;
+// Whether the words of the objects' bytes are loaded, and what a half that was stored has made of its place.
+fn loads_and_stores(memory: &mut Memory) -> bool {
     let first = memory.load(0x1000_0000, Width::Word);
     let second = memory.load(0x1000_0004, Width::Word);
     let _ = memory.store(0x7fff_fffe, Width::SignedHalf, 0xffff_f080);
     let word = memory.load(0x7fff_fffc, Width::Word);
     let byte = memory.load(0x7fff_ffff, Width::SignedByte);
-    Ok([first, second, word, byte])
+    [first, second, word, byte]
+        == [
+            Ok(0x4865_6c6c),
+            Ok(0x6f00_0000),
+            Ok(0xf080),
+            Ok(0xffff_ff80),
+        ]
 }
 
-fn fetched(alloc: Global) -> Result<[Option<u32>; 3], AllocError> {
-    let memory = Memory::new(alloc, &[0x3c08_1234, 0x0000_000c], b"Hello")?;
+// Whether a word of the text is fetched, and none behind it or between two.
+fn fetches(memory: &Memory) -> bool {
     let word = memory.fetch(0x0040_0004);
     let behind = memory.fetch(0x0040_0008);
     let between = memory.fetch(0x0040_0002);
-    Ok([word, behind, between])
+    [word, behind, between] == [Some(0x0000_000c), None, None]
 }
 
-#[test]
-fn loads_and_stores(rt: HostRuntime) {
-    let words = [
-        Ok(0x4865_6c6c),
-        Ok(0x6f00_0000),
-        Ok(0xf080),
-        Ok(0xffff_ff80),
-    ];
-    assert!(rt; loaded(rt.alloc()) == Ok(words));
-    assert!(rt; fetched(rt.alloc()) == Ok([Some(0x0000_000c), None, None]));
-}
-
-fn refused_stores(alloc: Global) -> Result<[Result<(), Access>; 5], AllocError> {
-    let mut memory = Memory::new(alloc, &[0x0000_000c], b"")?;
+// Whether stores beside a text of one word are refused in their order.
+fn refuses_stores(memory: &mut Memory) -> bool {
     let outside = memory.store(0x0400_0001, Width::Word, 1);
     let within = memory.store(0x7fff_fffe, Width::SignedHalf, 0xffff_f080);
     let misaligned = memory.store(0x0040_0002, Width::Word, 1);
     let text = memory.store(0x0040_0000, Width::Word, 1);
     let behind = memory.store(0x0040_0004, Width::Word, 1);
-    Ok([outside, within, misaligned, text, behind])
+    [outside, within, misaligned, text, behind]
+        == [
+            Err(Access::Outside),
+            Ok(()),
+            Err(Access::Misaligned),
+            Err(Access::ReadOnly),
+            Err(Access::Outside),
+        ]
 }
 
-fn refused_loads(alloc: Global) -> Result<[Result<u32, Access>; 3], AllocError> {
-    let memory = Memory::new(alloc, &[0x0000_000c], b"")?;
+fn refuses_loads(memory: &Memory) -> bool {
     let outside = memory.load(0x2051_0000, Width::Word);
     let misaligned = memory.load(0x10ff_ffff, Width::Word);
     let byte = memory.load(0x0040_0003, Width::Byte);
-    Ok([outside, misaligned, byte])
+    [outside, misaligned, byte] == [Err(Access::Outside), Err(Access::Misaligned), Ok(0xc)]
+}
+
+fn are_so(alloc: Global) -> Result<[bool; 4], AllocError> {
+    let mut memory = Memory::new(alloc, &[0x3c08_1234, 0x0000_000c], b"Hello")?;
+    let loads = loads_and_stores(&mut memory);
+    let fetches = fetches(&memory);
+    drop(memory);
+    let mut memory = Memory::new(alloc, &[0x0000_000c], b"")?;
+    let refuses = refuses_stores(&mut memory);
+    let refuses_too = refuses_loads(&memory);
+    drop(memory);
+    Ok([loads, fetches, refuses, refuses_too])
 }
 
 #[test]
-fn refuses_in_order(rt: HostRuntime) {
-    let stores = [
-        Err(Access::Outside),
-        Ok(()),
-        Err(Access::Misaligned),
-        Err(Access::ReadOnly),
-        Err(Access::Outside),
-    ];
-    assert!(rt; refused_stores(rt.alloc()) == Ok(stores));
-    let loads = [Err(Access::Outside), Err(Access::Misaligned), Ok(0xc)];
-    assert!(rt; refused_loads(rt.alloc()) == Ok(loads));
+fn memory_is_loaded_and_stored_or_refuses_in_order(rt: HostRuntime) {
+    assert!(rt; are_so(rt.alloc()) == Ok([true; 4]));
 }

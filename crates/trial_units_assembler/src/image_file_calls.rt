@@ -32,11 +32,6 @@ fn reads_two_instructions(alloc: Global) -> Result<bool, AllocError> {
     }
 }
 
-#[test]
-fn two_instructions_are_read_and_written(rt: HostRuntime) {
-    assert!(rt; reads_two_instructions(rt.alloc()) == Ok(true));
-}
-
 fn has_all_parts(image: &Image) -> bool {
     match image.functions() {
         [first] => {
@@ -55,11 +50,6 @@ fn reads_all_parts(alloc: Global) -> bool {
     }
 }
 
-#[test]
-fn all_parts_are_read(rt: HostRuntime) {
-    assert!(rt; reads_all_parts(rt.alloc()));
-}
-
 /// The number of the rule that bytes break, or 0.
 fn broken(alloc: Global, bytes: &[u8]) -> u8
     requires { length bytes.now ≤ 83886080 }
@@ -71,17 +61,25 @@ fn broken(alloc: Global, bytes: &[u8]) -> u8
 }
 
 #[test]
-fn a_cut_and_a_byte_more_are_refused(rt: HostRuntime) {
-    let mut longer = [0; 33];
-    longer[..32].copy_from_slice(&TWO_INSTRUCTIONS);
-    let cut = broken(rt.alloc(), &TWO_INSTRUCTIONS[..23]);
-    assert!(rt; [cut, broken(rt.alloc(), &longer)] == [1, 6]);
+fn images_are_read_and_written(rt: HostRuntime) {
+    let are_read = [
+        reads_two_instructions(rt.alloc()),
+        Ok(reads_all_parts(rt.alloc())),
+    ];
+    assert!(rt; are_read == [Ok(true), Ok(true)]);
 }
 
 #[test]
-fn version_three_is_refused(rt: HostRuntime) {
+fn a_cut_a_byte_more_and_version_three_are_refused(rt: HostRuntime) {
+    let mut longer = [0; 33];
+    longer[..32].copy_from_slice(&TWO_INSTRUCTIONS);
     let mut header = [0; 24];
     header.copy_from_slice(&TWO_INSTRUCTIONS[..24]);
     header[7] = 3;
-    assert!(rt; broken(rt.alloc(), &header) == 3);
+    let numbers = [
+        broken(rt.alloc(), &TWO_INSTRUCTIONS[..23]),
+        broken(rt.alloc(), &longer),
+        broken(rt.alloc(), &header),
+    ];
+    assert!(rt; numbers == [1, 6, 3]);
 }

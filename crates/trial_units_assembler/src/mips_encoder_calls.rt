@@ -21,15 +21,6 @@ fn is_stack_pointer_down_by_eight(instruction: Instr) -> bool {
     }
 }
 
-#[test]
-fn addiu_of_the_stack_pointer_is_decoded(rt: HostRuntime) {
-    let is_so = match decode(0x27bd_fff8) {
-        Some(found) => is_stack_pointer_down_by_eight(found),
-        None => false,
-    };
-    assert!(rt; is_so);
-}
-
 // The word of a jump to the address, or 0.
 fn jump_to(address: u32) -> u32 {
     match JumpTarget::at(address) {
@@ -39,30 +30,34 @@ fn jump_to(address: u32) -> u32 {
 }
 
 #[test]
-fn break_seven_and_a_jump_are_encoded(rt: HostRuntime) {
+fn instructions_are_decoded_and_encoded(rt: HostRuntime) {
     let words = [
-        encode(Instr::Break(BreakCode::new(7))),
-        jump_to(0x0400_0000),
+        Some(encode(Instr::Break(BreakCode::new(7)))),
+        Some(jump_to(0x0400_0000)),
+        again(0x0109_f809),
+        again(0x0100_f809),
     ];
-    assert!(rt; words == [0x0000_01cd, 0x0900_0000]);
+    let wanted = [
+        Some(0x0000_01cd),
+        Some(0x0900_0000),
+        None,
+        Some(0x0100_f809),
+    ];
+    let is_so = match decode(0x27bd_fff8) {
+        Some(found) => is_stack_pointer_down_by_eight(found),
+        None => false,
+    };
+    assert!(rt; words == wanted && is_so);
 }
 
 #[test]
-fn words_outside_the_table_are_none(rt: HostRuntime) {
+fn words_and_operands_outside_their_fields_are_none(rt: HostRuntime) {
     // JR with bits in the shift amount, SYSCALL with a code, JALR with equal registers, BGEZAL of register 31.
     let are_none = [
         decode(0x03e0_0048).is_none(),
         decode(0x0000_004c).is_none(),
         decode(0x0100_4009).is_none(),
         decode(0x07f1_0001).is_none(),
-    ];
-    assert!(rt; are_none == [true; 4]);
-}
-
-#[test]
-fn operands_are_refused_outside_their_fields(rt: HostRuntime) {
-    assert!(rt; Register::checked(31) == Some(Register::RA));
-    let are_none = [
         Register::checked(32).is_none(),
         ShiftAmount::checked(32).is_none(),
         BreakCode::checked(1_048_576).is_none(),
@@ -71,11 +66,7 @@ fn operands_are_refused_outside_their_fields(rt: HostRuntime) {
         JumpTarget::at(6).is_none(),
         LinkPair::checked(Register::RA, Register::RA).is_none(),
         LinkSource::checked(Register::RA).is_none(),
+        Register::checked(31) == Some(Register::RA),
     ];
-    assert!(rt; are_none == [true; 8]);
-}
-
-#[test]
-fn a_word_is_read_and_written_again(rt: HostRuntime) {
-    assert!(rt; [again(0x0109_f809), again(0x0100_f809)] == [None, Some(0x0100_f809)]);
+    assert!(rt; are_none == [true; 13]);
 }

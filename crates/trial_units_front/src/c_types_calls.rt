@@ -9,36 +9,31 @@ use std::alloc::{AllocError, Global};
 
 const LETTER: Base = Base::Integer(Integer::Char);
 
-// What holds of a char, a pointer to one, three of these, and a pointer to anything.
-fn on_small_types(alloc: Global) -> Result<[bool; 7], AllocError> {
-    let letter = TypeRef::new(alloc, LETTER);
-    let pointer = copy(alloc, &letter)?.with(Layer::Pointer)?;
-    let row = copy(alloc, &pointer)?.with(Layer::Array(3))?;
-    let any = TypeRef::new(alloc, Base::Void).with(Layer::Pointer)?;
-    Ok([
-        limited_size(&row) == Some(12),
-        same(&row, &row),
-        converts(&pointer, &any, false),
-        converts(&letter, &any, true),
-        converts(&letter, &any, false),
-        same(&row, &pointer),
-        same(&pointer, &letter),
-    ])
+// The type with one more layer.
+fn over(alloc: Global, t: &TypeRef, layer: Layer) -> Result<TypeRef, AllocError> {
+    copy(alloc, t)?.with(layer)
 }
 
-#[test]
-fn rules_on_types(rt: HostRuntime) {
-    let wanted = [true, true, true, true, false, false, false];
-    assert!(rt; on_small_types(rt.alloc()) == Ok(wanted));
-}
-
-#[test]
-fn rules_on_integers(rt: HostRuntime) {
-    let found = [
-        promoted(Integer::UnsignedShort),
-        common(Integer::Char, Integer::Unsigned),
+// Whether what holds of a char, a pointer to one, three of these, and a pointer to anything is so.
+fn are_small_types(letter: &TypeRef, pointer: &TypeRef, row: &TypeRef, any: &TypeRef) -> bool {
+    let hold = [
+        limited_size(row) == Some(12),
+        same(row, row),
+        converts(pointer, any, false),
+        converts(letter, any, true),
+        converts(letter, any, false),
+        same(row, pointer),
+        same(pointer, letter),
     ];
-    assert!(rt; found == [Integer::Int, Integer::Unsigned]);
+    hold == [true, true, true, true, false, false, false]
+}
+
+fn on_small_types(alloc: Global) -> Result<bool, AllocError> {
+    let letter = TypeRef::new(alloc, LETTER);
+    let any = TypeRef::new(alloc, Base::Void).with(Layer::Pointer)?;
+    let pointer = over(alloc, &letter, Layer::Pointer)?;
+    let row = over(alloc, &pointer, Layer::Array(3))?;
+    Ok(are_small_types(&letter, &pointer, &row, &any))
 }
 
 // An array of pointers to arrays of char.
@@ -61,39 +56,38 @@ fn is_row(
     count: u32,
     bytes: u32,
 ) -> Result<[bool; 2], AllocError> {
-    let row = copy(alloc, element)?.with(Layer::Array(count))?;
+    let row = over(alloc, element, Layer::Array(count))?;
     Ok([same(t, &row), limited_size(&row) == Some(bytes)])
 }
 
-// What holds of 300 pointers to five chars, and of one of them.
-fn on_shared_layers(alloc: Global) -> Result<[[bool; 2]; 6], AllocError> {
+// Whether what holds of 300 pointers to five chars, of 300 to six, and of one of the first is so.
+fn are_shared(
+    alloc: Global,
+    t: &TypeRef,
+    other: &TypeRef,
+    element: &TypeRef,
+) -> Result<bool, AllocError> {
+    let rows = [
+        is_row(alloc, t, element, 300, 1200)?,
+        is_row(alloc, t, element, 301, 1204)?,
+    ];
+    let hold = [
+        limited_size(t) == Some(1200),
+        t.layers().len() == 3,
+        limited_size(element) == Some(4),
+        pointed_size(element) == Some(5),
+        same(t, element),
+        same(t, other),
+    ];
+    Ok(rows == [[true, true], [false, true]] && hold == [true, true, true, true, false, false])
+}
+
+fn on_shared_layers(alloc: Global) -> Result<bool, AllocError> {
     let t = shared_arrays(alloc, 5, 300)?;
     let other = shared_arrays(alloc, 6, 300)?;
     let element = copy(alloc, &t)?.under();
-    Ok([
-        [limited_size(&t) == Some(1200), t.layers().len() == 3],
-        [
-            limited_size(&element) == Some(4),
-            pointed_size(&element) == Some(5),
-        ],
-        is_row(alloc, &t, &element, 300, 1200)?,
-        is_row(alloc, &t, &element, 301, 1204)?,
-        [same(&t, &element), same(&t, &other)],
-        [converts(&element, &other.under(), false), false],
-    ])
-}
-
-#[test]
-fn shared_layers(rt: HostRuntime) {
-    let wanted = [
-        [true, true],
-        [true, true],
-        [true, true],
-        [false, true],
-        [false, false],
-        [false, false],
-    ];
-    assert!(rt; on_shared_layers(rt.alloc()) == Ok(wanted));
+    let are_so = are_shared(alloc, &t, &other, &element)?;
+    Ok(are_so && !converts(&element, &other.under(), false))
 }
 
 fn function(alloc: Global, parameters: Items<CType>) -> Result<CType, AllocError> {
@@ -107,29 +101,29 @@ fn taking(alloc: Global, inner: u32, outer: u32) -> Result<CType, AllocError> {
     function(alloc, list)
 }
 
-// Whether the function has one parameter of three layers, and which of these types convert to its type.
-fn takes(function: &TypeRef, like: &TypeRef, unlike: &TypeRef) -> Option<[bool; 4]> {
+// Whether the function has one parameter of three layers, and of these types the first alone converts to its type.
+fn takes(function: &TypeRef, like: &TypeRef, unlike: &TypeRef) -> bool {
     let layers = function.layers();
     let parameters = layers.parameters();
-    let first = parameters.get(0)?;
-    Some([
-        parameters.len() == 1,
-        first.layers().len() == 3,
-        converts_to(like, &first, false),
-        converts_to(unlike, &first, false),
-    ])
+    match parameters.get(0) {
+        Some(first) => {
+            let hold = [
+                parameters.len() == 1,
+                first.layers().len() == 3,
+                converts_to(like, &first, false),
+                converts_to(unlike, &first, false),
+            ];
+            hold == [true, true, true, false]
+        }
+        None => false,
+    }
 }
 
-fn taken(alloc: Global) -> Result<Option<[bool; 4]>, AllocError> {
+fn is_taken(alloc: Global) -> Result<bool, AllocError> {
     let function = TypeRef::share(alloc, taking(alloc, 5, 300)?)?;
     let like = shared_arrays(alloc, 5, 300)?;
     let unlike = shared_arrays(alloc, 5, 301)?;
     Ok(takes(&function, &like, &unlike))
-}
-
-#[test]
-fn parameters(rt: HostRuntime) {
-    assert!(rt; taken(rt.alloc()) == Ok(Some([true, true, true, false])));
 }
 
 // A function that takes a function that takes an array of so many, and an int.
@@ -140,21 +134,28 @@ fn nested(alloc: Global, count: u32) -> Result<TypeRef, AllocError> {
     TypeRef::share(alloc, function(alloc, list)?)
 }
 
-// Which of such functions, and of pointers to them, are the same.
-fn on_nested(alloc: Global) -> Result<[bool; 4], AllocError> {
+// Whether such functions, and pointers to them, are the same where they should be.
+fn on_nested(alloc: Global) -> Result<bool, AllocError> {
     let t = nested(alloc, 70000)?;
     let like = nested(alloc, 70000)?;
     let unlike = nested(alloc, 4464)?;
-    let pointer = copy(alloc, &t)?.with(Layer::Pointer)?;
-    Ok([
-        same(&t, &like),
-        same(&t, &unlike),
-        same(&t, &pointer),
-        same(&pointer.under(), &like),
-    ])
+    let pointer = over(alloc, &t, Layer::Pointer)?;
+    let are_same = [same(&t, &like), same(&t, &unlike), same(&t, &pointer)];
+    Ok(are_same == [true, false, false] && same(&pointer.under(), &like))
 }
 
 #[test]
-fn lists_in_lists(rt: HostRuntime) {
-    assert!(rt; on_nested(rt.alloc()) == Ok([true, false, false, true]));
+fn rules_on_types(rt: HostRuntime) {
+    let are_so = [
+        on_small_types(rt.alloc()),
+        on_shared_layers(rt.alloc()),
+        is_taken(rt.alloc()),
+        on_nested(rt.alloc()),
+    ];
+    assert!(rt; are_so == [Ok(true), Ok(true), Ok(true), Ok(true)]);
+    let integers = [
+        promoted(Integer::UnsignedShort),
+        common(Integer::Char, Integer::Unsigned),
+    ];
+    assert!(rt; integers == [Integer::Int, Integer::Unsigned]);
 }

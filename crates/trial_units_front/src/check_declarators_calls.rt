@@ -10,15 +10,6 @@ use tick_tree::{Base as Words, Deny, Fault, FaultKind, Prefix, Signedness};
 
 const INT: Base = Base::Integer(Integer::Int);
 
-#[test]
-fn words_name_bases(rt: HostRuntime) {
-    let found = [
-        base_of(Words::Short(Some(Signedness::Unsigned), true)),
-        base_of(Words::Long(None, false)),
-    ];
-    assert!(rt; found == [Base::Integer(Integer::UnsignedShort), INT]);
-}
-
 // The type of x in `int *x[3]`.
 fn array_of_pointers(alloc: Global) -> Result<CType, Deny> {
     let mut steps = Items::new(alloc);
@@ -35,25 +26,19 @@ fn by_layers(alloc: Global) -> Result<CType, AllocError> {
 }
 
 // Whether these types are the same, also when they are shared, and the first is no array as a value.
-fn are_same(alloc: Global, made: CType, wanted: CType) -> Result<[bool; 3], AllocError> {
+fn are_same(alloc: Global, made: CType, wanted: CType) -> Result<bool, AllocError> {
     let are_same = same_ctypes(&made, &wanted);
     let wanted = TypeRef::share(alloc, wanted)?;
     let place = TypeRef::share(alloc, made)?;
     let are_shared = same(&place, &wanted);
     let value = decayed(place)?;
-    Ok([are_same, are_shared, !same(&value, &wanted)])
+    Ok(are_same && are_shared && !same(&value, &wanted))
 }
 
-fn is_array_of_pointers(alloc: Global) -> Result<[bool; 3], Deny> {
+fn is_array_of_pointers(alloc: Global) -> Result<bool, Deny> {
     let made = array_of_pointers(alloc)?;
     let wanted = by_layers(alloc)?;
     Ok(are_same(alloc, made, wanted)?)
-}
-
-#[test]
-fn an_array_of_pointers_is_declared(rt: HostRuntime) {
-    let are_so = is_array_of_pointers(rt.alloc()).unwrap_or([false; 3]);
-    assert!(rt; are_so == [true; 3]);
 }
 
 // The type of x in `int x[0]()`, declared on line 7.
@@ -65,8 +50,9 @@ fn array_without_elements(alloc: Global) -> Result<CType, Deny> {
 }
 
 #[test]
-fn lowest_fault_counts(rt: HostRuntime) {
-    assert!(rt;
+fn types_are_declared_or_refused_by_their_lowest_fault(rt: HostRuntime) {
+    let are_so = [
+        matches!(is_array_of_pointers(rt.alloc()), Ok(true)),
         matches!(
             array_without_elements(rt.alloc()),
             Err(Deny::Refused(Fault {
@@ -74,6 +60,12 @@ fn lowest_fault_counts(rt: HostRuntime) {
                 line: 7,
                 token: 0
             }))
-        )
-    );
+        ),
+    ];
+    assert!(rt; are_so == [true; 2]);
+    let bases = [
+        base_of(Words::Short(Some(Signedness::Unsigned), true)),
+        base_of(Words::Long(None, false)),
+    ];
+    assert!(rt; bases == [Base::Integer(Integer::UnsignedShort), INT]);
 }

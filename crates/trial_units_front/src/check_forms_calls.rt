@@ -11,33 +11,18 @@ fn has_form_with(alloc: Global, op: BinaryOp, right: Expr) -> Result<bool, Alloc
     Ok(has_form(&Expr::Binary(1, op, both)))
 }
 
-#[test]
-fn a_sum_of_numbers_has_the_form(rt: HostRuntime) {
-    let found = [
-        has_form_with(rt.alloc(), BinaryOp::Add, Expr::Character(2)),
-        has_form_with(rt.alloc(), BinaryOp::And, Expr::Number(2, false)),
-    ];
-    assert!(rt; found == [Ok(true), Ok(false)]);
-}
-
 // Whether `(f)` is the name f, and no string.
-fn is_name_in_parentheses(alloc: Global) -> Result<[bool; 2], AllocError> {
+fn is_name_in_parentheses(alloc: Global) -> Result<bool, AllocError> {
     let name = Name::new(alloc, b"f")?;
     let e = Expr::Paren(Boxed::new(alloc, Expr::Name(3, name))?);
     let is_name = matches!(name_of(&e), Some(name) if name.as_slice() == b"f".as_slice());
-    Ok([is_name, string_of(&e).is_none()])
+    Ok(is_name && string_of(&e).is_none())
 }
 
 // Whether `"ab"` is a string of two bytes.
 fn is_string_of_two(alloc: Global) -> Result<bool, AllocError> {
     let e = Expr::String(Items::from_slice(alloc, b"ab")?);
     Ok(matches!(string_of(&e), Some(text) if text.len() == 2))
-}
-
-#[test]
-fn names_and_strings_in_parentheses(rt: HostRuntime) {
-    assert!(rt; is_name_in_parentheses(rt.alloc()) == Ok([true, true]));
-    assert!(rt; is_string_of_two(rt.alloc()) == Ok(true));
 }
 
 fn declarator(alloc: Global, core: Core) -> Declarator {
@@ -57,6 +42,13 @@ fn declares_in_parentheses(alloc: Global) -> Result<bool, AllocError> {
 }
 
 #[test]
-fn a_declarator_in_parentheses(rt: HostRuntime) {
-    assert!(rt; declares_in_parentheses(rt.alloc()) == Ok(true));
+fn small_trees_have_their_forms(rt: HostRuntime) {
+    let are_so = [
+        has_form_with(rt.alloc(), BinaryOp::Add, Expr::Character(2)),
+        has_form_with(rt.alloc(), BinaryOp::And, Expr::Number(2, false)),
+        is_name_in_parentheses(rt.alloc()),
+        is_string_of_two(rt.alloc()),
+        declares_in_parentheses(rt.alloc()),
+    ];
+    assert!(rt; are_so == [Ok(true), Ok(false), Ok(true), Ok(true), Ok(true)]);
 }

@@ -25,15 +25,15 @@ fn walk_twice(alloc: Global, frame: &mut Frame, int: &TypeRef) -> Result<[u32; 3
     Ok([numbers[0], numbers[1], frame.object])
 }
 
-#[test]
-fn marked_variables_are_objects_in_the_next_walk(rt: HostRuntime) {
-    let int = integer(rt.alloc(), Integer::Int);
-    let mut frame = Frame::new(rt.alloc());
-    let found = walk_twice(rt.alloc(), &mut frame, &int);
+// Whether variables that are marked are objects in the next walk.
+fn marked_variables_are_objects(alloc: Global) -> bool {
+    let int = integer(alloc, Integer::Int);
+    let mut frame = Frame::new(alloc);
+    let found = walk_twice(alloc, &mut frame, &int);
     let are_homes = frame.homes.as_slice() == [Home::Register, Home::Object(0)].as_slice();
     drop(frame);
     drop(int);
-    assert!(rt; found == Ok([2, 2, 4]) && are_homes);
+    found == Ok([2, 2, 4]) && are_homes
 }
 
 // The nodes of the block outside and of the one inside, and of both once the one inside has a variable and is left.
@@ -53,12 +53,11 @@ fn nodes_of_blocks(alloc: Global, frame: &mut Frame) -> Result<([usize; 4], u32)
     Ok((enter_and_leave(alloc, frame), frame.object))
 }
 
-#[test]
-fn blocks_have_their_own_nodes(rt: HostRuntime) {
-    let mut frame = Frame::new(rt.alloc());
-    let found = nodes_of_blocks(rt.alloc(), &mut frame);
+fn blocks_have_their_own_nodes(alloc: Global) -> bool {
+    let mut frame = Frame::new(alloc);
+    let found = nodes_of_blocks(alloc, &mut frame);
     drop(frame);
-    assert!(rt; found == Ok(([1, 0, 1, 1], 8)));
+    found == Ok(([1, 0, 1, 1], 8))
 }
 
 // The places of two strings and two globals, and that of a string in the next walk.
@@ -71,12 +70,11 @@ fn places(alloc: Global, image: &mut Image) -> Result<[u32; 5], AllocError> {
     Ok([first, second, globals[0], globals[1], third])
 }
 
-#[test]
-fn strings_stand_at_multiples_of_four(rt: HostRuntime) {
-    let mut image = Image::new(rt.alloc());
-    let found = places(rt.alloc(), &mut image);
+fn strings_stand_at_multiples_of_four(alloc: Global) -> bool {
+    let mut image = Image::new(alloc);
+    let found = places(alloc, &mut image);
     drop(image);
-    assert!(rt; found == Ok([0x1000_0000, 0x1000_0008, 0, 8, 0x1000_000c]));
+    found == Ok([0x1000_0000, 0x1000_0008, 0, 8, 0x1000_000c])
 }
 
 // Which labels are taken: two cases, a default, that again, and a case again.
@@ -90,12 +88,11 @@ fn taken(labels: &mut Labels) -> [bool; 5] {
     ]
 }
 
-#[test]
-fn labels_stand_once(rt: HostRuntime) {
-    let mut labels = Labels::new(rt.alloc());
+fn labels_stand_once(alloc: Global) -> bool {
+    let mut labels = Labels::new(alloc);
     let found = taken(&mut labels);
     drop(labels);
-    assert!(rt; found == [true, true, true, false, false]);
+    found == [true, true, true, false, false]
 }
 
 // The line of the first prototype without a function, or 0.
@@ -128,17 +125,11 @@ fn number_again(alloc: Global, functions: Functions) -> Result<u32, AllocError> 
     Ok(number)
 }
 
-fn defined_twice(alloc: Global) -> Result<([bool; 3], [u32; 3], u32), AllocError> {
+fn functions_stand_once(alloc: Global) -> Result<bool, AllocError> {
     let mut functions = Functions::new(alloc)?;
     let (are_taken, found) = define_twice(alloc, &mut functions);
     let number = number_again(alloc, functions)?;
-    Ok((are_taken, found, number))
-}
-
-#[test]
-fn functions_stand_once(rt: HostRuntime) {
-    let wanted = ([true, true, false], [3, 0, 0], 1);
-    assert!(rt; defined_twice(rt.alloc()) == Ok(wanted));
+    Ok(are_taken == [true, true, false] && found == [3, 0, 0] && number == 1)
 }
 
 fn capture_twice(alloc: Global, ticks: &mut Ticks) -> Result<[u32; 2], AllocError> {
@@ -154,12 +145,25 @@ fn leaves_the_first(alloc: Global, ticks: &mut Ticks) -> Result<bool, AllocError
     Ok(matches!(node.get(), Expr::Tick(0, _)))
 }
 
-#[test]
-fn ticks_have_the_number_of_those_before(rt: HostRuntime) {
-    let mut ticks = Ticks::new(rt.alloc());
-    let numbers = capture_twice(rt.alloc(), &mut ticks);
-    let is_first = leaves_the_first(rt.alloc(), &mut ticks);
+// Whether ticks have the number of those before, and captures too.
+fn ticks_are_numbered(alloc: Global) -> bool {
+    let mut ticks = Ticks::new(alloc);
+    let numbers = capture_twice(alloc, &mut ticks);
+    let is_first = leaves_the_first(alloc, &mut ticks);
     let are_gone = ticks.captures.is_empty();
     drop(ticks);
-    assert!(rt; numbers == Ok([0, 1]) && is_first == Ok(true) && are_gone);
+    numbers == Ok([0, 1]) && is_first == Ok(true) && are_gone
+}
+
+#[test]
+fn tables_keep_what_they_are_told(rt: HostRuntime) {
+    let are_so = [
+        marked_variables_are_objects(rt.alloc()),
+        blocks_have_their_own_nodes(rt.alloc()),
+        strings_stand_at_multiples_of_four(rt.alloc()),
+        labels_stand_once(rt.alloc()),
+        ticks_are_numbered(rt.alloc()),
+    ];
+    assert!(rt; are_so == [true; 5]);
+    assert!(rt; functions_stand_once(rt.alloc()) == Ok(true));
 }

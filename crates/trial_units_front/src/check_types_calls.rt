@@ -9,9 +9,9 @@ use icode_ops::UnKind;
 use std::alloc::{AllocError, Global};
 use word32::Width;
 
-// What holds of a char and of the int that it becomes, and then what doesn't.
-fn are_letter_and_word(letter: &TypeRef, word: &TypeRef) -> [bool; 7] {
-    [
+// Whether a char and the int that it becomes are what they are, and aren't what they aren't.
+fn are_letter_and_word(letter: &TypeRef, word: &TypeRef) -> bool {
+    let hold = [
         is_integer(letter),
         matches!(width_of(letter), Width::SignedByte),
         is_word(word),
@@ -19,27 +19,27 @@ fn are_letter_and_word(letter: &TypeRef, word: &TypeRef) -> [bool; 7] {
         matches!(conversion(word, letter), Some(UnKind::SignedByte)),
         is_word(letter),
         decays(letter),
-    ]
+    ];
+    hold == [true, true, true, true, true, false, false]
 }
 
-#[test]
-fn a_char_becomes_an_int(rt: HostRuntime) {
-    let letter = integer(rt.alloc(), Integer::Char);
-    let word = promoted_type(rt.alloc(), integer(rt.alloc(), Integer::Char));
-    let found = are_letter_and_word(&letter, &word);
-    drop(word);
-    drop(letter);
-    assert!(rt; found == [true, true, true, true, true, false, false]);
+fn becomes_word(alloc: Global) -> bool {
+    let letter = integer(alloc, Integer::Char);
+    let word = promoted_type(alloc, integer(alloc, Integer::Char));
+    are_letter_and_word(&letter, &word)
 }
 
-fn is_pointer_to_letter(alloc: Global) -> Result<[bool; 3], AllocError> {
+fn is_pointer_to_letter(alloc: Global) -> Result<bool, AllocError> {
     let pointer = over(Layer::Pointer, integer(alloc, Integer::Char))?;
-    let is_one = is_pointer(&pointer);
-    let is_one_word = is_word(&pointer);
-    Ok([is_one, is_one_word, is_integer(&inner(pointer))])
+    let is_one = is_pointer(&pointer) && is_word(&pointer);
+    Ok(is_one && is_integer(&inner(pointer)))
 }
 
 #[test]
-fn a_pointer_to_a_char_is_a_word(rt: HostRuntime) {
-    assert!(rt; is_pointer_to_letter(rt.alloc()) == Ok([true; 3]));
+fn a_char_becomes_an_int_and_a_pointer_to_it_is_a_word(rt: HostRuntime) {
+    let are_so = [
+        Ok(becomes_word(rt.alloc())),
+        is_pointer_to_letter(rt.alloc()),
+    ];
+    assert!(rt; are_so == [Ok(true), Ok(true)]);
 }

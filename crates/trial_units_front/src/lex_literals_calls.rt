@@ -3,24 +3,6 @@
 use lex_literals::{Closing, append_string, character_at, character_value, closing_of, numeral_at};
 use std::alloc::Global;
 
-#[test]
-fn reads_numbers_and_characters(rt: HostRuntime) {
-    let hex = numeral_at(b"0x7fU;");
-    let are_so = [
-        hex.len == 5 && hex.value == Some(127) && hex.unsigned,
-        numeral_at(b"4294967296").value == None,
-        character_at(b"\\400").is_none(),
-        character_value(b"\\377'") == 4294967295,
-    ];
-    assert!(rt; are_so == [true; 4]);
-}
-
-#[test]
-fn literals_are_closed_on_their_line(rt: HostRuntime) {
-    let found = [closing_of(b'\'', b"\\''x"), closing_of(b'"', b"a\n\"")];
-    assert!(rt; found == [Closing::Closed(3, 1), Closing::Open]);
-}
-
 // Whether the string has the bytes that it spells.
 fn is_appended(alloc: Global) -> bool {
     let mut bytes = Vec::new(alloc);
@@ -29,6 +11,17 @@ fn is_appended(alloc: Global) -> bool {
 }
 
 #[test]
-fn strings_spell_their_bytes(rt: HostRuntime) {
-    assert!(rt; is_appended(rt.alloc()));
+fn reads_numbers_characters_and_strings(rt: HostRuntime) {
+    let hex = numeral_at(b"0x7fU;");
+    let are_so = [
+        hex.len == 5 && hex.value == Some(127) && hex.unsigned,
+        numeral_at(b"4294967296").value == None,
+        character_at(b"\\400").is_none(),
+        character_value(b"\\377'") == 4294967295,
+        is_appended(rt.alloc()),
+    ];
+    assert!(rt; are_so == [true; 5]);
+    // literals are closed on their line
+    let found = [closing_of(b'\'', b"\\''x"), closing_of(b'"', b"a\n\"")];
+    assert!(rt; found == [Closing::Closed(3, 1), Closing::Open]);
 }

@@ -21,18 +21,13 @@ fn nodes_of_body(alloc: Global) -> Result<u32, AllocError> {
     Ok(statement_size(body.get()))
 }
 
-#[test]
-fn a_body_of_two_statements_has_six_nodes(rt: HostRuntime) {
-    assert!(rt; nodes_of_body(rt.alloc()) == Ok(6));
-}
-
 // f()
 fn call(alloc: Global) -> Result<Boxed<Expr>, AllocError> {
     Boxed::new(alloc, Expr::Call(Answer::Void, 1, Items::new(alloc)))
 }
 
-// The size of f(),getchar(), and whether a value is left by f(), by that, and by that as void.
-fn comma_of_call(alloc: Global) -> Result<(u32, [bool; 3]), AllocError> {
+// Whether f(),getchar() has three nodes, f() leaves no value, that one, and that as void none.
+fn comma_of_call(alloc: Global) -> Result<bool, AllocError> {
     let called = call(alloc)?;
     let first = has_value(called.get());
     let byte = Boxed::new(alloc, Expr::Getchar)?;
@@ -40,10 +35,11 @@ fn comma_of_call(alloc: Global) -> Result<(u32, [bool; 3]), AllocError> {
     let second = has_value(both.get());
     let nodes = size(both.get());
     let none = void(alloc, both)?;
-    Ok((nodes, [first, second, has_value(none.get())]))
+    Ok(nodes == 3 && [first, second, has_value(none.get())] == [false, true, false])
 }
 
 #[test]
-fn a_comma_leaves_its_last_value(rt: HostRuntime) {
-    assert!(rt; comma_of_call(rt.alloc()) == Ok((3, [false, true, false])));
+fn trees_have_their_nodes_and_values(rt: HostRuntime) {
+    // a body of two statements has six nodes
+    assert!(rt; nodes_of_body(rt.alloc()) == Ok(6) && comma_of_call(rt.alloc()) == Ok(true));
 }

@@ -5,43 +5,52 @@ use icode_ops::{
     SysKind, UnKind,
 };
 
-#[test]
-fn numbers_within_their_bounds_are_taken(rt: HostRuntime) {
-    let are_taken = [
-        ArgumentCount::new(8).is_some_and(|n| n.get() == 8),
-        ArgumentIndex::new(7).is_some_and(|n| n.get() == 7),
-        CaptureIndex::new(32_767).is_some_and(|n| n.get() == 32_767),
-        CallAddress::new(0x0fff_fffc).is_some_and(|n| n.get() == 0x0fff_fffc),
-    ];
-    assert!(rt; are_taken == [true; 4]);
+// The number of what is there, or 99.
+macro_rules! number {
+    ($found:expr, $number:ident) => {
+        match $found {
+            Some(it) => it.$number(),
+            None => 99,
+        }
+    };
 }
 
 #[test]
-fn kinds_have_their_numbers(rt: HostRuntime) {
-    let are_numbered = [
-        BinKind::from_number(23).is_some_and(|k| k.number() == 23),
-        UnKind::from_number(7).is_some_and(|k| k.number() == 7),
-        SysKind::from_number(12).is_some_and(|k| k.number() == 12),
-        RunKind::from_number(8).is_some_and(|k| k.number() == 8),
-        ClosureKind::from_number(2).is_some_and(|k| k.number() == 2),
+fn numbers_and_kinds_are_taken(rt: HostRuntime) {
+    let taken = [
+        number!(ArgumentCount::new(8), get),
+        number!(ArgumentIndex::new(7), get),
+        number!(CaptureIndex::new(32_767), get),
+        number!(CallAddress::new(0x0fff_fffc), get),
+        number!(BinKind::from_number(23), number),
+        number!(UnKind::from_number(7), number),
+        number!(SysKind::from_number(12), number),
+        number!(RunKind::from_number(8), number),
+        number!(ClosureKind::from_number(2), number),
     ];
-    assert!(rt; are_numbered == [true; 5]);
+    assert!(rt; taken == [8, 7, 32_767, 0x0fff_fffc, 23, 7, 12, 8, 2]);
 }
+
+const SUM: Op = Op::Bin {
+    kind: BinKind::Add,
+    to: 2,
+    left: 0,
+    right: 1,
+};
+
+const JUMP: Op = Op::Jump { label: 5 };
+
+const LABEL: Op = Op::Label { label: 5 };
 
 #[test]
 fn a_sum_defines_one_register_and_uses_two(rt: HostRuntime) {
-    let sum = Op::Bin {
-        kind: BinKind::Add,
-        to: 2,
-        left: 0,
-        right: 1,
-    };
-    let registers = [sum.defined(), sum.first_use(), sum.second_use()];
-    assert!(rt; registers == [Some(2), Some(0), Some(1)]);
-    assert!(rt; [sum.falls(), Op::ReturnZero.falls()] == [true, false]);
-    let labels = [
-        Op::Jump { label: 5 }.goes_to(),
-        Op::Label { label: 5 }.label(),
+    let named = [
+        SUM.defined(),
+        SUM.first_use(),
+        SUM.second_use(),
+        JUMP.goes_to(),
+        LABEL.label(),
     ];
-    assert!(rt; labels == [Some(5), Some(5)]);
+    let fall = [SUM.falls(), Op::ReturnZero.falls()];
+    assert!(rt; named == [Some(2), Some(0), Some(1), Some(5), Some(5)] && fall == [true, false]);
 }

@@ -3,7 +3,7 @@
 #![tactic(auto)]
 
 #[cfg(test)]
-mod buckets_calls;
+mod collections_calls;
 #[cfg(test)]
 mod icode_ops_calls;
 #[cfg(test)]
@@ -18,7 +18,3 @@ mod mips_core_calls;
 mod mips_machine_calls;
 #[cfg(test)]
 mod mips_model_calls;
-#[cfg(test)]
-mod room_calls;
-#[cfg(test)]
-mod sparse_set_calls;

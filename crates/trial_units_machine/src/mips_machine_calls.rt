@@ -1,6 +1,6 @@
-//! A short program, in one call and in two.
+//! A short program, in one call and in two, and one that makes a function.
 
-ghost use Rattle.std.specs.Prelude.{◌≤◌, ◌+◌, ◌^◌, length};
+ghost use Rattle.std.specs.Prelude.{◌≡◌, ◌≤◌, ◌+◌, ◌^◌, None, length};
 ghost use Rattle.mips_machine.specs.Progress.{progress_of};
 
 use host_edge::{Ending, MemSink, MemSource};
@@ -41,14 +41,60 @@ const MAKER: [u8; 144] = [
     0, 0, 0, 0x0c, // syscall
 ];
 
-// What is seen of a run: how it stops, how many instructions were executed, and what the services counted: ops,
-// functions, words, flushes and spills.
-type Seen = (Stop, u64, [u64; 5]);
+// A run, of so many instructions first and so many then, and what is seen of it.
+struct Run<'a> {
+    image: &'a [u8],
+    first: u64,
+    second: u64,
+    stop: Stop,
+    // The instructions that were executed.
+    steps: u64,
+    // What the services counted: ops, functions, words, flushes and spills.
+    counts: [u64; 5],
+    // The places of the function that was made last.
+    places: &'a [u8],
+    written: &'a [u8],
+}
 
-fn run(machine: &mut Machine, input: &mut MemSource, out: &mut MemSink) -> Seen
-    requires { (progress_of machine.old).steps + 1000 ≤ 2 ^ 40 }
+const TO_ITS_END: Run<'static> = Run {
+    image: &PROGRAM,
+    first: 1000,
+    second: 0,
+    stop: Stop::Ended(Ending::Done(249)),
+    steps: 10,
+    counts: [0; 5],
+    places: &[],
+    written: b"a-7",
+};
+
+const STOPPED_TWICE: Run<'static> = Run {
+    image: &PROGRAM,
+    first: 4,
+    second: 4,
+    stop: Stop::Steps,
+    steps: 8,
+    counts: [0; 5],
+    places: &[],
+    written: b"a-7",
+};
+
+const OF_A_MAKER: Run<'static> = Run {
+    image: &MAKER,
+    first: 1000,
+    second: 0,
+    stop: Stop::Ended(Ending::Done(0)),
+    steps: 61,
+    counts: [2, 1, 32, 1, 0],
+    places: &[0],
+    written: b"",
+};
+
+// Whether the machine stops so, after so many instructions, and has counted that.
+fn stops_so(machine: &mut Machine, run: &Run<'_>, input: &mut MemSource, out: &mut MemSink) -> bool
+    requires fresh { machine.old.stopped ≡ None }
+    requires room { (progress_of machine.old).steps + run.now.first + run.now.second ≤ 2 ^ 40 }
 {
-    let stop = machine.run(input, out, 1000);
+    let stop = run_twice(machine, input, out, run.first, run.second);
     let counts = machine.counts();
     let counted = [
         counts.ops,
@@ -57,87 +103,63 @@ fn run(machine: &mut Machine, input: &mut MemSource, out: &mut MemSink) -> Seen
         counts.flushes,
         counts.spills,
     ];
-    (stop, machine.steps(), counted)
+    stop == run.stop && machine.steps() == run.steps && counted == run.counts
 }
 
-// What is seen of the run of an image, where these are the places of the function that it made last.
-fn seen_on(
-    alloc: Global,
-    bytes: &[u8],
-    places: &[u8],
+// Whether it does, and keeps those places.
+fn keeps_places(
+    machine: Machine,
+    run: &Run<'_>,
     input: &mut MemSource,
     out: &mut MemSink,
-) -> Result<Option<Seen>, AllocError>
-    requires { length bytes.now ≤ 200 }
+) -> [bool; 3]
+    requires fresh { machine.stopped ≡ None }
+    requires room { (progress_of machine).steps + run.now.first + run.now.second ≤ 2 ^ 40 }
 {
-    match read(alloc, bytes) {
-        Ok(image) => {
-            let mut machine = Machine::new(alloc, &image)?;
-            let seen = run(&mut machine, input, out);
-            let are_kept = machine.choices() == places;
-            let choices = machine.into_choices();
-            let are_given = choices.as_slice() == places;
-            drop(choices);
-            Ok((are_kept && are_given).then_some(seen))
-        }
-        Err(_) => Ok(None),
+    let mut machine = machine;
+    let stops = stops_so(&mut machine, run, input, out);
+    let are_kept = machine.choices() == run.places;
+    let choices = machine.into_choices();
+    let are_given = choices.as_slice() == run.places;
+    drop(choices);
+    [stops, are_kept, are_given]
+}
+
+fn runs_so(
+    alloc: Global,
+    run: &Run<'_>,
+    input: &mut MemSource,
+    out: &mut MemSink,
+) -> Result<[bool; 3], AllocError>
+    requires image { length run.now.image.now ≤ 200 }
+    requires room { run.now.first + run.now.second ≤ 1000 }
+{
+    match read(alloc, run.image) {
+        Ok(image) => Ok(keeps_places(Machine::new(alloc, &image)?, run, input, out)),
+        Err(_) => Ok([false; 3]),
     }
 }
 
-// What is seen of such a run, if it writes these bytes.
-fn seen(
-    alloc: Global,
-    bytes: &[u8],
-    places: &[u8],
-    written: &[u8],
-) -> Result<Option<Seen>, AllocError>
-    requires { length bytes.now ≤ 200 }
+// Whether all of the run is so.
+fn is_so(alloc: Global, run: &Run<'_>) -> Result<bool, AllocError>
+    requires image { length run.now.image.now ≤ 200 }
+    requires room { run.now.first + run.now.second ≤ 1000 }
 {
     let mut input = MemSource::new(alloc, b"ab", &[])?;
     let mut out = MemSink::new(alloc, 9, &[])?;
-    let seen = seen_on(alloc, bytes, places, &mut input, &mut out)?;
-    let is_written = out.taken() == written;
-    Ok(if is_written { seen } else { None })
+    let are_so = runs_so(alloc, run, &mut input, &mut out);
+    let is_written = out.taken() == run.written;
+    drop(out);
+    drop(input);
+    Ok(are_so? == [true; 3] && is_written)
 }
 
 #[test]
-fn a_program_runs_to_its_end(rt: HostRuntime) {
-    let wanted = (Stop::Ended(Ending::Done(249)), 10, [0; 5]);
-    assert!(rt; seen(rt.alloc(), &PROGRAM, &[], b"a-7") == Ok(Some(wanted)));
-}
-
-#[test]
-fn services_are_counted_and_places_kept(rt: HostRuntime) {
-    let wanted = (Stop::Ended(Ending::Done(0)), 61, [2, 1, 32, 1, 0]);
-    assert!(rt; seen(rt.alloc(), &MAKER, &[0], b"") == Ok(Some(wanted)));
-}
-
-// How a run stops that was stopped before, after four instructions each.
-fn stop_on(
-    alloc: Global,
-    input: &mut MemSource,
-    out: &mut MemSink,
-) -> Result<Option<Stop>, AllocError> {
-    match read(alloc, &PROGRAM) {
-        Ok(image) => {
-            let mut machine = Machine::new(alloc, &image)?;
-            let stop = run_twice(&mut machine, input, out, 4, 4);
-            drop(machine);
-            Ok(Some(stop))
-        }
-        Err(_) => Ok(None),
-    }
-}
-
-// Whether it stops so for want of steps, and what is written is the same as in one run.
-fn goes_on(alloc: Global) -> Result<bool, AllocError> {
-    let mut input = MemSource::new(alloc, b"ab", &[])?;
-    let mut out = MemSink::new(alloc, 9, &[])?;
-    let stop = stop_on(alloc, &mut input, &mut out)?;
-    Ok(stop == Some(Stop::Steps) && out.taken() == b"a-7".as_slice())
-}
-
-#[test]
-fn it_goes_on_from_where_it_stopped(rt: HostRuntime) {
-    assert!(rt; goes_on(rt.alloc()) == Ok(true));
+fn programs_run_at_once_and_in_parts(rt: HostRuntime) {
+    let are_so = [
+        is_so(rt.alloc(), &TO_ITS_END),
+        is_so(rt.alloc(), &STOPPED_TWICE),
+        is_so(rt.alloc(), &OF_A_MAKER),
+    ];
+    assert!(rt; are_so == [Ok(true), Ok(true), Ok(true)]);
 }

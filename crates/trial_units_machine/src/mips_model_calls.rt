@@ -13,14 +13,16 @@ fn services_have_their_numbers(rt: HostRuntime) {
         Service::from_number(63),
         Service::from_number(69),
     ];
-    let wanted = [
-        Some(Service::PutInt),
-        Some(Service::Begin),
-        Some(Service::Finish),
-        Some(Service::Flush),
-        Some(Service::Publish),
-        None,
-        None,
-    ];
-    assert!(rt; found == wanted);
+    assert!(rt;
+        found
+            == [
+                Some(Service::PutInt),
+                Some(Service::Begin),
+                Some(Service::Finish),
+                Some(Service::Flush),
+                Some(Service::Publish),
+                None,
+                None,
+            ]
+    );
 }
