@@ -17,7 +17,7 @@ fn name(kind: CaptureKind) -> &'static str {
     }
 }
 
-fn print_captures<R: Print>(rt: &R, found: &[Capture]) -> io::Result<()> {
+fn print_captures(rt: &HostRuntime, found: &[Capture]) -> io::Result<()> {
     for capture in found {
         print!(rt; " {} {}", name(capture.kind), capture.node)?;
     }
@@ -25,7 +25,7 @@ fn print_captures<R: Print>(rt: &R, found: &[Capture]) -> io::Result<()> {
 }
 
 // The captures of the tick with this number.
-fn report_tick<R: Print + AllocGlobal>(rt: &R, program: &Typed, number: u32) -> io::Result<()> {
+fn report_tick(rt: &HostRuntime, program: &Typed, number: u32) -> io::Result<()> {
     match captures(rt.alloc(), program.ticks(), number) {
         Ok(found) => {
             let printed = print_captures(rt, found.as_slice());
@@ -37,11 +37,7 @@ fn report_tick<R: Print + AllocGlobal>(rt: &R, program: &Typed, number: u32) -> 
 }
 
 /// Prints the lines of an accepted text, whose ticks come in their order.
-pub(crate) fn report<R: Print + AllocGlobal>(
-    rt: &R,
-    title: &str,
-    program: &Typed,
-) -> io::Result<()> {
+pub(crate) fn report(rt: &HostRuntime, title: &str, program: &Typed) -> io::Result<()> {
     let count = u32::try_from(program.ticks().len()).unwrap_or(u32::MAX);
     for number in 0..count {
         print!(rt; "{title} {number}:")?;

@@ -9,7 +9,7 @@ use typed_tree::{Function, Tick};
 use wellformed::Typed;
 
 // The sizes of each function.
-fn print_functions<R: Print>(rt: &R, functions: &[Function]) -> io::Result<()> {
+fn print_functions(rt: &HostRuntime, functions: &[Function]) -> io::Result<()> {
     for f in functions {
         print!(rt; " {}/{}/{}", f.size, f.object, f.params)?;
     }
@@ -17,7 +17,7 @@ fn print_functions<R: Print>(rt: &R, functions: &[Function]) -> io::Result<()> {
 }
 
 // The nodes of each tick, and the bytes of globals and strings.
-fn print_ticks<R: Print>(rt: &R, ticks: &[Tick], bytes: usize) -> io::Result<()> {
+fn print_ticks(rt: &HostRuntime, ticks: &[Tick], bytes: usize) -> io::Result<()> {
     for t in ticks {
         print!(rt; " {}", t.size)?;
     }
@@ -25,7 +25,7 @@ fn print_ticks<R: Print>(rt: &R, ticks: &[Tick], bytes: usize) -> io::Result<()>
 }
 
 /// Prints the line of an accepted text.
-pub(crate) fn report<R: Print>(rt: &R, title: &str, program: &Typed) -> io::Result<()> {
+pub(crate) fn report(rt: &HostRuntime, title: &str, program: &Typed) -> io::Result<()> {
     print!(rt; "{title}:")?;
     if title.starts_with("sizes") {
         print_functions(rt, program.functions())?;

@@ -21,7 +21,7 @@ fn starts(alloc: Global, count: usize) -> Result<Vec<CallAddress>, AllocError> {
 }
 
 /// Prints words, each behind a blank, and a line feed.
-pub(crate) fn print_words<R: Print>(rt: &R, words: &[u32]) -> io::Result<()> {
+pub(crate) fn print_words(rt: &HostRuntime, words: &[u32]) -> io::Result<()> {
     for word in words {
         print!(rt; " {word:08x}")?;
     }
@@ -29,8 +29,8 @@ pub(crate) fn print_words<R: Print>(rt: &R, words: &[u32]) -> io::Result<()> {
 }
 
 // The words of the tick with this number.
-fn report_tick<R: Print + AllocGlobal>(
-    rt: &R,
+fn report_tick(
+    rt: &HostRuntime,
     program: &Typed,
     number: u32,
     starts: &[CallAddress],
@@ -47,8 +47,8 @@ fn report_tick<R: Print + AllocGlobal>(
 }
 
 // Those of each tick, in the order of the text.
-fn report_ticks<R: Print + AllocGlobal>(
-    rt: &R,
+fn report_ticks(
+    rt: &HostRuntime,
     title: &str,
     program: &Typed,
     starts: &[CallAddress],
@@ -63,11 +63,7 @@ fn report_ticks<R: Print + AllocGlobal>(
 }
 
 /// Prints the lines of an accepted text.
-pub(crate) fn report<R: Print + AllocGlobal>(
-    rt: &R,
-    title: &str,
-    program: &Typed,
-) -> io::Result<()> {
+pub(crate) fn report(rt: &HostRuntime, title: &str, program: &Typed) -> io::Result<()> {
     let starts = starts(rt.alloc(), program.functions().len())?;
     let mut room = Room::new(rt.alloc());
     let printed = report_ticks(rt, title, program, &starts, &mut room);

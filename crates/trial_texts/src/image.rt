@@ -11,10 +11,12 @@ ghost use Rattle.word32.specs.declared.map.TheConstants.{SEGMENT_BYTES};
 
 use crate::slots::{Code, code_of};
 use built_programs::{built_is_static, main_of};
+use icode_ops::CallAddress;
 use limits::program::{FRONT_WORDS, MOST_FUNCTIONS};
 use static_image::write_front;
 use std::alloc::{AllocError, Global};
 use std::io;
+use typed_tree::Function;
 use wellformed::Typed;
 
 // The words in front of the functions, where main's first word stands at this address.
@@ -27,36 +29,46 @@ fn front(alloc: Global, main: u32, functions: u32) -> Result<Vec<u32>, AllocErro
     Ok(made)
 }
 
-// The lines of the parts of an image: these words, the bytes of globals and strings, and the functions.
-fn print_parts<R: Print + AllocGlobal>(
-    rt: &R,
-    front: &[u32],
-    code: &Code,
-    program: &Typed,
-) -> io::Result<()> {
-    for word in front.iter().chain(code.words.iter()) {
+fn print_words(rt: &HostRuntime, words: &[u32]) -> io::Result<()> {
+    for word in words {
         println!(rt; "word {word:08x}")?;
     }
-    println!(rt; "bytes {}", program.image().len())?;
-    for (at, byte) in program.image().iter().enumerate() {
+    Ok(())
+}
+
+// The bytes of globals and strings.
+fn print_bytes(rt: &HostRuntime, bytes: &[u8]) -> io::Result<()> {
+    println!(rt; "bytes {}", bytes.len())?;
+    for (at, byte) in bytes.iter().enumerate() {
         if *byte != 0 {
             println!(rt; "byte {at} {byte}")?;
         }
     }
-    for (start, function) in code.starts.iter().zip(program.functions()) {
+    Ok(())
+}
+
+fn print_functions(
+    rt: &HostRuntime,
+    starts: &[CallAddress],
+    functions: &[Function],
+) -> io::Result<()> {
+    for (start, function) in starts.iter().zip(functions) {
         println!(rt; "function {:08x} {}", start.get(), function.params)?;
     }
     Ok(())
 }
 
+// The lines of the parts of an image: these words, the bytes of globals and strings, and the functions.
+fn print_parts(rt: &HostRuntime, front: &[u32], code: &Code, program: &Typed) -> io::Result<()> {
+    print_words(rt, front)?;
+    print_words(rt, &code.words)?;
+    print_bytes(rt, program.image())?;
+    print_functions(rt, &code.starts, program.functions())
+}
+
 // Prints the parts of the image of a program whose function main has a number, counted from 1, and whose functions have
 // this code.
-fn report_code<R: Print + AllocGlobal>(
-    rt: &R,
-    program: &Typed,
-    main: usize,
-    code: &Code,
-) -> io::Result<()>
+fn report_code(rt: &HostRuntime, program: &Typed, main: usize, code: &Code) -> io::Result<()>
     requires { 1 ≤ main }
 {
     let count = program.functions().len();
@@ -73,7 +85,7 @@ fn report_code<R: Print + AllocGlobal>(
 }
 
 // Prints the parts of the image of a program whose function main has a number, counted from 1.
-fn report_main<R: Print + AllocGlobal>(rt: &R, program: &Typed, main: usize) -> io::Result<()>
+fn report_main(rt: &HostRuntime, program: &Typed, main: usize) -> io::Result<()>
     requires main { 1 ≤ main }
     requires functions { AreStatic (map function_view program.now.functions) }
 {
@@ -84,7 +96,7 @@ fn report_main<R: Print + AllocGlobal>(rt: &R, program: &Typed, main: usize) -> 
 }
 
 /// Prints the parts of the image of a program, where it is one that runs so far.
-pub(crate) fn report<R: Print + AllocGlobal>(rt: &R, program: &Typed) -> io::Result<()> {
+pub(crate) fn report(rt: &HostRuntime, program: &Typed) -> io::Result<()> {
     built_is_static();
     program.keeps_law();
     match main_of(program) {

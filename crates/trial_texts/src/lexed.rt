@@ -9,7 +9,7 @@ use std::io;
 use tick_tree::Token;
 
 // A list of up to a hundred tokens in full, each as KIND@PLACE+LENGTH:LINE, and of a longer one the count.
-fn print_tokens<R: Print>(rt: &R, title: &str, found: &[Token]) -> io::Result<()> {
+fn print_tokens(rt: &HostRuntime, title: &str, found: &[Token]) -> io::Result<()> {
     print!(rt; "{title}:")?;
     if 100 < found.len() {
         return println!(rt; " {} tokens", found.len());
@@ -24,7 +24,7 @@ fn print_tokens<R: Print>(rt: &R, title: &str, found: &[Token]) -> io::Result<()
 }
 
 /// Prints the line of a text.
-pub(crate) fn report<R: Print + AllocGlobal>(rt: &R, title: &str, text: &[u8]) -> io::Result<()>
+pub(crate) fn report(rt: &HostRuntime, title: &str, text: &[u8]) -> io::Result<()>
     requires { length text.now ≤ LONGEST_TEXT }
 {
     match tokens(rt.alloc(), text) {

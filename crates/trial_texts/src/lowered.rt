@@ -25,12 +25,7 @@ const FRAME: u32 = 128;
 const APART: u32 = 256;
 
 // The live intervals of a finished list of ops.
-fn print_intervals<R: Print + AllocGlobal>(
-    rt: &R,
-    live: &mut Live,
-    ops: &[Op],
-    registers: u32,
-) -> io::Result<()>
+fn print_intervals(rt: &HostRuntime, live: &mut Live, ops: &[Op], registers: u32) -> io::Result<()>
     requires { IsFinished ops.now registers }
 {
     let none = Interval {
@@ -47,7 +42,7 @@ fn print_intervals<R: Print + AllocGlobal>(
 }
 
 // What an expansion of the ops without any room answers.
-fn print_expansion<R: Print + AllocGlobal>(rt: &R, ops: &[Op]) -> io::Result<()>
+fn print_expansion(rt: &HostRuntime, ops: &[Op]) -> io::Result<()>
     requires { (n : ℕ) × IsFinished ops.now n }
 {
     let mut labels = vec![in rt.alloc(); 0u32; OP_LIMIT]?;
@@ -95,7 +90,7 @@ fn finished_builder(
 }
 
 // The ops of a finished builder, and what comes of them.
-fn report_ops<R: Print + AllocGlobal>(rt: &R, live: &mut Live, builder: &Builder) -> io::Result<()>
+fn report_ops(rt: &HostRuntime, live: &mut Live, builder: &Builder) -> io::Result<()>
     requires { builder.now.phase ≡ Finished }
 {
     for op in builder.ops() {
@@ -107,11 +102,7 @@ fn report_ops<R: Print + AllocGlobal>(rt: &R, live: &mut Live, builder: &Builder
 }
 
 // What comes of a program, with these tables.
-fn report_program<R: Print + AllocGlobal>(
-    rt: &R,
-    live: &mut Live,
-    program: &Typed,
-) -> io::Result<()> {
+fn report_program(rt: &HostRuntime, live: &mut Live, program: &Typed) -> io::Result<()> {
     let starts = addresses(rt.alloc())?;
     let built = finished_builder(rt.alloc(), &starts, program);
     drop(starts);
@@ -127,11 +118,7 @@ fn report_program<R: Print + AllocGlobal>(
 }
 
 /// Prints the line of an accepted text.
-pub(crate) fn report<R: Print + AllocGlobal>(
-    rt: &R,
-    title: &str,
-    program: &Typed,
-) -> io::Result<()> {
+pub(crate) fn report(rt: &HostRuntime, title: &str, program: &Typed) -> io::Result<()> {
     print!(rt; "{title}: ")?;
     let mut live = Live::new(rt.alloc())?;
     let printed = report_program(rt, &mut live, program);

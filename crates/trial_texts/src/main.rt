@@ -87,12 +87,7 @@ fn typed(alloc: Global, text: &[u8]) -> Result<Typed, Deny>
 }
 
 // The lines of an accepted text.
-fn report_program<R: Print + AllocGlobal>(
-    rt: &R,
-    trial: Trial,
-    title: &str,
-    program: &Typed,
-) -> io::Result<()> {
+fn report_program(rt: &HostRuntime, trial: Trial, title: &str, program: &Typed) -> io::Result<()> {
     match trial {
         Trial::Meaning => meaning::report(rt, title, program),
         Trial::Captured => captured::report(rt, title, program),
@@ -104,7 +99,7 @@ fn report_program<R: Print + AllocGlobal>(
 }
 
 /// Prints the line of a text that isn't accepted.
-pub(crate) fn report_deny<R: Print>(rt: &R, title: &str, why: Deny) -> io::Result<()> {
+pub(crate) fn report_deny(rt: &HostRuntime, title: &str, why: Deny) -> io::Result<()> {
     match why {
         Deny::Refused(fault) => println!(rt;
             "{title}: {} {} on line {}",
@@ -117,12 +112,7 @@ pub(crate) fn report_deny<R: Print>(rt: &R, title: &str, why: Deny) -> io::Resul
 }
 
 // The lines of a text, as far as it is checked.
-fn report_checked<R: Print + AllocGlobal>(
-    rt: &R,
-    trial: Trial,
-    title: &str,
-    text: &[u8],
-) -> io::Result<()>
+fn report_checked(rt: &HostRuntime, trial: Trial, title: &str, text: &[u8]) -> io::Result<()>
     requires { length text.now ≤ LONGEST_TEXT }
 {
     match typed(rt.alloc(), text) {
@@ -136,12 +126,7 @@ fn report_checked<R: Print + AllocGlobal>(
 }
 
 // The lines of one text.
-fn report<R: Print + AllocGlobal>(
-    rt: &R,
-    trial: Trial,
-    title: &str,
-    text: &[u8],
-) -> io::Result<()> {
+fn report(rt: &HostRuntime, trial: Trial, title: &str, text: &[u8]) -> io::Result<()> {
     if LONGEST_TEXT < text.len() {
         return println!(rt; "{title}: over {LONGEST_TEXT} bytes");
     }
@@ -152,7 +137,7 @@ fn report<R: Print + AllocGlobal>(
     }
 }
 
-fn report_case<R: Print + AllocGlobal>(rt: &R, trial: Trial, case: &Case<'_>) -> io::Result<()> {
+fn report_case(rt: &HostRuntime, trial: Trial, case: &Case<'_>) -> io::Result<()> {
     let title = str::from_utf8(case.title).unwrap_or("?");
     let text = pieces::text_of(rt.alloc(), case)?;
     let printed = report(rt, trial, title, &text);
@@ -160,7 +145,7 @@ fn report_case<R: Print + AllocGlobal>(rt: &R, trial: Trial, case: &Case<'_>) ->
     printed
 }
 
-fn report_each<R: Print + AllocGlobal>(rt: &R, trial: Trial, cases: &[Case<'_>]) -> io::Result<()> {
+fn report_each(rt: &HostRuntime, trial: Trial, cases: &[Case<'_>]) -> io::Result<()> {
     for case in cases {
         report_case(rt, trial, case)?;
     }
@@ -168,7 +153,7 @@ fn report_each<R: Print + AllocGlobal>(rt: &R, trial: Trial, cases: &[Case<'_>])
 }
 
 // The lines of the texts of a file of cases.
-fn report_cases<R: Print + AllocGlobal>(rt: &R, trial: Trial, file: &[u8]) -> io::Result<()> {
+fn report_cases(rt: &HostRuntime, trial: Trial, file: &[u8]) -> io::Result<()> {
     let all = cases(rt.alloc(), file)?;
     let printed = report_each(rt, trial, &all);
     drop(all);

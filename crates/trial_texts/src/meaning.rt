@@ -12,7 +12,7 @@ use wellformed::Typed;
 const FEW: u64 = 8;
 
 // A byte: itself, or its number.
-fn print_byte<R: Print>(rt: &R, b: u8) -> io::Result<()> {
+fn print_byte(rt: &HostRuntime, b: u8) -> io::Result<()> {
     if 32 < b && b < 127 {
         return print!(rt; "{}", char::from(b));
     }
@@ -20,7 +20,7 @@ fn print_byte<R: Print>(rt: &R, b: u8) -> io::Result<()> {
 }
 
 // The same byte so many times; many of them by their count.
-fn print_bytes<R: Print>(rt: &R, b: u8, count: u64) -> io::Result<()> {
+fn print_bytes(rt: &HostRuntime, b: u8, count: u64) -> io::Result<()> {
     if FEW < count {
         print_byte(rt, b)?;
         return print!(rt; "*{count}");
@@ -32,7 +32,7 @@ fn print_bytes<R: Print>(rt: &R, b: u8, count: u64) -> io::Result<()> {
 }
 
 // What was put out.
-fn print_output<R: Print>(rt: &R, bytes: &[u8]) -> io::Result<()> {
+fn print_output(rt: &HostRuntime, bytes: &[u8]) -> io::Result<()> {
     let mut last = 0;
     let mut count = 0u64;
     for b in bytes {
@@ -47,7 +47,7 @@ fn print_output<R: Print>(rt: &R, bytes: &[u8]) -> io::Result<()> {
     print_bytes(rt, last, count)
 }
 
-fn report_output<R: Print + AllocGlobal>(rt: &R, it: &Evaluated<'_>) -> io::Result<()> {
+fn report_output(rt: &HostRuntime, it: &Evaluated<'_>) -> io::Result<()> {
     let bytes = it.output(rt.alloc())?;
     let printed = print_output(rt, bytes.as_slice());
     drop(bytes);
@@ -55,7 +55,7 @@ fn report_output<R: Print + AllocGlobal>(rt: &R, it: &Evaluated<'_>) -> io::Resu
 }
 
 // How a run ended.
-fn print_ending<R: Print>(rt: &R, ending: Option<Ending>) -> io::Result<()> {
+fn print_ending(rt: &HostRuntime, ending: Option<Ending>) -> io::Result<()> {
     match ending {
         Some(Ending::Done(s)) => print!(rt; " Done({s})"),
         Some(Ending::Trap(kind)) => print!(rt; " Trap({})", kind.name()),
@@ -64,12 +64,7 @@ fn print_ending<R: Print>(rt: &R, ending: Option<Ending>) -> io::Result<()> {
 }
 
 // What came of a run within so many units, and where it is asked for how many it spent.
-fn report_ended<R: Print + AllocGlobal>(
-    rt: &R,
-    it: &Evaluated<'_>,
-    units: u64,
-    counts: bool,
-) -> io::Result<()> {
+fn report_ended(rt: &HostRuntime, it: &Evaluated<'_>, units: u64, counts: bool) -> io::Result<()> {
     report_output(rt, it)?;
     print_ending(rt, it.ending())?;
     if counts {
@@ -79,8 +74,8 @@ fn report_ended<R: Print + AllocGlobal>(
 }
 
 // What comes of a program on this input within so many units.
-fn report_run<R: Print + AllocGlobal>(
-    rt: &R,
+fn report_run(
+    rt: &HostRuntime,
     program: &Typed,
     input: &[u8],
     units: u64,
@@ -97,11 +92,7 @@ fn report_run<R: Print + AllocGlobal>(
 }
 
 /// Prints the line of an accepted text.
-pub(crate) fn report<R: Print + AllocGlobal>(
-    rt: &R,
-    title: &str,
-    program: &Typed,
-) -> io::Result<()> {
+pub(crate) fn report(rt: &HostRuntime, title: &str, program: &Typed) -> io::Result<()> {
     let (title, input) = title.split_once(" < ").unwrap_or((title, ""));
     let (title, units) = title.split_once(" @ ").unwrap_or((title, "1000000000"));
     print!(rt; "{title}: ")?;

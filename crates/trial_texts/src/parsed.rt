@@ -8,7 +8,7 @@ use std::io;
 use tick_tree::Deny;
 
 /// Prints the line of a text.
-pub(crate) fn report<R: Print + AllocGlobal>(rt: &R, title: &str, text: &[u8]) -> io::Result<()>
+pub(crate) fn report(rt: &HostRuntime, title: &str, text: &[u8]) -> io::Result<()>
     requires { length text.now ≤ LONGEST_TEXT }
 {
     match tree_of(rt.alloc(), text) {

@@ -4,7 +4,7 @@ use crate::generators::print_words;
 use routine_blocks::routines;
 use std::io;
 
-fn print_blocks<R: Print>(rt: &R, words: &[u32]) -> io::Result<()> {
+fn print_blocks(rt: &HostRuntime, words: &[u32]) -> io::Result<()> {
     for (number, block) in words.chunks(64).enumerate() {
         print!(rt; "{}:", number.saturating_add(1))?;
         print_words(rt, block)?;
@@ -13,7 +13,7 @@ fn print_blocks<R: Print>(rt: &R, words: &[u32]) -> io::Result<()> {
 }
 
 /// Prints the lines of all blocks.
-pub(crate) fn report<R: Print + AllocGlobal>(rt: &R) -> io::Result<()> {
+pub(crate) fn report(rt: &HostRuntime) -> io::Result<()> {
     let found = routines(rt.alloc())?;
     let printed = print_blocks(rt, found.as_slice());
     drop(found);
