@@ -10,7 +10,7 @@ use std::io;
 const SHOWN: usize = 20;
 
 // The ops of a finished builder, or how many there are.
-fn print_ops<R: Print>(rt: &R, ops: &[Op], registers: u32) -> io::Result<()> {
+fn print_ops(rt: &HostRuntime, ops: &[Op], registers: u32) -> io::Result<()> {
     if SHOWN < ops.len() {
         return println!(rt; " {} ops, {registers} registers", ops.len());
     }
@@ -21,8 +21,8 @@ fn print_ops<R: Print>(rt: &R, ops: &[Op], registers: u32) -> io::Result<()> {
 }
 
 // What is made of a list, whose ops are added to these.
-fn report_list<R: Print>(
-    rt: &R,
+fn report_list(
+    rt: &HostRuntime,
     builder: &mut Builder,
     ops: &mut Vec<BuildOp>,
     list: &str,
@@ -39,11 +39,7 @@ fn report_list<R: Print>(
 }
 
 /// Prints what comes of the list that a text says.
-pub(crate) fn report<R: Print + AllocGlobal>(
-    rt: &R,
-    builder: &mut Builder,
-    list: &str,
-) -> io::Result<()> {
+pub(crate) fn report(rt: &HostRuntime, builder: &mut Builder, list: &str) -> io::Result<()> {
     let mut ops = Vec::new(rt.alloc());
     let printed = report_list(rt, builder, &mut ops, list);
     drop(ops);

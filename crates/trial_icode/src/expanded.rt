@@ -19,7 +19,7 @@ const LABELS: usize = 196_608;
 const ROOM: usize = 1024;
 
 // So many words, from the first on.
-fn print_words<R: Print>(rt: &R, words: &[u32], count: usize) -> io::Result<()> {
+fn print_words(rt: &HostRuntime, words: &[u32], count: usize) -> io::Result<()> {
     for word in words.iter().take(count) {
         print!(rt; " {word:08x}")?;
     }
@@ -27,8 +27,8 @@ fn print_words<R: Print>(rt: &R, words: &[u32], count: usize) -> io::Result<()> 
 }
 
 // The words of the ops, or that there is no room for them.
-fn print_expanded<R: Print>(
-    rt: &R,
+fn print_expanded(
+    rt: &HostRuntime,
     ops: &[Op],
     form: Form,
     places: &[u8],
@@ -58,12 +58,7 @@ fn print_expanded<R: Print>(
 }
 
 // The words of the ops, whose registers are at these places.
-fn report_placed<R: Print + AllocGlobal>(
-    rt: &R,
-    ops: &[Op],
-    form: Form,
-    places: &[u8],
-) -> io::Result<()>
+fn report_placed(rt: &HostRuntime, ops: &[Op], form: Form, places: &[u8]) -> io::Result<()>
     requires { (n : ℕ) × IsFinished ops.now n }
 {
     let mut labels = vec![in rt.alloc(); 0u32; LABELS]?;
@@ -75,8 +70,8 @@ fn report_placed<R: Print + AllocGlobal>(
 }
 
 // What comes of a form and a list, whose places and ops are added to these.
-fn report_list<R: Print + AllocGlobal>(
-    rt: &R,
+fn report_list(
+    rt: &HostRuntime,
     builder: &mut Builder,
     places: &mut Vec<u8>,
     ops: &mut Vec<BuildOp>,
@@ -96,11 +91,7 @@ fn report_list<R: Print + AllocGlobal>(
 }
 
 /// Prints what comes of the form and the list that a text says.
-pub(crate) fn report<R: Print + AllocGlobal>(
-    rt: &R,
-    builder: &mut Builder,
-    text: &str,
-) -> io::Result<()> {
+pub(crate) fn report(rt: &HostRuntime, builder: &mut Builder, text: &str) -> io::Result<()> {
     let mut places = Vec::new(rt.alloc());
     let mut ops = Vec::new(rt.alloc());
     let printed = report_list(rt, builder, &mut places, &mut ops, text);

@@ -20,8 +20,8 @@ pub(crate) enum Trial {
 }
 
 /// Builds a list, and says whether it is finished; if not, the refusal is printed.
-pub(crate) fn is_built<R: Print>(
-    rt: &R,
+pub(crate) fn is_built(
+    rt: &HostRuntime,
     builder: &mut Builder,
     parameters: u32,
     ops: &[BuildOp],
@@ -41,8 +41,8 @@ pub(crate) fn is_built<R: Print>(
 }
 
 // The title of a line, and what comes of the rest.
-fn report_line<R: Print + AllocGlobal>(
-    rt: &R,
+fn report_line(
+    rt: &HostRuntime,
     trial: Trial,
     line: &str,
     builder: &mut Builder,
@@ -59,8 +59,8 @@ fn report_line<R: Print + AllocGlobal>(
 }
 
 /// Prints what comes of each line of a file.
-pub(crate) fn report_lines<R: Print + AllocGlobal>(
-    rt: &R,
+pub(crate) fn report_lines(
+    rt: &HostRuntime,
     trial: Trial,
     text: &str,
     builder: &mut Builder,

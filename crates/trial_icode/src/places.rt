@@ -129,7 +129,7 @@ fn check_lists(
 }
 
 /// Prints what is counted over all lists.
-pub(crate) fn report<R: Print + AllocGlobal>(rt: &R) -> io::Result<()> {
+pub(crate) fn report(rt: &HostRuntime) -> io::Result<()> {
     let counts = check_all(rt.alloc())?;
     println!(rt;
         "== places

@@ -14,8 +14,8 @@ use word32::map;
 const MOST_SPILLS: u64 = 1 << 32;
 
 // The answer of a service, or the number of the reason for which it is refused.
-fn print_served<R: Print + AllocGlobal>(
-    rt: &R,
+fn print_served(
+    rt: &HostRuntime,
     number: u32,
     arguments: (u32, u32, u32),
     service: &mut Service,
@@ -33,12 +33,7 @@ fn print_served<R: Print + AllocGlobal>(
 }
 
 // So many words of the arena, from a word on.
-fn print_words<R: Print + AllocGlobal>(
-    rt: &R,
-    first: u32,
-    count: u32,
-    arena: &CodeArena,
-) -> io::Result<()> {
+fn print_words(rt: &HostRuntime, first: u32, count: u32, arena: &CodeArena) -> io::Result<()> {
     for i in 0..count {
         let word = u64::from(first) + u64::from(i);
         if word >= u64::from(map::ARENA_WORDS) {
@@ -54,7 +49,7 @@ fn print_words<R: Print + AllocGlobal>(
 }
 
 // Address and count of a row of the function table.
-fn print_row<R: Print + AllocGlobal>(rt: &R, row: u32, rows: &FunctionRows) -> io::Result<()> {
+fn print_row(rt: &HostRuntime, row: u32, rows: &FunctionRows) -> io::Result<()> {
     if row >= map::FUNCTION_ROWS {
         return print!(rt; " no row");
     }
@@ -63,7 +58,7 @@ fn print_row<R: Print + AllocGlobal>(rt: &R, row: u32, rows: &FunctionRows) -> i
 }
 
 // The places with commas between them.
-fn print_places<R: Print + AllocGlobal>(rt: &R, places: &[u8]) -> io::Result<()> {
+fn print_places(rt: &HostRuntime, places: &[u8]) -> io::Result<()> {
     print!(rt; " (")?;
     let mut comma = "";
     for place in places {
@@ -74,8 +69,8 @@ fn print_places<R: Print + AllocGlobal>(rt: &R, places: &[u8]) -> io::Result<()>
 }
 
 // What one call gives.
-fn print_call<R: Print + AllocGlobal>(
-    rt: &R,
+fn print_call(
+    rt: &HostRuntime,
     text: &str,
     service: &mut Service,
     arena: &mut CodeArena,
@@ -99,8 +94,8 @@ fn print_call<R: Print + AllocGlobal>(
 }
 
 // What the calls of a line give.
-fn print_calls<R: Print + AllocGlobal>(
-    rt: &R,
+fn print_calls(
+    rt: &HostRuntime,
     list: &str,
     service: &mut Service,
     arena: &mut CodeArena,
@@ -113,8 +108,8 @@ fn print_calls<R: Print + AllocGlobal>(
 }
 
 /// Prints what the calls of a list give.
-pub(crate) fn report<R: Print + AllocGlobal>(
-    rt: &R,
+pub(crate) fn report(
+    rt: &HostRuntime,
     list: &str,
     arena: &mut CodeArena,
     rows: &mut FunctionRows,

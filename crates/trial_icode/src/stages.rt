@@ -371,7 +371,7 @@ pub(crate) fn asked(rt: &HostRuntime) -> io::Result<Option<Task>> {
 }
 
 /// Makes the function, takes it to the stage, and prints what was counted.
-pub(crate) fn report<R: Print + AllocGlobal>(rt: &R, task: Task) -> io::Result<()> {
+pub(crate) fn report(rt: &HostRuntime, task: Task) -> io::Result<()> {
     let counts = run(rt.alloc(), task.shape, task.ops, task.stage)?;
     println!(rt;
         "ops {} registers {} intervals {}",

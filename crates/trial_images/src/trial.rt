@@ -25,8 +25,8 @@ const FIRST: &[u8] = &[
 ];
 
 /// Prints what is seen of a run: how it stopped, its instructions, what services did, and the bytes that it put out.
-fn print_seen<R: Print + AllocGlobal>(
-    rt: &R,
+fn print_seen(
+    rt: &HostRuntime,
     machine: &Machine,
     stop: Stop,
     bytes: &[u8],
@@ -57,8 +57,8 @@ fn print_seen<R: Print + AllocGlobal>(
 }
 
 /// Runs the image, and prints what is seen of it.
-fn run<R: Print + AllocGlobal>(
-    rt: &R,
+fn run(
+    rt: &HostRuntime,
     machine: &mut Machine,
     image: &Image,
     most: u64,
@@ -75,8 +75,8 @@ fn run<R: Print + AllocGlobal>(
 }
 
 /// Prints what comes of an image file: the rule that it breaks, or what is seen of its run.
-fn try_file<R: Print + AllocGlobal>(
-    rt: &R,
+fn try_file(
+    rt: &HostRuntime,
     machine: &mut Machine,
     bytes: &[u8],
     steps: u64,
@@ -113,8 +113,8 @@ fn made(
 }
 
 /// Tries the files that are made from one.
-fn try_images<R: Print + AllocGlobal>(
-    rt: &R,
+fn try_images(
+    rt: &HostRuntime,
     machine: &mut Machine,
     images: &Images<'_>,
     file: &[u8],
@@ -134,8 +134,8 @@ fn try_images<R: Print + AllocGlobal>(
 }
 
 /// Prints what comes of a row; a form is kept until the next section.
-fn answer<R: Print + AllocGlobal>(
-    rt: &R,
+fn answer(
+    rt: &HostRuntime,
     machine: &mut Machine,
     row: Row<'_>,
     forms: &mut Vec<Form>,
@@ -158,8 +158,8 @@ fn answer<R: Print + AllocGlobal>(
 }
 
 /// Prints what comes of the rows of a text, a line each.
-fn answer_lines<R: Print + AllocGlobal>(
-    rt: &R,
+fn answer_lines(
+    rt: &HostRuntime,
     machine: &mut Machine,
     text: &str,
     forms: &mut Vec<Form>,
@@ -174,7 +174,7 @@ fn answer_lines<R: Print + AllocGlobal>(
 }
 
 /// Prints what comes of the rows of the standard input, on one machine.
-fn answer_all<R: Print + Input + AllocGlobal>(rt: &R, machine: &mut Machine) -> io::Result<()> {
+fn answer_all(rt: &HostRuntime, machine: &mut Machine) -> io::Result<()> {
     let text = io::read_to_string(rt.alloc(), rt.reader())?;
     let mut forms = Vec::new(rt.alloc());
     let answered = answer_lines(rt, machine, &text, &mut forms);
@@ -185,7 +185,7 @@ fn answer_all<R: Print + Input + AllocGlobal>(rt: &R, machine: &mut Machine) -> 
 
 /// Prints what comes of the rows of the standard input, a line each. The machine is loaded with each image in turn: to
 /// make one takes its memory anew.
-pub fn answer_rows<R: Print + Input + AllocGlobal>(rt: &R) -> io::Result<()> {
+pub fn answer_rows(rt: &HostRuntime) -> io::Result<()> {
     match read(rt.alloc(), FIRST) {
         Ok(image) => {
             let mut machine = Machine::new(rt.alloc(), &image)?;
