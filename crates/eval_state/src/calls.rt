@@ -59,6 +59,7 @@ impl<'a> Machine<'a> {
     ///
     /// # Errors
     /// Where memory is wanting.
+    #[inline(always)]
     pub fn enter_body(
         &mut self,
         function: &Function,
