@@ -1,6 +1,6 @@
 //! The list of pieces that the walk over a tick's tree makes: what each of its steps adds, as code and as a definition
-//! (`specs/Steps`), and that the pieces of a whole tree are those of its lowering (`proofs/Ended`). The walk itself is in
-//! `tick_cgf`.
+//! (`specs/Steps`), and that the pieces of a whole tree are those of its lowering (`proofs/Ended`). The walk itself is
+//! in `tick_cgf`.
 #![tactic(auto)]
 
 mod pieces;

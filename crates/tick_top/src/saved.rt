@@ -1,8 +1,7 @@
-//! The image file of a text, and what follows for whoever reads it.
+//! The image file of a text.
 ghost use Rattle.std.specs.Prelude.{◌≡◌, ◌≤◌, length, IfOk};
 ghost use Rattle.tick_top_spec.specs.Texts as spec;
-ghost use Rattle.tick_top_spec.specs.Texts.{Builds};
-ghost use Rattle.tick_top_spec.specs.Saved.{IsFileOf, Saves, SavesHeadline, ReadsHeadline, LowersOne, SavesOne, SavesBuilt};
+ghost use Rattle.tick_top_spec.specs.Saved.{Saves};
 ghost use Rattle.limits.specs.declared.text.TheConstants.{LONGEST_TEXT};
 
 use crate::accepted::build;

@@ -5,7 +5,8 @@ ghost use Rattle.host_edge.specs.Causes.{Rose};
 ghost use Rattle.command_words.specs.Orders.{order_of};
 ghost use Rattle.image_commands.specs.Outside.{Unwritten, outside, failures};
 ghost use Rattle.image_commands.specs.Does.{Cause};
-ghost use Rattle.tick_top_spec.specs.Rows.{RefusedRow, AsmRefusedRow, TooLongRow, BadImageRow, TrapRow, MachineFaultRow, OutOfStepsRow};
+ghost use Rattle.tick_top_spec.specs.Rows.{RefusedRow, AsmRefusedRow, TooLongRow, BadImageRow, TrapRow};
+ghost use Rattle.tick_top_spec.specs.Rows.{MachineFaultRow, OutOfStepsRow};
 ghost use Rattle.tick_top_spec.specs.Top.{Performs, Ticked};
 
 use crate::commands::obey;

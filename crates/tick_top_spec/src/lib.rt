@@ -1,7 +1,7 @@
 //! What a call of `tick` does, as definitions: which texts are accepted and what is built of them (`specs/Texts`,
 //! `Saved`), what each command does (`specs/Does`, `Top`), what each outcome says (`specs/Rows`), and what all of it
-//! tells of the meaning of the text (`specs/Meant`, `Evaluations`). There is no code to run here: each function's contract
-//! is a law. The calls themselves are in `tick_top`.
+//! tells of the meaning of the text (`specs/Meant`, `Evaluations`). There is no code to run here: each function's
+//! contract is a law. The calls themselves are in `tick_top`.
 #![tactic(auto)]
 
 mod laws;

@@ -1,13 +1,15 @@
 //! An arena and a table with ample room, each call once.
 
 ghost use Rattle.std.specs.Prelude.{◌<◌};
+ghost use Rattle.word32.specs.declared.map.TheConstants.{ARENA_WORDS};
 
 use code_arena::{CodeArena, FunctionRows};
 use std::alloc::{AllocError, Global};
+use word32::map;
 
 // The word of the arena that is executed there, or None where it is stale.
 fn fetched(arena: &CodeArena, at: u32) -> Option<u32>
-    requires { at < 8388608 }
+    requires { at < ARENA_WORDS }
 {
     arena.fetch(at).ok()
 }
@@ -16,7 +18,7 @@ fn fetched(arena: &CodeArena, at: u32) -> Option<u32>
 // neighbours the one that is flushed with it; and words are read unflushed, as they are written.
 fn words_are_flushed_before_they_run(alloc: Global) -> Result<bool, AllocError> {
     let mut arena = CodeArena::new(alloc)?;
-    let last = arena.read(8_388_607);
+    let last = arena.read(map::ARENA_WORDS - 1);
     let fresh = fetched(&arena, 7);
     arena.write(7, 0x03e0_0008);
     let written = fetched(&arena, 7);
@@ -37,7 +39,7 @@ const UNPUBLISHED: (u32, u32) = (0, 0xffff_ffff);
 // Whether all rows are unpublished at first.
 fn rows_are_unpublished(alloc: Global) -> Result<bool, AllocError> {
     let mut rows = FunctionRows::new(alloc)?;
-    let last = rows.get(65_535);
+    let last = rows.get(map::FUNCTION_ROWS - 1);
     rows.set(3, 0x0400_0000, 2);
     let found = [last, rows.get(3), rows.get(4)];
     drop(rows);

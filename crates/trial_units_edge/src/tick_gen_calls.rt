@@ -1,5 +1,6 @@
 //! The generated source.
 
+use limits::text::LONGEST_TEXT;
 use std::alloc::{AllocError, Global};
 use tick_gen::generate;
 
@@ -29,7 +30,7 @@ fn lines_of_largest(alloc: Global) -> Result<(u32, bool), AllocError> {
             lines = lines.saturating_add(1);
         }
     }
-    Ok((lines, text.len() < 1_048_576))
+    Ok((lines, text.len() < LONGEST_TEXT))
 }
 
 #[test]
