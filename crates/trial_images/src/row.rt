@@ -2,8 +2,7 @@
 
 use crate::generator::Form;
 
-/// What a line says. Bytes of an image file are in hexadecimal digits, a word is eight of them, and a number that isn't
-/// one is 0.
+/// What a line says. Bytes of an image file are in hexadecimal digits, a word is eight of them.
 #[derive(Clone, Copy)]
 pub enum Row<'a> {
     /// `section NAME`: rows of another kind follow, for which the forms so far don't count. Its name is printed.
@@ -70,12 +69,15 @@ fn words_of(line: &str) -> [&str; 5] {
 /// The row of a line; None where it has another form.
 pub fn read(line: &str) -> Option<Row<'_>> {
     let [word, first, second, third, fourth] = words_of(line);
+    if first.is_empty() {
+        return None;
+    }
     let kind = match word {
         "section" => return Some(Row::Section { name: first }),
         "form" => {
             let form = Form {
-                word: u32::from_str_radix(first, 16).unwrap_or(0),
-                mask: u32::from_str_radix(second, 16).unwrap_or(0),
+                word: u32::from_str_radix(first, 16).ok()?,
+                mask: u32::from_str_radix(second, 16).ok()?,
             };
             return Some(Row::Form { form });
         }
@@ -85,19 +87,19 @@ pub fn read(line: &str) -> Option<Row<'_>> {
         _ => return None,
     };
     let is_given = matches!(kind, Kind::Given);
+    let digits = if is_given { third } else { fourth };
+    if digits.is_empty() {
+        return None;
+    }
     Some(Row::Images {
         images: Images {
             kind,
             name: if is_given { first } else { word },
-            count: if is_given {
-                1
-            } else {
-                first.parse().unwrap_or(0)
-            },
-            steps: second.parse().unwrap_or(0),
-            from: third.parse().unwrap_or(0),
+            count: if is_given { 1 } else { first.parse().ok()? },
+            steps: second.parse().ok()?,
+            from: if is_given { 0 } else { third.parse().ok()? },
             is_counted: word == "counted",
         },
-        digits: if is_given { third } else { fourth },
+        digits,
     })
 }
