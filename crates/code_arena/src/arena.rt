@@ -27,10 +27,18 @@ pub enum WordState {
 pub struct Stale;
 
 /// The arena: `ARENA_WORDS` words, by their numbers from 0.
-#[derive(Drop)]
 pub struct CodeArena {
     words: Vec<u32>,
     states: Vec<WordState>,
+}
+
+impl Drop for CodeArena {
+    fn drop(self) {
+        let CodeArena {
+            words: _,
+            states: _,
+        } = self;
+    }
 }
 
 impl Model for CodeArena {

@@ -11,11 +11,20 @@ use std::marker::Model;
 /// It is the sparse set of Briggs and Torczon: `positions` may hold anything for a number that is
 /// not a member, since a member is a number whose position leads back to it. So nothing has to be
 /// cleared, and membership, a new member and emptying each take constant time.
-#[derive(Drop)]
 pub struct SparseSet {
     count: u32,
     members: Vec<u32>,
     positions: Vec<u32>,
+}
+
+impl Drop for SparseSet {
+    fn drop(self) {
+        let SparseSet {
+            count: _,
+            members: _,
+            positions: _,
+        } = self;
+    }
 }
 
 impl Model for SparseSet {

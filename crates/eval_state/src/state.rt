@@ -206,12 +206,17 @@ pub struct Parts<'a> {
 }
 
 /// A run from within, which contracts see by its parts.
-#[derive(Drop)]
 pub struct Machine<'a> {
     /// Its parts.
     pub parts: Parts<'a>,
     // Lists of calls that are over, whose memory serves the next ones.
     pub(crate) spare: Items<Items<u32>>,
+}
+
+impl<'a> Drop for Machine<'a> {
+    fn drop(self) {
+        let Machine { parts: _, spare: _ } = self;
+    }
 }
 
 impl<'a> Model for Machine<'a> {

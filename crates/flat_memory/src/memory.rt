@@ -16,7 +16,6 @@ use std::marker::Model;
 use word32::{Width, is_aligned, loaded_part, map, stored_part};
 
 /// The memory of a machine, but for the arena and the function table.
-#[derive(Drop)]
 pub struct Memory {
     text: Vec<u32>,
     objects: Vec<u32>,
@@ -25,6 +24,20 @@ pub struct Memory {
     cells: Vec<u32>,
     emit_stack: Vec<u32>,
     stack: Vec<u32>,
+}
+
+impl Drop for Memory {
+    fn drop(self) {
+        let Memory {
+            text: _,
+            objects: _,
+            closures: _,
+            spec_rows: _,
+            cells: _,
+            emit_stack: _,
+            stack: _,
+        } = self;
+    }
 }
 
 impl Model for Memory {

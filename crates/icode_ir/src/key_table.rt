@@ -9,10 +9,18 @@ use std::alloc::{AllocError, Global};
 use std::marker::Model;
 
 /// The keys that were mentioned, in that order, with their registers. It is emptied in constant time.
-#[derive(Drop)]
 pub struct KeyTable {
     keys: SparseSet,
     registers: Vec<u32>,
+}
+
+impl Drop for KeyTable {
+    fn drop(self) {
+        let KeyTable {
+            keys: _,
+            registers: _,
+        } = self;
+    }
 }
 
 impl Model for KeyTable {

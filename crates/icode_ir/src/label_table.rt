@@ -10,11 +10,20 @@ use std::alloc::{AllocError, Global};
 use std::marker::Model;
 
 /// The labels that were jumped to and those that stand. It is emptied in constant time.
-#[derive(Drop)]
 pub struct LabelTable {
     jumped: SparseSet,
     placed: SparseSet,
     unplaced: u32,
+}
+
+impl Drop for LabelTable {
+    fn drop(self) {
+        let LabelTable {
+            jumped: _,
+            placed: _,
+            unplaced: _,
+        } = self;
+    }
 }
 
 impl Model for LabelTable {

@@ -24,7 +24,6 @@ const SLOTS: u32 = 3;
 
 /// The tables for intervals of lists of ops, which take all their memory in `new`. Nothing that one
 /// call leaves in them bears on the next.
-#[derive(Drop)]
 pub struct Live {
     jumps: Buckets,
     definitions: Buckets,
@@ -37,6 +36,24 @@ pub struct Live {
     lows: Vec<u32>,
     highs: Vec<u32>,
     ends: Vec<u32>,
+}
+
+impl Drop for Live {
+    fn drop(self) {
+        let Live {
+            jumps: _,
+            definitions: _,
+            exposed: _,
+            starts: _,
+            found: _,
+            defining: _,
+            blocks: _,
+            lasts: _,
+            lows: _,
+            highs: _,
+            ends: _,
+        } = self;
+    }
 }
 
 impl Model for Live {

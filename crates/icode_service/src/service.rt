@@ -24,7 +24,6 @@ use std::mem::swap;
 
 /// The services, with the builder of the function that is begun and the places of the one that was finished last. They
 /// take all their memory in `new`.
-#[derive(Drop)]
 pub struct Service {
     builder: Builder,
     is_begun: bool,
@@ -35,6 +34,20 @@ pub struct Service {
     // room for those of the next
     next: Vec<u8>,
     spills: u64,
+}
+
+impl Drop for Service {
+    fn drop(self) {
+        let Service {
+            builder: _,
+            is_begun: _,
+            tables: _,
+            places: _,
+            count: _,
+            next: _,
+            spills: _,
+        } = self;
+    }
 }
 
 impl Model for Service {
@@ -105,11 +118,12 @@ impl Service {
     {
         let Service {
             builder,
+            is_begun: _,
             tables,
             mut places,
             count,
             next,
-            ..
+            spills: _,
         } = self;
         drop(builder);
         drop(tables);

@@ -27,13 +27,24 @@ use word32::map;
 const MOST_WORDS: usize = OP_WORDS * MOST_OPS as usize + FRAME_WORDS;
 
 /// The tables, which take all their memory in `new`. Nothing that one function leaves in them bears on the next.
-#[derive(Drop)]
 pub(crate) struct Tables {
     live: Live,
     scanner: Scanner,
     intervals: Vec<Interval>,
     labels: Vec<u32>,
     words: Vec<u32>,
+}
+
+impl Drop for Tables {
+    fn drop(self) {
+        let Tables {
+            live: _,
+            scanner: _,
+            intervals: _,
+            labels: _,
+            words: _,
+        } = self;
+    }
 }
 
 impl Model for Tables {

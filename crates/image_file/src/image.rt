@@ -19,12 +19,22 @@ pub struct FunctionEntry {
 ///
 /// Every image has a text of at most 15,728,640 words, at most 4,194,304 bytes and at most 65,535 functions. Its entry
 /// and its functions stand at words of the text, and no function takes over 8 arguments.
-#[derive(Drop)]
 pub struct Image {
     entry: u32,
     text: Vec<u32>,
     bytes: Vec<u8>,
     functions: Vec<FunctionEntry>,
+}
+
+impl Drop for Image {
+    fn drop(self) {
+        let Image {
+            entry: _,
+            text: _,
+            bytes: _,
+            functions: _,
+        } = self;
+    }
 }
 
 impl Model for Image {

@@ -23,12 +23,20 @@ use std::marker::Model;
 pub const SLOT: u8 = 12;
 
 /// The tables of the scan, which are made once and serve any number of scans.
-#[derive(Drop)]
 pub struct Scanner {
     // The numbers that are held, by the ends of the intervals that hold them.
     keepers: Row,
     // The register of the interval that holds each number.
     owners: [u32; 13],
+}
+
+impl Drop for Scanner {
+    fn drop(self) {
+        let Scanner {
+            keepers: _,
+            owners: _,
+        } = self;
+    }
 }
 
 impl Model for Scanner {

@@ -27,10 +27,15 @@ use std::marker::Model;
 
 /// The machine but for its services: the words of its text, which never change, and the rest, whose memory has them
 /// too.
-#[derive(Drop)]
 pub struct Core {
     text: Vec<u32>,
     rest: Rest,
+}
+
+impl Drop for Core {
+    fn drop(self) {
+        let Core { text: _, rest: _ } = self;
+    }
 }
 
 impl Model for Core {

@@ -25,7 +25,6 @@ use std::alloc::{AllocError, Global};
 use std::marker::Model;
 
 /// The machine but for its services and the text that it fetches.
-#[derive(Drop)]
 pub(crate) struct Rest {
     pub(crate) pc: Pc,
     // where the run goes on behind a delay slot, if the next instruction stands in one
@@ -42,6 +41,26 @@ pub(crate) struct Rest {
     pub(crate) arena: CodeArena,
     pub(crate) table: FunctionRows,
     pub(crate) stopped: Option<Halt>,
+}
+
+impl Drop for Rest {
+    fn drop(self) {
+        let Rest {
+            pc: _,
+            target: _,
+            loaded: _,
+            recent: _,
+            slot: _,
+            pending: _,
+            registers: _,
+            hi: _,
+            lo: _,
+            memory: _,
+            arena: _,
+            table: _,
+            stopped: _,
+        } = self;
+    }
 }
 
 impl Model for Rest {

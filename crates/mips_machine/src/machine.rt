@@ -16,7 +16,6 @@ use std::alloc::{AllocError, Global};
 use std::marker::Model;
 
 /// A machine with an image in its memory. A stop other than Steps is final.
-#[derive(Drop)]
 pub struct Machine {
     pub(crate) core: Core,
     pub(crate) service: CodeService,
@@ -24,6 +23,19 @@ pub struct Machine {
     pub(crate) tally: Tally,
     pub(crate) steps: u64,
     pub(crate) stopped: Option<Stop>,
+}
+
+impl Drop for Machine {
+    fn drop(self) {
+        let Machine {
+            core: _,
+            service: _,
+            at_end: _,
+            tally: _,
+            steps: _,
+            stopped: _,
+        } = self;
+    }
 }
 
 impl Model for Machine {
@@ -146,7 +158,14 @@ impl Machine {
     pub fn into_choices(self) -> Vec<u8>
         ensures { result.items ≡ (progress_of self).state.d.outside.making.generator.choices }
     {
-        let Machine { core, service, .. } = self;
+        let Machine {
+            core,
+            service,
+            at_end: _,
+            tally: _,
+            steps: _,
+            stopped: _,
+        } = self;
         drop(core);
         service.into_choices()
     }

@@ -68,10 +68,15 @@ impl Label {
 }
 
 /// The labels of a text, each with its first place.
-#[derive(Drop)]
 pub struct Labels {
     alloc: Global,
     names: IndexMap<Vec<u8>, Label>,
+}
+
+impl Drop for Labels {
+    fn drop(self) {
+        let Labels { alloc: _, names: _ } = self;
+    }
 }
 
 impl Model for Labels {

@@ -5,7 +5,6 @@ use host_edge::Counts;
 use image_file::Image;
 
 /// What a call did.
-#[derive(Drop)]
 pub struct Ended {
     /// How it ended.
     pub outcome: Outcome,
@@ -17,4 +16,16 @@ pub struct Ended {
     pub counts: Counts,
     /// The image that the machine ran, where one was made.
     pub image: Option<Image>,
+}
+
+impl Drop for Ended {
+    fn drop(self) {
+        let Ended {
+            outcome: _,
+            steps: _,
+            choices: _,
+            counts: _,
+            image: _,
+        } = self;
+    }
 }
