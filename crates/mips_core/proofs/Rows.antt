@@ -18,7 +18,7 @@ use Rattle.mips_core.specs.declared.halt.Halt.{Halt}
 use Rattle.mips_core.specs.declared.halt.Went.{Went}
 use Rattle.mips_core.specs.declared.halt.Went.TheVariants as went
 use Rattle.mips_core.specs.Core.{CoreKept, Acts, Becomes, IsClear, IsReady, accessing, acting, at, data_of, does}
-use Rattle.mips_core.specs.Core.{ending_from, given, is_loaded, is_recent, moved, next_of, state_of, took, with_loaded}
+use Rattle.mips_core.specs.Core.{ending_from, given, is_loaded, is_recent, moved, next_of, state_of}
 use Rattle.mips_core.specs.Core.{with_recent, world_of, wrote}
 
 -- both arguments in other words
@@ -35,9 +35,25 @@ pub runs : (k : CoreKept) (pc : ℕ) → k.stopped ≡ None → world_of (at pc 
 runs k pc on =
     ap (λ (o : Option Halt). let w : World = record { state = state_of (at pc k); ending = ending_from o } in w) on
 
-not_ended : (o : Option Halt) → ending_from o ≡ None → o ≡ None
+pub not_ended : (o : Option Halt) → ending_from o ≡ None → o ≡ None
 not_ended None is = refl
 not_ended (Some halt) is = absurd cc
+
+-- a register took a value
+pub ready_behind : {aside : Bool} {pc : ℕ} {k new : CoreKept} (r v : ℕ) → IsReady aside pc k →
+    world_of (at pc new) ≡ wrote r v (world_of (at pc k)) → IsReady aside pc new
+ready_behind {aside} {pc} {k} {new} r v ready is = record {
+  on = not_ended new.stopped (ap (λ (w : World). w.ending) is ∙ ap ending_from ready.on);
+  near = ready.near;
+  apart = ready.apart;
+  plain = λ plain.
+      let c = ready.plain plain in
+      record {
+        no_slot = ap (λ (w : World). w.state.slot) is ∙ c.no_slot;
+        not_loaded = ap (λ (w : World). w.state.loaded) is ∙ c.not_loaded;
+        not_recent = ap (λ (w : World). w.state.recent) is ∙ c.not_recent;
+      };
+}
 
 -- an instruction was executed, and nothing is pending behind it, or something is
 pub goes_on : {aside : Bool} {pc next : ℕ} {k new : CoreKept} {w : World} → IsReady aside pc k →
@@ -260,6 +276,13 @@ none_of (suc n) =
     let no : nat_eq 0 (suc n) ≡ false = grind (arith, nat_tests) in
     sym (ap (λ (q : Bool). if nat_eq (suc n) 0 then false else (q || (q || q))) no)
 
+pub zero_loaded : (loaded : ℕ) → is_loaded loaded 0 0 0 ≡ false
+zero_loaded loaded = sym (none_of loaded) ∙ by (nat_eq loaded 0)
+  where
+    by : (b : Bool) → (if b then false else false) ≡ false
+    by true = refl
+    by false = refl
+
 pub jump_names_none : (k : CoreKept) →
     Jumping (if nat_eq k.loaded 0 then false else false) k.recent k.slot ≡ (k.slot || is_loaded k.loaded 0 0 0)
 jump_names_none k =
@@ -358,18 +381,6 @@ accesses k pc w {op} {o} {r} {x} {n} is first second third clear =
     both (λ (p : MemoryOp) (q : ℕ). accessing p q ((x + n) % 4294967296) s) (sym is) first
     ∙ both (λ (u v : ℕ). accessing op (rt w) ((u + v) % 4294967296) s) second third
     ∙ no_hazard (Memory op (rt w) (immediate w) (rs w)) s (two_names k (rt w) (rs w) ∙ clear) refl
-
--- a value was loaded to a register
-pub loaded_to : (k mid on : CoreKept) (pc next r v : ℕ) {w : World} →
-    w ≡ with_loaded r (world_of (at next on)) →
-    world_of (at next on) ≡ moved ((at pc mid).next + 4) false (world_of (at pc mid)) →
-    world_of (at pc mid) ≡ wrote r v (world_of (at pc k)) → k.stopped ≡ None →
-    w ≡ took r v (state_of (at pc k))
-loaded_to k mid on pc next r v loaded went takes stopped =
-    loaded
-    ∙ ap (with_loaded r) went
-    ∙ ap (λ (w : World). with_loaded r (moved (w.state.next + 4) false w)) takes
-    ∙ ap (λ (w : World). with_loaded r (moved (w.state.next + 4) false (wrote r v w))) (runs k pc stopped)
 
 -- HI or LO was read to a register
 pub read_half : (k mid on new : CoreKept) (pc next : ℕ) {r q v u : ℕ} →

@@ -1,20 +1,25 @@
 -- What one instruction's answer says of it, and stretches one after another.
-use Rattle.std.proofs.Common.{zero, suc, inl, ◌≡◌, ◌≢◌, ◌<◌, ◌⊎◌, ℕ, ◌+◌, Bool, true, false, None}
-use Rattle.std.proofs.Common.{Result, Ok, nat_eq, refl, sym, ap, arith, ◌∙◌, subst, ⊎_elim}
+use Rattle.std.proofs.Common.{zero, suc, inl, ◌≡◌, ◌≢◌, ◌<◌, ◌⊎◌, ℕ, ◌+◌, ◌-◌, Bool, true, false, None}
+use Rattle.std.proofs.Common.{Option, if◌then◌else◌, Result, Ok, nat_eq, refl, sym, ap, arith, ◌∙◌, subst, ⊎_elim}
 use Rattle.std.proofs.lemmas.Bool.Decides.{nat_tests}
 use Rattle.host_edge.specs.declared.ending.MachineKind.{MachineKind}
 use Rattle.mips_encoder.specs.Decoded.{instr_of}
 use Rattle.mips_model.specs.State.{World}
 use Rattle.mips_model.specs.Steps.{step}
-use Rattle.mips_model.specs.Steps.{execute, found, word_at}
+use Rattle.mips_model.specs.Steps.{act, execute, faulted, found, is_hazard, word_at}
+use Rattle.mips_encoder.specs.declared.instruction.Instr.{Instr}
+use Rattle.mips_encoder.specs.declared.instruction.Instr.TheVariants.{Shift}
+use Rattle.mips_encoder.specs.declared.instruction.ShiftOp.TheVariants.{Sll}
+use Rattle.host_edge.specs.declared.ending.MachineKind.TheVariants as kind
+use Rattle.mips_core.specs.declared.halt.Halt.{Halt}
 use Rattle.mips_model.specs.Beside.{is_at_service, is_service}
 use Rattle.mips_model.proofs.Traces.{text_stays}
 use Rattle.mips_core.specs.declared.halt.Went.{Went}
 use Rattle.mips_core.specs.declared.halt.Went.TheVariants as went
-use Rattle.mips_core.specs.Core.{CoreKept, Executes, GoesOn, IsClear, Leaves, Pauses, at, state_of, went_to}
-use Rattle.mips_core.specs.Core.{world_of}
+use Rattle.mips_core.specs.Core.{CoreKept, Executes, Follows, GoesOn, IsClear, IsPassed, Leaves, Pauses}
+use Rattle.mips_core.specs.Core.{at, behind, ending_from, moved, next_of, state_of, world_of}
 use Rattle.mips_core.proofs.Loops.{goes_more}
-use Rattle.mips_core.proofs.Rows.{runs}
+use Rattle.mips_core.proofs.Rows.{runs, two_names, zero_loaded}
 
 -- the two clauses of a step from what was kept to what is
 abbrev pub Services : Went → ℕ → CoreKept → CoreKept → Type 0
@@ -22,11 +27,11 @@ Services r pc mid new = is_at_service (state_of (at pc mid)) ≡ true → (r ≡
 
 abbrev pub Others : Bool → Went → ℕ → CoreKept → CoreKept → Type 0
 Others aside r pc mid new = is_at_service (state_of (at pc mid)) ≡ false →
-    (world_of (at (went_to r pc) new) ≡ step (world_of (at pc mid))) × Leaves aside r pc new
+    (world_of (behind r pc new) ≡ step (world_of (at pc mid))) × Leaves aside r pc new
 
 -- what is known behind an instruction that was executed or refused
 pub record More (count : ℕ) (first : CoreKept) (aside : Bool) (r : Went) (pc : ℕ) (mid new : CoreKept) : Type 0 where
-  pub ran : GoesOn (count + 1) first (at (went_to r pc) new)
+  pub ran : GoesOn (count + 1) first (behind r pc new)
   pub leaves : Leaves aside r pc new
   pub text : (state_of new).code.text ≡ (state_of mid).code.text
 
@@ -65,6 +70,14 @@ no_service : {P Q : Type 0} (b : Bool) {r : Went} → (b ≡ true → (r ≡ wen
 no_service true f g not = absurd (not (f refl).0)
 no_service false f g not = (refl, g refl)
 
+pub same_code : (r : Went) (pc : ℕ) (k : CoreKept) → (state_of (behind r pc k)).code.text ≡ (state_of k).code.text
+same_code (went.On next) pc k = refl
+same_code (went.Slot target) pc k = refl
+same_code (went.Loaded n) pc k = refl
+same_code (went.Pending next) pc k = refl
+same_code went.Stopped pc k = refl
+same_code went.Service pc k = refl
+
 pub one_more : {count : ℕ} {first : CoreKept} (aside : Bool) (r : Went) (pc : ℕ) (mid new : CoreKept) →
     Services r pc mid new → Others aside r pc mid new → r ≢ went.Service → mid.stopped ≡ None →
     GoesOn count first (at pc mid) → More count first aside r pc mid new
@@ -73,7 +86,8 @@ one_more {count} {first} aside r pc mid new f g not on goes =
     record {
       ran = goes_more goes on h.0 h.1.0;
       leaves = h.1.1;
-      text = ap (λ (w : World). w.state.code.text) h.1.0 ∙ text_stays 1 (world_of (at pc mid));
+      text = sym (same_code r pc new) ∙ ap (λ (w : World). w.state.code.text) h.1.0
+          ∙ text_stays 1 (world_of (at pc mid));
     }
 
 pub on_not : (next : ℕ) → went.On next ≢ went.Service
@@ -100,34 +114,6 @@ pub record Onward (count : ℕ) (first : CoreKept) (pc : ℕ) (mid new : CoreKep
   pub ran : GoesOn (count + 1) first (at pc new)
   pub on : new.stopped ≡ None
   pub text : (state_of new).code.text ≡ (state_of mid).code.text
-
--- where nothing was pending, and nothing is
-pub plain_on : {count : ℕ} {first : CoreKept} {r : Went} {next : ℕ} (pc : ℕ) (mid new : CoreKept) →
-    Services r pc mid new → Others false r pc mid new → r ≡ went.On next → mid.stopped ≡ None →
-    GoesOn count first (at pc mid) → Onward count first (pc + 4) mid new × IsClear new
-plain_on {count} {first} {r} {next} pc mid new f g is on goes =
-    let m = one_more false (went.On next) pc mid new (subst (λ (x : Went). Services x pc mid new) is f)
-    (subst (λ (x : Went). Others false x pc mid new) is g) (on_not next) on goes in (
-      record {
-        ran = subst (λ (n : ℕ). GoesOn (count + 1) first (at n new)) (m.leaves.1 refl).1 m.ran;
-        on = m.leaves.0;
-        text = m.text;
-      },
-      (m.leaves.1 refl).0,
-    )
-
--- where nothing was pending, and something is
-pub plain_pending : {count : ℕ} {first : CoreKept} {r : Went} {next : ℕ} (pc : ℕ) (mid new : CoreKept) →
-    Services r pc mid new → Others false r pc mid new → r ≡ went.Pending next → mid.stopped ≡ None →
-    GoesOn count first (at pc mid) → Onward count first (pc + 4) mid new
-plain_pending {count} {first} {r} {next} pc mid new f g is on goes =
-    let m = one_more false (went.Pending next) pc mid new (subst (λ (x : Went). Services x pc mid new) is f)
-    (subst (λ (x : Went). Others false x pc mid new) is g) (pending_not next) on goes in
-    record {
-      ran = subst (λ (n : ℕ). GoesOn (count + 1) first (at n new)) (m.leaves.1 refl) m.ran;
-      on = m.leaves.0;
-      text = m.text;
-    }
 
 -- where something was pending
 pub aside_on : {count : ℕ} {first : CoreKept} {r : Went} {next : ℕ} (pc : ℕ) (mid new : CoreKept) →
@@ -167,19 +153,15 @@ pub aside_next : {count : ℕ} {first : CoreKept} {r : Went} {next : ℕ} (pc : 
 aside_next {count} {first} {r} {next} pc mid new f g is on goes =
     ⊎_elim (λ one. aside_on pc mid new f g one on goes) (λ other. aside_pending pc mid new f g other on goes) is
 
-pub on_runs : (next : ℕ) → went.On next ≢ went.Stopped
-on_runs next is = absurd cc
-
-pub pending_runs : (next : ℕ) → went.Pending next ≢ went.Stopped
-pending_runs next is = absurd cc
-
 pub service_runs : went.Service ≢ went.Stopped
 service_runs is = absurd cc
 
 -- the machine has stopped at an instruction: its world, and what the answer says
 pub halted_world : (r : Went) (pc : ℕ) (k : CoreKept) (w : World) → world_of (at pc k) ≡ w →
-    (r ≡ went.Stopped) × (k.stopped ≢ None) → world_of (at (went_to r pc) k) ≡ w
+    (r ≡ went.Stopped) × (k.stopped ≢ None) → world_of (behind r pc k) ≡ w
 halted_world (went.On next) pc k w is e = absurd cc
+halted_world (went.Slot target) pc k w is e = absurd cc
+halted_world (went.Loaded n) pc k w is e = absurd cc
 halted_world (went.Pending next) pc k w is e = absurd cc
 halted_world went.Stopped pc k w is e = is
 halted_world went.Service pc k w is e = absurd cc
@@ -187,6 +169,86 @@ halted_world went.Service pc k w is e = absurd cc
 pub halted_leaves : (aside : Bool) (r : Went) (pc : ℕ) (k : CoreKept) → (r ≡ went.Stopped) × (k.stopped ≢ None) →
     Leaves aside r pc k
 halted_leaves aside (went.On next) pc k e = absurd cc
+halted_leaves aside (went.Slot target) pc k e = absurd cc
+halted_leaves aside (went.Loaded n) pc k e = absurd cc
 halted_leaves aside (went.Pending next) pc k e = absurd cc
 halted_leaves aside went.Stopped pc k e = e.1
 halted_leaves aside went.Service pc k e = absurd cc
+
+-- a nop, which is never a hazard, goes on past what was pending
+abbrev nop : Instr
+nop = Shift Sll 0 0 0
+
+quietly : (k : CoreKept) → is_hazard nop (state_of k) ≡ false
+quietly k = two_names k 0 0 ∙ zero_loaded k.loaded
+
+pub nop_moves : (k : CoreKept) → k.stopped ≡ None → word_at (state_of k).code k.pc ≡ Ok 0 →
+    step (world_of k) ≡ moved (k.next + 4) false (world_of k)
+nop_moves k on here =
+    let s = state_of k in
+    ap (λ (o : Option Halt). step (record { state = s; ending = ending_from o })) on
+    ∙ ap (λ (f : Result ℕ MachineKind). execute (found f) s) here
+    ∙ ap (λ (b : Bool). if b then faulted kind.Hazard s else act nop s) (quietly k)
+    ∙ sym (ap (λ (o : Option Halt). moved (k.next + 4) false (record { state = s; ending = ending_from o })) on)
+
+pub nop_is_other : (k : CoreKept) → word_at (state_of k).code k.pc ≡ Ok 0 → is_at_service (state_of k) ≡ false
+nop_is_other k here = ap is_service here
+
+-- where nothing is pending
+abbrev plainly : CoreKept → (to : ℕ) → Bool → (loaded recent : ℕ) → World
+plainly k to slot loaded recent = record {
+  state = record (state_of (at to k)) { next = next_of slot k.next to; loaded = loaded; recent = recent; slot = slot };
+  ending = ending_from k.stopped;
+}
+
+clear_at : (k : CoreKept) (to : ℕ) → IsClear k → world_of (at to k) ≡ plainly k to false 0 (k.recent - 1)
+clear_at k to c =
+    ap (λ (b : Bool). plainly k to b k.loaded k.recent) c.no_slot
+    ∙ ap (λ (n : ℕ). plainly k to false n k.recent) c.not_loaded
+    ∙ ap (plainly k to false 0) (c.not_recent ∙ sym (ap (λ (n : ℕ). n - 1) c.not_recent))
+
+pub past_slot : {target left pc' left' : ℕ} (pc : ℕ) (k : CoreKept) → k.stopped ≡ None → IsClear k →
+    word_at (state_of k).code (pc + 4) ≡ Ok 0 → 0 < left → left' ≡ left - 1 → pc' ≡ target →
+    Follows (behind (went.Slot target) pc k) left true pc' left' k
+past_slot {target} {left} {pc'} {left'} pc k on clear here some fewer is =
+    let from = behind (went.Slot target) pc k in
+    let passed : IsPassed from left pc' left' k = record {
+      some = some;
+      other = nop_is_other from here;
+      world = ap (λ (n : ℕ). world_of (at n k)) is ∙ clear_at k target clear ∙ sym (nop_moves from on here);
+      fewer = fewer;
+    } in
+    record { on = on; clear = λ is. clear; went = inl passed }
+
+pub past_load : {left pc' left' : ℕ} (pc r : ℕ) (k : CoreKept) → k.stopped ≡ None → IsClear k →
+    word_at (state_of k).code (pc + 4) ≡ Ok 0 → 0 < left → left' ≡ left - 1 → pc' ≡ pc + 4 + 4 →
+    Follows (behind (went.Loaded r) pc k) left true pc' left' k
+past_load {left} {pc'} {left'} pc r k on clear here some fewer is =
+    let from = behind (went.Loaded r) pc k in
+    let passed : IsPassed from left pc' left' k = record {
+      some = some;
+      other = nop_is_other from here;
+      world = ap (λ (n : ℕ). world_of (at n k)) is
+          ∙ clear_at k (pc + 4 + 4) clear
+          ∙ sym (ap (λ (b : Bool). plainly k (next_of b k.next (pc + 4)) false 0 (k.recent - 1)) clear.no_slot)
+          ∙ sym (nop_moves from on here);
+      fewer = fewer;
+    } in
+    record { on = on; clear = λ is. clear; went = inl passed }
+
+-- what is known of the core where the run went on
+pub runs_on : (r : Went) (pc : ℕ) (k : CoreKept) → r ≢ went.Stopped → Leaves false r pc k → k.stopped ≡ None
+runs_on (went.On next) pc k not e = e.0
+runs_on (went.Slot target) pc k not e = e.0
+runs_on (went.Loaded n) pc k not e = e.0
+runs_on (went.Pending next) pc k not e = e.0
+runs_on went.Stopped pc k not e = absurd (not refl)
+runs_on went.Service pc k not e = absurd e
+
+pub same_stop : (r : Went) (pc : ℕ) (k : CoreKept) → (behind r pc k).stopped ≡ k.stopped
+same_stop (went.On next) pc k = refl
+same_stop (went.Slot target) pc k = refl
+same_stop (went.Loaded n) pc k = refl
+same_stop (went.Pending next) pc k = refl
+same_stop went.Stopped pc k = refl
+same_stop went.Service pc k = refl

@@ -1,15 +1,17 @@
 -- What was executed of a number of instructions, one instruction after another.
-use Rattle.std.proofs.Common.{zero, suc, inr, ◌≡◌, ◌≢◌, ℕ, ◌+◌, ◌-◌, ◌≤◌, ◌<◌, List, true, false, None}
-use Rattle.std.proofs.Common.{refl, sym, ap, subst, ◌∙◌, arith}
+use Rattle.std.proofs.Common.{zero, suc, inr, ◌≡◌, ◌≢◌, ℕ, ◌+◌, ◌-◌, ◌≤◌, ◌<◌, List, Bool, true, false, None}
+use Rattle.std.proofs.Common.{refl, sym, ap, subst, ◌∙◌, arith, ⊎_elim}
 use Rattle.flat_memory.specs.Spaces.{text_of}
 use Rattle.mips_model.specs.State.{World}
 use Rattle.mips_model.specs.Steps.{step}
 use Rattle.mips_model.specs.Beside.{is_at_service}
 use Rattle.mips_model.proofs.Traces.{text_stays}
+use Rattle.mips_core.specs.declared.halt.Went.{Went}
 use Rattle.mips_core.specs.declared.halt.Went.TheVariants as went
-use Rattle.mips_core.specs.Core.{CoreKept, GoesOn, Pauses, at, state_of, world_of}
+use Rattle.mips_core.specs.Core.{CoreKept, Follows, GoesOn, IsPassed, Leaves, Pauses, at, behind, state_of, world_of}
 use Rattle.mips_core.proofs.Loops.{goes_count, goes_more}
-use Rattle.mips_core.proofs.Stepped.{Services, Others, Onward, one_more, serves_by, stopped_not}
+use Rattle.mips_core.proofs.Stepped.{Services, Others, Onward, one_more, runs_on, same_code}
+use Rattle.mips_core.proofs.Stepped.{same_stop, serves_by, stopped_not}
 
 -- so many of n are left, and the next instruction stands at this address
 pub record Ran (n left pc : ℕ) (first now : CoreKept) : Type 0 where
@@ -51,6 +53,51 @@ stepped {count} {pc} {next} {first} {mid} {new} on service is goes = record {
 pub onward : {count next : ℕ} {first mid new : CoreKept} → new.stopped ≡ None → Stepped count next first mid new →
     Onward count first next mid new
 onward on s = record { ran = s.ran; on = on; text = s.text }
+
+-- one instruction more, and a nop behind it, where nothing was pending
+pub follows : {n left pc pc' left' : ℕ} {first mid new k : CoreKept} {r : Went} (none : Bool) → 0 < left →
+    Ran n left pc first mid → Services r pc mid new → Others false r pc mid new → r ≢ went.Service →
+    r ≢ went.Stopped → Follows (behind r pc new) (left - 1) none pc' left' k → Ran n left' pc' first k
+follows {n} {left} {pc} {pc'} {left'} {first} {mid} {new} {k} {r} none some ran f g not runs h =
+    let m = one_more false r pc mid new f g not ran.on ran.ran in
+    let le = ran.within in
+    let on : (behind r pc new).stopped ≡ None = same_stop r pc new ∙ runs_on r pc new runs m.leaves in
+    let text : (state_of (behind r pc new)).code.text ≡ (state_of first).code.text =
+    same_code r pc new ∙ m.text ∙ ran.text in
+    ⊎_elim
+    (λ (p : IsPassed (behind r pc new) (left - 1) pc' left' k).
+    let more = p.some in
+    let fewer = p.fewer in
+    record {
+      within = omega (arith, le, fewer);
+      ran = goes_count (omega (arith, le, some, more, fewer)) (goes_more m.ran on p.other p.world);
+      on = h.on;
+      text = ap (λ (w : World). w.state.code.text) p.world ∙ text_stays 1 (world_of (behind r pc new)) ∙ text;
+    })
+    (λ (e : (at pc' k ≡ behind r pc new) × (left' ≡ left - 1)).
+    let fewer = e.1 in
+    record {
+      within = omega (arith, le, fewer);
+      ran = subst (GoesOn (n - left') first) (sym e.0) (goes_count (omega (arith, le, some, fewer)) m.ran);
+      on = h.on;
+      text = ap (λ (c : CoreKept). (state_of c).code.text) e.0 ∙ text;
+    })
+    h.went
+
+pub fewer_left : {from k : CoreKept} {left pc left' : ℕ} {none : Bool} → 0 < left →
+    Follows from (left - 1) none pc left' k → left' < left
+fewer_left {from} {k} {left} {pc} {left'} some h =
+    ⊎_elim
+    (λ (p : IsPassed from (left - 1) pc left' k). let fewer = p.fewer in omega (arith, some, fewer))
+    (λ (e : (at pc k ≡ from) × (left' ≡ left - 1)). let fewer = e.1 in omega (arith, some, fewer))
+    h.went
+
+-- what is told to the call that goes on behind an instruction
+pub left_by : {n left pc : ℕ} {first mid new : CoreKept} {r : Went} → Ran n left pc first mid →
+    Services r pc mid new → Others false r pc mid new → r ≢ went.Service →
+    Leaves false r pc new × ((state_of new).code.text ≡ (state_of first).code.text)
+left_by {n} {left} {pc} {first} {mid} {new} {r} ran f g not =
+    let m = one_more false r pc mid new f g not ran.on ran.ran in (m.leaves, m.text ∙ ran.text)
 
 -- the machine has stopped at an instruction, and the core stands there
 pub stops : {n left pc : ℕ} {first mid new now : CoreKept} → 0 < left → Ran n left pc first mid →

@@ -1,7 +1,7 @@
 -- What the code keeps of the machine's state, in lists, and the state that it stands for. What passes between a run and
 -- the outside is kept by nobody: here the state has none of it, and whoever runs the core says what it is.
-use Rattle.std.specs.Prelude.{zero, suc, ◌≢◌, ◌⊎◌, ⊤, ◌≡◌, ℕ, ◌+◌, ◌-◌, ◌/◌, ◌%◌, ◌==◌, ◌<◌, Bool, true, false, ◌||◌}
-use Rattle.std.specs.Prelude.{nat_eq, nat_lt, Result, Ok, Err, if◌then◌else◌, List, [], Option, Some, None}
+use Rattle.std.specs.Prelude.{zero, suc, ◌≢◌, ◌⊎◌, ⊤, ◌≡◌, ℕ, ◌+◌, ◌-◌, ◌/◌, ◌%◌, ◌==◌, ◌<◌, ◌≤◌, Bool, true, false}
+use Rattle.std.specs.Prelude.{◌||◌, nat_eq, nat_lt, Result, Ok, Err, if◌then◌else◌, List, [], Option, Some, None}
 use Rattle.std.specs.Prelude.{slice_index}
 use Rattle.std.specs.Fn.{iterate}
 use Rattle.flat_memory.specs.Spaces.{Spaces, text_of}
@@ -126,9 +126,6 @@ moved next slot w =
           { pc = w.state.next; next = next; loaded = 0; recent = w.state.recent - 1; slot = slot };
     }
 
-abbrev pub with_loaded : ℕ → World → World
-with_loaded r w = record w { state = record w.state { loaded = r } }
-
 abbrev pub with_recent : ℕ → World → World
 with_recent n w = record w { state = record w.state { recent = n } }
 
@@ -136,31 +133,51 @@ with_recent n w = record w { state = record w.state { recent = n } }
 abbrev pub is_recent : ℕ → Bool
 is_recent n = if nat_eq n 0 then false else true
 
--- where the run stands behind an instruction that stood at an address
-abbrev pub went_to : Went → ℕ → ℕ
-went_to (went.On next) pc = next
-went_to (went.Pending next) pc = next
-went_to went.Stopped pc = pc
-went_to went.Service pc = pc
+-- The core with the next instruction in a delay slot, behind which the run goes on at a target; and with this register
+-- just loaded.
+abbrev pub delayed : (target : ℕ) → CoreKept → CoreKept
+delayed target k = record k { next = target; slot = true }
+
+abbrev pub held : (r : ℕ) → CoreKept → CoreKept
+held r k = record k { loaded = r }
+
+-- The core as it stands behind an instruction that stood at an address. Where nothing was pending before it, what is
+-- pending behind it is in the answer, and not yet in the core.
+abbrev pub behind : Went → ℕ → CoreKept → CoreKept
+behind (went.On next) pc k = at next k
+behind (went.Slot target) pc k = delayed target (at (pc + 4) k)
+behind (went.Loaded r) pc k = held r (at (pc + 4) k)
+behind (went.Pending next) pc k = at next k
+behind went.Stopped pc k = at pc k
+behind went.Service pc k = at pc k
 
 -- What an instruction's answer says of the core behind it: whether the run goes on, and where nothing was pending
 -- before it, that nothing is again unless the answer says so, and that the next word follows.
 abbrev pub Leaves : (aside : Bool) → Went → ℕ → CoreKept → Type 0
 Leaves aside (went.On next) pc k = (k.stopped ≡ None) × (aside ≡ false → IsClear k × (next ≡ pc + 4))
+Leaves aside (went.Slot target) pc k = (k.stopped ≡ None) × ((aside ≡ false) × IsClear k)
+Leaves aside (went.Loaded r) pc k = (k.stopped ≡ None) × ((aside ≡ false) × (IsClear k × (r < 32)))
 Leaves aside (went.Pending next) pc k = (k.stopped ≡ None) × (aside ≡ false → next ≡ pc + 4)
 Leaves aside went.Stopped pc k = k.stopped ≢ None
 Leaves aside went.Service pc k = ⊥
 
+-- the address of a word from which a branch goes to one, without a wrap
+pub record IsApart (pc : ℕ) : Type 0 where
+  pub whole : pc % 4 ≡ 0
+  pub far : 131072 ≤ pc
+  pub low : pc < 4294836224
+
 -- What an instruction at an address is told of the core: it hasn't stopped, both words behind the instruction have
--- addresses, and nothing is pending unless it is executed aside.
+-- addresses, a branch needs no wrap there, and nothing is pending unless it is executed aside.
 pub record IsReady (aside : Bool) (pc : ℕ) (k : CoreKept) : Type 0 where
   pub on : k.stopped ≡ None
   pub near : pc < 4294967288
+  pub apart : IsApart pc
   pub plain : aside ≡ false → IsClear k
 
 -- what an instruction at an address did, by its answer: the world behind it, and what the answer says of the core
 pub record Becomes (aside : Bool) (w : World) (r : Went) (pc : ℕ) (k : CoreKept) : Type 0 where
-  pub world : world_of (at (went_to r pc) k) ≡ w
+  pub world : world_of (behind r pc k) ≡ w
   pub leaves : Leaves aside r pc k
 
 abbrev pub chosen : Bool → ℕ → ℕ → ℕ
@@ -252,6 +269,20 @@ word_of (Err why) = None
 abbrev pub Pauses : ℕ → CoreKept → Type 0
 Pauses zero k = ⊤
 Pauses (suc left) k = (k.stopped ≢ None) ⊎ ((k.stopped ≡ None) × (is_at_service (state_of k) ≡ true))
+
+-- an instruction that is no service was executed
+pub record IsPassed (from : CoreKept) (left pc left' : ℕ) (k : CoreKept) : Type 0 where
+  pub some : 0 < left
+  pub other : is_at_service (state_of from) ≡ false
+  pub world : world_of (at pc k) ≡ step (world_of from)
+  pub fewer : left' ≡ left - 1
+
+-- The run went on behind an instruction, from where that left the core (`from`) with so many left (`left`): past a nop
+-- too, if one was next while something was pending, or not yet.
+pub record Follows (from : CoreKept) (left : ℕ) (none : Bool) (pc left' : ℕ) (k : CoreKept) : Type 0 where
+  pub on : k.stopped ≡ None
+  pub clear : none ≡ true → IsClear k
+  pub went : IsPassed from left pc left' k ⊎ ((at pc k ≡ from) × (left' ≡ left))
 
 -- the first state, but for what its memory, its arena and its table hold
 abbrev pub begun : ℕ → Spaces → Arena → (ℕ → ℕ × ℕ) → State

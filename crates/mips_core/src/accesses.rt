@@ -37,9 +37,13 @@ impl Rest {
     {
         self.write(r, v);
         let next = self.advance::<ASIDE>(pc);
-        self.loaded = r.number();
-        self.pending = true;
-        Went::Pending(next)
+        let number = r.number() as usize;
+        if ASIDE {
+            self.hold(number);
+            Went::Pending(next)
+        } else {
+            Went::Loaded(number)
+        }
     }
 
     /// A word holds what is loaded to a register.

@@ -26,13 +26,6 @@ fn turned(w: u32) -> u32
     w.wrapping_add(0x8000_0000)
 }
 
-#[inline]
-fn bit(b: bool) -> u32
-    ensures { result ≡ spec.bit b }
-{
-    if b { 1 } else { 0 }
-}
-
 /// The result of an operation on two registers; None where a sum or difference that must fit doesn't.
 #[inline]
 #[tactic(auto, using(word32::proofs::WordLaws::less_turned))]
@@ -63,8 +56,8 @@ pub fn arithmetic(op: ArithmeticOp, a: u32, b: u32) -> Option<u32>
         ArithmeticOp::Or => Some(a | b),
         ArithmeticOp::Xor => Some(a ^ b),
         ArithmeticOp::Nor => Some(4294967295 - (a | b)),
-        ArithmeticOp::Slt => Some(bit(turned(a) < turned(b))),
-        ArithmeticOp::Sltu => Some(bit(a < b)),
+        ArithmeticOp::Slt => Some(u32::from(turned(a) < turned(b))),
+        ArithmeticOp::Sltu => Some(u32::from(a < b)),
     }
 }
 

@@ -60,7 +60,7 @@ impl Rest {
         if self.is_branch_hazard::<ASIDE>(a, b, b) {
             return self.fault(MachineKind::Hazard, pc);
         }
-        Went::Pending(self.branch::<ASIDE>(pc, taken, to))
+        self.branch::<ASIDE>(pc, taken, to)
     }
 
     /// The same, and a register, which the instruction names too, takes the address behind the slot.
@@ -85,9 +85,8 @@ impl Rest {
         if self.is_branch_hazard::<ASIDE>(r, a, a) {
             return self.fault(MachineKind::Hazard, pc);
         }
-        let next = self.branch::<ASIDE>(pc, taken, to);
         self.write(r, pc.address() + 8);
-        Went::Pending(next)
+        self.branch::<ASIDE>(pc, taken, to)
     }
 
     #[inline(always)]

@@ -2,8 +2,9 @@
 
 ghost use Rattle.std.specs.Prelude.{◌≡◌, ◌+◌, ◌-◌, ◌*◌, ◌/◌, ◌%◌, ◌<◌, ◌≤◌, ◌||◌, ℕ, true, false};
 ghost use Rattle.mips_core.specs.Core as spec;
-ghost use Rattle.mips_core.specs.Core.{world_of};
+ghost use Rattle.mips_core.specs.Core.{state_of, world_of};
 
+use crate::halt::Went;
 use crate::pc::Pc;
 use crate::rest::Rest;
 use mips_encoder::Register;
@@ -40,21 +41,42 @@ impl Rest {
         if ASIDE { self.settle(pc) } else { pc.next() }
     }
 
-    /// On to the next instruction, which is a delay slot, and from there to a target.
+    /// The next instruction stands in a delay slot, and behind it the run goes on at a target.
     #[inline(always)]
-    pub(crate) fn branch<const ASIDE: bool>(&mut self, pc: Pc, taken: bool, target: Pc) -> Pc
-        requires near { pc < 4294967288 }
-        requires plain { ASIDE ≡ false → spec.IsClear self.old }
-        requires slot { self.old.slot ≡ false }
-        ensures { world_of (spec.at result self.new) ≡
-            spec.moved (spec.chosen taken target ((spec.at pc self.old).next + 4)) true
-            (world_of (spec.at pc self.old)) }
+    pub(crate) fn delay(&mut self, target: Pc)
+        ensures { self.new ≡ spec.delayed target self.old }
     {
-        let next = self.advance::<ASIDE>(pc);
-        self.target = if taken { target } else { pc.next().next() };
+        self.target = target;
         self.slot = true;
         self.pending = true;
-        next
+    }
+
+    /// The last instruction loaded the register of this number.
+    #[inline(always)]
+    pub(crate) fn hold(&mut self, r: usize)
+        requires { r < 32 }
+        ensures { self.new ≡ spec.held r self.old }
+    {
+        self.loaded = r as u32;
+        self.pending = true;
+    }
+
+    /// On to the next instruction, which is a delay slot, and from there to a target if the branch is taken.
+    #[inline(always)]
+    pub(crate) fn branch<const ASIDE: bool>(&mut self, pc: Pc, taken: bool, target: Pc) -> Went
+        requires ready { spec.IsReady ASIDE pc self.old }
+        requires slot { self.old.slot ≡ false }
+        ensures { spec.Becomes ASIDE (spec.branching taken target (state_of (spec.at pc self.old)))
+            result pc self.new }
+    {
+        let next = self.advance::<ASIDE>(pc);
+        let to = if taken { target } else { pc.next().next() };
+        if ASIDE {
+            self.delay(to);
+            Went::Pending(next)
+        } else {
+            Went::Slot(to)
+        }
     }
 
     /// The instruction before the next read HI or LO.

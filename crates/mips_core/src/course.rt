@@ -29,19 +29,6 @@ impl Model for Course {
     ghost invariant = { λ c. (c.stop ≤ c.end) × (c.end < 18446744073709551616) };
 }
 
-/// The first place that isn't of the text or at which the count is spent.
-#[inline(always)]
-fn stop_at(text: &[u32], end: u64) -> usize
-    ensures text { result ≤ length text.now }
-    ensures count { result ≤ end }
-{
-    if end < text.len() as u64 {
-        end as usize
-    } else {
-        text.len()
-    }
-}
-
 impl Course {
     /// From an address, with so many instructions left.
     #[inline(always)]
@@ -53,7 +40,11 @@ impl Course {
         let end = (pc.place() as u64).wrapping_add(left);
         Course {
             pc,
-            stop: stop_at(text, end),
+            stop: if end < text.len() as u64 {
+                end as usize
+            } else {
+                text.len()
+            },
             end,
         }
     }
@@ -81,6 +72,7 @@ impl Course {
         requires fits { length text.now ≤ TEXT_WORDS }
         ensures word { IfSome result (λ w. spec.text_fetched text.now self.now.pc ≡ Some w) }
         ensures below { IfSome result (λ w. self.now.pc < ARENA) }
+        ensures apart { IfSome result (λ w. spec.IsApart self.now.pc) }
         ensures some { IfSome result (λ w. 0 < self.now.left) }
     {
         let place = self.pc.place();
@@ -111,9 +103,6 @@ impl Course {
         ensures left { self.new.left ≡ self.old.left - 1 }
         ensures reach { self.new.reach ≤ length text.now }
     {
-        let left = self.end.wrapping_sub(self.pc.place() as u64) - 1;
-        self.end = left.wrapping_add(pc.place() as u64);
-        self.stop = stop_at(text, self.end);
-        self.pc = pc;
+        *self = Course::new(text, pc, self.left() - 1);
     }
 }

@@ -22,6 +22,7 @@ fn text_word(text: &[u32], pc: Pc) -> Option<u32>
     requires { length text.now ≤ TEXT_WORDS }
     ensures word { result ≡ spec.text_fetched text.now pc }
     ensures below { IfSome result (λ w. pc < ARENA) }
+    ensures apart { IfSome result (λ w. spec.IsApart pc) }
 {
     let i = pc.place();
     if i < text.len() { Some(text[i]) } else { None }
@@ -55,6 +56,7 @@ impl Rest {
         ensures some { IfSome result (λ w. 0 < at.now.left) }
         ensures word { IfSome result (λ w. steps.word_at (state_of self.now).code at.now.pc ≡ Ok w) }
         ensures near { IfSome result (λ w. at.now.pc < 4294967288) }
+        ensures apart { IfSome result (λ w. spec.IsApart at.now.pc) }
         ensures none { result ≡ None → 0 < at.now.left →
             spec.word_of (steps.word_at (state_of self.now).code at.now.pc) ≡ None }
     {
@@ -79,6 +81,7 @@ impl Rest {
         ensures some { IfSome result (λ w. 0 < at.now.left) }
         ensures word { IfSome result (λ w. steps.word_at (state_of self.now).code at.now.pc ≡ Ok w) }
         ensures near { IfSome result (λ w. at.now.pc < 4294967288) }
+        ensures apart { IfSome result (λ w. spec.IsApart at.now.pc) }
         ensures none { result ≡ None → 0 < at.now.left →
             spec.word_of (steps.word_at (state_of self.now).code at.now.pc) ≡ None }
     {
@@ -121,8 +124,8 @@ impl Rest {
         ensures service { 0 < at.now.left → is_at_service (state_of (spec.at at.now.pc self.old)) ≡ true →
             (result ≡ Went.Service) × (self.new ≡ self.old) }
         ensures other { 0 < at.now.left → is_at_service (state_of (spec.at at.now.pc self.old)) ≡ false →
-            (world_of (spec.at (spec.went_to result at.now.pc) self.new)
-            ≡ steps.step (world_of (spec.at at.now.pc self.old))) × spec.Leaves false result at.now.pc self.new }
+            (world_of (spec.behind result at.now.pc self.new) ≡ steps.step (world_of (spec.at at.now.pc self.old)))
+            × spec.Leaves false result at.now.pc self.new }
         ensures near { result ≢ Went.Stopped → 0 < at.now.left → at.now.pc < 4294967288 }
     {
         match self.fetch(text, at) {
@@ -137,45 +140,69 @@ impl Rest {
     fn step_aside(&mut self, pc: Pc, w: u32) -> Went
         requires on { self.old.stopped ≡ None }
         requires near { pc < 4294967288 }
+        requires apart { spec.IsApart pc }
         requires word { steps.word_at (state_of self.old).code pc ≡ Ok w }
         ensures service { is_at_service (state_of (spec.at pc self.old)) ≡ true →
             (result ≡ Went.Service) × (self.new ≡ self.old) }
         ensures other { is_at_service (state_of (spec.at pc self.old)) ≡ false →
-            (world_of (spec.at (spec.went_to result pc) self.new) ≡ steps.step (world_of (spec.at pc self.old)))
+            (world_of (spec.behind result pc self.new) ≡ steps.step (world_of (spec.at pc self.old)))
             × spec.Leaves true result pc self.new }
     {
         self.execute::<true>(pc, w)
     }
 
-    /// Past a nop, which is never a hazard, where something is pending; it answers whether nothing is any more.
+    /// On behind an instruction that was executed where nothing was pending, and past a nop if one is next while
+    /// something is; it answers whether nothing is pending.
     #[inline(always)]
-    fn pass(&mut self, text: &[u32], at: &mut Course) -> bool
-        requires on { self.old.stopped ≡ None }
+    fn follow(&mut self, text: &[u32], at: &mut Course, went: Went) -> bool
+        requires runs { went ≢ Went.Stopped }
+        requires leaves { spec.Leaves false went at.old.pc self.old }
         requires some { 0 < at.old.left }
         requires near { at.old.pc < 4294967288 }
+        requires text { text_of text.now ≡ (state_of self.old).code.text }
+        requires fits { length text.now ≤ TEXT_WORDS }
         requires reach { at.old.reach ≤ length text.now }
-        requires word { steps.word_at (state_of self.old).code at.old.pc ≡ Ok 0 }
-        ensures service { is_at_service (state_of (spec.at at.old.pc self.old)) ≡ false }
-        ensures world { world_of (spec.at at.new.pc self.new) ≡ steps.step (world_of (spec.at at.old.pc self.old)) }
-        ensures on { self.new.stopped ≡ None }
-        ensures left { at.new.left ≡ at.old.left - 1 }
         ensures reach { at.new.reach ≤ length text.now }
-        ensures clear { result ≡ true → spec.IsClear self.new }
+        ensures goes { spec.Follows (spec.behind went at.old.pc self.old) (at.old.left - 1) result
+            at.new.pc at.new.left self.new }
     {
-        if self.slot {
-            at.go_to(text, self.target);
-        } else {
-            at.go_straight();
+        match went {
+            Went::On(_) => {
+                at.go_straight();
+                true
+            }
+            Went::Slot(target) => {
+                at.go_straight();
+                match at.word(text) {
+                    Some(0) => {
+                        at.go_to(text, target);
+                        true
+                    }
+                    _ => {
+                        self.delay(target);
+                        false
+                    }
+                }
+            }
+            Went::Loaded(r) => {
+                at.go_straight();
+                match at.word(text) {
+                    Some(0) => {
+                        at.go_straight();
+                        true
+                    }
+                    _ => {
+                        self.hold(r);
+                        false
+                    }
+                }
+            }
+            Went::Pending(_) => {
+                at.go_straight();
+                false
+            }
+            Went::Stopped | Went::Service => unreachable!(),
         }
-        self.slot = false;
-        self.loaded = 0;
-        self.pending = false;
-        if self.recent == 0 {
-            return true;
-        }
-        self.pending = self.recent > 1;
-        self.recent -= 1;
-        !self.pending
     }
 
     /// Executes up to n instructions until the machine stops or a SYSCALL is next, and answers how many of n are left.
@@ -195,11 +222,6 @@ impl Rest {
         loop {
             while clear {
                 match self.step(text, &at) {
-                    Went::On(_) => at.go_straight(),
-                    Went::Pending(_) => {
-                        at.go_straight();
-                        clear = false;
-                    }
                     Went::Stopped => {
                         self.stand(at.pc());
                         return at.left() - 1;
@@ -208,6 +230,7 @@ impl Rest {
                         self.stand(at.pc());
                         return at.left();
                     }
+                    other => clear = self.follow(text, &mut at, other),
                 }
             }
             match self.fetch(text, &at) {
@@ -219,12 +242,17 @@ impl Rest {
                         _ => 0,
                     };
                 }
-                Some(0) => clear = self.pass(text, &mut at),
+                Some(0) => {
+                    let next = self.settle(at.pc());
+                    at.go_to(text, next);
+                    clear = self.is_clear();
+                }
                 Some(w) => match self.step_aside(at.pc(), w) {
                     Went::On(next) | Went::Pending(next) => {
                         at.go_to(text, next);
                         clear = self.is_clear();
                     }
+                    Went::Slot(_) | Went::Loaded(_) => unreachable!(),
                     Went::Stopped => {
                         self.stand(at.pc());
                         return at.left() - 1;

@@ -17,7 +17,12 @@ pub enum Halt {
 pub enum Went {
     /// It was executed, and the run goes on at this address.
     On(Pc),
-    /// The same, and what follows at this address may not be any instruction, or stands in a delay slot.
+    /// It was executed where nothing was pending: the next word stands in a delay slot, and behind that the run goes on
+    /// at this address.
+    Slot(Pc),
+    /// It was executed where nothing was pending, and loaded the register of this number.
+    Loaded(usize),
+    /// It was executed, and what follows at this address may not be any instruction, or stands in a delay slot.
     Pending(Pc),
     /// It ended the run, or was refused.
     Stopped,

@@ -4,9 +4,9 @@ ghost use Rattle.std.specs.Prelude.{◌≡◌, ◌+◌, ◌-◌, ◌*◌, ◌/�
 ghost use Rattle.word32.specs.declared.map.TheConstants.{SEGMENT_BYTES};
 ghost use Rattle.word32.specs.Words.{widened_half};
 ghost use Rattle.mips_encoder.specs.Fields.{immediate};
+ghost use Rattle.mips_core.specs.Core.{IsApart};
 ghost use Rattle.mips_core.specs.Places.{place_of};
 
-use crate::arithmetic::widened;
 use mips_encoder::immediate as low_half;
 use std::marker::Model;
 
@@ -85,13 +85,12 @@ impl Pc {
     /// Where a branch of this word, which stands here, goes if it is taken.
     #[inline(always)]
     pub(crate) fn branch_target(self, w: u32) -> Pc
-        requires { self < 4294967288 }
+        requires { IsApart self }
         ensures { result ≡ (self + 4 + 4 * widened_half (immediate w)) % 4294967296 }
     {
-        let word = self.next().word();
-        let to = word.wrapping_add(widened(low_half(w))) % 0x4000_0000;
+        let words = ((low_half(w).bits() + 32768) % 65536) as usize;
         Pc {
-            place: ((word / 0x4000_0000 * 0x4000_0000 + to) as usize).wrapping_sub(0x10_0000),
+            place: self.place.wrapping_add(words).wrapping_sub(32767),
         }
     }
 

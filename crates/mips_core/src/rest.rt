@@ -26,6 +26,8 @@ use std::marker::Model;
 
 /// The machine but for its services and the text that it fetches.
 pub(crate) struct Rest {
+    // first, so that one pointer serves for them and for the rest
+    pub(crate) registers: [u32; 32],
     pub(crate) pc: Pc,
     // where the run goes on behind a delay slot, if the next instruction stands in one
     pub(crate) target: Pc,
@@ -34,7 +36,6 @@ pub(crate) struct Rest {
     pub(crate) slot: bool,
     // where it isn't set, nothing was loaded, HI and LO may be set, and no delay slot is next
     pub(crate) pending: bool,
-    pub(crate) registers: [u32; 32],
     pub(crate) hi: u32,
     pub(crate) lo: u32,
     pub(crate) memory: Memory,

@@ -1,7 +1,5 @@
-use Rattle.std.proofs.Common.{◌∙◌, ◌+◌, true, refl, sym, ap}
-use Rattle.mips_model.specs.State.{World}
-use Rattle.mips_core.specs.Core.{at, chosen, moved}
-use Rattle.mips_core.proofs.Rows.{acted, hazardous, unlisted, goes_pending, out_of_slot, runs}
+use Rattle.std.proofs.Common.{◌∙◌, sym}
+use Rattle.mips_core.proofs.Rows.{acted, hazardous, unlisted, out_of_slot}
 use Rattle.mips_core.proofs.rest.Rest.branch_to.Goals as goal
 
 pub returns-then-not-listed : goal.returns-then-not-listed
@@ -18,10 +16,4 @@ branch-self-requires-clause-slot g c =
 
 pub returns : goal.returns
 returns g c =
-    let k = c.args.self.now in
-    acted c.if-not-listed.false (sym c.is_branch_hazard.ensures ∙ c.if-is_branch_hazard.false)
-    (goes_pending c.requires.ready
-    (c.branch-self.ensures
-    ∙ ap (λ (w : World). moved (chosen c.args.taken c.args.to ((at c.args.pc k).next + 4)) true w)
-    (runs k c.args.pc c.requires.ready.on))
-    refl refl)
+    acted c.if-not-listed.false (sym c.is_branch_hazard.ensures ∙ c.if-is_branch_hazard.false) c.branch-self.ensures

@@ -1,9 +1,14 @@
-use Rattle.std.proofs.Common.{ℕ, ◌≢◌, ◌<◌, ◌≤◌, ◌-◌, None, true, false, refl, sym, ap, subst, ◌∙◌, arith, length}
-use Rattle.mips_core.specs.Core.{CoreKept, GoesOn, Pauses, at}
+use Rattle.std.proofs.Common.{ℕ, ◌≡◌, ◌≢◌, ◌<◌, ◌+◌, ◌-◌, None, Ok, true, false, refl, sym, ap, subst, ◌∙◌, arith}
+use Rattle.std.proofs.lemmas.Bool.Decides.{nat_tests}
+use Rattle.mips_model.specs.State.{World}
+use Rattle.mips_model.specs.Steps.{word_at}
+use Rattle.mips_core.specs.Core.{CoreKept, GoesOn, Pauses, at, ending_from, moved, state_of, world_of}
+use Rattle.mips_core.proofs.Rows.{not_ended}
 use Rattle.mips_core.proofs.Loops.{goes_count, goes_none}
-use Rattle.mips_core.proofs.Stepped.{plain_on, plain_pending, aside_next, some_left, none_left, some_of, pauses_stopped}
-use Rattle.mips_core.proofs.Stepped.{on_not, pending_not, stopped_not, on_runs, pending_runs, service_runs}
-use Rattle.mips_core.proofs.Stretches.{Ran, further, stepped, onward, stops, stopped, halts, stays, serves}
+use Rattle.mips_core.proofs.Stepped.{aside_next, some_left, none_left, nop_is_other, nop_moves, some_of}
+use Rattle.mips_core.proofs.Stepped.{pauses_stopped, stopped_not, service_runs}
+use Rattle.mips_core.proofs.Stretches.{Ran, fewer_left, follows, further, left_by, stepped, onward, stops, stopped}
+use Rattle.mips_core.proofs.Stretches.{halts, stays, serves}
 use Rattle.mips_core.proofs.Stretches.{serves_or_spent, serves_next, along, stands, same_words}
 use Rattle.mips_core.proofs.rest.Rest.go_on.Goals as goal
 
@@ -38,82 +43,6 @@ loop-clear-2-init c =
 pub step-requires-clause-clear : goal.step-requires-clause-clear
 step-requires-clause-clear c =
     c.loop-clear-2.invariant.clear c.loop-clear-2-test.true
-
-pub go_straight-requires-clause-near : goal.go_straight-requires-clause-near
-go_straight-requires-clause-near c =
-    let some = some_left c.loop-clear-2.at.left c.in-On.ensures.spent (on_not _) in
-    let near = c.in-On.ensures.near (on_runs _) some in
-    omega (arith, near)
-
-pub go_straight-requires-clause-some : goal.go_straight-requires-clause-some
-go_straight-requires-clause-some c =
-    some_left c.loop-clear-2.at.left c.in-On.ensures.spent (on_not _)
-
-pub loop-clear-2-smaller-in-On : goal.loop-clear-2-smaller-in-On
-loop-clear-2-smaller-in-On c =
-    let some = some_left c.loop-clear-2.at.left c.in-On.ensures.spent (on_not _) in
-    let left = c.go_straight.ensures.left in
-    omega (arith, left, some)
-
-pub loop-clear-2-preserved-in-On : goal.loop-clear-2-preserved-in-On
-loop-clear-2-preserved-in-On c =
-    let i = c.loop-clear-2.invariant in
-    let r : Ran c.args.n c.loop-clear-2.at.left c.loop-clear-2.at.pc c.args.self.now c.loop-clear-2.self =
-    record { within = i.within; ran = i.ran; on = i.on; text = i.text } in
-    let some = some_left c.loop-clear-2.at.left c.in-On.ensures.spent (on_not _) in
-    let h = plain_on c.loop-clear-2.at.pc c.loop-clear-2.self c.step.new.self (c.in-On.ensures.service some)
-    (c.in-On.ensures.other some) refl i.on i.ran in
-    let e = c.go_straight.ensures in
-    let f = along e.left e.pc (further some r h.0) in
-    let left = e.left in
-    let fewer = i.fewer in
-    record {
-      within = f.within;
-      ran = f.ran;
-      on = f.on;
-      text = f.text;
-      reach = subst (λ (m : ℕ). m ≤ length c.args.text.now) (sym e.reach) i.reach;
-      clear = λ is. h.1;
-      fewer = omega (arith, left, fewer);
-    }
-
-pub go_straight-requires-in-Pending-clause-near : goal.go_straight-requires-in-Pending-clause-near
-go_straight-requires-in-Pending-clause-near c =
-    let some = some_left c.loop-clear-2.at.left c.in-Pending.ensures.spent (pending_not _) in
-    let near = c.in-Pending.ensures.near (pending_runs _) some in
-    omega (arith, near)
-
-pub go_straight-requires-in-Pending-clause-some : goal.go_straight-requires-in-Pending-clause-some
-go_straight-requires-in-Pending-clause-some c =
-    some_left c.loop-clear-2.at.left c.in-Pending.ensures.spent (pending_not _)
-
-pub loop-clear-2-smaller : goal.loop-clear-2-smaller
-loop-clear-2-smaller c =
-    let some = some_left c.loop-clear-2.at.left c.in-Pending.ensures.spent (pending_not _) in
-    let left = c.go_straight-in-Pending.ensures.left in
-    omega (arith, left, some)
-
-pub loop-clear-2-preserved : goal.loop-clear-2-preserved
-loop-clear-2-preserved c =
-    let i = c.loop-clear-2.invariant in
-    let r : Ran c.args.n c.loop-clear-2.at.left c.loop-clear-2.at.pc c.args.self.now c.loop-clear-2.self =
-    record { within = i.within; ran = i.ran; on = i.on; text = i.text } in
-    let some = some_left c.loop-clear-2.at.left c.in-Pending.ensures.spent (pending_not _) in
-    let h = plain_pending c.loop-clear-2.at.pc c.loop-clear-2.self c.step.new.self (c.in-Pending.ensures.service some)
-    (c.in-Pending.ensures.other some) refl i.on i.ran in
-    let e = c.go_straight-in-Pending.ensures in
-    let f = along e.left e.pc (further some r h) in
-    let left = e.left in
-    let fewer = i.fewer in
-    record {
-      within = f.within;
-      ran = f.ran;
-      on = f.on;
-      text = f.text;
-      reach = subst (λ (m : ℕ). m ≤ length c.args.text.now) (sym e.reach) i.reach;
-      clear = λ is. absurd cc;
-      fewer = omega (arith, left, fewer);
-    }
 
 pub overflow_sub-result : goal.overflow_sub-result
 overflow_sub-result c =
@@ -253,13 +182,13 @@ returns-in-Stopped-went c =
       text = same_words c.args.text.now c.requires.text ends;
     }
 
-pub returns-in_default : goal.returns-in_default
-returns-in_default c =
+pub returns-in_default-went : goal.returns-in_default-went
+returns-in_default-went c =
     let i = c.loop-clear-2.invariant in
     let r : Ran c.args.n c.loop-clear-2.at.left c.loop-clear-2.at.pc c.args.self.now c.loop-clear-2.self =
     record { within = i.within; ran = i.ran; on = i.on; text = i.text } in
     let e = c.refuse-went.ensures in
-    let none = none_left c.loop-clear-2.at.left e.went c.in_default.not-Stopped in
+    let none = none_left c.loop-clear-2.at.left e.went c.in_default-went.not-Stopped in
     let ends = stays (along (sym none) refl r) (e.spent none).1
     (stands c.refuse-went.new.self c.stand-in-None.ensures.core c.pc-in-None.ensures) in
     record {
@@ -270,30 +199,84 @@ returns-in_default c =
       text = same_words c.args.text.now c.requires.text ends;
     }
 
-pub loop-clear-smaller-in-Some-eq0 : goal.loop-clear-smaller-in-Some-eq0
-loop-clear-smaller-in-Some-eq0 c =
-    let some = c.in-Some-eq0.ensures.some in
-    let left = c.pass-clear.ensures.left in
-    let fewer = c.loop-clear-2.invariant.fewer in
-    omega (arith, some, left, fewer)
+pub follow-clear-requires : goal.follow-clear-requires
+follow-clear-requires c =
+    let i = c.loop-clear-2.invariant in
+    let r : Ran c.args.n c.loop-clear-2.at.left c.loop-clear-2.at.pc c.args.self.now c.loop-clear-2.self =
+    record { within = i.within; ran = i.ran; on = i.on; text = i.text } in
+    let e = c.step.ensures in
+    let some = some_left c.loop-clear-2.at.left e.spent c.in_default.not-Service in
+    let l = left_by {mid = c.loop-clear-2.self} {new = c.step.new.self} r (e.service some) (e.other some)
+    c.in_default.not-Service in
+    record {
+      runs = c.in_default.not-Stopped;
+      leaves = l.0;
+      some = some;
+      near = e.near c.in_default.not-Stopped some;
+      text = c.requires.text ∙ sym l.1;
+      fits = c.requires.fits;
+      reach = i.reach;
+    }
+
+pub loop-clear-2-preserved : goal.loop-clear-2-preserved
+loop-clear-2-preserved c =
+    let i = c.loop-clear-2.invariant in
+    let r : Ran c.args.n c.loop-clear-2.at.left c.loop-clear-2.at.pc c.args.self.now c.loop-clear-2.self =
+    record { within = i.within; ran = i.ran; on = i.on; text = i.text } in
+    let e = c.step.ensures in
+    let some = some_left c.loop-clear-2.at.left e.spent c.in_default.not-Service in
+    let h = c.follow-clear.ensures.goes in
+    let f = follows {mid = c.loop-clear-2.self} {new = c.step.new.self} c.follow-clear.result some r (e.service some)
+    (e.other some) c.in_default.not-Service c.in_default.not-Stopped h in
+    let less = fewer_left some h in
+    let fewer = i.fewer in
+    record {
+      within = f.within;
+      ran = f.ran;
+      on = f.on;
+      text = f.text;
+      reach = c.follow-clear.ensures.reach;
+      clear = h.clear;
+      fewer = omega (arith, less, fewer);
+    }
+
+pub go_to-requires : goal.go_to-requires
+go_to-requires c = record { some = c.in-Some-eq0.ensures.some }
 
 pub loop-clear-preserved-in-Some-eq0 : goal.loop-clear-preserved-in-Some-eq0
 loop-clear-preserved-in-Some-eq0 c =
     let i = c.loop-clear-2.invariant in
-    let r : Ran c.args.n c.loop-clear-2.at.left c.loop-clear-2.at.pc c.args.self.now c.loop-clear-2.self =
+    let k = c.loop-clear-2.self in
+    let pc = c.loop-clear-2.at.pc in
+    let new = c.settle-next.new.self in
+    let r : Ran c.args.n c.loop-clear-2.at.left pc c.args.self.now k =
     record { within = i.within; ran = i.ran; on = i.on; text = i.text } in
-    let e = c.pass-clear.ensures in
-    let f = along e.left refl (further c.in-Some-eq0.ensures.some r
-    (onward {new = c.pass-clear.new.self} e.on (stepped i.on e.service e.world i.ran))) in
-    record { within = f.within; ran = f.ran; on = f.on; text = f.text; reach = e.reach; clear = e.clear }
+    let test = c.in-Some-eq0.field-0-test in
+    let zero : c.in-Some-eq0.field-0 ≡ 0 = grind (arith, nat_tests, test) in
+    let here : word_at (state_of k).code pc ≡ Ok 0 = c.in-Some-eq0.ensures.word ∙ ap Ok zero in
+    let moves = subst (λ (n : ℕ). world_of (at c.settle-next.result new)
+    ≡ moved ((at n k).next + 4) false (world_of (at n k))) c.pc-in-Some-eq0.ensures c.settle-next.ensures.world in
+    let on = not_ended new.stopped (ap (λ (w : World). w.ending) moves ∙ ap ending_from i.on) in
+    let world = moves ∙ sym (nop_moves (at pc k) i.on here) in
+    let e = c.go_to.ensures in
+    let f = along e.left e.pc (further c.in-Some-eq0.ensures.some r
+    (onward {new = new} on (stepped i.on (nop_is_other (at pc k) here) world i.ran))) in
+    record {
+      within = f.within;
+      ran = f.ran;
+      on = f.on;
+      text = f.text;
+      reach = e.reach;
+      clear = c.is_clear-clear-in-Some-eq0.ensures;
+    }
 
-pub go_to-requires : goal.go_to-requires
-go_to-requires c = record { some = c.in-Some.ensures.some }
+pub go_to-requires-in-On : goal.go_to-requires-in-On
+go_to-requires-in-On c = record { some = c.in-Some.ensures.some }
 
 pub loop-clear-smaller : goal.loop-clear-smaller
 loop-clear-smaller c =
     let some = c.in-Some.ensures.some in
-    let left = c.go_to.ensures.left in
+    let left = c.go_to-in-On.ensures.left in
     let fewer = c.loop-clear-2.invariant.fewer in
     omega (arith, some, left, fewer)
 
@@ -304,8 +287,8 @@ loop-clear-preserved c =
     record { within = i.within; ran = i.ran; on = i.on; text = i.text } in
     let r' = along refl c.pc-in-Some.ensures r in
     let h = aside_next c.pc-in-Some.result c.loop-clear-2.self c.step_aside.new.self c.step_aside.ensures.service
-    c.step_aside.ensures.other c.in-On-step_aside.is i.on r'.ran in
-    let e = c.go_to.ensures in
+    c.step_aside.ensures.other c.in-On.is i.on r'.ran in
+    let e = c.go_to-in-On.ensures in
     let f = along e.left e.pc (further c.in-Some.ensures.some r' h) in
     record {
       within = f.within;
@@ -313,5 +296,5 @@ loop-clear-preserved c =
       on = f.on;
       text = f.text;
       reach = e.reach;
-      clear = c.is_clear-clear-in-On-step_aside.ensures;
+      clear = c.is_clear-clear-in-On.ensures;
     }
