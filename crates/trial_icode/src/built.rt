@@ -20,8 +20,8 @@ fn print_ops(rt: &HostRuntime, ops: &[Op], registers: u32) -> io::Result<()> {
     println!(rt; " {registers} registers")
 }
 
-// What is made of a list, whose ops are added to these.
-fn report_list(
+/// Prints what comes of the list that a text says, whose ops are added to these.
+pub(crate) fn report(
     rt: &HostRuntime,
     builder: &mut Builder,
     ops: &mut Vec<BuildOp>,
@@ -36,12 +36,4 @@ fn report_list(
         }
         None => println!(rt; " no list"),
     }
-}
-
-/// Prints what comes of the list that a text says.
-pub(crate) fn report(rt: &HostRuntime, builder: &mut Builder, list: &str) -> io::Result<()> {
-    let mut ops = Vec::new(rt.alloc());
-    let printed = report_list(rt, builder, &mut ops, list);
-    drop(ops);
-    printed
 }

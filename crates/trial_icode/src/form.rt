@@ -2,6 +2,7 @@
 //! word, the bytes of the frame and of its objects, `static` or `compiled`, how many words there is room for, and the
 //! places of the registers with commas between them (`-` where all have slots).
 
+use crate::lines::numbers;
 use std::alloc::AllocError;
 
 /// A function's place in memory, and its frame.
@@ -16,33 +17,7 @@ pub(crate) struct Form {
     /// Whether the function counts its active calls.
     pub compiled: bool,
     /// How many words there is room for.
-    pub room: usize,
-}
-
-fn number(word: Option<&str>) -> Option<u32> {
-    word?.parse::<u32>().ok()
-}
-
-// Whether the word says that the function is a compiled one.
-fn is_compiled(word: Option<&str>) -> Option<bool> {
-    match word? {
-        "static" => Some(false),
-        "compiled" => Some(true),
-        _ => None,
-    }
-}
-
-// The form that a text says, and the text of the places, or None where it is of another form.
-fn form_of(text: &str) -> Option<(Form, &str)> {
-    let mut words = text.split_whitespace();
-    let form = Form {
-        at: number(words.next())?,
-        frame: number(words.next())?,
-        objects: number(words.next())?,
-        compiled: is_compiled(words.next())?,
-        room: number(words.next())? as usize,
-    };
-    Some((form, words.next()?))
+    pub room: u32,
 }
 
 // Adds the numbers with commas between them, and says whether all are numbers below 256.
@@ -56,13 +31,23 @@ fn push_places(places: &mut Vec<u8>, text: &str) -> Result<bool, AllocError> {
     Ok(true)
 }
 
+// The form of numbers.
+fn form_of(text: &str) -> Option<Form> {
+    let [at, frame, objects, compiled, room] = numbers(text, ' ')?;
+    Some(Form {
+        at,
+        frame,
+        objects,
+        compiled: compiled == 1,
+        room,
+    })
+}
+
 /// The form that a text says, or None where it is of another form. The places are added to these.
 pub(crate) fn read(places: &mut Vec<u8>, text: &str) -> Result<Option<Form>, AllocError> {
-    match form_of(text) {
-        Some((form, listed)) => {
-            let are_all = listed == "-" || push_places(places, listed)?;
-            Ok(are_all.then_some(form))
-        }
-        None => Ok(None),
+    let (front, listed) = text.trim().rsplit_once(' ').unwrap_or((text, ""));
+    if listed != "-" && !push_places(places, listed)? {
+        return Ok(None);
     }
+    Ok(form_of(front))
 }

@@ -3,78 +3,13 @@
 //! A list is `PARAMETERS OP OP ..`. An OP is the number of a builder op and its arguments, with commas between them;
 //! `N*` before it repeats it.
 
-use icode_ir::BuildOp;
-use icode_ops::{
-    ArgumentCount, ArgumentIndex, BinKind, CallAddress, CaptureIndex, ClosureKind, RunKind,
-    SysKind, UnKind,
-};
+use icode_ir::{BuildOp, op};
+use icode_ops::{ArgumentIndex, CaptureIndex, ClosureKind, RunKind};
 use std::alloc::AllocError;
-use word32::Width;
 
-fn width(number: u32) -> Option<Width> {
-    match number {
-        0 => Some(Width::SignedByte),
-        1 => Some(Width::Byte),
-        2 => Some(Width::SignedHalf),
-        3 => Some(Width::Half),
-        4 => Some(Width::Word),
-        _ => None,
-    }
-}
-
-fn stack_op(code: u32, a: u32, b: u32) -> Option<BuildOp> {
+// An op that code which runs may not ask for.
+fn static_op(code: u32, a: u32, b: u32, c: u32) -> Option<BuildOp> {
     let op = match code {
-        1 => BuildOp::Const { word: a },
-        2 => BuildOp::Bin {
-            kind: BinKind::from_number(a)?,
-        },
-        3 => BuildOp::Un {
-            kind: UnKind::from_number(a)?,
-        },
-        4 => BuildOp::Enter {
-            variables: a,
-            labels: b,
-        },
-        5 => BuildOp::Leave,
-        6 => BuildOp::GetVariable { variable: a },
-        7 => BuildOp::SetVariable { variable: a },
-        8 => BuildOp::Drop,
-        9 => BuildOp::Pick { depth: a },
-        10 => BuildOp::Nip,
-        11 => BuildOp::Load { width: width(a)? },
-        12 => BuildOp::Store { width: width(a)? },
-        _ => return None,
-    };
-    Some(op)
-}
-
-fn control_op(code: u32, a: u32, b: u32) -> Option<BuildOp> {
-    let op = match code {
-        13 => BuildOp::Label { label: a },
-        14 => BuildOp::Jump { label: a },
-        15 => BuildOp::BranchZero { label: a },
-        16 => BuildOp::BranchNonzero { label: a },
-        17 => BuildOp::Call {
-            address: CallAddress::new(a)?,
-            count: ArgumentCount::new(b)?,
-        },
-        18 => BuildOp::CallNumber {
-            count: ArgumentCount::new(a)?,
-        },
-        19 => BuildOp::Return,
-        20 => BuildOp::ReturnZero,
-        _ => return None,
-    };
-    Some(op)
-}
-
-fn other_op(code: u32, a: u32, b: u32, c: u32) -> Option<BuildOp> {
-    let op = match code {
-        21 => BuildOp::GetSpec { key: a },
-        22 => BuildOp::SetSpec { key: a },
-        23 => BuildOp::Sys {
-            kind: SysKind::from_number(a)?,
-        },
         24 => BuildOp::Run {
             routine: RunKind::from_number(a)?,
         },
@@ -99,12 +34,21 @@ fn other_op(code: u32, a: u32, b: u32, c: u32) -> Option<BuildOp> {
     Some(op)
 }
 
-/// The numbers of a text, four at most, with this between them, and 0 for those that aren't there.
-pub(crate) fn numbers(text: &str, between: char) -> Option<[u32; 4]> {
-    let mut found = [0; 4];
+// The number that a word says. Where a form of code is to be said it is a word, 0 is `static`, and 1 is `compiled`.
+fn number(word: &str) -> Option<u32> {
+    match word {
+        "static" => Some(0),
+        "compiled" => Some(1),
+        _ => word.parse::<u32>().ok(),
+    }
+}
+
+/// The numbers of a text, five at most, with this between them, and 0 for those that aren't there.
+pub(crate) fn numbers(text: &str, between: char) -> Option<[u32; 5]> {
+    let mut found = [0; 5];
     let mut count: usize = 0;
     for word in text.split(between) {
-        *found.get_mut(count)? = word.parse::<u32>().ok()?;
+        *found.get_mut(count)? = number(word)?;
         count = count.saturating_add(1);
     }
     Some(found)
@@ -114,13 +58,11 @@ pub(crate) fn numbers(text: &str, between: char) -> Option<[u32; 4]> {
 fn repeated_op(word: &str) -> Option<(usize, BuildOp)> {
     let (times, text) = word.split_once('*').unwrap_or(("1", word));
     let times = times.parse::<usize>().ok()?;
-    let [code, a, b, c] = numbers(text, ',')?;
-    let op = match code {
-        1..=12 => stack_op(code, a, b),
-        13..=20 => control_op(code, a, b),
-        _ => other_op(code, a, b, c),
-    };
-    Some((times, op?))
+    let [code, a, b, c, _] = numbers(text, ',')?;
+    match op(code, a, b) {
+        Some(op) => Some((times, op)),
+        None => Some((times, static_op(code, a, b, c)?)),
+    }
 }
 
 // Adds an op so many times.

@@ -1,23 +1,13 @@
-//! Files with a line for each case, `TITLE | REST`, and what a builder makes of a list. An empty line is none.
+//! Files with a line for each list of builder ops, `TITLE | REST`, and what a builder makes of a list. An empty line is
+//! none.
 
 ghost use Rattle.std.specs.Prelude.{◌≡◌, IfOk, true};
 ghost use Rattle.icode_ir.specs.declared.builder.Phase.TheVariants.{Finished};
 
-use crate::{built, expanded, served};
-use code_arena::{CodeArena, FunctionRows};
+use crate::{built, expanded};
 use icode_ir::{BuildOp, Builder};
-use std::io;
-
-/// What is printed of a line.
-#[derive(Clone, Copy)]
-pub(crate) enum Trial {
-    /// The ops that are built of its list.
-    Built,
-    /// The words that these are expanded to.
-    Expanded,
-    /// What its calls give.
-    Served,
-}
+use std::mem::forget;
+use std::{fs, io};
 
 /// Builds a list, and says whether it is finished; if not, the refusal is printed.
 pub(crate) fn is_built(
@@ -40,37 +30,61 @@ pub(crate) fn is_built(
     Ok(true)
 }
 
-// The title of a line, and what comes of the rest.
-fn report_line(
+// The title of each line of a file, and what comes of the rest: of a list, or of a form and a list.
+fn report_lines(
     rt: &HostRuntime,
-    trial: Trial,
-    line: &str,
-    builder: &mut Builder,
-    arena: &mut CodeArena,
-    rows: &mut FunctionRows,
-) -> io::Result<()> {
-    let (title, rest) = line.split_once('|').unwrap_or((line, ""));
-    print!(rt; "{}:", title.trim())?;
-    match trial {
-        Trial::Built => built::report(rt, builder, rest),
-        Trial::Expanded => expanded::report(rt, builder, rest),
-        Trial::Served => served::report(rt, rest, arena, rows),
-    }
-}
-
-/// Prints what comes of each line of a file.
-pub(crate) fn report_lines(
-    rt: &HostRuntime,
-    trial: Trial,
+    name: &str,
     text: &str,
     builder: &mut Builder,
-    arena: &mut CodeArena,
-    rows: &mut FunctionRows,
+    ops: &mut Vec<BuildOp>,
+    places: &mut Vec<u8>,
 ) -> io::Result<()> {
     for line in text.lines() {
-        if !line.is_empty() {
-            report_line(rt, trial, line, builder, arena, rows)?;
+        let (title, rest) = line.split_once('|').unwrap_or((line, ""));
+        print!(rt; "{}:", title.trim())?;
+        ops.clear();
+        if name == "built" {
+            built::report(rt, builder, ops, rest)?;
+        } else {
+            places.clear();
+            expanded::report(rt, builder, ops, places, rest)?;
         }
     }
     Ok(())
+}
+
+// The lines of a file, behind one with its name.
+fn report_file(
+    rt: &HostRuntime,
+    name: &str,
+    builder: &mut Builder,
+    ops: &mut Vec<BuildOp>,
+    places: &mut Vec<u8>,
+) -> io::Result<()> {
+    println!(rt; "== {name}")?;
+    let text = fs::read_to_string(rt, name)?;
+    let printed = report_lines(rt, name, &text, builder, ops, places);
+    forget(text);
+    printed
+}
+
+// Both files.
+fn report_files(
+    rt: &HostRuntime,
+    builder: &mut Builder,
+    ops: &mut Vec<BuildOp>,
+    places: &mut Vec<u8>,
+) -> io::Result<()> {
+    report_file(rt, "built", builder, ops, places)?;
+    report_file(rt, "expanded", builder, ops, places)
+}
+
+/// Prints what comes of the lists of both files.
+pub(crate) fn report(rt: &HostRuntime, builder: &mut Builder) -> io::Result<()> {
+    let mut ops = Vec::new(rt.alloc());
+    let mut places = Vec::new(rt.alloc());
+    let printed = report_files(rt, builder, &mut ops, &mut places);
+    forget(ops);
+    forget(places);
+    printed
 }

@@ -2,80 +2,77 @@
 //! that make code answer, and the places of linear scan.
 //!
 //! The lists of ops and the calls of services stand in files, which lie where this program runs (`data/`). Called with
-//! words, this program takes one function to one stage: the host instructions of a stage are those of its run without
-//! those of the run of the stage before, which `bench/icode` counts.
+//! a word, this program takes the list on its standard input to one stage: the host instructions of a stage are those
+//! of its run without those of the run of the stage before, which `bench/icode` counts.
+//!
+//! What is made once, all its tables, is left to the end of the process.
 #![tactic(auto)]
 
 mod built;
-mod call;
 mod expanded;
-mod finished;
 mod form;
-mod generator;
-mod judge;
 mod lines;
 mod lists;
-mod places;
 mod served;
 mod stages;
 
-use code_arena::{CodeArena, FunctionRows};
 use icode_ir::Builder;
-use lists::Trial;
-use std::{fs, io};
+use icode_liveness::Live;
+use linear_scan::Scanner;
+use stages::Stage;
+use std::mem::forget;
+use std::{env, io};
 
-// The lines of a file, behind one with its name.
-fn report_file(
+// What is printed where no stage is asked for.
+fn report_all(
     rt: &HostRuntime,
-    trial: Trial,
-    name: &str,
     builder: &mut Builder,
-    arena: &mut CodeArena,
-    rows: &mut FunctionRows,
+    live: &mut Live,
+    scanner: &mut Scanner,
 ) -> io::Result<()> {
-    println!(rt; "== {name}")?;
-    let text = fs::read_to_string(rt, name)?;
-    let printed = lists::report_lines(rt, trial, &text, builder, arena, rows);
-    drop(text);
+    lists::report(rt, builder)?;
+    served::report(rt)?;
+    stages::report_file(rt, builder, live, scanner)
+}
+
+// What is asked for, with these tables and a scanner.
+fn report_scanned(
+    rt: &HostRuntime,
+    stage: Option<Stage>,
+    builder: &mut Builder,
+    live: &mut Live,
+) -> io::Result<()> {
+    let mut scanner = Scanner::new(rt.alloc())?;
+    let printed = match stage {
+        Some(stage) => stages::report_input(rt, stage, builder, live, &mut scanner),
+        None => report_all(rt, builder, live, &mut scanner),
+    };
+    forget(scanner);
     printed
 }
 
-// All files, which have one builder, one arena and one function table.
-fn report_files(
-    rt: &HostRuntime,
-    builder: &mut Builder,
-    arena: &mut CodeArena,
-    rows: &mut FunctionRows,
-) -> io::Result<()> {
-    report_file(rt, Trial::Built, "built", builder, arena, rows)?;
-    report_file(rt, Trial::Expanded, "expanded", builder, arena, rows)?;
-    report_file(rt, Trial::Served, "served", builder, arena, rows)
-}
-
-// All files with this builder.
-fn report_built(rt: &HostRuntime, builder: &mut Builder) -> io::Result<()> {
-    let mut rows = FunctionRows::new(rt.alloc())?;
-    let mut arena = CodeArena::new(rt.alloc())?;
-    let printed = report_files(rt, builder, &mut arena, &mut rows);
-    drop(arena);
-    drop(rows);
+// The same with this builder.
+fn report_built(rt: &HostRuntime, stage: Option<Stage>, builder: &mut Builder) -> io::Result<()> {
+    let mut live = Live::new(rt.alloc())?;
+    let printed = report_scanned(rt, stage, builder, &mut live);
+    forget(live);
     printed
 }
 
-// What is printed where no function is asked for.
-fn report_all(rt: &HostRuntime) -> io::Result<()> {
-    let mut builder = Builder::new(rt.alloc())?;
-    let printed = report_built(rt, &mut builder);
-    drop(builder);
-    printed?;
-    places::report(rt)?;
-    println!(rt; "== stages")?;
-    stages::report(rt, stages::SMALLEST)
+// What the word behind the program's name asks for, if anything.
+fn asked(rt: &HostRuntime) -> io::Result<Option<Stage>> {
+    let mut words = env::args(rt)?;
+    let _ = words.next();
+    match words.next() {
+        Some(word) => Ok(stages::stage_of(&word)),
+        None => Ok(None),
+    }
 }
 
 fn main(rt: HostRuntime) -> io::Result<()> {
-    match stages::asked(&rt)? {
-        Some(task) => stages::report(&rt, task),
-        None => report_all(&rt),
-    }
+    let stage = asked(&rt)?;
+    let mut builder = Builder::new(rt.alloc())?;
+    let printed = report_built(&rt, stage, &mut builder);
+    forget(builder);
+    printed
 }

@@ -1,5 +1,5 @@
-//! Prints the captures of the ticks of each accepted text, a line for each tick: of each capture its kind and the
-//! number of the first node of the tick's body that names it.
+//! Prints the captures of ticks: of each capture its kind and the number of the first node of the tick's body that names
+//! it.
 
 use captures::{Capture, captures};
 use std::io;
@@ -24,8 +24,8 @@ fn print_captures(rt: &HostRuntime, found: &[Capture]) -> io::Result<()> {
     println!(rt; ".")
 }
 
-// The captures of the tick with this number.
-fn report_tick(rt: &HostRuntime, program: &Typed, number: u32) -> io::Result<()> {
+/// Prints the captures of the tick with this number.
+pub(crate) fn report(rt: &HostRuntime, program: &Typed, number: u32) -> io::Result<()> {
     match captures(rt.alloc(), program.ticks(), number) {
         Ok(found) => {
             let printed = print_captures(rt, found.as_slice());
@@ -34,14 +34,4 @@ fn report_tick(rt: &HostRuntime, program: &Typed, number: u32) -> io::Result<()>
         }
         Err(_) => println!(rt; " no memory"),
     }
-}
-
-/// Prints the lines of an accepted text, whose ticks come in their order.
-pub(crate) fn report(rt: &HostRuntime, title: &str, program: &Typed) -> io::Result<()> {
-    let count = u32::try_from(program.ticks().len()).unwrap_or(u32::MAX);
-    for number in 0..count {
-        print!(rt; "{title} {number}:")?;
-        report_tick(rt, program, number)?;
-    }
-    Ok(())
 }

@@ -1,33 +1,41 @@
-//! Reads files of cases. A case has a line `%% TITLE` before it, and goes up to the next such line.
-use std::alloc::{AllocError, Global};
+//! The texts of a file of cases, line by line. A case has a line `%% TITLE` before it, and goes up to the next such
+//! line.
+//!
+//! A line `%* COUNT PIECE` of a case stands for so many pieces on one line, and each `#` in a piece for the number of
+//! the piece, from 0. A line `%. REST` goes on with the line before it, as the line REST would.
+use std::io::{self, Write};
 
-/// A case of a file.
-#[derive(Drop)]
-pub(crate) struct Case<'a> {
-    /// What stands in the line before it, behind `%% `.
-    pub title: &'a [u8],
-    /// Its lines, without a line feed behind the last.
-    pub lines: Vec<&'a [u8]>,
+// A piece, with a number for each `#`.
+fn push_piece(text: &mut Vec<u8>, piece: &str, number: u32) -> io::Result<()> {
+    let mut parts = piece.split('#');
+    text.extend_from_slice(parts.next().unwrap_or("").as_bytes())?;
+    for part in parts {
+        write!(text, "{number}{part}")?;
+    }
+    Ok(())
 }
 
-impl<'a> Case<'a> {
-    fn new(alloc: Global, title: &'a [u8]) -> Case<'a> {
-        Case {
-            title,
-            lines: Vec::new(alloc),
-        }
+// So many pieces, as a line `COUNT PIECE` says.
+fn push_pieces(text: &mut Vec<u8>, line: &[u8]) -> io::Result<()> {
+    let line = str::from_utf8(line).unwrap_or("");
+    let (count, piece) = line.split_once(' ').unwrap_or(("0", ""));
+    for number in 0..count.parse::<u32>().unwrap_or(0) {
+        push_piece(text, piece, number)?;
     }
+    Ok(())
 }
 
-/// The cases of a file in their order. What stands before the first is no case.
-pub(crate) fn cases<'a>(alloc: Global, file: &'a [u8]) -> Result<Vec<Case<'a>>, AllocError> {
-    let mut all: Vec<Case<'a>> = Vec::new(alloc);
-    for line in file.split(|b| *b == b'\n') {
-        if let Some(title) = line.strip_prefix(b"%% ") {
-            all.push(Case::new(alloc, title))?;
-        } else if let Some(case) = all.last_mut() {
-            case.lines.push(line)?;
+/// Adds a line to the text of a case, behind a line feed where it begins a line of the text, be it the first.
+pub(crate) fn push_line(text: &mut Vec<u8>, line: &[u8]) -> io::Result<()> {
+    let line = match line.strip_prefix(b"%. ") {
+        Some(rest) => rest,
+        None => {
+            text.push(b'\n')?;
+            line
         }
+    };
+    match line.strip_prefix(b"%* ") {
+        Some(pieces) => push_pieces(text, pieces),
+        None => Ok(text.extend_from_slice(line)?),
     }
-    Ok(all)
 }

@@ -29,10 +29,8 @@ pub(crate) fn report(rt: &HostRuntime, title: &str, program: &Typed) -> io::Resu
     print!(rt; "{title}:")?;
     if title.starts_with("sizes") {
         print_functions(rt, program.functions())?;
-        return print_ticks(rt, program.ticks(), program.image().len());
+    } else if !title.starts_with("ticks") {
+        return println!(rt; " accepted");
     }
-    if title.starts_with("ticks") {
-        return print_ticks(rt, program.ticks(), program.image().len());
-    }
-    println!(rt; " accepted")
+    print_ticks(rt, program.ticks(), program.image().len())
 }

@@ -1,24 +1,9 @@
-//! Prints the words of the functions that generate the code of the ticks of each accepted text, a line for each tick.
-//! The static functions of a text are at 0x00401000 and from there on every 256 bytes.
+//! Prints the words of the functions that generate the code of ticks.
 
 use icode_ops::CallAddress;
-use std::alloc::{AllocError, Global};
 use std::io;
 use tick_cgf::{Room, tick_words};
 use wellformed::Typed;
-
-// Where so many functions are.
-fn starts(alloc: Global, count: usize) -> Result<Vec<CallAddress>, AllocError> {
-    let mut all = Vec::new(alloc);
-    let mut at: u32 = 0x0040_1000;
-    for _ in 0..count {
-        if let Some(start) = CallAddress::new(at) {
-            all.push(start)?;
-        }
-        at = at.saturating_add(256);
-    }
-    Ok(all)
-}
 
 /// Prints words, each behind a blank, and a line feed.
 pub(crate) fn print_words(rt: &HostRuntime, words: &[u32]) -> io::Result<()> {
@@ -28,8 +13,8 @@ pub(crate) fn print_words(rt: &HostRuntime, words: &[u32]) -> io::Result<()> {
     println!(rt)
 }
 
-// The words of the tick with this number.
-fn report_tick(
+/// Prints the words of the tick with this number.
+pub(crate) fn report(
     rt: &HostRuntime,
     program: &Typed,
     number: u32,
@@ -44,30 +29,4 @@ fn report_tick(
         }
         Err(_) => println!(rt; " no memory"),
     }
-}
-
-// Those of each tick, in the order of the text.
-fn report_ticks(
-    rt: &HostRuntime,
-    title: &str,
-    program: &Typed,
-    starts: &[CallAddress],
-    room: &mut Room,
-) -> io::Result<()> {
-    let count = u32::try_from(program.ticks().len()).unwrap_or(u32::MAX);
-    for number in 0..count {
-        print!(rt; "{title} {number}:")?;
-        report_tick(rt, program, number, starts, room)?;
-    }
-    Ok(())
-}
-
-/// Prints the lines of an accepted text.
-pub(crate) fn report(rt: &HostRuntime, title: &str, program: &Typed) -> io::Result<()> {
-    let starts = starts(rt.alloc(), program.functions().len())?;
-    let mut room = Room::new(rt.alloc());
-    let printed = report_ticks(rt, title, program, &starts, &mut room);
-    drop(room);
-    drop(starts);
-    printed
 }

@@ -1,12 +1,10 @@
-//! What is made of whole texts: the tokens and the tree of each, its first static fault, what it means, of its ticks
-//! the captures and the functions that generate their code, the ops of its `main`, and an image whose registers are all
-//! in slots; and the run-time routines, which are the same for all.
+//! What is made of whole texts: the tokens and the tree of each, its first static fault, of its ticks the captures and
+//! the functions that generate their code, and the ops of its functions; and the run-time routines, which are the same
+//! for all.
 //!
 //! The texts stand in files of cases, which lie where this program runs (`data/`). Where it is called with the name of
-//! one of them, as by `bench/front` and `bench/mean`, it takes the cases on its standard input as those of that file,
-//! and no others; and with the word `image` a text, of which only the parts of its image are printed. `tick build`
-//! makes the image of the same text under linear scan's places, and `bench/code` puts the other one together from these
-//! parts, runs both, and counts the instructions that they execute.
+//! one of them, as by `bench/front` and `bench/code`, it takes the cases on its standard input as those of that file,
+//! and no others. What is made once, the tables of the backend, is left to the end of the process.
 #![tactic(auto)]
 
 ghost use Rattle.std.specs.Prelude.{◌≤◌, length};
@@ -15,20 +13,20 @@ mod captured;
 mod cases;
 mod faults;
 mod generators;
-mod image;
 mod lexed;
 mod lowered;
-mod meaning;
 mod parsed;
-mod pieces;
 mod routines;
-mod slots;
+mod ticks;
 
 use c_lexer::tokens;
-use cases::{Case, cases};
+use cases::push_line;
+use icode_ir::Builder;
+use icode_liveness::Live;
 use limits::text::LONGEST_TEXT;
 use std::alloc::Global;
 use std::io::{self, Read};
+use std::mem::forget;
 use std::{env, fs};
 use tick_checker::check;
 use tick_parser::parse;
@@ -37,15 +35,13 @@ use wellformed::Typed;
 
 // What is printed of texts.
 #[derive(Clone, Copy)]
-enum Trial {
+pub(crate) enum Trial {
     Lexed,
     Parsed,
     Faults,
-    Meaning,
     Captured,
     Generators,
     Lowered,
-    Image,
 }
 
 fn trial_of(word: &str) -> Option<Trial> {
@@ -53,11 +49,9 @@ fn trial_of(word: &str) -> Option<Trial> {
         "lexed" => Some(Trial::Lexed),
         "parsed" => Some(Trial::Parsed),
         "faults" => Some(Trial::Faults),
-        "meaning" => Some(Trial::Meaning),
         "captured" => Some(Trial::Captured),
         "generators" => Some(Trial::Generators),
         "lowered" => Some(Trial::Lowered),
-        "image" => Some(Trial::Image),
         _ => None,
     }
 }
@@ -87,13 +81,17 @@ fn typed(alloc: Global, text: &[u8]) -> Result<Typed, Deny>
 }
 
 // The lines of an accepted text.
-fn report_program(rt: &HostRuntime, trial: Trial, title: &str, program: &Typed) -> io::Result<()> {
+fn report_program(
+    rt: &HostRuntime,
+    trial: Trial,
+    title: &str,
+    builder: &mut Builder,
+    live: &mut Live,
+    program: &Typed,
+) -> io::Result<()> {
     match trial {
-        Trial::Meaning => meaning::report(rt, title, program),
-        Trial::Captured => captured::report(rt, title, program),
-        Trial::Generators => generators::report(rt, title, program),
-        Trial::Lowered => lowered::report(rt, title, program),
-        Trial::Image => image::report(rt, program),
+        Trial::Captured | Trial::Generators => ticks::report(rt, trial, title, program),
+        Trial::Lowered => lowered::report(rt, title, builder, live, program),
         _ => faults::report(rt, title, program),
     }
 }
@@ -112,12 +110,19 @@ pub(crate) fn report_deny(rt: &HostRuntime, title: &str, why: Deny) -> io::Resul
 }
 
 // The lines of a text, as far as it is checked.
-fn report_checked(rt: &HostRuntime, trial: Trial, title: &str, text: &[u8]) -> io::Result<()>
+fn report_checked(
+    rt: &HostRuntime,
+    trial: Trial,
+    title: &str,
+    builder: &mut Builder,
+    live: &mut Live,
+    text: &[u8],
+) -> io::Result<()>
     requires { length text.now ≤ LONGEST_TEXT }
 {
     match typed(rt.alloc(), text) {
         Ok(program) => {
-            let printed = report_program(rt, trial, title, &program);
+            let printed = report_program(rt, trial, title, builder, live, &program);
             drop(program);
             printed
         }
@@ -125,80 +130,132 @@ fn report_checked(rt: &HostRuntime, trial: Trial, title: &str, text: &[u8]) -> i
     }
 }
 
-// The lines of one text.
-fn report(rt: &HostRuntime, trial: Trial, title: &str, text: &[u8]) -> io::Result<()> {
+// The lines of a text, which stands behind a line feed. What stands before the first case has no title.
+fn report(
+    rt: &HostRuntime,
+    trial: Trial,
+    title: &[u8],
+    builder: &mut Builder,
+    live: &mut Live,
+    text: &[u8],
+) -> io::Result<()> {
+    let title = str::from_utf8(title).unwrap_or("?");
+    let text = text.strip_prefix(b"\n").unwrap_or(text);
+    if title.is_empty() {
+        return Ok(());
+    }
     if LONGEST_TEXT < text.len() {
         return println!(rt; "{title}: over {LONGEST_TEXT} bytes");
     }
     match trial {
         Trial::Lexed => lexed::report(rt, title, text),
         Trial::Parsed => parsed::report(rt, title, text),
-        _ => report_checked(rt, trial, title, text),
+        _ => report_checked(rt, trial, title, builder, live, text),
     }
 }
 
-fn report_case(rt: &HostRuntime, trial: Trial, case: &Case<'_>) -> io::Result<()> {
-    let title = str::from_utf8(case.title).unwrap_or("?");
-    let text = pieces::text_of(rt.alloc(), case)?;
-    let printed = report(rt, trial, title, &text);
+// The lines of the texts of a file of cases, each of which is put together in this vector.
+fn report_cases(
+    rt: &HostRuntime,
+    trial: Trial,
+    builder: &mut Builder,
+    live: &mut Live,
+    file: &[u8],
+    text: &mut Vec<u8>,
+) -> io::Result<()> {
+    let mut title: &[u8] = b"";
+    for line in file.split(|b| *b == b'\n') {
+        match line.strip_prefix(b"%% ") {
+            Some(next) => {
+                report(rt, trial, title, builder, live, text)?;
+                text.clear();
+                title = next;
+            }
+            None => push_line(text, line)?,
+        }
+    }
+    report(rt, trial, title, builder, live, text)
+}
+
+// The same with a vector of their own.
+fn report_file(
+    rt: &HostRuntime,
+    trial: Trial,
+    builder: &mut Builder,
+    live: &mut Live,
+    file: &[u8],
+) -> io::Result<()> {
+    let mut text = Vec::new(rt.alloc());
+    let printed = report_cases(rt, trial, builder, live, file, &mut text);
     drop(text);
     printed
 }
 
-fn report_each(rt: &HostRuntime, trial: Trial, cases: &[Case<'_>]) -> io::Result<()> {
-    for case in cases {
-        report_case(rt, trial, case)?;
-    }
-    Ok(())
-}
-
-// The lines of the texts of a file of cases.
-fn report_cases(rt: &HostRuntime, trial: Trial, file: &[u8]) -> io::Result<()> {
-    let all = cases(rt.alloc(), file)?;
-    let printed = report_each(rt, trial, &all);
-    drop(all);
-    printed
-}
-
-// The texts of a file, behind a line with its name.
-fn report_file(rt: &HostRuntime, trial: Trial, name: &str) -> io::Result<()> {
+// The texts of a file with this name, behind a line with it.
+fn report_named(
+    rt: &HostRuntime,
+    trial: Trial,
+    name: &str,
+    builder: &mut Builder,
+    live: &mut Live,
+) -> io::Result<()> {
     println!(rt; "== {name}")?;
-    report_cases(rt, trial, &fs::read(rt, name)?)
+    report_file(rt, trial, builder, live, &fs::read(rt, name)?)
 }
 
-fn report_all(rt: &HostRuntime) -> io::Result<()> {
-    report_file(rt, Trial::Lexed, "lexed")?;
-    report_file(rt, Trial::Parsed, "parsed")?;
-    report_file(rt, Trial::Faults, "faults")?;
-    report_file(rt, Trial::Meaning, "meaning")?;
-    report_file(rt, Trial::Captured, "captured")?;
-    report_file(rt, Trial::Generators, "generators")?;
-    report_file(rt, Trial::Lowered, "lowered")?;
-    println!(rt; "== image")?;
-    report(rt, Trial::Image, "image", b"")?;
-    println!(rt; "== routines")?;
+// All files, and the routines.
+fn report_all(rt: &HostRuntime, builder: &mut Builder, live: &mut Live) -> io::Result<()> {
+    let files = [
+        (Trial::Lexed, "lexed"),
+        (Trial::Parsed, "parsed"),
+        (Trial::Faults, "faults"),
+        (Trial::Captured, "captured"),
+        (Trial::Generators, "generators"),
+        (Trial::Lowered, "lowered"),
+    ];
+    for (trial, name) in &files {
+        report_named(rt, *trial, name, builder, live)?;
+    }
     routines::report(rt)
 }
 
-// The texts on standard input, or for an image the text.
-fn report_input(rt: &HostRuntime, trial: Trial) -> io::Result<()> {
+// The texts on standard input.
+fn report_input(
+    rt: &HostRuntime,
+    trial: Trial,
+    builder: &mut Builder,
+    live: &mut Live,
+) -> io::Result<()> {
     let mut file = Vec::new(rt.alloc());
     rt.reader().read_to_end(&mut file)?;
-    match trial {
-        Trial::Image => report(rt, trial, "image", &file),
-        _ => report_cases(rt, trial, &file),
-    }
+    report_file(rt, trial, builder, live, &file)
 }
 
-// What the word behind the program's name says.
+// What is asked for, with this builder.
+fn report_built(rt: &HostRuntime, trial: Option<Trial>, builder: &mut Builder) -> io::Result<()> {
+    let mut live = Live::new(rt.alloc())?;
+    let printed = match trial {
+        Some(trial) => report_input(rt, trial, builder, &mut live),
+        None => report_all(rt, builder, &mut live),
+    };
+    forget(live);
+    printed
+}
+
+// What the word behind the program's name asks for, if anything.
 fn asked(rt: &HostRuntime) -> io::Result<Option<Trial>> {
-    let mut words = env::args(rt)?.skip(1);
-    Ok(words.next().and_then(|word| trial_of(word.as_str())))
+    let mut words = env::args(rt)?;
+    let _ = words.next();
+    match words.next() {
+        Some(word) => Ok(trial_of(&word)),
+        None => Ok(None),
+    }
 }
 
 fn main(rt: HostRuntime) -> io::Result<()> {
-    match asked(&rt)? {
-        Some(trial) => report_input(&rt, trial),
-        None => report_all(&rt),
-    }
+    let trial = asked(&rt)?;
+    let mut builder = Builder::new(rt.alloc())?;
+    let printed = report_built(&rt, trial, &mut builder);
+    forget(builder);
+    printed
 }

@@ -1,4 +1,4 @@
-//! Prints the words of the run-time routines, a line for each of the 15 blocks of 64 words.
+//! Prints the words of the run-time routines, a line for each of the 15 blocks of 64 words, behind a head.
 
 use crate::generators::print_words;
 use routine_blocks::routines;
@@ -12,8 +12,9 @@ fn print_blocks(rt: &HostRuntime, words: &[u32]) -> io::Result<()> {
     Ok(())
 }
 
-/// Prints the lines of all blocks.
+/// Prints the head and the lines of all blocks.
 pub(crate) fn report(rt: &HostRuntime) -> io::Result<()> {
+    println!(rt; "== routines")?;
     let found = routines(rt.alloc())?;
     let printed = print_blocks(rt, found.as_slice());
     drop(found);

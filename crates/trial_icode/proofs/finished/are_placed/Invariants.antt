@@ -1,6 +1,0 @@
-use Rattle.std.proofs.Common.{ℕ, ◌<◌}
-use Rattle.trial_icode.specs.Parts.{IsPlaced}
-use Rattle.trial_icode.proofs.finished.are_placed.Given as goal
-
-abbrev pub invariant-loop-at : goal.invariant-loop-at
-invariant-loop-at l = (p : ℕ) → p < l.at → IsPlaced l.ops p

@@ -1,0 +1,14 @@
+use Rattle.std.proofs.Common.{rules, map, ap}
+use Rattle.typed_tree.specs.View.{function_view}
+use Rattle.static_backend.proofs.Loops.{next_static}
+use Rattle.trial_texts.proofs.lowered.report_functions.Goals as goal
+
+pub build_ops-requires : goal.build_ops-requires
+build_ops-requires c =
+    let fs = c.args.functions.now in
+    let gs = map function_view fs in
+    let f = c.index-functions-number.result in
+    (gs, (next_static gs c.loop-number.number fs f (search rules) (search rules) c.requires.each).ready)
+
+pub report_ops-requires : goal.report_ops-requires
+report_ops-requires c = ap (λ b. b.phase) c.in_ok-build_ops.ensures
