@@ -2,8 +2,8 @@
 //!
 //! A list stands on a line, `TITLE | CALL; CALL; ..`. A call is `NUMBER FIRST SECOND THIRD`, a service with its three
 //! arguments, of which those at the end that are 0 may be left out. Or it is a look at what the services have left:
-//! `words FIRST COUNT`, so many words of the arena from a word on, `row ROW`, a row of the function table, `places`, the
-//! places of the function that was finished last, or `spills`, their count.
+//! `words FIRST COUNT`, so many words of the arena from a word on, `row ROW`, a row of the function table, `places`,
+//! the places of the function that was finished last, or `spills`, their count.
 //!
 //! A service prints its answer, or `!` and the number of the reason for which it is refused; the words of the arena are
 //! printed with a `*` behind those that are flushed. Each list has services as they are before the first one, and all

@@ -1,5 +1,5 @@
-//! Prints the captures of ticks: of each capture its kind and the number of the first node of the tick's body that names
-//! it.
+//! Prints the captures of ticks: of each capture its kind and the number of the first node of the tick's body that
+//! names it.
 
 use captures::{Capture, captures};
 use std::io;
