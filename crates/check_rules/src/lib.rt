@@ -3,7 +3,6 @@
 //! knows; the rules of productions stand in `check_expressions` and `check_statements`, and the walk in `check_walk`.
 #![tactic(auto)]
 
-mod blocks;
 mod functions;
 mod initializers;
 mod locals;
@@ -12,4 +11,6 @@ mod state;
 
 pub use functions::{Functions, Prototype};
 pub use initializers::{has_size, is_array, is_string, lower, value_breaks};
+pub use locals::meaning;
+pub use names::{operand, place_by};
 pub use state::{Around, Stage, State};

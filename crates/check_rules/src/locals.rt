@@ -14,8 +14,8 @@ use check_tables::{Frame, Home};
 use std::alloc::{AllocError, Global};
 use tick_tree::Deny;
 
-// What a name of this type means.
-fn meaning(alloc: Global, kind: MeaningKind, t: &TypeRef, n: u32) -> Result<Meaning, AllocError>
+/// What a name of this type means.
+pub fn meaning(alloc: Global, kind: MeaningKind, t: &TypeRef, n: u32) -> Result<Meaning, AllocError>
     ensures { IfOk result (λ m. m ≡ spec.meaning kind t.now n) }
 {
     Ok(Meaning {
@@ -116,23 +116,6 @@ impl State {
             Stage::Function | Stage::Dollar => self.outer_local(alloc, line, name, t),
             Stage::Tick => self.inner_local(alloc, line, name, t),
         }
-    }
-
-    /// Declares a parameter of the function, which has a name. Refused where an earlier one has the name: Duplicate.
-    #[tactic(auto, unfolding(crate::specs::Locals::parameter))]
-    pub fn parameter(
-        &mut self,
-        alloc: Global,
-        line: u32,
-        name: &[u8],
-        t: TypeRef,
-    ) -> Result<(), Deny>
-        ensures { Reads (spec.parameter line name.now t self.old) result self.new }
-    {
-        let what = meaning(alloc, MeaningKind::Parameter, &t, self.frame.number())?;
-        self.declare(line, name, what)?;
-        self.frame.parameter(&t)?;
-        Ok(())
     }
 
     /// Declares a parameter of a list, which has a name: it is visible in the lengths behind it. Refused where the list has

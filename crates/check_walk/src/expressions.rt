@@ -296,7 +296,7 @@ pub fn expression(alloc: Global, state: &mut State, stage: Stage, e: &Expr) -> R
     ensures { Reads ((spec.node e.now).walk stage state.old) result state.new }
 {
     match e {
-        Expr::Name(line, name) => state.named(alloc, *line, stage, name.as_slice()),
+        Expr::Name(line, name) => check_names::named(alloc, state, *line, stage, name.as_slice()),
         Expr::Number(n, unsigned) => number_leaf(alloc, *n, *unsigned),
         Expr::Character(n) => character_leaf(alloc, *n),
         Expr::String(bytes) => string_leaf(alloc, state, bytes.as_slice()),

@@ -82,8 +82,8 @@ pub fn block(
 ) -> Result<Boxed<Stmt>, Deny>
     ensures { Reads (spec.block list.now around state.old) result state.new }
 {
-    let depth = state.depth();
-    let outer = state.enter(alloc)?;
+    let depth = check_names::depth(state);
+    let outer = check_names::enter(alloc, state)?;
     let nodes = match items(alloc, state, around, list) {
         Ok(nodes) => nodes,
         Err(why) => {
@@ -91,7 +91,7 @@ pub fn block(
             return Err(why);
         }
     };
-    match state.leave(depth, outer) {
+    match check_names::leave(state, depth, outer) {
         Ok(variables) => Ok(Boxed::new(alloc, Stmt::Block(variables, nodes))?),
         Err(why) => {
             drop(nodes);
@@ -243,8 +243,8 @@ fn for_block(
     ensures { Reads (statements.for_block line (spec.item first.now) (spec.optional c.now) (spec.optional s.now)
         (spec.item a.now) around state.old) result state.new }
 {
-    let depth = state.depth();
-    let outer = state.enter(alloc)?;
+    let depth = check_names::depth(state);
+    let outer = check_names::enter(alloc, state)?;
     let nodes = match statement(alloc, state, inside(around), first) {
         Ok(nodes) => nodes,
         Err(why) => {
@@ -267,7 +267,7 @@ fn for_block(
             return Err(why.into());
         }
     };
-    match state.leave(depth, outer) {
+    match check_names::leave(state, depth, outer) {
         Ok(variables) => Ok(one(alloc, Stmt::Block(variables, nodes))?),
         Err(why) => {
             drop(nodes);
@@ -331,8 +331,8 @@ fn switch_block(
     ensures { Reads (statements.labelled_block (map spec.item list.now) around state.old) result state.new }
 {
     let labels = switch_entered(alloc, state)?;
-    let depth = state.depth();
-    let outer = match state.enter(alloc) {
+    let depth = check_names::depth(state);
+    let outer = match check_names::enter(alloc, state) {
         Ok(outer) => outer,
         Err(why) => {
             drop(labels);
@@ -347,7 +347,7 @@ fn switch_block(
             return Err(why);
         }
     };
-    match state.leave(depth, outer) {
+    match check_names::leave(state, depth, outer) {
         Ok(variables) => {
             state.labels = labels;
             Ok((variables, nodes))

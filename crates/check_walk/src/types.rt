@@ -124,8 +124,8 @@ fn parameters(
     ensures { Reads (statements.list_step (spec.type_walks (map spec.parameter list.now)) stage state.old)
         result state.new }
 {
-    let depth = state.depth();
-    let outer = state.enter(alloc)?;
+    let depth = check_names::depth(state);
+    let outer = check_names::enter(alloc, state)?;
     let types = match each_parameter(alloc, state, stage, list) {
         Ok(types) => types,
         Err(why) => {
@@ -133,7 +133,7 @@ fn parameters(
             return Err(why);
         }
     };
-    match state.leave(depth, outer) {
+    match check_names::leave(state, depth, outer) {
         Ok(variables) => {
             drop(variables);
             Ok(Step::Function(types))

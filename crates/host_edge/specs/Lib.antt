@@ -1,6 +1,4 @@
 pub mod Causes
 pub mod Files
-pub mod Memory
-pub mod Stored
 pub mod Moves
 pub mod Endings

@@ -1,5 +1,5 @@
-//! The outside of the product: a source, a sink and a store of files as traits, their forms in memory,
-//! the adapters over the real edge, and the kinds of endings that every layer speaks of.
+//! The outside of the product: a source, a sink and a store of files as traits, the adapters over the real edge, and
+//! the kinds of endings that every layer speaks of. Their forms in memory are in `memory_edge`.
 //!
 //! Each trait has two meanings. A count of faults never falls, and a call answers `Failed` only where the
 //! count rose. What the object holds is told as an option: a form in memory tells it, and an adapter what its
@@ -7,13 +7,9 @@
 //! All output of the product goes through `write_whole`, and the machine reads through `read_byte`.
 #![tactic(auto)]
 
-mod calls;
 mod ending;
 mod fault;
 mod file_store;
-mod memory_sink;
-mod memory_source;
-mod memory_store;
 mod sink;
 mod source;
 mod std_streams;
@@ -23,9 +19,6 @@ mod whole;
 pub use ending::{Counts, Ending, MachineKind, TrapKind};
 pub use fault::{Failed, LoadFault, SaveFault};
 pub use file_store::FileStore;
-pub use memory_sink::MemSink;
-pub use memory_source::MemSource;
-pub use memory_store::MemStore;
 pub use sink::Sink;
 pub use source::Source;
 pub use std_streams::{StdSink, StdSource};

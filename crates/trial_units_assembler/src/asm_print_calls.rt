@@ -3,8 +3,9 @@
 ghost use Rattle.std.specs.Prelude.{◌≤◌, length};
 
 use asm_print::disassemble;
-use host_edge::{Failed, MemSink};
+use host_edge::Failed;
 use image_file::read;
+use memory_edge::MemSink;
 use std::alloc::{AllocError, Global};
 
 // The image file of `ori $2,$0,10` and `syscall`, without data and functions.

@@ -1,7 +1,7 @@
 //! Texts by hand: the row of an image, and a first fault.
 
-use host_edge::MemSink;
 use image_file::Image;
+use memory_edge::MemSink;
 use mips_text::{AsmDeny, assemble, disassemble};
 use std::alloc::{AllocError, Global};
 

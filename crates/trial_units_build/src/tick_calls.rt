@@ -1,7 +1,7 @@
 //! What a call of `tick` hands back besides its outcome: how many instructions were executed, none where the command
 //! makes no machine, and the places of the registers of the last function that was made.
 
-use host_edge::{MemSink, MemSource, MemStore};
+use memory_edge::{MemSink, MemSource, MemStore};
 use std::alloc::{AllocError, Global};
 use tick_top::{Ended, status, tick};
 

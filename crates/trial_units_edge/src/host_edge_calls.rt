@@ -1,9 +1,10 @@
 //! The edge in memory, and its adapters over real streams and files.
 
 use host_edge::{
-    Failed, FileStore, LoadFault, MachineKind, MemSink, MemSource, MemStore, SaveFault, Sink,
-    Source, StdSink, StdSource, Store, TrapKind, read_byte, write_whole,
+    Failed, FileStore, LoadFault, MachineKind, SaveFault, Sink, Source, StdSink, StdSource, Store,
+    TrapKind, read_byte, write_whole,
 };
+use memory_edge::{MemSink, MemSource, MemStore};
 use std::alloc::{AllocError, Global};
 use std::fs::remove_file;
 use std::process::id;

@@ -2,6 +2,9 @@
 
 use crate::nodes::word;
 use c_types::{Integer, Layer, TypeRef};
+use check_names::{
+    define, earlier_number, functions_again, no_functions, note_prototype, undefined,
+};
 use check_rules::Functions;
 use check_tables::{Frame, Home, Image, Labels, Ticks};
 use check_types::integer;
@@ -97,7 +100,7 @@ fn labels_stand_once(alloc: Global) -> bool {
 
 // The line of the first prototype without a function, or 0.
 fn undefined_line(functions: &Functions) -> u32 {
-    match functions.undefined() {
+    match undefined(functions) {
         Some(prototype) => prototype.line,
         None => 0,
     }
@@ -106,27 +109,27 @@ fn undefined_line(functions: &Functions) -> u32 {
 // A function with a prototype is defined twice: whether each is taken, the line of what is undefined before and between
 // that, and the number that an earlier walk has found.
 fn define_twice(alloc: Global, functions: &mut Functions) -> ([bool; 3], [u32; 3]) {
-    let noted = functions.prototype(alloc, 3, b"f");
+    let noted = note_prototype(alloc, functions, 3, b"f");
     let before = undefined_line(functions);
-    let defined = functions.define(alloc, 4, b"f");
+    let defined = define(alloc, functions, 4, b"f");
     let between = undefined_line(functions);
-    let again = functions.define(alloc, 5, b"f");
+    let again = define(alloc, functions, 5, b"f");
     (
         [noted.is_ok(), defined.is_ok(), again.is_ok()],
-        [before, between, functions.number(b"f")],
+        [before, between, earlier_number(functions, b"f")],
     )
 }
 
 // The number of the function in the next walk.
 fn number_again(alloc: Global, functions: Functions) -> Result<u32, AllocError> {
-    let functions = functions.again(alloc)?;
-    let number = functions.number(b"f");
+    let functions = functions_again(alloc, functions)?;
+    let number = earlier_number(&functions, b"f");
     drop(functions);
     Ok(number)
 }
 
 fn functions_stand_once(alloc: Global) -> Result<bool, AllocError> {
-    let mut functions = Functions::new(alloc)?;
+    let mut functions = no_functions(alloc)?;
     let (are_taken, found) = define_twice(alloc, &mut functions);
     let number = number_again(alloc, functions)?;
     Ok(are_taken == [true, true, false] && found == [3, 0, 0] && number == 1)

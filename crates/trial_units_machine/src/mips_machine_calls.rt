@@ -3,8 +3,9 @@
 ghost use Rattle.std.specs.Prelude.{◌≡◌, ◌≤◌, ◌+◌, ◌^◌, None, length};
 ghost use Rattle.mips_machine.specs.Progress.{progress_of};
 
-use host_edge::{Ending, MemSink, MemSource};
+use host_edge::Ending;
 use image_file::read;
+use memory_edge::{MemSink, MemSource};
 use mips_machine::{Machine, Stop, run_twice};
 use std::alloc::{AllocError, Global};
 

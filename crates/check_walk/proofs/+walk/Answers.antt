@@ -333,26 +333,26 @@ statements::for_block-returns-in_err-outer t c =
 pub statements::for_block-returns-in-Err : goal.statements::for_block-returns-in-Err
 statements::for_block-returns-in-Err t c =
     past _ _ _ _ _ c.in_ok-outer.ensures (stops _ _ _ _ (stops _ _ _ _ (fails_as _ _ _ _ (ap (λ z. (walks.item
-    c.args.first.now).walk z c.enter.new.self) (sym c.inside.ensures)) c.in-Err.ensures)))
+    c.args.first.now).walk z c.enter.new.state) (sym c.inside.ensures)) c.in-Err.ensures)))
 
 pub statements::for_block-returns-in_ok-one-in-Ok-leave : goal.statements::for_block-returns-in_ok-one-in-Ok-leave
 statements::for_block-returns-in_ok-one-in-Ok-leave t c =
     onward _ _ _ _ c.in_ok-outer.ensures (onward _ _ _ _ (onward _ _ _ _ (ap (λ z. (walks.item c.args.first.now).walk
-    z c.enter.new.self) (sym c.inside.ensures) ∙ c.in-Ok.ensures) (ends _ _ _ _ _ _ c.in-Ok-for_rest.ensures refl
+    z c.enter.new.state) (sym c.inside.ensures) ∙ c.in-Ok.ensures) (ends _ _ _ _ _ _ c.in-Ok-for_rest.ensures refl
     c.in-Ok-pushed.ensures)) (ends _ _ _ _ _ _ (ap (λ n. blocks.leave n c.in_ok-outer.outer c.for_rest.new.state) (sym
     c.depth-depth.ensures.value) ∙ c.in-Ok-leave.ensures) refl c.in_ok-one-in-Ok-leave.ensures))
 
 pub statements::for_block-returns-in-Err-leave : goal.statements::for_block-returns-in-Err-leave
 statements::for_block-returns-in-Err-leave t c =
     past _ _ _ _ _ c.in_ok-outer.ensures (past _ _ _ _ _ (onward _ _ _ _ (ap (λ z. (walks.item c.args.first.now).walk
-    z c.enter.new.self) (sym c.inside.ensures) ∙ c.in-Ok.ensures) (ends _ _ _ _ _ _ c.in-Ok-for_rest.ensures refl
+    z c.enter.new.state) (sym c.inside.ensures) ∙ c.in-Ok.ensures) (ends _ _ _ _ _ _ c.in-Ok-for_rest.ensures refl
     c.in-Ok-pushed.ensures)) (stops _ _ _ _ (fails_as _ _ _ _ (ap (λ n. blocks.leave n c.in_ok-outer.outer
     c.for_rest.new.state) (sym c.depth-depth.ensures.value)) c.in-Err-leave.ensures)))
 
 pub statements::for_block-returns-in-Err-for_rest : goal.statements::for_block-returns-in-Err-for_rest
 statements::for_block-returns-in-Err-for_rest t c =
     past _ _ _ _ _ c.in_ok-outer.ensures (stops _ _ _ _ (past _ _ _ _ _ (ap (λ z. (walks.item c.args.first.now).walk z
-    c.enter.new.self) (sym c.inside.ensures) ∙ c.in-Ok.ensures) (stops _ _ _ _ c.in-Err-for_rest.ensures)))
+    c.enter.new.state) (sym c.inside.ensures) ∙ c.in-Ok.ensures) (stops _ _ _ _ c.in-Err-for_rest.ensures)))
 
 pub statements::for_rest-returns-in_err-test : goal.statements::for_rest-returns-in_err-test
 statements::for_rest-returns-in_err-test t c =
