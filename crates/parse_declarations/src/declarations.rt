@@ -1,6 +1,6 @@
 //! Declarations.
 
-ghost use Rattle.std.specs.Prelude.{◌≡◌, ◌<◌, ◌≤◌};
+ghost use Rattle.std.specs.Prelude.{◌≡◌, ◌<◌, ◌≤◌, [], ◌∷◌};
 ghost use Rattle.parse_grammar.specs.Input.{Reads};
 ghost use Rattle.parse_grammar.specs.Steps as steps;
 ghost use Rattle.parse_grammar.specs.Expressions.{assign};
@@ -9,7 +9,7 @@ ghost use Rattle.parse_grammar.specs.Statements.{room_of};
 
 use parse_declarators::declarator;
 use parse_expressions::assign;
-use parse_grammar::{Deeper, Mark, Mode, Part, Stop, Tokens, base, enter};
+use parse_grammar::{Deeper, Mark, Mode, Part, Stop, Tokens, base, ended, enter};
 use sqlite_items::Items;
 use tick_tree::{Declaration, Init, Initializer};
 
@@ -69,19 +69,20 @@ fn init<G: Deeper>(grammar: &G, tokens: &mut Tokens<'_>, room: usize) -> Result<
     Ok(Init { declarator, value })
 }
 
-// Behind the first declarators of a declaration.
+// The declarators of a declaration, behind the first.
 #[tactic(auto, unfolding(parse_grammar::specs::Steps::following_from))]
 pub(crate) fn following<G: Deeper>(
     grammar: &G,
     tokens: &mut Tokens<'_>,
     room: usize,
-    first: Items<Init>,
+    first: Init,
 ) -> Result<Items<Init>, Stop>
     requires nests { G.nests grammar.now }
     requires room { room ≤ G.limit grammar.now }
-    ensures { Reads (steps.following (spec.init (room_of room)) first tokens.old) result tokens.new }
+    ensures { Reads (steps.following (spec.init (room_of room)) (first ∷ []) tokens.old) result tokens.new }
 {
-    let mut found = first;
+    let mut found = Items::new(grammar.alloc());
+    found.push(first)?;
     for _turn in 0..tokens.left() {
         if !tokens.eat(Mark::Comma) {
             return Ok(found);
@@ -106,9 +107,7 @@ pub fn declaration<G: Deeper>(
 {
     let line = tokens.line();
     let base = base(tokens)?;
-    let mut first = Items::new(grammar.alloc());
-    first.push(init(grammar, tokens, room)?)?;
+    let first = init(grammar, tokens, room)?;
     let inits = following(grammar, tokens, room, first)?;
-    tokens.expect(Mark::Semicolon)?;
-    Ok(Declaration { line, base, inits })
+    ended(tokens, Declaration { line, base, inits }, Mark::Semicolon)
 }

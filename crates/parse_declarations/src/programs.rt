@@ -7,7 +7,7 @@ ghost use Rattle.parse_grammar.specs.Statements.{room_of};
 
 use crate::declarations::{following, initializer};
 use parse_declarators::{declarator, declares_function};
-use parse_grammar::{Deeper, Mark, Mode, Stop, Tokens, base};
+use parse_grammar::{Deeper, Mark, Mode, Stop, Tokens, base, ended};
 use parse_primaries::block;
 use sqlite_items::Items;
 use tick_tree::{Base, Declaration, Declarator, External, Init};
@@ -35,11 +35,9 @@ fn variables<G: Deeper>(
     ensures { Reads (spec.variables (room_of room) line base declarator tokens.old) result tokens.new }
 {
     let value = initializer(grammar, tokens, room)?;
-    let mut first = Items::new(grammar.alloc());
-    first.push(Init { declarator, value })?;
-    let inits = following(grammar, tokens, room, first)?;
-    tokens.expect(Mark::Semicolon)?;
-    Ok(External::Declaration(Declaration { line, base, inits }))
+    let inits = following(grammar, tokens, room, Init { declarator, value })?;
+    let found = External::Declaration(Declaration { line, base, inits });
+    ended(tokens, found, Mark::Semicolon)
 }
 
 // An item of a program.

@@ -7,9 +7,8 @@ ghost use Rattle.parse_grammar.specs.Declarators as spec;
 ghost use Rattle.parse_grammar.specs.Statements.{inner, room_of};
 
 use crate::lists::{begins_suffix, opens, prefixes};
-use parse_grammar::{Deeper, Kind, Mark, Mode, Part, Stop, Tokens, base, enter, is_void};
+use parse_grammar::{Deeper, Kind, Mark, Mode, Part, Stop, Tokens, base, ended, enter, is_void};
 use sqlite_items::{Boxed, Items};
-use std::alloc::Global;
 use tick_tree::{Core, Declarator, Name, OptionalExpr, Parameter, Prefix, Suffix};
 
 fn parenthesized<G: Deeper>(
@@ -24,8 +23,8 @@ fn parenthesized<G: Deeper>(
 {
     enter(tokens, room)?;
     let found = grammar.inner_declarator(tokens, room - 1, mode)?;
-    tokens.expect(Mark::ParenClose)?;
-    Ok(Core::Paren(Boxed::new(grammar.alloc(), found)?))
+    let inner = Boxed::new(grammar.alloc(), found)?;
+    ended(tokens, Core::Paren(inner), Mark::ParenClose)
 }
 
 #[tactic(auto, unfolding(parse_grammar::specs::Declarators::core))]
@@ -41,7 +40,12 @@ fn core<G: Deeper>(
 {
     match (mode, tokens.peek()) {
         (Mode::Nameless, Kind::Name) => Ok(Core::Absent),
-        (_, Kind::Name) => named(grammar.alloc(), tokens),
+        (_, Kind::Name) => {
+            let line = tokens.line();
+            let name = Name::new(grammar.alloc(), tokens.text())?;
+            tokens.take();
+            Ok(Core::Name(line, name))
+        }
         (_, Kind::Mark(Mark::ParenOpen)) if opens(mode, tokens.peek_second()) => {
             parenthesized(grammar, tokens, room, mode)
         }
@@ -107,8 +111,7 @@ fn list<G: Deeper>(grammar: &G, tokens: &mut Tokens<'_>, room: usize) -> Result<
         return Ok(Suffix::Nothing);
     }
     let found = separated(grammar, tokens, room - 1)?;
-    tokens.expect(Mark::ParenClose)?;
-    Ok(Suffix::Listed(found))
+    ended(tokens, Suffix::Listed(found), Mark::ParenClose)
 }
 
 fn suffix<G: Deeper>(grammar: &G, tokens: &mut Tokens<'_>, room: usize) -> Result<Suffix, Stop>
@@ -124,8 +127,8 @@ fn suffix<G: Deeper>(grammar: &G, tokens: &mut Tokens<'_>, room: usize) -> Resul
         return Ok(Suffix::Array(OptionalExpr::Absent));
     }
     let length = grammar.inner(tokens, room - 1, Part::Cond)?;
-    tokens.expect(Mark::BracketClose)?;
-    Ok(Suffix::Array(OptionalExpr::Present(length)))
+    let found = Suffix::Array(OptionalExpr::Present(length));
+    ended(tokens, found, Mark::BracketClose)
 }
 
 #[tactic(auto, unfolding(parse_grammar::specs::Declarators::suffixes, parse_grammar::specs::Steps::many, parse_grammar::specs::Steps::many_from))]
@@ -169,16 +172,6 @@ pub fn declarator<G: Deeper>(
         core,
         suffixes,
     })
-}
-
-// At a name.
-fn named(alloc: Global, tokens: &mut Tokens<'_>) -> Result<Core, Stop>
-    ensures { Reads (spec.named tokens.old) result tokens.new }
-{
-    let line = tokens.line();
-    let name = Name::new(alloc, tokens.text())?;
-    tokens.take();
-    Ok(Core::Name(line, name))
 }
 
 // Whether `void` and `)` come next.

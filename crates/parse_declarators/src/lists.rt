@@ -70,23 +70,16 @@ pub fn begins_suffix(kind: Kind) -> bool
     matches!(kind, Kind::Mark(Mark::BracketOpen | Mark::ParenOpen))
 }
 
-#[tactic(auto, unfolding(parse_grammar::specs::Declarators::is_name))]
-fn is_name(kind: Kind) -> bool
-    ensures { result ≡ spec.is_name kind }
-{
-    matches!(kind, Kind::Name)
-}
-
 /// Whether the first name among the tokens is followed at once by `(`.
 ///
 /// At the start of a declarator that has a name, this is the declared name, and the `(` that of its parameter list.
-#[tactic(auto, using(crate::proofs::Steps::name_steps))]
+#[tactic(auto, unfolding(parse_grammar::specs::Declarators::is_name), using(crate::proofs::Steps::name_steps))]
 pub fn declares_function(tokens: &Tokens<'_>) -> bool
     ensures { result ≡ spec.declares_function tokens.now }
 {
     let mut rest = tokens.copy();
     while rest.left() > 0 {
-        let found = is_name(rest.peek());
+        let found = matches!(rest.peek(), Kind::Name);
         rest.take();
         if found {
             return rest.sees(Mark::ParenOpen);

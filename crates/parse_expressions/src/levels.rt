@@ -4,12 +4,13 @@ ghost use Rattle.std.specs.Prelude.{◌≡◌, ◌<◌, ◌≤◌};
 ghost use Rattle.parse_grammar.specs.Input.{Reads};
 ghost use Rattle.parse_grammar.specs.Expressions as spec;
 ghost use Rattle.parse_grammar.specs.Statements.{inner, room_of};
+ghost use Rattle.parse_expressions.specs.Assigned.{assigned_by};
 ghost use Rattle.parse_expressions.specs.Precedence.{chain_at};
 
-use crate::nodes;
 use crate::operators::{binary_of, is_comma, looseness_within};
 use crate::postfixes::unary;
 use parse_grammar::{Deeper, Kind, Mark, Part, Stop, Tokens, enter};
+use sqlite_items::Boxed;
 use tick_tree::{Expr, ModifyOp};
 
 // How many levels of operators between operands there are.
@@ -37,7 +38,7 @@ fn chain<G: Deeper>(
         enter(tokens, room)?;
         room -= 1;
         let right = climb(grammar, tokens, room, level)?;
-        left = nodes::binary(grammar.alloc(), line, op, left, right)?;
+        left = Expr::Binary(line, op, Boxed::new(grammar.alloc(), (left, right))?);
     }
     Ok(left)
 }
@@ -78,10 +79,13 @@ fn choice<G: Deeper>(
     requires room { room < G.limit grammar.now }
     ensures { Reads (spec.choice line test (inner (room_of room)) tokens.old) result tokens.new }
 {
-    let first = grammar.inner(tokens, room, Part::Whole)?;
+    let asked = Boxed::new(grammar.alloc(), test)?;
+    let read = grammar.inner(tokens, room, Part::Whole)?;
+    let first = Boxed::new(grammar.alloc(), read)?;
     tokens.expect(Mark::Colon)?;
-    let second = grammar.inner(tokens, room, Part::Cond)?;
-    nodes::choice(grammar.alloc(), line, test, first, second)
+    let last = grammar.inner(tokens, room, Part::Cond)?;
+    let second = Boxed::new(grammar.alloc(), last)?;
+    Ok(Expr::Choice(line, asked, first, second))
 }
 
 /// An expression without a comma or an assignment outside brackets.
@@ -103,39 +107,26 @@ pub fn cond<G: Deeper>(grammar: &G, tokens: &mut Tokens<'_>, room: usize) -> Res
     choice(grammar, tokens, room - 1, line, test)
 }
 
-// At a `=`.
+// At the sign of an assignment, which may join an operator with `=`.
 fn assigned<G: Deeper>(
     grammar: &G,
     tokens: &mut Tokens<'_>,
     room: usize,
     left: Expr,
+    op: Option<ModifyOp>,
 ) -> Result<Expr, Stop>
     requires nests { G.nests grammar.now }
     requires room { room ≤ G.limit grammar.now }
-    ensures { Reads (spec.assigned (room_of room) left tokens.old) result tokens.new }
+    ensures { Reads (assigned_by (room_of room) left op tokens.old) result tokens.new }
 {
     let line = tokens.line();
     enter(tokens, room)?;
     let right = grammar.inner(tokens, room - 1, Part::Assign)?;
-    nodes::assign(grammar.alloc(), line, left, right)
-}
-
-// At an operator that assigns.
-fn modified<G: Deeper>(
-    grammar: &G,
-    tokens: &mut Tokens<'_>,
-    room: usize,
-    left: Expr,
-    op: ModifyOp,
-) -> Result<Expr, Stop>
-    requires nests { G.nests grammar.now }
-    requires room { room ≤ G.limit grammar.now }
-    ensures { Reads (spec.modified (room_of room) left op tokens.old) result tokens.new }
-{
-    let line = tokens.line();
-    enter(tokens, room)?;
-    let right = grammar.inner(tokens, room - 1, Part::Assign)?;
-    nodes::modify(grammar.alloc(), line, op, left, right)
+    let pair = Boxed::new(grammar.alloc(), (left, right))?;
+    match op {
+        None => Ok(Expr::Assign(line, pair)),
+        Some(op) => Ok(Expr::Modify(line, op, pair)),
+    }
 }
 
 /// An expression without a comma outside brackets.
@@ -150,8 +141,8 @@ pub fn assign<G: Deeper>(grammar: &G, tokens: &mut Tokens<'_>, room: usize) -> R
 {
     let left = cond(grammar, tokens, room)?;
     match tokens.peek() {
-        Kind::Mark(Mark::Assign) => assigned(grammar, tokens, room, left),
-        Kind::Modify(op) => modified(grammar, tokens, room, left, op),
+        Kind::Mark(Mark::Assign) => assigned(grammar, tokens, room, left, None),
+        Kind::Modify(op) => assigned(grammar, tokens, room, left, Some(op)),
         _ => Ok(left),
     }
 }
@@ -173,7 +164,7 @@ pub fn expr<G: Deeper>(grammar: &G, tokens: &mut Tokens<'_>, room: usize) -> Res
         enter(tokens, room)?;
         room -= 1;
         let right = assign(grammar, tokens, room)?;
-        left = nodes::comma(grammar.alloc(), line, left, right)?;
+        left = Expr::Comma(line, Boxed::new(grammar.alloc(), (left, right))?);
     }
     Ok(left)
 }

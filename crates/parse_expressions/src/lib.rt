@@ -4,8 +4,6 @@
 #![tactic(auto)]
 
 mod levels;
-mod nodes;
-mod operand_nodes;
 mod operand_operators;
 mod operators;
 mod postfixes;

@@ -6,27 +6,16 @@ ghost use Rattle.parse_grammar.specs.Expressions as spec;
 use parse_grammar::{Kind, Mark, Postfix};
 use tick_tree::{BinaryOp, StepOp, UnaryOp};
 
-// The operator before an operand that has the same sign.
-#[tactic(auto, unfolding(parse_grammar::specs::Expressions::sign_of))]
-fn sign_of(op: BinaryOp) -> Option<UnaryOp>
-    ensures { result ≡ spec.sign_of op }
-{
-    match op {
-        BinaryOp::Add => Some(UnaryOp::Plus),
-        BinaryOp::Sub => Some(UnaryOp::Minus),
-        BinaryOp::Mul => Some(UnaryOp::Star),
-        BinaryOp::BitAnd => Some(UnaryOp::Address),
-        _ => None,
-    }
-}
-
 /// The operator that the kind is before an operand.
-#[tactic(auto, unfolding(parse_grammar::specs::Expressions::unary_of))]
+#[tactic(auto, unfolding(parse_grammar::specs::Expressions::unary_of, parse_grammar::specs::Expressions::sign_of))]
 pub fn unary_of(kind: Kind) -> Option<UnaryOp>
     ensures { result ≡ spec.unary_of kind }
 {
     match kind {
-        Kind::Operator(op) => sign_of(op),
+        Kind::Operator(BinaryOp::Add) => Some(UnaryOp::Plus),
+        Kind::Operator(BinaryOp::Sub) => Some(UnaryOp::Minus),
+        Kind::Operator(BinaryOp::Mul) => Some(UnaryOp::Star),
+        Kind::Operator(BinaryOp::BitAnd) => Some(UnaryOp::Address),
         Kind::Unary(op) => Some(op),
         Kind::Step(StepOp::Increment) => Some(UnaryOp::Increment),
         Kind::Step(StepOp::Decrement) => Some(UnaryOp::Decrement),

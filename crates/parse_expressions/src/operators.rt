@@ -51,24 +51,14 @@ pub fn binary_of(level: u8, kind: Kind) -> Option<BinaryOp>
     }
 }
 
-#[tactic(auto, unfolding(crate::specs::Precedence::operator_of))]
-fn operator_of(kind: Kind) -> Option<BinaryOp>
-    ensures { result ≡ precedence.operator_of kind }
-{
-    match kind {
-        Kind::Operator(op) => Some(op),
-        _ => None,
-    }
-}
-
 /// How loosely the kind binds between operands, where it is an operator of a looseness from `least` on and under `end`.
+#[tactic(auto, unfolding(crate::specs::Precedence::operator_of))]
 pub fn looseness_within(least: u8, end: u8, kind: Kind) -> Option<u8>
     ensures value { result ≡ precedence.loosely least end (precedence.operator_of kind) }
     ensures within { IfSome result (λ n. (least ≤ n) × (n < end)) }
 {
-    match operator_of(kind) {
-        None => None,
-        Some(op) => {
+    match kind {
+        Kind::Operator(op) => {
             let found = looseness(op);
             if least <= found && found < end {
                 Some(found)
@@ -76,6 +66,7 @@ pub fn looseness_within(least: u8, end: u8, kind: Kind) -> Option<u8>
                 None
             }
         }
+        _ => None,
     }
 }
 

@@ -5,10 +5,10 @@ ghost use Rattle.parse_grammar.specs.Input.{Reads};
 ghost use Rattle.parse_grammar.specs.Expressions as spec;
 ghost use Rattle.parse_grammar.specs.Statements.{inner, room_of};
 
-use crate::operand_nodes;
 use crate::operand_operators::{postfix_kind, unary_of};
-use parse_grammar::{Deeper, Kind, Mark, Part, Postfix, Stop, Tokens, enter, is_base};
+use parse_grammar::{Deeper, Kind, Mark, Part, Postfix, Stop, Tokens, ended, enter, is_base};
 use parse_primaries::{arguments, block, cast, primary, size_of};
+use sqlite_items::Boxed;
 use tick_tree::{Expr, UnaryOp};
 
 // Behind the operator.
@@ -29,14 +29,14 @@ fn postfix_step<G: Deeper>(
     match op {
         Postfix::Index => {
             let at = grammar.inner(tokens, room, Part::Whole)?;
-            tokens.expect(Mark::BracketClose)?;
-            operand_nodes::index(grammar.alloc(), line, left, at)
+            let pair = Boxed::new(grammar.alloc(), (left, at))?;
+            ended(tokens, Expr::Index(line, pair), Mark::BracketClose)
         }
         Postfix::Call => {
-            let arguments = arguments(grammar, tokens, room)?;
-            operand_nodes::call(grammar.alloc(), line, left, arguments)
+            let callee = Boxed::new(grammar.alloc(), left)?;
+            Ok(Expr::Call(line, callee, arguments(grammar, tokens, room)?))
         }
-        Postfix::Step(op) => operand_nodes::step(grammar.alloc(), line, op, left),
+        Postfix::Step(op) => Ok(Expr::Step(line, op, Boxed::new(grammar.alloc(), left)?)),
     }
 }
 
@@ -70,7 +70,7 @@ fn tick<G: Deeper>(grammar: &G, tokens: &mut Tokens<'_>, room: usize) -> Result<
         return Ok(Expr::TickBlock(line, block(grammar, tokens, room - 1)?));
     }
     let operand = grammar.inner(tokens, room - 1, Part::Unary)?;
-    operand_nodes::tick(grammar.alloc(), line, operand)
+    Ok(Expr::Tick(line, Boxed::new(grammar.alloc(), operand)?))
 }
 
 // At an operator before its operand.
@@ -87,20 +87,7 @@ fn prefixed<G: Deeper>(
     let line = tokens.line();
     enter(tokens, room)?;
     let operand = grammar.inner(tokens, room - 1, Part::Unary)?;
-    operand_nodes::unary(grammar.alloc(), line, op, operand)
-}
-
-// At a `(`, which begins a cast where a base follows.
-fn parenthesis<G: Deeper>(grammar: &G, tokens: &mut Tokens<'_>, room: usize) -> Result<Expr, Stop>
-    requires nests { G.nests grammar.now }
-    requires room { room ≤ G.limit grammar.now }
-    ensures { Reads (spec.unary_by (room_of room) (Kind.Mark Mark.ParenOpen) tokens.old) result tokens.new }
-{
-    if is_base(tokens.peek_second()) {
-        cast(grammar, tokens, room)
-    } else {
-        postfix(grammar, tokens, room)
-    }
+    Ok(Expr::Unary(line, op, Boxed::new(grammar.alloc(), operand)?))
 }
 
 /// An operand: operators before it, a cast, a backquote, or a primary expression with operators behind it.
@@ -116,7 +103,13 @@ pub fn unary<G: Deeper>(grammar: &G, tokens: &mut Tokens<'_>, room: usize) -> Re
     match tokens.peek() {
         Kind::Backquote => tick(grammar, tokens, room),
         Kind::Sizeof => size_of(grammar, tokens, room),
-        Kind::Mark(Mark::ParenOpen) => parenthesis(grammar, tokens, room),
+        Kind::Mark(Mark::ParenOpen) => {
+            if is_base(tokens.peek_second()) {
+                cast(grammar, tokens, room)
+            } else {
+                postfix(grammar, tokens, room)
+            }
+        }
         kind => match unary_of(kind) {
             Some(op) => prefixed(grammar, tokens, room, op),
             None => postfix(grammar, tokens, room),

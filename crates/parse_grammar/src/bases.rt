@@ -25,18 +25,11 @@ pub fn is_void(kind: Kind) -> bool
     matches!(kind, Kind::Base(BaseWord::Void))
 }
 
-#[tactic(auto, unfolding(crate::specs::Bases::is_int))]
-fn is_int(kind: Kind) -> bool
-    ensures { result ≡ spec.is_int kind }
-{
-    matches!(kind, Kind::Base(BaseWord::Int))
-}
-
-#[tactic(auto, unfolding(crate::specs::Bases::eat_int))]
+#[tactic(auto, unfolding(crate::specs::Bases::eat_int, crate::specs::Bases::is_int))]
 fn eat_int(tokens: &mut Tokens<'_>) -> bool
     ensures { spec.eat_int tokens.old ≡ Ok (result, tokens.new) }
 {
-    let found = is_int(tokens.peek());
+    let found = matches!(tokens.peek(), Kind::Base(BaseWord::Int));
     if found {
         tokens.take();
     }

@@ -83,7 +83,7 @@ pub trait Deeper {
 }
 
 /// The allocator, and the functions that read what stands deeper.
-#[derive(Clone, Copy)]
+#[derive(Drop)]
 pub struct Grammar<F, S, D> {
     /// Where trees are made.
     pub alloc: Global,

@@ -2,6 +2,7 @@
 #![tactic(auto)]
 
 mod bases;
+mod ends;
 mod grammar;
 mod item;
 mod kind;
@@ -10,6 +11,7 @@ mod stop;
 mod tokens;
 
 pub use bases::{base, is_base, is_void};
+pub use ends::ended;
 pub use grammar::{Deeper, Grammar, Mode, Part, Postfix};
 pub use item::{Bytes, Item};
 pub use kind::{BaseWord, Kind, Mark, Word};

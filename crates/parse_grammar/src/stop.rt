@@ -1,19 +1,15 @@
 //! Why no tree is read.
 
 use std::alloc::AllocError;
-use thiserror::Error;
 
 /// Why a production isn't read. A refusal counts the tokens from the refused one on.
-#[derive(Clone, Copy, Debug, PartialEq, Eq, Error)]
+#[derive(Clone, Copy)]
 pub enum Stop {
     /// Memory was not found.
-    #[error("memory was not found")]
     NoMemory,
     /// No production takes the token.
-    #[error("no production takes the token, {0} tokens from the end")]
     Syntax(usize),
     /// The token nests too deep.
-    #[error("the token nests too deep, {0} tokens from the end")]
     TooDeep(usize),
 }
 

@@ -187,36 +187,22 @@ impl<'a> Tokens<'a> {
     }
 }
 
-#[tactic(auto, unfolding(crate::specs::Input::same_mark))]
-fn same_mark(a: Mark, b: Mark) -> bool
-    ensures { result ≡ spec.same_mark a b }
-{
-    a == b
-}
-
-#[tactic(auto, unfolding(crate::specs::Input::same_word))]
-fn same_word(a: Word, b: Word) -> bool
-    ensures { result ≡ spec.same_word a b }
-{
-    a == b
-}
-
-#[tactic(auto, unfolding(crate::specs::Input::is_mark))]
+#[tactic(auto, unfolding(crate::specs::Input::is_mark, crate::specs::Input::same_mark))]
 fn is_mark(mark: Mark, kind: Kind) -> bool
     ensures { result ≡ spec.is_mark mark kind }
 {
     match kind {
-        Kind::Mark(found) => same_mark(found, mark),
+        Kind::Mark(found) => found == mark,
         _ => false,
     }
 }
 
-#[tactic(auto, unfolding(crate::specs::Input::is_word))]
+#[tactic(auto, unfolding(crate::specs::Input::is_word, crate::specs::Input::same_word))]
 fn is_word(word: Word, kind: Kind) -> bool
     ensures { result ≡ spec.is_word word kind }
 {
     match kind {
-        Kind::Word(found) => same_word(found, word),
+        Kind::Word(found) => found == word,
         _ => false,
     }
 }

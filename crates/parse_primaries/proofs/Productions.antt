@@ -9,7 +9,7 @@ use Rattle.parse_grammar.specs.Steps.{Inner, Room, enter, enter_paren}
 use Rattle.parse_grammar.specs.Declarators.{typename}
 use Rattle.parse_grammar.specs.Expressions.{worded, compile_inner, local_inner, param_inner, sizeof_inner, cast_inner}
 use Rattle.parse_grammar.specs.Expressions.{cast}
-use Rattle.parse_primaries.specs.Parts.{before}
+use Rattle.parse_grammar.specs.Ends.{before}
 
 -- what follows a step that gives nothing
 behind : {A B : Type 0} (o : Outcome (Unit {0})) (x : A) (k : A → Parser B) →

@@ -1,15 +1,10 @@
 -- The parts that several productions are made of.
 use Rattle.std.specs.Prelude.{◌≡◌, ℕ, Result, Ok, Err}
-use Rattle.parse_grammar.specs.declared.kind.Mark.{Mark}
 use Rattle.parse_grammar.specs.declared.stop.Stop.{Stop}
-use Rattle.parse_grammar.specs.Input.{Input, Outcome, Parser, ◌>>=◌, ◌>>◌, pure, expect, line, next}
+use Rattle.parse_grammar.specs.Input.{Input, line, next}
 use Rattle.parse_grammar.specs.Nests.{Entered}
 use Rattle.parse_grammar.specs.Statements.{room_of}
 use Rattle.parse_grammar.specs.Steps.{enter_paren}
-
--- what stands before this mark, and the mark
-abbrev pub before : {A : Type 0} → Mark → Parser A → Parser A
-before mark p = p >>= (λ x. expect mark >> pure x)
 
 -- What a step over a word and its open parenthesis ensures: it gives the line of the word.
 abbrev pub Opened : ℕ → Input → Result ℕ Stop → Input → Type 0

@@ -20,24 +20,6 @@ pub fn name(alloc: Global, tokens: &mut Tokens<'_>) -> Result<Expr, Stop>
     Ok(Expr::Name(line, text))
 }
 
-// At a number.
-pub fn number(tokens: &mut Tokens<'_>) -> Expr
-    ensures { spec.number tokens.old ≡ Ok (result, tokens.new) }
-{
-    let found = Expr::Number(tokens.value(), tokens.unsigned());
-    tokens.take();
-    found
-}
-
-// At a character literal.
-pub fn character(tokens: &mut Tokens<'_>) -> Expr
-    ensures { spec.character tokens.old ≡ Ok (result, tokens.new) }
-{
-    let found = Expr::Character(tokens.value());
-    tokens.take();
-    found
-}
-
 #[tactic(auto, unfolding(parse_grammar::specs::Expressions::is_string))]
 fn is_string(kind: Kind) -> bool
     ensures { result ≡ spec.is_string kind }
@@ -45,22 +27,15 @@ fn is_string(kind: Kind) -> bool
     matches!(kind, Kind::String)
 }
 
-// The bytes of the strings that stand next, joined.
+// The strings that stand next, as one.
 #[tactic(auto, using(crate::proofs::Steps::string_steps))]
-fn strings(alloc: Global, tokens: &mut Tokens<'_>) -> Result<Items<u8>, Stop>
-    ensures { Reads (spec.strings [] tokens.old) result tokens.new }
+pub fn string(alloc: Global, tokens: &mut Tokens<'_>) -> Result<Expr, Stop>
+    ensures { Reads (and_then (spec.strings [] tokens.old) (λ bytes. pure (Expr.String bytes))) result tokens.new }
 {
     let mut found = Vec::new(alloc);
     while is_string(tokens.peek()) {
         append_string(tokens.text(), &mut found)?;
         tokens.take();
     }
-    Ok(Items::from_vec(found))
-}
-
-// The strings that stand next, as one.
-pub fn string(alloc: Global, tokens: &mut Tokens<'_>) -> Result<Expr, Stop>
-    ensures { Reads (and_then (spec.strings [] tokens.old) (λ bytes. pure (Expr.String bytes))) result tokens.new }
-{
-    Ok(Expr::String(strings(alloc, tokens)?))
+    Ok(Expr::String(Items::from_vec(found)))
 }

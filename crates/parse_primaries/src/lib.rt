@@ -4,11 +4,9 @@
 #![tactic(auto)]
 
 mod leaves;
-mod nodes;
 mod parts;
 mod primaries;
 mod staged;
-mod typename_nodes;
 mod typenames;
 
 pub use primaries::{arguments, block, parenthesized, primary};

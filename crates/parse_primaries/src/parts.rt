@@ -1,12 +1,13 @@
 //! The steps that several productions share.
 
 ghost use Rattle.std.specs.Prelude.{◌≡◌, ◌<◌};
-ghost use Rattle.parse_grammar.specs.Input.{Reads, pure};
+ghost use Rattle.parse_grammar.specs.Ends.{before};
+ghost use Rattle.parse_grammar.specs.Input.{Reads};
 ghost use Rattle.parse_grammar.specs.Expressions.{at};
 ghost use Rattle.parse_grammar.specs.Statements.{room_of};
 ghost use Rattle.parse_primaries.specs.Parts as spec;
 
-use parse_grammar::{Deeper, Mark, Part, Stop, Tokens, enter_paren};
+use parse_grammar::{Deeper, Mark, Part, Stop, Tokens, ended, enter_paren};
 use tick_tree::Expr;
 
 /// Takes a word and the `(` behind it, which opens a level, and gives the line of the word.
@@ -19,14 +20,6 @@ pub fn open(tokens: &mut Tokens<'_>, room: usize) -> Result<u32, Stop>
     Ok(line)
 }
 
-/// What was found, if this mark comes next, which is taken.
-pub fn ended<T: Drop>(tokens: &mut Tokens<'_>, found: T, mark: Mark) -> Result<T, Stop>
-    ensures { Reads (spec.before mark (pure found) tokens.old) result tokens.new }
-{
-    tokens.expect(mark)?;
-    Ok(found)
-}
-
 /// An expression, and this mark behind it.
 pub fn expr_before<G: Deeper>(
     grammar: &G,
@@ -37,7 +30,7 @@ pub fn expr_before<G: Deeper>(
 ) -> Result<Expr, Stop>
     requires nests { G.nests grammar.now }
     requires room { room < G.limit grammar.now }
-    ensures { Reads (spec.before mark (at part (room_of room)) tokens.old) result tokens.new }
+    ensures { Reads (before mark (at part (room_of room)) tokens.old) result tokens.new }
 {
     let found = grammar.inner(tokens, room, part)?;
     ended(tokens, found, mark)

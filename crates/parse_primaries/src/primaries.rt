@@ -6,12 +6,11 @@ ghost use Rattle.parse_grammar.specs.Steps as steps;
 ghost use Rattle.parse_grammar.specs.Expressions as spec;
 ghost use Rattle.parse_grammar.specs.Statements.{room_of, stmt};
 
-use crate::leaves::{character, name, number, string};
-use crate::nodes;
-use crate::parts::{ended, expr_before};
+use crate::leaves::{name, string};
+use crate::parts::expr_before;
 use crate::staged::{compile, local, param};
-use parse_grammar::{Deeper, Kind, Mark, Part, Stop, Tokens, enter, enter_paren};
-use sqlite_items::Items;
+use parse_grammar::{Deeper, Kind, Mark, Part, Stop, Tokens, ended, enter, enter_paren};
+use sqlite_items::{Boxed, Items};
 use tick_tree::{Expr, Stmt};
 
 #[tactic(auto, unfolding(parse_grammar::specs::Steps::separated, parse_grammar::specs::Steps::following_from))]
@@ -116,7 +115,7 @@ fn paren<G: Deeper>(grammar: &G, tokens: &mut Tokens<'_>, room: usize) -> Result
     ensures { Reads (spec.primary_by (room_of room) (Kind.Mark Mark.ParenOpen) tokens.old) result tokens.new }
 {
     let inner = parenthesized(grammar, tokens, room)?;
-    nodes::paren(grammar.alloc(), inner)
+    Ok(Expr::Paren(Boxed::new(grammar.alloc(), inner)?))
 }
 
 /// A primary expression.
@@ -131,8 +130,16 @@ pub fn primary<G: Deeper>(grammar: &G, tokens: &mut Tokens<'_>, room: usize) -> 
     let alloc = grammar.alloc();
     match tokens.peek() {
         Kind::Name => name(alloc, tokens),
-        Kind::Number => Ok(number(tokens)),
-        Kind::Character => Ok(character(tokens)),
+        Kind::Number => {
+            let found = Expr::Number(tokens.value(), tokens.unsigned());
+            tokens.take();
+            Ok(found)
+        }
+        Kind::Character => {
+            let found = Expr::Character(tokens.value());
+            tokens.take();
+            Ok(found)
+        }
         Kind::String => string(alloc, tokens),
         Kind::Compile => compile(grammar, tokens, room),
         Kind::Local => local(grammar, tokens, room),

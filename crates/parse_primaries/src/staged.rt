@@ -6,9 +6,9 @@ ghost use Rattle.parse_grammar.specs.Expressions as spec;
 ghost use Rattle.parse_grammar.specs.Statements.{room_of};
 
 use crate::parts::{expr_before, open};
-use crate::typename_nodes;
 use crate::typenames::typename_before;
 use parse_grammar::{Deeper, Mark, Part, Stop, Tokens, enter};
+use sqlite_items::Boxed;
 use tick_tree::Expr;
 
 /// `compile(..)`: an expression and a type name, from its word on.
@@ -20,9 +20,10 @@ pub fn compile<G: Deeper>(grammar: &G, tokens: &mut Tokens<'_>, room: usize) -> 
     ensures { Reads (spec.worded spec.compile_inner (room_of room) tokens.old) result tokens.new }
 {
     let line = open(tokens, room)?;
-    let code = expr_before(grammar, tokens, room - 1, Part::Assign, Mark::Comma)?;
+    let read = expr_before(grammar, tokens, room - 1, Part::Assign, Mark::Comma)?;
+    let code = Boxed::new(grammar.alloc(), read)?;
     let ty = typename_before(grammar, tokens, room - 1, Mark::ParenClose)?;
-    typename_nodes::compile(grammar.alloc(), line, code, ty)
+    Ok(Expr::Compile(line, code, ty))
 }
 
 /// `local(..)`: a type name, from its word on.
@@ -35,7 +36,7 @@ pub fn local<G: Deeper>(grammar: &G, tokens: &mut Tokens<'_>, room: usize) -> Re
 {
     let line = open(tokens, room)?;
     let ty = typename_before(grammar, tokens, room - 1, Mark::ParenClose)?;
-    typename_nodes::local(grammar.alloc(), line, ty)
+    Ok(Expr::Local(line, ty))
 }
 
 /// `param(..)`: a type name and an expression, from its word on.
@@ -48,8 +49,9 @@ pub fn param<G: Deeper>(grammar: &G, tokens: &mut Tokens<'_>, room: usize) -> Re
 {
     let line = open(tokens, room)?;
     let ty = typename_before(grammar, tokens, room - 1, Mark::Comma)?;
-    let number = expr_before(grammar, tokens, room - 1, Part::Assign, Mark::ParenClose)?;
-    typename_nodes::param(grammar.alloc(), line, ty, number)
+    let read = expr_before(grammar, tokens, room - 1, Part::Assign, Mark::ParenClose)?;
+    let number = Boxed::new(grammar.alloc(), read)?;
+    Ok(Expr::Param(line, ty, number))
 }
 
 /// `sizeof(..)`: a type name, from its word on.
@@ -62,7 +64,7 @@ pub fn size_of<G: Deeper>(grammar: &G, tokens: &mut Tokens<'_>, room: usize) -> 
 {
     let line = open(tokens, room)?;
     let ty = typename_before(grammar, tokens, room - 1, Mark::ParenClose)?;
-    typename_nodes::size_of(grammar.alloc(), line, ty)
+    Ok(Expr::Sizeof(line, ty))
 }
 
 /// A cast: a type name in parentheses and its operand, from the `(` on.
@@ -76,6 +78,7 @@ pub fn cast<G: Deeper>(grammar: &G, tokens: &mut Tokens<'_>, room: usize) -> Res
     let line = tokens.line();
     enter(tokens, room)?;
     let ty = typename_before(grammar, tokens, room - 1, Mark::ParenClose)?;
-    let operand = grammar.inner(tokens, room - 1, Part::Unary)?;
-    typename_nodes::cast(grammar.alloc(), line, ty, operand)
+    let read = grammar.inner(tokens, room - 1, Part::Unary)?;
+    let operand = Boxed::new(grammar.alloc(), read)?;
+    Ok(Expr::Cast(line, ty, operand))
 }

@@ -3,11 +3,11 @@
 ghost use Rattle.std.specs.Prelude.{◌≡◌, ◌<◌};
 ghost use Rattle.parse_grammar.specs.Input.{Reads};
 ghost use Rattle.parse_grammar.specs.Declarators as declarators;
+ghost use Rattle.parse_grammar.specs.Ends.{before};
 ghost use Rattle.parse_grammar.specs.Statements.{inner, room_of};
-ghost use Rattle.parse_primaries.specs.Parts.{before};
 
-use crate::parts::ended;
-use parse_grammar::{Deeper, Mark, Mode, Stop, Tokens, base};
+use parse_grammar::{Deeper, Mark, Mode, Stop, Tokens, base, ended};
+use sqlite_items::Boxed;
 use tick_tree::Typename;
 
 // A type name, and this mark behind it.
@@ -17,12 +17,13 @@ pub(crate) fn typename_before<G: Deeper>(
     tokens: &mut Tokens<'_>,
     room: usize,
     mark: Mark,
-) -> Result<Typename, Stop>
+) -> Result<Boxed<Typename>, Stop>
     requires nests { G.nests grammar.now }
     requires room { room < G.limit grammar.now }
     ensures { Reads (before mark (declarators.typename (inner (room_of room))) tokens.old) result tokens.new }
 {
     let base = base(tokens)?;
     let declarator = grammar.inner_declarator(tokens, room, Mode::Nameless)?;
-    ended(tokens, Typename { base, declarator }, mark)
+    let found = Boxed::new(grammar.alloc(), Typename { base, declarator })?;
+    ended(tokens, found, mark)
 }

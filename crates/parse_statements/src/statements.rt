@@ -1,7 +1,7 @@
 //! Statements.
 
 ghost use Rattle.std.specs.Prelude.{◌≡◌, ◌-◌, ◌<◌, ◌≤◌};
-ghost use Rattle.parse_grammar.specs.Input.{Reads, and_then, expect, pure};
+ghost use Rattle.parse_grammar.specs.Input.{Reads};
 ghost use Rattle.parse_grammar.specs.Steps as steps;
 ghost use Rattle.parse_grammar.specs.Expressions as expressions;
 ghost use Rattle.parse_grammar.specs.Statements as spec;
@@ -10,18 +10,10 @@ ghost use Rattle.parse_grammar.specs.Statements.{inner, room_of};
 use crate::first_words::{begins_first, begins_stmt};
 use parse_declarations::declaration;
 use parse_expressions::{cond, expr};
-use parse_grammar::{Deeper, Kind, Mark, Part, Stop, Tokens, Word, descend, enter_paren};
+use parse_grammar::{Deeper, Kind, Mark, Part, Stop, Tokens, Word, descend, ended, enter_paren};
 use parse_primaries::{block, parenthesized};
 use sqlite_items::Boxed;
 use tick_tree::{Expr, OptionalExpr, Stmt};
-
-// A statement, up to and with the mark that ends it.
-fn ended(tokens: &mut Tokens<'_>, mark: Mark, found: Stmt) -> Result<Stmt, Stop>
-    ensures { Reads (and_then (expect mark tokens.old) (λ _. pure found)) result tokens.new }
-{
-    tokens.expect(mark)?;
-    Ok(found)
-}
 
 // A statement that is no item of a block.
 #[tactic(auto, unfolding(parse_grammar::specs::Statements::part))]
@@ -58,21 +50,6 @@ fn if_rest<G: Deeper>(
     Ok(Stmt::IfElse(line, test, first, second))
 }
 
-fn while_rest<G: Deeper>(
-    grammar: &G,
-    tokens: &mut Tokens<'_>,
-    room: usize,
-    line: u32,
-) -> Result<Stmt, Stop>
-    requires nests { G.nests grammar.now }
-    requires room { room ≤ G.limit grammar.now }
-    ensures { Reads (spec.while_rest line (room_of room) tokens.old) result tokens.new }
-{
-    let test = parenthesized(grammar, tokens, room)?;
-    let body = part(grammar, tokens, room)?;
-    Ok(Stmt::While(line, test, body))
-}
-
 fn do_rest<G: Deeper>(
     grammar: &G,
     tokens: &mut Tokens<'_>,
@@ -86,8 +63,7 @@ fn do_rest<G: Deeper>(
     let body = part(grammar, tokens, room)?;
     tokens.expect_word(Word::While)?;
     let test = parenthesized(grammar, tokens, room)?;
-    tokens.expect(Mark::Semicolon)?;
-    Ok(Stmt::Do(line, body, test))
+    ended(tokens, Stmt::Do(line, body, test), Mark::Semicolon)
 }
 
 // The first part of a `for`, with its `;`.
@@ -123,8 +99,7 @@ fn optional<G: Deeper>(
         return Ok(OptionalExpr::Absent);
     }
     let found = grammar.inner(tokens, room, Part::Whole)?;
-    tokens.expect(mark)?;
-    Ok(OptionalExpr::Present(found))
+    ended(tokens, OptionalExpr::Present(found), mark)
 }
 
 fn for_rest<G: Deeper>(
@@ -145,66 +120,7 @@ fn for_rest<G: Deeper>(
     Ok(Stmt::For(line, first, test, step, body))
 }
 
-fn switch_rest<G: Deeper>(
-    grammar: &G,
-    tokens: &mut Tokens<'_>,
-    room: usize,
-    line: u32,
-) -> Result<Stmt, Stop>
-    requires nests { G.nests grammar.now }
-    requires room { room ≤ G.limit grammar.now }
-    ensures { Reads (spec.switch_rest line (room_of room) tokens.old) result tokens.new }
-{
-    let test = parenthesized(grammar, tokens, room)?;
-    let items = block(grammar, tokens, room)?;
-    Ok(Stmt::Switch(line, test, items))
-}
-
-fn case_rest<G: Deeper>(
-    grammar: &G,
-    tokens: &mut Tokens<'_>,
-    room: usize,
-    line: u32,
-) -> Result<Stmt, Stop>
-    requires nests { G.nests grammar.now }
-    requires room { room ≤ G.limit grammar.now }
-    ensures { Reads (spec.case_rest line (room_of room) tokens.old) result tokens.new }
-{
-    let value = cond(grammar, tokens, room)?;
-    tokens.expect(Mark::Colon)?;
-    Ok(Stmt::Case(line, value))
-}
-
-#[tactic(auto, unfolding(parse_grammar::specs::Statements::return_rest))]
-fn return_rest<G: Deeper>(
-    grammar: &G,
-    tokens: &mut Tokens<'_>,
-    room: usize,
-    line: u32,
-) -> Result<Stmt, Stop>
-    requires nests { G.nests grammar.now }
-    requires room { room ≤ G.limit grammar.now }
-    ensures { Reads (spec.return_rest line (room_of room) tokens.old) result tokens.new }
-{
-    if tokens.eat(Mark::Semicolon) {
-        return Ok(Stmt::Return(line, OptionalExpr::Absent));
-    }
-    let value = expr(grammar, tokens, room)?;
-    tokens.expect(Mark::Semicolon)?;
-    Ok(Stmt::Return(line, OptionalExpr::Present(value)))
-}
-
-fn plain<G: Deeper>(grammar: &G, tokens: &mut Tokens<'_>, room: usize) -> Result<Stmt, Stop>
-    requires nests { G.nests grammar.now }
-    requires room { room ≤ G.limit grammar.now }
-    ensures { Reads (spec.plain (room_of room) tokens.old) result tokens.new }
-{
-    let value = expr(grammar, tokens, room)?;
-    tokens.expect(Mark::Semicolon)?;
-    Ok(Stmt::Expr(value))
-}
-
-#[tactic(auto, unfolding(parse_grammar::specs::Statements::word_stmt))]
+#[tactic(auto, unfolding(parse_grammar::specs::Statements::word_stmt, parse_grammar::specs::Statements::while_rest, parse_grammar::specs::Statements::switch_rest, parse_grammar::specs::Statements::case_rest, parse_grammar::specs::Statements::return_rest))]
 fn word_stmt<G: Deeper>(
     grammar: &G,
     tokens: &mut Tokens<'_>,
@@ -219,22 +135,37 @@ fn word_stmt<G: Deeper>(
     tokens.take();
     match word {
         Word::If => if_rest(grammar, tokens, room, line),
-        Word::While => while_rest(grammar, tokens, room, line),
+        Word::While => {
+            let test = parenthesized(grammar, tokens, room)?;
+            Ok(Stmt::While(line, test, part(grammar, tokens, room)?))
+        }
         Word::Do => do_rest(grammar, tokens, room, line),
         Word::For => for_rest(grammar, tokens, room, line),
-        Word::Switch => switch_rest(grammar, tokens, room, line),
-        Word::Case => case_rest(grammar, tokens, room, line),
-        Word::Default => ended(tokens, Mark::Colon, Stmt::Default(line)),
-        Word::Break => ended(tokens, Mark::Semicolon, Stmt::Break(line)),
-        Word::Continue => ended(tokens, Mark::Semicolon, Stmt::Continue(line)),
-        Word::Return => return_rest(grammar, tokens, room, line),
+        Word::Switch => {
+            let value = parenthesized(grammar, tokens, room)?;
+            Ok(Stmt::Switch(line, value, block(grammar, tokens, room)?))
+        }
+        Word::Case => {
+            let value = cond(grammar, tokens, room)?;
+            ended(tokens, Stmt::Case(line, value), Mark::Colon)
+        }
+        Word::Default => ended(tokens, Stmt::Default(line), Mark::Colon),
+        Word::Break => ended(tokens, Stmt::Break(line), Mark::Semicolon),
+        Word::Continue => ended(tokens, Stmt::Continue(line), Mark::Semicolon),
+        Word::Return => {
+            if tokens.eat(Mark::Semicolon) {
+                return Ok(Stmt::Return(line, OptionalExpr::Absent));
+            }
+            let value = OptionalExpr::Present(expr(grammar, tokens, room)?);
+            ended(tokens, Stmt::Return(line, value), Mark::Semicolon)
+        }
     }
 }
 
 /// An item of a block: a declaration or a statement.
 ///
 /// Syntax or TooDeep exactly at the first token that the production doesn't take, or that nests too deep.
-#[tactic(auto, unfolding(parse_grammar::specs::Statements::stmt))]
+#[tactic(auto, unfolding(parse_grammar::specs::Statements::stmt, parse_grammar::specs::Statements::plain))]
 pub fn stmt<G: Deeper>(grammar: &G, tokens: &mut Tokens<'_>, room: usize) -> Result<Stmt, Stop>
     requires nests { G.nests grammar.now }
     requires room { room ≤ G.limit grammar.now }
@@ -248,6 +179,9 @@ pub fn stmt<G: Deeper>(grammar: &G, tokens: &mut Tokens<'_>, room: usize) -> Res
         Kind::Mark(Mark::BraceOpen) => Ok(Stmt::Block(block(grammar, tokens, room)?)),
         Kind::Base(_) => Ok(Stmt::Local(declaration(grammar, tokens, room)?)),
         Kind::Word(word) => word_stmt(grammar, tokens, room, word),
-        _ => plain(grammar, tokens, room),
+        _ => {
+            let value = expr(grammar, tokens, room)?;
+            ended(tokens, Stmt::Expr(value), Mark::Semicolon)
+        }
     }
 }

@@ -19,10 +19,6 @@ pub returns-in_err-length : goal.returns-in_err-length
 unfolding array suffix
 returns-in_err-length g c = first_of (search rules, grind (arith, common_steps))
 
-pub returns-in_err-expect : goal.returns-in_err-expect
-unfolding array suffix
-returns-in_err-expect g c = first_of (search rules, grind (arith, common_steps))
-
 pub returns : goal.returns
 unfolding array suffix
 returns g c = first_of (search rules, grind (arith, common_steps))

@@ -1,5 +1,6 @@
 use Rattle.std.proofs.Common.{refl}
-use Rattle.parse_grammar.proofs.Reading.{broken, made, onward, past, stops}
+use Rattle.parse_grammar.proofs.Reading.{broken, onward, past, stops}
+use Rattle.parse_expressions.proofs.Assigning.{alone, joined}
 use Rattle.parse_expressions.proofs.levels.assigned.Goals as goal
 
 pub returns-in_err-enter : goal.returns-in_err-enter
@@ -11,7 +12,12 @@ returns-in_err-right g c =
     broken _ _ _ _ _ refl c.from_residual-in_err-right.ensures.1 (past _ _ _ _ _ c.in_ok-enter.ensures.0 (stops _ _ _
     c.in_err-right.ensures))
 
-pub returns : goal.returns
-returns g c =
-    let line = c.line-line.ensures in made _ _ _ _ c.assign.ensures (onward _ _ _ _ _ c.in_ok-enter.ensures.0 (onward
-    _ _ _ _ _ c.in_ok-right.ensures cc))
+pub returns-in-None : goal.returns-in-None
+returns-in-None g c =
+    onward _ _ _ _ _ c.in_ok-enter.ensures.0 (onward _ _ _ _ _ c.in_ok-right.ensures (alone _ _ _ _ _ _ c.in-None.is
+    c.line-line.ensures c.in_ok-pair.ensures))
+
+pub returns-in-Some : goal.returns-in-Some
+returns-in-Some g c =
+    onward _ _ _ _ _ c.in_ok-enter.ensures.0 (onward _ _ _ _ _ c.in_ok-right.ensures (joined _ _ _ _ _ _ _
+    c.in-Some.is c.line-line.ensures c.in_ok-pair.ensures))

@@ -1,5 +1,5 @@
 use Rattle.std.proofs.Common.{refl}
-use Rattle.parse_grammar.proofs.Reading.{broken, made, onward, past, stops}
+use Rattle.parse_grammar.proofs.Reading.{broken, onward, past, stops}
 use Rattle.parse_expressions.proofs.postfixes.prefixed.Goals as goal
 
 pub returns-in_err-enter : goal.returns-in_err-enter
@@ -13,5 +13,5 @@ returns-in_err-operand g c =
 
 pub returns : goal.returns
 returns g c =
-    let line = c.line-line.ensures in made _ _ _ _ c.unary.ensures (onward _ _ _ _ _ c.in_ok-enter.ensures.0 (onward _
-    _ _ _ _ c.in_ok-operand.ensures cc))
+    let line = c.line-line.ensures in let boxed = c.in_ok-new.ensures in
+    onward _ _ _ _ _ c.in_ok-enter.ensures.0 (onward _ _ _ _ _ c.in_ok-operand.ensures cc)

@@ -1,6 +1,6 @@
 use Rattle.std.proofs.Common.{◌∙◌}
 use Rattle.parse_primaries.proofs.Productions.{size_of_parts}
-use Rattle.parse_grammar.proofs.Reading.{broken, made, onward, past, stops}
+use Rattle.parse_grammar.proofs.Reading.{broken, onward, past, stops}
 use Rattle.parse_primaries.proofs.staged.size_of.Goals as goal
 
 pub returns-in_err-line : goal.returns-in_err-line
@@ -15,5 +15,4 @@ returns-in_err-ty g c =
 pub returns : goal.returns
 returns g c =
     let line = c.in_ok-line.ensures.1 in
-    made _ _ _ _ c.size_of.ensures (size_of_parts _ _ ∙ onward _ _ _ _ _ c.in_ok-line.ensures.0.0 (onward _ _ _ _ _
-    c.in_ok-ty.ensures cc))
+    size_of_parts _ _ ∙ onward _ _ _ _ _ c.in_ok-line.ensures.0.0 (onward _ _ _ _ _ c.in_ok-ty.ensures cc)

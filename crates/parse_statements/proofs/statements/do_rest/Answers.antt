@@ -1,6 +1,6 @@
 use Rattle.std.proofs.Common.{refl}
 use Rattle.parse_grammar.specs.Statements.{do_rest}
-use Rattle.parse_grammar.proofs.Reading.{broken, onward, past, stops}
+use Rattle.parse_grammar.proofs.Reading.{broken, goes, past, stops}
 use Rattle.parse_statements.proofs.statements.do_rest.Goals as goal
 
 pub returns-in_err-body : goal.returns-in_err-body
@@ -20,14 +20,8 @@ returns-in_err-test g c =
     broken _ _ _ _ _ refl c.from_residual-in_err-test.ensures.1 (past _ _ _ _ _ c.in_ok-body.ensures (past _ _ _ _ _
     c.in_ok-expect_word.ensures (stops _ _ _ c.in_err-test.ensures)))
 
-pub returns-in_err-expect : goal.returns-in_err-expect
-unfolding do_rest
-returns-in_err-expect g c =
-    broken _ _ _ _ _ refl c.from_residual-in_err-expect.ensures.1 (past _ _ _ _ _ c.in_ok-body.ensures (past _ _ _ _ _
-    c.in_ok-expect_word.ensures (past _ _ _ _ _ c.in_ok-test.ensures (stops _ _ _ c.in_err-expect.ensures))))
-
 pub returns : goal.returns
 unfolding do_rest
 returns g c =
-    onward _ _ _ _ _ c.in_ok-body.ensures (onward _ _ _ _ _ c.in_ok-expect_word.ensures (onward _ _ _ _ _
-    c.in_ok-test.ensures (onward _ _ _ _ _ c.in_ok-expect.ensures refl)))
+    goes _ _ _ _ _ _ c.in_ok-body.ensures (goes _ _ _ _ _ _ c.in_ok-expect_word.ensures (goes _ _ _ _ _ _
+    c.in_ok-test.ensures c.ended.ensures))
