@@ -1,15 +1,15 @@
 //! Definitions of functions.
 
-ghost use Rattle.std.specs.Prelude.{◌≡◌, map, IfOk, OnOk};
+ghost use Rattle.std.specs.Prelude.{◌≡◌, map, IfOk};
 ghost use Rattle.check_forms.specs.Forms as forms;
 ghost use Rattle.check_globals.specs.Functions as spec;
-ghost use Rattle.check_rules.specs.Locals as locals;
 ghost use Rattle.check_rules.specs.Declarations.{name_by};
 ghost use Rattle.check_tables.specs.Walks.{Reads};
 
-use crate::names::{Before, declare, known_before};
+use crate::names::{Before, declare, known_before, name_of};
 use c_types::{CType, Layer, TypeRef, copy_ctype};
 use check_forms::declared_name;
+use check_names::{add_function, define, next_number};
 use check_rules::State;
 use check_scopes::MeaningKind;
 use check_types::inner;
@@ -17,12 +17,6 @@ use sqlite_items::{Boxed, Items};
 use std::alloc::{AllocError, Global};
 use tick_tree::{Declarator, Deny, FaultKind, Parameter, refused};
 use typed_tree::{Function, Stmt, statement_size};
-
-fn define(alloc: Global, state: &mut State, line: u32, name: &[u8]) -> Result<(), Deny>
-    ensures { Reads (spec.define line name.now state.old) result state.new }
-{
-    state.functions.define(alloc, line, name)
-}
 
 fn first_function(
     alloc: Global,
@@ -33,25 +27,14 @@ fn first_function(
 ) -> Result<(), Deny>
     ensures { Reads (spec.first_function line name.now t.now state.old) result state.new }
 {
-    let index = state.functions.next();
+    let index = next_number(&state.functions);
     declare(alloc, state, line, name, MeaningKind::Function, t, index)?;
-    define(alloc, state, line, name)
-}
-
-#[tactic(auto, unfolding(crate::specs::Functions::named))]
-fn named(alloc: Global, state: &mut State, line: u32, name: &[u8], t: &TypeRef) -> Result<(), Deny>
-    ensures { Reads (spec.named line name.now t.now state.old) result state.new }
-{
-    match known_before(state, name, t) {
-        Before::Nothing => first_function(alloc, state, line, name, t),
-        Before::SamePrototype => define(alloc, state, line, name),
-        Before::OtherPrototype => refused(FaultKind::TypeMismatch, line),
-        Before::Taken => refused(FaultKind::Duplicate, line),
-    }
+    define(alloc, &mut state.functions, line, name)
 }
 
 /// Names a function that is defined, by its declarator. Refused: Duplicate where it is a variable, a function that is
 /// defined or in the library; TypeMismatch where a prototype of the name has another type.
+#[tactic(auto, unfolding(crate::specs::Functions::named))]
 pub fn name_function(
     alloc: Global,
     state: &mut State,
@@ -61,17 +44,13 @@ pub fn name_function(
 ) -> Result<(), Deny>
     ensures { Reads (spec.named line (name_by (forms.declared_name d.now)) t.now state.old) result state.new }
 {
-    match declared_name(d) {
-        None => named(alloc, state, line, &[], t),
-        Some((_, name)) => named(alloc, state, line, name.as_slice(), t),
+    let name = name_of(d);
+    match known_before(state, name, t) {
+        Before::Nothing => first_function(alloc, state, line, name, t),
+        Before::SamePrototype => define(alloc, &mut state.functions, line, name),
+        Before::OtherPrototype => refused(FaultKind::TypeMismatch, line),
+        Before::Taken => refused(FaultKind::Duplicate, line),
     }
-}
-
-// A parameter without a name.
-fn unnamed(state: &mut State, t: &TypeRef) -> Result<(), AllocError>
-    ensures { OnOk result (state.new ≡ locals.with_parameter t.now state.old) }
-{
-    state.frame.parameter(t)
 }
 
 fn parameter(alloc: Global, state: &mut State, p: &Parameter, t: &CType) -> Result<(), Deny>
@@ -79,8 +58,8 @@ fn parameter(alloc: Global, state: &mut State, p: &Parameter, t: &CType) -> Resu
 {
     let t = TypeRef::share(alloc, copy_ctype(alloc, t)?)?;
     match declared_name(&p.declarator) {
-        None => Ok(unnamed(state, &t)?),
-        Some((_, name)) => state.parameter(alloc, p.line, name.as_slice(), t),
+        None => Ok(state.frame.parameter(&t)?),
+        Some((_, name)) => check_names::parameter(alloc, state, p.line, name.as_slice(), t),
     }
 }
 
@@ -107,7 +86,7 @@ pub fn begin(alloc: Global, state: &mut State, t: &TypeRef, list: &[Parameter]) 
 {
     let answer = inner(c_types::copy(alloc, t)?);
     state.frame.begin(alloc, answer);
-    match t.layers().last() {
+    match t.outermost() {
         Some(Layer::Function(types)) => parameters(alloc, state, types.as_slice(), list),
         _ => Ok(()),
     }
@@ -116,7 +95,7 @@ pub fn begin(alloc: Global, state: &mut State, t: &TypeRef, list: &[Parameter]) 
 fn count_of(t: &TypeRef) -> u32
     ensures { result ≡ spec.count_of t.now }
 {
-    match t.layers().last() {
+    match t.outermost() {
         Some(Layer::Function(types)) => types.len().min(u32::MAX as usize) as u32,
         _ => 0,
     }
@@ -131,15 +110,6 @@ fn line_of(line: u32, d: &Declarator) -> u32
     }
 }
 
-fn name_of(alloc: Global, d: &Declarator) -> Result<Items<u8>, AllocError>
-    ensures { IfOk result (λ name. name ≡ name_by (forms.declared_name d.now)) }
-{
-    match declared_name(d) {
-        None => Ok(Items::new(alloc)),
-        Some((_, name)) => Items::from_slice(alloc, name.as_slice()),
-    }
-}
-
 fn function(
     alloc: Global,
     state: &State,
@@ -151,7 +121,7 @@ fn function(
     ensures { IfOk result (λ f. f ≡ spec.function line (forms.declared_name d.now) t.now body state.now) }
 {
     let size = statement_size(body.get());
-    let name = name_of(alloc, d)?;
+    let name = Items::from_slice(alloc, name_of(d))?;
     Ok(Function {
         name,
         line: line_of(line, d),
@@ -175,7 +145,7 @@ pub fn end(
     ensures { Reads (spec.ended line (forms.declared_name d.now) t.now body state.old) result state.new }
 {
     let made = function(alloc, state, line, d, t, body)?;
-    state.functions.add(made)?;
+    add_function(&mut state.functions, made)?;
     state.frame.end(alloc)?;
     Ok(())
 }

@@ -11,6 +11,7 @@ ghost use Rattle.check_tables.specs.Walks.{Reads};
 use c_types::{TypeRef, limited_size, same};
 use check_declarators::Step;
 use check_forms::declared_name;
+use check_names::{earlier_number, is_defined, note_prototype};
 use check_rules::State;
 use check_scopes::{Meaning, MeaningKind};
 use sqlite_items::Items;
@@ -48,15 +49,13 @@ fn is_function(kind: MeaningKind) -> bool
     matches!(kind, MeaningKind::Function)
 }
 
-fn before_by(is_defined: bool, t: &TypeRef, m: &Meaning) -> Before
-    ensures { result ≡ spec.before_by is_defined t.now (Some m.now) }
+// The name of a declarator; each in a declaration has one.
+pub(crate) fn name_of(d: &Declarator) -> &[u8]
+    ensures { result.now ≡ name_by (forms.declared_name d.now) }
 {
-    if !is_function(m.kind) || is_defined {
-        Before::Taken
-    } else if same(&m.ctype, t) {
-        Before::SamePrototype
-    } else {
-        Before::OtherPrototype
+    match declared_name(d) {
+        None => &[],
+        Some((_, name)) => name.as_slice(),
     }
 }
 
@@ -65,7 +64,15 @@ pub(crate) fn known_before(state: &State, name: &[u8], t: &TypeRef) -> Before
 {
     match state.scopes.find(name) {
         None => Before::Nothing,
-        Some(m) => before_by(state.functions.is_defined(name), t, m),
+        Some(m) => {
+            if !is_function(m.kind) || is_defined(&state.functions, name) {
+                Before::Taken
+            } else if same(&m.ctype, t) {
+                Before::SamePrototype
+            } else {
+                Before::OtherPrototype
+            }
+        }
     }
 }
 
@@ -91,7 +98,7 @@ pub(crate) fn declare(
 fn note(alloc: Global, state: &mut State, line: u32, name: &[u8]) -> Result<(), Deny>
     ensures { Reads (spec.note line name.now state.old) result state.new }
 {
-    Ok(state.functions.prototype(alloc, line, name)?)
+    Ok(note_prototype(alloc, &mut state.functions, line, name)?)
 }
 
 fn first_prototype(
@@ -103,36 +110,9 @@ fn first_prototype(
 ) -> Result<(), Deny>
     ensures { Reads (spec.first_prototype line name.now t.now state.old) result state.new }
 {
-    let index = state.functions.number(name);
+    let index = earlier_number(&state.functions, name);
     declare(alloc, state, line, name, MeaningKind::Function, t, index)?;
     note(alloc, state, line, name)
-}
-
-#[tactic(auto, unfolding(crate::specs::Names::prototype))]
-fn named_prototype(
-    alloc: Global,
-    state: &mut State,
-    line: u32,
-    name: &[u8],
-    t: &TypeRef,
-) -> Result<(), Deny>
-    ensures { Reads (spec.prototype line name.now t.now state.old) result state.new }
-{
-    match known_before(state, name, t) {
-        Before::Nothing => first_prototype(alloc, state, line, name, t),
-        Before::SamePrototype => note(alloc, state, line, name),
-        Before::OtherPrototype => refused(FaultKind::TypeMismatch, line),
-        Before::Taken => refused(FaultKind::Duplicate, line),
-    }
-}
-
-fn size_by(size: Option<u32>) -> u32
-    ensures { result ≡ spec.size_by size }
-{
-    match size {
-        None => 0,
-        Some(n) => n,
-    }
 }
 
 fn address(at: u32) -> u32
@@ -150,7 +130,7 @@ fn first_variable(
 ) -> Result<u32, Deny>
     ensures { Reads (spec.first_variable line name.now t.now state.old) result state.new }
 {
-    let at = state.image.global(size_by(limited_size(t)));
+    let at = state.image.global(limited_size(t).unwrap_or(0));
     declare(
         alloc,
         state,
@@ -163,25 +143,9 @@ fn first_variable(
     Ok(at)
 }
 
-#[tactic(auto, unfolding(crate::specs::Names::variable))]
-fn named_variable(
-    alloc: Global,
-    state: &mut State,
-    line: u32,
-    name: &[u8],
-    t: &TypeRef,
-) -> Result<u32, Deny>
-    ensures { Reads (spec.variable line name.now t.now state.old) result state.new }
-{
-    match known_before(state, name, t) {
-        Before::Nothing => first_variable(alloc, state, line, name, t),
-        Before::SamePrototype | Before::OtherPrototype => refused(FaultKind::TypeMismatch, line),
-        Before::Taken => refused(FaultKind::Duplicate, line),
-    }
-}
-
 /// A prototype by its declarator. Refused: Duplicate where its name is a variable, a function that is defined or in the
 /// library; TypeMismatch where a prototype of the name has another type.
+#[tactic(auto, unfolding(crate::specs::Names::prototype))]
 pub fn prototype(
     alloc: Global,
     state: &mut State,
@@ -191,14 +155,18 @@ pub fn prototype(
 ) -> Result<(), Deny>
     ensures { Reads (spec.prototype line (name_by (forms.declared_name d.now)) t.now state.old) result state.new }
 {
-    match declared_name(d) {
-        None => named_prototype(alloc, state, line, &[], t),
-        Some((_, name)) => named_prototype(alloc, state, line, name.as_slice(), t),
+    let name = name_of(d);
+    match known_before(state, name, t) {
+        Before::Nothing => first_prototype(alloc, state, line, name, t),
+        Before::SamePrototype => note(alloc, state, line, name),
+        Before::OtherPrototype => refused(FaultKind::TypeMismatch, line),
+        Before::Taken => refused(FaultKind::Duplicate, line),
     }
 }
 
 /// A variable by its declarator; its place, in bytes from the first global on. Refused: Duplicate where its name is a
 /// variable, a function that is defined or in the library; TypeMismatch where it has a prototype.
+#[tactic(auto, unfolding(crate::specs::Names::variable))]
 pub fn variable(
     alloc: Global,
     state: &mut State,
@@ -208,8 +176,10 @@ pub fn variable(
 ) -> Result<u32, Deny>
     ensures { Reads (spec.variable line (name_by (forms.declared_name d.now)) t.now state.old) result state.new }
 {
-    match declared_name(d) {
-        None => named_variable(alloc, state, line, &[], t),
-        Some((_, name)) => named_variable(alloc, state, line, name.as_slice(), t),
+    let name = name_of(d);
+    match known_before(state, name, t) {
+        Before::Nothing => first_variable(alloc, state, line, name, t),
+        Before::SamePrototype | Before::OtherPrototype => refused(FaultKind::TypeMismatch, line),
+        Before::Taken => refused(FaultKind::Duplicate, line),
     }
 }

@@ -1,14 +1,15 @@
 //! What is checked after the walk.
 
-ghost use Rattle.std.specs.Prelude.{◌≡◌, ◌+◌, ◌++◌, ◌-◌, length, min, replicate, IfOk, sum_by, nat_le, Some, None};
+ghost use Rattle.std.specs.Prelude.{◌≡◌, ◌+◌, ◌++◌, ◌-◌, length, min, replicate, IfOk, sum_by, nat_le, Ok};
 ghost use Rattle.c_types.specs.Types as types;
 ghost use Rattle.check_globals.specs.Programs as spec;
 ghost use Rattle.check_tables.specs.Images as images;
 ghost use Rattle.tick_tree.specs.Faults.{Checks};
 
 use c_types::{Base, Integer, Layer, TypeRef};
+use check_names::{is_defined, undefined};
 use check_rules::State;
-use check_scopes::{Meaning, MeaningKind};
+use check_scopes::MeaningKind;
 use check_tables::Image;
 use limits::program::{
     CHARGE_LIMIT, CHARGE_TOP, FRAME_OBJECT_BYTES, FRONT_WORDS, SIZE_LIMIT, WORDS_OF_A_BODY,
@@ -20,31 +21,12 @@ use tick_tree::{Deny, FaultKind, refused};
 use typed_tree::{Function, Tick, TypedParts};
 use word32::map::GLOBAL_BYTES;
 
-fn takes_none(t: &TypeRef) -> bool
-    ensures { result ≡ spec.takes_none (types.outermost (types.layers_of t.now)) }
-{
-    match t.layers().last() {
-        Some(Layer::Function(list)) => list.as_slice().is_empty(),
-        _ => false,
-    }
-}
-
-fn is_int(base: Base) -> bool
-    ensures { result ≡ spec.is_int base }
-{
-    matches!(base, Base::Integer(Integer::Int))
-}
-
 fn is_main_type(t: &TypeRef) -> bool
     ensures { result ≡ spec.is_main_type t.now }
 {
-    t.layers().len() == 1 && takes_none(t) && is_int(t.base())
-}
-
-fn is_main(is_defined: bool, m: &Meaning) -> bool
-    ensures { result ≡ spec.is_main is_defined (Some m.now) }
-{
-    matches!(m.kind, MeaningKind::Function) && is_defined && is_main_type(&m.ctype)
+    t.layers().len() == 1
+        && matches!(t.outermost(), Some(Layer::Function(list)) if list.as_slice().is_empty())
+        && matches!(t.base(), Base::Integer(Integer::Int))
 }
 
 fn has_main(state: &State) -> bool
@@ -52,21 +34,19 @@ fn has_main(state: &State) -> bool
 {
     match state.scopes.find(b"main") {
         None => false,
-        Some(m) => is_main(state.functions.is_defined(b"main"), m),
+        Some(m) => {
+            matches!(m.kind, MeaningKind::Function)
+                && is_defined(&state.functions, b"main")
+                && is_main_type(&m.ctype)
+        }
     }
-}
-
-fn function_fits(f: &Function) -> bool
-    ensures { result ≡ spec.function_fits f.now }
-{
-    f.size <= SIZE_LIMIT && f.object <= FRAME_OBJECT_BYTES
 }
 
 fn functions_fit(list: &[Function]) -> bool
     ensures { result ≡ spec.functions_fit list.now }
 {
     for f in list {
-        if !function_fits(f) {
+        if f.size > SIZE_LIMIT || f.object > FRAME_OBJECT_BYTES {
             return false;
         }
     }
@@ -115,12 +95,6 @@ fn ticks_charge(from: u64, list: &[Tick]) -> u64
     found
 }
 
-fn charges_fit(functions: &[Function], ticks: &[Tick]) -> bool
-    ensures { result ≡ nat_le (spec.charges functions.now ticks.now) CHARGE_LIMIT }
-{
-    ticks_charge(functions_charge(functions), ticks) <= CHARGE_LIMIT
-}
-
 fn strings_begin(image: &Image) -> u32
     ensures { result ≡ spec.strings_begin image.now }
 {
@@ -149,17 +123,7 @@ fn fits(state: &State) -> bool
     image_fits(&state.image)
         && functions_fit(functions)
         && ticks_fit(ticks)
-        && charges_fit(functions, ticks)
-}
-
-fn up_to(alloc: Global, n: u32, bytes: Items<u8>) -> Result<Items<u8>, AllocError>
-    ensures { IfOk result (λ all. all ≡ images.up_to n bytes) }
-{
-    let mut bytes = bytes;
-    let missing = (n as usize).saturating_sub(bytes.len());
-    let zeros = vec![in alloc; 0; missing]?;
-    bytes.append(Items::from_vec(zeros))?;
-    Ok(bytes)
+        && ticks_charge(functions_charge(functions), ticks) <= CHARGE_LIMIT
 }
 
 fn image_bytes(alloc: Global, image: Image) -> Result<Items<u8>, AllocError>
@@ -171,13 +135,16 @@ fn image_bytes(alloc: Global, image: Image) -> Result<Items<u8>, AllocError>
         strings,
         ..
     } = image;
-    let mut bytes = up_to(alloc, begin, globals)?;
+    let mut bytes = globals;
+    let missing = (begin as usize).saturating_sub(bytes.len());
+    let zeros = vec![in alloc; 0; missing]?;
+    bytes.append(Items::from_vec(zeros))?;
     bytes.append(strings)?;
     Ok(bytes)
 }
 
-fn typed(alloc: Global, state: State) -> Result<TypedParts, AllocError>
-    ensures { IfOk result (λ t. t ≡ spec.typed state) }
+fn typed(alloc: Global, state: State) -> Result<TypedParts, Deny>
+    ensures { Checks result (Ok (spec.typed state)) }
 {
     let State {
         scopes,
@@ -199,23 +166,9 @@ fn typed(alloc: Global, state: State) -> Result<TypedParts, AllocError>
         Err(why) => {
             drop(functions);
             drop(ticks);
-            Err(why)
+            Err(why.into())
         }
     }
-}
-
-fn whole(alloc: Global, state: State) -> Result<TypedParts, Deny>
-    ensures { Checks result (spec.finished_by None state) }
-{
-    if !has_main(&state) {
-        drop(state);
-        return refused(FaultKind::NoMain, 1);
-    }
-    if !fits(&state) {
-        drop(state);
-        return refused(FaultKind::TooLarge, 1);
-    }
-    Ok(typed(alloc, state)?)
 }
 
 /// The parts of the typed program after its walk. Refused, in this order: Undeclared at the first prototype that has no function, NoMain,
@@ -224,10 +177,23 @@ fn whole(alloc: Global, state: State) -> Result<TypedParts, Deny>
 pub fn finished(alloc: Global, state: State) -> Result<TypedParts, Deny>
     ensures { Checks result (spec.finished state) }
 {
-    if let Some(p) = state.functions.undefined() {
-        let line = p.line;
-        drop(state);
-        return refused(FaultKind::Undeclared, line);
+    let broken = match undefined(&state.functions) {
+        Some(p) => Some((FaultKind::Undeclared, p.line)),
+        None => {
+            if !has_main(&state) {
+                Some((FaultKind::NoMain, 1))
+            } else if fits(&state) {
+                None
+            } else {
+                Some((FaultKind::TooLarge, 1))
+            }
+        }
+    };
+    match broken {
+        None => typed(alloc, state),
+        Some((kind, line)) => {
+            drop(state);
+            refused(kind, line)
+        }
     }
-    whole(alloc, state)
 }

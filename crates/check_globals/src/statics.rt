@@ -3,13 +3,14 @@
 ghost use Rattle.std.specs.Prelude.{◌≡◌, ◌++◌, ◌∷◌, [], IfOk, is_some, length};
 ghost use Rattle.check_forms.specs.Forms as forms;
 ghost use Rattle.check_globals.specs.Statics as spec;
+ghost use Rattle.check_operands.specs.Operands as operands;
 ghost use Rattle.check_tables.specs.Walks.{Reads};
 
 use c_types::{Base, Integer, Layer, TypeRef};
 use check_forms::has_form;
 use check_operands::{Operand, Value, value_of};
 use check_rules::{State, has_size, is_array, is_string, lower, value_breaks};
-use check_types::width_of;
+use check_types::{is_pointer, width_of};
 use meaning_operators::constant_value;
 use sqlite_items::Items;
 use std::alloc::{AllocError, Global};
@@ -41,15 +42,16 @@ fn fill(alloc: Global, state: &mut State, at: u32, bytes: Items<u8>) -> Result<(
 fn is_text_pointer(t: &TypeRef) -> bool
     ensures { result ≡ spec.is_text_pointer t.now }
 {
-    t.layers().len() == 1
-        && matches!(t.layers().last(), Some(Layer::Pointer))
-        && matches!(t.base(), Base::Integer(Integer::Char))
+    t.layers().len() == 1 && is_pointer(t) && matches!(t.base(), Base::Integer(Integer::Char))
 }
 
-fn formed(allowed: bool, v: &Value) -> Result<u32, FaultKind>
-    ensures { result ≡ spec.formed allowed v.now }
+fn static_word(has_form: bool, is_string: bool, v: &Value, t: &TypeRef) -> Result<u32, FaultKind>
+    ensures { result ≡ spec.static_word has_form is_string v.now t.now }
 {
-    if !allowed {
+    if let Some(kind) = value_breaks(v, t) {
+        return Err(kind);
+    }
+    if !(has_form || is_string && is_text_pointer(t)) {
         return Err(FaultKind::BadOperand);
     }
     match constant_value(v.code.get()) {
@@ -58,23 +60,18 @@ fn formed(allowed: bool, v: &Value) -> Result<u32, FaultKind>
     }
 }
 
-fn static_word(has_form: bool, is_string: bool, v: &Value, t: &TypeRef) -> Result<u32, FaultKind>
-    ensures { result ≡ spec.static_word has_form is_string v.now t.now }
+// The word that an operand gives the static variable of this type; e is its expression.
+fn word_of(
+    alloc: Global,
+    t: &TypeRef,
+    e: &Expr,
+    o: Operand,
+) -> Result<Result<u32, FaultKind>, AllocError>
+    ensures { IfOk result (λ word.
+        word ≡ spec.static_word (forms.has_form e.now) (is_some (forms.string_of e.now)) (operands.value_of o) t.now) }
 {
-    match value_breaks(v, t) {
-        Some(kind) => Err(kind),
-        None => formed(has_form || is_string && is_text_pointer(t), v),
-    }
-}
-
-fn sized_word(t: &TypeRef, word: Result<u32, FaultKind>) -> Result<u32, FaultKind>
-    ensures { result ≡ spec.sized_word t.now word }
-{
-    if has_size(t) {
-        word
-    } else {
-        Err(FaultKind::BadArray)
-    }
+    let v = value_of(alloc, o)?;
+    Ok(static_word(has_form(e), is_string(e), &v, t))
 }
 
 /// Gives the global at this place, which has this type, a value; e is its expression. Refused: BadArray where the type has no
@@ -91,9 +88,11 @@ pub fn static_value(
 ) -> Result<(), Deny>
     ensures { Reads (spec.static_value line at t.now (forms.has_form e.now) (is_some (forms.string_of e.now)) o state.old) result state.new }
 {
-    let v = value_of(alloc, o)?;
-    let word = static_word(has_form(e), is_string(e), &v, t);
-    match sized_word(t, word) {
+    let word = word_of(alloc, t, e, o)?;
+    if !has_size(t) {
+        return refused(FaultKind::BadArray, line);
+    }
+    match word {
         Err(kind) => refused(kind, line),
         Ok(n) => {
             let bytes = bytes_of(alloc, width_of(t), n)?;
@@ -105,22 +104,16 @@ pub fn static_value(
 fn elements_of(t: &TypeRef) -> u32
     ensures { result ≡ spec.elements_of t.now }
 {
-    match t.layers().last() {
+    match t.outermost() {
         Some(Layer::Array(count)) => *count,
         _ => 0,
     }
 }
 
-fn is_too_long(count: usize, t: &TypeRef) -> bool
-    ensures { result ≡ spec.is_too_long count t.now }
-{
-    (elements_of(t) as usize) < count
-}
-
 fn lacks_room(count: usize, t: &TypeRef) -> bool
     ensures { result ≡ spec.lacks_room count t.now }
 {
-    !has_size(t) || is_too_long(count, t)
+    !has_size(t) || (elements_of(t) as usize) < count
 }
 
 fn with_zero(alloc: Global, bytes: &[u8]) -> Result<Items<u8>, AllocError>
@@ -175,30 +168,22 @@ impl Row {
         }
     }
 
-    fn take(self, alloc: Global, t: &TypeRef, n: u32) -> Result<Row, AllocError>
-        ensures { IfOk result (λ row. row ≡ spec.row_by t.now self (Ok n)) }
-    {
-        let Row { broken, mut bytes } = self;
-        let more = bytes_of(alloc, width_of(t), n)?;
-        bytes.append(more)?;
-        Ok(Row { broken, bytes })
-    }
-
     /// One value more, by the type of an element; e is its expression.
     #[tactic(auto, unfolding(crate::specs::Statics::row_more))]
     pub fn more(self, alloc: Global, t: &TypeRef, e: &Expr, o: Operand) -> Result<Row, AllocError>
         ensures { IfOk result (λ row. row ≡ spec.row_more t.now (forms.has_form e.now) (is_some (forms.string_of e.now)) o self) }
     {
-        let v = value_of(alloc, o)?;
-        match static_word(has_form(e), is_string(e), &v, t) {
-            Err(kind) => {
-                let Row { broken, bytes } = self;
-                Ok(Row {
-                    broken: lower(broken, Some(kind)),
-                    bytes,
-                })
+        let word = word_of(alloc, t, e, o)?;
+        let Row { broken, mut bytes } = self;
+        match word {
+            Err(kind) => Ok(Row {
+                broken: lower(broken, Some(kind)),
+                bytes,
+            }),
+            Ok(n) => {
+                bytes.append(bytes_of(alloc, width_of(t), n)?)?;
+                Ok(Row { broken, bytes })
             }
-            Ok(n) => self.take(alloc, t, n),
         }
     }
 }
@@ -208,7 +193,7 @@ fn row_breaks(count: usize, t: &TypeRef, row: &Row) -> Option<FaultKind>
 {
     if !has_size(t) {
         Some(FaultKind::BadArray)
-    } else if is_too_long(count, t) {
+    } else if (elements_of(t) as usize) < count {
         lower(row.broken, Some(FaultKind::BadArray))
     } else {
         row.broken

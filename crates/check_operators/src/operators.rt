@@ -1,6 +1,9 @@
 //! Operators between two values.
 
-ghost use Rattle.std.specs.Prelude.{◌≡◌, IfOk};
+ghost use Rattle.std.specs.Prelude.{◌≡◌, ◌==◌, if◌then◌else◌, IfOk, Ok};
+ghost use Rattle.c_types.specs.declared.ctype.Integer.TheVariants.{Int};
+ghost use Rattle.check_operands.specs.Operands.{by, made};
+ghost use Rattle.typed_tree.specs.declared.expression.Expr.TheVariants.{And, Bin, Const, Or};
 ghost use Rattle.tick_tree.specs.Faults.{Checks};
 ghost use Rattle.check_operands.specs.Operators as spec;
 ghost use Rattle.check_types.specs.Shapes as shapes;
@@ -118,22 +121,17 @@ fn operation(op: BinaryOp, x: Integer, y: Integer) -> Integer
     }
 }
 
-fn answer_kind(op: BinaryOp, x: Integer, y: Integer) -> Integer
-    ensures { result ≡ spec.answer_kind op x y }
-{
-    if is_comparison(op) {
-        Integer::Int
-    } else {
-        operation(op, x, y)
-    }
-}
-
 #[tactic(auto, unfolding(check_operands::specs::Operators::integers))]
 fn integers(op: BinaryOp, x: Integer, y: Integer) -> Combined
     ensures { result ≡ spec.integers op x y }
 {
-    let kind = kind_of(op, is_unsigned(operation(op, x, y)));
-    Combined::Words(kind, answer_kind(op, x, y))
+    let by = operation(op, x, y);
+    let kind = kind_of(op, is_unsigned(by));
+    if is_comparison(op) {
+        Combined::Words(kind, Integer::Int)
+    } else {
+        Combined::Words(kind, by)
+    }
 }
 
 fn comparing(op: BinaryOp, allowed: bool) -> Option<Combined>
@@ -146,31 +144,16 @@ fn comparing(op: BinaryOp, allowed: bool) -> Option<Combined>
     }
 }
 
-fn scaled_left(size: Option<u32>) -> Option<Combined>
-    ensures { result ≡ spec.scaled_left size }
-{
-    match size {
-        None => None,
-        Some(size) => Some(Combined::ScaledLeft(size)),
-    }
-}
-
 fn with_pointer(op: BinaryOp, zero: bool, b: &TypeRef) -> Option<Combined>
     ensures { result ≡ spec.with_pointer op zero b.now }
 {
     if is_sum(op) {
-        scaled_left(pointed_size(b))
+        match pointed_size(b) {
+            None => None,
+            Some(size) => Some(Combined::ScaledLeft(size)),
+        }
     } else {
         comparing(op, zero && is_pointer(b))
-    }
-}
-
-fn scaled_right(op: BinaryOp, size: Option<u32>) -> Option<Combined>
-    ensures { result ≡ spec.scaled_right op size }
-{
-    match size {
-        None => None,
-        Some(size) => Some(Combined::ScaledRight(kind_of(op, true), size)),
     }
 }
 
@@ -178,18 +161,12 @@ fn with_integer(op: BinaryOp, a: &TypeRef, zero: bool) -> Option<Combined>
     ensures { result ≡ spec.with_integer op a.now zero }
 {
     if is_sum(op) || is_difference(op) {
-        scaled_right(op, pointed_size(a))
+        match pointed_size(a) {
+            None => None,
+            Some(size) => Some(Combined::ScaledRight(kind_of(op, true), size)),
+        }
     } else {
         comparing(op, zero && is_pointer(a))
-    }
-}
-
-fn divided(size: Option<u32>) -> Option<Combined>
-    ensures { result ≡ spec.divided size }
-{
-    match size {
-        None => None,
-        Some(size) => Some(Combined::Divided(size)),
     }
 }
 
@@ -203,7 +180,10 @@ fn difference(a: &TypeRef, b: &TypeRef) -> Option<Combined>
     ensures { result ≡ spec.difference a.now b.now }
 {
     if same(a, b) {
-        divided(pointed_size(a))
+        match pointed_size(a) {
+            None => None,
+            Some(size) => Some(Combined::Divided(size)),
+        }
     } else {
         None
     }
@@ -243,25 +223,27 @@ pub fn combine(
     }
 }
 
+// An integer times a size in bytes, or divided by it.
+fn by_size(
+    alloc: Global,
+    kind: BinKind,
+    e: Boxed<Expr>,
+    size: u32,
+) -> Result<Boxed<Expr>, AllocError>
+    ensures { IfOk result (λ found. found ≡ if size == 1 then e else Bin kind e (Const size)) }
+{
+    if size == 1 {
+        return Ok(e);
+    }
+    let size = Boxed::new(alloc, Expr::Const(size))?;
+    typed_tree::binary(alloc, kind, e, size)
+}
+
 /// An integer scaled by a size in bytes.
 pub fn scaled(alloc: Global, e: Boxed<Expr>, size: u32) -> Result<Boxed<Expr>, AllocError>
     ensures { IfOk result (λ found. found ≡ spec.scaled e size) }
 {
-    if size == 1 {
-        return Ok(e);
-    }
-    let size = Boxed::new(alloc, Expr::Const(size))?;
-    typed_tree::binary(alloc, BinKind::Multiply, e, size)
-}
-
-fn quotient(alloc: Global, e: Boxed<Expr>, size: u32) -> Result<Boxed<Expr>, AllocError>
-    ensures { IfOk result (λ found. found ≡ spec.quotient e size) }
-{
-    if size == 1 {
-        return Ok(e);
-    }
-    let size = Boxed::new(alloc, Expr::Const(size))?;
-    typed_tree::binary(alloc, BinKind::DivideSigned, e, size)
+    by_size(alloc, BinKind::Multiply, e, size)
 }
 
 /// The node of an operator on these two words.
@@ -285,7 +267,7 @@ pub fn built(
         }
         Combined::Divided(size) => {
             let bytes = typed_tree::binary(alloc, BinKind::Subtract, x, y)?;
-            quotient(alloc, bytes, size)
+            by_size(alloc, BinKind::DivideSigned, bytes, size)
         }
     }
 }
@@ -301,8 +283,8 @@ fn type_of(alloc: Global, by: Combined, a: TypeRef, b: TypeRef) -> TypeRef
     }
 }
 
-fn combination(alloc: Global, by: Combined, a: Value, b: Value) -> Result<Operand, AllocError>
-    ensures { IfOk result (λ o. o ≡ spec.combination by a b) }
+fn combination(alloc: Global, by: Combined, a: Value, b: Value) -> Result<Operand, Deny>
+    ensures { Checks result (Ok (spec.combination by a b)) }
 {
     let Value { code, ctype, .. } = a;
     let Value {
@@ -319,11 +301,17 @@ fn arithmetic(alloc: Global, line: u32, op: BinaryOp, a: Value, b: Value) -> Res
     ensures { Checks result (spec.arithmetic line op a b) }
 {
     if is_void(&a.ctype) || is_void(&b.ctype) {
+        drop(a);
+        drop(b);
         return refused(FaultKind::VoidValue, line);
     }
     match combine(op, &a.ctype, a.zero, &b.ctype, b.zero) {
-        None => refused(FaultKind::BadOperand, line),
-        Some(by) => Ok(combination(alloc, by, a, b)?),
+        None => {
+            drop(a);
+            drop(b);
+            refused(FaultKind::BadOperand, line)
+        }
+        Some(by) => combination(alloc, by, a, b),
     }
 }
 
@@ -337,45 +325,38 @@ fn logic_breaks(a: &Value, b: &Value) -> Option<FaultKind>
     unless_kind(ok, FaultKind::BadOperand)
 }
 
-#[tactic(auto, unfolding(check_operands::specs::Operators::both))]
-fn both(alloc: Global, line: u32, a: Value, b: Value) -> Result<Operand, Deny>
-    ensures { Checks result (spec.both line a b) }
+// `a && b`, or `a || b`.
+fn logic(alloc: Global, line: u32, is_and: bool, a: Value, b: Value) -> Result<Operand, Deny>
+    ensures { Checks result (by line (spec.logic_breaks a b)
+        (made (if is_and then And a.code b.code else Or a.code b.code) (shapes.integer Int))) }
 {
-    match logic_breaks(&a, &b) {
-        Some(kind) => refused(kind, line),
-        None => {
-            let e = typed_tree::both(alloc, a.code, b.code)?;
-            Ok(made(e, integer(alloc, Integer::Int)))
-        }
+    if let Some(kind) = logic_breaks(&a, &b) {
+        drop(a);
+        drop(b);
+        return refused(kind, line);
     }
-}
-
-#[tactic(auto, unfolding(check_operands::specs::Operators::either))]
-fn either(alloc: Global, line: u32, a: Value, b: Value) -> Result<Operand, Deny>
-    ensures { Checks result (spec.either line a b) }
-{
-    match logic_breaks(&a, &b) {
-        Some(kind) => refused(kind, line),
-        None => {
-            let e = typed_tree::either(alloc, a.code, b.code)?;
-            Ok(made(e, integer(alloc, Integer::Int)))
-        }
-    }
+    let e = if is_and {
+        typed_tree::both(alloc, a.code, b.code)?
+    } else {
+        typed_tree::either(alloc, a.code, b.code)?
+    };
+    Ok(made(e, integer(alloc, Integer::Int)))
 }
 
 /// An operator between two values. Refused: VoidValue, or BadOperand where the operator's rule hasn't their types.
+#[tactic(auto, unfolding(check_operands::specs::Operators::both, check_operands::specs::Operators::either))]
 pub fn binary(alloc: Global, line: u32, op: BinaryOp, a: Value, b: Value) -> Result<Operand, Deny>
     ensures { Checks result (spec.binary line op a b) }
 {
     match op {
-        BinaryOp::And => both(alloc, line, a, b),
-        BinaryOp::Or => either(alloc, line, a, b),
+        BinaryOp::And => logic(alloc, line, true, a, b),
+        BinaryOp::Or => logic(alloc, line, false, a, b),
         _ => arithmetic(alloc, line, op, a, b),
     }
 }
 
-fn element(alloc: Global, a: Value, b: Value, size: u32) -> Result<Operand, AllocError>
-    ensures { IfOk result (λ o. o ≡ spec.element a b size) }
+fn element(alloc: Global, a: Value, b: Value, size: u32) -> Result<Operand, Deny>
+    ensures { Checks result (Ok (spec.element a b size)) }
 {
     let Value { code, ctype, .. } = a;
     let step = scaled(alloc, b.code, size)?;
@@ -388,15 +369,20 @@ fn element(alloc: Global, a: Value, b: Value, size: u32) -> Result<Operand, Allo
 pub fn index(alloc: Global, line: u32, a: Value, b: Value) -> Result<Operand, Deny>
     ensures { Checks result (spec.index line a b) }
 {
-    if is_void(&a.ctype) || is_void(&b.ctype) {
-        return refused(FaultKind::VoidValue, line);
-    }
-    if !is_integer(&b.ctype) {
-        return refused(FaultKind::BadOperand, line);
-    }
-    match pointed_size(&a.ctype) {
-        None => refused(FaultKind::BadOperand, line),
-        Some(size) => Ok(element(alloc, a, b, size)?),
+    let size = if is_void(&a.ctype) || is_void(&b.ctype) {
+        Err(FaultKind::VoidValue)
+    } else if is_integer(&b.ctype) {
+        pointed_size(&a.ctype).ok_or(FaultKind::BadOperand)
+    } else {
+        Err(FaultKind::BadOperand)
+    };
+    match size {
+        Err(kind) => {
+            drop(a);
+            drop(b);
+            refused(kind, line)
+        }
+        Ok(size) => element(alloc, a, b, size),
     }
 }
 
@@ -455,8 +441,8 @@ fn joining(
     by: Joined,
     a: Value,
     b: Value,
-) -> Result<Operand, AllocError>
-    ensures { IfOk result (λ o. o ≡ spec.joining test by a b) }
+) -> Result<Operand, Deny>
+    ensures { Checks result (Ok (spec.joining test by a b)) }
 {
     let Value { code, ctype, .. } = a;
     let Value {
@@ -474,10 +460,18 @@ pub fn choice(alloc: Global, line: u32, c: Value, a: Value, b: Value) -> Result<
     ensures { Checks result (spec.choice line c a b) }
 {
     let Some(by) = joined_type(&a, &b) else {
+        drop(c);
+        drop(a);
+        drop(b);
         return refused(FaultKind::TypeMismatch, line);
     };
     match test_breaks(&c) {
-        Some(kind) => refused(kind, line),
-        None => Ok(joining(alloc, c.code, by, a, b)?),
+        Some(kind) => {
+            drop(c);
+            drop(a);
+            drop(b);
+            refused(kind, line)
+        }
+        None => joining(alloc, c.code, by, a, b),
     }
 }

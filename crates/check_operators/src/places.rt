@@ -1,6 +1,6 @@
 //! What changes a place, and what takes its address.
 
-ghost use Rattle.std.specs.Prelude.{◌≡◌, IfOk};
+ghost use Rattle.std.specs.Prelude.{◌≡◌, IfOk, Ok};
 ghost use Rattle.tick_tree.specs.Faults.{Checks};
 ghost use Rattle.check_operands.specs.Places as spec;
 ghost use Rattle.check_types.specs.Shapes as shapes;
@@ -76,8 +76,8 @@ fn stored(
     }
 }
 
-fn assigned(alloc: Global, o: Operand, v: Value) -> Result<Operand, AllocError>
-    ensures { IfOk result (λ found. found ≡ spec.assigned o v) }
+fn assigned(alloc: Global, o: Operand, v: Value) -> Result<Operand, Deny>
+    ensures { Checks result (Ok (spec.assigned o v)) }
 {
     let Operand { place, ctype, .. } = o;
     let e = converted(alloc, v, &ctype)?;
@@ -91,8 +91,12 @@ pub fn assign(alloc: Global, line: u32, o: Operand, v: Value) -> Result<Operand,
     ensures { Checks result (spec.assign line o v) }
 {
     match assign_breaks(&o, &v) {
-        Some(kind) => refused(kind, line),
-        None => Ok(assigned(alloc, o, v)?),
+        Some(kind) => {
+            drop(o);
+            drop(v);
+            refused(kind, line)
+        }
+        None => assigned(alloc, o, v),
     }
 }
 
@@ -219,14 +223,6 @@ fn changed(
     }
 }
 
-fn changing(alloc: Global, by: Combined, o: Operand, e: Boxed<Expr>) -> Result<Operand, AllocError>
-    ensures { IfOk result (λ found. found ≡ spec.changing by o e) }
-{
-    let Operand { place, ctype, .. } = o;
-    let e = changed(alloc, by, place, &ctype, e)?;
-    Ok(made(e, ctype))
-}
-
 fn modified(
     alloc: Global,
     line: u32,
@@ -237,8 +233,16 @@ fn modified(
     ensures { Checks result (spec.modified line by o e) }
 {
     match combined_breaks(&o, by) {
-        Some(kind) => refused(kind, line),
-        None => Ok(changing(alloc, by, o, e)?),
+        Some(kind) => {
+            drop(o);
+            drop(e);
+            refused(kind, line)
+        }
+        None => {
+            let Operand { place, ctype, .. } = o;
+            let e = changed(alloc, by, place, &ctype, e)?;
+            Ok(made(e, ctype))
+        }
     }
 }
 
@@ -248,7 +252,12 @@ pub fn modify(alloc: Global, line: u32, op: ModifyOp, o: Operand, v: Value) -> R
     ensures { Checks result (spec.modify line op o v) }
 {
     match combine(operator_of(op), &o.ctype, false, &v.ctype, v.zero) {
-        None => refused(modify_fault(&o, &v), line),
+        None => {
+            let kind = modify_fault(&o, &v);
+            drop(o);
+            drop(v);
+            refused(kind, line)
+        }
         Some(by) => modified(alloc, line, by, o, v.code),
     }
 }
@@ -288,7 +297,11 @@ pub fn stepped(alloc: Global, line: u32, op: StepOp, o: Operand) -> Result<Opera
     ensures { Checks result (spec.stepped line op o) }
 {
     match step_of(&o.ctype) {
-        None => refused(step_fault(&o), line),
+        None => {
+            let kind = step_fault(&o);
+            drop(o);
+            refused(kind, line)
+        }
         Some(size) => {
             let by = Combined::Words(step_kind(op), Integer::Int);
             let step = Boxed::new(alloc, Expr::Const(size))?;
@@ -318,8 +331,8 @@ fn posted(alloc: Global, place: Place, t: &TypeRef, n: u32) -> Result<Boxed<Expr
     }
 }
 
-fn posting(alloc: Global, o: Operand, n: u32) -> Result<Operand, AllocError>
-    ensures { IfOk result (λ found. found ≡ spec.posting o n) }
+fn posting(alloc: Global, o: Operand, n: u32) -> Result<Operand, Deny>
+    ensures { Checks result (Ok (spec.posting o n)) }
 {
     let Operand { place, ctype, .. } = o;
     let e = posted(alloc, place, &ctype, n)?;
@@ -332,11 +345,16 @@ pub fn post(alloc: Global, line: u32, op: StepOp, o: Operand) -> Result<Operand,
     ensures { Checks result (spec.post line op o) }
 {
     let Some(size) = step_of(&o.ctype) else {
-        return refused(step_fault(&o), line);
+        let kind = step_fault(&o);
+        drop(o);
+        return refused(kind, line);
     };
     match place_breaks(&o, None) {
-        Some(kind) => refused(kind, line),
-        None => Ok(posting(alloc, o, amount(op, size))?),
+        Some(kind) => {
+            drop(o);
+            refused(kind, line)
+        }
+        None => posting(alloc, o, amount(op, size)),
     }
 }
 

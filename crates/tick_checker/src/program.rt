@@ -23,8 +23,7 @@ use check_walk::{declarator, expression, items, with_start};
 use sqlite_items::{Boxed, Items};
 use std::alloc::Global;
 use tick_tree::{
-    Base, Declaration, Declarator, Deny, Expr, External, FaultKind, Init, Initializer, Parameter,
-    refused,
+    Base, Declarator, Deny, Expr, External, FaultKind, Init, Initializer, Parameter, refused,
 };
 use typed_tree::Stmt;
 
@@ -80,21 +79,6 @@ fn listed(
 }
 
 #[tactic(auto, using(check_laws::proofs::Written::forms_of))]
-fn static_walked(
-    alloc: Global,
-    state: &mut State,
-    line: u32,
-    at: u32,
-    t: &TypeRef,
-    e: &Expr,
-) -> Result<(), Deny>
-    ensures { Reads (spec.static_walked line at t.now (walks.node e.now) state.old) result state.new }
-{
-    let o = expression(alloc, state, Stage::Function, e)?;
-    static_value(alloc, state, line, at, t, e, o)
-}
-
-#[tactic(auto, using(check_laws::proofs::Written::forms_of))]
 fn static_one(
     alloc: Global,
     state: &mut State,
@@ -105,37 +89,16 @@ fn static_one(
 ) -> Result<(), Deny>
     ensures { Reads (spec.static_by line at t.now (walks.node e.now) (walks.node e.now).written.string state.old) result state.new }
 {
-    match string_of(e) {
-        None => static_walked(alloc, state, line, at, t, e),
-        Some(bytes) => {
-            if is_text(t) {
-                static_text(alloc, state, line, at, t, bytes.as_slice())
-            } else {
-                static_walked(alloc, state, line, at, t, e)
-            }
+    if let Some(bytes) = string_of(e) {
+        if is_text(t) {
+            return static_text(alloc, state, line, at, t, bytes.as_slice());
         }
     }
+    let o = expression(alloc, state, Stage::Function, e)?;
+    static_value(alloc, state, line, at, t, e, o)
 }
 
-#[tactic(auto, using(check_laws::proofs::Equations::initializers))]
-fn static_begin(
-    alloc: Global,
-    state: &mut State,
-    line: u32,
-    at: u32,
-    t: &TypeRef,
-    value: &Initializer,
-) -> Result<(), Deny>
-    ensures { Reads (spec.static_begin line at t.now (walks.initializer value.now) state.old) result state.new }
-{
-    match value {
-        Initializer::Absent => Ok(()),
-        Initializer::Value(e) => static_one(alloc, state, line, at, t, e),
-        Initializer::List(list, _) => listed(alloc, state, line, at, t, list.as_slice()),
-    }
-}
-
-#[tactic(auto, using(check_laws::proofs::Written::forms_of))]
+#[tactic(auto, using(check_laws::proofs::Written::forms_of, check_laws::proofs::Equations::initializers))]
 fn begin_variable(
     alloc: Global,
     state: &mut State,
@@ -147,7 +110,11 @@ fn begin_variable(
     ensures { Reads (spec.variable line t.now (walks.shape d.now) (walks.initializer value.now) state.old) result state.new }
 {
     let at = variable(alloc, state, line, d, t)?;
-    static_begin(alloc, state, line, at, t, value)
+    match value {
+        Initializer::Absent => Ok(()),
+        Initializer::Value(e) => static_one(alloc, state, line, at, t, e),
+        Initializer::List(list, _) => listed(alloc, state, line, at, t, list.as_slice()),
+    }
 }
 
 fn walked(alloc: Global, state: &mut State, list: &[Expr]) -> Result<(), Deny>
@@ -191,29 +158,16 @@ fn begin_prototype(
     no_start(alloc, state, line, value)
 }
 
-fn global_parts(
-    alloc: Global,
-    state: &mut State,
-    line: u32,
-    base: Base,
-    d: &Declarator,
-    value: &Initializer,
-) -> Result<(), Deny>
-    ensures { Reads (spec.global_parts line base (walks.shape d.now) (walks.initializer value.now) state.old) result state.new }
-{
-    let t = global_type(alloc, state, line, base, d, value)?;
-    if is_function(&t) {
-        begin_prototype(alloc, state, line, &t, d, value)
-    } else {
-        begin_variable(alloc, state, line, &t, d, value)
-    }
-}
-
 #[tactic(auto, using(crate::proofs::Parts::globals))]
 fn global(alloc: Global, state: &mut State, line: u32, base: Base, init: &Init) -> Result<(), Deny>
     ensures { Reads (spec.global line base (walks.init init.now) state.old) result state.new }
 {
-    global_parts(alloc, state, line, base, &init.declarator, &init.value)
+    let t = global_type(alloc, state, line, base, &init.declarator, &init.value)?;
+    if is_function(&t) {
+        begin_prototype(alloc, state, line, &t, &init.declarator, &init.value)
+    } else {
+        begin_variable(alloc, state, line, &t, &init.declarator, &init.value)
+    }
 }
 
 fn globals(
@@ -231,13 +185,6 @@ fn globals(
     Ok(())
 }
 
-#[tactic(auto, using(crate::proofs::Parts::globals))]
-fn declared(alloc: Global, state: &mut State, d: &Declaration) -> Result<(), Deny>
-    ensures { Reads (spec.declared (walks.declaration d.now) state.old) result state.new }
-{
-    globals(alloc, state, d.line, d.base, d.inits.as_slice())
-}
-
 fn function_type(
     alloc: Global,
     state: &mut State,
@@ -253,30 +200,6 @@ fn function_type(
     Ok(TypeRef::share(alloc, t)?)
 }
 
-fn around() -> Around
-    ensures { result ≡ spec.around }
-{
-    Around {
-        stage: Stage::Function,
-        in_loop: false,
-        in_switch: false,
-        is_direct: false,
-    }
-}
-
-fn begun(
-    alloc: Global,
-    state: &mut State,
-    t: &TypeRef,
-    list: &[Parameter],
-    block: &[tick_tree::Stmt],
-) -> Result<Items<Stmt>, Deny>
-    ensures { Reads (spec.begun t.now (map given list.now) (map walks.item block.now) state.old) result state.new }
-{
-    check_globals::begin(alloc, state, t, list)?;
-    items(alloc, state, around(), block)
-}
-
 fn body(
     alloc: Global,
     state: &mut State,
@@ -286,26 +209,18 @@ fn body(
 ) -> Result<Boxed<Stmt>, Deny>
     ensures { Reads (spec.body t.now (map given list.now) (map walks.item block.now) state.old) result state.new }
 {
-    let depth = state.depth();
-    let outer = state.enter(alloc)?;
-    let nodes = begun(alloc, state, t, list, block)?;
-    let variables = state.leave(depth, outer)?;
+    let depth = check_names::depth(state);
+    let outer = check_names::enter(alloc, state)?;
+    check_globals::begin(alloc, state, t, list)?;
+    let around = Around {
+        stage: Stage::Function,
+        in_loop: false,
+        in_switch: false,
+        is_direct: false,
+    };
+    let nodes = items(alloc, state, around, block)?;
+    let variables = check_names::leave(state, depth, outer)?;
     Ok(Boxed::new(alloc, Stmt::Block(variables, nodes))?)
-}
-
-#[tactic(auto, using(check_laws::proofs::Written::forms_of))]
-fn function_rest(
-    alloc: Global,
-    state: &mut State,
-    line: u32,
-    t: &TypeRef,
-    d: &Declarator,
-    block: &[tick_tree::Stmt],
-) -> Result<(), Deny>
-    ensures { Reads (spec.function_rest line t.now (walks.shape d.now) (heads.parameters_of d.now) (map walks.item block.now) state.old) result state.new }
-{
-    let node = body(alloc, state, t, parameters_of(d), block)?;
-    end(alloc, state, line, d, t, node)
 }
 
 #[tactic(auto, using(check_laws::proofs::Written::forms_of))]
@@ -321,9 +236,11 @@ fn function(
 {
     let t = function_type(alloc, state, line, base, d)?;
     name_function(alloc, state, line, d, &t)?;
-    function_rest(alloc, state, line, &t, d, block)
+    let node = body(alloc, state, &t, parameters_of(d), block)?;
+    end(alloc, state, line, d, &t, node)
 }
 
+#[tactic(auto, using(crate::proofs::Parts::globals))]
 fn external(alloc: Global, state: &mut State, x: &External) -> Result<(), Deny>
     ensures { Reads (spec.external x.now state.old) result state.new }
 {
@@ -331,7 +248,7 @@ fn external(alloc: Global, state: &mut State, x: &External) -> Result<(), Deny>
         External::Function(line, base, d, block) => {
             function(alloc, state, *line, *base, d, block.as_slice())
         }
-        External::Declaration(d) => declared(alloc, state, d),
+        External::Declaration(d) => globals(alloc, state, d.line, d.base, d.inits.as_slice()),
     }
 }
 

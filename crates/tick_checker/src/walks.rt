@@ -37,10 +37,10 @@ fn is_settled(state: &State) -> bool
         && !any_marked(state.frame.done.as_slice())
 }
 
-fn second(alloc: Global, state: State, list: &[External]) -> Result<TypedParts, Deny>
-    ensures { Checks result (spec.second_walk list.now state) }
+fn again(alloc: Global, state: State, list: &[External]) -> Result<TypedParts, Deny>
+    ensures { Checks result (spec.walk_again list.now state) }
 {
-    let mut state = state;
+    let mut state = check_names::start_again(alloc, state)?;
     match walk(alloc, &mut state, list) {
         Ok(()) => finished(alloc, state),
         Err(why) => {
@@ -48,13 +48,6 @@ fn second(alloc: Global, state: State, list: &[External]) -> Result<TypedParts, 
             Err(why)
         }
     }
-}
-
-fn again(alloc: Global, state: State, list: &[External]) -> Result<TypedParts, Deny>
-    ensures { Checks result (spec.walk_again list.now state) }
-{
-    let state = state.again(alloc)?;
-    second(alloc, state, list)
 }
 
 // What comes after a first walk that began with the library's names alone.
@@ -75,7 +68,7 @@ fn after_first(alloc: Global, state: State, list: &[External]) -> Result<TypedPa
 pub fn check_parts(alloc: Global, tree: &Tree) -> Result<TypedParts, Deny>
     ensures { Checks result (spec.checked tree.now) }
 {
-    let mut state = State::new(alloc)?;
+    let mut state = check_names::start(alloc)?;
     match walk(alloc, &mut state, tree.items()) {
         Ok(()) => after_first(alloc, state, tree.items()),
         Err(why) => {
