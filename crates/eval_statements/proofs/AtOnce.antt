@@ -14,35 +14,17 @@ use Rattle.eval_state.specs.Pending as pending
 use Rattle.eval_state.specs.Rest.{left, loop_of, valued, after}
 use Rattle.eval_state.proofs.Statements as statement
 use Rattle.eval_state.specs.declared.parts.Now as code
-use Rattle.eval_state.specs.Less.{heft}
-use Rattle.eval_state.specs.declared.state.Parts.{Parts}
-use Rattle.eval_state.specs.Run.{Run, run_of, here, world, leads, in_world, with_units}
+use Rattle.eval_state.specs.Run.{Run, here, world, leads, in_world, with_units}
 use Rattle.eval_state.specs.Steps.{taken}
-use Rattle.eval_state.specs.Views.{now_view}
 use Rattle.eval_simple.specs.Simple.{IsDone}
 use Rattle.eval_simple.proofs.Going as going
 use Rattle.eval_statements.specs.Ran.{IsRun}
 
-pub spends : (r t : Run) (e : Expr) (v x y : ℕ) → IsDone e v r t → t.state.units ≡ r.state.units → x < y
-spends r t e v x y h same = omega (arith, going.spends r t e v h, same)
-
--- and behind it, where something was done besides
+-- units that were spent before
 pub units_behind : {E : Type 0} (result : std.Result code.Now E) (t u : Run) (r : Run) → t.state.units ≤ r.state.units
     → IfOk result (λ n. u.state.units ≤ t.state.units) → IfOk result (λ n. u.state.units ≤ r.state.units)
 units_behind (std.Ok n) t u r less h = omega (arith, less, h)
 units_behind (std.Err e) t u r less h = h
-
-pub spends_behind : {E : Type 0} (result : std.Result code.Now E) (r t u : Run) (e : Expr) (v y : ℕ) → IsDone e v r t
-    → IfOk result (λ n. u.state.units ≤ t.state.units)
-    → IfOk result (λ n. u.state.units ≡ r.state.units → heft (now_view n) u ≤ y)
-spends_behind (std.Ok n) r t u e v y h most = λ same. omega (arith, going.spends r t e v h, most, same)
-spends_behind (std.Err e) r t u x v y h most = most
-
-pub still_most : {E : Type 0} (result : std.Result code.Now E) (p q : Parts) (t : Run) (y : Run → ℕ) → q ≡ p
-    → IfOk result (λ n. t.state.units ≡ (run_of q).state.units → heft (now_view n) t ≤ y (run_of q))
-    → IfOk result (λ n. t.state.units ≡ (run_of p).state.units → heft (now_view n) t ≤ y (run_of p))
-still_most result p q t y h k =
-    subst (λ p. IfOk result (λ n. t.state.units ≡ (run_of p).state.units → heft (now_view n) t ≤ y (run_of p))) h k
 
 -- ---- turns
 

@@ -1,11 +1,11 @@
 -- The steps of statements.
-use Rattle.std.proofs.Common.{◌≡◌, ◌≢◌, ℕ, zero, suc, Option, None, Some, refl, ap, sym, ◌∙◌}
+use Rattle.std.proofs.Common.{◌≡◌, ◌≢◌, ℕ, zero, suc, Option, refl, ap, ◌∙◌}
 use Rattle.typed_tree.specs.Nodes.{Expr, Stmt}
-use Rattle.staged_meaning.specs.Meaning.{eval, exec}
-use Rattle.staged_meaning.specs.World.{Flow, Normal, Broke, Continued, World, Gives, spend, then_do}
+use Rattle.staged_meaning.specs.Meaning.{exec}
+use Rattle.staged_meaning.specs.World.{Flow, Normal, Broke, World, Gives, spend}
 use Rattle.eval_state.specs.Pending.{Now}
 use Rattle.eval_state.specs.Pending as pending
-use Rattle.eval_state.specs.Rest.{Left, left, loop_of, valued, after, spent}
+use Rattle.eval_state.specs.Rest.{left, after, spent}
 use Rattle.eval_state.proofs.Laws as law
 use Rattle.eval_state.proofs.Statements as statement
 use Rattle.typed_tree.proofs.Views as view
@@ -50,43 +50,4 @@ unfolding ended
 breaks r t n d e step s h =
     ends_now r t n Normal h ∙ ap (leads r) (statement.loop_broken (here r) d e step s (world r))
 
--- a loop whose body was left, and which has a step
-pub steps : (r : Run) (d : ℕ) (e step : Expr) (o : Option Expr) (s : Stmt) → o ≡ Some step
-    → leads r (after (here r) (pending.Step d e step s) (valued (eval (here r) step (world r))))
-    ≡ ended (pending.Turn d e o s) Normal r
-unfolding ended
-steps r d e step o s h =
-    ap (leads r) (statement.step_begins (here r) d e step s (world r))
-    ∙ ap (λ o. leads r (after (here r) (pending.Turn d e o s) (Gives (Left Normal) (world r)))) (sym h)
-
-pub steps_too : (r : Run) (d : ℕ) (e step : Expr) (o : Option Expr) (s : Stmt) → o ≡ Some step
-    → leads r (after (here r) (pending.Step d e step s) (valued (eval (here r) step (world r))))
-    ≡ ended (pending.Turn d e o s) Continued r
-unfolding ended
-steps_too r d e step o s h =
-    ap (leads r) (statement.step_begins_too (here r) d e step s (world r))
-    ∙ ap (λ o. leads r (after (here r) (pending.Turn d e o s) (Gives (Left Continued) (world r)))) (sym h)
-
--- and one which has none
-pub turns_on : (r : Run) (d : ℕ) (e : Expr) (o : Option Expr) (s : Stmt) → o ≡ None
-    → leads r (left (then_do (spend Normal (world r)) (λ flow w. loop_of (here r) d e None s w)))
-    ≡ ended (pending.Turn d e o s) Normal r
-unfolding ended
-turns_on r d e o s h = ap (λ o. leads r (after (here r) (pending.Turn d e o s) (Gives (Left Normal) (world r)))) (sym h)
-
-pub turns_on_too : (r : Run) (d : ℕ) (e : Expr) (o : Option Expr) (s : Stmt) → o ≡ None
-    → leads r (left (then_do (spend Normal (world r)) (λ flow w. loop_of (here r) d e None s w)))
-    ≡ ended (pending.Turn d e o s) Continued r
-unfolding ended
-turns_on_too r d e o s h =
-    ap (λ o. leads r (after (here r) (pending.Turn d e o s) (Gives (Left Continued) (world r)))) (sym h)
-
-pub ruleset begins = (law.binds, ends_behind, ends_now)
-
 pub ruleset views = (view.statements)
-
-pub ruleset declares = (stands_behind)
-
-pub ruleset tests = (law.binds, held)
-
-pub ruleset turns = (law.binds, ends_now, breaks)

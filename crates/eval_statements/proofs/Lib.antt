@@ -1,5 +1,6 @@
 pub mod AtOnce
 pub mod Begins
+pub mod Ended
 pub mod Executed
 pub mod Labels
 pub mod Turns

@@ -250,10 +250,6 @@ starts_fewer s n r t h = h.2
 
 pub ruleset items = (none_ran, one_ran)
 
-pub ruleset blocks = (block_done, block_left)
-
-pub ruleset bare = (block_bare)
-
 pub ruleset returning = (returns)
 
 pub ruleset ends = (runs_through)

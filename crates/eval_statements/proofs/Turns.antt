@@ -1,12 +1,25 @@
 -- The turns of loops: each spends a unit at its end, and a loop that may have no turn more stops.
-use Rattle.std.proofs.Common.{◌≡◌, ℕ, zero, suc, ◌-◌, ◌≢◌, Option, refl, ap, sym, ◌∙◌, arith}
+use Rattle.std.proofs.Common.{◌≡◌, ◌≤◌, ℕ, zero, suc, ◌-◌, ◌≢◌, Option, None, Some, IfOk}
+use Rattle.std.proofs.Common.{refl, ap, sym, subst, ◌∙◌, arith}
+use Rattle.std.proofs.Common as std
 use Rattle.typed_tree.specs.Nodes.{Expr, Stmt}
-use Rattle.staged_meaning.specs.Meaning.{Context, exec}
+use Rattle.staged_meaning.specs.Meaning.{Context, eval, exec}
 use Rattle.staged_meaning.specs.World.{World, Result, Gives, Flow, Normal, at_zero, then_do, spend}
 use Rattle.eval_state.specs.Pending as pending
-use Rattle.eval_state.specs.Rest.{left, after, loop_of, rounds_of}
+use Rattle.eval_state.specs.Pending.{Now}
+use Rattle.eval_state.specs.Rest.{Signal, left, after, loop_of, rounds_of, valued}
 use Rattle.eval_state.proofs.Statements as law
-use Rattle.eval_state.specs.Run.{Run, here, leads, world, with_units}
+use Rattle.eval_state.specs.declared.parts.Now as code
+use Rattle.eval_state.specs.declared.state.Parts.{Parts}
+use Rattle.eval_state.specs.Less.{held}
+use Rattle.eval_state.specs.Run.{Run, here, leads, outcome, run_of, world, with_units}
+use Rattle.eval_state.specs.Steps.{ended}
+use Rattle.eval_state.specs.Views.{now_view}
+use Rattle.eval_simple.specs.Simple.{IsDone}
+use Rattle.eval_simple.specs.Stepped.{IsEnded, IsPushed, IsStep}
+use Rattle.eval_simple.proofs.Stepped.{step_now, steps_as, steps_behind, unmoved, waits}
+use Rattle.eval_statements.specs.Turned.{IsRounded, IsTurn, IsTurned}
+use Rattle.eval_statements.proofs.AtOnce as once
 
 -- a unit was spent, and something is done behind it
 pub unit_first : (r one : Run) (k : Context → World → Result Flow)
@@ -49,3 +62,116 @@ round_held r one v many s e h k =
     ap (λ x. leads one (left x))
     (sym (other v (Gives Normal (world one)) (rounds_of (here one) many s e (world one)) k))
     ∙ unit_first r one (λ c w. at_zero v (Gives Normal w) (rounds_of c many s e w)) h
+
+-- ---- a turn that ends
+
+-- no unit is left for it, and nothing was done
+pub turn_lacks : (p q : Parts) (k : Flow → World → Result Flow) → ((world (run_of p)).units ≡ 0) × (q ≡ p)
+    → IsStep (leads (run_of p) (left (then_do (spend Normal (world (run_of p))) k))) (suc (held (run_of p)))
+    pending.Stopped (run_of p) (run_of q)
+turn_lacks p q k h =
+    let r = run_of p in
+    subst
+    (λ q. IsStep (leads r (left (then_do (spend Normal (world r)) k))) (suc (held r)) pending.Stopped r (run_of q))
+    (sym h.1)
+    (step_now pending.Stopped (leads r (left (then_do (spend Normal (world r)) k))) (suc (held r)) r
+    (ap (λ u. leads r (left (then_do (spend Normal (record (world r) { units = u })) k))) (sym h.0)) (omega arith))
+
+module _ (r one : Run) (spent : ((world r).units ≢ 0) × (one ≡ with_units ((world r).units - 1) r)) where
+  fewer : one.state.units ≡ r.state.units - 1
+  fewer = ap (λ (q : Run). q.state.units) spent.1
+
+  some : r.state.units ≢ 0
+  some = spent.0
+
+  -- its unit was spent, so nothing need be lighter
+  spending : (n : Now) (b : Result Signal) (m : ℕ) (t : Run) → outcome n t ≡ b → t.state.units ≤ one.state.units
+      → IsStep b m n r t
+  spending n b m t is most = record {
+    same = is;
+    units = omega (arith, fewer, most);
+    less = λ still. omega (arith, fewer, most, some, still);
+  }
+
+  pub turn_none : (many : ℕ) (e : Expr) (step : Option Expr) (s : Stmt) → many ≡ 0
+      → IsTurned many e step s pending.Stopped r one
+  turn_none many e step s none =
+      spending pending.Stopped _ _ one
+      (ap (λ d. leads one (left (loop_of (here one) d e step s (world one)))) (sym none)
+      ∙ unit_first r one (λ c w. loop_of c many e step s w) spent)
+      (omega arith)
+
+  pub turn_more : {E : Type 0} (result : std.Result code.Now E) (t : Run) (many : ℕ) (e : Expr) (step : Option Expr)
+      (s : Stmt) → many ≢ 0 → IfOk result (λ n. IsTurn (suc (many - 1)) e step s (now_view n) one t)
+      → IfOk result (λ n. IsTurned many e step s (now_view n) r t)
+  turn_more (std.Ok n) t many e step s more h =
+      spending (now_view n) _ _ t
+      (h.same ∙ more_turns one many e step s more ∙ unit_first r one (λ c w. loop_of c many e step s w) spent) h.units
+  turn_more (std.Err x) t many e step s more h = h
+
+  pub round_ends : (v many : ℕ) (s : Stmt) (e : Expr) → v ≡ 0 → IsRounded v many s e (pending.Left Normal) r one
+  round_ends v many s e none =
+      spending (pending.Left Normal) _ _ one
+      (ap (λ v. leads one (left (at_zero v (Gives Normal (world one)) (rounds_of (here one) many s e (world one)))))
+      (sym none)
+      ∙ unit_first r one (λ c w. at_zero v (Gives Normal w) (rounds_of c many s e w)) spent)
+      (omega arith)
+
+  pub round_none : (v many : ℕ) (s : Stmt) (e : Expr) → v ≢ 0 → many ≡ 0 → IsRounded v many s e pending.Stopped r one
+  round_none v many s e holds none =
+      spending pending.Stopped _ _ one
+      (ap (λ d. leads one (left (rounds_of (here one) d s e (world one)))) (sym none)
+      ∙ round_held r one v many s e spent holds)
+      (omega arith)
+
+  pub round_more : {E : Type 0} (result : std.Result code.Now E) (t : Run) (v many : ℕ) (s : Stmt) (e : Expr) → v ≢ 0
+      → many ≢ 0 → IfOk result (λ n. outcome (now_view n) t
+      ≡ leads one (after (here one) (pending.Round (many - 1) s e) (left (exec (here one) s (world one)))))
+      → IfOk result (λ n. t.state.units ≡ one.state.units)
+      → IfOk result (λ n. IsRounded v many s e (now_view n) r t)
+  round_more (std.Ok n) t v many s e holds more same units =
+      spending (now_view n) _ _ t
+      (same ∙ more_rounds one many s e more ∙ round_held r one v many s e spent holds) (omega (arith, units))
+  round_more (std.Err x) t v many s e holds more same units = same
+
+-- ---- a turn that begins
+
+module _ {E : Type 0} (result : std.Result code.Now E) (d : ℕ) (e : Expr) (o : Option Expr) (s : Stmt) where
+  pub turn_waits : (p q : Parts) (t : Run) → q ≡ p
+      → IfOk result (λ n. IsPushed (pending.Test d e o s) (pending.Eval e) (now_view n) (run_of q) t)
+      → IfOk result (λ n. IsTurn (suc d) e o s (now_view n) (run_of p) t)
+  turn_waits p q t is h =
+      unmoved result p q (λ n r. IsTurn (suc d) e o s (now_view n) r t) is
+      (waits result (pending.Test d e o s) (pending.Eval e) _ _ (run_of q) t (once.turn_waits d e o s (run_of q))
+      (omega arith) h)
+
+  -- ---- behind the body of a loop
+
+  pub turns_on : (r t : Run) → o ≡ None → IfOk result (λ n. IsTurned d e None s (now_view n) r t)
+      → IfOk result (λ n. IsEnded (pending.Turn d e o s) Normal (now_view n) r t)
+  unfolding ended
+  turns_on r t is h =
+      subst (λ o. IfOk result (λ n. IsEnded (pending.Turn d e o s) Normal (now_view n) r t)) (sym is)
+      (steps_as result _ _ _ _ r t (ap (leads r) (law.turn_ends (here r) d e s (world r))) (omega arith) h)
+
+  stepped : (step : Expr) (r : Run)
+      → leads r (after (here r) (pending.Step d e step s) (valued (eval (here r) step (world r))))
+      ≡ ended (pending.Turn d e (Some step) s) Normal r
+  unfolding ended
+  stepped step r = ap (leads r) (law.step_begins (here r) d e step s (world r))
+
+  pub step_taken : (step : Expr) (v : ℕ) (r t u : Run) → o ≡ Some step → IsDone step v r t
+      → IfOk result (λ n. IsTurned d e (Some step) s (now_view n) t u)
+      → IfOk result (λ n. IsEnded (pending.Turn d e o s) Normal (now_view n) r u)
+  step_taken step v r t u is done h =
+      subst (λ o. IfOk result (λ n. IsEnded (pending.Turn d e o s) Normal (now_view n) r u)) (sym is)
+      (steps_behind result step v _ _ _ _ r t u done (once.step_taken r t d e step s v done ∙ stepped step r) h)
+
+  pub step_waits : (step : Expr) (p q : Parts) (t : Run) → o ≡ Some step → q ≡ p
+      → IfOk result (λ n. IsPushed (pending.Step d e step s) (pending.Eval step) (now_view n) (run_of q) t)
+      → IfOk result (λ n. IsEnded (pending.Turn d e o s) Normal (now_view n) (run_of p) t)
+  step_waits step p q t is still h =
+      subst (λ o. IfOk result (λ n. IsEnded (pending.Turn d e o s) Normal (now_view n) (run_of p) t)) (sym is)
+      (unmoved result p q (λ n r. IsEnded (pending.Turn d e (Some step) s) Normal (now_view n) r t) still
+      (waits result (pending.Step d e step s) (pending.Eval step) _ _ (run_of q) t (stepped step (run_of q)) (omega
+      arith) h))

@@ -11,8 +11,7 @@ ghost use Rattle.eval_state.specs.Run.{here, leads, outcome, run_of, world};
 ghost use Rattle.eval_state.specs.Views.{items_view, now_view};
 ghost use Rattle.eval_simple.specs.Stepped.{IsExecuted};
 
-use crate::declare::{parameter, parameter_object, variable};
-use crate::loops::{begin_round, begin_turn};
+use crate::loops::turn;
 use crate::next::wait;
 use crate::parts::block;
 use crate::started::{going, started};
@@ -33,16 +32,11 @@ pub fn exec<'a>(m: &mut Machine<'a>, s: &'a Stmt) -> Result<Now<'a>, AllocError>
 {
     match started(m, s)? {
         Some(n) => further(m, n),
-        None => begin_further(m, s),
+        None => {
+            let n = begin(m, s)?;
+            further(m, n)
+        }
     }
-}
-
-// Begins a statement, and goes on with what it begins with.
-fn begin_further<'a>(m: &mut Machine<'a>, s: &'a Stmt) -> Result<Now<'a>, AllocError>
-    ensures { IfOk result (λ n. IsExecuted (stmt_view s.entry.now) (now_view n) (run_of m.old) (run_of m.new)) }
-{
-    let n = begin(m, s)?;
-    further(m, n)
 }
 
 // Goes on where statements are left to do.
@@ -68,16 +62,44 @@ fn begin<'a>(m: &mut Machine<'a>, s: &'a Stmt) -> Result<Now<'a>, AllocError>
     match s {
         Stmt::Eval(e) => wait(m, StatementFrame::Drop, e.get()),
         Stmt::Block(variables, items) => block(m, variables.as_slice(), items.as_slice()),
-        Stmt::Variable(i) => variable(m, *i),
+        Stmt::Variable(i) => {
+            m.set_variable(*i, 0)?;
+            Ok(m.spend(Now::Left(Flow::Normal)))
+        }
         Stmt::Object(offset, words) => Ok(m.clear(*offset, *words)),
-        Stmt::Parameter(k, width) => parameter(m, *k, *width),
-        Stmt::ParameterObject(k, width, offset) => parameter_object(m, *k, *width, *offset),
+        Stmt::Parameter(k, width) => {
+            let v = m.passed(*k, *width);
+            m.set_variable(*k, v)?;
+            Ok(Now::Left(Flow::Normal))
+        }
+        Stmt::ParameterObject(k, width, offset) => {
+            let v = m.passed(*k, *width);
+            let at = m.frame_address(*offset)?;
+            match m.store(at, *width, v) {
+                Ok(()) => Ok(Now::Left(Flow::Normal)),
+                // no checked tree has a parameter where no object is
+                Err(_) => Err(AllocError),
+            }
+        }
         Stmt::If(e, s) => wait(m, StatementFrame::If(s.get()), e.get()),
         Stmt::IfElse(e, s, t) => wait(m, StatementFrame::IfElse(s.get(), t.get()), e.get()),
-        Stmt::While(e, s) => begin_turn(m, e.get(), None, s.get()),
-        Stmt::Do(s, e) => begin_round(m, s.get(), e.get()),
-        Stmt::For(e, s) => begin_turn(m, e.get(), None, s.get()),
-        Stmt::ForStep(e, step, s) => begin_turn(m, e.get(), Some(step.get()), s.get()),
+        Stmt::While(e, s) => {
+            let more = m.turns();
+            turn(m, more, e.get(), None, s.get())
+        }
+        Stmt::Do(s, e) => {
+            let more = m.turns();
+            let s = s.get();
+            m.push(Frame::End(EndFrame::Round(more, s, e.get())), Now::Exec(s))
+        }
+        Stmt::For(e, s) => {
+            let more = m.turns();
+            turn(m, more, e.get(), None, s.get())
+        }
+        Stmt::ForStep(e, step, s) => {
+            let more = m.turns();
+            turn(m, more, e.get(), Some(step.get()), s.get())
+        }
         Stmt::Switch(e, variables, items) => wait(
             m,
             StatementFrame::Switch(variables.as_slice(), items.as_slice()),

@@ -3,8 +3,6 @@
 #![tactic(auto)]
 
 mod begin;
-mod behind;
-mod declare;
 mod going_on;
 mod loops;
 mod next;
@@ -12,7 +10,6 @@ mod parts;
 mod ran;
 mod started;
 mod switches;
-mod tests;
 
 pub use begin::{exec, run};
 pub use going_on::{flow, value};

@@ -33,21 +33,7 @@ pub(crate) fn ran_all<'a>(m: &mut Machine<'a>, list: &'a [Stmt]) -> Result<&'a [
     Ok(rest)
 }
 
-// What is left to do of a block without variables.
-#[tactic(auto, using(crate::proofs::Starts::blocks))]
-fn items_left<'a>(m: &mut Machine<'a>, items: &'a [Stmt]) -> Result<Now<'a>, AllocError>
-    ensures { IfOk result (λ n. IsStarted (node.Block node.NoItem (items_view items.entry.now)) (now_view n)
-        (run_of m.old) (run_of m.new)) }
-{
-    let rest = ran_all(m, items)?;
-    match rest.is_empty() {
-        true => Ok(Now::Left(Flow::Normal)),
-        false => Ok(Now::Run(rest)),
-    }
-}
-
 // Begins a block, where it has no variables.
-#[tactic(auto, using(crate::proofs::Starts::bare))]
 fn block<'a>(
     m: &mut Machine<'a>,
     variables: &'a [Stmt],
@@ -58,7 +44,13 @@ fn block<'a>(
         (run_of m.old) (run_of m.new))) }
 {
     match variables.is_empty() {
-        true => Ok(Some(items_left(m, items)?)),
+        true => {
+            let rest = ran_all(m, items)?;
+            match rest.is_empty() {
+                true => Ok(Some(Now::Left(Flow::Normal))),
+                false => Ok(Some(Now::Run(rest))),
+            }
+        }
         false => Ok(None),
     }
 }
@@ -75,20 +67,8 @@ fn returned<'a>(m: &mut Machine<'a>, e: &'a Expr) -> Result<Option<Now<'a>>, All
     }
 }
 
-// Runs a statement at once, to its end.
-#[tactic(auto, using(crate::proofs::Starts::ends))]
-fn ended<'a>(m: &mut Machine<'a>, s: &'a Stmt) -> Result<Option<Now<'a>>, AllocError>
-    ensures { IfOk result (λ found. MatchOption found (m.new ≡ m.old)
-        (λ n. IsStarted (stmt_view s.entry.now) (now_view n) (run_of m.old) (run_of m.new))) }
-{
-    match ran(m, s)? {
-        Some(()) => Ok(Some(Now::Left(Flow::Normal))),
-        None => Ok(None),
-    }
-}
-
 // Begins a statement that makes no choice.
-#[tactic(auto, using(crate::proofs::Starts::leaves, crate::proofs::Begins::views))]
+#[tactic(auto, using(crate::proofs::Starts::leaves, crate::proofs::Starts::ends, crate::proofs::Begins::views))]
 fn plain<'a>(m: &mut Machine<'a>, s: &'a Stmt) -> Result<Option<Now<'a>>, AllocError>
     ensures { IfOk result (λ found. MatchOption found (m.new ≡ m.old)
         (λ n. IsStarted (stmt_view s.entry.now) (now_view n) (run_of m.old) (run_of m.new))) }
@@ -100,7 +80,10 @@ fn plain<'a>(m: &mut Machine<'a>, s: &'a Stmt) -> Result<Option<Now<'a>>, AllocE
         Stmt::Break => Ok(Some(Now::Left(Flow::Broke))),
         Stmt::Continue => Ok(Some(Now::Left(Flow::Continued))),
         Stmt::Case(_) | Stmt::Default => Ok(Some(Now::Left(Flow::Normal))),
-        Stmt::Eval(_) | Stmt::Variable(_) | Stmt::Parameter(_, _) => ended(m, s),
+        Stmt::Eval(_) | Stmt::Variable(_) | Stmt::Parameter(_, _) => match ran(m, s)? {
+            Some(()) => Ok(Some(Now::Left(Flow::Normal))),
+            None => Ok(None),
+        },
         Stmt::Object(_, _) | Stmt::ParameterObject(_, _, _) => Ok(None),
         Stmt::If(_, _) | Stmt::IfElse(_, _, _) | Stmt::While(_, _) | Stmt::Do(_, _) => Ok(None),
         Stmt::For(_, _) | Stmt::ForStep(_, _, _) | Stmt::Switch(_, _, _) => Ok(None),

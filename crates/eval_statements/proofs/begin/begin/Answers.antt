@@ -7,6 +7,7 @@ use Rattle.typed_tree.proofs.Views.{stmt_view_parameter, stmt_view_parameterobje
 use Rattle.typed_tree.proofs.Views.{stmt_view_while, stmt_view_do, stmt_view_for, stmt_view_forstep}
 use Rattle.typed_tree.proofs.Views.{stmt_view_switch, stmt_view_case, stmt_view_default, stmt_view_break}
 use Rattle.typed_tree.proofs.Views.{stmt_view_continue, stmt_view_return, stmt_view_returnvalue}
+use Rattle.eval_state.specs.Run.{run_of}
 use Rattle.eval_statements.proofs.Executed as done
 use Rattle.eval_statements.proofs.begin.begin.Goals as goal
 
@@ -21,25 +22,28 @@ returns-in-Block c =
     c.as_slice.ensures) ∙ ap (λ q. st.Block c.as_slice.result.now q) (sym c.as_slice-in-Block.ensures)) ∙
     stmt_view_block _ _) c.block.ensures.same c.block.ensures.units c.block.ensures.less
 
-pub returns-in-Variable : goal.returns-in-Variable
-returns-in-Variable c =
-    done.begins _ _ _ _ _ (ap stmt_view (c.in-Variable.is) ∙ stmt_view_variable _) c.variable.ensures.same
-    c.variable.ensures.units c.variable.ensures.less
+pub returns-in_ok-set_variable-in-Variable : goal.returns-in_ok-set_variable-in-Variable
+returns-in_ok-set_variable-in-Variable c =
+    done.variable _ _ _ (run_of c.args.m.now) (run_of c.set_variable.new.self) (run_of c.spend.new.self)
+    (ap stmt_view (c.in-Variable.is) ∙ stmt_view_variable _) c.in_ok-set_variable-in-Variable.ensures
+    c.spend.ensures.same c.spend.ensures.units c.spend.ensures.less
 
 pub returns-in-Object : goal.returns-in-Object
 returns-in-Object c =
     done.object _ _ _ _ _ _ (ap stmt_view (c.in-Object.is) ∙ stmt_view_object _ _) c.clear.ensures.same
     c.clear.ensures.units c.clear.ensures.less
 
-pub returns-in-Parameter : goal.returns-in-Parameter
-returns-in-Parameter c =
-    done.begins _ _ _ _ _ (ap stmt_view (c.in-Parameter.is) ∙ stmt_view_parameter _ _) c.parameter.ensures.same
-    c.parameter.ensures.units c.parameter.ensures.less
+pub returns-in_ok-set_variable-in-Parameter : goal.returns-in_ok-set_variable-in-Parameter
+returns-in_ok-set_variable-in-Parameter c =
+    done.parameter _ _ _ _ (run_of c.args.m.now) (run_of c.set_variable-in-Parameter.new.self)
+    (ap stmt_view (c.in-Parameter.is) ∙ stmt_view_parameter _ _) c.passed-v.ensures
+    c.in_ok-set_variable-in-Parameter.ensures
 
-pub returns-in-ParameterObject : goal.returns-in-ParameterObject
-returns-in-ParameterObject c =
-    done.begins _ _ _ _ _ (ap stmt_view (c.in-ParameterObject.is) ∙ stmt_view_parameterobject _ _ _)
-    c.parameter_object.ensures.same c.parameter_object.ensures.units c.parameter_object.ensures.less
+pub returns-in-Ok : goal.returns-in-Ok
+returns-in-Ok c =
+    done.parameter_object _ _ _ _ _ _ (run_of c.args.m.now) (run_of c.store.new.self)
+    (ap stmt_view (c.in-ParameterObject.is) ∙ stmt_view_parameterobject _ _ _) c.passed-v-in-ParameterObject.ensures
+    c.in_ok-at-in-ParameterObject.ensures c.in-Ok.ensures.1
 
 pub returns-in-If : goal.returns-in-If
 returns-in-If c =
@@ -56,29 +60,29 @@ returns-in-IfElse c =
 
 pub returns-in-While : goal.returns-in-While
 returns-in-While c =
-    done.while_loop _ _ _ _ _ _ (ap stmt_view (c.in-While.is ∙ ap (λ q. st.While q c.in-While.s) (sym
+    done.while_loop _ _ _ _ _ _ _ (ap stmt_view (c.in-While.is ∙ ap (λ q. st.While q c.in-While.s) (sym
     c.get-in-While.ensures) ∙ ap (λ q. st.While c.get-in-While.result.now q) (sym c.get-in-While-2.ensures)) ∙
-    stmt_view_while _ _) c.begin_turn.ensures.same c.begin_turn.ensures.units c.begin_turn.ensures.less
+    stmt_view_while _ _) c.turns-more.ensures c.turn.ensures
 
 pub returns-in-Do : goal.returns-in-Do
 returns-in-Do c =
-    done.do_loop _ _ _ _ _ _ (ap stmt_view (c.in-Do.is ∙ ap (λ q. st.Do q c.in-Do.e) (sym c.get-in-Do.ensures) ∙ ap
-    (λ q. st.Do c.get-in-Do.result.now q) (sym c.get-in-Do-2.ensures)) ∙ stmt_view_do _ _)
-    c.begin_round.ensures.same c.begin_round.ensures.units c.begin_round.ensures.less
+    done.do_loop _ _ _ _ _ _ _ (ap stmt_view (c.in-Do.is ∙ ap (λ q. st.Do q c.in-Do.e) (sym c.get-s.ensures) ∙ ap
+    (λ q. st.Do c.get-s.result.now q) (sym c.get-in-Do.ensures)) ∙ stmt_view_do _ _) c.turns-more-in-Do.ensures
+    c.push.ensures.same c.push.ensures.units c.push.ensures.less
 
 pub returns-in-For : goal.returns-in-For
 returns-in-For c =
-    done.for_loop _ _ _ _ _ _ (ap stmt_view (c.in-For.is ∙ ap (λ q. st.For q c.in-For.s) (sym c.get-in-For.ensures)
+    done.for_loop _ _ _ _ _ _ _ (ap stmt_view (c.in-For.is ∙ ap (λ q. st.For q c.in-For.s) (sym c.get-in-For.ensures)
     ∙ ap (λ q. st.For c.get-in-For.result.now q) (sym c.get-in-For-2.ensures)) ∙ stmt_view_for _ _)
-    c.begin_turn-in-For.ensures.same c.begin_turn-in-For.ensures.units c.begin_turn-in-For.ensures.less
+    c.turns-more-in-For.ensures c.turn-in-For.ensures
 
 pub returns-in-ForStep : goal.returns-in-ForStep
 returns-in-ForStep c =
-    done.for_step _ _ _ _ _ _ _ (ap stmt_view (c.in-ForStep.is ∙ ap (λ q. st.ForStep q c.in-ForStep.step
+    done.for_step _ _ _ _ _ _ _ _ (ap stmt_view (c.in-ForStep.is ∙ ap (λ q. st.ForStep q c.in-ForStep.step
     c.in-ForStep.s) (sym c.get-in-ForStep.ensures) ∙ ap (λ q. st.ForStep c.get-in-ForStep.result.now q
     c.in-ForStep.s) (sym c.get-in-ForStep-2.ensures) ∙ ap (λ q. st.ForStep c.get-in-ForStep.result.now
     c.get-in-ForStep-2.result.now q) (sym c.get-in-ForStep-3.ensures)) ∙ stmt_view_forstep _ _ _)
-    c.begin_turn-in-ForStep.ensures.same c.begin_turn-in-ForStep.ensures.units c.begin_turn-in-ForStep.ensures.less
+    c.turns-more-in-ForStep.ensures c.turn-in-ForStep.ensures
 
 pub returns-in-Switch : goal.returns-in-Switch
 returns-in-Switch c =

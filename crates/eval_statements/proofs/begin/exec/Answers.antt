@@ -8,6 +8,7 @@ use Rattle.eval_simple.proofs.Going as going
 use Rattle.eval_statements.proofs.AtOnce as once
 use Rattle.eval_simple.proofs.Going.{same_as}
 use Rattle.eval_simple.proofs.Stepped.{less_of, same_of, units_of}
+use Rattle.eval_statements.proofs.Executed.{goes_further}
 use Rattle.eval_statements.proofs.Starts as start
 use Rattle.eval_statements.proofs.begin.exec.Goals as goal
 
@@ -38,26 +39,32 @@ returns-in-Some-clause-less c =
     (run_of c.started.new.m) it)
     c.further.ensures.units c.further.ensures.less
 
-pub returns-in-None-clause-same : goal.returns-in-None-clause-same
+pub returns-in_ok-n-in-None-clause-same : goal.returns-in_ok-n-in-None-clause-same
 unfolding executed
-returns-in-None-clause-same c =
-    going.still c.begin_further.result c.args.m.now c.started.new.m (run_of c.begin_further.new.m)
+returns-in_ok-n-in-None-clause-same c =
+    going.still c.further-in-None.result c.args.m.now c.started.new.m (run_of c.further-in-None.new.m)
     (outcome (pending.Exec (stmt_view c.args.s.now)))
     (start.not_begun c.in_ok-n.field-0 (stmt_view c.args.s.now) c.args.m.now c.started.new.m c.in_ok-n.ensures
     c.in-None.is)
-    (same_of _ _ _ _ _ c.begin_further.ensures)
+    (same_of _ _ _ _ _ (goes_further c.further-in-None.result (stmt_view c.args.s.now) (now_view c.in_ok-n-in-None.n)
+    (run_of c.started.new.m) (run_of c.begin.new.m) (run_of c.further-in-None.new.m) c.in_ok-n-in-None.ensures
+    c.further-in-None.ensures.same c.further-in-None.ensures.units c.further-in-None.ensures.less))
 
-pub returns-in-None-clause-units : goal.returns-in-None-clause-units
-returns-in-None-clause-units c =
-    going.still_units c.begin_further.result c.args.m.now c.started.new.m (run_of c.begin_further.new.m)
+pub returns-in_ok-n-in-None-clause-units : goal.returns-in_ok-n-in-None-clause-units
+returns-in_ok-n-in-None-clause-units c =
+    going.still_units c.further-in-None.result c.args.m.now c.started.new.m (run_of c.further-in-None.new.m)
     (start.not_begun c.in_ok-n.field-0 (stmt_view c.args.s.now) c.args.m.now c.started.new.m c.in_ok-n.ensures
     c.in-None.is)
-    (units_of _ _ _ _ _ c.begin_further.ensures)
+    (units_of _ _ _ _ _ (goes_further c.further-in-None.result (stmt_view c.args.s.now) (now_view c.in_ok-n-in-None.n)
+    (run_of c.started.new.m) (run_of c.begin.new.m) (run_of c.further-in-None.new.m) c.in_ok-n-in-None.ensures
+    c.further-in-None.ensures.same c.further-in-None.ensures.units c.further-in-None.ensures.less))
 
-pub returns-in-None-clause-less : goal.returns-in-None-clause-less
-returns-in-None-clause-less c =
-    going.still_less c.begin_further.result c.args.m.now c.started.new.m (run_of c.begin_further.new.m)
+pub returns-in_ok-n-in-None-clause-less : goal.returns-in_ok-n-in-None-clause-less
+returns-in_ok-n-in-None-clause-less c =
+    going.still_less c.further-in-None.result c.args.m.now c.started.new.m (run_of c.further-in-None.new.m)
     (heft (pending.Exec (stmt_view c.args.s.now)))
     (start.not_begun c.in_ok-n.field-0 (stmt_view c.args.s.now) c.args.m.now c.started.new.m c.in_ok-n.ensures
     c.in-None.is)
-    (less_of _ _ _ _ _ c.begin_further.ensures)
+    (less_of _ _ _ _ _ (goes_further c.further-in-None.result (stmt_view c.args.s.now) (now_view c.in_ok-n-in-None.n)
+    (run_of c.started.new.m) (run_of c.begin.new.m) (run_of c.further-in-None.new.m) c.in_ok-n-in-None.ensures
+    c.further-in-None.ensures.same c.further-in-None.ensures.units c.further-in-None.ensures.less))

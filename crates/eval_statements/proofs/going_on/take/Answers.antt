@@ -1,6 +1,5 @@
 -- What each frame makes of a value.
 use Rattle.std.proofs.Common.{ap}
-use Rattle.eval_state.specs.Run.{run_of}
 use Rattle.eval_state.specs.Views.{statement_frame}
 use Rattle.eval_statements.proofs.Taken as done
 use Rattle.eval_statements.proofs.going_on.take.Goals as goal
@@ -8,35 +7,32 @@ use Rattle.eval_statements.proofs.going_on.take.Goals as goal
 pub returns-in-Drop : goal.returns-in-Drop
 returns-in-Drop c = done.dropped _ _ _ (ap statement_frame c.in-Drop.is)
 
-pub returns-in-If : goal.returns-in-If
-returns-in-If c =
-    done.told _ _ _ _ _ (ap statement_frame c.in-If.is) (c.test_if.ensures.same (run_of c.args.m.now))
-    (c.test_if.ensures.less (run_of c.args.m.now))
+pub returns-then-v-eq0 : goal.returns-then-v-eq0
+returns-then-v-eq0 c = done.if_fails _ _ _ _ (ap statement_frame c.in-If.is) c.if-v-eq0.true
 
-pub returns-in-IfElse : goal.returns-in-IfElse
-returns-in-IfElse c =
-    done.told _ _ _ _ _ (ap statement_frame c.in-IfElse.is) (c.test_else.ensures.same (run_of c.args.m.now))
-    (c.test_else.ensures.less (run_of c.args.m.now))
+pub returns-else-v-eq0 : goal.returns-else-v-eq0
+returns-else-v-eq0 c = done.if_holds _ _ _ _ (ap statement_frame c.in-If.is) c.if-v-eq0.false
+
+pub returns-then-v-eq0-2 : goal.returns-then-v-eq0-2
+returns-then-v-eq0-2 c =
+    done.else_chosen _ _ _ _ _ (ap statement_frame c.in-IfElse.is) c.if-v-eq0-2.true
+
+pub returns-else-v-eq0-2 : goal.returns-else-v-eq0-2
+returns-else-v-eq0-2 c = done.then_chosen _ _ _ _ _ (ap statement_frame c.in-IfElse.is) c.if-v-eq0-2.false
 
 pub returns-in-Test : goal.returns-in-Test
-returns-in-Test c =
-    done.takes _ _ _ _ _ _ (ap statement_frame c.in-Test.is) c.test.ensures.same c.test.ensures.units
-    c.test.ensures.less
+returns-in-Test c = done.takes _ _ _ _ _ _ (ap statement_frame c.in-Test.is) c.test.ensures
 
 pub returns-in-Step : goal.returns-in-Step
-returns-in-Step c =
-    done.stepped _ _ _ _ _ _ _ _ _ (ap statement_frame c.in-Step.is) c.turned.ensures.same c.turned.ensures.units
-    c.turned.ensures.less
+returns-in-Step c = done.stepped _ _ _ _ _ _ _ _ _ (ap statement_frame c.in-Step.is) c.turned.ensures
 
 pub returns-in-RoundTest : goal.returns-in-RoundTest
-returns-in-RoundTest c =
-    done.rounded _ _ _ _ _ _ _ _ (ap statement_frame c.in-RoundTest.is) c.rounded.ensures.same c.rounded.ensures.units
-    c.rounded.ensures.less
+returns-in-RoundTest c = done.rounded _ _ _ _ _ _ _ _ (ap statement_frame c.in-RoundTest.is) c.rounded.ensures
 
 pub returns-in-Switch : goal.returns-in-Switch
 returns-in-Switch c =
-    done.takes _ _ _ _ _ _ (ap statement_frame c.in-Switch.is) c.test_switch.ensures.same
-    c.test_switch.ensures.units c.test_switch.ensures.less
+    done.declares _ _ _ _ _ _ _ (ap statement_frame c.in-Switch.is) c.push.ensures.same c.push.ensures.units
+    c.push.ensures.less
 
 pub returns-in-Return : goal.returns-in-Return
 returns-in-Return c = done.returned _ _ _ (ap statement_frame c.in-Return.is)
