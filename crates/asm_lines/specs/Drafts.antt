@@ -1,7 +1,7 @@
 -- Instructions as they are written, before labels have addresses: each operation takes the operands of its form in the
 -- order of the instruction table of the MIPS R2000 architecture manual. Registers, numbers and labels stand where the
 -- form has them, and whatever fits no field is still a number here. `nop` is `sll $0,$0,0`.
-use Rattle.std.specs.Prelude.{ℕ, false, List, Option, Some, None}
+use Rattle.std.specs.Prelude.{ℕ, Bool, true, false, List, Option, Some, None}
 use Rattle.mips_encoder.specs.declared.instruction.ShiftOp.TheVariants.{Sll}
 use Rattle.asm_words.specs.declared.operation.Operation.{Operation}
 use Rattle.asm_words.specs.declared.operation.Operation.TheVariants as op
@@ -50,6 +50,21 @@ based f g h r (Based a b c) = do
   z ← h c
   pure (r x y z)
 based f g h r z = None
+
+-- What is read, by itself.
+abbrev pub single : {A : Type 0} → A → A
+single x = x
+
+abbrev pub pair : {A B : Type 0} → A → B → A × B
+pair x y = (x, y)
+
+abbrev pub triple : {A B C : Type 0} → A → B → C → A × B × C
+triple x y z = (x, y, z)
+
+-- Whether no operands stand there.
+abbrev pub is_nothing : Operands → Bool
+is_nothing Nothing = true
+is_nothing z = false
 
 abbrev pub nop : Draft
 nop = draft.Shift Sll 0 0 (record { negative = false; magnitude = Some 0 })

@@ -68,181 +68,143 @@ fn number(word: &Word<'_>) -> Option<Number>
     number_of(word.bytes())
 }
 
-fn arithmetic<'a>(op: ArithmeticOp, operands: &Operands<'a>) -> Option<Draft<'a>>
-    ensures { result ≡ spec.three register_of register_of register_of (declared.Arithmetic op) operands.now }
-{
-    let Operands::Three(a, b, c) = operands else {
-        return None;
-    };
-    Some(Draft::Arithmetic(op, register(a)?, register(b)?, register(c)?))
-}
-
-fn shift<'a>(op: ShiftOp, operands: &Operands<'a>) -> Option<Draft<'a>>
-    ensures { result ≡ spec.three register_of register_of number_of (declared.Shift op) operands.now }
-{
-    let Operands::Three(a, b, c) = operands else {
-        return None;
-    };
-    Some(Draft::Shift(op, register(a)?, register(b)?, number(c)?))
-}
-
-fn shift_variable<'a>(op: ShiftVariableOp, operands: &Operands<'a>) -> Option<Draft<'a>>
-    ensures { result ≡ spec.three register_of register_of register_of (declared.ShiftVariable op) operands.now }
-{
-    let Operands::Three(a, b, c) = operands else {
-        return None;
-    };
-    Some(Draft::ShiftVariable(op, register(a)?, register(b)?, register(c)?))
-}
-
-fn jump_register<'a>(operands: &Operands<'a>) -> Option<Draft<'a>>
-    ensures { result ≡ spec.one register_of declared.JumpRegister operands.now }
+// A register alone.
+fn one_register(operands: &Operands<'_>) -> Option<Register>
+    ensures { result ≡ spec.one register_of spec.single operands.now }
 {
     let Operands::One(a) = operands else {
         return None;
     };
-    Some(Draft::JumpRegister(register(a)?))
+    register(a)
 }
 
-fn jump_and_link_register<'a>(operands: &Operands<'a>) -> Option<Draft<'a>>
-    ensures { result ≡ spec.two register_of register_of declared.JumpAndLinkRegister operands.now }
-{
-    let Operands::Two(a, b) = operands else {
-        return None;
-    };
-    Some(Draft::JumpAndLinkRegister(register(a)?, register(b)?))
-}
-
-fn breakpoint<'a>(operands: &Operands<'a>) -> Option<Draft<'a>>
-    ensures { result ≡ spec.one number_of declared.Break operands.now }
+// A number alone.
+fn one_number(operands: &Operands<'_>) -> Option<Number>
+    ensures { result ≡ spec.one number_of spec.single operands.now }
 {
     let Operands::One(a) = operands else {
         return None;
     };
-    Some(Draft::Break(number(a)?))
+    number(a)
 }
 
-fn move_from<'a>(op: HiLo, operands: &Operands<'a>) -> Option<Draft<'a>>
-    ensures { result ≡ spec.one register_of (declared.MoveFrom op) operands.now }
+// A target alone.
+fn one_target<'a>(operands: &Operands<'a>) -> Option<Target<'a>>
+    ensures { result ≡ spec.one target_of spec.single operands.now }
 {
     let Operands::One(a) = operands else {
         return None;
     };
-    Some(Draft::MoveFrom(op, register(a)?))
+    target_of(a)
 }
 
-fn move_to<'a>(op: HiLo, operands: &Operands<'a>) -> Option<Draft<'a>>
-    ensures { result ≡ spec.one register_of (declared.MoveTo op) operands.now }
-{
-    let Operands::One(a) = operands else {
-        return None;
-    };
-    Some(Draft::MoveTo(op, register(a)?))
-}
-
-fn multiply_divide<'a>(op: MultiplyDivideOp, operands: &Operands<'a>) -> Option<Draft<'a>>
-    ensures { result ≡ spec.two register_of register_of (declared.MultiplyDivide op) operands.now }
+// Two registers.
+fn two_registers(operands: &Operands<'_>) -> Option<(Register, Register)>
+    ensures { result ≡ spec.two register_of register_of spec.pair operands.now }
 {
     let Operands::Two(a, b) = operands else {
         return None;
     };
-    Some(Draft::MultiplyDivide(op, register(a)?, register(b)?))
-}
-
-fn branch_on_sign<'a>(op: SignTest, operands: &Operands<'a>) -> Option<Draft<'a>>
-    ensures { result ≡ spec.two register_of target_of (declared.BranchOnSign op) operands.now }
-{
-    let Operands::Two(a, b) = operands else {
-        return None;
-    };
-    Some(Draft::BranchOnSign(op, register(a)?, target_of(b)?))
-}
-
-fn branch_on_sign_and_link<'a>(op: SignTest, operands: &Operands<'a>) -> Option<Draft<'a>>
-    ensures { result ≡ spec.two register_of target_of (declared.BranchOnSignAndLink op) operands.now }
-{
-    let Operands::Two(a, b) = operands else {
-        return None;
-    };
-    Some(Draft::BranchOnSignAndLink(op, register(a)?, target_of(b)?))
-}
-
-fn jump<'a>(op: JumpOp, operands: &Operands<'a>) -> Option<Draft<'a>>
-    ensures { result ≡ spec.one target_of (declared.Jump op) operands.now }
-{
-    let Operands::One(a) = operands else {
-        return None;
-    };
-    Some(Draft::Jump(op, target_of(a)?))
-}
-
-fn branch_on_equality<'a>(op: EqualityOp, operands: &Operands<'a>) -> Option<Draft<'a>>
-    ensures { result ≡ spec.three register_of register_of target_of (declared.BranchOnEquality op) operands.now }
-{
-    let Operands::Three(a, b, c) = operands else {
-        return None;
-    };
-    Some(Draft::BranchOnEquality(op, register(a)?, register(b)?, target_of(c)?))
-}
-
-fn branch_on_zero<'a>(op: ZeroComparisonOp, operands: &Operands<'a>) -> Option<Draft<'a>>
-    ensures { result ≡ spec.two register_of target_of (declared.BranchOnZero op) operands.now }
-{
-    let Operands::Two(a, b) = operands else {
-        return None;
-    };
-    Some(Draft::BranchOnZero(op, register(a)?, target_of(b)?))
-}
-
-fn immediate_arithmetic<'a>(op: ImmediateOp, operands: &Operands<'a>) -> Option<Draft<'a>>
-    ensures { result ≡ spec.three register_of register_of number_of (declared.ImmediateArithmetic op) operands.now }
-{
-    let Operands::Three(a, b, c) = operands else {
-        return None;
-    };
-    Some(Draft::ImmediateArithmetic(op, register(a)?, register(b)?, number(c)?))
-}
-
-fn load_upper_immediate<'a>(operands: &Operands<'a>) -> Option<Draft<'a>>
-    ensures { result ≡ spec.two register_of number_of declared.LoadUpperImmediate operands.now }
-{
-    let Operands::Two(a, b) = operands else {
-        return None;
-    };
-    Some(Draft::LoadUpperImmediate(register(a)?, number(b)?))
-}
-
-fn memory<'a>(op: MemoryOp, operands: &Operands<'a>) -> Option<Draft<'a>>
-    ensures { result ≡ spec.based register_of number_of register_of (declared.Memory op) operands.now }
-{
-    let Operands::Based(a, b, c) = operands else {
-        return None;
-    };
-    Some(Draft::Memory(op, register(a)?, number(b)?, register(c)?))
-}
-
-fn syscall<'a>(operands: &Operands<'a>) -> Option<Draft<'a>>
-    ensures { result ≡ spec.no_operands declared.Syscall operands.now }
-{
-    match operands {
-        Operands::Nothing => Some(Draft::Syscall),
+    match (register(a), register(b)) {
+        (Some(a), Some(b)) => Some((a, b)),
         _ => None,
     }
 }
 
-fn no_operation<'a>(operands: &Operands<'a>) -> Option<Draft<'a>>
-    ensures { result ≡ spec.no_operands spec.nop operands.now }
+// A register and a number.
+fn register_and_number(operands: &Operands<'_>) -> Option<(Register, Number)>
+    ensures { result ≡ spec.two register_of number_of spec.pair operands.now }
+{
+    let Operands::Two(a, b) = operands else {
+        return None;
+    };
+    match (register(a), number(b)) {
+        (Some(a), Some(b)) => Some((a, b)),
+        _ => None,
+    }
+}
+
+// A register and a target.
+fn register_and_target<'a>(operands: &Operands<'a>) -> Option<(Register, Target<'a>)>
+    ensures { result ≡ spec.two register_of target_of spec.pair operands.now }
+{
+    let Operands::Two(a, b) = operands else {
+        return None;
+    };
+    match (register(a), target_of(b)) {
+        (Some(a), Some(b)) => Some((a, b)),
+        _ => None,
+    }
+}
+
+// Three registers.
+fn three_registers(operands: &Operands<'_>) -> Option<(Register, Register, Register)>
+    ensures { result ≡ spec.three register_of register_of register_of spec.triple operands.now }
+{
+    let Operands::Three(a, b, c) = operands else {
+        return None;
+    };
+    match (register(a), register(b), register(c)) {
+        (Some(a), Some(b), Some(c)) => Some((a, b, c)),
+        _ => None,
+    }
+}
+
+// Two registers and a number.
+fn two_registers_and_number(operands: &Operands<'_>) -> Option<(Register, Register, Number)>
+    ensures { result ≡ spec.three register_of register_of number_of spec.triple operands.now }
+{
+    let Operands::Three(a, b, c) = operands else {
+        return None;
+    };
+    match (register(a), register(b), number(c)) {
+        (Some(a), Some(b), Some(c)) => Some((a, b, c)),
+        _ => None,
+    }
+}
+
+// Two registers and a target.
+fn two_registers_and_target<'a>(operands: &Operands<'a>) -> Option<(Register, Register, Target<'a>)>
+    ensures { result ≡ spec.three register_of register_of target_of spec.triple operands.now }
+{
+    let Operands::Three(a, b, c) = operands else {
+        return None;
+    };
+    match (register(a), register(b), target_of(c)) {
+        (Some(a), Some(b), Some(c)) => Some((a, b, c)),
+        _ => None,
+    }
+}
+
+// A register, and a number with a register in parentheses.
+fn memory_operands(operands: &Operands<'_>) -> Option<(Register, Number, Register)>
+    ensures { result ≡ spec.based register_of number_of register_of spec.triple operands.now }
+{
+    let Operands::Based(a, b, c) = operands else {
+        return None;
+    };
+    match (register(a), number(b), register(c)) {
+        (Some(a), Some(b), Some(c)) => Some((a, b, c)),
+        _ => None,
+    }
+}
+
+// `sll $0,$0,0`.
+fn no_operation<'a>() -> Draft<'a>
+    ensures { result ≡ spec.nop }
 {
     let zero = Number {
         negative: false,
         magnitude: Some(0),
     };
-    match operands {
-        Operands::Nothing => {
-            Some(Draft::Shift(ShiftOp::Sll, Register::ZERO, Register::ZERO, zero))
-        }
-        _ => None,
-    }
+    Draft::Shift(ShiftOp::Sll, Register::ZERO, Register::ZERO, zero)
+}
+
+// Whether no operands stand there.
+fn is_nothing(operands: &Operands<'_>) -> bool
+    ensures { result ≡ spec.is_nothing operands.now }
+{
+    matches!(operands, Operands::Nothing)
 }
 
 /// The instruction of an operation with these operands, or None where they are not those of its form. `nop` is
@@ -252,24 +214,61 @@ pub fn drafted<'a>(operation: Operation, operands: &Operands<'a>) -> Option<Draf
     ensures { result ≡ spec.drafted operation operands.now }
 {
     match operation {
-        Operation::Arithmetic(op) => arithmetic(op, operands),
-        Operation::Shift(op) => shift(op, operands),
-        Operation::ShiftVariable(op) => shift_variable(op, operands),
-        Operation::JumpRegister => jump_register(operands),
-        Operation::JumpAndLinkRegister => jump_and_link_register(operands),
-        Operation::Syscall => syscall(operands),
-        Operation::Break => breakpoint(operands),
-        Operation::MoveFrom(op) => move_from(op, operands),
-        Operation::MoveTo(op) => move_to(op, operands),
-        Operation::MultiplyDivide(op) => multiply_divide(op, operands),
-        Operation::BranchOnSign(op) => branch_on_sign(op, operands),
-        Operation::BranchOnSignAndLink(op) => branch_on_sign_and_link(op, operands),
-        Operation::Jump(op) => jump(op, operands),
-        Operation::BranchOnEquality(op) => branch_on_equality(op, operands),
-        Operation::BranchOnZero(op) => branch_on_zero(op, operands),
-        Operation::ImmediateArithmetic(op) => immediate_arithmetic(op, operands),
-        Operation::LoadUpperImmediate => load_upper_immediate(operands),
-        Operation::Memory(op) => memory(op, operands),
-        Operation::NoOperation => no_operation(operands),
+        Operation::Arithmetic(op) => {
+            let (rd, rs, rt) = three_registers(operands)?;
+            Some(Draft::Arithmetic(op, rd, rs, rt))
+        }
+        Operation::Shift(op) => {
+            let (rd, rt, shamt) = two_registers_and_number(operands)?;
+            Some(Draft::Shift(op, rd, rt, shamt))
+        }
+        Operation::ShiftVariable(op) => {
+            let (rd, rt, rs) = three_registers(operands)?;
+            Some(Draft::ShiftVariable(op, rd, rt, rs))
+        }
+        Operation::JumpRegister => Some(Draft::JumpRegister(one_register(operands)?)),
+        Operation::JumpAndLinkRegister => {
+            let (rd, rs) = two_registers(operands)?;
+            Some(Draft::JumpAndLinkRegister(rd, rs))
+        }
+        Operation::Syscall if is_nothing(operands) => Some(Draft::Syscall),
+        Operation::Break => Some(Draft::Break(one_number(operands)?)),
+        Operation::MoveFrom(op) => Some(Draft::MoveFrom(op, one_register(operands)?)),
+        Operation::MoveTo(op) => Some(Draft::MoveTo(op, one_register(operands)?)),
+        Operation::MultiplyDivide(op) => {
+            let (rs, rt) = two_registers(operands)?;
+            Some(Draft::MultiplyDivide(op, rs, rt))
+        }
+        Operation::BranchOnSign(op) => {
+            let (rs, offset) = register_and_target(operands)?;
+            Some(Draft::BranchOnSign(op, rs, offset))
+        }
+        Operation::BranchOnSignAndLink(op) => {
+            let (rs, offset) = register_and_target(operands)?;
+            Some(Draft::BranchOnSignAndLink(op, rs, offset))
+        }
+        Operation::Jump(op) => Some(Draft::Jump(op, one_target(operands)?)),
+        Operation::BranchOnEquality(op) => {
+            let (rs, rt, offset) = two_registers_and_target(operands)?;
+            Some(Draft::BranchOnEquality(op, rs, rt, offset))
+        }
+        Operation::BranchOnZero(op) => {
+            let (rs, offset) = register_and_target(operands)?;
+            Some(Draft::BranchOnZero(op, rs, offset))
+        }
+        Operation::ImmediateArithmetic(op) => {
+            let (rt, rs, immediate) = two_registers_and_number(operands)?;
+            Some(Draft::ImmediateArithmetic(op, rt, rs, immediate))
+        }
+        Operation::LoadUpperImmediate => {
+            let (rt, immediate) = register_and_number(operands)?;
+            Some(Draft::LoadUpperImmediate(rt, immediate))
+        }
+        Operation::Memory(op) => {
+            let (rt, offset, rs) = memory_operands(operands)?;
+            Some(Draft::Memory(op, rt, offset, rs))
+        }
+        Operation::NoOperation if is_nothing(operands) => Some(no_operation()),
+        Operation::Syscall | Operation::NoOperation => None,
     }
 }

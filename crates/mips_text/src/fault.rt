@@ -4,23 +4,18 @@ ghost use Rattle.std.specs.Prelude.{◌≡◌, ◌≤◌};
 ghost use Rattle.mips_text.specs.Faults as spec;
 
 use std::alloc::{AllocError, AllocFailed};
-use thiserror::Error;
 
 /// What is wrong in a line, numbered from 1 in this order.
-#[derive(Clone, Copy, Debug, Error)]
+#[derive(Clone, Copy)]
 pub enum AsmFaultKind {
     /// The line has another form, it is a second `.entry`, or it is the first line of a text without a word.
-    #[error("a line has a wrong form")]
     BadLine,
     /// A value is outside its field, a register is one that the instruction excludes, a limit of images is passed, or an
     /// entry or a function stands at no word of the text.
-    #[error("a number does not fit")]
     BadNumber,
     /// No line has the label.
-    #[error("no line has the label")]
     UnknownLabel,
     /// An earlier line has the label.
-    #[error("an earlier line has the label")]
     DoubleLabel,
 }
 
@@ -52,8 +47,7 @@ impl AsmFaultKind {
 }
 
 /// The first fault of a text.
-#[derive(Clone, Copy, Debug, Error)]
-#[error("line {line}: {kind}")]
+#[derive(Clone, Copy)]
 pub struct AsmFault {
     /// What is wrong.
     pub kind: AsmFaultKind,
@@ -62,13 +56,11 @@ pub struct AsmFault {
 }
 
 /// Why `assemble` gives no image.
-#[derive(Clone, Copy, Debug, Error)]
+#[derive(Clone, Copy)]
 pub enum AsmDeny {
     /// The text is no image: its first fault.
-    #[error("{0}")]
     Refused(AsmFault),
     /// Memory was not found.
-    #[error("memory was not found")]
     NoMemory,
 }
 
