@@ -164,7 +164,7 @@ impl<'a> Layers<'a> {
 
 /// Whether the layers are the same: by their codes as far as both have any, and the others one by one.
 #[tactic(auto, using(crate::proofs::SameLaws::other_layers))]
-pub(crate) fn same_shared(a: &Layers<'_>, b: &Layers<'_>) -> bool
+pub fn same_shared(a: &Layers<'_>, b: &Layers<'_>) -> bool
     ensures { result ≡ types.same_layers a.now b.now }
 {
     if a.len() != b.len() {

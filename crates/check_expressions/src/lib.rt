@@ -2,16 +2,11 @@
 #![tactic(auto)]
 
 mod calls;
-mod entries;
+mod leaves;
 mod nodes;
-mod staged;
+mod pairs;
 
 pub use calls::{argument, call_node, library_of};
-pub use entries::{dollar_entry, staging_entry, tick_entry, unary_entry};
-pub use nodes::{
-    assign_node, binary_node, cast_node, choice_node, comma_node, index_node, modify_node,
-    post_node, string_node, unary_node,
-};
-pub use staged::{
-    compile_node, parameter_node, tick_around, tick_block, tick_entered, tick_expression,
-};
+pub use leaves::{character_leaf, number_leaf, string_leaf};
+pub use nodes::{choice_node, post_node, unary_node};
+pub use pairs::{Pair, pair_node};

@@ -123,15 +123,6 @@ pub fn choice_node(
     check_operators::choice(alloc, line, test, p.0, p.1)
 }
 
-/// `(T) o`, as `check_operands::cast`.
-#[tactic(auto, unfolding(check_rules::specs::Productions::cast_node))]
-pub fn cast_node(alloc: Global, line: u32, t: TypeRef, o: Operand) -> Result<Operand, Deny>
-    ensures { Checks result (spec.cast_node line t o) }
-{
-    let v = value_of(alloc, o)?;
-    check_operands::cast(alloc, line, t, v)
-}
-
 /// `o++` and `o--`, as `check_operators::post`.
 #[tactic(auto, unfolding(check_rules::specs::Productions::post_node))]
 pub fn post_node(alloc: Global, line: u32, op: StepOp, o: Operand) -> Result<Operand, Deny>

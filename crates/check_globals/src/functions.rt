@@ -9,7 +9,7 @@ ghost use Rattle.check_tables.specs.Walks.{Reads};
 use crate::names::{Before, declare, known_before, name_of};
 use c_types::{CType, Layer, TypeRef, copy_ctype};
 use check_forms::declared_name;
-use check_names::{add_function, define, next_number};
+use check_functions::{add_function, define, next_number};
 use check_rules::State;
 use check_scopes::MeaningKind;
 use check_types::inner;
@@ -59,7 +59,7 @@ fn parameter(alloc: Global, state: &mut State, p: &Parameter, t: &CType) -> Resu
     let t = TypeRef::share(alloc, copy_ctype(alloc, t)?)?;
     match declared_name(&p.declarator) {
         None => Ok(state.frame.parameter(&t)?),
-        Some((_, name)) => check_names::parameter(alloc, state, p.line, name.as_slice(), t),
+        Some((_, name)) => check_functions::parameter(alloc, state, p.line, name.as_slice(), t),
     }
 }
 

@@ -8,10 +8,11 @@ ghost use Rattle.check_rules.specs.Names as names;
 ghost use Rattle.check_rules.specs.Declarations.{name_by};
 ghost use Rattle.check_tables.specs.Walks.{Reads};
 
-use c_types::{TypeRef, limited_size, same};
+use c_conversions::same;
+use c_types::{TypeRef, limited_size};
 use check_declarators::Step;
 use check_forms::declared_name;
-use check_names::{earlier_number, is_defined, note_prototype};
+use check_functions::{earlier_number, is_defined, note_prototype};
 use check_rules::State;
 use check_scopes::{Meaning, MeaningKind};
 use sqlite_items::Items;

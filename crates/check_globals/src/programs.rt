@@ -7,7 +7,7 @@ ghost use Rattle.check_tables.specs.Images as images;
 ghost use Rattle.tick_tree.specs.Faults.{Checks};
 
 use c_types::{Base, Integer, Layer, TypeRef};
-use check_names::{is_defined, undefined};
+use check_functions::{is_defined, undefined};
 use check_rules::State;
 use check_scopes::MeaningKind;
 use check_tables::Image;

@@ -5,7 +5,8 @@ ghost use Rattle.tick_tree.specs.Faults.{Checks};
 ghost use Rattle.check_operands.specs.Operands as spec;
 ghost use Rattle.check_operands.specs.Places as places;
 
-use c_types::{Integer, Layer, TypeRef, converts};
+use c_conversions::converts;
+use c_types::{Integer, Layer, TypeRef};
 use check_declarators::decayed;
 use check_types::{
     conversion, decays, inner, integer, integer_of, is_integer, is_pointer, is_scalar, is_void,

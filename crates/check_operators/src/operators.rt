@@ -8,7 +8,8 @@ ghost use Rattle.tick_tree.specs.Faults.{Checks};
 ghost use Rattle.check_operands.specs.Operators as spec;
 ghost use Rattle.check_types.specs.Shapes as shapes;
 
-use c_types::{Integer, TypeRef, common, converts, pointed_size, promoted, same};
+use c_conversions::{common, converts, same};
+use c_types::{Integer, TypeRef, pointed_size, promoted};
 use check_operands::{
     Combined, Joined, Operand, Value, at_address, made, test_breaks, unless_kind,
 };

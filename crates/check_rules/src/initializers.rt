@@ -5,7 +5,8 @@ ghost use Rattle.check_declarators.specs.Making as making;
 ghost use Rattle.check_forms.specs.Forms as forms;
 ghost use Rattle.check_rules.specs.Initializers as spec;
 
-use c_types::{Layer, TypeRef, converts, limited_size};
+use c_conversions::converts;
+use c_types::{Layer, TypeRef, limited_size};
 use check_forms::string_of;
 use check_operands::Value;
 use check_types::is_void;

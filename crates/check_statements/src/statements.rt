@@ -4,6 +4,7 @@ ghost use Rattle.std.specs.Prelude.{◌≡◌, IfOk};
 ghost use Rattle.tick_tree.specs.Faults.{Checks};
 ghost use Rattle.check_tables.specs.Walks.{Reads};
 ghost use Rattle.check_rules.specs.Statements as spec;
+ghost use Rattle.check_rules.specs.StatementRules as rules;
 
 use check_operands::{Operand, effect, value_of};
 use check_rules::{Around, Stage, State};
@@ -62,6 +63,13 @@ fn checked(alloc: Global, node: Stmt) -> Result<Items<Stmt>, Deny>
     ensures { Checks result (Ok (spec.one node)) }
 {
     Ok(one(alloc, node)?)
+}
+
+/// `;` alone.
+pub fn empty_node(alloc: Global) -> Result<Items<Stmt>, Deny>
+    ensures { Checks result (Ok rules.empty) }
+{
+    checked(alloc, Stmt::Block(Items::new(alloc), Items::new(alloc)))
 }
 
 /// An expression as a statement.

@@ -2,20 +2,18 @@
 
 ghost use Rattle.std.specs.Prelude.{◌≡◌, None, map};
 ghost use Rattle.check_tables.specs.Walks.{Reads};
-ghost use Rattle.check_types.specs.Shapes.{inner};
 ghost use Rattle.check_rules.specs.Walk as spec;
 
 use crate::expressions::expression;
-use crate::lists::appended;
 use crate::types::declarator;
 use c_types::TypeRef;
+use check_declarations::{
+    declare, declared_in, element, entered, from_list, from_value, inner_of, with_list, with_value,
+};
 use check_declarators::{Step, base_of};
 use check_operands::Operand;
 use check_rules::{Stage, State, has_size, is_array, is_string};
-use check_statements::{
-    declare, declared_in, element, entered, from_list, from_value, with_list, with_value,
-};
-use check_types::inner;
+use check_statements::appended;
 use sqlite_items::Items;
 use std::alloc::Global;
 use tick_tree::{Base, Declarator, Deny, Expr, FaultKind, Init, Initializer};
@@ -50,19 +48,6 @@ fn elements(
         broken = element(alloc, o, t, broken)?;
     }
     Ok(broken)
-}
-
-// The type of the elements of a place.
-fn inner_of(place: Operand) -> TypeRef
-    ensures { result ≡ inner place.ctype }
-{
-    let Operand {
-        place: at,
-        ctype,
-        zero: _,
-    } = place;
-    drop(at);
-    inner(ctype)
 }
 
 #[cycle(walk)]

@@ -8,19 +8,19 @@ ghost use Rattle.check_tables.specs.Walks.{Reads};
 ghost use Rattle.check_walk.specs.Kinds as kinds;
 ghost use Rattle.check_rules.specs.Walk as spec;
 
-use crate::kinds::{
-    Naming, Pair, Typing, character_leaf, naming_entry, naming_node, number_leaf, pair_node,
-    string_leaf, typing_entry, typing_node,
-};
 use crate::statements::block;
 use crate::types::typename;
 use c_types::TypeRef;
 use check_expressions::{
-    argument, call_node, choice_node, compile_node, library_of, post_node, staging_entry,
-    tick_around, tick_entered, tick_entry, unary_entry, unary_node,
+    Pair, argument, call_node, character_leaf, choice_node, library_of, number_leaf, pair_node,
+    post_node, string_leaf, unary_node,
 };
 use check_operands::{Arguments, Operand};
 use check_rules::{Stage, State};
+use check_staging::{
+    Naming, Typing, compile_node, naming_entry, naming_node, staging_entry, tick_around,
+    tick_entered, tick_entry, typing_entry, typing_node, unary_entry,
+};
 use std::alloc::Global;
 use tick_tree::{Deny, Expr, OptionalExpr, StepOp, Stmt, Typename, UnaryOp};
 
@@ -106,7 +106,7 @@ fn tick_expression(
     tick_entry(line, stage)?;
     tick_entered(alloc, state);
     let o = expression(alloc, state, Stage::Tick, a)?;
-    Ok(check_expressions::tick_expression(alloc, state, o)?)
+    Ok(check_staging::tick_expression(alloc, state, o)?)
 }
 
 #[cycle(walk)]
@@ -122,7 +122,7 @@ fn tick_block(
     tick_entry(line, stage)?;
     tick_entered(alloc, state);
     let body = block(alloc, state, tick_around(), items)?;
-    Ok(check_expressions::tick_block(alloc, state, body)?)
+    Ok(check_staging::tick_block(alloc, state, body)?)
 }
 
 #[cycle(walk)]

@@ -5,8 +5,6 @@
 
 mod declarations;
 mod expressions;
-mod kinds;
-mod lists;
 mod statements;
 mod types;
 

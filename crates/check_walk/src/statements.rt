@@ -1,7 +1,6 @@
 //! The walk over statements.
 
 ghost use Rattle.std.specs.Prelude.{◌≡◌, Ok, map};
-ghost use Rattle.tick_tree.specs.Faults.{Checks};
 ghost use Rattle.check_rules.specs.StatementRules as statements;
 ghost use Rattle.check_tables.specs.Walks.{Reads};
 ghost use Rattle.check_walk.specs.Kinds as kinds;
@@ -9,15 +8,13 @@ ghost use Rattle.check_rules.specs.Walk as spec;
 
 use crate::declarations::locals;
 use crate::expressions::{expression, optional};
-use crate::kinds::{Tested, tested_around, tested_node};
-use crate::lists::{appended, pushed, with_effect};
 use check_forms::has_form;
 use check_operands::Operand;
 use check_rules::{Around, State};
 use check_statements::{
-    alone, body, break_entry, case_entry, case_node, continue_entry, default_node, do_node,
-    for_node, if_else_node, inside, looped, one, return_node, switch_entered, switch_node,
-    switched,
+    Tested, alone, appended, body, break_entry, case_entry, case_node, continue_entry,
+    default_node, do_node, empty_node, for_node, if_else_node, inside, looped, one, pushed,
+    return_node, switch_entered, switch_node, switched, tested_around, tested_node, with_effect,
 };
 use sqlite_items::{Boxed, Items};
 use std::alloc::Global;
@@ -418,12 +415,6 @@ fn returned(
     }
 }
 
-fn empty(alloc: Global) -> Result<Items<Stmt>, Deny>
-    ensures { Checks result (Ok statements.empty) }
-{
-    Ok(one(alloc, Stmt::Block(Items::new(alloc), Items::new(alloc)))?)
-}
-
 /// The nodes of a statement, one but for a declaration, or the first fault.
 #[cycle(walk)]
 #[tactic(auto, using(check_laws::proofs::Equations::statements))]
@@ -436,7 +427,7 @@ pub fn statement(
     ensures { Reads ((spec.item s.now).walk around state.old) result state.new }
 {
     match s {
-        syntax::Stmt::Empty => empty(alloc),
+        syntax::Stmt::Empty => empty_node(alloc),
         syntax::Stmt::Expr(e) => {
             let o = expression(alloc, state, around.stage, e)?;
             Ok(alone(alloc, o)?)

@@ -6,12 +6,11 @@ ghost use Rattle.check_tables.specs.Walks.{Reads};
 ghost use Rattle.check_rules.specs.Walk as spec;
 
 use crate::expressions::expression;
-use crate::lists::{with_step, with_type};
 use c_types::{CType, TypeRef};
+use check_declarations::{declare_parameter, length_of, with_step, with_type};
 use check_declarators::{Length, Role, Step, base_of, declared_type, push_prefixes};
 use check_forms::has_form;
 use check_rules::{Stage, State};
-use check_statements::{declare_parameter, length_of};
 use sqlite_items::Items;
 use std::alloc::Global;
 use tick_tree::{Core, Declarator, Deny, OptionalExpr, Parameter, Suffix, Typename};

@@ -3,7 +3,6 @@
 #![tactic(auto)]
 
 mod checker;
-mod parameters;
 mod program;
 mod walks;
 

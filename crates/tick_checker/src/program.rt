@@ -8,16 +8,15 @@ ghost use Rattle.check_globals.specs.Parameters as heads;
 ghost use Rattle.check_globals.specs.Program as spec;
 ghost use Rattle.check_rules.specs.Walk as walks;
 
-use crate::parameters::parameters_of;
 use c_types::TypeRef;
+use check_declarations::is_text;
 use check_declarators::{Role, base_of, declared_type};
 use check_forms::string_of;
 use check_globals::{
-    Row, end, name_function, named_steps, prototype, static_list, static_text, static_value,
-    variable,
+    Row, end, name_function, named_steps, parameters_of, prototype, static_list, static_text,
+    static_value, variable,
 };
 use check_rules::{Around, Stage, State};
-use check_statements::is_text;
 use check_types::{inner, is_function};
 use check_walk::{declarator, expression, items, with_start};
 use sqlite_items::{Boxed, Items};

@@ -6,41 +6,19 @@ ghost use Rattle.check_rules.specs.declared.state.State.{State as Known};
 ghost use Rattle.check_rules.specs.Starts.{start};
 ghost use Rattle.check_globals.specs.Program as spec;
 ghost use Rattle.tick_tree.specs.Faults.{Checks};
-ghost use Rattle.walk_again.specs.Laws as laws;
 
 use crate::program::walk;
 use check_globals::finished;
 use check_rules::State;
-use sqlite_items::Items;
 use std::alloc::Global;
 use tick_tree::{Deny, External, Tree};
 use typed_tree::TypedParts;
-
-fn is_marked(marks: &Items<bool>) -> bool
-    ensures { result ≡ laws.is_marked marks.now }
-{
-    marks.as_slice().iter().any(|mark| *mark)
-}
-
-fn any_marked(done: &[Items<bool>]) -> bool
-    ensures { result ≡ laws.any_marked done.now }
-{
-    done.iter().any(|marks| is_marked(marks))
-}
-
-// Whether a walk marked no variable, and met no string and no prototype.
-fn is_settled(state: &State) -> bool
-    ensures { result ≡ laws.is_settled state.now }
-{
-    state.image.strings.as_slice().is_empty()
-        && state.functions.prototypes.as_slice().is_empty()
-        && !any_marked(state.frame.done.as_slice())
-}
+use walk_again::is_settled;
 
 fn again(alloc: Global, state: State, list: &[External]) -> Result<TypedParts, Deny>
     ensures { Checks result (spec.walk_again list.now state) }
 {
-    let mut state = check_names::start_again(alloc, state)?;
+    let mut state = check_functions::start_again(alloc, state)?;
     match walk(alloc, &mut state, list) {
         Ok(()) => finished(alloc, state),
         Err(why) => {
@@ -68,7 +46,7 @@ fn after_first(alloc: Global, state: State, list: &[External]) -> Result<TypedPa
 pub fn check_parts(alloc: Global, tree: &Tree) -> Result<TypedParts, Deny>
     ensures { Checks result (spec.checked tree.now) }
 {
-    let mut state = check_names::start(alloc)?;
+    let mut state = check_functions::start(alloc)?;
     match walk(alloc, &mut state, tree.items()) {
         Ok(()) => after_first(alloc, state, tree.items()),
         Err(why) => {

@@ -1,9 +1,7 @@
 //! Types and their layers.
 
-use c_types::{
-    Base, CType, Integer, Layer, TypeRef, common, converts, converts_to, copy, limited_size,
-    pointed_size, promoted, same,
-};
+use c_conversions::{common, converts, converts_to, same};
+use c_types::{Base, CType, Integer, Layer, TypeRef, copy, limited_size, pointed_size, promoted};
 use sqlite_items::Items;
 use std::alloc::{AllocError, Global};
 

@@ -1,6 +1,7 @@
 //! Tests of the rules on declared types.
 
-use c_types::{Base, CType, Integer, Layer, TypeRef, same, same_ctypes};
+use c_conversions::same;
+use c_types::{Base, CType, Integer, Layer, TypeRef, same_ctypes};
 use check_declarators::{
     Length, Role, Step, base_of, decayed, declared_type, fill_length, push_prefixes,
 };

@@ -2,7 +2,7 @@
 
 use crate::nodes::word;
 use c_types::{Integer, Layer, TypeRef};
-use check_names::{
+use check_functions::{
     define, earlier_number, functions_again, no_functions, note_prototype, undefined,
 };
 use check_rules::Functions;

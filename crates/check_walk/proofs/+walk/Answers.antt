@@ -1,3 +1,9 @@
+use Rattle.check_laws.proofs.Equations
+use Rattle.check_laws.proofs.Written
+use Rattle.check_walk.proofs.Behind
+use Rattle.std.proofs.Common.{arith}
+use Rattle.std.proofs.lemmas.Grind.{common_steps}
+use borrow.Author.Rules.{get_or_read}
 -- What the goals of the walk need, step by step as the code takes them. For the goals that have no line here a tactic
 -- finds it.
 use Rattle.std.proofs.Common.{ap, map, refl, sym, ◌∙◌}
@@ -385,7 +391,7 @@ statements::item_behind-returns-in-Err-statement t c =
 
 pub statements::statement-returns-in-Empty : goal.statements::statement-returns-in-Empty
 statements::statement-returns-in-Empty t c =
-    item_as _ _ _ _ _ _ _ (c.in-Empty.is) (item_empty _ _) (lifted _ _ _ c.empty.ensures)
+    item_as _ _ _ _ _ _ _ (c.in-Empty.is) (item_empty _ _) (lifted _ _ _ c.empty_node.ensures)
 
 pub statements::statement-returns-in-Local : goal.statements::statement-returns-in-Local
 statements::statement-returns-in-Local t c =
@@ -530,3 +536,54 @@ pub types::typename-returns-in_err-steps : goal.types::typename-returns-in_err-s
 types::typename-returns-in_err-steps t c =
     broken _ _ _ _ c.from_residual.ensures.1 (fails_as _ _ _ _ (named_walk _ _ _ _) (stops _ _ _ _
     c.in_err-steps.ensures))
+
+pub declarations::begin-returns-in-Absent : goal.declarations::begin-returns-in-Absent
+declarations::begin-returns-in-Absent t c = grind (arith, Equations.initializers, Written.forms_of)
+
+pub declarations::begin-returns-in-List : goal.declarations::begin-returns-in-List
+declarations::begin-returns-in-List t c = grind (arith, Equations.initializers, Written.forms_of)
+
+pub declarations::elements-returns : goal.declarations::elements-returns
+declarations::elements-returns t c = grind (arith, common_steps)
+
+pub declarations::locals-returns : goal.declarations::locals-returns
+declarations::locals-returns t c = grind (arith, common_steps)
+
+pub expressions::arguments-returns : goal.expressions::arguments-returns
+expressions::arguments-returns t c = grind (arith, common_steps)
+
+pub expressions::optional-returns-in-Absent : goal.expressions::optional-returns-in-Absent
+expressions::optional-returns-in-Absent t c = grind (arith, Equations.optionals)
+
+pub statements::body_of-returns-in-Block : goal.statements::body_of-returns-in-Block
+statements::body_of-returns-in-Block t c = grind (arith, Behind.body_block)
+
+pub types::core-returns-in-Paren : goal.types::core-returns-in-Paren
+types::core-returns-in-Paren t c = grind (arith, Equations.cores, get_or_read)
+
+pub types::core-returns-in-Absent : goal.types::core-returns-in-Absent
+types::core-returns-in-Absent t c = grind (arith, Equations.cores)
+
+pub types::each_parameter-returns : goal.types::each_parameter-returns
+types::each_parameter-returns t c = grind (arith, common_steps)
+
+pub types::length-returns-in-Absent : goal.types::length-returns-in-Absent
+types::length-returns-in-Absent t c = grind (arith, Equations.optionals, Written.forms_of)
+
+pub types::suffix-returns-in-Array : goal.types::suffix-returns-in-Array
+types::suffix-returns-in-Array t c = grind (arith, Equations.suffixes)
+
+pub types::suffix-returns-in-Unlisted : goal.types::suffix-returns-in-Unlisted
+types::suffix-returns-in-Unlisted t c = grind (arith, Equations.suffixes)
+
+pub types::suffix-returns-in-Nothing : goal.types::suffix-returns-in-Nothing
+types::suffix-returns-in-Nothing t c = grind (arith, Equations.suffixes)
+
+pub types::suffix-returns-in-Listed : goal.types::suffix-returns-in-Listed
+types::suffix-returns-in-Listed t c = grind (arith, Equations.suffixes)
+
+pub types::suffixes-returns : goal.types::suffixes-returns
+types::suffixes-returns t c = grind (arith, common_steps)
+
+pub statements::items-returns : goal.statements::items-returns
+statements::items-returns t c = grind (arith, common_steps)

@@ -1,3 +1,5 @@
+use Rattle.std.proofs.Common.{arith}
+use Rattle.std.proofs.lemmas.Grind.{common_steps}
 use Rattle.std.proofs.Common.{◌++◌, map, ap, ◌∙◌}
 use Rattle.c_types.specs.declared.ctype.Layer.{out-Layer}
 use Rattle.c_types.specs.declared.ctype.Layer.TheVariants as layer
@@ -37,3 +39,9 @@ pub write_layer-returns-in_ok-write_array-in-Array : goal.write_layer-returns-in
 write_layer-returns-in_ok-write_array-in-Array t c =
     of_layer c.args.layer.now (Layer-F.Array c.in-Array.count) c.args.code.now c.write_array.new.code
     (ap out-Layer c.in-Array.is ∙ layer.outs-Array c.in-Array.count) c.in_ok-write_array-in-Array.ensures
+
+pub write_function-returns-in-empty : goal.write_function-returns-in-empty
+write_function-returns-in-empty t c = grind (arith, common_steps)
+
+pub write_layers-returns : goal.write_layers-returns
+write_layers-returns t c = grind (arith, common_steps)

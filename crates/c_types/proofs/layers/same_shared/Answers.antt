@@ -1,3 +1,5 @@
+use Rattle.c_types.proofs.SameLaws
+use Rattle.std.proofs.Common.{arith}
 use Rattle.std.proofs.Common.{◌≡◌, ◌&&◌, ◌+◌, false, length, drop, ap, sym, ◌∙◌, arith}
 use Rattle.c_types.specs.Types.{same_layers}
 use Rattle.c_types.proofs.Coded.{enough}
@@ -60,3 +62,6 @@ returns c =
     c.b.inside.lists.now c.min-both.result c.a.invariant c.b.invariant c.a.view_is c.b.view_is c.min-both.ensures
     c.first.result c.first-2.result c.first.ensures c.first-2.ensures long
     (sym c.same_as.ensures ∙ c.if-not-same_as.false)
+
+pub returns-then-len : goal.returns-then-len
+returns-then-len c = grind (arith, SameLaws.other_layers)

@@ -1,3 +1,5 @@
+use Rattle.std.proofs.Common.{arith}
+use Rattle.std.proofs.lemmas.Grind.{common_steps}
 use Rattle.std.proofs.Common.{ap, ◌∙◌, arith}
 use Rattle.c_types.specs.Types.{under}
 use Rattle.c_types.proofs.ExtentLaws.{under_more}
@@ -19,3 +21,6 @@ invariant_of-result-2 c =
     rw c.first.ensures (cut_lent c.self.inside.row.now c.self.inside.code c.self.inside.ends.now
     c.self.inside.lists.now c.saturating_sub-below.result c.min-coded.result c.min.result c.self.invariant
     (omega (arith, c.saturating_sub-below.ensures)) c.min-coded.ensures c.min.ensures)
+
+pub returns : goal.returns
+returns c = grind (arith, common_steps)

@@ -1,3 +1,5 @@
+use Rattle.std.proofs.Common.{arith}
+use Rattle.std.proofs.lemmas.Grind.{common_steps}
 use Rattle.std.proofs.Common.{take, length, ◌-◌, ◌≡◌, ap, ◌∙◌, arith}
 use Rattle.c_types.specs.Types.{base_of, layers_of, under}
 use Rattle.c_types.specs.Extents.{start, after}
@@ -17,3 +19,6 @@ returns-else-on_top-eq0 c =
     ∙ joined (start t.base) below (take (length t.more - 1) t.more)
     ∙ ap (after (start t.base)) (under_more below t.more (omega (arith, long, c.if-on_top-eq0.false)))
     ∙ ap (λ t. after (start (base_of t)) (under (layers_of t))) c.self.view_is
+
+pub returns-then-on_top-eq0 : goal.returns-then-on_top-eq0
+returns-then-on_top-eq0 c = grind (arith, common_steps)

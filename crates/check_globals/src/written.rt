@@ -6,7 +6,7 @@ ghost use Rattle.check_globals.specs.Parameters as spec;
 
 use tick_tree::{Core, Declarator, Parameter, Suffix};
 
-#[tactic(auto, using(check_globals::proofs::Heads::suffixes))]
+#[tactic(auto, using(crate::proofs::Heads::suffixes))]
 fn list(suffix: &Suffix) -> &[Parameter]
     ensures { map given result.now ≡ spec.list suffix.now }
 {
@@ -27,7 +27,7 @@ fn first_of(suffixes: &[Suffix]) -> &[Parameter]
 
 /// The parameters of the function that a declarator declares: the list that stands first behind its name.
 #[cycle(listed)]
-#[tactic(auto, using(check_globals::proofs::Heads::by_core))]
+#[tactic(auto, using(crate::proofs::Heads::by_core))]
 pub fn parameters_of(d: &Declarator) -> &[Parameter]
     ensures { map given result.now ≡ spec.parameters_of d.now }
 {
@@ -35,7 +35,7 @@ pub fn parameters_of(d: &Declarator) -> &[Parameter]
 }
 
 #[cycle(listed)]
-#[tactic(auto, using(check_globals::proofs::Heads::cores))]
+#[tactic(auto, using(crate::proofs::Heads::cores))]
 fn inner<'a>(core: &'a Core, first: &'a [Parameter]) -> &'a [Parameter]
     ensures { map given result.now ≡ (spec.inner core.now).list (map given first.now) }
 {

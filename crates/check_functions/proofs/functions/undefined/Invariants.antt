@@ -1,6 +1,6 @@
 use Rattle.std.proofs.Common.{◌≡◌, drop}
 use Rattle.check_rules.specs.Functions as spec
-use Rattle.check_names.proofs.functions.undefined.Given as goal
+use Rattle.check_functions.proofs.functions.undefined.Given as goal
 
 abbrev pub invariant-loop-prototype : goal.invariant-loop-prototype
 invariant-loop-prototype l =

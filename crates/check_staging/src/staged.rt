@@ -1,4 +1,4 @@
-//! Specifications: ticks, `compile` and `param`.
+//! Ticks, `compile`, `param` and casts.
 
 ghost use Rattle.std.specs.Prelude.{◌≡◌};
 ghost use Rattle.tick_tree.specs.Faults.{Checks};
@@ -23,6 +23,15 @@ pub fn compile_node(alloc: Global, line: u32, t: TypeRef, o: Operand) -> Result<
 {
     let v = value_of(alloc, o)?;
     check_calls::compile(alloc, line, t, v)
+}
+
+/// `(T) o`, as `check_operands::cast`.
+#[tactic(auto, unfolding(check_rules::specs::Productions::cast_node))]
+pub fn cast_node(alloc: Global, line: u32, t: TypeRef, o: Operand) -> Result<Operand, Deny>
+    ensures { Checks result (spec.cast_node line t o) }
+{
+    let v = value_of(alloc, o)?;
+    check_operands::cast(alloc, line, t, v)
 }
 
 /// `param(T, o)`, as `check_calls::parameter`.

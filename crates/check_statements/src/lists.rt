@@ -1,10 +1,8 @@
 //! Lists with more behind them. A list that finds no memory is dropped.
 
 ghost use Rattle.std.specs.Prelude.{◌≡◌, [], ◌∷◌, ◌++◌, IfOk};
-ghost use Rattle.check_rules.specs.Statements as statements;
+ghost use Rattle.check_rules.specs.Statements as spec;
 
-use c_types::CType;
-use check_declarators::Step;
 use check_operands::{Operand, effect};
 use sqlite_items::{Boxed, Items};
 use std::alloc::{AllocError, Global};
@@ -30,7 +28,7 @@ pub fn appended(nodes: Items<Stmt>, found: Items<Stmt>) -> Result<Items<Stmt>, A
 
 /// The nodes, and that of an expression as a statement behind them.
 pub fn with_effect(alloc: Global, nodes: Items<Stmt>, o: Operand) -> Result<Items<Stmt>, AllocError>
-    ensures { IfOk result (λ all. all ≡ nodes ++ statements.alone o) }
+    ensures { IfOk result (λ all. all ≡ nodes ++ spec.alone o) }
 {
     let code = match effect(alloc, o) {
         Ok(code) => code,
@@ -58,34 +56,6 @@ pub fn pushed(nodes: Items<Stmt>, node: Boxed<Stmt>) -> Result<Items<Stmt>, Allo
         Ok(()) => Ok(nodes),
         Err(why) => {
             drop(nodes);
-            Err(why)
-        }
-    }
-}
-
-/// The steps, and this one behind them.
-pub fn with_step(steps: Items<Step>, step: Step) -> Result<Items<Step>, AllocError>
-    ensures { IfOk result (λ all. all ≡ steps ++ step ∷ []) }
-{
-    let mut steps = steps;
-    match steps.push(step) {
-        Ok(()) => Ok(steps),
-        Err(why) => {
-            drop(steps);
-            Err(why)
-        }
-    }
-}
-
-/// The types, and this one behind them.
-pub fn with_type(types: Items<CType>, t: CType) -> Result<Items<CType>, AllocError>
-    ensures { IfOk result (λ all. all ≡ types ++ t ∷ []) }
-{
-    let mut types = types;
-    match types.push(t) {
-        Ok(()) => Ok(types),
-        Err(why) => {
-            drop(types);
             Err(why)
         }
     }

@@ -2,11 +2,14 @@
 
 ghost use Rattle.std.specs.Prelude.{◌≡◌, IfOk};
 ghost use Rattle.tick_tree.specs.Faults.{Checks};
+ghost use Rattle.check_types.specs.Shapes.{inner};
 ghost use Rattle.check_rules.specs.Initializers as spec;
+ghost use Rattle.check_rules.specs.Statements as statements;
 
 use c_types::{Base, Integer, TypeRef};
-use check_operands::{Operand, Value, value_of};
+use check_operands::{Operand, Value, effect, value_of};
 use check_rules::{has_size, is_array, lower, value_breaks};
+use check_types::inner;
 use sqlite_items::Items;
 use std::alloc::{AllocError, Global};
 use tick_tree::{Deny, FaultKind, refused};
@@ -50,13 +53,23 @@ fn array_breaks(is_string: bool, v: &Value, t: &TypeRef) -> FaultKind
     }
 }
 
+// The one node of an initializer.
+fn evaluated(alloc: Global, set: Operand) -> Result<Items<Stmt>, AllocError>
+    ensures { IfOk result (λ nodes. nodes ≡ statements.alone set) }
+{
+    let code = effect(alloc, set)?;
+    let mut nodes = Items::new(alloc);
+    nodes.push(Stmt::Eval(code))?;
+    Ok(nodes)
+}
+
 #[tactic(auto, unfolding(check_rules::specs::Initializers::initialized))]
 fn initialized(alloc: Global, line: u32, place: Operand, o: Operand) -> Result<Items<Stmt>, Deny>
     ensures { Checks result (spec.initialized line place o) }
 {
     let v = value_of(alloc, o)?;
     let set = check_operators::assign(alloc, line, place, v)?;
-    Ok(crate::statements::alone(alloc, set)?)
+    Ok(evaluated(alloc, set)?)
 }
 
 /// The nodes of a variable's initializer by one value, which is a string or not: an assignment, refused as
@@ -116,4 +129,17 @@ pub fn from_list(
     ensures { Checks result (spec.from_list line is_row is_sized broken) }
 {
     refused(list_breaks(is_row, is_sized, broken), line)
+}
+
+/// The type of the elements of a place.
+pub fn inner_of(place: Operand) -> TypeRef
+    ensures { result ≡ inner place.ctype }
+{
+    let Operand {
+        place: at,
+        ctype,
+        zero: _,
+    } = place;
+    drop(at);
+    inner(ctype)
 }
