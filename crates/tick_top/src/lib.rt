@@ -1,21 +1,17 @@
-//! The top call: it reads the words of a command line, does what they say, and reports the outcome. Under it stands the
-//! way from the text of a program to the image that the machine runs (`build`). What all of it does is said, with laws
-//! on it, in `tick_top_spec`.
+//! The top: the checker and the evaluator under the commands on texts (`text_commands`), as the calls that programs make:
+//! a whole call by the words of a command line (`tick`), and what comes of a text, its typed tree, its image and its
+//! image file. What each does is said, with laws on it, in `text_commands`.
 #![tactic(auto)]
 
 mod accepted;
-mod commands;
-mod load;
-mod means;
-mod saved;
+mod language;
 mod top;
 
-pub use accepted::{build, typed_tree};
+pub use accepted::{build, build_file, typed_tree};
 pub use image_commands::scans_once;
-pub use saved::build_file;
-pub use tick_outcome::{Ended, Outcome, status};
-pub use tick_top_spec::{
+pub use text_commands::{
     commands_complete, lowers_one, mean_completes, mean_means, means_as_it_runs, reads_headline,
     run_completes, run_means, saves_built, saves_headline, saves_one, shows_runs, sources_complete,
 };
+pub use tick_outcome::{Ended, Outcome, status};
 pub use top::tick;

@@ -5,57 +5,15 @@ ghost use Rattle.host_edge.specs.Causes.{Rose};
 ghost use Rattle.command_words.specs.Orders.{order_of};
 ghost use Rattle.image_commands.specs.Outside.{Unwritten, outside, failures};
 ghost use Rattle.image_commands.specs.Does.{Cause};
-ghost use Rattle.tick_top_spec.specs.Rows.{RefusedRow, AsmRefusedRow, TooLongRow, BadImageRow, TrapRow};
-ghost use Rattle.tick_top_spec.specs.Rows.{MachineFaultRow, OutOfStepsRow};
-ghost use Rattle.tick_top_spec.specs.Top.{Performs, Ticked};
+ghost use Rattle.text_commands.specs.Rows.{RefusedRow, AsmRefusedRow, TooLongRow, BadImageRow, TrapRow};
+ghost use Rattle.text_commands.specs.Rows.{MachineFaultRow, OutOfStepsRow};
+ghost use Rattle.text_commands.specs.Top.{Ticked};
 
-use crate::commands::obey;
-use command_words::command_of;
+use crate::language::TickC;
 use host_edge::{Sink, Source, Store};
-use image_commands::{bare, report};
 use std::alloc::{AllocError, Global};
+use text_commands::call;
 use tick_outcome::{Ended, Outcome};
-
-// Does what the words say.
-fn perform<S: Store, I: Source, O: Sink>(
-    alloc: Global,
-    words: &[String],
-    store: &mut S,
-    input: &mut I,
-    out: &mut O,
-) -> Result<Ended, AllocError>
-    ensures does { IfOk result (Performs (map string_bytes words.now) (outside (S.file store.old) (I.left input.old) (O.taken out.old)) (outside (S.file store.new) (I.left input.new) (O.taken out.new))) }
-    ensures cause { IfOk result (λ e. Cause e.outcome (failures (S.faults store.old) (I.faults input.old) (O.faults out.old)) (failures (S.faults store.new) (I.faults input.new) (O.faults out.new))) }
-    ensures none { OnErr result (Unwritten (outside (S.file store.old) (I.left input.old) (O.taken out.old)) (outside (S.file store.new) (I.left input.new) (O.taken out.new))) }
-{
-    match command_of(words) {
-        Ok(command) => obey(alloc, command, store, input, out),
-        Err(place) => Ok(bare(alloc, Outcome::BadWords(place))),
-    }
-}
-
-// The whole of a call.
-fn whole<S: Store, I: Source, O: Sink, E: Sink>(
-    alloc: Global,
-    words: &[String],
-    store: &mut S,
-    input: &mut I,
-    out: &mut O,
-    err: &mut E,
-) -> Result<Ended, AllocError>
-    ensures did { IfOk result (Ticked (map string_bytes words.now)
-        (outside (S.file store.old) (I.left input.old) (O.taken out.old))
-        (outside (S.file store.new) (I.left input.new) (O.taken out.new))
-        (failures (S.faults store.old) (I.faults input.old) (O.faults out.old))
-        (failures (S.faults store.new) (I.faults input.new) (O.faults out.new))
-        (E.taken err.old) (E.taken err.new) (E.faults err.old) (E.faults err.new)) }
-    ensures no_memory { OnErr result (Keeps (E.taken err.old) (E.taken err.new)
-        × Unwritten (outside (S.file store.old) (I.left input.old) (O.taken out.old)) (outside (S.file store.new) (I.left input.new) (O.taken out.new))) }
-{
-    let mut ended = perform(alloc, words, store, input, out)?;
-    ended.outcome = report(err, words, &ended);
-    Ok(ended)
-}
 
 /// Does what the words of a command line say, word 0 being the name of the program, and reports the outcome on `err`.
 /// After want of memory nothing was written or saved.
@@ -100,5 +58,5 @@ pub fn tick<S: Store, I: Source, O: Sink, E: Sink>(
     ensures no_memory { OnErr result (Keeps (E.taken err.old) (E.taken err.new)
         × Unwritten (outside (S.file store.old) (I.left input.old) (O.taken out.old)) (outside (S.file store.new) (I.left input.new) (O.taken out.new))) }
 {
-    whole(alloc, words, store, input, out, err)
+    call::<TickC, S, I, O, E>(alloc, words, store, input, out, err)
 }

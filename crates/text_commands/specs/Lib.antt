@@ -1,0 +1,11 @@
+pub mod Texts
+pub mod Saved
+pub mod Answers
+pub mod Does
+pub mod Generated
+pub mod Top
+pub mod Rows
+pub mod Meant
+pub mod Laws
+pub mod Evaluations
+pub mod Evaluated
