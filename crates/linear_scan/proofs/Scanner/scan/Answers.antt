@@ -1,4 +1,5 @@
 use Rattle.std.proofs.Common.{ℕ, ◌+◌, ◌≡◌, ◌<◌, suc, List, ◌∷◌, length, drop, get_or, drop-cons, ◌∙◌, ap, subst, arith}
+use Rattle.std.proofs.lemmas.Grind.{common_steps}
 use Rattle.icode_ops.specs.declared.interval.Interval.{Interval}
 use Rattle.linear_scan_spec.specs.Scan.{scan}
 use Rattle.linear_scan_spec.proofs.Order.{in-order, each-any}
@@ -10,6 +11,9 @@ rest-is : (xs : List Interval) (i : ℕ) (d : Interval) → i < length xs → dr
 rest-is xs i d h =
     let e : i + 1 ≡ suc i = omega arith in
     rw e (drop-cons xs i d h)
+
+pub loop-place-preserved : goal.loop-place-preserved
+loop-place-preserved c = grind (arith, common_steps)
 
 pub loop-x-init : goal.loop-x-init
 loop-x-init c =

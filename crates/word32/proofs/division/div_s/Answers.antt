@@ -1,8 +1,11 @@
-use Rattle.std.proofs.Common.{◌≢◌, ◌⊎◌, inl, inr}
+use Rattle.std.proofs.Common.{rules, ◌≢◌, ◌⊎◌, inl, inr}
 use Rattle.word32.proofs.Signs.{quotient_is, remainder_is, divides}
 use Rattle.word32.proofs.division.div_s.Goals.{else-a-eq2147483648-via-then-a-eq2147483648+else-b-eq4294967295}
 use Rattle.word32.proofs.division.div_s.Goals.{else-a-eq2147483648-via-else-a-eq2147483648}
 use Rattle.word32.proofs.division.div_s.Goals as goal
+
+pub returns-then-b-eq4294967295 : goal.returns-then-b-eq4294967295
+returns-then-b-eq4294967295 c = search rules
 
 pub returns : goal.returns
 returns c =
