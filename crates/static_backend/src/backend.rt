@@ -14,15 +14,6 @@ use std::alloc::{AllocError, Global};
 use typed_tree::Function;
 use word32::map::START;
 
-// A copy of bytes. The only error is want of memory.
-fn copied(alloc: Global, bytes: &[u8]) -> Result<Vec<u8>, AllocError>
-    ensures { IfOk result (λ made. made.items ≡ bytes.now) }
-{
-    let mut made = Vec::new(alloc);
-    made.extend_from_slice(bytes)?;
-    Ok(made)
-}
-
 /// The image of a program of these functions, whose function main has a number, counted from 1, and no parameters, and
 /// whose globals and strings are these bytes: the start, and the functions in their order, each under the places that
 /// linear scan gives to its registers, and with a row. The only error is want of memory.
@@ -41,7 +32,8 @@ pub fn image(
     let row = code.rows[main - 1];
     let mut text = front_words(alloc, row.address, functions.len() as u32)?;
     text.extend_from_slice(&code.words)?;
-    let bytes = copied(alloc, bytes)?;
+    let mut data = Vec::new(alloc);
+    data.extend_from_slice(bytes)?;
     images_keep_rules();
-    Ok(Image::new(START, text, bytes, code.rows))
+    Ok(Image::new(START, text, data, code.rows))
 }

@@ -33,36 +33,6 @@ pub struct Code {
     pub rows: Vec<FunctionEntry>,
 }
 
-// Writes the words of the function of this index, counted from 0, where it stands.
-fn rewrite(
-    alloc: Global,
-    tables: &mut Tables,
-    labels: &mut [u32],
-    plan: &Plan,
-    index: usize,
-    function: &Function,
-    words: &mut Vec<u32>,
-) -> Result<(), AllocError>
-    requires labels { length labels.old ≡ LABELS }
-    requires ready { (functions : List node.Function) × IsReadyIn functions (function_view function.now) }
-    requires started { index < length plan.now.starts.items }
-    requires placed { index < length plan.now.places.items }
-    requires low { FUNCTIONS + 4 * length words.old.items ≤ ARENA }
-    requires room { (first : ℕ) × BeginAt plan.now index (function_view function.now) words.old.items first }
-    ensures { OnOk result ((first : ℕ) → BeginAt plan.now index (function_view function.now) words.old.items first →
-        Rewritten false first (own_words plan.now index (function_view function.now)) words.old.items words.new.items) }
-{
-    let at = plan.starts[index].get();
-    let places = &plan.places[index];
-    build_ops(alloc, &mut tables.builder, &plan.starts, function)?;
-    let frame = charge(function);
-    let first = ((at - FUNCTIONS) / 4) as usize;
-    let ops = tables.builder.ops();
-    let out = words.slice_mut(first..);
-    write_words(labels, ops, places, at, frame, function.object, out);
-    Ok(())
-}
-
 // The words of the function of this index, counted from 0, where they weren't made in the first pass.
 fn write_rest(
     alloc: Global,
@@ -85,51 +55,16 @@ fn write_rest(
         (own_words plan.now index (function_view function.now)) words.old.items words.new.items) }
 {
     if plan.made[index] {
-        Ok(())
-    } else {
-        rewrite(alloc, tables, labels, plan, index, function, words)
+        return Ok(());
     }
-}
-
-// The words and the row of the function of this index, counted from 0, by a plan of all functions.
-fn finish(
-    alloc: Global,
-    tables: &mut Tables,
-    labels: &mut [u32],
-    plan: &Plan,
-    index: usize,
-    function: &Function,
-    code: &mut Code,
-) -> Result<(), AllocError>
-    requires labels { length labels.old ≡ LABELS }
-    requires ready { (functions : List node.Function) × IsReadyIn functions (function_view function.now) }
-    requires started { index < length plan.now.starts.items }
-    requires placed { index < length plan.now.places.items }
-    requires counted { index < length plan.now.made.items }
-    requires low { FUNCTIONS + 4 * length code.old.words.items ≤ ARENA }
-    requires room { (first : ℕ) × BeginAt plan.now index (function_view function.now) code.old.words.items first }
-    ensures words { OnOk result ((first : ℕ) →
-        BeginAt plan.now index (function_view function.now) code.old.words.items first →
-        Rewritten (slice_index_or plan.now.made.items index true) first
-        (own_words plan.now index (function_view function.now)) code.old.words.items code.new.words.items) }
-    ensures rows { OnOk result (code.new.rows.items ≡ code.old.rows.items ++ record {
-      address = slice_index plan.now.starts.items index;
-      count = function.now.params;
-    } ∷ []) }
-{
-    write_rest(
-        alloc,
-        tables,
-        labels,
-        plan,
-        index,
-        function,
-        &mut code.words,
-    )?;
-    code.rows.push(FunctionEntry {
-        address: plan.starts[index].get(),
-        count: function.params,
-    })?;
+    let at = plan.starts[index].get();
+    let places = &plan.places[index];
+    build_ops(alloc, &mut tables.builder, &plan.starts, function)?;
+    let frame = charge(function);
+    let first = ((at - FUNCTIONS) / 4) as usize;
+    let ops = tables.builder.ops();
+    let out = words.slice_mut(first..);
+    write_words(labels, ops, places, at, frame, function.object, out);
     Ok(())
 }
 
@@ -153,7 +88,11 @@ fn finish_all(
         rows: Vec::new(alloc),
     };
     for (i, function) in functions.iter().enumerate() {
-        finish(alloc, tables, labels, plan, i, function, &mut code)?;
+        write_rest(alloc, tables, labels, plan, i, function, &mut code.words)?;
+        code.rows.push(FunctionEntry {
+            address: plan.starts[i].get(),
+            count: function.params,
+        })?;
     }
     Ok(code)
 }

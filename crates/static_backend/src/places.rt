@@ -1,6 +1,6 @@
 //! The places of the registers of a list of ops.
 
-ghost use Rattle.std.specs.Prelude.{◌≡◌, ◌≤◌, IfOk, OnOk, List, length};
+ghost use Rattle.std.specs.Prelude.{◌≡◌, ◌≤◌, IfOk, List, length};
 ghost use Rattle.icode_ops.specs.Finished.{IsFinished};
 ghost use Rattle.icode_ops.specs.Live.{AreIntervals};
 ghost use Rattle.icode_ops.specs.Places.{IsLegal};
@@ -12,30 +12,6 @@ use icode_ops::{Interval, Op};
 use linear_scan::{SLOT, Scanner};
 use linear_scan_spec::intervals_are_scannable;
 use std::alloc::{AllocError, Global};
-
-// Makes room for so many intervals, where there is less.
-fn make_room(out: &mut Vec<Interval>, count: u32) -> Result<(), AllocError>
-    ensures { OnOk result (count ≤ length out.new.items) }
-{
-    let none = Interval {
-        reg: 0,
-        start: 0,
-        end: 0,
-    };
-    if out.len() < count as usize {
-        out.resize(count as usize, none)
-    } else {
-        Ok(())
-    }
-}
-
-// Room for so many places.
-fn places_room(alloc: Global, count: u32) -> Result<Vec<u8>, AllocError>
-    ensures { IfOk result (λ made. length made.items ≡ count) }
-{
-    let made = vec![in alloc; SLOT; count as usize]?;
-    Ok(made)
-}
 
 // Finds the intervals of a finished list of ops, and scans them. There is a place for each register.
 fn scan_places(
@@ -69,8 +45,14 @@ pub fn scanned_places(
     ensures scanned { IfOk result (λ made. (xs : List SpecInterval) × AreIntervals ops.now xs × (made.items ≡ places_of registers xs)) }
     ensures legal { IfOk result (λ made. IsLegal ops.now registers made.items) }
 {
-    make_room(out, registers)?;
-    let mut made = places_room(alloc, registers)?;
+    let none = Interval {
+        reg: 0,
+        start: 0,
+        end: 0,
+    };
+    let room = out.len().max(registers as usize);
+    out.resize(room, none)?;
+    let mut made = vec![in alloc; SLOT; registers as usize]?;
     scan_places(live, scanner, ops, out, &mut made);
     Ok(made)
 }

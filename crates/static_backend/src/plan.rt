@@ -33,7 +33,6 @@ use typed_tree::Function;
 use word32::map::FUNCTIONS;
 
 /// Where functions stand, the places of their registers, and which of them have their words.
-#[derive(Drop)]
 pub struct Plan {
     /// The address of each, in their order.
     pub starts: Vec<CallAddress>,
@@ -45,6 +44,17 @@ pub struct Plan {
     pub end: u32,
 }
 
+impl Drop for Plan {
+    fn drop(self) {
+        let Plan {
+            starts: _,
+            places: _,
+            made: _,
+            end: _,
+        } = self;
+    }
+}
+
 /// What the first pass makes.
 #[derive(Drop)]
 pub struct Draft {
@@ -52,22 +62,6 @@ pub struct Draft {
     pub plan: Plan,
     /// The words of functions one behind another, with as much room for those that aren't made yet.
     pub words: Vec<u32>,
-}
-
-// The next function stands at the end.
-fn start(plan: &mut Plan) -> Result<(), AllocError>
-    requires aligned { plan.old.end % 4 ≡ 0 }
-    requires low { plan.old.end ≤ ARENA }
-    ensures starts { OnOk result (plan.new.starts.items ≡ plan.old.starts.items ++ plan.old.end ∷ []) }
-    ensures rest { plan.new ≡ record plan.old { starts = plan.new.starts } }
-{
-    match CallAddress::new(plan.end) {
-        Some(start) => {
-            plan.starts.push(start)?;
-            Ok(())
-        }
-        None => unreachable!(),
-    }
 }
 
 // The places of a function's registers, by linear scan of its ops where these addresses are known. The tables' builder
@@ -157,7 +151,10 @@ fn place(
         IsDraftOf (before ++ record { function = function_view function.now; places = places } ∷ []) draft.new) }
 {
     let at = draft.plan.end;
-    start(&mut draft.plan)?;
+    match CallAddress::new(at) {
+        Some(start) => draft.plan.starts.push(start)?,
+        None => unreachable!(),
+    }
     let places = scanned(alloc, tables, &draft.plan.starts, function)?;
     let frame = charge(function);
     let filled = draft.words.len();

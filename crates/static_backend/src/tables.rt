@@ -8,7 +8,6 @@ use std::alloc::{AllocError, Global};
 
 /// The builder, and the tables of live intervals and of linear scan. Each begins with megabytes of zeros, so they are made
 /// once for all functions of a program.
-#[derive(Drop)]
 pub struct Tables {
     /// Makes the ops of one function at a time.
     pub builder: Builder,
@@ -18,6 +17,17 @@ pub struct Tables {
     pub scanner: Scanner,
     /// Room for the intervals of one function at a time.
     pub intervals: Vec<Interval>,
+}
+
+impl Drop for Tables {
+    fn drop(self) {
+        let Tables {
+            builder: _,
+            live: _,
+            scanner: _,
+            intervals: _,
+        } = self;
+    }
 }
 
 impl Tables {

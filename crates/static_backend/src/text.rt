@@ -19,8 +19,7 @@ use std::alloc::{AllocError, Global};
 pub fn zeros(alloc: Global, count: usize) -> Result<Vec<u32>, AllocError>
     ensures { IfOk result (λ made. length made.items ≡ count) }
 {
-    let made = vec![in alloc; 0u32; count]?;
-    Ok(made)
+    vec![in alloc; 0u32; count]
 }
 
 /// The words in front of the functions, with the address of main's first word and how many functions there are. The only

@@ -49,8 +49,10 @@ new-requires c =
     ∙ ap (λ z. z ++ code.words.items)
     (c.in_ok-text.ensures ∙ ap (front c.index-row.result.now.address)
     (sym (length-map c.args.functions.now function_view))) in
+    let bytes_are : c.extend_from_slice-2.new.self.items ≡ c.args.bytes.now =
+    c.in_ok-extend_from_slice-2.ensures.items ∙ ap (λ z. z ++ c.args.bytes.now) c.new-data.ensures.items in
     is_image fs c.args.bytes.now c.args.main code.words.items code.rows.items c.requires.main c.in_ok-code.ensures
-    c.index-row.result.now c.index-row.ensures text c.in_ok-bytes.bytes.items text_is c.in_ok-bytes.ensures
+    c.index-row.result.now c.index-row.ensures text c.extend_from_slice-2.new.self.items text_is bytes_are
     c.requires.functions are c.images_keep_rules.ensures
 
 pub returns : goal.returns
@@ -63,6 +65,8 @@ returns c =
     ∙ ap (λ z. z ++ code.words.items)
     (c.in_ok-text.ensures ∙ ap (front c.index-row.result.now.address)
     (sym (length-map c.args.functions.now function_view))) in
+    let bytes_are : c.extend_from_slice-2.new.self.items ≡ c.args.bytes.now =
+    c.in_ok-extend_from_slice-2.ensures.items ∙ ap (λ z. z ++ c.args.bytes.now) c.new-data.ensures.items in
     is_scanned fs c.args.bytes.now c.args.main code.words.items code.rows.items c.requires.main c.in_ok-code.ensures
-    c.index-row.result.now c.index-row.ensures text c.in_ok-bytes.bytes.items text_is c.in_ok-bytes.ensures
+    c.index-row.result.now c.index-row.ensures text c.extend_from_slice-2.new.self.items text_is bytes_are
     c.new.result c.new.ensures

@@ -1,8 +1,9 @@
-use Rattle.std.proofs.Common.{rules, ◌≡◌, ◌<◌, ◌≤◌, length, map, get_or, arith}
-use Rattle.std.proofs.lemmas.List.{length-map}
+use Rattle.std.proofs.Common.{rules, ◌≡◌, ◌<◌, ◌≤◌, [], ◌∷◌, ◌++◌, ap, ◌∙◌, length, map, get_or, slice_index, arith}
+use Rattle.std.proofs.lemmas.List.{length-map, get_or_read}
 use Rattle.typed_tree.specs.View.{function_view}
 use Rattle.static_backend.specs.Plans.{BeginAt}
 use Rattle.static_backend.proofs.Loops.{next_static, next_view}
+use Rattle.static_backend.proofs.Grown.{entry}
 use Rattle.static_backend.proofs.Coded as coded
 use Rattle.static_backend.proofs.functions.finish_all.Goals as goal
 
@@ -18,15 +19,15 @@ loop-i-init c =
           plan.made.items c.args.words.items c.new.result.items p.2.words c.new.ensures.items,
     )
 
-pub finish-requires-clause-ready : goal.finish-requires-clause-ready
-finish-requires-clause-ready c =
+pub write_rest-requires-clause-ready : goal.write_rest-requires-clause-ready
+write_rest-requires-clause-ready c =
     let fs = c.args.functions.now in
     let gs = map function_view fs in
     let f = c.index-functions-i.result in
     (gs, (next_static gs c.loop-i.i fs f (search rules) (search rules) c.requires.functions.each).ready)
 
-pub finish-requires-clause-started : goal.finish-requires-clause-started
-finish-requires-clause-started c =
+pub write_rest-requires-clause-started : goal.write_rest-requires-clause-started
+write_rest-requires-clause-started c =
     let fs = c.args.functions.now in
     let gs = map function_view fs in
     let p = c.loop-i.invariant in
@@ -38,8 +39,23 @@ finish-requires-clause-started c =
       coded.many_addresses gs p.0 c.args.plan.now.starts.items _ c.args.plan.now.end p.1 p.2,
     )
 
-pub finish-requires-clause-placed : goal.finish-requires-clause-placed
-finish-requires-clause-placed c =
+pub index-requires : goal.index-requires
+index-requires c =
+    let fs = c.args.functions.now in
+    let gs = map function_view fs in
+    let p = c.loop-i.invariant in
+    let low : c.loop-i.i < length fs = search rules in
+    let starts = c.args.plan.now.starts in
+    omega (
+      arith,
+      low,
+      length-map fs function_view,
+      coded.many_addresses gs p.0 starts.items _ c.args.plan.now.end p.1 p.2,
+      starts.ok.0,
+    )
+
+pub write_rest-requires-clause-placed : goal.write_rest-requires-clause-placed
+write_rest-requires-clause-placed c =
     let fs = c.args.functions.now in
     let gs = map function_view fs in
     let p = c.loop-i.invariant in
@@ -53,8 +69,8 @@ finish-requires-clause-placed c =
       coded.many_places gs p.0 plan.starts.items _ plan.end p.1 p.2,
     )
 
-pub finish-requires-clause-counted : goal.finish-requires-clause-counted
-finish-requires-clause-counted c =
+pub write_rest-requires-clause-counted : goal.write_rest-requires-clause-counted
+write_rest-requires-clause-counted c =
     let fs = c.args.functions.now in
     let gs = map function_view fs in
     let p = c.loop-i.invariant in
@@ -68,8 +84,8 @@ finish-requires-clause-counted c =
       p.3,
     )
 
-pub finish-requires-clause-low : goal.finish-requires-clause-low
-finish-requires-clause-low c =
+pub write_rest-requires-clause-low : goal.write_rest-requires-clause-low
+write_rest-requires-clause-low c =
     let i = c.loop-i.i in
     let fs = c.args.functions.now in
     let gs = map function_view fs in
@@ -82,8 +98,8 @@ finish-requires-clause-low c =
     coded.words_low gs p.0 plan.starts.items _ plan.end p.1 p.2 i (function_view f) plan.made.items
     c.loop-i.code.words.items c.loop-i.code.rows.items within (next_view i fs f is) p.3 p.4 c.requires.functions
 
-pub finish-requires-clause-room : goal.finish-requires-clause-room
-finish-requires-clause-room c =
+pub write_rest-requires-clause-room : goal.write_rest-requires-clause-room
+write_rest-requires-clause-room c =
     let i = c.loop-i.i in
     let fs = c.args.functions.now in
     let gs = map function_view fs in
@@ -127,14 +143,19 @@ loop-i-preserved c =
           within next p.3 p.4,
       coded.room gs p.0 plan.starts.items _ plan.end p.1 p.2 i (function_view f) plan.made.items words rows within
           next p.3 p.4,
-    ) in (
+    ) in
+    let started : i < length plan.starts.items =
+    omega (arith, within, coded.many_addresses gs p.0 plan.starts.items _ plan.end p.1 p.2) in
+    let at_is : c.get.result ≡ slice_index plan.starts.items i =
+    c.get.ensures.same ∙ get_or_read plan.starts.items _ _ started c.index.ensures 0 in
+    let row = c.in_ok-push.ensures.items ∙ ap (λ a. rows ++ entry a f.params ∷ []) at_is in (
       p.0,
       p.1,
       p.2,
       p.3,
       coded.next_code gs p.0 plan.starts.items _ plan.end p.1 p.2 i (function_view f) plan.made.items words
-          c.finish.new.code.words.items rows c.finish.new.code.rows.items within next p.3
-          (c.in_ok-finish.ensures.words first begin) c.in_ok-finish.ensures.rows p.4,
+          c.write_rest.new.words.items rows c.push.new.self.items within next p.3
+          (c.in_ok-write_rest.ensures first begin) row p.4,
     )
 
 pub returns : goal.returns

@@ -6,7 +6,6 @@ use Rattle.tick_lower_proof.specs.Laws.{code_of}
 use Rattle.static_image.specs.Layout.{Placed, ops_of, words_of, unknown}
 use Rattle.static_backend.specs.Calls.{calls_unknown}
 use Rattle.static_backend.specs.Drafted.{IsPiece}
-use Rattle.static_backend.specs.declared.plan.Plan.{Plan}
 use Rattle.static_backend.proofs.Results.{mapped}
 use Rattle.static_backend.proofs.Planned as plan
 use Rattle.static_backend.proofs.plan.place.Goals as goal
@@ -75,7 +74,7 @@ returns c before drafted =
     let x : Placed = record { function = f; places = c.in_ok-places.places.items } in
     let y : Placed = record { function = f; places = c.deref-2.result.now } in
     let old = c.args.draft.now.plan in
-    let starts = c.start.new.plan.starts.items in
+    let starts = c.push.new.self.items in
     let d = listed starts in
     let at = old.end in
     let m = c.in_ok-made.made in
@@ -91,14 +90,14 @@ returns c before drafted =
     (λ (ps : List ℕ). IsPiece (calls_unknown (code_of d f)) (words_of d at (record { function = f; places = ps })) m
     words.items words'.items)
     c.deref-2.ensures.value piece in
-    let kept = c.in_ok-start.ensures.rest in
-    let pushed = c.in_ok-push.ensures.items ∙ ap (λ (q : Plan). q.places.items ++ c.in_ok-places.places ∷ []) kept in
-    let flagged = c.in_ok-push-2.ensures.items ∙ ap (λ (q : Plan). q.made.items ++ m ∷ []) kept in
+    let begun : starts ≡ old.starts.items ++ at ∷ [] =
+    c.in_ok-push-in-Some.ensures.items ∙ ap (λ a. old.starts.items ++ a ∷ []) c.in-Some.ensures.0 in
     let end : at + 4 * (c.len.result - c.len-filled.result) ≡ at + 4 * (length words'.items - length words.items) =
     omega (arith, c.len.ensures, c.len-filled.ensures, words.ok.0, words'.ok.0) in
-    let next = plan.next_draft before x old.starts.items starts _ _ old.made.items c.push-2.new.self.items m words.items
+    let next = plan.next_draft before x old.starts.items starts _ _ old.made.items c.push-3.new.self.items m words.items
     words'.items at (at + 4 * (c.len.result - c.len-filled.result)) c.in_ok-places.ensures.scan
-    c.in_ok-places.ensures.legal c.in_ok-start.ensures.starts
-    (mapped old.places.items c.push.new.self.items c.in_ok-places.places (λ v. v.items) pushed) flagged own end
+    c.in_ok-places.ensures.legal begun
+    (mapped old.places.items c.push-2.new.self.items c.in_ok-places.places (λ v. v.items) c.in_ok-push.ensures.items)
+    c.in_ok-push-2.ensures.items own end
     drafted.plan drafted.words drafted.many in
     (x.places, record { plan = next.0; words = next.1; many = next.2 })
