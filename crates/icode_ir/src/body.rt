@@ -1,7 +1,7 @@
 //! A body that was entered.
 
 /// What a body owns: registers for its variables, and labels.
-#[derive(Clone, Copy, Drop)]
+#[derive(Clone, Copy)]
 pub struct Body {
     /// The register of variable 0; the others follow.
     pub first_variable: u32,

@@ -3,7 +3,7 @@
 ghost use Rattle.std.specs.Prelude.{◌≡◌, ◌&&◌, nat_eq, nat_le};
 ghost use Rattle.limits.specs.declared.program.TheConstants.{MOST_ARGUMENTS};
 ghost use Rattle.icode_ops.specs.declared.kind.RunKind.TheVariants.{Malloc};
-ghost use Rattle.icode_ir.specs.Decoded.{op_of, bin_kind, un_kind, sys_kind, width_of, made, only, is_call_address};
+ghost use Rattle.icode_ir.specs.Decoded.{op_of, bin_kind, un_kind, sys_kind, made, only, is_call_address};
 
 use crate::build_op::BuildOp;
 use crate::width;
@@ -29,8 +29,12 @@ pub fn op(code: u32, first: u32, second: u32) -> Option<BuildOp>
         8 => Some(BuildOp::Drop),
         9 => Some(BuildOp::Pick { depth: first }),
         10 => Some(BuildOp::Nip),
-        11 => load(first),
-        12 => store(first),
+        11 => Some(BuildOp::Load {
+            width: width::from_number(first)?,
+        }),
+        12 => Some(BuildOp::Store {
+            width: width::from_number(first)?,
+        }),
         13 => Some(BuildOp::Label { label: first }),
         14 => Some(BuildOp::Jump { label: first }),
         15 => Some(BuildOp::BranchZero { label: first }),
@@ -63,26 +67,6 @@ fn un(number: u32) -> Option<BuildOp>
 {
     match UnKind::from_number(number) {
         Some(kind) => Some(BuildOp::Un { kind }),
-        None => None,
-    }
-}
-
-// A load of a width.
-fn load(number: u32) -> Option<BuildOp>
-    ensures { result ≡ made BuildOp.Load (width_of number) }
-{
-    match width::from_number(number) {
-        Some(width) => Some(BuildOp::Load { width }),
-        None => None,
-    }
-}
-
-// A store of a width.
-fn store(number: u32) -> Option<BuildOp>
-    ensures { result ≡ made BuildOp.Store (width_of number) }
-{
-    match width::from_number(number) {
-        Some(width) => Some(BuildOp::Store { width }),
         None => None,
     }
 }
