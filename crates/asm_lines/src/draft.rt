@@ -189,17 +189,6 @@ fn memory_operands(operands: &Operands<'_>) -> Option<(Register, Number, Registe
     }
 }
 
-// `sll $0,$0,0`.
-fn no_operation<'a>() -> Draft<'a>
-    ensures { result ≡ spec.nop }
-{
-    let zero = Number {
-        negative: false,
-        magnitude: Some(0),
-    };
-    Draft::Shift(ShiftOp::Sll, Register::ZERO, Register::ZERO, zero)
-}
-
 // Whether no operands stand there.
 fn is_nothing(operands: &Operands<'_>) -> bool
     ensures { result ≡ spec.is_nothing operands.now }
@@ -268,7 +257,13 @@ pub fn drafted<'a>(operation: Operation, operands: &Operands<'a>) -> Option<Draf
             let (rt, offset, rs) = memory_operands(operands)?;
             Some(Draft::Memory(op, rt, offset, rs))
         }
-        Operation::NoOperation if is_nothing(operands) => Some(no_operation()),
+        Operation::NoOperation if is_nothing(operands) => {
+            let zero = Number {
+                negative: false,
+                magnitude: Some(0),
+            };
+            Some(Draft::Shift(ShiftOp::Sll, Register::ZERO, Register::ZERO, zero))
+        }
         Operation::Syscall | Operation::NoOperation => None,
     }
 }

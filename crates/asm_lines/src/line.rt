@@ -126,21 +126,15 @@ fn labelled<'a>(name: &Piece<'a>, pieces: &[Piece<'a>]) -> Option<Line<'a>>
     }
 }
 
-fn unlabelled<'a>(pieces: &[Piece<'a>]) -> Option<Line<'a>>
-    ensures { result ≡ spec.unlabelled pieces.now }
-{
-    Some(Line {
-        label: None,
-        statement: statement_of(pieces)?,
-    })
-}
-
 fn line_in<'a>(pieces: &[Piece<'a>]) -> Option<Line<'a>>
     ensures { result ≡ spec.line_in pieces.now }
 {
     match pieces {
         [name, colon, rest @ ..] if colon.is_colon() => labelled(name, rest),
-        _ => unlabelled(pieces),
+        _ => Some(Line {
+            label: None,
+            statement: statement_of(pieces)?,
+        }),
     }
 }
 

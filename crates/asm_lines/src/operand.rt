@@ -31,12 +31,6 @@ pub enum Target<'a> {
     Label(Word<'a>),
 }
 
-fn one<'a>(a: &Piece<'a>) -> Option<Operands<'a>>
-    ensures { result ≡ spec.one a.now }
-{
-    Some(Operands::One(a.word()?))
-}
-
 fn two<'a>(a: &Piece<'a>, comma: &Piece<'a>, b: &Piece<'a>) -> Option<Operands<'a>>
     ensures { result ≡ spec.two a.now comma.now b.now }
 {
@@ -94,7 +88,7 @@ pub fn operands_of<'a>(pieces: &[Piece<'a>]) -> Option<Operands<'a>>
 {
     match pieces {
         [] => Some(Operands::Nothing),
-        [a] => one(a),
+        [a] => Some(Operands::One(a.word()?)),
         [a, m, b] => two(a, m, b),
         [a, m, b, n, c] => three(a, m, b, n, c),
         [a, m, b, n, c, k] => based(a, m, b, n, c, k),

@@ -1,5 +1,5 @@
 -- The ops of an expression of the code's tree, by its node, from those of its parts.
-use Rattle.std.proofs.Common.{◌≡◌, ℕ, ◌+◌, Bool, List, [], ◌∷◌, ◌++◌, map, ap, sym, ◌∙◌}
+use Rattle.std.proofs.Common.{◌≡◌, ℕ, ◌+◌, Bool, List, [], ◌∷◌, ◌++◌, append_assoc, map, ap, sym, ◌∙◌}
 use Rattle.icode_ops.specs.declared.kind.BinKind.{BinKind}
 use Rattle.icode_ops.specs.declared.kind.UnKind.{UnKind}
 use Rattle.icode_ops.specs.declared.kind.SysKind.TheVariants as sys
@@ -150,6 +150,13 @@ modify_made w k a b o p m n q first loaded operated stored =
     ∙ ap (λ z. add (build.Bin k ∷ []) (add_expr b z))
     (loaded ∙ ap (λ z. add (build.Pick 0 ∷ build.Load w ∷ []) z) first))
     ∙ modify_step o w k a b
+
+-- n is behind a value that is narrowed, and q behind its store
+pub stored : (w : Width) (m n q : Ops) → n ≡ add (narrowing w) m → q ≡ add (build.Store w ∷ []) n
+    → q ≡ add (narrowing w ++ build.Store w ∷ []) m
+stored w m n q narrowed last =
+    last ∙ ap (λ z. add (build.Store w ∷ []) z) narrowed
+    ∙ ap (λ l. let o : Ops = record m { list = l } in o) (append_assoc m.list (narrowing w) (build.Store w ∷ []))
 
 -- where two ways meet: j has the labels and the variable, p the numbers behind them, r the ops behind the first operand
 module _ (j : Join) (o p r q : Ops)

@@ -9,25 +9,17 @@ ghost use Rattle.typed_tree.specs.View.{expr_view, args_of};
 use icode_ops::{ArgumentCount, ArgumentIndex, CallAddress};
 use typed_tree::Expr;
 
-// The address of no function.
-fn no_address() -> CallAddress
-    ensures { result ≡ 0 }
-{
-    match CallAddress::new(0) {
-        Some(address) => address,
-        None => unreachable!(),
-    }
-}
-
 /// The address of the function of this number, counted from 1; 0 where none is known.
 pub fn address_of(starts: &[CallAddress], function: u32) -> CallAddress
     ensures { result ≡ (listed starts.now).function_at function }
 {
     let index = function.saturating_sub(1) as usize;
     if index < starts.len() {
-        starts[index]
-    } else {
-        no_address()
+        return starts[index];
+    }
+    match CallAddress::new(0) {
+        Some(nowhere) => nowhere,
+        None => unreachable!(),
     }
 }
 

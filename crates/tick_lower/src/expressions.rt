@@ -8,7 +8,7 @@ ghost use Rattle.typed_tree.specs.View.{expr_view, args_of};
 
 use crate::calls::{address_of, count_of};
 use crate::ops::Ops;
-use crate::places::{push_loaded, push_post, push_stored};
+use crate::places::push_post;
 use icode_ir::BuildOp;
 use icode_ops::{BinKind, RunKind, SysKind};
 use sqlite_items::Boxed;
@@ -139,9 +139,10 @@ fn lower_modify(
         out.new ≡ add_expr (node.Modify width kind (expr_view a.now) (expr_view b.now)) out.old) }
 {
     lower_expression(a, out)?;
-    push_loaded(width, out)?;
+    out.push_all(&[BuildOp::Pick { depth: 0 }, BuildOp::Load { width }])?;
     lower_then(b, BuildOp::Bin { kind }, out)?;
-    push_stored(width, out)
+    out.push_narrowing(width)?;
+    out.push(BuildOp::Store { width })
 }
 
 // The ops of arguments, one after the other.

@@ -1,6 +1,6 @@
 //! The ops of a function, and a builder that takes them.
 
-ghost use Rattle.std.specs.Prelude.{◌≡◌, [], List, IfOk, OnOk};
+ghost use Rattle.std.specs.Prelude.{◌≡◌, List, IfOk, OnOk};
 ghost use Rattle.icode_ir.specs.Build.{empty};
 ghost use Rattle.icode_ir.specs.Runs.{run_ops};
 ghost use Rattle.staged_meaning.specs.Scope.{IsReadyIn};
@@ -21,14 +21,6 @@ use typed_tree::Function;
 // How many builder ops a list has room for as it begins: those of a function of a few lines, so that it seldom grows.
 const ROOM: usize = 48;
 
-// A list without ops. The only error is want of memory.
-fn no_ops(alloc: Global) -> Result<Items<BuildOp>, AllocError>
-    ensures { IfOk result (λ made. made ≡ []) }
-{
-    let room = Vec::with_capacity(alloc, ROOM)?;
-    Ok(Items::from_vec(room))
-}
-
 // The builder ops of a function: one body, with its variables and labels. The static functions are at these addresses.
 // The only error is want of memory.
 fn function_ops(
@@ -39,7 +31,8 @@ fn function_ops(
     requires { (functions : List node.Function) × IsReadyIn functions (function_view function.now) }
     ensures { IfOk result (λ ops. ops ≡ ops_of (listed starts.now) (function_view function.now)) }
 {
-    let list = no_ops(alloc)?;
+    let room = Vec::with_capacity(alloc, ROOM)?;
+    let list = Items::from_vec(room);
     let mut ops = Ops {
         starts,
         alloc,

@@ -195,18 +195,6 @@ impl<'a> Ops<'a> {
         self.push_all(&[BuildOp::Jump { label: to }, BuildOp::Label { label: here }])
     }
 
-    /// Sets a variable to 0. The only error is want of memory.
-    pub fn push_zero(&mut self, variable: u32) -> Result<(), AllocError>
-        ensures { OnOk result (self.new ≡ add
-            (BuildOp.Const 0 ∷ BuildOp.SetVariable variable ∷ BuildOp.Drop ∷ []) self.old) }
-    {
-        self.push_all(&[
-            BuildOp::Const { word: 0 },
-            BuildOp::SetVariable { variable },
-            BuildOp::Drop,
-        ])
-    }
-
     /// A conversion to a width; a word is none. The only error is want of memory.
     pub fn push_narrowing(&mut self, width: Width) -> Result<(), AllocError>
         ensures { OnOk result (self.new ≡ add (narrowing width) self.old) }

@@ -13,21 +13,6 @@ use icode_ops::BinKind;
 use std::alloc::AllocError;
 use word32::Width;
 
-/// Loads the value at the address on top, which stays below it. The only error is want of memory.
-pub fn push_loaded(width: Width, out: &mut Ops<'_>) -> Result<(), AllocError>
-    ensures { OnOk result (out.new ≡ add (BuildOp.Pick 0 ∷ BuildOp.Load width ∷ []) out.old) }
-{
-    out.push_all(&[BuildOp::Pick { depth: 0 }, BuildOp::Load { width }])
-}
-
-/// Stores the value on top, narrowed, at the address below it. The only error is want of memory.
-pub fn push_stored(width: Width, out: &mut Ops<'_>) -> Result<(), AllocError>
-    ensures { OnOk result (out.new ≡ add (narrowing width ++ BuildOp.Store width ∷ []) out.old) }
-{
-    out.push_narrowing(width)?;
-    out.push(BuildOp::Store { width })
-}
-
 /// Adds a step to the value at the address on top, and leaves the old value. The only error is want of memory.
 pub fn push_post(width: Width, step: u32, out: &mut Ops<'_>) -> Result<(), AllocError>
     ensures { OnOk result (out.new ≡ add (BuildOp.Pick 0 ∷ BuildOp.Load width ∷ BuildOp.Pick 1 ∷ BuildOp.Pick 1 ∷

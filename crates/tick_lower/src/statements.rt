@@ -32,7 +32,11 @@ pub fn lower_statement(s: &Stmt, exits: Exits, out: &mut Ops<'_>) -> Result<(), 
             lower_statements(variables.as_slice(), exits, out)?;
             lower_statements(items.as_slice(), exits, out)
         }
-        Stmt::Variable(i) => out.push_zero(*i),
+        Stmt::Variable(i) => out.push_all(&[
+            BuildOp::Const { word: 0 },
+            BuildOp::SetVariable { variable: *i },
+            BuildOp::Drop,
+        ]),
         Stmt::If(test, a) => lower_if(test.get(), a.get(), exits, out),
         Stmt::IfElse(test, a, b) => lower_if_else(test.get(), a.get(), b.get(), exits, out),
         Stmt::While(test, a) => lower_while(test.get(), a.get(), out),

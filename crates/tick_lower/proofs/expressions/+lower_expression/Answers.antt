@@ -15,7 +15,7 @@ use Rattle.tick_lower.proofs.Args.{args_fit_behind, call_made, call_number_made}
 use Rattle.tick_lower.proofs.Seen.{const_seen, var_seen, post_seen, getchar_seen, set_seen, un_seen, void_seen}
 use Rattle.tick_lower.proofs.Seen.{lib_seen, bin_seen, comma_seen, and_seen, or_seen, cond_seen}
 use Rattle.tick_lower.proofs.Seen.{frame_seen, load_seen, store_seen, modify_seen, place_post_seen, call_seen}
-use Rattle.tick_lower.proofs.Seen.{call_number_seen, modify_made}
+use Rattle.tick_lower.proofs.Seen.{call_number_seen, modify_made, stored}
 use Rattle.tick_lower.proofs.expressions.+lower_expression.Goals as goal
 
 pub lower_and-lower_then-requires-2 : goal.lower_and-lower_then-requires-2
@@ -298,14 +298,14 @@ lower_expression-returns-in-CallNumber t c =
 pub lower_modify-lower_then-requires : goal.lower_modify-lower_then-requires
 lower_modify-lower_then-requires t c = (
   search (rules, the_lemmas),
-  modify_fits_behind _ _ _ _ _ _ _ _ c.requires c.in_ok-lower_expression.ensures c.in_ok-push_loaded.ensures,
+  modify_fits_behind _ _ _ _ _ _ _ _ c.requires c.in_ok-lower_expression.ensures c.in_ok-push_all.ensures,
 )
 
 pub lower_modify-returns : goal.lower_modify-returns
 lower_modify-returns t c =
-    on_ok_weaker c.push_stored.result
-    (λ made. modify_made _ _ _ _ _ _ _ _ _ c.in_ok-lower_expression.ensures c.in_ok-push_loaded.ensures
-    c.in_ok-lower_then.ensures made) c.push_stored.ensures
+    on_ok_weaker c.push.result
+    (λ made. modify_made _ _ _ _ _ _ _ _ _ c.in_ok-lower_expression.ensures c.in_ok-push_all.ensures
+    c.in_ok-lower_then.ensures (stored c.args.width _ _ _ c.in_ok-push_narrowing.ensures made)) c.push.ensures
 
 pub lower_args-lower_expression-requires : goal.lower_args-lower_expression-requires
 lower_args-lower_expression-requires t c = (

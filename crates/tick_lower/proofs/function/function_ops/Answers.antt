@@ -1,4 +1,4 @@
-use Rattle.std.proofs.Common.{◌+◌, [], ◌∷◌, ◌++◌, ap, sym, ◌∙◌, subst, refl, arith}
+use Rattle.std.proofs.Common.{rules, ◌≡◌, ◌+◌, [], ◌∷◌, ◌++◌, ap, sym, ◌∙◌, subst, refl, arith}
 use Rattle.icode_ir.specs.declared.build_op.BuildOp.TheVariants as build
 use Rattle.staged_meaning.specs.Size.{labels, temps, variables_in}
 use Rattle.staged_meaning.specs.Scope.{IsBuiltStmt}
@@ -39,14 +39,16 @@ lower_statement-requires c = record {
 
 pub set-requires : goal.set-requires
 set-requires c =
+    let empty : c.from_vec-list.result ≡ [] = search rules in
     has_place (stmt_view c.get-2.result.now) _ _ _ _ c.in_ok-push.ensures
-    c.in_ok-lower_statement.ensures c.in_ok-push-2.ensures c.in_ok-list.ensures
+    c.in_ok-lower_statement.ensures c.in_ok-push-2.ensures empty
 
 pub returns : goal.returns
 returns c =
+    let empty : c.from_vec-list.result ≡ [] = search rules in
     c.set.ensures
     ∙ body_made (stmt_view c.get-2.result.now) _ _ _ _ c.in_ok-push.ensures c.in_ok-lower_statement.ensures
-    c.in_ok-push-2.ensures c.in_ok-list.ensures refl
+    c.in_ok-push-2.ensures empty refl
     (c.variables.ensures ∙ ap (λ z. variables_in (stmt_view z)) (c.get.ensures ∙ sym c.get-2.ensures))
     ∙ ap (λ z. build.Enter (variables_in (stmt_view z) + temps (stmt_view z)) (labels (stmt_view z))
     ∷ (stmt_ops (listed c.args.starts.now) (stmt_view z) nowhere 0 (variables_in (stmt_view z)) ++ build.Leave ∷ []))

@@ -128,8 +128,8 @@ lower_statement-returns-in-ReturnValue t c =
 
 pub lower_statement-returns-in-Variable : goal.lower_statement-returns-in-Variable
 lower_statement-returns-in-Variable t c =
-    on_ok_weaker c.push_zero.result (λ made. variable_seen (targets_of c.args.exits) _ _ _ _ c.in-Variable.is made)
-    c.push_zero.ensures
+    on_ok_weaker c.push_all.result (λ made. variable_seen (targets_of c.args.exits) _ _ _ _ c.in-Variable.is made)
+    c.push_all.ensures
 
 pub lower_statement-push_parameter-requires : goal.lower_statement-push_parameter-requires
 lower_statement-push_parameter-requires t c = parameter_few _ _ c.requires _ _ c.in-Parameter.is
