@@ -1,7 +1,7 @@
 //! Base types, prefixes and operators, as the words and signs of a text give them.
 
 /// The word that says whether an integer type has negative values.
-#[derive(Clone, Copy, PartialEq, Eq)]
+#[derive(Clone, Copy)]
 pub enum Signedness {
     /// `signed`
     Signed,
@@ -12,7 +12,7 @@ pub enum Signedness {
 /// The words that begin a declaration or a type name.
 ///
 /// A sign may stand before each of them but `void`, and alone. `short` and `long` may have `int` behind them.
-#[derive(Clone, Copy, PartialEq, Eq)]
+#[derive(Clone, Copy)]
 pub enum Base {
     /// `void`
     Void,

@@ -8,7 +8,7 @@ use std::alloc::{AllocError, AllocFailed};
 use thiserror::Error;
 
 /// The rule that a text breaks. Faults are numbered from 0 in this order.
-#[derive(Clone, Copy, Debug, PartialEq, Eq)]
+#[derive(Clone, Copy, Debug)]
 pub enum FaultKind {
     /// The text has no fault, but uses a part of the language that isn't built yet.
     Unbuilt,
@@ -152,7 +152,7 @@ impl FaultKind {
 }
 
 /// The first static fault of a text.
-#[derive(Clone, Copy, Debug, PartialEq, Eq, Error)]
+#[derive(Clone, Copy, Debug, Error)]
 #[error("line {line}: {}", .kind.name())]
 pub struct Fault {
     /// The rule that is broken.
