@@ -95,40 +95,33 @@ fn separated<G: Deeper>(
     Ok(found)
 }
 
-#[tactic(auto, unfolding(parse_grammar::specs::Declarators::list, parse_grammar::specs::Declarators::parameters))]
-fn list<G: Deeper>(grammar: &G, tokens: &mut Tokens<'_>, room: usize) -> Result<Suffix, Stop>
+// The length of an array in its brackets, or a list of parameters.
+#[tactic(auto, unfolding(parse_grammar::specs::Declarators::suffix, parse_grammar::specs::Declarators::array, parse_grammar::specs::Declarators::list, parse_grammar::specs::Declarators::parameters))]
+fn suffix<G: Deeper>(grammar: &G, tokens: &mut Tokens<'_>, room: usize) -> Result<Suffix, Stop>
     requires nests { G.nests grammar.now }
     requires room { room ≤ G.limit grammar.now }
-    ensures { Reads (spec.list (room_of room) tokens.old) result tokens.new }
+    ensures { Reads (spec.suffix (room_of room) tokens.old) result tokens.new }
 {
+    if tokens.sees(Mark::BracketOpen) {
+        enter(tokens, room)?;
+        if tokens.eat(Mark::BracketClose) {
+            return Ok(Suffix::Array(OptionalExpr::Absent));
+        }
+        let length = grammar.inner(tokens, room - 1, Part::Cond)?;
+        let found = Suffix::Array(OptionalExpr::Present(length));
+        return ended(tokens, found, Mark::BracketClose);
+    }
     enter(tokens, room)?;
     if tokens.eat(Mark::ParenClose) {
         return Ok(Suffix::Unlisted);
     }
-    if is_nothing(tokens) {
+    if is_void(tokens.peek()) && tokens.second_is(Mark::ParenClose) {
         tokens.take();
         tokens.take();
         return Ok(Suffix::Nothing);
     }
     let found = separated(grammar, tokens, room - 1)?;
     ended(tokens, Suffix::Listed(found), Mark::ParenClose)
-}
-
-fn suffix<G: Deeper>(grammar: &G, tokens: &mut Tokens<'_>, room: usize) -> Result<Suffix, Stop>
-    requires nests { G.nests grammar.now }
-    requires room { room ≤ G.limit grammar.now }
-    ensures { Reads (spec.suffix (room_of room) tokens.old) result tokens.new }
-{
-    if !tokens.sees(Mark::BracketOpen) {
-        return list(grammar, tokens, room);
-    }
-    enter(tokens, room)?;
-    if tokens.eat(Mark::BracketClose) {
-        return Ok(Suffix::Array(OptionalExpr::Absent));
-    }
-    let length = grammar.inner(tokens, room - 1, Part::Cond)?;
-    let found = Suffix::Array(OptionalExpr::Present(length));
-    ended(tokens, found, Mark::BracketClose)
 }
 
 #[tactic(auto, unfolding(parse_grammar::specs::Declarators::suffixes, parse_grammar::specs::Steps::many, parse_grammar::specs::Steps::many_from))]
@@ -172,11 +165,4 @@ pub fn declarator<G: Deeper>(
         core,
         suffixes,
     })
-}
-
-// Whether `void` and `)` come next.
-fn is_nothing(tokens: &Tokens<'_>) -> bool
-    ensures { result ≡ spec.is_nothing tokens.now }
-{
-    is_void(tokens.peek()) && tokens.second_is(Mark::ParenClose)
 }

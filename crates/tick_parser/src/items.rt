@@ -1,7 +1,6 @@
 //! Tokens with their kinds and values.
 
-ghost use Rattle.std.specs.Prelude.{◌≡◌, drop, IfOk, false, []};
-ghost use Rattle.parse_grammar.specs.declared.kind.Kind.TheVariants as k;
+ghost use Rattle.std.specs.Prelude.{◌≡◌, drop, IfOk, false};
 ghost use Rattle.lex_literals.specs.Literals.{numeral_at};
 ghost use Rattle.tick_parser.specs.Items as spec;
 
@@ -137,26 +136,6 @@ fn number_of(bytes: &[u8]) -> (u32, bool)
     (numeral.value.unwrap_or(0), numeral.unsigned)
 }
 
-// What is read of a number.
-fn number_item<'a>(line: u32, number: (u32, bool)) -> Item<'a>
-    ensures { result ≡ record {
-      kind = k.Number;
-      line = line;
-      value = number.0;
-      unsigned = number.1;
-      text = [];
-    } }
-{
-    let (value, unsigned) = number;
-    Item {
-        kind: Kind::Number,
-        line,
-        value,
-        unsigned,
-        text: Bytes::new(&[]),
-    }
-}
-
 #[tactic(auto, unfolding(crate::specs::Items::item_of))]
 fn item_of<'a>(text: &'a [u8], token: &Token) -> Item<'a>
     ensures { result ≡ spec.item_of text.now token.now }
@@ -171,7 +150,16 @@ fn item_of<'a>(text: &'a [u8], token: &Token) -> Item<'a>
             0,
             &[],
         ),
-        TokenKind::Number => number_item(line, number_of(bytes)),
+        TokenKind::Number => {
+            let (value, unsigned) = number_of(bytes);
+            Item {
+                kind: Kind::Number,
+                line,
+                value,
+                unsigned,
+                text: Bytes::new(&[]),
+            }
+        }
         TokenKind::Character => plain_item(
             Kind::Character,
             line,

@@ -18,21 +18,13 @@ use sqlite_items::Items;
 use std::alloc::Global;
 use tick_tree::{Deny, External, Fault, FaultKind, Token, Tree};
 
-// The line behind the last byte.
-fn last_line(text: &[u8]) -> u32
-    requires { length text.now ≤ LONGEST_TEXT }
-    ensures { result ≡ spec.last_line text.now }
-{
-    1 + text.iter().filter(|b| **b == b'\n').count() as u32
-}
-
-// The line of the first token, or of the end of the text.
+// The line of the first token, or of the end of the text: that behind its last byte.
 fn first_line(text: &[u8], tokens: &[Token]) -> u32
     requires { length text.now ≤ LONGEST_TEXT }
     ensures { result ≡ spec.first_line text.now tokens.now }
 {
     match tokens {
-        [] => last_line(text),
+        [] => 1 + text.iter().filter(|b| **b == b'\n').count() as u32,
         [first, ..] => first.line,
     }
 }
