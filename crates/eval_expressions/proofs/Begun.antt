@@ -11,20 +11,21 @@ use Rattle.typed_tree.specs.declared.expression.CapturedWord.{CapturedWord}
 use Rattle.typed_tree.specs.Nodes as node
 use Rattle.typed_tree.specs.Nodes.{Args, Expr}
 use Rattle.staged_meaning.specs.Expressions.{answered, key_of, word_of}
-use Rattle.staged_meaning.specs.Meaning.{eval, eval_args}
+use Rattle.staged_meaning.specs.Meaning.{eval}
 use Rattle.staged_meaning.specs.Specifications.{kinds_of, specify}
-use Rattle.staged_meaning.specs.World.{then_do, with_generated, with_shared, with_variable}
+use Rattle.staged_meaning.specs.World.{with_generated, with_shared, with_variable}
 use Rattle.eval_state.specs.Pending as pending
 use Rattle.eval_state.specs.Pending.{Now}
-use Rattle.eval_state.specs.Rest.{targeted, valued}
+use Rattle.eval_state.specs.Rest.{valued}
 use Rattle.eval_state.specs.declared.parts.Now as code
-use Rattle.eval_state.specs.Less.{heft, held, waiting}
+use Rattle.eval_state.specs.Less.{heft, held}
 use Rattle.eval_state.specs.Library.{IsRead}
 use Rattle.eval_state.specs.Run.{Run, here, in_world, leads, outcome, world}
 use Rattle.eval_state.specs.Steps.{begun}
 use Rattle.eval_state.specs.Views.{now_view}
 use Rattle.eval_simple.specs.Stepped.{IsBegun, IsStep}
-use Rattle.eval_simple.proofs.Stepped.{parts_below, parts_held}
+use Rattle.eval_simple.proofs.Stepped.{parts_below, parts_held, steps_as}
+use Rattle.eval_expressions.specs.Arguments.{IsComing, coming}
 use Rattle.eval_expressions.proofs.Steps.{begins, behind, giving, leaf}
 
 pub constant : (e : Expr) (x : ℕ) (n : Now) (r t : Run) → e ≡ node.Const x → IsStep (giving x (world r) r) 1 n r t
@@ -113,28 +114,18 @@ module _ {E : Type 0} (result : std.Result code.Now E) where
       begins result e node.Local r t is (parts_held result _ _ (held r) _ r t refl (omega arith) same units less)
 
   pub call : (answer : Answer) (f : ℕ) (args : Args) (e : Expr) (r t : Run) → e ≡ node.Call answer f args
-      → IfOk result (λ n. outcome (now_view n) t ≡ leads r (valued (then_do (eval_args (here r) args (world r))
-      (λ vs w. targeted (here r) (pending.Direct answer f) vs w))))
-      → IfOk result (λ n. t.state.units ≤ r.state.units)
-      → IfOk result (λ n. t.state.units ≡ r.state.units
-      → heft (now_view n) t < waiting (pending.Argument (pending.Direct answer f) args []) r + held r)
+      → IfOk result (λ n. IsComing (pending.Direct answer f) args [] (now_view n) r t)
       → IfOk result (λ n. IsBegun e (now_view n) r t)
   unfolding begun
-  call answer f args e r t is same units less =
-      begins result e (node.Call answer f args) r t is
-      (parts_below result _ _ _ _ r t refl (omega arith) same units less)
+  call answer f args e r t is h =
+      begins result e (node.Call answer f args) r t is (steps_as result _ _ _ _ r t refl (omega arith) h)
 
   pub ticks : (tick : ℕ) (args others : Args) (e : Expr) (r t : Run) → others ≡ args → e ≡ node.Tick tick args
-      → IfOk result (λ n. outcome (now_view n) t ≡ leads r (valued (then_do (eval_args (here r) args (world r))
-      (λ vs w. targeted (here r) (pending.Specified tick (kinds_of others)) vs w))))
-      → IfOk result (λ n. t.state.units ≤ r.state.units)
-      → IfOk result (λ n. t.state.units ≡ r.state.units
-      → heft (now_view n) t < waiting (pending.Argument (pending.Specified tick (kinds_of others)) args []) r + held r)
+      → IfOk result (λ n. IsComing (pending.Specified tick (kinds_of others)) args [] (now_view n) r t)
       → IfOk result (λ n. IsBegun e (now_view n) r t)
   unfolding begun
-  ticks tick args others e r t one is same units less =
+  ticks tick args others e r t one is h =
       begins result e (node.Tick tick args) r t is
-      (parts_below result _ _ _ _ r t
-      (ap (λ args'. leads r (valued (then_do (eval_args (here r) args (world r)) (λ vs w. targeted (here r)
-      (pending.Specified tick (kinds_of args')) vs w)))) one)
-      (omega arith) same units less)
+      (steps_as result _ _ _ _ r t
+      (ap (λ args'. coming (pending.Specified tick (kinds_of args')) args [] r) one)
+      (omega arith) h)

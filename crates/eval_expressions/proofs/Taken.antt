@@ -1,5 +1,5 @@
 -- What the frames make of a value that is there.
-use Rattle.std.proofs.Common.{◌≡◌, ◌≤◌, ◌<◌, ◌+◌, ℕ, suc, [], IfOk, refl, ap, sym, subst, arith}
+use Rattle.std.proofs.Common.{◌≡◌, ◌≤◌, ◌+◌, ℕ, suc, List, [], ◌∷◌, ◌++◌, IfOk, refl, ap, sym, subst, ◌∙◌, arith}
 use Rattle.std.proofs.Common as std
 use Rattle.word32.specs.declared.width.Width.{Width}
 use Rattle.icode_ops.specs.declared.kind.UnKind.{UnKind}
@@ -7,19 +7,19 @@ use Rattle.meaning_state.specs.Operators.{un_value}
 use Rattle.typed_tree.specs.declared.expression.Answer.{Answer}
 use Rattle.typed_tree.specs.Nodes.{Args, Expr}
 use Rattle.staged_meaning.specs.Expressions.{store_at}
-use Rattle.staged_meaning.specs.Meaning.{eval_args}
 use Rattle.staged_meaning.specs.Specifications.{compile_number, specify_parameter}
-use Rattle.staged_meaning.specs.World.{then_do}
 use Rattle.eval_state.specs.Pending as pending
-use Rattle.eval_state.specs.Pending.{Frame, Now}
-use Rattle.eval_state.specs.Rest.{targeted, valued}
+use Rattle.eval_state.specs.Pending.{Frame, Now, Target}
+use Rattle.eval_state.specs.Rest.{valued}
 use Rattle.eval_state.specs.declared.parts.Now as code
-use Rattle.eval_state.specs.Less.{heft, held, waiting}
+use Rattle.eval_state.specs.Less.{heft, held}
 use Rattle.eval_state.specs.Run.{Run, here, leads, outcome, world}
 use Rattle.eval_state.specs.Steps.{taken}
 use Rattle.eval_state.specs.Views.{now_view}
 use Rattle.eval_simple.specs.Stepped.{IsStep, IsTaken}
-use Rattle.eval_simple.proofs.Stepped.{parts_below, parts_held, step_as, step_now}
+use Rattle.eval_simple.proofs.Stepped.{parts_held, step_as, step_now, steps_as}
+use Rattle.eval_expressions.specs.Arguments.{IsComing, coming}
+use Rattle.eval_expressions.proofs.AtOnce.{one_more}
 use Rattle.eval_expressions.proofs.Steps.{giving}
 
 -- by what the frame is
@@ -79,21 +79,17 @@ module _ {E : Type 0} (result : std.Result code.Now E) where
       (parts_held result _ _ (held r) _ r t refl (omega arith) same units less)
 
   pub function : (f : Frame) (answer : Answer) (args : Args) (v : ℕ) (r t : Run) → f ≡ pending.Function answer args
-      → IfOk result (λ n. outcome (now_view n) t ≡ leads r (valued (then_do (eval_args (here r) args (world r))
-      (λ vs w. targeted (here r) (pending.Numbered answer v) vs w))))
-      → IfOk result (λ n. t.state.units ≤ r.state.units)
-      → IfOk result (λ n. t.state.units ≡ r.state.units
-      → heft (now_view n) t < waiting (pending.Argument (pending.Numbered answer v) args []) r + held r)
+      → IfOk result (λ n. IsComing (pending.Numbered answer v) args [] (now_view n) r t)
       → IfOk result (λ n. IsTaken f v (now_view n) r t)
   unfolding taken
-  function f answer args v r t is same units less =
+  function f answer args v r t is h =
       takes result f (pending.Function answer args) v r t is
-      (parts_below result _ _ _ _ r t refl (omega arith) same units less)
+      (steps_as result _ _ _ _ r t refl (omega arith) h)
 
-  pub argument : (f g : Frame) (v : ℕ) (r t : Run) → f ≡ g
-      → IfOk result (λ n. outcome (now_view n) t ≡ taken g v r)
-      → IfOk result (λ n. t.state.units ≤ r.state.units)
-      → IfOk result (λ n. t.state.units ≡ r.state.units → heft (now_view n) t < waiting g r + held r)
-      → IfOk result (λ n. IsTaken f v (now_view n) r t)
-  argument f g v r t is same units less =
-      takes result f g v r t is (parts_below result _ _ _ _ r t refl (omega arith) same units less)
+  pub argument : (f : Frame) (target : Target) (args : Args) (done now : List ℕ) (v : ℕ) (r t : Run)
+      → f ≡ pending.Argument target args done → now ≡ done ++ v ∷ []
+      → IfOk result (λ n. IsComing target args now (now_view n) r t) → IfOk result (λ n. IsTaken f v (now_view n) r t)
+  argument f target args done now v r t is more h =
+      takes result f (pending.Argument target args done) v r t is
+      (steps_as result _ _ _ _ r t (ap (λ l. coming target args l r) more ∙ one_more target args done v r)
+      (omega arith) h)

@@ -8,7 +8,7 @@ ghost use Rattle.eval_state.specs.Run.{here, leads, outcome, run_of, world};
 ghost use Rattle.eval_state.specs.Views.{expression_frame, now_view};
 ghost use Rattle.eval_simple.specs.Stepped.{IsTaken};
 
-use crate::arguments::{argument, first_argument};
+use crate::arguments::{first_argument, next_argument};
 use crate::memory::{load, modified, modify, post, put};
 use crate::next::{give, wait};
 use crate::operands::first;
@@ -69,6 +69,10 @@ fn take<'a>(m: &mut Machine<'a>, v: u32, frame: ExpressionFrame<'a>) -> Result<N
         ExpressionFrame::Function(answer, list) => {
             first_argument(m, Target::Numbered(answer, v), list)
         }
-        ExpressionFrame::Argument(target, more, done) => argument(m, target, more, done, v),
+        ExpressionFrame::Argument(target, more, done) => {
+            let mut done = done;
+            done.push(v)?;
+            next_argument(m, target, more, done)
+        }
     }
 }

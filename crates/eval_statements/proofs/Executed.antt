@@ -19,6 +19,7 @@ use Rattle.eval_state.specs.Steps.{executed}
 use Rattle.eval_state.specs.Views.{now_view}
 use Rattle.eval_simple.specs.Stepped.{IsExecuted, IsPushed, IsStep}
 use Rattle.eval_simple.proofs.Stepped.{parts_below, pushes, same_of, step_now, steps_as, waits}
+use Rattle.eval_statements.specs.Ran.{whole}
 use Rattle.eval_statements.specs.Turned.{IsTurn}
 use Rattle.eval_statements.proofs.Begins as way
 
@@ -198,25 +199,11 @@ pub return_ends : (s : Stmt) (r : Run) → s ≡ node.Return → IsExecuted s (p
 unfolding executed
 return_ends s r is = ended s node.Return (pending.Returned 0) r is refl (omega arith)
 
--- ---- what follows it
-
-pub goes_further : {E : Type 0} (result : std.Result code.Now E) (s : Stmt) (n : Now) (r t u : Run) → IsExecuted s n r t
-    → IfOk result (λ k. outcome (now_view k) u ≡ outcome n t) → IfOk result (λ k. u.state.units ≤ t.state.units)
-    → IfOk result (λ k. u.state.units ≡ t.state.units → heft (now_view k) u ≤ heft n t)
-    → IfOk result (λ k. IsExecuted s (now_view k) r u)
-goes_further (std.Ok k) s n r t u h same units less = record {
-  same = same ∙ h.same;
-  units = omega (arith, units, h.units);
-  less = λ still.
-      let first : t.state.units ≡ r.state.units = omega (arith, units, h.units, still) in
-      let last : u.state.units ≡ t.state.units = omega (arith, units, h.units, still) in
-      omega (arith, less last, h.less first);
-}
-goes_further (std.Err x) s n r t u h same units less = same
+-- ---- what is gone on with
 
 most : {E : Type 0} (result : std.Result code.Now E) (b : Result Signal) (m : ℕ) (r t : Run)
     → IfOk result (λ n. IsStep b m (now_view n) r t)
-    → IfOk result (λ n. t.state.units ≡ r.state.units → heft (now_view n) t ≤ m)
+    → IfOk result (λ n. t.state.units ≡ r.state.units → heft (now_view n) t + 1 ≤ m)
 most (std.Ok n) b m r t h = λ still. omega (arith, h.less still)
 most (std.Err x) b m r t h = h
 
@@ -228,7 +215,7 @@ module _ {E : Type 0} (result : std.Result code.Now E) (next : Now) (s : Stmt) (
       subst (λ next. IfOk result (λ n. outcome (now_view n) t ≡ outcome next r)) (sym is) (same_of result _ _ r t h)
 
   pub less_than_next : next ≡ pending.Exec s → IfOk result (λ n. IsExecuted s (now_view n) r t)
-      → IfOk result (λ n. t.state.units ≡ r.state.units → heft (now_view n) t ≤ heft next r)
+      → IfOk result (λ n. t.state.units ≡ r.state.units → heft (now_view n) t + whole next ≤ heft next r)
   less_than_next is h =
-      subst (λ next. IfOk result (λ n. t.state.units ≡ r.state.units → heft (now_view n) t ≤ heft next r)) (sym is)
-      (most result _ _ r t h)
+      subst (λ next. IfOk result (λ n. t.state.units ≡ r.state.units → heft (now_view n) t + whole next ≤ heft next r))
+      (sym is) (most result _ _ r t h)

@@ -22,7 +22,7 @@ use Rattle.eval_state.specs.Steps.{executed, taken}
 use Rattle.eval_statements.proofs.Begins as begins
 use Rattle.eval_state.specs.Run.{Run, run_of, here, world, leads, outcome, in_world}
 use Rattle.eval_simple.specs.Simple.{IsDone}
-use Rattle.eval_statements.specs.Ran.{IsRun, HasRun, IsGoing, IsStarted}
+use Rattle.eval_statements.specs.Ran.{IsRun, HasRun, IsGoing, whole}
 
 -- ---- weights
 
@@ -36,15 +36,11 @@ pub stays : (r : Run) (s : Stmt) → IsGoing s (Exec s) r r
 unfolding IsGoing
 stays r s = (refl, refl, omega arith, λ same. omega arith)
 
-pub goes : (s : Stmt) (n : Now) (r t : Run) → IsStarted s n r t → IsGoing s n r t
-unfolding IsGoing IsStarted
-goes s n r t h = (h.0, h.1, h.2, λ same. omega (arith, h.3 same))
-
 -- ---- statements without parts
 
 leaf : (r : Run) (s : Stmt) (n : Now) → doing (here r) n (world r) ≡ left (exec (here r) s (world r))
-    → loaded n r ≡ 0 → IsStarted s n r r
-unfolding IsStarted
+    → loaded n r ≡ 0 → IsGoing s n r r
+unfolding IsGoing
 leaf r s n h light = (
   refl,
   h,
@@ -52,25 +48,25 @@ leaf r s n h light = (
   λ same. omega (arith, light, weighs (capture_weight r.program.ticks r.state.body.captures) s),
 )
 
-pub starts_return : (r : Run) → IsStarted node.Return (pending.Returned 0) r r
+pub starts_return : (r : Run) → IsGoing node.Return (pending.Returned 0) r r
 starts_return r = leaf r node.Return (pending.Returned 0) refl refl
 
-pub starts_break : (r : Run) → IsStarted node.Break (pending.Left Broke) r r
+pub starts_break : (r : Run) → IsGoing node.Break (pending.Left Broke) r r
 starts_break r = leaf r node.Break (pending.Left Broke) refl refl
 
-pub starts_continue : (r : Run) → IsStarted node.Continue (pending.Left Continued) r r
+pub starts_continue : (r : Run) → IsGoing node.Continue (pending.Left Continued) r r
 starts_continue r = leaf r node.Continue (pending.Left Continued) refl refl
 
-pub starts_case : (r : Run) (v : ℕ) → IsStarted (node.Case v) (pending.Left Normal) r r
+pub starts_case : (r : Run) (v : ℕ) → IsGoing (node.Case v) (pending.Left Normal) r r
 starts_case r v = leaf r (node.Case v) (pending.Left Normal) refl refl
 
-pub starts_default : (r : Run) → IsStarted node.Default (pending.Left Normal) r r
+pub starts_default : (r : Run) → IsGoing node.Default (pending.Left Normal) r r
 starts_default r = leaf r node.Default (pending.Left Normal) refl refl
 
 -- ---- statements that run to their end
 
-pub runs_through : (s : Stmt) (r t : Run) → IsRun s r t → IsStarted s (pending.Left Normal) r t
-unfolding IsRun IsStarted
+pub runs_through : (s : Stmt) (r t : Run) → IsRun s r t → IsGoing s (pending.Left Normal) r t
+unfolding IsRun IsGoing
 runs_through s r t h = (
   h.0,
   ap left (sym h.1),
@@ -81,8 +77,8 @@ runs_through s r t h = (
 -- ---- a value is returned
 
 pub returns : (e : Expr) (v : ℕ) (r t : Run) → IsDone e v r t
-    → IsStarted (node.ReturnValue e) (pending.Returned v) r t
-unfolding IsDone IsStarted
+    → IsGoing (node.ReturnValue e) (pending.Returned v) r t
+unfolding IsDone IsGoing
 returns e v r t h = (
   h.0,
   ap (λ x. after (here r) pending.Return (valued x)) (sym h.1) ∙ statement.returns (here r) e (world r),
@@ -93,8 +89,8 @@ returns e v r t h = (
 -- ---- choices
 
 pub test_fails : (e : Expr) (s : Stmt) (v : ℕ) (r t : Run) → v ≡ 0 → IsDone e v r t
-    → IsStarted (node.If e s) (pending.Left Normal) r t
-unfolding IsDone IsStarted
+    → IsGoing (node.If e s) (pending.Left Normal) r t
+unfolding IsDone IsGoing
 test_fails e s v r t none h = (
   h.0,
   ap (λ v. left (at_zero v (Gives Normal (world t)) (exec (here r) s (world t)))) (sym none)
@@ -114,8 +110,8 @@ here_still r t h = ap here h
 -- what is left to do of a branch is left to do of the choice
 module _ (s s1 : Stmt) (n : Now) (e : Expr) (v : ℕ) (r t u : Run)
     (done : IsDone e v r t) (going : IsGoing s1 n t u) where
-  pub behind : left (exec (here r) s1 (world t)) ≡ left (exec (here r) s (world r)) → IsStarted s n r u
-  unfolding IsDone IsGoing IsStarted
+  pub behind : left (exec (here r) s1 (world t)) ≡ left (exec (here r) s (world r)) → IsGoing s n r u
+  unfolding IsDone IsGoing
   behind is =
       let place : here t ≡ here r = here_still r t done.0 in (
         going.0 ∙ ap (in_world (world u)) done.0,
@@ -125,7 +121,7 @@ module _ (s s1 : Stmt) (n : Now) (e : Expr) (v : ℕ) (r t u : Run)
       )
 
 pub test_holds : (e : Expr) (s : Stmt) (n : Now) (v : ℕ) (r t u : Run) → v ≢ 0 → IsDone e v r t → IsGoing s n t u
-    → IsStarted (node.If e s) n r u
+    → IsGoing (node.If e s) n r u
 unfolding IsDone
 test_holds e s n v r t u some h k =
     behind (node.If e s) s n e v r t u h k
@@ -133,7 +129,7 @@ test_holds e s n v r t u some h k =
     ∙ ap (λ x. after (here r) (pending.If s) (valued x)) (sym h.1) ∙ statement.if_then (here r) e s (world r))
 
 pub first_chosen : (e : Expr) (s1 s2 : Stmt) (n : Now) (v : ℕ) (r t u : Run) → v ≢ 0 → IsDone e v r t
-    → IsGoing s1 n t u → IsStarted (node.IfElse e s1 s2) n r u
+    → IsGoing s1 n t u → IsGoing (node.IfElse e s1 s2) n r u
 unfolding IsDone
 first_chosen e s1 s2 n v r t u some h k =
     behind (node.IfElse e s1 s2) s1 n e v r t u h k
@@ -142,13 +138,39 @@ first_chosen e s1 s2 n v r t u some h k =
     ∙ statement.if_else (here r) e s1 s2 (world r))
 
 pub second_chosen : (e : Expr) (s1 s2 : Stmt) (n : Now) (v : ℕ) (r t u : Run) → v ≡ 0 → IsDone e v r t
-    → IsGoing s2 n t u → IsStarted (node.IfElse e s1 s2) n r u
+    → IsGoing s2 n t u → IsGoing (node.IfElse e s1 s2) n r u
 unfolding IsDone
 second_chosen e s1 s2 n v r t u none h k =
     behind (node.IfElse e s1 s2) s2 n e v r t u h k
     (ap (λ v. left (at_zero v (exec (here r) s2 (world t)) (exec (here r) s1 (world t)))) (sym none)
     ∙ ap (λ x. after (here r) (pending.IfElse s1 s2) (valued x)) (sym h.1)
     ∙ statement.if_else (here r) e s1 s2 (world r))
+
+-- ---- of a statement, by the one that it is
+
+pub like : (s g : Stmt) (n : Now) (r t : Run) → s ≡ g → IsGoing g n r t → IsGoing s n r t
+like s g n r t is h = subst (λ q. IsGoing q n r t) (sym is) h
+
+pub then_goes : {E : Type 0} (result : std.Result code.Now E) (q s : Stmt) (e : Expr) (v : ℕ) (r t u : Run)
+    → q ≡ node.If e s → v ≢ 0 → IsDone e v r t → IfOk result (λ n. IsGoing s (now_view n) t u)
+    → IfOk result (λ n. IsGoing q (now_view n) r u)
+then_goes (std.Ok n) q s e v r t u is some h k =
+    like q (node.If e s) (now_view n) r u is (test_holds e s (now_view n) v r t u some h k)
+then_goes (std.Err x) q s e v r t u is some h k = k
+
+pub first_goes : {E : Type 0} (result : std.Result code.Now E) (q s1 s2 : Stmt) (e : Expr) (v : ℕ) (r t u : Run)
+    → q ≡ node.IfElse e s1 s2 → v ≢ 0 → IsDone e v r t → IfOk result (λ n. IsGoing s1 (now_view n) t u)
+    → IfOk result (λ n. IsGoing q (now_view n) r u)
+first_goes (std.Ok n) q s1 s2 e v r t u is some h k =
+    like q (node.IfElse e s1 s2) (now_view n) r u is (first_chosen e s1 s2 (now_view n) v r t u some h k)
+first_goes (std.Err x) q s1 s2 e v r t u is some h k = k
+
+pub second_goes : {E : Type 0} (result : std.Result code.Now E) (q s1 s2 : Stmt) (e : Expr) (v : ℕ) (r t u : Run)
+    → q ≡ node.IfElse e s1 s2 → v ≡ 0 → IsDone e v r t → IfOk result (λ n. IsGoing s2 (now_view n) t u)
+    → IfOk result (λ n. IsGoing q (now_view n) r u)
+second_goes (std.Ok n) q s1 s2 e v r t u is none h k =
+    like q (node.IfElse e s1 s2) (now_view n) r u is (second_chosen e s1 s2 (now_view n) v r t u none h k)
+second_goes (std.Err x) q s1 s2 e v r t u is none h k = k
 
 -- ---- items that run to their ends
 
@@ -170,8 +192,8 @@ one_ran items more s r t u h k =
     )
 
 pub block_done : (items rest : Items) (r t : Run) → HasRun items rest r t → rest ≡ NoItem
-    → IsStarted (node.Block NoItem items) (pending.Left Normal) r t
-unfolding HasRun IsStarted
+    → IsGoing (node.Block NoItem items) (pending.Left Normal) r t
+unfolding HasRun IsGoing
 block_done items rest r t h all = (
   h.0,
   ap (λ l. left (exec_items (here r) l (world t))) (sym all) ∙ ap left (sym h.1),
@@ -188,8 +210,8 @@ pub none_left : (list : List tree.Stmt) → true ≡ (length list == 0) → item
 none_left list h = empty list (eqb-true (length list) 0 (sym h))
 
 pub block_left : (items rest : Items) (r t : Run) → HasRun items rest r t
-    → IsStarted (node.Block NoItem items) (pending.Run rest) r t
-unfolding HasRun IsStarted
+    → IsGoing (node.Block NoItem items) (pending.Run rest) r t
+unfolding HasRun IsGoing
 block_left items rest r t h = (
   h.0,
   ap left (sym h.1),
@@ -198,8 +220,8 @@ block_left items rest r t h = (
 )
 
 pub block_bare : (variables items : Items) (n : Now) (r t : Run) → variables ≡ NoItem
-    → IsStarted (node.Block NoItem items) n r t → IsStarted (node.Block variables items) n r t
-block_bare variables items n r t none h = subst (λ vs. IsStarted (node.Block vs items) n r t) (sym none) h
+    → IsGoing (node.Block NoItem items) n r t → IsGoing (node.Block variables items) n r t
+block_bare variables items n r t none h = subst (λ vs. IsGoing (node.Block vs items) n r t) (sym none) h
 
 -- ---- where it leads
 
@@ -226,67 +248,47 @@ leads_behind s n more r t h =
     ∙ ap (λ x. leads r (after (here r) (pending.Rest more) x)) h.1
     ∙ ap (leads r) (statement.item (here r) s more (world r))
 
-pub starts : (s : Stmt) (n : Now) (r t : Run) → IsStarted s n r t → outcome n t ≡ outcome (Exec s) r
-unfolding IsStarted
+whole_most : (n : Now) → whole n ≤ 1
+whole_most (Exec s) = omega arith
+whole_most _ = omega arith
+
+pub starts : (s : Stmt) (n : Now) (r t : Run) → IsGoing s n r t → outcome n t ≡ outcome (Exec s) r
+unfolding IsGoing
 starts s n r t h = ap (outcome n) h.0 ∙ ap (leads r) h.1
 
-pub starts_lighter : (s : Stmt) (n : Now) (r t : Run) → IsStarted s n r t → t.state.units ≡ r.state.units
-    → heft n t < heft (Exec s) r
-unfolding IsStarted
+pub starts_lighter : (s : Stmt) (n : Now) (r t : Run) → IsGoing s n r t → t.state.units ≡ r.state.units
+    → heft n t < heft (Exec s) r + whole n
+unfolding IsGoing
 starts_lighter s n r t h same = omega (arith, heft_of n r t h.0, heft_most n r, h.3 same)
 
 pub going_lighter : (s : Stmt) (n : Now) (r t : Run) → IsGoing s n r t → t.state.units ≡ r.state.units
     → heft n t ≤ heft (Exec s) r
 unfolding IsGoing
-going_lighter s n r t h same = omega (arith, heft_of n r t h.0, heft_most n r, h.3 same)
+going_lighter s n r t h same = omega (arith, heft_of n r t h.0, heft_most n r, h.3 same, whole_most n)
 
 pub goes_fewer : (s : Stmt) (n : Now) (r t : Run) → IsGoing s n r t → t.state.units ≤ r.state.units
 unfolding IsGoing
 goes_fewer s n r t h = h.2
 
-pub starts_fewer : (s : Stmt) (n : Now) (r t : Run) → IsStarted s n r t → t.state.units ≤ r.state.units
-unfolding IsStarted
-starts_fewer s n r t h = h.2
-
 pub ruleset items = (none_ran, one_ran)
 
-pub ruleset returning = (returns)
-
-pub ruleset ends = (runs_through)
-
-pub ruleset leaves = (starts_return, starts_break, starts_continue, starts_case, starts_default)
-
-pub ruleset goings = (stays, goes)
-
-pub ruleset ifs = (test_fails, test_holds)
-
-pub ruleset elses = (first_chosen, second_chosen)
-
--- ---- what was found
-
-pub begun : (o : Option code.Now) (s : Stmt) (p q : Parts) (n : code.Now)
-    → MatchOption o (q ≡ p) (λ n. IsStarted s (now_view n) (run_of p) (run_of q))
-    → o ≡ Some n → IsStarted s (now_view n) (run_of p) (run_of q)
-begun o s p q n h is =
-    subst (λ o. MatchOption o (q ≡ p) (λ n. IsStarted s (now_view n) (run_of p) (run_of q))) is h
-
-pub not_begun : (o : Option code.Now) (s : Stmt) (p q : Parts)
-    → MatchOption o (q ≡ p) (λ n. IsStarted s (now_view n) (run_of p) (run_of q)) → o ≡ None → q ≡ p
-not_begun o s p q h is =
-    subst (λ o. MatchOption o (q ≡ p) (λ n. IsStarted s (now_view n) (run_of p) (run_of q))) is h
+pub ruleset goings = (stays, runs_through, starts_return, starts_break, starts_continue, starts_case, starts_default)
 
 -- ---- what is done behind it
 
-pub lighter_behind : {E : Type 0} (result : std.Result code.Now E) (n : Now) (r t u : Run) (y : ℕ)
-    → t.state.units ≤ r.state.units → (t.state.units ≡ r.state.units → heft n t < y)
-    → IfOk result (λ m. u.state.units ≤ t.state.units)
-    → IfOk result (λ m. u.state.units ≡ t.state.units → heft (now_view m) u ≤ heft n t)
-    → IfOk result (λ m. u.state.units ≡ r.state.units → heft (now_view m) u < y)
-lighter_behind (std.Ok m) n r t u y most less units h = λ same.
-    let still : t.state.units ≡ r.state.units = omega (arith, most, units, same) in
-    let last : u.state.units ≡ t.state.units = omega (arith, most, units, same) in
-    omega (arith, less still, h last)
-lighter_behind (std.Err e) n r t u y most less units h = h
+-- a statement is begun, and gone on with twice
+pub lighter_behind : {E : Type 0} (result : std.Result code.Now E) (s : Stmt) (n o : Now) (r t u v : Run)
+    → IsGoing s n r t → u.state.units ≤ t.state.units
+    → (u.state.units ≡ t.state.units → heft o u + whole n ≤ heft n t)
+    → IfOk result (λ m. v.state.units ≤ u.state.units)
+    → IfOk result (λ m. v.state.units ≡ u.state.units → heft (now_view m) v + whole o ≤ heft o u)
+    → IfOk result (λ m. v.state.units ≡ r.state.units → heft (now_view m) v < heft (Exec s) r)
+lighter_behind (std.Ok m) s n o r t u v h fewer less units last = λ same.
+    let begun : t.state.units ≡ r.state.units = omega (arith, goes_fewer s n r t h, fewer, units, same) in
+    let on : u.state.units ≡ t.state.units = omega (arith, goes_fewer s n r t h, fewer, units, same) in
+    let still : v.state.units ≡ u.state.units = omega (arith, goes_fewer s n r t h, fewer, units, same) in
+    omega (arith, starts_lighter s n r t h begun, less on, last still)
+lighter_behind (std.Err e) s n o r t u v h fewer less units last = units
 
 pub lightens_on : (r t s : Run) (x y z : ℕ) → t.state.units ≤ r.state.units → r.state.units ≤ s.state.units → x ≤ y
     → (r.state.units ≡ s.state.units → y ≤ z) → t.state.units ≡ s.state.units → x ≤ z

@@ -10,11 +10,12 @@ ghost use Rattle.eval_state.specs.declared.parts.Now.TheVariants as now;
 ghost use Rattle.eval_state.specs.Run.{here, leads, outcome, run_of, world};
 ghost use Rattle.eval_state.specs.Views.{items_view, now_view};
 ghost use Rattle.eval_simple.specs.Stepped.{IsExecuted};
+ghost use Rattle.eval_statements.specs.Ran.{whole};
 
 use crate::loops::turn;
 use crate::next::wait;
 use crate::parts::block;
-use crate::started::{going, started};
+use crate::started::going;
 use eval_state::{EndFrame, Flow, Frame, Machine, Now, StatementFrame};
 use std::alloc::AllocError;
 use typed_tree::Stmt;
@@ -30,22 +31,18 @@ pub fn exec<'a>(m: &mut Machine<'a>, s: &'a Stmt) -> Result<Now<'a>, AllocError>
     ensures less { IfOk result (λ n. (run_of m.new).state.units ≡ (run_of m.old).state.units
         → heft (now_view n) (run_of m.new) < heft (now_view (now.Exec s.entry)) (run_of m.old)) }
 {
-    match started(m, s)? {
-        Some(n) => further(m, n),
-        None => {
-            let n = begin(m, s)?;
-            further(m, n)
-        }
-    }
+    let next = going(m, s)?;
+    let begun = further(m, next)?;
+    further(m, begun)
 }
 
-// Goes on where statements are left to do.
+// Goes on where statements are left to do; a statement alone gets lighter by it.
 fn further<'a>(m: &mut Machine<'a>, next: Now<'a>) -> Result<Now<'a>, AllocError>
     ensures same { IfOk result (λ n. outcome (now_view n) (run_of m.new)
         ≡ outcome (now_view next.entry) (run_of m.old)) }
     ensures units { IfOk result (λ n. (run_of m.new).state.units ≤ (run_of m.old).state.units) }
     ensures less { IfOk result (λ n. (run_of m.new).state.units ≡ (run_of m.old).state.units
-        → heft (now_view n) (run_of m.new) ≤ heft (now_view next.entry) (run_of m.old)) }
+        → heft (now_view n) (run_of m.new) + whole (now_view next.entry) ≤ heft (now_view next.entry) (run_of m.old)) }
 {
     match next {
         Now::Exec(s) => begin(m, s),

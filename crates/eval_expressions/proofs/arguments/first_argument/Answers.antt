@@ -1,21 +1,15 @@
-use Rattle.std.proofs.Common.{List, [], ℕ, ap, ◌∙◌}
-use Rattle.eval_state.specs.declared.state.Parts.{Parts}
+use Rattle.std.proofs.Common.{[], ℕ, List, subst, IfOk}
 use Rattle.eval_state.specs.Run.{run_of}
-use Rattle.eval_state.specs.Views.{args_view, target_view}
-use Rattle.eval_simple.proofs.Going as going
-use Rattle.eval_expressions.proofs.AtOnce.{coming, weighing}
+use Rattle.eval_state.specs.Views.{args_view, now_view, target_view}
+use Rattle.eval_simple.proofs.Stepped.{unmoved}
+use Rattle.eval_expressions.specs.Arguments.{IsComing}
 use Rattle.eval_expressions.proofs.arguments.first_argument.Goals as goal
 
-pub returns-clause-same : goal.returns-clause-same
-returns-clause-same c =
+pub returns : goal.returns
+returns c =
     let target = target_view c.args.target in
     let list = args_view c.args.list.now in
-    going.same_as c.next_argument.result (run_of c.next_argument.new.m) _ _ c.next_argument.ensures.same
-    (ap (λ (done : List ℕ). coming target list done (run_of c.list-done.new.self)) c.list-done.ensures.empty
-    ∙ ap (λ (p : Parts). coming target list [] (run_of p)) c.list-done.ensures.still)
-
-pub returns-clause-less : goal.returns-clause-less
-returns-clause-less c =
-    going.still_less c.next_argument.result c.args.m.now c.list-done.new.self (run_of c.next_argument.new.m)
-    (weighing (target_view c.args.target) (args_view c.args.list.now) []) c.list-done.ensures.still
-    c.next_argument.ensures.less
+    unmoved c.next_argument.result c.args.m.now c.list-done.new.self
+    (λ n r. IsComing target list [] (now_view n) r (run_of c.next_argument.new.m)) c.list-done.ensures.still
+    (subst (λ (done : List ℕ). IfOk c.next_argument.result (λ n. IsComing target list done (now_view n)
+    (run_of c.list-done.new.self) (run_of c.next_argument.new.m))) c.list-done.ensures.empty c.next_argument.ensures)

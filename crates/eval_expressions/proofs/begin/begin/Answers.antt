@@ -105,8 +105,7 @@ returns-in-Void c =
 pub returns-in-Call : goal.returns-in-Call
 returns-in-Call c =
     leaf.call _ _ _ _ _ _ _ (ap expr_view (c.in-Call.is ∙ ap (λ q. e.Call c.in-Call.answer c.in-Call.f q) (sym
-    c.as_slice.ensures)) ∙ view_call _ _ _) c.first_argument.ensures.same c.first_argument.ensures.units
-    c.first_argument.ensures.less
+    c.as_slice.ensures)) ∙ view_call _ _ _) c.first_argument.ensures
 
 pub returns-in-CallNumber : goal.returns-in-CallNumber
 returns-in-CallNumber c =
@@ -126,7 +125,7 @@ returns-in-Tick c =
     leaf.ticks _ c.in-Tick.tick (args_view c.as_slice-in-Tick-2.result.now) (args_view c.as_slice-in-Tick.result.now)
     _ _ _ (ap args_view (c.as_slice-in-Tick.ensures ∙ sym c.as_slice-in-Tick-2.ensures)) (ap expr_view (c.in-Tick.is ∙
     ap (λ q. e.Tick c.in-Tick.tick q) (sym c.as_slice-in-Tick-2.ensures)) ∙ view_tick _ _)
-    c.first_argument-in-Tick.ensures.same c.first_argument-in-Tick.ensures.units c.first_argument-in-Tick.ensures.less
+    c.first_argument-in-Tick.ensures
 
 pub returns-in-Capture : goal.returns-in-Capture
 returns-in-Capture c =

@@ -76,10 +76,9 @@ returns-in-ParamOf c =
 
 pub returns-in-Function : goal.returns-in-Function
 returns-in-Function c =
-    done.function _ _ _ _ _ _ _ (ap expression_frame c.in-Function.is) c.first_argument.ensures.same
-    c.first_argument.ensures.units c.first_argument.ensures.less
+    done.function _ _ _ _ _ _ _ (ap expression_frame c.in-Function.is) c.first_argument.ensures
 
-pub returns-in-Argument : goal.returns-in-Argument
-returns-in-Argument c =
-    done.argument _ _ _ _ _ _ (ap expression_frame c.in-Argument.is) c.argument.ensures.same
-    c.argument.ensures.units c.argument.ensures.less
+pub returns-in_ok-push-in-Argument : goal.returns-in_ok-push-in-Argument
+returns-in_ok-push-in-Argument c =
+    done.argument _ _ _ _ _ _ _ _ _ (ap expression_frame c.in-Argument.is) c.in_ok-push-in-Argument.ensures.ok
+    c.next_argument.ensures
