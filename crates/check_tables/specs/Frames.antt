@@ -11,7 +11,6 @@ use Rattle.c_types.specs.Kinds.{is_array}
 use Rattle.check_types.specs.Shapes.{width_of, void}
 use Rattle.typed_tree.specs.declared.expression.Stmt.{Stmt}
 use Rattle.typed_tree.specs.declared.expression.Stmt.TheVariants as st
-use Rattle.check_tables.specs.declared.frame.Home.{Home}
 use Rattle.check_tables.specs.declared.frame.Home.TheVariants as home
 use Rattle.check_tables.specs.declared.frame.Frame.{Frame}
 use Rattle.limits.specs.declared.program.TheConstants.{PLACE_TOP}

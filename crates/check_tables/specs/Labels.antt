@@ -1,16 +1,13 @@
 -- The cases of the innermost switch so far: no value and no `default` stands twice in one switch.
-use Rattle.std.specs.Prelude.{ℕ, ◌==◌, Bool, true, false, List, [], ◌∷◌, ◌++◌, if◌then◌else◌, Ok}
-use Rattle.std.specs.List.{list_any}
+use Rattle.std.specs.Prelude.{ℕ, true, false, [], ◌∷◌, ◌++◌, if◌then◌else◌, Ok}
 use Rattle.tick_tree.specs.declared.fault.FaultKind.TheVariants.{DuplicateCase}
-use Rattle.tick_tree.specs.Faults.{Checked, refuse}
+use Rattle.tick_tree.specs.Faults.{refuse}
 use Rattle.check_tables.specs.declared.labels.Labels.{Labels}
+use Rattle.check_tables.specs.Members.{is_member}
 use Rattle.check_tables.specs.Walks.{Rule}
 
 abbrev pub new : Labels
 new = record { values = []; has_default = false }
-
-abbrev pub is_member : ℕ → List ℕ → Bool
-is_member n xs = list_any (λ x. n == x) xs
 
 -- the label of a `case`: its value stands in no earlier case of the switch
 unfoldable pub case : ℕ → ℕ → Rule Labels (Unit {0})

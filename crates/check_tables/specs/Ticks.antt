@@ -1,6 +1,6 @@
 -- What a tick captures, in the order of the text, one capture for each occurrence; and the ticks of the program so far.
 -- A tick has the number of the ticks before it. These are this project's own rules.
-use Rattle.std.specs.Prelude.{ℕ, min, List, [], ◌∷◌, ◌++◌}
+use Rattle.std.specs.Prelude.{ℕ, min, [], ◌∷◌, ◌++◌}
 use Rattle.limits.specs.declared.program.TheConstants.{NODE_TOP}
 use Rattle.typed_tree.specs.declared.expression.CaptureKind.{CaptureKind}
 use Rattle.typed_tree.specs.declared.expression.Expr.{Expr}

@@ -1,8 +1,6 @@
 //! The function that the walk is in: its variables, and which of them need an address.
 
-ghost use Rattle.std.specs.Prelude.{◌≡◌, ◌+◌, min, OnOk, slice_get};
-ghost use Rattle.std.specs.Option.{option_copied};
-ghost use Rattle.c_types.specs.Kinds as kinds;
+ghost use Rattle.std.specs.Prelude.{◌≡◌, ◌+◌, ◌++◌, ◌∷◌, [], false, min, OnOk};
 ghost use Rattle.check_tables.specs.Frames as spec;
 
 use c_types::{Layer, TypeRef, limited_size};
@@ -71,21 +69,6 @@ pub(crate) fn plus(a: u32, b: u32) -> u32
     (u64::from(a) + u64::from(b)).min(4294967295) as u32
 }
 
-fn mark_of(marks: &Items<bool>, n: usize) -> bool
-    ensures { result ≡ spec.mark_by (slice_get marks.now n) }
-{
-    match marks.get(n) {
-        None => false,
-        Some(mark) => *mark,
-    }
-}
-
-fn is_array(last: Option<&Layer>) -> bool
-    ensures { result ≡ kinds.is_array_layer (option_copied last.entry) }
-{
-    matches!(last, Some(Layer::Array(_)))
-}
-
 fn words(t: &TypeRef) -> u32
     ensures { result ≡ spec.words t.now }
 {
@@ -137,7 +120,10 @@ impl Frame {
     {
         match self.objects.get(self.done.len()) {
             None => false,
-            Some(marks) => mark_of(marks, self.homes.len()),
+            Some(marks) => match marks.get(self.homes.len()) {
+                None => false,
+                Some(mark) => *mark,
+            },
         }
     }
 
@@ -155,28 +141,16 @@ impl Frame {
     pub fn is_object(&self, t: &TypeRef) -> bool
         ensures { result ≡ spec.is_object t.now self.now }
     {
-        is_array(t.outermost()) || self.needs_address()
+        matches!(t.outermost(), Some(Layer::Array(_))) || self.needs_address()
     }
 
-    fn object_variable(&mut self, words: u32) -> Result<(), AllocError>
-        ensures { OnOk result (self.new ≡ spec.object_variable words self.old) }
+    // Where the next variable stands, which has no mark yet.
+    fn stand(&mut self, home: Home) -> Result<(), AllocError>
+        ensures { OnOk result (self.new
+            ≡ record self.old { homes = self.old.homes ++ home ∷ []; marks = self.old.marks ++ false ∷ [] }) }
     {
-        let at = self.object;
-        self.homes.push(Home::Object(at))?;
-        self.marks.push(false)?;
-        self.nodes.push(Stmt::Object(at, words))?;
-        self.object = after(at, words);
-        Ok(())
-    }
-
-    fn register_variable(&mut self) -> Result<(), AllocError>
-        ensures { OnOk result (self.new ≡ spec.register_variable self.old) }
-    {
-        let n = self.number();
-        self.homes.push(Home::Register)?;
-        self.marks.push(false)?;
-        self.nodes.push(Stmt::Variable(n))?;
-        Ok(())
+        self.homes.push(home)?;
+        self.marks.push(false)
     }
 
     /// One variable more of a block of the function: a frame object where it is an array, or where an earlier walk saw that
@@ -186,32 +160,16 @@ impl Frame {
         ensures { OnOk result (self.new ≡ spec.variable t.now self.old) }
     {
         if self.is_object(t) {
-            self.object_variable(words(t))
+            let at = self.object;
+            let words = words(t);
+            self.stand(Home::Object(at))?;
+            self.object = after(at, words);
+            self.nodes.push(Stmt::Object(at, words))
         } else {
-            self.register_variable()
+            let n = self.number();
+            self.stand(Home::Register)?;
+            self.nodes.push(Stmt::Variable(n))
         }
-    }
-
-    fn object_parameter(&mut self, t: &TypeRef) -> Result<(), AllocError>
-        ensures { OnOk result (self.new ≡ spec.object_parameter t.now self.old) }
-    {
-        let n = self.number();
-        let at = self.object;
-        self.homes.push(Home::Object(at))?;
-        self.marks.push(false)?;
-        self.nodes.push(Stmt::ParameterObject(n, width_of(t), at))?;
-        self.object = after(at, 1);
-        Ok(())
-    }
-
-    fn register_parameter(&mut self, t: &TypeRef) -> Result<(), AllocError>
-        ensures { OnOk result (self.new ≡ spec.register_parameter t.now self.old) }
-    {
-        let n = self.number();
-        self.homes.push(Home::Register)?;
-        self.marks.push(false)?;
-        self.nodes.push(Stmt::Parameter(n, width_of(t)))?;
-        Ok(())
     }
 
     /// One parameter more of the function: a frame object where an earlier walk saw that it needs an address.
@@ -219,10 +177,16 @@ impl Frame {
     pub fn parameter(&mut self, t: &TypeRef) -> Result<(), AllocError>
         ensures { OnOk result (self.new ≡ spec.parameter t.now self.old) }
     {
+        let n = self.number();
+        let width = width_of(t);
         if self.needs_address() {
-            self.object_parameter(t)
+            let at = self.object;
+            self.stand(Home::Object(at))?;
+            self.object = after(at, 1);
+            self.nodes.push(Stmt::ParameterObject(n, width, at))
         } else {
-            self.register_parameter(t)
+            self.stand(Home::Register)?;
+            self.nodes.push(Stmt::Parameter(n, width))
         }
     }
 

@@ -27,40 +27,12 @@ fn aligned(n: u32) -> u32
     ((u64::from(n) + 3) / 4 * 4).min(PLACE_TOP) as u32
 }
 
-fn gap(n: usize) -> usize
-    ensures { result ≡ spec.gap n }
+// Puts so many zeros behind these bytes.
+fn add_zeros(alloc: Global, bytes: &mut Items<u8>, n: usize) -> Result<(), AllocError>
+    ensures { OnOk result (bytes.new ≡ bytes.old ++ replicate n 0) }
 {
-    (4 - n % 4) % 4
-}
-
-fn word(n: u64) -> u32
-    ensures { result ≡ spec.word n }
-{
-    n.min(4294967295) as u32
-}
-
-// These bytes and so many zeros.
-fn with_zeros(alloc: Global, bytes: Items<u8>, n: usize) -> Result<Items<u8>, AllocError>
-    ensures { IfOk result (λ all. all ≡ bytes ++ replicate n 0) }
-{
-    let mut bytes = bytes;
     let zeros = vec![in alloc; 0; n]?;
-    bytes.append(Items::from_vec(zeros))?;
-    Ok(bytes)
-}
-
-fn padded(alloc: Global, bytes: Items<u8>) -> Result<Items<u8>, AllocError>
-    ensures { IfOk result (λ all. all ≡ spec.padded bytes) }
-{
-    let n = gap(bytes.len());
-    with_zeros(alloc, bytes, n)
-}
-
-fn up_to(alloc: Global, n: u32, bytes: Items<u8>) -> Result<Items<u8>, AllocError>
-    ensures { IfOk result (λ all. all ≡ spec.up_to n bytes) }
-{
-    let missing = (n as usize).saturating_sub(bytes.len());
-    with_zeros(alloc, bytes, missing)
+    bytes.append(Items::from_vec(zeros))
 }
 
 impl Image {
@@ -81,15 +53,14 @@ impl Image {
         ensures place { IfOk result (λ a. a ≡ spec.string_place self.old) }
         ensures after { OnOk result (self.new ≡ spec.with_string bytes.now self.old) }
     {
-        let strings = std::mem::replace(&mut self.strings, Items::new(alloc));
-        let mut strings = padded(alloc, strings)?;
-        let at = strings.len().min(u32::MAX as usize) as u64;
-        let address = word(u64::from(map::OBJECTS) + u64::from(self.strings_at) + at);
+        let missing = (4 - self.strings.len() % 4) % 4;
+        add_zeros(alloc, &mut self.strings, missing)?;
+        let at = self.strings.len().min(u32::MAX as usize) as u64;
+        let address = u64::from(map::OBJECTS) + u64::from(self.strings_at) + at;
         let mut own = Items::from_slice(alloc, bytes)?;
         own.push(0)?;
-        strings.append(own)?;
-        self.strings = strings;
-        Ok(address)
+        self.strings.append(own)?;
+        Ok(address.min(u64::from(u32::MAX)) as u32)
     }
 
     /// Takes a global of so many bytes; its place, from the first one on.
@@ -109,11 +80,9 @@ impl Image {
         if at > map::GLOBAL_BYTES {
             return Ok(());
         }
-        let globals = std::mem::replace(&mut self.globals, Items::new(alloc));
-        let mut globals = up_to(alloc, at, globals)?;
-        globals.append(bytes)?;
-        self.globals = globals;
-        Ok(())
+        let missing = (at as usize).saturating_sub(self.globals.len());
+        add_zeros(alloc, &mut self.globals, missing)?;
+        self.globals.append(bytes)
     }
 
     /// Goes back before all items, with the end of these globals.

@@ -1,31 +1,38 @@
 //! The cases of a switch.
 
-ghost use Rattle.std.specs.Prelude.{◌≡◌, ◌↔◌, IfOk, OnOk, OnErr, IsTrue, not, if◌then◌else◌, ◌++◌, ◌∷◌, []};
+ghost use Rattle.std.specs.Prelude.{◌≡◌, IfOk, OnOk, not, if◌then◌else◌, ◌++◌, ◌∷◌, []};
 ghost use Rattle.check_tables.specs.Labels as spec;
+ghost use Rattle.check_tables.specs.Members.{is_member};
 ghost use Rattle.check_tables.specs.Walks.{Reads};
 
-use indexmap::IndexSet;
+use collections::push_in_room;
 use std::alloc::{AllocError, Global};
+use std::collections::HashSet;
 use std::marker::Model;
 use tick_tree::{Deny, FaultKind, refused};
 
-/// The values of the cases of a switch, in the order of the text. Contracts see them as a list.
+/// The values of the cases of a switch, in the order of the text. Contracts see them as a list; a value is found among
+/// them by its hash.
 pub struct Values {
-    all: IndexSet<u32>,
+    all: Vec<u32>,
+    found: HashSet<u32>,
 }
 
 impl Drop for Values {
     fn drop(self) {
-        let Values { all: _ } = self;
+        let Values { all: _, found: _ } = self;
     }
 }
 
 impl Model for Values {
     ghost use Rattle.std.specs.Prelude.{ℕ, List};
+    ghost use Rattle.check_tables.specs.Members.{HasAll};
 
     ghost Value = { List ℕ };
 
-    ghost view = { λ s. s.all.keys };
+    ghost view = { λ s. s.all.items };
+
+    ghost invariant = { λ s. HasAll s.found.keys s.all.items };
 }
 
 impl Values {
@@ -34,16 +41,21 @@ impl Values {
         ensures { result ≡ [] }
     {
         Values {
-            all: IndexSet::new(alloc),
+            all: Vec::new(alloc),
+            found: HashSet::new(alloc),
         }
     }
 
     /// Adds a value that isn't there; whether it was added.
     pub fn add(&mut self, value: u32) -> Result<bool, AllocError>
-        ensures added { IfOk result (λ is_new. is_new ≡ not (spec.is_member value self.old)) }
-        ensures after { OnOk result (self.new ≡ (if spec.is_member value self.old then self.old else self.old ++ value ∷ [])) }
+        ensures added { IfOk result (λ is_new. is_new ≡ not (is_member value self.old)) }
+        ensures after { OnOk result (self.new ≡ (if is_member value self.old then self.old else self.old ++ value ∷ [])) }
     {
-        let is_new = self.all.insert(value)?;
+        self.all.reserve(1)?;
+        let is_new = self.found.insert(value)?;
+        if is_new {
+            push_in_room(&mut self.all, value);
+        }
         Ok(is_new)
     }
 }

@@ -18,15 +18,6 @@ pub struct Ticks {
     pub all: Items<Tick>,
 }
 
-fn tick_of(body: TickBody) -> Tick
-    ensures { result ≡ spec.tick_of body }
-{
-    Tick {
-        size: body_size(&body),
-        body,
-    }
-}
-
 impl Ticks {
     /// No ticks.
     pub fn new(alloc: Global) -> Ticks
@@ -68,7 +59,10 @@ impl Ticks {
     {
         let n = count(self.all.len());
         let captures = mem::replace(&mut self.captures, Items::new(alloc));
-        self.all.push(tick_of(body))?;
+        self.all.push(Tick {
+            size: body_size(&body),
+            body,
+        })?;
         Boxed::new(alloc, Expr::Tick(n, captures))
     }
 }

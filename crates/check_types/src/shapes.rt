@@ -1,33 +1,23 @@
 //! What the rules on expressions ask of a type.
 
-ghost use Rattle.std.specs.Prelude.{◌≡◌, ◌<◌, length, IfOk};
-ghost use Rattle.std.specs.Option.{option_copied};
-ghost use Rattle.c_types.specs.Kinds as kinds;
-ghost use Rattle.c_types.specs.Types as types;
+ghost use Rattle.std.specs.Prelude.{◌≡◌, IfOk};
 ghost use Rattle.check_types.specs.Shapes as spec;
 
-use c_types::{Base, Integer, Layer, Layers, TypeRef, promoted};
+use c_types::{Base, Integer, Layer, TypeRef, promoted};
 use icode_ops::UnKind;
 use std::alloc::{AllocError, Global};
 use word32::Width;
-
-fn base_integer(base: Base) -> Option<Integer>
-    ensures { result ≡ spec.base_integer base }
-{
-    match base {
-        Base::Void => None,
-        Base::Integer(kind) => Some(kind),
-    }
-}
 
 /// The integer type that a type is.
 pub fn integer_of(t: &TypeRef) -> Option<Integer>
     ensures { result ≡ spec.integer_of t.now }
 {
-    if t.is_base() {
-        base_integer(t.base())
-    } else {
-        None
+    if !t.is_base() {
+        return None;
+    }
+    match t.base() {
+        Base::Void => None,
+        Base::Integer(kind) => Some(kind),
     }
 }
 
@@ -41,12 +31,6 @@ pub fn is_integer(t: &TypeRef) -> bool
     }
 }
 
-fn is_void_parts(base: Base, layers: &Layers<'_>) -> bool
-    ensures { result ≡ types.is_void base layers.now }
-{
-    layers.is_empty() && base == Base::Void
-}
-
 /// Whether a type is void.
 pub fn is_void(t: &TypeRef) -> bool
     ensures { result ≡ spec.is_void t.now }
@@ -54,55 +38,28 @@ pub fn is_void(t: &TypeRef) -> bool
     t.is_base() && t.base() == Base::Void
 }
 
-fn is_pointer_layer(last: Option<&Layer>) -> bool
-    ensures { result ≡ types.is_pointer (option_copied last.entry) }
-{
-    matches!(last, Some(Layer::Pointer))
-}
-
 /// Whether a type is a pointer.
 pub fn is_pointer(t: &TypeRef) -> bool
     ensures { result ≡ spec.is_pointer t.now }
 {
-    is_pointer_layer(t.outermost())
-}
-
-fn is_array_layer(last: Option<&Layer>) -> bool
-    ensures { result ≡ kinds.is_array_layer (option_copied last.entry) }
-{
-    matches!(last, Some(Layer::Array(_)))
-}
-
-fn is_function_layer(last: Option<&Layer>) -> bool
-    ensures { result ≡ kinds.is_function_layer (option_copied last.entry) }
-{
-    matches!(last, Some(Layer::Function(_) | Layer::Unlisted))
-}
-
-fn is_function_parts(layers: &Layers<'_>) -> bool
-    ensures { result ≡ kinds.is_function layers.now }
-{
-    matches!(layers.last(), Some(Layer::Function(_) | Layer::Unlisted))
+    matches!(t.outermost(), Some(Layer::Pointer))
 }
 
 /// Whether a type is a function.
 pub fn is_function(t: &TypeRef) -> bool
     ensures { result ≡ spec.is_function t.now }
 {
-    is_function_layer(t.outermost())
+    matches!(t.outermost(), Some(Layer::Function(_) | Layer::Unlisted))
 }
 
 /// Whether a type is an array or a function, so that its value is a pointer.
 pub fn decays(t: &TypeRef) -> bool
     ensures { result ≡ spec.decays t.now }
 {
-    is_array_layer(t.outermost()) || is_function_layer(t.outermost())
-}
-
-fn is_word_base(base: Base) -> bool
-    ensures { result ≡ kinds.is_word_base base }
-{
-    matches!(base, Base::Integer(Integer::Int | Integer::Unsigned))
+    matches!(
+        t.outermost(),
+        Some(Layer::Array(_) | Layer::Function(_) | Layer::Unlisted)
+    )
 }
 
 /// Whether a type is int, unsigned int or a pointer.
@@ -110,7 +67,7 @@ pub fn is_word(t: &TypeRef) -> bool
     ensures { result ≡ spec.is_word t.now }
 {
     match t.outermost() {
-        None => is_word_base(t.base()),
+        None => matches!(t.base(), Base::Integer(Integer::Int | Integer::Unsigned)),
         Some(last) => matches!(last, Layer::Pointer),
     }
 }
@@ -122,44 +79,38 @@ pub fn is_scalar(t: &TypeRef) -> bool
     is_integer(t) || is_pointer(t)
 }
 
-fn is_cspec_layer(last: Option<&Layer>) -> bool
-    ensures { result ≡ spec.is_cspec_layer (option_copied last.entry) }
-{
-    matches!(last, Some(Layer::Cspec))
-}
-
 /// Whether a type is that of a specification.
 pub fn is_cspec(t: &TypeRef) -> bool
     ensures { result ≡ spec.is_cspec t.now }
 {
-    is_cspec_layer(t.outermost())
-}
-
-fn is_vspec_layer(last: Option<&Layer>) -> bool
-    ensures { result ≡ spec.is_vspec_layer (option_copied last.entry) }
-{
-    matches!(last, Some(Layer::Vspec))
+    matches!(t.outermost(), Some(Layer::Cspec))
 }
 
 /// Whether a type is that of a variable of generated code.
 pub fn is_vspec(t: &TypeRef) -> bool
     ensures { result ≡ spec.is_vspec t.now }
 {
-    is_vspec_layer(t.outermost())
+    matches!(t.outermost(), Some(Layer::Vspec))
 }
 
 /// Whether a type is a pointer to void.
 pub fn points_to_void(t: &TypeRef) -> bool
     ensures { result ≡ spec.points_to_void t.now }
 {
-    is_pointer(t) && is_void_parts(t.base(), &t.layers().under())
+    is_pointer(t) && t.layers().under().is_empty() && t.base() == Base::Void
 }
 
 /// Whether a type is a pointer to a function.
 pub fn points_to_function(t: &TypeRef) -> bool
     ensures { result ≡ spec.points_to_function t.now }
 {
-    is_pointer(t) && is_function_parts(&t.layers().under())
+    if !is_pointer(t) {
+        return false;
+    }
+    matches!(
+        t.layers().under().last(),
+        Some(Layer::Function(_) | Layer::Unlisted)
+    )
 }
 
 /// An integer type.
@@ -200,25 +151,19 @@ pub fn promoted_type(alloc: Global, t: TypeRef) -> TypeRef
     }
 }
 
-fn integer_width(kind: Integer) -> Width
-    ensures { result ≡ spec.integer_width kind }
+/// How many bytes a scalar has, and how they become a word.
+pub fn width_of(t: &TypeRef) -> Width
+    ensures { result ≡ spec.width_of t.now }
 {
+    let Some(kind) = integer_of(t) else {
+        return Width::Word;
+    };
     match kind {
         Integer::Char => Width::SignedByte,
         Integer::UnsignedChar => Width::Byte,
         Integer::Short => Width::SignedHalf,
         Integer::UnsignedShort => Width::Half,
         Integer::Int | Integer::Unsigned => Width::Word,
-    }
-}
-
-/// How many bytes a scalar has, and how they become a word.
-pub fn width_of(t: &TypeRef) -> Width
-    ensures { result ≡ spec.width_of t.now }
-{
-    match integer_of(t) {
-        Some(kind) => integer_width(kind),
-        None => Width::Word,
     }
 }
 
@@ -253,21 +198,21 @@ fn holds(from: Integer, to: Integer) -> bool
     }
 }
 
-fn conversion_by(from: Option<Integer>, to: Integer) -> Option<UnKind>
-    ensures { result ≡ spec.conversion_by from to }
-{
-    match from {
-        None => narrowing(to),
-        Some(from) => { if holds(from, to) { None } else { narrowing(to) } }
-    }
-}
-
 /// What a conversion does to a word; none where each value of the one type is the same word in the other.
 pub fn conversion(from: &TypeRef, to: &TypeRef) -> Option<UnKind>
     ensures { result ≡ spec.conversion from.now to.now }
 {
     match integer_of(to) {
         None => None,
-        Some(kind) => conversion_by(integer_of(from), kind),
+        Some(kind) => match integer_of(from) {
+            None => narrowing(kind),
+            Some(own) => {
+                if holds(own, kind) {
+                    None
+                } else {
+                    narrowing(kind)
+                }
+            }
+        },
     }
 }

@@ -11,7 +11,7 @@ use Rattle.check_operands.specs.declared.operand.Operand.{Operand}
 use Rattle.check_operands.specs.Operands.{effect}
 use Rattle.meaning_operators.specs.Constants.{constant}
 use Rattle.check_tables.specs.Labels as labels
-use Rattle.check_tables.specs.Labels.{is_member}
+use Rattle.check_tables.specs.Members.{is_member}
 use Rattle.check_rules.specs.declared.state.Around.{Around as Standing}
 use Rattle.check_rules.specs.declared.state.State.{State}
 use Rattle.check_tables.specs.Walks.{◌>>=◌, lift}

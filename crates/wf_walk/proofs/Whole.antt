@@ -9,7 +9,7 @@ use Rattle.typed_tree.specs.declared.expression.Stmt.TheVariants as st
 use Rattle.check_operands.specs.Operands.{effect}
 use Rattle.check_tables.specs.declared.labels.Labels.{Labels}
 use Rattle.check_tables.specs.Labels as labels
-use Rattle.check_tables.specs.Labels.{is_member}
+use Rattle.check_tables.specs.Members.{is_member}
 use Rattle.check_rules.specs.declared.state.Around.{Around as Standing}
 use Rattle.check_rules.specs.declared.state.Stage.{Stage}
 use Rattle.check_rules.specs.declared.state.Stage.TheVariants as stage
