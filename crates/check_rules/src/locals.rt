@@ -2,7 +2,6 @@
 
 ghost use Rattle.std.specs.Prelude.{◌≡◌, IfOk};
 ghost use Rattle.check_rules.specs.Locals as spec;
-ghost use Rattle.check_rules.specs.Names.{Gives};
 ghost use Rattle.check_tables.specs.Walks.{Reads};
 
 use crate::names::{operand, place_by};
@@ -26,20 +25,20 @@ pub fn meaning(alloc: Global, kind: MeaningKind, t: &TypeRef, n: u32) -> Result<
 }
 
 // What a parameter of a list means, in the lengths behind it.
-fn list_meaning(
-    alloc: Global,
-    stage: Stage,
-    t: &CType,
-    frame: &Frame,
-) -> Result<Meaning, AllocError>
-    ensures { IfOk result (λ m. m ≡ spec.list_meaning stage t.now frame.now) }
+fn list_meaning(stage: Stage, t: TypeRef, frame: &Frame) -> Meaning
+    ensures { result ≡ spec.list_meaning stage t frame.now }
 {
-    let t = TypeRef::share(alloc, copy_ctype(alloc, t)?)?;
     match stage {
-        Stage::Function | Stage::Dollar => {
-            meaning(alloc, MeaningKind::Parameter, &t, frame.number())
-        }
-        Stage::Tick => meaning(alloc, MeaningKind::Variable, &t, frame.inner_number()),
+        Stage::Function | Stage::Dollar => Meaning {
+            kind: MeaningKind::Parameter,
+            ctype: t,
+            index: frame.number(),
+        },
+        Stage::Tick => Meaning {
+            kind: MeaningKind::Variable,
+            ctype: t,
+            index: frame.inner_number(),
+        },
     }
 }
 
@@ -54,22 +53,6 @@ fn next_home(frame: &Frame, t: &TypeRef) -> Home
 }
 
 impl State {
-    fn made_outer(&mut self, alloc: Global, t: TypeRef) -> Result<Operand, AllocError>
-        ensures { Gives result self.new (spec.made_outer t self.old) }
-    {
-        let place = place_by(alloc, self.frame.number(), next_home(&self.frame, &t))?;
-        self.frame.variable(&t)?;
-        Ok(operand(place, t))
-    }
-
-    fn made_inner(&mut self, t: TypeRef) -> Result<Operand, AllocError>
-        ensures { Gives result self.new (spec.made_inner t self.old) }
-    {
-        let place = Place::Register(self.frame.inner);
-        self.frame.inner_variable()?;
-        Ok(operand(place, t))
-    }
-
     #[tactic(auto, unfolding(crate::specs::Locals::outer_local))]
     fn outer_local(
         &mut self,
@@ -82,26 +65,14 @@ impl State {
     {
         let what = meaning(alloc, MeaningKind::Variable, &t, self.frame.number())?;
         self.declare(line, name, what)?;
-        Ok(self.made_outer(alloc, t)?)
-    }
-
-    #[tactic(auto, unfolding(crate::specs::Locals::inner_local))]
-    fn inner_local(
-        &mut self,
-        alloc: Global,
-        line: u32,
-        name: &[u8],
-        t: TypeRef,
-    ) -> Result<Operand, Deny>
-        ensures { Reads (spec.inner_local line name.now t self.old) result self.new }
-    {
-        let what = meaning(alloc, MeaningKind::Variable, &t, self.frame.inner_number())?;
-        self.declare(line, name, what)?;
-        Ok(self.made_inner(t)?)
+        let place = place_by(alloc, self.frame.number(), next_home(&self.frame, &t))?;
+        self.frame.variable(&t)?;
+        Ok(operand(place, t))
     }
 
     /// Declares a variable of a block of the function or the tick; what its name is from then on. Refused where the block
     /// has the name already: Duplicate.
+    #[tactic(auto, unfolding(crate::specs::Locals::inner_local))]
     pub fn local(
         &mut self,
         alloc: Global,
@@ -114,7 +85,13 @@ impl State {
     {
         match stage {
             Stage::Function | Stage::Dollar => self.outer_local(alloc, line, name, t),
-            Stage::Tick => self.inner_local(alloc, line, name, t),
+            Stage::Tick => {
+                let what = meaning(alloc, MeaningKind::Variable, &t, self.frame.inner_number())?;
+                self.declare(line, name, what)?;
+                let place = Place::Register(self.frame.inner);
+                self.frame.inner_variable()?;
+                Ok(operand(place, t))
+            }
         }
     }
 
@@ -131,7 +108,8 @@ impl State {
     ) -> Result<(), Deny>
         ensures { Reads (spec.list_parameter stage line name.now t.now self.old) result self.new }
     {
-        let what = list_meaning(alloc, stage, t, &self.frame)?;
+        let t = TypeRef::share(alloc, copy_ctype(alloc, t)?)?;
+        let what = list_meaning(stage, t, &self.frame);
         self.declare(line, name, what)
     }
 }

@@ -35,15 +35,6 @@ pub fn place_by(alloc: Global, n: u32, home: Home) -> Result<Place, AllocError>
     }
 }
 
-fn library_at(alloc: Global, m: &Meaning) -> Result<Option<(u32, TypeRef)>, AllocError>
-    ensures { IfOk result (λ found. found ≡ spec.library_at m.now.kind m.now.index m.now.ctype) }
-{
-    match m.kind {
-        MeaningKind::Library => Ok(Some((m.index, c_types::copy(alloc, &m.ctype)?))),
-        _ => Ok(None),
-    }
-}
-
 impl State {
     /// Gives a name a meaning in the innermost scope. Refused where that scope has it: Duplicate.
     #[tactic(auto, unfolding(crate::specs::Names::declare))]
@@ -62,9 +53,12 @@ impl State {
     pub fn library(&self, alloc: Global, name: &[u8]) -> Result<Option<(u32, TypeRef)>, AllocError>
         ensures { IfOk result (λ found. found ≡ spec.library self.now.scopes name.now) }
     {
-        match self.scopes.find(name) {
-            None => Ok(None),
-            Some(m) => library_at(alloc, m),
+        let Some(m) = self.scopes.find(name) else {
+            return Ok(None);
+        };
+        match m.kind {
+            MeaningKind::Library => Ok(Some((m.index, c_types::copy(alloc, &m.ctype)?))),
+            _ => Ok(None),
         }
     }
 }
