@@ -61,22 +61,6 @@ fn row(
     Ok(row)
 }
 
-#[tactic(auto, using(check_laws::proofs::Loops::same_length))]
-fn listed(
-    alloc: Global,
-    state: &mut State,
-    line: u32,
-    at: u32,
-    t: &TypeRef,
-    list: &[Expr],
-) -> Result<(), Deny>
-    ensures { Reads (spec.static_list line at t.now (map walks.node list.now) state.old) result state.new }
-{
-    let element = inner(c_types::copy(alloc, t)?);
-    let row = row(alloc, state, &element, Row::new(alloc, t), list)?;
-    static_list(alloc, state, line, at, t, list, row)
-}
-
 #[tactic(auto, using(check_laws::proofs::Written::forms_of))]
 fn static_one(
     alloc: Global,
@@ -97,7 +81,7 @@ fn static_one(
     static_value(alloc, state, line, at, t, e, o)
 }
 
-#[tactic(auto, using(check_laws::proofs::Written::forms_of, check_laws::proofs::Equations::initializers))]
+#[tactic(auto, using(check_laws::proofs::Written::forms_of, check_laws::proofs::Equations::initializers, check_laws::proofs::Loops::same_length))]
 fn begin_variable(
     alloc: Global,
     state: &mut State,
@@ -112,7 +96,12 @@ fn begin_variable(
     match value {
         Initializer::Absent => Ok(()),
         Initializer::Value(e) => static_one(alloc, state, line, at, t, e),
-        Initializer::List(list, _) => listed(alloc, state, line, at, t, list.as_slice()),
+        Initializer::List(list, _) => {
+            let list = list.as_slice();
+            let element = inner(c_types::copy(alloc, t)?);
+            let row = row(alloc, state, &element, Row::new(alloc, t), list)?;
+            static_list(alloc, state, line, at, t, list, row)
+        }
     }
 }
 
@@ -125,24 +114,7 @@ fn walked(alloc: Global, state: &mut State, list: &[Expr]) -> Result<(), Deny>
     Ok(())
 }
 
-#[tactic(auto, using(check_laws::proofs::Equations::initializers))]
-fn no_start(alloc: Global, state: &mut State, line: u32, value: &Initializer) -> Result<(), Deny>
-    ensures { Reads (spec.no_start line (walks.initializer value.now) state.old) result state.new }
-{
-    match value {
-        Initializer::Absent => Ok(()),
-        Initializer::Value(e) => {
-            expression(alloc, state, Stage::Function, e)?;
-            refused(FaultKind::TypeMismatch, line)
-        }
-        Initializer::List(list, _) => {
-            walked(alloc, state, list.as_slice())?;
-            refused(FaultKind::TypeMismatch, line)
-        }
-    }
-}
-
-#[tactic(auto, using(check_laws::proofs::Written::forms_of))]
+#[tactic(auto, using(check_laws::proofs::Written::forms_of, check_laws::proofs::Equations::initializers))]
 fn begin_prototype(
     alloc: Global,
     state: &mut State,
@@ -154,7 +126,17 @@ fn begin_prototype(
     ensures { Reads (spec.prototype line t.now (walks.shape d.now) (walks.initializer value.now) state.old) result state.new }
 {
     prototype(alloc, state, line, d, t)?;
-    no_start(alloc, state, line, value)
+    match value {
+        Initializer::Absent => Ok(()),
+        Initializer::Value(e) => {
+            expression(alloc, state, Stage::Function, e)?;
+            refused(FaultKind::TypeMismatch, line)
+        }
+        Initializer::List(list, _) => {
+            walked(alloc, state, list.as_slice())?;
+            refused(FaultKind::TypeMismatch, line)
+        }
+    }
 }
 
 #[tactic(auto, using(crate::proofs::Parts::globals))]
