@@ -1,5 +1,5 @@
-//! Prints the captures of ticks: of each capture its kind and the number of the first node of the tick's body that
-//! names it.
+//! Prints a line for each tick of each accepted text: of each capture of the tick its kind and the number of the first
+//! node of the tick's body that names it.
 
 use captures::{Capture, captures};
 use std::io;
@@ -17,21 +17,23 @@ fn name(kind: CaptureKind) -> &'static str {
     }
 }
 
-fn print_captures(rt: &HostRuntime, found: &[Capture]) -> io::Result<()> {
+// The line of the tick with this number.
+fn print_captures(rt: &HostRuntime, title: &str, number: u32, found: &[Capture]) -> io::Result<()> {
+    print!(rt; "{title} {number}:")?;
     for capture in found {
         print!(rt; " {} {}", name(capture.kind), capture.node)?;
     }
-    println!(rt; ".")
+    rt.println(".")
 }
 
-/// Prints the captures of the tick with this number.
-pub(crate) fn report(rt: &HostRuntime, program: &Typed, number: u32) -> io::Result<()> {
-    match captures(rt.alloc(), program.ticks(), number) {
-        Ok(found) => {
-            let printed = print_captures(rt, found.as_slice());
-            drop(found);
-            printed
-        }
-        Err(_) => println!(rt; " no memory"),
+/// Prints the lines of an accepted text.
+pub(crate) fn report(rt: &HostRuntime, title: &str, program: &Typed) -> io::Result<()> {
+    let count = u32::try_from(program.ticks().len()).unwrap_or(u32::MAX);
+    for number in 0..count {
+        let found = captures(rt.alloc(), program.ticks(), number)?;
+        let printed = print_captures(rt, title, number, found.as_slice());
+        drop(found);
+        printed?;
     }
+    Ok(())
 }

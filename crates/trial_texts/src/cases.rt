@@ -6,11 +6,13 @@
 use std::io::{self, Write};
 
 // A piece, with a number for each `#`.
-fn push_piece(text: &mut Vec<u8>, piece: &str, number: u32) -> io::Result<()> {
-    let mut parts = piece.split('#');
-    text.extend_from_slice(parts.next().unwrap_or("").as_bytes())?;
-    for part in parts {
-        write!(text, "{number}{part}")?;
+fn push_piece(text: &mut Vec<u8>, piece: &[u8], number: u32) -> io::Result<()> {
+    for byte in piece {
+        if *byte == b'#' {
+            write!(text, "{number}")?;
+        } else {
+            text.push(*byte)?;
+        }
     }
     Ok(())
 }
@@ -20,7 +22,7 @@ fn push_pieces(text: &mut Vec<u8>, line: &[u8]) -> io::Result<()> {
     let line = str::from_utf8(line).unwrap_or("");
     let (count, piece) = line.split_once(' ').unwrap_or(("0", ""));
     for number in 0..count.parse::<u32>().unwrap_or(0) {
-        push_piece(text, piece, number)?;
+        push_piece(text, piece.as_bytes(), number)?;
     }
     Ok(())
 }

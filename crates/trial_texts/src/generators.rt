@@ -1,9 +1,25 @@
-//! Prints the words of the functions that generate the code of ticks.
+//! Prints a line for each tick of each accepted text: the words of the function that generates its code. The static
+//! functions of a text are at 0x00401000 and from there on every 256 bytes.
 
 use icode_ops::CallAddress;
+use std::alloc::{AllocError, Global};
 use std::io;
+use std::mem::forget;
 use tick_cgf::{Room, tick_words};
 use wellformed::Typed;
+
+/// Where so many functions are in these trials.
+pub(crate) fn starts(alloc: Global, count: usize) -> Result<Vec<CallAddress>, AllocError> {
+    let mut all = Vec::new(alloc);
+    let mut at: u32 = 0x0040_1000;
+    for _ in 0..count {
+        if let Some(start) = CallAddress::new(at) {
+            all.push(start)?;
+        }
+        at = at.saturating_add(256);
+    }
+    Ok(all)
+}
 
 /// Prints words, each behind a blank, and a line feed.
 pub(crate) fn print_words(rt: &HostRuntime, words: &[u32]) -> io::Result<()> {
@@ -13,20 +29,31 @@ pub(crate) fn print_words(rt: &HostRuntime, words: &[u32]) -> io::Result<()> {
     println!(rt)
 }
 
-/// Prints the words of the tick with this number.
-pub(crate) fn report(
+// The lines of the ticks, in the order of the text.
+fn report_ticks(
     rt: &HostRuntime,
+    title: &str,
     program: &Typed,
-    number: u32,
     starts: &[CallAddress],
     room: &mut Room,
 ) -> io::Result<()> {
-    match tick_words(rt.alloc(), program, number, starts, room) {
-        Ok(found) => {
-            let printed = print_words(rt, found.as_slice());
-            drop(found);
-            printed
-        }
-        Err(_) => println!(rt; " no memory"),
+    let count = u32::try_from(program.ticks().len()).unwrap_or(u32::MAX);
+    for number in 0..count {
+        print!(rt; "{title} {number}:")?;
+        let found = tick_words(rt.alloc(), program, number, starts, room)?;
+        let printed = print_words(rt, found.as_slice());
+        drop(found);
+        printed?;
     }
+    Ok(())
+}
+
+/// Prints the lines of an accepted text. The room that its functions take is left to the end of the process.
+pub(crate) fn report(rt: &HostRuntime, title: &str, program: &Typed) -> io::Result<()> {
+    let starts = starts(rt.alloc(), program.functions().len())?;
+    let mut room = Room::new(rt.alloc());
+    let printed = report_ticks(rt, title, program, &starts, &mut room);
+    forget(room);
+    drop(starts);
+    printed
 }

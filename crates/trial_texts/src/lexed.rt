@@ -10,17 +10,17 @@ use tick_tree::Token;
 
 // A list of up to a hundred tokens in full, each as KIND@PLACE+LENGTH:LINE, and of a longer one the count.
 fn print_tokens(rt: &HostRuntime, title: &str, found: &[Token]) -> io::Result<()> {
-    print!(rt; "{title}:")?;
     if 100 < found.len() {
-        return println!(rt; " {} tokens", found.len());
+        return println!(rt; "{title}: {} tokens", found.len());
     }
+    print!(rt; "{title}:")?;
     for token in found {
         print!(rt;
             " {:?}@{}+{}:{}",
             token.kind, token.at, token.len, token.line
         )?;
     }
-    println!(rt; "")
+    println!(rt)
 }
 
 /// Prints the line of a text.

@@ -8,6 +8,7 @@ ghost use Rattle.icode_ops.specs.Finished.{IsFinished};
 ghost use Rattle.static_image.specs.Served.{AreStatic};
 ghost use Rattle.typed_tree.specs.View.{function_view};
 
+use crate::generators::starts;
 use built_programs::{built_is_static, main_of};
 use icode_expand::expand;
 use icode_ir::Builder;
@@ -15,7 +16,6 @@ use icode_liveness::Live;
 use icode_ops::{CallAddress, Interval, Op};
 use limits::ops::OP_LIMIT;
 use static_backend::build_ops;
-use std::alloc::{AllocError, Global};
 use std::io;
 use typed_tree::Function;
 use wellformed::Typed;
@@ -25,26 +25,8 @@ const FIRST: u32 = 0x0040_1000;
 
 const FRAME: u32 = 128;
 
-// How far apart the functions stand for these trials.
-const APART: u32 = 256;
-
-// The ops, and how many registers they have.
-fn print_ops(rt: &HostRuntime, ops: &[Op], registers: u32) -> io::Result<()> {
-    for op in ops {
-        print!(rt; "{op:?}; ")?;
-    }
-    print!(rt; "{registers} registers;")
-}
-
-fn print_intervals(rt: &HostRuntime, found: &[Interval]) -> io::Result<()> {
-    for x in found {
-        print!(rt; " {}: {} to {};", x.reg, x.start, x.end)?;
-    }
-    Ok(())
-}
-
 // The live intervals of a finished list of ops.
-fn report_intervals(rt: &HostRuntime, live: &mut Live, ops: &[Op], registers: u32) -> io::Result<()>
+fn print_intervals(rt: &HostRuntime, ops: &[Op], registers: u32) -> io::Result<()>
     requires { IsFinished ops.now registers }
 {
     let none = Interval {
@@ -53,28 +35,37 @@ fn report_intervals(rt: &HostRuntime, live: &mut Live, ops: &[Op], registers: u3
         end: 0,
     };
     let mut out = vec![in rt.alloc(); none; registers as usize]?;
+    let mut live = Live::new(rt.alloc())?;
     let count = live.intervals(ops, registers, &mut out);
-    print_intervals(rt, &out[..count])
+    drop(live);
+    for x in &out[..count] {
+        print!(rt; " {}: {} to {};", x.reg, x.start, x.end)?;
+    }
+    Ok(())
 }
 
 // What an expansion of the ops without any room answers.
-fn report_expansion(rt: &HostRuntime, ops: &[Op]) -> io::Result<()>
+fn print_expansion(rt: &HostRuntime, ops: &[Op]) -> io::Result<()>
     requires { (n : ℕ) × IsFinished ops.now n }
 {
     let mut labels = vec![in rt.alloc(); 0u32; OP_LIMIT]?;
     match expand(ops, &[], FIRST, FRAME, 0, false, &mut labels, &mut []) {
-        Ok(count) => println!(rt; " {count} words"),
+        Ok(_) => rt.println(" words"),
         Err(short) => println!(rt; " {short}"),
     }
 }
 
-// The ops of a finished builder, and what comes of them.
-fn report_ops(rt: &HostRuntime, live: &mut Live, builder: &Builder) -> io::Result<()>
-    requires { builder.now.phase ≡ Finished }
+// The line of a finished list of ops, which have so many registers.
+fn report_ops(rt: &HostRuntime, title: &str, ops: &[Op], registers: u32) -> io::Result<()>
+    requires { IsFinished ops.now registers }
 {
-    print_ops(rt, builder.ops(), builder.registers())?;
-    report_intervals(rt, live, builder.ops(), builder.registers())?;
-    report_expansion(rt, builder.ops())
+    print!(rt; "{title}: ")?;
+    for op in ops {
+        print!(rt; "{op:?}; ")?;
+    }
+    print!(rt; "{registers} registers;")?;
+    print_intervals(rt, ops, registers)?;
+    print_expansion(rt, ops)
 }
 
 // The lines of the functions of a program: of the one with this number, counted from 1, or of all.
@@ -82,7 +73,6 @@ fn report_functions(
     rt: &HostRuntime,
     title: &str,
     builder: &mut Builder,
-    live: &mut Live,
     starts: &[CallAddress],
     functions: &[Function],
     main: usize,
@@ -93,45 +83,32 @@ fn report_functions(
     for number in 0..functions.len() {
         if are_all || number.saturating_add(1) == main {
             build_ops(rt.alloc(), builder, starts, &functions[number])?;
-            print!(rt; "{title}: ")?;
-            report_ops(rt, live, builder)?;
+            report_ops(rt, title, builder.ops(), builder.registers())?;
         }
     }
     Ok(())
 }
 
-// Addresses for the first sixty-four functions. A call of another one goes to 0.
-fn addresses(alloc: Global) -> Result<Vec<CallAddress>, AllocError> {
-    let mut list = Vec::new(alloc);
-    for i in 0..64u32 {
-        if let Some(address) = CallAddress::new(FIRST + APART * i) {
-            list.push(address)?;
-        }
-    }
-    Ok(list)
-}
-
-/// Prints the lines of an accepted text, with these tables.
-pub(crate) fn report(
+// The lines of an accepted text, with this builder.
+fn report_built(
     rt: &HostRuntime,
     title: &str,
     builder: &mut Builder,
-    live: &mut Live,
     program: &Typed,
 ) -> io::Result<()> {
-    let starts = addresses(rt.alloc())?;
+    let starts = starts(rt.alloc(), program.functions().len())?;
     built_is_static();
     program.keeps_law();
     match main_of(program) {
-        Some(main) => report_functions(
-            rt,
-            title,
-            builder,
-            live,
-            &starts,
-            program.functions(),
-            main,
-        ),
+        Some(main) => report_functions(rt, title, builder, &starts, program.functions(), main),
         None => println!(rt; "{title}: not built"),
     }
+}
+
+/// Prints the lines of an accepted text.
+pub(crate) fn report(rt: &HostRuntime, title: &str, program: &Typed) -> io::Result<()> {
+    let mut builder = Builder::new(rt.alloc())?;
+    let printed = report_built(rt, title, &mut builder, program);
+    drop(builder);
+    printed
 }

@@ -3,7 +3,7 @@
 ghost use Rattle.std.specs.Prelude.{◌≤◌, length};
 ghost use Rattle.limits.specs.declared.text.TheConstants.{LONGEST_TEXT};
 
-use crate::tree_of;
+use crate::{report_deny, tree_of};
 use std::io;
 use tick_tree::Deny;
 
@@ -13,9 +13,9 @@ pub(crate) fn report(rt: &HostRuntime, title: &str, text: &[u8]) -> io::Result<(
 {
     match tree_of(rt.alloc(), text) {
         Ok(tree) => {
-            let printed = println!(rt; "{title}: a tree of {} items", tree.items().len());
+            let items = tree.items().len();
             drop(tree);
-            printed
+            println!(rt; "{title}: a tree of {items} items")
         }
         Err(Deny::Refused(fault)) => println!(rt;
             "{title}: {} {} on line {} at token {}",
@@ -24,6 +24,6 @@ pub(crate) fn report(rt: &HostRuntime, title: &str, text: &[u8]) -> io::Result<(
             fault.line,
             fault.token
         ),
-        Err(Deny::NoMemory) => println!(rt; "{title}: no memory"),
+        Err(why) => report_deny(rt, title, why),
     }
 }

@@ -10,5 +10,5 @@ build_ops-requires c =
     let f = c.index-functions-number.result in
     (gs, (next_static gs c.loop-number.number fs f (search rules) (search rules) c.requires.each).ready)
 
-pub report_ops-requires : goal.report_ops-requires
-report_ops-requires c = ap (λ b. b.phase) c.in_ok-build_ops.ensures
+pub ops-requires : goal.ops-requires
+ops-requires c = ap (λ b. b.phase) c.in_ok-build_ops.ensures
