@@ -4,9 +4,8 @@
 ghost use Rattle.std.specs.Prelude.{◌≡◌, ◌<◌, true, length};
 ghost use Rattle.c_types.specs.Types as spec;
 
-use c_types::{
-    Base, Integer, Layer, Layers, Parameter, TypeRef, is_pointer, promoted, same_shared,
-};
+use c_type_refs::{Layers, Parameter, TypeRef, is_pointer, same_shared};
+use c_types::{Base, Integer, Layer, promoted};
 
 /// The common type of two integers: unsigned where either is, else int.
 pub fn common(a: Integer, b: Integer) -> Integer

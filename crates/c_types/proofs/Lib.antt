@@ -1,5 +1,1 @@
-pub mod CodeLaws
-pub mod ExtentLaws
 pub mod SameLaws
-pub mod Coded
-pub mod SameCodes

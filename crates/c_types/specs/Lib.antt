@@ -1,5 +1,2 @@
 pub mod Types
 pub mod Kinds
-pub mod Codes
-pub mod Extents
-pub mod Shared

@@ -2,7 +2,7 @@
 -- type.
 -- They are C's, cut to this project's language: a scalar is at most one 32-bit word, and `long` is int.
 use Rattle.std.specs.Prelude.{ℕ, ◌*◌, ◌-◌, Bool, true, false, not, ◌&&◌, ◌||◌, ◌==◌, List, [], ◌∷◌, length, take}
-use Rattle.std.specs.Prelude.{slice_get, nat_le, if◌then◌else◌, Option, Some, None}
+use Rattle.std.specs.Prelude.{slice_get, Option, Some, None}
 use Rattle.c_types.specs.declared.ctype.Integer.{Integer}
 use Rattle.c_types.specs.declared.ctype.Integer.TheVariants as kind
 use Rattle.c_types.specs.declared.ctype.Base.{Base}
@@ -11,7 +11,6 @@ use Rattle.c_types.specs.declared.ctype.CType.{CType, out-CType, roll-CType}
 use Rattle.c_types.specs.declared.ctype.Layer.{Layer, out-Layer}
 use Rattle.c_types.specs.declared.ctype.Layer.TheOpen.{Layer-F, CType-F}
 use Rattle.c_types.specs.declared.ctype.Layer.TheFolds.{fold-Layer, fold-CType}
-use Rattle.limits.specs.declared.program.TheConstants.{MAX_SIZE}
 
 -- ---- integers
 
@@ -92,16 +91,6 @@ is_integer_base (base.Integer k) = true
 -- neither void nor a function nor an array of these
 abbrev pub is_sized : CType → Bool
 is_sized t = is_sized_under (is_integer_base (base_of t)) (layers_of t)
-
--- the size under these layers, where there is one of at most 4,194,304 bytes
-abbrev pub limited_parts : Base → List Layer → Option ℕ
-limited_parts b ls =
-    if is_sized_under (is_integer_base b) ls && nat_le (size_under (base_size b) ls) MAX_SIZE
-    then Some (size_under (base_size b) ls) else None
-
--- the size of a type that has one, of at most 4,194,304 bytes
-unfoldable pub limited_size : CType → Option ℕ
-limited_size t = limited_parts (base_of t) (layers_of t)
 
 -- ---- the same types
 
@@ -253,9 +242,3 @@ converts_parts a as_ b bs zero =
 
 unfoldable pub converts : CType → CType → Bool → Bool
 converts from to zero = converts_parts (base_of from) (layers_of from) (base_of to) (layers_of to) zero
-
--- ---- pointers
-
--- the size of what a pointer points to, where that has one
-unfoldable pub pointed_size : CType → Option ℕ
-pointed_size t = if is_pointer (outermost (layers_of t)) then limited_parts (base_of t) (under (layers_of t)) else None

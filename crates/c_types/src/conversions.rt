@@ -1,10 +1,9 @@
 //! Promotion, and which types of lists are the same.
 
-ghost use Rattle.std.specs.Prelude.{◌≡◌, ◌<◌, true, length};
+ghost use Rattle.std.specs.Prelude.{◌≡◌};
 ghost use Rattle.c_types.specs.Types as spec;
 
 use crate::ctype::{Base, CType, Integer, Layer};
-use crate::layers::Layers;
 
 /// The type after promotion: a narrow integer becomes an int.
 pub fn promoted(kind: Integer) -> Integer
@@ -42,10 +41,10 @@ fn same_layers(a: &[Layer], b: &[Layer]) -> bool
     true
 }
 
-// Whether two layers are the same.
+/// Whether two layers are the same.
 #[cycle(same)]
 #[tactic(auto, using(crate::proofs::SameLaws::by_layer))]
-pub(crate) fn same_layer(a: &Layer, b: &Layer) -> bool
+pub fn same_layer(a: &Layer, b: &Layer) -> bool
     ensures { result ≡ spec.same_layer a.now b.now }
 {
     match a {
@@ -79,12 +78,4 @@ fn same_lists(a: &[CType], b: &[CType]) -> bool
         }
     }
     true
-}
-
-/// Whether the outermost of the layers makes a pointer.
-pub fn is_pointer(layers: &Layers<'_>) -> bool
-    ensures value { result ≡ spec.is_pointer (spec.outermost layers.now) }
-    ensures some { result ≡ true → 0 < length layers.now }
-{
-    matches!(layers.last(), Some(Layer::Pointer))
 }

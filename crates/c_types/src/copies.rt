@@ -19,9 +19,9 @@ pub fn copy_ctype(alloc: Global, t: &CType) -> Result<CType, AllocError>
     })
 }
 
-// A copy of layers.
+/// A copy of layers.
 #[cycle(copy)]
-pub(crate) fn copy_layers(alloc: Global, layers: &[Layer]) -> Result<Items<Layer>, AllocError>
+pub fn copy_layers(alloc: Global, layers: &[Layer]) -> Result<Items<Layer>, AllocError>
     ensures { IfOk result (λ c. c ≡ layers.now) }
 {
     let mut found = Items::new(alloc);

@@ -3,7 +3,7 @@ use Rattle.std.proofs.Common.{◌≡◌, ℕ, zero, suc, ◌+◌, ◌<◌, false
 use Rattle.std.proofs.Common.{refl, sym, ap, ◌∙◌, add-one, arith}
 use Rattle.std.specs.Prelude.{slice_get}
 use Rattle.c_types.specs.declared.ctype.CType.{CType}
-use Rattle.c_types.proofs.Coded.{same_type, no_type}
+use Rattle.c_type_refs.proofs.Coded.{same_type, no_type}
 use Rattle.check_operands.specs.declared.arguments.Argument.{Argument}
 use Rattle.check_operands.specs.Calls.{mismatches, any_mismatches}
 

@@ -6,7 +6,8 @@ ghost use Rattle.check_operands.specs.Calls as spec;
 ghost use Rattle.c_types.specs.Types as types;
 
 use c_conversions::{converts, converts_to};
-use c_types::{Layer, Layers, Parameter, Parameters, TypeRef};
+use c_type_refs::{Layers, Parameter, Parameters, TypeRef};
+use c_types::Layer;
 use check_operands::{
     Argument, Arguments, Callee, Operand, Place, Value, converted, made, narrowed, value_of,
 };

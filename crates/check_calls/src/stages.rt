@@ -4,7 +4,8 @@ ghost use Rattle.std.specs.Prelude.{◌≡◌, IfOk};
 ghost use Rattle.tick_tree.specs.Faults.{Checks};
 ghost use Rattle.check_operands.specs.Stages as spec;
 
-use c_types::{Layer, TypeRef};
+use c_type_refs::TypeRef;
+use c_types::Layer;
 use check_operands::{Operand, Value, made, plain, unless_kind, unless_void};
 use check_types::{is_cspec, is_integer, is_scalar, is_void, is_word, over, promoted_type};
 use sqlite_items::Boxed;

@@ -8,7 +8,8 @@ ghost use Rattle.tick_tree.specs.Faults.{Checks};
 ghost use Rattle.check_tables.specs.Walks.{Reads};
 ghost use Rattle.check_rules.specs.Declarations as spec;
 
-use c_types::{Base, CType, TypeRef};
+use c_type_refs::TypeRef;
+use c_types::{Base, CType};
 use check_declarators::{Length, Role, Step, declared_type, fill_length};
 use check_forms::{declared_name, is_staged, string_of};
 use check_operands::{Operand, effect};

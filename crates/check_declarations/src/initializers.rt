@@ -6,7 +6,8 @@ ghost use Rattle.check_types.specs.Shapes.{inner};
 ghost use Rattle.check_rules.specs.Initializers as spec;
 ghost use Rattle.check_rules.specs.Statements as statements;
 
-use c_types::{Base, Integer, TypeRef};
+use c_type_refs::TypeRef;
+use c_types::{Base, Integer};
 use check_operands::{Operand, Value, effect, value_of};
 use check_rules::{has_size, is_array, lower, value_breaks};
 use check_types::inner;

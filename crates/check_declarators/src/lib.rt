@@ -5,6 +5,6 @@ mod making;
 mod steps;
 mod words;
 
-pub use making::{decayed, declared_type};
+pub use making::declared_type;
 pub use steps::{Length, Role, Step, fill_length, push_prefixes};
 pub use words::base_of;

@@ -1,13 +1,12 @@
 //! The type of a declaration, or the first rule on types that it breaks.
 
 ghost use Rattle.std.specs.Prelude.{◌≡◌, ◌*◌, ◌≤◌, ◌++◌, ◌∷◌, [], min, IfOk};
-ghost use Rattle.std.specs.Option.{option_copied};
 ghost use Rattle.c_types.specs.Types as types;
 ghost use Rattle.check_declarators.specs.Making as spec;
 ghost use Rattle.tick_tree.specs.Faults.{Answers};
 
 use crate::steps::{Length, Role, Step, fill_length, layer_of};
-use c_types::{Base, CType, Integer, Layer, TypeRef};
+use c_types::{Base, CType, Integer, Layer};
 use limits::program::{MAX_SIZE, MOST_ARGUMENTS, SIZE_TOP};
 use sqlite_items::Items;
 use std::alloc::{AllocError, Global};
@@ -213,34 +212,6 @@ fn decayed_layers(layers: Items<Layer>) -> Result<Items<Layer>, AllocError>
         layers.push(Layer::Pointer)?;
     }
     Ok(layers)
-}
-
-fn is_array_layer(last: Option<&Layer>) -> bool
-    ensures { result ≡ spec.is_array_layer (option_copied last.entry) }
-{
-    matches!(last, Some(Layer::Array(_)))
-}
-
-fn is_function_layer(last: Option<&Layer>) -> bool
-    ensures { result ≡ spec.is_function_layer (option_copied last.entry) }
-{
-    matches!(last, Some(Layer::Function(_) | Layer::Unlisted))
-}
-
-/// The type of a value whose place has this type: an array becomes a pointer to its first element, and a function a pointer to
-/// itself.
-#[tactic(auto, unfolding(crate::specs::Making::decayed))]
-#[inline(never)]
-pub fn decayed(t: TypeRef) -> Result<TypeRef, AllocError>
-    ensures { IfOk result (λ c. c ≡ spec.decayed t) }
-{
-    if is_array_layer(t.outermost()) {
-        t.under().with(Layer::Pointer)
-    } else if is_function_layer(t.outermost()) {
-        t.with(Layer::Pointer)
-    } else {
-        Ok(t)
-    }
 }
 
 fn finished(role: Role, base: Base, layers: Items<Layer>) -> Result<CType, AllocError>

@@ -8,7 +8,7 @@ ghost use Rattle.check_rules.specs.Productions as spec;
 ghost use Rattle.check_rules.specs.ExpressionRules as rules;
 
 use crate::nodes::{is_specification, is_tick};
-use c_types::TypeRef;
+use c_type_refs::TypeRef;
 use check_forms::name_of;
 use check_operands::{Arguments, Operand, value_of};
 use check_rules::{Stage, State};
@@ -48,7 +48,7 @@ fn called_type(t: TypeRef) -> TypeRef
 fn answers_specification(alloc: Global, t: &TypeRef) -> Result<bool, AllocError>
     ensures { IfOk result (λ answers. answers ≡ spec.answers_specification t.now) }
 {
-    let called = called_type(c_types::copy(alloc, t)?);
+    let called = called_type(c_type_refs::copy(alloc, t)?);
     if !is_function(&called) {
         return Ok(false);
     }

@@ -6,7 +6,8 @@ ghost use Rattle.check_rules.specs.Names.{Gives};
 ghost use Rattle.check_tables.specs.Walks.{Reads};
 ghost use Rattle.check_rules.specs.Productions as spec;
 
-use c_types::{Layer, TypeRef};
+use c_type_refs::TypeRef;
+use c_types::Layer;
 use check_operands::{Operand, Place, Value, made, settled, value_of, values};
 use check_rules::{Stage, State};
 use check_types::{is_cspec, is_vspec, over};

@@ -6,7 +6,7 @@ ghost use Rattle.check_rules.specs.Functions as spec;
 ghost use Rattle.check_rules.specs.Locals as locals;
 ghost use Rattle.check_tables.specs.Walks.{Reads};
 
-use c_types::TypeRef;
+use c_type_refs::TypeRef;
 use check_rules::{Functions, Prototype, State, meaning};
 use check_scopes::{DeclareFault, Meaning, MeaningKind};
 use sqlite_items::Items;

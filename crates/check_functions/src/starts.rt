@@ -6,7 +6,8 @@ ghost use Rattle.check_rules.specs.Functions as tables;
 ghost use Rattle.check_rules.specs.Starts as spec;
 ghost use Rattle.check_tables.specs.Walks.{Reads};
 
-use c_types::{Base, CType, Integer, Layer, TypeRef};
+use c_type_refs::TypeRef;
+use c_types::{Base, CType, Integer, Layer};
 use check_rules::{Functions, State};
 use check_scopes::{Meaning, MeaningKind, Scopes};
 use check_tables::{Frame, Image, Labels, Ticks};

@@ -10,7 +10,8 @@ use Rattle.check_scopes.specs.declared.names.Meaning.{Meaning}
 use Rattle.check_scopes.specs.declared.names.MeaningKind.{MeaningKind}
 use Rattle.check_scopes.specs.declared.names.MeaningKind.TheVariants as kind
 use Rattle.check_scopes.specs.Scopes.{Name, find}
-use Rattle.c_types.specs.Types.{same, limited_size}
+use Rattle.c_types.specs.Types.{same}
+use Rattle.c_type_refs.specs.Sizes.{limited_size}
 use Rattle.check_declarators.specs.declared.steps.Step.{Step}
 use Rattle.check_declarators.specs.declared.steps.Step.TheVariants as step
 use Rattle.tick_tree.specs.declared.fault.FaultKind.TheVariants as fault

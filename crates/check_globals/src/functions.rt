@@ -7,7 +7,8 @@ ghost use Rattle.check_rules.specs.Declarations.{name_by};
 ghost use Rattle.check_tables.specs.Walks.{Reads};
 
 use crate::names::{Before, declare, known_before, name_of};
-use c_types::{CType, Layer, TypeRef, copy_ctype};
+use c_type_refs::TypeRef;
+use c_types::{CType, Layer, copy_ctype};
 use check_forms::declared_name;
 use check_functions::{add_function, define, next_number};
 use check_rules::State;
@@ -84,7 +85,7 @@ fn parameters(
 pub fn begin(alloc: Global, state: &mut State, t: &TypeRef, list: &[Parameter]) -> Result<(), Deny>
     ensures { Reads (spec.begun t.now (map spec.given list.now) state.old) result state.new }
 {
-    let answer = inner(c_types::copy(alloc, t)?);
+    let answer = inner(c_type_refs::copy(alloc, t)?);
     state.frame.begin(alloc, answer);
     match t.outermost() {
         Some(Layer::Function(types)) => parameters(alloc, state, types.as_slice(), list),

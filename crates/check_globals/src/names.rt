@@ -9,7 +9,7 @@ ghost use Rattle.check_rules.specs.Declarations.{name_by};
 ghost use Rattle.check_tables.specs.Walks.{Reads};
 
 use c_conversions::same;
-use c_types::{TypeRef, limited_size};
+use c_type_refs::{TypeRef, limited_size};
 use check_declarators::Step;
 use check_forms::declared_name;
 use check_functions::{earlier_number, is_defined, note_prototype};
@@ -90,7 +90,7 @@ pub(crate) fn declare(
 {
     let what = Meaning {
         kind,
-        ctype: c_types::copy(alloc, t)?,
+        ctype: c_type_refs::copy(alloc, t)?,
         index,
     };
     state.declare(line, name, what)

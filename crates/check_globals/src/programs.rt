@@ -6,7 +6,8 @@ ghost use Rattle.check_globals.specs.Programs as spec;
 ghost use Rattle.check_tables.specs.Images as images;
 ghost use Rattle.tick_tree.specs.Faults.{Checks};
 
-use c_types::{Base, Integer, Layer, TypeRef};
+use c_type_refs::TypeRef;
+use c_types::{Base, Integer, Layer};
 use check_functions::{is_defined, undefined};
 use check_rules::State;
 use check_scopes::MeaningKind;

@@ -6,7 +6,8 @@ ghost use Rattle.check_globals.specs.Statics as spec;
 ghost use Rattle.check_operands.specs.Operands as operands;
 ghost use Rattle.check_tables.specs.Walks.{Reads};
 
-use c_types::{Base, Integer, Layer, TypeRef};
+use c_type_refs::TypeRef;
+use c_types::{Base, Integer, Layer};
 use check_forms::has_form;
 use check_operands::{Operand, Value, value_of};
 use check_rules::{State, has_size, is_array, is_string, lower, value_breaks};

@@ -6,7 +6,7 @@ ghost use Rattle.check_tables.specs.Ticks as ticks;
 ghost use Rattle.check_rules.specs.Names as spec;
 ghost use Rattle.check_tables.specs.Walks.{Reads};
 
-use c_types::TypeRef;
+use c_type_refs::TypeRef;
 use check_operands::{Operand, Place, made};
 use check_rules::{Stage, State, operand, place_by};
 use check_scopes::MeaningKind;
@@ -49,7 +49,7 @@ fn answer_of(t: &TypeRef) -> Answer
 fn word_of(alloc: Global, place: Place, t: &TypeRef) -> Result<Boxed<Expr>, AllocError>
     ensures { IfOk result (λ e. e ≡ nodes.effect (spec.operand place t.now)) }
 {
-    check_operands::effect(alloc, operand(place, c_types::copy(alloc, t)?))
+    check_operands::effect(alloc, operand(place, c_type_refs::copy(alloc, t)?))
 }
 
 fn capture(
@@ -287,7 +287,7 @@ pub fn named(
         Some(m) => {
             let kind = m.kind;
             let index = m.index;
-            let ctype = c_types::copy(alloc, &m.ctype)?;
+            let ctype = c_type_refs::copy(alloc, &m.ctype)?;
             meant(alloc, state, line, stage, kind, index, ctype)
         }
     }

@@ -9,7 +9,8 @@ use Rattle.c_types.specs.declared.ctype.CType.{CType}
 use Rattle.c_types.specs.declared.ctype.Integer.{Integer}
 use Rattle.c_types.specs.declared.ctype.Integer.TheVariants as kind
 use Rattle.c_types.specs.declared.ctype.Layer.TheVariants as layer
-use Rattle.c_types.specs.Types.{converts, limited_size}
+use Rattle.c_types.specs.Types.{converts}
+use Rattle.c_type_refs.specs.Sizes.{limited_size}
 use Rattle.check_declarators.specs.Making.{decayed}
 use Rattle.check_types.specs.Shapes.{integer, void, over, inner, promoted, decays, is_void, is_word, is_scalar}
 use Rattle.check_types.specs.Shapes.{is_integer, is_pointer, points_to_void, width_of, conversion}

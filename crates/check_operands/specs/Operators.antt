@@ -8,7 +8,8 @@ use Rattle.icode_ops.specs.declared.kind.BinKind.TheVariants as bin
 use Rattle.c_types.specs.declared.ctype.CType.{CType}
 use Rattle.c_types.specs.declared.ctype.Integer.{Integer}
 use Rattle.c_types.specs.declared.ctype.Integer.TheVariants as kind
-use Rattle.c_types.specs.Types.{common, promoted, same, converts, pointed_size}
+use Rattle.c_types.specs.Types.{common, promoted, same, converts}
+use Rattle.c_type_refs.specs.Sizes.{pointed_size}
 use Rattle.check_types.specs.Shapes.{integer, integer_of, inner, is_void, is_integer, is_scalar, is_pointer}
 use Rattle.check_types.specs.Shapes.{points_to_void, void}
 use Rattle.tick_tree.specs.declared.base.BinaryOp.{BinaryOp}

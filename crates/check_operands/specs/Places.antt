@@ -9,7 +9,8 @@ use Rattle.c_types.specs.declared.ctype.CType.{CType}
 use Rattle.c_types.specs.declared.ctype.Layer.TheVariants as layer
 use Rattle.c_types.specs.declared.ctype.Integer.{Integer}
 use Rattle.c_types.specs.declared.ctype.Integer.TheVariants as kind
-use Rattle.c_types.specs.Types.{converts, pointed_size}
+use Rattle.c_types.specs.Types.{converts}
+use Rattle.c_type_refs.specs.Sizes.{pointed_size}
 use Rattle.check_types.specs.Shapes.{integer_of, is_void, over, width_of, conversion, conversion_to, narrowing}
 use Rattle.tick_tree.specs.declared.base.BinaryOp.{BinaryOp}
 use Rattle.tick_tree.specs.declared.base.BinaryOp.TheVariants as op

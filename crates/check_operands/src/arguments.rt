@@ -4,7 +4,7 @@ ghost use Rattle.std.specs.Prelude.{◌≡◌, IfOk};
 ghost use Rattle.check_operands.specs.Calls as spec;
 
 use crate::operand::Value;
-use c_types::TypeRef;
+use c_type_refs::TypeRef;
 use sqlite_items::{Boxed, Items};
 use std::alloc::{AllocError, Global};
 use typed_tree::Expr;

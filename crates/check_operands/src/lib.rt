@@ -4,10 +4,12 @@
 
 mod arguments;
 mod combined;
+mod decay;
 mod operand;
 
 pub use arguments::{Argument, Arguments, Callee};
 pub use combined::{Combined, Joined};
+pub use decay::decayed;
 pub use operand::{
     Operand, Place, Value, as_operand, at_address, cast, character, comma, condition, converted,
     converted_by, dereferenced, effect, made, narrowed, negated, number, on_integer, plain, plus,

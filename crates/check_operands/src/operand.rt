@@ -5,9 +5,10 @@ ghost use Rattle.tick_tree.specs.Faults.{Checks};
 ghost use Rattle.check_operands.specs.Operands as spec;
 ghost use Rattle.check_operands.specs.Places as places;
 
+use crate::decay::decayed;
 use c_conversions::converts;
-use c_types::{Integer, Layer, TypeRef};
-use check_declarators::decayed;
+use c_type_refs::TypeRef;
+use c_types::{Integer, Layer};
 use check_types::{
     conversion, decays, inner, integer, integer_of, is_integer, is_pointer, is_scalar, is_void,
     narrowing, over, points_to_void, promoted_type, width_of,
@@ -242,7 +243,7 @@ pub fn string(alloc: Global, address: u32) -> Result<Operand, AllocError>
 pub fn size(alloc: Global, line: u32, t: &TypeRef) -> Result<Operand, Deny>
     ensures { Checks result (spec.size line t.now) }
 {
-    match c_types::limited_size(t) {
+    match c_type_refs::limited_size(t) {
         None => refused(FaultKind::BadOperand, line),
         Some(n) => {
             let code = Boxed::new(alloc, Expr::Const(n))?;

@@ -9,7 +9,8 @@ ghost use Rattle.check_operands.specs.Operators as spec;
 ghost use Rattle.check_types.specs.Shapes as shapes;
 
 use c_conversions::{common, converts, same};
-use c_types::{Integer, TypeRef, pointed_size, promoted};
+use c_type_refs::{TypeRef, pointed_size};
+use c_types::{Integer, promoted};
 use check_operands::{
     Combined, Joined, Operand, Value, at_address, made, test_breaks, unless_kind,
 };

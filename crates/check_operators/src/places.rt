@@ -7,7 +7,8 @@ ghost use Rattle.check_types.specs.Shapes as shapes;
 
 use crate::operators::{built, combine, scaled};
 use c_conversions::converts;
-use c_types::{Integer, Layer, TypeRef, pointed_size};
+use c_type_refs::{TypeRef, pointed_size};
+use c_types::{Integer, Layer};
 use check_operands::{Combined, Operand, Place, Value, converted, converted_by, made, narrowed};
 use check_types::{integer_of, is_void, narrowing, over, width_of};
 use icode_ops::BinKind;

@@ -11,7 +11,8 @@ use Rattle.c_types.specs.declared.ctype.Base.{Base}
 use Rattle.c_types.specs.declared.ctype.Base.TheVariants as base
 use Rattle.c_types.specs.declared.ctype.CType.{CType}
 use Rattle.c_types.specs.declared.ctype.Integer.TheVariants as integer
-use Rattle.c_types.specs.Types.{base_of, layers_of, converts, limited_size}
+use Rattle.c_types.specs.Types.{base_of, layers_of, converts}
+use Rattle.c_type_refs.specs.Sizes.{limited_size}
 use Rattle.check_declarators.specs.Making
 use Rattle.check_declarators.specs.Making.{lower}
 use Rattle.check_types.specs.Shapes.{is_void}

@@ -6,7 +6,8 @@ ghost use Rattle.check_forms.specs.Forms as forms;
 ghost use Rattle.check_rules.specs.Initializers as spec;
 
 use c_conversions::converts;
-use c_types::{Layer, TypeRef, limited_size};
+use c_type_refs::{TypeRef, limited_size};
+use c_types::Layer;
 use check_forms::string_of;
 use check_operands::Value;
 use check_types::is_void;

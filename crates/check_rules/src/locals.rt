@@ -6,7 +6,8 @@ ghost use Rattle.check_tables.specs.Walks.{Reads};
 
 use crate::names::{operand, place_by};
 use crate::state::{Stage, State};
-use c_types::{CType, TypeRef, copy_ctype};
+use c_type_refs::TypeRef;
+use c_types::{CType, copy_ctype};
 use check_operands::{Operand, Place};
 use check_scopes::{Meaning, MeaningKind};
 use check_tables::{Frame, Home};
@@ -19,7 +20,7 @@ pub fn meaning(alloc: Global, kind: MeaningKind, t: &TypeRef, n: u32) -> Result<
 {
     Ok(Meaning {
         kind,
-        ctype: c_types::copy(alloc, t)?,
+        ctype: c_type_refs::copy(alloc, t)?,
         index: n,
     })
 }

@@ -5,7 +5,7 @@ ghost use Rattle.check_rules.specs.Names as spec;
 ghost use Rattle.check_tables.specs.Walks.{Reads};
 
 use crate::state::State;
-use c_types::TypeRef;
+use c_type_refs::TypeRef;
 use check_operands::{Operand, Place};
 use check_scopes::{DeclareFault, Meaning, MeaningKind};
 use check_tables::Home;
@@ -57,7 +57,7 @@ impl State {
             return Ok(None);
         };
         match m.kind {
-            MeaningKind::Library => Ok(Some((m.index, c_types::copy(alloc, &m.ctype)?))),
+            MeaningKind::Library => Ok(Some((m.index, c_type_refs::copy(alloc, &m.ctype)?))),
             _ => Ok(None),
         }
     }

@@ -8,7 +8,7 @@ ghost use Rattle.check_scopes.specs.Stack as stack;
 
 use crate::keys::Wanted;
 use crate::numbers::Names;
-use c_types::TypeRef;
+use c_type_refs::TypeRef;
 use std::alloc::{AllocError, AllocFailed, Global};
 use std::marker::Model;
 use thiserror::Error;

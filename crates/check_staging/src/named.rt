@@ -6,7 +6,7 @@ ghost use Rattle.tick_tree.specs.Faults.{Checks};
 
 use crate::entries::staging_entry;
 use crate::staged::{cast_node, parameter_node};
-use c_types::TypeRef;
+use c_type_refs::TypeRef;
 use check_operands::Operand;
 use check_rules::Stage;
 use std::alloc::Global;

@@ -6,7 +6,8 @@ ghost use Rattle.check_rules.specs.Names.{Gives};
 ghost use Rattle.check_rules.specs.Productions as spec;
 ghost use Rattle.check_rules.specs.ExpressionRules as rules;
 
-use c_types::{Layer, TypeRef};
+use c_type_refs::TypeRef;
+use c_types::Layer;
 use check_calls::specification;
 use check_operands::{Operand, Value, made, value_of};
 use check_rules::{Around, Stage, State};

@@ -6,7 +6,8 @@
 use Rattle.std.specs.Prelude.{ℕ, ◌+◌, ◌*◌, ◌/◌, min, Bool, true, false, ◌||◌, nat_lt, if◌then◌else◌, List, [], ◌∷◌}
 use Rattle.std.specs.Prelude.{◌++◌, length, slice_get, slice_set, Option, Some, None}
 use Rattle.c_types.specs.declared.ctype.CType.{CType}
-use Rattle.c_types.specs.Types.{layers_of, limited_size}
+use Rattle.c_types.specs.Types.{layers_of}
+use Rattle.c_type_refs.specs.Sizes.{limited_size}
 use Rattle.c_types.specs.Kinds.{is_array}
 use Rattle.check_types.specs.Shapes.{width_of, void}
 use Rattle.typed_tree.specs.declared.expression.Stmt.{Stmt}

@@ -3,7 +3,8 @@
 ghost use Rattle.std.specs.Prelude.{◌≡◌, ◌+◌, ◌++◌, ◌∷◌, [], false, min, OnOk};
 ghost use Rattle.check_tables.specs.Frames as spec;
 
-use c_types::{Layer, TypeRef, limited_size};
+use c_type_refs::{TypeRef, limited_size};
+use c_types::Layer;
 use check_types::width_of;
 use limits::program::PLACE_TOP;
 use sqlite_items::Items;

@@ -3,7 +3,8 @@
 ghost use Rattle.std.specs.Prelude.{◌≡◌, IfOk};
 ghost use Rattle.check_types.specs.Shapes as spec;
 
-use c_types::{Base, Integer, Layer, TypeRef, promoted};
+use c_type_refs::TypeRef;
+use c_types::{Base, Integer, Layer, promoted};
 use icode_ops::UnKind;
 use std::alloc::{AllocError, Global};
 use word32::Width;

@@ -6,7 +6,7 @@ ghost use Rattle.check_rules.specs.Walk as spec;
 
 use crate::expressions::expression;
 use crate::types::declarator;
-use c_types::TypeRef;
+use c_type_refs::TypeRef;
 use check_declarations::{
     declare, declared_in, element, entered, from_list, from_value, inner_of, with_list, with_value,
 };

@@ -10,7 +10,7 @@ ghost use Rattle.check_rules.specs.Walk as spec;
 
 use crate::statements::block;
 use crate::types::typename;
-use c_types::TypeRef;
+use c_type_refs::TypeRef;
 use check_expressions::{
     Pair, argument, call_node, character_leaf, choice_node, library_of, number_leaf, pair_node,
     post_node, string_leaf, unary_node,

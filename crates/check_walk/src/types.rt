@@ -6,7 +6,8 @@ ghost use Rattle.check_tables.specs.Walks.{Reads};
 ghost use Rattle.check_rules.specs.Walk as spec;
 
 use crate::expressions::expression;
-use c_types::{CType, TypeRef};
+use c_type_refs::TypeRef;
+use c_types::CType;
 use check_declarations::{declare_parameter, length_of, with_step, with_type};
 use check_declarators::{Length, Role, Step, base_of, declared_type, push_prefixes};
 use check_forms::has_form;

@@ -8,7 +8,7 @@ ghost use Rattle.check_globals.specs.Parameters as heads;
 ghost use Rattle.check_globals.specs.Program as spec;
 ghost use Rattle.check_rules.specs.Walk as walks;
 
-use c_types::TypeRef;
+use c_type_refs::TypeRef;
 use check_declarations::is_text;
 use check_declarators::{Role, base_of, declared_type};
 use check_forms::string_of;
@@ -98,7 +98,7 @@ fn begin_variable(
         Initializer::Value(e) => static_one(alloc, state, line, at, t, e),
         Initializer::List(list, _) => {
             let list = list.as_slice();
-            let element = inner(c_types::copy(alloc, t)?);
+            let element = inner(c_type_refs::copy(alloc, t)?);
             let row = row(alloc, state, &element, Row::new(alloc, t), list)?;
             static_list(alloc, state, line, at, t, list, row)
         }

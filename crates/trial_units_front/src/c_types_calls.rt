@@ -1,7 +1,8 @@
 //! Types and their layers.
 
 use c_conversions::{common, converts, converts_to, same};
-use c_types::{Base, CType, Integer, Layer, TypeRef, copy, limited_size, pointed_size, promoted};
+use c_type_refs::{TypeRef, copy, limited_size, pointed_size};
+use c_types::{Base, CType, Integer, Layer, promoted};
 use sqlite_items::Items;
 use std::alloc::{AllocError, Global};
 

@@ -1,10 +1,10 @@
 //! Tests of the rules on declared types.
 
 use c_conversions::same;
-use c_types::{Base, CType, Integer, Layer, TypeRef, same_ctypes};
-use check_declarators::{
-    Length, Role, Step, base_of, decayed, declared_type, fill_length, push_prefixes,
-};
+use c_type_refs::TypeRef;
+use c_types::{Base, CType, Integer, Layer, same_ctypes};
+use check_declarators::{Length, Role, Step, base_of, declared_type, fill_length, push_prefixes};
+use check_operands::decayed;
 use sqlite_items::Items;
 use std::alloc::{AllocError, Global};
 use tick_tree::{Base as Words, Deny, Fault, FaultKind, Prefix, Signedness};

@@ -1,6 +1,7 @@
 //! The scopes of names.
 
-use c_types::{Base, Integer, TypeRef};
+use c_type_refs::TypeRef;
+use c_types::{Base, Integer};
 use check_scopes::{Meaning, MeaningKind, Scopes};
 use std::alloc::{AllocError, Global};
 

@@ -1,7 +1,8 @@
 //! The tables by hand.
 
 use crate::nodes::word;
-use c_types::{Integer, Layer, TypeRef};
+use c_type_refs::TypeRef;
+use c_types::{Integer, Layer};
 use check_functions::{
     define, earlier_number, functions_again, no_functions, note_prototype, undefined,
 };

@@ -1,6 +1,7 @@
 //! Tests on a type and on those made of it.
 
-use c_types::{Integer, Layer, TypeRef};
+use c_type_refs::TypeRef;
+use c_types::{Integer, Layer};
 use check_types::{
     conversion, decays, inner, integer, is_integer, is_pointer, is_word, over, promoted_type,
     width_of,

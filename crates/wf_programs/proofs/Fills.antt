@@ -8,7 +8,7 @@ use Rattle.word32.specs.declared.map.TheConstants.{GLOBAL_BYTES}
 use Rattle.word32.specs.declared.width.Width.{Width}
 use Rattle.word32.specs.declared.width.Width.TheVariants as width
 use Rattle.c_types.specs.declared.ctype.CType.{CType}
-use Rattle.c_types.specs.Types.{limited_size}
+use Rattle.c_type_refs.specs.Sizes.{limited_size}
 use Rattle.check_declarators.specs.Making.{lower}
 use Rattle.check_types.specs.Shapes.{inner, width_of}
 use Rattle.tick_tree.specs.declared.fault.FaultKind.{FaultKind}

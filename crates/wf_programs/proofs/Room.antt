@@ -15,7 +15,8 @@ use Rattle.c_types.specs.declared.ctype.Layer.{Layer, out-Layer}
 use Rattle.c_types.specs.declared.ctype.Layer.TheVariants as layer
 use Rattle.c_types.specs.declared.ctype.Layer.TheOpen.{Layer-F}
 use Rattle.c_types.specs.Types.{Opened, base_of, layers_of, outermost, under, base_size, size_at, size_under}
-use Rattle.c_types.specs.Types.{is_sized_at, is_sized_under, is_integer_base, limited_size, converts, converts_parts}
+use Rattle.c_types.specs.Types.{is_sized_at, is_sized_under, is_integer_base, converts, converts_parts}
+use Rattle.c_type_refs.specs.Sizes.{limited_size}
 use Rattle.c_types.specs.Types.{same_parts, same_base, same_layers, same_layer, is_integer, is_pointer, is_pointer_at}
 use Rattle.c_types.specs.Types.{serves, is_void}
 use Rattle.c_types.proofs.SameLaws.{by_layer, opened_same}

@@ -5,7 +5,8 @@ use Rattle.c_types.specs.declared.ctype.CType.{CType}
 use Rattle.check_scopes.specs.declared.names.Meaning.{Meaning}
 use Rattle.check_scopes.specs.declared.names.MeaningKind.TheVariants as kind
 use Rattle.check_scopes.specs.Scopes.{Name, Scope, in_scope, find}
-use Rattle.c_types.specs.Types.{same, limited_size}
+use Rattle.c_types.specs.Types.{same}
+use Rattle.c_type_refs.specs.Sizes.{limited_size}
 use Rattle.check_rules.specs.Functions as functions
 use Rattle.check_tables.specs.Images as images
 use Rattle.check_rules.specs.declared.state.State.{State}

@@ -3,7 +3,7 @@ use Rattle.std.proofs.Common.{◌≡◌, ℕ, Bool, true, false, if◌then◌els
 use Rattle.word32.specs.declared.width.Width.{Width}
 use Rattle.icode_ops.specs.declared.kind.UnKind.{UnKind}
 use Rattle.c_types.specs.declared.ctype.CType.{CType}
-use Rattle.c_types.specs.Types.{limited_size}
+use Rattle.c_type_refs.specs.Sizes.{limited_size}
 use Rattle.check_types.specs.Shapes.{decays, width_of, conversion, is_void}
 use Rattle.typed_tree.specs.declared.expression.Expr.{Expr}
 use Rattle.typed_tree.specs.declared.expression.Expr.TheVariants as ex

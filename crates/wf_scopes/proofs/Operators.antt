@@ -1,7 +1,7 @@
 -- The rules on operators of two operands, indexes and choices.
 use Rattle.std.proofs.Common.{ℕ, Bool, true, false, ◌==◌, ◌||◌, if◌then◌else◌, Option, Some, None}
 use Rattle.icode_ops.specs.declared.kind.BinKind.TheVariants as bin
-use Rattle.c_types.specs.Types.{pointed_size}
+use Rattle.c_type_refs.specs.Sizes.{pointed_size}
 use Rattle.check_types.specs.Shapes.{is_void, is_integer}
 use Rattle.tick_tree.specs.declared.base.BinaryOp.{BinaryOp}
 use Rattle.tick_tree.specs.declared.base.BinaryOp.TheVariants as op

@@ -2,7 +2,8 @@
 use Rattle.std.proofs.Common.{◌≡◌, ℕ, Bool, true, false, ◌&&◌, if◌then◌else◌, refl, subst, Option, Some, None}
 use Rattle.c_types.specs.declared.ctype.CType.{CType}
 use Rattle.c_types.specs.declared.ctype.Integer.{Integer}
-use Rattle.c_types.specs.Types.{pointed_size, same}
+use Rattle.c_types.specs.Types.{same}
+use Rattle.c_type_refs.specs.Sizes.{pointed_size}
 use Rattle.check_types.specs.Shapes.{integer_of, is_void, is_pointer}
 use Rattle.tick_tree.specs.declared.base.BinaryOp.{BinaryOp}
 use Rattle.check_operands.specs.declared.combined.Combined.{Combined}

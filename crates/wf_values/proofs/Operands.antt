@@ -6,7 +6,8 @@ use Rattle.c_types.specs.declared.ctype.CType.{CType}
 use Rattle.c_types.specs.declared.ctype.Integer.TheVariants as kind
 use Rattle.c_types.specs.declared.ctype.Layer.TheVariants as layer
 use Rattle.c_types.specs.Types as types
-use Rattle.c_types.specs.Types.{limited_size, base_of, layers_of, under}
+use Rattle.c_types.specs.Types.{base_of, layers_of, under}
+use Rattle.c_type_refs.specs.Sizes.{limited_size}
 use Rattle.check_declarators.specs.Making.{decayed}
 use Rattle.check_types.specs.Shapes.{integer, inner, decays, width_of, conversion, is_void, is_pointer, points_to_void}
 use Rattle.check_types.specs.Shapes.{promoted}

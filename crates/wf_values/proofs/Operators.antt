@@ -5,7 +5,8 @@ use Rattle.icode_ops.specs.declared.kind.BinKind.TheVariants as bin
 use Rattle.c_types.specs.declared.ctype.CType.{CType}
 use Rattle.c_types.specs.declared.ctype.Integer.{Integer}
 use Rattle.c_types.specs.declared.ctype.Integer.TheVariants as kind
-use Rattle.c_types.specs.Types.{pointed_size, common, converts}
+use Rattle.c_types.specs.Types.{common, converts}
+use Rattle.c_type_refs.specs.Sizes.{pointed_size}
 use Rattle.check_types.specs.Shapes.{is_void, is_integer, integer_of}
 use Rattle.tick_tree.specs.declared.base.BinaryOp.{BinaryOp}
 use Rattle.tick_tree.specs.declared.base.BinaryOp.TheVariants as op

@@ -8,7 +8,8 @@ use Rattle.c_types.specs.declared.ctype.Layer.{Layer}
 use Rattle.c_types.specs.declared.ctype.Layer.TheVariants as layer
 use Rattle.c_types.specs.declared.ctype.CType.{CType}
 use Rattle.c_types.specs.Types as types
-use Rattle.c_types.specs.Types.{base_of, layers_of, outermost, under, limited_parts, pointed_size}
+use Rattle.c_types.specs.Types.{base_of, layers_of, outermost, under}
+use Rattle.c_type_refs.specs.Sizes.{limited_parts, pointed_size}
 use Rattle.check_declarators.specs.Making.{decayed, decayed_layers, is_array, is_function, ctype}
 use Rattle.check_types.specs.Shapes.{integer_parts, integer_of, is_void, is_pointer, integer, void, over, inner}
 use Rattle.check_types.specs.Shapes.{promoted_by, promoted}

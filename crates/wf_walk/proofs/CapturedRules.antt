@@ -10,7 +10,7 @@ use Rattle.icode_ops.specs.declared.kind.UnKind.{UnKind}
 use Rattle.c_types.specs.declared.ctype.CType.{CType}
 use Rattle.c_types.specs.declared.ctype.Integer.{Integer}
 use Rattle.c_types.specs.declared.ctype.Integer.TheVariants as kind
-use Rattle.c_types.specs.Types.{limited_size, pointed_size}
+use Rattle.c_type_refs.specs.Sizes.{limited_size, pointed_size}
 use Rattle.check_types.specs.Shapes.{decays, width_of, conversion, is_void, is_integer, integer_of, narrowing}
 use Rattle.tick_tree.specs.declared.base.BinaryOp.{BinaryOp}
 use Rattle.tick_tree.specs.declared.base.BinaryOp.TheVariants as op

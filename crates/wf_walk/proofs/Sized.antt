@@ -14,7 +14,8 @@ use Rattle.c_types.specs.declared.ctype.Integer.TheVariants as kind
 use Rattle.c_types.specs.declared.ctype.Layer.{Layer, out-Layer}
 use Rattle.c_types.specs.declared.ctype.Layer.TheVariants as layer
 use Rattle.c_types.specs.Types.{base_size, size_at, size_under, is_sized_at, is_sized_under, is_integer_base}
-use Rattle.c_types.specs.Types.{is_void, layers_of, limited_size}
+use Rattle.c_types.specs.Types.{is_void, layers_of}
+use Rattle.c_type_refs.specs.Sizes.{limited_size}
 use Rattle.tick_tree.specs.declared.base.Prefix.{Prefix}
 use Rattle.tick_tree.specs.declared.base.Prefix.TheVariants as prefix
 use Rattle.tick_tree.specs.declared.fault.FaultKind.TheVariants.{TypeMismatch, VoidValue, BadArray}

@@ -1,0 +1,4 @@
+pub mod CodeLaws
+pub mod ExtentLaws
+pub mod Coded
+pub mod SameCodes

@@ -1,0 +1,4 @@
+pub mod Codes
+pub mod Extents
+pub mod Shared
+pub mod Sizes

@@ -1,9 +1,0 @@
-use Rattle.std.proofs.Common.{ap, ◌∙◌}
-use Rattle.c_types.specs.Types.{base_of, layers_of, limited_size}
-use Rattle.c_types.specs.Extents.{limited}
-use Rattle.c_types.proofs.ExtentLaws.{limits}
-use Rattle.c_types.proofs.sizes.limited_size.Goals as goal
-
-pub returns : goal.returns
-unfolding limited_size
-returns c = c.limited.ensures ∙ ap limited c.extent.ensures ∙ limits (base_of c.args.t.now) (layers_of c.args.t.now)
