@@ -7,7 +7,8 @@ ghost use Rattle.check_tables.specs.Walks.{Reads};
 ghost use Rattle.tick_tree.specs.Faults.{Checks};
 
 use crate::nodes::string_node;
-use check_operands::{Operand, character, number};
+use check_nodes::{character, number};
+use check_operands::Operand;
 use check_rules::State;
 use std::alloc::Global;
 use tick_tree::Deny;

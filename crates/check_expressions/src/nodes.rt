@@ -105,7 +105,7 @@ pub fn comma_node(alloc: Global, a: Operand, b: Operand) -> Result<Operand, Allo
     ensures { IfOk result (λ o. o ≡ spec.comma_node a b) }
 {
     let p = values(alloc, a, b)?;
-    check_operands::comma(alloc, p.0, p.1)
+    check_nodes::comma(alloc, p.0, p.1)
 }
 
 /// `c ? a : b`, as `check_operators::choice`.
@@ -146,7 +146,7 @@ fn star_node(alloc: Global, line: u32, stage: Stage, o: Operand) -> Result<Opera
     ensures { Checks result (spec.star_node line stage o) }
 {
     let v = value_of(alloc, o)?;
-    let place = check_operands::dereferenced(line, v)?;
+    let place = check_nodes::dereferenced(line, v)?;
     left(line, stage, place)
 }
 
@@ -208,10 +208,10 @@ fn signed_node(alloc: Global, line: u32, op: UnaryOp, o: Operand) -> Result<Oper
 {
     let v = value_of(alloc, o)?;
     match op {
-        UnaryOp::Minus => check_operands::on_integer(alloc, line, UnKind::Negate, v),
-        UnaryOp::Complement => check_operands::on_integer(alloc, line, UnKind::Complement, v),
-        UnaryOp::Not => check_operands::negated(alloc, line, v),
-        _ => check_operands::plus(alloc, line, v),
+        UnaryOp::Minus => check_nodes::on_integer(alloc, line, UnKind::Negate, v),
+        UnaryOp::Complement => check_nodes::on_integer(alloc, line, UnKind::Complement, v),
+        UnaryOp::Not => check_nodes::negated(alloc, line, v),
+        _ => check_nodes::plus(alloc, line, v),
     }
 }
 
@@ -243,5 +243,5 @@ pub fn string_node(alloc: Global, state: &mut State, bytes: &[u8]) -> Result<Ope
     ensures { Gives result state.new (spec.string_node bytes.now state.old) }
 {
     let address = state.image.string(alloc, bytes)?;
-    check_operands::string(alloc, address)
+    check_nodes::string(alloc, address)
 }

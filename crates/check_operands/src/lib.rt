@@ -11,7 +11,6 @@ pub use arguments::{Argument, Arguments, Callee};
 pub use combined::{Combined, Joined};
 pub use decay::decayed;
 pub use operand::{
-    Operand, Place, Value, as_operand, at_address, cast, character, comma, condition, converted,
-    converted_by, dereferenced, effect, made, narrowed, negated, number, on_integer, plain, plus,
-    settled, size, string, switched, test_breaks, unless_kind, unless_void, value_of, values,
+    Operand, Place, Value, as_operand, at_address, converted, converted_by, effect, made, narrowed,
+    plain, settled, test_breaks, unless_kind, unless_void, value_of, values,
 };

@@ -1,22 +1,17 @@
 //! Operands and their values.
 
 ghost use Rattle.std.specs.Prelude.{◌≡◌, IfOk};
-ghost use Rattle.tick_tree.specs.Faults.{Checks};
 ghost use Rattle.check_operands.specs.Operands as spec;
 ghost use Rattle.check_operands.specs.Places as places;
 
 use crate::decay::decayed;
 use c_conversions::converts;
 use c_type_refs::TypeRef;
-use c_types::{Integer, Layer};
-use check_types::{
-    conversion, decays, inner, integer, integer_of, is_integer, is_pointer, is_scalar, is_void,
-    narrowing, over, points_to_void, promoted_type, width_of,
-};
+use check_types::{conversion, decays, integer_of, is_scalar, is_void, narrowing, width_of};
 use icode_ops::UnKind;
 use sqlite_items::Boxed;
 use std::alloc::{AllocError, Global};
-use tick_tree::{Deny, FaultKind, refused};
+use tick_tree::FaultKind;
 use typed_tree::Expr;
 
 /// What an expression names.
@@ -198,60 +193,6 @@ pub fn narrowed(alloc: Global, t: &TypeRef, e: Boxed<Expr>) -> Result<Boxed<Expr
     }
 }
 
-fn number_kind(unsigned: bool) -> Integer
-    ensures { result ≡ spec.number_kind unsigned }
-{
-    if unsigned {
-        Integer::Unsigned
-    } else {
-        Integer::Int
-    }
-}
-
-/// A number, with its value. The value 0 is the literal 0.
-#[tactic(auto, unfolding(crate::specs::Operands::number))]
-pub fn number(alloc: Global, n: u32, unsigned: bool) -> Result<Operand, AllocError>
-    ensures { IfOk result (λ o. o ≡ spec.number n unsigned) }
-{
-    let code = Boxed::new(alloc, Expr::Const(n))?;
-    Ok(Operand {
-        place: Place::Value(code),
-        ctype: integer(alloc, number_kind(unsigned)),
-        zero: n == 0,
-    })
-}
-
-/// A character literal, with its value as a word.
-#[tactic(auto, unfolding(crate::specs::Operands::character))]
-pub fn character(alloc: Global, n: u32) -> Result<Operand, AllocError>
-    ensures { IfOk result (λ o. o ≡ spec.character n) }
-{
-    let code = Boxed::new(alloc, Expr::Const(n))?;
-    Ok(made(code, integer(alloc, Integer::Int)))
-}
-
-/// A string, by its address: a value of type `char *`.
-#[tactic(auto, unfolding(crate::specs::Operands::string))]
-pub fn string(alloc: Global, address: u32) -> Result<Operand, AllocError>
-    ensures { IfOk result (λ o. o ≡ spec.string address) }
-{
-    let t = over(Layer::Pointer, integer(alloc, Integer::Char))?;
-    Ok(made(Boxed::new(alloc, Expr::Const(address))?, t))
-}
-
-/// `sizeof` of a type. Refused: BadOperand where the type is void or a function.
-pub fn size(alloc: Global, line: u32, t: &TypeRef) -> Result<Operand, Deny>
-    ensures { Checks result (spec.size line t.now) }
-{
-    match c_type_refs::limited_size(t) {
-        None => refused(FaultKind::BadOperand, line),
-        Some(n) => {
-            let code = Boxed::new(alloc, Expr::Const(n))?;
-            Ok(made(code, integer(alloc, Integer::Unsigned)))
-        }
-    }
-}
-
 /// VoidValue where a value is void, or else this broken rule.
 pub fn unless_void(v: &Value, other: Option<FaultKind>) -> Option<FaultKind>
     ensures { result ≡ spec.unless_void v.now other }
@@ -275,131 +216,4 @@ pub fn test_breaks(v: &Value) -> Option<FaultKind>
     ensures { result ≡ spec.test_breaks v.now }
 {
     unless_void(v, unless_kind(is_scalar(&v.ctype), FaultKind::BadOperand))
-}
-
-fn integer_breaks(v: &Value) -> Option<FaultKind>
-    ensures { result ≡ spec.integer_breaks v.now }
-{
-    unless_void(v, unless_kind(is_integer(&v.ctype), FaultKind::BadOperand))
-}
-
-/// The node of a test. Refused: VoidValue, or BadOperand where it is neither an integer nor a pointer.
-#[tactic(auto, unfolding(crate::specs::Operands::condition))]
-pub fn condition(line: u32, v: Value) -> Result<Boxed<Expr>, Deny>
-    ensures { Checks result (spec.condition line v) }
-{
-    match test_breaks(&v) {
-        Some(kind) => refused(kind, line),
-        None => Ok(v.code),
-    }
-}
-
-/// The node of the value of a switch. Refused: VoidValue, or BadOperand where it is no integer.
-#[tactic(auto, unfolding(crate::specs::Operands::switched))]
-pub fn switched(line: u32, v: Value) -> Result<Boxed<Expr>, Deny>
-    ensures { Checks result (spec.switched line v) }
-{
-    match integer_breaks(&v) {
-        Some(kind) => refused(kind, line),
-        None => Ok(v.code),
-    }
-}
-
-/// `+v`, which is no node. Refused: VoidValue, or BadOperand where v is no integer.
-#[tactic(auto, unfolding(crate::specs::Operands::plus))]
-pub fn plus(alloc: Global, line: u32, v: Value) -> Result<Operand, Deny>
-    ensures { Checks result (spec.plus line v) }
-{
-    match integer_breaks(&v) {
-        Some(kind) => refused(kind, line),
-        None => {
-            let Value { code, ctype, .. } = v;
-            Ok(made(code, promoted_type(alloc, ctype)))
-        }
-    }
-}
-
-/// `-v` or `~v`. Refused as [`plus`].
-#[tactic(auto, unfolding(crate::specs::Operands::on_integer))]
-pub fn on_integer(alloc: Global, line: u32, kind: UnKind, v: Value) -> Result<Operand, Deny>
-    ensures { Checks result (spec.on_integer line kind v) }
-{
-    match integer_breaks(&v) {
-        Some(broken) => refused(broken, line),
-        None => {
-            let Value { code, ctype, .. } = v;
-            let e = typed_tree::unary(alloc, kind, code)?;
-            Ok(made(e, promoted_type(alloc, ctype)))
-        }
-    }
-}
-
-fn pointer_breaks(v: &Value) -> Option<FaultKind>
-    ensures { result ≡ spec.pointer_breaks v.now }
-{
-    let ok = is_pointer(&v.ctype) && !points_to_void(&v.ctype);
-    unless_void(v, unless_kind(ok, FaultKind::BadOperand))
-}
-
-/// `*v`. Refused: VoidValue, or BadOperand where v is no pointer or one to void.
-#[tactic(auto, unfolding(crate::specs::Operands::dereferenced))]
-pub fn dereferenced(line: u32, v: Value) -> Result<Operand, Deny>
-    ensures { Checks result (spec.dereferenced line v) }
-{
-    match pointer_breaks(&v) {
-        Some(kind) => refused(kind, line),
-        None => {
-            let Value { code, ctype, .. } = v;
-            Ok(at_address(code, inner(ctype)))
-        }
-    }
-}
-
-/// `!v`. Refused as [`condition`].
-#[tactic(auto, unfolding(crate::specs::Operands::negated))]
-pub fn negated(alloc: Global, line: u32, v: Value) -> Result<Operand, Deny>
-    ensures { Checks result (spec.negated line v) }
-{
-    match test_breaks(&v) {
-        Some(kind) => refused(kind, line),
-        None => {
-            let e = typed_tree::unary(alloc, UnKind::IsZero, v.code)?;
-            Ok(made(e, integer(alloc, Integer::Int)))
-        }
-    }
-}
-
-fn cast_breaks(t: &TypeRef, v: &Value) -> Option<FaultKind>
-    ensures { result ≡ spec.cast_breaks t.now v.now }
-{
-    let ok = is_scalar(t) && is_scalar(&v.ctype);
-    unless_void(v, unless_kind(ok, FaultKind::BadOperand))
-}
-
-/// A cast to this type: of integers and pointers to integers and pointers, and of anything to void. Refused: VoidValue, or
-/// BadOperand.
-#[tactic(auto, unfolding(crate::specs::Operands::cast))]
-pub fn cast(alloc: Global, line: u32, t: TypeRef, v: Value) -> Result<Operand, Deny>
-    ensures { Checks result (spec.cast line t v) }
-{
-    if is_void(&t) {
-        return Ok(made(typed_tree::void(alloc, v.code)?, t));
-    }
-    match cast_breaks(&t, &v) {
-        Some(kind) => refused(kind, line),
-        None => {
-            let e = converted(alloc, v, &t)?;
-            Ok(made(e, t))
-        }
-    }
-}
-
-/// `a, b`: the type and the value of b.
-#[tactic(auto, unfolding(crate::specs::Operands::comma))]
-pub fn comma(alloc: Global, a: Value, b: Value) -> Result<Operand, AllocError>
-    ensures { IfOk result (λ o. o ≡ spec.comma a b) }
-{
-    let Value { code, ctype, .. } = b;
-    let e = typed_tree::comma(alloc, a.code, code)?;
-    Ok(made(e, ctype))
 }

@@ -45,7 +45,7 @@ pub fn naming_node(alloc: Global, line: u32, kind: Naming, t: TypeRef) -> Result
     ensures { Checks result (spec.naming_node line kind t) }
 {
     match kind {
-        Naming::Size => check_operands::size(alloc, line, &t),
+        Naming::Size => check_nodes::size(alloc, line, &t),
         Naming::Local => check_calls::local(alloc, line, t),
     }
 }

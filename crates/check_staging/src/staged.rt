@@ -26,13 +26,13 @@ pub fn compile_node(alloc: Global, line: u32, t: TypeRef, o: Operand) -> Result<
     check_calls::compile(alloc, line, t, v)
 }
 
-/// `(T) o`, as `check_operands::cast`.
+/// `(T) o`, as `check_nodes::cast`.
 #[tactic(auto, unfolding(check_rules::specs::Productions::cast_node))]
 pub fn cast_node(alloc: Global, line: u32, t: TypeRef, o: Operand) -> Result<Operand, Deny>
     ensures { Checks result (spec.cast_node line t o) }
 {
     let v = value_of(alloc, o)?;
-    check_operands::cast(alloc, line, t, v)
+    check_nodes::cast(alloc, line, t, v)
 }
 
 /// `param(T, o)`, as `check_calls::parameter`.

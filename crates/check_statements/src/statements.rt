@@ -195,10 +195,10 @@ fn condition_node(alloc: Global, line: u32, o: Operand) -> Result<Boxed<Expr>, D
     ensures { Checks result (spec.condition_node line o) }
 {
     let v = value_of(alloc, o)?;
-    check_operands::condition(line, v)
+    check_nodes::condition(line, v)
 }
 
-/// `if` without `else`. Its test is refused as by `check_operands::condition`.
+/// `if` without `else`. Its test is refused as by `check_nodes::condition`.
 #[tactic(auto, unfolding(check_rules::specs::Statements::if_node))]
 pub fn if_node(alloc: Global, line: u32, o: Operand, body: Boxed<Stmt>) -> Result<Items<Stmt>, Deny>
     ensures { Checks result (spec.if_node line o body) }
@@ -207,7 +207,7 @@ pub fn if_node(alloc: Global, line: u32, o: Operand, body: Boxed<Stmt>) -> Resul
     checked(alloc, Stmt::If(test, body))
 }
 
-/// `if` with `else`. Its test is refused as by `check_operands::condition`.
+/// `if` with `else`. Its test is refused as by `check_nodes::condition`.
 #[tactic(auto, unfolding(check_rules::specs::Statements::if_else_node))]
 pub fn if_else_node(
     alloc: Global,
@@ -222,7 +222,7 @@ pub fn if_else_node(
     checked(alloc, Stmt::IfElse(test, a, b))
 }
 
-/// `while`. Its test is refused as by `check_operands::condition`.
+/// `while`. Its test is refused as by `check_nodes::condition`.
 #[tactic(auto, unfolding(check_rules::specs::Statements::while_node))]
 pub fn while_node(
     alloc: Global,
@@ -236,7 +236,7 @@ pub fn while_node(
     checked(alloc, Stmt::While(test, body))
 }
 
-/// `do`. Its test is refused as by `check_operands::condition`.
+/// `do`. Its test is refused as by `check_nodes::condition`.
 #[tactic(auto, unfolding(check_rules::specs::Statements::do_node))]
 pub fn do_node(alloc: Global, line: u32, body: Boxed<Stmt>, o: Operand) -> Result<Items<Stmt>, Deny>
     ensures { Checks result (spec.do_node line body o) }
@@ -272,7 +272,7 @@ fn for_by(
 }
 
 /// A `for` behind its first part, with its test, which is 1 where it is absent, and its step. The test is refused as by
-/// `check_operands::condition`.
+/// `check_nodes::condition`.
 #[tactic(auto, unfolding(check_rules::specs::Statements::for_node))]
 pub fn for_node(
     alloc: Global,
@@ -291,10 +291,10 @@ fn switched_node(alloc: Global, line: u32, o: Operand) -> Result<Boxed<Expr>, De
     ensures { Checks result (spec.switched_node line o) }
 {
     let v = value_of(alloc, o)?;
-    check_operands::switched(line, v)
+    check_nodes::switched(line, v)
 }
 
-/// A switch whose block has these variables and these items. Its value is refused as by `check_operands::switched`.
+/// A switch whose block has these variables and these items. Its value is refused as by `check_nodes::switched`.
 #[tactic(auto, unfolding(check_rules::specs::Statements::switch_node))]
 pub fn switch_node(
     alloc: Global,
