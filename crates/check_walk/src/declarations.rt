@@ -8,9 +8,9 @@ use crate::expressions::expression;
 use crate::types::declarator;
 use c_type_refs::TypeRef;
 use check_declarations::{
-    declare, declared_in, element, entered, from_list, from_value, inner_of, with_list, with_value,
+    declare, declared_in, element, entered, from_list, from_value, inner_of, with_start,
 };
-use check_declarators::{Step, base_of};
+use check_declarators::base_of;
 use check_operands::Operand;
 use check_rules::{Stage, State, has_size, is_array, is_string};
 use check_statements::appended;
@@ -18,18 +18,6 @@ use sqlite_items::Items;
 use std::alloc::Global;
 use tick_tree::{Base, Declarator, Deny, Expr, FaultKind, Init, Initializer};
 use typed_tree::Stmt;
-
-/// The steps with the count of an initializer's values, where the array lacks a length.
-#[tactic(auto, using(crate::proofs::Starting::starting))]
-pub fn with_start(steps: Items<Step>, value: &Initializer) -> Items<Step>
-    ensures { result ≡ spec.with_start (spec.initializer value.now) steps }
-{
-    match value {
-        Initializer::Absent => steps,
-        Initializer::Value(e) => with_value(steps, e),
-        Initializer::List(list, _) => with_list(steps, list.as_slice()),
-    }
-}
 
 // What the values of a list break as elements of this type.
 #[cycle(walk)]

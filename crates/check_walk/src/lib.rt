@@ -8,7 +8,6 @@ mod expressions;
 mod statements;
 mod types;
 
-pub use declarations::with_start;
 pub use expressions::expression;
 pub use statements::items;
 pub use types::declarator;

@@ -3,7 +3,7 @@
 #![tactic(auto)]
 
 mod checker;
-mod program;
+mod tree_walk;
 mod walks;
 
 pub use checker::check;

@@ -7,26 +7,14 @@ ghost use Rattle.check_rules.specs.Starts.{start};
 ghost use Rattle.check_globals.specs.Program as spec;
 ghost use Rattle.tick_tree.specs.Faults.{Checks};
 
-use crate::program::walk;
+use crate::tree_walk::TreeWalk;
 use check_globals::finished;
+use check_items::{second_walk, walk};
 use check_rules::State;
 use std::alloc::Global;
 use tick_tree::{Deny, External, Tree};
 use typed_tree::TypedParts;
 use walk_again::is_settled;
-
-fn again(alloc: Global, state: State, list: &[External]) -> Result<TypedParts, Deny>
-    ensures { Checks result (spec.walk_again list.now state) }
-{
-    let mut state = check_functions::start_again(alloc, state)?;
-    match walk(alloc, &mut state, list) {
-        Ok(()) => finished(alloc, state),
-        Err(why) => {
-            drop(state);
-            Err(why)
-        }
-    }
-}
 
 // What comes after a first walk that began with the library's names alone.
 #[tactic(auto, using(walk_again::proofs::Programs::enough))]
@@ -37,7 +25,7 @@ fn after_first(alloc: Global, state: State, list: &[External]) -> Result<TypedPa
     if is_settled(&state) {
         finished(alloc, state)
     } else {
-        again(alloc, state, list)
+        second_walk::<TreeWalk>(alloc, state, list)
     }
 }
 
@@ -47,7 +35,7 @@ pub fn check_parts(alloc: Global, tree: &Tree) -> Result<TypedParts, Deny>
     ensures { Checks result (spec.checked tree.now) }
 {
     let mut state = check_functions::start(alloc)?;
-    match walk(alloc, &mut state, tree.items()) {
+    match walk::<TreeWalk>(alloc, &mut state, tree.items()) {
         Ok(()) => after_first(alloc, state, tree.items()),
         Err(why) => {
             drop(state);

@@ -8,8 +8,9 @@ ghost use Rattle.check_globals.specs.Parameters as heads;
 ghost use Rattle.check_globals.specs.Program as spec;
 ghost use Rattle.check_rules.specs.Walk as walks;
 
+use crate::part_walk::PartWalk;
 use c_type_refs::TypeRef;
-use check_declarations::is_text;
+use check_declarations::{is_text, with_start};
 use check_declarators::{Role, base_of, declared_type};
 use check_forms::string_of;
 use check_globals::{
@@ -18,7 +19,6 @@ use check_globals::{
 };
 use check_rules::{Around, Stage, State};
 use check_types::{inner, is_function};
-use check_walk::{declarator, expression, items, with_start};
 use sqlite_items::{Boxed, Items};
 use std::alloc::Global;
 use tick_tree::{
@@ -26,7 +26,7 @@ use tick_tree::{
 };
 use typed_tree::Stmt;
 
-fn global_type(
+fn global_type<W: PartWalk>(
     alloc: Global,
     state: &mut State,
     line: u32,
@@ -36,7 +36,7 @@ fn global_type(
 ) -> Result<TypeRef, Deny>
     ensures { Reads (spec.global_type line base (walks.shape d.now) (walks.initializer value.now) state.old) result state.new }
 {
-    let steps = declarator(alloc, state, Stage::Function, d)?;
+    let steps = W::declarator(alloc, state, Stage::Function, d)?;
     let steps = with_start(named_steps(alloc, steps), value);
     let t = declared_type(alloc, Role::FileScope, line, base_of(base), steps)?;
     Ok(TypeRef::share(alloc, t)?)
@@ -44,7 +44,7 @@ fn global_type(
 
 // The values of a list, by the type of an element.
 #[tactic(auto, using(check_laws::proofs::Written::forms_of))]
-fn row(
+fn row<W: PartWalk>(
     alloc: Global,
     state: &mut State,
     t: &TypeRef,
@@ -55,14 +55,14 @@ fn row(
 {
     let mut row = start;
     for e in list {
-        let o = expression(alloc, state, Stage::Function, e)?;
+        let o = W::expression(alloc, state, Stage::Function, e)?;
         row = row.more(alloc, t, e, o)?;
     }
     Ok(row)
 }
 
 #[tactic(auto, using(check_laws::proofs::Written::forms_of))]
-fn static_one(
+fn static_one<W: PartWalk>(
     alloc: Global,
     state: &mut State,
     line: u32,
@@ -77,12 +77,12 @@ fn static_one(
             return static_text(alloc, state, line, at, t, bytes.as_slice());
         }
     }
-    let o = expression(alloc, state, Stage::Function, e)?;
+    let o = W::expression(alloc, state, Stage::Function, e)?;
     static_value(alloc, state, line, at, t, e, o)
 }
 
 #[tactic(auto, using(check_laws::proofs::Written::forms_of, check_laws::proofs::Equations::initializers, check_laws::proofs::Loops::same_length))]
-fn begin_variable(
+fn begin_variable<W: PartWalk>(
     alloc: Global,
     state: &mut State,
     line: u32,
@@ -95,27 +95,27 @@ fn begin_variable(
     let at = variable(alloc, state, line, d, t)?;
     match value {
         Initializer::Absent => Ok(()),
-        Initializer::Value(e) => static_one(alloc, state, line, at, t, e),
+        Initializer::Value(e) => static_one::<W>(alloc, state, line, at, t, e),
         Initializer::List(list, _) => {
             let list = list.as_slice();
             let element = inner(c_type_refs::copy(alloc, t)?);
-            let row = row(alloc, state, &element, Row::new(alloc, t), list)?;
+            let row = row::<W>(alloc, state, &element, Row::new(alloc, t), list)?;
             static_list(alloc, state, line, at, t, list, row)
         }
     }
 }
 
-fn walked(alloc: Global, state: &mut State, list: &[Expr]) -> Result<(), Deny>
+fn walked<W: PartWalk>(alloc: Global, state: &mut State, list: &[Expr]) -> Result<(), Deny>
     ensures { Reads (spec.walked (map walks.node list.now) state.old) result state.new }
 {
     for e in list {
-        expression(alloc, state, Stage::Function, e)?;
+        W::expression(alloc, state, Stage::Function, e)?;
     }
     Ok(())
 }
 
 #[tactic(auto, using(check_laws::proofs::Written::forms_of, check_laws::proofs::Equations::initializers))]
-fn begin_prototype(
+fn begin_prototype<W: PartWalk>(
     alloc: Global,
     state: &mut State,
     line: u32,
@@ -129,29 +129,35 @@ fn begin_prototype(
     match value {
         Initializer::Absent => Ok(()),
         Initializer::Value(e) => {
-            expression(alloc, state, Stage::Function, e)?;
+            W::expression(alloc, state, Stage::Function, e)?;
             refused(FaultKind::TypeMismatch, line)
         }
         Initializer::List(list, _) => {
-            walked(alloc, state, list.as_slice())?;
+            walked::<W>(alloc, state, list.as_slice())?;
             refused(FaultKind::TypeMismatch, line)
         }
     }
 }
 
 #[tactic(auto, using(crate::proofs::Parts::globals))]
-fn global(alloc: Global, state: &mut State, line: u32, base: Base, init: &Init) -> Result<(), Deny>
+fn global<W: PartWalk>(
+    alloc: Global,
+    state: &mut State,
+    line: u32,
+    base: Base,
+    init: &Init,
+) -> Result<(), Deny>
     ensures { Reads (spec.global line base (walks.init init.now) state.old) result state.new }
 {
-    let t = global_type(alloc, state, line, base, &init.declarator, &init.value)?;
+    let t = global_type::<W>(alloc, state, line, base, &init.declarator, &init.value)?;
     if is_function(&t) {
-        begin_prototype(alloc, state, line, &t, &init.declarator, &init.value)
+        begin_prototype::<W>(alloc, state, line, &t, &init.declarator, &init.value)
     } else {
-        begin_variable(alloc, state, line, &t, &init.declarator, &init.value)
+        begin_variable::<W>(alloc, state, line, &t, &init.declarator, &init.value)
     }
 }
 
-fn globals(
+fn globals<W: PartWalk>(
     alloc: Global,
     state: &mut State,
     line: u32,
@@ -161,12 +167,12 @@ fn globals(
     ensures { Reads (spec.globals line base (map walks.init list.now) state.old) result state.new }
 {
     for init in list {
-        global(alloc, state, line, base, init)?;
+        global::<W>(alloc, state, line, base, init)?;
     }
     Ok(())
 }
 
-fn function_type(
+fn function_type<W: PartWalk>(
     alloc: Global,
     state: &mut State,
     line: u32,
@@ -175,13 +181,13 @@ fn function_type(
 ) -> Result<TypeRef, Deny>
     ensures { Reads (spec.function_type line base (walks.shape d.now) state.old) result state.new }
 {
-    let steps = declarator(alloc, state, Stage::Function, d)?;
+    let steps = W::declarator(alloc, state, Stage::Function, d)?;
     let steps = named_steps(alloc, steps);
     let t = declared_type(alloc, Role::FileScope, line, base_of(base), steps)?;
     Ok(TypeRef::share(alloc, t)?)
 }
 
-fn body(
+fn body<W: PartWalk>(
     alloc: Global,
     state: &mut State,
     t: &TypeRef,
@@ -199,13 +205,13 @@ fn body(
         in_switch: false,
         is_direct: false,
     };
-    let nodes = items(alloc, state, around, block)?;
+    let nodes = W::items(alloc, state, around, block)?;
     let variables = check_names::leave(state, depth, outer)?;
     Ok(Boxed::new(alloc, Stmt::Block(variables, nodes))?)
 }
 
 #[tactic(auto, using(check_laws::proofs::Written::forms_of))]
-fn function(
+fn function<W: PartWalk>(
     alloc: Global,
     state: &mut State,
     line: u32,
@@ -215,30 +221,30 @@ fn function(
 ) -> Result<(), Deny>
     ensures { Reads (spec.function line base (walks.shape d.now) (heads.parameters_of d.now) (map walks.item block.now) state.old) result state.new }
 {
-    let t = function_type(alloc, state, line, base, d)?;
+    let t = function_type::<W>(alloc, state, line, base, d)?;
     name_function(alloc, state, line, d, &t)?;
-    let node = body(alloc, state, &t, parameters_of(d), block)?;
+    let node = body::<W>(alloc, state, &t, parameters_of(d), block)?;
     end(alloc, state, line, d, &t, node)
 }
 
 #[tactic(auto, using(crate::proofs::Parts::globals))]
-fn external(alloc: Global, state: &mut State, x: &External) -> Result<(), Deny>
+fn external<W: PartWalk>(alloc: Global, state: &mut State, x: &External) -> Result<(), Deny>
     ensures { Reads (spec.external x.now state.old) result state.new }
 {
     match x {
         External::Function(line, base, d, block) => {
-            function(alloc, state, *line, *base, d, block.as_slice())
+            function::<W>(alloc, state, *line, *base, d, block.as_slice())
         }
-        External::Declaration(d) => globals(alloc, state, d.line, d.base, d.inits.as_slice()),
+        External::Declaration(d) => globals::<W>(alloc, state, d.line, d.base, d.inits.as_slice()),
     }
 }
 
 /// The walk over the items of a program.
-pub(crate) fn walk(alloc: Global, state: &mut State, list: &[External]) -> Result<(), Deny>
+pub fn walk<W: PartWalk>(alloc: Global, state: &mut State, list: &[External]) -> Result<(), Deny>
     ensures { Reads (spec.walk list.now state.old) result state.new }
 {
     for x in list {
-        external(alloc, state, x)?;
+        external::<W>(alloc, state, x)?;
     }
     Ok(())
 }

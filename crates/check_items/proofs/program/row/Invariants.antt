@@ -1,9 +1,9 @@
 use Rattle.std.proofs.Common.{◌≡◌, drop, map}
 use Rattle.check_globals.specs.Program as spec
 use Rattle.check_rules.specs.Walk as walks
-use Rattle.tick_checker.proofs.program.row.Given as goal
+use Rattle.check_items.proofs.program.row.Given as goal
 
 -- the values so far, and those to come
 abbrev pub invariant-loop-e : goal.invariant-loop-e
-invariant-loop-e l = spec.row (map walks.node (drop l.e-index l.list)) l.t l.row l.state ≡ spec.row
+invariant-loop-e g l = spec.row (map walks.node (drop l.e-index l.list)) l.t l.row l.state ≡ spec.row
     (map walks.node l.list) l.t l.fn.start l.fn.state
