@@ -1,4 +1,1 @@
-pub mod Lookups
-pub mod CutLines
-pub mod Rest
-pub mod Gathering
+pub mod Images

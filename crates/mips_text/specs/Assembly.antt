@@ -1,21 +1,18 @@
 -- The image that an assembly text is, or its first fault. The fault of the first line that has one counts; a text
 -- without a line that gives a word has a wrong form in its first line. The text's form is this project's own.
-use Rattle.std.specs.Prelude.{◌≡◌, ℕ, ◌==◌, if◌then◌else◌, List, [], ◌∷◌, map, Option, None, unwrap_or, Result, Ok, Err}
+use Rattle.std.specs.Prelude.{◌≡◌, ℕ, ◌==◌, if◌then◌else◌, List, [], ◌∷◌, Option, None, unwrap_or, Result, Ok, Err}
 use Rattle.std.specs.Option.{option_or}
 use Rattle.std.specs.List.{flat_map}
 use Rattle.image_file.specs.Image.{ImageParts, image_of}
-use Rattle.asm_lines.specs.Lines.{line_of}
-use Rattle.mips_text.specs.declared.fault.AsmFault.{AsmFault}
-use Rattle.mips_text.specs.declared.fault.AsmFaultKind.TheVariants.{BadLine}
-use Rattle.mips_text.specs.declared.fault.AsmDeny.{AsmDeny}
-use Rattle.mips_text.specs.declared.fault.AsmDeny.TheVariants.{Refused, NoMemory}
-use Rattle.mips_text.specs.declared.item.Item.{Item}
-use Rattle.mips_text.specs.Items.{entry_of, words_of, data_of, functions_of}
-use Rattle.mips_text.specs.Cut.{lines}
-use Rattle.mips_text.specs.Positions.{Placed, placed, start, words}
-use Rattle.mips_text.specs.Labels.{labels}
-use Rattle.mips_text.specs.Instructions.{Read}
-use Rattle.mips_text.specs.Values.{Known, known_by, given}
+use Rattle.asm_passes.specs.declared.fault.AsmFault.{AsmFault}
+use Rattle.asm_passes.specs.declared.fault.AsmFaultKind.TheVariants.{BadLine}
+use Rattle.asm_passes.specs.declared.fault.AsmDeny.{AsmDeny}
+use Rattle.asm_passes.specs.declared.fault.AsmDeny.TheVariants.{Refused, NoMemory}
+use Rattle.asm_passes.specs.declared.item.Item.{Item}
+use Rattle.asm_passes.specs.Items.{entry_of, words_of, data_of, functions_of}
+use Rattle.asm_passes.specs.Positions.{Placed, words}
+use Rattle.asm_passes.specs.Parts.{Gathered}
+use Rattle.asm_passes.specs.Collected.{collected, known, placed_lines}
 use Rattle.word32.specs.declared.map.TheConstants.{START}
 
 -- ---- the image of what all lines give
@@ -29,26 +26,11 @@ abbrev pub image : List Item → ImageParts
 image is =
     image_of (unwrap_or (entry is) START) (flat_map words_of is) (flat_map data_of is) (flat_map functions_of is)
 
--- ---- the first fault, or what all lines give
-
-abbrev pub before : ℕ → Read Item → Result (List Item) AsmFault → Result (List Item) AsmFault
-before line (Err k) later = Err (record { kind = k; line = line })
-before line (Ok i) (Ok is) = Ok (i ∷ is)
-before line (Ok i) (Err f) = Err f
-
-abbrev pub collected : Known → List Placed → Result (List Item) AsmFault
-collected k [] = Ok []
-collected k (q ∷ qs) = before q.at.line (given k q.at q.line) (collected k qs)
+-- The image of what was gathered.
+abbrev pub image_in : Gathered → ImageParts
+image_in g = image_of (unwrap_or g.entry START) g.text g.bytes g.functions
 
 -- ---- the whole
-
--- The lines of a text with their positions.
-abbrev pub placed_lines : List ℕ → List Placed
-placed_lines text = placed start (map line_of (lines text))
-
--- What all lines of a text say together.
-abbrev pub known : List Placed → Known
-known ps = known_by (labels ps) (words ps)
 
 abbrev pub image_by : Result (List Item) AsmFault → Result ImageParts AsmFault
 image_by (Ok is) = Ok (image is)

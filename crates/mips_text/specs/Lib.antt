@@ -1,10 +1,1 @@
-pub mod Faults
-pub mod Cut
-pub mod Positions
-pub mod LabelPlace
-pub mod Labels
-pub mod Instructions
-pub mod Values
-pub mod Items
 pub mod Assembly
-pub mod Parts

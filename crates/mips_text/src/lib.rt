@@ -4,14 +4,7 @@
 #![tactic(auto)]
 
 mod assembly;
-mod cut;
-mod fault;
-mod item;
-mod label;
-mod position;
-mod survey;
-mod values;
 
+pub use asm_passes::{AsmDeny, AsmFault, AsmFaultKind};
 pub use asm_print::disassemble;
 pub use assembly::assemble;
-pub use fault::{AsmDeny, AsmFault, AsmFaultKind};

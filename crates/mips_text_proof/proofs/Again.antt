@@ -11,7 +11,7 @@ use Rattle.asm_words.specs.declared.number.Number.{Number}
 use Rattle.asm_lines.specs.declared.draft.Draft.{Draft}
 use Rattle.asm_lines.specs.declared.draft.Draft.TheVariants as draft
 use Rattle.asm_lines.specs.declared.operand.Target.TheVariants as target
-use Rattle.mips_text.specs.Instructions.{◌>>=◌, pure, fitting, Find, signed, immediate, jump_index, instruction_of}
+use Rattle.asm_passes.specs.Instructions.{◌>>=◌, pure, fitting, Find, signed, immediate, jump_index, instruction_of}
 use Rattle.mips_text_proof.proofs.Rows.{written}
 use Rattle.mips_text_proof.proofs.Halves.{half, signed_fits, below_fits}
 

@@ -5,13 +5,13 @@ use Rattle.std.specs.List.{count_by}
 use Rattle.std.proofs.lemmas.List.Sums.{sum_by-cons}
 use Rattle.asm_lines.specs.declared.line.Line.{Line}
 use Rattle.asm_lines.specs.declared.line.Statement.{Statement}
-use Rattle.mips_text.specs.declared.position.Position.{Position}
-use Rattle.mips_text.specs.declared.item.Item.{Item}
-use Rattle.mips_text.specs.Positions.{placed, counted, behind, is_entry, is_word, gives_word_in, words}
-use Rattle.mips_text.specs.Labels.{labels, label_in}
-use Rattle.mips_text.specs.Instructions.{◌>>=◌}
-use Rattle.mips_text.specs.Values.{Known, item_of, given}
-use Rattle.mips_text.specs.Assembly.{before, collected}
+use Rattle.asm_passes.specs.declared.position.Position.{Position}
+use Rattle.asm_passes.specs.declared.item.Item.{Item}
+use Rattle.asm_passes.specs.Positions.{placed, counted, behind, is_entry, is_word, gives_word_in, words}
+use Rattle.asm_passes.specs.Labels.{labels, label_in}
+use Rattle.asm_passes.specs.Instructions.{◌>>=◌}
+use Rattle.asm_passes.specs.Values.{Known, item_of, given}
+use Rattle.asm_passes.specs.Collected.{before, collected}
 use Rattle.mips_text_proof.proofs.Feeds.{plain}
 
 and_false : (t : Bool) → (t && false) ≡ false

@@ -8,14 +8,14 @@ use Rattle.image_file.specs.Image.{is_in_text}
 use Rattle.asm_lines.specs.declared.line.Statement.{Statement}
 use Rattle.asm_lines.specs.declared.line.Statement.TheVariants as statement
 use Rattle.asm_lines.specs.declared.operand.Target.TheVariants as target
-use Rattle.mips_text.specs.declared.position.Position.{Position}
-use Rattle.mips_text.specs.declared.fault.AsmFaultKind.TheVariants.{BadNumber}
-use Rattle.mips_text.specs.declared.item.Item.{Item}
-use Rattle.mips_text.specs.declared.item.Item.TheVariants as item
-use Rattle.mips_text.specs.Positions.{placed, behind}
-use Rattle.mips_text.specs.Instructions.{◌>>=◌, pure, below}
-use Rattle.mips_text.specs.Values.{Known, item_of, text_address}
-use Rattle.mips_text.specs.Assembly.{collected}
+use Rattle.asm_passes.specs.declared.position.Position.{Position}
+use Rattle.asm_passes.specs.declared.fault.AsmFaultKind.TheVariants.{BadNumber}
+use Rattle.asm_passes.specs.declared.item.Item.{Item}
+use Rattle.asm_passes.specs.declared.item.Item.TheVariants as item
+use Rattle.asm_passes.specs.Positions.{placed, behind}
+use Rattle.asm_passes.specs.Instructions.{◌>>=◌, pure, below}
+use Rattle.asm_passes.specs.Values.{Known, item_of, text_address}
+use Rattle.asm_passes.specs.Collected.{collected}
 use Rattle.mips_text_proof.proofs.Feeds.{plain, Says, says_nothing, says_append}
 use Rattle.mips_text_proof.proofs.Collected.{Gives, one_more}
 use Rattle.mips_text_proof.proofs.Rows.{written}

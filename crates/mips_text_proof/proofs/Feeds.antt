@@ -6,7 +6,7 @@ use Rattle.std.specs.List.{list_all, flat_map}
 use Rattle.asm_lines.specs.declared.line.Line.{Line}
 use Rattle.asm_lines.specs.declared.line.Statement.{Statement}
 use Rattle.asm_lines.specs.Lines.{line_of}
-use Rattle.mips_text.specs.Cut.{front, lines}
+use Rattle.asm_passes.specs.Cut.{front, lines}
 
 -- Whether a byte is no line feed.
 abbrev pub in_line : ℕ → Bool

@@ -7,7 +7,7 @@ use Rattle.std.proofs.lemmas.Bool.Decides.{nat_tests}
 use Rattle.asm_print.specs.Numbers as print
 use Rattle.asm_words.specs.declared.number.Number.{Number}
 use Rattle.asm_words.specs.Numbers.{number_of}
-use Rattle.mips_text.specs.Instructions.{fitting, below, signed}
+use Rattle.asm_passes.specs.Instructions.{fitting, below, signed}
 use Rattle.mips_text_proof.proofs.Decimals.{number_decimal, negative_decimal}
 use Rattle.mips_text_proof.proofs.Rows.{written}
 

@@ -6,11 +6,11 @@ use Rattle.image_file.specs.declared.image.FunctionEntry.{FunctionEntry}
 use Rattle.image_file.specs.Image.{ImageParts, IsImage, image_of}
 use Rattle.asm_words.specs.Data.{bytes_of}
 use Rattle.asm_lines.specs.declared.line.Statement.{Statement}
-use Rattle.mips_text.specs.declared.item.Item.{Item}
-use Rattle.mips_text.specs.declared.item.Item.TheVariants as item
-use Rattle.mips_text.specs.Items.{words_of, data_of, functions_of}
-use Rattle.mips_text.specs.Positions.{is_entry, is_word}
-use Rattle.mips_text.specs.Values.{Known}
+use Rattle.asm_passes.specs.declared.item.Item.{Item}
+use Rattle.asm_passes.specs.declared.item.Item.TheVariants as item
+use Rattle.asm_passes.specs.Items.{words_of, data_of, functions_of}
+use Rattle.asm_passes.specs.Positions.{is_entry, is_word}
+use Rattle.asm_passes.specs.Values.{Known}
 use Rattle.mips_text.specs.Assembly.{image}
 use Rattle.mips_text_proof.proofs.Collected.{NoEntry, Gives, gives_nothing, gives_more, gives_all}
 use Rattle.mips_text_proof.proofs.DataRows.{hexes, bytes_again}

@@ -4,13 +4,14 @@ use Rattle.std.proofs.lemmas.Bool.{ne_eqb}
 use Rattle.std.proofs.lemmas.List.Sums.{sum_by-cons}
 use Rattle.image_file.specs.Image.{ImageParts, IsImage}
 use Rattle.asm_print.specs.Text.{text_of}
-use Rattle.mips_text.specs.declared.fault.AsmFaultKind.TheVariants.{BadLine}
-use Rattle.mips_text.specs.declared.position.Position.{Position}
-use Rattle.mips_text.specs.declared.item.Item.TheVariants as item
-use Rattle.mips_text.specs.Positions.{Placed, placed, start, behind, gives_word_in, words}
-use Rattle.mips_text.specs.Instructions.{◌>>=◌, pure}
-use Rattle.mips_text.specs.Values.{Known, known_by, given}
-use Rattle.mips_text.specs.Assembly.{assembled, assembled_in, known, collected, before, image_by}
+use Rattle.asm_passes.specs.declared.fault.AsmFaultKind.TheVariants.{BadLine}
+use Rattle.asm_passes.specs.declared.position.Position.{Position}
+use Rattle.asm_passes.specs.declared.item.Item.TheVariants as item
+use Rattle.asm_passes.specs.Positions.{Placed, placed, start, behind, gives_word_in, words}
+use Rattle.asm_passes.specs.Instructions.{◌>>=◌, pure}
+use Rattle.asm_passes.specs.Values.{Known, known_by, given}
+use Rattle.asm_passes.specs.Collected.{known, collected, before}
+use Rattle.mips_text.specs.Assembly.{assembled, assembled_in, image_by}
 use Rattle.mips_text_proof.proofs.Feeds.{plain, says_whole}
 use Rattle.mips_text_proof.proofs.Collected.{words_plain, labels_none}
 use Rattle.mips_text_proof.proofs.Each.{address_again, gives_functions}

@@ -8,11 +8,11 @@ use Rattle.asm_print.specs.Numbers.{prefixed_word}
 use Rattle.asm_print.specs.Text as text
 use Rattle.asm_lines.specs.declared.line.Statement.{Statement}
 use Rattle.asm_lines.specs.declared.line.Statement.TheVariants as statement
-use Rattle.mips_text.specs.declared.position.Position.{Position}
-use Rattle.mips_text.specs.declared.item.Item.TheVariants as item
-use Rattle.mips_text.specs.Positions.{is_entry, is_word}
-use Rattle.mips_text.specs.Instructions.{◌>>=◌, pure}
-use Rattle.mips_text.specs.Values.{Known, item_of}
+use Rattle.asm_passes.specs.declared.position.Position.{Position}
+use Rattle.asm_passes.specs.declared.item.Item.TheVariants as item
+use Rattle.asm_passes.specs.Positions.{is_entry, is_word}
+use Rattle.asm_passes.specs.Instructions.{◌>>=◌, pure}
+use Rattle.asm_passes.specs.Values.{Known, item_of}
 use Rattle.mips_text_proof.proofs.Feeds.{Says, says_line}
 use Rattle.mips_text_proof.proofs.Rows.{written, word_row}
 use Rattle.mips_text_proof.proofs.Wordy.{wordy_word}

@@ -9,7 +9,7 @@ use Rattle.image_file.specs.Image.{ImageParts}
 use Rattle.image_file.specs.Format.{parsed}
 use Rattle.image_file.specs.declared.fault.ImageFault.{ImageFault}
 use Rattle.mips_text.specs.Assembly.{assembled}
-use Rattle.mips_text.specs.declared.fault.AsmFault.{AsmFault}
+use Rattle.asm_passes.specs.declared.fault.AsmFault.{AsmFault}
 use Rattle.pace.proofs.Runs.{to_prefix}
 use Rattle.host_edge.specs.declared.ending.Counts.{Counts}
 use Rattle.mips_model.specs.Run.{runs}

@@ -14,7 +14,7 @@ use Rattle.image_file.specs.declared.fault.ImageFault.{ImageFault}
 use Rattle.mips_model.specs.Choices.{Choice}
 use Rattle.mips_model.specs.Run.{runs}
 use Rattle.mips_text.specs.Assembly.{assembled}
-use Rattle.mips_text.specs.declared.fault.AsmFault.{AsmFault}
+use Rattle.asm_passes.specs.declared.fault.AsmFault.{AsmFault}
 use Rattle.staged_meaning.specs.Meaning.{Program}
 use Rattle.tick_tree.specs.declared.fault.Fault.{Fault}
 use Rattle.wellformed.specs.declared.typed.Typed.{Typed}

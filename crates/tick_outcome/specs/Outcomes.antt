@@ -3,7 +3,7 @@ use Rattle.std.specs.Prelude.{ℕ, List, [], ◌++◌, codes, decimal}
 use Rattle.asm_print.specs.Numbers.{prefixed_word}
 use Rattle.host_edge.specs.Endings.{trap_name, machine_name}
 use Rattle.tick_tree.specs.Faults.{number, name}
-use Rattle.mips_text.specs.Faults as asm
+use Rattle.asm_passes.specs.Faults as asm
 use Rattle.image_file.specs.Format.{fault_number}
 use Rattle.image_file.specs.declared.fault.ImageFault.{ImageFault}
 use Rattle.image_file.specs.declared.fault.ImageFault.TheVariants.{Short, Magic, Version, Counts, Entry, Trailing}

@@ -2,9 +2,9 @@
 ghost use Rattle.std.specs.Prelude.{◌≡◌};
 ghost use Rattle.tick_outcome.specs.Outcomes.{status_of};
 
+use asm_passes::AsmFault;
 use host_edge::{MachineKind, TrapKind};
 use image_file::ImageFault;
-use mips_text::AsmFault;
 use tick_tree::Fault;
 
 /// The outcome of a command.

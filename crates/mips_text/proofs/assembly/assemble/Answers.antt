@@ -1,8 +1,9 @@
 use Rattle.std.proofs.Common.{ℕ, ◌≢◌, refl, Ok, ap, sym, ◌∙◌}
-use Rattle.mips_text.specs.Assembly.{assembled, placed_lines}
-use Rattle.mips_text.specs.Parts.{parts_of}
-use Rattle.mips_text.specs.Values.{known_by}
-use Rattle.mips_text.proofs.Gathering.{assembled_ok}
+use Rattle.asm_passes.specs.Collected.{placed_lines}
+use Rattle.mips_text.specs.Assembly.{assembled}
+use Rattle.asm_passes.specs.Parts.{parts_of}
+use Rattle.asm_passes.specs.Values.{known_by}
+use Rattle.mips_text.proofs.Images.{assembled_ok}
 use Rattle.mips_text.proofs.assembly.assemble.Goals as goal
 
 pub returns : goal.returns

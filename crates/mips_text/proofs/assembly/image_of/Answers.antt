@@ -1,7 +1,7 @@
 use Rattle.std.proofs.Common.{◌&&◌, IsTrue, length, arith, sym, subst}
 use Rattle.std.specs.List.{list_all}
 use Rattle.image_file.specs.Image.{is_in_text, is_function_in}
-use Rattle.mips_text.proofs.Gathering.{entries_good, each_fits}
+use Rattle.mips_text.proofs.Images.{entries_good, each_fits}
 use Rattle.mips_text.proofs.assembly.image_of.Goals as goal
 
 pub new-requires : goal.new-requires

@@ -1,0 +1,4 @@
+pub mod Lookups
+pub mod CutLines
+pub mod Rest
+pub mod Gathering

@@ -1,0 +1,10 @@
+pub mod Faults
+pub mod Cut
+pub mod Positions
+pub mod LabelPlace
+pub mod Labels
+pub mod Instructions
+pub mod Values
+pub mod Items
+pub mod Collected
+pub mod Parts

@@ -1,9 +1,0 @@
-use Rattle.std.proofs.Common.{ap, ◌∙◌}
-use Rattle.mips_text.specs.Labels as spec
-use Rattle.mips_text.proofs.Lookups.{found}
-use Rattle.mips_text.proofs.label.Labels.find.Goals as goal
-
-pub returns : goal.returns
-returns c =
-    c.copied.ensures ∙ c.get.ensures.value ∙ found c.self.inside.names.entries c.args.name.now
-    ∙ ap (λ s. spec.find s c.args.name.now) c.self.view_is
