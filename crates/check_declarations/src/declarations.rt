@@ -1,25 +1,23 @@
 //! Declarations in a block, and the lengths of arrays.
 
-ghost use Rattle.std.specs.Prelude.{◌≡◌, IfOk, Some, ◌+◌, min, length};
+ghost use Rattle.std.specs.Prelude.{◌≡◌, IfOk, Some};
 ghost use Rattle.check_declarators.specs.Making as making;
-ghost use Rattle.check_declarators.specs.Steps.{filled};
 ghost use Rattle.check_forms.specs.Forms as forms;
 ghost use Rattle.tick_tree.specs.Faults.{Checks};
 ghost use Rattle.check_tables.specs.Walks.{Reads};
 ghost use Rattle.check_rules.specs.Declarations as spec;
-ghost use Rattle.check_rules.specs.Walk as walks;
 
 use c_type_refs::TypeRef;
 use c_types::{Base, CType};
-use check_declarators::{Length, Role, Step, declared_type, fill_length};
-use check_forms::{declared_name, is_staged, string_of};
+use check_declarators::{Length, Role, Step, declared_type};
+use check_forms::{declared_name, is_staged};
 use check_operands::{Operand, effect};
 use check_rules::{Stage, State};
 use check_types::is_void;
 use meaning_operators::constant_value;
 use sqlite_items::Items;
 use std::alloc::{AllocError, Global};
-use tick_tree::{Declarator, Deny, Expr, Fault, FaultKind, Initializer, refused};
+use tick_tree::{Declarator, Deny, Fault, FaultKind, refused};
 
 /// What is checked as a declarator of a declaration is entered: StageInTick where a cspec or vspec is written in one of a
 /// tick.
@@ -141,41 +139,6 @@ pub fn length_of(alloc: Global, has_form: bool, o: Operand) -> Result<Length, Al
     }
     let code = effect(alloc, o)?;
     Ok(length_by(constant_value(code.get())))
-}
-
-fn string_length(bytes: &Items<u8>) -> u32
-    ensures { result ≡ min (length bytes.now + 1) 4294967295 }
-{
-    bytes.len().min(4294967294) as u32 + 1
-}
-
-// The steps with the length that a value gives, where the array lacks one: that of a string with its zero byte, else 1.
-fn with_value(steps: Items<Step>, e: &Expr) -> Items<Step>
-    ensures { result ≡ filled (spec.value_count (forms.string_of e.now)) steps }
-{
-    match string_of(e) {
-        None => fill_length(steps, 1),
-        Some(bytes) => fill_length(steps, string_length(bytes)),
-    }
-}
-
-// The steps with the length that a list of values gives, where the array lacks one.
-fn with_list(steps: Items<Step>, list: &[Expr]) -> Items<Step>
-    ensures { result ≡ filled (spec.list_count list.now) steps }
-{
-    fill_length(steps, list.len().min(4294967295) as u32)
-}
-
-/// The steps with the count of an initializer's values, where the array lacks a length.
-#[tactic(auto, using(check_laws::proofs::Equations::initializers, check_laws::proofs::Written::forms_of, check_laws::proofs::Loops::same_count))]
-pub fn with_start(steps: Items<Step>, value: &Initializer) -> Items<Step>
-    ensures { result ≡ walks.with_start (walks.initializer value.now) steps }
-{
-    match value {
-        Initializer::Absent => steps,
-        Initializer::Value(e) => with_value(steps, e),
-        Initializer::List(list, _) => with_list(steps, list.as_slice()),
-    }
 }
 
 /// Declares a variable of a block by the name of its declarator, as `State::local`.

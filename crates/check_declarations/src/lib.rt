@@ -6,6 +6,6 @@ mod declarations;
 mod initializers;
 mod lists;
 
-pub use declarations::{declare, declare_parameter, declared_in, entered, length_of, with_start};
+pub use declarations::{declare, declare_parameter, declared_in, entered, length_of};
 pub use initializers::{element, from_list, from_value, inner_of, is_text};
 pub use lists::{with_step, with_type};

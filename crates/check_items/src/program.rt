@@ -10,13 +10,14 @@ ghost use Rattle.check_rules.specs.Walk as walks;
 
 use crate::part_walk::PartWalk;
 use c_type_refs::TypeRef;
-use check_declarations::{is_text, with_start};
+use check_declarations::is_text;
 use check_declarators::{Role, base_of, declared_type};
 use check_forms::string_of;
 use check_globals::{
     Row, end, name_function, named_steps, parameters_of, prototype, static_list, static_text,
     static_value, variable,
 };
+use check_lengths::with_start;
 use check_rules::{Around, Stage, State};
 use check_types::{inner, is_function};
 use sqlite_items::{Boxed, Items};

@@ -7,10 +7,9 @@ ghost use Rattle.check_rules.specs.Walk as spec;
 use crate::expressions::expression;
 use crate::types::declarator;
 use c_type_refs::TypeRef;
-use check_declarations::{
-    declare, declared_in, element, entered, from_list, from_value, inner_of, with_start,
-};
+use check_declarations::{declare, declared_in, element, entered, from_list, from_value, inner_of};
 use check_declarators::base_of;
+use check_lengths::with_start;
 use check_operands::Operand;
 use check_rules::{Stage, State, has_size, is_array, is_string};
 use check_statements::appended;
