@@ -24,7 +24,7 @@ use Rattle.static_image.specs.Words.{HasWords, HaveWordsArgs, HasWordsStmt, Have
 use Rattle.icode_ir.specs.Sound.{Each}
 use Rattle.meaning_state.specs.Rows.{numbered}
 use Rattle.wellformed.specs.Accepted.{charge}
-use Rattle.built_programs.specs.Built.{is_listed_expr, are_listed_args, is_listed_stmt, are_listed, is_listed}
+use Rattle.built_nodes.specs.Listed.{is_listed_expr, are_listed_args, is_listed_stmt, are_listed, is_listed}
 use Rattle.built_programs.specs.Built.{are_functions_listed, are_bytes, Main, main_from, of_parts, built}
 use Rattle.built_programs.specs.Laws.{BuiltIsStatic}
 

@@ -1,7 +1,6 @@
 //! Which typed programs run so far, and the function main of each.
 #![tactic(auto)]
 
-mod listed;
 mod program;
 
 pub use program::{built_is_static, main_of};

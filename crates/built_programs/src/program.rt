@@ -6,7 +6,7 @@ ghost use Rattle.built_programs.specs.Built as spec;
 ghost use Rattle.built_programs.specs.Built.{built};
 ghost use Rattle.built_programs.specs.Laws.{BuiltIsStatic};
 
-use crate::listed::is_listed;
+use built_nodes::is_listed;
 use typed_tree::Function;
 use wellformed::Typed;
 use wf_ready::functions_are_ready_in;

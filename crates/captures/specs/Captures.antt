@@ -4,8 +4,6 @@
 use Rattle.std.specs.Prelude.{ℕ, suc, nat_eq, if◌then◌else◌, List, [], ◌∷◌, ◌++◌, Option, Some, None}
 use Rattle.typed_tree.specs.declared.expression.CaptureKind.{CaptureKind}
 use Rattle.typed_tree.specs.declared.expression.CaptureKind.TheVariants as kind
-use Rattle.typed_tree.specs.declared.expression.CapturedWord.{CapturedWord}
-use Rattle.typed_tree.specs.declared.expression.CapturedWord.TheVariants as word
 use Rattle.typed_tree.specs.declared.expression.Expr.{Expr}
 use Rattle.typed_tree.specs.declared.expression.Expr.TheOpen.{Expr-F}
 use Rattle.typed_tree.specs.declared.expression.Expr.TheFolds.{fold-Expr}
@@ -15,16 +13,13 @@ use Rattle.typed_tree.specs.declared.program.TickBody.{TickBody}
 use Rattle.typed_tree.specs.declared.program.TickBody.TheVariants as body
 use Rattle.typed_tree.specs.Folds.{Parts, Rules, fold_statement}
 use Rattle.typed_tree.specs.Folds as parts
+use Rattle.capture_kinds.specs.Kinds.{word_kind}
 use Rattle.captures.specs.declared.capture.Capture.{Capture}
 
 -- what a node names of the captures of its tick
 pub data Name : Type 0 where
   Nothing : Name
   Names : CaptureKind → (capture : ℕ) → Name
-
-abbrev pub word_kind : CapturedWord → CaptureKind
-word_kind word.Dollar = kind.Dollar
-word_kind word.Address = kind.Address
 
 -- what a node names itself
 abbrev pub own : {E : Type 0} → Expr-F E → Name

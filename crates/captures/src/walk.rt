@@ -1,13 +1,14 @@
 //! A walk over the body of a tick, each node before its parts.
 
 ghost use Rattle.std.specs.Prelude.{◌≡◌, OnOk, [], map};
-ghost use Rattle.captures.specs.Captures.{Names, Nothing, names, names_in, names_of, word_kind};
+ghost use Rattle.captures.specs.Captures.{Names, Nothing, names, names_in, names_of};
 ghost use Rattle.captures.specs.Found.{after, behind, first, one};
 
 use crate::capture::Capture;
+use capture_kinds::kind_of;
 use sqlite_items::Items;
 use std::alloc::{AllocError, Global};
-use typed_tree::{CaptureKind, CapturedWord, Expr, Stmt, TickBody};
+use typed_tree::{CaptureKind, Expr, Stmt, TickBody};
 
 /// What was found so far.
 #[derive(Drop)]
@@ -16,16 +17,6 @@ pub struct Found {
     pub nodes: u32,
     /// The captures that they name.
     pub captures: Items<Capture>,
-}
-
-// The kind of a captured word.
-fn kind_of(word: CapturedWord) -> CaptureKind
-    ensures { result ≡ word_kind word }
-{
-    match word {
-        CapturedWord::Dollar => CaptureKind::Dollar,
-        CapturedWord::Address => CaptureKind::Address,
-    }
 }
 
 impl Found {

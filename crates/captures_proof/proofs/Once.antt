@@ -14,6 +14,7 @@ use Rattle.typed_tree.specs.Nodes.{Compile, Local, ParamOf, Expr, Args, NoArg, A
 use Rattle.typed_tree.specs.Nodes.{Object, Parameter, ParameterObject, If, IfElse, While, Do, For, ForStep, Switch}
 use Rattle.typed_tree.specs.Nodes.{Case, Default, Break, Continue, Return, ReturnValue, Items, NoItem, Item}
 use Rattle.typed_tree.specs.Nodes.{fold_args, fold_items}
+use Rattle.capture_kinds.specs.Kinds.{word_kind}
 use Rattle.captures.specs.Captures.{Name, Nothing, Names, row}
 use Rattle.captures.specs.Captures as captures
 use Rattle.wellformed.specs.Captured.{again}
@@ -107,7 +108,7 @@ all_once (Names k j ∷ ns) ks kinds h =
 
 -- ---- trees
 
-same_word : (w : CapturedWord) (i j : ℕ) → spliced i (Names (captures.word_kind w) j) ≡ 0
+same_word : (w : CapturedWord) (i j : ℕ) → spliced i (Names (word_kind w) j) ≡ 0
 same_word word.Dollar i j = refl
 same_word word.Address i j = refl
 

@@ -7,4 +7,3 @@ pub mod Placed
 pub mod Spliced
 pub mod Written
 pub mod Most
-pub mod Kept

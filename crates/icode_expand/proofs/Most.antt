@@ -16,7 +16,8 @@ use Rattle.icode_ops.specs.declared.op.Op.TheVariants.{ReturnZero, Sys, Run, New
 use Rattle.icode_templates.specs.Assembly.{t8, t9}
 use Rattle.icode_templates.specs.Layout.{Spot, InRegister, InSlot, Layout, laid, parameter_spot}
 use Rattle.icode_templates.specs.Templates.{Aim, load_code, wait_code, out_code, bin_core, un_core, template}
-use Rattle.icode_templates.specs.Frames.{has, register_places, saved, saves, restores, enter_count, leave_count}
+use Rattle.icode_templates.specs.Frames.{saves, restores, enter_count, leave_count}
+use Rattle.icode_saves.specs.Places.{has, register_places, saved}
 use Rattle.icode_templates.specs.Frames.{take_objects, free_objects, prologue, epilogue}
 use Rattle.icode_templates.specs.Expansion.{templates, aims, expansion}
 

@@ -9,7 +9,8 @@ use Rattle.icode_templates.specs.Layout.{Layout, laid}
 use Rattle.icode_templates.specs.Templates.{Aim, template}
 use Rattle.icode_templates.specs.Words.{words}
 use Rattle.icode_templates.proofs.Appended.{words_append}
-use Rattle.icode_templates.specs.Frames.{saved, prologue, epilogue}
+use Rattle.icode_templates.specs.Frames.{prologue, epilogue}
+use Rattle.icode_saves.specs.Places.{saved}
 use Rattle.icode_templates.specs.Expansion.{nowhere, templates, aims, expanded}
 use Rattle.icode_expand.specs.Labels.{IsTable, spliced, target_of}
 use Rattle.icode_expand.proofs.Lengths.{length_words, past_is, templates_length, templates_more, template_at, aim_to}

@@ -4,7 +4,8 @@ ghost use Rattle.std.specs.Prelude.{◌≡◌, ◌+◌, ◌++◌, ◌≤◌, len
 ghost use Rattle.icode_templates.specs.Frames as frames;
 ghost use Rattle.icode_templates.specs.Words.{words};
 
-use crate::saved::Saved;
+use crate::saved::{restore, save};
+use icode_saves::Saved;
 use icode_templates::Snippet;
 use icode_templates::assembly::{addiu, addu, jr, lui, lw, nop, sltu, subu, sw};
 use mips_encoder::Register;
@@ -145,7 +146,7 @@ impl Frame {
     {
         let mut code = Snippet::new();
         take_frame(&mut code, self.bytes);
-        self.saved.save(&mut code);
+        save(&self.saved, &mut code);
         enter_count(&mut code, self.compiled);
         take_objects(&mut code, self.objects);
         code
@@ -163,7 +164,7 @@ impl Frame {
     {
         let mut code = Snippet::new();
         leave_count(&mut code, self.compiled);
-        self.saved.restore(&mut code);
+        restore(&self.saved, &mut code);
         code.push(lw(RA, 80, SP));
         free_objects(&mut code, self.objects);
         free_frame(&mut code, self.bytes);

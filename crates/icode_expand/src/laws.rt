@@ -1,6 +1,6 @@
 //! Laws of expansions. Each function does nothing: its contract is the law, so that callers have it by a call.
 
-ghost use Rattle.icode_expand.specs.Laws.{TemplatesAreShort, LengthsAreFixed, WordsAreFew, SavedPlacesAreAll};
+ghost use Rattle.icode_expand.specs.Laws.{TemplatesAreShort, LengthsAreFixed, WordsAreFew};
 
 /// A template has at most 16 words.
 pub fn templates_are_short()
@@ -15,9 +15,4 @@ pub fn lengths_are_fixed()
 /// A function has at most 16 words an op and 64 besides.
 pub fn words_are_few()
     ensures { WordsAreFew }
-{}
-
-/// The places that a function saves are those below 12 that stand in its places, in rising order.
-pub fn saved_places_are_all()
-    ensures { SavedPlacesAreAll }
 {}

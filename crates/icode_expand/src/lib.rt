@@ -18,12 +18,10 @@ mod saved;
 use crate::counts::ops_words;
 use crate::frame::Frame;
 use crate::labels::place_labels;
-pub use crate::laws::{
-    lengths_are_fixed, saved_places_are_all, templates_are_short, words_are_few,
-};
+pub use crate::laws::{lengths_are_fixed, templates_are_short, words_are_few};
 use crate::output::{append, write_ops};
-use crate::saved::Saved;
 use icode_ops::Op;
+use icode_saves::Saved;
 use icode_templates::Layout;
 use thiserror::Error;
 

@@ -14,7 +14,7 @@ use Rattle.mips_model.proofs.Reach.{front, back, reaches_on}
 use Rattle.icode_templates.specs.Assembly.{subu, lw, jr, nop, constant}
 use Rattle.icode_templates.specs.Layout.{place_register}
 use Rattle.icode_templates.specs.Frames.{restores, free_frame, free_objects}
-use Rattle.icode_expand.specs.Laws.{AllPlaces, Rising}
+use Rattle.icode_saves.specs.Laws.{AllPlaces, Rising}
 use Rattle.icode_templates_proof.specs.Spots.{pointer, frame_word, Framed, SameWorld}
 use Rattle.icode_templates_proof.proofs.Memory.{update_same, update_other}
 use Rattle.icode_templates_proof.proofs.Leaves.{Leaves, leaves_on, leaves_run}

@@ -32,9 +32,10 @@ use Rattle.icode_templates.specs.Templates.{Aim, ToLabel, ToEpilogue, load_code,
 use Rattle.icode_templates.specs.Templates.{out_code, bin_core, range_check, load_instruction, store_instruction}
 use Rattle.icode_templates.specs.Templates.{un_core, trap_if_zero, division_check, object_address, clear_loop}
 use Rattle.icode_templates.specs.Templates.{service_code, routine_code, number_call, template}
-use Rattle.icode_templates.specs.Frames.{saved, saves, restores, take_frame, free_frame, take_objects, free_objects}
+use Rattle.icode_templates.specs.Frames.{saves, restores, take_frame, free_frame, take_objects, free_objects}
+use Rattle.icode_saves.specs.Places.{saved}
 use Rattle.icode_templates.specs.Frames.{enter_count, leave_count}
-use Rattle.icode_expand.specs.Laws.{AllPlaces}
+use Rattle.icode_saves.specs.Laws.{AllPlaces}
 use Rattle.icode_templates.specs.Expansion.{nowhere, templates, op_address, aims, body}
 use Rattle.icode_expand.proofs.Kept.{saved_are}
 use Rattle.icode_meaning.specs.State.{Function}

@@ -6,7 +6,8 @@ use Rattle.word32.specs.declared.map.TheConstants.{FRAMES, OBJECTS_END, STACK_TO
 use Rattle.mips_model.specs.State.{Data}
 use Rattle.icode_ops.specs.Places.{place_of}
 use Rattle.icode_templates.specs.Layout.{Spot, InRegister, InSlot}
-use Rattle.icode_templates.specs.Frames.{has, saved, save_offset}
+use Rattle.icode_templates.specs.Frames.{save_offset}
+use Rattle.icode_saves.specs.Places.{has, saved}
 use Rattle.icode_meaning.specs.State.{Function, Frame}
 use Rattle.icode_templates_proof.specs.Spots.{pointer, frame_word, value, Framed, Usable, KeepsSpots}
 use Rattle.icode_expand_proof.specs.Frames.{IsCalleeSaved, Alike, place_number, unwound_register, unwound, FrameAgrees}

@@ -4,8 +4,8 @@ use Rattle.std.proofs.Common.{length, sym, ap, ◌∙◌, subst, arith, nat_eq, 
 use Rattle.std.proofs.lemmas.Bool.{cases_eq, cases_lt, ne_eqb}
 use Rattle.std.proofs.lemmas.Bool.Decides.{nat_tests}
 use Rattle.icode_templates.specs.Layout.{place_register, slot_offset, slot, spot_of}
-use Rattle.icode_templates.specs.Frames.{has}
-use Rattle.icode_expand.specs.Laws.{AllPlaces, Rising}
+use Rattle.icode_saves.specs.Places.{has}
+use Rattle.icode_saves.specs.Laws.{AllPlaces, Rising}
 use Rattle.icode_templates_proof.specs.Spots.{Usable, IsPlace}
 use Rattle.icode_expand_proof.specs.Frames.{place_number}
 

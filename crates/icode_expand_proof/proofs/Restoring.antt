@@ -5,8 +5,9 @@ use Rattle.std.proofs.Common.{◌∙◌, subst, arith, nat_eq, if◌then◌else�
 use Rattle.std.proofs.lemmas.Bool.{cases_eq, cases_Bool, ne_eqb, eq-eqb}
 use Rattle.mips_model.specs.State.{Data}
 use Rattle.icode_templates.specs.Layout.{place_register}
-use Rattle.icode_templates.specs.Frames.{has, save_offset}
-use Rattle.icode_expand.specs.Laws.{AllPlaces}
+use Rattle.icode_templates.specs.Frames.{save_offset}
+use Rattle.icode_saves.specs.Places.{has}
+use Rattle.icode_saves.specs.Laws.{AllPlaces}
 use Rattle.icode_templates_proof.specs.Spots.{pointer, frame_word}
 use Rattle.icode_templates_proof.proofs.Memory.{update_same, update_other}
 use Rattle.icode_expand_proof.specs.Frames.{place_number}

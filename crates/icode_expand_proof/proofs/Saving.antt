@@ -12,7 +12,7 @@ use Rattle.mips_model.specs.Steps.{load_hazard}
 use Rattle.icode_templates.specs.Layout.{place_register}
 use Rattle.icode_templates.specs.Assembly.{lw, sw}
 use Rattle.icode_templates.specs.Frames.{save_offset, saves, restores}
-use Rattle.icode_expand.specs.Laws.{AllPlaces, Rising}
+use Rattle.icode_saves.specs.Laws.{AllPlaces, Rising}
 use Rattle.icode_templates_proof.specs.Spots.{pointer, frame_word, Framed, SameWorld}
 use Rattle.icode_templates_proof.proofs.Memory.{update_other}
 use Rattle.icode_templates_proof.proofs.Leaves.{Leaves}

@@ -8,7 +8,8 @@ use Rattle.word32.specs.Space.{update}
 use Rattle.word32.specs.declared.map.TheConstants.{FRAMES, OBJECTS_END, GLOBAL_POINTER, STACK_TOP, ACTIVE_CALLS_CELL}
 use Rattle.mips_model.specs.State.{Data}
 use Rattle.icode_ops.specs.Live.{Live}
-use Rattle.icode_templates.specs.Frames.{has, saved, save_offset}
+use Rattle.icode_templates.specs.Frames.{save_offset}
+use Rattle.icode_saves.specs.Places.{has, saved}
 use Rattle.icode_meaning.specs.State.{Function, Frame}
 use Rattle.icode_templates_proof.specs.Spots.{pointer, frame_word, value, Framed, IsKept}
 use Rattle.icode_expand_proof.specs.Standing.{layout_of, op_stands_at}

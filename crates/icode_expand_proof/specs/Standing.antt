@@ -11,7 +11,8 @@ use Rattle.icode_ops.specs.Places.{IsLegal}
 use Rattle.icode_templates.specs.Assembly.{addu, ori, syscall}
 use Rattle.icode_templates.specs.Layout.{Layout, laid}
 use Rattle.icode_templates.specs.Templates.{ToEpilogue}
-use Rattle.icode_templates.specs.Frames.{saved, prologue, epilogue}
+use Rattle.icode_templates.specs.Frames.{prologue, epilogue}
+use Rattle.icode_saves.specs.Places.{saved}
 use Rattle.icode_templates.specs.Expansion.{op_address, aims, expansion}
 use Rattle.icode_meaning.specs.State.{Function}
 use Rattle.limits.specs.declared.run.TheConstants.{MOST_FRAME_BYTES, STACK_OF_A_CALL}

@@ -11,9 +11,9 @@ use Rattle.icode_ops.specs.declared.op.Op.TheVariants.{ReturnZero}
 use Rattle.icode_ops.specs.Flow.{defined, first_use, second_use, defines, uses, holds, goes_to, label_of, op_at}
 use Rattle.icode_ops.specs.Finished.{Below}
 use Rattle.collections.specs.Contents.{with_slot, empty_buckets}
-use Rattle.icode_liveness.specs.Lists.{In, Each}
-use Rattle.icode_liveness.specs.Tables.{mentions, MentionedAt, DefinedAt, GoesFrom, IsTable, KnowsLabels, listed}
-use Rattle.icode_liveness.proofs.Lists.{Each-weaker}
+use Rattle.icode_ranges.specs.Lists.{In, Each}
+use Rattle.icode_ranges.specs.Tables.{mentions, MentionedAt, DefinedAt, GoesFrom, IsTable, KnowsLabels, listed}
+use Rattle.icode_ranges.proofs.Lists.{Each-weaker}
 
 pub table-same : (P Q : ℕ → ℕ → Type 0) (bs : List (List ℕ)) → ((b p : ℕ) → P b p → Q b p)
     → ((b p : ℕ) → Q b p → P b p) → IsTable P bs → IsTable Q bs

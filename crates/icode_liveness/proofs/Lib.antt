@@ -1,10 +1,7 @@
-pub mod Lists
-pub mod Joining
 pub mod Below
 pub mod Filling
 pub mod Showing
 pub mod Mentions
-pub mod Walking
 pub mod Reaching
 pub mod Taking
 pub mod Writing

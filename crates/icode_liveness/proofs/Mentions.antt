@@ -7,7 +7,7 @@ use Rattle.std.proofs.lemmas.Bool.Decides.{nat_tests}
 use Rattle.icode_ops.specs.declared.op.Op.{Op}
 use Rattle.icode_ops.specs.Flow.{defined, first_use, second_use, op_at}
 use Rattle.icode_ops.specs.Finished.{Below, InRange}
-use Rattle.icode_liveness.specs.Tables.{MentionedAt, Spanned, AreSpans, marked, with_low}
+use Rattle.icode_ranges.specs.Tables.{MentionedAt, Spanned, AreSpans, marked, with_low}
 use Rattle.icode_liveness.proofs.Filling.{Or, Mentioned, mentioned-to, mentioned-from}
 
 pub length-marked : (o : Option ℕ) (word : ℕ) (words : List ℕ) → length (marked o word words) ≡ length words

@@ -10,14 +10,14 @@ use Rattle.icode_ops.specs.declared.op.Op.TheVariants.{ReturnZero}
 use Rattle.icode_ops.specs.declared.interval.Interval.{Interval}
 use Rattle.icode_ops.specs.Flow.{op_at, uses, defines, Follows}
 use Rattle.icode_ops.specs.Live.{Live, Used, Passes, IsAt, IsInterval}
-use Rattle.icode_liveness.specs.Lists.{In, Each, Extends}
-use Rattle.icode_liveness.specs.Blocks.{block_of, Clear, DefinedIn, Exposed}
-use Rattle.icode_liveness.specs.Tables.{mentions, MentionedAt, DefinedAt, ExposedAt, IsTable, IsSpanOf}
-use Rattle.icode_liveness.specs.Search.{AreDefining, Taken, BlockOf, BlockIn, Wider, Grown, IsIntervalOf}
-use Rattle.icode_liveness.proofs.Lists.{Each-weaker, Each-In, Each-append, In-get_or, position, extends-In}
-use Rattle.icode_liveness.proofs.Joining.{inside, last, block_low, live-within, live-through, live-exposed, live-used}
-use Rattle.icode_liveness.proofs.Joining.{at-after}
-use Rattle.icode_liveness.proofs.Walking.{In-member, member-In}
+use Rattle.icode_ranges.specs.Lists.{In, Each, Extends}
+use Rattle.icode_ranges.specs.Blocks.{block_of, Clear, DefinedIn, Exposed}
+use Rattle.icode_ranges.specs.Tables.{mentions, MentionedAt, DefinedAt, ExposedAt, IsTable, IsSpanOf}
+use Rattle.icode_ranges.specs.Search.{AreDefining, Taken, BlockOf, BlockIn, Wider, Grown, IsIntervalOf}
+use Rattle.icode_ranges.proofs.Lists.{Each-weaker, Each-In, Each-append, In-get_or, position, extends-In}
+use Rattle.icode_ranges.proofs.Joining.{inside, last, block_low, live-within, live-through, live-exposed, live-used}
+use Rattle.icode_ranges.proofs.Joining.{at-after}
+use Rattle.icode_ranges.proofs.Walking.{In-member, member-In}
 
 -- how far the search has come: each block that was found is right, those with a use that shows are found, and what
 -- leads to one of the first i is taken; the range holds the mentions and the first i blocks

@@ -9,8 +9,8 @@ use Rattle.std.specs.Prelude.{nat_le}
 use Rattle.icode_ops.specs.declared.op.Op.{Op}
 use Rattle.icode_ops.specs.Flow.{defined, first_use, second_use, defines, uses, holds, op_at}
 use Rattle.icode_ops.specs.Finished.{Below, InRange}
-use Rattle.icode_liveness.specs.Blocks.{block_of, Clear, Exposed}
-use Rattle.icode_liveness.specs.Tables.{ExposedAt, IsTable, AreLasts, listed, shown, with_shown, marked}
+use Rattle.icode_ranges.specs.Blocks.{block_of, Clear, Exposed}
+use Rattle.icode_ranges.specs.Tables.{ExposedAt, IsTable, AreLasts, listed, shown, with_shown, marked}
 use Rattle.icode_liveness.proofs.Filling.{Or, table-same, table-listed, length-listed, within, holds-some, holds-itself}
 use Rattle.icode_liveness.proofs.Filling.{either}
 

@@ -5,12 +5,12 @@ use Rattle.collections.specs.Members.{is_in, with_member}
 use Rattle.icode_ops.specs.declared.op.Op.{Op}
 use Rattle.icode_ops.specs.declared.interval.Interval.{Interval}
 use Rattle.icode_ops.specs.Flow.{op_at, falls, goes_to, label_of, Follows}
-use Rattle.icode_liveness.specs.Lists.{In, Each, Extends}
-use Rattle.icode_liveness.specs.Blocks.{block_of}
-use Rattle.icode_liveness.specs.Tables.{GoesFrom, IsTable}
-use Rattle.icode_liveness.specs.Search.{Taken, BlockOf, PlaceOf, Wider, Grown}
-use Rattle.icode_liveness.proofs.Lists.{Each-weaker, Each-In, extends-nothing, extends-twice, extends-In}
-use Rattle.icode_liveness.proofs.Walking.{member-there, member-extends}
+use Rattle.icode_ranges.specs.Lists.{In, Each, Extends}
+use Rattle.icode_ranges.specs.Blocks.{block_of}
+use Rattle.icode_ranges.specs.Tables.{GoesFrom, IsTable}
+use Rattle.icode_ranges.specs.Search.{Taken, BlockOf, PlaceOf, Wider, Grown}
+use Rattle.icode_ranges.proofs.Lists.{Each-weaker, Each-In, extends-nothing, extends-twice, extends-In}
+use Rattle.icode_ranges.proofs.Walking.{member-there, member-extends}
 
 block-weaker : (P Q : ℕ → Type 0) (ops : List Op) (defining : List ℕ) → ((p : ℕ) → P p → Q p) → (b : ℕ)
     → BlockOf P ops defining b → BlockOf Q ops defining b

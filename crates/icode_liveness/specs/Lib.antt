@@ -1,7 +1,2 @@
-pub mod Lists
-pub mod Blocks
-pub mod Tables
-pub mod Search
 pub mod Order
-pub mod Listed
 pub mod Rooms

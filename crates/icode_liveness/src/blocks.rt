@@ -1,8 +1,8 @@
 //! Basic blocks of a list of ops.
 
 ghost use Rattle.std.specs.Prelude.{◌≡◌, ◌-◌, ◌<◌, ◌≤◌, length};
-ghost use Rattle.icode_liveness.specs.Blocks.{joins, block_of};
-ghost use Rattle.icode_liveness.specs.Tables.{AreBlocks};
+ghost use Rattle.icode_ranges.specs.Blocks.{joins, block_of};
+ghost use Rattle.icode_ranges.specs.Tables.{AreBlocks};
 ghost use Rattle.limits.specs.declared.ops.TheConstants.{MOST_OPS};
 
 use icode_ops::Op;

@@ -3,7 +3,6 @@
 #![tactic(auto)]
 
 mod blocks;
-mod code;
 mod order;
 mod search;
 mod tables;
@@ -12,9 +11,9 @@ ghost use Rattle.std.specs.Prelude.{◌≡◌, ◌<◌, ◌≤◌, IfOk, length,
 ghost use Rattle.icode_ops.specs.Finished.{IsFinished};
 ghost use Rattle.icode_ops.specs.Live.{AreIntervals, Each};
 
-use code::Code;
 use collections::{Buckets, SparseSet};
 use icode_ops::{Interval, Op};
+use icode_ranges::Code;
 use limits::ops::{MOST_LABELS, MOST_OPS, MOST_REGISTERS};
 use std::alloc::{AllocError, Global};
 use std::marker::Model;

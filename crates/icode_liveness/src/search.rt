@@ -3,28 +3,15 @@
 ghost use Rattle.std.specs.Prelude.{◌≡◌, ◌≢◌, ℕ, ◌+◌, ◌/◌, ◌<◌, ◌≤◌, true, false, [], List, Some, length};
 ghost use Rattle.std.specs.Prelude.{slice_index_or};
 ghost use Rattle.icode_ops.specs.Flow.{falls, op_at, Follows};
-ghost use Rattle.icode_liveness.specs.Blocks.{block_of};
-ghost use Rattle.icode_liveness.specs.Listed.{IsListed};
-ghost use Rattle.icode_liveness.specs.Lists.{In, Each, Extends};
-ghost use Rattle.icode_liveness.specs.Search.{Taken, Wider, Grown, PlaceOf, BlockIn, IsIntervalOf};
-ghost use Rattle.icode_liveness.specs.Tables.{IsSpanOf};
+ghost use Rattle.icode_ranges.specs.Blocks.{block_of};
+ghost use Rattle.icode_ranges.specs.Listed.{IsListed};
+ghost use Rattle.icode_ranges.specs.Lists.{In, Each, Extends};
+ghost use Rattle.icode_ranges.specs.Search.{Taken, Grown, PlaceOf, BlockIn, IsIntervalOf};
+ghost use Rattle.icode_ranges.specs.Tables.{IsSpanOf};
 
-use crate::code::Code;
 use collections::{Buckets, SparseSet};
 use icode_ops::Interval;
-
-// The range with one place more.
-fn widened(range: Interval, place: u32) -> Interval
-    ensures wider { Wider (λ p. p ≡ place) range result }
-    ensures low { result.start ≤ place }
-    ensures high { place ≤ result.end }
-{
-    Interval {
-        reg: range.reg,
-        start: range.start.min(place),
-        end: range.end.max(place),
-    }
-}
+use icode_ranges::{Code, take, widened};
 
 // Adds the blocks of the ops of a bucket's slots.
 fn add_blocks(found: &mut SparseSet, code: &Code<'_>, table: &Buckets, bucket: u32)
@@ -43,31 +30,6 @@ fn add_blocks(found: &mut SparseSet, code: &Code<'_>, table: &Buckets, bucket: u
         found.insert(code.block(slot / 3));
         at = table.next(slot);
     }
-}
-
-// Takes an op after which the register is live: the range is widened by it, and its block is added, unless that defines
-// the register.
-fn take(
-    found: &mut SparseSet,
-    defining: &SparseSet,
-    code: &Code<'_>,
-    range: Interval,
-    place: u32,
-) -> Interval
-    requires listed { IsListed code.now }
-    requires place { place < length code.now.ops.now }
-    requires room { length code.now.ops.now ≤ found.old.room }
-    requires defining { length code.now.ops.now ≤ defining.now.room }
-    ensures taken { Taken code.now.ops.now defining.now.members found.new.members result place }
-    ensures grown { Grown (λ p. p ≡ place) code.now.ops.now defining.now.members range result
-        found.old.members found.new.members }
-    ensures room { found.new.room ≡ found.old.room }
-{
-    let block = code.block(place);
-    if !defining.contains(block) {
-        found.insert(block);
-    }
-    widened(range, place)
 }
 
 // Takes the ops that go to a label.

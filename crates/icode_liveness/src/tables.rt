@@ -4,8 +4,8 @@
 ghost use Rattle.std.specs.Prelude.{◌≡◌, ℕ, ◌+◌, ◌*◌, ◌<◌, ◌≤◌, length, slice_index_or};
 ghost use Rattle.icode_ops.specs.Flow.{goes_to};
 ghost use Rattle.icode_ops.specs.Finished.{Below, InRange, IsFinished};
-ghost use Rattle.icode_liveness.specs.Tables.{listed, shown, with_shown, with_low, marked, AreSpans, MentionedAt};
-ghost use Rattle.icode_liveness.specs.Tables.{DefinedAt, ExposedAt, GoesFrom, IsTable, KnowsLabels, AreBlocks};
+ghost use Rattle.icode_ranges.specs.Tables.{listed, shown, with_shown, with_low, marked, AreSpans, MentionedAt};
+ghost use Rattle.icode_ranges.specs.Tables.{DefinedAt, ExposedAt, GoesFrom, IsTable, KnowsLabels, AreBlocks};
 ghost use Rattle.limits.specs.declared.ops.TheConstants.{MOST_LABELS};
 
 use collections::Buckets;

@@ -9,7 +9,8 @@ use Rattle.icode_ops.specs.declared.op.Op.{Op}
 use Rattle.icode_templates.specs.Layout.{Layout, laid}
 use Rattle.icode_templates.specs.Templates.{Aim, ToLabel, ToEpilogue, template}
 use Rattle.icode_templates.specs.Words.{words}
-use Rattle.icode_templates.specs.Frames.{saved, prologue, epilogue}
+use Rattle.icode_templates.specs.Frames.{prologue, epilogue}
+use Rattle.icode_saves.specs.Places.{saved}
 
 abbrev pub nowhere : Aim → ℕ
 nowhere aim = 0

@@ -5,26 +5,12 @@
 -- objects and traps where their region ends; the epilogue undoes this and returns. A compiled function has no objects,
 -- and
 -- counts its active calls in a cell below $gp. These are the project's own rules.
-use Rattle.std.specs.Prelude.{ℕ, ◌+◌, ◌*◌, Bool, true, false, ◌||◌, nat_eq, if◌then◌else◌, List, [], ◌∷◌, ◌++◌}
-use Rattle.std.specs.List.{filter}
+use Rattle.std.specs.Prelude.{ℕ, ◌+◌, ◌*◌, Bool, true, false, nat_eq, if◌then◌else◌, List, [], ◌∷◌, ◌++◌}
 use Rattle.mips_encoder.specs.declared.instruction.Instr.{Instr}
 use Rattle.icode_templates.specs.Assembly.{scratch, t8, t9, gp, sp, fp, ra, addu, subu, sltu, addiu, lui, lw, sw, jr}
 use Rattle.icode_templates.specs.Assembly.{nop, constant}
 use Rattle.icode_templates.specs.Layout.{place_register}
 use Rattle.icode_templates.specs.Templates.{trap_unless_zero}
-
--- whether the place stands in a list of places
-abbrev pub has : List ℕ → ℕ → Bool
-has [] place = false
-has (p ∷ ps) place = nat_eq p place || has ps place
-
--- the places of the registers of the machine, in rising order
-abbrev pub register_places : List ℕ
-register_places = 0 ∷ 1 ∷ 2 ∷ 3 ∷ 4 ∷ 5 ∷ 6 ∷ 7 ∷ 8 ∷ 9 ∷ 10 ∷ 11 ∷ []
-
--- the places below 12 that stand in the list, in rising order
-unfoldable pub saved : List ℕ → List ℕ
-saved ps = filter (has ps) register_places
 
 -- each place has a word of its own among the saved registers
 abbrev pub save_offset : ℕ → ℕ

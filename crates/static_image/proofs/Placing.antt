@@ -15,7 +15,8 @@ use Rattle.icode_templates.specs.Layout.{Layout, laid}
 use Rattle.icode_templates.specs.Words.{words}
 use Rattle.icode_templates.specs.Expansion as expansion
 use Rattle.icode_templates.specs.Expansion.{expanded, templates}
-use Rattle.icode_templates.specs.Frames.{saved, prologue}
+use Rattle.icode_templates.specs.Frames.{prologue}
+use Rattle.icode_saves.specs.Places.{saved}
 use Rattle.icode_expand.proofs.Lengths.{length_words, past_is, templates_append}
 use Rattle.icode_expand.proofs.Most.{code_most}
 use Rattle.icode_expand.proofs.Written.{whole_length}

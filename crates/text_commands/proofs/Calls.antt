@@ -18,7 +18,7 @@ use Rattle.staged_meaning.specs.Meaning.{Program}
 use Rattle.tick_tree.specs.declared.fault.Fault.{Fault}
 use Rattle.wellformed.specs.declared.typed.Typed.{Typed}
 use Rattle.text_commands.specs.Texts.{typed, typed_tree}
-use Rattle.command_words.specs.Orders.{Order, run, build, exec, mean, asm, dis}
+use Rattle.command_options.specs.Orders.{Order, run, build, exec, mean, asm, dis}
 use Rattle.tick_outcome.specs.declared.outcome.Outcome.{Outcome}
 use Rattle.tick_outcome.specs.declared.outcome.Outcome.TheVariants as outcome
 use Rattle.tick_outcome.specs.declared.ended.Ended as code

@@ -15,7 +15,8 @@ use Rattle.tick_tree.specs.declared.fault.Fault.{Fault}
 use Rattle.wellformed.specs.declared.typed.Typed.{Typed}
 use Rattle.text_commands.specs.Texts.{typed, typed_tree, Means}
 use Rattle.tick_gen.specs.Source.{source}
-use Rattle.command_words.specs.Orders.{Order, run, build, exec, mean, asm, dis, of_file, gen, order_of}
+use Rattle.command_options.specs.Orders.{Order, run, build, exec, mean, asm, dis, of_file, gen}
+use Rattle.command_words.specs.Orders.{order_of}
 use Rattle.tick_outcome.specs.declared.outcome.Outcome.{Outcome}
 use Rattle.tick_outcome.specs.declared.outcome.Outcome.TheVariants as outcome
 use Rattle.tick_outcome.specs.declared.ended.Ended as code

@@ -17,7 +17,8 @@ use Rattle.pace.specs.Pace.{Seen}
 use Rattle.pace.proofs.Runs.{to_prefix}
 use Rattle.mips_model.specs.Run.{runs}
 use Rattle.staged_meaning.specs.Meaning.{Program, meant}
-use Rattle.command_words.specs.Orders.{Order, run, build, exec, mean, asm, dis, Asked, of_file, gen, order_of}
+use Rattle.command_options.specs.Orders.{Order, run, build, exec, mean, asm, dis, Asked, of_file, gen}
+use Rattle.command_words.specs.Orders.{order_of}
 use Rattle.tick_outcome.specs.declared.outcome.Outcome.{Outcome}
 use Rattle.tick_outcome.specs.declared.outcome.Outcome.TheVariants as outcome
 use Rattle.tick_outcome.specs.declared.ended.Ended as code

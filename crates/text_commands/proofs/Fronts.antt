@@ -9,7 +9,7 @@ use Rattle.tick_outcome.specs.declared.outcome.Outcome.{Outcome}
 use Rattle.tick_outcome.specs.declared.outcome.Outcome.TheVariants as outcome
 use Rattle.image_commands.specs.declared.ended.Front.TheVariants.{Found, Instead}
 use Rattle.tick_outcome.specs.declared.ended.Ended.{Ended}
-use Rattle.command_words.specs.Orders.{Asked, of_file, gen, build}
+use Rattle.command_options.specs.Orders.{Asked, of_file, gen, build}
 use Rattle.image_commands.specs.Outside.{Files, Outside, Still, SameFiles}
 use Rattle.image_commands.specs.Answers.{IsFront, longest_text}
 use Rattle.text_commands.specs.Answers.{IsBuilt, IsRefused}

@@ -12,7 +12,8 @@ use Rattle.staged_meaning.specs.Meaning.{Program, meant}
 use Rattle.wellformed.specs.declared.typed.Typed.{Typed}
 use Rattle.tick_tree.specs.declared.fault.Fault.{Fault}
 use Rattle.text_commands.specs.Texts.{typed_tree, Means}
-use Rattle.command_words.specs.Orders.{mean, Asked, of_file, order_of}
+use Rattle.command_options.specs.Orders.{mean, Asked, of_file}
+use Rattle.command_words.specs.Orders.{order_of}
 use Rattle.tick_outcome.specs.declared.outcome.Outcome.TheVariants as outcome
 use Rattle.tick_outcome.specs.declared.ended.Ended.{Ended}
 use Rattle.image_commands.specs.Outside.{Files, Outside}

@@ -11,7 +11,7 @@ use Rattle.history.specs.Events as event
 use Rattle.staged_meaning.specs.Meaning.{Program, meant}
 use Rattle.text_commands.specs.Texts.{typed, typed_tree, Means, Lowered, HoldsForChoices}
 use Rattle.static_image.specs.Headline.{Headline}
-use Rattle.command_words.specs.Orders.{Order, run, build, exec, mean, asm, dis}
+use Rattle.command_options.specs.Orders.{Order, run, build, exec, mean, asm, dis}
 use Rattle.tick_outcome.specs.declared.outcome.Outcome.{Outcome}
 use Rattle.tick_outcome.specs.declared.outcome.Outcome.TheVariants.{Refused, TooLong, ReadFault, WriteFault}
 use Rattle.tick_outcome.specs.declared.ended.Ended.{Ended}

@@ -8,7 +8,8 @@ use Rattle.pace.specs.Pace.{Seen}
 use Rattle.staged_meaning.specs.Meaning.{Program, meant}
 use Rattle.wellformed.specs.declared.typed.Typed.{Typed}
 use Rattle.text_commands.specs.Texts.{typed_tree, Means}
-use Rattle.command_words.specs.Orders.{mean, of_file, order_of}
+use Rattle.command_options.specs.Orders.{mean, of_file}
+use Rattle.command_words.specs.Orders.{order_of}
 use Rattle.tick_outcome.specs.declared.outcome.Outcome.{Outcome}
 use Rattle.tick_outcome.specs.declared.outcome.Outcome.TheVariants.{WriteFault}
 use Rattle.image_commands.specs.Outside.{Files, Outside}

@@ -1,6 +1,6 @@
 -- What is done of all that words may ask for.
 use Rattle.std.specs.Io.KnownBytes.{Keeps}
-use Rattle.command_words.specs.Orders.{Asked, of_file, gen}
+use Rattle.command_options.specs.Orders.{Asked, of_file, gen}
 use Rattle.tick_outcome.specs.declared.ended.Ended.{Ended}
 use Rattle.image_commands.specs.Outside.{Outside, SameFiles}
 use Rattle.image_commands.specs.Generated.{PrintsSource}

@@ -12,7 +12,8 @@ use Rattle.staged_meaning.specs.Meaning.{Program, meant}
 use Rattle.wellformed.specs.declared.typed.Typed.{Typed}
 use Rattle.text_commands.specs.Texts.{typed, typed_tree, Means}
 use Rattle.tick_gen.specs.Source.{source}
-use Rattle.command_words.specs.Orders.{Order, run, mean, of_file, gen, order_of}
+use Rattle.command_options.specs.Orders.{Order, run, mean, of_file, gen}
+use Rattle.command_words.specs.Orders.{order_of}
 use Rattle.tick_outcome.specs.declared.outcome.Outcome.{Outcome}
 use Rattle.tick_outcome.specs.declared.outcome.Outcome.TheVariants.{Done, Trap, MachineFault, OutOfSteps, ReadFault}
 use Rattle.tick_outcome.specs.declared.outcome.Outcome.TheVariants.{WriteFault}

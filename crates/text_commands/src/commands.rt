@@ -1,6 +1,6 @@
 //! What `run` and `build` do, and which call serves each command.
 ghost use Rattle.std.specs.Prelude.{◌≤◌, ◌^◌, ℕ, IfOk, OnErr};
-ghost use Rattle.command_words.specs.Orders.{ordered, steps_in};
+ghost use Rattle.command_options.specs.Orders.{ordered, steps_in};
 ghost use Rattle.image_commands.specs.Outside.{SameFiles, Unwritten, outside, failures};
 ghost use Rattle.image_commands.specs.Does.{IsOfCommand, Cause};
 ghost use Rattle.text_commands.specs.Does.{RunsFile, BuildsFile};
@@ -9,7 +9,7 @@ ghost use Rattle.text_commands.specs.Generated.{Fulfils};
 use crate::language::Language;
 use crate::load::image_of_text;
 use crate::means::mean_file;
-use command_words::Command;
+use command_options::Command;
 use host_edge::{Sink, Source, Store};
 use image_commands::{
     Front, assemble_file, bare, disassemble_file, exec_file, run_image, save_image, write_source,

@@ -3,7 +3,8 @@ use Rattle.std.proofs.Common.{arith, zero-add}
 use Rattle.icode_ops.specs.declared.op.Op.{Op}
 use Rattle.icode_templates.specs.Layout.{Layout, laid}
 use Rattle.icode_templates.specs.Words.{words}
-use Rattle.icode_templates.specs.Frames.{saved, prologue, epilogue}
+use Rattle.icode_templates.specs.Frames.{prologue, epilogue}
+use Rattle.icode_saves.specs.Places.{saved}
 use Rattle.icode_templates.specs.Expansion.{nowhere, templates, aims, expanded}
 use Rattle.icode_expand.specs.Labels.{spliced}
 use Rattle.icode_expand.proofs.Written.{quarter, whole_length, whole_written}

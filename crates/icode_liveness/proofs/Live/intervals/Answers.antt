@@ -3,11 +3,11 @@ use Rattle.std.proofs.lemmas.List.{with_items_is}
 use Rattle.icode_ops.specs.declared.op.Op.{Op}
 use Rattle.icode_ops.specs.Finished.{IsFinished}
 use Rattle.icode_ops.specs.Live.{AreIntervals, IsInterval}
-use Rattle.icode_liveness.specs.Lists.{Each}
+use Rattle.icode_ranges.specs.Lists.{Each}
 use Rattle.icode_liveness.specs.Order.{AreStarts, by_start}
-use Rattle.icode_liveness.specs.Tables.{AreBlocks, AreSpans, MentionedAt}
+use Rattle.icode_ranges.specs.Tables.{AreBlocks, AreSpans, MentionedAt}
 use Rattle.icode_liveness.proofs.Below.{at-below}
-use Rattle.icode_liveness.proofs.Lists.{Each-weaker}
+use Rattle.icode_ranges.proofs.Lists.{Each-weaker}
 use Rattle.icode_liveness.proofs.Sorting.{are-intervals, few-intervals, each-weaker}
 use Rattle.icode_liveness.proofs.Live.intervals.Goals as goal
 

@@ -3,8 +3,8 @@ use Rattle.std.proofs.lemmas.Bool.Decides.{nat_tests}
 use Rattle.icode_ops.proofs.Laws.{op_at-read}
 use Rattle.icode_ops.specs.declared.op.Op.{Op}
 use Rattle.icode_ops.specs.Flow.{op_at}
-use Rattle.icode_liveness.specs.Blocks.{joins}
-use Rattle.icode_liveness.proofs.Joining.{block-joined}
+use Rattle.icode_ranges.specs.Blocks.{joins}
+use Rattle.icode_ranges.proofs.Joining.{block-joined}
 use Rattle.icode_liveness.proofs.blocks.block_after.Goals as goal
 
 pub returns-then-joins : goal.returns-then-joins

@@ -1,6 +1,6 @@
 use Rattle.std.proofs.Common.{◌≡◌, ◌-◌, ◌<◌, length}
-use Rattle.icode_liveness.specs.Blocks.{block_of}
-use Rattle.icode_liveness.specs.Tables.{AreBlocks}
+use Rattle.icode_ranges.specs.Blocks.{block_of}
+use Rattle.icode_ranges.specs.Tables.{AreBlocks}
 use Rattle.icode_liveness.proofs.blocks.list_blocks.Given as goal
 
 abbrev pub invariant-loop-p : goal.invariant-loop-p

@@ -1,12 +1,12 @@
 use Rattle.std.proofs.Common.{arith, sym, ◌∙◌, ap, subst, refl, ℕ, ◌≡◌, ◌<◌, ◌≤◌, ◌/◌, List, [], Some, length, get_or}
 use Rattle.std.specs.Prelude.{IfSome}
 use Rattle.collections.specs.Members.{Members, with_member}
-use Rattle.icode_liveness.specs.Blocks.{block_of}
-use Rattle.icode_liveness.specs.Lists.{In, Extends}
-use Rattle.icode_liveness.specs.Search.{BlockIn}
-use Rattle.icode_liveness.proofs.Lists.{Each-In, extends-In, extends-twice}
-use Rattle.icode_liveness.proofs.Walking.{Standing, walk-at, walk-next, slots_left, within-weaker, left-falls}
-use Rattle.icode_liveness.proofs.Walking.{member-there, member-extends}
+use Rattle.icode_ranges.specs.Blocks.{block_of}
+use Rattle.icode_ranges.specs.Lists.{In, Extends}
+use Rattle.icode_ranges.specs.Search.{BlockIn}
+use Rattle.icode_ranges.proofs.Lists.{Each-In, extends-In, extends-twice}
+use Rattle.icode_ranges.proofs.Walking.{Standing, walk-at, walk-next, slots_left, within-weaker, left-falls}
+use Rattle.icode_ranges.proofs.Walking.{member-there, member-extends}
 use Rattle.icode_liveness.proofs.search.add_blocks.Goals as goal
 
 pub block-requires-clause-place : goal.block-requires-clause-place

@@ -1,8 +1,8 @@
 use Rattle.std.proofs.Common.{◌≡◌, ◌/◌, ◌<◌, [], slice_index_or, IfSome}
-use Rattle.icode_liveness.specs.Blocks.{block_of}
-use Rattle.icode_liveness.specs.Lists.{In, Extends}
-use Rattle.icode_liveness.specs.Search.{BlockIn}
-use Rattle.icode_liveness.proofs.Walking.{Walk, slots_left}
+use Rattle.icode_ranges.specs.Blocks.{block_of}
+use Rattle.icode_ranges.specs.Lists.{In, Extends}
+use Rattle.icode_ranges.specs.Search.{BlockIn}
+use Rattle.icode_ranges.proofs.Walking.{Walk, slots_left}
 use Rattle.icode_liveness.proofs.search.add_blocks.Given as goal
 
 abbrev pub invariant-loop-at : goal.invariant-loop-at

@@ -1,7 +1,7 @@
 use Rattle.std.proofs.Common.{arith, sym, ◌∙◌, subst, ◌≡◌, ◌<◌, [], Some, None, length, get_or}
-use Rattle.icode_liveness.specs.Tables.{IsSpanOf}
+use Rattle.icode_ranges.specs.Tables.{IsSpanOf}
 use Rattle.icode_liveness.proofs.Reaching.{local, nowhere}
-use Rattle.icode_liveness.proofs.Walking.{head-none}
+use Rattle.icode_ranges.proofs.Walking.{head-none}
 use Rattle.icode_liveness.proofs.search.interval_of.Goals as goal
 
 pub returns-in-None-clause-interval : goal.returns-in-None-clause-interval

@@ -1,7 +1,7 @@
 use Rattle.std.proofs.Common.{arith, sym, ◌∙◌, ap, subst, ◌≡◌, ◌<◌, ◌≤◌, [], length, get_or}
 use Rattle.collections.specs.Members.{Members}
-use Rattle.icode_liveness.specs.Lists.{Extends}
-use Rattle.icode_liveness.specs.Search.{BlockIn}
+use Rattle.icode_ranges.specs.Lists.{Extends}
+use Rattle.icode_ranges.specs.Search.{BlockIn}
 use Rattle.icode_liveness.proofs.Reaching.{defining-are, reaching-start, reaching-more, found-within, exact}
 use Rattle.icode_liveness.proofs.Taking.{found-longer}
 use Rattle.icode_liveness.proofs.search.live_range.Goals as goal

@@ -1,5 +1,5 @@
 use Rattle.std.proofs.Common.{◌≡◌, ◌≤◌, ◌-◌, length}
-use Rattle.icode_liveness.specs.Search.{AreDefining}
+use Rattle.icode_ranges.specs.Search.{AreDefining}
 use Rattle.icode_liveness.proofs.Reaching.{Reaching}
 use Rattle.icode_liveness.proofs.search.live_range.Given as goal
 

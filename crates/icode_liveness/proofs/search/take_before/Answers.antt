@@ -1,7 +1,7 @@
 use Rattle.std.proofs.Common.{sym, ◌∙◌, ap, ℕ, ◌≡◌, ◌<◌, [], Some, length, get_or}
 use Rattle.icode_ops.proofs.Laws.{op_at-read}
 use Rattle.icode_ops.specs.Flow.{op_at, label_of, Follows}
-use Rattle.icode_liveness.specs.Search.{Taken, PlaceOf}
+use Rattle.icode_ranges.specs.Search.{Taken, PlaceOf}
 use Rattle.icode_liveness.proofs.Taking.{all-label, jumps-follow, grown-twice, taken-later}
 use Rattle.icode_liveness.proofs.search.take_before.Goals as goal
 

@@ -1,11 +1,11 @@
 use Rattle.std.proofs.Common.{arith, sym, ◌∙◌, ap, subst, refl, ℕ, ◌≡◌, ◌<◌, ◌≤◌, ◌/◌, List, [], Some, length, get_or}
 use Rattle.std.specs.Prelude.{IfSome}
-use Rattle.icode_liveness.specs.Search.{Taken, Grown, PlaceOf}
-use Rattle.icode_liveness.specs.Tables.{GoesFrom}
-use Rattle.icode_liveness.proofs.Lists.{Each-In}
+use Rattle.icode_ranges.specs.Search.{Taken, Grown, PlaceOf}
+use Rattle.icode_ranges.specs.Tables.{GoesFrom}
+use Rattle.icode_ranges.proofs.Lists.{Each-In}
 use Rattle.icode_liveness.proofs.Reaching.{slots-within}
 use Rattle.icode_liveness.proofs.Taking.{grown-twice, taken-later}
-use Rattle.icode_liveness.proofs.Walking.{Standing, walk-at, walk-next, slots_left, within-weaker, left-falls}
+use Rattle.icode_ranges.proofs.Walking.{Standing, walk-at, walk-next, slots_left, within-weaker, left-falls}
 use Rattle.icode_liveness.proofs.search.take_jumps.Goals as goal
 
 pub take-range-requires-clause-place : goal.take-range-requires-clause-place

@@ -1,6 +1,6 @@
 use Rattle.std.proofs.Common.{◌≡◌, ◌/◌, ◌<◌, [], slice_index_or, IfSome}
-use Rattle.icode_liveness.specs.Search.{Taken, Grown, PlaceOf}
-use Rattle.icode_liveness.proofs.Walking.{Walk, slots_left}
+use Rattle.icode_ranges.specs.Search.{Taken, Grown, PlaceOf}
+use Rattle.icode_ranges.proofs.Walking.{Walk, slots_left}
 use Rattle.icode_liveness.proofs.search.take_jumps.Given as goal
 
 abbrev pub invariant-loop-at : goal.invariant-loop-at

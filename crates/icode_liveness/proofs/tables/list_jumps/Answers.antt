@@ -5,7 +5,7 @@ use Rattle.icode_ops.specs.declared.op.Op.TheVariants.{ReturnZero}
 use Rattle.icode_ops.specs.Flow.{op_at, goes_to, label_of}
 use Rattle.icode_ops.specs.Finished.{Below, IsFinished}
 use Rattle.collections.specs.Contents.{Contents}
-use Rattle.icode_liveness.specs.Tables.{GoesFrom, IsTable, KnowsLabels, listed}
+use Rattle.icode_ranges.specs.Tables.{GoesFrom, IsTable, KnowsLabels, listed}
 use Rattle.icode_liveness.proofs.Filling.{table-empty, length-empty, jumps-more, length-listed}
 use Rattle.icode_liveness.proofs.tables.list_jumps.Goals as goal
 

@@ -1,5 +1,5 @@
 use Rattle.std.proofs.Common.{◌≡◌, ◌≤◌, ◌*◌, length}
-use Rattle.icode_liveness.specs.Tables.{GoesFrom, IsTable, KnowsLabels}
+use Rattle.icode_ranges.specs.Tables.{GoesFrom, IsTable, KnowsLabels}
 use Rattle.icode_liveness.proofs.tables.list_jumps.Given as goal
 
 abbrev pub invariant-loop-p : goal.invariant-loop-p

@@ -2,8 +2,8 @@ use Rattle.std.proofs.Common.{arith, refl, sym, ◌∙◌, ap, subst, ◌≡◌,
 use Rattle.collections.specs.Contents.{Contents}
 use Rattle.icode_ops.proofs.Laws.{op_at-read}
 use Rattle.icode_ops.specs.Flow.{op_at, defined, first_use, second_use}
-use Rattle.icode_liveness.specs.Blocks.{block_of}
-use Rattle.icode_liveness.specs.Tables.{DefinedAt, ExposedAt, IsTable, AreLasts, listed, with_shown, marked}
+use Rattle.icode_ranges.specs.Blocks.{block_of}
+use Rattle.icode_ranges.specs.Tables.{DefinedAt, ExposedAt, IsTable, AreLasts, listed, with_shown, marked}
 use Rattle.icode_liveness.proofs.Filling.{table-empty, length-empty, definitions-more, length-listed, within}
 use Rattle.icode_liveness.proofs.Showing.{exposed-more, length-shown, lasts-start, lasts-more}
 use Rattle.icode_liveness.proofs.Mentions.{spans-start, spans-written, length-low, length-marked}

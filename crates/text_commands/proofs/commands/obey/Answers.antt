@@ -1,5 +1,5 @@
 use Rattle.std.proofs.Common.{rules, ap, refl}
-use Rattle.command_words.specs.Orders.{ordered}
+use Rattle.command_options.specs.Orders.{ordered}
 use Rattle.image_commands.specs.Outside.{outside}
 use Rattle.text_commands.proofs.Fronts.{ordered_build, asked_source}
 use Rattle.text_commands.proofs.commands.obey.Goals as goal

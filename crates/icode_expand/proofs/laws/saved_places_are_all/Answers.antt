@@ -1,5 +1,0 @@
-use Rattle.icode_expand.proofs.Kept.{saved_are}
-use Rattle.icode_expand.proofs.laws.saved_places_are_all.Goals as goal
-
-pub returns : goal.returns
-returns c = saved_are
