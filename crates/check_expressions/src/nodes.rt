@@ -1,4 +1,4 @@
-//! Operators, assignments, addresses, casts and strings.
+//! Operators, assignments and addresses.
 
 ghost use Rattle.std.specs.Prelude.{◌≡◌, IfOk};
 ghost use Rattle.tick_tree.specs.Faults.{Checks};
@@ -6,31 +6,15 @@ ghost use Rattle.check_rules.specs.Names.{Gives};
 ghost use Rattle.check_tables.specs.Walks.{Reads};
 ghost use Rattle.check_rules.specs.Productions as spec;
 
-use c_type_refs::TypeRef;
 use c_types::Layer;
 use check_operands::{Operand, Place, Value, made, settled, value_of, values};
-use check_rules::{Stage, State};
-use check_types::{is_cspec, is_vspec, over};
+use check_rules::{Stage, State, is_specification, is_tick};
+use check_types::over;
 use icode_ops::UnKind;
 use sqlite_items::Boxed;
 use std::alloc::{AllocError, Global};
 use tick_tree::{BinaryOp, Deny, FaultKind, ModifyOp, StepOp, UnaryOp, refused};
 use typed_tree::{CaptureKind, CapturedWord, Expr};
-
-pub(crate) fn is_tick(stage: Stage) -> bool
-    ensures { result ≡ spec.is_tick stage }
-{
-    match stage {
-        Stage::Tick => true,
-        Stage::Function | Stage::Dollar => false,
-    }
-}
-
-pub(crate) fn is_specification(t: &TypeRef) -> bool
-    ensures { result ≡ spec.is_specification t.now }
-{
-    is_cspec(t) || is_vspec(t)
-}
 
 #[tactic(auto, unfolding(check_rules::specs::Productions::left))]
 fn left(line: u32, stage: Stage, o: Operand) -> Result<Operand, Deny>
@@ -236,12 +220,4 @@ pub fn unary_node(
         UnaryOp::Increment => step_node(alloc, line, StepOp::Increment, o),
         UnaryOp::Decrement => step_node(alloc, line, StepOp::Decrement, o),
     }
-}
-
-/// A string, which takes its place behind the strings so far.
-pub fn string_node(alloc: Global, state: &mut State, bytes: &[u8]) -> Result<Operand, AllocError>
-    ensures { Gives result state.new (spec.string_node bytes.now state.old) }
-{
-    let address = state.image.string(alloc, bytes)?;
-    check_nodes::string(alloc, address)
 }

@@ -11,11 +11,9 @@ ghost use Rattle.check_rules.specs.Walk as spec;
 use crate::statements::block;
 use crate::types::typename;
 use c_type_refs::TypeRef;
-use check_expressions::{
-    Pair, argument, call_node, character_leaf, choice_node, library_of, number_leaf, pair_node,
-    post_node, string_leaf, unary_node,
-};
+use check_expressions::{Pair, choice_node, pair_node, post_node, unary_node};
 use check_operands::{Arguments, Operand};
+use check_primaries::{argument, call_node, character_leaf, library_of, number_leaf, string_leaf};
 use check_rules::{Stage, State};
 use check_staging::{
     Naming, Typing, compile_node, naming_entry, naming_node, staging_entry, tick_around,

@@ -4,7 +4,7 @@ use Rattle.tick_tree.specs.Faults.{Checks}
 use Rattle.check_operands.specs.Calls as calls
 use Rattle.check_rules.specs.Productions as spec
 use Rattle.check_rules.specs.Productions.{call_node}
-use Rattle.check_expressions.proofs.calls.call_node.Goals as goal
+use Rattle.check_primaries.proofs.calls.call_node.Goals as goal
 
 pub returns-then-branch : goal.returns-then-branch
 unfolding call_node

@@ -7,11 +7,10 @@ ghost use Rattle.check_operands.specs.Calls as calls;
 ghost use Rattle.check_rules.specs.Productions as spec;
 ghost use Rattle.check_rules.specs.ExpressionRules as rules;
 
-use crate::nodes::{is_specification, is_tick};
 use c_type_refs::TypeRef;
 use check_forms::name_of;
 use check_operands::{Arguments, Operand, value_of};
-use check_rules::{Stage, State};
+use check_rules::{Stage, State, is_specification, is_tick};
 use check_types::{inner, is_function, is_pointer};
 use std::alloc::{AllocError, Global};
 use tick_tree::{Deny, Expr, Fault, FaultKind, refused};
