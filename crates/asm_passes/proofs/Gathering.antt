@@ -1,9 +1,10 @@
 -- What the lines of a text give, one after another, and what stays true of it.
-use Rattle.std.proofs.Common.{◌≡◌, ℕ, ◌+◌, ◌≤◌, Bool, true, false, ◌&&◌, cond}
+use Rattle.std.proofs.Common.{◌≡◌, ◌≢◌, ℕ, ◌+◌, ◌≤◌, Bool, true, false, ◌&&◌, cond}
 use Rattle.std.proofs.Common.{IsTrue, List, [], ◌∷◌, ◌++◌, length, Option, Some, None, Result, Ok, Err, refl}
 use Rattle.std.proofs.Common.{sym, ap, ◌∙◌, arith, subst}
 use Rattle.std.specs.Option.{option_or}
 use Rattle.std.specs.List.{list_all}
+use Rattle.std.proofs.lemmas.Bool.{ne_eqb}
 use Rattle.std.proofs.lemmas.List.{length-append}
 use Rattle.std.proofs.lemmas.List.Folds.{list_all-append}
 use Rattle.image_file.specs.Image.{is_function_in}
@@ -12,15 +13,19 @@ use Rattle.asm_lines.specs.declared.line.Line.{Line}
 use Rattle.asm_passes.specs.declared.position.Position.{Position}
 use Rattle.asm_passes.specs.declared.fault.AsmFault.{AsmFault}
 use Rattle.asm_passes.specs.declared.fault.AsmFaultKind.{AsmFaultKind}
+use Rattle.asm_passes.specs.declared.fault.AsmFaultKind.TheVariants.{BadLine}
+use Rattle.asm_passes.specs.declared.fault.AsmDeny.{AsmDeny}
+use Rattle.asm_passes.specs.declared.parts.Parts.{Parts}
 use Rattle.asm_passes.specs.declared.item.Item.{Item}
 use Rattle.asm_passes.specs.declared.item.Item.TheVariants as item
 use Rattle.asm_passes.specs.Cut.{lines}
-use Rattle.asm_passes.specs.Positions.{behind, counted, is_entry, words}
+use Rattle.asm_passes.specs.Positions.{Placed, behind, counted, is_entry, words}
 use Rattle.asm_lines.specs.Lines.{HasDigits}
-use Rattle.asm_passes.specs.Values.{Known, given}
+use Rattle.asm_passes.specs.Values.{Known, known_by, given}
 use Rattle.asm_passes.specs.Items.{entry_of, words_of, data_of, functions_of, IsGood, digits_in, Counts}
-use Rattle.asm_passes.specs.Collected.{before, collected}
-use Rattle.asm_passes.specs.Parts.{Gathered, with, gathered, IsEntry}
+use Rattle.asm_passes.specs.Labels.{Names}
+use Rattle.asm_passes.specs.Collected.{before, collected, known}
+use Rattle.asm_passes.specs.Parts.{Gathered, none, with, gathered, gathered_in, Gives, IsEntry}
 use Rattle.asm_passes.proofs.Rest.{rest_of, first_of, rest_cons}
 
 -- ---- one line more
@@ -133,3 +138,19 @@ digits_if n false l h = h
 pub counted_digits : (n : ℕ) (p : Position) (m : Option Line) → HasDigits n m → HasDigits n (counted p m)
 counted_digits n p None h = tt
 counted_digits n p (Some l) h = digits_if n (p.entered && is_entry l.statement) l h
+
+-- ---- what all lines give
+
+gives_by : (a b : Result Gathered AsmFault) (r : Result Parts AsmDeny) → a ≡ b → Gives a r → Gives b r
+gives_by a b r e g = subst (λ x. Gives x r) e g
+
+-- A text with words, of which something was gathered by what all lines say together.
+pub all_gathered : (ps : List Placed) (n : ℕ) (ls : Names) (r : Result Parts AsmDeny) → n ≢ 0 →
+    known_by ls n ≡ known ps → Gives (gathered none (collected (known_by ls n) ps)) r → Gives (gathered_in ps) r
+all_gathered ps n ls r some e g =
+    let count : words ps ≡ n = ap (λ k. k.words) (sym e) in
+    let not_none : words ps ≢ 0 = λ z. some (sym count ∙ z) in
+    gives_by (gathered none (collected (known_by ls n) ps)) (gathered_in ps) r
+    (ap (λ k. gathered none (collected k ps)) e
+    ∙ sym (ap (λ t. cond t (Err (record { kind = BadLine; line = 1 })) (gathered none (collected (known ps) ps)))
+    (ne_eqb (words ps) 0 not_none))) g

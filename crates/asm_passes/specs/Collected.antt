@@ -1,5 +1,5 @@
--- What all lines of a text say together, and what they give, or the first fault. The fault of the first line that has one
--- counts. The rules are this project's own.
+-- What all lines of a text say together, and what they give, or the first fault. The fault of the first line that has
+-- one counts. The rules are this project's own.
 use Rattle.std.specs.Prelude.{ℕ, List, [], ◌∷◌, map, Result, Ok, Err}
 use Rattle.asm_lines.specs.Lines.{line_of}
 use Rattle.asm_passes.specs.declared.fault.AsmFault.{AsmFault}

@@ -1,15 +1,19 @@
 -- What the lines of a text gave up to a place, which stands before what the lines behind it give.
-use Rattle.std.specs.Prelude.{◌≡◌, ℕ, ◌≤◌, IsTrue, List, [], ◌∷◌, ◌++◌, length, Option, Some, None, Result, Ok, Err}
+use Rattle.std.specs.Prelude.{◌≡◌, ℕ, ◌≤◌, ◌==◌, if◌then◌else◌, IsTrue, List, [], ◌∷◌, ◌++◌, length}
+use Rattle.std.specs.Prelude.{Option, Some, None, Result, Ok, Err}
 use Rattle.std.specs.List.{list_all}
 use Rattle.std.specs.Option.{option_or}
 use Rattle.image_file.specs.declared.image.FunctionEntry.{FunctionEntry}
 use Rattle.image_file.specs.Image.{is_in_text, is_function_in}
 use Rattle.asm_passes.specs.declared.parts.Parts.{Parts}
 use Rattle.asm_passes.specs.declared.fault.AsmFault.{AsmFault}
+use Rattle.asm_passes.specs.declared.fault.AsmFaultKind.TheVariants.{BadLine}
 use Rattle.asm_passes.specs.declared.fault.AsmDeny.{AsmDeny}
 use Rattle.asm_passes.specs.declared.fault.AsmDeny.TheVariants.{Refused, NoMemory}
 use Rattle.asm_passes.specs.declared.item.Item.{Item}
 use Rattle.asm_passes.specs.Items.{entry_of, words_of, data_of, functions_of}
+use Rattle.asm_passes.specs.Positions.{Placed, words}
+use Rattle.asm_passes.specs.Collected.{collected, known}
 use Rattle.limits.specs.declared.program.TheConstants.{MOST_FUNCTIONS}
 use Rattle.limits.specs.declared.text.TheConstants.{LONGEST_TEXT}
 
@@ -45,6 +49,11 @@ with_all g (i ∷ is) = with_all (with g i) is
 abbrev pub gathered : Gathered → Result (List Item) AsmFault → Result Gathered AsmFault
 gathered g (Ok is) = Ok (with_all g is)
 gathered g (Err f) = Err f
+
+-- What all lines of a text give, or its first fault: without a line that gives a word it has a wrong form in line 1.
+abbrev pub gathered_in : List Placed → Result Gathered AsmFault
+gathered_in ps = if words ps == 0 then Err (record { kind = BadLine; line = 1 }) else
+    gathered none (collected (known ps) ps)
 
 -- The answer is what is defined, unless memory was not found.
 abbrev pub Gives : Result Gathered AsmFault → Result Parts AsmDeny → Type 0

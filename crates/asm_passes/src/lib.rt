@@ -1,6 +1,7 @@
 //! The two passes of the assembler over a text.
 //!
-//! `surveyed` finds its labels and counts its words; `gather` takes what its lines give to an image, or the first fault.
+//! The first finds its labels and counts its words, and the second takes what its lines give to an image, or the first
+//! fault.
 #![tactic(auto)]
 
 mod cut;
@@ -13,5 +14,4 @@ mod survey;
 mod values;
 
 pub use fault::{AsmDeny, AsmFault, AsmFaultKind};
-pub use parts::{Parts, gather};
-pub use survey::{Survey, surveyed};
+pub use parts::{Parts, gathered};

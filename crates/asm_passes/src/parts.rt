@@ -1,6 +1,6 @@
 //! The second pass: what the lines of a text give to an image.
 
-ghost use Rattle.std.specs.Prelude.{◌≡◌, ◌≤◌, length, IfOk, OnOk};
+ghost use Rattle.std.specs.Prelude.{◌≡◌, ◌<◌, ◌≤◌, length, IfOk, OnOk};
 ghost use Rattle.asm_passes.specs.Collected as spec;
 ghost use Rattle.asm_passes.specs.Parts as parts;
 ghost use Rattle.asm_passes.specs.Positions.{words};
@@ -8,10 +8,10 @@ ghost use Rattle.asm_passes.specs.Values.{known_by};
 ghost use Rattle.limits.specs.declared.text.TheConstants.{LONGEST_TEXT};
 
 use crate::cut::first_line;
-use crate::fault::{AsmDeny, AsmFault};
+use crate::fault::{AsmDeny, AsmFault, AsmFaultKind};
 use crate::item::Item;
 use crate::position::Position;
-use crate::survey::Survey;
+use crate::survey::{Survey, surveyed};
 use asm_lines::line_of;
 use image_file::FunctionEntry;
 use std::alloc::{AllocError, Global};
@@ -60,14 +60,12 @@ impl Parts {
     }
 }
 
-/// What all lines of a text give, by what they say together. The text has at most 1,048,576 bytes; this is a condition.
-///
-/// # Errors
-/// `Refused` where a line has a fault, with that of the first line that has one. `NoMemory` where memory was not found.
-pub fn gather(alloc: Global, text: &[u8], survey: &Survey) -> Result<Parts, AsmDeny>
+// What all lines of a text give, or the first fault of a line.
+fn gather(alloc: Global, text: &[u8], survey: &Survey) -> Result<Parts, AsmDeny>
     requires small { length text.now ≤ LONGEST_TEXT }
     requires words { survey.now.words ≡ words (spec.placed_lines text.now) }
-    ensures gives { parts.Gives (parts.gathered parts.none (spec.collected (known_by survey.now.labels survey.now.words) (spec.placed_lines text.now))) result }
+    ensures gives { parts.Gives (parts.gathered parts.none
+        (spec.collected (known_by survey.now.labels survey.now.words) (spec.placed_lines text.now))) result }
     ensures sound { IfOk result (λ p. parts.AreSound survey.now.words (parts.parts_of p)) }
 {
     let mut parts = Parts::new(alloc);
@@ -90,4 +88,27 @@ pub fn gather(alloc: Global, text: &[u8], survey: &Survey) -> Result<Parts, AsmD
         rest = more;
     }
     Ok(parts)
+}
+
+/// What all lines of a text give. The text has at most 1,048,576 bytes; this is a condition. It is read twice: once for
+/// its labels and its words, and once for what its lines give.
+///
+/// # Errors
+/// `Refused` where a line of the text has a fault, with that of the first line that has one; and where no line gives a
+/// word, with `BadLine` in line 1. `NoMemory` where memory was not found.
+pub fn gathered(alloc: Global, text: &[u8]) -> Result<Parts, AsmDeny>
+    requires { length text.now ≤ LONGEST_TEXT }
+    ensures gives { parts.Gives (parts.gathered_in (spec.placed_lines text.now)) result }
+    ensures some { IfOk result (λ p. 0 < length p.text.items) }
+    ensures small { IfOk result (λ p. length p.text.items ≤ LONGEST_TEXT) }
+    ensures sound { IfOk result (λ p. parts.AreSound (length p.text.items) (parts.parts_of p)) }
+{
+    let survey = surveyed(alloc, text)?;
+    if survey.words == 0 {
+        return Err(AsmDeny::Refused(AsmFault {
+            kind: AsmFaultKind::BadLine,
+            line: 1,
+        }));
+    }
+    gather(alloc, text, &survey)
 }

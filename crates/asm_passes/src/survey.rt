@@ -16,11 +16,11 @@ use std::alloc::{AllocError, Global};
 
 /// What all lines of a text say together.
 #[derive(Drop)]
-pub struct Survey {
+pub(crate) struct Survey {
     /// The labels.
-    pub labels: Labels,
+    pub(crate) labels: Labels,
     /// How many words the text has.
-    pub words: u32,
+    pub(crate) words: u32,
     ghost small: { words ≤ LONGEST_TEXT },
 }
 
@@ -47,7 +47,7 @@ fn noted(
 ///
 /// # Errors
 /// Memory was not found.
-pub fn surveyed(alloc: Global, text: &[u8]) -> Result<Survey, AllocError>
+pub(crate) fn surveyed(alloc: Global, text: &[u8]) -> Result<Survey, AllocError>
     requires { length text.now ≤ LONGEST_TEXT }
     ensures { IfOk result (λ s. known_by s.labels s.words ≡ spec.known (spec.placed_lines text.now)) }
 {

@@ -16,6 +16,7 @@ use Rattle.typed_tree.specs.Nodes.{Case, Default, Break, Continue, Return, Retur
 use Rattle.typed_tree.specs.Nodes.{fold_expr, fold_args, fold_stmt, fold_items}
 use Rattle.typed_tree.specs.Measures.{size_of_expr, size_of_stmt}
 use Rattle.typed_tree.specs.Sizes.{size_rule, size_rules}
+use Rattle.capture_kinds.specs.Kinds.{word_kind}
 use Rattle.captures.specs.Captures.{Name, Nothing, Names, row, captures_from}
 use Rattle.captures.specs.Captures as captures
 use Rattle.captures.specs.declared.capture.Capture.{Capture as CaptureOf}
@@ -105,7 +106,7 @@ captures_few (Names k i ∷ ns) n node = captures_by k n i node ns (nat_eq n i) 
 
 -- ---- trees
 
-same_word : (w : CapturedWord) → captured.word_kind w ≡ captures.word_kind w
+same_word : (w : CapturedWord) → captured.word_kind w ≡ word_kind w
 same_word word.Dollar = refl
 same_word word.Address = refl
 

@@ -1,6 +1,6 @@
 -- The words of a command line: which command they give, or which word is the first that can't continue one. Word 0 is
--- the name of the program and word 1 that of the command; behind them stand its operands and options. The grammar is the
--- product's own.
+-- the name of the program and word 1 that of the command; behind them stand its operands and options. The grammar is
+-- the product's own.
 use Rattle.std.specs.Prelude.{ℕ, ◌+◌, if◌then◌else◌, List, [], ◌∷◌, length, Option, Some, None, Result, Err, codes}
 use Rattle.std.specs.Str.{bytes_eq}
 use Rattle.command_options.specs.declared.command.Name.{Name}

@@ -26,7 +26,9 @@ fn name_of(word: &str) -> Option<Name>
 /// The command that the words give, word 0 being the program's name, or the place of the first word that can't continue
 /// one; that is the number of words where they end too early. A run has at most 1,099,511,627,776 instructions.
 pub fn command_of(words: &[String]) -> Result<Command<'_>, u64>
-    ensures command { MatchResult result (λ c. spec.order_of (map string_bytes words.now) ≡ Ok (options.ordered c)) (λ place. spec.order_of (map string_bytes words.now) ≡ Err place) }
+    ensures command { MatchResult result
+        (λ c. spec.order_of (map string_bytes words.now) ≡ Ok (options.ordered c))
+        (λ place. spec.order_of (map string_bytes words.now) ≡ Err place) }
     ensures steps { IfOk result (λ c. options.steps_in c ≤ 2 ^ 40) }
 {
     match words {

@@ -16,7 +16,7 @@ use Rattle.icode_templates.specs.Layout.{place_register}
 use Rattle.icode_templates.specs.Frames.{save_offset, saves, take_frame, take_objects, enter_count}
 use Rattle.icode_saves.specs.Places.{has, saved}
 use Rattle.icode_saves.specs.Laws.{AllPlaces}
-use Rattle.icode_expand.proofs.Kept.{saved_are}
+use Rattle.icode_saves.proofs.Kept.{saved_are}
 use Rattle.icode_meaning.specs.State.{Function}
 use Rattle.icode_templates_proof.specs.Spots.{pointer, frame_word}
 use Rattle.icode_templates_proof.specs.Moves.{Runs, EndsIn}

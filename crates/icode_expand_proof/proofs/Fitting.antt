@@ -37,7 +37,7 @@ use Rattle.icode_saves.specs.Places.{saved}
 use Rattle.icode_templates.specs.Frames.{enter_count, leave_count}
 use Rattle.icode_saves.specs.Laws.{AllPlaces}
 use Rattle.icode_templates.specs.Expansion.{nowhere, templates, op_address, aims, body}
-use Rattle.icode_expand.proofs.Kept.{saved_are}
+use Rattle.icode_saves.proofs.Kept.{saved_are}
 use Rattle.icode_meaning.specs.State.{Function}
 use Rattle.icode_templates_proof.specs.Spots.{Usable}
 use Rattle.limits.specs.declared.run.TheConstants.{MOST_FRAME_BYTES}

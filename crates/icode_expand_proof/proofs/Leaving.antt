@@ -7,7 +7,7 @@ use Rattle.mips_model.proofs.Reach.{front, back, reaches_on}
 use Rattle.icode_templates.specs.Assembly.{lw}
 use Rattle.icode_templates.specs.Frames.{save_offset, restores, free_frame, free_objects, leave_count}
 use Rattle.icode_saves.specs.Places.{has, saved}
-use Rattle.icode_expand.proofs.Kept.{saved_are}
+use Rattle.icode_saves.proofs.Kept.{saved_are}
 use Rattle.icode_templates_proof.specs.Spots.{pointer, frame_word, Framed}
 use Rattle.icode_expand_proof.specs.Frames.{place_number, unwound_register}
 use Rattle.icode_expand_proof.proofs.Codes.{back_stands}

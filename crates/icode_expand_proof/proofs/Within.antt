@@ -7,7 +7,7 @@ use Rattle.mips_model.specs.State.{Data}
 use Rattle.icode_ops.specs.Live.{Live}
 use Rattle.icode_templates.specs.Frames.{save_offset}
 use Rattle.icode_saves.specs.Places.{has, saved}
-use Rattle.icode_expand.proofs.Kept.{saved_are}
+use Rattle.icode_saves.proofs.Kept.{saved_are}
 use Rattle.icode_meaning.specs.State.{Function, Frame, Log}
 use Rattle.icode_templates_proof.specs.Spots.{pointer, frame_word, value, Framed, KeepsSpots}
 use Rattle.icode_templates_proof.proofs.Keeping.{pointer_kept}

@@ -15,7 +15,7 @@ use Rattle.icode_ops.specs.Live.{Live}
 use Rattle.icode_ops.specs.Places.{place_of}
 use Rattle.icode_templates.specs.Layout.{place_register, spot_of}
 use Rattle.icode_saves.specs.Places.{has, saved}
-use Rattle.icode_expand.proofs.Kept.{saved_are}
+use Rattle.icode_saves.proofs.Kept.{saved_are}
 use Rattle.icode_meaning.specs.State.{Function, Frame, Log, Running, nothing}
 use Rattle.icode_meaning.specs.Steps.{paid, moved, set}
 use Rattle.icode_meaning.specs.Costs.{least_of, most_of}

@@ -1,22 +1,24 @@
 -- The image of what the lines of a text give.
-use Rattle.std.proofs.Common.{rules, inl, inr, get_or, ◌≡◌, ℕ, ◌+◌, ◌<◌, ◌≢◌, ◌&&◌, cond}
+use Rattle.std.proofs.Common.{rules, inl, inr, get_or, ◌≡◌, ℕ, ◌<◌, Bool, true, false, ◌==◌, ◌&&◌, cond}
 use Rattle.std.proofs.Common.{IsTrue, List, [], ◌∷◌, ◌++◌, length, Option, Some, None, unwrap_or, Result, Ok, Err, refl}
 use Rattle.std.proofs.Common.{sym, ap, ◌∙◌, arith, append_assoc}
 use Rattle.std.specs.Option.{option_or}
 use Rattle.std.specs.List.{flat_map, list_all}
-use Rattle.std.proofs.lemmas.Bool.{ne_eqb, cases_lt}
+use Rattle.std.proofs.lemmas.Bool.{cases_lt}
 use Rattle.std.proofs.lemmas.List.{append-nil, get_or_past}
 use Rattle.image_file.specs.declared.image.FunctionEntry.{FunctionEntry}
 use Rattle.image_file.specs.Image.{is_in_text, is_function_in}
 use Rattle.asm_passes.specs.declared.fault.AsmFault.{AsmFault}
+use Rattle.asm_passes.specs.declared.fault.AsmDeny.{AsmDeny}
+use Rattle.asm_passes.specs.declared.fault.AsmDeny.TheVariants.{Refused, NoMemory}
 use Rattle.asm_passes.specs.declared.fault.AsmFaultKind.TheVariants.{BadLine}
 use Rattle.asm_passes.specs.declared.item.Item.{Item}
 use Rattle.asm_passes.specs.Positions.{Placed, words}
-use Rattle.asm_passes.specs.Values.{Known}
 use Rattle.asm_passes.specs.Items.{entry_of, words_of, data_of, functions_of}
 use Rattle.asm_passes.specs.Collected.{collected, known}
-use Rattle.mips_text.specs.Assembly.{entry, image, image_in, assembled_in, image_by}
-use Rattle.asm_passes.specs.Parts.{Gathered, none, with, with_all, gathered, IsEntry}
+use Rattle.mips_text.specs.Assembly.{entry, image, assembled_in, image_by, Answers}
+use Rattle.mips_text.specs.Gathered.{image_in}
+use Rattle.asm_passes.specs.Parts.{Gathered, none, with, with_all, gathered, gathered_in, Gives, IsEntry}
 use Rattle.asm_passes.proofs.Gathering.{all_and}
 
 -- ---- the image of all of them
@@ -90,15 +92,30 @@ entries_good words o fs some h all =
     all_and (is_in_text words (unwrap_or o 0x00400000)) (list_all (is_function_in words) fs) (entry_good words o some h)
     all
 
--- A text with words, of which something was gathered from all lines.
-pub assembled_ok : (ps : List Placed) (n : ℕ) (k : Known) (g : Gathered) → n ≢ 0 → n ≡ k.words → k ≡ known ps →
-    gathered none (collected k ps) ≡ Ok g → assembled_in ps ≡ Ok (image_in g)
-assembled_ok ps n k g some is e gives =
-    let count : words ps ≡ k.words = ap (λ k. k.words) (sym e) in
-    let not_none : words ps ≢ 0 = λ z. some (is ∙ sym count ∙ z) in
-    ap (λ t. cond t (Err (record { kind = BadLine; line = 1 })) (image_by (collected (known ps) ps)))
-    (ne_eqb (words ps) 0 not_none)
-    ∙ image_ok (collected (known ps) ps) g (ap (λ k. gathered none (collected k ps)) (sym e) ∙ gives)
+ok_by : (ps : List Placed) (g : Gathered) (t : Bool) →
+    cond t (Err (record { kind = BadLine; line = 1 })) (gathered none (collected (known ps) ps)) ≡ Ok g →
+    cond t (Err (record { kind = BadLine; line = 1 })) (image_by (collected (known ps) ps)) ≡ Ok (image_in g)
+ok_by ps g true e = cc
+ok_by ps g false e = image_ok (collected (known ps) ps) g e
+
+err_by : (ps : List Placed) (f : AsmFault) (t : Bool) →
+    cond t (Err (record { kind = BadLine; line = 1 })) (gathered none (collected (known ps) ps)) ≡ Err f →
+    cond t (Err (record { kind = BadLine; line = 1 })) (image_by (collected (known ps) ps)) ≡ Err f
+err_by ps f true e = cc
+err_by ps f false e = image_err (collected (known ps) ps) f e
+
+-- A text of which something was gathered from all lines, or which has a fault.
+pub assembled_ok : (ps : List Placed) (g : Gathered) → gathered_in ps ≡ Ok g → assembled_in ps ≡ Ok (image_in g)
+assembled_ok ps g e = ok_by ps g (words ps == 0) e
+
+assembled_err : (ps : List Placed) (f : AsmFault) → gathered_in ps ≡ Err f → assembled_in ps ≡ Err f
+assembled_err ps f e = err_by ps f (words ps == 0) e
+
+-- Why nothing was gathered is why there is no image.
+pub refused : (ps : List Placed) (why : AsmDeny) → Gives (gathered_in ps) (Err why) →
+    Answers (assembled_in ps) (Err why)
+refused ps (Refused f) e = assembled_err ps f e
+refused ps NoMemory e = tt
 
 -- Numbers that are below a limit at each place of a list are so behind its end too, where they are 0.
 pub each_fits : (xs : List ℕ) (n : ℕ) → 0 < n → ((k : ℕ) → k < length xs → get_or xs k 0 < n) → (k : ℕ) →

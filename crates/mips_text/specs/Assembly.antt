@@ -11,7 +11,6 @@ use Rattle.asm_passes.specs.declared.fault.AsmDeny.TheVariants.{Refused, NoMemor
 use Rattle.asm_passes.specs.declared.item.Item.{Item}
 use Rattle.asm_passes.specs.Items.{entry_of, words_of, data_of, functions_of}
 use Rattle.asm_passes.specs.Positions.{Placed, words}
-use Rattle.asm_passes.specs.Parts.{Gathered}
 use Rattle.asm_passes.specs.Collected.{collected, known, placed_lines}
 use Rattle.word32.specs.declared.map.TheConstants.{START}
 
@@ -25,10 +24,6 @@ entry (i ∷ is) = option_or (entry_of i) (entry is)
 abbrev pub image : List Item → ImageParts
 image is =
     image_of (unwrap_or (entry is) START) (flat_map words_of is) (flat_map data_of is) (flat_map functions_of is)
-
--- The image of what was gathered.
-abbrev pub image_in : Gathered → ImageParts
-image_in g = image_of (unwrap_or g.entry START) g.text g.bytes g.functions
 
 -- ---- the whole
 

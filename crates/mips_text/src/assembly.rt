@@ -3,9 +3,10 @@
 ghost use Rattle.std.specs.Prelude.{◌≡◌, ◌<◌, ◌≤◌, length};
 ghost use Rattle.asm_passes.specs.Parts as parts;
 ghost use Rattle.mips_text.specs.Assembly as spec;
+ghost use Rattle.mips_text.specs.Gathered.{image_in};
 ghost use Rattle.limits.specs.declared.text.TheConstants.{LONGEST_TEXT};
 
-use asm_passes::{AsmDeny, AsmFault, AsmFaultKind, gather, surveyed};
+use asm_passes::{AsmDeny, gathered};
 use image_file::{FunctionEntry, Image};
 use std::alloc::Global;
 use word32::map::TEXT;
@@ -20,7 +21,7 @@ fn image_of(
     requires some { 0 < length text.items }
     requires small { length text.items ≤ LONGEST_TEXT }
     requires sound { parts.AreSound (length text.items) (parts.gathered_of entry text.items bytes.items functions.items) }
-    ensures { result ≡ spec.image_in (parts.gathered_of entry text.items bytes.items functions.items) }
+    ensures { result ≡ image_in (parts.gathered_of entry text.items bytes.items functions.items) }
 {
     Image::new(entry.unwrap_or(TEXT), text, bytes, functions)
 }
@@ -32,18 +33,11 @@ fn image_of(
 /// `Refused` exactly where a line of the text has a fault, with the first one: the first line that has one, and on this
 /// line the fault with the lowest number. A text without a line that gives a word has the fault `BadLine` in line 1.
 /// `NoMemory` where memory was not found.
-#[tactic(auto, unfolding(crate::specs::Assembly::assembled))]
+#[tactic(auto, using(crate::proofs::Images::refused), unfolding(crate::specs::Assembly::assembled))]
 pub fn assemble(alloc: Global, text: &[u8]) -> Result<Image, AsmDeny>
     requires { length text.now ≤ LONGEST_TEXT }
     ensures { spec.Answers (spec.assembled text.now) result }
 {
-    let survey = surveyed(alloc, text)?;
-    if survey.words == 0 {
-        return Err(AsmDeny::Refused(AsmFault {
-            kind: AsmFaultKind::BadLine,
-            line: 1,
-        }));
-    }
-    let parts = gather(alloc, text, &survey)?;
+    let parts = gathered(alloc, text)?;
     Ok(image_of(parts.entry, parts.text, parts.bytes, parts.functions))
 }
