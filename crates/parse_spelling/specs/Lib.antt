@@ -1,2 +1,4 @@
-pub mod Words
+pub mod Items
 pub mod Spelling
+pub mod Trees
+pub mod Words

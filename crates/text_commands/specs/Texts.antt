@@ -7,7 +7,7 @@ use Rattle.tick_tree.specs.declared.fault.Deny.TheVariants as deny
 use Rattle.tick_tree.specs.declared.token.Token.{Token}
 use Rattle.tick_tree.specs.declared.tree.Tree.{Tree}
 use Rattle.c_lexer.specs.Lex.{tokens}
-use Rattle.tick_parser.specs.Trees.{parsed}
+use Rattle.parse_spelling.specs.Trees.{parsed}
 use Rattle.wellformed.specs.declared.typed.Typed.{Typed}
 use Rattle.check_globals.specs.Program.{checked}
 use Rattle.built_programs.specs.Built.{Main, built}

@@ -15,7 +15,6 @@ use image_file::{Image, write};
 use static_image::{headline_holds, images_keep_rules};
 use std::alloc::Global;
 use std::mem::forget;
-use tick_parser::parse;
 use tick_tree::{Deny, Fault, FaultKind};
 use wellformed::Typed;
 
@@ -37,7 +36,7 @@ fn from_text<L: Language>(alloc: Global, text: &[u8]) -> Result<Typed, Deny>
     ensures { Checks result (spec.typed_tree text.now) }
 {
     let found = tokens(alloc, text)?;
-    let tree = parse(alloc, text, &found)?;
+    let tree = L::parse(alloc, text, &found)?;
     let typed = L::check(alloc, &tree);
     forget(tree);
     typed

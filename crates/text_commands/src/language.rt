@@ -1,15 +1,17 @@
-//! What the commands on texts ask of the language: the typed tree of a syntax tree, and what a program means.
-ghost use Rattle.std.specs.Prelude.{IfOk};
-ghost use Rattle.tick_tree.specs.Faults.{Checks};
+//! What the commands on texts ask of the language: the syntax tree of a text, its typed tree, and what a program means.
+ghost use Rattle.std.specs.Prelude.{◌≤◌, length, IfOk};
+ghost use Rattle.tick_tree.specs.Faults.{Answers, Checks};
+ghost use Rattle.parse_spelling.specs.Trees.{parsed};
 ghost use Rattle.check_globals.specs.Program.{checked};
 ghost use Rattle.staged_meaning.specs.Meaning.{Program};
 ghost use Rattle.text_commands.specs.Texts.{Means};
 ghost use Rattle.text_commands.specs.Evaluated.{IsEvaluated};
+ghost use Rattle.limits.specs.declared.text.TheConstants.{LONGEST_TEXT, MAX_TOKENS};
 
 use host_edge::Ending;
 use sqlite_items::Items;
 use std::alloc::{AllocError, Global};
-use tick_tree::{Deny, Tree};
+use tick_tree::{Deny, Token, Tree};
 use wellformed::Typed;
 
 /// What an evaluation within so many units of work came to.
@@ -21,9 +23,19 @@ pub struct Evaluation {
     pub ending: Option<Ending>,
 }
 
-/// A checker and an evaluator. There is one of each, `tick_checker` and `evaluate`, which `tick_top` puts here; what
-/// stands behind them rests on these contracts alone.
+/// A parser, a checker and an evaluator. There is one of each, `tick_parser`, `tick_checker` and `evaluate`, which
+/// `tick_top` puts here; what stands behind them rests on these contracts alone.
 pub trait Language {
+    /// The syntax tree of a text of at most 1,048,576 bytes, from its at most 262,144 tokens.
+    ///
+    /// # Errors
+    /// `Refused` exactly for the fault of the first token that is wrong, Syntax or TooDeep, and `NoMemory` where memory
+    /// was not found.
+    fn parse(alloc: Global, text: &[u8], tokens: &[Token]) -> Result<Tree, Deny>
+        requires small { length text.now ≤ LONGEST_TEXT }
+        requires few { length tokens.now ≤ MAX_TOKENS }
+        ensures exact { Answers (λ tree. tree) result (parsed text.now tokens.now) };
+
     /// The typed tree of a program.
     ///
     /// # Errors

@@ -1,9 +1,9 @@
 //! The commands on texts of the language, and the whole call. What a call of `tick` does is said by definitions: which
 //! texts are accepted and what is built of them (`specs/Texts`, `Saved`), what each command does (`specs/Does`, `Top`),
 //! what each outcome says (`specs/Rows`), and what all of it tells of the meaning of the text (`specs/Meant`,
-//! `Evaluations`). Laws on them are the contracts of functions that do nothing. The code asks for typed trees and
-//! evaluations through a trait, `Language`, and so is proved beside the checker and the evaluator: `tick_top` puts
-//! these there.
+//! `Evaluations`). Laws on them are the contracts of functions that do nothing. The code asks for syntax trees, typed
+//! trees and evaluations through a trait, `Language`, and so is proved beside the parser, the checker and the
+//! evaluator: `tick_top` puts these there.
 #![tactic(auto)]
 
 mod accepted;

@@ -15,8 +15,8 @@ use Rattle.parse_spelling.specs.Words.{words}
 use Rattle.parse_spelling.specs.Spelling.{spells_program}
 use Rattle.parse_spelling.proofs.Gives.{Gives, taken_from}
 use Rattle.parse_spelling.proofs.Stated.{program_says}
-use Rattle.tick_parser.specs.Items.{Text, items_of}
-use Rattle.tick_parser.specs.Trees.{outcome, items_or_stop, judged, parsed, Finds, Denies}
+use Rattle.parse_spelling.specs.Items.{Text, items_of}
+use Rattle.parse_spelling.specs.Trees.{outcome, items_or_stop, judged, parsed, Finds, Denies}
 
 pub finds : (i j : Input) (r : Result (List External) Stop) → Reads (grammar.program (room_of 200) i) r j →
     Finds (outcome i) r

@@ -16,8 +16,8 @@ use Rattle.parse_spelling.specs.Words.{Word, Words, Plain, Name, Number, Charact
 use Rattle.parse_spelling.specs.Words.{words}
 use Rattle.parse_spelling.proofs.Gives.{Gives, taken_from}
 use Rattle.parse_spelling.proofs.Stated.{program_says}
-use Rattle.tick_parser.specs.Items.{Text, items_of, item_of}
-use Rattle.tick_parser.specs.Trees.{parsed, outcome, judged, items_or_stop, max_nesting}
+use Rattle.parse_spelling.specs.Items.{Text, items_of, item_of}
+use Rattle.parse_spelling.specs.Trees.{parsed, outcome, judged, items_or_stop, max_nesting}
 use Rattle.tick_tree.specs.Named.{EachNamed}
 use Rattle.tick_tree.specs.Texts.{IsText}
 use Rattle.tick_tree.specs.Weights.{total, item_weight}

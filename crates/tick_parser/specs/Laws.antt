@@ -4,8 +4,8 @@ use Rattle.limits.specs.declared.text.TheConstants.{MAX_TOKENS}
 use Rattle.tick_tree.specs.declared.token.Token.{Token}
 use Rattle.tick_tree.specs.declared.tree.Tree.{Tree}
 use Rattle.tick_tree.specs.Texts.{IsText}
-use Rattle.tick_parser.specs.Items.{Text}
-use Rattle.tick_parser.specs.Trees.{parsed}
+use Rattle.parse_spelling.specs.Items.{Text}
+use Rattle.parse_spelling.specs.Trees.{parsed}
 
 -- the tree that is read of at most `MAX_TOKENS` tokens names its functions and is small
 abbrev pub ParsedAreTexts : Type 0

@@ -2,7 +2,7 @@
 
 ghost use Rattle.std.specs.Prelude.{◌≡◌, drop, IfOk, false};
 ghost use Rattle.lex_literals.specs.Literals.{numeral_at};
-ghost use Rattle.tick_parser.specs.Items as spec;
+ghost use Rattle.parse_spelling.specs.Items as spec;
 
 use lex_literals::{character_value, numeral_at};
 use lex_words::{Keyword, Sign, keyword_of, sign_at};
@@ -136,7 +136,7 @@ fn number_of(bytes: &[u8]) -> (u32, bool)
     (numeral.value.unwrap_or(0), numeral.unsigned)
 }
 
-#[tactic(auto, unfolding(crate::specs::Items::item_of))]
+#[tactic(auto, unfolding(parse_spelling::specs::Items::item_of))]
 fn item_of<'a>(text: &'a [u8], token: &Token) -> Item<'a>
     ensures { result ≡ spec.item_of text.now token.now }
 {

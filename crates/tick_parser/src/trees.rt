@@ -5,9 +5,9 @@ ghost use Rattle.std.specs.List.{count_by};
 ghost use Rattle.tick_tree.specs.Faults.{Answers};
 ghost use Rattle.parse_spelling.specs.Words.{words};
 ghost use Rattle.parse_spelling.specs.Spelling.{spells_program};
-ghost use Rattle.tick_parser.specs.Items.{items_of};
+ghost use Rattle.parse_spelling.specs.Items.{items_of};
 ghost use Rattle.tick_parser.specs.Laws.{ParsedAreTexts};
-ghost use Rattle.tick_parser.specs.Trees as spec;
+ghost use Rattle.parse_spelling.specs.Trees as spec;
 ghost use Rattle.limits.specs.declared.text.TheConstants.{LONGEST_TEXT, MAX_TOKENS};
 
 use crate::items::items_of;
@@ -56,7 +56,7 @@ fn denial(text: &[u8], tokens: &[Token], stop: Stop) -> Deny
 }
 
 // The items of the program that the tokens are.
-#[tactic(auto, unfolding(crate::specs::Trees::outcome))]
+#[tactic(auto, unfolding(parse_spelling::specs::Trees::outcome))]
 fn program<'a>(alloc: Global, items: &'a [Item<'a>]) -> Result<Items<External>, Stop>
     ensures found { spec.Finds (spec.outcome items.now) result }
     ensures spells { IfOk result (λ found. words items.now ≡ spells_program found []) }
@@ -76,7 +76,7 @@ fn program<'a>(alloc: Global, items: &'a [Item<'a>]) -> Result<Items<External>, 
 ///
 /// The fault of the first token that is wrong: Syntax where the grammar takes no such token there, the end of the text with
 /// it, else TooDeep where the nesting at it is over [`MAX_NESTING`].
-#[tactic(auto, unfolding(crate::specs::Trees::parsed), using(crate::proofs::Parsed::is_text))]
+#[tactic(auto, unfolding(parse_spelling::specs::Trees::parsed), using(crate::proofs::Parsed::is_text))]
 pub fn parse(alloc: Global, text: &[u8], tokens: &[Token]) -> Result<Tree, Deny>
     requires small { length text.now ≤ LONGEST_TEXT }
     requires few { length tokens.now ≤ MAX_TOKENS }

@@ -1,4 +1,4 @@
-//! The checker and the evaluator under the commands on texts.
+//! The parser, the checker and the evaluator under the commands on texts.
 ghost use Rattle.std.specs.Prelude.{IfOk};
 ghost use Rattle.staged_meaning.specs.Meaning.{Program};
 ghost use Rattle.text_commands.specs.Texts.{Means};
@@ -7,10 +7,11 @@ ghost use Rattle.text_commands.specs.Evaluated.{IsEvaluated};
 use std::alloc::{AllocError, Global};
 use text_commands::{Evaluation, Language};
 use tick_checker::check;
-use tick_tree::{Deny, Tree};
+use tick_parser::parse;
+use tick_tree::{Deny, Token, Tree};
 use wellformed::Typed;
 
-/// Tick C, with the one checker and the one evaluator of it.
+/// Tick C, with the one parser, the one checker and the one evaluator of it.
 pub struct TickC;
 
 // What an evaluation came to, without the state that it leaves.
@@ -27,6 +28,10 @@ fn evaluate(alloc: Global, tree: &Typed, input: &[u8], units: u64) -> Result<Eva
 }
 
 impl Language for TickC {
+    fn parse(alloc: Global, text: &[u8], tokens: &[Token]) -> Result<Tree, Deny> {
+        parse(alloc, text, tokens)
+    }
+
     fn check(alloc: Global, tree: &Tree) -> Result<Typed, Deny> {
         check(alloc, tree)
     }

@@ -1,6 +1,6 @@
-//! The top: the checker and the evaluator under the commands on texts (`text_commands`), as the calls that programs
-//! make: a whole call by the words of a command line (`tick`), and what comes of a text, its typed tree, its image and
-//! its image file. What each does is said, with laws on it, in `text_commands`.
+//! The top: the parser, the checker and the evaluator under the commands on texts (`text_commands`), as the calls that
+//! programs make: a whole call by the words of a command line (`tick`), and what comes of a text, its typed tree, its
+//! image and its image file. What each does is said, with laws on it, in `text_commands`.
 #![tactic(auto)]
 
 mod accepted;

@@ -1,5 +1,5 @@
 use Rattle.std.proofs.Common.{◌≡◌, ◌++◌, drop, map}
-use Rattle.tick_parser.specs.Items.{item_of}
+use Rattle.parse_spelling.specs.Items.{item_of}
 use Rattle.tick_parser.proofs.items.items_of.Given as goal
 
 -- the items so far, and those of the tokens to come, are those of all

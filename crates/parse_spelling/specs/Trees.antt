@@ -16,7 +16,7 @@ use Rattle.parse_grammar.specs.declared.stop.Stop.{Stop}
 use Rattle.parse_grammar.specs.declared.stop.Stop.TheVariants.{NoMemory, Syntax, TooDeep}
 use Rattle.parse_grammar.specs.Input.{Outcome}
 use Rattle.parse_grammar.specs.Statements.{room_of, program}
-use Rattle.tick_parser.specs.Items.{Text, items_of}
+use Rattle.parse_spelling.specs.Items.{Text, items_of}
 use Rattle.limits.specs.declared.text.TheConstants.{MAX_NESTING}
 
 -- the greatest nesting
