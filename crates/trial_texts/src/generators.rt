@@ -2,32 +2,11 @@
 //! functions of a text are at 0x00401000 and from there on every 256 bytes.
 
 use icode_ops::CallAddress;
-use std::alloc::{AllocError, Global};
 use std::io;
 use std::mem::forget;
+use text_reports::{print_words, starts};
 use tick_cgf::{Room, tick_words};
 use wellformed::Typed;
-
-/// Where so many functions are in these trials.
-pub(crate) fn starts(alloc: Global, count: usize) -> Result<Vec<CallAddress>, AllocError> {
-    let mut all = Vec::new(alloc);
-    let mut at: u32 = 0x0040_1000;
-    for _ in 0..count {
-        if let Some(start) = CallAddress::new(at) {
-            all.push(start)?;
-        }
-        at = at.saturating_add(256);
-    }
-    Ok(all)
-}
-
-/// Prints words, each behind a blank, and a line feed.
-pub(crate) fn print_words(rt: &HostRuntime, words: &[u32]) -> io::Result<()> {
-    for word in words {
-        print!(rt; " {word:08x}")?;
-    }
-    println!(rt)
-}
 
 // The lines of the ticks, in the order of the text.
 fn report_ticks(

@@ -9,21 +9,16 @@
 
 ghost use Rattle.std.specs.Prelude.{◌≤◌, length};
 
-mod captured;
-mod cases;
-mod faults;
 mod generators;
-mod lexed;
-mod lowered;
 mod parsed;
-mod routines;
 
 use c_lexer::tokens;
-use cases::push_line;
 use limits::text::LONGEST_TEXT;
-use std::alloc::{AllocError, Global};
+use std::alloc::Global;
 use std::io::{self, Read};
 use std::{env, fs};
+use text_reports::cases::push_line;
+use text_reports::{captured, faults, lexed, lowered, report_deny, routines};
 use tick_checker::check;
 use tick_parser::parse;
 use tick_tree::{Deny, Tree};
@@ -37,19 +32,6 @@ pub(crate) fn tree_of(alloc: Global, text: &[u8]) -> Result<Tree, Deny>
     let tree = parse(alloc, text, &found);
     drop(found);
     tree
-}
-
-/// Prints the line of a text that isn't accepted.
-pub(crate) fn report_deny(rt: &HostRuntime, title: &str, why: Deny) -> io::Result<()> {
-    match why {
-        Deny::Refused(fault) => println!(rt;
-            "{title}: {} {} on line {}",
-            fault.kind.number(),
-            fault.kind.name(),
-            fault.line
-        ),
-        Deny::NoMemory => Err(io::Error::from(AllocError)),
-    }
 }
 
 // The lines of a program of the file with this name, or of its first static fault.

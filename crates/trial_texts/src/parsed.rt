@@ -3,8 +3,9 @@
 ghost use Rattle.std.specs.Prelude.{◌≤◌, length};
 ghost use Rattle.limits.specs.declared.text.TheConstants.{LONGEST_TEXT};
 
-use crate::{report_deny, tree_of};
+use crate::tree_of;
 use std::io;
+use text_reports::report_deny;
 use tick_tree::Deny;
 
 /// Prints the line of a text.

@@ -27,7 +27,10 @@ fn print_captures(rt: &HostRuntime, title: &str, number: u32, found: &[Capture])
 }
 
 /// Prints the lines of an accepted text.
-pub(crate) fn report(rt: &HostRuntime, title: &str, program: &Typed) -> io::Result<()> {
+///
+/// # Errors
+/// Where one can't be written, or memory was not found.
+pub fn report(rt: &HostRuntime, title: &str, program: &Typed) -> io::Result<()> {
     let count = u32::try_from(program.ticks().len()).unwrap_or(u32::MAX);
     for number in 0..count {
         let found = captures(rt.alloc(), program.ticks(), number)?;

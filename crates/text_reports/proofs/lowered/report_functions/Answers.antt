@@ -1,7 +1,7 @@
 use Rattle.std.proofs.Common.{rules, map, ap}
 use Rattle.typed_tree.specs.View.{function_view}
 use Rattle.static_backend.proofs.Loops.{next_static}
-use Rattle.trial_texts.proofs.lowered.report_functions.Goals as goal
+use Rattle.text_reports.proofs.lowered.report_functions.Goals as goal
 
 pub build_ops-requires : goal.build_ops-requires
 build_ops-requires c =

@@ -3,7 +3,7 @@
 ghost use Rattle.std.specs.Prelude.{◌≤◌, length};
 ghost use Rattle.limits.specs.declared.text.TheConstants.{LONGEST_TEXT};
 
-use crate::report_deny;
+use crate::denied::report_deny;
 use c_lexer::tokens;
 use std::io;
 use tick_tree::Token;
@@ -24,7 +24,10 @@ fn print_tokens(rt: &HostRuntime, title: &str, found: &[Token]) -> io::Result<()
 }
 
 /// Prints the line of a text.
-pub(crate) fn report(rt: &HostRuntime, title: &str, text: &[u8]) -> io::Result<()>
+///
+/// # Errors
+/// Where it can't be written, or memory was not found.
+pub fn report(rt: &HostRuntime, title: &str, text: &[u8]) -> io::Result<()>
     requires { length text.now ≤ LONGEST_TEXT }
 {
     match tokens(rt.alloc(), text) {

@@ -1,8 +1,8 @@
 use Rattle.std.proofs.Common.{rules, map, subst, sym}
 use Rattle.typed_tree.specs.View.{function_view}
 use Rattle.static_image.specs.Served.{AreStatic}
-use Rattle.trial_texts.proofs.Ready.{static}
-use Rattle.trial_texts.proofs.lowered.report_built.Goals as goal
+use Rattle.text_reports.proofs.Ready.{static}
+use Rattle.text_reports.proofs.lowered.report_built.Goals as goal
 
 pub report_functions-requires : goal.report_functions-requires
 report_functions-requires c =

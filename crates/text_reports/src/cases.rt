@@ -28,7 +28,10 @@ fn push_pieces(text: &mut Vec<u8>, line: &[u8]) -> io::Result<()> {
 }
 
 /// Adds a line to the text of a case, behind a line feed where it begins a line of the text, be it the first.
-pub(crate) fn push_line(text: &mut Vec<u8>, line: &[u8]) -> io::Result<()> {
+///
+/// # Errors
+/// Where memory was not found; the text then has a part of the line.
+pub fn push_line(text: &mut Vec<u8>, line: &[u8]) -> io::Result<()> {
     let line = match line.strip_prefix(b"%. ") {
         Some(rest) => rest,
         None => {

@@ -8,7 +8,10 @@ use std::io;
 use wellformed::Typed;
 
 /// Prints the line of an accepted text.
-pub(crate) fn report(rt: &HostRuntime, title: &str, program: &Typed) -> io::Result<()> {
+///
+/// # Errors
+/// Where it can't be written.
+pub fn report(rt: &HostRuntime, title: &str, program: &Typed) -> io::Result<()> {
     print!(rt; "{title}:")?;
     if title.starts_with("sizes") {
         for f in program.functions() {

@@ -8,7 +8,7 @@ ghost use Rattle.icode_ops.specs.Finished.{IsFinished};
 ghost use Rattle.static_image.specs.Served.{AreStatic};
 ghost use Rattle.typed_tree.specs.View.{function_view};
 
-use crate::generators::starts;
+use crate::words::starts;
 use built_programs::{built_is_static, main_of};
 use icode_expand::expand;
 use icode_ir::Builder;
@@ -106,7 +106,10 @@ fn report_built(
 }
 
 /// Prints the lines of an accepted text.
-pub(crate) fn report(rt: &HostRuntime, title: &str, program: &Typed) -> io::Result<()> {
+///
+/// # Errors
+/// Where one can't be written, or memory was not found.
+pub fn report(rt: &HostRuntime, title: &str, program: &Typed) -> io::Result<()> {
     let mut builder = Builder::new(rt.alloc())?;
     let printed = report_built(rt, title, &mut builder, program);
     drop(builder);
