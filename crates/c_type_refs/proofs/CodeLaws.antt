@@ -15,8 +15,8 @@ use Rattle.c_types.specs.declared.ctype.Layer.TheFolds.{fold-roll-Layer, fold-ro
 use Rattle.c_types.specs.declared.ctype.Layer.TheFolds.{fold_out-CType, ind-Layer, map-Layer, map-CType}
 use Rattle.c_types.specs.Types.{Opened, same, same_layer, same_layers, same_integer, same_base, base_of, layers_of}
 use Rattle.c_types.specs.Types.{each_holds, same_at, same_layer_rule, same_rule}
-use Rattle.c_type_refs.specs.Codes.{kind_code, base_code, digits, more_digits, array_code, joined, layer_rule, type_rule}
-use Rattle.c_type_refs.specs.Codes.{function_code, layer_code, type_code, codes}
+use Rattle.c_type_refs.specs.Codes.{kind_code, base_code, digits, more_digits, array_code, joined, layer_rule}
+use Rattle.c_type_refs.specs.Codes.{type_rule, function_code, layer_code, type_code, codes}
 
 and_assoc : (a b c : Bool) → (a && (b && c)) ≡ ((a && b) && c)
 and_assoc true b c = refl

@@ -9,8 +9,8 @@ use Rattle.c_types.specs.declared.ctype.Layer.{Layer, out-Layer}
 use Rattle.c_types.specs.declared.ctype.Layer.TheFolds.{fold_out-Layer, fold_out-CType, map-Layer}
 use Rattle.c_type_refs.specs.declared.code.Code.{Code}
 use Rattle.c_types.specs.Types.{Opened, base_of, layers_of, outermost}
-use Rattle.c_type_refs.specs.Codes.{base_code, layer_rule, type_rule, layer_code, type_code, codes, closed, ends, end_of}
-use Rattle.c_type_refs.specs.Codes.{code_of, codes_in, codes_of_list, codes_of_lists}
+use Rattle.c_type_refs.specs.Codes.{base_code, layer_rule, type_rule, layer_code, type_code, codes, closed, ends}
+use Rattle.c_type_refs.specs.Codes.{end_of, code_of, codes_in, codes_of_list, codes_of_lists}
 use Rattle.c_type_refs.specs.Shared.{AreLent, AreTypes, CodesOf}
 
 -- ---- what is written

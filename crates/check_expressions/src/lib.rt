@@ -1,5 +1,5 @@
-//! The rules of the productions of expressions with operators: from what the parts are to what the node is, with what the
-//! walk knows then.
+//! The rules of the productions of expressions with operators: from what the parts are to what the node is, with what
+//! the walk knows then.
 #![tactic(auto)]
 
 mod nodes;

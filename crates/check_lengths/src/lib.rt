@@ -1,4 +1,5 @@
-//! The length that an initializer gives an array: how many values it has, or the bytes of its string with the zero byte.
+//! The length that an initializer gives an array: how many values it has, or the bytes of its string with the zero
+//! byte.
 #![tactic(auto)]
 
 ghost use Rattle.std.specs.Prelude.{◌≡◌, ◌+◌, min, length};

@@ -117,8 +117,8 @@ fn cast_breaks(t: &TypeRef, v: &Value) -> Option<FaultKind>
     unless_void(v, unless_kind(ok, FaultKind::BadOperand))
 }
 
-/// A cast to this type: of integers and pointers to integers and pointers, and of anything to void. Refused: VoidValue, or
-/// BadOperand.
+/// A cast to this type: of integers and pointers to integers and pointers, and of anything to void. Refused: VoidValue,
+/// or BadOperand.
 #[tactic(auto, unfolding(check_operands::specs::Operands::cast))]
 pub fn cast(alloc: Global, line: u32, t: TypeRef, v: Value) -> Result<Operand, Deny>
     ensures { Checks result (spec.cast line t v) }

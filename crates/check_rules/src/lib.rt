@@ -1,8 +1,8 @@
 //! What the walk of the checker knows, what names are where they stand, and all rules of expressions and statements as
 //! definitions, tied by one fold over the types of the tree, with laws on it. The code here declares a name; the other
 //! steps on what the walk knows stand in `check_names` and `check_functions`, the rules of productions in
-//! `check_primaries`, `check_expressions`, `check_staging`, `check_declarations` and `check_statements`, and the walk in
-//! `check_walk`.
+//! `check_primaries`, `check_expressions`, `check_staging`, `check_declarations` and `check_statements`, and the walk
+//! in `check_walk`.
 #![tactic(auto)]
 
 mod functions;

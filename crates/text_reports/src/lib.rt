@@ -1,5 +1,5 @@
-//! What trials print of texts: the tokens of each, its first static fault, of its ticks the captures, and the ops of its
-//! functions; and the run-time routines, which are the same for all.
+//! What trials print of texts: the tokens of each, its first static fault, of its ticks the captures, and the ops of
+//! its functions; and the run-time routines, which are the same for all.
 //!
 //! Each report is of what a text was made into, and none reads a tree or checks one: so they are proved beside the
 //! parser and the checker, and `trial_texts` puts these in front of them.

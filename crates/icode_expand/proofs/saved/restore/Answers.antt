@@ -21,7 +21,11 @@ loop-place-preserved c =
         rw w.code-is (omega arith),
       )
       | else-has w ↦ (
-        simp (w.code-is, c.loop-place.invariant.0, restores_still c.args.saved.now _ c.loop-place-test.true (sym c.has.ensures ∙ w.if-has.false)),
+        simp (
+          w.code-is,
+          c.loop-place.invariant.0,
+          restores_still c.args.saved.now _ c.loop-place-test.true (sym c.has.ensures ∙ w.if-has.false),
+        ),
         rw w.code-is (omega arith),
       )
     ]
