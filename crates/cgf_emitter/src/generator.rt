@@ -13,7 +13,7 @@ use cgf_spec::Piece;
 use icode_ir::{BuildOp, code, first_argument, second_argument};
 use icode_ops::CaptureIndex;
 use icode_templates::Snippet;
-use icode_templates::assembly::{addiu, addu, jr, lui, lw, nop, ori, sll, sw};
+use mips_assembly::{addiu, addu, jr, lui, lw, nop, ori, sll, sw};
 use mips_encoder::{Instr, LinkPair, Register};
 use sqlite_items::Items;
 use std::alloc::{AllocError, Global};

@@ -3,6 +3,9 @@
 //! in `tick_cgf`.
 #![tactic(auto)]
 
+mod body;
 mod pieces;
+pub mod places;
 
+pub use body::{begin, end};
 pub use pieces::{Exits, Join, Pieces, Selector, Turn};

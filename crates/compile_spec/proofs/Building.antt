@@ -15,7 +15,7 @@ use Rattle.mips_model.specs.Laws.{HasAt, at, Reaches}
 use Rattle.mips_model.proofs.Reach.{front, back, step_acts}
 use Rattle.icode_ir.specs.declared.build_op.BuildOp.{BuildOp}
 use Rattle.icode_ir.specs.declared.build_op.BuildOp.TheVariants.{Return}
-use Rattle.icode_templates.specs.Assembly.{lw, sw, ori, addiu, jalr, bne, syscall}
+use Rattle.mips_assembly.specs.Assembly.{lw, sw, ori, addiu, jalr, bne, syscall}
 use Rattle.icode_templates_proof.proofs.Leaves.{Leaves, leaves_on, leaves_run}
 use Rattle.icode_templates_proof.proofs.Memory.{update_same, update_other}
 use Rattle.icode_templates_proof.proofs.Jumps.{in_slot}

@@ -15,7 +15,7 @@ use Rattle.mips_model.specs.Laws.{HasAt, at, Reaches}
 use Rattle.mips_encoder.specs.Addresses.{past}
 use Rattle.mips_model.proofs.Reach.{front, back, reaches_on, step_acts}
 use Rattle.meaning_state.specs.Rows.{arena_words}
-use Rattle.icode_templates.specs.Assembly.{lw, sw, srl, addiu, addu, ori, jr, syscall}
+use Rattle.mips_assembly.specs.Assembly.{lw, sw, srl, addiu, addu, ori, jr, syscall}
 use Rattle.icode_templates_proof.proofs.Leaves.{Leaves, leaves_on, leaves_run}
 use Rattle.icode_templates_proof.proofs.Memory.{update_other}
 use Rattle.icode_templates_proof.proofs.Jumps.{in_slot}

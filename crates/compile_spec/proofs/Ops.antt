@@ -23,7 +23,7 @@ use Rattle.meaning_state.specs.Shared.{Shared}
 use Rattle.meaning_state.specs.Rows.{specification_at, arena_words, table_trap, arena_trap, next_function}
 use Rattle.staged_meaning.specs.Program.{syntax_size}
 use Rattle.icode_templates.specs.Layout.{Spot}
-use Rattle.icode_templates.specs.Assembly.{addu}
+use Rattle.mips_assembly.specs.Assembly.{addu}
 use Rattle.icode_templates.specs.Templates.{in_code, out_code, routine_code, routine_address}
 use Rattle.icode_templates_proof.specs.Spots.{pointer, value, Framed, Usable, KeepsSpots, IsOther, IsKept}
 use Rattle.icode_templates_proof.specs.Moves.{Runs, Writes, EndsIn}

@@ -6,7 +6,7 @@ use Rattle.std.proofs.lemmas.List.Elements.{filter-append}
 use Rattle.std.proofs.lemmas.List.{take_more, append-nil}
 use Rattle.mips_encoder.specs.Table.{word_of}
 use Rattle.mips_encoder.specs.declared.instruction.Instr.{Instr}
-use Rattle.icode_templates.specs.Assembly.{lw, sw, sp}
+use Rattle.mips_assembly.specs.Assembly.{lw, sw, sp}
 use Rattle.icode_templates.specs.Layout.{place_register}
 use Rattle.icode_templates.specs.Words.{words}
 use Rattle.icode_templates.proofs.Appended.{words_append}

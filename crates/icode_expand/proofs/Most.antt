@@ -13,7 +13,7 @@ use Rattle.icode_ops.specs.declared.op.Op.TheVariants.{Const, Move, Bin, CheckDi
 use Rattle.icode_ops.specs.declared.op.Op.TheVariants.{Load, Store, Clear, Label, Jump, BranchZero, BranchNonzero}
 use Rattle.icode_ops.specs.declared.op.Op.TheVariants.{Argument, GetParameter, Call, CallNumber, Result, Return}
 use Rattle.icode_ops.specs.declared.op.Op.TheVariants.{ReturnZero, Sys, Run, New, Put}
-use Rattle.icode_templates.specs.Assembly.{t8, t9}
+use Rattle.mips_assembly.specs.Assembly.{t8, t9}
 use Rattle.icode_templates.specs.Layout.{Spot, InRegister, InSlot, Layout, laid, parameter_spot}
 use Rattle.icode_templates.specs.Templates.{Aim, load_code, wait_code, out_code, bin_core, un_core, template}
 use Rattle.icode_templates.specs.Frames.{saves, restores, enter_count, leave_count}

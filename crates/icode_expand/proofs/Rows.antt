@@ -1,7 +1,7 @@
 -- The definitions computed, row by row, against the words of the design of this code generator, which were written down
 -- apart from the definitions: each row of instructions is what stands there. An edit of a definition breaks its rows.
 use Rattle.std.specs.Prelude.{◌≡◌, true, false, [], ◌∷◌, refl}
-use Rattle.icode_templates.specs.Assembly.{addu, subu, sltu, sll, addiu, ori, lui, lw, sw, beq, jr, trap}
+use Rattle.mips_assembly.specs.Assembly.{addu, subu, sltu, sll, addiu, ori, lui, lw, sw, beq, jr, trap}
 use Rattle.icode_templates.specs.Frames.{prologue, epilogue}
 
 prologue-plain-unsaved-static : prologue 1024 0 ([]) false ≡ lui 1 0 ∷ ori 1 1 1024 ∷ subu 24 29 1 ∷ lui 25 32512 ∷ sltu

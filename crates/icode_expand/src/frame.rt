@@ -7,7 +7,7 @@ ghost use Rattle.icode_templates.specs.Words.{words};
 use crate::saved::{restore, save};
 use icode_saves::Saved;
 use icode_templates::Snippet;
-use icode_templates::assembly::{addiu, addu, jr, lui, lw, nop, sltu, subu, sw};
+use mips_assembly::{addiu, addu, jr, lui, lw, nop, sltu, subu, sw};
 use mips_encoder::Register;
 
 const T8: Register = Register::T8;

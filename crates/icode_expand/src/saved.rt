@@ -7,7 +7,7 @@ ghost use Rattle.icode_templates.specs.Words.{words};
 
 use icode_saves::Saved;
 use icode_templates::Snippet;
-use icode_templates::assembly::{lw, sw};
+use mips_assembly::{lw, sw};
 use mips_encoder::Register;
 
 // The register of a place.

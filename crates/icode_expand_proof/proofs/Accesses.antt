@@ -16,7 +16,7 @@ use Rattle.mips_model.specs.Laws.{at}
 use Rattle.mips_model.proofs.Reach.{past_append}
 use Rattle.icode_ops.specs.declared.op.Op.TheVariants.{Load, Store}
 use Rattle.icode_templates.specs.Layout.{Spot}
-use Rattle.icode_templates.specs.Assembly.{nop}
+use Rattle.mips_assembly.specs.Assembly.{nop}
 use Rattle.icode_templates.specs.Templates.{in_code, in_two_code, out_code, range_check, load_instruction}
 use Rattle.icode_templates.specs.Templates.{store_instruction}
 use Rattle.icode_meaning.specs.State.{Function, Frame, Log, State, nothing, least_at}

@@ -11,7 +11,7 @@ use Rattle.mips_model.specs.State.{Data}
 use Rattle.mips_model.specs.Laws.{at}
 use Rattle.icode_ops.specs.declared.op.Op.TheVariants.{Argument, GetParameter, Result}
 use Rattle.icode_ops.specs.Places.{place_of}
-use Rattle.icode_templates.specs.Assembly.{sw, addu}
+use Rattle.mips_assembly.specs.Assembly.{sw, addu}
 use Rattle.icode_templates.specs.Layout.{InSlot, slot, spot_of, parameter_spot}
 use Rattle.icode_templates.specs.Templates.{in_code, out_code}
 use Rattle.icode_meaning.specs.State.{Frame, Log, Running, argued}

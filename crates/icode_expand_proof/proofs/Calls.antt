@@ -10,7 +10,7 @@ use Rattle.mips_model.proofs.Reach.{step_acts}
 use Rattle.icode_ops.specs.declared.op.Op.{Op}
 use Rattle.icode_ops.specs.declared.op.Op.TheVariants.{Call}
 use Rattle.icode_ops.specs.Flow.{defined, falls, holds}
-use Rattle.icode_templates.specs.Assembly.{jal, nop}
+use Rattle.mips_assembly.specs.Assembly.{jal, nop}
 use Rattle.icode_meaning.specs.State.{Function, Frame, Log}
 use Rattle.icode_meaning.specs.Steps.{paid, moved_on, call_at}
 use Rattle.icode_templates_proof.specs.Spots.{frame_word, SameWorld}

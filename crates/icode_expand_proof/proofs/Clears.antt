@@ -15,7 +15,7 @@ use Rattle.mips_model.specs.Effects.{effect}
 use Rattle.mips_model.specs.Steps.{branch_target}
 use Rattle.mips_model.specs.Laws.{HasAt, at, Reaches}
 use Rattle.mips_model.proofs.Reach.{carry, through, reaches_on}
-use Rattle.icode_templates.specs.Assembly.{addu, addiu, sw, bne, constant}
+use Rattle.mips_assembly.specs.Assembly.{addu, addiu, sw, bne, constant}
 use Rattle.icode_templates.specs.Templates.{clear_loop}
 use Rattle.icode_templates_proof.specs.Spots.{KeepsSpots}
 use Rattle.icode_templates_proof.proofs.Leaves.{Leaves, leaves_on, leaves_run}

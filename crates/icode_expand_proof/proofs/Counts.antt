@@ -13,7 +13,7 @@ use Rattle.icode_expand_proof.specs.Frames.{Counted, counted_cells}
 use Rattle.icode_templates_proof.proofs.Memory.{update_other}
 use Rattle.icode_templates_proof.proofs.Leaves.{Leaves, leaves_on, leaves_run}
 use Rattle.icode_templates_proof.proofs.Keeping.{with_registers}
-use Rattle.icode_templates.specs.Assembly.{lw, sw, nop, addiu}
+use Rattle.mips_assembly.specs.Assembly.{lw, sw, nop, addiu}
 
 -- the data behind the count's code
 abbrev pub count_data : ℕ → Data → Data

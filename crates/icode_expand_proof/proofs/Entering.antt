@@ -18,7 +18,7 @@ use Rattle.mips_model.specs.Effects.{effect}
 use Rattle.mips_model.specs.Steps.{step, going, ended}
 use Rattle.mips_model.specs.Laws.{HasAt, at, Reaches}
 use Rattle.mips_model.proofs.Reach.{step_acts, reaches_on}
-use Rattle.icode_templates.specs.Assembly.{addu, subu, sltu, ori, lui, sw, beq, jr, syscall, nop, constant}
+use Rattle.mips_assembly.specs.Assembly.{addu, subu, sltu, ori, lui, sw, beq, jr, syscall, nop, constant}
 use Rattle.icode_templates.specs.Frames.{saves, take_frame}
 use Rattle.icode_saves.specs.Laws.{AllPlaces}
 use Rattle.icode_templates_proof.specs.Spots.{pointer, frame_word, Framed, IsKept, SameWorld, KeepsSpots}

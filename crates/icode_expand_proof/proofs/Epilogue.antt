@@ -11,7 +11,7 @@ use Rattle.mips_model.specs.State.{Code, Data}
 use Rattle.mips_model.specs.Effects.{touches}
 use Rattle.mips_model.specs.Laws.{HasAt, at, Reaches}
 use Rattle.mips_model.proofs.Reach.{front, back, reaches_on}
-use Rattle.icode_templates.specs.Assembly.{subu, lw, jr, nop, constant}
+use Rattle.mips_assembly.specs.Assembly.{subu, lw, jr, nop, constant}
 use Rattle.icode_templates.specs.Layout.{place_register}
 use Rattle.icode_templates.specs.Frames.{restores, free_frame, free_objects}
 use Rattle.icode_saves.specs.Laws.{AllPlaces, Rising}

@@ -25,7 +25,7 @@ use Rattle.icode_ops.specs.Labels.{label_index}
 use Rattle.icode_ops.specs.Kinds.{sys_number, run_number}
 use Rattle.icode_ops.specs.Finished.{InRange}
 use Rattle.icode_ops.specs.Places.{place_of}
-use Rattle.icode_templates.specs.Assembly.{addu, subu, sltu, lui, bne, beq, j, nop, trap, constant}
+use Rattle.mips_assembly.specs.Assembly.{addu, subu, sltu, lui, bne, beq, j, nop, trap, constant}
 use Rattle.icode_templates.specs.Words.{words}
 use Rattle.icode_templates.specs.Layout.{Spot, InRegister, InSlot, Layout, parameter_spot}
 use Rattle.icode_templates.specs.Templates.{Aim, ToLabel, ToEpilogue, load_code, wait_code, in_code, in_two_code}

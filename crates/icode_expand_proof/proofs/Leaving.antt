@@ -4,7 +4,7 @@ use Rattle.std.proofs.Common.{sym, ap, ◌∙◌, subst, arith, if◌then◌else
 use Rattle.mips_encoder.specs.Addresses.{past}
 use Rattle.mips_model.specs.Laws.{HasAt, at}
 use Rattle.mips_model.proofs.Reach.{front, back, reaches_on}
-use Rattle.icode_templates.specs.Assembly.{lw}
+use Rattle.mips_assembly.specs.Assembly.{lw}
 use Rattle.icode_templates.specs.Frames.{save_offset, restores, free_frame, free_objects, leave_count}
 use Rattle.icode_saves.specs.Places.{has, saved}
 use Rattle.icode_saves.proofs.Kept.{saved_are}

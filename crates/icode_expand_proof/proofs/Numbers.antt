@@ -13,7 +13,7 @@ use Rattle.mips_model.specs.Effects.{effect}
 use Rattle.mips_model.specs.Steps.{Is, fetch, going, step, apply, is_hazard, load_hazard, recent_behind, branch_target}
 use Rattle.mips_model.specs.Laws.{HasAt, at, Reaches}
 use Rattle.mips_model.proofs.Reach.{step_acts, reaches_on}
-use Rattle.icode_templates.specs.Assembly.{lw, srl, sll, bne, beq, addu, xori, trap, jalr}
+use Rattle.mips_assembly.specs.Assembly.{lw, srl, sll, bne, beq, addu, xori, trap, jalr}
 use Rattle.icode_templates.specs.Templates.{number_call}
 use Rattle.host_edge.specs.declared.ending.Ending.TheVariants.{Trap}
 use Rattle.host_edge.specs.declared.ending.TrapKind.TheVariants.{BadCall}

@@ -21,7 +21,7 @@ use Rattle.mips_model.specs.Effects.{effect}
 use Rattle.mips_model.specs.Steps.{step, going, ended}
 use Rattle.mips_model.specs.Laws.{HasAt, at, Reaches}
 use Rattle.mips_model.proofs.Reach.{step_acts, reaches_on}
-use Rattle.icode_templates.specs.Assembly.{addu, sltu, lui, beq, nop, constant, trap}
+use Rattle.mips_assembly.specs.Assembly.{addu, sltu, lui, beq, nop, constant, trap}
 use Rattle.icode_templates.specs.Frames.{take_frame, take_objects}
 use Rattle.icode_templates_proof.specs.Spots.{pointer, SameWorld}
 use Rattle.icode_templates_proof.proofs.Memory.{update_same, update_other}

@@ -14,7 +14,7 @@ use Rattle.mips_model.specs.Steps.{Is, fetch, going, apply, is_hazard, recent_be
 use Rattle.mips_model.specs.Laws.{HasAt, at}
 use Rattle.mips_model.proofs.Reach.{step_acts}
 use Rattle.icode_templates.specs.Layout.{Spot, InRegister, InSlot}
-use Rattle.icode_templates.specs.Assembly.{lw}
+use Rattle.mips_assembly.specs.Assembly.{lw}
 use Rattle.icode_templates.specs.Templates.{load_code}
 use Rattle.icode_templates_proof.specs.Spots.{pointer, Framed, Usable}
 use Rattle.icode_templates_proof.specs.Moves.{behind}

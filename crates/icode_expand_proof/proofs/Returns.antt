@@ -17,7 +17,7 @@ use Rattle.mips_model.specs.Laws.{at}
 use Rattle.mips_model.proofs.Reach.{front, back, past_append, reaches_on}
 use Rattle.icode_ops.specs.declared.op.Op.{Op}
 use Rattle.icode_ops.specs.declared.op.Op.TheVariants.{Return, ReturnZero}
-use Rattle.icode_templates.specs.Assembly.{addu}
+use Rattle.mips_assembly.specs.Assembly.{addu}
 use Rattle.icode_templates.specs.Templates.{in_code, leave_code}
 use Rattle.icode_meaning.specs.State.{Function, Frame, Log, nothing, see}
 use Rattle.icode_meaning.specs.Steps.{uses_on, paid, left, back as given_back}

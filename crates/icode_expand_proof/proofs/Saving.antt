@@ -10,7 +10,7 @@ use Rattle.mips_model.specs.State.{Data}
 use Rattle.mips_model.specs.Effects.{touches}
 use Rattle.mips_model.specs.Steps.{load_hazard}
 use Rattle.icode_templates.specs.Layout.{place_register}
-use Rattle.icode_templates.specs.Assembly.{lw, sw}
+use Rattle.mips_assembly.specs.Assembly.{lw, sw}
 use Rattle.icode_templates.specs.Frames.{save_offset, saves, restores}
 use Rattle.icode_saves.specs.Laws.{AllPlaces, Rising}
 use Rattle.icode_templates_proof.specs.Spots.{pointer, frame_word, Framed, SameWorld}

@@ -8,7 +8,7 @@ use Rattle.mips_model.specs.Laws.{HasAt}
 use Rattle.icode_ops.specs.Flow.{op_at}
 use Rattle.icode_ops.specs.Finished.{InRange}
 use Rattle.icode_ops.specs.Places.{IsLegal}
-use Rattle.icode_templates.specs.Assembly.{addu, ori, syscall}
+use Rattle.mips_assembly.specs.Assembly.{addu, ori, syscall}
 use Rattle.icode_templates.specs.Layout.{Layout, laid}
 use Rattle.icode_templates.specs.Templates.{ToEpilogue}
 use Rattle.icode_templates.specs.Frames.{prologue, epilogue}

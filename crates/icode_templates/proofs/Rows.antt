@@ -1,9 +1,9 @@
 -- The definitions computed, row by row, against the words of the design of this code generator, which were written down
 -- apart from the definitions: each row of instructions is what stands there. An edit of a definition breaks its rows.
 use Rattle.std.specs.Prelude.{ℕ, ◌≡◌, [], ◌∷◌, refl}
-use Rattle.icode_templates.specs.Assembly.{addu, subu, and, or, xor, nor, slt, sltu, sll, srl, sra, sllv, srlv, srav}
-use Rattle.icode_templates.specs.Assembly.{mult, div, divu, mflo, mfhi, addiu, sltiu, andi, ori, xori, lui, lb, lbu, lh}
-use Rattle.icode_templates.specs.Assembly.{lhu, lw, sb, sh, sw, beq, bne, j, jal, jalr, syscall, trap}
+use Rattle.mips_assembly.specs.Assembly.{addu, subu, and, or, xor, nor, slt, sltu, sll, srl, sra, sllv, srlv, srav}
+use Rattle.mips_assembly.specs.Assembly.{mult, div, divu, mflo, mfhi, addiu, sltiu, andi, ori, xori, lui, lb, lbu, lh}
+use Rattle.mips_assembly.specs.Assembly.{lhu, lw, sb, sh, sw, beq, bne, j, jal, jalr, syscall, trap}
 use Rattle.icode_ops.specs.declared.kind.BinKind.TheVariants as bin
 use Rattle.icode_ops.specs.declared.kind.UnKind.TheVariants as un
 use Rattle.icode_ops.specs.declared.kind.SysKind.TheVariants as sys

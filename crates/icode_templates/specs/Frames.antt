@@ -7,8 +7,8 @@
 -- counts its active calls in a cell below $gp. These are the project's own rules.
 use Rattle.std.specs.Prelude.{ℕ, ◌+◌, ◌*◌, Bool, true, false, nat_eq, if◌then◌else◌, List, [], ◌∷◌, ◌++◌}
 use Rattle.mips_encoder.specs.declared.instruction.Instr.{Instr}
-use Rattle.icode_templates.specs.Assembly.{scratch, t8, t9, gp, sp, fp, ra, addu, subu, sltu, addiu, lui, lw, sw, jr}
-use Rattle.icode_templates.specs.Assembly.{nop, constant}
+use Rattle.mips_assembly.specs.Assembly.{scratch, t8, t9, gp, sp, fp, ra, addu, subu, sltu, addiu, lui, lw, sw, jr}
+use Rattle.mips_assembly.specs.Assembly.{nop, constant}
 use Rattle.icode_templates.specs.Layout.{place_register}
 use Rattle.icode_templates.specs.Templates.{trap_unless_zero}
 

@@ -1,4 +1,3 @@
-pub mod Assembly
 pub mod Words
 pub mod Layout
 pub mod Templates

@@ -18,10 +18,10 @@ use Rattle.icode_ops.specs.declared.op.Op.TheVariants.{Const, Move, Bin, CheckDi
 use Rattle.icode_ops.specs.declared.op.Op.TheVariants.{Load, Store, Clear, Label, Jump, BranchZero, BranchNonzero}
 use Rattle.icode_ops.specs.declared.op.Op.TheVariants.{Argument, GetParameter, Call, CallNumber, Result, Return}
 use Rattle.icode_ops.specs.declared.op.Op.TheVariants.{ReturnZero, Sys, Run, New, Put}
-use Rattle.icode_templates.specs.Assembly.{scratch, v0, a0, a1, a2, t8, t9, gp, sp, fp, ra, addu, subu, and, or, xor}
-use Rattle.icode_templates.specs.Assembly.{nor, slt, sltu, sll, srl, sra, sllv, srlv, srav, mult, div, divu, mflo, mfhi}
-use Rattle.icode_templates.specs.Assembly.{addiu, sltiu, andi, ori, xori, lui, lb, lbu, lh, lhu, lw, sb, sh, sw, beq}
-use Rattle.icode_templates.specs.Assembly.{bne, j, jal, jalr, syscall, trap, nop, constant}
+use Rattle.mips_assembly.specs.Assembly.{scratch, v0, a0, a1, a2, t8, t9, gp, sp, fp, ra, addu, subu, and, or, xor}
+use Rattle.mips_assembly.specs.Assembly.{nor, slt, sltu, sll, srl, sra, sllv, srlv, srav, mult, div, divu, mflo, mfhi}
+use Rattle.mips_assembly.specs.Assembly.{addiu, sltiu, andi, ori, xori, lui, lb, lbu, lh, lhu, lw, sb, sh, sw, beq}
+use Rattle.mips_assembly.specs.Assembly.{bne, j, jal, jalr, syscall, trap, nop, constant}
 use Rattle.icode_templates.specs.Layout.{Spot, InRegister, InSlot, Layout, parameter_spot}
 use Rattle.word32.specs.declared.map.TheConstants.{ROUTINE_BYTES, RT_NEW, START}
 

@@ -2,15 +2,15 @@
 
 ghost use Rattle.std.specs.Prelude.{◌≡◌, ◌+◌, ◌*◌, ◌++◌, ◌<◌, ◌≤◌, ◌∷◌, [], length};
 ghost use Rattle.word32.specs.declared.map.TheConstants.{SEGMENT_BYTES};
-ghost use Rattle.icode_templates.specs.Assembly as assembly;
+ghost use Rattle.mips_assembly.specs.Assembly as assembly;
 ghost use Rattle.icode_templates.specs.Templates.{in_code, out_code, number_row, count_check, number_call};
 ghost use Rattle.icode_templates.specs.Words.{words};
 ghost use Rattle.icode_templates.specs.Seen.{spot_seen};
 
-use crate::assembly::{addu, beq, bne, j, jal, jalr_of_t8, lw, nop, sll, srl, sw, xori};
 use crate::snippet::Snippet;
 use crate::spot::Spot;
 use icode_ops::{ArgumentCount, ArgumentIndex, CallAddress};
+use mips_assembly::{addu, beq, bne, j, jal, jalr_of_t8, lw, nop, sll, srl, sw, xori};
 use mips_encoder::Register;
 
 const T8: Register = Register::T8;

@@ -2,7 +2,6 @@
 //! `icode_expand` gives: its prologue, the templates of its ops, and its epilogue.
 #![tactic(auto)]
 
-pub mod assembly;
 mod control;
 mod memory;
 mod operands;

@@ -2,7 +2,7 @@
 
 ghost use Rattle.std.specs.Prelude.{◌≡◌, ◌+◌, ◌*◌, ◌++◌, ◌<◌, ◌≤◌, ◌∷◌, [], length};
 ghost use Rattle.word32.specs.declared.map.TheConstants.{OBJECT_BYTES};
-ghost use Rattle.icode_templates.specs.Assembly as assembly;
+ghost use Rattle.mips_assembly.specs.Assembly as assembly;
 ghost use Rattle.icode_templates.specs.Layout.{laid};
 ghost use Rattle.icode_templates.specs.Templates.{in_code, in_two_code, out_code, clear_loop, range_check as range_checking};
 ghost use Rattle.icode_templates.specs.Templates.{object_address as address_of_object, put_code};
@@ -10,10 +10,10 @@ ghost use Rattle.icode_templates.specs.Templates.{load_instruction as loading, s
 ghost use Rattle.icode_templates.specs.Words.{words};
 ghost use Rattle.icode_templates.specs.Seen.{spot_seen};
 
-use crate::assembly::{addiu, addu, bne, lui, lw, nop, srl, sw, xori};
 use crate::snippet::Snippet;
 use crate::spot::{Layout, Spot};
 use icode_ops::CaptureIndex;
+use mips_assembly::{addiu, addu, bne, lui, lw, nop, srl, sw, xori};
 use mips_encoder::{Immediate, Instr, MemoryOp, Register};
 use word32::Width;
 

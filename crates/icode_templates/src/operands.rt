@@ -1,15 +1,15 @@
 //! How values come to `$t8` and `$t9` and from there to their spots.
 
 ghost use Rattle.std.specs.Prelude.{◌≡◌, ◌+◌, ◌++◌, ◌<◌, ◌≤◌, length};
-ghost use Rattle.icode_templates.specs.Assembly as assembly;
+ghost use Rattle.mips_assembly.specs.Assembly as assembly;
 ghost use Rattle.icode_templates.specs.Templates.{reach_code, load_code, wait_code, in_code, in_two_code, out_code};
 ghost use Rattle.icode_templates.specs.Templates.{trap_if_zero as trapping_if_zero, trap_unless_zero as trapping_unless_zero};
 ghost use Rattle.icode_templates.specs.Words.{words};
 ghost use Rattle.icode_templates.specs.Seen.{spot_seen};
 
-use crate::assembly::{addu, beq, bne, lui, lw, nop, ori, sw, trap};
 use crate::snippet::Snippet;
 use crate::spot::{SlotOffset, Spot};
+use mips_assembly::{addu, beq, bne, lui, lw, nop, ori, sw, trap};
 use mips_encoder::Register;
 
 #[tactic(auto, using(crate::proofs::Appended::words_append))]

@@ -2,20 +2,20 @@
 
 ghost use Rattle.std.specs.Prelude.{◌≡◌, ◌+◌, ◌++◌, ◌≤◌, ◌∷◌, [], length};
 ghost use Rattle.mips_encoder.specs.Table.{word_of};
-ghost use Rattle.icode_templates.specs.Assembly as assembly;
+ghost use Rattle.mips_assembly.specs.Assembly as assembly;
 ghost use Rattle.icode_templates.specs.Templates.{in_code, in_two_code, out_code};
 ghost use Rattle.icode_templates.specs.Templates.{bin_core as core_of_bin, un_core as core_of_un, division_check};
 ghost use Rattle.icode_templates.specs.Templates.{trap_if_zero as trapping_if_zero};
 ghost use Rattle.icode_templates.specs.Words.{words};
 ghost use Rattle.icode_templates.specs.Seen.{spot_seen};
 
-use crate::assembly::{
-    addiu, addu, and, andi, bne, div, divu, lui, mfhi, mflo, mult, nop, nor, or, sll, sllv, slt,
-    sltiu, sltu, sra, srav, srlv, subu, trap, xor, xori,
-};
 use crate::snippet::Snippet;
 use crate::spot::Spot;
 use icode_ops::{BinKind, UnKind};
+use mips_assembly::{
+    addiu, addu, and, andi, bne, div, divu, lui, mfhi, mflo, mult, nop, nor, or, sll, sllv, slt,
+    sltiu, sltu, sra, srav, srlv, subu, trap, xor, xori,
+};
 use mips_encoder::{Instr, Register};
 
 const T8: Register = Register::T8;

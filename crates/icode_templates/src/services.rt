@@ -2,15 +2,15 @@
 
 ghost use Rattle.std.specs.Prelude.{◌≡◌, ◌+◌, ◌++◌, ◌≤◌, ◌∷◌, [], length};
 ghost use Rattle.icode_ops.specs.Kinds.{sys_number, run_number, closure_number};
-ghost use Rattle.icode_templates.specs.Assembly as assembly;
+ghost use Rattle.mips_assembly.specs.Assembly as assembly;
 ghost use Rattle.icode_templates.specs.Templates.{in_code, out_code, service_code, routine_code, new_address};
 ghost use Rattle.icode_templates.specs.Words.{words};
 ghost use Rattle.icode_templates.specs.Seen.{spot_seen};
 
-use crate::assembly::{addu, ori};
 use crate::snippet::Snippet;
 use crate::spot::Spot;
 use icode_ops::{ClosureKind, RunKind, SysKind};
+use mips_assembly::{addu, ori};
 use mips_encoder::{Instr, Register};
 use word32::map;
 

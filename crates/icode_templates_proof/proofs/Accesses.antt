@@ -12,7 +12,7 @@ use Rattle.host_edge.specs.declared.ending.TrapKind.TheVariants.{Misaligned}
 use Rattle.mips_model.specs.State.{Data, register, set_register}
 use Rattle.mips_model.specs.Accesses.{Plain, Loads, Ends, load, store, load_in, store_in}
 use Rattle.mips_model.specs.Effects.{effect}
-use Rattle.icode_templates.specs.Assembly.{lw, sw}
+use Rattle.mips_assembly.specs.Assembly.{lw, sw}
 use Rattle.icode_templates_proof.specs.Closures.{word_at, with_word}
 
 even_word : (x : ℕ) → x % 4 ≡ 0 → is_aligned x Word ≡ true

@@ -13,7 +13,7 @@ use Rattle.mips_encoder.specs.Addresses.{past}
 use Rattle.mips_model.specs.Laws.{HasAt, at, Reaches}
 use Rattle.mips_model.proofs.Reach.{front, back, reaches_on}
 use Rattle.meaning_state.specs.Shared.{Shared, malloc_answer}
-use Rattle.icode_templates.specs.Assembly.{bne}
+use Rattle.mips_assembly.specs.Assembly.{bne}
 use Rattle.icode_templates_proof.specs.Spots.{KeepsSpots}
 use Rattle.icode_templates_proof.proofs.Leaves.{leaves_run, runs_within}
 use Rattle.icode_templates_proof.proofs.Keeping.{with_registers, keeps_same}

@@ -20,7 +20,7 @@ use Rattle.mips_model.specs.Laws.{HasAt, at, Reaches}
 use Rattle.mips_model.proofs.Reach.{front, back, reaches_on}
 use Rattle.meaning_state.specs.Shared.{Shared}
 use Rattle.meaning_state.specs.Rows.{closure_bytes, closure_trap, next_number}
-use Rattle.icode_templates.specs.Assembly.{addiu, addu, sw, scratch}
+use Rattle.mips_assembly.specs.Assembly.{addiu, addu, sw, scratch}
 use Rattle.icode_templates.specs.Templates.{trap_unless_zero}
 use Rattle.icode_templates_proof.specs.Spots.{IsKept}
 use Rattle.icode_templates_proof.specs.Moves.{EndsIn}

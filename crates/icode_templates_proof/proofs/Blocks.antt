@@ -7,7 +7,7 @@ use Rattle.mips_model.specs.State.{Code, Data}
 use Rattle.mips_model.specs.Arithmetic.{bit}
 use Rattle.mips_model.specs.Laws.{HasAt, at, Reaches}
 use Rattle.mips_model.proofs.Reach.{step_acts}
-use Rattle.icode_templates.specs.Assembly.{jr}
+use Rattle.mips_assembly.specs.Assembly.{jr}
 use Rattle.icode_templates_proof.proofs.Leaves.{Leaves}
 use Rattle.icode_templates_proof.proofs.Keeping.{with_registers}
 use Rattle.icode_templates_proof.proofs.Jumps.{slot_runs}

@@ -9,7 +9,7 @@ use Rattle.mips_model.specs.State.{Code, Data}
 use Rattle.mips_model.specs.Laws.{HasAt, at}
 use Rattle.mips_model.proofs.Reach.{front, back, past_append}
 use Rattle.icode_templates.specs.Layout.{Spot}
-use Rattle.icode_templates.specs.Assembly.{addu}
+use Rattle.mips_assembly.specs.Assembly.{addu}
 use Rattle.icode_templates.specs.Templates.{in_code, out_code, routine_code, routine_address}
 use Rattle.icode_templates_proof.specs.Spots.{pointer, value, Framed, Usable, KeepsSpots}
 use Rattle.icode_templates_proof.specs.Moves.{Runs, Writes, EndsIn}

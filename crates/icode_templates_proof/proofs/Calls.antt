@@ -14,7 +14,7 @@ use Rattle.icode_ops.specs.Kinds.{run_number}
 use Rattle.icode_ops.specs.declared.kind.RunKind.TheVariants.{Malloc}
 use Rattle.meaning_state.specs.Shared.{Shared, malloc_answer}
 use Rattle.icode_templates.specs.Layout.{Spot}
-use Rattle.icode_templates.specs.Assembly.{addu, jal, nop}
+use Rattle.mips_assembly.specs.Assembly.{addu, jal, nop}
 use Rattle.icode_templates.specs.Templates.{in_code, out_code, routine_code, routine_address}
 use Rattle.icode_templates_proof.specs.Spots.{pointer, value, Framed, Usable, KeepsSpots}
 use Rattle.icode_templates_proof.specs.Moves.{Runs, Writes}

@@ -23,7 +23,7 @@ use Rattle.mips_model.specs.Steps.{load_hazard}
 use Rattle.mips_model.specs.Laws.{HasAt, at, Reaches}
 use Rattle.mips_model.proofs.Reach.{front, back, reaches_on}
 use Rattle.meaning_state.specs.Rows.{numbered}
-use Rattle.icode_templates.specs.Assembly.{scratch, addu, beq, lw, nop, sltu, sw}
+use Rattle.mips_assembly.specs.Assembly.{scratch, addu, beq, lw, nop, sltu, sw}
 use Rattle.icode_templates.specs.Templates.{trap_if_zero, trap_unless_zero}
 use Rattle.icode_templates_proof.specs.Spots.{IsKept}
 use Rattle.icode_templates_proof.specs.Moves.{EndsIn}

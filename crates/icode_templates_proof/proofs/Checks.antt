@@ -17,7 +17,7 @@ use Rattle.mips_encoder.specs.Addresses.{past}
 use Rattle.mips_model.specs.Laws.{HasAt, at, Reaches}
 use Rattle.mips_model.proofs.Reach.{step_acts, reaches_on, past_append, front, back}
 use Rattle.meaning_state.specs.Operators.{zero_trap}
-use Rattle.icode_templates.specs.Assembly.{bne, trap}
+use Rattle.mips_assembly.specs.Assembly.{bne, trap}
 use Rattle.icode_templates.specs.Layout.{Spot}
 use Rattle.icode_templates.specs.Templates.{in_code, trap_if_zero}
 use Rattle.icode_templates_proof.specs.Spots.{pointer, value, Framed, Usable}

@@ -17,7 +17,7 @@ use Rattle.mips_model.specs.Steps.{Is, fetch, going, apply, is_hazard, recent_be
 use Rattle.mips_model.specs.Laws.{HasAt, at, Reaches}
 use Rattle.mips_model.proofs.Reach.{step_acts, reaches_on, past_append, front, back}
 use Rattle.meaning_state.specs.Operators.{signed_trap}
-use Rattle.icode_templates.specs.Assembly.{addiu, bne, lui, nop, trap}
+use Rattle.mips_assembly.specs.Assembly.{addiu, bne, lui, nop, trap}
 use Rattle.icode_templates.specs.Layout.{Spot}
 use Rattle.icode_templates.specs.Templates.{in_two_code, trap_if_zero, division_check}
 use Rattle.icode_templates_proof.specs.Spots.{pointer, value, Framed, Usable, KeepsSpots}

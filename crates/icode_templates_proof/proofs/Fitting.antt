@@ -2,7 +2,7 @@
 use Rattle.std.proofs.Common.{◌≤◌, ◌++◌, length, arith}
 use Rattle.mips_model.proofs.Loaded.{AllFit, all_fit_append}
 use Rattle.mips_encoder.specs.Table.{Fits}
-use Rattle.icode_templates.specs.Assembly.{nop}
+use Rattle.mips_assembly.specs.Assembly.{nop}
 use Rattle.icode_templates_proof.specs.Malloc.{measure_code, pass_code, take_code, return_code, malloc_code}
 
 nop_fits : Fits nop

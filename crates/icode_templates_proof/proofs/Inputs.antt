@@ -7,7 +7,7 @@ use Rattle.mips_encoder.specs.Addresses.{past}
 use Rattle.mips_model.specs.Laws.{HasAt, at}
 use Rattle.mips_model.proofs.Reach.{step_acts}
 use Rattle.icode_templates.specs.Layout.{Spot}
-use Rattle.icode_templates.specs.Assembly.{syscall}
+use Rattle.mips_assembly.specs.Assembly.{syscall}
 use Rattle.icode_templates.specs.Templates.{in_code, out_code, service_code}
 use Rattle.icode_templates_proof.specs.Spots.{pointer, value, Framed, Usable}
 use Rattle.icode_templates_proof.specs.Laws.{heard, left_at_end}

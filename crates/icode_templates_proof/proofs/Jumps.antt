@@ -10,7 +10,7 @@ use Rattle.mips_model.specs.Effects.{effect}
 use Rattle.mips_model.specs.Steps.{Is, fetch, going, apply, is_hazard, recent_behind, step, branch_target}
 use Rattle.mips_model.specs.Laws.{HasAt, at, Reaches}
 use Rattle.mips_model.proofs.Reach.{step_acts, reaches_on}
-use Rattle.icode_templates.specs.Assembly.{beq, bne, j, nop}
+use Rattle.mips_assembly.specs.Assembly.{beq, bne, j, nop}
 
 -- a delay slot, and where control goes behind it
 abbrev pub in_slot : Code → ℕ → ℕ → Data → State

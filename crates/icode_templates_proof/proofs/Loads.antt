@@ -22,7 +22,7 @@ use Rattle.mips_model.specs.Laws.{HasAt, at}
 use Rattle.mips_model.proofs.Reach.{step_acts, front, back, past_append}
 use Rattle.meaning_state.specs.Shared.{access_trap}
 use Rattle.icode_templates.specs.Layout.{Spot}
-use Rattle.icode_templates.specs.Assembly.{nop}
+use Rattle.mips_assembly.specs.Assembly.{nop}
 use Rattle.icode_templates.specs.Templates.{in_code, out_code, range_check, load_instruction}
 use Rattle.icode_templates_proof.specs.Spots.{pointer, value, Framed, Usable}
 use Rattle.icode_templates_proof.specs.Laws.{fetching_code}

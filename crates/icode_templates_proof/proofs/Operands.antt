@@ -11,7 +11,7 @@ use Rattle.mips_encoder.specs.declared.instruction.Instr.{Instr}
 use Rattle.mips_model.specs.State.{Data}
 use Rattle.mips_model.specs.Steps.{load_hazard}
 use Rattle.icode_templates.specs.Layout.{Spot, InRegister, InSlot}
-use Rattle.icode_templates.specs.Assembly.{addu, lw, lui, nop}
+use Rattle.mips_assembly.specs.Assembly.{addu, lw, lui, nop}
 use Rattle.icode_templates.specs.Templates.{upper, lower, load_code, wait_code, in_code, in_two_code, out_code}
 use Rattle.icode_templates_proof.specs.Spots.{pointer, frame_word, value, Framed, Usable, IsKept, KeepsSpots, PutsTo}
 use Rattle.icode_templates_proof.proofs.Memory.{update_same, update_other}

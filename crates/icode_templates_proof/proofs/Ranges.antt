@@ -16,7 +16,7 @@ use Rattle.mips_model.specs.Effects.{effect}
 use Rattle.mips_model.specs.Steps.{going, ended, step}
 use Rattle.mips_model.specs.Laws.{HasAt, at, Reaches}
 use Rattle.mips_model.proofs.Reach.{step_acts, reaches_on}
-use Rattle.icode_templates.specs.Assembly.{srl, xori, beq, trap}
+use Rattle.mips_assembly.specs.Assembly.{srl, xori, beq, trap}
 use Rattle.icode_templates.specs.Templates.{range_check}
 use Rattle.icode_templates_proof.specs.Spots.{IsKept, KeepsSpots}
 use Rattle.icode_templates_proof.specs.Moves.{EndsIn}

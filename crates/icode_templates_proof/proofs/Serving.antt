@@ -9,7 +9,7 @@ use Rattle.mips_encoder.specs.Addresses.{past}
 use Rattle.mips_model.specs.Laws.{HasAt, at}
 use Rattle.mips_model.proofs.Reach.{front, back}
 use Rattle.icode_templates.specs.Layout.{Spot}
-use Rattle.icode_templates.specs.Assembly.{addu, ori, syscall}
+use Rattle.mips_assembly.specs.Assembly.{addu, ori, syscall}
 use Rattle.icode_templates.specs.Templates.{in_code, out_code, service_code}
 use Rattle.icode_templates_proof.specs.Spots.{pointer, value, Framed, Usable, KeepsSpots}
 use Rattle.icode_templates_proof.specs.Moves.{Writes}

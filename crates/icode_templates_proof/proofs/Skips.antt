@@ -13,7 +13,7 @@ use Rattle.mips_model.specs.Effects.{effect, trap_of, breaks, reads_hilo}
 use Rattle.mips_model.specs.Steps.{Is, fetch, apply, load_hazard}
 use Rattle.mips_model.specs.Laws.{HasAt, at, Reaches}
 use Rattle.mips_model.proofs.Reach.{step_acts}
-use Rattle.icode_templates.specs.Assembly.{beq, trap}
+use Rattle.mips_assembly.specs.Assembly.{beq, trap}
 use Rattle.icode_templates.specs.Templates.{trap_if_zero, trap_unless_zero}
 use Rattle.icode_templates_proof.specs.Moves.{EndsIn}
 use Rattle.icode_templates_proof.proofs.Leaves.{Leaves, runs_within}

@@ -12,7 +12,7 @@ use Rattle.mips_model.proofs.Reach.{front, back, past_append}
 use Rattle.icode_ops.specs.declared.kind.BinKind.{BinKind}
 use Rattle.meaning_state.specs.Operators.{bin_value}
 use Rattle.icode_templates.specs.Layout.{Spot}
-use Rattle.icode_templates.specs.Assembly.{j, nop, constant}
+use Rattle.mips_assembly.specs.Assembly.{j, nop, constant}
 use Rattle.icode_templates.specs.Templates.{in_code, in_two_code, out_code, bin_core}
 use Rattle.icode_templates_proof.specs.Spots.{pointer, value, Framed, Usable, KeepsSpots, PutsTo}
 use Rattle.icode_templates_proof.specs.Moves.{Runs, Writes, Comes}

@@ -19,7 +19,7 @@ use Rattle.icode_ops.specs.declared.kind.UnKind.{UnKind}
 use Rattle.meaning_state.specs.Operators.{bin_value, un_value, bin_trap, signed_trap, zero_trap}
 use Rattle.meaning_state.specs.Shared.{access_trap}
 use Rattle.icode_templates.specs.Layout.{Spot}
-use Rattle.icode_templates.specs.Assembly.{bne, beq, j, nop, constant}
+use Rattle.mips_assembly.specs.Assembly.{bne, beq, j, nop, constant}
 use Rattle.icode_templates.specs.Templates.{in_code, in_two_code, out_code, bin_core, service_code, range_check}
 use Rattle.icode_templates.specs.Templates.{load_instruction, store_instruction, un_core, trap_if_zero}
 use Rattle.icode_templates.specs.Templates.{division_check}

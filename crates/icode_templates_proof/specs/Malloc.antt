@@ -6,8 +6,8 @@ use Rattle.word32.specs.Space.{update}
 use Rattle.word32.specs.declared.map.TheConstants.{FRAMES, NEXT_HEAP_CELL}
 use Rattle.mips_encoder.specs.declared.instruction.Instr.{Instr}
 use Rattle.mips_model.specs.State.{Data}
-use Rattle.icode_templates.specs.Assembly.{scratch, v0, a0, gp, ra, addu, subu, sltu, sll, srl, addiu, lui, lw, sw}
-use Rattle.icode_templates.specs.Assembly.{bne, jr, nop}
+use Rattle.mips_assembly.specs.Assembly.{scratch, v0, a0, gp, ra, addu, subu, sltu, sll, srl, addiu, lui, lw, sw}
+use Rattle.mips_assembly.specs.Assembly.{bne, jr, nop}
 
 -- the next place of the heap
 abbrev pub v1 : ℕ

@@ -7,8 +7,8 @@ use Rattle.limits.specs.declared.program.TheConstants.{SIZE_LIMIT, MOST_ARGUMENT
 use Rattle.limits.specs.declared.run.TheConstants.{CLOSURE_HEAD_BYTES}
 use Rattle.word32.specs.declared.map.TheConstants.{SPEC_ROWS}
 use Rattle.mips_encoder.specs.declared.instruction.Instr.{Instr}
-use Rattle.icode_templates.specs.Assembly.{scratch, v0, a0, a1, a2, gp, addu, sltu, sll, addiu, sltiu, ori}
-use Rattle.icode_templates.specs.Assembly.{lui, lw, sw, beq, nop}
+use Rattle.mips_assembly.specs.Assembly.{scratch, v0, a0, a1, a2, gp, addu, sltu, sll, addiu, sltiu, ori}
+use Rattle.mips_assembly.specs.Assembly.{lui, lw, sw, beq, nop}
 use Rattle.icode_templates.specs.Templates.{trap_if_zero, trap_unless_zero}
 use Rattle.icode_templates_proof.specs.Closures.{local_kind, parameter_kind}
 use Rattle.icode_templates_proof.specs.Malloc.{v1, return_code}

@@ -3,7 +3,7 @@ use Rattle.std.proofs.Common.{◌≡◌, ℕ, suc, ◌+◌, ◌-◌, ◌<◌, �
 use Rattle.std.proofs.Common.{append_assoc, arith}
 use Rattle.std.proofs.lemmas.List.{append-nil}
 use Rattle.mips_encoder.specs.Table.{word_of}
-use Rattle.icode_templates.specs.Assembly.{nop}
+use Rattle.mips_assembly.specs.Assembly.{nop}
 use Rattle.icode_templates.specs.Words.{words}
 use Rattle.icode_templates.proofs.Appended.{words_append}
 use Rattle.compile_spec.specs.Routine.{compile_code, tests_code, build_code, make_code, traps_code}

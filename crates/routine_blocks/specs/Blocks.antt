@@ -4,7 +4,7 @@
 use Rattle.std.specs.Prelude.{ℕ, ◌-◌, ◌*◌, List, [], ◌∷◌, ◌++◌, length, replicate}
 use Rattle.mips_encoder.specs.Table.{word_of}
 use Rattle.mips_encoder.specs.declared.instruction.Instr.{Instr}
-use Rattle.icode_templates.specs.Assembly.{scratch, bne, beq, nop, trap}
+use Rattle.mips_assembly.specs.Assembly.{scratch, bne, beq, nop, trap}
 use Rattle.icode_templates.specs.Templates.{trap_if_zero, trap_unless_zero}
 use Rattle.icode_templates.specs.Words.{words}
 use Rattle.icode_templates_proof.specs.Malloc.{malloc_code, v1}

@@ -10,7 +10,7 @@ use crate::closures::{begin, check, local, malloc, new, parameter};
 use crate::compiling::{first_part, second_part};
 use crate::numbers::{LAST, LAST_BUT_ONE, LOCAL_KIND, V1};
 use icode_templates::Snippet;
-use icode_templates::assembly::{addiu, nop, sltiu};
+use mips_assembly::{addiu, nop, sltiu};
 use mips_encoder::{Instr, encode};
 use sqlite_items::Items;
 use std::alloc::{AllocError, Global};

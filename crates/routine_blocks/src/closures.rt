@@ -12,11 +12,11 @@ use crate::numbers::{
     V1, ZERO,
 };
 use icode_templates::Snippet;
-use icode_templates::assembly::{
-    addiu, addu, beq, bne, jr, lui, lw, nop, ori, sll, sltiu, sltu, srl, subu, sw, trap,
-};
 use limits::program::{MOST_ARGUMENTS, SIZE_LIMIT};
 use limits::run::CLOSURE_HEAD_BYTES;
+use mips_assembly::{
+    addiu, addu, beq, bne, jr, lui, lw, nop, ori, sll, sltiu, sltu, srl, subu, sw, trap,
+};
 use mips_encoder::{Instr, Register};
 use word32::map::{FRAMES, SPEC_ROWS};
 

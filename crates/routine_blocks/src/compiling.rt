@@ -9,9 +9,7 @@ use crate::numbers::{
     LOCAL_KIND, TABLE_LIMIT, V0, ZERO,
 };
 use icode_templates::Snippet;
-use icode_templates::assembly::{
-    addiu, addu, beq, bne, jr, lui, lw, ori, sll, sltiu, sltu, srl, sw, trap,
-};
+use mips_assembly::{addiu, addu, beq, bne, jr, lui, lw, ori, sll, sltiu, sltu, srl, sw, trap};
 use mips_encoder::{Instr, LinkPair, Register};
 use word32::map::{ARENA, ARENA_BYTES, EMIT_STACK, SPEC_ROWS};
 

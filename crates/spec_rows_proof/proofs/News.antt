@@ -17,7 +17,7 @@ use Rattle.icode_ops.specs.declared.kind.ClosureKind.{ClosureKind}
 use Rattle.meaning_state.specs.Shared.{Shared}
 use Rattle.meaning_state.specs.Rows.{next_number}
 use Rattle.icode_templates.specs.Layout.{Spot}
-use Rattle.icode_templates.specs.Assembly.{addu}
+use Rattle.mips_assembly.specs.Assembly.{addu}
 use Rattle.icode_templates.specs.Templates.{out_code, new_address}
 use Rattle.icode_templates_proof.specs.Spots.{pointer, Framed, Usable, KeepsSpots}
 use Rattle.icode_templates_proof.specs.Moves.{Runs, Writes, EndsIn}

@@ -13,7 +13,7 @@ use Rattle.mips_model.specs.Laws.{HasAt, at}
 use Rattle.mips_encoder.specs.Addresses.{past}
 use Rattle.meaning_state.specs.Rows.{closure_bytes}
 use Rattle.icode_templates.specs.Layout.{Spot}
-use Rattle.icode_templates.specs.Assembly.{addu, lui, lw, sw}
+use Rattle.mips_assembly.specs.Assembly.{addu, lui, lw, sw}
 use Rattle.icode_templates.specs.Templates.{upper, lower, in_code, put_code}
 use Rattle.icode_templates_proof.specs.Spots.{pointer, value, Framed, Usable, KeepsSpots}
 use Rattle.icode_templates_proof.specs.Moves.{Comes}

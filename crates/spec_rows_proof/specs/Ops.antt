@@ -11,7 +11,7 @@ use Rattle.icode_ops.specs.declared.kind.RunKind.TheVariants as run
 use Rattle.icode_ops.specs.declared.kind.ClosureKind.{ClosureKind}
 use Rattle.meaning_state.specs.Rows.{closure_bytes}
 use Rattle.icode_templates.specs.Layout.{Spot}
-use Rattle.icode_templates.specs.Assembly.{v0, a0, a1, a2, t8, addu, ori, jal, nop, constant}
+use Rattle.mips_assembly.specs.Assembly.{v0, a0, a1, a2, t8, addu, ori, jal, nop, constant}
 use Rattle.icode_templates.specs.Templates.{in_code, out_code, new_address, put_code}
 use Rattle.icode_templates_proof.specs.Closures.{Head, Closure, word_at, with_word, closure_of, size_so_far}
 use Rattle.icode_templates_proof.specs.Closures.{parameters_so_far}

@@ -23,7 +23,7 @@ use Rattle.mips_model.specs.Run.{row_of}
 use Rattle.mips_model.specs.Laws.{HasAt, at, Reaches}
 use Rattle.mips_model.proofs.Loaded.{AllFit, all_fit_append, loaded}
 use Rattle.mips_model.proofs.Reach.{through, through_runs, reaches_on, step_acts, front, back}
-use Rattle.icode_templates.specs.Assembly.{jal, nop}
+use Rattle.mips_assembly.specs.Assembly.{jal, nop}
 use Rattle.icode_templates_proof.proofs.Jumps.{in_slot, slot_runs}
 use Rattle.icode_expand_proof.specs.Standing.{WordsAt, exit_code}
 use Rattle.icode_expand_proof.specs.Settings.{Setting, Published}

@@ -4,7 +4,7 @@ use Rattle.std.proofs.Common.{length-append, replicate}
 use Rattle.std.proofs.lemmas.List.{drop-replicate, length-replicate, replicate-append-replicate}
 use Rattle.std.proofs.Math.Seq.{take-append_seam, drop-append-add}
 use Rattle.mips_encoder.specs.Table.{word_of}
-use Rattle.icode_templates.specs.Assembly.{nop}
+use Rattle.mips_assembly.specs.Assembly.{nop}
 use Rattle.icode_expand.specs.Labels.{spliced}
 use Rattle.icode_expand.proofs.Spliced.{spliced_front}
 use Rattle.static_image.specs.Layout.{filled}

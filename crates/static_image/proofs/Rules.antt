@@ -10,7 +10,7 @@ use Rattle.mips_encoder.specs.declared.instruction.Instr.{Instr}
 use Rattle.mips_model.proofs.Loaded.{AllFit}
 use Rattle.icode_ir.specs.Sound.{Each}
 use Rattle.icode_ir.proofs.Sounds.{Each-append}
-use Rattle.icode_templates.specs.Assembly.{nop}
+use Rattle.mips_assembly.specs.Assembly.{nop}
 use Rattle.icode_templates.specs.Words.{words}
 use Rattle.icode_templates_proof.specs.Malloc.{malloc_code}
 use Rattle.icode_templates_proof.proofs.Fitting.{malloc_fits}

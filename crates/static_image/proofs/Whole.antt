@@ -26,7 +26,7 @@ use Rattle.mips_model.proofs.Runs.{grows, ends_once}
 use Rattle.mips_model.proofs.Traces.{text_stays}
 use Rattle.mips_model.proofs.Told.{tells_plainly}
 use Rattle.icode_templates.specs.Words.{words}
-use Rattle.icode_templates.specs.Assembly.{nop}
+use Rattle.mips_assembly.specs.Assembly.{nop}
 use Rattle.image_file.specs.Image.{ImageParts}
 use Rattle.mips_model.specs.Choices.{Choice}
 use Rattle.icode_ir.specs.Sound.{Each}

@@ -11,7 +11,7 @@ use Rattle.mips_encoder.specs.declared.instruction.Instr.{Instr}
 use Rattle.icode_ops.specs.declared.op.Op.{Op}
 use Rattle.icode_ops.specs.Places.{IsLegal}
 use Rattle.icode_ir.specs.Sound.{Each}
-use Rattle.icode_templates.specs.Assembly.{v0, a0, t8, gp, sp, fp, addu, ori, lui, sw, jal, syscall, nop, constant}
+use Rattle.mips_assembly.specs.Assembly.{v0, a0, t8, gp, sp, fp, addu, ori, lui, sw, jal, syscall, nop, constant}
 use Rattle.icode_templates.specs.Words.{words}
 use Rattle.icode_templates.specs.Expansion.{expanded}
 use Rattle.icode_templates_proof.specs.Malloc.{malloc_code}

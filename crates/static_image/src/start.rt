@@ -9,9 +9,7 @@ ghost use Rattle.static_image.specs.Layout as layout;
 ghost use Rattle.word32.specs.declared.map.TheConstants.{SEGMENT_BYTES};
 
 use icode_templates::Snippet;
-use icode_templates::assembly::{
-    addiu, addu, bne, jal, jr, lui, lw, nop, ori, sll, sltu, srl, subu, sw,
-};
+use mips_assembly::{addiu, addu, bne, jal, jr, lui, lw, nop, ori, sll, sltu, srl, subu, sw};
 use mips_encoder::{Instr, Register, encode};
 use word32::map::{ARENA, CLOSURES, FRAMES, GLOBAL_POINTER, HEAP, STACK_TOP};
 

@@ -9,7 +9,7 @@ ghost use Rattle.typed_tree.specs.View.{expr_view, args_of};
 
 use cgf_pieces::Pieces;
 use icode_ir::BuildOp;
-use icode_ops::{ArgumentCount, ArgumentIndex, CallAddress, CaptureIndex};
+use icode_ops::{ArgumentCount, ArgumentIndex, CallAddress};
 use std::alloc::AllocError;
 use tick_lower::address_of;
 use typed_tree::{Answer, Expr};
@@ -33,16 +33,6 @@ pub fn parameter_of(parameter: u32) -> Result<ArgumentIndex, AllocError>
     ensures { IfOk result (λ n. n ≡ parameter) }
 {
     match ArgumentIndex::new(parameter) {
-        Some(index) => Ok(index),
-        None => Err(AllocError),
-    }
-}
-
-/// The capture of this number. It fails where a closure has no place for it, which no accepted text has.
-pub fn capture_of(capture: u32) -> Result<CaptureIndex, AllocError>
-    ensures { IfOk result (λ n. n ≡ capture) }
-{
-    match CaptureIndex::new(capture) {
         Some(index) => Ok(index),
         None => Err(AllocError),
     }

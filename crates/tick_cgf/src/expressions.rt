@@ -8,10 +8,10 @@ ghost use Rattle.typed_tree.specs.Nodes as node;
 ghost use Rattle.typed_tree.specs.View.{expr_view, args_of};
 
 use crate::calls::{called, called_number};
-use crate::places::{
+use cgf_pieces::Pieces;
+use cgf_pieces::places::{
     captured, keep_key, key, loaded, post_key, post_loaded, post_variable, splice, stored,
 };
-use cgf_pieces::Pieces;
 use cgf_spec::Piece;
 use icode_ir::BuildOp;
 use icode_ops::{BinKind, CallAddress, RunKind, SysKind};

@@ -4,7 +4,6 @@
 
 mod calls;
 mod expressions;
-mod places;
 mod statements;
 mod tick;
 

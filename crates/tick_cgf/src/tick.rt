@@ -1,6 +1,6 @@
 //! The words of the function that generates the code of a tick.
 
-ghost use Rattle.std.specs.Prelude.{◌≡◌, ◌<◌, ◌^◌, ◌++◌, ◌∷◌, [], IfOk, OnOk, length, slice_set};
+ghost use Rattle.std.specs.Prelude.{◌≡◌, ◌<◌, ◌^◌, IfOk, OnOk};
 ghost use Rattle.cgf_spec.specs.Pieces.{HasWords};
 ghost use Rattle.cgf_spec.specs.Words.{generator_code};
 ghost use Rattle.icode_ir.specs.Sound.{Each};
@@ -16,9 +16,7 @@ ghost use Rattle.typed_tree.specs.View.{expr_view, stmt_view};
 use crate::expressions::expression;
 use crate::statements::statement;
 use cgf_emitter::words;
-use cgf_pieces::{Exits, Pieces};
-use cgf_spec::Piece;
-use icode_ir::BuildOp;
+use cgf_pieces::{Exits, Pieces, begin, end};
 use icode_ops::CallAddress;
 use sqlite_items::{Items, at};
 use std::alloc::{AllocError, Global};
@@ -44,41 +42,6 @@ impl Room {
             },
         }
     }
-}
-
-// Takes all pieces away.
-#[tactic(auto, using(cgf_pieces::proofs::Lists::shorter))]
-fn clear(list: &mut Items<Piece>)
-    ensures { list.new ≡ [] }
-{
-    while let Some(_) = list.pop() {}
-}
-
-// Begins a body whose own variables are numbered from this one on. How many there are, and how many labels, is known
-// behind it; so a place is kept for the op that enters it.
-fn begin(variable: u32, out: &mut Pieces) -> Result<(), AllocError>
-    ensures { OnOk result (
-        out.new ≡ record out.old { list = Piece.Nothing ∷ []; label = 0; variable = variable }) }
-{
-    clear(&mut out.list);
-    out.label = 0;
-    out.variable = variable;
-    out.push(Piece::Nothing)
-}
-
-// Ends the body, and enters it.
-fn end(out: &mut Pieces) -> Result<(), AllocError>
-    requires { 0 < length out.old.list }
-    ensures { OnOk result (out.new.list ≡ slice_set (out.old.list ++ Piece.Plain BuildOp.Leave ∷ []) 0
-        (Piece.Plain (BuildOp.Enter out.old.variable out.old.label))) }
-{
-    out.op(BuildOp::Leave)?;
-    let enter = BuildOp::Enter {
-        variables: out.variable,
-        labels: out.label,
-    };
-    out.list.set(0, Piece::Plain(enter));
-    Ok(())
 }
 
 // The pieces of a tick that is an expression.

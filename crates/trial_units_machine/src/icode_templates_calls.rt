@@ -3,12 +3,12 @@
 ghost use Rattle.std.specs.Prelude.{◌≡◌, []};
 
 use icode_ops::{BinKind, Op};
-use icode_templates::assembly::{
+use icode_templates::{Layout, Snippet};
+use mips_assembly::{
     addiu, addu, and, andi, beq, bne, div, divu, j, jal, jalr_of_t8, jr, lui, lw, mfhi, mflo, mult,
     nop, nor, or, ori, sll, sllv, slt, sltiu, sltu, sra, srav, srl, srlv, subu, sw, trap, xor,
     xori,
 };
-use icode_templates::{Layout, Snippet};
 use mips_encoder::{Instr, Register, encode};
 
 const T8: Register = Register::T8;

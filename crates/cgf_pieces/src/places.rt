@@ -1,18 +1,27 @@
 //! The pieces of what reads and writes a place: a variable, an address, a capture.
 
-ghost use Rattle.std.specs.Prelude.{◌≡◌, ◌∷◌, [], OnOk};
+ghost use Rattle.std.specs.Prelude.{◌≡◌, ◌∷◌, [], IfOk, OnOk};
 ghost use Rattle.icode_ops.specs.declared.kind.BinKind.TheVariants.{Add};
 ghost use Rattle.cgf_pieces.specs.Steps.{op, put};
 ghost use Rattle.tick_lower_spec.specs.Lower.{narrowing, step_ops};
 ghost use Rattle.tick_pieces.specs.TickPieces.{plain};
 
-use crate::calls::capture_of;
-use cgf_pieces::Pieces;
+use crate::pieces::Pieces;
 use cgf_spec::Piece;
 use icode_ir::BuildOp;
-use icode_ops::BinKind;
+use icode_ops::{BinKind, CaptureIndex};
 use std::alloc::AllocError;
 use word32::Width;
+
+// The capture of this number. It fails where a closure has no place for it, which no accepted text has.
+fn capture_of(capture: u32) -> Result<CaptureIndex, AllocError>
+    ensures { IfOk result (λ n. n ≡ capture) }
+{
+    match CaptureIndex::new(capture) {
+        Some(index) => Ok(index),
+        None => Err(AllocError),
+    }
+}
 
 /// The constant of a captured word. It fails for want of memory, and where a closure has no place for the capture.
 pub fn captured(capture: u32, out: &mut Pieces) -> Result<(), AllocError>

@@ -1,9 +1,10 @@
-//! Instructions by their names in assembly text, with their operands in that text's order. Offsets and immediates are their
-//! 16 bits, and the addresses of jumps are in bytes.
+//! Instructions by their names in assembly text, with their operands in that text's order. Offsets and immediates are
+//! their 16 bits, and the addresses of jumps are in bytes.
+#![tactic(auto)]
 
 ghost use Rattle.std.specs.Prelude.{◌≡◌, ◌<◌};
 ghost use Rattle.word32.specs.declared.map.TheConstants.{SEGMENT_BYTES};
-ghost use Rattle.icode_templates.specs.Assembly as assembly;
+ghost use Rattle.mips_assembly.specs.Assembly as assembly;
 
 use mips_encoder::{
     ArithmeticOp, BreakCode, EqualityOp, HiLo, Immediate, ImmediateOp, Instr, JumpOp, JumpTarget,
