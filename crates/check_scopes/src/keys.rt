@@ -4,7 +4,7 @@ ghost use Rattle.std.specs.Prelude.{◌≡◌, ◌<◌, IfOk};
 ghost use Rattle.std.specs.Str.{bytes_eq};
 ghost use Rattle.check_scopes.specs.Tables as spec;
 
-use smallvec::SmallVec;
+use small_bytes::SmallBytes;
 use std::alloc::{AllocError, Global};
 use std::marker::Model;
 
@@ -67,7 +67,7 @@ impl<'a> Wanted<'a> {
 #[derive(Drop)]
 pub(crate) struct Key {
     tag: u32,
-    bytes: SmallVec<u8, 16>,
+    bytes: SmallBytes,
 }
 
 impl Model for Key {
@@ -76,9 +76,9 @@ impl Model for Key {
 
     ghost Value = { List ℕ };
 
-    ghost view = { λ k. k.bytes.items };
+    ghost view = { λ k. k.bytes };
 
-    ghost invariant = { λ k. k.tag ≡ spec.tag_of k.bytes.items };
+    ghost invariant = { λ k. k.tag ≡ spec.tag_of k.bytes };
 }
 
 impl Key {
@@ -87,7 +87,7 @@ impl Key {
     {
         Ok(Key {
             tag: name.tag,
-            bytes: SmallVec::from_slice(alloc, name.name)?,
+            bytes: SmallBytes::from_slice(alloc, name.name)?,
         })
     }
 

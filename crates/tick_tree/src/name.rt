@@ -2,13 +2,13 @@
 
 ghost use Rattle.std.specs.Prelude.{◌≡◌, IfOk};
 
-use smallvec::SmallVec;
+use small_bytes::SmallBytes;
 use std::alloc::{AllocError, Global};
 use std::marker::Model;
 
 /// A name, which contracts see as its bytes. One of up to 16 bytes takes no memory of its own.
 pub struct Name {
-    bytes: SmallVec<u8, 16>,
+    bytes: SmallBytes,
 }
 
 impl Drop for Name {
@@ -22,7 +22,7 @@ impl Model for Name {
 
     ghost Value = { List ℕ };
 
-    ghost view = { λ n. n.bytes.items };
+    ghost view = { λ n. n.bytes };
 }
 
 impl Name {
@@ -35,7 +35,7 @@ impl Name {
         ensures { IfOk result (λ n. n ≡ bytes.now) }
     {
         Ok(Name {
-            bytes: SmallVec::from_slice(alloc, bytes)?,
+            bytes: SmallBytes::from_slice(alloc, bytes)?,
         })
     }
 

@@ -15,7 +15,8 @@ fn short_and_long(rt: HostRuntime) {
     let are_kept = [
         is_kept(rt.alloc(), b"x"),
         is_kept(rt.alloc(), &long[..16]),
+        is_kept(rt.alloc(), &long[..17]),
         is_kept(rt.alloc(), long),
     ];
-    assert!(rt; are_kept == [Ok(true), Ok(true), Ok(true)]);
+    assert!(rt; are_kept == [Ok(true); 4]);
 }
