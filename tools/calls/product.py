@@ -36,6 +36,11 @@ class Seen(collections.namedtuple("Seen", "status out err")):
         return f'{self.status}, out "{out}", err "{err}"'
 
 
+def shortened(seen):
+    """What a call left: a byte that is written over eight times in turn stands once, with `*` and its count."""
+    return seen._replace(out=re.sub(rb"(?s)(.)\1{8,}", lambda it: b"%b*%d" % (it[1], len(it[0])), seen.out))
+
+
 def said(text):
     """What a line of a file of cases says that a call leaves."""
     found = SAID.fullmatch(text)

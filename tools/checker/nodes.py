@@ -236,8 +236,8 @@ def wellformed():
 def captures():
     names = list(expression_equations("names", "expr_rule", "names"))
     named = list(statement_equations("names_of", "statement_rule", "rules", "names_of", "names", "names names_of"))
-    instances("crates/captures/proofs/Equations.antt", "-- What the nodes of a tree name of captures, one a node.",
-        "use Rattle.captures.specs.Captures.{names, expr_rule, names_of, statement_rule, rules}\n",
+    instances("crates/tick_captures/proofs/Equations.antt", "-- What the nodes of a tree name of captures, one a node.",
+        "use Rattle.tick_captures.specs.Captures.{names, expr_rule, names_of, statement_rule, rules}\n",
         names + [ruleset("expressions", names)], named + [ruleset("statements", named)])
 
 

@@ -166,11 +166,12 @@ text+="use Rattle.check_rules.specs.Walk.{%s}\n"%", ".join(WALK_OF[t] for t in T
 text+="use Rattle.tick_tree.specs.Weights.{%s}\n"%", ".join(WEIGHT_OF[t] for t in TYPES)
 text+="use Rattle.syntax_size.proofs.Small.{%s}\n"%", ".join(SMALL_OF[t] for t in TYPES)
 text+="use Rattle.wf_walk.proofs.Induction.{%s, %s, %s, %s}\n"%(", ".join(t+"-T" for t in TYPES),", ".join(t+"-K" for t in TYPES),", ".join("first"+t for t in TYPES),", ".join("step_"+LAW_OF[t] for t in TYPES))
+text+="use Rattle.check_rules.specs.Bounds.{count_bound}\n"
 text+="use Rattle.wf_programs.specs.Good.{good, FewExpr}\nuse Rattle.wf_programs.specs.Small.{SmallAreGood}\nuse Rattle.wf_programs.proofs.Few.{few_expr}\nuse Rattle.wf_programs.proofs.Rules.{%s}\n"%", ".join("good_"+LAW_OF[t] for t in TYPES)
 text+="\n-- ---- a layer of a small tree\n\n"
 for t in TYPES:
     l=LAW_OF[t]
-    sig=f"{l} : (many : ℕ) (x : {t}-T) (y : {t}-K (good many)) → first{t} (good many) y ≡ x → {WEIGHT_OF[t]} (roll-{t} x) ≤ 1000000000 → (good many).{FIELD_OF[t]} ({WALK_OF[t]} (roll-{t} x))\n"
+    sig=f"{l} : (many : List ℕ) (x : {t}-T) (y : {t}-K (good many)) → first{t} (good many) y ≡ x → {WEIGHT_OF[t]} (roll-{t} x) ≤ count_bound → (good many).{FIELD_OF[t]} ({WALK_OF[t]} (roll-{t} x))\n"
     text+="at_"+sig
     if t=="Expr": body=f"step_{l} (good many) FewExpr (good_expr many) x y is (few_expr x h)"
     else: body=f"step_{l} (good many) (λ w. Unit {{0}}) (λ w p u. good_{l} many w p) x y is tt"
@@ -180,9 +181,9 @@ preds=" ".join(f"(λ x. (good many).{FIELD_OF[t]} ({WALK_OF[t]} x))" for t in TY
 steps=" ".join(f"(at_{LAW_OF[t]} many)" for t in TYPES)
 for t in ["Expr","Stmt","Declarator","Initializer","Declaration"]:
     l=LAW_OF[t]
-    text+=f"small_{l} : (many : ℕ) (x : {t}) → {WEIGHT_OF[t]} x ≤ 1000000000 → (good many).{FIELD_OF[t]} ({WALK_OF[t]} x)\n"
-    text+=f"small_{l} many = {SMALL_OF[t]} 1000000000 {preds} {steps}\n\n"
-text+="""pub small_are_good : (many : ℕ) → SmallAreGood many
+    text+=f"small_{l} : (many : List ℕ) (x : {t}) → {WEIGHT_OF[t]} x ≤ count_bound → (good many).{FIELD_OF[t]} ({WALK_OF[t]} x)\n"
+    text+=f"small_{l} many = {SMALL_OF[t]} count_bound {preds} {steps}\n\n"
+text+="""pub small_are_good : (many : List ℕ) → SmallAreGood many
 small_are_good many = record {
   node = small_expr many;
   item = small_stmt many;

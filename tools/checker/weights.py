@@ -10,7 +10,7 @@ VALUE = dict(zip(T, ["Shape", "Node", "Start", "(Option Node)", "Item", "SuffixW
 WRULE = dict(zip(T, "core_rule expr_rule start_rule optional_rule stmt_rule suffix_walk declaration_rule declarator_rule init_rule parameter_rule typename_rule".split()))
 WEIGHT = dict(zip(T, "core_weight weight initializer_weight optional_weight statement_weight suffix_weight declaration_weight declarator_weight init_weight parameter_weight typename_weight".split()))
 NRULE = dict(zip(T, "core_nodes expr_nodes initializer_nodes optional_nodes statement_nodes suffix_nodes declaration_nodes declarator_nodes init_nodes parameter_nodes typename_nodes".split()))
-LIGHT = dict(zip(T, "LightShape LightNode LightStart LightOptional LightItem LightSuffix LightDeclarations LightShape LightInit LightType LightNamed".split()))
+LIGHT = dict(zip(T, "LightShape LightNode LightStart LightOptional LightItem LightSuffixWalk LightDeclarations LightShape LightInit LightTypeWalk LightNamed".split()))
 
 nat = " ".join(["ℕ"] * 11)
 trees = " ".join(T)
@@ -197,13 +197,14 @@ use Rattle.std.proofs.Common.{◌≡◌, ℕ, ◌+◌, ◌≤◌, List, [], ◌�
 use Rattle.tick_tree.specs.declared.syntax.Core.TheFolds.{{{", ".join("map-" + t for t in T)}, {", ".join("ind-" + t for t in T)}}}
 use Rattle.check_operands.specs.Operands as nodes
 use Rattle.check_rules.specs.StatementRules as statement_rules
+use Rattle.check_rules.specs.Walk.{{type_walks}}
 use Rattle.check_rules.specs.Walk.{{{", ".join(WRULE[t] for t in T)}, {", ".join(WALK[t] for t in T)}}}
-use Rattle.wf_growth_rules.specs.Light.{{LightNode, LightShape, LightItem, LightSuffix, LightType, LightNamed, LightOptional, absent, present, Each, none, more}}
+use Rattle.wf_growth_rules.specs.Light.{{LightNode, LightShape, LightItem, LightNamed, LightOptional, absent, present, Each, none, more}}
 use Rattle.wf_growth_rules.proofs.Walks.{{weak, pure_light, lift_light}}
 use Rattle.wf_growth_rules.proofs.States.{{named_light}}
 use Rattle.wf_growth_rules.proofs.Expressions as e
 use Rattle.wf_growth_rules.proofs.Statements as s
-use Rattle.wf_growth_rules.specs.Parts.{{LightStart, nothing, value, values, LightInit, LightDeclarations}}
+use Rattle.wf_growth_rules.specs.Parts.{{LightSuffixWalk, LightTypeWalk, LightStart, nothing, value, values, LightInit, LightDeclarations}}
 use Rattle.tick_tree.specs.Weights.{{total, {", ".join(NRULE[t] for t in T)}, {", ".join(WEIGHT[t] for t in T)}}}
 use Rattle.wf_growth_rules.proofs.Declarations as d
 use Rattle.wf_growth_rules.proofs.Layers.{{{", ".join("walked-" + t for t in T)}, {", ".join("walk-" + t for t in T)}}}
@@ -294,9 +295,9 @@ layer-Stmt (Stmt-F.Return n x) = record { at = λ a. s.returning_light n (option
 "Suffix": """layer-Suffix (Suffix-F.Array x) = record { at = λ g. s.length_light (optional x.0) g x.1 }
 layer-Suffix Suffix-F.Unlisted = record { at = λ g. weak 1 (pure_light _) (omega arith) }
 layer-Suffix Suffix-F.Nothing = record { at = λ g. weak 1 (pure_light _) (omega arith) }
-layer-Suffix (Suffix-F.Listed ps) = record { at = λ g. s.list_light _ g (each_known LightType parameter_weight parameter ps) }""",
+layer-Suffix (Suffix-F.Listed ps) = record { at = λ g. s.list_light (type_walks (map parameter (map (λ k. k.0) ps))) g (d.each_parameter (map parameter (map (λ k. k.0) ps)) (each_known LightTypeWalk parameter_weight parameter ps)) }""",
 "Declaration": """layer-Declaration y = record { sum = _; inits = each_known LightInit init_weight init y.inits; is = omega arith }""",
-"Declarator": """layer-Declarator y = d.declarator_light (core y.core.0) _ y.prefixes y.core.1 (each_known LightSuffix suffix_weight suffix y.suffixes)""",
+"Declarator": """layer-Declarator y = d.declarator_light (core y.core.0) _ y.prefixes y.core.1 (each_known LightSuffixWalk suffix_weight suffix y.suffixes)""",
 "Init": """layer-Init y = record { shape_weight = _; start_weight = _; shape = y.declarator.1; start = y.value.1; is = omega arith }""",
 "Parameter": """layer-Parameter y = d.parameter_light y.line y.base (shape y.declarator.0) y.declarator.1""",
 "Typename": """layer-Typename y = d.typename_light y.base (shape y.declarator.0) y.declarator.1""",

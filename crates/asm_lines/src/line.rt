@@ -141,7 +141,7 @@ fn line_in<'a>(pieces: &[Piece<'a>]) -> Option<Line<'a>>
 /// What a line says, or None where it has another form. The line has no line feed.
 ///
 /// # Errors
-/// Memory was not found.
+/// Where memory is wanting.
 #[tactic(auto, unfolding(crate::specs::Lines::line_of))]
 pub fn line_of<'a>(alloc: Global, line: &'a [u8]) -> Result<Option<Line<'a>>, AllocError>
     ensures line { IfOk result (λ found. found ≡ spec.line_of line.now) }

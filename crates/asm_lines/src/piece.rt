@@ -113,7 +113,7 @@ fn word_len(line: &[u8]) -> usize
 /// The words and marks of a line, in their order, without its blanks and its comment.
 ///
 /// # Errors
-/// Memory was not found.
+/// Where memory is wanting.
 #[tactic(auto, unfolding(crate::specs::Pieces::pieces))]
 pub fn pieces<'a>(alloc: Global, line: &'a [u8]) -> Result<Vec<Piece<'a>>, AllocError>
     ensures { IfOk result (λ found. found.items ≡ spec.pieces line.now) }

@@ -1,30 +1,80 @@
 -- The labels as a list of names and as a map, and what is found after one more.
-use Rattle.std.proofs.Common.{◌≡◌, ℕ, Bool, true, false, cond, List, [], ◌∷◌, ◌++◌, map, Option, Some, None, is_some}
-use Rattle.std.proofs.Common.{refl, ap, sym, ◌∙◌, Vec, Global}
+use Rattle.std.proofs.Common.{◌≡◌, ℕ, suc, ◌+◌, Bool, true, false, cond, List, [], ◌∷◌, ◌++◌, Option, Some, None}
+use Rattle.std.proofs.Common.{is_some}
+use Rattle.std.proofs.Common.{length, slice_get, refl, ap, sym, ◌∙◌, arith}
 use mathlib.Core.Path.{fun_ext}
 use Rattle.std.specs.Str.{bytes_eq}
-use Rattle.std.specs.Map.{lookup}
+use Rattle.std.specs.List.{zip}
 use Rattle.std.specs.Option.{option_or}
 use Rattle.std.proofs.lemmas.Slice.Eq.{bytes_eq-Decides}
 use Rattle.asm_passes.specs.LabelPlace.{LabelPlace}
 use Rattle.asm_passes.specs.Labels.{Names, find}
+use Rattle.name_numbers.specs.Numbers.{Name, number_from, number_of}
 
-abbrev pub entries : List (Vec ℕ Global × LabelPlace) → Names
-entries es = map (λ e. (e.0.items, e.1)) es
+pub absent_is : (k : ℕ) (names : List Name) (places : List LabelPlace) (name : Name) →
+    number_from k names name ≡ None → find (zip names places) name ≡ None
+absent_is k [] places name h = refl
+absent_is k (x ∷ names) [] name h = refl
+absent_is k (x ∷ names) (l ∷ places) name h = by (absent_is (k + 1) names places name) (bytes_eq name x) refl h
+  where
+    by : (number_from (k + 1) names name ≡ None → find (zip names places) name ≡ None) → (b : Bool) →
+        bytes_eq name x ≡ b → cond b (Some k) (number_from (k + 1) names name) ≡ None →
+        find (zip (x ∷ names) (l ∷ places)) name ≡ None
+    by rest true e h = absurd cc
+    by rest false e h = ap (λ b. cond b (Some l) (find (zip names places) name)) e ∙ rest h
 
-pub found : (es : List (Vec ℕ Global × LabelPlace)) (name : List ℕ) →
-    lookup (λ k. bytes_eq name k.items) es ≡ find (entries es) name
-found [] name = refl
-found (e ∷ es) name = ap (λ o. cond (bytes_eq name e.0.items) (Some e.1) o) (found es name)
+-- the place of a name that has a number
+abbrev pub IsAt : List Name → List LabelPlace → Name → ℕ → ℕ → Type 0
+IsAt names places name k n = record {
+  at : ℕ;
+  number : n ≡ k + at;
+  place : slice_get places at ≡ find (zip names places) name;
+  some : is_some (find (zip names places) name) ≡ true;
+}
 
-pub none_of : (o : Option LabelPlace) → is_some o ≡ false → o ≡ None
-none_of None h = refl
-none_of (Some x) h = cc
+found_from : (k : ℕ) (names : List Name) (places : List LabelPlace) (name : Name) (n : ℕ) →
+    length names ≡ length places → number_from k names name ≡ Some n → IsAt names places name k n
+found_from k [] places name n e h = absurd cc
+found_from k (x ∷ names) [] name n e h = absurd cc
+found_from k (x ∷ names) (l ∷ places) name n e h =
+    by (found_from (k + 1) names places name n (omega (arith, e))) (bytes_eq name x) refl h
+  where
+    by : (number_from (k + 1) names name ≡ Some n → IsAt names places name (k + 1) n) → (b : Bool) →
+        bytes_eq name x ≡ b → cond b (Some k) (number_from (k + 1) names name) ≡ Some n →
+        IsAt (x ∷ names) (l ∷ places) name k n
+    by rest true e h =
+        let is : k ≡ n = cc in
+        record {
+          at = 0;
+          number = omega (arith, is);
+          place = ap (λ b. cond b (Some l) (find (zip names places) name)) (sym e);
+          some = ap (λ b. is_some (cond b (Some l) (find (zip names places) name))) e;
+        }
+    by rest false e h =
+        let it = rest h in
+        record {
+          at = suc it.at;
+          number = omega (arith, it.number);
+          place = it.place ∙ ap (λ b. cond b (Some l) (find (zip names places) name)) (sym e);
+          some = ap (λ b. is_some (cond b (Some l) (find (zip names places) name))) e ∙ it.some;
+        }
 
-pub entries_more : (es : List (Vec ℕ Global × LabelPlace)) (e : Vec ℕ Global × LabelPlace) →
-    entries (es ++ e ∷ []) ≡ entries es ++ (e.0.items, e.1) ∷ []
-entries_more [] e = refl
-entries_more (x ∷ es) e = ap (λ l. (x.0.items, x.1) ∷ l) (entries_more es e)
+pub found_at : (names : List Name) (places : List LabelPlace) (name : Name) (n : ℕ) → length names ≡ length places →
+    number_of names name ≡ Some n → slice_get places n ≡ find (zip names places) name
+found_at names places name n e h =
+    let it = found_from 0 names places name n e h in
+    ap (slice_get places) (omega (arith, it.number)) ∙ it.place
+
+pub found_some : (names : List Name) (places : List LabelPlace) (name : Name) (n : ℕ) →
+    length names ≡ length places → number_of names name ≡ Some n → is_some (find (zip names places) name) ≡ true
+found_some names places name n e h = (found_from 0 names places name n e h).some
+
+pub zip_more : (names : List Name) (places : List LabelPlace) (name : Name) (l : LabelPlace) →
+    length names ≡ length places → zip (names ++ name ∷ []) (places ++ l ∷ []) ≡ zip names places ++ (name, l) ∷ []
+zip_more [] [] name l e = refl
+zip_more [] (m ∷ places) name l e = absurd cc
+zip_more (x ∷ names) [] name l e = absurd cc
+zip_more (x ∷ names) (m ∷ places) name l e = ap (λ r. (x, m) ∷ r) (zip_more names places name l (omega (arith, e)))
 
 -- ---- what is found in two lists
 

@@ -1,7 +1,6 @@
 -- The instruction that a line gives, or the fault in it: every operand has to fit its field, and the registers have to
 -- be those that the form of the MIPS R2000 architecture manual allows. An offset of a branch is in words and counts
--- from
--- its delay slot. Where a number and a label are both wrong, the number's fault counts.
+-- from its delay slot. Where a number and a label are both wrong, the number's fault counts.
 use Rattle.std.specs.Prelude.{ℕ, ◌+◌, ◌-◌, ◌/◌, ◌%◌, true, false, ◌==◌, ◌&&◌, nat_lt, nat_le, cond, if◌then◌else◌, List}
 use Rattle.std.specs.Prelude.{Option, Some, None, ok_or, Result, Ok, Err}
 use Rattle.mips_encoder.specs.declared.instruction.Instr.{Instr}

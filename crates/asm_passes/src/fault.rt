@@ -3,15 +3,16 @@
 ghost use Rattle.std.specs.Prelude.{◌≡◌, ◌≤◌};
 ghost use Rattle.asm_passes.specs.Faults as spec;
 
-use std::alloc::{AllocError, AllocFailed};
+use std::alloc::AllocError;
+use thiserror::Error;
 
 /// What is wrong in a line, numbered from 1 in this order.
-#[derive(Clone, Copy)]
+#[derive(Clone, Copy, Debug)]
 pub enum AsmFaultKind {
     /// The line has another form, it is a second `.entry`, or it is the first line of a text without a word.
     BadLine,
-    /// A value is outside its field, a register is one that the instruction excludes, a limit of images is passed, or an
-    /// entry or a function stands at no word of the text.
+    /// A value is outside its field, a register is one that the instruction excludes, a limit of images is passed, or
+    /// an entry or a function stands at no word of the text.
     BadNumber,
     /// No line has the label.
     UnknownLabel,
@@ -47,7 +48,8 @@ impl AsmFaultKind {
 }
 
 /// The first fault of a text.
-#[derive(Clone, Copy)]
+#[derive(Clone, Copy, Debug, Error)]
+#[error("line {line}: {}", .kind.name())]
 pub struct AsmFault {
     /// What is wrong.
     pub kind: AsmFaultKind,
@@ -56,11 +58,13 @@ pub struct AsmFault {
 }
 
 /// Why `assemble` gives no image.
-#[derive(Clone, Copy)]
+#[derive(Clone, Copy, Debug, Error)]
 pub enum AsmDeny {
     /// The text is no image: its first fault.
+    #[error("{0}")]
     Refused(AsmFault),
     /// Memory was not found.
+    #[error("memory was not found")]
     NoMemory,
 }
 
@@ -71,17 +75,6 @@ impl From<AllocError> for AsmDeny {
     ghost from_gives = { λ _ e. e ≡ NoMemory };
 
     fn from(_error: AllocError) -> AsmDeny {
-        AsmDeny::NoMemory
-    }
-}
-
-impl<T: Drop> From<AllocFailed<T>> for AsmDeny {
-    ghost use Rattle.std.specs.Prelude.{◌≡◌};
-    ghost use Rattle.asm_passes.specs.declared.fault.AsmDeny.TheVariants.{NoMemory};
-
-    ghost from_gives = { λ _ e. e ≡ NoMemory };
-
-    fn from(_error: AllocFailed<T>) -> AsmDeny {
         AsmDeny::NoMemory
     }
 }

@@ -1,12 +1,12 @@
 //! Labels.
 
-ghost use Rattle.std.specs.Prelude.{◌≡◌, ◌≤◌, ◌*◌, ◌+◌, ◌++◌, ◌∷◌, [], OnOk};
+ghost use Rattle.std.specs.Prelude.{◌≡◌, ◌≤◌, ◌*◌, ◌+◌, ◌++◌, ◌∷◌, [], OnOk, slice_get};
 ghost use Rattle.asm_passes.specs.Labels as spec;
 ghost use Rattle.limits.specs.declared.text.TheConstants.{LONGEST_TEXT};
 
 use crate::position::Position;
 use asm_lines::{Line, Word};
-use indexmap::IndexMap;
+use name_numbers::Names;
 use std::alloc::{AllocError, Global};
 use std::marker::Model;
 use word32::map::TEXT;
@@ -67,25 +67,44 @@ impl Label {
     }
 }
 
+// The label of a number.
+fn place_of(places: &[Label], number: usize) -> Option<Label>
+    ensures { result ≡ slice_get places.now number }
+{
+    match places.get(number) {
+        None => None,
+        Some(place) => Some(*place),
+    }
+}
+
 /// The labels of a text, each with its first place.
 pub struct Labels {
     alloc: Global,
-    names: IndexMap<Vec<u8>, Label>,
+    names: Names,
+    // by the numbers of their names
+    places: Vec<Label>,
 }
 
 impl Drop for Labels {
     fn drop(self) {
-        let Labels { alloc: _, names: _ } = self;
+        let Labels {
+            alloc: _,
+            names: _,
+            places: _,
+        } = self;
     }
 }
 
 impl Model for Labels {
-    ghost use Rattle.std.specs.Prelude.{map};
+    ghost use Rattle.std.specs.Prelude.{◌≡◌, length};
+    ghost use Rattle.std.specs.List.{zip};
     ghost use Rattle.asm_passes.specs.Labels as spec;
 
     ghost Value = { spec.Names };
 
-    ghost view = { λ s. map (λ e. (e.0.items, e.1)) s.names.entries };
+    ghost view = { λ s. zip s.names s.places.items };
+
+    ghost invariant = { λ s. length s.names ≡ length s.places.items };
 }
 
 impl Labels {
@@ -95,7 +114,8 @@ impl Labels {
     {
         Labels {
             alloc,
-            names: IndexMap::new(alloc),
+            names: Names::new(alloc),
+            places: Vec::new(alloc),
         }
     }
 
@@ -103,19 +123,25 @@ impl Labels {
     pub fn find(&self, name: &[u8]) -> Option<Label>
         ensures { result ≡ spec.find self.now name.now }
     {
-        self.names.get(name).copied()
+        match self.names.find(name) {
+            Some(number) => place_of(self.places.as_slice(), number),
+            None => None,
+        }
     }
 
     /// Adds a label, unless its name is there.
     pub fn note(&mut self, name: &[u8], label: Label) -> Result<(), AllocError>
         ensures { OnOk result (spec.find self.new ≡ spec.find (self.old ++ (name.now, label) ∷ [])) }
     {
-        if self.names.contains_key(name) {
-            return Ok(());
+        match self.names.find(name) {
+            Some(_) => Ok(()),
+            None => {
+                self.places.reserve(1)?;
+                self.names.add(self.alloc, name)?;
+                self.places.push_reserved(label);
+                Ok(())
+            }
         }
-        let key = Vec::from_slice(self.alloc, name)?;
-        self.names.insert(key, label)?;
-        Ok(())
     }
 
     /// Adds the label of a line at a position, unless its name is there.

@@ -46,7 +46,7 @@ fn noted(
 /// The labels and the words of a text.
 ///
 /// # Errors
-/// Memory was not found.
+/// Where memory is wanting.
 pub(crate) fn surveyed(alloc: Global, text: &[u8]) -> Result<Survey, AllocError>
     requires { length text.now ≤ LONGEST_TEXT }
     ensures { IfOk result (λ s. known_by s.labels s.words ≡ spec.known (spec.placed_lines text.now)) }

@@ -3,26 +3,7 @@
 -- has one, and a jump names the address of its target. The form is this project's own.
 use Rattle.std.specs.Prelude.{ℕ, ◌*◌, List, ◌++◌, codes}
 use Rattle.mips_encoder.specs.declared.instruction.Instr.{Instr}
-use Rattle.mips_encoder.specs.declared.instruction.Instr.TheVariants.{
-  Arithmetic,
-  Shift,
-  ShiftVariable,
-  JumpRegister,
-  JumpAndLinkRegister,
-  Syscall,
-  Break,
-  MoveFrom,
-  MoveTo,
-  MultiplyDivide,
-  BranchOnSign,
-  BranchOnSignAndLink,
-  Jump,
-  BranchOnEquality,
-  BranchOnZero,
-  ImmediateArithmetic,
-  LoadUpperImmediate,
-  Memory,
-}
+use Rattle.mips_encoder.specs.declared.instruction.Instr.TheVariants as i
 use Rattle.mips_encoder.specs.declared.instruction.ImmediateOp.{ImmediateOp}
 use Rattle.mips_encoder.specs.declared.instruction.ImmediateOp.TheVariants.{Addi, Addiu, Slti, Sltiu, Andi, Ori, Xori}
 use Rattle.asm_print.specs.declared.operand.Operand.{Operand}
@@ -73,22 +54,22 @@ immediate_operand Xori n = Unsigned n
 
 -- the line of an instruction
 abbrev pub spelled : Instr → List ℕ
-spelled (Arithmetic op rd rs rt) = three (arithmetic_name op) (Numbered rd) (Numbered rs) (Numbered rt)
-spelled (Shift op rd rt shamt) = three (shift_name op) (Numbered rd) (Numbered rt) (Unsigned shamt)
-spelled (ShiftVariable op rd rt rs) = three (shift_variable_name op) (Numbered rd) (Numbered rt) (Numbered rs)
-spelled (JumpRegister rs) = one (codes "jr") (Numbered rs)
-spelled (JumpAndLinkRegister p) = two (codes "jalr") (Numbered p.rd) (Numbered p.rs)
-spelled Syscall = codes "syscall\n"
-spelled (Break code) = one (codes "break") (Unsigned code)
-spelled (MoveFrom source rd) = one (move_from_name source) (Numbered rd)
-spelled (MoveTo target rs) = one (move_to_name target) (Numbered rs)
-spelled (MultiplyDivide op rs rt) = two (multiply_divide_name op) (Numbered rs) (Numbered rt)
-spelled (BranchOnSign test rs offset) = two (sign_name test) (Numbered rs) (Signed offset)
-spelled (BranchOnSignAndLink test rs offset) = two (sign_and_link_name test) (Numbered rs) (Signed offset)
-spelled (Jump op target) = one (jump_name op) (Address (4 * target))
-spelled (BranchOnEquality op rs rt offset) = three (equality_name op) (Numbered rs) (Numbered rt) (Signed offset)
-spelled (BranchOnZero op rs offset) = two (zero_comparison_name op) (Numbered rs) (Signed offset)
-spelled (ImmediateArithmetic op rt rs imm) =
+spelled (i.Arithmetic op rd rs rt) = three (arithmetic_name op) (Numbered rd) (Numbered rs) (Numbered rt)
+spelled (i.Shift op rd rt shamt) = three (shift_name op) (Numbered rd) (Numbered rt) (Unsigned shamt)
+spelled (i.ShiftVariable op rd rt rs) = three (shift_variable_name op) (Numbered rd) (Numbered rt) (Numbered rs)
+spelled (i.JumpRegister rs) = one (codes "jr") (Numbered rs)
+spelled (i.JumpAndLinkRegister p) = two (codes "jalr") (Numbered p.rd) (Numbered p.rs)
+spelled i.Syscall = codes "syscall\n"
+spelled (i.Break code) = one (codes "break") (Unsigned code)
+spelled (i.MoveFrom source rd) = one (move_from_name source) (Numbered rd)
+spelled (i.MoveTo target rs) = one (move_to_name target) (Numbered rs)
+spelled (i.MultiplyDivide op rs rt) = two (multiply_divide_name op) (Numbered rs) (Numbered rt)
+spelled (i.BranchOnSign test rs offset) = two (sign_name test) (Numbered rs) (Signed offset)
+spelled (i.BranchOnSignAndLink test rs offset) = two (sign_and_link_name test) (Numbered rs) (Signed offset)
+spelled (i.Jump op target) = one (jump_name op) (Address (4 * target))
+spelled (i.BranchOnEquality op rs rt offset) = three (equality_name op) (Numbered rs) (Numbered rt) (Signed offset)
+spelled (i.BranchOnZero op rs offset) = two (zero_comparison_name op) (Numbered rs) (Signed offset)
+spelled (i.ImmediateArithmetic op rt rs imm) =
     three (immediate_name op) (Numbered rt) (Numbered rs) (immediate_operand op imm)
-spelled (LoadUpperImmediate rt imm) = two (codes "lui") (Numbered rt) (Unsigned imm)
-spelled (Memory op rt offset rs) = based (memory_name op) (Numbered rt) (Signed offset) (Numbered rs)
+spelled (i.LoadUpperImmediate rt imm) = two (codes "lui") (Numbered rt) (Unsigned imm)
+spelled (i.Memory op rt offset rs) = based (memory_name op) (Numbered rt) (Signed offset) (Numbered rs)

@@ -71,8 +71,10 @@ fn word_line(word: u32) -> Line
 }
 
 fn write_functions<O: Sink>(functions: &[FunctionEntry], out: &mut O) -> Result<(), Failed>
-    ensures whole { OnOk result (Appends (O.taken out.old) (O.taken out.new) (flat_map spec.function_line functions.now)) }
-    ensures front { OnErr result (TakesFront (O.taken out.old) (O.taken out.new) (flat_map spec.function_line functions.now)) }
+    ensures whole { OnOk result (Appends (O.taken out.old) (O.taken out.new)
+        (flat_map spec.function_line functions.now)) }
+    ensures front { OnErr result (TakesFront (O.taken out.old) (O.taken out.new)
+        (flat_map spec.function_line functions.now)) }
     ensures cause { HasCause (O.faults out.old) (O.faults out.new) result }
 {
     for function in functions {

@@ -1,27 +1,7 @@
 -- Each operation is found by its name.
 use Rattle.std.proofs.Common.{◌≡◌, Some, refl}
 use Rattle.asm_words.specs.declared.operation.Operation.{Operation}
-use Rattle.asm_words.specs.declared.operation.Operation.TheVariants.{
-  Arithmetic,
-  Shift,
-  ShiftVariable,
-  JumpRegister,
-  JumpAndLinkRegister,
-  Syscall,
-  Break,
-  MoveFrom,
-  MoveTo,
-  MultiplyDivide,
-  BranchOnSign,
-  BranchOnSignAndLink,
-  Jump,
-  BranchOnEquality,
-  BranchOnZero,
-  ImmediateArithmetic,
-  LoadUpperImmediate,
-  Memory,
-  NoOperation,
-}
+use Rattle.asm_words.specs.declared.operation.Operation.TheVariants as i
 use Rattle.mips_encoder.specs.declared.instruction.ArithmeticOp.TheVariants.{Add, Addu, Sub, Subu, And, Or, Xor, Nor}
 use Rattle.mips_encoder.specs.declared.instruction.ArithmeticOp.TheVariants.{Slt, Sltu}
 use Rattle.mips_encoder.specs.declared.instruction.ShiftOp.TheVariants.{Sll, Srl, Sra}
@@ -38,58 +18,58 @@ use Rattle.asm_words.specs.Operations.{operation_name, operation_of}
 
 pub found : (op : Operation) → operation_of (operation_name op) ≡ Some op
 unfolding operation_of
-found (Arithmetic Add) = refl
-found (Arithmetic Addu) = refl
-found (Arithmetic Sub) = refl
-found (Arithmetic Subu) = refl
-found (Arithmetic And) = refl
-found (Arithmetic Or) = refl
-found (Arithmetic Xor) = refl
-found (Arithmetic Nor) = refl
-found (Arithmetic Slt) = refl
-found (Arithmetic Sltu) = refl
-found (Shift Sll) = refl
-found (Shift Srl) = refl
-found (Shift Sra) = refl
-found (ShiftVariable Sllv) = refl
-found (ShiftVariable Srlv) = refl
-found (ShiftVariable Srav) = refl
-found JumpRegister = refl
-found JumpAndLinkRegister = refl
-found Syscall = refl
-found Break = refl
-found (MoveFrom Hi) = refl
-found (MoveFrom Lo) = refl
-found (MoveTo Hi) = refl
-found (MoveTo Lo) = refl
-found (MultiplyDivide Mult) = refl
-found (MultiplyDivide Multu) = refl
-found (MultiplyDivide Div) = refl
-found (MultiplyDivide Divu) = refl
-found (BranchOnSign Negative) = refl
-found (BranchOnSign NonNegative) = refl
-found (BranchOnSignAndLink Negative) = refl
-found (BranchOnSignAndLink NonNegative) = refl
-found (Jump J) = refl
-found (Jump Jal) = refl
-found (BranchOnEquality Beq) = refl
-found (BranchOnEquality Bne) = refl
-found (BranchOnZero Blez) = refl
-found (BranchOnZero Bgtz) = refl
-found (ImmediateArithmetic Addi) = refl
-found (ImmediateArithmetic Addiu) = refl
-found (ImmediateArithmetic Slti) = refl
-found (ImmediateArithmetic Sltiu) = refl
-found (ImmediateArithmetic Andi) = refl
-found (ImmediateArithmetic Ori) = refl
-found (ImmediateArithmetic Xori) = refl
-found LoadUpperImmediate = refl
-found (Memory Lb) = refl
-found (Memory Lh) = refl
-found (Memory Lw) = refl
-found (Memory Lbu) = refl
-found (Memory Lhu) = refl
-found (Memory Sb) = refl
-found (Memory Sh) = refl
-found (Memory Sw) = refl
-found NoOperation = refl
+found (i.Arithmetic Add) = refl
+found (i.Arithmetic Addu) = refl
+found (i.Arithmetic Sub) = refl
+found (i.Arithmetic Subu) = refl
+found (i.Arithmetic And) = refl
+found (i.Arithmetic Or) = refl
+found (i.Arithmetic Xor) = refl
+found (i.Arithmetic Nor) = refl
+found (i.Arithmetic Slt) = refl
+found (i.Arithmetic Sltu) = refl
+found (i.Shift Sll) = refl
+found (i.Shift Srl) = refl
+found (i.Shift Sra) = refl
+found (i.ShiftVariable Sllv) = refl
+found (i.ShiftVariable Srlv) = refl
+found (i.ShiftVariable Srav) = refl
+found i.JumpRegister = refl
+found i.JumpAndLinkRegister = refl
+found i.Syscall = refl
+found i.Break = refl
+found (i.MoveFrom Hi) = refl
+found (i.MoveFrom Lo) = refl
+found (i.MoveTo Hi) = refl
+found (i.MoveTo Lo) = refl
+found (i.MultiplyDivide Mult) = refl
+found (i.MultiplyDivide Multu) = refl
+found (i.MultiplyDivide Div) = refl
+found (i.MultiplyDivide Divu) = refl
+found (i.BranchOnSign Negative) = refl
+found (i.BranchOnSign NonNegative) = refl
+found (i.BranchOnSignAndLink Negative) = refl
+found (i.BranchOnSignAndLink NonNegative) = refl
+found (i.Jump J) = refl
+found (i.Jump Jal) = refl
+found (i.BranchOnEquality Beq) = refl
+found (i.BranchOnEquality Bne) = refl
+found (i.BranchOnZero Blez) = refl
+found (i.BranchOnZero Bgtz) = refl
+found (i.ImmediateArithmetic Addi) = refl
+found (i.ImmediateArithmetic Addiu) = refl
+found (i.ImmediateArithmetic Slti) = refl
+found (i.ImmediateArithmetic Sltiu) = refl
+found (i.ImmediateArithmetic Andi) = refl
+found (i.ImmediateArithmetic Ori) = refl
+found (i.ImmediateArithmetic Xori) = refl
+found i.LoadUpperImmediate = refl
+found (i.Memory Lb) = refl
+found (i.Memory Lh) = refl
+found (i.Memory Lw) = refl
+found (i.Memory Lbu) = refl
+found (i.Memory Lhu) = refl
+found (i.Memory Sb) = refl
+found (i.Memory Sh) = refl
+found (i.Memory Sw) = refl
+found i.NoOperation = refl

@@ -3,27 +3,7 @@
 use Rattle.std.specs.Prelude.{ℕ, if◌then◌else◌, List, [], ◌∷◌, Option, Some, None, codes}
 use Rattle.std.specs.Str.{bytes_eq}
 use Rattle.asm_words.specs.declared.operation.Operation.{Operation}
-use Rattle.asm_words.specs.declared.operation.Operation.TheVariants.{
-  Arithmetic,
-  Shift,
-  ShiftVariable,
-  JumpRegister,
-  JumpAndLinkRegister,
-  Syscall,
-  Break,
-  MoveFrom,
-  MoveTo,
-  MultiplyDivide,
-  BranchOnSign,
-  BranchOnSignAndLink,
-  Jump,
-  BranchOnEquality,
-  BranchOnZero,
-  ImmediateArithmetic,
-  LoadUpperImmediate,
-  Memory,
-  NoOperation,
-}
+use Rattle.asm_words.specs.declared.operation.Operation.TheVariants as i
 use Rattle.asm_words.specs.declared.operation.TheConstants.{OPERATIONS}
 use Rattle.asm_print.specs.Names.{
   arithmetic_name,
@@ -43,25 +23,25 @@ use Rattle.asm_print.specs.Names.{
 
 -- The name of an operation.
 abbrev pub operation_name : Operation → List ℕ
-operation_name (Arithmetic op) = arithmetic_name op
-operation_name (Shift op) = shift_name op
-operation_name (ShiftVariable op) = shift_variable_name op
-operation_name JumpRegister = codes "jr"
-operation_name JumpAndLinkRegister = codes "jalr"
-operation_name Syscall = codes "syscall"
-operation_name Break = codes "break"
-operation_name (MoveFrom op) = move_from_name op
-operation_name (MoveTo op) = move_to_name op
-operation_name (MultiplyDivide op) = multiply_divide_name op
-operation_name (BranchOnSign op) = sign_name op
-operation_name (BranchOnSignAndLink op) = sign_and_link_name op
-operation_name (Jump op) = jump_name op
-operation_name (BranchOnEquality op) = equality_name op
-operation_name (BranchOnZero op) = zero_comparison_name op
-operation_name (ImmediateArithmetic op) = immediate_name op
-operation_name LoadUpperImmediate = codes "lui"
-operation_name (Memory op) = memory_name op
-operation_name NoOperation = codes "nop"
+operation_name (i.Arithmetic op) = arithmetic_name op
+operation_name (i.Shift op) = shift_name op
+operation_name (i.ShiftVariable op) = shift_variable_name op
+operation_name i.JumpRegister = codes "jr"
+operation_name i.JumpAndLinkRegister = codes "jalr"
+operation_name i.Syscall = codes "syscall"
+operation_name i.Break = codes "break"
+operation_name (i.MoveFrom op) = move_from_name op
+operation_name (i.MoveTo op) = move_to_name op
+operation_name (i.MultiplyDivide op) = multiply_divide_name op
+operation_name (i.BranchOnSign op) = sign_name op
+operation_name (i.BranchOnSignAndLink op) = sign_and_link_name op
+operation_name (i.Jump op) = jump_name op
+operation_name (i.BranchOnEquality op) = equality_name op
+operation_name (i.BranchOnZero op) = zero_comparison_name op
+operation_name (i.ImmediateArithmetic op) = immediate_name op
+operation_name i.LoadUpperImmediate = codes "lui"
+operation_name (i.Memory op) = memory_name op
+operation_name i.NoOperation = codes "nop"
 
 -- The first of these operations whose name a word is.
 abbrev pub named : List Operation → List ℕ → Option Operation

@@ -62,7 +62,7 @@ impl<'a> Pairs<'a> {
     /// Adds the bytes, one for each pair.
     ///
     /// # Errors
-    /// Memory was not found.
+    /// Where memory is wanting.
     pub fn push_to(&self, out: &mut Vec<u8>) -> Result<(), AllocError>
         ensures { OnOk result (out.new.items ≡ out.old.items ++ spec.bytes_of self.now) }
     {

@@ -1,1 +1,4 @@
 pub mod Statics
+pub mod Refused
+mod WrittenExpressions
+pub mod Written

@@ -13,19 +13,34 @@ use Rattle.typed_tree.specs.declared.program.Function.{Function}
 use Rattle.typed_tree.specs.declared.program.Tick.{Tick}
 use Rattle.typed_tree.specs.Nodes as node
 use Rattle.staged_meaning.specs.Scope.{IsBuilt, AreBuilt, IsBuiltStmt, AreBuiltItems}
+use Rattle.staged_meaning.specs.Ticks.{AreCaptures, HasTicks, HaveTicks, HaveTicksCaptures, HasTicksStmt}
+use Rattle.staged_meaning.specs.Ticks.{HaveTicksItems}
+use Rattle.staged_meaning.specs.Program.{tick_size}
+use Rattle.staged_meaning.specs.Source as source
+use Rattle.typed_tree.specs.declared.program.TickBody.{TickBody}
+use Rattle.typed_tree.specs.declared.program.TickBody.TheVariants as body
+use Rattle.typed_tree.specs.Measures.{size_of_expr, size_of_stmt, size_of_body}
+use Rattle.std.proofs.lemmas.Option.{slice_get-map}
+use Rattle.std.specs.Prelude.{option_map}
 use Rattle.staged_meaning.specs.Size.{size_of}
-use Rattle.typed_tree.specs.View.{function_view, program_view}
+use Rattle.typed_tree.specs.View.{expr_view, stmt_view, function_view, body_view, tick_view, program_view}
 use Rattle.wellformed.specs.declared.typed.Typed.{Typed}
-use Rattle.wellformed.specs.Program.{IsFunction, IsWellFormed, words}
-use Rattle.limits.specs.declared.program.TheConstants.{CHARGE_LIMIT}
-use Rattle.wf_ready.specs.Laws.{FunctionsAreReadyIn}
-use Rattle.static_image.specs.Served.{IsStatic, most_words, AreStatic}
+use Rattle.wellformed.specs.Program.{IsFunction, IsTick, IsWellFormed, words}
+use Rattle.limits.specs.declared.program.TheConstants.{CHARGE_LIMIT, SIZE_LIMIT}
+use Rattle.wf_ready.specs.Laws.{FunctionsAreReadyIn, TicksAreCaptured}
+use Rattle.tick_captures_proof.specs.Laws.{CapturesAreFew}
+use Rattle.static_image.specs.Layout.{functions_at}
+use Rattle.routine_spec.specs.Generator.{HasRoom}
+use Rattle.tick_lower_spec.specs.TickPieces.{tick_pieces}
+use Rattle.static_image.specs.Served.{IsStatic, most_words, most_generated, AreStatic}
 use Rattle.static_image.specs.Words.{HasWords, HaveWordsArgs, HasWordsStmt, HaveWords}
 use Rattle.icode_ir.specs.Sound.{Each}
 use Rattle.meaning_state.specs.Rows.{numbered}
 use Rattle.wellformed.specs.Accepted.{charge}
 use Rattle.built_nodes.specs.Listed.{is_listed_expr, are_listed_args, is_listed_stmt, are_listed, is_listed}
-use Rattle.built_programs.specs.Built.{are_functions_listed, are_bytes, Main, main_from, of_parts, built}
+use Rattle.built_nodes.specs.Listed.{is_listed_body}
+use Rattle.word32.specs.declared.map.TheConstants.{SEGMENT_BYTES}
+use Rattle.built_programs.specs.Built.{are_functions_listed, are_bytes, Main, main_from, are_ticks_listed, built}
 use Rattle.built_programs.specs.Laws.{BuiltIsStatic}
 
 three_parts : (a b c : Bool) → (a && b && c) ≡ true → (a ≡ true) × (b ≡ true) × (c ≡ true)
@@ -95,91 +110,126 @@ pair x y = ((x.0, y.0), (x.1, y.1))
 triple : {A B C D E F : Type 0} → A × B → C × D → E × F → (A × C × E) × (B × D × F)
 triple x y z = ((x.0, y.0, z.0), (x.1, y.1, z.1))
 
-mutual
-  expr_built : (e : node.Expr) → is_listed_expr e ≡ true → IsBuilt e × HasWords e
-  expr_built (node.Const w) h = (tt, below w 4294967296 h)
-  expr_built (node.Var i) h = (tt, tt)
-  expr_built (node.SetVar i a) h = expr_built a h
-  expr_built (node.PostVar i w step) h = (tt, below step 4294967296 h)
-  expr_built (node.Frame offset) h = (tt, tt)
-  expr_built (node.Load w a) h = expr_built a h
-  expr_built (node.Store w a b) h = let p = listed_two a b h in pair (expr_built a p.0) (expr_built b p.1)
-  expr_built (node.Modify w k a b) h = let p = listed_two a b h in pair (expr_built a p.0) (expr_built b p.1)
-  expr_built (node.Post w step a) h =
-      let p = listed_post step a h in
-      let q = expr_built a p.1 in
-      (q.0, (p.0, q.1))
-  expr_built (node.Bin k a b) h = let p = listed_two a b h in pair (expr_built a p.0) (expr_built b p.1)
-  expr_built (node.Un k a) h = expr_built a h
-  expr_built (node.And a b) h = let p = listed_two a b h in pair (expr_built a p.0) (expr_built b p.1)
-  expr_built (node.Or a b) h = let p = listed_two a b h in pair (expr_built a p.0) (expr_built b p.1)
-  expr_built (node.Cond c a b) h =
-      let p = listed_three c a b h in
-      triple (expr_built c p.0) (expr_built a p.1) (expr_built b p.2)
-  expr_built (node.Comma a b) h = let p = listed_two a b h in pair (expr_built a p.0) (expr_built b p.1)
-  expr_built (node.Void a) h = expr_built a h
-  expr_built (node.Call answer f args) h = args_built args h
-  expr_built (node.CallNumber answer a args) h =
-      let p = listed_arg a args h in
-      pair (expr_built a p.0) (args_built args p.1)
-  expr_built node.Getchar h = (tt, tt)
-  expr_built (node.Lib library a) h = expr_built a h
-  expr_built _ h = absurd cc
+module _ (ticks : List (List CaptureKind)) where
+  mutual
+    expr_built : (e : node.Expr) → is_listed_expr e ≡ true → HasTicks ticks e → IsBuilt e × HasWords e
+    expr_built (node.Const w) h made = (tt, below w 4294967296 h)
+    expr_built (node.Var i) h made = (tt, tt)
+    expr_built (node.SetVar i a) h made = expr_built a h made
+    expr_built (node.PostVar i w step) h made = (tt, below step 4294967296 h)
+    expr_built (node.Frame offset) h made = (tt, tt)
+    expr_built (node.Load w a) h made = expr_built a h made
+    expr_built (node.Store w a b) h made = let p = listed_two a b h in
+        pair (expr_built a p.0 made.0) (expr_built b p.1 made.1)
+    expr_built (node.Modify w k a b) h made = let p = listed_two a b h in
+        pair (expr_built a p.0 made.0) (expr_built b p.1 made.1)
+    expr_built (node.Post w step a) h made =
+        let p = listed_post step a h in
+        let q = expr_built a p.1 made in
+        (q.0, (p.0, q.1))
+    expr_built (node.Bin k a b) h made = let p = listed_two a b h in
+        pair (expr_built a p.0 made.0) (expr_built b p.1 made.1)
+    expr_built (node.Un k a) h made = expr_built a h made
+    expr_built (node.And a b) h made = let p = listed_two a b h in
+        pair (expr_built a p.0 made.0) (expr_built b p.1 made.1)
+    expr_built (node.Or a b) h made = let p = listed_two a b h in
+        pair (expr_built a p.0 made.0) (expr_built b p.1 made.1)
+    expr_built (node.Cond c a b) h made =
+        let p = listed_three c a b h in
+        triple (expr_built c p.0 made.0) (expr_built a p.1 made.1) (expr_built b p.2 made.2)
+    expr_built (node.Comma a b) h made = let p = listed_two a b h in
+        pair (expr_built a p.0 made.0) (expr_built b p.1 made.1)
+    expr_built (node.Void a) h made = expr_built a h made
+    expr_built (node.Call answer f args) h made = args_built args h made
+    expr_built (node.CallNumber answer a args) h made =
+        let p = listed_arg a args h in
+        pair (expr_built a p.0 made.0) (args_built args p.1 made.1)
+    expr_built node.Getchar h made = (tt, tt)
+    expr_built (node.Lib library a) h made = expr_built a h made
+    expr_built (node.Tick tick args) h made = captures_built args h made.1
+    expr_built (node.Capture kind a) h made = absurd made
+    expr_built (node.Captured w i) h made = absurd made
+    expr_built (node.VGet i) h made = absurd made
+    expr_built (node.VSet i a) h made = absurd made
+    expr_built (node.VPost i step) h made = absurd made
+    expr_built (node.Splice answer i) h made = absurd made
+    expr_built node.Local h made = (tt, tt)
+    expr_built (node.ParamOf a) h made = expr_built a h made
+    expr_built _ h made = absurd cc
 
-  args_built : (args : node.Args) → are_listed_args args ≡ true → AreBuilt args × HaveWordsArgs args
-  args_built node.NoArg h = (tt, tt)
-  args_built (node.Arg a args) h = let p = listed_arg a args h in pair (expr_built a p.0) (args_built args p.1)
+    args_built : (args : node.Args) → are_listed_args args ≡ true → HaveTicks ticks args →
+        AreBuilt args × HaveWordsArgs args
+    args_built node.NoArg h made = (tt, tt)
+    args_built (node.Arg a args) h made = let p = listed_arg a args h in
+        pair (expr_built a p.0 made.0) (args_built args p.1 made.1)
 
-mutual
-  stmt_built : (s : node.Stmt) → is_listed_stmt s ≡ true → IsBuiltStmt s × HasWordsStmt s
-  stmt_built (node.Eval e) h = expr_built e h
-  stmt_built (node.Block vs is) h = let p = listed_block vs is h in pair (items_built vs p.0) (items_built is p.1)
-  stmt_built (node.Variable i) h = (tt, tt)
-  stmt_built (node.Object offset words) h = (tt, tt)
-  stmt_built (node.Parameter k w) h = (tt, tt)
-  stmt_built (node.ParameterObject k w offset) h = (tt, tt)
-  stmt_built (node.If e s) h = let p = listed_if e s h in pair (expr_built e p.0) (stmt_built s p.1)
-  stmt_built (node.IfElse e s t) h =
-      let p = listed_choice e s t h in
-      triple (expr_built e p.0) (stmt_built s p.1) (stmt_built t p.2)
-  stmt_built (node.While e s) h = let p = listed_if e s h in pair (expr_built e p.0) (stmt_built s p.1)
-  stmt_built (node.Do s e) h = let p = listed_do s e h in pair (stmt_built s p.0) (expr_built e p.1)
-  stmt_built (node.For e s) h = let p = listed_if e s h in pair (expr_built e p.0) (stmt_built s p.1)
-  stmt_built (node.ForStep e step s) h =
-      let p = listed_step e step s h in
-      triple (expr_built e p.0) (expr_built step p.1) (stmt_built s p.2)
-  stmt_built (node.Switch e vs is) h =
-      let p = listed_switch e vs is h in
-      triple (expr_built e p.0) (items_built vs p.1) (items_built is p.2)
-  stmt_built (node.Case value) h = (tt, below value 4294967296 h)
-  stmt_built node.Default h = (tt, tt)
-  stmt_built node.Break h = (tt, tt)
-  stmt_built node.Continue h = (tt, tt)
-  stmt_built node.Return h = (tt, tt)
-  stmt_built (node.ReturnValue e) h = expr_built e h
+    -- what a tick captures
+    captures_built : (args : node.Args) → are_listed_args args ≡ true → HaveTicksCaptures ticks args →
+        (AreCaptures args × AreBuilt args) × HaveWordsArgs args
+    captures_built node.NoArg h made = ((tt, tt), tt)
+    captures_built (node.Arg (node.Capture kind a) args) h made =
+        let p = listed_arg (node.Capture kind a) args h in
+        let q = expr_built a p.0 made.0 in
+        let r = captures_built args p.1 made.1 in
+        ((r.0.0, (q.0, r.0.1)), (q.1, r.1))
+    captures_built (node.Arg _ args) h made = absurd made
 
-  items_built : (is : node.Items) → are_listed is ≡ true → AreBuiltItems is × HaveWords is
-  items_built node.NoItem h = (tt, tt)
-  items_built (node.Item s is) h = let p = listed_item s is h in pair (stmt_built s p.0) (items_built is p.1)
+  mutual
+    stmt_built : (s : node.Stmt) → is_listed_stmt s ≡ true → HasTicksStmt ticks s → IsBuiltStmt s × HasWordsStmt s
+    stmt_built (node.Eval e) h made = expr_built e h made
+    stmt_built (node.Block vs is) h made = let p = listed_block vs is h in
+        pair (items_built vs p.0 made.0) (items_built is p.1 made.1)
+    stmt_built (node.Variable i) h made = (tt, tt)
+    stmt_built (node.Object offset words) h made = (tt, tt)
+    stmt_built (node.Parameter k w) h made = (tt, tt)
+    stmt_built (node.ParameterObject k w offset) h made = (tt, tt)
+    stmt_built (node.If e s) h made = let p = listed_if e s h in
+        pair (expr_built e p.0 made.0) (stmt_built s p.1 made.1)
+    stmt_built (node.IfElse e s t) h made =
+        let p = listed_choice e s t h in
+        triple (expr_built e p.0 made.0) (stmt_built s p.1 made.1) (stmt_built t p.2 made.2)
+    stmt_built (node.While e s) h made = let p = listed_if e s h in
+        pair (expr_built e p.0 made.0) (stmt_built s p.1 made.1)
+    stmt_built (node.Do s e) h made = let p = listed_do s e h in
+        pair (stmt_built s p.0 made.0) (expr_built e p.1 made.1)
+    stmt_built (node.For e s) h made = let p = listed_if e s h in
+        pair (expr_built e p.0 made.0) (stmt_built s p.1 made.1)
+    stmt_built (node.ForStep e step s) h made =
+        let p = listed_step e step s h in
+        triple (expr_built e p.0 made.0) (expr_built step p.1 made.1) (stmt_built s p.2 made.2)
+    stmt_built (node.Switch e vs is) h made =
+        let p = listed_switch e vs is h in
+        triple (expr_built e p.0 made.0) (items_built vs p.1 made.1) (items_built is p.2 made.2)
+    stmt_built (node.Case value) h made = (tt, below value 4294967296 h)
+    stmt_built node.Default h made = (tt, tt)
+    stmt_built node.Break h made = (tt, tt)
+    stmt_built node.Continue h made = (tt, tt)
+    stmt_built node.Return h made = (tt, tt)
+    stmt_built (node.ReturnValue e) h made = expr_built e h made
+
+    items_built : (is : node.Items) → are_listed is ≡ true → HaveTicksItems ticks is → AreBuiltItems is × HaveWords is
+    items_built node.NoItem h made = (tt, tt)
+    items_built (node.Item s is) h made = let p = listed_item s is h in
+        pair (stmt_built s p.0 made.0) (items_built is p.1 made.1)
 
 -- ---- functions
 
 -- a function of an accepted text whose nodes are of the list is one that the backend takes
-function_static : FunctionsAreReadyIn → (p : node.Program) (ticks : List (List CaptureKind)) (f : node.Function) →
-    IsFunction p ticks f → is_listed f ≡ true → IsStatic p.functions f
-function_static ready p ticks f is h =
-    let body = stmt_built f.body h in
+function_static : FunctionsAreReadyIn → TicksAreCaptured → (p : node.Program) (ticks : List (List CaptureKind))
+    (f : node.Function) → IsFunction p ticks f → is_listed f ≡ true → IsStatic p.functions ticks f
+function_static ready captured p ticks f is h =
+    let body = stmt_built ticks f.body h (captured p ticks f is) in
     record { ready = ready p ticks f is body.0; words = body.1 }
 
-each_static : FunctionsAreReadyIn → (p : node.Program) (ticks : List (List CaptureKind)) (fs : List Function)
-    → ((n : ℕ) (f : node.Function) → slice_get (map function_view fs) n ≡ Some f → IsFunction p ticks f) →
-    are_functions_listed fs ≡ true
-    → Each (IsStatic p.functions) (map function_view fs)
-each_static ready p ticks [] is e = tt
-each_static ready p ticks (f ∷ fs) is e =
+each_static : FunctionsAreReadyIn → TicksAreCaptured → (p : node.Program) (ticks : List (List CaptureKind))
+    (fs : List Function) → ((n : ℕ) (f : node.Function) → slice_get (map function_view fs) n ≡ Some f →
+    IsFunction p ticks f) → are_functions_listed fs ≡ true
+    → Each (IsStatic p.functions ticks) (map function_view fs)
+each_static ready captured p ticks [] is e = tt
+each_static ready captured p ticks (f ∷ fs) is e =
     let both = and_parts (is_listed (function_view f)) (are_functions_listed fs) e in (
-      function_static ready p ticks (function_view f) (is 0 (function_view f) refl) both.0,
-      each_static ready p ticks fs (λ n g at. is (suc n) g at) both.1,
+      function_static ready captured p ticks (function_view f) (is 0 (function_view f) refl) both.0,
+      each_static ready captured p ticks fs (λ n g at. is (suc n) g at) both.1,
     )
 
 sum_from : (n : ℕ) (ns : List ℕ) → fold ◌+◌ n ns ≡ n + sum ns
@@ -192,13 +242,105 @@ charges_are_words [] = refl
 charges_are_words (f ∷ fs) =
     omega (arith, charges_are_words fs, sum_from (0 + charge (size_of f)) (map (λ f. charge (size_of f)) fs))
 
-all_static : FunctionsAreReadyIn → (p : Typed) → IsWellFormed p → are_functions_listed p.functions ≡ true →
-    AreStatic (program_view p).functions
-all_static ready p h e =
+-- and so are those of the functions of ticks
+tick_charges : (ts : List Tick) →
+    most_generated (map (λ t. source.tick_view t.body) ts)
+    ≡ sum (map (λ t. charge (size_of_body t)) (map tick_view ts))
+tick_charges [] = refl
+tick_charges (t ∷ ts) = by t.body (tick_charges ts)
+  where
+    by : (b : TickBody) → most_generated (map (λ t. source.tick_view t.body) ts)
+        ≡ sum (map (λ t. charge (size_of_body t)) (map tick_view ts)) →
+        most_generated (source.tick_view b ∷ map (λ t. source.tick_view t.body) ts)
+        ≡ sum (map (λ t. charge (size_of_body t)) (body_view b ∷ map tick_view ts))
+    by (body.Expression e) others =
+        omega (
+          arith,
+          others,
+          sum_from (0 + charge (size_of_expr (expr_view e)))
+              (map (λ t. charge (size_of_body t)) (map tick_view ts)),
+        )
+    by (body.Statement s) others =
+        omega (
+          arith,
+          others,
+          sum_from (0 + charge (size_of_stmt (stmt_view s)))
+              (map (λ t. charge (size_of_body t)) (map tick_view ts)),
+        )
+
+-- ---- ticks
+
+as_long : (ts : List Tick) → length (map tick_view ts) ≡ length (map (λ t. source.tick_view t.body) ts)
+as_long [] = refl
+as_long (t ∷ ts) = ap suc (as_long ts)
+
+-- there is a list of kinds for each tick
+kinds_at : (n : ℕ) (ts : List Tick) (ks : List (List CaptureKind)) (t : Tick) →
+    length ks ≡ length (map tick_view ts) → slice_get ts n ≡ Some t →
+    (kinds : List CaptureKind) × (slice_get ks n ≡ Some kinds)
+kinds_at n [] ks t e is = absurd cc
+kinds_at n (u ∷ ts) [] t e is = absurd (omega (arith, e))
+kinds_at zero (u ∷ ts) (k ∷ ks) t e is = (k, refl)
+kinds_at (suc n) (u ∷ ts) (k ∷ ks) t e is = kinds_at n ts ks t (omega (arith, e)) is
+
+same_size : (b : TickBody) → tick_size (Some (source.tick_view b)) ≡ size_of_body (body_view b)
+same_size (body.Expression e) = refl
+same_size (body.Statement s) = refl
+
+size_fits : (p : Typed) → IsWellFormed p → (n : ℕ) → tick_size (slice_get (source.ticks_of p) n) ≤ SIZE_LIMIT
+size_fits p h n =
+    subst (λ o. tick_size o ≤ SIZE_LIMIT) (sym (slice_get-map (λ (t : Tick). source.tick_view t.body) p.ticks n))
+    (by (slice_get p.ticks n) refl)
+  where
+    by : (o : Option Tick) → slice_get p.ticks n ≡ o →
+        tick_size (option_map (λ (t : Tick). source.tick_view t.body) o) ≤ SIZE_LIMIT
+    by None e = omega arith
+    by (Some t) e =
+        let found = kinds_at n p.ticks h.program.captures t h.program.each e in
+        let there : slice_get (map tick_view p.ticks) n ≡ Some (tick_view t) =
+        slice_get-map tick_view p.ticks n ∙ ap (option_map tick_view) e in
+        let small = (h.program.ticks n (tick_view t) found.0 there found.1).small in
+        omega (arith, small, same_size t.body)
+
+-- what the induction over a tick's body gives: wherever functions stand, its pieces have words, and captures that a
+-- closure has room for
+abbrev pub TicksHaveRoom : Type 0
+TicksHaveRoom =
+    (p : node.Program) (ticks : List (List CaptureKind)) (b : TickBody) (kinds : List CaptureKind) (starts : List ℕ) →
+    IsTick p ticks (body_view b) kinds → length kinds ≤ SIZE_LIMIT → is_listed_body (body_view b) ≡ true →
+    ((k : ℕ) → slice_index starts k < SEGMENT_BYTES) →
+    Each HasRoom (tick_pieces (functions_at starts) (source.tick_view b))
+
+-- of each tick of a program
+all_written : TicksHaveRoom → (p : node.Program) (captures : List (List CaptureKind)) (starts : List ℕ) →
+    ((k : ℕ) → slice_index starts k < SEGMENT_BYTES) → (ts : List Tick) (ks : List (List CaptureKind)) →
+    length ks ≡ length (map tick_view ts) → are_ticks_listed ts ≡ true →
+    ((n : ℕ) (t : node.TickBody) (kinds : List CaptureKind) → slice_get (map tick_view ts) n ≡ Some t →
+    slice_get ks n ≡ Some kinds → IsTick p captures t kinds × (length kinds ≤ SIZE_LIMIT)) →
+    Each (λ t. Each HasRoom (tick_pieces (functions_at starts) t)) (map (λ (t : Tick). source.tick_view t.body) ts)
+all_written room p captures starts low [] ks e listed is = tt
+all_written room p captures starts low (t ∷ ts) [] e listed is = absurd (omega (arith, e))
+all_written room p captures starts low (t ∷ ts) (k ∷ ks) e listed is =
+    let both = and_parts (is_listed_body (body_view t.body)) (are_ticks_listed ts) listed in
+    let here = is 0 (body_view t.body) k refl refl in (
+      room p captures t.body k starts here.0 here.1 both.0 low,
+      all_written room p captures starts low ts ks (omega (arith, e)) both.1 (λ n u kinds. is (suc n) u kinds),
+    )
+
+all_static : FunctionsAreReadyIn → TicksAreCaptured → CapturesAreFew → TicksHaveRoom → (p : Typed)
+    (h : IsWellFormed p) → are_functions_listed p.functions ≡ true → are_ticks_listed p.ticks ≡ true →
+    AreStatic (program_view p).functions h.program.captures (source.ticks_of p)
+all_static ready captured few room p h e f =
     let small : words (program_view p) ≤ CHARGE_LIMIT = h.program.small in
     record {
-      each = each_static ready (program_view p) h.program.captures p.functions h.program.functions e;
-      room = omega (arith, small, charges_are_words (program_view p).functions);
+      each = each_static ready captured (program_view p) h.program.captures p.functions h.program.functions e;
+      as_many = h.program.each ∙ as_long p.ticks;
+      sizes = size_fits p h;
+      few = few p h;
+      written = λ starts low.
+          all_written room (program_view p) h.program.captures starts low p.ticks h.program.captures h.program.each f
+          (λ n t kinds there is. (h.program.ticks n t kinds there is, few p h n kinds is));
+      room = omega (arith, small, charges_are_words (program_view p).functions, tick_charges p.ticks);
     }
 
 -- ---- main
@@ -286,25 +428,20 @@ all_bytes (b ∷ bs) h =
 
 -- ---- programs
 
--- which parts a program that is built has
-parts : (fs : List Function) (ts : List Tick) (image : List ℕ) (m : Main) → of_parts fs ts image ≡ Some m
-    → (are_bytes image ≡ true) × (are_functions_listed fs ≡ true) × (main_from 1 fs ≡ Some m)
-parts fs [] image m e =
-    let both = chosen (are_bytes image && are_functions_listed fs) (main_from 1 fs) m e in
-    let tests = and_parts (are_bytes image) (are_functions_listed fs) both.0 in
-    (tests.0, tests.1, both.1)
-parts fs (t ∷ ts) image m e = absurd cc
-
-pub built_static : FunctionsAreReadyIn → BuiltIsStatic
+pub built_static : FunctionsAreReadyIn → TicksAreCaptured → CapturesAreFew → TicksHaveRoom → BuiltIsStatic
 unfolding built
-built_static ready p m h e =
-    let of = parts p.functions p.ticks p.image m e in
-    let found = main_among 1 p.functions m of.2 in
+built_static ready captured few room p m h e =
+    let whole = are_bytes p.image && are_functions_listed p.functions && are_ticks_listed p.ticks in
+    let both = chosen whole (main_from 1 p.functions) m e in
+    let tests = three_parts (are_bytes p.image) (are_functions_listed p.functions) (are_ticks_listed p.ticks) both.0 in
+    let found = main_among 1 p.functions m both.1 in
     record {
-      static = all_static ready p h of.1;
-      main_is = main_is [] p.functions m of.2;
+      captures = h.program.captures;
+      static = all_static ready captured few room p h tests.1 tests.2;
+      sized = λ n t is. h.tick_sizes n t is ∙ sym (same_size t.body);
+      main_is = main_is [] p.functions m both.1;
       no_parameters = sym (ap (λ (f : node.Function). f.parameters) found.view)
           ∙ h.no_parameters found.place found.function found.is found.name;
-      each_byte_fits = byte_fits p.image of.0;
+      each_byte_fits = byte_fits p.image tests.0;
       bytes_are_few = h.program.image;
     }

@@ -92,9 +92,9 @@ pub fn same(a: &TypeRef, b: &TypeRef) -> bool
     same_parts(a.base(), &a.layers(), b.base(), &b.layers())
 }
 
-/// Whether a value converts to a wanted type: both are integers, or the same; or the value is the literal 0 (`zero`) and a
-/// pointer is wanted; or both are pointers, one of them to void, or both to functions with the same result, one of which takes
-/// any arguments.
+/// Whether a value converts to a wanted type: both are integers, or the same; or the value is the literal 0 (`zero`)
+/// and a pointer is wanted; or both are pointers, one of them to void, or both to functions with the same result, one
+/// of which takes any arguments.
 #[tactic(auto, unfolding(c_types::specs::Types::converts))]
 pub fn converts(from: &TypeRef, to: &TypeRef, zero: bool) -> bool
     ensures { result ≡ spec.converts from.now to.now zero }

@@ -1,8 +1,6 @@
 -- The tokens of a text: at each place the longest token, with blanks and comments skipped, or the first fault in text
--- order
--- with its line. The token classes are C's, cut to this project's language; the order of the faults and the limit on
--- tokens
--- are this project's own rules.
+-- order with its line. The token classes are C's, cut to this project's language; the order of the faults and the limit
+-- on tokens are this project's own rules.
 use Rattle.std.specs.Prelude.{◌≡◌, ◌≤◌, ℕ, zero, suc, ◌+◌, ◌-◌, Bool, not, ◌&&◌, ◌||◌, if◌then◌else◌, ◌==◌, nat_le}
 use Rattle.std.specs.Prelude.{nat_lt, List, [], ◌∷◌, length, take, drop, slice_index, Option, Some, None, option_map}
 use Rattle.std.specs.Prelude.{is_some, Result, Ok, Err}

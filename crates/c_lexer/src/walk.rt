@@ -143,9 +143,9 @@ impl<'a> Walk<'a> {
     }
 }
 
-/// The tokens of a text of at most 1,048,576 bytes, in text order, or its first fault: a byte that begins nothing, a comment
-/// or literal that isn't closed, a wrong escape, a number over 4,294,967,295, or one token over [`MAX_TOKENS`]. The fault has
-/// the line on which its piece begins.
+/// The tokens of a text of at most 1,048,576 bytes, in text order, or its first fault: a byte that begins nothing, a
+/// comment or literal that isn't closed, a wrong escape, a number over 4,294,967,295, or one token over [`MAX_TOKENS`].
+/// The fault has the line on which its piece begins.
 pub fn tokens(alloc: Global, text: &[u8]) -> Result<Vec<Token>, Deny>
     requires { length text.now ≤ LONGEST_TEXT }
     ensures exact { Answers (λ v. v.items) result (spec.tokens text.now) }

@@ -1,6 +1,5 @@
 -- How many bytes layers over a base have, from the base outwards: the size, cut at the first that is too large, and
--- whether
--- there is a size at all.
+-- whether there is a size at all.
 use Rattle.std.specs.Prelude.{ℕ, ◌*◌, min, nat_le, true, false, ◌&&◌, if◌then◌else◌, List, [], ◌∷◌, Option, Some, None}
 use Rattle.c_types.specs.declared.ctype.Base.{Base}
 use Rattle.c_types.specs.declared.ctype.Layer.{Layer, out-Layer}

@@ -1,6 +1,5 @@
 -- What the parts of a shared type say: a row of layers with their code and extents, of which a type has the first so
--- many, and
--- its own layers on top.
+-- many, and its own layers on top.
 use Rattle.std.specs.Prelude.{ℕ, ◌≡◌, ◌≤◌, ◌⊎◌, List, [], ◌++◌, length, take, Option, Some, None}
 use Rattle.c_types.specs.declared.ctype.Base.{Base}
 use Rattle.c_types.specs.declared.ctype.Layer.{Layer}

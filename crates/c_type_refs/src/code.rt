@@ -5,7 +5,7 @@ ghost use Rattle.c_types.specs.Types as types;
 ghost use Rattle.c_type_refs.specs.Codes as spec;
 
 use c_types::{Base, CType, Integer, Layer};
-use one_place::{LentSymbols, Symbols};
+use shared_bytes::{LentSymbols, Symbols};
 use sqlite_items::Items;
 use std::alloc::{AllocError, Global};
 

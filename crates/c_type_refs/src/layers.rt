@@ -8,7 +8,7 @@ ghost use Rattle.c_type_refs.specs.Shared.{AreLent, CodesOf};
 use crate::code::{Code, first};
 use crate::parameters::Parameters;
 use c_types::{Layer, same_layer};
-use one_place::LentSymbols;
+use shared_bytes::LentSymbols;
 use sqlite_items::Items;
 use std::marker::Model;
 

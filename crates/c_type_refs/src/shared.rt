@@ -14,8 +14,8 @@ use sqlite_items::Items;
 use std::alloc::{AllocError, Global};
 use std::marker::Model;
 
-/// A type whose copies share its row of layers: to copy it, to put a layer on it and to take one off costs the same however many
-/// layers its row has.
+/// A type whose copies share its row of layers: to copy it, to put a layer on it and to take one off costs the same
+/// however many layers its row has.
 pub struct TypeRef {
     base: Base,
     // How many of the row's layers it has, in the room that stands beside the base.

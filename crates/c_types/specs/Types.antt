@@ -229,10 +229,8 @@ abbrev pub serves : Base → List Layer → Base → List Layer → Bool
 serves a as_ b bs = is_void a as_ || is_void b bs || serves_function a as_ b bs
 
 -- Whether a value of these layers over its base converts to a type: both are integers, or the same; or it is the
--- literal 0
--- and a pointer is wanted; or both are pointers, one of them to void, or both to functions with the same result, of
--- which
--- one takes any arguments.
+-- literal 0 and a pointer is wanted; or both are pointers, one of them to void, or both to functions with the same
+-- result, of which one takes any arguments.
 abbrev pub converts_parts : Base → List Layer → Base → List Layer → Bool → Bool
 converts_parts a as_ b bs zero =
     is_integer a as_ && is_integer b bs

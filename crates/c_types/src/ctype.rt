@@ -46,7 +46,8 @@ pub enum Layer {
     Vspec,
 }
 
-/// A type: the layers over its base, the outermost last. So `int *x[3]` is the base int under a pointer, under an array.
+/// A type: the layers over its base, the outermost last. So `int *x[3]` is the base int under a pointer, under an
+/// array.
 #[cycle(types)]
 #[derive(Drop)]
 pub struct CType {

@@ -115,7 +115,8 @@ fn call_node(
     }
 }
 
-/// A call of what has this function type. Refused: NotFunction, ArgumentCount, TypeMismatch, VoidValue or TooManyParameters.
+/// A call of what has this function type. Refused: NotFunction, ArgumentCount, TypeMismatch, VoidValue or
+/// TooManyParameters.
 #[tactic(auto, unfolding(check_operands::specs::Calls::called))]
 pub fn called(
     alloc: Global,
@@ -222,8 +223,8 @@ fn library_node(
     }
 }
 
-/// A call of the library function of this number: 0 getchar, 1 putchar, 2 putint, 3 malloc, 4 exit, which has this type. Refused
-/// as [`called`].
+/// A call of the library function of this number: 0 getchar, 1 putchar, 2 putint, 3 malloc, 4 exit, which has this
+/// type. Refused as [`called`].
 #[tactic(auto, unfolding(check_operands::specs::Calls::library))]
 pub fn library(
     alloc: Global,

@@ -1,10 +1,7 @@
 -- The type that a declaration gives to a name, or the first rule on types that it breaks. The rules are C's, cut to
--- this
--- project's language, with its specifications: a cspec is of void or a word type, a vspec of a word type, a type has at
--- most
--- 4,194,304 bytes, and a list has at most 8 parameters. All the rules stand at one node, the declaration: its line is
--- the
--- fault's, and of several broken rules the one of the lowest number counts.
+-- this project's language, with its specifications: a cspec is of void or a word type, a vspec of a word type, a type
+-- has at most 4,194,304 bytes, and a list has at most 8 parameters. All the rules stand at one node, the declaration:
+-- its line is the fault's, and of several broken rules the one of the lowest number counts.
 use Rattle.std.specs.Prelude.{ℕ, ◌*◌, Bool, true, false, ◌&&◌, ◌||◌, nat_lt, nat_le, if◌then◌else◌, List, [], ◌∷◌, ◌++◌}
 use Rattle.std.specs.Prelude.{length, Option, Some, None, Result, Ok, Err}
 use Rattle.c_types.specs.declared.ctype.Integer.TheVariants as kind

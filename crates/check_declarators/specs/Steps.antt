@@ -1,6 +1,5 @@
 -- The steps from a base to a declared type. A declarator is read from its name outwards, as in C: what stands nearest
--- to the
--- name is taken last. A list of steps has the step that is taken last as its first.
+-- to the name is taken last. A list of steps has the step that is taken last as its first.
 use Rattle.std.specs.Prelude.{ℕ, Bool, true, false, List, [], ◌∷◌, ◌++◌, if◌then◌else◌}
 use Rattle.c_types.specs.declared.ctype.Layer.{Layer}
 use Rattle.c_types.specs.declared.ctype.Layer.TheVariants as layer

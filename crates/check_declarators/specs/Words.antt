@@ -1,6 +1,5 @@
 -- The base of a type, by the words that name it. These are C's words, cut to this project's language: without
--- `unsigned` an
--- integer type is signed, and `long` is int.
+-- `unsigned` an integer type is signed, and `long` is int.
 use Rattle.std.specs.Prelude.{Bool, true, false, if◌then◌else◌, Option, Some}
 use Rattle.c_types.specs.declared.ctype.Integer.TheVariants as kind
 use Rattle.c_types.specs.declared.ctype.Integer.{Integer}

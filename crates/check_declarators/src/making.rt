@@ -122,8 +122,8 @@ fn function_breaks(count: usize, layers: &[Layer]) -> Option<FaultKind>
     )
 }
 
-// The rule of the lowest number that is broken where the step is taken on these layers, which have `size` bytes, or more than
-// are allowed.
+// The rule of the lowest number that is broken where the step is taken on these layers, which have `size` bytes, or
+// more than are allowed.
 fn breaks(step: &Step, base: Base, layers: &[Layer], size: u32) -> Option<FaultKind>
     requires { size ≡ min (spec.bytes base layers.now) SIZE_TOP }
     ensures { result ≡ spec.breaks step.now base layers.now }
@@ -291,13 +291,14 @@ fn taken_as(role: Role, steps: Items<Step>) -> Items<Step>
     }
 }
 
-/// The type that these steps make of a base, for what it is declared for. The last step is taken first. An array or a function
-/// as a parameter becomes a pointer, and a parameter's outermost array needs no length.
+/// The type that these steps make of a base, for what it is declared for. The last step is taken first. An array or a
+/// function as a parameter becomes a pointer, and a parameter's outermost array needs no length.
 ///
-/// Refused with the rule of the lowest number that is broken, at the line of the declaration: TypeMismatch where a type isn't
-/// allowed for a cspec or vspec, where an element or a local is a function, or a result a function or an array; VoidValue where
-/// an element, a variable, a parameter or a length is void; BadArray where a length is absent, not constant or 0, or makes more than
-/// [`MAX_SIZE`] bytes, but for a length that an initializer counts; TooManyParameters where a list has more than 8. These are this project's rules on types.
+/// Refused with the rule of the lowest number that is broken, at the line of the declaration: TypeMismatch where a type
+/// isn't allowed for a cspec or vspec, where an element or a local is a function, or a result a function or an array;
+/// VoidValue where an element, a variable, a parameter or a length is void; BadArray where a length is absent, not
+/// constant or 0, or makes more than [`MAX_SIZE`] bytes, but for a length that an initializer counts; TooManyParameters
+/// where a list has more than 8. These are this project's rules on types.
 #[tactic(auto, unfolding(crate::specs::Making::declared_type))]
 pub fn declared_type(
     alloc: Global,

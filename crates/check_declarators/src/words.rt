@@ -13,8 +13,8 @@ fn is_unsigned(sign: Option<Signedness>) -> bool
     matches!(sign, Some(Signedness::Unsigned))
 }
 
-/// The base that these words name. Without `unsigned` an integer type is signed, and `long` is int, by the rules of this
-/// project's language.
+/// The base that these words name. Without `unsigned` an integer type is signed, and `long` is int, by the rules of
+/// this project's language.
 pub fn base_of(words: Words) -> Base
     ensures { result ≡ spec.base_of words }
 {

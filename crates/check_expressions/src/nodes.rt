@@ -3,7 +3,7 @@
 ghost use Rattle.std.specs.Prelude.{◌≡◌, IfOk};
 ghost use Rattle.tick_tree.specs.Faults.{Checks};
 ghost use Rattle.check_rules.specs.Names.{Gives};
-ghost use Rattle.check_tables.specs.Walks.{Reads};
+ghost use Rattle.check_rules.specs.Walks.{Reads};
 ghost use Rattle.check_rules.specs.Productions as spec;
 
 use c_types::Layer;
@@ -26,7 +26,7 @@ fn left(line: u32, stage: Stage, o: Operand) -> Result<Operand, Deny>
     Ok(o)
 }
 
-/// An operator between two operands, as `check_operators::binary`.
+/// An operator between two operands, as `check_nodes::binary`.
 #[tactic(auto, unfolding(check_rules::specs::Productions::binary_node))]
 pub fn binary_node(
     alloc: Global,
@@ -38,10 +38,10 @@ pub fn binary_node(
     ensures { Checks result (spec.binary_node line op a b) }
 {
     let p = values(alloc, a, b)?;
-    check_operators::binary(alloc, line, op, p.0, p.1)
+    check_nodes::binary(alloc, line, op, p.0, p.1)
 }
 
-/// `a[b]`, as `check_operators::index`; StageInTick where it is a specification in a tick.
+/// `a[b]`, as `check_nodes::index`; StageInTick where it is a specification in a tick.
 #[tactic(auto, unfolding(check_rules::specs::Productions::index_node))]
 pub fn index_node(
     alloc: Global,
@@ -53,21 +53,21 @@ pub fn index_node(
     ensures { Checks result (spec.index_node line stage a b) }
 {
     let p = values(alloc, a, b)?;
-    let o = check_operators::index(alloc, line, p.0, p.1)?;
+    let o = check_nodes::index(alloc, line, p.0, p.1)?;
     left(line, stage, o)
 }
 
-/// `a = b`, as `check_operators::assign`.
+/// `a = b`, as `check_nodes::assign`.
 #[tactic(auto, unfolding(check_rules::specs::Productions::assign_node))]
 pub fn assign_node(alloc: Global, line: u32, a: Operand, b: Operand) -> Result<Operand, Deny>
     ensures { Checks result (spec.assign_node line a b) }
 {
     let o = settled(alloc, a)?;
     let v = value_of(alloc, b)?;
-    check_operators::assign(alloc, line, o, v)
+    check_nodes::assign(alloc, line, o, v)
 }
 
-/// `a op= b`, as `check_operators::modify`.
+/// `a op= b`, as `check_nodes::modify`.
 #[tactic(auto, unfolding(check_rules::specs::Productions::modify_node))]
 pub fn modify_node(
     alloc: Global,
@@ -80,7 +80,7 @@ pub fn modify_node(
 {
     let o = settled(alloc, a)?;
     let v = value_of(alloc, b)?;
-    check_operators::modify(alloc, line, op, o, v)
+    check_nodes::modify(alloc, line, op, o, v)
 }
 
 /// `a, b`
@@ -92,7 +92,7 @@ pub fn comma_node(alloc: Global, a: Operand, b: Operand) -> Result<Operand, Allo
     check_nodes::comma(alloc, p.0, p.1)
 }
 
-/// `c ? a : b`, as `check_operators::choice`.
+/// `c ? a : b`, as `check_nodes::choice`.
 #[tactic(auto, unfolding(check_rules::specs::Productions::choice_node))]
 pub fn choice_node(
     alloc: Global,
@@ -105,16 +105,16 @@ pub fn choice_node(
 {
     let test = value_of(alloc, c)?;
     let p = values(alloc, a, b)?;
-    check_operators::choice(alloc, line, test, p.0, p.1)
+    check_nodes::choice(alloc, line, test, p.0, p.1)
 }
 
-/// `o++` and `o--`, as `check_operators::post`.
+/// `o++` and `o--`, as `check_nodes::post`.
 #[tactic(auto, unfolding(check_rules::specs::Productions::post_node))]
 pub fn post_node(alloc: Global, line: u32, op: StepOp, o: Operand) -> Result<Operand, Deny>
     ensures { Checks result (spec.post_node line op o) }
 {
     let o = settled(alloc, o)?;
-    check_operators::post(alloc, line, op, o)
+    check_nodes::post(alloc, line, op, o)
 }
 
 #[tactic(auto, unfolding(check_rules::specs::Productions::step_node))]
@@ -122,7 +122,7 @@ fn step_node(alloc: Global, line: u32, op: StepOp, o: Operand) -> Result<Operand
     ensures { Checks result (spec.step_node line op o) }
 {
     let o = settled(alloc, o)?;
-    check_operators::stepped(alloc, line, op, o)
+    check_nodes::stepped(alloc, line, op, o)
 }
 
 #[tactic(auto, unfolding(check_rules::specs::Productions::star_node))]
@@ -151,7 +151,7 @@ fn address_by(alloc: Global, state: &mut State, line: u32, o: Operand) -> Result
 }
 
 /// `&o`: in a function a variable that is no frame object yet becomes one in the next walk. Refused as
-/// `check_operators::address`.
+/// `check_nodes::address`.
 #[tactic(auto, unfolding(check_rules::specs::Productions::address_node))]
 fn address_node(
     alloc: Global,
@@ -164,7 +164,7 @@ fn address_node(
 {
     match stage {
         Stage::Function | Stage::Dollar => address_by(alloc, state, line, o),
-        Stage::Tick => check_operators::address(line, o),
+        Stage::Tick => check_nodes::address(line, o),
     }
 }
 

@@ -39,16 +39,15 @@ is_strict op.Or = false
 is_strict _ = true
 
 -- what is asked of an expression: whether it has the form of a constant expression (numbers, characters, `sizeof`,
--- casts to
--- integers, unary and binary operators but `&&`, `||` and `,`), the plain name that it is, and the string that it is
+-- casts to integers, unary and binary operators but `&&`, `||` and `,`), the plain name that it is, and the string that
+-- it is
 pub record Written : Type 0 where
   pub constant : Bool
   pub name : Option Name
   pub string : Option (List ℕ)
 
 -- what is asked of a declarator: whether it changes nothing of its base, the name that it declares, with its line, and
--- whether
--- a cspec or vspec is written in it, in its lists of parameters too
+-- whether a cspec or vspec is written in it, in its lists of parameters too
 pub record Declared : Type 0 where
   pub plain : Bool
   pub name : Option (ℕ × Name)

@@ -63,8 +63,8 @@ fn is_integer_name(t: &Typename) -> bool
     is_some_type(t.base) && is_plain(&t.declarator)
 }
 
-/// Whether an expression has the form of a constant expression: numbers, characters, `sizeof`, casts to integers, unary and
-/// binary operators but `&&`, `||` and `,`.
+/// Whether an expression has the form of a constant expression: numbers, characters, `sizeof`, casts to integers, unary
+/// and binary operators but `&&`, `||` and `,`.
 #[tactic(auto, using(crate::proofs::Nodes::expressions))]
 pub fn has_form(e: &Expr) -> bool
     ensures { result ≡ spec.has_form e.now }

@@ -18,12 +18,10 @@ use Rattle.tick_tree.specs.declared.syntax.Declarator.{Declarator, roll-Declarat
 use Rattle.tick_tree.specs.declared.syntax.Init.{Init}
 use Rattle.tick_tree.specs.declared.syntax.Parameter.{Parameter}
 use Rattle.tick_tree.specs.declared.syntax.Typename.{Typename}
-use Rattle.tick_tree.specs.declared.syntax.Core.TheOpen.{Core-F, Expr-F, Initializer-F, OptionalExpr-F, Stmt-F}
-use Rattle.tick_tree.specs.declared.syntax.Core.TheOpen.{Suffix-F, Declaration-F, Declarator-F, Init-F, Parameter-F}
-use Rattle.tick_tree.specs.declared.syntax.Core.TheOpen.{Typename-F}
-use Rattle.tick_tree.specs.declared.syntax.Core.TheFolds.{ind-Core, ind-Declarator, map-Core, map-Declarator}
-use Rattle.tick_tree.specs.declared.syntax.Core.TheFolds.{fold-roll-Core, fold-roll-Declarator, fold-roll-Suffix}
-use Rattle.tick_tree.specs.declared.syntax.Core.TheFolds.{fold_out-Declarator, fold_out-Parameter}
+use Rattle.tick_tree.specs.declared.syntax.Core.TheOpen.{Core-F, Suffix-F, Declarator-F}
+use Rattle.tick_tree.specs.declared.syntax.Core.TheFolds.{ind-Declarator, map-Core, map-Declarator, fold-roll-Core}
+use Rattle.tick_tree.specs.declared.syntax.Core.TheFolds.{fold-roll-Declarator, fold-roll-Suffix, fold_out-Declarator}
+use Rattle.tick_tree.specs.declared.syntax.Core.TheFolds.{fold_out-Parameter}
 use Rattle.check_globals.specs.Functions.{Given, given}
 use Rattle.check_globals.specs.Parameters.{Head, Inner, nothing, inner_rule, head_rule, head_of, first_of, list_rule}
 use Rattle.check_globals.specs.Parameters.{given_rule, inner, head, list, written, parameters_of}

@@ -1,6 +1,5 @@
 -- The definition of a function: its name, which may have a prototype of the same type; then its parameters, in the
--- scope of its
--- outermost block; then its body. These are this project's own rules, after C's.
+-- scope of its outermost block; then its body. These are this project's own rules, after C's.
 use Rattle.std.specs.Prelude.{ℕ, min, List, [], ◌∷◌, length, Option, Some, None, Ok, Err}
 use Rattle.limits.specs.declared.program.TheConstants.{NODE_TOP}
 use Rattle.c_types.specs.declared.ctype.CType.{CType}
@@ -18,9 +17,9 @@ use Rattle.typed_tree.specs.declared.expression.Stmt.{Stmt}
 use Rattle.typed_tree.specs.declared.program.Function.{Function}
 use Rattle.typed_tree.specs.Sizes.{statement_size}
 use Rattle.check_rules.specs.declared.functions.Functions.{Functions}
-use Rattle.check_tables.specs.Frames as frames
+use Rattle.check_rules.specs.Frames as frames
 use Rattle.check_rules.specs.Functions as functions
-use Rattle.check_tables.specs.Walks.{Rule, ◌>>=◌, pure}
+use Rattle.check_rules.specs.Walks.{Rule, ◌>>=◌, pure}
 use Rattle.check_rules.specs.declared.state.State.{State}
 use Rattle.check_rules.specs.Locals.{meaning, parameter, with_parameter}
 use Rattle.check_rules.specs.Names.{declare}

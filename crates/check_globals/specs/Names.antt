@@ -1,8 +1,6 @@
 -- Names at file scope. A prototype may precede its function, and may stand again with the same type; every other name
--- stands once.
--- In a declaration the type comes first, then the name, then the initializer. `()` behind the name of a function means
--- that it has
--- no parameters. These are this project's own rules, after C's.
+-- stands once. In a declaration the type comes first, then the name, then the initializer. `()` behind the name of a
+-- function means that it has no parameters. These are this project's own rules, after C's.
 use Rattle.std.specs.Prelude.{ℕ, ◌+◌, min, Bool, true, false, not, ◌||◌, if◌then◌else◌, List, [], ◌∷◌, Option, Some}
 use Rattle.std.specs.Prelude.{None, Ok}
 use Rattle.c_types.specs.declared.ctype.CType.{CType}
@@ -17,8 +15,8 @@ use Rattle.check_declarators.specs.declared.steps.Step.TheVariants as step
 use Rattle.tick_tree.specs.declared.fault.FaultKind.TheVariants as fault
 use Rattle.tick_tree.specs.Faults.{refuse}
 use Rattle.check_rules.specs.Functions as functions
-use Rattle.check_tables.specs.Images as images
-use Rattle.check_tables.specs.Walks.{Rule, ◌>>=◌}
+use Rattle.check_rules.specs.Images as images
+use Rattle.check_rules.specs.Walks.{Rule, ◌>>=◌}
 use Rattle.check_rules.specs.declared.state.State.{State}
 use Rattle.check_rules.specs.Locals.{meaning}
 use Rattle.check_rules.specs.Names.{declare}

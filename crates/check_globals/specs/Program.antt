@@ -1,10 +1,7 @@
 -- The walk over a program, whose items stand at file scope: declarations of variables and prototypes, and functions. A
--- program is
--- walked twice, by the same definition: the second walk knows from the first which variables need an address, where the
--- globals
--- end and which functions there are. What is checked of the whole program comes after both walks. These are this
--- project's own
--- rules; what may stand at file scope is C's.
+-- program is walked twice, by the same definition: the second walk knows from the first which variables need an
+-- address, where the globals end and which functions there are. What is checked of the whole program comes after both
+-- walks. These are this project's own rules; what may stand at file scope is C's.
 use Rattle.std.specs.Prelude.{◌≡◌, ℕ, Bool, true, false, ◌&&◌, if◌then◌else◌, List, [], ◌∷◌, length, map, Option, Some}
 use Rattle.std.specs.Prelude.{None, is_some, Result, Ok, Err}
 use Rattle.c_types.specs.declared.ctype.CType.{CType}
@@ -28,7 +25,7 @@ use Rattle.check_rules.specs.declared.state.Stage.TheVariants as stage
 use Rattle.check_rules.specs.declared.state.State.{State}
 use Rattle.check_rules.specs.Blocks.{depth, enter, leave}
 use Rattle.check_rules.specs.Starts.{start, again}
-use Rattle.check_tables.specs.Walks.{Rule, ◌>>=◌, pure, lift}
+use Rattle.check_rules.specs.Walks.{Rule, ◌>>=◌, pure, lift}
 use Rattle.check_rules.specs.ExpressionRules as rules
 use Rattle.check_rules.specs.ExpressionRules.{Node, Shape, Item}
 use Rattle.check_rules.specs.Declarations.{name_by}

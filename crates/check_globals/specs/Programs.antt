@@ -1,8 +1,6 @@
 -- What is checked after the walk, in this order: each prototype has a function (Undeclared at the first that hasn't);
--- there is a
--- function `main` without parameters that answers int (NoMain); the program isn't TooLarge. Then the typed tree stands.
--- These are
--- this project's own rules.
+-- there is a function `main` without parameters that answers int (NoMain); the program isn't TooLarge. Then the typed
+-- tree stands. These are this project's own rules.
 use Rattle.std.specs.Prelude.{ℕ, ◌+◌, ◌*◌, Bool, true, false, ◌&&◌, ◌==◌, nat_le, if◌then◌else◌, List, [], ◌∷◌, ◌++◌}
 use Rattle.std.specs.Prelude.{length, sum_by, codes, Option, Some, None, Ok}
 use Rattle.c_types.specs.declared.ctype.Base.{Base}
@@ -21,9 +19,9 @@ use Rattle.typed_tree.specs.declared.program.Function.{Function}
 use Rattle.typed_tree.specs.declared.program.Tick.{Tick}
 use Rattle.typed_tree.specs.declared.program.TypedParts.{TypedParts}
 use Rattle.check_rules.specs.declared.functions.Prototype.{Prototype}
-use Rattle.check_tables.specs.declared.image.Image.{Image}
+use Rattle.check_rules.specs.declared.image.Image.{Image}
 use Rattle.check_rules.specs.Functions as functions
-use Rattle.check_tables.specs.Images as images
+use Rattle.check_rules.specs.Images as images
 use Rattle.check_rules.specs.declared.state.State.{State}
 use Rattle.check_globals.specs.Names.{is_function}
 use Rattle.limits.specs.declared.program.TheConstants.{CHARGE_LIMIT, FRAME_OBJECT_BYTES, FRONT_WORDS, SIZE_LIMIT}

@@ -1,12 +1,9 @@
 -- Initializers at file scope. They are constant expressions, strings for `char *`, lists of these for an array, and a
--- string for an
--- array of char, which stands in the array itself with its zero byte. A value breaks VoidValue alone, else TypeMismatch
--- where it
--- doesn't convert, else BadOperand where it is of another form or has no value. Of several rules that a list breaks,
--- the lowest
--- number counts. Whether an array that has its length from its initializer is too large is asked behind the
--- initializer's
--- expressions, and before its own rules: BadArray. These are this project's own rules.
+-- string for an array of char, which stands in the array itself with its zero byte. A value breaks VoidValue alone,
+-- else TypeMismatch where it doesn't convert, else BadOperand where it is of another form or has no value. Of several
+-- rules that a list breaks, the lowest number counts. Whether an array that has its length from its initializer is too
+-- large is asked behind the initializer's expressions, and before its own rules: BadArray. These are this project's own
+-- rules.
 use Rattle.std.specs.Prelude.{ℕ, ◌/◌, ◌%◌, Bool, not, ◌&&◌, ◌||◌, ◌==◌, nat_lt, if◌then◌else◌, List, [], ◌∷◌, ◌++◌}
 use Rattle.std.specs.Prelude.{length, Option, Some, None, Result, Ok, Err}
 use Rattle.word32.specs.declared.width.Width.{Width}
@@ -24,8 +21,8 @@ use Rattle.check_operands.specs.declared.operand.Operand.{Operand}
 use Rattle.check_operands.specs.declared.operand.Value.{Value}
 use Rattle.check_operands.specs.Operands.{value_of}
 use Rattle.meaning_operators.specs.Constants.{constant}
-use Rattle.check_tables.specs.Images as images
-use Rattle.check_tables.specs.Walks.{Rule}
+use Rattle.check_rules.specs.Images as images
+use Rattle.check_rules.specs.Walks.{Rule}
 use Rattle.check_rules.specs.declared.state.State.{State}
 use Rattle.check_rules.specs.Initializers.{is_array, is_char, has_size, value_breaks}
 use Rattle.check_globals.specs.declared.statics.Row.{Row}

@@ -4,13 +4,13 @@ ghost use Rattle.std.specs.Prelude.{◌≡◌, map, IfOk};
 ghost use Rattle.check_forms.specs.Forms as forms;
 ghost use Rattle.check_globals.specs.Functions as spec;
 ghost use Rattle.check_rules.specs.Declarations.{name_by};
-ghost use Rattle.check_tables.specs.Walks.{Reads};
+ghost use Rattle.check_rules.specs.Walks.{Reads};
 
 use crate::names::{Before, declare, known_before, name_of};
 use c_type_refs::TypeRef;
 use c_types::{CType, Layer, copy_ctype};
 use check_forms::declared_name;
-use check_functions::{add_function, define, next_number};
+use check_names::{add_function, define, next_number};
 use check_rules::State;
 use check_scopes::MeaningKind;
 use check_types::inner;
@@ -60,7 +60,7 @@ fn parameter(alloc: Global, state: &mut State, p: &Parameter, t: &CType) -> Resu
     let t = TypeRef::share(alloc, copy_ctype(alloc, t)?)?;
     match declared_name(&p.declarator) {
         None => Ok(state.frame.parameter(&t)?),
-        Some((_, name)) => check_functions::parameter(alloc, state, p.line, name.as_slice(), t),
+        Some((_, name)) => check_names::parameter(alloc, state, p.line, name.as_slice(), t),
     }
 }
 

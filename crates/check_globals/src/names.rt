@@ -6,13 +6,13 @@ ghost use Rattle.check_globals.specs.Names as spec;
 ghost use Rattle.check_rules.specs.Locals as locals;
 ghost use Rattle.check_rules.specs.Names as names;
 ghost use Rattle.check_rules.specs.Declarations.{name_by};
-ghost use Rattle.check_tables.specs.Walks.{Reads};
+ghost use Rattle.check_rules.specs.Walks.{Reads};
 
 use c_conversions::same;
 use c_type_refs::{TypeRef, limited_size};
 use check_declarators::Step;
 use check_forms::declared_name;
-use check_functions::{earlier_number, is_defined, note_prototype};
+use check_names::{earlier_number, is_defined, note_prototype};
 use check_rules::State;
 use check_scopes::{Meaning, MeaningKind};
 use sqlite_items::Items;

@@ -1,17 +1,19 @@
 //! What is checked after the walk.
 
+// What is owned is dropped by hand before an error goes on. Over a `?` its drop would be written out at each exit,
+// variant by variant (CONTRIBUTING.md, "How to keep proofs cheap", 3). The order of the drops means nothing.
+
 ghost use Rattle.std.specs.Prelude.{◌≡◌, ◌+◌, ◌++◌, ◌-◌, length, min, replicate, IfOk, sum_by, nat_le, Ok};
 ghost use Rattle.c_types.specs.Types as types;
 ghost use Rattle.check_globals.specs.Programs as spec;
-ghost use Rattle.check_tables.specs.Images as images;
+ghost use Rattle.check_rules.specs.Images as images;
 ghost use Rattle.tick_tree.specs.Faults.{Checks};
 
 use c_type_refs::TypeRef;
 use c_types::{Base, Integer, Layer};
-use check_functions::{is_defined, undefined};
-use check_rules::State;
+use check_names::{is_defined, undefined};
+use check_rules::{Image, State};
 use check_scopes::MeaningKind;
-use check_tables::Image;
 use limits::program::{
     CHARGE_LIMIT, CHARGE_TOP, FRAME_OBJECT_BYTES, FRONT_WORDS, SIZE_LIMIT, WORDS_OF_A_BODY,
     WORDS_OF_A_NODE,
@@ -172,8 +174,8 @@ fn typed(alloc: Global, state: State) -> Result<TypedParts, Deny>
     }
 }
 
-/// The parts of the typed program after its walk. Refused, in this order: Undeclared at the first prototype that has no function, NoMain,
-/// TooLarge.
+/// The parts of the typed program after its walk. Refused, in this order: Undeclared at the first prototype that has no
+/// function, NoMain, TooLarge.
 #[tactic(auto, unfolding(crate::specs::Programs::finished))]
 pub fn finished(alloc: Global, state: State) -> Result<TypedParts, Deny>
     ensures { Checks result (spec.finished state) }

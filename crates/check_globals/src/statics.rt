@@ -4,7 +4,7 @@ ghost use Rattle.std.specs.Prelude.{◌≡◌, ◌++◌, ◌∷◌, [], IfOk, is
 ghost use Rattle.check_forms.specs.Forms as forms;
 ghost use Rattle.check_globals.specs.Statics as spec;
 ghost use Rattle.check_operands.specs.Operands as operands;
-ghost use Rattle.check_tables.specs.Walks.{Reads};
+ghost use Rattle.check_rules.specs.Walks.{Reads};
 
 use c_type_refs::TypeRef;
 use c_types::{Base, Integer, Layer};
@@ -75,8 +75,8 @@ fn word_of(
     Ok(static_word(has_form(e), is_string(e), &v, t))
 }
 
-/// Gives the global at this place, which has this type, a value; e is its expression. Refused: BadArray where the type has no
-/// size, VoidValue alone, TypeMismatch, BadOperand where it is neither a constant nor a string for `char *`.
+/// Gives the global at this place, which has this type, a value; e is its expression. Refused: BadArray where the type
+/// has no size, VoidValue alone, TypeMismatch, BadOperand where it is neither a constant nor a string for `char *`.
 #[tactic(auto, unfolding(crate::specs::Statics::static_value))]
 pub fn static_value(
     alloc: Global,
@@ -87,7 +87,8 @@ pub fn static_value(
     e: &Expr,
     o: Operand,
 ) -> Result<(), Deny>
-    ensures { Reads (spec.static_value line at t.now (forms.has_form e.now) (is_some (forms.string_of e.now)) o state.old) result state.new }
+    ensures { Reads (spec.static_value line at t.now (forms.has_form e.now) (is_some (forms.string_of e.now)) o
+        state.old) result state.new }
 {
     let word = word_of(alloc, t, e, o)?;
     if !has_size(t) {
@@ -125,7 +126,8 @@ fn with_zero(alloc: Global, bytes: &[u8]) -> Result<Items<u8>, AllocError>
     Ok(all)
 }
 
-/// Gives the array of char at this place a string, with its zero byte. Refused where it is too long or the array too large: BadArray.
+/// Gives the array of char at this place a string, with its zero byte. Refused where it is too long or the array too
+/// large: BadArray.
 #[tactic(auto, unfolding(crate::specs::Statics::static_text))]
 pub fn static_text(
     alloc: Global,
@@ -172,7 +174,8 @@ impl Row {
     /// One value more, by the type of an element; e is its expression.
     #[tactic(auto, unfolding(crate::specs::Statics::row_more))]
     pub fn more(self, alloc: Global, t: &TypeRef, e: &Expr, o: Operand) -> Result<Row, AllocError>
-        ensures { IfOk result (λ row. row ≡ spec.row_more t.now (forms.has_form e.now) (is_some (forms.string_of e.now)) o self) }
+        ensures { IfOk result (λ row. row ≡
+            spec.row_more t.now (forms.has_form e.now) (is_some (forms.string_of e.now)) o self) }
     {
         let word = word_of(alloc, t, e, o)?;
         let Row { broken, mut bytes } = self;
@@ -201,8 +204,8 @@ fn row_breaks(count: usize, t: &TypeRef, row: &Row) -> Option<FaultKind>
     }
 }
 
-/// Gives the global at this place, which has this type, a list of so many values. Refused: TypeMismatch where it is no array,
-/// BadArray where the list is too long or the array too large, or what its values break.
+/// Gives the global at this place, which has this type, a list of so many values. Refused: TypeMismatch where it is no
+/// array, BadArray where the list is too long or the array too large, or what its values break.
 #[tactic(auto, unfolding(crate::specs::Statics::static_list))]
 pub fn static_list(
     alloc: Global,

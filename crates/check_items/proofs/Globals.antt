@@ -1,6 +1,5 @@
 -- One turn more of each loop at file scope: what is defined for the parts that are left is what is defined for those
--- behind the next
--- one, after it; or the fault of the next one.
+-- behind the next one, after it; or the fault of the next one.
 use Rattle.std.proofs.Common.{◌≡◌, ℕ, ◌+◌, ◌<◌, List, length, get_or, drop, map, ap, sym, ◌∙◌, Ok, Err}
 use Rattle.std.specs.Prelude.{is_some}
 use Rattle.c_types.specs.declared.ctype.CType.{CType}

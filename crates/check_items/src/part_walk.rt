@@ -1,7 +1,7 @@
 //! What the walk over the items of a program asks of the walk over their parts.
 
 ghost use Rattle.check_rules.specs.Walk as spec;
-ghost use Rattle.check_tables.specs.Walks.{Reads};
+ghost use Rattle.check_rules.specs.Walks.{Reads};
 
 use check_declarators::Step;
 use check_operands::Operand;

@@ -3,22 +3,21 @@
 ghost use Rattle.std.specs.Prelude.{◌≡◌, ◌∷◌, map};
 ghost use Rattle.check_globals.specs.Functions.{given};
 ghost use Rattle.check_globals.specs.Statics.{row_begun};
-ghost use Rattle.check_tables.specs.Walks.{Reads};
+ghost use Rattle.check_rules.specs.Walks.{Reads};
 ghost use Rattle.check_globals.specs.Parameters as heads;
 ghost use Rattle.check_globals.specs.Program as spec;
 ghost use Rattle.check_rules.specs.Walk as walks;
 
 use crate::part_walk::PartWalk;
 use c_type_refs::TypeRef;
-use check_declarations::is_text;
 use check_declarators::{Role, base_of, declared_type};
 use check_forms::string_of;
 use check_globals::{
     Row, end, name_function, named_steps, parameters_of, prototype, static_list, static_text,
     static_value, variable,
 };
-use check_lengths::with_start;
 use check_rules::{Around, Stage, State};
+use check_statements::{is_text, with_start};
 use check_types::{inner, is_function};
 use sqlite_items::{Boxed, Items};
 use std::alloc::Global;
@@ -35,7 +34,8 @@ fn global_type<W: PartWalk>(
     d: &Declarator,
     value: &Initializer,
 ) -> Result<TypeRef, Deny>
-    ensures { Reads (spec.global_type line base (walks.shape d.now) (walks.initializer value.now) state.old) result state.new }
+    ensures { Reads (spec.global_type line base (walks.shape d.now) (walks.initializer value.now) state.old) result
+        state.new }
 {
     let steps = W::declarator(alloc, state, Stage::Function, d)?;
     let steps = with_start(named_steps(alloc, steps), value);
@@ -71,7 +71,8 @@ fn static_one<W: PartWalk>(
     t: &TypeRef,
     e: &Expr,
 ) -> Result<(), Deny>
-    ensures { Reads (spec.static_by line at t.now (walks.node e.now) (walks.node e.now).written.string state.old) result state.new }
+    ensures { Reads (spec.static_by line at t.now (walks.node e.now) (walks.node e.now).written.string state.old) result
+        state.new }
 {
     if let Some(bytes) = string_of(e) {
         if is_text(t) {
@@ -91,7 +92,8 @@ fn begin_variable<W: PartWalk>(
     d: &Declarator,
     value: &Initializer,
 ) -> Result<(), Deny>
-    ensures { Reads (spec.variable line t.now (walks.shape d.now) (walks.initializer value.now) state.old) result state.new }
+    ensures { Reads (spec.variable line t.now (walks.shape d.now) (walks.initializer value.now) state.old) result
+        state.new }
 {
     let at = variable(alloc, state, line, d, t)?;
     match value {
@@ -124,7 +126,8 @@ fn begin_prototype<W: PartWalk>(
     d: &Declarator,
     value: &Initializer,
 ) -> Result<(), Deny>
-    ensures { Reads (spec.prototype line t.now (walks.shape d.now) (walks.initializer value.now) state.old) result state.new }
+    ensures { Reads (spec.prototype line t.now (walks.shape d.now) (walks.initializer value.now) state.old) result
+        state.new }
 {
     prototype(alloc, state, line, d, t)?;
     match value {
@@ -220,7 +223,8 @@ fn function<W: PartWalk>(
     d: &Declarator,
     block: &[tick_tree::Stmt],
 ) -> Result<(), Deny>
-    ensures { Reads (spec.function line base (walks.shape d.now) (heads.parameters_of d.now) (map walks.item block.now) state.old) result state.new }
+    ensures { Reads (spec.function line base (walks.shape d.now) (heads.parameters_of d.now) (map walks.item block.now)
+        state.old) result state.new }
 {
     let t = function_type::<W>(alloc, state, line, base, d)?;
     name_function(alloc, state, line, d, &t)?;

@@ -1,5 +1,8 @@
 //! The second walk over a program, by what the first one found.
 
+// What is owned is dropped by hand before an error goes on. Over a `?` its drop would be written out at each exit,
+// variant by variant (CONTRIBUTING.md, "How to keep proofs cheap", 3). The order of the drops means nothing.
+
 ghost use Rattle.check_globals.specs.Program as spec;
 ghost use Rattle.tick_tree.specs.Faults.{Checks};
 
@@ -22,7 +25,7 @@ pub fn second_walk<W: PartWalk>(
 ) -> Result<TypedParts, Deny>
     ensures { Checks result (spec.walk_again list.now state) }
 {
-    let mut state = check_functions::start_again(alloc, state)?;
+    let mut state = check_names::start_again(alloc, state)?;
     match walk::<W>(alloc, &mut state, list) {
         Ok(()) => finished(alloc, state),
         Err(why) => {

@@ -20,7 +20,6 @@ use Rattle.tick_tree.specs.declared.syntax.OptionalExpr.TheVariants as oe
 use Rattle.tick_tree.specs.declared.syntax.Parameter.{Parameter, out-Parameter}
 use Rattle.tick_tree.specs.declared.syntax.Stmt.{Stmt}
 use Rattle.tick_tree.specs.declared.syntax.Stmt.TheVariants as st
-use Rattle.tick_tree.specs.declared.syntax.Suffix.{Suffix}
 use Rattle.tick_tree.specs.declared.syntax.Suffix.TheVariants as sx
 use Rattle.tick_tree.specs.declared.syntax.Typename.{Typename, out-Typename}
 use Rattle.tick_tree.specs.declared.syntax.Core.TheFolds.{fold-roll-Core, fold-roll-Expr, fold-roll-Initializer}
@@ -34,13 +33,10 @@ use Rattle.check_rules.specs.declared.state.Stage.{Stage}
 use Rattle.check_rules.specs.declared.state.State.{State}
 use Rattle.check_rules.specs.ExpressionRules.{Node, Named, Shape, Item}
 use Rattle.check_rules.specs.Walk.{Start, InitParts, Declarations, SuffixWalk, TypeWalk, core_rule, expr_rule}
-use Rattle.check_rules.specs.Walk.{start_rule, optional_rule, stmt_rule, declaration_rule, declarator_rule}
-use Rattle.check_rules.specs.Walk.{init_rule}
+use Rattle.check_rules.specs.Walk.{start_rule, optional_rule, stmt_rule, declaration_rule, declarator_rule, init_rule}
 use Rattle.check_rules.specs.Walk.{parameter_rule, typename_rule, declaration_walk, declare_one, declare_by}
-use Rattle.check_rules.specs.Walk.{declare_each, suffix_walk, suffix_steps, expr_walk, statement_walk}
-use Rattle.check_rules.specs.Walk.{declarator_of}
-use Rattle.check_rules.specs.Walk.{typename_of, typename_walk, parameter_walk as parameter_steps, declarator_walk}
-use Rattle.check_rules.specs.Walk.{core}
+use Rattle.check_rules.specs.Walk.{declare_each, suffix_walk, suffix_steps, expr_walk, statement_walk, declarator_of}
+use Rattle.check_rules.specs.Walk.{typename_of, typename_walk, parameter_walk as parameter_steps, declarator_walk, core}
 use Rattle.check_rules.specs.Walk.{node, optional, item, suffix, declaration, shape, init, initializer, parameter}
 use Rattle.check_rules.specs.Walk.{named}
 

@@ -1,6 +1,5 @@
 -- One turn more of each loop over a list of parts: what is defined for the parts that are left is what is defined for
--- those behind
--- the next one, after it; or the fault of the next one.
+-- those behind the next one, after it; or the fault of the next one.
 use Rattle.std.proofs.Common.{◌≡◌, ℕ, ◌+◌, ◌<◌, min, suc, List, [], ◌∷◌, ◌++◌, length, get_or, drop, map, Option, refl}
 use Rattle.std.proofs.Common.{ap, sym, ◌∙◌, append_assoc, Result, Ok, Err}
 use Rattle.std.proofs.lemmas.List.{at_drop_more}

@@ -1,7 +1,7 @@
 -- What the walk's fold knows of the way in which a part is written is what check_forms says of it. Written by
 -- tools/checker/written.py.
-use Rattle.std.proofs.Common.{◌≡◌, ℕ, Bool, true, false, List, [], ◌∷◌, map, refl, ap, sym, ◌∙◌, subst}
-use Rattle.std.specs.Prelude.{◌&&◌, ◌||◌, Option, Some, None, is_some}
+use Rattle.std.proofs.Common.{◌≡◌, Bool, List, [], ◌∷◌, map, refl, ap, sym, ◌∙◌, subst}
+use Rattle.std.specs.Prelude.{◌&&◌, ◌||◌, Option}
 use Rattle.check_forms.specs.Forms as forms
 use Rattle.check_forms.specs.Forms.{Written, Declared, nothing, Name}
 use Rattle.tick_tree.specs.declared.syntax.Core.{Core}
@@ -15,8 +15,7 @@ use Rattle.tick_tree.specs.declared.syntax.Declarator.{Declarator}
 use Rattle.tick_tree.specs.declared.syntax.Init.{Init}
 use Rattle.tick_tree.specs.declared.syntax.Parameter.{Parameter}
 use Rattle.tick_tree.specs.declared.syntax.Typename.{Typename}
-use Rattle.tick_tree.specs.declared.syntax.Core.TheOpen.{Core-F, Expr-F, Initializer-F, OptionalExpr-F, Stmt-F}
-use Rattle.tick_tree.specs.declared.syntax.Core.TheOpen.{Suffix-F, Declaration-F, Declarator-F, Init-F, Parameter-F}
+use Rattle.tick_tree.specs.declared.syntax.Core.TheOpen.{Core-F, Expr-F, Suffix-F, Declarator-F, Parameter-F}
 use Rattle.tick_tree.specs.declared.syntax.Core.TheOpen.{Typename-F}
 use Rattle.tick_tree.specs.declared.syntax.Core.TheFolds.{ind-Core, ind-Expr, ind-Suffix, ind-Declarator, ind-Parameter}
 use Rattle.tick_tree.specs.declared.syntax.Core.TheFolds.{ind-Typename, map-Core, map-Expr, map-Suffix, map-Declarator}
@@ -31,13 +30,9 @@ use Rattle.tick_tree.specs.declared.syntax.Parameter.{roll-Parameter}
 use Rattle.tick_tree.specs.declared.syntax.Typename.{roll-Typename}
 use Rattle.check_rules.specs.ExpressionRules.{Node, Named, Shape, Item}
 use Rattle.check_rules.specs.Walk.{Start, InitParts, Declarations, SuffixWalk, TypeWalk, core_rule, expr_rule}
-use Rattle.check_rules.specs.Walk.{start_rule, optional_rule, stmt_rule, suffix_walk, declaration_rule}
-use Rattle.check_rules.specs.Walk.{declarator_rule}
-use Rattle.check_rules.specs.Walk.{init_rule, parameter_rule, typename_rule, written_rule, any_suffix}
-use Rattle.check_rules.specs.Walk.{any_parameter}
-use Rattle.check_rules.specs.Walk.{core, node, initializer, optional, item, suffix, declaration, shape, init}
-use Rattle.check_rules.specs.Walk.{parameter}
-use Rattle.check_rules.specs.Walk.{named}
+use Rattle.check_rules.specs.Walk.{start_rule, optional_rule, stmt_rule, suffix_walk, declaration_rule, declarator_rule}
+use Rattle.check_rules.specs.Walk.{init_rule, parameter_rule, typename_rule, any_suffix, any_parameter, core, node}
+use Rattle.check_rules.specs.Walk.{initializer, optional, item, suffix, declaration, shape, init, parameter, named}
 
 abbrev CoreAgrees : Core → Type 0
 CoreAgrees c = (core c).declared ≡ forms.declared_core c

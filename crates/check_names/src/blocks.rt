@@ -2,7 +2,7 @@
 
 ghost use Rattle.std.specs.Prelude.{◌≡◌, ◌<◌, length};
 ghost use Rattle.check_rules.specs.Blocks as spec;
-ghost use Rattle.check_tables.specs.Walks.{Reads};
+ghost use Rattle.check_rules.specs.Walks.{Reads};
 
 use check_rules::State;
 use sqlite_items::Items;

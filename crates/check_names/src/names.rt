@@ -2,15 +2,14 @@
 
 ghost use Rattle.std.specs.Prelude.{◌≡◌, IfOk, OnOk, Ok, slice_get};
 ghost use Rattle.check_operands.specs.Operands as nodes;
-ghost use Rattle.check_tables.specs.Ticks as ticks;
+ghost use Rattle.check_rules.specs.Ticks as ticks;
 ghost use Rattle.check_rules.specs.Names as spec;
-ghost use Rattle.check_tables.specs.Walks.{Reads};
+ghost use Rattle.check_rules.specs.Walks.{Reads};
 
 use c_type_refs::TypeRef;
 use check_operands::{Operand, Place, made};
-use check_rules::{Stage, State, operand, place_by};
+use check_rules::{Home, Stage, State, operand, place_by};
 use check_scopes::MeaningKind;
-use check_tables::Home;
 use check_types::{inner, is_cspec, is_void, is_vspec};
 use sqlite_items::Boxed;
 use std::alloc::{AllocError, Global};

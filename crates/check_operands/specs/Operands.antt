@@ -1,6 +1,5 @@
 -- What an expression is: its type, what it names, and its value. An array or a function stands for a pointer wherever
--- its
--- value is used, as in C, and a narrow value is loaded by its width.
+-- its value is used, as in C, and a narrow value is loaded by its width.
 use Rattle.std.specs.Prelude.{ℕ, Bool, true, false, not, ◌&&◌, ◌||◌, ◌==◌, if◌then◌else◌, List, [], ◌∷◌, ◌++◌, Option}
 use Rattle.std.specs.Prelude.{Some, None, Result, Ok, Err}
 use Rattle.icode_ops.specs.declared.kind.UnKind.{UnKind}

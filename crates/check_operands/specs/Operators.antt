@@ -1,6 +1,5 @@
 -- Operators between two values. Integers are brought to their common type; a pointer and an integer scale by the size
--- of what
--- the pointer points to; pointers compare as unsigned words. These are C's rules, on words of 32 bits.
+-- of what the pointer points to; pointers compare as unsigned words. These are C's rules, on words of 32 bits.
 use Rattle.std.specs.Prelude.{ℕ, Bool, true, false, ◌&&◌, ◌||◌, ◌==◌, if◌then◌else◌, Option, Some, None, Result, Ok}
 use Rattle.std.specs.Prelude.{Err}
 use Rattle.icode_ops.specs.declared.kind.BinKind.{BinKind}

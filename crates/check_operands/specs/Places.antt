@@ -1,6 +1,5 @@
 -- What changes a place, and what takes its address. Of several rules that one node breaks, the lowest number counts: a
--- value
--- that doesn't convert, then what is no place, then operand types, then a void value.
+-- value that doesn't convert, then what is no place, then operand types, then a void value.
 use Rattle.std.specs.Prelude.{ℕ, ◌-◌, ◌==◌, Bool, true, false, not, ◌&&◌, ◌||◌, if◌then◌else◌, Option, Some, None}
 use Rattle.std.specs.Prelude.{Result, Ok, Err}
 use Rattle.icode_ops.specs.declared.kind.BinKind.{BinKind}
@@ -213,7 +212,6 @@ address_of line (place.Memory a) t = Ok (made a (over layer.Pointer t))
 address_of line (place.Function f) t = refuse fault.NotPlace line
 
 -- `&o` of what isn't settled: an array is a place here. A register variable of a function is none any more once its
--- address
--- is taken, so what is a register here is one of generated code.
+-- address is taken, so what is a register here is one of generated code.
 unfoldable pub address : ℕ → Operand → Checked Operand
 address line o = address_of line o.place o.ctype

@@ -2,8 +2,8 @@
 use Rattle.std.specs.Prelude.{ℕ, List, [], ◌∷◌, ◌++◌, length, take, Ok}
 use Rattle.typed_tree.specs.declared.expression.Stmt.{Stmt}
 use Rattle.check_rules.specs.declared.state.State.{State}
-use Rattle.check_tables.specs.Frames as frames
-use Rattle.check_tables.specs.Walks.{Rule}
+use Rattle.check_rules.specs.Frames as frames
+use Rattle.check_rules.specs.Walks.{Rule}
 
 -- how many scopes are open
 abbrev pub depth : Rule State ℕ

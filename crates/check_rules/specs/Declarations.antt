@@ -1,8 +1,6 @@
 -- Declarations in a block: what is checked as one is entered (in a tick no cspec or vspec is written in it); the type,
--- in a
--- tick with its own rule (no array); then the name; and the lengths of arrays. Of several rules that a type breaks, the
--- lowest
--- number counts. The rules are C's with this project's specifications; their order is its own.
+-- in a tick with its own rule (no array); then the name; and the lengths of arrays. Of several rules that a type
+-- breaks, the lowest number counts. The rules are C's with this project's specifications; their order is its own.
 use Rattle.std.specs.Prelude.{ℕ, ◌+◌, min, Bool, true, false, nat_lt, if◌then◌else◌, List, [], ◌∷◌, length, Option}
 use Rattle.std.specs.Prelude.{Some, None, Ok, Err}
 use Rattle.c_types.specs.declared.ctype.Base.{Base}
@@ -22,7 +20,7 @@ use Rattle.check_forms.specs.Forms.{Name}
 use Rattle.check_operands.specs.declared.operand.Operand.{Operand}
 use Rattle.check_operands.specs.Operands.{effect}
 use Rattle.meaning_operators.specs.Constants.{constant}
-use Rattle.check_tables.specs.Walks.{Rule, pure}
+use Rattle.check_rules.specs.Walks.{Rule, pure}
 use Rattle.check_rules.specs.declared.state.Stage.{Stage}
 use Rattle.check_rules.specs.declared.state.Stage.TheVariants as stage
 use Rattle.check_rules.specs.declared.state.State.{State}

@@ -1,6 +1,5 @@
 -- The checks that are made as a node is entered, before its parts: where specifications may be made and handled. A tick
--- stands
--- in a function, `$` in a tick, and `compile`, `local` and `param` outside of ticks. These are `C's rules.
+-- stands in a function, `$` in a tick, and `compile`, `local` and `param` outside of ticks. These are `C's rules.
 use Rattle.std.specs.Prelude.{ℕ, Ok}
 use Rattle.tick_tree.specs.declared.base.UnaryOp.{UnaryOp}
 use Rattle.tick_tree.specs.declared.base.UnaryOp.TheVariants as unary_op

@@ -1,8 +1,6 @@
 -- The walk over expressions: what each node is by the walks over its parts. The parts come in the order of the text,
--- then the
--- node itself; what is checked as a node is entered comes before its parts. The order is this project's own rule: it
--- decides
--- which fault is the first.
+-- then the node itself; what is checked as a node is entered comes before its parts. The order is this project's own
+-- rule: it decides which fault is the first.
 use Rattle.std.specs.Prelude.{ℕ, Bool, false, List, [], ◌∷◌, ◌++◌, Option, Some, None, Ok}
 use Rattle.c_types.specs.declared.ctype.CType.{CType}
 use Rattle.check_declarators.specs.declared.steps.Step.{Step}
@@ -25,7 +23,7 @@ use Rattle.check_rules.specs.declared.state.Stage.TheVariants as stage
 use Rattle.check_rules.specs.declared.state.State.{State}
 use Rattle.check_rules.specs.Blocks.{depth, enter, leave}
 use Rattle.check_rules.specs.Names.{named, library}
-use Rattle.check_tables.specs.Walks.{Rule, ◌>>=◌, pure, lift}
+use Rattle.check_rules.specs.Walks.{Rule, ◌>>=◌, pure, lift}
 use Rattle.check_rules.specs.Entries.{tick_entry, staging_entry, unary_entry}
 use Rattle.check_rules.specs.Productions
 
@@ -47,8 +45,7 @@ pub record Shape : Type 0 where
   pub walk : Stage → Rule State (List Step)
 
 -- a statement: whether it is a `;` alone, and the walk over it. A statement gives one node, a declaration as many as it
--- has
--- initializers.
+-- has initializers.
 pub record Item : Type 0 where
   pub is_empty : Bool
   pub walk : Around → Rule State (List Stmt)

@@ -1,7 +1,6 @@
 -- The functions of the program. A function has the number of the functions before it and one more, by the place of its
 -- definition; where it is called before that, an earlier walk says its number. Each prototype has a function somewhere
--- in the
--- text. These are this project's own rules.
+-- in the text. These are this project's own rules.
 use Rattle.std.specs.Prelude.{ℕ, ◌+◌, min, Bool, true, false, if◌then◌else◌, List, [], ◌∷◌, ◌++◌, Option, Some, None}
 use Rattle.std.specs.Prelude.{is_some, Result, Ok, Err}
 use Rattle.check_scopes.specs.declared.names.Meaning.{Meaning}
@@ -13,8 +12,8 @@ use Rattle.tick_tree.specs.Faults.{Checked, refuse}
 use Rattle.typed_tree.specs.declared.program.Function.{Function}
 use Rattle.check_rules.specs.declared.functions.Prototype.{Prototype}
 use Rattle.check_rules.specs.declared.functions.Functions.{Functions}
-use Rattle.check_tables.specs.Frames.{count}
-use Rattle.check_tables.specs.Walks.{Rule}
+use Rattle.check_rules.specs.Frames.{count}
+use Rattle.check_rules.specs.Walks.{Rule}
 
 -- before all items, with the functions defined so far and those of an earlier walk
 abbrev pub with : Scopes → Scopes → Functions

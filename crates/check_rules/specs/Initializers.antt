@@ -1,10 +1,8 @@
 -- Initializers in a block. A variable that is no array takes one value, by assignment; a brace list initializes no such
--- variable,
--- and an array of a block takes no initializer at all. Whether an array that has its length from its initializer is too
--- large is
--- asked behind the initializer's expressions, and before its own rules. Of several rules that are broken, by the values
--- of a list too, the lowest
--- number counts. A void value breaks VoidValue alone. These are this project's own rules.
+-- variable, and an array of a block takes no initializer at all. Whether an array that has its length from its
+-- initializer is too large is asked behind the initializer's expressions, and before its own rules. Of several rules
+-- that are broken, by the values of a list too, the lowest number counts. A void value breaks VoidValue alone. These
+-- are this project's own rules.
 use Rattle.std.specs.Prelude.{ℕ, Bool, true, false, not, ◌&&◌, ◌||◌, ◌==◌, nat_lt, if◌then◌else◌, List, [], ◌∷◌, length}
 use Rattle.std.specs.Prelude.{Option, Some, None, Ok}
 use Rattle.c_types.specs.declared.ctype.Base.{Base}

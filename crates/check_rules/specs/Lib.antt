@@ -11,3 +11,10 @@ pub mod Initializers
 pub mod StatementRules
 pub mod Statements
 pub mod Walk
+pub mod Bounds
+pub mod Frames
+pub mod Images
+pub mod Labels
+pub mod Members
+pub mod Ticks
+pub mod Walks

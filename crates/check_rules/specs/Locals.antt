@@ -7,15 +7,15 @@ use Rattle.check_scopes.specs.declared.names.MeaningKind.TheVariants as kind
 use Rattle.check_scopes.specs.Scopes.{Name}
 use Rattle.check_operands.specs.declared.operand.Operand.{Operand}
 use Rattle.check_operands.specs.declared.operand.Place.TheVariants as place
-use Rattle.check_tables.specs.declared.frame.Frame.{Frame}
-use Rattle.check_tables.specs.declared.frame.Home.{Home}
-use Rattle.check_tables.specs.declared.frame.Home.TheVariants as home
+use Rattle.check_rules.specs.declared.frame.Frame.{Frame}
+use Rattle.check_rules.specs.declared.frame.Home.{Home}
+use Rattle.check_rules.specs.declared.frame.Home.TheVariants as home
 use Rattle.check_rules.specs.declared.state.Stage.{Stage}
 use Rattle.check_rules.specs.declared.state.Stage.TheVariants as stage
 use Rattle.check_rules.specs.declared.state.State.{State}
-use Rattle.check_tables.specs.Frames as frames
+use Rattle.check_rules.specs.Frames as frames
 use Rattle.check_rules.specs.Names.{declare, operand, place_by}
-use Rattle.check_tables.specs.Walks.{Rule, ◌>>=◌}
+use Rattle.check_rules.specs.Walks.{Rule, ◌>>=◌}
 
 abbrev pub meaning : MeaningKind → CType → ℕ → Meaning
 meaning k t n = record { kind = k; ctype = t; index = n }
@@ -60,8 +60,8 @@ parameter line name t s =
 -- ---- parameters of a list
 
 -- A parameter of a list is visible in the lengths behind it, and is never a variable. In a tick it counts as one of the
--- tick's
--- own, and elsewhere as a parameter of the function; its number is that of the next variable, which doesn't stand yet.
+-- tick's own, and elsewhere as a parameter of the function; its number is that of the next variable, which doesn't
+-- stand yet.
 abbrev pub list_meaning : Stage → CType → Frame → Meaning
 list_meaning stage.Function t f = meaning kind.Parameter t (frames.number f)
 list_meaning stage.Tick t f = meaning kind.Variable t (frames.inner_number f)

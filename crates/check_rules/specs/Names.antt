@@ -1,8 +1,6 @@
 -- What a name is where it stands. In a tick, outside `$`, a name of the function round it is captured: a specification
--- by its
--- number, and every other variable by the address that it needs then. Under `$` a variable of the tick isn't visible.
--- These
--- are `C's rules; a declaration in an inner scope hides one outside, as in C.
+-- by its number, and every other variable by the address that it needs then. Under `$` a variable of the tick isn't
+-- visible. These are `C's rules; a declaration in an inner scope hides one outside, as in C.
 use Rattle.std.specs.Prelude.{◌≡◌, ℕ, ◌-◌, false, if◌then◌else◌, slice_get, Option, Some, None, Result, Ok, Err}
 use Rattle.c_types.specs.declared.ctype.CType.{CType}
 use Rattle.check_scopes.specs.declared.names.Meaning.{Meaning}
@@ -23,14 +21,14 @@ use Rattle.check_operands.specs.declared.operand.Place.{Place}
 use Rattle.check_operands.specs.declared.operand.Place.TheVariants as place
 use Rattle.check_operands.specs.declared.operand.Operand.{Operand}
 use Rattle.check_operands.specs.Operands.{effect, made}
-use Rattle.check_tables.specs.declared.frame.Home.{Home}
-use Rattle.check_tables.specs.declared.frame.Home.TheVariants as home
+use Rattle.check_rules.specs.declared.frame.Home.{Home}
+use Rattle.check_rules.specs.declared.frame.Home.TheVariants as home
 use Rattle.check_rules.specs.declared.state.Stage.{Stage}
 use Rattle.check_rules.specs.declared.state.Stage.TheVariants as stage
 use Rattle.check_rules.specs.declared.state.State.{State}
-use Rattle.check_tables.specs.Frames.{count, marked}
-use Rattle.check_tables.specs.Ticks as ticks
-use Rattle.check_tables.specs.Walks.{Rule}
+use Rattle.check_rules.specs.Frames.{count, marked}
+use Rattle.check_rules.specs.Ticks as ticks
+use Rattle.check_rules.specs.Walks.{Rule}
 
 -- ---- declarations
 

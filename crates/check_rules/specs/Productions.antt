@@ -1,8 +1,6 @@
 -- What each node is by its parts. Of its rules those on types stand in the crates of single nodes; here an operand is
--- given to
--- them as a value, or as a place where the node changes it, and in a tick no specification is left over but a plain
--- name. These
--- are `C's rules.
+-- given to them as a value, or as a place where the node changes it, and in a tick no specification is left over but a
+-- plain name. These are `C's rules.
 use Rattle.std.specs.Prelude.{ℕ, Bool, true, false, ◌&&◌, ◌||◌, nat_lt, if◌then◌else◌, List, Ok, Err}
 use Rattle.icode_ops.specs.declared.kind.UnKind.TheVariants as un
 use Rattle.c_types.specs.declared.ctype.CType.{CType}
@@ -38,10 +36,10 @@ use Rattle.check_rules.specs.declared.state.Stage.{Stage}
 use Rattle.check_rules.specs.declared.state.Stage.TheVariants as stage
 use Rattle.check_rules.specs.declared.state.State.{State}
 use Rattle.check_rules.specs.Names.{captured, addressed}
-use Rattle.check_tables.specs.Frames as frames
-use Rattle.check_tables.specs.Ticks as ticks
-use Rattle.check_tables.specs.Images as images
-use Rattle.check_tables.specs.Walks.{Rule, lift}
+use Rattle.check_rules.specs.Frames as frames
+use Rattle.check_rules.specs.Ticks as ticks
+use Rattle.check_rules.specs.Images as images
+use Rattle.check_rules.specs.Walks.{Rule, lift}
 
 -- ---- specifications that are left over in a tick
 

@@ -1,8 +1,6 @@
 -- What the walk knows before all items: the library functions have their names at file scope. The whole program is
--- walked
--- twice by the same definition. The second walk knows what the first one found: which variables need an address, where
--- the
--- globals end, and the numbers of the functions. The library is this project's own.
+-- walked twice by the same definition. The second walk knows what the first one found: which variables need an address,
+-- where the globals end, and the numbers of the functions. The library is this project's own.
 use Rattle.std.specs.Prelude.{◌≡◌, ℕ, List, [], ◌∷◌, codes, Result, Ok, Err}
 use Rattle.c_types.specs.declared.ctype.CType.{CType}
 use Rattle.c_types.specs.declared.ctype.Integer.TheVariants as integer
@@ -15,51 +13,76 @@ use Rattle.check_types.specs.Shapes.{over, void}
 use Rattle.tick_tree.specs.Faults.{Checked}
 use Rattle.tick_tree.specs.declared.fault.Deny.{Deny}
 use Rattle.tick_tree.specs.declared.fault.Deny.TheVariants.{Refused, NoMemory}
+use Rattle.check_rules.specs.declared.library.LibraryFunction.{LibraryFunction}
+use Rattle.check_rules.specs.declared.library.LibraryFunction.TheVariants as library
 use Rattle.check_rules.specs.declared.state.State.{State}
-use Rattle.check_tables.specs.declared.frame.Frame.{Frame}
+use Rattle.check_rules.specs.declared.frame.Frame.{Frame}
 use Rattle.check_rules.specs.declared.functions.Functions.{Functions}
-use Rattle.check_tables.specs.declared.image.Image.{Image}
-use Rattle.check_tables.specs.Frames as frames
+use Rattle.check_rules.specs.declared.image.Image.{Image}
+use Rattle.check_rules.specs.Frames as frames
 use Rattle.check_rules.specs.Functions as functions
-use Rattle.check_tables.specs.Images as images
-use Rattle.check_tables.specs.Labels as labels
+use Rattle.check_rules.specs.Images as images
+use Rattle.check_rules.specs.Labels as labels
 use Rattle.check_rules.specs.Names.{declare}
-use Rattle.check_tables.specs.Ticks as ticks
-use Rattle.check_tables.specs.Walks.{Rule, ◌>>=◌}
+use Rattle.check_rules.specs.Ticks as ticks
+use Rattle.check_rules.specs.Walks.{Rule, ◌>>=◌, pure}
 
 abbrev pub int : CType
 int = shapes.integer integer.Int
+
+-- ---- the functions of the library, by their prototypes
+
+abbrev pub name : LibraryFunction → Name
+name library.Getchar = codes "getchar"
+name library.Putchar = codes "putchar"
+name library.Putint = codes "putint"
+name library.Malloc = codes "malloc"
+name library.Exit = codes "exit"
+
+abbrev pub answer : LibraryFunction → CType
+answer library.Getchar = int
+answer library.Putchar = int
+answer library.Putint = void
+answer library.Malloc = over layer.Pointer void
+answer library.Exit = void
+
+abbrev pub parameters : LibraryFunction → List CType
+parameters library.Getchar = []
+parameters library.Putchar = int ∷ []
+parameters library.Putint = int ∷ []
+parameters library.Malloc = shapes.integer integer.Unsigned ∷ []
+parameters library.Exit = int ∷ []
+
+-- its number, by which typed trees call it
+abbrev pub number : LibraryFunction → ℕ
+number library.Getchar = 0
+number library.Putchar = 1
+number library.Putint = 2
+number library.Malloc = 3
+number library.Exit = 4
 
 -- a function of these arguments that answers this
 abbrev pub function : CType → List CType → CType
 function t list = over (layer.Function list) t
 
-abbrev pub library_meaning : ℕ → CType → Meaning
-library_meaning n t = record { kind = kind.Library; ctype = t; index = n }
+-- what its name means
+abbrev pub library_meaning : LibraryFunction → Meaning
+library_meaning f = record { kind = kind.Library; ctype = function (answer f) (parameters f); index = number f }
 
--- one library function more, by its number
-unfoldable pub add_library : Name → ℕ → CType → Rule State (Unit {0})
-add_library name n t = declare 1 name (library_meaning n t)
+-- one of them more has its name
+unfoldable pub add_library : LibraryFunction → Rule State (Unit {0})
+add_library f = declare 1 (name f) (library_meaning f)
 
--- int getchar(void) and int putchar(int)
-unfoldable pub first_library : Rule State (Unit {0})
-first_library = add_library (codes "getchar") 0 (function int []) >>=
-    (λ u. add_library (codes "putchar") 1 (function int (int ∷ [])))
+unfoldable pub add_libraries : List LibraryFunction → Rule State (Unit {0})
+add_libraries [] = pure tt
+add_libraries (f ∷ fs) = add_library f >>= (λ u. add_libraries fs)
 
--- void putint(int) and void *malloc(unsigned)
-unfoldable pub second_library : Rule State (Unit {0})
-second_library =
-    add_library (codes "putint") 2 (function void (int ∷ []))
-    >>= (λ u. add_library (codes "malloc") 3
-    (function (over layer.Pointer void) (shapes.integer integer.Unsigned ∷ [])))
-
--- void exit(int)
-unfoldable pub third_library : Rule State (Unit {0})
-third_library = add_library (codes "exit") 4 (function void (int ∷ []))
+abbrev pub whole_library : List LibraryFunction
+whole_library = library.Getchar ∷ library.Putchar ∷ library.Putint ∷ library.Malloc ∷ library.Exit ∷ []
 
 -- the library
-unfoldable pub libraries : Rule State (Unit {0})
-libraries = first_library >>= (λ u. second_library >>= (λ v. third_library))
+abbrev pub libraries : Rule State (Unit {0})
+libraries = add_libraries whole_library
 
 -- with no names
 abbrev pub empty : State

@@ -1,8 +1,6 @@
 -- The walk over statements and declarations: what each is by the walks over its parts, in the order of the text. A test
--- is
--- checked after all parts of its statement, and what is checked as a statement is entered comes before them. The order
--- is this
--- project's own rule: it decides which fault is the first.
+-- is checked after all parts of its statement, and what is checked as a statement is entered comes before them. The
+-- order is this project's own rule: it decides which fault is the first.
 use Rattle.std.specs.Prelude.{ℕ, if◌then◌else◌, List, [], ◌∷◌, ◌++◌, Option, Some, None, Ok}
 use Rattle.c_types.specs.declared.ctype.CType.{CType}
 use Rattle.check_declarators.specs.declared.steps.Step.{Step}
@@ -16,7 +14,7 @@ use Rattle.check_rules.specs.declared.state.Around.{Around}
 use Rattle.check_rules.specs.declared.state.Stage.{Stage}
 use Rattle.check_rules.specs.declared.state.State.{State}
 use Rattle.check_rules.specs.Blocks.{depth, enter, leave}
-use Rattle.check_tables.specs.Walks.{Rule, ◌>>=◌, pure, lift}
+use Rattle.check_rules.specs.Walks.{Rule, ◌>>=◌, pure, lift}
 use Rattle.check_rules.specs.ExpressionRules.{Node, Named, Shape, Item, each, block}
 use Rattle.check_rules.specs.Declarations.{length_of}
 use Rattle.check_rules.specs.Statements

@@ -1,8 +1,7 @@
 -- What each statement is by its parts, and what is checked as it is entered: `break` and `continue` in a loop of the
--- same
--- function or tick (for `break` also in a switch), `case` and `default` directly in a switch's block. A test comes
--- after all parts
--- of its statement. These are C's rules; the order is this project's own. A statement gives a list of one node.
+-- same function or tick (for `break` also in a switch), `case` and `default` directly in a switch's block. A test comes
+-- after all parts of its statement. These are C's rules; the order is this project's own. A statement gives a list of
+-- one node.
 use Rattle.std.specs.Prelude.{ℕ, Bool, true, false, ◌&&◌, ◌||◌, if◌then◌else◌, List, [], ◌∷◌, Option, Some, None, Ok}
 use Rattle.std.specs.Prelude.{Err}
 use Rattle.tick_tree.specs.declared.fault.FaultKind.TheVariants as fault
@@ -16,13 +15,13 @@ use Rattle.check_operands.specs.Operands as nodes
 use Rattle.check_operands.specs.Operands.{value_of, effect}
 use Rattle.check_operands.specs.Calls as calls
 use Rattle.meaning_operators.specs.Constants.{constant}
-use Rattle.check_tables.specs.declared.labels.Labels.{Labels}
+use Rattle.check_rules.specs.declared.labels.Labels.{Labels}
 use Rattle.check_rules.specs.declared.state.Around.{Around}
 use Rattle.check_rules.specs.declared.state.Stage.{Stage}
 use Rattle.check_rules.specs.declared.state.Stage.TheVariants as stage
 use Rattle.check_rules.specs.declared.state.State.{State}
-use Rattle.check_tables.specs.Labels as labels
-use Rattle.check_tables.specs.Walks.{Rule}
+use Rattle.check_rules.specs.Labels as labels
+use Rattle.check_rules.specs.Walks.{Rule}
 
 -- ---- what stands round the parts
 

@@ -1,6 +1,5 @@
 -- The walk over a tree: the rules of the productions, tied by the fold over the types of the tree. Each value of the
--- tree becomes
--- what its parent asks of it: how it is written, and the walk over it.
+-- tree becomes what its parent asks of it: how it is written, and the walk over it.
 use Rattle.std.specs.Prelude.{◌≡◌, ℕ, ◌+◌, min, Bool, true, false, ◌&&◌, ◌||◌, if◌then◌else◌, List, [], ◌∷◌, ◌++◌}
 use Rattle.std.specs.Prelude.{length, map, Option, Some, None, is_some, Result, Ok, Err}
 use Rattle.c_types.specs.declared.ctype.CType.{CType}
@@ -40,7 +39,7 @@ use Rattle.typed_tree.specs.declared.expression.Stmt.{Stmt as Act}
 use Rattle.check_rules.specs.declared.state.Around.{Around}
 use Rattle.check_rules.specs.declared.state.Stage.{Stage}
 use Rattle.check_rules.specs.declared.state.State.{State}
-use Rattle.check_tables.specs.Walks.{Rule, ◌>>=◌, pure, lift}
+use Rattle.check_rules.specs.Walks.{Rule, ◌>>=◌, pure, lift}
 use Rattle.check_rules.specs.ExpressionRules as rules
 use Rattle.check_rules.specs.ExpressionRules.{Node, Named, Shape, Item, each, walk_rule}
 use Rattle.check_rules.specs.Declarations as declarations

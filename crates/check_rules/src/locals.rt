@@ -2,15 +2,15 @@
 
 ghost use Rattle.std.specs.Prelude.{◌≡◌, IfOk};
 ghost use Rattle.check_rules.specs.Locals as spec;
-ghost use Rattle.check_tables.specs.Walks.{Reads};
+ghost use Rattle.check_rules.specs.Walks.{Reads};
 
+use crate::frame::{Frame, Home};
 use crate::names::{operand, place_by};
 use crate::state::{Stage, State};
 use c_type_refs::TypeRef;
 use c_types::{CType, copy_ctype};
 use check_operands::{Operand, Place};
 use check_scopes::{Meaning, MeaningKind};
-use check_tables::{Frame, Home};
 use std::alloc::{AllocError, Global};
 use tick_tree::Deny;
 
@@ -71,8 +71,8 @@ impl State {
         Ok(operand(place, t))
     }
 
-    /// Declares a variable of a block of the function or the tick; what its name is from then on. Refused where the block
-    /// has the name already: Duplicate.
+    /// Declares a variable of a block of the function or the tick; what its name is from then on. Refused where the
+    /// block has the name already: Duplicate.
     #[tactic(auto, unfolding(crate::specs::Locals::inner_local))]
     pub fn local(
         &mut self,
@@ -96,8 +96,8 @@ impl State {
         }
     }
 
-    /// Declares a parameter of a list, which has a name: it is visible in the lengths behind it. Refused where the list has
-    /// the name already: Duplicate.
+    /// Declares a parameter of a list, which has a name: it is visible in the lengths behind it. Refused where the list
+    /// has the name already: Duplicate.
     #[tactic(auto, unfolding(crate::specs::Locals::list_parameter))]
     pub fn list_parameter(
         &mut self,

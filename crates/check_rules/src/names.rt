@@ -2,13 +2,13 @@
 
 ghost use Rattle.std.specs.Prelude.{◌≡◌, IfOk};
 ghost use Rattle.check_rules.specs.Names as spec;
-ghost use Rattle.check_tables.specs.Walks.{Reads};
+ghost use Rattle.check_rules.specs.Walks.{Reads};
 
+use crate::frame::Home;
 use crate::state::State;
 use c_type_refs::TypeRef;
 use check_operands::{Operand, Place};
 use check_scopes::{DeclareFault, Meaning, MeaningKind};
-use check_tables::Home;
 use sqlite_items::Boxed;
 use std::alloc::{AllocError, Global};
 use tick_tree::{Deny, FaultKind, refused};

@@ -1,8 +1,11 @@
 //! All that the walk knows.
 
+use crate::frame::Frame;
 use crate::functions::Functions;
+use crate::image::Image;
+use crate::labels::Labels;
+use crate::ticks::Ticks;
 use check_scopes::Scopes;
-use check_tables::{Frame, Image, Labels, Ticks};
 
 /// How far an expression is from running: which of its parts run when the function runs.
 #[derive(Clone, Copy)]

@@ -13,11 +13,11 @@ use Rattle.std.specs.Option.{option_or}
 use Rattle.std.specs.Str.{bytes_eq}
 use Rattle.std.specs.Cmp.Lexicographic.{bytes_decides, nat_list_eq_equiv}
 use Rattle.check_scopes.specs.Kept.{named, cut, scopes, last_in, Once, IsNumbered, Kept}
-use Rattle.check_scopes.specs.Numbers.{number_of, Grows}
+use Rattle.name_numbers.specs.Numbers.{number_of, Grows}
 use Rattle.check_scopes.specs.Scopes.{Name, Scope, Scopes, in_scope, find, innermost, declared}
 use Rattle.check_scopes.specs.Stack.{Numbered, last_of}
 use Rattle.check_scopes.specs.declared.names.Meaning.{Meaning}
-use Rattle.check_scopes.proofs.Numbered.{at_number, stays}
+use Rattle.name_numbers.proofs.Numbered.{at_number, stays}
 
 -- ---- names in place of numbers
 

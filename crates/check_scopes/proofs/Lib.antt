@@ -1,5 +1,2 @@
 pub mod Cut
-pub mod Numbered
-pub mod Places
 pub mod Stacks
-pub mod Tables

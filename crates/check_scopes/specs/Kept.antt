@@ -4,7 +4,7 @@ use Rattle.std.specs.Prelude.{if◌then◌else◌, sum}
 use Rattle.std.specs.List.{All}
 use Rattle.std.specs.Option.{option_or}
 use Rattle.std.specs.Str.{bytes_eq}
-use Rattle.check_scopes.specs.Numbers.{number_of}
+use Rattle.name_numbers.specs.Numbers.{number_of}
 use Rattle.check_scopes.specs.Scopes.{Name, Scope, Scopes, in_scope}
 use Rattle.check_scopes.specs.Stack.{Numbered}
 use Rattle.check_scopes.specs.declared.names.Meaning.{Meaning}

@@ -1,6 +1,3 @@
 pub mod Kept
-pub mod Numbers
 pub mod Scopes
-pub mod Sorted
 pub mod Stack
-pub mod Tables

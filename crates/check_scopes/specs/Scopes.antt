@@ -1,6 +1,5 @@
 -- The open scopes, the innermost last, each with the names that it declares and what they mean. An inner declaration
--- hides
--- an outer one of the same name, as in C.
+-- hides an outer one of the same name, as in C.
 use Rattle.std.specs.Prelude.{ℕ, ◌-◌, if◌then◌else◌, List, [], ◌∷◌, ◌++◌, length, slice_set, slice_index_or, Option}
 use Rattle.std.specs.Prelude.{Some, None}
 use Rattle.std.specs.Option.{option_or}

@@ -6,10 +6,9 @@ ghost use Rattle.std.specs.Option.{is_some, option_copied};
 ghost use Rattle.check_scopes.specs.Scopes as spec;
 ghost use Rattle.check_scopes.specs.Stack as stack;
 
-use crate::keys::Wanted;
-use crate::numbers::Names;
 use c_type_refs::TypeRef;
-use std::alloc::{AllocError, AllocFailed, Global};
+use name_numbers::Names;
+use std::alloc::{AllocError, Global};
 use std::marker::Model;
 use thiserror::Error;
 
@@ -57,17 +56,6 @@ impl From<AllocError> for DeclareFault {
     ghost from_gives = { λ _ e. e ≡ NoMemory };
 
     fn from(_error: AllocError) -> DeclareFault {
-        DeclareFault::NoMemory
-    }
-}
-
-impl<T: Drop> From<AllocFailed<T>> for DeclareFault {
-    ghost use Rattle.std.specs.Prelude.{◌≡◌};
-    ghost use Rattle.check_scopes.specs.declared.names.DeclareFault.TheVariants.{NoMemory};
-
-    ghost from_gives = { λ _ e. e ≡ NoMemory };
-
-    fn from(_error: AllocFailed<T>) -> DeclareFault {
         DeclareFault::NoMemory
     }
 }
@@ -246,12 +234,11 @@ impl Scopes {
     pub fn new(alloc: Global) -> Result<Scopes, AllocError>
         ensures { IfOk result (λ s. s ≡ [] ∷ []) }
     {
-        let names = Names::new(alloc)?;
         let mut sizes = Vec::new(alloc);
         sizes.push(0)?;
         Ok(Scopes {
             alloc,
-            names,
+            names: Names::new(alloc),
             stack: Stack::new(alloc),
             sizes,
         })
@@ -303,7 +290,7 @@ impl Scopes {
         ensures taken { result ≡ Err DeclareFault.Taken → spec.in_scope (spec.innermost self.old) name.now ≢ None }
         ensures err { OnErr result (self.new ≡ self.old) }
     {
-        let number = self.names.number(self.alloc, &Wanted::new(name))?;
+        let number = self.names.number(self.alloc, name)?;
         let last = self.sizes.len() - 1;
         let size = self.sizes[last];
         let start = self.stack.len() - size;
@@ -323,7 +310,7 @@ impl Scopes {
     pub fn find(&self, name: &[u8]) -> Option<&Meaning>
         ensures { option_copied result ≡ spec.find self.now name.now }
     {
-        match self.names.find(&Wanted::new(name)) {
+        match self.names.find(name) {
             Some(number) => self.stack.find(number),
             None => None,
         }

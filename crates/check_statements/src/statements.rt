@@ -2,13 +2,12 @@
 
 ghost use Rattle.std.specs.Prelude.{◌≡◌, IfOk};
 ghost use Rattle.tick_tree.specs.Faults.{Checks};
-ghost use Rattle.check_tables.specs.Walks.{Reads};
+ghost use Rattle.check_rules.specs.Walks.{Reads};
 ghost use Rattle.check_rules.specs.Statements as spec;
 ghost use Rattle.check_rules.specs.StatementRules as rules;
 
 use check_operands::{Operand, effect, value_of};
-use check_rules::{Around, Stage, State};
-use check_tables::Labels;
+use check_rules::{Around, Labels, Stage, State};
 use meaning_operators::constant_value;
 use sqlite_items::{Boxed, Items};
 use std::alloc::{AllocError, Global};
@@ -58,7 +57,7 @@ pub fn one(alloc: Global, node: Stmt) -> Result<Items<Stmt>, AllocError>
     Ok(nodes)
 }
 
-// The one node of a statement that a rule let through.
+// Makes the list of the one node of a statement that a rule let through.
 fn checked(alloc: Global, node: Stmt) -> Result<Items<Stmt>, Deny>
     ensures { Checks result (Ok (spec.one node)) }
 {
@@ -122,8 +121,8 @@ pub fn continue_entry(alloc: Global, line: u32, around: Around) -> Result<Items<
     }
 }
 
-/// Enters a `case` whose value has the form of a constant, or not. Refused where it hasn't, or isn't directly an item of a
-/// switch's block: BadCase.
+/// Enters a `case` whose value has the form of a constant, or not. Refused where it hasn't, or isn't directly an item
+/// of a switch's block: BadCase.
 pub fn case_entry(line: u32, has_form: bool, around: Around) -> Result<(), Deny>
     ensures { Checks result (spec.case_entry line has_form around) }
 {

@@ -12,7 +12,7 @@ use Rattle.check_rules.specs.declared.state.Around.{Around}
 use Rattle.check_rules.specs.declared.state.Stage.{Stage}
 use Rattle.check_rules.specs.declared.state.State.{State}
 use Rattle.check_rules.specs.Walk as walks
-use Rattle.check_tables.specs.Walks.{Reads}
+use Rattle.check_rules.specs.Walks.{Reads}
 
 -- a step is done, and so is what follows
 pub onward : {A B : Type 0} → (m : Checked A) (k : A → Checked B) (a : A) (y : Checked B) → m ≡ Ok a → k a ≡ y

@@ -7,12 +7,12 @@ use Rattle.check_rules.specs.declared.state.Stage.{Stage}
 use Rattle.check_rules.specs.declared.state.State.{State}
 use Rattle.check_rules.specs.ExpressionRules.{Node, Named, Item, both}
 use Rattle.check_rules.specs.StatementRules.{body}
-use Rattle.check_tables.specs.Walks.{Rule, ◌>>=◌, pure, lift}
+use Rattle.check_rules.specs.Walks.{Rule, ◌>>=◌, pure, lift}
 use Rattle.check_expressions.specs.Pairs.{pair_node}
 use Rattle.check_expressions.specs.declared.pairs.Pair.{Pair}
-use Rattle.check_staging.specs.Named.{naming_entry, naming_node, typing_entry, typing_node}
-use Rattle.check_staging.specs.declared.named.Naming.{Naming}
-use Rattle.check_staging.specs.declared.named.Typing.{Typing}
+use Rattle.check_expressions.specs.Named.{naming_entry, naming_node, typing_entry, typing_node}
+use Rattle.check_expressions.specs.declared.named.Naming.{Naming}
+use Rattle.check_expressions.specs.declared.named.Typing.{Typing}
 use Rattle.check_statements.specs.Tested.{tested_around, tested_node}
 use Rattle.check_statements.specs.declared.tested.Tested.{Tested}
 use Rattle.typed_tree.specs.declared.expression.Stmt.{Stmt}

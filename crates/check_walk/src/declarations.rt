@@ -1,24 +1,27 @@
 //! The walk over declarations in a block.
 
+// What is owned is dropped by hand before an error goes on. Over a `?` its drop would be written out at each exit,
+// variant by variant (CONTRIBUTING.md, "How to keep proofs cheap", 3). The order of the drops means nothing.
+
 ghost use Rattle.std.specs.Prelude.{◌≡◌, None, map};
-ghost use Rattle.check_tables.specs.Walks.{Reads};
+ghost use Rattle.check_rules.specs.Walks.{Reads};
 ghost use Rattle.check_rules.specs.Walk as spec;
 
 use crate::expressions::expression;
 use crate::types::declarator;
 use c_type_refs::TypeRef;
-use check_declarations::{declare, declared_in, element, entered, from_list, from_value, inner_of};
 use check_declarators::base_of;
-use check_lengths::with_start;
 use check_operands::Operand;
 use check_rules::{Stage, State, has_size, is_array, is_string};
-use check_statements::appended;
+use check_statements::{
+    appended, declare, declared_in, element, entered, from_list, from_value, inner_of, with_start,
+};
 use sqlite_items::Items;
 use std::alloc::Global;
 use tick_tree::{Base, Declarator, Deny, Expr, FaultKind, Init, Initializer};
 use typed_tree::Stmt;
 
-// What the values of a list break as elements of this type.
+// Walks the values of a list, and says which rule they break as elements of this type.
 #[cycle(walk)]
 fn elements(
     alloc: Global,
@@ -55,7 +58,7 @@ fn begin_list(
     from_list(line, is_row, is_sized, broken)
 }
 
-// A variable begins with its initializer.
+// Walks the initializer of a variable, and gives the nodes with which the variable begins.
 #[cycle(walk)]
 #[tactic(auto, using(check_laws::proofs::Equations::initializers, check_laws::proofs::Written::forms_of))]
 fn begin(
@@ -86,7 +89,7 @@ fn begin(
     }
 }
 
-// One declarator: its type, its name, its initializer.
+// Walks one declarator: its type, its name, its initializer.
 #[cycle(walk)]
 #[tactic(auto, using(check_laws::proofs::Equations::types, check_laws::proofs::Written::forms_of))]
 fn declared_local(

@@ -1,28 +1,31 @@
 //! The walk over expressions.
 
+// What is owned is dropped by hand before an error goes on. Over a `?` its drop would be written out at each exit,
+// variant by variant (CONTRIBUTING.md, "How to keep proofs cheap", 3). The order of the drops means nothing.
+
 ghost use Rattle.std.specs.Prelude.{◌≡◌, map};
 ghost use Rattle.check_operands.specs.Calls as calls;
 ghost use Rattle.check_rules.specs.ExpressionRules as rules;
 ghost use Rattle.check_rules.specs.StatementRules as statements;
-ghost use Rattle.check_tables.specs.Walks.{Reads};
+ghost use Rattle.check_rules.specs.Walks.{Reads};
 ghost use Rattle.check_walk.specs.Kinds as kinds;
 ghost use Rattle.check_rules.specs.Walk as spec;
 
 use crate::statements::block;
 use crate::types::typename;
 use c_type_refs::TypeRef;
-use check_expressions::{Pair, choice_node, pair_node, post_node, unary_node};
-use check_operands::{Arguments, Operand};
-use check_primaries::{argument, call_node, character_leaf, library_of, number_leaf, string_leaf};
-use check_rules::{Stage, State};
-use check_staging::{
-    Naming, Typing, compile_node, naming_entry, naming_node, staging_entry, tick_around,
-    tick_entered, tick_entry, typing_entry, typing_node, unary_entry,
+use check_expressions::{
+    Naming, Pair, Typing, argument, call_node, character_leaf, choice_node, compile_node,
+    library_of, naming_entry, naming_node, number_leaf, pair_node, post_node, staging_entry,
+    string_leaf, tick_around, tick_entered, tick_entry, typing_entry, typing_node, unary_entry,
+    unary_node,
 };
+use check_operands::{Arguments, Operand};
+use check_rules::{Stage, State};
 use std::alloc::Global;
 use tick_tree::{Deny, Expr, OptionalExpr, StepOp, Stmt, Typename, UnaryOp};
 
-// The arguments of a call.
+// Walks the arguments of a call.
 #[cycle(walk)]
 fn arguments(
     alloc: Global,
@@ -104,7 +107,7 @@ fn tick_expression(
     tick_entry(line, stage)?;
     tick_entered(alloc, state);
     let o = expression(alloc, state, Stage::Tick, a)?;
-    Ok(check_staging::tick_expression(alloc, state, o)?)
+    Ok(check_expressions::tick_expression(alloc, state, o)?)
 }
 
 #[cycle(walk)]
@@ -120,7 +123,7 @@ fn tick_block(
     tick_entry(line, stage)?;
     tick_entered(alloc, state);
     let body = block(alloc, state, tick_around(), items)?;
-    Ok(check_staging::tick_block(alloc, state, body)?)
+    Ok(check_expressions::tick_block(alloc, state, body)?)
 }
 
 #[cycle(walk)]
@@ -176,7 +179,7 @@ fn choice(
     }
 }
 
-// An operator before its operand.
+// Walks an operator before its operand.
 #[cycle(walk)]
 fn unary(
     alloc: Global,
@@ -193,7 +196,7 @@ fn unary(
     unary_node(alloc, state, line, op, stage, o)
 }
 
-// `++` or `--` behind its operand.
+// Walks `++` or `--` behind its operand.
 #[cycle(walk)]
 fn post(
     alloc: Global,
@@ -209,7 +212,7 @@ fn post(
     post_node(alloc, line, op, o)
 }
 
-// A production of two operands, which are walked one after the other.
+// Walks a production of two operands, one after the other.
 #[cycle(walk)]
 fn pair(
     alloc: Global,
@@ -234,7 +237,7 @@ fn pair(
     }
 }
 
-// A production of a type name alone.
+// Walks a production of a type name alone.
 #[cycle(walk)]
 fn named(
     alloc: Global,
@@ -251,7 +254,7 @@ fn named(
     naming_node(alloc, line, kind, t)
 }
 
-// A production of a type name and an operand behind it.
+// Walks a production of a type name and an operand behind it.
 #[cycle(walk)]
 fn typed(
     alloc: Global,

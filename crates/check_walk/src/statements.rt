@@ -1,8 +1,11 @@
 //! The walk over statements.
 
+// What is owned is dropped by hand before an error goes on. Over a `?` its drop would be written out at each exit,
+// variant by variant (CONTRIBUTING.md, "How to keep proofs cheap", 3). The order of the drops means nothing.
+
 ghost use Rattle.std.specs.Prelude.{◌≡◌, Ok, map};
 ghost use Rattle.check_rules.specs.StatementRules as statements;
-ghost use Rattle.check_tables.specs.Walks.{Reads};
+ghost use Rattle.check_rules.specs.Walks.{Reads};
 ghost use Rattle.check_walk.specs.Kinds as kinds;
 ghost use Rattle.check_rules.specs.Walk as spec;
 
@@ -39,7 +42,7 @@ pub fn items(
     Ok(nodes)
 }
 
-// The nodes, and those of one item more behind them. An expression's node stands in no list of its own before.
+// Walks an item, and puts its nodes behind these. An expression's node stands in no list of its own before.
 #[cycle(walk)]
 #[tactic(auto, using(check_laws::proofs::Equations::item_expr))]
 fn item_behind(
@@ -97,7 +100,7 @@ pub fn block(
     }
 }
 
-// The body of a statement, which is one node.
+// Walks the body of a statement, which is one node.
 #[cycle(walk)]
 #[tactic(auto, using(crate::proofs::Behind::body_block))]
 fn body_of(
@@ -117,7 +120,7 @@ fn body_of(
     }
 }
 
-// An `if` without `else`, or a `while`.
+// Walks an `if` without `else`, or a `while`.
 #[cycle(walk)]
 fn tested(
     alloc: Global,
@@ -140,7 +143,7 @@ fn tested(
     }
 }
 
-// An `if` with `else`.
+// Walks an `if` with `else`.
 #[cycle(walk)]
 fn branches(
     alloc: Global,
@@ -193,7 +196,7 @@ fn done_first(
     }
 }
 
-// A `for` behind its first part.
+// Walks a `for` behind its first part.
 #[cycle(walk)]
 fn for_rest(
     alloc: Global,
@@ -225,7 +228,7 @@ fn for_rest(
     }
 }
 
-// A `for` with a first part: a block of it and the rest.
+// Walks a `for` with a first part: a block of it and the rest.
 #[cycle(walk)]
 fn for_block(
     alloc: Global,
@@ -317,7 +320,7 @@ fn for_all(
     }
 }
 
-// The variables and the items of the block of a switch, with labels of its own.
+// Walks the variables and the items of the block of a switch, with labels of its own.
 #[cycle(walk)]
 fn switch_block(
     alloc: Global,

@@ -1,17 +1,20 @@
 //! The walk over type names, declarators and parameter lists.
 
+// What is owned is dropped by hand before an error goes on. Over a `?` its drop would be written out at each exit,
+// variant by variant (CONTRIBUTING.md, "How to keep proofs cheap", 3). The order of the drops means nothing.
+
 ghost use Rattle.std.specs.Prelude.{◌≡◌, [], map};
 ghost use Rattle.check_rules.specs.StatementRules as statements;
-ghost use Rattle.check_tables.specs.Walks.{Reads};
+ghost use Rattle.check_rules.specs.Walks.{Reads};
 ghost use Rattle.check_rules.specs.Walk as spec;
 
 use crate::expressions::expression;
 use c_type_refs::TypeRef;
 use c_types::CType;
-use check_declarations::{declare_parameter, length_of, with_step, with_type};
 use check_declarators::{Length, Role, Step, base_of, declared_type, push_prefixes};
 use check_forms::has_form;
 use check_rules::{Stage, State};
+use check_statements::{declare_parameter, length_of, with_step, with_type};
 use sqlite_items::Items;
 use std::alloc::Global;
 use tick_tree::{Core, Declarator, Deny, OptionalExpr, Parameter, Suffix, Typename};
@@ -60,7 +63,7 @@ fn core(alloc: Global, state: &mut State, stage: Stage, c: &Core) -> Result<Item
     }
 }
 
-// The steps, and those of the suffixes behind them.
+// Walks suffixes, and puts their steps behind these.
 #[cycle(walk)]
 fn suffixes(
     alloc: Global,
@@ -98,7 +101,7 @@ fn suffix(alloc: Global, state: &mut State, stage: Stage, s: &Suffix) -> Result<
     }
 }
 
-// The step of an array, by its length.
+// Walks the length of an array, and gives its step.
 #[cycle(walk)]
 #[tactic(auto, using(check_laws::proofs::Equations::optionals, check_laws::proofs::Written::forms_of))]
 fn length(alloc: Global, state: &mut State, stage: Stage, e: &OptionalExpr) -> Result<Step, Deny>
@@ -113,7 +116,7 @@ fn length(alloc: Global, state: &mut State, stage: Stage, e: &OptionalExpr) -> R
     }
 }
 
-// The step of a function, by the types of the parameters of its list, whose names are in a scope of their own.
+// Walks a list of parameters, whose names are in a scope of their own, and gives the step of a function of their types.
 #[cycle(walk)]
 fn parameters(
     alloc: Global,

@@ -1,6 +1,7 @@
 //! The words of the arena, and whether each is written and flushed.
 
-ghost use Rattle.std.specs.Prelude.{◌≡◌, ◌+◌, ℕ, ◌<◌, ◌≤◌, IfOk, Ok, Err, length, slice_index, slice_index_or, nat_le, nat_lt, ◌&&◌, if◌then◌else◌};
+ghost use Rattle.std.specs.Prelude.{◌≡◌, ◌+◌, ℕ, ◌<◌, ◌≤◌, IfOk, Ok, Err, length, slice_index, slice_index_or, nat_le};
+ghost use Rattle.std.specs.Prelude.{nat_lt, ◌&&◌, if◌then◌else◌};
 ghost use Rattle.word32.specs.declared.map.TheConstants.{ARENA_WORDS};
 ghost use Rattle.code_arena.specs.Arena as spec;
 ghost use Rattle.code_arena.specs.Kept.{arena_of};
@@ -62,7 +63,8 @@ fn zero_words(alloc: Global, count: usize) -> Result<Vec<u32>, AllocError>
 /// The states of so many unwritten words.
 fn unwritten(alloc: Global, count: usize) -> Result<Vec<WordState>, AllocError>
     ensures length { IfOk result (λ v. length v.items ≡ count) }
-    ensures unwritten { IfOk result (λ v. (i : ℕ) → slice_index_or v.items i WordState.Unwritten ≡ WordState.Unwritten) }
+    ensures unwritten { IfOk result
+        (λ v. (i : ℕ) → slice_index_or v.items i WordState.Unwritten ≡ WordState.Unwritten) }
 {
     vec![in alloc; WordState::Unwritten; count]
 }

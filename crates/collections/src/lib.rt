@@ -1,5 +1,5 @@
-//! Data structures over numbers in vectors, which take all their memory as they are made: pushes in room, sparse sets and
-//! buckets. Rows of ids in order stand in `linked_row`.
+//! Data structures over numbers in vectors, which take all their memory as they are made: pushes in room, sparse sets
+//! and buckets. Rows of ids in order stand in `linked_row`.
 #![tactic(auto)]
 
 mod buckets;

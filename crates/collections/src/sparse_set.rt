@@ -43,7 +43,10 @@ impl Model for SparseSet {
 }
 
 impl SparseSet {
-    /// The empty set, with room for the numbers below `room`. The only error is want of memory.
+    /// The empty set, with room for the numbers below `room`.
+    ///
+    /// # Errors
+    /// Where memory is wanting.
     pub fn new(alloc: Global, room: u32) -> Result<Self, AllocError>
         ensures { IfOk result (λ made. made ≡ record { room = room; members = [] }) }
     {

@@ -117,7 +117,8 @@ unfolding IsCame
 settled_units (std.Ok n) late r t s x k w h = waits_units late r t s x k w h.1
 settled_units (std.Err e) late r t s x k w h = tt
 
-pub settled_lighten : {E : Type 0} (c : std.Result code.Now E) (late : Late) (e : Expr) (r t s : Run) (x : Result Signal)
+pub settled_lighten : {E : Type 0} (c : std.Result code.Now E) (late : Late) (e : Expr) (r t s : Run)
+    (x : Result Signal)
     → IsCame came.Later late r t x (loaded (pending.Eval e) r) → IfOk c (λ n. IsSettled late t s n)
     → IfOk c (λ n. s.state.units ≡ r.state.units
     → heft (now_view n) s + ready (now_view n) ≤ heft (pending.Eval e) r)

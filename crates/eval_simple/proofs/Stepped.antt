@@ -34,7 +34,8 @@ less_of (std.Err x) b m r t h = h
 
 -- ---- a step that is another
 
-pub step_as : (n : Now) (b c : Result Signal) (m k : ℕ) (r t : Run) → b ≡ c → m ≤ k → IsStep b m n r t → IsStep c k n r t
+pub step_as : (n : Now) (b c : Result Signal) (m k : ℕ) (r t : Run) → b ≡ c → m ≤ k → IsStep b m n r t →
+    IsStep c k n r t
 step_as n b c m k r t is most h = record {
   same = h.same ∙ is;
   units = h.units;

@@ -25,16 +25,14 @@ pub(crate) fn spend(left: &mut u64) -> Option<()>
     Some(())
 }
 
-// So many units are left, which are no more than there were.
+// Spends all units but so many, which are no more than there are.
 #[tactic(auto, using(crate::proofs::Laws::leaves, crate::proofs::Laws::done))]
 pub(crate) fn leave(m: &mut Machine<'_>, left: u64)
     requires { left ≤ (world (run_of m.old)).units }
     ensures { run_of m.new ≡ with_units left (run_of m.old) }
 {
     let many = m.units() - left;
-    if !m.spend_many(many) {
-        return;
-    }
+    let _ = m.spend_many(many);
 }
 
 /// The value of an expression, where it is simple and at most so deep, and doesn't trap, and the units suffice up to
@@ -95,11 +93,10 @@ pub(crate) fn value(m: &Machine<'_>, e: &Expr, depth: u32, left: &mut u64) -> Op
         Expr::Cond(test, a, b) if depth != 0 => {
             let x = operand(m, test.get(), depth - 1, left)?;
             if x == 0 {
-                let v = operand(m, b.get(), depth - 1, left)?;
-                return Some(v);
+                operand(m, b.get(), depth - 1, left)
+            } else {
+                operand(m, a.get(), depth - 1, left)
             }
-            let v = operand(m, a.get(), depth - 1, left)?;
-            Some(v)
         }
         Expr::Load(_, _) | Expr::Bin(_, _, _) | Expr::Un(_, _) => None,
         Expr::SetVar(_, _) | Expr::PostVar(_, _, _) | Expr::VSet(_, _) | Expr::VPost(_, _) => None,

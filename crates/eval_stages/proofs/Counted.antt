@@ -5,7 +5,9 @@ use Rattle.std.proofs.lemmas.Option.{slice_get_within}
 use Rattle.history.specs.Syntax.{Captures}
 use Rattle.history.specs.Syntax as syntax
 use Rattle.limits.specs.declared.run.TheConstants.{CLOSURE_HEAD_BYTES}
-use Rattle.word32.specs.declared.map.TheConstants.{CLOSURE_BYTES}
+use Rattle.word32.specs.declared.map.TheConstants.{ARENA_WORDS, CLOSURE_BYTES}
+use Rattle.meaning_state.specs.Bodies.{AreSummed, charged}
+use Rattle.meaning_state.proofs.Sums.{none_summed}
 use Rattle.meaning_state.specs.Rows.{locals_of, numbered, parameters_in}
 use Rattle.meaning_state.specs.Shared.{Specification}
 use Rattle.staged_meaning.specs.Program.{Program, captures_size, tick_size}
@@ -25,9 +27,9 @@ use Rattle.eval_state.specs.Run.{program_of}
 use Rattle.eval_state.specs.Sound.{AreKnown, AreNamed, IsSound}
 use Rattle.eval_state.specs.declared.state.RowKind.{RowKind}
 use Rattle.eval_state.specs.declared.state.RowKind.TheVariants as kind
-use Rattle.eval_state.specs.Kept.{kept_view, row_of, row_view, rows_view}
+use Rattle.eval_state.specs.Kept.{compiled_view, kept_view, row_of, row_view, rows_view}
 use Rattle.eval_state.specs.Specified.{AreEarlier, AreMade, AreRows, HasRows, IsCode, IsCounted, IsRow}
-use Rattle.eval_state.proofs.Growth.{code_within, numbered_more}
+use Rattle.eval_state.proofs.Growth.{code_within, compiled_more, numbered_more}
 use Rattle.eval_state.proofs.Rows.{count, rows_are}
 
 -- ---- one more at the end of a list
@@ -166,6 +168,11 @@ has_row_more program list closures compiled arena row bytes h new head most =
       count = omega (arith, longer, h.count, head);
       closure_bytes = most;
       arena_words = h.arena_words;
+      bodies = subst (λ (rs : List Specification). AreSummed ARENA_WORDS (map (compiled_view rs) compiled)) same
+          (subst (AreSummed ARENA_WORDS) (sym (compiled_more compiled rows s h.made)) h.bodies);
+      words = ap (λ (rs : List Specification). charged (map (compiled_view rs) compiled)) (rows_are list row)
+          ∙ ap charged (compiled_more compiled rows s h.made)
+          ∙ h.words;
     }
 
 -- at the beginning there are none
@@ -176,6 +183,8 @@ first_rows program = record {
   count = omega arith;
   closure_bytes = omega arith;
   arena_words = omega arith;
+  bodies = none_summed ARENA_WORDS;
+  words = refl;
 }
   where
     none : (n : ℕ) (row : Row) → slice_get [] n ≡ Some row → ⊥

@@ -56,7 +56,7 @@ pub fn call_number<'a>(
 #[tactic(auto, using(eval_state::proofs::Codes::takes_none, eval_state::proofs::Codes::takes_some))]
 fn takes<'a>(m: &Machine<'a>, number: u32, arguments: usize) -> bool
     ensures { result ≡ is_none (call_trap (callee_at (program_of m.now)
-        (world (run_of m.now)).shared.compiled number) arguments) }
+        (world (run_of m.now)).shared.bodies number) arguments) }
 {
     match parameters_of(m, number) {
         None => false,
@@ -67,7 +67,7 @@ fn takes<'a>(m: &Machine<'a>, number: u32, arguments: usize) -> bool
 // How many parameters the live function of a number has.
 fn parameters_of<'a>(m: &Machine<'a>, number: u32) -> Option<usize>
     ensures { result ≡ option_map parameters (callee_at (program_of m.now)
-        (world (run_of m.now)).shared.compiled number) }
+        (world (run_of m.now)).shared.bodies number) }
 {
     m.keeps_law();
     if number == 0 {
@@ -128,7 +128,7 @@ fn call_function<'a>(
     requires { (m.old.depth ≢ 0) × (function.now.size ≡ size_of (function_view function.now))
         × (function.now.size ≤ SIZE_LIMIT) }
     ensures same { IfOk result (λ n. (f : ℕ)
-        → callee_at (program_of m.old) (world (run_of m.old)).shared.compiled f
+        → callee_at (program_of m.old) (world (run_of m.old)).shared.bodies f
         ≡ Some (Static (function_view function.entry.now))
         → outcome (now_view n) (run_of m.new)
         ≡ leads (run_of m.old) (valued (targeted (here (run_of m.old)) (pending.Direct answer f)

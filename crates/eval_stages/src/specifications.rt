@@ -12,7 +12,7 @@ ghost use Rattle.meaning_state.specs.Shared as shared;
 ghost use Rattle.typed_tree.specs.View.{expr_view};
 ghost use Rattle.eval_state.specs.KeptRows.{all_kept, kept_of, parameters_kept, size_kept};
 ghost use Rattle.eval_state.specs.Kept.{kept_view, rows_view, syntax_at};
-ghost use Rattle.eval_state.specs.Specified.{AreEarlier, IsCode, IsEarlier, IsMade};
+ghost use Rattle.eval_state.specs.Specified.{AreEarlier, IsCode, IsEarlier, IsMade, IsNext};
 ghost use Rattle.typed_tree.specs.declared.expression.CaptureKind.TheVariants.{Variable as variable};
 ghost use Rattle.eval_state.specs.Rest.{valued};
 ghost use Rattle.std.specs.Option.{option_map};
@@ -460,7 +460,8 @@ pub fn compile<'a>(m: &mut Machine<'a>, number: u32) -> Result<Now<'a>, AllocErr
         Some(function) => function,
     };
     let words = arena_words(size);
-    if ARENA_WORDS.saturating_sub(m.parts.arena) < words {
+    let first = m.parts.arena;
+    if ARENA_WORDS.saturating_sub(first) < words {
         return Ok(Now::Ended(Ending::Trap(TrapKind::ArenaLimit)));
     }
     if !m.spend_many(u64::from(size)) {
@@ -473,8 +474,9 @@ pub fn compile<'a>(m: &mut Machine<'a>, number: u32) -> Result<Now<'a>, AllocErr
         Compiled {
             row: number,
             locals,
+            first,
+            words,
         },
-        words,
     )?;
     Ok(m.spend(Now::Value(function)))
 }
@@ -510,17 +512,12 @@ fn next_function<'a>(m: &Machine<'a>) -> Option<u32>
 }
 
 // A compiled function more, of this number, and the event of it.
-fn add_compiled<'a>(
-    m: &mut Machine<'a>,
-    function: u32,
-    made: Compiled,
-    words: u32,
-) -> Result<(), AllocError>
-    requires { IsMade (rows_view m.old.rows) made × (m.old.arena + words ≤ ARENA_WORDS) }
-    ensures { OnOk result (m.new ≡ with_made function made words m.old) }
+fn add_compiled<'a>(m: &mut Machine<'a>, function: u32, made: Compiled) -> Result<(), AllocError>
+    requires { IsMade (rows_view m.old.rows) made × IsNext made m.old.arena }
+    ensures { OnOk result (m.new ≡ with_made function made m.old) }
 {
     m.parts.events.push(Event::Made(function, made.row))?;
     m.parts.compiled.push(made)?;
-    m.parts.arena += words;
+    m.parts.arena += made.words;
     Ok(())
 }

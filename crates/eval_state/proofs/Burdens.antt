@@ -190,6 +190,10 @@ module _ (k : ℕ → ℕ) where
       < weight k (pending.Round d s e)
   round_tested d s e = omega arith
 
+  pub round_again : (d more : ℕ) (s : Stmt) (e : Expr) → weight_of_stmt k s + weight k (pending.Round more s e)
+      < weight k (pending.ContinuedTest d s e)
+  round_again d more s e = omega arith
+
   pub switch_begins : (e : Expr) (variables items : Items)
       → weight_of k e + weight k (pending.Switch variables items) < weight_of_stmt k (node.Switch e variables items)
   switch_begins e variables items = omega arith

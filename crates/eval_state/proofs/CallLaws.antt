@@ -96,7 +96,7 @@ module _ (program : Program) (turns d o : ℕ) (captures : Captures) (a : Answer
   calls f vs w = valued (targeted (context_at program turns here) (pending.Direct a f) vs w)
 
   -- what a number stands for decides
-  found : (f : ℕ) (vs : List ℕ) (w : World) (callee : Option Callee) → callee_at program w.shared.compiled f ≡ callee
+  found : (f : ℕ) (vs : List ℕ) (w : World) (callee : Option Callee) → callee_at program w.shared.bodies f ≡ callee
       → valued (then_do (call_callee program turns (call_at program turns d) f callee vs w)
       (λ v w. spend (left_by a v) w)) ≡ calls f vs w
   found f vs w callee h = ap (λ x. valued
@@ -104,7 +104,7 @@ module _ (program : Program) (turns d o : ℕ) (captures : Captures) (a : Answer
 
   -- a function of the text is entered
   pub call_starts : (f : ℕ) (vs : List ℕ) (function : Function) (w : World)
-      → callee_at program w.shared.compiled f ≡ Some (Static function)
+      → callee_at program w.shared.bodies f ≡ Some (Static function)
       → limit_trap (charge_of (size_of function)) function.object w.shared ≡ None
       → after (context_at program turns (in_function d function.object))
       (pending.Called a (charge_of (size_of function)) (body_of o captures w))
@@ -122,7 +122,7 @@ module _ (program : Program) (turns d o : ℕ) (captures : Captures) (a : Answer
 
   -- or traps at a limit
   pub call_traps : (f : ℕ) (vs : List ℕ) (function : Function) (w : World) (kind : TrapKind)
-      → callee_at program w.shared.compiled f ≡ Some (Static function)
+      → callee_at program w.shared.bodies f ≡ Some (Static function)
       → limit_trap (charge_of (size_of function)) function.object w.shared ≡ Some kind
       → Ends (Ended (Trap kind)) w.shared ≡ calls f vs w
   call_traps f vs function w kind h k =
@@ -133,14 +133,14 @@ module _ (program : Program) (turns d o : ℕ) (captures : Captures) (a : Answer
       ∙ found f vs w (Some (Static function)) h
 
   -- a number of no function
-  pub call_of_none : (f : ℕ) (vs : List ℕ) (w : World) → callee_at program w.shared.compiled f ≡ None
+  pub call_of_none : (f : ℕ) (vs : List ℕ) (w : World) → callee_at program w.shared.bodies f ≡ None
       → Ends (Ended (Trap BadCall)) w.shared ≡ calls f vs w
   call_of_none f vs w h = found f vs w None h
 
   -- ---- a compiled function: the event of its entry stands before the limits
 
   pub code_call_starts : (f : ℕ) (vs : List ℕ) (tick : ℕ) (inner : Captures) (w : World)
-      → callee_at program w.shared.compiled f ≡ Some (Generated (Ticked tick inner))
+      → callee_at program w.shared.bodies f ≡ Some (Generated (Ticked tick inner))
       → limit_trap (code_charge program (Ticked tick inner)) 0 (happens (Entered f) w.shared) ≡ None
       → after (context_at program turns (in_code d inner))
       (pending.Called a (code_charge program (Ticked tick inner)) (body_of o captures w))
@@ -163,7 +163,7 @@ module _ (program : Program) (turns d o : ℕ) (captures : Captures) (a : Answer
       ∙ found f vs w (Some (Generated syntax)) h
 
   pub code_call_traps : (f : ℕ) (vs : List ℕ) (syntax : Syntax) (w : World) (kind : TrapKind)
-      → callee_at program w.shared.compiled f ≡ Some (Generated syntax)
+      → callee_at program w.shared.bodies f ≡ Some (Generated syntax)
       → limit_trap (code_charge program syntax) 0 (happens (Entered f) w.shared) ≡ Some kind
       → Ends (Ended (Trap kind)) (happens (Entered f) w.shared) ≡ calls f vs w
   code_call_traps f vs syntax w kind h k =
@@ -266,7 +266,7 @@ under_splice a variables d o inner captures = refl
 -- a call pushes its frame on all that is pending, and what is still to come stays the same
 pub call_goes : (program : Program) (turns d o : ℕ) (captures : Captures) (a : Answer) (f : ℕ) (vs : List ℕ)
     (function : Function) (w : World) (fs : List Frame)
-    → callee_at program w.shared.compiled f ≡ Some (Static function)
+    → callee_at program w.shared.bodies f ≡ Some (Static function)
     → limit_trap (charge_of (size_of function)) function.object w.shared ≡ None
     → through (context_at program turns) (in_function d function.object)
     (fs ++ pending.Called a (charge_of (size_of function)) (body_of o captures w) ∷ [])
@@ -284,7 +284,7 @@ call_goes program turns d o captures a f vs function w fs h k =
 -- and so does a call of a compiled function
 pub code_call_goes : (program : Program) (turns d o : ℕ) (captures : Captures) (a : Answer) (f : ℕ) (vs : List ℕ)
     (tick : ℕ) (inner : Captures) (w : World) (fs : List Frame)
-    → callee_at program w.shared.compiled f ≡ Some (Generated (Ticked tick inner))
+    → callee_at program w.shared.bodies f ≡ Some (Generated (Ticked tick inner))
     → limit_trap (code_charge program (Ticked tick inner)) 0 (happens (Entered f) w.shared) ≡ None
     → through (context_at program turns) (in_code d inner)
     (fs ++ pending.Called a (code_charge program (Ticked tick inner)) (body_of o captures w) ∷ [])

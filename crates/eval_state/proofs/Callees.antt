@@ -43,7 +43,7 @@ use Rattle.eval_state.proofs.Units.{all_spent, too_few}
 -- ---- what a number stands for
 
 abbrev pub callee_in : Parts → ℕ → Option Callee
-callee_in p n = callee_at (program_of p) (world_now (run_of p)).shared.compiled n
+callee_in p n = callee_at (program_of p) (world_now (run_of p)).shared.bodies n
 
 length_map : {A B : Type 0} (f : A → B) (xs : List A) → length (map f xs) ≡ length xs
 length_map f [] = refl
@@ -213,7 +213,7 @@ units_all n (suc u) w h =
 
 module _ (r : Run) (a : Answer) (f : ℕ) (vs : List ℕ) (tick : ℕ) (inner : Captures) (d : ℕ)
     (deep : r.state.depth ≡ suc d)
-    (callee : callee_at r.program (world_now r).shared.compiled f ≡ Some (Generated (Ticked tick inner)))
+    (callee : callee_at r.program (world_now r).shared.bodies f ≡ Some (Generated (Ticked tick inner)))
     (free : limit_trap (code_charge r.program (Ticked tick inner)) 0 (happens (happened.Entered f) (world_now r).shared)
     ≡ None) where
   abbrev begun : Run

@@ -41,7 +41,7 @@ called_at r d = record { depth = d; object = r.state.body.object; captures = r.s
 
 pub enters : (r : Run) (a : Answer) (f : ℕ) (vs : List ℕ) (function : Function) (d : ℕ)
     → r.state.depth ≡ suc d
-    → callee_at r.program (world r).shared.compiled f ≡ Some (Static function)
+    → callee_at r.program (world r).shared.bodies f ≡ Some (Static function)
     → limit_trap (charge_of (size_of function)) function.object (world r).shared ≡ None
     → leads (entered_run a (charge_of (size_of function)) function vs d r)
     (spent (here (entered_run a (charge_of (size_of function)) function vs d r)) (world r).units
@@ -72,7 +72,7 @@ code_run a charge f inner vs d r = record r {
 
 pub code_enters : (r : Run) (a : Answer) (f : ℕ) (vs : List ℕ) (tick : ℕ) (inner : Captures) (d : ℕ)
     → r.state.depth ≡ suc d
-    → callee_at r.program (world r).shared.compiled f ≡ Some (Generated (Ticked tick inner))
+    → callee_at r.program (world r).shared.bodies f ≡ Some (Generated (Ticked tick inner))
     → limit_trap (code_charge r.program (Ticked tick inner)) 0 (happens (Entered f) (world r).shared) ≡ None
     → leads (code_run a (code_charge r.program (Ticked tick inner)) f inner vs d r)
     (once (entry_units r.program f vs (Ticked tick inner) (world r))

@@ -1,5 +1,5 @@
 -- What the state names stays what it is where a specification is added.
-use Rattle.std.proofs.Common.{◌≡◌, ℕ, zero, suc, ◌+◌, ◌≤◌, length, List, [], ◌∷◌, ◌++◌, map, refl, ap, ◌∙◌, arith}
+use Rattle.std.proofs.Common.{◌≡◌, ℕ, zero, suc, true, ◌+◌, ◌≤◌, length, List, [], ◌∷◌, ◌++◌, map, refl, ap, ◌∙◌, arith}
 use Rattle.meaning_state.specs.Rows.{numbered}
 use Rattle.meaning_state.specs.Shared.{Specification}
 use Rattle.eval_state.specs.KeptRows.{Row, row_kept, rows_behind, rows_kept}
@@ -74,7 +74,8 @@ pub compiled_more : (ms : List Compiled) (rows : List Specification) (s : Specif
     → map (compiled_view (rows ++ s ∷ [])) ms ≡ map (compiled_view rows) ms
 compiled_more [] rows s h = refl
 compiled_more (m ∷ ms) rows s h =
-    ap (λ o. syntax_in o ∷ map (compiled_view (rows ++ s ∷ [])) ms)
+    ap (λ o. record { syntax = syntax_in o; first = m.first; count = m.words; live = true }
+    ∷ map (compiled_view (rows ++ s ∷ [])) ms)
     (numbered_more m.row rows s (code_within m.row rows h.0.0))
     ∙ ap (λ fs. compiled_view rows m ∷ fs) (compiled_more ms rows s h.1)
 

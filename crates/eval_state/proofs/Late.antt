@@ -54,7 +54,7 @@ late_leads at p outer frames fs x whole h =
 
 module _ (program : Program) (turns d o : ℕ) (captures : Captures) (a : Answer) (f : ℕ) (vs : List ℕ)
     (function : Function) (w : World) (u : ℕ) (some : w.units ≡ suc u)
-    (callee : callee_at program w.shared.compiled f ≡ Some (Static function))
+    (callee : callee_at program w.shared.bodies f ≡ Some (Static function))
     (free : limit_trap (charge_of (size_of function)) function.object w.shared ≡ None) where
   abbrev inner : Context
   inner = context_at program turns (in_function d function.object)

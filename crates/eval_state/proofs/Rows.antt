@@ -4,7 +4,7 @@ use Rattle.std.proofs.lemmas.List.{map-append, length-map}
 use Rattle.word32.specs.Space.{words_from}
 use Rattle.word32.specs.declared.map.TheConstants.{OBJECTS}
 use Rattle.history.specs.Events.{Item}
-use Rattle.history.specs.Syntax.{Syntax}
+use Rattle.meaning_state.specs.Bodies.{Body}
 use Rattle.meaning_state.specs.Shared.{Specification}
 use Rattle.staged_meaning.specs.World.{with_shared}
 use Rattle.eval_state.specs.KeptRows.{row_kept, rows_kept}
@@ -19,8 +19,8 @@ use Rattle.eval_state.specs.Sound.{AreKnown, AreNamed, IsSound}
 use Rattle.eval_state.proofs.Growth.{body_more, compiled_more, count_kept, entries_more, events_more}
 
 -- the run of parts, with these specifications and what is read off them
-abbrev read_off : Parts → List Specification → (closures : ℕ) → Active → List Item → List Syntax → List Frame → Run
-read_off p rows closures body history compiled frames = record {
+abbrev read_off : Parts → List Specification → (closures : ℕ) → Active → List Item → List Body → List Frame → Run
+read_off p rows closures body history bodies frames = record {
   program = program_of p;
   turns = suc p.turns;
   state = record {
@@ -34,8 +34,7 @@ read_off p rows closures body history compiled frames = record {
       frames = p.frames;
       specifications = rows;
       closures = closures;
-      compiled = compiled;
-      arena = p.arena;
+      bodies = bodies;
     };
     units = p.units;
     depth = p.depth;

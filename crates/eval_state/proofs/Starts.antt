@@ -48,7 +48,6 @@ pub record AreFirst (p : Parts) : Type 0 where
   pub rows : p.rows ≡ []
   pub closures : p.closures ≡ 0
   pub compiled : p.compiled ≡ []
-  pub arena : p.arena ≡ 0
 
 -- the words of the image are its bytes
 image_stands : (first : ℕ) (words bytes : List ℕ) → ((i : ℕ) → slice_index words i ≡ word_in bytes (4 * i))
@@ -93,8 +92,7 @@ starts p h =
           frames = (h.frames ∙ from_zero _) i;
           specifications = rows_view (h.rows i);
           closures = h.closures i;
-          compiled = map (compiled_view (rows_view (h.rows i))) (h.compiled i);
-          arena = h.arena i;
+          bodies = map (compiled_view (rows_view (h.rows i))) (h.compiled i);
         };
         units = p.units;
         depth = h.depth i;

@@ -5,7 +5,7 @@ use Rattle.typed_tree.specs.Nodes as node
 use Rattle.typed_tree.specs.Nodes.{Expr, Stmt, Items, NoItem, Item}
 use Rattle.staged_meaning.specs.Meaning.{Context, eval, exec, exec_items, then_next, turn_end, round_end, stepped}
 use Rattle.staged_meaning.specs.Statements.{switch_end}
-use Rattle.staged_meaning.specs.World.{World, Gives, Normal, Broke, Continued, then_do, spend}
+use Rattle.staged_meaning.specs.World.{World, Gives, Normal, Broke, Continued, at_zero, then_do, spend}
 use Rattle.eval_state.specs.Pending as pending
 use Rattle.eval_state.specs.Rest.{Value, Left, valued, left, after, loop_of, rounds_of, switched}
 use Rattle.eval_state.proofs.Laws.{left_bind, flow_bind, do_both}
@@ -97,10 +97,17 @@ module _ (c : Context) where
       → after c (pending.RoundTest d s e) (valued (eval c e w)) ≡ after c (pending.Round d s e) (Gives (Left Normal) w)
   round_tested d s e w = left_bind (eval c e w) _
 
-  pub round_tested_too : (d : ℕ) (s : Stmt) (e : Expr) (w : World)
-      → after c (pending.RoundTest d s e) (valued (eval c e w))
+  -- a continue ends the turn, which spends its unit, and then comes the test
+  pub round_continued : (d : ℕ) (s : Stmt) (e : Expr) (w : World)
+      → left (then_do (spend Normal w)
+      (λ flow w. then_do (eval c e w) (λ v w. at_zero v (Gives Normal w) (rounds_of c d s e w))))
       ≡ after c (pending.Round d s e) (Gives (Left Continued) w)
-  round_tested_too d s e w = left_bind (eval c e w) _
+  round_continued d s e w = refl
+
+  pub continued_tested : (d : ℕ) (s : Stmt) (e : Expr) (w : World)
+      → after c (pending.ContinuedTest d s e) (valued (eval c e w))
+      ≡ left (then_do (eval c e w) (λ v w. at_zero v (Gives Normal w) (rounds_of c d s e w)))
+  continued_tested d s e w = left_bind (eval c e w) _
 
   pub round_broken : (d : ℕ) (s : Stmt) (e : Expr) (w : World) → left (spend Normal w)
       ≡ after c (pending.Round d s e) (Gives (Left Broke) w)

@@ -68,6 +68,7 @@ module _ (k : ℕ → ℕ) where
   weight (pending.If s) = weight_of_stmt s + 1
   weight (pending.IfElse s t) = weight_of_stmt s + (weight_of_stmt t + 1)
   weight (pending.Test d e step s) = weight_of_step step + (weight_of_stmt s + 3)
+  weight (pending.ContinuedTest d s e) = weight_of_stmt s + (weight_of e + 3)
   weight (pending.Switch variables items) = weight_of_items variables + (weight_of_items items + 5)
   weight (pending.Rest items) = weight_of_items items + 2
   weight (pending.Turn d e step s) = weight_of_step step + 2

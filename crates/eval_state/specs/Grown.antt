@@ -76,12 +76,12 @@ tick_of (Ticked tick captures) = tick
 abbrev pub with_left : (units : ℕ) → Parts → Parts
 with_left units p = record p { units = units }
 
--- a compiled function more, of this number, which is charged so many words, and the event of it
-abbrev pub with_made : (function : ℕ) → Compiled → (words : ℕ) → Parts → Parts
-with_made function made words p = record p {
+-- a compiled function more, of this number, and the event of it
+abbrev pub with_made : (function : ℕ) → Compiled → Parts → Parts
+with_made function made p = record p {
   events = p.events ++ event.Made function made.row ∷ [];
   compiled = p.compiled ++ made ∷ [];
-  arena = p.arena + words;
+  arena = p.arena + made.words;
 }
 
 -- whether a specification is one of a tick

@@ -2,6 +2,7 @@
 use Rattle.std.specs.Prelude.{ℕ, suc, true, false, List, [], ◌∷◌, map, get_or, nat_eq, if◌then◌else◌, Option, Some}
 use Rattle.history.specs.Syntax.{Syntax, Ticked, Captures, NoCapture}
 use Rattle.history.specs.Events as event
+use Rattle.meaning_state.specs.Bodies as made
 use Rattle.meaning_state.specs.Rows.{numbered}
 use Rattle.meaning_state.specs.Shared.{Specification}
 use Rattle.meaning_state.specs.Shared as shared
@@ -90,8 +91,8 @@ event_view rows (happened.In w) = event.In w
 event_view rows (happened.Made f row) = event.Made f (syntax_at rows row)
 event_view rows (happened.Entered f) = event.Entered f
 
-abbrev pub compiled_view : List Specification → Compiled → Syntax
-compiled_view rows made = syntax_at rows made.row
+abbrev pub compiled_view : List Specification → Compiled → made.Body
+compiled_view rows c = record { syntax = syntax_at rows c.row; first = c.first; count = c.words; live = true }
 
 abbrev pub entry_view : List Specification → Entry → pending.Frame
 entry_view rows (entry.Inside f) = frame_view f

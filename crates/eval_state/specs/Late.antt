@@ -70,7 +70,7 @@ pub record IsCallee (n : ℕ) (f : Function) (p : Parts) : Type 0 where
   pub deep : p.depth ≢ 0
   pub size : f.size ≡ size_of (function_view f)
   pub small : f.size ≤ SIZE_LIMIT
-  pub found : callee_at (program_of p) (world (run_of p)).shared.compiled n ≡ Some (Static (function_view f))
+  pub found : callee_at (program_of p) (world (run_of p)).shared.bodies n ≡ Some (Static (function_view f))
   pub free : limit_trap (charge_of f.size) f.object (world (run_of p)).shared ≡ None
   pub stack : p.used + charge_of f.size ≤ STACK_BYTES
   pub frames : p.frames + f.object ≤ FRAME_OBJECT_BYTES

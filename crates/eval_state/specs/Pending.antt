@@ -83,8 +83,9 @@ pub data Frame : Type 0 where
   Test : (turns : ℕ) → (test : Expr) → (step : Option Expr) → (body : Stmt) → Frame
   -- the step of such a loop
   Step : (turns : ℕ) → (test step : Expr) → (body : Stmt) → Frame
-  -- the test of a `do`
+  -- the test of a `do`, and the one behind a turn that a continue ended, whose unit is spent
   RoundTest : (turns : ℕ) → (body : Stmt) → (test : Expr) → Frame
+  ContinuedTest : (turns : ℕ) → (body : Stmt) → (test : Expr) → Frame
   -- the value of a switch, with its variables and items
   Switch : (variables items : Items) → Frame
   Return : Frame

@@ -203,6 +203,7 @@ after c (pending.Test d e step s) r =
 after c (pending.Step d e step s) r = on_value (λ v w. left (turn_end (loop_of c d e (Some step) s) Normal w)) r
 after c (pending.RoundTest d s e) r =
     on_value (λ v w. left (then_do (spend Normal w) (λ flow w. at_zero v (Gives Normal w) (rounds_of c d s e w)))) r
+after c (pending.ContinuedTest d s e) r = on_value (λ v w. left (at_zero v (Gives Normal w) (rounds_of c d s e w))) r
 after c (pending.Switch variables items) r =
     on_value (λ v w. left (then_do (exec_items c variables w) (then_next (switched c v items)))) r
 after c pending.Return r = on_value (λ v w. Returns v w) r

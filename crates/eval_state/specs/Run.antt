@@ -41,8 +41,7 @@ state_of p =
         frames = p.frames;
         specifications = rows;
         closures = p.closures;
-        compiled = map (compiled_view rows) p.compiled;
-        arena = p.arena;
+        bodies = map (compiled_view rows) p.compiled;
       };
       units = p.units;
       depth = p.depth;

@@ -1,9 +1,10 @@
 -- What is true of the specifications, of the functions that were compiled, and of their charges: a capture names an
 -- earlier specification of a tick, and what was counted once, as a row was made, is what its syntax has.
-use Rattle.std.specs.Prelude.{◌≡◌, ℕ, ◌+◌, ◌*◌, ◌≤◌, length, List, [], ◌∷◌, map, slice_get, Option, Some}
+use Rattle.std.specs.Prelude.{◌≡◌, ℕ, ◌+◌, ◌*◌, ◌<◌, ◌≤◌, length, List, [], ◌∷◌, map, slice_get, Option, Some}
 use Rattle.limits.specs.declared.program.TheConstants.{SIZE_LIMIT}
 use Rattle.limits.specs.declared.run.TheConstants.{CLOSURE_HEAD_BYTES}
 use Rattle.word32.specs.declared.map.TheConstants.{ARENA_WORDS, CLOSURE_BYTES}
+use Rattle.meaning_state.specs.Bodies.{AreSummed, charged}
 use Rattle.meaning_state.specs.Rows.{locals_of, numbered, parameters_in}
 use Rattle.meaning_state.specs.Shared.{Specification, Expression, Statement}
 use Rattle.staged_meaning.specs.Program.{Program, captures_size, tick_size}
@@ -14,7 +15,7 @@ use Rattle.eval_state.specs.declared.state.Kept.TheVariants as code
 use Rattle.eval_state.specs.declared.state.Row.{Row}
 use Rattle.eval_state.specs.declared.state.RowKind.{RowKind}
 use Rattle.eval_state.specs.declared.state.RowKind.TheVariants as kind
-use Rattle.eval_state.specs.Kept.{kept_view, row_view, rows_view, syntax_at}
+use Rattle.eval_state.specs.Kept.{compiled_view, kept_view, row_view, rows_view, syntax_at}
 
 -- it is a specification of a tick
 abbrev pub IsCode : Option Specification → Type 0
@@ -58,7 +59,14 @@ abbrev pub AreMade : List Specification → List Compiled → Type 0
 AreMade rows [] = Unit {0}
 AreMade rows (m ∷ ms) = IsMade rows m × AreMade rows ms
 
--- what is true of the rows, and of what they and the compiled functions are charged
+-- it is the next, behind so many words of the arena, and within the arena
+pub record IsNext (made : Compiled) (arena : ℕ) : Type 0 where
+  pub first : made.first ≡ arena
+  pub some : 0 < made.words
+  pub within : arena + made.words ≤ ARENA_WORDS
+
+-- what is true of the rows, and of what they and the compiled functions are charged: none was freed, and the arena's
+-- words are all of theirs
 pub record HasRows (program : Program) (rows : List Row) (closures : ℕ) (compiled : List Compiled) (arena : ℕ) :
     Type 0 where
   pub each : AreRows program (rows_view rows) rows
@@ -66,3 +74,5 @@ pub record HasRows (program : Program) (rows : List Row) (closures : ℕ) (compi
   pub count : CLOSURE_HEAD_BYTES * length rows ≤ closures
   pub closure_bytes : closures ≤ CLOSURE_BYTES
   pub arena_words : arena ≤ ARENA_WORDS
+  pub bodies : AreSummed ARENA_WORDS (map (compiled_view (rows_view rows)) compiled)
+  pub words : charged (map (compiled_view (rows_view rows)) compiled) ≡ arena

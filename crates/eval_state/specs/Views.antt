@@ -88,6 +88,7 @@ statement_frame (statement.IfElse s t) = pending.IfElse (stmt_view s.now) (stmt_
 statement_frame (statement.Test d e step s) = pending.Test d (expr_view e.now) (step_view step) (stmt_view s.now)
 statement_frame (statement.Step d e step s) = pending.Step d (expr_view e.now) (expr_view step.now) (stmt_view s.now)
 statement_frame (statement.RoundTest d s e) = pending.RoundTest d (stmt_view s.now) (expr_view e.now)
+statement_frame (statement.ContinuedTest d s e) = pending.ContinuedTest d (stmt_view s.now) (expr_view e.now)
 statement_frame (statement.Switch variables items) = pending.Switch (items_view variables.now) (items_view items.now)
 statement_frame statement.Return = pending.Return
 

@@ -128,6 +128,8 @@ pub enum StatementFrame<'a> {
     Step(u64, &'a Expr, &'a Expr, &'a Stmt),
     /// The test of a `do` that has so many turns after this one.
     RoundTest(u64, &'a Stmt, &'a Expr),
+    /// The test of such a `do` behind a turn that a continue ended, whose unit is spent.
+    ContinuedTest(u64, &'a Stmt, &'a Expr),
     /// The value of a switch, with its variables and items.
     Switch(&'a [Stmt], &'a [Stmt]),
     /// Returns a value.

@@ -138,6 +138,10 @@ pub struct Compiled {
     pub row: u32,
     /// How many different local variables its code names.
     pub locals: u64,
+    /// The first word of its body in the arena.
+    pub first: u32,
+    /// The words that it is charged.
+    pub words: u32,
 }
 
 /// An event.

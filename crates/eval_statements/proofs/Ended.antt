@@ -131,13 +131,10 @@ module _ {E : Type 0} (result : std.Result code.Now E) (f : Frame) (x : Flow) (r
         (ap (leads r) (statement.round_tested (here r) d s e (world r))) (omega arith)
         (pushes result (pending.RoundTest d s e) (pending.Eval e) r t same units less))
 
-    pub round_continued : f ≡ pending.Round d s e → x ≡ Continued → IfOk result (λ n. IsEnded f x (now_view n) r t)
-    unfolding ended
-    round_continued is way =
-        all_like result f (pending.Round d s e) x Continued r t is way
-        (waits result (pending.RoundTest d s e) (pending.Eval e) _ _ r t
-        (ap (leads r) (statement.round_tested_too (here r) d s e (world r))) (omega arith)
-        (pushes result (pending.RoundTest d s e) (pending.Eval e) r t same units less))
+  pub round_continued : (d : ℕ) (s : Stmt) (e : Expr) → f ≡ pending.Round d s e → x ≡ Continued
+      → IfOk result (λ n. IsEnded (pending.Round d s e) Continued (now_view n) r t)
+      → IfOk result (λ n. IsEnded f x (now_view n) r t)
+  round_continued d s e is way h = all_like result f (pending.Round d s e) x Continued r t is way h
 
   pub chooses : (v : ℕ) (items : Items) → f ≡ pending.Chosen v items → x ≡ Normal
       → IfOk result (λ n. outcome (now_view n) t ≡ leads r (left (switched (here r) v items (world r))))

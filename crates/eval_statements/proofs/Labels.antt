@@ -41,7 +41,8 @@ module _ (r : Run) (v : ℕ) (all : List Stmt) (s : Stmt) (items : List Stmt) wh
   pub lacks : (value : ℕ) → case_of (stmt_view s) ≡ Some value → (world r).units ≡ 0
       → outcome pending.Stopped r ≡ leads r (left (comparing r v all (s ∷ items)))
   lacks value h k =
-      ap (λ u. leads r (left (then_do (on_case (Some value) v behind next (record (world r) { units = u })) switch_end)))
+      ap (λ u. leads r (left (then_do (on_case (Some value) v behind next (record (world r) { units = u }))
+      switch_end)))
       (sym k)
       ∙ ap (λ o. leads r (left (then_do (on_case o v behind next (world r)) switch_end))) (sym h)
 
@@ -51,7 +52,8 @@ module _ (r : Run) (v : ℕ) (all : List Stmt) (s : Stmt) (items : List Stmt) wh
       ≡ leads r (left (comparing r v all (s ∷ items)))
   compared value h k =
       let one : (world r).units ≡ suc ((world r).units - 1) = omega (arith, k) in
-      ap (λ u. leads r (left (then_do (on_case (Some value) v behind next (record (world r) { units = u })) switch_end)))
+      ap (λ u. leads r (left (then_do (on_case (Some value) v behind next (record (world r) { units = u }))
+      switch_end)))
       (sym one)
       ∙ ap (λ o. leads r (left (then_do (on_case o v behind next (world r)) switch_end))) (sym h)
 

@@ -1,23 +1,23 @@
 -- The turns of loops: each spends a unit at its end, and a loop that may have no turn more stops.
-use Rattle.std.proofs.Common.{◌≡◌, ◌≤◌, ℕ, zero, suc, ◌-◌, ◌≢◌, Option, None, Some, IfOk}
+use Rattle.std.proofs.Common.{◌≡◌, ◌≤◌, ℕ, zero, suc, ◌+◌, ◌-◌, ◌≢◌, Option, None, Some, IfOk}
 use Rattle.std.proofs.Common.{refl, ap, sym, subst, ◌∙◌, arith}
 use Rattle.std.proofs.Common as std
 use Rattle.typed_tree.specs.Nodes.{Expr, Stmt}
 use Rattle.staged_meaning.specs.Meaning.{Context, eval, exec}
-use Rattle.staged_meaning.specs.World.{World, Result, Gives, Flow, Normal, at_zero, then_do, spend}
+use Rattle.staged_meaning.specs.World.{World, Result, Gives, Flow, Normal, Continued, at_zero, then_do, spend}
 use Rattle.eval_state.specs.Pending as pending
 use Rattle.eval_state.specs.Pending.{Now}
-use Rattle.eval_state.specs.Rest.{Signal, left, after, loop_of, rounds_of, valued}
+use Rattle.eval_state.specs.Rest.{Signal, Value, left, after, loop_of, rounds_of, valued}
 use Rattle.eval_state.proofs.Statements as law
 use Rattle.eval_state.specs.declared.parts.Now as code
 use Rattle.eval_state.specs.declared.state.Parts.{Parts}
-use Rattle.eval_state.specs.Less.{held}
+use Rattle.eval_state.specs.Less.{heft, held, waiting}
 use Rattle.eval_state.specs.Run.{Run, here, leads, outcome, run_of, world, with_units}
-use Rattle.eval_state.specs.Steps.{ended}
+use Rattle.eval_state.specs.Steps.{ended, taken}
 use Rattle.eval_state.specs.Views.{now_view}
 use Rattle.eval_simple.specs.Simple.{IsDone}
-use Rattle.eval_simple.specs.Stepped.{IsEnded, IsPushed, IsStep}
-use Rattle.eval_simple.proofs.Stepped.{step_now, steps_as, steps_behind, unmoved, waits}
+use Rattle.eval_simple.specs.Stepped.{IsEnded, IsPushed, IsStep, IsTaken}
+use Rattle.eval_simple.proofs.Stepped.{pushes, step_as, step_now, steps_as, steps_behind, unmoved, waits}
 use Rattle.eval_statements.specs.Turned.{IsRounded, IsTurn, IsTurned}
 use Rattle.eval_statements.proofs.AtOnce as once
 
@@ -52,16 +52,39 @@ more_rounds r many s e h =
     ap (leads r) (law.round_begins (here r) (many - 1) s e (world r))
     ∙ ap (λ d. leads r (left (rounds_of (here r) d s e (world r)))) all
 
--- a round's test held, and its unit was spent
-pub round_held : (r one : Run) (v many : ℕ) (s : Stmt) (e : Expr)
-    → ((world r).units ≢ 0) × (one ≡ with_units ((world r).units - 1) r) → v ≢ 0
-    → leads one (left (rounds_of (here one) many s e (world one)))
-    ≡ leads r (left (then_do (spend Normal (world r)) (λ flow w. at_zero v (Gives Normal w)
-    (rounds_of (here r) many s e w))))
-round_held r one v many s e h k =
-    ap (λ x. leads one (left x))
-    (sym (other v (Gives Normal (world one)) (rounds_of (here one) many s e (world one)) k))
-    ∙ unit_first r one (λ c w. at_zero v (Gives Normal w) (rounds_of c many s e w)) h
+-- behind a round's test, where its unit is spent: the loop ends, or may have no turn more, or has one
+pub again_ends : (r : Run) (v many : ℕ) (s : Stmt) (e : Expr) → v ≡ 0
+    → IsTaken (pending.ContinuedTest many s e) v (pending.Left Normal) r r
+unfolding taken
+again_ends r v many s e none =
+    step_now (pending.Left Normal) _ _ r
+    (ap (λ v. leads r (after (here r) (pending.ContinuedTest many s e) (Gives (Value v) (world r)))) (sym none))
+    (omega arith)
+
+-- its test held
+round_holds : (r : Run) (v many : ℕ) (s : Stmt) (e : Expr) → v ≢ 0
+    → leads r (left (rounds_of (here r) many s e (world r))) ≡ taken (pending.ContinuedTest many s e) v r
+unfolding taken
+round_holds r v many s e some =
+    ap (λ x. leads r (left x)) (sym (other v (Gives Normal (world r)) (rounds_of (here r) many s e (world r)) some))
+
+pub again_none : (r : Run) (v many : ℕ) (s : Stmt) (e : Expr) → v ≢ 0 → many ≡ 0
+    → IsTaken (pending.ContinuedTest many s e) v pending.Stopped r r
+again_none r v many s e some none =
+    step_now pending.Stopped _ _ r
+    (ap (λ d. leads r (left (rounds_of (here r) d s e (world r)))) (sym none) ∙ round_holds r v many s e some)
+    (omega arith)
+
+pub again_more : {E : Type 0} (result : std.Result code.Now E) (r t : Run) (v many : ℕ) (s : Stmt) (e : Expr) → v ≢ 0
+    → many ≢ 0 → IfOk result (λ n. outcome (now_view n) t
+    ≡ leads r (after (here r) (pending.Round (many - 1) s e) (left (exec (here r) s (world r)))))
+    → IfOk result (λ n. t.state.units ≡ r.state.units)
+    → IfOk result (λ n. heft (now_view n) t ≤ heft (pending.Exec s) r + waiting (pending.Round (many - 1) s e) r)
+    → IfOk result (λ n. IsTaken (pending.ContinuedTest many s e) v (now_view n) r t)
+again_more result r t v many s e some more same units less =
+    waits result (pending.Round (many - 1) s e) (pending.Exec s) _ _ r t
+    (more_rounds r many s e more ∙ round_holds r v many s e some) (omega arith)
+    (pushes result (pending.Round (many - 1) s e) (pending.Exec s) r t same units less)
 
 -- ---- a turn that ends
 
@@ -76,6 +99,17 @@ turn_lacks p q k h =
     (sym h.1)
     (step_now pending.Stopped (leads r (left (then_do (spend Normal (world r)) k))) (suc (held r)) r
     (ap (λ u. leads r (left (then_do (spend Normal (record (world r) { units = u })) k))) (sym h.0)) (omega arith))
+
+-- nor for one that a continue ends
+pub round_lacks : (p q : Parts) (many : ℕ) (s : Stmt) (e : Expr) → ((world (run_of p)).units ≡ 0) × (q ≡ p)
+    → IsEnded (pending.Round many s e) Continued pending.Stopped (run_of p) (run_of q)
+unfolding ended
+round_lacks p q many s e h =
+    let r = run_of p in
+    step_as pending.Stopped _ _ _ _ r (run_of q) (ap (leads r) (law.round_continued (here r) many s e (world r)))
+    (omega arith)
+    (turn_lacks p q
+    (λ flow w. then_do (eval (here r) e w) (λ v w. at_zero v (Gives Normal w) (rounds_of (here r) many s e w))) h)
 
 module _ (r one : Run) (spent : ((world r).units ≢ 0) × (one ≡ with_units ((world r).units - 1) r)) where
   fewer : one.state.units ≡ r.state.units - 1
@@ -109,30 +143,31 @@ module _ (r one : Run) (spent : ((world r).units ≢ 0) × (one ≡ with_units (
       (h.same ∙ more_turns one many e step s more ∙ unit_first r one (λ c w. loop_of c many e step s w) spent) h.units
   turn_more (std.Err x) t many e step s more h = h
 
-  pub round_ends : (v many : ℕ) (s : Stmt) (e : Expr) → v ≡ 0 → IsRounded v many s e (pending.Left Normal) r one
-  round_ends v many s e none =
-      spending (pending.Left Normal) _ _ one
-      (ap (λ v. leads one (left (at_zero v (Gives Normal (world one)) (rounds_of (here one) many s e (world one)))))
-      (sym none)
-      ∙ unit_first r one (λ c w. at_zero v (Gives Normal w) (rounds_of c many s e w)) spent)
-      (omega arith)
-
-  pub round_none : (v many : ℕ) (s : Stmt) (e : Expr) → v ≢ 0 → many ≡ 0 → IsRounded v many s e pending.Stopped r one
-  round_none v many s e holds none =
-      spending pending.Stopped _ _ one
-      (ap (λ d. leads one (left (rounds_of (here one) d s e (world one)))) (sym none)
-      ∙ round_held r one v many s e spent holds)
-      (omega arith)
-
-  pub round_more : {E : Type 0} (result : std.Result code.Now E) (t : Run) (v many : ℕ) (s : Stmt) (e : Expr) → v ≢ 0
-      → many ≢ 0 → IfOk result (λ n. outcome (now_view n) t
-      ≡ leads one (after (here one) (pending.Round (many - 1) s e) (left (exec (here one) s (world one)))))
-      → IfOk result (λ n. t.state.units ≡ one.state.units)
+  pub round_tested : {E : Type 0} (result : std.Result code.Now E) (t : Run) (v many : ℕ) (s : Stmt) (e : Expr)
+      → IfOk result (λ n. IsTaken (pending.ContinuedTest many s e) v (now_view n) one t)
       → IfOk result (λ n. IsRounded v many s e (now_view n) r t)
-  round_more (std.Ok n) t v many s e holds more same units =
+  unfolding taken
+  round_tested (std.Ok n) t v many s e h =
       spending (now_view n) _ _ t
-      (same ∙ more_rounds one many s e more ∙ round_held r one v many s e spent holds) (omega (arith, units))
-  round_more (std.Err x) t v many s e holds more same units = same
+      (h.same ∙ unit_first r one (λ c w. at_zero v (Gives Normal w) (rounds_of c many s e w)) spent) h.units
+  round_tested (std.Err x) t v many s e h = h
+
+  -- a continue ended a round, whose unit was spent: its test comes next
+  pub round_waits : {E : Type 0} (result : std.Result code.Now E) (t : Run) (many : ℕ) (s : Stmt) (e : Expr)
+      → IfOk result (λ n. outcome (now_view n) t
+      ≡ leads one (after (here one) (pending.ContinuedTest many s e) (valued (eval (here one) e (world one)))))
+      → IfOk result (λ n. t.state.units ≡ one.state.units)
+      → IfOk result (λ n. IsEnded (pending.Round many s e) Continued (now_view n) r t)
+  unfolding ended
+  round_waits (std.Ok n) t many s e same units =
+      spending (now_view n) _ _ t
+      (same
+      ∙ ap (leads one) (law.continued_tested (here one) many s e (world one))
+      ∙ unit_first r one
+      (λ c w. then_do (eval c e w) (λ v w. at_zero v (Gives Normal w) (rounds_of c many s e w))) spent
+      ∙ ap (leads r) (law.round_continued (here r) many s e (world r)))
+      (omega (arith, units))
+  round_waits (std.Err x) t many s e same units = same
 
 -- ---- a turn that begins
 

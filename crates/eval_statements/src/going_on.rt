@@ -8,7 +8,7 @@ ghost use Rattle.eval_state.specs.Run.{here, leads, outcome, run_of, world};
 ghost use Rattle.eval_state.specs.Views.{end_frame, flow_view, now_view, statement_frame};
 ghost use Rattle.eval_simple.specs.Stepped.{IsEnded, IsTaken};
 
-use crate::loops::{rounded, step_on, test, turned};
+use crate::loops::{again, continued, rounded, step_on, test, turned};
 use crate::switches::choose;
 use eval_state::{EndFrame, Flow, Frame, Machine, Now, StatementFrame};
 use std::alloc::AllocError;
@@ -53,6 +53,7 @@ fn take<'a>(m: &mut Machine<'a>, v: u32, frame: StatementFrame<'a>) -> Result<No
         StatementFrame::Test(more, e, step, s) => test(m, v, more, e, step, s),
         StatementFrame::Step(more, e, step, s) => turned(m, more, e, Some(step), s),
         StatementFrame::RoundTest(more, s, e) => rounded(m, v, more, s, e),
+        StatementFrame::ContinuedTest(more, s, e) => again(m, v, more, s, e),
         StatementFrame::Switch(variables, items) => {
             m.push(Frame::End(EndFrame::Chosen(v, items)), Now::Run(variables))
         }
@@ -97,10 +98,7 @@ fn pass<'a>(m: &mut Machine<'a>, left: Flow, frame: EndFrame<'a>) -> Result<Now<
                 Now::Eval(e),
             ),
             Flow::Broke => Ok(m.spend(Now::Left(Flow::Normal))),
-            Flow::Continued => m.push(
-                Frame::Statement(StatementFrame::RoundTest(more, s, e)),
-                Now::Eval(e),
-            ),
+            Flow::Continued => continued(m, more, s, e),
         },
         EndFrame::Chosen(v, items) => match left {
             Flow::Normal => choose(m, v, items),

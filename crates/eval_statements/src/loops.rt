@@ -2,7 +2,7 @@
 
 ghost use Rattle.std.specs.Prelude.{suc, IfOk};
 ghost use Rattle.typed_tree.specs.View.{expr_view, stmt_view};
-ghost use Rattle.staged_meaning.specs.World.{Normal};
+ghost use Rattle.staged_meaning.specs.World.{Continued, Normal};
 ghost use Rattle.eval_state.specs.Pending as pending;
 ghost use Rattle.eval_state.specs.Run.{run_of};
 ghost use Rattle.eval_state.specs.Views.{now_view, step_view};
@@ -108,6 +108,40 @@ pub(crate) fn rounded<'a>(
     if !m.spend_one() {
         return Ok(Now::Stopped);
     }
+    again(m, v, many, s, e)
+}
+
+/// Ends a turn of a `do` by a continue, which spends the turn's unit; the test comes next.
+pub(crate) fn continued<'a>(
+    m: &mut Machine<'a>,
+    many: u64,
+    s: &'a Stmt,
+    e: &'a Expr,
+) -> Result<Now<'a>, AllocError>
+    ensures { IfOk result (λ n. IsEnded (pending.Round many (stmt_view s.entry.now) (expr_view e.entry.now)) Continued
+        (now_view n) (run_of m.old) (run_of m.new)) }
+{
+    if !m.spend_one() {
+        return Ok(Now::Stopped);
+    }
+    m.push(
+        Frame::Statement(StatementFrame::ContinuedTest(many, s, e)),
+        Now::Eval(e),
+    )
+}
+
+/// Behind the test of a `do`, where the turn's unit is spent: its body once more, or its end; so many turns may follow.
+pub(crate) fn again<'a>(
+    m: &mut Machine<'a>,
+    v: u32,
+    many: u64,
+    s: &'a Stmt,
+    e: &'a Expr,
+) -> Result<Now<'a>, AllocError>
+    ensures { IfOk result (λ n. IsTaken
+        (pending.ContinuedTest many (stmt_view s.entry.now) (expr_view e.entry.now)) v (now_view n) (run_of m.old)
+        (run_of m.new)) }
+{
     if v == 0 {
         return Ok(Now::Left(Flow::Normal));
     }

@@ -32,7 +32,8 @@ over_told now.Stopped r h = ap told
 over_told (now.Value v) r h =
     ap (λ fs. told (through (context_at r.program r.turns) (place_of r.state) fs (Gives (Value v) (world r)))) h
 over_told (now.Left f) r h =
-    ap (λ fs. told (through (context_at r.program r.turns) (place_of r.state) fs (Gives (Left (flow_view f)) (world r)))) h
+    ap (λ fs. told (through (context_at r.program r.turns) (place_of r.state) fs
+    (Gives (Left (flow_view f)) (world r)))) h
 over_told (now.Returned v) r h =
     ap (λ fs. told (through (context_at r.program r.turns) (place_of r.state) fs (Returns v (world r)))) h
 

@@ -1,6 +1,7 @@
 //! Memory by regions: a vector of words for each.
 
-ghost use Rattle.std.specs.Prelude.{◌≡◌, ◌+◌, ◌*◌, ◌/◌, ◌%◌, ◌-◌, ℕ, ◌<◌, ◌≤◌, true, false, length, slice_index, MatchResult, IfOk, IfSome, Ok, Err};
+ghost use Rattle.std.specs.Prelude.{◌≡◌, ◌+◌, ◌*◌, ◌/◌, ◌%◌, ◌-◌, ℕ, ◌<◌, ◌≤◌, true, false, length, slice_index};
+ghost use Rattle.std.specs.Prelude.{MatchResult, IfOk, IfSome, Ok, Err};
 ghost use Rattle.word32.specs.Space.{words_from, bytes_from};
 ghost use Rattle.word32.specs.Space as space;
 ghost use Rattle.word32.specs.Parts as parts;
@@ -10,7 +11,7 @@ ghost use Rattle.flat_memory.specs.Spaces as spaces;
 ghost use Rattle.flat_memory.specs.Regions.{spaces_of};
 
 use crate::access::Access;
-use crate::first::{clear, make_room, object_words, refill, replace, zero_words};
+use crate::initial::{clear, make_room, object_words, refill, replace, zero_words};
 use std::alloc::{AllocError, Global};
 use std::marker::Model;
 use word32::{Width, is_aligned, loaded_part, map, stored_part};

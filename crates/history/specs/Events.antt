@@ -8,8 +8,7 @@ use Rattle.host_edge.specs.declared.ending.MachineKind.{MachineKind}
 use Rattle.history.specs.Syntax.{Syntax}
 
 -- A byte was put out; the input was asked for a byte and answered this word; a function of this number was compiled
--- from
--- this syntax; or the compiled function of this number was entered.
+-- from this syntax; or the compiled function of this number was entered.
 pub data Item : Type 0 where
   Out : ℕ → Item
   In : ℕ → Item

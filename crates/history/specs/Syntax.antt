@@ -1,8 +1,6 @@
 -- Generated code as syntax: a tick of the text, and what each of its captures stands for. A splice stands for the
--- syntax of
--- the specification that was captured, so this is the syntax of a whole specification, expanded. These are this
--- project's own
--- definitions, after the specifications of Poletto, Hsieh, Engler and Kaashoek (TOPLAS 21(2), 1999).
+-- syntax of the specification that was captured, so this is the syntax of a whole specification, expanded. These are
+-- this project's own definitions, after the specifications of Poletto, Hsieh, Engler and Kaashoek (TOPLAS 21(2), 1999).
 use Rattle.std.specs.Prelude.{ℕ}
 
 mutual

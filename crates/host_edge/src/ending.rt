@@ -92,7 +92,7 @@ impl MachineKind {
 }
 
 /// How a program ends by its own doing: with a status, or by a trap.
-#[derive(Clone, Copy, PartialEq, Eq)]
+#[derive(Clone, Copy, Debug, PartialEq, Eq)]
 pub enum Ending {
     /// The answer of `main` or the argument of `exit`, modulo 256.
     Done(u8),

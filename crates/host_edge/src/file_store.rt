@@ -1,5 +1,5 @@
 //! The adapter over the system's files. It tells nothing of content, and is trusted.
-ghost use Rattle.std.specs.Prelude.{◌≡◌, ◌≤◌, None, vec_len};
+ghost use Rattle.std.specs.Prelude.{◌≡◌, ◌≤◌, None, vec_len, false};
 
 use crate::{LoadFault, SaveFault, Store};
 use std::alloc::Global;
@@ -36,11 +36,8 @@ fn read_up_to<R: Read>(file: &mut R, into: &mut Vec<u8>, limit: usize) -> Result
     ensures { vec_len into.new ≤ limit }
 {
     let mut piece = [0u8; PIECE];
-    for _ in 0..u64::MAX {
+    while into.len() < limit {
         let want = PIECE.min(limit - into.len());
-        if want == 0 {
-            return Ok(());
-        }
         match file.read(&mut piece[..want]) {
             Ok(0) => return Ok(()),
             Ok(count) => {
@@ -51,7 +48,7 @@ fn read_up_to<R: Read>(file: &mut R, into: &mut Vec<u8>, limit: usize) -> Result
             Err(_) => return Err(LoadFault::Failed),
         }
     }
-    Err(LoadFault::Failed)
+    Ok(())
 }
 
 // Writes all of it, and says whether that went well.
@@ -93,6 +90,8 @@ impl<R: Files> Store for FileStore<R> {
     ghost file = { λ _ _. None };
 
     ghost faults = { λ s. s.faults };
+
+    ghost steady = { λ _. false };
 
     fn load(&mut self, path: &str, into: &mut Vec<u8>, limit: usize) -> Result<(), LoadFault> {
         into.clear();

@@ -22,7 +22,8 @@ epilogue-objects-unsaved-static : epilogue 1024 32 ([]) false ≡ lw 31 80 29 �
 epilogue-objects-unsaved-static = refl
 
 prologue-plain-unsaved-compiled : prologue 1024 0 ([]) true ≡ lui 1 0 ∷ ori 1 1 1024 ∷ subu 24 29 1 ∷ lui 25 32512 ∷
-    sltu 25 24 25 ∷ beq 25 0 2 ∷ sll 0 0 0 ∷ trap 20 ∷ addu 29 24 0 ∷ sw 31 80 29 ∷ lw 25 65500 28 ∷ sll 0 0 0 ∷ addiu 25
+    sltu 25 24 25 ∷ beq 25 0 2 ∷ sll 0 0 0 ∷ trap 20 ∷ addu 29 24 0 ∷ sw 31 80 29 ∷ lw 25 65500 28 ∷ sll 0 0 0 ∷ addiu
+    25
     25 1 ∷ sw 25 65500 28 ∷ []
 prologue-plain-unsaved-compiled = refl
 
@@ -48,10 +49,12 @@ epilogue-objects-saved-static : epilogue 1024 32 (0 ∷ 11 ∷ []) false ≡ lw 
 epilogue-objects-saved-static = refl
 
 prologue-plain-saved-compiled : prologue 1024 0 (0 ∷ 11 ∷ []) true ≡ lui 1 0 ∷ ori 1 1 1024 ∷ subu 24 29 1 ∷ lui 25
-    32512 ∷ sltu 25 24 25 ∷ beq 25 0 2 ∷ sll 0 0 0 ∷ trap 20 ∷ addu 29 24 0 ∷ sw 31 80 29 ∷ sw 16 32 29 ∷ sw 11 76 29 ∷ lw
+    32512 ∷ sltu 25 24 25 ∷ beq 25 0 2 ∷ sll 0 0 0 ∷ trap 20 ∷ addu 29 24 0 ∷ sw 31 80 29 ∷ sw 16 32 29 ∷ sw 11 76 29 ∷
+    lw
     25 65500 28 ∷ sll 0 0 0 ∷ addiu 25 25 1 ∷ sw 25 65500 28 ∷ []
 prologue-plain-saved-compiled = refl
 
 epilogue-plain-saved-compiled : epilogue 1024 0 (0 ∷ 11 ∷ []) true ≡ lw 25 65500 28 ∷ sll 0 0 0 ∷ addiu 25 25 65535 ∷ sw
-    25 65500 28 ∷ lw 16 32 29 ∷ lw 11 76 29 ∷ lw 31 80 29 ∷ lui 1 0 ∷ ori 1 1 1024 ∷ addu 29 29 1 ∷ jr 31 ∷ sll 0 0 0 ∷ []
+    25 65500 28 ∷ lw 16 32 29 ∷ lw 11 76 29 ∷ lw 31 80 29 ∷ lui 1 0 ∷ ori 1 1 1024 ∷ addu 29 29 1 ∷ jr 31 ∷ sll 0 0 0 ∷
+    []
 epilogue-plain-saved-compiled = refl

@@ -40,8 +40,8 @@ pub(crate) fn place_labels(ops: &[Op], layout: &Layout, start: u32, labels: &mut
     requires frame { layout.now.frame ≤ STACK_BYTES }
     requires objects { layout.now.objects ≤ OBJECT_BYTES }
     requires start { start ≤ 300000000 }
-    ensures table { IsTable
-        (aims (laid layout.now.places.now layout.now.frame layout.now.objects) start ops.now) ops.now labels.new result }
+    ensures table { IsTable (aims (laid layout.now.places.now layout.now.frame layout.now.objects) start ops.now)
+        ops.now labels.new result }
     ensures end { result ≡ start +
         4 * length (templates (laid layout.now.places.now layout.now.frame layout.now.objects) nowhere ops.now) }
 {

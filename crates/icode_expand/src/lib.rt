@@ -1,5 +1,5 @@
-//! The expansion of a list of ops of the intermediate code to the words of a function: its prologue, the templates of the
-//! ops, and its epilogue.
+//! The expansion of a list of ops of the intermediate code to the words of a function: its prologue, the templates of
+//! the ops, and its epilogue.
 #![tactic(auto)]
 
 ghost use Rattle.std.specs.Prelude.{◌≡◌, ℕ, ◌+◌, ◌*◌, ◌++◌, ◌<◌, ◌≤◌, length, drop, MatchResult};
@@ -54,9 +54,9 @@ pub fn expanded_length(ops: &[Op], places: &[u8], frame: u32, object: u32, compi
 
 /// Writes the words of a function to the front of `out`, and gives how many they are.
 ///
-/// `ops` is a finished list of ops, `places` has the place of each of its registers (a number below 12 for a register of
-/// the machine, 12 for a slot), and `at` is the address of the first word. `frame` is how many bytes the function takes
-/// from the stack, and `object` how many its frame's objects have. A compiled function counts its active calls.
+/// `ops` is a finished list of ops, `places` has the place of each of its registers (a number below 12 for a register
+/// of the machine, 12 for a slot), and `at` is the address of the first word. `frame` is how many bytes the function
+/// takes from the stack, and `object` how many its frame's objects have. A compiled function counts its active calls.
 ///
 /// The error comes exactly where the words are more than `out` has room for, and then `out` is as it was. `labels` is
 /// room for the addresses of labels, a word for each label that stands in the ops; what it holds afterwards means

@@ -30,7 +30,7 @@ use Rattle.icode_templates_proof.proofs.Stores.{store_comes, store_ends}
 use Rattle.icode_expand_proof.specs.Frames.{Alike}
 use Rattle.icode_expand_proof.specs.Relation.{Holds, Pays}
 use Rattle.icode_expand_proof.specs.Settings.{Setting, places_of, Standing}
-use Rattle.icode_expand_proof.specs.Standing.{layout_of, op_stands_at, Stands}
+use Rattle.icode_expand_proof.specs.Standing.{layout_of, op_stands_at, OpsStand}
 use Rattle.icode_expand_proof.proofs.Addresses.{past_rises}
 use Rattle.icode_expand_proof.proofs.Codes.{op_code, one_stands, code_low, next_at}
 use Rattle.icode_expand_proof.proofs.Frames.{spots, suits_known, ready_alike, stacked_alike, unwound_alike}
@@ -38,6 +38,7 @@ use Rattle.icode_expand_proof.proofs.Liveness.{next_follows}
 use Rattle.icode_expand_proof.proofs.Operators.{end_pays}
 use Rattle.icode_expand_proof.proofs.Paying.{first_operand, second_operand}
 use Rattle.icode_expand_proof.proofs.Writes.{defined_inside, write_pays, come_pays}
+use Rattle.icode_expand_proof.proofs.Memory.{written_as, then_made, same_made}
 
 -- an access has paid
 pub access_least : (t : Option TrapKind) (log log' : Log) (s : State) → log.least + 1 ≤ log'.least
@@ -72,6 +73,9 @@ module _ (s : Setting) (st : Standing s) where
           active_word = h.memory.active_word;
           table = h.memory.table;
           making = h.memory.making;
+          written = written_as refl refl refl refl h.memory.written;
+          made = then_made h.memory.made
+              (same_made log.shared (stored address kind x log.shared) refl refl refl);
         };
         extents = record { used = h.extents.used; frames = h.extents.frames };
         passed = record { known = λ k y e. absurd cc; stand = λ k y e. absurd cc };
@@ -93,7 +97,7 @@ module _ (s : Setting) (st : Standing s) where
     abbrev spot : ℕ → Spot
     spot = (layout_of f places).spot
 
-    stands : Stands s.code f places
+    stands : OpsStand s.code f places
     stands = (st.functions f.address f h.known).1
 
     load_low : (kind : Width) (to from : ℕ) → slice_get f.ops w.index ≡ Some (Load kind to from)
@@ -143,7 +147,7 @@ module _ (s : Setting) (st : Standing s) where
             let o = Load kind to from in
             let x = first_operand s st w d o from h.known h.ready i refl (and_parts (w.on from) true u).0 in
             end_pays s log (paid o log) (at s.code a 0 d) 6 9 (Ended (Trap trap)) d.outside
-            (omega arith) (omega arith) h.memory.history h.memory.making
+            (omega arith) (omega arith) h.memory.history h.memory.making tt
             (load_ends kind s.code a f.charge d (spot to) (spot from) (load_low kind to from i) h.ready.framed
             (spots f places from stands.suits x.inside) x.word (one_stands s.code f places stands w.index o i) trap
             (ap (λ n. access_trap n kind) x.value_is ∙ e))
@@ -188,7 +192,7 @@ module _ (s : Setting) (st : Standing s) where
             let x = first_operand s st w d o to h.known h.ready i refl q.0 in
             let y = second_operand s st w d o from h.known h.ready i refl q.1 in
             end_pays s log (paid o log) (at s.code a 0 d) 7 12 (Ended (Trap trap)) d.outside
-            (omega arith) (omega arith) h.memory.history h.memory.making
+            (omega arith) (omega arith) h.memory.history h.memory.making tt
             (store_ends kind s.code a f.charge d (spot to) (spot from) (store_low kind to from i) h.ready.framed
             (spots f places to stands.suits x.inside) (spots f places from stands.suits y.inside) x.word y.word
             (one_stands s.code f places stands w.index o i) trap (ap (λ n. access_trap n kind) x.value_is ∙ e))

@@ -13,7 +13,7 @@ use Rattle.icode_ops.specs.declared.op.Op.TheVariants.{Argument, GetParameter, C
 use Rattle.icode_ops.specs.declared.op.Op.TheVariants.{ReturnZero, Sys, Run, New, Put}
 use Rattle.icode_templates.specs.Layout.{Layout}
 use Rattle.icode_templates.specs.Templates.{Aim, in_code, template}
-use Rattle.icode_templates.specs.Expansion.{nowhere, templates, op_address, aims}
+use Rattle.icode_templates.specs.Expansion.{nowhere, templates, op_address}
 
 -- a template's length doesn't depend on the addresses
 past_behind : (a : ℕ) (is js js' : List Instr) → ((b : ℕ) → past b js ≡ past b js') → past a (is ++ js) ≡ past a

@@ -26,13 +26,14 @@ use Rattle.icode_templates_proof.proofs.Calls.{answer_word, malloc_called}
 use Rattle.icode_expand_proof.specs.Frames.{Alike, CallersWait, unwound}
 use Rattle.icode_expand_proof.specs.Relation.{MemoryAgrees, Holds, Pays}
 use Rattle.icode_expand_proof.specs.Settings.{Setting, places_of, Standing}
-use Rattle.icode_expand_proof.specs.Standing.{layout_of, op_stands_at, Stands}
+use Rattle.icode_expand_proof.specs.Standing.{layout_of, op_stands_at, OpsStand}
 use Rattle.icode_expand_proof.proofs.Addresses.{past_rises}
 use Rattle.icode_expand_proof.proofs.Codes.{op_code, one_stands, code_low}
 use Rattle.icode_expand_proof.proofs.Frames.{spots, suits_known, ready_alike, stacked_alike, unwound_alike}
 use Rattle.icode_expand_proof.proofs.Frames.{pointer_alike, held_30}
 use Rattle.icode_expand_proof.proofs.Paying.{first_operand}
 use Rattle.icode_expand_proof.proofs.Writes.{defined_inside, write_pays}
+use Rattle.icode_expand_proof.proofs.Memory.{then_written, then_made, same_made}
 
 -- $ra isn't kept for a caller, and the cells are in no frame
 linked_alike : (to : ℕ) (d : Data) → Alike d (linked to d)
@@ -86,6 +87,13 @@ memory_allotted s shared active v to d h = elim (cases_Bool (nat_le v (FRAMES - 
         active_word = h.active_word;
         table = h.table;
         making = h.making;
+        written = then_written h.written (record {
+          closures = refl;
+          spec_rows = refl;
+          emit_stack = refl;
+          cells = λ n k a. update_other (NEXT_HEAP_CELL / 4) next' d.cells n k;
+        });
+        made = then_made h.made (same_made shared (record shared { heap = next }) refl refl refl);
       } in
       rw (t, t') moved
   | inr t ↦ let t' : nat_le v (FRAMES - heap_of d) ≡ false = ap (λ n. nat_le v (FRAMES - n)) h.heap ∙ t in
@@ -101,6 +109,9 @@ memory_allotted s shared active v to d h = elim (cases_Bool (nat_le v (FRAMES - 
         active_word = h.active_word;
         table = h.table;
         making = h.making;
+        written = then_written h.written
+            (record { closures = refl; spec_rows = refl; emit_stack = refl; cells = λ n k a. refl });
+        made = h.made;
       } in
       rw (t, t') same
 ]
@@ -156,7 +167,7 @@ module _ (s : Setting) (st : Standing s) where
     abbrev spot : ℕ → Spot
     spot = (layout_of f places).spot
 
-    stands : Stands s.code f places
+    stands : OpsStand s.code f places
     stands = (st.functions f.address f h.known).1
 
     has_heap : HasHeap log.shared.heap d

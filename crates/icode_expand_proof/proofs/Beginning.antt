@@ -25,7 +25,7 @@ use Rattle.limits.specs.declared.run.TheConstants.{MOST_FRAME_BYTES}
 use Rattle.icode_expand_proof.specs.Frames.{place_number, unwound_register, counted_cells}
 use Rattle.icode_expand_proof.specs.Standing.{front_code, Stands}
 use Rattle.icode_expand_proof.proofs.Addresses.{past_rises}
-use Rattle.icode_expand_proof.proofs.Codes.{front_stands, front_low, start_at}
+use Rattle.icode_expand_proof.proofs.Codes.{front_stands, ops_of, front_low, start_at}
 use Rattle.icode_expand_proof.proofs.Frames.{by_register, found_other}
 use Rattle.icode_expand_proof.proofs.Places.{place_bounds, few_places, register_of_number, has_low}
 use Rattle.icode_expand_proof.specs.Runs.{Beginning}
@@ -81,7 +81,7 @@ module _ (f : Function) (places : List ℕ) (c : Code) (d : Data) (st : Stands c
       (enter_count f.compiled) (take_objects f.object)
 
   start_low : f.address < SEGMENT_BYTES
-  start_low = let r = past_rises f.address (front_code f places) in omega (arith, r, front_low c f places st)
+  start_low = let r = past_rises f.address (front_code f places) in omega (arith, r, front_low c f places (ops_of st))
 
   pub framing : Framing f places c d
   framing =
@@ -133,7 +133,7 @@ module _ (f : Function) (places : List ℕ) (c : Code) (d : Data) (st : Stands c
   module _ (fits : d.registers 30 + f.object ≤ OBJECTS_END) where
     taking : ObjectsRun f.object c (past (past f.address first) (enter_count f.compiled)) counting.after
     taking = objects_run f.object c (past (past f.address first) (enter_count f.compiled)) counting.after
-        (subst (λ n. n < SEGMENT_BYTES) ends (front_low c f places st))
+        (subst (λ n. n < SEGMENT_BYTES) ends (front_low c f places (ops_of st)))
         (subst (λ n. n + f.object ≤ OBJECTS_END) (sym objects_before) fits) objects_stand
 
     abbrev last : Data
@@ -176,7 +176,7 @@ module _ (f : Function) (places : List ℕ) (c : Code) (d : Data) (st : Stands c
         let w1 = counting.world in
         let w2 = taking.world in
         let go = reaches_on (reaches_on framing.reaches.reaches counting.reaches) taking.reaches in
-        let to = sym ends ∙ sym (start_at c f places st) in
+        let to = sym ends ∙ sym (start_at c f places (ops_of st)) in
         record {
           after = last;
           runs = record {

@@ -1,5 +1,6 @@
 -- A call: the caller waits at its next op.
-use Rattle.std.proofs.Common.{◌≡◌, ℕ, suc, ◌+◌, ◌*◌, ◌/◌, ◌%◌, ◌<◌, ◌≤◌, true, List, [], ◌∷◌, Option, Some, None, refl}
+use Rattle.std.proofs.Common.{◌≡◌, ℕ, suc, ◌+◌, ◌*◌, ◌/◌, ◌%◌, ◌<◌, ◌≤◌, true, false, List, [], ◌∷◌, Option, Some, None}
+use Rattle.std.proofs.Common.{refl}
 use Rattle.std.proofs.Common.{sym, ap, ◌∙◌, subst, arith, slice_get}
 use Rattle.word32.specs.declared.map.TheConstants.{OBJECTS_END, SEGMENT_BYTES}
 use Rattle.word32.specs.Space.{update}
@@ -30,6 +31,9 @@ use Rattle.icode_expand_proof.proofs.Paying.{extents_alike, stuck_pays}
 use Rattle.icode_expand_proof.proofs.Memory.{memory_kept}
 use Rattle.icode_expand_proof.specs.Laws.{CallsPay}
 use Rattle.icode_expand_proof.proofs.Entrance.{Enters, enter_pays}
+use Rattle.icode_expand_proof.specs.Settings.{Extends}
+use Rattle.icode_expand_proof.specs.Standing.{front_code}
+use Rattle.icode_meaning.specs.State.{Program}
 
 -- the jump leaves the address behind its slot
 abbrev pub linked : ℕ → Data → Data
@@ -47,6 +51,23 @@ call_reaches c a target d low even h =
 
 pub linked_alike : (address : ℕ) (d : Data) → Alike d (linked address d)
 linked_alike address d = record { registers = λ r h. update_other 31 address d.registers r h.1; stack = λ n le. refl }
+
+-- what the text has at an address is a function of the setting's that isn't compiled
+abbrev pub IsFunction : Setting → (address : ℕ) → Option Function → Type 0
+IsFunction s address None = Unit {0}
+IsFunction s address (Some f) = (s.program.function_at address ≡ Some f) × (f.compiled ≡ false)
+
+pub text_function : (text : Program) (s : Setting) → Extends text s → (address : ℕ) (x : Option Function)
+    → text.function_at address ≡ x → IsFunction s address x
+text_function text s ex address None e = tt
+text_function text s ex address (Some f) e = ex.functions address f e
+
+-- so what begins it stands
+pub front_known : (s : Setting) → Standing s → (address : ℕ) (f : Function) → s.program.function_at address ≡ Some f
+    → f.compiled ≡ false → HasAt s.code f.address (front_code f (places_of s f))
+front_known s st address f e static =
+    let there = (st.functions address f e).0 in
+    subst (λ n. HasAt s.code n (front_code f (s.places_at n))) (sym there) (st.fronts address f e static)
 
 module _ (s : Setting) (st : Standing s) where
   -- an op that sets no register and goes on: the same call at its next op
@@ -100,17 +121,18 @@ module _ (s : Setting) (st : Standing s) where
       }
 
   pub found_pays : (w : Frame) (arguments : ℕ → Option ℕ) (answer : Option ℕ) (waiting : List Frame) (log : Log)
-      (d : Data) (address : ℕ) (x : Option Function) → s.program.function_at address ≡ x
+      (d : Data) (address : ℕ) (x : Option Function) → IsFunction s address x
       → slice_get w.function.ops w.index ≡ Some (Call address) → Holds s w arguments answer waiting log d
       → Pays s (call_at (Call address) x w arguments waiting log) log
       (at s.code (op_stands_at w.function (places_of s w.function) w.index) 0 d)
   found_pays w arguments answer waiting log d address None e i h =
       stuck_pays s log (op_stands_at w.function (places_of s w.function) w.index) d h.memory
-  found_pays w arguments answer waiting log d address (Some f) e i h =
+  found_pays w arguments answer waiting log d address (Some f) there_is i h =
       let c = w.function in
       let places = places_of s c in
       let o = Call address in
       let sc = (st.functions c.address c h.known).1 in
+      let e = there_is.0 in
       let there = st.functions address f e in
       let known : s.program.function_at f.address ≡ Some f = ap s.program.function_at there.0 ∙ e in
       let a = op_stands_at c places w.index in
@@ -134,9 +156,11 @@ module _ (s : Setting) (st : Standing s) where
       } in
       let en = call_enters w arguments answer waiting log o d d1 i refl refl h (linked_alike (a + 4 + 4) d) world
       back in
-      enter_pays s st f known w arguments waiting log o (at s.code a 0 d) 2 2 d1 (omega arith) (omega arith)
+      enter_pays s st f known (front_known s st address f e there_is.1) w arguments waiting log o (at s.code a 0 d) 2 2
+      d1 (omega arith) (omega arith)
       (runs_within (omega arith) (omega arith) go) en
 
 pub calls_pay : CallsPay
-calls_pay s st w arguments answer waiting log d address i h = found_pays s st w arguments answer waiting log d address
-    (s.program.function_at address) refl i h
+calls_pay text s st ex w arguments answer waiting log d address i h =
+    found_pays s st w arguments answer waiting log d address (text.function_at address)
+    (text_function text s ex address (text.function_at address) refl) i h

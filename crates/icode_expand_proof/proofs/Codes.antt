@@ -1,5 +1,5 @@
 -- Where the parts of a function stand.
-use Rattle.std.proofs.Common.{◌≡◌, ℕ, suc, ◌%◌, ◌<◌, List, ◌++◌, Some, sym, subst, arith, slice_get}
+use Rattle.std.proofs.Common.{◌≡◌, ℕ, suc, ◌+◌, ◌%◌, ◌<◌, List, [], ◌∷◌, ◌++◌, Some, sym, subst, arith, slice_get}
 use Rattle.word32.specs.declared.map.TheConstants.{SEGMENT_BYTES}
 use Rattle.mips_encoder.specs.declared.instruction.Instr.{Instr}
 use Rattle.mips_encoder.specs.Addresses.{past}
@@ -10,7 +10,8 @@ use Rattle.icode_ops.specs.declared.op.Op.{Op}
 use Rattle.icode_templates.specs.Templates.{Aim, template}
 use Rattle.icode_templates.specs.Expansion.{aims, body, nowhere}
 use Rattle.icode_meaning.specs.State.{Function}
-use Rattle.icode_expand_proof.specs.Standing.{leave_at, layout_of, front_code, back_code, Stands, ops_at, op_stands_at}
+use Rattle.icode_expand_proof.specs.Standing.{leave_at, layout_of, front_code, back_code, Stands, OpsStand, ops_at}
+use Rattle.icode_expand_proof.specs.Standing.{op_stands_at}
 use Rattle.icode_expand_proof.proofs.Addresses.{past_templates, past_even, past_rises, address_next}
 use Rattle.icode_expand_proof.proofs.Addresses.{address_low, address_zero, op_stands}
 
@@ -30,21 +31,37 @@ pub next_at : (f : Function) (places : List ℕ) (i : ℕ) (o : Op) → slice_ge
     → op_stands_at f places (suc i) ≡ past (op_stands_at f places i) (op_code f places o)
 next_at f places i o h = address_next (layout_of f places) (aims_of f places) (ops_at f places) f.ops i o h
 
-module _ (c : Code) (f : Function) (places : List ℕ) (st : Stands c f places) where
-  pub front_stands : HasAt c f.address (front_code f places)
-  front_stands = front c f.address (front_code f places) (body_of f places ++ back_code f places) st.code
+-- what stands whole is what begins it and what runs behind that
+pub both_stand : (c : Code) (a : ℕ) (is js : List Instr) → HasAt c a is → HasAt c (past a is) js → HasAt c a (is ++ js)
+both_stand c a [] js first rest = rest
+both_stand c a (i ∷ is) js first rest = (first.0, both_stand c (a + 4) is js first.1 rest)
 
-  ops_stand : HasAt c (ops_at f places) (body_of f places ++ back_code f places)
-  ops_stand = back c f.address (front_code f places) (body_of f places ++ back_code f places) st.code
+pub front_stands : (c : Code) (f : Function) (places : List ℕ) → Stands c f places
+    → HasAt c f.address (front_code f places)
+front_stands c f places st = front c f.address (front_code f places) (body_of f places ++ back_code f places) st.code
 
+pub ops_of : {c : Code} {f : Function} {places : List ℕ} → Stands c f places → OpsStand c f places
+ops_of {c} {f} {places} st = record {
+  suits = st.suits;
+  code = back c f.address (front_code f places) (body_of f places ++ back_code f places) st.code;
+}
+
+pub whole_stands : (c : Code) (f : Function) (places : List ℕ) → HasAt c f.address (front_code f places)
+    → OpsStand c f places → Stands c f places
+whole_stands c f places first st = record {
+  suits = st.suits;
+  code = both_stand c f.address (front_code f places) (body_of f places ++ back_code f places) first st.code;
+}
+
+module _ (c : Code) (f : Function) (places : List ℕ) (st : OpsStand c f places) where
   pub one_stands : (i : ℕ) (o : Op) → slice_get f.ops i ≡ Some o → HasAt c (op_stands_at f places i)
       (op_code f places o)
   one_stands i o h = op_stands (layout_of f places) (aims_of f places) c (ops_at f places) f.ops i o h
-      (front c (ops_at f places) (body_of f places) (back_code f places) ops_stand)
+      (front c (ops_at f places) (body_of f places) (back_code f places) st.code)
 
   pub back_stands : HasAt c (leave_at f places) (back_code f places)
   back_stands = subst (λ n. HasAt c n (back_code f places)) (sym (leave_is f places))
-      (back c (ops_at f places) (body_of f places) (back_code f places) ops_stand)
+      (back c (ops_at f places) (body_of f places) (back_code f places) st.code)
 
   pub ops_even : ops_at f places % 4 ≡ 0
   ops_even = past_even f.address (front_code f places) st.suits.even

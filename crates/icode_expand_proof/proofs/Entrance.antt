@@ -1,20 +1,19 @@
 -- From a call's jump on: the function begins, or one of the limits is passed.
 use Rattle.std.proofs.Common.{◌≡◌, inl, inr, ℕ, ◌+◌, ◌-◌, ◌*◌, ◌/◌, ◌%◌, ◌<◌, ◌≤◌, true, false, List, ◌∷◌, Option, Some}
+use Rattle.std.proofs.Common.{refl}
 use Rattle.std.proofs.Common.{None, sym, ap, ◌∙◌, subst, arith, nat_le}
 use Rattle.std.specs.Fn.{iterate}
 use Rattle.std.proofs.lemmas.Bool.{cases_lt}
 use Rattle.std.proofs.lemmas.Bool.Decides.{nat_tests}
 use Rattle.limits.specs.declared.program.TheConstants.{FRAME_OBJECT_BYTES}
-use Rattle.pace.specs.Pace.{Seen}
 use Rattle.pace.proofs.Runs.{iterate_add}
 use Rattle.word32.specs.declared.map.TheConstants.{GLOBAL_POINTER, OBJECTS_END, STACK, STACK_BYTES, STACK_TOP}
 use Rattle.host_edge.specs.declared.ending.Ending.TheVariants.{Trap}
 use Rattle.host_edge.specs.declared.ending.TrapKind.TheVariants.{StackLimit, FrameLimit}
-use Rattle.history.specs.Events.{Item, End, Ended}
+use Rattle.history.specs.Events.{End, Ended}
 use Rattle.mips_model.specs.State as machine
 use Rattle.mips_model.specs.State.{Code, Data, World, Outside}
 use Rattle.mips_model.specs.Steps.{step, going}
-use Rattle.mips_model.specs.Run as run
 use Rattle.mips_model.specs.Laws.{at}
 use Rattle.mips_model.proofs.Reach.{front}
 use Rattle.icode_ops.specs.declared.op.Op.{Op}
@@ -28,12 +27,15 @@ use Rattle.icode_templates_proof.proofs.Leaves.{runs_on}
 use Rattle.icode_expand_proof.specs.Frames.{CallersWait, unwound}
 use Rattle.icode_expand_proof.specs.Relation.{MemoryAgrees, ExtentsAgree, Holds, Pays}
 use Rattle.icode_expand_proof.specs.Settings.{Setting, places_of, Standing}
-use Rattle.icode_expand_proof.specs.Standing.{op_stands_at, Stands}
-use Rattle.icode_expand_proof.proofs.Codes.{front_stands}
+use Rattle.icode_expand_proof.specs.Standing.{op_stands_at, front_code, Stands}
+use Rattle.icode_expand_proof.proofs.Codes.{whole_stands}
 use Rattle.icode_expand_proof.proofs.Frames.{stacked_alike}
 use Rattle.icode_expand_proof.proofs.Beginning.{begins, overflows}
 use Rattle.icode_expand_proof.proofs.Prologue.{frame_end}
 use Rattle.icode_expand_proof.proofs.Paying.{none_passed, runs_pay, memory_entered, extents_entered}
+use Rattle.icode_expand_proof.specs.Relation.{HistoryAgrees, HasLeft, IsFair}
+use Rattle.icode_expand_proof.proofs.Memory.{history_as, left_as}
+use Rattle.mips_model.specs.Laws.{HasAt}
 
 is_over : (a n : ℕ) → n < a → nat_le a n ≡ false
 is_over a n h = grind (arith, nat_tests)
@@ -44,32 +46,26 @@ is_within a n h = grind (arith, nat_tests)
 -- the run ends
 pub ends_pay : (s : Setting) (log log' : Log) (from mid : machine.State) (l m least most : ℕ) (end : End)
     (outside : Outside)
-    → log'.least ≤ log.least + l + least → log.most + m + most ≤ log'.most → outside.history ≡ log'.shared.history
-    → outside.making ≡ s.making → Runs l m from mid → EndsIn least most end mid s.code outside
+    → log'.least ≤ log.least + l + least → log.most + m + most ≤ log'.most →
+    HistoryAgrees s log'.shared.history outside.history
+    → HasLeft s outside → IsFair (Some end) → Runs l m from mid → EndsIn least most end mid s.code outside
     → Pays s (Halted end log') log from
-ends_pay s log log' from mid l m least most end outside lo hi same made r e =
+ends_pay s log log' from mid l m least most end outside lo hi same made fair r e =
     let w = iterate step (r.count + e.count) (going from) in
     let by : w ≡ iterate step e.count (going mid) = iterate_add step r.count e.count (going from)
     ∙ ap (iterate step e.count) r.reaches.by in
-    let seen1 : Seen Item End = record { history = log'.shared.history; ending = Some end } in
-    let h : log'.shared.history ≡ w.state.d.outside.history =
-    sym same ∙ sym (ap (λ (o : Outside). o.history) e.outside_is)
-    ∙ sym (ap (λ (z : World). z.state.d.outside.history) by) in
-    let n : Some end ≡ w.ending = sym e.ending ∙ sym (ap (λ (z : World). z.ending) by) in
-    let e1 : seen1 ≡ record { history = w.state.d.outside.history; ending = Some end } =
-    ap (λ x. record { history = x; ending = Some end }) h in
-    let e2 : record { history = w.state.d.outside.history; ending = Some end } ≡ run.see w =
-    ap (λ x. record { history = w.state.d.outside.history; ending = x }) n in
     record {
       count = r.count + e.count;
       low = omega (arith, lo, r.over, e.over);
       high = omega (arith, hi, r.under, e.under);
-      related = (
-        e1 ∙ e2,
-        ap (λ (z : World). z.state.code) by ∙ e.code_is,
-        ap (λ (z : World). z.state.d.outside.making) by
-            ∙ (ap (λ (o : Outside). o.making) e.outside_is ∙ made),
-      );
+      related = record {
+        ending = sym e.ending ∙ sym (ap (λ (z : World). z.ending) by);
+        history = history_as s refl (sym (ap (λ (o : Outside). o.history) e.outside_is)
+            ∙ sym (ap (λ (z : World). z.state.d.outside.history) by)) same;
+        code = ap (λ (z : World). z.state.code) by ∙ e.code_is;
+        making = left_as s (sym (ap (λ (z : World). z.state.d.outside) by ∙ e.outside_is)) made;
+        fair = fair;
+      };
     }
 
 -- what holds at a function's first instruction
@@ -91,9 +87,10 @@ pub record Begun (s : Setting) (f : Function) (arguments : ℕ → Option ℕ) (
   pub runs : Runs 9 32 (at s.code f.address 0 d) (at s.code (op_stands_at f (places_of s f) 0) 0 after)
   pub holds : Holds s (begun f arguments) nothing None waiting (entered f log) after
 
-module _ (s : Setting) (st : Standing s) (f : Function) (known : s.program.function_at f.address ≡ Some f) where
+module _ (s : Setting) (st : Standing s) (f : Function) (known : s.program.function_at f.address ≡ Some f)
+    (first : HasAt s.code f.address (front_code f (places_of s f))) where
   stands : Stands s.code f (places_of s f)
-  stands = (st.functions f.address f known).1
+  stands = whole_stands s.code f (places_of s f) first (st.functions f.address f known).1
 
   pub holds_begun : (arguments : ℕ → Option ℕ) (waiting : List Frame) (log : Log) (d : Data)
       → Enters s arguments waiting log d
@@ -152,11 +149,11 @@ module _ (s : Setting) (st : Standing s) (f : Function) (known : s.program.funct
       let obj = en.extents.frames in
       elim (cases_lt STACK_BYTES (log.shared.used + f.charge)) [
         | inl over ↦ (let t : nat_le (log.shared.used + f.charge) STACK_BYTES ≡ false = is_over _ _ over in
-            let code = front s.code f.address (take_frame f.charge) _ (front_stands s.code f (places_of s f) stands) in
+            let code = front s.code f.address (take_frame f.charge) _ first in
             let x = frame_end f.charge s.code f.address d suits.small en.from (omega (arith, top))
             (omega (arith, top, over)) code in
             rw t (ends_pay s log (paid o log) from (at s.code f.address 0 d) l m 8 8 (Ended (Trap StackLimit))
-            d.outside (omega (arith, lo)) (omega (arith, hi)) en.memory.history en.memory.making r x))
+            d.outside (omega (arith, lo)) (omega (arith, hi)) en.memory.history en.memory.making tt r x))
         | inr fits ↦ (let t : nat_le (log.shared.used + f.charge) STACK_BYTES ≡ true = is_within _ _ fits in
             elim (cases_lt FRAME_OBJECT_BYTES (log.shared.frames + f.object)) [
               | inl over ↦ (let k : nat_le (log.shared.frames + f.object) FRAME_OBJECT_BYTES ≡ false =
@@ -165,7 +162,7 @@ module _ (s : Setting) (st : Standing s) (f : Function) (known : s.program.funct
                   en.even en.global (omega (arith, en.objects_to)) (omega (arith, obj, over)) in
                   rw (t, k) (ends_pay s log (paid o log) from (at s.code f.address 0 d) l m 17 33
                   (Ended (Trap FrameLimit)) d.outside (omega (arith, lo)) (omega (arith, hi))
-                  en.memory.history en.memory.making r x))
+                  en.memory.history en.memory.making tt r x))
               | inr space ↦ (let k : nat_le (log.shared.frames + f.object) FRAME_OBJECT_BYTES ≡ true =
                   is_within _ _ space in
                   let b = holds_begun arguments (moved_on w ∷ waiting) (paid o log) d en (omega (arith, fits))

@@ -1,6 +1,7 @@
 -- The instructions of an expansion have words, so where its words stand in the text, its instructions stand.
 use Rattle.std.proofs.Common.{◌≡◌, ℕ, zero, suc, ◌+◌, ◌*◌, ◌/◌, ◌%◌, ◌<◌, ◌≤◌, Bool, true, false, List, [], ◌∷◌, ◌++◌}
-use Rattle.std.proofs.Common.{length, Some, refl, sym, subst, arith, nat_eq, if◌then◌else◌, slice_get}
+use Rattle.std.proofs.Common.{length, Some, refl, sym, ap, ◌∙◌, subst, arith, nat_eq, if◌then◌else◌, slice_get}
+use Rattle.std.proofs.Common.{slice_index, Ok}
 use Rattle.word32.specs.declared.map.TheConstants.{ARENA}
 use Rattle.mips_encoder.specs.Table.{Fits, word_of}
 use Rattle.mips_encoder.specs.declared.instruction.Instr.{Instr}
@@ -14,41 +15,41 @@ use Rattle.icode_ops.specs.declared.op.Op.{Op}
 use Rattle.icode_ops.specs.declared.op.Op.TheVariants.{Const, Move, Bin, FrameAddress, Load, Store, Clear, Label}
 use Rattle.icode_ops.specs.declared.op.Op.TheVariants.{Jump, BranchZero, BranchNonzero, CheckDivision, CheckZero, Un}
 use Rattle.icode_ops.specs.declared.op.Op.TheVariants.{Argument, GetParameter, Call, CallNumber, Result, Return}
-use Rattle.icode_ops.specs.declared.op.Op.TheVariants.{ReturnZero, Sys, Run}
-use Rattle.icode_ops.specs.declared.kind.RunKind.TheVariants.{Malloc}
+use Rattle.icode_ops.specs.declared.op.Op.TheVariants.{ReturnZero, Sys, Run, New, Put}
 use Rattle.icode_ops.specs.declared.kind.BinKind.{BinKind}
 use Rattle.icode_ops.specs.declared.kind.BinKind.TheVariants as bin
 use Rattle.icode_ops.specs.declared.kind.UnKind.{UnKind}
 use Rattle.icode_ops.specs.declared.kind.UnKind.TheVariants as un
 use Rattle.icode_ops.specs.Flow.{op_at}
 use Rattle.icode_ops.specs.Labels.{label_index}
-use Rattle.icode_ops.specs.Kinds.{sys_number, run_number}
+use Rattle.icode_ops.specs.Kinds.{sys_number, run_number, closure_number}
 use Rattle.icode_ops.specs.Finished.{InRange}
 use Rattle.icode_ops.specs.Places.{place_of}
-use Rattle.mips_assembly.specs.Assembly.{addu, subu, sltu, lui, bne, beq, j, nop, trap, constant}
+use Rattle.mips_assembly.specs.Assembly.{jal, ori, addu, subu, sltu, lui, bne, beq, j, nop, trap, constant}
 use Rattle.icode_templates.specs.Words.{words}
 use Rattle.icode_templates.specs.Layout.{Spot, InRegister, InSlot, Layout, parameter_spot}
 use Rattle.icode_templates.specs.Templates.{Aim, ToLabel, ToEpilogue, load_code, wait_code, in_code, in_two_code}
 use Rattle.icode_templates.specs.Templates.{out_code, bin_core, range_check, load_instruction, store_instruction}
 use Rattle.icode_templates.specs.Templates.{un_core, trap_if_zero, division_check, object_address, clear_loop}
-use Rattle.icode_templates.specs.Templates.{service_code, routine_code, number_call, template}
+use Rattle.icode_templates.specs.Templates.{service_code, routine_code, new_address, put_code, number_call, template}
 use Rattle.icode_templates.specs.Frames.{saves, restores, take_frame, free_frame, take_objects, free_objects}
 use Rattle.icode_saves.specs.Places.{saved}
 use Rattle.icode_templates.specs.Frames.{enter_count, leave_count}
 use Rattle.icode_saves.specs.Laws.{AllPlaces}
-use Rattle.icode_templates.specs.Expansion.{nowhere, templates, op_address, aims, body}
+use Rattle.icode_templates.specs.Expansion.{expanded, nowhere, templates, op_address, aims}
 use Rattle.icode_saves.proofs.Kept.{saved_are}
 use Rattle.icode_meaning.specs.State.{Function}
 use Rattle.icode_templates_proof.specs.Spots.{Usable}
 use Rattle.limits.specs.declared.run.TheConstants.{MOST_FRAME_BYTES}
-use Rattle.icode_expand_proof.specs.Standing.{Suits, WordsAt, layout_of, front_code, back_code, code_of}
+use Rattle.mips_model.specs.Steps.{word_at, found, decoded}
+use Rattle.icode_expand_proof.specs.Standing.{Suits, Stands, WordsAt, layout_of, front_code, back_code, code_of}
 use Rattle.icode_expand_proof.proofs.Addresses.{past_templates, past_rises}
 use Rattle.icode_expand_proof.proofs.Places.{place_bounds, spot_usable, slot_usable}
 use Rattle.icode_expand_proof.proofs.Liveness.{op_found}
 use Rattle.icode_expand_proof.specs.Served.{IsServed}
 use Rattle.icode_expand_proof.specs.WordLaws.{WordsSuffice}
-use Rattle.icode_expand_proof.proofs.Suiting.{code_ends}
-use Rattle.icode_expand_proof.proofs.FittingAccesses.{service_fits, routine_fits, range_fits, load_word, store_word}
+use Rattle.icode_expand_proof.proofs.FittingAccesses.{service_fits, routine_fits, closure_fits, put_fits, range_fits}
+use Rattle.icode_expand_proof.proofs.FittingAccesses.{load_word, store_word}
 
 -- instructions that have words stand where their words stand
 pub words_stand : (c : Code) (a : ℕ) (is : List Instr) → AllFit is → a % 4 ≡ 0 → past a is ≤ ARENA
@@ -262,8 +263,7 @@ address_within pl a (o ∷ os) (suc i) =
     let e = sym (past_append a (template pl nowhere o) (templates pl nowhere os)) in
     subst (λ n. op_address pl a (o ∷ os) (suc i) ≤ n) e ih
 
-module _ (f : Function) (places : List ℕ) (st : Suits f places)
-    (short : past f.address (code_of f places) ≤ ARENA) where
+module _ (f : Function) (places : List ℕ) (st : Suits f places) where
   abbrev pl : Layout
   pl = layout_of f places
 
@@ -282,13 +282,14 @@ module _ (f : Function) (places : List ℕ) (st : Suits f places)
   usable : (v : ℕ) → v < registers → Usable f.charge (pl.spot v)
   usable v inside = spot_usable f.charge registers (place_of places v) v inside st.room
 
-  ends_low : past start (templates pl nowhere f.ops) ≤ 67108864
+  ends_low : past start (templates pl nowhere f.ops) < 268435456
   ends_low =
       let is = templates pl lab f.ops in
       let e1 = past_append f.address (front_code f places) (is ++ back_code f places) in
       let e2 = past_append (past f.address (front_code f places)) is (back_code f places) in
       let e4 = past_templates pl nowhere lab start f.ops in
       let r = past_rises (past (past f.address (front_code f places)) is) (back_code f places) in
+      let short = st.low in
       omega (arith, e1, e2, e4, r, short)
 
   aim_low : (aim : Aim) → lab aim / 4 < 67108864
@@ -371,11 +372,35 @@ module _ (f : Function) (places : List ℕ) (st : Suits f places)
       (in_fits f.charge (pl.spot from) small (usable from r.1))
       (all_fit_append (service_code (sys_number kind)) (out_code (pl.spot to)) (service_fits kind)
       (out_fits f.charge (pl.spot to) small (usable to r.0)))
-  template_fits (Run Malloc to from) s r =
-      all_fit_append (in_code (pl.spot from)) (routine_code (run_number Malloc) ++ out_code (pl.spot to))
+  template_fits (Run routine to from) s r =
+      all_fit_append (in_code (pl.spot from)) (routine_code (run_number routine) ++ out_code (pl.spot to))
       (in_fits f.charge (pl.spot from) small (usable from r.1))
-      (all_fit_append (routine_code (run_number Malloc)) (out_code (pl.spot to)) routine_fits
+      (all_fit_append (routine_code (run_number routine)) (out_code (pl.spot to)) (routine_fits routine)
       (out_fits f.charge (pl.spot to) small (usable to r.0)))
+  template_fits (New to address kind captures) s r =
+      let number = closure_fits kind in
+      let most = s.1 in
+      let call = jal new_address ∷ nop ∷ addu 24 2 0 ∷ out_code (pl.spot to) in
+      let call_fits : AllFit call = (
+        omega arith,
+        (
+          nop_fits,
+          (
+            (omega arith, omega arith, omega arith),
+            out_fits f.charge (pl.spot to) small (usable to r.0),
+          ),
+        ),
+      ) in
+      let rest_fits : AllFit (ori 5 0 (closure_number kind) ∷ constant 6 captures ++ call) = (
+        (omega arith, omega arith, omega (arith, number)),
+        all_fit_append (constant 6 captures) call (constant_fits 6 captures (omega arith) (omega (arith, most)))
+            call_fits,
+      ) in
+      all_fit_append (constant 4 address) (ori 5 0 (closure_number kind) ∷ constant 6 captures ++ call)
+      (constant_fits 4 address (omega arith) s.0) rest_fits
+  template_fits (Put capture from) s r =
+      all_fit_append (in_code (pl.spot from)) (put_code capture)
+      (in_fits f.charge (pl.spot from) small (usable from r.1)) (put_fits capture s)
   template_fits (Argument index from) s r =
       all_fit_append (in_code (pl.spot from)) _ (in_fits f.charge (pl.spot from) small (usable from r.1))
       ((omega arith, omega (arith, s), omega arith), tt)
@@ -389,7 +414,6 @@ module _ (f : Function) (places : List ℕ) (st : Suits f places)
       (number_call_fits count s)
   template_fits (Result to) s r =
       ((omega arith, omega arith, omega arith), out_fits f.charge (pl.spot to) small (usable to r.0))
-  template_fits o s r = absurd s
 
   templates_fit : (ops : List Op) → ((p : ℕ) (o : Op) → slice_get ops p ≡ Some o → IsServed o × InRange registers o)
       → AllFit (templates pl lab ops)
@@ -475,5 +499,29 @@ module _ (f : Function) (places : List ℕ) (st : Suits f places)
 pub function_stands : WordsSuffice
 function_stands c f places st served short at = record {
   suits = st;
-  code = words_stand c f.address (code_of f places) (code_fits f places st short served) st.even short at;
+  code = words_stand c f.address (code_of f places) (code_fits f places st served) st.even short at;
+}
+
+-- words that are found there, in the text or in the arena
+pub found_stand : (c : Code) (a : ℕ) (is : List Instr) → AllFit is
+    → ((k : ℕ) → k < length (words is) → word_at c (a + 4 * k) ≡ Ok (slice_index (words is) k)) → HasAt c a is
+found_stand c a [] fit at = tt
+found_stand c a (i ∷ is) fit at =
+    let here : word_at c a ≡ Ok (word_of i) = ap (word_at c) (let e : a ≡ a + 4 * 0 = omega arith in e)
+    ∙ at 0 (omega arith) in (
+      ap found here ∙ ap decoded (instr_of-word_of i fit.0),
+      found_stand c (a + 4) is fit.1 (λ k l. ap (word_at c) (let e : a + 4 + 4 * k ≡ a + 4 * suc k = omega arith in e)
+          ∙ at (suc k) (omega (arith, l))),
+    )
+
+-- so a function whose words are found at its address stands there, wherever that is
+pub function_found : (c : Code) (f : Function) (places : List ℕ) → Suits f places
+    → ((p : ℕ) → IsServed (op_at f.ops p))
+    → ((k : ℕ) → k < length (expanded f.ops places f.address f.charge f.object f.compiled)
+    → word_at c (f.address + 4 * k)
+    ≡ Ok (slice_index (expanded f.ops places f.address f.charge f.object f.compiled) k))
+    → Stands c f places
+function_found c f places st served at = record {
+  suits = st;
+  code = found_stand c f.address (code_of f places) (code_fits f places st served) at;
 }

@@ -23,15 +23,17 @@ use Rattle.icode_templates_proof.proofs.Memory.{update_same, update_other}
 use Rattle.icode_templates_proof.proofs.Leaves.{leaves_run, runs_within, runs_on}
 use Rattle.icode_templates_proof.proofs.Operands.{one_in, in_leaves, keeps_one, load_gives, in_between}
 use Rattle.icode_expand_proof.specs.Frames.{Alike}
-use Rattle.icode_expand_proof.specs.Relation.{Holds, Pays}
-use Rattle.icode_expand_proof.specs.Settings.{Setting, places_of, Standing}
-use Rattle.icode_expand_proof.specs.Standing.{layout_of, op_stands_at, Stands}
+use Rattle.icode_expand_proof.specs.Relation.{Holds, Pays, HistoryAgrees, HasLeft}
+use Rattle.icode_expand_proof.proofs.Memory.{history_as, left_as}
+use Rattle.icode_expand_proof.specs.Settings.{Setting, places_of, Standing, Extends}
+use Rattle.icode_expand_proof.specs.Standing.{layout_of, op_stands_at, OpsStand}
 use Rattle.icode_expand_proof.proofs.Codes.{op_code, one_stands, code_low, next_at}
 use Rattle.icode_expand_proof.proofs.Frames.{spots, keeps_alike, alike_on}
 use Rattle.icode_expand_proof.proofs.Numbers.{row_data, set, none_ends, other_ends, row_goes}
 use Rattle.icode_expand_proof.proofs.Paying.{first_operand, stuck_pays}
-use Rattle.icode_expand_proof.proofs.Calls.{call_enters}
+use Rattle.icode_expand_proof.proofs.Calls.{call_enters, IsFunction, text_function, front_known}
 use Rattle.icode_expand_proof.proofs.Entrance.{ends_pay, enter_pays}
+use Rattle.icode_meaning.specs.State.{Program}
 
 -- the row and the return address change no place
 row_alike : (v n x : ℕ) (d : Data) → Alike d (set 31 x (row_data v n d))
@@ -72,7 +74,7 @@ module _ (s : Setting) (st : Standing s) (w : Frame) (arguments : ℕ → Option
   abbrev b : ℕ
   b = past a (in_code ((layout_of f places).spot number))
 
-  stands : Stands s.code f places
+  stands : OpsStand s.code f places
   stands = (st.functions f.address f h.known).1
 
   keeps : KeepsSpots d mid
@@ -110,21 +112,21 @@ module _ (s : Setting) (st : Standing s) (w : Frame) (arguments : ℕ → Option
       (spots f places number stands.suits operand.inside) operand.word)
       (front s.code a (in_code ((layout_of f places).spot number)) (number_call n) code))
 
-  history : mid.outside.history ≡ log.shared.history
-  history = ap (λ (x : Outside). x.history) keeps.world.outside ∙ h.memory.history
+  history : HistoryAgrees s log.shared.history mid.outside.history
+  history = history_as s refl (sym (ap (λ (x : Outside). x.history) keeps.world.outside)) h.memory.history
 
-  made : mid.outside.making ≡ s.making
-  made = ap (λ (x : Outside). x.making) keeps.world.outside ∙ h.memory.making
+  made : HasLeft s mid.outside
+  made = left_as s (sym keeps.world.outside) h.memory.making
 
   bad : (least most : ℕ) → 4 ≤ least → most ≤ 10 → EndsIn least most (Ended (Trap BadCall)) (at s.code b 0 mid) s.code
       mid.outside → Pays s (Halted (Ended (Trap BadCall)) (paid o log)) log (at s.code a 0 d)
   bad least most long short e = ends_pay s log (paid o log) (at s.code a 0 d) (at s.code b 0 mid) 1 4 least most
-      (Ended (Trap BadCall)) mid.outside (omega (arith, long)) (omega (arith, short)) history made brings e
+      (Ended (Trap BadCall)) mid.outside (omega (arith, long)) (omega (arith, short)) history made tt brings e
 
   table : mid.table (mid.registers 24) ≡ d.table (w.values number)
   table = ap (λ (t : ℕ → ℕ × ℕ). t (mid.registers 24)) keeps.world.table ∙ ap d.table is
 
-  none_pays : s.program.row (w.values number) ≡ None → Pays s (Halted (Ended (Trap BadCall)) (paid o log)) log
+  pub none_pays : s.program.row (w.values number) ≡ None → Pays s (Halted (Ended (Trap BadCall)) (paid o log)) log
       (at s.code a 0 d)
   none_pays e = elim (cases_lt (w.values number) 65536) [
     | inl less ↦ (let far = h.memory.table.others (w.values number) less e in
@@ -135,10 +137,11 @@ module _ (s : Setting) (st : Standing s) (w : Frame) (arguments : ℕ → Option
         (omega (arith, is, more)))
   ]
 
-  found_pays : (address : ℕ) (x : Option Function) → s.program.function_at address ≡ x → w.values number < 65536
+  found_pays : (address : ℕ) (x : Option Function) → IsFunction s address x → w.values number < 65536
       → d.table (w.values number) ≡ (address, n) → Pays s (call_at o x w arguments waiting log) log (at s.code a 0 d)
   found_pays address None e less row = stuck_pays s log a d h.memory
-  found_pays address (Some g) e less row =
+  found_pays address (Some g) there_is less row =
+      let e = there_is.0 in
       let there = st.functions address g e in
       let known : s.program.function_at g.address ≡ Some g = ap s.program.function_at there.0 ∙ e in
       let same : (mid.table (mid.registers 24)).1 ≡ n = ap (λ (x : ℕ × ℕ). x.1) (table ∙ row) in
@@ -162,18 +165,21 @@ module _ (s : Setting) (st : Standing s) (w : Frame) (arguments : ℕ → Option
       let link : d1.registers 31 ≡ op_stands_at f places (suc w.index) =
       update_same 31 back_to (row_data (mid.registers 24) n mid).registers
       ∙ sym (next_at f places w.index o i ∙ ends) in
-      enter_pays s st g known w arguments waiting log o (at s.code a 0 d) (1 + 11) (4 + 11) d1 (omega arith)
+      enter_pays s st g known (front_known s st address g e there_is.1) w arguments waiting log o (at s.code a 0 d)
+      (1 + 11) (4 + 11) d1 (omega arith)
       (omega arith) (runs_on brings (runs_within {l = 11} {m = 11} (omega arith) (omega arith) go))
       (call_enters s st w arguments answer waiting log o d d1 i refl refl h al world link)
 
-  pub number_pays : (x : Option (ℕ × ℕ)) → s.program.row (w.values number) ≡ x
-      → Pays s (call_row s.program o n x w arguments waiting log) log (at s.code a 0 d)
-  number_pays None e = none_pays e
-  number_pays (Some (address, k)) e =
+  pub number_pays : (text : Program) → Extends text s → (x : Option (ℕ × ℕ)) → s.program.row (w.values number) ≡ x
+      → Pays s (call_row text o n x w arguments waiting log) log (at s.code a 0 d)
+  number_pays text ex None e = none_pays e
+  number_pays text ex (Some (address, k)) e =
       let row = h.memory.table.rows (w.values number) address k e in
       elim (cases_eq k n) [
         | inl same ↦ (let t : nat_eq k n ≡ true = eq-eqb k n same in rw t
-            (found_pays address (s.program.function_at address) refl row.0 (row.1 ∙ ap (λ z. (address, z)) same)))
+            (found_pays address (text.function_at address)
+            (text_function text s ex address (text.function_at address) refl) row.0
+            (row.1 ∙ ap (λ z. (address, z)) same)))
         | inr ne ↦ (let t : nat_eq k n ≡ false = ne_eqb k n ne in
             let count : (mid.table (mid.registers 24)).1 ≡ k = ap (λ (x : ℕ × ℕ). x.1) (table ∙ row.1) in
             rw t (bad 10 10 (omega arith) (omega arith) (other_ends s.code b n mid low global word tail

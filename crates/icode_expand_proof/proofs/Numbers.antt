@@ -160,9 +160,11 @@ module _ (c : Code) (b n : ℕ) (d : Data) (low : b + 48 < SEGMENT_BYTES) (globa
       let sum : Leaves (addu 24 24 28 ∷ []) 0 d2 0 d3 = λ rest. rw m refl in
       let a1 : (FUNCTION_TABLE + 8 * v + 4) % 4294967296 ≡ FUNCTION_TABLE + 4 * (2 * v + 1) = omega (arith, less) in
       let a0 : (FUNCTION_TABLE + 8 * v + 0) % 4294967296 ≡ FUNCTION_TABLE + 4 * (2 * v) = omega (arith, less) in
-      let e1 : effect (lw 25 4 24) d3 ≡ Loads 25 d4 = table_load 25 ((FUNCTION_TABLE + 8 * v + 4) % 4294967296) (2 * v + 1)
+      let e1 : effect (lw 25 4 24) d3 ≡ Loads 25 d4 =
+      table_load 25 ((FUNCTION_TABLE + 8 * v + 4) % 4294967296) (2 * v + 1)
       d3 refl a1 (omega (arith, less)) ∙ ap (λ x. Loads 25 (set 25 x d3)) (row_count d.table v) in
-      let e0 : effect (lw 24 0 24) d4 ≡ Loads 24 d5 = table_load 24 ((FUNCTION_TABLE + 8 * v + 0) % 4294967296) (2 * v) d4
+      let e0 : effect (lw 24 0 24) d4 ≡ Loads 24 d5 =
+      table_load 24 ((FUNCTION_TABLE + 8 * v + 0) % 4294967296) (2 * v) d4
       refl a0 (omega (arith, less)) ∙ ap (λ x. Loads 24 (set 24 x d4)) (row_address d.table v) in
       leaves_on (addu 24 24 28 ∷ []) (lw 25 4 24 ∷ lw 24 0 24 ∷ xori 25 25 n ∷ []) 0 0 0 d2 d3 d6 sum
       (leaves_on (lw 25 4 24 ∷ []) (lw 24 0 24 ∷ xori 25 25 n ∷ []) 0 25 0 d3 d4 d6

@@ -12,7 +12,7 @@ use Rattle.icode_meaning.specs.Steps.{paid, set, address_of}
 use Rattle.icode_templates_proof.specs.Spots.{KeepsSpots}
 use Rattle.icode_templates_proof.proofs.Keeping.{with_registers, keeps_on, keeps_write, not_24}
 use Rattle.icode_templates_proof.proofs.Templates.{finish}
-use Rattle.icode_expand_proof.specs.Standing.{layout_of, op_stands_at, Stands}
+use Rattle.icode_expand_proof.specs.Standing.{layout_of, op_stands_at, OpsStand}
 use Rattle.icode_expand_proof.specs.Settings.{Setting, places_of, Standing}
 use Rattle.icode_expand_proof.specs.Relation.{Holds, Pays}
 use Rattle.icode_expand_proof.proofs.Frames.{spots}
@@ -49,7 +49,7 @@ module _ (s : Setting) (st : Standing s) (w : Frame) (arguments : ℕ → Option
   abbrev mid : Data
   mid = first_in (x / 65536 * 65536) x d
 
-  stands : Stands s.code f places
+  stands : OpsStand s.code f places
   stands = (st.functions f.address f h.known).1
 
   address_is : mid.registers 24 ≡ address_of offset w log

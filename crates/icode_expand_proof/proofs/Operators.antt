@@ -2,15 +2,12 @@
 use Rattle.std.proofs.Common.{◌≡◌, ℕ, suc, ◌+◌, ◌<◌, ◌≤◌, true, List, Option, Some, None, refl, sym, ap, ◌∙◌}
 use Rattle.std.proofs.Common.{subst, arith, slice_get}
 use Rattle.std.proofs.lemmas.Bool.{and_parts}
-use Rattle.std.specs.Fn.{iterate}
 use Rattle.host_edge.specs.declared.ending.Ending.TheVariants.{Trap}
 use Rattle.host_edge.specs.declared.ending.TrapKind.{TrapKind}
-use Rattle.history.specs.Events.{Item, End, Ended}
-use Rattle.pace.specs.Pace.{Seen}
+use Rattle.history.specs.Events.{End, Ended}
 use Rattle.mips_model.specs.State as machine
 use Rattle.mips_model.specs.State.{Outside, Data}
-use Rattle.mips_model.specs.Steps.{step, going}
-use Rattle.mips_model.specs.Run as run
+use Rattle.mips_model.specs.Steps.{going}
 use Rattle.mips_encoder.specs.Addresses.{past}
 use Rattle.mips_model.specs.Laws.{at}
 use Rattle.icode_ops.specs.declared.op.Op.{Op}
@@ -31,31 +28,33 @@ use Rattle.icode_templates_proof.proofs.Checks.{zero_checks_pass, zero_checks_tr
 use Rattle.icode_templates_proof.proofs.DivisionChecks.{division_checks_pass, division_checks_trap}
 use Rattle.icode_expand_proof.specs.Relation.{Holds, Pays}
 use Rattle.icode_expand_proof.specs.Settings.{Setting, places_of, Standing}
-use Rattle.icode_expand_proof.specs.Standing.{layout_of, op_stands_at, Stands}
+use Rattle.icode_expand_proof.specs.Standing.{layout_of, op_stands_at, OpsStand}
 use Rattle.icode_expand_proof.proofs.Codes.{op_code, one_stands, code_low, next_at}
 use Rattle.icode_expand_proof.proofs.Frames.{spots}
 use Rattle.icode_expand_proof.proofs.Liveness.{next_follows}
 use Rattle.icode_expand_proof.proofs.Paying.{Operand, first_operand, second_operand, stuck_pays}
 use Rattle.icode_expand_proof.proofs.Writes.{defined_inside, holds_set, write_pays, come_pays}
+use Rattle.icode_expand_proof.specs.Relation.{HistoryAgrees, HasLeft, IsFair}
+use Rattle.icode_expand_proof.proofs.Memory.{history_as, left_as}
 
 -- the run ends
 pub end_pays : (s : Setting) (log log' : Log) (from : machine.State) (least most : ℕ) (end : End)
     (outside : Outside)
-    → log'.least ≤ log.least + least → log.most + most ≤ log'.most → outside.history ≡ log'.shared.history
-    → outside.making ≡ s.making → EndsIn least most end from s.code outside → Pays s (Halted end log') log from
-end_pays s log log' from least most end outside lo hi same made e =
-    let w = iterate step e.count (going from) in
-    let seen1 : Seen Item End = record { history = log'.shared.history; ending = Some end } in
-    let e1 : seen1 ≡ record { history = w.state.d.outside.history; ending = Some end } =
-    ap (λ x. record { history = x; ending = Some end })
-    (sym same ∙ sym (ap (λ (o : Outside). o.history) e.outside_is)) in
-    let e2 : record { history = w.state.d.outside.history; ending = Some end } ≡ run.see w =
-    ap (λ x. record { history = w.state.d.outside.history; ending = x }) (sym e.ending) in
+    → log'.least ≤ log.least + least → log.most + most ≤ log'.most → HistoryAgrees s log'.shared.history outside.history
+    → HasLeft s outside → IsFair (Some end) → EndsIn least most end from s.code outside →
+    Pays s (Halted end log') log from
+end_pays s log log' from least most end outside lo hi same made fair e =
     record {
       count = e.count;
       low = omega (arith, lo, e.over);
       high = omega (arith, hi, e.under);
-      related = (e1 ∙ e2, e.code_is, ap (λ (o : Outside). o.making) e.outside_is ∙ made);
+      related = record {
+        ending = sym e.ending;
+        history = history_as s refl (sym (ap (λ (o : Outside). o.history) e.outside_is)) same;
+        code = e.code_is;
+        making = left_as s (sym e.outside_is) made;
+        fair = fair;
+      };
     }
 
 module _ (s : Setting) (st : Standing s) where
@@ -98,7 +97,7 @@ module _ (s : Setting) (st : Standing s) where
     abbrev a : ℕ
     a = op_stands_at f places w.index
 
-    stands : Stands s.code f places
+    stands : OpsStand s.code f places
     stands = (st.functions f.address f h.known).1
 
     pub un_pays : (kind : UnKind) (to from : ℕ) → slice_get f.ops w.index ≡ Some (Un kind to from)
@@ -169,7 +168,7 @@ module _ (s : Setting) (st : Standing s) where
         let spot = (layout_of f places).spot b in
         let x = first_operand s st w d o b h.known h.ready i refl (and_parts (w.on b) true u).0 in
         end_pays s log (paid o log) (at s.code a 0 d) 4 7 (Ended (Trap kind)) d.outside (omega arith)
-        (omega arith) h.memory.history h.memory.making
+        (omega arith) h.memory.history h.memory.making tt
         (zero_checks_trap s.code a f.charge d spot kind (code_low s.code f places stands w.index o i) h.ready.framed
         (spots f places b stands.suits x.inside) x.word (ap zero_trap x.value_is ∙ e)
         (one_stands s.code f places stands w.index o i))
@@ -205,7 +204,7 @@ module _ (s : Setting) (st : Standing s) where
             let o = CheckDivision l r in
             let spot = (layout_of f places).spot in
             end_pays s log (paid o log) (at s.code a 0 d) 5 15 (Ended (Trap kind)) d.outside (omega arith)
-            (omega arith) h.memory.history h.memory.making
+            (omega arith) h.memory.history h.memory.making tt
             (division_checks_trap s.code a f.charge d (spot l) (spot r) kind
             (code_low s.code f places stands w.index o i) h.ready.framed (spots f places l stands.suits x.inside)
             (spots f places r stands.suits y.inside) x.word y.word t (one_stands s.code f places stands w.index o i))

@@ -1,8 +1,8 @@
 -- The ops that stay in their function.
-use Rattle.std.proofs.Common.{◌≡◌, ◌≢◌, ℕ, zero, suc, ◌%◌, ◌<◌, ◌≤◌, true, List, [], ◌∷◌, ◌++◌, Option, Some, None}
+use Rattle.std.proofs.Common.{◌≡◌, ◌≢◌, ℕ, zero, suc, ◌%◌, ◌<◌, ◌≤◌, true, List, [], ◌∷◌, Option, Some, None}
 use Rattle.std.proofs.Common.{refl, sym, ap, ◌∙◌, subst, arith, slice_get}
 use Rattle.std.proofs.lemmas.Bool.{and_parts}
-use Rattle.history.specs.Events.{Item, Out}
+use Rattle.history.specs.Events.{Out}
 use Rattle.mips_model.specs.State.{Code, Data, Outside}
 use Rattle.mips_encoder.specs.Addresses.{past}
 use Rattle.mips_model.specs.Laws.{at}
@@ -23,7 +23,7 @@ use Rattle.icode_templates_proof.proofs.Services.{put_writes}
 use Rattle.icode_expand_proof.specs.Frames.{Alike}
 use Rattle.icode_expand_proof.specs.Relation.{Holds, Pays}
 use Rattle.icode_expand_proof.specs.Settings.{Setting, places_of, Standing}
-use Rattle.icode_expand_proof.specs.Standing.{layout_of, ops_at, op_stands_at, Stands}
+use Rattle.icode_expand_proof.specs.Standing.{layout_of, ops_at, op_stands_at, OpsStand}
 use Rattle.icode_expand_proof.proofs.Addresses.{address_even}
 use Rattle.icode_expand_proof.proofs.Codes.{aims_of, op_code, one_stands, code_low, ops_even, next_at}
 use Rattle.icode_expand_proof.proofs.Frames.{spots, suits_known, ready_alike, stacked_alike, unwound_alike}
@@ -33,8 +33,9 @@ use Rattle.icode_expand_proof.proofs.Within.{holds_next, keeps_within}
 use Rattle.icode_expand_proof.proofs.Writes.{defined_inside, write_pays, come_pays}
 use Rattle.mips_model.specs.Steps.{going}
 use Rattle.icode_templates_proof.proofs.Keeping.{keeps_same}
+use Rattle.icode_expand_proof.proofs.Memory.{left_out, written_as, history_more, then_made, same_made}
 
-label_even : (c : Code) (f : Function) (places : List ℕ) → Stands c f places → (label : ℕ)
+label_even : (c : Code) (f : Function) (places : List ℕ) → OpsStand c f places → (label : ℕ)
     → aims_of f places (ToLabel label) % 4 ≡ 0
 label_even c f places st label =
     address_even (layout_of f places) (ops_at f places) f.ops (label_index label f.ops) (ops_even c f places st)
@@ -54,7 +55,7 @@ module _ (s : Setting) (st : Standing s) where
         known = h.known;
         ready = ready_alike s w (suits_known s st f h.known) al h.ready;
         memory = record {
-          history = ap (λ (l : List Item). l ++ Out (v % 256) ∷ []) h.memory.history;
+          history = history_more s (Out (v % 256) ∷ []) tt h.memory.history;
           input = h.memory.input;
           at_end = h.memory.at_end;
           objects = h.memory.objects;
@@ -64,7 +65,9 @@ module _ (s : Setting) (st : Standing s) where
           active_calls = h.memory.active_calls;
           active_word = h.memory.active_word;
           table = h.memory.table;
-          making = h.memory.making;
+          making = left_out s (said v d).outside d.outside refl refl h.memory.making;
+          written = written_as refl refl refl refl h.memory.written;
+          made = then_made h.memory.made (same_made log.shared (put_byte v log.shared) refl refl refl);
         };
         extents = record { used = h.extents.used; frames = h.extents.frames };
         passed = record { known = λ k x e. absurd cc; stand = λ k x e. absurd cc };
@@ -83,7 +86,7 @@ module _ (s : Setting) (st : Standing s) where
     abbrev a : ℕ
     a = op_stands_at f places w.index
 
-    stands : Stands s.code f places
+    stands : OpsStand s.code f places
     stands = (st.functions f.address f h.known).1
 
     pub const_pays : (to word : ℕ) → slice_get f.ops w.index ≡ Some (Const to word) → word < 4294967296

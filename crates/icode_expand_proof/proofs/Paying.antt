@@ -1,6 +1,5 @@
 -- Runs that pay; the operands of an op; and what agrees of memory and of the extents, when a call begins or ends.
 use Rattle.std.proofs.Common.{◌≡◌, ◌≢◌, ℕ, ◌+◌, ◌-◌, ◌<◌, ◌≤◌, Bool, true, false, ◌||◌, List, length, Option, Some}
-use Rattle.std.proofs.Common.{None}
 use Rattle.std.proofs.Common.{refl, sym, ap, ◌∙◌, subst, arith, nat_eq, slice_get}
 use Rattle.std.proofs.lemmas.Bool.{eq-eqb}
 use Rattle.word32.specs.declared.map.TheConstants.{FRAMES, STACK_TOP}
@@ -22,7 +21,7 @@ use Rattle.icode_expand_proof.specs.Settings.{Setting, places_of, Standing}
 use Rattle.icode_expand_proof.specs.Frames.{FrameAgrees, Alike, Counted}
 use Rattle.icode_expand_proof.specs.Relation.{MemoryAgrees, ExtentsAgree, ArgumentsAgree, Holds, Pays}
 use Rattle.icode_expand_proof.proofs.Frames.{suits_known, pointer_alike, held_30}
-use Rattle.icode_expand_proof.proofs.Memory.{memory_counted}
+use Rattle.icode_expand_proof.proofs.Memory.{memory_counted, same_made}
 use Rattle.icode_expand_proof.proofs.Liveness.{op_found, live_use, below_some}
 
 pub none_passed : (d : Data) → ArgumentsAgree nothing d
@@ -48,7 +47,7 @@ stuck_pays s log a d h = record {
   count = 0;
   low = omega arith;
   high = omega arith;
-  related = (ap (λ x. record { history = x; ending = None }) (sym h.history), refl, h.making);
+  related = record { ending = refl; history = h.history; code = refl; making = h.making; fair = tt };
 }
 
 -- a call is over
@@ -57,7 +56,7 @@ pub memory_left : (s : Setting) (f : Function) (log : Log) (d after : Data)
     → MemoryAgrees s (left f log).shared (left f log).active after
 memory_left s f log d after h n =
     memory_counted s log.shared (discharged f.charge f.object log.shared) log.active f.compiled 4294967295 d after
-    refl refl refl refl n h
+    refl refl refl refl (same_made log.shared _ refl refl refl) n h
 
 pub extents_left : (f : Function) (log : Log) (d after : Data) → ExtentsAgree log.shared d
     → pointer d + f.charge ≤ STACK_TOP → FRAMES + f.object ≤ d.registers 30
@@ -72,7 +71,7 @@ pub memory_entered : (s : Setting) (f : Function) (log : Log) (d after : Data)
     → MemoryAgrees s (entered f log).shared (entered f log).active after
 memory_entered s f log d after h n =
     memory_counted s log.shared (charged f.charge f.object log.shared) log.active f.compiled 1 d after
-    refl refl refl refl n h
+    refl refl refl refl (same_made log.shared _ refl refl refl) n h
 
 pub extents_entered : (f : Function) (log : Log) (d after : Data) → ExtentsAgree log.shared d
     → f.charge ≤ pointer d → pointer after ≡ pointer d - f.charge → after.registers 30 ≡ d.registers 30 + f.object

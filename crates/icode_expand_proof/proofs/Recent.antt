@@ -67,7 +67,7 @@ same_step c a d g =
     ∙ same_effect (effect g.first d) c a (recent_behind g.first 0) d g.onward
     ∙ sym (step_acts g.first (behind c a 0 d) g.stands refl)
 
-same_run : (k : ℕ) (c : Code) (a : ℕ) (d : Data) → 1 ≤ k → IsGentle c a d → iterate step k (going (behind c a 0 d))
+pub same_run : (k : ℕ) (c : Code) (a : ℕ) (d : Data) → 1 ≤ k → IsGentle c a d → iterate step k (going (behind c a 0 d))
     ≡ iterate step k (going (behind c a 1 d))
 same_run zero c a d some g = absurd (omega (arith, some))
 same_run (suc k) c a d some g = ap (iterate step k) (sym (same_step c a d g))

@@ -3,15 +3,13 @@ use Rattle.std.proofs.Common.{◌≡◌, ℕ, ◌+◌, ◌%◌, ◌<◌, ◌≤�
 use Rattle.std.proofs.Common.{arith, slice_get}
 use Rattle.std.proofs.lemmas.Bool.{and_parts}
 use Rattle.std.specs.Fn.{iterate}
-use Rattle.pace.specs.Pace.{Seen}
 use Rattle.pace.proofs.Runs.{iterate_add}
 use Rattle.word32.specs.Space.{update}
 use Rattle.host_edge.specs.declared.ending.Ending.TheVariants.{Done}
-use Rattle.history.specs.Events.{Item, End, Ended}
+use Rattle.history.specs.Events.{Ended}
 use Rattle.mips_model.specs.State as machine
 use Rattle.mips_model.specs.State.{Code, Data, World}
 use Rattle.mips_model.specs.Steps.{step, going}
-use Rattle.mips_model.specs.Run as run
 use Rattle.mips_encoder.specs.Addresses.{past}
 use Rattle.mips_model.specs.Laws.{at}
 use Rattle.mips_model.proofs.Reach.{front, back, past_append, reaches_on}
@@ -19,7 +17,7 @@ use Rattle.icode_ops.specs.declared.op.Op.{Op}
 use Rattle.icode_ops.specs.declared.op.Op.TheVariants.{Return, ReturnZero}
 use Rattle.mips_assembly.specs.Assembly.{addu}
 use Rattle.icode_templates.specs.Templates.{in_code, leave_code}
-use Rattle.icode_meaning.specs.State.{Function, Frame, Log, nothing, see}
+use Rattle.icode_meaning.specs.State.{Function, Frame, Log, nothing}
 use Rattle.icode_meaning.specs.Steps.{uses_on, paid, left, back as given_back}
 use Rattle.icode_meaning.specs.Costs.{least_of, most_of}
 use Rattle.icode_templates_proof.specs.Spots.{frame_word, KeepsSpots}
@@ -32,7 +30,7 @@ use Rattle.icode_templates_proof.proofs.Jumps.{jump_reaches}
 use Rattle.icode_expand_proof.specs.Frames.{Alike, CallersWait, unwound}
 use Rattle.icode_expand_proof.specs.Relation.{MemoryAgrees, ExtentsAgree, Holds, Pays}
 use Rattle.icode_expand_proof.specs.Settings.{Setting, places_of, Standing}
-use Rattle.icode_expand_proof.specs.Standing.{layout_of, op_stands_at, leave_at, Stands}
+use Rattle.icode_expand_proof.specs.Standing.{layout_of, op_stands_at, leave_at, OpsStand}
 use Rattle.icode_expand_proof.proofs.Memory.{memory_kept}
 use Rattle.icode_expand_proof.proofs.Codes.{aims_of, one_stands, code_low, leave_even}
 use Rattle.icode_expand_proof.proofs.Frames.{alike_on, keeps_alike, unwound_alike, word_alike, stacked_alike, spots}
@@ -42,6 +40,7 @@ use Rattle.icode_expand_proof.proofs.Leaving.{leaves_function}
 use Rattle.icode_expand_proof.proofs.Paying.{none_passed, runs_pay, memory_left, extents_left, extents_kept}
 use Rattle.icode_expand_proof.proofs.Paying.{first_operand}
 use Rattle.icode_expand_proof.specs.Laws.{ReturnsPay}
+use Rattle.icode_expand_proof.proofs.Memory.{history_as, left_as}
 
 -- the answer goes to $v0
 abbrev given : ℕ → Data → Data
@@ -54,7 +53,7 @@ keeps_given : (x : ℕ) (d : Data) → KeepsSpots d (given x d)
 keeps_given x d = keeps_write 2 x d (λ r k. omega (arith, k.0))
 
 module _ (s : Setting) (st : Standing s) where
-  stands : (f : Function) → s.program.function_at f.address ≡ Some f → Stands s.code f (places_of s f)
+  stands : (f : Function) → s.program.function_at f.address ≡ Some f → OpsStand s.code f (places_of s f)
   stands f known = (st.functions f.address f known).1
 
   -- what the caller, or the start, does with the answer
@@ -69,21 +68,17 @@ module _ (s : Setting) (st : Standing s) where
       let status = Ended (Done ((e.registers 2 + 0) % 4294967296 % 256)) in
       let stop = iterate_add step to.count 3 (going from) ∙ ap (iterate step 3) to.reaches.by
       ∙ exits s.code s.exit e st.exits in
-      let seen1 : Seen Item End = record { history = log'.shared.history; ending = Some status } in
-      let seen2 : Seen Item End = record { history = e.outside.history; ending = Some status } in
-      let e1 : see (given_back x [] log') ≡ seen1 =
-      ap (λ z. record { history = log'.shared.history; ending = Some (Ended (Done z)) }) (sym b) in
-      let e2 : seen1 ≡ seen2 = ap (λ z. record { history = z; ending = Some status }) (sym memory.history) in
-      let e3 : seen2 ≡ run.see (iterate step (to.count + 3) (going from)) = sym (ap run.see stop) in
       record {
         count = to.count + 3;
         low = omega (arith, lo, to.over);
         high = omega (arith, hi, to.under);
-        related = (
-          e1 ∙ e2 ∙ e3,
-          ap (λ (z : World). z.state.code) stop,
-          ap (λ (z : World). z.state.d.outside.making) stop ∙ memory.making,
-        );
+        related = record {
+          ending = ap (λ z. Some (Ended (Done z))) (sym b) ∙ sym (ap (λ (z : World). z.ending) stop);
+          history = history_as s refl (sym (ap (λ (z : World). z.state.d.outside.history) stop)) memory.history;
+          code = ap (λ (z : World). z.state.code) stop;
+          making = left_as s (sym (ap (λ (z : World). z.state.d.outside) stop)) memory.making;
+          fair = tt;
+        };
       }
   arrives log log' from l m x address e (v ∷ vs) lo hi word answer go waits memory extents =
       runs_pay s st v nothing (Some x) vs log log' from l m e lo (omega (arith, hi)) (runs_to waits.0.address_is go)

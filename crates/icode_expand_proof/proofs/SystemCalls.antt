@@ -5,7 +5,7 @@ use Rattle.std.proofs.lemmas.Bool.{and_parts}
 use Rattle.std.proofs.lemmas.Bool.{cases_Bool}
 use Rattle.word32.specs.declared.map.TheConstants.{FRAMES}
 use Rattle.host_edge.specs.declared.ending.Ending.TheVariants.{Done}
-use Rattle.history.specs.Events.{Item, In, Ended, ReadFault, Input, Next, Given, AtEnd, Failing, next_of, next_byte}
+use Rattle.history.specs.Events.{In, Ended, ReadFault, Input, Next, Given, AtEnd, Failing, next_of, next_byte}
 use Rattle.history.specs.Events.{outs, number_bytes}
 use Rattle.mips_model.specs.State.{Data, Outside}
 use Rattle.mips_model.specs.Services.{with_outside}
@@ -28,13 +28,16 @@ use Rattle.icode_templates_proof.proofs.Exits.{exit_ends}
 use Rattle.icode_expand_proof.specs.Frames.{Alike}
 use Rattle.icode_expand_proof.specs.Relation.{Holds, IsHeapPlace, Pays}
 use Rattle.icode_expand_proof.specs.Settings.{Setting, places_of, Standing}
-use Rattle.icode_expand_proof.specs.Standing.{layout_of, op_stands_at, Stands}
+use Rattle.icode_expand_proof.specs.Standing.{layout_of, op_stands_at, OpsStand}
 use Rattle.icode_expand_proof.proofs.Codes.{op_code, one_stands}
 use Rattle.icode_expand_proof.proofs.Frames.{spots, suits_known, ready_alike, stacked_alike, unwound_alike}
 use Rattle.icode_expand_proof.proofs.Operators.{end_pays}
 use Rattle.icode_expand_proof.proofs.Ops.{put_pays}
 use Rattle.icode_expand_proof.proofs.Paying.{first_operand}
 use Rattle.icode_expand_proof.proofs.Writes.{defined_inside, write_pays}
+use Rattle.icode_expand_proof.proofs.Memory.{left_out, history_as, history_more, outs_pass, written_as, then_made}
+use Rattle.icode_expand_proof.proofs.Memory.{same_made}
+use Rattle.icode_expand_proof.specs.Relation.{HistoryAgrees, HasLeft, SameMade}
 
 -- more passed with the outside
 outside_alike : (o : Outside) (d : Data) → Alike d (with_outside o d)
@@ -79,13 +82,13 @@ module _ (s : Setting) (st : Standing s) where
   -- more passed with the outside, on both sides
   pub holds_outside : (w : Frame) (arguments : ℕ → Option ℕ) (answer : Option ℕ) (waiting : List Frame) (log : Log)
       (shared : Shared) (o : Outside) (d : Data)
-      → o.history ≡ shared.history → o.input ≡ shared.input
+      → HistoryAgrees s shared.history o.history → o.input ≡ shared.input
       → (o.at_end ≡ true → (shared.input.bytes ≡ []) × (shared.input.failing ≡ false))
       → shared.objects ≡ log.shared.objects → shared.heap ≡ log.shared.heap → shared.used ≡ log.shared.used
-      → shared.frames ≡ log.shared.frames → o.making ≡ s.making
+      → shared.frames ≡ log.shared.frames → SameMade log.shared shared → HasLeft s o
       → Holds s w arguments answer waiting log d
       → Holds s w nothing None waiting (sharing shared log) (with_outside o d)
-  holds_outside w arguments answer waiting log shared o d eh ei ends eo ep eu ef em h =
+  holds_outside w arguments answer waiting log shared o d eh ei ends eo ep eu ef made em h =
       let f = w.function in
       let al = outside_alike o d in
       record {
@@ -103,6 +106,8 @@ module _ (s : Setting) (st : Standing s) where
           active_word = h.memory.active_word;
           table = h.memory.table;
           making = em;
+          written = written_as refl refl refl refl h.memory.written;
+          made = then_made h.memory.made made;
         };
         extents = record {
           used = ap (λ n. pointer d + n) eu ∙ h.extents.used;
@@ -127,7 +132,7 @@ module _ (s : Setting) (st : Standing s) where
     abbrev spot : ℕ → Spot
     spot = (layout_of f places).spot
 
-    stands : Stands s.code f places
+    stands : OpsStand s.code f places
     stands = (st.functions f.address f h.known).1
 
     pub number_pays : (to from : ℕ) → slice_get f.ops w.index ≡ Some (Sys PutInteger to from)
@@ -139,12 +144,12 @@ module _ (s : Setting) (st : Standing s) where
         let x = first_operand s st w d o from h.known h.ready i refl (and_parts (w.on from) true u).0 in
         let v = w.values from in
         let shared = put_number v log.shared in
-        let out : (told v d).outside.history ≡ shared.history =
-        ap (λ (l : List Item). l ++ outs (number_bytes v)) h.memory.history in
+        let out = history_more s (outs (number_bytes v)) (outs_pass (number_bytes v)) h.memory.history in
         write_pays s st w nothing None waiting log (sharing shared log) (at s.code a 0 d) o to v 6 11 (told v d) i refl
         refl (h.ready.words from) (omega arith) (omega arith) (omega arith) (omega arith)
         (holds_outside w arguments answer waiting log shared (told v d).outside d out h.memory.input h.memory.at_end
-        refl refl refl refl h.memory.making h)
+        refl refl refl refl (same_made log.shared shared refl refl refl)
+        (left_out s (told v d).outside d.outside refl refl h.memory.making) h)
         (subst (λ y. Writes (spot to) y 6 11 (at s.code a 0 d) s.code (past a (op_code f places o)) (told y d))
         x.value_is
         (number_writes s.code a f.charge d (spot to) (spot from) h.ready.framed
@@ -158,7 +163,7 @@ module _ (s : Setting) (st : Standing s) where
         let o = Sys Exit to from in
         let x = first_operand s st w d o from h.known h.ready i refl (and_parts (w.on from) true u).0 in
         end_pays s log (paid o log) (at s.code a 0 d) 4 7 (Ended (Done (w.values from % 256))) d.outside
-        (omega arith) (omega arith) h.memory.history h.memory.making
+        (omega arith) (omega arith) h.memory.history h.memory.making tt
         (subst (λ y. EndsIn 4 7 (Ended (Done (y % 256))) (at s.code a 0 d) s.code d.outside) x.value_is
         (exit_ends s.code a f.charge d (spot to) (spot from) h.ready.framed
         (spots f places from stands.suits x.inside) x.word (one_stands s.code f places stands w.index o i)))
@@ -176,20 +181,19 @@ module _ (s : Setting) (st : Standing s) where
         → (t ≡ true → (input.bytes ≡ []) × (input.failing ≡ false))
         → (shared : Shared) → log.shared.history ++ In x ∷ [] ≡ shared.history → input ≡ shared.input
         → shared.objects ≡ log.shared.objects → shared.heap ≡ log.shared.heap → shared.used ≡ log.shared.used
-        → shared.frames ≡ log.shared.frames
+        → shared.frames ≡ log.shared.frames → SameMade log.shared shared
         → Writes (spot to) x 6 11 (at s.code a 0 d) s.code (past a (op_code f places (Sys GetByte to from)))
         (heard x t input d)
         → Pays s (Running (set to x w) nothing None waiting (sharing shared (paid (Sys GetByte to from) log))) log
         (at s.code a 0 d)
-    heard_pays to from x t input i word ends shared eh ei eo ep eu ef wr =
+    heard_pays to from x t input i word ends shared eh ei eo ep eu ef made wr =
         let o = Sys GetByte to from in
-        let z : (heard x t input d).outside.history ≡ shared.history =
-        ap (λ (l : List Item). l ++ In x ∷ []) h.memory.history ∙ eh in
+        let z = history_as s eh refl (history_more s (In x ∷ []) tt h.memory.history) in
         write_pays s st w nothing None waiting log (sharing shared log) (at s.code a 0 d) o to x 6 11
         (heard x t input d) i refl refl word (omega arith) (omega arith) (omega arith) (omega arith)
         (holds_outside w arguments answer waiting log shared (heard x t input d).outside d z ei
         (λ e. subst (λ (y : Input). (y.bytes ≡ []) × (y.failing ≡ false)) ei (ends e))
-        eo ep eu ef h.memory.making h) wr
+        eo ep eu ef made (left_out s (heard x t input d).outside d.outside refl refl h.memory.making) h) wr
 
     pub byte_pays : (to from : ℕ) → slice_get f.ops w.index ≡ Some (Sys GetByte to from)
         → uses_on (Sys GetByte to from) w.on ≡ true
@@ -204,6 +208,7 @@ module _ (s : Setting) (st : Standing s) where
             let range = byte_given log.shared.input.bytes log.shared.input.failing b rest e in
             heard_pays to from b false rest i (omega (arith, range)) (λ q. absurd cc)
             (happens (In b) (record log.shared { input = rest })) refl refl refl refl refl refl
+            (same_made log.shared (happens (In b) (record log.shared { input = rest })) refl refl refl)
             (byte_reads s.code a f.charge b rest d (spot to) (spot from) h.ready.framed
             (spots f places to stands.suits (defined_inside s st w o to h.known i refl))
             (spots f places from stands.suits x.inside) x.word (not_at_end (Given b rest) e (λ q. absurd cc))
@@ -216,6 +221,7 @@ module _ (s : Setting) (st : Standing s) where
             heard_pays to from 4294967295 true (left_at_end d.outside) i (omega arith)
             (λ q. subst (λ (y : Input). (y.bytes ≡ []) × (y.failing ≡ false)) (sym left) empty)
             (happens (In 4294967295) log.shared) refl left refl refl refl refl
+            (same_made log.shared (happens (In 4294967295) log.shared) refl refl refl)
             (end_reads s.code a f.charge d (spot to) (spot from) h.ready.framed
             (spots f places to stands.suits (defined_inside s st w o to h.known i refl))
             (spots f places from stands.suits x.inside) x.word (inr (ap next_byte h.memory.input ∙ e))
@@ -224,7 +230,7 @@ module _ (s : Setting) (st : Standing s) where
             let o = Sys GetByte to from in
             let x = first_operand s st w d o from h.known h.ready i refl (and_parts (w.on from) true u).0 in
             end_pays s log (paid o log) (at s.code a 0 d) 4 7 ReadFault d.outside
-            (omega arith) (omega arith) h.memory.history h.memory.making
+            (omega arith) (omega arith) h.memory.history h.memory.making tt
             (failure_ends s.code a f.charge d (spot to) (spot from) h.ready.framed
             (spots f places from stands.suits x.inside) x.word (not_at_end Failing e (λ q. absurd cc))
             (ap next_byte h.memory.input ∙ e) (one_stands s.code f places stands w.index o i))

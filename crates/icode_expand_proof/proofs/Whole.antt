@@ -1,46 +1,48 @@
--- Each step of the staged machine is simulated, whatever calls wait.
+-- Each op of a running call is simulated, whatever calls wait, but those of ticks; and what zeroes words.
 use Rattle.std.proofs.Common.{◌≡◌, ◌⊎◌, inl, inr, nat_eq, ℕ, zero, suc, ◌+◌, ◌*◌, ◌≤◌, Bool, true, false, List, []}
 use Rattle.std.proofs.Common.{◌∷◌, ◌++◌, Option, Some, None, refl, sym, ap, ◌∙◌, subst, arith, slice_get}
-use Rattle.std.proofs.Common.{if◌then◌else◌, append_assoc}
+use Rattle.std.proofs.Common.{if◌then◌else◌, append_assoc, ◌-◌, nat_le, length}
 use Rattle.std.proofs.lemmas.Bool.{and_parts}
+use Rattle.std.proofs.lemmas.Option.{slice_get_past}
+use Rattle.std.proofs.lemmas.Bool.Decides.{nat_tests}
 use Rattle.std.specs.Fn.{iterate}
-use Rattle.pace.specs.Claims.{PaysFor, SimulatesStep}
 use Rattle.pace.proofs.Runs.{iterate_add}
-use Rattle.pace.proofs.Seams.{pays_for}
 use Rattle.host_edge.specs.declared.ending.TrapKind.{TrapKind}
 use Rattle.host_edge.specs.declared.ending.Ending.TheVariants.{Trap}
 use Rattle.host_edge.specs.declared.ending.TrapKind.TheVariants.{BadCall}
-use Rattle.history.specs.Events.{Item, End, Ended}
-use Rattle.pace.specs.Pace.{Seen}
+use Rattle.history.specs.Events.{Ended}
 use Rattle.mips_encoder.specs.declared.instruction.Instr.{Instr}
-use Rattle.mips_model.specs.State.{Making, Code, Data, World}
+use Rattle.mips_model.specs.State.{Data, World}
 use Rattle.mips_model.specs.Effects.{effect, sets_hilo}
-use Rattle.mips_model.specs.Steps.{Is, fetch, step, run}
-use Rattle.mips_model.specs.Run as machine
+use Rattle.mips_model.specs.Steps.{Is, fetch, step}
 use Rattle.mips_model.specs.Laws.{HasAt, at}
 use Rattle.icode_ops.specs.declared.op.Op.{Op}
 use Rattle.icode_ops.specs.declared.op.Op.TheVariants.{Const, Move, Bin, FrameAddress, Load, Store, Clear, Label}
 use Rattle.icode_ops.specs.declared.op.Op.TheVariants.{Jump, BranchZero, BranchNonzero, Sys, Argument, GetParameter}
 use Rattle.icode_ops.specs.declared.op.Op.TheVariants.{Call, CallNumber, Result, Return, ReturnZero, CheckDivision}
-use Rattle.icode_ops.specs.declared.op.Op.TheVariants.{CheckZero, Un, Run}
-use Rattle.icode_ops.specs.declared.kind.RunKind.TheVariants.{Malloc}
+use Rattle.icode_ops.specs.declared.op.Op.TheVariants.{CheckZero, Un, Run, New, Put}
+use Rattle.icode_ops.specs.declared.kind.RunKind.TheVariants as run
 use Rattle.icode_ops.specs.declared.kind.BinKind.{BinKind}
 use Rattle.icode_ops.specs.Flow.{first_use}
 use Rattle.icode_templates.specs.Layout.{parameter_spot}
 use Rattle.icode_templates.specs.Templates.{load_code}
 use Rattle.icode_meaning.specs.State as staged
+use Rattle.icode_meaning.specs.State.{Program}
 use Rattle.icode_meaning.specs.State.{Function, Frame, Log, Running, Zeroing, Halted, Stuck, nothing, see, least_at}
 use Rattle.icode_meaning.specs.State.{most_at}
-use Rattle.icode_meaning.specs.Steps.{uses_on, act, checked, advance, first, paid, left, back, begun, entered, unless}
-use Rattle.icode_meaning.specs.Steps.{zeroing, address_of, goes_on, moved_on, call_at, call_row, set_from, set}
+use Rattle.icode_meaning.specs.Steps.{uses_on, act, checked, first, paid, left, back, begun, entered, unless}
+use Rattle.icode_meaning.specs.Steps.{zeroing, address_of, goes_on, moved_on, call_at, call_row, call_number}
+use Rattle.icode_meaning.specs.Steps.{call_compiled, set_from, set}
 use Rattle.icode_meaning.specs.Steps.{untrapped}
+use Rattle.meaning_state.specs.Bodies.{Body}
+use Rattle.meaning_state.specs.Rows.{numbered}
 use Rattle.meaning_state.specs.Shared.{Shared, limit_trap, are_objects, access_trap}
 use Rattle.meaning_state.specs.Operators.{bin_value, bin_trap, signed_trap, zero_trap}
 use Rattle.icode_templates_proof.specs.Spots.{Framed}
 use Rattle.icode_templates_proof.specs.Moves.{behind}
 use Rattle.icode_expand_proof.specs.Relation.{MemoryAgrees, Holds, Related, Pays}
-use Rattle.icode_expand_proof.specs.Settings.{Setting, places_of, Standing}
-use Rattle.icode_expand_proof.specs.Standing.{layout_of, op_stands_at, Stands}
+use Rattle.icode_expand_proof.specs.Settings.{Setting, places_of, Standing, Extends}
+use Rattle.icode_expand_proof.specs.Standing.{layout_of, op_stands_at, OpsStand}
 use Rattle.icode_expand_proof.proofs.Codes.{op_code, one_stands}
 use Rattle.icode_expand_proof.proofs.Frames.{spots}
 use Rattle.icode_expand_proof.proofs.Places.{slot_usable}
@@ -53,11 +55,11 @@ use Rattle.icode_expand_proof.proofs.Paying.{first_operand}
 use Rattle.icode_expand_proof.proofs.Recent.{IsOnward, IsGentle, head_gentle, load_gentle, at_any}
 use Rattle.icode_expand_proof.proofs.SystemCalls.{service_pays, service_least}
 use Rattle.icode_expand_proof.proofs.Zeroing.{round_pays, clear_pays}
-use Rattle.icode_expand_proof.specs.Served.{IsServed, Serving}
+use Rattle.icode_expand_proof.specs.Served.{IsServed, is_of_ticks, Serving}
 use Rattle.icode_expand_proof.proofs.Allocating.{malloc_pays}
-use Rattle.icode_expand_proof.specs.Laws.{Arrives, ProgramIsSimulated, ProgramKeepsCode}
+use Rattle.icode_expand_proof.specs.Laws.{Arrives, OpsPay, WordsPay, MainBegins}
 use Rattle.icode_expand_proof.proofs.Arguments.{argument_pays, result_pays, parameter_pays}
-use Rattle.icode_expand_proof.proofs.Calls.{found_pays}
+use Rattle.icode_expand_proof.proofs.Calls.{found_pays, IsFunction, text_function, front_known}
 use Rattle.icode_expand_proof.proofs.Entrance.{Enters, Begun, holds_begun}
 use Rattle.icode_expand_proof.proofs.NumberCalls.{number_pays}
 use Rattle.icode_expand_proof.proofs.Returns.{return_pays, zero_return_pays}
@@ -83,12 +85,12 @@ zeroing_least zero address w waiting log = refl
 zeroing_least (suc more) address w waiting log = refl
 
 -- a call by a number has paid, or is stuck
-row_least : (s : Setting) (number n : ℕ) (x : Option (ℕ × ℕ)) (w : Frame) (arguments : ℕ → Option ℕ)
+row_least : (text : Program) (number n : ℕ) (x : Option (ℕ × ℕ)) (w : Frame) (arguments : ℕ → Option ℕ)
     (waiting : List Frame) (log : Log)
-    → (log.least + 1 ≤ least_at (call_row s.program (CallNumber number n) n x w arguments waiting log)) ⊎
-    (call_row s.program (CallNumber number n) n x w arguments waiting log ≡ Stuck log)
-row_least s number n None w arguments waiting log = inl (omega arith)
-row_least s number n (Some (address, k)) w arguments waiting log = by (nat_eq k n) (s.program.function_at address)
+    → (log.least + 1 ≤ least_at (call_row text (CallNumber number n) n x w arguments waiting log)) ⊎
+    (call_row text (CallNumber number n) n x w arguments waiting log ≡ Stuck log)
+row_least text number n None w arguments waiting log = inl (omega arith)
+row_least text number n (Some (address, k)) w arguments waiting log = by (nat_eq k n) (text.function_at address)
   where
     by : (b : Bool) (y : Option Function)
         → (log.least + 1 ≤ least_at (if b then call_at (CallNumber number n) y w arguments waiting log else Halted
@@ -100,48 +102,16 @@ row_least s number n (Some (address, k)) w arguments waiting log = by (nat_eq k 
     by true (Some g) = inl (let e = enter_least (limit_trap g.charge g.object log.shared) g arguments
         (moved_on w ∷ waiting) (paid (CallNumber number n) log) in omega (arith, e))
 
-no_end : {e : End} → Some e ≡ None → ⊥
-no_end h = cc
-
-pub halts : (s : Setting) (a : staged.State) (e : End) → (see a).ending ≡ Some e → advance s.program a ≡ a
-halts s (Running w arguments answer waiting log) e h = absurd (no_end (sym h))
-halts s (Zeroing more address w waiting log) e h = absurd (no_end (sym h))
-halts s (Halted x log) e h = refl
-halts s (Stuck log) e h = refl
-
-pub same_seen : (s : Setting) (a : staged.State) (b : World) → Related s a b → see a ≡ machine.see b
-same_seen s (Running w arguments answer waiting log) b r =
-    ap (λ h. record { history = h; ending = None }) (sym r.1.holds.memory.history) ∙ sym (ap machine.see r.1.is)
-same_seen s (Zeroing more address w waiting log) b r =
-    ap (λ h. record { history = h; ending = None }) (sym r.1.holds.memory.history) ∙ sym (ap machine.see r.1.is)
-same_seen s (Halted e log) b r = r.0
-same_seen s (Stuck log) b r = r.0
-
-pub same_code : (s : Setting) (a : staged.State) (b : World) → Related s a b → b.state.code ≡ s.code
-same_code s (Running w arguments answer waiting log) b r = ap (λ (z : World). z.state.code) r.1.is
-same_code s (Zeroing more address w waiting log) b r = ap (λ (z : World). z.state.code) r.1.is
-same_code s (Halted e log) b r = r.1
-same_code s (Stuck log) b r = r.1
-
--- no code was made
-pub same_making : (s : Setting) (a : staged.State) (b : World) → Related s a b →
-    b.state.d.outside.making ≡ s.making
-same_making s (Running w arguments answer waiting log) b r =
-    ap (λ (z : World). z.state.d.outside.making) r.1.is ∙ r.1.holds.memory.making
-same_making s (Zeroing more address w waiting log) b r =
-    ap (λ (z : World). z.state.d.outside.making) r.1.is ∙ r.1.holds.memory.making
-same_making s (Halted e log) b r = r.2
-same_making s (Stuck log) b r = r.2
-
-module _ (s : Setting) (st : Standing s) (sv : Serving s) where
-  stuck_any : (log : Log) (q a : ℕ) (d : Data) → MemoryAgrees s log.shared log.active d
+module _ (text : Program) (s : Setting) (st : Standing s) (ex : Extends text s) (sv : Serving s)
+    (none : s.made.bodies ≡ []) where
+  pub stuck_any : (log : Log) (q a : ℕ) (d : Data) → MemoryAgrees s log.shared log.active d
       → Pays s (Stuck log) log (behind s.code a q d)
   stuck_any log q a d e =
       record {
         count = 0;
         low = omega arith;
         high = omega arith;
-        related = (ap (λ z. record { history = z; ending = None }) (sym e.history), refl, e.making);
+        related = record { ending = refl; history = e.history; code = refl; making = e.making; fair = tt };
       }
 
   module _ (w : Frame) (arguments : ℕ → Option ℕ) (answer : Option ℕ) (waiting : List Frame) (log : Log) (d : Data)
@@ -155,11 +125,11 @@ module _ (s : Setting) (st : Standing s) (sv : Serving s) where
     abbrev a : ℕ
     a = op_stands_at f places w.index
 
-    stands : Stands s.code f places
+    stands : OpsStand s.code f places
     stands = (st.functions f.address f h.known).1
 
     -- an op that brings an operand in first
-    operand_gentle : (o : Op) (from : ℕ) (rest : List Instr) → slice_get f.ops w.index ≡ Some o
+    pub operand_gentle : (o : Op) (from : ℕ) (rest : List Instr) → slice_get f.ops w.index ≡ Some o
         → first_use o ≡ Some from → w.on from ≡ true → op_code f places o ≡ load_code 24
         ((layout_of f places).spot from) ++ rest → IsGentle s.code a d
     operand_gentle o from rest i is t e =
@@ -176,7 +146,7 @@ module _ (s : Setting) (st : Standing s) (sv : Serving s) where
         → Pays s a' log (at s.code a 0 d) → Pays s a' log (behind s.code a q d)
     begun_at a' g lo p = at_any s q a' log a d le g lo p
 
-    call_pays : (address : ℕ) (x : Option Function) → s.program.function_at address ≡ x → slice_get f.ops w.index
+    call_pays : (address : ℕ) (x : Option Function) → IsFunction s address x → slice_get f.ops w.index
         ≡ Some (Call address) → Pays s (call_at (Call address) x w arguments waiting log) log (behind s.code a q d)
     call_pays address None e i = stuck_any log q a d h.memory
     call_pays address (Some g) e i =
@@ -212,20 +182,59 @@ module _ (s : Setting) (st : Standing s) (sv : Serving s) where
         ((load_gentle s.code a bytes d (parameter_spot (layout_of f places) k) _ fr u code)) (omega arith)
         (parameter_pays s st w arguments answer waiting log to k d (Some x) e i h)
 
+    row_pays : (number n : ℕ) → n ≤ 8 → slice_get f.ops w.index ≡ Some (CallNumber number n)
+        → uses_on (CallNumber number n) w.on ≡ true → (x : Option (ℕ × ℕ)) → s.program.row (w.values number) ≡ x
+        → Pays s (call_row text (CallNumber number n) n x w arguments waiting log) log (behind s.code a q d)
+    row_pays number n few i u x e =
+        elim (row_least text number n x w arguments waiting log) [
+          | inl more ↦ begun_at (call_row text (CallNumber number n) n x w arguments waiting log)
+              (operand_gentle (CallNumber number n) number _ i refl (and_parts (w.on number) true u).0
+              (append_assoc (load_code 24 ((layout_of f places).spot number)) _ _)) more
+              (number_pays s st w arguments answer waiting log number n d few i u h text ex x e)
+          | inr z ↦ subst (λ y. Pays s y log (behind s.code a q d)) (sym z) (stuck_any log q a d h.memory)
+        ]
+
+    -- a number behind those of the text is no function's
     numbered_pays : (number n : ℕ) → n ≤ 8 → slice_get f.ops w.index ≡ Some (CallNumber number n)
         → uses_on (CallNumber number n) w.on ≡ true
-        → Pays s (call_row s.program (CallNumber number n) n (s.program.row (w.values number)) w arguments waiting log)
-        log (behind s.code a q d)
-    numbered_pays number n few i u =
-        elim (row_least s number n (s.program.row (w.values number)) w arguments waiting log) [
-          | inl more ↦ begun_at (call_row s.program (CallNumber number n) n (s.program.row (w.values number)) w
-              arguments
-              waiting log) (operand_gentle (CallNumber number n) number _ i refl (and_parts (w.on number) true u).0
-              (append_assoc (load_code 24 ((layout_of f places).spot number)) _ _)) more
-              (number_pays s st w arguments answer waiting log number n d few i u h (s.program.row (w.values number))
-              refl)
-          | inr e ↦ subst (λ z. Pays s z log (behind s.code a q d)) (sym e) (stuck_any log q a d h.memory)
-        ]
+        → Pays s (call_number text (CallNumber number n) (w.values number) n w arguments waiting log) log
+        (behind s.code a q d)
+    numbered_pays number n few i u = by (nat_le (w.values number) count) refl
+      where
+        count : ℕ
+        count = length text.source.functions
+
+        at_number : List Body → Option Body
+        at_number bodies = numbered (w.values number - count) bodies
+
+        bodies_are : log.shared.bodies ≡ []
+        bodies_are = h.memory.made.bodies ∙ none
+
+        nothing_made : List Body
+        nothing_made = []
+
+        none_there : (k : ℕ) → numbered k nothing_made ≡ None
+        none_there zero = refl
+        none_there (suc k) = slice_get_past nothing_made k (omega arith)
+
+        no_function : at_number log.shared.bodies ≡ None
+        no_function = ap at_number bodies_are ∙ none_there (w.values number - count)
+
+        of_none : (x : Option Body) → x ≡ None → s.program.row (w.values number) ≡ None
+            → Pays s (call_compiled text (CallNumber number n) (w.values number) x n w
+            arguments waiting log) log (behind s.code a q d)
+        of_none None e r = row_pays number n few i u None r
+        of_none (Some x) e r = absurd cc
+
+        by : (b : Bool) → nat_le (w.values number) count ≡ b
+            → Pays s (if b then call_row text (CallNumber number n) n (text.row (w.values number)) w arguments waiting
+            log
+            else call_compiled text (CallNumber number n) (w.values number) (at_number log.shared.bodies) n w
+            arguments waiting log) log (behind s.code a q d)
+        by true t = row_pays number n few i u (text.row (w.values number))
+            (ex.rows (w.values number) (grind (arith, nat_tests, t)))
+        by false t = of_none (at_number log.shared.bodies) no_function (ex.others (w.values number)
+            (grind (arith, nat_tests, t)) (ap at_number none ∙ none_there (w.values number - count)))
 
     cleared_pays : (offset words : ℕ) (b : Bool) → are_objects (address_of offset w log) words ≡ b
         → slice_get f.ops w.index ≡ Some (Clear offset words)
@@ -252,145 +261,133 @@ module _ (s : Setting) (st : Standing s) (sv : Serving s) where
         (bin_pays s st w arguments answer waiting log d h kind to left right i u None e)
     applied_pays kind to left right i u (Some k) e = stuck_any log q a d h.memory
 
-    op_pays : (o : Op) → slice_get f.ops w.index ≡ Some o → uses_on o w.on ≡ true → IsServed o
-        → Pays s (act s.program o w arguments answer waiting log) log (behind s.code a q d)
-    op_pays (Const to word) i u z = begun_at (act s.program (Const to word) w arguments answer waiting log)
+    op_pays : (o : Op) → slice_get f.ops w.index ≡ Some o → uses_on o w.on ≡ true → IsServed o → is_of_ticks o ≡ false
+        → Pays s (act text o w arguments answer waiting log) log (behind s.code a q d)
+    op_pays (Const to word) i u z plain = begun_at (act text (Const to word) w arguments answer waiting log)
         (head (Const to word) _ (one_stands s.code f places stands w.index (Const to word) i).0 refl tt) (omega arith)
         (const_pays s st w arguments answer waiting log d h to word i z)
-    op_pays (Move to from) i u z = begun_at (act s.program (Move to from) w arguments answer waiting log)
+    op_pays (Move to from) i u z plain = begun_at (act text (Move to from) w arguments answer waiting log)
         (operand_gentle (Move to from) from _ i refl (and_parts (w.on from) true u).0
         (append_assoc (load_code 24 ((layout_of f places).spot from)) _ _)) (omega arith)
         (move_pays s st w arguments answer waiting log d h to from i u)
-    op_pays (Bin kind to left right) i u z =
+    op_pays (Bin kind to left right) i u z plain =
         applied_pays kind to left right i u (bin_trap kind (w.values left) (w.values right)) refl
-    op_pays (CheckDivision left right) i u z =
+    op_pays (CheckDivision left right) i u z plain =
         let trap = signed_trap (w.values left) (w.values right) in
         let o = CheckDivision left right in
         let least = unless_least trap (goes_on (moved_on w) waiting (paid o log)) (paid o log) (omega arith) in
-        begun_at (act s.program o w arguments answer waiting log)
+        begun_at (act text o w arguments answer waiting log)
         (operand_gentle o left _ i refl (and_parts (w.on left) (w.on right) u).0
         (append_assoc (load_code 24 ((layout_of f places).spot left)) _ _)) (omega (arith, least))
         (division_check_pays s st w arguments answer waiting log d h left right i u trap refl)
-    op_pays (CheckZero divisor) i u z =
+    op_pays (CheckZero divisor) i u z plain =
         let trap = zero_trap (w.values divisor) in
         let o = CheckZero divisor in
         let least = unless_least trap (goes_on (moved_on w) waiting (paid o log)) (paid o log) (omega arith) in
-        begun_at (act s.program o w arguments answer waiting log)
+        begun_at (act text o w arguments answer waiting log)
         (operand_gentle o divisor _ i refl (and_parts (w.on divisor) true u).0
         (append_assoc (load_code 24 ((layout_of f places).spot divisor)) _ _)) (omega (arith, least))
         (zero_check_pays s st w arguments answer waiting log d h divisor i u trap refl)
-    op_pays (Un kind to from) i u z = begun_at (act s.program (Un kind to from) w arguments answer waiting log)
+    op_pays (Un kind to from) i u z plain = begun_at (act text (Un kind to from) w arguments answer waiting log)
         (operand_gentle (Un kind to from) from _ i refl (and_parts (w.on from) true u).0
         (append_assoc (load_code 24 ((layout_of f places).spot from)) _ _)) (omega arith)
         (un_pays s st w arguments answer waiting log d h kind to from i u)
-    op_pays (FrameAddress to offset) i u z =
-        begun_at (act s.program (FrameAddress to offset) w arguments answer waiting log)
+    op_pays (FrameAddress to offset) i u z plain =
+        begun_at (act text (FrameAddress to offset) w arguments answer waiting log)
         (head (FrameAddress to offset) _ (one_stands s.code f places stands w.index (FrameAddress to offset) i).0 refl
         tt)
         (omega arith) (address_pays s st w arguments answer waiting log d h to offset i)
-    op_pays (Load kind to from) i u z =
-        begun_at (act s.program (Load kind to from) w arguments answer waiting log)
+    op_pays (Load kind to from) i u z plain =
+        begun_at (act text (Load kind to from) w arguments answer waiting log)
         (operand_gentle (Load kind to from) from _ i refl (and_parts (w.on from) true u).0
         (append_assoc (load_code 24 ((layout_of f places).spot from)) _ _))
         (access_least (access_trap (w.values from) kind) log (paid (Load kind to from) log) _ (omega arith)
         (omega arith))
         (load_pays s st w arguments answer waiting log d h kind to from i u)
-    op_pays (Store kind to from) i u z =
-        begun_at (act s.program (Store kind to from) w arguments answer waiting log)
+    op_pays (Store kind to from) i u z plain =
+        begun_at (act text (Store kind to from) w arguments answer waiting log)
         (operand_gentle (Store kind to from) to _ i refl (and_parts (w.on to) (w.on from) u).0
         (append_assoc (load_code 24 ((layout_of f places).spot to)) _ _))
         (access_least (access_trap (w.values to) kind) log (paid (Store kind to from) log) _ (omega arith)
         (omega arith))
         (store_pays s st w arguments answer waiting log d h kind to from i u)
-    op_pays (Clear offset words) i u z =
+    op_pays (Clear offset words) i u z plain =
         cleared_pays offset words (are_objects (address_of offset w log) words) refl i
-    op_pays (Label label) i u z = label_pays s st w arguments answer waiting log d h q label le i
-    op_pays (Jump label) i u z = begun_at (act s.program (Jump label) w arguments answer waiting log)
+    op_pays (Label label) i u z plain = label_pays s st w arguments answer waiting log d h q label le i
+    op_pays (Jump label) i u z plain = begun_at (act text (Jump label) w arguments answer waiting log)
         (head (Jump label) _ (one_stands s.code f places stands w.index (Jump label) i).0 refl tt) (omega arith)
         (jump_pays s st w arguments answer waiting log d h label i)
-    op_pays (BranchZero test label) i u z =
-        begun_at (act s.program (BranchZero test label) w arguments answer waiting log)
+    op_pays (BranchZero test label) i u z plain =
+        begun_at (act text (BranchZero test label) w arguments answer waiting log)
         (operand_gentle (BranchZero test label) test _ i refl (and_parts (w.on test) true u).0
         (append_assoc (load_code 24 ((layout_of f places).spot test)) _ _)) (omega arith)
         (zero_pays s st w arguments answer waiting log d h test label i u)
-    op_pays (BranchNonzero test label) i u z =
-        begun_at (act s.program (BranchNonzero test label) w arguments answer waiting log)
+    op_pays (BranchNonzero test label) i u z plain =
+        begun_at (act text (BranchNonzero test label) w arguments answer waiting log)
         (operand_gentle (BranchNonzero test label) test _ i refl (and_parts (w.on test) true u).0
         (append_assoc (load_code 24 ((layout_of f places).spot test)) _ _)) (omega arith)
         (nonzero_pays s st w arguments answer waiting log d h test label i u)
-    op_pays (Argument k from) i u z = begun_at (act s.program (Argument k from) w arguments answer waiting log)
+    op_pays (Argument k from) i u z plain = begun_at (act text (Argument k from) w arguments answer waiting log)
         (operand_gentle (Argument k from) from _ i refl (and_parts (w.on from) true u).0
         (append_assoc (load_code 24 ((layout_of f places).spot from)) _ _)) (omega arith)
         (argument_pays s st w arguments answer waiting log k from d z i u h)
-    op_pays (GetParameter to k) i u z = taken_pays to k (w.parameters k) refl i
-    op_pays (Call address) i u z = call_pays address (s.program.function_at address) refl i
-    op_pays (CallNumber number n) i u z = numbered_pays number n z i u
-    op_pays (Result to) i u z = got_pays to answer refl i
-    op_pays (Return from) i u z =
+    op_pays (GetParameter to k) i u z plain = taken_pays to k (w.parameters k) refl i
+    op_pays (Call address) i u z plain = call_pays address (text.function_at address)
+        (text_function text s ex address (text.function_at address) refl) i
+    op_pays (CallNumber number n) i u z plain = numbered_pays number n z i u
+    op_pays (Result to) i u z plain = got_pays to answer refl i
+    op_pays (Return from) i u z plain =
         let least = back_least (w.values from) waiting (left w.function (paid (Return from) log)) in
-        begun_at (act s.program (Return from) w arguments answer waiting log)
+        begun_at (act text (Return from) w arguments answer waiting log)
         (operand_gentle (Return from) from _ i refl (and_parts (w.on from) true u).0
         (append_assoc (load_code 24 ((layout_of f places).spot from)) _ _)) (omega (arith, least))
         (return_pays s st w arguments answer waiting log d from i u h)
-    op_pays ReturnZero i u z =
+    op_pays ReturnZero i u z plain =
         let least = back_least 0 waiting (left w.function (paid ReturnZero log)) in
-        begun_at (act s.program ReturnZero w arguments answer waiting log)
+        begun_at (act text ReturnZero w arguments answer waiting log)
         (head ReturnZero _ (one_stands s.code f places stands w.index ReturnZero i).0 refl tt)
         (omega (arith, least)) (zero_return_pays s st w arguments answer waiting log d i h)
-    op_pays (Sys kind to from) i u z = begun_at (act s.program (Sys kind to from) w arguments answer waiting log)
+    op_pays (Sys kind to from) i u z plain = begun_at (act text (Sys kind to from) w arguments answer waiting log)
         (operand_gentle (Sys kind to from) from _ i refl (and_parts (w.on from) true u).0
         (append_assoc (load_code 24 ((layout_of f places).spot from)) _ _))
-        (service_least s.program kind to from w arguments answer waiting log)
+        (service_least text kind to from w arguments answer waiting log)
         (service_pays s st w arguments answer waiting log d h kind to from i u)
-    op_pays (Run Malloc to from) i u z =
-        begun_at (act s.program (Run Malloc to from) w arguments answer waiting log)
-        (operand_gentle (Run Malloc to from) from _ i refl (and_parts (w.on from) true u).0
+    op_pays (Run run.Malloc to from) i u z plain =
+        begun_at (act text (Run run.Malloc to from) w arguments answer waiting log)
+        (operand_gentle (Run run.Malloc to from) from _ i refl (and_parts (w.on from) true u).0
         (append_assoc (load_code 24 ((layout_of f places).spot from)) _ _)) (omega arith)
         (malloc_pays s st w arguments answer waiting log d h to from i u)
-    op_pays o i u z = absurd z
+    op_pays (Run run.Compile to from) i u z plain = absurd cc
+    op_pays (Run run.Local to from) i u z plain = absurd cc
+    op_pays (Run run.Parameter to from) i u z plain = absurd cc
+    op_pays (Run run.Begin to from) i u z plain = absurd cc
+    op_pays (Run run.Expression to from) i u z plain = absurd cc
+    op_pays (Run run.Statement to from) i u z plain = absurd cc
+    op_pays (Run run.Variable to from) i u z plain = absurd cc
+    op_pays (New to address kind captures) i u z plain = absurd cc
+    op_pays (Put capture from) i u z plain = absurd cc
 
     used_pays : (b : Bool) (o : Op) → slice_get f.ops w.index ≡ Some o → uses_on o w.on ≡ b → IsServed o
-        → Pays s (if b then act s.program o w arguments answer waiting log else Stuck log) log (behind s.code a q d)
-    used_pays true o i u z = op_pays o i u z
-    used_pays false o i u z = stuck_any log q a d h.memory
+        → is_of_ticks o ≡ false
+        → Pays s (if b then act text o w arguments answer waiting log else Stuck log) log (behind s.code a q d)
+    used_pays true o i u z plain = op_pays o i u z plain
+    used_pays false o i u z plain = stuck_any log q a d h.memory
 
-    pub checked_pays : (x : Option Op) → slice_get f.ops w.index ≡ x
-        → Pays s (checked s.program x w arguments answer waiting log) log (behind s.code a q d)
-    checked_pays None i = stuck_any log q a d h.memory
-    checked_pays (Some o) i =
+    pub checked_pays : (o : Op) → slice_get f.ops w.index ≡ Some o → is_of_ticks o ≡ false
+        → Pays s (checked text (Some o) w arguments answer waiting log) log (behind s.code a q d)
+    checked_pays o i plain =
         used_pays (uses_on o w.on) o i refl (subst IsServed (op_found f.ops w.index o i).is
-        (sv.ops f.address f h.known w.index))
+        (sv.ops f.address f h.known w.index)) plain
 
-  pub simulates : (a : staged.State) (b : World) → (see a).ending ≡ None → Related s a b
-      → SimulatesStep (advance s.program) step least_at most_at (Related s) a b
-  simulates (Running w arguments answer waiting log) b none r =
-      let x = r.1 in
-      let p = checked_pays w arguments answer waiting log x.d x.holds x.recent x.few (slice_get w.function.ops w.index)
-      refl in
-      record {
-        count = p.count;
-        from = p.low;
-        to = p.high;
-        related = subst (λ z. Related s (advance s.program (Running w arguments answer waiting log))
-            (iterate step p.count z)) (sym x.is) p.related;
-      }
-  simulates (Zeroing more address w waiting log) b none r =
-      let x = r.1 in
-      let p = round_pays s st w waiting x.offset x.words x.op more address log x.d x.holds x.next x.end x.from x.to
-      x.even in
-      record {
-        count = p.count;
-        from = p.low;
-        to = p.high;
-        related =
-            subst (λ z. Related s (advance s.program (Zeroing more address w waiting log)) (iterate step p.count z))
-            (sym x.is)
-            p.related;
-      }
-  simulates (Halted e log) b none r = absurd (no_end none)
-  simulates (Stuck log) b none r = record { count = 0; from = omega arith; to = omega arith; related = r }
+pub ops_pay : OpsPay
+ops_pay text s st ex sv none w arguments answer waiting log d h recent few o i plain =
+    checked_pays text s st ex sv none w arguments answer waiting log d h recent few o i plain
 
-module _ (s : Setting) (main : Function) (shared : Shared) (n : ℕ) (w : World) (st : Standing s) (sv : Serving s)
+pub words_pay : WordsPay
+words_pay s st more address w waiting log b x =
+    round_pays s st w waiting x.offset x.words x.op more address log x.d x.holds x.next x.end x.from x.to x.even
+
+module _ (s : Setting) (main : Function) (shared : Shared) (n : ℕ) (w : World) (st : Standing s)
     (arrived : Arrives s main shared n w) where
   abbrev log0 : Log
   log0 = record { shared = shared; active = 0; least = 1; most = 1 }
@@ -412,72 +409,22 @@ module _ (s : Setting) (main : Function) (shared : Shared) (n : ℕ) (w : World)
       }
 
   start : Begun s main nothing [] log0 arrived.d
-  start = holds_begun s st main arrived.known nothing [] log0 arrived.d enters
+  start = holds_begun s st main arrived.known
+      (front_known s st main.address main arrived.known arrived.static) nothing [] log0 arrived.d enters
       (omega (arith, arrived.unused, arrived.fits)) (omega (arith, arrived.none, arrived.objects_fit))
 
-  abbrev count : ℕ
-  count = n + start.runs.count
-
-  related : Related s (first main shared) (iterate step count w)
+  related : Related s (first main shared) (iterate step (n + start.runs.count) w)
   related =
       let by = iterate_add step n start.runs.count w ∙ ap (iterate step start.runs.count) arrived.arrives
       ∙ start.runs.reaches.by in
       (st, record { d = start.after; holds = start.holds; recent = 0; few = omega arith; is = by })
 
-  pub program_pays : PaysFor (n + 32) (λ i. see (iterate (advance s.program) i (first main shared)))
-      (λ i. least_at (iterate (advance s.program) i (first main shared)))
-      (λ i. most_at (iterate (advance s.program) i (first main shared))) (λ k. machine.see (iterate step k w))
-  program_pays =
-      pays_for (advance s.program) step least_at most_at see machine.see (Related s) (same_seen s) (halts s)
-      (simulates s st sv) (n + 32)
-      (first main shared) w count related (omega (arith, start.runs.over)) (omega (arith, start.runs.under))
+  pub main_starts : (count : ℕ) × (n + 9 ≤ count) × (count ≤ n + 32) × Related s (first main shared)
+      (iterate step count w)
+  main_starts =
+      let over = start.runs.over in
+      let under = start.runs.under in
+      (n + start.runs.count, omega (arith, over), omega (arith, under), related)
 
-  -- the same for the code and what was made in place of the history
-  abbrev pub code_of_upper : staged.State → Seen (Code × Making) End
-  code_of_upper a = record { history = (s.code, s.making) ∷ []; ending = (see a).ending }
-
-  abbrev pub code_of_lower : World → Seen (Code × Making) End
-  code_of_lower b = record { history = (b.state.code, b.state.d.outside.making) ∷ []; ending = b.ending }
-
-  code_seen : (a : staged.State) (b : World) → Related s a b → code_of_upper a ≡ code_of_lower b
-  code_seen a b r =
-      ap (λ z. record { history = (s.code, s.making) ∷ []; ending = z })
-      (ap (λ (z : Seen Item End). z.ending) (same_seen s a b r))
-      ∙ (ap (λ (z : Code). record { history = (z, s.making) ∷ []; ending = b.ending }) (sym (same_code s a b r))
-      ∙ ap (λ (m : Making). record { history = (b.state.code, m) ∷ []; ending = b.ending })
-      (sym (same_making s a b r)))
-
-  pub paid_in_code : PaysFor (n + 32) (λ i. code_of_upper (iterate (advance s.program) i (first main shared)))
-      (λ i. least_at (iterate (advance s.program) i (first main shared)))
-      (λ i. most_at (iterate (advance s.program) i (first main shared))) (λ k. code_of_lower (iterate step k w))
-  paid_in_code =
-      pays_for (advance s.program) step least_at most_at code_of_upper code_of_lower (Related s) code_seen (halts s)
-      (simulates s st sv) (n + 32)
-      (first main shared) w count related (omega (arith, start.runs.over)) (omega (arith, start.runs.under))
-
-pub simulated : ProgramIsSimulated
-unfolding run
-simulated s main shared n w st sv arrived = program_pays s main shared n w st sv arrived
-
-abbrev only : Code → Making → List (Code × Making)
-only c m = (c, m) ∷ []
-
-abbrev head_of : Code × Making → List (Code × Making) → Code × Making
-head_of other [] = other
-head_of other (x ∷ xs) = x
-
-one_code : (c d : Code) (m n : Making) → only c m ≡ only d n → (d ≡ c) × (n ≡ m)
-one_code c d m n e = (
-  sym (ap (λ (l : List (Code × Making)). (head_of (c, m) l).0) e),
-  sym (ap (λ (l : List (Code × Making)). (head_of (c, m) l).1) e),
-)
-
-pub code_kept : ProgramKeepsCode
-unfolding run
-code_kept s main shared n w st sv arrived =
-    let p = paid_in_code s main shared n w st sv arrived in
-    record {
-      goes_on = λ i none. let a = p.goes_on i none in
-          let x = one_code s.code _ s.making _ a.4 in (a.0, a.1, a.3, x.0, x.1);
-      ends = λ i e is. let a = p.ends i e is in let x = one_code s.code _ s.making _ a.3 in (a.0, a.2, x.0, x.1);
-    }
+pub main_begins : MainBegins
+main_begins s main shared n w st arrived = main_starts s main shared n w st arrived

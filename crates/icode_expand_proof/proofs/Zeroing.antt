@@ -2,26 +2,24 @@
 use Rattle.std.proofs.Common.{◌≡◌, ℕ, zero, suc, ◌+◌, ◌*◌, ◌/◌, ◌%◌, ◌<◌, ◌≤◌, Bool, true, false, List}
 use Rattle.std.proofs.Common.{Option, Some, None, refl, sym, ap, ◌∙◌, subst, arith, nat_eq, nat_le, if◌then◌else◌}
 use Rattle.std.proofs.Common.{slice_get}
-use Rattle.std.specs.Fn.{iterate}
 use Rattle.std.proofs.lemmas.Bool.Decides.{nat_tests}
 use Rattle.word32.specs.declared.map.TheConstants.{OBJECTS, OBJECTS_END, SEGMENT_BYTES}
 use Rattle.word32.specs.Words.{difference}
 use Rattle.word32.specs.Space.{update}
 use Rattle.mips_model.specs.State.{Data, World}
-use Rattle.mips_model.specs.Steps.{step, going}
-use Rattle.mips_model.specs.Run as run
+use Rattle.mips_model.specs.Steps.{going}
 use Rattle.mips_model.specs.Laws.{HasAt, at, Reaches}
 use Rattle.meaning_state.specs.Shared.{Shared, zeroed, are_objects}
 use Rattle.icode_ops.specs.declared.op.Op.{Op}
 use Rattle.icode_ops.specs.declared.op.Op.TheVariants.{Clear}
 use Rattle.icode_ops.specs.Live.{Live}
 use Rattle.icode_templates.specs.Templates.{clear_loop}
-use Rattle.icode_meaning.specs.State.{Function, Frame, Log, Stuck, nothing, see}
+use Rattle.icode_meaning.specs.State.{Function, Frame, Log, nothing}
 use Rattle.icode_meaning.specs.Steps.{paid, moved, address_of, zeroing, zeroed_on, word_zeroed}
 use Rattle.icode_templates_proof.proofs.Memory.{update_other}
 use Rattle.icode_templates_proof.proofs.Leaves.{leaves_run}
 use Rattle.icode_templates_proof.proofs.Keeping.{value_kept}
-use Rattle.icode_expand_proof.specs.Standing.{layout_of, op_stands_at, Stands}
+use Rattle.icode_expand_proof.specs.Standing.{layout_of, op_stands_at, OpsStand}
 use Rattle.icode_expand_proof.specs.Settings.{Setting, places_of, Standing}
 use Rattle.icode_expand_proof.specs.Frames.{Alike}
 use Rattle.icode_expand_proof.specs.Relation.{MemoryAgrees, Holds, Pays}
@@ -33,6 +31,7 @@ use Rattle.icode_expand_proof.proofs.Paying.{none_passed, extents_kept}
 use Rattle.icode_expand_proof.proofs.Within.{Within, holds_next, keeps_within}
 use Rattle.icode_expand_proof.proofs.Clears.{both_code, both_in, both_leaves, both_keep, round, goes_round, goes_past}
 use Rattle.icode_expand_proof.proofs.Clears.{same_words}
+use Rattle.icode_expand_proof.proofs.Memory.{written_as, then_made, same_made, history_as, left_as}
 
 all_three : (a b c : Bool) → (if a then (if b then c else false) else false) ≡ true → (a ≡ true) × (b ≡ true)
     × (c ≡ true)
@@ -95,6 +94,8 @@ memory_round s shared active address d h = record {
   active_word = h.active_word;
   table = h.table;
   making = h.making;
+  written = written_as refl refl refl refl h.written;
+  made = then_made h.made (same_made shared (zeroed address 1 shared) refl refl refl);
 }
 
 module _ (s : Setting) (st : Standing s) where
@@ -128,7 +129,7 @@ module _ (s : Setting) (st : Standing s) where
     a = op_stands_at f places w.index
 
     module _ (known : s.program.function_at w.function.address ≡ Some w.function) where
-      stands : Stands s.code f places
+      stands : OpsStand s.code f places
       stands = (st.functions f.address f known).1
 
       code : HasAt s.code a (op_code f places o)
@@ -244,12 +245,6 @@ module _ (s : Setting) (st : Standing s) where
       last_is : address + 4 * words ≤ OBJECTS_END → mid.registers 25 ≡ address + 4 * words
       last_is top = omega (arith, h.extents.frames, h.ready.objects_from, top)
 
-      stuck_seen : see (Stuck (paid o log)) ≡ run.see (iterate step 6 (going (at s.code a 0 d)))
-      stuck_seen =
-          let same : see (Stuck (paid o log)) ≡ run.see (going (at s.code (a + 24) 0 mid)) =
-          ap (λ q. record { history = q; ending = None }) (sym holds_mid.memory.history) in
-          same ∙ ap run.see (sym comes.by)
-
       pub clear_pays : are_objects address words ≡ true → Pays s (zeroing words address w waiting (paid o log)) log
           (at s.code a 0 d)
       clear_pays e = by words refl (bounds address words e)
@@ -260,11 +255,14 @@ module _ (s : Setting) (st : Standing s) where
             count = 6;
             low = omega arith;
             high = omega arith;
-            related = (
-              stuck_seen,
-              ap (λ (v : World). v.state.code) comes.by,
-              ap (λ (v : World). v.state.d.outside.making) comes.by ∙ holds_mid.memory.making,
-            );
+            related = record {
+              ending = sym (ap (λ (v : World). v.ending) comes.by);
+              history = history_as s refl (sym (ap (λ (v : World). v.state.d.outside.history) comes.by))
+                  holds_mid.memory.history;
+              code = ap (λ (v : World). v.state.code) comes.by;
+              making = left_as s (sym (ap (λ (v : World). v.state.d.outside) comes.by)) holds_mid.memory.making;
+              fair = tt;
+            };
           }
           by (suc more) z b = record {
             count = 6;

@@ -9,7 +9,7 @@ use Rattle.mips_model.specs.Laws.{at}
 use Rattle.icode_meaning.specs.State.{Function}
 use Rattle.icode_templates_proof.specs.Spots.{pointer, Framed}
 use Rattle.icode_templates_proof.specs.Moves.{EndsIn}
-use Rattle.icode_expand_proof.specs.Standing.{Stands}
+use Rattle.icode_expand_proof.specs.Standing.{Stands, OpsStand}
 use Rattle.icode_expand_proof.specs.Runs.{Beginning, Leaving}
 
 -- the frame and its objects are within the limits
@@ -36,6 +36,6 @@ FrameLimitTraps =
 
 abbrev pub FunctionsLeave : Type 0
 FunctionsLeave =
-    (f : Function) (places : List ℕ) (c : Code) (d : Data) → Stands c f places
+    (f : Function) (places : List ℕ) (c : Code) (d : Data) → OpsStand c f places
     → Framed (pointer d) f.charge → d.registers 28 ≡ GLOBAL_POINTER → f.object ≤ d.registers 30
     → d.registers 30 < 4294967296 → Leaving f places c d

@@ -1,34 +1,33 @@
--- The second seam: what the machine does with the words of a program's functions is what the staged machine does with
--- their ops, with the same history and the same ending, and each op pays for the instructions that are executed for it.
-use Rattle.std.specs.Prelude.{◌≡◌, ℕ, ◌+◌, ◌≤◌, true, List, Option, Some, None, slice_get}
+-- Steps of the second seam: what the machine does with the words of an op is what the staged machine does with the op,
+-- and each op pays for the instructions that are executed for it.
+use Rattle.std.specs.Prelude.{◌≡◌, ℕ, ◌+◌, ◌≤◌, true, false, List, [], Option, Some, slice_get}
 use Rattle.std.specs.Fn.{iterate}
-use Rattle.pace.specs.Claims.{PaysFor}
-use Rattle.history.specs.Events.{End}
 use Rattle.word32.specs.declared.map.TheConstants.{GLOBAL_POINTER, STACK_BYTES}
-use Rattle.mips_model.specs.State.{Making, Code, Data, World}
-use Rattle.mips_model.specs.Steps.{step, going, run}
-use Rattle.mips_model.specs.Run as machine
+use Rattle.mips_model.specs.State.{Data, World}
+use Rattle.mips_model.specs.Steps.{step, going}
 use Rattle.mips_model.specs.Laws.{at}
 use Rattle.meaning_state.specs.Shared.{Shared}
+use Rattle.icode_ops.specs.declared.op.Op.{Op}
 use Rattle.icode_ops.specs.declared.op.Op.TheVariants.{Call, Return}
-use Rattle.icode_meaning.specs.State.{Function, Frame, Log, State, see, least_at, most_at}
-use Rattle.icode_meaning.specs.Steps.{uses_on, call_at, back, left, paid, advance, first}
+use Rattle.icode_meaning.specs.State.{Function, Program, Frame, Log}
+use Rattle.icode_meaning.specs.Steps.{uses_on, call_at, back, left, paid, checked, zeroed_on, word_zeroed, first}
+use Rattle.icode_templates_proof.specs.Moves.{behind}
 use Rattle.icode_expand_proof.specs.Standing.{op_stands_at}
-use Rattle.icode_expand_proof.specs.Settings.{Setting, places_of, Standing}
-use Rattle.icode_expand_proof.specs.Relation.{MemoryAgrees, ExtentsAgree, Holds, Pays}
-use Rattle.icode_expand_proof.specs.Served.{Serving}
+use Rattle.icode_expand_proof.specs.Settings.{Setting, places_of, Standing, Extends}
+use Rattle.icode_expand_proof.specs.Relation.{MemoryAgrees, ExtentsAgree, Holds, ZeroesAt, Related, Pays}
+use Rattle.icode_expand_proof.specs.Served.{Serving, is_of_ticks}
 use Rattle.limits.specs.declared.program.TheConstants.{FRAME_OBJECT_BYTES}
 
 -- A call and a return lead from a related state to a related state, within the cost of their ops, under all legal
 -- places of both functions: with the callee's prologue and the limits, and with the caller's registers restored.
 abbrev pub CallsPay : Type 0
 CallsPay =
-    (s : Setting) → Standing s
+    (text : Program) (s : Setting) → Standing s → Extends text s
     → (w : Frame) (arguments : ℕ → Option ℕ) (answer : Option ℕ) (waiting : List Frame) (log : Log) (d : Data)
     (address : ℕ)
     → slice_get w.function.ops w.index ≡ Some (Call address)
     → Holds s w arguments answer waiting log d
-    → Pays s (call_at (Call address) (s.program.function_at address) w arguments waiting log) log
+    → Pays s (call_at (Call address) (text.function_at address) w arguments waiting log) log
     (at s.code (op_stands_at w.function (places_of s w.function) w.index) 0 d)
 
 abbrev pub ReturnsPay : Type 0
@@ -54,30 +53,31 @@ pub record Arrives (s : Setting) (main : Function) (shared : Shared) (n : ℕ) (
   pub unused : shared.used ≡ 0
   pub none : shared.frames ≡ 0
   pub fits : main.charge ≤ STACK_BYTES
+  pub static : main.compiled ≡ false
   pub objects_fit : main.object ≤ FRAME_OBJECT_BYTES
 
-abbrev pub ProgramIsSimulated : Type 0
-ProgramIsSimulated =
-    (s : Setting) (main : Function) (shared : Shared) (n : ℕ) (w : World)
-    → Standing s → Serving s → Arrives s main shared n w
-    → PaysFor (n + 32) (λ i. see (iterate (advance s.program) i (first main shared)))
-    (λ i. least_at (iterate (advance s.program) i (first main shared)))
-    (λ i. most_at (iterate (advance s.program) i (first main shared)))
-    (λ k. machine.see (run k w))
+-- Each op of a running call but those of ticks leads from a related state to a related state, within its cost, where HI
+-- and LO may have been read just before it, and no function is compiled.
+abbrev pub OpsPay : Type 0
+OpsPay =
+    (text : Program) (s : Setting) → Standing s → Extends text s → Serving s → s.made.bodies ≡ []
+    → (w : Frame) (arguments : ℕ → Option ℕ) (answer : Option ℕ) (waiting : List Frame) (log : Log) (d : Data)
+    → Holds s w arguments answer waiting log d → (recent : ℕ) → recent ≤ 1
+    → (o : Op) → slice_get w.function.ops w.index ≡ Some o → is_of_ticks o ≡ false
+    → Pays s (checked text (Some o) w arguments answer waiting log) log
+    (behind s.code (op_stands_at w.function (places_of s w.function) w.index) recent d)
 
--- Wherever the staged machine has come to, the machine comes there with the code as it was, and no code made: later
--- than the least cost, while it hasn't ended, and else where the machine has ended alike.
-pub record KeepsCode (c : Code) (m : Making) (w : World) (upper : ℕ → State) : Type 0 where
-  pub goes_on :
-      (i : ℕ) → (see (upper i)).ending ≡ None →
-      (n : ℕ) × (least_at (upper i) ≤ n) × ((run n w).ending ≡ None) × ((run n w).state.code ≡ c)
-      × ((run n w).state.d.outside.making ≡ m)
-  pub ends :
-      (i : ℕ) (e : End) → (see (upper i)).ending ≡ Some e → (n : ℕ) × ((run n w).ending ≡ Some e)
-      × ((run n w).state.code ≡ c) × ((run n w).state.d.outside.making ≡ m)
+-- and so does each word that a Clear sets to 0
+abbrev pub WordsPay : Type 0
+WordsPay =
+    (s : Setting) → Standing s → (more address : ℕ) (w : Frame) (waiting : List Frame) (log : Log) (b : World)
+    → (z : ZeroesAt s more address w waiting log b)
+    → Pays s (zeroed_on more address w waiting (word_zeroed address log)) log
+    (at s.code (op_stands_at w.function (places_of s w.function) w.index + 24) 0 z.d)
 
-abbrev pub ProgramKeepsCode : Type 0
-ProgramKeepsCode =
+-- From main's first word on the machine comes to main's first op.
+abbrev pub MainBegins : Type 0
+MainBegins =
     (s : Setting) (main : Function) (shared : Shared) (n : ℕ) (w : World)
-    → Standing s → Serving s → Arrives s main shared n w
-    → KeepsCode s.code s.making w (λ i. iterate (advance s.program) i (first main shared))
+    → Standing s → Arrives s main shared n w
+    → (count : ℕ) × (n + 9 ≤ count) × (count ≤ n + 32) × Related s (first main shared) (iterate step count w)

@@ -1,11 +1,12 @@
 -- The ops whose simulation is proved; others join as cases. What each names is bounded as the ops of a builder are.
-use Rattle.std.specs.Prelude.{◌≡◌, ℕ, ◌<◌, ◌≤◌, Some}
+use Rattle.std.specs.Prelude.{◌≡◌, ℕ, ◌<◌, ◌≤◌, Bool, true, false, Some}
 use Rattle.word32.specs.declared.map.TheConstants.{SEGMENT_BYTES}
+use Rattle.limits.specs.declared.ops.TheConstants.{MOST_CAPTURES}
 use Rattle.icode_ops.specs.declared.op.Op.{Op}
 use Rattle.icode_ops.specs.declared.op.Op.TheVariants.{Const, Move, Bin, FrameAddress, Load, Store, Clear, Label}
 use Rattle.icode_ops.specs.declared.op.Op.TheVariants.{Jump, BranchZero, BranchNonzero, CheckDivision, CheckZero, Un}
 use Rattle.icode_ops.specs.declared.op.Op.TheVariants.{Argument, GetParameter, Call, CallNumber, Result, Return}
-use Rattle.icode_ops.specs.declared.op.Op.TheVariants.{ReturnZero, Sys, Run}
+use Rattle.icode_ops.specs.declared.op.Op.TheVariants.{ReturnZero, Sys, Run, New, Put}
 use Rattle.icode_ops.specs.declared.kind.RunKind.TheVariants.{Malloc}
 use Rattle.icode_ops.specs.Flow.{op_at}
 use Rattle.icode_meaning.specs.State.{Function}
@@ -35,8 +36,17 @@ IsServed (Result to) = Unit {0}
 IsServed (Return from) = Unit {0}
 IsServed ReturnZero = Unit {0}
 IsServed (Sys kind to from) = Unit {0}
-IsServed (Run Malloc to from) = Unit {0}
-IsServed op = ⊥
+IsServed (Run routine to from) = Unit {0}
+IsServed (New to address kind captures) = (address < 4294967296) × (captures ≤ MOST_CAPTURES)
+IsServed (Put capture from) = capture < MOST_CAPTURES
+
+-- what makes a specification, or a function of one
+abbrev pub is_of_ticks : Op → Bool
+is_of_ticks (Run Malloc to from) = false
+is_of_ticks (Run routine to from) = true
+is_of_ticks (New to address kind captures) = true
+is_of_ticks (Put capture from) = true
+is_of_ticks o = false
 
 -- each op of each function is served
 pub record Serving (s : Setting) : Type 0 where

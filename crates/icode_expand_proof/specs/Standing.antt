@@ -1,6 +1,6 @@
 -- The code of a function under places of its registers, when it stands in memory, and when its words do. The rules are
 -- this project's own.
-use Rattle.std.specs.Prelude.{◌≡◌, ℕ, ◌+◌, ◌*◌, ◌/◌, ◌%◌, ◌<◌, ◌≤◌, List, [], ◌∷◌, length, Some}
+use Rattle.std.specs.Prelude.{◌≡◌, ℕ, ◌+◌, ◌*◌, ◌/◌, ◌%◌, ◌<◌, ◌≤◌, List, [], ◌∷◌, ◌++◌, length, Some}
 use Rattle.mips_encoder.specs.declared.instruction.Instr.{Instr}
 use Rattle.mips_encoder.specs.Addresses.{past}
 use Rattle.mips_model.specs.State.{Code}
@@ -13,7 +13,7 @@ use Rattle.icode_templates.specs.Layout.{Layout, laid}
 use Rattle.icode_templates.specs.Templates.{ToEpilogue}
 use Rattle.icode_templates.specs.Frames.{prologue, epilogue}
 use Rattle.icode_saves.specs.Places.{saved}
-use Rattle.icode_templates.specs.Expansion.{op_address, aims, expansion}
+use Rattle.icode_templates.specs.Expansion.{op_address, aims, body, expansion}
 use Rattle.icode_meaning.specs.State.{Function}
 use Rattle.limits.specs.declared.run.TheConstants.{MOST_FRAME_BYTES, STACK_OF_A_CALL}
 use Rattle.word32.specs.declared.map.TheConstants.{SEGMENT_BYTES}
@@ -59,6 +59,12 @@ pub record Suits (f : Function) (places : List ℕ) : Type 0 where
 pub record Stands (c : Code) (f : Function) (places : List ℕ) : Type 0 where
   pub suits : Suits f places
   pub code : HasAt c f.address (code_of f places)
+
+-- Its ops and what is behind them stand: so it runs, once it has begun. What begins it may be an entry, at which a run
+-- is told of.
+pub record OpsStand (c : Code) (f : Function) (places : List ℕ) : Type 0 where
+  pub suits : Suits f places
+  pub code : HasAt c (ops_at f places) (body (layout_of f places) (ops_at f places) f.ops ++ back_code f places)
 
 -- words stand in the text, one behind another
 abbrev pub WordsAt : Code → ℕ → List ℕ → Type 0

@@ -1,15 +1,16 @@
-//! The machine of instructions simulates the staged machine: what the words of an expansion do is what its ops do. There
-//! is no code to run here: each function's contract is a law.
+//! The machine of instructions simulates the staged machine: what the words of an expansion do is what its ops do.
+//! There is no code to run here: each function's contract is a law.
 //!
 //! The definitions: when a function stands in memory under places of its registers, the calling convention, the frames
-//! of the calls that wait, and the simulation relation. The laws: what a function's prologue and epilogue do; the ops that
-//! stay in their function keep the relation, for the running call and for all that wait; calls, returns, and the whole.
+//! of the calls that wait, and the simulation relation. The laws: what a function's prologue and epilogue do; the ops
+//! that stay in their function keep the relation, for the running call and for all that wait; calls, returns, and all
+//! ops but those of ticks.
 #![tactic(auto)]
 
 ghost use Rattle.icode_expand_proof.specs.FrameLaws.{FrameLimitTraps, FunctionsBegin, FunctionsLeave, StackLimitTraps};
 ghost use Rattle.icode_expand_proof.specs.StepLaws.{GrowthKeeps};
 ghost use Rattle.icode_expand_proof.specs.WordLaws.{LegalPlacesSuit, WordsSuffice};
-ghost use Rattle.icode_expand_proof.specs.Laws.{CallsPay, ProgramIsSimulated, ProgramKeepsCode, ReturnsPay};
+ghost use Rattle.icode_expand_proof.specs.Laws.{CallsPay, MainBegins, OpsPay, ReturnsPay, WordsPay};
 
 /// A function's prologue takes its frame and its objects and saves what its caller will find again.
 pub fn functions_begin()
@@ -57,14 +58,17 @@ pub fn returns_pay()
     ensures { ReturnsPay }
 {}
 
-/// The second seam, for programs of any functions, with recursion: under any legal places of their registers, a run of
-/// their words has the history and the ending of the staged machine's run of their ops, and executes as many
-/// instructions as the ops cost.
-pub fn program_is_simulated()
-    ensures { ProgramIsSimulated }
+/// Each op of a running call but those of ticks leads from a related state to a related state, within its cost.
+pub fn ops_pay()
+    ensures { OpsPay }
 {}
 
-/// At each op of the staged machine's run the machine's code is as it was, the arena's words and their states too.
-pub fn program_keeps_code()
-    ensures { ProgramKeepsCode }
+/// So does each word that is set to 0.
+pub fn words_pay()
+    ensures { WordsPay }
+{}
+
+/// From main's first word on the machine comes to main's first op.
+pub fn main_begins()
+    ensures { MainBegins }
 {}

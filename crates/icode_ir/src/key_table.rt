@@ -36,7 +36,10 @@ impl Model for KeyTable {
 }
 
 impl KeyTable {
-    /// A table without keys, with room for the keys below 262,152. The only error is want of memory.
+    /// A table without keys, with room for the keys below 262,152.
+    ///
+    /// # Errors
+    /// Where memory is wanting.
     pub fn new(alloc: Global) -> Result<Self, AllocError>
         ensures { IfOk result (λ t. t ≡ []) }
     {

@@ -37,7 +37,10 @@ impl Model for LabelTable {
 }
 
 impl LabelTable {
-    /// A table without labels, with room for the 196,608 that a builder may have. The only error is want of memory.
+    /// A table without labels, with room for the 196,608 that a builder may have.
+    ///
+    /// # Errors
+    /// Where memory is wanting.
     pub fn new(alloc: Global) -> Result<Self, AllocError>
         ensures { IfOk result (λ t. t ≡ record { jumped = []; placed = [] }) }
     {

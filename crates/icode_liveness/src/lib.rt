@@ -67,8 +67,10 @@ impl Model for Live {
 }
 
 impl Live {
-    /// Makes the tables, for lists of up to 196,609 ops with up to 393,216 registers. The only error
-    /// is want of memory.
+    /// Makes the tables, for lists of up to 196,609 ops with up to 393,216 registers.
+    ///
+    /// # Errors
+    /// Where memory is wanting.
     pub fn new(alloc: Global) -> Result<Live, AllocError> {
         let jumps = Buckets::new(alloc, MOST_LABELS, SLOTS * MOST_OPS)?;
         let definitions = Buckets::new(alloc, MOST_REGISTERS, SLOTS * MOST_OPS)?;

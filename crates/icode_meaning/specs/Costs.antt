@@ -3,6 +3,7 @@
 -- epilogue, and for the exit behind `main`. Nothing here says how the templates look; that they keep to these bounds
 -- is proved of them. A label costs nothing.
 use Rattle.std.specs.Prelude.{ℕ, ◌+◌, ◌*◌}
+use Rattle.limits.specs.declared.cost.TheConstants.{UNIT_INSTRUCTIONS}
 use Rattle.icode_ops.specs.declared.op.Op.{Op}
 use Rattle.icode_ops.specs.declared.op.Op.TheVariants.{Const, Move, Bin, CheckDivision, CheckZero, Un, FrameAddress}
 use Rattle.icode_ops.specs.declared.op.Op.TheVariants.{Load, Store, Clear, Label, Jump, BranchZero, BranchNonzero}
@@ -10,8 +11,7 @@ use Rattle.icode_ops.specs.declared.op.Op.TheVariants.{Argument, GetParameter, C
 use Rattle.icode_ops.specs.declared.op.Op.TheVariants.{ReturnZero, Sys, Run, New, Put}
 
 -- An operand from a register takes 1 instruction, and so does a result. An op that traps, or ends the run, pays too, so
--- the
--- least of a check, an access, a call or a service is that of its shortest way to its trap or end.
+-- the least of a check, an access, a call or a service is that of its shortest way to its trap or end.
 abbrev pub least_of : Op → ℕ
 least_of (Const to word) = 3
 least_of (Move to from) = 2
@@ -71,3 +71,11 @@ most_of (Put index from) = 8
 -- a word that a Clear sets to 0 is a step of its own: the four instructions of its loop
 abbrev pub word_cost : ℕ
 word_cost = 4
+
+-- a node that is compiled is a step of its own, which takes what a unit of work may take; what is left of the routine
+-- is paid by its op
+abbrev pub node_least : ℕ
+node_least = 1
+
+abbrev pub node_most : ℕ
+node_most = UNIT_INSTRUCTIONS

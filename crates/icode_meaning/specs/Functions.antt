@@ -21,5 +21,6 @@ abbrev pub row_at : List Published → (number : ℕ) → Option (ℕ × ℕ)
 row_at functions zero = None
 row_at functions (suc n) = row_of (slice_get functions n)
 
-abbrev pub program_of : List Published → Program
-program_of functions = record { function_at = at_address functions; row = row_at functions }
+-- a program of these, whose source and ticks come from elsewhere
+abbrev pub program_of : List Published → Program → Program
+program_of functions rest = record rest { function_at = at_address functions; row = row_at functions }

@@ -1,30 +1,47 @@
 -- The steps of the staged machine: one op each, and one for each word that a Clear sets. A machine that has ended stays
--- so, and so does one that is stuck. Ticks and compile are still to come; their ops are stuck until then.
+-- so, and so does one that is stuck. Compile is still to come: what it does stands here, but its op is stuck until
+-- then.
 use Rattle.std.specs.Prelude.{ℕ, zero, suc, ◌+◌, ◌%◌, Bool, true, false, ◌&&◌, List, [], ◌∷◌, Option, Some, None}
-use Rattle.std.specs.Prelude.{nat_eq, if◌then◌else◌, slice_get}
+use Rattle.std.specs.Prelude.{nat_eq, nat_le, nat_lt, if◌then◌else◌, slice_get, length, max, ◌++◌, ◌-◌, ◌*◌}
 use Rattle.word32.specs.Words.{wrap}
 use Rattle.word32.specs.Space.{update}
 use Rattle.host_edge.specs.declared.ending.Ending.TheVariants.{Done, Trap}
 use Rattle.host_edge.specs.declared.ending.TrapKind.{TrapKind}
-use Rattle.host_edge.specs.declared.ending.TrapKind.TheVariants.{BadCall}
-use Rattle.history.specs.Events.{Ended, ReadFault}
+use Rattle.host_edge.specs.declared.ending.TrapKind.TheVariants.{BadCall, BadSpec}
+use Rattle.history.specs.Events.{Ended, ReadFault, Entered}
+use Rattle.history.specs.Syntax.{Syntax, Ticked}
+use Rattle.meaning_state.specs.Bodies.{Body}
 use Rattle.icode_ops.specs.declared.op.Op.{Op}
 use Rattle.icode_ops.specs.declared.op.Op.TheVariants.{Const, Move, Bin, CheckDivision, CheckZero, Un, FrameAddress}
 use Rattle.icode_ops.specs.declared.op.Op.TheVariants.{Load, Store, Clear, Label, Jump, BranchZero, BranchNonzero}
 use Rattle.icode_ops.specs.declared.op.Op.TheVariants.{Argument, GetParameter, Call, CallNumber, Result, Return}
-use Rattle.icode_ops.specs.declared.op.Op.TheVariants.{ReturnZero, Sys, Run}
+use Rattle.icode_ops.specs.declared.op.Op.TheVariants.{ReturnZero, Sys, Run, New, Put}
 use Rattle.icode_ops.specs.declared.kind.SysKind.TheVariants.{PutInteger, PutByte, GetByte, Exit}
 use Rattle.icode_ops.specs.declared.kind.RunKind.TheVariants as run
+use Rattle.icode_ops.specs.declared.kind.RunKind.{RunKind}
+use Rattle.icode_ops.specs.declared.kind.ClosureKind.{ClosureKind}
+use Rattle.icode_ops.specs.declared.kind.ClosureKind.TheVariants as closure
 use Rattle.icode_ops.specs.Flow.{first_use, second_use}
 use Rattle.icode_ops.specs.Labels.{label_index}
 use Rattle.meaning_state.specs.Operators.{bin_value, un_value, bin_trap, signed_trap, zero_trap}
-use Rattle.meaning_state.specs.Shared.{Shared, Specification, Local, Param, byte_answer, put_byte, put_number}
+use Rattle.meaning_state.specs.Shared.{Shared, Specification, Expression, Statement, Local, Param, happens}
+use Rattle.meaning_state.specs.Shared.{byte_answer, put_byte, put_number}
 use Rattle.meaning_state.specs.Shared.{malloc_answer, malloc, Read, Got, Failed, get_byte, access_trap, loaded, stored}
 use Rattle.meaning_state.specs.Shared.{are_objects, zeroed, frame_start, limit_trap, charged, discharged}
-use Rattle.meaning_state.specs.Rows.{closure_trap, index_trap, next_number, specified}
-use Rattle.icode_meaning.specs.Costs.{least_of, most_of, word_cost}
+use Rattle.meaning_state.specs.Rows.{closure_trap, index_trap, size_trap, next_number, specified, numbered}
+use Rattle.meaning_state.specs.Rows.{specification_at, parameters_of, key_parameters, arena_words, table_trap}
+use Rattle.meaning_state.specs.Rows.{arena_trap, next_function, made}
+use Rattle.typed_tree.specs.declared.expression.CaptureKind.{CaptureKind}
+use Rattle.typed_tree.specs.declared.expression.CaptureKind.TheVariants as kind
+use Rattle.typed_tree.specs.declared.expression.Answer.TheVariants as answer
+use Rattle.staged_meaning.specs.Size.{charge_of}
+use Rattle.staged_meaning.specs.Program as meaning
+use Rattle.staged_meaning.specs.Program.{is_expression, syntax_size}
+use Rattle.staged_meaning.specs.Specifications.{fits, captures_trap, captures_of, specification_of}
+use Rattle.word32.specs.declared.map.TheConstants.{ARENA}
+use Rattle.icode_meaning.specs.Costs.{least_of, most_of, word_cost, node_least, node_most}
 use Rattle.icode_meaning.specs.State.{Function, Program, Frame, Log, State, Running, Zeroing, Halted, Stuck, nothing}
-use Rattle.icode_meaning.specs.State.{argued}
+use Rattle.icode_meaning.specs.State.{Making, Compiling, Draft, Summing, Filling, argued}
 
 -- each register that an op uses is set
 abbrev pub is_on : Option ℕ → (ℕ → Bool) → Bool
@@ -103,6 +120,40 @@ call_row program o count (Some row) frame arguments waiting log =
     if nat_eq row.1 count then call_at o (program.function_at row.0) frame arguments waiting log
     else Halted (Ended (Trap BadCall)) (paid o log)
 
+-- ---- calls of compiled functions
+
+-- the function of a specification, at its place
+abbrev pub function_for : Program → Syntax → (address : ℕ) → Function
+function_for program syntax address = record {
+  address = address;
+  ops = program.ops_of syntax;
+  charge = charge_of (syntax_size program.source syntax);
+  object = 0;
+  compiled = true;
+}
+
+abbrev pub with_event : ℕ → Log → Log
+with_event number log = sharing (happens (Entered number) log.shared) log
+
+-- a call of a compiled function that is live: its entry is an event, and stands before the limits
+abbrev pub call_compiled : Program → Op → (number : ℕ) → Option Body → (count : ℕ) → Frame → (ℕ → Option ℕ) →
+    List Frame → Log → State
+call_compiled program o number None count frame arguments waiting log = Halted (Ended (Trap BadCall)) (paid o log)
+call_compiled program o number (Some body) count frame arguments waiting log =
+    if body.live && nat_eq (parameters_of body.syntax) count
+    then enter (function_for program body.syntax (ARENA + 4 * body.first)) frame arguments waiting
+    (with_event number (paid o log))
+    else Halted (Ended (Trap BadCall)) (paid o log)
+
+-- a call of a number: those of the text from 1 on, and then those that were compiled
+abbrev pub call_number : Program → Op → (number count : ℕ) → Frame → (ℕ → Option ℕ) → List Frame → Log → State
+call_number program o number count frame arguments waiting log =
+    let functions = length program.source.functions in
+    if nat_le number functions
+    then call_row program o count (program.row number) frame arguments waiting log
+    else call_compiled program o number (numbered (number - functions) log.shared.bodies) count frame arguments waiting
+    log
+
 -- a register takes what was passed; what was not passed is stuck
 abbrev pub set_from : Op → Option ℕ → ℕ → Frame → List Frame → Log → State
 set_from o None to frame waiting log = Stuck log
@@ -159,6 +210,134 @@ abbrev pub zeroed_on : ℕ → ℕ → Frame → List Frame → Log → State
 zeroed_on zero address frame waiting log = goes_on (moved_on frame) waiting log
 zeroed_on (suc more) address frame waiting log = Zeroing more (address + 4) frame waiting log
 
+-- ---- the ops of a tick
+
+-- the size and the parameters of a specification
+abbrev pub size_in : Program → Option Specification → ℕ
+size_in program (Some (Expression syntax)) = syntax_size program.source syntax
+size_in program (Some (Statement syntax)) = syntax_size program.source syntax
+size_in program _ = 0
+
+abbrev pub parameters_in : Option Specification → ℕ
+parameters_in (Some (Expression syntax)) = parameters_of syntax
+parameters_in (Some (Statement syntax)) = parameters_of syntax
+parameters_in (Some (Param index)) = key_parameters index
+parameters_in _ = 0
+
+-- a number that is checked is added to what was checked before; a sum that is no word is stuck
+abbrev pub adds : Program → (o : Op) → (to : ℕ) → CaptureKind → Option Specification → (size parameters : ℕ) →
+    Frame → List Frame → Log → State
+adds program o to kind row size parameters frame waiting log =
+    unless (if fits kind row then None else Some BadSpec) (paid o log)
+    (if nat_lt (size + size_in program row) 4294967296
+    then Making (Summing (size + size_in program row) (max parameters (parameters_in row))) (set to 0 frame) waiting
+    (paid o log)
+    else Stuck log)
+
+abbrev pub checks : Program → (o : Op) → RunKind → (to number : ℕ) → (size parameters : ℕ) → Frame → List Frame →
+    Log → State
+checks program o run.Expression to number size parameters frame waiting log =
+    adds program o to (kind.Splice answer.Value) (specification_at number log.shared) size parameters frame waiting log
+checks program o run.Statement to number size parameters frame waiting log =
+    adds program o to (kind.Splice answer.Void) (specification_at number log.shared) size parameters frame waiting log
+checks program o run.Variable to number size parameters frame waiting log =
+    adds program o to kind.Variable (specification_at number log.shared) size parameters frame waiting log
+checks program o _ to number size parameters frame waiting log = Stuck log
+
+abbrev pub syntax_of : Program → (tick : ℕ) → (words : List ℕ) → Shared → Syntax
+syntax_of program tick words shared = Ticked tick (captures_of shared.specifications (program.kinds tick) words)
+
+abbrev pub is_none : {A : Type 0} → Option A → Bool
+is_none None = true
+is_none (Some x) = false
+
+-- what was checked is what was put
+abbrev pub is_right : Program → (tick size parameters : ℕ) → (words : List ℕ) → Shared → Bool
+is_right program tick size parameters words shared =
+    is_none (captures_trap shared.specifications (program.kinds tick) words)
+    && nat_eq size (syntax_size program.source (syntax_of program tick words shared))
+    && nat_eq parameters (parameters_of (syntax_of program tick words shared))
+
+-- the specification is there; one that was checked otherwise is stuck
+abbrev pub is_there : Program → (tick size parameters : ℕ) → (words : List ℕ) → Frame → List Frame → Log → State
+is_there program tick size parameters words frame waiting log =
+    if is_right program tick size parameters words log.shared
+    then goes_on frame waiting
+    (sharing (specified (specification_of (is_expression (slice_get program.source.ticks tick))
+    (syntax_of program tick words log.shared)) (length words) log.shared) log)
+    else Stuck log
+
+-- a closure that has some of its words: behind the last one the specification is there
+abbrev pub filled : Program → (tick size parameters : ℕ) → (words : List ℕ) → Frame → List Frame → Log → State
+filled program tick size parameters words frame waiting log =
+    if nat_eq (length words) (length (program.kinds tick))
+    then is_there program tick size parameters words frame waiting log
+    else Making (Filling tick size parameters words) frame waiting log
+
+abbrev pub is_kind : ClosureKind → Bool → Bool
+is_kind closure.Expression true = true
+is_kind closure.Statement false = true
+is_kind _ value = false
+
+-- a closure is made for the tick whose code an address generates
+abbrev pub news : Program → (o : Op) → (to : ℕ) → Option ℕ → ClosureKind → (captures size parameters : ℕ) → Frame →
+    List Frame → Log → State
+news program o to None kind captures size parameters frame waiting log = Stuck log
+news program o to (Some tick) kind captures size parameters frame waiting log =
+    if is_kind kind (is_expression (slice_get program.source.ticks tick)) && nat_eq captures
+    (length (program.kinds tick))
+    then unless (size_trap size) (paid o log) (unless (closure_trap captures log.shared) (paid o log)
+    (filled program tick size parameters [] (set to (next_number log.shared) frame) waiting (paid o log)))
+    else Stuck log
+
+-- an op while a specification is being made
+abbrev pub makes : Program → Op → Draft → Frame → List Frame → Log → State
+makes program (Run routine to from) (Summing size parameters) frame waiting log =
+    checks program (Run routine to from) routine to (frame.values from) size parameters frame waiting log
+makes program (New to address kind captures) (Summing size parameters) frame waiting log =
+    news program (New to address kind captures) to (program.tick_at address) kind captures size parameters frame waiting
+    log
+makes program (Put capture from) (Filling tick size parameters words) frame waiting log =
+    if nat_eq capture (length words)
+    then filled program tick size parameters (words ++ frame.values from ∷ []) (moved_on frame) waiting
+    (paid (Put capture from) log)
+    else Stuck log
+makes program _ draft frame waiting log = Stuck log
+
+abbrev pub making : Program → Option Op → Draft → Frame → List Frame → Log → State
+making program None draft frame waiting log = Stuck log
+making program (Some o) draft frame waiting log =
+    if uses_on o frame.on then makes program o draft frame waiting log else Stuck log
+
+-- ---- compile
+
+-- a node was compiled
+abbrev pub node_paid : Log → Log
+node_paid log = record log { least = log.least + node_least; most = log.most + node_most }
+
+-- The function is there behind its nodes, and its number goes to the register. The routine's rest is paid.
+abbrev pub compiled : Program → Syntax → (to : ℕ) → Frame → List Frame → Log → State
+compiled program syntax to frame waiting log =
+    let size = syntax_size program.source syntax in
+    let function = next_function (length program.source.functions) log.shared in
+    goes_on (set to function frame) waiting
+    (sharing (made function syntax size log.shared) (paid (Run run.Compile to 0) log))
+
+-- the limits of a specification, and then its nodes; that costs nothing yet
+abbrev pub compiles : Program → (o : Op) → (to : ℕ) → Syntax → Frame → List Frame → Log → State
+compiles program o to syntax frame waiting log =
+    let size = syntax_size program.source syntax in
+    unless (table_trap (next_function (length program.source.functions) log.shared)) (paid o log)
+    (unless (arena_trap size log.shared) (paid o log) (Compiling size syntax to frame waiting log))
+
+abbrev pub compile_row : Program → (o : Op) → (to : ℕ) → Option Specification → Frame → List Frame → Log → State
+compile_row program o to (Some (Expression syntax)) frame waiting log =
+    compiles program o to syntax frame waiting log
+compile_row program o to (Some (Statement syntax)) frame waiting log = compiles program o to syntax frame waiting log
+compile_row program o to _ frame waiting log = Halted (Ended (Trap BadSpec)) (paid o log)
+
+-- ---- all ops
+
 -- one op
 abbrev pub act : Program → Op → Frame → (ℕ → Option ℕ) → Option ℕ → List Frame → Log → State
 act program (Const to word) frame arguments answer waiting log =
@@ -206,7 +385,7 @@ act program (GetParameter to index) frame arguments answer waiting log =
 act program (Call address) frame arguments answer waiting log =
     call_at (Call address) (program.function_at address) frame arguments waiting log
 act program (CallNumber number count) frame arguments answer waiting log =
-    call_row program (CallNumber number count) count (program.row (frame.values number)) frame arguments waiting log
+    call_number program (CallNumber number count) (frame.values number) count frame arguments waiting log
 act program (Result to) frame arguments answer waiting log = set_from (Result to) answer to frame waiting log
 act program (Return from) frame arguments answer waiting log =
     back (frame.values from) waiting (left frame.function (paid (Return from) log))
@@ -229,6 +408,8 @@ act program (Run run.Local to from) frame arguments answer waiting log =
 act program (Run run.Parameter to from) frame arguments answer waiting log =
     unless (index_trap (frame.values from)) (paid (Run run.Parameter to from) log)
     (specifies (Param (frame.values from)) to frame waiting (paid (Run run.Parameter to from) log))
+act program (Run run.Begin to from) frame arguments answer waiting log =
+    Making (Summing (frame.values from) 0) (set to 0 frame) waiting (paid (Run run.Begin to from) log)
 act program _ frame arguments answer waiting log = Stuck log
 
 -- an op that uses a register that is not set is stuck, and so is a call behind its last op
@@ -243,6 +424,9 @@ advance program (Running frame arguments answer waiting log) =
     checked program (slice_get frame.function.ops frame.index) frame arguments answer waiting log
 advance program (Zeroing more address frame waiting log) =
     zeroed_on more address frame waiting (word_zeroed address log)
+advance program (Making draft frame waiting log) =
+    making program (slice_get frame.function.ops frame.index) draft frame waiting log
+advance program (Compiling more syntax to frame waiting log) = Stuck log
 advance program (Halted end log) = Halted end log
 advance program (Stuck log) = Stuck log
 

@@ -230,7 +230,8 @@ impl SysKind {
 
     /// The kind of a number, or None where it is none of 1, 10, 11 and 12.
     pub fn from_number(number: u32) -> Option<SysKind>
-        ensures { MatchOption result ((number ≡ 1) ⊎ (number ≡ 10) ⊎ (number ≡ 11) ⊎ (number ≡ 12) → ⊥) (λ k. sys_number k ≡ number) }
+        ensures { MatchOption result ((number ≡ 1) ⊎ (number ≡ 10) ⊎ (number ≡ 11) ⊎ (number ≡ 12) → ⊥)
+            (λ k. sys_number k ≡ number) }
     {
         match number {
             1 => Some(SysKind::PutInteger),

@@ -23,7 +23,8 @@ use Rattle.icode_service.specs.Made.{IsMade, IsShort}
 -- a frame that is large enough for a call isn't larger than the stack
 pub frame_low : (bytes registers : ℕ) → is_frame bytes registers ≡ true → bytes ≤ STACK_BYTES
 frame_low bytes registers h =
-    let a = and_parts (nat_le (STACK_OF_A_CALL + 4 * registers) bytes) (nat_le bytes STACK_BYTES && nat_eq (bytes % 4) 0) h in
+    let a = and_parts (nat_le (STACK_OF_A_CALL + 4 * registers) bytes)
+    (nat_le bytes STACK_BYTES && nat_eq (bytes % 4) 0) h in
     let b = and_parts (nat_le bytes STACK_BYTES) (nat_eq (bytes % 4) 0) a.1 in
     leb-true bytes STACK_BYTES b.0
 

@@ -70,8 +70,10 @@ fn slots(alloc: Global, count: u32) -> Result<Vec<u8>, AllocError>
 }
 
 impl Service {
-    /// The services before the first one: no function is begun, and none was finished. The only error is want of
-    /// memory.
+    /// The services before the first one: no function is begun, and none was finished.
+    ///
+    /// # Errors
+    /// Where memory is wanting.
     pub fn new(alloc: Global) -> Result<Service, AllocError>
         ensures { IfOk result (λ s. s ≡ services.fresh) }
     {

@@ -150,7 +150,10 @@ fn expand_within(
 }
 
 impl Tables {
-    /// The tables for any number of functions. The only error is want of memory.
+    /// The tables for any number of functions.
+    ///
+    /// # Errors
+    /// Where memory is wanting.
     pub(crate) fn new(alloc: Global) -> Result<Tables, AllocError> {
         // the largest comes last, so that nothing large is given back where memory is wanting
         let words = zeros(alloc, MOST_WORDS)?;

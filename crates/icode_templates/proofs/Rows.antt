@@ -97,7 +97,8 @@ bin-divide_signed-near : template near places_of_labels (Bin bin.DivideSigned 0 
 bin-divide_signed-near = refl
 
 bin-divide_signed-far : template far places_of_labels (Bin bin.DivideSigned 0 1 2) ≡ lui 1 1 ∷ addu 1 1 29 ∷ lw 24 36132
-    1 ∷ lui 1 1 ∷ addu 1 1 29 ∷ lw 25 36136 1 ∷ sll 0 0 0 ∷ div 24 25 ∷ mflo 24 ∷ lui 1 1 ∷ addu 1 1 29 ∷ sw 24 36128 1 ∷
+    1 ∷ lui 1 1 ∷ addu 1 1 29 ∷ lw 25 36136 1 ∷ sll 0 0 0 ∷ div 24 25 ∷ mflo 24 ∷ lui 1 1 ∷ addu 1 1 29 ∷ sw 24 36128 1
+    ∷
     []
 bin-divide_signed-far = refl
 
@@ -136,7 +137,8 @@ bin-remainder_unsigned-near : template near places_of_labels (Bin bin.RemainderU
 bin-remainder_unsigned-near = refl
 
 bin-remainder_unsigned-far : template far places_of_labels (Bin bin.RemainderUnsigned 0 1 2) ≡ lui 1 1 ∷ addu 1 1 29 ∷
-    lw 24 36132 1 ∷ lui 1 1 ∷ addu 1 1 29 ∷ lw 25 36136 1 ∷ sll 0 0 0 ∷ divu 24 25 ∷ mfhi 24 ∷ lui 1 1 ∷ addu 1 1 29 ∷ sw
+    lw 24 36132 1 ∷ lui 1 1 ∷ addu 1 1 29 ∷ lw 25 36136 1 ∷ sll 0 0 0 ∷ divu 24 25 ∷ mfhi 24 ∷ lui 1 1 ∷ addu 1 1 29 ∷
+    sw
     24 36128 1 ∷ []
 bin-remainder_unsigned-far = refl
 
@@ -197,7 +199,8 @@ bin-shift_right_signed-near : template near places_of_labels (Bin bin.ShiftRight
 bin-shift_right_signed-near = refl
 
 bin-shift_right_signed-far : template far places_of_labels (Bin bin.ShiftRightSigned 0 1 2) ≡ lui 1 1 ∷ addu 1 1 29 ∷ lw
-    24 36132 1 ∷ lui 1 1 ∷ addu 1 1 29 ∷ lw 25 36136 1 ∷ sll 0 0 0 ∷ srav 24 24 25 ∷ lui 1 1 ∷ addu 1 1 29 ∷ sw 24 36128 1
+    24 36132 1 ∷ lui 1 1 ∷ addu 1 1 29 ∷ lw 25 36136 1 ∷ sll 0 0 0 ∷ srav 24 24 25 ∷ lui 1 1 ∷ addu 1 1 29 ∷ sw 24 36128
+    1
     ∷ []
 bin-shift_right_signed-far = refl
 
@@ -235,7 +238,8 @@ bin-not_equal-near : template near places_of_labels (Bin bin.NotEqual 0 1 2) ≡
 bin-not_equal-near = refl
 
 bin-not_equal-far : template far places_of_labels (Bin bin.NotEqual 0 1 2) ≡ lui 1 1 ∷ addu 1 1 29 ∷ lw 24 36132 1 ∷ lui
-    1 1 ∷ addu 1 1 29 ∷ lw 25 36136 1 ∷ sll 0 0 0 ∷ xor 24 24 25 ∷ sltu 24 0 24 ∷ lui 1 1 ∷ addu 1 1 29 ∷ sw 24 36128 1 ∷
+    1 1 ∷ addu 1 1 29 ∷ lw 25 36136 1 ∷ sll 0 0 0 ∷ xor 24 24 25 ∷ sltu 24 0 24 ∷ lui 1 1 ∷ addu 1 1 29 ∷ sw 24 36128 1
+    ∷
     []
 bin-not_equal-far = refl
 
@@ -285,7 +289,8 @@ bin-less_or_equal_unsigned-near : template near places_of_labels (Bin bin.LessOr
 bin-less_or_equal_unsigned-near = refl
 
 bin-less_or_equal_unsigned-far : template far places_of_labels (Bin bin.LessOrEqualUnsigned 0 1 2) ≡ lui 1 1 ∷ addu 1 1
-    29 ∷ lw 24 36132 1 ∷ lui 1 1 ∷ addu 1 1 29 ∷ lw 25 36136 1 ∷ sll 0 0 0 ∷ sltu 24 25 24 ∷ xori 24 24 1 ∷ lui 1 1 ∷ addu
+    29 ∷ lw 24 36132 1 ∷ lui 1 1 ∷ addu 1 1 29 ∷ lw 25 36136 1 ∷ sll 0 0 0 ∷ sltu 24 25 24 ∷ xori 24 24 1 ∷ lui 1 1 ∷
+    addu
     1 1 29 ∷ sw 24 36128 1 ∷ []
 bin-less_or_equal_unsigned-far = refl
 
@@ -311,7 +316,8 @@ bin-greater_unsigned-near : template near places_of_labels (Bin bin.GreaterUnsig
 bin-greater_unsigned-near = refl
 
 bin-greater_unsigned-far : template far places_of_labels (Bin bin.GreaterUnsigned 0 1 2) ≡ lui 1 1 ∷ addu 1 1 29 ∷ lw 24
-    36132 1 ∷ lui 1 1 ∷ addu 1 1 29 ∷ lw 25 36136 1 ∷ sll 0 0 0 ∷ sltu 24 25 24 ∷ lui 1 1 ∷ addu 1 1 29 ∷ sw 24 36128 1 ∷
+    36132 1 ∷ lui 1 1 ∷ addu 1 1 29 ∷ lw 25 36136 1 ∷ sll 0 0 0 ∷ sltu 24 25 24 ∷ lui 1 1 ∷ addu 1 1 29 ∷ sw 24 36128 1
+    ∷
     []
 bin-greater_unsigned-far = refl
 
@@ -337,7 +343,8 @@ bin-greater_or_equal_unsigned-near : template near places_of_labels (Bin bin.Gre
 bin-greater_or_equal_unsigned-near = refl
 
 bin-greater_or_equal_unsigned-far : template far places_of_labels (Bin bin.GreaterOrEqualUnsigned 0 1 2) ≡ lui 1 1 ∷
-    addu 1 1 29 ∷ lw 24 36132 1 ∷ lui 1 1 ∷ addu 1 1 29 ∷ lw 25 36136 1 ∷ sll 0 0 0 ∷ sltu 24 24 25 ∷ xori 24 24 1 ∷ lui 1
+    addu 1 1 29 ∷ lw 24 36132 1 ∷ lui 1 1 ∷ addu 1 1 29 ∷ lw 25 36136 1 ∷ sll 0 0 0 ∷ sltu 24 24 25 ∷ xori 24 24 1 ∷ lui
+    1
     1 ∷ addu 1 1 29 ∷ sw 24 36128 1 ∷ []
 bin-greater_or_equal_unsigned-far = refl
 
@@ -484,7 +491,8 @@ load-byte-near : template near places_of_labels (Load width.Byte 0 1) ≡ lw 24 
 load-byte-near = refl
 
 load-byte-far : template far places_of_labels (Load width.Byte 0 1) ≡ lui 1 1 ∷ addu 1 1 29 ∷ lw 24 36132 1 ∷ sll 0 0 0
-    ∷ srl 25 24 24 ∷ xori 25 25 16 ∷ beq 25 0 2 ∷ sll 0 0 0 ∷ trap 16 ∷ lbu 24 0 24 ∷ sll 0 0 0 ∷ lui 1 1 ∷ addu 1 1 29 ∷
+    ∷ srl 25 24 24 ∷ xori 25 25 16 ∷ beq 25 0 2 ∷ sll 0 0 0 ∷ trap 16 ∷ lbu 24 0 24 ∷ sll 0 0 0 ∷ lui 1 1 ∷ addu 1 1 29
+    ∷
     sw 24 36128 1 ∷ []
 load-byte-far = refl
 
@@ -510,7 +518,8 @@ load-half-near : template near places_of_labels (Load width.Half 0 1) ≡ lw 24 
 load-half-near = refl
 
 load-half-far : template far places_of_labels (Load width.Half 0 1) ≡ lui 1 1 ∷ addu 1 1 29 ∷ lw 24 36132 1 ∷ sll 0 0 0
-    ∷ srl 25 24 24 ∷ xori 25 25 16 ∷ beq 25 0 2 ∷ sll 0 0 0 ∷ trap 16 ∷ lhu 24 0 24 ∷ sll 0 0 0 ∷ lui 1 1 ∷ addu 1 1 29 ∷
+    ∷ srl 25 24 24 ∷ xori 25 25 16 ∷ beq 25 0 2 ∷ sll 0 0 0 ∷ trap 16 ∷ lhu 24 0 24 ∷ sll 0 0 0 ∷ lui 1 1 ∷ addu 1 1 29
+    ∷
     sw 24 36128 1 ∷ []
 load-half-far = refl
 
@@ -536,7 +545,8 @@ store-signed_byte-near : template near places_of_labels (Store width.SignedByte 
 store-signed_byte-near = refl
 
 store-signed_byte-far : template far places_of_labels (Store width.SignedByte 1 2) ≡ lui 1 1 ∷ addu 1 1 29 ∷ lw 24 36132
-    1 ∷ lui 1 1 ∷ addu 1 1 29 ∷ lw 25 36136 1 ∷ sll 0 0 0 ∷ srl 1 24 24 ∷ xori 1 1 16 ∷ beq 1 0 2 ∷ sll 0 0 0 ∷ trap 16 ∷
+    1 ∷ lui 1 1 ∷ addu 1 1 29 ∷ lw 25 36136 1 ∷ sll 0 0 0 ∷ srl 1 24 24 ∷ xori 1 1 16 ∷ beq 1 0 2 ∷ sll 0 0 0 ∷ trap 16
+    ∷
     sb 25 0 24 ∷ []
 store-signed_byte-far = refl
 
@@ -549,7 +559,8 @@ store-byte-near : template near places_of_labels (Store width.Byte 1 2) ≡ lw 2
 store-byte-near = refl
 
 store-byte-far : template far places_of_labels (Store width.Byte 1 2) ≡ lui 1 1 ∷ addu 1 1 29 ∷ lw 24 36132 1 ∷ lui 1 1
-    ∷ addu 1 1 29 ∷ lw 25 36136 1 ∷ sll 0 0 0 ∷ srl 1 24 24 ∷ xori 1 1 16 ∷ beq 1 0 2 ∷ sll 0 0 0 ∷ trap 16 ∷ sb 25 0 24 ∷
+    ∷ addu 1 1 29 ∷ lw 25 36136 1 ∷ sll 0 0 0 ∷ srl 1 24 24 ∷ xori 1 1 16 ∷ beq 1 0 2 ∷ sll 0 0 0 ∷ trap 16 ∷ sb 25 0 24
+    ∷
     []
 store-byte-far = refl
 
@@ -562,7 +573,8 @@ store-signed_half-near : template near places_of_labels (Store width.SignedHalf 
 store-signed_half-near = refl
 
 store-signed_half-far : template far places_of_labels (Store width.SignedHalf 1 2) ≡ lui 1 1 ∷ addu 1 1 29 ∷ lw 24 36132
-    1 ∷ lui 1 1 ∷ addu 1 1 29 ∷ lw 25 36136 1 ∷ sll 0 0 0 ∷ srl 1 24 24 ∷ xori 1 1 16 ∷ beq 1 0 2 ∷ sll 0 0 0 ∷ trap 16 ∷
+    1 ∷ lui 1 1 ∷ addu 1 1 29 ∷ lw 25 36136 1 ∷ sll 0 0 0 ∷ srl 1 24 24 ∷ xori 1 1 16 ∷ beq 1 0 2 ∷ sll 0 0 0 ∷ trap 16
+    ∷
     sh 25 0 24 ∷ []
 store-signed_half-far = refl
 
@@ -575,7 +587,8 @@ store-half-near : template near places_of_labels (Store width.Half 1 2) ≡ lw 2
 store-half-near = refl
 
 store-half-far : template far places_of_labels (Store width.Half 1 2) ≡ lui 1 1 ∷ addu 1 1 29 ∷ lw 24 36132 1 ∷ lui 1 1
-    ∷ addu 1 1 29 ∷ lw 25 36136 1 ∷ sll 0 0 0 ∷ srl 1 24 24 ∷ xori 1 1 16 ∷ beq 1 0 2 ∷ sll 0 0 0 ∷ trap 16 ∷ sh 25 0 24 ∷
+    ∷ addu 1 1 29 ∷ lw 25 36136 1 ∷ sll 0 0 0 ∷ srl 1 24 24 ∷ xori 1 1 16 ∷ beq 1 0 2 ∷ sll 0 0 0 ∷ trap 16 ∷ sh 25 0 24
+    ∷
     []
 store-half-far = refl
 
@@ -588,7 +601,8 @@ store-word-near : template near places_of_labels (Store width.Word 1 2) ≡ lw 2
 store-word-near = refl
 
 store-word-far : template far places_of_labels (Store width.Word 1 2) ≡ lui 1 1 ∷ addu 1 1 29 ∷ lw 24 36132 1 ∷ lui 1 1
-    ∷ addu 1 1 29 ∷ lw 25 36136 1 ∷ sll 0 0 0 ∷ srl 1 24 24 ∷ xori 1 1 16 ∷ beq 1 0 2 ∷ sll 0 0 0 ∷ trap 16 ∷ sw 25 0 24 ∷
+    ∷ addu 1 1 29 ∷ lw 25 36136 1 ∷ sll 0 0 0 ∷ srl 1 24 24 ∷ xori 1 1 16 ∷ beq 1 0 2 ∷ sll 0 0 0 ∷ trap 16 ∷ sw 25 0 24
+    ∷
     []
 store-word-far = refl
 
@@ -686,17 +700,20 @@ result-far : template far places_of_labels (Result 0) ≡ addu 24 2 0 ∷ lui 1 
 result-far = refl
 
 call_number-registers : template in_registers places_of_labels (CallNumber 1 3) ≡ addu 24 17 0 ∷ srl 25 24 16 ∷ bne 25 0
-    7 ∷ sll 24 24 3 ∷ addu 24 24 28 ∷ lw 25 4 24 ∷ lw 24 0 24 ∷ xori 25 25 3 ∷ beq 25 0 2 ∷ sll 0 0 0 ∷ trap 17 ∷ jalr 31
+    7 ∷ sll 24 24 3 ∷ addu 24 24 28 ∷ lw 25 4 24 ∷ lw 24 0 24 ∷ xori 25 25 3 ∷ beq 25 0 2 ∷ sll 0 0 0 ∷ trap 17 ∷ jalr
+    31
     24 ∷ sll 0 0 0 ∷ []
 call_number-registers = refl
 
 call_number-near : template near places_of_labels (CallNumber 1 3) ≡ lw 24 132 29 ∷ sll 0 0 0 ∷ srl 25 24 16 ∷ bne 25 0
-    7 ∷ sll 24 24 3 ∷ addu 24 24 28 ∷ lw 25 4 24 ∷ lw 24 0 24 ∷ xori 25 25 3 ∷ beq 25 0 2 ∷ sll 0 0 0 ∷ trap 17 ∷ jalr 31
+    7 ∷ sll 24 24 3 ∷ addu 24 24 28 ∷ lw 25 4 24 ∷ lw 24 0 24 ∷ xori 25 25 3 ∷ beq 25 0 2 ∷ sll 0 0 0 ∷ trap 17 ∷ jalr
+    31
     24 ∷ sll 0 0 0 ∷ []
 call_number-near = refl
 
 call_number-far : template far places_of_labels (CallNumber 1 3) ≡ lui 1 1 ∷ addu 1 1 29 ∷ lw 24 36132 1 ∷ sll 0 0 0 ∷
-    srl 25 24 16 ∷ bne 25 0 7 ∷ sll 24 24 3 ∷ addu 24 24 28 ∷ lw 25 4 24 ∷ lw 24 0 24 ∷ xori 25 25 3 ∷ beq 25 0 2 ∷ sll 0
+    srl 25 24 16 ∷ bne 25 0 7 ∷ sll 24 24 3 ∷ addu 24 24 28 ∷ lw 25 4 24 ∷ lw 24 0 24 ∷ xori 25 25 3 ∷ beq 25 0 2 ∷ sll
+    0
     0 0 ∷ trap 17 ∷ jalr 31 24 ∷ sll 0 0 0 ∷ []
 call_number-far = refl
 

@@ -1,10 +1,7 @@
 -- The prologue and the epilogue of a function. The prologue takes the frame from the stack and traps where the stack
--- ends,
--- saves the address to return to and the registers of the places that the function has, and takes the bytes of the
--- frame's
--- objects and traps where their region ends; the epilogue undoes this and returns. A compiled function has no objects,
--- and
--- counts its active calls in a cell below $gp. These are the project's own rules.
+-- ends, saves the address to return to and the registers of the places that the function has, and takes the bytes of
+-- the frame's objects and traps where their region ends; the epilogue undoes this and returns. A compiled function has
+-- no objects, and counts its active calls in a cell below $gp. These are the project's own rules.
 use Rattle.std.specs.Prelude.{ℕ, ◌+◌, ◌*◌, Bool, true, false, nat_eq, if◌then◌else◌, List, [], ◌∷◌, ◌++◌}
 use Rattle.mips_encoder.specs.declared.instruction.Instr.{Instr}
 use Rattle.mips_assembly.specs.Assembly.{scratch, t8, t9, gp, sp, fp, ra, addu, subu, sltu, addiu, lui, lw, sw, jr}

@@ -1,8 +1,7 @@
 -- The instructions of each op. A template brings the op's operands to $t8 and $t9, works there, and brings what the op
 -- defines from $t8 to its spot; an instruction that waits for a load, or stands behind a jump, is a nop. No register
--- but
--- those of the places keeps a value from one op to the next. These are the project's own rules, in the manner of the
--- templates of ICODE and VCODE (Poletto, Hsieh, Engler and Kaashoek, TOPLAS 1999).
+-- but those of the places keeps a value from one op to the next. These are the project's own rules, in the manner of
+-- the templates of ICODE and VCODE (Poletto, Hsieh, Engler and Kaashoek, TOPLAS 1999).
 use Rattle.std.specs.Prelude.{ℕ, ◌+◌, ◌*◌, ◌/◌, ◌%◌, true, false, List, [], ◌∷◌, ◌++◌}
 use Rattle.word32.specs.Words.{difference}
 use Rattle.word32.specs.declared.width.Width.{Width}
@@ -142,8 +141,7 @@ abbrev pub clear_loop : List Instr
 clear_loop = sw 0 0 t8 ∷ addiu t8 t8 4 ∷ bne t8 t9 65533 ∷ nop ∷ []
 
 -- the row of the function that has the number in $t8: its address to $t8, and its count of parameters to $t9. The rows
--- of
--- the function table stand from $gp up; a number above 65,535 has none, and goes to the trap of the check
+-- of the function table stand from $gp up; a number above 65,535 has none, and goes to the trap of the check
 abbrev pub number_row : List Instr
 number_row =
     srl t9 t8 16 ∷ bne t9 0 7 ∷ sll t8 t8 3 ∷ addu t8 t8 gp ∷ lw t9 4 t8 ∷ lw t8 0 t8 ∷ []

@@ -4,7 +4,8 @@ ghost use Rattle.std.specs.Prelude.{◌≡◌, ◌+◌, ◌*◌, ◌++◌, ◌<�
 ghost use Rattle.word32.specs.declared.map.TheConstants.{OBJECT_BYTES};
 ghost use Rattle.mips_assembly.specs.Assembly as assembly;
 ghost use Rattle.icode_templates.specs.Layout.{laid};
-ghost use Rattle.icode_templates.specs.Templates.{in_code, in_two_code, out_code, clear_loop, range_check as range_checking};
+ghost use Rattle.icode_templates.specs.Templates.{in_code, in_two_code, out_code, clear_loop};
+ghost use Rattle.icode_templates.specs.Templates.{range_check as range_checking};
 ghost use Rattle.icode_templates.specs.Templates.{object_address as address_of_object, put_code};
 ghost use Rattle.icode_templates.specs.Templates.{load_instruction as loading, store_instruction as storing};
 ghost use Rattle.icode_templates.specs.Words.{words};
@@ -79,7 +80,8 @@ impl Snippet {
         requires room { length self.old ≤ 16 }
         requires objects { layout.now.objects ≤ OBJECT_BYTES }
         ensures words { self.new ≡ self.old ++
-            words (address_of_object (laid layout.now.places.now layout.now.frame layout.now.objects) assembly.t8 offset ++
+            words (address_of_object (laid layout.now.places.now layout.now.frame layout.now.objects) assembly.t8 offset
+            ++
             out_code (spot_seen to.now)) }
         ensures len { length self.new ≤ length self.old + 6 }
     {
@@ -132,7 +134,8 @@ impl Snippet {
         requires room { length self.old ≤ 16 }
         requires objects { layout.now.objects ≤ OBJECT_BYTES }
         ensures words { self.new ≡ self.old ++
-            words (address_of_object (laid layout.now.places.now layout.now.frame layout.now.objects) assembly.t8 offset ++
+            words (address_of_object (laid layout.now.places.now layout.now.frame layout.now.objects) assembly.t8 offset
+            ++
             (address_of_object (laid layout.now.places.now layout.now.frame layout.now.objects) assembly.t9
             (offset + 4 * count) ++ clear_loop)) }
         ensures len { length self.new ≤ length self.old + 10 }

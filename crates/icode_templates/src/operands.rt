@@ -3,7 +3,8 @@
 ghost use Rattle.std.specs.Prelude.{◌≡◌, ◌+◌, ◌++◌, ◌<◌, ◌≤◌, length};
 ghost use Rattle.mips_assembly.specs.Assembly as assembly;
 ghost use Rattle.icode_templates.specs.Templates.{reach_code, load_code, wait_code, in_code, in_two_code, out_code};
-ghost use Rattle.icode_templates.specs.Templates.{trap_if_zero as trapping_if_zero, trap_unless_zero as trapping_unless_zero};
+ghost use Rattle.icode_templates.specs.Templates.{trap_if_zero as trapping_if_zero};
+ghost use Rattle.icode_templates.specs.Templates.{trap_unless_zero as trapping_unless_zero};
 ghost use Rattle.icode_templates.specs.Words.{words};
 ghost use Rattle.icode_templates.specs.Seen.{spot_seen};
 

@@ -91,7 +91,8 @@ impl Snippet {
     /// Puts a word into a spot.
     pub(crate) fn put_constant(&mut self, to: &Spot, word: u32)
         requires { length self.old ≤ 16 }
-        ensures words { self.new ≡ self.old ++ words (assembly.constant assembly.t8 word ++ out_code (spot_seen to.now)) }
+        ensures words { self.new ≡ self.old ++
+            words (assembly.constant assembly.t8 word ++ out_code (spot_seen to.now)) }
         ensures len { length self.new ≤ length self.old + 5 }
     {
         self.constant(T8, word);

@@ -15,8 +15,8 @@ use icode_ops::Op;
 impl Snippet {
     /// Puts the template of an op at the end: at most 16 words.
     ///
-    /// `address` is where the op goes within its function, in bytes: that of its label for a jump or branch, that of the
-    /// epilogue for a return. Other ops don't go anywhere, and take any address.
+    /// `address` is where the op goes within its function, in bytes: that of its label for a jump or branch, that of
+    /// the epilogue for a return. Other ops don't go anywhere, and take any address.
     #[tactic(auto, using(crate::proofs::Appended::words_append))]
     pub fn add_op(&mut self, op: Op, layout: &Layout, address: u32)
         requires room { length self.old ≤ 16 }

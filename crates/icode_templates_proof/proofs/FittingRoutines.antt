@@ -1,5 +1,6 @@
 -- The routines that make specifications have words, and each fits into its block of 64.
-use Rattle.std.proofs.Common.{◌≡◌, ℕ, ◌<◌, ◌≤◌, Bool, true, false, ◌&&◌, List, [], ◌∷◌, length, refl, arith, nat_lt}
+use Rattle.std.proofs.Common.{◌≡◌, ℕ, ◌<◌, ◌≤◌, Bool, true, false, ◌&&◌, not, List, [], ◌∷◌, length, refl, arith}
+use Rattle.std.proofs.Common.{nat_lt, nat_eq}
 use Rattle.std.proofs.lemmas.Bool.{and_parts}
 use Rattle.std.proofs.lemmas.Bool.Decides.{nat_tests}
 use Rattle.mips_encoder.specs.Table.{Fits}
@@ -24,6 +25,8 @@ fitting (BranchOnEquality op rs rt offset) = nat_lt rs 32 && (nat_lt rt 32 && na
 fitting (ImmediateArithmetic op rt rs n) = nat_lt rt 32 && (nat_lt rs 32 && nat_lt n 65536)
 fitting (LoadUpperImmediate rt n) = nat_lt rt 32 && nat_lt n 65536
 fitting (Memory op rt offset rs) = nat_lt rt 32 && (nat_lt offset 65536 && nat_lt rs 32)
+fitting (JumpAndLinkRegister p) = nat_lt p.rd 32 && (nat_lt p.rs 32 && not (nat_eq p.rd p.rs))
+fitting Syscall = true
 fitting i = false
 
 abbrev all_fitting : List Instr → Bool
@@ -50,7 +53,10 @@ fits (LoadUpperImmediate rt n) e =
     let x = and_parts (nat_lt rt 32) (nat_lt n 65536) e in (below rt 32 x.0, below n 65536 x.1)
 fits (Memory op rt offset rs) e = three rt offset rs 32 65536 32 e
 fits (ShiftVariable op rd rt rs) e = let x : ⊥ = cc in absurd x
-fits (JumpAndLinkRegister p) e = let x : ⊥ = cc in absurd x
+fits (JumpAndLinkRegister p) e =
+    let first = and_parts (nat_lt p.rd 32) (nat_lt p.rs 32 && not (nat_eq p.rd p.rs)) e in
+    let rest = and_parts (nat_lt p.rs 32) (not (nat_eq p.rd p.rs)) first.1 in
+    (below p.rd 32 first.0, below p.rs 32 rest.0, λ same. grind (arith, nat_tests, rest.1, same))
 fits (MoveFrom half rd) e = let x : ⊥ = cc in absurd x
 fits (MoveTo half rs) e = let x : ⊥ = cc in absurd x
 fits (MultiplyDivide op rs rt) e = let x : ⊥ = cc in absurd x
@@ -58,7 +64,7 @@ fits (BranchOnSign sign rs offset) e = let x : ⊥ = cc in absurd x
 fits (BranchOnSignAndLink sign rs offset) e = let x : ⊥ = cc in absurd x
 fits (Jump op word) e = let x : ⊥ = cc in absurd x
 fits (BranchOnZero op rs offset) e = let x : ⊥ = cc in absurd x
-fits Syscall e = let x : ⊥ = cc in absurd x
+fits Syscall e = tt
 
 pub all_fit : (is : List Instr) → all_fitting is ≡ true → AllFit is
 all_fit [] e = tt

@@ -1,6 +1,5 @@
 -- What the instructions of ops do, under any spots of their registers, and in how many instructions. The frame lies in
--- the
--- stack's region, and each spot is one that its code can reach.
+-- the stack's region, and each spot is one that its code can reach.
 use Rattle.std.specs.Prelude.{◌≡◌, ◌≢◌, ◌⊎◌, ℕ, ◌+◌, ◌%◌, ◌<◌, Bool, true, false, List, [], ◌∷◌, ◌++◌, if◌then◌else◌}
 use Rattle.std.specs.Prelude.{Some, None}
 use Rattle.word32.specs.declared.map.TheConstants.{SEGMENT_BYTES}

@@ -1,6 +1,5 @@
 -- The value at a spot, which spots the code of a function can use, and what an op's instructions leave as it was. A
--- frame
--- lies in the stack's region from the stack pointer up. These are the project's own rules.
+-- frame lies in the stack's region from the stack pointer up. These are the project's own rules.
 use Rattle.std.specs.Prelude.{◌≡◌, ◌≢◌, ◌⊎◌, ℕ, ◌+◌, ◌/◌, ◌%◌, ◌<◌, ◌≤◌, true, false}
 use Rattle.word32.specs.declared.map.TheConstants.{STACK, STACK_BYTES}
 use Rattle.mips_model.specs.State.{Data}

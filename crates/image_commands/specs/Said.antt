@@ -5,7 +5,7 @@ use Rattle.std.specs.Prelude.{◌≡◌, ◌⊎◌, ◌&&◌, if◌then◌else�
 use Rattle.std.specs.Io.KnownBytes.{Appends}
 use Rattle.host_edge.specs.Causes.{Rose}
 use Rattle.host_edge.specs.Moves.{TakesFront}
-use Rattle.command_options.specs.Orders.{asks_counts}
+use Rattle.command_words.specs.Orders.{asks_counts}
 use Rattle.tick_outcome.specs.Counts.{counts_line}
 use Rattle.tick_outcome.specs.Outcomes.{line_of}
 use Rattle.tick_outcome.specs.declared.outcome.Outcome.{Outcome}

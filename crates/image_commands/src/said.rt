@@ -1,12 +1,12 @@
 //! What is said of a call on standard error.
 ghost use Rattle.std.specs.Prelude.{◌≡◌, ◌++◌, ◌&&◌, OnOk, OnErr, is_some, map, string_bytes};
 ghost use Rattle.std.specs.Io.KnownBytes.{Appends};
-ghost use Rattle.command_options.specs.Orders.{asks_counts};
+ghost use Rattle.command_words.specs.Orders.{asks_counts};
 ghost use Rattle.host_edge.specs.Causes.{HasCause};
 ghost use Rattle.host_edge.specs.Moves.{TakesFront};
 ghost use Rattle.image_commands.specs.Said.{counts_said, said, Reports, unsaid};
 
-use command_options::asks_counts;
+use command_words::asks_counts;
 use host_edge::{Failed, Sink, write_whole};
 use tick_outcome::{Ended, Outcome, counts_end, counts_front, line_of};
 

@@ -3,7 +3,7 @@
 ghost use Rattle.std.specs.Prelude.{◌≡◌};
 ghost use Rattle.image_file.specs.Format.{fault_number};
 
-use std::alloc::{AllocError, AllocFailed};
+use std::alloc::AllocError;
 use thiserror::Error;
 
 /// The rule of the image format that bytes break, numbered from 1 in this order.
@@ -63,17 +63,6 @@ impl From<AllocError> for ImageDeny {
     ghost from_gives = { λ _ e. e ≡ NoMemory };
 
     fn from(_error: AllocError) -> ImageDeny {
-        ImageDeny::NoMemory
-    }
-}
-
-impl<T: Drop> From<AllocFailed<T>> for ImageDeny {
-    ghost use Rattle.std.specs.Prelude.{◌≡◌};
-    ghost use Rattle.image_file.specs.declared.fault.ImageDeny.TheVariants.{NoMemory};
-
-    ghost from_gives = { λ _ e. e ≡ NoMemory };
-
-    fn from(_error: AllocFailed<T>) -> ImageDeny {
         ImageDeny::NoMemory
     }
 }

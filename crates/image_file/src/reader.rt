@@ -31,9 +31,9 @@ use word32::map::{GLOBAL_BYTES, TEXT, TEXT_WORDS};
 /// condition.
 ///
 /// # Errors
-/// `Bad` exactly where the bytes break a rule, with the first one in the order of the tests: Short for the header, Magic,
-/// Version, Counts, Short for the parts, Entry, Trailing. All of them are tested before memory is taken. `NoMemory` where
-/// memory was not found.
+/// `Bad` exactly where the bytes break a rule, with the first one in the order of the tests: Short for the header,
+/// Magic, Version, Counts, Short for the parts, Entry, Trailing. All of them are tested before memory is taken.
+/// `NoMemory` where memory was not found.
 pub fn read(alloc: Global, bytes: &[u8]) -> Result<Image, ImageDeny>
     requires { length bytes.now ≤ LONGEST_IMAGE }
     ensures parsed { Answers (parsed bytes.now) result }

@@ -11,11 +11,11 @@ use crate::image::{FunctionEntry, Image};
 use byteorder::{BigEndian, ByteOrder};
 use std::alloc::{AllocError, Global};
 
-/// The bytes of the image file that holds this image: the image's one spelling, which `read` gives back. Memory is taken
-/// once, for all of it.
+/// The bytes of the image file that holds this image: the image's one spelling, which `read` gives back. Memory is
+/// taken once, for all of it.
 ///
 /// # Errors
-/// Memory was not found.
+/// Where memory is wanting.
 pub fn write(alloc: Global, image: &Image) -> Result<Vec<u8>, AllocError>
     ensures spelling { IfOk result (λ bytes. bytes.items ≡ spelling image.now) }
     ensures read_back { IfOk result (λ bytes. parsed bytes.items ≡ Ok image.now) }

@@ -1,8 +1,6 @@
 -- Numbers, character literals and strings: how far each goes in a text, and what it stands for. The rules are C's, cut
--- to
--- this project's profile: numbers are 32-bit words, a `char` is a signed byte, and an escape takes as many digits as
--- stand
--- there, up to three octal or two hexadecimal ones.
+-- to this project's profile: numbers are 32-bit words, a `char` is a signed byte, and an escape takes as many digits as
+-- stand there, up to three octal or two hexadecimal ones.
 use Rattle.std.specs.Prelude.{◌≤◌, ℕ, zero, suc, ◌+◌, ◌-◌, ◌*◌, min, Bool, ◌&&◌, ◌||◌, if◌then◌else◌, ◌==◌, nat_le}
 use Rattle.std.specs.Prelude.{nat_lt, List, [], ◌∷◌, take, drop, slice_index, Option, Some, None, option_map}
 use Rattle.std.specs.Char.{is_ascii_digit, is_ascii_hexdigit}
@@ -103,8 +101,7 @@ abbrev pub of_len : ℕ → ℕ → Character
 of_len len value = record { len = len; value = value }
 
 -- An escape of digits whose first digit stands at the place `from`, where `count` of them stand there: none where no
--- digit
--- does, or where they spell more than a byte.
+-- digit does, or where they spell more than a byte.
 abbrev pub numbered : Base → ℕ → ℕ → Text → Option Character
 numbered base from count z =
     if nat_lt 0 count && nat_le (spelt base count (drop from z)) 255
@@ -149,8 +146,7 @@ by_character wrong goes None = wrong
 by_character wrong goes (Some c) = goes c
 
 -- How a literal goes on from the place `at`, behind its opening quote. The next `left` bytes belong to the last of
--- `chars`
--- characters. Any byte but a line feed, a `\` and the closing quote stands for itself.
+-- `chars` characters. Any byte but a line feed, a `\` and the closing quote stands for itself.
 abbrev pub closes : ℕ → ℕ → ℕ → ℕ → Text → Closing
 closes quote chars left at [] = Open
 closes quote chars (suc left) at (b ∷ z) = closes quote chars left (at + 1) z
@@ -160,8 +156,7 @@ closes quote chars zero at (b ∷ z) =
     else by_character (Wrong chars) (λ c. closes quote (chars + 1) (c.len - 1) (at + 1) z) (character_at (b ∷ z)))
 
 -- How a literal ends: at its closing quote, with its length up to and with the quote and its count of characters; or
--- not on
--- its line; or at a `\` that begins no escape, with the count of characters before it.
+-- not on its line; or at a `\` that begins no escape, with the count of characters before it.
 unfoldable pub closing_of : ℕ → Text → Closing
 closing_of quote z = closes quote 0 0 0 z
 

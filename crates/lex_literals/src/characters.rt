@@ -102,7 +102,8 @@ fn signed_word(b: u8) -> u32
     }
 }
 
-/// The value, as a word, of the character literal whose text behind its opening quote this is: its byte as a signed char.
+/// The value, as a word, of the character literal whose text behind its opening quote this is: its byte as a signed
+/// char.
 #[tactic(auto, unfolding(crate::specs::Literals::character_value))]
 pub fn character_value(text: &[u8]) -> u32
     ensures { result ≡ spec.character_value text.now }

@@ -9,7 +9,8 @@ use std::alloc::AllocError;
 /// How a literal ends.
 #[derive(Clone, Copy, PartialEq, Eq)]
 pub enum Closing {
-    /// At its closing quote: after so many bytes behind the opening quote, the closing one with them, and so many characters.
+    /// At its closing quote: after so many bytes behind the opening quote, the closing one with them, and so many
+    /// characters.
     Closed(usize, usize),
     /// Not on its line.
     Open,
@@ -43,8 +44,8 @@ pub fn closing_of(quote: u8, text: &[u8]) -> Closing
     Closing::Open
 }
 
-/// Appends the bytes for which a string stands, without a closing zero byte; `text` is what follows its opening quote. After
-/// an error some of them may stand there.
+/// Appends the bytes for which a string stands, without a closing zero byte; `text` is what follows its opening quote.
+/// After an error some of them may stand there.
 #[tactic(auto, unfolding(crate::specs::Literals::string_bytes))]
 pub fn append_string(text: &[u8], bytes: &mut Vec<u8>) -> Result<(), AllocError>
     ensures ok { OnOk result (bytes.new.items ≡ bytes.old.items ++ spec.string_bytes text.now) }

@@ -94,7 +94,8 @@ fn written(base: Base, from: usize, text: &[u8]) -> Numeral
     requires { from ≤ length text.now }
     ensures value { result ≡ spec.written base from text.now }
     ensures within { (from ≤ result.len) × (result.len ≤ length text.now) }
-    ensures some { 0 < length text.now → from ≡ 0 → spec.is_digit base (slice_index text.now 0) ≡ true → 0 < result.len }
+    ensures some { 0 < length text.now → from ≡ 0 → spec.is_digit base (slice_index text.now 0) ≡ true →
+        0 < result.len }
 {
     let end = from + digit_count(base, &text[from..]);
     let value = number(base, &text[from..end]);

@@ -1,8 +1,6 @@
 -- The words and signs of the language: how each is spelt, the keyword that a word is, and the longest sign that begins
--- a
--- text. The lists are C's, cut to this project's language, with `C's `cspec`, `vspec`, `compile`, `local`, `param`, `$`
--- and the
--- backquote.
+-- a text. The lists are C's, cut to this project's language, with `C's `cspec`, `vspec`, `compile`, `local`, `param`,
+-- `$` and the backquote.
 use Rattle.std.specs.Prelude.{ℕ, ◌+◌, Bool, true, ◌&&◌, if◌then◌else◌, ◌==◌, List, [], ◌∷◌, slice_index, Option, Some}
 use Rattle.std.specs.Prelude.{None, codes}
 use Rattle.std.specs.Option.{option_or}

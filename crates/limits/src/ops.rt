@@ -1,4 +1,5 @@
-//! Limits of the ops of one function in ICODE, and of the words that they become. All of them are this project's own rules.
+//! Limits of the ops of one function in ICODE, and of the words that they become. All of them are this project's own
+//! rules.
 
 /// The most ops of a function that is built, without the one that ends its list: twelve for each node of `SIZE_LIMIT`.
 /// It bounds operands, bodies, variables and labels too.
@@ -21,7 +22,8 @@ pub const MOST_SLOTS: u32 = 1_048_576;
 /// `SIZE_LIMIT`, so no tick has as many.
 pub const MOST_CAPTURES: u32 = 32_768;
 
-/// The keys of captured values: one for each parameter of a function, and one for each specification. A key is below it.
+/// The keys of captured values: one for each parameter of a function, and one for each specification. A key is below
+/// it.
 pub const KEYS: u32 = 262_152;
 
 /// The most words that one op becomes.

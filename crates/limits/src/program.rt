@@ -16,8 +16,8 @@ pub const SIZE_LIMIT: u32 = 16_384;
 /// Where counts of nodes stop growing: over `SIZE_LIMIT`, with which they are compared.
 pub const NODE_TOP: u32 = 65_536;
 
-/// The most bytes of frame objects that one function may have, and that all active calls may have together: 4 MB. A call
-/// that needs more traps as FrameLimit.
+/// The most bytes of frame objects that one function may have, and that all active calls may have together: 4 MB. A
+/// call that needs more traps as FrameLimit.
 pub const FRAME_OBJECT_BYTES: u32 = 4_194_304;
 
 /// A word over `FRAME_OBJECT_BYTES` and over the most bytes of globals: where places of objects stop growing.

@@ -1,7 +1,7 @@
 //! Limits and charges of a run. All of them are this project's own rules.
 
-/// The bytes of stack that are charged for a call beside its nodes. They hold the arguments and the registers that a call
-/// keeps, so the slots of virtual registers begin behind them.
+/// The bytes of stack that are charged for a call beside its nodes. They hold the arguments and the registers that a
+/// call keeps, so the slots of virtual registers begin behind them.
 pub const STACK_OF_A_CALL: u32 = 128;
 
 /// The bytes of stack that are charged for a call for each node of its function's syntax.
@@ -19,6 +19,6 @@ pub const MOST_STEPS: u64 = 1_099_511_627_776;
 /// The instructions that a run takes at most where the command line doesn't say.
 pub const DEFAULT_STEPS: u64 = 1_000_000_000;
 
-/// The most bytes that the code of a function takes for its frame, and for its frame objects: a gigabyte each, so that sums
-/// of addresses and frames stay within 32 bits.
+/// The most bytes that the code of a function takes for its frame, and for its frame objects: a gigabyte each, so that
+/// sums of addresses and frames stay within 32 bits.
 pub const MOST_FRAME_BYTES: u32 = 1_073_741_824;

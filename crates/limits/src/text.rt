@@ -3,14 +3,15 @@
 /// The most bytes of a source text, of an assembly text and of an input that is meant: 1 MB. A longer one is TooLong.
 pub const LONGEST_TEXT: usize = 1_048_576;
 
-/// The most bytes of an image file, 80 MB: at least the header, the most words of text at 4 bytes, and the most bytes of
-/// data. A longer one is TooLong.
+/// The most bytes of an image file, 80 MB: at least the header, the most words of text at 4 bytes, and the most bytes
+/// of data. A longer one is TooLong.
 pub const LONGEST_IMAGE: usize = 83_886_080;
 
 /// The most tokens of a text. A token more is the fault TooManyTokens.
 pub const MAX_TOKENS: usize = 262_144;
 
-/// The most levels of nesting of expressions, statements and brackets in a text. A token that opens one more is TooDeep.
+/// The most levels of nesting of expressions, statements and brackets in a text. A token that opens one more is
+/// TooDeep.
 pub const MAX_NESTING: usize = 200;
 
 /// The largest number of a generated source text.

@@ -142,7 +142,8 @@ fn spill_last(keepers: &mut Row, owners: &[u32], places: &mut [u8], number: u32)
 
 // Visits an interval.
 fn visit(keepers: &mut Row, owners: &mut [u32], places: &mut [u8], x: Interval)
-    requires held { (s : ScanState) × Holds s keepers.old owners.old places.old × Each (λ k. k.interval.reg ≢ x.reg) s.keepers }
+    requires held { (s : ScanState) × Holds s keepers.old owners.old places.old ×
+        Each (λ k. k.interval.reg ≢ x.reg) s.keepers }
     requires reg { x.reg < length places.old }
     ensures { (s : ScanState) → Holds s keepers.old owners.old places.old → IsFresh x s →
         Holds (visit s x) keepers.new owners.new places.new }

@@ -1,6 +1,5 @@
 -- The value of a constant: of a number, or of operators on constants. It is the value that a run would have, and a
--- constant
--- whose division would trap in a run has none. Every other node is no constant.
+-- constant whose division would trap in a run has none. Every other node is no constant.
 use Rattle.std.specs.Prelude.{ℕ, Option, Some, None}
 use Rattle.icode_ops.specs.declared.kind.BinKind.{BinKind}
 use Rattle.icode_ops.specs.declared.kind.UnKind.{UnKind}

@@ -1,6 +1,5 @@
 -- The value of an operator on words, where it has one: a division that would trap has none. The values and the traps
--- are those
--- of a run.
+-- are those of a run.
 use Rattle.std.specs.Prelude.{ℕ, Option, Some, None}
 use Rattle.host_edge.specs.declared.ending.TrapKind.{TrapKind}
 use Rattle.icode_ops.specs.declared.kind.BinKind.{BinKind}

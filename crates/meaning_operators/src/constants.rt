@@ -28,8 +28,9 @@ fn on_one(kind: UnKind, a: Option<u32>) -> Option<u32>
     }
 }
 
-/// The value of an expression that is made of numbers and operators on words, as a run would have it. None for every other
-/// expression, and where a division would trap. That a text's expression has the form of a constant is a rule of its own.
+/// The value of an expression that is made of numbers and operators on words, as a run would have it. None for every
+/// other expression, and where a division would trap. That a text's expression has the form of a constant is a rule of
+/// its own.
 #[tactic(auto, using(crate::proofs::Nodes::constants))]
 pub fn constant_value(e: &Expr) -> Option<u32>
     ensures { result ≡ spec.constant e.now }

@@ -1,3 +1,4 @@
 pub mod Operators
+pub mod Bodies
 pub mod Shared
 pub mod Rows

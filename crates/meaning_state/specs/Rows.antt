@@ -1,12 +1,12 @@
 -- The rows of specifications and of compiled functions: what stands in them, how they grow, and their limits. A closure
--- has
--- sixteen bytes and four for each capture. These are this project's own rules.
+-- has sixteen bytes and four for each capture. These are this project's own rules.
 use Rattle.std.specs.Prelude.{ℕ, zero, suc, ◌+◌, ◌*◌, Bool, true, false, nat_eq, nat_le, nat_lt, if◌then◌else◌, max}
 use Rattle.std.specs.Prelude.{List, [], ◌∷◌, ◌++◌, length, slice_get, Option, Some, None}
 use Rattle.host_edge.specs.declared.ending.TrapKind.{TrapKind}
 use Rattle.host_edge.specs.declared.ending.TrapKind.TheVariants.{BadParam, SpecLimit, SizeLimit, TableLimit, ArenaLimit}
 use Rattle.history.specs.Syntax.{Syntax, Ticked, Captures, NoCapture, Word, Named, Spliced}
 use Rattle.history.specs.Events.{Made}
+use Rattle.meaning_state.specs.Bodies.{Body, new_body, place_for}
 use Rattle.meaning_state.specs.Shared.{Shared, Specification, happens}
 use Rattle.limits.specs.declared.program.TheConstants.{MOST_ARGUMENTS, SIZE_LIMIT, WORDS_OF_A_BODY, WORDS_OF_A_NODE}
 use Rattle.limits.specs.declared.run.TheConstants.{CAPTURE_BYTES, CLOSURE_HEAD_BYTES}
@@ -99,14 +99,28 @@ arena_words size = WORDS_OF_A_NODE * size + WORDS_OF_A_BODY
 abbrev pub table_trap : (function : ℕ) → Option TrapKind
 table_trap function = if nat_lt function FUNCTION_ROWS then None else Some TableLimit
 
+-- the first word of a body of so many words, where there is one
+abbrev pub next_place : (count : ℕ) → Shared → Option ℕ
+next_place count shared = place_for count ARENA_WORDS shared.bodies
+
+abbrev pub place_trap : Option ℕ → Option TrapKind
+place_trap None = Some ArenaLimit
+place_trap (Some place) = None
+
 abbrev pub arena_trap : (size : ℕ) → Shared → Option TrapKind
-arena_trap size shared = if nat_le (shared.arena + arena_words size) ARENA_WORDS then None else Some ArenaLimit
+arena_trap size shared = place_trap (next_place (arena_words size) shared)
 
 -- the number of the next function, behind so many of the text
 abbrev pub next_function : (functions : ℕ) → Shared → ℕ
-next_function functions shared = suc (functions + length shared.compiled)
+next_function functions shared = suc (functions + length shared.bodies)
+
+-- a body more, where there is a place
+abbrev pub placed : Option ℕ → Syntax → (count : ℕ) → List Body → List Body
+placed None syntax count bodies = bodies
+placed (Some place) syntax count bodies = bodies ++ new_body syntax place count ∷ []
 
 abbrev pub made : (function : ℕ) → Syntax → (size : ℕ) → Shared → Shared
 made function syntax size shared =
+    let count = arena_words size in
     happens (Made function syntax)
-    (record shared { compiled = shared.compiled ++ syntax ∷ []; arena = shared.arena + arena_words size })
+    (record shared { bodies = placed (next_place count shared) syntax count shared.bodies })

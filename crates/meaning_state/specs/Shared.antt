@@ -1,8 +1,6 @@
 -- The state that outlives a call, on the source's side and on the staged machine's alike: the events so far, the input
 -- that is left, the objects with addresses, the next place of the heap, what the active calls are charged, and the rows
--- of
--- specifications and of compiled functions with their charges. How it changes is told once: here, and of the rows in
--- `Rows`.
+-- of specifications and of bodies that were compiled. How it changes is told once: here, and of the rows in `Rows`.
 -- The addresses of the parts of the object space are this project's own.
 use Rattle.std.specs.Prelude.{ℕ, ◌+◌, ◌-◌, ◌*◌, ◌/◌, ◌%◌, Bool, false, nat_eq, nat_le, if◌then◌else◌, List, [], ◌∷◌}
 use Rattle.std.specs.Prelude.{◌++◌, Option, Some, None}
@@ -12,6 +10,7 @@ use Rattle.word32.specs.declared.width.Width.{Width}
 use Rattle.host_edge.specs.declared.ending.TrapKind.{TrapKind}
 use Rattle.host_edge.specs.declared.ending.TrapKind.TheVariants.{Range, Misaligned, StackLimit, FrameLimit}
 use Rattle.history.specs.Syntax.{Syntax}
+use Rattle.meaning_state.specs.Bodies.{Body}
 use Rattle.history.specs.Events.{Item, Out, In, Input, Next, Given, AtEnd, Failing, next_byte, outs, number_bytes}
 use Rattle.limits.specs.declared.program.TheConstants.{FRAME_OBJECT_BYTES}
 use Rattle.word32.specs.declared.map.TheConstants.{FRAMES, OBJECTS, OBJECTS_END, OBJECT_BYTES, STACK_BYTES}
@@ -37,9 +36,8 @@ pub record Shared : Type 0 where
   -- the specifications that were evaluated, the first of which has the number 1, and the bytes of their closures
   pub specifications : List Specification
   pub closures : ℕ
-  -- the functions that were compiled, whose numbers follow those of the text's, and the words that they are charged
-  pub compiled : List Syntax
-  pub arena : ℕ
+  -- the bodies of the functions that were compiled, whose numbers follow those of the text's
+  pub bodies : List Body
 
 -- an event more
 abbrev pub happens : Item → Shared → Shared
@@ -112,8 +110,7 @@ abbrev pub discharged : ℕ → ℕ → Shared → Shared
 discharged charge object shared = record shared { used = shared.used - charge; frames = shared.frames - object }
 
 -- malloc answers 0 where the rest of the heap is smaller than its argument, and else the next place of the heap, which
--- moves
--- on in multiples of 8
+-- moves on in multiples of 8
 abbrev pub is_room : ℕ → Shared → Bool
 is_room bytes shared = nat_le bytes (FRAMES - shared.heap)
 

@@ -26,7 +26,12 @@ impl Model for MemSink {
 
     ghost Value = { SinkView };
 
-    ghost view = { λ a. record { taken = a.bytes.items; free = a.room - vec_len a.bytes; single = a.single; calls = a.calls } };
+    ghost view = { λ a. record {
+      taken = a.bytes.items;
+      free = a.room - vec_len a.bytes;
+      single = a.single;
+      calls = a.calls;
+    } };
 
     ghost invariant = { λ a. (vec_len a.bytes ≤ a.room) × (a.room ≤ vec_capacity a.bytes) };
 }

@@ -1,5 +1,6 @@
 //! A store in memory, which fails at listed calls.
-ghost use Rattle.std.specs.Prelude.{◌≡◌, ◌≢◌, ◌≤◌, ◌/◌, ℕ, List, [], OnOk, OnErr, IfOk, IsErrOf, Some, None, vec_len, length, take, MatchOption, if◌then◌else◌};
+ghost use Rattle.std.specs.Prelude.{◌≡◌, ◌≢◌, ◌≤◌, ◌/◌, ℕ, List, [], OnOk, OnErr, IfOk, IsErrOf, Some, None, vec_len};
+ghost use Rattle.std.specs.Prelude.{length, take, MatchOption, if◌then◌else◌};
 ghost use Rattle.memory_edge.specs.Memory.{planned};
 
 use crate::calls::Calls;

@@ -1,7 +1,6 @@
 -- Instructions by their names in assembly text, with their operands in that text's order, and the registers of the code
 -- generator by their usual names. A register is its number, and an offset or immediate its 16 bits. The names are those
--- of
--- the MIPS R2000 architecture manual; what the code generator does with a register is this project's own rule.
+-- of the MIPS R2000 architecture manual; what the code generator does with a register is this project's own rule.
 use Rattle.std.specs.Prelude.{ℕ, ◌/◌, ◌%◌, List, [], ◌∷◌}
 use Rattle.mips_encoder.specs.declared.instruction.Instr.{Instr}
 use Rattle.mips_encoder.specs.declared.instruction.Instr.TheVariants as instr

@@ -1,32 +1,12 @@
 -- The two directions of the table are inverse: `instr_of-word_of` reads each instruction that fits back from its word,
--- and
--- `word_of-instr_of` gives back each word that is read. Both are for every crate that makes or reads words.
--- A word's fields are found first, as a record of equations on numbers; the row of the table follows from them.
+-- and `word_of-instr_of` gives back each word that is read. Both are for every crate that makes or reads words. A
+-- word's fields are found first, as a record of equations on numbers; the row of the table follows from them.
 use Rattle.std.proofs.Common.{◌≡◌, ◌≢◌, ℕ, ◌+◌, ◌*◌, ◌/◌, ◌%◌, ◌<◌, Bool, true, false, Option, Some, None, cond, arith}
 use Rattle.std.proofs.Common.{refl, sym, ap, subst, ◌∙◌, lit<}
 use Rattle.std.proofs.lemmas.Bool.{cond_both, eqb-true}
 use Rattle.std.specs.Prelude.{◌==◌, IfSome}
 use Rattle.mips_encoder.specs.declared.instruction.Instr.{Instr}
-use Rattle.mips_encoder.specs.declared.instruction.Instr.TheVariants.{
-  Arithmetic,
-  Shift,
-  ShiftVariable,
-  JumpRegister,
-  JumpAndLinkRegister,
-  Syscall,
-  Break,
-  MoveFrom,
-  MoveTo,
-  MultiplyDivide,
-  BranchOnSign,
-  BranchOnSignAndLink,
-  Jump,
-  BranchOnEquality,
-  BranchOnZero,
-  ImmediateArithmetic,
-  LoadUpperImmediate,
-  Memory,
-}
+use Rattle.mips_encoder.specs.declared.instruction.Instr.TheVariants as instr
 use Rattle.mips_encoder.specs.Table.{word_of, Fits}
 use Rattle.mips_encoder.specs.Table as table
 use Rattle.mips_encoder.specs.Decoded as decoded
@@ -133,7 +113,7 @@ arithmetic_code_small Slt = lit< tt
 arithmetic_code_small Sltu = lit< tt
 
 arithmetic_at : (op : ArithmeticOp) (w rd rs rt : ℕ) → SpecialFields w rs rt rd 0 (arithmetic_code op)
-    → decoded.instr_of w ≡ Some (Arithmetic op rd rs rt)
+    → decoded.instr_of w ≡ Some (instr.Arithmetic op rd rs rt)
 arithmetic_at Add w rd rs rt h = grind arith
 arithmetic_at Addu w rd rs rt h = grind arith
 arithmetic_at Sub w rd rs rt h = grind arith
@@ -151,7 +131,7 @@ shift_code_small Srl = lit< tt
 shift_code_small Sra = lit< tt
 
 shift_at : (op : ShiftOp) (w rd rt shamt : ℕ) → SpecialFields w 0 rt rd shamt (shift_code op)
-    → decoded.instr_of w ≡ Some (Shift op rd rt shamt)
+    → decoded.instr_of w ≡ Some (instr.Shift op rd rt shamt)
 shift_at Sll w rd rt shamt h = grind arith
 shift_at Srl w rd rt shamt h = grind arith
 shift_at Sra w rd rt shamt h = grind arith
@@ -162,7 +142,7 @@ shift_variable_code_small Srlv = lit< tt
 shift_variable_code_small Srav = lit< tt
 
 shift_variable_at : (op : ShiftVariableOp) (w rd rt rs : ℕ) → SpecialFields w rs rt rd 0 (shift_variable_code op)
-    → decoded.instr_of w ≡ Some (ShiftVariable op rd rt rs)
+    → decoded.instr_of w ≡ Some (instr.ShiftVariable op rd rt rs)
 shift_variable_at Sllv w rd rt rs h = grind arith
 shift_variable_at Srlv w rd rt rs h = grind arith
 shift_variable_at Srav w rd rt rs h = grind arith
@@ -172,7 +152,7 @@ move_from_code_small Hi = lit< tt
 move_from_code_small Lo = lit< tt
 
 move_from_at : (op : HiLo) (w rd : ℕ) → SpecialFields w 0 0 rd 0 (move_from_code op)
-    → decoded.instr_of w ≡ Some (MoveFrom op rd)
+    → decoded.instr_of w ≡ Some (instr.MoveFrom op rd)
 move_from_at Hi w rd h = grind arith
 move_from_at Lo w rd h = grind arith
 
@@ -181,7 +161,7 @@ move_to_code_small Hi = lit< tt
 move_to_code_small Lo = lit< tt
 
 move_to_at : (op : HiLo) (w rs : ℕ) → SpecialFields w rs 0 0 0 (move_to_code op) →
-    decoded.instr_of w ≡ Some (MoveTo op rs)
+    decoded.instr_of w ≡ Some (instr.MoveTo op rs)
 move_to_at Hi w rs h = grind arith
 move_to_at Lo w rs h = grind arith
 
@@ -192,7 +172,7 @@ multiply_divide_code_small Div = lit< tt
 multiply_divide_code_small Divu = lit< tt
 
 multiply_divide_at : (op : MultiplyDivideOp) (w rs rt : ℕ) → SpecialFields w rs rt 0 0 (multiply_divide_code op)
-    → decoded.instr_of w ≡ Some (MultiplyDivide op rs rt)
+    → decoded.instr_of w ≡ Some (instr.MultiplyDivide op rs rt)
 multiply_divide_at Mult w rs rt h = grind arith
 multiply_divide_at Multu w rs rt h = grind arith
 multiply_divide_at Div w rs rt h = grind arith
@@ -204,7 +184,7 @@ equality_code_small Bne = lit< tt
 
 branch_on_equality_at : (op : EqualityOp) (w rs rt immediate : ℕ)
     → ImmediateFields w (equality_code op) rs rt immediate
-    → decoded.instr_of w ≡ Some (BranchOnEquality op rs rt immediate)
+    → decoded.instr_of w ≡ Some (instr.BranchOnEquality op rs rt immediate)
 branch_on_equality_at Beq w rs rt immediate h = grind arith
 branch_on_equality_at Bne w rs rt immediate h = grind arith
 
@@ -214,7 +194,7 @@ zero_comparison_code_small Bgtz = lit< tt
 
 branch_on_zero_at : (op : ZeroComparisonOp) (w rs immediate : ℕ)
     → ImmediateFields w (zero_comparison_code op) rs 0 immediate
-    → decoded.instr_of w ≡ Some (BranchOnZero op rs immediate)
+    → decoded.instr_of w ≡ Some (instr.BranchOnZero op rs immediate)
 branch_on_zero_at Blez w rs immediate h = grind arith
 branch_on_zero_at Bgtz w rs immediate h = grind arith
 
@@ -229,7 +209,7 @@ immediate_code_small Xori = lit< tt
 
 immediate_arithmetic_at : (op : ImmediateOp) (w rt rs immediate : ℕ)
     → ImmediateFields w (immediate_code op) rs rt immediate
-    → decoded.instr_of w ≡ Some (ImmediateArithmetic op rt rs immediate)
+    → decoded.instr_of w ≡ Some (instr.ImmediateArithmetic op rt rs immediate)
 immediate_arithmetic_at Addi w rt rs immediate h = grind arith
 immediate_arithmetic_at Addiu w rt rs immediate h = grind arith
 immediate_arithmetic_at Slti w rt rs immediate h = grind arith
@@ -249,7 +229,7 @@ memory_code_small Sh = lit< tt
 memory_code_small Sw = lit< tt
 
 memory_at : (op : MemoryOp) (w rt immediate rs : ℕ) → ImmediateFields w (memory_code op) rs rt immediate
-    → decoded.instr_of w ≡ Some (Memory op rt immediate rs)
+    → decoded.instr_of w ≡ Some (instr.Memory op rt immediate rs)
 memory_at Lb w rt immediate rs h = grind arith
 memory_at Lh w rt immediate rs h = grind arith
 memory_at Lw w rt immediate rs h = grind arith
@@ -260,7 +240,7 @@ memory_at Sh w rt immediate rs h = grind arith
 memory_at Sw w rt immediate rs h = grind arith
 
 branch_on_sign_at : (op : SignTest) (w rs immediate : ℕ) → ImmediateFields w 1 rs (sign_code op) immediate
-    → decoded.instr_of w ≡ Some (BranchOnSign op rs immediate)
+    → decoded.instr_of w ≡ Some (instr.BranchOnSign op rs immediate)
 branch_on_sign_at Negative w rs immediate h = grind arith
 branch_on_sign_at NonNegative w rs immediate h = grind arith
 
@@ -271,12 +251,12 @@ branch_on_sign_and_link_there NonNegative w a b = grind arith
 
 branch_on_sign_and_link_some : (op : SignTest) (w rs immediate : ℕ) → rs < 31 → field.rs w ≡ rs
     → field.immediate w ≡ immediate
-    → decoded.branch_on_sign_and_link op w ≡ Some (BranchOnSignAndLink op rs immediate)
+    → decoded.branch_on_sign_and_link op w ≡ Some (instr.BranchOnSignAndLink op rs immediate)
 branch_on_sign_and_link_some op w rs immediate a b c = grind arith
 
 branch_on_sign_and_link_at : (op : SignTest) (w rs immediate : ℕ) → rs < 31
     → ImmediateFields w 1 rs (16 + sign_code op) immediate
-    → decoded.instr_of w ≡ Some (BranchOnSignAndLink op rs immediate)
+    → decoded.instr_of w ≡ Some (instr.BranchOnSignAndLink op rs immediate)
 branch_on_sign_and_link_at op w rs immediate a h =
     branch_on_sign_and_link_there op w h.opcode_is h.rt_is
     ∙ branch_on_sign_and_link_some op w rs immediate a h.rs_is h.immediate_is
@@ -286,73 +266,73 @@ sign_code_small Negative = lit< tt
 sign_code_small NonNegative = lit< tt
 
 jump_at : (op : JumpOp) (w target : ℕ) → field.opcode w ≡ jump_code op → w % 67108864 ≡ target
-    → decoded.instr_of w ≡ Some (Jump op target)
+    → decoded.instr_of w ≡ Some (instr.Jump op target)
 jump_at J w target a b = grind arith
 jump_at Jal w target a b = grind arith
 
 upper_at : (w rt immediate : ℕ) → ImmediateFields w 15 0 rt immediate
-    → decoded.instr_of w ≡ Some (LoadUpperImmediate rt immediate)
+    → decoded.instr_of w ≡ Some (instr.LoadUpperImmediate rt immediate)
 upper_at w rt immediate h = grind arith
 
-jump_register_at : (w rs : ℕ) → SpecialFields w rs 0 0 0 8 → decoded.instr_of w ≡ Some (JumpRegister rs)
+jump_register_at : (w rs : ℕ) → SpecialFields w rs 0 0 0 8 → decoded.instr_of w ≡ Some (instr.JumpRegister rs)
 jump_register_at w rs h = grind arith
 
 jump_and_link_register_at : (w rd rs : ℕ) → rd ≢ rs → SpecialFields w rs 0 rd 0 9
-    → decoded.instr_of w ≡ Some (JumpAndLinkRegister (record { rd = rd; rs = rs }))
+    → decoded.instr_of w ≡ Some (instr.JumpAndLinkRegister (record { rd = rd; rs = rs }))
 jump_and_link_register_at w rd rs d h = grind arith
 
 break_at : (w code : ℕ) → field.opcode w ≡ 0 → field.funct w ≡ 13 → w / 64 % 1048576 ≡ code
-    → decoded.instr_of w ≡ Some (Break code)
+    → decoded.instr_of w ≡ Some (instr.Break code)
 break_at w code a b c = grind arith
 
 -- each instruction is that of its word
 pub instr_of-word_of : (i : Instr) → Fits i → decoded.instr_of (word_of i) ≡ Some i
-instr_of-word_of (Arithmetic op rd rs rt) (hrd, hrs, hrt) =
+instr_of-word_of (instr.Arithmetic op rd rs rt) (hrd, hrs, hrt) =
     arithmetic_at op _ rd rs rt
     (special_fields rs rt rd 0 (arithmetic_code op) hrs hrt hrd (lit< tt) (arithmetic_code_small op))
-instr_of-word_of (Shift op rd rt shamt) (hrd, hrt, hshamt) =
+instr_of-word_of (instr.Shift op rd rt shamt) (hrd, hrt, hshamt) =
     shift_at op _ rd rt shamt
     (special_fields 0 rt rd shamt (shift_code op) (lit< tt) hrt hrd hshamt (shift_code_small op))
-instr_of-word_of (ShiftVariable op rd rt rs) (hrd, hrt, hrs) =
+instr_of-word_of (instr.ShiftVariable op rd rt rs) (hrd, hrt, hrs) =
     shift_variable_at op _ rd rt rs
     (special_fields rs rt rd 0 (shift_variable_code op) hrs hrt hrd (lit< tt) (shift_variable_code_small op))
-instr_of-word_of (MoveFrom op rd) hrd =
+instr_of-word_of (instr.MoveFrom op rd) hrd =
     move_from_at op _ rd
     (special_fields 0 0 rd 0 (move_from_code op) (lit< tt) (lit< tt) hrd (lit< tt) (move_from_code_small op))
-instr_of-word_of (MoveTo op rs) hrs =
+instr_of-word_of (instr.MoveTo op rs) hrs =
     move_to_at op _ rs
     (special_fields rs 0 0 0 (move_to_code op) hrs (lit< tt) (lit< tt) (lit< tt) (move_to_code_small op))
-instr_of-word_of (MultiplyDivide op rs rt) (hrs, hrt) =
+instr_of-word_of (instr.MultiplyDivide op rs rt) (hrs, hrt) =
     multiply_divide_at op _ rs rt
     (special_fields rs rt 0 0 (multiply_divide_code op) hrs hrt (lit< tt) (lit< tt) (multiply_divide_code_small op))
-instr_of-word_of (JumpRegister rs) a =
+instr_of-word_of (instr.JumpRegister rs) a =
     jump_register_at _ rs (special_fields rs 0 0 0 8 a (lit< tt) (lit< tt) (lit< tt) (lit< tt))
-instr_of-word_of (JumpAndLinkRegister p) (a, b, c) =
+instr_of-word_of (instr.JumpAndLinkRegister p) (a, b, c) =
     jump_and_link_register_at _ p.rd p.rs c (special_fields p.rs 0 p.rd 0 9 b (lit< tt) a (lit< tt) (lit< tt))
-instr_of-word_of Syscall a = refl
-instr_of-word_of (Break code) a = break_at (code * 64 + 13) code (omega arith) (omega arith) (omega arith)
-instr_of-word_of (BranchOnEquality op rs rt immediate) (hrs, hrt, hlow) =
+instr_of-word_of instr.Syscall a = refl
+instr_of-word_of (instr.Break code) a = break_at (code * 64 + 13) code (omega arith) (omega arith) (omega arith)
+instr_of-word_of (instr.BranchOnEquality op rs rt immediate) (hrs, hrt, hlow) =
     branch_on_equality_at op _ rs rt immediate
     (immediate_fields (equality_code op) rs rt immediate (equality_code_small op) hrs hrt hlow)
-instr_of-word_of (BranchOnZero op rs immediate) (hrs, hlow) =
+instr_of-word_of (instr.BranchOnZero op rs immediate) (hrs, hlow) =
     branch_on_zero_at op _ rs immediate
     (immediate_fields (zero_comparison_code op) rs 0 immediate (zero_comparison_code_small op) hrs (lit< tt) hlow)
-instr_of-word_of (ImmediateArithmetic op rt rs immediate) (hrt, hrs, hlow) =
+instr_of-word_of (instr.ImmediateArithmetic op rt rs immediate) (hrt, hrs, hlow) =
     immediate_arithmetic_at op _ rt rs immediate
     (immediate_fields (immediate_code op) rs rt immediate (immediate_code_small op) hrs hrt hlow)
-instr_of-word_of (Memory op rt immediate rs) (hrt, hlow, hrs) =
+instr_of-word_of (instr.Memory op rt immediate rs) (hrt, hlow, hrs) =
     memory_at op _ rt immediate rs
     (immediate_fields (memory_code op) rs rt immediate (memory_code_small op) hrs hrt hlow)
-instr_of-word_of (BranchOnSign op rs immediate) (a, b) =
+instr_of-word_of (instr.BranchOnSign op rs immediate) (a, b) =
     branch_on_sign_at op _ rs immediate
     (immediate_fields 1 rs (sign_code op) immediate (lit< tt) a (omega (arith, sign_code_small op)) b)
-instr_of-word_of (BranchOnSignAndLink op rs immediate) (a, b) =
+instr_of-word_of (instr.BranchOnSignAndLink op rs immediate) (a, b) =
     branch_on_sign_and_link_at op _ rs immediate a
     (immediate_fields 1 rs (16 + sign_code op) immediate (lit< tt) (omega arith) (sign_code_small op) b)
-instr_of-word_of (LoadUpperImmediate rt immediate) (a, b) =
+instr_of-word_of (instr.LoadUpperImmediate rt immediate) (a, b) =
     upper_at _ rt immediate (immediate_fields 15 0 rt immediate (lit< tt) (lit< tt) a b)
-instr_of-word_of (Jump J target) a = jump_at J (2 * 67108864 + target) target (omega arith) (omega arith)
-instr_of-word_of (Jump Jal target) a = jump_at Jal (3 * 67108864 + target) target (omega arith) (omega arith)
+instr_of-word_of (instr.Jump J target) a = jump_at J (2 * 67108864 + target) target (omega arith) (omega arith)
+instr_of-word_of (instr.Jump Jal target) a = jump_at Jal (3 * 67108864 + target) target (omega arith) (omega arith)
 
 abbrev pub Back : ℕ → Option Instr → Type 0
 Back w None = Unit {0}
@@ -415,7 +395,7 @@ branch_on_sign_back op w a b = omega arith
 branch_on_sign_and_link_back : (op : SignTest) (w : ℕ) → field.opcode w ≡ 1 → field.rt w ≡ 16 + sign_code op
     → Back w (decoded.branch_on_sign_and_link op w)
 branch_on_sign_and_link_back op w a b =
-    cond_both (field.rs w == 31) None (Some (BranchOnSignAndLink op (field.rs w) (field.immediate w))) (Back w)
+    cond_both (field.rs w == 31) None (Some (instr.BranchOnSignAndLink op (field.rs w) (field.immediate w))) (Back w)
     (λ h. tt) (λ h. omega arith)
 
 jump_and_link_register_back : (w : ℕ) → field.opcode w ≡ 0 → field.funct w ≡ 9 →
@@ -424,15 +404,15 @@ jump_and_link_register_back w a b = cond_both (field.rd w == field.rs w) None _ 
     (λ h. back_only w _ _ (λ t. let k : (field.rt w ≡ 0) × (field.shamt w ≡ 0) = grind (arith, t) in omega arith))
 
 jump_register_back : (w : ℕ) → field.opcode w ≡ 0 → field.funct w ≡ 8
-    → Back w (decoded.only (w / 64 % 32768 == 0) (JumpRegister (field.rs w)))
+    → Back w (decoded.only (w / 64 % 32768 == 0) (instr.JumpRegister (field.rs w)))
 jump_register_back w a b =
     back_only w _ _ (λ h. let k : w / 64 % 32768 ≡ 0 = eqb-true (w / 64 % 32768) 0 h in omega arith)
 
-break_back : (w : ℕ) → field.opcode w ≡ 0 → field.funct w ≡ 13 → Back w (Some (Break (w / 64 % 1048576)))
+break_back : (w : ℕ) → field.opcode w ≡ 0 → field.funct w ≡ 13 → Back w (Some (instr.Break (w / 64 % 1048576)))
 break_back w a b = omega arith
 
 upper_back : (w : ℕ) → field.opcode w ≡ 15
-    → Back w (decoded.only (field.rs w == 0) (LoadUpperImmediate (field.rt w) (field.immediate w)))
+    → Back w (decoded.only (field.rs w == 0) (instr.LoadUpperImmediate (field.rt w) (field.immediate w)))
 upper_back w a = back_only w _ _ (λ h. let k : field.rs w ≡ 0 = eqb-true (field.rs w) 0 h in omega arith)
 
 of_special_back : (w : ℕ) → field.opcode w ≡ 0 → Back w (decoded.of_special w)
@@ -475,7 +455,7 @@ of_regimm_back w a =
     back_row w (field.rt w) 17 _ _ (λ h. branch_on_sign_and_link_back NonNegative w a h) (
     tt))))
 
-jump_back : (op : JumpOp) (w : ℕ) → field.opcode w ≡ jump_code op → Back w (Some (Jump op (w % 67108864)))
+jump_back : (op : JumpOp) (w : ℕ) → field.opcode w ≡ jump_code op → Back w (Some (instr.Jump op (w % 67108864)))
 jump_back op w a = omega arith
 
 instr_of_back : (w : ℕ) → Back w (decoded.instr_of w)

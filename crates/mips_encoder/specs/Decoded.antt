@@ -8,26 +8,7 @@
 use Rattle.std.specs.Prelude.{ℕ, ◌/◌, ◌%◌, List, [], ◌∷◌, Bool, ◌==◌, ◌&&◌, Option, Some, None, cond}
 use Rattle.mips_encoder.specs.Fields.{opcode, rs, rt, rd, shamt, funct, immediate}
 use Rattle.mips_encoder.specs.declared.instruction.Instr.{Instr}
-use Rattle.mips_encoder.specs.declared.instruction.Instr.TheVariants.{
-  Arithmetic,
-  Shift,
-  ShiftVariable,
-  JumpRegister,
-  JumpAndLinkRegister,
-  Syscall,
-  Break,
-  MoveFrom,
-  MoveTo,
-  MultiplyDivide,
-  BranchOnSign,
-  BranchOnSignAndLink,
-  Jump,
-  BranchOnEquality,
-  BranchOnZero,
-  ImmediateArithmetic,
-  LoadUpperImmediate,
-  Memory,
-}
+use Rattle.mips_encoder.specs.declared.instruction.Instr.TheVariants as instr
 use Rattle.mips_encoder.specs.declared.instruction.ArithmeticOp.TheVariants.{Add, Addu, Sub, Subu, And, Or, Xor, Nor}
 use Rattle.mips_encoder.specs.declared.instruction.ArithmeticOp.TheVariants.{Slt, Sltu}
 use Rattle.mips_encoder.specs.declared.instruction.ShiftOp.TheVariants.{Sll, Srl, Sra}
@@ -62,33 +43,33 @@ row [] code = None
 row (r ∷ rs) code = cond (code == r.0) r.1 (row rs code)
 
 abbrev pub arithmetic : ArithmeticOp → ℕ → Option Instr
-arithmetic op w = only (shamt w == 0) (Arithmetic op (rd w) (rs w) (rt w))
+arithmetic op w = only (shamt w == 0) (instr.Arithmetic op (rd w) (rs w) (rt w))
 
 abbrev pub shift : ShiftOp → ℕ → Option Instr
-shift op w = only (rs w == 0) (Shift op (rd w) (rt w) (shamt w))
+shift op w = only (rs w == 0) (instr.Shift op (rd w) (rt w) (shamt w))
 
 abbrev pub shift_variable : ShiftVariableOp → ℕ → Option Instr
-shift_variable op w = only (shamt w == 0) (ShiftVariable op (rd w) (rt w) (rs w))
+shift_variable op w = only (shamt w == 0) (instr.ShiftVariable op (rd w) (rt w) (rs w))
 
 abbrev pub multiply_divide : MultiplyDivideOp → ℕ → Option Instr
-multiply_divide op w = only (w / 64 % 1024 == 0) (MultiplyDivide op (rs w) (rt w))
+multiply_divide op w = only (w / 64 % 1024 == 0) (instr.MultiplyDivide op (rs w) (rt w))
 
 abbrev pub move_from : HiLo → ℕ → Option Instr
-move_from source w = only ((w / 65536 == 0) && (shamt w == 0)) (MoveFrom source (rd w))
+move_from source w = only ((w / 65536 == 0) && (shamt w == 0)) (instr.MoveFrom source (rd w))
 
 abbrev pub move_to : HiLo → ℕ → Option Instr
-move_to source w = only (w / 64 % 32768 == 0) (MoveTo source (rs w))
+move_to source w = only (w / 64 % 32768 == 0) (instr.MoveTo source (rs w))
 
 abbrev pub jump_and_link_register : ℕ → Option Instr
 jump_and_link_register w =
     cond (rd w == rs w) None
-    (only ((rt w == 0) && (shamt w == 0)) (JumpAndLinkRegister (record { rd = rd w; rs = rs w })))
+    (only ((rt w == 0) && (shamt w == 0)) (instr.JumpAndLinkRegister (record { rd = rd w; rs = rs w })))
 
 abbrev pub jump_register : ℕ → Option Instr
-jump_register w = only (w / 64 % 32768 == 0) (JumpRegister (rs w))
+jump_register w = only (w / 64 % 32768 == 0) (instr.JumpRegister (rs w))
 
 abbrev pub syscall : ℕ → Option Instr
-syscall w = only (w == 12) Syscall
+syscall w = only (w == 12) instr.Syscall
 
 -- Opcode 0, by the function field.
 abbrev pub of_special : ℕ → Option Instr
@@ -96,7 +77,7 @@ of_special w = row
     ((0, shift Sll w) ∷ (2, shift Srl w) ∷ (3, shift Sra w)
     ∷ (4, shift_variable Sllv w) ∷ (6, shift_variable Srlv w) ∷ (7, shift_variable Srav w)
     ∷ (8, jump_register w) ∷ (9, jump_and_link_register w)
-    ∷ (12, syscall w) ∷ (13, Some (Break (w / 64 % 1048576)))
+    ∷ (12, syscall w) ∷ (13, Some (instr.Break (w / 64 % 1048576)))
     ∷ (16, move_from Hi w) ∷ (17, move_to Hi w) ∷ (18, move_from Lo w) ∷ (19, move_to Lo w)
     ∷ (24, multiply_divide Mult w) ∷ (25, multiply_divide Multu w)
     ∷ (26, multiply_divide Div w) ∷ (27, multiply_divide Divu w)
@@ -106,11 +87,11 @@ of_special w = row
     (funct w)
 
 abbrev pub branch_on_sign : SignTest → ℕ → Option Instr
-branch_on_sign test w = Some (BranchOnSign test (rs w) (immediate w))
+branch_on_sign test w = Some (instr.BranchOnSign test (rs w) (immediate w))
 
 abbrev pub branch_on_sign_and_link : SignTest → ℕ → Option Instr
 branch_on_sign_and_link test w =
-    cond (rs w == 31) None (Some (BranchOnSignAndLink test (rs w) (immediate w)))
+    cond (rs w == 31) None (Some (instr.BranchOnSignAndLink test (rs w) (immediate w)))
 
 -- Opcode 1, by the field rt.
 abbrev pub of_regimm : ℕ → Option Instr
@@ -120,22 +101,22 @@ of_regimm w = row
     (rt w)
 
 abbrev pub branch_on_equality : EqualityOp → ℕ → Option Instr
-branch_on_equality op w = Some (BranchOnEquality op (rs w) (rt w) (immediate w))
+branch_on_equality op w = Some (instr.BranchOnEquality op (rs w) (rt w) (immediate w))
 
 abbrev pub branch_on_zero : ZeroComparisonOp → ℕ → Option Instr
-branch_on_zero op w = only (rt w == 0) (BranchOnZero op (rs w) (immediate w))
+branch_on_zero op w = only (rt w == 0) (instr.BranchOnZero op (rs w) (immediate w))
 
 abbrev pub immediate_arithmetic : ImmediateOp → ℕ → Option Instr
-immediate_arithmetic op w = Some (ImmediateArithmetic op (rt w) (rs w) (immediate w))
+immediate_arithmetic op w = Some (instr.ImmediateArithmetic op (rt w) (rs w) (immediate w))
 
 abbrev pub memory : MemoryOp → ℕ → Option Instr
-memory op w = Some (Memory op (rt w) (immediate w) (rs w))
+memory op w = Some (instr.Memory op (rt w) (immediate w) (rs w))
 
 abbrev pub jump : JumpOp → ℕ → Option Instr
-jump op w = Some (Jump op (w % 67108864))
+jump op w = Some (instr.Jump op (w % 67108864))
 
 abbrev pub load_upper_immediate : ℕ → Option Instr
-load_upper_immediate w = only (rs w == 0) (LoadUpperImmediate (rt w) (immediate w))
+load_upper_immediate w = only (rs w == 0) (instr.LoadUpperImmediate (rt w) (immediate w))
 
 -- Every word, by its opcode.
 abbrev pub instr_of : ℕ → Option Instr

@@ -1,4 +1,5 @@
-//! Instructions: one variant for each form of the table, with its operation and its operands in the order of assembly text.
+//! Instructions: one variant for each form of the table, with its operation and its operands in the order of assembly
+//! text.
 
 use crate::operand::{BreakCode, Immediate, JumpTarget, LinkPair, LinkSource, ShiftAmount};
 use crate::register::Register;

@@ -339,7 +339,7 @@ steps_end (suc k) j w e alive is =
     ∙ ap (λ (o : Option End). if is_some o then 0 else (1 + steps_within (k + j) (step w))) (alive 0 (omega arith))
     ∙ ap (λ n. 1 + n) (steps_end k j (step w) e (λ m lt. alive (suc m) (omega (arith, lt))) is) ∙ omega arith
 
--- the choice of linear scan is a legal one
+-- the places of linear scan's choice are legal
 legal_for : (o : Option Build) (at most frame : ℕ) (choice : Choice) → ChosenFor o at most frame choice →
     IsLegalFor o at most frame choice
 legal_for None at most frame choice is = tt

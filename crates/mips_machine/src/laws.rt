@@ -53,7 +53,8 @@ pub fn run_twice<I: Source, O: Sink>(
 ) -> Stop
     requires fresh { machine.old.stopped ≡ None }
     requires room { (progress_of machine.old).steps + first + second ≤ 2 ^ 40 }
-    ensures { Ran (first + second) (progress_of machine.old) (progress_of machine.new) (I.left input.old) (I.left input.new) (O.taken out.old) (O.taken out.new) result }
+    ensures { Ran (first + second) (progress_of machine.old) (progress_of machine.new) (I.left input.old)
+        (I.left input.new) (O.taken out.old) (O.taken out.new) result }
 {
     match machine.run(input, out, first) {
         Stop::Steps => machine.run(input, out, second),

@@ -1,5 +1,6 @@
 //! The machine.
-ghost use Rattle.std.specs.Prelude.{◌≡◌, ◌≢◌, ◌≤◌, ◌<◌, ◌+◌, ◌-◌, ◌^◌, true, ℕ, List, Option, IfOk, IfErr, IfSome, None, Some};
+ghost use Rattle.std.specs.Prelude.{◌≡◌, ◌≢◌, ◌≤◌, ◌<◌, ◌+◌, ◌-◌, ◌^◌, true, ℕ, List, Option, IfOk, IfErr, IfSome};
+ghost use Rattle.std.specs.Prelude.{None, Some};
 ghost use Rattle.mips_model.specs.Beside.{is_at_service};
 ghost use Rattle.mips_core.specs.Core.{state_of};
 ghost use Rattle.mips_machine.specs.Progress.{first_progress, counts_of, progress_of};
@@ -175,7 +176,9 @@ impl Machine {
         requires fresh { self.old.stopped ≡ None }
         requires room { self.old.steps + n ≤ 2 ^ 40 }
         ensures within { result ≤ n }
-        ensures ran { (left taken : Option (List ℕ)) → Ran (n - result) (progress_of self.old) (progress_of self.new) left left taken taken (stop_from self.new.stopped) }
+        ensures ran { (left taken : Option (List ℕ)) →
+            Ran (n - result) (progress_of self.old) (progress_of self.new) left left taken taken
+            (stop_from self.new.stopped) }
         ensures none { ReadCause (stop_from self.new.stopped) 0 0 × WriteCause (stop_from self.new.stopped) 0 0 }
         ensures at { result ≢ 0 → self.new.stopped ≡ None → is_at_service (state_of self.new.core) ≡ true }
         ensures next { result ≢ 0 → self.new.stopped ≡ None → self.new.core.next < 4294967296 }
@@ -195,7 +198,8 @@ impl Machine {
         requires some { 0 < n }
         ensures within { result ≤ n }
         ensures less { self.new.stopped ≡ None → result < n }
-        ensures ran { Ran (n - result) (progress_of self.old) (progress_of self.new) (I.left input.old) (I.left input.new) (O.taken out.old) (O.taken out.new) (stop_from self.new.stopped) }
+        ensures ran { Ran (n - result) (progress_of self.old) (progress_of self.new) (I.left input.old)
+            (I.left input.new) (O.taken out.old) (O.taken out.new) (stop_from self.new.stopped) }
         ensures read { ReadCause (stop_from self.new.stopped) (I.faults input.old) (I.faults input.new) }
         ensures write { WriteCause (stop_from self.new.stopped) (O.faults out.old) (O.faults out.new) }
     {
@@ -211,7 +215,8 @@ impl Machine {
     fn go_on<I: Source, O: Sink>(&mut self, input: &mut I, out: &mut O, n: u64) -> Stop
         requires fresh { self.old.stopped ≡ None }
         requires room { self.old.steps + n ≤ 2 ^ 40 }
-        ensures ran { Ran n (progress_of self.old) (progress_of self.new) (I.left input.old) (I.left input.new) (O.taken out.old) (O.taken out.new) result }
+        ensures ran { Ran n (progress_of self.old) (progress_of self.new) (I.left input.old) (I.left input.new)
+            (O.taken out.old) (O.taken out.new) result }
         ensures stopped { self.new.stopped ≡ kept_stop result }
         ensures read { ReadCause result (I.faults input.old) (I.faults input.new) }
         ensures write { WriteCause result (O.faults out.old) (O.faults out.new) }
@@ -232,13 +237,16 @@ impl Machine {
     pub fn run<I: Source, O: Sink>(&mut self, input: &mut I, out: &mut O, n: u64) -> Stop
         requires { (progress_of self.old).steps + n ≤ 2 ^ 40 }
         // From where the machine stood it ran so far, on what the source gave.
-        ensures ran { self.old.stopped ≡ None → Ran n (progress_of self.old) (progress_of self.new) (I.left input.old) (I.left input.new) (O.taken out.old) (O.taken out.new) result }
+        ensures ran { self.old.stopped ≡ None →
+            Ran n (progress_of self.old) (progress_of self.new) (I.left input.old) (I.left input.new) (O.taken out.old)
+            (O.taken out.new) result }
         ensures stopped { self.old.stopped ≡ None → self.new.stopped ≡ kept_stop result }
         // A fault is answered only where its count rose.
         ensures read { self.old.stopped ≡ None → ReadCause result (I.faults input.old) (I.faults input.new) }
         ensures write { self.old.stopped ≡ None → WriteCause result (O.faults out.old) (O.faults out.new) }
         // A stop is answered again, and changes nothing.
-        ensures again { IfSome self.old.stopped (λ stop. (result ≡ stop) × (self.new ≡ self.old) × (input.new ≡ input.old) × (out.new ≡ out.old)) }
+        ensures again { IfSome self.old.stopped
+            (λ stop. (result ≡ stop) × (self.new ≡ self.old) × (input.new ≡ input.old) × (out.new ≡ out.old)) }
     {
         match self.stopped {
             Some(stop) => stop,

@@ -72,7 +72,8 @@ impl Machine {
         requires room { self.old.steps < 2 ^ 40 }
         requires next { self.old.core.next < 4294967296 }
         ensures state { progress_of self.new ≡ answered (argument (progress_of self.old)) (progress_of self.old) }
-        ensures puts { Puts (stop_from self.new.stopped) (O.taken out.old) (O.taken out.new) (number_bytes (argument (progress_of self.old))) }
+        ensures puts { Puts (stop_from self.new.stopped) (O.taken out.old) (O.taken out.new)
+            (number_bytes (argument (progress_of self.old))) }
         ensures cause { WriteCause (stop_from self.new.stopped) (O.faults out.old) (O.faults out.new) }
         ensures no_read { ReadCause (stop_from self.new.stopped) 0 0 }
     {
@@ -98,7 +99,8 @@ impl Machine {
         requires room { self.old.steps < 2 ^ 40 }
         requires next { self.old.core.next < 4294967296 }
         ensures state { progress_of self.new ≡ answered (argument (progress_of self.old) % 256) (progress_of self.old) }
-        ensures puts { Puts (stop_from self.new.stopped) (O.taken out.old) (O.taken out.new) (argument (progress_of self.old) % 256 ∷ []) }
+        ensures puts { Puts (stop_from self.new.stopped) (O.taken out.old) (O.taken out.new)
+            (argument (progress_of self.old) % 256 ∷ []) }
         ensures cause { WriteCause (stop_from self.new.stopped) (O.faults out.old) (O.faults out.new) }
         ensures no_read { ReadCause (stop_from self.new.stopped) 0 0 }
     {
@@ -123,7 +125,8 @@ impl Machine {
         requires fresh { self.old.stopped ≡ None }
         requires room { self.old.steps < 2 ^ 40 }
         requires next { self.old.core.next < 4294967296 }
-        ensures takes { Takes (stop_from self.new.stopped) (progress_of self.old) (progress_of self.new) (I.left input.old) (I.left input.new) }
+        ensures takes { Takes (stop_from self.new.stopped) (progress_of self.old) (progress_of self.new)
+            (I.left input.old) (I.left input.new) }
         ensures cause { ReadCause (stop_from self.new.stopped) (I.faults input.old) (I.faults input.new) }
         ensures no_write { WriteCause (stop_from self.new.stopped) 0 0 }
     {
@@ -163,7 +166,8 @@ impl Machine {
         requires at { is_at_service (state_of self.old.core) ≡ true }
         requires next { self.old.core.next < 4294967296 }
         requires quiet { is_service_hazard (state_of self.old.core) ≡ false }
-        ensures ran { Ran 1 (progress_of self.old) (progress_of self.new) (I.left input.old) (I.left input.new) (O.taken out.old) (O.taken out.new) (stop_from self.new.stopped) }
+        ensures ran { Ran 1 (progress_of self.old) (progress_of self.new) (I.left input.old) (I.left input.new)
+            (O.taken out.old) (O.taken out.new) (stop_from self.new.stopped) }
         ensures read { ReadCause (stop_from self.new.stopped) (I.faults input.old) (I.faults input.new) }
         ensures write { WriteCause (stop_from self.new.stopped) (O.faults out.old) (O.faults out.new) }
     {
@@ -187,7 +191,8 @@ impl Machine {
         requires room { self.old.steps < 2 ^ 40 }
         requires at { is_at_service (state_of self.old.core) ≡ true }
         requires next { self.old.core.next < 4294967296 }
-        ensures ran { Ran 1 (progress_of self.old) (progress_of self.new) (I.left input.old) (I.left input.new) (O.taken out.old) (O.taken out.new) (stop_from self.new.stopped) }
+        ensures ran { Ran 1 (progress_of self.old) (progress_of self.new) (I.left input.old) (I.left input.new)
+            (O.taken out.old) (O.taken out.new) (stop_from self.new.stopped) }
         ensures read { ReadCause (stop_from self.new.stopped) (I.faults input.old) (I.faults input.new) }
         ensures write { WriteCause (stop_from self.new.stopped) (O.faults out.old) (O.faults out.new) }
     {

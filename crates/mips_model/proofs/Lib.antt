@@ -7,3 +7,4 @@ pub mod Reach
 pub mod Traces
 pub mod Loaded
 pub mod Told
+pub mod Passing

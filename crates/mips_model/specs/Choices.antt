@@ -1,11 +1,10 @@
 -- The choice of places that a function is finished with: a place for each of its registers, and how many registers
--- that have an interval were given a slot. A run is defined for every legal choice; the choice that the code makes is
--- that of linear scan over the intervals of the function's ops.
+-- that have an interval were given a slot. A run is defined where the places are legal, whatever is counted; the choice
+-- that the code makes is that of linear scan over the intervals of the function's ops.
 use Rattle.std.specs.Prelude.{ℕ, ◌+◌, ◌≡◌, nat_eq, List, [], ◌∷◌, slice_index, if◌then◌else◌}
 use Rattle.icode_ops.specs.declared.op.Op.{Op}
 use Rattle.icode_ops.specs.declared.interval.Interval.{Interval}
 use Rattle.icode_ops.specs.Live.{AreIntervals}
-use Rattle.icode_ops.specs.Places.{IsLegal}
 use Rattle.linear_scan_spec.specs.Scan.{places_of}
 
 pub record Choice : Type 0 where
@@ -20,13 +19,6 @@ one_spill place = if nat_eq place 12 then 1 else 0
 abbrev pub spilled : List ℕ → List Interval → ℕ
 spilled places [] = 0
 spilled places (x ∷ xs) = one_spill (slice_index places x.reg) + spilled places xs
-
--- legal places, and their slots counted
-pub record IsLegalChoice (ops : List Op) (registers : ℕ) (choice : Choice) : Type 0 where
-  pub legal : IsLegal ops registers choice.places
-  pub intervals : List Interval
-  pub found : AreIntervals ops intervals
-  pub counted : choice.spills ≡ spilled choice.places intervals
 
 -- the places of linear scan, and their slots counted
 pub record IsScanned (ops : List Op) (registers : ℕ) (choice : Choice) : Type 0 where

@@ -3,6 +3,7 @@
 use Rattle.std.specs.Prelude.{◌≡◌, ◌≢◌, ◌⊎◌, ℕ, zero, suc, ◌+◌, ◌*◌, ◌/◌, ◌%◌, ◌<◌, ◌≤◌, Bool, true, false, ◌&&◌, not}
 use Rattle.std.specs.Prelude.{nat_eq}
 use Rattle.std.specs.Prelude.{List, [], map, Option, Some, None, is_some, if◌then◌else◌, ⊤}
+use Rattle.std.specs.Fn.{iterate}
 use Rattle.pace.specs.Pace.{Seen}
 use Rattle.history.specs.Events.{Item, End, Input}
 use Rattle.word32.specs.declared.map.TheConstants.{ARENA, ARENA_WORDS}
@@ -13,7 +14,8 @@ use Rattle.code_arena.specs.declared.arena.WordState.TheVariants.{Unwritten, Wri
 use Rattle.image_file.specs.Image.{ImageParts}
 use Rattle.image_file.specs.declared.image.FunctionEntry.{FunctionEntry}
 use Rattle.icode_ir.specs.Build.{Build, finished}
-use Rattle.mips_model.specs.Choices.{Choice, IsLegalChoice}
+use Rattle.icode_ops.specs.Places.{IsLegal}
+use Rattle.mips_model.specs.Choices.{Choice}
 use Rattle.mips_model.specs.CodeServices.{fresh, finish_refusal}
 use Rattle.mips_encoder.specs.declared.instruction.Instr.TheVariants.{Syscall}
 use Rattle.mips_model.specs.State.{Making, Outside, Data, State, World, register}
@@ -42,8 +44,8 @@ abbrev pub row_of : FunctionEntry → ℕ × ℕ
 row_of f = (f.address, f.count)
 
 -- Registers, HI and LO are 0. The text is the image's, the objects begin with its bytes, its functions are the rows
--- from
--- 1 on, in their order, and everything else is 0; no word of the arena is written, and no other function published.
+-- from 1 on, in their order, and everything else is 0; no word of the arena is written, and no other function
+-- published.
 abbrev pub first_data : List ℕ → List FunctionEntry → Input → List Choice → Data
 first_data bytes functions input row = record {
   registers = λ r. 0;
@@ -87,16 +89,20 @@ is_serving number w =
     if is_some w.ending then false
     else (is_at_service w.state && (nat_eq (register 2 w.state.d) number && not (is_hazard Syscall w.state)))
 
--- the choice is a legal one, where the function that is begun gets as far as that
+-- the places are legal, where the function that is begun gets as far as that
 abbrev pub IsLegalFor : Option Build → (at most frame : ℕ) → Choice → Type 0
 IsLegalFor None at most frame choice = ⊤
 IsLegalFor (Some b) at most frame choice =
-    finish_refusal b at most frame ≡ None → IsLegalChoice (finished b) b.registers choice
+    finish_refusal b at most frame ≡ None → IsLegal (finished b) b.registers choice.places
 
 abbrev pub IsWellChosen : World → Type 0
 IsWellChosen w =
     is_serving 66 w ≡ true → IsLegalFor (generator_of w.state.d).build (register 4 w.state.d) (register 5 w.state.d)
     (register 6 w.state.d) (next_choice w.state.d.outside.making.row)
+
+-- each choice that is met in so many instructions is a legal one
+abbrev pub IsFine : ℕ → World → Type 0
+IsFine n w = (i : ℕ) → i < n → IsWellChosen (iterate step i w)
 
 -- A run is defined for n instructions where each function that is finished in them takes a legal choice. A row that has
 -- come to its end gives the choice without places, which is legal for a function without registers alone.

@@ -4,14 +4,15 @@ use Rattle.word32.specs.declared.map.TheConstants.{ARENA_WORDS}
 use Rattle.code_arena.specs.Arena.{Arena}
 use Rattle.code_arena.specs.declared.arena.WordState.TheVariants.{Written}
 use Rattle.icode_ops.specs.declared.op.Op.{Op}
-use Rattle.mips_model.specs.Choices.{Choice, IsLegalChoice, IsScanned}
+use Rattle.icode_ops.specs.Places.{IsLegal}
+use Rattle.mips_model.specs.Choices.{Choice, IsScanned}
 use Rattle.mips_model.specs.CodeServices.{Generator, Rows, Does, service, written_from}
 
--- the choice by linear scan is a legal one
+-- the places of a choice by linear scan are legal
 abbrev pub ChoicesAreLegal : Type 0
 ChoicesAreLegal =
     (ops : List Op) (registers : ℕ) (choice : Choice) → IsScanned ops registers choice →
-    IsLegalChoice ops registers choice
+    IsLegal ops registers choice.places
 
 -- no service answers more than there are words in the arena
 abbrev pub AnswersAreSmall : Type 0

@@ -1,7 +1,6 @@
 -- The state of the machine between two instructions: the control of the MIPS R2000 (which instruction is next, and what
 -- the last ones forbid it), the words that can be executed, and apart from both what the instructions work on. Memory
--- is
--- that of this project's own map, a function from word numbers (an address over 4) to words for each region.
+-- is that of this project's own map, a function from word numbers (an address over 4) to words for each region.
 use Rattle.std.specs.Prelude.{ℕ, Bool, List, Option, nat_eq, if◌then◌else◌}
 use Rattle.word32.specs.Space.{update}
 use Rattle.code_arena.specs.Arena.{Arena}

@@ -20,7 +20,8 @@ fn image_of(
 ) -> Image
     requires some { 0 < length text.items }
     requires small { length text.items ≤ LONGEST_TEXT }
-    requires sound { parts.AreSound (length text.items) (parts.gathered_of entry text.items bytes.items functions.items) }
+    requires sound { parts.AreSound (length text.items)
+        (parts.gathered_of entry text.items bytes.items functions.items) }
     ensures { result ≡ image_in (parts.gathered_of entry text.items bytes.items functions.items) }
 {
     Image::new(entry.unwrap_or(TEXT), text, bytes, functions)

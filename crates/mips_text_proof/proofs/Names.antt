@@ -1,27 +1,7 @@
 -- The names of operations are words, and no directives.
 use Rattle.std.proofs.Common.{◌≡◌, ◌<◌, List, length, refl, arith}
 use Rattle.asm_words.specs.declared.operation.Operation.{Operation}
-use Rattle.asm_words.specs.declared.operation.Operation.TheVariants.{
-  Arithmetic,
-  Shift,
-  ShiftVariable,
-  JumpRegister,
-  JumpAndLinkRegister,
-  Syscall,
-  Break,
-  MoveFrom,
-  MoveTo,
-  MultiplyDivide,
-  BranchOnSign,
-  BranchOnSignAndLink,
-  Jump,
-  BranchOnEquality,
-  BranchOnZero,
-  ImmediateArithmetic,
-  LoadUpperImmediate,
-  Memory,
-  NoOperation,
-}
+use Rattle.asm_words.specs.declared.operation.Operation.TheVariants as i
 use Rattle.mips_encoder.specs.declared.instruction.ArithmeticOp.TheVariants.{Add, Addu, Sub, Subu, And, Or, Xor, Nor}
 use Rattle.mips_encoder.specs.declared.instruction.ArithmeticOp.TheVariants.{Slt, Sltu}
 use Rattle.mips_encoder.specs.declared.instruction.ShiftOp.TheVariants.{Sll, Srl, Sra}
@@ -40,173 +20,173 @@ use Rattle.asm_lines.specs.Lines.{statement_by, instruction}
 use Rattle.mips_text_proof.proofs.Wordy.{Wordy}
 
 pub wordy_name : (op : Operation) → Wordy (operation_name op)
-wordy_name (Arithmetic Add) = record { parts = refl; feeds = refl }
-wordy_name (Arithmetic Addu) = record { parts = refl; feeds = refl }
-wordy_name (Arithmetic Sub) = record { parts = refl; feeds = refl }
-wordy_name (Arithmetic Subu) = record { parts = refl; feeds = refl }
-wordy_name (Arithmetic And) = record { parts = refl; feeds = refl }
-wordy_name (Arithmetic Or) = record { parts = refl; feeds = refl }
-wordy_name (Arithmetic Xor) = record { parts = refl; feeds = refl }
-wordy_name (Arithmetic Nor) = record { parts = refl; feeds = refl }
-wordy_name (Arithmetic Slt) = record { parts = refl; feeds = refl }
-wordy_name (Arithmetic Sltu) = record { parts = refl; feeds = refl }
-wordy_name (Shift Sll) = record { parts = refl; feeds = refl }
-wordy_name (Shift Srl) = record { parts = refl; feeds = refl }
-wordy_name (Shift Sra) = record { parts = refl; feeds = refl }
-wordy_name (ShiftVariable Sllv) = record { parts = refl; feeds = refl }
-wordy_name (ShiftVariable Srlv) = record { parts = refl; feeds = refl }
-wordy_name (ShiftVariable Srav) = record { parts = refl; feeds = refl }
-wordy_name JumpRegister = record { parts = refl; feeds = refl }
-wordy_name JumpAndLinkRegister = record { parts = refl; feeds = refl }
-wordy_name Syscall = record { parts = refl; feeds = refl }
-wordy_name Break = record { parts = refl; feeds = refl }
-wordy_name (MoveFrom Hi) = record { parts = refl; feeds = refl }
-wordy_name (MoveFrom Lo) = record { parts = refl; feeds = refl }
-wordy_name (MoveTo Hi) = record { parts = refl; feeds = refl }
-wordy_name (MoveTo Lo) = record { parts = refl; feeds = refl }
-wordy_name (MultiplyDivide Mult) = record { parts = refl; feeds = refl }
-wordy_name (MultiplyDivide Multu) = record { parts = refl; feeds = refl }
-wordy_name (MultiplyDivide Div) = record { parts = refl; feeds = refl }
-wordy_name (MultiplyDivide Divu) = record { parts = refl; feeds = refl }
-wordy_name (BranchOnSign Negative) = record { parts = refl; feeds = refl }
-wordy_name (BranchOnSign NonNegative) = record { parts = refl; feeds = refl }
-wordy_name (BranchOnSignAndLink Negative) = record { parts = refl; feeds = refl }
-wordy_name (BranchOnSignAndLink NonNegative) = record { parts = refl; feeds = refl }
-wordy_name (Jump J) = record { parts = refl; feeds = refl }
-wordy_name (Jump Jal) = record { parts = refl; feeds = refl }
-wordy_name (BranchOnEquality Beq) = record { parts = refl; feeds = refl }
-wordy_name (BranchOnEquality Bne) = record { parts = refl; feeds = refl }
-wordy_name (BranchOnZero Blez) = record { parts = refl; feeds = refl }
-wordy_name (BranchOnZero Bgtz) = record { parts = refl; feeds = refl }
-wordy_name (ImmediateArithmetic Addi) = record { parts = refl; feeds = refl }
-wordy_name (ImmediateArithmetic Addiu) = record { parts = refl; feeds = refl }
-wordy_name (ImmediateArithmetic Slti) = record { parts = refl; feeds = refl }
-wordy_name (ImmediateArithmetic Sltiu) = record { parts = refl; feeds = refl }
-wordy_name (ImmediateArithmetic Andi) = record { parts = refl; feeds = refl }
-wordy_name (ImmediateArithmetic Ori) = record { parts = refl; feeds = refl }
-wordy_name (ImmediateArithmetic Xori) = record { parts = refl; feeds = refl }
-wordy_name LoadUpperImmediate = record { parts = refl; feeds = refl }
-wordy_name (Memory Lb) = record { parts = refl; feeds = refl }
-wordy_name (Memory Lh) = record { parts = refl; feeds = refl }
-wordy_name (Memory Lw) = record { parts = refl; feeds = refl }
-wordy_name (Memory Lbu) = record { parts = refl; feeds = refl }
-wordy_name (Memory Lhu) = record { parts = refl; feeds = refl }
-wordy_name (Memory Sb) = record { parts = refl; feeds = refl }
-wordy_name (Memory Sh) = record { parts = refl; feeds = refl }
-wordy_name (Memory Sw) = record { parts = refl; feeds = refl }
-wordy_name NoOperation = record { parts = refl; feeds = refl }
+wordy_name (i.Arithmetic Add) = record { parts = refl; feeds = refl }
+wordy_name (i.Arithmetic Addu) = record { parts = refl; feeds = refl }
+wordy_name (i.Arithmetic Sub) = record { parts = refl; feeds = refl }
+wordy_name (i.Arithmetic Subu) = record { parts = refl; feeds = refl }
+wordy_name (i.Arithmetic And) = record { parts = refl; feeds = refl }
+wordy_name (i.Arithmetic Or) = record { parts = refl; feeds = refl }
+wordy_name (i.Arithmetic Xor) = record { parts = refl; feeds = refl }
+wordy_name (i.Arithmetic Nor) = record { parts = refl; feeds = refl }
+wordy_name (i.Arithmetic Slt) = record { parts = refl; feeds = refl }
+wordy_name (i.Arithmetic Sltu) = record { parts = refl; feeds = refl }
+wordy_name (i.Shift Sll) = record { parts = refl; feeds = refl }
+wordy_name (i.Shift Srl) = record { parts = refl; feeds = refl }
+wordy_name (i.Shift Sra) = record { parts = refl; feeds = refl }
+wordy_name (i.ShiftVariable Sllv) = record { parts = refl; feeds = refl }
+wordy_name (i.ShiftVariable Srlv) = record { parts = refl; feeds = refl }
+wordy_name (i.ShiftVariable Srav) = record { parts = refl; feeds = refl }
+wordy_name i.JumpRegister = record { parts = refl; feeds = refl }
+wordy_name i.JumpAndLinkRegister = record { parts = refl; feeds = refl }
+wordy_name i.Syscall = record { parts = refl; feeds = refl }
+wordy_name i.Break = record { parts = refl; feeds = refl }
+wordy_name (i.MoveFrom Hi) = record { parts = refl; feeds = refl }
+wordy_name (i.MoveFrom Lo) = record { parts = refl; feeds = refl }
+wordy_name (i.MoveTo Hi) = record { parts = refl; feeds = refl }
+wordy_name (i.MoveTo Lo) = record { parts = refl; feeds = refl }
+wordy_name (i.MultiplyDivide Mult) = record { parts = refl; feeds = refl }
+wordy_name (i.MultiplyDivide Multu) = record { parts = refl; feeds = refl }
+wordy_name (i.MultiplyDivide Div) = record { parts = refl; feeds = refl }
+wordy_name (i.MultiplyDivide Divu) = record { parts = refl; feeds = refl }
+wordy_name (i.BranchOnSign Negative) = record { parts = refl; feeds = refl }
+wordy_name (i.BranchOnSign NonNegative) = record { parts = refl; feeds = refl }
+wordy_name (i.BranchOnSignAndLink Negative) = record { parts = refl; feeds = refl }
+wordy_name (i.BranchOnSignAndLink NonNegative) = record { parts = refl; feeds = refl }
+wordy_name (i.Jump J) = record { parts = refl; feeds = refl }
+wordy_name (i.Jump Jal) = record { parts = refl; feeds = refl }
+wordy_name (i.BranchOnEquality Beq) = record { parts = refl; feeds = refl }
+wordy_name (i.BranchOnEquality Bne) = record { parts = refl; feeds = refl }
+wordy_name (i.BranchOnZero Blez) = record { parts = refl; feeds = refl }
+wordy_name (i.BranchOnZero Bgtz) = record { parts = refl; feeds = refl }
+wordy_name (i.ImmediateArithmetic Addi) = record { parts = refl; feeds = refl }
+wordy_name (i.ImmediateArithmetic Addiu) = record { parts = refl; feeds = refl }
+wordy_name (i.ImmediateArithmetic Slti) = record { parts = refl; feeds = refl }
+wordy_name (i.ImmediateArithmetic Sltiu) = record { parts = refl; feeds = refl }
+wordy_name (i.ImmediateArithmetic Andi) = record { parts = refl; feeds = refl }
+wordy_name (i.ImmediateArithmetic Ori) = record { parts = refl; feeds = refl }
+wordy_name (i.ImmediateArithmetic Xori) = record { parts = refl; feeds = refl }
+wordy_name i.LoadUpperImmediate = record { parts = refl; feeds = refl }
+wordy_name (i.Memory Lb) = record { parts = refl; feeds = refl }
+wordy_name (i.Memory Lh) = record { parts = refl; feeds = refl }
+wordy_name (i.Memory Lw) = record { parts = refl; feeds = refl }
+wordy_name (i.Memory Lbu) = record { parts = refl; feeds = refl }
+wordy_name (i.Memory Lhu) = record { parts = refl; feeds = refl }
+wordy_name (i.Memory Sb) = record { parts = refl; feeds = refl }
+wordy_name (i.Memory Sh) = record { parts = refl; feeds = refl }
+wordy_name (i.Memory Sw) = record { parts = refl; feeds = refl }
+wordy_name i.NoOperation = record { parts = refl; feeds = refl }
 
 pub some_name : (op : Operation) → 0 < length (operation_name op)
-some_name (Arithmetic Add) = omega arith
-some_name (Arithmetic Addu) = omega arith
-some_name (Arithmetic Sub) = omega arith
-some_name (Arithmetic Subu) = omega arith
-some_name (Arithmetic And) = omega arith
-some_name (Arithmetic Or) = omega arith
-some_name (Arithmetic Xor) = omega arith
-some_name (Arithmetic Nor) = omega arith
-some_name (Arithmetic Slt) = omega arith
-some_name (Arithmetic Sltu) = omega arith
-some_name (Shift Sll) = omega arith
-some_name (Shift Srl) = omega arith
-some_name (Shift Sra) = omega arith
-some_name (ShiftVariable Sllv) = omega arith
-some_name (ShiftVariable Srlv) = omega arith
-some_name (ShiftVariable Srav) = omega arith
-some_name JumpRegister = omega arith
-some_name JumpAndLinkRegister = omega arith
-some_name Syscall = omega arith
-some_name Break = omega arith
-some_name (MoveFrom Hi) = omega arith
-some_name (MoveFrom Lo) = omega arith
-some_name (MoveTo Hi) = omega arith
-some_name (MoveTo Lo) = omega arith
-some_name (MultiplyDivide Mult) = omega arith
-some_name (MultiplyDivide Multu) = omega arith
-some_name (MultiplyDivide Div) = omega arith
-some_name (MultiplyDivide Divu) = omega arith
-some_name (BranchOnSign Negative) = omega arith
-some_name (BranchOnSign NonNegative) = omega arith
-some_name (BranchOnSignAndLink Negative) = omega arith
-some_name (BranchOnSignAndLink NonNegative) = omega arith
-some_name (Jump J) = omega arith
-some_name (Jump Jal) = omega arith
-some_name (BranchOnEquality Beq) = omega arith
-some_name (BranchOnEquality Bne) = omega arith
-some_name (BranchOnZero Blez) = omega arith
-some_name (BranchOnZero Bgtz) = omega arith
-some_name (ImmediateArithmetic Addi) = omega arith
-some_name (ImmediateArithmetic Addiu) = omega arith
-some_name (ImmediateArithmetic Slti) = omega arith
-some_name (ImmediateArithmetic Sltiu) = omega arith
-some_name (ImmediateArithmetic Andi) = omega arith
-some_name (ImmediateArithmetic Ori) = omega arith
-some_name (ImmediateArithmetic Xori) = omega arith
-some_name LoadUpperImmediate = omega arith
-some_name (Memory Lb) = omega arith
-some_name (Memory Lh) = omega arith
-some_name (Memory Lw) = omega arith
-some_name (Memory Lbu) = omega arith
-some_name (Memory Lhu) = omega arith
-some_name (Memory Sb) = omega arith
-some_name (Memory Sh) = omega arith
-some_name (Memory Sw) = omega arith
-some_name NoOperation = omega arith
+some_name (i.Arithmetic Add) = omega arith
+some_name (i.Arithmetic Addu) = omega arith
+some_name (i.Arithmetic Sub) = omega arith
+some_name (i.Arithmetic Subu) = omega arith
+some_name (i.Arithmetic And) = omega arith
+some_name (i.Arithmetic Or) = omega arith
+some_name (i.Arithmetic Xor) = omega arith
+some_name (i.Arithmetic Nor) = omega arith
+some_name (i.Arithmetic Slt) = omega arith
+some_name (i.Arithmetic Sltu) = omega arith
+some_name (i.Shift Sll) = omega arith
+some_name (i.Shift Srl) = omega arith
+some_name (i.Shift Sra) = omega arith
+some_name (i.ShiftVariable Sllv) = omega arith
+some_name (i.ShiftVariable Srlv) = omega arith
+some_name (i.ShiftVariable Srav) = omega arith
+some_name i.JumpRegister = omega arith
+some_name i.JumpAndLinkRegister = omega arith
+some_name i.Syscall = omega arith
+some_name i.Break = omega arith
+some_name (i.MoveFrom Hi) = omega arith
+some_name (i.MoveFrom Lo) = omega arith
+some_name (i.MoveTo Hi) = omega arith
+some_name (i.MoveTo Lo) = omega arith
+some_name (i.MultiplyDivide Mult) = omega arith
+some_name (i.MultiplyDivide Multu) = omega arith
+some_name (i.MultiplyDivide Div) = omega arith
+some_name (i.MultiplyDivide Divu) = omega arith
+some_name (i.BranchOnSign Negative) = omega arith
+some_name (i.BranchOnSign NonNegative) = omega arith
+some_name (i.BranchOnSignAndLink Negative) = omega arith
+some_name (i.BranchOnSignAndLink NonNegative) = omega arith
+some_name (i.Jump J) = omega arith
+some_name (i.Jump Jal) = omega arith
+some_name (i.BranchOnEquality Beq) = omega arith
+some_name (i.BranchOnEquality Bne) = omega arith
+some_name (i.BranchOnZero Blez) = omega arith
+some_name (i.BranchOnZero Bgtz) = omega arith
+some_name (i.ImmediateArithmetic Addi) = omega arith
+some_name (i.ImmediateArithmetic Addiu) = omega arith
+some_name (i.ImmediateArithmetic Slti) = omega arith
+some_name (i.ImmediateArithmetic Sltiu) = omega arith
+some_name (i.ImmediateArithmetic Andi) = omega arith
+some_name (i.ImmediateArithmetic Ori) = omega arith
+some_name (i.ImmediateArithmetic Xori) = omega arith
+some_name i.LoadUpperImmediate = omega arith
+some_name (i.Memory Lb) = omega arith
+some_name (i.Memory Lh) = omega arith
+some_name (i.Memory Lw) = omega arith
+some_name (i.Memory Lbu) = omega arith
+some_name (i.Memory Lhu) = omega arith
+some_name (i.Memory Sb) = omega arith
+some_name (i.Memory Sh) = omega arith
+some_name (i.Memory Sw) = omega arith
+some_name i.NoOperation = omega arith
 
 pub by_name : (op : Operation) (z : List Piece) →
     statement_by (operation_name op) z ≡ instruction (operation_of (operation_name op)) z
-by_name (Arithmetic Add) z = refl
-by_name (Arithmetic Addu) z = refl
-by_name (Arithmetic Sub) z = refl
-by_name (Arithmetic Subu) z = refl
-by_name (Arithmetic And) z = refl
-by_name (Arithmetic Or) z = refl
-by_name (Arithmetic Xor) z = refl
-by_name (Arithmetic Nor) z = refl
-by_name (Arithmetic Slt) z = refl
-by_name (Arithmetic Sltu) z = refl
-by_name (Shift Sll) z = refl
-by_name (Shift Srl) z = refl
-by_name (Shift Sra) z = refl
-by_name (ShiftVariable Sllv) z = refl
-by_name (ShiftVariable Srlv) z = refl
-by_name (ShiftVariable Srav) z = refl
-by_name JumpRegister z = refl
-by_name JumpAndLinkRegister z = refl
-by_name Syscall z = refl
-by_name Break z = refl
-by_name (MoveFrom Hi) z = refl
-by_name (MoveFrom Lo) z = refl
-by_name (MoveTo Hi) z = refl
-by_name (MoveTo Lo) z = refl
-by_name (MultiplyDivide Mult) z = refl
-by_name (MultiplyDivide Multu) z = refl
-by_name (MultiplyDivide Div) z = refl
-by_name (MultiplyDivide Divu) z = refl
-by_name (BranchOnSign Negative) z = refl
-by_name (BranchOnSign NonNegative) z = refl
-by_name (BranchOnSignAndLink Negative) z = refl
-by_name (BranchOnSignAndLink NonNegative) z = refl
-by_name (Jump J) z = refl
-by_name (Jump Jal) z = refl
-by_name (BranchOnEquality Beq) z = refl
-by_name (BranchOnEquality Bne) z = refl
-by_name (BranchOnZero Blez) z = refl
-by_name (BranchOnZero Bgtz) z = refl
-by_name (ImmediateArithmetic Addi) z = refl
-by_name (ImmediateArithmetic Addiu) z = refl
-by_name (ImmediateArithmetic Slti) z = refl
-by_name (ImmediateArithmetic Sltiu) z = refl
-by_name (ImmediateArithmetic Andi) z = refl
-by_name (ImmediateArithmetic Ori) z = refl
-by_name (ImmediateArithmetic Xori) z = refl
-by_name LoadUpperImmediate z = refl
-by_name (Memory Lb) z = refl
-by_name (Memory Lh) z = refl
-by_name (Memory Lw) z = refl
-by_name (Memory Lbu) z = refl
-by_name (Memory Lhu) z = refl
-by_name (Memory Sb) z = refl
-by_name (Memory Sh) z = refl
-by_name (Memory Sw) z = refl
-by_name NoOperation z = refl
+by_name (i.Arithmetic Add) z = refl
+by_name (i.Arithmetic Addu) z = refl
+by_name (i.Arithmetic Sub) z = refl
+by_name (i.Arithmetic Subu) z = refl
+by_name (i.Arithmetic And) z = refl
+by_name (i.Arithmetic Or) z = refl
+by_name (i.Arithmetic Xor) z = refl
+by_name (i.Arithmetic Nor) z = refl
+by_name (i.Arithmetic Slt) z = refl
+by_name (i.Arithmetic Sltu) z = refl
+by_name (i.Shift Sll) z = refl
+by_name (i.Shift Srl) z = refl
+by_name (i.Shift Sra) z = refl
+by_name (i.ShiftVariable Sllv) z = refl
+by_name (i.ShiftVariable Srlv) z = refl
+by_name (i.ShiftVariable Srav) z = refl
+by_name i.JumpRegister z = refl
+by_name i.JumpAndLinkRegister z = refl
+by_name i.Syscall z = refl
+by_name i.Break z = refl
+by_name (i.MoveFrom Hi) z = refl
+by_name (i.MoveFrom Lo) z = refl
+by_name (i.MoveTo Hi) z = refl
+by_name (i.MoveTo Lo) z = refl
+by_name (i.MultiplyDivide Mult) z = refl
+by_name (i.MultiplyDivide Multu) z = refl
+by_name (i.MultiplyDivide Div) z = refl
+by_name (i.MultiplyDivide Divu) z = refl
+by_name (i.BranchOnSign Negative) z = refl
+by_name (i.BranchOnSign NonNegative) z = refl
+by_name (i.BranchOnSignAndLink Negative) z = refl
+by_name (i.BranchOnSignAndLink NonNegative) z = refl
+by_name (i.Jump J) z = refl
+by_name (i.Jump Jal) z = refl
+by_name (i.BranchOnEquality Beq) z = refl
+by_name (i.BranchOnEquality Bne) z = refl
+by_name (i.BranchOnZero Blez) z = refl
+by_name (i.BranchOnZero Bgtz) z = refl
+by_name (i.ImmediateArithmetic Addi) z = refl
+by_name (i.ImmediateArithmetic Addiu) z = refl
+by_name (i.ImmediateArithmetic Slti) z = refl
+by_name (i.ImmediateArithmetic Sltiu) z = refl
+by_name (i.ImmediateArithmetic Andi) z = refl
+by_name (i.ImmediateArithmetic Ori) z = refl
+by_name (i.ImmediateArithmetic Xori) z = refl
+by_name i.LoadUpperImmediate z = refl
+by_name (i.Memory Lb) z = refl
+by_name (i.Memory Lh) z = refl
+by_name (i.Memory Lw) z = refl
+by_name (i.Memory Lbu) z = refl
+by_name (i.Memory Lhu) z = refl
+by_name (i.Memory Sb) z = refl
+by_name (i.Memory Sh) z = refl
+by_name (i.Memory Sw) z = refl
+by_name i.NoOperation z = refl

@@ -1,4 +1,4 @@
-//! Declarators and type names.
+//! Declarators and type names. Why their loops count their turns is said at `Tokens::left`.
 
 ghost use Rattle.std.specs.Prelude.{◌≡◌, ◌<◌, ◌≤◌};
 ghost use Rattle.parse_grammar.specs.Input.{Reads};
@@ -95,7 +95,7 @@ fn separated<G: Deeper>(
     Ok(found)
 }
 
-// The length of an array in its brackets, or a list of parameters.
+// Parses a suffix of a declarator: the length of an array in its brackets, or a list of parameters.
 #[tactic(auto, unfolding(parse_grammar::specs::Declarators::suffix, parse_grammar::specs::Declarators::array, parse_grammar::specs::Declarators::list, parse_grammar::specs::Declarators::parameters))]
 fn suffix<G: Deeper>(grammar: &G, tokens: &mut Tokens<'_>, room: usize) -> Result<Suffix, Stop>
     requires nests { G.nests grammar.now }

@@ -16,7 +16,7 @@ use tick_tree::{Expr, ModifyOp};
 // How many levels of operators between operands there are.
 const LEVELS: u8 = 10;
 
-// The operators of this level, behind their first operand.
+// Parses the operators of this level and their operands, from behind the first operand on.
 #[cycle(level)]
 #[tactic(auto, using(crate::proofs::Steps::level_steps))]
 fn chain<G: Deeper>(
@@ -43,7 +43,7 @@ fn chain<G: Deeper>(
     Ok(left)
 }
 
-// The operators that bind tighter than those of this level. Levels without an operator are passed over.
+// Parses the operators that bind tighter than those of this level. Levels without an operator are passed over.
 #[cycle(level)]
 #[tactic(auto, using(crate::proofs::Climbs::climb_steps))]
 #[inline(always)]
@@ -67,7 +67,7 @@ fn climb<G: Deeper>(
     Ok(left)
 }
 
-// Behind the `?`.
+// Parses the two ways of a conditional expression, from behind its `?` on.
 fn choice<G: Deeper>(
     grammar: &G,
     tokens: &mut Tokens<'_>,
@@ -107,7 +107,7 @@ pub fn cond<G: Deeper>(grammar: &G, tokens: &mut Tokens<'_>, room: usize) -> Res
     choice(grammar, tokens, room - 1, line, test)
 }
 
-// At the sign of an assignment, which may join an operator with `=`.
+// Parses an assignment from its sign on, which may join an operator with `=`.
 fn assigned<G: Deeper>(
     grammar: &G,
     tokens: &mut Tokens<'_>,

@@ -6,12 +6,13 @@ ghost use Rattle.parse_grammar.specs.Expressions as spec;
 ghost use Rattle.parse_grammar.specs.Statements.{inner, room_of};
 
 use crate::operand_operators::{postfix_kind, unary_of};
+use crate::primaries::{arguments, block, primary};
+use crate::staged::{cast, size_of};
 use parse_grammar::{Deeper, Kind, Mark, Part, Postfix, Stop, Tokens, ended, enter, is_base};
-use parse_primaries::{arguments, block, cast, primary, size_of};
 use sqlite_items::Boxed;
 use tick_tree::{Expr, UnaryOp};
 
-// Behind the operator.
+// Makes the expression of a postfix operator and what stands before it, from behind the operator on.
 #[tactic(auto, unfolding(parse_grammar::specs::Expressions::indexed, parse_grammar::specs::Expressions::called))]
 fn postfix_step<G: Deeper>(
     grammar: &G,
@@ -57,7 +58,7 @@ fn postfix<G: Deeper>(grammar: &G, tokens: &mut Tokens<'_>, room: usize) -> Resu
     Ok(left)
 }
 
-// At a backquote.
+// Parses a tick, from its backquote on.
 #[tactic(auto, unfolding(parse_grammar::specs::Expressions::tick))]
 fn tick<G: Deeper>(grammar: &G, tokens: &mut Tokens<'_>, room: usize) -> Result<Expr, Stop>
     requires nests { G.nests grammar.now }
@@ -73,7 +74,7 @@ fn tick<G: Deeper>(grammar: &G, tokens: &mut Tokens<'_>, room: usize) -> Result<
     Ok(Expr::Tick(line, Boxed::new(grammar.alloc(), operand)?))
 }
 
-// At an operator before its operand.
+// Parses an operator before its operand, and the operand.
 fn prefixed<G: Deeper>(
     grammar: &G,
     tokens: &mut Tokens<'_>,

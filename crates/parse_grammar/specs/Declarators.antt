@@ -1,6 +1,6 @@
 -- Declarators: prefixes, then a name or an inner declarator in parentheses, then suffixes. One without a name is that
--- of a
--- type name; a parameter's may have a name or none. An inner declarator and each suffix is a level until it is closed.
+-- of a type name; a parameter's may have a name or none. An inner declarator and each suffix is a level until it is
+-- closed.
 use Rattle.std.specs.Prelude.{ℕ, Bool, true, false, ◌||◌, ◌&&◌, if◌then◌else◌, List, [], ◌∷◌, ◌++◌, Option, Some, None}
 use Rattle.std.specs.Prelude.{Ok}
 use Rattle.tick_tree.specs.declared.base.Prefix.{Prefix}

@@ -1,8 +1,6 @@
 -- Expressions, one function for each level of precedence. Unary, assignment and `?` operators are levels of nesting
--- until
--- their expression ends; so are the binary, comma and postfix operators that were read in a chain. A call or an index
--- counts
--- as its bracket until that is closed, a cast as its bracket and then as a unary operator.
+-- until their expression ends; so are the binary, comma and postfix operators that were read in a chain. A call or an
+-- index counts as its bracket until that is closed, a cast as its bracket and then as a unary operator.
 use Rattle.std.specs.Prelude.{ℕ, zero, suc, ◌==◌, Bool, true, false, if◌then◌else◌, List, [], ◌∷◌, ◌++◌, Option, Some}
 use Rattle.std.specs.Prelude.{None, Ok}
 use Rattle.tick_tree.specs.declared.base.UnaryOp.{UnaryOp}

@@ -1,6 +1,5 @@
 -- What a parser reads from, and the steps that every production is made of. A parser takes a list of tokens, and gives
--- a
--- value and the tokens behind it, or says which token is refused, and why. The combinators are this project's own.
+-- a value and the tokens behind it, or says which token is refused, and why. The combinators are this project's own.
 use Rattle.std.specs.Prelude.{◌≡◌, ◌≢◌, ℕ, zero, suc, Bool, true, false, if◌then◌else◌, List, [], ◌∷◌, ◌++◌, length}
 use Rattle.std.specs.Prelude.{Result, Ok, Err}
 use denote.Enum.Bare.{sameb}

@@ -1,6 +1,5 @@
 -- Statements, declarations and programs. A statement that is no item of a block is a level of nesting, and so is the
--- brace of a
--- block; the block of a function, of a `switch` or of a backquote is no statement of its own.
+-- brace of a block; the block of a function, of a `switch` or of a backquote is no statement of its own.
 use Rattle.std.specs.Prelude.{ℕ, zero, suc, Bool, true, false, ◌||◌, ◌&&◌, if◌then◌else◌, List, [], ◌∷◌, ◌++◌, length}
 use Rattle.std.specs.Prelude.{Option, Some, None, Ok}
 use Rattle.tick_tree.specs.declared.base.Base.{Base}

@@ -1,7 +1,6 @@
 -- Nesting, and the lists and chains that several productions have. The nesting at a token is what is open there; the
--- room is
--- what may still open, a list with one entry for each level: the parsers of what may stand one level deeper.
--- A token that opens a level is refused as too deep only where the grammar takes it.
+-- room is what may still open, a list with one entry for each level: the parsers of what may stand one level deeper. A
+-- token that opens a level is refused as too deep only where the grammar takes it.
 use Rattle.std.specs.Prelude.{ℕ, zero, suc, Bool, if◌then◌else◌, List, [], ◌∷◌, ◌++◌, length, Option, Some, None}
 use Rattle.tick_tree.specs.declared.syntax.Expr.{Expr}
 use Rattle.tick_tree.specs.declared.syntax.OptionalExpr.{OptionalExpr}

@@ -99,6 +99,10 @@ impl<'a> Tokens<'a> {
     }
 
     /// How many tokens are left.
+    ///
+    /// A loop over the items of a list takes at most as many turns, and asks in each whether the list ends. It is no
+    /// `while`, since what an item's parser promises isn't that it takes a token, but what the grammar's definition
+    /// reads; and `specs/Steps` bounds the turns in the same way.
     pub fn left(&self) -> usize
         ensures { result ≡ length self.now }
     {

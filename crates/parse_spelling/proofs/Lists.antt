@@ -122,7 +122,8 @@ separated_says item f ok i =
     (λ xs l g. h ∙ ap (f x) g.says ∙ sym (ap (λ ys. with_commas (map f ys) (words l)) g.all)))
 
 pub closed_from_says : {A : Type 0} (item : Parser A) (f : A → Spelling) → Says f item →
-    (n : ℕ) (found : List A) (i : Input) → Gives (closed_from item n found i) (λ xs j. More (turns_closed f) found xs i j)
+    (n : ℕ) (found : List A) (i : Input) →
+    Gives (closed_from item n found i) (λ xs j. More (turns_closed f) found xs i j)
 unfolding closed_from
 closed_from_says item f ok zero found i = refused _ _
 closed_from_says item f ok (suc n) found i = choose (sees m.BraceClose i) _ _ _

@@ -512,7 +512,8 @@ pub at_declaration : (n : ℕ) (bs : Base) (is : List Init) (w : Words) →
 unfolding spells_core spells_declaration spells_declarator spells_expr spells_init spells_initializer spells_optional
     spells_parameter spells_stmt spells_suffix spells_typename
 at_declaration n bs is w =
-    ap (λ f. f w) (fold-roll-Declaration Spelling Spelling Spelling Spelling Spelling Spelling Spelling Spelling Spelling
+    ap (λ f. f w) (fold-roll-Declaration Spelling Spelling Spelling Spelling Spelling Spelling Spelling Spelling
+    Spelling
     Spelling Spelling core_rule expr_rule initializer_rule optional_rule stmt_rule suffix_rule declaration_rule
     declarator_rule init_rule parameter_rule typename_rule (record { line = n; base = bs; inits = is }))
 
@@ -552,6 +553,7 @@ pub at_typename : (bs : Base) (d : Declarator) (w : Words) →
 unfolding spells_core spells_declaration spells_declarator spells_expr spells_init spells_initializer spells_optional
     spells_parameter spells_stmt spells_suffix spells_typename
 at_typename bs d w = ap (λ f. f w)
-    (fold-roll-Typename Spelling Spelling Spelling Spelling Spelling Spelling Spelling Spelling Spelling Spelling Spelling
+    (fold-roll-Typename Spelling Spelling Spelling Spelling Spelling Spelling Spelling Spelling Spelling Spelling
+    Spelling
     core_rule expr_rule initializer_rule optional_rule stmt_rule suffix_rule declaration_rule declarator_rule init_rule
     parameter_rule typename_rule (record { base = bs; declarator = d }))

@@ -200,7 +200,8 @@ switch_says : (n : ℕ) (room : Room) → RoomSays room → (i : Input) →
     Gives (switch_rest n room i) (λ x j. Behind w.Switch x i j)
 unfolding switch_rest
 switch_says n room ok i =
-    after _ _ _ _ (parenthesized_says room ok i) (λ test j g. after _ _ _ _ (block_says room ok j) (λ xs l h. given _ _ _
+    after _ _ _ _ (parenthesized_says room ok i)
+    (λ test j g. after _ _ _ _ (block_says room ok j) (λ xs l h. given _ _ _
     (let e = node.at_stmt_switch n test xs (words l) in cc)))
 
 case_says : (n : ℕ) (room : Room) → RoomSays room → (i : Input) →

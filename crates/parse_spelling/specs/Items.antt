@@ -1,6 +1,5 @@
 -- What the grammar reads of each token of a text: its kind, by its bytes; its line; the value of a number or a
--- character; the
--- bytes of a name, or those behind the opening quote of a string. The kinds are the grammar's own.
+-- character; the bytes of a name, or those behind the opening quote of a string. The kinds are the grammar's own.
 use Rattle.std.specs.Prelude.{ℕ, Bool, false, List, [], take, drop, map, Option, Some, None}
 use Rattle.tick_tree.specs.declared.base.BinaryOp.TheVariants as op
 use Rattle.tick_tree.specs.declared.base.ModifyOp.TheVariants as modify

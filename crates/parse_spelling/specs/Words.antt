@@ -1,7 +1,6 @@
 -- What tokens say: a number or a character is known by its type and value, a name by its bytes, and strings that stand
--- together
--- are one string with the joined bytes. Two texts with the same words have the same tree. This is the project's own
--- rule.
+-- together are one string with the joined bytes. Two texts with the same words have the same tree. This is the
+-- project's own rule.
 use Rattle.std.specs.Prelude.{ℕ, Bool, List, [], ◌∷◌, ◌++◌}
 use Rattle.tick_tree.specs.declared.base.BinaryOp.TheVariants as op
 use Rattle.tick_tree.specs.declared.base.StepOp.TheVariants as step_op

@@ -7,15 +7,14 @@ ghost use Rattle.parse_grammar.specs.Expressions as expressions;
 ghost use Rattle.parse_grammar.specs.Statements as spec;
 ghost use Rattle.parse_grammar.specs.Statements.{inner, room_of};
 
+use crate::declarations::declaration;
 use crate::first_words::{begins_first, begins_stmt};
-use parse_declarations::declaration;
-use parse_expressions::{cond, expr};
+use parse_expressions::{block, cond, expr, parenthesized};
 use parse_grammar::{Deeper, Kind, Mark, Part, Stop, Tokens, Word, descend, ended, enter_paren};
-use parse_primaries::{block, parenthesized};
 use sqlite_items::Boxed;
 use tick_tree::{Expr, OptionalExpr, Stmt};
 
-// A statement that is no item of a block.
+// Parses a statement that is no item of a block.
 #[tactic(auto, unfolding(parse_grammar::specs::Statements::part))]
 fn part<G: Deeper>(grammar: &G, tokens: &mut Tokens<'_>, room: usize) -> Result<Boxed<Stmt>, Stop>
     requires nests { G.nests grammar.now }
@@ -66,7 +65,7 @@ fn do_rest<G: Deeper>(
     ended(tokens, Stmt::Do(line, body, test), Mark::Semicolon)
 }
 
-// The first part of a `for`, with its `;`.
+// Parses the first part of a `for`, with its `;`.
 #[tactic(auto, unfolding(parse_grammar::specs::Statements::for_first))]
 fn for_first<G: Deeper>(
     grammar: &G,
@@ -84,7 +83,7 @@ fn for_first<G: Deeper>(
     Ok(Boxed::new(grammar.alloc(), found)?)
 }
 
-// Up to and with the mark.
+// Parses an expression that may be absent, up to this mark, which it takes too.
 fn optional<G: Deeper>(
     grammar: &G,
     tokens: &mut Tokens<'_>,

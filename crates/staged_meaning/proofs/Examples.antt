@@ -3,8 +3,8 @@ use Rattle.std.proofs.Common.{◌≡◌, [], ◌∷◌, Some, None, false, refl}
 use Rattle.host_edge.specs.declared.ending.Ending.TheVariants.{Done}
 use Rattle.icode_ops.specs.declared.kind.BinKind.TheVariants.{Add, LessSigned, Subtract}
 use Rattle.history.specs.Events.{Out, Ended, Input}
-use Rattle.typed_tree.specs.Nodes.{Const, Var, SetVar, Bin, Lib, Stmt, Eval, Block, Variable, IfElse, While}
-use Rattle.typed_tree.specs.Nodes.{ReturnValue, Items, NoItem, Item, Function}
+use Rattle.typed_tree.specs.Nodes.{Const, Var, SetVar, Bin, Lib, Stmt, Eval, Block, Variable, IfElse, While, Do}
+use Rattle.typed_tree.specs.Nodes.{Continue, ReturnValue, Items, NoItem, Item, Function}
 use Rattle.typed_tree.specs.declared.expression.Library.TheVariants.{Putchar}
 use Rattle.staged_meaning.specs.Size.{size_of}
 use Rattle.staged_meaning.specs.Meaning.{Program, meant}
@@ -52,6 +52,19 @@ counting =
 counting_ends_with_three : meant counting no_input 100 ≡ record
     { history = Out 65 ∷ Out 66 ∷ Out 67 ∷ []; ending = Some (Ended (Done 3)) }
 counting_ends_with_three = refl
+
+-- int main(){do{continue;}while(putchar(65));}: behind the call's unit a turn's is the first of three
+abbrev continuing : Program
+continuing = main_of (Block NoItem (Item (Do (Block NoItem (Item Continue NoItem)) (Lib Putchar (Const 65))) NoItem))
+
+a_continue_spends_before_the_test : meant continuing no_input 2 ≡ record { history = []; ending = None }
+a_continue_spends_before_the_test = refl
+
+the_test_comes_behind_it : meant continuing no_input 3 ≡ record { history = Out 65 ∷ []; ending = None }
+the_test_comes_behind_it = refl
+
+no_second_unit_is_spent : meant continuing no_input 6 ≡ record { history = Out 65 ∷ Out 65 ∷ []; ending = None }
+no_second_unit_is_spent = refl
 
 -- int main(){int i;if(i<1){putchar(65);}else{putchar(66);}return 0-1;}
 abbrev choosing : Program

@@ -27,8 +27,7 @@ use Rattle.staged_meaning.specs.World.{with_shared, unless, at_zero}
 
 -- What stands round an evaluation: the program; the calls of live functions by their numbers; how many turns a loop may
 -- have, which is more than there are units; the bytes of the active function's frame objects; and in generated code
--- what the
--- captures of its tick stand for, and the syntax that is spliced in by each.
+-- what the captures of its tick stand for, and the syntax that is spliced in by each.
 pub record Context : Type 0 where
   pub program : Program
   pub call : (function : ℕ) → List ℕ → World → Result ℕ
@@ -90,7 +89,7 @@ left_by answer.Void v = 0
 
 abbrev pub call_numbered : Context → Answer → (function : ℕ) → List ℕ → World → Result ℕ
 call_numbered c answer function arguments w =
-    unless (call_trap (callee_at c.program w.shared.compiled function) (length arguments)) w
+    unless (call_trap (callee_at c.program w.shared.bodies function) (length arguments)) w
     (then_do (c.call function arguments w) (λ v w. spend (left_by answer v) w))
 
 -- ---- expressions

@@ -3,6 +3,7 @@ pub mod Values
 pub mod Placed
 pub mod Calls
 pub mod Frames
+pub mod Ticks
 pub mod Scope
 pub mod World
 pub mod Program

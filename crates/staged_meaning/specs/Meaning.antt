@@ -1,8 +1,6 @@
 -- The meaning of a program: a big-step evaluation by cases on typed nodes, with units of work as fuel. Here are calls,
--- of the
--- functions of the text and of those that were compiled; generated code, in which each spliced body has variables of
--- its
--- own; and a whole run, with its history and its ending. These are this project's own rules.
+-- of the functions of the text and of those that were compiled; generated code, in which each spliced body has
+-- variables of its own; and a whole run, with its history and its ending. These are this project's own rules.
 use Rattle.std.specs.Prelude.{ℕ, zero, suc, ◌/◌, ◌%◌, nat_lt, if◌then◌else◌, List, [], Option, Some, None, slice_get}
 use Rattle.word32.specs.Space.{bytes_from}
 use Rattle.host_edge.specs.declared.ending.Ending.TheVariants.{Done, Trap}
@@ -163,7 +161,7 @@ call_callee program turns call number (Some (Generated syntax)) arguments w =
 abbrev pub call_at : Program → (turns d : ℕ) → (number : ℕ) → List ℕ → World → Result ℕ
 call_at program turns zero number arguments w = Stops w.shared
 call_at program turns (suc d) number arguments w =
-    call_callee program turns (call_at program turns d) number (callee_at program w.shared.compiled number) arguments w
+    call_callee program turns (call_at program turns d) number (callee_at program w.shared.bodies number) arguments w
 
 -- ---- a run
 
@@ -172,8 +170,7 @@ abbrev pub finish : ℕ → World → Result ℕ
 finish v w = Ends (Ended (Done (v % 256))) w.shared
 
 -- What outlives a call, as a run begins: nothing happened yet, no call is active, and the heap and the rows are empty.
--- The
--- globals and strings stand from the first address of the object space on.
+-- The globals and strings stand from the first address of the object space on.
 abbrev pub at_start : Program → Input → Shared
 at_start program input = record {
   history = [];
@@ -184,8 +181,7 @@ at_start program input = record {
   frames = 0;
   specifications = [];
   closures = 0;
-  compiled = [];
-  arena = 0;
+  bodies = [];
 }
 
 -- the world as a run begins

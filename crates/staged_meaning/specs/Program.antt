@@ -1,12 +1,11 @@
 -- A program as it has a meaning: its functions, its ticks, and the bytes of its globals and strings; what its numbers
--- stand
--- for, and the sizes of generated code. A splice counts one, and the size of the specification that it stands for
--- besides.
--- These are this project's own rules.
+-- stand for, and the sizes of generated code. A splice counts one, and the size of the specification that it stands for
+-- besides. These are this project's own rules.
 use Rattle.std.specs.Prelude.{ℕ, ◌+◌, ◌-◌, Bool, false, nat_eq, nat_le, if◌then◌else◌, List, length, slice_get, Option}
 use Rattle.std.specs.Prelude.{Some, None}
 use Rattle.host_edge.specs.declared.ending.TrapKind.{TrapKind}
 use Rattle.host_edge.specs.declared.ending.TrapKind.TheVariants.{BadCall}
+use Rattle.meaning_state.specs.Bodies.{Body}
 use Rattle.history.specs.Syntax.{Syntax, Ticked, Captures, NoCapture, Word, Named, Spliced}
 use Rattle.meaning_state.specs.Rows.{numbered, parameters_of}
 use Rattle.typed_tree.specs.Nodes.{Expr, Stmt, Function, has_value}
@@ -18,8 +17,7 @@ pub data Tick : Type 0 where
   OfStatement : Stmt → Tick
 
 -- the function main, the functions in the order of the text, main among them, the ticks, and the bytes of the globals
--- and
--- of the strings
+-- and of the strings
 pub record Program : Type 0 where
   pub main : Function
   pub functions : List Function
@@ -36,15 +34,15 @@ abbrev pub static_callee : Option Function → Option Callee
 static_callee None = None
 static_callee (Some function) = Some (Static function)
 
-abbrev pub generated_callee : Option Syntax → Option Callee
+abbrev pub generated_callee : Option Body → Option Callee
 generated_callee None = None
-generated_callee (Some syntax) = Some (Generated syntax)
+generated_callee (Some body) = if body.live then Some (Generated body.syntax) else None
 
 -- the live function of a number
-abbrev pub callee_at : Program → List Syntax → ℕ → Option Callee
-callee_at program compiled number =
+abbrev pub callee_at : Program → List Body → ℕ → Option Callee
+callee_at program bodies number =
     if nat_le number (length program.functions) then static_callee (numbered number program.functions)
-    else generated_callee (numbered (number - length program.functions) compiled)
+    else generated_callee (numbered (number - length program.functions) bodies)
 
 abbrev pub parameters : Callee → ℕ
 parameters (Static function) = function.parameters

@@ -2,14 +2,17 @@
 -- have a meaning so far: further kinds join as further cases.
 use Rattle.std.specs.Prelude.{ℕ, ◌≡◌, ◌%◌, ◌≤◌, Bool, true, false, List}
 use Rattle.word32.specs.Space.{update}
+use Rattle.typed_tree.specs.declared.expression.CaptureKind.{CaptureKind}
 use Rattle.typed_tree.specs.Nodes.{Expr, Const, Var, SetVar, PostVar, VSet, Load, Store, Modify, Post, Bin, Un, And, Or}
-use Rattle.typed_tree.specs.Nodes.{Cond, Comma, Void, Call, CallNumber, Lib, Tick, Capture, Compile, ParamOf, Args}
+use Rattle.typed_tree.specs.Nodes.{Cond, Comma, Void, Call, CallNumber, Lib, Tick, Capture, Compile, Local, ParamOf}
+use Rattle.typed_tree.specs.Nodes.{Args}
 use Rattle.typed_tree.specs.Nodes.{NoArg, Arg, Stmt, Eval, Block, Variable, Parameter, If, IfElse, While, Do, For}
 use Rattle.typed_tree.specs.Nodes.{ForStep, Switch, Case, Default, Break, Continue, Return, ReturnValue, Getchar}
 use Rattle.typed_tree.specs.Nodes.{Frame, Object, ParameterObject, Items, NoItem, Item, Function}
 use Rattle.staged_meaning.specs.Size.{size_of, variables_in}
 use Rattle.staged_meaning.specs.Calls.{HasCallsStmt}
 use Rattle.staged_meaning.specs.Frames.{HasFramesStmt}
+use Rattle.staged_meaning.specs.Ticks.{AreCaptures, HasTicksStmt}
 use Rattle.staged_meaning.specs.Placed.{IsPlaced, IsHeaded, outside}
 use Rattle.staged_meaning.specs.Values.{UsesValuesStmt}
 use Rattle.limits.specs.declared.program.TheConstants.{FRAME_OBJECT_BYTES, MOST_ARGUMENTS, SIZE_LIMIT}
@@ -82,7 +85,8 @@ abbrev mutual
   AreScopedItems scope NoItem = Unit {0}
   AreScopedItems scope (Item s items) = IsScopedStmt scope s × AreScopedItems (scope_of s scope) items
 
--- the nodes of a tree are of the kinds that are built so far
+-- The nodes of a tree are of the kinds that are built so far, and a tick is given captures. No function has those that
+-- stand in generated code, and compile is still to come.
 abbrev mutual
   pub IsBuilt : Expr → Type 0
   IsBuilt (Const word) = Unit {0}
@@ -105,6 +109,10 @@ abbrev mutual
   IsBuilt (CallNumber answer a args) = IsBuilt a × AreBuilt args
   IsBuilt Getchar = Unit {0}
   IsBuilt (Lib library a) = IsBuilt a
+  IsBuilt (Tick tick args) = AreCaptures args × AreBuilt args
+  IsBuilt (Capture kind a) = IsBuilt a
+  IsBuilt Local = Unit {0}
+  IsBuilt (ParamOf a) = IsBuilt a
   IsBuilt _ = ⊥
 
   pub AreBuilt : Args → Type 0
@@ -148,11 +156,12 @@ pub record IsReady (function : Function) : Type 0 where
   pub small : size_of function ≤ SIZE_LIMIT
   pub dense : variables_in function.body ≤ size_of function
 
--- Such a function among these: its calls fit them, its objects lie in its frame, which is of whole words, and its
--- parameters are declared at its head.
-pub record IsReadyIn (functions : List Function) (function : Function) : Type 0 where
+-- Such a function among these, in a program whose ticks capture this: its calls and ticks fit them, its objects lie in
+-- its frame, which is of whole words, and its parameters are declared at its head.
+pub record IsReadyIn (functions : List Function) (ticks : List (List CaptureKind)) (function : Function) : Type 0 where
   pub ready : IsReady function
   pub calls : HasCallsStmt functions function.body
+  pub ticks_are : HasTicksStmt ticks function.body
   pub frames : HasFramesStmt function.object function.body
   pub headed : IsHeaded function.parameters function.body
   pub few : function.parameters ≤ MOST_ARGUMENTS

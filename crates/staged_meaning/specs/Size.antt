@@ -1,6 +1,5 @@
 -- The size of a function, in which limits are stated, and what a call is charged. These are this project's own rules.
--- What is
--- counted node by node stands in `typed_tree`.
+-- What is counted node by node stands in `typed_tree`.
 use Rattle.std.specs.Prelude.{ℕ, ◌+◌, ◌*◌}
 use Rattle.typed_tree.specs.Nodes.{Function}
 pub use Rattle.typed_tree.specs.Measures.{

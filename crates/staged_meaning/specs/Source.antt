@@ -18,12 +18,15 @@ abbrev pub main_of : List Function → Option Function
 main_of [] = None
 main_of (f ∷ functions) = if pointwise nat_eq f.name (codes "main") then Some f else main_of functions
 
+abbrev pub ticks_of : TypedParts → List Tick
+ticks_of typed = map (λ t. tick_view t.body) typed.ticks
+
 abbrev pub program_from : Option Function → TypedParts → Option Program
 program_from None typed = None
 program_from (Some main) typed = Some (record {
   main = function_view main;
   functions = map function_view typed.functions;
-  ticks = map (λ t. tick_view t.body) typed.ticks;
+  ticks = ticks_of typed;
   image = typed.image;
 })
 

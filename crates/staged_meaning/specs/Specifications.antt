@@ -1,7 +1,6 @@
 -- Making specifications and compiling them. The captures of a tick are evaluated first; here they are checked and
--- become a
--- row. The order of the limits is this project's own, and the stages are those of Poletto, Hsieh, Engler and Kaashoek
--- (TOPLAS 21(2), 1999).
+-- become a row. The order of the limits is this project's own, and the stages are those of Poletto, Hsieh, Engler and
+-- Kaashoek (TOPLAS 21(2), 1999).
 use Rattle.std.specs.Prelude.{ℕ, ◌+◌, Bool, true, false, if◌then◌else◌, List, [], ◌∷◌, length, slice_get, Option, Some}
 use Rattle.std.specs.Prelude.{None}
 use Rattle.host_edge.specs.declared.ending.TrapKind.{TrapKind}

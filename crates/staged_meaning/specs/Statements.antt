@@ -1,8 +1,6 @@
 -- What a statement does: variables are set to 0 as their block is entered, at a unit a variable and a word of an
--- object; a
--- loop's turn spends a unit at its end; and the labels of a switch are compared in the order of the text, at a unit
--- each, up
--- to the one that matches. These are this project's own rules; what the statements do is C's.
+-- object; a loop's turn spends a unit at its end; and the labels of a switch are compared in the order of the text, at
+-- a unit each, up to the one that matches. These are this project's own rules; what the statements do is C's.
 use Rattle.std.specs.Prelude.{ℕ, zero, suc, ◌+◌, nat_eq, if◌then◌else◌, List, [], ◌∷◌, Option, Some, None}
 use Rattle.word32.specs.Parts.{narrowed}
 use Rattle.word32.specs.declared.width.Width.{Width}
@@ -34,9 +32,11 @@ turns zero test body w = Stops w.shared
 turns (suc d) test body w =
     then_do (test w) (λ v w. at_zero v (Gives Normal w) (then_do (body w) (turn_end (turns d test body))))
 
--- the test at a turn's end, behind which the turn's unit is spent
+-- the test at a turn's end, behind which the turn's unit is spent; a continue ends the turn before it
 abbrev pub round_end : (World → Result ℕ) → (World → Result Flow) → Flow → World → Result Flow
 round_end test next Broke w = spend Normal w
+round_end test next Continued w =
+    then_do (spend Normal w) (λ flow w. then_do (test w) (λ v w. at_zero v (Gives Normal w) (next w)))
 round_end test next flow w =
     then_do (test w) (λ v w. then_do (spend Normal w) (λ flow w. at_zero v (Gives Normal w) (next w)))
 

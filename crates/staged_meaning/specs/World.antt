@@ -1,6 +1,5 @@
 -- What an evaluation changes, and what may come of it. A thing first takes place and then spends its unit of work;
--- where
--- no unit is left the evaluation stops, and what the thing did stands. These are this project's own rules.
+-- where no unit is left the evaluation stops, and what the thing did stands. These are this project's own rules.
 use Rattle.std.specs.Prelude.{ℕ, zero, suc, ◌+◌, List, Option, Some, None}
 use Rattle.word32.specs.Space.{update}
 use Rattle.host_edge.specs.declared.ending.TrapKind.{TrapKind}

@@ -7,17 +7,20 @@ use Rattle.word32.specs.declared.map.TheConstants.{ARENA, FUNCTIONS}
 use Rattle.image_file.specs.declared.image.FunctionEntry.{FunctionEntry}
 use Rattle.icode_ir.specs.Sound.{Each}
 use Rattle.typed_tree.specs.Nodes.{Function}
+use Rattle.staged_meaning.specs.Program.{Tick}
+use Rattle.typed_tree.specs.declared.expression.CaptureKind.{CaptureKind}
 use Rattle.tick_lower_spec.specs.Lower.{Addresses, listed}
 use Rattle.static_image.specs.Layout.{Placed, words_of, words_from, rows_of, behind, unknown, functions_of}
-use Rattle.static_image.specs.Layout.{addresses_of, IsLegalChoice}
+use Rattle.static_image.specs.Layout.{ends, function_starts, generator_starts, addresses_of, IsLegalChoice}
 use Rattle.static_image.specs.Served.{IsStatic, most_words, AreStatic}
 use Rattle.static_image.proofs.Anywhere.{legal_anywhere}
-use Rattle.static_image.proofs.Placing.{ends, ends_at, ends_most, each_static, starts_low, length_is}
-use Rattle.static_backend.specs.Scanned.{IsPlan, AreCode}
+use Rattle.static_image.proofs.Placing.{ends_at, ends_most, each_static, starts_low, length_is}
+use Rattle.static_backend.specs.Scanned.{IsPlan, AreWritten}
 use Rattle.static_backend.specs.Drafted.{AreDrafted, IsDraft, Rewritten}
 use Rattle.static_backend.proofs.Grown.{entry, words_more, rows_more, ends_more, start_at, length_starts}
 use Rattle.static_backend.proofs.Grown.{length_functions}
 use Rattle.static_backend.proofs.Drafts.{drafted_long}
+use Rattle.static_backend.proofs.Planned.{end_at}
 
 -- the words of the first functions, with those of the others as the first pass left them, and the rows of the first,
 -- where calls go to these addresses
@@ -28,7 +31,8 @@ pub record HasCode (d : Addresses) (i : ℕ) (xs : List Placed) (made : List Boo
   pub rest_is : AreDrafted d (ends FUNCTIONS (take i xs)) (drop i xs) (drop i made) rest
   pub rows_are : rows ≡ rows_of FUNCTIONS (take i xs)
 
-legal_all : (d : Addresses) (xs : List Placed) → Each (IsLegalChoice unknown) xs → Each (IsLegalChoice d) xs
+legal_all : (d : Addresses) (xs : List Placed) → Each (IsLegalChoice unknown) xs →
+    Each (IsLegalChoice d) xs
 legal_all d [] h = tt
 legal_all d (x ∷ xs) h = (legal_anywhere unknown d x h.0, legal_all d xs h.1)
 
@@ -96,7 +100,20 @@ taken_all zero (x ∷ xs) h = absurd (omega (arith, h))
 taken_all (suc i) (x ∷ xs) h = ap (λ ys. x ∷ ys) (taken_all i xs (omega (arith, h)))
 
 module _ (fs : List Function) (xs : List Placed) (addresses : List ℕ) (places : List (List ℕ)) (end : ℕ)
-    (functions_are : functions_of xs ≡ fs) (plan : IsPlan xs addresses places end) where
+    (functions_are : functions_of xs ≡ fs) (plan : IsPlan xs addresses places end) (ticks : List Tick)
+    (made_at : List ℕ)
+    (made_are : made_at ≡ generator_starts addresses end ticks) where
+  -- all addresses
+  abbrev pub all_known : Addresses
+  all_known = listed addresses made_at ticks
+
+  all_are : all_known ≡ addresses_of ticks xs
+  all_are =
+      ap (λ gs. listed addresses gs ticks) made_are
+      ∙ ap (λ ss. listed ss (generator_starts ss end ticks) ticks) plan.addresses_are
+      ∙ ap (λ e. listed (function_starts xs) (generator_starts (function_starts xs) e ticks) ticks)
+      (end_at xs addresses places end plan)
+
   pub many : length xs ≡ length fs
   many = sym (length_functions xs) ∙ ap length functions_are
 
@@ -112,15 +129,16 @@ module _ (fs : List Function) (xs : List Placed) (addresses : List ℕ) (places 
   many_places = ap length plan.places_are ∙ length_places xs ∙ many
 
   -- the addresses are low
-  pub addresses_low : (i : ℕ) → AreStatic fs → slice_index addresses i ≤ ARENA
-  addresses_low i static =
-      let all = each_static fs xs (subst (Each (IsStatic fs)) (sym functions_are) static.each) in
+  pub addresses_low : (i : ℕ) → (captures : List (List CaptureKind)) → AreStatic fs captures ticks →
+      slice_index addresses i ≤ ARENA
+  addresses_low i captures static =
+      let all = each_static fs captures xs (subst (Each (IsStatic fs captures)) (sym functions_are) static.each) in
       let same = ap (λ ss. slice_index ss i) plan.addresses_are in
       omega (
         arith,
         same,
         starts_low FUNCTIONS xs i,
-        ends_most fs FUNCTIONS xs all,
+        ends_most fs captures FUNCTIONS xs all,
         ap most_words functions_are,
         static.room,
       )
@@ -147,29 +165,30 @@ module _ (fs : List Function) (xs : List Placed) (addresses : List ℕ) (places 
       taken_more i xs (placed_at i f) (omega (arith, within, many))
       ∙ ap (λ (y : Placed). take i xs ++ y ∷ []) (found i f within is)
 
-  pub first_code : (made : List Bool) (words : List ℕ) (rows : List FunctionEntry) → IsDraft xs made words → rows ≡ []
-      → HasCode (listed addresses) 0 xs made words rows
+  pub first_code : (made : List Bool) (words : List ℕ) (rows : List FunctionEntry) → IsDraft ticks xs made words →
+      rows ≡ []
+      → HasCode all_known 0 xs made words rows
   first_code made words rows draft r =
       record {
         rest = words;
         words_are = refl;
-        rest_is = subst (λ (ss : List ℕ). AreDrafted (listed ss) FUNCTIONS xs made words) (sym plan.addresses_are)
-            (subst (λ (ys : List Placed). AreDrafted (addresses_of ys) FUNCTIONS xs made words) (append-nil xs)
+        rest_is = subst (λ (d : Addresses). AreDrafted d FUNCTIONS xs made words) (sym all_are)
+            (subst (λ (ys : List Placed). AreDrafted (addresses_of ticks ys) FUNCTIONS xs made words) (append-nil xs)
             (draft []));
         rows_are = r;
       }
 
   -- the piece of the next function, and what is behind it
   abbrev pub Piece : (i : ℕ) (x : Placed) (m : Bool) (made : List Bool) (rest : List ℕ) → Type 0
-  Piece i x m made rest = AreDrafted (listed addresses) (ends FUNCTIONS (take i xs)) (x ∷ drop (suc i) xs)
+  Piece i x m made rest = AreDrafted all_known (ends FUNCTIONS (take i xs)) (x ∷ drop (suc i) xs)
       (m ∷ drop (suc i) made) rest
 
   piece_of : (i : ℕ) (f : Function) (m : Bool) (made : List Bool) (words : List ℕ) (rows : List FunctionEntry)
       → i < length fs → f ≡ get_or fs i f → i < length made → m ≡ get_or made i m
-      → (code : HasCode (listed addresses) i xs made words rows) → Piece i (placed_at i f) m made code.rest
+      → (code : HasCode all_known i xs made words rows) → Piece i (placed_at i f) m made code.rest
   piece_of i f m made words rows within is low m_is code =
       let x = placed_at i f in
-      let d = listed addresses in
+      let d = all_known in
       let at = ends FUNCTIONS (take i xs) in
       let one : drop i xs ≡ x ∷ drop (suc i) xs =
       dropped i xs x (omega (arith, within, many)) ∙ ap (λ (y : Placed). y ∷ drop (suc i) xs) (found i f within is) in
@@ -179,15 +198,16 @@ module _ (fs : List Function) (xs : List Placed) (addresses : List ℕ) (places 
 
   module _ (i : ℕ) (f : Function) (made : List Bool) (words : List ℕ) (rows : List FunctionEntry)
       (within : i < length fs) (is : f ≡ get_or fs i f) (counted : length made ≡ length xs)
-      (code : HasCode (listed addresses) i xs made words rows) where
+      (code : HasCode all_known i xs made words rows) where
     -- where the next function's words begin, counted in words
     abbrev pub first : ℕ
-    first = length (words_from (listed addresses) FUNCTIONS (take i xs))
+    first = length (words_from all_known FUNCTIONS (take i xs))
 
     pub first_is : slice_index addresses i ≡ FUNCTIONS + 4 * first
     first_is =
         ap (λ (ss : List ℕ). slice_index ss i) plan.addresses_are
-        ∙ start_at FUNCTIONS xs i (omega (arith, within, many)) ∙ ends_at (listed addresses) FUNCTIONS (take i xs)
+        ∙ start_at FUNCTIONS xs i (omega (arith, within, many)) ∙
+        ends_at all_known FUNCTIONS (take i xs)
 
     pub within_made : i < length made
     within_made = omega (arith, within, many, counted)
@@ -199,10 +219,11 @@ module _ (fs : List Function) (xs : List Placed) (addresses : List ℕ) (places 
     next_piece = piece_of i f flag made words rows within is within_made (read i made true within_made) code
 
     -- there is room for them
-    pub room : first + length (words_of (listed addresses) (slice_index addresses i) (placed_at i f)) ≤ length words
+    pub room : first + length (words_of all_known (slice_index addresses i) (placed_at i f)) ≤ length
+        words
     room =
         let p = next_piece in
-        let d = listed addresses in
+        let d = all_known in
         omega (
           arith,
           ap length code.words_are,
@@ -214,10 +235,11 @@ module _ (fs : List Function) (xs : List Placed) (addresses : List ℕ) (places 
         )
 
     -- all words are low
-    pub words_low : AreStatic fs → FUNCTIONS + 4 * length words ≤ ARENA
-    words_low static =
-        let all = each_static fs xs (subst (Each (IsStatic fs)) (sym functions_are) static.each) in
-        let d = listed addresses in
+    pub words_low : (captures : List (List CaptureKind)) → AreStatic fs captures ticks →
+        FUNCTIONS + 4 * length words ≤ ARENA
+    words_low captures static =
+        let all = each_static fs captures xs (subst (Each (IsStatic fs captures)) (sym functions_are) static.each) in
+        let d = all_known in
         let front = take i xs in
         omega (
           arith,
@@ -226,23 +248,24 @@ module _ (fs : List Function) (xs : List Placed) (addresses : List ℕ) (places 
           ends_at d FUNCTIONS front,
           drafted_long d (ends FUNCTIONS front) (drop i xs) (drop i made) code.rest code.rest_is,
           ends_parts FUNCTIONS i xs,
-          ends_most fs FUNCTIONS xs all,
+          ends_most fs captures FUNCTIONS xs all,
           ap most_words functions_are,
           static.room,
         )
 
   pub next_code : (i : ℕ) (f : Function) (made : List Bool) (words words' : List ℕ) (rows rows' : List FunctionEntry)
       → i < length fs → f ≡ get_or fs i f → length made ≡ length xs
-      → Rewritten (slice_index_or made i true) (length (words_from (listed addresses) FUNCTIONS (take i xs)))
-      (words_of (listed addresses) (slice_index addresses i) (placed_at i f)) words words'
+      → Rewritten (slice_index_or made i true) (length (words_from all_known FUNCTIONS (take i xs)))
+      (words_of all_known (slice_index addresses i) (placed_at i f)) words words'
       → rows' ≡ rows ++ entry (slice_index addresses i) f.parameters ∷ []
-      → HasCode (listed addresses) i xs made words rows → HasCode (listed addresses) (i + 1) xs made words' rows'
+      → HasCode all_known i xs made words rows →
+      HasCode all_known (i + 1) xs made words' rows'
   next_code i f made words words' rows rows' within is counted w r code =
       let m = slice_index_or made i true in
       let low : i < length made = omega (arith, within, many, counted) in
       let m_is = read i made true low in
       let x = placed_at i f in
-      let d = listed addresses in
+      let d = all_known in
       let front = take i xs in
       let done = words_from d FUNCTIONS front in
       let inside : i < length xs = omega (arith, within, many) in
@@ -270,11 +293,11 @@ module _ (fs : List Function) (xs : List Placed) (addresses : List ℕ) (places 
       })
 
   pub last_code : (i : ℕ) (made : List Bool) (words : List ℕ) (rows : List FunctionEntry) → length fs ≤ i →
-      HasCode (listed addresses) i xs made words rows → AreCode fs words rows
+      HasCode all_known i xs made words rows → AreWritten fs ticks addresses words rows
   last_code i made words rows past code =
       let all = taken_all i xs (omega (arith, past, many)) in
       let none = dropped_all i xs (omega (arith, past, many)) in
-      let d = listed addresses in
+      let d = all_known in
       let front = words_from d FUNCTIONS (take i xs) in
       let at = ends FUNCTIONS (take i xs) in
       let ended : code.rest ≡ [] =
@@ -282,8 +305,9 @@ module _ (fs : List Function) (xs : List Placed) (addresses : List ℕ) (places 
       record {
         placed = xs;
         each = plan.each;
-        choice = record { same = functions_are; legal = legal_all (addresses_of xs) xs plan.legal };
+        choice = record { same = functions_are; legal = legal_all (addresses_of ticks xs) xs plan.legal };
+        starts_are = plan.addresses_are;
         words_are = code.words_are ∙ ap (λ (ws : List ℕ). front ++ ws) ended ∙ append-nil front
-            ∙ ap (words_from d FUNCTIONS) all ∙ ap (λ ss. words_from (listed ss) FUNCTIONS xs) plan.addresses_are;
+            ∙ ap (words_from d FUNCTIONS) all ∙ ap (λ a. words_from a FUNCTIONS xs) all_are;
         rows_are = code.rows_are ∙ ap (rows_of FUNCTIONS) all;
       }

@@ -1,15 +1,17 @@
 -- The first pass: words that are made, and room for others, grow by those of the next function.
-use Rattle.std.proofs.Common.{◌≡◌, ℕ, ◌+◌, ◌*◌, Bool, true, false, List, [], ◌∷◌, ◌++◌, length, refl, sym, ap, ◌∙◌}
+use Rattle.std.proofs.Common.{◌≡◌, ℕ, ◌+◌, ◌*◌, Bool, true, false, List, [], ◌∷◌, ◌++◌, length, inl, refl, sym, ap, ◌∙◌}
 use Rattle.std.proofs.Common.{subst, arith, append_assoc, append-nil, length-append}
 use Rattle.icode_templates.specs.Expansion.{expanded}
 use Rattle.word32.specs.declared.map.TheConstants.{FUNCTIONS}
+use Rattle.staged_meaning.specs.Program.{Tick}
 use Rattle.tick_lower_spec.specs.Lower.{Addresses, listed}
 use Rattle.staged_meaning.specs.Size.{size_of, charge_of}
 use Rattle.icode_ops.specs.declared.op.Op.{Op}
-use Rattle.static_image.specs.Layout.{Placed, ops_of, words_of, length_of, behind, starts, addresses_of}
-use Rattle.static_image.proofs.Placing.{ends, length_is}
+use Rattle.static_image.specs.Layout.{Placed, ops_of, words_of, length_of, behind, starts, ends, addresses_of}
+use Rattle.static_image.specs.Layout.{function_starts, generator_starts}
+use Rattle.static_image.proofs.Placing.{length_is}
 use Rattle.static_backend.specs.Calls.{calls_unknown}
-use Rattle.static_backend.specs.Drafted.{AreDrafted, IsDraft, IsPiece}
+use Rattle.static_backend.specs.Drafted.{AreDrafted, IsDraft, IsPiece, known_at}
 use Rattle.static_backend.proofs.Known.{code_known, listed_known}
 
 -- one function more
@@ -36,41 +38,44 @@ starts_append at (x ∷ xs) ys = ap (λ (ss : List ℕ). at ∷ ss) (starts_appe
 
 -- the words of a function that calls none but those that stand so far, itself among them, are its words wherever others
 -- will stand
-known_words : (xs : List Placed) (x : Placed) (more : List Placed) →
-    calls_unknown (ops_of (addresses_of (xs ++ x ∷ [])) x) ≡ false →
-    words_of (addresses_of (xs ++ x ∷ [])) (ends FUNCTIONS xs) x
-    ≡ words_of (addresses_of (xs ++ x ∷ more)) (ends FUNCTIONS xs) x
-known_words xs x more none =
+known_words : (ticks : List Tick) (xs : List Placed) (x : Placed) (more : List Placed) →
+    calls_unknown (ops_of (known_at ticks (starts FUNCTIONS (xs ++ x ∷ []))) x) ≡ false →
+    words_of (known_at ticks (starts FUNCTIONS (xs ++ x ∷ []))) (ends FUNCTIONS xs) x
+    ≡ words_of (addresses_of ticks (xs ++ x ∷ more)) (ends FUNCTIONS xs) x
+known_words ticks xs x more none =
     let front = xs ++ x ∷ [] in
-    let far = starts FUNCTIONS (front ++ more) in
+    let far = front ++ more in
+    let made = generator_starts (function_starts far) (ends FUNCTIONS far) ticks in
     let here = starts FUNCTIONS front in
     let rest = starts (ends FUNCTIONS front) more in
     let at = ends FUNCTIONS xs in
     let charge = charge_of (size_of x.function) in
     ap (λ (os : List Op). expanded os x.places at charge x.function.object false)
-    (code_known (listed here) (listed (here ++ rest)) x.function (listed_known here rest) none)
-    ∙ ap (λ (ss : List ℕ). words_of (listed ss) at x) (sym (starts_append FUNCTIONS front more))
-    ∙ ap (λ (ys : List Placed). words_of (addresses_of ys) at x) (append_assoc xs (x ∷ []) more)
+    (code_known (known_at ticks here) (listed (here ++ rest) made ticks) refl (listed_known here rest made ticks)
+    (λ tick. inl refl) x.function none)
+    ∙ ap (λ (ss : List ℕ). words_of (listed ss made ticks) at x) (sym (starts_append FUNCTIONS front more))
+    ∙ ap (λ (ys : List Placed). words_of (addresses_of ticks ys) at x) (append_assoc xs (x ∷ []) more)
 
-pub first_draft : (made : List Bool) (words : List ℕ) → words ≡ [] → IsDraft [] made words
-first_draft made words w more = w
+pub first_draft : (ticks : List Tick) (made : List Bool) (words : List ℕ) → words ≡ [] → IsDraft ticks [] made words
+first_draft ticks made words w more = w
 
-pub draft_more : (xs : List Placed) (x : Placed) (made made' : List Bool) (m : Bool) (words words' : List ℕ)
+pub draft_more : (ticks : List Tick) (xs : List Placed) (x : Placed) (made made' : List Bool) (m : Bool)
+    (words words' : List ℕ)
     (at : ℕ) (known : List ℕ) → length made ≡ length xs → at ≡ ends FUNCTIONS xs
     → known ≡ starts FUNCTIONS (xs ++ x ∷ []) → made' ≡ made ++ m ∷ []
-    → IsPiece (calls_unknown (ops_of (listed known) x)) (words_of (listed known) at x) m words words'
-    → IsDraft xs made words → IsDraft (xs ++ x ∷ []) made' words'
-draft_more xs x made made' m words words' at known many here ss ms p h more =
+    → IsPiece (calls_unknown (ops_of (known_at ticks known) x)) (words_of (known_at ticks known) at x) m words words'
+    → IsDraft ticks xs made words → IsDraft ticks (xs ++ x ∷ []) made' words'
+draft_more ticks xs x made made' m words words' at known many here ss ms p h more =
     let front = xs ++ x ∷ [] in
-    let d = addresses_of (xs ++ x ∷ more) in
-    let long : length p.piece ≡ length_of x = p.as_long ∙ length_is (listed known) at x in
+    let d = addresses_of ticks (xs ++ x ∷ more) in
+    let long : length p.piece ≡ length_of x = p.as_long ∙ length_is (known_at ticks known) at x in
     let same : m ≡ true → p.piece ≡ words_of d (ends FUNCTIONS xs) x =
     λ is. let q = p.same is in
-    q.1 ∙ ap (λ (a : ℕ). words_of (listed known) a x) here
-    ∙ ap (λ (zs : List ℕ). words_of (listed zs) (ends FUNCTIONS xs) x) ss
-    ∙ known_words xs x more (ap (λ (zs : List ℕ). calls_unknown (ops_of (listed zs) x)) (sym ss) ∙ q.0) in
+    q.1 ∙ ap (λ (a : ℕ). words_of (known_at ticks known) a x) here
+    ∙ ap (λ (zs : List ℕ). words_of (known_at ticks zs) (ends FUNCTIONS xs) x) ss
+    ∙ known_words ticks xs x more (ap (λ (zs : List ℕ). calls_unknown (ops_of (known_at ticks zs) x)) (sym ss) ∙ q.0) in
     let made_so = drafted_more d FUNCTIONS xs x made m words p.piece many long same (h (x ∷ more)) in
-    subst (λ (ys : List Placed). AreDrafted (addresses_of ys) FUNCTIONS front made' words')
+    subst (λ (ys : List Placed). AreDrafted (addresses_of ticks ys) FUNCTIONS front made' words')
     (sym (append_assoc xs (x ∷ []) more))
     (subst (λ (ws : List ℕ). AreDrafted d FUNCTIONS front made' ws) (sym p.added)
     (subst (λ (ks : List Bool). AreDrafted d FUNCTIONS front ks (words ++ p.piece)) (sym ms) made_so))

@@ -4,7 +4,7 @@ use Rattle.std.proofs.Common.{refl, sym, ap, ◌∙◌, arith, append_assoc, app
 use Rattle.image_file.specs.declared.image.FunctionEntry.{FunctionEntry}
 use Rattle.tick_lower_spec.specs.Lower.{Addresses}
 use Rattle.static_image.specs.Layout.{Placed, words_of, behind, starts, rows_of, words_from, functions_of}
-use Rattle.static_image.proofs.Placing.{ends}
+use Rattle.static_image.specs.Layout.{ends}
 
 abbrev pub entry : (at count : ℕ) → FunctionEntry
 entry at count = record { address = at; count = count }

@@ -1,9 +1,12 @@
-pub mod Slices
-pub mod Results
-pub mod Grown
-pub mod Known
+mod Filled
+mod Taken
+pub mod Coded
 pub mod Drafts
+pub mod Grown
+pub mod Images
+pub mod Known
 pub mod Loops
 pub mod Planned
-pub mod Coded
-pub mod Images
+pub mod Results
+pub mod Slices
+pub mod Generators

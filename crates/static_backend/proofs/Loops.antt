@@ -4,6 +4,7 @@ use Rattle.std.proofs.Common.{get_or, refl, sym, ap, ◌∙◌, subst, arith}
 use Rattle.std.proofs.lemmas.List.{map_more}
 use Rattle.std.proofs.Math.ListN.{get_or-map}
 use Rattle.icode_ir.specs.Sound.{Each}
+use Rattle.typed_tree.specs.declared.expression.CaptureKind.{CaptureKind}
 use Rattle.typed_tree.specs.declared.program.Function.{Function}
 use Rattle.typed_tree.specs.Nodes as node
 use Rattle.typed_tree.specs.View.{function_view}
@@ -22,24 +23,25 @@ pub next_view : (i : ℕ) (fs : List Function) (f : Function) → f ≡ get_or f
     function_view f ≡ get_or (map function_view fs) i (function_view f)
 next_view i fs f is = ap function_view is ∙ sym (get_or-map function_view fs i f)
 
-module _ (gs : List node.Function) where
-  pub front_static : (i : ℕ) (fs : List Function) → Each (IsStatic gs) (map function_view fs) →
-      Each (IsStatic gs) (front_of i fs)
+module _ (gs : List node.Function) (captures : List (List CaptureKind)) where
+  pub front_static : (i : ℕ) (fs : List Function) → Each (IsStatic gs captures) (map function_view fs) →
+      Each (IsStatic gs captures) (front_of i fs)
   front_static zero fs h = tt
   front_static (suc i) [] h = tt
   front_static (suc i) (f ∷ fs) h = (h.0, front_static i fs h.1)
 
-  static_at : (i : ℕ) (fs : List Function) (d : Function) → i < length fs → Each (IsStatic gs) (map function_view fs) →
-      IsStatic gs (function_view (get_or fs i d))
+  static_at : (i : ℕ) (fs : List Function) (d : Function) → i < length fs →
+      Each (IsStatic gs captures) (map function_view fs) →
+      IsStatic gs captures (function_view (get_or fs i d))
   static_at i [] d low h = absurd (omega (arith, low))
   static_at zero (f ∷ fs) d low h = h.0
   static_at (suc i) (f ∷ fs) d low h = static_at i fs d (omega (arith, low)) h.1
 
   -- the function that is next is such a one
   pub next_static : (i : ℕ) (fs : List Function) (f : Function) → i < length fs → f ≡ get_or fs i f →
-      Each (IsStatic gs) (map function_view fs) → IsStatic gs (function_view f)
+      Each (IsStatic gs captures) (map function_view fs) → IsStatic gs captures (function_view f)
   next_static i fs f low is h =
-      subst (λ (g : Function). IsStatic gs (function_view g)) (sym is) (static_at i fs f low h)
+      subst (λ (g : Function). IsStatic gs captures (function_view g)) (sym is) (static_at i fs f low h)
 
 pub front_few : (i : ℕ) (fs : List Function) → most_words (front_of i fs) ≤ most_words (map function_view fs)
 front_few zero fs = omega arith

@@ -1,6 +1,6 @@
 -- The first pass: a plan grows by the next function, and what it has stays low.
 use Rattle.std.proofs.Common.{◌≡◌, ℕ, ◌+◌, ◌-◌, ◌*◌, ◌%◌, ◌≤◌, Bool, false, List, [], ◌∷◌, ◌++◌, length, sym, ap, ◌∙◌}
-use Rattle.std.proofs.Common.{arith, subst, length-append}
+use Rattle.std.proofs.Common.{arith, subst, refl, length-append}
 use Rattle.word32.specs.declared.map.TheConstants.{ARENA, FUNCTIONS}
 use Rattle.icode_ops.specs.declared.op.Op.{Op}
 use Rattle.icode_ir.specs.Sound.{Each}
@@ -12,11 +12,14 @@ use Rattle.limits.specs.declared.program.TheConstants.{CHARGE_LIMIT}
 use Rattle.static_image.specs.Layout.{Placed, ops_of, words_of, words_from, starts, unknown, functions_of}
 use Rattle.static_image.specs.Layout.{IsLegalChoice}
 use Rattle.static_image.specs.Served.{IsStatic, most_words, AreStatic}
-use Rattle.static_image.proofs.Placing.{ends, ends_at, ends_most, each_static, length_is, few_words}
-use Rattle.tick_lower_spec.specs.Lower.{Addresses, listed}
+use Rattle.static_image.specs.Layout.{ends}
+use Rattle.static_image.proofs.Placing.{ends_at, ends_most, each_static, length_is, few_words}
+use Rattle.staged_meaning.specs.Program.{Tick}
+use Rattle.typed_tree.specs.declared.expression.CaptureKind.{CaptureKind}
+use Rattle.tick_lower_spec.specs.Lower.{Addresses}
 use Rattle.static_backend.specs.Calls.{calls_unknown}
 use Rattle.static_backend.specs.Scanned.{IsScan, IsPlan}
-use Rattle.static_backend.specs.Drafted.{IsPiece, IsDraft}
+use Rattle.static_backend.specs.Drafted.{IsPiece, IsDraft, known_at}
 use Rattle.static_backend.proofs.Drafts.{draft_more}
 use Rattle.static_backend.proofs.Grown.{places_more, starts_more, words_more}
 
@@ -63,21 +66,25 @@ as_long x at d m words words' p =
       length_is unknown at x,
     )
 
-pub next_draft : (xs : List Placed) (x : Placed) (addresses addresses' : List ℕ) (places places' : List (List ℕ))
+pub next_draft : (ticks : List Tick) (xs : List Placed) (x : Placed) (addresses addresses' : List ℕ)
+    (places places' : List (List ℕ))
     (made made' : List Bool) (m : Bool) (words words' : List ℕ) (end end' : ℕ) → IsScan x → IsLegalChoice unknown x
     → addresses' ≡ addresses ++ end ∷ [] → places' ≡ places ++ x.places ∷ [] → made' ≡ made ++ m ∷ []
-    → IsPiece (calls_unknown (ops_of (listed addresses') x)) (words_of (listed addresses') end x) m words words'
+    → IsPiece (calls_unknown (ops_of (known_at ticks addresses') x)) (words_of (known_at ticks addresses') end x) m
+    words
+    words'
     → end' ≡ end + 4 * (length words' - length words)
-    → IsPlan xs addresses places end → IsDraft xs made words → length made ≡ length xs
-    → IsPlan (xs ++ x ∷ []) addresses' places' end' × IsDraft (xs ++ x ∷ []) made' words'
+    → IsPlan xs addresses places end → IsDraft ticks xs made words → length made ≡ length xs
+    → IsPlan (xs ++ x ∷ []) addresses' places' end' × IsDraft ticks (xs ++ x ∷ []) made' words'
     × (length made' ≡ length (xs ++ x ∷ []))
-next_draft xs x addresses addresses' places places' made made' m words words' end end' scan legal a p k piece e plan
+next_draft ticks xs x addresses addresses' places places' made made' m words words' end end' scan legal a p k piece e
+    plan
     draft many =
-    let d = listed addresses' in
+    let d = known_at ticks addresses' in
     let next = plan_more xs x addresses addresses' places places' end end' (length words' - length words) scan legal
     (as_long x end d m words words' piece) a p e plan in (
       next,
-      draft_more xs x made made' m words words' end addresses' many (end_at xs addresses places end plan)
+      draft_more ticks xs x made made' m words words' end addresses' many (end_at xs addresses places end plan)
           next.addresses_are k piece draft,
       omega (
         arith,
@@ -117,22 +124,28 @@ pub aligned : (xs : List Placed) (addresses : List ℕ) (places : List (List ℕ
 aligned xs addresses places end plan = omega (arith, plan.end_is)
 
 -- as long as the functions are among these, there is room for them
-pub low : (fs : List Function) (xs : List Placed) (addresses : List ℕ) (places : List (List ℕ)) (end : ℕ) →
-    AreStatic fs → Each (IsStatic fs) (functions_of xs) → most_words (functions_of xs) ≤ most_words fs →
+pub low : (fs : List Function) (captures : List (List CaptureKind)) (ticks : List Tick) (xs : List Placed)
+    (addresses : List ℕ) (places : List (List ℕ)) (end : ℕ) →
+    AreStatic fs captures ticks → Each (IsStatic fs captures) (functions_of xs) →
+    most_words (functions_of xs) ≤ most_words fs →
     IsPlan xs addresses places end → end ≤ ARENA
-low fs xs addresses places end static each few plan =
-    let most = ends_most fs FUNCTIONS xs (each_static fs xs each) in
+low fs captures ticks xs addresses places end static each few plan =
+    let most = ends_most fs captures FUNCTIONS xs (each_static fs captures xs each) in
     omega (arith, end_at xs addresses places end plan, most, few, static.room)
 
 -- a function's words are few
-pub few : (fs : List Function) (x : Placed) (at : ℕ) (d : Addresses) → IsStatic fs x.function →
+pub few : (fs : List Function) (captures : List (List CaptureKind)) (x : Placed) (at : ℕ) (d : Addresses) →
+    IsStatic fs captures x.function →
     length (words_of d at x) ≤ CHARGE_LIMIT
-few fs x at d static = omega (arith, length_is d at x, few_words fs x static, static.ready.ready.small)
+few fs captures x at d static =
+    omega (arith, length_is d at x, few_words fs captures x static, static.ready.ready.small)
 
-pub few_of : (fs : List Function) (x : Placed) (at frame : ℕ) (d : Addresses) (ops : List Op) → IsStatic fs x.function
+pub few_of : (fs : List Function) (captures : List (List CaptureKind)) (x : Placed) (at frame : ℕ) (d : Addresses)
+    (ops : List Op)
+    → IsStatic fs captures x.function
     → ops ≡ ops_of d x → frame ≡ charge_of (size_of x.function)
     → length (expanded ops x.places at frame x.function.object false) ≤ CHARGE_LIMIT
-few_of fs x at frame d ops static op charge =
+few_of fs captures x at frame d ops static op charge =
     subst (λ (os : List Op). length (expanded os x.places at frame x.function.object false) ≤ CHARGE_LIMIT) (sym op)
     (subst (λ (n : ℕ). length (expanded (ops_of d x) x.places at n x.function.object false) ≤ CHARGE_LIMIT)
-    (sym charge) (few fs x at d static))
+    (sym charge) (few fs captures x at d static))

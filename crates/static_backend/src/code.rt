@@ -7,36 +7,43 @@ ghost use Rattle.icode_ir.specs.declared.builder.Phase.TheVariants.{Finished};
 ghost use Rattle.staged_meaning.specs.Scope.{IsReadyIn};
 ghost use Rattle.staged_meaning.specs.Size.{size_of, charge_of};
 ghost use Rattle.static_backend.specs.Calls as calls;
-ghost use Rattle.tick_lower_spec.specs.Lower.{listed, function_ops};
+ghost use Rattle.tick_lower.specs.Viewed.{addresses_view};
+ghost use Rattle.tick_lower_spec.specs.Lower.{function_ops};
 ghost use Rattle.typed_tree.specs.Nodes as node;
+ghost use Rattle.typed_tree.specs.declared.expression.CaptureKind.{CaptureKind};
 ghost use Rattle.typed_tree.specs.View.{function_view};
 ghost use Rattle.word32.specs.declared.map.TheConstants.{STACK_BYTES};
 
+use crate::lowered::lower;
 use icode_ir::Builder;
-use icode_ops::{CallAddress, Op};
+use icode_ops::Op;
 use limits::run::{STACK_OF_A_CALL, STACK_OF_A_NODE};
 use std::alloc::{AllocError, Global};
-use tick_lower::{lower, size};
+use tick_lower::{Addresses, size};
 use tick_lower_proof::lowering_is_accepted;
 use typed_tree::Function;
 
-/// Makes a builder, whatever it had before, a finished one that has the ops of a function, which is ready among the
-/// functions of its program. The static functions are at these addresses, the first of them first; a call of one whose
-/// address isn't known yet goes to 0. The only error is want of memory.
+/// Makes a builder, whatever it had before, a finished one that has the ops of a function. A call of a static function
+/// whose address isn't known yet goes to 0, and so does the making of a tick whose function isn't.
+///
+/// # Errors
+/// Where memory is wanting.
 pub fn build_ops(
     alloc: Global,
     builder: &mut Builder,
-    starts: &[CallAddress],
+    addresses: &Addresses<'_>,
     function: &Function,
 ) -> Result<(), AllocError>
-    requires { (functions : List node.Function) × IsReadyIn functions (function_view function.now) }
+    requires { (functions : List node.Function) × (captures : List (List CaptureKind)) ×
+        IsReadyIn functions captures (function_view function.now) }
     ensures { OnOk result (builder.new ≡ record {
-      build = run_ops (function_ops (listed starts.now) (function_view function.now)) (empty function.now.params);
+      build = run_ops (function_ops (addresses_view addresses.now) (function_view function.now))
+          (empty function.now.params);
       phase = Finished;
     }) }
 {
     builder.begin(function.params);
-    lower(alloc, starts, function, builder)?;
+    lower(alloc, addresses, function, builder)?;
     lowering_is_accepted();
     match builder.finish() {
         Ok(()) => Ok(()),
@@ -46,24 +53,26 @@ pub fn build_ops(
 
 /// How many bytes a function takes from the stack.
 pub fn charge(function: &Function) -> u32
-    requires { (functions : List node.Function) × IsReadyIn functions (function_view function.now) }
+    requires { (functions : List node.Function) × (captures : List (List CaptureKind)) ×
+        IsReadyIn functions captures (function_view function.now) }
     ensures charge { result ≡ charge_of (size_of (function_view function.now)) }
     ensures most { result ≤ STACK_BYTES }
 {
     STACK_OF_A_CALL + STACK_OF_A_NODE * size(function)
 }
 
-// Whether an op is a call of a function whose address isn't known yet.
+// Whether an op names a function whose address isn't known yet.
 fn goes_nowhere(op: Op) -> bool
     ensures { result ≡ calls.goes_nowhere op }
 {
     match op {
         Op::Call { address } => address.get() == 0,
+        Op::New { address, .. } => address == 0,
         _ => false,
     }
 }
 
-/// Whether the ops call a function whose address isn't known yet.
+/// Whether the ops name a function whose address isn't known yet.
 pub fn calls_unknown(ops: &[Op]) -> bool
     ensures { result ≡ calls.calls_unknown ops.now }
 {

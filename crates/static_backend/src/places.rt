@@ -23,7 +23,8 @@ fn scan_places(
 )
     requires finished { IsFinished ops.now (length places.old) }
     requires room { length places.old ≤ length out.old }
-    ensures scanned { (xs : List SpecInterval) × AreIntervals ops.now xs × (places.new ≡ places_of (length places.old) xs) }
+    ensures scanned { (xs : List SpecInterval) × AreIntervals ops.now xs ×
+        (places.new ≡ places_of (length places.old) xs) }
     ensures legal { IsLegal ops.now (length places.old) places.new }
 {
     let count = live.intervals(ops, places.len() as u32, out);
@@ -31,8 +32,11 @@ fn scan_places(
     scanner.scan(&out[..count], places);
 }
 
-/// The places that linear scan gives to the registers of a finished list of ops. `out` is for their intervals, and keeps
-/// its room for the next list. The only error is want of memory.
+/// The places that linear scan gives to the registers of a finished list of ops. `out` is for their intervals, and
+/// keeps its room for the next list.
+///
+/// # Errors
+/// Where memory is wanting.
 pub fn scanned_places(
     alloc: Global,
     live: &mut Live,
@@ -42,7 +46,8 @@ pub fn scanned_places(
     registers: u32,
 ) -> Result<Vec<u8>, AllocError>
     requires { IsFinished ops.now registers }
-    ensures scanned { IfOk result (λ made. (xs : List SpecInterval) × AreIntervals ops.now xs × (made.items ≡ places_of registers xs)) }
+    ensures scanned { IfOk result (λ made. (xs : List SpecInterval) × AreIntervals ops.now xs ×
+        (made.items ≡ places_of registers xs)) }
     ensures legal { IfOk result (λ made. IsLegal ops.now registers made.items) }
 {
     let none = Interval {

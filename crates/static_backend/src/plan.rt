@@ -17,7 +17,11 @@ ghost use Rattle.static_backend.specs.Drafted.{IsPiece};
 ghost use Rattle.static_backend.specs.Plans.{IsPlanOf, IsDraftOf};
 ghost use Rattle.static_image.specs.Layout.{Placed, IsLegalChoice, functions_of, unknown};
 ghost use Rattle.static_image.specs.Served.{IsStatic, AreStatic};
-ghost use Rattle.tick_lower_spec.specs.Lower.{listed, function_ops};
+ghost use Rattle.tick_lower.specs.Sized.{AreSized};
+ghost use Rattle.static_backend.specs.Ticks.{ticks_view};
+ghost use Rattle.tick_lower.specs.Viewed.{addresses_view};
+ghost use Rattle.tick_lower_spec.specs.Lower.{function_ops};
+ghost use Rattle.typed_tree.specs.declared.expression.CaptureKind.{CaptureKind};
 ghost use Rattle.typed_tree.specs.Nodes as node;
 ghost use Rattle.typed_tree.specs.View.{function_view};
 ghost use Rattle.word32.specs.declared.map.TheConstants.{ARENA, OBJECT_BYTES, STACK_BYTES};
@@ -29,7 +33,8 @@ use crate::text::add_words;
 use icode_expand::expanded_length;
 use icode_ops::{CallAddress, Op};
 use std::alloc::{AllocError, Global};
-use typed_tree::Function;
+use tick_lower::Addresses;
+use typed_tree::{Function, Tick};
 use word32::map::FUNCTIONS;
 
 /// Where functions stand, the places of their registers, and which of them have their words.
@@ -69,12 +74,14 @@ pub struct Draft {
 fn scanned(
     alloc: Global,
     tables: &mut Tables,
-    starts: &[CallAddress],
+    addresses: &Addresses<'_>,
     function: &Function,
 ) -> Result<Vec<u8>, AllocError>
-    requires { (functions : List node.Function) × IsReadyIn functions (function_view function.now) }
+    requires { (functions : List node.Function) × (captures : List (List CaptureKind)) ×
+        IsReadyIn functions captures (function_view function.now) }
     ensures built { OnOk result (tables.new.builder ≡ record {
-      build = run_ops (function_ops (listed starts.now) (function_view function.now)) (empty function.now.params);
+      build = run_ops (function_ops (addresses_view addresses.now) (function_view function.now))
+          (empty function.now.params);
       phase = Finished;
     }) }
     ensures scan { IfOk result (λ made.
@@ -82,7 +89,7 @@ fn scanned(
     ensures legal { IfOk result (λ made.
         IsLegalChoice unknown (record { function = function_view function.now; places = made.items })) }
 {
-    build_ops(alloc, &mut tables.builder, starts, function)?;
+    build_ops(alloc, &mut tables.builder, addresses, function)?;
     let ops = tables.builder.ops();
     let registers = tables.builder.registers();
     let out = &mut tables.intervals;
@@ -141,21 +148,30 @@ fn place(
     tables: &mut Tables,
     labels: &mut [u32],
     function: &Function,
+    ticks: &[Tick],
     draft: &mut Draft,
 ) -> Result<(), AllocError>
     requires labels { length labels.old ≡ LABELS }
-    requires served { (functions : List node.Function) × IsStatic functions (function_view function.now) }
+    requires served { (functions : List node.Function) × (captures : List (List CaptureKind)) ×
+        IsStatic functions captures (function_view function.now) }
+    requires sized { AreSized ticks.now }
     requires aligned { draft.old.plan.end % 4 ≡ 0 }
     requires low { draft.old.plan.end ≤ ARENA }
-    ensures { OnOk result ((before : List Placed) → IsDraftOf before draft.old → (places : List ℕ) ×
-        IsDraftOf (before ++ record { function = function_view function.now; places = places } ∷ []) draft.new) }
+    ensures { OnOk result ((before : List Placed) → IsDraftOf (ticks_view ticks.now) before draft.old →
+        (places : List ℕ) × IsDraftOf (ticks_view ticks.now)
+        (before ++ record { function = function_view function.now; places = places } ∷ []) draft.new) }
 {
     let at = draft.plan.end;
     match CallAddress::new(at) {
         Some(start) => draft.plan.starts.push(start)?,
         None => unreachable!(),
     }
-    let places = scanned(alloc, tables, &draft.plan.starts, function)?;
+    let addresses = Addresses {
+        starts: &draft.plan.starts,
+        generators: &[],
+        ticks,
+    };
+    let places = scanned(alloc, tables, &addresses, function)?;
     let frame = charge(function);
     let filled = draft.words.len();
     let ops = tables.builder.ops();
@@ -174,18 +190,24 @@ fn place(
     Ok(())
 }
 
-/// The places of all functions of a program, where they stand, and their words as far as they are known. The only error
-/// is want of memory.
+/// The places of all functions of a program, where they stand, and their words as far as they are known.
+///
+/// # Errors
+/// Where memory is wanting.
 pub fn planned(
     alloc: Global,
     tables: &mut Tables,
     labels: &mut [u32],
     functions: &[Function],
+    ticks: &[Tick],
 ) -> Result<Draft, AllocError>
     requires labels { length labels.old ≡ LABELS }
-    requires functions { AreStatic (map function_view functions.now) }
+    requires functions { (captures : List (List CaptureKind)) ×
+        AreStatic (map function_view functions.now) captures (ticks_view ticks.now) }
+    requires sized { AreSized ticks.now }
     ensures { IfOk result (λ draft.
-        (placed : List Placed) × (functions_of placed ≡ map function_view functions.now) × IsDraftOf placed draft) }
+        (placed : List Placed) × (functions_of placed ≡ map function_view functions.now)
+        × IsDraftOf (ticks_view ticks.now) placed draft) }
 {
     let plan = Plan {
         starts: Vec::new(alloc),
@@ -198,7 +220,7 @@ pub fn planned(
         words: Vec::new(alloc),
     };
     for function in functions {
-        place(alloc, tables, labels, function, &mut draft)?;
+        place(alloc, tables, labels, function, ticks, &mut draft)?;
     }
     Ok(draft)
 }

@@ -6,8 +6,8 @@ use icode_ops::Interval;
 use linear_scan::Scanner;
 use std::alloc::{AllocError, Global};
 
-/// The builder, and the tables of live intervals and of linear scan. Each begins with megabytes of zeros, so they are made
-/// once for all functions of a program.
+/// The builder, and the tables of live intervals and of linear scan. Each begins with megabytes of zeros, so they are
+/// made once for all functions of a program.
 pub struct Tables {
     /// Makes the ops of one function at a time.
     pub builder: Builder,
@@ -31,7 +31,10 @@ impl Drop for Tables {
 }
 
 impl Tables {
-    /// The tables for any number of functions. The only error is want of memory.
+    /// The tables for any number of functions.
+    ///
+    /// # Errors
+    /// Where memory is wanting.
     pub fn new(alloc: Global) -> Result<Tables, AllocError> {
         let builder = Builder::new(alloc)?;
         let live = Live::new(alloc)?;

@@ -11,32 +11,44 @@ ghost use Rattle.word32.specs.declared.map.TheConstants.{ARENA, OBJECT_BYTES, SE
 use icode_expand::{expand, words_are_few};
 use icode_ops::Op;
 use limits::ops::{FRAME_WORDS, OP_WORDS};
-use limits::program::FRONT_WORDS;
-use static_image::write_front;
+use runtime_routines::routines;
+use static_image::write_start;
 use std::alloc::{AllocError, Global};
 
-/// So many zeros. The only error is want of memory.
+// How many words the block of the start has.
+const BLOCK_WORDS: usize = 64;
+
+/// So many zeros.
+///
+/// # Errors
+/// Where memory is wanting.
 pub fn zeros(alloc: Global, count: usize) -> Result<Vec<u32>, AllocError>
     ensures { IfOk result (λ made. length made.items ≡ count) }
 {
     vec![in alloc; 0u32; count]
 }
 
-/// The words in front of the functions, with the address of main's first word and how many functions there are. The only
-/// error is want of memory.
+/// The words in front of the functions, with the address of main's first word and how many functions there are.
+///
+/// # Errors
+/// Where memory is wanting.
 pub fn front_words(alloc: Global, main: u32, functions: u32) -> Result<Vec<u32>, AllocError>
     requires main { main < SEGMENT_BYTES }
     requires functions { functions ≤ MOST_FUNCTIONS }
     ensures { IfOk result (λ made. made.items ≡ front main functions) }
 {
-    let mut made = zeros(alloc, FRONT_WORDS)?;
-    write_front(&mut made, main, functions);
+    let mut made = zeros(alloc, BLOCK_WORDS)?;
+    write_start(&mut made, main, functions);
+    let blocks = routines(alloc)?;
+    made.extend_from_slice(blocks.as_slice())?;
     Ok(made)
 }
 
 /// Adds the words of a function from an address on: its ops' expansion under these places. `frame` is how many bytes it
 /// takes from the stack, `object` how many its frame's objects have, and `labels` has room for the labels' addresses.
-/// The only error is want of memory.
+///
+/// # Errors
+/// Where memory is wanting.
 pub fn add_words(
     labels: &mut [u32],
     ops: &[Op],

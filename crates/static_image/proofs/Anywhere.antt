@@ -42,9 +42,13 @@ same_back o q h = record {
 pub alike_back : (xs ys : List Op) → AreAlike xs ys → AreAlike ys xs
 alike_back xs ys h = record { long = sym h.long; at = λ p. same_back (op_at xs p) (op_at ys p) (h.at p) }
 
--- a call goes on alike wherever it goes
+-- an op goes on alike whatever it calls or makes
 aimless_same : (o : Op) → AreSame (aimless_op o) o
 aimless_same (op.Call address) =
+    record { definition = refl; first = refl; second = refl; falling = refl; aim = refl; label = refl }
+aimless_same (op.Const to word) =
+    record { definition = refl; first = refl; second = refl; falling = refl; aim = refl; label = refl }
+aimless_same (op.New to address kind captures) =
     record { definition = refl; first = refl; second = refl; falling = refl; aim = refl; label = refl }
 aimless_same o =
     record { definition = refl; first = refl; second = refl; falling = refl; aim = refl; label = refl }

@@ -24,13 +24,15 @@ use Rattle.mips_model.specs.Laws.{HasAt, at, Reaches}
 use Rattle.mips_model.proofs.Loaded.{AllFit, all_fit_append, loaded}
 use Rattle.mips_model.proofs.Reach.{through, through_runs, reaches_on, step_acts, front, back}
 use Rattle.mips_assembly.specs.Assembly.{jal, nop}
+use Rattle.icode_templates_proof.specs.Closures.{HasClosures}
 use Rattle.icode_templates_proof.proofs.Jumps.{in_slot, slot_runs}
 use Rattle.icode_expand_proof.specs.Standing.{WordsAt, exit_code}
 use Rattle.icode_expand_proof.specs.Settings.{Setting, Published}
-use Rattle.icode_expand_proof.specs.Relation.{MemoryAgrees, ExtentsAgree}
+use Rattle.icode_expand_proof.specs.Relation.{MemoryAgrees, ExtentsAgree, SameWritten, SameMade}
 use Rattle.staged_meaning.specs.Program as meaning
 use Rattle.staged_meaning.specs.Meaning.{at_start}
-use Rattle.static_image.specs.Layout.{set_cell, set_up, start_code, exit_with_answer, filled}
+use Rattle.routine_spec.specs.Blocks.{filled}
+use Rattle.static_image.specs.Layout.{set_cell, set_up, start_code, exit_with_answer}
 
 -- words stand behind those that are in front of them in a text
 get_behind : (xs : List ℕ) (w : ℕ) (rest : List ℕ) → slice_get (xs ++ w ∷ rest) (length xs) ≡ Some w
@@ -65,13 +67,13 @@ pub last_words : (xs ws : List ℕ) (a : ℕ) → a ≡ TEXT + 4 * length xs →
 last_words xs ws a is = subst (λ (text : List ℕ). WordsAt (loaded (xs ++ text)) a ws) (append-nil ws)
     (words_there xs ws [] a is)
 
-pub filled_length : (size : ℕ) (ws : List ℕ) → length ws ≤ size → length (filled size ws) ≡ size
-filled_length size ws le =
+pub filled_length : (ws : List ℕ) → length ws ≤ 64 → length (filled ws) ≡ 64
+filled_length ws le =
     omega (
       arith,
       le,
-      length-append ws (replicate (size - length ws) (word_of nop)),
-      length-replicate (size - length ws) (word_of nop),
+      length-append ws (replicate (64 - length ws) (word_of nop)),
+      length-replicate (64 - length ws) (word_of nop),
     )
 
 -- each instruction of the start has a word
@@ -168,8 +170,22 @@ module _ (main functions : ℕ) (even : main % 4 ≡ 0) (low : main < SEGMENT_BY
       (step_acts (jal main) (at c call_at 0 set) rest.0 refl ∙ ap (λ t. going (in_slot c call_at t called)) target)
       rest.1.0
 
+  pub reaches : Reaches 17 (at c TEXT 0 first) (at c main 0 called)
+  reaches = reaches_on sets_up calls
+
   pub comes : iterate step 17 (going (at c TEXT 0 first)) ≡ going (at c main 0 called)
-  comes = (reaches_on sets_up calls).by
+  comes = reaches.by
+
+  -- no closure stands in memory yet
+  pub no_closures : HasClosures [] called
+  no_closures = record {
+    global = refl;
+    count = refl;
+    next = refl;
+    within = omega arith;
+    stand = λ n k e. absurd cc;
+    words = λ n. omega arith;
+  }
 
   pub waits : HasAt c exit_at exit_code
   waits = rest.1.1
@@ -177,10 +193,10 @@ module _ (main functions : ℕ) (even : main % 4 ≡ 0) (low : main < SEGMENT_BY
   -- the rows and the bytes are the image's, and nothing was read or put out
   pub agrees : (s : Setting) (program : meaning.Program) → program.image ≡ bytes
       → ((k : ℕ) → slice_index bytes k < 256) → Published s.program (numbered (map row_of rows))
-      → s.making ≡ machine.first_making row
-      → MemoryAgrees s (at_start program input) 0 called
-  agrees s program same small published unmade = record {
-    history = refl;
+      → s.making ≡ machine.first_making row → s.flushes ≡ 0 → s.history ≡ [] → SameWritten s.written called
+      → SameMade s.made (at_start program input) → MemoryAgrees s (at_start program input) 0 called
+  agrees s program same small published unmade unflushed none written made = record {
+    history = record { since = []; passes = tt; history_is = rw none refl; outside_is = rw none refl };
     input = refl;
     at_end = λ e. absurd cc;
     objects = ap (λ (bs : List ℕ). bytes_from (OBJECTS / 4) bs) (sym same);
@@ -190,7 +206,9 @@ module _ (main functions : ℕ) (even : main % 4 ≡ 0) (low : main < SEGMENT_BY
     active_calls = refl;
     active_word = omega arith;
     table = published;
-    making = sym unmade;
+    making = record { making = sym unmade; flushes = sym unflushed };
+    written = written;
+    made = made;
   }
 
   pub extents : (program : meaning.Program) → ExtentsAgree (at_start program input) called

@@ -1,5 +1,4 @@
 pub mod Appended
-pub mod Arena
 pub mod Faultless
 pub mod Arriving
 pub mod Serving
@@ -9,6 +8,7 @@ pub mod Placing
 pub mod Tables
 pub mod Lows
 pub mod Front
+pub mod Blocks
+pub mod Generated
 pub mod Whole
 pub mod Rules
-pub mod Quiet

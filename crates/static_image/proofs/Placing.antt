@@ -35,19 +35,20 @@ use Rattle.tick_lower_spec.specs.Lower.{Addresses, function_ops}
 use Rattle.tick_lower_proof.proofs.Sizes as sizes
 use Rattle.limits.specs.declared.program.TheConstants.{WORDS_OF_A_BODY, WORDS_OF_A_NODE}
 use Rattle.static_image.specs.Layout.{Placed, ops_of, registers_in, words_of, unknown, length_of, behind, starts}
-use Rattle.static_image.specs.Layout.{words_from, functions_of, IsLegalChoice}
+use Rattle.static_image.specs.Layout.{words_from, ends, functions_of, IsLegalChoice}
+use Rattle.typed_tree.specs.declared.expression.CaptureKind.{CaptureKind}
 use Rattle.static_image.specs.Served.{IsStatic, most_words}
 use Rattle.static_image.proofs.Arriving as start
 use Rattle.static_image.proofs.Serving.{AreLow, ops_served}
 use Rattle.static_image.proofs.Unaddressed.{code_length}
 
-abbrev pub Static : List node.Function → Placed → Type 0
-Static fs x = IsStatic fs x.function
+abbrev pub Static : List node.Function → List (List CaptureKind) → Placed → Type 0
+Static fs kinds x = IsStatic fs kinds x.function
 
-pub each_static : (fs : List node.Function) (xs : List Placed) → Each (IsStatic fs) (functions_of xs) →
-    Each (Static fs) xs
-each_static fs [] h = tt
-each_static fs (x ∷ xs) h = (h.0, each_static fs xs h.1)
+pub each_static : (fs : List node.Function) (kinds : List (List CaptureKind)) (xs : List Placed) →
+    Each (IsStatic fs kinds) (functions_of xs) → Each (Static fs kinds) xs
+each_static fs kinds [] h = tt
+each_static fs kinds (x ∷ xs) h = (h.0, each_static fs kinds xs h.1)
 
 -- a function's words are as many wherever it and those that it calls stand
 pub length_is : (d : Addresses) (at : ℕ) (x : Placed) → length (words_of d at x) ≡ length_of x
@@ -72,9 +73,9 @@ last_more os places at charge object =
     omega (arith, whole, part, a, b)
 
 -- at most so many words a node, and so many besides
-pub few_words : (fs : List node.Function) (x : Placed) → Static fs x →
+pub few_words : (fs : List node.Function) (kinds : List (List CaptureKind)) (x : Placed) → Static fs kinds x →
     length_of x ≤ WORDS_OF_A_NODE * size_of x.function + WORDS_OF_A_BODY
-few_words fs x static =
+few_words fs kinds x static =
     let charge = charge_of (size_of x.function) in
     let object = x.function.object in
     let b : Build = run_ops (function_ops unknown x.function) (empty x.function.parameters) in
@@ -97,14 +98,11 @@ some_words x =
 
 -- ---- the address behind all of them
 
-abbrev pub ends : (at : ℕ) → List Placed → ℕ
-ends at [] = at
-ends at (x ∷ xs) = ends (behind at x) xs
-
-pub ends_most : (fs : List node.Function) (at : ℕ) (xs : List Placed) → Each (Static fs) xs →
-    ends at xs ≤ at + 4 * most_words (functions_of xs)
-ends_most fs at [] h = omega arith
-ends_most fs at (x ∷ xs) h = omega (arith, ends_most fs (behind at x) xs h.1, few_words fs x h.0)
+pub ends_most : (fs : List node.Function) (kinds : List (List CaptureKind)) (at : ℕ) (xs : List Placed) →
+    Each (Static fs kinds) xs → ends at xs ≤ at + 4 * most_words (functions_of xs)
+ends_most fs kinds at [] h = omega arith
+ends_most fs kinds at (x ∷ xs) h =
+    omega (arith, ends_most fs kinds (behind at x) xs h.1, few_words fs kinds x h.0)
 
 pub ends_rise : (at : ℕ) (xs : List Placed) → at ≤ ends at xs
 ends_rise at [] = omega arith
@@ -152,8 +150,9 @@ pub record IsThere (c : Code) (a : ℕ) (f : Function) (places : List ℕ) : Typ
   pub served : (p : ℕ) → IsServed (op_at f.ops p)
   pub whole : f.object % 4 ≡ 0
 
-module _ (fs : List node.Function) (d : Addresses) (low_calls : AreLow d) where
-  pub suits : (at : ℕ) (x : Placed) → Static fs x → IsLegalChoice d x → at % 4 ≡ 0 → at + 4 * length_of x ≤ ARENA →
+module _ (fs : List node.Function) (kinds : List (List CaptureKind)) (d : Addresses) (low_calls : AreLow d kinds) where
+  pub suits : (at : ℕ) (x : Placed) → Static fs kinds x → IsLegalChoice d x → at % 4 ≡ 0 →
+      at + 4 * length_of x ≤ ARENA →
       Suits (staged d at x) x.places
   suits at x static legal even low =
       let ready = static.ready.ready in
@@ -172,11 +171,11 @@ module _ (fs : List node.Function) (d : Addresses) (low_calls : AreLow d) where
       let n = length_is d at x in
       omega (arith, a, b, n)
 
-  one_stands : (pre rest : List ℕ) (at : ℕ) (x : Placed) → at ≡ TEXT + 4 * length pre → Static fs x →
+  one_stands : (pre rest : List ℕ) (at : ℕ) (x : Placed) → at ≡ TEXT + 4 * length pre → Static fs kinds x →
       IsLegalChoice d x → behind at x ≤ ARENA
       → IsThere (loaded (pre ++ (words_of d at x ++ rest))) at (staged d at x) x.places
   one_stands pre rest at x is static legal low =
-      let served = ops_served fs d low_calls x.function static in
+      let served = ops_served fs d kinds low_calls x.function static in
       let ends = code_behind at x in
       record {
         address = refl;
@@ -203,23 +202,26 @@ module _ (fs : List node.Function) (d : Addresses) (low_calls : AreLow d) where
           (subst (λ (g : Function). IsThere c at g x.places) f_is here)
       by false t e = there e
 
-  -- each function that is found at an address stands there
-  pub all_stand : (pre : List ℕ) (at : ℕ) (xs : List Placed) → at ≡ TEXT + 4 * length pre → Each (Static fs) xs →
-      Each (IsLegalChoice d) xs → ends at xs ≤ ARENA
+  -- each function that is found at an address stands there, whatever stands behind all
+  pub all_stand : (suffix pre : List ℕ) (at : ℕ) (xs : List Placed) → at ≡ TEXT + 4 * length pre →
+      Each (Static fs kinds) xs → Each (IsLegalChoice d) xs → ends at xs ≤ ARENA
       → (a : ℕ) (f : Function) → function_in d at xs a ≡ Some f →
-      IsThere (loaded (pre ++ words_from d at xs)) a f (places_in at xs a)
-  all_stand pre at [] is static legal low a f e = absurd cc
-  all_stand pre at (x ∷ xs) is static legal low a f e =
-      let rest = words_from d (behind at x) xs in
+      IsThere (loaded (pre ++ (words_from d at xs ++ suffix))) a f (places_in at xs a)
+  all_stand suffix pre at [] is static legal low a f e = absurd cc
+  all_stand suffix pre at (x ∷ xs) is static legal low a f e =
+      let more = words_from d (behind at x) xs in
+      let rest = more ++ suffix in
       let n = length_is d at x in
       let l = length-append pre (words_of d at x) in
       let next : behind at x ≡ TEXT + 4 * length (pre ++ words_of d at x) = omega (arith, n, l, is) in
-      by_first (loaded (pre ++ (words_of d at x ++ rest))) at x a f (function_in d (behind at x) xs a)
+      subst (λ (t : List ℕ). IsThere (loaded (pre ++ t)) a f (places_in at (x ∷ xs) a))
+      (sym (append_assoc (words_of d at x) more suffix))
+      (by_first (loaded (pre ++ (words_of d at x ++ rest))) at x a f (function_in d (behind at x) xs a)
       (places_in (behind at x) xs a)
       (one_stands pre rest at x is static.0 legal.0 (omega (arith, ends_rise (behind at x) xs, low)))
       (λ later. subst (λ (t : List ℕ). IsThere (loaded t) a f (places_in (behind at x) xs a))
       (append_assoc pre (words_of d at x) rest)
-      (all_stand (pre ++ words_of d at x) (behind at x) xs next static.1 legal.1 low a f later)) e
+      (all_stand suffix (pre ++ words_of d at x) (behind at x) xs next static.1 legal.1 low a f later)) e)
 
 module _ (d : Addresses) where
   -- the function of a number is found at its address

@@ -1,9 +1,10 @@
 -- The ops of a function of words are of the kinds whose simulation is proved.
 use Rattle.std.proofs.Common.{◌≡◌, ℕ, zero, suc, ◌+◌, ◌-◌, ◌<◌, ◌≤◌, Bool, true, false, List, [], ◌∷◌, ◌++◌, length}
-use Rattle.std.proofs.Common.{drop, refl, sym, ◌∙◌, arith, if◌then◌else◌}
+use Rattle.std.proofs.Common.{drop, refl, sym, ◌∙◌, arith, if◌then◌else◌, slice_get, Option, Some, None}
 use Rattle.std.proofs.lemmas.List.{length-drop}
 use Rattle.word32.specs.declared.map.TheConstants.{SEGMENT_BYTES}
-use Rattle.limits.specs.declared.program.TheConstants.{MOST_ARGUMENTS}
+use Rattle.limits.specs.declared.ops.TheConstants.{MOST_CAPTURES}
+use Rattle.limits.specs.declared.program.TheConstants.{MOST_ARGUMENTS, SIZE_LIMIT}
 use Rattle.word32.specs.declared.width.Width.{Width}
 use Rattle.word32.specs.declared.width.Width.TheVariants as width
 use Rattle.icode_ops.specs.declared.op.Op.{Op}
@@ -11,6 +12,7 @@ use Rattle.icode_ops.specs.declared.op.Op.TheVariants as op
 use Rattle.icode_ops.specs.declared.kind.BinKind.{BinKind}
 use Rattle.icode_ops.specs.declared.kind.BinKind.TheVariants as bin
 use Rattle.icode_ops.specs.declared.kind.SysKind.TheVariants as sys
+use Rattle.icode_ops.specs.declared.kind.RunKind.{RunKind}
 use Rattle.icode_ops.specs.declared.kind.RunKind.TheVariants as run
 use Rattle.icode_ops.specs.Flow.{op_at}
 use Rattle.icode_ir.specs.declared.build_op.BuildOp.{BuildOp}
@@ -28,12 +30,18 @@ use Rattle.typed_tree.specs.Nodes.{Expr, Args, Stmt, Items, has_value}
 use Rattle.typed_tree.specs.Sizes.{is_value}
 use Rattle.staged_meaning.specs.Scope.{IsBuilt, AreBuilt, IsBuiltStmt, AreBuiltItems}
 use Rattle.staged_meaning.specs.Calls.{HasCalls, HaveCalls, HasCallsStmt, HaveCallsItems}
+use Rattle.staged_meaning.specs.Ticks.{AreCaptures, HasTicks, HaveTicks, HaveTicksCaptures, HasTicksStmt}
+use Rattle.staged_meaning.specs.Ticks.{HaveTicksItems}
+use Rattle.staged_meaning.specs.Program.{tick_size}
+use Rattle.staged_meaning.specs.Specifications.{kinds_of}
+use Rattle.typed_tree.specs.declared.expression.CaptureKind.{CaptureKind}
 use Rattle.staged_meaning.specs.Placed.{Allowed, outside, nested, looped, switched, below, AreDeclarations, IsPlaced}
 use Rattle.staged_meaning.specs.Placed.{IsDeclaration, ArePlaced, IsParameter, AreHeaded, IsHeaded}
 use Rattle.staged_meaning.specs.Size.{labels_in, labels, labels_of, temps_in, temps, temps_of, variables_in}
 use Rattle.tick_lower_spec.specs.Lower.{Addresses, expr_ops, args_ops, Targets, stmt_ops, items_ops, nowhere}
 use Rattle.tick_lower_spec.specs.Lower.{function_ops, dropping, dropping_call, keeping, kept, narrowing, step_ops}
-use Rattle.tick_lower_spec.specs.Lower.{case_ops, test_ops}
+use Rattle.tick_lower_spec.specs.Lower.{case_ops, test_ops, check_run, checking, checking_all, putting, nipping}
+use Rattle.tick_lower_spec.specs.Lower.{making_ops}
 use Rattle.tick_lower_proof.specs.Laws.{code_of}
 use Rattle.static_image.specs.Words.{HasWords, HaveWordsArgs, HasWordsStmt, HaveWords}
 use Rattle.static_image.specs.Served.{IsStatic}
@@ -64,7 +72,9 @@ IsPlain (build.Clear offset words) = Unit {0}
 IsPlain (build.Parameter k) = k < MOST_ARGUMENTS
 IsPlain (build.Call address n) = (address < SEGMENT_BYTES) × (n ≤ MOST_ARGUMENTS)
 IsPlain (build.CallNumber n) = n ≤ MOST_ARGUMENTS
-IsPlain (build.Run run.Malloc) = Unit {0}
+IsPlain (build.Run routine) = Unit {0}
+IsPlain (build.New address kind captures) = (address < 4294967296) × (captures ≤ MOST_CAPTURES)
+IsPlain (build.Put i) = i < MOST_CAPTURES
 IsPlain _ = ⊥
 
 -- all of them are
@@ -140,18 +150,60 @@ declared (node.Item s is) h = (one_of s h.0, declared is h.1)
     one_of (node.Object offset n) h = tt
     one_of _ h = absurd h
 
--- functions have these addresses, which jumps reach
-abbrev pub AreLow : Addresses → Type 0
-AreLow d = (number : ℕ) → d.function_at number < SEGMENT_BYTES
+-- Functions have these addresses, which jumps reach, and so have those that generate the code of ticks; the sizes of
+-- ticks are words, and a closure has room for what each captures.
+pub record AreLow (d : Addresses) (kinds : List (List CaptureKind)) : Type 0 where
+  pub functions : (number : ℕ) → d.function_at number < SEGMENT_BYTES
+  pub generators : (tick : ℕ) → d.generator_at tick < SEGMENT_BYTES
+  pub sizes : (tick : ℕ) → tick_size (slice_get d.ticks tick) ≤ SIZE_LIMIT
+  pub captures : (tick : ℕ) (ks : List CaptureKind) → slice_get kinds tick ≡ Some ks → length ks ≤ MOST_CAPTURES
 
-module _ (fs : List node.Function) (d : Addresses) (low : AreLow d) where
+-- ---- the making of a specification
+
+checking_plain : (k : Option RunKind) (depth : ℕ) → ArePlain (checking k depth)
+checking_plain None depth = tt
+checking_plain (Some routine) depth = (tt, (tt, (tt, tt)))
+
+checks_plain : (ks : List CaptureKind) → ArePlain (checking_all ks)
+checks_plain [] = tt
+checks_plain (k ∷ ks) =
+    then_plain (checking (check_run k) (length ks)) (checking_all ks) (checking_plain (check_run k) (length ks))
+    (checks_plain ks)
+
+putting_plain : (i : ℕ) (ks : List CaptureKind) → i + length ks ≤ MOST_CAPTURES → ArePlain (putting i ks)
+putting_plain i [] few = tt
+putting_plain i (k ∷ ks) few = (tt, (omega (arith, few), putting_plain (suc i) ks (omega (arith, few))))
+
+nipping_plain : (ks : List CaptureKind) → ArePlain (nipping ks)
+nipping_plain [] = tt
+nipping_plain (k ∷ ks) = (tt, nipping_plain ks)
+
+module _ (fs : List node.Function) (d : Addresses) (kinds : List (List CaptureKind)) (low : AreLow d kinds) where
+  making_plain : (tick : ℕ) (ks : List CaptureKind) → slice_get kinds tick ≡ Some ks →
+      ArePlain (making_ops d tick ks)
+  making_plain tick ks is =
+      let few = low.captures tick ks is in (
+        omega (arith, low.sizes tick),
+        (
+          tt,
+          (
+            tt,
+            then_plain (checking_all ks) _ (checks_plain ks) (
+              (omega (arith, low.generators tick), few),
+              then_plain (putting 0 ks) (nipping ks) (putting_plain 0 ks (omega (arith, few))) (nipping_plain ks),
+            ),
+          ),
+        ),
+      )
+
   mutual
-    expr_plain : (e : Expr) → IsBuilt e → HasWords e → HasCalls fs e → (l t : ℕ) → ArePlain (expr_ops d e l t)
-    expr_plain (node.Const word) built words calls l t = (words, tt)
-    expr_plain (node.Var i) built words calls l t = (tt, tt)
-    expr_plain (node.SetVar i a) built words calls l t =
-        one (expr_ops d a l t) (build.SetVariable i) (expr_plain a built words calls l t) tt
-    expr_plain (node.PostVar i w step) built words calls l t = (
+    expr_plain : (e : Expr) → IsBuilt e → HasWords e → HasCalls fs e → HasTicks kinds e → (l t : ℕ) →
+        ArePlain (expr_ops d e l t)
+    expr_plain (node.Const word) built words calls ticks l t = (words, tt)
+    expr_plain (node.Var i) built words calls ticks l t = (tt, tt)
+    expr_plain (node.SetVar i a) built words calls ticks l t =
+        one (expr_ops d a l t) (build.SetVariable i) (expr_plain a built words calls ticks l t) tt
+    expr_plain (node.PostVar i w step) built words calls ticks l t = (
       tt,
       (
         tt,
@@ -159,29 +211,29 @@ module _ (fs : List node.Function) (d : Addresses) (low : AreLow d) where
             (tt, (tt, tt)),
       ),
     )
-    expr_plain (node.Bin k x y) built words calls l t =
-        then_plain (expr_ops d x l t) _ (expr_plain x built.0 words.0 calls.0 l t)
+    expr_plain (node.Bin k x y) built words calls ticks l t =
+        then_plain (expr_ops d x l t) _ (expr_plain x built.0 words.0 calls.0 ticks.0 l t)
         (one (expr_ops d y (l + labels_in x) (t + temps_in x)) (build.Bin k)
-        (expr_plain y built.1 words.1 calls.1 (l + labels_in x) (t + temps_in x)) tt)
-    expr_plain (node.Frame offset) built words calls l t = (tt, tt)
-    expr_plain (node.Load w x) built words calls l t =
-        one (expr_ops d x l t) (build.Load w) (expr_plain x built words calls l t) tt
-    expr_plain (node.Store w x y) built words calls l t =
-        then_plain (expr_ops d x l t) _ (expr_plain x built.0 words.0 calls.0 l t)
+        (expr_plain y built.1 words.1 calls.1 ticks.1 (l + labels_in x) (t + temps_in x)) tt)
+    expr_plain (node.Frame offset) built words calls ticks l t = (tt, tt)
+    expr_plain (node.Load w x) built words calls ticks l t =
+        one (expr_ops d x l t) (build.Load w) (expr_plain x built words calls ticks l t) tt
+    expr_plain (node.Store w x y) built words calls ticks l t =
+        then_plain (expr_ops d x l t) _ (expr_plain x built.0 words.0 calls.0 ticks.0 l t)
         (one (expr_ops d y (l + labels_in x) (t + temps_in x)) (build.Store w)
-        (expr_plain y built.1 words.1 calls.1 (l + labels_in x) (t + temps_in x)) tt)
-    expr_plain (node.Modify w k x y) built words calls l t =
-        then_plain (expr_ops d x l t) _ (expr_plain x built.0 words.0 calls.0 l t) (
+        (expr_plain y built.1 words.1 calls.1 ticks.1 (l + labels_in x) (t + temps_in x)) tt)
+    expr_plain (node.Modify w k x y) built words calls ticks l t =
+        then_plain (expr_ops d x l t) _ (expr_plain x built.0 words.0 calls.0 ticks.0 l t) (
           tt,
           (
             tt,
             then_plain (expr_ops d y (l + labels_in x) (t + temps_in x)) _
-                (expr_plain y built.1 words.1 calls.1 (l + labels_in x) (t + temps_in x))
+                (expr_plain y built.1 words.1 calls.1 ticks.1 (l + labels_in x) (t + temps_in x))
                 (tt, one (narrowing w) (build.Store w) (narrowing_plain w) tt),
           ),
         )
-    expr_plain (node.Post w step x) built words calls l t =
-        then_plain (expr_ops d x l t) _ (expr_plain x built words.1 calls l t) (
+    expr_plain (node.Post w step x) built words calls ticks l t =
+        then_plain (expr_ops d x l t) _ (expr_plain x built words.1 calls ticks l t) (
           tt,
           (
             tt,
@@ -195,206 +247,225 @@ module _ (fs : List node.Function) (d : Addresses) (low : AreLow d) where
             ),
           ),
         )
-    expr_plain (node.Call answer f args) built words calls l t =
-        then_plain (args_ops d args l t) _ (args_plain args built words calls.1 l t)
-        ((low f, calls.0.few), dropping_call_plain answer)
-    expr_plain (node.CallNumber answer x args) built words calls l t =
-        then_plain (expr_ops d x l t) _ (expr_plain x built.0 words.0 calls.1 l t)
+    expr_plain (node.Call answer f args) built words calls ticks l t =
+        then_plain (args_ops d args l t) _ (args_plain args built words calls.1 ticks l t)
+        ((low.functions f, calls.0.few), dropping_call_plain answer)
+    expr_plain (node.CallNumber answer x args) built words calls ticks l t =
+        then_plain (expr_ops d x l t) _ (expr_plain x built.0 words.0 calls.1 ticks.0 l t)
         (then_plain (args_ops d args (l + labels_in x) (t + temps_in x)) _
-        (args_plain args built.1 words.1 calls.2 (l + labels_in x) (t + temps_in x))
+        (args_plain args built.1 words.1 calls.2 ticks.1 (l + labels_in x) (t + temps_in x))
         (calls.0, dropping_call_plain answer))
-    expr_plain (node.Un k x) built words calls l t =
-        one (expr_ops d x l t) (build.Un k) (expr_plain x built words calls l t) tt
-    expr_plain (node.And x y) built words calls l t =
-        then_plain (expr_ops d x (l + 2) (t + 1)) _ (expr_plain x built.0 words.0 calls.0 (l + 2) (t + 1)) (
+    expr_plain (node.Un k x) built words calls ticks l t =
+        one (expr_ops d x l t) (build.Un k) (expr_plain x built words calls ticks l t) tt
+    expr_plain (node.And x y) built words calls ticks l t =
+        then_plain (expr_ops d x (l + 2) (t + 1)) _ (expr_plain x built.0 words.0 calls.0 ticks.0 (l + 2) (t + 1)) (
           tt,
           then_plain (expr_ops d y (l + 2 + labels_in x) (t + 1 + temps_in x)) _
-              (expr_plain y built.1 words.1 calls.1 (l + 2 + labels_in x) (t + 1 + temps_in x))
+              (expr_plain y built.1 words.1 calls.1 ticks.1 (l + 2 + labels_in x) (t + 1 + temps_in x))
               (tt, (omega arith, (tt, (tt, (tt, (tt, (omega arith, (tt, (tt, (tt, (tt, tt))))))))))),
         )
-    expr_plain (node.Or x y) built words calls l t =
-        then_plain (expr_ops d x (l + 2) (t + 1)) _ (expr_plain x built.0 words.0 calls.0 (l + 2) (t + 1)) (
+    expr_plain (node.Or x y) built words calls ticks l t =
+        then_plain (expr_ops d x (l + 2) (t + 1)) _ (expr_plain x built.0 words.0 calls.0 ticks.0 (l + 2) (t + 1)) (
           tt,
           then_plain (expr_ops d y (l + 2 + labels_in x) (t + 1 + temps_in x)) _
-              (expr_plain y built.1 words.1 calls.1 (l + 2 + labels_in x) (t + 1 + temps_in x))
+              (expr_plain y built.1 words.1 calls.1 ticks.1 (l + 2 + labels_in x) (t + 1 + temps_in x))
               (tt, (omega arith, (tt, (tt, (tt, (tt, (omega arith, (tt, (tt, (tt, (tt, tt))))))))))),
         )
-    expr_plain (node.Cond c x y) built words calls l t =
+    expr_plain (node.Cond c x y) built words calls ticks l t =
         let lx = l + 2 + labels_in c in
         let tx = t + 1 + temps_in c in
         let ly = lx + labels_in x in
         let ty = tx + temps_in x in
         let v = has_value x in
-        then_plain (expr_ops d c (l + 2) (t + 1)) _ (expr_plain c built.0 words.0 calls.0 (l + 2) (t + 1)) (
+        then_plain (expr_ops d c (l + 2) (t + 1)) _ (expr_plain c built.0 words.0 calls.0 ticks.0 (l + 2) (t + 1)) (
           tt,
-          then_plain (expr_ops d x lx tx) _ (expr_plain x built.1 words.1 calls.1 lx tx)
+          then_plain (expr_ops d x lx tx) _ (expr_plain x built.1 words.1 calls.1 ticks.1 lx tx)
               (then_plain (keeping v t) _ (keeping_plain v t) (
                 tt,
                 (
                   tt,
-                  then_plain (expr_ops d y ly ty) _ (expr_plain y built.2 words.2 calls.2 ly ty)
+                  then_plain (expr_ops d y ly ty) _ (expr_plain y built.2 words.2 calls.2 ticks.2 ly ty)
                       (then_plain (keeping v t) _ (keeping_plain v t) (tt, kept_plain v t)),
                 ),
               )),
         )
-    expr_plain (node.Comma x y) built words calls l t =
-        then_plain (expr_ops d x l t) _ (expr_plain x built.0 words.0 calls.0 l t)
+    expr_plain (node.Comma x y) built words calls ticks l t =
+        then_plain (expr_ops d x l t) _ (expr_plain x built.0 words.0 calls.0 ticks.0 l t)
         (then_plain (dropping (has_value x)) _ (dropping_plain (has_value x))
-        (expr_plain y built.1 words.1 calls.1 (l + labels_in x) (t + temps_in x)))
-    expr_plain (node.Void x) built words calls l t =
-        then_plain (expr_ops d x l t) (dropping (has_value x)) (expr_plain x built words calls l t)
+        (expr_plain y built.1 words.1 calls.1 ticks.1 (l + labels_in x) (t + temps_in x)))
+    expr_plain (node.Void x) built words calls ticks l t =
+        then_plain (expr_ops d x l t) (dropping (has_value x)) (expr_plain x built words calls ticks l t)
         (dropping_plain (has_value x))
-    expr_plain node.Getchar built words calls l t = (omega arith, (tt, tt))
-    expr_plain (node.Lib library.Putchar a) built words calls l t =
-        one (expr_ops d a l t) (build.Sys sys.PutByte) (expr_plain a built words calls l t) tt
-    expr_plain (node.Lib library.Putint a) built words calls l t =
-        then_plain (expr_ops d a l t) _ (expr_plain a built words calls l t) (tt, (tt, tt))
-    expr_plain (node.Lib library.Exit a) built words calls l t =
-        then_plain (expr_ops d a l t) _ (expr_plain a built words calls l t) (tt, (tt, tt))
-    expr_plain (node.Lib library.Malloc a) built words calls l t =
-        one (expr_ops d a l t) (build.Run run.Malloc) (expr_plain a built words calls l t) tt
-    expr_plain _ built words calls l t = absurd built
+    expr_plain node.Getchar built words calls ticks l t = (omega arith, (tt, tt))
+    expr_plain (node.Lib library.Putchar a) built words calls ticks l t =
+        one (expr_ops d a l t) (build.Sys sys.PutByte) (expr_plain a built words calls ticks l t) tt
+    expr_plain (node.Lib library.Putint a) built words calls ticks l t =
+        then_plain (expr_ops d a l t) _ (expr_plain a built words calls ticks l t) (tt, (tt, tt))
+    expr_plain (node.Lib library.Exit a) built words calls ticks l t =
+        then_plain (expr_ops d a l t) _ (expr_plain a built words calls ticks l t) (tt, (tt, tt))
+    expr_plain (node.Lib library.Malloc a) built words calls ticks l t =
+        one (expr_ops d a l t) (build.Run run.Malloc) (expr_plain a built words calls ticks l t) tt
+    expr_plain (node.Tick tick args) built words calls ticks l t =
+        then_plain (args_ops d args l t) _ (captures_plain args built.0 built.1 words calls ticks.1 l t)
+        (making_plain tick (kinds_of args) ticks.0)
+    expr_plain node.Local built words calls ticks l t = (omega arith, (tt, tt))
+    expr_plain (node.ParamOf a) built words calls ticks l t =
+        one (expr_ops d a l t) (build.Run run.Parameter) (expr_plain a built words calls ticks l t) tt
+    expr_plain (node.Capture kind a) built words calls ticks l t = absurd ticks
+    expr_plain _ built words calls ticks l t = absurd built
 
-    args_plain : (args : Args) → AreBuilt args → HaveWordsArgs args → HaveCalls fs args → (l t : ℕ) →
+    captures_plain : (args : Args) → AreCaptures args → AreBuilt args → HaveWordsArgs args → HaveCalls fs args →
+        HaveTicksCaptures kinds args → (l t : ℕ) → ArePlain (args_ops d args l t)
+    captures_plain node.NoArg are built words calls ticks l t = tt
+    captures_plain (node.Arg (node.Capture k x) args) are built words calls ticks l t =
+        then_plain (expr_ops d x l t) _ (expr_plain x built.0 words.0 calls.0 ticks.0 l t)
+        (captures_plain args are built.1 words.1 calls.1 ticks.1 (l + labels_in x) (t + temps_in x))
+    captures_plain (node.Arg x args) are built words calls ticks l t = absurd are
+
+    args_plain : (args : Args) → AreBuilt args → HaveWordsArgs args → HaveCalls fs args → HaveTicks kinds args →
+        (l t : ℕ) →
         ArePlain (args_ops d args l t)
-    args_plain node.NoArg built words calls l t = tt
-    args_plain (node.Arg x args) built words calls l t =
-        then_plain (expr_ops d x l t) _ (expr_plain x built.0 words.0 calls.0 l t)
-        (args_plain args built.1 words.1 calls.1 (l + labels_in x) (t + temps_in x))
+    args_plain node.NoArg built words calls ticks l t = tt
+    args_plain (node.Arg x args) built words calls ticks l t =
+        then_plain (expr_ops d x l t) _ (expr_plain x built.0 words.0 calls.0 ticks.0 l t)
+        (args_plain args built.1 words.1 calls.1 ticks.1 (l + labels_in x) (t + temps_in x))
 
   mutual
     stmt_plain : (a : Allowed) (s : Stmt) → a.parameters ≡ false → IsPlaced a s → IsBuiltStmt s → HasWordsStmt s →
-        HasCallsStmt fs s → (to : Targets) (l t : ℕ) → ArePlain (stmt_ops d s to l t)
-    stmt_plain a (node.Eval e) bare placed built words calls to l t =
-        then_plain (expr_ops d e l t) (dropping (has_value e)) (expr_plain e built words calls l t)
+        HasCallsStmt fs s → HasTicksStmt kinds s → (to : Targets) (l t : ℕ) → ArePlain (stmt_ops d s to l t)
+    stmt_plain a (node.Eval e) bare placed built words calls ticks to l t =
+        then_plain (expr_ops d e l t) (dropping (has_value e)) (expr_plain e built words calls ticks l t)
         (dropping_plain (has_value e))
-    stmt_plain a (node.Block vars items) bare placed built words calls to l t =
+    stmt_plain a (node.Block vars items) bare placed built words calls ticks to l t =
         then_plain (items_ops d vars to l t) _
-        (items_plain (nested a) vars bare placed.0 built.0 words.0 calls.0 to l t)
-        (items_plain (nested a) items bare placed.1 built.1 words.1 calls.1 to (l + labels_of vars) (t + temps_of vars))
-    stmt_plain a (node.Variable i) bare placed built words calls to l t = (omega arith, (tt, (tt, tt)))
-    stmt_plain a (node.Object offset n) bare placed built words calls to l t = (tt, tt)
-    stmt_plain a (node.Parameter k w) bare placed built words calls to l t =
+        (items_plain (nested a) vars bare placed.0 built.0 words.0 calls.0 ticks.0 to l t)
+        (items_plain (nested a) items bare placed.1 built.1 words.1 calls.1 ticks.1 to (l + labels_of vars)
+        (t + temps_of vars))
+    stmt_plain a (node.Variable i) bare placed built words calls ticks to l t = (omega arith, (tt, (tt, tt)))
+    stmt_plain a (node.Object offset n) bare placed built words calls ticks to l t = (tt, tt)
+    stmt_plain a (node.Parameter k w) bare placed built words calls ticks to l t =
         let x : false ≡ true = sym bare ∙ placed.1 in absurd cc
-    stmt_plain a (node.ParameterObject k w offset) bare placed built words calls to l t =
+    stmt_plain a (node.ParameterObject k w offset) bare placed built words calls ticks to l t =
         let x : false ≡ true = sym bare ∙ placed in absurd cc
-    stmt_plain a (node.If e s) bare placed built words calls to l t =
+    stmt_plain a (node.If e s) bare placed built words calls ticks to l t =
         let l1 = l + 1 + labels_in e in
         let t1 = t + temps_in e in
-        then_plain (expr_ops d e (l + 1) t) _ (expr_plain e built.0 words.0 calls.0 (l + 1) t) (
+        then_plain (expr_ops d e (l + 1) t) _ (expr_plain e built.0 words.0 calls.0 ticks.0 (l + 1) t) (
           tt,
           one (stmt_ops d s to l1 t1) (build.Label l)
-              (stmt_plain (nested a) s bare placed built.1 words.1 calls.1 to l1 t1) tt,
+              (stmt_plain (nested a) s bare placed built.1 words.1 calls.1 ticks.1 to l1 t1) tt,
         )
-    stmt_plain a (node.IfElse e s r) bare placed built words calls to l t =
+    stmt_plain a (node.IfElse e s r) bare placed built words calls ticks to l t =
         let l2 = l + 2 + labels_in e in
         let t2 = t + temps_in e in
-        then_plain (expr_ops d e (l + 2) t) _ (expr_plain e built.0 words.0 calls.0 (l + 2) t) (
+        then_plain (expr_ops d e (l + 2) t) _ (expr_plain e built.0 words.0 calls.0 ticks.0 (l + 2) t) (
           tt,
           then_plain (stmt_ops d s to l2 t2) _
-              (stmt_plain (nested a) s bare placed.0 built.1 words.1 calls.1 to l2 t2) (
+              (stmt_plain (nested a) s bare placed.0 built.1 words.1 calls.1 ticks.1 to l2 t2) (
                 tt,
                 (
                   tt,
                   one (stmt_ops d r to (l2 + labels s) (t2 + temps s)) (build.Label (l + 1))
-                      (stmt_plain (nested a) r bare placed.1 built.2 words.2 calls.2 to (l2 + labels s)
+                      (stmt_plain (nested a) r bare placed.1 built.2 words.2 calls.2 ticks.2 to (l2 + labels s)
                       (t2 + temps s)) tt,
                 ),
               ),
         )
-    stmt_plain a (node.While e s) bare placed built words calls to l t =
+    stmt_plain a (node.While e s) bare placed built words calls ticks to l t =
         let in_loop : Targets = record { on_break = l; on_continue = l + 1 } in
         let l2 = l + 2 + labels_in e in
         let t2 = t + temps_in e in (
           tt,
-          then_plain (expr_ops d e (l + 2) t) _ (expr_plain e built.0 words.0 calls.0 (l + 2) t) (
+          then_plain (expr_ops d e (l + 2) t) _ (expr_plain e built.0 words.0 calls.0 ticks.0 (l + 2) t) (
             tt,
             then_plain (stmt_ops d s in_loop l2 t2) _
-                (stmt_plain looped s refl placed built.1 words.1 calls.1 in_loop l2 t2) (tt, (tt, tt)),
+                (stmt_plain looped s refl placed built.1 words.1 calls.1 ticks.1 in_loop l2 t2) (tt, (tt, tt)),
           ),
         )
-    stmt_plain a (node.Do s e) bare placed built words calls to l t =
+    stmt_plain a (node.Do s e) bare placed built words calls ticks to l t =
         let in_loop : Targets = record { on_break = l; on_continue = l + 2 } in (
           tt,
           then_plain (stmt_ops d s in_loop (l + 3) t) _
-              (stmt_plain looped s refl placed built.0 words.0 calls.0 in_loop (l + 3) t) (
+              (stmt_plain looped s refl placed built.0 words.0 calls.0 ticks.0 in_loop (l + 3) t) (
                 tt,
                 then_plain (expr_ops d e (l + 3 + labels s) (t + temps s)) _
-                    (expr_plain e built.1 words.1 calls.1 (l + 3 + labels s) (t + temps s)) (tt, (tt, tt)),
+                    (expr_plain e built.1 words.1 calls.1 ticks.1 (l + 3 + labels s) (t + temps s)) (tt, (tt, tt)),
               ),
         )
-    stmt_plain a (node.For e s) bare placed built words calls to l t =
+    stmt_plain a (node.For e s) bare placed built words calls ticks to l t =
         let in_loop : Targets = record { on_break = l; on_continue = l + 2 } in
         let l3 = l + 3 + labels_in e in
         let t3 = t + temps_in e in (
           tt,
-          then_plain (expr_ops d e (l + 3) t) _ (expr_plain e built.0 words.0 calls.0 (l + 3) t) (
+          then_plain (expr_ops d e (l + 3) t) _ (expr_plain e built.0 words.0 calls.0 ticks.0 (l + 3) t) (
             tt,
             then_plain (stmt_ops d s in_loop l3 t3) _
-                (stmt_plain looped s refl placed built.1 words.1 calls.1 in_loop l3 t3)
+                (stmt_plain looped s refl placed built.1 words.1 calls.1 ticks.1 in_loop l3 t3)
                 (tt, (tt, (tt, tt))),
           ),
         )
-    stmt_plain a (node.ForStep e step s) bare placed built words calls to l t =
+    stmt_plain a (node.ForStep e step s) bare placed built words calls ticks to l t =
         let in_loop : Targets = record { on_break = l; on_continue = l + 2 } in
         let l3 = l + 3 + labels_in e in
         let t3 = t + temps_in e in
         let ls = l3 + labels s in
         let ts = t3 + temps s in (
           tt,
-          then_plain (expr_ops d e (l + 3) t) _ (expr_plain e built.0 words.0 calls.0 (l + 3) t) (
+          then_plain (expr_ops d e (l + 3) t) _ (expr_plain e built.0 words.0 calls.0 ticks.0 (l + 3) t) (
             tt,
             then_plain (stmt_ops d s in_loop l3 t3) _
-                (stmt_plain looped s refl placed built.2 words.2 calls.2 in_loop l3 t3) (
+                (stmt_plain looped s refl placed built.2 words.2 calls.2 ticks.2 in_loop l3 t3) (
                   tt,
-                  then_plain (expr_ops d step ls ts) _ (expr_plain step built.1 words.1 calls.1 ls ts)
+                  then_plain (expr_ops d step ls ts) _ (expr_plain step built.1 words.1 calls.1 ticks.1 ls ts)
                       (then_plain (dropping (has_value step)) _ (dropping_plain (has_value step)) (tt, (tt, tt))),
                 ),
           ),
         )
-    stmt_plain a (node.Switch e vars items) bare placed built words calls to l t =
+    stmt_plain a (node.Switch e vars items) bare placed built words calls ticks to l t =
         let l1 = l + 1 + labels_in e in
         let t1 = t + 1 + temps_in e in
         let l2 = l1 + labels_of vars in
         let t2 = t1 + temps_of vars in
         let in_switch : Targets = record { on_break = l; on_continue = to.on_continue } in
-        then_plain (expr_ops d e (l + 1) (t + 1)) _ (expr_plain e built.0 words.0 calls.0 (l + 1) (t + 1)) (
+        then_plain (expr_ops d e (l + 1) (t + 1)) _ (expr_plain e built.0 words.0 calls.0 ticks.0 (l + 1) (t + 1)) (
           tt,
           (
             tt,
             then_plain (items_ops d vars to l1 t1) _
-                (items_plain (below outside) vars refl (declared vars placed.0) built.1 words.1 calls.1 to l1 t1)
+                (items_plain (below outside) vars refl (declared vars placed.0) built.1 words.1 calls.1 ticks.1 to l1
+                t1)
                 (then_plain (test_ops items l2 t) _ (test_plain items words.2 l2 t) (
                   tt,
                   one (items_ops d items in_switch l2 t2) (build.Label l)
-                      (items_plain (switched a) items refl placed.1 built.2 words.2 calls.2 in_switch l2 t2) tt,
+                      (items_plain (switched a) items refl placed.1 built.2 words.2 calls.2 ticks.2 in_switch l2 t2) tt,
                 )),
           ),
         )
-    stmt_plain a (node.Case value) bare placed built words calls to l t = (tt, tt)
-    stmt_plain a node.Default bare placed built words calls to l t = (tt, tt)
-    stmt_plain a node.Break bare placed built words calls to l t = (tt, tt)
-    stmt_plain a node.Continue bare placed built words calls to l t = (tt, tt)
-    stmt_plain a node.Return bare placed built words calls to l t = (tt, tt)
-    stmt_plain a (node.ReturnValue e) bare placed built words calls to l t =
-        one (expr_ops d e l t) build.Return (expr_plain e built words calls l t) tt
+    stmt_plain a (node.Case value) bare placed built words calls ticks to l t = (tt, tt)
+    stmt_plain a node.Default bare placed built words calls ticks to l t = (tt, tt)
+    stmt_plain a node.Break bare placed built words calls ticks to l t = (tt, tt)
+    stmt_plain a node.Continue bare placed built words calls ticks to l t = (tt, tt)
+    stmt_plain a node.Return bare placed built words calls ticks to l t = (tt, tt)
+    stmt_plain a (node.ReturnValue e) bare placed built words calls ticks to l t =
+        one (expr_ops d e l t) build.Return (expr_plain e built words calls ticks l t) tt
 
     items_plain : (a : Allowed) (is : Items) → a.parameters ≡ false → ArePlaced a is → AreBuiltItems is → HaveWords is →
-        HaveCallsItems fs is → (to : Targets) (l t : ℕ) → ArePlain (items_ops d is to l t)
-    items_plain a node.NoItem bare placed built words calls to l t = tt
-    items_plain a (node.Item s is) bare placed built words calls to l t =
-        then_plain (stmt_ops d s to l t) _ (stmt_plain a s bare placed.0 built.0 words.0 calls.0 to l t)
-        (items_plain a is bare placed.1 built.1 words.1 calls.1 to (l + labels s) (t + temps s))
+        HaveCallsItems fs is → HaveTicksItems kinds is → (to : Targets) (l t : ℕ) → ArePlain (items_ops d is to l t)
+    items_plain a node.NoItem bare placed built words calls ticks to l t = tt
+    items_plain a (node.Item s is) bare placed built words calls ticks to l t =
+        then_plain (stmt_ops d s to l t) _ (stmt_plain a s bare placed.0 built.0 words.0 calls.0 ticks.0 to l t)
+        (items_plain a is bare placed.1 built.1 words.1 calls.1 ticks.1 to (l + labels s) (t + temps s))
 
   -- the parameters at a function's head, the first of which has this number
   headed_plain : (n k : ℕ) (is : Items) → n + k ≤ MOST_ARGUMENTS → AreHeaded n k is → AreBuiltItems is → HaveWords is →
-      HaveCallsItems fs is → (to : Targets) (l t : ℕ) → ArePlain (items_ops d is to l t)
-  headed_plain zero k is few headed built words calls to l t =
-      items_plain (below outside) is refl headed built words calls to l t
-  headed_plain (suc n) k node.NoItem few headed built words calls to l t = absurd headed
-  headed_plain (suc n) k (node.Item s is) few headed built words calls to l t =
+      HaveCallsItems fs is → HaveTicksItems kinds is → (to : Targets) (l t : ℕ) → ArePlain (items_ops d is to l t)
+  headed_plain zero k is few headed built words calls ticks to l t =
+      items_plain (below outside) is refl headed built words calls ticks to l t
+  headed_plain (suc n) k node.NoItem few headed built words calls ticks to l t = absurd headed
+  headed_plain (suc n) k (node.Item s is) few headed built words calls ticks to l t =
       then_plain (stmt_ops d s to l t) _ (first s headed.0)
-      (headed_plain n (suc k) is (omega (arith, few)) headed.1 built.1 words.1 calls.1 to (l + labels s) (t + temps s))
+      (headed_plain n (suc k) is (omega (arith, few)) headed.1 built.1 words.1 calls.1 ticks.1 to (l + labels s)
+      (t + temps s))
     where
       first : (s : Stmt) → IsParameter k s → ArePlain (stmt_ops d s to l t)
       first (node.Parameter j w) is =
@@ -404,14 +475,14 @@ module _ (fs : List node.Function) (d : Addresses) (low : AreLow d) where
       first _ is = absurd is
 
   body_plain : (n : ℕ) (s : Stmt) → n ≤ MOST_ARGUMENTS → IsHeaded n s → IsBuiltStmt s → HasWordsStmt s →
-      HasCallsStmt fs s → (to : Targets) (l t : ℕ) → ArePlain (stmt_ops d s to l t)
-  body_plain n (node.Block vars items) few headed built words calls to l t =
+      HasCallsStmt fs s → HasTicksStmt kinds s → (to : Targets) (l t : ℕ) → ArePlain (stmt_ops d s to l t)
+  body_plain n (node.Block vars items) few headed built words calls ticks to l t =
       then_plain (items_ops d vars to l t) _
-      (headed_plain n 0 vars (omega (arith, few)) headed.0 built.0 words.0 calls.0 to l t)
-      (items_plain (below outside) items refl headed.1 built.1 words.1 calls.1 to (l + labels_of vars)
+      (headed_plain n 0 vars (omega (arith, few)) headed.0 built.0 words.0 calls.0 ticks.0 to l t)
+      (items_plain (below outside) items refl headed.1 built.1 words.1 calls.1 ticks.1 to (l + labels_of vars)
       (t + temps_of vars))
-  body_plain n s few headed built words calls to l t =
-      stmt_plain (below outside) s refl headed.1 built words calls to l t
+  body_plain n s few headed built words calls ticks to l t =
+      stmt_plain (below outside) s refl headed.1 built words calls ticks to l t
 
 -- what a builder has issued
 pub record HasServed (b : Build) : Type 0 where
@@ -496,8 +567,12 @@ effect_served (build.CallNumber n) b plain h =
     let o = op.CallNumber (operand n b) n in
     let called : HasServed (add o c) = record { prelude = g.prelude; ops = more c o g plain } in
     record { prelude = h.prelude; ops = more (add o c) (op.Result b.registers) called tt }
-effect_served (build.Run run.Malloc) b plain h =
-    record { prelude = h.prelude; ops = more b (op.Run run.Malloc b.registers (operand 0 b)) h tt }
+effect_served (build.Run routine) b plain h =
+    record { prelude = h.prelude; ops = more b (op.Run routine b.registers (operand 0 b)) h tt }
+effect_served (build.New address kind captures) b plain h =
+    record { prelude = h.prelude; ops = more b (op.New b.registers address kind captures) h plain }
+effect_served (build.Put i) b plain h =
+    record { prelude = h.prelude; ops = more b (op.Put i (operand 0 b)) h plain }
 effect_served _ b plain h = absurd plain
 
 run_served : (os : List BuildOp) (b : Build) → ArePlain os → HasServed b → HasServed (run_ops os b)
@@ -509,16 +584,16 @@ served_at [] p h = tt
 served_at (o ∷ ops) zero h = h.0
 served_at (o ∷ ops) (suc p) h = served_at ops p h.1
 
-pub ops_served : (fs : List node.Function) (d : Addresses) → AreLow d → (function : node.Function) →
-    IsStatic fs function → (p : ℕ) → IsServed (op_at (code_of d function) p)
-ops_served fs d low function static p =
+pub ops_served : (fs : List node.Function) (d : Addresses) (kinds : List (List CaptureKind)) → AreLow d kinds →
+    (function : node.Function) → IsStatic fs kinds function → (p : ℕ) → IsServed (op_at (code_of d function) p)
+ops_served fs d kinds low function static p =
     let r = static.ready in
     let vars = variables_in function.body in
     let plain : ArePlain (function_ops d function) = (
       tt,
       one (stmt_ops d function.body nowhere 0 vars) build.Leave
-          (body_plain fs d low function.parameters function.body r.few r.headed r.ready.built static.words r.calls
-          nowhere 0 vars) tt,
+          (body_plain fs d kinds low function.parameters function.body r.few r.headed r.ready.built static.words r.calls
+          r.ticks_are nowhere 0 vars) tt,
     ) in
     let b = run_ops (function_ops d function) (empty function.parameters) in
     let h = run_served (function_ops d function) (empty function.parameters) plain (record { prelude = tt; ops = tt })

@@ -1,12 +1,13 @@
 -- The rows of the image's functions are published as a run begins, and no others; each has the address of its function,
 -- and how many parameters it has.
 use Rattle.std.proofs.Common.{◌≡◌, ℕ, zero, suc, ◌-◌, ◌<◌, ◌≤◌, List, [], ◌∷◌, length, map, Option, None, Some, refl}
+use Rattle.std.proofs.Common.{sym}
 use Rattle.std.proofs.Common.{ap, ◌∙◌, arith, slice_get, slice_index, slice_index_or}
 use Rattle.limits.specs.declared.program.TheConstants.{MOST_FUNCTIONS}
 use Rattle.word32.specs.declared.map.TheConstants.{FUNCTION_ROWS, UNPUBLISHED}
 use Rattle.code_arena.specs.Rows as table
 use Rattle.meaning_state.specs.Rows.{numbered}
-use Rattle.icode_meaning.specs.State.{Function}
+use Rattle.icode_meaning.specs.State.{Program}
 use Rattle.icode_expand_proof.specs.Settings.{Published}
 use Rattle.mips_model.specs.Run.{row_of}
 use Rattle.tick_lower_proof.specs.Laws.{row_for}
@@ -39,7 +40,8 @@ not_there [] m z e = refl
 not_there (s ∷ rs) zero z e = absurd cc
 not_there (s ∷ rs) (suc m) z e = not_there rs m z e
 
-module _ (rs : List (ℕ × ℕ)) (few : length rs ≤ MOST_FUNCTIONS) (function_at : ℕ → Option Function) where
+module _ (rs : List (ℕ × ℕ)) (few : length rs ≤ MOST_FUNCTIONS) (program : Program)
+    (same : (n : ℕ) → program.row n ≡ numbered n rs) where
   published_row : (n a k : ℕ) → numbered n rs ≡ Some (a, k) → (n < FUNCTION_ROWS) × (table.numbered rs n ≡ (a, k))
   published_row zero a k e = absurd cc
   published_row (suc m) a k e = let h = there rs m (a, k) (table.first (suc m)) e in (omega (arith, h.0, few), h.1)
@@ -48,5 +50,8 @@ module _ (rs : List (ℕ × ℕ)) (few : length rs ≤ MOST_FUNCTIONS) (function
   other_row zero low e = refl
   other_row (suc m) low e = ap (λ (r : ℕ × ℕ). r.1) (not_there rs m (table.first (suc m)) e)
 
-  pub published : Published (record { function_at = function_at; row = λ n. numbered n rs }) (table.numbered rs)
-  published = record { rows = published_row; others = other_row }
+  pub published : Published program (table.numbered rs)
+  published = record {
+    rows = λ n a k e. published_row n a k (sym (same n) ∙ e);
+    others = λ n low e. other_row n low (sym (same n) ∙ e);
+  }

@@ -1,7 +1,8 @@
--- The ops of a function under a list of addresses are those whose calls go to functions by their numbers, each call
--- sent to the address of its number. So under two lists of addresses they differ in the addresses of calls alone, and
--- their templates are as long.
+-- The ops of a function under a list of addresses are those that name functions and ticks by their numbers, each sent
+-- to the address of its number. Under any two lists of addresses they differ in the addresses of calls, in those of the
+-- functions of ticks with the kinds of these, and in constants, and their templates are as long.
 use Rattle.std.proofs.Common.{◌≡◌, ℕ, ◌+◌, ◌-◌, nat_lt, List, [], ◌∷◌, ◌++◌, Bool, true, false, Option, Some, None}
+use Rattle.std.proofs.Common.{suc, slice_get}
 use Rattle.std.proofs.Common.{refl, sym, ap, ◌∙◌, map, length, drop, length-append, arith, if◌then◌else◌}
 use Rattle.std.proofs.lemmas.List.{map-append}
 use Rattle.word32.specs.declared.width.Width.{Width}
@@ -24,167 +25,239 @@ use Rattle.typed_tree.specs.Nodes.{Expr, Args, Stmt, Items, has_value, count}
 use Rattle.typed_tree.specs.declared.expression.Answer.{Answer}
 use Rattle.typed_tree.specs.declared.expression.Library.TheVariants as library
 use Rattle.typed_tree.specs.Sizes.{is_value}
+use Rattle.typed_tree.specs.declared.expression.CaptureKind.{CaptureKind}
+use Rattle.icode_ops.specs.declared.kind.ClosureKind.{ClosureKind}
+use Rattle.icode_ops.specs.declared.kind.ClosureKind.TheVariants as closure
+use Rattle.icode_ops.specs.declared.kind.RunKind.{RunKind}
+use Rattle.icode_ops.specs.declared.kind.RunKind.TheVariants as run
+use Rattle.staged_meaning.specs.Program.{tick_size, is_expression}
+use Rattle.staged_meaning.specs.Specifications.{kinds_of}
 use Rattle.staged_meaning.specs.Size.{labels_in, labels, labels_of, temps_in, temps, temps_of, variables_in}
 use Rattle.tick_lower_spec.specs.Lower.{Addresses, expr_ops, args_ops, Targets, stmt_ops, items_ops, nowhere}
 use Rattle.tick_lower_spec.specs.Lower.{function_ops, dropping, dropping_call, keeping, kept, narrowing}
-use Rattle.tick_lower_spec.specs.Lower.{case_ops, test_ops, default_label}
+use Rattle.tick_lower_spec.specs.Lower.{case_ops, test_ops, default_label, making_ops, check_run, checking}
+use Rattle.tick_lower_spec.specs.Lower.{checking_all, putting, nipping, kind_of_tick}
 use Rattle.tick_lower_proof.specs.Laws.{code_of, registers_of}
 use Rattle.limits.specs.declared.program.TheConstants.{MOST_ARGUMENTS}
 
--- a builder's op, and an op, where each call goes where this sends it
-abbrev pub sent : (ℕ → ℕ) → BuildOp → BuildOp
-sent m (build.Call address n) = build.Call (m address) n
+-- where the number of a function is sent, and that of a tick; and what becomes of constants, and of the kinds of ticks
+pub record Sending : Type 0 where
+  pub call : ℕ → ℕ
+  pub generator : ℕ → ℕ
+  pub constant : ℕ → ℕ
+  pub kind : ClosureKind → ClosureKind
+
+-- a builder's op, and an op, with each number sent
+abbrev pub sent : Sending → BuildOp → BuildOp
+sent m (build.Call address n) = build.Call (m.call address) n
+sent m (build.Const word) = build.Const (m.constant word)
+sent m (build.New address kind captures) = build.New (m.generator address) (m.kind kind) captures
 sent m o = o
 
-abbrev pub sent_op : (ℕ → ℕ) → Op → Op
-sent_op m (op.Call address) = op.Call (m address)
+abbrev pub sent_op : Sending → Op → Op
+sent_op m (op.Call address) = op.Call (m.call address)
+sent_op m (op.Const to word) = op.Const to (m.constant word)
+sent_op m (op.New to address kind captures) = op.New to (m.generator address) (m.kind kind) captures
 sent_op m o = o
 
--- where the address of each function is its number
-abbrev pub by_number : Addresses
-by_number = record { function_at = λ number. number }
+-- each number goes to the address; all else is as it is
+abbrev pub to_address : Addresses → Sending
+to_address d = record {
+  call = d.function_at;
+  generator = d.generator_at;
+  constant = λ word. word;
+  kind = λ kind. kind;
+}
 
--- The ops that name functions by their numbers, sent where these stand.
-module _ (m : ℕ → ℕ) where
-  abbrev there : Addresses
-  there = record { function_at = m }
+-- where the address of each function is its number, and that of each tick's
+abbrev pub by_number : Addresses → Addresses
+by_number d = record { function_at = λ number. number; generator_at = λ tick. tick; ticks = d.ticks }
 
+-- ---- the ops of a function under two lists of addresses, which are sent to the same
+
+module _ (constant : ℕ → ℕ) (kind : ClosureKind → ClosureKind) (call generator call' generator' : ℕ → ℕ)
+    (here there : Addresses) (calls : (f : ℕ) → call (here.function_at f) ≡ call' (there.function_at f))
+    (made : (tick : ℕ) → generator (here.generator_at tick) ≡ generator' (there.generator_at tick))
+    (sizes : (tick : ℕ) → constant (tick_size (slice_get here.ticks tick))
+    ≡ constant (tick_size (slice_get there.ticks tick)))
+    (kinds : (tick : ℕ) → kind (kind_of_tick (is_expression (slice_get here.ticks tick)))
+    ≡ kind (kind_of_tick (is_expression (slice_get there.ticks tick)))) where
   abbrev All : List BuildOp → List BuildOp
-  All os = map (sent m) os
+  All os = map (sent (record { call = call; generator = generator; constant = constant; kind = kind })) os
 
-  abbrev moved : List Op → List Op
-  moved os = map (sent_op m) os
+  abbrev All' : List BuildOp → List BuildOp
+  All' os = map (sent (record { call = call'; generator = generator'; constant = constant; kind = kind })) os
 
-  both : (xs ys xs' ys' : List BuildOp) → All xs ≡ xs' → All ys ≡ ys' → All (xs ++ ys) ≡ xs' ++ ys'
+  both : (xs ys xs' ys' : List BuildOp) → All xs ≡ All' xs' → All ys ≡ All' ys' → All (xs ++ ys) ≡ All' (xs' ++ ys')
   both xs ys xs' ys' ex ey =
-      map-append (sent m) xs ys ∙ ap (λ os. os ++ All ys) ex ∙ ap (λ os. xs' ++ os) ey
+      map-append (sent (record { call = call; generator = generator; constant = constant; kind = kind })) xs ys
+      ∙ ap (λ os. os ++ All ys) ex ∙ ap (λ os. All' xs' ++ os) ey
+      ∙ sym (map-append (sent (record { call = call'; generator = generator'; constant = constant; kind = kind })) xs'
+      ys')
 
   -- ---- lists of ops that name no function
 
-  narrowing_same : (w : Width) → All (narrowing w) ≡ narrowing w
+  narrowing_same : (w : Width) → All (narrowing w) ≡ All' (narrowing w)
   narrowing_same width.SignedByte = refl
   narrowing_same width.Byte = refl
   narrowing_same width.SignedHalf = refl
   narrowing_same width.Half = refl
   narrowing_same width.Word = refl
 
-  dropping_same : (b : Bool) → All (dropping b) ≡ dropping b
+  dropping_same : (b : Bool) → All (dropping b) ≡ All' (dropping b)
   dropping_same true = refl
   dropping_same false = refl
 
-  dropping_call_same : (a : Answer) → All (dropping_call a) ≡ dropping_call a
+  dropping_call_same : (a : Answer) → All (dropping_call a) ≡ All' (dropping_call a)
   dropping_call_same a = by (is_value a)
     where
-      by : (b : Bool) → All (if b then [] else (build.Drop ∷ [])) ≡ (if b then [] else (build.Drop ∷ []))
+      by : (b : Bool) → All (if b then [] else (build.Drop ∷ [])) ≡ All' (if b then [] else (build.Drop ∷ []))
       by true = refl
       by false = refl
 
-  keeping_same : (b : Bool) (t : ℕ) → All (keeping b t) ≡ keeping b t
+  keeping_same : (b : Bool) (t : ℕ) → All (keeping b t) ≡ All' (keeping b t)
   keeping_same true t = refl
   keeping_same false t = refl
 
-  kept_same : (b : Bool) (t : ℕ) → All (kept b t) ≡ kept b t
+  kept_same : (b : Bool) (t : ℕ) → All (kept b t) ≡ All' (kept b t)
   kept_same true t = refl
   kept_same false t = refl
 
-  case_same : (s : Stmt) (l t : ℕ) → All (case_ops s l t) ≡ case_ops s l t
+  case_same : (s : Stmt) (l t : ℕ) → All (case_ops s l t) ≡ All' (case_ops s l t)
   case_same (node.Case value) l t = refl
   case_same _ l t = refl
 
-  test_same : (is : Items) (l t : ℕ) → All (test_ops is l t) ≡ test_ops is l t
+  test_same : (is : Items) (l t : ℕ) → All (test_ops is l t) ≡ All' (test_ops is l t)
   test_same node.NoItem l t = refl
   test_same (node.Item s is) l t = both (case_ops s l t) (test_ops is (l + labels s) t) _ _ (case_same s l t)
       (test_same is (l + labels s) t)
 
+  checking_same : (r : Option RunKind) (depth : ℕ) → All (checking r depth) ≡ All' (checking r depth)
+  checking_same None depth = refl
+  checking_same (Some routine) depth = refl
+
+  checks_same : (ks : List CaptureKind) → All (checking_all ks) ≡ All' (checking_all ks)
+  checks_same [] = refl
+  checks_same (k ∷ ks) =
+      both (checking (check_run k) (length ks)) (checking_all ks) _ _ (checking_same (check_run k) (length ks))
+      (checks_same ks)
+
+  putting_same : (i : ℕ) (ks : List CaptureKind) → All (putting i ks) ≡ All' (putting i ks)
+  putting_same i [] = refl
+  putting_same i (k ∷ ks) = ap (λ os. build.Pick (suc (length ks)) ∷ build.Put i ∷ os) (putting_same (suc i) ks)
+
+  nipping_same : (ks : List CaptureKind) → All (nipping ks) ≡ All' (nipping ks)
+  nipping_same [] = refl
+  nipping_same (k ∷ ks) = ap (λ os. build.Nip ∷ os) (nipping_same ks)
+
+  making_same : (tick : ℕ) (ks : List CaptureKind) → All (making_ops here tick ks) ≡ All' (making_ops there tick ks)
+  making_same tick ks =
+      let this = slice_get here.ticks tick in
+      let that = slice_get there.ticks tick in
+      let new : ℕ → ClosureKind → BuildOp = λ address kind. build.New address kind (length ks) in
+      ap (λ size. build.Const size ∷ build.Run run.Begin ∷ build.Drop ∷ All (checking_all ks
+      ++ new (here.generator_at tick) (kind_of_tick (is_expression this)) ∷ (putting 0 ks ++ nipping ks))) (sizes tick)
+      ∙ ap (λ os. build.Const (constant (tick_size that)) ∷ build.Run run.Begin ∷ build.Drop ∷ os)
+      (both (checking_all ks) _ _ _ (checks_same ks)
+      (ap (λ address. new address (kind (kind_of_tick (is_expression this))) ∷ All (putting 0 ks ++ nipping ks))
+      (made tick)
+      ∙ ap (λ k. new (generator' (there.generator_at tick)) k ∷ All (putting 0 ks ++ nipping ks)) (kinds tick)
+      ∙ ap (λ os. new (generator' (there.generator_at tick)) (kind (kind_of_tick (is_expression that))) ∷ os)
+      (both (putting 0 ks) _ _ _ (putting_same 0 ks) (nipping_same ks))))
+
   -- ---- trees
 
   mutual
-    expr_same : (e : Expr) (l t : ℕ) → All (expr_ops by_number e l t) ≡ expr_ops there e l t
-    expr_same (node.SetVar i a) l t = both (expr_ops by_number a l t) _ _ _ (expr_same a l t) refl
+    expr_same : (e : Expr) (l t : ℕ) → All (expr_ops here e l t) ≡ All' (expr_ops there e l t)
+    expr_same (node.SetVar i a) l t = both (expr_ops here a l t) _ _ _ (expr_same a l t) refl
     expr_same (node.PostVar i w step) l t =
-        ap (λ os. build.GetVariable i ∷ build.Pick 0 ∷ build.Const step ∷ build.Bin bin.Add ∷ os)
+        ap (λ os. build.GetVariable i ∷ build.Pick 0 ∷ build.Const (constant step) ∷ build.Bin bin.Add ∷ os)
         (both (narrowing w) _ _ _ (narrowing_same w) refl)
-    expr_same (node.Load w a) l t = both (expr_ops by_number a l t) _ _ _ (expr_same a l t) refl
+    expr_same (node.Load w a) l t = both (expr_ops here a l t) _ _ _ (expr_same a l t) refl
     expr_same (node.Store w a b) l t =
-        both (expr_ops by_number a l t) _ _ _ (expr_same a l t)
-        (both (expr_ops by_number b (l + labels_in a) (t + temps_in a)) _ _ _
+        both (expr_ops here a l t) _ _ _ (expr_same a l t)
+        (both (expr_ops here b (l + labels_in a) (t + temps_in a)) _ _ _
         (expr_same b (l + labels_in a) (t + temps_in a))
         refl)
     expr_same (node.Modify w k a b) l t =
-        both (expr_ops by_number a l t) _ _ _ (expr_same a l t)
+        both (expr_ops here a l t) _ _ _ (expr_same a l t)
         (ap (λ os. build.Pick 0 ∷ build.Load w ∷ os)
-        (both (expr_ops by_number b (l + labels_in a) (t + temps_in a)) _ _ _
+        (both (expr_ops here b (l + labels_in a) (t + temps_in a)) _ _ _
         (expr_same b (l + labels_in a) (t + temps_in a))
         (ap (λ os. build.Bin k ∷ os) (both (narrowing w) _ _ _ (narrowing_same w) refl))))
     expr_same (node.Post w step a) l t =
-        both (expr_ops by_number a l t) _ _ _ (expr_same a l t)
-        (ap (λ os. build.Pick 0 ∷ build.Load w ∷ build.Pick 1 ∷ build.Pick 1 ∷ build.Const step ∷ build.Bin bin.Add ∷
+        both (expr_ops here a l t) _ _ _ (expr_same a l t)
+        (ap (λ os. build.Pick 0 ∷ build.Load w ∷ build.Pick 1 ∷ build.Pick 1 ∷ build.Const (constant step) ∷ build.Bin
+        bin.Add ∷
         os)
         (both (narrowing w) _ _ _ (narrowing_same w) refl))
     expr_same (node.Bin k a b) l t =
-        both (expr_ops by_number a l t) _ _ _ (expr_same a l t)
-        (both (expr_ops by_number b (l + labels_in a) (t + temps_in a)) _ _ _
+        both (expr_ops here a l t) _ _ _ (expr_same a l t)
+        (both (expr_ops here b (l + labels_in a) (t + temps_in a)) _ _ _
         (expr_same b (l + labels_in a) (t + temps_in a))
         refl)
-    expr_same (node.Un k a) l t = both (expr_ops by_number a l t) _ _ _ (expr_same a l t) refl
+    expr_same (node.Un k a) l t = both (expr_ops here a l t) _ _ _ (expr_same a l t) refl
     expr_same (node.And a b) l t =
-        both (expr_ops by_number a (l + 2) (t + 1)) _ _ _ (expr_same a (l + 2) (t + 1))
+        both (expr_ops here a (l + 2) (t + 1)) _ _ _ (expr_same a (l + 2) (t + 1))
         (ap (λ os. build.BranchZero l ∷ os)
-        (both (expr_ops by_number b (l + 2 + labels_in a) (t + 1 + temps_in a)) _ _ _
+        (both (expr_ops here b (l + 2 + labels_in a) (t + 1 + temps_in a)) _ _ _
         (expr_same b (l + 2 + labels_in a) (t + 1 + temps_in a)) refl))
     expr_same (node.Or a b) l t =
-        both (expr_ops by_number a (l + 2) (t + 1)) _ _ _ (expr_same a (l + 2) (t + 1))
+        both (expr_ops here a (l + 2) (t + 1)) _ _ _ (expr_same a (l + 2) (t + 1))
         (ap (λ os. build.BranchNonzero l ∷ os)
-        (both (expr_ops by_number b (l + 2 + labels_in a) (t + 1 + temps_in a)) _ _ _
+        (both (expr_ops here b (l + 2 + labels_in a) (t + 1 + temps_in a)) _ _ _
         (expr_same b (l + 2 + labels_in a) (t + 1 + temps_in a)) refl))
     expr_same (node.Cond c a b) l t =
         let la = l + 2 + labels_in c in
         let ta = t + 1 + temps_in c in
         let v = has_value a in
-        both (expr_ops by_number c (l + 2) (t + 1)) _ _ _ (expr_same c (l + 2) (t + 1))
+        both (expr_ops here c (l + 2) (t + 1)) _ _ _ (expr_same c (l + 2) (t + 1))
         (ap (λ os. build.BranchZero l ∷ os)
-        (both (expr_ops by_number a la ta) _ _ _ (expr_same a la ta)
+        (both (expr_ops here a la ta) _ _ _ (expr_same a la ta)
         (both (keeping v t) _ _ _ (keeping_same v t)
         (ap (λ os. build.Jump (l + 1) ∷ build.Label l ∷ os)
-        (both (expr_ops by_number b (la + labels_in a) (ta + temps_in a)) _ _ _
+        (both (expr_ops here b (la + labels_in a) (ta + temps_in a)) _ _ _
         (expr_same b (la + labels_in a) (ta + temps_in a))
         (both (keeping v t) _ _ _ (keeping_same v t)
         (ap (λ os. build.Label (l + 1) ∷ os) (kept_same v t))))))))
     expr_same (node.Comma a b) l t =
-        both (expr_ops by_number a l t) _ _ _ (expr_same a l t)
+        both (expr_ops here a l t) _ _ _ (expr_same a l t)
         (both (dropping (has_value a)) _ _ _ (dropping_same (has_value a))
         (expr_same b (l + labels_in a) (t + temps_in a)))
     expr_same (node.Void a) l t =
-        both (expr_ops by_number a l t) _ _ _ (expr_same a l t) (dropping_same (has_value a))
+        both (expr_ops here a l t) _ _ _ (expr_same a l t) (dropping_same (has_value a))
     expr_same (node.Call answer f args) l t =
-        both (args_ops by_number args l t) _ _ _ (args_same args l t)
-        (ap (λ os. build.Call (m f) (count args) ∷ os) (dropping_call_same answer))
+        both (args_ops here args l t) _ _ _ (args_same args l t)
+        (ap (λ a. build.Call a (count args) ∷ All (dropping_call answer)) (calls f)
+        ∙ ap (λ os. build.Call (call' (there.function_at f)) (count args) ∷ os) (dropping_call_same answer))
     expr_same (node.CallNumber answer a args) l t =
-        both (expr_ops by_number a l t) _ _ _ (expr_same a l t)
-        (both (args_ops by_number args (l + labels_in a) (t + temps_in a)) _ _ _
+        both (expr_ops here a l t) _ _ _ (expr_same a l t)
+        (both (args_ops here args (l + labels_in a) (t + temps_in a)) _ _ _
         (args_same args (l + labels_in a) (t + temps_in a))
         (ap (λ os. build.CallNumber (count args) ∷ os) (dropping_call_same answer)))
-    expr_same (node.Lib library.Putchar a) l t = both (expr_ops by_number a l t) _ _ _ (expr_same a l t) refl
-    expr_same (node.Lib library.Putint a) l t = both (expr_ops by_number a l t) _ _ _ (expr_same a l t) refl
-    expr_same (node.Lib library.Exit a) l t = both (expr_ops by_number a l t) _ _ _ (expr_same a l t) refl
-    expr_same (node.Lib library.Malloc a) l t = both (expr_ops by_number a l t) _ _ _ (expr_same a l t) refl
+    expr_same (node.Lib library.Putchar a) l t = both (expr_ops here a l t) _ _ _ (expr_same a l t) refl
+    expr_same (node.Lib library.Putint a) l t = both (expr_ops here a l t) _ _ _ (expr_same a l t) refl
+    expr_same (node.Lib library.Exit a) l t = both (expr_ops here a l t) _ _ _ (expr_same a l t) refl
+    expr_same (node.Lib library.Malloc a) l t = both (expr_ops here a l t) _ _ _ (expr_same a l t) refl
+    expr_same (node.Tick tick args) l t =
+        both (args_ops here args l t) _ _ _ (args_same args l t) (making_same tick (kinds_of args))
     expr_same (node.Capture kind a) l t = expr_same a l t
-    expr_same (node.Compile a) l t = both (expr_ops by_number a l t) _ _ _ (expr_same a l t) refl
-    expr_same (node.ParamOf a) l t = both (expr_ops by_number a l t) _ _ _ (expr_same a l t) refl
-    expr_same (node.VSet i a) l t = both (expr_ops by_number a l t) _ _ _ (expr_same a l t) refl
+    expr_same (node.Compile a) l t = both (expr_ops here a l t) _ _ _ (expr_same a l t) refl
+    expr_same (node.ParamOf a) l t = both (expr_ops here a l t) _ _ _ (expr_same a l t) refl
+    expr_same (node.VSet i a) l t = both (expr_ops here a l t) _ _ _ (expr_same a l t) refl
     expr_same _ l t = refl
 
-    args_same : (args : Args) (l t : ℕ) → All (args_ops by_number args l t) ≡ args_ops there args l t
+    args_same : (args : Args) (l t : ℕ) → All (args_ops here args l t) ≡ All' (args_ops there args l t)
     args_same node.NoArg l t = refl
     args_same (node.Arg a args) l t =
-        both (expr_ops by_number a l t) _ _ _ (expr_same a l t) (args_same args (l + labels_in a) (t + temps_in a))
+        both (expr_ops here a l t) _ _ _ (expr_same a l t) (args_same args (l + labels_in a) (t + temps_in a))
 
   mutual
-    stmt_same : (s : Stmt) (to : Targets) (l t : ℕ) → All (stmt_ops by_number s to l t) ≡ stmt_ops there s to l t
+    stmt_same : (s : Stmt) (to : Targets) (l t : ℕ) → All (stmt_ops here s to l t) ≡ All' (stmt_ops there s to l t)
     stmt_same (node.Eval e) to l t =
-        both (expr_ops by_number e l t) _ _ _ (expr_same e l t) (dropping_same (has_value e))
+        both (expr_ops here e l t) _ _ _ (expr_same e l t) (dropping_same (has_value e))
     stmt_same (node.Block vs is) to l t =
-        both (items_ops by_number vs to l t) _ _ _ (items_same vs to l t)
+        both (items_ops here vs to l t) _ _ _ (items_same vs to l t)
         (items_same is to (l + labels_of vs) (t + temps_of vs))
     stmt_same (node.Parameter k w) to l t =
         ap (λ os. build.Parameter k ∷ os) (both (narrowing w) _ _ _ (narrowing_same w) refl)
@@ -194,31 +267,31 @@ module _ (m : ℕ → ℕ) where
     stmt_same (node.If e s) to l t =
         let l1 = l + 1 + labels_in e in
         let t1 = t + temps_in e in
-        both (expr_ops by_number e (l + 1) t) _ _ _ (expr_same e (l + 1) t)
-        (ap (λ os. build.BranchZero l ∷ os) (both (stmt_ops by_number s to l1 t1) _ _ _ (stmt_same s to l1 t1) refl))
+        both (expr_ops here e (l + 1) t) _ _ _ (expr_same e (l + 1) t)
+        (ap (λ os. build.BranchZero l ∷ os) (both (stmt_ops here s to l1 t1) _ _ _ (stmt_same s to l1 t1) refl))
     stmt_same (node.IfElse e s r) to l t =
         let l2 = l + 2 + labels_in e in
         let t2 = t + temps_in e in
-        both (expr_ops by_number e (l + 2) t) _ _ _ (expr_same e (l + 2) t)
+        both (expr_ops here e (l + 2) t) _ _ _ (expr_same e (l + 2) t)
         (ap (λ os. build.BranchZero l ∷ os)
-        (both (stmt_ops by_number s to l2 t2) _ _ _ (stmt_same s to l2 t2)
+        (both (stmt_ops here s to l2 t2) _ _ _ (stmt_same s to l2 t2)
         (ap (λ os. build.Jump (l + 1) ∷ build.Label l ∷ os)
-        (both (stmt_ops by_number r to (l2 + labels s) (t2 + temps s)) _ _ _
+        (both (stmt_ops here r to (l2 + labels s) (t2 + temps s)) _ _ _
         (stmt_same r to (l2 + labels s) (t2 + temps s)) refl))))
     stmt_same (node.While e s) to l t =
         let in_loop : Targets = record { on_break = l; on_continue = l + 1 } in
         let l2 = l + 2 + labels_in e in
         let t2 = t + temps_in e in
         ap (λ os. build.Label (l + 1) ∷ os)
-        (both (expr_ops by_number e (l + 2) t) _ _ _ (expr_same e (l + 2) t)
+        (both (expr_ops here e (l + 2) t) _ _ _ (expr_same e (l + 2) t)
         (ap (λ os. build.BranchZero l ∷ os)
-        (both (stmt_ops by_number s in_loop l2 t2) _ _ _ (stmt_same s in_loop l2 t2) refl)))
+        (both (stmt_ops here s in_loop l2 t2) _ _ _ (stmt_same s in_loop l2 t2) refl)))
     stmt_same (node.Do s e) to l t =
         let in_loop : Targets = record { on_break = l; on_continue = l + 2 } in
         ap (λ os. build.Label (l + 1) ∷ os)
-        (both (stmt_ops by_number s in_loop (l + 3) t) _ _ _ (stmt_same s in_loop (l + 3) t)
+        (both (stmt_ops here s in_loop (l + 3) t) _ _ _ (stmt_same s in_loop (l + 3) t)
         (ap (λ os. build.Label (l + 2) ∷ os)
-        (both (expr_ops by_number e (l + 3 + labels s) (t + temps s)) _ _ _
+        (both (expr_ops here e (l + 3 + labels s) (t + temps s)) _ _ _
         (expr_same e (l + 3 + labels s) (t + temps s))
         refl)))
     stmt_same (node.For e s) to l t =
@@ -226,9 +299,9 @@ module _ (m : ℕ → ℕ) where
         let l3 = l + 3 + labels_in e in
         let t3 = t + temps_in e in
         ap (λ os. build.Label (l + 1) ∷ os)
-        (both (expr_ops by_number e (l + 3) t) _ _ _ (expr_same e (l + 3) t)
+        (both (expr_ops here e (l + 3) t) _ _ _ (expr_same e (l + 3) t)
         (ap (λ os. build.BranchZero l ∷ os)
-        (both (stmt_ops by_number s in_loop l3 t3) _ _ _ (stmt_same s in_loop l3 t3) refl)))
+        (both (stmt_ops here s in_loop l3 t3) _ _ _ (stmt_same s in_loop l3 t3) refl)))
     stmt_same (node.ForStep e step s) to l t =
         let in_loop : Targets = record { on_break = l; on_continue = l + 2 } in
         let l3 = l + 3 + labels_in e in
@@ -236,11 +309,11 @@ module _ (m : ℕ → ℕ) where
         let ls = l3 + labels s in
         let ts = t3 + temps s in
         ap (λ os. build.Label (l + 1) ∷ os)
-        (both (expr_ops by_number e (l + 3) t) _ _ _ (expr_same e (l + 3) t)
+        (both (expr_ops here e (l + 3) t) _ _ _ (expr_same e (l + 3) t)
         (ap (λ os. build.BranchZero l ∷ os)
-        (both (stmt_ops by_number s in_loop l3 t3) _ _ _ (stmt_same s in_loop l3 t3)
+        (both (stmt_ops here s in_loop l3 t3) _ _ _ (stmt_same s in_loop l3 t3)
         (ap (λ os. build.Label (l + 2) ∷ os)
-        (both (expr_ops by_number step ls ts) _ _ _ (expr_same step ls ts)
+        (both (expr_ops here step ls ts) _ _ _ (expr_same step ls ts)
         (both (dropping (has_value step)) _ _ _ (dropping_same (has_value step)) refl))))))
     stmt_same (node.Switch e vs is) to l t =
         let l1 = l + 1 + labels_in e in
@@ -248,29 +321,34 @@ module _ (m : ℕ → ℕ) where
         let l2 = l1 + labels_of vs in
         let t2 = t1 + temps_of vs in
         let in_switch : Targets = record { on_break = l; on_continue = to.on_continue } in
-        both (expr_ops by_number e (l + 1) (t + 1)) _ _ _ (expr_same e (l + 1) (t + 1))
+        both (expr_ops here e (l + 1) (t + 1)) _ _ _ (expr_same e (l + 1) (t + 1))
         (ap (λ os. build.SetVariable t ∷ build.Drop ∷ os)
-        (both (items_ops by_number vs to l1 t1) _ _ _ (items_same vs to l1 t1)
+        (both (items_ops here vs to l1 t1) _ _ _ (items_same vs to l1 t1)
         (both (test_ops is l2 t) _ _ _ (test_same is l2 t)
         (ap (λ os. build.Jump (default_label is l2 l) ∷ os)
-        (both (items_ops by_number is in_switch l2 t2) _ _ _ (items_same is in_switch l2 t2) refl)))))
-    stmt_same (node.ReturnValue e) to l t = both (expr_ops by_number e l t) _ _ _ (expr_same e l t) refl
+        (both (items_ops here is in_switch l2 t2) _ _ _ (items_same is in_switch l2 t2) refl)))))
+    stmt_same (node.ReturnValue e) to l t = both (expr_ops here e l t) _ _ _ (expr_same e l t) refl
     stmt_same _ to l t = refl
 
-    items_same : (is : Items) (to : Targets) (l t : ℕ) → All (items_ops by_number is to l t) ≡ items_ops there is to l t
+    items_same : (is : Items) (to : Targets) (l t : ℕ) →
+        All (items_ops here is to l t) ≡ All' (items_ops there is to l t)
     items_same node.NoItem to l t = refl
     items_same (node.Item s is) to l t =
-        both (stmt_ops by_number s to l t) _ _ _ (stmt_same s to l t) (items_same is to (l + labels s) (t + temps s))
+        both (stmt_ops here s to l t) _ _ _ (stmt_same s to l t) (items_same is to (l + labels s) (t + temps s))
 
-  ops_same : (f : node.Function) → All (function_ops by_number f) ≡ function_ops there f
+  ops_same : (f : node.Function) → All (function_ops here f) ≡ All' (function_ops there f)
   ops_same f =
       ap (λ os. build.Enter (variables_in f.body + temps f.body) (labels f.body) ∷ os)
-      (both (stmt_ops by_number f.body nowhere 0 (variables_in f.body)) _ _ _
+      (both (stmt_ops here f.body nowhere 0 (variables_in f.body)) _ _ _
       (stmt_same f.body nowhere 0 (variables_in f.body)) refl)
 
-  -- ---- the builder
+-- ---- the builder
 
-  abbrev cleared : Build → Build
+module _ (m : Sending) (zero : m.constant 0 ≡ 0) where
+  abbrev moved : List Op → List Op
+  moved os = map (sent_op m) os
+
+  abbrev pub cleared : Build → Build
   cleared b = record b { ops = moved b.ops; prelude = moved b.prelude }
 
   yield_same : (o : Op) (n : ℕ) (b : Build) → yield (sent_op m o) n (cleared b) ≡ cleared (yield o n b)
@@ -309,7 +387,7 @@ module _ (m : ℕ → ℕ) where
       by : (low : Bool) → (if low then op.GetParameter r key else op.Const r 0) ≡
           sent_op m (if low then op.GetParameter r key else op.Const r 0)
       by true = refl
-      by false = refl
+      by false = ap (op.Const r) (sym zero)
 
   mention_same : (o : Option ℕ) (key : ℕ) (b : Build) → mention o key (cleared b) ≡ cleared (mention o key b)
   mention_same (Some r) key b = refl
@@ -347,7 +425,7 @@ module _ (m : ℕ → ℕ) where
       added (op.BranchNonzero (operand 0 b) (label i b)) b (record (effect (build.BranchNonzero i) b) { ops = b.ops })
   effect_same (build.Call address n) b =
       let c = pass n b in
-      ap (λ (x : Build). yield (op.Result b.registers) 0 (record x { ops = x.ops ++ op.Call (m address) ∷ [] }))
+      ap (λ (x : Build). yield (op.Result b.registers) 0 (record x { ops = x.ops ++ op.Call (m.call address) ∷ [] }))
       (pass_same n b)
       ∙ ap (λ (x : Build). yield (op.Result b.registers) 0 x) (added (op.Call address) c c)
       ∙ yield_same (op.Result b.registers) 0 (record c { ops = c.ops ++ op.Call address ∷ [] })
@@ -376,65 +454,97 @@ module _ (m : ℕ → ℕ) where
       added (op.Put i (operand 0 b)) b (record (effect (build.Put i) b) { ops = b.ops })
   effect_same (build.Parameter k) b = yield_same (op.GetParameter b.registers k) 0 b
 
-  run_same : (os : List BuildOp) (b : Build) → run_ops (All os) (cleared b) ≡ cleared (run_ops os b)
+  pub run_same : (os : List BuildOp) (b : Build) → run_ops (map (sent m) os) (cleared b) ≡ cleared (run_ops os b)
   run_same [] b = refl
-  run_same (o ∷ os) b = ap (run_ops (All os)) (effect_same o b) ∙ run_same os (effect o b)
+  run_same (o ∷ os) b = ap (run_ops (map (sent m) os)) (effect_same o b) ∙ run_same os (effect o b)
 
-  finished_sent : (b : Build) → moved (finished b) ≡ finished (cleared b)
+  pub finished_sent : (b : Build) → moved (finished b) ≡ finished (cleared b)
   finished_sent b =
       let last = op.ReturnZero ∷ [] in
       map-append (sent_op m) (b.prelude ++ b.ops) last
       ∙ ap (λ (zs : List Op). zs ++ last) (map-append (sent_op m) b.prelude b.ops)
 
-  module _ (f : node.Function) where
-    built : cleared (run_ops (function_ops by_number f) (empty f.parameters)) ≡ run_ops (function_ops there f)
-        (empty f.parameters)
-    built =
-        sym (run_same (function_ops by_number f) (empty f.parameters))
-        ∙ ap (λ os. run_ops os (empty f.parameters)) (ops_same f)
-
-    moved_code : moved (code_of by_number f) ≡ code_of there f
-    moved_code =
-        finished_sent (run_ops (function_ops by_number f) (empty f.parameters)) ∙ ap finished built
-
-    as_many : registers_of by_number f ≡ registers_of there f
-    as_many = ap (λ b. b.registers) built
-
--- the code of a function is the one that names functions by their numbers, with each call sent to the address
-pub code_sent : (d : Addresses) (f : node.Function) → map (sent_op d.function_at) (code_of by_number f) ≡ code_of d f
-code_sent d f = moved_code d.function_at f
-
 -- ---- two lists of addresses
 
--- an op where each call goes to address 0
-abbrev pub aimless_op : Op → Op
-aimless_op = sent_op (λ address. 0)
+module _ (constant : ℕ → ℕ) (kind : ClosureKind → ClosureKind) (zero : constant 0 ≡ 0)
+    (call generator call' generator' : ℕ → ℕ) (here there : Addresses)
+    (calls : (f : ℕ) → call (here.function_at f) ≡ call' (there.function_at f))
+    (made : (tick : ℕ) → generator (here.generator_at tick) ≡ generator' (there.generator_at tick))
+    (sizes : (tick : ℕ) → constant (tick_size (slice_get here.ticks tick))
+    ≡ constant (tick_size (slice_get there.ticks tick)))
+    (kinds : (tick : ℕ) → kind (kind_of_tick (is_expression (slice_get here.ticks tick)))
+    ≡ kind (kind_of_tick (is_expression (slice_get there.ticks tick)))) (f : node.Function) where
+  abbrev this : Sending
+  this = record { call = call; generator = generator; constant = constant; kind = kind }
 
-sent_aimless : (m : ℕ → ℕ) (os : List Op) → map aimless_op (map (sent_op m) os) ≡ map aimless_op os
-sent_aimless m [] = refl
-sent_aimless m (o ∷ os) =
-    ap (λ (z : Op). z ∷ map aimless_op (map (sent_op m) os)) (once o)
-    ∙ ap (λ (zs : List Op). aimless_op o ∷ zs) (sent_aimless m os)
+  abbrev that : Sending
+  that = record { call = call'; generator = generator'; constant = constant; kind = kind }
+
+  built : cleared this zero (run_ops (function_ops here f) (empty f.parameters))
+      ≡ cleared that zero (run_ops (function_ops there f) (empty f.parameters))
+  built =
+      sym (run_same this zero (function_ops here f) (empty f.parameters))
+      ∙ ap (λ os. run_ops os (empty f.parameters))
+      (ops_same constant kind call generator call' generator' here there calls made sizes kinds f)
+      ∙ run_same that zero (function_ops there f) (empty f.parameters)
+
+  pub moved_code : map (sent_op this) (code_of here f) ≡ map (sent_op that) (code_of there f)
+  moved_code =
+      finished_sent this zero (run_ops (function_ops here f) (empty f.parameters)) ∙ ap finished built
+      ∙ sym (finished_sent that zero (run_ops (function_ops there f) (empty f.parameters)))
+
+  pub as_many : registers_of here f ≡ registers_of there f
+  as_many = ap (λ b. b.registers) built
+
+-- what is sent to itself
+abbrev stays : Sending
+stays = record { call = λ a. a; generator = λ a. a; constant = λ w. w; kind = λ k. k }
+
+stays_same : (os : List Op) → map (sent_op stays) os ≡ os
+stays_same [] = refl
+stays_same (o ∷ os) = ap (λ (z : Op). z ∷ map (sent_op stays) os) (once o) ∙
+    ap (λ (zs : List Op). o ∷ zs) (stays_same os)
   where
-    once : (o : Op) → aimless_op (sent_op m o) ≡ aimless_op o
+    once : (o : Op) → sent_op stays o ≡ o
     once (op.Call address) = refl
+    once (op.Const to word) = refl
+    once (op.New to address kind captures) = refl
     once o = refl
 
-aimless_code : (d : Addresses) (f : node.Function) → map aimless_op (code_of d f) ≡ map aimless_op (code_of by_number f)
-aimless_code d f =
-    sym (ap (map aimless_op) (code_sent d f)) ∙ sent_aimless d.function_at (code_of by_number f)
+-- the code of a function is the one that names functions and ticks by their numbers, each sent to the address
+pub code_sent : (d : Addresses) (f : node.Function) →
+    map (sent_op (to_address d)) (code_of (by_number d) f) ≡ code_of d f
+code_sent d f =
+    moved_code (λ w. w) (λ k. k) refl d.function_at d.generator_at (λ a. a) (λ a. a) (by_number d) d (λ f. refl)
+    (λ tick. refl) (λ tick. refl) (λ tick. refl) f
+    ∙ stays_same (code_of d f)
 
--- the code is the same wherever functions stand, but for the addresses of calls, and has as many registers
+-- all is sent to one place
+abbrev pub nowhere_sent : Sending
+nowhere_sent =
+    record { call = λ a. 0; generator = λ a. 0; constant = λ w. 0; kind = λ k. closure.Expression }
+
+abbrev pub aimless_op : Op → Op
+aimless_op = sent_op nowhere_sent
+
+-- The code is the same under any addresses, but for the addresses of calls and of the functions of ticks, and for
+-- constants and kinds; and it has as many registers.
 pub code_same : (d e : Addresses) (f : node.Function) → map aimless_op (code_of d f) ≡ map aimless_op (code_of e f)
-code_same d e f = aimless_code d f ∙ sym (aimless_code e f)
+code_same d e f =
+    moved_code (λ w. 0) (λ k. closure.Expression) refl (λ a. 0) (λ a. 0) (λ a. 0) (λ a. 0) d e (λ f. refl)
+    (λ tick. refl) (λ tick. refl) (λ tick. refl) f
 
 pub registers_same : (d e : Addresses) (f : node.Function) → registers_of d f ≡ registers_of e f
-registers_same d e f = sym (as_many d.function_at f) ∙ as_many e.function_at f
+registers_same d e f =
+    as_many (λ w. 0) (λ k. closure.Expression) refl (λ a. 0) (λ a. 0) (λ a. 0) (λ a. 0) d e (λ f. refl)
+    (λ tick. refl) (λ tick. refl) (λ tick. refl) f
 
 -- ---- lengths
 
 aimless_length : (l : Layout) (a : Aim → ℕ) (o : Op) → length (template l a (aimless_op o)) ≡ length (template l a o)
 aimless_length l a (op.Call address) = refl
+aimless_length l a (op.Const to word) = refl
+aimless_length l a (op.New to address kind captures) = refl
 aimless_length l a o = refl
 
 aimless_lengths : (l : Layout) (a : Aim → ℕ) (os : List Op) →

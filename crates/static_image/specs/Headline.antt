@@ -1,27 +1,32 @@
 -- The headline: what is promised of the image of a program, for every input, every number of units and of instructions
--- and every legal choice of register places. The machine's history follows the meaning's and keeps pace with it; the
+-- and every legal choice of register places. What the machine tells follows what is meant and keeps pace with it; the
 -- machine ends in time, and ends only so; it never stops with a fault of the machine; and no word is executed that
--- isn't the image's, or that wasn't flushed after it was written. And in the run of a program without ticks no function
--- is finished, made or entered: it is defined for every row of choices, and what passed between it and the outside is
--- all that there is to tell.
-use Rattle.std.specs.Prelude.{◌≡◌, ◌≢◌, ℕ, List, map, Some}
+-- isn't the image's, or that wasn't flushed after it was written. And each run is defined, as long as nothing is
+-- compiled.
+use Rattle.std.specs.Prelude.{◌≢◌, ℕ, List, Some}
 use Rattle.host_edge.specs.declared.ending.MachineKind.{MachineKind}
-use Rattle.pace.specs.Pace.{FourParts, instructions_of_a_unit, instructions_besides}
-use Rattle.history.specs.Events.{Input, Fault}
+use Rattle.pace.specs.Pace.{Seen, FourParts, instructions_of_a_unit, instructions_besides, retold}
+use Rattle.history.specs.Events.{End, Input, Fault}
 use Rattle.image_file.specs.Image.{ImageParts}
 use Rattle.mips_model.specs.Choices.{Choice}
 use Rattle.staged_meaning.specs.Meaning.{Program, meant}
 use Rattle.mips_model.specs.Run.{runs, IsDefined, IsClean}
-use Rattle.mips_model.specs.Told.{Passed, tells}
+use Rattle.mips_model.specs.Told.{Told, tells}
+use Rattle.static_image.specs.Told.{told_of}
+
+-- what is meant within so many units, as a machine tells it that does so
+abbrev pub told_meaning : Program → ImageParts → Input → ℕ → Seen Told End
+told_meaning program image input units = retold (told_of program image) (λ e. e) (meant program input units)
 
 pub record Headline (program : Program) (image : ImageParts) : Type 0 where
   pub faithful : (input : Input) (choices : List Choice)
-      → FourParts (IsDefined image input choices) (meant program input) (runs image input choices)
+      → FourParts (IsDefined image input choices) (told_meaning program image input) (tells image input choices)
       instructions_of_a_unit instructions_besides
   pub clean : (input : Input) (choices : List Choice) (n : ℕ) → IsDefined image input choices n →
       IsClean image input choices n
   pub faultless : (input : Input) (choices : List Choice) (n : ℕ) → IsDefined image input choices n
       → (kind : MachineKind) (at : ℕ) → (runs image input choices n).ending ≢ Some (Fault kind at)
-  pub plain : (input : Input) (choices : List Choice) (n : ℕ)
-      → (tells image input choices n).history ≡ map Passed (runs image input choices n).history
+  -- As long as nothing is compiled every row of choices has a run that is defined for each number of instructions.
   pub defined : (input : Input) (choices : List Choice) (n : ℕ) → IsDefined image input choices n
+  -- each number of instructions has a row of choices for which the run is defined
+  pub some : (input : Input) (n : ℕ) → (choices : List Choice) × IsDefined image input choices n

@@ -9,10 +9,12 @@ use Rattle.static_image.specs.Headline.{Headline}
 
 abbrev pub ImagesKeepRules : Type 0
 ImagesKeepRules =
-    (program : Program) (main : ℕ) (xs : List Placed) → IsImaged program main → IsChoice program.functions xs
-    → IsImage (image_of program.image main xs)
+    (program : Program) (main : ℕ) (xs : List Placed) → IsImaged program main →
+    IsChoice program.functions program.ticks xs
+    → IsImage (image_of program.image program.ticks main xs)
 
 abbrev pub HeadlineHolds : Type 0
 HeadlineHolds =
-    (program : Program) (main : ℕ) (xs : List Placed) → IsImaged program main → IsChoice program.functions xs
-    → Headline program (image_of program.image main xs)
+    (program : Program) (main : ℕ) (xs : List Placed) → IsImaged program main →
+    IsChoice program.functions program.ticks xs
+    → Headline program (image_of program.image program.ticks main xs)

@@ -1,12 +1,12 @@
 -- The image of a program. It is entered at the start, which sets the pointers and the cells of the run-time routines,
--- calls main and exits with its answer. The start and each routine have a block of 64 words, and the functions follow
--- the blocks, in the order of the text. These are the project's own rules.
-use Rattle.std.specs.Prelude.{◌≡◌, ℕ, ◌+◌, ◌-◌, ◌*◌, ◌/◌, false, List, [], ◌∷◌, ◌++◌, length, map, replicate}
+-- calls main and exits with its answer. The start and each routine have a block of 64 words. The functions follow the
+-- blocks, in the order of the text, and behind them stand the functions that generate the code of ticks, in theirs.
+-- These are the project's own rules.
+use Rattle.std.specs.Prelude.{◌≡◌, ℕ, ◌+◌, ◌-◌, ◌*◌, ◌/◌, false, List, [], ◌∷◌, ◌++◌, length, map}
 use Rattle.word32.specs.declared.map.TheConstants.{ARENA, CLOSURES, FRAMES, FUNCTIONS, GLOBAL_POINTER, HEAP, STACK_TOP}
 use Rattle.word32.specs.declared.map.TheConstants.{START}
 use Rattle.image_file.specs.Image.{ImageParts}
 use Rattle.image_file.specs.declared.image.FunctionEntry.{FunctionEntry}
-use Rattle.mips_encoder.specs.Table.{word_of}
 use Rattle.mips_encoder.specs.declared.instruction.Instr.{Instr}
 use Rattle.icode_ops.specs.declared.op.Op.{Op}
 use Rattle.icode_ops.specs.Places.{IsLegal}
@@ -14,12 +14,14 @@ use Rattle.icode_ir.specs.Sound.{Each}
 use Rattle.mips_assembly.specs.Assembly.{v0, a0, t8, gp, sp, fp, addu, ori, lui, sw, jal, syscall, nop, constant}
 use Rattle.icode_templates.specs.Words.{words}
 use Rattle.icode_templates.specs.Expansion.{expanded}
-use Rattle.icode_templates_proof.specs.Malloc.{malloc_code}
+use Rattle.routine_spec.specs.Generator.{generator_code}
+use Rattle.routine_spec.specs.Blocks.{filled, routine_words}
+use Rattle.staged_meaning.specs.Program.{Tick}
+use Rattle.tick_lower_spec.specs.TickPieces.{tick_pieces}
 use Rattle.typed_tree.specs.Nodes as node
 use Rattle.staged_meaning.specs.Size.{size_of, charge_of}
 use Rattle.tick_lower_spec.specs.Lower.{Addresses, listed}
 use Rattle.tick_lower_proof.specs.Laws.{code_of, registers_of}
-use Rattle.limits.specs.declared.program.TheConstants.{FRONT_WORDS}
 
 -- a word to a register whose lower half is 0
 abbrev pub upper : ℕ → ℕ → Instr
@@ -47,27 +49,12 @@ exit_with_answer = addu a0 v0 0 ∷ ori v0 0 10 ∷ syscall ∷ []
 abbrev pub start_code : (main functions : ℕ) → List Instr
 start_code main functions = set_up functions ++ (jal main ∷ nop ∷ exit_with_answer)
 
--- words, filled up with so many words of nop
-abbrev pub filled : ℕ → List ℕ → List ℕ
-filled size front = front ++ replicate (size - length front) (word_of nop)
-
--- the words of a block, and of the 16 blocks in front of the functions
-abbrev pub block_words : ℕ
-block_words = 64
-
-abbrev pub front_words : ℕ
-front_words = FRONT_WORDS
-
--- the block of the start, and behind it those of the routines, of which the first is that of malloc; the blocks without
--- a routine have none but nop
+-- The block of the start, and behind it those of the routines: in front of the functions are 16 blocks.
 abbrev pub start_block : (main functions : ℕ) → List ℕ
-start_block main functions = filled block_words (words (start_code main functions))
-
-abbrev pub routine_blocks : List ℕ
-routine_blocks = filled (front_words - block_words) (words malloc_code)
+start_block main functions = filled (words (start_code main functions))
 
 abbrev pub front : (main functions : ℕ) → List ℕ
-front main functions = start_block main functions ++ routine_blocks
+front main functions = start_block main functions ++ routine_words
 
 -- ---- functions
 
@@ -88,9 +75,13 @@ abbrev pub words_of : Addresses → (at : ℕ) → Placed → List ℕ
 words_of addresses at x =
     expanded (ops_of addresses x) x.places at (charge_of (size_of x.function)) x.function.object false
 
+-- Static functions stand at these addresses. No tick is known yet, nor needed by what calls functions alone.
+abbrev pub functions_at : List ℕ → Addresses
+functions_at addresses = listed addresses [] []
+
 -- no address is known yet
 abbrev pub unknown : Addresses
-unknown = listed []
+unknown = functions_at []
 
 -- How many words it has. Wherever functions stand, they have as many words, so these are counted before any address is
 -- known.
@@ -115,16 +106,45 @@ abbrev pub words_from : Addresses → (at : ℕ) → List Placed → List ℕ
 words_from addresses at [] = []
 words_from addresses at (x ∷ xs) = words_of addresses at x ++ words_from addresses (behind at x) xs
 
--- those of a program stand behind the blocks, in the order of the text
-abbrev pub addresses_of : List Placed → Addresses
-addresses_of xs = listed (starts FUNCTIONS xs)
+-- the address behind them
+abbrev pub ends : (at : ℕ) → List Placed → ℕ
+ends at [] = at
+ends at (x ∷ xs) = ends (behind at x) xs
 
--- The image of a program whose globals and strings are these bytes and whose function main has this number, counted
--- from 1: the start, the blocks, and the functions, each of which has a row.
-abbrev pub image_of : (bytes : List ℕ) (main : ℕ) → List Placed → ImageParts
-image_of bytes main xs = record {
+-- ---- the functions that generate the code of ticks
+
+-- The words of a tick's: it calls functions of the image alone, since a tick has no ticks of its own.
+abbrev pub generator_of : (functions : List ℕ) → Tick → List ℕ
+generator_of functions tick = words (generator_code (tick_pieces (functions_at functions) tick))
+
+-- They stand one behind another from an address on: the address of each, and the words of all.
+abbrev pub generator_starts : (functions : List ℕ) → (at : ℕ) → List Tick → List ℕ
+generator_starts functions at [] = []
+generator_starts functions at (tick ∷ ticks) =
+    at ∷ generator_starts functions (at + 4 * length (generator_of functions tick)) ticks
+
+abbrev pub generators : (functions : List ℕ) → List Tick → List ℕ
+generators functions [] = []
+generators functions (tick ∷ ticks) = generator_of functions tick ++ generators functions ticks
+
+-- ---- the whole
+
+-- the functions of a program stand behind the blocks, and those of its ticks behind them
+abbrev pub function_starts : List Placed → List ℕ
+function_starts xs = starts FUNCTIONS xs
+
+abbrev pub addresses_of : List Tick → List Placed → Addresses
+addresses_of ticks xs =
+    listed (function_starts xs) (generator_starts (function_starts xs) (ends FUNCTIONS xs) ticks) ticks
+
+-- The image of a program whose globals and strings are these bytes, whose ticks are these and whose function main has
+-- this number, counted from 1: the start, the blocks, the functions, each of which has a row, and the functions of the
+-- ticks.
+abbrev pub image_of : (bytes : List ℕ) → List Tick → (main : ℕ) → List Placed → ImageParts
+image_of bytes ticks main xs = record {
   entry = START;
-  text = front ((addresses_of xs).function_at main) (length xs) ++ words_from (addresses_of xs) FUNCTIONS xs;
+  text = front ((addresses_of ticks xs).function_at main) (length xs)
+      ++ (words_from (addresses_of ticks xs) FUNCTIONS xs ++ generators (function_starts xs) ticks);
   bytes = bytes;
   functions = rows_of FUNCTIONS xs;
 }
@@ -137,7 +157,7 @@ functions_of xs = map (λ x. x.function) xs
 abbrev pub IsLegalChoice : Addresses → Placed → Type 0
 IsLegalChoice addresses x = IsLegal (ops_of addresses x) (registers_in addresses x) x.places
 
--- the functions of a program with a legal choice of places for the registers of each
-pub record IsChoice (functions : List node.Function) (xs : List Placed) : Type 0 where
+-- the functions of a program, whose ticks are these, with a legal choice of places for the registers of each
+pub record IsChoice (functions : List node.Function) (ticks : List Tick) (xs : List Placed) : Type 0 where
   pub same : functions_of xs ≡ functions
-  pub legal : Each (IsLegalChoice (addresses_of xs)) xs
+  pub legal : Each (IsLegalChoice (addresses_of ticks xs)) xs

@@ -1,7 +1,8 @@
 -- Each number in a tree is a word: constants, steps, and the values of a switch's labels.
 use Rattle.std.specs.Prelude.{◌<◌}
 use Rattle.typed_tree.specs.Nodes.{Expr, Const, SetVar, PostVar, Load, Store, Modify, Post, Bin, Un, And, Or, Cond}
-use Rattle.typed_tree.specs.Nodes.{Comma, Void, Call, CallNumber, Lib, Args, NoArg, Arg, Stmt, Eval, Block, If, IfElse}
+use Rattle.typed_tree.specs.Nodes.{Comma, Void, Call, CallNumber, Lib, Tick, Capture, ParamOf, Compile, Args, NoArg}
+use Rattle.typed_tree.specs.Nodes.{Arg, Stmt, Eval, Block, If, IfElse}
 use Rattle.typed_tree.specs.Nodes.{While, Do, For, ForStep, Switch, Case, ReturnValue, Items, NoItem, Item}
 
 abbrev mutual
@@ -23,6 +24,10 @@ abbrev mutual
   HasWords (Call answer f args) = HaveWordsArgs args
   HasWords (CallNumber answer a args) = HasWords a × HaveWordsArgs args
   HasWords (Lib library a) = HasWords a
+  HasWords (Tick tick args) = HaveWordsArgs args
+  HasWords (Capture kind a) = HasWords a
+  HasWords (ParamOf a) = HasWords a
+  HasWords (Compile a) = HasWords a
   HasWords _ = Unit {0}
 
   pub HaveWordsArgs : Args → Type 0

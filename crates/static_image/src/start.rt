@@ -1,37 +1,20 @@
-//! The words in front of an image's functions: the start, and the blocks of the run-time routines.
+//! The words of the start.
 
 ghost use Rattle.std.specs.Prelude.{◌≡◌, ◌+◌, ◌++◌, ◌<◌, ◌≤◌, length};
 ghost use Rattle.icode_expand.specs.Labels.{spliced};
 ghost use Rattle.icode_templates.specs.Words.{words};
 ghost use Rattle.limits.specs.declared.program.TheConstants.{MOST_FUNCTIONS};
-ghost use Rattle.icode_templates_proof.specs.Malloc.{malloc_code};
 ghost use Rattle.static_image.specs.Layout as layout;
 ghost use Rattle.word32.specs.declared.map.TheConstants.{SEGMENT_BYTES};
 
 use icode_templates::Snippet;
-use mips_assembly::{addiu, addu, bne, jal, jr, lui, lw, nop, ori, sll, sltu, srl, subu, sw};
+use mips_assembly::{addu, jal, lui, nop, ori, sw};
 use mips_encoder::{Instr, Register, encode};
 use word32::map::{ARENA, CLOSURES, FRAMES, GLOBAL_POINTER, HEAP, STACK_TOP};
 
 const T8: Register = Register::T8;
 
 const GP: Register = Register::GP;
-
-const V0: Register = Register::V0;
-
-const V1: Register = Register::V1;
-
-const A0: Register = Register::A0;
-
-const AT: Register = Register::AT;
-
-const ZERO: Register = Register::ZERO;
-
-/// The words of a block.
-const BLOCK_WORDS: usize = 64;
-
-/// The offset of the heap's cell from $gp, -4.
-const HEAP_CELL: u32 = 65532;
 
 /// The service that ends a run.
 const EXIT: u32 = 10;
@@ -76,29 +59,6 @@ fn exit_with_answer(code: &mut Snippet)
     code.push(Instr::Syscall);
 }
 
-// The routine of malloc.
-fn malloc_routine(code: &mut Snippet)
-    requires room { length code.old ≤ 25 }
-    ensures words { code.new ≡ code.old ++ words malloc_code }
-    ensures len { length code.new ≡ length code.old + 15 }
-{
-    code.push(lw(V1, HEAP_CELL, GP));
-    code.push(lui(V0, FRAMES / 65536));
-    code.push(subu(V0, V0, V1));
-    code.push(sltu(AT, V0, A0));
-    code.push(addu(V0, ZERO, ZERO));
-    code.push(bne(AT, ZERO, 7));
-    code.push(nop());
-    code.push(addu(V0, V1, ZERO));
-    code.push(addiu(A0, A0, 7));
-    code.push(srl(A0, A0, 3));
-    code.push(sll(A0, A0, 3));
-    code.push(addu(A0, A0, V1));
-    code.push(sw(A0, HEAP_CELL, GP));
-    code.push(jr(Register::RA));
-    code.push(nop());
-}
-
 // Words are written from a place on.
 fn write_words(out: &mut [u32], from: usize, words: &[u32])
     requires { from + length words.now ≤ length out.old }
@@ -108,23 +68,19 @@ fn write_words(out: &mut [u32], from: usize, words: &[u32])
     out[from..end].copy_from_slice(words);
 }
 
-/// Writes the words in front of an image's functions, which are 1,024: the start in the first block of 64 words, and
-/// then the blocks of the run-time routines, of which that of malloc stands first. `main` is the address of main's
-/// first word, in bytes, and `functions` how many static functions the image has.
-pub fn write_front(out: &mut [u32], main: u32, functions: u32)
-    requires room { length out.old ≡ layout.front_words }
+/// Writes the block of the start, which has 64 words: the start, and no more than `nop` behind it. `main` is the
+/// address of main's first word, in bytes, and `functions` how many static functions the image has.
+pub fn write_start(out: &mut [u32], main: u32, functions: u32)
+    requires room { length out.old ≡ 64 }
     requires main { main < SEGMENT_BYTES }
     requires functions { functions ≤ MOST_FUNCTIONS }
-    ensures { out.new ≡ layout.front main functions }
+    ensures { out.new ≡ layout.start_block main functions }
 {
     let mut code = Snippet::new();
     set_up(&mut code, functions);
     code.push(jal(main));
     code.push(nop());
     exit_with_answer(&mut code);
-    let mut routine = Snippet::new();
-    malloc_routine(&mut routine);
     out.fill(encode(nop()));
     write_words(out, 0, code.words());
-    write_words(out, BLOCK_WORDS, routine.words());
 }

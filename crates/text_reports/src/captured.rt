@@ -1,8 +1,8 @@
 //! Prints a line for each tick of each accepted text: of each capture of the tick its kind and the number of the first
 //! node of the tick's body that names it.
 
-use captures::{Capture, captures};
 use std::io;
+use tick_captures::{Capture, captures};
 use typed_tree::{Answer, CaptureKind};
 use wellformed::Typed;
 

@@ -2,10 +2,12 @@
 //! prints on a line the ops, how many registers these have, the live intervals of the registers, and what an expansion
 //! without any room answers. The program's functions stand 256 bytes apart, from 0x00401000 on.
 
-ghost use Rattle.std.specs.Prelude.{◌≡◌, ℕ, map};
+ghost use Rattle.std.specs.Prelude.{◌≡◌, ℕ, List, map};
 ghost use Rattle.icode_ir.specs.declared.builder.Phase.TheVariants.{Finished};
 ghost use Rattle.icode_ops.specs.Finished.{IsFinished};
+ghost use Rattle.staged_meaning.specs.Program.{Tick};
 ghost use Rattle.static_image.specs.Served.{AreStatic};
+ghost use Rattle.typed_tree.specs.declared.expression.CaptureKind.{CaptureKind};
 ghost use Rattle.typed_tree.specs.View.{function_view};
 
 use crate::words::starts;
@@ -17,6 +19,7 @@ use icode_ops::{CallAddress, Interval, Op};
 use limits::ops::OP_LIMIT;
 use static_backend::build_ops;
 use std::io;
+use tick_lower::Addresses;
 use typed_tree::Function;
 use wellformed::Typed;
 
@@ -77,12 +80,14 @@ fn report_functions(
     functions: &[Function],
     main: usize,
 ) -> io::Result<()>
-    requires { AreStatic (map function_view functions.now) }
+    requires { (captures : List (List CaptureKind)) × (ticks : List Tick) ×
+        AreStatic (map function_view functions.now) captures ticks }
 {
     let are_all = title.starts_with("all");
+    let addresses = Addresses::of_functions(starts);
     for number in 0..functions.len() {
         if are_all || number.saturating_add(1) == main {
-            build_ops(rt.alloc(), builder, starts, &functions[number])?;
+            build_ops(rt.alloc(), builder, &addresses, &functions[number])?;
             report_ops(rt, title, builder.ops(), builder.registers())?;
         }
     }

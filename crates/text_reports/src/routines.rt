@@ -1,7 +1,7 @@
 //! Prints the words of the run-time routines, a line for each of the 15 blocks of 64 words, behind a head.
 
 use crate::words::print_words;
-use routine_blocks::routines;
+use runtime_routines::routines;
 use std::io;
 
 /// Prints the head and the lines of all blocks.

@@ -7,7 +7,7 @@ use std::io;
 /// Where so many functions are in these trials: every 256 bytes from 0x00401000 on.
 ///
 /// # Errors
-/// Where memory was not found.
+/// Where memory is wanting.
 pub fn starts(alloc: Global, count: usize) -> Result<Vec<CallAddress>, AllocError> {
     let mut all = Vec::new(alloc);
     let mut at: u32 = 0x0040_1000;

@@ -1,6 +1,9 @@
 //! A whole program: the two walks, and what is checked after them. Where the first one found nothing that the second
 //! would know of it, there is no second.
 
+// What is owned is dropped by hand before an error goes on. Over a `?` its drop would be written out at each exit,
+// variant by variant (CONTRIBUTING.md, "How to keep proofs cheap", 3). The order of the drops means nothing.
+
 ghost use Rattle.std.specs.Prelude.{◌≡◌, List, Ok};
 ghost use Rattle.check_rules.specs.declared.state.State.{State as Known};
 ghost use Rattle.check_rules.specs.Starts.{start};
@@ -34,7 +37,7 @@ fn after_first(alloc: Global, state: State, list: &[External]) -> Result<TypedPa
 pub fn check_parts(alloc: Global, tree: &Tree) -> Result<TypedParts, Deny>
     ensures { Checks result (spec.checked tree.now) }
 {
-    let mut state = check_functions::start(alloc)?;
+    let mut state = check_names::start(alloc)?;
     match walk::<TreeWalk>(alloc, &mut state, tree.items()) {
         Ok(()) => after_first(alloc, state, tree.items()),
         Err(why) => {

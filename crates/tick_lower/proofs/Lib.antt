@@ -1,15 +1,4 @@
-pub mod Few
-pub mod Exprs
-pub mod Args
-pub mod Fits
-pub mod Seen
-pub mod Stmts
-pub mod Defaults
-pub mod Rest
-pub mod StmtSeen
-pub mod StmtFits
-pub mod Items
-pub mod Made
-pub mod Bodies
-pub mod Taken
-pub mod Counted
+mod Captures
+mod Counted
+mod Rest
+mod Viewed

@@ -1,239 +1,387 @@
-//! The ops of an expression.
+//! The pieces of an expression.
 
-ghost use Rattle.std.specs.Prelude.{◌≡◌, ◌∷◌, [], map, OnOk};
-ghost use Rattle.tick_lower.specs.Steps.{Fits, FitArgs, add, add_expr, add_args, library_ops};
-ghost use Rattle.tick_lower_spec.specs.Lower.{dropping};
+ghost use Rattle.std.specs.Prelude.{◌≡◌, ◌∷◌, [], OnOk, map};
+ghost use Rattle.lowering_pieces.specs.Steps.{library_pieces, op, put, walk, walk_args};
+ghost use Rattle.tick_lower_spec.specs.Lower.{dropping, keeping};
+ghost use Rattle.tick_lower_spec.specs.TickPieces.{own, plain};
+ghost use Rattle.tick_lower.specs.Viewed.{addresses_view};
 ghost use Rattle.typed_tree.specs.Nodes as node;
 ghost use Rattle.typed_tree.specs.View.{expr_view, args_of};
 
-use crate::calls::{address_of, count_of};
-use crate::ops::Ops;
-use crate::places::push_post;
+use crate::addresses::Addresses;
+use crate::calls::{called, called_number};
+use crate::making::made;
 use icode_ir::BuildOp;
 use icode_ops::{BinKind, RunKind, SysKind};
+use lowering_pieces::Pieces;
+use lowering_pieces::places::{
+    captured, keep_key, key, loaded, post_key, post_loaded, post_variable, splice, stored,
+};
 use sqlite_items::Boxed;
 use std::alloc::AllocError;
+use tick_lower_spec::Piece;
 use typed_tree::{Answer, Expr, Library, has_value};
 use word32::Width;
 
-// The ops of a library function, which take its argument and leave its answer, where it has one. The only error is want
-// of memory.
-fn push_library(function: Library, out: &mut Ops<'_>) -> Result<(), AllocError>
-    ensures { OnOk result (out.new ≡ add (library_ops function) out.old) }
-{
-    match function {
-        Library::Putchar => out.push(BuildOp::Sys {
-            kind: SysKind::PutByte,
-        }),
-        Library::Putint => out.push_all(&[
-            BuildOp::Sys {
-                kind: SysKind::PutInteger,
-            },
-            BuildOp::Drop,
-        ]),
-        Library::Exit => out.push_all(&[
-            BuildOp::Sys {
-                kind: SysKind::Exit,
-            },
-            BuildOp::Drop,
-        ]),
-        Library::Malloc => out.push(BuildOp::Run {
-            routine: RunKind::Malloc,
-        }),
-    }
-}
-
-/// Adds the ops of an expression, which leave its value as one operand more, if it has one. The only error is want of
-/// memory.
-#[cycle(lower_expression)]
-#[tactic(auto, using(typed_tree::proofs::Views::expressions))]
-pub fn lower_expression(e: &Expr, out: &mut Ops<'_>) -> Result<(), AllocError>
-    requires { Fits (expr_view e.now) out.old }
-    ensures { OnOk result (out.new ≡ add_expr (expr_view e.now) out.old) }
+/// Adds the pieces of an expression. The static functions are at these addresses. It fails for want of memory, and
+/// where a number in the tree is too great for an op or a closure, which none in an accepted text is.
+#[cycle(expression)]
+#[tactic(auto, using(crate::proofs::Viewed::expressions))]
+pub fn expression(e: &Expr, addresses: &Addresses<'_>, out: &mut Pieces) -> Result<(), AllocError>
+    ensures { OnOk result (out.new ≡ walk (addresses_view addresses.now) (expr_view e.now) out.old) }
 {
     match e {
-        Expr::Const(word) => out.push(BuildOp::Const { word: *word }),
-        Expr::Var(i) => out.push(BuildOp::GetVariable { variable: *i }),
-        Expr::SetVar(i, a) => lower_then(a.get(), BuildOp::SetVariable { variable: *i }, out),
-        Expr::PostVar(i, width, step) => out.push_step(*i, *width, *step),
-        Expr::Un(kind, a) => lower_then(a.get(), BuildOp::Un { kind: *kind }, out),
-        Expr::Bin(kind, a, b) => {
-            lower_expression(a.get(), out)?;
-            lower_then(b.get(), BuildOp::Bin { kind: *kind }, out)
-        }
-        Expr::And(a, b) => lower_and(a.get(), b.get(), out),
-        Expr::Or(a, b) => lower_or(a.get(), b.get(), out),
-        Expr::Cond(test, a, b) => lower_choice(test.get(), a.get(), b.get(), out),
-        Expr::Comma(a, b) => {
-            lower_effect(a.get(), out)?;
-            lower_expression(b.get(), out)
-        }
-        Expr::Void(a) => lower_effect(a.get(), out),
-        Expr::Getchar => out.push_all(&[
-            BuildOp::Const { word: 0 },
-            BuildOp::Sys {
-                kind: SysKind::GetByte,
+        Expr::Const(word) => out.op(BuildOp::Const { word: *word }),
+        Expr::Captured(_, i) => captured(*i, out),
+        Expr::Var(i) => out.op(BuildOp::GetVariable { variable: *i }),
+        Expr::SetVar(i, a) => then(a, BuildOp::SetVariable { variable: *i }, addresses, out),
+        Expr::PostVar(i, width, step) => post_variable(*i, *width, *step, out),
+        Expr::VGet(i) => key(*i, out),
+        Expr::VSet(i, a) => set_key(*i, a, addresses, out),
+        Expr::VPost(i, step) => post_key(*i, *step, out),
+        Expr::Frame(offset) => out.op(BuildOp::FrameAddress { offset: *offset }),
+        Expr::Load(width, a) => then(a, BuildOp::Load { width: *width }, addresses, out),
+        Expr::Store(width, a, b) => operands(
+            a,
+            b,
+            BuildOp::Store { width: *width },
+            addresses,
+            out,
+        ),
+        Expr::Modify(width, kind, a, b) => modify(*width, *kind, a, b, addresses, out),
+        Expr::Post(width, step, a) => post(*width, *step, a, addresses, out),
+        Expr::Bin(kind, a, b) => operands(a, b, BuildOp::Bin { kind: *kind }, addresses, out),
+        Expr::Un(kind, a) => then(a, BuildOp::Un { kind: *kind }, addresses, out),
+        Expr::And(a, b) => both(a, b, addresses, out),
+        Expr::Or(a, b) => either(a, b, addresses, out),
+        Expr::Cond(test, a, b) => choice(test, a, b, addresses, out),
+        Expr::Comma(a, b) => comma(a, b, addresses, out),
+        Expr::Void(a) => effect(a, addresses, out),
+        Expr::Call(answer, function, args) => call(
+            *answer,
+            *function,
+            args.as_slice(),
+            addresses,
+            out,
+        ),
+        Expr::CallNumber(answer, a, args) => call_number(
+            *answer,
+            a,
+            args.as_slice(),
+            addresses,
+            out,
+        ),
+        Expr::Getchar => out.on_zero(BuildOp::Sys {
+            kind: SysKind::GetByte,
+        }),
+        Expr::Lib(function, a) => library(*function, a, addresses, out),
+        Expr::Tick(tick, args) => specified(*tick, args.as_slice(), addresses, out),
+        Expr::Capture(_, a) => capture(a, addresses, out),
+        Expr::Splice(_, i) => splice(*i, out),
+        Expr::Compile(a) => then(
+            a,
+            BuildOp::Run {
+                routine: RunKind::Compile,
             },
-        ]),
-        Expr::Lib(function, a) => {
-            lower_expression(a.get(), out)?;
-            push_library(*function, out)
-        }
-        Expr::Frame(offset) => out.push(BuildOp::FrameAddress { offset: *offset }),
-        Expr::Load(width, a) => lower_then(a.get(), BuildOp::Load { width: *width }, out),
-        Expr::Store(width, a, b) => {
-            lower_expression(a.get(), out)?;
-            lower_then(b.get(), BuildOp::Store { width: *width }, out)
-        }
-        Expr::Modify(width, kind, a, b) => lower_modify(*width, *kind, a.get(), b.get(), out),
-        Expr::Post(width, step, a) => {
-            lower_expression(a.get(), out)?;
-            push_post(*width, *step, out)
-        }
-        Expr::Call(answer, function, args) => {
-            lower_call(*answer, *function, args.as_slice(), out)
-        }
-        Expr::CallNumber(answer, a, args) => {
-            lower_call_number(*answer, a.get(), args.as_slice(), out)
-        }
-        Expr::Captured(_, _) | Expr::VGet(_) | Expr::VSet(_, _) | Expr::VPost(_, _) =>
-            unreachable!(),
-        Expr::Tick(_, _) | Expr::Capture(_, _) | Expr::Splice(_, _) => unreachable!(),
-        Expr::Compile(_) | Expr::Local | Expr::ParamOf(_) => unreachable!(),
+            addresses,
+            out,
+        ),
+        Expr::Local => out.on_zero(BuildOp::Run {
+            routine: RunKind::Local,
+        }),
+        Expr::ParamOf(a) => then(
+            a,
+            BuildOp::Run {
+                routine: RunKind::Parameter,
+            },
+            addresses,
+            out,
+        ),
     }
 }
 
-/// Adds the ops of an expression, and one that takes or keeps its value. The only error is want of memory.
-#[cycle(lower_expression)]
-pub fn lower_then(e: &Expr, op: BuildOp, out: &mut Ops<'_>) -> Result<(), AllocError>
-    requires { Fits (expr_view e.now) out.old }
-    ensures { OnOk result (out.new ≡ add (op ∷ []) (add_expr (expr_view e.now) out.old)) }
+/// Adds the pieces of an expression, and an op that takes or keeps its value. It fails as those of the expression do.
+#[cycle(expression)]
+pub fn then(
+    e: &Boxed<Expr>,
+    last: BuildOp,
+    addresses: &Addresses<'_>,
+    out: &mut Pieces,
+) -> Result<(), AllocError>
+    ensures { OnOk result (out.new ≡ op last (walk (addresses_view addresses.now) (expr_view e.now) out.old)) }
 {
-    lower_expression(e, out)?;
-    out.push(op)
+    expression(e.get(), addresses, out)?;
+    out.op(last)
 }
 
-/// Adds the ops of an expression for its effects: its value, if it has one, is taken away. The only error is want of
-/// memory.
-#[cycle(lower_expression)]
-pub fn lower_effect(e: &Expr, out: &mut Ops<'_>) -> Result<(), AllocError>
-    requires { Fits (expr_view e.now) out.old }
+/// Adds the pieces of an expression for its effects: its value, if it has one, is taken away. It fails as those of the
+/// expression do.
+#[cycle(expression)]
+#[tactic(auto, using(crate::proofs::Viewed::expressions))]
+pub fn effect(
+    e: &Boxed<Expr>,
+    addresses: &Addresses<'_>,
+    out: &mut Pieces,
+) -> Result<(), AllocError>
+    ensures { OnOk result (out.new ≡ put (own (dropping (node.has_value (expr_view e.now))))
+        (walk (addresses_view addresses.now) (expr_view e.now) out.old)) }
+{
+    expression(e.get(), addresses, out)?;
+    out.own_dropping(has_value(e.get()))
+}
+
+// The pieces of two expressions, and an op that takes both values.
+#[cycle(expression)]
+fn operands(
+    a: &Boxed<Expr>,
+    b: &Boxed<Expr>,
+    last: BuildOp,
+    addresses: &Addresses<'_>,
+    out: &mut Pieces,
+) -> Result<(), AllocError>
+    ensures { OnOk result (out.new ≡ op last (walk (addresses_view addresses.now) (expr_view b.now)
+        (walk (addresses_view addresses.now) (expr_view a.now) out.old))) }
+{
+    expression(a.get(), addresses, out)?;
+    then(b, last, addresses, out)
+}
+
+// The pieces of an assignment to a captured variable.
+#[cycle(expression)]
+fn set_key(
+    capture: u32,
+    a: &Boxed<Expr>,
+    addresses: &Addresses<'_>,
+    out: &mut Pieces,
+) -> Result<(), AllocError>
     ensures { OnOk result (
-        out.new ≡ add (dropping (node.has_value (expr_view e.now))) (add_expr (expr_view e.now) out.old)) }
+        out.new ≡ put (Piece.SetKey capture ∷ []) (walk (addresses_view addresses.now) (expr_view a.now) out.old)) }
 {
-    lower_expression(e, out)?;
-    out.push_dropping(has_value(e))
+    expression(a.get(), addresses, out)?;
+    keep_key(capture, out)
 }
 
-// The ops of `a op= b` at an address.
-#[cycle(lower_expression)]
-fn lower_modify(
+// The pieces of `a op= b` at an address.
+#[cycle(expression)]
+fn modify(
     width: Width,
     kind: BinKind,
-    a: &Expr,
-    b: &Expr,
-    out: &mut Ops<'_>,
+    a: &Boxed<Expr>,
+    b: &Boxed<Expr>,
+    addresses: &Addresses<'_>,
+    out: &mut Pieces,
 ) -> Result<(), AllocError>
-    requires { Fits (node.Modify width kind (expr_view a.now) (expr_view b.now)) out.old }
-    ensures { OnOk result (
-        out.new ≡ add_expr (node.Modify width kind (expr_view a.now) (expr_view b.now)) out.old) }
+    ensures { OnOk result (out.new ≡ walk (addresses_view addresses.now)
+        (node.Modify width kind (expr_view a.now) (expr_view b.now)) out.old) }
 {
-    lower_expression(a, out)?;
-    out.push_all(&[BuildOp::Pick { depth: 0 }, BuildOp::Load { width }])?;
-    lower_then(b, BuildOp::Bin { kind }, out)?;
-    out.push_narrowing(width)?;
-    out.push(BuildOp::Store { width })
+    expression(a.get(), addresses, out)?;
+    loaded(width, out)?;
+    then(b, BuildOp::Bin { kind }, addresses, out)?;
+    stored(width, out)
 }
 
-// The ops of arguments, one after the other.
-#[cycle(lower_expression)]
-fn lower_args(args: &[Expr], out: &mut Ops<'_>) -> Result<(), AllocError>
-    requires { FitArgs (args_of (map expr_view args.now)) out.old }
-    ensures { OnOk result (out.new ≡ add_args (args_of (map expr_view args.now)) out.old) }
+// The pieces of `a++` and `a--` at an address.
+#[cycle(expression)]
+fn post(
+    width: Width,
+    step: u32,
+    a: &Boxed<Expr>,
+    addresses: &Addresses<'_>,
+    out: &mut Pieces,
+) -> Result<(), AllocError>
+    ensures { OnOk result (
+        out.new ≡ walk (addresses_view addresses.now) (node.Post width step (expr_view a.now)) out.old) }
 {
-    for a in args {
-        lower_expression(a, out)?;
+    expression(a.get(), addresses, out)?;
+    post_loaded(width, step, out)
+}
+
+// The pieces of `a && b`.
+#[cycle(expression)]
+fn both(
+    a: &Boxed<Expr>,
+    b: &Boxed<Expr>,
+    addresses: &Addresses<'_>,
+    out: &mut Pieces,
+) -> Result<(), AllocError>
+    ensures { OnOk result (
+        out.new ≡ walk (addresses_view addresses.now) (node.And (expr_view a.now) (expr_view b.now)) out.old) }
+{
+    let join = out.take_join()?;
+    let value = out.take_variable()?;
+    then(a, BuildOp::BranchZero { label: join.other }, addresses, out)?;
+    then(b, BuildOp::BranchZero { label: join.other }, addresses, out)?;
+    out.joins(1, 0, join, value)
+}
+
+// The pieces of `a || b`.
+#[cycle(expression)]
+fn either(
+    a: &Boxed<Expr>,
+    b: &Boxed<Expr>,
+    addresses: &Addresses<'_>,
+    out: &mut Pieces,
+) -> Result<(), AllocError>
+    ensures { OnOk result (
+        out.new ≡ walk (addresses_view addresses.now) (node.Or (expr_view a.now) (expr_view b.now)) out.old) }
+{
+    let join = out.take_join()?;
+    let value = out.take_variable()?;
+    then(
+        a,
+        BuildOp::BranchNonzero { label: join.other },
+        addresses,
+        out,
+    )?;
+    then(
+        b,
+        BuildOp::BranchNonzero { label: join.other },
+        addresses,
+        out,
+    )?;
+    out.joins(0, 1, join, value)
+}
+
+// The pieces of `test ? a : b`.
+#[cycle(expression)]
+fn choice(
+    test: &Boxed<Expr>,
+    a: &Boxed<Expr>,
+    b: &Boxed<Expr>,
+    addresses: &Addresses<'_>,
+    out: &mut Pieces,
+) -> Result<(), AllocError>
+    ensures { OnOk result (out.new ≡ walk (addresses_view addresses.now)
+        (node.Cond (expr_view test.now) (expr_view a.now) (expr_view b.now)) out.old) }
+{
+    let join = out.take_join()?;
+    let value = out.take_variable()?;
+    let left = has_value(a.get());
+    then(
+        test,
+        BuildOp::BranchZero { label: join.other },
+        addresses,
+        out,
+    )?;
+    way(a, left, value, addresses, out)?;
+    out.turn(join.end, join.other)?;
+    way(b, left, value, addresses, out)?;
+    out.met(left, join.end, value)
+}
+
+// The pieces of one of two ways, whose value goes to a variable where there is one.
+#[cycle(expression)]
+fn way(
+    e: &Boxed<Expr>,
+    left: bool,
+    value: u32,
+    addresses: &Addresses<'_>,
+    out: &mut Pieces,
+) -> Result<(), AllocError>
+    ensures { OnOk result (out.new ≡ put (plain (keeping left value))
+        (walk (addresses_view addresses.now) (expr_view e.now) out.old)) }
+{
+    expression(e.get(), addresses, out)?;
+    out.keeping(left, value)
+}
+
+// The pieces of `a, b`.
+#[cycle(expression)]
+fn comma(
+    a: &Boxed<Expr>,
+    b: &Boxed<Expr>,
+    addresses: &Addresses<'_>,
+    out: &mut Pieces,
+) -> Result<(), AllocError>
+    ensures { OnOk result (
+        out.new ≡ walk (addresses_view addresses.now) (node.Comma (expr_view a.now) (expr_view b.now)) out.old) }
+{
+    effect(a, addresses, out)?;
+    expression(b.get(), addresses, out)
+}
+
+// The pieces of expressions, one after another.
+#[cycle(expression)]
+#[tactic(auto, using(lowering_pieces::proofs::Lists::one_more))]
+fn expressions(list: &[Expr], addresses: &Addresses<'_>, out: &mut Pieces) -> Result<(), AllocError>
+    ensures { OnOk result (
+        out.new ≡ walk_args (addresses_view addresses.now) (args_of (map expr_view list.now)) out.old) }
+{
+    for e in list {
+        expression(e, addresses, out)?;
     }
     Ok(())
 }
 
-// The ops of a call of a static function.
-#[cycle(lower_expression)]
-fn lower_call(
+// The pieces of a call of a static function.
+#[cycle(expression)]
+fn call(
     answer: Answer,
     function: u32,
     args: &[Expr],
-    out: &mut Ops<'_>,
+    addresses: &Addresses<'_>,
+    out: &mut Pieces,
 ) -> Result<(), AllocError>
-    requires { Fits (node.Call answer function (args_of (map expr_view args.now))) out.old }
-    ensures { OnOk result (
-        out.new ≡ add_expr (node.Call answer function (args_of (map expr_view args.now))) out.old) }
+    ensures { OnOk result (out.new ≡ walk (addresses_view addresses.now)
+        (node.Call answer function (args_of (map expr_view args.now))) out.old) }
 {
-    lower_args(args, out)?;
-    let address = address_of(out.starts, function);
-    let count = count_of(args);
-    out.push(BuildOp::Call { address, count })?;
-    out.push_dropping_call(answer)
+    expressions(args, addresses, out)?;
+    called(answer, function, args, addresses, out)
 }
 
-// The ops of a call of the function whose number is evaluated first.
-#[cycle(lower_expression)]
-fn lower_call_number(
+// The pieces of a call of the function whose number is evaluated first.
+#[cycle(expression)]
+fn call_number(
     answer: Answer,
-    a: &Expr,
+    a: &Boxed<Expr>,
     args: &[Expr],
-    out: &mut Ops<'_>,
+    addresses: &Addresses<'_>,
+    out: &mut Pieces,
 ) -> Result<(), AllocError>
-    requires { Fits (node.CallNumber answer (expr_view a.now) (args_of (map expr_view args.now))) out.old }
+    ensures { OnOk result (out.new ≡ walk (addresses_view addresses.now)
+        (node.CallNumber answer (expr_view a.now) (args_of (map expr_view args.now))) out.old) }
+{
+    expression(a.get(), addresses, out)?;
+    expressions(args, addresses, out)?;
+    called_number(answer, args, out)
+}
+
+// The pieces of a call of a library function.
+#[cycle(expression)]
+fn library(
+    function: Library,
+    a: &Boxed<Expr>,
+    addresses: &Addresses<'_>,
+    out: &mut Pieces,
+) -> Result<(), AllocError>
     ensures { OnOk result (
-        out.new ≡ add_expr (node.CallNumber answer (expr_view a.now) (args_of (map expr_view args.now))) out.old) }
+        out.new ≡ put (library_pieces function) (walk (addresses_view addresses.now) (expr_view a.now) out.old)) }
 {
-    lower_expression(a, out)?;
-    lower_args(args, out)?;
-    let count = count_of(args);
-    out.push(BuildOp::CallNumber { count })?;
-    out.push_dropping_call(answer)
+    expression(a.get(), addresses, out)?;
+    out.library(function)
 }
 
-// The ops of `a && b`.
-#[cycle(lower_expression)]
-fn lower_and(a: &Expr, b: &Expr, out: &mut Ops<'_>) -> Result<(), AllocError>
-    requires { Fits (node.And (expr_view a.now) (expr_view b.now)) out.old }
-    ensures { OnOk result (out.new ≡ add_expr (node.And (expr_view a.now) (expr_view b.now)) out.old) }
+// The pieces of a tick expression: its captures, and what makes its specification of them.
+#[cycle(expression)]
+fn specified(
+    tick: u32,
+    captures: &[Expr],
+    addresses: &Addresses<'_>,
+    out: &mut Pieces,
+) -> Result<(), AllocError>
+    ensures { OnOk result (out.new ≡ walk (addresses_view addresses.now)
+        (node.Tick tick (args_of (map expr_view captures.now))) out.old) }
 {
-    let join = out.take_join();
-    lower_then(a, BuildOp::BranchZero { label: join.other }, out)?;
-    lower_then(b, BuildOp::BranchZero { label: join.other }, out)?;
-    out.push_joins(1, 0, join)
+    expressions(captures, addresses, out)?;
+    made(tick, captures, addresses, out)
 }
 
-// The ops of `a || b`.
-#[cycle(lower_expression)]
-fn lower_or(a: &Expr, b: &Expr, out: &mut Ops<'_>) -> Result<(), AllocError>
-    requires { Fits (node.Or (expr_view a.now) (expr_view b.now)) out.old }
-    ensures { OnOk result (out.new ≡ add_expr (node.Or (expr_view a.now) (expr_view b.now)) out.old) }
-{
-    let join = out.take_join();
-    lower_then(a, BuildOp::BranchNonzero { label: join.other }, out)?;
-    lower_then(b, BuildOp::BranchNonzero { label: join.other }, out)?;
-    out.push_joins(0, 1, join)
-}
-
-// The ops of `test ? a : b`.
-#[cycle(lower_expression)]
-fn lower_choice(test: &Expr, a: &Expr, b: &Expr, out: &mut Ops<'_>) -> Result<(), AllocError>
-    requires { Fits (node.Cond (expr_view test.now) (expr_view a.now) (expr_view b.now)) out.old }
+// The pieces of a capture's value, behind the piece of the capture.
+#[cycle(expression)]
+fn capture(a: &Boxed<Expr>, addresses: &Addresses<'_>, out: &mut Pieces) -> Result<(), AllocError>
     ensures { OnOk result (
-        out.new ≡ add_expr (node.Cond (expr_view test.now) (expr_view a.now) (expr_view b.now)) out.old) }
+        out.new ≡ walk (addresses_view addresses.now) (expr_view a.now) (put (Piece.Nothing ∷ []) out.old)) }
 {
-    let join = out.take_join();
-    let left = has_value(a);
-    lower_then(test, BuildOp::BranchZero { label: join.other }, out)?;
-    lower_expression(a, out)?;
-    out.push_keeping(left, join.value)?;
-    out.push_turn(join.end, join.other)?;
-    lower_expression(b, out)?;
-    out.push_keeping(left, join.value)?;
-    out.push(BuildOp::Label { label: join.end })?;
-    out.push_kept(left, join.value)
+    out.push(Piece::Nothing)?;
+    expression(a.get(), addresses, out)
 }

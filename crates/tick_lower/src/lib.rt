@@ -1,16 +1,16 @@
-//! The lowering of a function's typed tree to builder ops, which a builder takes.
+//! The lowering of typed trees: the walk over a body that makes its pieces, of a function of the text, which has no
+//! holes, and of a tick.
 #![tactic(auto)]
 
+mod addresses;
+mod bodies;
 mod calls;
 mod expressions;
-mod function;
-mod ops;
-mod places;
+mod making;
 mod sizes;
 mod statements;
 mod variables;
 
-pub use calls::address_of;
-pub use function::lower;
+pub use addresses::Addresses;
+pub use bodies::{expression_body, statement_body};
 pub use sizes::size;
-pub use variables::variables as variable_count;

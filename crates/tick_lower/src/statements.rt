@@ -1,261 +1,242 @@
-//! The ops of a statement.
+//! The pieces of a statement.
 
-ghost use Rattle.std.specs.Prelude.{◌≡◌, ◌+◌, ◌<◌, ◌^◌, map, IfOk, OnOk};
-ghost use Rattle.staged_meaning.specs.Size.{labels_in, temps_in};
-ghost use Rattle.staged_meaning.specs.Scope.{IsBuilt};
+ghost use Rattle.std.specs.Prelude.{◌≡◌, None, IfOk, OnOk, map};
 ghost use Rattle.staged_meaning.specs.Statements.{case_of};
-ghost use Rattle.tick_lower.specs.Few.{PassesFew};
-ghost use Rattle.tick_lower.specs.Steps.{FitsStmt, FitItems, add, add_stmt, add_items, add_selector, add_switch};
-ghost use Rattle.tick_lower.specs.Steps.{targets_of, default_of};
-ghost use Rattle.tick_lower_spec.specs.Lower.{Targets, case_ops, test_ops, default_label};
-ghost use Rattle.typed_tree.specs.Nodes as node;
+ghost use Rattle.lowering_pieces.specs.Steps.{default_of, op, or_else, put, targets_of, valued, walk_default, walk_items};
+ghost use Rattle.lowering_pieces.specs.Steps.{walk_stmt, walk_tests, with_apart};
+ghost use Rattle.tick_lower_spec.specs.Lower.{case_ops};
+ghost use Rattle.tick_lower_spec.specs.TickPieces.{plain};
+ghost use Rattle.tick_lower.specs.Viewed.{addresses_view};
 ghost use Rattle.typed_tree.specs.View.{expr_view, stmt_view, items_of};
 
-use crate::expressions::{lower_effect, lower_then};
-use crate::ops::{Exits, Ops, Selector};
-use crate::places::{push_parameter, push_parameter_object};
+use crate::addresses::Addresses;
+use crate::calls::parameter_of;
+use crate::expressions::expression;
 use icode_ir::BuildOp;
 use icode_ops::BinKind;
+use lowering_pieces::{Exits, Pieces, Selector};
 use std::alloc::AllocError;
-use typed_tree::{Expr, Stmt};
+use tick_lower_spec::Piece;
+use typed_tree::{Expr, Stmt, has_value};
 
-/// Adds the ops of a statement, whose breaks and continues go where the exits say. The only error is want of memory.
-#[cycle(lower_statement)]
-#[tactic(auto, using(typed_tree::proofs::Views::statements))]
-pub fn lower_statement(s: &Stmt, exits: Exits, out: &mut Ops<'_>) -> Result<(), AllocError>
-    requires { FitsStmt (stmt_view s.now) out.old }
-    ensures { OnOk result (out.new ≡ add_stmt (targets_of exits) (stmt_view s.now) out.old) }
+// The value of a switch goes to a variable, which the tests of the cases compare.
+fn selected(e: &Expr, addresses: &Addresses<'_>, out: &mut Pieces) -> Result<Selector, AllocError>
+    ensures selector { IfOk result (λ s. s ≡ record { end = out.old.label; value = out.old.variable }) }
+    ensures pieces { OnOk result (out.new ≡ valued (addresses_view addresses.now) (expr_view e.now) out.old) }
+{
+    let end = out.take_label()?;
+    let value = out.take_variable()?;
+    expression(e, addresses, out)?;
+    out.op(BuildOp::SetVariable { variable: value })?;
+    out.op(BuildOp::Drop)?;
+    out.push(Piece::Nothing)?;
+    Ok(Selector { end, value })
+}
+
+// The jump to the default behind the tests, the items, and the label behind the switch.
+fn closed(default: u32, end: u32, inside: Pieces, out: &mut Pieces) -> Result<(), AllocError>
+    ensures { OnOk result (out.new ≡ op (BuildOp.Label end) (with_apart inside (op (BuildOp.Jump default) out.old))) }
+{
+    out.op(BuildOp::Jump { label: default })?;
+    out.append(inside)?;
+    out.op(BuildOp::Label { label: end })
+}
+
+/// Adds the pieces of a statement, whose breaks and continues go where the exits say. The static functions are at these
+/// addresses. It fails for want of memory, and where a number in the tree is too great for an op or a closure, which
+/// none in an accepted text is.
+#[cycle(statement)]
+#[tactic(auto, using(crate::proofs::Viewed::statements))]
+pub fn statement(
+    s: &Stmt,
+    exits: Exits,
+    addresses: &Addresses<'_>,
+    out: &mut Pieces,
+) -> Result<(), AllocError>
+    ensures { OnOk result (
+        out.new ≡ walk_stmt (addresses_view addresses.now) (targets_of exits) (stmt_view s.now) out.old) }
 {
     match s {
-        Stmt::Eval(e) => lower_effect(e.get(), out),
-        Stmt::Block(variables, items) => {
-            lower_statements(variables.as_slice(), exits, out)?;
-            lower_statements(items.as_slice(), exits, out)
+        Stmt::Eval(e) => {
+            expression(e.get(), addresses, out)?;
+            out.own_dropping(has_value(e.get()))
         }
-        Stmt::Variable(i) => out.push_all(&[
+        Stmt::Block(variables, items) => {
+            out.push(Piece::Nothing)?;
+            statements(variables.as_slice(), exits, addresses, out)?;
+            statements(items.as_slice(), exits, addresses, out)
+        }
+        Stmt::Variable(i) => out.ops(&[
             BuildOp::Const { word: 0 },
             BuildOp::SetVariable { variable: *i },
             BuildOp::Drop,
         ]),
-        Stmt::If(test, a) => lower_if(test.get(), a.get(), exits, out),
-        Stmt::IfElse(test, a, b) => lower_if_else(test.get(), a.get(), b.get(), exits, out),
-        Stmt::While(test, a) => lower_while(test.get(), a.get(), out),
-        Stmt::Do(a, test) => lower_do(a.get(), test.get(), out),
-        Stmt::For(test, a) => lower_for(test.get(), a.get(), out),
-        Stmt::ForStep(test, step, a) => lower_for_step(test.get(), step.get(), a.get(), out),
-        Stmt::Switch(e, variables, items) => {
-            let selector = lower_selector(e.get(), out)?;
-            lower_statements(variables.as_slice(), exits, out)?;
-            lower_switch(items.as_slice(), selector, exits, out)
-        }
-        Stmt::Case(_) => out.push_label(),
-        Stmt::Default => out.push_label(),
-        Stmt::Break => out.push(BuildOp::Jump {
-            label: exits.on_break,
-        }),
-        Stmt::Continue => out.push(BuildOp::Jump {
-            label: exits.on_continue,
-        }),
-        Stmt::Return => out.push(BuildOp::ReturnZero),
-        Stmt::ReturnValue(e) => lower_then(e.get(), BuildOp::Return, out),
-        Stmt::Object(offset, words) => out.push(BuildOp::Clear {
+        Stmt::Object(offset, words) => out.op(BuildOp::Clear {
             offset: *offset,
             words: *words,
         }),
-        Stmt::Parameter(k, width) => push_parameter(*k, *width, out),
+        Stmt::Parameter(k, width) => {
+            let index = parameter_of(*k)?;
+            out.op(BuildOp::Parameter { index })?;
+            out.narrowing(*width)?;
+            out.ops(&[BuildOp::SetVariable { variable: *k }, BuildOp::Drop])
+        }
         Stmt::ParameterObject(k, width, offset) => {
-            push_parameter_object(*k, *width, *offset, out)
+            let index = parameter_of(*k)?;
+            out.ops(&[
+                BuildOp::FrameAddress { offset: *offset },
+                BuildOp::Parameter { index },
+            ])?;
+            out.narrowing(*width)?;
+            out.ops(&[BuildOp::Store { width: *width }, BuildOp::Drop])
+        }
+        Stmt::If(test, a) => {
+            let past = out.take_label()?;
+            expression(test.get(), addresses, out)?;
+            out.op(BuildOp::BranchZero { label: past })?;
+            statement(a.get(), exits, addresses, out)?;
+            out.op(BuildOp::Label { label: past })
+        }
+        Stmt::IfElse(test, a, b) => {
+            let join = out.take_join()?;
+            expression(test.get(), addresses, out)?;
+            out.op(BuildOp::BranchZero { label: join.other })?;
+            statement(a.get(), exits, addresses, out)?;
+            out.turn(join.end, join.other)?;
+            statement(b.get(), exits, addresses, out)?;
+            out.op(BuildOp::Label { label: join.end })
+        }
+        Stmt::While(test, a) => {
+            // a turn begins where the ways of a test would meet
+            let join = out.take_join()?;
+            let within = Exits {
+                on_break: join.other,
+                on_continue: join.end,
+            };
+            out.op(BuildOp::Label { label: join.end })?;
+            expression(test.get(), addresses, out)?;
+            out.op(BuildOp::BranchZero { label: join.other })?;
+            statement(a.get(), within, addresses, out)?;
+            out.turn(join.end, join.other)
+        }
+        Stmt::Do(a, test) => {
+            let turn = out.take_turn()?;
+            out.op(BuildOp::Label { label: turn.start })?;
+            statement(a.get(), turn.exits(), addresses, out)?;
+            out.op(BuildOp::Label { label: turn.next })?;
+            expression(test.get(), addresses, out)?;
+            out.op(BuildOp::BranchNonzero { label: turn.start })?;
+            out.op(BuildOp::Label { label: turn.end })
+        }
+        Stmt::For(test, a) => {
+            let turn = out.take_turn()?;
+            out.op(BuildOp::Label { label: turn.start })?;
+            expression(test.get(), addresses, out)?;
+            out.op(BuildOp::BranchZero { label: turn.end })?;
+            statement(a.get(), turn.exits(), addresses, out)?;
+            out.op(BuildOp::Label { label: turn.next })?;
+            out.turn(turn.start, turn.end)
+        }
+        Stmt::ForStep(test, step, a) => {
+            let turn = out.take_turn()?;
+            out.op(BuildOp::Label { label: turn.start })?;
+            expression(test.get(), addresses, out)?;
+            out.op(BuildOp::BranchZero { label: turn.end })?;
+            statement(a.get(), turn.exits(), addresses, out)?;
+            out.op(BuildOp::Label { label: turn.next })?;
+            expression(step.get(), addresses, out)?;
+            out.dropping(has_value(step.get()))?;
+            out.turn(turn.start, turn.end)
+        }
+        Stmt::Switch(e, variables, items) => {
+            let selector = selected(e.get(), addresses, out)?;
+            statements(variables.as_slice(), exits, addresses, out)?;
+            let within = Exits {
+                on_break: selector.end,
+                on_continue: exits.on_continue,
+            };
+            let mut inside = out.apart();
+            let default = cases(
+                items.as_slice(),
+                selector.value,
+                within,
+                addresses,
+                &mut inside,
+                out,
+            )?;
+            closed(default, selector.end, inside, out)
+        }
+        Stmt::Case(_) | Stmt::Default => {
+            let label = out.take_label()?;
+            out.op(BuildOp::Label { label })
+        }
+        Stmt::Break => out.op(BuildOp::Jump {
+            label: exits.on_break,
+        }),
+        Stmt::Continue => out.op(BuildOp::Jump {
+            label: exits.on_continue,
+        }),
+        Stmt::Return => out.op(BuildOp::ReturnZero),
+        Stmt::ReturnValue(e) => {
+            expression(e.get(), addresses, out)?;
+            out.op(BuildOp::Return)
         }
     }
 }
 
-// The ops of statements, one after the other.
-#[cycle(lower_statement)]
-fn lower_statements(list: &[Stmt], exits: Exits, out: &mut Ops<'_>) -> Result<(), AllocError>
-    requires { FitItems (items_of (map stmt_view list.now)) out.old }
-    ensures { OnOk result (out.new ≡ add_items (targets_of exits) (items_of (map stmt_view list.now)) out.old) }
+// The pieces of statements, one after another.
+#[cycle(statement)]
+#[tactic(auto, using(lowering_pieces::proofs::Lists::one_statement_more))]
+fn statements(
+    list: &[Stmt],
+    exits: Exits,
+    addresses: &Addresses<'_>,
+    out: &mut Pieces,
+) -> Result<(), AllocError>
+    ensures { OnOk result (
+        out.new ≡ walk_items (addresses_view addresses.now) (targets_of exits) (items_of (map stmt_view list.now))
+        out.old) }
 {
     for s in list {
-        lower_statement(s, exits, out)?;
+        statement(s, exits, addresses, out)?;
     }
     Ok(())
 }
 
-// The ops of `if`.
-#[cycle(lower_statement)]
-fn lower_if(test: &Expr, a: &Stmt, exits: Exits, out: &mut Ops<'_>) -> Result<(), AllocError>
-    requires { FitsStmt (node.If (expr_view test.now) (stmt_view a.now)) out.old }
-    ensures { OnOk result (
-        out.new ≡ add_stmt (targets_of exits) (node.If (expr_view test.now) (stmt_view a.now)) out.old) }
-{
-    let past = out.take_label();
-    lower_then(test, BuildOp::BranchZero { label: past }, out)?;
-    lower_statement(a, exits, out)?;
-    out.push(BuildOp::Label { label: past })
-}
-
-// The ops of `if` with `else`.
-#[cycle(lower_statement)]
-fn lower_if_else(
-    test: &Expr,
-    a: &Stmt,
-    b: &Stmt,
-    exits: Exits,
-    out: &mut Ops<'_>,
-) -> Result<(), AllocError>
-    requires { FitsStmt (node.IfElse (expr_view test.now) (stmt_view a.now) (stmt_view b.now)) out.old }
-    ensures { OnOk result (out.new ≡ add_stmt (targets_of exits)
-        (node.IfElse (expr_view test.now) (stmt_view a.now) (stmt_view b.now)) out.old) }
-{
-    let other = out.take_label();
-    let end = out.take_label();
-    lower_then(test, BuildOp::BranchZero { label: other }, out)?;
-    lower_statement(a, exits, out)?;
-    out.push_turn(end, other)?;
-    lower_statement(b, exits, out)?;
-    out.push(BuildOp::Label { label: end })
-}
-
-// The ops of `while`.
-#[cycle(lower_statement)]
-fn lower_while(test: &Expr, a: &Stmt, out: &mut Ops<'_>) -> Result<(), AllocError>
-    requires { FitsStmt (node.While (expr_view test.now) (stmt_view a.now)) out.old }
-    ensures { OnOk result ((to : Targets) →
-        out.new ≡ add_stmt to (node.While (expr_view test.now) (stmt_view a.now)) out.old) }
-{
-    let end = out.take_label();
-    let start = out.take_label();
-    let exits = Exits {
-        on_break: end,
-        on_continue: start,
-    };
-    out.push(BuildOp::Label { label: start })?;
-    lower_then(test, BuildOp::BranchZero { label: end }, out)?;
-    lower_statement(a, exits, out)?;
-    out.push_turn(start, end)
-}
-
-// The ops of `do`.
-#[cycle(lower_statement)]
-fn lower_do(a: &Stmt, test: &Expr, out: &mut Ops<'_>) -> Result<(), AllocError>
-    requires { FitsStmt (node.Do (stmt_view a.now) (expr_view test.now)) out.old }
-    ensures { OnOk result ((to : Targets) →
-        out.new ≡ add_stmt to (node.Do (stmt_view a.now) (expr_view test.now)) out.old) }
-{
-    let turn = out.take_turn();
-    out.push(BuildOp::Label { label: turn.start })?;
-    lower_statement(a, turn.exits(), out)?;
-    out.push(BuildOp::Label { label: turn.next })?;
-    lower_then(test, BuildOp::BranchNonzero { label: turn.start }, out)?;
-    out.push(BuildOp::Label { label: turn.end })
-}
-
-// The ops of `for` without a step.
-#[cycle(lower_statement)]
-fn lower_for(test: &Expr, a: &Stmt, out: &mut Ops<'_>) -> Result<(), AllocError>
-    requires { FitsStmt (node.For (expr_view test.now) (stmt_view a.now)) out.old }
-    ensures { OnOk result ((to : Targets) →
-        out.new ≡ add_stmt to (node.For (expr_view test.now) (stmt_view a.now)) out.old) }
-{
-    let turn = out.take_turn();
-    out.push(BuildOp::Label { label: turn.start })?;
-    lower_then(test, BuildOp::BranchZero { label: turn.end }, out)?;
-    lower_statement(a, turn.exits(), out)?;
-    out.push(BuildOp::Label { label: turn.next })?;
-    out.push_turn(turn.start, turn.end)
-}
-
-// The ops of `for`.
-#[cycle(lower_statement)]
-fn lower_for_step(test: &Expr, step: &Expr, a: &Stmt, out: &mut Ops<'_>) -> Result<(), AllocError>
-    requires { FitsStmt (node.ForStep (expr_view test.now) (expr_view step.now) (stmt_view a.now)) out.old }
-    ensures { OnOk result ((to : Targets) → out.new ≡ add_stmt to
-        (node.ForStep (expr_view test.now) (expr_view step.now) (stmt_view a.now)) out.old) }
-{
-    let turn = out.take_turn();
-    out.push(BuildOp::Label { label: turn.start })?;
-    lower_then(test, BuildOp::BranchZero { label: turn.end }, out)?;
-    lower_statement(a, turn.exits(), out)?;
-    out.push(BuildOp::Label { label: turn.next })?;
-    lower_effect(step, out)?;
-    out.push_turn(turn.start, turn.end)
-}
-
-// The value of a switch goes to a variable, which the tests of the cases compare.
-fn lower_selector(e: &Expr, out: &mut Ops<'_>) -> Result<Selector, AllocError>
-    requires built { IsBuilt (expr_view e.now) }
-    requires few { PassesFew (expr_view e.now) }
-    requires labels { out.old.label + 1 + labels_in (expr_view e.now) < 2 ^ 32 }
-    requires variables { out.old.variable + 1 + temps_in (expr_view e.now) < 2 ^ 32 }
-    ensures selector { IfOk result (λ s. s ≡ record { end = out.old.label; value = out.old.variable }) }
-    ensures ops { OnOk result (out.new ≡ add_selector (expr_view e.now) out.old) }
-{
-    let end = out.take_label();
-    let value = out.take_variable();
-    lower_then(e, BuildOp::SetVariable { variable: value }, out)?;
-    out.push(BuildOp::Drop)?;
-    Ok(Selector { end, value })
-}
-
-// The ops of a switch behind its variables: the tests of its cases, and its items.
-#[cycle(lower_statement)]
-fn lower_switch(
-    items: &[Stmt],
-    selector: Selector,
-    exits: Exits,
-    out: &mut Ops<'_>,
-) -> Result<(), AllocError>
-    requires { FitItems (items_of (map stmt_view items.now)) out.old }
-    ensures { OnOk result (out.new ≡ add_switch
-        (record { on_break = selector.end; on_continue = exits.on_continue }) selector.value
-        (items_of (map stmt_view items.now)) out.old) }
-{
-    let within = Exits {
-        on_break: selector.end,
-        on_continue: exits.on_continue,
-    };
-    let mut inside = out.apart();
-    let label = lower_cases(items, selector.value, within, &mut inside, out)?;
-    out.push(BuildOp::Jump { label })?;
-    out.append(inside)?;
-    out.push(BuildOp::Label {
-        label: selector.end,
-    })
-}
-
-// The ops of the items of a switch, apart, and the tests of its cases. The label of its default, or what is behind the
-// switch where it has none.
-#[cycle(lower_statement)]
-fn lower_cases(
+// The pieces of the items of a switch, apart, and the tests of its cases. The label of its default, or what is behind
+// the switch where it has none.
+#[cycle(statement)]
+#[tactic(auto, using(lowering_pieces::proofs::Lists::one_case_more))]
+fn cases(
     items: &[Stmt],
     value: u32,
     exits: Exits,
-    inside: &mut Ops<'_>,
-    out: &mut Ops<'_>,
+    addresses: &Addresses<'_>,
+    inside: &mut Pieces,
+    out: &mut Pieces,
 ) -> Result<u32, AllocError>
-    requires { FitItems (items_of (map stmt_view items.now)) inside.old }
-    ensures label { IfOk result (λ label.
-        label ≡ default_label (items_of (map stmt_view items.now)) inside.old.label exits.on_break) }
-    ensures tests { OnOk result (out.new ≡ add (test_ops (items_of
-        (map stmt_view items.now)) inside.old.label value) out.old) }
-    ensures ops { OnOk result (
-        inside.new ≡ add_items (targets_of exits) (items_of (map stmt_view items.now)) inside.old) }
+    ensures label { IfOk result (λ label. label ≡ or_else exits.on_break (walk_default (addresses_view addresses.now)
+        (targets_of exits) (items_of (map stmt_view items.now)) inside.old None)) }
+    ensures tests { OnOk result (out.new ≡ walk_tests (addresses_view addresses.now) (targets_of exits) (items_of
+        (map stmt_view items.now)) inside.old value out.old) }
+    ensures pieces { OnOk result (inside.new ≡ walk_items (addresses_view addresses.now) (targets_of exits)
+        (items_of (map stmt_view items.now)) inside.old) }
 {
     let mut default = None;
     for s in items {
-        push_test(s, value, inside.label, out)?;
+        test(s, value, inside.label, out)?;
         default = default.or(default_at(s, inside.label));
-        lower_statement(s, exits, inside)?;
+        statement(s, exits, addresses, inside)?;
     }
     Ok(default.unwrap_or(exits.on_break))
 }
 
 // The test of a case that stands at this label.
-fn push_test(s: &Stmt, value: u32, label: u32, out: &mut Ops<'_>) -> Result<(), AllocError>
-    ensures { OnOk result (out.new ≡ add (case_ops (stmt_view s.now) label value) out.old) }
+fn test(s: &Stmt, value: u32, label: u32, out: &mut Pieces) -> Result<(), AllocError>
+    ensures { OnOk result (out.new ≡ put (plain (case_ops (stmt_view s.now) label value)) out.old) }
 {
     match case_value(s) {
-        Some(word) => out.push_all(&[
+        Some(word) => out.ops(&[
             BuildOp::GetVariable { variable: value },
             BuildOp::Const { word },
             BuildOp::Bin {

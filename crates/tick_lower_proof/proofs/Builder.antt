@@ -11,7 +11,8 @@ use Rattle.icode_ir.specs.declared.build_op.BuildOp.{BuildOp}
 use Rattle.icode_ir.specs.declared.build_op.BuildOp.TheVariants.{Const, Bin, Un, Enter, Leave, GetVariable, SetVariable}
 use Rattle.icode_ir.specs.declared.build_op.BuildOp.TheVariants.{Drop, Pick, Nip, Load, Store, Label, Jump, BranchZero}
 use Rattle.icode_ir.specs.declared.build_op.BuildOp.TheVariants.{BranchNonzero, Return, ReturnZero, Sys, Run}
-use Rattle.icode_ir.specs.declared.build_op.BuildOp.TheVariants.{FrameAddress, Clear, Parameter, Call, CallNumber}
+use Rattle.icode_ir.specs.declared.build_op.BuildOp.TheVariants.{FrameAddress, Clear, Parameter, Call, CallNumber, New}
+use Rattle.icode_ir.specs.declared.build_op.BuildOp.TheVariants.{Put}
 
 pub record View : Type 0 where
   pub place : ℕ
@@ -111,6 +112,8 @@ issued (CallNumber n) v =
     passed_ops 0 (taken n v.operands []) ++ op.CallNumber (picked n v.operands) n ∷ op.Result v.next ∷ []
 issued Return v = op.Return (top v.operands) ∷ []
 issued (Sys kind) v = op.Sys kind v.next (top v.operands) ∷ []
+issued (New address kind captures) v = op.New v.next address kind captures ∷ []
+issued (Put i) v = op.Put i (top v.operands) ∷ []
 issued _ v = []
 
 -- a new operand under one op at a place, and one op with these operands left
@@ -152,6 +155,8 @@ after_op (Enter n m) v = record v {
   labels = v.labels + m;
 }
 after_op Leave v = record v { bodies = outer v.bodies }
+after_op (New address kind captures) v = pushed v.place v.operands v
+after_op (Put i) v = with_operands (below v.operands) v
 after_op _ v = v
 
 abbrev pub after_ops : List BuildOp → View → View

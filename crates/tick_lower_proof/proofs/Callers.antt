@@ -9,7 +9,6 @@ use Rattle.icode_ir.specs.declared.build_op.BuildOp.TheVariants as build
 use Rattle.typed_tree.specs.declared.expression.Answer.{Answer}
 use Rattle.typed_tree.specs.declared.expression.Answer.TheVariants as answer
 use Rattle.typed_tree.specs.Sizes as rule
-use Rattle.typed_tree.specs.Nodes as node
 use Rattle.typed_tree.specs.Nodes.{Expr, Call, Args, NoArg, Arg, has_value, count}
 use Rattle.staged_meaning.specs.Size.{labels_in, temps_in, temps_in_args}
 use Rattle.staged_meaning.specs.Scope.{Scope, AreScoped}
@@ -21,9 +20,9 @@ use Rattle.staged_meaning.specs.Calls.{IsCallee}
 use Rattle.icode_meaning.specs.Costs.{least_of, most_of}
 use Rattle.icode_meaning.specs.State.{Program, Frame, State, Running, Stuck, Log, nothing, argued}
 use Rattle.icode_meaning.specs.Steps.{paid, moved_on, uses_on, act, checked, call_at, back}
-use Rattle.tick_lower_proof.specs.Laws.{row_for}
-use Rattle.tick_lower_spec.specs.Lower.{Addresses, expr_ops, args_ops, dropping_call}
-use Rattle.tick_lower_proof.proofs.Machine.{Goes, goes_more, Here, Regs, frame_at, at_op, put, put_same, IsSet}
+use Rattle.tick_lower_proof.specs.Laws.{row_for, HasProgram}
+use Rattle.tick_lower_spec.specs.Lower.{Addresses, expr_filled, args_filled, dropping_call}
+use Rattle.tick_lower_proof.proofs.Machine.{Goes, goes_more, Here, Regs, frame_at, put, put_same, IsSet}
 use Rattle.tick_lower_proof.proofs.Stacks.{IsSound}
 use Rattle.tick_lower_proof.proofs.Builder.{View, top, taken, dropped, passed_ops, after_op, after_ops, after_append}
 use Rattle.tick_lower_proof.proofs.Builder.{Has, Stands, stands_front, stands_back, picked}
@@ -33,7 +32,10 @@ use Rattle.tick_lower_proof.proofs.Registers.{AreVars, Within, AreHeld, put_vars
 use Rattle.tick_lower_proof.proofs.Standing.{base_of, Site, floor_of, Fits, At, IsBack, Leaves, ExprRuns, Part, at_less}
 use Rattle.tick_lower_proof.proofs.Standing.{at_from, back_from, later_at, stands_at, spend_run, value_run, IsOutset}
 use Rattle.tick_lower_proof.proofs.Exprs.{one_run}
-use Rattle.tick_lower_proof.proofs.Standing.{outset_later}
+use Rattle.tick_lower_proof.proofs.Standing.{outset_later, outset_at}
+use Rattle.typed_tree.specs.declared.expression.CaptureKind.{CaptureKind}
+use Rattle.limits.specs.declared.program.TheConstants.{SIZE_LIMIT}
+use Rattle.staged_meaning.specs.Program.{Program as Source, tick_size}
 
 -- operands that were pushed in this order lie on others, and so do values in their registers
 abbrev pub onto : List ℕ → List ℕ → List ℕ
@@ -166,6 +168,11 @@ pass_all P s f r rest (a ∷ rs) (x ∷ xs) k p arguments g set e has go =
       subst (λ z. Has f.function.ops z rest) q more.1,
     )
 
+-- registers below one
+abbrev pub Under : ℕ → List ℕ → Type 0
+Under n [] = Unit {0}
+Under n (r ∷ rs) = (r < n) × Under n rs
+
 -- what was pushed for arguments: registers in order, which hold the values of a list
 pub record ArgsLeave (site : Site) (from : From) (scope : Scope) (v v1 : View) (stack : List (ℕ × ℕ))
     (spare credit n : ℕ) (vs : List ℕ) (w : World) : Type 0 where
@@ -173,6 +180,7 @@ pub record ArgsLeave (site : Site) (from : From) (scope : Scope) (v v1 : View) (
   pub many : length registers ≡ n
   pub values : length vs ≡ n
   pub operands : v1.operands ≡ onto registers v.operands
+  pub under : Under v1.next registers
   pub fits : Fits site v1 stack
   pub at : At site from scope v1.place (paired registers vs stack) spare (credit + 128 * n) 0 w
 
@@ -181,11 +189,12 @@ abbrev pub ArgsRun : Site → Scope → Args → Type 0
 ArgsRun site scope args =
     AreScoped scope args → (l t : ℕ) → site.named ≤ t → t + temps_in_args args ≤ site.size →
     (v : View) (stack : List (ℕ × ℕ)) → Fits site v stack →
-    Stands site.call.function.ops (args_ops site.addresses args l t) v →
+    Stands site.call.function.ops (args_filled site.holes site.addresses args l t) v →
     (from : From) (spare credit : ℕ) (w : World) → IsOutset site from →
     At site from scope v.place stack spare credit 0 w →
     Follows site.machine from
-    (ArgsLeave site from scope v (after_ops (args_ops site.addresses args l t) v) stack spare credit (count args))
+    (ArgsLeave site from scope v (after_ops (args_filled site.holes site.addresses args l t) v) stack spare credit
+    (count args))
     (IsBack site from) (eval_args site.context args w)
 
 module _ (site : Site) (scope : Scope) (inside : Within scope site.named) where
@@ -196,6 +205,7 @@ module _ (site : Site) (scope : Scope) (inside : Within scope site.named) where
         many = refl;
         values = refl;
         operands = refl;
+        under = tt;
         fits = fits;
         at =
             at_less site from scope v.place stack spare credit 0 spare (credit + 128 * 0) 0 w (omega arith)
@@ -206,8 +216,8 @@ module _ (site : Site) (scope : Scope) (inside : Within scope site.named) where
       ArgsRun site scope (Arg a args)
   more_args a args part is run ok l t st tn v stack fits at from spare credit w lt z =
       let code = site.call.function.ops in
-      let ao = expr_ops site.addresses a l t in
-      let ro = args_ops site.addresses args (l + labels_in a) (t + temps_in a) in
+      let ao = expr_filled site.holes site.addresses a l t in
+      let ro = args_filled site.holes site.addresses args (l + labels_in a) (t + temps_in a) in
       let v1 = after_ops ao v in
       let v2 = after_ops ro v1 in
       let r = top v1.operands in
@@ -230,6 +240,7 @@ module _ (site : Site) (scope : Scope) (inside : Within scope site.named) where
         many = ap suc y.many;
         values = ap suc y.values;
         operands = y.operands ∙ ap (onto y.registers) pushed_is;
+        under = (y.fits.below.1, y.under);
         fits = record { bodies_are = y.fits.bodies_are; free = y.fits.free; below = y.fits.below.2 };
         at = at_less site from scope v2.place (paired y.registers vs ((r, x) ∷ stack)) (spare + 1)
             (credit + 128 + 128 * n) 0 spare (credit + 128 * suc n) 0 w2 (omega arith) (omega arith) y.at;
@@ -246,24 +257,28 @@ pub record Answered (P : Program) (from : From) (waiting : List Frame) (w0 : Wor
   pub high : log.most + 512 * w.units ≤ from.log.most + 512 * from.units + 64
 
 -- Calls of functions of the text with fewer units than a limit are followed, from the state behind their op: an
--- instruction of it stands for the call's unit, and it may have cost 128 beyond what the units so far allow. And the
--- rows of the machine are those of these functions.
-pub record CallsFollow (P : Program) (d : Addresses) (functions : List node.Function)
+-- instruction of it stands for the call's unit, and it may have cost 128 beyond what the units so far allow. The
+-- rows of the machine are those of the program's functions, and it has the program.
+pub record CallsFollow (P : Program) (d : Addresses) (program : Source) (ticks : List (List CaptureKind))
     (call : ℕ → List ℕ → World → Result ℕ) (limit : ℕ) : Type 0 where
   pub by : (from : From) (o : Op) (number : ℕ) (vs : List ℕ) (w : World) (frame : Frame) (waiting : List Frame)
-      (g : Log) → IsCallee functions number (length vs) → w.units < limit → IsSound from.state →
+      (g : Log) → IsCallee program.functions number (length vs) → w.units < limit → IsSound P from.state →
       g.shared ≡ w.shared →
       Goes P from.state (call_at o (P.function_at (d.function_at number)) frame (argued_all 0 vs nothing) waiting g) →
       w.units ≤ from.units → from.units + from.log.least + 1 ≤ w.units + g.least + least_of o →
       g.most + most_of o + 512 * w.units ≤ from.log.most + 512 * from.units + 128 →
       Follows P from (Answered P from (moved_on frame ∷ waiting) w) (λ x w1. ⊥) (call number vs w)
-  pub rows : (number : ℕ) → P.row number ≡ row_for (d.function_at number) (numbered number functions)
+  pub rows : (number : ℕ) → P.row number ≡ row_for (d.function_at number) (numbered number program.functions)
+  pub has : HasProgram P d program ticks
+  -- the sums of sizes that are made are words
+  pub few : (tick : ℕ) (kinds : List CaptureKind) → slice_get ticks tick ≡ Some kinds →
+      tick_size (slice_get program.ticks tick) + SIZE_LIMIT * length kinds < 4294967296
 
 module _ (site : Site) (scope : Scope) (inside : Within scope site.named)
-    (calls : CallsFollow site.machine site.addresses site.context.program.functions site.context.call site.limit) where
+    (calls : CallsFollow site.machine site.addresses site.context.program site.ticks site.context.call site.limit) where
   -- behind the call its answer is taken, and the node's unit is spent
   answer_run : (from : From) (a : Answer) (p d x : ℕ) (v : View) (stack : List (ℕ × ℕ)) (w : World) → v.place ≡ suc p →
-      top v.operands ≡ d → At site from scope (suc p) ((d, x) ∷ stack) 3 0 68 w →
+      top v.operands ≡ d → At site from scope (suc p) ((d, x) ∷ stack) 3 0 84 w →
       Follows site.machine from (Leaves (rule.is_value a) site from scope (after_ops (dropping_call a) v) stack 0 0)
       (IsBack site from) (spend (left_by a x) w)
   answer_run from answer.Value p d x v stack w e f z =
@@ -273,9 +288,9 @@ module _ (site : Site) (scope : Scope) (inside : Within scope site.named)
       (subst (λ r. Follows site.machine from
       (λ y w1. At site from scope (suc p) ((r, y) ∷ stack) (0 + 1) (0 + 128) 0 w1) (IsBack site from) (spend x w))
       (sym f)
-      (value_run site from scope x (suc p) d stack 3 0 68 0 0 w z (omega arith) (omega arith) (omega arith)))
+      (value_run site from scope x (suc p) d stack 3 0 84 0 0 w z (omega arith) (omega arith) (omega arith)))
   answer_run from answer.Void p d x v stack w e f z =
-      let under : At site from scope (suc p) stack 3 0 68 w =
+      let under : At site from scope (suc p) stack 3 0 84 w =
       record {
         regs = z.regs;
         log = z.log;
@@ -290,7 +305,7 @@ module _ (site : Site) (scope : Scope) (inside : Within scope site.named)
       let none : ℕ = 0 in
       subst (λ q. Follows {A = ℕ} site.machine from (λ y w1. At site from scope q stack 0 0 0 w1) (IsBack site from)
       (spend none w)) (sym e)
-      (spend_run site from scope (λ y w1. At site from scope (suc p) stack 0 0 0 w1) none (suc p) stack 3 0 68 0 0 0 w
+      (spend_run site from scope (λ y w1. At site from scope (suc p) stack 0 0 0 w1) none (suc p) stack 3 0 84 0 0 0 w
       under (omega arith) (omega arith) (omega arith) (λ w1 fewer h. h))
 
   -- what an expression leaves, seen from an earlier place
@@ -341,11 +356,11 @@ module _ (site : Site) (scope : Scope) (inside : Within scope site.named)
       let code = site.call.function.ops in
       let n = count args in
       let address = site.addresses.function_at number in
-      let ao = args_ops site.addresses args l t in
+      let ao = args_filled site.holes site.addresses args l t in
       let co = build.Call address n ∷ dropping_call a in
       let v1 = after_ops ao v in
       let v2 = after_op (build.Call address n) v1 in
-      let later : From = record { state = at_op site.call v.place z.regs z.log; units = w.units; log = z.log } in
+      let later : From = outset_at site v.place z.regs z.log w.units in
       let l1 = later_at site from scope v.place stack spare credit w z in
       let lt1 = outset_later site from later spare credit l1 lt in
       let z0 = stands_at site scope v.place stack z.regs z.log w z.vars z.held z.shared_is in

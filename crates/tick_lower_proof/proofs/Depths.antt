@@ -1,6 +1,6 @@
 -- The machine follows calls that are nested to any depth: by induction over the depth, in each call with what stands
 -- round the body of its own function.
-use Rattle.std.proofs.Common.{◌≡◌, ℕ, zero, suc, ◌+◌, ◌*◌, ◌%◌, ◌<◌, ◌≤◌, List, [], ◌∷◌, length, Option, Some}
+use Rattle.std.proofs.Common.{◌≡◌, ℕ, zero, suc, ◌+◌, ◌*◌, ◌<◌, ◌≤◌, List, [], ◌∷◌, length, Option, Some}
 use Rattle.std.proofs.Common.{None, refl}
 use Rattle.std.proofs.Common.{sym, ap, ◌∙◌, ◌≢◌, subst, arith}
 use Rattle.std.specs.Prelude.{if◌then◌else◌}
@@ -21,7 +21,7 @@ use Rattle.staged_meaning.specs.Meaning.{Context, around, call_callee}
 use Rattle.icode_meaning.specs.Costs.{least_of, most_of}
 use Rattle.icode_meaning.specs.State.{Function, Program, Frame, Log, nothing, argued}
 use Rattle.icode_meaning.specs.Steps.{paid, moved_on, goes_on, begun, entered, unless, call_at}
-use Rattle.tick_lower_proof.specs.Laws.{row_for}
+use Rattle.tick_lower_proof.specs.Laws.{row_for, HasProgram}
 use Rattle.tick_lower_spec.specs.Lower.{Addresses}
 use Rattle.tick_lower_proof.proofs.Machine.{Goes}
 use Rattle.tick_lower_proof.proofs.Plain.{IsPlainAt, goes_plain}
@@ -31,6 +31,10 @@ use Rattle.tick_lower_proof.proofs.Callers.{argued_all, Answered, CallsFollow}
 use Rattle.tick_lower_proof.proofs.NumberCalls.{callee_is}
 use Rattle.tick_lower_proof.proofs.Calls.{IsCode, body_run}
 use Rattle.tick_lower_proof.proofs.Callees.{callee, callee_run}
+use Rattle.typed_tree.specs.declared.expression.CaptureKind.{CaptureKind}
+use Rattle.std.specs.Prelude.{slice_get}
+use Rattle.limits.specs.declared.program.TheConstants.{SIZE_LIMIT}
+use Rattle.staged_meaning.specs.Program.{tick_size}
 
 -- the machine has a function of the text at its address, with its code
 pub record IsHeld (P : Program) (d : Addresses) (number : ℕ) (function : node.Function) : Type 0 where
@@ -41,13 +45,17 @@ pub record IsHeld (P : Program) (d : Addresses) (number : ℕ) (function : node.
   pub object_is : has.object ≡ function.object
 
 -- and each of these functions, all of which are ready, with its row
-pub record AreHeld (P : Program) (d : Addresses) (functions : List node.Function) : Type 0 where
-  pub at : (number : ℕ) (function : node.Function) → numbered number functions ≡ Some function →
-      IsHeld P d number function
-  pub ready : (number : ℕ) (function : node.Function) → numbered number functions ≡ Some function →
-      IsReadyIn functions function
-  pub rows : (number : ℕ) → P.row number ≡ row_for (d.function_at number) (numbered number functions)
-  pub whole : IsWhole P
+pub record AreHeld (P : Program) (d : Addresses) (program : meaning.Program) (ticks : List (List CaptureKind)) : Type 0
+  where
+    pub at : (number : ℕ) (function : node.Function) → numbered number program.functions ≡ Some function →
+        IsHeld P d number function
+    pub ready : (number : ℕ) (function : node.Function) → numbered number program.functions ≡ Some function →
+        IsReadyIn program.functions ticks function
+    pub rows : (number : ℕ) → P.row number ≡ row_for (d.function_at number) (numbered number program.functions)
+    pub has : HasProgram P d program ticks
+    pub few : (tick : ℕ) (kinds : List CaptureKind) → slice_get ticks tick ≡ Some kinds →
+        tick_size (slice_get program.ticks tick) + SIZE_LIMIT * length kinds < 4294967296
+    pub whole : IsWhole P
 
 -- what is passed at a number
 argued_at : (k x : ℕ) (f : ℕ → Option ℕ) (j : ℕ) → j ≡ k → argued k x f j ≡ Some x
@@ -75,22 +83,24 @@ passed_is : (xs : List ℕ) (j : ℕ) → j < length xs → argued_all 0 xs noth
 passed_is xs j lt = passed_at xs 0 nothing j j lt (omega arith)
 
 -- no function is compiled as a call is made
-none_before : (o : Op) (fn : Function) (frame : Frame) (arguments : ℕ → Option ℕ) (waiting : List Frame) (g : Log) →
-    IsPlainAt (call_at o (Some fn) frame arguments waiting g) → g.shared.compiled ≡ []
-none_before o fn frame arguments waiting g h =
+none_before : (P : Program) (o : Op) (fn : Function) (frame : Frame) (arguments : ℕ → Option ℕ) (waiting : List Frame)
+    (g : Log) →
+    IsPlainAt P (call_at o (Some fn) frame arguments waiting g) → g.shared.bodies ≡ []
+none_before P o fn frame arguments waiting g h =
     by (limit_trap fn.charge fn.object g.shared) h
   where
     by : (trap : Option TrapKind) →
-        IsPlainAt (unless trap (paid o g)
-        (goes_on (begun fn arguments) (moved_on frame ∷ waiting) (entered fn (paid o g)))) → g.shared.compiled ≡ []
+        IsPlainAt P (unless trap (paid o g)
+        (goes_on (begun fn arguments) (moved_on frame ∷ waiting) (entered fn (paid o g)))) → g.shared.bodies ≡ []
     by None k = k.none_compiled
     by (Some kind) k = k.none_compiled
 
-module _ (P : Program) (d : Addresses) (program : meaning.Program) (held : AreHeld P d program.functions) where
+module _ (P : Program) (d : Addresses) (program : meaning.Program) (ticks : List (List CaptureKind))
+    (held : AreHeld P d program ticks) where
   -- a call, where those in it are followed
-  call_next : (turns n : ℕ) → n ≤ turns → CallsFollow P d program.functions (meaning.call_at program turns n) n →
+  call_next : (turns n : ℕ) → n ≤ turns → CallsFollow P d program ticks (meaning.call_at program turns n) n →
       (from : From) (o : Op) (number : ℕ) (vs : List ℕ) (w : World) (frame : Frame) (waiting : List Frame) (g : Log) →
-      IsCallee program.functions number (length vs) → w.units < suc n → IsSound from.state → g.shared ≡ w.shared →
+      IsCallee program.functions number (length vs) → w.units < suc n → IsSound P from.state → g.shared ≡ w.shared →
       Goes P from.state (call_at o (P.function_at (d.function_at number)) frame (argued_all 0 vs nothing) waiting g) →
       w.units ≤ from.units → from.units + from.log.least + 1 ≤ w.units + g.least + least_of o →
       g.most + most_of o + 512 * w.units ≤ from.log.most + 512 * from.units + 128 →
@@ -105,26 +115,35 @@ module _ (P : Program) (d : Addresses) (program : meaning.Program) (held : AreHe
       let c = around program turns inner function.object in
       let passed = argued_all 0 vs nothing in
       let go1 = subst (λ f. Goes P from.state (call_at o f frame passed waiting g)) h.is go in
-      let none : w.shared.compiled ≡ [] =
-      ap (λ s. s.compiled) (sym same) ∙ none_before o fn frame passed waiting g (goes_plain go1 sound.plain) in
-      let found : callee_at program w.shared.compiled number ≡ Some (Static function) =
+      let none : w.shared.bodies ≡ [] =
+      ap (λ s. s.bodies) (sym same) ∙ none_before P o fn frame passed waiting g (goes_plain go1 sound.plain) in
+      let found : callee_at program w.shared.bodies number ≡ Some (Static function) =
       ap (λ z. callee_at program z number) none ∙ callee_is program number ∙ ap static_callee called.is in
       subst (λ z. Follows P from (Answered P from (moved_on frame ∷ waiting) w) (λ x w1. ⊥)
       (call_callee program turns inner number z vs w)) (sym found)
-      (callee_run P c d frame waiting fn function vs passed h.code h.charge_is h.object_is n le held.whole from w g o
+      (callee_run P c d ticks frame waiting fn function vs passed h.code h.charge_is h.object_is n le held.whole from w
+      g o
       (sym h.object_is) (omega (arith, lt)) sound same go1 less low high
       (λ later w1 on e1 z.
-      body_run P c d (callee P c d frame waiting fn function vs passed h.code h.charge_is h.object_is n le held.whole)
+      body_run P c d ticks (callee P c d ticks frame waiting fn function vs passed h.code h.charge_is h.object_is n le
+      held.whole)
       function
       h.code n le r r.frames deeper later w1 on
       (λ j hi. passed_is vs j (omega (arith, hi, called.parameters)) ∙ ap (λ xs. Some (argument xs j)) (sym e1)) z))
 
   -- calls that are nested less than so deep, with fewer units than that
   pub calls_at : (turns depth : ℕ) → depth ≤ turns →
-      CallsFollow P d program.functions (meaning.call_at program turns depth) depth
+      CallsFollow P d program ticks (meaning.call_at program turns depth) depth
   calls_at turns zero le = record {
     by = λ from o number vs w frame waiting g called lt sound same go less low high. absurd (omega (arith, lt));
     rows = held.rows;
+    has = held.has;
+    few = held.few;
   }
   calls_at turns (suc n) le =
-      record { by = call_next turns n (omega arith) (calls_at turns n (omega arith)); rows = held.rows }
+      record {
+        by = call_next turns n (omega arith) (calls_at turns n (omega arith));
+        rows = held.rows;
+        has = held.has;
+        few = held.few;
+      }

@@ -1,13 +1,13 @@
 -- The staged machine that has the program's functions follows the meaning.
-use Rattle.std.proofs.Common.{sym, subst}
+use Rattle.std.proofs.Common.{sym, subst, arith}
 use Rattle.tick_lower_proof.specs.Laws.{LoweringFollows}
 use Rattle.tick_lower_proof.proofs.FunctionOps.{has_code}
 use Rattle.tick_lower_proof.proofs.Whole.{follows_at_cost}
 use Rattle.tick_lower_proof.proofs.Calls.{IsCode}
 
 pub lowering : LoweringFollows
-lowering machine d program input main ready stands held =
-    follows_at_cost machine d program input main ready.main
+lowering machine d program ticks input main ready stands held has =
+    follows_at_cost machine d program ticks input main ready.main
     (record {
       at = λ number function is.
           let h = held.at number function is in
@@ -22,6 +22,11 @@ lowering machine d program input main ready stands held =
           };
       ready = ready.functions;
       rows = held.rows;
+      has = has;
+      few = λ tick kinds is.
+          let small = ready.sizes tick in
+          let many = ready.captures tick kinds is in
+          omega (arith, small, many);
       whole = record { at = held.whole };
     })
     ready.no_parameters

@@ -1,7 +1,9 @@
 pub mod Machine
+pub mod Smalls
 pub mod Plain
 pub mod Stacks
 pub mod Builder
+pub mod Makings
 pub mod Follow
 pub mod Registers
 pub mod Standing
@@ -28,6 +30,11 @@ pub mod Stores
 pub mod Posts
 pub mod Callers
 pub mod NumberCalls
+pub mod Ticks
+pub mod TickNode
+pub mod TickOps
+pub mod TickExpr
+pub mod Variables
 pub mod Expressions
 pub mod Stmts
 pub mod Trees

@@ -1,13 +1,14 @@
 -- The machine follows the call of a function by its number.
-use Rattle.std.proofs.Common.{◌≡◌, ℕ, zero, suc, ◌+◌, ◌-◌, ◌*◌, ◌<◌, ◌≤◌, List, [], ◌∷◌, ◌++◌, length, Option, Some}
+use Rattle.std.proofs.Common.{◌≡◌, ℕ, zero, suc, ◌+◌, ◌-◌, ◌*◌, ◌≤◌, List, [], ◌∷◌, ◌++◌, length, Option, Some}
 use Rattle.std.proofs.Common.{None, Bool, true, false, refl, sym, ap, ◌∙◌, subst, arith}
 use Rattle.std.specs.Prelude.{nat_eq, nat_le, if◌then◌else◌, ◌&&◌}
-use Rattle.std.proofs.lemmas.Bool.Decides.{nat_tests, eqb_tells}
+use Rattle.std.proofs.lemmas.Bool.Decides.{nat_tests}
 use Rattle.std.proofs.lemmas.Option.{slice_get_past}
-use Rattle.host_edge.specs.declared.ending.TrapKind.{TrapKind}
 use Rattle.host_edge.specs.declared.ending.TrapKind.TheVariants.{BadCall}
+use Rattle.icode_ops.specs.declared.op.Op.{Op}
 use Rattle.icode_ops.specs.declared.op.Op.TheVariants as op
 use Rattle.icode_ir.specs.declared.build_op.BuildOp.TheVariants as build
+use Rattle.meaning_state.specs.Bodies.{Body}
 use Rattle.meaning_state.specs.Rows.{numbered}
 use Rattle.typed_tree.specs.declared.expression.Answer.{Answer}
 use Rattle.typed_tree.specs.Sizes as rule
@@ -20,22 +21,24 @@ use Rattle.staged_meaning.specs.Scope.{Scope}
 use Rattle.staged_meaning.specs.World.{World, Result, then_do, spend, unless}
 use Rattle.staged_meaning.specs.Expressions.{left_by, call_numbered}
 use Rattle.staged_meaning.specs.Meaning.{eval, eval_args}
-use Rattle.icode_meaning.specs.State.{Frame, State, Log, nothing}
+use Rattle.icode_meaning.specs.State.{Frame, Log, nothing}
 use Rattle.icode_meaning.specs.Steps.{paid, moved_on, call_at, call_row}
 use Rattle.icode_meaning.specs.Steps as machine
+use Rattle.icode_meaning.specs.State as state
+use Rattle.history.specs.Syntax.{Syntax}
+use Rattle.tick_lower_spec.specs.Lower.{Addresses}
 use Rattle.tick_lower_proof.specs.Laws.{row_for}
-use Rattle.tick_lower_spec.specs.Lower.{expr_ops, args_ops, dropping_call}
-use Rattle.tick_lower_proof.proofs.Machine.{Goes, Regs, frame_at, at_op}
+use Rattle.tick_lower_spec.specs.Lower.{expr_filled, args_filled, dropping_call}
+use Rattle.tick_lower_proof.proofs.Machine.{Goes, frame_at}
 use Rattle.tick_lower_proof.proofs.Plain.{goes_plain}
 use Rattle.tick_lower_proof.proofs.Builder.{View, top, taken, picked, passed_ops, after_op, after_ops, after_append}
 use Rattle.tick_lower_proof.proofs.Builder.{Has}
-use Rattle.tick_lower_proof.proofs.Builder.{Stands, stands_front, stands_back}
-use Rattle.tick_lower_proof.proofs.Follow.{From, Later, Follows, follows_then, then_follows, follows_from}
-use Rattle.tick_lower_proof.proofs.Registers.{Within, AreHeld}
-use Rattle.tick_lower_proof.proofs.Standing.{Site, IsOutset, outset_later, floor_of, Fits, At, IsBack, Leaves, ExprRuns}
-use Rattle.tick_lower_proof.proofs.Standing.{Part, at_less, back_from, later_at, stands_at}
+use Rattle.tick_lower_proof.proofs.Builder.{stands_front, stands_back}
+use Rattle.tick_lower_proof.proofs.Follow.{From, Follows, follows_then, then_follows, follows_from}
+use Rattle.tick_lower_proof.proofs.Registers.{Within}
+use Rattle.tick_lower_proof.proofs.Standing.{Site, IsOutset, outset_later, IsBack, Leaves, ExprRuns}
+use Rattle.tick_lower_proof.proofs.Standing.{Part, at_less, back_from, later_at, stands_at, outset_at}
 use Rattle.tick_lower_proof.proofs.Exprs.{one_run}
-use Rattle.tick_lower_proof.proofs.Steps.{trap_split}
 use Rattle.tick_lower_proof.proofs.Callers.{taken_all, picked_below, argued_all, held_under, held_set, any_op, pass_all}
 use Rattle.tick_lower_proof.proofs.Callers.{ArgsLeave, ArgsRun, Answered, CallsFollow, leaves_before}
 use Rattle.tick_lower_proof.proofs.Callers.{take_answer}
@@ -59,8 +62,39 @@ callee_is program n = by (nat_le n (length program.functions)) refl
     by true q = refl
     by false q = none_of (n - length program.functions) ∙ sym (ap static_callee (past n q))
 
+-- a call of a number is one of its row, where no function was compiled
+number_is : (P : state.Program) (d : Addresses) (functions : List node.Function) (o : Op) (number n : ℕ) (frame : Frame)
+    (arguments : ℕ → Option ℕ) (waiting : List Frame) (g : Log) → P.source.functions ≡ functions →
+    ((k : ℕ) → P.row k ≡ row_for (d.function_at k) (numbered k functions)) → g.shared.bodies ≡ [] →
+    machine.call_number P o number n frame arguments waiting g
+    ≡ call_row P o n (P.row number) frame arguments waiting g
+number_is P d functions o number n frame arguments waiting g source rows none =
+    by (nat_le number (length P.source.functions)) refl
+  where
+    none_of : (k : ℕ) → numbered {A = Body} k [] ≡ None
+    none_of zero = refl
+    none_of (suc k) = refl
+
+    past : (k : ℕ) → nat_le k (length functions) ≡ false → numbered k functions ≡ None
+    past zero q = refl
+    past (suc k) q = slice_get_past functions k (let e : length functions ≤ k = grind (arith, nat_tests, q) in e)
+
+    by : (b : Bool) → nat_le number (length P.source.functions) ≡ b →
+        (if b then call_row P o n (P.row number) frame arguments waiting g else
+        machine.call_compiled P o number (numbered (number - length P.source.functions) g.shared.bodies) n frame
+        arguments waiting g)
+        ≡ call_row P o n (P.row number) frame arguments waiting g
+    by true q = refl
+    by false q =
+        let no_row : P.row number ≡ None =
+        rows number ∙ ap (row_for (d.function_at number))
+        (past number (ap (λ fs. nat_le number (length fs)) (sym source) ∙ q)) in
+        ap (λ s. machine.call_compiled P o number s n frame arguments waiting g)
+        (ap (numbered (number - length P.source.functions)) none ∙ none_of (number - length P.source.functions))
+        ∙ sym (ap (λ r. call_row P o n r frame arguments waiting g) no_row)
+
 module _ (site : Site) (scope : Scope) (inside : Within scope site.named)
-    (calls : CallsFollow site.machine site.addresses site.context.program.functions site.context.call site.limit) where
+    (calls : CallsFollow site.machine site.addresses site.context.program site.ticks site.context.call site.limit) where
   abbrev functions : List node.Function
   functions = site.context.program.functions
 
@@ -68,7 +102,7 @@ module _ (site : Site) (scope : Scope) (inside : Within scope site.named)
   numbered_run : (later : From) (number n : ℕ) (vs : List ℕ) (w1 : World) (frame : Frame) (waiting : List Frame)
       (g : Log) (V : ℕ → World → Type 0) (next : ℕ → World → Result ℕ) (r : ℕ) →
       (let o = op.CallNumber r n in
-      length vs ≡ n → n ≤ 8 → IsOutset site later → w1.shared.compiled ≡ [] → g.shared ≡ w1.shared →
+      length vs ≡ n → n ≤ 8 → IsOutset site later → w1.shared.bodies ≡ [] → g.shared ≡ w1.shared →
       Goes site.machine later.state
       (call_row site.machine o n (site.machine.row number) frame (argued_all 0 vs nothing) waiting g) →
       w1.units ≤ later.units → later.units + later.log.least + 1 ≤ w1.units + g.least + 5 →
@@ -76,12 +110,12 @@ module _ (site : Site) (scope : Scope) (inside : Within scope site.named)
       ((x : ℕ) (w2 : World) → Answered site.machine later (moved_on frame ∷ waiting) w1 x w2 →
       Follows site.machine later V (IsBack site later) (next x w2)) →
       Follows site.machine later V (IsBack site later)
-      (unless (call_trap (callee_at site.context.program w1.shared.compiled number) (length vs)) w1
+      (unless (call_trap (callee_at site.context.program w1.shared.bodies number) (length vs)) w1
       (then_do (site.context.call number vs w1) next)))
   numbered_run later number n vs w1 frame waiting g V next r many few lt none o go less low high behind =
       let P = site.machine in
       let address = site.addresses.function_at number in
-      let found : callee_at site.context.program w1.shared.compiled number ≡ static_callee (numbered number functions) =
+      let found : callee_at site.context.program w1.shared.bodies number ≡ static_callee (numbered number functions) =
       ap (λ c. callee_at site.context.program c number) none ∙ callee_is site.context.program number in
       subst (λ c. Follows P later V (IsBack site later)
       (unless (call_trap c (length vs)) w1 (then_do (site.context.call number vs w1) next))) (sym found)
@@ -136,14 +170,14 @@ module _ (site : Site) (scope : Scope) (inside : Within scope site.named)
       let n = count args in
       let le = l + labels_in e in
       let te = t + temps_in e in
-      let eo = expr_ops site.addresses e l t in
-      let ao = args_ops site.addresses args le te in
+      let eo = expr_filled site.holes site.addresses e l t in
+      let ao = args_filled site.holes site.addresses args le te in
       let co = build.CallNumber n ∷ dropping_call a in
       let v1 = after_ops eo v in
       let v2 = after_ops ao v1 in
       let v3 = after_op (build.CallNumber n) v2 in
       let at1 = stands_back code eo (ao ++ co) v at in
-      let later : From = record { state = at_op site.call v.place z.regs z.log; units = w.units; log = z.log } in
+      let later : From = outset_at site v.place z.regs z.log w.units in
       let l1 = later_at site from scope v.place stack spare credit w z in
       let lt1 = outset_later site from later spare credit l1 lt in
       let z0 = stands_at site scope v.place stack z.regs z.log w z.vars z.held z.shared_is in
@@ -204,10 +238,15 @@ module _ (site : Site) (scope : Scope) (inside : Within scope site.named)
           let o = op.CallNumber r n in
           let go2 = any_op here p2 regs (argued_all 0 vs nothing) None m.log o m.goes pass.1.0
           (ap (λ b. b && true) held.0.on) in
-          let go3 = subst (λ q. Goes P later.state
-          (call_row P o n (P.row q) frame (argued_all 0 vs nothing) here.waiting m.log)) held.0.value go2 in
           let plain = goes_plain y.at.goes lt1.sound.plain in
-          let none = ap (λ s. s.compiled) (sym y.at.shared_is) ∙ plain.none_compiled in
+          let none = ap (λ s. s.bodies) (sym y.at.shared_is) ∙ plain.none_compiled in
+          let none1 = ap (λ s. s.bodies) m.shared_is ∙ plain.none_compiled in
+          let go4 = subst (λ q. Goes P later.state
+          (machine.call_number P o q n frame (argued_all 0 vs nothing) here.waiting m.log)) held.0.value go2 in
+          let go3 = subst (Goes P later.state)
+          (number_is P site.addresses functions o f n frame (argued_all 0 vs nothing) here.waiting m.log
+          (ap (λ p. p.functions) calls.has.source)
+          calls.rows none1) go4 in
           let v3 = after_op (build.CallNumber n) v2 in
           let V = Leaves (rule.is_value a) site later scope (after_ops (dropping_call a) v3) stack 0 0 in
           numbered_run later f n vs w2 frame here.waiting m.log V (λ x w3. spend (left_by a x) w3) r y.values few lt1

@@ -1,7 +1,7 @@
 -- What every run keeps of the frame objects: those of the active calls lie one behind the other, each in whole words.
 use Rattle.std.proofs.Common.{◌≡◌, ℕ, zero, suc, ◌+◌, ◌-◌, ◌*◌, ◌/◌, ◌%◌, List, [], ◌∷◌, Option, Some, None}
 use Rattle.std.proofs.Common.{Bool, true, false, refl}
-use Rattle.std.proofs.Common.{sym, ap, ◌∙◌, subst, arith}
+use Rattle.std.proofs.Common.{◌∙◌, subst, arith}
 use Rattle.std.specs.Prelude.{nat_eq, if◌then◌else◌, slice_get}
 use Rattle.std.specs.Fn.{iterate}
 use Rattle.host_edge.specs.declared.ending.TrapKind.{TrapKind}
@@ -12,16 +12,32 @@ use Rattle.icode_ops.specs.declared.op.Op.{Op}
 use Rattle.icode_ops.specs.declared.op.Op.TheVariants as op
 use Rattle.icode_ops.specs.declared.kind.SysKind.TheVariants as sys
 use Rattle.icode_ops.specs.declared.kind.RunKind.TheVariants as run
+use Rattle.meaning_state.specs.Bodies.{Body}
+use Rattle.word32.specs.declared.map.TheConstants.{ARENA}
 use Rattle.meaning_state.specs.Operators.{bin_trap, signed_trap, zero_trap}
 use Rattle.meaning_state.specs.Rows.{closure_trap, index_trap}
-use Rattle.meaning_state.specs.Shared.{Shared, Specification, Local, Param, is_room, malloc, read, access_trap}
+use Rattle.meaning_state.specs.Shared.{Shared, Specification, Param, is_room, malloc, read, access_trap}
 use Rattle.meaning_state.specs.Shared.{are_objects, limit_trap}
 use Rattle.icode_meaning.specs.State.{Function, Program, Frame, State, Running, Zeroing, Halted, Stuck, Log}
 use Rattle.icode_meaning.specs.Steps.{uses_on, paid, unless, enter, call_at, call_row, set_from, left, back, take}
 use Rattle.icode_meaning.specs.Steps.{specifies, zeroing, zeroed_on, word_zeroed, act, checked, advance, address_of}
 use Rattle.tick_lower_proof.proofs.Machine.{Goes}
 use Rattle.tick_lower_proof.proofs.Plain.{IsPlainAt, goes_plain}
-use Rattle.icode_meaning.specs.Steps.{untrapped}
+use Rattle.icode_meaning.specs.Steps.{untrapped, set, moved_on}
+use Rattle.icode_meaning.specs.Steps.{call_number, call_compiled, function_for, with_event, is_there}
+use Rattle.icode_meaning.specs.Steps.{is_right, filled, adds, size_in, checks, news, is_kind, makes, making}
+use Rattle.icode_meaning.specs.State.{Making, Compiling, Draft, Summing, Filling}
+use Rattle.std.specs.Prelude.{length, nat_le, nat_lt, ◌&&◌, ◌++◌}
+use Rattle.history.specs.Syntax.{Syntax}
+use Rattle.host_edge.specs.declared.ending.TrapKind.TheVariants.{BadSpec}
+use Rattle.icode_ops.specs.declared.kind.RunKind.{RunKind}
+use Rattle.icode_ops.specs.declared.kind.ClosureKind.{ClosureKind}
+use Rattle.meaning_state.specs.Rows.{numbered, parameters_of, specification_at, next_number, size_trap}
+use Rattle.typed_tree.specs.declared.expression.CaptureKind.{CaptureKind}
+use Rattle.typed_tree.specs.declared.expression.CaptureKind.TheVariants as kind
+use Rattle.typed_tree.specs.declared.expression.Answer.TheVariants as answer
+use Rattle.staged_meaning.specs.Program.{is_expression}
+use Rattle.staged_meaning.specs.Specifications.{fits}
 
 -- the frame objects of a machine's functions are whole words
 pub record IsWhole (P : Program) : Type 0 where
@@ -43,6 +59,8 @@ AreActive frames shared = AreWhole frames × (shared.frames ≡ objects_of frame
 abbrev pub IsStacked : State → Type 0
 IsStacked (Running frame arguments answer waiting g) = AreActive (frame ∷ waiting) g.shared
 IsStacked (Zeroing more address frame waiting g) = AreActive (frame ∷ waiting) g.shared
+IsStacked (Making draft frame waiting g) = AreActive (frame ∷ waiting) g.shared
+IsStacked (Compiling more syntax to frame waiting g) = AreActive (frame ∷ waiting) g.shared
 IsStacked (Halted e g) = Unit {0}
 IsStacked (Stuck g) = Unit {0}
 
@@ -117,6 +135,89 @@ zeroing_stacked : (words address : ℕ) (frame : Frame) (waiting : List Frame) (
 zeroing_stacked zero address frame waiting g h = tt
 zeroing_stacked (suc more) address frame waiting g h = h
 
+-- a call of a number
+number_stacked : (P : Program) → IsWhole P → (o : Op) (number count : ℕ) (frame : Frame) (arguments : ℕ → Option ℕ)
+    (waiting : List Frame) (g : Log) → AreActive (frame ∷ waiting) g.shared →
+    IsStacked (call_number P o number count frame arguments waiting g)
+number_stacked P whole o number count frame arguments waiting g h =
+    let functions = length P.source.functions in
+    if_stacked (nat_le number functions) (call_row P o count (P.row number) frame arguments waiting g)
+    (call_compiled P o number (numbered (number - functions) g.shared.bodies) count frame
+    arguments waiting g)
+    (row_stacked P whole o count (P.row number) frame arguments waiting g h)
+    (compiled_call (numbered (number - functions) g.shared.bodies))
+  where
+    compiled_call : (s : Option Body) →
+        IsStacked (call_compiled P o number s count frame arguments waiting g)
+    compiled_call None = tt
+    compiled_call (Some body) =
+        if_stacked (body.live && nat_eq (parameters_of body.syntax) count) _ _
+        (enter_stacked (function_for P body.syntax (ARENA + 4 * body.first)) refl frame arguments
+        waiting (with_event number (paid o g)) h) tt
+
+-- ---- while a specification is made
+
+there_stacked : (P : Program) (tick size parameters : ℕ) (words : List ℕ) (frame : Frame) (waiting : List Frame)
+    (g : Log) → AreActive (frame ∷ waiting) g.shared → IsStacked (is_there P tick size parameters words frame waiting g)
+there_stacked P tick size parameters words frame waiting g h =
+    if_stacked (is_right P tick size parameters words g.shared) _ (Stuck g)
+    h tt
+
+filled_stacked : (P : Program) (tick size parameters : ℕ) (words : List ℕ) (frame : Frame) (waiting : List Frame)
+    (g : Log) → AreActive (frame ∷ waiting) g.shared → IsStacked (filled P tick size parameters words frame waiting g)
+filled_stacked P tick size parameters words frame waiting g h =
+    if_stacked (nat_eq (length words) (length (P.kinds tick))) _ _
+    (there_stacked P tick size parameters words frame waiting g h) h
+
+adds_stacked : (P : Program) (o : Op) (to : ℕ) (k : CaptureKind) (row : Option Specification) (size parameters : ℕ)
+    (frame : Frame) (waiting : List Frame) (g : Log) → AreActive (frame ∷ waiting) g.shared →
+    IsStacked (adds P o to k row size parameters frame waiting g)
+adds_stacked P o to k row size parameters frame waiting g h =
+    unless_stacked (if fits k row then None else Some BadSpec) (paid o g) _
+    (if_stacked (nat_lt (size + size_in P row) 4294967296) _ (Stuck g) h tt)
+
+checks_stacked : (P : Program) (o : Op) (routine : RunKind) (to number size parameters : ℕ) (frame : Frame)
+    (waiting : List Frame) (g : Log) → AreActive (frame ∷ waiting) g.shared →
+    IsStacked (checks P o routine to number size parameters frame waiting g)
+checks_stacked P o run.Expression to number size parameters frame waiting g h =
+    adds_stacked P o to (kind.Splice answer.Value) (specification_at number g.shared) size parameters frame waiting g h
+checks_stacked P o run.Statement to number size parameters frame waiting g h =
+    adds_stacked P o to (kind.Splice answer.Void) (specification_at number g.shared) size parameters frame waiting g h
+checks_stacked P o run.Variable to number size parameters frame waiting g h =
+    adds_stacked P o to kind.Variable (specification_at number g.shared) size parameters frame waiting g h
+checks_stacked P o _ to number size parameters frame waiting g h = tt
+
+news_stacked : (P : Program) (o : Op) (to : ℕ) (tick : Option ℕ) (k : ClosureKind) (captures size parameters : ℕ)
+    (frame : Frame) (waiting : List Frame) (g : Log) → AreActive (frame ∷ waiting) g.shared →
+    IsStacked (news P o to tick k captures size parameters frame waiting g)
+news_stacked P o to None k captures size parameters frame waiting g h = tt
+news_stacked P o to (Some tick) k captures size parameters frame waiting g h =
+    let f1 = filled P tick size parameters [] (set to (next_number g.shared) frame) waiting (paid o g) in
+    let f2 = unless (closure_trap captures g.shared) (paid o g) f1 in
+    if_stacked (is_kind k (is_expression (slice_get P.source.ticks tick)) && nat_eq captures (length (P.kinds tick)))
+    (unless (size_trap size) (paid o g) f2) (Stuck g)
+    (unless_stacked (size_trap size) (paid o g) f2
+    (unless_stacked (closure_trap captures g.shared) (paid o g) f1
+    (filled_stacked P tick size parameters [] (set to (next_number g.shared) frame) waiting (paid o g) h))) tt
+
+makes_stacked : (P : Program) (o : Op) (draft : Draft) (frame : Frame) (waiting : List Frame) (g : Log) →
+    AreActive (frame ∷ waiting) g.shared → IsStacked (makes P o draft frame waiting g)
+makes_stacked P (op.Run routine to from) (Summing size parameters) frame waiting g h =
+    checks_stacked P (op.Run routine to from) routine to (frame.values from) size parameters frame waiting g h
+makes_stacked P (op.New to address k captures) (Summing size parameters) frame waiting g h =
+    news_stacked P (op.New to address k captures) to (P.tick_at address) k captures size parameters frame waiting g h
+makes_stacked P (op.Put capture from) (Filling tick size parameters words) frame waiting g h =
+    if_stacked (nat_eq capture (length words)) _ (Stuck g)
+    (filled_stacked P tick size parameters (words ++ frame.values from ∷ []) (moved_on frame) waiting
+    (paid (op.Put capture from) g) h) tt
+makes_stacked P _ draft frame waiting g h = tt
+
+making_stacked : (P : Program) (o : Option Op) (draft : Draft) (frame : Frame) (waiting : List Frame) (g : Log) →
+    AreActive (frame ∷ waiting) g.shared → IsStacked (making P o draft frame waiting g)
+making_stacked P None draft frame waiting g h = tt
+making_stacked P (Some o) draft frame waiting g h =
+    if_stacked (uses_on o frame.on) _ (Stuck g) (makes_stacked P o draft frame waiting g h) tt
+
 -- one op
 act_stacked : (P : Program) → IsWhole P → (o : Op) (frame : Frame) (arguments : ℕ → Option ℕ) (answer : Option ℕ)
     (waiting : List Frame) (g : Log) → AreActive (frame ∷ waiting) g.shared →
@@ -148,7 +249,7 @@ act_stacked P whole (op.GetParameter to index) frame arguments answer waiting g 
 act_stacked P whole (op.Call address) frame arguments answer waiting g h =
     call_stacked (op.Call address) (P.function_at address) (whole.at address) frame arguments waiting g h
 act_stacked P whole (op.CallNumber number count) frame arguments answer waiting g h =
-    row_stacked P whole (op.CallNumber number count) count (P.row (frame.values number)) frame arguments waiting g h
+    number_stacked P whole (op.CallNumber number count) (frame.values number) count frame arguments waiting g h
 act_stacked P whole (op.Result to) frame arguments answer waiting g h =
     set_stacked (op.Result to) answer to frame waiting g h
 act_stacked P whole (op.Return from) frame arguments answer waiting g h =
@@ -168,6 +269,7 @@ act_stacked P whole (op.Run run.Parameter to from) frame arguments answer waitin
     unless_stacked (index_trap (frame.values from)) (paid (op.Run run.Parameter to from) g)
     (specifies (Param (frame.values from)) to frame waiting (paid (op.Run run.Parameter to from) g))
     (unless_stacked (closure_trap 0 g.shared) (paid (op.Run run.Parameter to from) g) _ h)
+act_stacked P whole (op.Run run.Begin to from) frame arguments answer waiting g h = h
 act_stacked P whole _ frame arguments answer waiting g h = tt
 
 checked_stacked : (P : Program) → IsWhole P → (o : Option Op) (frame : Frame) (arguments : ℕ → Option ℕ)
@@ -187,6 +289,9 @@ advance_stacked P whole (Running frame arguments answer waiting g) h =
     checked_stacked P whole (slice_get frame.function.ops frame.index) frame arguments answer waiting g h
 advance_stacked P whole (Zeroing more address frame waiting g) h =
     zeroed_stacked more address frame waiting (word_zeroed address g) h
+advance_stacked P whole (Making draft frame waiting g) h =
+    making_stacked P (slice_get frame.function.ops frame.index) draft frame waiting g h
+advance_stacked P whole (Compiling more syntax to frame waiting g) h = tt
 advance_stacked P whole (Halted e g) h = tt
 advance_stacked P whole (Stuck g) h = tt
 
@@ -203,9 +308,9 @@ objects_whole [] h = refl
 objects_whole (frame ∷ frames) h = omega (arith, h.0, objects_whole frames h.1)
 
 -- what is kept by every run of the plain language
-pub record IsSound (s : State) : Type 0 where
-  pub plain : IsPlainAt s
+pub record IsSound (P : Program) (s : State) : Type 0 where
+  pub plain : IsPlainAt P s
   pub stacked : IsStacked s
 
-pub goes_sound : {P : Program} {s t : State} → IsWhole P → Goes P s t → IsSound s → IsSound t
+pub goes_sound : {P : Program} {s t : State} → IsWhole P → Goes P s t → IsSound P s → IsSound P t
 goes_sound whole go h = record { plain = goes_plain go h.plain; stacked = goes_stacked whole go h.stacked }

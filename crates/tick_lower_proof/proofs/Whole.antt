@@ -6,12 +6,13 @@ use Rattle.history.specs.Events.{End, Ended, Input}
 use Rattle.pace.specs.Claims.{FollowsAtCost}
 use Rattle.meaning_state.specs.Shared.{charged, discharged}
 use Rattle.staged_meaning.specs.Size.{size_of, charge_of}
-use Rattle.staged_meaning.specs.Scope.{IsReady, IsReadyIn}
+use Rattle.staged_meaning.specs.Scope.{IsReadyIn}
 use Rattle.staged_meaning.specs.World.{World, Result, Gives, Returns, Ends, Stops}
 use Rattle.staged_meaning.specs.Meaning as meaning
 use Rattle.staged_meaning.specs.Meaning.{call_body, entered, leaves, charging, finish, main_context, at_start, begins}
 use Rattle.staged_meaning.specs.Meaning.{run_program, seen, meant}
 use Rattle.icode_meaning.specs.State.{Function, Program, State, Running, Zeroing, Halted, Stuck, Log, nothing, log_of}
+use Rattle.icode_meaning.specs.State.{Making, Compiling}
 use Rattle.icode_meaning.specs.State.{ending_of, see, least_at, most_at}
 use Rattle.icode_meaning.specs.Steps.{left, advance, first, counted}
 use Rattle.tick_lower_spec.specs.Lower.{Addresses}
@@ -20,9 +21,14 @@ use Rattle.tick_lower_proof.proofs.Follow.{From, Follows, EndsAt, IsRunning, fol
 use Rattle.tick_lower_proof.proofs.Standing.{IsBack}
 use Rattle.tick_lower_proof.proofs.Calls.{IsCode, site, call_run}
 use Rattle.tick_lower_proof.proofs.Depths.{AreHeld, calls_at}
+use Rattle.typed_tree.specs.declared.expression.CaptureKind.{CaptureKind}
+use Rattle.std.specs.Prelude.{List}
+use Rattle.limits.specs.declared.program.TheConstants.{SIZE_LIMIT}
+use Rattle.tick_lower_proof.proofs.Smalls.{none_small}
 
-module _ (P : Program) (d : Addresses) (program : meaning.Program) (input : Input) (main : Function)
-    (ready : IsReadyIn program.functions program.main) (held : AreHeld P d program.functions)
+module _ (P : Program) (d : Addresses) (program : meaning.Program) (ticks : List (List CaptureKind))
+    (input : Input) (main : Function) (ready : IsReadyIn program.functions ticks program.main)
+    (held : AreHeld P d program ticks)
     (no_parameters : program.main.parameters ≡ 0) (code : IsCode d program.main main.ops)
     (charge_is : main.charge ≡ charge_of (size_of program.main)) (object_is : main.object ≡ program.main.object) where
   abbrev start : State
@@ -59,14 +65,18 @@ module _ (P : Program) (d : Addresses) (program : meaning.Program) (input : Inpu
       let object = program.main.object in
       let V : ℕ → World → Type 0 = λ v w1. EndsAt P from (Ended (Done (v % 256))) w1.shared in
       follows_then P from V (λ v w. ⊥) (λ v w. ⊥) (charging charge object (call_body c program.main []) w) finish
-      (follows_then P from (IsBack (site P c d here program.main code m (omega arith)) from) V (λ v w. ⊥)
+      (follows_then P from (IsBack (site P c d ticks here program.main code m (omega arith)) from) V (λ v w. ⊥)
       (call_body c program.main [] (entered charge object w)) (leaves charge object w)
-      (call_run P c d here program.main code m (omega arith) ready ready.frames
-      (calls_at P d program held (suc m) m (omega arith)) []
+      (call_run P c d ticks here program.main code m (omega arith) ready ready.frames
+      (calls_at P d program ticks held (suc m) m (omega arith)) []
       (λ j lt. absurd (omega (arith, lt, no_parameters))) from (log_at 1)
       (entered charge object w) (omega arith)
       (record {
-        plain = record { none_compiled = refl; few_frames = omega (arith, object_is, ready.short) };
+        plain = record {
+          none_compiled = refl;
+          few_frames = omega (arith, object_is, ready.short);
+          small = none_small P SIZE_LIMIT;
+        };
         stacked = (
           (ap (λ x. x % 4) object_is ∙ ready.whole, tt),
           (let sum : 0 + main.object ≡ main.object + 0 = omega arith in sum),
@@ -114,6 +124,8 @@ module _ (P : Program) (d : Addresses) (program : meaning.Program) (input : Inpu
           none : (s : State) → IsRunning s → ending_of s ≡ None
           none (Running frame arguments answer waiting g) on = refl
           none (Zeroing more address frame waiting g) on = refl
+          none (Making draft frame waiting g) on = refl
+          none (Compiling more syntax to frame waiting g) on = refl
           none (Halted e g) on = absurd on
           none (Stuck g) on = refl
 

@@ -1,2 +1,3 @@
 pub mod Lower
 pub mod Specifications
+pub mod TickPieces

@@ -2,7 +2,8 @@
 -- its own variables from `t` on, and a child's behind those of the children before it; so `labels_in` and `temps_in` of
 -- the tree say which numbers it takes. An expression leaves its value as one operand, a void one leaves none.
 -- This is the project's own rule; the docs have it as a table.
-use Rattle.std.specs.Prelude.{ℕ, ◌+◌, ◌-◌, Bool, true, false, if◌then◌else◌, List, [], ◌∷◌, ◌++◌, slice_index}
+use Rattle.std.specs.Prelude.{ℕ, suc, ◌+◌, ◌-◌, Bool, true, false, if◌then◌else◌, List, [], ◌∷◌, ◌++◌, length}
+use Rattle.std.specs.Prelude.{slice_index, slice_get, Option, Some, None}
 use Rattle.word32.specs.declared.width.Width.{Width}
 use Rattle.word32.specs.declared.width.Width.TheVariants as width
 use Rattle.icode_ops.specs.declared.kind.BinKind.TheVariants.{Add, NotEqual}
@@ -21,26 +22,42 @@ use Rattle.typed_tree.specs.Nodes.{Continue, Return, ReturnValue, Items, NoItem,
 use Rattle.typed_tree.specs.declared.expression.Answer.{Answer}
 use Rattle.typed_tree.specs.Sizes.{is_value}
 use Rattle.typed_tree.specs.declared.expression.Library.TheVariants.{Putchar, Putint, Exit, Malloc}
+use Rattle.icode_ops.specs.declared.kind.RunKind.{RunKind}
+use Rattle.icode_ops.specs.declared.kind.ClosureKind.{ClosureKind}
+use Rattle.icode_ops.specs.declared.kind.ClosureKind.TheVariants as closure
+use Rattle.typed_tree.specs.declared.expression.CaptureKind.{CaptureKind}
+use Rattle.typed_tree.specs.declared.expression.CaptureKind.TheVariants as kind
+use Rattle.typed_tree.specs.declared.expression.Answer.TheVariants as answer
+use Rattle.staged_meaning.specs.Program.{Tick as TickOf, tick_size, is_expression}
+use Rattle.staged_meaning.specs.Specifications.{kinds_of}
 use Rattle.staged_meaning.specs.Size.{labels_in, labels, labels_of, temps_in, temps, temps_of, variables_in}
 
--- what stands in the holes of a tick, by the numbers of its captures: a word, the key of a variable, and the ops of what
--- is spliced in
+-- what stands in the holes of a tick, by the numbers of its captures: the ops of a word, of a variable's value and of
+-- its change, and of what is spliced in
 pub record Holes : Type 0 where
-  pub word : ℕ → ℕ
-  pub key : ℕ → ℕ
+  pub captured : ℕ → List BuildOp
+  pub get_key : ℕ → List BuildOp
+  pub set_key : ℕ → List BuildOp
   pub splice : ℕ → List BuildOp
 
 -- a function of the text has no holes
 abbrev pub no_holes : Holes
-no_holes = record { word = λ i. 0; key = λ i. 0; splice = λ i. [] }
+no_holes = record { captured = λ i. []; get_key = λ i. []; set_key = λ i. []; splice = λ i. [] }
 
--- where the image has its static functions, by their numbers
+-- Where the image has its static functions, by their numbers, and the functions that generate the code of ticks; and
+-- the ticks, of which a tick expression tells size and kind.
 pub record Addresses : Type 0 where
   pub function_at : ℕ → ℕ
+  pub generator_at : (tick : ℕ) → ℕ
+  pub ticks : List TickOf
 
 -- a list of them, in the order of the text; the first function has the number 1
-abbrev pub listed : List ℕ → Addresses
-listed starts = record { function_at = λ number. slice_index starts (number - 1) }
+abbrev pub listed : List ℕ → List ℕ → List TickOf → Addresses
+listed starts generators ticks = record {
+  function_at = λ number. slice_index starts (number - 1);
+  generator_at = λ tick. slice_index generators tick;
+  ticks = ticks;
+}
 
 -- a conversion to a width; a word is none
 abbrev pub narrowing : Width → List BuildOp
@@ -87,6 +104,47 @@ joins first other l m t =
     ∷ build.GetVariable t
     ∷ []
 
+-- ---- the making of a specification, once its captured words are operands, the first of them deepest
+
+-- what a captured number is checked as; a value or an address is not checked
+abbrev pub check_run : CaptureKind → Option RunKind
+check_run (kind.Splice answer.Value) = Some run.Expression
+check_run (kind.Splice answer.Void) = Some run.Statement
+check_run kind.Variable = Some run.Variable
+check_run _ = None
+
+-- one that lies so deep is checked, and the answer is dropped
+abbrev pub checking : Option RunKind → (depth : ℕ) → List BuildOp
+checking None depth = []
+checking (Some routine) depth = build.Pick depth ∷ build.Run routine ∷ build.Drop ∷ []
+
+abbrev pub checking_all : List CaptureKind → List BuildOp
+checking_all [] = []
+checking_all (k ∷ kinds) = checking (check_run k) (length kinds) ++ checking_all kinds
+
+-- the words are put, with the new number above them
+abbrev pub putting : (capture : ℕ) → List CaptureKind → List BuildOp
+putting i [] = []
+putting i (k ∷ kinds) = build.Pick (suc (length kinds)) ∷ build.Put i ∷ putting (suc i) kinds
+
+-- and go from below it
+abbrev pub nipping : List CaptureKind → List BuildOp
+nipping [] = []
+nipping (k ∷ kinds) = build.Nip ∷ nipping kinds
+
+abbrev pub kind_of_tick : Bool → ClosureKind
+kind_of_tick true = closure.Expression
+kind_of_tick false = closure.Statement
+
+-- whole: of the tick's own size, with the address of the function that generates its code
+abbrev pub making_ops : Addresses → (tick : ℕ) → List CaptureKind → List BuildOp
+making_ops addresses tick kinds =
+    build.Const (tick_size (slice_get addresses.ticks tick)) ∷ build.Run run.Begin ∷ build.Drop
+    ∷ (checking_all kinds
+    ++ build.New (addresses.generator_at tick) (kind_of_tick (is_expression (slice_get addresses.ticks tick)))
+    (length kinds)
+    ∷ (putting 0 kinds ++ nipping kinds))
+
 -- where a break and a continue go
 pub record Targets : Type 0 where
   pub on_break : ℕ
@@ -114,160 +172,171 @@ default_label (Item s items) l m = default_or s l (default_label items (l + labe
 abbrev pub nowhere : Targets
 nowhere = record { on_break = 0; on_continue = 0 }
 
--- the ops of a body under these addresses, with this in its holes
-module _ (holes : Holes) (addresses : Addresses) where
+-- what the lowering is made of: ops of the generated code themselves, or pieces that stand for them
+pub record Sink (A : Type 0) : Type 0 where
+  pub op : BuildOp → A
+  -- ops that no capture is named in, as many as there are
+  pub ops : List BuildOp → List A
+  -- those that a node adds, which may be none
+  pub own : List BuildOp → List A
+  -- what stands in a hole
+  pub captured : ℕ → List A
+  pub get_key : ℕ → List A
+  pub set_key : ℕ → List A
+  pub splice : ℕ → List A
+
+-- ops, with this in the holes
+abbrev pub ops_with : Holes → Sink BuildOp
+ops_with holes = record {
+  op = λ op. op;
+  ops = λ ops. ops;
+  own = λ ops. ops;
+  captured = holes.captured;
+  get_key = holes.get_key;
+  set_key = holes.set_key;
+  splice = holes.splice;
+}
+
+-- the lowering of a body under these addresses
+module _ {A : Type 0} (sink : Sink A) (addresses : Addresses) where
   abbrev mutual
-    pub expr_filled : Expr → (l t : ℕ) → List BuildOp
-    expr_filled (Const word) l t = build.Const word ∷ []
-    expr_filled (Var i) l t = build.GetVariable i ∷ []
-    expr_filled (SetVar i a) l t = expr_filled a l t ++ build.SetVariable i ∷ []
-    expr_filled (PostVar i width step) l t =
-        build.GetVariable i ∷ build.Pick 0 ∷ (step_ops step width ++ build.SetVariable i ∷ build.Drop ∷ [])
-    expr_filled (Frame offset) l t = build.FrameAddress offset ∷ []
-    expr_filled (Load width a) l t = expr_filled a l t ++ build.Load width ∷ []
-    expr_filled (Store width a b) l t =
-        expr_filled a l t ++ (expr_filled b (l + labels_in a) (t + temps_in a) ++ build.Store width ∷ [])
-    expr_filled (Modify width kind a b) l t =
-        expr_filled a l t
-        ++ build.Pick 0
-        ∷ build.Load width
-        ∷ (expr_filled b (l + labels_in a) (t + temps_in a) ++ build.Bin kind ∷
-        (narrowing width ++ build.Store width ∷ []))
-    expr_filled (Post width step a) l t =
-        expr_filled a l t
-        ++ build.Pick 0
-        ∷ build.Load width
-        ∷ build.Pick 1
-        ∷ build.Pick 1
-        ∷ (step_ops step width ++ build.Store width ∷ build.Drop ∷ build.Nip ∷ [])
-    expr_filled (Bin kind a b) l t =
-        expr_filled a l t ++ (expr_filled b (l + labels_in a) (t + temps_in a) ++ build.Bin kind ∷ [])
-    expr_filled (Un kind a) l t = expr_filled a l t ++ build.Un kind ∷ []
-    expr_filled (And a b) l t =
-        expr_filled a (l + 2) (t + 1)
-        ++ build.BranchZero l
-        ∷ (expr_filled b (l + 2 + labels_in a) (t + 1 + temps_in a) ++ build.BranchZero l ∷ joins 1 0 l (l + 1) t)
-    expr_filled (Or a b) l t =
-        expr_filled a (l + 2) (t + 1)
-        ++ build.BranchNonzero l
-        ∷ (expr_filled b (l + 2 + labels_in a) (t + 1 + temps_in a) ++ build.BranchNonzero l ∷ joins 0 1 l (l + 1) t)
-    expr_filled (Cond c a b) l t =
-        expr_filled c (l + 2) (t + 1)
-        ++ build.BranchZero l
-        ∷ (expr_filled a (l + 2 + labels_in c) (t + 1 + temps_in c)
-        ++ (keeping (has_value a) t
-        ++ build.Jump (l + 1)
-        ∷ build.Label l
-        ∷ (expr_filled b (l + 2 + labels_in c + labels_in a) (t + 1 + temps_in c + temps_in a)
-        ++ (keeping (has_value a) t ++ build.Label (l + 1) ∷ kept (has_value a) t))))
-    expr_filled (Comma a b) l t =
-        expr_filled a l t ++ (dropping (has_value a) ++ expr_filled b (l + labels_in a) (t + temps_in a))
-    expr_filled (Void a) l t = expr_filled a l t ++ dropping (has_value a)
-    expr_filled (Call answer f args) l t =
-        args_filled args l t ++ build.Call (addresses.function_at f) (count args) ∷ dropping_call answer
-    expr_filled (CallNumber answer a args) l t =
-        expr_filled a l t
-        ++ (args_filled args (l + labels_in a) (t + temps_in a) ++ build.CallNumber (count args) ∷ dropping_call answer)
-    expr_filled Getchar l t = build.Const 0 ∷ build.Sys sys.GetByte ∷ []
-    expr_filled (Lib Putchar a) l t = expr_filled a l t ++ build.Sys sys.PutByte ∷ []
-    expr_filled (Lib Putint a) l t = expr_filled a l t ++ build.Sys sys.PutInteger ∷ build.Drop ∷ []
-    expr_filled (Lib Exit a) l t = expr_filled a l t ++ build.Sys sys.Exit ∷ build.Drop ∷ []
-    expr_filled (Lib Malloc a) l t = expr_filled a l t ++ build.Run run.Malloc ∷ []
-    expr_filled (Capture kind a) l t = expr_filled a l t
-    expr_filled (Compile a) l t = expr_filled a l t ++ build.Run run.Compile ∷ []
-    expr_filled Local l t = build.Const 0 ∷ build.Run run.Local ∷ []
-    expr_filled (ParamOf a) l t = expr_filled a l t ++ build.Run run.Parameter ∷ []
-    expr_filled (node.Captured w i) l t = build.Const (holes.word i) ∷ []
-    expr_filled (VGet i) l t = build.GetSpec (holes.key i) ∷ []
-    expr_filled (VSet i a) l t = expr_filled a l t ++ build.SetSpec (holes.key i) ∷ []
-    expr_filled (VPost i step) l t =
-        build.GetSpec (holes.key i)
-        ∷ build.Pick 0
-        ∷ build.Const step
-        ∷ build.Bin Add
-        ∷ build.SetSpec (holes.key i)
-        ∷ build.Drop
-        ∷ []
-    expr_filled (node.Splice answer i) l t = holes.splice i
-    -- the making of a specification is still to come
-    expr_filled (Tick tick args) l t = []
+    pub expr_into : Expr → (l t : ℕ) → List A
+    expr_into (Const word) l t = sink.op (build.Const word) ∷ []
+    expr_into (Var i) l t = sink.op (build.GetVariable i) ∷ []
+    expr_into (SetVar i a) l t = expr_into a l t ++ sink.op (build.SetVariable i) ∷ []
+    expr_into (PostVar i width step) l t =
+        sink.op (build.GetVariable i) ∷ sink.op (build.Pick 0) ∷ (sink.ops (step_ops step width)
+        ++ sink.op (build.SetVariable i) ∷ sink.op build.Drop ∷ [])
+    expr_into (Frame offset) l t = sink.op (build.FrameAddress offset) ∷ []
+    expr_into (Load width a) l t = expr_into a l t ++ sink.op (build.Load width) ∷ []
+    expr_into (Store width a b) l t =
+        expr_into a l t ++ (expr_into b (l + labels_in a) (t + temps_in a) ++ sink.op (build.Store width) ∷ [])
+    expr_into (Modify width kind a b) l t =
+        expr_into a l t ++ sink.op (build.Pick 0) ∷ sink.op (build.Load width)
+        ∷ (expr_into b (l + labels_in a) (t + temps_in a) ++ sink.op (build.Bin kind) ∷ (sink.ops (narrowing width)
+        ++ sink.op (build.Store width) ∷ []))
+    expr_into (Post width step a) l t =
+        expr_into a l t ++ sink.op (build.Pick 0) ∷ sink.op (build.Load width) ∷ sink.op (build.Pick 1)
+        ∷ sink.op (build.Pick 1) ∷ (sink.ops (step_ops step width) ++ sink.op (build.Store width) ∷ sink.op build.Drop
+        ∷ sink.op build.Nip ∷ [])
+    expr_into (Bin kind a b) l t =
+        expr_into a l t ++ (expr_into b (l + labels_in a) (t + temps_in a) ++ sink.op (build.Bin kind) ∷ [])
+    expr_into (Un kind a) l t = expr_into a l t ++ sink.op (build.Un kind) ∷ []
+    expr_into (And a b) l t =
+        expr_into a (l + 2) (t + 1) ++ sink.op (build.BranchZero l)
+        ∷ (expr_into b (l + 2 + labels_in a) (t + 1 + temps_in a) ++ sink.op (build.BranchZero l)
+        ∷ sink.ops (joins 1 0 l (l + 1) t))
+    expr_into (Or a b) l t =
+        expr_into a (l + 2) (t + 1) ++ sink.op (build.BranchNonzero l)
+        ∷ (expr_into b (l + 2 + labels_in a) (t + 1 + temps_in a) ++ sink.op (build.BranchNonzero l)
+        ∷ sink.ops (joins 0 1 l (l + 1) t))
+    expr_into (Cond c a b) l t =
+        expr_into c (l + 2) (t + 1) ++ sink.op (build.BranchZero l)
+        ∷ (expr_into a (l + 2 + labels_in c) (t + 1 + temps_in c) ++ (sink.ops (keeping (has_value a) t)
+        ++ sink.op (build.Jump (l + 1)) ∷ sink.op (build.Label l)
+        ∷ (expr_into b (l + 2 + labels_in c + labels_in a) (t + 1 + temps_in c + temps_in a)
+        ++ (sink.ops (keeping (has_value a) t) ++ sink.op (build.Label (l + 1)) ∷ sink.ops (kept (has_value a) t)))))
+    expr_into (Comma a b) l t =
+        expr_into a l t ++ (sink.own (dropping (has_value a)) ++ expr_into b (l + labels_in a) (t + temps_in a))
+    expr_into (Void a) l t = expr_into a l t ++ sink.own (dropping (has_value a))
+    expr_into (Call answer f args) l t =
+        args_into args l t ++ sink.op (build.Call (addresses.function_at f) (count args)) ∷ sink.ops
+        (dropping_call answer)
+    expr_into (CallNumber answer a args) l t =
+        expr_into a l t ++ (args_into args (l + labels_in a) (t + temps_in a)
+        ++ sink.op (build.CallNumber (count args)) ∷ sink.ops (dropping_call answer))
+    expr_into Getchar l t = sink.op (build.Const 0) ∷ sink.op (build.Sys sys.GetByte) ∷ []
+    expr_into (Lib Putchar a) l t = expr_into a l t ++ sink.op (build.Sys sys.PutByte) ∷ []
+    expr_into (Lib Putint a) l t = expr_into a l t ++ sink.op (build.Sys sys.PutInteger) ∷ sink.op build.Drop ∷ []
+    expr_into (Lib Exit a) l t = expr_into a l t ++ sink.op (build.Sys sys.Exit) ∷ sink.op build.Drop ∷ []
+    expr_into (Lib Malloc a) l t = expr_into a l t ++ sink.op (build.Run run.Malloc) ∷ []
+    expr_into (Capture kind a) l t = sink.own [] ++ expr_into a l t
+    expr_into (Compile a) l t = expr_into a l t ++ sink.op (build.Run run.Compile) ∷ []
+    expr_into Local l t = sink.op (build.Const 0) ∷ sink.op (build.Run run.Local) ∷ []
+    expr_into (ParamOf a) l t = expr_into a l t ++ sink.op (build.Run run.Parameter) ∷ []
+    expr_into (node.Captured w i) l t = sink.captured i
+    expr_into (VGet i) l t = sink.get_key i
+    expr_into (VSet i a) l t = expr_into a l t ++ sink.set_key i
+    expr_into (VPost i step) l t =
+        sink.get_key i ++ sink.op (build.Pick 0) ∷ sink.op (build.Const step) ∷ sink.op (build.Bin Add)
+        ∷ (sink.set_key i ++ sink.op build.Drop ∷ [])
+    expr_into (node.Splice answer i) l t = sink.splice i
+    expr_into (Tick tick args) l t = args_into args l t ++ sink.ops (making_ops addresses tick (kinds_of args))
 
-    pub args_filled : Args → (l t : ℕ) → List BuildOp
-    args_filled NoArg l t = []
-    args_filled (Arg a args) l t = expr_filled a l t ++ args_filled args (l + labels_in a) (t + temps_in a)
+    pub args_into : Args → (l t : ℕ) → List A
+    args_into NoArg l t = []
+    args_into (Arg a args) l t = expr_into a l t ++ args_into args (l + labels_in a) (t + temps_in a)
 
   abbrev mutual
-    pub stmt_filled : Stmt → Targets → (l t : ℕ) → List BuildOp
-    stmt_filled (Eval e) to l t = expr_filled e l t ++ dropping (has_value e)
-    stmt_filled (Block variables items) to l t =
-        items_filled variables to l t ++ items_filled items to (l + labels_of variables) (t + temps_of variables)
-    stmt_filled (Variable i) to l t = build.Const 0 ∷ build.SetVariable i ∷ build.Drop ∷ []
-    stmt_filled (Object offset words) to l t = build.Clear offset words ∷ []
-    stmt_filled (Parameter k width) to l t = build.Parameter k ∷ (narrowing width ++ build.SetVariable k ∷ build.Drop ∷ [])
-    stmt_filled (ParameterObject k width offset) to l t =
-        build.FrameAddress offset ∷ build.Parameter k ∷ (narrowing width ++ build.Store width ∷ build.Drop ∷ [])
-    stmt_filled (If e s) to l t =
-        expr_filled e (l + 1) t
-        ++ build.BranchZero l
-        ∷ (stmt_filled s to (l + 1 + labels_in e) (t + temps_in e) ++ build.Label l ∷ [])
-    stmt_filled (IfElse e s r) to l t =
-        expr_filled e (l + 2) t
-        ++ build.BranchZero l
-        ∷ (stmt_filled s to (l + 2 + labels_in e) (t + temps_in e)
-        ++ build.Jump (l + 1)
-        ∷ build.Label l
-        ∷ (stmt_filled r to (l + 2 + labels_in e + labels s) (t + temps_in e + temps s) ++ build.Label (l + 1) ∷ []))
-    stmt_filled (While e s) to l t =
-        build.Label (l + 1)
-        ∷ (expr_filled e (l + 2) t
-        ++ build.BranchZero l
-        ∷ (stmt_filled s (record { on_break = l; on_continue = l + 1 }) (l + 2 + labels_in e) (t + temps_in e)
-        ++ build.Jump (l + 1)
-        ∷ build.Label l
-        ∷ []))
-    stmt_filled (Do s e) to l t =
-        build.Label (l + 1)
-        ∷ (stmt_filled s (record { on_break = l; on_continue = l + 2 }) (l + 3) t
-        ++ build.Label (l + 2)
-        ∷ (expr_filled e (l + 3 + labels s) (t + temps s) ++ build.BranchNonzero (l + 1) ∷ build.Label l ∷ []))
-    stmt_filled (For e s) to l t =
-        build.Label (l + 1)
-        ∷ (expr_filled e (l + 3) t
-        ++ build.BranchZero l
-        ∷ (stmt_filled s (record { on_break = l; on_continue = l + 2 }) (l + 3 + labels_in e) (t + temps_in e)
-        ++ build.Label (l + 2)
-        ∷ build.Jump (l + 1)
-        ∷ build.Label l
-        ∷ []))
-    stmt_filled (ForStep e step s) to l t =
-        build.Label (l + 1)
-        ∷ (expr_filled e (l + 3) t
-        ++ build.BranchZero l
-        ∷ (stmt_filled s (record { on_break = l; on_continue = l + 2 }) (l + 3 + labels_in e) (t + temps_in e)
-        ++ build.Label (l + 2)
-        ∷ (expr_filled step (l + 3 + labels_in e + labels s) (t + temps_in e + temps s)
-        ++ (dropping (has_value step) ++ build.Jump (l + 1) ∷ build.Label l ∷ []))))
-    stmt_filled (Switch e variables items) to l t =
-        expr_filled e (l + 1) (t + 1)
-        ++ build.SetVariable t
-        ∷ build.Drop
-        ∷ (items_filled variables to (l + 1 + labels_in e) (t + 1 + temps_in e)
-        ++ (test_ops items (l + 1 + labels_in e + labels_of variables) t
-        ++ build.Jump (default_label items (l + 1 + labels_in e + labels_of variables) l)
-        ∷ (items_filled items (record { on_break = l; on_continue = to.on_continue })
-        (l + 1 + labels_in e + labels_of variables) (t + 1 + temps_in e + temps_of variables)
-        ++ build.Label l
-        ∷ [])))
-    stmt_filled (Case value) to l t = build.Label l ∷ []
-    stmt_filled Default to l t = build.Label l ∷ []
-    stmt_filled Break to l t = build.Jump to.on_break ∷ []
-    stmt_filled Continue to l t = build.Jump to.on_continue ∷ []
-    stmt_filled Return to l t = build.ReturnZero ∷ []
-    stmt_filled (ReturnValue e) to l t = expr_filled e l t ++ build.Return ∷ []
+    pub stmt_into : Stmt → Targets → (l t : ℕ) → List A
+    stmt_into (Eval e) to l t = expr_into e l t ++ sink.own (dropping (has_value e))
+    stmt_into (Block variables items) to l t =
+        sink.own [] ++ (items_into variables to l t
+        ++ items_into items to (l + labels_of variables) (t + temps_of variables))
+    stmt_into (Variable i) to l t = sink.op (build.Const 0) ∷ sink.op (build.SetVariable i) ∷ sink.op build.Drop ∷ []
+    stmt_into (Object offset words) to l t = sink.op (build.Clear offset words) ∷ []
+    stmt_into (Parameter k width) to l t =
+        sink.op (build.Parameter k) ∷
+        (sink.ops (narrowing width) ++ sink.op (build.SetVariable k) ∷ sink.op build.Drop ∷ [])
+    stmt_into (ParameterObject k width offset) to l t =
+        sink.op (build.FrameAddress offset) ∷ sink.op (build.Parameter k) ∷ (sink.ops (narrowing width)
+        ++ sink.op (build.Store width) ∷ sink.op build.Drop ∷ [])
+    stmt_into (If e s) to l t =
+        expr_into e (l + 1) t ++ sink.op (build.BranchZero l)
+        ∷ (stmt_into s to (l + 1 + labels_in e) (t + temps_in e) ++ sink.op (build.Label l) ∷ [])
+    stmt_into (IfElse e s r) to l t =
+        expr_into e (l + 2) t ++ sink.op (build.BranchZero l)
+        ∷ (stmt_into s to (l + 2 + labels_in e) (t + temps_in e) ++ sink.op (build.Jump (l + 1))
+        ∷ sink.op (build.Label l) ∷ (stmt_into r to (l + 2 + labels_in e + labels s) (t + temps_in e + temps s)
+        ++ sink.op (build.Label (l + 1)) ∷ []))
+    stmt_into (While e s) to l t =
+        sink.op (build.Label (l + 1)) ∷ (expr_into e (l + 2) t ++ sink.op (build.BranchZero l)
+        ∷ (stmt_into s (record { on_break = l; on_continue = l + 1 }) (l + 2 + labels_in e) (t + temps_in e)
+        ++ sink.op (build.Jump (l + 1)) ∷ sink.op (build.Label l) ∷ []))
+    stmt_into (Do s e) to l t =
+        sink.op (build.Label (l + 1)) ∷ (stmt_into s (record { on_break = l; on_continue = l + 2 }) (l + 3) t
+        ++ sink.op (build.Label (l + 2)) ∷ (expr_into e (l + 3 + labels s) (t + temps s)
+        ++ sink.op (build.BranchNonzero (l + 1)) ∷ sink.op (build.Label l) ∷ []))
+    stmt_into (For e s) to l t =
+        sink.op (build.Label (l + 1)) ∷ (expr_into e (l + 3) t ++ sink.op (build.BranchZero l)
+        ∷ (stmt_into s (record { on_break = l; on_continue = l + 2 }) (l + 3 + labels_in e) (t + temps_in e)
+        ++ sink.op (build.Label (l + 2)) ∷ sink.op (build.Jump (l + 1)) ∷ sink.op (build.Label l) ∷ []))
+    stmt_into (ForStep e step s) to l t =
+        sink.op (build.Label (l + 1)) ∷ (expr_into e (l + 3) t ++ sink.op (build.BranchZero l)
+        ∷ (stmt_into s (record { on_break = l; on_continue = l + 2 }) (l + 3 + labels_in e) (t + temps_in e)
+        ++ sink.op (build.Label (l + 2))
+        ∷ (expr_into step (l + 3 + labels_in e + labels s) (t + temps_in e + temps s)
+        ++ (sink.ops (dropping (has_value step)) ++ sink.op (build.Jump (l + 1)) ∷ sink.op (build.Label l) ∷ []))))
+    stmt_into (Switch e variables items) to l t =
+        expr_into e (l + 1) (t + 1) ++ sink.op (build.SetVariable t) ∷ sink.op build.Drop ∷
+        ((sink.own [] ++ items_into variables to (l + 1 + labels_in e) (t + 1 + temps_in e))
+        ++ (sink.ops (test_ops items (l + 1 + labels_in e + labels_of variables) t)
+        ++ sink.op (build.Jump (default_label items (l + 1 + labels_in e + labels_of variables) l))
+        ∷ (items_into items (record { on_break = l; on_continue = to.on_continue }) (l + 1 + labels_in e + labels_of
+        variables) (t + 1 + temps_in e + temps_of variables) ++ sink.op (build.Label l) ∷ [])))
+    stmt_into (Case value) to l t = sink.op (build.Label l) ∷ []
+    stmt_into Default to l t = sink.op (build.Label l) ∷ []
+    stmt_into Break to l t = sink.op (build.Jump to.on_break) ∷ []
+    stmt_into Continue to l t = sink.op (build.Jump to.on_continue) ∷ []
+    stmt_into Return to l t = sink.op build.ReturnZero ∷ []
+    stmt_into (ReturnValue e) to l t = expr_into e l t ++ sink.op build.Return ∷ []
 
-    pub items_filled : Items → Targets → (l t : ℕ) → List BuildOp
-    items_filled NoItem to l t = []
-    items_filled (Item s items) to l t = stmt_filled s to l t ++ items_filled items to (l + labels s) (t + temps s)
+    pub items_into : Items → Targets → (l t : ℕ) → List A
+    items_into NoItem to l t = []
+    items_into (Item s items) to l t = stmt_into s to l t ++ items_into items to (l + labels s) (t + temps s)
+
+-- the ops of a body with this in its holes
+abbrev pub expr_filled : Holes → Addresses → Expr → (l t : ℕ) → List BuildOp
+expr_filled holes addresses e l t = expr_into (ops_with holes) addresses e l t
+
+abbrev pub args_filled : Holes → Addresses → Args → (l t : ℕ) → List BuildOp
+args_filled holes addresses args l t = args_into (ops_with holes) addresses args l t
+
+abbrev pub stmt_filled : Holes → Addresses → Stmt → Targets → (l t : ℕ) → List BuildOp
+stmt_filled holes addresses s to l t = stmt_into (ops_with holes) addresses s to l t
+
+abbrev pub items_filled : Holes → Addresses → Items → Targets → (l t : ℕ) → List BuildOp
+items_filled holes addresses items to l t = items_into (ops_with holes) addresses items to l t
 
 -- those of a body without holes, as in the functions of the text
 abbrev pub expr_ops : Addresses → Expr → (l t : ℕ) → List BuildOp

@@ -7,7 +7,7 @@ use Rattle.icode_ir.specs.declared.build_op.BuildOp.{BuildOp}
 use Rattle.icode_ir.specs.declared.build_op.BuildOp.TheVariants as build
 use Rattle.staged_meaning.specs.Program.{Tick, OfExpression, OfStatement}
 use Rattle.staged_meaning.specs.Size.{labels_in, labels, temps_in, temps, variables_in}
-use Rattle.tick_lower_spec.specs.Lower.{Holes, Addresses, expr_filled, stmt_filled, nowhere}
+use Rattle.tick_lower_spec.specs.Lower.{Holes, Sink, ops_with, Addresses, expr_into, stmt_into, nowhere}
 
 -- the capture of a number
 abbrev pub capture_at : Captures → ℕ → Captures
@@ -30,19 +30,24 @@ key_in_capture _ = 0
 -- what these captures put into the holes, where the ops of each splice are known
 abbrev pub filled : Captures → (splice : ℕ → List BuildOp) → Holes
 filled captures splice = record {
-  word = λ i. word_in (capture_at captures i);
-  key = λ i. key_in_capture (capture_at captures i);
+  captured = λ i. build.Const (word_in (capture_at captures i)) ∷ [];
+  get_key = λ i. build.GetSpec (key_in_capture (capture_at captures i)) ∷ [];
+  set_key = λ i. build.SetSpec (key_in_capture (capture_at captures i)) ∷ [];
   splice = splice;
 }
 
--- the ops of a tick: one body with its variables and labels
+-- the lowering of a tick: one body with its variables and labels
+abbrev pub tick_into : {A : Type 0} → Sink A → Addresses → Tick → List A
+tick_into sink addresses (OfExpression e) =
+    sink.op (build.Enter (temps_in e) (labels_in e)) ∷ (expr_into sink addresses e 0 0 ++ sink.op build.Leave ∷ [])
+tick_into sink addresses (OfStatement s) =
+    sink.op (build.Enter (variables_in s + temps s) (labels s))
+    ∷ (stmt_into sink addresses s nowhere 0 (variables_in s) ++ sink.op build.Leave ∷ [])
+
+-- its ops
 abbrev pub tick_ops : Holes → Addresses → Option Tick → List BuildOp
 tick_ops holes addresses None = []
-tick_ops holes addresses (Some (OfExpression e)) =
-    build.Enter (temps_in e) (labels_in e) ∷ (expr_filled holes addresses e 0 0 ++ build.Leave ∷ [])
-tick_ops holes addresses (Some (OfStatement s)) =
-    build.Enter (variables_in s + temps s) (labels s)
-    ∷ (stmt_filled holes addresses s nowhere 0 (variables_in s) ++ build.Leave ∷ [])
+tick_ops holes addresses (Some tick) = tick_into (ops_with holes) addresses tick
 
 module _ (addresses : Addresses) (ticks : List Tick) where
   abbrev mutual

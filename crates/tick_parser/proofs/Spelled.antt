@@ -243,14 +243,16 @@ Initializer-S = Initializer-F SpelledCore SpelledExpr SpelledInitializer Spelled
 
 abbrev front-Initializer : Initializer-S → Initializer-T
 front-Initializer = map-Initializer SpelledCore SpelledExpr SpelledInitializer SpelledOptionalExpr SpelledStmt
-    SpelledSuffix SpelledDeclaration SpelledDeclarator SpelledInit SpelledParameter SpelledTypename Core Expr Initializer
+    SpelledSuffix SpelledDeclaration SpelledDeclarator SpelledInit SpelledParameter SpelledTypename Core Expr
+    Initializer
     OptionalExpr Stmt Suffix Declaration Declarator Init Parameter Typename (λ k. k.0) (λ k. k.0) (λ k. k.0) (λ k. k.0)
     (λ k. k.0) (λ k. k.0) (λ k. k.0) (λ k. k.0) (λ k. k.0) (λ k. k.0) (λ k. k.0)
 
 abbrev spelled-Initializer : Initializer-T →
     Initializer-F Spelling Spelling Spelling Spelling Spelling Spelling Spelling Spelling Spelling Spelling Spelling
 spelled-Initializer = map-Initializer Core Expr Initializer OptionalExpr Stmt Suffix Declaration Declarator Init
-    Parameter Typename Spelling Spelling Spelling Spelling Spelling Spelling Spelling Spelling Spelling Spelling Spelling
+    Parameter Typename Spelling Spelling Spelling Spelling Spelling Spelling Spelling Spelling Spelling Spelling
+    Spelling
     spells_core spells_expr spells_initializer spells_optional spells_stmt spells_suffix spells_declaration
     spells_declarator spells_init spells_parameter spells_typename
 
@@ -268,14 +270,16 @@ OptionalExpr-S = OptionalExpr-F SpelledCore SpelledExpr SpelledInitializer Spell
 
 abbrev front-OptionalExpr : OptionalExpr-S → OptionalExpr-T
 front-OptionalExpr = map-OptionalExpr SpelledCore SpelledExpr SpelledInitializer SpelledOptionalExpr SpelledStmt
-    SpelledSuffix SpelledDeclaration SpelledDeclarator SpelledInit SpelledParameter SpelledTypename Core Expr Initializer
+    SpelledSuffix SpelledDeclaration SpelledDeclarator SpelledInit SpelledParameter SpelledTypename Core Expr
+    Initializer
     OptionalExpr Stmt Suffix Declaration Declarator Init Parameter Typename (λ k. k.0) (λ k. k.0) (λ k. k.0) (λ k. k.0)
     (λ k. k.0) (λ k. k.0) (λ k. k.0) (λ k. k.0) (λ k. k.0) (λ k. k.0) (λ k. k.0)
 
 abbrev spelled-OptionalExpr : OptionalExpr-T →
     OptionalExpr-F Spelling Spelling Spelling Spelling Spelling Spelling Spelling Spelling Spelling Spelling Spelling
 spelled-OptionalExpr = map-OptionalExpr Core Expr Initializer OptionalExpr Stmt Suffix Declaration Declarator Init
-    Parameter Typename Spelling Spelling Spelling Spelling Spelling Spelling Spelling Spelling Spelling Spelling Spelling
+    Parameter Typename Spelling Spelling Spelling Spelling Spelling Spelling Spelling Spelling Spelling Spelling
+    Spelling
     spells_core spells_expr spells_initializer spells_optional spells_stmt spells_suffix spells_declaration
     spells_declarator spells_init spells_parameter spells_typename
 
@@ -341,14 +345,16 @@ Declaration-S = Declaration-F SpelledCore SpelledExpr SpelledInitializer Spelled
 
 abbrev front-Declaration : Declaration-S → Declaration-T
 front-Declaration = map-Declaration SpelledCore SpelledExpr SpelledInitializer SpelledOptionalExpr SpelledStmt
-    SpelledSuffix SpelledDeclaration SpelledDeclarator SpelledInit SpelledParameter SpelledTypename Core Expr Initializer
+    SpelledSuffix SpelledDeclaration SpelledDeclarator SpelledInit SpelledParameter SpelledTypename Core Expr
+    Initializer
     OptionalExpr Stmt Suffix Declaration Declarator Init Parameter Typename (λ k. k.0) (λ k. k.0) (λ k. k.0) (λ k. k.0)
     (λ k. k.0) (λ k. k.0) (λ k. k.0) (λ k. k.0) (λ k. k.0) (λ k. k.0) (λ k. k.0)
 
 abbrev spelled-Declaration : Declaration-T →
     Declaration-F Spelling Spelling Spelling Spelling Spelling Spelling Spelling Spelling Spelling Spelling Spelling
 spelled-Declaration = map-Declaration Core Expr Initializer OptionalExpr Stmt Suffix Declaration Declarator Init
-    Parameter Typename Spelling Spelling Spelling Spelling Spelling Spelling Spelling Spelling Spelling Spelling Spelling
+    Parameter Typename Spelling Spelling Spelling Spelling Spelling Spelling Spelling Spelling Spelling Spelling
+    Spelling
     spells_core spells_expr spells_initializer spells_optional spells_stmt spells_suffix spells_declaration
     spells_declarator spells_init spells_parameter spells_typename
 
@@ -366,7 +372,8 @@ Declarator-S = Declarator-F SpelledCore SpelledExpr SpelledInitializer SpelledOp
 
 abbrev front-Declarator : Declarator-S → Declarator-T
 front-Declarator = map-Declarator SpelledCore SpelledExpr SpelledInitializer SpelledOptionalExpr SpelledStmt
-    SpelledSuffix SpelledDeclaration SpelledDeclarator SpelledInit SpelledParameter SpelledTypename Core Expr Initializer
+    SpelledSuffix SpelledDeclaration SpelledDeclarator SpelledInit SpelledParameter SpelledTypename Core Expr
+    Initializer
     OptionalExpr Stmt Suffix Declaration Declarator Init Parameter Typename (λ k. k.0) (λ k. k.0) (λ k. k.0) (λ k. k.0)
     (λ k. k.0) (λ k. k.0) (λ k. k.0) (λ k. k.0) (λ k. k.0) (λ k. k.0) (λ k. k.0)
 

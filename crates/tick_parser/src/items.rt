@@ -95,7 +95,7 @@ fn sign_kind(sign: Sign) -> Kind
     }
 }
 
-// Without the first byte, if there is one.
+// The bytes behind the first one, if there is one.
 fn behind_first(bytes: &[u8]) -> &[u8]
     ensures { result.now ≡ drop 1 bytes.now }
 {

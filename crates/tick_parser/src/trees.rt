@@ -55,7 +55,7 @@ fn denial(text: &[u8], tokens: &[Token], stop: Stop) -> Deny
     }
 }
 
-// The items of the program that the tokens are.
+// Parses all tokens as the items of a program.
 #[tactic(auto, unfolding(parse_spelling::specs::Trees::outcome))]
 fn program<'a>(alloc: Global, items: &'a [Item<'a>]) -> Result<Items<External>, Stop>
     ensures found { spec.Finds (spec.outcome items.now) result }
@@ -69,13 +69,13 @@ fn program<'a>(alloc: Global, items: &'a [Item<'a>]) -> Result<Items<External>, 
         declarator: read_declarator,
     };
     let mut tokens = Tokens::new(items);
-    parse_declarations::program(&grammar, &mut tokens, MAX_NESTING)
+    parse_statements::program(&grammar, &mut tokens, MAX_NESTING)
 }
 
 /// The syntax tree of a text of at most 1,048,576 bytes, from its at most 262,144 tokens. The tree spells the tokens.
 ///
-/// The fault of the first token that is wrong: Syntax where the grammar takes no such token there, the end of the text with
-/// it, else TooDeep where the nesting at it is over [`MAX_NESTING`].
+/// The fault of the first token that is wrong: Syntax where the grammar takes no such token there, the end of the text
+/// with it, else TooDeep where the nesting at it is over [`MAX_NESTING`].
 #[tactic(auto, unfolding(parse_spelling::specs::Trees::parsed), using(crate::proofs::Parsed::is_text))]
 pub fn parse(alloc: Global, text: &[u8], tokens: &[Token]) -> Result<Tree, Deny>
     requires small { length text.now ≤ LONGEST_TEXT }

@@ -2,9 +2,9 @@
 ghost use Rattle.std.specs.Prelude.{◌≤◌, length, IfOk};
 ghost use Rattle.tick_tree.specs.Faults.{Checks};
 ghost use Rattle.staged_meaning.specs.Meaning.{Program};
-ghost use Rattle.text_commands.specs.Texts as spec;
-ghost use Rattle.text_commands.specs.Texts.{Builds};
-ghost use Rattle.text_commands.specs.Saved.{Saves};
+ghost use Rattle.source_commands.specs.Texts as spec;
+ghost use Rattle.source_commands.specs.Texts.{Builds};
+ghost use Rattle.source_commands.specs.Saved.{Saves};
 ghost use Rattle.limits.specs.declared.text.TheConstants.{LONGEST_TEXT};
 
 use crate::language::TickC;
@@ -20,7 +20,7 @@ pub fn typed_tree(alloc: Global, text: &[u8]) -> Result<Typed, Deny>
     ensures tree { Checks result (spec.typed_tree text.now) }
     ensures program { IfOk result (λ tree. (program : Program) × spec.Means tree program) }
 {
-    text_commands::typed_tree::<TickC>(alloc, text)
+    source_commands::typed_tree::<TickC>(alloc, text)
 }
 
 /// The image of a text of at most 1,048,576 bytes, or its first static fault. The headline holds for the image: the
@@ -30,7 +30,7 @@ pub fn build(alloc: Global, text: &[u8]) -> Result<Image, Deny>
     ensures built { IfOk result (λ image. Builds text.now image) }
     ensures refused { spec.Refuses (spec.typed text.now) result }
 {
-    text_commands::build::<TickC>(alloc, text)
+    source_commands::build::<TickC>(alloc, text)
 }
 
 /// The bytes of the image file of a text of at most 1,048,576 bytes, or the text's first static fault. They are the one
@@ -43,5 +43,5 @@ pub fn build_file(alloc: Global, text: &[u8]) -> Result<Vec<u8>, Deny>
     ensures saved { IfOk result (λ bytes. Saves text.now bytes.items) }
     ensures refused { spec.Refuses (spec.typed text.now) result }
 {
-    text_commands::build_file::<TickC>(alloc, text)
+    source_commands::build_file::<TickC>(alloc, text)
 }

@@ -1,11 +1,11 @@
 //! The parser, the checker and the evaluator under the commands on texts.
 ghost use Rattle.std.specs.Prelude.{IfOk};
 ghost use Rattle.staged_meaning.specs.Meaning.{Program};
-ghost use Rattle.text_commands.specs.Texts.{Means};
-ghost use Rattle.text_commands.specs.Evaluated.{IsEvaluated};
+ghost use Rattle.source_commands.specs.Texts.{Means};
+ghost use Rattle.source_commands.specs.Evaluated.{IsEvaluated};
 
+use source_commands::{Evaluation, Language};
 use std::alloc::{AllocError, Global};
-use text_commands::{Evaluation, Language};
 use tick_checker::check;
 use tick_parser::parse;
 use tick_tree::{Deny, Token, Tree};

@@ -1,6 +1,5 @@
 -- The functions of a text: behind the name of each stands a list of parameters at once, not even a parenthesis between
--- them. The grammar
--- takes a body nowhere else.
+-- them. The grammar takes a body nowhere else.
 use Rattle.std.specs.Prelude.{◌≡◌, Bool, true, false, not, List, [], ◌∷◌}
 use Rattle.tick_tree.specs.declared.syntax.Core.{Core}
 use Rattle.tick_tree.specs.declared.syntax.Declarator.{Declarator}
@@ -10,8 +9,7 @@ use Rattle.tick_tree.specs.declared.syntax.Core.TheOpen.{Core-F, Declarator-F}
 use Rattle.tick_tree.specs.declared.syntax.Core.TheFolds.{fold-Core, fold-Declarator}
 
 -- a layer of the tree, with what is asked of its parts in their places: of the inner part of a declarator, by whether a
--- suffix
--- stands behind it
+-- suffix stands behind it
 abbrev pub Core-L : Type 0
 Core-L = Core-F (Bool → Bool) (Unit {0}) (Unit {0}) (Unit {0}) (Unit {0}) (Unit {0}) (Unit {0}) Bool (Unit {0})
     (Unit {0}) (Unit {0})

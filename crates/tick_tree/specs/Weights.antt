@@ -1,6 +1,5 @@
 -- The weight of a part of a tree: the number of its nodes, where a prefix of a declarator is none. The counts that the
--- checker's walk
--- keeps grow by at most the weight of what is walked. Written by tools/checker/weights.py.
+-- checker's walk keeps grow by at most the weight of what is walked. Written by tools/checker/weights.py.
 use Rattle.std.specs.Prelude.{ℕ, ◌+◌, List, [], ◌∷◌, map}
 use Rattle.tick_tree.specs.declared.syntax.Core.{Core}
 use Rattle.tick_tree.specs.declared.syntax.Expr.{Expr}

@@ -1,7 +1,6 @@
 //! The words of whole command lines.
 
-use command_options::{Command, asks_counts};
-use command_words::command_of;
+use command_words::{Command, asks_counts, command_of};
 use std::alloc::{AllocError, Global};
 
 fn words_of(alloc: Global, line: &str) -> Result<Vec<String>, AllocError> {

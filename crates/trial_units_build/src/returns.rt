@@ -9,7 +9,8 @@ use typed_tree::{Expr, Function, Stmt};
 
 /// A list of `int main() { return 3; }`.
 pub fn listed(alloc: Global) -> Result<Items<Function>, AllocError>
-    ensures returns { IfOk result (λ list. All (λ f. (f.body ≡ Stmt.ReturnValue (Expr.Const 3)) × (f.params ≡ 0) × (f.object ≡ 0)) list) }
+    ensures returns { IfOk result (λ list. All
+        (λ f. (f.body ≡ Stmt.ReturnValue (Expr.Const 3)) × (f.params ≡ 0) × (f.object ≡ 0)) list) }
     ensures one { IfOk result (λ list. length list ≡ 1) }
 {
     let three = Boxed::new(alloc, Expr::Const(3))?;

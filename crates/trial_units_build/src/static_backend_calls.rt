@@ -1,5 +1,5 @@
-//! The image of a program of two functions that each return a number, worked out by hand: a frame of 128 bytes and 48 for
-//! each of two nodes, and 28 words for each function. Its globals are three bytes.
+//! The image of a program of two functions that each return a number, worked out by hand: a frame of 128 bytes and 48
+//! for each of two nodes, and 28 words for each function. Its globals are three bytes.
 
 ghost use Rattle.std.specs.Prelude.{◌≡◌, IfOk, length};
 ghost use Rattle.std.specs.List.{All};
@@ -13,7 +13,8 @@ use typed_tree::{Expr, Function, Stmt};
 
 // Two such functions.
 fn two(alloc: Global) -> Result<Items<Function>, AllocError>
-    ensures returns { IfOk result (λ made. All (λ f. (f.body ≡ Stmt.ReturnValue (Expr.Const 3)) × (f.params ≡ 0) × (f.object ≡ 0)) made) }
+    ensures returns { IfOk result (λ made. All
+        (λ f. (f.body ≡ Stmt.ReturnValue (Expr.Const 3)) × (f.params ≡ 0) × (f.object ≡ 0)) made) }
     ensures two { IfOk result (λ made. length made ≡ 2) }
 {
     let mut functions = listed(alloc)?;
@@ -28,7 +29,7 @@ const BYTES: [u8; 3] = [7, 0, 255];
 #[tactic(auto, using(crate::proofs::ReturnLists::are_static, crate::proofs::ReturnLists::has_second))]
 fn image_of_two(alloc: Global) -> Result<Image, AllocError> {
     let functions = two(alloc)?;
-    image(alloc, functions.as_slice(), BYTES.as_slice(), 2)
+    image(alloc, functions.as_slice(), &[], BYTES.as_slice(), 2)
 }
 
 // Whether the start counts two functions and calls the second.

@@ -1,6 +1,6 @@
-//! The words of the start, and the ends of malloc's routine, worked out by hand from the instruction table.
+//! The words of the start, worked out by hand from the instruction table.
 
-use static_image::write_front;
+use static_image::write_start;
 use word32::map::FUNCTIONS;
 
 const START: [u32; 20] = [
@@ -27,10 +27,9 @@ const START: [u32; 20] = [
 ];
 
 #[test]
-fn the_start_stands_in_front(rt: HostRuntime) {
-    let mut out = [1; 1024];
-    write_front(&mut out, FUNCTIONS, 1);
-    let ends = [out[20], out[63], out[64], out[77], out[1023]];
+fn the_start_has_its_block(rt: HostRuntime) {
+    let mut out = [1; 64];
+    write_start(&mut out, FUNCTIONS, 1);
     assert!(rt; out[..20] == START[..]);
-    assert!(rt; ends == [0, 0, 0x8f83_fffc, 0x03e0_0008, 0]);
+    assert!(rt; [out[20], out[63]] == [0, 0]);
 }

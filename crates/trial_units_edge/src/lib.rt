@@ -1,5 +1,5 @@
-//! Public calls of the program's edge on their happy path: the edge in memory, and the real one; and the text that `gen`
-//! writes to it.
+//! Public calls of the program's edge on their happy path: the edge in memory, and the real one; and the text that
+//! `gen` writes to it.
 #![tactic(auto)]
 
 #[cfg(test)]

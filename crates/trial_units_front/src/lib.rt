@@ -8,9 +8,9 @@ mod check_declarators_calls;
 #[cfg(test)]
 mod check_forms_calls;
 #[cfg(test)]
-mod check_scopes_calls;
+mod check_rules_calls;
 #[cfg(test)]
-mod check_tables_calls;
+mod check_scopes_calls;
 #[cfg(test)]
 mod check_types_calls;
 #[cfg(test)]
@@ -20,9 +20,11 @@ mod lex_words_calls;
 #[cfg(test)]
 mod meaning_operators_calls;
 #[cfg(test)]
+mod name_numbers_calls;
+#[cfg(test)]
 mod nodes;
 #[cfg(test)]
-mod one_place_calls;
+mod shared_bytes_calls;
 #[cfg(test)]
 mod tick_tree_calls;
 #[cfg(test)]

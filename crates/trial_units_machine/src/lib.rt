@@ -1,5 +1,5 @@
-//! Public calls of the crates of ICODE and of the machine on their happy path, with rows, functions and values worked out
-//! by hand.
+//! Public calls of the crates of ICODE and of the machine on their happy path, with rows, functions and values worked
+//! out by hand.
 #![tactic(auto)]
 
 #[cfg(test)]

@@ -18,8 +18,8 @@ const PROGRAM: [u8; 64] = [
     0x34, 2, 0, 10, 0, 0, 0, 12, // ori $2,$0,10 and syscall
 ];
 
-// The image of a program that makes a function of the ops Const 5 and Drop, flushes it, publishes it as row 1, calls it,
-// and ends with its answer.
+// The image of a program that makes a function of the ops Const 5 and Drop, flushes it, publishes it as row 1, calls
+// it, and ends with its answer.
 const MAKER: [u8; 144] = [
     0x54, 0x49, 0x43, 0x4b, 0, 0, 0, 1, 0, 0x40, 0, 0, 0, 0, 0, 0x1e, 0, 0, 0, 0, 0, 0, 0, 0, // the head
     0x3c, 0x1c, 0x20, 0x51, 0x3c, 0x1d, 0x80, 0, // lui $28,0x2051 and lui $29,0x8000

@@ -1,6 +1,5 @@
 -- A fold over the code's tree by some rules is the fold over its view by the same rules. So what a rule defines may be
--- said of
--- either tree.
+-- said of either tree.
 use Rattle.std.proofs.Common.{◌≡◌, ap, sym, subst, refl, ◌∙◌, List, [], ◌∷◌, map}
 use Rattle.typed_tree.specs.declared.expression.Expr.{Expr, roll-Expr}
 use Rattle.typed_tree.specs.declared.expression.Expr.TheOpen.{Expr-F}

@@ -1,6 +1,5 @@
 -- Numbers together: `total`, by which rules are written, and `sum`, which contracts name, are the same; and what one
--- part more
--- adds to a sum.
+-- part more adds to a sum.
 use Rattle.std.proofs.Common.{◌≡◌, ℕ, ◌+◌, ◌<◌, List, [], ◌∷◌, sum, length, take, get_or, ap, sym, ◌∙◌, refl}
 use Rattle.std.proofs.lemmas.List.Sums.{sum-map, sum_by-cons, sum_by_more}
 use Rattle.typed_tree.specs.declared.expression.Expr.{Expr}

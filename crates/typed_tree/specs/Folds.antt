@@ -1,6 +1,5 @@
 -- Folds over the typed tree. A definition on trees is one rule a node, which says what holds of the node by what holds
--- of its
--- parts; it is used on the code's tree and on the pure tree alike. This is the fold over the code's tree.
+-- of its parts; it is used on the code's tree and on the pure tree alike. This is the fold over the code's tree.
 use Rattle.std.specs.Prelude.{ℕ, ◌+◌, List, [], ◌∷◌, max}
 use Rattle.word32.specs.declared.width.Width.{Width}
 use Rattle.typed_tree.specs.declared.expression.Expr.{Expr}

@@ -1,6 +1,5 @@
 -- What is counted in the pure tree: nodes, which limits and charges are stated in, and the labels and variables of
--- their own
--- that nodes take in the code. These are this project's own rules.
+-- their own that nodes take in the code. These are this project's own rules.
 use Rattle.std.specs.Prelude.{ℕ, ◌+◌, max}
 use Rattle.typed_tree.specs.declared.expression.Expr.TheOpen.{Expr-F}
 use Rattle.typed_tree.specs.Folds.{Parts, Rules, total, greatest}

@@ -1,6 +1,5 @@
 -- The size of a function, a tick or a specification is its number of typed nodes; what leaves a value; and which
--- address
--- a program's numbers may have. The size is this project's own rule: charges and limits are stated in it.
+-- address a program's numbers may have. The size is this project's own rule: charges and limits are stated in it.
 use Rattle.std.specs.Prelude.{ℕ, ◌+◌, Bool, true, false, List, sum, map}
 use Rattle.typed_tree.specs.declared.expression.Answer.{Answer}
 use Rattle.typed_tree.specs.declared.expression.Answer.TheVariants as answer

@@ -1,8 +1,8 @@
 //! The typed nodes of expressions, statements and programs.
 //!
 //! Each node stands for one unit of size. Types, names and lines are gone: what is left is what runs. Numbers of
-//! variables, captures and functions say which one is meant. The nodes are this project's own rule; the docs list them with
-//! the builder ops that they become.
+//! variables, captures and functions say which one is meant. The nodes are this project's own rule; the docs list them
+//! with the builder ops that they become.
 
 use icode_ops::{BinKind, UnKind};
 use sqlite_items::{Boxed, Items};
@@ -103,7 +103,8 @@ pub enum Expr {
     Getchar,
     /// Calls a library function of one argument.
     Lib(Library, Boxed<Expr>),
-    /// Makes a specification of the tick of this number, counted from 0, with its captures: `Capture` nodes in text order.
+    /// Makes a specification of the tick of this number, counted from 0, with its captures: `Capture` nodes in text
+    /// order.
     Tick(u32, Items<Expr>),
     /// A word that a tick captures.
     Capture(CaptureKind, Boxed<Expr>),

@@ -63,7 +63,8 @@ impl Drop for Tick {
     }
 }
 
-/// The parts of a typed program, as the checker puts them together. The typed tree of an accepted text is sealed: `wellformed::Typed`.
+/// The parts of a typed program, as the checker puts them together. The typed tree of an accepted text is sealed:
+/// `wellformed::Typed`.
 pub struct TypedParts {
     /// Its functions, in the order of their definitions; the first has the number 1.
     pub functions: Items<Function>,

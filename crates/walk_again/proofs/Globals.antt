@@ -14,12 +14,12 @@ use Rattle.tick_tree.specs.declared.fault.FaultKind.{FaultKind}
 use Rattle.tick_tree.specs.declared.fault.FaultKind.TheVariants as fault
 use Rattle.tick_tree.specs.Faults.{Checked, refuse, ◌>>=◌ as ◌>>>=◌}
 use Rattle.typed_tree.specs.declared.expression.Stmt.{Stmt}
-use Rattle.check_tables.specs.Frames as frames
+use Rattle.check_rules.specs.Frames as frames
 use Rattle.check_rules.specs.Functions as tables
-use Rattle.check_tables.specs.Images as images
-use Rattle.check_tables.specs.declared.image.Image.{Image}
+use Rattle.check_rules.specs.Images as images
+use Rattle.check_rules.specs.declared.image.Image.{Image}
 use Rattle.check_rules.specs.declared.functions.Functions.{Functions}
-use Rattle.check_tables.specs.Walks.{Rule, ◌>>=◌}
+use Rattle.check_rules.specs.Walks.{Rule, ◌>>=◌}
 use Rattle.check_rules.specs.declared.state.State.{State}
 use Rattle.check_rules.specs.Locals.{meaning}
 use Rattle.check_rules.specs.Names as scope_names

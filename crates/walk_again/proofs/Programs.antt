@@ -1,19 +1,20 @@
 -- A program whose first walk marked no variable and met no string and no prototype: the second walk finds what
 -- the first did.
-use Rattle.std.proofs.Common.{◌≡◌, ◌≤◌, List, [], length, refl, ap, sym, subst, ◌∙◌}
+use Rattle.std.proofs.Common.{◌≡◌, ◌≤◌, List, [], ◌∷◌, length, refl, ap, sym, subst, ◌∙◌}
 use Rattle.std.proofs.Common.{Ok, Err, true, arith}
 use Rattle.tick_tree.specs.declared.syntax.External.{External}
 use Rattle.tick_tree.specs.Faults.{Checked, ◌>>=◌ as ◌>>>=◌}
 use Rattle.check_rules.specs.Functions as functions
-use Rattle.check_tables.specs.Images as images
+use Rattle.check_rules.specs.Images as images
 use Rattle.check_rules.specs.declared.state.State.{State}
-use Rattle.check_rules.specs.Starts.{libraries, first_library, second_library, third_library, add_library, empty}
+use Rattle.check_rules.specs.declared.library.LibraryFunction.{LibraryFunction}
+use Rattle.check_rules.specs.Starts.{libraries, whole_library, add_libraries, add_library, empty}
 use Rattle.check_rules.specs.Starts.{emptied, start, again}
 use Rattle.check_globals.specs.Programs.{finished}
 use Rattle.check_globals.specs.Program as program
 use Rattle.walk_again.specs.Again.{Found, told, Kept, Silent, After, Again}
 use Rattle.walk_again.specs.Laws.{is_settled, WalksAgain}
-use Rattle.walk_again.proofs.Steps.{bind_again, after}
+use Rattle.walk_again.proofs.Steps.{bind_again, pure_again, after}
 use Rattle.walk_again.proofs.Settled.{Settled, settled}
 use Rattle.walk_again.proofs.States.{declare_again}
 use Rattle.walk_again.proofs.Globals.{walk_again}
@@ -27,11 +28,13 @@ found s h = record {
   unmarked = h.unmarked;
 }
 
+all_again : (k : Found) (fs : List LibraryFunction) → Again k (add_libraries fs)
+unfolding add_libraries add_library
+all_again k [] = pure_again tt
+all_again k (f ∷ fs) = bind_again (declare_again _ _ _) (λ u. all_again k fs)
+
 libraries_again : (k : Found) → Again k libraries
-unfolding libraries first_library second_library third_library add_library
-libraries_again k =
-    bind_again (bind_again (declare_again _ _ _) (λ u. declare_again _ _ _))
-    (λ u. bind_again (bind_again (declare_again _ _ _) (λ v. declare_again _ _ _)) (λ v. declare_again _ _ _))
+libraries_again k = all_again k whole_library
 
 -- the second walk begins as the first one, with what that found
 begins : (s : State) (h : Settled s) → emptied s ≡ told (found s h) empty

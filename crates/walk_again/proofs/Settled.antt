@@ -2,7 +2,7 @@
 use Rattle.std.proofs.Common.{◌≡◌, ℕ, zero, suc, Bool, true, false, ◌&&◌, not, List, [], ◌∷◌, refl}
 use Rattle.std.proofs.Common.{slice_get}
 use Rattle.tick_tree.specs.Named.{is_nil}
-use Rattle.check_tables.specs.Frames as frames
+use Rattle.check_rules.specs.Frames as frames
 use Rattle.check_rules.specs.declared.state.State.{State}
 use Rattle.wellformed.proofs.Bools.{first_true, second_true, first_false, second_false}
 use Rattle.walk_again.specs.Laws.{is_marked, any_marked, is_settled}

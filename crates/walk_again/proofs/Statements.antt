@@ -10,13 +10,13 @@ use Rattle.meaning_operators.specs.Constants.{constant}
 use Rattle.tick_tree.specs.Faults.{Checked}
 use Rattle.typed_tree.specs.declared.expression.Stmt.{Stmt}
 use Rattle.typed_tree.specs.declared.expression.Stmt.TheVariants as st
-use Rattle.check_tables.specs.declared.labels.Labels.{Labels}
-use Rattle.check_tables.specs.Labels as labels
+use Rattle.check_rules.specs.declared.labels.Labels.{Labels}
+use Rattle.check_rules.specs.Labels as labels
 use Rattle.check_rules.specs.declared.state.Around.{Around}
 use Rattle.check_rules.specs.declared.state.Stage.{Stage}
 use Rattle.check_rules.specs.declared.state.Stage.TheVariants as stage
 use Rattle.check_rules.specs.declared.state.State.{State}
-use Rattle.check_tables.specs.Walks.{Rule, lift}
+use Rattle.check_rules.specs.Walks.{Rule, lift}
 use Rattle.check_rules.specs.ExpressionRules.{Node, Item}
 use Rattle.check_rules.specs.StatementRules as rules
 use Rattle.check_rules.specs.Statements as statements

@@ -30,12 +30,12 @@ use Rattle.check_rules.specs.declared.state.State.{State}
 use Rattle.check_rules.specs.Blocks.{depth, enter, leave}
 use Rattle.check_rules.specs.Locals as locals
 use Rattle.check_rules.specs.Names as names
-use Rattle.check_tables.specs.declared.frame.Home.{Home}
-use Rattle.check_tables.specs.declared.frame.Home.TheVariants as home
-use Rattle.check_tables.specs.declared.frame.Frame.{Frame}
-use Rattle.check_tables.specs.Frames as frames
-use Rattle.check_tables.specs.Images as images
-use Rattle.check_tables.specs.Walks.{Rule, ◌>>=◌}
+use Rattle.check_rules.specs.declared.frame.Home.{Home}
+use Rattle.check_rules.specs.declared.frame.Home.TheVariants as home
+use Rattle.check_rules.specs.declared.frame.Frame.{Frame}
+use Rattle.check_rules.specs.Frames as frames
+use Rattle.check_rules.specs.Images as images
+use Rattle.check_rules.specs.Walks.{Rule, ◌>>=◌}
 use Rattle.check_rules.specs.Productions as productions
 use Rattle.walk_again.specs.Again.{Found, told, told_frame, Kept, After, Again}
 use Rattle.walk_again.proofs.Steps.{kept_refl, same_kept, by_after, after, lift_after, lift_again, bind_again}

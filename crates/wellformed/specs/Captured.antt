@@ -1,8 +1,8 @@
 -- Which captures of its tick the nodes of a body name, in the order in which they name them first. The nodes are read
 -- each before its parts and its parts from left to right, which is the order of the text. The captures of a tick are
 -- numbered in that order, so a node that names the next number names one capture more. Each splice has a capture of its
--- own: one that names a capture again has no answer. These are this project's own rules; the crate `captures` has them
--- as a list of nodes.
+-- own: one that names a capture again has no answer. These are this project's own rules; the crate `tick_captures` has
+-- them as a list of nodes.
 use Rattle.std.specs.Prelude.{ℕ, nat_eq, if◌then◌else◌, List, [], ◌∷◌, ◌++◌, length, Option, Some, None}
 use Rattle.typed_tree.specs.declared.expression.CaptureKind.{CaptureKind}
 use Rattle.typed_tree.specs.declared.expression.CaptureKind.TheVariants as kind

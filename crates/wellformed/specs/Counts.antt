@@ -1,6 +1,5 @@
 -- How often a thing stands in the body of a function or tick: the frame objects that a byte belongs to, and the
--- declarations
--- that a register variable has. These are this project's own rules.
+-- declarations that a register variable has. These are this project's own rules.
 use Rattle.std.specs.Prelude.{ℕ, ◌+◌, ◌*◌, ◌==◌, Bool, ◌&&◌, nat_lt, nat_le, if◌then◌else◌, sum}
 use Rattle.typed_tree.specs.declared.expression.Stmt.{Stmt}
 use Rattle.typed_tree.specs.declared.expression.Expr.TheOpen.{Expr-F}

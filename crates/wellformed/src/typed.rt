@@ -6,7 +6,8 @@ ghost use Rattle.wellformed.specs.Program.{IsWellFormed};
 use std::marker::Model;
 use typed_tree::{Function, Tick, TypedParts};
 
-/// The typed tree of an accepted text, which contracts see as its parts. The law on accepted texts holds of each: `IsWellFormed`.
+/// The typed tree of an accepted text, which contracts see as its parts. The law on accepted texts holds of each:
+/// `IsWellFormed`.
 #[derive(Drop)]
 pub struct Typed {
     parts: TypedParts,

@@ -12,9 +12,9 @@ use Rattle.tick_tree.specs.Faults.{Checked, ◌>>=◌ as ◌>>>=◌}
 use Rattle.typed_tree.specs.declared.expression.Stmt.{Stmt}
 use Rattle.typed_tree.specs.declared.expression.Stmt.TheVariants as st
 use Rattle.check_rules.specs.declared.functions.Functions.{Functions}
-use Rattle.check_tables.specs.Frames as frames
+use Rattle.check_rules.specs.Frames as frames
 use Rattle.check_rules.specs.Functions as tables
-use Rattle.check_tables.specs.Walks.{Rule, ◌>>=◌}
+use Rattle.check_rules.specs.Walks.{Rule, ◌>>=◌}
 use Rattle.check_rules.specs.declared.state.State.{State}
 use Rattle.check_rules.specs.Locals.{meaning, parameter, with_parameter}
 use Rattle.check_rules.specs.Names.{declare}

@@ -15,8 +15,8 @@ use Rattle.tick_tree.specs.declared.syntax.Core.TheOpen.{Core-F, Suffix-F, Decla
 use Rattle.tick_tree.specs.declared.syntax.Core.TheFolds.{map-Core, map-Suffix, map-Declarator, ind-Declarator}
 use Rattle.tick_tree.specs.declared.syntax.Core.TheFolds.{fold-roll-Core, fold-roll-Suffix, fold-roll-Declarator}
 use Rattle.check_globals.specs.Functions.{Given}
-use Rattle.check_globals.specs.Parameters.{Head, Inner, nothing, first_of, inner_rule, head_rule, list_rule}
-use Rattle.check_globals.specs.Parameters.{given_rule, inner, head, list, written, parameters_of}
+use Rattle.check_globals.specs.Parameters.{Head, Inner, nothing, first_of, inner_rule, head_rule, list_rule, given_rule}
+use Rattle.check_globals.specs.Parameters.{inner, head, list, written, parameters_of}
 use Rattle.tick_tree.specs.Weights.{total, core_nodes, suffix_nodes, declarator_nodes, core_weight, suffix_weight}
 use Rattle.tick_tree.specs.Weights.{declarator_weight, parameter_weight}
 use Rattle.syntax_size.proofs.Folds.{weigh-Core, weigh-Suffix, weigh-Declarator, weigh-Parameter}

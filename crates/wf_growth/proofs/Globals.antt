@@ -14,8 +14,8 @@ use Rattle.tick_tree.specs.declared.fault.FaultKind.{FaultKind}
 use Rattle.tick_tree.specs.declared.fault.FaultKind.TheVariants as fault
 use Rattle.tick_tree.specs.Faults.{Checked, refuse}
 use Rattle.check_rules.specs.Functions as tables
-use Rattle.check_tables.specs.Images as images
-use Rattle.check_tables.specs.Walks.{Rule}
+use Rattle.check_rules.specs.Images as images
+use Rattle.check_rules.specs.Walks.{Rule}
 use Rattle.check_rules.specs.declared.state.Stage.TheVariants as stage
 use Rattle.check_rules.specs.declared.state.State.{State}
 use Rattle.check_rules.specs.Locals.{meaning}

@@ -1,44 +1,35 @@
 -- A walk begins with no ticks, and so a program has no more ticks than its tree has nodes.
-use Rattle.std.proofs.Common.{◌≡◌, ℕ, ◌≤◌, Bool, true, false, if◌then◌else◌, List, map, length, subst, Option, Some}
+use Rattle.std.proofs.Common.{◌≡◌, ℕ, ◌≤◌, Bool, true, false, if◌then◌else◌, List, [], ◌∷◌, map, length, subst, Option, Some}
 use Rattle.std.proofs.Common.{None, Ok, Err, arith}
 use Rattle.tick_tree.specs.declared.fault.FaultKind.TheVariants as fault
 use Rattle.tick_tree.specs.declared.syntax.External.{External}
 use Rattle.tick_tree.specs.declared.tree.Tree.{Tree}
 use Rattle.tick_tree.specs.Faults.{Checked, refuse, ◌>>=◌ as ◌>>>=◌}
 use Rattle.typed_tree.specs.declared.program.TypedParts.{TypedParts}
-use Rattle.c_types.specs.declared.ctype.CType.{CType}
-use Rattle.check_scopes.specs.Scopes.{Name}
 use Rattle.check_rules.specs.declared.functions.Prototype.{Prototype}
 use Rattle.check_rules.specs.Functions as tables
 use Rattle.check_rules.specs.declared.state.State.{State}
 use Rattle.check_rules.specs.Starts as starts
+use Rattle.check_rules.specs.declared.library.LibraryFunction.{LibraryFunction}
 use Rattle.check_globals.specs.Programs as programs
 use Rattle.check_globals.specs.Program as program
 use Rattle.wf_growth_rules.specs.Light.{After, Bounded}
-use Rattle.wf_growth_rules.proofs.Walks.{weak, after, bind_light}
+use Rattle.wf_growth_rules.proofs.Walks.{weak, after, bind_light, pure_light}
 use Rattle.wf_growth_rules.proofs.States.{declare_light}
 use Rattle.tick_tree.specs.Weights.{total, item_weight, tree_weight}
 use Rattle.wf_growth.proofs.Programs.{walk_light}
 
-add_light : (name : Name) (n : ℕ) (t : CType) → Bounded 0 (starts.add_library name n t)
+add_light : (f : LibraryFunction) → Bounded 0 (starts.add_library f)
 unfolding starts.add_library
-add_light name n t = declare_light 1 name (starts.library_meaning n t)
+add_light f = declare_light 1 (starts.name f) (starts.library_meaning f)
 
-first_light : Bounded 0 starts.first_library
-unfolding starts.first_library
-first_light = weak 0 (bind_light (add_light _ _ _) (λ u. add_light _ _ _)) (omega arith)
-
-second_light : Bounded 0 starts.second_library
-unfolding starts.second_library
-second_light = weak 0 (bind_light (add_light _ _ _) (λ u. add_light _ _ _)) (omega arith)
-
-third_light : Bounded 0 starts.third_library
-unfolding starts.third_library
-third_light = add_light _ _ _
+all_light : (fs : List LibraryFunction) → Bounded 0 (starts.add_libraries fs)
+unfolding starts.add_libraries
+all_light [] = pure_light tt
+all_light (f ∷ fs) = weak 0 (bind_light (add_light f) (λ u. all_light fs)) (omega arith)
 
 libraries_light : Bounded 0 starts.libraries
-unfolding starts.libraries
-libraries_light = weak 0 (bind_light first_light (λ u. bind_light second_light (λ v. third_light))) (omega arith)
+libraries_light = all_light starts.whole_library
 
 -- the first walk begins with what no walk knows
 pub start_light : After 0 starts.empty starts.start

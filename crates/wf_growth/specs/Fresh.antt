@@ -2,7 +2,7 @@
 use Rattle.std.specs.Prelude.{ℕ, ◌+◌, ◌≤◌, length, Ok, Err}
 use Rattle.tick_tree.specs.Faults.{Checked}
 use Rattle.check_rules.specs.declared.state.State.{State}
-use Rattle.check_tables.specs.Walks.{Rule}
+use Rattle.check_rules.specs.Walks.{Rule}
 
 -- the variables of the function are at most `v` and `w`, and everything else grew by `w` at most
 pub record FreshTables (v w : ℕ) (s new : State) : Type 0 where

@@ -13,7 +13,7 @@ use Rattle.check_rules.specs.declared.state.Stage.{Stage}
 use Rattle.check_rules.specs.declared.state.Stage.TheVariants as stage
 use Rattle.check_rules.specs.declared.state.State.{State}
 use Rattle.check_rules.specs.Blocks.{depth, enter, leave}
-use Rattle.check_tables.specs.Walks.{Rule, ◌>>=◌, pure}
+use Rattle.check_rules.specs.Walks.{Rule, ◌>>=◌, pure}
 use Rattle.check_rules.specs.Productions as productions
 use Rattle.check_rules.specs.ExpressionRules as rules
 use Rattle.check_rules.specs.ExpressionRules.{Node, Named, Item}
@@ -61,7 +61,8 @@ call_of_light line f list g None h hs =
 pub call_light : {v w : ℕ} (line : ℕ) (f : Node) (list : List Node) (g : Stage) → LightNode v f →
     Each LightNode w list → Bounded (1 + (v + w)) (rules.call line f list g)
 call_light line f list g h hs =
-    weak _ (by_after (λ s. after (call_of_light line f list g (rules.library_of f.written.name s) h hs) s)) (omega arith)
+    weak _ (by_after (λ s. after (call_of_light line f list g (rules.library_of f.written.name s) h hs) s))
+    (omega arith)
 
 -- ---- specifications
 

@@ -13,7 +13,7 @@ use Rattle.wf_growth_rules.specs.Light.{Light, LightItem, Each, none, more}
 use Rattle.wf_growth_rules.proofs.Expressions.{block_light}
 use Rattle.tick_tree.specs.Weights.{total, weight, statement_weight}
 use Rattle.wf_growth_rules.proofs.Tree.{expr_light, stmt_light}
-use Rattle.check_tables.specs.Bounds.{count_bound}
+use Rattle.check_rules.specs.Bounds.{count_bound}
 
 pub items_light : (xs : List Stmt) → Each LightItem (total (map statement_weight xs)) (map item xs)
 items_light [] = none

@@ -10,12 +10,12 @@ use Rattle.meaning_operators.specs.Constants.{constant}
 use Rattle.tick_tree.specs.Faults.{Checked}
 use Rattle.typed_tree.specs.declared.expression.Stmt.{Stmt}
 use Rattle.typed_tree.specs.declared.expression.Stmt.TheVariants as st
-use Rattle.check_tables.specs.declared.labels.Labels.{Labels}
-use Rattle.check_tables.specs.Labels as labels
+use Rattle.check_rules.specs.declared.labels.Labels.{Labels}
+use Rattle.check_rules.specs.Labels as labels
 use Rattle.check_rules.specs.declared.state.Around.{Around}
 use Rattle.check_rules.specs.declared.state.Stage.{Stage}
 use Rattle.check_rules.specs.declared.state.State.{State}
-use Rattle.check_tables.specs.Walks.{Rule}
+use Rattle.check_rules.specs.Walks.{Rule}
 use Rattle.check_rules.specs.ExpressionRules.{Node, Item}
 use Rattle.check_rules.specs.StatementRules as rules
 use Rattle.check_rules.specs.Statements as statements
@@ -95,7 +95,8 @@ if_then_light line c i a h k =
 pub if_else_light : {u v w : ℕ} (line : ℕ) (c : Node) (i j : Item) (a : Around) → LightNode u c → LightItem v i →
     LightItem w j → Bounded (1 + (u + (v + w))) (rules.if_else line c i j a)
 if_else_light line c i j a h k l =
-    weak _ (bind_light (h.at a.stage) (λ o. bind_light (bodies_light i j (statements.inside a) k l) (λ p. lift_light _)))
+    weak _ (bind_light (h.at a.stage)
+    (λ o. bind_light (bodies_light i j (statements.inside a) k l) (λ p. lift_light _)))
     (omega arith)
 
 pub while_light : {v w : ℕ} (line : ℕ) (c : Node) (i : Item) (a : Around) → LightNode v c → LightItem w i →

@@ -29,10 +29,10 @@ use Rattle.check_rules.specs.declared.state.State.{State}
 use Rattle.check_rules.specs.Blocks.{depth, enter, leave}
 use Rattle.check_rules.specs.Locals as locals
 use Rattle.check_rules.specs.Names as names
-use Rattle.check_tables.specs.declared.frame.Home.{Home}
-use Rattle.check_tables.specs.declared.frame.Frame.{Frame}
-use Rattle.check_tables.specs.Frames as frames
-use Rattle.check_tables.specs.Walks.{Rule, ◌>>=◌}
+use Rattle.check_rules.specs.declared.frame.Home.{Home}
+use Rattle.check_rules.specs.declared.frame.Frame.{Frame}
+use Rattle.check_rules.specs.Frames as frames
+use Rattle.check_rules.specs.Walks.{Rule, ◌>>=◌}
 use Rattle.check_rules.specs.Productions as productions
 use Rattle.wf_growth_rules.specs.Light.{Light, After, Bounded}
 use Rattle.wf_growth_rules.proofs.Walks.{light_refl, weak, by_after, after, lift_after, lift_light, bind_light}
@@ -43,7 +43,13 @@ use Rattle.wf_growth_rules.proofs.Walks.{light_refl, weak, by_after, after, lift
 pub same_light : (w : ℕ) (s new : State) → new.ticks.captures ≡ s.ticks.captures → new.frame.inner ≡ s.frame.inner →
     new.frame.homes ≡ s.frame.homes → new.ticks.all ≡ s.ticks.all → Light w s new
 same_light w s new a b c d =
-    record { captures = rw a (omega arith); inner = omega arith; homes = rw c (omega arith); ticks = rw d (omega arith) }
+    record {
+      captures = rw a (omega arith);
+      inner = omega arith;
+      homes = rw c (omega arith);
+      ticks =
+          rw d (omega arith);
+    }
 
 pub one_more : {A : Type 0} (xs : List A) (x : A) → length (xs ++ x ∷ []) ≤ length xs + 1
 one_more xs x = simp length-append (omega arith)

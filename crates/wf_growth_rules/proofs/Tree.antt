@@ -1,6 +1,5 @@
 -- The walk over each part of a tree makes nothing grow by more than the weight of the part: an induction over the types
--- of the tree.
--- Written by tools/checker/weights.py.
+-- of the tree. Written by tools/checker/weights.py.
 use Rattle.std.proofs.Common.{◌≡◌, ℕ, List, [], ◌∷◌, map, sym, subst, arith}
 use Rattle.tick_tree.specs.declared.syntax.Core.{Core, roll-Core}
 use Rattle.tick_tree.specs.declared.syntax.Expr.{Expr, roll-Expr}
@@ -24,10 +23,8 @@ use Rattle.tick_tree.specs.declared.syntax.Core.TheFolds.{ind-Declaration, ind-D
 use Rattle.tick_tree.specs.declared.syntax.Core.TheFolds.{ind-Typename}
 use Rattle.check_operands.specs.Operands as nodes
 use Rattle.check_rules.specs.StatementRules as statement_rules
-use Rattle.check_rules.specs.Walk.{core_rule, expr_rule, start_rule, optional_rule, stmt_rule, suffix_walk}
-use Rattle.check_rules.specs.Walk.{type_walks}
-use Rattle.check_rules.specs.Walk.{declaration_rule, declarator_rule, init_rule, parameter_rule, typename_rule}
-use Rattle.check_rules.specs.Walk.{core}
+use Rattle.check_rules.specs.Walk.{type_walks, core_rule, expr_rule, start_rule, optional_rule, stmt_rule, suffix_walk}
+use Rattle.check_rules.specs.Walk.{declaration_rule, declarator_rule, init_rule, parameter_rule, typename_rule, core}
 use Rattle.check_rules.specs.Walk.{node, initializer, optional, item, suffix, declaration, shape, init, parameter}
 use Rattle.check_rules.specs.Walk.{named}
 use Rattle.wf_growth_rules.specs.Light.{LightNode, LightShape, LightItem, LightNamed, LightOptional, absent, present}

@@ -2,7 +2,7 @@
 use Rattle.std.proofs.Common.{◌≡◌, ℕ, ◌+◌, ◌≤◌, refl, ap, subst, Ok, Err, arith}
 use Rattle.tick_tree.specs.Faults.{Checked, ◌>>=◌ as ◌>>>=◌}
 use Rattle.check_rules.specs.declared.state.State.{State}
-use Rattle.check_tables.specs.Walks.{Rule, ◌>>=◌, pure, lift}
+use Rattle.check_rules.specs.Walks.{Rule, ◌>>=◌, pure, lift}
 use Rattle.wf_growth_rules.specs.Light.{Light, After, Bounded}
 
 pub light_refl : (w : ℕ) (s : State) → Light w s s

@@ -11,7 +11,7 @@ use Rattle.check_rules.specs.declared.state.Stage.{Stage}
 use Rattle.check_rules.specs.declared.state.State.{State}
 use Rattle.check_rules.specs.Locals as locals
 use Rattle.check_rules.specs.Names as names
-use Rattle.check_tables.specs.Walks.{Rule}
+use Rattle.check_rules.specs.Walks.{Rule}
 use Rattle.check_rules.specs.Productions as productions
 use Rattle.check_rules.specs.ExpressionRules as rules
 use Rattle.check_rules.specs.ExpressionRules.{Node, Named, Item}

@@ -1,8 +1,6 @@
 -- How much a step of the walk can make grow: what the innermost tick captures, the variables of that tick, the
--- variables of the
--- function, and the ticks of the program. These are counts that the walk keeps up to what a word counts; that a program
--- is far
--- smaller than that follows from the size of its tree.
+-- variables of the function, and the ticks of the program. These are counts that the walk keeps up to what a word
+-- counts; that a program is far smaller than that follows from the size of its tree.
 use Rattle.std.specs.Prelude.{◌≡◌, ℕ, ◌+◌, ◌≤◌, List, [], ◌∷◌, length, Option, Some, None, Ok, Err}
 use Rattle.c_types.specs.declared.ctype.CType.{CType}
 use Rattle.check_declarators.specs.declared.steps.Step.{Step}
@@ -10,7 +8,7 @@ use Rattle.tick_tree.specs.Faults.{Checked}
 use Rattle.check_rules.specs.declared.state.Around.{Around}
 use Rattle.check_rules.specs.declared.state.Stage.{Stage}
 use Rattle.check_rules.specs.declared.state.State.{State}
-use Rattle.check_tables.specs.Walks.{Rule}
+use Rattle.check_rules.specs.Walks.{Rule}
 use Rattle.check_rules.specs.ExpressionRules.{Node, Named, Shape, Item}
 
 -- from the one state to the other each grows by so many at most

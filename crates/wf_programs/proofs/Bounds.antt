@@ -6,8 +6,8 @@ use Rattle.word32.specs.declared.map.TheConstants.{GLOBAL_BYTES}
 use Rattle.c_types.specs.declared.ctype.CType.{CType}
 use Rattle.check_forms.specs.Forms.{is_nil}
 use Rattle.check_types.specs.Shapes.{is_function}
-use Rattle.check_tables.specs.declared.image.Image.{Image}
-use Rattle.check_tables.specs.Images as images
+use Rattle.check_rules.specs.declared.image.Image.{Image}
+use Rattle.check_rules.specs.Images as images
 use Rattle.check_rules.specs.declared.state.State.{State}
 use Rattle.check_globals.specs.Programs.{image, strings_begin, begin_by, image_fits}
 use Rattle.wf_walk.specs.Kept.{KeepsGlobals}

@@ -19,7 +19,7 @@ use Rattle.check_rules.specs.declared.state.State.{State}
 use Rattle.check_globals.specs.Functions.{types_of, types_by, types_at}
 use Rattle.wellformed.specs.Accepted.{count_parameters}
 use Rattle.wellformed.proofs.Bools.{first_true, second_true, le_true}
-use Rattle.wf_scopes.specs.Right.{listed_at, listed_by, listed, HasType}
+use Rattle.wf_nodes.specs.Right.{listed_at, listed_by, listed, HasType}
 use Rattle.wf_programs.proofs.Files.{whole, many, End, AtFile, Linked, linked_at}
 use Rattle.wf_programs.proofs.Finish.{few_functions}
 use Rattle.wf_programs.proofs.Main.{Placed, placed_at, same_some}

@@ -11,7 +11,7 @@ use Rattle.check_types.specs.Shapes.{inner}
 use Rattle.check_operands.specs.declared.operand.Operand.{Operand}
 use Rattle.check_rules.specs.declared.state.Around.{Around as Standing}
 use Rattle.check_rules.specs.declared.state.State.{State}
-use Rattle.check_tables.specs.Walks.{Rule, ◌>>=◌, lift}
+use Rattle.check_rules.specs.Walks.{Rule, ◌>>=◌, lift}
 use Rattle.check_rules.specs.ExpressionRules.{Shape}
 use Rattle.check_rules.specs.Declarations as declarations
 use Rattle.check_rules.specs.Initializers as initializers

@@ -13,9 +13,9 @@ use Rattle.tick_tree.specs.declared.fault.FaultKind.TheVariants as fault
 use Rattle.tick_tree.specs.declared.syntax.External.{External}
 use Rattle.tick_tree.specs.declared.syntax.External.TheVariants as ext
 use Rattle.tick_tree.specs.Faults.{Checked, refuse}
-use Rattle.check_tables.specs.declared.image.Image.{Image}
-use Rattle.check_tables.specs.Images as images
-use Rattle.check_tables.specs.Walks.{lift}
+use Rattle.check_rules.specs.declared.image.Image.{Image}
+use Rattle.check_rules.specs.Images as images
+use Rattle.check_rules.specs.Walks.{lift}
 use Rattle.check_rules.specs.declared.state.Stage.TheVariants as stage
 use Rattle.check_rules.specs.declared.state.State.{State}
 use Rattle.check_rules.specs.ExpressionRules.{Shape, Item}
@@ -45,7 +45,8 @@ use Rattle.wf_programs.proofs.Walk.{GoodExternal, EachGood, Grew, external_grew}
 -- each type at file scope has room for what a global of it begins with
 abbrev pub AllFit : Type 0
 AllFit = (line : ℕ) (b : Base) (start : Start) (ss : List Step) (t : CType) →
-    declared_type role.FileScope line (words.base_of b) (with_start start ss) ≡ Ok t → is_function t ≡ false → BytesFit t
+    declared_type role.FileScope line (words.base_of b) (with_start start ss) ≡ Ok t → is_function t ≡ false →
+    BytesFit t
 
 -- ---- what one step leaves of the image
 
@@ -191,7 +192,8 @@ ok_type : (t u : CType) → ◌≡◌ {A = Checked CType} (Ok t) (Ok u) → t �
 ok_type t u e = cc
 
 same_end : (line : ℕ) (b : Base) (i : InitParts) (s new z last : State) → FixedShape i.shape →
-    GlobalImage line b i s new → GlobalImage line b i z last → s.image.end ≡ z.image.end → new.image.end ≡ last.image.end
+    GlobalImage line b i s new → GlobalImage line b i z last → s.image.end ≡ z.image.end →
+    new.image.end ≡ last.image.end
 same_end line b i s new z last fixed p q e =
     let steps : p.steps ≡ q.steps = fixed s z p.to q.to p.steps q.steps p.walked q.walked p.computed in
     let type : p.type ≡ q.type

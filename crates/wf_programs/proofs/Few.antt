@@ -17,7 +17,7 @@ use Rattle.wf_walk.proofs.Induction.{Expr-T, walkedExpr, walk_expr}
 use Rattle.wf_growth_rules.proofs.Few.{items_light}
 use Rattle.wf_walk.proofs.CapturedWalks.{walks_named}
 use Rattle.wf_programs.specs.Good.{FewBlock, FewParts, FewExpr}
-use Rattle.check_tables.specs.Bounds.{count_bound}
+use Rattle.check_rules.specs.Bounds.{count_bound}
 
 light_few : (w : ℕ) (s new : State) → w ≤ count_bound → Light w s new → Few s new
 light_few w s new h l = (omega (arith, l.captures), omega (arith, l.inner))

@@ -16,8 +16,8 @@ use Rattle.tick_tree.specs.declared.fault.FaultKind.TheVariants as fault
 use Rattle.tick_tree.specs.Faults.{refuse}
 use Rattle.check_operands.specs.declared.operand.Operand.{Operand}
 use Rattle.check_operands.specs.Operands.{value_of}
-use Rattle.check_tables.specs.declared.image.Image.{Image}
-use Rattle.check_tables.specs.Images as images
+use Rattle.check_rules.specs.declared.image.Image.{Image}
+use Rattle.check_rules.specs.Images as images
 use Rattle.check_rules.specs.declared.state.Stage.TheVariants as stage
 use Rattle.check_rules.specs.declared.state.State.{State}
 use Rattle.check_rules.specs.ExpressionRules.{Node}

@@ -114,7 +114,8 @@ few_ticks s l = let h : length s.ticks.all ≤ sum_by (λ t. accepted.charge t.s
 few_functions_by : (fs : List Function) → length fs ≤ sum_by (λ f. accepted.charge f.size) fs
 few_functions_by [] = omega arith
 few_functions_by (f ∷ fs) =
-    let e : sum_by (λ g. accepted.charge g.size) (f ∷ fs) ≡ accepted.charge f.size + sum_by (λ g. accepted.charge g.size)
+    let e : sum_by (λ g. accepted.charge g.size) (f ∷ fs) ≡ accepted.charge f.size + sum_by
+    (λ g. accepted.charge g.size)
     fs = sum_by-cons (λ (g : Function). accepted.charge g.size) f fs in
     let h : length fs ≤ sum_by (λ f. accepted.charge f.size) fs = few_functions_by fs in omega arith
 

@@ -22,7 +22,7 @@ use Rattle.check_globals.specs.Statics as statics
 use Rattle.check_rules.specs.Initializers.{is_text, is_array, is_char, has_size}
 use Rattle.check_rules.specs.Walk.{with_start}
 use Rattle.wellformed.proofs.Bools.{first_true, second_true}
-use Rattle.wf_values.proofs.Declared.{outermost_last, under_last}
+use Rattle.wf_nodes.proofs.Declared.{outermost_last, under_last}
 use Rattle.wf_programs.proofs.Declared.{FileType, file_type, none_lower}
 use Rattle.wf_programs.proofs.Ends.{AllFit}
 use Rattle.wf_programs.proofs.Fills.{size_of, bytes_in, HasValue, BytesFit}

@@ -10,8 +10,8 @@ use Rattle.check_declarators.specs.Words as words
 use Rattle.check_types.specs.Shapes.{is_void}
 use Rattle.tick_tree.specs.declared.base.Base.{Base}
 use Rattle.typed_tree.specs.declared.expression.Stmt.{Stmt}
-use Rattle.check_tables.specs.declared.ticks.Ticks.{Ticks}
-use Rattle.check_tables.specs.Walks.{Rule}
+use Rattle.check_rules.specs.declared.ticks.Ticks.{Ticks}
+use Rattle.check_rules.specs.Walks.{Rule}
 use Rattle.check_rules.specs.declared.state.Stage.TheVariants as stage
 use Rattle.check_rules.specs.declared.state.State.{State}
 use Rattle.check_rules.specs.ExpressionRules as rules

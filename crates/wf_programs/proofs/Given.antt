@@ -9,9 +9,9 @@ use Rattle.check_scopes.specs.declared.names.MeaningKind.TheVariants as kind
 use Rattle.check_scopes.specs.Scopes.{Name, Scope}
 use Rattle.check_types.specs.Shapes.{inner}
 use Rattle.tick_tree.specs.Faults.{Checked}
-use Rattle.check_tables.specs.declared.frame.Frame.{Frame}
-use Rattle.check_tables.specs.declared.frame.Home.{Home}
-use Rattle.check_tables.specs.Frames as frames
+use Rattle.check_rules.specs.declared.frame.Frame.{Frame}
+use Rattle.check_rules.specs.declared.frame.Home.{Home}
+use Rattle.check_rules.specs.Frames as frames
 use Rattle.check_rules.specs.declared.state.Stage.TheVariants as stage
 use Rattle.check_rules.specs.declared.state.State.{State}
 use Rattle.check_rules.specs.Locals as locals

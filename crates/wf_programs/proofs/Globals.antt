@@ -14,7 +14,7 @@ use Rattle.tick_tree.specs.declared.base.Base.{Base}
 use Rattle.check_rules.specs.declared.functions.Functions.{Functions}
 use Rattle.check_rules.specs.declared.functions.Prototype.{Prototype}
 use Rattle.check_rules.specs.Functions as tables
-use Rattle.check_tables.specs.Walks.{lift}
+use Rattle.check_rules.specs.Walks.{lift}
 use Rattle.check_rules.specs.declared.state.Stage.TheVariants as stage
 use Rattle.check_rules.specs.declared.state.State.{State}
 use Rattle.check_rules.specs.ExpressionRules.{Shape}
@@ -22,7 +22,7 @@ use Rattle.check_rules.specs.Declarations.{name_by}
 use Rattle.check_globals.specs.Names as names
 use Rattle.check_globals.specs.Program as program
 use Rattle.check_rules.specs.Walk.{Start, Nothing, Value, Values, InitParts, with_start}
-use Rattle.wf_values.proofs.Declared.{types_use}
+use Rattle.wf_nodes.proofs.Declared.{types_use}
 use Rattle.wf_walk.specs.Good.{any_computed, GoodShape}
 use Rattle.wf_walk.specs.Kept.{KeepsGlobals}
 use Rattle.wf_walk.specs.Known.{EachEntry, IsObject}

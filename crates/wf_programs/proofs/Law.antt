@@ -35,7 +35,7 @@ use Rattle.wf_programs.proofs.Lists.{list_objects}
 use Rattle.wf_programs.proofs.Still.{StaticNode, EachStatic, StaticStart}
 use Rattle.wf_programs.proofs.Top.{program_accepted}
 use Rattle.wf_programs.proofs.Walk.{GoodExternal, EachGood}
-use Rattle.check_tables.specs.Bounds.{count_bound}
+use Rattle.check_rules.specs.Bounds.{count_bound}
 
 -- ---- declarations
 

@@ -23,7 +23,7 @@ use Rattle.tick_tree.specs.declared.syntax.Core.TheOpen.{Core-F, Suffix-F, Decla
 use Rattle.tick_tree.specs.declared.syntax.Core.TheFolds.{ind-Declarator, map-Core, map-Declarator, fold-roll-Core}
 use Rattle.tick_tree.specs.declared.syntax.Core.TheFolds.{fold-roll-Declarator}
 use Rattle.tick_tree.specs.Faults.{◌>>=◌ as ◌>>>=◌}
-use Rattle.check_tables.specs.Walks.{Rule, ◌>>=◌, pure}
+use Rattle.check_rules.specs.Walks.{Rule, ◌>>=◌, pure}
 use Rattle.check_rules.specs.declared.state.Stage.TheVariants as stage
 use Rattle.check_rules.specs.declared.state.State.{State}
 use Rattle.check_rules.specs.ExpressionRules.{Shape}
@@ -199,14 +199,17 @@ Declarator-K = Declarator-F KnownCore KnownExpr KnownInitializer KnownOptionalEx
 
 abbrev firstDeclarator : Declarator-K → Declarator-T
 firstDeclarator y = map-Declarator KnownCore KnownExpr KnownInitializer KnownOptionalExpr KnownStmt KnownSuffix
-    KnownDeclaration KnownDeclarator KnownInit KnownParameter KnownTypename Core Expr Initializer OptionalExpr Stmt Suffix
+    KnownDeclaration KnownDeclarator KnownInit KnownParameter KnownTypename Core Expr Initializer OptionalExpr Stmt
+    Suffix
     Declaration Declarator Init Parameter Typename (λ k. k.0) (λ k. k.0) (λ k. k.0) (λ k. k.0) (λ k. k.0) (λ k. k.0)
     (λ k. k.0) (λ k. k.0) (λ k. k.0) (λ k. k.0) (λ k. k.0) y
 
 listed_core : (x : Core-T) →
     is_listed_core (roll-Core x) ≡ rule.core_rule
-    (map-Core Core Expr Initializer OptionalExpr Stmt Suffix Declaration Declarator Init Parameter Typename (Bool → Bool)
-    (Unit {0}) (Unit {0}) (Unit {0}) (Unit {0}) (Unit {0}) (Unit {0}) Bool (Unit {0}) (Unit {0}) (Unit {0}) is_listed_core
+    (map-Core Core Expr Initializer OptionalExpr Stmt Suffix Declaration Declarator Init Parameter Typename
+    (Bool → Bool)
+    (Unit {0}) (Unit {0}) (Unit {0}) (Unit {0}) (Unit {0}) (Unit {0}) Bool (Unit {0}) (Unit {0}) (Unit {0})
+    is_listed_core
     rule.nothing rule.nothing rule.nothing rule.nothing rule.nothing rule.nothing is_listed rule.nothing rule.nothing
     rule.nothing x)
 unfolding is_listed is_listed_core
@@ -217,7 +220,8 @@ listed_core x = fold-roll-Core (Bool → Bool) (Unit {0}) (Unit {0}) (Unit {0}) 
 listed_declarator : (x : Declarator-T) →
     is_listed (roll-Declarator x) ≡ rule.declarator_rule
     (map-Declarator Core Expr Initializer OptionalExpr Stmt Suffix Declaration Declarator Init Parameter Typename
-    (Bool → Bool) (Unit {0}) (Unit {0}) (Unit {0}) (Unit {0}) (Unit {0}) (Unit {0}) Bool (Unit {0}) (Unit {0}) (Unit {0})
+    (Bool → Bool) (Unit {0}) (Unit {0}) (Unit {0}) (Unit {0}) (Unit {0}) (Unit {0}) Bool (Unit {0}) (Unit {0})
+    (Unit {0})
     is_listed_core rule.nothing rule.nothing rule.nothing rule.nothing rule.nothing rule.nothing is_listed rule.nothing
     rule.nothing rule.nothing x)
 unfolding is_listed is_listed_core
@@ -241,7 +245,8 @@ head_declarator : (x : Declarator-T) →
     nothing nothing nothing list nothing head nothing written nothing x)
 unfolding inner head list written
 head_declarator x = fold-roll-Declarator Inner (Unit {0}) (Unit {0}) (Unit {0}) (Unit {0}) (List Given) (Unit {0}) Head
-    (Unit {0}) Given (Unit {0}) inner_rule nothing nothing nothing nothing list_rule nothing head_rule nothing given_rule
+    (Unit {0}) Given (Unit {0}) inner_rule nothing nothing nothing nothing list_rule nothing head_rule nothing
+    given_rule
     nothing x
 
 -- the walk over the core of a declarator, and the suffixes behind it

@@ -12,7 +12,7 @@ use Rattle.tick_tree.specs.declared.base.Base.{Base}
 use Rattle.tick_tree.specs.declared.base.Prefix.{Prefix}
 use Rattle.tick_tree.specs.declared.syntax.Declarator.{Declarator}
 use Rattle.tick_tree.specs.declared.syntax.Core.TheOpen.{Core-F, Suffix-F}
-use Rattle.check_tables.specs.Walks.{◌>>=◌, pure, lift}
+use Rattle.check_rules.specs.Walks.{◌>>=◌, pure, lift}
 use Rattle.check_rules.specs.declared.state.Stage.TheVariants as stage
 use Rattle.check_rules.specs.declared.state.State.{State}
 use Rattle.check_rules.specs.Blocks.{depth, enter, leave}
@@ -26,7 +26,7 @@ use Rattle.wf_walk.specs.Parts.{EachPart}
 use Rattle.wf_walk.proofs.Walks.{pure_value}
 use Rattle.wf_walk.specs.Asked.{Asked, RulesKeep, EveryCore, EverySuffix}
 use Rattle.wf_walk.proofs.Induction.{holds_declarator}
-use Rattle.wf_values.proofs.Declared.{types_use}
+use Rattle.wf_nodes.proofs.Declared.{types_use}
 use Rattle.wf_walk.specs.Known.{IsObject}
 use Rattle.wf_programs.proofs.Declared.{list_of, first_list}
 use Rattle.wf_programs.proofs.Given.{EachObject}

@@ -6,7 +6,7 @@ use Rattle.tick_tree.specs.declared.base.Base.{Base}
 use Rattle.typed_tree.specs.declared.expression.Stmt.{Stmt}
 use Rattle.typed_tree.specs.declared.program.Tick.{Tick}
 use Rattle.check_rules.specs.declared.functions.Functions.{Functions}
-use Rattle.check_tables.specs.declared.ticks.Ticks.{Ticks}
+use Rattle.check_rules.specs.declared.ticks.Ticks.{Ticks}
 use Rattle.check_rules.specs.declared.state.State.{State}
 use Rattle.check_rules.specs.ExpressionRules as rules
 use Rattle.check_rules.specs.ExpressionRules.{Shape, Item}
@@ -90,7 +90,8 @@ parts_of many line b d gs items s new r sc table good one two =
       name = n;
       all = a;
       grown =
-          grown line d r.type s r.typed r.named r.third.given r.third.last r.third.nodes sc table (name_by d.declared.name)
+          grown line d r.type s r.typed r.named r.third.given r.third.last r.third.nodes sc table
+          (name_by d.declared.name)
           (length (types_of r.type)) ty.still n a bl;
     }
 

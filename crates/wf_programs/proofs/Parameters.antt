@@ -9,10 +9,10 @@ use Rattle.typed_tree.specs.declared.expression.Stmt.{Stmt}
 use Rattle.typed_tree.specs.declared.expression.Stmt.TheVariants as st
 use Rattle.typed_tree.specs.Sizes.{statement_size}
 use Rattle.typed_tree.proofs.SizeLaws.{statement_size_parameter, statement_size_parameterobject}
-use Rattle.check_tables.specs.declared.frame.Frame.{Frame}
-use Rattle.check_tables.specs.declared.frame.Home.{Home}
-use Rattle.check_tables.specs.declared.frame.Home.TheVariants as home
-use Rattle.check_tables.specs.Frames as frames
+use Rattle.check_rules.specs.declared.frame.Frame.{Frame}
+use Rattle.check_rules.specs.declared.frame.Home.{Home}
+use Rattle.check_rules.specs.declared.frame.Home.TheVariants as home
+use Rattle.check_rules.specs.Frames as frames
 use Rattle.wellformed.specs.Counts.{one_if, is_in, objects_at, declarations_of}
 use Rattle.wellformed.specs.Places.{Around, Act, act, in_function, are_parameters, is_object}
 use Rattle.wellformed.specs.Values.{uses_values, all_true}

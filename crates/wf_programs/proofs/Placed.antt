@@ -4,10 +4,10 @@ use Rattle.std.proofs.Common.{List, [], ◌∷◌, ◌++◌, length, slice_get, 
 use Rattle.c_types.specs.declared.ctype.CType.{CType}
 use Rattle.check_types.specs.Shapes.{width_of}
 use Rattle.typed_tree.specs.declared.expression.Stmt.TheVariants as st
-use Rattle.check_tables.specs.declared.frame.Frame.{Frame}
-use Rattle.check_tables.specs.declared.frame.Home.{Home}
-use Rattle.check_tables.specs.declared.frame.Home.TheVariants as home
-use Rattle.check_tables.specs.Frames as frames
+use Rattle.check_rules.specs.declared.frame.Frame.{Frame}
+use Rattle.check_rules.specs.declared.frame.Home.{Home}
+use Rattle.check_rules.specs.declared.frame.Home.TheVariants as home
+use Rattle.check_rules.specs.Frames as frames
 use Rattle.wellformed.specs.Places.{Act}
 use Rattle.wellformed.proofs.Equations.{act_parameter}
 use Rattle.wellformed.proofs.Bools.{and_true, first_true, second_true, le_true, le_more}

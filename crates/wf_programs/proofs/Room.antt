@@ -40,7 +40,7 @@ use Rattle.check_globals.specs.Names.{size_by}
 use Rattle.check_globals.specs.Statics as statics
 use Rattle.check_rules.specs.Initializers.{value_breaks, is_size, has_size}
 use Rattle.wellformed.proofs.Bools.{first_true, second_true, le_true}
-use Rattle.wf_values.proofs.Declared.{outermost_last}
+use Rattle.wf_nodes.proofs.Declared.{outermost_last}
 use Rattle.wf_walk.proofs.Sized.{size_last, sized_last, prefix_size, prefix_sized}
 use Rattle.wf_programs.proofs.Bools.{true_le, never_both}
 use Rattle.wf_programs.proofs.Fills.{size_of, bytes_in, HasValue}

@@ -9,9 +9,9 @@ use Rattle.check_declarators.specs.Words as words
 use Rattle.tick_tree.specs.declared.base.Base.{Base}
 use Rattle.typed_tree.specs.declared.expression.Stmt.{Stmt}
 use Rattle.typed_tree.specs.declared.expression.Stmt.TheVariants as st
-use Rattle.check_tables.specs.Frames as frames
+use Rattle.check_rules.specs.Frames as frames
 use Rattle.check_rules.specs.Functions as tables
-use Rattle.check_tables.specs.Walks.{◌>>=◌, pure, lift}
+use Rattle.check_rules.specs.Walks.{◌>>=◌, pure, lift}
 use Rattle.check_rules.specs.declared.state.Stage.TheVariants as stage
 use Rattle.check_rules.specs.declared.state.State.{State}
 use Rattle.check_rules.specs.Blocks.{enter, leave}

@@ -15,9 +15,9 @@ use Rattle.check_rules.specs.Functions.{number, number_by}
 use Rattle.check_rules.specs.declared.state.Stage.{Stage}
 use Rattle.check_rules.specs.declared.state.State.{State}
 use Rattle.check_rules.specs.Names.{declare, declared_by}
-use Rattle.wf_values.specs.Used.{IsLibrary}
+use Rattle.wf_nodes.specs.Used.{IsLibrary}
 use Rattle.wf_walk.specs.Kept.{Starts}
-use Rattle.wf_scopes.specs.Right.{HasType}
+use Rattle.wf_nodes.specs.Right.{HasType}
 use Rattle.wf_walk.specs.Known.{Blocks, Means, IsObject, EachEntry}
 use Rattle.wf_walk.proofs.Walks.{pure_same}
 use Rattle.wf_walk.proofs.Lists.{get_front}

@@ -1,7 +1,7 @@
 -- The parts of a step that gave an answer: a `>>=` that gives one has both its parts give one.
 use Rattle.std.proofs.Common.{◌≡◌, List, ◌++◌, refl, ap, sym, ◌∙◌, append_assoc, Ok, Err}
 use Rattle.tick_tree.specs.Faults.{Checked, ◌>>=◌ as ◌>>>=◌}
-use Rattle.check_tables.specs.Walks.{Rule, ◌>>=◌, lift}
+use Rattle.check_rules.specs.Walks.{Rule, ◌>>=◌, lift}
 use Rattle.wf_walk.specs.Kept.{Starts}
 use Rattle.wf_walk.proofs.Walks.{pure_same, pure_value}
 

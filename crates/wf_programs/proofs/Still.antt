@@ -10,8 +10,8 @@ use Rattle.tick_tree.specs.Faults.{refuse}
 use Rattle.check_operands.specs.declared.operand.Operand.{Operand}
 use Rattle.check_operands.specs.declared.operand.Value.{Value}
 use Rattle.check_operands.specs.Operands.{value_of}
-use Rattle.check_tables.specs.Images as images
-use Rattle.check_tables.specs.Walks.{lift}
+use Rattle.check_rules.specs.Images as images
+use Rattle.check_rules.specs.Walks.{lift}
 use Rattle.check_rules.specs.declared.state.Stage.TheVariants as stage
 use Rattle.check_rules.specs.declared.state.State.{State}
 use Rattle.check_rules.specs.ExpressionRules.{Node}

@@ -12,9 +12,9 @@ use Rattle.typed_tree.specs.declared.program.Tick.{Tick}
 use Rattle.typed_tree.specs.declared.program.TypedParts.{TypedParts}
 use Rattle.typed_tree.specs.Sizes.{body_size}
 use Rattle.check_rules.specs.declared.functions.Functions.{Functions}
-use Rattle.check_tables.specs.declared.image.Image.{Image}
+use Rattle.check_rules.specs.declared.image.Image.{Image}
 use Rattle.check_rules.specs.Functions as tables
-use Rattle.check_tables.specs.Images as images
+use Rattle.check_rules.specs.Images as images
 use Rattle.check_rules.specs.declared.state.State.{State}
 use Rattle.check_rules.specs.Starts.{empty, emptied}
 use Rattle.check_globals.specs.Programs.{typed, image, tick_fits}

@@ -11,27 +11,26 @@ use Rattle.tick_tree.specs.declared.syntax.Declarator.{Declarator, roll-Declarat
 use Rattle.tick_tree.specs.declared.syntax.Init.{roll-Init}
 use Rattle.tick_tree.specs.declared.syntax.Parameter.{roll-Parameter}
 use Rattle.tick_tree.specs.declared.syntax.Typename.{roll-Typename}
-use Rattle.check_rules.specs.Walk.{core, node, initializer, optional, item, suffix, declaration, shape, init}
-use Rattle.check_rules.specs.Walk.{parameter}
+use Rattle.check_rules.specs.Walk.{core, node, initializer, optional, item, suffix, declaration, shape, init, parameter}
 use Rattle.check_rules.specs.Walk.{named}
 use Rattle.tick_tree.specs.Weights.{core_weight, weight, initializer_weight, optional_weight, statement_weight}
 use Rattle.tick_tree.specs.Weights.{suffix_weight, declaration_weight, declarator_weight, init_weight, parameter_weight}
 use Rattle.tick_tree.specs.Weights.{typename_weight}
 use Rattle.syntax_size.proofs.Small.{expr_small, initializer_small, stmt_small, declaration_small, declarator_small}
-use Rattle.wf_walk.proofs.Induction.{Core-T, Expr-T, Initializer-T, OptionalExpr-T, Stmt-T, Suffix-T}
-use Rattle.wf_walk.proofs.Induction.{Declaration-T, Declarator-T, Init-T, Parameter-T, Typename-T, Core-K, Expr-K}
-use Rattle.wf_walk.proofs.Induction.{Initializer-K, OptionalExpr-K, Stmt-K, Suffix-K, Declaration-K, Declarator-K}
-use Rattle.wf_walk.proofs.Induction.{Init-K, Parameter-K, Typename-K, firstCore, firstExpr, firstInitializer}
-use Rattle.wf_walk.proofs.Induction.{firstOptionalExpr, firstStmt, firstSuffix, firstDeclaration, firstDeclarator}
-use Rattle.wf_walk.proofs.Induction.{firstInit, firstParameter, firstTypename, step_core, step_expr}
-use Rattle.wf_walk.proofs.Induction.{step_initializer, step_optional, step_stmt, step_suffix, step_declaration}
-use Rattle.wf_walk.proofs.Induction.{step_declarator, step_init, step_parameter, step_typename}
+use Rattle.wf_walk.proofs.Induction.{Core-T, Expr-T, Initializer-T, OptionalExpr-T, Stmt-T, Suffix-T, Declaration-T}
+use Rattle.wf_walk.proofs.Induction.{Declarator-T, Init-T, Parameter-T, Typename-T, Core-K, Expr-K, Initializer-K}
+use Rattle.wf_walk.proofs.Induction.{OptionalExpr-K, Stmt-K, Suffix-K, Declaration-K, Declarator-K, Init-K, Parameter-K}
+use Rattle.wf_walk.proofs.Induction.{Typename-K, firstCore, firstExpr, firstInitializer, firstOptionalExpr, firstStmt}
+use Rattle.wf_walk.proofs.Induction.{firstSuffix, firstDeclaration, firstDeclarator, firstInit, firstParameter}
+use Rattle.wf_walk.proofs.Induction.{firstTypename, step_core, step_expr, step_initializer, step_optional, step_stmt}
+use Rattle.wf_walk.proofs.Induction.{step_suffix, step_declaration, step_declarator, step_init, step_parameter}
+use Rattle.wf_walk.proofs.Induction.{step_typename}
+use Rattle.check_rules.specs.Bounds.{count_bound}
 use Rattle.wf_programs.specs.Good.{good, FewExpr}
 use Rattle.wf_programs.specs.Small.{SmallAreGood}
 use Rattle.wf_programs.proofs.Few.{few_expr}
 use Rattle.wf_programs.proofs.Rules.{good_core, good_expr, good_initializer, good_optional, good_stmt, good_suffix}
 use Rattle.wf_programs.proofs.Rules.{good_declaration, good_declarator, good_init, good_parameter, good_typename}
-use Rattle.check_tables.specs.Bounds.{count_bound}
 
 -- ---- a layer of a small tree
 
@@ -115,9 +114,9 @@ small_declarator many = declarator_small count_bound (λ x. (good many).shape (c
 
 small_initializer : (many : List ℕ) (x : Initializer) → initializer_weight x ≤ count_bound →
     (good many).start (initializer x)
-small_initializer many = initializer_small count_bound (λ x. (good many).shape (core x)) (λ x. (good many).node (node x))
-    (λ x. (good many).start (initializer x)) (λ x. (good many).optional (optional x)) (λ x. (good many).item (item x))
-    (λ x. (good many).suffix (suffix x)) (λ x. (good many).declarations (declaration x))
+small_initializer many = initializer_small count_bound (λ x. (good many).shape (core x))
+    (λ x. (good many).node (node x)) (λ x. (good many).start (initializer x)) (λ x. (good many).optional (optional x))
+    (λ x. (good many).item (item x)) (λ x. (good many).suffix (suffix x)) (λ x. (good many).declarations (declaration x))
     (λ x. (good many).shape (shape x)) (λ x. (good many).init (init x)) (λ x. (good many).parameter (parameter x))
     (λ x. (good many).named (named x)) (at_core many) (at_expr many) (at_initializer many) (at_optional many)
     (at_stmt many) (at_suffix many) (at_declaration many) (at_declarator many) (at_init many) (at_parameter many)
@@ -125,9 +124,9 @@ small_initializer many = initializer_small count_bound (λ x. (good many).shape 
 
 small_declaration : (many : List ℕ) (x : Declaration) → declaration_weight x ≤ count_bound →
     (good many).declarations (declaration x)
-small_declaration many = declaration_small count_bound (λ x. (good many).shape (core x)) (λ x. (good many).node (node x))
-    (λ x. (good many).start (initializer x)) (λ x. (good many).optional (optional x)) (λ x. (good many).item (item x))
-    (λ x. (good many).suffix (suffix x)) (λ x. (good many).declarations (declaration x))
+small_declaration many = declaration_small count_bound (λ x. (good many).shape (core x))
+    (λ x. (good many).node (node x)) (λ x. (good many).start (initializer x)) (λ x. (good many).optional (optional x))
+    (λ x. (good many).item (item x)) (λ x. (good many).suffix (suffix x)) (λ x. (good many).declarations (declaration x))
     (λ x. (good many).shape (shape x)) (λ x. (good many).init (init x)) (λ x. (good many).parameter (parameter x))
     (λ x. (good many).named (named x)) (at_core many) (at_expr many) (at_initializer many) (at_optional many)
     (at_stmt many) (at_suffix many) (at_declaration many) (at_declarator many) (at_init many) (at_parameter many)

@@ -8,7 +8,7 @@ use Rattle.check_scopes.specs.Scopes.{Name, Scope, in_scope, find}
 use Rattle.c_types.specs.Types.{same}
 use Rattle.c_type_refs.specs.Sizes.{limited_size}
 use Rattle.check_rules.specs.Functions as functions
-use Rattle.check_tables.specs.Images as images
+use Rattle.check_rules.specs.Images as images
 use Rattle.check_rules.specs.declared.state.State.{State}
 use Rattle.check_rules.specs.Locals.{meaning}
 use Rattle.check_rules.specs.Names.{declare}

@@ -1,6 +1,5 @@
 -- What is asked of the walk over each part of a tree, and what is given of each layer of a small one: that its
--- captures, and the
--- variables of its ticks, are few, and what it captures in a tick is named.
+-- captures, and the variables of its ticks, are few, and what it captures in a tick is named.
 use Rattle.std.specs.Prelude.{◌≡◌, ℕ, ◌+◌, ◌≤◌, List, length, Ok}
 use Rattle.tick_tree.specs.declared.syntax.Core.TheOpen.{Expr-F}
 use Rattle.typed_tree.specs.declared.expression.Stmt.{Stmt}
@@ -15,7 +14,7 @@ use Rattle.wf_walk.specs.Items.{GoodItem, Few}
 use Rattle.wf_walk.specs.Parts.{GoodOptional}
 use Rattle.wf_programs.specs.Parts.{GoodStart, GoodInit, GoodDeclarators}
 use Rattle.wf_walk.specs.Asked.{Asked}
-use Rattle.check_tables.specs.Bounds.{count_bound}
+use Rattle.check_rules.specs.Bounds.{count_bound}
 
 -- ---- what is asked
 

@@ -10,7 +10,7 @@ use Rattle.wf_walk.specs.Good.{GoodNode, GoodShape}
 use Rattle.wf_walk.specs.Items.{GoodItem}
 use Rattle.tick_tree.specs.Weights.{weight, initializer_weight, statement_weight, declaration_weight, declarator_weight}
 use Rattle.wf_programs.specs.Parts.{GoodStart, GoodDeclarators}
-use Rattle.check_tables.specs.Bounds.{count_bound}
+use Rattle.check_rules.specs.Bounds.{count_bound}
 
 pub record SmallAreGood (many : List ℕ) : Type 0 where
   pub node : (e : Expr) → weight e ≤ count_bound → GoodNode many (node e)

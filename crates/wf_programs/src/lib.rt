@@ -1,5 +1,5 @@
-//! What holds of the typed tree of each accepted text, put together for whole programs: it stands right, as the typed tree
-//! keeps it in its type. These are laws on definitions; there is no code to run here.
+//! What holds of the typed tree of each accepted text, put together for whole programs: it stands right, as the typed
+//! tree keeps it in its type. These are laws on definitions; there is no code to run here.
 #![tactic(auto)]
 
 mod laws;

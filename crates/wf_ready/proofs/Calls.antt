@@ -50,10 +50,10 @@ callee_of fs (suc f) n first h few =
 -- ---- expressions
 
 -- the arguments of a call stand right, and the captures of a tick do
-abbrev all_stand_in : Around → Args → Bool
+abbrev pub all_stand_in : Around → Args → Bool
 all_stand_in a args = list_all (λ p. p.stands a) (fold_args expr_rule args)
 
-abbrev all_captured_in : Around → Args → Bool
+abbrev pub all_captured_in : Around → Args → Bool
 all_captured_in a args = list_all (λ p. p.is_capture a) (fold_args expr_rule args)
 
 module _ (fs : List Function) where

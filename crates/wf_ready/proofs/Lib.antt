@@ -1,5 +1,6 @@
 pub mod Calls
 pub mod Scoped
+pub mod Ticks
 pub mod Dense
 pub mod Used
 pub mod Placed

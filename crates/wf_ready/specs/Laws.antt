@@ -6,15 +6,21 @@ use Rattle.staged_meaning.specs.Scope.{IsBuiltStmt, IsReady, IsReadyIn}
 use Rattle.wellformed.specs.Program.{IsFunction, IsTick}
 use Rattle.staged_meaning.specs.Calls.{HasCallsStmt, HasCallsBody}
 use Rattle.staged_meaning.specs.Frames.{HasFramesStmt}
+use Rattle.staged_meaning.specs.Ticks.{HasTicksStmt}
 
 abbrev pub FunctionsAreReady : Type 0
 FunctionsAreReady = (p : Program) (ticks : List (List CaptureKind)) (f : Function) → IsFunction p ticks f →
     IsBuiltStmt f.body → IsReady f
 
--- and one among the functions of its program, whose calls, parameters and frame objects are as they are to be
+-- and one among the functions of its program, whose calls, ticks, parameters and frame objects are as they are to be
 abbrev pub FunctionsAreReadyIn : Type 0
 FunctionsAreReadyIn = (p : Program) (ticks : List (List CaptureKind)) (f : Function) → IsFunction p ticks f →
-    IsBuiltStmt f.body → IsReadyIn p.functions f
+    IsBuiltStmt f.body → IsReadyIn p.functions ticks f
+
+-- a tick in a function captures what the tick of its number does, and a capture stands nowhere else
+abbrev pub TicksAreCaptured : Type 0
+TicksAreCaptured = (p : Program) (ticks : List (List CaptureKind)) (f : Function) → IsFunction p ticks f →
+    HasTicksStmt ticks f.body
 
 -- a static call in a function, or in a tick, has as many arguments as its function has parameters, and no call has more
 -- than 8

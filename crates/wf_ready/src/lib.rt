@@ -3,6 +3,7 @@
 #![tactic(auto)]
 
 ghost use Rattle.wf_ready.specs.Laws.{FunctionsAreReady, FunctionsAreReadyIn, CallsAreCounted, FramesAreWithin};
+ghost use Rattle.wf_ready.specs.Laws.{TicksAreCaptured};
 
 /// That a function of an accepted text uses variables in their scope and values that are left, that its breaks,
 /// continues and labels stand where they may, that it has at most 16,384 nodes, and that it numbers its variables below
@@ -11,8 +12,9 @@ pub fn functions_are_ready()
     ensures { FunctionsAreReady }
 {}
 
-/// That such a function is ready among the functions of its program: its calls are counted, its parameters stand at its
-/// head and nowhere else, and its frame objects lie in its frame, which is of whole words.
+/// That such a function is ready among the functions of its program: its calls are counted, its ticks capture what the
+/// program's ticks do, its parameters stand at its head and nowhere else, and its frame objects lie in its frame, which
+/// is of whole words.
 pub fn functions_are_ready_in()
     ensures { FunctionsAreReadyIn }
 {}
@@ -27,4 +29,10 @@ pub fn calls_are_counted()
 /// that it declares begins at a multiple of 4; and that these bytes are whole words.
 pub fn frames_are_within()
     ensures { FramesAreWithin }
+{}
+
+/// That each tick in a function of an accepted text is given captures of the kinds that the tick of its number names, in
+/// their order, and that a capture stands nowhere else.
+pub fn ticks_are_captured()
+    ensures { TicksAreCaptured }
 {}

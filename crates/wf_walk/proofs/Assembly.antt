@@ -9,7 +9,7 @@ use Rattle.check_rules.specs.declared.state.Around.{Around as Standing}
 use Rattle.check_rules.specs.declared.state.Stage.{Stage}
 use Rattle.check_rules.specs.declared.state.Stage.TheVariants as stage
 use Rattle.check_rules.specs.declared.state.State.{State}
-use Rattle.check_tables.specs.Walks.{Rule, pure, lift}
+use Rattle.check_rules.specs.Walks.{Rule, pure, lift}
 use Rattle.check_rules.specs.ExpressionRules.{Node, Named, Shape, Item, each, block}
 use Rattle.check_rules.specs.StatementRules as rules
 use Rattle.check_rules.specs.StatementRules.{stmt_walk}

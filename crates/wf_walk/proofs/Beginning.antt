@@ -15,19 +15,19 @@ use Rattle.check_rules.specs.declared.state.Around.{Around as Standing}
 use Rattle.check_rules.specs.declared.state.Stage.{Stage}
 use Rattle.check_rules.specs.declared.state.State.{State}
 use Rattle.check_rules.specs.Locals.{local}
-use Rattle.check_tables.specs.Frames.{words}
-use Rattle.check_tables.specs.Walks.{Rule, ◌>>=◌, pure, lift}
+use Rattle.check_rules.specs.Frames.{words}
+use Rattle.check_rules.specs.Walks.{Rule, ◌>>=◌, pure, lift}
 use Rattle.check_rules.specs.ExpressionRules.{Node}
 use Rattle.check_rules.specs.Declarations as declarations
 use Rattle.check_rules.specs.Declarations.{declared_in}
 use Rattle.check_rules.specs.Initializers as initializers
 use Rattle.check_rules.specs.Initializers.{from_value, initialized}
 use Rattle.wellformed.specs.Places.{Around}
-use Rattle.wf_scopes.specs.Right.{IsRight}
-use Rattle.wf_scopes.proofs.Places.{places_stand}
-use Rattle.wf_values.specs.Used.{IsUsed}
-use Rattle.wf_values.proofs.Places.{places_use}
-use Rattle.wf_scopes.proofs.Nodes.{unless_ok}
+use Rattle.wf_nodes.specs.Right.{IsRight}
+use Rattle.wf_nodes.proofs.PlaceScopes.{places_stand}
+use Rattle.wf_nodes.specs.Used.{IsUsed}
+use Rattle.wf_nodes.proofs.PlaceValues.{places_use}
+use Rattle.wf_nodes.proofs.NodeScopes.{unless_ok}
 use Rattle.wf_walk.specs.Steps.{at, Did}
 use Rattle.wf_walk.specs.Good.{Good, GoodNode}
 use Rattle.wf_walk.specs.Items.{MayStand, Labelled, ItemStands, ItemsStand, GoodStatement}

@@ -5,12 +5,12 @@ use Rattle.typed_tree.specs.declared.expression.Expr.{Expr}
 use Rattle.typed_tree.specs.declared.expression.Stmt.{Stmt}
 use Rattle.typed_tree.specs.declared.expression.Stmt.TheVariants as st
 use Rattle.check_operands.specs.declared.operand.Operand.{Operand}
-use Rattle.check_tables.specs.declared.labels.Labels.{Labels}
-use Rattle.check_tables.specs.Labels as labels
+use Rattle.check_rules.specs.declared.labels.Labels.{Labels}
+use Rattle.check_rules.specs.Labels as labels
 use Rattle.check_rules.specs.declared.state.Around.{Around as Standing}
 use Rattle.check_rules.specs.declared.state.State.{State}
 use Rattle.check_rules.specs.Blocks.{depth, enter, leave}
-use Rattle.check_tables.specs.Walks.{Rule, ◌>>=◌, pure, lift}
+use Rattle.check_rules.specs.Walks.{Rule, ◌>>=◌, pure, lift}
 use Rattle.check_rules.specs.ExpressionRules.{Node, Item, each}
 use Rattle.check_rules.specs.StatementRules as rules
 use Rattle.check_rules.specs.Statements as statements
@@ -95,7 +95,8 @@ unfolding switch_entered
 switch_entry s t l e = ok_same (s.labels, with_labels labels.new s) (l, t) e
 
 switch_entered_by : (items : List Item) (a : Standing) (s t : State) (l : Labels) (p : List Stmt × List Stmt)
-    (q : List Stmt × List Stmt) (last new : State) → ◌≡◌ {A = Labels × State} (s.labels, with_labels labels.new s) (l, t)
+    (q : List Stmt × List Stmt) (last new : State) →
+    ◌≡◌ {A = Labels × State} (s.labels, with_labels labels.new s) (l, t)
     → rules.switch_block items a t ≡ Ok (p, last) →
     ◌≡◌ {A = (List Stmt × List Stmt) × State} (p, with_labels l last) (q, new) →
     rules.switch_block items a (with_labels labels.new s) ≡ Ok (q, last)

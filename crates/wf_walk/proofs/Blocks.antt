@@ -1,7 +1,7 @@
 -- The states round a block.
 use Rattle.std.proofs.Common.{ℕ, List, [], ◌∷◌, ◌++◌, length, take}
 use Rattle.typed_tree.specs.declared.expression.Stmt.{Stmt}
-use Rattle.check_tables.specs.Frames as frames
+use Rattle.check_rules.specs.Frames as frames
 use Rattle.check_rules.specs.declared.state.State.{State}
 
 -- in a block that is entered in this state

@@ -23,8 +23,8 @@ use Rattle.wellformed.specs.Counts.{one_if, declarations_of}
 use Rattle.wellformed.specs.Places.{Around, act}
 use Rattle.wellformed.specs.Values.{uses_values}
 use Rattle.wellformed.proofs.Bools.{second_true}
-use Rattle.wf_values.proofs.Declared.{types_use}
-use Rattle.wf_values.proofs.Stages.{stages_use}
+use Rattle.wf_nodes.proofs.Declared.{types_use}
+use Rattle.wf_nodes.proofs.Stages.{stages_use}
 use Rattle.wf_walk.specs.Captured.{NamesValue, NamesBlock}
 use Rattle.wf_walk.specs.Counts.{declarations_in, between, Counts}
 use Rattle.wf_walk.specs.Items.{placed, KeepsBlock, Few, GoodBlock}
@@ -35,7 +35,7 @@ use Rattle.wf_walk.proofs.Walks.{ran}
 use Rattle.wf_walk.proofs.Captures.{given}
 use Rattle.wf_walk.proofs.ExpressionNodes.{good_value}
 use Rattle.wf_walk.proofs.Ticks.{KeepsBody, BodyStands, blocks, known_entered, tick_did}
-use Rattle.check_tables.specs.Bounds.{count_bound}
+use Rattle.check_rules.specs.Bounds.{count_bound}
 
 -- ---- an expression
 

@@ -9,13 +9,13 @@ use Rattle.typed_tree.specs.declared.expression.CaptureKind.{CaptureKind}
 use Rattle.check_operands.specs.declared.operand.Operand.{Operand}
 use Rattle.check_operands.specs.declared.arguments.Arguments.{Arguments}
 use Rattle.check_operands.specs.Calls as calls
-use Rattle.check_tables.specs.Walks.{◌>>=◌, lift}
+use Rattle.check_rules.specs.Walks.{◌>>=◌, lift}
 use Rattle.check_rules.specs.declared.state.Stage.{Stage}
 use Rattle.check_rules.specs.declared.state.State.{State}
 use Rattle.check_rules.specs.Names.{library_at, library_by, library}
 use Rattle.check_rules.specs.Productions as productions
 use Rattle.check_rules.specs.ExpressionRules.{Node, arguments, library_of, library_call, plain_call, call_of, call}
-use Rattle.wf_values.specs.Used.{IsLibrary}
+use Rattle.wf_nodes.specs.Used.{IsLibrary}
 use Rattle.wf_walk.specs.Known.{Blocks, Means, EachScope, Small, Known}
 use Rattle.wf_walk.specs.Steps.{Round, at, Did, Does}
 use Rattle.wf_walk.specs.Good.{GoodNode}
@@ -96,7 +96,8 @@ library_known many g b s (Some name) l h e =
     library_found many g b s (find s.scopes name) l (λ y k. known_name many g b s name y h k) e
 
 call_of_did : {many : List ℕ} {b : Blocks} {ks : List (List CaptureKind)} {s new : State} {x : Operand} (line : ℕ)
-    (f : Node) (list : List Node) (g : Stage) (l : Option (ℕ × CType)) → GoodNode many f → EachPart (GoodNode many) list →
+    (f : Node) (list : List Node) (g : Stage) (l : Option (ℕ × CType)) → GoodNode many f →
+    EachPart (GoodNode many) list →
     Known many g b ks s → ((y : ℕ × CType) → l ≡ Some y → Small g s → IsLibrary y.0 y.1) →
     call_of line f list g l s ≡ Ok (x, new) → Did many g b ks s new (λ r. Right g r x)
 call_of_did {b = b} {ks} {s} {new} {x} line f list g None h k known u e =

@@ -28,9 +28,9 @@ use Rattle.check_operands.specs.Calls.{called_breaks_by, answer_of, called, thro
 use Rattle.check_operands.specs.Calls.{call_by, call, library_kind, library_node, library, tick_returned}
 use Rattle.wellformed.specs.Captured.{Naming, both, all, named}
 use Rattle.wellformed.proofs.Named.{named_call, named_callnumber, named_getchar, named_lib}
-use Rattle.wf_scopes.specs.Right.{Unless}
-use Rattle.wf_scopes.proofs.Nodes.{unless_by, unless_none, unless_if}
-use Rattle.wf_values.specs.Used.{listed_at, listed_by, library_count, IsLibrary}
+use Rattle.wf_nodes.specs.Right.{Unless}
+use Rattle.wf_nodes.proofs.NodeScopes.{unless_by, unless_none, unless_if}
+use Rattle.wf_nodes.specs.Used.{listed_at, listed_by, library_count, IsLibrary}
 use Rattle.wf_walk.specs.Named.{place_named}
 use Rattle.wf_walk.proofs.CapturedRules.{Same, at, Gives, Holds, value_names, narrowed_names}
 

@@ -30,9 +30,9 @@ use Rattle.check_operands.specs.Stages as stages
 use Rattle.check_operands.specs.declared.arguments.Arguments.{Arguments}
 use Rattle.check_operands.specs.Calls as calls
 use Rattle.check_operands.specs.Places as places
-use Rattle.check_tables.specs.Images as images
-use Rattle.check_tables.specs.Ticks as ticks
-use Rattle.check_tables.specs.Walks.{Rule, ◌>>=◌, pure, lift}
+use Rattle.check_rules.specs.Images as images
+use Rattle.check_rules.specs.Ticks as ticks
+use Rattle.check_rules.specs.Walks.{Rule, ◌>>=◌, pure, lift}
 use Rattle.check_rules.specs.declared.state.Stage.{Stage}
 use Rattle.check_rules.specs.declared.state.Stage.TheVariants as stage
 use Rattle.check_rules.specs.declared.state.State.{State}
@@ -44,8 +44,8 @@ use Rattle.check_rules.specs.ExpressionRules.{comma, walk_rule}
 use Rattle.check_rules.specs.Walk.{Expr-W}
 use Rattle.wellformed.specs.Captured.{Naming, none, both, named}
 use Rattle.wellformed.proofs.Named.{named_captured}
-use Rattle.wf_scopes.specs.Right.{Unless}
-use Rattle.wf_values.specs.Used.{IsLibrary}
+use Rattle.wf_nodes.specs.Right.{Unless}
+use Rattle.wf_nodes.specs.Used.{IsLibrary}
 use Rattle.wf_walk.specs.Captured.{IsOfLibrary, HasLibrary, Names, NamesFrom}
 use Rattle.wf_walk.specs.Parts.{EachPart}
 use Rattle.wf_walk.proofs.Walks.{ran, pure_value}

@@ -16,9 +16,9 @@ use Rattle.typed_tree.specs.declared.expression.CapturedWord.TheVariants as word
 use Rattle.typed_tree.specs.declared.expression.Expr.{Expr}
 use Rattle.typed_tree.specs.declared.expression.Expr.TheVariants as ex
 use Rattle.check_operands.specs.declared.operand.Operand.{Operand}
-use Rattle.check_tables.specs.declared.frame.Home.{Home}
-use Rattle.check_tables.specs.Ticks as ticks
-use Rattle.check_tables.specs.Bounds.{count_bound}
+use Rattle.check_rules.specs.declared.frame.Home.{Home}
+use Rattle.check_rules.specs.Ticks as ticks
+use Rattle.check_rules.specs.Bounds.{count_bound}
 use Rattle.check_rules.specs.declared.state.Stage.{Stage}
 use Rattle.check_rules.specs.declared.state.Stage.TheVariants as stage
 use Rattle.check_rules.specs.declared.state.State.{State}

@@ -44,8 +44,8 @@ use Rattle.wellformed.specs.Captured.{Naming, next, none, both, named}
 use Rattle.wellformed.proofs.Named.{named_const, named_var, named_setvar, named_postvar, named_vget, named_vset}
 use Rattle.wellformed.proofs.Named.{named_vpost, named_load, named_store, named_modify, named_post, named_bin, named_un}
 use Rattle.wellformed.proofs.Named.{named_and, named_or, named_cond, named_comma, named_void}
-use Rattle.wf_scopes.specs.Right.{Unless}
-use Rattle.wf_scopes.proofs.Nodes.{unless_by, unless_none, unless_if}
+use Rattle.wf_nodes.specs.Right.{Unless}
+use Rattle.wf_nodes.proofs.NodeScopes.{unless_by, unless_none, unless_if}
 use Rattle.wf_walk.specs.Named.{place_named}
 
 -- ---- what is named the same

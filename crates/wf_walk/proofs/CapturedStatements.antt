@@ -22,10 +22,10 @@ use Rattle.check_operands.specs.declared.operand.Operand.{Operand}
 use Rattle.check_operands.specs.Operands.{value_of, effect}
 use Rattle.check_operands.specs.Calls as calls
 use Rattle.check_operands.specs.Places as places
-use Rattle.check_tables.specs.declared.labels.Labels.{Labels}
-use Rattle.check_tables.specs.Frames as frames
-use Rattle.check_tables.specs.Labels as labels
-use Rattle.check_tables.specs.Walks.{Rule, ◌>>=◌, pure, lift}
+use Rattle.check_rules.specs.declared.labels.Labels.{Labels}
+use Rattle.check_rules.specs.Frames as frames
+use Rattle.check_rules.specs.Labels as labels
+use Rattle.check_rules.specs.Walks.{Rule, ◌>>=◌, pure, lift}
 use Rattle.check_rules.specs.declared.state.Around.{Around}
 use Rattle.check_rules.specs.declared.state.Stage.{Stage}
 use Rattle.check_rules.specs.declared.state.Stage.TheVariants as stage
@@ -49,7 +49,7 @@ use Rattle.wellformed.proofs.Named.{named_const, named_of_eval, named_of_block, 
 use Rattle.wellformed.proofs.Named.{named_of_ifelse, named_of_while, named_of_do, named_of_for, named_of_forstep}
 use Rattle.wellformed.proofs.Named.{named_of_switch, named_of_case, named_of_default, named_of_break}
 use Rattle.wellformed.proofs.Named.{named_of_continue, named_of_return, named_of_returnvalue, named_of_variable}
-use Rattle.wf_scopes.specs.Right.{Unless}
+use Rattle.wf_nodes.specs.Right.{Unless}
 use Rattle.wf_walk.specs.Captured.{HasLibrary, AreSilent, Names, NamesFrom}
 use Rattle.wf_walk.specs.Parts.{EachPart}
 use Rattle.wf_walk.proofs.Lengths.{local_not_computed}

@@ -4,11 +4,11 @@ use Rattle.tick_tree.specs.Faults.{Checked}
 use Rattle.check_rules.specs.declared.state.Stage.{Stage}
 use Rattle.check_rules.specs.declared.state.Stage.TheVariants as stage
 use Rattle.check_rules.specs.declared.state.State.{State}
-use Rattle.check_tables.specs.Walks.{Rule, ◌>>=◌, pure, lift}
+use Rattle.check_rules.specs.Walks.{Rule, ◌>>=◌, pure, lift}
 use Rattle.check_rules.specs.ExpressionRules.{Node}
 use Rattle.wellformed.specs.Captured.{Naming, none, both}
-use Rattle.wf_scopes.specs.Right.{Unless}
-use Rattle.wf_scopes.proofs.Nodes.{unless_ok}
+use Rattle.wf_nodes.specs.Right.{Unless}
+use Rattle.wf_nodes.proofs.NodeScopes.{unless_ok}
 use Rattle.wf_walk.specs.Captured.{HasLibrary, AreSilent, Names, NamesFrom}
 use Rattle.wf_walk.specs.Steps.{kinds}
 use Rattle.wf_walk.proofs.Walks.{ok_same, ran, pure_same, pure_value, lifted}

@@ -1,6 +1,5 @@
 -- A step in a tick that makes one capture: it has the number of the captures before it, and what surrounds the tick's
--- body has its
--- kind there.
+-- body has its kind there.
 use Rattle.std.proofs.Common.{◌≡◌, ℕ, ◌≤◌, ◌<◌, Bool, true, List, [], ◌∷◌, ◌++◌, length, refl, sym, ap, subst, ◌∙◌}
 use Rattle.std.proofs.Common.{append_assoc, append-nil, length-append, arith, Option, Some, None, Ok}
 use Rattle.std.specs.Prelude.{slice_get}
@@ -19,16 +18,16 @@ use Rattle.check_operands.specs.declared.operand.Operand.{Operand}
 use Rattle.check_rules.specs.declared.state.Stage.{Stage}
 use Rattle.check_rules.specs.declared.state.Stage.TheVariants as stage
 use Rattle.check_rules.specs.declared.state.State.{State}
-use Rattle.check_tables.specs.Frames.{count}
-use Rattle.check_tables.specs.Ticks as ticks
-use Rattle.check_tables.specs.Bounds.{count_bound}
+use Rattle.check_rules.specs.Frames.{count}
+use Rattle.check_rules.specs.Ticks as ticks
+use Rattle.check_rules.specs.Bounds.{count_bound}
 use Rattle.wellformed.specs.Places.{Part, part, Around, same_answer, same_kind, same_kinds, kind_at, captured_in}
 use Rattle.wellformed.specs.Places.{captured}
 use Rattle.wellformed.proofs.Equations.{part_capture}
 use Rattle.wellformed.proofs.Bools.{and_true}
-use Rattle.wf_scopes.specs.Right.{Stands}
-use Rattle.wf_values.specs.Used.{Leaves}
-use Rattle.wf_values.proofs.Nodes.{nodes_use}
+use Rattle.wf_nodes.specs.Right.{Stands}
+use Rattle.wf_nodes.specs.Used.{Leaves}
+use Rattle.wf_nodes.proofs.NodeValues.{nodes_use}
 use Rattle.wf_walk.specs.Kept.{Starts, KeepsTables, KeepsTick, Keeps}
 use Rattle.wf_walk.specs.Known.{Blocks, Small, Known}
 use Rattle.wf_walk.specs.Steps.{Round, at, Agrees, Captures, first_kind, one_kind, kinds, EachTick, EachCapture}

@@ -18,7 +18,7 @@ use Rattle.check_operands.specs.Operands as nodes
 use Rattle.check_operands.specs.Operands.{value_of}
 use Rattle.check_operands.specs.Stages as stages
 use Rattle.check_operands.specs.Places as places
-use Rattle.check_tables.specs.Walks.{◌>>=◌, pure, lift}
+use Rattle.check_rules.specs.Walks.{◌>>=◌, pure, lift}
 use Rattle.check_rules.specs.declared.state.Stage.{Stage}
 use Rattle.check_rules.specs.declared.state.Stage.TheVariants as stage
 use Rattle.check_rules.specs.declared.state.State.{State}
@@ -26,7 +26,7 @@ use Rattle.check_rules.specs.Names.{captured}
 use Rattle.check_rules.specs.Productions
 use Rattle.check_rules.specs.ExpressionRules.{Node, Named, Shape, Item, both, unary, cast, size, binary, walk_rule}
 use Rattle.wellformed.specs.Places.{Around}
-use Rattle.wf_scopes.specs.Right.{Unless}
+use Rattle.wf_nodes.specs.Right.{Unless}
 use Rattle.wf_walk.specs.Kept.{Starts}
 use Rattle.wf_walk.specs.Steps.{EachCapture}
 use Rattle.wf_walk.specs.Good.{Plain, Good, Anywhere, GoodNamed}

@@ -8,7 +8,7 @@ use Rattle.check_declarators.specs.Words as words
 use Rattle.tick_tree.specs.declared.syntax.Core.TheOpen.{Core-F}
 use Rattle.check_rules.specs.declared.state.Stage.{Stage}
 use Rattle.check_rules.specs.declared.state.State.{State}
-use Rattle.check_tables.specs.Walks.{Rule, pure}
+use Rattle.check_rules.specs.Walks.{Rule, pure}
 use Rattle.check_rules.specs.Declarations as declarations
 use Rattle.check_rules.specs.Walk.{Start, Nothing, Value, Values, Core-W, Declarator-W, Suffix-W, Typename-W}
 use Rattle.check_rules.specs.Walk.{Parameter-W, core_rule, declarator_rule, suffix_walk, suffix_of, SuffixWalk}

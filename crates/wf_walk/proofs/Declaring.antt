@@ -14,11 +14,11 @@ use Rattle.typed_tree.specs.declared.expression.Stmt.{Stmt}
 use Rattle.typed_tree.specs.declared.expression.Stmt.TheVariants as st
 use Rattle.check_operands.specs.declared.operand.Operand.{Operand}
 use Rattle.check_operands.specs.declared.operand.Place.TheVariants as place
-use Rattle.check_tables.specs.declared.frame.Home.{Home}
-use Rattle.check_tables.specs.declared.frame.Home.TheVariants as home
-use Rattle.check_tables.specs.Frames as frames
-use Rattle.check_tables.specs.Frames.{variable, after, count}
-use Rattle.check_tables.specs.Bounds.{count_bound}
+use Rattle.check_rules.specs.declared.frame.Home.{Home}
+use Rattle.check_rules.specs.declared.frame.Home.TheVariants as home
+use Rattle.check_rules.specs.Frames as frames
+use Rattle.check_rules.specs.Frames.{variable, after, count}
+use Rattle.check_rules.specs.Bounds.{count_bound}
 use Rattle.check_rules.specs.declared.state.Stage.{Stage}
 use Rattle.check_rules.specs.declared.state.Stage.TheVariants as stage
 use Rattle.check_rules.specs.declared.state.State.{State}
@@ -26,8 +26,8 @@ use Rattle.check_rules.specs.Names.{operand, place_by}
 use Rattle.check_rules.specs.Locals.{meaning, made_outer, local}
 use Rattle.wellformed.proofs.Equations.{act_variable}
 use Rattle.wellformed.proofs.Bools.{and_true, le_true, le_less}
-use Rattle.wf_values.proofs.Nodes.{nodes_use}
-use Rattle.wf_scopes.proofs.Nodes.{frame_stands}
+use Rattle.wf_nodes.proofs.NodeValues.{nodes_use}
+use Rattle.wf_nodes.proofs.NodeScopes.{frame_stands}
 use Rattle.wf_walk.specs.Kept.{Grows}
 use Rattle.wf_walk.specs.Known.{Blocks, of_tick, has, numbers, HasHome, IsVariable, IsObject, Means, Known}
 use Rattle.wf_walk.specs.Steps.{Round, at, Agrees, Did}
@@ -165,7 +165,8 @@ object_did b s name t n o known =
     (le_true s.frame.object (after s.frame.object n) (after_grows s.frame.object n h)) k)
     (λ r k a. (
       frame_stands r.function s.frame.object a.is_function
-          (le_less s.frame.object (after s.frame.object n) r.function.object (after_grows s.frame.object n a.small.object)
+          (le_less s.frame.object (after s.frame.object n) r.function.object
+          (after_grows s.frame.object n a.small.object)
           a.object) k,
       record { address = nodes_use.frame s.frame.object; type = o.type },
     )) known

@@ -14,19 +14,19 @@ use Rattle.check_rules.specs.declared.state.Around.{Around as Standing}
 use Rattle.check_rules.specs.declared.state.Stage.{Stage}
 use Rattle.check_rules.specs.declared.state.Stage.TheVariants as stage
 use Rattle.check_rules.specs.declared.state.State.{State}
-use Rattle.check_tables.specs.Walks.{◌>>=◌, pure}
+use Rattle.check_rules.specs.Walks.{◌>>=◌, pure}
 use Rattle.check_rules.specs.ExpressionRules.{Node, Item, each}
 use Rattle.check_rules.specs.StatementRules as rules
 use Rattle.check_rules.specs.Statements as statements
 use Rattle.wellformed.specs.Places.{Around, looped}
-use Rattle.wf_scopes.specs.Right.{Stands}
-use Rattle.wf_scopes.proofs.Operands.{prefixes_stand}
-use Rattle.wf_scopes.proofs.Calls.{calls_stand}
-use Rattle.wf_scopes.proofs.Nodes.{const_stands, unless_ok}
-use Rattle.wf_values.specs.Used.{Leaves, Unless as UnlessUsed}
-use Rattle.wf_values.proofs.Nodes.{nodes_use}
-use Rattle.wf_values.proofs.Operands.{prefixes_use}
-use Rattle.wf_values.proofs.Calls.{calls_use}
+use Rattle.wf_nodes.specs.Right.{Stands}
+use Rattle.wf_nodes.proofs.OperandScopes.{prefixes_stand}
+use Rattle.wf_nodes.proofs.CallScopes.{calls_stand}
+use Rattle.wf_nodes.proofs.NodeScopes.{const_stands, unless_ok}
+use Rattle.wf_nodes.specs.Used.{Leaves, Unless as UnlessUsed}
+use Rattle.wf_nodes.proofs.NodeValues.{nodes_use}
+use Rattle.wf_nodes.proofs.OperandValues.{prefixes_use}
+use Rattle.wf_nodes.proofs.CallValues.{calls_use}
 use Rattle.wf_walk.specs.Kept.{Grows}
 use Rattle.wf_walk.specs.Known.{Blocks, Known}
 use Rattle.wf_walk.specs.Steps.{Round, at, Did}
@@ -168,7 +168,8 @@ DidStand many a b ks s new xs = Did many a.stage b ks s new (λ r. ItemsStand a 
 -- ---- statements
 
 pub if_did : {many : List ℕ} (line : ℕ) (c : Node) (i : Item) (a : Standing) (b : Blocks) (ks : List (List CaptureKind))
-    (s new : State) (xs : List Stmt) → GoodNode many c → GoodItem many i → InBlock a.stage b → Known many a.stage b ks s →
+    (s new : State) (xs : List Stmt) → GoodNode many c → GoodItem many i → InBlock a.stage b →
+    Known many a.stage b ks s →
     IfRan line c i a s xs new → DidStand many a b ks s new xs
 if_did line c i a b ks s new xs hc hi here known w =
     let k = hc.keeps a.stage s w.between w.operand w.walk in
@@ -198,7 +199,8 @@ while_did line c i a b ks s new xs hc hi here known w =
     (loop_stood a r w.node p.1))))
 
 pub do_did : {many : List ℕ} (line : ℕ) (i : Item) (c : Node) (a : Standing) (b : Blocks) (ks : List (List CaptureKind))
-    (s new : State) (xs : List Stmt) → GoodNode many c → GoodItem many i → InBlock a.stage b → Known many a.stage b ks s →
+    (s new : State) (xs : List Stmt) → GoodNode many c → GoodItem many i → InBlock a.stage b →
+    Known many a.stage b ks s →
     DoRan line i c a s xs new → DidStand many a b ks s new xs
 do_did line i c a b ks s new xs hc hi here known w =
     let k = hc.keeps a.stage w.between new w.operand w.walk in

@@ -21,9 +21,9 @@ use Rattle.check_operands.specs.declared.operand.Value.{Value}
 use Rattle.check_operands.specs.Operands.{value_of, made}
 use Rattle.check_operands.specs.Stages as stages
 use Rattle.check_operands.specs.Places as places
-use Rattle.check_tables.specs.declared.frame.Home.{Home}
-use Rattle.check_tables.specs.Ticks as ticks
-use Rattle.check_tables.specs.Walks.{Rule, ◌>>=◌, lift}
+use Rattle.check_rules.specs.declared.frame.Home.{Home}
+use Rattle.check_rules.specs.Ticks as ticks
+use Rattle.check_rules.specs.Walks.{Rule, ◌>>=◌, lift}
 use Rattle.check_rules.specs.declared.state.Stage.{Stage}
 use Rattle.check_rules.specs.declared.state.Stage.TheVariants as stage
 use Rattle.check_rules.specs.declared.state.State.{State}
@@ -31,11 +31,11 @@ use Rattle.check_rules.specs.Names.{addressed}
 use Rattle.check_rules.specs.Productions as productions
 use Rattle.wellformed.specs.Places.{Part, Around, captured, is_word}
 use Rattle.wellformed.proofs.Equations.{part_captured}
-use Rattle.wf_scopes.specs.Right.{Stands, RightPlace, Unless}
-use Rattle.wf_values.specs.Used.{UsedPlace}
-use Rattle.wf_values.proofs.Nodes.{nodes_use}
-use Rattle.wf_values.proofs.Declared.{types_use}
-use Rattle.wf_scopes.proofs.Nodes.{frame_stands}
+use Rattle.wf_nodes.specs.Right.{Stands, RightPlace, Unless}
+use Rattle.wf_nodes.specs.Used.{UsedPlace}
+use Rattle.wf_nodes.proofs.NodeValues.{nodes_use}
+use Rattle.wf_nodes.proofs.Declared.{types_use}
+use Rattle.wf_nodes.proofs.NodeScopes.{frame_stands}
 use Rattle.wf_walk.specs.Kept.{Keeps, IsKeeping}
 use Rattle.wf_walk.specs.Known.{Blocks, IsVariable, IsParameter, Means, Small, Known}
 use Rattle.wf_walk.specs.Steps.{Round, at, Agrees, EachCapture, Did}
@@ -100,7 +100,8 @@ module _ {many : List ℕ} {b : Blocks} {ks : List (List CaptureKind)} {s : Stat
       let x = known (small_tick s small) in
       record {
         names = each_scope (λ n m. Means many stage.Tick b s n m m.kind)
-            (λ n m. Means many stage.Dollar b s n m m.kind) (λ n m h. means_dollar many b s n m m.kind h) s.scopes x.names;
+            (λ n m. Means many stage.Dollar b s n m m.kind) (λ n m h. means_dollar many b s n m m.kind h) s.scopes
+            x.names;
         ticks = x.ticks;
         object = x.object;
       }

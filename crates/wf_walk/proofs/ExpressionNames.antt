@@ -14,18 +14,18 @@ use Rattle.check_types.specs.Shapes.{is_void}
 use Rattle.typed_tree.specs.declared.expression.CaptureKind.{CaptureKind}
 use Rattle.check_operands.specs.declared.operand.Operand.{Operand}
 use Rattle.check_operands.specs.Operands.{effect, value_of}
-use Rattle.check_tables.specs.declared.frame.Home.{Home}
-use Rattle.check_tables.specs.declared.frame.Home.TheVariants as home
+use Rattle.check_rules.specs.declared.frame.Home.{Home}
+use Rattle.check_rules.specs.declared.frame.Home.TheVariants as home
 use Rattle.check_rules.specs.declared.state.Stage.{Stage}
 use Rattle.check_rules.specs.declared.state.State.{State}
 use Rattle.check_rules.specs.Names.{operand, place_by, address_by}
 use Rattle.wellformed.specs.Places.{Around, in_scope, in_function}
 use Rattle.wellformed.proofs.Bools.{first_true, second_true}
-use Rattle.wf_scopes.specs.Right.{Stands}
-use Rattle.wf_scopes.proofs.Nodes.{frame_stands}
-use Rattle.wf_values.specs.Used.{Leaves}
-use Rattle.wf_values.proofs.Nodes.{nodes_use}
-use Rattle.wf_values.proofs.Declared.{types_use}
+use Rattle.wf_nodes.specs.Right.{Stands}
+use Rattle.wf_nodes.proofs.NodeScopes.{frame_stands}
+use Rattle.wf_nodes.specs.Used.{Leaves}
+use Rattle.wf_nodes.proofs.NodeValues.{nodes_use}
+use Rattle.wf_nodes.proofs.Declared.{types_use}
 use Rattle.wf_walk.specs.Known.{Blocks, has, of_function, HasHome, IsObject, Means, EachEntry, EachScope}
 use Rattle.wf_walk.specs.Steps.{Round, Agrees}
 use Rattle.wf_walk.specs.Good.{Good}

@@ -1,6 +1,5 @@
 -- Each production's own rule makes of operands that stand right one that stands right. Here the laws on where nodes
--- stand and on
--- the values that they use come together.
+-- stand and on the values that they use come together.
 use Rattle.std.proofs.Common.{◌≡◌, ℕ, suc, Bool, true, false, ◌&&◌, if◌then◌else◌, refl, ap, List, [], ◌∷◌, length, Ok}
 use Rattle.std.proofs.Common.{Err}
 use Rattle.icode_ops.specs.declared.kind.UnKind.TheVariants as un
@@ -27,19 +26,19 @@ use Rattle.check_rules.specs.declared.state.Stage.{Stage}
 use Rattle.check_rules.specs.Productions as productions
 use Rattle.check_rules.specs.Productions.{is_tick, is_specification, answers_specification}
 use Rattle.wellformed.specs.Places.{Around, in_function}
-use Rattle.wf_scopes.specs.Right.{Stands, EachStands, IsRight, Unless}
-use Rattle.wf_scopes.proofs.Operands.{operands_stand, prefixes_stand, stages_stand}
-use Rattle.wf_scopes.proofs.Operators.{operators_stand}
-use Rattle.wf_scopes.proofs.Places.{places_stand}
-use Rattle.wf_scopes.proofs.Calls.{calls_stand}
-use Rattle.wf_values.specs.Used as used
-use Rattle.wf_values.specs.Used.{IsUsedValue, IsUsed, EachUsedAs, AreUsed, IsLibrary}
-use Rattle.wf_values.specs.Laws.{IsCaptured}
-use Rattle.wf_values.proofs.Operands.{operands_use, prefixes_use}
-use Rattle.wf_values.proofs.Operators.{operators_use}
-use Rattle.wf_values.proofs.Places.{places_use}
-use Rattle.wf_values.proofs.Calls.{calls_use}
-use Rattle.wf_values.proofs.Stages.{stages_use}
+use Rattle.wf_nodes.specs.Right.{Stands, EachStands, IsRight, Unless}
+use Rattle.wf_nodes.proofs.OperandScopes.{operands_stand, prefixes_stand, stages_stand}
+use Rattle.wf_nodes.proofs.OperatorScopes.{operators_stand}
+use Rattle.wf_nodes.proofs.PlaceScopes.{places_stand}
+use Rattle.wf_nodes.proofs.CallScopes.{calls_stand}
+use Rattle.wf_nodes.specs.Used as used
+use Rattle.wf_nodes.specs.Used.{IsUsedValue, IsUsed, EachUsedAs, AreUsed, IsLibrary}
+use Rattle.wf_nodes.specs.Values.{IsCaptured}
+use Rattle.wf_nodes.proofs.OperandValues.{operands_use, prefixes_use}
+use Rattle.wf_nodes.proofs.OperatorValues.{operators_use}
+use Rattle.wf_nodes.proofs.PlaceValues.{places_use}
+use Rattle.wf_nodes.proofs.CallValues.{calls_use}
+use Rattle.wf_nodes.proofs.Stages.{stages_use}
 use Rattle.wf_walk.specs.Good.{Good}
 use Rattle.wf_walk.proofs.NodeRules.{good_settled}
 

@@ -8,7 +8,7 @@ use Rattle.tick_tree.specs.Faults.{Checked}
 use Rattle.check_operands.specs.declared.operand.Operand.{Operand}
 use Rattle.check_operands.specs.Operands as nodes
 use Rattle.check_operands.specs.Stages as stages
-use Rattle.check_tables.specs.Walks.{◌>>=◌, pure, lift}
+use Rattle.check_rules.specs.Walks.{◌>>=◌, pure, lift}
 use Rattle.check_rules.specs.declared.state.Stage.{Stage}
 use Rattle.check_rules.specs.declared.state.Stage.TheVariants as stage
 use Rattle.check_rules.specs.Productions as productions
@@ -16,7 +16,7 @@ use Rattle.check_rules.specs.ExpressionRules.{Node, Named, both, compile, local,
 use Rattle.check_rules.specs.ExpressionRules.{size}
 use Rattle.check_rules.specs.ExpressionRules.{comma}
 use Rattle.wellformed.specs.Places.{in_function}
-use Rattle.wf_scopes.specs.Right.{Unless}
+use Rattle.wf_nodes.specs.Right.{Unless}
 use Rattle.wf_walk.specs.Steps.{Round, at}
 use Rattle.wf_walk.specs.Good.{Good, GoodNode, GoodNamed}
 use Rattle.wf_walk.proofs.Plain.{plain_keeps, plain_did}

@@ -1,6 +1,5 @@
 -- The value of a constant and the type that a declarator makes don't depend on what is known where a function runs: so
--- both walks
--- over a program give each global the same type.
+-- both walks over a program give each global the same type.
 use Rattle.std.proofs.Common.{◌≡◌, ℕ, Bool, true, false, List, [], ◌∷◌, ◌++◌, length, refl, sym, ap, subst, ◌∙◌, Option}
 use Rattle.std.proofs.Common.{Some, None, Ok}
 use Rattle.c_types.specs.declared.ctype.Base.{Base}
@@ -22,7 +21,7 @@ use Rattle.check_operands.specs.declared.operand.Operand.{Operand}
 use Rattle.check_operands.specs.declared.operand.Place.{Place}
 use Rattle.check_operands.specs.declared.operand.Place.TheVariants as place
 use Rattle.check_operands.specs.Operands as nodes
-use Rattle.check_tables.specs.Walks.{Rule, ◌>>=◌, pure, lift}
+use Rattle.check_rules.specs.Walks.{Rule, ◌>>=◌, pure, lift}
 use Rattle.check_rules.specs.declared.state.Stage.{Stage}
 use Rattle.check_rules.specs.declared.state.Stage.TheVariants as stage
 use Rattle.check_rules.specs.declared.state.State.{State}
@@ -185,7 +184,8 @@ list_fixed ps h s t m n y z e f =
     r.next)
 
 pub suffix_fixed : {I D N : Type 0}
-    (e : Suffix-F Shape Node I (Option Node) Item (Stage → Rule State Step) D Shape N (Stage → Rule State CType) Named) →
+    (e : Suffix-F Shape Node I (Option Node) Item (Stage → Rule State Step) D Shape N (Stage → Rule State CType) Named)
+    →
     FixedSuffixParts e → FixedSuffix (suffix_rule e)
 suffix_fixed (Suffix-F.Array e) h = length_fixed e h
 suffix_fixed Suffix-F.Unlisted h = weaker is_computed_step (pure step.Unlisted) (pure_fixed step.Unlisted)

@@ -10,7 +10,7 @@ use Rattle.wf_walk.specs.Known.{Small, SmallTick, SmallInner}
 use Rattle.wf_walk.specs.Counts.{variables}
 use Rattle.wf_walk.proofs.Fronts.{starts_same, starts_more, starts_length}
 use Rattle.wf_walk.proofs.Keeps.{globals_more}
-use Rattle.check_tables.specs.Bounds.{count_bound}
+use Rattle.check_rules.specs.Bounds.{count_bound}
 
 chain : (l m n k : ℕ) → (m ≤ k → l ≤ m) → (n ≤ k → m ≤ n) → n ≤ k → l ≤ n
 chain l m n k p q h = let b : m ≤ n = q h in let a : l ≤ m = p (omega (arith, b, h)) in omega (arith, a, b)

@@ -1,6 +1,5 @@
 -- What each rule of the walk keeps holds of the walk over each tree: an induction over the syntax tree, once for all
--- that is asked. Written by
--- tools/checker/walks.py.
+-- that is asked. Written by tools/checker/walks.py.
 use Rattle.std.proofs.Common.{◌≡◌, List, [], ◌∷◌, map, sym, subst, Option}
 use Rattle.tick_tree.specs.declared.syntax.Core.{Core, roll-Core}
 use Rattle.tick_tree.specs.declared.syntax.Expr.{Expr, roll-Expr}
@@ -26,14 +25,10 @@ use Rattle.tick_tree.specs.declared.syntax.Core.TheFolds.{fold-roll-Initializer,
 use Rattle.tick_tree.specs.declared.syntax.Core.TheFolds.{fold-roll-Suffix, fold-roll-Declaration, fold-roll-Declarator}
 use Rattle.tick_tree.specs.declared.syntax.Core.TheFolds.{fold-roll-Init, fold-roll-Parameter, fold-roll-Typename}
 use Rattle.check_rules.specs.ExpressionRules.{Node, Named, Shape, Item}
-use Rattle.check_rules.specs.Walk.{Start, InitParts, Declarations, SuffixWalk, TypeWalk, Core-W, Expr-W}
-use Rattle.check_rules.specs.Walk.{Initializer-W}
-use Rattle.check_rules.specs.Walk.{OptionalExpr-W, Stmt-W, Suffix-W, Declaration-W, Declarator-W, Init-W}
-use Rattle.check_rules.specs.Walk.{Parameter-W}
-use Rattle.check_rules.specs.Walk.{Typename-W, core_rule, expr_rule, start_rule, optional_rule, stmt_rule}
-use Rattle.check_rules.specs.Walk.{suffix_walk}
-use Rattle.check_rules.specs.Walk.{declaration_rule, declarator_rule, init_rule, parameter_rule, typename_rule}
-use Rattle.check_rules.specs.Walk.{core}
+use Rattle.check_rules.specs.Walk.{Start, InitParts, Declarations, SuffixWalk, TypeWalk, Core-W, Expr-W, Initializer-W}
+use Rattle.check_rules.specs.Walk.{OptionalExpr-W, Stmt-W, Suffix-W, Declaration-W, Declarator-W, Init-W, Parameter-W}
+use Rattle.check_rules.specs.Walk.{Typename-W, core_rule, expr_rule, start_rule, optional_rule, stmt_rule, suffix_walk}
+use Rattle.check_rules.specs.Walk.{declaration_rule, declarator_rule, init_rule, parameter_rule, typename_rule, core}
 use Rattle.check_rules.specs.Walk.{node, initializer, optional, item, suffix, declaration, shape, init, parameter}
 use Rattle.check_rules.specs.Walk.{named}
 use Rattle.wf_walk.specs.Parts.{EachPart}

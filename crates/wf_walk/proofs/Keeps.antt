@@ -4,7 +4,7 @@ use Rattle.tick_tree.specs.Faults.{Checked}
 use Rattle.check_rules.specs.declared.state.Stage.{Stage}
 use Rattle.check_rules.specs.declared.state.Stage.TheVariants as stage
 use Rattle.check_rules.specs.declared.state.State.{State}
-use Rattle.check_tables.specs.Walks.{Rule, ◌>>=◌, pure, lift}
+use Rattle.check_rules.specs.Walks.{Rule, ◌>>=◌, pure, lift}
 use Rattle.wf_walk.specs.Kept.{KeepsGlobals, KeepsTables, KeepsTick, KeepsStage, Keeps, IsKeeping}
 use Rattle.wf_walk.proofs.Fronts.{starts_refl, starts_same, starts_more}
 use Rattle.wf_walk.proofs.Walks.{ran, pure_same, lifted}

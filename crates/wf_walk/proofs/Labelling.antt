@@ -10,11 +10,11 @@ use Rattle.typed_tree.specs.declared.expression.Stmt.TheVariants as st
 use Rattle.check_operands.specs.declared.operand.Operand.{Operand}
 use Rattle.check_operands.specs.Operands.{effect}
 use Rattle.meaning_operators.specs.Constants.{constant}
-use Rattle.check_tables.specs.Labels as labels
-use Rattle.check_tables.specs.Members.{is_member}
+use Rattle.check_rules.specs.Labels as labels
+use Rattle.check_rules.specs.Members.{is_member}
 use Rattle.check_rules.specs.declared.state.Around.{Around as Standing}
 use Rattle.check_rules.specs.declared.state.State.{State}
-use Rattle.check_tables.specs.Walks.{◌>>=◌, lift}
+use Rattle.check_rules.specs.Walks.{◌>>=◌, lift}
 use Rattle.check_rules.specs.ExpressionRules.{Node}
 use Rattle.check_rules.specs.StatementRules as rules
 use Rattle.check_rules.specs.Statements as statements

@@ -23,7 +23,7 @@ use Rattle.check_rules.specs.declared.state.Stage.{Stage}
 use Rattle.check_rules.specs.declared.state.Stage.TheVariants as stage
 use Rattle.check_rules.specs.Declarations.{tick_breaks, lowered, declared_in, length_of}
 use Rattle.wellformed.proofs.Bools.{both_false, first_false, second_false}
-use Rattle.wf_values.proofs.Declared.{first_none, second_none, unbroken}
+use Rattle.wf_nodes.proofs.Declared.{first_none, second_none, unbroken}
 use Rattle.wf_walk.specs.Good.{is_computed, is_computed_step, any_computed}
 
 -- ---- several steps

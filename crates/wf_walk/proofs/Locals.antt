@@ -14,10 +14,10 @@ use Rattle.typed_tree.specs.declared.expression.Stmt.TheVariants as st
 use Rattle.typed_tree.specs.Sizes.{statement_size}
 use Rattle.typed_tree.proofs.SizeLaws.{statement_size_variable, statement_size_object}
 use Rattle.check_operands.specs.declared.operand.Operand.{Operand}
-use Rattle.check_tables.specs.declared.frame.Home.TheVariants as home
-use Rattle.check_tables.specs.Frames as frames
-use Rattle.check_tables.specs.Frames.{variable, after, count}
-use Rattle.check_tables.specs.Bounds.{count_bound}
+use Rattle.check_rules.specs.declared.frame.Home.TheVariants as home
+use Rattle.check_rules.specs.Frames as frames
+use Rattle.check_rules.specs.Frames.{variable, after, count}
+use Rattle.check_rules.specs.Bounds.{count_bound}
 use Rattle.check_rules.specs.declared.state.Stage.{Stage}
 use Rattle.check_rules.specs.declared.state.Stage.TheVariants as stage
 use Rattle.check_rules.specs.declared.state.State.{State}

@@ -7,7 +7,7 @@ use Rattle.check_operands.specs.declared.operand.Operand.{Operand}
 use Rattle.check_rules.specs.declared.state.Around.{Around as Standing}
 use Rattle.check_rules.specs.declared.state.Stage.{Stage}
 use Rattle.check_rules.specs.declared.state.State.{State}
-use Rattle.check_tables.specs.Walks.{Rule, ◌>>=◌, pure}
+use Rattle.check_rules.specs.Walks.{Rule, ◌>>=◌, pure}
 use Rattle.check_rules.specs.ExpressionRules.{Node, Item, each}
 use Rattle.check_rules.specs.Statements as statements
 use Rattle.check_rules.specs.Statements.{with_labels}
@@ -71,7 +71,8 @@ if_makes line c i a may hc hi s new xs w =
     (made_behind k (body_made hi may w.body)) (body_labels hi may refl w.body ∙ k.tables.labels)
 
 pub while_makes : {many : List ℕ} (line : ℕ) (c : Node) (i : Item) (a : Standing) → MayStand a.stage → GoodNode many c →
-    GoodItem many i → (s new : State) (xs : List Stmt) → WhileRan line c i a s xs new → Makes a.stage a.is_direct s new xs
+    GoodItem many i → (s new : State) (xs : List Stmt) → WhileRan line c i a s xs new →
+    Makes a.stage a.is_direct s new xs
 while_makes line c i a may hc hi s new xs w =
     let k = hc.keeps a.stage s w.between w.operand w.walk in
     one_node a.is_direct xs (st.While w.test w.node) w.is (while_counts w.test w.node) (while_unlabelled w.test w.node)

@@ -1,6 +1,5 @@
 -- What statements make comes together over statements: what they leave, what they count, the variables that they
--- declare, and the labels
--- that they are.
+-- declare, and the labels that they are.
 use Rattle.std.proofs.Common.{◌≡◌, ℕ, ◌+◌, ◌≤◌, ◌%◌, Bool, true, List, [], ◌∷◌, ◌++◌, length, map, refl, sym, ap, subst}
 use Rattle.std.proofs.Common.{◌∙◌, append_assoc, append-nil, arith}
 use Rattle.std.specs.Prelude.{◌==◌}

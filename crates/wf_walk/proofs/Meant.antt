@@ -11,13 +11,13 @@ use Rattle.typed_tree.specs.declared.expression.CaptureKind.{CaptureKind}
 use Rattle.typed_tree.specs.declared.expression.Expr.TheVariants as ex
 use Rattle.check_operands.specs.declared.operand.Operand.{Operand}
 use Rattle.check_operands.specs.declared.operand.Place.TheVariants as place
-use Rattle.check_tables.specs.declared.frame.Home.{Home}
+use Rattle.check_rules.specs.declared.frame.Home.{Home}
 use Rattle.check_rules.specs.declared.state.Stage.{Stage}
 use Rattle.check_rules.specs.declared.state.Stage.TheVariants as stage
 use Rattle.check_rules.specs.declared.state.State.{State}
 use Rattle.check_rules.specs.Names.{operand, place_by, in_function, under_dollar, variable, parameter, global, meant}
 use Rattle.check_rules.specs.Names.{named_by, named}
-use Rattle.wf_scopes.specs.Right.{HasType}
+use Rattle.wf_nodes.specs.Right.{HasType}
 use Rattle.wf_walk.specs.Kept.{KeepsStage, Keeps}
 use Rattle.wf_walk.specs.Known.{Blocks, of_function, HasHome, IsVariable, IsParameter, IsObject, Means, Small}
 use Rattle.wf_walk.specs.Known.{Known}
@@ -71,7 +71,8 @@ module _ {many : List ℕ} {b : Blocks} {ks : List (List CaptureKind)} {s : Stat
       given (operand (place_by n h) t, s) (dollar_home n h t known y k) e
 
   dollar_parameter : (n : ℕ) (t : CType) (h : Option Home) (x : Operand) (new : State) →
-      Known many stage.Dollar b ks s → IsParameter stage.Dollar b s n h → IsObject t → in_function n t h s ≡ Ok (x, new) →
+      Known many stage.Dollar b ks s → IsParameter stage.Dollar b s n h → IsObject t →
+      in_function n t h s ≡ Ok (x, new) →
       Did many stage.Dollar b ks s new (λ r. Good r.function x)
   dollar_parameter n t None x new known y k e = cc
   dollar_parameter n t (Some h) x new known y k e = given (operand (place_by n h) t, s) (dollar_home n h t known y k) e

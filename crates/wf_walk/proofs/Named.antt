@@ -12,18 +12,18 @@ use Rattle.typed_tree.specs.declared.expression.Expr.TheVariants as ex
 use Rattle.check_operands.specs.declared.operand.Operand.{Operand}
 use Rattle.check_operands.specs.declared.operand.Place.TheVariants as place
 use Rattle.check_operands.specs.Operands.{effect, made}
-use Rattle.check_tables.specs.declared.frame.Home.{Home}
-use Rattle.check_tables.specs.Frames.{count}
-use Rattle.check_tables.specs.Ticks as ticks
+use Rattle.check_rules.specs.declared.frame.Home.{Home}
+use Rattle.check_rules.specs.Frames.{count}
+use Rattle.check_rules.specs.Ticks as ticks
 use Rattle.check_rules.specs.declared.state.Stage.TheVariants as stage
 use Rattle.check_rules.specs.declared.state.State.{State}
 use Rattle.check_rules.specs.Names.{operand, place_by, address_by, answer_of, home_by, splice, generated, outer_object}
 use Rattle.check_rules.specs.Names.{outer_variable, in_tick}
 use Rattle.wellformed.specs.Places.{Part, Around, captured, is_splice, is_variable, is_word}
 use Rattle.wellformed.proofs.Equations.{part_captured, part_splice}
-use Rattle.wf_scopes.specs.Right.{Stands}
-use Rattle.wf_scopes.proofs.Nodes.{const_stands}
-use Rattle.wf_values.proofs.Nodes.{nodes_use}
+use Rattle.wf_nodes.specs.Right.{Stands}
+use Rattle.wf_nodes.proofs.NodeScopes.{const_stands}
+use Rattle.wf_nodes.proofs.NodeValues.{nodes_use}
 use Rattle.wf_walk.specs.Known.{Blocks, of_function, HasHome, IsVariable, IsParameter, IsObject, Known}
 use Rattle.wf_walk.specs.Steps.{Round, Agrees, Did}
 use Rattle.wf_walk.specs.Good.{Good}
@@ -154,7 +154,8 @@ module _ {many : List ℕ} {b : Blocks} {ks : List (List CaptureKind)} {s : Stat
         (if v then generated t (effect (operand (place.Memory (ex.Const n)) t)) s else
         (operand (place.Memory (ex.Const n)) t, s)))
     outer_global_by true v n t e k =
-        splice_did t _ (value_caught (operand (place.Memory (ex.Const n)) t) k.type (λ r a. global_right n t r.function k))
+        splice_did t _ (value_caught (operand (place.Memory (ex.Const n)) t) k.type
+        (λ r a. global_right n t r.function k))
     outer_global_by false true n t e k =
         generated_did t _ (k.specified e)
         (value_caught (operand (place.Memory (ex.Const n)) t) k.type (λ r a. global_right n t r.function k))
@@ -163,7 +164,8 @@ module _ {many : List ℕ} {b : Blocks} {ks : List (List CaptureKind)} {s : Stat
 
     -- ---- a variable of the tick, or of the function
 
-    pub in_tick_did : (n : ℕ) (t : CType) (h : Option Home) (x : Operand) (new : State) → IsVariable stage.Tick b s n h →
+    pub in_tick_did : (n : ℕ) (t : CType) (h : Option Home) (x : Operand) (new : State) →
+        IsVariable stage.Tick b s n h →
         IsObject t → in_tick n t h s ≡ Ok (x, new) → Did many stage.Tick b ks s new (λ r. Good r.tick x)
     in_tick_did n t None x new y k e =
         given (operand (place.Register (n - count s.frame.homes)) t, s)

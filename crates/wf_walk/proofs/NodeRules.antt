@@ -1,6 +1,5 @@
 -- The rules of single nodes that constants are made of: of good operands they make a good one. This is the one place
--- here where the
--- laws on single nodes are cited.
+-- here where the laws on single nodes are cited.
 use Rattle.std.proofs.Common.{◌≡◌, ℕ, Bool, true, false, ◌&&◌, if◌then◌else◌, [], ◌∷◌, ap, ◌∙◌, Ok, Err}
 use Rattle.icode_ops.specs.declared.kind.UnKind.{UnKind}
 use Rattle.icode_ops.specs.declared.kind.UnKind.TheVariants as un
@@ -28,17 +27,17 @@ use Rattle.check_rules.specs.Productions
 use Rattle.wellformed.specs.Places.{Around}
 use Rattle.wellformed.specs.Values.{is_used}
 use Rattle.wellformed.proofs.Equations.{part_capture}
-use Rattle.wf_scopes.specs.Right.{Stands, IsRight, Unless}
-use Rattle.wf_scopes.proofs.Operands.{operands_stand, prefixes_stand, stages_stand}
-use Rattle.wf_scopes.proofs.Operators.{operators_stand}
-use Rattle.wf_scopes.proofs.Places.{places_stand}
-use Rattle.wf_values.specs.Used.{IsUsedValue, IsUsed, Unless as UnlessUsed}
-use Rattle.wf_values.specs.Laws.{IsCaptured}
-use Rattle.wf_values.proofs.Nodes.{nodes_use}
-use Rattle.wf_values.proofs.Operands.{operands_use, prefixes_use}
-use Rattle.wf_values.proofs.Operators.{operators_use}
-use Rattle.wf_values.proofs.Places.{places_use}
-use Rattle.wf_values.proofs.Stages.{stages_use}
+use Rattle.wf_nodes.specs.Right.{Stands, IsRight, Unless}
+use Rattle.wf_nodes.proofs.OperandScopes.{operands_stand, prefixes_stand, stages_stand}
+use Rattle.wf_nodes.proofs.OperatorScopes.{operators_stand}
+use Rattle.wf_nodes.proofs.PlaceScopes.{places_stand}
+use Rattle.wf_nodes.specs.Used.{IsUsedValue, IsUsed, Unless as UnlessUsed}
+use Rattle.wf_nodes.specs.Values.{IsCaptured}
+use Rattle.wf_nodes.proofs.NodeValues.{nodes_use}
+use Rattle.wf_nodes.proofs.OperandValues.{operands_use, prefixes_use}
+use Rattle.wf_nodes.proofs.OperatorValues.{operators_use}
+use Rattle.wf_nodes.proofs.PlaceValues.{places_use}
+use Rattle.wf_nodes.proofs.Stages.{stages_use}
 use Rattle.wf_walk.specs.Steps.{EachCapture}
 use Rattle.wf_walk.specs.Good.{Good}
 

@@ -3,8 +3,8 @@ use Rattle.std.proofs.Common.{◌≡◌, subst, Ok}
 use Rattle.tick_tree.specs.Faults.{Checked}
 use Rattle.check_rules.specs.declared.state.Stage.{Stage}
 use Rattle.check_rules.specs.declared.state.State.{State}
-use Rattle.check_tables.specs.Walks.{Rule, ◌>>=◌, pure, lift}
-use Rattle.wf_scopes.specs.Right.{Unless}
+use Rattle.check_rules.specs.Walks.{Rule, ◌>>=◌, pure, lift}
+use Rattle.wf_nodes.specs.Right.{Unless}
 use Rattle.wf_walk.specs.Good.{Plain, PlainList}
 use Rattle.wf_walk.proofs.Walks.{ran, pure_same, pure_value, lifted}
 use Rattle.wf_walk.proofs.Plain.{plain_same, plain_more, plain_list_same, plain_list_more}

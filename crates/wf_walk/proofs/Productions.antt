@@ -19,8 +19,8 @@ use Rattle.check_operands.specs.Stages as stages
 use Rattle.check_operands.specs.declared.arguments.Arguments.{Arguments}
 use Rattle.check_operands.specs.Calls as calls
 use Rattle.check_operands.specs.Places as places
-use Rattle.check_tables.specs.Walks.{◌>>=◌, pure, lift}
-use Rattle.check_tables.specs.Ticks as ticks
+use Rattle.check_rules.specs.Walks.{◌>>=◌, pure, lift}
+use Rattle.check_rules.specs.Ticks as ticks
 use Rattle.check_rules.specs.declared.state.Stage.{Stage}
 use Rattle.check_rules.specs.declared.state.Stage.TheVariants as stage
 use Rattle.check_rules.specs.declared.state.State.{State}

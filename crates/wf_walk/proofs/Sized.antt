@@ -27,9 +27,9 @@ use Rattle.check_declarators.specs.Steps.{prefix_layer, count_of}
 use Rattle.check_declarators.specs.Making.{is_array, is_array_layer, is_array_at, is_function, is_function_layer}
 use Rattle.check_declarators.specs.Making.{is_function_at, bytes, unless, is_count, made, worst, role_breaks, finished}
 use Rattle.check_declarators.specs.Making.{ctype, lower, declared_type}
-use Rattle.check_tables.specs.Frames as frames
+use Rattle.check_rules.specs.Frames as frames
 use Rattle.wellformed.proofs.Bools.{first_true, second_true}
-use Rattle.wf_values.proofs.Declared.{outermost_last, first_none, second_none, answered, unbroken}
+use Rattle.wf_nodes.proofs.Declared.{outermost_last, first_none, second_none, answered, unbroken}
 use Rattle.wf_walk.specs.Good.{any_counted}
 use Rattle.wf_walk.proofs.Lengths.{array_case}
 

@@ -20,8 +20,8 @@ use Rattle.wellformed.proofs.Uses.{uses_values_while, uses_values_do, uses_value
 use Rattle.wellformed.proofs.Uses.{uses_values_switch, uses_values_case, uses_values_default, uses_values_break}
 use Rattle.wellformed.proofs.Uses.{uses_values_continue, uses_values_return, uses_values_returnvalue}
 use Rattle.wellformed.proofs.Bools.{and_true}
-use Rattle.wf_scopes.specs.Right.{Stands}
-use Rattle.wf_values.specs.Used.{Leaves}
+use Rattle.wf_nodes.specs.Right.{Stands}
+use Rattle.wf_nodes.specs.Used.{Leaves}
 use Rattle.wf_walk.specs.Items.{StandsAs, ItemStands, ItemsStand}
 
 -- a statement that stands, and uses its values

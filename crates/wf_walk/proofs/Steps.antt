@@ -7,10 +7,10 @@ use Rattle.tick_tree.specs.declared.fault.Fault.{Fault}
 use Rattle.check_rules.specs.declared.state.Stage.{Stage}
 use Rattle.check_rules.specs.declared.state.Stage.TheVariants as stage
 use Rattle.check_rules.specs.declared.state.State.{State}
-use Rattle.check_tables.specs.Walks.{Rule, ◌>>=◌, pure, lift}
+use Rattle.check_rules.specs.Walks.{Rule, ◌>>=◌, pure, lift}
 use Rattle.wellformed.specs.Places.{in_function}
-use Rattle.wf_scopes.specs.Right.{Unless}
-use Rattle.wf_scopes.proofs.Nodes.{unless_ok}
+use Rattle.wf_nodes.specs.Right.{Unless}
+use Rattle.wf_nodes.proofs.NodeScopes.{unless_ok}
 use Rattle.wf_walk.specs.Kept.{KeepsStage, Keeps, IsKeeping}
 use Rattle.wf_walk.specs.Known.{Blocks, Known}
 use Rattle.wf_walk.specs.Steps.{Round, Agrees, EachTick, EachCapture, CapturesStand, Did, Does}

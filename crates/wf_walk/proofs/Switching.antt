@@ -6,8 +6,8 @@ use Rattle.std.proofs.lemmas.Bool.Decides.{nat_tests}
 use Rattle.typed_tree.specs.declared.expression.CaptureKind.{CaptureKind}
 use Rattle.typed_tree.specs.declared.expression.Stmt.{Stmt}
 use Rattle.typed_tree.specs.declared.expression.Stmt.TheVariants as st
-use Rattle.check_tables.specs.declared.labels.Labels.{Labels}
-use Rattle.check_tables.specs.Labels as labels
+use Rattle.check_rules.specs.declared.labels.Labels.{Labels}
+use Rattle.check_rules.specs.Labels as labels
 use Rattle.check_rules.specs.declared.state.Around.{Around as Standing}
 use Rattle.check_rules.specs.declared.state.Stage.{Stage}
 use Rattle.check_rules.specs.declared.state.Stage.TheVariants as stage
@@ -150,7 +150,8 @@ switch_did {many} line c items a b ks s new xs hc h here known w =
 -- ---- labels
 
 pub case_did : {many : List ℕ} (n : Node) (a : Standing) (b : Blocks) (ks : List (List CaptureKind)) (s new : State)
-    (xs : List Stmt) → GoodNode many n → Known many a.stage b ks s → CaseRan n a s xs new → DidStand many a b ks s new xs
+    (xs : List Stmt) → GoodNode many n → Known many a.stage b ks s → CaseRan n a s xs new →
+    DidStand many a b ks s new xs
 case_did {many} n a b ks s new xs h known w =
     let l = w.label in
     let d = did_so (λ r. Good (place_of a r) w.operand) (λ r. ItemsStand a (place_of a r) xs)

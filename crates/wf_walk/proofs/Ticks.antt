@@ -17,10 +17,10 @@ use Rattle.typed_tree.specs.declared.expression.Expr.TheFolds.{fold-roll-Expr, i
 use Rattle.typed_tree.specs.declared.expression.Expr.TheVariants as ex
 use Rattle.typed_tree.specs.declared.program.TickBody.{TickBody}
 use Rattle.check_operands.specs.Operands.{made}
-use Rattle.check_tables.specs.declared.frame.Home.{Home}
-use Rattle.check_tables.specs.Frames.{count}
-use Rattle.check_tables.specs.Ticks as ticks
-use Rattle.check_tables.specs.Bounds.{count_bound}
+use Rattle.check_rules.specs.declared.frame.Home.{Home}
+use Rattle.check_rules.specs.Frames.{count}
+use Rattle.check_rules.specs.Ticks as ticks
+use Rattle.check_rules.specs.Bounds.{count_bound}
 use Rattle.check_rules.specs.declared.state.Stage.{Stage}
 use Rattle.check_rules.specs.declared.state.Stage.TheVariants as stage
 use Rattle.check_rules.specs.declared.state.State.{State}
@@ -31,9 +31,9 @@ use Rattle.wellformed.specs.Places.{Part, part, expr_rule, Around, in_function, 
 use Rattle.wellformed.specs.Values.{body_uses_values}
 use Rattle.wellformed.proofs.Equations.{part_tick}
 use Rattle.wellformed.proofs.Bools.{and_true}
-use Rattle.wf_scopes.specs.Right.{Stands}
-use Rattle.wf_values.specs.Used.{EachLeaves}
-use Rattle.wf_values.proofs.Nodes.{nodes_use}
+use Rattle.wf_nodes.specs.Right.{Stands}
+use Rattle.wf_nodes.specs.Used.{EachLeaves}
+use Rattle.wf_nodes.proofs.NodeValues.{nodes_use}
 use Rattle.wf_walk.specs.Kept.{Starts, KeepsTables, Keeps}
 use Rattle.wf_walk.specs.Captured.{IsOfLibrary, HasLibrary, Names}
 use Rattle.wf_walk.specs.Known.{Blocks, numbers, has, IsVariable, IsParameter, Means, Small, Knows, Known}
@@ -241,7 +241,8 @@ module _ {many : List ℕ} {b : Blocks} {ks : List (List CaptureKind)} {s t : St
       record {
         stands = x.stands;
         values = x.values;
-        captures = (names (library_known (known (small_before s t body k a.small)))).is small.tick.captures (Some []) refl;
+        captures = (names (library_known (known (small_before s t body k a.small)))).is small.tick.captures (Some [])
+            refl;
         numbers = numbered small;
         size = refl;
       }

@@ -8,10 +8,10 @@ use Rattle.check_declarators.specs.Making.{declared_type}
 use Rattle.std.specs.Prelude.{Bool, true, false}
 use Rattle.check_rules.specs.declared.state.Stage.{Stage}
 use Rattle.check_rules.specs.declared.state.Stage.TheVariants as stage
-use Rattle.check_tables.specs.Walks.{◌>>=◌, lift}
+use Rattle.check_rules.specs.Walks.{◌>>=◌, lift}
 use Rattle.check_rules.specs.ExpressionRules.{Shape}
 use Rattle.check_rules.specs.Declarations.{declared_in, tick_breaks}
-use Rattle.wf_values.proofs.Declared.{types_use}
+use Rattle.wf_nodes.proofs.Declared.{types_use}
 use Rattle.wf_walk.specs.Known.{IsObject}
 use Rattle.wf_walk.specs.Good.{GoodShape, any_computed, any_counted}
 use Rattle.wf_walk.proofs.Walks.{ran, lifted}

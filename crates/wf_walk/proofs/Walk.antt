@@ -5,7 +5,7 @@ use Rattle.check_operands.specs.Operands as nodes
 use Rattle.check_rules.specs.declared.state.Stage.{Stage}
 use Rattle.check_rules.specs.declared.state.Stage.TheVariants as stage
 use Rattle.check_rules.specs.declared.state.State.{State}
-use Rattle.check_tables.specs.Images as images
+use Rattle.check_rules.specs.Images as images
 use Rattle.check_rules.specs.Productions as productions
 use Rattle.check_rules.specs.ExpressionRules.{Node, Named, Shape, Item, walk_rule}
 use Rattle.wf_walk.specs.Steps.{at, EachCapture, Does}

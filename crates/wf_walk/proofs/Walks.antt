@@ -1,7 +1,7 @@
 -- A step of the walk that gives an answer, taken apart into the steps that it is made of.
 use Rattle.std.proofs.Common.{◌≡◌, refl, ap, Ok, Err}
 use Rattle.tick_tree.specs.Faults.{Checked, ◌>>=◌ as ◌>>>=◌}
-use Rattle.check_tables.specs.Walks.{Rule, ◌>>=◌, lift}
+use Rattle.check_rules.specs.Walks.{Rule, ◌>>=◌, lift}
 
 -- the first step's answer and the state behind it, and what the next one did
 pub record Ran {S A B : Type 0} (p : Rule S A) (f : A → Rule S B) (s : S) (y : B) (new : S) : Type 0 where

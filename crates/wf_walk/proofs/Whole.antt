@@ -7,14 +7,14 @@ use Rattle.std.proofs.lemmas.Bool.Decides.{nat_tests}
 use Rattle.typed_tree.specs.declared.expression.Stmt.{Stmt}
 use Rattle.typed_tree.specs.declared.expression.Stmt.TheVariants as st
 use Rattle.check_operands.specs.Operands.{effect}
-use Rattle.check_tables.specs.declared.labels.Labels.{Labels}
-use Rattle.check_tables.specs.Labels as labels
-use Rattle.check_tables.specs.Members.{is_member}
+use Rattle.check_rules.specs.declared.labels.Labels.{Labels}
+use Rattle.check_rules.specs.Labels as labels
+use Rattle.check_rules.specs.Members.{is_member}
 use Rattle.check_rules.specs.declared.state.Around.{Around as Standing}
 use Rattle.check_rules.specs.declared.state.Stage.{Stage}
 use Rattle.check_rules.specs.declared.state.Stage.TheVariants as stage
 use Rattle.check_rules.specs.declared.state.State.{State}
-use Rattle.check_tables.specs.Walks.{◌>>=◌, pure}
+use Rattle.check_rules.specs.Walks.{◌>>=◌, pure}
 use Rattle.check_rules.specs.ExpressionRules.{Node, Item, each, block}
 use Rattle.check_rules.specs.StatementRules as rules
 use Rattle.check_rules.specs.Statements as statements

@@ -1,14 +1,11 @@
 -- What is asked of each value that the walk makes of a part of a tree, and of the parts of a layer.
-use Rattle.std.specs.Prelude.{Option}
+use Rattle.std.specs.Prelude.{List, Option}
 use Rattle.tick_tree.specs.declared.syntax.Core.TheOpen.{Core-F, Expr-F, Initializer-F, OptionalExpr-F, Stmt-F}
 use Rattle.tick_tree.specs.declared.syntax.Core.TheOpen.{Suffix-F}
 use Rattle.check_rules.specs.ExpressionRules.{Node, Named, Shape, Item}
-use Rattle.check_rules.specs.Walk.{Start, InitParts, Declarations, SuffixWalk, TypeWalk, Core-W, Expr-W}
-use Rattle.check_rules.specs.Walk.{Initializer-W}
-use Rattle.check_rules.specs.Walk.{OptionalExpr-W, Stmt-W, Suffix-W, Declaration-W, Declarator-W, Init-W}
-use Rattle.check_rules.specs.Walk.{Parameter-W}
-use Rattle.check_rules.specs.Walk.{Typename-W, core_rule, expr_rule, start_rule, optional_rule, stmt_rule}
-use Rattle.check_rules.specs.Walk.{suffix_walk}
+use Rattle.check_rules.specs.Walk.{Start, InitParts, Declarations, SuffixWalk, TypeWalk, Core-W, Expr-W, Initializer-W}
+use Rattle.check_rules.specs.Walk.{OptionalExpr-W, Stmt-W, Suffix-W, Declaration-W, Declarator-W, Init-W, Parameter-W}
+use Rattle.check_rules.specs.Walk.{Typename-W, core_rule, expr_rule, start_rule, optional_rule, stmt_rule, suffix_walk}
 use Rattle.check_rules.specs.Walk.{declaration_rule, declarator_rule, init_rule, parameter_rule, typename_rule}
 use Rattle.wf_walk.specs.Parts.{EachPart}
 

@@ -10,11 +10,11 @@ use Rattle.check_operands.specs.declared.operand.Operand.{Operand}
 use Rattle.check_operands.specs.Operands.{value_of}
 use Rattle.check_rules.specs.declared.state.Stage.TheVariants as stage
 use Rattle.check_rules.specs.declared.state.State.{State}
-use Rattle.check_tables.specs.Walks.{Rule}
-use Rattle.check_tables.specs.Bounds.{count_bound}
+use Rattle.check_rules.specs.Walks.{Rule}
+use Rattle.check_rules.specs.Bounds.{count_bound}
 use Rattle.check_rules.specs.ExpressionRules.{Node, Item, block, tick_around}
 use Rattle.wellformed.specs.Captured.{Naming, none, all, named, named_of}
-use Rattle.wf_values.specs.Used.{IsLibrary}
+use Rattle.wf_nodes.specs.Used.{IsLibrary}
 use Rattle.wf_walk.specs.Known.{EachScope}
 use Rattle.wf_walk.specs.Steps.{kinds}
 

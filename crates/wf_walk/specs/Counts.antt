@@ -1,6 +1,5 @@
 -- What a statement counts: the frame objects of a byte, the declarations of a register variable, and the nodes; among
--- the nodes of the
--- block's variables and those of the statement together.
+-- the nodes of the block's variables and those of the statement together.
 use Rattle.std.specs.Prelude.{◌≡◌, ℕ, ◌+◌, ◌≤◌, ◌&&◌, nat_le, nat_lt, List, length, map, sum}
 use Rattle.typed_tree.specs.declared.expression.Stmt.{Stmt}
 use Rattle.typed_tree.specs.Sizes.{statements_size}
@@ -33,7 +32,8 @@ pub record Counts (g : Stage) (s new : State) (xs : List Stmt) : Type 0 where
       new.frame.object byte
   -- each new register variable is declared once at most
   pub declarations : (i : ℕ) →
-      declarations_in i new.frame.nodes + declarations_in i xs ≤ declarations_in i s.frame.nodes + between (variables g s)
+      declarations_in i new.frame.nodes + declarations_in i xs ≤ declarations_in i s.frame.nodes + between
+      (variables g s)
       (variables g new) i
   -- there are as many nodes as new variables
   pub sizes : statements_size s.frame.nodes + variables g new ≤ statements_size new.frame.nodes + statements_size xs +

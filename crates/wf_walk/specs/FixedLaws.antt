@@ -1,6 +1,5 @@
 -- What a declarator makes where a function runs doesn't depend on what is known there: so both walks over a program
--- give each name at
--- file scope the same type.
+-- give each name at file scope the same type.
 use Rattle.tick_tree.specs.declared.syntax.Declarator.{Declarator}
 use Rattle.tick_tree.specs.declared.syntax.Expr.{Expr}
 use Rattle.tick_tree.specs.declared.syntax.Typename.{Typename}

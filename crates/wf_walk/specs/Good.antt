@@ -11,20 +11,19 @@ use Rattle.check_operands.specs.declared.operand.Operand.{Operand}
 use Rattle.check_rules.specs.declared.state.Stage.{Stage}
 use Rattle.check_rules.specs.declared.state.Stage.TheVariants as stage
 use Rattle.check_rules.specs.declared.state.State.{State}
-use Rattle.check_tables.specs.Walks.{Rule}
-use Rattle.check_tables.specs.Bounds.{count_bound}
+use Rattle.check_rules.specs.Walks.{Rule}
+use Rattle.check_rules.specs.Bounds.{count_bound}
 use Rattle.check_rules.specs.ExpressionRules.{Node, Named, Shape}
 use Rattle.wellformed.specs.Places.{Around}
-use Rattle.wf_scopes.specs.Right.{IsRight}
-use Rattle.wf_values.specs.Used.{IsUsed}
+use Rattle.wf_nodes.specs.Right.{IsRight}
+use Rattle.wf_nodes.specs.Used.{IsUsed}
 use Rattle.wf_walk.specs.Kept.{Starts, KeepsGlobals, KeepsTables, KeepsTick, IsKeeping, outer}
 use Rattle.wf_walk.specs.Steps.{at, EachCapture, Does}
 
 -- ---- types
 
 -- What a type, or an expression with the form of a constant, does, whatever is known: it names nothing, and captures
--- only what stands
--- anywhere.
+-- only what stands anywhere.
 abbrev pub PlainStage : Stage → State → State → Type 0
 PlainStage stage.Function s new = new.ticks.all ≡ s.ticks.all
 PlainStage stage.Tick s new =

@@ -7,8 +7,8 @@ use Rattle.check_rules.specs.declared.state.Around.{Around as Standing}
 use Rattle.check_rules.specs.declared.state.Stage.{Stage}
 use Rattle.check_rules.specs.declared.state.Stage.TheVariants as stage
 use Rattle.check_rules.specs.declared.state.State.{State}
-use Rattle.check_tables.specs.Walks.{Rule}
-use Rattle.check_tables.specs.Bounds.{count_bound}
+use Rattle.check_rules.specs.Walks.{Rule}
+use Rattle.check_rules.specs.Bounds.{count_bound}
 use Rattle.check_rules.specs.ExpressionRules.{Item}
 use Rattle.wellformed.specs.Counts.{one_if}
 use Rattle.wellformed.specs.Places.{Around, Act, act, in_function, is_label, values_of, defaults_of, all_different}

@@ -1,6 +1,6 @@
 -- What a step of the walk leaves as it was, and what grows, whatever stands round it. An expression or a type leaves
--- the names, the
--- variables and the functions; it may capture, make ticks, take strings and mark variables. A statement may declare.
+-- the names, the variables and the functions; it may capture, make ticks, take strings and mark variables. A statement
+-- may declare.
 use Rattle.std.specs.Prelude.{◌≡◌, ℕ, ◌-◌, ◌≤◌, List, [], ◌∷◌, ◌++◌, length, take, Ok}
 use Rattle.check_scopes.specs.Scopes.{Scopes}
 use Rattle.typed_tree.specs.declared.expression.Stmt.{Stmt}
@@ -8,8 +8,8 @@ use Rattle.check_operands.specs.declared.operand.Operand.{Operand}
 use Rattle.check_rules.specs.declared.state.Stage.{Stage}
 use Rattle.check_rules.specs.declared.state.Stage.TheVariants as stage
 use Rattle.check_rules.specs.declared.state.State.{State}
-use Rattle.check_tables.specs.Walks.{Rule}
-use Rattle.check_tables.specs.Bounds.{count_bound}
+use Rattle.check_rules.specs.Walks.{Rule}
+use Rattle.check_rules.specs.Bounds.{count_bound}
 use Rattle.limits.specs.declared.program.TheConstants.{FRAME_OBJECT_BYTES}
 
 -- a list is the front part of another
@@ -61,8 +61,7 @@ abbrev pub outer : Scopes → Scopes
 outer ss = take (length ss - 1) ss
 
 -- what a statement or a declaration leaves: as many scopes are open, those round the innermost one are as they were,
--- and the
--- variables so far stay
+-- and the variables so far stay
 pub record GrowsTables (s new : State) : Type 0 where
   pub depth : length new.scopes ≡ length s.scopes
   pub scopes : outer new.scopes ≡ outer s.scopes

@@ -11,21 +11,20 @@ use Rattle.check_scopes.specs.Scopes.{Name, Scope, Scopes}
 use Rattle.check_types.specs.Shapes.{is_void, is_vspec, inner}
 use Rattle.typed_tree.specs.declared.expression.CaptureKind.{CaptureKind}
 use Rattle.typed_tree.specs.declared.expression.Stmt.{Stmt}
-use Rattle.check_tables.specs.declared.frame.Home.{Home}
-use Rattle.check_tables.specs.declared.frame.Home.TheVariants as home
-use Rattle.check_tables.specs.Frames.{count}
-use Rattle.check_tables.specs.Bounds.{count_bound}
+use Rattle.check_rules.specs.declared.frame.Home.{Home}
+use Rattle.check_rules.specs.declared.frame.Home.TheVariants as home
+use Rattle.check_rules.specs.Frames.{count}
+use Rattle.check_rules.specs.Bounds.{count_bound}
 use Rattle.check_rules.specs.declared.state.Stage.{Stage}
 use Rattle.check_rules.specs.declared.state.Stage.TheVariants as stage
 use Rattle.check_rules.specs.declared.state.State.{State}
 use Rattle.wellformed.specs.Places.{act, numbers_of}
-use Rattle.wf_scopes.specs.Right.{HasType}
-use Rattle.wf_values.specs.Used.{IsLibrary}
+use Rattle.wf_nodes.specs.Right.{HasType}
+use Rattle.wf_nodes.specs.Used.{IsLibrary}
 use Rattle.limits.specs.declared.program.TheConstants.{FRAME_OBJECT_BYTES}
 
 -- the numbers of the register variables of the blocks round the innermost one: those of the function, and those of the
--- tick; and
--- whether the innermost block is the tick's
+-- tick; and whether the innermost block is the tick's
 pub record Blocks : Type 0 where
   pub function : List ℕ
   pub tick : List ℕ

@@ -11,7 +11,7 @@ use Rattle.check_rules.specs.declared.state.Around.{Around}
 use Rattle.check_rules.specs.declared.state.Stage.{Stage}
 use Rattle.check_rules.specs.declared.state.Stage.TheVariants as stage
 use Rattle.check_rules.specs.declared.state.State.{State}
-use Rattle.check_tables.specs.Walks.{Rule}
+use Rattle.check_rules.specs.Walks.{Rule}
 use Rattle.check_rules.specs.ExpressionRules.{Node, Named, Shape, Item}
 use Rattle.check_rules.specs.Walk.{Start, Nothing, Value, Values, InitParts, Declarations}
 use Rattle.wellformed.specs.Captured.{Naming, next, none, all, named, named_of}

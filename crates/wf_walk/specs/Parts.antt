@@ -6,7 +6,7 @@ use Rattle.tick_tree.specs.declared.syntax.Core.TheOpen.{Expr-F, Suffix-F}
 use Rattle.check_rules.specs.declared.state.Stage.{Stage}
 use Rattle.check_rules.specs.declared.state.Stage.TheVariants as stage
 use Rattle.check_rules.specs.declared.state.State.{State}
-use Rattle.check_tables.specs.Walks.{Rule}
+use Rattle.check_rules.specs.Walks.{Rule}
 use Rattle.check_rules.specs.ExpressionRules.{Node, Named, Shape, Item, block, tick_around}
 use Rattle.wf_walk.specs.Captured.{NamesValue, NamesBlock}
 use Rattle.wf_walk.specs.Good.{GoodNode, GoodNamed, GoodParameter, is_computed_step, any_computed}

@@ -10,8 +10,8 @@ use Rattle.check_operands.specs.declared.operand.Operand.{Operand}
 use Rattle.check_rules.specs.declared.state.Around.{Around as Standing}
 use Rattle.check_rules.specs.declared.state.Stage.{Stage}
 use Rattle.check_rules.specs.declared.state.State.{State}
-use Rattle.check_tables.specs.Frames.{words}
-use Rattle.check_tables.specs.Walks.{Rule}
+use Rattle.check_rules.specs.Frames.{words}
+use Rattle.check_rules.specs.Walks.{Rule}
 use Rattle.check_rules.specs.ExpressionRules.{Node, Named, Shape, Item}
 use Rattle.check_rules.specs.Initializers.{is_array}
 use Rattle.wf_walk.specs.Kept.{IsKeeping}
@@ -75,7 +75,8 @@ pub record GoodBegin (many : List ℕ) (a : Standing) (bare : Bool) (p : Operand
     pub keeps : IsKeeping a.stage step
     pub begun : (s new : State) (xs : List Stmt) → step s ≡ Ok (xs, new) → Begun xs
     -- where the variable stands right
-    pub does : (b : Blocks) (ks : List (List CaptureKind)) (s new : State) (xs : List Stmt) → Known many a.stage b ks s →
+    pub does : (b : Blocks) (ks : List (List CaptureKind)) (s new : State) (xs : List Stmt) →
+        Known many a.stage b ks s →
         step s ≡ Ok (xs, new)
         → Did many a.stage b ks s new
         (λ r. Good (at a.stage (placed_round a r)) p → ItemsStand a (at a.stage (placed_round a r)) xs)

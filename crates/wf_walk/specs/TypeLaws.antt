@@ -7,7 +7,7 @@ use Rattle.check_operands.specs.declared.operand.Operand.{Operand}
 use Rattle.check_rules.specs.declared.state.Stage.{Stage}
 use Rattle.check_rules.specs.declared.state.Stage.TheVariants as stage
 use Rattle.check_rules.specs.declared.state.State.{State}
-use Rattle.check_tables.specs.Walks.{Rule}
+use Rattle.check_rules.specs.Walks.{Rule}
 use Rattle.check_rules.specs.ExpressionRules.{Node, Named, Shape, Item, walk_rule}
 use Rattle.check_rules.specs.StatementRules.{suffix_rule}
 use Rattle.wf_walk.specs.Kept.{Keeps, IsKeeping}

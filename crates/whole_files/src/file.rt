@@ -1,5 +1,5 @@
 //! A whole file.
-ghost use Rattle.std.specs.Prelude.{◌≡◌, ◌<◌, ◌^◌, List, ℕ, IfOk};
+ghost use Rattle.std.specs.Prelude.{◌≡◌, ◌<◌, ◌^◌, ◌≢◌, true, Some, List, ℕ, IfOk};
 ghost use Rattle.whole_files.specs.File.{IsLoaded, LoadCause};
 
 use host_edge::{LoadFault, Store};
@@ -30,6 +30,8 @@ pub fn load<S: Store>(
     ensures loaded { IfOk result (IsLoaded (S.file store.old file.now) longest) }
     ensures same { (q : List ℕ) → S.file store.new q ≡ S.file store.old q }
     ensures cause { IfOk result (LoadCause (S.faults store.old) (S.faults store.new)) }
+    ensures steady { IfOk result (λ loaded. S.steady store.old ≡ true → (f : List ℕ) →
+        S.file store.old file.now ≡ Some (Some f) → loaded ≢ Loaded.FailedFile) }
 {
     let mut bytes = Vec::new(alloc);
     match store.load(file, &mut bytes, longest + 1) {

@@ -47,11 +47,20 @@ decreases-expressions::compile l =
           l.t;
     }))) + 4
 
+abbrev pub decreases-expressions::choice : goal.decreases-expressions::choice
+decreases-expressions::choice l = 8 * (max (size-Expr l.c.now) (max (size-Expr l.a.now) (size-Expr l.b.now))) + 2
+
 abbrev pub decreases-expressions::unary : goal.decreases-expressions::unary
 decreases-expressions::unary l = 8 * (goal.size-expressions::unary l) + 1
 
 abbrev pub decreases-expressions::post : goal.decreases-expressions::post
 decreases-expressions::post l = 8 * (goal.size-expressions::post l) + 1
+
+abbrev pub decreases-expressions::pair : goal.decreases-expressions::pair
+decreases-expressions::pair l = 8 * (max (size-Expr l.parts.now.0) (size-Expr l.parts.now.1)) + 2
+
+abbrev pub decreases-expressions::named : goal.decreases-expressions::named
+decreases-expressions::named l = 8 * (goal.size-expressions::named l) + 4
 
 abbrev pub decreases-expressions::typed : goal.decreases-expressions::typed
 decreases-expressions::typed l =
@@ -65,15 +74,6 @@ decreases-expressions::typed l =
       t =
           l.t;
     })) (size-Expr l.a.now)) + 4
-
-abbrev pub decreases-expressions::choice : goal.decreases-expressions::choice
-decreases-expressions::choice l = 8 * (max (size-Expr l.c.now) (max (size-Expr l.a.now) (size-Expr l.b.now))) + 2
-
-abbrev pub decreases-expressions::pair : goal.decreases-expressions::pair
-decreases-expressions::pair l = 8 * (max (size-Expr l.parts.now.0) (size-Expr l.parts.now.1)) + 2
-
-abbrev pub decreases-expressions::named : goal.decreases-expressions::named
-decreases-expressions::named l = 8 * (goal.size-expressions::named l) + 4
 
 abbrev pub decreases-expressions::optional : goal.decreases-expressions::optional
 decreases-expressions::optional l = 8 * (goal.size-expressions::optional l)

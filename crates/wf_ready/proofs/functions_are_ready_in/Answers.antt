@@ -4,6 +4,7 @@ use Rattle.wf_ready.proofs.Placed.{body_placed}
 use Rattle.wf_ready.proofs.Headed.{body_headed}
 use Rattle.wf_ready.proofs.Dense.{variables_few}
 use Rattle.wf_ready.proofs.Calls.{function_calls}
+use Rattle.wf_ready.proofs.Ticks.{function_ticks}
 use Rattle.wf_ready.proofs.Frames.{function_frames}
 use Rattle.wf_ready.proofs.Words.{function_whole}
 use Rattle.wf_ready.proofs.functions_are_ready_in.Goals as goal
@@ -19,6 +20,7 @@ returns c = λ p ticks f h built. record {
     dense = variables_few f.body h.numbers;
   };
   calls = function_calls p ticks f h;
+  ticks_are = function_ticks p ticks f h;
   frames = function_frames p ticks f h;
   headed = body_headed p ticks f h;
   few = h.few;

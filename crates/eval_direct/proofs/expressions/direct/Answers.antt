@@ -1,7 +1,8 @@
 use Rattle.std.proofs.Common.{arith}
 use Rattle.typed_tree.specs.View.{expr_view}
 use Rattle.eval_state.specs.Run.{run_of}
-use Rattle.eval_direct.proofs.Settling.{settled_leads, settled_lighten, settled_units, settles, value_leads, value_spends}
+use Rattle.eval_direct.proofs.Settling.{settled_leads, settled_lighten, settled_units, settles, value_leads}
+use Rattle.eval_direct.proofs.Settling.{value_spends}
 use Rattle.eval_direct.proofs.expressions.direct.Goals as goal
 
 pub settled-requires : goal.settled-requires

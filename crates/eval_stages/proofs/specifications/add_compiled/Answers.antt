@@ -1,11 +1,10 @@
 use Rattle.std.proofs.Common.{◌+◌, ◌≤◌, List, [], ◌∷◌, ◌++◌, sym, subst}
-use Rattle.word32.specs.declared.map.TheConstants.{ARENA_WORDS}
 use Rattle.eval_state.specs.declared.state.Compiled.{Compiled}
 use Rattle.eval_state.specs.declared.state.Event.{Event}
 use Rattle.eval_state.specs.declared.state.Parts.{Parts}
 use Rattle.eval_state.specs.Kept.{rows_view}
 use Rattle.eval_state.specs.Sound.{IsSound}
-use Rattle.eval_state.specs.Specified.{IsMade}
+use Rattle.eval_state.specs.Specified.{IsMade, IsNext}
 use Rattle.eval_stages.proofs.Compiles.{sound_event, sound_made}
 use Rattle.eval_stages.proofs.specifications.add_compiled.Goals as goal
 
@@ -22,15 +21,15 @@ pub invariant_of-m-2 : goal.invariant_of-m-2
 invariant_of-m-2 c =
     let p = c.m.inside.parts in
     let made = subst (λ (q : Parts). IsMade (rows_view q.rows) c.args.made) (sym c.m.view_is) c.requires.0 in
-    let most = subst (λ (q : Parts). q.arena + c.args.words ≤ ARENA_WORDS) (sym c.m.view_is) c.requires.1 in
+    let next = subst (λ (q : Parts). IsNext c.args.made q.arena) (sym c.m.view_is) c.requires.1 in
     subst (λ (ms : List Compiled). IsSound (record c.m.inside.parts {
       events = c.push.new.self;
       compiled = ms;
-      arena = c.m.inside.parts.arena + c.args.words;
+      arena = c.m.inside.parts.arena + c.args.made.words;
     })) (sym c.in_ok-push-2.ensures.ok)
     (subst (λ (es : List Event). IsSound (record c.m.inside.parts {
       events = es;
       compiled = c.m.inside.parts.compiled ++ c.args.made ∷ [];
-      arena = c.m.inside.parts.arena + c.args.words;
+      arena = c.m.inside.parts.arena + c.args.made.words;
     })) (sym c.in_ok-push.ensures.ok)
-    (sound_made p c.args.function c.args.words c.args.made c.m.invariant made most))
+    (sound_made p c.args.function c.args.made c.m.invariant made next))

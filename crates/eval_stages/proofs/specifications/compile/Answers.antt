@@ -1,4 +1,4 @@
-use Rattle.std.proofs.Common.{◌≡◌, ◌+◌, ◌-◌, ◌<◌, ◌≤◌, length, refl, ap, sym, ◌∙◌, arith}
+use Rattle.std.proofs.Common.{◌≡◌, ◌+◌, ◌-◌, ◌<◌, ◌≤◌, length, refl, ap, sym, subst, ◌∙◌, arith}
 use Rattle.word32.specs.declared.map.TheConstants.{ARENA_WORDS, FUNCTION_ROWS}
 use Rattle.meaning_state.specs.Rows.{arena_words, numbered}
 use Rattle.eval_state.specs.Pending as pending
@@ -8,6 +8,7 @@ use Rattle.eval_state.specs.declared.state.Parts.{Parts}
 use Rattle.eval_state.specs.Grown.{with_left, with_made}
 use Rattle.eval_state.specs.Kept.{rows_view}
 use Rattle.eval_state.specs.Run.{here, leads, run_of, world}
+use Rattle.eval_state.specs.Sound.{IsSound}
 use Rattle.eval_stages.proofs.Compiles.{arena_full, code_if, compiled_there, no_code, size, table_full, units_end}
 use Rattle.eval_state.proofs.Changes.{units_are}
 use Rattle.eval_stages.proofs.specifications.compile.Goals as goal
@@ -34,7 +35,7 @@ returns-then-saturating_sub-words-clause-same c =
     let words : c.arena_words-words.result ≡ arena_words (size p n) =
     c.arena_words-words.ensures ∙ ap arena_words sized in
     let arena : c.m.inside.parts.arena ≡ p.arena = ap (λ (p : Parts). p.arena) c.m.view_is in
-    arena_full p n code room
+    arena_full p n code room (subst IsSound c.m.view_is c.m.invariant).3
     (omega (arith, arena, words, c.saturating_sub.ensures, c.if-saturating_sub-words.true))
 
 pub returns-then-not-spend_many-clause-same : goal.returns-then-not-spend_many-clause-same
@@ -52,7 +53,8 @@ returns-then-not-spend_many-clause-same c =
     omega (arith, arena, words, c.saturating_sub.ensures, c.if-saturating_sub-words.false) in
     let many : c.from.result ≡ size p n = c.from.ensures ∙ sized in
     let none = c.if-not-spend_many.ensures.none refl in
-    units_end p n code room c.spend_many.new.self fits (omega (arith, many, none.0)) none.1
+    units_end p n code room (subst IsSound c.m.view_is c.m.invariant).3 c.spend_many.new.self fits
+    (omega (arith, many, none.0)) none.1
 
 pub returns-clause-same : goal.returns-clause-same
 returns-clause-same c =
@@ -69,18 +71,23 @@ returns-clause-same c =
     omega (arith, arena, words, c.saturating_sub.ensures, c.if-saturating_sub-words.false) in
     let many : c.from.result ≡ size p n = c.from.ensures ∙ sized in
     let some = c.if-not-spend_many.ensures.some refl in
-    let m : Compiled = record { row = n; locals = c.in_ok-locals.locals } in
+    let m : Compiled = record {
+      row = n;
+      locals = c.in_ok-locals.locals;
+      first = c.m.inside.parts.arena;
+      words = c.arena_words-words.result;
+    } in
     let q = c.add_compiled.new.m in
     let left = c.spend_many.new.self in
     let next_one = length p.typed.now.functions + length p.compiled + 1 in
     let made = c.in_ok-add_compiled.ensures
-    ∙ ap (λ f. with_made f m c.arena_words-words.result left) next.0
-    ∙ ap (λ w. with_made next_one m w left) words
-    ∙ ap (with_made next_one m (arena_words (size p n))) (some.1 ∙ ap (λ k. with_left (p.units - k) p) many) in
+    ∙ ap (λ f. with_made f m left) next.0
+    ∙ ap (with_made next_one m) (some.1 ∙ ap (λ k. with_left (p.units - k) p) many) in
     c.spend.ensures.same
     ∙ ap (λ f. leads (run_of q) (spent (here (run_of q)) (world (run_of q)).units (pending.Value f) (world (run_of q))))
     next.0
-    ∙ compiled_there p n code room q m refl fits (omega (arith, many, some.0)) made
+    ∙ compiled_there p n code room (subst IsSound c.m.view_is c.m.invariant).3 q m refl arena words fits
+    (omega (arith, many, some.0)) made
 
 pub returns-then-not-spend_many-clause-units : goal.returns-then-not-spend_many-clause-units
 returns-then-not-spend_many-clause-units c =

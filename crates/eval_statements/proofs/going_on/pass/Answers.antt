@@ -44,9 +44,8 @@ returns-in-Broke-left-2 c =
 
 pub returns-in-Continued-left-2 : goal.returns-in-Continued-left-2
 returns-in-Continued-left-2 c =
-    done.round_continued _ _ _ _ _ _ _ _ c.push-in-Continued-left-2.ensures.same
-    c.push-in-Continued-left-2.ensures.units c.push-in-Continued-left-2.ensures.less
-    (ap end_frame c.in-Round.is) (ap flow_view c.in-Continued-left-2.is)
+    done.round_continued _ _ _ _ _ _ _ _ (ap end_frame c.in-Round.is) (ap flow_view c.in-Continued-left-2.is)
+    c.continued.ensures
 
 pub returns-in-Normal-left-3 : goal.returns-in-Normal-left-3
 returns-in-Normal-left-3 c =

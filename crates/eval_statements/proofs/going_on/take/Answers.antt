@@ -29,6 +29,9 @@ returns-in-Step c = done.stepped _ _ _ _ _ _ _ _ _ (ap statement_frame c.in-Step
 pub returns-in-RoundTest : goal.returns-in-RoundTest
 returns-in-RoundTest c = done.rounded _ _ _ _ _ _ _ _ (ap statement_frame c.in-RoundTest.is) c.rounded.ensures
 
+pub returns-in-ContinuedTest : goal.returns-in-ContinuedTest
+returns-in-ContinuedTest c = done.takes _ _ _ _ _ _ (ap statement_frame c.in-ContinuedTest.is) c.again.ensures
+
 pub returns-in-Switch : goal.returns-in-Switch
 returns-in-Switch c =
     done.declares _ _ _ _ _ _ _ (ap statement_frame c.in-Switch.is) c.push.ensures.same c.push.ensures.units

@@ -1,25 +1,15 @@
 use Rattle.std.proofs.Common.{refl}
 use Rattle.typed_tree.specs.View.{expr_view, stmt_view}
 use Rattle.eval_state.specs.Run.{run_of}
-use Rattle.eval_statements.proofs.Turns.{round_ends, round_more, round_none, turn_lacks}
+use Rattle.eval_statements.proofs.Turns.{round_tested, turn_lacks}
 use Rattle.eval_statements.proofs.loops.rounded.Goals as goal
 
 pub returns-then-not-spend_one : goal.returns-then-not-spend_one
 returns-then-not-spend_one c =
     turn_lacks c.args.m.now c.spend_one.new.self _ (c.if-not-spend_one.ensures.none refl)
 
-pub returns-then-v-eq0 : goal.returns-then-v-eq0
-returns-then-v-eq0 c =
-    round_ends (run_of c.args.m.now) (run_of c.spend_one.new.self) (c.if-not-spend_one.ensures.some refl) c.args.v
-    c.args.many (stmt_view c.args.s.now) (expr_view c.args.e.now) c.if-v-eq0.true
-
-pub returns-then-many-eq0 : goal.returns-then-many-eq0
-returns-then-many-eq0 c =
-    round_none (run_of c.args.m.now) (run_of c.spend_one.new.self) (c.if-not-spend_one.ensures.some refl) c.args.v
-    c.args.many (stmt_view c.args.s.now) (expr_view c.args.e.now) c.if-v-eq0.false c.if-many-eq0.true
-
 pub returns : goal.returns
 returns c =
-    round_more (run_of c.args.m.now) (run_of c.spend_one.new.self) (c.if-not-spend_one.ensures.some refl)
-    c.push.result (run_of c.push.new.self) c.args.v c.args.many (stmt_view c.args.s.now) (expr_view c.args.e.now)
-    c.if-v-eq0.false c.if-many-eq0.false c.push.ensures.same c.push.ensures.units
+    round_tested (run_of c.args.m.now) (run_of c.spend_one.new.self) (c.if-not-spend_one.ensures.some refl)
+    c.again.result (run_of c.again.new.m) c.args.v c.args.many (stmt_view c.args.s.now) (expr_view c.args.e.now)
+    c.again.ensures

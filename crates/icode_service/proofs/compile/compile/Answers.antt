@@ -6,7 +6,8 @@ use Rattle.icode_service.proofs.compile.compile.Goals as goal
 pub returns-in-Some-clause-made : goal.returns-in-Some-clause-made
 returns-in-Some-clause-made c = (
   inl
-      (refused_is c.args.builder.now.build c.args.at c.args.most c.args.frame c.registers-registers.result c.refusal.result
+      (refused_is c.args.builder.now.build c.args.at c.args.most c.args.frame c.registers-registers.result
+      c.refusal.result
       c.in-Some.why c.registers-registers.ensures c.requires.done c.refusal.ensures c.in-Some.is),
   refl,
 )

@@ -3,6 +3,7 @@ use Rattle.std.proofs.lemmas.List.{length-map}
 use Rattle.typed_tree.specs.View.{function_view}
 use Rattle.static_image.specs.Layout.{front}
 use Rattle.static_image.proofs.Whole.{are_few}
+use Rattle.static_backend.specs.Ticks.{ticks_view}
 use Rattle.static_backend.proofs.Images.{HasBytes, in_range, many_rows, address_low, is_image, is_scanned}
 use Rattle.static_backend.proofs.backend.image.Goals as goal
 
@@ -11,13 +12,20 @@ index-row-requires c =
     let fs = map function_view c.args.functions.now in
     let code = c.in_ok-code.code in
     let range = in_range c.args.main fs c.requires.main in
-    omega (arith, range.0, range.1, many_rows fs code.words.items code.rows.items c.in_ok-code.ensures, code.rows.ok)
+    omega (
+      arith,
+      range.0,
+      range.1,
+      many_rows fs (ticks_view c.args.ticks.now) code.words.items code.rows.items c.in_ok-code.ensures,
+      code.rows.ok,
+    )
 
 pub overflow_cast-functions : goal.overflow_cast-functions
 overflow_cast-functions c =
     omega (
       arith,
-      are_few (map function_view c.args.functions.now) c.requires.functions,
+      are_few (map function_view c.args.functions.now) c.requires.functions.0 (ticks_view c.args.ticks.now)
+          c.requires.functions.1,
       length-map c.args.functions.now function_view,
     )
 
@@ -25,7 +33,8 @@ pub front_words-requires-clause-functions : goal.front_words-requires-clause-fun
 front_words-requires-clause-functions c =
     omega (
       arith,
-      are_few (map function_view c.args.functions.now) c.requires.functions,
+      are_few (map function_view c.args.functions.now) c.requires.functions.0 (ticks_view c.args.ticks.now)
+          c.requires.functions.1,
       length-map c.args.functions.now function_view,
     )
 
@@ -33,9 +42,10 @@ pub front_words-requires-clause-main : goal.front_words-requires-clause-main
 front_words-requires-clause-main c =
     let are : HasBytes c.args.bytes.now =
     record { fits = λ k. omega (arith, c.type_inv.bytes k); few = c.requires.bytes } in
-    address_low (map function_view c.args.functions.now) c.args.bytes.now c.args.main c.in_ok-code.code.words.items
+    address_low (map function_view c.args.functions.now) (ticks_view c.args.ticks.now) c.args.bytes.now c.args.main
+    c.in_ok-code.code.words.items
     c.in_ok-code.code.rows.items c.requires.main c.in_ok-code.ensures c.index-row.result.now c.index-row.ensures
-    c.requires.functions are
+    c.requires.functions.0 c.requires.functions.1 are
 
 pub new-requires : goal.new-requires
 new-requires c =
@@ -51,9 +61,10 @@ new-requires c =
     (sym (length-map c.args.functions.now function_view))) in
     let bytes_are : c.extend_from_slice-2.new.self.items ≡ c.args.bytes.now =
     c.in_ok-extend_from_slice-2.ensures.items ∙ ap (λ z. z ++ c.args.bytes.now) c.new-data.ensures.items in
-    is_image fs c.args.bytes.now c.args.main code.words.items code.rows.items c.requires.main c.in_ok-code.ensures
+    is_image fs (ticks_view c.args.ticks.now) c.args.bytes.now c.args.main code.words.items code.rows.items
+    c.requires.main c.in_ok-code.ensures
     c.index-row.result.now c.index-row.ensures text c.extend_from_slice-2.new.self.items text_is bytes_are
-    c.requires.functions are c.images_keep_rules.ensures
+    c.requires.functions.0 c.requires.functions.1 are c.images_keep_rules.ensures
 
 pub returns : goal.returns
 returns c =
@@ -67,6 +78,7 @@ returns c =
     (sym (length-map c.args.functions.now function_view))) in
     let bytes_are : c.extend_from_slice-2.new.self.items ≡ c.args.bytes.now =
     c.in_ok-extend_from_slice-2.ensures.items ∙ ap (λ z. z ++ c.args.bytes.now) c.new-data.ensures.items in
-    is_scanned fs c.args.bytes.now c.args.main code.words.items code.rows.items c.requires.main c.in_ok-code.ensures
+    is_scanned fs (ticks_view c.args.ticks.now) c.args.bytes.now c.args.main code.words.items code.rows.items
+    c.requires.main c.in_ok-code.ensures
     c.index-row.result.now c.index-row.ensures text c.extend_from_slice-2.new.self.items text_is bytes_are
     c.new.result c.new.ensures

@@ -1,7 +1,8 @@
 use Rattle.std.proofs.Common.{rules, ◌≡◌, ◌<◌, ◌≤◌, [], ◌∷◌, ◌++◌, ap, ◌∙◌, length, map, get_or, slice_index, arith}
 use Rattle.std.proofs.lemmas.List.{length-map, get_or_read}
 use Rattle.typed_tree.specs.View.{function_view}
-use Rattle.static_backend.specs.Plans.{BeginAt}
+use Rattle.static_backend.specs.Plans.{BeginAt, all_at}
+use Rattle.static_backend.specs.Ticks.{ticks_view}
 use Rattle.static_backend.proofs.Loops.{next_static, next_view}
 use Rattle.static_backend.proofs.Grown.{entry}
 use Rattle.static_backend.proofs.Coded as coded
@@ -16,6 +17,7 @@ loop-i-init c =
       p.2.plan,
       p.2.many,
       coded.first_code (map function_view c.args.functions.now) p.0 plan.starts.items _ plan.end p.1 p.2.plan
+          (ticks_view c.args.ticks.now) c.args.generators.now c.requires.generators
           plan.made.items c.args.words.items c.new.result.items p.2.words c.new.ensures.items,
     )
 
@@ -24,7 +26,11 @@ write_rest-requires-clause-ready c =
     let fs = c.args.functions.now in
     let gs = map function_view fs in
     let f = c.index-functions-i.result in
-    (gs, (next_static gs c.loop-i.i fs f (search rules) (search rules) c.requires.functions.each).ready)
+    let captures = c.requires.functions.0 in (
+      gs,
+      captures,
+      (next_static gs captures c.loop-i.i fs f (search rules) (search rules) c.requires.functions.1.each).ready,
+    )
 
 pub write_rest-requires-clause-started : goal.write_rest-requires-clause-started
 write_rest-requires-clause-started c =
@@ -36,7 +42,8 @@ write_rest-requires-clause-started c =
       arith,
       low,
       length-map fs function_view,
-      coded.many_addresses gs p.0 c.args.plan.now.starts.items _ c.args.plan.now.end p.1 p.2,
+      coded.many_addresses gs p.0 c.args.plan.now.starts.items _ c.args.plan.now.end p.1 p.2
+          (ticks_view c.args.ticks.now) c.args.generators.now c.requires.generators,
     )
 
 pub index-requires : goal.index-requires
@@ -50,7 +57,8 @@ index-requires c =
       arith,
       low,
       length-map fs function_view,
-      coded.many_addresses gs p.0 starts.items _ c.args.plan.now.end p.1 p.2,
+      coded.many_addresses gs p.0 starts.items _ c.args.plan.now.end p.1 p.2 (ticks_view c.args.ticks.now)
+          c.args.generators.now c.requires.generators,
       starts.ok.0,
     )
 
@@ -66,7 +74,8 @@ write_rest-requires-clause-placed c =
       low,
       length-map fs function_view,
       length-map plan.places.items (λ v. v.items),
-      coded.many_places gs p.0 plan.starts.items _ plan.end p.1 p.2,
+      coded.many_places gs p.0 plan.starts.items _ plan.end p.1 p.2 (ticks_view c.args.ticks.now) c.args.generators.now
+          c.requires.generators,
     )
 
 pub write_rest-requires-clause-counted : goal.write_rest-requires-clause-counted
@@ -80,7 +89,8 @@ write_rest-requires-clause-counted c =
       arith,
       low,
       length-map fs function_view,
-      coded.many gs p.0 plan.starts.items _ plan.end p.1 p.2,
+      coded.many gs p.0 plan.starts.items _ plan.end p.1 p.2 (ticks_view c.args.ticks.now) c.args.generators.now
+          c.requires.generators,
       p.3,
     )
 
@@ -95,8 +105,10 @@ write_rest-requires-clause-low c =
     let within : i < length gs = omega (arith, low, length-map fs function_view) in
     let p = c.loop-i.invariant in
     let plan = c.args.plan.now in
-    coded.words_low gs p.0 plan.starts.items _ plan.end p.1 p.2 i (function_view f) plan.made.items
-    c.loop-i.code.words.items c.loop-i.code.rows.items within (next_view i fs f is) p.3 p.4 c.requires.functions
+    coded.words_low gs p.0 plan.starts.items _ plan.end p.1 p.2 (ticks_view c.args.ticks.now) c.args.generators.now
+    c.requires.generators i (function_view f) plan.made.items
+    c.loop-i.code.words.items c.loop-i.code.rows.items within (next_view i fs f is) p.3 p.4 c.requires.functions.0
+    c.requires.functions.1
 
 pub write_rest-requires-clause-room : goal.write_rest-requires-clause-room
 write_rest-requires-clause-room c =
@@ -112,12 +124,15 @@ write_rest-requires-clause-room c =
     let words = c.loop-i.code.words.items in
     let rows = c.loop-i.code.rows.items in
     let next = next_view i fs f is in (
-      coded.first gs p.0 plan.starts.items _ plan.end p.1 p.2 i (function_view f) plan.made.items words rows within
+      coded.first gs p.0 plan.starts.items _ plan.end p.1 p.2 (ticks_view c.args.ticks.now) c.args.generators.now
+          c.requires.generators i (function_view f) plan.made.items words rows within
           next p.3 p.4,
       (
-        coded.first_is gs p.0 plan.starts.items _ plan.end p.1 p.2 i (function_view f) plan.made.items words rows
+        coded.first_is gs p.0 plan.starts.items _ plan.end p.1 p.2 (ticks_view c.args.ticks.now) c.args.generators.now
+            c.requires.generators i (function_view f) plan.made.items words rows
             within next p.3 p.4,
-        coded.room gs p.0 plan.starts.items _ plan.end p.1 p.2 i (function_view f) plan.made.items words rows within
+        coded.room gs p.0 plan.starts.items _ plan.end p.1 p.2 (ticks_view c.args.ticks.now) c.args.generators.now
+            c.requires.generators i (function_view f) plan.made.items words rows within
             next p.3 p.4,
       ),
     )
@@ -136,16 +151,25 @@ loop-i-preserved c =
     let words = c.loop-i.code.words.items in
     let rows = c.loop-i.code.rows.items in
     let next = next_view i fs f is in
-    let first = coded.first gs p.0 plan.starts.items _ plan.end p.1 p.2 i (function_view f) plan.made.items words rows
+    let first = coded.first gs p.0 plan.starts.items _ plan.end p.1 p.2 (ticks_view c.args.ticks.now)
+    c.args.generators.now c.requires.generators i (function_view f) plan.made.items words rows
     within next p.3 p.4 in
-    let begin : BeginAt plan i (function_view f) words first = (
-      coded.first_is gs p.0 plan.starts.items _ plan.end p.1 p.2 i (function_view f) plan.made.items words rows
+    let begin : BeginAt (all_at plan c.args.generators.now (ticks_view c.args.ticks.now)) plan i (function_view f) words
+    first = (
+      coded.first_is gs p.0 plan.starts.items _ plan.end p.1 p.2 (ticks_view c.args.ticks.now) c.args.generators.now
+          c.requires.generators i (function_view f) plan.made.items words rows
           within next p.3 p.4,
-      coded.room gs p.0 plan.starts.items _ plan.end p.1 p.2 i (function_view f) plan.made.items words rows within
+      coded.room gs p.0 plan.starts.items _ plan.end p.1 p.2 (ticks_view c.args.ticks.now) c.args.generators.now
+          c.requires.generators i (function_view f) plan.made.items words rows within
           next p.3 p.4,
     ) in
     let started : i < length plan.starts.items =
-    omega (arith, within, coded.many_addresses gs p.0 plan.starts.items _ plan.end p.1 p.2) in
+    omega (
+      arith,
+      within,
+      coded.many_addresses gs p.0 plan.starts.items _ plan.end p.1 p.2 (ticks_view c.args.ticks.now)
+          c.args.generators.now c.requires.generators,
+    ) in
     let at_is : c.get.result ≡ slice_index plan.starts.items i =
     c.get.ensures.same ∙ get_or_read plan.starts.items _ _ started c.index.ensures 0 in
     let row = c.in_ok-push.ensures.items ∙ ap (λ a. rows ++ entry a f.params ∷ []) at_is in (
@@ -153,7 +177,8 @@ loop-i-preserved c =
       p.1,
       p.2,
       p.3,
-      coded.next_code gs p.0 plan.starts.items _ plan.end p.1 p.2 i (function_view f) plan.made.items words
+      coded.next_code gs p.0 plan.starts.items _ plan.end p.1 p.2 (ticks_view c.args.ticks.now) c.args.generators.now
+          c.requires.generators i (function_view f) plan.made.items words
           c.write_rest.new.words.items rows c.push.new.self.items within next p.3
           (c.in_ok-write_rest.ensures first begin) row p.4,
     )
@@ -165,5 +190,6 @@ returns c =
     let fs = c.args.functions.now in
     let plan = c.args.plan.now in
     let past : length fs ≤ i = search rules in
-    coded.last_code (map function_view fs) p.0 plan.starts.items _ plan.end p.1 p.2 i plan.made.items
+    coded.last_code (map function_view fs) p.0 plan.starts.items _ plan.end p.1 p.2 (ticks_view c.args.ticks.now)
+    c.args.generators.now c.requires.generators i plan.made.items
     c.loop-i.code.words.items c.loop-i.code.rows.items (omega (arith, past, length-map fs function_view)) p.4

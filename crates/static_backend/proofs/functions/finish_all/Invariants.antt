@@ -1,8 +1,8 @@
 use Rattle.std.proofs.Common.{◌≡◌, List, length, map}
 use Rattle.typed_tree.specs.View.{function_view}
-use Rattle.tick_lower_spec.specs.Lower.{listed}
 use Rattle.static_image.specs.Layout.{Placed, functions_of}
-use Rattle.static_backend.specs.Plans.{IsPlanOf}
+use Rattle.static_backend.specs.Plans.{IsPlanOf, all_at}
+use Rattle.static_backend.specs.Ticks.{ticks_view}
 use Rattle.static_backend.proofs.Coded.{HasCode}
 use Rattle.static_backend.proofs.functions.finish_all.Given as goal
 
@@ -10,4 +10,5 @@ abbrev pub invariant-loop-i : goal.invariant-loop-i
 invariant-loop-i l =
     (xs : List Placed) × (functions_of xs ≡ map function_view l.functions) × IsPlanOf xs l.plan
     × (length l.plan.made.items ≡ length xs)
-    × HasCode (listed l.plan.starts.items) l.i xs l.plan.made.items l.code.words.items l.code.rows.items
+    × HasCode (all_at l.plan l.generators (ticks_view l.ticks)) l.i xs l.plan.made.items l.code.words.items
+    l.code.rows.items

@@ -4,6 +4,7 @@ use Rattle.icode_ir.specs.Sound.{Each}
 use Rattle.typed_tree.specs.View.{function_view}
 use Rattle.static_image.specs.Layout.{Placed}
 use Rattle.static_image.specs.Served.{IsStatic, most_words}
+use Rattle.static_backend.specs.Ticks.{ticks_view}
 use Rattle.static_backend.proofs.Grown.{functions_more}
 use Rattle.static_backend.proofs.Loops.{front_more, front_static, front_few, next_static, all_in_front}
 use Rattle.static_backend.proofs.Planned as plan
@@ -16,7 +17,7 @@ loop-function-init c = (
   refl,
   record {
     plan = plan.first_plan c.new.result.items _ c.new.ensures.items (ap (map (λ v. v.items)) c.new-2.ensures.items);
-    words = first_draft c.new-3.result.items c.new-4.result.items c.new-4.ensures.items;
+    words = first_draft (ticks_view c.args.ticks.now) c.new-3.result.items c.new-4.result.items c.new-4.ensures.items;
     many = ap length c.new-3.ensures.items;
   },
 )
@@ -26,8 +27,10 @@ place-requires-clause-served c =
     let fs = c.args.functions.now in
     let gs = map function_view fs in (
       gs,
-      next_static gs c.loop-function.function-index fs c.function-item.result (search rules) (search rules)
-          c.requires.functions.each,
+      c.requires.functions.0,
+      next_static gs c.requires.functions.0 c.loop-function.function-index fs c.function-item.result (search rules)
+          (search rules)
+          c.requires.functions.1.each,
     )
 
 pub place-requires-clause-aligned : goal.place-requires-clause-aligned
@@ -41,11 +44,12 @@ place-requires-clause-low c =
     let fs = c.args.functions.now in
     let gs = map function_view fs in
     let i = c.loop-function.function-index in
-    let each = subst (Each (IsStatic gs)) (sym p.1) (front_static gs i fs c.requires.functions.each) in
+    let each = subst (Each (IsStatic gs c.requires.functions.0)) (sym p.1)
+    (front_static gs c.requires.functions.0 i fs c.requires.functions.1.each) in
     let less : most_words (map (λ (x : Placed). x.function) p.0) ≤ most_words gs =
     omega (arith, front_few i fs, ap most_words p.1) in
-    plan.low gs p.0 c.loop-function.draft.plan.starts.items _ c.loop-function.draft.plan.end c.requires.functions each
-    less p.2.plan
+    plan.low gs c.requires.functions.0 (ticks_view c.args.ticks.now) p.0 c.loop-function.draft.plan.starts.items _
+    c.loop-function.draft.plan.end c.requires.functions.1 each less p.2.plan
 
 pub loop-function-preserved : goal.loop-function-preserved
 loop-function-preserved c =

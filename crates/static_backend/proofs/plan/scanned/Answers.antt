@@ -5,7 +5,7 @@ use Rattle.icode_ops.specs.Places.{IsLegal}
 use Rattle.icode_ir.specs.Build.{finished}
 use Rattle.linear_scan_spec.specs.Scan.{places_of}
 use Rattle.typed_tree.specs.View.{function_view}
-use Rattle.tick_lower_spec.specs.Lower.{listed}
+use Rattle.tick_lower.specs.Viewed.{addresses_view}
 use Rattle.tick_lower_proof.specs.Laws.{code_of, registers_of}
 use Rattle.static_image.specs.Layout.{unknown}
 use Rattle.static_image.proofs.Unaddressed.{registers_same}
@@ -16,7 +16,7 @@ use Rattle.static_backend.proofs.plan.scanned.Goals as goal
 pub returns-clause-scan : goal.returns-clause-scan
 returns-clause-scan c =
     let f = function_view c.args.function.now in
-    let d = listed c.args.starts.now in
+    let d = addresses_view c.args.addresses.now in
     let op : c.ops-ops.result.now ≡ code_of d f =
     c.ops-ops.ensures.ops ∙ ap (λ b. finished b.build) c.in_ok-build_ops.ensures in
     let many : c.registers-registers.result ≡ registers_of d f =
@@ -33,7 +33,7 @@ returns-clause-scan c =
 pub returns-clause-legal : goal.returns-clause-legal
 returns-clause-legal c =
     let f = function_view c.args.function.now in
-    let d = listed c.args.starts.now in
+    let d = addresses_view c.args.addresses.now in
     let op : c.ops-ops.result.now ≡ code_of d f =
     c.ops-ops.ensures.ops ∙ ap (λ b. finished b.build) c.in_ok-build_ops.ensures in
     let many : c.registers-registers.result ≡ registers_of d f =

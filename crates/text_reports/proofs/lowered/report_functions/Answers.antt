@@ -8,7 +8,11 @@ build_ops-requires c =
     let fs = c.args.functions.now in
     let gs = map function_view fs in
     let f = c.index-functions-number.result in
-    (gs, (next_static gs c.loop-number.number fs f (search rules) (search rules) c.requires.each).ready)
+    let captures = c.requires.0 in (
+      gs,
+      captures,
+      (next_static gs captures c.loop-number.number fs f (search rules) (search rules) c.requires.2.each).ready,
+    )
 
 pub ops-requires : goal.ops-requires
 ops-requires c = ap (λ b. b.phase) c.in_ok-build_ops.ensures

@@ -2,8 +2,8 @@ use Rattle.std.proofs.Common.{map}
 use Rattle.std.specs.Prelude.{string_bytes}
 use Rattle.image_commands.specs.Outside.{outside, failures}
 use Rattle.image_commands.proofs.Fronts.{if_ok}
-use Rattle.text_commands.proofs.Stated.{refused_row, asm_refused_row, too_long_row, bad_image_row, trap_row}
-use Rattle.text_commands.proofs.Stated.{machine_fault_row, out_of_steps_row, cause_row}
+use Rattle.source_commands.proofs.Stated.{refused_row, asm_refused_row, too_long_row, bad_image_row, trap_row}
+use Rattle.source_commands.proofs.Stated.{machine_fault_row, out_of_steps_row, cause_row}
 use Rattle.tick_top.proofs.top.tick.Goals as goal
 
 pub returns-clause-refused : goal.returns-clause-refused

@@ -1,7 +1,7 @@
 use Rattle.std.proofs.Common.{◌≡◌, Ok, refl, ap, sym, ◌∙◌}
 use Rattle.check_scopes.specs.declared.names.MeaningKind.TheVariants as kind
 use Rattle.tick_tree.specs.Faults.{◌>>=◌}
-use Rattle.check_tables.specs.Frames as frames
+use Rattle.check_rules.specs.Frames as frames
 use Rattle.check_rules.specs.Names.{declare}
 use Rattle.check_rules.specs.Locals.{meaning, made_outer, outer_local}
 use Rattle.check_rules.proofs.state.State.outer_local.Goals as goal

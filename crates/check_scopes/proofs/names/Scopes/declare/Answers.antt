@@ -2,7 +2,7 @@ use Rattle.std.proofs.Common.{arith, ◌≡◌, ◌-◌, ◌+◌, ◌∷◌, [],
 use Rattle.std.proofs.Common.{subst, ap, sym, ◌∙◌, length-append}
 use Rattle.std.specs.Prelude.{Result, Ok, Err, OnErr}
 use Rattle.check_scopes.specs.Kept.{Kept, scopes}
-use Rattle.check_scopes.specs.Numbers.{number_of}
+use Rattle.name_numbers.specs.Numbers.{number_of}
 use Rattle.check_scopes.specs.Scopes as spec
 use Rattle.check_scopes.specs.Stack.{last_of}
 use Rattle.check_scopes.specs.declared.names.DeclareFault.{DeclareFault}
@@ -49,7 +49,7 @@ returns-then-has_from-clause-taken c = λ _ none.
     grown_same t.names c.number.new.self t.stack t.sizes.items c.self.invariant c.in_ok-number.ensures.grows ∙
     c.self.view_is in
     let is : number_of c.number.new.self c.args.name.now ≡ Some c.in_ok-number.number =
-    ap (number_of c.number.new.self) (sym c.new.ensures) ∙ c.in_ok-number.ensures.number in
+    c.in_ok-number.ensures.number in
     let free : last_of (drop start t.stack) c.in_ok-number.number ≡ None =
     sym (in_last c.number.new.self it kept c.args.name.now c.in_ok-number.number is)
     ∙ ap (λ s. spec.in_scope (spec.innermost s) c.args.name.now) same ∙ none in
@@ -76,7 +76,7 @@ invariant_of-self-in-Ok c =
     let kept : Kept c.number.new.self t.stack t.sizes.items =
     grown_kept t.names c.number.new.self t.stack t.sizes.items c.self.invariant c.in_ok-number.ensures.grows in
     let is : number_of c.number.new.self c.args.name.now ≡ Some c.in_ok-number.number =
-    ap (number_of c.number.new.self) (sym c.new.ensures) ∙ c.in_ok-number.ensures.number in
+    c.in_ok-number.ensures.number in
     let more : c.len-in-Ok.result - start ≡ size + 1 =
     omega (
       arith,
@@ -109,7 +109,7 @@ returns-in-Ok-clause-ok c =
     grown_same t.names c.number.new.self t.stack t.sizes.items c.self.invariant c.in_ok-number.ensures.grows ∙
     c.self.view_is in
     let is : number_of c.number.new.self c.args.name.now ≡ Some c.in_ok-number.number =
-    ap (number_of c.number.new.self) (sym c.new.ensures) ∙ c.in_ok-number.ensures.number in
+    c.in_ok-number.ensures.number in
     let more : c.len-in-Ok.result - start ≡ size + 1 =
     omega (
       arith,
@@ -141,7 +141,7 @@ returns-in-Ok-clause-free c =
     grown_same t.names c.number.new.self t.stack t.sizes.items c.self.invariant c.in_ok-number.ensures.grows ∙
     c.self.view_is in
     let is : number_of c.number.new.self c.args.name.now ≡ Some c.in_ok-number.number =
-    ap (number_of c.number.new.self) (sym c.new.ensures) ∙ c.in_ok-number.ensures.number in
+    c.in_ok-number.ensures.number in
     let free : last_of (drop start t.stack) c.in_ok-number.number ≡ None =
     none_of (last_of (drop start t.stack) c.in_ok-number.number) (sym c.has_from.ensures ∙ c.if-has_from.false) in
     ap (λ s. spec.in_scope (spec.innermost s) c.args.name.now) (sym same)

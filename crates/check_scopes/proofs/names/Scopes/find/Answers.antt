@@ -1,5 +1,5 @@
 use Rattle.std.proofs.Common.{◌≡◌, None, Some, ap, sym, ◌∙◌}
-use Rattle.check_scopes.specs.Numbers.{number_of}
+use Rattle.name_numbers.specs.Numbers.{number_of}
 use Rattle.check_scopes.specs.Scopes as spec
 use Rattle.check_scopes.proofs.Cut.{found_number, found_none}
 use Rattle.check_scopes.proofs.names.Scopes.find.Goals as goal
@@ -8,7 +8,7 @@ pub returns-in-Some : goal.returns-in-Some
 returns-in-Some c =
     let t = c.self.inside in
     let number : number_of t.names c.args.name.now ≡ Some c.in-Some.number =
-    ap (number_of t.names) (sym c.new.ensures) ∙ sym c.in-Some.ensures in
+    sym c.in-Some.ensures in
     c.find-in-Some.ensures
     ∙ sym (found_number t.names t.stack t.sizes.items c.self.invariant c.args.name.now c.in-Some.number number)
     ∙ ap (λ s. spec.find s c.args.name.now) c.self.view_is
@@ -17,6 +17,6 @@ pub returns-in-None : goal.returns-in-None
 returns-in-None c =
     let t = c.self.inside in
     let number : number_of t.names c.args.name.now ≡ None =
-    ap (number_of t.names) (sym c.new.ensures) ∙ sym c.in-None.ensures in
+    sym c.in-None.ensures in
     sym (found_none t.names t.stack t.sizes.items c.self.invariant c.args.name.now number)
     ∙ ap (λ s. spec.find s c.args.name.now) c.self.view_is

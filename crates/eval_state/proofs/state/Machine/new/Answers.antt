@@ -77,6 +77,5 @@ returns c = λ program e.
       rows = c.new-7.ensures;
       closures = refl;
       compiled = c.new-8.ensures;
-      arena = refl;
     })
     ∙ ap (λ q. first_run q input c.args.units) (main_of_program p program mine e)

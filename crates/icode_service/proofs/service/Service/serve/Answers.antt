@@ -1,6 +1,7 @@
 use Rattle.std.proofs.Common.{refl, arith}
 use Rattle.code_arena.specs.Kept.{arena_of, rows_of}
-use Rattle.icode_service.proofs.Serving.{as_begin, as_emit, as_finish, as_flush, as_publish, as_none, begin_few, emit_few}
+use Rattle.icode_service.proofs.Serving.{as_begin, as_emit, as_finish, as_flush, as_publish, as_none, begin_few}
+use Rattle.icode_service.proofs.Serving.{emit_few}
 use Rattle.icode_service.proofs.service.Service.serve.Goals as goal
 
 pub returns-in-64-clause-served : goal.returns-in-64-clause-served

@@ -1,8 +1,0 @@
-use Rattle.std.proofs.Common.{◌≡◌, map, drop}
-use Rattle.captures.specs.Captures.{names_of}
-use Rattle.captures.specs.Found.{behind}
-use Rattle.captures.proofs.walk.Found.+statement.Given as goal
-
-abbrev pub invariant-statements-loop-s : goal.invariant-statements-loop-s
-invariant-statements-loop-s l =
-    behind (map names_of (drop l.s-index l.list)) l.self ≡ behind (map names_of l.list) l.fn.self

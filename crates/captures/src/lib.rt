@@ -1,7 +1,0 @@
-//! The captures of a tick: what its body names of what it captures as it is evaluated.
-#![tactic(auto)]
-
-mod capture;
-mod walk;
-
-pub use capture::{Capture, captures};

@@ -1,5 +1,0 @@
-use Rattle.captures_proof.proofs.TickKinds.{are_few}
-use Rattle.captures_proof.proofs.captures_are_few.Goals as goal
-
-pub returns : goal.returns
-returns c = are_few

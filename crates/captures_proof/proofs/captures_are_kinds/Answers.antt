@@ -1,5 +1,0 @@
-use Rattle.captures_proof.proofs.TickKinds.{are_kinds}
-use Rattle.captures_proof.proofs.captures_are_kinds.Goals as goal
-
-pub returns : goal.returns
-returns c = are_kinds

@@ -1,6 +1,0 @@
-use Rattle.std.proofs.Common.{◌≡◌}
-use Rattle.cgf_pieces.proofs.Lists.{ops_left}
-use Rattle.cgf_pieces.proofs.pieces.Pieces.ops.Given as goal
-
-abbrev pub invariant-loop-op : goal.invariant-loop-op
-invariant-loop-op l = ops_left l.op-index l.ops l.self ≡ ops_left 0 l.ops l.fn.self

@@ -1,5 +1,0 @@
-use Rattle.cgf_spec.proofs.Told as lemmas
-use Rattle.cgf_spec.proofs.laws.calls_are_told.Goals as goal
-
-pub returns : goal.returns
-returns c = lemmas.calls_told

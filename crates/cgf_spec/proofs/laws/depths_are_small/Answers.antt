@@ -1,5 +1,0 @@
-use Rattle.cgf_spec.proofs.Depths as lemmas
-use Rattle.cgf_spec.proofs.laws.depths_are_small.Goals as goal
-
-pub returns : goal.returns
-returns c = λ program pieces syntax whole. lemmas.depth_small program pieces syntax whole

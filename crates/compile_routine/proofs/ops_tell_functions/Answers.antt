@@ -1,0 +1,5 @@
+use Rattle.compile_routine.proofs.Ops as lemmas
+use Rattle.compile_routine.proofs.ops_tell_functions.Goals as goal
+
+pub returns : goal.returns
+returns c = lemmas.ops_tell

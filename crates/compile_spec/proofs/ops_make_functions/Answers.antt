@@ -1,9 +1,0 @@
-use Rattle.compile_spec.proofs.Ops as lemmas
-use Rattle.compile_spec.proofs.ops_make_functions.Goals as goal
-
-pub returns : goal.returns
-returns c =
-    λ text pieces functions code a bytes shared is_value syntax d from to low f u u2 b has hs ha whole is table arena
-    taken stands h.
-    lemmas.op_makes text pieces functions code a bytes shared is_value syntax d from to low f u u2 b has hs ha whole is
-    table arena taken stands h

@@ -1,5 +1,0 @@
-pub mod Routine
-pub mod Laws
-pub mod Made
-pub mod Ops
-pub mod Below

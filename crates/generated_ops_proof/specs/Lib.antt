@@ -1,0 +1,4 @@
+pub mod Keys
+pub mod Room
+pub mod Answers
+pub mod Laws

@@ -1,0 +1,14 @@
+pub mod Alike
+pub mod Below
+pub mod Standing
+pub mod Quiet
+pub mod Clean
+pub mod Unspoiled
+pub mod Ended
+pub mod Headline
+pub mod Seam
+pub mod Tables
+pub mod Entrances
+pub mod Completing
+pub mod Covered
+pub mod Ranges

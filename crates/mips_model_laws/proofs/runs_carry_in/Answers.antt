@@ -1,0 +1,5 @@
+use Rattle.mips_model_laws.proofs.Below as lemmas
+use Rattle.mips_model_laws.proofs.runs_carry_in.Goals as goal
+
+pub returns : goal.returns
+returns c = lemmas.runs_carried_in

@@ -1,7 +1,0 @@
-use Rattle.one_place.proofs.SymbolLaws.{long, held}
-use Rattle.one_place.proofs.symbols.Symbols.len.Goals as goal
-
-pub returns : goal.returns
-returns c =
-    let s = c.self.inside in
-    long s.count s.bytes c.args.self.now (held s.count s.bytes c.self.invariant) c.self.view_is

@@ -1,5 +1,0 @@
-use Rattle.one_place.proofs.SymbolLaws.{held}
-use Rattle.one_place.proofs.symbols.Symbols.lent.Goals as goal
-
-pub invariant_of-result : goal.invariant_of-result
-invariant_of-result c = held c.self.inside.count c.self.inside.bytes c.self.invariant

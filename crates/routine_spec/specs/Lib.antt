@@ -1,0 +1,5 @@
+pub mod Generator
+pub mod Compile
+pub mod Blocks
+pub mod Laws
+pub mod Written

@@ -1,5 +1,0 @@
-use Rattle.spec_build_proof.proofs.Begun.{begun_take_all}
-use Rattle.spec_build_proof.proofs.begun_builders_take_all.Goals as goal
-
-pub returns : goal.returns
-returns c = begun_take_all

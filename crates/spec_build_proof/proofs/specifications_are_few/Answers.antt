@@ -1,5 +1,0 @@
-use Rattle.spec_build_proof.proofs.Begun.{specifications_few}
-use Rattle.spec_build_proof.proofs.specifications_are_few.Goals as goal
-
-pub returns : goal.returns
-returns c = specifications_few

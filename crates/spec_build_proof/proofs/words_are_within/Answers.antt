@@ -1,5 +1,0 @@
-use Rattle.spec_build_proof.proofs.Begun.{words_within}
-use Rattle.spec_build_proof.proofs.words_are_within.Goals as goal
-
-pub returns : goal.returns
-returns c = words_within

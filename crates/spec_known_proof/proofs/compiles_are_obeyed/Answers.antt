@@ -1,5 +1,0 @@
-use Rattle.spec_known_proof.proofs.Obeyed.{compiles_obeyed}
-use Rattle.spec_known_proof.proofs.compiles_are_obeyed.Goals as goal
-
-pub returns : goal.returns
-returns c = compiles_obeyed

@@ -1,5 +1,0 @@
-use Rattle.spec_known_proof.proofs.Rows.{evaluations_keep}
-use Rattle.spec_known_proof.proofs.evaluations_keep_rows.Goals as goal
-
-pub returns : goal.returns
-returns c = evaluations_keep

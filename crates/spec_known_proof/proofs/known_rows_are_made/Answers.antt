@@ -1,5 +1,0 @@
-use Rattle.spec_known_proof.proofs.Rows.{rows_made}
-use Rattle.spec_known_proof.proofs.known_rows_are_made.Goals as goal
-
-pub returns : goal.returns
-returns c = rows_made

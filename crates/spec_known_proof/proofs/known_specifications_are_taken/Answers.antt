@@ -1,5 +1,0 @@
-use Rattle.spec_known_proof.proofs.Rows.{known_taken}
-use Rattle.spec_known_proof.proofs.known_specifications_are_taken.Goals as goal
-
-pub returns : goal.returns
-returns c = known_taken

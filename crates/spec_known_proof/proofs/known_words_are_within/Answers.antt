@@ -1,5 +1,0 @@
-use Rattle.spec_known_proof.proofs.Rows.{known_words}
-use Rattle.spec_known_proof.proofs.known_words_are_within.Goals as goal
-
-pub returns : goal.returns
-returns c = known_words

@@ -1,5 +1,0 @@
-use Rattle.spec_known_proof.proofs.Rows.{programs_meant}
-use Rattle.spec_known_proof.proofs.programs_are_meant.Goals as goal
-
-pub returns : goal.returns
-returns c = programs_meant

@@ -1,5 +1,0 @@
-use Rattle.spec_known_proof.proofs.Rows.{rows_known}
-use Rattle.spec_known_proof.proofs.rows_are_known.Goals as goal
-
-pub returns : goal.returns
-returns c = rows_known

@@ -1,5 +1,0 @@
-use Rattle.spec_rows_proof.proofs.Checks as lemmas
-use Rattle.spec_rows_proof.proofs.checks_agree.Goals as goal
-
-pub returns : goal.returns
-returns c = lemmas.checks_agree

@@ -1,6 +1,0 @@
-use Rattle.spec_rows_proof.proofs.Kept as lemmas
-use Rattle.spec_rows_proof.proofs.closures_are_kept.Goals as goal
-
-pub returns : goal.returns
-returns c =
-    lemmas.closures_kept

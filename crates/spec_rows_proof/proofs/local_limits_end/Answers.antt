@@ -1,7 +1,0 @@
-use Rattle.spec_rows_proof.proofs.OpChecks as lemmas
-use Rattle.spec_rows_proof.proofs.local_limits_end.Goals as goal
-
-pub returns : goal.returns
-returns c =
-    λ code a bytes shared d v rest kind low f u b has some stands h.
-    lemmas.local_op_ends code a bytes shared d v rest kind low f u b has some stands h

@@ -1,5 +1,0 @@
-use Rattle.spec_rows_proof.proofs.Variables as lemmas
-use Rattle.spec_rows_proof.proofs.parameters_are_made.Goals as goal
-
-pub returns : goal.returns
-returns c = lemmas.parameters_made

@@ -1,6 +1,0 @@
-use Rattle.spec_rows_proof.proofs.Puts as lemmas
-use Rattle.spec_rows_proof.proofs.put_is_done.Goals as goal
-
-pub returns : goal.returns
-returns c =
-    λ code a bytes capture d v f u b has h. lemmas.put_done code a bytes capture d v f u b has h

@@ -1,6 +1,0 @@
-use Rattle.spec_rows_proof.proofs.Making as lemmas
-use Rattle.spec_rows_proof.proofs.specifications_stay_with_sums.Goals as goal
-
-pub returns : goal.returns
-returns c =
-    lemmas.kept_by_sums

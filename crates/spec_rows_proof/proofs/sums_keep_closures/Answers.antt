@@ -1,6 +1,0 @@
-use Rattle.spec_rows_proof.proofs.Kept as lemmas
-use Rattle.spec_rows_proof.proofs.sums_keep_closures.Goals as goal
-
-pub returns : goal.returns
-returns c =
-    lemmas.sums_keep

@@ -1,7 +1,0 @@
-use Rattle.spec_rows_proof.proofs.TickMade as lemmas
-use Rattle.spec_rows_proof.proofs.ticks_are_made.Goals as goal
-
-pub returns : goal.returns
-returns c =
-    λ text shared tick r xs words layout address bytes code a d g none.
-    lemmas.ticks_made text shared tick r xs words layout address bytes code a d g none

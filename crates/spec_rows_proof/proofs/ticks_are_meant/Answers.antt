@@ -1,6 +1,0 @@
-use Rattle.spec_rows_proof.proofs.TickMade as lemmas
-use Rattle.spec_rows_proof.proofs.ticks_are_meant.Goals as goal
-
-pub returns : goal.returns
-returns c =
-    lemmas.ticks_meant

@@ -1,5 +1,0 @@
-use Rattle.spec_rows_proof.proofs.Below as lemmas
-use Rattle.spec_rows_proof.proofs.ticks_stay_below.Goals as goal
-
-pub returns : goal.returns
-returns c = lemmas.ticks_below

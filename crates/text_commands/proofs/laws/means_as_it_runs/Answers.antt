@@ -1,5 +1,0 @@
-use Rattle.text_commands.proofs.Programs as law
-use Rattle.text_commands.proofs.laws.means_as_it_runs.Goals as goal
-
-pub returns : goal.returns
-returns c = law.means_as_it_runs

@@ -1,5 +1,0 @@
-use Rattle.text_commands.proofs.Stated as law
-use Rattle.text_commands.proofs.laws.sources_complete.Goals as goal
-
-pub returns : goal.returns
-returns c = law.sources_complete

@@ -1,5 +1,0 @@
-use Rattle.text_commands.proofs.Files.{one_lowered}
-use Rattle.text_commands.proofs.saved.lowers_one.Goals as goal
-
-pub returns : goal.returns
-returns c = one_lowered

@@ -1,5 +1,0 @@
-use Rattle.text_commands.proofs.Files.{read_headline}
-use Rattle.text_commands.proofs.saved.reads_headline.Goals as goal
-
-pub returns : goal.returns
-returns c = read_headline

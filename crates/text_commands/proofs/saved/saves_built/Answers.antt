@@ -1,5 +1,0 @@
-use Rattle.text_commands.proofs.Files.{built_file}
-use Rattle.text_commands.proofs.saved.saves_built.Goals as goal
-
-pub returns : goal.returns
-returns c = built_file

@@ -1,5 +1,0 @@
-use Rattle.text_commands.proofs.Files.{headline_of}
-use Rattle.text_commands.proofs.saved.saves_headline.Goals as goal
-
-pub returns : goal.returns
-returns c = headline_of

@@ -1,0 +1,5 @@
+pub mod Rows
+pub mod TickKinds
+pub mod Counted
+pub mod Once
+pub mod Named

@@ -1,0 +1,15 @@
+pub mod CallScopes
+pub mod NodeScopes
+pub mod OperandScopes
+pub mod OperatorScopes
+pub mod PlaceScopes
+pub mod Broken
+pub mod CallValues
+pub mod Combining
+pub mod Declared
+pub mod NodeValues
+pub mod OperandValues
+pub mod OperatorValues
+pub mod PlaceValues
+pub mod Stages
+pub mod Types

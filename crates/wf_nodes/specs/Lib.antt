@@ -1,0 +1,4 @@
+pub mod Scopes
+pub mod Right
+pub mod Values
+pub mod Used
