@@ -63,11 +63,13 @@ impl Store for MemStore {
     ghost use Rattle.host_edge.specs.Files.{Loads, Saves, SavesFront};
     ghost use Rattle.host_edge.specs.Causes.{LoadHasCause, SaveHasCause};
     ghost use Rattle.memory_edge.specs.Memory.{next_fails, counted, failed};
-    ghost use Rattle.std.specs.Prelude.{true, ◌↔◌, false};
+    ghost use Rattle.std.specs.Prelude.{true, ◌↔◌, false, not};
 
     ghost file = { λ s path. Some (file_at s path) };
 
     ghost faults = { λ s. s.calls.faults };
+
+    ghost steady = { λ s. not (next_fails s.calls) };
 
     fn load(&mut self, path: &str, into: &mut Vec<u8>, limit: usize) -> Result<(), LoadFault>
         ensures bound { vec_len into.new ≤ limit }
@@ -75,6 +77,8 @@ impl Store for MemStore {
         ensures empty { OnErr result (into.new.items ≡ []) }
         ensures same { (q : List ℕ) → Some (file_at self.new q) ≡ Some (file_at self.old q) }
         ensures cause { LoadHasCause self.old.calls.faults self.new.calls.faults result }
+        ensures steady { not (next_fails self.old.calls) ≡ true → (f : List ℕ)
+            → Some (file_at self.old path.now) ≡ Some (Some f) → IsErrOf result LoadFault.Failed → ⊥ }
         ensures failed { IsErrOf result LoadFault.Failed ↔ (load_fails self.old path.now ≡ true) }
         ensures calls { self.new.calls ≡ (if load_fails self.old path.now
             then failed self.old.calls
