@@ -1,6 +1,7 @@
 //! Lowers the function `main` of each accepted text, or each of its functions where the title begins with `all`, and
 //! prints on a line the ops, how many registers these have, the live intervals of the registers, and what an expansion
-//! without any room answers. The program's functions stand 256 bytes apart, from 0x00401000 on.
+//! without any room answers. The program's functions stand 256 bytes apart, from 0x00401000 on, and behind them those
+//! that generate the code of its ticks.
 
 ghost use Rattle.std.specs.Prelude.{◌≡◌, ℕ, List, map};
 ghost use Rattle.icode_ir.specs.declared.builder.Phase.TheVariants.{Finished};
@@ -76,7 +77,7 @@ fn report_functions(
     rt: &HostRuntime,
     title: &str,
     builder: &mut Builder,
-    starts: &[CallAddress],
+    addresses: &Addresses<'_>,
     functions: &[Function],
     main: usize,
 ) -> io::Result<()>
@@ -84,10 +85,9 @@ fn report_functions(
         AreStatic (map function_view functions.now) captures ticks }
 {
     let are_all = title.starts_with("all");
-    let addresses = Addresses::of_functions(starts);
     for number in 0..functions.len() {
         if are_all || number.saturating_add(1) == main {
-            build_ops(rt.alloc(), builder, &addresses, &functions[number])?;
+            build_ops(rt.alloc(), builder, addresses, &functions[number])?;
             report_ops(rt, title, builder.ops(), builder.registers())?;
         }
     }
@@ -101,11 +101,20 @@ fn report_built(
     builder: &mut Builder,
     program: &Typed,
 ) -> io::Result<()> {
-    let starts = starts(rt.alloc(), program.functions().len())?;
+    let (functions, ticks) = (program.functions(), program.ticks());
+    let all = starts(rt.alloc(), functions.len().saturating_add(ticks.len()))?;
+    let (starts, generators) = all.split_at(functions.len().min(all.len()));
     built_is_static();
     program.keeps_law();
     match main_of(program) {
-        Some(main) => report_functions(rt, title, builder, &starts, program.functions(), main),
+        Some(main) => {
+            let addresses = Addresses {
+                starts,
+                generators,
+                ticks,
+            };
+            report_functions(rt, title, builder, &addresses, functions, main)
+        }
         None => println!(rt; "{title}: not built"),
     }
 }
