@@ -9,6 +9,7 @@ use Rattle.typed_tree.specs.View.{function_view}
 use Rattle.staged_meaning.specs.Program.{Tick}
 use Rattle.staged_meaning.specs.Source.{ticks_of}
 use Rattle.static_image.specs.Served.{AreStatic}
+use Rattle.tick_lower.specs.Sized.{AreSized}
 use Rattle.built_programs.specs.Built.{Main, built}
 use Rattle.built_programs.specs.Laws.{MeetsBackend, BuiltIsStatic}
 
@@ -25,3 +26,13 @@ static law program n h e = by (built program) (λ m is. law program m h is) e
         Some n ≡ option_map (λ (m : Main). m.number) o → Static program.functions
     by None meets e = absurd cc
     by (Some m) meets e = let h = meets m refl in (h.captures, ticks_of program, h.static)
+
+-- and its ticks have their sizes
+pub sized : BuiltIsStatic → (program : Typed) (n : ℕ) → IsWellFormed program →
+    Some n ≡ option_map (λ (m : Main). m.number) (built program) → AreSized program.ticks
+sized law program n h e = by (built program) (λ m is. law program m h is) e
+  where
+    by : (o : Option Main) → ((m : Main) → o ≡ Some m → MeetsBackend program m) →
+        Some n ≡ option_map (λ (m : Main). m.number) o → AreSized program.ticks
+    by None meets e = absurd cc
+    by (Some m) meets e = (meets m refl).sized

@@ -16,7 +16,7 @@ use built_programs::{built_is_static, main_of};
 use icode_expand::expand;
 use icode_ir::Builder;
 use icode_liveness::Live;
-use icode_ops::{CallAddress, Interval, Op};
+use icode_ops::{Interval, Op};
 use limits::ops::OP_LIMIT;
 use static_backend::build_ops;
 use std::io;
