@@ -1,8 +1,16 @@
 use Rattle.std.proofs.Common.{rules, subst, sym}
-use Rattle.text_reports.proofs.Ready.{Static, static}
+use Rattle.tick_lower.specs.Sized.{AreSized}
+use Rattle.text_reports.proofs.Ready.{Static, static, sized}
 use Rattle.text_reports.proofs.lowered.report_built.Goals as goal
 
 pub report_functions-requires : goal.report_functions-requires
 report_functions-requires c =
-    subst Static (sym c.functions-in-Some.ensures)
+    subst Static (sym c.functions-functions.ensures)
     (static c.built_is_static.ensures c.args.program.now c.in-Some.main c.keeps_law.ensures (search rules))
+
+pub invariant_of-addresses : goal.invariant_of-addresses
+invariant_of-addresses c = record {
+  sized =
+      subst AreSized (sym c.ticks-ticks.ensures)
+      (sized c.built_is_static.ensures c.args.program.now c.in-Some.main c.keeps_law.ensures (search rules));
+}
