@@ -1,6 +1,5 @@
--- The steps of the staged machine: one op each, and one for each word that a Clear sets. A machine that has ended stays
--- so, and so does one that is stuck. Compile is still to come: what it does stands here, but its op is stuck until
--- then.
+-- The steps of the staged machine: one op each, and one for each word that a Clear sets and for each node that is
+-- compiled. A machine that has ended stays so, and so does one that is stuck.
 use Rattle.std.specs.Prelude.{ℕ, zero, suc, ◌+◌, ◌%◌, Bool, true, false, ◌&&◌, List, [], ◌∷◌, Option, Some, None}
 use Rattle.std.specs.Prelude.{nat_eq, nat_le, nat_lt, if◌then◌else◌, slice_get, length, max, ◌++◌, ◌-◌, ◌*◌}
 use Rattle.word32.specs.Words.{wrap}
@@ -410,6 +409,8 @@ act program (Run run.Parameter to from) frame arguments answer waiting log =
     (specifies (Param (frame.values from)) to frame waiting (paid (Run run.Parameter to from) log))
 act program (Run run.Begin to from) frame arguments answer waiting log =
     Making (Summing (frame.values from) 0) (set to 0 frame) waiting (paid (Run run.Begin to from) log)
+act program (Run run.Compile to from) frame arguments answer waiting log =
+    compile_row program (Run run.Compile to from) to (specification_at (frame.values from) log.shared) frame waiting log
 act program _ frame arguments answer waiting log = Stuck log
 
 -- an op that uses a register that is not set is stuck, and so is a call behind its last op
@@ -426,7 +427,9 @@ advance program (Zeroing more address frame waiting log) =
     zeroed_on more address frame waiting (word_zeroed address log)
 advance program (Making draft frame waiting log) =
     making program (slice_get frame.function.ops frame.index) draft frame waiting log
-advance program (Compiling more syntax to frame waiting log) = Stuck log
+advance program (Compiling zero syntax to frame waiting log) = compiled program syntax to frame waiting log
+advance program (Compiling (suc more) syntax to frame waiting log) =
+    Compiling more syntax to frame waiting (node_paid log)
 advance program (Halted end log) = Halted end log
 advance program (Stuck log) = Stuck log
 
