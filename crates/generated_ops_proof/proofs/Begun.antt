@@ -16,7 +16,10 @@ use Rattle.icode_templates.specs.Expansion.{expansion}
 use Rattle.icode_expand.proofs.Lengths.{length_words}
 use Rattle.icode_expand.proofs.Most.{words_most}
 use Rattle.std.proofs.lemmas.List.{length-append}
-use Rattle.staged_meaning.specs.Program.{syntax_size}
+use Rattle.typed_tree.specs.Nodes as node
+use Rattle.wellformed.specs.Program.{IsProgram}
+use Rattle.staged_meaning.specs.Program.{Program, syntax_size}
+use Rattle.tick_lower_spec.specs.Lower.{Addresses}
 use Rattle.tick_lower_spec.specs.Specifications.{specification_ops}
 use Rattle.icode_templates_proof.specs.Closures.{Closure}
 use Rattle.closures_proof.specs.Relation.{Text, IsOf, AllStandFor}
@@ -32,11 +35,12 @@ use Rattle.compile_routine.specs.Laws.{return_ops, arena_address, frame_bytes}
 use Rattle.tick_captures_proof.proofs.Once.{splices_once}
 use Rattle.generator_spec.proofs.Lowered.{lowered}
 use Rattle.generator_spec.specs.FittingLaws.{ticks_of, program_pieces}
+use Rattle.generator_spec.specs.Kinds.{HasTicks}
 use Rattle.generated_ops_proof.specs.Room.{HasRoom, more_ops, more_operands, more_bodies, more_variables, more_labels}
 use Rattle.generated_ops_proof.specs.Room.{more_registers}
 use Rattle.generated_ops_proof.specs.Room.{in_all}
 use Rattle.generated_ops_proof.specs.Answers.{leaves}
-use Rattle.generated_ops_proof.specs.Laws.{OwnsLabels, IsFew, values, SpecificationsAreFew}
+use Rattle.generated_ops_proof.specs.Laws.{IsMade, IsNamed, OwnsLabels, IsFew, values, SpecificationsAreFew}
 use Rattle.generated_ops_proof.specs.Laws.{BegunBuildersTakeAll, SpecificationsAreIssuedToBegun, BuildersAreFinished}
 use Rattle.generated_ops_proof.specs.Laws.{WordsAreWithin}
 use Rattle.generated_ops_proof.proofs.Steps.{Above, less, step}
@@ -198,6 +202,22 @@ finished_by : (b : Build) (at most frame : ℕ) → is_done b ≡ true → is_ar
     → is_frame frame b.registers ≡ true → finish_refusal b at most frame ≡ None
 finished_by b at most frame done range frame_is = rw (done, range, frame_is) refl
 
+-- a register for each of the specification's at most
+pub few_registers : (p : node.Program) (accepted : IsProgram p) (addresses : Addresses) (program : Program)
+    (syntax : Syntax) (parameters : ℕ) (v : Bool) → program.ticks ≡ ticks_of p → HasTicks accepted.captures syntax
+    → (built_of (specification_ops addresses (ticks_of p) syntax ++ return_ops v) (empty parameters)).registers
+    ≤ 12 * syntax_size program syntax
+few_registers p accepted addresses program syntax parameters v ticks known =
+    let first : List BuildOp = specification_ops addresses (ticks_of p) syntax in
+    let few = specifications_few p accepted addresses program syntax ticks known in
+    omega (
+      arith,
+      registers_grow (first ++ return_ops v) (empty parameters),
+      in_both more_registers first (return_ops v),
+      no_register v,
+      few.registers,
+    )
+
 pub builders_finished : BuildersAreFinished
 builders_finished p accepted addresses program syntax parameters place ticks is named small room =
     let v : Bool = leaves (ticks_of p) syntax in
@@ -206,15 +226,13 @@ builders_finished p accepted addresses program syntax parameters place ticks is 
     let ops : List BuildOp = first ++ return_ops v in
     let b : Build = empty parameters in
     let all = begun_take_all p accepted addresses program syntax parameters ticks is named small in
-    let few = specifications_few p accepted addresses program syntax ticks is.ticks in
     let after : Build = built_of ops b in
     let done : is_done after ≡ true =
     ap (λ z. z && is_empty after.bodies) (none_left after.operands all.operands)
     ∙ none_left after.bodies (ap length all.bodies) in
-    let registers : after.registers ≤ 12 * size =
-    omega (arith, registers_grow ops b, in_both more_registers first (return_ops v), no_register v, few.registers) in
     finished_by after (place_address place) (arena_words size) (frame_bytes size) done (range_there size place room)
-    (frame_there size after.registers small registers)
+    (frame_there size after.registers small
+    (few_registers p accepted addresses program syntax parameters v ticks is.ticks))
 
 -- ---- the words of what is finished
 
@@ -228,8 +246,12 @@ finished_length : (b : Build) → length (finished b) ≡ length b.prelude + len
 finished_length b =
     omega (arith, length-append (b.prelude ++ b.ops) (op.ReturnZero ∷ []), length-append b.prelude b.ops)
 
-pub words_within : WordsAreWithin
-words_within p accepted addresses program syntax parameters choice address frame ticks is named small =
+pub few_ops : (p : node.Program) (accepted : IsProgram p) (addresses : Addresses) (program : Program)
+    (syntax : Syntax) (parameters : ℕ) → program.ticks ≡ ticks_of p → IsMade p accepted syntax
+    → IsNamed syntax (empty parameters) → syntax_size program syntax ≤ SIZE_LIMIT
+    → length (finished (built_of (specification_ops addresses (ticks_of p) syntax
+    ++ return_ops (leaves (ticks_of p) syntax)) (empty parameters))) ≤ 12 * syntax_size program syntax
+few_ops p accepted addresses program syntax parameters ticks is named small =
     let v : Bool = leaves (ticks_of p) syntax in
     let first : List BuildOp = specification_ops addresses (ticks_of p) syntax in
     let ops : List BuildOp = first ++ return_ops v in
@@ -243,6 +265,13 @@ words_within p accepted addresses program syntax parameters choice address frame
     let whole : after ≡ built_of (return_ops v) mid = built_both first (return_ops v) b in
     let grown : length after.prelude + length after.ops ≤ length mid.prelude + length mid.ops + 1 =
     omega (arith, ap (λ z. length z.prelude + length z.ops) whole, return_grows v mid) in
+    omega (arith, built.grown.ops, few.ops, grown, finished_length after)
+
+pub words_within : WordsAreWithin
+words_within p accepted addresses program syntax parameters choice address frame ticks is named small =
+    let v : Bool = leaves (ticks_of p) syntax in
+    let after : Build = built_of (specification_ops addresses (ticks_of p) syntax ++ return_ops v)
+    (empty parameters) in
     let most = words_most (finished after) choice.places address frame 0 true in
     let words = length_words (expansion (finished after) choice.places address frame 0 true) in
-    omega (arith, built.grown.ops, few.ops, grown, finished_length after, most, words)
+    omega (arith, few_ops p accepted addresses program syntax parameters ticks is named small, most, words)

@@ -29,8 +29,8 @@ use Rattle.mips_model.specs.CodeServices.{finish_refusal, words_of}
 use Rattle.compile_routine.specs.Places.{place_address}
 use Rattle.compile_routine.specs.Laws.{return_ops, arena_address, frame_bytes}
 use Rattle.generated_ops_proof.specs.Answers.{leaves, HasAnswers}
-use Rattle.generated_ops_proof.specs.Keys.{upto, zeroes, unmentioned, HasKey, told, firsts, AreDistinct, AreOnce}
-use Rattle.generated_ops_proof.specs.Keys.{low_keys}
+use Rattle.generated_ops_proof.specs.Keys.{upto, zeroes, unmentioned, HasKey}
+pub use Rattle.generated_ops_proof.specs.Keys.{SetsKeys}
 
 -- each label that stands is one of a body that was entered
 abbrev pub OwnsLabels : Build → Type 0
@@ -190,17 +190,7 @@ KeysAreMentioned =
     → HasTicks accepted.captures syntax → is_among key (keys_of syntax) ≡ true
     → HasKey key (built_of (specification_ops addresses (ticks_of p) syntax) b).keys
 
--- What a builder has mentioned is what a specification names, each once, and its prelude sets the variables among it:
--- as many as a call of the function spends units for.
-pub record SetsKeys (syntax : Syntax) (b : Build) : Type 0 where
-  pub prelude : b.prelude ≡ told b.keys
-  pub distinct : AreDistinct b.keys
-  pub registers : AreOnce b.keys
-  pub parameters : low_keys b.keys ≤ MOST_ARGUMENTS
-  pub named : (key : ℕ) → is_among key (keys_of syntax) ≡ true → is_among key (firsts b.keys) ≡ true
-  pub no_more : (key : ℕ) → is_among key (firsts b.keys) ≡ true → is_among key (keys_of syntax) ≡ true
-  pub locals : length (zeroes b.prelude) ≡ locals_of syntax
-
+-- What a builder has mentioned is what a specification names, each once, and its prelude sets the variables among it.
 abbrev pub PreludesSetKeys : Type 0
 PreludesSetKeys =
     (p : node.Program) (accepted : IsProgram p) (addresses : Addresses) (syntax : Syntax) (parameters : ℕ)

@@ -5,3 +5,4 @@ mod Standing
 pub mod Wholes
 pub mod Issued
 mod Words
+pub mod Alike

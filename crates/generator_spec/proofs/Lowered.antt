@@ -33,13 +33,13 @@ module _ (addresses : Addresses) (ticks : List TickOf) where
   abbrev pieces : ℕ → List Piece
   pieces number = pieces_at addresses (slice_get ticks number)
 
-  tick_at : (captures : Captures) (go : ℕ → List BuildOp) (number : ℕ) (o : Option TickOf) → slice_get ticks number ≡ o
+  pub tick_at : (captures : Captures) (go : ℕ → List BuildOp) (number : ℕ) (o : Option TickOf) → slice_get ticks number ≡ o
       → pieces_ops captures go (pieces_at addresses o) ≡ tick_ops (filled captures go) addresses o
   tick_at captures go number None e = refl
   tick_at captures go number (Some tick) e = (tick_same addresses (filled captures go) tick).same
 
   -- ops do not depend on which of two equal rows the splices come from
-  spliced : (captures : Captures) (go by : ℕ → List BuildOp) (ps : List Piece) → ((i : ℕ) → go i ≡ by i) →
+  pub spliced : (captures : Captures) (go by : ℕ → List BuildOp) (ps : List Piece) → ((i : ℕ) → go i ≡ by i) →
       pieces_ops captures go ps ≡ pieces_ops captures by ps
   spliced captures go by [] same = refl
   spliced captures go by (p ∷ ps) same =

@@ -60,6 +60,19 @@ ticks_of p = map tick_of_body p.ticks
 abbrev pub program_pieces : Addresses → node.Program → ℕ → List Piece
 program_pieces addresses p n = pieces_at addresses (slice_get (ticks_of p) n)
 
+-- the pieces of each tick are the same
+abbrev pub PiecesAreAlike : node.Program → Addresses → Addresses → Type 0
+PiecesAreAlike p d e = (n : ℕ) → program_pieces d p n ≡ program_pieces e p n
+
+-- A tick of an accepted text makes no specification, so its lowering asks where functions stand, and nothing else: the
+-- pieces of ticks are the same wherever functions stand alike, and so are the ops of specifications.
+pub record TicksCallAlone : Type 0 where
+  pub pieces : (p : node.Program) (accepted : IsProgram p) (d e : Addresses) →
+      ((f : ℕ) → d.function_at f ≡ e.function_at f) → PiecesAreAlike p d e
+  pub ops : (p : node.Program) (accepted : IsProgram p) (d e : Addresses) →
+      ((f : ℕ) → d.function_at f ≡ e.function_at f) → (syntax : Syntax) →
+      specification_ops d (ticks_of p) syntax ≡ specification_ops e (ticks_of p) syntax
+
 -- The arguments of the ops of each tick's pieces are words, where those of each tick that the typed tree has are: of
 -- one that isn't there, there are no pieces. Whoever has written the function of each tick has the premise from the
 -- clause `fits` of the call that wrote it.

@@ -4,7 +4,7 @@
 
 ghost use Rattle.generator_spec.specs.Laws.{NodesHavePieces, PiecesAreLowering, SpecificationsAreLowered};
 ghost use Rattle.generator_spec.specs.FittingLaws.{CapturesKeepKinds, LoweringsAreIssued, SyntaxesAreWhole};
-ghost use Rattle.generator_spec.specs.FittingLaws.{TicksFit, TicksHaveWords};
+ghost use Rattle.generator_spec.specs.FittingLaws.{TicksCallAlone, TicksFit, TicksHaveWords};
 
 /// The pieces of a tick, with what was captured in their holes, are its lowering.
 pub fn pieces_are_lowering()
@@ -40,6 +40,11 @@ pub fn captures_keep_kinds()
 /// That the arguments of the ops of every number's pieces are words, where those of each tick of the typed tree are.
 pub fn ticks_have_words()
     ensures { TicksHaveWords }
+{}
+
+/// That the lowering of a tick of an accepted text, and of a specification, asks where functions stand, and nothing else.
+pub fn ticks_call_alone()
+    ensures { TicksCallAlone }
 {}
 
 /// That the machine, at the function of a tick of an accepted text, issues exactly the ops of the lowering of the

@@ -1,19 +1,21 @@
 -- Which variables are in scope: those of the blocks that are entered. A checked tree uses no other. And which nodes
--- have a meaning so far: further kinds join as further cases.
-use Rattle.std.specs.Prelude.{ℕ, ◌≡◌, ◌%◌, ◌≤◌, Bool, true, false, List}
+-- stand in code that has captures of some kinds.
+use Rattle.std.specs.Prelude.{ℕ, ◌≡◌, ◌%◌, ◌≤◌, Bool, true, false, List, [], slice_get, Option, Some, None}
 use Rattle.word32.specs.Space.{update}
 use Rattle.typed_tree.specs.declared.expression.CaptureKind.{CaptureKind}
-use Rattle.typed_tree.specs.Nodes.{Expr, Const, Var, SetVar, PostVar, VSet, Load, Store, Modify, Post, Bin, Un, And, Or}
-use Rattle.typed_tree.specs.Nodes.{Cond, Comma, Void, Call, CallNumber, Lib, Tick, Capture, Compile, Local, ParamOf}
-use Rattle.typed_tree.specs.Nodes.{Args}
-use Rattle.typed_tree.specs.Nodes.{NoArg, Arg, Stmt, Eval, Block, Variable, Parameter, If, IfElse, While, Do, For}
-use Rattle.typed_tree.specs.Nodes.{ForStep, Switch, Case, Default, Break, Continue, Return, ReturnValue, Getchar}
-use Rattle.typed_tree.specs.Nodes.{Frame, Object, ParameterObject, Items, NoItem, Item, Function}
+use Rattle.typed_tree.specs.declared.expression.CaptureKind.TheVariants as kind
+use Rattle.typed_tree.specs.declared.expression.CapturedWord.{CapturedWord}
+use Rattle.typed_tree.specs.declared.expression.CapturedWord.TheVariants as word
+use Rattle.typed_tree.specs.Nodes.{Expr, Captured, Var, SetVar, PostVar, VGet, VSet, VPost, Load, Store, Modify, Post}
+use Rattle.typed_tree.specs.Nodes.{Bin, Un, And, Or, Cond, Comma, Void, Call, CallNumber, Lib, Tick, Capture, Splice}
+use Rattle.typed_tree.specs.Nodes.{Compile, ParamOf, Args, NoArg, Arg, Stmt, Eval, Block, Variable, Parameter, If}
+use Rattle.typed_tree.specs.Nodes.{IfElse, While, Do, For, ForStep, Switch, ReturnValue, Items, NoItem, Item, Function}
 use Rattle.staged_meaning.specs.Size.{size_of, variables_in}
+use Rattle.staged_meaning.specs.Program.{Tick as TickOf, OfExpression, OfStatement}
 use Rattle.staged_meaning.specs.Calls.{HasCallsStmt}
 use Rattle.staged_meaning.specs.Frames.{HasFramesStmt}
 use Rattle.staged_meaning.specs.Ticks.{AreCaptures, HasTicksStmt}
-use Rattle.staged_meaning.specs.Placed.{IsPlaced, IsHeaded, outside}
+use Rattle.staged_meaning.specs.Placed.{IsPlaced, IsHeaded, outside, below}
 use Rattle.staged_meaning.specs.Values.{UsesValuesStmt}
 use Rattle.limits.specs.declared.program.TheConstants.{FRAME_OBJECT_BYTES, MOST_ARGUMENTS, SIZE_LIMIT}
 
@@ -85,71 +87,74 @@ abbrev mutual
   AreScopedItems scope NoItem = Unit {0}
   AreScopedItems scope (Item s items) = IsScopedStmt scope s × AreScopedItems (scope_of s scope) items
 
--- The nodes of a tree are of the kinds that are built so far, and a tick is given captures. No function has those that
--- stand in generated code, and compile is still to come.
+-- ---- nodes and what is captured
+
+-- the kind of the capture that a captured word is
+abbrev pub kind_of_word : CapturedWord → CaptureKind
+kind_of_word word.Dollar = kind.Dollar
+kind_of_word word.Address = kind.Address
+
+-- The capture of this number is of this kind, where a tick captures these; a function of the text captures none.
+abbrev pub HasCapture : List CaptureKind → (capture : ℕ) → CaptureKind → Type 0
+HasCapture kinds i k = slice_get kinds i ≡ Some k
+
+-- Each node that names a capture names one of its kind, and a tick is given captures.
 abbrev mutual
-  pub IsBuilt : Expr → Type 0
-  IsBuilt (Const word) = Unit {0}
-  IsBuilt (Var i) = Unit {0}
-  IsBuilt (SetVar i a) = IsBuilt a
-  IsBuilt (PostVar i width step) = Unit {0}
-  IsBuilt (Frame offset) = Unit {0}
-  IsBuilt (Load width a) = IsBuilt a
-  IsBuilt (Store width a b) = IsBuilt a × IsBuilt b
-  IsBuilt (Modify width k a b) = IsBuilt a × IsBuilt b
-  IsBuilt (Post width step a) = IsBuilt a
-  IsBuilt (Bin k a b) = IsBuilt a × IsBuilt b
-  IsBuilt (Un k a) = IsBuilt a
-  IsBuilt (And a b) = IsBuilt a × IsBuilt b
-  IsBuilt (Or a b) = IsBuilt a × IsBuilt b
-  IsBuilt (Cond c a b) = IsBuilt c × IsBuilt a × IsBuilt b
-  IsBuilt (Comma a b) = IsBuilt a × IsBuilt b
-  IsBuilt (Void a) = IsBuilt a
-  IsBuilt (Call answer f args) = AreBuilt args
-  IsBuilt (CallNumber answer a args) = IsBuilt a × AreBuilt args
-  IsBuilt Getchar = Unit {0}
-  IsBuilt (Lib library a) = IsBuilt a
-  IsBuilt (Tick tick args) = AreCaptures args × AreBuilt args
-  IsBuilt (Capture kind a) = IsBuilt a
-  IsBuilt Local = Unit {0}
-  IsBuilt (ParamOf a) = IsBuilt a
-  IsBuilt _ = ⊥
+  pub IsBuilt : List CaptureKind → Expr → Type 0
+  IsBuilt kinds (Captured w i) = HasCapture kinds i (kind_of_word w)
+  IsBuilt kinds (VGet i) = HasCapture kinds i kind.Variable
+  IsBuilt kinds (VSet i a) = HasCapture kinds i kind.Variable × IsBuilt kinds a
+  IsBuilt kinds (VPost i step) = HasCapture kinds i kind.Variable
+  IsBuilt kinds (Splice answer i) = HasCapture kinds i (kind.Splice answer)
+  IsBuilt kinds (SetVar i a) = IsBuilt kinds a
+  IsBuilt kinds (Load width a) = IsBuilt kinds a
+  IsBuilt kinds (Store width a b) = IsBuilt kinds a × IsBuilt kinds b
+  IsBuilt kinds (Modify width k a b) = IsBuilt kinds a × IsBuilt kinds b
+  IsBuilt kinds (Post width step a) = IsBuilt kinds a
+  IsBuilt kinds (Bin k a b) = IsBuilt kinds a × IsBuilt kinds b
+  IsBuilt kinds (Un k a) = IsBuilt kinds a
+  IsBuilt kinds (And a b) = IsBuilt kinds a × IsBuilt kinds b
+  IsBuilt kinds (Or a b) = IsBuilt kinds a × IsBuilt kinds b
+  IsBuilt kinds (Cond c a b) = IsBuilt kinds c × IsBuilt kinds a × IsBuilt kinds b
+  IsBuilt kinds (Comma a b) = IsBuilt kinds a × IsBuilt kinds b
+  IsBuilt kinds (Void a) = IsBuilt kinds a
+  IsBuilt kinds (Call answer f args) = AreBuilt kinds args
+  IsBuilt kinds (CallNumber answer a args) = IsBuilt kinds a × AreBuilt kinds args
+  IsBuilt kinds (Lib library a) = IsBuilt kinds a
+  IsBuilt kinds (Tick tick args) = AreCaptures args × AreBuilt kinds args
+  IsBuilt kinds (Capture k a) = IsBuilt kinds a
+  IsBuilt kinds (Compile a) = IsBuilt kinds a
+  IsBuilt kinds (ParamOf a) = IsBuilt kinds a
+  IsBuilt kinds _ = Unit {0}
 
-  pub AreBuilt : Args → Type 0
-  AreBuilt NoArg = Unit {0}
-  AreBuilt (Arg a args) = IsBuilt a × AreBuilt args
+  pub AreBuilt : List CaptureKind → Args → Type 0
+  AreBuilt kinds NoArg = Unit {0}
+  AreBuilt kinds (Arg a args) = IsBuilt kinds a × AreBuilt kinds args
 
 abbrev mutual
-  pub IsBuiltStmt : Stmt → Type 0
-  IsBuiltStmt (Eval e) = IsBuilt e
-  IsBuiltStmt (Block variables items) = AreBuiltItems variables × AreBuiltItems items
-  IsBuiltStmt (Variable i) = Unit {0}
-  IsBuiltStmt (Object offset words) = Unit {0}
-  IsBuiltStmt (Parameter k width) = Unit {0}
-  IsBuiltStmt (ParameterObject k width offset) = Unit {0}
-  IsBuiltStmt (If e s) = IsBuilt e × IsBuiltStmt s
-  IsBuiltStmt (IfElse e s t) = IsBuilt e × IsBuiltStmt s × IsBuiltStmt t
-  IsBuiltStmt (While e s) = IsBuilt e × IsBuiltStmt s
-  IsBuiltStmt (Do s e) = IsBuiltStmt s × IsBuilt e
-  IsBuiltStmt (For e s) = IsBuilt e × IsBuiltStmt s
-  IsBuiltStmt (ForStep e step s) = IsBuilt e × IsBuilt step × IsBuiltStmt s
-  IsBuiltStmt (Switch e variables items) = IsBuilt e × AreBuiltItems variables × AreBuiltItems items
-  IsBuiltStmt (Case value) = Unit {0}
-  IsBuiltStmt Default = Unit {0}
-  IsBuiltStmt Break = Unit {0}
-  IsBuiltStmt Continue = Unit {0}
-  IsBuiltStmt Return = Unit {0}
-  IsBuiltStmt (ReturnValue e) = IsBuilt e
+  pub IsBuiltStmt : List CaptureKind → Stmt → Type 0
+  IsBuiltStmt kinds (Eval e) = IsBuilt kinds e
+  IsBuiltStmt kinds (Block variables items) = AreBuiltItems kinds variables × AreBuiltItems kinds items
+  IsBuiltStmt kinds (If e s) = IsBuilt kinds e × IsBuiltStmt kinds s
+  IsBuiltStmt kinds (IfElse e s t) = IsBuilt kinds e × IsBuiltStmt kinds s × IsBuiltStmt kinds t
+  IsBuiltStmt kinds (While e s) = IsBuilt kinds e × IsBuiltStmt kinds s
+  IsBuiltStmt kinds (Do s e) = IsBuiltStmt kinds s × IsBuilt kinds e
+  IsBuiltStmt kinds (For e s) = IsBuilt kinds e × IsBuiltStmt kinds s
+  IsBuiltStmt kinds (ForStep e step s) = IsBuilt kinds e × IsBuilt kinds step × IsBuiltStmt kinds s
+  IsBuiltStmt kinds (Switch e variables items) =
+      IsBuilt kinds e × AreBuiltItems kinds variables × AreBuiltItems kinds items
+  IsBuiltStmt kinds (ReturnValue e) = IsBuilt kinds e
+  IsBuiltStmt kinds _ = Unit {0}
 
-  pub AreBuiltItems : Items → Type 0
-  AreBuiltItems NoItem = Unit {0}
-  AreBuiltItems (Item s items) = IsBuiltStmt s × AreBuiltItems items
+  pub AreBuiltItems : List CaptureKind → Items → Type 0
+  AreBuiltItems kinds NoItem = Unit {0}
+  AreBuiltItems kinds (Item s items) = IsBuiltStmt kinds s × AreBuiltItems kinds items
 
--- A function whose nodes are built, use the variables that are in scope and the values that are left, and stand where
--- they may. It has at most so many nodes as a program that is accepted may have in a function, and its variables are
--- numbered from 0, each declared by a node.
+-- A function that names no capture, uses the variables that are in scope and the values that are left, and whose
+-- statements stand where they may. It has at most so many nodes as a program that is accepted may have in a function,
+-- and its variables are numbered from 0, each declared by a node.
 pub record IsReady (function : Function) : Type 0 where
-  pub built : IsBuiltStmt function.body
+  pub built : IsBuiltStmt [] function.body
   pub scoped : IsScopedStmt no_scope function.body
   pub values : UsesValuesStmt function.body
   pub placed : IsPlaced outside function.body
@@ -167,3 +172,26 @@ pub record IsReadyIn (functions : List Function) (ticks : List (List CaptureKind
   pub few : function.parameters ≤ MOST_ARGUMENTS
   pub short : function.object ≤ FRAME_OBJECT_BYTES
   pub whole : function.object % 4 ≡ 0
+
+-- what stands behind a backquote, as a statement
+abbrev pub statement_of : TickOf → Stmt
+statement_of (OfExpression e) = Eval e
+statement_of (OfStatement s) = s
+
+-- A tick in such a program that captures these kinds: it names no other capture, has neither parameters nor frame
+-- objects, and fits the functions and ticks as a function does.
+pub record IsReadyTick (functions : List Function) (ticks : List (List CaptureKind)) (kinds : List CaptureKind)
+    (tick : TickOf) : Type 0 where
+  pub built : IsBuiltStmt kinds (statement_of tick)
+  pub scoped : IsScopedStmt no_scope (statement_of tick)
+  pub values : UsesValuesStmt (statement_of tick)
+  pub placed : IsPlaced (below outside) (statement_of tick)
+  pub calls : HasCallsStmt functions (statement_of tick)
+  pub ticks_are : HasTicksStmt ticks (statement_of tick)
+  pub frames : HasFramesStmt 0 (statement_of tick)
+
+-- one that is there
+abbrev pub IsReadyTickAt : List Function → (ticks : List (List CaptureKind)) → (kinds : List CaptureKind) →
+    Option TickOf → Type 0
+IsReadyTickAt functions ticks kinds None = ⊥
+IsReadyTickAt functions ticks kinds (Some tick) = IsReadyTick functions ticks kinds tick

@@ -1,5 +1,5 @@
 -- The ticks in a body: each is one of the program's, with a capture for each kind that this one captures, in their
--- order. A capture stands nowhere else, and no node names one.
+-- order. A capture stands nowhere else.
 use Rattle.std.specs.Prelude.{◌≡◌, ℕ, List, Some, slice_get}
 use Rattle.typed_tree.specs.declared.expression.CaptureKind.{CaptureKind}
 use Rattle.typed_tree.specs.Nodes as node
@@ -16,11 +16,7 @@ abbrev mutual
   -- each tick in an expression captures what the tick of its number does, where these are the captures of all ticks
   pub HasTicks : List (List CaptureKind) → Expr → Type 0
   HasTicks ticks (node.SetVar i e) = HasTicks ticks e
-  HasTicks ticks (node.VSet i e) = ⊥
-  HasTicks ticks (node.Captured w i) = ⊥
-  HasTicks ticks (node.VGet i) = ⊥
-  HasTicks ticks (node.VPost i step) = ⊥
-  HasTicks ticks (node.Splice answer i) = ⊥
+  HasTicks ticks (node.VSet i e) = HasTicks ticks e
   HasTicks ticks (node.Load w e) = HasTicks ticks e
   HasTicks ticks (node.Store w e f) = HasTicks ticks e × HasTicks ticks f
   HasTicks ticks (node.Modify w k e f) = HasTicks ticks e × HasTicks ticks f
