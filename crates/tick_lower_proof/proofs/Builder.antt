@@ -1,7 +1,9 @@
 -- What the builder's ops issue, seen from the top of its stack: the place of the next op, the operands, the next
 -- register, and the bodies. How this stands for the builder itself is a lemma of its own.
-use Rattle.std.proofs.Common.{◌≡◌, ℕ, zero, suc, ◌+◌, ◌<◌, ◌≤◌, List, [], ◌∷◌, ◌++◌, Some, refl, ap, ◌∙◌, arith}
+use Rattle.std.proofs.Common.{◌≡◌, ◌⊎◌, ℕ, zero, suc, ◌+◌, ◌<◌, ◌≤◌, List, [], ◌∷◌, ◌++◌, Option, Some, None, refl, ap}
+use Rattle.std.proofs.Common.{◌∙◌, arith}
 use Rattle.std.specs.Prelude.{slice_get}
+use Rattle.icode_ir.specs.Build.{find, or_next}
 use Rattle.icode_ops.specs.declared.op.Op.{Op}
 use Rattle.icode_ops.specs.declared.op.Op.TheVariants as op
 use Rattle.icode_ops.specs.declared.kind.BinKind.{BinKind}
@@ -12,7 +14,8 @@ use Rattle.icode_ir.specs.declared.build_op.BuildOp.TheVariants.{Const, Bin, Un,
 use Rattle.icode_ir.specs.declared.build_op.BuildOp.TheVariants.{Drop, Pick, Nip, Load, Store, Label, Jump, BranchZero}
 use Rattle.icode_ir.specs.declared.build_op.BuildOp.TheVariants.{BranchNonzero, Return, ReturnZero, Sys, Run}
 use Rattle.icode_ir.specs.declared.build_op.BuildOp.TheVariants.{FrameAddress, Clear, Parameter, Call, CallNumber, New}
-use Rattle.icode_ir.specs.declared.build_op.BuildOp.TheVariants.{Put}
+use Rattle.icode_ir.specs.declared.build_op.BuildOp.TheVariants.{Put, GetSpec, SetSpec}
+use Rattle.tick_lower_spec.specs.Keys.{IsNone}
 
 pub record View : Type 0 where
   pub place : ℕ
@@ -22,6 +25,8 @@ pub record View : Type 0 where
   -- innermost first
   pub bodies : List Body
   pub labels : ℕ
+  -- the keys that were mentioned, in that order, with their registers
+  pub keys : List (ℕ × ℕ)
 
 abbrev pub top : List ℕ → ℕ
 top [] = 0
@@ -87,6 +92,18 @@ abbrev pub passed_ops : ℕ → List ℕ → List Op
 passed_ops k [] = []
 passed_ops k (r ∷ rs) = op.Argument k r ∷ passed_ops (suc k) rs
 
+-- the register that a key has or gets; the next register behind it, and the keys with it
+abbrev pub register_of : ℕ → View → ℕ
+register_of key v = or_next (find key v.keys) v.next
+
+abbrev pub next_behind : Option ℕ → ℕ → ℕ
+next_behind (Some r) next = next
+next_behind None next = next + 1
+
+abbrev pub keys_with : Option ℕ → (key next : ℕ) → List (ℕ × ℕ) → List (ℕ × ℕ)
+keys_with (Some r) key next keys = keys
+keys_with None key next keys = keys ++ (key, next) ∷ []
+
 -- the ops that a builder's op issues
 abbrev pub issued : BuildOp → View → List Op
 issued (Const word) v = op.Const v.next word ∷ []
@@ -114,6 +131,8 @@ issued Return v = op.Return (top v.operands) ∷ []
 issued (Sys kind) v = op.Sys kind v.next (top v.operands) ∷ []
 issued (New address kind captures) v = op.New v.next address kind captures ∷ []
 issued (Put i) v = op.Put i (top v.operands) ∷ []
+issued (GetSpec key) v = op.Move (next_behind (find key v.keys) v.next) (register_of key v) ∷ []
+issued (SetSpec key) v = op.Move (register_of key v) (top v.operands) ∷ []
 issued _ v = []
 
 -- a new operand under one op at a place, and one op with these operands left
@@ -157,7 +176,17 @@ after_op (Enter n m) v = record v {
 after_op Leave v = record v { bodies = outer v.bodies }
 after_op (New address kind captures) v = pushed v.place v.operands v
 after_op (Put i) v = with_operands (below v.operands) v
-after_op _ v = v
+after_op (GetSpec key) v = record v {
+  place = suc v.place;
+  operands = next_behind (find key v.keys) v.next ∷ v.operands;
+  next = next_behind (find key v.keys) v.next + 1;
+  keys = keys_with (find key v.keys) key v.next v.keys;
+}
+after_op (SetSpec key) v = record v {
+  place = suc v.place;
+  next = next_behind (find key v.keys) v.next;
+  keys = keys_with (find key v.keys) key v.next v.keys;
+}
 
 abbrev pub after_ops : List BuildOp → View → View
 after_ops [] v = v
@@ -168,19 +197,59 @@ abbrev pub Has : List Op → ℕ → List Op → Type 0
 Has code p [] = Unit {0}
 Has code p (o ∷ os) = (slice_get code p ≡ Some o) × Has code (suc p) os
 
--- what the builder issues for its ops stands in the code where the builder is
-abbrev pub Stands : List Op → List BuildOp → View → Type 0
-Stands code [] v = Unit {0}
-Stands code (o ∷ os) v = Has code v.place (issued o v) × Stands code os (after_op o v)
+-- and this besides
+abbrev pub HasAnd : Type 0 → List Op → ℕ → List Op → Type 0
+HasAnd more code p [] = more
+HasAnd more code p (o ∷ os) = (slice_get code p ≡ Some o) × HasAnd more code (suc p) os
 
-pub stands_front : (code : List Op) (xs ys : List BuildOp) (v : View) → Stands code (xs ++ ys) v → Stands code xs v
-stands_front code [] ys v h = tt
-stands_front code (o ∷ xs) ys v h = (h.0, stands_front code xs ys (after_op o v) h.1)
+pub has_of : (more : Type 0) (code : List Op) (p : ℕ) (os : List Op) → HasAnd more code p os → Has code p os
+has_of more code p [] h = tt
+has_of more code p (o ∷ os) h = (h.0, has_of more code (suc p) os h.1)
 
-pub stands_back : (code : List Op) (xs ys : List BuildOp) (v : View) → Stands code (xs ++ ys) v →
-    Stands code ys (after_ops xs v)
-stands_back code [] ys v h = h
-stands_back code (o ∷ xs) ys v h = stands_back code xs ys (after_op o v) h.1
+pub besides : (more : Type 0) (code : List Op) (p : ℕ) (os : List Op) → HasAnd more code p os → more
+besides more code p [] h = h
+besides more code p (o ∷ os) h = besides more code (suc p) os h.1
+
+pub has_and : (more : Type 0) (code : List Op) (p : ℕ) (os : List Op) → Has code p os → more → HasAnd more code p os
+has_and more code p [] h m = m
+has_and more code p (o ∷ os) h m = (h.0, has_and more code (suc p) os h.1 m)
+
+-- no key has this register
+abbrev pub NotKey : List (ℕ × ℕ) → ℕ → Type 0
+NotKey keys x = IsNone x keys
+
+-- a key has this register
+abbrev pub Among : List (ℕ × ℕ) → (key register : ℕ) → Type 0
+Among [] key register = ⊥
+Among (m ∷ keys) key register = ((m.0 ≡ key) × (m.1 ≡ register)) ⊎ Among keys key register
+
+-- The registers that an op takes are none that a key has; and the key that one mentions has its register.
+abbrev pub Apart : List (ℕ × ℕ) → BuildOp → View → Type 0
+Apart keys (GetSpec key) v =
+    Among keys key (register_of key v) × NotKey keys (next_behind (find key v.keys) v.next)
+Apart keys (SetSpec key) v = Among keys key (register_of key v)
+Apart keys o v = (x : ℕ) → v.next ≤ x → x < (after_op o v).next → NotKey keys x
+
+-- What the builder issues for its ops stands in the code where the builder is, which has these keys in the end.
+abbrev pub Stands : List Op → List (ℕ × ℕ) → List BuildOp → View → Type 0
+Stands code keys [] v = Unit {0}
+Stands code keys (o ∷ os) v =
+    HasAnd (Apart keys o v) code v.place (issued o v) × Stands code keys os (after_op o v)
+
+-- The registers that the ops take are none that a key has.
+abbrev pub AreApart : List (ℕ × ℕ) → List BuildOp → View → Type 0
+AreApart keys [] v = Unit {0}
+AreApart keys (o ∷ os) v = Apart keys o v × AreApart keys os (after_op o v)
+
+pub stands_front : (code : List Op) (keys : List (ℕ × ℕ)) (xs ys : List BuildOp) (v : View) →
+    Stands code keys (xs ++ ys) v → Stands code keys xs v
+stands_front code keys [] ys v h = tt
+stands_front code keys (o ∷ xs) ys v h = (h.0, stands_front code keys xs ys (after_op o v) h.1)
+
+pub stands_back : (code : List Op) (keys : List (ℕ × ℕ)) (xs ys : List BuildOp) (v : View) →
+    Stands code keys (xs ++ ys) v → Stands code keys ys (after_ops xs v)
+stands_back code keys [] ys v h = h
+stands_back code keys (o ∷ xs) ys v h = stands_back code keys xs ys (after_op o v) h.1
 
 pub after_append : (xs ys : List BuildOp) (v : View) → after_ops (xs ++ ys) v ≡ after_ops ys (after_ops xs v)
 after_append [] ys v = refl

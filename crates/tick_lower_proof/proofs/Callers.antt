@@ -15,27 +15,33 @@ use Rattle.staged_meaning.specs.Scope.{Scope, AreScoped}
 use Rattle.staged_meaning.specs.World.{World, Result, then_do, spend}
 use Rattle.staged_meaning.specs.Expressions.{left_by}
 use Rattle.staged_meaning.specs.Meaning.{eval, eval_args}
-use Rattle.meaning_state.specs.Rows.{numbered}
+use Rattle.meaning_state.specs.Rows.{numbered, parameters_of}
 use Rattle.staged_meaning.specs.Calls.{IsCallee}
 use Rattle.icode_meaning.specs.Costs.{least_of, most_of}
 use Rattle.icode_meaning.specs.State.{Program, Frame, State, Running, Stuck, Log, nothing, argued}
-use Rattle.icode_meaning.specs.Steps.{paid, moved_on, uses_on, act, checked, call_at, back}
+use Rattle.icode_meaning.specs.Steps.{paid, moved_on, uses_on, act, checked, call_at, back, enter, function_for}
+use Rattle.icode_meaning.specs.Steps.{with_event}
 use Rattle.tick_lower_proof.specs.Laws.{row_for, HasProgram}
 use Rattle.tick_lower_spec.specs.Lower.{Addresses, expr_filled, args_filled, dropping_call}
-use Rattle.tick_lower_proof.proofs.Machine.{Goes, goes_more, Here, Regs, frame_at, put, put_same, IsSet}
+use Rattle.tick_lower_proof.proofs.Machine.{Goes, goes_more, Here, Regs, frame_at, put, IsSet}
 use Rattle.tick_lower_proof.proofs.Stacks.{IsSound}
 use Rattle.tick_lower_proof.proofs.Builder.{View, top, taken, dropped, passed_ops, after_op, after_ops, after_append}
-use Rattle.tick_lower_proof.proofs.Builder.{Has, Stands, stands_front, stands_back, picked}
+use Rattle.tick_lower_proof.proofs.Builder.{Has, Stands, stands_front, stands_back, picked, NotKey, Apart, has_of}
+use Rattle.tick_lower_proof.proofs.Builder.{besides}
+use Rattle.tick_lower_proof.proofs.Builder.{issued}
 use Rattle.tick_lower_proof.proofs.Pushes.{valued_brings}
 use Rattle.tick_lower_proof.proofs.Follow.{From, Later, Follows, follows_then, then_follows, follows_from}
-use Rattle.tick_lower_proof.proofs.Registers.{AreVars, Within, AreHeld, put_vars, held_above, AreBetween}
+use Rattle.tick_lower_proof.proofs.Registers.{AreVars, Within, AreHeld, put_vars, held_above, AreBetween, is_set}
+use Rattle.tick_lower_proof.proofs.Registers.{AreKeys, Keeps, held_new, keys_put, keeps_put}
 use Rattle.tick_lower_proof.proofs.Standing.{base_of, Site, floor_of, Fits, At, IsBack, Leaves, ExprRuns, Part, at_less}
 use Rattle.tick_lower_proof.proofs.Standing.{at_from, back_from, later_at, stands_at, spend_run, value_run, IsOutset}
 use Rattle.tick_lower_proof.proofs.Exprs.{one_run}
 use Rattle.tick_lower_proof.proofs.Standing.{outset_later, outset_at}
 use Rattle.typed_tree.specs.declared.expression.CaptureKind.{CaptureKind}
 use Rattle.limits.specs.declared.program.TheConstants.{SIZE_LIMIT}
-use Rattle.staged_meaning.specs.Program.{Program as Source, tick_size}
+use Rattle.staged_meaning.specs.Program.{Program as Source, tick_size, Generated, callee_at}
+use Rattle.history.specs.Syntax.{Syntax}
+use Rattle.tick_lower_spec.specs.Generated.{IsGenerated}
 
 -- operands that were pushed in this order lie on others, and so do values in their registers
 abbrev pub onto : List ℕ → List ℕ → List ℕ
@@ -93,18 +99,20 @@ AreSet r (a ∷ rs) [] = ⊥
 AreSet r (a ∷ rs) (x ∷ xs) = IsSet r a x × AreSet r rs xs
 
 -- of a stack on which they were pushed
-pub held_under : (r : Regs) (rs xs : List ℕ) (stack : List (ℕ × ℕ)) → AreHeld r (paired rs xs stack) → AreHeld r stack
-held_under r [] xs stack h = h
-held_under r (a ∷ rs) [] stack h = h
-held_under r (a ∷ rs) (x ∷ xs) stack h = (held_under r rs xs ((a, x) ∷ stack) h).1
+pub held_under : (keys : List (ℕ × ℕ)) (r : Regs) (rs xs : List ℕ) (stack : List (ℕ × ℕ)) →
+    AreHeld keys r (paired rs xs stack) → AreHeld keys r stack
+held_under keys r [] xs stack h = h
+held_under keys r (a ∷ rs) [] stack h = h
+held_under keys r (a ∷ rs) (x ∷ xs) stack h = (held_under keys r rs xs ((a, x) ∷ stack) h).1
 
-pub held_set : (r : Regs) (rs xs : List ℕ) (stack : List (ℕ × ℕ)) → length xs ≡ length rs → AreHeld r
-    (paired rs xs stack) →
-    AreSet r rs xs
-held_set r [] xs stack e h = tt
-held_set r (a ∷ rs) [] stack e h = absurd (omega (arith, e))
-held_set r (a ∷ rs) (x ∷ xs) stack e h =
-    ((held_under r rs xs ((a, x) ∷ stack) h).0, held_set r rs xs ((a, x) ∷ stack) (omega (arith, e)) h)
+pub held_set : (keys : List (ℕ × ℕ)) (r : Regs) (rs xs : List ℕ) (stack : List (ℕ × ℕ)) → length xs ≡ length rs →
+    AreHeld keys r (paired rs xs stack) → AreSet r rs xs
+held_set keys r [] xs stack e h = tt
+held_set keys r (a ∷ rs) [] stack e h = absurd (omega (arith, e))
+held_set keys r (a ∷ rs) (x ∷ xs) stack e h = (
+  is_set (held_under keys r rs xs ((a, x) ∷ stack) h).0,
+  held_set keys r rs xs ((a, x) ∷ stack) (omega (arith, e)) h,
+)
 
 -- one op, whatever was passed and answered before it
 pub any_op : {P : Program} {s : State} (f : Here) (p : ℕ) (r : Regs) (arguments : ℕ → Option ℕ) (answer : Option ℕ)
@@ -189,7 +197,7 @@ abbrev pub ArgsRun : Site → Scope → Args → Type 0
 ArgsRun site scope args =
     AreScoped scope args → (l t : ℕ) → site.named ≤ t → t + temps_in_args args ≤ site.size →
     (v : View) (stack : List (ℕ × ℕ)) → Fits site v stack →
-    Stands site.call.function.ops (args_filled site.holes site.addresses args l t) v →
+    Stands site.call.function.ops site.keys (args_filled site.holes site.addresses args l t) v →
     (from : From) (spare credit : ℕ) (w : World) → IsOutset site from →
     At site from scope v.place stack spare credit 0 w →
     Follows site.machine from
@@ -228,13 +236,14 @@ module _ (site : Site) (scope : Scope) (inside : Within scope site.named) where
       let V = ArgsLeave site from scope v v2 stack spare credit (suc n) in
       subst (λ y. Follows site.machine from (ArgsLeave site from scope v y stack spare credit (suc n)) B
       (eval_args site.context (Arg a args) w)) (sym (after_append ao ro v))
-      (one_run site scope inside a part is ok.0 l t st (omega arith) v stack fits (stands_front code ao ro v at) from
+      (one_run site scope inside a part is ok.0 l t st (omega arith) v stack fits (stands_front code site.keys ao ro v
+      at) from
       spare credit w lt z V _
       (λ x w1 fits1 h.
       follows_then site.machine from (ArgsLeave site from scope v1 v2 ((r, x) ∷ stack) (spare + 1) (credit + 128) n) V B
       (eval_args site.context args w1) _
       (run ok.1 (l + labels_in a) (t + temps_in a) (omega arith) (omega arith) v1 ((r, x) ∷ stack) fits1
-      (stands_back code ao ro v at) from (spare + 1) (credit + 128) w1 lt h)
+      (stands_back code site.keys ao ro v at) from (spare + 1) (credit + 128) w1 lt h)
       (λ vs w2 y. record {
         registers = r ∷ y.registers;
         many = ap suc y.many;
@@ -252,19 +261,29 @@ pub record Answered (P : Program) (from : From) (waiting : List Frame) (w0 : Wor
   pub goes : Goes P from.state (back x waiting log)
   pub shared_is : log.shared ≡ w.shared
   pub variables_are : w.variables ≡ w0.variables
+  pub generated_are : w.generated ≡ w0.generated
   pub fewer : w.units ≤ from.units
   pub low : from.units + from.log.least + 1 ≤ w.units + log.least
   pub high : log.most + 512 * w.units ≤ from.log.most + 512 * from.units + 64
 
--- Calls of functions of the text with fewer units than a limit are followed, from the state behind their op: an
--- instruction of it stands for the call's unit, and it may have cost 128 beyond what the units so far allow. The
--- rows of the machine are those of the program's functions, and it has the program.
+-- Calls of functions with fewer units than a limit are followed, of those of the text and of those that were compiled,
+-- from the state behind their op: an instruction of it stands for the call's unit, and it may have cost 128 beyond what
+-- the units so far allow. The rows of the machine are those of the program's functions, and it has the program.
 pub record CallsFollow (P : Program) (d : Addresses) (program : Source) (ticks : List (List CaptureKind))
     (call : ℕ → List ℕ → World → Result ℕ) (limit : ℕ) : Type 0 where
   pub by : (from : From) (o : Op) (number : ℕ) (vs : List ℕ) (w : World) (frame : Frame) (waiting : List Frame)
-      (g : Log) → IsCallee program.functions number (length vs) → w.units < limit → IsSound P from.state →
+      (g : Log) → IsCallee program.functions number (length vs) → w.units < limit → IsSound P d ticks from.state →
       g.shared ≡ w.shared →
       Goes P from.state (call_at o (P.function_at (d.function_at number)) frame (argued_all 0 vs nothing) waiting g) →
+      w.units ≤ from.units → from.units + from.log.least + 1 ≤ w.units + g.least + least_of o →
+      g.most + most_of o + 512 * w.units ≤ from.log.most + 512 * from.units + 128 →
+      Follows P from (Answered P from (moved_on frame ∷ waiting) w) (λ x w1. ⊥) (call number vs w)
+  pub compiled : (from : From) (o : Op) (number address : ℕ) (syntax : Syntax) (vs : List ℕ) (w : World)
+      (frame : Frame) (waiting : List Frame) (g : Log) →
+      callee_at program w.shared.bodies number ≡ Some (Generated syntax) → IsGenerated d ticks syntax →
+      parameters_of syntax ≡ length vs → w.units < limit → IsSound P d ticks from.state → g.shared ≡ w.shared →
+      Goes P from.state
+      (enter (function_for P syntax address) frame (argued_all 0 vs nothing) waiting (with_event number (paid o g))) →
       w.units ≤ from.units → from.units + from.log.least + 1 ≤ w.units + g.least + least_of o →
       g.most + most_of o + 512 * w.units ≤ from.log.most + 512 * from.units + 128 →
       Follows P from (Answered P from (moved_on frame ∷ waiting) w) (λ x w1. ⊥) (call number vs w)
@@ -293,6 +312,8 @@ module _ (site : Site) (scope : Scope) (inside : Within scope site.named)
       let under : At site from scope (suc p) stack 3 0 84 w =
       record {
         regs = z.regs;
+        keys = z.keys;
+        kept = z.kept;
         log = z.log;
         goes = z.goes;
         vars = z.vars;
@@ -323,24 +344,30 @@ module _ (site : Site) (scope : Scope) (inside : Within scope site.named)
   -- an answer that came back is taken into register d, and what the answer says is left
   pub take_answer : (later : From) (a : Answer) (p d x : ℕ) (v : View) (stack : List (ℕ × ℕ)) (regs : Regs)
       (w1 w2 : World) → slice_get site.call.function.ops (suc p) ≡ Some (op.Result d) → floor_of site ≤ d →
-      AreBetween (floor_of site) d stack → AreHeld regs stack → AreVars (base_of site.bodies) scope regs w1.variables →
+      NotKey site.keys d → AreBetween (floor_of site) d stack → AreHeld site.keys regs stack →
+      AreVars (base_of site.bodies) scope regs w1.variables → AreKeys site.keys regs w1.generated →
+      Keeps site.outer (base_of site.bodies) site.keys regs →
       Answered site.machine later (moved_on (frame_at site.call p regs) ∷ site.call.waiting) w1 x w2 →
       v.place ≡ suc (suc p) → top v.operands ≡ d →
       Follows site.machine later (Leaves (rule.is_value a) site later scope (after_ops (dropping_call a) v) stack 0 0)
       (IsBack site later) (spend (left_by a x) w2)
-  take_answer later a p d x v stack regs w1 w2 here free below held vars b e f =
+  take_answer later a p d x v stack regs w1 w2 here free apart below held vars keys kept b e f =
       let sn = site.few in
       let base = base_of site.bodies in
       let go = any_op site.call (suc p) regs nothing (Some x) b.log (op.Result d) b.goes here refl in
       let vars2 : AreVars base scope regs w2.variables =
       subst (AreVars base scope regs) (sym b.variables_are) vars in
+      let keys2 : AreKeys site.keys regs w2.generated =
+      subst (AreKeys site.keys regs) (sym b.generated_are) keys in
       answer_run later a (suc p) d x v stack w2 e f
       (record {
         regs = put d x regs;
         log = paid (op.Result d) b.log;
         goes = go;
         vars = put_vars d x base site.named scope regs w2.variables inside (omega (arith, free)) vars2;
-        held = (put_same d x regs, held_above d x (floor_of site) regs stack below held);
+        held = (held_new site.keys d x regs apart, held_above site.keys d x (floor_of site) regs stack below held);
+        keys = keys_put d x site.keys regs w2.generated apart keys2;
+        kept = keeps_put d x base site.keys site.outer regs (omega (arith, free)) kept;
         shared_is = b.shared_is;
         fewer = b.fewer;
         low = omega (arith, b.low);
@@ -363,7 +390,7 @@ module _ (site : Site) (scope : Scope) (inside : Within scope site.named)
       let later : From = outset_at site v.place z.regs z.log w.units in
       let l1 = later_at site from scope v.place stack spare credit w z in
       let lt1 = outset_later site from later spare credit l1 lt in
-      let z0 = stands_at site scope v.place stack z.regs z.log w z.vars z.held z.shared_is in
+      let z0 = stands_at site scope v.place stack z.regs z.log w z.vars z.held z.keys z.kept z.shared_is in
       let b = rule.is_value a in
       let end = after_ops (dropping_call a) v2 in
       let V = Leaves b site later scope end stack 0 0 in
@@ -375,8 +402,13 @@ module _ (site : Site) (scope : Scope) (inside : Within scope site.named)
       (back_from site from later spare credit l1)
       (follows_then P later (ArgsLeave site later scope v v1 stack 0 0 n) V (IsBack site later) (eval_args c args w)
       (λ vs w1. then_do (c.call number vs w1) (λ x w2. spend (left_by a x) w2))
-      (run ok l t st tn v stack fits (stands_front code ao co v at) later 0 0 w lt1 z0)
-      (λ vs w1 y. called later n address here_is v v1 vs w1 lt1 (stands_back code ao co v at).0 y)))
+      (run ok l t st tn v stack fits (stands_front code site.keys ao co v at) later 0 0 w lt1 z0)
+      (λ vs w1 y.
+      let o = build.Call address n in
+      let here = (stands_back code site.keys ao co v at).0 in
+      called later n address here_is v v1 vs w1 lt1
+      (has_of (Apart site.keys o v1) code v1.place (issued o v1) here)
+      (besides (Apart site.keys o v1) code v1.place (issued o v1) here v1.next (omega arith) (omega arith)) y)))
     where
       called : (later : From) (n address : ℕ) → IsCallee site.context.program.functions number n → (v v1 : View)
           (vs : List ℕ) (w1 : World) →
@@ -384,12 +416,12 @@ module _ (site : Site) (scope : Scope) (inside : Within scope site.named)
           Has site.call.function.ops v1.place
           (passed_ops 0 (taken n v1.operands []) ++ op.Call (site.addresses.function_at number) ∷ op.Result v1.next ∷
           [])
-          → ArgsLeave site later scope v v1 stack 0 0 n vs w1 →
+          → NotKey site.keys v1.next → ArgsLeave site later scope v v1 stack 0 0 n vs w1 →
           Follows site.machine later
           (Leaves (rule.is_value a) site later scope
           (after_ops (dropping_call a) (after_op (build.Call (site.addresses.function_at number) n) v1)) stack 0 0)
           (IsBack site later) (then_do (site.context.call number vs w1) (λ x w2. spend (left_by a x) w2))
-      called later n address here_is v v1 vs w1 lt has y =
+      called later n address here_is v v1 vs w1 lt has apart y =
           let P = site.machine in
           let c = site.context in
           let f = site.call in
@@ -404,7 +436,7 @@ module _ (site : Site) (scope : Scope) (inside : Within scope site.named)
           let here = subst (λ xs. Has code v1.place (passed_ops 0 xs ++ rest)) taken_is has in
           let same : length vs ≡ length rs = y.values ∙ sym y.many in
           let pass = pass_all P later.state f regs rest rs vs 0 v1.place nothing y.at.log
-          (held_set regs rs vs stack same y.at.held) same here y.at.goes in
+          (held_set site.keys regs rs vs stack same y.at.held) same here y.at.goes in
           let m = pass.0 in
           let p2 = v1.place + length rs in
           let frame = frame_at f p2 regs in
@@ -420,5 +452,5 @@ module _ (site : Site) (scope : Scope) (inside : Within scope site.named)
           (λ x w2 no'. absurd no')
           (λ x w2 b.
           let there : v2.place ≡ suc (suc p2) = omega (arith, y.many) in
-          take_answer later a p2 v1.next x v2 stack regs w1 w2 pass.1.1.0 y.fits.free y.fits.below
-          (held_under regs rs vs stack y.at.held) y.at.vars b there refl)
+          take_answer later a p2 v1.next x v2 stack regs w1 w2 pass.1.1.0 y.fits.free apart y.fits.below
+          (held_under site.keys regs rs vs stack y.at.held) y.at.vars y.at.keys y.at.kept b there refl)

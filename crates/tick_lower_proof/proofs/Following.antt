@@ -4,9 +4,10 @@ use Rattle.tick_lower_proof.specs.Laws.{LoweringFollows}
 use Rattle.tick_lower_proof.proofs.FunctionOps.{has_code}
 use Rattle.tick_lower_proof.proofs.Whole.{follows_at_cost}
 use Rattle.tick_lower_proof.proofs.Calls.{IsCode}
+use Rattle.tick_lower_proof.proofs.CompiledBodies.{bodies_follow}
 
 pub lowering : LoweringFollows
-lowering machine d program ticks input main ready stands held has =
+lowering machine d program ticks input main ready stands held has made =
     follows_at_cost machine d program ticks input main ready.main
     (record {
       at = λ number function is.
@@ -31,4 +32,4 @@ lowering machine d program ticks input main ready stands held has =
     })
     ready.no_parameters
     (subst (IsCode d program.main) (sym stands.ops) (has_code d program.main ready.main.ready)) stands.charge
-    stands.object
+    stands.object (bodies_follow machine d program ticks ready.bodies) made

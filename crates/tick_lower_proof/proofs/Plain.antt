@@ -1,7 +1,6 @@
--- What every run of the plain language keeps: no function is compiled, and the frame objects are within their limit.
+-- What every run keeps: the frame objects are within their limit, and so is the size of each specification.
 use Rattle.std.proofs.Common.{◌≡◌, ℕ, zero, suc, ◌+◌, ◌*◌, ◌/◌, ◌≤◌, List, [], ◌∷◌, Option, Some, None, Bool, true}
-use Rattle.std.proofs.Common.{false, refl}
-use Rattle.std.proofs.Common.{subst, arith}
+use Rattle.std.proofs.Common.{false, refl, subst, arith}
 use Rattle.std.specs.Prelude.{nat_le, nat_eq, if◌then◌else◌, slice_get}
 use Rattle.std.specs.Fn.{iterate}
 use Rattle.std.proofs.lemmas.Bool.{leb-true, and_parts, eqb-true}
@@ -18,15 +17,16 @@ use Rattle.word32.specs.declared.map.TheConstants.{STACK_BYTES}
 use Rattle.meaning_state.specs.Bodies.{Body}
 use Rattle.word32.specs.declared.map.TheConstants.{ARENA}
 use Rattle.meaning_state.specs.Operators.{bin_trap, signed_trap, zero_trap}
-use Rattle.meaning_state.specs.Rows.{closure_trap, index_trap}
-use Rattle.meaning_state.specs.Shared.{Shared, Specification, Local, Param, is_room, malloc, read, access_trap}
+use Rattle.meaning_state.specs.Rows.{closure_trap, index_trap, table_trap, arena_trap, next_function}
+use Rattle.meaning_state.specs.Shared.{Shared, Specification, Expression, Statement, Local, Param, is_room, malloc}
+use Rattle.meaning_state.specs.Shared.{read, access_trap}
 use Rattle.meaning_state.specs.Shared.{are_objects}
 use Rattle.icode_meaning.specs.State.{Function, Program, Frame, State, Running, Zeroing, Halted, Stuck, Log, log_of}
 use Rattle.icode_meaning.specs.Steps.{uses_on, goes_on, moved_on, paid, unless, enter, entered, begun, call_at}
 use Rattle.icode_meaning.specs.Steps.{call_row, untrapped}
 use Rattle.icode_meaning.specs.Steps.{set_from, left, back, take, specifies, zeroing, zeroed_on, word_zeroed, act}
 use Rattle.icode_meaning.specs.Steps.{checked, call_number, call_compiled, function_for, with_event, is_there}
-use Rattle.icode_meaning.specs.Steps.{is_none, syntax_of, sharing}
+use Rattle.icode_meaning.specs.Steps.{is_none, syntax_of, sharing, compiles, compile_row}
 use Rattle.icode_meaning.specs.Steps.{is_right, filled, adds, size_in, checks, news, is_kind, makes, making, set}
 use Rattle.icode_meaning.specs.State.{Making, Compiling, Draft, Summing, Filling}
 use Rattle.std.specs.Prelude.{length, nat_eq, nat_lt, ◌-◌, ◌&&◌, ◌++◌, slice_get}
@@ -44,10 +44,8 @@ use Rattle.icode_meaning.specs.Steps.{advance, address_of}
 use Rattle.tick_lower_proof.proofs.Machine.{Goes}
 use Rattle.tick_lower_proof.proofs.Smalls.{AreSmall, one_small}
 
--- What every run keeps where nothing is compiled: the frame objects are within their limit, and so is the size of each
--- specification.
+-- what every run keeps
 pub record IsPlain (P : Program) (shared : Shared) : Type 0 where
-  pub none_compiled : shared.bodies ≡ []
   pub few_frames : shared.frames ≤ FRAME_OBJECT_BYTES
   pub small : AreSmall P SIZE_LIMIT shared.specifications
 
@@ -81,7 +79,6 @@ module _ (P : Program) where
           IsPlainAt P (unless (if a then (if b then None else Some FrameLimit) else Some StackLimit) g
           (goes_on (begun fn arguments) (moved_on frame ∷ waiting) (entered fn g)))
       by true true q = record {
-        none_compiled = h.none_compiled;
         few_frames = leb-true (g.shared.frames + fn.object) FRAME_OBJECT_BYTES q;
         small = h.small;
       }
@@ -112,7 +109,7 @@ module _ (P : Program) where
 
   left_plain : (fn : Function) (g : Log) → IsPlain P g.shared → IsPlain P (left fn g).shared
   left_plain fn g h =
-      record { none_compiled = h.none_compiled; few_frames = omega (arith, h.few_frames); small = h.small }
+      record { few_frames = omega (arith, h.few_frames); small = h.small }
 
   back_plain : (x : ℕ) (waiting : List Frame) (g : Log) → IsPlain P g.shared → IsPlainAt P (back x waiting g)
   back_plain x [] g h = h
@@ -121,9 +118,9 @@ module _ (P : Program) where
   read_plain : (next : Next) (to : ℕ) (frame : Frame) (waiting : List Frame) (g : Log) → IsPlain P g.shared →
       IsPlainAt P (take (read next g.shared) to frame waiting g)
   read_plain (Given b rest) to frame waiting g h =
-      record { none_compiled = h.none_compiled; few_frames = h.few_frames; small = h.small }
+      record { few_frames = h.few_frames; small = h.small }
   read_plain AtEnd to frame waiting g h =
-      record { none_compiled = h.none_compiled; few_frames = h.few_frames; small = h.small }
+      record { few_frames = h.few_frames; small = h.small }
   read_plain Failing to frame waiting g h = h
 
   malloc_plain : (bytes : ℕ) (shared : Shared) → IsPlain P shared → IsPlain P (malloc bytes shared)
@@ -131,7 +128,7 @@ module _ (P : Program) where
     where
       by : (b : Bool) →
           IsPlain P (if b then (record shared { heap = shared.heap + (bytes + 7) / 8 * 8 }) else shared)
-      by true = record { none_compiled = h.none_compiled; few_frames = h.few_frames; small = h.small }
+      by true = record { few_frames = h.few_frames; small = h.small }
       by false = h
 
   -- a specification more
@@ -139,7 +136,6 @@ module _ (P : Program) where
       size_in P (Some specification) ≤ SIZE_LIMIT → IsPlain P shared →
       IsPlain P (specified specification captures shared)
   specified_plain specification captures shared is h = record {
-    none_compiled = h.none_compiled;
     few_frames = h.few_frames;
     small = one_small P SIZE_LIMIT shared.specifications specification h.small is;
   }
@@ -174,7 +170,7 @@ module _ (P : Program) where
           if_plain (body.live && nat_eq (parameters_of body.syntax) count) _ _
           (enter_plain (function_for P body.syntax (ARENA + 4 * body.first)) frame arguments
           waiting (with_event number (paid o g))
-          (record { none_compiled = h.none_compiled; few_frames = h.few_frames; small = h.small })) h
+          (record { few_frames = h.few_frames; small = h.small })) h
 
   -- ---- while a specification is made
 
@@ -285,6 +281,22 @@ module _ (P : Program) where
       if_plain (uses_on o frame.on) _ (Stuck g) (makes_plain o draft frame waiting g h)
       (drafted_plain draft frame waiting g h)
 
+  -- ---- compile
+
+  compiles_plain : (o : Op) (to : ℕ) (syntax : Syntax) (frame : Frame) (waiting : List Frame) (g : Log) →
+      IsPlain P g.shared → IsPlainAt P (compiles P o to syntax frame waiting g)
+  compiles_plain o to syntax frame waiting g h =
+      let c = Compiling (syntax_size P.source syntax) syntax to frame waiting g in
+      let t2 = arena_trap (syntax_size P.source syntax) g.shared in
+      unless_plain (table_trap (next_function (length P.source.functions) g.shared)) (paid o g)
+      (unless t2 (paid o g) c) h (unless_plain t2 (paid o g) c h h)
+
+  compile_plain : (o : Op) (to : ℕ) (row : Option Specification) (frame : Frame) (waiting : List Frame) (g : Log) →
+      IsPlain P g.shared → IsPlainAt P (compile_row P o to row frame waiting g)
+  compile_plain o to (Some (Expression syntax)) frame waiting g h = compiles_plain o to syntax frame waiting g h
+  compile_plain o to (Some (Statement syntax)) frame waiting g h = compiles_plain o to syntax frame waiting g h
+  compile_plain o to _ frame waiting g h = h
+
   -- one op
   act_plain : (o : Op) (frame : Frame) (arguments : ℕ → Option ℕ) (answer : Option ℕ)
       (waiting : List Frame) (g : Log) → IsPlain P g.shared → IsPlainAt P (act P o frame arguments answer waiting g)
@@ -302,7 +314,7 @@ module _ (P : Program) where
       unless_plain (access_trap (frame.values a) width) (paid (op.Load width to a) g) _ h h
   act_plain (op.Store width a v) frame arguments answer waiting g h =
       unless_plain (access_trap (frame.values a) width) (paid (op.Store width a v) g) _ h
-      (record { none_compiled = h.none_compiled; few_frames = h.few_frames; small = h.small })
+      (record { few_frames = h.few_frames; small = h.small })
   act_plain (op.Clear offset words) frame arguments answer waiting g h =
       if_plain (are_objects (address_of offset frame g) words) _ _
       (zeroing_plain words (address_of offset frame g) frame waiting (paid (op.Clear offset words) g) h) h
@@ -325,9 +337,9 @@ module _ (P : Program) where
       back_plain 0 waiting (left frame.function (paid op.ReturnZero g))
       (left_plain frame.function (paid op.ReturnZero g) h)
   act_plain (op.Sys sys.PutInteger to from) frame arguments answer waiting g h =
-      record { none_compiled = h.none_compiled; few_frames = h.few_frames; small = h.small }
+      record { few_frames = h.few_frames; small = h.small }
   act_plain (op.Sys sys.PutByte to from) frame arguments answer waiting g h =
-      record { none_compiled = h.none_compiled; few_frames = h.few_frames; small = h.small }
+      record { few_frames = h.few_frames; small = h.small }
   act_plain (op.Sys sys.GetByte to from) frame arguments answer waiting g h =
       read_plain (next_byte g.shared.input) to frame waiting (paid (op.Sys sys.GetByte to from) g) h
   act_plain (op.Sys sys.Exit to from) frame arguments answer waiting g h = h
@@ -341,6 +353,8 @@ module _ (P : Program) where
       (omega arith)
       h)
   act_plain (op.Run run.Begin to from) frame arguments answer waiting g h = h
+  act_plain (op.Run run.Compile to from) frame arguments answer waiting g h =
+      compile_plain (op.Run run.Compile to from) to (specification_at (frame.values from) g.shared) frame waiting g h
   act_plain _ frame arguments answer waiting g h = h
 
   checked_plain : (o : Option Op) (frame : Frame) (arguments : ℕ → Option ℕ) (answer : Option ℕ)
@@ -359,10 +373,12 @@ module _ (P : Program) where
       checked_plain (slice_get frame.function.ops frame.index) frame arguments answer waiting g h
   advance_plain (Zeroing more address frame waiting g) h =
       zeroed_plain more address frame waiting (word_zeroed address g)
-      (record { none_compiled = h.none_compiled; few_frames = h.few_frames; small = h.small })
+      (record { few_frames = h.few_frames; small = h.small })
   advance_plain (Making draft frame waiting g) h =
       making_plain (slice_get frame.function.ops frame.index) draft frame waiting g h
-  advance_plain (Compiling more syntax to frame waiting g) h = h
+  advance_plain (Compiling zero syntax to frame waiting g) h =
+      record { few_frames = h.few_frames; small = h.small }
+  advance_plain (Compiling (suc more) syntax to frame waiting g) h = h
   advance_plain (Halted e g) h = h
   advance_plain (Stuck g) h = h
 

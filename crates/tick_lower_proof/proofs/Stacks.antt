@@ -1,7 +1,6 @@
 -- What every run keeps of the frame objects: those of the active calls lie one behind the other, each in whole words.
 use Rattle.std.proofs.Common.{◌≡◌, ℕ, zero, suc, ◌+◌, ◌-◌, ◌*◌, ◌/◌, ◌%◌, List, [], ◌∷◌, Option, Some, None}
-use Rattle.std.proofs.Common.{Bool, true, false, refl}
-use Rattle.std.proofs.Common.{◌∙◌, subst, arith}
+use Rattle.std.proofs.Common.{Bool, true, false, refl, ap, ◌∙◌, subst, arith}
 use Rattle.std.specs.Prelude.{nat_eq, if◌then◌else◌, slice_get}
 use Rattle.std.specs.Fn.{iterate}
 use Rattle.host_edge.specs.declared.ending.TrapKind.{TrapKind}
@@ -15,15 +14,18 @@ use Rattle.icode_ops.specs.declared.kind.RunKind.TheVariants as run
 use Rattle.meaning_state.specs.Bodies.{Body}
 use Rattle.word32.specs.declared.map.TheConstants.{ARENA}
 use Rattle.meaning_state.specs.Operators.{bin_trap, signed_trap, zero_trap}
-use Rattle.meaning_state.specs.Rows.{closure_trap, index_trap}
-use Rattle.meaning_state.specs.Shared.{Shared, Specification, Param, is_room, malloc, read, access_trap}
+use Rattle.meaning_state.specs.Rows.{closure_trap, index_trap, table_trap, arena_trap, next_function}
+use Rattle.meaning_state.specs.Shared.{Shared, Specification, Expression, Statement, Param, is_room, malloc, read}
+use Rattle.meaning_state.specs.Shared.{access_trap}
 use Rattle.meaning_state.specs.Shared.{are_objects, limit_trap}
-use Rattle.icode_meaning.specs.State.{Function, Program, Frame, State, Running, Zeroing, Halted, Stuck, Log}
+use Rattle.icode_meaning.specs.State.{Function, Program, Frame, State, Running, Zeroing, Halted, Stuck, Log, log_of}
 use Rattle.icode_meaning.specs.Steps.{uses_on, paid, unless, enter, call_at, call_row, set_from, left, back, take}
 use Rattle.icode_meaning.specs.Steps.{specifies, zeroing, zeroed_on, word_zeroed, act, checked, advance, address_of}
-use Rattle.tick_lower_proof.proofs.Machine.{Goes}
+use Rattle.tick_lower_spec.specs.Lower.{Addresses}
+use Rattle.tick_lower_spec.specs.Generated.{AreGenerated}
+use Rattle.tick_lower_proof.proofs.Machine.{Goes, after_add}
 use Rattle.tick_lower_proof.proofs.Plain.{IsPlainAt, goes_plain}
-use Rattle.icode_meaning.specs.Steps.{untrapped, set, moved_on}
+use Rattle.icode_meaning.specs.Steps.{untrapped, set, moved_on, compiles, compile_row}
 use Rattle.icode_meaning.specs.Steps.{call_number, call_compiled, function_for, with_event, is_there}
 use Rattle.icode_meaning.specs.Steps.{is_right, filled, adds, size_in, checks, news, is_kind, makes, making}
 use Rattle.icode_meaning.specs.State.{Making, Compiling, Draft, Summing, Filling}
@@ -36,7 +38,7 @@ use Rattle.meaning_state.specs.Rows.{numbered, parameters_of, specification_at, 
 use Rattle.typed_tree.specs.declared.expression.CaptureKind.{CaptureKind}
 use Rattle.typed_tree.specs.declared.expression.CaptureKind.TheVariants as kind
 use Rattle.typed_tree.specs.declared.expression.Answer.TheVariants as answer
-use Rattle.staged_meaning.specs.Program.{is_expression}
+use Rattle.staged_meaning.specs.Program.{is_expression, syntax_size}
 use Rattle.staged_meaning.specs.Specifications.{fits}
 
 -- the frame objects of a machine's functions are whole words
@@ -218,6 +220,23 @@ making_stacked P None draft frame waiting g h = tt
 making_stacked P (Some o) draft frame waiting g h =
     if_stacked (uses_on o frame.on) _ (Stuck g) (makes_stacked P o draft frame waiting g h) tt
 
+-- ---- compile
+
+compiles_stacked : (P : Program) (o : Op) (to : ℕ) (syntax : Syntax) (frame : Frame) (waiting : List Frame)
+    (g : Log) → AreActive (frame ∷ waiting) g.shared → IsStacked (compiles P o to syntax frame waiting g)
+compiles_stacked P o to syntax frame waiting g h =
+    let c = Compiling (syntax_size P.source syntax) syntax to frame waiting g in
+    let t2 = arena_trap (syntax_size P.source syntax) g.shared in
+    unless_stacked (table_trap (next_function (length P.source.functions) g.shared)) (paid o g) (unless t2 (paid o g) c)
+    (unless_stacked t2 (paid o g) c h)
+
+compile_stacked : (P : Program) (o : Op) (to : ℕ) (row : Option Specification) (frame : Frame)
+    (waiting : List Frame) (g : Log) → AreActive (frame ∷ waiting) g.shared →
+    IsStacked (compile_row P o to row frame waiting g)
+compile_stacked P o to (Some (Expression syntax)) frame waiting g h = compiles_stacked P o to syntax frame waiting g h
+compile_stacked P o to (Some (Statement syntax)) frame waiting g h = compiles_stacked P o to syntax frame waiting g h
+compile_stacked P o to _ frame waiting g h = tt
+
 -- one op
 act_stacked : (P : Program) → IsWhole P → (o : Op) (frame : Frame) (arguments : ℕ → Option ℕ) (answer : Option ℕ)
     (waiting : List Frame) (g : Log) → AreActive (frame ∷ waiting) g.shared →
@@ -270,6 +289,8 @@ act_stacked P whole (op.Run run.Parameter to from) frame arguments answer waitin
     (specifies (Param (frame.values from)) to frame waiting (paid (op.Run run.Parameter to from) g))
     (unless_stacked (closure_trap 0 g.shared) (paid (op.Run run.Parameter to from) g) _ h)
 act_stacked P whole (op.Run run.Begin to from) frame arguments answer waiting g h = h
+act_stacked P whole (op.Run run.Compile to from) frame arguments answer waiting g h =
+    compile_stacked P (op.Run run.Compile to from) to (specification_at (frame.values from) g.shared) frame waiting g h
 act_stacked P whole _ frame arguments answer waiting g h = tt
 
 checked_stacked : (P : Program) → IsWhole P → (o : Option Op) (frame : Frame) (arguments : ℕ → Option ℕ)
@@ -291,7 +312,8 @@ advance_stacked P whole (Zeroing more address frame waiting g) h =
     zeroed_stacked more address frame waiting (word_zeroed address g) h
 advance_stacked P whole (Making draft frame waiting g) h =
     making_stacked P (slice_get frame.function.ops frame.index) draft frame waiting g h
-advance_stacked P whole (Compiling more syntax to frame waiting g) h = tt
+advance_stacked P whole (Compiling zero syntax to frame waiting g) h = h
+advance_stacked P whole (Compiling (suc more) syntax to frame waiting g) h = h
 advance_stacked P whole (Halted e g) h = tt
 advance_stacked P whole (Stuck g) h = tt
 
@@ -307,10 +329,19 @@ pub objects_whole : (frames : List Frame) → AreWhole frames → objects_of fra
 objects_whole [] h = refl
 objects_whole (frame ∷ frames) h = omega (arith, h.0, objects_whole frames h.1)
 
--- what is kept by every run of the plain language
-pub record IsSound (P : Program) (s : State) : Type 0 where
+-- What is kept by every run, where the ticks capture this: of each function that is compiled from here on, the code is
+-- generated.
+pub record IsSound (P : Program) (d : Addresses) (ticks : List (List CaptureKind)) (s : State) : Type 0 where
   pub plain : IsPlainAt P s
   pub stacked : IsStacked s
+  pub generated : (i : ℕ) → AreGenerated d ticks (log_of (iterate (advance P) i s)).shared.bodies
 
-pub goes_sound : {P : Program} {s t : State} → IsWhole P → Goes P s t → IsSound P s → IsSound P t
-goes_sound whole go h = record { plain = goes_plain go h.plain; stacked = goes_stacked whole go h.stacked }
+pub goes_sound : {P : Program} {d : Addresses} {ticks : List (List CaptureKind)} {s t : State} → IsWhole P →
+    Goes P s t → IsSound P d ticks s → IsSound P d ticks t
+goes_sound {P} {d} {ticks} {s} {t} whole go h = record {
+  plain = goes_plain go h.plain;
+  stacked = goes_stacked whole go h.stacked;
+  generated = λ i.
+      subst (λ u. AreGenerated d ticks (log_of u).shared.bodies)
+      (after_add P go.steps i s ∙ ap (iterate (advance P) i) go.comes) (h.generated (go.steps + i));
+}

@@ -1,7 +1,7 @@
 -- The machine follows the ops of a tick, once the captured words stand in registers: from the constant of the tick's
 -- size to the last word that is put.
 use Rattle.std.proofs.Common.{◌≡◌, ◌≢◌, ℕ, suc, ◌+◌, ◌*◌, ◌<◌, ◌≤◌, List, [], ◌∷◌, length, Option, Some, None}
-use Rattle.std.proofs.Common.{Bool, true, false, refl, sym, ap, ◌∙◌, subst, arith}
+use Rattle.std.proofs.Common.{inl, inr, Bool, true, false, refl, sym, ap, ◌∙◌, subst, arith}
 use Rattle.std.specs.Prelude.{slice_get, ◌&&◌, if◌then◌else◌, nat_eq, max}
 use Rattle.meaning_state.specs.Rows as keys
 use Rattle.std.proofs.lemmas.Bool.{eq-eqb}
@@ -29,6 +29,7 @@ use Rattle.tick_lower_proof.proofs.Builder.{Has}
 use Rattle.tick_lower_proof.proofs.Smalls.{AreSmall}
 use Rattle.tick_lower_proof.proofs.Makings.{checks_in}
 use Rattle.tick_lower_proof.proofs.Ticks.{AreSet, set_on, check_ops, put_ops, sizes, widths}
+use Rattle.tick_lower_proof.proofs.Ticks.{Beside, beside_less, beside_other}
 use Rattle.tick_lower_proof.proofs.Ticks.{Checked, check_all, make_op, put_all, sizes_are, widths_are}
 
 -- all ops, with registers from `next` on
@@ -52,6 +53,17 @@ kind_right false n m e = eq-eqb n m e
 zero_max : (m : ℕ) → max 0 m ≡ m
 zero_max m = omega arith
 
+-- a register beside two
+not_two : (n y : ℕ) → Beside n (n + 2) y → (y ≢ n) × (y ≢ n + 1)
+not_two n y (inl h) =
+    let a : y ≢ n = omega (arith, h) in
+    let b : y ≢ n + 1 = omega (arith, h) in
+    (a, b)
+not_two n y (inr h) =
+    let a : y ≢ n = omega (arith, h) in
+    let b : y ≢ n + 1 = omega (arith, h) in
+    (a, b)
+
 -- the specification is there
 pub record IsMade (P : Program) (from : From) (f : Here) (rest : List Op) (below least most : ℕ) (r : Regs)
     (shared : Shared) (x n0 p0 : ℕ) : Type 0 where
@@ -65,7 +77,7 @@ pub record IsMade (P : Program) (from : From) (f : Here) (rest : List Op) (below
   pub register_is : register ≡ n0
   pub place_is : place ≡ p0
   pub number : IsSet regs register x
-  pub same : (y : ℕ) → y < below → IsSame r regs y
+  pub same : (y : ℕ) → Beside below (suc register) y → IsSame r regs y
   pub shared_is : log.shared ≡ shared
   pub low : least ≤ log.least
   pub high : log.most ≤ most
@@ -112,7 +124,7 @@ module _ (P : Program) (from : From) (f : Here) (tick address most : ℕ) (w : W
   -- the closure is made, and gets its words
   news_run : (rs vs : List ℕ) (below n p size parameters : ℕ) (r0 r : Regs) (g0 g : Log) (rest : List Op) →
       length rs ≡ length kinds → length vs ≡ length kinds → below ≤ n → AreSet n r rs vs →
-      ((y : ℕ) → y < below → IsSame r0 r y) → g.shared ≡ w.shared →
+      ((y : ℕ) → Beside below n y → IsSame r0 r y) → g.shared ≡ w.shared →
       captures_trap w.shared.specifications kinds vs ≡ None → size ≡ syntax_size P.source (syntax vs) →
       parameters ≡ parameters_of (syntax vs) →
       Has f.function.ops p (op.New n address (kind_of_tick value) (length kinds) ∷ put_ops 0 rs rest) →
@@ -184,8 +196,9 @@ module _ (P : Program) (from : From) (f : Here) (tick address most : ℕ) (w : W
             register_is = refl;
             place_is = let e = m.place_is in omega (arith, e);
             number = put_same n x r;
-            same = λ y lt. let ne : y ≢ n = omega (arith, lt, le) in
-                same_on r0 r r1 y (same y lt) (put_other n x y r ne);
+            same = λ y beside.
+                same_on r0 r r1 y (same y (beside_less below n y beside))
+                (put_other n x y r (beside_other below n y le beside));
             shared_is = ap (λ z. specified (specification_of value (syntax_of P tick vs z)) (length vs) z) shared1;
             low = omega (arith, m.low, low);
             high = omega (arith, m.high, high, e1);
@@ -217,8 +230,8 @@ module _ (P : Program) (from : From) (f : Here) (tick address most : ℕ) (w : W
       by (captures_trap w.shared.specifications kinds vs) refl
       (check_all P from.state f w.shared.specifications most small then_ops rs vs kinds rs vs e1 e2 own 0 n (n + 2)
       (suc (suc p)) r r2 g2 (omega arith) k2 k2
-      (λ y lt. let a : y ≢ n = omega (arith, lt) in let b : y ≢ n + 1 = omega (arith, lt) in
-      same_on r r1 r2 y (put_other n own y r a) (put_other (n + 1) 0 y r1 b))
+      (λ y beside. same_on r r1 r2 y (put_other n own y r (not_two n y beside).0)
+      (put_other (n + 1) 0 y r1 (not_two n y beside).1))
       (ap (λ z. z.specifications) shared_is) few has.1.1 go3)
     where
       by : (t : Option TrapKind) → captures_trap w.shared.specifications kinds vs ≡ t →

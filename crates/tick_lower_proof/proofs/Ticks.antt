@@ -1,8 +1,7 @@
 -- The ops of a tick on the staged machine: from the one that begins to the last that puts a word. They make the
 -- specification that the meaning makes, or they end the run with its first trap.
 use Rattle.std.proofs.Common.{◌≡◌, ◌≢◌, ℕ, zero, suc, ◌+◌, ◌*◌, ◌<◌, ◌≤◌, List, [], ◌∷◌, ◌++◌, length, Option, Some}
-use Rattle.std.proofs.Common.{None}
-use Rattle.std.proofs.Common.{Bool, true, false, refl, sym, ap, ◌∙◌, subst, arith}
+use Rattle.std.proofs.Common.{None, ◌⊎◌, inl, inr, Bool, true, false, refl, sym, ap, ◌∙◌, subst, arith}
 use Rattle.std.specs.Prelude.{slice_get, ◌&&◌, if◌then◌else◌, nat_lt, max}
 use Rattle.host_edge.specs.declared.ending.Ending.TheVariants.{Trap}
 use Rattle.host_edge.specs.declared.ending.TrapKind.{TrapKind}
@@ -85,6 +84,18 @@ widths rows (k ∷ kinds) (v ∷ words) parameters =
     widths rows kinds words (widened (check_run k) (numbered v rows) parameters)
 widths rows _ words parameters = parameters
 
+-- a register that is below the first of some that are set, or above the last
+abbrev pub Beside : (first behind x : ℕ) → Type 0
+Beside first behind x = (x < first) ⊎ (behind ≤ x)
+
+pub beside_less : (first behind x : ℕ) → Beside first (suc behind) x → Beside first behind x
+beside_less first behind x (inl h) = inl h
+beside_less first behind x (inr h) = inr (omega (arith, h))
+
+pub beside_other : (first behind x : ℕ) → first ≤ behind → Beside first (suc behind) x → x ≢ behind
+beside_other first behind x le (inl h) = let ne : x ≢ behind = omega (arith, h, le) in ne
+beside_other first behind x le (inr h) = let ne : x ≢ behind = omega (arith, h) in ne
+
 -- what the checks come to, by the trap of the captures
 pub record Summed (P : Program) (s : State) (f : Here) (code : List Op) (rest : ℕ → List Op) (size parameters : ℕ)
     (registers values : List ℕ) (below : ℕ) (r : Regs) (g : Log) (most n0 p0 count : ℕ) : Type 0 where
@@ -98,7 +109,7 @@ pub record Summed (P : Program) (s : State) (f : Here) (code : List Op) (rest : 
   pub has : Has code place (rest next)
   pub above : below ≤ next
   pub set : AreSet next regs registers values
-  pub same : (x : ℕ) → x < below → IsSame r regs x
+  pub same : (x : ℕ) → Beside below next x → IsSame r regs x
   pub shared_is : log.shared ≡ g.shared
   pub low : g.least ≤ log.least
   pub high : log.most ≤ g.most + most
@@ -242,7 +253,7 @@ module _ (P : Program) (s : State) (f : Here) (rows : List Specification) (most 
   abbrev CheckAll : List CaptureKind → (rs vs : List ℕ) → Type 0
   CheckAll kinds rs vs =
       (size parameters below next p : ℕ) (r0 r : Regs) (g : Log) → below ≤ next → AreSet next r rs vs →
-      AreSet next r ars avs → ((x : ℕ) → x < below → IsSame r0 r x) → g.shared.specifications ≡ rows →
+      AreSet next r ars avs → ((x : ℕ) → Beside below next x → IsSame r0 r x) → g.shared.specifications ≡ rows →
       size + most * length kinds < 4294967296 → Has f.function.ops p (check_ops kinds rs next rest) →
       Goes P s (Making (Summing size parameters) (frame_at f p r) f.waiting g) →
       Checked (captures_trap rows kinds vs) P s f f.function.ops rest (sizes P rows kinds vs size)
@@ -313,8 +324,8 @@ module _ (P : Program) (s : State) (f : Here) (rows : List Specification) (most 
           (max parameters (parameters_in (numbered v rows))) below (suc next) (suc p) r0 (put next 0 r) (paid o g)
           (omega (arith, le)) (set_on next next 0 r rs vs (omega arith) set.2)
           (set_on next next 0 r ars avs (omega arith) all)
-          (λ x lt. let ne : x ≢ next = omega (arith, lt, le1) in
-          same_on r0 r (put next 0 r) x (same x lt) (put_other next 0 x r ne))
+          (λ x beside. same_on r0 r (put next 0 r) x (same x (beside_less below next x beside))
+          (put_other next 0 x r (beside_other below next x le1 beside)))
           is (omega (arith, few, low)) has.1 one)
       by deeper (Some routine) false has one =
           record {

@@ -16,7 +16,9 @@ use Rattle.icode_meaning.specs.State.{Making, Compiling}
 use Rattle.icode_meaning.specs.State.{ending_of, see, least_at, most_at}
 use Rattle.icode_meaning.specs.Steps.{left, advance, first, counted}
 use Rattle.tick_lower_spec.specs.Lower.{Addresses}
+use Rattle.tick_lower_spec.specs.Generated.{AreGenerated}
 use Rattle.tick_lower_proof.proofs.Machine.{Goes, goes_none, Here}
+use Rattle.tick_lower_proof.proofs.Claims.{BodiesFollow}
 use Rattle.tick_lower_proof.proofs.Follow.{From, Follows, EndsAt, IsRunning, follows_then}
 use Rattle.tick_lower_proof.proofs.Standing.{IsBack}
 use Rattle.tick_lower_proof.proofs.Calls.{IsCode, site, call_run}
@@ -30,7 +32,10 @@ module _ (P : Program) (d : Addresses) (program : meaning.Program) (ticks : List
     (input : Input) (main : Function) (ready : IsReadyIn program.functions ticks program.main)
     (held : AreHeld P d program ticks)
     (no_parameters : program.main.parameters ≡ 0) (code : IsCode d program.main main.ops)
-    (charge_is : main.charge ≡ charge_of (size_of program.main)) (object_is : main.object ≡ program.main.object) where
+    (charge_is : main.charge ≡ charge_of (size_of program.main)) (object_is : main.object ≡ program.main.object)
+    (bodies : BodiesFollow P d program ticks)
+    (made : (i : ℕ) → AreGenerated d ticks
+    (log_of (iterate (advance P) i (first main (at_start program input)))).shared.bodies) where
   abbrev start : State
   start = first main (at_start program input)
 
@@ -68,12 +73,11 @@ module _ (P : Program) (d : Addresses) (program : meaning.Program) (ticks : List
       (follows_then P from (IsBack (site P c d ticks here program.main code m (omega arith)) from) V (λ v w. ⊥)
       (call_body c program.main [] (entered charge object w)) (leaves charge object w)
       (call_run P c d ticks here program.main code m (omega arith) ready ready.frames
-      (calls_at P d program ticks held (suc m) m (omega arith)) []
+      (calls_at P d program ticks held bodies (suc m) m (omega arith)) []
       (λ j lt. absurd (omega (arith, lt, no_parameters))) from (log_at 1)
       (entered charge object w) (omega arith)
       (record {
         plain = record {
-          none_compiled = refl;
           few_frames = omega (arith, object_is, ready.short);
           small = none_small P SIZE_LIMIT;
         };
@@ -81,6 +85,7 @@ module _ (P : Program) (d : Addresses) (program : meaning.Program) (ticks : List
           (ap (λ x. x % 4) object_is ∙ ready.whole, tt),
           (let sum : 0 + main.object ≡ main.object + 0 = omega arith in sum),
         );
+        generated = made;
       })
       (record {
         object_is = sym object_is;

@@ -13,14 +13,16 @@ use Rattle.icode_ir.specs.Runs.{run_ops, AreTaken}
 use Rattle.typed_tree.specs.declared.expression.CaptureKind.{CaptureKind}
 use Rattle.typed_tree.specs.Nodes as node
 use Rattle.staged_meaning.specs.Size.{size_of, charge_of}
-use Rattle.staged_meaning.specs.Scope.{IsReady, IsReadyIn}
+use Rattle.staged_meaning.specs.Scope.{IsReady, IsReadyIn, IsReadyTickAt}
 use Rattle.staged_meaning.specs.Program.{tick_size}
 use Rattle.staged_meaning.specs.Meaning as meaning
 use Rattle.staged_meaning.specs.Meaning.{at_start, meant}
 use Rattle.meaning_state.specs.Rows.{numbered}
-use Rattle.icode_meaning.specs.State.{Function, Program, State, see, least_at, most_at}
+use Rattle.icode_meaning.specs.State.{Function, Program, State, log_of, see, least_at, most_at}
 use Rattle.icode_meaning.specs.Steps.{advance, first}
+use Rattle.history.specs.Syntax.{Syntax}
 use Rattle.tick_lower_spec.specs.Lower.{Addresses, function_ops}
+use Rattle.tick_lower_spec.specs.Generated.{generated_code, AreGenerated}
 use Rattle.limits.specs.declared.program.TheConstants.{SIZE_LIMIT}
 use Rattle.limits.specs.declared.cost.TheConstants.{START_OPS_INSTRUCTIONS, UNIT_INSTRUCTIONS}
 
@@ -79,7 +81,7 @@ pub record HasFunctions (machine : Program) (addresses : Addresses) (functions :
   pub whole : (address : ℕ) (f : Function) → machine.function_at address ≡ Some f → f.object % 4 ≡ 0
 
 -- The machine has the program, whose ticks capture this: it tells sizes by it, it knows the kinds of each tick's
--- captures, and which tick's code the function at an address generates.
+-- captures, and which tick's code the function at an address generates; and what it compiles has the generated code.
 pub record HasProgram (machine : Program) (addresses : Addresses) (program : meaning.Program)
     (ticks : List (List CaptureKind)) : Type 0 where
   pub source : machine.source ≡ program
@@ -87,14 +89,17 @@ pub record HasProgram (machine : Program) (addresses : Addresses) (program : mea
   pub kinds : (tick : ℕ) (kinds : List CaptureKind) → slice_get ticks tick ≡ Some kinds → machine.kinds tick ≡ kinds
   pub generators : (tick : ℕ) (kinds : List CaptureKind) → slice_get ticks tick ≡ Some kinds →
       machine.tick_at (addresses.generator_at tick) ≡ Some tick
+  pub compiled : (syntax : Syntax) → machine.ops_of syntax ≡ generated_code addresses syntax
 
--- A program of functions that are ready, whose ticks capture this. Its main has no parameters, and no tick is larger
--- than a function may be or has more captures.
+-- A program of functions and ticks that are ready, where the ticks capture this. Its main has no parameters, and no
+-- tick is larger than a function may be or has more captures.
 pub record AreReady (ticks : List (List CaptureKind)) (program : meaning.Program) : Type 0 where
   pub main : IsReadyIn program.functions ticks program.main
   pub no_parameters : program.main.parameters ≡ 0
   pub functions : (number : ℕ) (function : node.Function) → numbered number program.functions ≡ Some function →
       IsReadyIn program.functions ticks function
+  pub bodies : (tick : ℕ) (kinds : List CaptureKind) → slice_get ticks tick ≡ Some kinds →
+      IsReadyTickAt program.functions ticks kinds (slice_get program.ticks tick)
   pub sizes : (tick : ℕ) → tick_size (slice_get program.ticks tick) ≤ SIZE_LIMIT
   pub captures : (tick : ℕ) (kinds : List CaptureKind) → slice_get ticks tick ≡ Some kinds →
       length kinds ≤ SIZE_LIMIT
@@ -103,12 +108,18 @@ pub record AreReady (ticks : List (List CaptureKind)) (program : meaning.Program
 abbrev pub state_at : Program → meaning.Program → Input → Function → ℕ → State
 state_at machine program input main i = iterate (advance machine) i (first main (at_start program input))
 
+-- each function that the run compiles is of a specification whose code is generated
+abbrev pub CompilesGenerated : Program → Addresses → meaning.Program → List (List CaptureKind) → Input → Function → Type 0
+CompilesGenerated machine addresses program ticks input main =
+    (i : ℕ) → AreGenerated addresses ticks (log_of (state_at machine program input main i)).shared.bodies
+
 -- the machine's history and ending are the meaning's, and its two clocks lie round the units
 abbrev pub LoweringFollows : Type 0
 LoweringFollows =
     (machine : Program) (addresses : Addresses) (program : meaning.Program) (ticks : List (List CaptureKind))
     (input : Input) (main : Function) → AreReady ticks program → Stands addresses program.main main →
     HasFunctions machine addresses program.functions → HasProgram machine addresses program ticks →
+    CompilesGenerated machine addresses program ticks input main →
     FollowsAtCost UNIT_INSTRUCTIONS START_OPS_INSTRUCTIONS (meant program input)
     (λ i. see (state_at machine program input main i))
     (λ i. least_at (state_at machine program input main i)) (λ i. most_at (state_at machine program input main i))
