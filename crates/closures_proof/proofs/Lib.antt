@@ -12,3 +12,4 @@ pub mod TickSteps
 pub mod TickMade
 pub mod Variables
 pub mod Below
+pub mod CapturedWords

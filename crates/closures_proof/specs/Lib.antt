@@ -1,6 +1,7 @@
 pub mod Ops
 pub mod OpLaws
 pub mod Relation
+pub mod CapturedWords
 pub mod Laws
 pub mod Ticks
 pub mod Variables

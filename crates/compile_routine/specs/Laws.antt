@@ -20,12 +20,13 @@ use Rattle.staged_meaning.specs.Program.{Program, syntax_size}
 use Rattle.staged_meaning.specs.Size.{charge_of}
 use Rattle.icode_templates_proof.specs.Moves.{EndsIn}
 use Rattle.icode_ir.specs.declared.build_op.BuildOp.{BuildOp}
-use Rattle.icode_ir.specs.declared.build_op.BuildOp.TheVariants.{Return}
 use Rattle.icode_templates_proof.specs.Closures.{word_at, with_word}
 use Rattle.icode_templates_proof.specs.RoutineLaws.{first_trap}
 use Rattle.closures_proof.specs.Relation.{Text, HasSpecifications}
 use Rattle.generator_laws.specs.Calls.{Call, Begin, Finish, Flush, Publish, code_behind, RunsWith, issuing}
 use Rattle.tick_lower_spec.specs.declared.piece.Piece.{Piece}
+-- the value of an expression is returned
+pub use Rattle.tick_lower_spec.specs.Generated.{return_ops}
 use Rattle.generator_laws.specs.Pieces.{syntax_ops, IsWhole}
 use Rattle.routine_spec.specs.Generator.{syntax_cost}
 use Rattle.generator_laws.specs.Laws.{HasGenerators, others}
@@ -69,11 +70,6 @@ abbrev pub IsTickOf : Bool → Syntax → Option Specification → Type 0
 IsTickOf true syntax (Some (Expression s)) = s ≡ syntax
 IsTickOf false syntax (Some (Statement s)) = s ≡ syntax
 IsTickOf _ syntax _ = ⊥
-
--- the value of an expression is returned
-abbrev pub return_ops : Bool → List BuildOp
-return_ops true = Return ∷ []
-return_ops false = []
 
 -- the frame of a function of a size, in bytes: what a call of it is charged
 abbrev pub frame_bytes : (size : ℕ) → ℕ

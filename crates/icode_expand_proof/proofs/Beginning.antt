@@ -48,7 +48,7 @@ saved_words frame kept d p all e h =
     saved_is kept t p h ∙ sym (ap (λ (f : ℕ → ℕ). f (place_register p)) (saves_registers kept t))
     ∙ e.registers (place_register p) (b.0, omega (arith, b.1), omega (arith, b.1)) (omega (arith, b.1))
 
-saves_length : (ps : List ℕ) → length (saves ps) ≡ length ps
+pub saves_length : (ps : List ℕ) → length (saves ps) ≡ length ps
 saves_length [] = refl
 saves_length (p ∷ ps) = ap suc (saves_length ps)
 
@@ -72,15 +72,15 @@ module _ (f : Function) (places : List ℕ) (c : Code) (d : Data) (st : Stands c
   split : front_code f places ≡ first ++ second
   split = sym (append_assoc (take_frame f.charge) (saves (saved places)) second)
 
-  stand : HasAt c f.address (first ++ second)
+  pub stand : HasAt c f.address (first ++ second)
   stand = subst (HasAt c f.address) split (front_stands c f places st)
 
-  ends : past f.address (front_code f places) ≡ past (past (past f.address first) (enter_count f.compiled))
+  pub ends : past f.address (front_code f places) ≡ past (past (past f.address first) (enter_count f.compiled))
       (take_objects f.object)
   ends = ap (past f.address) split ∙ past_append f.address first second ∙ past_append (past f.address first)
       (enter_count f.compiled) (take_objects f.object)
 
-  start_low : f.address < SEGMENT_BYTES
+  pub start_low : f.address < SEGMENT_BYTES
   start_low = let r = past_rises f.address (front_code f places) in omega (arith, r, front_low c f places (ops_of st))
 
   pub framing : Framing f places c d

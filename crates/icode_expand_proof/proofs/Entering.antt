@@ -15,7 +15,7 @@ use Rattle.mips_model.specs.State.{Code, Data}
 use Rattle.mips_model.specs.Arithmetic.{bit}
 use Rattle.mips_model.specs.Accesses.{Branches}
 use Rattle.mips_model.specs.Effects.{effect}
-use Rattle.mips_model.specs.Steps.{step, going, ended}
+use Rattle.mips_model.specs.Steps.{Is, step, going, ended, fetch}
 use Rattle.mips_model.specs.Laws.{HasAt, at, Reaches}
 use Rattle.mips_model.proofs.Reach.{step_acts, reaches_on}
 use Rattle.mips_assembly.specs.Assembly.{addu, subu, sltu, ori, lui, sw, beq, jr, syscall, nop, constant}
@@ -45,6 +45,23 @@ charged frame d = tested (frame / 65536 * 65536) frame d
 pub frame_tests : (frame : ℕ) (d : Data) → Leaves (test_code frame) 0 d 0 (charged frame d)
 frame_tests frame d = subst (λ x. Leaves (test_code frame) 0 d 0 (tested (frame / 65536 * 65536) x d))
     (constant_parts frame) (λ rest. refl)
+
+-- code but for its first instruction, and the data behind that
+abbrev pub rest_of : List Instr → List Instr
+rest_of [] = []
+rest_of (i ∷ is) = is
+
+abbrev pub begun_first : ℕ → Data → Data
+begun_first frame d = with_registers (update 1 (frame / 65536 * 65536) d.registers) d
+
+pub frame_tests_on : (frame : ℕ) (d : Data)
+    → Leaves (rest_of (test_code frame)) 0 (begun_first frame d) 0 (charged frame d)
+frame_tests_on frame d = subst (λ x. Leaves (rest_of (test_code frame)) 0 (begun_first frame d) 0
+    (tested (frame / 65536 * 65536) x d)) (constant_parts frame) (λ rest. refl)
+
+pub first_reaches : (frame : ℕ) (c : Code) (a : ℕ) (d : Data) → fetch c a ≡ Is (lui 1 (frame / 65536))
+    → step (going (at c a 0 d)) ≡ going (at c (a + 4) 0 (begun_first frame d))
+first_reaches frame c a d stands = step_acts (lui 1 (frame / 65536)) (at c a 0 d) stands refl
 
 charged_keeps : (frame : ℕ) (d : Data) → KeepsSpots d (charged frame d)
 charged_keeps frame d =
@@ -137,6 +154,25 @@ module _ (frame : ℕ) (kept : List ℕ) (c : Code) (a : ℕ) (d : Data) (all : 
   pub prologue_reaches : Reaches (5 + 2 + length (behind_test kept)) (at c a 0 d)
       (at c (past a (take_frame frame ++ saves kept)) 0 behind)
   prologue_reaches = reaches_on (reaches_on tests passes) saves_run
+
+  -- behind the first instruction, on any code that has the others alone
+  module _ (k : Code) (g : HasAt k (a + 4) (rest_of (take_frame frame ++ saves kept))) where
+    tests_on : Reaches 4 (at k (a + 4) 0 (begun_first frame d)) (at k branch_at 0 (charged frame d))
+    tests_on = leaves_run (rest_of (test_code frame)) k 0 0 (a + 4) (begun_first frame d) (charged frame d)
+        (frame_tests_on frame d) (g.0, (g.1.0, (g.1.1.0, (g.1.1.1.0, tt))))
+
+    passes_on : Reaches 2 (at k branch_at 0 (charged frame d)) (at k (branch_at + 4 + 4 + 4) 0 (charged frame d))
+    passes_on = branch_reaches (beq 25 0 2) k branch_at 2 (branch_at + 4 + 4 + 4) true (charged frame d) refl refl
+        test_passes (omega (arith, low)) g.1.1.1.1.0 g.1.1.1.1.1.0
+
+    saves_on : Reaches (length (behind_test kept)) (at k (branch_at + 4 + 4 + 4) 0 (charged frame d))
+        (at k (past a (take_frame frame ++ saves kept)) 0 behind)
+    saves_on = leaves_run (behind_test kept) k 0 0 (branch_at + 4 + 4 + 4) (charged frame d) behind rest_leaves
+        g.1.1.1.1.1.1.1
+
+    pub prologue_on : Reaches (4 + 2 + length (behind_test kept)) (at k (a + 4) 0 (begun_first frame d))
+        (at k (past a (take_frame frame ++ saves kept)) 0 behind)
+    prologue_on = reaches_on (reaches_on tests_on passes_on) saves_on
 
   same_pointer : pointer behind ≡ sp
   same_pointer = ap (λ (f : ℕ → ℕ). f 29) (saves_registers kept (taken sp frame d)) ∙ moved_pointer

@@ -29,7 +29,8 @@ use Rattle.icode_expand_proof.specs.Relation.{MemoryAgrees, ExtentsAgree, Holds,
 use Rattle.icode_expand_proof.specs.Settings.{Setting, places_of, Standing}
 use Rattle.icode_expand_proof.specs.Standing.{op_stands_at, front_code, Stands}
 use Rattle.icode_expand_proof.proofs.Codes.{whole_stands}
-use Rattle.icode_expand_proof.proofs.Frames.{stacked_alike}
+use Rattle.icode_expand_proof.proofs.Frames.{stacked_alike, suits_known}
+use Rattle.icode_expand_proof.specs.Runs.{Beginning}
 use Rattle.icode_expand_proof.proofs.Beginning.{begins, overflows}
 use Rattle.icode_expand_proof.proofs.Prologue.{frame_end}
 use Rattle.icode_expand_proof.proofs.Paying.{none_passed, runs_pay, memory_entered, extents_entered}
@@ -80,12 +81,59 @@ pub record Enters (s : Setting) (arguments : ℕ → Option ℕ) (waiting : List
   pub reach : (k x : ℕ) → arguments k ≡ Some x → (x < 4294967296) × (pointer d + 4 * k + 4 ≤ STACK_TOP)
   pub stand : (k x : ℕ) → arguments k ≡ Some x → frame_word d (4 * k) ≡ x
 
+-- what brings a call's target in comes to the target, and there that holds
+pub record Arriving (s : Setting) (w : Frame) (arguments : ℕ → Option ℕ) (waiting : List Frame) (log : Log) (o : Op)
+    (from : machine.State) (address : ℕ) : Type 0 where
+  pub after : Data
+  pub runs : Runs 12 15 from (at s.code address 0 after)
+  pub enters : Enters s arguments (moved_on w ∷ waiting) (paid o log) after
+  pub outside : after.outside ≡ from.d.outside
+
 -- and behind the prologue
 pub record Begun (s : Setting) (f : Function) (arguments : ℕ → Option ℕ) (waiting : List Frame) (log : Log)
     (d : Data) : Type 0 where
   pub after : Data
   pub runs : Runs 9 32 (at s.code f.address 0 d) (at s.code (op_stands_at f (places_of s f) 0) 0 after)
   pub holds : Holds s (begun f arguments) nothing None waiting (entered f log) after
+
+-- a function's own frame holds behind its beginning, on whatever code that is
+pub holds_behind : (s : Setting) → Standing s → (f : Function) → s.program.function_at f.address ≡ Some f → (c : Code)
+    (arguments : ℕ → Option ℕ) (waiting : List Frame) (log : Log) (d : Data) → Enters s arguments waiting log d
+    → log.shared.used + f.charge ≤ STACK_BYTES → log.shared.frames + f.object ≤ FRAME_OBJECT_BYTES
+    → (b : Beginning f (places_of s f) c d) → Holds s (begun f arguments) nothing None waiting (entered f log) b.after
+holds_behind s st f known c arguments waiting log d en room space b =
+    let places = places_of s f in
+    let suits = suits_known s st f known in
+    let top = en.extents.used in
+    let obj = en.extents.frames in
+    let e = b.after in
+    let fits : f.charge ≤ pointer d = omega (arith, top, room) in
+    let fr : Framed (pointer d - f.charge) f.charge =
+    record {
+      from = omega (arith, top, room);
+      to = omega (arith, top, room);
+      even = omega (arith, top, room, en.even, suits.whole);
+    } in
+    record {
+      known = known;
+      ready = record {
+        framed = subst (λ n. Framed n f.charge) (sym b.pointer_is) fr;
+        agrees = λ v l live t. absurd cc;
+        words = λ v. omega arith;
+        reach = λ k x h. let r = en.reach k x h in (r.0, omega (arith, b.pointer_is, r.1, fits));
+        stand = λ k x h. ap (λ n. e.stack (n / 4)) (omega (arith, b.pointer_is, fits))
+            ∙ b.alike.stack ((pointer d + 4 * k) / 4) (omega arith) ∙ en.stand k x h;
+        global = b.global ∙ en.global;
+        objects_from = omega (arith, b.objects_is, obj);
+        objects_to = omega (arith, b.objects_is, obj, space);
+      };
+      memory = memory_entered s f log d e en.memory b.world;
+      extents = extents_entered f log d e en.extents fits b.pointer_is b.objects_is;
+      passed = none_passed e;
+      answered = tt;
+      waits = subst (λ n. CallersWait s waiting (unwound f places e) n) (sym b.address)
+          (stacked_alike s st waiting (d.registers 31) b.alike en.waits);
+    }
 
 module _ (s : Setting) (st : Standing s) (f : Function) (known : s.program.function_at f.address ≡ Some f)
     (first : HasAt s.code f.address (front_code f (places_of s f))) where
@@ -98,43 +146,14 @@ module _ (s : Setting) (st : Standing s) (f : Function) (known : s.program.funct
       → Begun s f arguments waiting
       log d
   holds_begun arguments waiting log d en room space =
-      let places = places_of s f in
-      let suits = stands.suits in
       let top = en.extents.used in
       let obj = en.extents.frames in
-      let b = begins f places s.code d stands (omega (arith, top, room)) (omega (arith, top)) en.even en.global
+      let b = begins f (places_of s f) s.code d stands (omega (arith, top, room)) (omega (arith, top)) en.even en.global
       (omega (arith, obj, space)) in
-      let e = b.after in
-      let fits : f.charge ≤ pointer d = omega (arith, top, room) in
-      let fr : Framed (pointer d - f.charge) f.charge =
       record {
-        from = omega (arith, top, room);
-        to = omega (arith, top, room);
-        even = omega (arith, top, room, en.even, suits.whole);
-      } in
-      record {
-        after = e;
+        after = b.after;
         runs = b.runs;
-        holds = record {
-          known = known;
-          ready = record {
-            framed = subst (λ n. Framed n f.charge) (sym b.pointer_is) fr;
-            agrees = λ v l live t. absurd cc;
-            words = λ v. omega arith;
-            reach = λ k x h. let r = en.reach k x h in (r.0, omega (arith, b.pointer_is, r.1, fits));
-            stand = λ k x h. ap (λ n. e.stack (n / 4)) (omega (arith, b.pointer_is, fits))
-                ∙ b.alike.stack ((pointer d + 4 * k) / 4) (omega arith) ∙ en.stand k x h;
-            global = b.global ∙ en.global;
-            objects_from = omega (arith, b.objects_is, obj);
-            objects_to = omega (arith, b.objects_is, obj, space);
-          };
-          memory = memory_entered s f log d e en.memory b.world;
-          extents = extents_entered f log d e en.extents fits b.pointer_is b.objects_is;
-          passed = none_passed e;
-          answered = tt;
-          waits = subst (λ n. CallersWait s waiting (unwound f places e) n) (sym b.address)
-              (stacked_alike s st waiting (d.registers 31) b.alike en.waits);
-        };
+        holds = holds_behind s st f known s.code arguments waiting log d en room space b;
       }
 
   -- whichever of the three comes

@@ -11,6 +11,7 @@ pub mod Epilogue
 pub mod Leaving
 pub mod Prologue
 pub mod Beginning
+pub mod Compiled
 pub mod Numbers
 pub mod Liveness
 pub mod Recent

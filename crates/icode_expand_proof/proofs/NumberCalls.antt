@@ -1,6 +1,6 @@
 -- A call by a number pays, and one of a number that has no such row ends the run.
-use Rattle.std.proofs.Common.{◌≡◌, inl, inr, ℕ, suc, ◌+◌, ◌*◌, ◌/◌, ◌<◌, ◌≤◌, true, false, List, ◌++◌, Option, Some}
-use Rattle.std.proofs.Common.{None, refl, sym, ap, ◌∙◌, subst, arith, nat_eq, slice_get, bit_xor}
+use Rattle.std.proofs.Common.{◌≡◌, ◌≢◌, inl, inr, ℕ, suc, ◌+◌, ◌*◌, ◌/◌, ◌<◌, ◌≤◌, true, false, List, ◌++◌, Option}
+use Rattle.std.proofs.Common.{Some, None, refl, sym, ap, ◌∙◌, subst, arith, nat_eq, slice_get, bit_xor}
 use Rattle.std.proofs.lemmas.Bool.{and_parts}
 use Rattle.std.proofs.lemmas.Bool.{cases_lt, cases_eq, eq-eqb, ne_eqb}
 use Rattle.word32.specs.declared.map.TheConstants.{SEGMENT_BYTES, FUNCTION_TABLE, GLOBAL_POINTER}
@@ -32,7 +32,7 @@ use Rattle.icode_expand_proof.proofs.Frames.{spots, keeps_alike, alike_on}
 use Rattle.icode_expand_proof.proofs.Numbers.{row_data, set, none_ends, other_ends, row_goes}
 use Rattle.icode_expand_proof.proofs.Paying.{first_operand, stuck_pays}
 use Rattle.icode_expand_proof.proofs.Calls.{call_enters, IsFunction, text_function, front_known}
-use Rattle.icode_expand_proof.proofs.Entrance.{ends_pay, enter_pays}
+use Rattle.icode_expand_proof.proofs.Entrance.{Arriving, ends_pay, enter_pays}
 use Rattle.icode_meaning.specs.State.{Program}
 
 -- the row and the return address change no place
@@ -129,7 +129,7 @@ module _ (s : Setting) (st : Standing s) (w : Frame) (arguments : ℕ → Option
   pub none_pays : s.program.row (w.values number) ≡ None → Pays s (Halted (Ended (Trap BadCall)) (paid o log)) log
       (at s.code a 0 d)
   none_pays e = elim (cases_lt (w.values number) 65536) [
-    | inl less ↦ (let far = h.memory.table.others (w.values number) less e in
+    | inl less ↦ (let far = (h.memory.table.others (w.values number) less e).1 in
         let count : (mid.table (mid.registers 24)).1 ≡ 4294967295 = ap (λ (x : ℕ × ℕ). x.1) table ∙ far in
         bad 10 10 (omega arith) (omega arith) (other_ends s.code b n mid low global word tail (omega (arith, is, less))
         (λ q. absurd (omega (arith, q, count, few)))))
@@ -137,15 +137,12 @@ module _ (s : Setting) (st : Standing s) (w : Frame) (arguments : ℕ → Option
         (omega (arith, is, more)))
   ]
 
-  found_pays : (address : ℕ) (x : Option Function) → IsFunction s address x → w.values number < 65536
-      → d.table (w.values number) ≡ (address, n) → Pays s (call_at o x w arguments waiting log) log (at s.code a 0 d)
-  found_pays address None e less row = stuck_pays s log a d h.memory
-  found_pays address (Some g) there_is less row =
-      let e = there_is.0 in
-      let there = st.functions address g e in
-      let known : s.program.function_at g.address ≡ Some g = ap s.program.function_at there.0 ∙ e in
+  -- from the number's row on the machine comes to the address that it has
+  pub arrives : (address : ℕ) → w.values number < 65536 → d.table (w.values number) ≡ (address, n)
+      → Arriving s w arguments waiting log o (at s.code a 0 d) address
+  arrives address less row =
       let same : (mid.table (mid.registers 24)).1 ≡ n = ap (λ (x : ℕ × ℕ). x.1) (table ∙ row) in
-      let to : (mid.table (mid.registers 24)).0 ≡ g.address = ap (λ (x : ℕ × ℕ). x.0) (table ∙ row) ∙ sym there.0 in
+      let to : (mid.table (mid.registers 24)).0 ≡ address = ap (λ (x : ℕ × ℕ). x.0) (table ∙ row) in
       let back_to = b + 4 + 4 + 4 + 4 + 4 + 4 + 4 + 4 + 4 + 4 + 4 + 4 in
       let d1 = set 31 back_to (row_data (mid.registers 24) n mid) in
       let go = subst (λ x. Reaches 11 (at s.code b 0 mid) (at s.code x 0 d1)) to
@@ -165,10 +162,32 @@ module _ (s : Setting) (st : Standing s) (w : Frame) (arguments : ℕ → Option
       let link : d1.registers 31 ≡ op_stands_at f places (suc w.index) =
       update_same 31 back_to (row_data (mid.registers 24) n mid).registers
       ∙ sym (next_at f places w.index o i ∙ ends) in
+      record {
+        after = d1;
+        runs = runs_on brings (runs_within {l = 11} {m = 11} (omega arith) (omega arith) go);
+        enters = call_enters s st w arguments answer waiting log o d d1 i refl refl h al world link;
+        outside = k.outside;
+      }
+
+  found_pays : (address : ℕ) (x : Option Function) → IsFunction s address x → w.values number < 65536
+      → d.table (w.values number) ≡ (address, n) → Pays s (call_at o x w arguments waiting log) log (at s.code a 0 d)
+  found_pays address None e less row = stuck_pays s log a d h.memory
+  found_pays address (Some g) there_is less row =
+      let e = there_is.0 in
+      let there = st.functions address g e in
+      let known : s.program.function_at g.address ≡ Some g = ap s.program.function_at there.0 ∙ e in
+      let y = arrives g.address less (row ∙ ap (λ z. (z, n)) (sym there.0)) in
       enter_pays s st g known (front_known s st address g e there_is.1) w arguments waiting log o (at s.code a 0 d)
-      (1 + 11) (4 + 11) d1 (omega arith)
-      (omega arith) (runs_on brings (runs_within {l = 11} {m = 11} (omega arith) (omega arith) go))
-      (call_enters s st w arguments answer waiting log o d d1 i refl refl h al world link)
+      (1 + 11) (4 + 11) y.after (omega arith) (omega arith) y.runs y.enters
+
+  -- a row with another count of parameters
+  pub other_pays : (address k : ℕ) → s.program.row (w.values number) ≡ Some (address, k) → k ≢ n
+      → Pays s (Halted (Ended (Trap BadCall)) (paid o log)) log (at s.code a 0 d)
+  other_pays address k e ne =
+      let row = h.memory.table.rows (w.values number) address k e in
+      let count : (mid.table (mid.registers 24)).1 ≡ k = ap (λ (x : ℕ × ℕ). x.1) (table ∙ row.1) in
+      bad 10 10 (omega arith) (omega arith) (other_ends s.code b n mid low global word tail
+      (omega (arith, is, row.0)) (λ q. ne (sym count ∙ q)))
 
   pub number_pays : (text : Program) → Extends text s → (x : Option (ℕ × ℕ)) → s.program.row (w.values number) ≡ x
       → Pays s (call_row text o n x w arguments waiting log) log (at s.code a 0 d)
@@ -180,8 +199,5 @@ module _ (s : Setting) (st : Standing s) (w : Frame) (arguments : ℕ → Option
             (found_pays address (text.function_at address)
             (text_function text s ex address (text.function_at address) refl) row.0
             (row.1 ∙ ap (λ z. (address, z)) same)))
-        | inr ne ↦ (let t : nat_eq k n ≡ false = ne_eqb k n ne in
-            let count : (mid.table (mid.registers 24)).1 ≡ k = ap (λ (x : ℕ × ℕ). x.1) (table ∙ row.1) in
-            rw t (bad 10 10 (omega arith) (omega arith) (other_ends s.code b n mid low global word tail
-            (omega (arith, is, row.0)) (λ q. ne (sym count ∙ q)))))
+        | inr ne ↦ (let t : nat_eq k n ≡ false = ne_eqb k n ne in rw t (other_pays address k e ne))
       ]

@@ -1,6 +1,6 @@
 -- Steps of the second seam: what the machine does with the words of an op is what the staged machine does with the op,
 -- and each op pays for the instructions that are executed for it.
-use Rattle.std.specs.Prelude.{◌≡◌, ℕ, ◌+◌, ◌≤◌, true, false, List, [], Option, Some, slice_get}
+use Rattle.std.specs.Prelude.{◌≡◌, ℕ, ◌+◌, ◌≤◌, true, false, List, length, Option, Some, slice_get}
 use Rattle.std.specs.Fn.{iterate}
 use Rattle.word32.specs.declared.map.TheConstants.{GLOBAL_POINTER, STACK_BYTES}
 use Rattle.mips_model.specs.State.{Data, World}
@@ -13,9 +13,9 @@ use Rattle.icode_meaning.specs.State.{Function, Program, Frame, Log}
 use Rattle.icode_meaning.specs.Steps.{uses_on, call_at, back, left, paid, checked, zeroed_on, word_zeroed, first}
 use Rattle.icode_templates_proof.specs.Moves.{behind}
 use Rattle.icode_expand_proof.specs.Standing.{op_stands_at}
-use Rattle.icode_expand_proof.specs.Settings.{Setting, places_of, Standing, Extends}
+use Rattle.icode_expand_proof.specs.Settings.{Setting, places_of, Standing, Extends, HasRows}
 use Rattle.icode_expand_proof.specs.Relation.{MemoryAgrees, ExtentsAgree, Holds, ZeroesAt, Related, Pays}
-use Rattle.icode_expand_proof.specs.Served.{Serving, is_of_ticks}
+use Rattle.icode_expand_proof.specs.Served.{Serving, is_of_ticks, calls_body}
 use Rattle.limits.specs.declared.program.TheConstants.{FRAME_OBJECT_BYTES}
 
 -- A call and a return lead from a related state to a related state, within the cost of their ops, under all legal
@@ -56,14 +56,17 @@ pub record Arrives (s : Setting) (main : Function) (shared : Shared) (n : ℕ) (
   pub static : main.compiled ≡ false
   pub objects_fit : main.object ≤ FRAME_OBJECT_BYTES
 
--- Each op of a running call but those of ticks leads from a related state to a related state, within its cost, where HI
--- and LO may have been read just before it, and no function is compiled.
+-- Each op of a running call, in a function of the text or in one that was compiled, leads from a related state to a
+-- related state, within its cost, where HI and LO may have been read just before it: but for those of ticks, and the
+-- call of a function that was compiled, of which a run tells that it is entered.
 abbrev pub OpsPay : Type 0
 OpsPay =
-    (text : Program) (s : Setting) → Standing s → Extends text s → Serving s → s.made.bodies ≡ []
+    (text : Program) (s : Setting) → Standing s → Extends text s → Serving s
+    → HasRows (length text.source.functions) s
     → (w : Frame) (arguments : ℕ → Option ℕ) (answer : Option ℕ) (waiting : List Frame) (log : Log) (d : Data)
     → Holds s w arguments answer waiting log d → (recent : ℕ) → recent ≤ 1
     → (o : Op) → slice_get w.function.ops w.index ≡ Some o → is_of_ticks o ≡ false
+    → calls_body (length text.source.functions) log.shared.bodies o w ≡ false
     → Pays s (checked text (Some o) w arguments answer waiting log) log
     (behind s.code (op_stands_at w.function (places_of s w.function) w.index) recent d)
 

@@ -1,5 +1,6 @@
--- The ops whose simulation is proved; others join as cases. What each names is bounded as the ops of a builder are.
-use Rattle.std.specs.Prelude.{◌≡◌, ℕ, ◌<◌, ◌≤◌, Bool, true, false, Some}
+-- The ops whose simulation is proved: all that a builder takes. What each names is bounded as the ops of a builder are.
+use Rattle.std.specs.Prelude.{◌≡◌, ℕ, ◌-◌, ◌<◌, ◌≤◌, Bool, true, false, ◌&&◌, if◌then◌else◌, nat_eq, nat_le, List}
+use Rattle.std.specs.Prelude.{Option, Some, None}
 use Rattle.word32.specs.declared.map.TheConstants.{SEGMENT_BYTES}
 use Rattle.limits.specs.declared.ops.TheConstants.{MOST_CAPTURES}
 use Rattle.icode_ops.specs.declared.op.Op.{Op}
@@ -9,7 +10,9 @@ use Rattle.icode_ops.specs.declared.op.Op.TheVariants.{Argument, GetParameter, C
 use Rattle.icode_ops.specs.declared.op.Op.TheVariants.{ReturnZero, Sys, Run, New, Put}
 use Rattle.icode_ops.specs.declared.kind.RunKind.TheVariants.{Malloc}
 use Rattle.icode_ops.specs.Flow.{op_at}
-use Rattle.icode_meaning.specs.State.{Function}
+use Rattle.meaning_state.specs.Bodies.{Body}
+use Rattle.meaning_state.specs.Rows.{numbered, parameters_of}
+use Rattle.icode_meaning.specs.State.{Function, Frame}
 use Rattle.icode_expand_proof.specs.Settings.{Setting}
 
 -- calls have eight arguments at most
@@ -47,6 +50,17 @@ is_of_ticks (Run routine to from) = true
 is_of_ticks (New to address kind captures) = true
 is_of_ticks (Put capture from) = true
 is_of_ticks o = false
+
+-- A call by a number enters a function that was compiled: it is live, and has as many parameters as are passed.
+abbrev pub is_body_of : (count : ℕ) → Option Body → Bool
+is_body_of count None = false
+is_body_of count (Some x) = x.live && nat_eq (parameters_of x.syntax) count
+
+abbrev pub calls_body : (functions : ℕ) → List Body → Op → Frame → Bool
+calls_body functions bodies (CallNumber number count) w =
+    if nat_le (w.values number) functions then false
+    else is_body_of count (numbered (w.values number - functions) bodies)
+calls_body functions bodies o w = false
 
 -- each op of each function is served
 pub record Serving (s : Setting) : Type 0 where

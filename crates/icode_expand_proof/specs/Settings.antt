@@ -2,8 +2,9 @@
 -- places of each function's registers, the routines of the run-time library, and the exit that the start waits with;
 -- and what is written by the making of specifications and functions alone, as it was left. Code, functions and numbers
 -- may be added during the run. The rules are this project's own.
-use Rattle.std.specs.Prelude.{◌≡◌, ℕ, ◌-◌, ◌<◌, ◌≤◌, Bool, true, false, List, [], ◌∷◌, length, Some, None}
-use Rattle.word32.specs.declared.map.TheConstants.{FUNCTION_ROWS, UNPUBLISHED}
+use Rattle.std.specs.Prelude.{◌≡◌, ℕ, suc, ◌+◌, ◌-◌, ◌*◌, ◌<◌, ◌≤◌, Bool, true, false, List, [], ◌∷◌, length}
+use Rattle.std.specs.Prelude.{slice_get, Some, None}
+use Rattle.word32.specs.declared.map.TheConstants.{ARENA, FUNCTION_ROWS, UNPUBLISHED}
 use Rattle.history.specs.Events.{Item}
 use Rattle.mips_model.specs.State.{Making, Code, Data}
 use Rattle.mips_model.specs.Laws.{HasAt}
@@ -11,8 +12,9 @@ use Rattle.icode_ops.specs.Kinds.{run_number}
 use Rattle.icode_ops.specs.declared.kind.RunKind.TheVariants.{Malloc}
 use Rattle.icode_templates.specs.Templates.{routine_address}
 use Rattle.icode_templates_proof.specs.Malloc.{malloc_code}
+use Rattle.meaning_state.specs.Bodies.{Body}
 use Rattle.meaning_state.specs.Shared.{Shared}
-use Rattle.meaning_state.specs.Rows.{numbered}
+use Rattle.meaning_state.specs.Rows.{numbered, parameters_of}
 use Rattle.icode_meaning.specs.State.{Function, Frame, Program}
 use Rattle.icode_expand_proof.specs.Standing.{OpsStand, front_code, exit_code}
 
@@ -47,10 +49,11 @@ pub record Standing (s : Setting) : Type 0 where
   pub routines : HasAt s.code (routine_address (run_number Malloc)) malloc_code
   pub exits : HasAt s.code s.exit exit_code
 
--- the function table has the published numbers, and no others
+-- the function table has the published numbers, and no others: those have no address in the arena
 pub record Published (program : Program) (table : ℕ → ℕ × ℕ) : Type 0 where
   pub rows : (n a k : ℕ) → program.row n ≡ Some (a, k) → (n < FUNCTION_ROWS) × (table n ≡ (a, k))
-  pub others : (n : ℕ) → n < FUNCTION_ROWS → program.row n ≡ None → (table n).1 ≡ UNPUBLISHED
+  pub others : (n : ℕ) → n < FUNCTION_ROWS → program.row n ≡ None
+      → ((table n).0 < ARENA) × ((table n).1 ≡ UNPUBLISHED)
 
 -- The setting has what the text gives, and no row of a function that isn't compiled yet.
 pub record Extends (text : Program) (s : Setting) : Type 0 where
@@ -59,6 +62,14 @@ pub record Extends (text : Program) (s : Setting) : Type 0 where
   pub rows : (n : ℕ) → n ≤ length text.source.functions → s.program.row n ≡ text.row n
   pub others : (n : ℕ) → length text.source.functions < n
       → numbered (n - length text.source.functions) s.made.bodies ≡ None → s.program.row n ≡ None
+
+-- The numbers behind those of the text are those of the functions that were compiled: the row of a live one has its
+-- address and its count of parameters, and there is none of one that was freed.
+pub record HasRows (functions : ℕ) (s : Setting) : Type 0 where
+  pub live : (k : ℕ) (x : Body) → slice_get s.made.bodies k ≡ Some x → x.live ≡ true
+      → s.program.row (suc (functions + k)) ≡ Some (ARENA + 4 * x.first, parameters_of x.syntax)
+  pub gone : (k : ℕ) (x : Body) → slice_get s.made.bodies k ≡ Some x → x.live ≡ false
+      → s.program.row (suc (functions + k)) ≡ None
 
 -- ---- growth: functions are added, and may go where no call has one
 

@@ -4,7 +4,7 @@
 //! The definitions: when a function stands in memory under places of its registers, the calling convention, the frames
 //! of the calls that wait, and the simulation relation. The laws: what a function's prologue and epilogue do; the ops
 //! that stay in their function keep the relation, for the running call and for all that wait; calls, returns, and all
-//! ops but those of ticks.
+//! ops but those of ticks, in functions of the text and in those that were compiled.
 #![tactic(auto)]
 
 ghost use Rattle.icode_expand_proof.specs.FrameLaws.{FrameLimitTraps, FunctionsBegin, FunctionsLeave, StackLimitTraps};
@@ -58,7 +58,8 @@ pub fn returns_pay()
     ensures { ReturnsPay }
 {}
 
-/// Each op of a running call but those of ticks leads from a related state to a related state, within its cost.
+/// Each op of a running call leads from a related state to a related state, within its cost, but for those of ticks
+/// and the call that enters a function that was compiled.
 pub fn ops_pay()
     ensures { OpsPay }
 {}
