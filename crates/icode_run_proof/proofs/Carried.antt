@@ -14,7 +14,6 @@ use Rattle.mips_model_laws.proofs.Entrances.{AreNoEntries, stays_plain, ends_pla
 use Rattle.mips_model_laws.proofs.Unspoiled.{quiet_unspoiled}
 use Rattle.icode_templates_proof.specs.Moves.{behind}
 use Rattle.icode_expand_proof.specs.Relation.{IsFair}
-use Rattle.icode_run_proof.proofs.Unfinished.{IsUnfinished, unfinished}
 
 -- the same world on other code
 abbrev pub on_code : Code → World → World
@@ -24,7 +23,6 @@ pub record Carried (c : Code) (n : ℕ) (y : State) (w : World) : Type 0 where
   pub goes : iterate step n (going y) ≡ on_code c w
   pub plain : told n (going y) ≡ map Passed (passed (told n (going y)))
   pub unspoiled : IsUnspoiled n (going y)
-  pub unfinished : IsUnfinished n (going y)
 
 is_no_fault : (e : End) → IsFair (Some e) → IsNoFault e
 is_no_fault (Ended x) fair = tt
@@ -63,9 +61,6 @@ carried can c a recent n d w is code flushes making fair none = by w.ending refl
         → (iterate step n (going y)).state.d.outside.making ≡ y.d.outside.making
     made goes = ap (λ (v : World). v.state.d.outside.making) goes ∙ making
 
-    fair_on : (iterate step n (going y)) ≡ on_code c w → IsFair (iterate step n (going y)).ending
-    fair_on goes = subst IsFair (sym (ap (λ (v : World). v.ending) goes)) fair
-
     by : (o : Option End) → w.ending ≡ o → Carried c n y w
     by None e =
         let r : Reaches n (with_code (only can y.code) y) (with_code (only can y.code) w.state) =
@@ -77,7 +72,6 @@ carried can c a recent n d w is code flushes making fair none = by w.ending refl
           goes = goes;
           plain = stays_plain can n y stays none (made goes);
           unspoiled = quiet_unspoiled n (going y) (flushed goes);
-          unfinished = unfinished n (going y) (made goes) (fair_on goes);
         }
     by (Some x) e =
         let r = ends_in_words can n y w.state x (is_no_fault x (subst IsFair e fair)) (is ∙ world_as (Some x) e)
@@ -87,5 +81,4 @@ carried can c a recent n d w is code flushes making fair none = by w.ending refl
           goes = goes;
           plain = ends_plain can n y r.1 none (made goes);
           unspoiled = quiet_unspoiled n (going y) (flushed goes);
-          unfinished = unfinished n (going y) (made goes) (fair_on goes);
         }

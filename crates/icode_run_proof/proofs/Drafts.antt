@@ -1,25 +1,29 @@
 -- What a setting says of the memory of specifications is so of the data of a call that it holds; and what a setting
 -- says holds on behind what was made.
-use Rattle.std.proofs.Common.{◌≡◌, ℕ, ◌+◌, ◌-◌, ◌/◌, List, length, Option, Some, None, sym, ap, ◌∙◌, subst, arith}
+use Rattle.std.proofs.Common.{◌≡◌, ℕ, suc, ◌+◌, ◌-◌, ◌*◌, ◌/◌, ◌≤◌, slice_get, List, length, Option, Some, None, sym}
+use Rattle.std.proofs.Common.{ap, ◌∙◌, subst, arith}
 use Rattle.std.proofs.Common.{nat_le}
 use Rattle.std.proofs.Common.{if◌then◌else◌}
 use Rattle.word32.specs.declared.map.TheConstants.{NEXT_CLOSURE_CELL, SPEC_COUNT_CELL, SIZE_CELL, PARAMETERS_CELL}
-use Rattle.word32.specs.declared.map.TheConstants.{CLOSURE_CELL, CLOSURE_BYTES, GLOBAL_POINTER}
+use Rattle.word32.specs.declared.map.TheConstants.{CLOSURE_CELL, CLOSURE_BYTES, GLOBAL_POINTER, ARENA, ARENA_WORDS}
+use Rattle.word32.specs.declared.map.TheConstants.{NEXT_FUNCTION_CELL, NEXT_ARENA_CELL}
 use Rattle.host_edge.specs.declared.ending.TrapKind.{TrapKind}
 use Rattle.host_edge.specs.declared.ending.TrapKind.TheVariants.{SpecLimit}
-use Rattle.history.specs.Syntax.{Syntax}
 use Rattle.mips_model.specs.State.{Code, Data}
-use Rattle.meaning_state.specs.Bodies.{Body}
+use Rattle.mips_model_laws.specs.Laws.{only}
+use Rattle.meaning_state.specs.Bodies.{Body, charged, AreSummed}
 use Rattle.meaning_state.specs.Shared.{Shared, Specification}
 use Rattle.meaning_state.specs.Rows.{closure_bytes, numbered}
 use Rattle.icode_meaning.specs.State.{Frame, Log}
 use Rattle.icode_expand_proof.specs.Settings.{Setting}
-use Rattle.icode_expand_proof.specs.Relation.{Holds, SameWritten}
+use Rattle.icode_expand_proof.specs.Relation.{Holds, SameWritten, SameMade}
 use Rattle.closures_proof.specs.Relation.{Text, AllStandFor, HasSpecifications}
+use Rattle.compile_routine.specs.Laws.{HasArena}
 use Rattle.icode_run_proof.specs.Making.{Draft, Nothing, Summing, Filling, DraftAgrees, SameRows}
 use Rattle.icode_run_proof.specs.Ticking.{Ticks, PartAgrees, draft_of}
 use Rattle.icode_meaning.specs.State as staged
-use Rattle.icode_run_proof.specs.Relation.{Base, Stood}
+use Rattle.icode_run_proof.specs.Relation.{Base, functions_of, is_inside, HasBody, Stood}
+use Rattle.icode_run_proof.proofs.Arena.{SameArena}
 use Rattle.icode_run_proof.proofs.Filling.{draft_same}
 use Rattle.icode_run_proof.proofs.Puts.{puts_registers}
 use Rattle.icode_run_proof.proofs.Steps.{with_made, standing_with}
@@ -95,25 +99,72 @@ part_now b part s w arguments answer waiting log d h a = record {
 
 -- ---- behind what was made
 
-pub stood_with : (b : Base) (c : Code) (s : Setting) (d : Data) (shared : Shared)
-    → shared.bodies ≡ s.made.bodies → Stood b c s → Stood b c (with_made d shared s)
-stood_with b c s d shared same h = record {
-  can = h.can;
-  code_is = h.code_is;
-  entries = h.entries;
-  standing = standing_with d shared s h.standing;
-  extends = record {
-    functions = h.extends.functions;
-    rows = h.extends.rows;
-    others = λ n over none. h.extends.others n over
-        (ap (λ (l : List Body). numbered (n - functions) l) (sym same) ∙ none);
-  };
-  serving = record { ops = h.serving.ops };
-  routines = h.routines;
-  variables = record { local = h.variables.local; parameter = h.variables.parameter };
-  none_compiled = same ∙ h.none_compiled;
-  idle = h.idle;
+-- what was compiled, and its cells, are of data of a call as of the setting
+pub arena_now : (functions : ℕ) (s : Setting) (shared : Shared) (d : Data) → SameWritten s.written d
+    → SameMade s.made shared → HasArena functions s.made s.written → HasArena functions shared d
+arena_now functions s shared d same made h = record {
+  function = same.cells (NEXT_FUNCTION_CELL / 4) (omega arith) (omega arith) ∙ h.function
+      ∙ ap (λ (l : List Body). suc (functions + length l)) (sym made.bodies);
+  next = same.cells (NEXT_ARENA_CELL / 4) (omega arith) (omega arith) ∙ h.next
+      ∙ ap (λ (l : List Body). ARENA + 4 * charged l) (sym made.bodies);
+  within = subst (λ (l : List Body). charged l ≤ ARENA_WORDS) (sym made.bodies) h.within;
+  summed = subst (AreSummed ARENA_WORDS) (sym made.bodies) h.summed;
 }
-  where
-    functions : ℕ
-    functions = length b.program.source.functions
+
+-- and of what was written since, where nothing was compiled
+pub arena_on : (functions : ℕ) (s : Setting) (shared shared' : Shared) (d after : Data) → SameWritten s.written d
+    → SameMade s.made shared → SameArena shared shared' d after → HasArena functions s.made s.written
+    → HasArena functions shared' after
+arena_on functions s shared shared' d after same made kept h =
+    let now = arena_now functions s shared d same made h in
+    record {
+      function = kept.function ∙ now.function ∙ ap (λ (l : List Body). suc (functions + length l)) (sym kept.bodies);
+      next = kept.next ∙ now.next ∙ ap (λ (l : List Body). ARENA + 4 * charged l) (sym kept.bodies);
+      within = subst (λ (l : List Body). charged l ≤ ARENA_WORDS) (sym kept.bodies) now.within;
+      summed = subst (AreSummed ARENA_WORDS) (sym kept.bodies) now.summed;
+    }
+
+module _ (b : Base) (c : Code) (s : Setting) (d : Data) (shared : Shared) (same : shared.bodies ≡ s.made.bodies)
+    (arena : HasArena (functions_of b) shared d) (h : Stood b c s) where
+  abbrev s' : Setting
+  s' = with_made d shared s
+
+  row_in : (k : ℕ) (x : Body) → slice_get shared.bodies k ≡ Some x → slice_get s.made.bodies k ≡ Some x
+  row_in k x e = ap (λ (l : List Body). slice_get l k) (sym same) ∙ e
+
+  body_with : (k : ℕ) (x : Body) → HasBody b c s k x → HasBody b c s' k x
+  body_with k x y = record {
+    known = y.known;
+    row = y.row;
+    stands = y.stands;
+    within = y.within;
+    some = y.some;
+    entry = ap (λ (l : List Body). is_inside l x.first) same ∙ y.entry;
+    plain = y.plain;
+  }
+
+  pub stood_with : Stood b c s'
+  stood_with = record {
+    code_is = h.code_is ∙ ap (λ (l : List Body). only (is_inside l) c) (sym same);
+    standing = standing_with d shared s h.standing;
+    extends = record {
+      functions = h.extends.functions;
+      rows = h.extends.rows;
+      others = λ n over none. h.extends.others n over
+          (ap (λ (l : List Body). numbered (n - functions_of b) l) (sym same) ∙ none);
+    };
+    serving = record { ops = h.serving.ops };
+    routines = h.routines;
+    variables = record { local = h.variables.local; parameter = h.variables.parameter };
+    compiler = record { routine = h.compiler.routine; generators = h.compiler.generators };
+    present = record {
+      each = λ k x e live. body_with k x (h.present.each k x (row_in k x e) live);
+      gone = λ k x e dead. h.present.gone k x (row_in k x e) dead;
+      known = λ a f is t. (let y = h.present.known a f is t in
+          (y.0, y.1, ap (λ (l : List Body). slice_get l y.0) same ∙ y.2, y.3, y.4));
+      low = h.present.low;
+      rows = h.present.rows;
+    };
+    arena = arena;
+    idle = h.idle;
+  }

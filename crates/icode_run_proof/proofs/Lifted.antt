@@ -22,12 +22,10 @@ use Rattle.icode_expand_proof.specs.Settings.{Setting, Published}
 use Rattle.icode_expand_proof.specs.Relation as ops
 use Rattle.icode_expand_proof.specs.Relation.{AllPass, HistoryAgrees, HasLeft, IsFair, passing}
 use Rattle.icode_expand_proof.proofs.Memory.{history_as, left_as}
-use Rattle.icode_run_proof.specs.Relation.{Base, told_of, Stood, StandsFor}
+use Rattle.icode_run_proof.specs.Relation.{Base, told_of, is_inside, Stood, StandsFor}
 use Rattle.icode_run_proof.proofs.Carried.{on_code, Carried, carried}
 use Rattle.icode_run_proof.proofs.Tales.{tale_told}
-use Rattle.icode_run_proof.proofs.Unfinished.{IsUnfinished}
-use Rattle.mips_model.specs.Run.{is_serving}
-use Rattle.std.proofs.Common.{false}
+use Rattle.icode_run_proof.proofs.Present.{no_entries}
 
 -- ---- what is told
 
@@ -83,7 +81,7 @@ pub record Facts (s : Setting) (a : staged.State) (w : World) : Type 0 where
   pub fair : IsFair w.ending
   pub ending : ending_of a ≡ w.ending
 
-going_facts : (s : Setting) (a : staged.State) (w : World) (x : State) → w ≡ going x → ending_of a ≡ None
+pub going_facts : (s : Setting) (a : staged.State) (w : World) (x : State) → w ≡ going x → ending_of a ≡ None
     → x.code ≡ s.code → HistoryAgrees s (log_of a).shared.history x.d.outside.history → HasLeft s x.d.outside
     → Facts s a w
 going_facts s a w x e none code history left = record {
@@ -117,17 +115,9 @@ facts_of s (Stuck log) w r = over_facts s (Stuck log) w r
 
 -- ---- so a tale does
 
--- the next instruction finishes no function
-abbrev pub FinishesNone : Tale → Type 0
-FinishesNone t = is_serving 66 t.world ≡ false
-
-pub none_finished : (n : ℕ) (t : Tale) → IsUnfinished n t.world → AllWay tell FinishesNone n t
-none_finished n t none j l = subst (λ (w : World). is_serving 66 w ≡ false) (sym (world_of_tale j t)) (none j l)
-
 pub record Lifted (b : Base) (c : Code) (a : staged.State) (w : World) (n : ℕ) (t : Tale) : Type 0 where
   pub stands : StandsFor b c a w (iterate tell n t)
   pub calm : AllWay tell IsCalm n t
-  pub unfinished : AllWay tell FinishesNone n t
 
 pub lifted : (b : Base) (c : Code) (s : Setting) → Stood b c s → (at_op recent : ℕ) (d : Data) (h0 : List Item)
     → Published s.program d.table → HistoryAgrees s h0 d.outside.history → HasLeft s d.outside
@@ -137,11 +127,11 @@ pub lifted : (b : Base) (c : Code) (s : Setting) → Stood b c s → (at_op rece
 lifted b c s stood at_op recent d h0 rows history left t at_y told_0 a n facts =
     let w = iterate step n (going (behind s.code at_op recent d)) in
     let y = behind c at_op recent d in
-    let same : iterate step n (going (behind (only stood.can c) at_op recent d)) ≡ w =
+    let same : iterate step n (going (behind (only (is_inside s.made.bodies) c) at_op recent d)) ≡ w =
     ap (λ (k : Code). iterate step n (going (behind k at_op recent d))) (sym stood.code_is) in
-    let r : Carried c n y w = carried stood.can c at_op recent n d w same (facts.code ∙ stood.code_is)
+    let r : Carried c n y w = carried (is_inside s.made.bodies) c at_op recent n d w same (facts.code ∙ stood.code_is)
     (facts.left.flushes ∙ sym left.flushes) (facts.left.making ∙ sym left.making) facts.fair
-    (stood.entries d.table rows) in
+    (no_entries b c s stood d.table rows) in
     let world : (iterate tell n t).world ≡ on_code c w =
     world_of_tale n t ∙ ap (iterate step n) at_y ∙ r.goes in
     record {
@@ -151,5 +141,4 @@ lifted b c s stood at_op recent d h0 rows history left t at_y told_0 a n facts =
             (history_as s refl (sym (ap (λ (v : World). v.state.d.outside.history) r.goes)) facts.history) r.plain;
       };
       calm = unspoiled_tale n t (subst (IsUnspoiled n) (sym at_y) r.unspoiled);
-      unfinished = none_finished n t (subst (IsUnfinished n) (sym at_y) r.unfinished);
     }

@@ -20,10 +20,11 @@ use Rattle.meaning_state.specs.Bodies.{Body}
 use Rattle.word32.specs.declared.map.TheConstants.{ARENA}
 use Rattle.meaning_state.specs.Operators.{bin_value, bin_trap, signed_trap, zero_trap}
 use Rattle.meaning_state.specs.Rows.{closure_trap, index_trap, size_trap, next_number, specification_at, numbered}
-use Rattle.meaning_state.specs.Rows.{specified, parameters_of}
-use Rattle.meaning_state.specs.Shared.{Specification, Local, Param, Read, Got, Failed, get_byte, access_trap, loaded}
+use Rattle.meaning_state.specs.Rows.{specified, parameters_of, table_trap, arena_trap, next_function}
+use Rattle.meaning_state.specs.Shared.{Specification, Expression, Statement, Local, Param, Read, Got, Failed}
+use Rattle.meaning_state.specs.Shared.{get_byte, access_trap, loaded}
 use Rattle.meaning_state.specs.Shared.{stored, are_objects, limit_trap}
-use Rattle.staged_meaning.specs.Program.{is_expression}
+use Rattle.staged_meaning.specs.Program.{is_expression, syntax_size}
 use Rattle.staged_meaning.specs.Specifications.{fits, specification_of}
 use Rattle.icode_meaning.specs.State.{Program, Function, Frame, Log, State, Running, Zeroing, Making, Compiling, Halted}
 use Rattle.icode_meaning.specs.State.{Stuck, Draft, Summing, Filling, most_at}
@@ -31,7 +32,7 @@ use Rattle.icode_meaning.specs.Steps.{advance, act, checked, making, makes, adds
 use Rattle.icode_meaning.specs.Steps.{unless, untrapped, goes_on, set, moved_on, paid, enter, call_at, call_row}
 use Rattle.icode_meaning.specs.Steps.{call_compiled, set_from, back, left, take, specifies, zeroing}
 use Rattle.icode_meaning.specs.Steps.{begun, entered, with_event, uses_on, is_kind, size_in, parameters_in}
-use Rattle.icode_meaning.specs.Steps.{address_of, function_for, syntax_of, sharing}
+use Rattle.icode_meaning.specs.Steps.{address_of, function_for, syntax_of, sharing, compiles, compile_row}
 
 unless_rises : (t : Option TrapKind) (log : Log) (x : State) (n : ℕ) → n ≤ log.most → n ≤ most_at x
     → n ≤ most_at (unless t log x)
@@ -184,6 +185,23 @@ module _ (p : Program) where
       (Halted (Ended (Trap BadCall)) (paid o log)) log.most
       (enter_rises f w arguments waiting log' log.most (omega arith)) (omega arith)
 
+  compiles_rises : (o : Op) (to : ℕ) (syntax : Syntax) (w : Frame) (waiting : List Frame) (log : Log)
+      → log.most ≤ most_at (compiles p o to syntax w waiting log)
+  compiles_rises o to syntax w waiting log =
+      let size = syntax_size p.source syntax in
+      let last = Compiling size syntax to w waiting log in
+      unless_rises (table_trap (next_function (length p.source.functions) log.shared)) (paid o log)
+      (unless (arena_trap size log.shared) (paid o log) last) log.most (omega arith)
+      (unless_rises (arena_trap size log.shared) (paid o log) last log.most (omega arith) (omega arith))
+
+  compile_rises : (o : Op) (to : ℕ) (row : Option Specification) (w : Frame) (waiting : List Frame) (log : Log)
+      → log.most ≤ most_at (compile_row p o to row w waiting log)
+  compile_rises o to (Some (Expression syntax)) w waiting log = compiles_rises o to syntax w waiting log
+  compile_rises o to (Some (Statement syntax)) w waiting log = compiles_rises o to syntax w waiting log
+  compile_rises o to (Some Local) w waiting log = omega arith
+  compile_rises o to (Some (Param index)) w waiting log = omega arith
+  compile_rises o to None w waiting log = omega arith
+
   module _ (w : Frame) (arguments : ℕ → Option ℕ) (answer : Option ℕ) (waiting : List Frame) (log : Log) where
     specifies_rises : (o : Op) (r : Specification) (to : ℕ)
         → log.most ≤ most_at (specifies r to w waiting (paid o log))
@@ -257,7 +275,8 @@ module _ (p : Program) where
         (specifies (Param (w.values from)) to w waiting (paid o log)) log.most (omega arith)
         (specifies_rises o (Param (w.values from)) to)
     act_rises (Run run.Begin to from) = omega arith
-    act_rises (Run run.Compile to from) = omega arith
+    act_rises (Run run.Compile to from) =
+        compile_rises (Run run.Compile to from) to (specification_at (w.values from) log.shared) w waiting log
     act_rises (Run run.Expression to from) = omega arith
     act_rises (Run run.Statement to from) = omega arith
     act_rises (Run run.Variable to from) = omega arith
@@ -281,6 +300,7 @@ module _ (p : Program) where
       by (Some o) =
           if_rises (uses_on o w.on) (makes p o draft w waiting log) (Stuck log) log.most
           (makes_rises o draft w waiting log) (omega arith)
-  rises (Compiling more syntax to w waiting log) = omega arith
+  rises (Compiling zero syntax to w waiting log) = omega arith
+  rises (Compiling (suc more) syntax to w waiting log) = omega arith
   rises (Halted end log) = omega arith
   rises (Stuck log) = omega arith

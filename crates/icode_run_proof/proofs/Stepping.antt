@@ -20,11 +20,11 @@ use Rattle.icode_expand_proof.specs.Relation as ops
 use Rattle.icode_expand_proof.specs.Relation.{Holds, MemoryAgrees, Pays, StandsAt}
 use Rattle.closures_proof.specs.Relation.{HasSpecifications}
 use Rattle.icode_run_proof.specs.Ticking.{AreTicks, PartAgrees}
-use Rattle.icode_run_proof.specs.Relation.{Base, told_of, text_of, ticks_of, same_end, Stood, StandsFor}
+use Rattle.icode_run_proof.specs.Relation.{Base, told_of, text_of, ticks_of, functions_of, same_end, Stood, StandsFor}
 use Rattle.icode_run_proof.specs.Relation.{LooksLike, Related}
 use Rattle.icode_run_proof.proofs.Ticking.{PaysState}
-use Rattle.icode_run_proof.proofs.Drafts.{stood_with}
-use Rattle.icode_run_proof.proofs.Lifted.{FinishesNone, Facts, facts_of, Lifted, lifted}
+use Rattle.icode_run_proof.proofs.Drafts.{stood_with, arena_on}
+use Rattle.icode_run_proof.proofs.Lifted.{Facts, facts_of, Lifted, lifted}
 use Rattle.icode_run_proof.proofs.PutPays.{PaysTo}
 use Rattle.icode_run_proof.proofs.Steps.{with_made, history_with}
 
@@ -35,7 +35,6 @@ pub record Stepped (b : Base) (log : Log) (a : State) (t : Tale) : Type 0 where
   pub high : log.most + count ≤ most_at a
   pub related : Related b a (iterate tell count t)
   pub calm : AllWay tell IsCalm count t
-  pub unfinished : AllWay tell FinishesNone count t
 
 -- ---- what is seen
 
@@ -82,7 +81,6 @@ module _ (b : Base) (are : AreTicks (ticks_of b)) (c : Code) (s : Setting) (stoo
         high = p.high;
         related = by a p l.stands;
         calm = l.calm;
-        unfinished = l.unfinished;
       }
     where
       by : (a : State) (p : Pays s a log from)
@@ -114,7 +112,7 @@ module _ (b : Base) (are : AreTicks (ticks_of b)) (c : Code) (s : Setting) (stoo
   over_step : (a : State) (p : Pays s a log from) → Related b a (iterate tell p.count t) → Stepped b log a t
   over_step a p r =
       let l = lift a p.count (facts_of s a (iterate step p.count (going from)) p.related) in
-      record { count = p.count; low = p.low; high = p.high; related = r; calm = l.calm; unfinished = l.unfinished }
+      record { count = p.count; low = p.low; high = p.high; related = r; calm = l.calm }
 
   -- a step that made something
   module _ (w : Frame) (waiting : List Frame) (log' : Log) (Also : Data → Type 0)
@@ -145,7 +143,8 @@ module _ (b : Base) (are : AreTicks (ticks_of b)) (c : Code) (s : Setting) (stoo
     }
 
     stood' : Stood b c s'
-    stood' = stood_with b c s p.written log'.shared (p.arena.bodies ∙ m.made.bodies) stood
+    stood' = stood_with b c s p.written log'.shared (p.arena.bodies ∙ m.made.bodies)
+        (arena_on (functions_of b) s log.shared log'.shared d p.written m.written m.made p.arena stood.arena) stood
 
     pub makes_step : (draft : Draft) → ((e : Data) → Also e → PartAgrees (ticks_of b) draft log'.shared e)
         → Stepped b log (Making draft w waiting log') t
@@ -166,7 +165,6 @@ module _ (b : Base) (are : AreTicks (ticks_of b)) (c : Code) (s : Setting) (stoo
             stands = subst (λ (v : World). StandsFor b c a v (iterate tell p.count t)) p.is l.stands;
           };
           calm = l.calm;
-          unfinished = l.unfinished;
         }
 
     pub goes_step : ((e : Data) → Also e → HasSpecifications (text_of b) log'.shared e)
@@ -197,7 +195,6 @@ module _ (b : Base) (are : AreTicks (ticks_of b)) (c : Code) (s : Setting) (stoo
             stands = subst (λ (v : World). StandsFor b c a v (iterate tell p.count t)) p.is l.stands;
           };
           calm = l.calm;
-          unfinished = l.unfinished;
         }
 
   -- what an op of a tick comes to

@@ -1,11 +1,11 @@
 -- The whole: each state's step, and so the run.
-use Rattle.std.proofs.Common.{◌≡◌, inl, inr, ℕ, zero, suc, ◌+◌, ◌-◌, ◌*◌, ◌≤◌, ◌<◌, true, List, Option}
+use Rattle.std.proofs.Common.{◌≡◌, inl, inr, ℕ, zero, suc, ◌+◌, ◌-◌, ◌*◌, ◌≤◌, ◌<◌, true, false, List, Option}
 use Rattle.std.proofs.Common.{Some, None, refl, sym, ap, ◌∙◌, subst, arith, slice_get, append_assoc, option_map}
 use Rattle.std.proofs.lemmas.Bool.{cases_Bool, and_parts}
 use Rattle.std.specs.Fn.{iterate}
 use Rattle.pace.specs.Pace.{Seen}
 use Rattle.pace.specs.Claims.{SimulatesStep, PaysWithin, FollowsAtCost}
-use Rattle.pace.proofs.OnWay.{AllWay, way_on, holds_within}
+use Rattle.pace.proofs.OnWay.{AllWay}
 use Rattle.pace.proofs.Runs.{iterate_add}
 use Rattle.pace.proofs.Seams.{pays_within}
 use Rattle.history.specs.Events.{End}
@@ -33,32 +33,35 @@ use Rattle.icode_meaning.specs.Steps.{advance, act, checked, uses_on, zeroed_on,
 use Rattle.icode_meaning.specs.Steps.{goes_on}
 use Rattle.icode_meaning.specs.Steps.{set, sharing}
 use Rattle.icode_meaning.specs.State.{Draft}
-use Rattle.meaning_state.specs.Rows.{closure_trap, index_trap, next_number, specified}
+use Rattle.meaning_state.specs.Rows.{closure_trap, index_trap, next_number, specified, specification_at}
 use Rattle.host_edge.specs.declared.ending.TrapKind.{TrapKind}
 use Rattle.icode_expand_proof.specs.Settings.{Setting, places_of}
 use Rattle.icode_expand_proof.specs.Standing.{op_stands_at, layout_of}
 use Rattle.icode_expand_proof.specs.Relation as ops
 use Rattle.icode_expand_proof.specs.Relation.{Holds, Pays, StandsAt, ZeroesAt}
-use Rattle.icode_expand_proof.specs.Served.{is_of_ticks}
+use Rattle.icode_expand_proof.specs.Served.{is_of_ticks, calls_body}
 use Rattle.icode_expand_proof.proofs.Recent.{IsGentle, same_run}
 use Rattle.icode_expand_proof.proofs.Whole.{ops_pay, words_pay, main_begins, operand_gentle, stuck_any}
 use Rattle.closures_proof.specs.Relation.{HasSpecifications}
+use Rattle.compile_routine.specs.Laws.{IsTickOf}
 use Rattle.icode_run_proof.specs.Making.{Nothing}
 use Rattle.icode_run_proof.specs.Ticking.{AreTicks}
-use Rattle.icode_run_proof.specs.Relation.{Base, text_of, ticks_of, same_end, see_told, Stood, StandsFor}
+use Rattle.icode_run_proof.specs.Relation.{Base, text_of, ticks_of, functions_of, same_end, see_told, Stood, StandsFor}
 use Rattle.icode_run_proof.specs.Relation.{OnWay, OnTick, LooksLike, Related}
-use Rattle.icode_run_proof.specs.Laws.{Arrived, upper, ProgramIsSimulated, ProgramIsUnspoiled, ProgramFinishesNone}
+use Rattle.icode_run_proof.specs.Laws.{Arrived, upper, ProgramIsSimulated, ProgramIsUnspoiled}
+use Rattle.icode_run_proof.proofs.BodyCalls.{body_step}
+use Rattle.icode_run_proof.proofs.Entering.{rows_of}
 use Rattle.icode_run_proof.proofs.Ticking.{PaysState, tick_advances}
 use Rattle.icode_run_proof.proofs.Starting.{begin_advances, local_advances, parameter_advances}
 use Rattle.icode_run_proof.proofs.Drafts.{draft_now, part_now}
 use Rattle.icode_run_proof.proofs.Laws.{tick_laws, start_laws}
-use Rattle.icode_run_proof.proofs.Lifted.{FinishesNone, none_finished, facts_of, lifted}
+use Rattle.icode_run_proof.proofs.CompileStep.{compile_step}
+use Rattle.icode_run_proof.proofs.Compiles.{AllCompile, CompilesStep}
+use Rattle.icode_run_proof.proofs.Lifted.{facts_of, lifted}
 use Rattle.icode_run_proof.proofs.PutPays.{PaysTo}
 use Rattle.icode_run_proof.proofs.Rising.{rises}
 use Rattle.icode_run_proof.proofs.Stepping.{Stepped, stepped, state_step, looks}
-use Rattle.icode_run_proof.proofs.Unfinished.{IsUnfinished, ended_finishes_none}
-use Rattle.mips_model.specs.Run.{is_serving}
-use Rattle.std.proofs.Common.{is_some, false}
+use Rattle.icode_run_proof.proofs.Units.{unit_step, last_step}
 
 -- ---- related states look alike
 
@@ -78,7 +81,10 @@ same b (Zeroing more address w waiting log) t r = way_looks b (Zeroing more addr
 same b (Making draft w waiting log) t r =
     looks b r.code (Making draft w waiting log)
     (going (at r.setting.code (op_stands_at w.function (places_of r.setting w.function) w.index) 0 r.d)) t refl r.stands
-same b (Compiling more syntax to w waiting log) t r = absurd r
+same b (Compiling more syntax to w waiting log) t r =
+    ap (λ (l : List Told). let x : Seen Told End = record { history = l; ending = None } in x) (sym r.told_is)
+    ∙ ap (λ (o : Option End). let x : Seen Told End = record { history = t.told; ending = o } in x)
+    (sym (r.goes 0 (omega arith)))
 same b (Halted e log) t r = r
 same b (Stuck log) t r = r
 
@@ -92,11 +98,12 @@ halts b (Stuck log) e h = refl
 
 -- ---- a running call
 
-module _ (b : Base) (are : AreTicks (ticks_of b)) (c : Code) (s : Setting) (stood : Stood b c s)
-    (has : HasSpecifications (text_of b) s.made s.written) (w : Frame) (arguments : ℕ → Option ℕ) (answer : Option ℕ)
+module _ (b : Base) (are : AreTicks (ticks_of b)) (compiles : CompilesStep b) (c : Code) (s : Setting)
+    (stood : Stood b c s) (has : HasSpecifications (text_of b) s.made s.written) (w : Frame) (arguments : ℕ → Option
+    ℕ) (answer : Option ℕ)
     (waiting : List Frame) (log : Log) (x : World)
     (z : StandsAt s w arguments answer waiting log x) (t : Tale)
-    (stands : StandsFor b c (Running w arguments answer waiting log) x t) where
+    (stands : StandsFor b c (Running w arguments answer waiting log) x t) (all : AllCompile b log) where
   abbrev a : ℕ
   a = op_stands_at w.function (places_of s w.function) w.index
 
@@ -109,16 +116,15 @@ module _ (b : Base) (are : AreTicks (ticks_of b)) (c : Code) (s : Setting) (stoo
       stepped b are c s stood t log a z.recent z.d z.holds.memory at_z stands.told_is has state p
 
   stuck : Stepped b log (Stuck log) t
-  stuck = done (Stuck log) (stuck_any b.program s stood.standing stood.extends stood.serving stood.none_compiled log
+  stuck = done (Stuck log) (stuck_any b.program s stood.standing stood.extends stood.serving (rows_of b c s stood) log
       z.recent a z.d z.holds.memory)
 
   -- an op by which a specification is begun, or one of a variable is made, has its operand first
   gentle : (routine : RunKind) (to from : ℕ) → slice_get w.function.ops w.index ≡ Some (Run routine to from)
       → uses_on (Run routine to from) w.on ≡ true → IsGentle s.code a z.d
   gentle routine to from i u =
-      operand_gentle b.program s stood.standing stood.extends stood.serving stood.none_compiled w arguments answer
-      waiting
-      log z.d z.holds z.recent z.few (Run routine to from) from _ i refl (and_parts (w.on from) true u).0
+      operand_gentle b.program s stood.standing stood.extends stood.serving (rows_of b c s stood) w arguments answer
+      waiting log z.d z.holds z.recent z.few (Run routine to from) from _ i refl (and_parts (w.on from) true u).0
       (append_assoc (load_code 24 ((layout_of w.function (places_of s w.function)).spot from)) _ _)
 
   -- so it does the same where HI or LO was read
@@ -212,7 +218,8 @@ module _ (b : Base) (are : AreTicks (ticks_of b)) (c : Code) (s : Setting) (stoo
       z.d
       z.holds now to from i u)
   tick_step (Run run.Malloc to from) i u e = absurd cc
-  tick_step (Run run.Compile to from) i u e = stuck
+  tick_step (Run run.Compile to from) i u e =
+      compiles c s stood has w arguments answer waiting log x z t stands all to from i u
   tick_step (Run run.Expression to from) i u e = stuck
   tick_step (Run run.Statement to from) i u e = stuck
   tick_step (Run run.Variable to from) i u e = stuck
@@ -248,6 +255,19 @@ module _ (b : Base) (are : AreTicks (ticks_of b)) (c : Code) (s : Setting) (stoo
     | inr u ↦ rw u stuck
   ]
 
+  -- a call of a function that was compiled, or any other op but those of ticks
+  plain_step : (o : Op) → slice_get w.function.ops w.index ≡ Some o → is_of_ticks o ≡ false
+      → Stepped b log (checked b.program (Some o) w arguments answer waiting log) t
+  plain_step o i plain = elim (cases_Bool (calls_body (functions_of b) log.shared.bodies o w)) [
+    | inl e ↦ elim (cases_Bool (uses_on o w.on)) [
+      | inl u ↦ rw u (body_step b c s stood has w arguments answer waiting log x z t stands o i u e)
+      | inr u ↦ rw u stuck
+    ]
+    | inr e ↦ done (checked b.program (Some o) w arguments answer waiting log)
+        (ops_pay b.program s stood.standing stood.extends stood.serving (rows_of b c s stood) w arguments answer waiting
+        log z.d z.holds z.recent z.few o i plain e)
+  ]
+
   pub runs_step : Stepped b log (advance b.program (Running w arguments answer waiting log)) t
   runs_step = by (slice_get w.function.ops w.index) refl
     where
@@ -256,10 +276,7 @@ module _ (b : Base) (are : AreTicks (ticks_of b)) (c : Code) (s : Setting) (stoo
       by None i = stuck
       by (Some o) i = elim (cases_Bool (is_of_ticks o)) [
         | inl e ↦ used_step o i e
-        | inr e ↦ done (checked b.program (Some o) w arguments answer waiting log)
-            (ops_pay b.program s stood.standing stood.extends stood.serving stood.none_compiled w arguments answer
-            waiting
-            log z.d z.holds z.recent z.few o i e)
+        | inr e ↦ plain_step o i e
       ]
 
 -- ---- each step
@@ -269,19 +286,13 @@ to_simulates : (b : Base) (a : State) (t : Tale) → Stepped b (log_of a) (advan
 to_simulates b a t p =
     (record { count = p.count; from = p.low; to = p.high; related = p.related }, p.calm)
 
-to_unfinished : (b : Base) (a : State) (t : Tale) → Stepped b (log_of a) (advance b.program a) t
-    → (s : SimulatesStep (advance b.program) tell least_at most_at (Related b) a t)
-    × AllWay tell FinishesNone s.count t
-to_unfinished b a t p =
-    (record { count = p.count; from = p.low; to = p.high; related = p.related }, p.unfinished)
-
-module _ (b : Base) (are : AreTicks (ticks_of b)) where
+module _ (b : Base) (are : AreTicks (ticks_of b)) (compiles : CompilesStep b) where
   way_step : (w : Frame) (arguments : ℕ → Option ℕ) (answer : Option ℕ) (waiting : List Frame) (log : Log) (t : Tale)
-      → OnWay b (Running w arguments answer waiting log) t
+      → OnWay b (Running w arguments answer waiting log) t → AllCompile b log
       → Stepped b log (advance b.program (Running w arguments answer waiting log)) t
-  way_step w arguments answer waiting log t r =
-      runs_step b are r.code r.setting r.stood r.specifications w arguments answer waiting log r.world r.related.1 t
-      r.stands
+  way_step w arguments answer waiting log t r all =
+      runs_step b are compiles r.code r.setting r.stood r.specifications w arguments answer waiting log r.world
+      r.related.1 t r.stands all
 
   zeroing_step : (more address : ℕ) (w : Frame) (waiting : List Frame) (log : Log) (t : Tale)
       → OnWay b (Zeroing more address w waiting log) t
@@ -304,48 +315,86 @@ module _ (b : Base) (are : AreTicks (ticks_of b)) where
       (tick_advances tick_laws b are s r.stood.standing r.stood.routines w nothing None waiting log r.d r.holds draft
       (part_now (ticks_of b) draft s w nothing None waiting log r.d r.holds r.agrees))
 
+  -- the choices of what a step may cost are legal
+  abbrev Fine : State → Tale → Type 0
+  Fine a t = (k : ℕ) → k < most_at (advance b.program a) - most_at a → IsWellChosen (iterate tell k t).world
+
+  fine_of : (n : ℕ) (t : Tale) → ((k : ℕ) → k < n → IsWellChosen (iterate tell k t).world) → IsFine n t.world
+  fine_of n t fine k l = subst IsWellChosen (world_of_tale k t) (fine k l)
+
   -- a running state's
-  step_of : (a : State) (t : Tale) → (see_told b a).ending ≡ None → Related b a t
+  step_of : (a : State) (t : Tale) → (see_told b a).ending ≡ None → Related b a t → AllCompile b (log_of a) → Fine a t
       → Stepped b (log_of a) (advance b.program a) t
-  step_of (Running w arguments answer waiting log) t none r = way_step w arguments answer waiting log t r
-  step_of (Zeroing more address w waiting log) t none r = zeroing_step more address w waiting log t r
-  step_of (Making draft w waiting log) t none r = making_step draft w waiting log t r
-  step_of (Compiling more syntax to w waiting log) t none r = absurd r
-  step_of (Halted e log) t none r = absurd (none_ends none)
-  step_of (Stuck log) t none r = record {
+  step_of (Running w arguments answer waiting log) t none r all fine =
+      way_step w arguments answer waiting log t r all
+  step_of (Zeroing more address w waiting log) t none r all fine = zeroing_step more address w waiting log t r
+  step_of (Making draft w waiting log) t none r all fine = making_step draft w waiting log t r
+  step_of (Compiling zero syntax to w waiting log) t none r all fine =
+      last_step b syntax to w waiting log t r (fine_of 75 t (λ k l. fine k (omega (arith, l))))
+  step_of (Compiling (suc more) syntax to w waiting log) t none r all fine =
+      unit_step b more syntax to w waiting log t r (fine_of 512 t (λ k l. fine k (omega (arith, l))))
+  step_of (Halted e log) t none r all fine = absurd (none_ends none)
+  step_of (Stuck log) t none r all fine = record {
     count = 0;
     low = omega arith;
     high = omega arith;
     related = r;
     calm = λ j l. absurd (omega (arith, l));
-    unfinished = λ j l. absurd (omega (arith, l));
   }
 
-  abbrev Fine : State → Tale → Type 0
-  Fine a t = (k : ℕ) → k < most_at (advance b.program a) - most_at a → IsWellChosen (iterate tell k t).world
-
-  pub simulates : (a : State) (t : Tale) → (see_told b a).ending ≡ None → Related b a t → Fine a t
+  pub simulates : (a : State) (t : Tale) → (see_told b a).ending ≡ None → Related b a t → AllCompile b (log_of a)
+      → Fine a t
       → (s : SimulatesStep (advance b.program) tell least_at most_at (Related b) a t) × AllWay tell IsCalm s.count t
-  simulates a t none r fine = to_simulates b a t (step_of a t none r)
-
-  -- whatever is chosen
-  pub finishes_none : (a : State) (t : Tale) → (see_told b a).ending ≡ None → Related b a t
-      → ((k : ℕ) → k < most_at (advance b.program a) - most_at a → Unit {0})
-      → (s : SimulatesStep (advance b.program) tell least_at most_at (Related b) a t)
-      × AllWay tell FinishesNone s.count t
-  finishes_none a t none r any = to_unfinished b a t (step_of a t none r)
+  simulates a t none r all fine = to_simulates b a t (step_of a t none r all fine)
 
 -- ---- the run
 
-module _ (b : Base) (c : Code) (s : Setting) (main : Function) (shared : Shared) (n : ℕ) (t : Tale)
-    (arrived : Arrived b c s main shared (iterate tell n t)) where
+module _ (b : Base) (compiles : CompilesStep b) (c : Code) (s : Setting) (main : Function) (shared : Shared) (n : ℕ)
+    (t : Tale) (arrived : Arrived b c s main shared (iterate tell n t)) where
+  -- a state of the run, related to a tale
+  record Reached (a : State) (u : Tale) : Type 0 where
+    steps : ℕ
+    is : a ≡ upper b main shared steps
+    related : Related b a u
+
+  last : (i : ℕ) (a : State) → iterate (advance b.program) (suc i) a ≡ advance b.program (iterate (advance b.program)
+      i a)
+  last zero a = refl
+  last (suc i) a = last i (advance b.program a)
+
+  all_compile : (a : State) (u : Tale) → Reached a u → AllCompile b (log_of a)
+  all_compile a u r number value syntax e =
+      arrived.compilable r.steps number value syntax
+      (subst (λ (v : State). IsTickOf value syntax (specification_at number (log_of v).shared)) r.is e)
+
+  reached_simulates : (a : State) (u : Tale) → (see_told b a).ending ≡ None → Reached a u
+      → ((k : ℕ) → k < most_at (advance b.program a) - most_at a → IsWellChosen (iterate tell k u).world)
+      → (s : SimulatesStep (advance b.program) tell least_at most_at Reached a u) × AllWay tell IsCalm s.count u
+  reached_simulates a u none r fine =
+      let p = simulates b arrived.ticks compiles a u none r.related (all_compile a u r) fine in
+      let q = p.0 in (
+        record {
+          count = q.count;
+          from = q.from;
+          to = q.to;
+          related = record {
+            steps = suc r.steps;
+            is = ap (advance b.program) r.is ∙ sym (last r.steps (first main shared));
+            related = q.related;
+          };
+        },
+        p.1,
+      )
+
+  looks_alike : (a : State) (u : Tale) → Reached a u → see_told b a ≡ see_tale u
+  looks_alike a u r = same b a u r.related
+
   record Started : Type 0 where
     count : ℕ
     low : 1 ≤ count
     high : count ≤ n + 32
-    related : Related b (first main shared) (iterate tell count t)
+    reached : Reached (first main shared) (iterate tell count t)
     calm : AllWay tell IsCalm (count - n) (iterate tell n t)
-    unfinished : AllWay tell FinishesNone (count - n) (iterate tell n t)
     over : n ≤ count
 
   start : Started
@@ -379,9 +428,12 @@ module _ (b : Base) (c : Code) (s : Setting) (main : Function) (shared : Shared)
         count = n + m.0;
         low = omega (arith, low);
         high = omega (arith, high);
-        related = subst (Related b (first main shared)) (sym (iterate_add tell n m.0 t)) there;
+        reached = record {
+          steps = 0;
+          is = refl;
+          related = subst (Related b (first main shared)) (sym (iterate_add tell n m.0 t)) there;
+        };
         calm = subst (λ k. AllWay tell IsCalm k (iterate tell n t)) (sym e) l.calm;
-        unfinished = subst (λ k. AllWay tell FinishesNone k (iterate tell n t)) (sym e) l.unfinished;
         over = omega arith;
       }
 
@@ -392,10 +444,10 @@ module _ (b : Base) (c : Code) (s : Setting) (main : Function) (shared : Shared)
       let begun = start in
       let low = begun.low in
       let high = begun.high in
-      pays_within (advance b.program) tell least_at most_at (see_told b) see_tale (Related b) (same b)
+      pays_within (advance b.program) tell least_at most_at (see_told b) see_tale Reached looks_alike
       (λ t. IsWellChosen t.world) (halts b) (rises b.program)
-      (λ a t none r fine. (simulates b arrived.ticks a t none r fine).0) (n + 32) bound (first main shared) t
-      (λ k l. subst IsWellChosen (sym (world_of_tale k t)) (fine k l)) begun.count begun.related (omega (arith, low))
+      (λ a t none r fine. (reached_simulates a t none r fine).0) (n + 32) bound (first main shared) t
+      (λ k l. subst IsWellChosen (sym (world_of_tale k t)) (fine k l)) begun.count begun.reached (omega (arith, low))
       (omega (arith, high))
 
   pub calm_run : IsUnspoiled n t.world → (units each besides : ℕ) (meaning : ℕ → Seen Told End)
@@ -413,39 +465,17 @@ module _ (b : Base) (c : Code) (s : Setting) (main : Function) (shared : Shared)
       (unspoiled_on n (begun.count - n) t.world first_calm
       (subst (IsUnspoiled (begun.count - n)) (world_of_tale n t)
       (tale_unspoiled (begun.count - n) (iterate tell n t) begun.calm))) in
-      seam_unspoiled (advance b.program) least_at most_at (see_told b) (Related b) (same b) (halts b) (rises b.program)
-      (simulates b arrived.ticks) (n + 32) (first main shared) t units each besides meaning follows begun.count
-      begun.related (omega (arith, low)) (omega (arith, high)) front fine
+      seam_unspoiled (advance b.program) least_at most_at (see_told b) Reached looks_alike (halts b) (rises b.program)
+      reached_simulates (n + 32) (first main shared) t units each besides meaning follows begun.count
+      begun.reached (omega (arith, low)) (omega (arith, high)) front fine
 
-  ended_none : (k : ℕ) (v : Tale) (e : End) → (see_tale v).ending ≡ Some e → AllWay tell FinishesNone k v
-  ended_none k v e is =
-      none_finished k v (ended_finishes_none k v.world (ap (λ (o : Option End). is_some o) is))
-
-  pub none_run : IsUnfinished n t.world → (units each besides : ℕ) (meaning : ℕ → Seen Told End)
-      → FollowsAtCost each besides meaning (λ i. see_told b (upper b main shared i))
-      (λ i. least_at (upper b main shared i)) (λ i. most_at (upper b main shared i)) → IsUnfinished units t.world
-  none_run first_none units each besides meaning follows =
-      let begun = start in
-      let low = begun.low in
-      let high = begun.high in
-      let over = begun.over in
-      let e : n + (begun.count - n) ≡ begun.count = omega (arith, over) in
-      let front : AllWay tell FinishesNone begun.count t =
-      subst (λ k. AllWay tell FinishesNone k t) e
-      (way_on tell FinishesNone n (begun.count - n) t (none_finished n t first_none) begun.unfinished) in
-      let way = holds_within (advance b.program) tell least_at most_at (see_told b) see_tale (Related b) (same b)
-      (λ v. Unit {0}) FinishesNone (halts b) (rises b.program) (finishes_none b arrived.ticks) ended_none (n + 32)
-      (each * units + (besides + (n + 32))) (first main shared) t (λ k l. tt) units each besides meaning follows
-      (omega arith) begun.count begun.related (omega (arith, low)) (omega (arith, high)) front in
-      λ j l. subst (λ (w : World). is_serving 66 w ≡ false) (world_of_tale j t) (way j l)
-
+-- so it is, where the op that compiles is a step
 pub simulated : ProgramIsSimulated
-simulated b c s main shared n t arrived bound fine = pays b c s main shared n t arrived bound fine
+simulated b c s main shared n t arrived bound fine =
+    pays b (compile_step b arrived.ticks arrived.generators) c s main shared n t arrived bound fine
 
 pub unspoiled : ProgramIsUnspoiled
 unspoiled b c s main shared n t arrived first_calm units each besides meaning follows fine =
-    calm_run b c s main shared n t arrived first_calm units each besides meaning follows fine
-
-pub unfinished : ProgramFinishesNone
-unfinished b c s main shared n t arrived first_none units each besides meaning follows =
-    none_run b c s main shared n t arrived first_none units each besides meaning follows
+    calm_run b (compile_step b arrived.ticks arrived.generators) c s main shared n t arrived first_calm units each
+    besides
+    meaning follows fine
