@@ -1,7 +1,7 @@
 -- The evaluation of an expression that stands right in a function or a tick keeps the rows of specifications known.
-use Rattle.std.proofs.Common.{◌≡◌, ℕ, suc, ◌+◌, ◌-◌, ◌*◌, ◌/◌, Bool, true, false, ◌&&◌, nat_le, List, [], ◌∷◌, ◌++◌}
+use Rattle.std.proofs.Common.{◌≡◌, ℕ, suc, ◌-◌, Bool, true, false, ◌&&◌, nat_le, List}
 use Rattle.std.proofs.Common.{length}
-use Rattle.std.proofs.Common.{Option, Some, None, slice_get, refl, sym, ap, ◌∙◌, subst, if◌then◌else◌}
+use Rattle.std.proofs.Common.{Option, Some, None, slice_get, refl, sym, ap, ◌∙◌, subst}
 use Rattle.std.specs.List.{list_all}
 use Rattle.word32.specs.Parts.{narrowed}
 use Rattle.word32.specs.Words.{sum}
@@ -13,14 +13,10 @@ use Rattle.meaning_state.specs.Operators.{bin_value, bin_trap, un_value}
 use Rattle.meaning_state.specs.Shared.{Shared, Specification, Expression, Statement, Local, Param, Read, Got, Failed}
 use Rattle.meaning_state.specs.Shared.{read}
 use Rattle.meaning_state.specs.Shared.{get_byte, byte_answer, put_byte, put_number, access_trap, loaded, stored, malloc}
-use Rattle.meaning_state.specs.Shared.{malloc_answer, is_room}
-use Rattle.meaning_state.specs.Bodies.{Body, new_body}
-use Rattle.meaning_state.specs.Rows.{numbered, table_trap, arena_trap, arena_words, next_function, next_place}
-use Rattle.meaning_state.specs.Rows.{placed, made}
-use Rattle.typed_tree.specs.declared.expression.CaptureKind.{CaptureKind}
-use Rattle.typed_tree.specs.declared.expression.CaptureKind.TheVariants as kind
+use Rattle.meaning_state.specs.Shared.{malloc_answer}
+use Rattle.meaning_state.specs.Rows.{numbered, table_trap, arena_trap, next_function}
+use Rattle.meaning_state.specs.Rows.{made}
 use Rattle.typed_tree.specs.declared.expression.Answer.{Answer}
-use Rattle.typed_tree.specs.declared.expression.Answer.TheVariants as answer
 use Rattle.typed_tree.specs.declared.expression.Library.TheVariants as library
 use Rattle.typed_tree.specs.Nodes as node
 use Rattle.typed_tree.specs.Nodes.{Expr, Args, fold_args, count}
@@ -33,20 +29,19 @@ use Rattle.wellformed.proofs.Bools.{first_true, second_true}
 use Rattle.wf_ready.proofs.Scoped.{part, two}
 use Rattle.wf_ready.proofs.Ticks.{kinds_there, as_listed}
 use Rattle.staged_meaning.specs.Program.{Program, callee_at, call_trap, syntax_size}
-use Rattle.staged_meaning.specs.Specifications.{kind_of, kinds_of, compile_syntax}
+use Rattle.staged_meaning.specs.Specifications.{kinds_of, compile_syntax}
 use Rattle.staged_meaning.specs.Specifications.{compile_row, compile_number}
 use Rattle.staged_meaning.specs.Expressions.{Context, eval, eval_args, load_at, stored_with, store_at, modify_at}
 use Rattle.staged_meaning.specs.Expressions.{post_at}
 use Rattle.staged_meaning.specs.Expressions.{answered, call_numbered, left_by}
 use Rattle.staged_meaning.specs.World.{World, spend, spend_all, with_shared}
 use Rattle.staged_meaning.specs.World.{with_variable, with_generated}
-use Rattle.icode_ir.specs.Sound.{Each}
-use Rattle.icode_ir.proofs.Sounds.{Each-append}
 use Rattle.known_closures_proof.specs.Known.{IsMeaning, IsCode, AreKnown}
 use Rattle.known_closures_proof.proofs.Keeping.{Keeps, KeepsLength, then_keeps, lists_keep, one_before, before_list}
 use Rattle.known_closures_proof.proofs.Keeping.{spend_keeps}
 use Rattle.known_closures_proof.proofs.Keeping.{unless_keeps, zero_keeps, all_spent}
 use Rattle.known_closures_proof.proofs.Making.{known_same, row_code, specify_keeps, parameter_keeps, tick_keeps}
+use Rattle.known_closures_proof.proofs.Making.{malloc_known, known_made}
 
 as_many : (args : Args) → count args ≡ length (kinds_of args)
 as_many node.NoArg = refl
@@ -100,34 +95,6 @@ module _ (p : node.Program) (accepted : IsProgram p) (program : Program) (meanin
   answered_keeps (Got x shared) w k known = spend_keeps Known x (with_shared shared w) known
   answered_keeps Failed w k known = k
 
-  malloc_known : (bytes : ℕ) (s : Shared) → Known s → Known (malloc bytes s)
-  malloc_known bytes s k = by (is_room bytes s)
-    where
-      more : Shared
-      more = record s { heap = s.heap + (bytes + 7) / 8 * 8 }
-
-      by : (b : Bool) → Known (if b then more else s)
-      by true = known_same p accepted s more refl refl refl k
-      by false = k
-
-  -- a function more
-  known_made : (function size : ℕ) (syntax : Syntax) (s : Shared) → IsCode p accepted syntax → Known s
-      → Known (made function syntax size s)
-  known_made function size syntax s is k = record {
-    rows = k.rows;
-    keys = k.keys;
-    bytes = k.bytes;
-    within = k.within;
-    bodies = by (next_place (arena_words size) s);
-  }
-    where
-      by : (place : Option ℕ) → Each (λ (b : Body). IsCode p accepted b.syntax)
-          (placed place syntax (arena_words size) s.bodies)
-      by None = k.bodies
-      by (Some place) =
-          Each-append (λ (b : Body). IsCode p accepted b.syntax) s.bodies
-          (new_body syntax place (arena_words size) ∷ []) k.bodies (is, tt)
-
   compile_keeps : (syntax : Syntax) (w : World) → IsCode p accepted syntax → Known w.shared
       → Keeps Known (compile_syntax program syntax w)
   compile_keeps syntax w is k =
@@ -137,7 +104,7 @@ module _ (p : node.Program) (accepted : IsProgram p) (program : Program) (meanin
       (λ none. unless_keeps Known (arena_trap size w.shared) w _ k
       (λ none. then_keeps Known (spend_all size w) _ (all_spent Known size w k)
       (λ flow w k. spend_keeps Known function (with_shared (made function syntax size w.shared) w)
-      (known_made function size syntax w.shared is k))))
+      (known_made p accepted function size syntax w.shared is k))))
 
   row_keeps : (number : ℕ) (o : Option Specification) (w : World) → numbered number w.shared.specifications ≡ o
       → Known w.shared → Keeps Known (compile_row program o w)
@@ -269,7 +236,7 @@ module _ (p : node.Program) (accepted : IsProgram p) (program : Program) (meanin
           then_keeps Known (eval c e w) _ (eval_keeps e h w k) (λ v w k. k)
       eval_keeps (node.Lib library.Malloc e) h w k =
           then_keeps Known (eval c e w) _ (eval_keeps e h w k) (λ v w k. spend_keeps Known (malloc_answer v w.shared)
-          (with_shared (malloc v w.shared) w) (malloc_known v w.shared k))
+          (with_shared (malloc v w.shared) w) (malloc_known p accepted v w.shared k))
       eval_keeps (node.Tick t args) h w k =
           let ps : List Part = fold_args expr_rule args in
           let front : Bool = in_function a && list_all (λ p. p.is_capture a) ps in

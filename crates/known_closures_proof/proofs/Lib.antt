@@ -6,3 +6,5 @@ pub mod Running
 pub mod Rows
 pub mod Obeyed
 pub mod Dear
+pub mod Steps
+pub mod Functions

@@ -1,5 +1,5 @@
 -- A specification that is made is known where the earlier ones are.
-use Rattle.std.proofs.Common.{◌≡◌, ℕ, zero, suc, ◌+◌, ◌<◌, ◌≤◌, Bool, true, false, List, [], ◌∷◌, ◌++◌, length}
+use Rattle.std.proofs.Common.{◌≡◌, ℕ, zero, suc, ◌+◌, ◌*◌, ◌/◌, ◌<◌, ◌≤◌, Bool, true, false, List, [], ◌∷◌, ◌++◌, length}
 use Rattle.std.proofs.Common.{Option, Some, None, slice_get, refl, sym, ap, ◌∙◌, subst, arith}
 use Rattle.std.specs.Prelude.{nat_le, if◌then◌else◌}
 use Rattle.std.proofs.lemmas.Bool.Decides.{nat_tests}
@@ -10,9 +10,9 @@ use Rattle.word32.specs.declared.map.TheConstants.{CLOSURE_BYTES}
 use Rattle.host_edge.specs.declared.ending.TrapKind.{TrapKind}
 use Rattle.host_edge.specs.declared.ending.TrapKind.TheVariants.{BadSpec, SpecLimit, SizeLimit, BadParam}
 use Rattle.history.specs.Syntax.{Syntax, Ticked, Captures, NoCapture, Word, Named, Spliced}
-use Rattle.meaning_state.specs.Shared.{Shared, Specification, Expression, Statement, Local, Param}
+use Rattle.meaning_state.specs.Shared.{Shared, Specification, Expression, Statement, Local, Param, malloc, is_room}
 use Rattle.meaning_state.specs.Rows.{numbered, closure_trap, closure_bytes, size_trap, index_trap, next_number}
-use Rattle.meaning_state.specs.Rows.{specified}
+use Rattle.meaning_state.specs.Rows.{specified, arena_words, next_place, placed, made}
 use Rattle.meaning_state.specs.Rows.{keys_of, keys_in}
 use Rattle.typed_tree.specs.declared.expression.Answer.{Answer}
 use Rattle.typed_tree.specs.declared.expression.Answer.TheVariants as answer
@@ -20,7 +20,7 @@ use Rattle.typed_tree.specs.declared.expression.CaptureKind.{CaptureKind}
 use Rattle.typed_tree.specs.declared.expression.CaptureKind.TheVariants as kind
 use Rattle.typed_tree.specs.Nodes as node
 use Rattle.typed_tree.specs.Sizes.{is_value}
-use Rattle.meaning_state.specs.Bodies.{Body}
+use Rattle.meaning_state.specs.Bodies.{Body, new_body}
 use Rattle.wellformed.specs.Program.{IsProgram}
 use Rattle.icode_ir.specs.Sound.{Each}
 use Rattle.icode_ir.proofs.Sounds.{Each-append, Each-weaker}
@@ -123,7 +123,7 @@ module _ (p : node.Program) (accepted : IsProgram p) where
       its_keys true low = low
       its_keys false low = low
 
-  new_row : (row : Specification) (captures : ℕ) (s : Shared) → Known s → IsRow p accepted row
+  pub new_row : (row : Specification) (captures : ℕ) (s : Shared) → Known s → IsRow p accepted row
       → Low (length s.specifications) (keys_of_row row) → closure_trap captures s ≡ None
       → Known (specified row captures s)
   new_row row captures s k is low none =
@@ -283,6 +283,25 @@ module _ (p : node.Program) (accepted : IsProgram p) where
   keys_same true syntax = refl
   keys_same false syntax = refl
 
+  -- a tick's specification, of captures that it may have, is a row, and names variables that are there
+  tick_row : (program : Program) → program.ticks ≡ ticks_of p → (tick : ℕ) (kinds : List CaptureKind)
+      (words : List ℕ) (s : Shared) → Known s → slice_get accepted.captures tick ≡ Some kinds
+      → length words ≡ length kinds → captures_trap s.specifications kinds words ≡ None
+      → let syntax = Ticked tick (captures_of s.specifications kinds words) in
+      let row = specification_of (is_expression (slice_get program.ticks tick)) syntax in
+      size_trap (syntax_size program syntax) ≡ None
+      → IsRow p accepted row × Low (length s.specifications) (keys_of_row row)
+  tick_row program ticks tick kinds words s k own same none small =
+      let rows : List Specification = s.specifications in
+      let syntax : Syntax = Ticked tick (captures_of rows kinds words) in
+      let v : Bool = is_expression (slice_get program.ticks tick) in
+      let it = new rows k.rows (all_low 0 (length rows) rows (omega arith) k.keys) tick kinds words own
+      (sym same) none in (
+        row_of v syntax it.made (ap (λ z. is_expression (slice_get z tick)) (sym ticks))
+            (small_by program syntax ticks small),
+        subst (λ z. Low (length rows) z) (sym (keys_same v syntax)) it.keys,
+      )
+
   pub tick_keeps : (program : Program) → program.ticks ≡ ticks_of p → (tick : ℕ) (kinds : List CaptureKind)
       (words : List ℕ) (w : World) → Known w.shared → slice_get accepted.captures tick ≡ Some kinds
       → length words ≡ length kinds → Keeps Known (specify_tick program tick kinds words w)
@@ -294,9 +313,47 @@ module _ (p : node.Program) (accepted : IsProgram p) where
       (λ none. unless_keeps Known (size_trap (syntax_size program syntax)) w
       (specify (specification_of v syntax) (length words) w) k
       (λ small.
-      let it = new rows k.rows (all_low 0 (length rows) rows (omega arith) k.keys) tick kinds words own
-      (sym same) none in
-      specify_keeps (specification_of v syntax) (length words) w k
-      (row_of v syntax it.made (ap (λ z. is_expression (slice_get z tick)) (sym ticks))
-      (small_by program syntax ticks small))
-      (subst (λ z. Low (length rows) z) (sym (keys_same v syntax)) it.keys)))
+      let it = tick_row program ticks tick kinds words w.shared k own same none small in
+      specify_keeps (specification_of v syntax) (length words) w k it.0 it.1))
+
+  -- the row is there
+  pub tick_known : (program : Program) → program.ticks ≡ ticks_of p → (tick : ℕ) (kinds : List CaptureKind)
+      (words : List ℕ) (s : Shared) → Known s → slice_get accepted.captures tick ≡ Some kinds
+      → length words ≡ length kinds → captures_trap s.specifications kinds words ≡ None
+      → let syntax = Ticked tick (captures_of s.specifications kinds words) in
+      size_trap (syntax_size program syntax) ≡ None → closure_trap (length words) s ≡ None
+      → Known (specified (specification_of (is_expression (slice_get program.ticks tick)) syntax) (length words) s)
+  tick_known program ticks tick kinds words s k own same none small room =
+      let it = tick_row program ticks tick kinds words s k own same none small in
+      new_row (specification_of (is_expression (slice_get program.ticks tick))
+      (Ticked tick (captures_of s.specifications kinds words))) (length words) s k it.0 it.1 room
+
+  -- ---- memory and functions
+
+  pub malloc_known : (bytes : ℕ) (s : Shared) → Known s → Known (malloc bytes s)
+  malloc_known bytes s k = by (is_room bytes s)
+    where
+      more : Shared
+      more = record s { heap = s.heap + (bytes + 7) / 8 * 8 }
+
+      by : (b : Bool) → Known (if b then more else s)
+      by true = known_same s more refl refl refl k
+      by false = k
+
+  -- a function more
+  pub known_made : (function size : ℕ) (syntax : Syntax) (s : Shared) → IsCode p accepted syntax → Known s
+      → Known (made function syntax size s)
+  known_made function size syntax s is k = record {
+    rows = k.rows;
+    keys = k.keys;
+    bytes = k.bytes;
+    within = k.within;
+    bodies = by (next_place (arena_words size) s);
+  }
+    where
+      by : (place : Option ℕ) → Each (λ (b : Body). IsCode p accepted b.syntax)
+          (placed place syntax (arena_words size) s.bodies)
+      by None = k.bodies
+      by (Some place) =
+          Each-append (λ (b : Body). IsCode p accepted b.syntax) s.bodies
+          (new_body syntax place (arena_words size) ∷ []) k.bodies (is, tt)

@@ -6,12 +6,11 @@ use Rattle.std.proofs.lemmas.Bool.Decides.{nat_tests}
 use Rattle.word32.specs.declared.map.TheConstants.{TEXT, ARENA, ARENA_BYTES, ARENA_WORDS, FUNCTION_ROWS}
 use Rattle.limits.specs.declared.program.TheConstants.{MOST_ARGUMENTS}
 use Rattle.host_edge.specs.declared.ending.TrapKind.{TrapKind}
-use Rattle.host_edge.specs.declared.ending.TrapKind.TheVariants.{ArenaLimit, TableLimit}
+use Rattle.host_edge.specs.declared.ending.TrapKind.TheVariants.{TableLimit}
 use Rattle.history.specs.Syntax.{Syntax, Ticked, Captures, NoCapture, Word, Named, Spliced}
 use Rattle.mips_model.specs.State.{Outside}
 use Rattle.mips_model.specs.Services.{next_choice}
-use Rattle.meaning_state.specs.Shared.{Shared}
-use Rattle.meaning_state.specs.Rows.{parameters_of, parameters_in, key_parameters, arena_words, arena_trap, table_trap}
+use Rattle.meaning_state.specs.Rows.{parameters_of, parameters_in, key_parameters, arena_words, table_trap}
 use Rattle.staged_meaning.specs.Program.{syntax_size}
 use Rattle.icode_ir.specs.declared.build_op.BuildOp.{BuildOp}
 use Rattle.icode_ir.specs.Build.{Build, empty}
@@ -24,7 +23,7 @@ use Rattle.generator_laws.specs.Pieces.{syntax_ops}
 use Rattle.generator_laws.specs.Served.{AreObeyed, outside_after}
 use Rattle.generator_laws.proofs.Makings.{ops_obeyed, ops_built}
 use Rattle.compile_routine.specs.Places.{place_address}
-use Rattle.compile_routine.specs.Laws.{return_ops, arena_address, frame_bytes}
+use Rattle.compile_routine.specs.Laws.{return_ops, frame_bytes}
 use Rattle.generator_spec.proofs.Lowered.{lowered}
 use Rattle.generator_spec.specs.FittingLaws.{ticks_of, program_pieces}
 use Rattle.known_closures_proof.specs.Laws.{CompilesAreObeyed}

@@ -29,7 +29,7 @@ use Rattle.tick_lower_spec.specs.Specifications.{specification_ops}
 use Rattle.mips_model.specs.CodeServices.{finish_refusal, words_of}
 use Rattle.generator_laws.specs.Laws.{built_of}
 use Rattle.compile_routine.specs.Places.{place_address}
-use Rattle.compile_routine.specs.Laws.{IsTickOf, return_ops, arena_address, frame_bytes}
+use Rattle.compile_routine.specs.Laws.{IsTickOf, return_ops, frame_bytes}
 use Rattle.closures_proof.specs.Relation.{IsOf}
 use Rattle.generator_spec.specs.Kinds.{tick_of_body}
 use Rattle.generator_spec.specs.FittingLaws.{ticks_of}

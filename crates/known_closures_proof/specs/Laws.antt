@@ -6,7 +6,7 @@ use Rattle.limits.specs.declared.program.TheConstants.{SIZE_LIMIT}
 use Rattle.mips_model.specs.State.{Code, Data, Outside}
 use Rattle.word32.specs.declared.map.TheConstants.{ARENA_WORDS}
 use Rattle.meaning_state.specs.Shared.{Shared}
-use Rattle.meaning_state.specs.Rows.{specification_at, parameters_of, arena_words, arena_trap, table_trap}
+use Rattle.meaning_state.specs.Rows.{specification_at, parameters_of, arena_words, table_trap}
 use Rattle.typed_tree.specs.Nodes as node
 use Rattle.typed_tree.specs.declared.program.TypedParts.{TypedParts}
 use Rattle.typed_tree.specs.View.{program_view}
@@ -29,7 +29,7 @@ use Rattle.generator_laws.specs.Laws.{HasGenerators, Enters, built_of, Issues}
 use Rattle.mips_model.specs.Choices.{Choice}
 use Rattle.mips_model.specs.CodeServices.{finish_refusal, words_of}
 use Rattle.compile_routine.specs.Places.{place_address}
-use Rattle.compile_routine.specs.Laws.{IsTickOf, return_ops, arena_address, frame_bytes, compile_calls}
+use Rattle.compile_routine.specs.Laws.{IsTickOf, return_ops, frame_bytes, compile_calls}
 use Rattle.generator_laws.specs.Pieces.{syntax_ops}
 use Rattle.generator_laws.specs.Served.{AreObeyed}
 use Rattle.mips_model.specs.Services.{next_choice}

@@ -9,6 +9,8 @@ ghost use Rattle.known_closures_proof.specs.Laws.{KnownSpecificationsAreDear, Kn
 ghost use Rattle.known_closures_proof.specs.Laws.{ProgramsAreMeant};
 ghost use Rattle.known_closures_proof.specs.Laws.{KnownOnePassIsFew, KnownPreludesSetKeys, KnownRowsAreSmall};
 ghost use Rattle.known_closures_proof.specs.Laws.{RowsAreKnown, RunsAreDear};
+ghost use Rattle.known_closures_proof.specs.Functions.{CodeHasFunctions, CodeIsWhole, KnownRowsAreCode};
+ghost use Rattle.known_closures_proof.specs.StateLaws.{RunsKeepRows, StepsKeepRows};
 
 /// The program of a text, as it has a meaning, has the functions and the ticks of its typed tree.
 pub fn programs_are_meant()
@@ -90,4 +92,29 @@ pub fn known_preludes_set_keys()
 /// A specification of a run is within the limit of sizes.
 pub fn known_rows_are_small()
     ensures { KnownRowsAreSmall }
+{}
+
+/// A step of the staged machine keeps the rows of specifications known.
+pub fn steps_keep_rows()
+    ensures { StepsKeepRows }
+{}
+
+/// They are known in each state of a run.
+pub fn runs_keep_rows()
+    ensures { RunsKeepRows }
+{}
+
+/// What code is made of has a function that the services take.
+pub fn code_has_functions()
+    ensures { CodeHasFunctions }
+{}
+
+/// And the pieces of its ticks are whole.
+pub fn code_is_whole()
+    ensures { CodeIsWhole }
+{}
+
+/// The specification of a row of a run is one that code is made of.
+pub fn known_rows_are_code()
+    ensures { KnownRowsAreCode }
 {}

@@ -67,7 +67,7 @@ module _ (fs : List Function) where
       (callee_of fs f n r.0 (ap (λ (ns : List ℕ). takes n (slice_get ns (f - 1))) (sym is) ∙ r.1) q.1)
 
   mutual
-    expr_calls : (a : Around) → a.functions ≡ parameters_of fs → (e : Expr) → (part e).stands a ≡ true → HasCalls fs e
+    pub expr_calls : (a : Around) → a.functions ≡ parameters_of fs → (e : Expr) → (part e).stands a ≡ true → HasCalls fs e
     expr_calls a is (node.SetVar i e) h = expr_calls a is e (second_true _ ((part e).stands a) h)
     expr_calls a is (node.VSet i e) h = expr_calls a is e (second_true _ ((part e).stands a) h)
     expr_calls a is (node.Load w e) h = expr_calls a is e h
@@ -150,7 +150,7 @@ module _ (fs : List Function) where
   label_or a _ h f = f h
 
   mutual
-    stmt_calls : (a : Around) → a.functions ≡ parameters_of fs → (s : Stmt) → (act s).stands a ≡ true
+    pub stmt_calls : (a : Around) → a.functions ≡ parameters_of fs → (s : Stmt) → (act s).stands a ≡ true
         → HasCallsStmt fs s
     stmt_calls a is (node.Eval e) h = expr_calls a is e h
     stmt_calls a is (node.Block vs xs) h =

@@ -22,7 +22,7 @@ all_captured_in a args = list_all (λ p. p.is_capture a) (fold_args expr_rule ar
 
 module _ (object : ℕ) where
   mutual
-    expr_frames : (a : Around) → a.object ≡ object → (e : Expr) → (part e).stands a ≡ true → HasFrames object e
+    pub expr_frames : (a : Around) → a.object ≡ object → (e : Expr) → (part e).stands a ≡ true → HasFrames object e
     expr_frames a is (node.SetVar i e) h = expr_frames a is e (second_true _ ((part e).stands a) h)
     expr_frames a is (node.VSet i e) h = expr_frames a is e (second_true _ ((part e).stands a) h)
     expr_frames a is (node.Frame off) h =
@@ -138,7 +138,7 @@ module _ (object : ℕ) where
   label_or a _ h f = f h
 
   mutual
-    stmt_frames : (a : Around) → a.object ≡ object → (s : Stmt) → (act s).stands a ≡ true
+    pub stmt_frames : (a : Around) → a.object ≡ object → (s : Stmt) → (act s).stands a ≡ true
         → HasFramesStmt object s
     stmt_frames a is (node.Eval e) h = expr_frames a is e h
     stmt_frames a is (node.Block vs xs) h =

@@ -7,3 +7,5 @@ pub mod Placed
 pub mod Headed
 pub mod Frames
 pub mod Words
+pub mod Built
+pub mod Readied

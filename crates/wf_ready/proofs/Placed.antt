@@ -80,7 +80,7 @@ in_switch : (a : Around) (m : Allowed) (vs : Items) → Agrees a m →
 in_switch a m vs h = record { breaks = λ k. refl; continues = h.continues }
 
 mutual
-  stmt_placed : (a : Around) (m : Allowed) → Agrees a m → (s : Stmt) → (act s).stands a ≡ true → IsPlaced m s
+  pub stmt_placed : (a : Around) (m : Allowed) → Agrees a m → (s : Stmt) → (act s).stands a ≡ true → IsPlaced m s
   stmt_placed a m g (node.Block vs is) h =
       let q = two (all_declare (fold_items rules vs) a)
       (all_stand (fold_items rules is) (within (fold_items rules vs) a)) h in (

@@ -36,7 +36,7 @@ two b c h = (first_true b c h, second_true b c h)
 
 module _ (a : Around) (scope : Scope) (seen : Holds a.variables scope) where
   mutual
-    expr_scoped : (e : Expr) → (part e).stands a ≡ true → IsScoped scope e
+    pub expr_scoped : (e : Expr) → (part e).stands a ≡ true → IsScoped scope e
     expr_scoped (node.Const w) h = tt
     expr_scoped (node.Captured k i) h = tt
     expr_scoped (node.Var i) h = seen i h
@@ -218,7 +218,7 @@ label_same a scope (node.Parameter k w) h = absurd cc
 label_same a scope _ h = refl
 
 mutual
-  stmt_scoped : (a : Around) (scope : Scope) → Holds a.variables scope → (s : Stmt) → (act s).stands a ≡ true →
+  pub stmt_scoped : (a : Around) (scope : Scope) → Holds a.variables scope → (s : Stmt) → (act s).stands a ≡ true →
       IsScopedStmt scope s
   stmt_scoped a scope seen (node.Eval e) h = expr_scoped a scope seen e h
   stmt_scoped a scope seen (node.Block vs is) h =

@@ -1,7 +1,7 @@
 -- Each tick in an accepted text's functions has as many captures as the tick of its number names, of these kinds, and a
--- capture stands nowhere else, and no node names one.
-use Rattle.std.proofs.Common.{◌≡◌, ℕ, ◌==◌, Bool, true, false, ◌&&◌, ◌||◌, nat_le}
-use Rattle.std.proofs.Common.{List, [], ◌∷◌, ◌++◌, length, take, drop, refl, sym, ap, subst, ◌∙◌, slice_get, Option}
+-- capture stands nowhere else.
+use Rattle.std.proofs.Common.{◌≡◌, ℕ, Bool, true, ◌&&◌, ◌||◌, nat_le}
+use Rattle.std.proofs.Common.{List, [], ◌∷◌, ◌++◌, length, take, drop, refl, sym, ap, ◌∙◌, slice_get, Option}
 use Rattle.std.proofs.Common.{Some, None}
 use Rattle.std.specs.List.{list_all}
 use Rattle.typed_tree.specs.declared.expression.Answer.{Answer}
@@ -15,7 +15,6 @@ use Rattle.wellformed.specs.Places.{all_different, all_declare, all_stand, is_la
 use Rattle.wellformed.specs.Places.{looped, switched, kinds_at, same_kinds, same_kind, same_answer}
 use Rattle.wellformed.specs.Places.{captured, captured_in, is_variable, is_word, is_splice}
 use Rattle.wellformed.specs.Places as places
-use Rattle.std.proofs.lemmas.Bool.{false≢true}
 use Rattle.wellformed.specs.Program.{IsFunction, round_function}
 use Rattle.wellformed.proofs.Bools.{first_true, second_true}
 use Rattle.staged_meaning.specs.Specifications.{kind_of, kinds_of}
@@ -31,7 +30,7 @@ same_answers answer.Void answer.Void h = refl
 same_answers answer.Value answer.Void h = absurd cc
 same_answers answer.Void answer.Value h = absurd cc
 
-kinds_are : (k m : CaptureKind) → same_kind k m ≡ true → k ≡ m
+pub kinds_are : (k m : CaptureKind) → same_kind k m ≡ true → k ≡ m
 kinds_are kind.Dollar kind.Dollar h = refl
 kinds_are kind.Address kind.Address h = refl
 kinds_are kind.Variable kind.Variable h = refl
@@ -64,82 +63,73 @@ as_listed a (node.Arg e args) h =
 
 -- ---- expressions
 
--- outside of ticks no node names a capture
-unnamed : (p : CaptureKind → Bool) (i : ℕ) (a : Around) → a.captures ≡ None → captured p i a ≡ true → ⊥
-unnamed p i a none h = false≢true (sym (ap (captured_in p i) none) ∙ h)
-
 module _ (ticks : List (List CaptureKind)) where
   mutual
-    expr_ticks : (a : Around) → a.ticks ≡ ticks → a.captures ≡ None → (e : Expr) → (part e).stands a ≡ true →
+    pub expr_ticks : (a : Around) → a.ticks ≡ ticks → (e : Expr) → (part e).stands a ≡ true →
         HasTicks ticks e
-    expr_ticks a is none (node.SetVar i e) h = expr_ticks a is none e (second_true _ ((part e).stands a) h)
-    expr_ticks a is none (node.VSet i e) h =
-        absurd (unnamed is_variable i a none (first_true (captured is_variable i a) ((part e).stands a) h))
-    expr_ticks a is none (node.Captured w i) h = absurd (unnamed (is_word w) i a none h)
-    expr_ticks a is none (node.VGet i) h = absurd (unnamed is_variable i a none h)
-    expr_ticks a is none (node.VPost i step) h = absurd (unnamed is_variable i a none h)
-    expr_ticks a is none (node.Splice r i) h = absurd (unnamed (is_splice r) i a none h)
-    expr_ticks a is none (node.Load w e) h = expr_ticks a is none e h
-    expr_ticks a is none (node.Store w e f) h =
+    expr_ticks a is (node.SetVar i e) h = expr_ticks a is e (second_true _ ((part e).stands a) h)
+    expr_ticks a is (node.VSet i e) h = expr_ticks a is e (second_true _ ((part e).stands a) h)
+    expr_ticks a is (node.Load w e) h = expr_ticks a is e h
+    expr_ticks a is (node.Store w e f) h =
         let q = two ((part e).stands a) ((part f).stands a) h in
-        (expr_ticks a is none e q.0, expr_ticks a is none f q.1)
-    expr_ticks a is none (node.Modify w k e f) h =
+        (expr_ticks a is e q.0, expr_ticks a is f q.1)
+    expr_ticks a is (node.Modify w k e f) h =
         let q = two ((part e).stands a) ((part f).stands a) h in
-        (expr_ticks a is none e q.0, expr_ticks a is none f q.1)
-    expr_ticks a is none (node.Post w step e) h = expr_ticks a is none e h
-    expr_ticks a is none (node.Bin k e f) h =
+        (expr_ticks a is e q.0, expr_ticks a is f q.1)
+    expr_ticks a is (node.Post w step e) h = expr_ticks a is e h
+    expr_ticks a is (node.Bin k e f) h =
         let q = two ((part e).stands a) ((part f).stands a) h in
-        (expr_ticks a is none e q.0, expr_ticks a is none f q.1)
-    expr_ticks a is none (node.Un k e) h = expr_ticks a is none e h
-    expr_ticks a is none (node.And e f) h =
+        (expr_ticks a is e q.0, expr_ticks a is f q.1)
+    expr_ticks a is (node.Un k e) h = expr_ticks a is e h
+    expr_ticks a is (node.And e f) h =
         let q = two ((part e).stands a) ((part f).stands a) h in
-        (expr_ticks a is none e q.0, expr_ticks a is none f q.1)
-    expr_ticks a is none (node.Or e f) h =
+        (expr_ticks a is e q.0, expr_ticks a is f q.1)
+    expr_ticks a is (node.Or e f) h =
         let q = two ((part e).stands a) ((part f).stands a) h in
-        (expr_ticks a is none e q.0, expr_ticks a is none f q.1)
-    expr_ticks a is none (node.Cond c e f) h =
+        (expr_ticks a is e q.0, expr_ticks a is f q.1)
+    expr_ticks a is (node.Cond c e f) h =
         let q = two ((part c).stands a) ((part e).stands a && (part f).stands a) h in
         let r = two ((part e).stands a) ((part f).stands a) q.1 in
-        (expr_ticks a is none c q.0, expr_ticks a is none e r.0, expr_ticks a is none f r.1)
-    expr_ticks a is none (node.Comma e f) h =
+        (expr_ticks a is c q.0, expr_ticks a is e r.0, expr_ticks a is f r.1)
+    expr_ticks a is (node.Comma e f) h =
         let q = two ((part e).stands a) ((part f).stands a) h in
-        (expr_ticks a is none e q.0, expr_ticks a is none f q.1)
-    expr_ticks a is none (node.Void e) h = expr_ticks a is none e h
-    expr_ticks a is none (node.Call r f args) h =
-        args_ticks a is none args (two (is_called f (length (fold_args expr_rule args)) a) (all_stand_in a args) h).1
-    expr_ticks a is none (node.CallNumber r e args) h =
+        (expr_ticks a is e q.0, expr_ticks a is f q.1)
+    expr_ticks a is (node.Void e) h = expr_ticks a is e h
+    expr_ticks a is (node.Call r f args) h =
+        args_ticks a is args (two (is_called f (length (fold_args expr_rule args)) a) (all_stand_in a args) h).1
+    expr_ticks a is (node.CallNumber r e args) h =
         let q = two ((part e).stands a && are_few (length (fold_args expr_rule args))) (all_stand_in a args) h in
         let r = two ((part e).stands a) (are_few (length (fold_args expr_rule args))) q.0 in
-        (expr_ticks a is none e r.0, args_ticks a is none args q.1)
-    expr_ticks a is none (node.Lib f e) h = expr_ticks a is none e h
-    expr_ticks a is none (node.Tick t args) h =
+        (expr_ticks a is e r.0, args_ticks a is args q.1)
+    expr_ticks a is (node.Lib f e) h = expr_ticks a is e h
+    expr_ticks a is (node.Tick t args) h =
         let kinds = places.kinds_of (fold_args expr_rule args) in
         let q = two (in_function a && all_captured_in a args) (kinds_at kinds (slice_get a.ticks t)) h in
         let all = second_true (in_function a) (all_captured_in a args) q.0 in (
           ap (λ ts. slice_get ts t) (sym is) ∙ kinds_there kinds (slice_get a.ticks t) q.1
               ∙ ap Some (as_listed a args all),
-          captures_ticks a is none args all,
+          captures_ticks a is args all,
         )
-    expr_ticks a is none (node.Capture k e) h = absurd cc
-    expr_ticks a is none (node.Compile e) h = expr_ticks a is none e (second_true _ ((part e).stands a) h)
-    expr_ticks a is none (node.ParamOf e) h = expr_ticks a is none e (second_true _ ((part e).stands a) h)
-    expr_ticks a is none _ h = tt
+    expr_ticks a is (node.Capture k e) h = absurd cc
+    expr_ticks a is (node.Compile e) h = expr_ticks a is e (second_true _ ((part e).stands a) h)
+    expr_ticks a is (node.ParamOf e) h = expr_ticks a is e (second_true _ ((part e).stands a) h)
+    expr_ticks a is _ h = tt
 
-    args_ticks : (a : Around) → a.ticks ≡ ticks → a.captures ≡ None → (args : Args)
+    args_ticks : (a : Around) → a.ticks ≡ ticks → (args : Args)
         → list_all (λ p. p.stands a) (fold_args expr_rule args) ≡ true → HaveTicks ticks args
-    args_ticks a is none node.NoArg h = tt
-    args_ticks a is none (node.Arg e args) h =
+    args_ticks a is node.NoArg h = tt
+    args_ticks a is (node.Arg e args) h =
         let q = two ((part e).stands a) (list_all (λ p. p.stands a) (fold_args expr_rule args)) h in
-        (expr_ticks a is none e q.0, args_ticks a is none args q.1)
+        (expr_ticks a is e q.0, args_ticks a is args q.1)
 
     -- each of a tick's list is a capture
-    captures_ticks : (a : Around) → a.ticks ≡ ticks → a.captures ≡ None → (args : Args)
+    captures_ticks : (a : Around) → a.ticks ≡ ticks → (args : Args)
         → list_all (λ p. p.is_capture a) (fold_args expr_rule args) ≡ true → HaveTicksCaptures ticks args
-    captures_ticks a is none node.NoArg h = tt
-    captures_ticks a is none (node.Arg (node.Capture k e) args) h =
+    captures_ticks a is node.NoArg h = tt
+    captures_ticks a is (node.Arg (node.Capture k e) args) h =
         let q = two ((part e).stands a) (list_all (λ p. p.is_capture a) (fold_args expr_rule args)) h in
-        (expr_ticks a is none e q.0, captures_ticks a is none args q.1)
-    captures_ticks a is none (node.Arg _ args) h = absurd cc
+        (expr_ticks a is e q.0, captures_ticks a is args q.1)
+    captures_ticks a is (node.Arg _ args) h = absurd cc
 
   -- ---- statements
 
@@ -163,61 +153,61 @@ module _ (ticks : List (List CaptureKind)) where
   label_or a _ h f = f h
 
   mutual
-    stmt_ticks : (a : Around) → a.ticks ≡ ticks → a.captures ≡ None → (s : Stmt) → (act s).stands a ≡ true
+    pub stmt_ticks : (a : Around) → a.ticks ≡ ticks → (s : Stmt) → (act s).stands a ≡ true
         → HasTicksStmt ticks s
-    stmt_ticks a is none (node.Eval e) h = expr_ticks a is none e h
-    stmt_ticks a is none (node.Block vs xs) h =
+    stmt_ticks a is (node.Eval e) h = expr_ticks a is e h
+    stmt_ticks a is (node.Block vs xs) h =
         let q
         = two (all_declare (fold_items rules vs) a)
         (all_stand (fold_items rules xs) (within (fold_items rules vs) a)) h in
-        (heads_ticks vs (declared_heads a vs q.0), items_ticks (within (fold_items rules vs) a) is none xs q.1)
-    stmt_ticks a is none (node.If e s) h =
-        let q = two ((part e).stands a) ((act s).stands a) h in (expr_ticks a is none e q.0, stmt_ticks a is none s q.1)
-    stmt_ticks a is none (node.IfElse e s t) h =
+        (heads_ticks vs (declared_heads a vs q.0), items_ticks (within (fold_items rules vs) a) is xs q.1)
+    stmt_ticks a is (node.If e s) h =
+        let q = two ((part e).stands a) ((act s).stands a) h in (expr_ticks a is e q.0, stmt_ticks a is s q.1)
+    stmt_ticks a is (node.IfElse e s t) h =
         let q = two ((part e).stands a && (act s).stands a) ((act t).stands a) h in
         let r = two ((part e).stands a) ((act s).stands a) q.0 in
-        (expr_ticks a is none e r.0, stmt_ticks a is none s r.1, stmt_ticks a is none t q.1)
-    stmt_ticks a is none (node.While e s) h =
+        (expr_ticks a is e r.0, stmt_ticks a is s r.1, stmt_ticks a is t q.1)
+    stmt_ticks a is (node.While e s) h =
         let q = two ((part e).stands a) ((act s).stands (looped a)) h in
-        (expr_ticks a is none e q.0, stmt_ticks (looped a) is none s q.1)
-    stmt_ticks a is none (node.Do s e) h =
+        (expr_ticks a is e q.0, stmt_ticks (looped a) is s q.1)
+    stmt_ticks a is (node.Do s e) h =
         let q = two ((act s).stands (looped a)) ((part e).stands a) h in
-        (stmt_ticks (looped a) is none s q.0, expr_ticks a is none e q.1)
-    stmt_ticks a is none (node.For e s) h =
+        (stmt_ticks (looped a) is s q.0, expr_ticks a is e q.1)
+    stmt_ticks a is (node.For e s) h =
         let q = two ((part e).stands a) ((act s).stands (looped a)) h in
-        (expr_ticks a is none e q.0, stmt_ticks (looped a) is none s q.1)
-    stmt_ticks a is none (node.ForStep e step s) h =
+        (expr_ticks a is e q.0, stmt_ticks (looped a) is s q.1)
+    stmt_ticks a is (node.ForStep e step s) h =
         let q = two ((part e).stands a && (part step).stands a) ((act s).stands (looped a)) h in
         let r = two ((part e).stands a) ((part step).stands a) q.0 in
-        (expr_ticks a is none e r.0, expr_ticks a is none step r.1, stmt_ticks (looped a) is none s q.1)
-    stmt_ticks a is none (node.Switch e vs xs) h =
+        (expr_ticks a is e r.0, expr_ticks a is step r.1, stmt_ticks (looped a) is s q.1)
+    stmt_ticks a is (node.Switch e vs xs) h =
         let inner : Around = switched (within (fold_items rules vs) a) in
         let front : Bool = (part e).stands a && all_declare (fold_items rules vs) a in
         let whole : Bool = front && all_items (fold_items rules xs) inner in
         let apart : Bool = whole && all_different (values_of (fold_items rules xs)) in
         let q = two front (all_items (fold_items rules xs) inner) (first_true whole _ (first_true apart _ h)) in
         let r = two ((part e).stands a) (all_declare (fold_items rules vs) a) q.0 in
-        (expr_ticks a is none e r.0, heads_ticks vs (declared_heads a vs r.1), labelled_ticks inner is none xs q.1)
-    stmt_ticks a is none (node.ReturnValue e) h = expr_ticks a is none e h
-    stmt_ticks a is none _ h = tt
+        (expr_ticks a is e r.0, heads_ticks vs (declared_heads a vs r.1), labelled_ticks inner is xs q.1)
+    stmt_ticks a is (node.ReturnValue e) h = expr_ticks a is e h
+    stmt_ticks a is _ h = tt
 
-    items_ticks : (a : Around) → a.ticks ≡ ticks → a.captures ≡ None → (xs : Items)
+    items_ticks : (a : Around) → a.ticks ≡ ticks → (xs : Items)
         → all_stand (fold_items rules xs) a ≡ true → HaveTicksItems ticks xs
-    items_ticks a is none node.NoItem h = tt
-    items_ticks a is none (node.Item s xs) h =
+    items_ticks a is node.NoItem h = tt
+    items_ticks a is (node.Item s xs) h =
         let q = two ((act s).stands a) (all_stand (fold_items rules xs) a) h in
-        (stmt_ticks a is none s q.0, items_ticks a is none xs q.1)
+        (stmt_ticks a is s q.0, items_ticks a is xs q.1)
 
-    labelled_ticks : (a : Around) → a.ticks ≡ ticks → a.captures ≡ None → (xs : Items)
+    labelled_ticks : (a : Around) → a.ticks ≡ ticks → (xs : Items)
         → all_items (fold_items rules xs) a ≡ true → HaveTicksItems ticks xs
-    labelled_ticks a is none node.NoItem h = tt
-    labelled_ticks a is none (node.Item s xs) h =
+    labelled_ticks a is node.NoItem h = tt
+    labelled_ticks a is (node.Item s xs) h =
         let q = two (is_label (act s) || (act s).stands a) (all_items (fold_items rules xs) a) h in
-        (label_or a s q.0 (λ k. stmt_ticks a is none s k), labelled_ticks a is none xs q.1)
+        (label_or a s q.0 (λ k. stmt_ticks a is s k), labelled_ticks a is xs q.1)
 
-  by_body : (a : Around) → a.ticks ≡ ticks → a.captures ≡ None → (s : Stmt) (n : ℕ) → (act s).is_body n a ≡ true
+  by_body : (a : Around) → a.ticks ≡ ticks → (s : Stmt) (n : ℕ) → (act s).is_body n a ≡ true
       → HasTicksStmt ticks s
-  by_body a is none (node.Block vs xs) n h =
+  by_body a is (node.Block vs xs) n h =
       let heads : Bool = all_declare (drop n (fold_items rules vs)) a in
       let rest : Bool = all_stand (fold_items rules xs) (within (fold_items rules vs) a) in
       let first : Bool = are_parameters 0 (take n (fold_items rules vs)) a in
@@ -225,11 +215,11 @@ module _ (ticks : List (List CaptureKind)) where
       let q = two (many && first && heads) rest h in
       let r = two (many && first) heads q.0 in
       let t = body_heads a vs n 0 (second_true many first r.0) r.1 in
-      (heads_ticks vs t, items_ticks (within (fold_items rules vs) a) is none xs q.1)
-  by_body a is none _ n h = absurd cc
+      (heads_ticks vs t, items_ticks (within (fold_items rules vs) a) is xs q.1)
+  by_body a is _ n h = absurd cc
 
 -- ---- functions
 
 pub function_ticks : (p : node.Program) (ticks : List (List CaptureKind)) (f : Function) → IsFunction p ticks f
     → HasTicksStmt ticks f.body
-function_ticks p ticks f h = by_body ticks (round_function p ticks f) refl refl f.body f.parameters h.stands
+function_ticks p ticks f h = by_body ticks (round_function p ticks f) refl f.body f.parameters h.stands

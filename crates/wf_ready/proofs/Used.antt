@@ -38,7 +38,7 @@ values_used d e f g h =
 -- ---- expressions
 
 mutual
-  expr_uses : (e : Expr) → (use_in e).right ≡ true → UsesValues e
+  pub expr_uses : (e : Expr) → (use_in e).right ≡ true → UsesValues e
   expr_uses (node.SetVar i e) h = value_used e (λ k. expr_uses e k) h
   expr_uses (node.VSet i e) h = value_used e (λ k. expr_uses e k) h
   expr_uses (node.Load w e) h = value_used e (λ k. expr_uses e k) h

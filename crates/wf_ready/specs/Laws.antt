@@ -1,21 +1,28 @@
 -- What an accepted text's typed tree gives the lowering.
 use Rattle.std.specs.Prelude.{◌≡◌, ◌%◌, List}
 use Rattle.typed_tree.specs.declared.expression.CaptureKind.{CaptureKind}
-use Rattle.typed_tree.specs.Nodes.{Program, Function, TickBody}
-use Rattle.staged_meaning.specs.Scope.{IsBuiltStmt, IsReady, IsReadyIn}
+use Rattle.typed_tree.specs.Nodes.{Program, Function, TickBody, Expression, Statement, Expr, Stmt}
+use Rattle.staged_meaning.specs.Program.{OfExpression, OfStatement}
+use Rattle.staged_meaning.specs.Scope.{IsReady, IsReadyIn, IsReadyTick}
 use Rattle.wellformed.specs.Program.{IsFunction, IsTick}
 use Rattle.staged_meaning.specs.Calls.{HasCallsStmt, HasCallsBody}
 use Rattle.staged_meaning.specs.Frames.{HasFramesStmt}
 use Rattle.staged_meaning.specs.Ticks.{HasTicksStmt}
 
 abbrev pub FunctionsAreReady : Type 0
-FunctionsAreReady = (p : Program) (ticks : List (List CaptureKind)) (f : Function) → IsFunction p ticks f →
-    IsBuiltStmt f.body → IsReady f
+FunctionsAreReady = (p : Program) (ticks : List (List CaptureKind)) (f : Function) → IsFunction p ticks f → IsReady f
 
 -- and one among the functions of its program, whose calls, ticks, parameters and frame objects are as they are to be
 abbrev pub FunctionsAreReadyIn : Type 0
 FunctionsAreReadyIn = (p : Program) (ticks : List (List CaptureKind)) (f : Function) → IsFunction p ticks f →
-    IsBuiltStmt f.body → IsReadyIn p.functions ticks f
+    IsReadyIn p.functions ticks f
+
+-- and what stands behind a backquote
+pub record TicksAreReady : Type 0 where
+  pub expressions : (p : Program) (ticks : List (List CaptureKind)) (e : Expr) (kinds : List CaptureKind) →
+      IsTick p ticks (Expression e) kinds → IsReadyTick p.functions ticks kinds (OfExpression e)
+  pub statements : (p : Program) (ticks : List (List CaptureKind)) (s : Stmt) (kinds : List CaptureKind) →
+      IsTick p ticks (Statement s) kinds → IsReadyTick p.functions ticks kinds (OfStatement s)
 
 -- a tick in a function captures what the tick of its number does, and a capture stands nowhere else
 abbrev pub TicksAreCaptured : Type 0

@@ -3,11 +3,11 @@
 #![tactic(auto)]
 
 ghost use Rattle.wf_ready.specs.Laws.{FunctionsAreReady, FunctionsAreReadyIn, CallsAreCounted, FramesAreWithin};
-ghost use Rattle.wf_ready.specs.Laws.{TicksAreCaptured};
+ghost use Rattle.wf_ready.specs.Laws.{TicksAreCaptured, TicksAreReady};
 
 /// That a function of an accepted text uses variables in their scope and values that are left, that its breaks,
 /// continues and labels stand where they may, that it has at most 16,384 nodes, and that it numbers its variables below
-/// their count: so it is ready for the lowering once its nodes are of the kinds that are built.
+/// their count, and that it names no capture: so it is ready for the lowering.
 pub fn functions_are_ready()
     ensures { FunctionsAreReady }
 {}
@@ -17,6 +17,12 @@ pub fn functions_are_ready()
 /// is of whole words.
 pub fn functions_are_ready_in()
     ensures { FunctionsAreReadyIn }
+{}
+
+/// That what stands behind a backquote is ready so too: it names captures of the kinds that its tick has, and has neither
+/// parameters nor frame objects.
+pub fn ticks_are_ready()
+    ensures { TicksAreReady }
 {}
 
 /// That each static call in an accepted text's functions and ticks has as many arguments as its function has

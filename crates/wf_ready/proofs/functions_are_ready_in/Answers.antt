@@ -1,3 +1,4 @@
+use Rattle.wf_ready.proofs.Built.{function_built}
 use Rattle.wf_ready.proofs.Scoped.{body_scoped}
 use Rattle.wf_ready.proofs.Used.{stmt_uses}
 use Rattle.wf_ready.proofs.Placed.{body_placed}
@@ -10,9 +11,9 @@ use Rattle.wf_ready.proofs.Words.{function_whole}
 use Rattle.wf_ready.proofs.functions_are_ready_in.Goals as goal
 
 pub returns : goal.returns
-returns c = λ p ticks f h built. record {
+returns c = λ p ticks f h. record {
   ready = record {
-    built = built;
+    built = function_built p ticks f h;
     scoped = body_scoped p ticks f h;
     values = stmt_uses f.body h.values;
     placed = body_placed p ticks f h;
